@@ -1,0 +1,4 @@
+pub mod Control
+pub mod ControlLaws
+pub mod Boot
+pub mod BootLaws

@@ -1,0 +1,6 @@
+pub mod Number
+pub mod NumberLaws
+pub mod Name
+pub mod NameLaws
+pub mod Crc
+pub mod CrcLaws

@@ -1,0 +1,3 @@
+pub mod Codes
+pub mod Headline
+pub mod Words

@@ -1,0 +1,13 @@
+//! A disk of sectors and a pair of streams, as the code above sees them, with what a cut of power may leave.
+#![tactic(auto)]
+
+mod disk;
+mod failing;
+mod input;
+mod memory;
+mod record;
+
+pub use disk::{Disk, Failed, Port, PortFault};
+pub use failing::Failing;
+pub use memory::{CallKind, MemPort, NoMemory};
+pub use record::{Call, Sector};

@@ -1,0 +1,459 @@
+// A port in memory. Each call is done at once. It keeps each call that took effect, and so what each moment left.
+ghost use Rattle.std.specs.Prelude.{◌≡◌, ◌⊎◌, ◌≤◌, ◌<◌, ◌^◌, ℕ, List, [], ◌∷◌, ◌+◌, ◌++◌, length, drop, reverse, slice_index_or, replicate, IfOk, OnOk, OnErr, IsTrue, ◌↔◌, Contains};
+ghost use Rattle.std.specs.Bool.{OnTrue};
+ghost use Rattle.vab_disk.specs.Disk.{IsSettled, SameHoldings, Rose};
+ghost use Rattle.vab_disk.specs.Numbered.{Numbered};
+ghost use Rattle.vab_disk.specs.Port.{Hears};
+ghost use Rattle.vab_disk.specs.Memory.{seen_of, told_of, calls_of, earlier_of, IsStopped};
+
+use crate::input::Input;
+use crate::{Call, Disk, Failed, Failing, Port, PortFault, Sector};
+use std::alloc::{AllocError, AllocFailed, Global};
+
+/// Memory was refused.
+#[derive(Clone, Copy, Debug, PartialEq, Eq)]
+pub struct NoMemory;
+
+impl From<AllocError> for NoMemory {
+    fn from(_: AllocError) -> Self {
+        NoMemory
+    }
+}
+
+impl<T: Drop> From<AllocFailed<T>> for NoMemory {
+    fn from(_: AllocFailed<T>) -> Self {
+        NoMemory
+    }
+}
+
+#[derive(Drop)]
+pub struct MemPort {
+    alloc: Global,
+    count: u64,
+    cells: Vec<[u8; 512]>,
+    calls: Vec<Call>,
+    begun: usize,
+    input: Input,
+    heard: usize,
+    told: Vec<u8>,
+    disk: Failing,
+    source: Failing,
+    sink: Failing,
+    starved: u64,
+    writes: u64,
+    stop: Option<u64>,
+    ghost small: { count < 2 ^ 55 },
+    ghost whole: { length cells.items ≡ count },
+    ghost reads: { (s : ℕ) → slice_index_or cells.items s [] ≡ seen_of count (calls_of begun calls.items ++ earlier_of begun calls.items) s },
+    ghost tells: { told.items ≡ told_of (calls_of begun calls.items) },
+    ghost began: { begun ≤ length calls.items },
+    ghost within: { heard ≤ length input.bytes.items },
+}
+
+/// The calls that are numbered together.
+#[derive(Clone, Copy, Debug, PartialEq, Eq)]
+pub enum CallKind {
+    Disk,
+    Hear,
+    Say,
+}
+
+// Sectors of zeros.
+fn zeros(alloc: Global, sectors: usize) -> Result<Vec<[u8; 512]>, AllocError>
+    ensures { IfOk result (λ v. v.items ≡ replicate sectors (replicate 512 0)) }
+{
+    let mut cells = Vec::new(alloc);
+    for _i in 0..sectors {
+        cells.push([0u8; 512])?;
+    }
+    Ok(cells)
+}
+
+impl MemPort {
+    ghost use Rattle.vab_disk.specs.Listed.{Lists};
+
+    /// A port over sectors of zeros, which are settled, that hears this input.
+    pub fn new(alloc: Global, sectors: u64, input: Vec<u8>) -> Result<MemPort, NoMemory>
+        requires { sectors < 2 ^ 55 }
+        ensures size { IfOk result (λ p. ⟦<MemPort as Disk>⟧.size p ≡ sectors) }
+        ensures zeros { IfOk result (λ p. (s : ℕ) → s < sectors → ⟦<MemPort as Disk>⟧.seen p s ≡ replicate 512 0) }
+        ensures settled { IfOk result (λ p. IsSettled (⟦<MemPort as Disk>⟧.seen p) (⟦<MemPort as Disk>⟧.may_hold p)) }
+        ensures told { IfOk result (λ p. ⟦<MemPort as Disk>⟧.told p ≡ []) }
+        ensures left { IfOk result (λ p. ⟦<MemPort as Disk>⟧.left p ≡ input.items) }
+    {
+        let cells = zeros(alloc, sectors as usize)?;
+        Ok(MemPort {
+            alloc,
+            count: sectors,
+            cells,
+            calls: Vec::new(alloc),
+            begun: 0,
+            input: Input::new(input),
+            heard: 0,
+            told: Vec::new(alloc),
+            disk: Failing::new(alloc),
+            source: Failing::new(alloc),
+            sink: Failing::new(alloc),
+            starved: 0,
+            writes: 0,
+            stop: None,
+        })
+    }
+
+    /// Lists a call that is to fail.
+    pub fn fail_at(&mut self, kind: CallKind, nth: u64) -> Result<(), NoMemory>
+        ensures listed { OnOk result (Lists kind nth self.old self.new) }
+        ensures size { ⟦<MemPort as Disk>⟧.size self.new ≡ ⟦<MemPort as Disk>⟧.size self.old }
+        ensures seen { ⟦<MemPort as Disk>⟧.seen self.new ≡ ⟦<MemPort as Disk>⟧.seen self.old }
+        ensures may_hold { SameHoldings (⟦<MemPort as Disk>⟧.may_hold self.old) (⟦<MemPort as Disk>⟧.may_hold self.new) }
+        ensures told { ⟦<MemPort as Disk>⟧.told self.new ≡ ⟦<MemPort as Disk>⟧.told self.old }
+        ensures left { ⟦<MemPort as Disk>⟧.left self.new ≡ ⟦<MemPort as Disk>⟧.left self.old }
+    {
+        match kind {
+            CallKind::Disk => self.disk.listed.push(nth)?,
+            CallKind::Hear => self.source.listed.push(nth)?,
+            CallKind::Say => self.sink.listed.push(nth)?,
+        }
+        Ok(())
+    }
+
+    pub fn starved(&self) -> u64
+        ensures { result ≡ self.now.starved }
+    {
+        self.starved
+    }
+
+    /// After so many writes and syncs of this run every disk call fails.
+    pub fn stop_after(&mut self, count: u64)
+        ensures stop { self.new ≡ record self.old { stop = Some count } }
+        ensures size { ⟦<MemPort as Disk>⟧.size self.new ≡ ⟦<MemPort as Disk>⟧.size self.old }
+        ensures seen { ⟦<MemPort as Disk>⟧.seen self.new ≡ ⟦<MemPort as Disk>⟧.seen self.old }
+        ensures may_hold { SameHoldings (⟦<MemPort as Disk>⟧.may_hold self.old) (⟦<MemPort as Disk>⟧.may_hold self.new) }
+        ensures told { ⟦<MemPort as Disk>⟧.told self.new ≡ ⟦<MemPort as Disk>⟧.told self.old }
+        ensures left { ⟦<MemPort as Disk>⟧.left self.new ≡ ⟦<MemPort as Disk>⟧.left self.old }
+    {
+        self.stop = Some(count);
+    }
+
+    /// The next run on the same disk, with its pending sectors. Nothing is told yet, and other input is heard.
+    pub fn next_run(self, input: Vec<u8>) -> MemPort
+        ensures size { ⟦<MemPort as Disk>⟧.size result ≡ ⟦<MemPort as Disk>⟧.size self }
+        ensures seen { ⟦<MemPort as Disk>⟧.seen result ≡ ⟦<MemPort as Disk>⟧.seen self }
+        ensures may_hold { SameHoldings (⟦<MemPort as Disk>⟧.may_hold self) (⟦<MemPort as Disk>⟧.may_hold result) }
+        ensures told { ⟦<MemPort as Disk>⟧.told result ≡ [] }
+        ensures left { ⟦<MemPort as Disk>⟧.left result ≡ input.items }
+        ensures faults { ⟦<MemPort as Disk>⟧.faults result ≡ ⟦<MemPort as Disk>⟧.faults self }
+    {
+        let mut port = self;
+        port.begun = port.calls.len();
+        port.told.clear();
+        port.input = Input::new(input);
+        port.heard = 0;
+        port.writes = 0;
+        port.stop = None;
+        port.disk.renew();
+        port.source.renew();
+        port.sink.renew();
+        port
+    }
+
+    // Memory was refused to a `say`.
+    fn starve(&mut self) -> PortFault
+        ensures fault { result ≡ PortFault.Sink }
+        ensures rose { Rose self.old.sink.faults self.new.sink.faults }
+        ensures starving { Rose self.old.starved self.new.starved }
+        ensures growing { self.old.starved ≤ self.new.starved }
+        ensures later { self.old.sink.faults ≤ self.new.sink.faults }
+        ensures calls { self.new.sink.calls ≡ self.old.sink.calls }
+        ensures listed { self.new.sink.listed.items ≡ self.old.sink.listed.items }
+        ensures same { self.new ≡ record self.old { sink = self.new.sink; starved = self.new.starved } }
+    {
+        self.starved = self.starved.saturating_add(1);
+        self.sink.fail();
+        PortFault::Sink
+    }
+
+    pub fn told(&self) -> &[u8]
+        ensures { result.now ≡ self.now.told.items }
+    {
+        &self.told
+    }
+}
+
+// Numbers a disk call, and says whether it is to fail.
+fn disk_fails(disk: &mut Failing, stop: Option<u64>, writes: u64) -> bool
+    ensures fails { IsTrue result ↔ (Contains disk.old.listed.items disk.old.calls ⊎ IsStopped stop writes) }
+    ensures rose { OnTrue result (Rose disk.old.faults disk.new.faults) }
+    ensures later { disk.old.faults ≤ disk.new.faults }
+    ensures numbered { Numbered disk.old disk.new }
+{
+    let listed = disk.next_fails();
+    let stopped = match stop {
+        Some(count) => count <= writes,
+        None => false,
+    };
+    if listed {
+        return true;
+    }
+    if stopped {
+        disk.fail();
+    }
+    stopped
+}
+
+// Keeps a call. Where memory is refused, the call fails.
+fn record(
+    calls: &mut Vec<Call>,
+    begun: usize,
+    kind: &mut Failing,
+    starved: &mut u64,
+    call: Call,
+) -> Result<(), Failed>
+    requires { begun ≤ length calls.old.items }
+    ensures ok { OnOk result (calls_of begun calls.new.items ≡ call ∷ calls_of begun calls.old.items) }
+    ensures earlier { earlier_of begun calls.new.items ≡ earlier_of begun calls.old.items }
+    ensures longer { length calls.old.items ≤ length calls.new.items }
+    ensures kind_ok { OnOk result (kind.new ≡ kind.old) }
+    ensures kind_calls { kind.new.calls ≡ kind.old.calls }
+    ensures kind_listed { kind.new.listed.items ≡ kind.old.listed.items }
+    ensures err { OnErr result (calls.new.items ≡ calls.old.items) }
+    ensures rose { OnErr result (Rose kind.old.faults kind.new.faults) }
+    ensures later { kind.old.faults ≤ kind.new.faults }
+    ensures starving { OnErr result (Rose starved.old starved.new) }
+    ensures growing { starved.old ≤ starved.new }
+    ensures fed { OnOk result (starved.new ≡ starved.old) }
+{
+    if calls.push(call).is_err() {
+        *starved = starved.saturating_add(1);
+        kind.fail();
+        return Err(Failed);
+    }
+    Ok(())
+}
+
+// Copies the bytes that come next, as many as there are and have room.
+fn hand_out(input: &[u8], heard: usize, out: &mut [u8]) -> usize
+    requires { heard ≤ length input.now }
+    ensures within { heard + result ≤ length input.now }
+    ensures heard { Hears result (drop heard input.now) (drop (heard + result) input.now) out.old out.new }
+{
+    let left = &input[heard..];
+    let count = left.len().min(out.len());
+    out[..count].copy_from_slice(&left[..count]);
+    count
+}
+
+impl Disk for MemPort {
+    ghost use Rattle.std.specs.Prelude.{IsErr};
+    ghost use Rattle.vab_disk.specs.Disk.{Faults, Adds, Nothing, Quiet, Leaves, Writes, IsAt, MayBeSet, set_sector};
+    ghost use Rattle.vab_disk.specs.Listed.{IsDiskListed};
+    ghost use Rattle.vab_disk.specs.Memory.{Holds, LeftSince, seen_holds, held_whole, dropped_bytes, left_now, left_only};
+
+    ghost tells = { Unit {0} };
+
+    ghost size = { λ m. m.count };
+
+    ghost seen = { λ m. seen_of m.count (calls_of m.begun m.calls.items ++ earlier_of m.begun m.calls.items) };
+
+    ghost may_hold = { λ m. Holds m.count (calls_of m.begun m.calls.items ++ earlier_of m.begun m.calls.items) };
+
+    ghost told = { λ m. told_of (calls_of m.begun m.calls.items) };
+
+    ghost left = { λ m. drop m.heard m.input.bytes.items };
+
+    ghost faults = { λ m. record { disk = m.disk.faults; source = m.source.faults; sink = m.sink.faults } };
+
+    ghost moment = { λ m. length (calls_of m.begun m.calls.items) };
+
+    ghost outcomes = { λ m. LeftSince m.count (earlier_of m.begun m.calls.items) (calls_of m.begun m.calls.items) };
+
+    ghost small = { λ m. m.small };
+
+    ghost whole = { λ m s b below. held_whole m.count (calls_of m.begun m.calls.items ++ earlier_of m.begun m.calls.items) s b below };
+
+    ghost seen_held = { λ m s. seen_holds m.count (calls_of m.begun m.calls.items ++ earlier_of m.begun m.calls.items) s };
+
+    ghost bytes = { λ m k. dropped_bytes m.input.bytes.items m.heard k m.input.small };
+
+    ghost counts_now = { λ m t o le now. left_now m.count (earlier_of m.begun m.calls.items) (calls_of m.begun m.calls.items) t o now };
+
+    ghost only_now = { λ m o left. left_only m.count (earlier_of m.begun m.calls.items) (calls_of m.begun m.calls.items) o left };
+
+    fn sectors(&self) -> u64 {
+        self.count
+    }
+
+    fn read_sector(&mut self, at: u64, out: &mut [u8; 512]) -> Result<(), Failed>
+        requires { at < ⟦<MemPort as Disk>⟧.size self.old }
+        ensures bytes { ⟦<MemPort as Disk>⟧.tells → OnOk result (out.new ≡ ⟦<MemPort as Disk>⟧.seen self.old at) }
+        ensures quiet { Quiet ⟦<MemPort as Disk>⟧.tells ⟦<MemPort as Disk>⟧.size ⟦<MemPort as Disk>⟧.told ⟦<MemPort as Disk>⟧.left ⟦<MemPort as Disk>⟧.faults self.old self.new }
+        ensures seen { ⟦<MemPort as Disk>⟧.tells → ⟦<MemPort as Disk>⟧.seen self.new ≡ ⟦<MemPort as Disk>⟧.seen self.old }
+        ensures crash { ⟦<MemPort as Disk>⟧.tells → SameHoldings (⟦<MemPort as Disk>⟧.may_hold self.old) (⟦<MemPort as Disk>⟧.may_hold self.new) }
+        ensures time { ⟦<MemPort as Disk>⟧.tells → Adds ⟦<MemPort as Disk>⟧.moment ⟦<MemPort as Disk>⟧.outcomes self.old self.new Nothing }
+        ensures cause { OnErr result (Rose (⟦<MemPort as Disk>⟧.faults self.old).disk (⟦<MemPort as Disk>⟧.faults self.new).disk) }
+        // It fails exactly where it is listed, or stopped, or memory was refused.
+        ensures fed { self.old.starved ≤ self.new.starved }
+        ensures only { OnErr result (IsDiskListed self.old ⊎ Rose self.old.starved self.new.starved) }
+        ensures fails { IsDiskListed self.old → IsErr result }
+        ensures numbered { Numbered self.old.disk self.new.disk }
+    {
+        if disk_fails(&mut self.disk, self.stop, self.writes) {
+            return Err(Failed);
+        }
+        record(
+            &mut self.calls,
+            self.begun,
+            &mut self.disk,
+            &mut self.starved,
+            Call::Read(at),
+        )?;
+        *out = self.cells[at as usize];
+        Ok(())
+    }
+
+    fn write_sector(&mut self, at: u64, from: &[u8; 512]) -> Result<(), Failed>
+        requires { at < ⟦<MemPort as Disk>⟧.size self.old }
+        ensures written { ⟦<MemPort as Disk>⟧.tells → OnOk result (⟦<MemPort as Disk>⟧.seen self.new ≡ set_sector (⟦<MemPort as Disk>⟧.seen self.old) at from.now) }
+        ensures failed { ⟦<MemPort as Disk>⟧.tells → OnErr result (MayBeSet at from.now (⟦<MemPort as Disk>⟧.seen self.old) (⟦<MemPort as Disk>⟧.seen self.new)) }
+        ensures quiet { Quiet ⟦<MemPort as Disk>⟧.tells ⟦<MemPort as Disk>⟧.size ⟦<MemPort as Disk>⟧.told ⟦<MemPort as Disk>⟧.left ⟦<MemPort as Disk>⟧.faults self.old self.new }
+        ensures crash { ⟦<MemPort as Disk>⟧.tells → Writes (IsAt at from.now) (⟦<MemPort as Disk>⟧.may_hold self.old) (⟦<MemPort as Disk>⟧.may_hold self.new) }
+        ensures time { ⟦<MemPort as Disk>⟧.tells → Adds ⟦<MemPort as Disk>⟧.moment ⟦<MemPort as Disk>⟧.outcomes self.old self.new (Leaves (⟦<MemPort as Disk>⟧.told self.old) (⟦<MemPort as Disk>⟧.may_hold self.new)) }
+        ensures cause { OnErr result (Rose (⟦<MemPort as Disk>⟧.faults self.old).disk (⟦<MemPort as Disk>⟧.faults self.new).disk) }
+        // It fails exactly where it is listed, or stopped, or memory was refused.
+        ensures fed { self.old.starved ≤ self.new.starved }
+        ensures only { OnErr result (IsDiskListed self.old ⊎ Rose self.old.starved self.new.starved) }
+        ensures fails { IsDiskListed self.old → IsErr result }
+        ensures numbered { Numbered self.old.disk self.new.disk }
+    {
+        if disk_fails(&mut self.disk, self.stop, self.writes) {
+            return Err(Failed);
+        }
+        record(
+            &mut self.calls,
+            self.begun,
+            &mut self.disk,
+            &mut self.starved,
+            Call::Wrote(at, Sector { bytes: *from }),
+        )?;
+        self.cells[at as usize] = *from;
+        self.writes = self.writes.saturating_add(1);
+        Ok(())
+    }
+
+    fn sync(&mut self) -> Result<(), Failed>
+        ensures settled { ⟦<MemPort as Disk>⟧.tells → OnOk result (IsSettled (⟦<MemPort as Disk>⟧.seen self.new) (⟦<MemPort as Disk>⟧.may_hold self.new)) }
+        ensures failed { ⟦<MemPort as Disk>⟧.tells → OnErr result (SameHoldings (⟦<MemPort as Disk>⟧.may_hold self.old) (⟦<MemPort as Disk>⟧.may_hold self.new)) }
+        ensures crash { ⟦<MemPort as Disk>⟧.tells → (s : ℕ) (b : List ℕ) → ⟦<MemPort as Disk>⟧.may_hold self.new s b → ⟦<MemPort as Disk>⟧.may_hold self.old s b }
+        ensures quiet { Quiet ⟦<MemPort as Disk>⟧.tells ⟦<MemPort as Disk>⟧.size ⟦<MemPort as Disk>⟧.told ⟦<MemPort as Disk>⟧.left ⟦<MemPort as Disk>⟧.faults self.old self.new }
+        ensures seen { ⟦<MemPort as Disk>⟧.tells → ⟦<MemPort as Disk>⟧.seen self.new ≡ ⟦<MemPort as Disk>⟧.seen self.old }
+        ensures time { ⟦<MemPort as Disk>⟧.tells → Adds ⟦<MemPort as Disk>⟧.moment ⟦<MemPort as Disk>⟧.outcomes self.old self.new Nothing }
+        ensures cause { OnErr result (Rose (⟦<MemPort as Disk>⟧.faults self.old).disk (⟦<MemPort as Disk>⟧.faults self.new).disk) }
+        // It fails exactly where it is listed, or stopped, or memory was refused.
+        ensures fed { self.old.starved ≤ self.new.starved }
+        ensures only { OnErr result (IsDiskListed self.old ⊎ Rose self.old.starved self.new.starved) }
+        ensures fails { IsDiskListed self.old → IsErr result }
+        ensures numbered { Numbered self.old.disk self.new.disk }
+    {
+        if disk_fails(&mut self.disk, self.stop, self.writes) {
+            return Err(Failed);
+        }
+        record(
+            &mut self.calls,
+            self.begun,
+            &mut self.disk,
+            &mut self.starved,
+            Call::Synced,
+        )?;
+        self.writes = self.writes.saturating_add(1);
+        Ok(())
+    }
+}
+
+impl Port for MemPort {
+    ghost use Rattle.std.specs.Prelude.{IsErr, IsErrOf, take};
+    ghost use Rattle.vab_disk.specs.Disk.{Adds, Nothing, NoFewer};
+    ghost use Rattle.vab_disk.specs.Port.{LeavesSaying};
+    ghost use Rattle.vab_disk.specs.Listed.{IsHearListed, IsSayListed};
+
+    fn hear(&mut self, out: &mut [u8]) -> Result<usize, PortFault>
+        ensures bytes { ⟦<MemPort as Disk>⟧.tells → IfOk result (λ n. Hears n (⟦<MemPort as Disk>⟧.left self.old) (⟦<MemPort as Disk>⟧.left self.new) out.old out.new) }
+        ensures fits { IfOk result (λ n. n ≤ length out.old) }
+        ensures size { ⟦<MemPort as Disk>⟧.size self.new ≡ ⟦<MemPort as Disk>⟧.size self.old }
+        ensures seen { ⟦<MemPort as Disk>⟧.tells → ⟦<MemPort as Disk>⟧.seen self.new ≡ ⟦<MemPort as Disk>⟧.seen self.old }
+        ensures crash { ⟦<MemPort as Disk>⟧.tells → SameHoldings (⟦<MemPort as Disk>⟧.may_hold self.old) (⟦<MemPort as Disk>⟧.may_hold self.new) }
+        ensures told { ⟦<MemPort as Disk>⟧.tells → ⟦<MemPort as Disk>⟧.told self.new ≡ ⟦<MemPort as Disk>⟧.told self.old }
+        ensures time { ⟦<MemPort as Disk>⟧.tells → Adds ⟦<MemPort as Disk>⟧.moment ⟦<MemPort as Disk>⟧.outcomes self.old self.new Nothing }
+        ensures counts { NoFewer (⟦<MemPort as Disk>⟧.faults self.old) (⟦<MemPort as Disk>⟧.faults self.new) }
+        ensures kind { IsErrOf result PortFault.Sink → ⊥ }
+        ensures cause { OnErr result (Rose (⟦<MemPort as Disk>⟧.faults self.old).source (⟦<MemPort as Disk>⟧.faults self.new).source) }
+        // It fails exactly where it is listed, or memory was refused.
+        ensures failed { ⟦<MemPort as Disk>⟧.tells → OnErr result (⟦<MemPort as Disk>⟧.left self.new ≡ ⟦<MemPort as Disk>⟧.left self.old) }
+        ensures fed { self.old.starved ≤ self.new.starved }
+        ensures only { OnErr result (IsHearListed self.old ⊎ Rose self.old.starved self.new.starved) }
+        ensures fails { IsHearListed self.old → IsErr result }
+        ensures numbered { Numbered self.old.source self.new.source }
+    {
+        if self.source.next_fails() {
+            return Err(PortFault::Source);
+        }
+        let count = hand_out(&self.input.bytes, self.heard, out);
+        if record(
+            &mut self.calls,
+            self.begun,
+            &mut self.source,
+            &mut self.starved,
+            Call::Heard(count),
+        )
+        .is_err()
+        {
+            return Err(PortFault::Source);
+        }
+        self.heard += count;
+        Ok(count)
+    }
+
+    fn say(&mut self, from: &[u8]) -> Result<usize, PortFault>
+        ensures bytes { ⟦<MemPort as Disk>⟧.tells → IfOk result (λ n. ⟦<MemPort as Disk>⟧.told self.new ≡ ⟦<MemPort as Disk>⟧.told self.old ++ take n from.now) }
+        ensures fits { IfOk result (λ n. n ≤ length from.now) }
+        ensures some { IfOk result (λ n. n ≡ 0 → length from.now ≡ 0) }
+        ensures failed { ⟦<MemPort as Disk>⟧.tells → (n : ℕ) × (⟦<MemPort as Disk>⟧.told self.new ≡ ⟦<MemPort as Disk>⟧.told self.old ++ take n from.now) }
+        ensures size { ⟦<MemPort as Disk>⟧.size self.new ≡ ⟦<MemPort as Disk>⟧.size self.old }
+        ensures seen { ⟦<MemPort as Disk>⟧.tells → ⟦<MemPort as Disk>⟧.seen self.new ≡ ⟦<MemPort as Disk>⟧.seen self.old }
+        ensures crash { ⟦<MemPort as Disk>⟧.tells → SameHoldings (⟦<MemPort as Disk>⟧.may_hold self.old) (⟦<MemPort as Disk>⟧.may_hold self.new) }
+        ensures left { ⟦<MemPort as Disk>⟧.tells → ⟦<MemPort as Disk>⟧.left self.new ≡ ⟦<MemPort as Disk>⟧.left self.old }
+        ensures time { ⟦<MemPort as Disk>⟧.tells → Adds ⟦<MemPort as Disk>⟧.moment ⟦<MemPort as Disk>⟧.outcomes self.old self.new (LeavesSaying (⟦<MemPort as Disk>⟧.told self.old) from.now (⟦<MemPort as Disk>⟧.may_hold self.old)) }
+        ensures counts { NoFewer (⟦<MemPort as Disk>⟧.faults self.old) (⟦<MemPort as Disk>⟧.faults self.new) }
+        ensures kind { IsErrOf result PortFault.Source → ⊥ }
+        ensures cause { OnErr result (Rose (⟦<MemPort as Disk>⟧.faults self.old).sink (⟦<MemPort as Disk>⟧.faults self.new).sink) }
+        // It fails exactly where it is listed, or memory was refused.
+        ensures fed { self.old.starved ≤ self.new.starved }
+        ensures only { OnErr result (IsSayListed self.old ⊎ Rose self.old.starved self.new.starved) }
+        ensures fails { IsSayListed self.old → IsErr result }
+        ensures numbered { Numbered self.old.sink self.new.sink }
+    {
+        if self.sink.next_fails() {
+            return Err(PortFault::Sink);
+        }
+        let was = self.told.len();
+        let piece = match from.to_vec(self.alloc) {
+            Ok(piece) => piece,
+            Err(_) => return Err(self.starve()),
+        };
+        if self.told.extend_from_slice(from).is_err() {
+            return Err(self.starve());
+        }
+        if record(
+            &mut self.calls,
+            self.begun,
+            &mut self.sink,
+            &mut self.starved,
+            Call::Said(piece),
+        )
+        .is_err()
+        {
+            self.told.truncate(was);
+            return Err(PortFault::Sink);
+        }
+        Ok(from.len())
+    }
+}

@@ -1,0 +1,7 @@
+mod Acknowledged
+mod Events
+mod Hearings
+mod Packets
+mod Progress
+mod Sessions
+mod Telling

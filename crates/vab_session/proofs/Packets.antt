@@ -1,0 +1,171 @@
+-- A list of bytes as packets, in the one way that there is.
+use Rattle.std.proofs.Common.{◌≡◌, ◌⊎◌, inl, inr, ⊎_elim, ℕ, zero, suc, ◌+◌, ◌-◌, ◌<◌, ◌≤◌, List, [], ◌∷◌, ◌++◌, length, get_or, take, drop, refl, sym, ◌∙◌, ap, subst, arith, append_assoc, length-append, length-take, length-drop, take-append-drop}
+use Rattle.std.proofs.lemmas.Bool.{cases_eq}
+use Rattle.std.proofs.lemmas.List.{take_at, drop_at, get_or-append-add}
+use Rattle.std.proofs.lemmas.Nat.{be_bytes_8, from_be_bytes-to_be_bytes_8}
+use Rattle.std.specs.List.{flat_map}
+use Rattle.std.specs.Int.{w64, to_be_bytes, from_be_bytes}
+use Rattle.vab_session.specs.Session.{packet, length_at, AreShort, IsCutShort, End, Closed, BadHello, TooLong, Cut, Spent, EndsBy}
+use Rattle.vab_session.specs.Served.{Split}
+
+-- what stands at the front of a packet
+length-packet : (b : List ℕ) → length (packet b) ≡ 8 + length b
+unfolding packet
+length-packet b = omega (arith, length-append (to_be_bytes w64 (length b)) b)
+
+front_bytes : (b more : List ℕ) → packet b ++ more ≡ to_be_bytes w64 (length b) ++ (b ++ more)
+unfolding packet
+front_bytes b more = append_assoc (to_be_bytes w64 (length b)) b more
+
+length_at-packet : (b more : List ℕ) → length b ≤ 4096 → length_at (packet b ++ more) ≡ length b
+length_at-packet b more short =
+    ap (λ (l : List ℕ). from_be_bytes w64 (take 8 l)) (front_bytes b more)
+    ∙ ap (from_be_bytes w64) (take_at (to_be_bytes w64 (length b)) (b ++ more) 8 refl)
+    ∙ from_be_bytes-to_be_bytes_8 (length b) (omega (arith, short))
+
+behind_length : (b more : List ℕ) → drop 8 (packet b ++ more) ≡ b ++ more
+behind_length b more = ap (λ (l : List ℕ). drop 8 l) (front_bytes b more) ∙ drop_at (to_be_bytes w64 (length b)) (b ++ more) 8 refl
+
+-- a length and as many bytes are a packet
+pub is_packet : (rest after bytes : List ℕ) (n : ℕ) → take 8 rest ≡ to_be_bytes w64 n → length bytes ≡ n → drop 8 rest ≡ bytes ++ after → rest ≡ packet bytes ++ after
+is_packet rest after bytes n head long body =
+    sym (take-append-drop 8 rest) ∙ (λ i. (head ∙ ap (to_be_bytes w64) (sym long)) i ++ body i) ∙ sym (front_bytes bytes after)
+
+-- where the input ends there is no whole packet
+pub no_packet : (count : ℕ) (rest : List ℕ) (end : End) → EndsBy count rest end → (b more : List ℕ) → length b ≤ 4096 → rest ≡ packet b ++ more → ⊥
+no_packet count rest Closed ends b more short is =
+    let zero_long : 0 ≡ length (packet b ++ more) = ap length (sym ends ∙ is) in
+    omega (arith, zero_long, length-append (packet b) more, length-packet b)
+no_packet count rest (TooLong n) ends b more short is =
+    let same : length_at rest ≡ length b = ap length_at is ∙ length_at-packet b more short in
+    omega (arith, ends.1, ends.2, same, short)
+no_packet count rest (Cut at) ends b more short is =
+    let same : length_at rest ≡ length b = ap length_at is ∙ length_at-packet b more short in
+    let long : length rest ≡ 8 + length b + length more = ap length is ∙ omega (arith, length-append (packet b) more, length-packet b) in
+    ⊎_elim (λ few. omega (arith, few, long)) (λ part. omega (arith, part.1, same, long)) ends.1.1
+no_packet count rest BadHello ends b more short is = ends
+no_packet count rest Spent ends b more short is = ends
+
+-- the first packet of a list is the one that stands at its front
+pub first_packet : (count : ℕ) (ps : List (List ℕ)) (rest : List ℕ) (end : End) → AreShort ps → EndsBy count rest end → (b more : List ℕ) → length b ≤ 4096 → flat_map packet ps ++ rest ≡ packet b ++ more
+    → (qs : List (List ℕ)) × ((ps ≡ b ∷ qs) × (flat_map packet qs ++ rest ≡ more) × AreShort qs)
+first_packet count [] rest end short ends b more fits is = absurd (no_packet count rest end ends b more fits is)
+first_packet count (p ∷ qs) rest end short ends b more fits is =
+    let later = flat_map packet qs ++ rest in
+    let is' : packet p ++ later ≡ packet b ++ more = sym (append_assoc (packet p) (flat_map packet qs) rest) ∙ is in
+    let long : length p ≡ length b = sym (length_at-packet p later short.0) ∙ ap length_at is' ∙ length_at-packet b more fits in
+    let bodies : p ++ later ≡ b ++ more = sym (behind_length p later) ∙ ap (λ (l : List ℕ). drop 8 l) is' ∙ behind_length b more in
+    let same : p ≡ b = sym (take_at p later (length b) long) ∙ ap (λ (l : List ℕ). take (length b) l) bodies ∙ take_at b more (length b) refl in (
+      qs,
+      (
+        ap (λ (x : List ℕ). x ∷ qs) same,
+        sym (drop_at p later (length b) long) ∙ ap (λ (l : List ℕ). drop (length b) l) bodies ∙ drop_at b more (length b) refl,
+        short.1,
+      ),
+    )
+
+-- where the input ends there is no packet left
+pub none_left : (count : ℕ) (ps : List (List ℕ)) (rest : List ℕ) (end : End) → AreShort ps → EndsBy count (flat_map packet ps ++ rest) end → ps ≡ []
+none_left count [] rest end short ends = refl
+none_left count (p ∷ qs) rest end short ends = absurd (no_packet count (flat_map packet (p ∷ qs) ++ rest) end ends p (flat_map packet qs ++ rest) short.0 (append_assoc (packet p) (flat_map packet qs) rest))
+
+-- an input ends in one way
+pub one_end : (count : ℕ) (rest : List ℕ) (d e : End) → EndsBy count rest d → EndsBy count rest e → d ≡ e
+one_end count rest Closed Closed x y = refl
+one_end count rest Closed (Cut at) x y = absurd (omega (arith, ap length x, y.1.0))
+one_end count rest Closed (TooLong n) x y = absurd (omega (arith, ap length x, y.0))
+one_end count rest (Cut at) Closed x y = absurd (omega (arith, ap length y, x.1.0))
+one_end count rest (Cut at) (Cut at') x y = ap Cut (x.0 ∙ sym y.0)
+one_end count rest (Cut at) (TooLong n) x y = absurd (⊎_elim (λ few. omega (arith, few, y.0)) (λ part. omega (arith, part.0, y.1, y.2)) x.1.1)
+one_end count rest (TooLong n) Closed x y = absurd (omega (arith, ap length y, x.0))
+one_end count rest (TooLong n) (Cut at) x y = absurd (⊎_elim (λ few. omega (arith, few, x.0)) (λ part. omega (arith, part.0, x.1, x.2)) y.1.1)
+one_end count rest (TooLong n) (TooLong m) x y = ap TooLong (x.1 ∙ sym y.1)
+one_end count rest BadHello e x y = absurd x
+one_end count rest Spent e x y = absurd x
+one_end count rest Closed BadHello x y = absurd y
+one_end count rest Closed Spent x y = absurd y
+one_end count rest (Cut at) BadHello x y = absurd y
+one_end count rest (Cut at) Spent x y = absurd y
+one_end count rest (TooLong n) BadHello x y = absurd y
+one_end count rest (TooLong n) Spent x y = absurd y
+
+-- bytes
+abbrev pub AreBytes : List ℕ → Type 0
+AreBytes bytes = (k : ℕ) → get_or bytes k 0 < 256
+
+pub taken_byte : (l : List ℕ) (n i : ℕ) → AreBytes l → get_or (take n l) i 0 < 256
+taken_byte [] zero i are = omega arith
+taken_byte [] (suc n) i are = omega arith
+taken_byte (x ∷ l) zero i are = omega arith
+taken_byte (x ∷ l) (suc n) zero are = are 0
+taken_byte (x ∷ l) (suc n) (suc i) are = taken_byte l n i (λ k. are (suc k))
+
+later_byte : (bytes front later : List ℕ) → bytes ≡ front ++ later → AreBytes bytes → AreBytes later
+later_byte bytes front later is are k =
+    let same : get_or later k 0 ≡ get_or bytes (length front + k) 0 = sym (get_or-append-add front later k 0) ∙ ap (λ (l : List ℕ). get_or l (length front + k) 0) (sym is) in
+    omega (arith, same, are (length front + k))
+
+-- a whole packet stands at the front
+pub record Front (bytes : List ℕ) : Type 0 where
+  pub body : List ℕ
+  pub later : List ℕ
+  pub fits : length body ≤ 4096
+  pub is : bytes ≡ packet body ++ later
+
+-- a packet, or an end
+front_of : (count : ℕ) (bytes : List ℕ) → AreBytes bytes → Front bytes ⊎ ((end : End) × EndsBy count bytes end)
+front_of count [] are = inr (Closed, refl)
+front_of count (x ∷ xs) are =
+    let bytes = x ∷ xs in
+    let some : 0 < length bytes = omega arith in
+    elim (cases_eq (8 - length bytes) 0) [
+      | inl eight ↦ elim (cases_eq (length_at bytes - 4096) 0) [
+        | inl fits ↦ elim (cases_eq (8 + length_at bytes - length bytes) 0) [
+          | inl whole ↦
+              let n = length_at bytes in
+              let head : take 8 bytes ≡ to_be_bytes w64 n = sym (be_bytes_8 (take 8 bytes) n (omega (arith, length-take 8 bytes, eight)) (λ i. taken_byte bytes 8 i are) refl) in
+              let body = take n (drop 8 bytes) in
+              let long : length body ≡ n = omega (arith, length-take n (drop 8 bytes), length-drop 8 bytes, whole, eight) in
+              inl (record {
+                body = body;
+                later = drop n (drop 8 bytes);
+                fits = omega (arith, long, fits);
+                is = is_packet bytes (drop n (drop 8 bytes)) body n head long (sym (take-append-drop n (drop 8 bytes)));
+              })
+          | inr cut ↦ inr (Cut count, (refl, (some, inr (omega (arith, fits), omega (arith, cut)))))
+        ]
+        | inr above ↦ inr (TooLong (length_at bytes), (omega (arith, eight), refl, omega (arith, above)))
+      ]
+      | inr few ↦ inr (Cut count, (refl, (some, inl (omega (arith, few)))))
+    ]
+
+-- every list of bytes is packets, and an end
+pub split_of : (fuel count : ℕ) (bytes : List ℕ) → length bytes ≤ fuel → AreBytes bytes → Split count bytes
+split_of zero count bytes fits are = ⊎_elim
+    (λ front. absurd (omega (arith, ap length front.is, length-append (packet front.body) front.later, length-packet front.body)))
+    (λ end. record { packets = []; rest = bytes; end = end.0; whole = refl; short = tt; ends = end.1 })
+    (front_of count bytes are)
+split_of (suc fuel) count bytes fits are = ⊎_elim
+    (λ front.
+    let shorter : length front.later ≤ fuel = omega (arith, fits, ap length front.is, length-append (packet front.body) front.later, length-packet front.body) in
+    let later_bytes : AreBytes front.later = later_byte bytes (packet front.body) front.later front.is are in
+    let more = split_of fuel count front.later shorter later_bytes in
+    record {
+      packets = front.body ∷ more.packets;
+      rest = more.rest;
+      end = more.end;
+      whole = front.is ∙ ap (λ (l : List ℕ). packet front.body ++ l) more.whole ∙ sym (append_assoc (packet front.body) (flat_map packet more.packets) more.rest);
+      short = (front.fits, more.short);
+      ends = more.ends;
+    })
+    (λ end. record { packets = []; rest = bytes; end = end.0; whole = refl; short = tt; ends = end.1 })
+    (front_of count bytes are)
+
+-- two lists of packets that spell the same, with ends behind them, are one
+pub same_packets : (count : ℕ) (ps qs : List (List ℕ)) (x y : List ℕ) (d e : End) → AreShort ps → AreShort qs → EndsBy count x d → EndsBy count y e → flat_map packet ps ++ x ≡ flat_map packet qs ++ y → (ps ≡ qs) × (x ≡ y)
+same_packets count [] [] x y d e short short' ends ends' is = (refl, is)
+same_packets count [] (q ∷ qs) x y d e short short' ends ends' is = absurd (no_packet count x d ends q (flat_map packet qs ++ y) short'.0 (is ∙ append_assoc (packet q) (flat_map packet qs) y))
+same_packets count (p ∷ ps) qs x y d e short short' ends ends' is =
+    let found = first_packet count qs y e short' ends' p (flat_map packet ps ++ x) short.0 (sym is ∙ append_assoc (packet p) (flat_map packet ps) x) in
+    let more = same_packets count ps found.0 x y d e short.1 found.1.2 ends ends' (sym found.1.1) in
+    (ap (λ (l : List (List ℕ)). p ∷ l) more.0 ∙ sym found.1.0, more.1)

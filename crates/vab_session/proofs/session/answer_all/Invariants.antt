@@ -1,0 +1,23 @@
+use Rattle.std.proofs.Common.{◌≡◌, ◌+◌, List, ℕ, ◌++◌, length, min, codes}
+use Rattle.vab_disk.specs.Disk.{NoFewer}
+use Rattle.vab_fbtcp.specs.declared.event.Place.TheVariants.{Length}
+use Rattle.vab_session.specs.State.{state_of}
+use Rattle.vab_session.specs.Reading.{stands_at, rest_of, room_of, IsFed}
+use Rattle.vab_session.specs.Served.{Split}
+use Rattle.vab_session.proofs.Progress.{Progress}
+use Rattle.vab_session.proofs.session.answer_all.Given as goal
+
+abbrev pub invariant-loop-packet : goal.invariant-loop-packet
+invariant-loop-packet g l = record {
+  place : stands_at l.reader ≡ Length;
+  fed : IsFed l.reader;
+  most : l.reader.budget.most ≡ l.fn.reader.budget.most;
+  count : g.P.Disk.tells → l.reader.budget.taken + length (g.P.Disk.left l.p) ≡ l.fn.reader.budget.taken + length (g.P.Disk.left l.fn.p);
+  progress : g.P.Disk.tells → (s : Split (min l.fn.reader.budget.most (l.fn.reader.budget.taken + length (g.P.Disk.left l.fn.p))) (rest_of l.fn.reader (g.P.Disk.left l.fn.p))) (told : List ℕ) → g.P.Disk.told l.fn.p ≡ told ++ codes "FB01"
+      → Progress g.P.Disk.seen g.P.Disk.may_hold g.P.Disk.told g.P.Disk.left g.P.Disk.moment g.P.Disk.outcomes s (state_of l.fn.device) told l.fn.p l.p (rest_of l.reader (g.P.Disk.left l.p)) (state_of l.device);
+  size : g.P.Disk.size l.p ≡ g.P.Disk.size l.fn.p;
+  counts : NoFewer (g.P.Disk.faults l.fn.p) (g.P.Disk.faults l.p);
+}
+
+abbrev pub decreases-loop-packet : goal.decreases-loop-packet
+decreases-loop-packet g l = room_of l.reader

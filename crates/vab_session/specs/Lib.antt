@@ -1,0 +1,7 @@
+pub mod Fault
+pub mod Hearing
+pub mod Reading
+pub mod Served
+pub mod Session
+pub mod State
+pub mod Told

@@ -1,0 +1,73 @@
+-- What a session does: how it ends, what it tells, and what each cut of power leaves.
+use Rattle.std.specs.Prelude.{◌≡◌, ℕ, List, [], ◌++◌, length, take, Result, Ok, Err, nat_le, slice_index, ◌<◌, if◌then◌else◌}
+use Rattle.std.specs.List.{flat_map}
+use Rattle.vab_disk.specs.Disk.{Image, Outcome, Adds}
+use Rattle.vab_session.specs.Session.{packet, AreShort, End, EndsBy, IsSession, spent}
+use Rattle.vab_session.specs.Session as session
+use Rattle.vab_session.specs.State.{State}
+use Rattle.vab_session.specs.Told.{replies_of, joined, output_of, state_after, IsWithin, IsAtRest}
+use Rattle.vab_session.specs.declared.fault.SessionFault.{SessionFault}
+use Rattle.vab_session.specs.declared.fault.SessionFault.TheVariants.{BadHello, TooLong, Cut, Spent, Source, Sink}
+
+-- these bytes as packets, and how they end in an input of so many bytes
+pub record Split (count : ℕ) (bytes : List ℕ) : Type 0 where
+  pub packets : List (List ℕ)
+  pub rest : List ℕ
+  pub end : End
+  pub whole : bytes ≡ flat_map packet packets ++ rest
+  pub short : AreShort packets
+  pub ends : EndsBy count rest end
+
+-- what was answered ends so, unless the port failed
+abbrev pub EndedBy : {A : Type 0} → Result A SessionFault → End → Type 0
+EndedBy (Ok x) end = end ≡ session.Closed
+EndedBy (Err BadHello) end = end ≡ session.BadHello
+EndedBy (Err (TooLong n)) end = end ≡ session.TooLong n
+EndedBy (Err (Cut at)) end = end ≡ session.Cut at
+EndedBy (Err Spent) end = end ≡ session.Spent
+EndedBy (Err Source) end = Unit {0}
+EndedBy (Err Sink) end = Unit {0}
+
+-- the port did not fail
+abbrev pub PortHeld : {A : Type 0} → Result A SessionFault → Type 0
+PortHeld (Ok x) = Unit {0}
+PortHeld (Err BadHello) = Unit {0}
+PortHeld (Err (TooLong n)) = Unit {0}
+PortHeld (Err (Cut at)) = Unit {0}
+PortHeld (Err Spent) = Unit {0}
+PortHeld (Err Source) = ⊥
+PortHeld (Err Sink) = ⊥
+
+module _ {D : Type 0} (seen_of : D → Image) (held_by : D → ℕ → List ℕ → Type 0) (told_of left_of : D → List ℕ) (moment : D → ℕ) (outcomes : D → ℕ → Outcome → Type 0) where
+  -- A session of at most so many bytes, from this state on: it is one of the input. What was told is a front of what it
+  -- tells, and all of it unless the port failed. In each outcome a front is told, and the disk stands for a step of the
+  -- first command whose reply doesn't stand whole.
+  pub record Serves {A : Type 0} (most : ℕ) (state : State) (old new : D) (result : Result A SessionFault) : Type 0 where
+    pub packets : List (List ℕ)
+    pub end : End
+    pub session : IsSession most (left_of old) packets end
+    -- no other packets and no other end are the input's
+    pub only : (others : List (List ℕ)) (other : End) → IsSession most (left_of old) others other → (others ≡ packets) × (other ≡ end)
+    pub ends : EndedBy result end
+    pub front : (n : ℕ) × (told_of new ≡ told_of old ++ take n (output_of state packets))
+    pub whole : PortHeld result → told_of new ≡ told_of old ++ output_of state packets
+    pub rest : IsAtRest seen_of held_by old state → PortHeld result → IsAtRest seen_of held_by new (state_after state packets)
+    pub time : IsAtRest seen_of held_by old state → Adds moment outcomes old new (IsWithin state packets (told_of old))
+    pub every_cut : IsAtRest seen_of held_by old state → (o : Outcome) → outcomes new (moment old) o → IsWithin state packets (told_of old) o
+
+  -- The commands of a session that are left, of an input of `total` bytes, where the greeting stands behind what was told
+  -- before the session.
+  pub record Answers {A : Type 0} {count : ℕ} {bytes : List ℕ} (s : Split count bytes) (most total : ℕ) (state : State) (told : List ℕ) (old new : D) (result : Result A SessionFault) : Type 0 where
+    pub ends : EndedBy result (if nat_le most total then spent s.end else s.end)
+    pub front : (n : ℕ) × (told_of new ≡ told ++ take n (output_of state s.packets))
+    pub whole : PortHeld result → told_of new ≡ told ++ output_of state s.packets
+    pub rest : IsAtRest seen_of held_by old state → PortHeld result → IsAtRest seen_of held_by new (state_after state s.packets)
+    pub time : IsAtRest seen_of held_by old state → Adds moment outcomes old new (IsWithin state s.packets told)
+
+-- Each input of bytes is a session.
+abbrev pub EachInputIsOne : Type 0
+EachInputIsOne = (most : ℕ) (input : List ℕ) → ((k : ℕ) → slice_index input k < 256) → (packets : List (List ℕ)) × (end : End) × IsSession most input packets end
+
+-- And it is one session alone.
+abbrev pub NoOtherSession : Type 0
+NoOtherSession = (most : ℕ) (input : List ℕ) (packets others : List (List ℕ)) (end other : End) → IsSession most input packets end → IsSession most input others other → (packets ≡ others) × (end ≡ other)

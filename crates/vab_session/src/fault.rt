@@ -1,0 +1,55 @@
+// How a session ends.
+ghost use Rattle.std.specs.Prelude.{◌≡◌};
+
+use vab_disk::PortFault;
+use vab_fbtcp::FrameFault;
+
+/// How a session ends that isn't malformed.
+#[derive(Clone, Copy, Debug, PartialEq, Eq)]
+pub enum Ended {
+    /// The input ended between two packets.
+    Closed,
+}
+
+/// Why a session stops.
+#[derive(Clone, Copy, Debug, PartialEq, Eq)]
+pub enum SessionFault {
+    /// The first four bytes aren't `FB` and two decimal digits, or the number is 0.
+    BadHello,
+    /// A command packet of this length is longer than 4096 bytes.
+    TooLong(u64),
+    /// The input ended inside the hello, a length or a packet, after so many bytes.
+    Cut(u64),
+    /// As many bytes were taken as a session may have, and it would hear again.
+    Spent,
+    /// Hearing failed.
+    Source,
+    /// Telling failed.
+    Sink,
+}
+
+impl From<FrameFault> for SessionFault {
+    ghost use Rattle.vab_session.specs.Fault.{fault_of_frame};
+
+    ghost from_gives = { λ fault e. e ≡ fault_of_frame fault };
+
+    fn from(fault: FrameFault) -> Self {
+        match fault {
+            FrameFault::BadHello => SessionFault::BadHello,
+            FrameFault::TooLong(length) => SessionFault::TooLong(length),
+        }
+    }
+}
+
+impl From<PortFault> for SessionFault {
+    ghost use Rattle.vab_session.specs.Fault.{fault_of_port};
+
+    ghost from_gives = { λ fault e. e ≡ fault_of_port fault };
+
+    fn from(fault: PortFault) -> Self {
+        match fault {
+            PortFault::Source => SessionFault::Source,
+            PortFault::Sink => SessionFault::Sink,
+        }
+    }
+}

@@ -1,0 +1,15 @@
+//! A fastboot session over a port: the hello, then command packets, each with its reply.
+#![tactic(auto)]
+
+mod answer;
+mod budget;
+mod device;
+mod fault;
+mod reader;
+mod session;
+mod tell;
+
+pub use device::Device;
+pub use fault::{Ended, SessionFault};
+pub use session::{MAX_SESSION, one_session, serve, serve_up_to};
+pub use tell::say_all;
