@@ -1,0 +1,6 @@
+pub mod Sector
+pub mod SectorLaws
+pub mod Mark
+pub mod MarkLaws
+pub mod Status
+pub mod StatusLaws

@@ -1,0 +1,54 @@
+-- The update mark: the one spelling of each, and what the bytes of a sector mean.
+use Rattle.std.specs.Prelude.{ℕ, zero, suc, ◌<◌, ◌&&◌, nat_lt, if◌then◌else◌, List, [], ◌∷◌, ◌++◌, slice_index, Option, Some, None, option_map, ok_or, Result, Err}
+use Rattle.vab_bytes.specs.Number.{field}
+use Rattle.vab_marks.specs.declared.sector.MarkFault.{MarkFault}
+use Rattle.vab_marks.specs.declared.sector.MarkFault.TheVariants.{BadField}
+use Rattle.vab_marks.specs.declared.mark.MarkPhase.{MarkPhase}
+use Rattle.vab_marks.specs.declared.mark.MarkPhase.TheVariants.{Idle, Installing, Staged, Merging, Completed}
+use Rattle.vab_marks.specs.declared.mark.UpdateMark.{UpdateMark}
+use Rattle.vab_marks.specs.Sector.{zeros, are_zeros, sealed, head_fault, unless}
+
+-- what has a spelling
+abbrev pub FitsMark : UpdateMark → Type 0
+FitsMark m = m.slot < 2
+
+abbrev pub phase_byte : MarkPhase → ℕ
+phase_byte Idle = 0
+phase_byte Installing = 1
+phase_byte Staged = 2
+phase_byte Merging = 3
+phase_byte Completed = 4
+
+-- VABU
+abbrev pub mark_magic : List ℕ
+mark_magic = 86 ∷ 65 ∷ 66 ∷ 85 ∷ []
+
+-- the magic, version 1, the phase, the slot, and zeros
+abbrev pub mark_front : UpdateMark → List ℕ
+mark_front m = mark_magic ++ 1 ∷ phase_byte m.phase ∷ m.slot ∷ zeros 501
+
+-- that, and the sum
+unfoldable pub mark_spelling : UpdateMark → List ℕ
+mark_spelling m = sealed (mark_front m)
+
+abbrev pub phase_of : ℕ → Option MarkPhase
+phase_of zero = Some Idle
+phase_of (suc zero) = Some Installing
+phase_of (suc (suc zero)) = Some Staged
+phase_of (suc (suc (suc zero))) = Some Merging
+phase_of (suc (suc (suc (suc zero)))) = Some Completed
+phase_of (suc (suc (suc (suc (suc n))))) = None
+
+abbrev pub with_phase : ℕ → MarkPhase → UpdateMark
+with_phase slot phase = record { phase = phase; slot = slot }
+
+-- a field is bad where it has a value that is not named, or a byte is not zero where no field stands
+abbrev pub mark_fields : List ℕ → Result UpdateMark MarkFault
+mark_fields bytes =
+    if nat_lt (slice_index bytes 6) 2 && are_zeros (field bytes 7 501)
+    then ok_or (option_map (with_phase (slice_index bytes 6)) (phase_of (slice_index bytes 5))) BadField
+    else Err BadField
+
+-- the mark in the bytes of a sector, or the first fault
+unfoldable pub mark_of : List ℕ → Result UpdateMark MarkFault
+mark_of bytes = unless (head_fault mark_magic bytes) (mark_fields bytes)

@@ -1,0 +1,14 @@
+//! The update mark of a device, and the statuses of the partitions that an update wrote: a sector
+//! each.
+#![tactic(auto)]
+
+mod mark;
+mod sector;
+mod status;
+
+pub use mark::{MarkPhase, UpdateMark, decode_mark, encode_mark};
+pub use sector::MarkFault;
+pub use status::{PartStatus, decode_status, encode_status};
+
+#[cfg(test)]
+mod tests;
