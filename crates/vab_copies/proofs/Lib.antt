@@ -1,0 +1,4 @@
+mod Copying
+mod Pair
+mod Sectors
+mod Texts

@@ -1,0 +1,5 @@
+pub mod Geometry
+pub mod Reading
+pub mod GeometryLaws
+pub mod Loading
+pub mod LoadingLaws

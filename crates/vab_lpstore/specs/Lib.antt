@@ -1,0 +1,5 @@
+pub mod Layout
+pub mod Faults
+pub mod Loading
+pub mod Storing
+pub mod StoreLaws

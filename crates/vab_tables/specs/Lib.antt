@@ -1,0 +1,11 @@
+pub mod Entries
+pub mod Rules
+pub mod Text
+pub mod Spelling
+pub mod Reading
+pub mod EntryLaws
+pub mod RuleLaws
+pub mod ListLaws
+pub mod TextLaws
+pub mod FrontLaws
+pub mod SpellingLaws
