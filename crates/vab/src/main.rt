@@ -4,14 +4,18 @@
 mod word;
 
 use std::env::{self, Env};
+use std::io::{Stdin, Stdout};
 use std::process::ExitCode;
 use vab_cli::{Status, run};
 use vab_real::FilePort;
 use word::{Device, parse_device};
 
-const USAGE: &str = "usage: vab mem:SECTORS serve --fresh";
+const USAGE: &str = "usage: vab DEVICE serve [--fresh]\n\
+    DEVICE is a file that exists, or mem:N for N sectors of zeros in memory";
 
 const NO_MEMORY: u8 = 8;
+
+const NOT_OPENED: u8 = 9;
 
 // The words behind the program's name, or nothing where they can't be had.
 fn words_of<R: Env + AllocGlobal>(rt: &R) -> Option<Vec<String>> {
@@ -26,6 +30,26 @@ fn words_of<R: Env + AllocGlobal>(rt: &R) -> Option<Vec<String>> {
     Some(words)
 }
 
+// The port of the device that the first word names, or the status to end with.
+fn open_port(rt: &HostRuntime, word: &str) -> Result<FilePort<Stdin, Stdout>, u8> {
+    match parse_device(word) {
+        Device::Memory(sectors) => {
+            let sectors = u64::from(sectors);
+            match FilePort::zeroed(rt.alloc(), sectors, rt.stdin(), rt.stdout()) {
+                Ok(port) => Ok(port),
+                Err(_) => Err(NO_MEMORY),
+            }
+        }
+        Device::File(path) => match FilePort::open(rt, path, rt.stdin(), rt.stdout()) {
+            Ok(port) => Ok(port),
+            Err(fault) => {
+                let _ = eprintln!(rt; "vab: {path}: {fault}");
+                Err(NOT_OPENED)
+            }
+        },
+    }
+}
+
 fn main(rt: HostRuntime) -> ExitCode {
     let words = match words_of(&rt) {
         Some(words) => words,
@@ -38,16 +62,9 @@ fn main(rt: HostRuntime) -> ExitCode {
             return ExitCode::from(Status::Usage.code());
         }
     };
-    let sectors = match parse_device(first.as_str()) {
-        Device::Memory(sectors) => u64::from(sectors),
-        Device::File(_) => {
-            let _ = rt.eprintln(USAGE);
-            return ExitCode::from(Status::Usage.code());
-        }
-    };
-    let mut port = match FilePort::zeroed(rt.alloc(), sectors, rt.stdin(), rt.stdout()) {
+    let mut port = match open_port(&rt, first.as_str()) {
         Ok(port) => port,
-        Err(_) => return ExitCode::from(NO_MEMORY),
+        Err(status) => return ExitCode::from(status),
     };
     let status = run(rt.alloc(), rest, &mut port);
     if status == Status::Usage {

@@ -1,18 +1,27 @@
 -- A command that is answered, and the replies that stand whole after it.
-use Rattle.std.proofs.Common.{◌≡◌, ◌⊎◌, inl, inr, ⊎_elim, ℕ, suc, ◌+◌, ◌-◌, ◌<◌, ◌≤◌, List, [], ◌∷◌, ◌++◌, length, take, drop, codes, Some, refl, sym, ◌∙◌, ap, subst, arith, append_assoc, length-append, length-take, take-append-drop}
+use Rattle.std.proofs.Common.{◌≡◌, ◌⊎◌, inl, inr, ⊎_elim, ℕ, suc, ◌-◌, ◌<◌, ◌≤◌, List, [], ◌∷◌, ◌++◌, length, take, drop, codes, Some, Result, Ok, Err, Bool, true, false, not, cond, ◌||◌, ◌==◌, refl, sym, ◌∙◌, ap, subst, arith, append_assoc, length-append, length-take, take-append-drop}
 use Rattle.std.proofs.lemmas.List.{take_at, drop_at, take_all, drop_all, take-append-le, append-nil}
 use Rattle.std.proofs.lemmas.Bool.{cases_eq}
 use Rattle.std.proofs.lemmas.Bool.Decides.{nat_tests}
 use Rattle.std.specs.Int.{w64, to_be_bytes}
 use Rattle.vab_disk.specs.Disk.{Image, Outcome, IsSettled}
 use Rattle.vab_disk.specs.Port.{LeavesSaying}
-use Rattle.vab_disk.specs.Moments.{same_image}
+use Rattle.vab_disk.specs.Moments.{same_image, set_here}
 use Rattle.vab_session.specs.Session.{packet}
-use Rattle.vab_session.specs.State.{State, device, reply_of, steps_of, after}
-use Rattle.vab_session.specs.Told.{replies_of, state_after, joined, output_of, acknowledged, IsOneOf, steps_at, StandsForOne, IsWithin, AnswersCommand}
+use Rattle.vab_bootctl.specs.declared.slots.Control.{Control}
+use Rattle.vab_bootctl.specs.declared.sector.ControlFault.{ControlFault}
+use Rattle.vab_bootctl.specs.Control.{control_of}
+use Rattle.vab_bootctl.specs.Boot.{activated_of}
+use Rattle.vab_session.specs.Controls.{HasControl, LeavesControl, made, HasMade}
+use Rattle.vab_session.specs.State.{State, device, start_with, start_of, ok_of, reply_of, steps_of, after}
+use Rattle.vab_session.specs.declared.starting.StartFault.{StartFault}
+use Rattle.vab_session.specs.declared.starting.StartFault.TheVariants.{NoImages, NotSuccessful}
+use Rattle.vab_session.proofs.Events.{chosen}
+use Rattle.vab_session.specs.Told.{replies_of, state_after, joined, acknowledged, IsOneOf, steps_at, StandsForOne, IsWithin, AnswersCommand}
 
 -- the state before a command is its first step
 pub first_step : (s : State) (p : List ℕ) → IsOneOf (steps_of s p) s
+unfolding steps_of
 first_step s p = inl refl
 
 -- the reply is told, once the disk stands for the last step and nothing is pending
@@ -31,7 +40,7 @@ abbrev pub EachSome : List (List ℕ) → Type 0
 EachSome [] = Unit {0}
 EachSome (r ∷ rs) = (0 < length r) × EachSome rs
 
-packet_some : (b : List ℕ) → 0 < length (packet b)
+pub packet_some : (b : List ℕ) → 0 < length (packet b)
 unfolding packet
 packet_some b = omega (arith, length-append (to_be_bytes w64 (length b)) b)
 
@@ -148,3 +157,69 @@ within_greeting s ps told o n fits is stands =
       front = (n, sym (take-append-le n (codes "FB01") (joined (replies_of s ps)) fits));
       step = subst (λ (k : ℕ). StandsForOne (steps_at s ps k) o.image) (sym count) (s, steps_first s ps, stands);
     }
+
+-- before anything is told of a change, the disk stands for the state before it or after it
+pub changing : (told reply : List ℕ) (s s' : State) (old : Image) → 0 < length reply → device old ≡ Some s → ((image : Image) → HasControl s' old image → device image ≡ Some s')
+    → (o : Outcome) → LeavesControl told s' old o → AnswersCommand told reply (s ∷ s' ∷ []) s' o
+changing told reply s s' old some stands new o leaves = record {
+  front = (0, leaves.told_so_far ∙ sym (append-nil told));
+  step = ⊎_elim
+      (λ was. (s, inl refl, ap device was ∙ stands))
+      (λ now. (s', inr (inl refl), new o.image now))
+      leaves.either;
+  whole = λ all. absurd (omega (arith, some, ap length (sym leaves.told_so_far ∙ all), length-append told reply));
+}
+
+or_false : (a b : Bool) → (a || not b) ≡ false → b ≡ true
+or_false a true is = refl
+or_false true false is = cc
+or_false false false is = cc
+
+good_with : (r : Result Control ControlFault) (c : State) → start_with r ≡ Ok c → (c.current ≡ 0) × (c.a.successful ≡ true)
+good_with (Err fault) c is = cc
+good_with (Ok d) c is = ⊎_elim
+    (λ other. cc)
+    (λ here. ⊎_elim
+    (λ unready. cc)
+    (λ ready.
+    let same : d ≡ c = cc in
+    let first : d.current ≡ 0 = grind (arith, nat_tests) in
+    (ap (λ (k : Control). k.current) (sym same) ∙ first, ap (λ (k : Control). k.a.successful) (sym same) ∙ or_false (d.a.priority == 0) d.a.successful ready.0))
+    (chosen (d.a.priority == 0 || not d.a.successful) (Err NotSuccessful) (Ok d) (Ok c) here.1))
+    (chosen (not (d.current == 0)) (Err NoImages) (cond (d.a.priority == 0 || not d.a.successful) (Err NotSuccessful) (Ok d)) (Ok c) is)
+
+start_good : (c : Control) → c.current ≡ 0 → c.a.priority ≡ 15 → c.a.successful ≡ true → start_with (Ok c) ≡ Ok c
+start_good c p q r = rw (p, q, r) refl
+
+-- a device whose slot a is set active is a device
+pub activated_good : (sector sector' : List ℕ) (c : State) → start_of sector ≡ Ok c → control_of sector' ≡ Ok (activated_of c 0) → start_of sector' ≡ Ok (activated_of c 0)
+unfolding start_of activated_of
+activated_good sector sector' c is written =
+    let good = good_with (control_of sector) c is in
+    ap start_with written ∙ start_good (activated_of c 0) good.0 refl good.1
+
+-- what the disk stands for, by its boot control sector
+pub device_start : (image : Image) (c : State) → device image ≡ Some c → start_of (image 4) ≡ Ok c
+unfolding device
+device_start image c is = ok_start (start_of (image 4)) c is
+  where
+    ok_start : (r : Result State StartFault) (c : State) → ok_of r ≡ Some c → r ≡ Ok c
+    ok_start (Ok d) c is = cc
+    ok_start (Err e) c is = cc
+
+pub start_device : (image : Image) (c : State) → start_of (image 4) ≡ Ok c → device image ≡ Some c
+unfolding device
+start_device image c is = ap ok_of is
+
+-- the image with slot a set active
+pub activated_device : (old new : Image) (c : State) → device old ≡ Some c → HasControl (activated_of c 0) old new → device new ≡ Some (activated_of c 0)
+activated_device old new c is has =
+    let there : new 4 ≡ has.0 = ap (λ (image : Image). image 4) has.3 ∙ set_here old 4 has.0 4 refl in
+    start_device new (activated_of c 0) (ap start_of there ∙ activated_good (old 4) has.0 c (device_start old c is) has.1)
+
+-- a fresh device is one
+pub made_device : (old new : Image) → HasMade old new → device new ≡ Some made
+unfolding start_of
+made_device old new has =
+    let there : new 4 ≡ has.0 = ap (λ (image : Image). image 4) has.3 ∙ set_here old 4 has.0 4 refl in
+    start_device new made (ap (λ (sector : List ℕ). start_with (control_of sector)) there ∙ ap start_with has.1 ∙ refl)

@@ -1,11 +1,11 @@
 -- A list of bytes as packets, in the one way that there is.
-use Rattle.std.proofs.Common.{◌≡◌, ◌⊎◌, inl, inr, ⊎_elim, ℕ, zero, suc, ◌+◌, ◌-◌, ◌<◌, ◌≤◌, List, [], ◌∷◌, ◌++◌, length, get_or, take, drop, refl, sym, ◌∙◌, ap, subst, arith, append_assoc, length-append, length-take, length-drop, take-append-drop}
+use Rattle.std.proofs.Common.{◌≡◌, ◌⊎◌, inl, inr, ⊎_elim, ℕ, zero, suc, ◌+◌, ◌-◌, ◌<◌, ◌≤◌, List, [], ◌∷◌, ◌++◌, length, get_or, take, drop, refl, sym, ◌∙◌, ap, arith, append_assoc, length-append, length-take, length-drop, take-append-drop}
 use Rattle.std.proofs.lemmas.Bool.{cases_eq}
 use Rattle.std.proofs.lemmas.List.{take_at, drop_at, get_or-append-add}
 use Rattle.std.proofs.lemmas.Nat.{be_bytes_8, from_be_bytes-to_be_bytes_8}
 use Rattle.std.specs.List.{flat_map}
 use Rattle.std.specs.Int.{w64, to_be_bytes, from_be_bytes}
-use Rattle.vab_session.specs.Session.{packet, length_at, AreShort, IsCutShort, End, Closed, BadHello, TooLong, Cut, Spent, EndsBy}
+use Rattle.vab_session.specs.Session.{packet, length_at, AreShort, End, Closed, BadHello, TooLong, Cut, Spent, EndsBy}
 use Rattle.vab_session.specs.Served.{Split}
 
 -- what stands at the front of a packet

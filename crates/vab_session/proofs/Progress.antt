@@ -5,12 +5,13 @@ use Rattle.std.specs.List.{flat_map}
 use Rattle.vab_disk.specs.Disk.{Image, Outcome, SameHoldings, Adds, Nothing}
 use Rattle.vab_disk.specs.Moments.{adds_none, adds_on, adds_still}
 use Rattle.std.proofs.lemmas.Bool.Decides.{nat_tests}
-use Rattle.vab_fbtcp.specs.declared.event.Place.TheVariants.{Hello, Length}
+use Rattle.vab_fbtcp.specs.declared.event.Place.TheVariants.{Length}
 use Rattle.vab_session.specs.Session.{packet, AreShort, IsCutShort, End, Closed, TooLong, Cut, Spent, EndsBy, spent}
 use Rattle.vab_session.specs.Reading.{EndsIn}
 use Rattle.vab_session.specs.Served.{Split, EndedBy, PortHeld, Answers}
 use Rattle.vab_session.specs.declared.fault.SessionFault.{SessionFault}
 use Rattle.vab_session.specs.declared.fault.SessionFault.TheVariants as faults
+use Rattle.vab_session.specs.Controls.{IsPortFault}
 use Rattle.vab_session.specs.State.{State, device, reply_of, steps_of, after}
 use Rattle.vab_session.specs.Told.{replies_of, state_after, joined, output_of, AnswersCommand, IsWithin, IsAtRest}
 use Rattle.vab_session.proofs.Acknowledged.{joined_append, state_append, replies_append, front_at, within_command}
@@ -20,6 +21,25 @@ use Rattle.vab_session.proofs.Packets.{first_packet, none_left, one_end}
 same_either : (b : Bool) (x y : End) → x ≡ y → (z : x ≡ y) → cond b x y ≡ y
 same_either true x y is z = is
 same_either false x y is z = refl
+
+-- where the disk or the sink failed
+port_ends : (A : Type 0) (fault : SessionFault) → IsPortFault fault → (end : End) → EndedBy {A = A} (Err fault) end
+port_ends A faults.Disk port end = tt
+port_ends A faults.Sink port end = tt
+port_ends A faults.BadHello port end = absurd port
+port_ends A (faults.TooLong n) port end = absurd port
+port_ends A (faults.Cut at) port end = absurd port
+port_ends A faults.Spent port end = absurd port
+port_ends A faults.Source port end = absurd port
+
+port_fails : (A : Type 0) (fault : SessionFault) → IsPortFault fault → PortHeld {A = A} (Err fault) → ⊥
+port_fails A faults.Disk port held = held
+port_fails A faults.Sink port held = held
+port_fails A faults.BadHello port held = port
+port_fails A (faults.TooLong n) port held = port
+port_fails A (faults.Cut at) port held = port
+port_fails A faults.Spent port held = port
+port_fails A faults.Source port held = port
 
 module _ {D : Type 0} (seen_of : D → Image) (held_by : D → ℕ → List ℕ → Type 0) (told_of left_of : D → List ℕ) (moment : D → ℕ) (outcomes : D → ℕ → Outcome → Type 0) where
   -- Some of the packets are answered, and the others stand in the bytes that are left.
@@ -196,6 +216,7 @@ module _ {D : Type 0} (seen_of : D → Image) (held_by : D → ℕ → List ℕ 
         ended (Err faults.Spent) (Cut count) Spent (refl, why.0) (ap (λ b. cond b Spent (Cut count)) all) refl
     stopped faults.Source why = failed (Err faults.Source) (λ end. tt) (λ held. held)
     stopped faults.Sink why = absurd why
+    stopped faults.Disk why = absurd why
 
     -- the input ended behind the last packet
     pub closed : {A : Type 0} (x : A) → left ≡ [] → total < most → Answers seen_of held_by told_of left_of moment outcomes {A = A} s most total first told old now (Ok x)
@@ -213,17 +234,17 @@ module _ {D : Type 0} (seen_of : D → Image) (held_by : D → ℕ → List ℕ 
       → told_of now ≡ told_of mid → seen_of now ≡ seen_of mid → SameHoldings (held_by mid) (held_by now) → Adds moment outcomes mid now Nothing → Progress s first told old now left state
   listened s first told old mid now left state so_far same seen holds time = heard s first told old mid left state so_far now same (still_at_rest mid now state seen holds) time
 
-  -- telling a reply failed
+  -- answering failed
   pub reply_failed : {A : Type 0} {count : ℕ} {bytes : List ℕ} (s : Split count bytes) (most total : ℕ) (first : State) (told : List ℕ) (old mid now : D) (left : List ℕ) (state : State) (so_far : Progress s first told old mid left state)
-      → (body later : List ℕ) → length body ≤ 4096 → left ≡ packet body ++ later → (n : ℕ) × (told_of now ≡ told_of mid ++ take n (packet (reply_of state body)))
+      → (fault : SessionFault) → IsPortFault fault → (body later : List ℕ) → length body ≤ 4096 → left ≡ packet body ++ later → (n : ℕ) × (told_of now ≡ told_of mid ++ take n (packet (reply_of state body)))
       → (IsAtRest seen_of held_by mid state → Adds moment outcomes mid now (AnswersCommand (told_of mid) (packet (reply_of state body)) (steps_of state body) (after state body)))
-      → Answers seen_of held_by told_of left_of moment outcomes {A = A} s most total first told old now (Err faults.Sink)
-  reply_failed s most total first told old mid now left state so_far body later fits is front time =
+      → Answers seen_of held_by told_of left_of moment outcomes {A = A} s most total first told old now (Err fault)
+  reply_failed {A} s most total first told old mid now left state so_far fault port body later fits is front time =
       let next = next_of s first told old mid left state so_far body later fits is in
       record {
-        ends = tt;
+        ends = port_ends A fault port (if nat_le most total then spent s.end else s.end);
         front = fronted s first told old mid left state so_far body later next now front.0 front.1;
-        whole = λ held. absurd held;
-        rest = λ rest held. absurd held;
+        whole = λ held. absurd (port_fails A fault port held);
+        rest = λ rest held. absurd (port_fails A fault port held);
         time = answering s first told old mid left state so_far body later next now time;
       }

@@ -1,24 +1,23 @@
 -- A whole session, from its greeting on.
-use Rattle.std.proofs.Common.{◌≡◌, ◌⊎◌, inl, inr, ⊎_elim, ℕ, ◌+◌, ◌-◌, ◌<◌, ◌≤◌, min, Bool, true, false, IsTrue, cond, nat_le, if◌then◌else◌, List, [], ◌++◌, length, get_or, take, drop, codes, Result, Ok, Err, refl, sym, ◌∙◌, ap, subst, arith, length-take, take-append-drop, get_or-drop}
+use Rattle.std.proofs.Common.{◌≡◌, inl, inr, ℕ, ◌+◌, ◌-◌, ◌<◌, ◌≤◌, min, Bool, true, false, IsTrue, cond, nat_le, if◌then◌else◌, List, [], ◌++◌, length, get_or, take, drop, codes, Result, Err, refl, sym, ◌∙◌, ap, subst, arith, length-take, take-append-drop, get_or-drop}
 use Rattle.std.proofs.lemmas.Bool.{cases_eq}
 use Rattle.std.proofs.lemmas.Bool.Decides.{nat_tests}
 use Rattle.std.proofs.lemmas.List.{take_min, take-append-le, drop_at, append-nil}
 use Rattle.std.specs.List.{flat_map}
-use Rattle.vab_disk.specs.Disk.{Image, Outcome, Leaves, SameHoldings, Adds, Nothing}
+use Rattle.vab_disk.specs.Disk.{Image, Outcome, Leaves, Adds}
 use Rattle.vab_disk.specs.Port.{LeavesSaying}
-use Rattle.vab_disk.specs.Moments.{same_image, all_since, adds_wider, adds_on, adds_still}
+use Rattle.vab_disk.specs.Moments.{same_image, all_since, adds_wider, adds_on}
 use Rattle.vab_fbtcp.specs.Hello.{is_hello}
 use Rattle.vab_fbtcp.specs.declared.event.Place.TheVariants.{Hello}
 use Rattle.vab_session.specs.Reading.{EndsIn}
 use Rattle.vab_session.specs.Session.{EndsBy, End, Closed, BadHello, TooLong, Cut, Spent, spent, packet, HasNoHello, Reads, IsSession}
 use Rattle.vab_session.specs.Served.{Split, EndedBy, PortHeld, Answers, Serves}
 use Rattle.vab_session.specs.State.{State, device}
-use Rattle.vab_session.specs.Told.{replies_of, joined, output_of, state_after, IsWithin, IsAtRest}
+use Rattle.vab_session.specs.Told.{replies_of, joined, output_of, IsWithin, IsAtRest}
 use Rattle.vab_session.specs.declared.fault.SessionFault.{SessionFault}
 use Rattle.vab_session.specs.declared.fault.SessionFault.TheVariants as faults
 use Rattle.vab_session.proofs.Acknowledged.{within_greeting}
 use Rattle.vab_session.proofs.Packets.{AreBytes, split_of, taken_byte, one_end, same_packets}
-use Rattle.vab_session.proofs.Progress.{still_at_rest}
 
 -- the session of an input
 pub record AnySession (most : ℕ) (input : List ℕ) : Type 0 where
@@ -197,6 +196,7 @@ module _ {D : Type 0} (seen_of : D → Image) (held_by : D → ℕ → List ℕ 
         no_packets (Err faults.Spent) Spent (subst (λ (e : End). IsSession most (left_of old) [] e) (ap (λ b. cond b Spent (Cut (length (take most (left_of old))))) all) (no_hello most (left_of old) why.0)) refl
     stopped_early are faults.Source why = failed_early most first old now (Err faults.Source) are (λ end. tt) (λ held. held) (4, told) time
     stopped_early are faults.Sink why = absurd why
+    stopped_early are faults.Disk why = absurd why
 
   -- the commands were answered
   pub served : {A B : Type 0} (most : ℕ) (first : State) (old mid now : D) (s : Split (min most (length (left_of old))) (drop 4 (take most (left_of old)))) → is_hello (take 4 (take most (left_of old))) ≡ true
@@ -233,6 +233,7 @@ same_end A B (faults.Cut at) end is = is
 same_end A B faults.Spent end is = is
 same_end A B faults.Source end is = tt
 same_end A B faults.Sink end is = tt
+same_end A B faults.Disk end is = tt
 
 pub same_held : (A B : Type 0) (fault : SessionFault) → PortHeld {A = A} (Err fault) → PortHeld {A = B} (Err fault)
 same_held A B faults.BadHello held = tt
@@ -241,3 +242,4 @@ same_held A B (faults.Cut at) held = tt
 same_held A B faults.Spent held = tt
 same_held A B faults.Source held = held
 same_held A B faults.Sink held = held
+same_held A B faults.Disk held = held

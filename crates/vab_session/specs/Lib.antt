@@ -1,3 +1,5 @@
+pub mod Commands
+pub mod Controls
 pub mod Fault
 pub mod Hearing
 pub mod Reading

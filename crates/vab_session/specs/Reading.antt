@@ -9,7 +9,7 @@ use Rattle.vab_fbtcp.specs.declared.event.Place.TheVariants.{Hello, Length, Body
 use Rattle.vab_fbtcp.specs.Unread.{place_of, unread_of, piece_of}
 use Rattle.vab_session.specs.Session.{length_at}
 use Rattle.vab_session.specs.declared.fault.SessionFault.{SessionFault}
-use Rattle.vab_session.specs.declared.fault.SessionFault.TheVariants.{BadHello, TooLong, Cut, Spent, Source, Sink}
+use Rattle.vab_session.specs.declared.fault.SessionFault.TheVariants.{BadHello, TooLong, Cut, Spent, Disk, Source, Sink}
 use Rattle.vab_session.specs.declared.reader.Reader.{Reader}
 
 -- where the stream stands
@@ -58,6 +58,7 @@ StopsBy place rest Source = Unit {0}
 StopsBy place rest (Cut at) = ⊥
 StopsBy place rest Spent = ⊥
 StopsBy place rest Sink = ⊥
+StopsBy place rest Disk = ⊥
 
 -- the fault where the input ends inside something
 abbrev pub cut_of : ℕ → ℕ → SessionFault
@@ -72,3 +73,4 @@ EndsIn CutShort place rest count most BadHello = StopsBy place rest BadHello
 EndsIn CutShort place rest count most (TooLong n) = StopsBy place rest (TooLong n)
 EndsIn CutShort place rest count most Source = Unit {0}
 EndsIn CutShort place rest count most Sink = ⊥
+EndsIn CutShort place rest count most Disk = ⊥

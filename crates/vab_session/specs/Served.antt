@@ -1,13 +1,13 @@
 -- What a session does: how it ends, what it tells, and what each cut of power leaves.
-use Rattle.std.specs.Prelude.{◌≡◌, ℕ, List, [], ◌++◌, length, take, Result, Ok, Err, nat_le, slice_index, ◌<◌, if◌then◌else◌}
+use Rattle.std.specs.Prelude.{◌≡◌, ℕ, List, ◌++◌, take, Result, Ok, Err, nat_le, slice_index, ◌<◌, if◌then◌else◌}
 use Rattle.std.specs.List.{flat_map}
 use Rattle.vab_disk.specs.Disk.{Image, Outcome, Adds}
 use Rattle.vab_session.specs.Session.{packet, AreShort, End, EndsBy, IsSession, spent}
 use Rattle.vab_session.specs.Session as session
 use Rattle.vab_session.specs.State.{State}
-use Rattle.vab_session.specs.Told.{replies_of, joined, output_of, state_after, IsWithin, IsAtRest}
+use Rattle.vab_session.specs.Told.{output_of, state_after, IsWithin, IsAtRest}
 use Rattle.vab_session.specs.declared.fault.SessionFault.{SessionFault}
-use Rattle.vab_session.specs.declared.fault.SessionFault.TheVariants.{BadHello, TooLong, Cut, Spent, Source, Sink}
+use Rattle.vab_session.specs.declared.fault.SessionFault.TheVariants.{BadHello, TooLong, Cut, Spent, Disk, Source, Sink}
 
 -- these bytes as packets, and how they end in an input of so many bytes
 pub record Split (count : ℕ) (bytes : List ℕ) : Type 0 where
@@ -18,7 +18,7 @@ pub record Split (count : ℕ) (bytes : List ℕ) : Type 0 where
   pub short : AreShort packets
   pub ends : EndsBy count rest end
 
--- what was answered ends so, unless the port failed
+-- what was answered ends so, unless the disk or the port failed
 abbrev pub EndedBy : {A : Type 0} → Result A SessionFault → End → Type 0
 EndedBy (Ok x) end = end ≡ session.Closed
 EndedBy (Err BadHello) end = end ≡ session.BadHello
@@ -27,8 +27,9 @@ EndedBy (Err (Cut at)) end = end ≡ session.Cut at
 EndedBy (Err Spent) end = end ≡ session.Spent
 EndedBy (Err Source) end = Unit {0}
 EndedBy (Err Sink) end = Unit {0}
+EndedBy (Err Disk) end = Unit {0}
 
--- the port did not fail
+-- neither the disk nor the port failed
 abbrev pub PortHeld : {A : Type 0} → Result A SessionFault → Type 0
 PortHeld (Ok x) = Unit {0}
 PortHeld (Err BadHello) = Unit {0}
@@ -37,10 +38,11 @@ PortHeld (Err (Cut at)) = Unit {0}
 PortHeld (Err Spent) = Unit {0}
 PortHeld (Err Source) = ⊥
 PortHeld (Err Sink) = ⊥
+PortHeld (Err Disk) = ⊥
 
 module _ {D : Type 0} (seen_of : D → Image) (held_by : D → ℕ → List ℕ → Type 0) (told_of left_of : D → List ℕ) (moment : D → ℕ) (outcomes : D → ℕ → Outcome → Type 0) where
   -- A session of at most so many bytes, from this state on: it is one of the input. What was told is a front of what it
-  -- tells, and all of it unless the port failed. In each outcome a front is told, and the disk stands for a step of the
+  -- tells, and all of it unless the disk or the port failed. In each outcome a front is told, and the disk stands for a step of the
   -- first command whose reply doesn't stand whole.
   pub record Serves {A : Type 0} (most : ℕ) (state : State) (old new : D) (result : Result A SessionFault) : Type 0 where
     pub packets : List (List ℕ)

@@ -1,5 +1,12 @@
 // The device that a session is about.
+ghost use Rattle.vab_bootctl.specs.Control.{Fits};
 
-/// What is known of the device between two commands.
+use vab_bootctl::Control;
+
+/// What is known of the device between two commands: its boot control, as the disk has it. Slot a has images, slot b
+/// none.
 #[derive(Clone, Copy, Debug, PartialEq, Eq)]
-pub struct Device;
+pub struct Device {
+    pub control: Control,
+    ghost fits: { Fits control },
+}

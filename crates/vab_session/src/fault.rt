@@ -3,6 +3,7 @@ ghost use Rattle.std.specs.Prelude.{◌≡◌};
 
 use vab_disk::PortFault;
 use vab_fbtcp::FrameFault;
+use vab_gate::DiskFault;
 
 /// How a session ends that isn't malformed.
 #[derive(Clone, Copy, Debug, PartialEq, Eq)]
@@ -22,6 +23,8 @@ pub enum SessionFault {
     Cut(u64),
     /// As many bytes were taken as a session may have, and it would hear again.
     Spent,
+    /// The disk failed.
+    Disk,
     /// Hearing failed.
     Source,
     /// Telling failed.
@@ -38,6 +41,16 @@ impl From<FrameFault> for SessionFault {
             FrameFault::BadHello => SessionFault::BadHello,
             FrameFault::TooLong(length) => SessionFault::TooLong(length),
         }
+    }
+}
+
+impl From<DiskFault> for SessionFault {
+    ghost use Rattle.vab_session.specs.declared.fault.SessionFault.TheVariants.{Disk};
+
+    ghost from_gives = { λ _ e. e ≡ Disk };
+
+    fn from(_: DiskFault) -> Self {
+        SessionFault::Disk
     }
 }
 

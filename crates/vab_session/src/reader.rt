@@ -88,6 +88,7 @@ impl Reader {
         ensures fault { P.tells → IfErr result (StopsBy (stands_at self.old) (rest_of self.old (P.left p.old))) }
         ensures cause { IsErrOf result SessionFault.Source → Rose (P.faults p.old).source (P.faults p.new).source }
         ensures kind { IsErrOf result SessionFault.Sink → ⊥ }
+        ensures no_disk { IsErrOf result SessionFault.Disk → ⊥ }
     {
         loop {
             match self.framer.next(0)? {
@@ -132,6 +133,7 @@ impl Reader {
         ensures fault { P.tells → IfErr result (EndsIn (length (rest_of self.old (P.left p.old)) < 4) Hello (rest_of self.old (P.left p.old)) (self.old.budget.taken + length (P.left p.old)) self.old.budget.most) }
         ensures cause { IsErrOf result SessionFault.Source → Rose (P.faults p.old).source (P.faults p.new).source }
         ensures kind { IsErrOf result SessionFault.Sink → ⊥ }
+        ensures no_disk { IsErrOf result SessionFault.Disk → ⊥ }
     {
         match self.next(p)? {
             Some(Event::Hello(_)) => Ok(()),
@@ -162,6 +164,7 @@ impl Reader {
         ensures fault { P.tells → IfErr result (EndsIn (length (rest_of self.old (P.left p.old)) < count) Hello [] (self.old.budget.taken + length (P.left p.old)) self.old.budget.most) }
         ensures cause { IsErrOf result SessionFault.Source → Rose (P.faults p.old).source (P.faults p.new).source }
         ensures kind { IsErrOf result SessionFault.Sink → ⊥ }
+        ensures no_disk { IsErrOf result SessionFault.Disk → ⊥ }
     {
         let mut left = count;
         while left > 0 {
@@ -198,6 +201,7 @@ impl Reader {
         ensures fault { P.tells → IfErr result (EndsIn (IsCutShort (rest_of self.old (P.left p.old))) Length (rest_of self.old (P.left p.old)) (self.old.budget.taken + length (P.left p.old)) self.old.budget.most) }
         ensures cause { IsErrOf result SessionFault.Source → Rose (P.faults p.old).source (P.faults p.new).source }
         ensures kind { IsErrOf result SessionFault.Sink → ⊥ }
+        ensures no_disk { IsErrOf result SessionFault.Disk → ⊥ }
     {
         packet.clear();
         match self.next(p)? {

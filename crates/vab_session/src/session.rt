@@ -21,12 +21,14 @@ fn answer_all<P: Port>(
     reader: &mut Reader,
     device: Device,
 ) -> Result<Device, SessionFault>
+    requires on_disk { 4 < P.size p.old }
     requires place { stands_at reader.old ≡ Length }
     requires fed { IsFed reader.old }
     ensures answers { P.tells → (s : Split (min reader.old.budget.most (reader.old.budget.taken + length (P.left p.old))) (rest_of reader.old (P.left p.old))) (told : List ℕ) → P.told p.old ≡ told ++ codes "FB01"
         → Answers P.seen P.may_hold P.told P.left P.moment P.outcomes s reader.old.budget.most (reader.old.budget.taken + length (P.left p.old)) (state_of device) told p.old p.new result }
     ensures size { P.size p.new ≡ P.size p.old }
     ensures counts { NoFewer (P.faults p.old) (P.faults p.new) }
+    ensures disk { IsErrOf result SessionFault.Disk → Rose (P.faults p.old).disk (P.faults p.new).disk }
     ensures source { IsErrOf result SessionFault.Source → Rose (P.faults p.old).source (P.faults p.new).source }
     ensures sink { IsErrOf result SessionFault.Sink → Rose (P.faults p.old).sink (P.faults p.new).sink }
 {
@@ -59,9 +61,11 @@ pub fn serve_up_to<P: Port>(
     device: Device,
     most: u64,
 ) -> Result<(Ended, Device), SessionFault>
+    requires { 4 < P.size p.old }
     ensures serves { P.tells → Serves P.seen P.may_hold P.told P.left P.moment P.outcomes most (state_of device) p.old p.new result }
     ensures size { P.size p.new ≡ P.size p.old }
     ensures counts { NoFewer (P.faults p.old) (P.faults p.new) }
+    ensures disk { IsErrOf result SessionFault.Disk → Rose (P.faults p.old).disk (P.faults p.new).disk }
     ensures source { IsErrOf result SessionFault.Source → Rose (P.faults p.old).source (P.faults p.new).source }
     ensures sink { IsErrOf result SessionFault.Sink → Rose (P.faults p.old).sink (P.faults p.new).sink }
 {
@@ -81,9 +85,11 @@ pub fn serve_up_to<P: Port>(
 
 /// A session, of at most 2^44 bytes.
 pub fn serve<P: Port>(p: &mut P, device: Device) -> Result<(Ended, Device), SessionFault>
+    requires { 4 < P.size p.old }
     ensures serves { P.tells → Serves P.seen P.may_hold P.told P.left P.moment P.outcomes (2 ^ 44) (state_of device) p.old p.new result }
     ensures size { P.size p.new ≡ P.size p.old }
     ensures counts { NoFewer (P.faults p.old) (P.faults p.new) }
+    ensures disk { IsErrOf result SessionFault.Disk → Rose (P.faults p.old).disk (P.faults p.new).disk }
     ensures source { IsErrOf result SessionFault.Source → Rose (P.faults p.old).source (P.faults p.new).source }
     ensures sink { IsErrOf result SessionFault.Sink → Rose (P.faults p.old).sink (P.faults p.new).sink }
 {

@@ -1,24 +1,17 @@
-use Rattle.std.proofs.Common.{◌≡◌, ◌⊎◌, ◌++◌, ◌∙◌, inl, inr, ℕ, List, Result, Ok, Err, sym, ap, subst, rules}
-use Rattle.vab_disk.specs.Disk.{Faults, Rose}
-use Rattle.vab_session.specs.Session as session
-use Rattle.vab_session.specs.Told.{output_of}
-use Rattle.vab_cli.specs.declared.status.Status.{Status}
-use Rattle.vab_cli.specs.Headline.{RunsSession}
-use Rattle.vab_cli.proofs.Runs.{runs, completed, by_fault}
+use Rattle.std.proofs.Common.{⊎_elim}
+use Rattle.vab_session.specs.Controls.{made}
+use Rattle.vab_cli.proofs.Runs.{completed, one_verb}
 use Rattle.vab_cli.proofs.program.run.Goals as goal
 
-pub returns-in-Ok-clause-headline : goal.returns-in-Ok-clause-headline
-returns-in-Ok-clause-headline g c = λ t words. runs g.P.Disk.seen g.P.Disk.may_hold g.P.Disk.told g.P.Disk.left g.P.Disk.moment g.P.Disk.outcomes tt c.args.port.now c.serve.new.p (Ok c.in-Ok.field-0) (c.in-Ok.ensures.serves t)
+pub returns-in-Some-Serve-clause-complete : goal.returns-in-Some-Serve-clause-complete
+returns-in-Some-Serve-clause-complete g c = λ t words s enough is packets session none.
+    completed g.P.Disk.seen g.P.Disk.may_hold g.P.Disk.told g.P.Disk.left g.P.Disk.moment g.P.Disk.outcomes g.met.P.Disk.counts_now g.met.P.Disk.only_now _ _ _ _ s c.args.port.now c.open_and_serve.new.port c.open_and_serve.result (c.open_and_serve.ensures.device t s enough is)
+    (λ disk. none.disk (c.open_and_serve.ensures.disk disk)) (λ port. ⊎_elim none.source none.sink (c.open_and_serve.ensures.port port)) packets session
 
-pub returns-in-Ok-clause-complete : goal.returns-in-Ok-clause-complete
-returns-in-Ok-clause-complete g c = λ t words packets is none. completed g.P.Disk.seen g.P.Disk.may_hold g.P.Disk.told g.P.Disk.left g.P.Disk.moment g.P.Disk.outcomes tt c.args.port.now c.serve.new.p (Ok c.in-Ok.field-0) (c.in-Ok.ensures.serves t) packets is tt
+pub returns-in-Some-ServeFresh-clause-complete : goal.returns-in-Some-ServeFresh-clause-complete
+returns-in-Some-ServeFresh-clause-complete g c = λ t words. one_verb c.args.words.now words (rw c.in-Some-ServeFresh.field-0-is at c.in-Some-ServeFresh.ensures.some)
 
-pub returns-in-Err-clause-headline : goal.returns-in-Err-clause-headline
-returns-in-Err-clause-headline g c = λ t words.
-    let serves = c.in-Err.ensures.serves t in
-    subst (λ (s : Status). RunsSession g.P.Disk.seen g.P.Disk.may_hold g.P.Disk.told g.P.Disk.left g.P.Disk.moment g.P.Disk.outcomes tt c.args.port.now c.serve.new.p s) (sym c.from.ensures) (runs g.P.Disk.seen g.P.Disk.may_hold g.P.Disk.told g.P.Disk.left g.P.Disk.moment g.P.Disk.outcomes tt c.args.port.now c.serve.new.p _ serves)
-
-pub returns-in-Err-clause-complete : goal.returns-in-Err-clause-complete
-returns-in-Err-clause-complete g c = λ t words packets is none.
-    let serves = c.in-Err.ensures.serves t in
-    absurd (by_fault g.P.Disk.seen g.P.Disk.may_hold g.P.Disk.told g.P.Disk.left g.P.Disk.moment g.P.Disk.outcomes tt c.args.port.now c.serve.new.p c.in-Err.fault _ _ serves packets is (λ same. c.in-Err.ensures.source (ap Err same)) (λ same. c.in-Err.ensures.sink (ap Err same)) none)
+pub returns-in-Some-ServeFresh-clause-complete_fresh : goal.returns-in-Some-ServeFresh-clause-complete_fresh
+returns-in-Some-ServeFresh-clause-complete_fresh g c = λ t words enough packets session none.
+    completed g.P.Disk.seen g.P.Disk.may_hold g.P.Disk.told g.P.Disk.left g.P.Disk.moment g.P.Disk.outcomes g.met.P.Disk.counts_now g.met.P.Disk.only_now _ _ _ _ made c.args.port.now c.make_and_serve.new.port c.make_and_serve.result (c.make_and_serve.ensures.device t enough)
+    (λ disk. none.disk (c.make_and_serve.ensures.disk disk)) (λ port. ⊎_elim none.source none.sink (c.make_and_serve.ensures.port port)) packets session

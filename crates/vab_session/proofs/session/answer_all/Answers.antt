@@ -1,16 +1,12 @@
-use Rattle.std.proofs.Common.{◌≡◌, ℕ, ◌+◌, ◌<◌, ◌≤◌, ◌++◌, ◌∙◌, List, length, take, min, codes, Ok, Err, refl, sym, ap, subst, ⊎_elim, arith, rules}
+use Rattle.std.proofs.Common.{◌≡◌, ℕ, ◌+◌, ◌<◌, ◌≤◌, ◌++◌, ◌∙◌, List, length, take, refl, sym, ap, subst, ⊎_elim, arith, rules}
 use Rattle.vab_session.specs.Reading.{rest_of, EndsIn}
 use Rattle.vab_session.specs.Session.{packet, IsCutShort}
 use Rattle.vab_fbtcp.specs.declared.event.Place.TheVariants.{Length}
 use Rattle.std.proofs.lemmas.Bool.{cases_eq}
 use Rattle.vab_disk.specs.Disk.{Adds}
-use Rattle.vab_session.specs.Served.{Answers}
 use Rattle.vab_session.specs.State.{State, state_of, after, reply_of, steps_of}
 use Rattle.vab_session.specs.Told.{AnswersCommand, IsAtRest}
-use Rattle.vab_session.specs.declared.device.Device.{Device}
-use Rattle.vab_session.specs.declared.fault.SessionFault.{SessionFault}
-use Rattle.vab_session.specs.declared.fault.SessionFault.TheVariants as faults
-use Rattle.vab_session.proofs.Progress.{Progress, next_of, answering, fronted, answered_one, listened, reply_failed, stopped, closed, spent_there}
+use Rattle.vab_session.proofs.Progress.{Progress, next_of, answered_one, listened, reply_failed, stopped, closed, spent_there}
 use Rattle.vab_session.proofs.session.answer_all.Goals as goal
 
 pub returns-in-Err-clause-answers : goal.returns-in-Err-clause-answers
@@ -111,8 +107,6 @@ returns-in-Err-answer-clause-answers g c = λ t s told greeted.
     let fits = rw c.in-Ok-true.field-0-test at heard.fits in
     let is = rw c.in-Ok-true.field-0-test at heard.packet t in
     let failed = c.in-Err-answer.ensures in
-    let sink : faults.Sink ≡ c.in-Err-answer.fault = let both = failed.fault in cc in
-    subst (λ (f : SessionFault). Answers g.P.Disk.seen g.P.Disk.may_hold g.P.Disk.told g.P.Disk.left g.P.Disk.moment g.P.Disk.outcomes {A = Device} s most total (state_of c.args.device) told c.args.p.now c.answer.new.p (Err f)) sink
-    (reply_failed g.P.Disk.seen g.P.Disk.may_hold g.P.Disk.told g.P.Disk.left g.P.Disk.moment g.P.Disk.outcomes s most total (state_of c.args.device) told c.args.p.now c.packet.new.p c.answer.new.p left state so_far body later fits is
+    reply_failed g.P.Disk.seen g.P.Disk.may_hold g.P.Disk.told g.P.Disk.left g.P.Disk.moment g.P.Disk.outcomes s most total (state_of c.args.device) told c.args.p.now c.packet.new.p c.answer.new.p left state so_far c.in-Err-answer.fault failed.fault body later fits is
     (subst (λ (l : List ℕ). (n : ℕ) × (g.P.Disk.told c.answer.new.p ≡ g.P.Disk.told c.packet.new.p ++ take n (packet (reply_of state l)))) arg (failed.front t))
-    (subst (λ (l : List ℕ). IsAtRest g.P.Disk.seen g.P.Disk.may_hold c.packet.new.p state → Adds g.P.Disk.moment g.P.Disk.outcomes c.packet.new.p c.answer.new.p (AnswersCommand (g.P.Disk.told c.packet.new.p) (packet (reply_of state l)) (steps_of state l) (after state l))) arg (failed.time t)))
+    (subst (λ (l : List ℕ). IsAtRest g.P.Disk.seen g.P.Disk.may_hold c.packet.new.p state → Adds g.P.Disk.moment g.P.Disk.outcomes c.packet.new.p c.answer.new.p (AnswersCommand (g.P.Disk.told c.packet.new.p) (packet (reply_of state l)) (steps_of state l) (after state l))) arg (failed.time t))

@@ -1,10 +1,8 @@
-use Rattle.std.proofs.Common.{◌≡◌, ℕ, ◌+◌, ◌<◌, ◌≤◌, ◌++◌, ◌∙◌, List, length, take, drop, min, codes, true, Result, Ok, Err, refl, sym, ap, subst, arith, rules}
-use Rattle.vab_disk.specs.Disk.{Adds}
+use Rattle.std.proofs.Common.{◌≡◌, ℕ, ◌+◌, ◌<◌, ◌++◌, ◌∙◌, List, length, take, drop, codes, true, Result, Ok, Err, ap, subst, arith, rules}
 use Rattle.vab_fbtcp.specs.declared.event.Place.TheVariants.{Hello}
 use Rattle.vab_session.specs.Reading.{rest_of, EndsIn}
-use Rattle.vab_session.specs.Served.{Split, Answers}
 use Rattle.vab_session.specs.State.{state_of}
-use Rattle.vab_session.specs.Told.{IsWithin, IsAtRest}
+use Rattle.vab_session.specs.Told.{IsWithin}
 use Rattle.vab_fbtcp.specs.Hello.{is_hello}
 use Rattle.vab_session.specs.declared.device.Device.{Device}
 use Rattle.vab_session.specs.declared.fault.Ended.{Ended}

@@ -1,8 +1,6 @@
-use Rattle.std.proofs.Common.{◌≡◌, ℕ, Some, ◌+◌, ◌-◌, ◌<◌, ◌≤◌, List, ◌++◌, length, take, drop, slice_range, sym, ◌∙◌, ap, subst, arith, rules}
-use Rattle.vab_fbtcp.specs.Frame.{Part, body_place, place_after}
-use Rattle.vab_fbtcp.specs.declared.event.Place.TheVariants.{Body}
+use Rattle.std.proofs.Common.{◌≡◌, Some, ◌+◌, ◌-◌, ◌<◌, ◌++◌, length, slice_range, sym, ◌∙◌, ap, arith, rules}
 use Rattle.vab_fbtcp.specs.declared.event.Event.TheVariants.{Piece}
-use Rattle.vab_session.specs.Reading.{Suits, stands_at, rest_of, room_of}
+use Rattle.vab_session.specs.Reading.{rest_of}
 use Rattle.vab_session.proofs.Events.{body_some, place_after-Part, part_read}
 use Rattle.vab_session.proofs.reader.Reader.body.Goals as goal
 

@@ -1,4 +1,4 @@
-use Rattle.std.proofs.Common.{◌≡◌, ℕ, ◌-◌, ◌≤◌, List, ◌++◌, length, take, drop, sym, ◌∙◌, ap, arith, rules}
+use Rattle.std.proofs.Common.{◌≡◌, ℕ, ◌-◌, ◌≤◌, List, ◌++◌, length, take, ◌∙◌, ap, arith, rules}
 use Rattle.std.proofs.lemmas.List.{take-append-le}
 use Rattle.vab_fbtcp.specs.Unread.{unread_of}
 use Rattle.vab_session.proofs.Hearings.{heard_more}

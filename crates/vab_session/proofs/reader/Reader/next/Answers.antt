@@ -1,4 +1,4 @@
-use Rattle.std.proofs.Common.{◌≡◌, ℕ, ◌+◌, ◌-◌, ◌≤◌, List, [], ◌++◌, length, take, drop, ⊎_elim, sym, ◌∙◌, ap, subst, arith, rules}
+use Rattle.std.proofs.Common.{◌≡◌, ℕ, ◌-◌, List, ◌++◌, take, drop, sym, ◌∙◌, ap, subst}
 use Rattle.std.proofs.lemmas.List.{drop-append-le, append-nil}
 use Rattle.vab_fbtcp.specs.Frame.{More, found_of, bytes_of, place_after, IsIdle}
 use Rattle.vab_fbtcp.specs.Unread.{place_of, unread_of}

@@ -1,7 +1,5 @@
-use Rattle.std.proofs.Common.{◌≡◌, ℕ, Some, List, ◌++◌, length, take, drop, sym, ◌∙◌, ap, append_assoc, take-append-drop, rules}
-use Rattle.std.specs.Int.{w64, to_be_bytes}
+use Rattle.std.proofs.Common.{◌≡◌, Some, sym, ◌∙◌, ap}
 use Rattle.vab_fbtcp.specs.declared.event.Event.TheVariants.{Head}
-use Rattle.vab_session.specs.Reading.{rest_of}
 use Rattle.vab_session.proofs.Packets.{is_packet}
 use Rattle.vab_session.proofs.reader.Reader.packet.Goals as goal
 

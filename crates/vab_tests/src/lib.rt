@@ -1,0 +1,9 @@
+//! Tests that cross crates: whole runs of the program over ports in memory, over files and over streams of the tests' own.
+#![tactic(auto)]
+
+#[cfg(test)]
+mod faults;
+#[cfg(test)]
+mod ports;
+#[cfg(test)]
+mod runs;
