@@ -7,3 +7,5 @@ mod faults;
 mod ports;
 #[cfg(test)]
 mod runs;
+#[cfg(test)]
+mod sessions;

@@ -62,5 +62,20 @@ fn a_file_keeps_the_device(rt: HostRuntime) -> Result<(), Fail> {
     let image = fs::read(&rt, "device.img")?;
     assert_eq!(rt; image.get(4 * 512 + 12).copied(), Some(0xef));
     assert_eq!(rt; image.len(), 512 * 6200);
+    let again = OneByOne {
+        rest: b"FB01\0\0\0\0\0\0\0\x13getvar:current-slot",
+    };
+    let mut answers = Vec::new(alloc);
+    {
+        let mut port = FilePort::open(&rt, "device.img", again, &mut answers).map_err(
+            |_| Fail::from("open"),
+        )?;
+        let serve = words(alloc, false)?;
+        assert_eq!(rt; run(alloc, &serve, &mut port).code(), 0);
+    }
+    assert_eq!(rt;
+        answers.as_slice(),
+        b"FB01\0\0\0\0\0\0\0\x05OKAYa".as_slice()
+    );
     Ok(())
 }

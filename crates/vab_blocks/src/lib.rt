@@ -1,0 +1,13 @@
+//! The blocks of a `super` block device that partitions have, and those that are free.
+//!
+//! A block is 4096 bytes, 8 sectors of 512 bytes. The blocks of a device are numbered from its
+//! first logical sector on: block 0 is its first 8 sectors.
+#![tactic(auto)]
+
+mod of_table;
+mod runs;
+
+pub use runs::Runs;
+
+#[cfg(test)]
+mod tests;

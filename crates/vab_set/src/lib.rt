@@ -1,0 +1,15 @@
+//! Images of a set as bytes.
+#![tactic(auto)]
+
+mod fault;
+mod reading;
+mod set;
+mod writing;
+
+pub use fault::{NoMemory, SetFault};
+pub use reading::read_set;
+pub use set::{Set, SetImage};
+pub use writing::write_set;
+
+#[cfg(test)]
+mod tests;
