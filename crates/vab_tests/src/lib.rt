@@ -9,3 +9,7 @@ mod ports;
 mod runs;
 #[cfg(test)]
 mod sessions;
+#[cfg(test)]
+mod tables;
+#[cfg(test)]
+mod texts;
