@@ -27,8 +27,8 @@ impl Model for Runs {
 }
 
 impl Runs {
-    // These numbers in ascending order, each once.
-    pub(crate) fn sorted(mut blocks: Vec<u64>) -> Runs
+    /// These numbers in ascending order, each once.
+    pub fn sorted(mut blocks: Vec<u64>) -> Runs
         ensures ascends { IsStrictlyIncreasing result }
         ensures listed { (b : ℕ) → Contains result b ↔ Contains blocks.items b }
     {

@@ -6,7 +6,8 @@ use Rattle.vab_bytes.specs.Number.{le_at}
 use Rattle.vab_set.specs.declared.set.SetImage.{SetImage}
 use Rattle.vab_set.specs.declared.fault.SetFault.{SetFault}
 use Rattle.vab_set.specs.declared.fault.SetFault.TheVariants as faults
-use Rattle.vab_set.specs.Spelling.{magic, is_base}
+use Rattle.vab_names.specs.Names.{is_base}
+use Rattle.vab_set.specs.Spelling.{magic}
 
 infixl 10 ◌>>=◌
 abbrev pub ◌>>=◌ : {A B : Type 0} → Result A SetFault → (A → Result B SetFault) → Result B SetFault

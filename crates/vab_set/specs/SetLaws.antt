@@ -19,7 +19,8 @@ use Rattle.vab_bytes.specs.NumberLaws.{IsBytes-field, le_at_spelled_64, le_at_fi
 use Rattle.vab_set.specs.declared.set.SetImage.{SetImage}
 use Rattle.vab_set.specs.declared.fault.SetFault.{SetFault}
 use Rattle.vab_set.specs.declared.fault.SetFault.TheVariants as faults
-use Rattle.vab_set.specs.Spelling.{magic, is_base, is_short, image_text, images_text, set_text, IsImage, IsSet}
+use Rattle.vab_names.specs.Names.{is_base, is_short}
+use Rattle.vab_set.specs.Spelling.{magic, image_text, images_text, set_text, IsImage, IsSet}
 use Rattle.vab_set.specs.Reading.{◌>>=◌, taken, number_at, text_at, first_named, judged, unless_first, new_name, size_at, image_at, images_at, count_at, set_of}
 
 bind_ok : {A B : Type 0} (r : Result A SetFault) (f : A → Result B SetFault) (y : B) → (r >>= f) ≡ Ok y → (x : A) × (r ≡ Ok x) × (f x ≡ Ok y)

@@ -1,22 +1,13 @@
 -- The bytes that spell a set of images.
-use Rattle.std.specs.Prelude.{◌≢◌, ℕ, ◌<◌, ◌≤◌, ◌^◌, Bool, ◌&&◌, not, ◌==◌, nat_le, List, [], ◌∷◌, ◌++◌, length, IsTrue, All, AllPairs}
-use Rattle.std.specs.List.{list_any}
+use Rattle.std.specs.Prelude.{◌≢◌, ℕ, ◌<◌, ◌≤◌, ◌^◌, List, [], ◌∷◌, ◌++◌, length, IsTrue, All, AllPairs}
 use Rattle.std.specs.Int.{w32, w64, to_le_bytes}
-use Rattle.vab_bytes.specs.Name.{is_name}
+use Rattle.vab_names.specs.Names.{is_base}
 use Rattle.vab_bytes.specs.Number.{IsBytes}
 use Rattle.vab_set.specs.declared.set.SetImage.{SetImage}
 
 -- "VABSET1" and a line feed
 abbrev pub magic : List ℕ
 magic = 86 ∷ 65 ∷ 66 ∷ 83 ∷ 69 ∷ 84 ∷ 49 ∷ 10 ∷ []
-
--- at most 30 bytes, and none is a hyphen
-abbrev pub is_short : List ℕ → Bool
-is_short text = nat_le (length text) 30 && not (list_any (λ b. b == 45) text)
-
--- a partition's name without a slot's suffix: such a name
-unfoldable pub is_base : List ℕ → Bool
-is_base text = is_name text && is_short text
 
 -- an image: its name with its length, three numbers, and its bytes
 unfoldable pub image_text : SetImage → List ℕ

@@ -1,22 +1,20 @@
 //! Reading a set.
 
-ghost use Rattle.std.specs.Prelude.{◌≡◌, ◌==◌, List, [], IfOk, Ok};
-ghost use Rattle.std.specs.List.{list_any};
+ghost use Rattle.std.specs.Prelude.{◌≡◌, List, [], IfOk, Ok};
 ghost use Rattle.vab_set.specs.declared.set.SetImage.{SetImage as ImageValue};
-ghost use Rattle.vab_set.specs.Spelling.{is_short, IsSet, set_text};
+ghost use Rattle.vab_set.specs.Spelling.{IsSet, set_text};
 ghost use Rattle.vab_set.specs.Reading.{Gives, taken, number_at, base_of, first_named, text_at, new_name, size_at, image_at, images_at, count_at, set_of};
 
 use crate::{Set, SetFault, SetImage};
 use std::alloc::Global;
 use vab_bytes::{Bytes, Listing, Name36, le32_at, le64_at};
+use vab_names::parse_base;
 
 const MAGIC: &[u8; 8] = b"VABSET1\n";
 
 const MAX_IMAGES: u32 = 32;
 
 const MAX_SIZE: u64 = 1 << 40;
-
-const MAX_NAME: usize = 30;
 
 // The first bytes of an image's field, and those behind them.
 fn take(image: usize, n: usize, bytes: &[u8]) -> Result<(&[u8], &[u8]), SetFault>
@@ -38,28 +36,11 @@ fn read_number(image: usize, bytes: &[u8]) -> Result<(u64, &[u8]), SetFault>
     Ok((le64_at(bytes, 0), &bytes[8..]))
 }
 
-fn has_hyphen(text: &[u8]) -> bool
-    ensures { result ≡ list_any (λ b. b == 45) text.now }
-{
-    text.iter().any(|b| *b == b'-')
-}
-
-fn is_short(text: &[u8]) -> bool
-    ensures { result ≡ is_short text.now }
-{
-    text.len() <= MAX_NAME && !has_hyphen(text)
-}
-
-// The name of 1 to 30 bytes without a hyphen.
-#[tactic(auto, unfolding(crate::specs::Spelling::is_base))]
+// The base name with this text.
 fn base_name(text: &[u8]) -> Option<Name36>
     ensures { result ≡ base_of text.now }
 {
-    if is_short(text) {
-        Name36::parse(text).ok()
-    } else {
-        None
-    }
+    parse_base(text)
 }
 
 // The first image of this name.
