@@ -1,0 +1,30 @@
+//! Partitions as lists of blocks.
+
+use vab_bytes::{Listing, Name36};
+use vab_tables::{BlockDevice, Group};
+
+/// Sectors of a block.
+pub(crate) const BLOCK: u64 = 8;
+
+/// A logical partition with its blocks.
+#[derive(Drop)]
+pub struct Part {
+    pub name: Name36,
+    /// Bits: 1 read-only, 4 updated, 8 disabled.
+    pub attributes: u32,
+    /// The name of its group.
+    pub group: Name36,
+    /// The numbers of its blocks, in its order.
+    pub blocks: Listing<u64>,
+}
+
+/// A table, with the blocks of each partition in place of extents. Contracts see its lists as
+/// lists.
+#[derive(Drop)]
+pub struct Layout {
+    pub parts: Listing<Part>,
+    pub groups: Listing<Group>,
+    pub device: BlockDevice,
+    /// 1: a device with Virtual A/B.
+    pub flags: u32,
+}
