@@ -1,0 +1,133 @@
+//! Copies of a state and of its parts.
+
+ghost use Rattle.std.specs.Prelude.{◌≡◌, IfOk};
+
+use crate::{GroupLimit, Image, NoMemory, Phase, PlanEntry, PlanImage, SlotState, State};
+use std::alloc::Global;
+use vab_bytes::{Bytes, Listing};
+
+fn copy_bytes(alloc: Global, bytes: &Bytes) -> Result<Bytes, NoMemory>
+    ensures { IfOk result (λ x. x ≡ bytes.now) }
+{
+    Ok(Bytes::from_vec(Vec::from_slice(alloc, bytes.as_slice())?))
+}
+
+fn copy_groups(alloc: Global, groups: &Listing<GroupLimit>) -> Result<Listing<GroupLimit>, NoMemory>
+    ensures { IfOk result (λ x. x ≡ groups.now) }
+{
+    Ok(Listing::from_vec(Vec::from_slice(alloc, groups.as_slice())?))
+}
+
+fn copy_images(alloc: Global, images: &Listing<Image>) -> Result<Listing<Image>, NoMemory>
+    ensures { IfOk result (λ x. x ≡ images.now) }
+{
+    let mut copies = Vec::new(alloc);
+    for image in images.as_slice() {
+        copies.push(image.copy(alloc)?)?;
+    }
+    Ok(Listing::from_vec(copies))
+}
+
+fn copy_plan(alloc: Global, plan: &Listing<PlanEntry>) -> Result<Listing<PlanEntry>, NoMemory>
+    ensures { IfOk result (λ x. x ≡ plan.now) }
+{
+    let mut copies = Vec::new(alloc);
+    for entry in plan.as_slice() {
+        copies.push(entry.copy(alloc)?)?;
+    }
+    Ok(Listing::from_vec(copies))
+}
+
+fn copy_slot(alloc: Global, slot: &Option<SlotState>) -> Result<Option<SlotState>, NoMemory>
+    ensures { IfOk result (λ x. x ≡ slot.now) }
+{
+    match slot {
+        None => Ok(None),
+        Some(slot) => Ok(Some(slot.copy(alloc)?)),
+    }
+}
+
+impl Image {
+    fn copy(&self, alloc: Global) -> Result<Image, NoMemory>
+        ensures { IfOk result (λ x. x ≡ self.now) }
+    {
+        Ok(Image {
+            name: self.name,
+            group: self.group,
+            bytes: copy_bytes(alloc, &self.bytes)?,
+        })
+    }
+}
+
+impl SlotState {
+    fn copy(&self, alloc: Global) -> Result<SlotState, NoMemory>
+        ensures { IfOk result (λ x. x ≡ self.now) }
+    {
+        Ok(SlotState {
+            images: copy_images(alloc, &self.images)?,
+            priority: self.priority,
+            tries: self.tries,
+            successful: self.successful,
+        })
+    }
+}
+
+impl PlanImage {
+    fn copy(&self, alloc: Global) -> Result<PlanImage, NoMemory>
+        ensures { IfOk result (λ x. x ≡ self.now) }
+    {
+        match self {
+            PlanImage::Kept => Ok(PlanImage::Kept),
+            PlanImage::Declared => Ok(PlanImage::Declared),
+            PlanImage::Written(bytes, exceptions) => {
+                Ok(PlanImage::Written(copy_bytes(alloc, bytes)?, *exceptions))
+            }
+        }
+    }
+}
+
+impl PlanEntry {
+    fn copy(&self, alloc: Global) -> Result<PlanEntry, NoMemory>
+        ensures { IfOk result (λ x. x ≡ self.now) }
+    {
+        Ok(PlanEntry {
+            name: self.name,
+            group: self.group,
+            blocks: self.blocks,
+            store: self.store,
+            image: self.image.copy(alloc)?,
+        })
+    }
+}
+
+impl Phase {
+    fn copy(&self, alloc: Global) -> Result<Phase, NoMemory>
+        ensures { IfOk result (λ x. x ≡ self.now) }
+    {
+        match self {
+            Phase::Idle => Ok(Phase::Idle),
+            Phase::Installing(source, plan) => Ok(Phase::Installing(
+                *source,
+                copy_plan(alloc, plan)?,
+            )),
+            Phase::Staged(source, left) => Ok(Phase::Staged(*source, *left)),
+            Phase::Merging(target, left) => Ok(Phase::Merging(*target, *left)),
+        }
+    }
+}
+
+impl State {
+    /// The same state, in memory of its own.
+    pub fn copy(&self, alloc: Global) -> Result<State, NoMemory>
+        ensures { IfOk result (λ x. x ≡ self.now) }
+    {
+        Ok(State {
+            cap: self.cap,
+            groups: copy_groups(alloc, &self.groups)?,
+            a: copy_slot(alloc, &self.a)?,
+            b: copy_slot(alloc, &self.b)?,
+            current: self.current,
+            phase: self.phase.copy(alloc)?,
+        })
+    }
+}

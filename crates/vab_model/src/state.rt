@@ -1,0 +1,87 @@
+//! The state of a device.
+
+use vab_bytes::{Bytes, Listing, Name36};
+
+/// An image of a slot.
+#[derive(Drop)]
+pub struct Image {
+    /// The base name, without the slot's suffix.
+    pub name: Name36,
+    /// Its group without the slot's suffix; `None` for the group of no slot.
+    pub group: Option<Name36>,
+    /// A whole number of blocks of 4096 bytes.
+    pub bytes: Bytes,
+}
+
+/// A slot with images.
+#[derive(Drop)]
+pub struct SlotState {
+    /// In the order of the slot's table.
+    pub images: Listing<Image>,
+    /// 0 (never booted) to 15.
+    pub priority: u8,
+    /// How many boots may still be tried, at most 7.
+    pub tries: u8,
+    /// Whether the slot has been marked as one that works.
+    pub successful: bool,
+}
+
+/// A group of partitions, without the slot's suffix.
+#[derive(Clone, Copy, Debug, PartialEq, Eq)]
+pub struct GroupLimit {
+    pub name: Name36,
+    /// The most bytes that a slot's images in it may have together; 0: no limit.
+    pub limit: u64,
+}
+
+/// What is known of the image of a planned partition.
+#[derive(Drop)]
+pub enum PlanImage {
+    /// The source's.
+    Kept,
+    /// None yet.
+    Declared,
+    /// These bytes, and how many exceptions its store has.
+    Written(Bytes, u64),
+}
+
+/// A partition that the target of an update is to have.
+#[derive(Drop)]
+pub struct PlanEntry {
+    /// The base name, without the slot's suffix.
+    pub name: Name36,
+    /// Its group without the slot's suffix; `None` for the group of no slot.
+    pub group: Option<Name36>,
+    /// Blocks of 4096 bytes.
+    pub blocks: u64,
+    /// Blocks of its exception store, where it has one.
+    pub store: Option<u64>,
+    pub image: PlanImage,
+}
+
+/// Where an update stands. A slot is 0 for a and 1 for b.
+#[derive(Drop)]
+pub enum Phase {
+    /// No update.
+    Idle,
+    /// From this source; the other slot's partitions are planned.
+    Installing(usize, Listing<PlanEntry>),
+    /// From this source; so many blocks are left to merge.
+    Staged(usize, u64),
+    /// Into this target; so many blocks are left to merge.
+    Merging(usize, u64),
+}
+
+/// The state of a device.
+#[derive(Drop)]
+pub struct State {
+    /// Blocks of 4096 bytes that partitions may have.
+    pub cap: u64,
+    /// The groups in their order, but for that of no slot.
+    pub groups: Listing<GroupLimit>,
+    pub a: Option<SlotState>,
+    pub b: Option<SlotState>,
+    /// The slot that was booted last: 0 for a, 1 for b.
+    pub current: usize,
+    pub phase: Phase,
+}
