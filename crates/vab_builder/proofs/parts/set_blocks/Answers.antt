@@ -1,0 +1,17 @@
+use Rattle.std.proofs.Common.{sym}
+use Rattle.vab_layout.specs.declared.layout.Part.{Part}
+use Rattle.vab_builder.specs.Edits.{updated}
+use Rattle.vab_builder.specs.ChangeLaws.{changed_at, changed_none}
+use Rattle.vab_builder.proofs.parts.set_blocks.Goals as goal
+
+pub returns-in-Some : goal.returns-in-Some
+returns-in-Some c =
+    let f : Part → Part = λ p. record (updated p) { blocks = c.args.blocks.items } in
+    let found = rw c.deref.ensures.value at c.in-Some.ensures in
+    rw c.from_vec.ensures (changed_at c.args.name.now f c.args.parts.now.items c.in-Some.at c.index_mut-part.result.now c.requires (sym found) c.index_mut-part.ensures.value)
+
+pub returns-in-None : goal.returns-in-None
+returns-in-None c =
+    let f : Part → Part = λ p. record (updated p) { blocks = c.args.blocks.items } in
+    let none = rw c.deref.ensures.value at c.in-None.ensures in
+    changed_none c.args.name.now f c.args.parts.now.items (sym none)

@@ -1,0 +1,10 @@
+use Rattle.std.proofs.Common.{◌∙◌}
+use Rattle.vab_builder.specs.Bounds.{resized_bound}
+use Rattle.vab_builder.proofs.room.resized_used.Goals as goal
+
+pub used-requires : goal.used-requires
+used-requires c =
+    let a = c.args in
+    let sizes = c.deref.ensures.value ∙ c.in_ok-sizes.ensures in
+    let wants = c.deref-2.ensures.value ∙ c.in_ok-wants.ensures in
+    rw (sizes, wants, c.as_slice-source.ensures, c.as_slice-target.ensures) (resized_bound a.slot a.source.now a.target.now a.name.now a.count c.requires.update c.requires.small)

@@ -1,0 +1,48 @@
+//! Edits of the target's table.
+
+ghost use Rattle.std.specs.Prelude.{◌≡◌, ◌≤◌, ◌<◌, ◌^◌, IfOk, Ok};
+ghost use Rattle.vab_tables.specs.Rules.{KeepsRules};
+ghost use Rattle.vab_tables.specs.Spelling.{table_size_of};
+ghost use Rattle.vab_layout.specs.Layout.{layout_of, table_of};
+ghost use Rattle.vab_layout.specs.Slots.{other_slot, IsOwn, IsTarget, groups_of_slot};
+ghost use Rattle.vab_builder.specs.Edits.{edited};
+ghost use Rattle.vab_builder.specs.Gives.{GivesTable};
+
+use crate::change::change;
+use crate::fitting::fitting;
+use crate::{Edit, EditFault};
+use std::alloc::Global;
+use vab_layout::Layout;
+use vab_tables::Table;
+
+/// The target's table after an edit, beside the source's. The refusals come in the order of `EditFault`, each exactly where it says;
+/// `NoMemory` where memory is refused.
+pub fn apply(
+    alloc: Global,
+    source: &Table,
+    target: &Table,
+    target_slot: usize,
+    edit: &Edit,
+    max: u32,
+) -> Result<Table, EditFault>
+    requires slot { target_slot < 2 }
+    requires source_keeps { KeepsRules source.now }
+    requires target_keeps { KeepsRules target.now }
+    requires source_small { table_size_of source.now < 2 ^ 24 }
+    requires target_small { table_size_of target.now < 2 ^ 24 }
+    requires source_own { IsOwn (other_slot target_slot) (layout_of source.now).parts }
+    requires target { IsTarget target_slot (layout_of source.now).parts (layout_of target.now).parts }
+    requires device { source.now.devices ≡ target.now.devices }
+    ensures exact { GivesTable result (edited target_slot (layout_of source.now) (layout_of target.now) max edit.now) }
+    ensures rules { IfOk result KeepsRules }
+    ensures size { IfOk result (λ t. table_size_of t ≤ max) }
+    // Further edits may be made of it.
+    ensures target { IfOk result (λ t. IsTarget target_slot (layout_of source.now).parts (layout_of t).parts) }
+    ensures device { IfOk result (λ t. t.devices ≡ target.now.devices) }
+    ensures groups { IfOk result (λ t. groups_of_slot target_slot t.groups ≡ groups_of_slot target_slot target.now.groups) }
+{
+    let old = Layout::of_table(alloc, target)?;
+    let source = Layout::of_table(alloc, source)?;
+    let target = change(alloc, &source, old, target_slot, edit)?;
+    fitting(alloc, &target, max)
+}

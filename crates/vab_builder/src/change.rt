@@ -1,0 +1,50 @@
+//! An edit of the target's layout.
+
+ghost use Rattle.std.specs.Prelude.{◌≡◌, ◌≤◌, ◌<◌, ◌+◌, ◌^◌, length, sum_by, IfOk};
+ghost use Rattle.vab_layout.specs.Runs.{runs_of};
+ghost use Rattle.vab_layout.specs.Rules.{IsLayout};
+ghost use Rattle.vab_layout.specs.Slots.{other_slot, IsOwn, IsTarget, groups_of_slot};
+ghost use Rattle.vab_builder.specs.Edits.{changed_by};
+ghost use Rattle.vab_builder.specs.Gives.{GivesLayout};
+
+use crate::create::create;
+use crate::delete::delete;
+use crate::edit::Edit;
+use crate::fault::EditFault;
+use crate::resize::resize;
+use crate::store::add_store;
+use std::alloc::Global;
+use vab_layout::Layout;
+
+/// The target's layout after an edit, beside the source's. The refusals come in the order of `EditFault`, each exactly where it says;
+/// `NoMemory` where memory is refused.
+pub(crate) fn change(
+    alloc: Global,
+    source: &Layout,
+    target: Layout,
+    slot: usize,
+    edit: &Edit,
+) -> Result<Layout, EditFault>
+    requires slot { slot < 2 }
+    requires source_rules { IsLayout source.now }
+    requires target_rules { IsLayout target }
+    requires own { IsOwn (other_slot slot) source.now.parts }
+    requires parts { IsTarget slot source.now.parts target.parts }
+    requires device { source.now.device ≡ target.device }
+    ensures exact { GivesLayout result (changed_by slot source.now target edit.now) }
+    ensures rules { IfOk result IsLayout }
+    ensures parts { IfOk result (λ l. IsTarget slot source.now.parts l.parts) }
+    ensures device { IfOk result (λ l. l.device ≡ target.device) }
+    ensures groups { IfOk result (λ l. groups_of_slot slot l.groups ≡ groups_of_slot slot target.groups) }
+    // A partition more at most, a group more at most, and not too many runs more.
+    ensures few_parts { IfOk result (λ l. length l.parts ≤ length target.parts + 1) }
+    ensures few_groups { IfOk result (λ l. length l.groups ≤ length target.groups + 1) }
+    ensures few_runs { IfOk result (λ l. sum_by (λ p. length (runs_of p.blocks)) l.parts ≤ sum_by (λ p. length (runs_of p.blocks)) target.parts + 2 ^ 40) }
+{
+    match *edit {
+        Edit::Create(name, bytes) => create(alloc, source, target, slot, name, bytes),
+        Edit::Resize(name, bytes) => resize(alloc, source, target, slot, name, bytes),
+        Edit::Delete(name) => delete(target, slot, name),
+        Edit::AddStore(name, bytes) => add_store(alloc, source, target, slot, name, bytes),
+    }
+}

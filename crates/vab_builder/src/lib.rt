@@ -1,0 +1,24 @@
+//! The tables of an update: the target's as the update begins, what edits make of it, and a slot's table without stores.
+#![tactic(auto)]
+
+mod applied;
+mod change;
+mod create;
+mod delete;
+mod edit;
+mod fault;
+mod find;
+mod fitting;
+mod free;
+mod imported;
+mod parts;
+mod resize;
+mod room;
+mod sizes;
+mod store;
+mod tables;
+
+pub use applied::apply;
+pub use edit::Edit;
+pub use fault::EditFault;
+pub use tables::{import, without_stores};

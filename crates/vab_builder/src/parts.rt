@@ -1,0 +1,138 @@
+//! Names, partitions and groups of an edited target.
+
+ghost use Rattle.std.specs.Prelude.{◌≡◌, ◌↔◌, ◌≤◌, ◌<◌, ◌++◌, ◌∷◌, [], take, length, IfOk, OnOk, IfSome, IsSome, IsTrue, not};
+ghost use Rattle.std.specs.List.{filter};
+ghost use Rattle.std.specs.Str.{bytes_eq};
+ghost use Rattle.vab_names.specs.Names.{is_full};
+ghost use Rattle.vab_tables.specs.Rules.{NamesDiffer};
+ghost use Rattle.vab_builder.specs.Sizes.{is_within};
+ghost use Rattle.vab_builder.specs.Edits.{free_of, kept_blocks, changed, updated, with_group};
+
+use crate::find::{has_group, place_of};
+use crate::free::free_blocks;
+use std::alloc::Global;
+use vab_bytes::{Listing, Name36};
+use vab_layout::{Layout, Part};
+use vab_names::is_full;
+use vab_tables::{Group, NoMemory};
+
+/// The attribute of a partition that an update has changed.
+pub(crate) const UPDATED: u32 = 4;
+
+/// The most bytes of a partition or a store.
+pub(crate) const MAX_BYTES: u64 = 1 << 40;
+
+/// Whether so many bytes are within a limit, where 0 is none.
+pub(crate) fn is_within(sum: u64, limit: u64) -> bool
+    ensures { result ≡ is_within sum limit }
+{
+    limit == 0 || sum <= limit
+}
+
+/// The name, if it is a base name and the slot's suffix.
+#[tactic(auto, using(crate::specs::NameCases::full_named))]
+pub(crate) fn full_name(name: &[u8], slot: usize) -> Option<Name36>
+    requires { slot < 2 }
+    ensures value { IfSome result (λ n. n ≡ name.now) }
+    ensures exact { IsSome result ↔ IsTrue (is_full slot name.now) }
+{
+    if is_full(name, slot) {
+        Name36::parse(name).ok()
+    } else {
+        None
+    }
+}
+
+/// Writes the lowest free blocks at the end, so many.
+pub(crate) fn push_free(
+    alloc: Global,
+    blocks: &mut Vec<u64>,
+    source: &Layout,
+    target: &Layout,
+    slot: usize,
+    count: u64,
+) -> Result<(), NoMemory>
+    requires slot { slot < 2 }
+    requires room { count ≤ length (free_of slot source.now target.now) }
+    ensures { OnOk result (blocks.new.items ≡ blocks.old.items ++ take count (free_of slot source.now target.now)) }
+{
+    let free = free_blocks(alloc, source, target, slot)?;
+    match free.take_lowest(alloc, count)? {
+        Some(lowest) => blocks.extend_from_slice(lowest.as_slice())?,
+        None => unreachable!(),
+    }
+    Ok(())
+}
+
+/// What a partition keeps at another size: blocks of the source, and then fresh ones that it has.
+pub(crate) fn kept_blocks(
+    alloc: Global,
+    before: &[u64],
+    former: &[u64],
+    count: u64,
+) -> Result<Vec<u64>, NoMemory>
+    ensures { IfOk result (λ v. v.items ≡ kept_blocks before.now former.now count) }
+{
+    let count = count as usize;
+    let shared = before.len().min(count);
+    let fresh = &former[before.len().min(former.len())..];
+    let mut blocks = before[..shared].to_vec(alloc)?;
+    blocks.extend_from_slice(&fresh[..fresh.len().min(count - shared)])?;
+    Ok(blocks)
+}
+
+/// The groups with one of this name, flags 0 and no limit, as the last where there is none.
+pub(crate) fn with_group(mut groups: Vec<Group>, name: Name36) -> Result<Vec<Group>, NoMemory>
+    ensures { IfOk result (λ v. v.items ≡ with_group record { name = name; flags = 0; maximum_size = 0 } groups.items) }
+{
+    if !has_group(&groups, &name) {
+        groups.push(Group {
+            name,
+            flags: 0,
+            maximum_size: 0,
+        })?;
+    }
+    Ok(groups)
+}
+
+/// Marks the partition of this name as updated.
+pub(crate) fn mark_updated(parts: &mut Vec<Part>, name: &[u8])
+    requires { NamesDiffer (λ p. p.name) parts.old.items }
+    ensures { parts.new.items ≡ changed name.now updated parts.old.items }
+{
+    match place_of(name, parts) {
+        Some(at) => {
+            let part = &mut parts[at];
+            part.attributes |= UPDATED;
+        }
+        None => {}
+    }
+}
+
+/// Gives the partition of this name these blocks, and marks it as updated.
+pub(crate) fn set_blocks(parts: &mut Vec<Part>, name: &[u8], blocks: Vec<u64>)
+    requires { NamesDiffer (λ p. p.name) parts.old.items }
+    ensures { parts.new.items ≡ changed name.now (λ p. record (updated p) { blocks = blocks.items }) parts.old.items }
+{
+    match place_of(name, parts) {
+        Some(at) => {
+            let part = &mut parts[at];
+            part.attributes |= UPDATED;
+            part.blocks = Listing::from_vec(blocks);
+        }
+        None => {}
+    }
+}
+
+/// Takes out the partition of this name.
+pub(crate) fn remove_part(parts: &mut Vec<Part>, name: &[u8])
+    requires { NamesDiffer (λ p. p.name) parts.old.items }
+    ensures { parts.new.items ≡ filter (λ p. not (bytes_eq p.name name.now)) parts.old.items }
+{
+    match place_of(name, parts) {
+        Some(at) => {
+            let _ = parts.remove(at);
+        }
+        None => {}
+    }
+}
