@@ -1,5 +1,5 @@
-//! Reads a table's text from standard input, and decodes it, writes it again, or takes SHA-256 of it, so many times, for
-//! `bench/tables`.
+//! Reads a table's text from standard input, and so many times decodes it, writes it again, lists the free blocks, takes the lowest half of
+//! them, or takes SHA-256 of the text, for `bench/tables` and `bench/blocks`.
 #![tactic(auto)]
 
 use sha2::{Digest, Sha256};
@@ -7,6 +7,8 @@ use std::alloc::Global;
 use std::env;
 use std::io::{Read, Stdin};
 use std::process::ExitCode;
+use vab_blocks::Runs;
+use vab_bytes::Name36;
 use vab_tables::{Table, decode_table, encode_table, table_size};
 
 const MAX: u32 = 1 << 20;
@@ -57,6 +59,50 @@ fn encode(alloc: Global, text: &[u8], times: u32) -> bool {
     true
 }
 
+// The names of all partitions.
+fn names(alloc: Global, table: &Table) -> Option<Vec<Name36>> {
+    let mut names = Vec::new(alloc);
+    for partition in table.partitions.as_slice() {
+        names.push(partition.name).ok()?;
+    }
+    Some(names)
+}
+
+// The blocks that partitions have, and how many there are on the device.
+fn taken(alloc: Global, text: &[u8]) -> Option<(Runs, u64)> {
+    let table = decode_table(alloc, text, MAX).ok()?;
+    let names = names(alloc, &table)?;
+    let cap = table.devices.as_slice().first()?.cap();
+    Some((Runs::of_table(alloc, &table, &names).ok()?, cap))
+}
+
+fn free(alloc: Global, text: &[u8], times: u32) -> bool {
+    let Some((taken, cap)) = taken(alloc, text) else {
+        return false;
+    };
+    for _ in 0..times {
+        if Runs::free(alloc, cap, &taken).is_err() {
+            return false;
+        }
+    }
+    true
+}
+
+fn lowest(alloc: Global, text: &[u8], times: u32) -> bool {
+    let Some((taken, cap)) = taken(alloc, text) else {
+        return false;
+    };
+    let Ok(free) = Runs::free(alloc, cap, &taken) else {
+        return false;
+    };
+    for _ in 0..times {
+        if free.take_lowest(alloc, free.count() / 2).is_err() {
+            return false;
+        }
+    }
+    true
+}
+
 fn hash(text: &[u8], times: u32) -> bool {
     for _ in 0..times {
         let _sum = Sha256::digest(text);
@@ -86,6 +132,8 @@ fn main(rt: HostRuntime) -> ExitCode {
     let done = match verb.as_str() {
         "decode" => decode(alloc, &text, times),
         "encode" => encode(alloc, &text, times),
+        "free" => free(alloc, &text, times),
+        "lowest" => lowest(alloc, &text, times),
         "hash" => hash(&text, times),
         _ => false,
     };
