@@ -1,0 +1,23 @@
+use Rattle.vab_words.proofs.FirstWord.{first, other}
+use Rattle.vab_words.proofs.Literals as spelled
+use Rattle.vab_words.proofs.spelled.spelled_out.Goals as goal
+
+pub returns : goal.returns
+returns c = record {
+  make = spelled.make;
+  make_limit = spelled.make_limit;
+  make_metadata_max = spelled.make_metadata_max;
+  make_both = spelled.make_both;
+  serve = spelled.serve;
+  serve_fresh = spelled.serve_fresh;
+  boot = spelled.boot;
+  mark = spelled.mark;
+  activate = spelled.activate;
+  print = spelled.print;
+  digest = spelled.digest;
+  print_any = spelled.print_any;
+  digest_any = spelled.digest_any;
+  nothing = spelled.nothing;
+  other = other;
+  first = first;
+}

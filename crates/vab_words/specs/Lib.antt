@@ -1,0 +1,4 @@
+pub mod Command
+pub mod Spelled
+pub mod Values
+pub mod Verbs

@@ -1,0 +1,61 @@
+-- What the words ask for.
+use Rattle.std.specs.Prelude.{ℕ, Bool, false, List, Option, Some, None, codes, if◌then◌else◌, option_and_then, option_map}
+use Rattle.std.specs.Option.{option_map_or}
+use Rattle.std.specs.Str.{bytes_eq}
+use Rattle.clap.specs.Words.{Row, Text, first_of}
+use Rattle.vab_words.specs.Command.{found_in, is_taken}
+use Rattle.vab_words.specs.Values.{limit_of, metadata_max_of, slot_of}
+use Rattle.clap.specs.declared.error.kind.ErrorKind.{ErrorKind}
+use Rattle.clap.specs.declared.error.kind.ErrorKind.TheVariants as kind
+use Rattle.vab_words.specs.declared.verb.WordsFault.{WordsFault}
+use Rattle.vab_words.specs.declared.verb.WordsFault.TheVariants as fault
+use Rattle.vab_words.specs.declared.verb.Verb.{Verb}
+use Rattle.vab_words.specs.declared.verb.Verb.TheVariants as code
+
+-- a verb, with the values of its options and operands
+pub data Meaning : Type 0 where
+  Make : ℕ → ℕ → Meaning
+  Serve : Bool → Meaning
+  Boot : Meaning
+  Mark : Meaning
+  Activate : ℕ → Meaning
+  Print : Text → Meaning
+  Digest : Text → Meaning
+
+abbrev pub meaning_of : Verb → Meaning
+meaning_of (code.Make limit metadata_max) = Make limit metadata_max
+meaning_of (code.Serve fresh) = Serve fresh
+meaning_of code.Boot = Boot
+meaning_of code.Mark = Mark
+meaning_of (code.Activate slot) = Activate slot
+meaning_of (code.Print name) = Print name.now
+meaning_of (code.Digest name) = Digest name.now
+
+-- `make` with the texts of its options
+unfoldable pub make_of : Option Text → Option Text → Option Meaning
+make_of limit metadata_max = option_and_then (λ bytes. option_map (Make bytes) (metadata_max_of metadata_max)) (limit_of limit)
+
+-- a flag is given where its value is `true`
+unfoldable pub is_set : Option Text → Bool
+is_set value = option_map_or (λ text. bytes_eq text (codes "true")) value false
+
+-- the verb of this name, by what was found for its arguments
+unfoldable pub verb_in : Text → List Row → Option Meaning
+verb_in name rows =
+    if bytes_eq name (codes "make") then make_of (first_of (codes "limit") rows) (first_of (codes "metadata-max") rows)
+    else if bytes_eq name (codes "serve") then Some (Serve (is_set (first_of (codes "fresh") rows)))
+    else if bytes_eq name (codes "boot") then Some Boot
+    else if bytes_eq name (codes "mark") then Some Mark
+    else if bytes_eq name (codes "activate") then option_map Activate (option_and_then slot_of (first_of (codes "slot") rows))
+    else if bytes_eq name (codes "print") then option_map Print (first_of (codes "name") rows)
+    else if bytes_eq name (codes "digest") then option_map Digest (first_of (codes "name") rows)
+    else None
+
+-- what the words ask for, where they are taken and the values are in form and range
+unfoldable pub verb_of : List Text → Option Meaning
+verb_of words = if is_taken words then option_and_then (λ found. verb_in found.0 found.1) (found_in words) else None
+
+-- why a parse that fails asks for nothing
+abbrev pub fault_of : ErrorKind → WordsFault
+fault_of kind.OutOfMemory = fault.NoMemory
+fault_of _ = fault.Usage

@@ -1,0 +1,152 @@
+// What the words ask for.
+ghost use Rattle.std.specs.Prelude.{◌≡◌, ◌↔◌, IfOk, IfErr, Some, None, true, false, map, option_and_then, option_map, string_bytes, codes};
+ghost use Rattle.clap.specs.Words.{first_of, found_of, kind_of, rows_of, subcommand_rows_of};
+ghost use Rattle.clap.specs.declared.error.kind.ErrorKind.TheVariants.{OutOfMemory};
+
+use crate::command::vab;
+use crate::values::{parse_limit, parse_metadata_max, parse_slot};
+use clap::ArgMatches;
+use clap::error::ErrorKind;
+use std::alloc::{AllocError, Global};
+
+/// What the words ask for.
+#[derive(Clone, Copy, Debug, PartialEq, Eq)]
+pub enum Verb<'a> {
+    /// A fresh device.
+    Make {
+        /// The most bytes that exception stores may take together, from 0 to 2^44.
+        limit: u64,
+        /// The most bytes of the partition tables: a multiple of 512, from 512 to 65536.
+        metadata_max: u32,
+    },
+    /// A session over the device.
+    Serve {
+        /// The device is made first.
+        fresh: bool,
+    },
+    /// A boot of the device.
+    Boot,
+    /// The running slot is marked successful.
+    Mark,
+    /// The slot is made the active one, 0 for a and 1 for b.
+    Activate(usize),
+    /// The bytes of what has this name.
+    Print(&'a str),
+    /// The digest of what has this name.
+    Digest(&'a str),
+}
+
+/// Why the words ask for nothing.
+#[derive(Clone, Copy, Debug, PartialEq, Eq)]
+pub enum WordsFault {
+    /// The words aren't taken, or a value is out of form or range.
+    Usage,
+    /// Memory was refused.
+    NoMemory,
+}
+
+impl From<AllocError> for WordsFault {
+    ghost use Rattle.vab_words.specs.declared.verb.WordsFault.TheVariants.{NoMemory};
+
+    ghost from_gives = { λ _ fault. fault ≡ NoMemory };
+
+    fn from(_error: AllocError) -> WordsFault {
+        WordsFault::NoMemory
+    }
+}
+
+impl From<clap::Error> for WordsFault {
+    ghost use Rattle.vab_words.specs.Verbs.{fault_of};
+
+    ghost from_gives = { λ error fault. fault ≡ fault_of (kind_of error) };
+
+    fn from(error: clap::Error) -> WordsFault {
+        match error.kind() {
+            ErrorKind::OutOfMemory => WordsFault::NoMemory,
+            _ => WordsFault::Usage,
+        }
+    }
+}
+
+ghost use Rattle.vab_words.specs.Command.{found_in, is_taken};
+ghost use Rattle.vab_words.specs.Verbs.{is_set, make_of, meaning_of, verb_in, verb_of};
+
+// What clap finds in the words.
+fn parse_matches<'a>(alloc: Global, words: &'a [String]) -> Result<ArgMatches<'a>, WordsFault>
+    ensures taken { IfOk result (λ _. is_taken (map string_bytes words.entry.now) ≡ true) }
+    ensures found { IfOk result (λ m. subcommand_rows_of m ≡ found_in (map string_bytes words.entry.now)) }
+    ensures usage { IfErr result (λ fault. fault ≡ WordsFault.Usage → is_taken (map string_bytes words.entry.now) ≡ false) }
+{
+    let matches = vab(alloc)?.try_get_matches_from(words)?;
+    Ok(matches)
+}
+
+// The text that was found for the argument.
+fn text_of<'a>(values: &ArgMatches<'a>, id: &str) -> Option<&'a str>
+    ensures { option_map (λ t. t.now) result ≡ first_of id.now (rows_of (found_of values.now)) }
+{
+    values.get_str(id)
+}
+
+// `make` with what was found for its options.
+#[tactic(auto, unfolding(crate::specs::Verbs::make_of))]
+fn make_in<'a>(values: &ArgMatches<'a>) -> Option<Verb<'a>>
+    ensures { option_map meaning_of result
+        ≡ make_of (first_of (codes "limit") (rows_of (found_of values.now))) (first_of (codes "metadata-max") (rows_of (found_of values.now))) }
+{
+    let limit = parse_limit(text_of(values, "limit"))?;
+    let metadata_max = parse_metadata_max(text_of(values, "metadata-max"))?;
+    Some(Verb::Make {
+        limit,
+        metadata_max,
+    })
+}
+
+// Whether the flag is given.
+#[tactic(auto, unfolding(crate::specs::Verbs::is_set))]
+fn is_set(values: &ArgMatches<'_>, id: &str) -> bool
+    ensures { result ≡ is_set (first_of id.now (rows_of (found_of values.now))) }
+{
+    match text_of(values, id) {
+        Some(value) => value == "true",
+        None => false,
+    }
+}
+
+// The verb of this name, by what was found for its arguments.
+#[tactic(auto, unfolding(crate::specs::Verbs::verb_in))]
+fn verb_in<'a>(name: &str, values: &ArgMatches<'a>) -> Option<Verb<'a>>
+    ensures { option_map meaning_of result ≡ verb_in name.now (rows_of (found_of values.now)) }
+{
+    match name {
+        "make" => make_in(values),
+        "serve" => Some(Verb::Serve {
+            fresh: is_set(values, "fresh"),
+        }),
+        "boot" => Some(Verb::Boot),
+        "mark" => Some(Verb::Mark),
+        "activate" => Some(Verb::Activate(parse_slot(text_of(values, "slot")?)?)),
+        "print" => Some(Verb::Print(text_of(values, "name")?)),
+        "digest" => Some(Verb::Digest(text_of(values, "name")?)),
+        _ => None,
+    }
+}
+
+// The verb that clap found.
+fn found_verb<'a>(matches: &ArgMatches<'a>) -> Option<Verb<'a>>
+    ensures { option_map meaning_of result ≡ option_and_then (λ found. verb_in found.0 found.1) (subcommand_rows_of matches.now) }
+{
+    let (name, values) = matches.subcommand()?;
+    verb_in(name, values)
+}
+
+/// What the words behind the device's ask for: `make [--limit BYTES] [--metadata-max BYTES]`, `serve [--fresh]`, `boot`, `mark`,
+/// `activate SLOT`, `print NAME` or `digest NAME`.
+pub fn parse_words<'a>(alloc: Global, words: &'a [String]) -> Result<Verb<'a>, WordsFault>
+    // A verb comes only where the words ask for it, and a refusal only where they ask for none.
+    ensures verb { IfOk result (λ v. verb_of (map string_bytes words.entry.now) ≡ Some (meaning_of v)) }
+    ensures usage { IfErr result (λ fault. fault ≡ WordsFault.Usage → verb_of (map string_bytes words.entry.now) ≡ None) }
+{
+    let matches = parse_matches(alloc, words)?;
+    found_verb(&matches).ok_or(WordsFault::Usage)
+}
