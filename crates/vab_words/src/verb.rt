@@ -12,11 +12,11 @@ use std::alloc::{AllocError, Global};
 /// What the words ask for.
 #[derive(Clone, Copy, Debug, PartialEq, Eq)]
 pub enum Verb<'a> {
-    /// A fresh device.
+    /// A device is made of a set of images.
     Make {
-        /// The most bytes that exception stores may take together, from 0 to 2^44.
+        /// The limit of the group of the partitions in bytes, 0 for none: from 0 to 2^44.
         limit: u64,
-        /// The most bytes of the partition tables: a multiple of 512, from 512 to 65536.
+        /// The most bytes of a copy of a partition table: a multiple of 512, from 512 to 65536.
         metadata_max: u32,
     },
     /// A session over the device.
@@ -26,13 +26,13 @@ pub enum Verb<'a> {
     },
     /// A boot of the device.
     Boot,
-    /// The running slot is marked successful.
+    /// The current slot is marked successful.
     Mark,
     /// The slot is made the active one, 0 for a and 1 for b.
     Activate(usize),
-    /// The bytes of what has this name.
+    /// The bytes of the partition of this name.
     Print(&'a str),
-    /// The digest of what has this name.
+    /// The SHA-256 of the bytes of the partition of this name.
     Digest(&'a str),
 }
 
