@@ -1,0 +1,84 @@
+//! Why a disk is no device.
+
+use std::alloc::{AllocError, AllocFailed};
+use vab_bootctl::ControlFault;
+use vab_bytes::Name36;
+use vab_gate::DiskFault;
+
+/// What is wrong with a disk: the first of these that holds, but for `NoMemory` and `Disk`.
+#[derive(Clone, Copy, Debug, PartialEq, Eq)]
+pub enum StartFault {
+    /// So many sectors are needed, and there are fewer.
+    TooSmall(u64, u64),
+    /// This sector is no update mark.
+    BadMark(u64),
+    /// Sector 4 is no boot control.
+    BadControl(ControlFault),
+    /// Neither copy of the geometry passes, or the copies of the tables pass the end of `super`.
+    BadGeometry,
+    /// Neither copy of this slot's table is a table's text, or its block device doesn't lie in `super` behind the copies.
+    BadTable(usize),
+    /// The first partition, in the order of the table, that breaks a rule of a slot's own partitions.
+    BadPartition(Name36),
+    /// 1: the current slot has no images. 2: the slot with images has priority 0 or isn't successful.
+    BadState(u8),
+    /// Memory was refused.
+    NoMemory,
+    /// The disk failed.
+    Disk(DiskFault),
+}
+
+impl From<DiskFault> for StartFault {
+    ghost use Rattle.std.specs.Prelude.{◌≡◌};
+    ghost use Rattle.vab_device.specs.declared.fault.StartFault.TheVariants.{Disk};
+
+    ghost from_gives = { λ x e. e ≡ Disk x };
+
+    fn from(fault: DiskFault) -> Self {
+        StartFault::Disk(fault)
+    }
+}
+
+impl From<AllocError> for StartFault {
+    ghost use Rattle.std.specs.Prelude.{◌≡◌};
+    ghost use Rattle.vab_device.specs.declared.fault.StartFault.TheVariants.{NoMemory};
+
+    ghost from_gives = { λ _ e. e ≡ NoMemory };
+
+    fn from(_: AllocError) -> Self {
+        StartFault::NoMemory
+    }
+}
+
+impl<T: Drop> From<AllocFailed<T>> for StartFault {
+    ghost use Rattle.std.specs.Prelude.{◌≡◌};
+    ghost use Rattle.vab_device.specs.declared.fault.StartFault.TheVariants.{NoMemory};
+
+    ghost from_gives = { λ _ e. e ≡ NoMemory };
+
+    fn from(_: AllocFailed<T>) -> Self {
+        StartFault::NoMemory
+    }
+}
+
+impl From<vab_tables::NoMemory> for StartFault {
+    ghost use Rattle.std.specs.Prelude.{◌≡◌};
+    ghost use Rattle.vab_device.specs.declared.fault.StartFault.TheVariants.{NoMemory};
+
+    ghost from_gives = { λ _ e. e ≡ NoMemory };
+
+    fn from(_: vab_tables::NoMemory) -> Self {
+        StartFault::NoMemory
+    }
+}
+
+impl From<vab_disk::NoMemory> for StartFault {
+    ghost use Rattle.std.specs.Prelude.{◌≡◌};
+    ghost use Rattle.vab_device.specs.declared.fault.StartFault.TheVariants.{NoMemory};
+
+    ghost from_gives = { λ _ e. e ≡ NoMemory };
+
+    fn from(_: vab_disk::NoMemory) -> Self {
+        StartFault::NoMemory
+    }
+}
