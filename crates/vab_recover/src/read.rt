@@ -1,0 +1,148 @@
+//! Reading the parts of a disk.
+
+ghost use Rattle.std.specs.Prelude.{◌≡◌, ◌<◌, ◌≤◌, ◌^◌, IfOk, IfErr, Ok, Err};
+ghost use Rattle.vab_disk.specs.Disk.{Adds, Nothing, SameHoldings, Quiet, Rose};
+ghost use Rattle.vab_bootctl.specs.Control.{Fits, control_of};
+ghost use Rattle.vab_marks.specs.declared.mark.MarkPhase.TheVariants as marks;
+ghost use Rattle.vab_marks.specs.Mark.{mark_of};
+ghost use Rattle.vab_geometry.specs.Geometry.{IsGeometry};
+ghost use Rattle.vab_device.specs.Device.{mark_read, slot_in, control_read, control_in, geometry_at, copies_end, super_bytes, IsOfContents, IsOfDisk};
+
+use vab_bootctl::{Control, decode_control};
+use vab_device::StartFault;
+use vab_disk::Disk;
+use vab_gate::DiskFault;
+use vab_geometry::{Geometry, LoadFault, SUPER, load_geometry};
+use vab_marks::{MarkPhase, UpdateMark, decode_mark};
+
+/// The disk sector of the update mark.
+pub const MARK_SECTOR: u64 = 2048;
+
+/// The disk sector of the boot control.
+pub const CONTROL_SECTOR: u64 = 4;
+
+/// Reads a sector.
+fn read<D: Disk>(d: &mut D, at: u64) -> Result<[u8; 512], StartFault>
+    requires { at < D.size d.old }
+    ensures bytes { D.tells → IfOk result (λ b. b ≡ D.seen d.old at) }
+    ensures fault { IfErr result IsOfDisk }
+    ensures seen { D.tells → D.seen d.new ≡ D.seen d.old }
+    ensures crash { D.tells → SameHoldings (D.may_hold d.old) (D.may_hold d.new) }
+    ensures quiet { Quiet D.tells D.size D.told D.left D.faults d.old d.new }
+    ensures time { D.tells → Adds D.moment D.outcomes d.old d.new Nothing }
+    ensures cause { IfErr result (λ f. IsOfDisk f → Rose (D.faults d.old).disk (D.faults d.new).disk) }
+{
+    let mut sector = [0u8; 512];
+    match d.read_sector(at, &mut sector) {
+        Ok(()) => Ok(sector),
+        Err(_) => Err(StartFault::Disk(DiskFault)),
+    }
+}
+
+// The mark of these bytes, of a device without an update.
+fn idle_mark(sector: &[u8; 512]) -> Result<UpdateMark, StartFault>
+    ensures ok { IfOk result (λ m. mark_read (mark_of sector.now) ≡ Ok m.slot) }
+    ensures fault { IfErr result (λ f. mark_read (mark_of sector.now) ≡ Err f) }
+    ensures kind { IfErr result IsOfContents }
+    ensures phase { IfOk result (λ m. m.phase ≡ marks.Idle) }
+    ensures slot { IfOk result (λ m. m.slot < 2) }
+{
+    match decode_mark(sector) {
+        Ok(mark) => match mark.phase {
+            MarkPhase::Idle => Ok(mark),
+            _ => Err(StartFault::BadMark(MARK_SECTOR)),
+        },
+        Err(_) => Err(StartFault::BadMark(MARK_SECTOR)),
+    }
+}
+
+/// Reads the update mark.
+#[tactic(auto, unfolding(vab_device::specs::Device::slot_in))]
+pub fn read_mark<D: Disk>(d: &mut D) -> Result<UpdateMark, StartFault>
+    requires { 2048 < D.size d.old }
+    ensures ok { D.tells → IfOk result (λ m. slot_in (D.seen d.old) ≡ Ok m.slot) }
+    ensures fault { D.tells → IfErr result (λ f. IsOfContents f → slot_in (D.seen d.old) ≡ Err f) }
+    ensures phase { IfOk result (λ m. m.phase ≡ marks.Idle) }
+    ensures slot { IfOk result (λ m. m.slot < 2) }
+    ensures seen { D.tells → D.seen d.new ≡ D.seen d.old }
+    ensures crash { D.tells → SameHoldings (D.may_hold d.old) (D.may_hold d.new) }
+    ensures quiet { Quiet D.tells D.size D.told D.left D.faults d.old d.new }
+    ensures time { D.tells → Adds D.moment D.outcomes d.old d.new Nothing }
+    ensures cause { IfErr result (λ f. IsOfDisk f → Rose (D.faults d.old).disk (D.faults d.new).disk) }
+{
+    let sector = read(d, MARK_SECTOR)?;
+    idle_mark(&sector)
+}
+
+// The boot control of these bytes.
+fn control(sector: &[u8; 512]) -> Result<Control, StartFault>
+    ensures ok { IfOk result (λ c. control_read (control_of sector.now) ≡ Ok c) }
+    ensures fault { IfErr result (λ f. control_read (control_of sector.now) ≡ Err f) }
+    ensures kind { IfErr result IsOfContents }
+    ensures fits { IfOk result Fits }
+{
+    match decode_control(sector) {
+        Ok(control) => Ok(control),
+        Err(fault) => Err(StartFault::BadControl(fault)),
+    }
+}
+
+/// Reads the boot control.
+#[tactic(auto, unfolding(vab_device::specs::Device::control_in))]
+pub fn read_control<D: Disk>(d: &mut D) -> Result<Control, StartFault>
+    requires { 4 < D.size d.old }
+    ensures ok { D.tells → IfOk result (λ c. control_in (D.seen d.old) ≡ Ok c) }
+    ensures fault { D.tells → IfErr result (λ f. IsOfContents f → control_in (D.seen d.old) ≡ Err f) }
+    ensures fits { IfOk result Fits }
+    ensures seen { D.tells → D.seen d.new ≡ D.seen d.old }
+    ensures crash { D.tells → SameHoldings (D.may_hold d.old) (D.may_hold d.new) }
+    ensures quiet { Quiet D.tells D.size D.told D.left D.faults d.old d.new }
+    ensures time { D.tells → Adds D.moment D.outcomes d.old d.new Nothing }
+    ensures cause { IfErr result (λ f. IsOfDisk f → Rose (D.faults d.old).disk (D.faults d.new).disk) }
+{
+    let sector = read(d, CONTROL_SECTOR)?;
+    control(&sector)
+}
+
+/// Bytes of `super` on a disk of so many sectors.
+pub fn super_bytes(sectors: u64) -> u64
+    requires { sectors < 2 ^ 55 }
+    ensures { result ≡ super_bytes sectors }
+{
+    512 * sectors.saturating_sub(SUPER)
+}
+
+/// Where the copies of the tables end, in bytes of `super`.
+pub fn copies_end(geometry: &Geometry) -> u64
+    requires { IsGeometry geometry.now }
+    ensures end { result ≡ copies_end geometry.now }
+    ensures small { result < 2 ^ 32 }
+{
+    12288 + 2 * u64::from(geometry.slots) * u64::from(geometry.max)
+}
+
+/// Reads the geometry.
+#[tactic(auto, unfolding(vab_device::specs::Device::geometry_at))]
+pub fn read_geometry<D: Disk>(d: &mut D) -> Result<Geometry, StartFault>
+    requires { 4120 ≤ D.size d.old }
+    ensures ok { D.tells → IfOk result (λ g. geometry_at (D.size d.old) (D.seen d.old) ≡ Ok g) }
+    ensures fault { D.tells → IfErr result (λ f. IsOfContents f → geometry_at (D.size d.old) (D.seen d.old) ≡ Err f) }
+    ensures rules { IfOk result IsGeometry }
+    ensures copies_on { IfOk result (λ g. copies_end g ≤ super_bytes (D.size d.old)) }
+    ensures seen { D.tells → D.seen d.new ≡ D.seen d.old }
+    ensures crash { D.tells → SameHoldings (D.may_hold d.old) (D.may_hold d.new) }
+    ensures quiet { Quiet D.tells D.size D.told D.left D.faults d.old d.new }
+    ensures time { D.tells → Adds D.moment D.outcomes d.old d.new Nothing }
+    ensures cause { IfErr result (λ f. IsOfDisk f → Rose (D.faults d.old).disk (D.faults d.new).disk) }
+{
+    let sectors = d.sectors();
+    let geometry = match load_geometry(d) {
+        Ok(geometry) => geometry,
+        Err(LoadFault::BothBad(_, _)) => return Err(StartFault::BadGeometry),
+        Err(LoadFault::Disk(fault)) => return Err(StartFault::Disk(fault)),
+    };
+    if copies_end(&geometry) > super_bytes(sectors) {
+        return Err(StartFault::BadGeometry);
+    }
+    Ok(geometry)
+}

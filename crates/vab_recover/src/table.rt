@@ -1,0 +1,93 @@
+//! Reading the table of the slot with images.
+
+ghost use Rattle.std.specs.Prelude.{◌≡◌, ◌<◌, ◌≤◌, ◌^◌, length, IfOk, IfErr, Ok, Err, IsTrue};
+ghost use Rattle.vab_disk.specs.Disk.{Adds, Nothing, SameHoldings, Quiet, Rose};
+ghost use Rattle.vab_geometry.specs.Geometry.{IsGeometry};
+ghost use Rattle.vab_tables.specs.Rules.{KeepsRules};
+ghost use Rattle.vab_tables.specs.Text.{IsTableText};
+ghost use Rattle.vab_lpstore.specs.Layout.{primary_bytes, backup_bytes};
+ghost use Rattle.vab_lpstore.specs.Loading.{slot_table, IsLoaded};
+ghost use Rattle.vab_layout.specs.Layout.{layout_of};
+ghost use Rattle.vab_device.specs.Device.{layout_at, lies_in, copies_end, super_bytes, IsOfContents, IsOfDisk};
+
+use crate::read::{copies_end, super_bytes};
+use std::alloc::Global;
+use vab_device::StartFault;
+use vab_disk::Disk;
+use vab_geometry::Geometry;
+use vab_lpstore::{LoadFault, Loaded, load_table};
+use vab_tables::Table;
+
+// Whether the block device lies in `super`, and its first logical sector behind the copies of the tables.
+#[tactic(auto, unfolding(vab_layout::specs::Layout::layout_of))]
+fn lies_in(table: &Table, geometry: &Geometry, sectors: u64) -> bool
+    requires keeps { KeepsRules table.now }
+    requires geometry { IsGeometry geometry.now }
+    requires small { sectors < 2 ^ 55 }
+    ensures { result ≡ lies_in sectors geometry.now (layout_of table.now).device }
+{
+    let device = &table.devices.as_slice()[0];
+    device.size <= super_bytes(sectors)
+        && copies_end(geometry).div_ceil(512) <= device.first_logical_sector
+}
+
+// The table's copies, or why there is none.
+#[tactic(auto, unfolding(vab_device::specs::Device::layout_at))]
+fn load<D: Disk>(
+    alloc: Global,
+    d: &mut D,
+    geometry: &Geometry,
+    slot: usize,
+) -> Result<Loaded, StartFault>
+    requires rules { IsGeometry geometry.now }
+    requires slot { slot < 2 }
+    requires copies_on { copies_end geometry.now ≤ super_bytes (D.size d.old) }
+    ensures table { D.tells → IfOk result (λ l. slot_table geometry.now slot (D.seen d.old) ≡ Ok l.table) }
+    ensures fault { D.tells → IfErr result (λ f. IsOfContents f → layout_at (D.size d.old) geometry.now slot (D.seen d.old) ≡ Err f) }
+    ensures loaded { D.tells → IfOk result (λ l. IsLoaded geometry.now.max (primary_bytes geometry.now slot (D.seen d.old)) (backup_bytes geometry.now slot (D.seen d.old)) l) }
+    ensures text { IfOk result (λ l. IsTableText geometry.now.max l.text l.table) }
+    ensures fits { IfOk result (λ l. length l.text ≤ geometry.now.max) }
+    ensures seen { D.tells → D.seen d.new ≡ D.seen d.old }
+    ensures crash { D.tells → SameHoldings (D.may_hold d.old) (D.may_hold d.new) }
+    ensures quiet { Quiet D.tells D.size D.told D.left D.faults d.old d.new }
+    ensures time { D.tells → Adds D.moment D.outcomes d.old d.new Nothing }
+    ensures cause { IfErr result (λ f. IsOfDisk f → Rose (D.faults d.old).disk (D.faults d.new).disk) }
+{
+    match load_table(alloc, d, geometry, slot) {
+        Ok(loaded) => Ok(loaded),
+        Err(LoadFault::BothBad(_, _)) => Err(StartFault::BadTable(slot)),
+        Err(LoadFault::NoMemory) => Err(StartFault::NoMemory),
+        Err(LoadFault::Disk(fault)) => Err(StartFault::Disk(fault)),
+    }
+}
+
+/// Reads the table of a slot. `BadTable` comes exactly where neither copy is a table's text, or its block device doesn't lie in `super`
+/// behind the copies.
+pub fn read_table<D: Disk>(
+    alloc: Global,
+    d: &mut D,
+    geometry: &Geometry,
+    slot: usize,
+) -> Result<Loaded, StartFault>
+    requires rules { IsGeometry geometry.now }
+    requires slot { slot < 2 }
+    requires copies_on { copies_end geometry.now ≤ super_bytes (D.size d.old) }
+    ensures ok { D.tells → IfOk result (λ l. layout_at (D.size d.old) geometry.now slot (D.seen d.old) ≡ Ok (layout_of l.table)) }
+    ensures fault { D.tells → IfErr result (λ f. IsOfContents f → layout_at (D.size d.old) geometry.now slot (D.seen d.old) ≡ Err f) }
+    ensures loaded { D.tells → IfOk result (λ l. IsLoaded geometry.now.max (primary_bytes geometry.now slot (D.seen d.old)) (backup_bytes geometry.now slot (D.seen d.old)) l) }
+    ensures text { IfOk result (λ l. IsTableText geometry.now.max l.text l.table) }
+    ensures fits { IfOk result (λ l. length l.text ≤ geometry.now.max) }
+    ensures lies { IfOk result (λ l. IsTrue (lies_in (D.size d.old) geometry.now (layout_of l.table).device)) }
+    ensures seen { D.tells → D.seen d.new ≡ D.seen d.old }
+    ensures crash { D.tells → SameHoldings (D.may_hold d.old) (D.may_hold d.new) }
+    ensures quiet { Quiet D.tells D.size D.told D.left D.faults d.old d.new }
+    ensures time { D.tells → Adds D.moment D.outcomes d.old d.new Nothing }
+    ensures cause { IfErr result (λ f. IsOfDisk f → Rose (D.faults d.old).disk (D.faults d.new).disk) }
+{
+    let sectors = d.sectors();
+    let loaded = load(alloc, d, geometry, slot)?;
+    if !lies_in(&loaded.table, geometry, sectors) {
+        return Err(StartFault::BadTable(slot));
+    }
+    Ok(loaded)
+}

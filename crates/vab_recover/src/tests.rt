@@ -1,0 +1,232 @@
+ghost use Rattle.std.specs.Prelude.{◌<◌, ◌≤◌};
+
+use super::*;
+use crate::texts::UNLIMITED;
+use std::alloc::Global;
+use std::test::*;
+use vab_bootctl::{Control, ControlFault, Info, encode_control_into};
+use vab_device::StartFault;
+use vab_disk::{CallKind, Disk, MemPort};
+use vab_gate::DiskFault;
+use vab_geometry::{Geometry, encode_geometry};
+use vab_marks::{MarkPhase, UpdateMark, encode_mark};
+
+const SECTORS: u64 = 8192;
+
+const CONTROL: u64 = 4;
+
+const MARK: u64 = 2048;
+
+const GEOMETRY: u64 = 4104;
+
+const GEOMETRY_BACKUP: u64 = 4112;
+
+// The table of slot a, two copies of 128 sectors for each slot.
+const TABLE: u64 = 4120;
+
+const TABLE_BACKUP: u64 = 4376;
+
+// The sectors of slot a's table.
+fn table() -> ([u8; 512], [u8; 512]) {
+    let mut first = [0u8; 512];
+    first.copy_from_slice(&UNLIMITED[..512]);
+    let mut second = [0u8; 512];
+    second[..28].copy_from_slice(&UNLIMITED[512..]);
+    (first, second)
+}
+
+// The first sector of the table, whose sum is another.
+fn bad_table() -> [u8; 512] {
+    let mut first = table().0;
+    first[300] = 0;
+    first
+}
+
+fn geometry() -> [u8; 512] {
+    encode_geometry(&Geometry {
+        max: 65536,
+        slots: 2,
+    })
+}
+
+fn mark(phase: MarkPhase) -> [u8; 512] {
+    encode_mark(&UpdateMark { phase, slot: 0 })
+}
+
+fn control(current: usize, priority: u8, successful: bool) -> [u8; 512]
+    requires current { current < 2 }
+    requires priority { priority ≤ 15 }
+{
+    let mut sector = [0u8; 512];
+    let control = Control {
+        current,
+        a: Info {
+            priority,
+            tries: 0,
+            successful,
+        },
+        b: Info {
+            priority: 0,
+            tries: 0,
+            successful: false,
+        },
+    };
+    encode_control_into(&control, &mut sector);
+    sector
+}
+
+fn bad_control() -> [u8; 512] {
+    let mut sector = control(0, 15, true);
+    sector[12] = 0;
+    sector
+}
+
+fn put(d: &mut MemPort, at: u64, bytes: &[u8; 512]) -> bool {
+    at < d.sectors() && d.write_sector(at, bytes).is_ok()
+}
+
+fn sector(d: &mut MemPort, at: u64) -> Option<[u8; 512]> {
+    let mut bytes = [0u8; 512];
+    if at >= d.sectors() {
+        return None;
+    }
+    d.read_sector(at, &mut bytes).ok()?;
+    Some(bytes)
+}
+
+// A disk with a device, whose slot a has images.
+fn device(alloc: Global) -> Result<MemPort, Fail> {
+    let d = MemPort::new(alloc, SECTORS, Vec::new(alloc));
+    let mut d = d.ok().ok_or("there is memory for a disk")?;
+    let (first, second) = table();
+    let sectors = [
+        (CONTROL, control(0, 15, true)),
+        (MARK, mark(MarkPhase::Idle)),
+        (GEOMETRY, geometry()),
+        (GEOMETRY_BACKUP, geometry()),
+        (TABLE, first),
+        (TABLE + 1, second),
+        (TABLE_BACKUP, first),
+        (TABLE_BACKUP + 1, second),
+    ];
+    for (at, bytes) in sectors {
+        if !put(&mut d, at, &bytes) {
+            return Err("a sector is written".into());
+        }
+    }
+    Ok(d)
+}
+
+#[test]
+fn a_disk_is_its_device(rt: HostRuntime) -> Result<(), Fail> {
+    let alloc = rt.alloc();
+    let mut d = device(alloc)?;
+    let device = start(alloc, &mut d).ok().ok_or("it is a device")?;
+    assert_eq!(rt; device.cap(), 256);
+    assert_eq!(rt; device.current(), 0);
+    assert_eq!(rt; device.phase(), PhaseKind::Idle);
+    assert_eq!(rt; device.slot_info(0).map(|info| info.priority), Some(15));
+    assert!(rt; device.slot_info(1).is_none());
+    assert!(rt; device.images(1).is_none());
+    let parts = device.images(0).ok_or("slot a has images")?.as_slice();
+    assert_eq!(rt; parts.len(), 1);
+    let part = parts.first().ok_or("there is a partition")?;
+    assert_eq!(rt; part.name.text(), b"system".as_slice());
+    assert_eq!(rt; part.group.text(), b"main_a".as_slice());
+    assert_eq!(rt; part.map.len(), 100);
+    assert!(rt; part.map.len() > 0);
+    assert_eq!(rt; part.map.sector_of(0), 6144);
+    let groups = device.groups.as_slice();
+    assert_eq!(rt; groups.len(), 1);
+    let group = groups.first().ok_or("there is a group")?;
+    assert_eq!(rt; group.name.text(), b"main".as_slice());
+    assert_eq!(rt; group.limit, 0);
+    Ok(())
+}
+
+#[test]
+fn the_first_fault_is_told(rt: HostRuntime) -> Result<(), Fail> {
+    let alloc = rt.alloc();
+    let zeros = [0u8; 512];
+    let other_mark = mark(MarkPhase::Installing);
+    // The sectors that are other ones, what stands there, and the device's blocks or the fault.
+    let cases = [
+        ([MARK, MARK], mark(MarkPhase::Idle), Ok(256)),
+        ([TABLE, TABLE], bad_table(), Ok(256)),
+        ([TABLE_BACKUP, TABLE_BACKUP], bad_table(), Ok(256)),
+        (
+            [TABLE, TABLE_BACKUP],
+            bad_table(),
+            Err(StartFault::BadTable(0)),
+        ),
+        ([GEOMETRY, GEOMETRY], zeros, Ok(256)),
+        (
+            [GEOMETRY, GEOMETRY_BACKUP],
+            zeros,
+            Err(StartFault::BadGeometry),
+        ),
+        ([MARK, MARK], zeros, Err(StartFault::BadMark(2048))),
+        ([MARK, MARK], other_mark, Err(StartFault::BadMark(2048))),
+        (
+            [CONTROL, CONTROL],
+            bad_control(),
+            Err(StartFault::BadControl(ControlFault::BadSum)),
+        ),
+        (
+            [CONTROL, CONTROL],
+            control(1, 15, true),
+            Err(StartFault::BadState(1)),
+        ),
+        (
+            [CONTROL, CONTROL],
+            control(0, 0, true),
+            Err(StartFault::BadState(2)),
+        ),
+        (
+            [CONTROL, CONTROL],
+            control(0, 15, false),
+            Err(StartFault::BadState(2)),
+        ),
+    ];
+    for ([first, second], bytes, answer) in cases {
+        let mut d = device(alloc)?;
+        assert!(rt; put(&mut d, first, &bytes));
+        assert!(rt; put(&mut d, second, &bytes));
+        assert_eq!(rt;
+            start(alloc, &mut d).map(|device| device.cap()),
+            answer,
+            "at {first}"
+        );
+    }
+    Ok(())
+}
+
+#[test]
+fn a_bad_copy_of_the_table_is_repaired(rt: HostRuntime) -> Result<(), Fail> {
+    let alloc = rt.alloc();
+    for at in [TABLE, TABLE_BACKUP] {
+        let mut d = device(alloc)?;
+        assert!(rt; put(&mut d, at, &bad_table()));
+        assert!(rt; start(alloc, &mut d).is_ok());
+        assert_eq!(rt; sector(&mut d, at), Some(table().0));
+    }
+    Ok(())
+}
+
+#[test]
+fn a_small_disk_and_one_that_fails_are_no_device(rt: HostRuntime) -> Result<(), Fail> {
+    let alloc = rt.alloc();
+    let small = MemPort::new(alloc, 4119, Vec::new(alloc));
+    let mut small = small.ok().ok_or("there is memory for a disk")?;
+    assert_eq!(rt;
+        start(alloc, &mut small).map(|device| device.cap()),
+        Err(StartFault::TooSmall(4120, 4119))
+    );
+    let mut failing = device(alloc)?.next_run(Vec::new(alloc));
+    assert!(rt; failing.fail_at(CallKind::Disk, 0).is_ok());
+    assert_eq!(rt;
+        start(alloc, &mut failing).map(|device| device.cap()),
+        Err(StartFault::Disk(DiskFault))
+    );
+    Ok(())
+}
