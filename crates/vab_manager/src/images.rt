@@ -1,0 +1,108 @@
+//! The images of a device.
+
+ghost use Rattle.std.specs.Prelude.{◌≡◌, ◌≤◌, ◌<◌, ◌+◌, length, MatchResult, IfOk, OnOk, OnErr, All, Ok, Err};
+ghost use Rattle.std.specs.Option.{option_copied};
+ghost use Rattle.sha2.specs.Sha256.{sha256};
+ghost use Rattle.vab_disk.specs.Disk.{Image, Adds, Nothing, SameHoldings, Quiet, Rose};
+ghost use Rattle.vab_model.specs.Step.{bytes_reply, digest_reply, found_of};
+ghost use Rattle.vab_recover.specs.Stands.{bytes_at, state_on, IsDevice};
+ghost use Rattle.vab_manager.specs.Found.{part_named, part_in, found_part};
+
+use sha2::{Digest, Sha256};
+use vab_bytes::{Listing, Name36};
+use vab_disk::Disk;
+use vab_gate::DiskFault;
+use vab_linear::{Map, read_at};
+use vab_model::{Refusal, Reply};
+use vab_names::{base_of, is_full};
+use vab_recover::{Device, Part};
+
+// The first partition of this base name.
+fn part_named<'a>(parts: &'a Listing<Part>, base: &[u8]) -> Option<&'a Part>
+    ensures { option_copied result ≡ part_named base.now parts.now }
+{
+    for part in parts.as_slice() {
+        if part.name.text() == base {
+            return Some(part);
+        }
+    }
+    None
+}
+
+// The partition of a slot under a name.
+fn part_in<'a>(parts: &'a Option<Listing<Part>>, name: &[u8]) -> Result<&'a Part, Refusal>
+    requires { 2 ≤ length name.now }
+    ensures { MatchResult result (λ p. part_in name.now parts.now ≡ Ok p.now) (λ f. part_in name.now parts.now ≡ Err f) }
+{
+    match parts {
+        None => Err(Refusal::NoImages),
+        Some(parts) => match part_named(parts, base_of(name)) {
+            Some(part) => Ok(part),
+            None => Err(Refusal::Unknown),
+        },
+    }
+}
+
+/// The partition of a name with a slot's suffix, or why there is none.
+pub fn find<'a>(device: &'a Device, name: &[u8]) -> Result<&'a Part, Refusal>
+    ensures { MatchResult result (λ p. found_part device.now name.now ≡ Ok p.now) (λ f. found_part device.now name.now ≡ Err f) }
+{
+    if is_full(name, 0) {
+        part_in(&device.a, name)
+    } else if is_full(name, 1) {
+        part_in(&device.b, name)
+    } else {
+        Err(Refusal::BadName)
+    }
+}
+
+/// Whether an image can be told.
+pub fn print(device: &Device, name: &[u8]) -> Reply
+    ensures { (image : Image) → result ≡ bytes_reply name.now (found_of (state_on device.now image) name.now) }
+{
+    match find(device, name) {
+        Err(refusal) => Reply::Refused(refusal),
+        Ok(_) => match Name36::parse(name) {
+            Ok(name) => Reply::Bytes(name),
+            Err(_) => unreachable!(),
+        },
+    }
+}
+
+// The SHA-256 of the bytes of blocks.
+fn digest_of<D: Disk>(d: &mut D, map: &Map) -> Result<[u8; 32], DiskFault>
+    requires { All (λ s. s + 8 ≤ D.size d.old) map.now }
+    ensures digest { D.tells → IfOk result (λ h. h ≡ sha256 (bytes_at (D.seen d.old) map.now)) }
+    ensures seen { D.tells → D.seen d.new ≡ D.seen d.old }
+    ensures crash { D.tells → SameHoldings (D.may_hold d.old) (D.may_hold d.new) }
+    ensures quiet { Quiet D.tells D.size D.told D.left D.faults d.old d.new }
+    ensures time { D.tells → Adds D.moment D.outcomes d.old d.new Nothing }
+    ensures cause { OnErr result (Rose (D.faults d.old).disk (D.faults d.new).disk) }
+{
+    let mut hasher = Sha256::new();
+    for block in 0..map.len() {
+        let mut bytes = [0u8; 4096];
+        read_at(d, map, block, &mut bytes)?;
+        hasher.update(&bytes);
+    }
+    Ok(hasher.finalize())
+}
+
+/// The SHA-256 of an image's bytes.
+pub fn digest<D: Disk>(d: &mut D, device: &Device, name: &[u8]) -> Result<Reply, DiskFault>
+    requires kept { IsDevice device.now (D.size d.old) }
+    ensures reply { D.tells → IfOk result (λ r. r ≡ digest_reply (found_of (state_on device.now (D.seen d.old)) name.now)) }
+    ensures seen { D.tells → D.seen d.new ≡ D.seen d.old }
+    ensures crash { D.tells → SameHoldings (D.may_hold d.old) (D.may_hold d.new) }
+    ensures quiet { Quiet D.tells D.size D.told D.left D.faults d.old d.new }
+    ensures time { D.tells → Adds D.moment D.outcomes d.old d.new Nothing }
+    ensures cause { OnErr result (Rose (D.faults d.old).disk (D.faults d.new).disk) }
+{
+    match find(device, name) {
+        Err(refusal) => Ok(Reply::Refused(refusal)),
+        Ok(part) => match digest_of(d, &part.map) {
+            Ok(sum) => Ok(Reply::Digest(sum)),
+            Err(fault) => Err(fault),
+        },
+    }
+}

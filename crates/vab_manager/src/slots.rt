@@ -1,0 +1,118 @@
+//! The commands on slots.
+
+ghost use Rattle.std.specs.Prelude.{◌≡◌, ◌==◌, ◌∷◌, [], is_some, if◌then◌else◌, IfOk, OnOk, OnErr};
+ghost use Rattle.vab_disk.specs.Disk.{IsSettled, Adds, Quiet, Rose};
+ghost use Rattle.vab_bootctl.specs.Control.{Fits};
+ghost use Rattle.vab_bootctl.specs.Boot.{activated_of};
+ghost use Rattle.vab_model.specs.declared.command.Command.TheVariants.{SetActive, Boot, Mark};
+ghost use Rattle.vab_model.specs.Step.{state_by, reply_to, steps_by};
+ghost use Rattle.vab_device.specs.Device.{places};
+ghost use Rattle.vab_recover.specs.Stands.{state_on, StandsFor, IsDevice};
+ghost use Rattle.vab_manager.specs.StateLaws.{with_boot, has_of_device};
+ghost use Rattle.vab_manager.specs.Steps.{LeavesStep};
+
+use crate::change::change;
+use vab_bootctl::{Control, activated, booted, marked};
+use vab_disk::Disk;
+use vab_gate::DiskFault;
+use vab_model::{Refusal, Reply};
+use vab_recover::Device;
+
+// Whether a slot has images.
+fn has_images(device: &Device, slot: usize) -> bool
+    ensures { result ≡ is_some (if slot == 0 then device.now.a else device.now.b) }
+{
+    if slot == 0 {
+        device.a.is_some()
+    } else {
+        device.b.is_some()
+    }
+}
+
+// The boot control where this slot was set active.
+#[tactic(auto, unfolding(vab_bootctl::specs::Boot::activated_of))]
+fn activated_at(control: &Control, slot: usize) -> Control
+    requires { Fits control.now }
+    ensures value { result ≡ activated_of control.now slot }
+    ensures fits { Fits result }
+{
+    if slot == 0 {
+        activated(control, 0)
+    } else {
+        activated(control, 1)
+    }
+}
+
+/// Makes a slot the one to boot next; refused where it has no images.
+pub fn set_active<D: Disk>(
+    d: &mut D,
+    device: Device,
+    slot: usize,
+) -> Result<(Device, Reply), DiskFault>
+    requires kept { IsDevice device (D.size d.old) }
+    requires stands { D.tells → StandsFor device (D.size d.old) (D.seen d.old) }
+    ensures kept { IfOk result (λ r. IsDevice r.0 (D.size d.old)) }
+    ensures stands { D.tells → IfOk result (λ r. StandsFor r.0 (D.size d.old) (D.seen d.new)) }
+    ensures state { D.tells → IfOk result (λ r. state_on r.0 (D.seen d.new) ≡ state_by (state_on device (D.seen d.old)) (SetActive slot)) }
+    ensures reply { D.tells → IfOk result (λ r. r.1 ≡ reply_to (state_on device (D.seen d.old)) (SetActive slot)) }
+    ensures places { D.tells → OnOk result (places (D.size d.old) (D.seen d.new) ≡ places (D.size d.old) (D.seen d.old)) }
+    ensures settled { D.tells → IsSettled (D.seen d.old) (D.may_hold d.old) → OnOk result (IsSettled (D.seen d.new) (D.may_hold d.new)) }
+    ensures quiet { Quiet D.tells D.size D.told D.left D.faults d.old d.new }
+    ensures time { D.tells → IsSettled (D.seen d.old) (D.may_hold d.old) → Adds D.moment D.outcomes d.old d.new
+        (LeavesStep (D.told d.old) (D.size d.old) (D.seen d.old) (steps_by (state_on device (D.seen d.old)) (SetActive slot))) }
+    ensures cause { OnErr result (Rose (D.faults d.old).disk (D.faults d.new).disk) }
+{
+    if !has_images(&device, slot) {
+        return Ok((device, Reply::Refused(Refusal::NoImages)));
+    }
+    let control = activated_at(&device.control, slot);
+    match change(d, device, control) {
+        Ok(device) => Ok((device, Reply::Done)),
+        Err(fault) => Err(fault),
+    }
+}
+
+/// Boots the bootable slot of the higher priority, a on a tie.
+pub fn boot<D: Disk>(d: &mut D, device: Device) -> Result<(Device, Reply), DiskFault>
+    requires kept { IsDevice device (D.size d.old) }
+    requires stands { D.tells → StandsFor device (D.size d.old) (D.seen d.old) }
+    ensures kept { IfOk result (λ r. IsDevice r.0 (D.size d.old)) }
+    ensures stands { D.tells → IfOk result (λ r. StandsFor r.0 (D.size d.old) (D.seen d.new)) }
+    ensures state { D.tells → IfOk result (λ r. state_on r.0 (D.seen d.new) ≡ state_by (state_on device (D.seen d.old)) Boot) }
+    ensures reply { D.tells → IfOk result (λ r. r.1 ≡ reply_to (state_on device (D.seen d.old)) Boot) }
+    ensures places { D.tells → OnOk result (places (D.size d.old) (D.seen d.new) ≡ places (D.size d.old) (D.seen d.old)) }
+    ensures settled { D.tells → IsSettled (D.seen d.old) (D.may_hold d.old) → OnOk result (IsSettled (D.seen d.new) (D.may_hold d.new)) }
+    ensures quiet { Quiet D.tells D.size D.told D.left D.faults d.old d.new }
+    ensures time { D.tells → IsSettled (D.seen d.old) (D.may_hold d.old) → Adds D.moment D.outcomes d.old d.new
+        (LeavesStep (D.told d.old) (D.size d.old) (D.seen d.old) (steps_by (state_on device (D.seen d.old)) Boot)) }
+    ensures cause { OnErr result (Rose (D.faults d.old).disk (D.faults d.new).disk) }
+{
+    let has = [has_images(&device, 0), has_images(&device, 1)];
+    let control = booted(&device.control, has);
+    match change(d, device, control) {
+        Ok(device) => Ok((device, Reply::Booted(control.current))),
+        Err(fault) => Err(fault),
+    }
+}
+
+/// Marks the current slot as one that works.
+pub fn mark<D: Disk>(d: &mut D, device: Device) -> Result<(Device, Reply), DiskFault>
+    requires kept { IsDevice device (D.size d.old) }
+    requires stands { D.tells → StandsFor device (D.size d.old) (D.seen d.old) }
+    ensures kept { IfOk result (λ r. IsDevice r.0 (D.size d.old)) }
+    ensures stands { D.tells → IfOk result (λ r. StandsFor r.0 (D.size d.old) (D.seen d.new)) }
+    ensures state { D.tells → IfOk result (λ r. state_on r.0 (D.seen d.new) ≡ state_by (state_on device (D.seen d.old)) Mark) }
+    ensures reply { D.tells → IfOk result (λ r. r.1 ≡ reply_to (state_on device (D.seen d.old)) Mark) }
+    ensures places { D.tells → OnOk result (places (D.size d.old) (D.seen d.new) ≡ places (D.size d.old) (D.seen d.old)) }
+    ensures settled { D.tells → IsSettled (D.seen d.old) (D.may_hold d.old) → OnOk result (IsSettled (D.seen d.new) (D.may_hold d.new)) }
+    ensures quiet { Quiet D.tells D.size D.told D.left D.faults d.old d.new }
+    ensures time { D.tells → IsSettled (D.seen d.old) (D.may_hold d.old) → Adds D.moment D.outcomes d.old d.new
+        (LeavesStep (D.told d.old) (D.size d.old) (D.seen d.old) (steps_by (state_on device (D.seen d.old)) Mark)) }
+    ensures cause { OnErr result (Rose (D.faults d.old).disk (D.faults d.new).disk) }
+{
+    let control = marked(&device.control);
+    match change(d, device, control) {
+        Ok(device) => Ok((device, Reply::Done)),
+        Err(fault) => Err(fault),
+    }
+}
