@@ -1,10 +1,10 @@
 // The tables of an update, from its begin on, edit by edit.
 
-ghost use Rattle.std.specs.Prelude.{◌<◌, ◌^◌, IfOk};
+ghost use Rattle.std.specs.Prelude.{◌≡◌, ◌<◌, ◌^◌, true, IfOk};
 ghost use Rattle.vab_tables.specs.Rules.{KeepsRules};
 ghost use Rattle.vab_tables.specs.Spelling.{table_size_of};
 ghost use Rattle.vab_layout.specs.Layout.{layout_of};
-ghost use Rattle.vab_layout.specs.Slots.{IsOwn};
+ghost use Rattle.vab_layout.specs.Slots.{IsOwn, IsTarget};
 
 use crate::sources::{LIMITED, UNLIMITED};
 use std::alloc::Global;
@@ -14,6 +14,16 @@ use vab_layout::Layout;
 use vab_partitions::bad_partition;
 use vab_tables::{Table, decode_table, encode_table};
 
+// Whether a table has so few entries that its text is short.
+fn is_small(table: &Table) -> bool
+    ensures { result ≡ true → table_size_of table.now < 2 ^ 24 }
+{
+    table.partitions.len() < 9
+        && table.extents.len() < 9
+        && table.groups.len() < 9
+        && table.devices.len() < 9
+}
+
 // The table of a device's slot a.
 fn source(alloc: Global, text: &[u8]) -> Result<Table, Fail>
     ensures rules { IfOk result (λ t. KeepsRules t) }
@@ -21,14 +31,103 @@ fn source(alloc: Global, text: &[u8]) -> Result<Table, Fail>
     ensures own { IfOk result (λ t. IsOwn 0 (layout_of t).parts) }
 {
     let table = decode_table(alloc, text, 1024)?;
-    let few = table.partitions.len() < 9
-        && table.extents.len() < 9
-        && table.groups.len() < 9
-        && table.devices.len() < 9;
     match bad_partition(alloc, &table, 0)? {
-        None if few => Ok(table),
+        None if is_small(&table) => Ok(table),
         _ => Err(Fail::from("a small table of a good slot")),
     }
+}
+
+// The table that an update of slot b begins with.
+fn begun(alloc: Global, source: &Table) -> Result<Table, Fail>
+    requires keeps { KeepsRules source.now }
+    requires small { table_size_of source.now < 2 ^ 24 }
+    requires own { IsOwn 0 (layout_of source.now).parts }
+    ensures keeps { IfOk result (λ t. KeepsRules t) }
+    ensures small { IfOk result (λ t. table_size_of t < 2 ^ 24) }
+    ensures target { IfOk result (λ t. IsTarget 1 (layout_of source.now).parts (layout_of t).parts) }
+    ensures device { IfOk result (λ t. source.now.devices ≡ t.devices) }
+{
+    Ok(import(alloc, source, 0, 1024)?)
+}
+
+// The table after an edit that is made.
+fn edited(alloc: Global, source: &Table, target: &Table, edit: &Edit) -> Result<Table, Fail>
+    requires keeps { KeepsRules source.now }
+    requires small { table_size_of source.now < 2 ^ 24 }
+    requires own { IsOwn 0 (layout_of source.now).parts }
+    requires target_keeps { KeepsRules target.now }
+    requires target_small { table_size_of target.now < 2 ^ 24 }
+    requires target { IsTarget 1 (layout_of source.now).parts (layout_of target.now).parts }
+    requires device { source.now.devices ≡ target.now.devices }
+    ensures keeps { IfOk result (λ t. KeepsRules t) }
+    ensures small { IfOk result (λ t. table_size_of t < 2 ^ 24) }
+    ensures target { IfOk result (λ t. IsTarget 1 (layout_of source.now).parts (layout_of t).parts) }
+    ensures device { IfOk result (λ t. source.now.devices ≡ t.devices) }
+{
+    Ok(apply(alloc, source, target, 1, edit, 1024)?)
+}
+
+// The table after two edits that are made.
+fn edited_twice(
+    alloc: Global,
+    source: &Table,
+    target: &Table,
+    first: &Edit,
+    second: &Edit,
+) -> Result<Table, Fail>
+    requires keeps { KeepsRules source.now }
+    requires small { table_size_of source.now < 2 ^ 24 }
+    requires own { IsOwn 0 (layout_of source.now).parts }
+    requires target_keeps { KeepsRules target.now }
+    requires target_small { table_size_of target.now < 2 ^ 24 }
+    requires target { IsTarget 1 (layout_of source.now).parts (layout_of target.now).parts }
+    requires device { source.now.devices ≡ target.now.devices }
+    ensures keeps { IfOk result (λ t. KeepsRules t) }
+    ensures small { IfOk result (λ t. table_size_of t < 2 ^ 24) }
+    ensures target { IfOk result (λ t. IsTarget 1 (layout_of source.now).parts (layout_of t).parts) }
+    ensures device { IfOk result (λ t. source.now.devices ≡ t.devices) }
+{
+    let once = edited(alloc, source, target, first)?;
+    edited(alloc, source, &once, second)
+}
+
+// The table of an update after these edits.
+fn after(alloc: Global, source: &Table, edits: &[Edit; 6]) -> Result<Table, Fail>
+    requires keeps { KeepsRules source.now }
+    requires small { table_size_of source.now < 2 ^ 24 }
+    requires own { IsOwn 0 (layout_of source.now).parts }
+    ensures keeps { IfOk result (λ t. KeepsRules t) }
+    ensures small { IfOk result (λ t. table_size_of t < 2 ^ 24) }
+    ensures target { IfOk result (λ t. IsTarget 1 (layout_of source.now).parts (layout_of t).parts) }
+    ensures device { IfOk result (λ t. source.now.devices ≡ t.devices) }
+{
+    let begun = begun(alloc, source)?;
+    let two = edited_twice(alloc, source, &begun, &edits[0], &edits[1])?;
+    let four = edited_twice(alloc, source, &two, &edits[2], &edits[3])?;
+    edited_twice(alloc, source, &four, &edits[4], &edits[5])
+}
+
+// The refusal of an edit, if it is refused.
+fn refusal(alloc: Global, source: &Table, target: &Table, edit: &Edit) -> Option<EditFault>
+    requires keeps { KeepsRules source.now }
+    requires small { table_size_of source.now < 2 ^ 24 }
+    requires own { IsOwn 0 (layout_of source.now).parts }
+    requires target_keeps { KeepsRules target.now }
+    requires target_small { table_size_of target.now < 2 ^ 24 }
+    requires target { IsTarget 1 (layout_of source.now).parts (layout_of target.now).parts }
+    requires device { source.now.devices ≡ target.now.devices }
+{
+    apply(alloc, source, target, 1, edit, 1024).err()
+}
+
+// The bytes of a small table's text.
+fn text_size(alloc: Global, table: &Table) -> Result<usize, Fail>
+    requires { KeepsRules table.now }
+{
+    if !is_small(table) {
+        return Err("a small table".into());
+    }
+    Ok(encode_table(alloc, table)?.len())
 }
 
 // The blocks of a partition, none where there is no such partition.
@@ -44,115 +143,110 @@ fn blocks(alloc: Global, table: &Table, name: &[u8]) -> Result<Vec<u64>, Fail>
     Ok(Vec::new(alloc))
 }
 
+// The bytes of the text after these edits.
+fn size_after(alloc: Global, edits: &[Edit; 6]) -> Result<usize, Fail> {
+    let source = source(alloc, &UNLIMITED)?;
+    let target = after(alloc, &source, edits)?;
+    text_size(alloc, &target)
+}
+
+// The refusal of an edit after these.
+fn refusal_after(alloc: Global, edits: &[Edit; 6], edit: &Edit) -> Result<Option<EditFault>, Fail> {
+    let source = source(alloc, &UNLIMITED)?;
+    let target = after(alloc, &source, edits)?;
+    Ok(refusal(alloc, &source, &target, edit))
+}
+
+// The blocks of the target's partition `system` after these edits.
+fn system_after(alloc: Global, edits: &[Edit; 6]) -> Result<Vec<u64>, Fail> {
+    let source = source(alloc, &UNLIMITED)?;
+    let target = after(alloc, &source, edits)?;
+    blocks(alloc, &target, b"system_b")
+}
+
+// The extents, as sectors and the first sector, after these edits.
+fn extents_after(alloc: Global, edits: &[Edit; 6]) -> Result<Vec<(u64, u64)>, Fail> {
+    let source = source(alloc, &UNLIMITED)?;
+    let target = after(alloc, &source, edits)?;
+    let mut extents = Vec::new(alloc);
+    for extent in target.extents.as_slice() {
+        extents.push((extent.sectors, extent.first_sector))?;
+    }
+    Ok(extents)
+}
+
+const SYSTEM: &[u8] = b"system_b";
+
+// An edit that changes nothing where `system` has 100 blocks.
+const SAME: Edit = Edit::Resize(SYSTEM, 409600);
+
+const P1: Edit = Edit::Create(b"p1_b", 4096);
+
+const P2: Edit = Edit::Create(b"p2_b", 4096);
+
+const P3: Edit = Edit::Create(b"p3_b", 4096);
+
+const P4: Edit = Edit::Create(b"p4_b", 4096);
+
+const P5: Edit = Edit::Create(b"p5_b", 4096);
+
 #[test]
 fn texts_grow_by_76_bytes_until_a_copy_is_full(rt: HostRuntime) -> Result<(), Fail> {
     let alloc = rt.alloc();
-    let source = source(alloc, &UNLIMITED)?;
-    let begun = import(alloc, &source, 0, 1024)?;
-    assert_eq!(rt; encode_table(alloc, &begun)?.len(), 664);
-    let one = apply(
-        alloc,
-        &source,
-        &begun,
-        1,
-        &Edit::Create(b"p1_b", 4096),
-        1024,
-    )?;
-    assert_eq!(rt; encode_table(alloc, &one)?.len(), 740);
-    let two = apply(alloc, &source, &one, 1, &Edit::Create(b"p2_b", 4096), 1024)?;
-    assert_eq!(rt; encode_table(alloc, &two)?.len(), 816);
-    let three = apply(alloc, &source, &two, 1, &Edit::Create(b"p3_b", 4096), 1024)?;
-    assert_eq!(rt; encode_table(alloc, &three)?.len(), 892);
-    let four = apply(
-        alloc,
-        &source,
-        &three,
-        1,
-        &Edit::Create(b"p4_b", 4096),
-        1024,
-    )?;
-    assert_eq!(rt; encode_table(alloc, &four)?.len(), 968);
-    let fifth = Edit::Create(b"p5_b", 4096);
-    let full = apply(alloc, &source, &four, 1, &fifth, 1024);
-    assert_eq!(rt; full.err(), Some(EditFault::TableFull(1044, 1024)));
-    let fewer = apply(alloc, &source, &four, 1, &Edit::Delete(b"p4_b"), 1024)?;
-    let again = apply(alloc, &source, &fewer, 1, &fifth, 1024)?;
-    assert_eq!(rt; encode_table(alloc, &again)?.len(), 968);
+    for (edits, size) in [
+        ([SAME, SAME, SAME, SAME, SAME, SAME], 664),
+        ([P1, SAME, SAME, SAME, SAME, SAME], 740),
+        ([P1, P2, SAME, SAME, SAME, SAME], 816),
+        ([P1, P2, P3, SAME, SAME, SAME], 892),
+        ([P1, P2, P3, P4, SAME, SAME], 968),
+        ([P1, P2, P3, P4, Edit::Delete(b"p4_b"), P5], 968),
+    ] {
+        assert_eq!(rt; size_after(alloc, &edits)?, size);
+    }
+    let full = refusal_after(alloc, &[P1, P2, P3, P4, SAME, SAME], &P5)?;
+    assert_eq!(rt; full, Some(EditFault::TableFull(1044, 1024)));
     Ok(())
 }
 
 #[test]
 fn a_partition_made_smaller_and_larger_has_the_sources_blocks(rt: HostRuntime) -> Result<(), Fail> {
     let alloc = rt.alloc();
-    let source = source(alloc, &UNLIMITED)?;
-    let begun = import(alloc, &source, 0, 1024)?;
-    let old = blocks(alloc, &begun, b"system_b")?;
-    let hundred: Vec<u64> = (0..100u64).collect(alloc)?;
-    assert_eq!(rt; old.as_slice(), hundred.as_slice());
-    let small = apply(
-        alloc,
-        &source,
-        &begun,
-        1,
-        &Edit::Resize(b"system_b", 163840),
-        1024,
-    )?;
-    let forty = blocks(alloc, &small, b"system_b")?;
-    assert_eq!(rt; forty.len(), 40);
-    let large = apply(
-        alloc,
-        &source,
-        &small,
-        1,
-        &Edit::Resize(b"system_b", 409600),
-        1024,
-    )?;
-    let same = blocks(alloc, &large, b"system_b")?;
-    assert_eq!(rt; same.as_slice(), hundred.as_slice());
-    let none = apply(alloc, &source, &large, 1, &Edit::Delete(b"system_b"), 1024)?;
-    assert_eq!(rt; blocks(alloc, &none, b"system_b")?.len(), 0);
-    let made = apply(
-        alloc,
-        &source,
-        &none,
-        1,
-        &Edit::Create(b"system_b", 409600),
-        1024,
-    )?;
-    let again = blocks(alloc, &made, b"system_b")?;
-    assert_eq!(rt; again.as_slice(), hundred.as_slice());
+    let small = Edit::Resize(SYSTEM, 163840);
+    let made = Edit::Create(SYSTEM, 409600);
+    let other = Edit::Create(b"other_b", 0);
+    // The source's partition has the first 100 blocks.
+    for (edits, count) in [
+        ([SAME, SAME, SAME, SAME, SAME, SAME], 100),
+        ([SAME, SAME, SAME, SAME, SAME, small], 40),
+        ([SAME, SAME, SAME, SAME, small, SAME], 100),
+        ([SAME, SAME, SAME, SAME, Edit::Delete(SYSTEM), other], 0),
+        ([SAME, SAME, SAME, SAME, Edit::Delete(SYSTEM), made], 100),
+    ] {
+        let expected: Vec<u64> = (0..count).collect(alloc)?;
+        let blocks = system_after(alloc, &edits)?;
+        assert_eq!(rt; blocks.as_slice(), expected.as_slice());
+    }
     Ok(())
 }
 
 #[test]
 fn a_store_takes_the_blocks_behind_a_larger_partition(rt: HostRuntime) -> Result<(), Fail> {
     let alloc = rt.alloc();
-    let source = source(alloc, &UNLIMITED)?;
-    let begun = import(alloc, &source, 0, 1024)?;
-    let large = apply(
-        alloc,
-        &source,
-        &begun,
-        1,
-        &Edit::Resize(b"system_b", 614400),
-        1024,
-    )?;
-    let whole = Edit::AddStore(b"system_b", 0);
-    let room = apply(alloc, &source, &large, 1, &whole, 1024);
-    assert_eq!(rt; room.err(), Some(EditFault::NoRoom(302, 256)));
-    let store = Edit::AddStore(b"system_b", 434176);
-    let stored = apply(alloc, &source, &large, 1, &store, 1024)?;
-    assert_eq!(rt; encode_table(alloc, &stored)?.len(), 740);
-    let mut extents = Vec::new(alloc);
-    for extent in stored.extents.as_slice() {
-        extents.push((extent.sectors, extent.first_sector))?;
-    }
+    let large = Edit::Resize(SYSTEM, 614400);
+    let store = Edit::AddStore(SYSTEM, 434176);
+    let whole = Edit::AddStore(SYSTEM, 0);
+    let grown = [SAME, SAME, SAME, SAME, SAME, large];
+    let room = refusal_after(alloc, &grown, &whole)?;
+    assert_eq!(rt; room, Some(EditFault::NoRoom(302, 256)));
+    let stored = [SAME, SAME, SAME, SAME, large, store];
+    assert_eq!(rt; size_after(alloc, &stored)?, 740);
+    let extents = extents_after(alloc, &stored)?;
     assert_eq!(rt;
         extents.as_slice(),
         [(800, 2048), (1200, 2048), (848, 3248)].as_slice()
     );
-    let twice = apply(alloc, &source, &stored, 1, &store, 1024);
-    assert_eq!(rt; twice.err(), Some(EditFault::HasStore));
+    let twice = refusal_after(alloc, &stored, &store)?;
+    assert_eq!(rt; twice, Some(EditFault::HasStore));
     Ok(())
 }
 
@@ -160,7 +254,7 @@ fn a_store_takes_the_blocks_behind_a_larger_partition(rt: HostRuntime) -> Result
 fn edits_are_refused_by_name(rt: HostRuntime) -> Result<(), Fail> {
     let alloc = rt.alloc();
     let source = source(alloc, &LIMITED)?;
-    let begun = import(alloc, &source, 0, 1024)?;
+    let begun = begun(alloc, &source)?;
     for (edit, fault) in [
         (Edit::Create(b"system_a", 0), EditFault::BadName),
         (Edit::Create(b"a-b_b", 0), EditFault::BadName),
@@ -174,18 +268,11 @@ fn edits_are_refused_by_name(rt: HostRuntime) -> Result<(), Fail> {
             EditFault::GroupLimit(413696, 409600),
         ),
     ] {
-        let refused = apply(alloc, &source, &begun, 1, &edit, 1024);
-        assert_eq!(rt; refused.err(), Some(fault));
+        let refused = refusal(alloc, &source, &begun, &edit);
+        assert_eq!(rt; refused, Some(fault));
     }
-    let same = apply(
-        alloc,
-        &source,
-        &begun,
-        1,
-        &Edit::Resize(b"system_b", 409600),
-        1024,
-    )?;
-    assert_eq!(rt; encode_table(alloc, &same)?.len(), 664);
+    let same = edited(alloc, &source, &begun, &Edit::Resize(b"system_b", 409600))?;
+    assert_eq!(rt; text_size(alloc, &same)?, 664);
     Ok(())
 }
 
@@ -194,7 +281,7 @@ fn the_table_of_a_slot_alone(rt: HostRuntime) -> Result<(), Fail> {
     let alloc = rt.alloc();
     let source = source(alloc, &UNLIMITED)?;
     let alone = without_stores(alloc, &source, 0)?;
-    assert_eq!(rt; encode_table(alloc, &alone)?.len(), 492);
+    assert_eq!(rt; text_size(alloc, &alone)?, 492);
     assert_eq!(rt; blocks(alloc, &alone, b"system_a")?.len(), 100);
     Ok(())
 }
