@@ -1,0 +1,18 @@
+//! Making a device of a set of images.
+#![tactic(auto)]
+
+mod checks;
+mod control;
+mod fault;
+mod frame;
+mod images;
+mod layout;
+mod making;
+mod prepared;
+mod tables;
+
+pub use fault::MakeFault;
+pub use making::make_device;
+
+#[cfg(test)]
+mod tests;

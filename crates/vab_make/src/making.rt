@@ -1,0 +1,109 @@
+//! Making a device.
+ghost use Rattle.std.specs.Prelude.{◌≡◌, ◌≤◌, ◌%◌, ◌^◌, ℕ, length, Ok, OnOk, OnErr, IfErr};
+ghost use Rattle.vab_disk.specs.Disk.{IsSettled, Adds, SameHoldings, Quiet, Rose};
+ghost use Rattle.vab_set.specs.Spelling.{IsSet};
+ghost use Rattle.vab_make.specs.Made.{refusal_of};
+ghost use Rattle.vab_make.specs.Making.{Gives, IsOfDisk, IsMade, LeavesMaking};
+ghost use Rattle.vab_marks.specs.Mark.{mark_of};
+ghost use Rattle.vab_make.specs.Prepared.{IsMost, HasRoom, IsPrepared};
+ghost use Rattle.vab_make.specs.Frame.{KeepsBlank};
+ghost use Rattle.vab_make.specs.Steps.{HasAll};
+
+use crate::control::put_control;
+use crate::fault::MakeFault;
+use crate::images::put_images;
+use crate::prepared::prepare;
+use crate::tables::put_places;
+use std::alloc::Global;
+use vab_disk::Disk;
+use vab_gate::{DiskFault, put_gate, settle};
+use vab_marks::{MarkPhase, UpdateMark, encode_mark};
+use vab_set::Set;
+
+// The disk sector of the update mark.
+const MARK: u64 = 2048;
+
+// The mark of a device without an update, with images in slot a.
+fn idle_mark() -> [u8; 512]
+    ensures { mark_of result ≡ Ok (record { phase = MarkPhase.Idle; slot = 0 }) }
+{
+    encode_mark(&UpdateMark {
+        phase: MarkPhase::Idle,
+        slot: 0,
+    })
+}
+
+// Writes the contents of the device: all but the mark.
+fn put_contents<D: Disk>(d: &mut D, set: &Set, max: u32, text: &[u8]) -> Result<(), DiskFault>
+    requires most { IsMost max }
+    requires room { HasRoom set.now (D.size d.old) }
+    requires fits { length text.now ≤ max }
+    ensures all { D.tells → OnOk result (HasAll set.now max text.now (D.seen d.new)) }
+    ensures quiet { Quiet D.tells D.size D.told D.left D.faults d.old d.new }
+    ensures frame { D.tells → KeepsBlank D.moment D.outcomes D.told D.may_hold d.old d.new }
+    ensures cause { OnErr result (Rose (D.faults d.old).disk (D.faults d.new).disk) }
+{
+    put_places(d, max, text)?;
+    put_images(d, set)?;
+    put_control(d)
+}
+
+// Writes the contents of the device, and syncs.
+fn settle_contents<D: Disk>(d: &mut D, set: &Set, max: u32, text: &[u8]) -> Result<(), DiskFault>
+    requires most { IsMost max }
+    requires room { HasRoom set.now (D.size d.old) }
+    requires fits { length text.now ≤ max }
+    ensures all { D.tells → OnOk result (HasAll set.now max text.now (D.seen d.new)) }
+    ensures settled { D.tells → OnOk result (IsSettled (D.seen d.new) (D.may_hold d.new)) }
+    ensures quiet { Quiet D.tells D.size D.told D.left D.faults d.old d.new }
+    ensures frame { D.tells → KeepsBlank D.moment D.outcomes D.told D.may_hold d.old d.new }
+    ensures cause { OnErr result (Rose (D.faults d.old).disk (D.faults d.new).disk) }
+{
+    put_contents(d, set, max, text)?;
+    settle(d)
+}
+
+// Makes the device whose table has this text: from the first gate on the disk is none, and with the last it is this one.
+fn make_on<D: Disk>(d: &mut D, set: &Set, max: u32, text: &[u8]) -> Result<(), DiskFault>
+    requires most { IsMost max }
+    requires room { HasRoom set.now (D.size d.old) }
+    requires fits { length text.now ≤ max }
+    ensures made { D.tells → (limit : ℕ) → IsPrepared set.now limit max (D.size d.old) text.now → OnOk result (IsMade set.now limit max (D.size d.old) (D.seen d.new)) }
+    ensures settled { D.tells → OnOk result (IsSettled (D.seen d.new) (D.may_hold d.new)) }
+    ensures quiet { Quiet D.tells D.size D.told D.left D.faults d.old d.new }
+    ensures time { D.tells → (limit : ℕ) → IsPrepared set.now limit max (D.size d.old) text.now → IsSettled (D.seen d.old) (D.may_hold d.old) → Adds D.moment D.outcomes d.old d.new (LeavesMaking (D.told d.old) set.now limit max (D.size d.old) (D.seen d.old)) }
+    ensures cause { OnErr result (Rose (D.faults d.old).disk (D.faults d.new).disk) }
+{
+    put_gate(d, MARK, &[0u8; 512])?;
+    settle_contents(d, set, max, text)?;
+    put_gate(d, MARK, &idle_mark())
+}
+
+/// Makes the device whose slot a has the images of a set, filled with zeros to whole blocks, and is current and successful with priority 15, and whose slot
+/// b has none. `limit` is that of the group `main` in bytes, 0 for none; `max` is the most bytes of a copy of a table, a multiple of 512. The refusals come in the order of
+/// `MakeFault`, each exactly where it says, and nothing is written then. A disk that fails, or a cut of power, leaves the disk as it was, or no device, or the
+/// made one.
+pub fn make_device<D: Disk>(
+    alloc: Global,
+    d: &mut D,
+    set: &Set,
+    limit: u64,
+    max: u32,
+) -> Result<(), MakeFault>
+    requires set { IsSet set.now }
+    requires limit { limit ≤ 2 ^ 44 }
+    requires max_sectors { max % 512 ≡ 0 }
+    requires max_least { 512 ≤ max }
+    requires max_most { max ≤ 65536 }
+    ensures exact { Gives result (refusal_of set.now limit max (D.size d.old)) }
+    ensures made { D.tells → OnOk result (IsMade set.now limit max (D.size d.old) (D.seen d.new)) }
+    ensures settled { D.tells → OnOk result (IsSettled (D.seen d.new) (D.may_hold d.new)) }
+    ensures untouched { D.tells → IfErr result (λ f. (IsOfDisk f → ⊥) → (D.seen d.new ≡ D.seen d.old) × SameHoldings (D.may_hold d.old) (D.may_hold d.new)) }
+    ensures quiet { Quiet D.tells D.size D.told D.left D.faults d.old d.new }
+    ensures time { D.tells → IsSettled (D.seen d.old) (D.may_hold d.old) → Adds D.moment D.outcomes d.old d.new (LeavesMaking (D.told d.old) set.now limit max (D.size d.old) (D.seen d.old)) }
+    ensures cause { IfErr result (λ f. IsOfDisk f → Rose (D.faults d.old).disk (D.faults d.new).disk) }
+{
+    let text = prepare(alloc, set, limit, max, d.sectors())?;
+    make_on(d, set, max, &text)?;
+    Ok(())
+}
