@@ -1,4 +1,4 @@
-//! The program `vab`: the update storage of an Android device in one file or in memory, and a fastboot session over it.
+//! The program `vab`: the update storage of an Android device in a file or in memory, by verbs and by a fastboot session.
 #![tactic(auto)]
 
 mod word;
@@ -10,7 +10,9 @@ use vab_cli::{Status, run};
 use vab_real::FilePort;
 use word::{Device, parse_device};
 
-const USAGE: &str = "usage: vab DEVICE serve [--fresh]\n\
+const USAGE: &str = "usage: vab DEVICE make [--limit BYTES] [--metadata-max BYTES], with a set of images as the input\n\
+    \u{20}      vab DEVICE serve [--fresh]\n\
+    \u{20}      vab DEVICE boot | mark | activate SLOT | print NAME | digest NAME\n\
     DEVICE is a file that exists, or mem:N for N sectors of zeros in memory";
 
 const NO_MEMORY: u8 = 8;

@@ -1,1 +1,5 @@
-mod Runs
+mod Blocks
+mod Lines
+mod Makings
+mod Running
+mod Sessions

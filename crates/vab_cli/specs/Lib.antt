@@ -1,3 +1,5 @@
 pub mod Codes
 pub mod Headline
-pub mod Words
+pub mod Opening
+pub mod Telling
+pub mod Verbs

@@ -1,9 +1,14 @@
 //! The program over a port: the words of the command line, what they do, and the status that it ends with.
 #![tactic(auto)]
 
+mod commands;
+mod line;
+mod making;
+mod opening;
+mod printing;
 mod program;
+mod serving;
 mod status;
-mod words;
 
 pub use program::run;
 pub use status::Status;

@@ -17,7 +17,7 @@ pub const FIRST: u64 = 6144;
 
 const BLOCK: u64 = 4096;
 
-// The blocks of all images.
+/// The blocks of 4096 bytes that all images of a set take.
 pub fn set_blocks(set: &Set) -> u64
     requires { IsSet set.now }
     ensures blocks { result ≡ set_blocks set.now }
@@ -30,8 +30,8 @@ pub fn set_blocks(set: &Set) -> u64
     sum
 }
 
-// The blocks of the device.
-fn capacity(sectors: u64) -> u64
+/// The blocks that a made device has on a disk of so many sectors.
+pub fn capacity(sectors: u64) -> u64
     requires { 6152 ≤ sectors }
     ensures { result ≡ cap_of (made_device sectors) }
 {

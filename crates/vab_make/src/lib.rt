@@ -11,6 +11,7 @@ mod making;
 mod prepared;
 mod tables;
 
+pub use checks::{capacity, set_blocks};
 pub use fault::MakeFault;
 pub use making::make_device;
 

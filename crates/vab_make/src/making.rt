@@ -1,6 +1,6 @@
 //! Making a device.
 ghost use Rattle.std.specs.Prelude.{◌≡◌, ◌≤◌, ◌%◌, ◌^◌, ℕ, length, Ok, OnOk, OnErr, IfErr};
-ghost use Rattle.vab_disk.specs.Disk.{IsSettled, Adds, SameHoldings, Quiet, Rose};
+ghost use Rattle.vab_disk.specs.Disk.{IsSettled, Adds, Nothing, SameHoldings, Quiet, Rose};
 ghost use Rattle.vab_set.specs.Spelling.{IsSet};
 ghost use Rattle.vab_make.specs.Made.{refusal_of};
 ghost use Rattle.vab_make.specs.Making.{Gives, IsOfDisk, IsMade, LeavesMaking};
@@ -99,6 +99,7 @@ pub fn make_device<D: Disk>(
     ensures made { D.tells → OnOk result (IsMade set.now limit max (D.size d.old) (D.seen d.new)) }
     ensures settled { D.tells → OnOk result (IsSettled (D.seen d.new) (D.may_hold d.new)) }
     ensures untouched { D.tells → IfErr result (λ f. (IsOfDisk f → ⊥) → (D.seen d.new ≡ D.seen d.old) × SameHoldings (D.may_hold d.old) (D.may_hold d.new)) }
+    ensures still { D.tells → IfErr result (λ f. (IsOfDisk f → ⊥) → Adds D.moment D.outcomes d.old d.new Nothing) }
     ensures quiet { Quiet D.tells D.size D.told D.left D.faults d.old d.new }
     ensures time { D.tells → IsSettled (D.seen d.old) (D.may_hold d.old) → Adds D.moment D.outcomes d.old d.new (LeavesMaking (D.told d.old) set.now limit max (D.size d.old) (D.seen d.old)) }
     ensures cause { IfErr result (λ f. IsOfDisk f → Rose (D.faults d.old).disk (D.faults d.new).disk) }

@@ -6,3 +6,5 @@ pub mod NameLaws
 pub mod Found
 pub mod FoundLaws
 pub mod DigestLaws
+pub mod Blocks
+pub mod BlockLaws

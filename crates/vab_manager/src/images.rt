@@ -17,8 +17,8 @@ use vab_model::{Refusal, Reply};
 use vab_names::{base_of, is_full};
 use vab_recover::{Device, Part};
 
-// The first partition of this base name.
-fn part_named<'a>(parts: &'a Listing<Part>, base: &[u8]) -> Option<&'a Part>
+/// The first partition of this base name.
+pub fn part_named<'a>(parts: &'a Listing<Part>, base: &[u8]) -> Option<&'a Part>
     ensures { option_copied result ≡ part_named base.now parts.now }
 {
     for part in parts.as_slice() {

@@ -1,4 +1,3 @@
-mod Acknowledged
 mod Events
 mod Hearings
 mod Packets

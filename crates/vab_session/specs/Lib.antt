@@ -1,9 +1,9 @@
-pub mod Commands
-pub mod Controls
+pub mod AnswerLaws
+pub mod Answers
 pub mod Fault
 pub mod Hearing
+pub mod ItemLaws
+pub mod Items
 pub mod Reading
 pub mod Served
 pub mod Session
-pub mod State
-pub mod Told

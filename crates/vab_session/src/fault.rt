@@ -10,6 +10,8 @@ use vab_gate::DiskFault;
 pub enum Ended {
     /// The input ended between two packets.
     Closed,
+    /// A packet asked for a boot and the end of the session: the slot that is booted.
+    Rebooted(usize),
 }
 
 /// Why a session stops.

@@ -1,31 +1,37 @@
-// The session: a greeting, a hello, and then command after command.
-ghost use Rattle.std.specs.Prelude.{◌≡◌, ◌<◌, ◌≤◌, ◌+◌, ◌-◌, ◌++◌, ◌^◌, ℕ, List, [], length, take, min, OnOk, OnErr, IfOk, IfErr, IsErrOf, codes};
-ghost use Rattle.vab_disk.specs.Disk.{Outcome, Adds, SameHoldings, Faults, NoFewer, Rose};
+// The session: a greeting, a hello, and then packet after packet.
+ghost use Rattle.std.specs.Prelude.{◌≡◌, ◌≤◌, ◌+◌, ◌++◌, ◌^◌, ℕ, List, length, min, IfOk, IsErrOf, codes};
+ghost use Rattle.vab_disk.specs.Disk.{NoFewer, Rose};
 ghost use Rattle.vab_fbtcp.specs.declared.event.Place.TheVariants.{Length};
-ghost use Rattle.vab_session.specs.State.{state_of};
+ghost use Rattle.vab_recover.specs.Stands.{StandsFor, IsDevice};
 ghost use Rattle.vab_session.specs.Reading.{stands_at, rest_of, IsFed};
-ghost use Rattle.vab_session.specs.Served.{Split, Answers, Serves, EachInputIsOne, NoOtherSession};
+ghost use Rattle.vab_session.specs.Items.{Situation, IsIn};
+ghost use Rattle.vab_session.specs.Served.{Split, Answers, Serves, SaysSlot, EachInputIsOne, NoOtherSession};
 
-use crate::answer::answer;
+use crate::answer::{answer, is_last};
 use crate::reader::Reader;
-use crate::{Device, Ended, SessionFault, say_all};
+use crate::{Ended, SessionFault, say_all};
 use arrayvec::ArrayVec;
 use vab_disk::{Disk, Port};
+use vab_recover::Device;
 
 /// The most bytes that a session takes.
 pub const MAX_SESSION: u64 = 1 << 44;
 
-// Answers the commands that are left.
+// Answers the packets that are left.
 fn answer_all<P: Port>(
     p: &mut P,
     reader: &mut Reader,
     device: Device,
-) -> Result<Device, SessionFault>
-    requires on_disk { 4 < P.size p.old }
+) -> Result<(Ended, Device), SessionFault>
+    requires kept { IsDevice device (P.size p.old) }
+    requires stands { P.tells → StandsFor device (P.size p.old) (P.seen p.old) }
     requires place { stands_at reader.old ≡ Length }
     requires fed { IsFed reader.old }
-    ensures answers { P.tells → (s : Split (min reader.old.budget.most (reader.old.budget.taken + length (P.left p.old))) (rest_of reader.old (P.left p.old))) (told : List ℕ) → P.told p.old ≡ told ++ codes "FB01"
-        → Answers P.seen P.may_hold P.told P.left P.moment P.outcomes s reader.old.budget.most (reader.old.budget.taken + length (P.left p.old)) (state_of device) told p.old p.new result }
+    ensures answers { P.tells → (s : Split (min reader.old.budget.most (reader.old.budget.taken + length (P.left p.old))) (rest_of reader.old (P.left p.old))) (first : Situation) (told : List ℕ) → IsIn (P.size p.old) first (P.seen p.old) → P.told p.old ≡ told ++ codes "FB01"
+        → Answers P.seen P.may_hold P.told P.left P.moment P.outcomes s (P.size p.old) reader.old.budget.most (reader.old.budget.taken + length (P.left p.old)) first told p.old p.new result }
+    ensures kept { IfOk result (λ r. IsDevice r.1 (P.size p.old)) }
+    ensures stands { P.tells → IfOk result (λ r. StandsFor r.1 (P.size p.old) (P.seen p.new)) }
+    ensures slot { IfOk result (λ r. SaysSlot r.0 r.1) }
     ensures size { P.size p.new ≡ P.size p.old }
     ensures counts { NoFewer (P.faults p.old) (P.faults p.new) }
     ensures disk { IsErrOf result SessionFault.Disk → Rose (P.faults p.old).disk (P.faults p.new).disk }
@@ -41,7 +47,7 @@ fn answer_all<P: Port>(
                 if reader.is_spent() {
                     return Err(SessionFault::Spent);
                 }
-                return Ok(device);
+                return Ok((Ended::Closed, device));
             }
             Err(fault) => return Err(fault),
         }
@@ -49,20 +55,27 @@ fn answer_all<P: Port>(
             Ok(next) => device = next,
             Err(fault) => return Err(fault),
         }
+        if is_last(packet.as_slice()) {
+            return Ok((Ended::Rebooted(device.current()), device));
+        }
     }
 }
 
 /// A session of at most `most` bytes of input, over a device that is kept as the disk has it.
 ///
-/// It tells `FB01`, reads the hello of the other side (any version from 01 on is spoken as 1), and answers command packets
-/// one by one until the input ends. Source: the fastboot README, protocol 0.4, TCP version 1.
+/// It tells `FB01`, reads the hello of the other side (any version from 01 on is spoken as 1), and answers packets
+/// one by one until the input ends or a packet asks for a boot and the end. Source: the fastboot README, protocol 0.4, TCP version 1.
 pub fn serve_up_to<P: Port>(
     p: &mut P,
     device: Device,
     most: u64,
 ) -> Result<(Ended, Device), SessionFault>
-    requires { 4 < P.size p.old }
-    ensures serves { P.tells → Serves P.seen P.may_hold P.told P.left P.moment P.outcomes most (state_of device) p.old p.new result }
+    requires kept { IsDevice device (P.size p.old) }
+    requires stands { P.tells → StandsFor device (P.size p.old) (P.seen p.old) }
+    ensures serves { P.tells → (first : Situation) → IsIn (P.size p.old) first (P.seen p.old) → Serves P.seen P.may_hold P.told P.left P.moment P.outcomes (P.size p.old) most first p.old p.new result }
+    ensures kept { IfOk result (λ r. IsDevice r.1 (P.size p.old)) }
+    ensures stands { P.tells → IfOk result (λ r. StandsFor r.1 (P.size p.old) (P.seen p.new)) }
+    ensures slot { IfOk result (λ r. SaysSlot r.0 r.1) }
     ensures size { P.size p.new ≡ P.size p.old }
     ensures counts { NoFewer (P.faults p.old) (P.faults p.new) }
     ensures disk { IsErrOf result SessionFault.Disk → Rose (P.faults p.old).disk (P.faults p.new).disk }
@@ -77,16 +90,17 @@ pub fn serve_up_to<P: Port>(
         Ok(()) => {}
         Err(fault) => return Err(fault),
     }
-    match answer_all(p, &mut reader, device) {
-        Ok(device) => Ok((Ended::Closed, device)),
-        Err(fault) => Err(fault),
-    }
+    answer_all(p, &mut reader, device)
 }
 
 /// A session, of at most 2^44 bytes.
 pub fn serve<P: Port>(p: &mut P, device: Device) -> Result<(Ended, Device), SessionFault>
-    requires { 4 < P.size p.old }
-    ensures serves { P.tells → Serves P.seen P.may_hold P.told P.left P.moment P.outcomes (2 ^ 44) (state_of device) p.old p.new result }
+    requires kept { IsDevice device (P.size p.old) }
+    requires stands { P.tells → StandsFor device (P.size p.old) (P.seen p.old) }
+    ensures serves { P.tells → (first : Situation) → IsIn (P.size p.old) first (P.seen p.old) → Serves P.seen P.may_hold P.told P.left P.moment P.outcomes (P.size p.old) (2 ^ 44) first p.old p.new result }
+    ensures kept { IfOk result (λ r. IsDevice r.1 (P.size p.old)) }
+    ensures stands { P.tells → IfOk result (λ r. StandsFor r.1 (P.size p.old) (P.seen p.new)) }
+    ensures slot { IfOk result (λ r. SaysSlot r.0 r.1) }
     ensures size { P.size p.new ≡ P.size p.old }
     ensures counts { NoFewer (P.faults p.old) (P.faults p.new) }
     ensures disk { IsErrOf result SessionFault.Disk → Rose (P.faults p.old).disk (P.faults p.new).disk }

@@ -35,7 +35,7 @@ fn one_byte_at_a_time_is_told_the_same(rt: HostRuntime) -> Result<(), Fail> {
         let mut port = FilePort::zeroed(alloc, 8192, input, &mut told).map_err(|_| Fail::from(
             "memory",
         ))?;
-        let fresh = words(alloc, true)?;
+        let fresh = words(alloc, &["serve", "--fresh"])?;
         assert_eq!(rt; run(alloc, &fresh, &mut port).code(), 0);
     }
     let want = b"FB01\0\0\0\0\0\0\0\x07OKAY0.4\0\0\0\0\0\0\0\x13FAILunknown command";
@@ -56,7 +56,7 @@ fn a_file_keeps_the_device(rt: HostRuntime) -> Result<(), Fail> {
         let mut port = FilePort::open(&rt, "device.img", first, &mut told).map_err(|_| Fail::from(
             "open",
         ))?;
-        let fresh = words(alloc, true)?;
+        let fresh = words(alloc, &["serve", "--fresh"])?;
         assert_eq!(rt; run(alloc, &fresh, &mut port).code(), 0);
     }
     let image = fs::read(&rt, "device.img")?;
@@ -70,7 +70,7 @@ fn a_file_keeps_the_device(rt: HostRuntime) -> Result<(), Fail> {
         let mut port = FilePort::open(&rt, "device.img", again, &mut answers).map_err(
             |_| Fail::from("open"),
         )?;
-        let serve = words(alloc, false)?;
+        let serve = words(alloc, &["serve"])?;
         assert_eq!(rt; run(alloc, &serve, &mut port).code(), 0);
     }
     assert_eq!(rt;

@@ -1,50 +1,88 @@
-// How sessions end, and where.
+// What sessions write, and where they end.
 
-use crate::runs::{SECTORS, port};
+use crate::runs::{ONE, SECTORS, Step, steps, port, words};
 use std::test::Fail;
-use vab_disk::Disk;
-use vab_session::{Ended, SessionFault, make_fresh, serve, serve_up_to};
+use vab_cli::run;
+use vab_disk::{CallKind, Disk, MemPort};
+
+// A sector of the disk, where it is on it and can be read.
+fn sector(d: &mut MemPort, at: u64) -> Option<[u8; 512]> {
+    let mut sector = [0u8; 512];
+    if at >= d.sectors() || d.read_sector(at, &mut sector).is_err() {
+        return None;
+    }
+    Some(sector)
+}
+
+// Another byte in a sector, where it is on the disk and can be written.
+fn damage(d: &mut MemPort, at: u64, byte: usize, value: u8) -> bool {
+    match sector(d, at) {
+        Some(mut bytes) if byte < 512 => {
+            bytes[byte] = value;
+            d.write_sector(at, &bytes).is_ok() && d.sync().is_ok()
+        }
+        _ => false,
+    }
+}
+
+const FRESH: &[&str] = &["serve", "--fresh"];
 
 #[test]
-fn an_input_that_ends_inside_something_is_cut_at_its_place(rt: HostRuntime) -> Result<(), Fail> {
-    let alloc = rt.alloc();
-    let cases: [(&[u8], u64); 4] = [
-        (b"", 0),
-        (b"FB", 2),
-        (b"FB01\0\0\0", 7),
-        (b"FB01\0\0\0\0\0\0\0\x05abc", 15),
-    ];
-    for (input, at) in cases {
-        let mut port = port(alloc, SECTORS, input)?;
-        let device = make_fresh(&mut port).map_err(|_| Fail::from("make"))?;
-        assert!(rt; port.sectors() > 4);
-        match serve(&mut port, device) {
-            Err(fault) => assert_eq!(rt; fault, SessionFault::Cut(at)),
-            Ok(_) => assert!(rt; false),
-        }
-    }
+fn commands_on_slots_change_the_boot_control(rt: HostRuntime) -> Result<(), Fail> {
+    let active = b"FB01\0\0\0\0\0\0\0\x0cset_active:a\0\0\0\0\0\0\0\x08oem boot".as_slice();
+    let mark = b"FB01\0\0\0\0\0\0\0\x13oem mark-successful\0\0\0\0\0\0\0\x06reboot".as_slice();
+    let told = b"FB01\0\0\0\0\0\0\0\x04OKAY\0\0\0\0\0\0\0\x05OKAYa".as_slice();
+    let first: [Step; 1] = [(FRESH, active, 0, told)];
+    let mut d = steps(&rt, rt.alloc(), SECTORS, &first)?;
+    assert!(rt; matches!(sector(&mut d, 4), Some(bytes) if bytes[12] == 0xef && bytes[13] == 0));
+    let both: [Step; 2] = [(FRESH, active, 0, told), (&["serve"], mark, 0, told)];
+    let mut d = steps(&rt, rt.alloc(), SECTORS, &both)?;
+    assert!(rt; matches!(sector(&mut d, 4), Some(bytes) if bytes[12] == 0x8f && bytes[13] == 0));
     Ok(())
 }
 
 #[test]
-fn a_session_that_would_hear_more_than_it_may_is_spent(rt: HostRuntime) -> Result<(), Fail> {
+fn a_made_device_has_the_boot_control_of_slot_a(rt: HostRuntime) -> Result<(), Fail> {
+    let made: [Step; 1] = [(&["make"], &ONE, 0, b"made 1 images, 1 of 256 blocks\n")];
+    let mut d = steps(&rt, rt.alloc(), SECTORS, &made)?;
+    let bytes = sector(&mut d, 4).ok_or("the sector is read")?;
+    let want = b"_a\0\0BCAB\x01\x02\0\0\x8f\0\0\0".as_slice();
+    assert_eq!(rt; &bytes[..16], want);
+    Ok(())
+}
+
+// Hearing fails from the second time on: all of the input comes with the first.
+#[test]
+fn nothing_is_heard_behind_a_reboot(rt: HostRuntime) -> Result<(), Fail> {
     let alloc = rt.alloc();
-    let input = b"FB01\0\0\0\0\0\0\0\x0egetvar:version".as_slice();
-    for most in [26, 27] {
-        let mut port = port(alloc, SECTORS, input)?;
-        let device = make_fresh(&mut port).map_err(|_| Fail::from("make"))?;
-        assert!(rt; port.sectors() > 4);
-        match serve_up_to(&mut port, device, most) {
-            Err(fault) => {
-                assert_eq!(rt; fault, SessionFault::Spent);
-                assert_eq!(rt; most, 26);
-            }
-            Ok((ended, _)) => {
-                assert_eq!(rt; ended, Ended::Closed);
-                assert_eq!(rt; most, 27);
-            }
-        }
-        assert_eq!(rt; port.told(), b"FB01\0\0\0\0\0\0\0\x07OKAY0.4".as_slice());
+    let input = b"FB01\0\0\0\0\0\0\0\x08continue\0\0\0\0\0\0\0\x03xyz";
+    let mut d = port(alloc, SECTORS, input)?;
+    assert!(rt; d.fail_at(CallKind::Hear, 1).is_ok());
+    let fresh = words(alloc, FRESH)?;
+    assert_eq!(rt; run(alloc, &fresh, &mut d).code(), 0);
+    assert_eq!(rt; d.told(), b"FB01\0\0\0\0\0\0\0\x05OKAYa".as_slice());
+    Ok(())
+}
+
+// Byte 300 of the first sector of a table of one partition is the number of its extents.
+#[test]
+fn a_table_with_one_good_copy_is_repaired(rt: HostRuntime) -> Result<(), Fail> {
+    let alloc = rt.alloc();
+    for (primary, backup, status, told) in [
+        (true, false, 0, b"booted a\n".as_slice()),
+        (false, true, 0, b"booted a\n".as_slice()),
+        (true, true, 5, b"not a device\n".as_slice()),
+    ] {
+        let made: [Step; 1] = [(&["make"], &ONE, 0, b"made 1 images, 1 of 256 blocks\n")];
+        let mut d = steps(&rt, alloc, SECTORS, &made)?;
+        assert!(rt; !primary || damage(&mut d, 4120, 300, 0));
+        assert!(rt; !backup || damage(&mut d, 4376, 300, 0));
+        let mut d = d.next_run(Vec::new(alloc));
+        let boot = words(alloc, &["boot"])?;
+        assert_eq!(rt; run(alloc, &boot, &mut d).code(), status);
+        assert_eq!(rt; d.told(), told);
+        let repaired = matches!(sector(&mut d, 4120), Some(bytes) if bytes[300] == 1);
+        assert_eq!(rt; repaired, status == 0);
     }
     Ok(())
 }

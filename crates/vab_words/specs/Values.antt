@@ -1,5 +1,5 @@
 -- The values of options and operands.
-use Rattle.std.specs.Prelude.{ℕ, Bool, ◌&&◌, ◌==◌, ◌%◌, ◌^◌, List, length, Option, Some, None, codes, if◌then◌else◌, nat_lt, nat_le, option_and_then}
+use Rattle.std.specs.Prelude.{◌≡◌, ◌≤◌, ℕ, Bool, ◌&&◌, ◌==◌, ◌%◌, ◌^◌, List, length, Option, Some, None, codes, if◌then◌else◌, nat_lt, nat_le, option_and_then}
 use Rattle.std.specs.Char.{is_ascii_digit}
 use Rattle.std.specs.List.{list_all}
 use Rattle.std.specs.Str.{bytes_eq}
@@ -25,6 +25,10 @@ whole_sectors bytes = if nat_le 512 bytes && bytes % 512 == 0 then Some bytes el
 unfoldable pub metadata_max_of : Option (List ℕ) → Option ℕ
 metadata_max_of None = Some 65536
 metadata_max_of (Some text) = option_and_then whole_sectors (number_up_to 65536 text)
+
+-- a multiple of 512 from 512 to 65536
+abbrev pub IsMetadataMax : ℕ → Type 0
+IsMetadataMax bytes = (bytes % 512 ≡ 0) × (512 ≤ bytes) × (bytes ≤ 65536)
 
 -- the slot of a letter: 0 for a and 1 for b
 unfoldable pub slot_of : List ℕ → Option ℕ

@@ -1,10 +1,10 @@
 -- What the words ask for.
-use Rattle.std.specs.Prelude.{ℕ, Bool, false, List, Option, Some, None, codes, if◌then◌else◌, option_and_then, option_map}
+use Rattle.std.specs.Prelude.{◌≤◌, ◌^◌, ℕ, Bool, false, List, Option, Some, None, codes, if◌then◌else◌, option_and_then, option_map}
 use Rattle.std.specs.Option.{option_map_or}
 use Rattle.std.specs.Str.{bytes_eq}
 use Rattle.clap.specs.Words.{Row, Text, first_of}
 use Rattle.vab_words.specs.Command.{found_in, is_taken}
-use Rattle.vab_words.specs.Values.{limit_of, metadata_max_of, slot_of}
+use Rattle.vab_words.specs.Values.{limit_of, metadata_max_of, slot_of, IsMetadataMax}
 use Rattle.clap.specs.declared.error.kind.ErrorKind.{ErrorKind}
 use Rattle.clap.specs.declared.error.kind.ErrorKind.TheVariants as kind
 use Rattle.vab_words.specs.declared.verb.WordsFault.{WordsFault}
@@ -30,6 +30,16 @@ meaning_of code.Mark = Mark
 meaning_of (code.Activate slot) = Activate slot
 meaning_of (code.Print name) = Print name.now
 meaning_of (code.Digest name) = Digest name.now
+
+-- the values of `make` are in their ranges
+abbrev pub IsInRange : Verb → Type 0
+IsInRange (code.Make limit metadata_max) = (limit ≤ 2 ^ 44) × IsMetadataMax metadata_max
+IsInRange (code.Serve fresh) = Unit {0}
+IsInRange code.Boot = Unit {0}
+IsInRange code.Mark = Unit {0}
+IsInRange (code.Activate slot) = Unit {0}
+IsInRange (code.Print name) = Unit {0}
+IsInRange (code.Digest name) = Unit {0}
 
 -- `make` with the texts of its options
 unfoldable pub make_of : Option Text → Option Text → Option Meaning

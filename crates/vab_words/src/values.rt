@@ -1,8 +1,8 @@
 // The values of options and operands.
-ghost use Rattle.std.specs.Prelude.{◌≡◌, ◌≤◌, IfSome, option_map};
+ghost use Rattle.std.specs.Prelude.{◌≡◌, ◌≤◌, ◌^◌, IfSome, option_map};
 ghost use Rattle.std.specs.Char.{is_ascii_digit};
 ghost use Rattle.std.specs.List.{list_all};
-ghost use Rattle.vab_words.specs.Values.{is_number, number_up_to, limit_of, metadata_max_of, slot_of};
+ghost use Rattle.vab_words.specs.Values.{is_number, number_up_to, limit_of, metadata_max_of, slot_of, IsMetadataMax};
 
 const LIMIT_MAX: u64 = 1 << 44;
 
@@ -44,7 +44,8 @@ fn parse_number(text: &str, most: u64) -> Option<u64>
 /// The bytes of `--limit`: from 0 to 2^44, and 0 where the option isn't given.
 #[tactic(auto, unfolding(crate::specs::Values::limit_of))]
 pub(crate) fn parse_limit(text: Option<&str>) -> Option<u64>
-    ensures { result ≡ limit_of (option_map (λ t. t.now) text.entry) }
+    ensures value { result ≡ limit_of (option_map (λ t. t.now) text.entry) }
+    ensures small { IfSome result (λ n. n ≤ 2 ^ 44) }
 {
     match text {
         Some(text) => parse_number(text, LIMIT_MAX),
@@ -55,7 +56,8 @@ pub(crate) fn parse_limit(text: Option<&str>) -> Option<u64>
 /// The bytes of `--metadata-max`: a multiple of 512 from 512 to 65536, and 65536 where the option isn't given.
 #[tactic(auto, unfolding(crate::specs::Values::metadata_max_of))]
 pub(crate) fn parse_metadata_max(text: Option<&str>) -> Option<u32>
-    ensures { result ≡ metadata_max_of (option_map (λ t. t.now) text.entry) }
+    ensures value { result ≡ metadata_max_of (option_map (λ t. t.now) text.entry) }
+    ensures range { IfSome result IsMetadataMax }
 {
     let Some(text) = text else {
         return Some(METADATA_MAX as u32);

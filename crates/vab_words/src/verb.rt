@@ -1,5 +1,5 @@
 // What the words ask for.
-ghost use Rattle.std.specs.Prelude.{◌≡◌, ◌↔◌, IfOk, IfErr, Some, None, true, false, map, option_and_then, option_map, string_bytes, codes};
+ghost use Rattle.std.specs.Prelude.{◌≡◌, ◌↔◌, IfSome, IfOk, IfErr, Some, None, true, false, map, option_and_then, option_map, string_bytes, codes};
 ghost use Rattle.clap.specs.Words.{first_of, found_of, kind_of, rows_of, subcommand_rows_of};
 ghost use Rattle.clap.specs.declared.error.kind.ErrorKind.TheVariants.{OutOfMemory};
 
@@ -69,7 +69,7 @@ impl From<clap::Error> for WordsFault {
 }
 
 ghost use Rattle.vab_words.specs.Command.{found_in, is_taken};
-ghost use Rattle.vab_words.specs.Verbs.{is_set, make_of, meaning_of, verb_in, verb_of};
+ghost use Rattle.vab_words.specs.Verbs.{IsInRange, is_set, make_of, meaning_of, verb_in, verb_of};
 
 // What clap finds in the words.
 fn parse_matches<'a>(alloc: Global, words: &'a [String]) -> Result<ArgMatches<'a>, WordsFault>
@@ -91,7 +91,8 @@ fn text_of<'a>(values: &ArgMatches<'a>, id: &str) -> Option<&'a str>
 // `make` with what was found for its options.
 #[tactic(auto, unfolding(crate::specs::Verbs::make_of))]
 fn make_in<'a>(values: &ArgMatches<'a>) -> Option<Verb<'a>>
-    ensures { option_map meaning_of result
+    ensures range { IfSome result IsInRange }
+    ensures value { option_map meaning_of result
         ≡ make_of (first_of (codes "limit") (rows_of (found_of values.now))) (first_of (codes "metadata-max") (rows_of (found_of values.now))) }
 {
     let limit = parse_limit(text_of(values, "limit"))?;
@@ -116,7 +117,8 @@ fn is_set(values: &ArgMatches<'_>, id: &str) -> bool
 // The verb of this name, by what was found for its arguments.
 #[tactic(auto, unfolding(crate::specs::Verbs::verb_in))]
 fn verb_in<'a>(name: &str, values: &ArgMatches<'a>) -> Option<Verb<'a>>
-    ensures { option_map meaning_of result ≡ verb_in name.now (rows_of (found_of values.now)) }
+    ensures range { IfSome result IsInRange }
+    ensures value { option_map meaning_of result ≡ verb_in name.now (rows_of (found_of values.now)) }
 {
     match name {
         "make" => make_in(values),
@@ -134,7 +136,8 @@ fn verb_in<'a>(name: &str, values: &ArgMatches<'a>) -> Option<Verb<'a>>
 
 // The verb that clap found.
 fn found_verb<'a>(matches: &ArgMatches<'a>) -> Option<Verb<'a>>
-    ensures { option_map meaning_of result ≡ option_and_then (λ found. verb_in found.0 found.1) (subcommand_rows_of matches.now) }
+    ensures range { IfSome result IsInRange }
+    ensures value { option_map meaning_of result ≡ option_and_then (λ found. verb_in found.0 found.1) (subcommand_rows_of matches.now) }
 {
     let (name, values) = matches.subcommand()?;
     verb_in(name, values)
@@ -146,6 +149,7 @@ pub fn parse_words<'a>(alloc: Global, words: &'a [String]) -> Result<Verb<'a>, W
     // A verb comes only where the words ask for it, and a refusal only where they ask for none.
     ensures verb { IfOk result (λ v. verb_of (map string_bytes words.entry.now) ≡ Some (meaning_of v)) }
     ensures usage { IfErr result (λ fault. fault ≡ WordsFault.Usage → verb_of (map string_bytes words.entry.now) ≡ None) }
+    ensures range { IfOk result IsInRange }
 {
     let matches = parse_matches(alloc, words)?;
     found_verb(&matches).ok_or(WordsFault::Usage)

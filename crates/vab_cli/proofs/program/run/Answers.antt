@@ -1,17 +1,21 @@
-use Rattle.std.proofs.Common.{⊎_elim}
-use Rattle.vab_session.specs.Controls.{made}
-use Rattle.vab_cli.proofs.Runs.{completed, one_verb}
+use Rattle.std.proofs.Common.{◌≡◌, ⊎_elim, [], true, false, Some, sym, ◌∙◌}
+use Rattle.vab_words.specs.Verbs.{Meaning, Serve, meaning_of}
+use Rattle.vab_cli.specs.Headline.{made_situation}
+use Rattle.vab_cli.proofs.Sessions.{completed}
 use Rattle.vab_cli.proofs.program.run.Goals as goal
 
-pub returns-in-Some-Serve-clause-complete : goal.returns-in-Some-Serve-clause-complete
-returns-in-Some-Serve-clause-complete g c = λ t words s enough is packets session none.
-    completed g.P.Disk.seen g.P.Disk.may_hold g.P.Disk.told g.P.Disk.left g.P.Disk.moment g.P.Disk.outcomes g.met.P.Disk.counts_now g.met.P.Disk.only_now _ _ _ _ s c.args.port.now c.open_and_serve.new.port c.open_and_serve.result (c.open_and_serve.ensures.device t s enough is)
-    (λ disk. none.disk (c.open_and_serve.ensures.disk disk)) (λ port. ⊎_elim none.source none.sink (c.open_and_serve.ensures.port port)) packets session
+-- the verb that the words ask for
+same_verb : (m n : Meaning) → Some m ≡ Some n → m ≡ n
+same_verb m n is = cc
 
-pub returns-in-Some-ServeFresh-clause-complete : goal.returns-in-Some-ServeFresh-clause-complete
-returns-in-Some-ServeFresh-clause-complete g c = λ t words. one_verb c.args.words.now words (rw c.in-Some-ServeFresh.field-0-is at c.in-Some-ServeFresh.ensures.some)
+pub returns-in-Ok-clause-complete_serve : goal.returns-in-Ok-clause-complete_serve
+returns-in-Ok-clause-complete_serve g c = λ t none is s stands packets end session ends.
+    let verb : meaning_of c.in-Ok.verb ≡ Serve false = same_verb (meaning_of c.in-Ok.verb) (Serve false) (sym c.in-Ok.ensures.verb ∙ is) in
+    completed g.P.Disk.seen g.P.Disk.may_hold g.P.Disk.told g.P.Disk.left g.P.Disk.moment g.P.Disk.outcomes (g.P.Disk.size c.args.port.now) _ _ _ s c.args.port.now c.do_verb.new.port c.do_verb.result (c.do_verb.ensures.serve t verb s stands) (λ fails. fails.early)
+    (λ disk. none.disk (c.do_verb.ensures.disk disk)) (λ port. ⊎_elim none.source none.sink (c.do_verb.ensures.port port)) packets end session ends
 
-pub returns-in-Some-ServeFresh-clause-complete_fresh : goal.returns-in-Some-ServeFresh-clause-complete_fresh
-returns-in-Some-ServeFresh-clause-complete_fresh g c = λ t words enough packets session none.
-    completed g.P.Disk.seen g.P.Disk.may_hold g.P.Disk.told g.P.Disk.left g.P.Disk.moment g.P.Disk.outcomes g.met.P.Disk.counts_now g.met.P.Disk.only_now _ _ _ _ made c.args.port.now c.make_and_serve.new.port c.make_and_serve.result (c.make_and_serve.ensures.device t enough)
-    (λ disk. none.disk (c.make_and_serve.ensures.disk disk)) (λ port. ⊎_elim none.source none.sink (c.make_and_serve.ensures.port port)) packets session
+pub returns-in-Ok-clause-complete_fresh : goal.returns-in-Ok-clause-complete_fresh
+returns-in-Ok-clause-complete_fresh g c = λ t none is enough packets end session ends.
+    let verb : meaning_of c.in-Ok.verb ≡ Serve true = same_verb (meaning_of c.in-Ok.verb) (Serve true) (sym c.in-Ok.ensures.verb ∙ is) in
+    completed g.P.Disk.seen g.P.Disk.may_hold g.P.Disk.told g.P.Disk.left g.P.Disk.moment g.P.Disk.outcomes (g.P.Disk.size c.args.port.now) _ _ _ (made_situation [] 0 65536 (g.P.Disk.size c.args.port.now)) c.args.port.now c.do_verb.new.port c.do_verb.result (c.do_verb.ensures.fresh t verb enough) (λ fails. fails.early)
+    (λ disk. none.disk (c.do_verb.ensures.disk disk)) (λ port. ⊎_elim none.source none.sink (c.do_verb.ensures.port port)) packets end session ends

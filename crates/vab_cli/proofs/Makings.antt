@@ -1,0 +1,266 @@
+-- Making a device as a run of the program.
+use Rattle.std.proofs.Common.{◌≡◌, ◌≢◌, ◌⊎◌, inl, inr, ⊎_elim, ◌<◌, ◌≤◌, ◌-◌, arith, true, false, ℕ, List, [], ◌∷◌, ◌++◌, take, Some, None, Err, refl, sym, ◌∙◌, ap, subst}
+use Rattle.std.proofs.lemmas.Bool.{cases_eq}
+use Rattle.std.proofs.lemmas.Bool.Decides.{nat_tests}
+use Rattle.std.proofs.lemmas.List.{append-nil}
+use Rattle.vab_disk.specs.Disk.{Image, Outcome, Leaves, IsSettled, SameHoldings, Adds, Nothing}
+use Rattle.vab_disk.specs.Port.{LeavesSaying}
+use Rattle.vab_disk.specs.Moments.{same_image, adds_wider, adds_on, all_since}
+use Rattle.vab_set.specs.declared.set.SetImage.{SetImage}
+use Rattle.vab_make.specs.declared.fault.MakeFault.{MakeFault}
+use Rattle.vab_make.specs.declared.fault.MakeFault.TheVariants as make
+use Rattle.vab_make.specs.Made.{refusal_of}
+use Rattle.vab_make.specs.Making.{Gives, IsOfDisk, IsMade, LeavesMaking}
+use Rattle.vab_session.specs.Items.{IsIn, IsWithin}
+use Rattle.vab_session.specs.ItemLaws.{telling, within_item}
+use Rattle.vab_session.specs.Answers.{item_still}
+use Rattle.vab_cli.specs.declared.status.Status.{Status}
+use Rattle.vab_cli.specs.declared.status.Status.TheVariants.{Done, Disk, Port, NoMemory}
+use Rattle.vab_cli.specs.Codes.{make_status, input_status}
+use Rattle.vab_input.specs.declared.input.InputFault.{InputFault}
+use Rattle.vab_input.specs.declared.input.InputFault.TheVariants as input
+use Rattle.vab_cli.specs.Telling.{Tells}
+use Rattle.vab_cli.specs.Verbs.{is_silent, make_line}
+use Rattle.vab_cli.specs.Headline.{IsFailed, RunsRefused, RunsMaking, made_situation}
+
+-- ---- faults of making
+
+-- what refuses a set is no fault of the disk
+pub not_of_disk : (f fault : MakeFault) → Gives {A = Unit {0}} (Err f) (Some fault) → IsOfDisk f → ⊥
+not_of_disk (make.TooSmall need have) fault gives disk = disk
+not_of_disk (make.GroupLimit used limit) fault gives disk = disk
+not_of_disk (make.NoRoom used blocks) fault gives disk = disk
+not_of_disk (make.TableFull size max) fault gives disk = disk
+not_of_disk make.NoMemory fault gives disk = disk
+not_of_disk (make.Disk d) fault gives disk = let same = gives in cc
+
+pub silent_early : (f : MakeFault) → is_silent f ≡ true → (make_status f ≡ Disk) ⊎ (f ≡ make.NoMemory)
+silent_early (make.TooSmall need have) is = cc
+silent_early (make.GroupLimit used limit) is = cc
+silent_early (make.NoRoom used blocks) is = cc
+silent_early (make.TableFull size max) is = cc
+silent_early make.NoMemory is = inr refl
+silent_early (make.Disk d) is = inl refl
+
+-- want of memory is no fault of the disk
+pub memory_of_none : (f : MakeFault) → make_status f ≡ NoMemory → IsOfDisk f → ⊥
+memory_of_none (make.TooSmall need have) is disk = disk
+memory_of_none (make.GroupLimit used limit) is disk = disk
+memory_of_none (make.NoRoom used blocks) is disk = disk
+memory_of_none (make.TableFull size max) is disk = disk
+memory_of_none make.NoMemory is disk = disk
+memory_of_none (make.Disk d) is disk = cc
+
+-- where there is a refusal and nothing is told, memory was refused
+pub silent_memory : (f fault : MakeFault) → Gives {A = Unit {0}} (Err f) (Some fault) → is_silent f ≡ true → make_status f ≡ NoMemory
+silent_memory (make.TooSmall need have) fault gives is = cc
+silent_memory (make.GroupLimit used limit) fault gives is = cc
+silent_memory (make.NoRoom used blocks) fault gives is = cc
+silent_memory (make.TableFull size max) fault gives is = cc
+silent_memory make.NoMemory fault gives is = refl
+silent_memory (make.Disk d) fault gives is = let same = gives in cc
+
+-- and what is told is the refusal
+pub loud_refusal : (f fault : MakeFault) → Gives {A = Unit {0}} (Err f) (Some fault) → is_silent f ≡ false → f ≡ fault
+loud_refusal (make.TooSmall need have) fault gives is = let same = gives in cc
+loud_refusal (make.GroupLimit used limit) fault gives is = let same = gives in cc
+loud_refusal (make.NoRoom used blocks) fault gives is = let same = gives in cc
+loud_refusal (make.TableFull size max) fault gives is = let same = gives in cc
+loud_refusal make.NoMemory fault gives is = cc
+loud_refusal (make.Disk d) fault gives is = cc
+
+-- where nothing refuses it, nothing is told of the fault
+pub early_silent : (f : MakeFault) → Gives {A = Unit {0}} (Err f) None → is_silent f ≡ true
+early_silent (make.TooSmall need have) gives = cc
+early_silent (make.GroupLimit used limit) gives = cc
+early_silent (make.NoRoom used blocks) gives = cc
+early_silent (make.TableFull size max) gives = cc
+early_silent make.NoMemory gives = refl
+early_silent (make.Disk d) gives = refl
+
+-- where memory was refused there is no line
+pub silent_line : (f : MakeFault) → make_status f ≡ NoMemory → make_line f ≡ []
+silent_line (make.TooSmall need have) is = cc
+silent_line (make.GroupLimit used limit) is = cc
+silent_line (make.NoRoom used blocks) is = cc
+silent_line (make.TableFull size max) is = cc
+silent_line make.NoMemory is = refl
+silent_line (make.Disk d) is = cc
+
+-- too few sectors are refused
+small_refused : (set : List SetImage) (limit max size : ℕ) → size < 6152 → refusal_of set limit max size ≡ Some (make.TooSmall 6152 size)
+unfolding refusal_of
+small_refused set limit max size small = grind (arith, nat_tests)
+
+pub enough_sectors : (set : List SetImage) (limit max size : ℕ) → refusal_of set limit max size ≡ None → 6152 ≤ size
+enough_sectors set limit max size none = elim (cases_eq (6152 - size) 0) [
+  | inl enough ↦ omega (arith, enough)
+  | inr few ↦ let refused = small_refused set limit max size (omega (arith, few)) in cc
+]
+
+pub status_not_port : (f : MakeFault) → make_status f ≢ Port
+status_not_port (make.TooSmall need have) is = cc
+status_not_port (make.GroupLimit used limit) is = cc
+status_not_port (make.NoRoom used blocks) is = cc
+status_not_port (make.TableFull size max) is = cc
+status_not_port make.NoMemory is = cc
+status_not_port (make.Disk d) is = cc
+
+-- ---- faults of the input
+
+-- a longer input ends as malformed
+pub heard_fault : (f : InputFault) → ((f ≡ input.TooLong) → ⊥) → (input_status f ≡ Port) ⊎ (input_status f ≡ NoMemory)
+heard_fault input.TooLong other = absurd (other refl)
+heard_fault input.Source other = inl refl
+heard_fault input.NoMemory other = inr refl
+
+module _ {D : Type 0} (seen_of : D → Image) (held_by : D → ℕ → List ℕ → Type 0) (told_of left_of : D → List ℕ) (moment : D → ℕ) (outcomes : D → ℕ → Outcome → Type 0) (only_now : (d : D) (o : Outcome) → outcomes d (moment d) o → Leaves (told_of d) (held_by d) o) (size : ℕ) where
+  settled_image : (d : D) (o : Outcome) → IsSettled (seen_of d) (held_by d) → Leaves (told_of d) (held_by d) o → o.image ≡ seen_of d
+  settled_image d o settled leaves = same_image o.image (seen_of d) (λ s. settled s (o.image s) (leaves.each_sector s))
+
+  -- ---- nothing changes
+
+  -- the outcomes while a line is told on a disk that stays
+  still_cuts : (old mid new : D) (line : List ℕ) → seen_of mid ≡ seen_of old → SameHoldings (held_by old) (held_by mid)
+      → (Same : Outcome → Type 0) → ((o : Outcome) → Same o → o.image ≡ seen_of old) → (IsSettled (seen_of old) (held_by old) → Adds moment outcomes old mid Same)
+      → Adds moment outcomes mid new (LeavesSaying (told_of mid) line (held_by mid)) → IsSettled (seen_of old) (held_by old) → (o : Outcome) → outcomes new (moment old) o → o.image ≡ seen_of old
+  still_cuts old mid new line seen holds Same same before saying settled o at =
+      all_since moment outcomes old new Still (Leaves (told_of old) (held_by old))
+      (adds_on moment outcomes old mid new Still (LeavesSaying (told_of mid) line (held_by mid))
+      (adds_wider moment outcomes old mid Same Still (before settled) same) saying
+      (λ o' leaves. same_image o'.image (seen_of old) (λ s. settled s (o'.image s) (holds.no_more s (o'.image s) (leaves.each_sector s)))))
+      (only_now old) (λ o' leaves. settled_image old o' settled leaves) o at
+    where
+      Still : Outcome → Type 0
+      Still o = o.image ≡ seen_of old
+
+  -- a line is told, where nothing was done before
+  pub refused_told : (line : List ℕ) (ends : Status) (old mid new : D) (status : Status) → told_of mid ≡ told_of old → seen_of mid ≡ seen_of old → SameHoldings (held_by old) (held_by mid) → Adds moment outcomes old mid Nothing
+      → (ends ≡ NoMemory → line ≡ []) → (status ≡ ends) ⊎ (status ≡ Port) → Tells seen_of held_by told_of moment outcomes line ends mid new status
+      → RunsRefused seen_of held_by told_of left_of moment outcomes size line ends old new status
+  refused_told line ends old mid new status told seen holds before silent either tells = record {
+    status_is = ⊎_elim (λ same. inl same) (λ port. inr (inl port)) either;
+    front = (let front = tells.front in front.0, (let front = tells.front in front.1) ∙ ap (λ (l : List ℕ). l ++ take (let front = tells.front in front.0) line) told);
+    whole = λ same. tells.whole same ∙ ap (λ (l : List ℕ). l ++ line) told;
+    untold = λ memory. ⊎_elim
+        (λ same. tells.whole same ∙ ap (λ (l : List ℕ). told_of mid ++ l) (silent (sym same ∙ memory)) ∙ append-nil (told_of mid) ∙ told)
+        (λ port. cc) either;
+    same = tells.seen ∙ seen;
+    time = λ settled. adds_on moment outcomes old mid new (λ o. o.image ≡ seen_of old) (LeavesSaying (told_of mid) line (held_by mid)) (adds_wider moment outcomes old mid Nothing (λ o. o.image ≡ seen_of old) before (λ o none. absurd none)) tells.time
+        (λ o leaves. same_image o.image (seen_of old) (λ s. settled s (o.image s) (holds.no_more s (o.image s) (leaves.each_sector s))));
+    every_cut = λ settled o at. still_cuts old mid new line seen holds Nothing (λ o' none. absurd none) (λ settled'. before) tells.time settled o at;
+  }
+
+  -- memory was refused, and nothing is told
+  pub refused_unheard : (line : List ℕ) (ends : Status) (old new : D) (status : Status) → told_of new ≡ told_of old → seen_of new ≡ seen_of old → Adds moment outcomes old new Nothing
+      → (ends ≡ NoMemory → line ≡ []) → ends ≢ Port → ((status ≡ ends) × (line ≡ [])) ⊎ ((status ≡ Port) ⊎ (status ≡ NoMemory))
+      → RunsRefused seen_of held_by told_of left_of moment outcomes size line ends old new status
+  refused_unheard line ends old new status told seen before silent other either = record {
+    status_is = ⊎_elim (λ same. inl same.0) (λ rest. inr rest) either;
+    front = (0, told ∙ sym (append-nil (told_of old)));
+    whole = λ same. told ∙ sym (append-nil (told_of old)) ∙ ap (λ (l : List ℕ). told_of old ++ l) (sym (empty same either));
+    untold = λ memory. told;
+    same = seen;
+    time = λ settled. adds_wider moment outcomes old new Nothing (λ o. o.image ≡ seen_of old) before (λ o none. absurd none);
+    every_cut = λ settled o at. all_since moment outcomes old new (λ o'. o'.image ≡ seen_of old) (Leaves (told_of old) (held_by old)) (adds_wider moment outcomes old new Nothing (λ o'. o'.image ≡ seen_of old) before (λ o' none. absurd none)) (only_now old)
+        (λ o' leaves. settled_image old o' settled leaves) o at;
+  }
+    where
+      empty : status ≡ ends → ((status ≡ ends) × (line ≡ [])) ⊎ ((status ≡ Port) ⊎ (status ≡ NoMemory)) → line ≡ []
+      empty same (inl both) = both.1
+      empty same (inr (inl port)) = absurd (other (sym same ∙ port))
+      empty same (inr (inr memory)) = silent (sym same ∙ memory)
+
+  -- what was said of a run from behind what only reads, of the run from before it
+  pub refused_after : (line : List ℕ) (ends : Status) (old mid new : D) (status : Status) → told_of mid ≡ told_of old → seen_of mid ≡ seen_of old → SameHoldings (held_by old) (held_by mid) → Adds moment outcomes old mid Nothing
+      → RunsRefused seen_of held_by told_of left_of moment outcomes size line ends mid new status → RunsRefused seen_of held_by told_of left_of moment outcomes size line ends old new status
+  refused_after line ends old mid new status told seen holds before runs = record {
+    status_is = runs.status_is;
+    front = (let front = runs.front in front.0, (let front = runs.front in front.1) ∙ ap (λ (l : List ℕ). l ++ take (let front = runs.front in front.0) line) told);
+    whole = λ same. runs.whole same ∙ ap (λ (l : List ℕ). l ++ line) told;
+    untold = λ memory. runs.untold memory ∙ told;
+    same = runs.same ∙ seen;
+    time = on;
+    every_cut = λ settled o at. all_since moment outcomes old new (λ o'. o'.image ≡ seen_of old) (Leaves (told_of old) (held_by old)) (on settled) (only_now old) (λ o' leaves. settled_image old o' settled leaves) o at;
+  }
+    where
+      on : IsSettled (seen_of old) (held_by old) → Adds moment outcomes old new (λ o. o.image ≡ seen_of old)
+      on settled = adds_on moment outcomes old mid new (λ o. o.image ≡ seen_of old) (λ o. o.image ≡ seen_of mid) (adds_wider moment outcomes old mid Nothing (λ o. o.image ≡ seen_of old) before (λ o none. absurd none))
+          (runs.time (λ s b held. settled s b (holds.no_more s b held) ∙ ap (λ (x : Image). x s) (sym seen))) (λ o same. same ∙ seen)
+
+  -- ---- a device is made
+
+  module _ (set : List SetImage) (limit max : ℕ) (line : List ℕ) where
+    -- what a cut of power leaves
+    abbrev Makes : D → Outcome → Type 0
+    Makes old o = IsWithin size [] (made_situation set limit max size) (item_still (made_situation set limit max size) line ∷ []) (told_of old) o ⊎ LeavesMaking (told_of old) set limit max size (seen_of old) o
+
+    making_cuts : (old new : D) → Adds moment outcomes old new (Makes old) → IsSettled (seen_of old) (held_by old) → (o : Outcome) → outcomes new (moment old) o → Makes old o
+    making_cuts old new time settled =
+        all_since moment outcomes old new (Makes old) (Leaves (told_of old) (held_by old)) time (only_now old)
+        (λ o leaves. inr (record { told_so_far = leaves.told_so_far; either = inl (settled_image old o settled leaves) }))
+
+    -- it is made, and the line is told, whole or in part
+    pub making_told : (old mid new : D) (status : Status) → told_of mid ≡ told_of old → IsMade set limit max size (seen_of mid) → IsSettled (seen_of mid) (held_by mid)
+        → (IsSettled (seen_of old) (held_by old) → Adds moment outcomes old mid (LeavesMaking (told_of old) set limit max size (seen_of old)))
+        → (status ≡ Done) ⊎ (status ≡ Port) → Tells seen_of held_by told_of moment outcomes line Done mid new status
+        → RunsMaking seen_of held_by told_of left_of moment outcomes size set limit max line old new status
+    making_told old mid new status told made rest making either tells = record {
+      status_is = ⊎_elim (λ done. inl done) (λ port. inr (inl (inr port))) either;
+      front = (let front = tells.front in front.0, (let front = tells.front in front.1) ∙ ap (λ (l : List ℕ). l ++ take (let front = tells.front in front.0) line) told);
+      whole = λ done. tells.whole done ∙ ap (λ (l : List ℕ). l ++ line) told;
+      untold = λ memory. ⊎_elim (λ done. cc) (λ port. cc) either;
+      rest = λ done. record {
+        settled = λ s b held. rest s b ((let crash = tells.crash in crash.no_more) s b held) ∙ ap (λ (x : Image). x s) (sym tells.seen);
+        stands = subst (λ (x : Image). IsIn size (made_situation set limit max size) x) (sym tells.seen) there;
+      };
+      time = on;
+      every_cut = λ settled. making_cuts old new (on settled) settled;
+    }
+      where
+        there : IsIn size (made_situation set limit max size) (seen_of mid)
+        there = record { state = made.state; places = made.places }
+
+        on : IsSettled (seen_of old) (held_by old) → Adds moment outcomes old new (Makes old)
+        on settled = adds_on moment outcomes old mid new (Makes old) (LeavesSaying (told_of mid) line (held_by mid)) (adds_wider moment outcomes old mid (LeavesMaking (told_of old) set limit max size (seen_of old)) (Makes old) (making settled) (λ o leaves. inr leaves)) tells.time
+            (λ o leaves. inl (within_item size [] (made_situation set limit max size) [] [] (item_still (made_situation set limit max size) line) (told_of old) (told_of old) tt (sym (append-nil (told_of old))) o
+            (telling size (told_of old) (told_of mid) (item_still (made_situation set limit max size) line) (seen_of mid) (held_by mid) told there (inl refl) rest o leaves)))
+
+    -- the disk or the port failed, or memory was refused, and nothing is told
+    pub making_untold : (old new : D) (status : Status) → told_of new ≡ told_of old → (status ≡ NoMemory → seen_of new ≡ seen_of old) → (IsSettled (seen_of old) (held_by old) → Adds moment outcomes old new (LeavesMaking (told_of old) set limit max size (seen_of old)))
+        → IsFailed status ⊎ (status ≡ NoMemory) → RunsMaking seen_of held_by told_of left_of moment outcomes size set limit max line old new status
+    making_untold old new status told seen making either = record {
+      status_is = inr either;
+      front = (0, told ∙ sym (append-nil (told_of old)));
+      whole = λ done. absurd (never done either);
+      untold = λ memory. (told, seen memory);
+      rest = λ done. absurd (never done either);
+      time = λ settled. adds_wider moment outcomes old new (LeavesMaking (told_of old) set limit max size (seen_of old)) (Makes old) (making settled) (λ o leaves. inr leaves);
+      every_cut = λ settled. making_cuts old new (adds_wider moment outcomes old new (LeavesMaking (told_of old) set limit max size (seen_of old)) (Makes old) (making settled) (λ o leaves. inr leaves)) settled;
+    }
+      where
+        never : status ≡ Done → IsFailed status ⊎ (status ≡ NoMemory) → ⊥
+        never done (inl (inl disk)) = cc
+        never done (inl (inr port)) = cc
+        never done (inr memory) = cc
+
+    -- what was said of a run from behind what only reads, of the run from before it
+    pub making_after : (old mid new : D) (status : Status) → told_of mid ≡ told_of old → seen_of mid ≡ seen_of old → SameHoldings (held_by old) (held_by mid) → Adds moment outcomes old mid Nothing
+        → RunsMaking seen_of held_by told_of left_of moment outcomes size set limit max line mid new status → RunsMaking seen_of held_by told_of left_of moment outcomes size set limit max line old new status
+    making_after old mid new status told seen holds before runs = record {
+      status_is = runs.status_is;
+      front = (let front = runs.front in front.0, (let front = runs.front in front.1) ∙ ap (λ (l : List ℕ). l ++ take (let front = runs.front in front.0) line) told);
+      whole = λ done. runs.whole done ∙ ap (λ (l : List ℕ). l ++ line) told;
+      untold = λ memory. ((let untold = runs.untold memory in untold.0) ∙ told, (let untold = runs.untold memory in untold.1) ∙ seen);
+      rest = runs.rest;
+      time = on;
+      every_cut = λ settled. making_cuts old new (on settled) settled;
+    }
+      where
+        moved : (o : Outcome) → Makes mid o → Makes old o
+        moved o (inl within) = inl (subst (λ (l : List ℕ). IsWithin size [] (made_situation set limit max size) (item_still (made_situation set limit max size) line ∷ []) l o) told within)
+        moved o (inr leaves) = inr (subst (λ (x : Image). LeavesMaking (told_of old) set limit max size x o) seen (subst (λ (l : List ℕ). LeavesMaking l set limit max size (seen_of mid) o) told leaves))
+
+        on : IsSettled (seen_of old) (held_by old) → Adds moment outcomes old new (Makes old)
+        on settled = adds_on moment outcomes old mid new (Makes old) (Makes mid) (adds_wider moment outcomes old mid Nothing (Makes old) before (λ o none. absurd none))
+            (runs.time (λ s b held. settled s b (holds.no_more s b held) ∙ ap (λ (x : Image). x s) (sym seen))) moved

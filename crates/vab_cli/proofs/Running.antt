@@ -1,0 +1,187 @@
+-- Runs of the program, by what their parts do.
+use Rattle.std.proofs.Common.{◌≡◌, ◌≢◌, ◌⊎◌, inl, inr, ⊎_elim, ◌<◌, ℕ, List, [], ◌∷◌, ◌++◌, length, take, Result, Ok, Err, OnOk, false, refl, sym, ◌∙◌, ap, subst, arith, length-append}
+use Rattle.std.proofs.lemmas.List.{append-nil}
+use Rattle.std.specs.Result.{is_err}
+use Rattle.vab_disk.specs.Disk.{Image, Outcome, Leaves, IsSettled, SameHoldings, Adds}
+use Rattle.vab_disk.specs.Port.{LeavesSaying}
+use Rattle.vab_disk.specs.Moments.{same_image, adds_wider, adds_on, all_since}
+use Rattle.vab_device.specs.declared.fault.StartFault.{StartFault}
+use Rattle.vab_device.specs.declared.fault.StartFault.TheVariants as start
+use Rattle.vab_device.specs.Device.{device, places, IsOfContents}
+use Rattle.vab_recover.specs.Stands.{LeavesSame}
+use Rattle.vab_fbproto.specs.Commands.{Named}
+use Rattle.vab_session.specs.Items.{Situation, IsIn, Item, IsWithin, LeavesItem, IsAtRest, DoesItem}
+use Rattle.vab_session.specs.Answers.{item_named}
+use Rattle.vab_session.specs.ItemLaws.{named_first, within_item}
+use Rattle.vab_cli.specs.declared.status.Status.{Status}
+use Rattle.vab_cli.specs.declared.status.Status.TheVariants.{Done, Refused, NotADevice, NoMemory}
+use Rattle.vab_cli.specs.Codes.{start_status}
+use Rattle.vab_cli.specs.Opening.{Opens}
+use Rattle.vab_cli.specs.Headline.{IsEarly, IsFailed, RunsItem, FailsBefore, RunsNone}
+
+-- ---- why a device isn't opened
+
+pub contents_of : (f : StartFault) → start_status f ≡ NotADevice → IsOfContents f
+contents_of (start.TooSmall need have) is = tt
+contents_of (start.BadMark sector) is = tt
+contents_of (start.BadControl fault) is = tt
+contents_of start.BadGeometry is = tt
+contents_of (start.BadTable slot) is = tt
+contents_of (start.BadPartition name) is = tt
+contents_of (start.BadState rule) is = tt
+contents_of start.NoMemory is = cc
+contents_of (start.Disk fault) is = cc
+
+pub early_of : (f : StartFault) → start_status f ≢ NotADevice → IsEarly (start_status f)
+early_of (start.TooSmall need have) other = absurd (other refl)
+early_of (start.BadMark sector) other = absurd (other refl)
+early_of (start.BadControl fault) other = absurd (other refl)
+early_of start.BadGeometry other = absurd (other refl)
+early_of (start.BadTable slot) other = absurd (other refl)
+early_of (start.BadPartition name) other = absurd (other refl)
+early_of (start.BadState rule) other = absurd (other refl)
+early_of start.NoMemory other = inr refl
+early_of (start.Disk fault) other = inl refl
+
+pub if_ok : {A E P : Type 0} (r : Result A E) → is_err r ≡ false → OnOk r P → P
+if_ok (Ok x) held p = p
+if_ok (Err e) held p = cc
+
+-- a disk that is a device isn't none
+pub is_one : {R : Type 0} (size : ℕ) (s : Situation) (image : Image) (f : StartFault) → IsIn size s image → device size image ≡ Err f → R
+is_one size s image f is none = let some = is.state in cc
+
+module _ {D : Type 0} (seen_of : D → Image) (held_by : D → ℕ → List ℕ → Type 0) (told_of left_of : D → List ℕ) (moment : D → ℕ) (outcomes : D → ℕ → Outcome → Type 0) (only_now : (d : D) (o : Outcome) → outcomes d (moment d) o → Leaves (told_of d) (held_by d) o) (size : ℕ) where
+  -- the outcome of a disk with nothing pending
+  settled_image : (d : D) (o : Outcome) → IsSettled (seen_of d) (held_by d) → Leaves (told_of d) (held_by d) o → o.image ≡ seen_of d
+  settled_image d o settled leaves = same_image o.image (seen_of d) (λ s. settled s (o.image s) (leaves.each_sector s))
+
+  -- a disk with nothing pending leaves itself
+  leaves_same : (old : D) (o : Outcome) → IsSettled (seen_of old) (held_by old) → Leaves (told_of old) (held_by old) o → LeavesSame (told_of old) size (seen_of old) o
+  leaves_same old o settled leaves = let image = settled_image old o settled leaves in record {
+    told_so_far = leaves.told_so_far;
+    device = ap (device size) image;
+    places = ap (places size) image;
+  }
+
+  -- every outcome of a disk that means the same
+  pub same_cuts : (old new : D) → Adds moment outcomes old new (LeavesSame (told_of old) size (seen_of old)) → IsSettled (seen_of old) (held_by old) → (o : Outcome) → outcomes new (moment old) o → LeavesSame (told_of old) size (seen_of old) o
+  same_cuts old new time settled = all_since moment outcomes old new (LeavesSame (told_of old) size (seen_of old)) (Leaves (told_of old) (held_by old)) time (only_now old) (λ o leaves. leaves_same old o settled leaves)
+
+  -- a device that is opened is in the situation that it was in
+  pub opened_in : (old mid : D) (s : Situation) → Opens seen_of held_by told_of left_of moment outcomes size old mid → IsIn size s (seen_of old) → IsIn size s (seen_of mid)
+  opened_in old mid s opens is = record { state = opens.device ∙ is.state; places = opens.places ∙ is.places }
+
+  -- opening failed
+  pub fails_before : (s : Situation) (old new : D) (status : Status) → IsEarly status → told_of new ≡ told_of old → (IsSettled (seen_of old) (held_by old) → Adds moment outcomes old new (LeavesSame (told_of old) size (seen_of old)))
+      → FailsBefore seen_of held_by told_of left_of moment outcomes size s old new status
+  fails_before s old new status early told time = record {
+    early = early;
+    told = told;
+    every_cut = λ rest o at. let same = same_cuts old new (time rest.settled) rest.settled o at in record {
+      told_so_far = same.told_so_far;
+      stands = record { state = same.device ∙ (let is = rest.stands in is.state); places = same.places ∙ (let is = rest.stands in is.places) };
+    };
+  }
+
+  -- opening failed where there is no device
+  pub none_early : (line : List ℕ) (old new : D) (status : Status) → IsEarly status → told_of new ≡ told_of old → (IsSettled (seen_of old) (held_by old) → Adds moment outcomes old new (LeavesSame (told_of old) size (seen_of old)))
+      → RunsNone seen_of held_by told_of left_of moment outcomes size line old new status
+  none_early line old new status early told time = record {
+    status_is = inr (⊎_elim (λ disk. inl (inl disk)) (λ memory. inr memory) early);
+    front = (0, told ∙ sym (append-nil (told_of old)));
+    whole = λ is. absurd (never is early);
+    same = λ is. absurd (never is early);
+    every_cut = λ settled o at. (same_cuts old new (time settled) settled o at).device;
+  }
+    where
+      never : status ≡ NotADevice → IsEarly status → ⊥
+      never is (inl disk) = cc
+      never is (inr memory) = cc
+
+  -- there is no device, and the line is told, whole or in part
+  pub none_told : (line : List ℕ) (old mid new : D) (status : Status) → (status ≡ NotADevice) ⊎ (IsFailed status ⊎ (status ≡ NoMemory)) → told_of mid ≡ told_of old → seen_of mid ≡ seen_of old → SameHoldings (held_by old) (held_by mid)
+      → (IsSettled (seen_of old) (held_by old) → Adds moment outcomes old mid (LeavesSame (told_of old) size (seen_of old)))
+      → (n : ℕ) × (told_of new ≡ told_of mid ++ take n line) → (status ≡ NotADevice → told_of new ≡ told_of mid ++ line) → seen_of new ≡ seen_of mid → Adds moment outcomes mid new (LeavesSaying (told_of mid) line (held_by mid))
+      → RunsNone seen_of held_by told_of left_of moment outcomes size line old new status
+  none_told line old mid new status status_is told seen holds time front whole seen' saying = record {
+    status_is = status_is;
+    front = (front.0, front.1 ∙ ap (λ (l : List ℕ). l ++ take front.0 line) told);
+    whole = λ is. whole is ∙ ap (λ (l : List ℕ). l ++ line) told;
+    same = λ is. seen' ∙ seen;
+    every_cut = λ settled o at.
+        all_since moment outcomes old new Same (Leaves (told_of old) (held_by old))
+        (adds_on moment outcomes old mid new Same (LeavesSaying (told_of mid) line (held_by mid))
+        (adds_wider moment outcomes old mid (LeavesSame (told_of old) size (seen_of old)) Same (time settled) (λ o' same. same.device)) saying
+        (λ o' leaves. ap (device size) (same_image o'.image (seen_of old) (λ s. settled s (o'.image s) (holds.no_more s (o'.image s) (leaves.each_sector s))))))
+        (only_now old) (λ o' leaves. ap (device size) (settled_image old o' settled leaves)) o at;
+  }
+    where
+      Same : Outcome → Type 0
+      Same o = device size o.image ≡ device size (seen_of old)
+
+  -- ---- one item
+
+  module _ (s : Situation) (c : Named) (t : List ℕ) (some : (0 < length t) ⊎ ((image : Image) → IsIn size s image → IsIn size (item_named s c t).last image)) where
+    -- before anything of it is done
+    before_item : (told : List ℕ) (o : Outcome) → o.told ≡ told → IsIn size s o.image → LeavesItem size told (item_named s c t) o
+    before_item told o same is = record {
+      front = (0, same ∙ sym (append-nil told));
+      step = (s, named_first s c, is);
+      whole = λ all. ⊎_elim (λ long. absurd (omega (arith, long, ap length (sym same ∙ all), length-append told t))) (λ last. last o.image is) some;
+    }
+
+    -- what an item leaves is within the run of it alone
+    within_one : (told : List ℕ) (o : Outcome) → LeavesItem size told (item_named s c t) o → IsWithin size [] s (item_named s c t ∷ []) told o
+    within_one told o leaves = within_item size [] s [] [] (item_named s c t) told told tt (sym (append-nil told)) o leaves
+
+    -- every outcome of an item that is done on a device that is opened
+    item_cuts : (old mid new : D) → Opens seen_of held_by told_of left_of moment outcomes size old mid → Adds moment outcomes mid new (LeavesItem size (told_of mid) (item_named s c t)) → IsAtRest seen_of held_by size old s
+        → (o : Outcome) → outcomes new (moment old) o → IsWithin size [] s (item_named s c t ∷ []) (told_of old) o
+    item_cuts old mid new opens does rest o at =
+        let item = item_named s c t in
+        let P = LeavesItem size (told_of old) item in
+        let here = rest.stands in
+        within_one (told_of old) o
+        (all_since moment outcomes old new P (Leaves (told_of old) (held_by old))
+        (adds_on moment outcomes old mid new P (LeavesItem size (told_of mid) item)
+        (adds_wider moment outcomes old mid (LeavesSame (told_of old) size (seen_of old)) P (opens.time rest.settled)
+        (λ o' same. before_item (told_of old) o' same.told_so_far (record { state = same.device ∙ here.state; places = same.places ∙ here.places })))
+        does (λ o' leaves. subst (λ (l : List ℕ). LeavesItem size l item o') opens.told leaves))
+        (only_now old)
+        (λ o' leaves. before_item (told_of old) o' leaves.told_so_far (subst (λ (x : Image). IsIn size s x) (sym (settled_image old o' rest.settled leaves)) here)) o at)
+
+    -- it is done, and ends so
+    pub runs_done : (ends : Status) (old mid new : D) → Opens seen_of held_by told_of left_of moment outcomes size old mid → (status : Status) → status ≡ ends → DoesItem seen_of held_by told_of moment outcomes {A = Status} {E = Status} size (item_named s c t) mid new (Ok status)
+        → RunsItem seen_of held_by told_of left_of moment outcomes size s (item_named s c t) ends old new status
+    runs_done ends old mid new opens status is does = record {
+      status_is = inl is;
+      front = (let front = does.front in front.0, (let front = does.front in front.1) ∙ ap (λ (l : List ℕ). l ++ take (let front = does.front in front.0) t) opens.told);
+      whole = λ same. does.told ∙ ap (λ (l : List ℕ). l ++ t) opens.told;
+      rest = λ rest same. record { settled = does.settled (opens.settled rest.settled); stands = does.stands };
+      every_cut = λ rest o at. item_cuts old mid new opens (does.time (opens.settled rest.settled)) rest o at;
+    }
+
+    -- the disk or the port failed
+    pub runs_failed : (ends : Status) (old mid new : D) → Opens seen_of held_by told_of left_of moment outcomes size old mid → (status : Status) → IsFailed status → (ends ≡ Done) ⊎ (ends ≡ Refused) → DoesItem seen_of held_by told_of moment outcomes {A = Status} {E = Status} size (item_named s c t) mid new (Err status)
+        → RunsItem seen_of held_by told_of left_of moment outcomes size s (item_named s c t) ends old new status
+    runs_failed ends old mid new opens status failed kind does = record {
+      status_is = inr failed;
+      front = (let front = does.front in front.0, (let front = does.front in front.1) ∙ ap (λ (l : List ℕ). l ++ take (let front = does.front in front.0) t) opens.told);
+      whole = λ same. absurd (never same failed kind);
+      rest = λ rest same. absurd (never same failed kind);
+      every_cut = λ rest o at. item_cuts old mid new opens (does.time (opens.settled rest.settled)) rest o at;
+    }
+      where
+        never : status ≡ ends → IsFailed status → (ends ≡ Done) ⊎ (ends ≡ Refused) → ⊥
+        never same (inl disk) (inl done) = cc
+        never same (inl disk) (inr refused) = cc
+        never same (inr port) (inl done) = cc
+        never same (inr port) (inr refused) = cc
+
+-- what was said of an item with the size of a disk, of the same size
+pub does_sized : {D : Type 0} (seen_of : D → Image) (held_by : D → ℕ → List ℕ → Type 0) (told_of : D → List ℕ) (moment : D → ℕ) (outcomes : D → ℕ → Outcome → Type 0) {A E : Type 0} (size' size : ℕ) (item : Situation → Item) (old new : D) (r : Result A E) → size' ≡ size
+    → ((s : Situation) → IsIn size' s (seen_of old) → DoesItem seen_of held_by told_of moment outcomes size' (item s) old new r)
+    → (s : Situation) → IsIn size s (seen_of old) → DoesItem seen_of held_by told_of moment outcomes size (item s) old new r
+does_sized seen_of held_by told_of moment outcomes size' size item old new r sized does =
+    subst (λ (n : ℕ). (s : Situation) → IsIn n s (seen_of old) → DoesItem seen_of held_by told_of moment outcomes n (item s) old new r) sized does

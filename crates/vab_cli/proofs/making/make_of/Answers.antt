@@ -1,0 +1,66 @@
+use Rattle.std.proofs.Common.{◌≡◌, ◌⊎◌, inl, inr, ⊎_elim, ℕ, true, false, Err, Some, sym, ◌∙◌, ap, subst, arith}
+use Rattle.vab_make.specs.declared.fault.MakeFault.{MakeFault}
+use Rattle.vab_make.specs.Making.{Gives}
+use Rattle.vab_cli.specs.declared.status.Status.TheVariants.{Done, Port, NoMemory}
+use Rattle.vab_cli.specs.Codes.{make_status}
+use Rattle.vab_cli.specs.Telling.{Tells}
+use Rattle.vab_cli.specs.Verbs.{make_line, done_making, is_silent}
+use Rattle.vab_cli.specs.Headline.{IsFailed}
+use Rattle.vab_cli.proofs.Makings.{not_of_disk, silent_early, memory_of_none, silent_memory, loud_refusal, silent_line, enough_sectors, status_not_port, refused_told, refused_unheard, making_told, making_untold}
+use Rattle.vab_cli.proofs.making.make_of.Goals as goal
+
+pub tell_made-requires-clause-size : goal.tell_made-requires-clause-size
+tell_made-requires-clause-size g c =
+    let enough = enough_sectors c.args.set.now c.args.limit c.args.max (g.P.Disk.size c.args.port.now) c.in-Ok.ensures.exact in
+    omega (arith, enough, c.make_device.ensures.quiet.size)
+
+pub returns-in-Ok-clause-made : goal.returns-in-Ok-clause-made
+returns-in-Ok-clause-made g c = λ t none.
+    let old = c.args.port.now in
+    let mid = c.make_device.new.d in
+    let new = c.tell_made.new.port in
+    let size = g.P.Disk.size old in
+    let tells = subst (λ (n : ℕ). Tells g.P.Disk.seen g.P.Disk.may_hold g.P.Disk.told g.P.Disk.moment g.P.Disk.outcomes (done_making c.args.set.now n) Done mid new c.tell_made.result) c.make_device.ensures.quiet.size (c.tell_made.ensures.tells t) in
+    making_told g.P.Disk.seen g.P.Disk.may_hold g.P.Disk.told g.P.Disk.left g.P.Disk.moment g.P.Disk.outcomes g.met.P.Disk.only_now size c.args.set.now c.args.limit c.args.max (done_making c.args.set.now size) old mid new c.tell_made.result
+    (c.make_device.ensures.quiet.told t) (c.in-Ok.ensures.made t) (c.in-Ok.ensures.settled t) (c.make_device.ensures.time t) c.tell_made.ensures.either tells
+
+pub returns-then-is_silent-clause-made : goal.returns-then-is_silent-clause-made
+returns-then-is_silent-clause-made g c = λ t none.
+    let old = c.args.port.now in
+    let new = c.make_device.new.d in
+    let size = g.P.Disk.size old in
+    let fault = c.in-Err.fault in
+    let is : is_silent fault ≡ true = sym c.is_silent.ensures ∙ c.if-is_silent.true in
+    let either : IsFailed c.from.result ⊎ (c.from.result ≡ NoMemory) = ⊎_elim
+    (λ disk. inl (inl (c.from.ensures ∙ disk)))
+    (λ memory. inr (c.from.ensures ∙ ap make_status memory))
+    (silent_early fault is) in
+    making_untold g.P.Disk.seen g.P.Disk.may_hold g.P.Disk.told g.P.Disk.left g.P.Disk.moment g.P.Disk.outcomes g.met.P.Disk.only_now size c.args.set.now c.args.limit c.args.max (done_making c.args.set.now size) old new c.from.result (c.make_device.ensures.quiet.told t)
+    (λ memory. (c.in-Err.ensures.untouched t (memory_of_none fault (sym c.from.ensures ∙ memory))).0) (c.make_device.ensures.time t) either
+
+pub returns-then-is_silent-clause-refused : goal.returns-then-is_silent-clause-refused
+returns-then-is_silent-clause-refused g c = λ t fault refused.
+    let old = c.args.port.now in
+    let new = c.make_device.new.d in
+    let size = g.P.Disk.size old in
+    let gives : Gives {A = Unit {0}} (Err c.in-Err.fault) (Some fault) = subst (λ said. Gives {A = Unit {0}} (Err c.in-Err.fault) said) refused c.in-Err.ensures.exact in
+    let is : is_silent c.in-Err.fault ≡ true = sym c.is_silent.ensures ∙ c.if-is_silent.true in
+    let memory : c.from.result ≡ NoMemory = c.from.ensures ∙ silent_memory c.in-Err.fault fault gives is in
+    let no_disk = not_of_disk c.in-Err.fault fault gives in
+    refused_unheard g.P.Disk.seen g.P.Disk.may_hold g.P.Disk.told g.P.Disk.left g.P.Disk.moment g.P.Disk.outcomes g.met.P.Disk.only_now size (make_line fault) (make_status fault) old new c.from.result (c.make_device.ensures.quiet.told t)
+    (c.in-Err.ensures.untouched t no_disk).0 (c.in-Err.ensures.still t no_disk) (silent_line fault) (status_not_port fault) (inr (inr memory))
+
+pub returns-clause-refused : goal.returns-clause-refused
+returns-clause-refused g c = λ t fault refused.
+    let old = c.args.port.now in
+    let mid = c.make_device.new.d in
+    let new = c.tell_fault.new.port in
+    let size = g.P.Disk.size old in
+    let gives : Gives {A = Unit {0}} (Err c.in-Err.fault) (Some fault) = subst (λ said. Gives {A = Unit {0}} (Err c.in-Err.fault) said) refused c.in-Err.ensures.exact in
+    let loud : is_silent c.in-Err.fault ≡ false = sym c.is_silent.ensures ∙ c.if-is_silent.false in
+    let same : c.in-Err.fault ≡ fault = loud_refusal c.in-Err.fault fault gives loud in
+    let no_disk = not_of_disk c.in-Err.fault fault gives in
+    let tells = subst (λ (f : MakeFault). Tells g.P.Disk.seen g.P.Disk.may_hold g.P.Disk.told g.P.Disk.moment g.P.Disk.outcomes (make_line f) (make_status f) mid new c.tell_fault.result) same (c.tell_fault.ensures.tells t) in
+    let either = subst (λ (f : MakeFault). (c.tell_fault.result ≡ make_status f) ⊎ (c.tell_fault.result ≡ Port)) same c.tell_fault.ensures.either in
+    refused_told g.P.Disk.seen g.P.Disk.may_hold g.P.Disk.told g.P.Disk.left g.P.Disk.moment g.P.Disk.outcomes g.met.P.Disk.only_now size (make_line fault) (make_status fault) old mid new c.tell_fault.result (c.make_device.ensures.quiet.told t)
+    (c.in-Err.ensures.untouched t no_disk).0 (c.in-Err.ensures.untouched t no_disk).1 (c.in-Err.ensures.still t no_disk) (silent_line fault) either tells

@@ -1,0 +1,93 @@
+use Rattle.std.proofs.Common.{◌≡◌, ◌≢◌, ◌<◌, ◌⊎◌, inl, inr, ℕ, List, [], Ok, Err, None, Some, sym, ◌∙◌, ap, subst, ◌^◌, rules}
+use Rattle.vab_disk.specs.Disk.{IsSettled, Adds}
+use Rattle.vab_device.specs.Device.{device}
+use Rattle.vab_recover.specs.Stands.{LeavesSame}
+use Rattle.vab_set.specs.declared.set.SetImage.{SetImage}
+use Rattle.vab_make.specs.declared.fault.MakeFault.TheVariants as make
+use Rattle.vab_make.specs.Made.{refusal_of}
+use Rattle.vab_make.specs.Making.{Gives, IsMade, LeavesMaking}
+use Rattle.vab_session.specs.Items.{IsIn}
+use Rattle.vab_cli.specs.declared.status.Status.{Status}
+use Rattle.vab_cli.specs.declared.status.Status.TheVariants.{NotADevice, NoMemory}
+use Rattle.vab_cli.specs.Codes.{start_status}
+use Rattle.vab_cli.specs.Opening.{Opens}
+use Rattle.vab_cli.specs.Headline.{IsEarly, RunsSession, made_situation}
+use Rattle.vab_cli.proofs.Running.{contents_of, early_of, is_one, opened_in}
+use Rattle.vab_cli.proofs.Sessions.{fresh_enough, fresh_small, made_early, made_small, small_unwritten, making_failed, opening_failed, made_runs, opens_made, sized_serves}
+use Rattle.vab_cli.proofs.serving.make_and_serve.Goals as goal
+
+pub returns-in-Err-clause-runs : goal.returns-in-Err-clause-runs
+returns-in-Err-clause-runs g c = λ t enough.
+    let old = c.args.port.now in
+    let size = g.P.Disk.size old in
+    let set : c.from_vec-set.result ≡ [] = search rules in
+    let gives : Gives {A = Unit {0}} (Err c.in-Err.fault) None = subst (λ said. Gives {A = Unit {0}} (Err c.in-Err.fault) said) (ap (λ (x : List SetImage). refusal_of x 0 65536 size) set ∙ fresh_enough size enough) c.in-Err.ensures.exact in
+    let early : IsEarly c.from.result = subst IsEarly (sym c.from.ensures) (made_early c.in-Err.fault gives) in
+    inr (making_failed g.P.Disk.seen g.P.Disk.may_hold g.P.Disk.told g.P.Disk.left g.P.Disk.moment g.P.Disk.outcomes g.met.P.Disk.only_now size [] 0 65536 old c.make_device.new.d c.from.result early (c.make_device.ensures.quiet.told t)
+    (subst (λ (x : List SetImage). IsSettled (g.P.Disk.seen old) (g.P.Disk.may_hold old) → Adds g.P.Disk.moment g.P.Disk.outcomes old c.make_device.new.d (LeavesMaking (g.P.Disk.told old) x 0 65536 size (g.P.Disk.seen old))) set (c.make_device.ensures.time t)))
+
+pub returns-in-Err-clause-small : goal.returns-in-Err-clause-small
+returns-in-Err-clause-small g c = λ small.
+    let size = g.P.Disk.size c.args.port.now in
+    let set : c.from_vec-set.result ≡ [] = search rules in
+    let gives : Gives {A = Unit {0}} (Err c.in-Err.fault) (Some (make.TooSmall 6152 size)) = subst (λ said. Gives {A = Unit {0}} (Err c.in-Err.fault) said) (ap (λ (x : List SetImage). refusal_of x 0 65536 size) set ∙ fresh_small size small) c.in-Err.ensures.exact in
+    subst (λ (x : Status). (x ≡ NotADevice) ⊎ (x ≡ NoMemory)) (sym c.from.ensures) (made_small c.in-Err.fault 6152 size gives)
+
+pub returns-in-Err-clause-untold : goal.returns-in-Err-clause-untold
+returns-in-Err-clause-untold g c = λ t small.
+    let size = g.P.Disk.size c.args.port.now in
+    let set : c.from_vec-set.result ≡ [] = search rules in
+    let gives : Gives {A = Unit {0}} (Err c.in-Err.fault) (Some (make.TooSmall 6152 size)) = subst (λ said. Gives {A = Unit {0}} (Err c.in-Err.fault) said) (ap (λ (x : List SetImage). refusal_of x 0 65536 size) set ∙ fresh_small size small) c.in-Err.ensures.exact in
+    let same = c.in-Err.ensures.untouched t (small_unwritten c.in-Err.fault 6152 size gives) in
+    (c.make_device.ensures.quiet.told t, same.0)
+
+-- a device isn't made where there are too few sectors
+not_small : {R : Type 0} (size : ℕ) (set : List SetImage) → set ≡ [] → Gives {A = Unit {0}} (Ok tt) (refusal_of set 0 65536 size) → size < 6152 → R
+not_small size set is gives small = let refused = ap (λ (x : List SetImage). refusal_of x 0 65536 size) is ∙ fresh_small size small in cc
+
+pub returns-in-Err-start-clause-small : goal.returns-in-Err-start-clause-small
+returns-in-Err-start-clause-small g c = λ small. not_small (g.P.Disk.size c.args.port.now) c.from_vec-set.result (search rules) c.in-Ok.ensures.exact small
+
+pub returns-in-Err-start-clause-untold : goal.returns-in-Err-start-clause-untold
+returns-in-Err-start-clause-untold g c = λ t small. not_small (g.P.Disk.size c.args.port.now) c.from_vec-set.result (search rules) c.in-Ok.ensures.exact small
+
+pub returns-clause-small : goal.returns-clause-small
+returns-clause-small g c = λ small. not_small (g.P.Disk.size c.args.port.now) c.from_vec-set.result (search rules) c.in-Ok.ensures.exact small
+
+pub returns-clause-untold : goal.returns-clause-untold
+returns-clause-untold g c = λ t small. not_small (g.P.Disk.size c.args.port.now) c.from_vec-set.result (search rules) c.in-Ok.ensures.exact small
+
+pub returns-in-Err-start-clause-runs : goal.returns-in-Err-start-clause-runs
+returns-in-Err-start-clause-runs g c = λ t enough.
+    let old = c.args.port.now in
+    let mid = c.make_device.new.d in
+    let size = g.P.Disk.size old in
+    let sized : g.P.Disk.size mid ≡ size = c.make_device.ensures.quiet.size in
+    let set : c.from_vec-set.result ≡ [] = search rules in
+    let made : IsMade [] 0 65536 size (g.P.Disk.seen mid) = subst (λ (x : List SetImage). IsMade x 0 65536 size (g.P.Disk.seen mid)) set (c.in-Ok.ensures.made t) in
+    let there : IsIn size (made_situation [] 0 65536 size) (g.P.Disk.seen mid) = record { state = made.state; places = made.places } in
+    let other : start_status c.in-Err-start.fault ≢ NotADevice = λ is. is_one size (made_situation [] 0 65536 size) (g.P.Disk.seen mid) c.in-Err-start.fault there (subst (λ (n : ℕ). device n (g.P.Disk.seen mid) ≡ Err c.in-Err-start.fault) sized (c.in-Err-start.ensures.fault t (contents_of c.in-Err-start.fault is))) in
+    let early : IsEarly c.from-in-Err-start.result = subst IsEarly (sym c.from-in-Err-start.ensures) (early_of c.in-Err-start.fault other) in
+    inr (opening_failed g.P.Disk.seen g.P.Disk.may_hold g.P.Disk.told g.P.Disk.left g.P.Disk.moment g.P.Disk.outcomes g.met.P.Disk.only_now size [] 0 65536 old mid c.start.new.d c.from-in-Err-start.result early (c.make_device.ensures.quiet.told t) (c.start.ensures.quiet.told t) made (c.in-Ok.ensures.settled t)
+    (subst (λ (x : List SetImage). IsSettled (g.P.Disk.seen old) (g.P.Disk.may_hold old) → Adds g.P.Disk.moment g.P.Disk.outcomes old mid (LeavesMaking (g.P.Disk.told old) x 0 65536 size (g.P.Disk.seen old))) set (c.make_device.ensures.time t))
+    (subst (λ (n : ℕ). IsSettled (g.P.Disk.seen mid) (g.P.Disk.may_hold mid) → Adds g.P.Disk.moment g.P.Disk.outcomes mid c.start.new.d (LeavesSame (g.P.Disk.told mid) n (g.P.Disk.seen mid))) sized (c.start.ensures.time t)))
+
+pub returns-clause-runs : goal.returns-clause-runs
+returns-clause-runs g c = λ t enough.
+    let old = c.args.port.now in
+    let mid = c.make_device.new.d in
+    let now = c.start.new.d in
+    let new = c.serve-answer.new.p in
+    let size = g.P.Disk.size old in
+    let first = made_situation [] 0 65536 size in
+    let sized : g.P.Disk.size mid ≡ size = c.make_device.ensures.quiet.size in
+    let sized_now : g.P.Disk.size now ≡ size = c.start.ensures.quiet.size ∙ sized in
+    let set : c.from_vec-set.result ≡ [] = search rules in
+    let made : IsMade [] 0 65536 size (g.P.Disk.seen mid) = subst (λ (x : List SetImage). IsMade x 0 65536 size (g.P.Disk.seen mid)) set (c.in-Ok.ensures.made t) in
+    let there : IsIn size first (g.P.Disk.seen mid) = record { state = made.state; places = made.places } in
+    let opens : Opens g.P.Disk.seen g.P.Disk.may_hold g.P.Disk.told g.P.Disk.left g.P.Disk.moment g.P.Disk.outcomes size mid now = opens_made g.P.Disk.seen g.P.Disk.may_hold g.P.Disk.told g.P.Disk.left g.P.Disk.moment g.P.Disk.outcomes (g.P.Disk.size mid) size mid now _ sized (c.start.ensures.quiet.told t) (c.start.ensures.quiet.left t) (c.in-Ok-start.ensures.device t) (let stands = c.in-Ok-start.ensures.stands t in stands.state) (c.in-Ok-start.ensures.places t) (c.in-Ok-start.ensures.settled t) (c.start.ensures.time t) in
+    let here = opened_in g.P.Disk.seen g.P.Disk.may_hold g.P.Disk.told g.P.Disk.left g.P.Disk.moment g.P.Disk.outcomes g.met.P.Disk.only_now size mid now first opens there in
+    let serves = sized_serves g.P.Disk.seen g.P.Disk.may_hold g.P.Disk.told g.P.Disk.left g.P.Disk.moment g.P.Disk.outcomes (g.P.Disk.size now) size (2 ^ 44) now new c.serve-answer.result sized_now (c.serve-answer.ensures.serves t) first here in
+    let runs = made_runs g.P.Disk.seen g.P.Disk.may_hold g.P.Disk.told g.P.Disk.left g.P.Disk.moment g.P.Disk.outcomes g.met.P.Disk.only_now size [] 0 65536 old mid now new c.serve-answer.result (c.make_device.ensures.quiet.told t) (c.make_device.ensures.quiet.left t) made (c.in-Ok.ensures.settled t)
+    (subst (λ (x : List SetImage). IsSettled (g.P.Disk.seen old) (g.P.Disk.may_hold old) → Adds g.P.Disk.moment g.P.Disk.outcomes old mid (LeavesMaking (g.P.Disk.told old) x 0 65536 size (g.P.Disk.seen old))) set (c.make_device.ensures.time t)) opens serves in
+    inl (subst (λ (x : Status). RunsSession g.P.Disk.seen g.P.Disk.may_hold g.P.Disk.told g.P.Disk.left g.P.Disk.moment g.P.Disk.outcomes size (IsSettled (g.P.Disk.seen old) (g.P.Disk.may_hold old)) (LeavesMaking (g.P.Disk.told old) [] 0 65536 size (g.P.Disk.seen old)) first old new x) (sym c.session_status.ensures) runs)

@@ -1,0 +1,108 @@
+-- The verbs on a device: what is told of each, how it ends, and the situations from the one before it to the one after it.
+use Rattle.std.specs.Prelude.{ℕ, Bool, true, false, List, length, [], ◌∷◌, ◌++◌, codes, Option, Some, None}
+use Rattle.hex.specs.Hex.{encode_lower}
+use Rattle.vab_model.specs.declared.state.State.{State}
+use Rattle.vab_model.specs.declared.command.Reply.{Reply}
+use Rattle.vab_model.specs.declared.command.Reply.TheVariants as replies
+use Rattle.vab_model.specs.Step.{Found, Image_is, Refused_by, found_of}
+use Rattle.vab_model.specs.declared.command.Refusal.{Refusal}
+use Rattle.vab_tables.specs.Rules.{cap_of}
+use Rattle.vab_set.specs.declared.set.SetImage.{SetImage}
+use Rattle.vab_make.specs.declared.fault.MakeFault.{MakeFault}
+use Rattle.vab_make.specs.declared.fault.MakeFault.TheVariants as make
+use Rattle.vab_make.specs.Made.{set_blocks, made_device}
+use Rattle.vab_lines.specs.Lines.{made_line, make_refusal}
+use Rattle.vab_lines.specs.Lines.{refused_line as refused_because}
+use Rattle.vab_words.specs.Verbs.{Meaning}
+use Rattle.vab_words.specs.Verbs as words
+use Rattle.vab_fbproto.specs.Commands.{Named, SetActive, Boot, Mark, Print, Digest, reply_named}
+use Rattle.vab_fbproto.specs.Texts.{slot_letter, refusal_text}
+use Rattle.vab_session.specs.Items.{Situation, Item}
+use Rattle.vab_session.specs.Answers.{item_named}
+use Rattle.vab_cli.specs.declared.status.Status.{Status}
+use Rattle.vab_cli.specs.Codes.{reply_status}
+
+-- the command that a verb on a device is
+abbrev pub command_of : Meaning → Option Named
+command_of (words.Make limit metadata_max) = None
+command_of (words.Serve fresh) = None
+command_of words.Boot = Some Boot
+command_of words.Mark = Some Mark
+command_of (words.Activate slot) = Some (SetActive slot)
+command_of (words.Print name) = Some (Print name)
+command_of (words.Digest name) = Some (Digest name)
+
+-- ---- lines
+
+abbrev pub line : List ℕ → List ℕ
+line text = text ++ 10 ∷ []
+
+-- where there is no device
+abbrev pub none_line : List ℕ
+none_line = line (codes "not a device")
+
+abbrev pub refused_line : Refusal → List ℕ
+refused_line refusal = line (codes "refused: " ++ refusal_text refusal)
+
+-- a command that is done and has no more to tell, where this slot is the current one; the others have
+abbrev pub done_line : Named → ℕ → List ℕ
+done_line (SetActive slot) current = line (codes "active " ++ slot_letter slot)
+done_line Mark current = line (codes "marked " ++ slot_letter current)
+done_line Boot current = line []
+done_line (Print name) current = line []
+done_line (Digest name) current = line []
+
+-- the line of a reply
+unfoldable pub reply_line : Named → ℕ → Reply → List ℕ
+reply_line c current replies.Done = done_line c current
+reply_line c current (replies.Booted slot) = line (codes "booted " ++ slot_letter slot)
+reply_line c current (replies.Bytes name) = line []
+reply_line c current (replies.Digest sum) = line (encode_lower sum)
+reply_line c current (replies.Refused refusal) = refused_line refusal
+
+-- an image's bytes, or why there are none
+abbrev pub print_told : Found → List ℕ
+print_told (Image_is image) = image.bytes
+print_told (Refused_by refusal) = refused_line refusal
+
+-- what is told of a command
+abbrev pub told_of : State → Named → List ℕ
+told_of s (Print name) = print_told (found_of s name)
+told_of s (SetActive slot) = reply_line (SetActive slot) s.current (reply_named s (SetActive slot))
+told_of s Boot = reply_line Boot s.current (reply_named s Boot)
+told_of s Mark = reply_line Mark s.current (reply_named s Mark)
+told_of s (Digest name) = reply_line (Digest name) s.current (reply_named s (Digest name))
+
+-- ---- items
+
+-- the one item of a verb on a device
+abbrev pub verb_item : Situation → Named → Item
+verb_item s c = item_named s c (told_of s.state c)
+
+-- and how it ends
+abbrev pub verb_status : State → Named → Status
+verb_status s c = reply_status (reply_named s c)
+
+-- ---- making a device
+
+-- nothing is told where memory was refused or the disk failed
+abbrev pub is_silent : MakeFault → Bool
+is_silent (make.TooSmall need have) = false
+is_silent (make.GroupLimit used limit) = false
+is_silent (make.NoRoom used cap) = false
+is_silent (make.TableFull size max) = false
+is_silent make.NoMemory = true
+is_silent (make.Disk fault) = true
+
+-- why none is made
+abbrev pub make_line : MakeFault → List ℕ
+make_line (make.TooSmall need have) = none_line
+make_line (make.GroupLimit used limit) = refused_because (make_refusal (make.GroupLimit used limit))
+make_line (make.NoRoom used cap) = refused_because (make_refusal (make.NoRoom used cap))
+make_line (make.TableFull size max) = refused_because (make_refusal (make.TableFull size max))
+make_line make.NoMemory = []
+make_line (make.Disk fault) = []
+
+-- one is made of this set, on a disk of so many sectors
+abbrev pub done_making : List SetImage → ℕ → List ℕ
+done_making set size = made_line (length set) (set_blocks set) (cap_of (made_device size))

@@ -1,0 +1,68 @@
+//! The verbs that are one command.
+ghost use Rattle.std.specs.Prelude.{◌≡◌, ◌≢◌, ◌⊎◌, IfOk, IfErr, IsErrOf, Err};
+ghost use Rattle.vab_disk.specs.Disk.{NoFewer, Rose};
+ghost use Rattle.vab_device.specs.declared.fault.StartFault.{StartFault as Fault};
+ghost use Rattle.vab_device.specs.Device.{device};
+ghost use Rattle.vab_recover.specs.Stands.{StandsFor, IsDevice};
+ghost use Rattle.vab_fbproto.specs.Commands.{named_of, reply_named};
+ghost use Rattle.vab_session.specs.Items.{Situation, IsIn, DoesItem};
+ghost use Rattle.vab_session.specs.Answers.{item_named};
+ghost use Rattle.vab_cli.specs.Verbs.{none_line, reply_line as line_of, verb_status};
+ghost use Rattle.vab_cli.specs.Headline.{RunsItem, FailsBefore, RunsNone, IsFailed};
+
+use crate::Status;
+use crate::line::{NOT_A_DEVICE, reply_line};
+use crate::opening::open;
+use arrayvec::ArrayVec;
+use std::alloc::Global;
+use vab_disk::{Disk, Port};
+use vab_manager::run_one;
+use vab_model::Command;
+use vab_recover::Device;
+use vab_session::say_all;
+
+// Carries out a command, and tells its line.
+fn do_command<P: Port>(port: &mut P, device: Device, command: &Command) -> Result<Status, Status>
+    requires kept { IsDevice device (P.size port.old) }
+    requires stands { P.tells → StandsFor device (P.size port.old) (P.seen port.old) }
+    ensures does { P.tells → (s : Situation) → IsIn (P.size port.old) s (P.seen port.old)
+        → DoesItem P.seen P.may_hold P.told P.moment P.outcomes (P.size port.old) (item_named s (named_of command.now) (line_of (named_of command.now) s.state.current (reply_named s.state (named_of command.now)))) port.old port.new result }
+    ensures status { P.tells → (s : Situation) → IsIn (P.size port.old) s (P.seen port.old) → IfOk result (λ status. status ≡ verb_status s.state (named_of command.now)) }
+    ensures done { IfOk result (λ status. (status ≡ Status.Done) ⊎ (status ≡ Status.Refused)) }
+    ensures failed { IfErr result IsFailed }
+    ensures counts { NoFewer (P.faults port.old) (P.faults port.new) }
+    ensures disk { IsErrOf result Status.Disk → Rose (P.faults port.old).disk (P.faults port.new).disk }
+    ensures port { IsErrOf result Status.Port → Rose (P.faults port.old).sink (P.faults port.new).sink }
+{
+    let current = device.current();
+    let (_device, reply) = match run_one(port, device, command) {
+        Ok(done) => done,
+        Err(_) => return Err(Status::Disk),
+    };
+    let mut line = ArrayVec::new();
+    reply_line(command, current, &reply, &mut line);
+    match say_all(port, line.as_slice()) {
+        Ok(()) => Ok(Status::from(&reply)),
+        Err(_) => Err(Status::Port),
+    }
+}
+
+/// Opens the device, carries out a command, and tells its line.
+pub(crate) fn carry_out<P: Port>(alloc: Global, port: &mut P, command: &Command) -> Status
+    ensures runs { P.tells → (s : Situation) → IsIn (P.size port.old) s (P.seen port.old)
+        → RunsItem P.seen P.may_hold P.told P.left P.moment P.outcomes (P.size port.old) s (item_named s (named_of command.now) (line_of (named_of command.now) s.state.current (reply_named s.state (named_of command.now)))) (verb_status s.state (named_of command.now)) port.old port.new result
+        ⊎ FailsBefore P.seen P.may_hold P.told P.left P.moment P.outcomes (P.size port.old) s port.old port.new result }
+    ensures none { P.tells → (fault : Fault) → device (P.size port.old) (P.seen port.old) ≡ Err fault → RunsNone P.seen P.may_hold P.told P.left P.moment P.outcomes (P.size port.old) none_line port.old port.new result }
+    ensures words { result ≢ Status.Usage }
+    ensures disk { result ≡ Status.Disk → Rose (P.faults port.old).disk (P.faults port.new).disk }
+    ensures port { result ≡ Status.Port → Rose (P.faults port.old).sink (P.faults port.new).sink }
+{
+    let device = match open(alloc, port, NOT_A_DEVICE) {
+        Ok(device) => device,
+        Err(status) => return status,
+    };
+    match do_command(port, device, command) {
+        Ok(status) => status,
+        Err(status) => status,
+    }
+}

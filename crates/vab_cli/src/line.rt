@@ -1,0 +1,61 @@
+//! The lines that verbs tell.
+ghost use Rattle.std.specs.Prelude.{◌≡◌, ◌≤◌, ◌∷◌, ◌++◌, [], length};
+ghost use Rattle.vab_fbproto.specs.Commands.{named_of};
+ghost use Rattle.vab_cli.specs.Verbs as verbs;
+
+use arrayvec::ArrayVec;
+use vab_fbproto::{digits_of, refusal_text, slot_letter};
+use vab_model::{Command, Refusal, Reply};
+
+/// The line of a verb that finds no device.
+pub(crate) const NOT_A_DEVICE: &[u8] = b"not a device\n";
+
+/// A line: at most 128 bytes, with its newline.
+pub(crate) type Line = ArrayVec<u8, 128>;
+
+// Two texts as a line.
+fn put_line(out: &mut Line, head: &[u8], tail: &[u8])
+    requires empty { out.old.items ≡ [] }
+    requires short { length head.now ≤ 32 }
+    requires fits { length tail.now ≤ 64 }
+    ensures { out.new.items ≡ (head.now ++ tail.now) ++ 10 ∷ [] }
+{
+    let _ = out.try_extend_from_slice(head);
+    let _ = out.try_extend_from_slice(tail);
+    let _ = out.try_push(b'\n');
+}
+
+/// The line of a refusal.
+pub(crate) fn refused_line(refusal: Refusal, out: &mut Line)
+    requires { out.old.items ≡ [] }
+    ensures { out.new.items ≡ verbs.refused_line refusal }
+{
+    put_line(out, b"refused: ", refusal_text(refusal));
+}
+
+// The line of a command that is done.
+fn done_line(command: &Command, current: usize, out: &mut Line)
+    requires { out.old.items ≡ [] }
+    ensures { out.new.items ≡ verbs.done_line (named_of command.now) current }
+{
+    match command {
+        Command::SetActive(slot) => put_line(out, b"active ", slot_letter(*slot)),
+        Command::Mark => put_line(out, b"marked ", slot_letter(current)),
+        Command::Boot | Command::Print(_) | Command::Digest(_) => put_line(out, b"", b""),
+    }
+}
+
+/// The line of the reply to a command, where this slot was the current one.
+#[tactic(auto, unfolding(crate::specs::Verbs::reply_line))]
+pub(crate) fn reply_line(command: &Command, current: usize, reply: &Reply, out: &mut Line)
+    requires { out.old.items ≡ [] }
+    ensures { out.new.items ≡ verbs.reply_line (named_of command.now) current reply.now }
+{
+    match reply {
+        Reply::Done => done_line(command, current, out),
+        Reply::Booted(slot) => put_line(out, b"booted ", slot_letter(*slot)),
+        Reply::Bytes(_) => put_line(out, b"", b""),
+        Reply::Digest(sum) => put_line(out, b"", &digits_of(sum)),
+        Reply::Refused(refusal) => refused_line(*refusal, out),
+    }
+}

@@ -1,0 +1,147 @@
+//! Making a device of the set of images that the input spells.
+ghost use Rattle.std.specs.Prelude.{◌≡◌, ◌≢◌, ◌⊎◌, ◌≤◌, ◌<◌, ◌%◌, ◌^◌, [], List, length, Some, None, Ok, Err};
+ghost use Rattle.vab_disk.specs.Disk.{IsSettled, SameHoldings, Adds, NoFewer, Rose};
+ghost use Rattle.vab_disk.specs.Port.{LeavesSaying};
+ghost use Rattle.vab_set.specs.Spelling.{IsSet};
+ghost use Rattle.vab_set.specs.Reading.{set_of};
+ghost use Rattle.vab_set.specs.declared.set.SetImage.{SetImage as ImageOfSet};
+ghost use Rattle.vab_set.specs.declared.fault.SetFault.{SetFault as FaultOfSet};
+ghost use Rattle.vab_make.specs.declared.fault.MakeFault.{MakeFault as FaultOfMaking};
+ghost use Rattle.vab_make.specs.Made.{refusal_of};
+ghost use Rattle.vab_cli.specs.Codes.{make_status};
+ghost use Rattle.vab_cli.specs.Verbs.{is_silent, make_line, done_making};
+ghost use Rattle.vab_cli.specs.Headline.{RunsRefused, RunsMaking};
+ghost use Rattle.vab_cli.specs.Telling.{Tells};
+
+use crate::Status;
+use crate::line::NOT_A_DEVICE;
+use arrayvec::ArrayVec;
+use std::alloc::Global;
+use vab_disk::{Disk, Port};
+use vab_input::hear_all;
+use vab_lines::{made_line, make_refused_line};
+use vab_make::{MakeFault, capacity, make_device, set_blocks};
+use vab_session::say_all;
+use vab_set::{Set, read_set};
+
+// The most bytes of a set.
+const MAX_SET: u64 = 1 << 32;
+
+// Tells a line, and ends with the status.
+fn tell<P: Port>(port: &mut P, line: &[u8], status: Status) -> Status
+    requires { status ≢ Status.Port }
+    ensures tells { P.tells → Tells P.seen P.may_hold P.told P.moment P.outcomes line.now status port.old port.new result }
+    ensures size { P.size port.new ≡ P.size port.old }
+    ensures either { (result ≡ status) ⊎ (result ≡ Status.Port) }
+    ensures counts { NoFewer (P.faults port.old) (P.faults port.new) }
+    ensures port { result ≢ status → Rose (P.faults port.old).sink (P.faults port.new).sink }
+{
+    match say_all(port, line) {
+        Ok(()) => status,
+        Err(_) => Status::Port,
+    }
+}
+
+// Tells that a device is made.
+fn tell_made<P: Port>(port: &mut P, set: &Set) -> Status
+    requires set { IsSet set.now }
+    requires size { 6152 ≤ P.size port.old }
+    ensures tells { P.tells → Tells P.seen P.may_hold P.told P.moment P.outcomes (done_making set.now (P.size port.old)) Status.Done port.old port.new result }
+    ensures size { P.size port.new ≡ P.size port.old }
+    ensures either { (result ≡ Status.Done) ⊎ (result ≡ Status.Port) }
+    ensures counts { NoFewer (P.faults port.old) (P.faults port.new) }
+    ensures port { result ≢ Status.Done → Rose (P.faults port.old).sink (P.faults port.new).sink }
+{
+    let mut line = ArrayVec::new();
+    made_line(
+        set.len() as u64,
+        set_blocks(set),
+        capacity(port.sectors()),
+        &mut line,
+    );
+    tell(port, line.as_slice(), Status::Done)
+}
+
+// Whether nothing is told of a fault.
+fn is_silent(fault: &MakeFault) -> bool
+    ensures { result ≡ is_silent fault.now }
+{
+    match fault {
+        MakeFault::NoMemory | MakeFault::Disk(_) => true,
+        MakeFault::TooSmall(_, _)
+        | MakeFault::GroupLimit(_, _)
+        | MakeFault::NoRoom(_, _)
+        | MakeFault::TableFull(_, _) => false,
+    }
+}
+
+// Tells why no device is made.
+fn tell_fault<P: Port>(port: &mut P, fault: MakeFault) -> Status
+    ensures tells { P.tells → Tells P.seen P.may_hold P.told P.moment P.outcomes (make_line fault) (make_status fault) port.old port.new result }
+    ensures size { P.size port.new ≡ P.size port.old }
+    ensures either { (result ≡ make_status fault) ⊎ (result ≡ Status.Port) }
+    ensures counts { NoFewer (P.faults port.old) (P.faults port.new) }
+    ensures port { result ≢ make_status fault → Rose (P.faults port.old).sink (P.faults port.new).sink }
+{
+    let mut line = ArrayVec::new();
+    match fault {
+        MakeFault::TooSmall(_, _) => return tell(port, NOT_A_DEVICE, Status::from(fault)),
+        MakeFault::NoMemory | MakeFault::Disk(_) => {}
+        MakeFault::GroupLimit(_, _) | MakeFault::NoRoom(_, _) | MakeFault::TableFull(_, _) => {
+            make_refused_line(&fault, &mut line)
+        }
+    }
+    tell(port, line.as_slice(), Status::from(fault))
+}
+
+// Makes a device of a set, and tells that it is made, or why not.
+fn make_of<P: Port>(alloc: Global, port: &mut P, set: &Set, limit: u64, max: u32) -> Status
+    requires set { IsSet set.now }
+    requires limit { limit ≤ 2 ^ 44 }
+    requires max_sectors { max % 512 ≡ 0 }
+    requires max_least { 512 ≤ max }
+    requires max_most { max ≤ 65536 }
+    ensures made { P.tells → refusal_of set.now limit max (P.size port.old) ≡ None
+        → RunsMaking P.seen P.may_hold P.told P.left P.moment P.outcomes (P.size port.old) set.now limit max (done_making set.now (P.size port.old)) port.old port.new result }
+    ensures refused { P.tells → (fault : FaultOfMaking) → refusal_of set.now limit max (P.size port.old) ≡ Some fault
+        → RunsRefused P.seen P.may_hold P.told P.left P.moment P.outcomes (P.size port.old) (make_line fault) (make_status fault) port.old port.new result }
+    ensures words { result ≢ Status.Usage }
+    ensures disk { result ≡ Status.Disk → Rose (P.faults port.old).disk (P.faults port.new).disk }
+    ensures port { result ≡ Status.Port → Rose (P.faults port.old).sink (P.faults port.new).sink }
+{
+    let fault = match make_device(alloc, port, set, limit, max) {
+        Ok(()) => return tell_made(port, set),
+        Err(fault) => fault,
+    };
+    if is_silent(&fault) {
+        return Status::from(fault);
+    }
+    tell_fault(port, fault)
+}
+
+/// Makes a device of the set of images that the input spells, and tells that it is made, or why not.
+pub(crate) fn make<P: Port>(alloc: Global, port: &mut P, limit: u64, max: u32) -> Status
+    requires limit { limit ≤ 2 ^ 44 }
+    requires max_sectors { max % 512 ≡ 0 }
+    requires max_least { 512 ≤ max }
+    requires max_most { max ≤ 65536 }
+    ensures made { P.tells → (set : List ImageOfSet) → length (P.left port.old) ≤ 2 ^ 32 → set_of (P.left port.old) ≡ Ok set → refusal_of set limit max (P.size port.old) ≡ None
+        → RunsMaking P.seen P.may_hold P.told P.left P.moment P.outcomes (P.size port.old) set limit max (done_making set (P.size port.old)) port.old port.new result }
+    ensures refused { P.tells → (set : List ImageOfSet) → length (P.left port.old) ≤ 2 ^ 32 → set_of (P.left port.old) ≡ Ok set → (fault : FaultOfMaking) → refusal_of set limit max (P.size port.old) ≡ Some fault
+        → RunsRefused P.seen P.may_hold P.told P.left P.moment P.outcomes (P.size port.old) (make_line fault) (make_status fault) port.old port.new result }
+    ensures malformed { P.tells → (2 ^ 32 < length (P.left port.old)) ⊎ ((fault : FaultOfSet) × (set_of (P.left port.old) ≡ Err fault))
+        → RunsRefused P.seen P.may_hold P.told P.left P.moment P.outcomes (P.size port.old) [] Status.Malformed port.old port.new result }
+    ensures words { result ≢ Status.Usage }
+    ensures disk { result ≡ Status.Disk → Rose (P.faults port.old).disk (P.faults port.new).disk }
+    ensures port { result ≡ Status.Port → Rose (P.faults port.old).source (P.faults port.new).source ⊎ Rose (P.faults port.old).sink (P.faults port.new).sink }
+{
+    let bytes = match hear_all(alloc, port, MAX_SET) {
+        Ok(bytes) => bytes,
+        Err(fault) => return Status::from(fault),
+    };
+    let set = match read_set(alloc, &bytes) {
+        Ok(set) => set,
+        Err(fault) => return Status::from(fault),
+    };
+    make_of(alloc, port, &set, limit, max)
+}

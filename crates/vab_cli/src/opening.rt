@@ -1,0 +1,39 @@
+//! Opening the device of the disk.
+ghost use Rattle.std.specs.Prelude.{◌≡◌, ◌≢◌, IfOk, IfErr, OnOk, IsErrOf, Ok, Err};
+ghost use Rattle.vab_disk.specs.Disk.{NoFewer, Rose};
+ghost use Rattle.vab_device.specs.declared.fault.StartFault.{StartFault as Fault};
+ghost use Rattle.vab_device.specs.Device.{device};
+ghost use Rattle.vab_recover.specs.Stands.{StandsFor, IsDevice};
+ghost use Rattle.vab_session.specs.Items.{Situation, IsIn};
+ghost use Rattle.vab_cli.specs.Opening.{Opens};
+ghost use Rattle.vab_cli.specs.Headline.{FailsBefore, RunsNone};
+
+use crate::Status;
+use std::alloc::Global;
+use vab_disk::{Disk, Port};
+use vab_recover::{Device, start};
+use vab_session::say_all;
+
+/// Opens the device of the disk. Where there is none, it tells the line; the error is the status to end with.
+pub(crate) fn open<P: Port>(alloc: Global, port: &mut P, line: &[u8]) -> Result<Device, Status>
+    ensures kept { IfOk result (λ d. IsDevice d (P.size port.old)) }
+    ensures stands { P.tells → IfOk result (λ d. StandsFor d (P.size port.old) (P.seen port.new)) }
+    ensures opens { P.tells → OnOk result (Opens P.seen P.may_hold P.told P.left P.moment P.outcomes (P.size port.old) port.old port.new) }
+    ensures early { P.tells → (s : Situation) → IsIn (P.size port.old) s (P.seen port.old) → IfErr result (λ status. FailsBefore P.seen P.may_hold P.told P.left P.moment P.outcomes (P.size port.old) s port.old port.new status) }
+    ensures none { P.tells → (fault : Fault) → device (P.size port.old) (P.seen port.old) ≡ Err fault → IfErr result (λ status. RunsNone P.seen P.may_hold P.told P.left P.moment P.outcomes (P.size port.old) line.now port.old port.new status) }
+    ensures found { P.tells → (fault : Fault) → device (P.size port.old) (P.seen port.old) ≡ Err fault → OnOk result ⊥ }
+    ensures size { P.size port.new ≡ P.size port.old }
+    ensures counts { NoFewer (P.faults port.old) (P.faults port.new) }
+    ensures words { IfErr result (λ status. status ≢ Status.Usage) }
+    ensures disk { IsErrOf result Status.Disk → Rose (P.faults port.old).disk (P.faults port.new).disk }
+    ensures port { IsErrOf result Status.Port → Rose (P.faults port.old).sink (P.faults port.new).sink }
+{
+    let status = match start(alloc, port) {
+        Ok(device) => return Ok(device),
+        Err(fault) => Status::from(fault),
+    };
+    if status == Status::NotADevice && say_all(port, line).is_err() {
+        return Err(Status::Port);
+    }
+    Err(status)
+}

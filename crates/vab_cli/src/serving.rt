@@ -1,0 +1,63 @@
+//! A session over the device of the disk, or over one that is made first.
+ghost use Rattle.std.specs.Prelude.{◌≡◌, ◌≢◌, ◌⊎◌, ◌≤◌, ◌<◌, ◌++◌, [], Err, IfErr, OnOk, IsErrOf, Ok};
+ghost use Rattle.vab_disk.specs.Disk.{IsSettled, NoFewer, Rose};
+ghost use Rattle.vab_device.specs.declared.fault.StartFault.{StartFault as Fault};
+ghost use Rattle.vab_device.specs.Device.{device};
+ghost use Rattle.vab_make.specs.Making.{LeavesMaking};
+ghost use Rattle.vab_session.specs.Items.{Situation, IsIn, IsAtRest};
+ghost use Rattle.vab_cli.specs.Headline.{RunsSession, FailsBefore, RunsNone, FailsMaking, made_situation};
+
+use crate::Status;
+use crate::opening::open;
+use crate::status::session_status;
+use std::alloc::Global;
+use vab_bytes::Listing;
+use vab_disk::{Disk, Port};
+use vab_make::make_device;
+use vab_recover::start;
+use vab_session::serve;
+
+/// A session over the device of the disk.
+pub(crate) fn open_and_serve<P: Port>(alloc: Global, port: &mut P) -> Status
+    ensures runs { P.tells → (s : Situation) → IsIn (P.size port.old) s (P.seen port.old)
+        → RunsSession P.seen P.may_hold P.told P.left P.moment P.outcomes (P.size port.old) (IsAtRest P.seen P.may_hold (P.size port.old) port.old s) (λ o. ⊥) s port.old port.new result
+        ⊎ FailsBefore P.seen P.may_hold P.told P.left P.moment P.outcomes (P.size port.old) s port.old port.new result }
+    ensures none { P.tells → (fault : Fault) → device (P.size port.old) (P.seen port.old) ≡ Err fault → RunsNone P.seen P.may_hold P.told P.left P.moment P.outcomes (P.size port.old) [] port.old port.new result }
+    ensures words { result ≢ Status.Usage }
+    ensures disk { result ≡ Status.Disk → Rose (P.faults port.old).disk (P.faults port.new).disk }
+    ensures port { result ≡ Status.Port → Rose (P.faults port.old).source (P.faults port.new).source ⊎ Rose (P.faults port.old).sink (P.faults port.new).sink }
+{
+    let device = match open(alloc, port, b"") {
+        Ok(device) => device,
+        Err(status) => return status,
+    };
+    let answer = serve(port, device);
+    session_status(&answer)
+}
+
+// The most bytes of a copy of a table of a fresh device.
+const FRESH_METADATA_MAX: u32 = 65536;
+
+/// A session over the device of the empty set, which is made first.
+pub(crate) fn make_and_serve<P: Port>(alloc: Global, port: &mut P) -> Status
+    ensures runs { P.tells → 6152 ≤ P.size port.old
+        → RunsSession P.seen P.may_hold P.told P.left P.moment P.outcomes (P.size port.old) (IsSettled (P.seen port.old) (P.may_hold port.old)) (LeavesMaking (P.told port.old) [] 0 65536 (P.size port.old) (P.seen port.old)) (made_situation [] 0 65536 (P.size port.old)) port.old port.new result
+        ⊎ FailsMaking P.seen P.may_hold P.told P.left P.moment P.outcomes (P.size port.old) [] 0 65536 port.old port.new result }
+    ensures small { P.size port.old < 6152 → (result ≡ Status.NotADevice) ⊎ (result ≡ Status.NoMemory) }
+    ensures untold { P.tells → P.size port.old < 6152 → (P.told port.new ≡ P.told port.old) × (P.seen port.new ≡ P.seen port.old) }
+    ensures words { result ≢ Status.Usage }
+    ensures disk { result ≡ Status.Disk → Rose (P.faults port.old).disk (P.faults port.new).disk }
+    ensures port { result ≡ Status.Port → Rose (P.faults port.old).source (P.faults port.new).source ⊎ Rose (P.faults port.old).sink (P.faults port.new).sink }
+{
+    let set = Listing::from_vec(Vec::new(alloc));
+    match make_device(alloc, port, &set, 0, FRESH_METADATA_MAX) {
+        Ok(()) => {}
+        Err(fault) => return Status::from(fault),
+    }
+    let device = match start(alloc, port) {
+        Ok(device) => device,
+        Err(fault) => return Status::from(fault),
+    };
+    let answer = serve(port, device);
+    session_status(&answer)
+}

@@ -1,0 +1,83 @@
+// Hears the whole input, in pieces of at most 4096 bytes.
+ghost use Rattle.std.specs.Prelude.{◌≡◌, ◌<◌, ◌≤◌, ◌++◌, [], length, IfOk, OnOk, OnErr, IsErrOf};
+ghost use Rattle.std.specs.Bool.{OnTrue, OnFalse};
+ghost use Rattle.vab_disk.specs.Disk.{Adds, Nothing, NoFewer, Rose, SameHoldings};
+
+use std::alloc::{AllocError, Global};
+use vab_disk::{Disk, Port, PortFault};
+
+/// Why the input isn't had.
+#[derive(Clone, Copy, Debug, PartialEq, Eq)]
+pub enum InputFault {
+    /// The input has more bytes than it may have.
+    TooLong,
+    /// Hearing failed.
+    Source,
+    /// Memory was refused.
+    NoMemory,
+}
+
+impl From<PortFault> for InputFault {
+    ghost use Rattle.std.specs.Prelude.{◌≡◌};
+    ghost use Rattle.vab_input.specs.declared.input.InputFault.TheVariants.{Source};
+
+    ghost from_gives = { λ _ e. e ≡ Source };
+
+    fn from(_: PortFault) -> Self {
+        InputFault::Source
+    }
+}
+
+impl From<AllocError> for InputFault {
+    ghost use Rattle.std.specs.Prelude.{◌≡◌};
+    ghost use Rattle.vab_input.specs.declared.input.InputFault.TheVariants.{NoMemory};
+
+    ghost from_gives = { λ _ e. e ≡ NoMemory };
+
+    fn from(_: AllocError) -> Self {
+        InputFault::NoMemory
+    }
+}
+
+// Hears the next piece and puts it behind what was heard. `false`: none comes, since the input has ended.
+fn hear_piece<P: Port>(p: &mut P, heard: &mut Vec<u8>) -> Result<bool, InputFault>
+    ensures bytes { P.tells → OnOk result (heard.new.items ++ P.left p.new ≡ heard.old.items ++ P.left p.old) }
+    ensures some { IfOk result (λ some. OnTrue some (length heard.old.items < length heard.new.items)) }
+    ensures none { IfOk result (λ some. OnFalse some (heard.new.items ≡ heard.old.items)) }
+    ensures end { P.tells → IfOk result (λ some. OnFalse some (P.left p.old ≡ [])) }
+    ensures size { P.size p.new ≡ P.size p.old }
+    ensures seen { P.tells → P.seen p.new ≡ P.seen p.old }
+    ensures crash { P.tells → SameHoldings (P.may_hold p.old) (P.may_hold p.new) }
+    ensures told { P.tells → P.told p.new ≡ P.told p.old }
+    ensures time { P.tells → Adds P.moment P.outcomes p.old p.new Nothing }
+    ensures counts { NoFewer (P.faults p.old) (P.faults p.new) }
+    ensures kind { IsErrOf result InputFault.TooLong → ⊥ }
+    ensures cause { IsErrOf result InputFault.Source → Rose (P.faults p.old).source (P.faults p.new).source }
+{
+    let mut piece = [0u8; 4096];
+    let count = p.hear(&mut piece)?;
+    heard.extend_from_slice(&piece[..count])?;
+    Ok(count > 0)
+}
+
+/// Hears the input to its end, of at most `most` bytes. `TooLong` comes once more than `most` bytes are heard.
+pub fn hear_all<P: Port>(alloc: Global, p: &mut P, most: u64) -> Result<Vec<u8>, InputFault>
+    ensures bytes { P.tells → IfOk result (λ v. v.items ≡ P.left p.old) }
+    ensures fits { IfOk result (λ v. length v.items ≤ most) }
+    ensures long { P.tells → IsErrOf result InputFault.TooLong → most < length (P.left p.old) }
+    ensures size { P.size p.new ≡ P.size p.old }
+    ensures seen { P.tells → P.seen p.new ≡ P.seen p.old }
+    ensures crash { P.tells → SameHoldings (P.may_hold p.old) (P.may_hold p.new) }
+    ensures told { P.tells → P.told p.new ≡ P.told p.old }
+    ensures time { P.tells → Adds P.moment P.outcomes p.old p.new Nothing }
+    ensures counts { NoFewer (P.faults p.old) (P.faults p.new) }
+    ensures cause { IsErrOf result InputFault.Source → Rose (P.faults p.old).source (P.faults p.new).source }
+{
+    let mut heard = Vec::new(alloc);
+    while hear_piece(p, &mut heard)? {
+        if heard.len() as u64 > most {
+            return Err(InputFault::TooLong);
+        }
+    }
+    Ok(heard)
+}

@@ -1,0 +1,9 @@
+//! The whole input of a port.
+#![tactic(auto)]
+
+mod input;
+
+pub use input::{InputFault, hear_all};
+
+#[cfg(test)]
+mod tests;

@@ -1,0 +1,35 @@
+-- A block of the image under a base name in a slot.
+use Rattle.std.specs.Prelude.{◌≡◌, ℕ, ◌*◌, ◌<◌, ◌==◌, if◌then◌else◌, List, length, take, drop, Option, Some}
+use Rattle.std.specs.Option.{option_and_then}
+use Rattle.vab_names.specs.Names.{is_full}
+use Rattle.vab_model.specs.declared.state.Image.{Image as ImageOfSlot}
+use Rattle.vab_model.specs.declared.state.SlotState.{SlotState}
+use Rattle.vab_model.specs.declared.state.State.{State}
+use Rattle.vab_model.specs.State.{slot_at, image_named}
+use Rattle.vab_recover.specs.declared.device.Part.{Part}
+use Rattle.vab_recover.specs.declared.device.Device.{Device}
+use Rattle.vab_manager.specs.Found.{part_named}
+
+-- the slot whose suffix a name has, where it has one
+abbrev pub slot_named : List ℕ → ℕ
+slot_named name = if is_full 0 name then 0 else 1
+
+-- the partitions of a slot that a device keeps
+abbrev pub parts_at : Device → ℕ → Option (List Part)
+parts_at d slot = if slot == 0 then d.a else d.b
+
+-- the device keeps this partition under a base name of the slot
+abbrev pub KeepsPart : Device → ℕ → List ℕ → Part → Type 0
+KeepsPart d slot name p = option_and_then (part_named name) (parts_at d slot) ≡ Some p
+
+-- the image under a base name in the slot has this block
+abbrev pub HasBlock : Device → ℕ → List ℕ → ℕ → Type 0
+HasBlock d slot name block = (p : Part) × KeepsPart d slot name p × (block < length p.map)
+
+-- the image that a state has under a base name in a slot
+abbrev pub image_at : State → ℕ → List ℕ → Option ImageOfSlot
+image_at s slot name = option_and_then (λ (x : SlotState). image_named name x.images) (slot_at s slot)
+
+-- these bytes are a block of that image
+abbrev pub IsBlockOf : State → ℕ → List ℕ → ℕ → List ℕ → Type 0
+IsBlockOf s slot name block bytes = (image : ImageOfSlot) × (image_at s slot name ≡ Some image) × (bytes ≡ take 4096 (drop (4096 * block) image.bytes))

@@ -1,0 +1,81 @@
+//! A block of an image.
+
+ghost use Rattle.std.specs.Prelude.{◌≡◌, ◌≤◌, ◌<◌, ◌^◌, length, slice_index, IsTrue, IfOk, IfErr, OnOk, OnErr};
+ghost use Rattle.std.specs.Option.{option_copied, option_and_then};
+ghost use Rattle.vab_disk.specs.Disk.{Image, Adds, Nothing, SameHoldings, Quiet, Rose};
+ghost use Rattle.vab_gate.specs.Gate.{sectors_at};
+ghost use Rattle.vab_names.specs.Names.{is_full, base_of};
+ghost use Rattle.vab_model.specs.declared.state.Image.{Image as ImageOfSlot};
+ghost use Rattle.vab_model.specs.Step.{found_of, Image_is, Refused_by};
+ghost use Rattle.vab_recover.specs.declared.device.Part.{Part};
+ghost use Rattle.vab_recover.specs.Stands.{bytes_at, state_on, IsDevice};
+ghost use Rattle.vab_manager.specs.Found.{part_named};
+ghost use Rattle.vab_manager.specs.Blocks.{slot_named, parts_at, KeepsPart, HasBlock, IsBlockOf};
+
+use crate::images::{find, part_named};
+use vab_disk::Disk;
+use vab_gate::DiskFault;
+use vab_linear::read_at;
+use vab_model::Refusal;
+use vab_names::is_full;
+use vab_recover::{Device, Part};
+
+// The slot of a name's suffix.
+fn slot_named(name: &[u8]) -> usize
+    ensures { result ≡ slot_named name.now }
+{
+    if is_full(name, 0) { 0 } else { 1 }
+}
+
+// The partition that is kept under a base name of a slot.
+fn kept_part<'a>(device: &'a Device, slot: usize, name: &[u8]) -> Option<&'a Part>
+    requires { slot < 2 }
+    ensures { option_copied result ≡ option_and_then (part_named name.now) (parts_at device.now slot) }
+{
+    match device.images(slot) {
+        Some(parts) => part_named(parts, name),
+        None => None,
+    }
+}
+
+/// Where the image of a whole name stands: its slot, and how many blocks of 4096 bytes it has; or why there is none.
+pub fn locate(device: &Device, name: &[u8]) -> Result<(usize, u64), Refusal>
+    ensures part { IfOk result (λ r. (r.0 < 2) × (2 ≤ length name.now) × (p : Part) × KeepsPart device.now r.0 (base_of name.now) p × (r.1 ≡ length p.map)) }
+    ensures suffix { IfOk result (λ r. IsTrue (is_full r.0 name.now)) }
+    ensures small { IfOk result (λ r. r.1 < 2 ^ 60) }
+    ensures image { (seen : Image) → IfOk result (λ r. (i : ImageOfSlot) × (found_of (state_on device.now seen) name.now ≡ Image_is i) × (p : Part) × KeepsPart device.now r.0 (base_of name.now) p × (i.bytes ≡ bytes_at seen p.map)) }
+    ensures refused { (seen : Image) → IfErr result (λ f. found_of (state_on device.now seen) name.now ≡ Refused_by f) }
+{
+    match find(device, name) {
+        Ok(part) => Ok((slot_named(name), part.map.len())),
+        Err(refusal) => Err(refusal),
+    }
+}
+
+/// Reads a block of the image of a base name in a slot. The error comes where the disk has failed.
+pub fn read_block<D: Disk>(
+    d: &mut D,
+    device: &Device,
+    slot: usize,
+    name: &[u8],
+    block: u64,
+    out: &mut [u8; 4096],
+) -> Result<(), DiskFault>
+    requires kept { IsDevice device.now (D.size d.old) }
+    requires slot { slot < 2 }
+    requires block { HasBlock device.now slot name.now block }
+    // the block where the partition has it on the disk
+    ensures sectors { D.tells → (p : Part) → KeepsPart device.now slot name.now p → OnOk result (out.new ≡ sectors_at 8 (D.seen d.old) (slice_index p.map block)) }
+    // which is that block of the image
+    ensures bytes { D.tells → OnOk result (IsBlockOf (state_on device.now (D.seen d.old)) slot name.now block out.new) }
+    ensures seen { D.tells → D.seen d.new ≡ D.seen d.old }
+    ensures crash { D.tells → SameHoldings (D.may_hold d.old) (D.may_hold d.new) }
+    ensures quiet { Quiet D.tells D.size D.told D.left D.faults d.old d.new }
+    ensures time { D.tells → Adds D.moment D.outcomes d.old d.new Nothing }
+    ensures cause { OnErr result (Rose (D.faults d.old).disk (D.faults d.new).disk) }
+{
+    match kept_part(device, slot, name) {
+        Some(part) => read_at(d, &part.map, block, out),
+        None => unreachable!(),
+    }
+}

@@ -1,0 +1,62 @@
+-- What words ask for: the images, or the first fault from left to right.
+use Rattle.std.specs.Prelude.{◌≡◌, ℕ, Bool, ◌==◌, nat_lt, if◌then◌else◌, List, [], ◌∷◌, ◌++◌, length, position, Option, Some, None, Result, Ok, Err}
+use Rattle.std.specs.List.{before_first, after_first}
+use Rattle.std.specs.Str.{bytes_eq}
+use Rattle.vab_names.specs.Names.{is_base}
+use Rattle.vab_pack.specs.declared.fault.WordFault.{WordFault}
+use Rattle.vab_pack.specs.declared.fault.WordFault.TheVariants as faults
+use Rattle.vab_pack.specs.Asked.{Asked}
+
+infixl 10 ◌>>=◌
+abbrev pub ◌>>=◌ : {A B : Type 0} → Result A WordFault → (A → Result B WordFault) → Result B WordFault
+(Ok x) >>= f = f x
+(Err e) >>= f = Err e
+
+-- What a function returned, seen by view, is what the words say, unless memory was refused.
+abbrev pub Fails : {Y : Type 0} → WordFault → Result Y WordFault → Type 0
+Fails faults.NoMemory said = Unit {0}
+Fails e said = said ≡ Err e
+
+abbrev pub Gives : {X Y : Type 0} → (X → Y) → Result X WordFault → Result Y WordFault → Type 0
+Gives view (Ok x) said = said ≡ Ok (view x)
+Gives view (Err e) said = Fails e said
+
+-- ---- a word
+
+-- `=`
+abbrev pub is_equals : ℕ → Bool
+is_equals b = b == 61
+
+-- what stands before the first `=` and what stands behind it, where something does
+unfoldable pub parts_of : List ℕ → Option Asked
+parts_of word =
+    if length (after_first is_equals word) == 0 then None
+    else Some (record { name = before_first is_equals word; path = after_first is_equals word })
+
+-- the first of these that has this name
+unfoldable pub first_named : List Asked → List ℕ → Option ℕ
+first_named asked name = position (λ a. bytes_eq a.name name) asked
+
+abbrev pub unless_first : ℕ → Asked → Option ℕ → Result Asked WordFault
+unless_first word a None = Ok a
+unless_first word a (Some first) = Err (faults.Repeated first word)
+
+abbrev pub judged : List Asked → Option Asked → Result Asked WordFault
+judged asked None = Err (faults.BadWord (length asked))
+judged asked (Some a) = if is_base a.name then unless_first (length asked) a (first_named asked a.name) else Err (faults.BadName (length asked))
+
+-- what the word behind those that ask for these asks for
+unfoldable pub asked_by : List Asked → List ℕ → Result Asked WordFault
+asked_by asked word = judged asked (parts_of word)
+
+-- ---- all words
+
+-- these, and what the words behind them ask for
+unfoldable pub asked_behind : List Asked → List (List ℕ) → Result (List Asked) WordFault
+asked_behind asked [] = Ok asked
+asked_behind asked (word ∷ words) = do
+  a ← asked_by asked word
+  asked_behind (asked ++ a ∷ []) words
+
+unfoldable pub asked_of : List (List ℕ) → Result (List Asked) WordFault
+asked_of words = if nat_lt 32 (length words) then Err (faults.TooMany (length words)) else asked_behind [] words

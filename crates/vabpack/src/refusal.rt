@@ -1,0 +1,129 @@
+//! Why there is no set.
+
+ghost use Rattle.std.specs.Prelude.{◌≡◌};
+ghost use Rattle.vabpack.specs.declared.refusal.Refusal.TheVariants as refusals;
+
+use std::alloc::{AllocError, AllocFailed};
+use std::io;
+use vab_pack::WordFault;
+use vab_set::NoMemory;
+
+const USAGE: &str = "usage: vabpack NAME=FILE..\n\
+    a set on standard output, with an image for each of up to 32 words: its name, 1 to 30 of A-Z a-z 0-9 _ ., and the file with its bytes";
+
+/// Why there is no set.
+#[derive(Debug, Drop)]
+pub enum Refusal<'a> {
+    /// There is no word.
+    NoWords,
+    /// The words aren't taken.
+    Words(WordFault),
+    /// The file at this path is longer than a set may be.
+    TooLarge(&'a str),
+    /// The set is longer than a set may be.
+    SetTooLarge,
+    /// The file at this path can't be opened or read.
+    File(&'a str, io::Error),
+    /// Memory was refused.
+    NoMemory,
+}
+
+impl<'a> From<WordFault> for Refusal<'a> {
+    ghost use Rattle.vabpack.specs.Packed.{refusal_of};
+
+    ghost from_gives = { λ fault e. e ≡ refusal_of fault };
+
+    fn from(fault: WordFault) -> Self {
+        match fault {
+            WordFault::NoMemory => Refusal::NoMemory,
+            fault => Refusal::Words(fault),
+        }
+    }
+}
+
+impl<'a> From<NoMemory> for Refusal<'a> {
+    ghost from_gives = { λ _ e. e ≡ refusals.NoMemory };
+
+    fn from(_: NoMemory) -> Self {
+        Refusal::NoMemory
+    }
+}
+
+impl<'a> From<AllocError> for Refusal<'a> {
+    ghost from_gives = { λ _ e. e ≡ refusals.NoMemory };
+
+    fn from(_: AllocError) -> Self {
+        Refusal::NoMemory
+    }
+}
+
+impl<'a, T: Drop> From<AllocFailed<T>> for Refusal<'a> {
+    ghost from_gives = { λ _ e. e ≡ refusals.NoMemory };
+
+    fn from(_: AllocFailed<T>) -> Self {
+        Refusal::NoMemory
+    }
+}
+
+// Says on standard error what is wrong with the words.
+fn explain_words<R: Eprint>(rt: &R, words: &[String], fault: WordFault) {
+    let word_at = |index: usize| match words.get(index) {
+        Some(word) => word.as_str(),
+        None => "",
+    };
+    let _ = match fault {
+        WordFault::TooMany(count) => eprintln!(rt;
+            "vabpack: {count} words, and a set has at most 32 images"
+        ),
+        WordFault::BadWord(index) => eprintln!(rt; "vabpack: {}: not NAME=FILE", word_at(index)),
+        WordFault::BadName(index) => eprintln!(rt;
+            "vabpack: {}: the name isn't 1 to 30 of A-Z a-z 0-9 _ .",
+            word_at(index)
+        ),
+        WordFault::Repeated(first, index) => {
+            eprintln!(rt;
+                "vabpack: {}: {} has the same name",
+                word_at(index),
+                word_at(first)
+            )
+        }
+        WordFault::NoMemory => eprintln!(rt; "vabpack: out of memory"),
+    };
+}
+
+impl<'a> Refusal<'a> {
+    ghost use Rattle.vabpack.specs.Packed.{status_of};
+
+    /// The program's status.
+    pub fn status(&self) -> u8
+        ensures { result ≡ status_of self.now }
+    {
+        match self {
+            Refusal::NoWords | Refusal::Words(_) | Refusal::TooLarge(_) | Refusal::SetTooLarge => 2,
+            Refusal::NoMemory => 8,
+            Refusal::File(_, _) => 9,
+        }
+    }
+
+    /// Says on standard error why there is no set of these words, with the usage where they aren't taken.
+    pub fn explain<R: Eprint>(&self, rt: &R, words: &[String]) {
+        let _ = match self {
+            Refusal::NoWords => Ok(()),
+            Refusal::Words(fault) => {
+                explain_words(rt, words, *fault);
+                Ok(())
+            }
+            Refusal::TooLarge(path) => eprintln!(rt;
+                "vabpack: {path}: longer than 2^32 bytes, the most that a set may have"
+            ),
+            Refusal::SetTooLarge => eprintln!(rt;
+                "vabpack: the set would be longer than 2^32 bytes"
+            ),
+            Refusal::File(path, fault) => eprintln!(rt; "vabpack: {path}: {fault}"),
+            Refusal::NoMemory => eprintln!(rt; "vabpack: out of memory"),
+        };
+        if self.status() == 2 {
+            let _ = rt.eprintln(USAGE);
+        }
+    }
+}
