@@ -9,5 +9,5 @@ mod session;
 mod tell;
 
 pub use fault::{Ended, SessionFault};
-pub use session::{MAX_SESSION, one_session, serve, serve_up_to};
+pub use session::{MAX_SESSION, each_device_is_somewhere, one_session, serve, serve_up_to};
 pub use tell::say_all;

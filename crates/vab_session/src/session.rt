@@ -6,6 +6,7 @@ ghost use Rattle.vab_recover.specs.Stands.{StandsFor, IsDevice};
 ghost use Rattle.vab_session.specs.Reading.{stands_at, rest_of, IsFed};
 ghost use Rattle.vab_session.specs.Items.{Situation, IsIn};
 ghost use Rattle.vab_session.specs.Served.{Split, Answers, Serves, SaysSlot, EachInputIsOne, NoOtherSession};
+ghost use Rattle.vab_session.specs.SituationLaws.{EachIsSomewhere};
 
 use crate::answer::{answer, is_last};
 use crate::reader::Reader;
@@ -114,4 +115,9 @@ pub fn serve<P: Port>(p: &mut P, device: Device) -> Result<(Ended, Device), Sess
 pub fn one_session()
     ensures some { EachInputIsOne }
     ensures only { NoOtherSession }
+{}
+
+/// Each disk that means a state is a device in one situation, with that state.
+pub fn each_device_is_somewhere()
+    ensures { EachIsSomewhere }
 {}

@@ -1,6 +1,6 @@
 // What sessions write, and where they end.
 
-use crate::runs::{ONE, SECTORS, Step, steps, port, words};
+use crate::runs::{ONE, SECTORS, Step, port, steps, words};
 use std::test::Fail;
 use vab_cli::run;
 use vab_disk::{CallKind, Disk, MemPort};
@@ -16,13 +16,14 @@ fn sector(d: &mut MemPort, at: u64) -> Option<[u8; 512]> {
 
 // Another byte in a sector, where it is on the disk and can be written.
 fn damage(d: &mut MemPort, at: u64, byte: usize, value: u8) -> bool {
-    match sector(d, at) {
-        Some(mut bytes) if byte < 512 => {
-            bytes[byte] = value;
-            d.write_sector(at, &bytes).is_ok() && d.sync().is_ok()
-        }
-        _ => false,
+    let Some(mut bytes) = sector(d, at) else {
+        return false;
+    };
+    if byte >= 512 || at >= d.sectors() {
+        return false;
     }
+    bytes[byte] = value;
+    d.write_sector(at, &bytes).is_ok() && d.sync().is_ok()
 }
 
 const FRESH: &[&str] = &["serve", "--fresh"];
