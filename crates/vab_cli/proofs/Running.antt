@@ -14,7 +14,7 @@ use Rattle.vab_session.specs.Items.{Situation, IsIn, Item, IsWithin, LeavesItem,
 use Rattle.vab_session.specs.Answers.{item_named}
 use Rattle.vab_session.specs.ItemLaws.{named_first, within_item}
 use Rattle.vab_cli.specs.declared.status.Status.{Status}
-use Rattle.vab_cli.specs.declared.status.Status.TheVariants.{Done, Refused, NotADevice, NoMemory}
+use Rattle.vab_cli.specs.declared.status.Status.TheVariants.{Done, Refused, NotADevice, Port, NoMemory}
 use Rattle.vab_cli.specs.Codes.{start_status}
 use Rattle.vab_cli.specs.Opening.{Opens}
 use Rattle.vab_cli.specs.Headline.{IsEarly, IsFailed, RunsItem, FailsBefore, RunsNone}
@@ -91,6 +91,7 @@ module _ {D : Type 0} (seen_of : D → Image) (held_by : D → ℕ → List ℕ 
     status_is = inr (⊎_elim (λ disk. inl (inl disk)) (λ memory. inr memory) early);
     front = (0, told ∙ sym (append-nil (told_of old)));
     whole = λ is. absurd (never is early);
+    untold = λ is. told;
     same = λ is. absurd (never is early);
     every_cut = λ settled o at. (same_cuts old new (time settled) settled o at).device;
   }
@@ -100,14 +101,15 @@ module _ {D : Type 0} (seen_of : D → Image) (held_by : D → ℕ → List ℕ 
       never is (inr memory) = cc
 
   -- there is no device, and the line is told, whole or in part
-  pub none_told : (line : List ℕ) (old mid new : D) (status : Status) → (status ≡ NotADevice) ⊎ (IsFailed status ⊎ (status ≡ NoMemory)) → told_of mid ≡ told_of old → seen_of mid ≡ seen_of old → SameHoldings (held_by old) (held_by mid)
+  pub none_told : (line : List ℕ) (old mid new : D) (status : Status) → (status ≡ NotADevice) ⊎ (status ≡ Port) → told_of mid ≡ told_of old → seen_of mid ≡ seen_of old → SameHoldings (held_by old) (held_by mid)
       → (IsSettled (seen_of old) (held_by old) → Adds moment outcomes old mid (LeavesSame (told_of old) size (seen_of old)))
       → (n : ℕ) × (told_of new ≡ told_of mid ++ take n line) → (status ≡ NotADevice → told_of new ≡ told_of mid ++ line) → seen_of new ≡ seen_of mid → Adds moment outcomes mid new (LeavesSaying (told_of mid) line (held_by mid))
       → RunsNone seen_of held_by told_of left_of moment outcomes size line old new status
   none_told line old mid new status status_is told seen holds time front whole seen' saying = record {
-    status_is = status_is;
+    status_is = ⊎_elim (λ none. inl none) (λ port. inr (inl (inr port))) status_is;
     front = (front.0, front.1 ∙ ap (λ (l : List ℕ). l ++ take front.0 line) told);
     whole = λ is. whole is ∙ ap (λ (l : List ℕ). l ++ line) told;
+    untold = λ is. ⊎_elim (λ none. cc) (λ port. cc) status_is;
     same = λ is. seen' ∙ seen;
     every_cut = λ settled o at.
         all_since moment outcomes old new Same (Leaves (told_of old) (held_by old))

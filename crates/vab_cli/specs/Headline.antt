@@ -98,11 +98,12 @@ module _ {D : Type 0} (seen_of : D → Image) (held_by : D → ℕ → List ℕ 
     pub told : told_of new ≡ told_of old
     pub every_cut : IsAtRest seen_of held_by size old first → (o : Outcome) → outcomes new (moment old) o → LeavesFirst (told_of old) size first o
 
-  -- The disk is no device: this line is told. Nothing is written, and no cut of power makes it one.
+  -- The disk is no device: this line is told. Nothing is written, and no cut of power makes it one. Where memory is refused nothing is told.
   pub record RunsNone (told : List ℕ) (old new : D) (status : Status) : Type 0 where
     pub status_is : (status ≡ NotADevice) ⊎ (IsFailed status ⊎ (status ≡ NoMemory))
     pub front : (n : ℕ) × (told_of new ≡ told_of old ++ take n told)
     pub whole : status ≡ NotADevice → told_of new ≡ told_of old ++ told
+    pub untold : status ≡ NoMemory → told_of new ≡ told_of old
     pub same : status ≡ NotADevice → seen_of new ≡ seen_of old
     pub every_cut : IsSettled (seen_of old) (held_by old) → (o : Outcome) → outcomes new (moment old) o → device size o.image ≡ device size (seen_of old)
 

@@ -11,7 +11,7 @@ returns-then-is_err-clause-none g c = λ t fault none.
     let is : c.from-status.result ≡ NotADevice = search rules in
     let contents = contents_of c.in-Err.fault (sym c.from-status.ensures ∙ is) in
     let untouched = c.in-Err.ensures.untouched t contents in
-    none_told g.P.Disk.seen g.P.Disk.may_hold g.P.Disk.told g.P.Disk.left g.P.Disk.moment g.P.Disk.outcomes g.met.P.Disk.only_now _ c.args.line.now c.args.port.now c.start.new.d c.say_all.new.p Port (inr (inl (inr refl)))
+    none_told g.P.Disk.seen g.P.Disk.may_hold g.P.Disk.told g.P.Disk.left g.P.Disk.moment g.P.Disk.outcomes g.met.P.Disk.only_now _ c.args.line.now c.args.port.now c.start.new.d c.say_all.new.p Port (inr refl)
     (c.start.ensures.quiet.told t) untouched.0 untouched.1 (c.start.ensures.time t) (c.say_all.ensures.front t) (λ bad. cc) (c.say_all.ensures.seen t) (c.say_all.ensures.time t)
 
 pub returns-clause-early : goal.returns-clause-early
