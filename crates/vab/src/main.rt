@@ -10,7 +10,8 @@ use vab_cli::{Status, run};
 use vab_real::FilePort;
 use word::{Device, parse_device};
 
-const USAGE: &str = "usage: vab DEVICE make [--limit BYTES] [--metadata-max BYTES], with a set of images as the input\n\
+const USAGE: &str =
+    "usage: vab DEVICE make [--limit BYTES] [--metadata-max BYTES], with a set of images as the input\n\
     \u{20}      vab DEVICE serve [--fresh]\n\
     \u{20}      vab DEVICE boot | mark | activate SLOT | print NAME | digest NAME\n\
     DEVICE is a file that exists, or mem:N for N sectors of zeros in memory";
