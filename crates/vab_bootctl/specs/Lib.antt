@@ -1,4 +1,2 @@
 pub mod Control
-pub mod ControlLaws
 pub mod Boot
-pub mod BootLaws

@@ -3,4 +3,3 @@ pub mod NumberLaws
 pub mod Name
 pub mod NameLaws
 pub mod Crc
-pub mod CrcLaws

@@ -3,7 +3,7 @@ use Rattle.std.proofs.Common.{◌≡◌, ℕ, ◌+◌, ◌<◌, List, [], ◌∷
 use Rattle.std.proofs.lemmas.List.{take_at}
 use Rattle.vab_disk.specs.Disk.{Image, Outcome, Nothing, SameHoldings, Adds}
 use Rattle.vab_disk.specs.Port.{LeavesSaying}
-use Rattle.vab_disk.specs.Moments.{adds_wider, adds_on}
+use Rattle.vab_disk.proofs.Moments.{adds_wider, adds_on}
 use Rattle.vab_gate.specs.Gate.{sectors_at}
 use Rattle.vab_model.specs.declared.command.Refusal.{Refusal}
 use Rattle.vab_model.specs.declared.state.Image.{Image as ImageOfSlot}
@@ -13,8 +13,8 @@ use Rattle.vab_recover.specs.declared.device.Device.{Device}
 use Rattle.vab_recover.specs.declared.device.Part.{Part}
 use Rattle.vab_recover.specs.Stands.{bytes_at}
 use Rattle.vab_manager.specs.Blocks.{KeepsPart}
-use Rattle.vab_manager.specs.BlockLaws.{kept_once}
-use Rattle.vab_manager.specs.DigestLaws.{bytes_more}
+use Rattle.vab_manager.proofs.BlockLaws.{kept_once}
+use Rattle.vab_manager.proofs.DigestLaws.{bytes_more}
 use Rattle.vab_fbproto.specs.Commands.{Print}
 use Rattle.vab_cli.specs.Codes.{reply_status}
 use Rattle.vab_cli.specs.Verbs.{refused_line, print_told, verb_status}

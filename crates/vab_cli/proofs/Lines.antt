@@ -8,7 +8,7 @@ use Rattle.vab_model.specs.declared.command.Reply.TheVariants as replies
 use Rattle.vab_model.specs.Step.{reply_to}
 use Rattle.vab_fbproto.specs.Commands.{Named, SetActive, Boot, Mark, Print, Digest, named_of, reply_named}
 use Rattle.vab_fbproto.specs.Texts.{slot_letter, refusal_text}
-use Rattle.vab_session.specs.AnswerLaws.{reply_same}
+use Rattle.vab_session.proofs.AnswerLaws.{reply_same}
 use Rattle.vab_cli.specs.Codes.{reply_status}
 use Rattle.vab_cli.specs.Verbs.{line, done_line, reply_line, verb_status}
 use Rattle.vab_cli.specs.declared.status.Status.TheVariants.{Done, Refused}

@@ -5,14 +5,15 @@ use Rattle.std.proofs.lemmas.Bool.Decides.{nat_tests}
 use Rattle.std.proofs.lemmas.List.{append-nil}
 use Rattle.vab_disk.specs.Disk.{Image, Outcome, Leaves, IsSettled, SameHoldings, Adds, Nothing}
 use Rattle.vab_disk.specs.Port.{LeavesSaying}
-use Rattle.vab_disk.specs.Moments.{same_image, adds_wider, adds_on, all_since}
+use Rattle.vab_disk.specs.Written.{same_image}
+use Rattle.vab_disk.proofs.Moments.{adds_wider, adds_on, all_since}
 use Rattle.vab_set.specs.declared.set.SetImage.{SetImage}
 use Rattle.vab_make.specs.declared.fault.MakeFault.{MakeFault}
 use Rattle.vab_make.specs.declared.fault.MakeFault.TheVariants as make
 use Rattle.vab_make.specs.Made.{refusal_of}
 use Rattle.vab_make.specs.Making.{Gives, IsOfDisk, IsMade, LeavesMaking}
 use Rattle.vab_session.specs.Items.{IsIn, IsWithin}
-use Rattle.vab_session.specs.ItemLaws.{telling, within_item}
+use Rattle.vab_session.proofs.ItemLaws.{telling, within_item}
 use Rattle.vab_session.specs.Answers.{item_still}
 use Rattle.vab_cli.specs.declared.status.Status.{Status}
 use Rattle.vab_cli.specs.declared.status.Status.TheVariants.{Done, Disk, Port, NoMemory}

@@ -4,7 +4,8 @@ use Rattle.std.proofs.lemmas.List.{append-nil}
 use Rattle.std.specs.Result.{is_err}
 use Rattle.vab_disk.specs.Disk.{Image, Outcome, Leaves, IsSettled, SameHoldings, Adds}
 use Rattle.vab_disk.specs.Port.{LeavesSaying}
-use Rattle.vab_disk.specs.Moments.{same_image, adds_wider, adds_on, all_since}
+use Rattle.vab_disk.specs.Written.{same_image}
+use Rattle.vab_disk.proofs.Moments.{adds_wider, adds_on, all_since}
 use Rattle.vab_device.specs.declared.fault.StartFault.{StartFault}
 use Rattle.vab_device.specs.declared.fault.StartFault.TheVariants as start
 use Rattle.vab_device.specs.Device.{device, places, IsOfContents}
@@ -12,7 +13,7 @@ use Rattle.vab_recover.specs.Stands.{LeavesSame}
 use Rattle.vab_fbproto.specs.Commands.{Named}
 use Rattle.vab_session.specs.Items.{Situation, IsIn, Item, IsWithin, LeavesItem, IsAtRest, DoesItem}
 use Rattle.vab_session.specs.Answers.{item_named}
-use Rattle.vab_session.specs.ItemLaws.{named_first, within_item}
+use Rattle.vab_session.proofs.ItemLaws.{named_first, within_item}
 use Rattle.vab_cli.specs.declared.status.Status.{Status}
 use Rattle.vab_cli.specs.declared.status.Status.TheVariants.{Done, Refused, NotADevice, Port, NoMemory}
 use Rattle.vab_cli.specs.Codes.{start_status}

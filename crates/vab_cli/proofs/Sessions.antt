@@ -2,7 +2,8 @@
 use Rattle.std.proofs.Common.{◌≡◌, ◌⊎◌, inl, inr, ⊎_elim, ◌^◌, ◌<◌, ◌≤◌, ℕ, List, [], ◌∷◌, ◌++◌, take, codes, Some, None, Ok, Err, refl, sym, ◌∙◌, ap, subst, arith}
 use Rattle.std.proofs.lemmas.Bool.Decides.{nat_tests}
 use Rattle.vab_disk.specs.Disk.{Image, Outcome, Leaves, IsSettled, Adds}
-use Rattle.vab_disk.specs.Moments.{adds_wider, adds_on, all_since, same_image}
+use Rattle.vab_disk.specs.Written.{same_image}
+use Rattle.vab_disk.proofs.Moments.{adds_wider, adds_on, all_since}
 use Rattle.vab_model.specs.declared.state.State.{State}
 use Rattle.vab_device.specs.Device.{device, places}
 use Rattle.vab_recover.specs.Stands.{LeavesSame}
@@ -15,7 +16,7 @@ use Rattle.vab_make.specs.Making.{Gives, IsOfDisk, IsMade, LeavesMaking}
 use Rattle.vab_session.specs.Session.{End, IsSession}
 use Rattle.vab_session.specs.Session as session
 use Rattle.vab_session.specs.Items.{Situation, IsIn, IsWithin, IsAtRest}
-use Rattle.vab_session.specs.ItemLaws.{items_chain, within_greeting}
+use Rattle.vab_session.proofs.ItemLaws.{items_chain, within_greeting}
 use Rattle.vab_session.specs.Answers.{items_of, output_of}
 use Rattle.vab_session.specs.Served.{Answer, EndedBy, PortHeld, Serves}
 use Rattle.vab_session.specs.declared.fault.Ended.TheVariants as ended

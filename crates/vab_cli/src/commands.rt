@@ -24,10 +24,10 @@ use vab_session::say_all;
 // Carries out a command, and tells its line.
 fn do_command<P: Port>(port: &mut P, device: Device, command: &Command) -> Result<Status, Status>
     requires kept { IsDevice device (P.size port.old) }
-    requires stands { P.tells → StandsFor device (P.size port.old) (P.seen port.old) }
-    ensures does { P.tells → (s : Situation) → IsIn (P.size port.old) s (P.seen port.old)
-        → DoesItem P.seen P.may_hold P.told P.moment P.outcomes (P.size port.old) (item_named s (named_of command.now) (line_of (named_of command.now) s.state.current (reply_named s.state (named_of command.now)))) port.old port.new result }
-    ensures status { P.tells → (s : Situation) → IsIn (P.size port.old) s (P.seen port.old) → IfOk result (λ status. status ≡ verb_status s.state (named_of command.now)) }
+    requires stands { P.is_modelled → StandsFor device (P.size port.old) (P.seen port.old) }
+    ensures does { P.is_modelled → (s : Situation) → IsIn (P.size port.old) s (P.seen port.old)
+        → DoesItem P.seen P.may_leave P.told P.moment P.outcomes (P.size port.old) (item_named s (named_of command.now) (line_of (named_of command.now) s.state.current (reply_named s.state (named_of command.now)))) port.old port.new result }
+    ensures status { P.is_modelled → (s : Situation) → IsIn (P.size port.old) s (P.seen port.old) → IfOk result (λ status. status ≡ verb_status s.state (named_of command.now)) }
     ensures done { IfOk result (λ status. (status ≡ Status.Done) ⊎ (status ≡ Status.Refused)) }
     ensures failed { IfErr result IsFailed }
     ensures counts { NoFewer (P.faults port.old) (P.faults port.new) }
@@ -49,10 +49,10 @@ fn do_command<P: Port>(port: &mut P, device: Device, command: &Command) -> Resul
 
 /// Opens the device, carries out a command, and tells its line.
 pub(crate) fn carry_out<P: Port>(alloc: Global, port: &mut P, command: &Command) -> Status
-    ensures runs { P.tells → (s : Situation) → IsIn (P.size port.old) s (P.seen port.old)
-        → RunsItem P.seen P.may_hold P.told P.left P.moment P.outcomes (P.size port.old) s (item_named s (named_of command.now) (line_of (named_of command.now) s.state.current (reply_named s.state (named_of command.now)))) (verb_status s.state (named_of command.now)) port.old port.new result
-        ⊎ FailsBefore P.seen P.may_hold P.told P.left P.moment P.outcomes (P.size port.old) s port.old port.new result }
-    ensures none { P.tells → (fault : Fault) → device (P.size port.old) (P.seen port.old) ≡ Err fault → RunsNone P.seen P.may_hold P.told P.left P.moment P.outcomes (P.size port.old) none_line port.old port.new result }
+    ensures runs { P.is_modelled → (s : Situation) → IsIn (P.size port.old) s (P.seen port.old)
+        → RunsItem P.seen P.may_leave P.told P.input_left P.moment P.outcomes (P.size port.old) s (item_named s (named_of command.now) (line_of (named_of command.now) s.state.current (reply_named s.state (named_of command.now)))) (verb_status s.state (named_of command.now)) port.old port.new result
+        ⊎ FailsBefore P.seen P.may_leave P.told P.input_left P.moment P.outcomes (P.size port.old) s port.old port.new result }
+    ensures none { P.is_modelled → (fault : Fault) → device (P.size port.old) (P.seen port.old) ≡ Err fault → RunsNone P.seen P.may_leave P.told P.input_left P.moment P.outcomes (P.size port.old) none_line port.old port.new result }
     ensures words { result ≢ Status.Usage }
     ensures disk { result ≡ Status.Disk → Rose (P.faults port.old).disk (P.faults port.new).disk }
     ensures port { result ≡ Status.Port → Rose (P.faults port.old).sink (P.faults port.new).sink }

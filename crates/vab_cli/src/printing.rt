@@ -38,12 +38,12 @@ fn tell_block<P: Port>(
     requires kept { IsDevice device.now (P.size port.old) }
     requires slot { slot < 2 }
     requires block { HasBlock device.now slot name.now block }
-    ensures told { P.tells → (p : Part) → KeepsPart device.now slot name.now p → OnOk result (P.told port.new ≡ P.told port.old ++ sectors_at 8 (P.seen port.old) (slice_index p.map block)) }
-    ensures front { P.tells → (p : Part) → KeepsPart device.now slot name.now p → (n : ℕ) × (P.told port.new ≡ P.told port.old ++ take n (sectors_at 8 (P.seen port.old) (slice_index p.map block))) }
+    ensures told { P.is_modelled → (p : Part) → KeepsPart device.now slot name.now p → OnOk result (P.told port.new ≡ P.told port.old ++ sectors_at 8 (P.seen port.old) (slice_index p.map block)) }
+    ensures front { P.is_modelled → (p : Part) → KeepsPart device.now slot name.now p → (n : ℕ) × (P.told port.new ≡ P.told port.old ++ take n (sectors_at 8 (P.seen port.old) (slice_index p.map block))) }
     ensures size { P.size port.new ≡ P.size port.old }
-    ensures seen { P.tells → P.seen port.new ≡ P.seen port.old }
-    ensures crash { P.tells → SameHoldings (P.may_hold port.old) (P.may_hold port.new) }
-    ensures time { P.tells → (p : Part) → KeepsPart device.now slot name.now p → Adds P.moment P.outcomes port.old port.new (LeavesSaying (P.told port.old) (sectors_at 8 (P.seen port.old) (slice_index p.map block)) (P.may_hold port.old)) }
+    ensures seen { P.is_modelled → P.seen port.new ≡ P.seen port.old }
+    ensures crash { P.is_modelled → SameHoldings (P.may_leave port.old) (P.may_leave port.new) }
+    ensures time { P.is_modelled → (p : Part) → KeepsPart device.now slot name.now p → Adds P.moment P.outcomes port.old port.new (LeavesSaying (P.told port.old) (sectors_at 8 (P.seen port.old) (slice_index p.map block)) (P.may_leave port.old)) }
     ensures counts { NoFewer (P.faults port.old) (P.faults port.new) }
     ensures failed { IfErr result IsFailed }
     ensures disk { IsErrOf result Status.Disk → Rose (P.faults port.old).disk (P.faults port.new).disk }
@@ -70,12 +70,12 @@ fn tell_blocks<P: Port>(
     requires kept { IsDevice device.now (P.size port.old) }
     requires slot { slot < 2 }
     requires part { (p : Part) × KeepsPart device.now slot name.now p × (blocks ≡ length p.map) }
-    ensures told { P.tells → (p : Part) → KeepsPart device.now slot name.now p → OnOk result (P.told port.new ≡ P.told port.old ++ bytes_at (P.seen port.old) p.map) }
-    ensures front { P.tells → (p : Part) → KeepsPart device.now slot name.now p → (n : ℕ) × (P.told port.new ≡ P.told port.old ++ take n (bytes_at (P.seen port.old) p.map)) }
+    ensures told { P.is_modelled → (p : Part) → KeepsPart device.now slot name.now p → OnOk result (P.told port.new ≡ P.told port.old ++ bytes_at (P.seen port.old) p.map) }
+    ensures front { P.is_modelled → (p : Part) → KeepsPart device.now slot name.now p → (n : ℕ) × (P.told port.new ≡ P.told port.old ++ take n (bytes_at (P.seen port.old) p.map)) }
     ensures size { P.size port.new ≡ P.size port.old }
-    ensures seen { P.tells → P.seen port.new ≡ P.seen port.old }
-    ensures crash { P.tells → SameHoldings (P.may_hold port.old) (P.may_hold port.new) }
-    ensures time { P.tells → (p : Part) → KeepsPart device.now slot name.now p → Adds P.moment P.outcomes port.old port.new (LeavesSaying (P.told port.old) (bytes_at (P.seen port.old) p.map) (P.may_hold port.old)) }
+    ensures seen { P.is_modelled → P.seen port.new ≡ P.seen port.old }
+    ensures crash { P.is_modelled → SameHoldings (P.may_leave port.old) (P.may_leave port.new) }
+    ensures time { P.is_modelled → (p : Part) → KeepsPart device.now slot name.now p → Adds P.moment P.outcomes port.old port.new (LeavesSaying (P.told port.old) (bytes_at (P.seen port.old) p.map) (P.may_leave port.old)) }
     ensures counts { NoFewer (P.faults port.old) (P.faults port.new) }
     ensures failed { IfErr result IsFailed }
     ensures disk { IsErrOf result Status.Disk → Rose (P.faults port.old).disk (P.faults port.new).disk }
@@ -89,12 +89,12 @@ fn tell_blocks<P: Port>(
 
 // Tells a refusal's line.
 fn refuse<P: Port>(port: &mut P, refusal: Refusal) -> Result<Status, Status>
-    ensures told { P.tells → OnOk result (P.told port.new ≡ P.told port.old ++ line_of refusal) }
-    ensures front { P.tells → (n : ℕ) × (P.told port.new ≡ P.told port.old ++ take n (line_of refusal)) }
+    ensures told { P.is_modelled → OnOk result (P.told port.new ≡ P.told port.old ++ line_of refusal) }
+    ensures front { P.is_modelled → (n : ℕ) × (P.told port.new ≡ P.told port.old ++ take n (line_of refusal)) }
     ensures size { P.size port.new ≡ P.size port.old }
-    ensures seen { P.tells → P.seen port.new ≡ P.seen port.old }
-    ensures crash { P.tells → SameHoldings (P.may_hold port.old) (P.may_hold port.new) }
-    ensures time { P.tells → Adds P.moment P.outcomes port.old port.new (LeavesSaying (P.told port.old) (line_of refusal) (P.may_hold port.old)) }
+    ensures seen { P.is_modelled → P.seen port.new ≡ P.seen port.old }
+    ensures crash { P.is_modelled → SameHoldings (P.may_leave port.old) (P.may_leave port.new) }
+    ensures time { P.is_modelled → Adds P.moment P.outcomes port.old port.new (LeavesSaying (P.told port.old) (line_of refusal) (P.may_leave port.old)) }
     ensures counts { NoFewer (P.faults port.old) (P.faults port.new) }
     ensures status { IfOk result (λ status. status ≡ Status.Refused) }
     ensures failed { IfErr result (λ status. status ≡ Status.Port) }
@@ -111,10 +111,10 @@ fn refuse<P: Port>(port: &mut P, refusal: Refusal) -> Result<Status, Status>
 // Tells an image's bytes, or why there are none.
 fn print_image<P: Port>(port: &mut P, device: &Device, name: &[u8]) -> Result<Status, Status>
     requires kept { IsDevice device.now (P.size port.old) }
-    requires stands { P.tells → StandsFor device.now (P.size port.old) (P.seen port.old) }
-    ensures does { P.tells → (s : Situation) → IsIn (P.size port.old) s (P.seen port.old)
-        → DoesItem P.seen P.may_hold P.told P.moment P.outcomes (P.size port.old) (item_named s (print_named name.now) (print_told (found_of s.state name.now))) port.old port.new result }
-    ensures status { P.tells → (s : Situation) → IsIn (P.size port.old) s (P.seen port.old) → IfOk result (λ status. status ≡ verb_status s.state (print_named name.now)) }
+    requires stands { P.is_modelled → StandsFor device.now (P.size port.old) (P.seen port.old) }
+    ensures does { P.is_modelled → (s : Situation) → IsIn (P.size port.old) s (P.seen port.old)
+        → DoesItem P.seen P.may_leave P.told P.moment P.outcomes (P.size port.old) (item_named s (print_named name.now) (print_told (found_of s.state name.now))) port.old port.new result }
+    ensures status { P.is_modelled → (s : Situation) → IsIn (P.size port.old) s (P.seen port.old) → IfOk result (λ status. status ≡ verb_status s.state (print_named name.now)) }
     ensures done { IfOk result (λ status. (status ≡ Status.Done) ⊎ (status ≡ Status.Refused)) }
     ensures failed { IfErr result IsFailed }
     ensures counts { NoFewer (P.faults port.old) (P.faults port.new) }
@@ -132,10 +132,10 @@ fn print_image<P: Port>(port: &mut P, device: &Device, name: &[u8]) -> Result<St
 
 /// Opens the device, and tells the bytes of an image alone, or why there are none.
 pub(crate) fn print<P: Port>(alloc: Global, port: &mut P, name: &[u8]) -> Status
-    ensures runs { P.tells → (s : Situation) → IsIn (P.size port.old) s (P.seen port.old)
-        → RunsItem P.seen P.may_hold P.told P.left P.moment P.outcomes (P.size port.old) s (item_named s (print_named name.now) (print_told (found_of s.state name.now))) (verb_status s.state (print_named name.now)) port.old port.new result
-        ⊎ FailsBefore P.seen P.may_hold P.told P.left P.moment P.outcomes (P.size port.old) s port.old port.new result }
-    ensures none { P.tells → (fault : Fault) → device (P.size port.old) (P.seen port.old) ≡ Err fault → RunsNone P.seen P.may_hold P.told P.left P.moment P.outcomes (P.size port.old) none_line port.old port.new result }
+    ensures runs { P.is_modelled → (s : Situation) → IsIn (P.size port.old) s (P.seen port.old)
+        → RunsItem P.seen P.may_leave P.told P.input_left P.moment P.outcomes (P.size port.old) s (item_named s (print_named name.now) (print_told (found_of s.state name.now))) (verb_status s.state (print_named name.now)) port.old port.new result
+        ⊎ FailsBefore P.seen P.may_leave P.told P.input_left P.moment P.outcomes (P.size port.old) s port.old port.new result }
+    ensures none { P.is_modelled → (fault : Fault) → device (P.size port.old) (P.seen port.old) ≡ Err fault → RunsNone P.seen P.may_leave P.told P.input_left P.moment P.outcomes (P.size port.old) none_line port.old port.new result }
     ensures words { result ≢ Status.Usage }
     ensures disk { result ≡ Status.Disk → Rose (P.faults port.old).disk (P.faults port.new).disk }
     ensures port { result ≡ Status.Port → Rose (P.faults port.old).sink (P.faults port.new).sink }

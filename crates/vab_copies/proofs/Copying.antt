@@ -3,9 +3,10 @@ use Rattle.std.proofs.Common.{◌≡◌, ◌≢◌, inl, inr, ⊎_elim, ℕ, ◌
 use Rattle.std.specs.Prelude.{OnOk}
 use Rattle.std.proofs.lemmas.Bool.{cases_eq}
 use Rattle.vab_disk.specs.Disk.{Image, set_sector, Outcome, LeavesWith, LeavesEither, LeavesBlend, IsSettled, IsAt, NoMoreBut}
-use Rattle.vab_disk.specs.Moments.{same_image, set_here, set_there, settled_blend}
+use Rattle.vab_disk.specs.Written.{same_image, set_here, set_there}
+use Rattle.vab_disk.proofs.Moments.{settled_blend}
 use Rattle.vab_copies.specs.Copies.{zeros, text_sector, with_text, with_rest, IsOutside, IsOfText, IsOfCopy, ReadsWith, LeavesCopy}
-use Rattle.vab_copies.specs.CopyLaws.{text_inside, text_outside}
+use Rattle.vab_copies.proofs.CopyLaws.{text_inside, text_outside}
 use Rattle.vab_copies.proofs.Sectors.{where_is, rest_inside, rest_outside, rest_before, rest_is}
 
 -- no more than before, where that is less

@@ -1,3 +1,4 @@
+pub mod CopyLaws
 mod Copying
 mod Pair
 mod Sectors

@@ -2,7 +2,7 @@
 use Rattle.std.proofs.Common.{◌≡◌, inl, inr, ⊎_elim, ℕ, ◌+◌, ◌≤◌, List, ◌∙◌, ap, arith}
 use Rattle.vab_disk.specs.Disk.{Image, Outcome}
 use Rattle.vab_copies.specs.Copies.{with_text, IsOfCopy, IsOfEither, LeavesCopy, IsKept, HoldsText, StandCopies, LeavesCopies}
-use Rattle.vab_copies.specs.CopyLaws.{text_outside, text_held}
+use Rattle.vab_copies.proofs.CopyLaws.{text_outside, text_held}
 
 module _ (n primary backup : ℕ) (text : List ℕ) where
   pub of_primary : (s : ℕ) (b : List ℕ) → IsOfCopy n primary text s b → IsOfEither n primary backup text s b

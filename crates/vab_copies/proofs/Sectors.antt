@@ -3,7 +3,7 @@ use Rattle.std.proofs.Common.{◌≡◌, ◌⊎◌, inl, inr, ⊎_elim, ℕ, ◌
 use Rattle.std.proofs.lemmas.Bool.{cases_eq}
 use Rattle.std.proofs.lemmas.Bool.Decides.{nat_tests}
 use Rattle.vab_disk.specs.Disk.{Image, set_sector, Outcome, Leaves, LeavesWith, IsAt, Writes, MayBeSet}
-use Rattle.vab_disk.specs.Moments.{same_image, set_here, set_there}
+use Rattle.vab_disk.specs.Written.{same_image, set_here, set_there}
 use Rattle.vab_copies.specs.Copies.{text_sector, with_rest, IsOutside, IsOfText, ReadsWith}
 
 -- is a sector among some?

@@ -18,17 +18,17 @@ pub fn store_copies<D: Disk>(
     requires some { 0 < count }
     requires apart { primary + count ≤ backup }
     requires on_disk { backup + count ≤ D.size d.old }
-    ensures written { D.tells → OnOk result (D.seen d.new ≡ with_text count text.now (with_text count text.now (D.seen d.old) primary) backup) }
-    ensures settled { D.tells → OnOk result (IsSettled (D.seen d.new) (D.may_hold d.new)) }
-    ensures read { D.tells → ReadsWith (IsOfEither count primary backup text.now) (D.seen d.old) (D.seen d.new) }
-    ensures others { D.tells → (s : ℕ) → IsOutside primary count s → IsOutside backup count s → D.seen d.new s ≡ D.seen d.old s }
-    ensures quiet { Quiet D.tells D.size D.told D.left D.faults d.old d.new }
-    ensures crash { D.tells → NoMoreBut (IsOfEither count primary backup text.now) (D.may_hold d.old) (D.may_hold d.new) }
+    ensures written { D.is_modelled → OnOk result (D.seen d.new ≡ with_text count text.now (with_text count text.now (D.seen d.old) primary) backup) }
+    ensures settled { D.is_modelled → OnOk result (IsSettled (D.seen d.new) (D.may_leave d.new)) }
+    ensures read { D.is_modelled → ReadsWith (IsOfEither count primary backup text.now) (D.seen d.old) (D.seen d.new) }
+    ensures others { D.is_modelled → (s : ℕ) → IsOutside primary count s → IsOutside backup count s → D.seen d.new s ≡ D.seen d.old s }
+    ensures quiet { Quiet D.is_modelled D.size D.told D.input_left D.heard D.faults d.old d.new }
+    ensures crash { D.is_modelled → NoMoreBut (IsOfEither count primary backup text.now) (D.may_leave d.old) (D.may_leave d.new) }
     // In each outcome each sector is as a crash could have left it before, or it is one of the copies'.
-    ensures time { D.tells → Adds D.moment D.outcomes d.old d.new
-        (LeavesWith (IsOfEither count primary backup text.now) (D.told d.old) (D.may_hold d.old)) }
+    ensures time { D.is_modelled → Adds D.moment D.outcomes d.old d.new
+        (LeavesWith (IsOfEither count primary backup text.now) (D.told d.old) (D.may_leave d.old)) }
     // Where nothing was pending, the backup is the old one until the primary is the new one.
-    ensures copies { D.tells → IsSettled (D.seen d.old) (D.may_hold d.old) → Adds D.moment D.outcomes d.old d.new
+    ensures copies { D.is_modelled → IsSettled (D.seen d.old) (D.may_leave d.old) → Adds D.moment D.outcomes d.old d.new
         (LeavesCopies (D.told d.old) (D.seen d.old) count primary backup text.now) }
     ensures cause { OnErr result (Rose (D.faults d.old).disk (D.faults d.new).disk) }
 {

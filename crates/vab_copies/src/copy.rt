@@ -12,17 +12,17 @@ use vab_gate::{DiskFault, put_gate, settle};
 pub fn write_copy<D: Disk>(d: &mut D, at: u64, count: u64, text: &[u8]) -> Result<(), DiskFault>
     requires some { 0 < count }
     requires on_disk { at + count ≤ D.size d.old }
-    ensures written { D.tells → OnOk result (D.seen d.new ≡ with_text count text.now (D.seen d.old) at) }
-    ensures settled { D.tells → OnOk result (IsSettled (D.seen d.new) (D.may_hold d.new)) }
-    ensures read { D.tells → ReadsWith (IsOfCopy count at text.now) (D.seen d.old) (D.seen d.new) }
-    ensures others { D.tells → (s : ℕ) → IsOutside at count s → D.seen d.new s ≡ D.seen d.old s }
-    ensures quiet { Quiet D.tells D.size D.told D.left D.faults d.old d.new }
-    ensures crash { D.tells → NoMoreBut (IsOfCopy count at text.now) (D.may_hold d.old) (D.may_hold d.new) }
+    ensures written { D.is_modelled → OnOk result (D.seen d.new ≡ with_text count text.now (D.seen d.old) at) }
+    ensures settled { D.is_modelled → OnOk result (IsSettled (D.seen d.new) (D.may_leave d.new)) }
+    ensures read { D.is_modelled → ReadsWith (IsOfCopy count at text.now) (D.seen d.old) (D.seen d.new) }
+    ensures others { D.is_modelled → (s : ℕ) → IsOutside at count s → D.seen d.new s ≡ D.seen d.old s }
+    ensures quiet { Quiet D.is_modelled D.size D.told D.input_left D.heard D.faults d.old d.new }
+    ensures crash { D.is_modelled → NoMoreBut (IsOfCopy count at text.now) (D.may_leave d.old) (D.may_leave d.new) }
     // In each outcome each sector is as a crash could have left it before, or it is one of the copy's.
-    ensures time { D.tells → Adds D.moment D.outcomes d.old d.new
-        (LeavesWith (IsOfCopy count at text.now) (D.told d.old) (D.may_hold d.old)) }
+    ensures time { D.is_modelled → Adds D.moment D.outcomes d.old d.new
+        (LeavesWith (IsOfCopy count at text.now) (D.told d.old) (D.may_leave d.old)) }
     // Where nothing was pending, the copy is the old one, or begins with zeros, or is the new one.
-    ensures copy { D.tells → IsSettled (D.seen d.old) (D.may_hold d.old) → Adds D.moment D.outcomes d.old d.new
+    ensures copy { D.is_modelled → IsSettled (D.seen d.old) (D.may_leave d.old) → Adds D.moment D.outcomes d.old d.new
         (LeavesCopy (D.told d.old) (D.seen d.old) (with_text count text.now (D.seen d.old) at) at count) }
     ensures cause { OnErr result (Rose (D.faults d.old).disk (D.faults d.new).disk) }
 {
@@ -36,17 +36,17 @@ pub fn write_copy<D: Disk>(d: &mut D, at: u64, count: u64, text: &[u8]) -> Resul
 /// A cut may leave any mixture of the old sectors and the new: for a copy that isn't needed.
 pub fn rewrite_copy<D: Disk>(d: &mut D, at: u64, count: u64, text: &[u8]) -> Result<(), DiskFault>
     requires { at + count ≤ D.size d.old }
-    ensures written { D.tells → OnOk result (D.seen d.new ≡ with_text count text.now (D.seen d.old) at) }
-    ensures settled { D.tells → OnOk result (IsSettled (D.seen d.new) (D.may_hold d.new)) }
-    ensures read { D.tells → ReadsWith (IsOfText 0 count at text.now) (D.seen d.old) (D.seen d.new) }
-    ensures others { D.tells → (s : ℕ) → IsOutside at count s → D.seen d.new s ≡ D.seen d.old s }
-    ensures quiet { Quiet D.tells D.size D.told D.left D.faults d.old d.new }
-    ensures crash { D.tells → NoMoreBut (IsOfText 0 count at text.now) (D.may_hold d.old) (D.may_hold d.new) }
+    ensures written { D.is_modelled → OnOk result (D.seen d.new ≡ with_text count text.now (D.seen d.old) at) }
+    ensures settled { D.is_modelled → OnOk result (IsSettled (D.seen d.new) (D.may_leave d.new)) }
+    ensures read { D.is_modelled → ReadsWith (IsOfText 0 count at text.now) (D.seen d.old) (D.seen d.new) }
+    ensures others { D.is_modelled → (s : ℕ) → IsOutside at count s → D.seen d.new s ≡ D.seen d.old s }
+    ensures quiet { Quiet D.is_modelled D.size D.told D.input_left D.heard D.faults d.old d.new }
+    ensures crash { D.is_modelled → NoMoreBut (IsOfText 0 count at text.now) (D.may_leave d.old) (D.may_leave d.new) }
     // In each outcome each sector is as a crash could have left it before, or it is one of the copy's.
-    ensures time { D.tells → Adds D.moment D.outcomes d.old d.new
-        (LeavesWith (IsOfText 0 count at text.now) (D.told d.old) (D.may_hold d.old)) }
+    ensures time { D.is_modelled → Adds D.moment D.outcomes d.old d.new
+        (LeavesWith (IsOfText 0 count at text.now) (D.told d.old) (D.may_leave d.old)) }
     // Where nothing was pending, each of the copy's sectors is old or new.
-    ensures copy { D.tells → IsSettled (D.seen d.old) (D.may_hold d.old) → Adds D.moment D.outcomes d.old d.new
+    ensures copy { D.is_modelled → IsSettled (D.seen d.old) (D.may_leave d.old) → Adds D.moment D.outcomes d.old d.new
         (LeavesBlend (D.told d.old) (D.seen d.old) (with_text count text.now (D.seen d.old) at)) }
     ensures cause { OnErr result (Rose (D.faults d.old).disk (D.faults d.new).disk) }
 {

@@ -42,12 +42,12 @@ pub fn read_text<D: Disk>(
     count: u64,
 ) -> Result<Vec<u8>, ReadFault>
     requires { at + count ≤ D.size d.old }
-    ensures text { D.tells → IfOk result (λ text. text.items ≡ sectors_at count (D.seen d.old) at) }
+    ensures text { D.is_modelled → IfOk result (λ text. text.items ≡ sectors_at count (D.seen d.old) at) }
     ensures long { IfOk result (λ text. length text.items ≡ 512 * count) }
-    ensures seen { D.tells → D.seen d.new ≡ D.seen d.old }
-    ensures crash { D.tells → SameHoldings (D.may_hold d.old) (D.may_hold d.new) }
-    ensures quiet { Quiet D.tells D.size D.told D.left D.faults d.old d.new }
-    ensures time { D.tells → Adds D.moment D.outcomes d.old d.new Nothing }
+    ensures seen { D.is_modelled → D.seen d.new ≡ D.seen d.old }
+    ensures crash { D.is_modelled → SameHoldings (D.may_leave d.old) (D.may_leave d.new) }
+    ensures quiet { Quiet D.is_modelled D.size D.told D.input_left D.heard D.faults d.old d.new }
+    ensures time { D.is_modelled → Adds D.moment D.outcomes d.old d.new Nothing }
     ensures cause { IsErrOf result ReadFault.Disk → Rose (D.faults d.old).disk (D.faults d.new).disk }
 {
     let mut text = Vec::new(alloc);

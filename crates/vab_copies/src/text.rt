@@ -31,11 +31,11 @@ pub fn write_sectors<D: Disk>(
 ) -> Result<(), DiskFault>
     requires some { from ≤ count }
     requires on_disk { at + count ≤ D.size d.old }
-    ensures written { D.tells → OnOk result (D.seen d.new ≡ with_rest from count text.now (D.seen d.old) at) }
-    ensures read { D.tells → ReadsWith (IsOfText from count at text.now) (D.seen d.old) (D.seen d.new) }
-    ensures quiet { Quiet D.tells D.size D.told D.left D.faults d.old d.new }
-    ensures crash { D.tells → Writes (IsOfText from count at text.now) (D.may_hold d.old) (D.may_hold d.new) }
-    ensures time { D.tells → Adds D.moment D.outcomes d.old d.new (LeavesWith (IsOfText from count at text.now) (D.told d.old) (D.may_hold d.old)) }
+    ensures written { D.is_modelled → OnOk result (D.seen d.new ≡ with_rest from count text.now (D.seen d.old) at) }
+    ensures read { D.is_modelled → ReadsWith (IsOfText from count at text.now) (D.seen d.old) (D.seen d.new) }
+    ensures quiet { Quiet D.is_modelled D.size D.told D.input_left D.heard D.faults d.old d.new }
+    ensures crash { D.is_modelled → Writes (IsOfText from count at text.now) (D.may_leave d.old) (D.may_leave d.new) }
+    ensures time { D.is_modelled → Adds D.moment D.outcomes d.old d.new (LeavesWith (IsOfText from count at text.now) (D.told d.old) (D.may_leave d.old)) }
     ensures cause { OnErr result (Rose (D.faults d.old).disk (D.faults d.new).disk) }
 {
     for i in from..count {

@@ -2,7 +2,8 @@
 use Rattle.std.proofs.Common.{◌≡◌, ◌⊎◌, inl, inr, ⊎_elim, ℕ, ◌≤◌, List, [], ◌∷◌, ◌++◌, length, take, drop, reverse, sym, ◌∙◌, ap, subst, arith}
 use Rattle.std.proofs.lemmas.List.{reverse-append, take-append-drop, drop_all}
 use Rattle.vab_disk.specs.Disk.{Outcome}
-use Rattle.vab_disk.specs.Memory.{Holds, seen_holds, LeavesNow, LeftSince, left_now, calls_of, earlier_of}
+use Rattle.vab_disk.specs.Memory.{Holds, LeavesNow, LeftSince, calls_of, earlier_of}
+use Rattle.vab_disk.specs.MemoryLaws.{seen_holds, left_now}
 use Rattle.vab_disk.specs.declared.record.Call.{Call}
 use Rattle.vab_disk.specs.declared.record.Call.TheVariants.{Synced}
 

@@ -1,5 +1,7 @@
 -- What the calls of a disk do, and what a crash may leave of it.
-use Rattle.std.specs.Prelude.{◌≡◌, ◌⊎◌, ℕ, ◌+◌, ◌-◌, ◌^◌, ◌≤◌, ◌<◌, min, List, length, slice_index, if◌then◌else◌, ◌==◌}
+use Rattle.std.specs.Prelude.{
+  ◌≡◌, ◌⊎◌, ℕ, ◌+◌, ◌-◌, ◌^◌, ◌≤◌, ◌<◌, min, List, length, slice_index, if◌then◌else◌, ◌==◌
+}
 
 -- The bytes of each sector. How many sectors there are is said beside it.
 abbrev pub Image : Type 0
@@ -20,19 +22,26 @@ pub record Outcome : Type 0 where
   pub image : Image
 
 -- Each sector by itself has a value that a crash may leave there.
-pub record Leaves (told : List ℕ) (may_hold : ℕ → List ℕ → Type 0) (o : Outcome) : Type 0 where
+pub record Leaves (told : List ℕ) (may_leave : ℕ → List ℕ → Type 0) (o : Outcome) : Type 0 where
   pub told_so_far : o.told ≡ told
-  pub each_sector : (s : ℕ) → may_hold s (o.image s)
+  pub each_sector : (s : ℕ) → may_leave s (o.image s)
 
 -- Nothing is pending: a crash leaves what a read gives.
 abbrev pub IsSettled : Image → (ℕ → List ℕ → Type 0) → Type 0
-IsSettled seen may_hold = (s : ℕ) (b : List ℕ) → may_hold s b → b ≡ seen s
+IsSettled seen may_leave = (s : ℕ) (b : List ℕ) → may_leave s b → b ≡ seen s
 
 -- Time goes on: the outcomes since a moment are those from before, and such ones as have P.
-pub record Adds {D : Type 0} (moment : D → ℕ) (outcomes : D → ℕ → Outcome → Type 0) (old new : D) (P : Outcome → Type 0) : Type 0 where
+pub record Adds {D : Type 0}
+    (moment : D → ℕ)
+    (outcomes : D → ℕ → Outcome → Type 0)
+    (old new : D)
+    (P : Outcome → Type 0) : Type 0 where
   pub later : moment old ≤ moment new
   pub keeps : (t : ℕ) (o : Outcome) → t ≤ moment old → outcomes old t o → outcomes new t o
-  pub adds : (t : ℕ) (o : Outcome) → t ≤ moment old → outcomes new t o → outcomes old t o ⊎ P o
+  pub adds : (t : ℕ) (o : Outcome)
+      → t ≤ moment old
+      → outcomes new t o
+      → outcomes old t o ⊎ P o
 
 -- nothing else: no outcome is new
 abbrev pub Nothing : Outcome → Type 0
@@ -43,7 +52,7 @@ abbrev pub IsAt : ℕ → List ℕ → ℕ → List ℕ → Type 0
 IsAt at bytes s b = (s ≡ at) × (b ≡ bytes)
 
 -- a sector may hold no more than before, but for these values
-abbrev pub NoMoreBut : (ℕ → List ℕ → Type 0) → (ℕ → List ℕ → Type 0) → (ℕ → List ℕ → Type 0) → Type 0
+abbrev pub NoMoreBut : (W old new : ℕ → List ℕ → Type 0) → Type 0
 NoMoreBut W old new = (s : ℕ) (b : List ℕ) → new s b → old s b ⊎ W s b
 
 -- the values of each sector after writes: those from before, and such as were written
@@ -52,9 +61,13 @@ pub record Writes (W : ℕ → List ℕ → Type 0) (old new : ℕ → List ℕ 
   pub adds : NoMoreBut W old new
 
 -- Each sector by itself has a value that a crash could have left before, or one of these.
-pub record LeavesWith (W : ℕ → List ℕ → Type 0) (told : List ℕ) (may_hold : ℕ → List ℕ → Type 0) (o : Outcome) : Type 0 where
+pub record LeavesWith
+    (W : ℕ → List ℕ → Type 0)
+    (told : List ℕ)
+    (may_leave : ℕ → List ℕ → Type 0)
+    (o : Outcome) : Type 0 where
   pub told_so_far : o.told ≡ told
-  pub each_sector : (s : ℕ) → may_hold s (o.image s) ⊎ W s (o.image s)
+  pub each_sector : (s : ℕ) → may_leave s (o.image s) ⊎ W s (o.image s)
 
 -- the one disk or the other, with nothing more told
 pub record LeavesEither (told : List ℕ) (old new : Image) (o : Outcome) : Type 0 where
@@ -95,9 +108,21 @@ pub record NoFewer (before now : Faults) : Type 0 where
 abbrev pub Rose : ℕ → ℕ → Type 0
 Rose before now = min (before + 1) (2 ^ 64 - 1) ≤ now
 
+-- What was told and what of the input was left when bytes were heard.
+pub record Hearing : Type 0 where
+  pub told : List ℕ
+  pub input_left : List ℕ
+
 -- A run of disk calls tells nothing, hears nothing, and keeps the size. No count of faults falls.
-pub record Quiet {D : Type 0} (tells : Type 0) (size_of : D → ℕ) (told_of left_of : D → List ℕ) (faults_of : D → Faults) (old new : D) : Type 0 where
+pub record Quiet {D : Type 0}
+    (is_modelled : Type 0)
+    (size_of : D → ℕ)
+    (told_of left_of : D → List ℕ)
+    (heard_by : D → List Hearing)
+    (faults_of : D → Faults)
+    (old new : D) : Type 0 where
   pub size : size_of new ≡ size_of old
-  pub told : tells → told_of new ≡ told_of old
-  pub left : tells → left_of new ≡ left_of old
+  pub told : is_modelled → told_of new ≡ told_of old
+  pub left : is_modelled → left_of new ≡ left_of old
+  pub heard : is_modelled → heard_by new ≡ heard_by old
   pub counts : NoFewer (faults_of old) (faults_of new)

@@ -1,11 +1,10 @@
 -- What a port in memory holds, by the calls that took effect, the newest first.
-use Rattle.std.specs.Prelude.{◌≡◌, ◌⊎◌, ℕ, ◌+◌, ◌≤◌, ◌<◌, List, [], ◌∷◌, ◌++◌, length, take, drop, reverse, replicate, nat_lt, if◌then◌else◌, Option, Some, None, refl, zero, suc}
-use Rattle.std.proofs.Common.{inl, inr, arith, sym, subst, ◌∙◌, get_or, get_or-drop}
-use Rattle.std.proofs.lemmas.List.{length-replicate}
-use Rattle.std.proofs.lemmas.Bool.Decides.{nat_tests}
-use Rattle.std.proofs.lemmas.Bool.{cases_eq}
-use Rattle.vab_disk.specs.Disk.{Image, IsSector, set_sector, Outcome, Leaves, IsAt}
-use Rattle.vab_disk.specs.Moments.{set_here, set_there}
+use Rattle.std.specs.Prelude.{
+  ◌≡◌, ◌⊎◌, ℕ, ◌+◌, ◌≤◌, ◌<◌, List, [], ◌∷◌, ◌++◌, length, take, drop, reverse, replicate, nat_lt,
+  if◌then◌else◌, Option, Some, None
+}
+use Rattle.vab_disk.specs.Disk.{Image, set_sector, Outcome, Hearing, Leaves, IsAt}
+use Rattle.vab_disk.specs.Port.{heard_then}
 use Rattle.vab_disk.specs.declared.record.Call.{Call}
 use Rattle.vab_disk.specs.declared.record.Call.TheVariants.{Read, Wrote, Synced, Heard, Said}
 
@@ -61,6 +60,25 @@ told_of (Read at ∷ older) = told_of older
 told_of (Synced ∷ older) = told_of older
 told_of (Heard n ∷ older) = told_of older
 
+-- how many bytes were heard
+abbrev pub taken_of : List Call → ℕ
+taken_of [] = 0
+taken_of (Heard n ∷ older) = taken_of older + n
+taken_of (Wrote at sector ∷ older) = taken_of older
+taken_of (Read at ∷ older) = taken_of older
+taken_of (Synced ∷ older) = taken_of older
+taken_of (Said bytes ∷ older) = taken_of older
+
+-- the hearings
+abbrev pub heard_of : List ℕ → List Call → List Hearing
+heard_of input [] = []
+heard_of input (Heard n ∷ older) =
+    heard_then (heard_of input older) (told_of older) (drop (taken_of older) input)
+heard_of input (Wrote at sector ∷ older) = heard_of input older
+heard_of input (Read at ∷ older) = heard_of input older
+heard_of input (Synced ∷ older) = heard_of input older
+heard_of input (Said bytes ∷ older) = heard_of input older
+
 -- what a crash may leave after these calls of a run, and those of the runs before it
 abbrev pub LeavesNow : ℕ → List Call → List Call → Outcome → Type 0
 LeavesNow count earlier calls = Leaves (told_of calls) (Holds count (calls ++ earlier))
@@ -70,70 +88,22 @@ abbrev pub LeftSince : ℕ → List Call → List Call → ℕ → Outcome → T
 LeftSince count earlier [] t o = LeavesNow count earlier [] o
 LeftSince count earlier (c ∷ older) t o = LeavesNow count earlier (c ∷ older) o ⊎ ((t ≤ length older) × LeftSince count earlier older t o)
 
-pub seen_holds : (count : ℕ) (calls : List Call) (s : ℕ) → Holds count calls s (seen_of count calls s)
-seen_holds count [] s = refl
-seen_holds count (Wrote at sector ∷ older) s = elim (cases_eq s at) [
-  | inl here ↦ inr (here, set_here (seen_of count older) at sector.bytes s here)
-  | inr other ↦ inl (subst (Holds count older s) (sym (set_there (seen_of count older) at sector.bytes s other)) (seen_holds count older s))
-]
-seen_holds count (Read at ∷ older) s = seen_holds count older s
-seen_holds count (Synced ∷ older) s = refl
-seen_holds count (Heard n ∷ older) s = seen_holds count older s
-seen_holds count (Said bytes ∷ older) s = seen_holds count older s
+-- these bytes were written to a sector after the last sync
+abbrev pub IsWrittenSince : List Call → ℕ → List ℕ → Type 0
+IsWrittenSince [] s b = ⊥
+IsWrittenSince (Wrote at sector ∷ older) s b = IsWrittenSince older s b ⊎ IsAt at sector.bytes s b
+IsWrittenSince (Synced ∷ older) s b = ⊥
+IsWrittenSince (Read at ∷ older) s b = IsWrittenSince older s b
+IsWrittenSince (Heard n ∷ older) s b = IsWrittenSince older s b
+IsWrittenSince (Said bytes ∷ older) s b = IsWrittenSince older s b
 
-pub left_now : (count : ℕ) (earlier calls : List Call) (t : ℕ) (o : Outcome) → LeavesNow count earlier calls o → LeftSince count earlier calls t o
-left_now count earlier [] t o now = now
-left_now count earlier (c ∷ older) t o now = inl now
+-- What a crash may leave in a sector is its settled value, or one written since the last sync.
+abbrev pub LeavesSettledOrWritten : Type 0
+LeavesSettledOrWritten = (count : ℕ) (calls : List Call) (s : ℕ) (b : List ℕ)
+    → Holds count calls s b
+    → (b ≡ settled_of count calls s) ⊎ IsWrittenSince calls s b
 
-pub left_only : (count : ℕ) (earlier calls : List Call) (o : Outcome) → LeftSince count earlier calls (length calls) o → LeavesNow count earlier calls o
-left_only count earlier [] o left = left
-left_only count earlier (c ∷ older) o (inl now) = now
-left_only count earlier (c ∷ older) o (inr past) = absurd (omega (arith, past.0))
-
-pub settled_holds : (count : ℕ) (calls : List Call) (s : ℕ) → Holds count calls s (settled_of count calls s)
-settled_holds count [] s = refl
-settled_holds count (Wrote at sector ∷ older) s = inl (settled_holds count older s)
-settled_holds count (Read at ∷ older) s = settled_holds count older s
-settled_holds count (Synced ∷ older) s = refl
-settled_holds count (Heard n ∷ older) s = settled_holds count older s
-settled_holds count (Said bytes ∷ older) s = settled_holds count older s
-
-blank_at : (count s : ℕ) → s < count → blank count s ≡ replicate 512 0
-blank_at count s below = grind (arith, nat_tests)
-
-get_or-same : (z n k : ℕ) → get_or (replicate n z) k z ≡ z
-get_or-same z zero k = refl
-get_or-same z (suc n) zero = refl
-get_or-same z (suc n) (suc k) = get_or-same z n k
-
--- a sector of zeros
-pub zeros_whole : IsSector (replicate 512 0)
-zeros_whole = record {
-  long = length-replicate {A = ℕ} 512 0;
-  small = λ k. omega (arith, get_or-same 0 512 k);
-}
-
--- what was written or what was there at first is a whole sector
-pub seen_whole : (count : ℕ) (calls : List Call) (s : ℕ) → s < count → IsSector (seen_of count calls s)
-seen_whole count [] s below = subst IsSector (sym (blank_at count s below)) zeros_whole
-seen_whole count (Wrote at sector ∷ older) s below = elim (cases_eq s at) [
-  | inl here ↦ subst IsSector (sym (set_here (seen_of count older) at sector.bytes s here)) sector.whole
-  | inr other ↦ subst IsSector (sym (set_there (seen_of count older) at sector.bytes s other)) (seen_whole count older s below)
-]
-seen_whole count (Read at ∷ older) s below = seen_whole count older s below
-seen_whole count (Synced ∷ older) s below = seen_whole count older s below
-seen_whole count (Heard n ∷ older) s below = seen_whole count older s below
-seen_whole count (Said bytes ∷ older) s below = seen_whole count older s below
-
-pub held_whole : (count : ℕ) (calls : List Call) (s : ℕ) (b : List ℕ) → s < count → Holds count calls s b → IsSector b
-held_whole count [] s b below is = subst IsSector (sym (is ∙ blank_at count s below)) zeros_whole
-held_whole count (Wrote at sector ∷ older) s b below (inl was) = held_whole count older s b below was
-held_whole count (Wrote at sector ∷ older) s b below (inr wrote) = subst IsSector (sym wrote.1) sector.whole
-held_whole count (Read at ∷ older) s b below is = held_whole count older s b below is
-held_whole count (Synced ∷ older) s b below is = subst IsSector (sym is) (seen_whole count older s below)
-held_whole count (Heard n ∷ older) s b below is = held_whole count older s b below is
-held_whole count (Said bytes ∷ older) s b below is = held_whole count older s b below is
-
--- what is left of bytes is bytes
-pub dropped_bytes : (input : List ℕ) (n k : ℕ) → ((i : ℕ) → get_or input i 0 < 256) → get_or (drop n input) k 0 < 256
-dropped_bytes input n k bytes = let at : get_or (drop n input) k 0 ≡ get_or input (n + k) 0 = get_or-drop n input k 0 in omega (arith, bytes (n + k), at)
+abbrev pub LeavesEachOfThem : Type 0
+LeavesEachOfThem = (count : ℕ) (calls : List Call) (s : ℕ) (b : List ℕ)
+    → (b ≡ settled_of count calls s) ⊎ IsWrittenSince calls s b
+    → Holds count calls s b

@@ -9,5 +9,5 @@ mod record;
 
 pub use disk::{Disk, Failed, Port, PortFault};
 pub use failing::Failing;
-pub use memory::{CallKind, MemPort, NoMemory};
+pub use memory::{CallKind, MemPort, NoMemory, laws_of_memory};
 pub use record::{Call, Sector};

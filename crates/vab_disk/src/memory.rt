@@ -1,10 +1,11 @@
 // A port in memory. Each call is done at once. It keeps each call that took effect, and so what each moment left.
 ghost use Rattle.std.specs.Prelude.{◌≡◌, ◌⊎◌, ◌≤◌, ◌<◌, ◌^◌, ℕ, List, [], ◌∷◌, ◌+◌, ◌++◌, length, drop, reverse, slice_index_or, replicate, IfOk, OnOk, OnErr, IsTrue, ◌↔◌, Contains};
-ghost use Rattle.std.specs.Bool.{OnTrue};
+ghost use Rattle.std.specs.Bool.{OnTrue, OnFalse};
 ghost use Rattle.vab_disk.specs.Disk.{IsSettled, SameHoldings, Rose};
 ghost use Rattle.vab_disk.specs.Numbered.{Numbered};
 ghost use Rattle.vab_disk.specs.Port.{Hears};
-ghost use Rattle.vab_disk.specs.Memory.{seen_of, told_of, calls_of, earlier_of, IsStopped};
+ghost use Rattle.vab_disk.specs.declared.record.Call.{Call as CallOf};
+ghost use Rattle.vab_disk.specs.Memory.{seen_of, settled_of, told_of, taken_of, calls_of, earlier_of, IsStopped, LeavesSettledOrWritten, LeavesEachOfThem};
 
 use crate::input::Input;
 use crate::{Call, Disk, Failed, Failing, Port, PortFault, Sector};
@@ -41,6 +42,7 @@ pub struct MemPort {
     sink: Failing,
     starved: u64,
     writes: u64,
+    syncs: u64,
     stop: Option<u64>,
     ghost small: { count < 2 ^ 55 },
     ghost whole: { length cells.items ≡ count },
@@ -48,6 +50,7 @@ pub struct MemPort {
     ghost tells: { told.items ≡ told_of (calls_of begun calls.items) },
     ghost began: { begun ≤ length calls.items },
     ghost within: { heard ≤ length input.bytes.items },
+    ghost taken: { heard ≡ taken_of (calls_of begun calls.items) },
 }
 
 /// The calls that are numbered together.
@@ -57,6 +60,12 @@ pub enum CallKind {
     Hear,
     Say,
 }
+
+/// What a crash may leave of a port in memory, by the calls that took effect.
+pub fn laws_of_memory()
+    ensures written { LeavesSettledOrWritten }
+    ensures each { LeavesEachOfThem }
+{}
 
 // Sectors of zeros.
 fn zeros(alloc: Global, sectors: usize) -> Result<Vec<[u8; 512]>, AllocError>
@@ -70,16 +79,19 @@ fn zeros(alloc: Global, sectors: usize) -> Result<Vec<[u8; 512]>, AllocError>
 }
 
 impl MemPort {
-    ghost use Rattle.vab_disk.specs.Listed.{Lists};
+    ghost use Rattle.vab_disk.specs.Listed.{ListsOne, SameListed, IsNewPort, NextRun};
 
     /// A port over sectors of zeros, which are settled, that hears this input.
     pub fn new(alloc: Global, sectors: u64, input: Vec<u8>) -> Result<MemPort, NoMemory>
         requires { sectors < 2 ^ 55 }
         ensures size { IfOk result (λ p. ⟦<MemPort as Disk>⟧.size p ≡ sectors) }
         ensures zeros { IfOk result (λ p. (s : ℕ) → s < sectors → ⟦<MemPort as Disk>⟧.seen p s ≡ replicate 512 0) }
-        ensures settled { IfOk result (λ p. IsSettled (⟦<MemPort as Disk>⟧.seen p) (⟦<MemPort as Disk>⟧.may_hold p)) }
+        ensures settled { IfOk result (λ p. IsSettled (⟦<MemPort as Disk>⟧.seen p) (⟦<MemPort as Disk>⟧.may_leave p)) }
         ensures told { IfOk result (λ p. ⟦<MemPort as Disk>⟧.told p ≡ []) }
-        ensures left { IfOk result (λ p. ⟦<MemPort as Disk>⟧.left p ≡ input.items) }
+        ensures left { IfOk result (λ p. ⟦<MemPort as Disk>⟧.input_left p ≡ input.items) }
+        ensures unheard { IfOk result (λ p. ⟦<MemPort as Disk>⟧.heard p ≡ []) }
+        // No call is numbered, listed, stopped or counted yet.
+        ensures fresh { IfOk result IsNewPort }
     {
         let cells = zeros(alloc, sectors as usize)?;
         Ok(MemPort {
@@ -96,18 +108,21 @@ impl MemPort {
             sink: Failing::new(alloc),
             starved: 0,
             writes: 0,
+            syncs: 0,
             stop: None,
         })
     }
 
     /// Lists a call that is to fail.
     pub fn fail_at(&mut self, kind: CallKind, nth: u64) -> Result<(), NoMemory>
-        ensures listed { OnOk result (Lists kind nth self.old self.new) }
+        ensures listed { OnOk result (ListsOne kind nth self.old self.new) }
+        // Where memory is refused, nothing is listed.
+        ensures same { OnErr result (SameListed self.old self.new) }
         ensures size { ⟦<MemPort as Disk>⟧.size self.new ≡ ⟦<MemPort as Disk>⟧.size self.old }
         ensures seen { ⟦<MemPort as Disk>⟧.seen self.new ≡ ⟦<MemPort as Disk>⟧.seen self.old }
-        ensures may_hold { SameHoldings (⟦<MemPort as Disk>⟧.may_hold self.old) (⟦<MemPort as Disk>⟧.may_hold self.new) }
+        ensures may_leave { SameHoldings (⟦<MemPort as Disk>⟧.may_leave self.old) (⟦<MemPort as Disk>⟧.may_leave self.new) }
         ensures told { ⟦<MemPort as Disk>⟧.told self.new ≡ ⟦<MemPort as Disk>⟧.told self.old }
-        ensures left { ⟦<MemPort as Disk>⟧.left self.new ≡ ⟦<MemPort as Disk>⟧.left self.old }
+        ensures left { ⟦<MemPort as Disk>⟧.input_left self.new ≡ ⟦<MemPort as Disk>⟧.input_left self.old }
     {
         match kind {
             CallKind::Disk => self.disk.listed.push(nth)?,
@@ -128,9 +143,9 @@ impl MemPort {
         ensures stop { self.new ≡ record self.old { stop = Some count } }
         ensures size { ⟦<MemPort as Disk>⟧.size self.new ≡ ⟦<MemPort as Disk>⟧.size self.old }
         ensures seen { ⟦<MemPort as Disk>⟧.seen self.new ≡ ⟦<MemPort as Disk>⟧.seen self.old }
-        ensures may_hold { SameHoldings (⟦<MemPort as Disk>⟧.may_hold self.old) (⟦<MemPort as Disk>⟧.may_hold self.new) }
+        ensures may_leave { SameHoldings (⟦<MemPort as Disk>⟧.may_leave self.old) (⟦<MemPort as Disk>⟧.may_leave self.new) }
         ensures told { ⟦<MemPort as Disk>⟧.told self.new ≡ ⟦<MemPort as Disk>⟧.told self.old }
-        ensures left { ⟦<MemPort as Disk>⟧.left self.new ≡ ⟦<MemPort as Disk>⟧.left self.old }
+        ensures left { ⟦<MemPort as Disk>⟧.input_left self.new ≡ ⟦<MemPort as Disk>⟧.input_left self.old }
     {
         self.stop = Some(count);
     }
@@ -139,10 +154,13 @@ impl MemPort {
     pub fn next_run(self, input: Vec<u8>) -> MemPort
         ensures size { ⟦<MemPort as Disk>⟧.size result ≡ ⟦<MemPort as Disk>⟧.size self }
         ensures seen { ⟦<MemPort as Disk>⟧.seen result ≡ ⟦<MemPort as Disk>⟧.seen self }
-        ensures may_hold { SameHoldings (⟦<MemPort as Disk>⟧.may_hold self) (⟦<MemPort as Disk>⟧.may_hold result) }
+        ensures may_leave { SameHoldings (⟦<MemPort as Disk>⟧.may_leave self) (⟦<MemPort as Disk>⟧.may_leave result) }
         ensures told { ⟦<MemPort as Disk>⟧.told result ≡ [] }
-        ensures left { ⟦<MemPort as Disk>⟧.left result ≡ input.items }
+        ensures left { ⟦<MemPort as Disk>⟧.input_left result ≡ input.items }
+        ensures unheard { ⟦<MemPort as Disk>⟧.heard result ≡ [] }
         ensures faults { ⟦<MemPort as Disk>⟧.faults result ≡ ⟦<MemPort as Disk>⟧.faults self }
+        // Lists, numbers and the stop begin anew.
+        ensures anew { NextRun self result }
     {
         let mut port = self;
         port.begun = port.calls.len();
@@ -150,6 +168,7 @@ impl MemPort {
         port.input = Input::new(input);
         port.heard = 0;
         port.writes = 0;
+        port.syncs = 0;
         port.stop = None;
         port.disk.renew();
         port.source.renew();
@@ -173,6 +192,26 @@ impl MemPort {
         PortFault::Sink
     }
 
+    /// The settled bytes of a sector: those that the last sync left there.
+    pub fn settled_sector(&self, at: u64) -> [u8; 512]
+        requires { at < ⟦<MemPort as Disk>⟧.size self.now }
+        ensures { result ≡ settled_of self.now.count (calls_of self.now.begun self.now.calls.items ++ earlier_of self.now.begun self.now.calls.items) at }
+    {
+        let mut now = [0u8; 512];
+        let mut settled = [0u8; 512];
+        for call in &self.calls {
+            (now, settled) = after_call(call, at, now, settled);
+        }
+        settled
+    }
+
+    /// How many syncs of this run succeeded.
+    pub fn syncs(&self) -> u64
+        ensures { result ≡ self.now.syncs }
+    {
+        self.syncs
+    }
+
     pub fn told(&self) -> &[u8]
         ensures { result.now ≡ self.now.told.items }
     {
@@ -180,10 +219,37 @@ impl MemPort {
     }
 }
 
+// The last written and the settled bytes of a sector, after one call more.
+fn after_call(
+    call: &Call,
+    at: u64,
+    now: [u8; 512],
+    settled: [u8; 512],
+) -> ([u8; 512], [u8; 512])
+    ensures { (count : ℕ) (older : List CallOf)
+        → now ≡ seen_of count older at
+        → settled ≡ settled_of count older at
+        → (result.0 ≡ seen_of count (call.now ∷ older) at)
+          × (result.1 ≡ settled_of count (call.now ∷ older) at) }
+{
+    match call {
+        Call::Wrote(sector, written) => {
+            if *sector == at {
+                (written.bytes, settled)
+            } else {
+                (now, settled)
+            }
+        }
+        Call::Synced => (now, now),
+        Call::Read(_) | Call::Heard(_) | Call::Said(_) => (now, settled),
+    }
+}
+
 // Numbers a disk call, and says whether it is to fail.
 fn disk_fails(disk: &mut Failing, stop: Option<u64>, writes: u64) -> bool
     ensures fails { IsTrue result ↔ (Contains disk.old.listed.items disk.old.calls ⊎ IsStopped stop writes) }
     ensures rose { OnTrue result (Rose disk.old.faults disk.new.faults) }
+    ensures steady { OnFalse result (disk.new.faults ≡ disk.old.faults) }
     ensures later { disk.old.faults ≤ disk.new.faults }
     ensures numbered { Numbered disk.old disk.new }
 {
@@ -246,20 +312,23 @@ fn hand_out(input: &[u8], heard: usize, out: &mut [u8]) -> usize
 impl Disk for MemPort {
     ghost use Rattle.std.specs.Prelude.{IsErr};
     ghost use Rattle.vab_disk.specs.Disk.{Faults, Adds, Nothing, Quiet, Leaves, Writes, IsAt, MayBeSet, set_sector};
-    ghost use Rattle.vab_disk.specs.Listed.{IsDiskListed};
-    ghost use Rattle.vab_disk.specs.Memory.{Holds, LeftSince, seen_holds, held_whole, dropped_bytes, left_now, left_only};
+    ghost use Rattle.vab_disk.specs.Listed.{IsDiskListed, IsDiskCall, SameWrites, OneWrite, OneSync};
+    ghost use Rattle.vab_disk.specs.Memory.{Holds, LeftSince, heard_of};
+    ghost use Rattle.vab_disk.specs.MemoryLaws.{seen_holds, held_whole, dropped_bytes, left_now, left_only};
 
-    ghost tells = { Unit {0} };
+    ghost is_modelled = { Unit {0} };
 
     ghost size = { λ m. m.count };
 
     ghost seen = { λ m. seen_of m.count (calls_of m.begun m.calls.items ++ earlier_of m.begun m.calls.items) };
 
-    ghost may_hold = { λ m. Holds m.count (calls_of m.begun m.calls.items ++ earlier_of m.begun m.calls.items) };
+    ghost may_leave = { λ m. Holds m.count (calls_of m.begun m.calls.items ++ earlier_of m.begun m.calls.items) };
 
     ghost told = { λ m. told_of (calls_of m.begun m.calls.items) };
 
-    ghost left = { λ m. drop m.heard m.input.bytes.items };
+    ghost input_left = { λ m. drop m.heard m.input.bytes.items };
+
+    ghost heard = { λ m. heard_of m.input.bytes.items (calls_of m.begun m.calls.items) };
 
     ghost faults = { λ m. record { disk = m.disk.faults; source = m.source.faults; sink = m.sink.faults } };
 
@@ -285,17 +354,19 @@ impl Disk for MemPort {
 
     fn read_sector(&mut self, at: u64, out: &mut [u8; 512]) -> Result<(), Failed>
         requires { at < ⟦<MemPort as Disk>⟧.size self.old }
-        ensures bytes { ⟦<MemPort as Disk>⟧.tells → OnOk result (out.new ≡ ⟦<MemPort as Disk>⟧.seen self.old at) }
-        ensures quiet { Quiet ⟦<MemPort as Disk>⟧.tells ⟦<MemPort as Disk>⟧.size ⟦<MemPort as Disk>⟧.told ⟦<MemPort as Disk>⟧.left ⟦<MemPort as Disk>⟧.faults self.old self.new }
-        ensures seen { ⟦<MemPort as Disk>⟧.tells → ⟦<MemPort as Disk>⟧.seen self.new ≡ ⟦<MemPort as Disk>⟧.seen self.old }
-        ensures crash { ⟦<MemPort as Disk>⟧.tells → SameHoldings (⟦<MemPort as Disk>⟧.may_hold self.old) (⟦<MemPort as Disk>⟧.may_hold self.new) }
-        ensures time { ⟦<MemPort as Disk>⟧.tells → Adds ⟦<MemPort as Disk>⟧.moment ⟦<MemPort as Disk>⟧.outcomes self.old self.new Nothing }
+        ensures bytes { ⟦<MemPort as Disk>⟧.is_modelled → OnOk result (out.new ≡ ⟦<MemPort as Disk>⟧.seen self.old at) }
+        ensures quiet { Quiet ⟦<MemPort as Disk>⟧.is_modelled ⟦<MemPort as Disk>⟧.size ⟦<MemPort as Disk>⟧.told ⟦<MemPort as Disk>⟧.input_left ⟦<MemPort as Disk>⟧.heard ⟦<MemPort as Disk>⟧.faults self.old self.new }
+        ensures seen { ⟦<MemPort as Disk>⟧.is_modelled → ⟦<MemPort as Disk>⟧.seen self.new ≡ ⟦<MemPort as Disk>⟧.seen self.old }
+        ensures crash { ⟦<MemPort as Disk>⟧.is_modelled → SameHoldings (⟦<MemPort as Disk>⟧.may_leave self.old) (⟦<MemPort as Disk>⟧.may_leave self.new) }
+        ensures time { ⟦<MemPort as Disk>⟧.is_modelled → Adds ⟦<MemPort as Disk>⟧.moment ⟦<MemPort as Disk>⟧.outcomes self.old self.new Nothing }
+        ensures steady { OnOk result (⟦<MemPort as Disk>⟧.faults self.new ≡ ⟦<MemPort as Disk>⟧.faults self.old) }
         ensures cause { OnErr result (Rose (⟦<MemPort as Disk>⟧.faults self.old).disk (⟦<MemPort as Disk>⟧.faults self.new).disk) }
         // It fails exactly where it is listed, or stopped, or memory was refused.
         ensures fed { self.old.starved ≤ self.new.starved }
         ensures only { OnErr result (IsDiskListed self.old ⊎ Rose self.old.starved self.new.starved) }
         ensures fails { IsDiskListed self.old → IsErr result }
-        ensures numbered { Numbered self.old.disk self.new.disk }
+        ensures numbered { IsDiskCall self.old self.new }
+        ensures writes { SameWrites self.old self.new }
     {
         if disk_fails(&mut self.disk, self.stop, self.writes) {
             return Err(Failed);
@@ -313,17 +384,20 @@ impl Disk for MemPort {
 
     fn write_sector(&mut self, at: u64, from: &[u8; 512]) -> Result<(), Failed>
         requires { at < ⟦<MemPort as Disk>⟧.size self.old }
-        ensures written { ⟦<MemPort as Disk>⟧.tells → OnOk result (⟦<MemPort as Disk>⟧.seen self.new ≡ set_sector (⟦<MemPort as Disk>⟧.seen self.old) at from.now) }
-        ensures failed { ⟦<MemPort as Disk>⟧.tells → OnErr result (MayBeSet at from.now (⟦<MemPort as Disk>⟧.seen self.old) (⟦<MemPort as Disk>⟧.seen self.new)) }
-        ensures quiet { Quiet ⟦<MemPort as Disk>⟧.tells ⟦<MemPort as Disk>⟧.size ⟦<MemPort as Disk>⟧.told ⟦<MemPort as Disk>⟧.left ⟦<MemPort as Disk>⟧.faults self.old self.new }
-        ensures crash { ⟦<MemPort as Disk>⟧.tells → Writes (IsAt at from.now) (⟦<MemPort as Disk>⟧.may_hold self.old) (⟦<MemPort as Disk>⟧.may_hold self.new) }
-        ensures time { ⟦<MemPort as Disk>⟧.tells → Adds ⟦<MemPort as Disk>⟧.moment ⟦<MemPort as Disk>⟧.outcomes self.old self.new (Leaves (⟦<MemPort as Disk>⟧.told self.old) (⟦<MemPort as Disk>⟧.may_hold self.new)) }
+        ensures written { ⟦<MemPort as Disk>⟧.is_modelled → OnOk result (⟦<MemPort as Disk>⟧.seen self.new ≡ set_sector (⟦<MemPort as Disk>⟧.seen self.old) at from.now) }
+        ensures failed { ⟦<MemPort as Disk>⟧.is_modelled → OnErr result (MayBeSet at from.now (⟦<MemPort as Disk>⟧.seen self.old) (⟦<MemPort as Disk>⟧.seen self.new)) }
+        ensures quiet { Quiet ⟦<MemPort as Disk>⟧.is_modelled ⟦<MemPort as Disk>⟧.size ⟦<MemPort as Disk>⟧.told ⟦<MemPort as Disk>⟧.input_left ⟦<MemPort as Disk>⟧.heard ⟦<MemPort as Disk>⟧.faults self.old self.new }
+        ensures crash { ⟦<MemPort as Disk>⟧.is_modelled → Writes (IsAt at from.now) (⟦<MemPort as Disk>⟧.may_leave self.old) (⟦<MemPort as Disk>⟧.may_leave self.new) }
+        ensures time { ⟦<MemPort as Disk>⟧.is_modelled → Adds ⟦<MemPort as Disk>⟧.moment ⟦<MemPort as Disk>⟧.outcomes self.old self.new (Leaves (⟦<MemPort as Disk>⟧.told self.old) (⟦<MemPort as Disk>⟧.may_leave self.new)) }
+        ensures steady { OnOk result (⟦<MemPort as Disk>⟧.faults self.new ≡ ⟦<MemPort as Disk>⟧.faults self.old) }
         ensures cause { OnErr result (Rose (⟦<MemPort as Disk>⟧.faults self.old).disk (⟦<MemPort as Disk>⟧.faults self.new).disk) }
         // It fails exactly where it is listed, or stopped, or memory was refused.
         ensures fed { self.old.starved ≤ self.new.starved }
         ensures only { OnErr result (IsDiskListed self.old ⊎ Rose self.old.starved self.new.starved) }
         ensures fails { IsDiskListed self.old → IsErr result }
-        ensures numbered { Numbered self.old.disk self.new.disk }
+        ensures numbered { IsDiskCall self.old self.new }
+        ensures writes { OnOk result (OneWrite self.old self.new) }
+        ensures unwritten { OnErr result (SameWrites self.old self.new) }
     {
         if disk_fails(&mut self.disk, self.stop, self.writes) {
             return Err(Failed);
@@ -341,18 +415,21 @@ impl Disk for MemPort {
     }
 
     fn sync(&mut self) -> Result<(), Failed>
-        ensures settled { ⟦<MemPort as Disk>⟧.tells → OnOk result (IsSettled (⟦<MemPort as Disk>⟧.seen self.new) (⟦<MemPort as Disk>⟧.may_hold self.new)) }
-        ensures failed { ⟦<MemPort as Disk>⟧.tells → OnErr result (SameHoldings (⟦<MemPort as Disk>⟧.may_hold self.old) (⟦<MemPort as Disk>⟧.may_hold self.new)) }
-        ensures crash { ⟦<MemPort as Disk>⟧.tells → (s : ℕ) (b : List ℕ) → ⟦<MemPort as Disk>⟧.may_hold self.new s b → ⟦<MemPort as Disk>⟧.may_hold self.old s b }
-        ensures quiet { Quiet ⟦<MemPort as Disk>⟧.tells ⟦<MemPort as Disk>⟧.size ⟦<MemPort as Disk>⟧.told ⟦<MemPort as Disk>⟧.left ⟦<MemPort as Disk>⟧.faults self.old self.new }
-        ensures seen { ⟦<MemPort as Disk>⟧.tells → ⟦<MemPort as Disk>⟧.seen self.new ≡ ⟦<MemPort as Disk>⟧.seen self.old }
-        ensures time { ⟦<MemPort as Disk>⟧.tells → Adds ⟦<MemPort as Disk>⟧.moment ⟦<MemPort as Disk>⟧.outcomes self.old self.new Nothing }
+        ensures settled { ⟦<MemPort as Disk>⟧.is_modelled → OnOk result (IsSettled (⟦<MemPort as Disk>⟧.seen self.new) (⟦<MemPort as Disk>⟧.may_leave self.new)) }
+        ensures failed { ⟦<MemPort as Disk>⟧.is_modelled → OnErr result (SameHoldings (⟦<MemPort as Disk>⟧.may_leave self.old) (⟦<MemPort as Disk>⟧.may_leave self.new)) }
+        ensures crash { ⟦<MemPort as Disk>⟧.is_modelled → (s : ℕ) (b : List ℕ) → ⟦<MemPort as Disk>⟧.may_leave self.new s b → ⟦<MemPort as Disk>⟧.may_leave self.old s b }
+        ensures quiet { Quiet ⟦<MemPort as Disk>⟧.is_modelled ⟦<MemPort as Disk>⟧.size ⟦<MemPort as Disk>⟧.told ⟦<MemPort as Disk>⟧.input_left ⟦<MemPort as Disk>⟧.heard ⟦<MemPort as Disk>⟧.faults self.old self.new }
+        ensures seen { ⟦<MemPort as Disk>⟧.is_modelled → ⟦<MemPort as Disk>⟧.seen self.new ≡ ⟦<MemPort as Disk>⟧.seen self.old }
+        ensures time { ⟦<MemPort as Disk>⟧.is_modelled → Adds ⟦<MemPort as Disk>⟧.moment ⟦<MemPort as Disk>⟧.outcomes self.old self.new Nothing }
+        ensures steady { OnOk result (⟦<MemPort as Disk>⟧.faults self.new ≡ ⟦<MemPort as Disk>⟧.faults self.old) }
         ensures cause { OnErr result (Rose (⟦<MemPort as Disk>⟧.faults self.old).disk (⟦<MemPort as Disk>⟧.faults self.new).disk) }
         // It fails exactly where it is listed, or stopped, or memory was refused.
         ensures fed { self.old.starved ≤ self.new.starved }
         ensures only { OnErr result (IsDiskListed self.old ⊎ Rose self.old.starved self.new.starved) }
         ensures fails { IsDiskListed self.old → IsErr result }
-        ensures numbered { Numbered self.old.disk self.new.disk }
+        ensures numbered { IsDiskCall self.old self.new }
+        ensures writes { OnOk result (OneSync self.old self.new) }
+        ensures unwritten { OnErr result (SameWrites self.old self.new) }
     {
         if disk_fails(&mut self.disk, self.stop, self.writes) {
             return Err(Failed);
@@ -365,6 +442,7 @@ impl Disk for MemPort {
             Call::Synced,
         )?;
         self.writes = self.writes.saturating_add(1);
+        self.syncs = self.syncs.saturating_add(1);
         Ok(())
     }
 }
@@ -372,26 +450,30 @@ impl Disk for MemPort {
 impl Port for MemPort {
     ghost use Rattle.std.specs.Prelude.{IsErr, IsErrOf, take};
     ghost use Rattle.vab_disk.specs.Disk.{Adds, Nothing, NoFewer};
-    ghost use Rattle.vab_disk.specs.Port.{LeavesSaying};
-    ghost use Rattle.vab_disk.specs.Listed.{IsHearListed, IsSayListed};
+    ghost use Rattle.vab_disk.specs.Port.{LeavesSaying, heard_then};
+    ghost use Rattle.vab_disk.specs.Listed.{IsHearListed, IsSayListed, IsHearCall, IsSayCall};
 
     fn hear(&mut self, out: &mut [u8]) -> Result<usize, PortFault>
-        ensures bytes { ⟦<MemPort as Disk>⟧.tells → IfOk result (λ n. Hears n (⟦<MemPort as Disk>⟧.left self.old) (⟦<MemPort as Disk>⟧.left self.new) out.old out.new) }
+        ensures bytes { ⟦<MemPort as Disk>⟧.is_modelled → IfOk result (λ n. Hears n (⟦<MemPort as Disk>⟧.input_left self.old) (⟦<MemPort as Disk>⟧.input_left self.new) out.old out.new) }
+        ensures heard { ⟦<MemPort as Disk>⟧.is_modelled → OnOk result
+            (⟦<MemPort as Disk>⟧.heard self.new ≡ heard_then (⟦<MemPort as Disk>⟧.heard self.old) (⟦<MemPort as Disk>⟧.told self.old) (⟦<MemPort as Disk>⟧.input_left self.old)) }
+        ensures unheard { ⟦<MemPort as Disk>⟧.is_modelled → OnErr result (⟦<MemPort as Disk>⟧.heard self.new ≡ ⟦<MemPort as Disk>⟧.heard self.old) }
         ensures fits { IfOk result (λ n. n ≤ length out.old) }
         ensures size { ⟦<MemPort as Disk>⟧.size self.new ≡ ⟦<MemPort as Disk>⟧.size self.old }
-        ensures seen { ⟦<MemPort as Disk>⟧.tells → ⟦<MemPort as Disk>⟧.seen self.new ≡ ⟦<MemPort as Disk>⟧.seen self.old }
-        ensures crash { ⟦<MemPort as Disk>⟧.tells → SameHoldings (⟦<MemPort as Disk>⟧.may_hold self.old) (⟦<MemPort as Disk>⟧.may_hold self.new) }
-        ensures told { ⟦<MemPort as Disk>⟧.tells → ⟦<MemPort as Disk>⟧.told self.new ≡ ⟦<MemPort as Disk>⟧.told self.old }
-        ensures time { ⟦<MemPort as Disk>⟧.tells → Adds ⟦<MemPort as Disk>⟧.moment ⟦<MemPort as Disk>⟧.outcomes self.old self.new Nothing }
+        ensures seen { ⟦<MemPort as Disk>⟧.is_modelled → ⟦<MemPort as Disk>⟧.seen self.new ≡ ⟦<MemPort as Disk>⟧.seen self.old }
+        ensures crash { ⟦<MemPort as Disk>⟧.is_modelled → SameHoldings (⟦<MemPort as Disk>⟧.may_leave self.old) (⟦<MemPort as Disk>⟧.may_leave self.new) }
+        ensures told { ⟦<MemPort as Disk>⟧.is_modelled → ⟦<MemPort as Disk>⟧.told self.new ≡ ⟦<MemPort as Disk>⟧.told self.old }
+        ensures time { ⟦<MemPort as Disk>⟧.is_modelled → Adds ⟦<MemPort as Disk>⟧.moment ⟦<MemPort as Disk>⟧.outcomes self.old self.new Nothing }
         ensures counts { NoFewer (⟦<MemPort as Disk>⟧.faults self.old) (⟦<MemPort as Disk>⟧.faults self.new) }
         ensures kind { IsErrOf result PortFault.Sink → ⊥ }
+        ensures steady { OnOk result (⟦<MemPort as Disk>⟧.faults self.new ≡ ⟦<MemPort as Disk>⟧.faults self.old) }
         ensures cause { OnErr result (Rose (⟦<MemPort as Disk>⟧.faults self.old).source (⟦<MemPort as Disk>⟧.faults self.new).source) }
         // It fails exactly where it is listed, or memory was refused.
-        ensures failed { ⟦<MemPort as Disk>⟧.tells → OnErr result (⟦<MemPort as Disk>⟧.left self.new ≡ ⟦<MemPort as Disk>⟧.left self.old) }
+        ensures failed { ⟦<MemPort as Disk>⟧.is_modelled → OnErr result (⟦<MemPort as Disk>⟧.input_left self.new ≡ ⟦<MemPort as Disk>⟧.input_left self.old) }
         ensures fed { self.old.starved ≤ self.new.starved }
         ensures only { OnErr result (IsHearListed self.old ⊎ Rose self.old.starved self.new.starved) }
         ensures fails { IsHearListed self.old → IsErr result }
-        ensures numbered { Numbered self.old.source self.new.source }
+        ensures numbered { IsHearCall self.old self.new }
     {
         if self.source.next_fails() {
             return Err(PortFault::Source);
@@ -413,23 +495,25 @@ impl Port for MemPort {
     }
 
     fn say(&mut self, from: &[u8]) -> Result<usize, PortFault>
-        ensures bytes { ⟦<MemPort as Disk>⟧.tells → IfOk result (λ n. ⟦<MemPort as Disk>⟧.told self.new ≡ ⟦<MemPort as Disk>⟧.told self.old ++ take n from.now) }
+        ensures bytes { ⟦<MemPort as Disk>⟧.is_modelled → IfOk result (λ n. ⟦<MemPort as Disk>⟧.told self.new ≡ ⟦<MemPort as Disk>⟧.told self.old ++ take n from.now) }
         ensures fits { IfOk result (λ n. n ≤ length from.now) }
         ensures some { IfOk result (λ n. n ≡ 0 → length from.now ≡ 0) }
-        ensures failed { ⟦<MemPort as Disk>⟧.tells → (n : ℕ) × (⟦<MemPort as Disk>⟧.told self.new ≡ ⟦<MemPort as Disk>⟧.told self.old ++ take n from.now) }
+        ensures failed { ⟦<MemPort as Disk>⟧.is_modelled → (n : ℕ) × (⟦<MemPort as Disk>⟧.told self.new ≡ ⟦<MemPort as Disk>⟧.told self.old ++ take n from.now) }
         ensures size { ⟦<MemPort as Disk>⟧.size self.new ≡ ⟦<MemPort as Disk>⟧.size self.old }
-        ensures seen { ⟦<MemPort as Disk>⟧.tells → ⟦<MemPort as Disk>⟧.seen self.new ≡ ⟦<MemPort as Disk>⟧.seen self.old }
-        ensures crash { ⟦<MemPort as Disk>⟧.tells → SameHoldings (⟦<MemPort as Disk>⟧.may_hold self.old) (⟦<MemPort as Disk>⟧.may_hold self.new) }
-        ensures left { ⟦<MemPort as Disk>⟧.tells → ⟦<MemPort as Disk>⟧.left self.new ≡ ⟦<MemPort as Disk>⟧.left self.old }
-        ensures time { ⟦<MemPort as Disk>⟧.tells → Adds ⟦<MemPort as Disk>⟧.moment ⟦<MemPort as Disk>⟧.outcomes self.old self.new (LeavesSaying (⟦<MemPort as Disk>⟧.told self.old) from.now (⟦<MemPort as Disk>⟧.may_hold self.old)) }
+        ensures seen { ⟦<MemPort as Disk>⟧.is_modelled → ⟦<MemPort as Disk>⟧.seen self.new ≡ ⟦<MemPort as Disk>⟧.seen self.old }
+        ensures crash { ⟦<MemPort as Disk>⟧.is_modelled → SameHoldings (⟦<MemPort as Disk>⟧.may_leave self.old) (⟦<MemPort as Disk>⟧.may_leave self.new) }
+        ensures left { ⟦<MemPort as Disk>⟧.is_modelled → ⟦<MemPort as Disk>⟧.input_left self.new ≡ ⟦<MemPort as Disk>⟧.input_left self.old }
+        ensures heard { ⟦<MemPort as Disk>⟧.is_modelled → ⟦<MemPort as Disk>⟧.heard self.new ≡ ⟦<MemPort as Disk>⟧.heard self.old }
+        ensures time { ⟦<MemPort as Disk>⟧.is_modelled → Adds ⟦<MemPort as Disk>⟧.moment ⟦<MemPort as Disk>⟧.outcomes self.old self.new (LeavesSaying (⟦<MemPort as Disk>⟧.told self.old) from.now (⟦<MemPort as Disk>⟧.may_leave self.old)) }
         ensures counts { NoFewer (⟦<MemPort as Disk>⟧.faults self.old) (⟦<MemPort as Disk>⟧.faults self.new) }
         ensures kind { IsErrOf result PortFault.Source → ⊥ }
+        ensures steady { OnOk result (⟦<MemPort as Disk>⟧.faults self.new ≡ ⟦<MemPort as Disk>⟧.faults self.old) }
         ensures cause { OnErr result (Rose (⟦<MemPort as Disk>⟧.faults self.old).sink (⟦<MemPort as Disk>⟧.faults self.new).sink) }
         // It fails exactly where it is listed, or memory was refused.
         ensures fed { self.old.starved ≤ self.new.starved }
         ensures only { OnErr result (IsSayListed self.old ⊎ Rose self.old.starved self.new.starved) }
         ensures fails { IsSayListed self.old → IsErr result }
-        ensures numbered { Numbered self.old.sink self.new.sink }
+        ensures numbered { IsSayCall self.old self.new }
     {
         if self.sink.next_fails() {
             return Err(PortFault::Sink);

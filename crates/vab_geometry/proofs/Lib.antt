@@ -1,2 +1,4 @@
-mod Joining
 mod Found
+pub mod GeometryLaws
+mod Joining
+pub mod LoadingLaws

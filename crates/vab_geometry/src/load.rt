@@ -39,12 +39,12 @@ impl From<DiskFault> for LoadFault {
 
 fn geometry_at<D: Disk>(d: &mut D, at: u64) -> Result<Result<Geometry, GeometryFault>, DiskFault>
     requires { at < D.size d.old }
-    ensures geometry { D.tells → IfOk result (λ found. found ≡ geometry_of (D.seen d.old at)) }
+    ensures geometry { D.is_modelled → IfOk result (λ found. found ≡ geometry_of (D.seen d.old at)) }
     ensures rules { IfOk result (λ found. IfOk found (λ g. IsGeometry g)) }
-    ensures seen { D.tells → D.seen d.new ≡ D.seen d.old }
-    ensures crash { D.tells → SameHoldings (D.may_hold d.old) (D.may_hold d.new) }
-    ensures quiet { Quiet D.tells D.size D.told D.left D.faults d.old d.new }
-    ensures time { D.tells → Adds D.moment D.outcomes d.old d.new Nothing }
+    ensures seen { D.is_modelled → D.seen d.new ≡ D.seen d.old }
+    ensures crash { D.is_modelled → SameHoldings (D.may_leave d.old) (D.may_leave d.new) }
+    ensures quiet { Quiet D.is_modelled D.size D.told D.input_left D.heard D.faults d.old d.new }
+    ensures time { D.is_modelled → Adds D.moment D.outcomes d.old d.new Nothing }
     ensures cause { OnErr result (Rose (D.faults d.old).disk (D.faults d.new).disk) }
 {
     let mut sector = [0u8; 512];
@@ -56,12 +56,12 @@ fn geometry_at<D: Disk>(d: &mut D, at: u64) -> Result<Result<Geometry, GeometryF
 #[tactic(auto, unfolding(crate::specs::Loading::geometry_in))]
 pub fn load_geometry<D: Disk>(d: &mut D) -> Result<Geometry, LoadFault>
     requires { 4120 ≤ D.size d.old }
-    ensures geometry { D.tells → Gives result (geometry_in (D.seen d.old)) }
+    ensures geometry { D.is_modelled → Gives result (geometry_in (D.seen d.old)) }
     ensures rules { IfOk result (λ g. IsGeometry g) }
-    ensures seen { D.tells → D.seen d.new ≡ D.seen d.old }
-    ensures crash { D.tells → SameHoldings (D.may_hold d.old) (D.may_hold d.new) }
-    ensures quiet { Quiet D.tells D.size D.told D.left D.faults d.old d.new }
-    ensures time { D.tells → Adds D.moment D.outcomes d.old d.new Nothing }
+    ensures seen { D.is_modelled → D.seen d.new ≡ D.seen d.old }
+    ensures crash { D.is_modelled → SameHoldings (D.may_leave d.old) (D.may_leave d.new) }
+    ensures quiet { Quiet D.is_modelled D.size D.told D.input_left D.heard D.faults d.old d.new }
+    ensures time { D.is_modelled → Adds D.moment D.outcomes d.old d.new Nothing }
     ensures cause { IsDiskFault result → Rose (D.faults d.old).disk (D.faults d.new).disk }
 {
     let first = match geometry_at(d, PRIMARY)? {

@@ -41,15 +41,15 @@ impl From<AllocError> for InputFault {
 
 // Hears the next piece and puts it behind what was heard. `false`: none comes, since the input has ended.
 fn hear_piece<P: Port>(p: &mut P, heard: &mut Vec<u8>) -> Result<bool, InputFault>
-    ensures bytes { P.tells → OnOk result (heard.new.items ++ P.left p.new ≡ heard.old.items ++ P.left p.old) }
+    ensures bytes { P.is_modelled → OnOk result (heard.new.items ++ P.input_left p.new ≡ heard.old.items ++ P.input_left p.old) }
     ensures some { IfOk result (λ some. OnTrue some (length heard.old.items < length heard.new.items)) }
     ensures none { IfOk result (λ some. OnFalse some (heard.new.items ≡ heard.old.items)) }
-    ensures end { P.tells → IfOk result (λ some. OnFalse some (P.left p.old ≡ [])) }
+    ensures end { P.is_modelled → IfOk result (λ some. OnFalse some (P.input_left p.old ≡ [])) }
     ensures size { P.size p.new ≡ P.size p.old }
-    ensures seen { P.tells → P.seen p.new ≡ P.seen p.old }
-    ensures crash { P.tells → SameHoldings (P.may_hold p.old) (P.may_hold p.new) }
-    ensures told { P.tells → P.told p.new ≡ P.told p.old }
-    ensures time { P.tells → Adds P.moment P.outcomes p.old p.new Nothing }
+    ensures seen { P.is_modelled → P.seen p.new ≡ P.seen p.old }
+    ensures crash { P.is_modelled → SameHoldings (P.may_leave p.old) (P.may_leave p.new) }
+    ensures told { P.is_modelled → P.told p.new ≡ P.told p.old }
+    ensures time { P.is_modelled → Adds P.moment P.outcomes p.old p.new Nothing }
     ensures counts { NoFewer (P.faults p.old) (P.faults p.new) }
     ensures kind { IsErrOf result InputFault.TooLong → ⊥ }
     ensures cause { IsErrOf result InputFault.Source → Rose (P.faults p.old).source (P.faults p.new).source }
@@ -62,14 +62,14 @@ fn hear_piece<P: Port>(p: &mut P, heard: &mut Vec<u8>) -> Result<bool, InputFaul
 
 /// Hears the input to its end, of at most `most` bytes. `TooLong` comes once more than `most` bytes are heard.
 pub fn hear_all<P: Port>(alloc: Global, p: &mut P, most: u64) -> Result<Vec<u8>, InputFault>
-    ensures bytes { P.tells → IfOk result (λ v. v.items ≡ P.left p.old) }
+    ensures bytes { P.is_modelled → IfOk result (λ v. v.items ≡ P.input_left p.old) }
     ensures fits { IfOk result (λ v. length v.items ≤ most) }
-    ensures long { P.tells → IsErrOf result InputFault.TooLong → most < length (P.left p.old) }
+    ensures long { P.is_modelled → IsErrOf result InputFault.TooLong → most < length (P.input_left p.old) }
     ensures size { P.size p.new ≡ P.size p.old }
-    ensures seen { P.tells → P.seen p.new ≡ P.seen p.old }
-    ensures crash { P.tells → SameHoldings (P.may_hold p.old) (P.may_hold p.new) }
-    ensures told { P.tells → P.told p.new ≡ P.told p.old }
-    ensures time { P.tells → Adds P.moment P.outcomes p.old p.new Nothing }
+    ensures seen { P.is_modelled → P.seen p.new ≡ P.seen p.old }
+    ensures crash { P.is_modelled → SameHoldings (P.may_leave p.old) (P.may_leave p.new) }
+    ensures told { P.is_modelled → P.told p.new ≡ P.told p.old }
+    ensures time { P.is_modelled → Adds P.moment P.outcomes p.old p.new Nothing }
     ensures counts { NoFewer (P.faults p.old) (P.faults p.new) }
     ensures cause { IsErrOf result InputFault.Source → Rose (P.faults p.old).source (P.faults p.new).source }
 {

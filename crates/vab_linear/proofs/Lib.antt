@@ -1,1 +1,2 @@
+pub mod MapLaws
 mod Runs

@@ -7,7 +7,7 @@ use Rattle.std.proofs.lemmas.Bool.{cases_lt}
 use Rattle.vab_linear.specs.declared.map.Run.{Run}
 use Rattle.vab_linear.specs.Map.{run_of, blocks_of}
 use Rattle.vab_linear.specs.Held.{held_of}
-use Rattle.vab_linear.specs.MapLaws.{length-run_of, run_of-at, blocks_of-append, blocks_of-one}
+use Rattle.vab_linear.proofs.MapLaws.{length-run_of, run_of-at, blocks_of-append, blocks_of-one}
 
 pub held_of-push : (runs : List Run) (r : Run) → held_of (runs ++ r ∷ []) ≡ held_of runs ++ run_of r.first r.blocks
 unfolding held_of

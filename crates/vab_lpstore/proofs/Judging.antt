@@ -14,7 +14,7 @@ use Rattle.vab_tables.specs.Reading.{table_of, Fails}
 use Rattle.vab_tables.specs.FrontLaws.{text_same_front, text_size_fits}
 use Rattle.vab_lpstore.specs.Layout.{Begins}
 use Rattle.vab_lpstore.specs.Loading.{IsLoaded, IsNoTable}
-use Rattle.vab_lpstore.specs.StoreLaws.{begins_read}
+use Rattle.vab_lpstore.proofs.StoreLaws.{begins_read}
 
 module _ (max : ℕ) (bytes : List ℕ) (t : Table) (is : IsTableText max bytes t) where
   abbrev pub front : List ℕ

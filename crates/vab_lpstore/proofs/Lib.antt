@@ -1,2 +1,3 @@
 mod Judging
 mod Outcomes
+pub mod StoreLaws

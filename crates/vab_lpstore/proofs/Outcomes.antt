@@ -5,7 +5,7 @@ use Rattle.std.proofs.lemmas.Bool.{cases_lt, false≢true}
 use Rattle.vab_disk.specs.Disk.{Image, Outcome, LeavesBlend}
 use Rattle.vab_gate.specs.Gate.{sectors_at}
 use Rattle.vab_copies.specs.Copies.{with_text, IsOutside, IsKept, HoldsText, BeginsWithZeros, StandCopies, LeavesCopy, LeavesCopies, IsOfText, IsOfCopy, IsOfEither}
-use Rattle.vab_copies.specs.CopyLaws.{sectors_same, text_outside, text_held}
+use Rattle.vab_copies.proofs.CopyLaws.{sectors_same, text_outside, text_held}
 use Rattle.vab_geometry.specs.declared.geometry.Geometry.{Geometry}
 use Rattle.vab_tables.specs.declared.table.Table.{Table}
 use Rattle.vab_tables.specs.declared.fault.TableFault.{TableFault}
@@ -16,7 +16,7 @@ use Rattle.vab_lpstore.specs.Layout.{copy_sectors, primary_of, backup_of, primar
 use Rattle.vab_lpstore.specs.declared.loaded.Loaded.{Loaded}
 use Rattle.vab_lpstore.specs.Loading.{first_of, slot_table, IsLoaded, IsNoTable}
 use Rattle.vab_lpstore.specs.Storing.{SameElsewhere, LeavesTable, LeavesEitherTable}
-use Rattle.vab_lpstore.specs.StoreLaws.{copies_apart, begins_read, zeros_read, sectors_begin}
+use Rattle.vab_lpstore.proofs.StoreLaws.{copies_apart, begins_read, zeros_read, sectors_begin}
 
 -- a copy of m sectors, of which the first n are kept and the others too
 kept_whole : (m n at : ℕ) (old image : Image) → IsKept n at old image → ((s : ℕ) → at + n ≤ s → s < at + m → image s ≡ old s) → sectors_at m image at ≡ sectors_at m old at

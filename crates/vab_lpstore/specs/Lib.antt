@@ -2,4 +2,3 @@ pub mod Layout
 pub mod Faults
 pub mod Loading
 pub mod Storing
-pub mod StoreLaws

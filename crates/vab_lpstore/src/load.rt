@@ -27,15 +27,15 @@ pub fn load_table<D: Disk>(
     requires rules { IsGeometry geometry.now }
     requires slot { slot < geometry.now.slots }
     requires on_disk { backup_of geometry.now slot + copy_sectors geometry.now ≤ D.size d.old }
-    ensures table { D.tells → Gives result (slot_table geometry.now slot (D.seen d.old)) }
-    ensures loaded { D.tells → IfOk result (λ l. IsLoaded geometry.now.max (primary_bytes geometry.now slot (D.seen d.old)) (backup_bytes geometry.now slot (D.seen d.old)) l) }
+    ensures table { D.is_modelled → Gives result (slot_table geometry.now slot (D.seen d.old)) }
+    ensures loaded { D.is_modelled → IfOk result (λ l. IsLoaded geometry.now.max (primary_bytes geometry.now slot (D.seen d.old)) (backup_bytes geometry.now slot (D.seen d.old)) l) }
     ensures text { IfOk result (λ l. IsTableText geometry.now.max l.text l.table) }
     ensures fits { IfOk result (λ l. length l.text ≤ geometry.now.max) }
     ensures faults { AreFaults result }
-    ensures seen { D.tells → D.seen d.new ≡ D.seen d.old }
-    ensures crash { D.tells → SameHoldings (D.may_hold d.old) (D.may_hold d.new) }
-    ensures quiet { Quiet D.tells D.size D.told D.left D.faults d.old d.new }
-    ensures time { D.tells → Adds D.moment D.outcomes d.old d.new Nothing }
+    ensures seen { D.is_modelled → D.seen d.new ≡ D.seen d.old }
+    ensures crash { D.is_modelled → SameHoldings (D.may_leave d.old) (D.may_leave d.new) }
+    ensures quiet { Quiet D.is_modelled D.size D.told D.input_left D.heard D.faults d.old d.new }
+    ensures time { D.is_modelled → Adds D.moment D.outcomes d.old d.new Nothing }
     ensures cause { IsDiskFault result → Rose (D.faults d.old).disk (D.faults d.new).disk }
 {
     let count = layout::copy_size(geometry);

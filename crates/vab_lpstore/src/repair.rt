@@ -27,18 +27,18 @@ pub fn repair_table<D: Disk>(
     requires slot { slot < geometry.now.slots }
     requires on_disk { backup_of geometry.now slot + copy_sectors geometry.now ≤ D.size d.old }
     requires fits { length loaded.now.text ≤ geometry.now.max }
-    requires loaded { D.tells → IsLoaded geometry.now.max (primary_bytes geometry.now slot (D.seen d.old)) (backup_bytes geometry.now slot (D.seen d.old)) loaded.now }
-    ensures repaired { D.tells → OnOk result (BothHold geometry.now slot loaded.now.text (D.seen d.new)) }
-    ensures settled { D.tells → IsSettled (D.seen d.old) (D.may_hold d.old) → OnOk result (IsSettled (D.seen d.new) (D.may_hold d.new)) }
-    ensures read { D.tells → ReadsWith (IsOfEither (text_sectors (length loaded.now.text)) (primary_of geometry.now slot) (backup_of geometry.now slot) loaded.now.text) (D.seen d.old) (D.seen d.new) }
-    ensures others { D.tells → SameElsewhere geometry.now slot (text_sectors (length loaded.now.text)) (D.seen d.old) (D.seen d.new) }
-    ensures quiet { Quiet D.tells D.size D.told D.left D.faults d.old d.new }
-    ensures crash { D.tells → NoMoreBut (IsOfEither (text_sectors (length loaded.now.text)) (primary_of geometry.now slot) (backup_of geometry.now slot) loaded.now.text) (D.may_hold d.old) (D.may_hold d.new) }
+    requires loaded { D.is_modelled → IsLoaded geometry.now.max (primary_bytes geometry.now slot (D.seen d.old)) (backup_bytes geometry.now slot (D.seen d.old)) loaded.now }
+    ensures repaired { D.is_modelled → OnOk result (BothHold geometry.now slot loaded.now.text (D.seen d.new)) }
+    ensures settled { D.is_modelled → IsSettled (D.seen d.old) (D.may_leave d.old) → OnOk result (IsSettled (D.seen d.new) (D.may_leave d.new)) }
+    ensures read { D.is_modelled → ReadsWith (IsOfEither (text_sectors (length loaded.now.text)) (primary_of geometry.now slot) (backup_of geometry.now slot) loaded.now.text) (D.seen d.old) (D.seen d.new) }
+    ensures others { D.is_modelled → SameElsewhere geometry.now slot (text_sectors (length loaded.now.text)) (D.seen d.old) (D.seen d.new) }
+    ensures quiet { Quiet D.is_modelled D.size D.told D.input_left D.heard D.faults d.old d.new }
+    ensures crash { D.is_modelled → NoMoreBut (IsOfEither (text_sectors (length loaded.now.text)) (primary_of geometry.now slot) (backup_of geometry.now slot) loaded.now.text) (D.may_leave d.old) (D.may_leave d.new) }
     // In each outcome each sector is as a crash could have left it before, or it is one of the copies'.
-    ensures time { D.tells → Adds D.moment D.outcomes d.old d.new
-        (LeavesWith (IsOfEither (text_sectors (length loaded.now.text)) (primary_of geometry.now slot) (backup_of geometry.now slot) loaded.now.text) (D.told d.old) (D.may_hold d.old)) }
+    ensures time { D.is_modelled → Adds D.moment D.outcomes d.old d.new
+        (LeavesWith (IsOfEither (text_sectors (length loaded.now.text)) (primary_of geometry.now slot) (backup_of geometry.now slot) loaded.now.text) (D.told d.old) (D.may_leave d.old)) }
     // Where nothing was pending, the slot's table is the loaded one in each outcome.
-    ensures table { D.tells → IsSettled (D.seen d.old) (D.may_hold d.old) → Adds D.moment D.outcomes d.old d.new
+    ensures table { D.is_modelled → IsSettled (D.seen d.old) (D.may_leave d.old) → Adds D.moment D.outcomes d.old d.new
         (LeavesTable (D.told d.old) geometry.now slot (text_sectors (length loaded.now.text)) (D.seen d.old) loaded.now.table) }
     ensures cause { OnErr result (Rose (D.faults d.old).disk (D.faults d.new).disk) }
 {

@@ -28,18 +28,18 @@ pub fn store_table<D: Disk>(
     requires slot { slot < geometry.now.slots }
     requires on_disk { backup_of geometry.now slot + copy_sectors geometry.now ≤ D.size d.old }
     requires fits { length text.now ≤ geometry.now.max }
-    ensures written { D.tells → OnOk result (D.seen d.new ≡ with_text (text_sectors (length text.now)) text.now (with_text (text_sectors (length text.now)) text.now (D.seen d.old) (primary_of geometry.now slot)) (backup_of geometry.now slot)) }
-    ensures stored { D.tells → OnOk result (BothHold geometry.now slot text.now (D.seen d.new)) }
-    ensures settled { D.tells → OnOk result (IsSettled (D.seen d.new) (D.may_hold d.new)) }
-    ensures read { D.tells → ReadsWith (IsOfEither (text_sectors (length text.now)) (primary_of geometry.now slot) (backup_of geometry.now slot) text.now) (D.seen d.old) (D.seen d.new) }
-    ensures others { D.tells → SameElsewhere geometry.now slot (text_sectors (length text.now)) (D.seen d.old) (D.seen d.new) }
-    ensures quiet { Quiet D.tells D.size D.told D.left D.faults d.old d.new }
-    ensures crash { D.tells → NoMoreBut (IsOfEither (text_sectors (length text.now)) (primary_of geometry.now slot) (backup_of geometry.now slot) text.now) (D.may_hold d.old) (D.may_hold d.new) }
+    ensures written { D.is_modelled → OnOk result (D.seen d.new ≡ with_text (text_sectors (length text.now)) text.now (with_text (text_sectors (length text.now)) text.now (D.seen d.old) (primary_of geometry.now slot)) (backup_of geometry.now slot)) }
+    ensures stored { D.is_modelled → OnOk result (BothHold geometry.now slot text.now (D.seen d.new)) }
+    ensures settled { D.is_modelled → OnOk result (IsSettled (D.seen d.new) (D.may_leave d.new)) }
+    ensures read { D.is_modelled → ReadsWith (IsOfEither (text_sectors (length text.now)) (primary_of geometry.now slot) (backup_of geometry.now slot) text.now) (D.seen d.old) (D.seen d.new) }
+    ensures others { D.is_modelled → SameElsewhere geometry.now slot (text_sectors (length text.now)) (D.seen d.old) (D.seen d.new) }
+    ensures quiet { Quiet D.is_modelled D.size D.told D.input_left D.heard D.faults d.old d.new }
+    ensures crash { D.is_modelled → NoMoreBut (IsOfEither (text_sectors (length text.now)) (primary_of geometry.now slot) (backup_of geometry.now slot) text.now) (D.may_leave d.old) (D.may_leave d.new) }
     // In each outcome each sector is as a crash could have left it before, or it is one of the copies'.
-    ensures time { D.tells → Adds D.moment D.outcomes d.old d.new
-        (LeavesWith (IsOfEither (text_sectors (length text.now)) (primary_of geometry.now slot) (backup_of geometry.now slot) text.now) (D.told d.old) (D.may_hold d.old)) }
+    ensures time { D.is_modelled → Adds D.moment D.outcomes d.old d.new
+        (LeavesWith (IsOfEither (text_sectors (length text.now)) (primary_of geometry.now slot) (backup_of geometry.now slot) text.now) (D.told d.old) (D.may_leave d.old)) }
     // Where nothing was pending and both copies are of one table, the slot's table is that one or the new one in each outcome.
-    ensures table { D.tells → IsSettled (D.seen d.old) (D.may_hold d.old) → (t u : Table)
+    ensures table { D.is_modelled → IsSettled (D.seen d.old) (D.may_leave d.old) → (t u : Table)
         → table_of geometry.now.max (primary_bytes geometry.now slot (D.seen d.old)) ≡ Ok t → table_of geometry.now.max (backup_bytes geometry.now slot (D.seen d.old)) ≡ Ok t
         → IsTableText geometry.now.max text.now u
         → Adds D.moment D.outcomes d.old d.new (LeavesEitherTable (D.told d.old) geometry.now slot (text_sectors (length text.now)) (D.seen d.old) t u) }

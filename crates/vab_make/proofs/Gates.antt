@@ -1,7 +1,7 @@
 -- All parts of the device, kept and marked, and the outcomes of the two gates.
 use Rattle.std.proofs.Common.{◌≡◌, ◌≢◌, inl, inr, ⊎_elim, ℕ, ◌+◌, ◌*◌, ◌/◌, ◌<◌, ◌≤◌, ◌^◌, List, length, get_or, take, Result, Ok, refl, sym, ap, subst, ◌∙◌, arith}
 use Rattle.vab_disk.specs.Disk.{Image, Outcome, LeavesEither, set_sector}
-use Rattle.vab_disk.specs.Moments.{set_here, set_there}
+use Rattle.vab_disk.specs.Written.{set_here, set_there}
 use Rattle.vab_space.specs.Space.{blocks_of}
 use Rattle.vab_bootctl.specs.Control.{control_of}
 use Rattle.vab_marks.specs.declared.mark.UpdateMark.{UpdateMark}
@@ -16,9 +16,9 @@ use Rattle.vab_make.specs.Making.{IsMade, LeavesMaking}
 use Rattle.vab_make.specs.Prepared.{IsMost, IsPrepared}
 use Rattle.vab_make.specs.Steps.{HoldsImages, SameBelow, HasControl, HasPlaces, HasAll}
 use Rattle.vab_make.specs.Frame.{zeros, LeavesBlank}
-use Rattle.vab_make.specs.BlockLaws.{sectors_agree, blocks_kept}
-use Rattle.vab_make.specs.StateLaws.{all_made}
-use Rattle.vab_make.specs.FrameLaws.{blank_none}
+use Rattle.vab_make.proofs.BlockLaws.{sectors_agree, blocks_kept}
+use Rattle.vab_make.proofs.StateLaws.{all_made}
+use Rattle.vab_make.proofs.FrameLaws.{blank_none}
 
 -- ---- what later writes leave
 

@@ -4,7 +4,7 @@ use Rattle.std.specs.Prelude.{OnOk}
 use Rattle.std.proofs.lemmas.Bool.Decides.{nat_tests}
 use Rattle.std.proofs.lemmas.List.{take_at, take_all, take_min, drop_min, drop-replicate, length-replicate, length-take, get_or_default}
 use Rattle.vab_disk.specs.Disk.{Image, set_sector}
-use Rattle.vab_disk.specs.Moments.{set_here, set_there}
+use Rattle.vab_disk.specs.Written.{set_here, set_there}
 use Rattle.vab_gate.specs.Gate.{part, set_block, sectors_at}
 use Rattle.vab_space.specs.Space.{blocks_of}
 use Rattle.vab_set.specs.declared.set.SetImage.{SetImage}
@@ -12,11 +12,11 @@ use Rattle.vab_bootctl.specs.Control.{control_of, KeepsRest}
 use Rattle.vab_geometry.specs.declared.geometry.Geometry.{Geometry}
 use Rattle.vab_geometry.specs.Geometry.{IsGeometry, front_bytes, back_bytes, sum_around, geometry_sector}
 use Rattle.vab_geometry.specs.Reading.{geometry_of}
-use Rattle.vab_geometry.specs.GeometryLaws.{length-sum, sector_read}
+use Rattle.vab_geometry.proofs.GeometryLaws.{length-sum, sector_read}
 use Rattle.vab_make.specs.Made.{made_control, made_geometry, set_blocks}
 use Rattle.vab_make.specs.Steps.{block_of, HoldsBlocks, HoldsImages, SameAround, blanked, HasControl}
-use Rattle.vab_make.specs.BlockLaws.{parts_front, blocks_kept}
-use Rattle.vab_make.specs.SumLaws.{blocks_more, blocks_less}
+use Rattle.vab_make.proofs.BlockLaws.{parts_front, blocks_kept}
+use Rattle.vab_make.proofs.SumLaws.{blocks_more, blocks_less}
 
 pub on_ok_map : {A E : Type 0} (r : Result A E) (P Q : Type 0) → (P → Q) → OnOk r P → OnOk r Q
 on_ok_map (Ok x) P Q f is = f is

@@ -8,7 +8,7 @@ zeros = replicate 512 0
 
 -- a crash leaves zeros in the mark's sector
 abbrev pub IsBlank : (ℕ → List ℕ → Type 0) → Type 0
-IsBlank may_hold = (b : List ℕ) → may_hold 2048 b → b ≡ zeros
+IsBlank may_leave = (b : List ℕ) → may_leave 2048 b → b ≡ zeros
 
 -- with nothing more told, the mark's sector is zeros
 pub record LeavesBlank (told : List ℕ) (o : Outcome) : Type 0 where
@@ -17,6 +17,6 @@ pub record LeavesBlank (told : List ℕ) (o : Outcome) : Type 0 where
 
 -- A run of calls that writes no mark: where a crash leaves zeros in its sector, each outcome of the run has them there, and so it
 -- stays.
-pub record KeepsBlank {D : Type 0} (moment : D → ℕ) (outcomes : D → ℕ → Outcome → Type 0) (told : D → List ℕ) (may_hold : D → ℕ → List ℕ → Type 0) (old new : D) : Type 0 where
-  pub still : IsBlank (may_hold old) → IsBlank (may_hold new)
-  pub time : IsBlank (may_hold old) → Adds moment outcomes old new (LeavesBlank (told old))
+pub record KeepsBlank {D : Type 0} (moment : D → ℕ) (outcomes : D → ℕ → Outcome → Type 0) (told : D → List ℕ) (may_leave : D → ℕ → List ℕ → Type 0) (old new : D) : Type 0 where
+  pub still : IsBlank (may_leave old) → IsBlank (may_leave new)
+  pub time : IsBlank (may_leave old) → Adds moment outcomes old new (LeavesBlank (told old))

@@ -4,9 +4,3 @@ pub mod Refusals
 pub mod Prepared
 pub mod Steps
 pub mod Frame
-pub mod LayoutLaws
-pub mod BlockLaws
-pub mod SumLaws
-pub mod StateLaws
-pub mod FrameLaws
-pub mod RefusalLaws

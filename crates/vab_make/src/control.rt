@@ -42,9 +42,9 @@ fn blank(sector: &mut [u8; 512])
 // Writes boot control; the bytes of its sector behind the sum stay.
 pub fn put_control<D: Disk>(d: &mut D) -> Result<(), DiskFault>
     requires { 4 < D.size d.old }
-    ensures control { D.tells → OnOk result (HasControl (D.seen d.old) (D.seen d.new)) }
-    ensures quiet { Quiet D.tells D.size D.told D.left D.faults d.old d.new }
-    ensures frame { D.tells → KeepsBlank D.moment D.outcomes D.told D.may_hold d.old d.new }
+    ensures control { D.is_modelled → OnOk result (HasControl (D.seen d.old) (D.seen d.new)) }
+    ensures quiet { Quiet D.is_modelled D.size D.told D.input_left D.heard D.faults d.old d.new }
+    ensures frame { D.is_modelled → KeepsBlank D.moment D.outcomes D.told D.may_leave d.old d.new }
     ensures cause { OnErr result (Rose (D.faults d.old).disk (D.faults d.new).disk) }
 {
     let mut sector = [0u8; 512];

@@ -32,10 +32,10 @@ fn block_of(bytes: &[u8], k: usize) -> [u8; 4096]
 fn put_image<D: Disk>(d: &mut D, at: u64, count: u64, bytes: &[u8]) -> Result<(), DiskFault>
     requires on_disk { at + 8 * count ≤ D.size d.old }
     requires behind { 2048 < at }
-    ensures holds { D.tells → OnOk result (HoldsBlocks count at bytes.now (D.seen d.new)) }
-    ensures others { D.tells → OnOk result (SameAround at (8 * count) (D.seen d.old) (D.seen d.new)) }
-    ensures quiet { Quiet D.tells D.size D.told D.left D.faults d.old d.new }
-    ensures frame { D.tells → KeepsBlank D.moment D.outcomes D.told D.may_hold d.old d.new }
+    ensures holds { D.is_modelled → OnOk result (HoldsBlocks count at bytes.now (D.seen d.new)) }
+    ensures others { D.is_modelled → OnOk result (SameAround at (8 * count) (D.seen d.old) (D.seen d.new)) }
+    ensures quiet { Quiet D.is_modelled D.size D.told D.input_left D.heard D.faults d.old d.new }
+    ensures frame { D.is_modelled → KeepsBlank D.moment D.outcomes D.told D.may_leave d.old d.new }
     ensures cause { OnErr result (Rose (D.faults d.old).disk (D.faults d.new).disk) }
 {
     for k in 0..count {
@@ -48,10 +48,10 @@ fn put_image<D: Disk>(d: &mut D, at: u64, count: u64, bytes: &[u8]) -> Result<()
 pub fn put_images<D: Disk>(d: &mut D, set: &Set) -> Result<(), DiskFault>
     requires set { IsSet set.now }
     requires on_disk { 6144 + 8 * set_blocks set.now ≤ D.size d.old }
-    ensures holds { D.tells → OnOk result (HoldsImages (length set.now) set.now (D.seen d.new)) }
-    ensures others { D.tells → OnOk result (SameBelow 6144 (D.seen d.old) (D.seen d.new)) }
-    ensures quiet { Quiet D.tells D.size D.told D.left D.faults d.old d.new }
-    ensures frame { D.tells → KeepsBlank D.moment D.outcomes D.told D.may_hold d.old d.new }
+    ensures holds { D.is_modelled → OnOk result (HoldsImages (length set.now) set.now (D.seen d.new)) }
+    ensures others { D.is_modelled → OnOk result (SameBelow 6144 (D.seen d.old) (D.seen d.new)) }
+    ensures quiet { Quiet D.is_modelled D.size D.told D.input_left D.heard D.faults d.old d.new }
+    ensures frame { D.is_modelled → KeepsBlank D.moment D.outcomes D.told D.may_leave d.old d.new }
     ensures cause { OnErr result (Rose (D.faults d.old).disk (D.faults d.new).disk) }
 {
     let mut at = FIRST;

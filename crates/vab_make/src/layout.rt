@@ -24,7 +24,7 @@ use vab_tables::{BlockDevice, Group};
 const SUPER: u64 = 4096;
 
 // So many blocks from this one on.
-#[tactic(auto, using(crate::specs::BlockLaws::range_push))]
+#[tactic(auto, using(crate::proofs::BlockLaws::range_push))]
 fn blocks_from(alloc: Global, first: u64, count: u64) -> Result<Listing<u64>, MakeFault>
     requires { first + count < 2 ^ 64 }
     ensures blocks { IfOk result (λ l. l ≡ range_with_len first count) }

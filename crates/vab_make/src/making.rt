@@ -38,9 +38,9 @@ fn put_contents<D: Disk>(d: &mut D, set: &Set, max: u32, text: &[u8]) -> Result<
     requires most { IsMost max }
     requires room { HasRoom set.now (D.size d.old) }
     requires fits { length text.now ≤ max }
-    ensures all { D.tells → OnOk result (HasAll set.now max text.now (D.seen d.new)) }
-    ensures quiet { Quiet D.tells D.size D.told D.left D.faults d.old d.new }
-    ensures frame { D.tells → KeepsBlank D.moment D.outcomes D.told D.may_hold d.old d.new }
+    ensures all { D.is_modelled → OnOk result (HasAll set.now max text.now (D.seen d.new)) }
+    ensures quiet { Quiet D.is_modelled D.size D.told D.input_left D.heard D.faults d.old d.new }
+    ensures frame { D.is_modelled → KeepsBlank D.moment D.outcomes D.told D.may_leave d.old d.new }
     ensures cause { OnErr result (Rose (D.faults d.old).disk (D.faults d.new).disk) }
 {
     put_places(d, max, text)?;
@@ -53,10 +53,10 @@ fn settle_contents<D: Disk>(d: &mut D, set: &Set, max: u32, text: &[u8]) -> Resu
     requires most { IsMost max }
     requires room { HasRoom set.now (D.size d.old) }
     requires fits { length text.now ≤ max }
-    ensures all { D.tells → OnOk result (HasAll set.now max text.now (D.seen d.new)) }
-    ensures settled { D.tells → OnOk result (IsSettled (D.seen d.new) (D.may_hold d.new)) }
-    ensures quiet { Quiet D.tells D.size D.told D.left D.faults d.old d.new }
-    ensures frame { D.tells → KeepsBlank D.moment D.outcomes D.told D.may_hold d.old d.new }
+    ensures all { D.is_modelled → OnOk result (HasAll set.now max text.now (D.seen d.new)) }
+    ensures settled { D.is_modelled → OnOk result (IsSettled (D.seen d.new) (D.may_leave d.new)) }
+    ensures quiet { Quiet D.is_modelled D.size D.told D.input_left D.heard D.faults d.old d.new }
+    ensures frame { D.is_modelled → KeepsBlank D.moment D.outcomes D.told D.may_leave d.old d.new }
     ensures cause { OnErr result (Rose (D.faults d.old).disk (D.faults d.new).disk) }
 {
     put_contents(d, set, max, text)?;
@@ -68,10 +68,10 @@ fn make_on<D: Disk>(d: &mut D, set: &Set, max: u32, text: &[u8]) -> Result<(), D
     requires most { IsMost max }
     requires room { HasRoom set.now (D.size d.old) }
     requires fits { length text.now ≤ max }
-    ensures made { D.tells → (limit : ℕ) → IsPrepared set.now limit max (D.size d.old) text.now → OnOk result (IsMade set.now limit max (D.size d.old) (D.seen d.new)) }
-    ensures settled { D.tells → OnOk result (IsSettled (D.seen d.new) (D.may_hold d.new)) }
-    ensures quiet { Quiet D.tells D.size D.told D.left D.faults d.old d.new }
-    ensures time { D.tells → (limit : ℕ) → IsPrepared set.now limit max (D.size d.old) text.now → IsSettled (D.seen d.old) (D.may_hold d.old) → Adds D.moment D.outcomes d.old d.new (LeavesMaking (D.told d.old) set.now limit max (D.size d.old) (D.seen d.old)) }
+    ensures made { D.is_modelled → (limit : ℕ) → IsPrepared set.now limit max (D.size d.old) text.now → OnOk result (IsMade set.now limit max (D.size d.old) (D.seen d.new)) }
+    ensures settled { D.is_modelled → OnOk result (IsSettled (D.seen d.new) (D.may_leave d.new)) }
+    ensures quiet { Quiet D.is_modelled D.size D.told D.input_left D.heard D.faults d.old d.new }
+    ensures time { D.is_modelled → (limit : ℕ) → IsPrepared set.now limit max (D.size d.old) text.now → IsSettled (D.seen d.old) (D.may_leave d.old) → Adds D.moment D.outcomes d.old d.new (LeavesMaking (D.told d.old) set.now limit max (D.size d.old) (D.seen d.old)) }
     ensures cause { OnErr result (Rose (D.faults d.old).disk (D.faults d.new).disk) }
 {
     put_gate(d, MARK, &[0u8; 512])?;
@@ -96,12 +96,12 @@ pub fn make_device<D: Disk>(
     requires max_least { 512 ≤ max }
     requires max_most { max ≤ 65536 }
     ensures exact { Gives result (refusal_of set.now limit max (D.size d.old)) }
-    ensures made { D.tells → OnOk result (IsMade set.now limit max (D.size d.old) (D.seen d.new)) }
-    ensures settled { D.tells → OnOk result (IsSettled (D.seen d.new) (D.may_hold d.new)) }
-    ensures untouched { D.tells → IfErr result (λ f. (IsOfDisk f → ⊥) → (D.seen d.new ≡ D.seen d.old) × SameHoldings (D.may_hold d.old) (D.may_hold d.new)) }
-    ensures still { D.tells → IfErr result (λ f. (IsOfDisk f → ⊥) → Adds D.moment D.outcomes d.old d.new Nothing) }
-    ensures quiet { Quiet D.tells D.size D.told D.left D.faults d.old d.new }
-    ensures time { D.tells → IsSettled (D.seen d.old) (D.may_hold d.old) → Adds D.moment D.outcomes d.old d.new (LeavesMaking (D.told d.old) set.now limit max (D.size d.old) (D.seen d.old)) }
+    ensures made { D.is_modelled → OnOk result (IsMade set.now limit max (D.size d.old) (D.seen d.new)) }
+    ensures settled { D.is_modelled → OnOk result (IsSettled (D.seen d.new) (D.may_leave d.new)) }
+    ensures untouched { D.is_modelled → IfErr result (λ f. (IsOfDisk f → ⊥) → (D.seen d.new ≡ D.seen d.old) × SameHoldings (D.may_leave d.old) (D.may_leave d.new)) }
+    ensures still { D.is_modelled → IfErr result (λ f. (IsOfDisk f → ⊥) → Adds D.moment D.outcomes d.old d.new Nothing) }
+    ensures quiet { Quiet D.is_modelled D.size D.told D.input_left D.heard D.faults d.old d.new }
+    ensures time { D.is_modelled → IsSettled (D.seen d.old) (D.may_leave d.old) → Adds D.moment D.outcomes d.old d.new (LeavesMaking (D.told d.old) set.now limit max (D.size d.old) (D.seen d.old)) }
     ensures cause { IfErr result (λ f. IsOfDisk f → Rose (D.faults d.old).disk (D.faults d.new).disk) }
 {
     let text = prepare(alloc, set, limit, max, d.sectors())?;

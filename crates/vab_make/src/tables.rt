@@ -37,10 +37,10 @@ fn put_geometry<D: Disk>(d: &mut D, geometry: &Geometry) -> Result<(), DiskFault
     requires most { IsMost geometry.now.max }
     requires two { geometry.now.slots ≡ 2 }
     requires on_disk { 4120 ≤ D.size d.old }
-    ensures primary { D.tells → OnOk result (D.seen d.new 4104 ≡ geometry_sector geometry.now) }
-    ensures backup { D.tells → OnOk result (D.seen d.new 4112 ≡ geometry_sector geometry.now) }
-    ensures quiet { Quiet D.tells D.size D.told D.left D.faults d.old d.new }
-    ensures frame { D.tells → KeepsBlank D.moment D.outcomes D.told D.may_hold d.old d.new }
+    ensures primary { D.is_modelled → OnOk result (D.seen d.new 4104 ≡ geometry_sector geometry.now) }
+    ensures backup { D.is_modelled → OnOk result (D.seen d.new 4112 ≡ geometry_sector geometry.now) }
+    ensures quiet { Quiet D.is_modelled D.size D.told D.input_left D.heard D.faults d.old d.new }
+    ensures frame { D.is_modelled → KeepsBlank D.moment D.outcomes D.told D.may_leave d.old d.new }
     ensures cause { OnErr result (Rose (D.faults d.old).disk (D.faults d.new).disk) }
 {
     let page = geometry_page(geometry);
@@ -54,10 +54,10 @@ fn put_table<D: Disk>(d: &mut D, geometry: &Geometry, text: &[u8]) -> Result<(),
     requires two { geometry.now.slots ≡ 2 }
     requires on_disk { 6144 ≤ D.size d.old }
     requires fits { length text.now ≤ geometry.now.max }
-    ensures stored { D.tells → OnOk result (BothHold geometry.now 0 text.now (D.seen d.new)) }
-    ensures others { D.tells → SameBelow 4120 (D.seen d.old) (D.seen d.new) }
-    ensures quiet { Quiet D.tells D.size D.told D.left D.faults d.old d.new }
-    ensures frame { D.tells → KeepsBlank D.moment D.outcomes D.told D.may_hold d.old d.new }
+    ensures stored { D.is_modelled → OnOk result (BothHold geometry.now 0 text.now (D.seen d.new)) }
+    ensures others { D.is_modelled → SameBelow 4120 (D.seen d.old) (D.seen d.new) }
+    ensures quiet { Quiet D.is_modelled D.size D.told D.input_left D.heard D.faults d.old d.new }
+    ensures frame { D.is_modelled → KeepsBlank D.moment D.outcomes D.told D.may_leave d.old d.new }
     ensures cause { OnErr result (Rose (D.faults d.old).disk (D.faults d.new).disk) }
 {
     store_table(d, geometry, 0, text)
@@ -68,9 +68,9 @@ pub fn put_places<D: Disk>(d: &mut D, max: u32, text: &[u8]) -> Result<(), DiskF
     requires most { IsMost max }
     requires on_disk { 6144 ≤ D.size d.old }
     requires fits { length text.now ≤ max }
-    ensures places { D.tells → OnOk result (HasPlaces max text.now (D.seen d.new)) }
-    ensures quiet { Quiet D.tells D.size D.told D.left D.faults d.old d.new }
-    ensures frame { D.tells → KeepsBlank D.moment D.outcomes D.told D.may_hold d.old d.new }
+    ensures places { D.is_modelled → OnOk result (HasPlaces max text.now (D.seen d.new)) }
+    ensures quiet { Quiet D.is_modelled D.size D.told D.input_left D.heard D.faults d.old d.new }
+    ensures frame { D.is_modelled → KeepsBlank D.moment D.outcomes D.told D.may_leave d.old d.new }
     ensures cause { OnErr result (Rose (D.faults d.old).disk (D.faults d.new).disk) }
 {
     let geometry = made_geometry(max);

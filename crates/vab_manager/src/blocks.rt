@@ -65,13 +65,13 @@ pub fn read_block<D: Disk>(
     requires slot { slot < 2 }
     requires block { HasBlock device.now slot name.now block }
     // the block where the partition has it on the disk
-    ensures sectors { D.tells → (p : Part) → KeepsPart device.now slot name.now p → OnOk result (out.new ≡ sectors_at 8 (D.seen d.old) (slice_index p.map block)) }
+    ensures sectors { D.is_modelled → (p : Part) → KeepsPart device.now slot name.now p → OnOk result (out.new ≡ sectors_at 8 (D.seen d.old) (slice_index p.map block)) }
     // which is that block of the image
-    ensures bytes { D.tells → OnOk result (IsBlockOf (state_on device.now (D.seen d.old)) slot name.now block out.new) }
-    ensures seen { D.tells → D.seen d.new ≡ D.seen d.old }
-    ensures crash { D.tells → SameHoldings (D.may_hold d.old) (D.may_hold d.new) }
-    ensures quiet { Quiet D.tells D.size D.told D.left D.faults d.old d.new }
-    ensures time { D.tells → Adds D.moment D.outcomes d.old d.new Nothing }
+    ensures bytes { D.is_modelled → OnOk result (IsBlockOf (state_on device.now (D.seen d.old)) slot name.now block out.new) }
+    ensures seen { D.is_modelled → D.seen d.new ≡ D.seen d.old }
+    ensures crash { D.is_modelled → SameHoldings (D.may_leave d.old) (D.may_leave d.new) }
+    ensures quiet { Quiet D.is_modelled D.size D.told D.input_left D.heard D.faults d.old d.new }
+    ensures time { D.is_modelled → Adds D.moment D.outcomes d.old d.new Nothing }
     ensures cause { OnErr result (Rose (D.faults d.old).disk (D.faults d.new).disk) }
 {
     match kept_part(device, slot, name) {

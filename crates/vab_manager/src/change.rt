@@ -18,18 +18,18 @@ use vab_recover::Device;
 /// Writes a boot control of the device by one gate.
 pub fn change<D: Disk>(d: &mut D, device: Device, control: Control) -> Result<Device, DiskFault>
     requires kept { IsDevice device (D.size d.old) }
-    requires stands { D.tells → StandsFor device (D.size d.old) (D.seen d.old) }
+    requires stands { D.is_modelled → StandsFor device (D.size d.old) (D.seen d.old) }
     requires fits { Fits control }
     requires current { control.current ≡ device.mark.slot }
-    requires good { D.tells → is_good (info_at control device.mark.slot) ≡ true }
+    requires good { D.is_modelled → is_good (info_at control device.mark.slot) ≡ true }
     ensures device { IfOk result (λ r. r ≡ with_boot control device) }
     ensures kept { IfOk result (λ r. IsDevice r (D.size d.old)) }
-    ensures stands { D.tells → IfOk result (λ r. StandsFor r (D.size d.old) (D.seen d.new)) }
-    ensures state { D.tells → IfOk result (λ r. state_on r (D.seen d.new) ≡ state_on (with_boot control device) (D.seen d.old)) }
-    ensures places { D.tells → OnOk result (places (D.size d.old) (D.seen d.new) ≡ places (D.size d.old) (D.seen d.old)) }
-    ensures settled { D.tells → OnOk result (IsSettled (D.seen d.new) (D.may_hold d.new)) }
-    ensures quiet { Quiet D.tells D.size D.told D.left D.faults d.old d.new }
-    ensures time { D.tells → IsSettled (D.seen d.old) (D.may_hold d.old) → Adds D.moment D.outcomes d.old d.new
+    ensures stands { D.is_modelled → IfOk result (λ r. StandsFor r (D.size d.old) (D.seen d.new)) }
+    ensures state { D.is_modelled → IfOk result (λ r. state_on r (D.seen d.new) ≡ state_on (with_boot control device) (D.seen d.old)) }
+    ensures places { D.is_modelled → OnOk result (places (D.size d.old) (D.seen d.new) ≡ places (D.size d.old) (D.seen d.old)) }
+    ensures settled { D.is_modelled → OnOk result (IsSettled (D.seen d.new) (D.may_leave d.new)) }
+    ensures quiet { Quiet D.is_modelled D.size D.told D.input_left D.heard D.faults d.old d.new }
+    ensures time { D.is_modelled → IsSettled (D.seen d.old) (D.may_leave d.old) → Adds D.moment D.outcomes d.old d.new
         (LeavesStep (D.told d.old) (D.size d.old) (D.seen d.old) (state_on device (D.seen d.old) ∷ state_on (with_boot control device) (D.seen d.old) ∷ [])) }
     ensures cause { OnErr result (Rose (D.faults d.old).disk (D.faults d.new).disk) }
 {

@@ -23,15 +23,15 @@ pub fn run_one<D: Disk>(
     command: &Command,
 ) -> Result<(Device, Reply), DiskFault>
     requires kept { IsDevice device (D.size d.old) }
-    requires stands { D.tells → StandsFor device (D.size d.old) (D.seen d.old) }
+    requires stands { D.is_modelled → StandsFor device (D.size d.old) (D.seen d.old) }
     ensures kept { IfOk result (λ r. IsDevice r.0 (D.size d.old)) }
-    ensures stands { D.tells → IfOk result (λ r. StandsFor r.0 (D.size d.old) (D.seen d.new)) }
-    ensures state { D.tells → IfOk result (λ r. state_on r.0 (D.seen d.new) ≡ state_by (state_on device (D.seen d.old)) command.now) }
-    ensures reply { D.tells → IfOk result (λ r. r.1 ≡ reply_to (state_on device (D.seen d.old)) command.now) }
-    ensures places { D.tells → OnOk result (places (D.size d.old) (D.seen d.new) ≡ places (D.size d.old) (D.seen d.old)) }
-    ensures settled { D.tells → IsSettled (D.seen d.old) (D.may_hold d.old) → OnOk result (IsSettled (D.seen d.new) (D.may_hold d.new)) }
-    ensures quiet { Quiet D.tells D.size D.told D.left D.faults d.old d.new }
-    ensures time { D.tells → IsSettled (D.seen d.old) (D.may_hold d.old) → Adds D.moment D.outcomes d.old d.new
+    ensures stands { D.is_modelled → IfOk result (λ r. StandsFor r.0 (D.size d.old) (D.seen d.new)) }
+    ensures state { D.is_modelled → IfOk result (λ r. state_on r.0 (D.seen d.new) ≡ state_by (state_on device (D.seen d.old)) command.now) }
+    ensures reply { D.is_modelled → IfOk result (λ r. r.1 ≡ reply_to (state_on device (D.seen d.old)) command.now) }
+    ensures places { D.is_modelled → OnOk result (places (D.size d.old) (D.seen d.new) ≡ places (D.size d.old) (D.seen d.old)) }
+    ensures settled { D.is_modelled → IsSettled (D.seen d.old) (D.may_leave d.old) → OnOk result (IsSettled (D.seen d.new) (D.may_leave d.new)) }
+    ensures quiet { Quiet D.is_modelled D.size D.told D.input_left D.heard D.faults d.old d.new }
+    ensures time { D.is_modelled → IsSettled (D.seen d.old) (D.may_leave d.old) → Adds D.moment D.outcomes d.old d.new
         (LeavesStep (D.told d.old) (D.size d.old) (D.seen d.old) (steps_by (state_on device (D.seen d.old)) command.now)) }
     ensures cause { OnErr result (Rose (D.faults d.old).disk (D.faults d.new).disk) }
 {

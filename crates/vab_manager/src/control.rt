@@ -16,10 +16,10 @@ const CONTROL_SECTOR: u64 = 4;
 pub fn put_control<D: Disk>(d: &mut D, control: &Control) -> Result<(), DiskFault>
     requires on_disk { 4 < D.size d.old }
     requires fits { Fits control.now }
-    ensures sector { D.tells → OnOk result (HasControl control.now (D.seen d.old) (D.seen d.new)) }
-    ensures settled { D.tells → OnOk result (IsSettled (D.seen d.new) (D.may_hold d.new)) }
-    ensures quiet { Quiet D.tells D.size D.told D.left D.faults d.old d.new }
-    ensures gate { D.tells → IsSettled (D.seen d.old) (D.may_hold d.old) → Adds D.moment D.outcomes d.old d.new (LeavesControl (D.told d.old) control.now (D.seen d.old)) }
+    ensures sector { D.is_modelled → OnOk result (HasControl control.now (D.seen d.old) (D.seen d.new)) }
+    ensures settled { D.is_modelled → OnOk result (IsSettled (D.seen d.new) (D.may_leave d.new)) }
+    ensures quiet { Quiet D.is_modelled D.size D.told D.input_left D.heard D.faults d.old d.new }
+    ensures gate { D.is_modelled → IsSettled (D.seen d.old) (D.may_leave d.old) → Adds D.moment D.outcomes d.old d.new (LeavesControl (D.told d.old) control.now (D.seen d.old)) }
     ensures cause { OnErr result (Rose (D.faults d.old).disk (D.faults d.new).disk) }
 {
     let mut sector = [0u8; 512];

@@ -72,11 +72,11 @@ pub fn print(device: &Device, name: &[u8]) -> Reply
 // The SHA-256 of the bytes of blocks.
 fn digest_of<D: Disk>(d: &mut D, map: &Map) -> Result<[u8; 32], DiskFault>
     requires { All (λ s. s + 8 ≤ D.size d.old) map.now }
-    ensures digest { D.tells → IfOk result (λ h. h ≡ sha256 (bytes_at (D.seen d.old) map.now)) }
-    ensures seen { D.tells → D.seen d.new ≡ D.seen d.old }
-    ensures crash { D.tells → SameHoldings (D.may_hold d.old) (D.may_hold d.new) }
-    ensures quiet { Quiet D.tells D.size D.told D.left D.faults d.old d.new }
-    ensures time { D.tells → Adds D.moment D.outcomes d.old d.new Nothing }
+    ensures digest { D.is_modelled → IfOk result (λ h. h ≡ sha256 (bytes_at (D.seen d.old) map.now)) }
+    ensures seen { D.is_modelled → D.seen d.new ≡ D.seen d.old }
+    ensures crash { D.is_modelled → SameHoldings (D.may_leave d.old) (D.may_leave d.new) }
+    ensures quiet { Quiet D.is_modelled D.size D.told D.input_left D.heard D.faults d.old d.new }
+    ensures time { D.is_modelled → Adds D.moment D.outcomes d.old d.new Nothing }
     ensures cause { OnErr result (Rose (D.faults d.old).disk (D.faults d.new).disk) }
 {
     let mut hasher = Sha256::new();
@@ -91,11 +91,11 @@ fn digest_of<D: Disk>(d: &mut D, map: &Map) -> Result<[u8; 32], DiskFault>
 /// The SHA-256 of an image's bytes.
 pub fn digest<D: Disk>(d: &mut D, device: &Device, name: &[u8]) -> Result<Reply, DiskFault>
     requires kept { IsDevice device.now (D.size d.old) }
-    ensures reply { D.tells → IfOk result (λ r. r ≡ digest_reply (found_of (state_on device.now (D.seen d.old)) name.now)) }
-    ensures seen { D.tells → D.seen d.new ≡ D.seen d.old }
-    ensures crash { D.tells → SameHoldings (D.may_hold d.old) (D.may_hold d.new) }
-    ensures quiet { Quiet D.tells D.size D.told D.left D.faults d.old d.new }
-    ensures time { D.tells → Adds D.moment D.outcomes d.old d.new Nothing }
+    ensures reply { D.is_modelled → IfOk result (λ r. r ≡ digest_reply (found_of (state_on device.now (D.seen d.old)) name.now)) }
+    ensures seen { D.is_modelled → D.seen d.new ≡ D.seen d.old }
+    ensures crash { D.is_modelled → SameHoldings (D.may_leave d.old) (D.may_leave d.new) }
+    ensures quiet { Quiet D.is_modelled D.size D.told D.input_left D.heard D.faults d.old d.new }
+    ensures time { D.is_modelled → Adds D.moment D.outcomes d.old d.new Nothing }
     ensures cause { OnErr result (Rose (D.faults d.old).disk (D.faults d.new).disk) }
 {
     match find(device, name) {

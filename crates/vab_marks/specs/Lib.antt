@@ -1,6 +1,3 @@
 pub mod Sector
-pub mod SectorLaws
 pub mod Mark
-pub mod MarkLaws
 pub mod Status
-pub mod StatusLaws

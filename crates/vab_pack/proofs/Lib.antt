@@ -1,1 +1,3 @@
+pub mod FaultLaws
 mod Loop
+pub mod WordLaws

@@ -94,19 +94,21 @@ impl<R: Read + Drop, W: Write + Drop> Disk for FilePort<R, W> {
     ghost use Rattle.std.specs.Prelude.{[], ℕ, refl, replicate};
     ghost use Rattle.std.proofs.Common.{subst, sym, lit<};
     ghost use Rattle.vab_disk.specs.Disk.{Faults, Leaves, IsSector};
-    ghost use Rattle.vab_disk.specs.Memory.{zeros_whole};
+    ghost use Rattle.vab_disk.specs.MemoryLaws.{zeros_whole};
 
-    ghost tells = { ⊥ };
+    ghost is_modelled = { ⊥ };
 
     ghost size = { λ p. p.sectors };
 
     ghost seen = { λ p s. replicate 512 0 };
 
-    ghost may_hold = { λ p s b. b ≡ replicate 512 0 };
+    ghost may_leave = { λ p s b. b ≡ replicate 512 0 };
 
     ghost told = { λ p. [] };
 
-    ghost left = { λ p. [] };
+    ghost input_left = { λ p. [] };
+
+    ghost heard = { λ p. [] };
 
     ghost faults = { λ p. record { disk = p.disk_faults; source = p.source_faults; sink = p.sink_faults } };
 

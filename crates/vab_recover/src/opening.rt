@@ -23,14 +23,14 @@ pub const MIN_SECTORS: u64 = 4120;
 
 /// Reads the device of a disk, and the table that it was read from.
 pub fn open<D: Disk>(alloc: Global, d: &mut D) -> Result<(Device, Loaded), StartFault>
-    ensures read { D.tells → IfOk result (λ r. IsRead r.0 r.1 (D.size d.old) (D.seen d.old)) }
-    ensures fault { D.tells → IfErr result (λ f. IsOfContents f → device (D.size d.old) (D.seen d.old) ≡ Err f) }
+    ensures read { D.is_modelled → IfOk result (λ r. IsRead r.0 r.1 (D.size d.old) (D.seen d.old)) }
+    ensures fault { D.is_modelled → IfErr result (λ f. IsOfContents f → device (D.size d.old) (D.seen d.old) ≡ Err f) }
     ensures kept { IfOk result (λ r. IsDevice r.0 (D.size d.old)) }
     ensures fits { IfOk result (λ r. length r.1.text ≤ r.0.geometry.max) }
-    ensures seen { D.tells → D.seen d.new ≡ D.seen d.old }
-    ensures crash { D.tells → SameHoldings (D.may_hold d.old) (D.may_hold d.new) }
-    ensures quiet { Quiet D.tells D.size D.told D.left D.faults d.old d.new }
-    ensures time { D.tells → Adds D.moment D.outcomes d.old d.new Nothing }
+    ensures seen { D.is_modelled → D.seen d.new ≡ D.seen d.old }
+    ensures crash { D.is_modelled → SameHoldings (D.may_leave d.old) (D.may_leave d.new) }
+    ensures quiet { Quiet D.is_modelled D.size D.told D.input_left D.heard D.faults d.old d.new }
+    ensures time { D.is_modelled → Adds D.moment D.outcomes d.old d.new Nothing }
     ensures cause { IfErr result (λ f. IsOfDisk f → Rose (D.faults d.old).disk (D.faults d.new).disk) }
 {
     let sectors = d.sectors();
@@ -50,16 +50,16 @@ pub fn open<D: Disk>(alloc: Global, d: &mut D) -> Result<(Device, Loaded), Start
 /// comes exactly where the disk is no device and that is the first thing wrong, and then nothing was written.
 pub fn start<D: Disk>(alloc: Global, d: &mut D) -> Result<Device, StartFault>
     // It answers the device that the disk was, which it still is.
-    ensures device { D.tells → IfOk result (λ r. device (D.size d.old) (D.seen d.old) ≡ Ok (state_on r (D.seen d.new))) }
-    ensures stands { D.tells → IfOk result (λ r. StandsFor r (D.size d.old) (D.seen d.new)) }
+    ensures device { D.is_modelled → IfOk result (λ r. device (D.size d.old) (D.seen d.old) ≡ Ok (state_on r (D.seen d.new))) }
+    ensures stands { D.is_modelled → IfOk result (λ r. StandsFor r (D.size d.old) (D.seen d.new)) }
     ensures kept { IfOk result (λ r. IsDevice r (D.size d.old)) }
-    ensures places { D.tells → OnOk result (places (D.size d.old) (D.seen d.new) ≡ places (D.size d.old) (D.seen d.old)) }
-    ensures fault { D.tells → IfErr result (λ f. IsOfContents f → device (D.size d.old) (D.seen d.old) ≡ Err f) }
-    ensures untouched { D.tells → IfErr result (λ f. IsOfContents f → (D.seen d.new ≡ D.seen d.old) × SameHoldings (D.may_hold d.old) (D.may_hold d.new)) }
-    ensures settled { D.tells → IsSettled (D.seen d.old) (D.may_hold d.old) → OnOk result (IsSettled (D.seen d.new) (D.may_hold d.new)) }
-    ensures quiet { Quiet D.tells D.size D.told D.left D.faults d.old d.new }
+    ensures places { D.is_modelled → OnOk result (places (D.size d.old) (D.seen d.new) ≡ places (D.size d.old) (D.seen d.old)) }
+    ensures fault { D.is_modelled → IfErr result (λ f. IsOfContents f → device (D.size d.old) (D.seen d.old) ≡ Err f) }
+    ensures untouched { D.is_modelled → IfErr result (λ f. IsOfContents f → (D.seen d.new ≡ D.seen d.old) × SameHoldings (D.may_leave d.old) (D.may_leave d.new)) }
+    ensures settled { D.is_modelled → IsSettled (D.seen d.old) (D.may_leave d.old) → OnOk result (IsSettled (D.seen d.new) (D.may_leave d.new)) }
+    ensures quiet { Quiet D.is_modelled D.size D.told D.input_left D.heard D.faults d.old d.new }
     // Where nothing was pending, each outcome of the repair is a disk that means the same.
-    ensures time { D.tells → IsSettled (D.seen d.old) (D.may_hold d.old) → Adds D.moment D.outcomes d.old d.new (LeavesSame (D.told d.old) (D.size d.old) (D.seen d.old)) }
+    ensures time { D.is_modelled → IsSettled (D.seen d.old) (D.may_leave d.old) → Adds D.moment D.outcomes d.old d.new (LeavesSame (D.told d.old) (D.size d.old) (D.seen d.old)) }
     ensures cause { IfErr result (λ f. IsOfDisk f → Rose (D.faults d.old).disk (D.faults d.new).disk) }
 {
     let (device, loaded) = open(alloc, d)?;

@@ -24,12 +24,12 @@ pub const CONTROL_SECTOR: u64 = 4;
 /// Reads a sector.
 fn read<D: Disk>(d: &mut D, at: u64) -> Result<[u8; 512], StartFault>
     requires { at < D.size d.old }
-    ensures bytes { D.tells → IfOk result (λ b. b ≡ D.seen d.old at) }
+    ensures bytes { D.is_modelled → IfOk result (λ b. b ≡ D.seen d.old at) }
     ensures fault { IfErr result IsOfDisk }
-    ensures seen { D.tells → D.seen d.new ≡ D.seen d.old }
-    ensures crash { D.tells → SameHoldings (D.may_hold d.old) (D.may_hold d.new) }
-    ensures quiet { Quiet D.tells D.size D.told D.left D.faults d.old d.new }
-    ensures time { D.tells → Adds D.moment D.outcomes d.old d.new Nothing }
+    ensures seen { D.is_modelled → D.seen d.new ≡ D.seen d.old }
+    ensures crash { D.is_modelled → SameHoldings (D.may_leave d.old) (D.may_leave d.new) }
+    ensures quiet { Quiet D.is_modelled D.size D.told D.input_left D.heard D.faults d.old d.new }
+    ensures time { D.is_modelled → Adds D.moment D.outcomes d.old d.new Nothing }
     ensures cause { IfErr result (λ f. IsOfDisk f → Rose (D.faults d.old).disk (D.faults d.new).disk) }
 {
     let mut sector = [0u8; 512];
@@ -60,14 +60,14 @@ fn idle_mark(sector: &[u8; 512]) -> Result<UpdateMark, StartFault>
 #[tactic(auto, unfolding(vab_device::specs::Device::slot_in))]
 pub fn read_mark<D: Disk>(d: &mut D) -> Result<UpdateMark, StartFault>
     requires { 2048 < D.size d.old }
-    ensures ok { D.tells → IfOk result (λ m. slot_in (D.seen d.old) ≡ Ok m.slot) }
-    ensures fault { D.tells → IfErr result (λ f. IsOfContents f → slot_in (D.seen d.old) ≡ Err f) }
+    ensures ok { D.is_modelled → IfOk result (λ m. slot_in (D.seen d.old) ≡ Ok m.slot) }
+    ensures fault { D.is_modelled → IfErr result (λ f. IsOfContents f → slot_in (D.seen d.old) ≡ Err f) }
     ensures phase { IfOk result (λ m. m.phase ≡ marks.Idle) }
     ensures slot { IfOk result (λ m. m.slot < 2) }
-    ensures seen { D.tells → D.seen d.new ≡ D.seen d.old }
-    ensures crash { D.tells → SameHoldings (D.may_hold d.old) (D.may_hold d.new) }
-    ensures quiet { Quiet D.tells D.size D.told D.left D.faults d.old d.new }
-    ensures time { D.tells → Adds D.moment D.outcomes d.old d.new Nothing }
+    ensures seen { D.is_modelled → D.seen d.new ≡ D.seen d.old }
+    ensures crash { D.is_modelled → SameHoldings (D.may_leave d.old) (D.may_leave d.new) }
+    ensures quiet { Quiet D.is_modelled D.size D.told D.input_left D.heard D.faults d.old d.new }
+    ensures time { D.is_modelled → Adds D.moment D.outcomes d.old d.new Nothing }
     ensures cause { IfErr result (λ f. IsOfDisk f → Rose (D.faults d.old).disk (D.faults d.new).disk) }
 {
     let sector = read(d, MARK_SECTOR)?;
@@ -91,13 +91,13 @@ fn control(sector: &[u8; 512]) -> Result<Control, StartFault>
 #[tactic(auto, unfolding(vab_device::specs::Device::control_in))]
 pub fn read_control<D: Disk>(d: &mut D) -> Result<Control, StartFault>
     requires { 4 < D.size d.old }
-    ensures ok { D.tells → IfOk result (λ c. control_in (D.seen d.old) ≡ Ok c) }
-    ensures fault { D.tells → IfErr result (λ f. IsOfContents f → control_in (D.seen d.old) ≡ Err f) }
+    ensures ok { D.is_modelled → IfOk result (λ c. control_in (D.seen d.old) ≡ Ok c) }
+    ensures fault { D.is_modelled → IfErr result (λ f. IsOfContents f → control_in (D.seen d.old) ≡ Err f) }
     ensures fits { IfOk result Fits }
-    ensures seen { D.tells → D.seen d.new ≡ D.seen d.old }
-    ensures crash { D.tells → SameHoldings (D.may_hold d.old) (D.may_hold d.new) }
-    ensures quiet { Quiet D.tells D.size D.told D.left D.faults d.old d.new }
-    ensures time { D.tells → Adds D.moment D.outcomes d.old d.new Nothing }
+    ensures seen { D.is_modelled → D.seen d.new ≡ D.seen d.old }
+    ensures crash { D.is_modelled → SameHoldings (D.may_leave d.old) (D.may_leave d.new) }
+    ensures quiet { Quiet D.is_modelled D.size D.told D.input_left D.heard D.faults d.old d.new }
+    ensures time { D.is_modelled → Adds D.moment D.outcomes d.old d.new Nothing }
     ensures cause { IfErr result (λ f. IsOfDisk f → Rose (D.faults d.old).disk (D.faults d.new).disk) }
 {
     let sector = read(d, CONTROL_SECTOR)?;
@@ -125,14 +125,14 @@ pub fn copies_end(geometry: &Geometry) -> u64
 #[tactic(auto, unfolding(vab_device::specs::Device::geometry_at))]
 pub fn read_geometry<D: Disk>(d: &mut D) -> Result<Geometry, StartFault>
     requires { 4120 ≤ D.size d.old }
-    ensures ok { D.tells → IfOk result (λ g. geometry_at (D.size d.old) (D.seen d.old) ≡ Ok g) }
-    ensures fault { D.tells → IfErr result (λ f. IsOfContents f → geometry_at (D.size d.old) (D.seen d.old) ≡ Err f) }
+    ensures ok { D.is_modelled → IfOk result (λ g. geometry_at (D.size d.old) (D.seen d.old) ≡ Ok g) }
+    ensures fault { D.is_modelled → IfErr result (λ f. IsOfContents f → geometry_at (D.size d.old) (D.seen d.old) ≡ Err f) }
     ensures rules { IfOk result IsGeometry }
     ensures copies_on { IfOk result (λ g. copies_end g ≤ super_bytes (D.size d.old)) }
-    ensures seen { D.tells → D.seen d.new ≡ D.seen d.old }
-    ensures crash { D.tells → SameHoldings (D.may_hold d.old) (D.may_hold d.new) }
-    ensures quiet { Quiet D.tells D.size D.told D.left D.faults d.old d.new }
-    ensures time { D.tells → Adds D.moment D.outcomes d.old d.new Nothing }
+    ensures seen { D.is_modelled → D.seen d.new ≡ D.seen d.old }
+    ensures crash { D.is_modelled → SameHoldings (D.may_leave d.old) (D.may_leave d.new) }
+    ensures quiet { Quiet D.is_modelled D.size D.told D.input_left D.heard D.faults d.old d.new }
+    ensures time { D.is_modelled → Adds D.moment D.outcomes d.old d.new Nothing }
     ensures cause { IfErr result (λ f. IsOfDisk f → Rose (D.faults d.old).disk (D.faults d.new).disk) }
 {
     let sectors = d.sectors();

@@ -42,15 +42,15 @@ fn load<D: Disk>(
     requires rules { IsGeometry geometry.now }
     requires slot { slot < 2 }
     requires copies_on { copies_end geometry.now ≤ super_bytes (D.size d.old) }
-    ensures table { D.tells → IfOk result (λ l. slot_table geometry.now slot (D.seen d.old) ≡ Ok l.table) }
-    ensures fault { D.tells → IfErr result (λ f. IsOfContents f → layout_at (D.size d.old) geometry.now slot (D.seen d.old) ≡ Err f) }
-    ensures loaded { D.tells → IfOk result (λ l. IsLoaded geometry.now.max (primary_bytes geometry.now slot (D.seen d.old)) (backup_bytes geometry.now slot (D.seen d.old)) l) }
+    ensures table { D.is_modelled → IfOk result (λ l. slot_table geometry.now slot (D.seen d.old) ≡ Ok l.table) }
+    ensures fault { D.is_modelled → IfErr result (λ f. IsOfContents f → layout_at (D.size d.old) geometry.now slot (D.seen d.old) ≡ Err f) }
+    ensures loaded { D.is_modelled → IfOk result (λ l. IsLoaded geometry.now.max (primary_bytes geometry.now slot (D.seen d.old)) (backup_bytes geometry.now slot (D.seen d.old)) l) }
     ensures text { IfOk result (λ l. IsTableText geometry.now.max l.text l.table) }
     ensures fits { IfOk result (λ l. length l.text ≤ geometry.now.max) }
-    ensures seen { D.tells → D.seen d.new ≡ D.seen d.old }
-    ensures crash { D.tells → SameHoldings (D.may_hold d.old) (D.may_hold d.new) }
-    ensures quiet { Quiet D.tells D.size D.told D.left D.faults d.old d.new }
-    ensures time { D.tells → Adds D.moment D.outcomes d.old d.new Nothing }
+    ensures seen { D.is_modelled → D.seen d.new ≡ D.seen d.old }
+    ensures crash { D.is_modelled → SameHoldings (D.may_leave d.old) (D.may_leave d.new) }
+    ensures quiet { Quiet D.is_modelled D.size D.told D.input_left D.heard D.faults d.old d.new }
+    ensures time { D.is_modelled → Adds D.moment D.outcomes d.old d.new Nothing }
     ensures cause { IfErr result (λ f. IsOfDisk f → Rose (D.faults d.old).disk (D.faults d.new).disk) }
 {
     match load_table(alloc, d, geometry, slot) {
@@ -72,16 +72,16 @@ pub fn read_table<D: Disk>(
     requires rules { IsGeometry geometry.now }
     requires slot { slot < 2 }
     requires copies_on { copies_end geometry.now ≤ super_bytes (D.size d.old) }
-    ensures ok { D.tells → IfOk result (λ l. layout_at (D.size d.old) geometry.now slot (D.seen d.old) ≡ Ok (layout_of l.table)) }
-    ensures fault { D.tells → IfErr result (λ f. IsOfContents f → layout_at (D.size d.old) geometry.now slot (D.seen d.old) ≡ Err f) }
-    ensures loaded { D.tells → IfOk result (λ l. IsLoaded geometry.now.max (primary_bytes geometry.now slot (D.seen d.old)) (backup_bytes geometry.now slot (D.seen d.old)) l) }
+    ensures ok { D.is_modelled → IfOk result (λ l. layout_at (D.size d.old) geometry.now slot (D.seen d.old) ≡ Ok (layout_of l.table)) }
+    ensures fault { D.is_modelled → IfErr result (λ f. IsOfContents f → layout_at (D.size d.old) geometry.now slot (D.seen d.old) ≡ Err f) }
+    ensures loaded { D.is_modelled → IfOk result (λ l. IsLoaded geometry.now.max (primary_bytes geometry.now slot (D.seen d.old)) (backup_bytes geometry.now slot (D.seen d.old)) l) }
     ensures text { IfOk result (λ l. IsTableText geometry.now.max l.text l.table) }
     ensures fits { IfOk result (λ l. length l.text ≤ geometry.now.max) }
     ensures lies { IfOk result (λ l. IsTrue (lies_in (D.size d.old) geometry.now (layout_of l.table).device)) }
-    ensures seen { D.tells → D.seen d.new ≡ D.seen d.old }
-    ensures crash { D.tells → SameHoldings (D.may_hold d.old) (D.may_hold d.new) }
-    ensures quiet { Quiet D.tells D.size D.told D.left D.faults d.old d.new }
-    ensures time { D.tells → Adds D.moment D.outcomes d.old d.new Nothing }
+    ensures seen { D.is_modelled → D.seen d.new ≡ D.seen d.old }
+    ensures crash { D.is_modelled → SameHoldings (D.may_leave d.old) (D.may_leave d.new) }
+    ensures quiet { Quiet D.is_modelled D.size D.told D.input_left D.heard D.faults d.old d.new }
+    ensures time { D.is_modelled → Adds D.moment D.outcomes d.old d.new Nothing }
     ensures cause { IfErr result (λ f. IsOfDisk f → Rose (D.faults d.old).disk (D.faults d.new).disk) }
 {
     let sectors = d.sectors();

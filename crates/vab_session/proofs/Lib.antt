@@ -1,5 +1,7 @@
+pub mod AnswerLaws
 mod Events
 mod Hearings
+pub mod ItemLaws
 mod Packets
 mod Progress
 mod Sessions

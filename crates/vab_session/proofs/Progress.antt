@@ -3,7 +3,7 @@ use Rattle.std.proofs.Common.{◌≡◌, ℕ, ◌<◌, ◌≤◌, min, Bool, tru
 use Rattle.std.proofs.lemmas.List.{append-nil, take_at}
 use Rattle.std.specs.List.{flat_map}
 use Rattle.vab_disk.specs.Disk.{Image, Outcome, IsSettled, SameHoldings, Adds, Nothing}
-use Rattle.vab_disk.specs.Moments.{adds_none, adds_on, adds_still}
+use Rattle.vab_disk.proofs.Moments.{adds_none, adds_on, adds_still}
 use Rattle.std.proofs.lemmas.Bool.Decides.{nat_tests}
 use Rattle.vab_fbtcp.specs.declared.event.Place.TheVariants.{Length}
 use Rattle.vab_recover.specs.declared.device.Device.{Device}
@@ -16,7 +16,7 @@ use Rattle.vab_session.specs.Fault.{IsPortFault}
 use Rattle.vab_session.specs.declared.fault.Ended.TheVariants as ended
 use Rattle.vab_session.specs.declared.fault.SessionFault.{SessionFault}
 use Rattle.vab_session.specs.declared.fault.SessionFault.TheVariants as faults
-use Rattle.vab_session.specs.ItemLaws.{joined_append, items_append, after_append, items_chain, front_at, within_item}
+use Rattle.vab_session.proofs.ItemLaws.{joined_append, items_append, after_append, items_chain, front_at, within_item}
 use Rattle.vab_session.proofs.Packets.{first_packet, none_left}
 
 -- which way a test goes doesn't matter where both are one

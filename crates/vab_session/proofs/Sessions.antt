@@ -6,7 +6,8 @@ use Rattle.std.proofs.lemmas.List.{take_min, take-append-le, drop_at, append-nil
 use Rattle.std.specs.List.{flat_map}
 use Rattle.vab_disk.specs.Disk.{Image, Outcome, Leaves, SameHoldings, Adds}
 use Rattle.vab_disk.specs.Port.{LeavesSaying}
-use Rattle.vab_disk.specs.Moments.{same_image, all_since, adds_wider, adds_on}
+use Rattle.vab_disk.specs.Written.{same_image}
+use Rattle.vab_disk.proofs.Moments.{all_since, adds_wider, adds_on}
 use Rattle.vab_fbtcp.specs.Hello.{is_hello}
 use Rattle.vab_fbtcp.specs.declared.event.Place.TheVariants.{Hello}
 use Rattle.vab_session.specs.Reading.{EndsIn}
@@ -16,7 +17,7 @@ use Rattle.vab_session.specs.Items.{Situation, IsIn, joined, IsWithin, IsAtRest}
 use Rattle.vab_session.specs.Answers.{items_of, output_of}
 use Rattle.vab_session.specs.declared.fault.SessionFault.{SessionFault}
 use Rattle.vab_session.specs.declared.fault.SessionFault.TheVariants as faults
-use Rattle.vab_session.specs.ItemLaws.{items_chain, within_greeting}
+use Rattle.vab_session.proofs.ItemLaws.{items_chain, within_greeting}
 use Rattle.vab_session.proofs.Packets.{AreBytes, split_of, taken_byte, same_packets}
 
 -- the session of an input

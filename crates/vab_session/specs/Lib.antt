@@ -1,8 +1,6 @@
-pub mod AnswerLaws
 pub mod Answers
 pub mod Fault
 pub mod Hearing
-pub mod ItemLaws
 pub mod Items
 pub mod Reading
 pub mod Served

@@ -36,12 +36,12 @@ fn reply_packet(text: &[u8]) -> ArrayVec<u8, MAX_REPLY>
 fn tell_reply<P: Port>(p: &mut P, text: &[u8]) -> Result<(), SessionFault>
     requires { length text.now ≤ 256 }
     ensures size { P.size p.new ≡ P.size p.old }
-    ensures seen { P.tells → P.seen p.new ≡ P.seen p.old }
-    ensures crash { P.tells → SameHoldings (P.may_hold p.old) (P.may_hold p.new) }
-    ensures left { P.tells → P.left p.new ≡ P.left p.old }
-    ensures told { P.tells → OnOk result (P.told p.new ≡ P.told p.old ++ spelling text.now) }
-    ensures front { P.tells → (n : ℕ) × (P.told p.new ≡ P.told p.old ++ take n (spelling text.now)) }
-    ensures time { P.tells → Adds P.moment P.outcomes p.old p.new (LeavesSaying (P.told p.old) (spelling text.now) (P.may_hold p.old)) }
+    ensures seen { P.is_modelled → P.seen p.new ≡ P.seen p.old }
+    ensures crash { P.is_modelled → SameHoldings (P.may_leave p.old) (P.may_leave p.new) }
+    ensures left { P.is_modelled → P.input_left p.new ≡ P.input_left p.old }
+    ensures told { P.is_modelled → OnOk result (P.told p.new ≡ P.told p.old ++ spelling text.now) }
+    ensures front { P.is_modelled → (n : ℕ) × (P.told p.new ≡ P.told p.old ++ take n (spelling text.now)) }
+    ensures time { P.is_modelled → Adds P.moment P.outcomes p.old p.new (LeavesSaying (P.told p.old) (spelling text.now) (P.may_leave p.old)) }
     ensures counts { NoFewer (P.faults p.old) (P.faults p.new) }
     ensures fault { OnErr result (result ≡ Err SessionFault.Sink) }
     ensures cause { OnErr result (Rose (P.faults p.old).sink (P.faults p.new).sink) }
@@ -56,12 +56,12 @@ fn tell_reply<P: Port>(p: &mut P, text: &[u8]) -> Result<(), SessionFault>
 fn tell_still<P: Port>(p: &mut P, device: Device, text: &[u8]) -> Result<Device, SessionFault>
     requires short { length text.now ≤ 256 }
     requires kept { IsDevice device (P.size p.old) }
-    requires stands { P.tells → StandsFor device (P.size p.old) (P.seen p.old) }
+    requires stands { P.is_modelled → StandsFor device (P.size p.old) (P.seen p.old) }
     ensures size { P.size p.new ≡ P.size p.old }
-    ensures left { P.tells → P.left p.new ≡ P.left p.old }
+    ensures left { P.is_modelled → P.input_left p.new ≡ P.input_left p.old }
     ensures kept { IfOk result (λ d. IsDevice d (P.size p.old)) }
-    ensures stands { P.tells → IfOk result (λ d. StandsFor d (P.size p.old) (P.seen p.new)) }
-    ensures does { P.tells → (s : Situation) → IsIn (P.size p.old) s (P.seen p.old) → DoesItem P.seen P.may_hold P.told P.moment P.outcomes (P.size p.old) (item_still s (spelling text.now)) p.old p.new result }
+    ensures stands { P.is_modelled → IfOk result (λ d. StandsFor d (P.size p.old) (P.seen p.new)) }
+    ensures does { P.is_modelled → (s : Situation) → IsIn (P.size p.old) s (P.seen p.old) → DoesItem P.seen P.may_leave P.told P.moment P.outcomes (P.size p.old) (item_still s (spelling text.now)) p.old p.new result }
     ensures counts { NoFewer (P.faults p.old) (P.faults p.new) }
     ensures disk { IsErrOf result SessionFault.Disk → Rose (P.faults p.old).disk (P.faults p.new).disk }
     ensures sink { IsErrOf result SessionFault.Sink → Rose (P.faults p.old).sink (P.faults p.new).sink }
@@ -76,13 +76,13 @@ fn tell_still<P: Port>(p: &mut P, device: Device, text: &[u8]) -> Result<Device,
 // Carries out a command, and then tells its reply.
 fn carry_out<P: Port>(p: &mut P, device: Device, command: &Command) -> Result<Device, SessionFault>
     requires kept { IsDevice device (P.size p.old) }
-    requires stands { P.tells → StandsFor device (P.size p.old) (P.seen p.old) }
+    requires stands { P.is_modelled → StandsFor device (P.size p.old) (P.seen p.old) }
     ensures size { P.size p.new ≡ P.size p.old }
-    ensures left { P.tells → P.left p.new ≡ P.left p.old }
+    ensures left { P.is_modelled → P.input_left p.new ≡ P.input_left p.old }
     ensures kept { IfOk result (λ d. IsDevice d (P.size p.old)) }
-    ensures stands { P.tells → IfOk result (λ d. StandsFor d (P.size p.old) (P.seen p.new)) }
-    ensures does { P.tells → (s : Situation) → IsIn (P.size p.old) s (P.seen p.old)
-        → DoesItem P.seen P.may_hold P.told P.moment P.outcomes (P.size p.old) (item_named s (named_of command.now) (spelling (text_of (reply_named s.state (named_of command.now))))) p.old p.new result }
+    ensures stands { P.is_modelled → IfOk result (λ d. StandsFor d (P.size p.old) (P.seen p.new)) }
+    ensures does { P.is_modelled → (s : Situation) → IsIn (P.size p.old) s (P.seen p.old)
+        → DoesItem P.seen P.may_leave P.told P.moment P.outcomes (P.size p.old) (item_named s (named_of command.now) (spelling (text_of (reply_named s.state (named_of command.now))))) p.old p.new result }
     ensures counts { NoFewer (P.faults p.old) (P.faults p.new) }
     ensures disk { IsErrOf result SessionFault.Disk → Rose (P.faults p.old).disk (P.faults p.new).disk }
     ensures sink { IsErrOf result SessionFault.Sink → Rose (P.faults p.old).sink (P.faults p.new).sink }
@@ -118,12 +118,12 @@ pub(crate) fn answer<P: Port>(
     packet: &[u8],
 ) -> Result<Device, SessionFault>
     requires kept { IsDevice device (P.size p.old) }
-    requires stands { P.tells → StandsFor device (P.size p.old) (P.seen p.old) }
+    requires stands { P.is_modelled → StandsFor device (P.size p.old) (P.seen p.old) }
     ensures size { P.size p.new ≡ P.size p.old }
-    ensures left { P.tells → P.left p.new ≡ P.left p.old }
+    ensures left { P.is_modelled → P.input_left p.new ≡ P.input_left p.old }
     ensures kept { IfOk result (λ d. IsDevice d (P.size p.old)) }
-    ensures stands { P.tells → IfOk result (λ d. StandsFor d (P.size p.old) (P.seen p.new)) }
-    ensures does { P.tells → (s : Situation) → IsIn (P.size p.old) s (P.seen p.old) → DoesItem P.seen P.may_hold P.told P.moment P.outcomes (P.size p.old) (item_of s packet.now) p.old p.new result }
+    ensures stands { P.is_modelled → IfOk result (λ d. StandsFor d (P.size p.old) (P.seen p.new)) }
+    ensures does { P.is_modelled → (s : Situation) → IsIn (P.size p.old) s (P.seen p.old) → DoesItem P.seen P.may_leave P.told P.moment P.outcomes (P.size p.old) (item_of s packet.now) p.old p.new result }
     ensures counts { NoFewer (P.faults p.old) (P.faults p.new) }
     ensures disk { IsErrOf result SessionFault.Disk → Rose (P.faults p.old).disk (P.faults p.new).disk }
     ensures sink { IsErrOf result SessionFault.Sink → Rose (P.faults p.old).sink (P.faults p.new).sink }

@@ -45,15 +45,15 @@ impl Reader {
     // Hears the next piece. `false`: none comes, since the input has ended or the session has had all its bytes.
     fn hear<P: Port>(&mut self, p: &mut P) -> Result<bool, SessionFault>
         requires { IsIdle (stands_at self.old) (unread_of self.old.framer) }
-        ensures listens { Listens P.tells P.size P.seen P.may_hold P.told P.faults P.moment P.outcomes p.old p.new }
+        ensures listens { Listens P.is_modelled P.size P.seen P.may_leave P.told P.faults P.moment P.outcomes p.old p.new }
         ensures place { stands_at self.new ≡ stands_at self.old }
-        ensures rest { P.tells → OnOk result (rest_of self.new (P.left p.new) ≡ rest_of self.old (P.left p.old)) }
+        ensures rest { P.is_modelled → OnOk result (rest_of self.new (P.input_left p.new) ≡ rest_of self.old (P.input_left p.old)) }
         ensures room { OnOk result (room_of self.new ≡ room_of self.old) }
-        ensures count { P.tells → OnOk result (self.new.budget.taken + length (P.left p.new) ≡ self.old.budget.taken + length (P.left p.old)) }
+        ensures count { P.is_modelled → OnOk result (self.new.budget.taken + length (P.input_left p.new) ≡ self.old.budget.taken + length (P.input_left p.old)) }
         ensures some { IfOk result (λ some. OnTrue some (self.old.budget.taken < self.new.budget.taken)) }
         ensures fed { IfOk result (λ some. OnTrue some (IsFed self.new)) }
         ensures none { IfOk result (λ some. OnFalse some ((unread_of self.new.framer ≡ unread_of self.old.framer) × (self.new.budget.taken ≡ self.old.budget.taken))) }
-        ensures end { P.tells → IfOk result (λ some. OnFalse some ((self.new.budget.taken ≡ self.new.budget.most) ⊎ (P.left p.new ≡ []))) }
+        ensures end { P.is_modelled → IfOk result (λ some. OnFalse some ((self.new.budget.taken ≡ self.new.budget.most) ⊎ (P.input_left p.new ≡ []))) }
         ensures most { self.new.budget.most ≡ self.old.budget.most }
         ensures fault { OnErr result (result ≡ Err SessionFault.Source) }
         ensures cause { OnErr result (Rose (P.faults p.old).source (P.faults p.new).source) }
@@ -73,19 +73,19 @@ impl Reader {
     fn next<P: Port>(&mut self, p: &mut P) -> Result<Option<Event>, SessionFault>
         requires { IsFed self.old }
         ensures fed { IfOk result (λ next. IfSome next (λ _. IsFed self.new)) }
-        ensures listens { Listens P.tells P.size P.seen P.may_hold P.told P.faults P.moment P.outcomes p.old p.new }
+        ensures listens { Listens P.is_modelled P.size P.seen P.may_leave P.told P.faults P.moment P.outcomes p.old p.new }
         ensures suits { IfOk result (λ next. IfSome next (Suits (stands_at self.old))) }
         ensures place { IfOk result (λ next. IfSome next (λ event. stands_at self.new ≡ place_after (stands_at self.old) (found_of event))) }
         ensures room { IfOk result (λ next. IfSome next (λ event. room_of self.new + bytes_of (found_of event) ≡ room_of self.old)) }
-        ensures event { P.tells → IfOk result (λ next. IfSome next (IsNext (rest_of self.old (P.left p.old)) self.new.piece)) }
-        ensures rest { P.tells → IfOk result (λ next. IfSome next (λ event. rest_of self.new (P.left p.new) ≡ drop (bytes_of (found_of event)) (rest_of self.old (P.left p.old)))) }
-        ensures none { P.tells → IfOk result (λ next. IfNone next (IsIdle (stands_at self.old) (rest_of self.old (P.left p.old)))) }
-        ensures held { P.tells → IfOk result (λ next. IfNone next (unread_of self.new.framer ≡ rest_of self.old (P.left p.old))) }
+        ensures event { P.is_modelled → IfOk result (λ next. IfSome next (IsNext (rest_of self.old (P.input_left p.old)) self.new.piece)) }
+        ensures rest { P.is_modelled → IfOk result (λ next. IfSome next (λ event. rest_of self.new (P.input_left p.new) ≡ drop (bytes_of (found_of event)) (rest_of self.old (P.input_left p.old)))) }
+        ensures none { P.is_modelled → IfOk result (λ next. IfNone next (IsIdle (stands_at self.old) (rest_of self.old (P.input_left p.old)))) }
+        ensures held { P.is_modelled → IfOk result (λ next. IfNone next (unread_of self.new.framer ≡ rest_of self.old (P.input_left p.old))) }
         ensures stays { IfOk result (λ next. IfNone next (stands_at self.new ≡ stands_at self.old)) }
-        ensures end { P.tells → IfOk result (λ next. IfNone next ((self.new.budget.taken ≡ self.new.budget.most) ⊎ (P.left p.new ≡ []))) }
-        ensures count { P.tells → OnOk result (self.new.budget.taken + length (P.left p.new) ≡ self.old.budget.taken + length (P.left p.old)) }
+        ensures end { P.is_modelled → IfOk result (λ next. IfNone next ((self.new.budget.taken ≡ self.new.budget.most) ⊎ (P.input_left p.new ≡ []))) }
+        ensures count { P.is_modelled → OnOk result (self.new.budget.taken + length (P.input_left p.new) ≡ self.old.budget.taken + length (P.input_left p.old)) }
         ensures most { self.new.budget.most ≡ self.old.budget.most }
-        ensures fault { P.tells → IfErr result (StopsBy (stands_at self.old) (rest_of self.old (P.left p.old))) }
+        ensures fault { P.is_modelled → IfErr result (StopsBy (stands_at self.old) (rest_of self.old (P.input_left p.old))) }
         ensures cause { IsErrOf result SessionFault.Source → Rose (P.faults p.old).source (P.faults p.new).source }
         ensures kind { IsErrOf result SessionFault.Sink → ⊥ }
         ensures no_disk { IsErrOf result SessionFault.Disk → ⊥ }
@@ -123,14 +123,14 @@ impl Reader {
     pub(crate) fn hello<P: Port>(&mut self, p: &mut P) -> Result<(), SessionFault>
         requires place { stands_at self.old ≡ Hello }
         requires fed { IsFed self.old }
-        ensures listens { Listens P.tells P.size P.seen P.may_hold P.told P.faults P.moment P.outcomes p.old p.new }
+        ensures listens { Listens P.is_modelled P.size P.seen P.may_leave P.told P.faults P.moment P.outcomes p.old p.new }
         ensures place { OnOk result (stands_at self.new ≡ Length) }
         ensures fed { OnOk result (IsFed self.new) }
-        ensures hello { P.tells → OnOk result ((4 ≤ length (rest_of self.old (P.left p.old))) × IsTrue (is_hello (take 4 (rest_of self.old (P.left p.old))))) }
-        ensures rest { P.tells → OnOk result (rest_of self.new (P.left p.new) ≡ drop 4 (rest_of self.old (P.left p.old))) }
-        ensures count { P.tells → OnOk result (self.new.budget.taken + length (P.left p.new) ≡ self.old.budget.taken + length (P.left p.old)) }
+        ensures hello { P.is_modelled → OnOk result ((4 ≤ length (rest_of self.old (P.input_left p.old))) × IsTrue (is_hello (take 4 (rest_of self.old (P.input_left p.old))))) }
+        ensures rest { P.is_modelled → OnOk result (rest_of self.new (P.input_left p.new) ≡ drop 4 (rest_of self.old (P.input_left p.old))) }
+        ensures count { P.is_modelled → OnOk result (self.new.budget.taken + length (P.input_left p.new) ≡ self.old.budget.taken + length (P.input_left p.old)) }
         ensures most { self.new.budget.most ≡ self.old.budget.most }
-        ensures fault { P.tells → IfErr result (EndsIn (length (rest_of self.old (P.left p.old)) < 4) Hello (rest_of self.old (P.left p.old)) (self.old.budget.taken + length (P.left p.old)) self.old.budget.most) }
+        ensures fault { P.is_modelled → IfErr result (EndsIn (length (rest_of self.old (P.input_left p.old)) < 4) Hello (rest_of self.old (P.input_left p.old)) (self.old.budget.taken + length (P.input_left p.old)) self.old.budget.most) }
         ensures cause { IsErrOf result SessionFault.Source → Rose (P.faults p.old).source (P.faults p.new).source }
         ensures kind { IsErrOf result SessionFault.Sink → ⊥ }
         ensures no_disk { IsErrOf result SessionFault.Disk → ⊥ }
@@ -153,15 +153,15 @@ impl Reader {
         requires fits { count ≤ 4096 }
         requires empty { packet.old.items ≡ [] }
         requires fed { IsFed self.old }
-        ensures listens { Listens P.tells P.size P.seen P.may_hold P.told P.faults P.moment P.outcomes p.old p.new }
+        ensures listens { Listens P.is_modelled P.size P.seen P.may_leave P.told P.faults P.moment P.outcomes p.old p.new }
         ensures place { OnOk result (stands_at self.new ≡ Length) }
         ensures fed { OnOk result (IsFed self.new) }
         ensures long { OnOk result (length packet.new.items ≡ count) }
-        ensures packet { P.tells → OnOk result (rest_of self.old (P.left p.old) ≡ packet.new.items ++ rest_of self.new (P.left p.new)) }
+        ensures packet { P.is_modelled → OnOk result (rest_of self.old (P.input_left p.old) ≡ packet.new.items ++ rest_of self.new (P.input_left p.new)) }
         ensures room { OnOk result (room_of self.new ≤ room_of self.old) }
-        ensures count { P.tells → OnOk result (self.new.budget.taken + length (P.left p.new) ≡ self.old.budget.taken + length (P.left p.old)) }
+        ensures count { P.is_modelled → OnOk result (self.new.budget.taken + length (P.input_left p.new) ≡ self.old.budget.taken + length (P.input_left p.old)) }
         ensures most { self.new.budget.most ≡ self.old.budget.most }
-        ensures fault { P.tells → IfErr result (EndsIn (length (rest_of self.old (P.left p.old)) < count) Hello [] (self.old.budget.taken + length (P.left p.old)) self.old.budget.most) }
+        ensures fault { P.is_modelled → IfErr result (EndsIn (length (rest_of self.old (P.input_left p.old)) < count) Hello [] (self.old.budget.taken + length (P.input_left p.old)) self.old.budget.most) }
         ensures cause { IsErrOf result SessionFault.Source → Rose (P.faults p.old).source (P.faults p.new).source }
         ensures kind { IsErrOf result SessionFault.Sink → ⊥ }
         ensures no_disk { IsErrOf result SessionFault.Disk → ⊥ }
@@ -188,17 +188,17 @@ impl Reader {
     ) -> Result<bool, SessionFault>
         requires place { stands_at self.old ≡ Length }
         requires fed { IsFed self.old }
-        ensures listens { Listens P.tells P.size P.seen P.may_hold P.told P.faults P.moment P.outcomes p.old p.new }
+        ensures listens { Listens P.is_modelled P.size P.seen P.may_leave P.told P.faults P.moment P.outcomes p.old p.new }
         ensures place { OnOk result (stands_at self.new ≡ Length) }
         ensures fed { IfOk result (λ some. OnTrue some (IsFed self.new)) }
         ensures fits { IfOk result (λ some. OnTrue some (length packet.new.items ≤ 4096)) }
-        ensures packet { P.tells → IfOk result (λ some. OnTrue some (rest_of self.old (P.left p.old) ≡ spelling packet.new.items ++ rest_of self.new (P.left p.new))) }
+        ensures packet { P.is_modelled → IfOk result (λ some. OnTrue some (rest_of self.old (P.input_left p.old) ≡ spelling packet.new.items ++ rest_of self.new (P.input_left p.new))) }
         ensures room { IfOk result (λ some. OnTrue some (room_of self.new < room_of self.old)) }
-        ensures closed { P.tells → IfOk result (λ some. OnFalse some (rest_of self.old (P.left p.old) ≡ [])) }
-        ensures end { P.tells → IfOk result (λ some. OnFalse some ((self.new.budget.taken ≡ self.new.budget.most) ⊎ (P.left p.new ≡ []))) }
-        ensures count { P.tells → OnOk result (self.new.budget.taken + length (P.left p.new) ≡ self.old.budget.taken + length (P.left p.old)) }
+        ensures closed { P.is_modelled → IfOk result (λ some. OnFalse some (rest_of self.old (P.input_left p.old) ≡ [])) }
+        ensures end { P.is_modelled → IfOk result (λ some. OnFalse some ((self.new.budget.taken ≡ self.new.budget.most) ⊎ (P.input_left p.new ≡ []))) }
+        ensures count { P.is_modelled → OnOk result (self.new.budget.taken + length (P.input_left p.new) ≡ self.old.budget.taken + length (P.input_left p.old)) }
         ensures most { self.new.budget.most ≡ self.old.budget.most }
-        ensures fault { P.tells → IfErr result (EndsIn (IsCutShort (rest_of self.old (P.left p.old))) Length (rest_of self.old (P.left p.old)) (self.old.budget.taken + length (P.left p.old)) self.old.budget.most) }
+        ensures fault { P.is_modelled → IfErr result (EndsIn (IsCutShort (rest_of self.old (P.input_left p.old))) Length (rest_of self.old (P.input_left p.old)) (self.old.budget.taken + length (P.input_left p.old)) self.old.budget.most) }
         ensures cause { IsErrOf result SessionFault.Source → Rose (P.faults p.old).source (P.faults p.new).source }
         ensures kind { IsErrOf result SessionFault.Sink → ⊥ }
         ensures no_disk { IsErrOf result SessionFault.Disk → ⊥ }

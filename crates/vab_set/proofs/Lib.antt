@@ -1,1 +1,2 @@
 mod Loop
+pub mod SetLaws

@@ -2,7 +2,7 @@ use Rattle.std.proofs.Common.{◌≡◌, ℕ, List, Bool, Option, Some, None, sy
 use Rattle.std.specs.Prelude.{IfSome, IfNone}
 use Rattle.vab_bootctl.specs.declared.slots.Control.{Control}
 use Rattle.vab_bootctl.specs.Boot.{IsBootable, IsChosen, chosen_of}
-use Rattle.vab_bootctl.specs.BootLaws.{chosen_is, chosen_none}
+use Rattle.vab_bootctl.proofs.BootLaws.{chosen_is, chosen_none}
 use Rattle.vab_bootctl.proofs.boot.choose.Goals as goal
 
 some : (c : Control) (has : List Bool) (o : Option ℕ) → o ≡ chosen_of c has → IfSome o (λ slot. IsChosen c has slot)

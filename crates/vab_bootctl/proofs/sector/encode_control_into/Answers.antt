@@ -1,6 +1,6 @@
 use Rattle.std.proofs.Common.{◌≡◌, ℕ, ◌^◌, ◌<◌, List, take, refl, subst, arith}
 use Rattle.vab_bytes.specs.Crc.{crc_of}
-use Rattle.vab_bootctl.specs.ControlLaws.{written, written_stands, written_keeps, written_is_read}
+use Rattle.vab_bootctl.proofs.ControlLaws.{written, written_stands, written_keeps, written_is_read}
 use Rattle.vab_bootctl.proofs.sector.encode_control_into.Goals as goal
 
 is_written : (c : goal.After-put_le32) → c.put_le32.new.b ≡ written c.args.control.now c.args.bytes.now

@@ -20,8 +20,8 @@ returns-in-Ok-clause-made g c = λ t none.
     let mid = c.make_device.new.d in
     let new = c.tell_made.new.port in
     let size = g.P.Disk.size old in
-    let tells = subst (λ (n : ℕ). Tells g.P.Disk.seen g.P.Disk.may_hold g.P.Disk.told g.P.Disk.moment g.P.Disk.outcomes (done_making c.args.set.now n) Done mid new c.tell_made.result) c.make_device.ensures.quiet.size (c.tell_made.ensures.tells t) in
-    making_told g.P.Disk.seen g.P.Disk.may_hold g.P.Disk.told g.P.Disk.left g.P.Disk.moment g.P.Disk.outcomes g.met.P.Disk.only_now size c.args.set.now c.args.limit c.args.max (done_making c.args.set.now size) old mid new c.tell_made.result
+    let tells = subst (λ (n : ℕ). Tells g.P.Disk.seen g.P.Disk.may_leave g.P.Disk.told g.P.Disk.moment g.P.Disk.outcomes (done_making c.args.set.now n) Done mid new c.tell_made.result) c.make_device.ensures.quiet.size (c.tell_made.ensures.tells t) in
+    making_told g.P.Disk.seen g.P.Disk.may_leave g.P.Disk.told g.P.Disk.input_left g.P.Disk.moment g.P.Disk.outcomes g.met.P.Disk.only_now size c.args.set.now c.args.limit c.args.max (done_making c.args.set.now size) old mid new c.tell_made.result
     (c.make_device.ensures.quiet.told t) (c.in-Ok.ensures.made t) (c.in-Ok.ensures.settled t) (c.make_device.ensures.time t) c.tell_made.ensures.either tells
 
 pub returns-then-is_silent-clause-made : goal.returns-then-is_silent-clause-made
@@ -35,7 +35,7 @@ returns-then-is_silent-clause-made g c = λ t none.
     (λ disk. inl (inl (c.from.ensures ∙ disk)))
     (λ memory. inr (c.from.ensures ∙ ap make_status memory))
     (silent_early fault is) in
-    making_untold g.P.Disk.seen g.P.Disk.may_hold g.P.Disk.told g.P.Disk.left g.P.Disk.moment g.P.Disk.outcomes g.met.P.Disk.only_now size c.args.set.now c.args.limit c.args.max (done_making c.args.set.now size) old new c.from.result (c.make_device.ensures.quiet.told t)
+    making_untold g.P.Disk.seen g.P.Disk.may_leave g.P.Disk.told g.P.Disk.input_left g.P.Disk.moment g.P.Disk.outcomes g.met.P.Disk.only_now size c.args.set.now c.args.limit c.args.max (done_making c.args.set.now size) old new c.from.result (c.make_device.ensures.quiet.told t)
     (λ memory. (c.in-Err.ensures.untouched t (memory_of_none fault (sym c.from.ensures ∙ memory))).0) (c.make_device.ensures.time t) either
 
 pub returns-then-is_silent-clause-refused : goal.returns-then-is_silent-clause-refused
@@ -47,7 +47,7 @@ returns-then-is_silent-clause-refused g c = λ t fault refused.
     let is : is_silent c.in-Err.fault ≡ true = sym c.is_silent.ensures ∙ c.if-is_silent.true in
     let memory : c.from.result ≡ NoMemory = c.from.ensures ∙ silent_memory c.in-Err.fault fault gives is in
     let no_disk = not_of_disk c.in-Err.fault fault gives in
-    refused_unheard g.P.Disk.seen g.P.Disk.may_hold g.P.Disk.told g.P.Disk.left g.P.Disk.moment g.P.Disk.outcomes g.met.P.Disk.only_now size (make_line fault) (make_status fault) old new c.from.result (c.make_device.ensures.quiet.told t)
+    refused_unheard g.P.Disk.seen g.P.Disk.may_leave g.P.Disk.told g.P.Disk.input_left g.P.Disk.moment g.P.Disk.outcomes g.met.P.Disk.only_now size (make_line fault) (make_status fault) old new c.from.result (c.make_device.ensures.quiet.told t)
     (c.in-Err.ensures.untouched t no_disk).0 (c.in-Err.ensures.still t no_disk) (silent_line fault) (status_not_port fault) (inr (inr memory))
 
 pub returns-clause-refused : goal.returns-clause-refused
@@ -60,7 +60,7 @@ returns-clause-refused g c = λ t fault refused.
     let loud : is_silent c.in-Err.fault ≡ false = sym c.is_silent.ensures ∙ c.if-is_silent.false in
     let same : c.in-Err.fault ≡ fault = loud_refusal c.in-Err.fault fault gives loud in
     let no_disk = not_of_disk c.in-Err.fault fault gives in
-    let tells = subst (λ (f : MakeFault). Tells g.P.Disk.seen g.P.Disk.may_hold g.P.Disk.told g.P.Disk.moment g.P.Disk.outcomes (make_line f) (make_status f) mid new c.tell_fault.result) same (c.tell_fault.ensures.tells t) in
+    let tells = subst (λ (f : MakeFault). Tells g.P.Disk.seen g.P.Disk.may_leave g.P.Disk.told g.P.Disk.moment g.P.Disk.outcomes (make_line f) (make_status f) mid new c.tell_fault.result) same (c.tell_fault.ensures.tells t) in
     let either = subst (λ (f : MakeFault). (c.tell_fault.result ≡ make_status f) ⊎ (c.tell_fault.result ≡ Port)) same c.tell_fault.ensures.either in
-    refused_told g.P.Disk.seen g.P.Disk.may_hold g.P.Disk.told g.P.Disk.left g.P.Disk.moment g.P.Disk.outcomes g.met.P.Disk.only_now size (make_line fault) (make_status fault) old mid new c.tell_fault.result (c.make_device.ensures.quiet.told t)
+    refused_told g.P.Disk.seen g.P.Disk.may_leave g.P.Disk.told g.P.Disk.input_left g.P.Disk.moment g.P.Disk.outcomes g.met.P.Disk.only_now size (make_line fault) (make_status fault) old mid new c.tell_fault.result (c.make_device.ensures.quiet.told t)
     (c.in-Err.ensures.untouched t no_disk).0 (c.in-Err.ensures.untouched t no_disk).1 (c.in-Err.ensures.still t no_disk) (silent_line fault) either tells

@@ -1,8 +1,8 @@
 use Rattle.std.proofs.Common.{◌≡◌, ◌<◌, ℕ, List, ◌++◌, length, take, sym, ◌∙◌, ap, rules, arith}
 use Rattle.std.proofs.lemmas.List.{append-nil, take_all}
-use Rattle.vab_disk.specs.Moments.{adds_none}
+use Rattle.vab_disk.proofs.Moments.{adds_none}
 use Rattle.vab_recover.specs.Stands.{bytes_at}
-use Rattle.vab_manager.specs.DigestLaws.{bytes_none}
+use Rattle.vab_manager.proofs.DigestLaws.{bytes_none}
 use Rattle.vab_cli.proofs.Blocks.{told_block, front_block, time_block, count_kept}
 use Rattle.vab_cli.proofs.printing.tell_blocks.Goals as goal
 
@@ -29,7 +29,7 @@ returns-in_err-tell_block-clause-time g c = λ t p kept.
     let i = c.loop-block.invariant in
     let count = count_kept c.args.device.now c.args.slot c.args.name.now p c.args.blocks kept c.requires.part in
     let lt : c.loop-block.block < length p.map = omega (arith, c.loop-block-test.true, count) in
-    time_block g.P.Disk.moment g.P.Disk.outcomes c.args.port.now c.loop-block.port c.tell_block.new.port (g.P.Disk.told c.args.port.now) (g.P.Disk.told c.loop-block.port) (g.P.Disk.seen c.loop-block.port) (g.P.Disk.seen c.args.port.now) p.map c.loop-block.block (g.P.Disk.may_hold c.args.port.now) (g.P.Disk.may_hold c.loop-block.port) lt (i.seen t) (i.told t p kept) (i.crash t) (i.time t p kept) (c.tell_block.ensures.time t p kept)
+    time_block g.P.Disk.moment g.P.Disk.outcomes c.args.port.now c.loop-block.port c.tell_block.new.port (g.P.Disk.told c.args.port.now) (g.P.Disk.told c.loop-block.port) (g.P.Disk.seen c.loop-block.port) (g.P.Disk.seen c.args.port.now) p.map c.loop-block.block (g.P.Disk.may_leave c.args.port.now) (g.P.Disk.may_leave c.loop-block.port) lt (i.seen t) (i.told t p kept) (i.crash t) (i.time t p kept) (c.tell_block.ensures.time t p kept)
 
 pub loop-block-preserved : goal.loop-block-preserved
 loop-block-preserved g c =
@@ -45,7 +45,7 @@ loop-block-preserved g c =
       time = λ t p kept.
           let count = count_kept c.args.device.now c.args.slot c.args.name.now p c.args.blocks kept c.requires.part in
           let lt : c.loop-block.block < length p.map = omega (arith, c.loop-block-test.true, count) in
-          time_block g.P.Disk.moment g.P.Disk.outcomes c.args.port.now c.loop-block.port c.tell_block.new.port (g.P.Disk.told c.args.port.now) (g.P.Disk.told c.loop-block.port) (g.P.Disk.seen c.loop-block.port) (g.P.Disk.seen c.args.port.now) p.map c.loop-block.block (g.P.Disk.may_hold c.args.port.now) (g.P.Disk.may_hold c.loop-block.port) lt (i.seen t) (i.told t p kept) (i.crash t) (i.time t p kept) (c.tell_block.ensures.time t p kept);
+          time_block g.P.Disk.moment g.P.Disk.outcomes c.args.port.now c.loop-block.port c.tell_block.new.port (g.P.Disk.told c.args.port.now) (g.P.Disk.told c.loop-block.port) (g.P.Disk.seen c.loop-block.port) (g.P.Disk.seen c.args.port.now) p.map c.loop-block.block (g.P.Disk.may_leave c.args.port.now) (g.P.Disk.may_leave c.loop-block.port) lt (i.seen t) (i.told t p kept) (i.crash t) (i.time t p kept) (c.tell_block.ensures.time t p kept);
       counts = search rules;
     }
 

@@ -1,6 +1,6 @@
 use Rattle.std.proofs.Common.{◌≡◌, ◌∙◌, ap, subst, sym}
 use Rattle.vab_disk.specs.Disk.{Image}
-use Rattle.vab_disk.specs.Moments.{adds_wider, adds_still}
+use Rattle.vab_disk.proofs.Moments.{adds_wider, adds_still}
 use Rattle.vab_copies.specs.Copies.{with_text, IsOfText, ReadsWith}
 use Rattle.vab_copies.proofs.Copying.{rest_whole, whole_outside, whole_blend, on_ok_always}
 use Rattle.vab_copies.proofs.copy.rewrite_copy.Goals as goal

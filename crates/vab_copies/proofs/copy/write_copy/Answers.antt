@@ -1,6 +1,6 @@
 use Rattle.std.proofs.Common.{◌≡◌, ◌∙◌, ap, subst, refl, inl, OnOk}
 use Rattle.vab_disk.specs.Disk.{Image, set_sector, IsAt}
-use Rattle.vab_disk.specs.Moments.{adds_on, adds_wider, adds_still, no_more_then, with_wider, with_then}
+use Rattle.vab_disk.proofs.Moments.{adds_on, adds_wider, adds_still, no_more_then, with_wider, with_then}
 use Rattle.vab_copies.specs.Copies.{zeros, with_text, with_rest, IsOfText, IsOfCopy}
 use Rattle.vab_copies.proofs.Sectors.{reads_maybe, reads_then, reads_same}
 use Rattle.vab_copies.proofs.Copying.{zeros_of, rest_of, first_of_copy, copy_outside, torn, torn_done, first_gate, behind, last_gate, no_more_of}
@@ -16,7 +16,7 @@ returns-in_err-put_gate-clause-others g c = λ t.
 
 pub returns-in_err-put_gate-clause-crash : goal.returns-in_err-put_gate-clause-crash
 returns-in_err-put_gate-clause-crash g c = λ t.
-    no_more_then (IsOfCopy c.args.count c.args.at c.args.text.now) (IsAt c.args.at zeros) (g.D.Disk.may_hold c.args.d.now) (g.D.Disk.may_hold c.args.d.now) (g.D.Disk.may_hold c.put_gate.new.d) (λ s b was. inl was) (c.put_gate.ensures.crash t) (zeros_of c.args.text.now c.args.at c.args.count c.requires.some)
+    no_more_then (IsOfCopy c.args.count c.args.at c.args.text.now) (IsAt c.args.at zeros) (g.D.Disk.may_leave c.args.d.now) (g.D.Disk.may_leave c.args.d.now) (g.D.Disk.may_leave c.put_gate.new.d) (λ s b was. inl was) (c.put_gate.ensures.crash t) (zeros_of c.args.text.now c.args.at c.args.count c.requires.some)
 
 pub returns-in_err-put_gate-clause-time : goal.returns-in_err-put_gate-clause-time
 returns-in_err-put_gate-clause-time g c = λ t.
@@ -36,13 +36,13 @@ returns-in_err-write_sectors-clause-others g c = λ t.
 
 pub returns-in_err-write_sectors-clause-crash : goal.returns-in_err-write_sectors-clause-crash
 returns-in_err-write_sectors-clause-crash g c = λ t.
-    no_more_then (IsOfCopy c.args.count c.args.at c.args.text.now) (IsOfText 1 c.args.count c.args.at c.args.text.now) (g.D.Disk.may_hold c.args.d.now) (g.D.Disk.may_hold c.put_gate.new.d) (g.D.Disk.may_hold c.write_sectors.new.d) (no_more_then (IsOfCopy c.args.count c.args.at c.args.text.now) (IsAt c.args.at zeros) (g.D.Disk.may_hold c.args.d.now) (g.D.Disk.may_hold c.args.d.now) (g.D.Disk.may_hold c.put_gate.new.d) (λ s b was. inl was) (c.put_gate.ensures.crash t) (zeros_of c.args.text.now c.args.at c.args.count c.requires.some)) (c.write_sectors.ensures.crash t).adds (rest_of c.args.text.now c.args.at c.args.count c.requires.some)
+    no_more_then (IsOfCopy c.args.count c.args.at c.args.text.now) (IsOfText 1 c.args.count c.args.at c.args.text.now) (g.D.Disk.may_leave c.args.d.now) (g.D.Disk.may_leave c.put_gate.new.d) (g.D.Disk.may_leave c.write_sectors.new.d) (no_more_then (IsOfCopy c.args.count c.args.at c.args.text.now) (IsAt c.args.at zeros) (g.D.Disk.may_leave c.args.d.now) (g.D.Disk.may_leave c.args.d.now) (g.D.Disk.may_leave c.put_gate.new.d) (λ s b was. inl was) (c.put_gate.ensures.crash t) (zeros_of c.args.text.now c.args.at c.args.count c.requires.some)) (c.write_sectors.ensures.crash t).adds (rest_of c.args.text.now c.args.at c.args.count c.requires.some)
 
 pub returns-in_err-write_sectors-clause-time : goal.returns-in_err-write_sectors-clause-time
 returns-in_err-write_sectors-clause-time g c = λ t.
     adds_on g.D.Disk.moment g.D.Disk.outcomes _ _ _ _ _
     (adds_wider g.D.Disk.moment g.D.Disk.outcomes _ _ _ _ (c.put_gate.ensures.time t) (with_wider (IsOfCopy c.args.count c.args.at c.args.text.now) (IsAt c.args.at zeros) _ _ (zeros_of c.args.text.now c.args.at c.args.count c.requires.some)))
-    (c.write_sectors.ensures.time t) (with_then (IsOfCopy c.args.count c.args.at c.args.text.now) (IsOfText 1 c.args.count c.args.at c.args.text.now) _ _ _ _ (c.put_gate.ensures.quiet.told t) (no_more_then (IsOfCopy c.args.count c.args.at c.args.text.now) (IsAt c.args.at zeros) (g.D.Disk.may_hold c.args.d.now) (g.D.Disk.may_hold c.args.d.now) (g.D.Disk.may_hold c.put_gate.new.d) (λ s b was. inl was) (c.put_gate.ensures.crash t) (zeros_of c.args.text.now c.args.at c.args.count c.requires.some)) (rest_of c.args.text.now c.args.at c.args.count c.requires.some))
+    (c.write_sectors.ensures.time t) (with_then (IsOfCopy c.args.count c.args.at c.args.text.now) (IsOfText 1 c.args.count c.args.at c.args.text.now) _ _ _ _ (c.put_gate.ensures.quiet.told t) (no_more_then (IsOfCopy c.args.count c.args.at c.args.text.now) (IsAt c.args.at zeros) (g.D.Disk.may_leave c.args.d.now) (g.D.Disk.may_leave c.args.d.now) (g.D.Disk.may_leave c.put_gate.new.d) (λ s b was. inl was) (c.put_gate.ensures.crash t) (zeros_of c.args.text.now c.args.at c.args.count c.requires.some)) (rest_of c.args.text.now c.args.at c.args.count c.requires.some))
 
 pub returns-in_err-write_sectors-clause-copy : goal.returns-in_err-write_sectors-clause-copy
 returns-in_err-write_sectors-clause-copy g c = λ t settled.
@@ -60,14 +60,14 @@ returns-in_err-settle-clause-others g c = λ t.
 
 pub returns-in_err-settle-clause-crash : goal.returns-in_err-settle-clause-crash
 returns-in_err-settle-clause-crash g c = λ t.
-    no_more_of (IsOfCopy c.args.count c.args.at c.args.text.now) (g.D.Disk.may_hold c.args.d.now) (g.D.Disk.may_hold c.write_sectors.new.d) (g.D.Disk.may_hold c.settle.new.d) (no_more_then (IsOfCopy c.args.count c.args.at c.args.text.now) (IsOfText 1 c.args.count c.args.at c.args.text.now) (g.D.Disk.may_hold c.args.d.now) (g.D.Disk.may_hold c.put_gate.new.d) (g.D.Disk.may_hold c.write_sectors.new.d) (no_more_then (IsOfCopy c.args.count c.args.at c.args.text.now) (IsAt c.args.at zeros) (g.D.Disk.may_hold c.args.d.now) (g.D.Disk.may_hold c.args.d.now) (g.D.Disk.may_hold c.put_gate.new.d) (λ s b was. inl was) (c.put_gate.ensures.crash t) (zeros_of c.args.text.now c.args.at c.args.count c.requires.some)) (c.write_sectors.ensures.crash t).adds (rest_of c.args.text.now c.args.at c.args.count c.requires.some)) (c.settle.ensures.crash t)
+    no_more_of (IsOfCopy c.args.count c.args.at c.args.text.now) (g.D.Disk.may_leave c.args.d.now) (g.D.Disk.may_leave c.write_sectors.new.d) (g.D.Disk.may_leave c.settle.new.d) (no_more_then (IsOfCopy c.args.count c.args.at c.args.text.now) (IsOfText 1 c.args.count c.args.at c.args.text.now) (g.D.Disk.may_leave c.args.d.now) (g.D.Disk.may_leave c.put_gate.new.d) (g.D.Disk.may_leave c.write_sectors.new.d) (no_more_then (IsOfCopy c.args.count c.args.at c.args.text.now) (IsAt c.args.at zeros) (g.D.Disk.may_leave c.args.d.now) (g.D.Disk.may_leave c.args.d.now) (g.D.Disk.may_leave c.put_gate.new.d) (λ s b was. inl was) (c.put_gate.ensures.crash t) (zeros_of c.args.text.now c.args.at c.args.count c.requires.some)) (c.write_sectors.ensures.crash t).adds (rest_of c.args.text.now c.args.at c.args.count c.requires.some)) (c.settle.ensures.crash t)
 
 pub returns-in_err-settle-clause-time : goal.returns-in_err-settle-clause-time
 returns-in_err-settle-clause-time g c = λ t.
     adds_still g.D.Disk.moment g.D.Disk.outcomes _ _ _ _
     (adds_on g.D.Disk.moment g.D.Disk.outcomes _ _ _ _ _
     (adds_wider g.D.Disk.moment g.D.Disk.outcomes _ _ _ _ (c.put_gate.ensures.time t) (with_wider (IsOfCopy c.args.count c.args.at c.args.text.now) (IsAt c.args.at zeros) _ _ (zeros_of c.args.text.now c.args.at c.args.count c.requires.some)))
-    (c.write_sectors.ensures.time t) (with_then (IsOfCopy c.args.count c.args.at c.args.text.now) (IsOfText 1 c.args.count c.args.at c.args.text.now) _ _ _ _ (c.put_gate.ensures.quiet.told t) (no_more_then (IsOfCopy c.args.count c.args.at c.args.text.now) (IsAt c.args.at zeros) (g.D.Disk.may_hold c.args.d.now) (g.D.Disk.may_hold c.args.d.now) (g.D.Disk.may_hold c.put_gate.new.d) (λ s b was. inl was) (c.put_gate.ensures.crash t) (zeros_of c.args.text.now c.args.at c.args.count c.requires.some)) (rest_of c.args.text.now c.args.at c.args.count c.requires.some)))
+    (c.write_sectors.ensures.time t) (with_then (IsOfCopy c.args.count c.args.at c.args.text.now) (IsOfText 1 c.args.count c.args.at c.args.text.now) _ _ _ _ (c.put_gate.ensures.quiet.told t) (no_more_then (IsOfCopy c.args.count c.args.at c.args.text.now) (IsAt c.args.at zeros) (g.D.Disk.may_leave c.args.d.now) (g.D.Disk.may_leave c.args.d.now) (g.D.Disk.may_leave c.put_gate.new.d) (λ s b was. inl was) (c.put_gate.ensures.crash t) (zeros_of c.args.text.now c.args.at c.args.count c.requires.some)) (rest_of c.args.text.now c.args.at c.args.count c.requires.some)))
     (c.settle.ensures.time t)
 
 pub returns-in_err-settle-clause-copy : goal.returns-in_err-settle-clause-copy
@@ -88,7 +88,7 @@ returns-clause-others g c = λ t.
 
 pub returns-clause-crash : goal.returns-clause-crash
 returns-clause-crash g c = λ t.
-    no_more_then (IsOfCopy c.args.count c.args.at c.args.text.now) (IsAt c.args.at c.sector_of.result) (g.D.Disk.may_hold c.args.d.now) (g.D.Disk.may_hold c.settle.new.d) (g.D.Disk.may_hold c.put_gate-2.new.d) (no_more_of (IsOfCopy c.args.count c.args.at c.args.text.now) (g.D.Disk.may_hold c.args.d.now) (g.D.Disk.may_hold c.write_sectors.new.d) (g.D.Disk.may_hold c.settle.new.d) (no_more_then (IsOfCopy c.args.count c.args.at c.args.text.now) (IsOfText 1 c.args.count c.args.at c.args.text.now) (g.D.Disk.may_hold c.args.d.now) (g.D.Disk.may_hold c.put_gate.new.d) (g.D.Disk.may_hold c.write_sectors.new.d) (no_more_then (IsOfCopy c.args.count c.args.at c.args.text.now) (IsAt c.args.at zeros) (g.D.Disk.may_hold c.args.d.now) (g.D.Disk.may_hold c.args.d.now) (g.D.Disk.may_hold c.put_gate.new.d) (λ s b was. inl was) (c.put_gate.ensures.crash t) (zeros_of c.args.text.now c.args.at c.args.count c.requires.some)) (c.write_sectors.ensures.crash t).adds (rest_of c.args.text.now c.args.at c.args.count c.requires.some)) (c.settle.ensures.crash t)) (c.put_gate-2.ensures.crash t) (first_of_copy c.args.text.now c.args.at c.args.count c.requires.some c.sector_of.result c.sector_of.ensures)
+    no_more_then (IsOfCopy c.args.count c.args.at c.args.text.now) (IsAt c.args.at c.sector_of.result) (g.D.Disk.may_leave c.args.d.now) (g.D.Disk.may_leave c.settle.new.d) (g.D.Disk.may_leave c.put_gate-2.new.d) (no_more_of (IsOfCopy c.args.count c.args.at c.args.text.now) (g.D.Disk.may_leave c.args.d.now) (g.D.Disk.may_leave c.write_sectors.new.d) (g.D.Disk.may_leave c.settle.new.d) (no_more_then (IsOfCopy c.args.count c.args.at c.args.text.now) (IsOfText 1 c.args.count c.args.at c.args.text.now) (g.D.Disk.may_leave c.args.d.now) (g.D.Disk.may_leave c.put_gate.new.d) (g.D.Disk.may_leave c.write_sectors.new.d) (no_more_then (IsOfCopy c.args.count c.args.at c.args.text.now) (IsAt c.args.at zeros) (g.D.Disk.may_leave c.args.d.now) (g.D.Disk.may_leave c.args.d.now) (g.D.Disk.may_leave c.put_gate.new.d) (λ s b was. inl was) (c.put_gate.ensures.crash t) (zeros_of c.args.text.now c.args.at c.args.count c.requires.some)) (c.write_sectors.ensures.crash t).adds (rest_of c.args.text.now c.args.at c.args.count c.requires.some)) (c.settle.ensures.crash t)) (c.put_gate-2.ensures.crash t) (first_of_copy c.args.text.now c.args.at c.args.count c.requires.some c.sector_of.result c.sector_of.ensures)
 
 pub returns-clause-time : goal.returns-clause-time
 returns-clause-time g c = λ t.
@@ -96,9 +96,9 @@ returns-clause-time g c = λ t.
     (adds_still g.D.Disk.moment g.D.Disk.outcomes _ _ _ _
     (adds_on g.D.Disk.moment g.D.Disk.outcomes _ _ _ _ _
     (adds_wider g.D.Disk.moment g.D.Disk.outcomes _ _ _ _ (c.put_gate.ensures.time t) (with_wider (IsOfCopy c.args.count c.args.at c.args.text.now) (IsAt c.args.at zeros) _ _ (zeros_of c.args.text.now c.args.at c.args.count c.requires.some)))
-    (c.write_sectors.ensures.time t) (with_then (IsOfCopy c.args.count c.args.at c.args.text.now) (IsOfText 1 c.args.count c.args.at c.args.text.now) _ _ _ _ (c.put_gate.ensures.quiet.told t) (no_more_then (IsOfCopy c.args.count c.args.at c.args.text.now) (IsAt c.args.at zeros) (g.D.Disk.may_hold c.args.d.now) (g.D.Disk.may_hold c.args.d.now) (g.D.Disk.may_hold c.put_gate.new.d) (λ s b was. inl was) (c.put_gate.ensures.crash t) (zeros_of c.args.text.now c.args.at c.args.count c.requires.some)) (rest_of c.args.text.now c.args.at c.args.count c.requires.some)))
+    (c.write_sectors.ensures.time t) (with_then (IsOfCopy c.args.count c.args.at c.args.text.now) (IsOfText 1 c.args.count c.args.at c.args.text.now) _ _ _ _ (c.put_gate.ensures.quiet.told t) (no_more_then (IsOfCopy c.args.count c.args.at c.args.text.now) (IsAt c.args.at zeros) (g.D.Disk.may_leave c.args.d.now) (g.D.Disk.may_leave c.args.d.now) (g.D.Disk.may_leave c.put_gate.new.d) (λ s b was. inl was) (c.put_gate.ensures.crash t) (zeros_of c.args.text.now c.args.at c.args.count c.requires.some)) (rest_of c.args.text.now c.args.at c.args.count c.requires.some)))
     (c.settle.ensures.time t))
-    (c.put_gate-2.ensures.time t) (with_then (IsOfCopy c.args.count c.args.at c.args.text.now) (IsAt c.args.at c.sector_of.result) _ _ _ _ (c.settle.ensures.quiet.told t ∙ c.write_sectors.ensures.quiet.told t ∙ c.put_gate.ensures.quiet.told t) (no_more_of (IsOfCopy c.args.count c.args.at c.args.text.now) (g.D.Disk.may_hold c.args.d.now) (g.D.Disk.may_hold c.write_sectors.new.d) (g.D.Disk.may_hold c.settle.new.d) (no_more_then (IsOfCopy c.args.count c.args.at c.args.text.now) (IsOfText 1 c.args.count c.args.at c.args.text.now) (g.D.Disk.may_hold c.args.d.now) (g.D.Disk.may_hold c.put_gate.new.d) (g.D.Disk.may_hold c.write_sectors.new.d) (no_more_then (IsOfCopy c.args.count c.args.at c.args.text.now) (IsAt c.args.at zeros) (g.D.Disk.may_hold c.args.d.now) (g.D.Disk.may_hold c.args.d.now) (g.D.Disk.may_hold c.put_gate.new.d) (λ s b was. inl was) (c.put_gate.ensures.crash t) (zeros_of c.args.text.now c.args.at c.args.count c.requires.some)) (c.write_sectors.ensures.crash t).adds (rest_of c.args.text.now c.args.at c.args.count c.requires.some)) (c.settle.ensures.crash t)) (first_of_copy c.args.text.now c.args.at c.args.count c.requires.some c.sector_of.result c.sector_of.ensures))
+    (c.put_gate-2.ensures.time t) (with_then (IsOfCopy c.args.count c.args.at c.args.text.now) (IsAt c.args.at c.sector_of.result) _ _ _ _ (c.settle.ensures.quiet.told t ∙ c.write_sectors.ensures.quiet.told t ∙ c.put_gate.ensures.quiet.told t) (no_more_of (IsOfCopy c.args.count c.args.at c.args.text.now) (g.D.Disk.may_leave c.args.d.now) (g.D.Disk.may_leave c.write_sectors.new.d) (g.D.Disk.may_leave c.settle.new.d) (no_more_then (IsOfCopy c.args.count c.args.at c.args.text.now) (IsOfText 1 c.args.count c.args.at c.args.text.now) (g.D.Disk.may_leave c.args.d.now) (g.D.Disk.may_leave c.put_gate.new.d) (g.D.Disk.may_leave c.write_sectors.new.d) (no_more_then (IsOfCopy c.args.count c.args.at c.args.text.now) (IsAt c.args.at zeros) (g.D.Disk.may_leave c.args.d.now) (g.D.Disk.may_leave c.args.d.now) (g.D.Disk.may_leave c.put_gate.new.d) (λ s b was. inl was) (c.put_gate.ensures.crash t) (zeros_of c.args.text.now c.args.at c.args.count c.requires.some)) (c.write_sectors.ensures.crash t).adds (rest_of c.args.text.now c.args.at c.args.count c.requires.some)) (c.settle.ensures.crash t)) (first_of_copy c.args.text.now c.args.at c.args.count c.requires.some c.sector_of.result c.sector_of.ensures))
 
 pub returns-clause-copy : goal.returns-clause-copy
 returns-clause-copy g c = λ t settled.

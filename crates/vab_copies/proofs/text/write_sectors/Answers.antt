@@ -1,6 +1,6 @@
 use Rattle.std.proofs.Common.{◌+◌, ◌<◌, ◌≤◌, ℕ, List, ◌∙◌, arith, rules, inl}
 use Rattle.vab_disk.specs.Disk.{set_sector, IsAt}
-use Rattle.vab_disk.specs.Moments.{adds_on, adds_none}
+use Rattle.vab_disk.proofs.Moments.{adds_on, adds_none}
 use Rattle.vab_copies.specs.Copies.{IsOfText}
 use Rattle.vab_copies.proofs.Sectors.{rest_none, rest_more, is_new, writes_then, leaves_on}
 use Rattle.vab_copies.proofs.text.write_sectors.Goals as goal
@@ -26,7 +26,7 @@ loop-i-preserved g c =
     let some : c.args.from ≤ c.loop-i.i = omega arith in
     let below : c.loop-i.i < c.args.count = omega arith in
     let new = λ (s : ℕ) (b : List ℕ) (is : IsAt (c.args.at + c.loop-i.i) c.sector_of.result s b). is_new c.args.from text old at c.args.count c.loop-i.i some below s b (is.0, is.1 ∙ c.sector_of.ensures) in
-    let writes = λ (t : g.D.Disk.tells). writes_then V (IsAt (c.args.at + c.loop-i.i) c.sector_of.result) (g.D.Disk.may_hold c.args.d.now) (g.D.Disk.may_hold c.loop-i.d) (g.D.Disk.may_hold c.write_sector.new.self) (i.crash t) (c.write_sector.ensures.crash t) new in
+    let writes = λ (t : g.D.Disk.is_modelled). writes_then V (IsAt (c.args.at + c.loop-i.i) c.sector_of.result) (g.D.Disk.may_leave c.args.d.now) (g.D.Disk.may_leave c.loop-i.d) (g.D.Disk.may_leave c.write_sector.new.self) (i.crash t) (c.write_sector.ensures.crash t) new in
     let ok = c.in_ok-write_sector.ensures in
     record {
       quiet = search rules;

@@ -1,6 +1,6 @@
 use Rattle.std.proofs.Common.{◌≡◌, length, ◌∙◌, arith, rules}
 use Rattle.vab_geometry.proofs.Found.{is_found}
-use Rattle.vab_geometry.specs.GeometryLaws.{only_is}
+use Rattle.vab_geometry.proofs.GeometryLaws.{only_is}
 use Rattle.vab_geometry.proofs.decode.decode_geometry.Goals as goal
 
 pub returns-clause-found : goal.returns-clause-found

@@ -1,7 +1,7 @@
 use Rattle.std.proofs.Common.{◌≡◌, ◌++◌, replicate, ◌∙◌, ap}
 use Rattle.vab_geometry.specs.Geometry.{geometry_sector, sum_around}
 use Rattle.vab_geometry.specs.Reading.{geometry_of}
-use Rattle.vab_geometry.specs.GeometryLaws.{sector_read}
+use Rattle.vab_geometry.proofs.GeometryLaws.{sector_read}
 use Rattle.vab_geometry.proofs.encode.encode_geometry.Goals as goal
 
 pub returns-clause-read : goal.returns-clause-read

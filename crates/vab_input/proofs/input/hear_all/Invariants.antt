@@ -4,13 +4,13 @@ use Rattle.vab_input.proofs.input.hear_all.Given as goal
 
 abbrev pub invariant-loop-heard : goal.invariant-loop-heard
 invariant-loop-heard g l = record {
-  bytes : g.P.Disk.tells → l.heard.items ++ g.P.Disk.left l.p ≡ g.P.Disk.left l.fn.p;
+  bytes : g.P.Disk.is_modelled → l.heard.items ++ g.P.Disk.input_left l.p ≡ g.P.Disk.input_left l.fn.p;
   within : length l.heard.items ≤ l.most;
   size : g.P.Disk.size l.p ≡ g.P.Disk.size l.fn.p;
-  seen : g.P.Disk.tells → g.P.Disk.seen l.p ≡ g.P.Disk.seen l.fn.p;
-  crash : g.P.Disk.tells → SameHoldings (g.P.Disk.may_hold l.fn.p) (g.P.Disk.may_hold l.p);
-  told : g.P.Disk.tells → g.P.Disk.told l.p ≡ g.P.Disk.told l.fn.p;
-  time : g.P.Disk.tells → Adds g.P.Disk.moment g.P.Disk.outcomes l.fn.p l.p Nothing;
+  seen : g.P.Disk.is_modelled → g.P.Disk.seen l.p ≡ g.P.Disk.seen l.fn.p;
+  crash : g.P.Disk.is_modelled → SameHoldings (g.P.Disk.may_leave l.fn.p) (g.P.Disk.may_leave l.p);
+  told : g.P.Disk.is_modelled → g.P.Disk.told l.p ≡ g.P.Disk.told l.fn.p;
+  time : g.P.Disk.is_modelled → Adds g.P.Disk.moment g.P.Disk.outcomes l.fn.p l.p Nothing;
   counts : NoFewer (g.P.Disk.faults l.fn.p) (g.P.Disk.faults l.p);
 }
 

@@ -1,5 +1,5 @@
 use Rattle.std.proofs.Common.{arith}
-use Rattle.vab_lpstore.specs.StoreLaws.{copies_apart, loaded_fits}
+use Rattle.vab_lpstore.proofs.StoreLaws.{copies_apart, loaded_fits}
 use Rattle.vab_lpstore.proofs.Judging.{if_ok_map}
 use Rattle.vab_lpstore.proofs.load.load_table.Goals as goal
 

@@ -1,9 +1,9 @@
 use Rattle.std.proofs.Common.{◌≡◌, ℕ, List, length, refl, arith, ap, ◌∙◌}
 use Rattle.vab_disk.specs.Disk.{LeavesWith, LeavesBlend}
-use Rattle.vab_disk.specs.Moments.{adds_wider, with_wider}
+use Rattle.vab_disk.proofs.Moments.{adds_wider, with_wider}
 use Rattle.vab_copies.specs.Copies.{with_text, LeavesCopy, IsOfCopy, IsOfText, IsOfEither}
 use Rattle.vab_lpstore.specs.Layout.{primary_of, backup_of, primary_bytes, backup_bytes, text_sectors}
-use Rattle.vab_lpstore.specs.StoreLaws.{copies_apart, text_fits, text_room, text_some}
+use Rattle.vab_lpstore.proofs.StoreLaws.{copies_apart, text_fits, text_room, text_some}
 use Rattle.vab_lpstore.proofs.Outcomes.{primary_table, primary_both, backup_table, backup_both, places, on_ok_map, of_primary_copy, of_backup_text, not_primary}
 use Rattle.vab_lpstore.proofs.repair.repair_table.Goals as goal
 
@@ -34,8 +34,8 @@ returns-then-not-loaded-clause-repaired g c = λ t.
 pub returns-then-not-loaded-clause-time : goal.returns-then-not-loaded-clause-time
 returns-then-not-loaded-clause-time g c = λ t.
     adds_wider g.D.Disk.moment g.D.Disk.outcomes _ _ _ _ (c.write_copy.ensures.time t)
-    (λ o leaves. with_wider (IsOfEither (text_sectors (length c.args.loaded.now.text)) (primary_of c.args.geometry.now c.args.slot) (backup_of c.args.geometry.now c.args.slot) c.args.loaded.now.text) (IsOfCopy (text_sectors (length c.args.loaded.now.text)) (primary_of c.args.geometry.now c.args.slot) c.args.loaded.now.text) (g.D.Disk.may_hold c.args.d.now) (g.D.Disk.told c.args.d.now) (of_primary_copy (text_sectors (length c.args.loaded.now.text)) (primary_of c.args.geometry.now c.args.slot) (backup_of c.args.geometry.now c.args.slot) c.args.loaded.now.text) o
-    (places (λ n p b l. LeavesWith (IsOfCopy n p l) (g.D.Disk.told c.args.d.now) (g.D.Disk.may_hold c.args.d.now) o) _ _ _ _ (backup_of c.args.geometry.now c.args.slot) (backup_of c.args.geometry.now c.args.slot) c.args.loaded.now.text _ (c.sectors-count.ensures ∙ ap (λ (l : List ℕ). text_sectors (length l)) c.as_slice-text.ensures) c.primary.ensures refl c.as_slice-text.ensures leaves))
+    (λ o leaves. with_wider (IsOfEither (text_sectors (length c.args.loaded.now.text)) (primary_of c.args.geometry.now c.args.slot) (backup_of c.args.geometry.now c.args.slot) c.args.loaded.now.text) (IsOfCopy (text_sectors (length c.args.loaded.now.text)) (primary_of c.args.geometry.now c.args.slot) c.args.loaded.now.text) (g.D.Disk.may_leave c.args.d.now) (g.D.Disk.told c.args.d.now) (of_primary_copy (text_sectors (length c.args.loaded.now.text)) (primary_of c.args.geometry.now c.args.slot) (backup_of c.args.geometry.now c.args.slot) c.args.loaded.now.text) o
+    (places (λ n p b l. LeavesWith (IsOfCopy n p l) (g.D.Disk.told c.args.d.now) (g.D.Disk.may_leave c.args.d.now) o) _ _ _ _ (backup_of c.args.geometry.now c.args.slot) (backup_of c.args.geometry.now c.args.slot) c.args.loaded.now.text _ (c.sectors-count.ensures ∙ ap (λ (l : List ℕ). text_sectors (length l)) c.as_slice-text.ensures) c.primary.ensures refl c.as_slice-text.ensures leaves))
 
 pub returns-then-not-loaded-clause-table : goal.returns-then-not-loaded-clause-table
 returns-then-not-loaded-clause-table g c = λ t settled.
@@ -56,8 +56,8 @@ returns-then-not-loaded-2-clause-repaired g c = λ t.
 pub returns-then-not-loaded-2-clause-time : goal.returns-then-not-loaded-2-clause-time
 returns-then-not-loaded-2-clause-time g c = λ t.
     adds_wider g.D.Disk.moment g.D.Disk.outcomes _ _ _ _ (c.rewrite_copy.ensures.time t)
-    (λ o leaves. with_wider (IsOfEither (text_sectors (length c.args.loaded.now.text)) (primary_of c.args.geometry.now c.args.slot) (backup_of c.args.geometry.now c.args.slot) c.args.loaded.now.text) (IsOfText 0 (text_sectors (length c.args.loaded.now.text)) (backup_of c.args.geometry.now c.args.slot) c.args.loaded.now.text) (g.D.Disk.may_hold c.args.d.now) (g.D.Disk.told c.args.d.now) (of_backup_text (text_sectors (length c.args.loaded.now.text)) (primary_of c.args.geometry.now c.args.slot) (backup_of c.args.geometry.now c.args.slot) c.args.loaded.now.text) o
-    (places (λ n p b l. LeavesWith (IsOfText 0 n b l) (g.D.Disk.told c.args.d.now) (g.D.Disk.may_hold c.args.d.now) o) _ _ (primary_of c.args.geometry.now c.args.slot) (primary_of c.args.geometry.now c.args.slot) _ _ c.args.loaded.now.text _ (c.sectors-count.ensures ∙ ap (λ (l : List ℕ). text_sectors (length l)) c.as_slice-text.ensures) refl c.backup.ensures c.as_slice-text.ensures leaves))
+    (λ o leaves. with_wider (IsOfEither (text_sectors (length c.args.loaded.now.text)) (primary_of c.args.geometry.now c.args.slot) (backup_of c.args.geometry.now c.args.slot) c.args.loaded.now.text) (IsOfText 0 (text_sectors (length c.args.loaded.now.text)) (backup_of c.args.geometry.now c.args.slot) c.args.loaded.now.text) (g.D.Disk.may_leave c.args.d.now) (g.D.Disk.told c.args.d.now) (of_backup_text (text_sectors (length c.args.loaded.now.text)) (primary_of c.args.geometry.now c.args.slot) (backup_of c.args.geometry.now c.args.slot) c.args.loaded.now.text) o
+    (places (λ n p b l. LeavesWith (IsOfText 0 n b l) (g.D.Disk.told c.args.d.now) (g.D.Disk.may_leave c.args.d.now) o) _ _ (primary_of c.args.geometry.now c.args.slot) (primary_of c.args.geometry.now c.args.slot) _ _ c.args.loaded.now.text _ (c.sectors-count.ensures ∙ ap (λ (l : List ℕ). text_sectors (length l)) c.as_slice-text.ensures) refl c.backup.ensures c.as_slice-text.ensures leaves))
 
 pub returns-then-not-loaded-2-clause-table : goal.returns-then-not-loaded-2-clause-table
 returns-then-not-loaded-2-clause-table g c = λ t settled.

@@ -1,8 +1,8 @@
 use Rattle.std.proofs.Common.{◌≡◌, length, refl, arith}
-use Rattle.vab_disk.specs.Moments.{adds_wider}
+use Rattle.vab_disk.proofs.Moments.{adds_wider}
 use Rattle.vab_copies.specs.Copies.{with_text, LeavesCopies}
 use Rattle.vab_lpstore.specs.Layout.{text_sectors}
-use Rattle.vab_lpstore.specs.StoreLaws.{copies_apart, text_fits, text_room, text_some}
+use Rattle.vab_lpstore.proofs.StoreLaws.{copies_apart, text_fits, text_room, text_some}
 use Rattle.vab_lpstore.proofs.Outcomes.{stored_table, stored_both, places, on_ok_map}
 use Rattle.vab_lpstore.proofs.store.store_table.Goals as goal
 

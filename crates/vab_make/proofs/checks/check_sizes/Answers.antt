@@ -1,5 +1,5 @@
 use Rattle.std.proofs.Common.{inl, inr, arith}
-use Rattle.vab_make.specs.RefusalLaws.{refuses_small, refuses_limit, refuses_room, not_over}
+use Rattle.vab_make.proofs.RefusalLaws.{refuses_small, refuses_limit, refuses_room, not_over}
 use Rattle.vab_make.proofs.checks.check_sizes.Goals as goal
 use Rattle.vab_make.proofs.checks.check_sizes.Goals.{else-limit-ne0-via-then-limit-ne0+else-limit-used, else-limit-ne0-via-else-limit-ne0}
 

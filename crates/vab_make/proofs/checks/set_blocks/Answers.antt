@@ -1,7 +1,7 @@
 use Rattle.std.proofs.Common.{◌≡◌, ◌<◌, ◌+◌, List, length, get_or, ap, ◌∙◌, arith}
 use Rattle.vab_space.specs.Space.{blocks_of}
 use Rattle.vab_set.specs.declared.set.SetImage.{SetImage}
-use Rattle.vab_make.specs.SumLaws.{blocks_push, blocks_within, blocks_few}
+use Rattle.vab_make.proofs.SumLaws.{blocks_push, blocks_within, blocks_few}
 use Rattle.vab_make.proofs.checks.set_blocks.Goals as goal
 
 pub overflow_add-sum : goal.overflow_add-sum

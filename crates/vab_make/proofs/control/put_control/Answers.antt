@@ -3,7 +3,7 @@ use Rattle.vab_bootctl.specs.declared.slots.Control.{Control}
 use Rattle.vab_bootctl.specs.declared.sector.ControlFault.{ControlFault}
 use Rattle.vab_bootctl.specs.Control.{control_of, KeepsRest}
 use Rattle.vab_make.specs.Steps.{blanked}
-use Rattle.vab_make.specs.FrameLaws.{keeps_on, keeps_still}
+use Rattle.vab_make.proofs.FrameLaws.{keeps_on, keeps_still}
 use Rattle.vab_make.proofs.Parts.{on_ok_map, has_control}
 use Rattle.vab_make.proofs.control.put_control.Goals as goal
 
@@ -19,7 +19,7 @@ returns-clause-control g c = λ t.
 
 pub returns-clause-frame : goal.returns-clause-frame
 returns-clause-frame g c = λ t.
-    keeps_on g.D.Disk.moment g.D.Disk.outcomes g.D.Disk.told g.D.Disk.may_hold c.args.d.now c.read_sector.new.self c.put_sector.new.d
+    keeps_on g.D.Disk.moment g.D.Disk.outcomes g.D.Disk.told g.D.Disk.may_leave c.args.d.now c.read_sector.new.self c.put_sector.new.d
     (c.read_sector.ensures.quiet.told t)
-    (keeps_still g.D.Disk.moment g.D.Disk.outcomes g.D.Disk.told g.D.Disk.may_hold c.args.d.now c.read_sector.new.self (c.read_sector.ensures.crash t).no_more (c.read_sector.ensures.time t))
+    (keeps_still g.D.Disk.moment g.D.Disk.outcomes g.D.Disk.told g.D.Disk.may_leave c.args.d.now c.read_sector.new.self (c.read_sector.ensures.crash t).no_more (c.read_sector.ensures.time t))
     (c.put_sector.ensures.frame t)

@@ -1,12 +1,12 @@
 use Rattle.std.proofs.Common.{refl, arith, rules}
-use Rattle.vab_make.specs.FrameLaws.{keeps_none, keeps_on}
+use Rattle.vab_make.proofs.FrameLaws.{keeps_none, keeps_on}
 use Rattle.vab_make.proofs.Parts.{holds_more, around_more}
 use Rattle.vab_make.proofs.images.put_image.Goals as goal
 
 pub loop-k-init : goal.loop-k-init
 loop-k-init g c = record {
   quiet = search rules;
-  frame = λ t. keeps_none g.D.Disk.moment g.D.Disk.outcomes g.D.Disk.told g.D.Disk.may_hold c.args.d.now;
+  frame = λ t. keeps_none g.D.Disk.moment g.D.Disk.outcomes g.D.Disk.told g.D.Disk.may_leave c.args.d.now;
   holds = λ t k below. absurd (omega arith);
   others = λ t s out. refl;
 }
@@ -22,11 +22,11 @@ loop-k-preserved g c =
     let new = g.D.Disk.seen c.put_page.new.d in
     record {
       quiet = search rules;
-      frame = λ t. keeps_on g.D.Disk.moment g.D.Disk.outcomes g.D.Disk.told g.D.Disk.may_hold c.args.d.now c.loop-k.d c.put_page.new.d (i.quiet.told t) (i.frame t) (c.put_page.ensures.frame t);
+      frame = λ t. keeps_on g.D.Disk.moment g.D.Disk.outcomes g.D.Disk.told g.D.Disk.may_leave c.args.d.now c.loop-k.d c.put_page.new.d (i.quiet.told t) (i.frame t) (c.put_page.ensures.frame t);
       holds = λ t. holds_more c.loop-k.k c.args.at c.args.bytes.now c.block_of.result old new (ok.written t) c.block_of.ensures (i.holds t);
       others = λ t. around_more c.loop-k.k c.args.at c.block_of.result (g.D.Disk.seen c.args.d.now) old new (ok.written t) (i.others t);
     }
 
 pub returns-in_err-put_page-clause-frame : goal.returns-in_err-put_page-clause-frame
 returns-in_err-put_page-clause-frame g c = λ t.
-    keeps_on g.D.Disk.moment g.D.Disk.outcomes g.D.Disk.told g.D.Disk.may_hold c.args.d.now c.loop-k.d c.put_page.new.d (c.loop-k.invariant.quiet.told t) (c.loop-k.invariant.frame t) (c.put_page.ensures.frame t)
+    keeps_on g.D.Disk.moment g.D.Disk.outcomes g.D.Disk.told g.D.Disk.may_leave c.args.d.now c.loop-k.d c.put_page.new.d (c.loop-k.invariant.quiet.told t) (c.loop-k.invariant.frame t) (c.put_page.ensures.frame t)

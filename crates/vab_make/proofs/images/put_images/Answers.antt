@@ -1,8 +1,8 @@
 use Rattle.std.proofs.Common.{◌≡◌, ◌<◌, inl, List, length, get_or, ap, ◌∙◌, arith, rules}
 use Rattle.vab_space.specs.Space.{blocks_of}
 use Rattle.vab_set.specs.declared.set.SetImage.{SetImage}
-use Rattle.vab_make.specs.SumLaws.{blocks_push}
-use Rattle.vab_make.specs.FrameLaws.{keeps_on}
+use Rattle.vab_make.proofs.SumLaws.{blocks_push}
+use Rattle.vab_make.proofs.FrameLaws.{keeps_on}
 use Rattle.vab_make.proofs.Parts.{images_more}
 use Rattle.vab_make.proofs.images.put_images.Goals as goal
 
@@ -16,7 +16,7 @@ loop-image-preserved g c =
     record {
       place = omega (arith, size, i.place, blocks_push c.args.set.now c.loop-image.image-index c.image-item.result lt);
       quiet = search rules;
-      frame = λ t. keeps_on g.D.Disk.moment g.D.Disk.outcomes g.D.Disk.told g.D.Disk.may_hold c.args.d.now c.loop-image.d c.put_image.new.d (i.quiet.told t) (i.frame t) (c.put_image.ensures.frame t);
+      frame = λ t. keeps_on g.D.Disk.moment g.D.Disk.outcomes g.D.Disk.told g.D.Disk.may_leave c.args.d.now c.loop-image.d c.put_image.new.d (i.quiet.told t) (i.frame t) (c.put_image.ensures.frame t);
       holds = λ t. images_more c.loop-image.image-index c.loop-image.at c.blocks-count.result c.args.set.now c.image-item.result c.as_slice.result.now (g.D.Disk.seen c.loop-image.d) (g.D.Disk.seen c.put_image.new.d)
           lt at i.place c.blocks-count.ensures.is c.as_slice.ensures (ok.others t) (ok.holds t) (i.holds t);
       others = λ t s below. ok.others t s (inl (omega (arith, below, i.place))) ∙ i.others t s below;

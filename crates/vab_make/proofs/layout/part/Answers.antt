@@ -1,5 +1,5 @@
 use Rattle.std.proofs.Common.{arith}
-use Rattle.vab_set.specs.SetLaws.{base_short}
+use Rattle.vab_set.proofs.SetLaws.{base_short}
 use Rattle.vab_make.proofs.layout.part.Goals as goal
 
 pub full_name-requires-clause-short : goal.full_name-requires-clause-short

@@ -1,7 +1,7 @@
 use Rattle.std.proofs.Common.{◌≡◌, ◌<◌, ◌+◌, List, length, get_or, ap, ◌∙◌, arith}
 use Rattle.vab_space.specs.Space.{blocks_of}
 use Rattle.vab_set.specs.declared.set.SetImage.{SetImage}
-use Rattle.vab_make.specs.SumLaws.{blocks_push, blocks_within, blocks_few, parts_push}
+use Rattle.vab_make.proofs.SumLaws.{blocks_push, blocks_within, blocks_few, parts_push}
 use Rattle.vab_make.proofs.layout.parts.Goals as goal
 
 pub part-requires-clause-fits : goal.part-requires-clause-fits

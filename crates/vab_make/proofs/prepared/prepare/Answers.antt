@@ -9,8 +9,8 @@ use Rattle.vab_layout.specs.Layout.{table_of}
 use Rattle.vab_layout.specs.Runs.{runs_of}
 use Rattle.vab_make.specs.Made.{made_layout, set_text_size}
 use Rattle.vab_make.specs.Prepared.{HasRoom}
-use Rattle.vab_make.specs.LayoutLaws.{layout_keeps, runs_few, minor_2}
-use Rattle.vab_make.specs.RefusalLaws.{refuses_table, refuses_nothing}
+use Rattle.vab_make.proofs.LayoutLaws.{layout_keeps, runs_few, minor_2}
+use Rattle.vab_make.proofs.RefusalLaws.{refuses_table, refuses_nothing}
 use Rattle.vab_make.proofs.prepared.prepare.Goals as goal
 
 pub text_size-size-requires-clause-groups : goal.text_size-size-requires-clause-groups

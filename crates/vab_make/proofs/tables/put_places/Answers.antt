@@ -2,8 +2,8 @@ use Rattle.std.proofs.Common.{◌≡◌, subst, arith}
 use Rattle.vab_geometry.specs.declared.geometry.Geometry.{Geometry}
 use Rattle.vab_lpstore.specs.Layout.{BothHold}
 use Rattle.vab_make.specs.Made.{made_geometry}
-use Rattle.vab_make.specs.StateLaws.{most_geometry}
-use Rattle.vab_make.specs.FrameLaws.{keeps_on}
+use Rattle.vab_make.proofs.StateLaws.{most_geometry}
+use Rattle.vab_make.proofs.FrameLaws.{keeps_on}
 use Rattle.vab_make.proofs.Parts.{on_ok_map, sector_kept}
 use Rattle.vab_make.proofs.tables.put_places.Goals as goal
 
@@ -22,5 +22,5 @@ returns-clause-places g c = λ t.
 
 pub returns-clause-frame : goal.returns-clause-frame
 returns-clause-frame g c = λ t.
-    keeps_on g.D.Disk.moment g.D.Disk.outcomes g.D.Disk.told g.D.Disk.may_hold c.args.d.now c.put_geometry.new.d c.put_table.new.d
+    keeps_on g.D.Disk.moment g.D.Disk.outcomes g.D.Disk.told g.D.Disk.may_leave c.args.d.now c.put_geometry.new.d c.put_table.new.d
     (c.put_geometry.ensures.quiet.told t) (c.put_geometry.ensures.frame t) (c.put_table.ensures.frame t)

@@ -5,9 +5,9 @@ use Rattle.vab_recover.specs.declared.device.Device.{Device}
 use Rattle.vab_recover.specs.Stands.{image_on}
 use Rattle.vab_manager.specs.Found.{found_part}
 use Rattle.vab_manager.specs.Blocks.{slot_named, KeepsPart}
-use Rattle.vab_manager.specs.BlockLaws.{found_keeps, found_full, slot_below}
-use Rattle.vab_manager.specs.NameLaws.{full_long}
-use Rattle.vab_manager.specs.FoundLaws.{found_by, found_is}
+use Rattle.vab_manager.proofs.BlockLaws.{found_keeps, found_full, slot_below}
+use Rattle.vab_manager.proofs.NameLaws.{full_long}
+use Rattle.vab_manager.proofs.FoundLaws.{found_by, found_is}
 use Rattle.vab_manager.proofs.blocks.locate.Goals as goal
 
 keeps : (d : Device) (slot : ℕ) (name : List ℕ) (p : Part) → slot ≡ slot_named name → found_part d name ≡ Ok p → KeepsPart d slot (base_of name) p

@@ -3,7 +3,7 @@ use Rattle.std.specs.Prelude.{OnOk}
 use Rattle.vab_recover.specs.declared.device.Part.{Part}
 use Rattle.vab_recover.specs.declared.device.Device.{Device}
 use Rattle.vab_manager.specs.Blocks.{KeepsPart, HasBlock}
-use Rattle.vab_manager.specs.BlockLaws.{kept_once, block_on_disk, block_is}
+use Rattle.vab_manager.proofs.BlockLaws.{kept_once, block_on_disk, block_is}
 use Rattle.vab_manager.proofs.blocks.read_block.Goals as goal
 
 on_ok_map : {A E : Type 0} (r : Result A E) (P Q : Type 0) → (P → Q) → OnOk r P → OnOk r Q

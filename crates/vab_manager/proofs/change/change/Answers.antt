@@ -1,5 +1,5 @@
-use Rattle.vab_disk.specs.Moments.{adds_wider}
-use Rattle.vab_manager.specs.DeviceLaws.{stands_with, state_with, places_with, leaves_with}
+use Rattle.vab_disk.proofs.Moments.{adds_wider}
+use Rattle.vab_manager.proofs.DeviceLaws.{stands_with, state_with, places_with, leaves_with}
 use Rattle.vab_manager.proofs.change.change.Goals as goal
 
 pub returns-in-Ok-clause-stands : goal.returns-in-Ok-clause-stands

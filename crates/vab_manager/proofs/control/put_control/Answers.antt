@@ -1,6 +1,6 @@
 use Rattle.std.proofs.Common.{◌≡◌, inl, inr, ⊎_elim, ℕ, List, sym, ◌∙◌, ap, subst, Ok, rules}
 use Rattle.vab_disk.specs.Disk.{Image, Outcome, IsSettled, SameHoldings, Adds, Nothing, LeavesEither, set_sector}
-use Rattle.vab_disk.specs.Moments.{adds_wider, adds_on}
+use Rattle.vab_disk.proofs.Moments.{adds_wider, adds_on}
 use Rattle.vab_bootctl.specs.Control.{control_of, KeepsRest}
 use Rattle.vab_bootctl.specs.declared.slots.Control.{Control}
 use Rattle.vab_manager.specs.Controls.{LeavesControl}

@@ -1,7 +1,7 @@
 use Rattle.std.proofs.Common.{ap, sym, ◌∙◌}
 use Rattle.vab_model.specs.Step.{digest_reply}
 use Rattle.vab_model.specs.declared.command.Reply.TheVariants as replies
-use Rattle.vab_manager.specs.FoundLaws.{found_by, found_is, found_kept}
+use Rattle.vab_manager.proofs.FoundLaws.{found_by, found_is, found_kept}
 use Rattle.vab_manager.proofs.images.digest.Goals as goal
 
 pub digest_of-requires : goal.digest_of-requires

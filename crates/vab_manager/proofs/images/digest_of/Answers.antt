@@ -4,7 +4,7 @@ use Rattle.sha2.specs.Hashers.{Holds256}
 use Rattle.vab_disk.specs.Disk.{Image}
 use Rattle.vab_gate.specs.Gate.{sectors_at}
 use Rattle.vab_recover.specs.Stands.{bytes_at}
-use Rattle.vab_manager.specs.DigestLaws.{bytes_more, bytes_none}
+use Rattle.vab_manager.proofs.DigestLaws.{bytes_more, bytes_none}
 use Rattle.vab_manager.proofs.images.digest_of.Goals as goal
 
 pub read_at-requires-clause-on_disk : goal.read_at-requires-clause-on_disk

@@ -2,7 +2,7 @@ use Rattle.std.proofs.Common.{ap, sym, ◌∙◌}
 use Rattle.std.proofs.lemmas.Bool.{false≢true}
 use Rattle.vab_model.specs.Step.{bytes_reply}
 use Rattle.vab_model.specs.declared.command.Reply.TheVariants as replies
-use Rattle.vab_manager.specs.FoundLaws.{found_by, found_is, found_name}
+use Rattle.vab_manager.proofs.FoundLaws.{found_by, found_is, found_name}
 use Rattle.vab_manager.proofs.images.print.Goals as goal
 
 pub unreachable-requires : goal.unreachable-requires

@@ -9,7 +9,7 @@ use Rattle.vab_device.specs.Device.{is_good}
 use Rattle.vab_recover.specs.Stands.{state_on}
 use Rattle.vab_manager.specs.Steps.{LeavesStep}
 use Rattle.vab_manager.specs.StateLaws.{with_boot, has_of_device, booted_state, boot_reply}
-use Rattle.vab_manager.specs.DeviceLaws.{booted_current, booted_good}
+use Rattle.vab_manager.proofs.DeviceLaws.{booted_current, booted_good}
 use Rattle.vab_recover.specs.declared.device.Device.{Device}
 use Rattle.vab_manager.proofs.slots.boot.Goals as goal
 

@@ -7,7 +7,7 @@ use Rattle.vab_device.specs.Device.{is_good}
 use Rattle.vab_recover.specs.Stands.{state_on}
 use Rattle.vab_manager.specs.Steps.{LeavesStep}
 use Rattle.vab_manager.specs.StateLaws.{with_boot, marked_state}
-use Rattle.vab_manager.specs.DeviceLaws.{marked_current, marked_good}
+use Rattle.vab_manager.proofs.DeviceLaws.{marked_current, marked_good}
 use Rattle.vab_manager.proofs.slots.mark.Goals as goal
 
 pub change-requires-clause-current : goal.change-requires-clause-current

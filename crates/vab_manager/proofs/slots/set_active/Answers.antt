@@ -7,7 +7,7 @@ use Rattle.vab_device.specs.Device.{is_good}
 use Rattle.vab_recover.specs.Stands.{state_on}
 use Rattle.vab_manager.specs.Steps.{LeavesStep}
 use Rattle.vab_manager.specs.StateLaws.{with_boot, refused_state, refused_reply, set_state, set_reply}
-use Rattle.vab_manager.specs.DeviceLaws.{activated_current, activated_good}
+use Rattle.vab_manager.proofs.DeviceLaws.{activated_current, activated_good}
 use Rattle.vab_manager.proofs.slots.set_active.Goals as goal
 
 pub returns-then-not-has_images-clause-state : goal.returns-then-not-has_images-clause-state

@@ -4,7 +4,7 @@ use Rattle.vab_bytes.specs.Number.{IsBytes}
 use Rattle.vab_marks.specs.declared.mark.UpdateMark.{UpdateMark}
 use Rattle.vab_marks.specs.declared.sector.MarkFault.{MarkFault}
 use Rattle.vab_marks.specs.Mark.{FitsMark, mark_spelling, mark_of}
-use Rattle.vab_marks.specs.MarkLaws.{found_mark, read_mark}
+use Rattle.vab_marks.proofs.MarkLaws.{found_mark, read_mark}
 use Rattle.vab_marks.proofs.mark.decode_mark.Goals as goal
 
 found : (bytes : List ℕ) (r : Result UpdateMark MarkFault) → length bytes ≡ 512 → IsBytes bytes → r ≡ mark_of bytes → IfOk r (λ m. FitsMark m × (bytes ≡ mark_spelling m))

@@ -2,7 +2,7 @@ use Rattle.std.proofs.Common.{◌≡◌, ℕ, ◌^◌, ◌<◌, List, take, refl
 use Rattle.vab_bytes.specs.Crc.{crc_of}
 use Rattle.vab_marks.specs.Sector.{sealed}
 use Rattle.vab_marks.specs.Mark.{mark_front, mark_spelling, mark_of}
-use Rattle.vab_marks.specs.MarkLaws.{mark_drawn, drawn_mark, only_mark}
+use Rattle.vab_marks.proofs.MarkLaws.{mark_drawn, drawn_mark, only_mark}
 use Rattle.vab_marks.proofs.mark.encode_mark.Goals as goal
 
 -- what stands before the sum

@@ -4,7 +4,7 @@ use Rattle.vab_bytes.specs.Number.{IsBytes}
 use Rattle.vab_marks.specs.declared.status.PartStatus.{PartStatus}
 use Rattle.vab_marks.specs.declared.sector.MarkFault.{MarkFault}
 use Rattle.vab_marks.specs.Status.{FitsStatus, status_spelling, status_of}
-use Rattle.vab_marks.specs.StatusLaws.{found_status, read_status}
+use Rattle.vab_marks.proofs.StatusLaws.{found_status, read_status}
 use Rattle.vab_marks.proofs.status.decode_status.Goals as goal
 
 found : (bytes : List ℕ) (r : Result PartStatus MarkFault) → length bytes ≡ 512 → IsBytes bytes → r ≡ status_of bytes → IfOk r (λ m. FitsStatus m × (bytes ≡ status_spelling m))

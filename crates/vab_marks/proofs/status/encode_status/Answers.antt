@@ -2,7 +2,7 @@ use Rattle.std.proofs.Common.{◌≡◌, ℕ, ◌^◌, ◌<◌, List, take, refl
 use Rattle.vab_bytes.specs.Crc.{crc_of}
 use Rattle.vab_marks.specs.Sector.{sealed}
 use Rattle.vab_marks.specs.Status.{status_front, status_spelling, status_of}
-use Rattle.vab_marks.specs.StatusLaws.{status_drawn, drawn_status, only_status}
+use Rattle.vab_marks.proofs.StatusLaws.{status_drawn, drawn_status, only_status}
 use Rattle.vab_marks.proofs.status.encode_status.Goals as goal
 
 -- what stands before the sum

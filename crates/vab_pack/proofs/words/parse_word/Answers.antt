@@ -1,7 +1,7 @@
 use Rattle.std.proofs.Common.{◌≡◌, List, ℕ, Option, Some, None, option_map, IfSome, sym, ◌∙◌}
 use Rattle.vab_pack.specs.Asked.{Asked}
 use Rattle.vab_pack.specs.Faults.{HasParts}
-use Rattle.vab_pack.specs.FaultLaws.{parts_have, have_parts}
+use Rattle.vab_pack.proofs.FaultLaws.{parts_have, have_parts}
 use Rattle.vab_pack.specs.Words.{parts_of}
 use Rattle.vab_pack.proofs.words.parse_word.Goals as goal
 

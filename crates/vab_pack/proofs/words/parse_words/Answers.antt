@@ -3,11 +3,11 @@ use Rattle.std.specs.Prelude.{◌⊎◌}
 use Rattle.std.proofs.lemmas.Result.{IfOk-weaker}
 use Rattle.vab_pack.specs.declared.fault.WordFault.{WordFault}
 use Rattle.vab_pack.specs.declared.fault.WordFault.TheVariants as faults
-use Rattle.vab_pack.specs.FaultLaws.{fault_comes, fault_holds}
+use Rattle.vab_pack.proofs.FaultLaws.{fault_comes, fault_holds}
 use Rattle.vab_pack.specs.Faults.{IsFaultOf}
 use Rattle.vab_pack.specs.Asked.{Ask, Asked}
 use Rattle.vab_pack.specs.Words.{Gives, asked_of}
-use Rattle.vab_pack.specs.WordLaws.{words_found, words_again, set_of_names}
+use Rattle.vab_pack.proofs.WordLaws.{words_found, words_again, set_of_names}
 use Rattle.vab_pack.proofs.words.parse_words.Goals as goal
 
 found : {V : Type 0} (view : V → List Asked) (words : List (List ℕ)) (r : Result V WordFault) → Gives view r (asked_of words) → IfOk r (λ v. Ask words (view v))

@@ -7,7 +7,7 @@ use Rattle.vab_layout.specs.Layout.{layout_of, first_device}
 use Rattle.vab_device.specs.Device.{limits_of}
 use Rattle.vab_recover.specs.declared.device.Part.{Part}
 use Rattle.vab_recover.specs.declared.device.Device.{Device}
-use Rattle.vab_recover.specs.StateLaws.{state_is}
+use Rattle.vab_recover.proofs.StateLaws.{state_is}
 use Rattle.vab_recover.proofs.judge.assemble.Goals as goal
 
 first_of : (t : Table) (keeps : KeepsRules t) (ds : List BlockDevice) (d : BlockDevice) → ds ≡ t.devices → d ≡ get_or ds 0 d → d ≡ (layout_of t).device

@@ -14,10 +14,10 @@ use Rattle.vab_device.specs.declared.fault.StartFault.{StartFault}
 use Rattle.vab_device.specs.Device.{device, slot_in, control_in, geometry_at, layout_at, state_of, copies_end, super_bytes, lies_in, is_good, IsOfContents}
 use Rattle.vab_bootctl.specs.Boot.{info_at}
 use Rattle.vab_layout.specs.Slots.{IsOwn}
-use Rattle.vab_device.specs.DeviceLaws.{device_read, device_small, device_no_slot, device_no_control, device_no_geometry, device_no_table}
+use Rattle.vab_device.proofs.DeviceLaws.{device_read, device_small, device_no_slot, device_no_control, device_no_geometry, device_no_table}
 use Rattle.vab_device.specs.declared.fault.StartFault.TheVariants.{TooSmall}
 use Rattle.vab_recover.specs.declared.device.Device.{Device}
-use Rattle.vab_recover.specs.DeviceLaws.{device_kept}
+use Rattle.vab_recover.proofs.DeviceLaws.{device_kept}
 use Rattle.vab_recover.specs.Stands.{state_on, ArePartsOf, IsRead}
 use Rattle.vab_recover.proofs.opening.open.Goals as goal
 

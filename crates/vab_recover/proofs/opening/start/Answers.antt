@@ -1,15 +1,15 @@
 use Rattle.std.proofs.Common.{◌≡◌, ◌+◌, ◌≤◌, ℕ, List, length, Ok, ap, sym, subst, ◌∙◌}
 use Rattle.vab_disk.specs.Disk.{Image, Outcome, Nothing, IsSettled, Adds, SameHoldings}
-use Rattle.vab_disk.specs.Moments.{adds_on, adds_wider}
+use Rattle.vab_disk.proofs.Moments.{adds_on, adds_wider}
 use Rattle.vab_lpstore.specs.Layout.{copy_sectors, backup_of, text_sectors, BothHold}
 use Rattle.vab_lpstore.specs.Storing.{SameElsewhere, LeavesTable}
-use Rattle.vab_lpstore.specs.StoreLaws.{text_fits, both_table}
+use Rattle.vab_lpstore.proofs.StoreLaws.{text_fits, both_table}
 use Rattle.vab_lpstore.specs.declared.loaded.Loaded.{Loaded}
 use Rattle.vab_recover.specs.declared.device.Device.{Device}
-use Rattle.vab_device.specs.DeviceLaws.{SameBut}
-use Rattle.vab_recover.specs.ReadLaws.{copies_on_disk}
+use Rattle.vab_device.proofs.DeviceLaws.{SameBut}
+use Rattle.vab_recover.proofs.ReadLaws.{copies_on_disk}
 use Rattle.vab_recover.specs.Stands.{IsDevice, IsRead, LeavesSame}
-use Rattle.vab_recover.specs.StartLaws.{repaired_same, stands_after, same_places, same_state, leaves_same}
+use Rattle.vab_recover.proofs.StartLaws.{repaired_same, stands_after, same_places, same_state, leaves_same}
 use Rattle.vab_recover.proofs.opening.start.Goals as goal
 
 pub repair_table-requires-clause-on_disk : goal.repair_table-requires-clause-on_disk
@@ -71,10 +71,10 @@ pub returns-in-Ok-clause-time : goal.returns-in-Ok-clause-time
 returns-in-Ok-clause-time g c = λ tells settled.
     outcomes_same g.D.Disk.moment g.D.Disk.outcomes c.args.d.now c.open.new.d c.repair_table.new.d (g.D.Disk.told c.args.d.now) (g.D.Disk.told c.open.new.d) c.in_ok-device.device c.in_ok-device.loaded (g.D.Disk.size c.args.d.now) (g.D.Disk.seen c.args.d.now) (g.D.Disk.seen c.open.new.d)
     c.in_ok-device.ensures.kept (c.in_ok-device.ensures.read tells) c.in_ok-device.ensures.fits (c.in_ok-device.ensures.quiet.told tells) (c.in_ok-device.ensures.seen tells) (c.in_ok-device.ensures.time tells)
-    (c.in-Ok.ensures.table tells (still_settled (g.D.Disk.seen c.args.d.now) (g.D.Disk.seen c.open.new.d) (g.D.Disk.may_hold c.args.d.now) (g.D.Disk.may_hold c.open.new.d) (c.in_ok-device.ensures.seen tells) (c.in_ok-device.ensures.crash tells) settled))
+    (c.in-Ok.ensures.table tells (still_settled (g.D.Disk.seen c.args.d.now) (g.D.Disk.seen c.open.new.d) (g.D.Disk.may_leave c.args.d.now) (g.D.Disk.may_leave c.open.new.d) (c.in_ok-device.ensures.seen tells) (c.in_ok-device.ensures.crash tells) settled))
 
 pub returns-in-Err-clause-time : goal.returns-in-Err-clause-time
 returns-in-Err-clause-time g c = λ tells settled.
     outcomes_same g.D.Disk.moment g.D.Disk.outcomes c.args.d.now c.open.new.d c.repair_table.new.d (g.D.Disk.told c.args.d.now) (g.D.Disk.told c.open.new.d) c.in_ok-device.device c.in_ok-device.loaded (g.D.Disk.size c.args.d.now) (g.D.Disk.seen c.args.d.now) (g.D.Disk.seen c.open.new.d)
     c.in_ok-device.ensures.kept (c.in_ok-device.ensures.read tells) c.in_ok-device.ensures.fits (c.in_ok-device.ensures.quiet.told tells) (c.in_ok-device.ensures.seen tells) (c.in_ok-device.ensures.time tells)
-    (c.in-Err.ensures.table tells (still_settled (g.D.Disk.seen c.args.d.now) (g.D.Disk.seen c.open.new.d) (g.D.Disk.may_hold c.args.d.now) (g.D.Disk.may_hold c.open.new.d) (c.in_ok-device.ensures.seen tells) (c.in_ok-device.ensures.crash tells) settled))
+    (c.in-Err.ensures.table tells (still_settled (g.D.Disk.seen c.args.d.now) (g.D.Disk.seen c.open.new.d) (g.D.Disk.may_leave c.args.d.now) (g.D.Disk.may_leave c.open.new.d) (c.in_ok-device.ensures.seen tells) (c.in_ok-device.ensures.crash tells) settled))

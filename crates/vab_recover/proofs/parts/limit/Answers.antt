@@ -1,7 +1,7 @@
 use Rattle.std.proofs.Common.{◌≡◌, length, arith, ap, sym, subst, ◌∙◌}
 use Rattle.vab_bytes.specs.Name.{IsName}
 use Rattle.vab_names.specs.Names.{base_of}
-use Rattle.vab_recover.specs.PartLaws.{group_long, base_is_name}
+use Rattle.vab_recover.proofs.PartLaws.{group_long, base_is_name}
 use Rattle.vab_recover.proofs.parts.limit.Goals as goal
 
 pub base_of-requires : goal.base_of-requires

@@ -4,7 +4,7 @@ use Rattle.std.proofs.lemmas.List.{take_all}
 use Rattle.vab_tables.specs.declared.entries.Extent.{Extent}
 use Rattle.vab_blocks.specs.Blocks.{extents_of}
 use Rattle.vab_linear.specs.Map.{blocks_of}
-use Rattle.vab_recover.specs.PartLaws.{run_on, partition_runs, partition_ends, partition_sum}
+use Rattle.vab_recover.proofs.PartLaws.{run_on, partition_runs, partition_ends, partition_sum}
 use Rattle.vab_recover.proofs.parts.map.Goals as goal
 
 -- what was collected is all extents

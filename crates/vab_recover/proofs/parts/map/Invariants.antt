@@ -1,6 +1,6 @@
 use Rattle.std.proofs.Common.{◌≡◌, take}
 use Rattle.std.specs.Prelude.{map}
-use Rattle.vab_recover.specs.PartLaws.{run_on}
+use Rattle.vab_recover.proofs.PartLaws.{run_on}
 use Rattle.vab_recover.proofs.parts.map.Given as goal
 
 abbrev pub invariant-loop-extent : goal.invariant-loop-extent

@@ -10,7 +10,7 @@ use Rattle.vab_layout.specs.Layout.{part_of, layout_of}
 use Rattle.vab_layout.specs.Slots.{own_parts, IsOwnPart, IsOwn}
 use Rattle.vab_partitions.specs.Own.{own_before}
 use Rattle.vab_recover.specs.Stands.{part_on}
-use Rattle.vab_recover.specs.PartLaws.{own_at, layout_first}
+use Rattle.vab_recover.proofs.PartLaws.{own_at, layout_first}
 use Rattle.vab_recover.proofs.parts.parts.Goals as goal
 
 own_rules : (slot : ℕ) (t : Table) (i : ℕ) (p : Partition) → IsOwn slot (layout_of t).parts → i < length t.partitions → p ≡ get_or t.partitions i p → is_of_slot slot p.name ≡ true → IsOwnPart slot (part_of t p)

@@ -1,7 +1,7 @@
 use Rattle.std.proofs.Common.{◌≡◌, ℕ, sym, ◌∙◌, ap, true, false}
 use Rattle.vab_layout.specs.Layout.{layout_of}
 use Rattle.vab_device.specs.Device.{lies_in}
-use Rattle.vab_recover.specs.ReadLaws.{layout_is, layout_lies_not}
+use Rattle.vab_recover.proofs.ReadLaws.{layout_is, layout_lies_not}
 use Rattle.vab_recover.proofs.table.read_table.Goals as goal
 
 pub returns-then-not-lies_in-clause-fault : goal.returns-then-not-lies_in-clause-fault

@@ -10,14 +10,14 @@ use Rattle.vab_fbproto.specs.Commands.{named_of, reply_named}
 use Rattle.vab_fbproto.specs.Texts.{reply_text}
 use Rattle.vab_recover.specs.Stands.{state_on}
 use Rattle.vab_session.specs.Session.{packet}
-use Rattle.vab_session.specs.ItemLaws.{packet_some}
-use Rattle.vab_session.specs.AnswerLaws.{state_here, reply_same, failed, does_command}
+use Rattle.vab_session.proofs.ItemLaws.{packet_some}
+use Rattle.vab_session.proofs.AnswerLaws.{state_here, reply_same, failed, does_command}
 
 pub returns-in-Err-clause-does : goal.returns-in-Err-clause-does
 returns-in-Err-clause-does g c = λ t s stands.
     let state = state_on c.args.device (g.P.Disk.seen c.args.p.now) in
     let reply = packet (reply_text (reply_named s.state (named_of c.args.command.now))) in
-    failed g.P.Disk.seen g.P.Disk.may_hold g.P.Disk.told g.P.Disk.moment g.P.Disk.outcomes _ s state c.args.command.now reply (packet_some _) c.args.p.now c.run_one.new.d stands
+    failed g.P.Disk.seen g.P.Disk.may_leave g.P.Disk.told g.P.Disk.moment g.P.Disk.outcomes _ s state c.args.command.now reply (packet_some _) c.args.p.now c.run_one.new.d stands
     (state_here _ s state _ (let here = c.requires.stands t in here.state) stands) (c.run_one.ensures.time t) _ (c.run_one.ensures.quiet.told t)
 
 -- what is told is the text of the reply that the model gives
@@ -34,12 +34,12 @@ returns-in-Ok-tell_reply-clause-does g c = λ t s stands.
     let reply = packet (reply_text (reply_named s.state (named_of command))) in
     let same = state_here _ s state _ (let here = c.requires.stands t in here.state) stands in
     let text = told_text state s.state command _ _ _ same (c.in-Ok.ensures.reply t) c.reply_text.ensures c.as_slice.ensures.value in
-    does_command g.P.Disk.seen g.P.Disk.may_hold g.P.Disk.told g.P.Disk.moment g.P.Disk.outcomes _ s state command reply (packet_some _) old mid stands same (c.run_one.ensures.time t) new
+    does_command g.P.Disk.seen g.P.Disk.may_leave g.P.Disk.told g.P.Disk.moment g.P.Disk.outcomes _ s state command reply (packet_some _) old mid stands same (c.run_one.ensures.time t) new
     (state_on c.in-Ok.done.0 (g.P.Disk.seen mid)) _ (c.run_one.ensures.quiet.told t) (let after = c.in-Ok.ensures.stands t in after.state) (c.in-Ok.ensures.state t) (c.in-Ok.ensures.places t) (c.in-Ok.ensures.settled t)
     (subst (λ (l : List ℕ). g.P.Disk.told new ≡ g.P.Disk.told mid ++ l) text (c.in-Ok-tell_reply.ensures.told t))
     (subst (λ (l : List ℕ). (n : ℕ) × (g.P.Disk.told new ≡ g.P.Disk.told mid ++ take n l)) text (c.tell_reply.ensures.front t))
     (c.tell_reply.ensures.seen t) (c.tell_reply.ensures.crash t)
-    (subst (λ (l : List ℕ). Adds g.P.Disk.moment g.P.Disk.outcomes mid new (LeavesSaying (g.P.Disk.told mid) l (g.P.Disk.may_hold mid))) text (c.tell_reply.ensures.time t))
+    (subst (λ (l : List ℕ). Adds g.P.Disk.moment g.P.Disk.outcomes mid new (LeavesSaying (g.P.Disk.told mid) l (g.P.Disk.may_leave mid))) text (c.tell_reply.ensures.time t))
 
 pub returns-in-Err-tell_reply-clause-does : goal.returns-in-Err-tell_reply-clause-does
 returns-in-Err-tell_reply-clause-does g c = λ t s stands.
@@ -51,9 +51,9 @@ returns-in-Err-tell_reply-clause-does g c = λ t s stands.
     let reply = packet (reply_text (reply_named s.state (named_of command))) in
     let same = state_here _ s state _ (let here = c.requires.stands t in here.state) stands in
     let text = told_text state s.state command _ _ _ same (c.in-Ok.ensures.reply t) c.reply_text.ensures c.as_slice.ensures.value in
-    does_command g.P.Disk.seen g.P.Disk.may_hold g.P.Disk.told g.P.Disk.moment g.P.Disk.outcomes _ s state command reply (packet_some _) old mid stands same (c.run_one.ensures.time t) new
+    does_command g.P.Disk.seen g.P.Disk.may_leave g.P.Disk.told g.P.Disk.moment g.P.Disk.outcomes _ s state command reply (packet_some _) old mid stands same (c.run_one.ensures.time t) new
     (state_on c.in-Ok.done.0 (g.P.Disk.seen mid)) _ (c.run_one.ensures.quiet.told t) (let after = c.in-Ok.ensures.stands t in after.state) (c.in-Ok.ensures.state t) (c.in-Ok.ensures.places t) (c.in-Ok.ensures.settled t)
     tt
     (subst (λ (l : List ℕ). (n : ℕ) × (g.P.Disk.told new ≡ g.P.Disk.told mid ++ take n l)) text (c.tell_reply.ensures.front t))
     (c.tell_reply.ensures.seen t) (c.tell_reply.ensures.crash t)
-    (subst (λ (l : List ℕ). Adds g.P.Disk.moment g.P.Disk.outcomes mid new (LeavesSaying (g.P.Disk.told mid) l (g.P.Disk.may_hold mid))) text (c.tell_reply.ensures.time t))
+    (subst (λ (l : List ℕ). Adds g.P.Disk.moment g.P.Disk.outcomes mid new (LeavesSaying (g.P.Disk.told mid) l (g.P.Disk.may_leave mid))) text (c.tell_reply.ensures.time t))

@@ -13,12 +13,12 @@ invariant-loop-packet g l = record {
   place : stands_at l.reader ≡ Length;
   fed : IsFed l.reader;
   most : l.reader.budget.most ≡ l.fn.reader.budget.most;
-  count : g.P.Disk.tells → l.reader.budget.taken + length (g.P.Disk.left l.p) ≡ l.fn.reader.budget.taken + length (g.P.Disk.left l.fn.p);
-  progress : g.P.Disk.tells → (s : Split (min l.fn.reader.budget.most (l.fn.reader.budget.taken + length (g.P.Disk.left l.fn.p))) (rest_of l.fn.reader (g.P.Disk.left l.fn.p))) (first : Situation) (told : List ℕ)
+  count : g.P.Disk.is_modelled → l.reader.budget.taken + length (g.P.Disk.input_left l.p) ≡ l.fn.reader.budget.taken + length (g.P.Disk.input_left l.fn.p);
+  progress : g.P.Disk.is_modelled → (s : Split (min l.fn.reader.budget.most (l.fn.reader.budget.taken + length (g.P.Disk.input_left l.fn.p))) (rest_of l.fn.reader (g.P.Disk.input_left l.fn.p))) (first : Situation) (told : List ℕ)
       → IsIn (g.P.Disk.size l.fn.p) first (g.P.Disk.seen l.fn.p) → g.P.Disk.told l.fn.p ≡ told ++ codes "FB01"
-      → Progress g.P.Disk.seen g.P.Disk.may_hold g.P.Disk.told g.P.Disk.left g.P.Disk.moment g.P.Disk.outcomes (g.P.Disk.size l.fn.p) s first told l.fn.p l.p (rest_of l.reader (g.P.Disk.left l.p));
+      → Progress g.P.Disk.seen g.P.Disk.may_leave g.P.Disk.told g.P.Disk.input_left g.P.Disk.moment g.P.Disk.outcomes (g.P.Disk.size l.fn.p) s first told l.fn.p l.p (rest_of l.reader (g.P.Disk.input_left l.p));
   kept : IsDevice l.device (g.P.Disk.size l.fn.p);
-  stands : g.P.Disk.tells → StandsFor l.device (g.P.Disk.size l.fn.p) (g.P.Disk.seen l.p);
+  stands : g.P.Disk.is_modelled → StandsFor l.device (g.P.Disk.size l.fn.p) (g.P.Disk.seen l.p);
   size : g.P.Disk.size l.p ≡ g.P.Disk.size l.fn.p;
   counts : NoFewer (g.P.Disk.faults l.fn.p) (g.P.Disk.faults l.p);
 }

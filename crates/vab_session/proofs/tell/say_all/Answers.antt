@@ -1,6 +1,6 @@
 use Rattle.std.proofs.Common.{◌≤◌, ◌+◌, ◌∙◌, length, rules}
 use Rattle.vab_disk.specs.Disk.{SameHoldings}
-use Rattle.vab_disk.specs.Moments.{adds_on}
+use Rattle.vab_disk.proofs.Moments.{adds_on}
 use Rattle.vab_session.proofs.Telling.{say_more, saying_more}
 use Rattle.vab_session.proofs.tell.say_all.Goals as goal
 
@@ -19,7 +19,7 @@ pub loop-done-preserved : goal.loop-done-preserved
 loop-done-preserved g c =
     let i = c.loop-done.invariant in
     let ok = c.in_ok-done.ensures in
-    let same : (t : g.P.Disk.tells) → SameHoldings (g.P.Disk.may_hold c.args.p.now) (g.P.Disk.may_hold c.say.new.self) = search rules in
+    let same : (t : g.P.Disk.is_modelled) → SameHoldings (g.P.Disk.may_leave c.args.p.now) (g.P.Disk.may_leave c.say.new.self) = search rules in
     let within : c.loop-done.done + c.in_ok-done.field-0 ≤ length c.args.bytes.now = search rules in
     record {
       within = within;

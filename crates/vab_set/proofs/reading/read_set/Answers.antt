@@ -3,7 +3,7 @@ use Rattle.std.proofs.lemmas.Result.{err_from_is_err_and}
 use Rattle.vab_set.specs.declared.set.SetImage.{SetImage}
 use Rattle.vab_set.specs.declared.fault.SetFault.{SetFault}
 use Rattle.vab_set.specs.Spelling.{IsSet, set_text}
-use Rattle.vab_set.specs.SetLaws.{set_found, set_again}
+use Rattle.vab_set.proofs.SetLaws.{set_found, set_again}
 use Rattle.vab_set.specs.Reading.{Fails, set_of}
 use Rattle.vab_set.proofs.reading.read_set.Goals as goal
 

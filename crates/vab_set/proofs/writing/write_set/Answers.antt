@@ -2,7 +2,7 @@ use Rattle.std.proofs.Common.{◌≡◌, ◌++◌, List, ℕ, length, take, get_
 use Rattle.std.specs.Int.{w32, to_le_bytes}
 use Rattle.vab_set.specs.declared.set.SetImage.{SetImage}
 use Rattle.vab_set.specs.Spelling.{magic, IsImage, images_text, image_text, set_text}
-use Rattle.vab_set.specs.SetLaws.{base_short}
+use Rattle.vab_set.proofs.SetLaws.{base_short}
 use Rattle.vab_set.proofs.Loop.{images_text-more}
 use Rattle.vab_set.proofs.writing.write_set.Goals as goal
 

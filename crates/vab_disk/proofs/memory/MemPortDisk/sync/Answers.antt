@@ -1,5 +1,6 @@
 use Rattle.std.proofs.Common.{◌≡◌, ◌∷◌, ◌++◌, List, inl, sym, subst, rules}
-use Rattle.vab_disk.specs.Memory.{calls_of, earlier_of, Holds, seen_of, seen_holds}
+use Rattle.vab_disk.specs.Memory.{calls_of, earlier_of, Holds, seen_of}
+use Rattle.vab_disk.specs.MemoryLaws.{seen_holds}
 use Rattle.vab_disk.specs.declared.record.Call.{Call}
 use Rattle.vab_disk.specs.declared.record.Call.TheVariants.{Synced}
 use Rattle.vab_disk.proofs.Kept.{longer, kept, no_more, synced_leaves}

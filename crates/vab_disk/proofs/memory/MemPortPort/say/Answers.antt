@@ -1,6 +1,6 @@
 use Rattle.std.proofs.Common.{◌≡◌, ◌∷◌, ◌++◌, List, ℕ, length, take, inl, inr, ⊎_elim, sym, ◌∙◌, ap, arith, rules}
 use Rattle.std.proofs.lemmas.List.{take_all, take_at}
-use Rattle.vab_disk.specs.Memory.{calls_of, earlier_of, seen_of, told_of}
+use Rattle.vab_disk.specs.Memory.{calls_of, earlier_of, seen_of, told_of, taken_of}
 use Rattle.vab_disk.specs.declared.record.Call.{Call}
 use Rattle.vab_disk.specs.declared.record.Call.TheVariants.{Said}
 use Rattle.vab_disk.proofs.Kept.{longer, kept, or_now}
@@ -42,3 +42,9 @@ pub invariant_of-self-then-is_err-2-clause-reads : goal.invariant_of-self-then-i
 invariant_of-self-then-is_err-2-clause-reads c = λ s.
     let same : c.record.new.calls.items ≡ c.args.self.now.calls.items = search rules in
     c.args.self.now.reads s ∙ ap (λ (l : List Call). seen_of c.args.self.now.count (calls_of c.args.self.now.begun l ++ earlier_of c.args.self.now.begun l) s) (sym same)
+
+pub invariant_of-self-then-is_err-2-clause-taken : goal.invariant_of-self-then-is_err-2-clause-taken
+invariant_of-self-then-is_err-2-clause-taken c =
+    let same : c.record.new.calls.items ≡ c.args.self.now.calls.items = search rules in
+    c.args.self.now.taken
+    ∙ ap (λ (l : List Call). taken_of (calls_of c.args.self.now.begun l)) (sym same)

@@ -26,7 +26,7 @@ loop-left-preserved g c =
       packet = λ t.
           let event = rw is at ok.event t in
           let rest = rw is at ok.rest t in
-          i.packet t ∙ part_read c.loop-left.packet.items (rest_of c.loop-left.self (g.P.Disk.left c.loop-left.p)) _ n event.1 ∙ (λ j. sym more j ++ sym rest j);
+          i.packet t ∙ part_read c.loop-left.packet.items (rest_of c.loop-left.self (g.P.Disk.input_left c.loop-left.p)) _ n event.1 ∙ (λ j. sym more j ++ sym rest j);
       room = omega (arith, room, i.room);
       count = λ t. ok.count t ∙ i.count t;
       most = c.next.ensures.most ∙ i.most;

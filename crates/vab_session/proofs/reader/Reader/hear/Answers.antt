@@ -7,7 +7,7 @@ use Rattle.vab_session.proofs.reader.Reader.hear.Goals as goal
 pub returns-clause-rest : goal.returns-clause-rest
 returns-clause-rest g c = λ t.
     let n = c.in_ok-count.count in
-    let left = g.P.Disk.left c.args.p.now in
+    let left = g.P.Disk.input_left c.args.p.now in
     let budget = c.args.self.now.budget in
     let hears = c.in_ok-count.ensures.bytes t in
     let fits : n ≤ length c.hear.new.out = omega (arith, hears.fits, c.hear.auto.out) in

@@ -21,7 +21,7 @@ pub returns-in_default-clause-rest : goal.returns-in_default-clause-rest
 returns-in_default-clause-rest g c = λ t.
     let n = bytes_of (found_of c.in_ok-event.event) in
     let room = c.loop-event.self.budget.most - c.loop-event.self.budget.taken in
-    let more = take room (g.P.Disk.left c.loop-event.p) in
+    let more = take room (g.P.Disk.input_left c.loop-event.p) in
     ap (λ (l : List ℕ). l ++ more) c.in_ok-event.ensures.unread
     ∙ sym (drop-append-le n (unread_of c.loop-event.self.framer) more (found g c).taken)
     ∙ ap (λ (l : List ℕ). drop n l) (c.loop-event.invariant.rest t)
@@ -34,15 +34,15 @@ module _ (g : _) (c : goal.Then-not-branch g) where
   same : unread_of c.hear.new.self.framer ≡ unread_of c.next.new.self
   same = let both = rw c.if-not-branch.true at c.in_ok-hear.ensures.none in both.0
 
-  all_held : (t : g.P.Disk.tells) → unread_of c.next.new.self ≡ rest_of c.args.self.now (g.P.Disk.left c.args.p.now)
+  all_held : (t : g.P.Disk.is_modelled) → unread_of c.next.new.self ≡ rest_of c.args.self.now (g.P.Disk.input_left c.args.p.now)
   all_held t =
       let budget = c.loop-event.self.budget in
-      let left = g.P.Disk.left c.hear.new.p in
+      let left = g.P.Disk.input_left c.hear.new.p in
       let end = rw c.if-not-branch.true at c.in_ok-hear.ensures.end t in
       let all : rest_of c.hear.new.self left ≡ unread_of c.next.new.self =
       ap (λ (l : List ℕ). unread_of c.hear.new.self.framer ++ l) (nothing_more c.hear.new.self.budget.taken c.hear.new.self.budget.most left end) ∙ append-nil (unread_of c.hear.new.self.framer) ∙ same in
       let stays : unread_of c.next.new.self ≡ unread_of c.loop-event.self.framer = c.in_ok-event.ensures.unread ∙ ap (λ f. drop (bytes_of f) (unread_of c.loop-event.self.framer)) more in
-      sym all ∙ c.in_ok-hear.ensures.rest t ∙ ap (λ (l : List ℕ). l ++ take (budget.most - budget.taken) (g.P.Disk.left c.loop-event.p)) stays ∙ c.loop-event.invariant.rest t
+      sym all ∙ c.in_ok-hear.ensures.rest t ∙ ap (λ (l : List ℕ). l ++ take (budget.most - budget.taken) (g.P.Disk.input_left c.loop-event.p)) stays ∙ c.loop-event.invariant.rest t
 
 pub returns-then-not-branch-clause-held : goal.returns-then-not-branch-clause-held
 returns-then-not-branch-clause-held g c = λ t. same g c ∙ all_held g c t
@@ -52,4 +52,4 @@ returns-then-not-branch-clause-none g c = λ t.
     let idle : IsIdle (place_of c.next.new.self) (unread_of c.next.new.self) = c.in_ok-event.ensures.idle c.in-NeedMore.is in
     let place : place_of c.next.new.self ≡ stands_at c.args.self.now =
     c.in_ok-event.ensures.place ∙ ap (λ f. place_after (place_of c.loop-event.self.framer) f) (more g c) ∙ place_after-More (place_of c.loop-event.self.framer) ∙ c.loop-event.invariant.place in
-    subst (λ p. IsIdle p (rest_of c.args.self.now (g.P.Disk.left c.args.p.now))) place (subst (λ (l : List ℕ). IsIdle (place_of c.next.new.self) l) (all_held g c t) idle)
+    subst (λ p. IsIdle p (rest_of c.args.self.now (g.P.Disk.input_left c.args.p.now))) place (subst (λ (l : List ℕ). IsIdle (place_of c.next.new.self) l) (all_held g c t) idle)

@@ -5,12 +5,12 @@ use Rattle.vab_session.proofs.reader.Reader.next.Given as goal
 
 abbrev pub invariant-loop-event : goal.invariant-loop-event
 invariant-loop-event g l = record {
-  listens : Listens g.P.Disk.tells g.P.Disk.size g.P.Disk.seen g.P.Disk.may_hold g.P.Disk.told g.P.Disk.faults g.P.Disk.moment g.P.Disk.outcomes l.fn.p l.p;
+  listens : Listens g.P.Disk.is_modelled g.P.Disk.size g.P.Disk.seen g.P.Disk.may_leave g.P.Disk.told g.P.Disk.faults g.P.Disk.moment g.P.Disk.outcomes l.fn.p l.p;
   place : stands_at l.self ≡ stands_at l.fn.self;
-  rest : g.P.Disk.tells → rest_of l.self (g.P.Disk.left l.p) ≡ rest_of l.fn.self (g.P.Disk.left l.fn.p);
+  rest : g.P.Disk.is_modelled → rest_of l.self (g.P.Disk.input_left l.p) ≡ rest_of l.fn.self (g.P.Disk.input_left l.fn.p);
   fed : IsFed l.self;
   room : room_of l.self ≡ room_of l.fn.self;
-  count : g.P.Disk.tells → l.self.budget.taken + length (g.P.Disk.left l.p) ≡ l.fn.self.budget.taken + length (g.P.Disk.left l.fn.p);
+  count : g.P.Disk.is_modelled → l.self.budget.taken + length (g.P.Disk.input_left l.p) ≡ l.fn.self.budget.taken + length (g.P.Disk.input_left l.fn.p);
   most : l.self.budget.most ≡ l.fn.self.budget.most;
 }
 

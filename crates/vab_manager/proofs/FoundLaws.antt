@@ -1,0 +1,48 @@
+-- The partition under a name has the image under it.
+use Rattle.std.proofs.Common.{◌≡◌, ℕ, inl, inr, List, Option, Some, None, Result, Ok, Err, refl, ap, ◌∙◌}
+use Rattle.std.specs.Prelude.{ok_or}
+use Rattle.std.specs.Option.{option_map}
+use Rattle.std.proofs.lemmas.Bool.{cases_Bool}
+use Rattle.vab_disk.specs.Disk.{Image}
+use Rattle.vab_bytes.specs.Name.{IsName}
+use Rattle.vab_bootctl.specs.declared.slots.Info.{Info}
+use Rattle.vab_names.specs.Names.{is_full, base_of}
+use Rattle.vab_model.specs.declared.command.Refusal.{Refusal}
+use Rattle.vab_model.specs.declared.command.Refusal.TheVariants.{Unknown}
+use Rattle.vab_model.specs.Step.{Found, Image_is, Refused_by, found_image, found_in, found_of}
+use Rattle.vab_recover.specs.declared.device.Part.{Part}
+use Rattle.vab_recover.specs.declared.device.Device.{Device}
+use Rattle.vab_recover.specs.Stands.{image_on, slot_on, state_on, IsPart, IsDevice}
+use Rattle.vab_manager.specs.Found.{part_named, part_in, found_part}
+use Rattle.vab_manager.proofs.NameLaws.{full_is}
+use Rattle.vab_manager.specs.Blocks.{slot_named}
+use Rattle.vab_manager.proofs.BlockLaws.{found_keeps, found_full, part_kept, image_of_part}
+
+-- what was found, as an image
+abbrev pub found_by : Image → Result Part Refusal → Found
+found_by image (Ok p) = Image_is (image_on image p)
+found_by image (Err refusal) = Refused_by refusal
+
+as_found : (image : Image) (o : Option Part) → found_image (option_map (image_on image) o) ≡ found_by image (ok_or o Unknown)
+as_found image None = refl
+as_found image (Some p) = refl
+
+in_slot : (image : Image) (info : Info) (name : List ℕ) (o : Option (List Part)) → found_in (slot_on image info o) name ≡ found_by image (part_in name o)
+in_slot image info name None = refl
+in_slot image info name (Some ps) = ap found_image (image_of_part image (base_of name) ps) ∙ as_found image (part_named (base_of name) ps)
+
+-- the image under a name is that of the partition under it
+pub found_is : (d : Device) (image : Image) (name : List ℕ) → found_of (state_on d image) name ≡ found_by image (found_part d name)
+unfolding state_on
+found_is d image name = elim (cases_Bool (is_full 0 name)) [
+  | inl h ↦ rw h (in_slot image d.control.a name d.a)
+  | inr h ↦ elim (cases_Bool (is_full 1 name)) [ inl k ↦ rw (h, k) (in_slot image d.control.b name d.b) | inr k ↦ rw (h, k) refl ]
+]
+
+-- ---- what is known of it
+
+pub found_kept : (d : Device) (size : ℕ) (name : List ℕ) (p : Part) → IsDevice d size → found_part d name ≡ Ok p → IsPart size p
+found_kept d size name p is h = part_kept d size (slot_named name) (base_of name) p is (found_keeps d name p h)
+
+pub found_name : (d : Device) (name : List ℕ) (p : Part) → found_part d name ≡ Ok p → IsName name
+found_name d name p h = full_is (slot_named name) name (found_full d name p h)

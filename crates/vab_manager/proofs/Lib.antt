@@ -1,0 +1,5 @@
+pub mod BlockLaws
+pub mod DeviceLaws
+pub mod DigestLaws
+pub mod FoundLaws
+pub mod NameLaws

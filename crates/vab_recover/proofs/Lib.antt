@@ -1,0 +1,5 @@
+pub mod DeviceLaws
+pub mod PartLaws
+pub mod ReadLaws
+pub mod StartLaws
+pub mod StateLaws
