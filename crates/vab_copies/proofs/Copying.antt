@@ -5,13 +5,9 @@ use Rattle.std.proofs.lemmas.Bool.{cases_eq}
 use Rattle.vab_disk.specs.Disk.{Image, set_sector, Outcome, LeavesWith, LeavesEither, LeavesBlend, IsSettled, IsAt, NoMoreBut}
 use Rattle.vab_disk.specs.Written.{same_image, set_here, set_there}
 use Rattle.vab_disk.proofs.Moments.{settled_blend}
-use Rattle.vab_copies.specs.Copies.{zeros, text_sector, with_text, with_rest, IsOutside, IsOfText, IsOfCopy, ReadsWith, LeavesCopy}
+use Rattle.vab_copies.specs.Copies.{zeros, text_sector, with_text, with_rest, IsOutside, IsOfText, IsOfCopy, LeavesCopy}
 use Rattle.vab_copies.proofs.CopyLaws.{text_inside, text_outside}
 use Rattle.vab_copies.proofs.Sectors.{where_is, rest_inside, rest_outside, rest_before, rest_is}
-
--- no more than before, where that is less
-pub no_more_of : (V hold mid new : ℕ → List ℕ → Type 0) → NoMoreBut V hold mid → ((s : ℕ) (b : List ℕ) → new s b → mid s b) → NoMoreBut V hold new
-no_more_of V hold mid new so_far less s b now = so_far s b (less s b now)
 
 pub on_ok_always : {A E : Type 0} (r : Result A E) (P : Type 0) → P → OnOk r P
 on_ok_always (Ok x) P is = is
@@ -31,15 +27,6 @@ module _ (text : List ℕ) (at n : ℕ) (some : 0 < n) where
     last = omega (arith, is.0, some);
     here = let e : s - at ≡ 0 = omega (arith, is.0) in is.1 ∙ part ∙ ap (λ (k : ℕ). text_sector text k) (sym e);
   })
-
-  pub copy_outside : (old new : Image) → ReadsWith (IsOfCopy n at text) old new → (s : ℕ) → IsOutside at n s → new s ≡ old s
-  copy_outside old new reads s out = ⊎_elim
-      (λ same. same)
-      (λ wrote. absurd (⊎_elim
-      (λ is. ⊎_elim (λ below. omega (arith, below, is.first)) (λ above. omega (arith, above, is.last)) out)
-      (λ is. ⊎_elim (λ below. omega (arith, below, is.0)) (λ above. omega (arith, above, is.0, some)) out)
-      wrote))
-      (reads s)
 
   not_first : (s : ℕ) → IsOutside at n s → s ≢ at
   not_first s out = ⊎_elim (λ below. omega (arith, below)) (λ above. omega (arith, above, some)) out
@@ -117,14 +104,13 @@ rest_whole n at text old = same_image (with_rest 0 n text old at) (with_text n t
     (λ among. rest_inside 0 text old at n s (omega (arith, among.0)) among.1 ∙ sym (text_inside n at text old s among.0 among.1))
     (where_is at n s))
 
-pub whole_outside : (n at : ℕ) (text : List ℕ) (old new : Image) → ReadsWith (IsOfText 0 n at text) old new → (s : ℕ) → IsOutside at n s → new s ≡ old s
-whole_outside n at text old new reads s out = ⊎_elim
-    (λ same. same)
-    (λ is. absurd (⊎_elim (λ below. omega (arith, below, is.first)) (λ above. omega (arith, above, is.last)) out))
-    (reads s)
-
-pub whole_blend : (n at : ℕ) (text told : List ℕ) (old : Image) (hold : ℕ → List ℕ → Type 0) → IsSettled old hold
-    → (o : Outcome) → LeavesWith (IsOfText 0 n at text) told hold o → LeavesBlend told old (with_text n text old at) o
+-- where nothing was pending, each sector of a copy that is written in one go is old or new
+pub whole_blend : (n at : ℕ) (text told : List ℕ) (old : Image) (hold : ℕ → List ℕ → Type 0)
+    → IsSettled old hold
+    → (o : Outcome)
+    → LeavesWith (IsOfText 0 n at text) told hold o
+    → LeavesBlend told old (with_text n text old at) o
 whole_blend n at text told old hold settled o leaves =
     settled_blend (IsOfText 0 n at text) hold told old (with_text n text old at) settled
-    (λ s b is. rest_is 0 text old at n s b is ∙ ap (λ (image : Image). image s) (rest_whole n at text old)) o leaves
+    (λ s b is.
+    rest_is 0 text old at n s b is ∙ ap (λ (image : Image). image s) (rest_whole n at text old)) o leaves

@@ -1,5 +1,5 @@
 pub mod CopyLaws
-mod Copying
+pub mod Copying
 mod Pair
 mod Sectors
 mod Texts

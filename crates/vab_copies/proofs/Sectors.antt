@@ -4,7 +4,8 @@ use Rattle.std.proofs.lemmas.Bool.{cases_eq}
 use Rattle.std.proofs.lemmas.Bool.Decides.{nat_tests}
 use Rattle.vab_disk.specs.Disk.{Image, set_sector, Outcome, Leaves, LeavesWith, IsAt, Writes, MayBeSet}
 use Rattle.vab_disk.specs.Written.{same_image, set_here, set_there}
-use Rattle.vab_copies.specs.Copies.{text_sector, with_rest, IsOutside, IsOfText, ReadsWith}
+use Rattle.vab_copies.specs.Copies.{text_sector, with_rest, IsOutside, IsOfText}
+use Rattle.vab_disk.specs.Calls.{SameBut}
 
 -- is a sector among some?
 pub where_is : (at n s : ℕ) → IsOutside at n s ⊎ ((at ≤ s) × (s < at + n))
@@ -15,44 +16,6 @@ where_is at n s = elim (cases_eq (at - s) 0) [
   ]
   | inr before ↦ inl (inl (omega arith))
 ]
-
--- What is read after two runs, one after the other.
-pub reads_same : (W : ℕ → List ℕ → Type 0) (old new : Image) → new ≡ old → ReadsWith W old new
-reads_same W old new same s = inl (ap (λ (image : Image). image s) same)
-
-pub reads_none : (W : ℕ → List ℕ → Type 0) (image : Image) → ReadsWith W image image
-reads_none W image s = inl refl
-
-pub reads_then : (V W : ℕ → List ℕ → Type 0) (old mid new : Image) → ReadsWith V old mid → ReadsWith W mid new → ((s : ℕ) (b : List ℕ) → W s b → V s b) → ReadsWith V old new
-reads_then V W old mid new so_far more wider s = ⊎_elim
-    (λ same. ⊎_elim (λ was. inl (same ∙ was)) (λ wrote. inr (subst (λ (b : List ℕ). V s b) (sym same) wrote)) (so_far s))
-    (λ wrote. inr (wider s (new s) wrote))
-    (more s)
-
-pub reads_set : (V : ℕ → List ℕ → Type 0) (at : ℕ) (bytes : List ℕ) (old : Image) → V at bytes → ReadsWith V old (set_sector old at bytes)
-reads_set V at bytes old is s = elim (cases_eq s at) [
-  | inl here ↦ inr (subst (λ (b : List ℕ). V s b) (sym (set_here old at bytes s here)) (subst (λ (k : ℕ). V k bytes) (sym here) is))
-  | inr other ↦ inl (set_there old at bytes s other)
-]
-
-pub reads_maybe : (V : ℕ → List ℕ → Type 0) (at : ℕ) (bytes : List ℕ) (old new : Image) → V at bytes → MayBeSet at bytes old new → ReadsWith V old new
-reads_maybe V at bytes old new is maybe = ⊎_elim
-    (λ same. reads_same V old new same)
-    (λ set. subst (λ (image : Image). ReadsWith V old image) (sym set) (reads_set V at bytes old is))
-    maybe
-
--- what is left after one more write
-pub leaves_on : (V : ℕ → List ℕ → Type 0) (told told' : List ℕ) (hold new : ℕ → List ℕ → Type 0) → told' ≡ told → Writes V hold new → (o : Outcome) → Leaves told' new o → LeavesWith V told hold o
-leaves_on V told told' hold new same writes o leaves = record {
-  told_so_far = leaves.told_so_far ∙ same;
-  each_sector = λ s. writes.adds s (o.image s) (leaves.each_sector s);
-}
-
-pub writes_then : (V W : ℕ → List ℕ → Type 0) (old mid new : ℕ → List ℕ → Type 0) → Writes V old mid → Writes W mid new → ((s : ℕ) (b : List ℕ) → W s b → V s b) → Writes V old new
-writes_then V W old mid new so_far more wider = record {
-  keeps = λ s b was. more.keeps s b (so_far.keeps s b was);
-  adds = λ s b now. ⊎_elim (λ before. so_far.adds s b before) (λ wrote. inr (wider s b wrote)) (more.adds s b now);
-}
 
 module _ (j : ℕ) (text : List ℕ) (old : Image) (at : ℕ) where
   pub rest_inside : (n s : ℕ) → at + j ≤ s → s < at + n → with_rest j n text old at s ≡ text_sector text (s - at)
@@ -93,7 +56,7 @@ module _ (j : ℕ) (text : List ℕ) (old : Image) (at : ℕ) where
   rest_is n s b is = is.here ∙ sym (rest_inside n s is.first is.last)
 
   -- the first k of n
-  pub rest_reads : (n k : ℕ) → j ≤ k → k ≤ n → ReadsWith (IsOfText j n at text) old (with_rest j k text old at)
+  pub rest_reads : (n k : ℕ) → j ≤ k → k ≤ n → SameBut (IsOfText j n at text) old (with_rest j k text old at)
   rest_reads n k some le s = ⊎_elim
       (λ out. inl (rest_outside k s out))
       (λ among. elim (cases_eq (at + j - s) 0) [

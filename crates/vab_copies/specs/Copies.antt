@@ -36,10 +36,6 @@ IsOfCopy n at text s b = IsOfText 0 n at text s b ⊎ IsAt at zeros s b
 abbrev pub IsOfEither : ℕ → ℕ → ℕ → List ℕ → ℕ → List ℕ → Type 0
 IsOfEither n primary backup text s b = IsOfCopy n primary text s b ⊎ IsOfCopy n backup text s b
 
--- a read gives in each sector what it gave before, or what W allows there
-abbrev pub ReadsWith : (ℕ → List ℕ → Type 0) → Image → Image → Type 0
-ReadsWith W old new = (s : ℕ) → (new s ≡ old s) ⊎ W s (new s)
-
 -- While a copy is written it is the old one, or one that begins with zeros, or the new one. All else stays.
 pub record LeavesCopy (told : List ℕ) (old new : Image) (at n : ℕ) (o : Outcome) : Type 0 where
   pub told_so_far : o.told ≡ told

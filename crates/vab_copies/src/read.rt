@@ -1,11 +1,13 @@
-// Reading a copy.
-ghost use Rattle.std.specs.Prelude.{◌≡◌, ◌≤◌, ◌+◌, ◌*◌, ℕ, List, length, IfOk, IsErrOf};
-ghost use Rattle.vab_disk.specs.Disk.{Adds, Nothing, SameHoldings, Quiet, Rose};
+//! Reading a copy.
+
+ghost use Rattle.std.specs.Prelude.{◌≡◌, ◌⊎◌, ◌≤◌, ◌+◌, ◌*◌, ℕ, List, length, IfOk, IsErrOf};
+ghost use Rattle.vab_disk.specs.Disk.{Rose};
+ghost use Rattle.vab_disk.specs.Calls.{OnlyReads};
 ghost use Rattle.vab_gate.specs.Gate.{sectors_at};
 
-use crate::text::SECTOR;
 use std::alloc::{AllocError, Global};
-use vab_disk::{Disk, Failed};
+use vab_disk::Disk;
+use vab_gate::{DiskFault, SECTOR, get_sector};
 
 /// The disk has failed, or memory was refused.
 #[derive(Clone, Copy, Debug, PartialEq, Eq)]
@@ -24,12 +26,12 @@ impl From<AllocError> for ReadFault {
     }
 }
 
-impl From<Failed> for ReadFault {
+impl From<DiskFault> for ReadFault {
     ghost use Rattle.vab_copies.specs.declared.read.ReadFault.TheVariants.{Disk};
 
     ghost from_gives = { λ _ e. e ≡ Disk };
 
-    fn from(_: Failed) -> Self {
+    fn from(_: DiskFault) -> Self {
         ReadFault::Disk
     }
 }
@@ -44,16 +46,15 @@ pub fn read_text<D: Disk>(
     requires { at + count ≤ D.size d.old }
     ensures text { D.is_modelled → IfOk result (λ text. text.items ≡ sectors_at count (D.seen d.old) at) }
     ensures long { IfOk result (λ text. length text.items ≡ 512 * count) }
-    ensures seen { D.is_modelled → D.seen d.new ≡ D.seen d.old }
-    ensures crash { D.is_modelled → SameHoldings (D.may_leave d.old) (D.may_leave d.new) }
-    ensures quiet { Quiet D.is_modelled D.size D.told D.input_left D.heard D.faults d.old d.new }
-    ensures time { D.is_modelled → Adds D.moment D.outcomes d.old d.new Nothing }
+    ensures reads { OnlyReads D.Disk d.old d.new }
+    // Only where the disk has failed a count rose.
+    ensures steady { IsErrOf result ReadFault.Disk ⊎ (D.faults d.new ≡ D.faults d.old) }
     ensures cause { IsErrOf result ReadFault.Disk → Rose (D.faults d.old).disk (D.faults d.new).disk }
 {
     let mut text = Vec::new(alloc);
     for i in 0..count {
         let mut sector = [0u8; SECTOR];
-        d.read_sector(at + i, &mut sector)?;
+        get_sector(d, at + i, &mut sector)?;
         text.extend_from_slice(&sector)?;
     }
     Ok(text)

@@ -139,13 +139,6 @@ module _ (g : Geometry) (slot n : ℕ) (text : List ℕ) (old : Image) (below : 
         backup = backup_begins image (λ k lt. ap (λ (i : Image). i (b + k)) is ∙ text_held n b text old k lt);
       }
 
--- what is written is of either copy
-pub of_backup_text : (n p b : ℕ) (text : List ℕ) (s : ℕ) (x : List ℕ) → IsOfText 0 n b text s x → IsOfEither n p b text s x
-of_backup_text n p b text s x is = inr (inl is)
-
-pub of_primary_copy : (n p b : ℕ) (text : List ℕ) (s : ℕ) (x : List ℕ) → IsOfCopy n p text s x → IsOfEither n p b text s x
-of_primary_copy n p b text s x is = inl is
-
 -- the same of equal places
 pub places : (P : ℕ → ℕ → ℕ → List ℕ → Type 0) (n n' p p' b b' : ℕ) (text text' : List ℕ) → n' ≡ n → p' ≡ p → b' ≡ b → text' ≡ text → P n' p' b' text' → P n p b text
 places P n n' p p' b b' text text' en ep eb et is =

@@ -1,7 +1,8 @@
 //! Loading a slot's table.
 
-ghost use Rattle.std.specs.Prelude.{◌≡◌, ◌≤◌, ◌<◌, ◌+◌, ℕ, List, length, IfOk};
-ghost use Rattle.vab_disk.specs.Disk.{Adds, Nothing, SameHoldings, Quiet, Rose};
+ghost use Rattle.std.specs.Prelude.{◌≡◌, ◌⊎◌, ◌≤◌, ◌<◌, ◌+◌, ℕ, List, length, IfOk};
+ghost use Rattle.vab_disk.specs.Disk.{Rose};
+ghost use Rattle.vab_disk.specs.Calls.{OnlyReads};
 ghost use Rattle.vab_geometry.specs.Geometry.{IsGeometry};
 ghost use Rattle.vab_tables.specs.Text.{IsTableText};
 ghost use Rattle.vab_lpstore.specs.Layout.{copy_sectors, backup_of, primary_bytes, backup_bytes};
@@ -15,8 +16,8 @@ use vab_copies::read_text;
 use vab_disk::Disk;
 use vab_geometry::Geometry;
 
-/// The primary copy's table, or else the backup's. `BothBad` comes exactly where neither copy is a table's text,
-/// with the faults of both, which are never `NoMemory`.
+/// The primary copy's table, or else the backup's. `BothBad` comes exactly where neither copy is a
+/// table's text, with the faults of both, which are never `NoMemory`.
 #[tactic(auto, unfolding(crate::specs::Loading::slot_table))]
 pub fn load_table<D: Disk>(
     alloc: Global,
@@ -28,14 +29,15 @@ pub fn load_table<D: Disk>(
     requires slot { slot < geometry.now.slots }
     requires on_disk { backup_of geometry.now slot + copy_sectors geometry.now ≤ D.size d.old }
     ensures table { D.is_modelled → Gives result (slot_table geometry.now slot (D.seen d.old)) }
-    ensures loaded { D.is_modelled → IfOk result (λ l. IsLoaded geometry.now.max (primary_bytes geometry.now slot (D.seen d.old)) (backup_bytes geometry.now slot (D.seen d.old)) l) }
+    ensures loaded { D.is_modelled → IfOk result
+        (λ l. IsLoaded geometry.now.max
+          (primary_bytes geometry.now slot (D.seen d.old))
+          (backup_bytes geometry.now slot (D.seen d.old)) l) }
     ensures text { IfOk result (λ l. IsTableText geometry.now.max l.text l.table) }
     ensures fits { IfOk result (λ l. length l.text ≤ geometry.now.max) }
     ensures faults { AreFaults result }
-    ensures seen { D.is_modelled → D.seen d.new ≡ D.seen d.old }
-    ensures crash { D.is_modelled → SameHoldings (D.may_leave d.old) (D.may_leave d.new) }
-    ensures quiet { Quiet D.is_modelled D.size D.told D.input_left D.heard D.faults d.old d.new }
-    ensures time { D.is_modelled → Adds D.moment D.outcomes d.old d.new Nothing }
+    ensures reads { OnlyReads D.Disk d.old d.new }
+    ensures steady { IsDiskFault result ⊎ (D.faults d.new ≡ D.faults d.old) }
     ensures cause { IsDiskFault result → Rose (D.faults d.old).disk (D.faults d.new).disk }
 {
     let count = layout::copy_size(geometry);

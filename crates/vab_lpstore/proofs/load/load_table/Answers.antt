@@ -6,7 +6,7 @@ use Rattle.vab_lpstore.proofs.load.load_table.Goals as goal
 pub read_text-requires : goal.read_text-requires
 read_text-requires g c =
     let apart = copies_apart c.args.geometry.now c.args.slot c.requires.slot in
-    omega (arith, apart, c.requires.on_disk)
+    omega (arith, apart, c.requires.on_disk, c.requires.on_disk)
 
 pub returns-clause-fits : goal.returns-clause-fits
 returns-clause-fits g c = if_ok_map c.choose.result _ _ (λ l is. loaded_fits c.args.geometry.now.max _ _ l is) c.choose.ensures.loaded

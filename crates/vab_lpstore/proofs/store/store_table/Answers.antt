@@ -1,6 +1,7 @@
 use Rattle.std.proofs.Common.{◌≡◌, length, refl, arith}
 use Rattle.vab_disk.proofs.Moments.{adds_wider}
-use Rattle.vab_copies.specs.Copies.{with_text, LeavesCopies}
+use Rattle.vab_disk.specs.Calls.{Touches}
+use Rattle.vab_copies.specs.Copies.{with_text, IsOfEither, LeavesCopies}
 use Rattle.vab_lpstore.specs.Layout.{text_sectors}
 use Rattle.vab_lpstore.proofs.StoreLaws.{copies_apart, text_fits, text_room, text_some}
 use Rattle.vab_lpstore.proofs.Outcomes.{stored_table, stored_both, places, on_ok_map}
@@ -29,6 +30,13 @@ returns-clause-stored g c = λ t.
     (λ is. stored_both c.args.geometry.now c.args.slot (text_sectors (length text)) text old c.requires.slot (text_some (length text)) (text_fits c.args.geometry.now (length text) c.requires.rules c.requires.fits) (text_room (length text)) image
     (places (λ n p b l. image ≡ with_text n l (with_text n l old p) b) _ _ _ _ _ _ text text c.sectors-count.ensures c.primary.ensures c.backup.ensures refl is))
     (c.store_copies.ensures.written t)
+
+pub returns-clause-touches : goal.returns-clause-touches
+returns-clause-touches g c =
+    places
+    (λ n p b l. Touches g.D.Disk (IsOfEither n p b l) c.args.d.now c.store_copies.new.d)
+    _ _ _ _ _ _ c.args.text.now c.args.text.now
+    c.sectors-count.ensures c.primary.ensures c.backup.ensures refl c.store_copies.ensures.touches
 
 pub returns-clause-table : goal.returns-clause-table
 returns-clause-table g c = λ t settled a b is_primary is_backup is_text.
