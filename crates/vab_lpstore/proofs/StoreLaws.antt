@@ -1,10 +1,11 @@
 -- What callers need of the copies of a slot's table.
-use Rattle.std.proofs.Common.{◌≡◌, ⊎_elim, ℕ, ◌+◌, ◌-◌, ◌*◌, ◌/◌, ◌<◌, ◌≤◌, List, ◌++◌, length, take, replicate, Ok, Err, refl, sym, ◌∙◌, ap, arith, append_assoc}
+use Rattle.std.proofs.Common.{◌≡◌, ⊎_elim, Bool, true, false, ℕ, ◌+◌, ◌-◌, ◌*◌, ◌/◌, ◌<◌, ◌≤◌, List, ◌++◌, length, take, replicate, Ok, Err, refl, sym, ◌∙◌, ap, arith, append_assoc}
 use Rattle.std.proofs.Math.Nat.{mul-le-mul_right}
 use Rattle.std.proofs.lemmas.List.{take-take, take_at}
 use Rattle.vab_disk.specs.Disk.{Image}
 use Rattle.vab_gate.specs.Gate.{sectors_at}
-use Rattle.vab_copies.specs.Copies.{zeros, HoldsText, BeginsWithZeros}
+use Rattle.vab_disk.specs.Calls.{SameBut}
+use Rattle.vab_copies.specs.Copies.{zeros, HoldsText, BeginsWithZeros, IsOutside, IsOfText, IsOfCopy}
 use Rattle.vab_copies.proofs.CopyLaws.{sectors_zeros, sectors_split, sectors_text}
 use Rattle.vab_geometry.specs.declared.geometry.Geometry.{Geometry}
 use Rattle.vab_geometry.specs.Geometry.{IsGeometry}
@@ -16,6 +17,7 @@ use Rattle.vab_tables.specs.TextLaws.{text_only, zeros_text}
 use Rattle.vab_tables.specs.FrontLaws.{text_same_front, text_size_fits}
 use Rattle.vab_lpstore.specs.declared.loaded.Loaded.{Loaded}
 use Rattle.vab_lpstore.specs.Layout.{copy_sectors, primary_of, backup_of, primary_bytes, backup_bytes, text_sectors, Begins, BothHold}
+use Rattle.vab_lpstore.specs.Storing.{SameElsewhere, IsOfRepair, IsOfTable}
 use Rattle.vab_lpstore.specs.Loading.{first_of, slot_table, IsLoaded}
 
 -- the bytes of super at which the copies begin
@@ -95,3 +97,55 @@ both_table g slot text t image holds is =
 -- a loaded text is at most the maximum long
 pub loaded_fits : (max : ℕ) (primary backup : List ℕ) (l : Loaded) → IsLoaded max primary backup l → length l.text ≤ max
 loaded_fits max primary backup l is = omega (arith, is.whole, (text_size_fits max l.text l.table is.text).1)
+
+-- ---- what a repair leaves alone
+
+not_of_text : (n at : ℕ) (text : List ℕ) (s : ℕ) (b : List ℕ)
+    → IsOutside at n s
+    → IsOfText 0 n at text s b
+    → ⊥
+not_of_text n at text s b out is =
+    ⊎_elim (λ below. omega (arith, below, is.first)) (λ above. omega (arith, above, is.last)) out
+
+not_of_copy : (n at : ℕ) (text : List ℕ) (s : ℕ) (b : List ℕ)
+    → 0 < n
+    → IsOutside at n s
+    → IsOfCopy n at text s b
+    → ⊥
+not_of_copy n at text s b some out is =
+    ⊎_elim
+    (λ of_text. not_of_text n at text s b out of_text)
+    (λ first.
+    ⊎_elim (λ below. omega (arith, below, first.0)) (λ above. omega (arith, above, first.0, some)) out)
+    is
+
+pub repair_elsewhere : (primary backup : Bool) (g : Geometry) (slot : ℕ) (text : List ℕ) (old new : Image)
+    → SameBut (IsOfRepair primary backup g slot text) old new
+    → SameElsewhere g slot (text_sectors (length text)) old new
+repair_elsewhere false backup g slot text old new but s away behind =
+    ⊎_elim (λ same. same)
+    (λ is.
+    absurd (not_of_copy (text_sectors (length text)) (primary_of g slot) text s (new s)
+    (text_some (length text)) away is))
+    (but s)
+repair_elsewhere true false g slot text old new but s away behind =
+    ⊎_elim (λ same. same)
+    (λ is. absurd (not_of_text (text_sectors (length text)) (backup_of g slot) text s (new s) behind is))
+    (but s)
+repair_elsewhere true true g slot text old new but s away behind =
+    ⊎_elim (λ same. same) (λ none. absurd none) (but s)
+
+-- and storing a table
+pub store_elsewhere : (g : Geometry) (slot : ℕ) (text : List ℕ) (old new : Image)
+    → SameBut (IsOfTable g slot text) old new
+    → SameElsewhere g slot (text_sectors (length text)) old new
+store_elsewhere g slot text old new but s away behind =
+    let n = text_sectors (length text) in
+    let some = text_some (length text) in
+    ⊎_elim (λ same. same)
+    (λ is.
+    absurd (⊎_elim
+    (λ first. not_of_copy n (primary_of g slot) text s (new s) some away first)
+    (λ second. not_of_copy n (backup_of g slot) text s (new s) some behind second)
+    is))
+    (but s)

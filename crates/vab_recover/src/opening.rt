@@ -1,6 +1,7 @@
 //! Opening a device.
 
 ghost use Rattle.std.specs.Prelude.{◌≡◌, ◌<◌, ◌≤◌, length, IfOk, OnOk, IfErr, Ok, Err};
+ghost use Rattle.vab_disk.specs.Calls.{OnlyReads, IsAtRest};
 ghost use Rattle.vab_disk.specs.Disk.{IsSettled, Adds, Nothing, SameHoldings, Quiet, Rose};
 ghost use Rattle.vab_tables.specs.Text.{IsTableText};
 ghost use Rattle.vab_lpstore.specs.Layout.{primary_bytes, backup_bytes};
@@ -27,10 +28,7 @@ pub fn open<D: Disk>(alloc: Global, d: &mut D) -> Result<(Device, Loaded), Start
     ensures fault { D.is_modelled → IfErr result (λ f. IsOfContents f → device (D.size d.old) (D.seen d.old) ≡ Err f) }
     ensures kept { IfOk result (λ r. IsDevice r.0 (D.size d.old)) }
     ensures fits { IfOk result (λ r. length r.1.text ≤ r.0.geometry.max) }
-    ensures seen { D.is_modelled → D.seen d.new ≡ D.seen d.old }
-    ensures crash { D.is_modelled → SameHoldings (D.may_leave d.old) (D.may_leave d.new) }
-    ensures quiet { Quiet D.is_modelled D.size D.told D.input_left D.heard D.faults d.old d.new }
-    ensures time { D.is_modelled → Adds D.moment D.outcomes d.old d.new Nothing }
+    ensures reads { OnlyReads D.Disk d.old d.new }
     ensures cause { IfErr result (λ f. IsOfDisk f → Rose (D.faults d.old).disk (D.faults d.new).disk) }
 {
     let sectors = d.sectors();
@@ -56,7 +54,7 @@ pub fn start<D: Disk>(alloc: Global, d: &mut D) -> Result<Device, StartFault>
     ensures places { D.is_modelled → OnOk result (places (D.size d.old) (D.seen d.new) ≡ places (D.size d.old) (D.seen d.old)) }
     ensures fault { D.is_modelled → IfErr result (λ f. IsOfContents f → device (D.size d.old) (D.seen d.old) ≡ Err f) }
     ensures untouched { D.is_modelled → IfErr result (λ f. IsOfContents f → (D.seen d.new ≡ D.seen d.old) × SameHoldings (D.may_leave d.old) (D.may_leave d.new)) }
-    ensures settled { D.is_modelled → IsSettled (D.seen d.old) (D.may_leave d.old) → OnOk result (IsSettled (D.seen d.new) (D.may_leave d.new)) }
+    ensures settled { D.is_modelled → IsAtRest D.Disk d.old → OnOk result (IsAtRest D.Disk d.new) }
     ensures quiet { Quiet D.is_modelled D.size D.told D.input_left D.heard D.faults d.old d.new }
     // Where nothing was pending, each outcome of the repair is a disk that means the same.
     ensures time { D.is_modelled → IsSettled (D.seen d.old) (D.may_leave d.old) → Adds D.moment D.outcomes d.old d.new (LeavesSame (D.told d.old) (D.size d.old) (D.seen d.old)) }

@@ -1,6 +1,7 @@
 //! Reading the parts of a disk.
 
 ghost use Rattle.std.specs.Prelude.{◌≡◌, ◌<◌, ◌≤◌, ◌^◌, IfOk, IfErr, Ok, Err};
+ghost use Rattle.vab_disk.specs.Calls.{OnlyReads};
 ghost use Rattle.vab_disk.specs.Disk.{Adds, Nothing, SameHoldings, Quiet, Rose};
 ghost use Rattle.vab_bootctl.specs.Control.{Fits, control_of};
 ghost use Rattle.vab_marks.specs.declared.mark.MarkPhase.TheVariants as marks;
@@ -26,10 +27,7 @@ fn read<D: Disk>(d: &mut D, at: u64) -> Result<[u8; 512], StartFault>
     requires { at < D.size d.old }
     ensures bytes { D.is_modelled → IfOk result (λ b. b ≡ D.seen d.old at) }
     ensures fault { IfErr result IsOfDisk }
-    ensures seen { D.is_modelled → D.seen d.new ≡ D.seen d.old }
-    ensures crash { D.is_modelled → SameHoldings (D.may_leave d.old) (D.may_leave d.new) }
-    ensures quiet { Quiet D.is_modelled D.size D.told D.input_left D.heard D.faults d.old d.new }
-    ensures time { D.is_modelled → Adds D.moment D.outcomes d.old d.new Nothing }
+    ensures reads { OnlyReads D.Disk d.old d.new }
     ensures cause { IfErr result (λ f. IsOfDisk f → Rose (D.faults d.old).disk (D.faults d.new).disk) }
 {
     let mut sector = [0u8; 512];
@@ -64,10 +62,7 @@ pub fn read_mark<D: Disk>(d: &mut D) -> Result<UpdateMark, StartFault>
     ensures fault { D.is_modelled → IfErr result (λ f. IsOfContents f → slot_in (D.seen d.old) ≡ Err f) }
     ensures phase { IfOk result (λ m. m.phase ≡ marks.Idle) }
     ensures slot { IfOk result (λ m. m.slot < 2) }
-    ensures seen { D.is_modelled → D.seen d.new ≡ D.seen d.old }
-    ensures crash { D.is_modelled → SameHoldings (D.may_leave d.old) (D.may_leave d.new) }
-    ensures quiet { Quiet D.is_modelled D.size D.told D.input_left D.heard D.faults d.old d.new }
-    ensures time { D.is_modelled → Adds D.moment D.outcomes d.old d.new Nothing }
+    ensures reads { OnlyReads D.Disk d.old d.new }
     ensures cause { IfErr result (λ f. IsOfDisk f → Rose (D.faults d.old).disk (D.faults d.new).disk) }
 {
     let sector = read(d, MARK_SECTOR)?;
@@ -94,10 +89,7 @@ pub fn read_control<D: Disk>(d: &mut D) -> Result<Control, StartFault>
     ensures ok { D.is_modelled → IfOk result (λ c. control_in (D.seen d.old) ≡ Ok c) }
     ensures fault { D.is_modelled → IfErr result (λ f. IsOfContents f → control_in (D.seen d.old) ≡ Err f) }
     ensures fits { IfOk result Fits }
-    ensures seen { D.is_modelled → D.seen d.new ≡ D.seen d.old }
-    ensures crash { D.is_modelled → SameHoldings (D.may_leave d.old) (D.may_leave d.new) }
-    ensures quiet { Quiet D.is_modelled D.size D.told D.input_left D.heard D.faults d.old d.new }
-    ensures time { D.is_modelled → Adds D.moment D.outcomes d.old d.new Nothing }
+    ensures reads { OnlyReads D.Disk d.old d.new }
     ensures cause { IfErr result (λ f. IsOfDisk f → Rose (D.faults d.old).disk (D.faults d.new).disk) }
 {
     let sector = read(d, CONTROL_SECTOR)?;
@@ -129,10 +121,7 @@ pub fn read_geometry<D: Disk>(d: &mut D) -> Result<Geometry, StartFault>
     ensures fault { D.is_modelled → IfErr result (λ f. IsOfContents f → geometry_at (D.size d.old) (D.seen d.old) ≡ Err f) }
     ensures rules { IfOk result IsGeometry }
     ensures copies_on { IfOk result (λ g. copies_end g ≤ super_bytes (D.size d.old)) }
-    ensures seen { D.is_modelled → D.seen d.new ≡ D.seen d.old }
-    ensures crash { D.is_modelled → SameHoldings (D.may_leave d.old) (D.may_leave d.new) }
-    ensures quiet { Quiet D.is_modelled D.size D.told D.input_left D.heard D.faults d.old d.new }
-    ensures time { D.is_modelled → Adds D.moment D.outcomes d.old d.new Nothing }
+    ensures reads { OnlyReads D.Disk d.old d.new }
     ensures cause { IfErr result (λ f. IsOfDisk f → Rose (D.faults d.old).disk (D.faults d.new).disk) }
 {
     let sectors = d.sectors();

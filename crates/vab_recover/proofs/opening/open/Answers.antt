@@ -72,7 +72,7 @@ returns-in_err-control-clause-fault g c = λ tells.
     let f : StartFault = c.in_err-control.field-0.0 in
     let enough : leb 4120 size ≡ true = le-leb 4120 size (omega (arith, c.sectors-sectors.ensures, c.if-sectors-lt-MIN_SECTORS.false)) in
     passed c.from_residual-in_err-control.result f (device size image) c.from_residual-in_err-control.ensures.1
-    (λ kind. device_no_control size image c.in_ok-mark.mark.slot f enough (c.in_ok-mark.ensures.ok tells) (ap control_in (sym (c.in_ok-mark.ensures.seen tells)) ∙ c.in_err-control.ensures.fault tells kind))
+    (λ kind. device_no_control size image c.in_ok-mark.mark.slot f enough (c.in_ok-mark.ensures.ok tells) (ap control_in (sym (c.in_ok-mark.ensures.reads.seen tells)) ∙ c.in_err-control.ensures.fault tells kind))
 
 pub returns-in_err-geometry-clause-fault : goal.returns-in_err-geometry-clause-fault
 returns-in_err-geometry-clause-fault g c = λ tells.
@@ -80,9 +80,9 @@ returns-in_err-geometry-clause-fault g c = λ tells.
     let image : Image = g.D.Disk.seen c.args.d.now in
     let f : StartFault = c.in_err-geometry.field-0.0 in
     let enough : leb 4120 size ≡ true = le-leb 4120 size (omega (arith, c.sectors-sectors.ensures, c.if-sectors-lt-MIN_SECTORS.false)) in
-    let s1 = c.in_ok-mark.ensures.seen tells in
-    let s2 = c.in_ok-control.ensures.seen tells ∙ s1 in
-    let n2 = c.in_ok-control.ensures.quiet.size ∙ c.in_ok-mark.ensures.quiet.size in
+    let s1 = c.in_ok-mark.ensures.reads.seen tells in
+    let s2 = c.in_ok-control.ensures.reads.seen tells ∙ s1 in
+    let n2 = c.in_ok-control.ensures.reads.quiet.size ∙ c.in_ok-mark.ensures.reads.quiet.size in
     passed c.from_residual-in_err-geometry.result f (device size image) c.from_residual-in_err-geometry.ensures.1
     (λ kind. device_no_geometry size image c.in_ok-mark.mark.slot c.in_ok-control.control f enough (c.in_ok-mark.ensures.ok tells) (ap control_in (sym s1) ∙ c.in_ok-control.ensures.ok tells)
     (geometry_moved _ _ _ _ n2 s2 ∙ c.in_err-geometry.ensures.fault tells kind))
@@ -93,11 +93,11 @@ returns-in_err-loaded-clause-fault g c = λ tells.
     let image : Image = g.D.Disk.seen c.args.d.now in
     let f : StartFault = c.in_err-loaded.field-0.0 in
     let enough : leb 4120 size ≡ true = le-leb 4120 size (omega (arith, c.sectors-sectors.ensures, c.if-sectors-lt-MIN_SECTORS.false)) in
-    let s1 = c.in_ok-mark.ensures.seen tells in
-    let s2 = c.in_ok-control.ensures.seen tells ∙ s1 in
-    let s3 = c.in_ok-geometry.ensures.seen tells ∙ s2 in
-    let n2 = c.in_ok-control.ensures.quiet.size ∙ c.in_ok-mark.ensures.quiet.size in
-    let n3 = c.in_ok-geometry.ensures.quiet.size ∙ n2 in
+    let s1 = c.in_ok-mark.ensures.reads.seen tells in
+    let s2 = c.in_ok-control.ensures.reads.seen tells ∙ s1 in
+    let s3 = c.in_ok-geometry.ensures.reads.seen tells ∙ s2 in
+    let n2 = c.in_ok-control.ensures.reads.quiet.size ∙ c.in_ok-mark.ensures.reads.quiet.size in
+    let n3 = c.in_ok-geometry.ensures.reads.quiet.size ∙ n2 in
     passed c.from_residual-in_err-loaded.result f (device size image) c.from_residual-in_err-loaded.ensures.1
     (λ kind. device_no_table size image c.in_ok-mark.mark.slot c.in_ok-control.control c.in_ok-geometry.geometry f enough (c.in_ok-mark.ensures.ok tells) (ap control_in (sym s1) ∙ c.in_ok-control.ensures.ok tells)
     (geometry_moved _ _ _ _ n2 s2 ∙ c.in_ok-geometry.ensures.ok tells)
@@ -109,11 +109,11 @@ returns-in_err-judge-clause-fault g c = λ tells.
     let image : Image = g.D.Disk.seen c.args.d.now in
     let f : StartFault = c.in_err-judge.field-0.0 in
     let enough : leb 4120 size ≡ true = le-leb 4120 size (omega (arith, c.sectors-sectors.ensures, c.if-sectors-lt-MIN_SECTORS.false)) in
-    let s1 = c.in_ok-mark.ensures.seen tells in
-    let s2 = c.in_ok-control.ensures.seen tells ∙ s1 in
-    let s3 = c.in_ok-geometry.ensures.seen tells ∙ s2 in
-    let n2 = c.in_ok-control.ensures.quiet.size ∙ c.in_ok-mark.ensures.quiet.size in
-    let n3 = c.in_ok-geometry.ensures.quiet.size ∙ n2 in
+    let s1 = c.in_ok-mark.ensures.reads.seen tells in
+    let s2 = c.in_ok-control.ensures.reads.seen tells ∙ s1 in
+    let s3 = c.in_ok-geometry.ensures.reads.seen tells ∙ s2 in
+    let n2 = c.in_ok-control.ensures.reads.quiet.size ∙ c.in_ok-mark.ensures.reads.quiet.size in
+    let n3 = c.in_ok-geometry.ensures.reads.quiet.size ∙ n2 in
     let l = layout_of c.in_ok-loaded.loaded.table in
     passed c.from_residual-in_err-judge.result f (device size image) c.from_residual-in_err-judge.ensures.1
     (λ kind. device_read size image c.in_ok-mark.mark.slot c.in_ok-control.control c.in_ok-geometry.geometry l enough (c.in_ok-mark.ensures.ok tells) (ap control_in (sym s1) ∙ c.in_ok-control.ensures.ok tells)
@@ -126,11 +126,11 @@ returns-clause-read g c = λ tells.
     let size : ℕ = g.D.Disk.size c.args.d.now in
     let image : Image = g.D.Disk.seen c.args.d.now in
     let enough : leb 4120 size ≡ true = le-leb 4120 size (omega (arith, c.sectors-sectors.ensures, c.if-sectors-lt-MIN_SECTORS.false)) in
-    let s1 = c.in_ok-mark.ensures.seen tells in
-    let s2 = c.in_ok-control.ensures.seen tells ∙ s1 in
-    let s3 = c.in_ok-geometry.ensures.seen tells ∙ s2 in
-    let n2 = c.in_ok-control.ensures.quiet.size ∙ c.in_ok-mark.ensures.quiet.size in
-    let n3 = c.in_ok-geometry.ensures.quiet.size ∙ n2 in
+    let s1 = c.in_ok-mark.ensures.reads.seen tells in
+    let s2 = c.in_ok-control.ensures.reads.seen tells ∙ s1 in
+    let s3 = c.in_ok-geometry.ensures.reads.seen tells ∙ s2 in
+    let n2 = c.in_ok-control.ensures.reads.quiet.size ∙ c.in_ok-mark.ensures.reads.quiet.size in
+    let n3 = c.in_ok-geometry.ensures.reads.quiet.size ∙ n2 in
     let l = layout_of c.in_ok-loaded.loaded.table in
     let slot = c.in_ok-mark.ensures.ok tells in
     let control = ap control_in (sym s1) ∙ c.in_ok-control.ensures.ok tells in
@@ -146,8 +146,8 @@ returns-clause-read g c = λ tells.
 pub returns-clause-kept : goal.returns-clause-kept
 returns-clause-kept g c =
     let size : ℕ = g.D.Disk.size c.args.d.now in
-    let n2 = c.in_ok-control.ensures.quiet.size ∙ c.in_ok-mark.ensures.quiet.size in
-    let n3 = c.in_ok-geometry.ensures.quiet.size ∙ n2 in
+    let n2 = c.in_ok-control.ensures.reads.quiet.size ∙ c.in_ok-mark.ensures.reads.quiet.size in
+    let n3 = c.in_ok-geometry.ensures.reads.quiet.size ∙ n2 in
     device_kept c.in_ok-device.device size c.in_ok-mark.mark c.in_ok-control.control c.in_ok-geometry.geometry c.in_ok-loaded.loaded.table
     c.in_ok-device.ensures.mark c.in_ok-device.ensures.control c.in_ok-device.ensures.geometry c.in_ok-device.ensures.images
     (omega (arith, c.sectors-sectors.ensures, c.if-sectors-lt-MIN_SECTORS.false)) c.in_ok-geometry.ensures.rules c.in_ok-control.ensures.fits c.in_ok-mark.ensures.phase c.in_ok-mark.ensures.slot c.in_ok-judge.ensures.current

@@ -3,7 +3,7 @@ use Rattle.vab_disk.specs.Disk.{Image, Outcome, Nothing, IsSettled, Adds, SameHo
 use Rattle.vab_disk.proofs.Moments.{adds_on, adds_wider}
 use Rattle.vab_lpstore.specs.Layout.{copy_sectors, backup_of, text_sectors, BothHold}
 use Rattle.vab_lpstore.specs.Storing.{SameElsewhere, LeavesTable}
-use Rattle.vab_lpstore.proofs.StoreLaws.{text_fits, both_table}
+use Rattle.vab_lpstore.proofs.StoreLaws.{text_fits, both_table, repair_elsewhere}
 use Rattle.vab_lpstore.specs.declared.loaded.Loaded.{Loaded}
 use Rattle.vab_recover.specs.declared.device.Device.{Device}
 use Rattle.vab_device.proofs.DeviceLaws.{SameBut}
@@ -16,7 +16,7 @@ pub repair_table-requires-clause-on_disk : goal.repair_table-requires-clause-on_
 repair_table-requires-clause-on_disk g c =
     let kept = c.in_ok-device.ensures.kept in
     let d = c.in_ok-device.device in
-    subst (λ (n : ℕ). backup_of d.geometry d.mark.slot + copy_sectors d.geometry ≤ n) (sym c.in_ok-device.ensures.quiet.size)
+    subst (λ (n : ℕ). backup_of d.geometry d.mark.slot + copy_sectors d.geometry ≤ n) (sym c.in_ok-device.ensures.reads.quiet.size)
     (copies_on_disk d.geometry d.mark.slot (g.D.Disk.size c.args.d.now) kept.geometry kept.slot kept.copies_on)
 
 -- what the repaired disk and the disk from before have in common
@@ -45,7 +45,7 @@ pub returns-in-Ok-clause-device : goal.returns-in-Ok-clause-device
 returns-in-Ok-clause-device g c = λ tells.
     let read = c.in_ok-device.ensures.read tells in
     let same = repaired c.in_ok-device.device c.in_ok-device.loaded (g.D.Disk.size c.args.d.now) (g.D.Disk.seen c.args.d.now) (g.D.Disk.seen c.open.new.d) (g.D.Disk.seen c.repair_table.new.d)
-    c.in_ok-device.ensures.kept read c.in_ok-device.ensures.fits (c.in_ok-device.ensures.seen tells) (c.in-Ok.ensures.others tells) (c.in-Ok.ensures.repaired tells) in
+    c.in_ok-device.ensures.kept read c.in_ok-device.ensures.fits (c.in_ok-device.ensures.reads.seen tells) (repair_elsewhere _ _ _ _ _ _ _ (c.repair_table.ensures.touches.seen tells)) (c.in-Ok.ensures.repaired tells) in
     read.state ∙ ap Ok (sym (same_state c.in_ok-device.device c.in_ok-device.loaded (g.D.Disk.size c.args.d.now) (g.D.Disk.seen c.args.d.now) (g.D.Disk.seen c.repair_table.new.d) c.in_ok-device.ensures.kept.slot read same))
 
 pub returns-in-Ok-clause-stands : goal.returns-in-Ok-clause-stands
@@ -57,24 +57,24 @@ returns-in-Ok-clause-stands g c = λ tells.
     let new : Image = g.D.Disk.seen c.repair_table.new.d in
     let read = c.in_ok-device.ensures.read tells in
     let both : BothHold d.geometry d.mark.slot l.text new = c.in-Ok.ensures.repaired tells in
-    let same = repaired d l size old (g.D.Disk.seen c.open.new.d) new c.in_ok-device.ensures.kept read c.in_ok-device.ensures.fits (c.in_ok-device.ensures.seen tells) (c.in-Ok.ensures.others tells) both in
+    let same = repaired d l size old (g.D.Disk.seen c.open.new.d) new c.in_ok-device.ensures.kept read c.in_ok-device.ensures.fits (c.in_ok-device.ensures.reads.seen tells) (repair_elsewhere _ _ _ _ _ _ _ (c.repair_table.ensures.touches.seen tells)) both in
     stands_after d l size old new c.in_ok-device.ensures.kept read same both
 
 pub returns-in-Ok-clause-places : goal.returns-in-Ok-clause-places
 returns-in-Ok-clause-places g c = λ tells.
     let read = c.in_ok-device.ensures.read tells in
     let same = repaired c.in_ok-device.device c.in_ok-device.loaded (g.D.Disk.size c.args.d.now) (g.D.Disk.seen c.args.d.now) (g.D.Disk.seen c.open.new.d) (g.D.Disk.seen c.repair_table.new.d)
-    c.in_ok-device.ensures.kept read c.in_ok-device.ensures.fits (c.in_ok-device.ensures.seen tells) (c.in-Ok.ensures.others tells) (c.in-Ok.ensures.repaired tells) in
+    c.in_ok-device.ensures.kept read c.in_ok-device.ensures.fits (c.in_ok-device.ensures.reads.seen tells) (repair_elsewhere _ _ _ _ _ _ _ (c.repair_table.ensures.touches.seen tells)) (c.in-Ok.ensures.repaired tells) in
     same_places c.in_ok-device.device c.in_ok-device.loaded (g.D.Disk.size c.args.d.now) (g.D.Disk.seen c.args.d.now) (g.D.Disk.seen c.repair_table.new.d) read same
 
 pub returns-in-Ok-clause-time : goal.returns-in-Ok-clause-time
 returns-in-Ok-clause-time g c = λ tells settled.
     outcomes_same g.D.Disk.moment g.D.Disk.outcomes c.args.d.now c.open.new.d c.repair_table.new.d (g.D.Disk.told c.args.d.now) (g.D.Disk.told c.open.new.d) c.in_ok-device.device c.in_ok-device.loaded (g.D.Disk.size c.args.d.now) (g.D.Disk.seen c.args.d.now) (g.D.Disk.seen c.open.new.d)
-    c.in_ok-device.ensures.kept (c.in_ok-device.ensures.read tells) c.in_ok-device.ensures.fits (c.in_ok-device.ensures.quiet.told tells) (c.in_ok-device.ensures.seen tells) (c.in_ok-device.ensures.time tells)
-    (c.in-Ok.ensures.table tells (still_settled (g.D.Disk.seen c.args.d.now) (g.D.Disk.seen c.open.new.d) (g.D.Disk.may_leave c.args.d.now) (g.D.Disk.may_leave c.open.new.d) (c.in_ok-device.ensures.seen tells) (c.in_ok-device.ensures.crash tells) settled))
+    c.in_ok-device.ensures.kept (c.in_ok-device.ensures.read tells) c.in_ok-device.ensures.fits (c.in_ok-device.ensures.reads.quiet.told tells) (c.in_ok-device.ensures.reads.seen tells) (c.in_ok-device.ensures.reads.time tells)
+    (c.in-Ok.ensures.table tells (still_settled (g.D.Disk.seen c.args.d.now) (g.D.Disk.seen c.open.new.d) (g.D.Disk.may_leave c.args.d.now) (g.D.Disk.may_leave c.open.new.d) (c.in_ok-device.ensures.reads.seen tells) (c.in_ok-device.ensures.reads.crash tells) settled))
 
 pub returns-in-Err-clause-time : goal.returns-in-Err-clause-time
 returns-in-Err-clause-time g c = λ tells settled.
     outcomes_same g.D.Disk.moment g.D.Disk.outcomes c.args.d.now c.open.new.d c.repair_table.new.d (g.D.Disk.told c.args.d.now) (g.D.Disk.told c.open.new.d) c.in_ok-device.device c.in_ok-device.loaded (g.D.Disk.size c.args.d.now) (g.D.Disk.seen c.args.d.now) (g.D.Disk.seen c.open.new.d)
-    c.in_ok-device.ensures.kept (c.in_ok-device.ensures.read tells) c.in_ok-device.ensures.fits (c.in_ok-device.ensures.quiet.told tells) (c.in_ok-device.ensures.seen tells) (c.in_ok-device.ensures.time tells)
-    (c.in-Err.ensures.table tells (still_settled (g.D.Disk.seen c.args.d.now) (g.D.Disk.seen c.open.new.d) (g.D.Disk.may_leave c.args.d.now) (g.D.Disk.may_leave c.open.new.d) (c.in_ok-device.ensures.seen tells) (c.in_ok-device.ensures.crash tells) settled))
+    c.in_ok-device.ensures.kept (c.in_ok-device.ensures.read tells) c.in_ok-device.ensures.fits (c.in_ok-device.ensures.reads.quiet.told tells) (c.in_ok-device.ensures.reads.seen tells) (c.in_ok-device.ensures.reads.time tells)
+    (c.in-Err.ensures.table tells (still_settled (g.D.Disk.seen c.args.d.now) (g.D.Disk.seen c.open.new.d) (g.D.Disk.may_leave c.args.d.now) (g.D.Disk.may_leave c.open.new.d) (c.in_ok-device.ensures.reads.seen tells) (c.in_ok-device.ensures.reads.crash tells) settled))
