@@ -4,7 +4,7 @@ use Rattle.std.proofs.lemmas.Bool.{eqb-false, leb-true, leb-false, le-leb, lt-le
 use Rattle.vab_bootctl.specs.declared.slots.Info.{Info}
 use Rattle.vab_bootctl.specs.declared.slots.Control.{Control}
 use Rattle.vab_bootctl.specs.Control.{FitsInfo, Fits}
-use Rattle.vab_bootctl.specs.Boot.{info_at, is_bootable, IsBootable, IsChosen, chosen_of, tried, booted_at, booted_of, active, yielding, activated_of, proven, marked_of}
+use Rattle.vab_bootctl.specs.Boot.{info_at, is_bootable, IsBootable, IsChosen, chosen_of, after_try, booted_at, booted_of, active, demoted, activated_of, proven, marked_of}
 
 -- ---- the slot that is chosen
 
@@ -97,7 +97,7 @@ booted_none c has h = ap (booted_at c) h
 
 -- ---- what fits still fits
 
-tried_fits : (i : Info) → FitsInfo i → FitsInfo (tried i)
+tried_fits : (i : Info) → FitsInfo i → FitsInfo (after_try i)
 tried_fits i h =
     elim i.successful as (λ s. FitsInfo (cond s i (record i { tries = i.tries - 1 }))) [
       | true ↦ h
@@ -107,7 +107,7 @@ tried_fits i h =
 booted_at_fits : (c : Control) (o : Option ℕ) → Fits c → Fits (booted_at c o)
 booted_at_fits c None h = h
 booted_at_fits c (Some slot) h =
-    elim (eqb slot 0) as (λ z. Fits (cond z (record c { current = 0; a = tried c.a }) (record c { current = 1; b = tried c.b }))) [
+    elim (eqb slot 0) as (λ z. Fits (cond z (record c { current = 0; a = after_try c.a }) (record c { current = 1; b = after_try c.b }))) [
       | true ↦ record { current = lit< tt; a = tried_fits c.a h.a; b = h.b }
       | false ↦ record { current = lit< tt; a = h.a; b = tried_fits c.b h.b }
     ]
@@ -116,7 +116,7 @@ pub booted_fits : (c : Control) (has : List Bool) → Fits c → Fits (booted_of
 unfolding booted_of
 booted_fits c has h = booted_at_fits c (chosen_of c has) h
 
-yielding_fits : (i : Info) → FitsInfo i → FitsInfo (yielding i)
+yielding_fits : (i : Info) → FitsInfo i → FitsInfo (demoted i)
 yielding_fits i h =
     elim (eqb i.priority 15) as (λ z. FitsInfo (cond z (record i { priority = 14 }) i)) [
       | true ↦ record { priority = lit≤ tt; tries = h.tries }
@@ -129,7 +129,7 @@ active_fits i = record { priority = lit≤ tt; tries = lit≤ tt }
 pub activated_fits : (c : Control) (slot : ℕ) → Fits c → Fits (activated_of c slot)
 unfolding activated_of
 activated_fits c slot h =
-    elim (eqb slot 0) as (λ z. Fits (cond z (record c { a = active c.a; b = yielding c.b }) (record c { a = yielding c.a; b = active c.b }))) [
+    elim (eqb slot 0) as (λ z. Fits (cond z (record c { a = active c.a; b = demoted c.b }) (record c { a = demoted c.a; b = active c.b }))) [
       | true ↦ record { current = h.current; a = active_fits c.a; b = yielding_fits c.b h.b }
       | false ↦ record { current = h.current; a = yielding_fits c.a h.a; b = active_fits c.b }
     ]
@@ -147,7 +147,7 @@ marked_fits c h =
 
 -- ---- a slot that was set active is the next to boot
 
-yields : (i : Info) → FitsInfo i → (yielding i).priority < 15
+yields : (i : Info) → FitsInfo i → (demoted i).priority < 15
 yields i h =
     elim (cases_Bool (eqb i.priority 15)) [
       | inl top ↦ rw top (lit< tt)
@@ -160,12 +160,12 @@ starts has i h = rw h (or_right i.successful true refl)
 pub activated_chosen : (c : Control) (has : List Bool) (slot : ℕ) → Fits c → slot < 2 → get_or has slot false ≡ true → chosen_of (activated_of c slot) has ≡ Some slot
 unfolding chosen_of activated_of
 activated_chosen c has zero h lt images =
-    let b : Bool = is_bootable (get_or has 1 false) (yielding c.b) in
-    let top : leb (yielding c.b).priority 15 ≡ true = le-leb _ 15 (omega (arith, yields c.b h.b)) in
+    let b : Bool = is_bootable (get_or has 1 false) (demoted c.b) in
+    let top : leb (demoted c.b).priority 15 ≡ true = le-leb _ 15 (omega (arith, yields c.b h.b)) in
     cond-true _ (Some 0) (cond b (Some 1) None) (and_from _ _ (starts (get_or has 0 false) c.a images) (or_right (not b) _ top))
 activated_chosen c has (suc zero) h lt images =
-    let a : Bool = is_bootable (get_or has 0 false) (yielding c.a) in
+    let a : Bool = is_bootable (get_or has 0 false) (demoted c.a) in
     let here : is_bootable (get_or has 1 false) (active c.b) ≡ true = starts (get_or has 1 false) c.b images in
-    let below : leb 15 (yielding c.a).priority ≡ false = lt-leb 15 _ (yields c.a h.a) in
+    let below : leb 15 (demoted c.a).priority ≡ false = lt-leb 15 _ (yields c.a h.a) in
     rw (here, below) (elim a as (λ t. cond {A = Option ℕ} (t && false) (Some 0) (Some 1) ≡ Some 1) [ true ↦ refl | false ↦ refl ])
 activated_chosen c has (suc (suc slot)) h lt images = absurd (omega (arith, lt))

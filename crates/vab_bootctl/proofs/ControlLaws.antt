@@ -14,7 +14,7 @@ use Rattle.vab_bootctl.specs.declared.slots.Info.{Info}
 use Rattle.vab_bootctl.specs.declared.slots.Control.{Control}
 use Rattle.vab_bootctl.specs.declared.sector.ControlFault.{ControlFault}
 use Rattle.vab_bootctl.specs.declared.sector.ControlFault.TheVariants.{BadMagic, BadVersion, BadSum, BadSlots}
-use Rattle.vab_bootctl.specs.Control.{FitsInfo, Fits, suffix, info_byte, StandsFor, KeepsRest, info_of, slot_of, with_infos, control_of, with_fields}
+use Rattle.vab_bootctl.specs.Control.{FitsInfo, Fits, suffix, info_byte, Represents, KeepsRest, info_of, slot_of, with_infos, control_of, with_fields}
 
 -- ---- the byte of an info
 
@@ -72,7 +72,7 @@ same : (x y : ℕ) → not (eqb x y) ≡ false → x ≡ y
 same x y h = eqb-true x y (not-false (eqb x y) h)
 
 -- what is read fits, and stands in the sector
-pub found_control : (bytes : List ℕ) (c : Control) → length bytes ≡ 512 → IsBytes bytes → control_of bytes ≡ Ok c → Fits c × StandsFor bytes c
+pub found_control : (bytes : List ℕ) (c : Control) → length bytes ≡ 512 → IsBytes bytes → control_of bytes ≡ Ok c → Fits c × Represents bytes c
 unfolding control_of
 found_control bytes c len are h =
     let g1 = guard (not (eqb (le_at w32 bytes 4) 0x42414342)) BadMagic _ c h in
@@ -81,10 +81,10 @@ found_control bytes c len are h =
     let g4 = guard (not (eqb (get_or bytes 9 0 % 8) 2)) BadSlots _ c g3.1 in
     let g5 = named bytes (slot_of (take 4 bytes)) c g4.1 in
     let slot = slot_is (take 4 bytes) g5.0 g5.1 in
-    let P : Control → Type 0 = λ k. Fits k × StandsFor bytes k in
+    let P : Control → Type 0 = λ k. Fits k × Represents bytes k in
     subst P g5.2 (record { current = slot.0; a = info_fits (get_or bytes 12 0); b = info_fits (get_or bytes 14 0) }, record { suffix = slot.1; magic = sym (le_at_spelled_32 bytes 4 (omega (arith, len)) are) ∙ ap (to_le_bytes w32) (same _ _ g1.0); version = same _ _ g2.0; slots = same _ _ g4.0; a = byte_again (get_or bytes 12 0) (are 12); b = byte_again (get_or bytes 14 0) (are 14); sum = sym (le_at_spelled_32 bytes 28 (omega (arith, len)) are) ∙ ap (to_le_bytes w32) (same _ _ g3.0) })
 
-only_control_at : (bytes : List ℕ) (c : Control) → crc_of (take 28 bytes) < 2 ^ 32 → Fits c → StandsFor bytes c → control_of bytes ≡ Ok c
+only_control_at : (bytes : List ℕ) (c : Control) → crc_of (take 28 bytes) < 2 ^ 32 → Fits c → Represents bytes c → control_of bytes ≡ Ok c
 unfolding control_of
 only_control_at bytes c summed fits h =
     let apart : (x y : ℕ) → x ≡ y → not (eqb x y) ≡ false = λ x y e. not_from_true (eqb x y) (eq-eqb x y e) in
@@ -103,7 +103,7 @@ only_control_at bytes c summed fits h =
     cond-false _ (Err BadMagic) _ e1 ∙ cond-false _ (Err BadVersion) _ e2 ∙ cond-false _ (Err BadSum) _ e3 ∙ cond-false _ (Err BadSlots) _ e4 ∙ ap of_slot slot ∙ ap done whole
 
 -- what stands in the sector is read
-pub only_control : (bytes : List ℕ) (c : Control) → IsBytes bytes → Fits c → StandsFor bytes c → control_of bytes ≡ Ok c
+pub only_control : (bytes : List ℕ) (c : Control) → IsBytes bytes → Fits c → Represents bytes c → control_of bytes ≡ Ok c
 only_control bytes c are fits h =
     only_control_at bytes c (crc_fits (take 28 bytes) (IsBytes-field bytes 0 28 are)) fits h
 
@@ -156,7 +156,7 @@ has_fields c bytes len =
 abbrev pub written : Control → List ℕ → List ℕ
 written c bytes = put_at (with_fields c bytes) 28 (to_le_bytes w32 (crc_of (take 28 (with_fields c bytes))))
 
-pub written_stands : (c : Control) (bytes : List ℕ) → length bytes ≡ 512 → StandsFor (written c bytes) c
+pub written_stands : (c : Control) (bytes : List ℕ) → length bytes ≡ 512 → Represents (written c bytes) c
 written_stands c bytes len =
     let h = has_fields c bytes len in
     let w : List ℕ = with_fields c bytes in

@@ -28,12 +28,12 @@ pub record IsChosen (c : Control) (has : List Bool) (slot : ℕ) : Type 0 where
   pub first : (other : ℕ) → IsBootable c has other → other < slot → (info_at c other).priority < (info_at c slot).priority
 
 -- one try is taken from a slot that is not successful
-abbrev pub tried : Info → Info
-tried i = if i.successful then i else record i { tries = i.tries - 1 }
+abbrev pub after_try : Info → Info
+after_try i = if i.successful then i else record i { tries = i.tries - 1 }
 
 abbrev pub booted_at : Control → Option ℕ → Control
 booted_at c None = c
-booted_at c (Some slot) = if slot == 0 then record c { current = 0; a = tried c.a } else record c { current = 1; b = tried c.b }
+booted_at c (Some slot) = if slot == 0 then record c { current = 0; a = after_try c.a } else record c { current = 1; b = after_try c.b }
 
 -- after a boot; where no slot is bootable nothing changes
 unfoldable pub booted_of : Control → List Bool → Control
@@ -42,13 +42,13 @@ booted_of c has = booted_at c (chosen_of c has)
 abbrev pub active : Info → Info
 active i = record i { priority = 15; tries = 6 }
 
-abbrev pub yielding : Info → Info
-yielding i = if i.priority == 15 then record i { priority = 14 } else i
+abbrev pub demoted : Info → Info
+demoted i = if i.priority == 15 then record i { priority = 14 } else i
 
 -- this slot is to be booted next, with six tries; another slot's priority 15 becomes 14
 unfoldable pub activated_of : Control → ℕ → Control
 activated_of c slot =
-    if slot == 0 then record c { a = active c.a; b = yielding c.b } else record c { a = yielding c.a; b = active c.b }
+    if slot == 0 then record c { a = active c.a; b = demoted c.b } else record c { a = demoted c.a; b = active c.b }
 
 abbrev pub proven : Info → Info
 proven i = record i { tries = 0; successful = true }

@@ -31,7 +31,7 @@ abbrev pub info_byte : Info → ℕ
 info_byte i = i.priority + 16 * i.tries + (if i.successful then 128 else 0)
 
 -- the sector has the fields of this boot control; the bits that no field has are free
-pub record StandsFor (bytes : List ℕ) (c : Control) : Type 0 where
+pub record Represents (bytes : List ℕ) (c : Control) : Type 0 where
   pub suffix : field bytes 0 4 ≡ suffix c.current
   pub magic : field bytes 4 4 ≡ to_le_bytes w32 0x42414342
   pub version : slice_index bytes 8 ≡ 1

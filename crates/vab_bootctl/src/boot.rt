@@ -3,7 +3,7 @@
 ghost use Rattle.std.specs.Prelude.{◌≡◌, ◌<◌, ℕ, IfSome, IfNone};
 ghost use Rattle.vab_bootctl.specs.Control.{Fits};
 ghost use Rattle.vab_bootctl.specs.Boot.{is_bootable, IsBootable, IsChosen, chosen_of, booted_of};
-ghost use Rattle.vab_bootctl.specs.Boot.{activated_of, marked_of, tried, active, yielding, proven};
+ghost use Rattle.vab_bootctl.specs.Boot.{activated_of, marked_of, after_try, active, demoted, proven};
 
 use crate::slots::{Control, Info};
 
@@ -20,8 +20,8 @@ impl Info {
         has_images && self.priority > 0 && (self.successful || self.tries > 0)
     }
 
-    fn tried(self) -> Info
-        ensures { result ≡ tried self }
+    fn after_try(self) -> Info
+        ensures { result ≡ after_try self }
     {
         if self.successful {
             return self;
@@ -42,8 +42,8 @@ impl Info {
         }
     }
 
-    fn yielding(self) -> Info
-        ensures { result ≡ yielding self }
+    fn demoted(self) -> Info
+        ensures { result ≡ demoted self }
     {
         if self.priority != HIGHEST {
             return self;
@@ -102,12 +102,12 @@ pub fn booted(control: &Control, has: [bool; 2]) -> Control
         None => *control,
         Some(0) => Control {
             current: 0,
-            a: control.a.tried(),
+            a: control.a.after_try(),
             ..*control
         },
         Some(_) => Control {
             current: 1,
-            b: control.b.tried(),
+            b: control.b.after_try(),
             ..*control
         },
     }
@@ -124,12 +124,12 @@ pub fn activated(control: &Control, slot: usize) -> Control
     if slot == 0 {
         Control {
             a: control.a.active(),
-            b: control.b.yielding(),
+            b: control.b.demoted(),
             ..*control
         }
     } else {
         Control {
-            a: control.a.yielding(),
+            a: control.a.demoted(),
             b: control.b.active(),
             ..*control
         }

@@ -2,7 +2,7 @@
 //! byte 2048 of the misc partition.
 
 ghost use Rattle.std.specs.Prelude.{◌≡◌, ◌<◌, IfOk, Ok, take};
-ghost use Rattle.vab_bootctl.specs.Control.{Fits, FitsInfo, StandsFor, KeepsRest, control_of};
+ghost use Rattle.vab_bootctl.specs.Control.{Fits, FitsInfo, Represents, KeepsRest, control_of};
 ghost use Rattle.vab_bootctl.specs.Control.{info_of, info_byte, slot_of, suffix, with_fields};
 ghost use Rattle.vab_bootctl.specs.declared.slots.Control.{Control};
 
@@ -88,9 +88,9 @@ pub fn decode_control(bytes: &[u8; 512]) -> Result<Control, ControlFault>
     // Which boot control or which fault it is.
     ensures exact { result ≡ control_of bytes.now }
     // What is read stands there.
-    ensures found { IfOk result (λ c. Fits c × StandsFor bytes.now c) }
+    ensures found { IfOk result (λ c. Fits c × Represents bytes.now c) }
     // What stands there is read.
-    ensures only { (c : Control) → Fits c → StandsFor bytes.now c → result ≡ Ok c }
+    ensures only { (c : Control) → Fits c → Represents bytes.now c → result ≡ Ok c }
 {
     control_in(bytes)
 }
@@ -120,7 +120,7 @@ fn write_fields(control: &Control, bytes: &mut [u8; 512])
 /// Writes the boot control into its fields of the sector, and the sum. All other bits stay.
 pub fn encode_control_into(control: &Control, bytes: &mut [u8; 512])
     requires { Fits control.now }
-    ensures stands { StandsFor bytes.new control.now }
+    ensures stands { Represents bytes.new control.now }
     ensures rest { KeepsRest bytes.old bytes.new }
     ensures decoded { control_of bytes.new ≡ Ok control.now }
 {

@@ -12,7 +12,7 @@ use Rattle.vab_make.specs.declared.fault.MakeFault.{MakeFault}
 use Rattle.vab_make.specs.declared.fault.MakeFault.TheVariants as make
 use Rattle.vab_make.specs.Made.{refusal_of}
 use Rattle.vab_make.specs.Making.{Gives, IsOfDisk, IsMade, LeavesMaking}
-use Rattle.vab_session.specs.Items.{IsIn, IsWithin}
+use Rattle.vab_session.specs.Items.{IsIn, CrashesWithin}
 use Rattle.vab_session.proofs.ItemLaws.{telling, within_item}
 use Rattle.vab_session.specs.Answers.{item_still}
 use Rattle.vab_cli.specs.declared.status.Status.{Status}
@@ -22,7 +22,7 @@ use Rattle.vab_input.specs.declared.input.InputFault.{InputFault}
 use Rattle.vab_input.specs.declared.input.InputFault.TheVariants as input
 use Rattle.vab_cli.specs.Telling.{Tells}
 use Rattle.vab_cli.specs.Verbs.{is_silent, make_line}
-use Rattle.vab_cli.specs.Headline.{IsFailed, RunsRefused, RunsMaking, made_situation}
+use Rattle.vab_cli.specs.Headline.{IsFailed, RunsRefused, RunsMaking, made_mounted}
 
 -- ---- faults of making
 
@@ -194,7 +194,7 @@ module _ {D : Type 0} (seen_of : D → Image) (held_by : D → ℕ → List ℕ 
   module _ (set : List SetImage) (limit max : ℕ) (line : List ℕ) where
     -- what a cut of power leaves
     abbrev Makes : D → Outcome → Type 0
-    Makes old o = IsWithin size [] (made_situation set limit max size) (item_still (made_situation set limit max size) line ∷ []) (told_of old) o ⊎ LeavesMaking (told_of old) set limit max size (seen_of old) o
+    Makes old o = CrashesWithin size [] (made_mounted set limit max size) (item_still (made_mounted set limit max size) line ∷ []) (told_of old) o ⊎ LeavesMaking (told_of old) set limit max size (seen_of old) o
 
     making_cuts : (old new : D) → Adds moment outcomes old new (Makes old) → IsSettled (seen_of old) (held_by old) → (o : Outcome) → outcomes new (moment old) o → Makes old o
     making_cuts old new time settled =
@@ -213,19 +213,19 @@ module _ {D : Type 0} (seen_of : D → Image) (held_by : D → ℕ → List ℕ 
       untold = λ memory. ⊎_elim (λ done. cc) (λ port. cc) either;
       rest = λ done. record {
         settled = λ s b held. rest s b ((let crash = tells.crash in crash.no_more) s b held) ∙ ap (λ (x : Image). x s) (sym tells.seen);
-        stands = subst (λ (x : Image). IsIn size (made_situation set limit max size) x) (sym tells.seen) there;
+        stands = subst (λ (x : Image). IsIn size (made_mounted set limit max size) x) (sym tells.seen) there;
       };
       time = on;
       every_cut = λ settled. making_cuts old new (on settled) settled;
     }
       where
-        there : IsIn size (made_situation set limit max size) (seen_of mid)
+        there : IsIn size (made_mounted set limit max size) (seen_of mid)
         there = record { state = made.state; places = made.places }
 
         on : IsSettled (seen_of old) (held_by old) → Adds moment outcomes old new (Makes old)
         on settled = adds_on moment outcomes old mid new (Makes old) (LeavesSaying (told_of mid) line (held_by mid)) (adds_wider moment outcomes old mid (LeavesMaking (told_of old) set limit max size (seen_of old)) (Makes old) (making settled) (λ o leaves. inr leaves)) tells.time
-            (λ o leaves. inl (within_item size [] (made_situation set limit max size) [] [] (item_still (made_situation set limit max size) line) (told_of old) (told_of old) tt (sym (append-nil (told_of old))) o
-            (telling size (told_of old) (told_of mid) (item_still (made_situation set limit max size) line) (seen_of mid) (held_by mid) told there (inl refl) rest o leaves)))
+            (λ o leaves. inl (within_item size [] (made_mounted set limit max size) [] [] (item_still (made_mounted set limit max size) line) (told_of old) (told_of old) tt (sym (append-nil (told_of old))) o
+            (telling size (told_of old) (told_of mid) (item_still (made_mounted set limit max size) line) (seen_of mid) (held_by mid) told there (inl refl) rest o leaves)))
 
     -- the disk or the port failed, or memory was refused, and nothing is told
     pub making_untold : (old new : D) (status : Status) → told_of new ≡ told_of old → (status ≡ NoMemory → seen_of new ≡ seen_of old) → (IsSettled (seen_of old) (held_by old) → Adds moment outcomes old new (LeavesMaking (told_of old) set limit max size (seen_of old)))
@@ -259,7 +259,7 @@ module _ {D : Type 0} (seen_of : D → Image) (held_by : D → ℕ → List ℕ 
     }
       where
         moved : (o : Outcome) → Makes mid o → Makes old o
-        moved o (inl within) = inl (subst (λ (l : List ℕ). IsWithin size [] (made_situation set limit max size) (item_still (made_situation set limit max size) line ∷ []) l o) told within)
+        moved o (inl within) = inl (subst (λ (l : List ℕ). CrashesWithin size [] (made_mounted set limit max size) (item_still (made_mounted set limit max size) line ∷ []) l o) told within)
         moved o (inr leaves) = inr (subst (λ (x : Image). LeavesMaking (told_of old) set limit max size x o) seen (subst (λ (l : List ℕ). LeavesMaking l set limit max size (seen_of mid) o) told leaves))
 
         on : IsSettled (seen_of old) (held_by old) → Adds moment outcomes old new (Makes old)

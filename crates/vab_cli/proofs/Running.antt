@@ -11,7 +11,7 @@ use Rattle.vab_device.specs.declared.fault.StartFault.TheVariants as start
 use Rattle.vab_device.specs.Device.{device, places, IsOfContents}
 use Rattle.vab_recover.specs.Stands.{LeavesSame}
 use Rattle.vab_fbproto.specs.Commands.{Named}
-use Rattle.vab_session.specs.Items.{Situation, IsIn, Item, IsWithin, LeavesItem, IsAtRest, DoesItem}
+use Rattle.vab_session.specs.Items.{Mounted, IsIn, Item, CrashesWithin, LeavesItem, IsAtRest, DoesItem}
 use Rattle.vab_session.specs.Answers.{item_named}
 use Rattle.vab_session.proofs.ItemLaws.{named_first, within_item}
 use Rattle.vab_cli.specs.declared.status.Status.{Status}
@@ -49,7 +49,7 @@ if_ok (Ok x) held p = p
 if_ok (Err e) held p = cc
 
 -- a disk that is a device isn't none
-pub is_one : {R : Type 0} (size : ℕ) (s : Situation) (image : Image) (f : StartFault) → IsIn size s image → device size image ≡ Err f → R
+pub is_one : {R : Type 0} (size : ℕ) (s : Mounted) (image : Image) (f : StartFault) → IsIn size s image → device size image ≡ Err f → R
 is_one size s image f is none = let some = is.state in cc
 
 module _ {D : Type 0} (seen_of : D → Image) (held_by : D → ℕ → List ℕ → Type 0) (told_of left_of : D → List ℕ) (moment : D → ℕ) (outcomes : D → ℕ → Outcome → Type 0) (only_now : (d : D) (o : Outcome) → outcomes d (moment d) o → Leaves (told_of d) (held_by d) o) (size : ℕ) where
@@ -70,11 +70,11 @@ module _ {D : Type 0} (seen_of : D → Image) (held_by : D → ℕ → List ℕ 
   same_cuts old new time settled = all_since moment outcomes old new (LeavesSame (told_of old) size (seen_of old)) (Leaves (told_of old) (held_by old)) time (only_now old) (λ o leaves. leaves_same old o settled leaves)
 
   -- a device that is opened is in the situation that it was in
-  pub opened_in : (old mid : D) (s : Situation) → Opens seen_of held_by told_of left_of moment outcomes size old mid → IsIn size s (seen_of old) → IsIn size s (seen_of mid)
+  pub opened_in : (old mid : D) (s : Mounted) → Opens seen_of held_by told_of left_of moment outcomes size old mid → IsIn size s (seen_of old) → IsIn size s (seen_of mid)
   opened_in old mid s opens is = record { state = opens.device ∙ is.state; places = opens.places ∙ is.places }
 
   -- opening failed
-  pub fails_before : (s : Situation) (old new : D) (status : Status) → IsEarly status → told_of new ≡ told_of old → (IsSettled (seen_of old) (held_by old) → Adds moment outcomes old new (LeavesSame (told_of old) size (seen_of old)))
+  pub fails_before : (s : Mounted) (old new : D) (status : Status) → IsEarly status → told_of new ≡ told_of old → (IsSettled (seen_of old) (held_by old) → Adds moment outcomes old new (LeavesSame (told_of old) size (seen_of old)))
       → FailsBefore seen_of held_by told_of left_of moment outcomes size s old new status
   fails_before s old new status early told time = record {
     early = early;
@@ -125,7 +125,7 @@ module _ {D : Type 0} (seen_of : D → Image) (held_by : D → ℕ → List ℕ 
 
   -- ---- one item
 
-  module _ (s : Situation) (c : Named) (t : List ℕ) (some : (0 < length t) ⊎ ((image : Image) → IsIn size s image → IsIn size (item_named s c t).last image)) where
+  module _ (s : Mounted) (c : Named) (t : List ℕ) (some : (0 < length t) ⊎ ((image : Image) → IsIn size s image → IsIn size (item_named s c t).last image)) where
     -- before anything of it is done
     before_item : (told : List ℕ) (o : Outcome) → o.told ≡ told → IsIn size s o.image → LeavesItem size told (item_named s c t) o
     before_item told o same is = record {
@@ -135,12 +135,12 @@ module _ {D : Type 0} (seen_of : D → Image) (held_by : D → ℕ → List ℕ 
     }
 
     -- what an item leaves is within the run of it alone
-    within_one : (told : List ℕ) (o : Outcome) → LeavesItem size told (item_named s c t) o → IsWithin size [] s (item_named s c t ∷ []) told o
+    within_one : (told : List ℕ) (o : Outcome) → LeavesItem size told (item_named s c t) o → CrashesWithin size [] s (item_named s c t ∷ []) told o
     within_one told o leaves = within_item size [] s [] [] (item_named s c t) told told tt (sym (append-nil told)) o leaves
 
     -- every outcome of an item that is done on a device that is opened
     item_cuts : (old mid new : D) → Opens seen_of held_by told_of left_of moment outcomes size old mid → Adds moment outcomes mid new (LeavesItem size (told_of mid) (item_named s c t)) → IsAtRest seen_of held_by size old s
-        → (o : Outcome) → outcomes new (moment old) o → IsWithin size [] s (item_named s c t ∷ []) (told_of old) o
+        → (o : Outcome) → outcomes new (moment old) o → CrashesWithin size [] s (item_named s c t ∷ []) (told_of old) o
     item_cuts old mid new opens does rest o at =
         let item = item_named s c t in
         let P = LeavesItem size (told_of old) item in
@@ -183,8 +183,8 @@ module _ {D : Type 0} (seen_of : D → Image) (held_by : D → ℕ → List ℕ 
         never same (inr port) (inr refused) = cc
 
 -- what was said of an item with the size of a disk, of the same size
-pub does_sized : {D : Type 0} (seen_of : D → Image) (held_by : D → ℕ → List ℕ → Type 0) (told_of : D → List ℕ) (moment : D → ℕ) (outcomes : D → ℕ → Outcome → Type 0) {A E : Type 0} (size' size : ℕ) (item : Situation → Item) (old new : D) (r : Result A E) → size' ≡ size
-    → ((s : Situation) → IsIn size' s (seen_of old) → DoesItem seen_of held_by told_of moment outcomes size' (item s) old new r)
-    → (s : Situation) → IsIn size s (seen_of old) → DoesItem seen_of held_by told_of moment outcomes size (item s) old new r
+pub does_sized : {D : Type 0} (seen_of : D → Image) (held_by : D → ℕ → List ℕ → Type 0) (told_of : D → List ℕ) (moment : D → ℕ) (outcomes : D → ℕ → Outcome → Type 0) {A E : Type 0} (size' size : ℕ) (item : Mounted → Item) (old new : D) (r : Result A E) → size' ≡ size
+    → ((s : Mounted) → IsIn size' s (seen_of old) → DoesItem seen_of held_by told_of moment outcomes size' (item s) old new r)
+    → (s : Mounted) → IsIn size s (seen_of old) → DoesItem seen_of held_by told_of moment outcomes size (item s) old new r
 does_sized seen_of held_by told_of moment outcomes size' size item old new r sized does =
-    subst (λ (n : ℕ). (s : Situation) → IsIn n s (seen_of old) → DoesItem seen_of held_by told_of moment outcomes n (item s) old new r) sized does
+    subst (λ (n : ℕ). (s : Mounted) → IsIn n s (seen_of old) → DoesItem seen_of held_by told_of moment outcomes n (item s) old new r) sized does

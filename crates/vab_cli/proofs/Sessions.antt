@@ -15,7 +15,7 @@ use Rattle.vab_make.specs.Made.{made_layout, refusal_of}
 use Rattle.vab_make.specs.Making.{Gives, IsOfDisk, IsMade, LeavesMaking}
 use Rattle.vab_session.specs.Session.{End, IsSession}
 use Rattle.vab_session.specs.Session as session
-use Rattle.vab_session.specs.Items.{Situation, IsIn, IsWithin, IsAtRest}
+use Rattle.vab_session.specs.Items.{Mounted, IsIn, CrashesWithin, IsAtRest}
 use Rattle.vab_session.proofs.ItemLaws.{items_chain, within_greeting}
 use Rattle.vab_session.specs.Answers.{items_of, output_of}
 use Rattle.vab_session.specs.Served.{Answer, EndedBy, PortHeld, Serves}
@@ -26,7 +26,7 @@ use Rattle.vab_cli.specs.declared.status.Status.{Status}
 use Rattle.vab_cli.specs.declared.status.Status.TheVariants.{Done, Usage, Malformed, Refused, NotADevice, Disk, Port, NoMemory}
 use Rattle.vab_cli.specs.Codes.{session_status, make_status}
 use Rattle.vab_cli.specs.Opening.{Opens}
-use Rattle.vab_cli.specs.Headline.{SaysEnd, Held, IsEarly, IsEnd, RunsSession, FailsMaking, made_situation}
+use Rattle.vab_cli.specs.Headline.{SaysEnd, Held, IsEarly, IsEnd, RunsSession, FailsMaking, made_mounted}
 
 says : (r : Answer) (end : End) → EndedBy r end → SaysEnd (session_status r) end
 says (Ok (ended.Closed, d)) end is = subst (SaysEnd Done) (sym is) tt
@@ -88,11 +88,11 @@ small_unwritten (make.Disk fault) need have gives disk = cc
 
 module _ {D : Type 0} (seen_of : D → Image) (held_by : D → ℕ → List ℕ → Type 0) (told_of left_of : D → List ℕ) (moment : D → ℕ) (outcomes : D → ℕ → Outcome → Type 0) (only_now : (d : D) (o : Outcome) → outcomes d (moment d) o → Leaves (told_of d) (held_by d) o) (size : ℕ) where
   -- a cut of power within a session
-  abbrev Within : Situation → List (List ℕ) → List ℕ → Outcome → Type 0
-  Within first packets told = IsWithin size (codes "FB01") first (items_of first packets) told
+  abbrev Within : Mounted → List (List ℕ) → List ℕ → Outcome → Type 0
+  Within first packets told = CrashesWithin size (codes "FB01") first (items_of first packets) told
 
   -- before a session anything of it is told
-  before_all : (first : Situation) (packets : List (List ℕ)) (told : List ℕ) (o : Outcome) → o.told ≡ told → IsIn size first o.image → Within first packets told o
+  before_all : (first : Mounted) (packets : List (List ℕ)) (told : List ℕ) (o : Outcome) → o.told ≡ told → IsIn size first o.image → Within first packets told o
   before_all first packets told o same is = within_greeting size (codes "FB01") first (items_of first packets) told o 0 (items_chain first packets) (omega arith) (same ∙ sym (empty told)) is
     where
       empty : (l : List ℕ) → l ++ [] ≡ l
@@ -100,7 +100,7 @@ module _ {D : Type 0} (seen_of : D → Image) (held_by : D → ℕ → List ℕ 
       empty (x ∷ l) = ap (λ (k : List ℕ). x ∷ k) (empty l)
 
   -- a session over the device of the disk
-  pub opened_runs : (first : Situation) (old mid new : D) (r : Answer) → Opens seen_of held_by told_of left_of moment outcomes size old mid → IsIn size first (seen_of mid)
+  pub opened_runs : (first : Mounted) (old mid new : D) (r : Answer) → Opens seen_of held_by told_of left_of moment outcomes size old mid → IsIn size first (seen_of mid)
       → Serves seen_of held_by told_of left_of moment outcomes size (2 ^ 44) first mid new r → RunsSession seen_of held_by told_of left_of moment outcomes size (IsAtRest seen_of held_by size old first) (λ o. ⊥) first old new (session_status r)
   opened_runs first old mid new r opens here serves = record {
     packets = serves.packets;
@@ -165,8 +165,8 @@ module _ {D : Type 0} (seen_of : D → Image) (held_by : D → ℕ → List ℕ 
     pub made_runs : (old mid now new : D) (r : Answer) → told_of mid ≡ told_of old → left_of mid ≡ left_of old → IsMade set limit max size (seen_of mid) → IsSettled (seen_of mid) (held_by mid)
         → (IsSettled (seen_of old) (held_by old) → Adds moment outcomes old mid (LeavesMaking (told_of old) set limit max size (seen_of old)))
         → Opens seen_of held_by told_of left_of moment outcomes size mid now
-        → Serves seen_of held_by told_of left_of moment outcomes size (2 ^ 44) (made_situation set limit max size) now new r
-        → RunsSession seen_of held_by told_of left_of moment outcomes size (IsSettled (seen_of old) (held_by old)) (LeavesMaking (told_of old) set limit max size (seen_of old)) (made_situation set limit max size) old new (session_status r)
+        → Serves seen_of held_by told_of left_of moment outcomes size (2 ^ 44) (made_mounted set limit max size) now new r
+        → RunsSession seen_of held_by told_of left_of moment outcomes size (IsSettled (seen_of old) (held_by old)) (LeavesMaking (told_of old) set limit max size (seen_of old)) (made_mounted set limit max size) old new (session_status r)
     made_runs old mid now new r told left made rest making opens serves = record {
       packets = serves.packets;
       end = serves.end;
@@ -182,21 +182,21 @@ module _ {D : Type 0} (seen_of : D → Image) (held_by : D → ℕ → List ℕ 
           ((serves.time at_rest).adds (moment old) o (prepared old mid now told made (making settled) (opens.time rest)).later at);
     }
       where
-        first : Situation
-        first = made_situation set limit max size
+        first : Mounted
+        first = made_mounted set limit max size
 
         same : told_of now ≡ told_of old
         same = opens.told ∙ told
 
-        at_rest : IsAtRest seen_of held_by size now (made_situation set limit max size)
+        at_rest : IsAtRest seen_of held_by size now (made_mounted set limit max size)
         at_rest = record { settled = opens.settled rest; stands = record { state = opens.device ∙ made.state; places = opens.places ∙ made.places } }
 
 -- what was said of a session with the size of a disk, of the same size
 pub sized_serves : {D : Type 0} (seen_of : D → Image) (held_by : D → ℕ → List ℕ → Type 0) (told_of left_of : D → List ℕ) (moment : D → ℕ) (outcomes : D → ℕ → Outcome → Type 0) (size' size most : ℕ) (old new : D) (r : Answer) → size' ≡ size
-    → ((s : Situation) → IsIn size' s (seen_of old) → Serves seen_of held_by told_of left_of moment outcomes size' most s old new r)
-    → (s : Situation) → IsIn size s (seen_of old) → Serves seen_of held_by told_of left_of moment outcomes size most s old new r
+    → ((s : Mounted) → IsIn size' s (seen_of old) → Serves seen_of held_by told_of left_of moment outcomes size' most s old new r)
+    → (s : Mounted) → IsIn size s (seen_of old) → Serves seen_of held_by told_of left_of moment outcomes size most s old new r
 sized_serves seen_of held_by told_of left_of moment outcomes size' size most old new r sized serves =
-    subst (λ (n : ℕ). (s : Situation) → IsIn n s (seen_of old) → Serves seen_of held_by told_of left_of moment outcomes n most s old new r) sized serves
+    subst (λ (n : ℕ). (s : Mounted) → IsIn n s (seen_of old) → Serves seen_of held_by told_of left_of moment outcomes n most s old new r) sized serves
 
 -- opening a device, by what it says of the size that the disk has
 pub opens_made : {D : Type 0} (seen_of : D → Image) (held_by : D → ℕ → List ℕ → Type 0) (told_of left_of : D → List ℕ) (moment : D → ℕ) (outcomes : D → ℕ → Outcome → Type 0) (size' size : ℕ) (old new : D) (state : State) → size' ≡ size → told_of new ≡ told_of old → left_of new ≡ left_of old
@@ -232,7 +232,7 @@ ends_done Port end says is disk port = absurd (port refl)
 
 module _ {D : Type 0} (seen_of : D → Image) (held_by : D → ℕ → List ℕ → Type 0) (told_of left_of : D → List ℕ) (moment : D → ℕ) (outcomes : D → ℕ → Outcome → Type 0) (size : ℕ) where
   -- an input by its grammar is answered whole
-  pub completed : (Premise : Type 0) (Else : Outcome → Type 0) (Fails : Type 0) (first : Situation) (old new : D) (status : Status)
+  pub completed : (Premise : Type 0) (Else : Outcome → Type 0) (Fails : Type 0) (first : Mounted) (old new : D) (status : Status)
       → RunsSession seen_of held_by told_of left_of moment outcomes size Premise Else first old new status ⊎ Fails → (Fails → IsEarly status)
       → (status ≡ Disk → ⊥) → (status ≡ Port → ⊥) → (packets : List (List ℕ)) (end : End) → IsSession (2 ^ 44) (left_of old) packets end → IsEnd end
       → ((status ≡ Done) × (told_of new ≡ told_of old ++ output_of first packets)) ⊎ (status ≡ NoMemory)

@@ -7,7 +7,7 @@ use Rattle.vab_make.specs.Made.{made_state, made_places}
 use Rattle.vab_make.specs.Making.{LeavesMaking}
 use Rattle.vab_session.specs.Session.{End, IsSession}
 use Rattle.vab_session.specs.Session as session
-use Rattle.vab_session.specs.Items.{Situation, IsIn, Item, situation_after, IsWithin, IsAtRest}
+use Rattle.vab_session.specs.Items.{Mounted, IsIn, Item, mounted_after, CrashesWithin, IsAtRest}
 use Rattle.vab_session.specs.Answers.{item_still, items_of, output_of}
 use Rattle.vab_cli.specs.declared.status.Status.{Status}
 use Rattle.vab_cli.specs.declared.status.Status.TheVariants.{Done, Usage, Malformed, Refused, NotADevice, Disk, Port, NoMemory}
@@ -59,11 +59,11 @@ pub record NoFault (before now : Faults) : Type 0 where
   pub sink : Rose before.sink now.sink → ⊥
 
 -- the situation of a made device
-abbrev pub made_situation : List SetImage → ℕ → ℕ → ℕ → Situation
-made_situation set limit max size = record { state = made_state set limit size; places = made_places set limit max size }
+abbrev pub made_mounted : List SetImage → ℕ → ℕ → ℕ → Mounted
+made_mounted set limit max size = record { state = made_state set limit size; places = made_places set limit max size }
 
 -- with nothing more told, a device in this situation
-pub record LeavesFirst (told : List ℕ) (size : ℕ) (first : Situation) (o : Outcome) : Type 0 where
+pub record LeavesFirst (told : List ℕ) (size : ℕ) (first : Mounted) (o : Outcome) : Type 0 where
   pub told_so_far : o.told ≡ told
   pub stands : IsIn size first o.image
 
@@ -72,7 +72,7 @@ module _ {D : Type 0} (seen_of : D → Image) (held_by : D → ℕ → List ℕ 
   -- the disk or the port failed. However power is cut, a front is told, and the disk is in a step of the first
   -- item that doesn't stand whole, after all the acknowledged ones. `Else` are the outcomes from before the session, and
   -- `Premise` is what the clause on cuts of power asks of the disk at the start.
-  pub record RunsSession (Premise : Type 0) (Else : Outcome → Type 0) (first : Situation) (old new : D) (status : Status) : Type 0 where
+  pub record RunsSession (Premise : Type 0) (Else : Outcome → Type 0) (first : Mounted) (old new : D) (status : Status) : Type 0 where
     pub packets : List (List ℕ)
     pub end : End
     pub session : IsSession (2 ^ 44) (left_of old) packets end
@@ -80,20 +80,20 @@ module _ {D : Type 0} (seen_of : D → Image) (held_by : D → ℕ → List ℕ 
     pub status_is : SaysEnd status end
     pub front : (n : ℕ) × (told_of new ≡ told_of old ++ take n (output_of first packets))
     pub whole : Held status → told_of new ≡ told_of old ++ output_of first packets
-    pub rest : Premise → Held status → IsAtRest seen_of held_by size new (situation_after first (items_of first packets))
-    pub every_cut : Premise → (o : Outcome) → outcomes new (moment old) o → IsWithin size (codes "FB01") first (items_of first packets) (told_of old) o ⊎ Else o
+    pub rest : Premise → Held status → IsAtRest seen_of held_by size new (mounted_after first (items_of first packets))
+    pub every_cut : Premise → (o : Outcome) → outcomes new (moment old) o → CrashesWithin size (codes "FB01") first (items_of first packets) (told_of old) o ⊎ Else o
 
   -- One item alone: what was told is a front of its line or bytes, and all of it where the run ends as the item does. However power is
   -- cut, the disk is in one of its steps, and where all is told, in the last.
-  pub record RunsItem (first : Situation) (item : Item) (ends : Status) (old new : D) (status : Status) : Type 0 where
+  pub record RunsItem (first : Mounted) (item : Item) (ends : Status) (old new : D) (status : Status) : Type 0 where
     pub status_is : (status ≡ ends) ⊎ IsFailed status
     pub front : (n : ℕ) × (told_of new ≡ told_of old ++ take n item.reply)
     pub whole : status ≡ ends → told_of new ≡ told_of old ++ item.reply
     pub rest : IsAtRest seen_of held_by size old first → status ≡ ends → IsAtRest seen_of held_by size new item.last
-    pub every_cut : IsAtRest seen_of held_by size old first → (o : Outcome) → outcomes new (moment old) o → IsWithin size [] first (item ∷ []) (told_of old) o
+    pub every_cut : IsAtRest seen_of held_by size old first → (o : Outcome) → outcomes new (moment old) o → CrashesWithin size [] first (item ∷ []) (told_of old) o
 
   -- The disk failed, or memory was refused, while the device was opened: nothing is told, and every cut of power leaves the device that it was.
-  pub record FailsBefore (first : Situation) (old new : D) (status : Status) : Type 0 where
+  pub record FailsBefore (first : Mounted) (old new : D) (status : Status) : Type 0 where
     pub early : IsEarly status
     pub told : told_of new ≡ told_of old
     pub every_cut : IsAtRest seen_of held_by size old first → (o : Outcome) → outcomes new (moment old) o → LeavesFirst (told_of old) size first o
@@ -120,7 +120,7 @@ module _ {D : Type 0} (seen_of : D → Image) (held_by : D → ℕ → List ℕ 
 
   -- the made device, with a front of the line told; or with nothing told the disk as it was, or no device, or the made one
   abbrev pub MakesWithin : List SetImage → ℕ → ℕ → List ℕ → List ℕ → Image → Outcome → Type 0
-  MakesWithin set limit max line told old o = IsWithin size [] (made_situation set limit max size) (item_still (made_situation set limit max size) line ∷ []) told o ⊎ LeavesMaking told set limit max size old o
+  MakesWithin set limit max line told old o = CrashesWithin size [] (made_mounted set limit max size) (item_still (made_mounted set limit max size) line ∷ []) told o ⊎ LeavesMaking told set limit max size old o
 
   -- A device is made of a set, and this line is told. Until its last gate is settled, every cut of power leaves the disk as it was, or no device, or the made one; from then on the
   -- made one. Where memory is refused nothing is told or written.
@@ -129,7 +129,7 @@ module _ {D : Type 0} (seen_of : D → Image) (held_by : D → ℕ → List ℕ 
     pub front : (n : ℕ) × (told_of new ≡ told_of old ++ take n told)
     pub whole : status ≡ Done → told_of new ≡ told_of old ++ told
     pub untold : status ≡ NoMemory → (told_of new ≡ told_of old) × (seen_of new ≡ seen_of old)
-    pub rest : status ≡ Done → IsAtRest seen_of held_by size new (made_situation set limit max size)
+    pub rest : status ≡ Done → IsAtRest seen_of held_by size new (made_mounted set limit max size)
     pub time : IsSettled (seen_of old) (held_by old) → Adds moment outcomes old new (MakesWithin set limit max told (told_of old) (seen_of old))
     pub every_cut : IsSettled (seen_of old) (held_by old) → (o : Outcome) → outcomes new (moment old) o → MakesWithin set limit max told (told_of old) (seen_of old) o
 

@@ -17,7 +17,7 @@ use Rattle.vab_words.specs.Verbs.{Meaning}
 use Rattle.vab_words.specs.Verbs as words
 use Rattle.vab_fbproto.specs.Commands.{Named, SetActive, Boot, Mark, Print, Digest, reply_named}
 use Rattle.vab_fbproto.specs.Texts.{slot_letter, refusal_text}
-use Rattle.vab_session.specs.Items.{Situation, Item}
+use Rattle.vab_session.specs.Items.{Mounted, Item}
 use Rattle.vab_session.specs.Answers.{item_named}
 use Rattle.vab_cli.specs.declared.status.Status.{Status}
 use Rattle.vab_cli.specs.Codes.{reply_status}
@@ -76,7 +76,7 @@ told_of s (Digest name) = reply_line (Digest name) s.current (reply_named s (Dig
 -- ---- items
 
 -- the one item of a verb on a device
-abbrev pub verb_item : Situation → Named → Item
+abbrev pub verb_item : Mounted → Named → Item
 verb_item s c = item_named s c (told_of s.state c)
 
 -- and how it ends

@@ -3,9 +3,9 @@ ghost use Rattle.std.specs.Prelude.{◌≡◌, ◌≢◌, ◌⊎◌, IfOk, IfErr
 ghost use Rattle.vab_disk.specs.Disk.{NoFewer, Rose};
 ghost use Rattle.vab_device.specs.declared.fault.StartFault.{StartFault as Fault};
 ghost use Rattle.vab_device.specs.Device.{device};
-ghost use Rattle.vab_recover.specs.Stands.{StandsFor, IsDevice};
+ghost use Rattle.vab_recover.specs.Stands.{Represents, IsDevice};
 ghost use Rattle.vab_fbproto.specs.Commands.{named_of, reply_named};
-ghost use Rattle.vab_session.specs.Items.{Situation, IsIn, DoesItem};
+ghost use Rattle.vab_session.specs.Items.{Mounted, IsIn, DoesItem};
 ghost use Rattle.vab_session.specs.Answers.{item_named};
 ghost use Rattle.vab_cli.specs.Verbs.{none_line, reply_line as line_of, verb_status};
 ghost use Rattle.vab_cli.specs.Headline.{RunsItem, FailsBefore, RunsNone, IsFailed};
@@ -24,10 +24,10 @@ use vab_session::say_all;
 // Carries out a command, and tells its line.
 fn do_command<P: Port>(port: &mut P, device: Device, command: &Command) -> Result<Status, Status>
     requires kept { IsDevice device (P.size port.old) }
-    requires stands { P.is_modelled → StandsFor device (P.size port.old) (P.seen port.old) }
-    ensures does { P.is_modelled → (s : Situation) → IsIn (P.size port.old) s (P.seen port.old)
+    requires stands { P.is_modelled → Represents device (P.size port.old) (P.seen port.old) }
+    ensures does { P.is_modelled → (s : Mounted) → IsIn (P.size port.old) s (P.seen port.old)
         → DoesItem P.seen P.may_leave P.told P.moment P.outcomes (P.size port.old) (item_named s (named_of command.now) (line_of (named_of command.now) s.state.current (reply_named s.state (named_of command.now)))) port.old port.new result }
-    ensures status { P.is_modelled → (s : Situation) → IsIn (P.size port.old) s (P.seen port.old) → IfOk result (λ status. status ≡ verb_status s.state (named_of command.now)) }
+    ensures status { P.is_modelled → (s : Mounted) → IsIn (P.size port.old) s (P.seen port.old) → IfOk result (λ status. status ≡ verb_status s.state (named_of command.now)) }
     ensures done { IfOk result (λ status. (status ≡ Status.Done) ⊎ (status ≡ Status.Refused)) }
     ensures failed { IfErr result IsFailed }
     ensures counts { NoFewer (P.faults port.old) (P.faults port.new) }
@@ -49,7 +49,7 @@ fn do_command<P: Port>(port: &mut P, device: Device, command: &Command) -> Resul
 
 /// Opens the device, carries out a command, and tells its line.
 pub(crate) fn carry_out<P: Port>(alloc: Global, port: &mut P, command: &Command) -> Status
-    ensures runs { P.is_modelled → (s : Situation) → IsIn (P.size port.old) s (P.seen port.old)
+    ensures runs { P.is_modelled → (s : Mounted) → IsIn (P.size port.old) s (P.seen port.old)
         → RunsItem P.seen P.may_leave P.told P.input_left P.moment P.outcomes (P.size port.old) s (item_named s (named_of command.now) (line_of (named_of command.now) s.state.current (reply_named s.state (named_of command.now)))) (verb_status s.state (named_of command.now)) port.old port.new result
         ⊎ FailsBefore P.seen P.may_leave P.told P.input_left P.moment P.outcomes (P.size port.old) s port.old port.new result }
     ensures none { P.is_modelled → (fault : Fault) → device (P.size port.old) (P.seen port.old) ≡ Err fault → RunsNone P.seen P.may_leave P.told P.input_left P.moment P.outcomes (P.size port.old) none_line port.old port.new result }

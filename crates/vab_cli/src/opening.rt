@@ -3,8 +3,8 @@ ghost use Rattle.std.specs.Prelude.{◌≡◌, ◌≢◌, IfOk, IfErr, OnOk, IsE
 ghost use Rattle.vab_disk.specs.Disk.{NoFewer, Rose};
 ghost use Rattle.vab_device.specs.declared.fault.StartFault.{StartFault as Fault};
 ghost use Rattle.vab_device.specs.Device.{device};
-ghost use Rattle.vab_recover.specs.Stands.{StandsFor, IsDevice};
-ghost use Rattle.vab_session.specs.Items.{Situation, IsIn};
+ghost use Rattle.vab_recover.specs.Stands.{Represents, IsDevice};
+ghost use Rattle.vab_session.specs.Items.{Mounted, IsIn};
 ghost use Rattle.vab_cli.specs.Opening.{Opens};
 ghost use Rattle.vab_cli.specs.Headline.{FailsBefore, RunsNone};
 
@@ -17,9 +17,9 @@ use vab_session::say_all;
 /// Opens the device of the disk. Where there is none, it tells the line; the error is the status to end with.
 pub(crate) fn open<P: Port>(alloc: Global, port: &mut P, line: &[u8]) -> Result<Device, Status>
     ensures kept { IfOk result (λ d. IsDevice d (P.size port.old)) }
-    ensures stands { P.is_modelled → IfOk result (λ d. StandsFor d (P.size port.old) (P.seen port.new)) }
+    ensures stands { P.is_modelled → IfOk result (λ d. Represents d (P.size port.old) (P.seen port.new)) }
     ensures opens { P.is_modelled → OnOk result (Opens P.seen P.may_leave P.told P.input_left P.moment P.outcomes (P.size port.old) port.old port.new) }
-    ensures early { P.is_modelled → (s : Situation) → IsIn (P.size port.old) s (P.seen port.old) → IfErr result (λ status. FailsBefore P.seen P.may_leave P.told P.input_left P.moment P.outcomes (P.size port.old) s port.old port.new status) }
+    ensures early { P.is_modelled → (s : Mounted) → IsIn (P.size port.old) s (P.seen port.old) → IfErr result (λ status. FailsBefore P.seen P.may_leave P.told P.input_left P.moment P.outcomes (P.size port.old) s port.old port.new status) }
     ensures none { P.is_modelled → (fault : Fault) → device (P.size port.old) (P.seen port.old) ≡ Err fault → IfErr result (λ status. RunsNone P.seen P.may_leave P.told P.input_left P.moment P.outcomes (P.size port.old) line.now port.old port.new status) }
     ensures found { P.is_modelled → (fault : Fault) → device (P.size port.old) (P.seen port.old) ≡ Err fault → OnOk result ⊥ }
     ensures size { P.size port.new ≡ P.size port.old }

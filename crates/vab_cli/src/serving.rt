@@ -4,8 +4,8 @@ ghost use Rattle.vab_disk.specs.Disk.{IsSettled, NoFewer, Rose};
 ghost use Rattle.vab_device.specs.declared.fault.StartFault.{StartFault as Fault};
 ghost use Rattle.vab_device.specs.Device.{device};
 ghost use Rattle.vab_make.specs.Making.{LeavesMaking};
-ghost use Rattle.vab_session.specs.Items.{Situation, IsIn, IsAtRest};
-ghost use Rattle.vab_cli.specs.Headline.{RunsSession, FailsBefore, RunsNone, FailsMaking, made_situation};
+ghost use Rattle.vab_session.specs.Items.{Mounted, IsIn, IsAtRest};
+ghost use Rattle.vab_cli.specs.Headline.{RunsSession, FailsBefore, RunsNone, FailsMaking, made_mounted};
 
 use crate::Status;
 use crate::opening::open;
@@ -19,7 +19,7 @@ use vab_session::serve;
 
 /// A session over the device of the disk.
 pub(crate) fn open_and_serve<P: Port>(alloc: Global, port: &mut P) -> Status
-    ensures runs { P.is_modelled → (s : Situation) → IsIn (P.size port.old) s (P.seen port.old)
+    ensures runs { P.is_modelled → (s : Mounted) → IsIn (P.size port.old) s (P.seen port.old)
         → RunsSession P.seen P.may_leave P.told P.input_left P.moment P.outcomes (P.size port.old) (IsAtRest P.seen P.may_leave (P.size port.old) port.old s) (λ o. ⊥) s port.old port.new result
         ⊎ FailsBefore P.seen P.may_leave P.told P.input_left P.moment P.outcomes (P.size port.old) s port.old port.new result }
     ensures none { P.is_modelled → (fault : Fault) → device (P.size port.old) (P.seen port.old) ≡ Err fault → RunsNone P.seen P.may_leave P.told P.input_left P.moment P.outcomes (P.size port.old) [] port.old port.new result }
@@ -41,7 +41,7 @@ const FRESH_METADATA_MAX: u32 = 65536;
 /// A session over the device of the empty set, which is made first.
 pub(crate) fn make_and_serve<P: Port>(alloc: Global, port: &mut P) -> Status
     ensures runs { P.is_modelled → 6152 ≤ P.size port.old
-        → RunsSession P.seen P.may_leave P.told P.input_left P.moment P.outcomes (P.size port.old) (IsSettled (P.seen port.old) (P.may_leave port.old)) (LeavesMaking (P.told port.old) [] 0 65536 (P.size port.old) (P.seen port.old)) (made_situation [] 0 65536 (P.size port.old)) port.old port.new result
+        → RunsSession P.seen P.may_leave P.told P.input_left P.moment P.outcomes (P.size port.old) (IsSettled (P.seen port.old) (P.may_leave port.old)) (LeavesMaking (P.told port.old) [] 0 65536 (P.size port.old) (P.seen port.old)) (made_mounted [] 0 65536 (P.size port.old)) port.old port.new result
         ⊎ FailsMaking P.seen P.may_leave P.told P.input_left P.moment P.outcomes (P.size port.old) [] 0 65536 port.old port.new result }
     ensures small { P.size port.old < 6152 → (result ≡ Status.NotADevice) ⊎ (result ≡ Status.NoMemory) }
     ensures untold { P.is_modelled → P.size port.old < 6152 → (P.told port.new ≡ P.told port.old) × (P.seen port.new ≡ P.seen port.old) }

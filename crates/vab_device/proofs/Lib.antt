@@ -1,1 +1,5 @@
-pub mod DeviceLaws
+pub mod CheckLaws
+pub mod ControlLaws
+pub mod ReadingLaws
+pub mod RepairLaws
+pub mod SameLaws

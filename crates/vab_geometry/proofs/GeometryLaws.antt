@@ -13,7 +13,7 @@ use Rattle.vab_bytes.specs.NumberLaws.{le_at_spelled_32, le_at_is_32, field-fiel
 use Rattle.vab_geometry.specs.declared.geometry.Geometry.{Geometry}
 use Rattle.vab_geometry.specs.declared.geometry.GeometryFault.{GeometryFault}
 use Rattle.vab_geometry.specs.declared.geometry.GeometryFault.TheVariants.{BadMagic, BadSize, BadSum, BadField}
-use Rattle.vab_geometry.specs.Geometry.{IsGeometry, front_bytes, back_bytes, sum_around, geometry_bytes, StandsFor, geometry_sector}
+use Rattle.vab_geometry.specs.Geometry.{IsGeometry, front_bytes, back_bytes, sum_around, geometry_bytes, Represents, geometry_sector}
 use Rattle.vab_geometry.specs.Reading.{◌>>=◌, unless, keeps_rules, fields_at, geometry_of}
 
 length-digest : (h : List ℕ) (n : ℕ) → length (digest_bytes h n) ≡ n * 4
@@ -74,7 +74,7 @@ unless_pass : {A : Type 0} (b : Bool) (f : GeometryFault) (r : Result A Geometry
 unless_pass true f r is = refl
 unless_pass false f r is = absurd cc
 
-pub found_is : (bytes : List ℕ) (g : Geometry) → length bytes ≡ 512 → IsBytes bytes → geometry_of bytes ≡ Ok g → IsGeometry g × StandsFor bytes g
+pub found_is : (bytes : List ℕ) (g : Geometry) → length bytes ≡ 512 → IsBytes bytes → geometry_of bytes ≡ Ok g → IsGeometry g × Represents bytes g
 unfolding geometry_of
 found_is bytes g long small e =
     let a = unless_ok (eqb (le_at w32 bytes 0) 0x616C4467) BadMagic _ g e in
@@ -90,10 +90,10 @@ found_is bytes g long small e =
     let front : field bytes 0 8 ≡ front_bytes = field_split bytes 0 4 4 ∙ (λ i. magic i ++ size i) in
     let back : field bytes 40 12 ≡ back_bytes (fields_at bytes) = field_split bytes 40 4 8 ∙ (λ i. max i ++ (field_split bytes 44 4 4 ∙ (λ j. slots j ++ block j)) i) in
     let sum : field bytes 8 32 ≡ sum_around front_bytes (back_bytes (fields_at bytes)) = (bytes_eq-Decides _ _).0 c.0 ∙ (λ i. sum_around (front i) (back i)) in
-    let whole : StandsFor bytes (fields_at bytes) = field_split bytes 0 8 44 ∙ (λ i. front i ++ (field_split bytes 8 32 12 ∙ (λ j. sum j ++ back j)) i) in
-    subst (λ (g : Geometry). IsGeometry g × StandsFor bytes g) (ok_is (fields_at bytes) g f.1) (rules_kept (fields_at bytes) d.0, whole)
+    let whole : Represents bytes (fields_at bytes) = field_split bytes 0 8 44 ∙ (λ i. front i ++ (field_split bytes 8 32 12 ∙ (λ j. sum j ++ back j)) i) in
+    subst (λ (g : Geometry). IsGeometry g × Represents bytes g) (ok_is (fields_at bytes) g f.1) (rules_kept (fields_at bytes) d.0, whole)
 
-pub only_is : (bytes : List ℕ) (g : Geometry) → IsGeometry g → StandsFor bytes g → geometry_of bytes ≡ Ok g
+pub only_is : (bytes : List ℕ) (g : Geometry) → IsGeometry g → Represents bytes g → geometry_of bytes ≡ Ok g
 unfolding geometry_of
 only_is bytes g rules stands =
     let sum_bytes : List ℕ = sum_around front_bytes (back_bytes g) in

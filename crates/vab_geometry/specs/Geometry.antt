@@ -29,8 +29,8 @@ abbrev pub geometry_bytes : Geometry → List ℕ
 geometry_bytes g = front_bytes ++ (sum_around front_bytes (back_bytes g) ++ back_bytes g)
 
 -- a sector's bytes stand for a geometry; the rest of the sector isn't read
-abbrev pub StandsFor : List ℕ → Geometry → Type 0
-StandsFor bytes g = take 52 bytes ≡ geometry_bytes g
+abbrev pub Represents : List ℕ → Geometry → Type 0
+Represents bytes g = take 52 bytes ≡ geometry_bytes g
 
 -- the sector that is written: the rest is zeros
 unfoldable pub geometry_sector : Geometry → List ℕ

@@ -1,7 +1,7 @@
 //! Reading a geometry.
 
 ghost use Rattle.std.specs.Prelude.{◌≡◌, IfOk, Ok};
-ghost use Rattle.vab_geometry.specs.Geometry.{IsGeometry, StandsFor};
+ghost use Rattle.vab_geometry.specs.Geometry.{IsGeometry, Represents};
 ghost use Rattle.vab_geometry.specs.Reading.{geometry_of};
 
 use crate::geometry::{BLOCK_SIZE, Geometry, GeometryFault, MAGIC, STRUCT_SIZE, sum_of};
@@ -39,9 +39,9 @@ pub fn decode_geometry(bytes: &[u8; 512]) -> Result<Geometry, GeometryFault>
     // Which fault it is: the first in the order of `GeometryFault`.
     ensures exact { result ≡ geometry_of bytes.now }
     // What is read is spelled so, and keeps the rules.
-    ensures found { IfOk result (λ g. IsGeometry g × StandsFor bytes.now g) }
+    ensures found { IfOk result (λ g. IsGeometry g × Represents bytes.now g) }
     // What is spelled so and keeps the rules is read.
-    ensures only { (g : Geometry) → IsGeometry g → StandsFor bytes.now g → result ≡ Ok g }
+    ensures only { (g : Geometry) → IsGeometry g → Represents bytes.now g → result ≡ Ok g }
 {
     read(bytes)
 }

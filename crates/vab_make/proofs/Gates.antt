@@ -1,6 +1,6 @@
 -- All parts of the device, kept and marked, and the outcomes of the two gates.
 use Rattle.std.proofs.Common.{◌≡◌, ◌≢◌, inl, inr, ⊎_elim, ℕ, ◌+◌, ◌*◌, ◌/◌, ◌<◌, ◌≤◌, ◌^◌, List, length, get_or, take, Result, Ok, refl, sym, ap, subst, ◌∙◌, arith}
-use Rattle.vab_disk.specs.Disk.{Image, Outcome, LeavesEither, set_sector}
+use Rattle.vab_disk.specs.Disk.{Image, Outcome, LeavesWith, LeavesEither, IsSettled, set_sector}
 use Rattle.vab_disk.specs.Written.{set_here, set_there}
 use Rattle.vab_space.specs.Space.{blocks_of}
 use Rattle.vab_bootctl.specs.Control.{control_of}
@@ -15,10 +15,13 @@ use Rattle.vab_make.specs.Made.{set_blocks, made_geometry}
 use Rattle.vab_make.specs.Making.{IsMade, LeavesMaking}
 use Rattle.vab_make.specs.Prepared.{IsMost, IsPrepared}
 use Rattle.vab_make.specs.Steps.{HoldsImages, SameBelow, HasControl, HasPlaces, HasAll}
-use Rattle.vab_make.specs.Frame.{zeros, LeavesBlank}
+use Rattle.vab_copies.specs.Copies.{zeros}
 use Rattle.vab_make.proofs.BlockLaws.{sectors_agree, blocks_kept}
 use Rattle.vab_make.proofs.StateLaws.{all_made}
-use Rattle.vab_make.proofs.FrameLaws.{blank_none}
+use Rattle.vab_make.proofs.BlankLaws.{blank_none}
+use Rattle.vab_make.proofs.TouchLaws.{never_mark}
+use Rattle.vab_make.specs.Touched.{IsOfContents}
+use Rattle.vab_disk.specs.Calls.{InSectors}
 
 -- ---- what later writes leave
 
@@ -69,14 +72,36 @@ marked set limit max size text mark image small is has idle_one =
     (all_kept set max text image new is.most (λ s other. set_there image 2048 mark s other) has)
     (ap mark_of (set_here image 2048 mark 2048 refl) ∙ idle_one)
 
+-- the places, where the mark is written
+pub places_marked : (max : ℕ) (text mark : List ℕ) (old new : Image)
+    → IsMost max
+    → new ≡ set_sector old 2048 mark
+    → HasPlaces max text old
+    → HasPlaces max text new
+places_marked max text mark old new most is has =
+    places_kept max text old new most
+    (λ s first last.
+    ap (λ (i : Image). i s) is ∙ set_there old 2048 mark s (λ e. omega (arith, e, first)))
+    has
+
 -- ---- outcomes
 
 module _ (told : List ℕ) (set : List SetImage) (limit max size : ℕ) (old : Image) (enough : 6152 ≤ size) where
-  -- a disk whose mark is zeros
-  pub blank_making : (told' : List ℕ) → told' ≡ told → (o : Outcome) → LeavesBlank told' o → LeavesMaking told set limit max size old o
-  blank_making told' same o leaves = record {
+  -- writes between the gates, while the mark is zeros
+  pub blank_making : (told' : List ℕ) (seen : Image) (may_leave : ℕ → List ℕ → Type 0)
+      → told' ≡ told
+      → IsSettled seen may_leave
+      → seen 2048 ≡ zeros
+      → (o : Outcome)
+      → LeavesWith (InSectors (IsOfContents set max)) told' may_leave o
+      → LeavesMaking told set limit max size old o
+  blank_making told' seen may_leave same settled blank o leaves = record {
     told_so_far = leaves.told_so_far ∙ same;
-    either = inr (inl (blank_none size o.image (omega (arith, enough)) leaves.blank));
+    either = inr (inl (blank_none size o.image (omega (arith, enough))
+        (⊎_elim
+        (λ was. settled 2048 (o.image 2048) was ∙ blank)
+        (λ w. absurd (never_mark set max w))
+        (leaves.each_sector 2048))));
   }
 
   -- the first gate

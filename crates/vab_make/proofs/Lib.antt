@@ -1,7 +1,8 @@
 pub mod BlockLaws
-pub mod FrameLaws
+pub mod BlankLaws
 mod Gates
 pub mod LayoutLaws
+mod TouchLaws
 mod Parts
 pub mod RefusalLaws
 pub mod StateLaws

@@ -17,7 +17,8 @@ use Rattle.vab_geometry.specs.declared.geometry.Geometry.{Geometry}
 use Rattle.vab_geometry.specs.Geometry.{IsGeometry}
 use Rattle.vab_geometry.specs.Reading.{geometry_of}
 use Rattle.vab_geometry.specs.Loading.{geometry_in, first_of}
-use Rattle.vab_lpstore.proofs.StoreLaws.{both_table}
+use Rattle.vab_lpstore.specs.Layout.{copy_sectors, text_sectors}
+use Rattle.vab_lpstore.proofs.StoreLaws.{both_table, text_fits}
 use Rattle.vab_set.specs.declared.set.SetImage.{SetImage}
 use Rattle.vab_set.specs.Spelling.{IsImage}
 use Rattle.vab_layout.specs.declared.layout.Layout.{Layout}
@@ -123,3 +124,20 @@ all_made set limit max size text image small is has mark =
       state = device_read size image 0 made_control g l enough s co ge la ∙ judged_is set limit size (state_of image 0 made_control l) is.room ∙ ap Ok (state_is set limit size image is.room has.images);
       places = places_read size image 0 g l s ge la;
     }
+
+-- a text of at most the maximum has room in a copy
+pub geometry_fits : (g : Geometry) (n : ℕ)
+    → IsMost g.max
+    → g.slots ≡ 2
+    → n ≤ g.max
+    → text_sectors n ≤ copy_sectors g
+geometry_fits g n most two le =
+    text_fits g n
+    (record {
+      sectors = most.sectors;
+      least = most.least;
+      most = omega (arith, most.most);
+      two = omega (arith, two);
+      eight = omega (arith, two);
+    })
+    le

@@ -3,4 +3,4 @@ pub mod Making
 pub mod Refusals
 pub mod Prepared
 pub mod Steps
-pub mod Frame
+pub mod Touched

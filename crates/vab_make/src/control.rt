@@ -1,14 +1,13 @@
-// The boot control of the device that is made.
-ghost use Rattle.std.specs.Prelude.{◌≡◌, ◌<◌, OnOk, OnErr};
-ghost use Rattle.vab_disk.specs.Disk.{Quiet, Rose};
+//! The boot control of the device that is made.
+
+ghost use Rattle.std.specs.Prelude.{◌≡◌, ◌<◌, OnOk};
+ghost use Rattle.vab_disk.specs.Calls.{InSectors, Touches, FailsWithDisk};
 ghost use Rattle.vab_make.specs.Made.{made_control};
-ghost use Rattle.vab_make.specs.Frame.{KeepsBlank};
 ghost use Rattle.vab_make.specs.Steps.{blanked, HasControl};
 
-use crate::frame::put_sector;
 use vab_bootctl::{Control, Info, encode_control_into};
 use vab_disk::Disk;
-use vab_gate::DiskFault;
+use vab_gate::{DiskFault, get_sector, put_sector};
 
 // The disk sector of boot control.
 const CONTROL: u64 = 4;
@@ -43,12 +42,11 @@ fn blank(sector: &mut [u8; 512])
 pub fn put_control<D: Disk>(d: &mut D) -> Result<(), DiskFault>
     requires { 4 < D.size d.old }
     ensures control { D.is_modelled → OnOk result (HasControl (D.seen d.old) (D.seen d.new)) }
-    ensures quiet { Quiet D.is_modelled D.size D.told D.input_left D.heard D.faults d.old d.new }
-    ensures frame { D.is_modelled → KeepsBlank D.moment D.outcomes D.told D.may_leave d.old d.new }
-    ensures cause { OnErr result (Rose (D.faults d.old).disk (D.faults d.new).disk) }
+    ensures touches { Touches D.Disk (InSectors (λ s. s ≡ 4)) d.old d.new }
+    ensures faults { FailsWithDisk D.Disk d.old d.new result }
 {
     let mut sector = [0u8; 512];
-    d.read_sector(CONTROL, &mut sector)?;
+    get_sector(d, CONTROL, &mut sector)?;
     blank(&mut sector);
     encode_control_into(&made_control(), &mut sector);
     put_sector(d, CONTROL, &sector)

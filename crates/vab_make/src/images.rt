@@ -1,15 +1,14 @@
-// The blocks of the images.
-ghost use Rattle.std.specs.Prelude.{◌≡◌, ◌<◌, ◌≤◌, ◌+◌, ◌*◌, ◌^◌, length, OnOk, OnErr};
-ghost use Rattle.vab_disk.specs.Disk.{Quiet, Rose};
+//! The blocks of the images.
+
+ghost use Rattle.std.specs.Prelude.{◌≡◌, ◌<◌, ◌≤◌, ◌+◌, ◌*◌, ◌^◌, length, OnOk};
+ghost use Rattle.vab_disk.specs.Calls.{IsBetween, InSectors, Touches, FailsWithDisk};
 ghost use Rattle.vab_set.specs.Spelling.{IsSet};
 ghost use Rattle.vab_make.specs.Made.{set_blocks};
-ghost use Rattle.vab_make.specs.Frame.{KeepsBlank};
-ghost use Rattle.vab_make.specs.Steps.{block_of, HoldsBlocks, HoldsImages, SameAround, SameBelow};
+ghost use Rattle.vab_make.specs.Steps.{block_of, HoldsBlocks, HoldsImages};
 
 use crate::checks::FIRST;
-use crate::frame::put_page;
 use vab_disk::Disk;
-use vab_gate::DiskFault;
+use vab_gate::{DiskFault, put_block};
 use vab_set::Set;
 use vab_space::blocks;
 
@@ -30,16 +29,13 @@ fn block_of(bytes: &[u8], k: usize) -> [u8; 4096]
 
 // Writes these bytes into so many blocks from this sector on, with zeros behind them.
 fn put_image<D: Disk>(d: &mut D, at: u64, count: u64, bytes: &[u8]) -> Result<(), DiskFault>
-    requires on_disk { at + 8 * count ≤ D.size d.old }
-    requires behind { 2048 < at }
+    requires { at + 8 * count ≤ D.size d.old }
     ensures holds { D.is_modelled → OnOk result (HoldsBlocks count at bytes.now (D.seen d.new)) }
-    ensures others { D.is_modelled → OnOk result (SameAround at (8 * count) (D.seen d.old) (D.seen d.new)) }
-    ensures quiet { Quiet D.is_modelled D.size D.told D.input_left D.heard D.faults d.old d.new }
-    ensures frame { D.is_modelled → KeepsBlank D.moment D.outcomes D.told D.may_leave d.old d.new }
-    ensures cause { OnErr result (Rose (D.faults d.old).disk (D.faults d.new).disk) }
+    ensures touches { Touches D.Disk (InSectors (IsBetween at (at + 8 * count))) d.old d.new }
+    ensures faults { FailsWithDisk D.Disk d.old d.new result }
 {
     for k in 0..count {
-        put_page(d, at + 8 * k, &block_of(bytes, k as usize))?;
+        put_block(d, at + 8 * k, &block_of(bytes, k as usize))?;
     }
     Ok(())
 }
@@ -49,10 +45,8 @@ pub fn put_images<D: Disk>(d: &mut D, set: &Set) -> Result<(), DiskFault>
     requires set { IsSet set.now }
     requires on_disk { 6144 + 8 * set_blocks set.now ≤ D.size d.old }
     ensures holds { D.is_modelled → OnOk result (HoldsImages (length set.now) set.now (D.seen d.new)) }
-    ensures others { D.is_modelled → OnOk result (SameBelow 6144 (D.seen d.old) (D.seen d.new)) }
-    ensures quiet { Quiet D.is_modelled D.size D.told D.input_left D.heard D.faults d.old d.new }
-    ensures frame { D.is_modelled → KeepsBlank D.moment D.outcomes D.told D.may_leave d.old d.new }
-    ensures cause { OnErr result (Rose (D.faults d.old).disk (D.faults d.new).disk) }
+    ensures touches { Touches D.Disk (InSectors (IsBetween 6144 (6144 + 8 * set_blocks set.now))) d.old d.new }
+    ensures faults { FailsWithDisk D.Disk d.old d.new result }
 {
     let mut at = FIRST;
     for image in set.as_slice() {

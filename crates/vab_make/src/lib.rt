@@ -4,7 +4,6 @@
 mod checks;
 mod control;
 mod fault;
-mod frame;
 mod images;
 mod layout;
 mod making;

@@ -1,13 +1,16 @@
 //! Making a device.
-ghost use Rattle.std.specs.Prelude.{◌≡◌, ◌≤◌, ◌%◌, ◌^◌, ℕ, length, Ok, OnOk, OnErr, IfErr};
-ghost use Rattle.vab_disk.specs.Disk.{IsSettled, Adds, Nothing, SameHoldings, Quiet, Rose};
+
+ghost use Rattle.std.specs.Prelude.{◌≡◌, ◌≤◌, ◌%◌, ◌^◌, ℕ, List, length, Ok, OnOk, IfErr};
+ghost use Rattle.vab_disk.specs.Disk.{Adds, Rose};
+ghost use Rattle.vab_disk.specs.Calls.{IsAtRest, InSectors, Touches, FailsWithDisk};
 ghost use Rattle.vab_set.specs.Spelling.{IsSet};
 ghost use Rattle.vab_make.specs.Made.{refusal_of};
 ghost use Rattle.vab_make.specs.Making.{Gives, IsOfDisk, IsMade, LeavesMaking};
 ghost use Rattle.vab_marks.specs.Mark.{mark_of};
 ghost use Rattle.vab_make.specs.Prepared.{IsMost, HasRoom, IsPrepared};
-ghost use Rattle.vab_make.specs.Frame.{KeepsBlank};
-ghost use Rattle.vab_make.specs.Steps.{HasAll};
+ghost use Rattle.vab_make.specs.Touched.{IsOfContents, IsOfMaking};
+ghost use Rattle.vab_bootctl.specs.Control.{KeepsRest};
+ghost use Rattle.vab_make.specs.Steps.{HasAll, HasPlaces, blanked};
 
 use crate::control::put_control;
 use crate::fault::MakeFault;
@@ -39,9 +42,9 @@ fn put_contents<D: Disk>(d: &mut D, set: &Set, max: u32, text: &[u8]) -> Result<
     requires room { HasRoom set.now (D.size d.old) }
     requires fits { length text.now ≤ max }
     ensures all { D.is_modelled → OnOk result (HasAll set.now max text.now (D.seen d.new)) }
-    ensures quiet { Quiet D.is_modelled D.size D.told D.input_left D.heard D.faults d.old d.new }
-    ensures frame { D.is_modelled → KeepsBlank D.moment D.outcomes D.told D.may_leave d.old d.new }
-    ensures cause { OnErr result (Rose (D.faults d.old).disk (D.faults d.new).disk) }
+    ensures rest { D.is_modelled → OnOk result (KeepsRest (blanked (D.seen d.old 4)) (D.seen d.new 4)) }
+    ensures touches { Touches D.Disk (InSectors (IsOfContents set.now max)) d.old d.new }
+    ensures faults { FailsWithDisk D.Disk d.old d.new result }
 {
     put_places(d, max, text)?;
     put_images(d, set)?;
@@ -54,35 +57,47 @@ fn settle_contents<D: Disk>(d: &mut D, set: &Set, max: u32, text: &[u8]) -> Resu
     requires room { HasRoom set.now (D.size d.old) }
     requires fits { length text.now ≤ max }
     ensures all { D.is_modelled → OnOk result (HasAll set.now max text.now (D.seen d.new)) }
-    ensures settled { D.is_modelled → OnOk result (IsSettled (D.seen d.new) (D.may_leave d.new)) }
-    ensures quiet { Quiet D.is_modelled D.size D.told D.input_left D.heard D.faults d.old d.new }
-    ensures frame { D.is_modelled → KeepsBlank D.moment D.outcomes D.told D.may_leave d.old d.new }
-    ensures cause { OnErr result (Rose (D.faults d.old).disk (D.faults d.new).disk) }
+    ensures rest { D.is_modelled → OnOk result (KeepsRest (blanked (D.seen d.old 4)) (D.seen d.new 4)) }
+    ensures settled { D.is_modelled → OnOk result (IsAtRest D.Disk d.new) }
+    ensures touches { Touches D.Disk (InSectors (IsOfContents set.now max)) d.old d.new }
+    ensures faults { FailsWithDisk D.Disk d.old d.new result }
 {
     put_contents(d, set, max, text)?;
     settle(d)
 }
 
-// Makes the device whose table has this text: from the first gate on the disk is none, and with the last it is this one.
+// Makes the device whose table has this text: from the first gate on the disk is none, and with the
+// last it is this one.
 fn make_on<D: Disk>(d: &mut D, set: &Set, max: u32, text: &[u8]) -> Result<(), DiskFault>
     requires most { IsMost max }
     requires room { HasRoom set.now (D.size d.old) }
     requires fits { length text.now ≤ max }
-    ensures made { D.is_modelled → (limit : ℕ) → IsPrepared set.now limit max (D.size d.old) text.now → OnOk result (IsMade set.now limit max (D.size d.old) (D.seen d.new)) }
-    ensures settled { D.is_modelled → OnOk result (IsSettled (D.seen d.new) (D.may_leave d.new)) }
-    ensures quiet { Quiet D.is_modelled D.size D.told D.input_left D.heard D.faults d.old d.new }
-    ensures time { D.is_modelled → (limit : ℕ) → IsPrepared set.now limit max (D.size d.old) text.now → IsSettled (D.seen d.old) (D.may_leave d.old) → Adds D.moment D.outcomes d.old d.new (LeavesMaking (D.told d.old) set.now limit max (D.size d.old) (D.seen d.old)) }
-    ensures cause { OnErr result (Rose (D.faults d.old).disk (D.faults d.new).disk) }
+    ensures made { D.is_modelled
+        → (limit : ℕ)
+        → IsPrepared set.now limit max (D.size d.old) text.now
+        → OnOk result (IsMade set.now limit max (D.size d.old) (D.seen d.new)) }
+    ensures copies { D.is_modelled → OnOk result (HasPlaces max text.now (D.seen d.new)) }
+    ensures rest { D.is_modelled → OnOk result (KeepsRest (blanked (D.seen d.old 4)) (D.seen d.new 4)) }
+    ensures settled { D.is_modelled → OnOk result (IsAtRest D.Disk d.new) }
+    ensures touches { Touches D.Disk (InSectors (IsOfMaking set.now max)) d.old d.new }
+    ensures time { D.is_modelled
+        → (limit : ℕ)
+        → IsPrepared set.now limit max (D.size d.old) text.now
+        → IsAtRest D.Disk d.old
+        → Adds D.moment D.outcomes d.old d.new
+          (LeavesMaking (D.told d.old) set.now limit max (D.size d.old) (D.seen d.old)) }
+    ensures faults { FailsWithDisk D.Disk d.old d.new result }
 {
     put_gate(d, MARK, &[0u8; 512])?;
     settle_contents(d, set, max, text)?;
     put_gate(d, MARK, &idle_mark())
 }
 
-/// Makes the device whose slot a has the images of a set, filled with zeros to whole blocks, and is current and successful with priority 15, and whose slot
-/// b has none. `limit` is that of the group `main` in bytes, 0 for none; `max` is the most bytes of a copy of a table, a multiple of 512. The refusals come in the order of
-/// `MakeFault`, each exactly where it says, and nothing is written then. A disk that fails, or a cut of power, leaves the disk as it was, or no device, or the
-/// made one.
+/// Makes the device whose slot a has the images of a set, filled with zeros to whole blocks, and is
+/// current and successful with priority 15, and whose slot b has none. `limit` is that of the group
+/// `main` in bytes, 0 for none; `max` is the most bytes of a copy of a table, a multiple of 512. The
+/// refusals come in the order of `MakeFault`, each exactly where it says, and the disk isn't asked
+/// then. A disk that fails, or a cut of power, leaves the disk as it was, or no device, or the made one.
 pub fn make_device<D: Disk>(
     alloc: Global,
     d: &mut D,
@@ -97,11 +112,18 @@ pub fn make_device<D: Disk>(
     requires max_most { max ≤ 65536 }
     ensures exact { Gives result (refusal_of set.now limit max (D.size d.old)) }
     ensures made { D.is_modelled → OnOk result (IsMade set.now limit max (D.size d.old) (D.seen d.new)) }
-    ensures settled { D.is_modelled → OnOk result (IsSettled (D.seen d.new) (D.may_leave d.new)) }
-    ensures untouched { D.is_modelled → IfErr result (λ f. (IsOfDisk f → ⊥) → (D.seen d.new ≡ D.seen d.old) × SameHoldings (D.may_leave d.old) (D.may_leave d.new)) }
-    ensures still { D.is_modelled → IfErr result (λ f. (IsOfDisk f → ⊥) → Adds D.moment D.outcomes d.old d.new Nothing) }
-    ensures quiet { Quiet D.is_modelled D.size D.told D.input_left D.heard D.faults d.old d.new }
-    ensures time { D.is_modelled → IsSettled (D.seen d.old) (D.may_leave d.old) → Adds D.moment D.outcomes d.old d.new (LeavesMaking (D.told d.old) set.now limit max (D.size d.old) (D.seen d.old)) }
+    // Both copies of the geometry and of the table are there.
+    ensures copies { D.is_modelled → OnOk result ((text : List ℕ) × HasPlaces max text (D.seen d.new)) }
+    // The boot control's sector stays behind the 32 bytes of the boot control.
+    ensures rest { D.is_modelled → OnOk result (KeepsRest (blanked (D.seen d.old 4)) (D.seen d.new 4)) }
+    ensures settled { D.is_modelled → OnOk result (IsAtRest D.Disk d.new) }
+    ensures untouched { IfErr result (λ f. (IsOfDisk f → ⊥) → d.new ≡ d.old) }
+    ensures touches { Touches D.Disk (InSectors (IsOfMaking set.now max)) d.old d.new }
+    ensures time { D.is_modelled
+        → IsAtRest D.Disk d.old
+        → Adds D.moment D.outcomes d.old d.new
+          (LeavesMaking (D.told d.old) set.now limit max (D.size d.old) (D.seen d.old)) }
+    ensures steady { OnOk result (D.faults d.new ≡ D.faults d.old) }
     ensures cause { IfErr result (λ f. IsOfDisk f → Rose (D.faults d.old).disk (D.faults d.new).disk) }
 {
     let text = prepare(alloc, set, limit, max, d.sectors())?;

@@ -1,16 +1,16 @@
-// The geometry and the table of slot a.
-ghost use Rattle.std.specs.Prelude.{◌≡◌, ◌≢◌, ◌<◌, ◌≤◌, ◌+◌, ◌++◌, length, replicate, OnOk, OnErr};
-ghost use Rattle.vab_disk.specs.Disk.{Quiet, Rose};
+//! The geometry and the table of slot a.
+
+ghost use Rattle.std.specs.Prelude.{◌≡◌, ◌≢◌, ◌<◌, ◌≤◌, ◌+◌, ◌++◌, length, replicate, OnOk};
+ghost use Rattle.vab_disk.specs.Calls.{InSectors, Touches, FailsWithDisk};
 ghost use Rattle.vab_geometry.specs.Geometry.{geometry_sector};
 ghost use Rattle.vab_make.specs.Made.{made_geometry};
 ghost use Rattle.vab_make.specs.Prepared.{IsMost};
-ghost use Rattle.vab_make.specs.Frame.{KeepsBlank};
+ghost use Rattle.vab_make.specs.Touched.{IsOfGeometry, IsOfCopies, IsOfPlaces};
 ghost use Rattle.vab_lpstore.specs.Layout.{BothHold};
-ghost use Rattle.vab_make.specs.Steps.{HasPlaces, SameBelow};
+ghost use Rattle.vab_make.specs.Steps.{HasPlaces};
 
-use crate::frame::put_page;
 use vab_disk::Disk;
-use vab_gate::DiskFault;
+use vab_gate::{DiskFault, put_block};
 use vab_geometry::{BACKUP, Geometry, PRIMARY, encode_geometry};
 use vab_lpstore::store_table;
 
@@ -39,13 +39,12 @@ fn put_geometry<D: Disk>(d: &mut D, geometry: &Geometry) -> Result<(), DiskFault
     requires on_disk { 4120 ≤ D.size d.old }
     ensures primary { D.is_modelled → OnOk result (D.seen d.new 4104 ≡ geometry_sector geometry.now) }
     ensures backup { D.is_modelled → OnOk result (D.seen d.new 4112 ≡ geometry_sector geometry.now) }
-    ensures quiet { Quiet D.is_modelled D.size D.told D.input_left D.heard D.faults d.old d.new }
-    ensures frame { D.is_modelled → KeepsBlank D.moment D.outcomes D.told D.may_leave d.old d.new }
-    ensures cause { OnErr result (Rose (D.faults d.old).disk (D.faults d.new).disk) }
+    ensures touches { Touches D.Disk (InSectors IsOfGeometry) d.old d.new }
+    ensures faults { FailsWithDisk D.Disk d.old d.new result }
 {
     let page = geometry_page(geometry);
-    put_page(d, PRIMARY, &page)?;
-    put_page(d, BACKUP, &page)
+    put_block(d, PRIMARY, &page)?;
+    put_block(d, BACKUP, &page)
 }
 
 // Writes both copies of slot a's table.
@@ -55,10 +54,8 @@ fn put_table<D: Disk>(d: &mut D, geometry: &Geometry, text: &[u8]) -> Result<(),
     requires on_disk { 6144 ≤ D.size d.old }
     requires fits { length text.now ≤ geometry.now.max }
     ensures stored { D.is_modelled → OnOk result (BothHold geometry.now 0 text.now (D.seen d.new)) }
-    ensures others { D.is_modelled → SameBelow 4120 (D.seen d.old) (D.seen d.new) }
-    ensures quiet { Quiet D.is_modelled D.size D.told D.input_left D.heard D.faults d.old d.new }
-    ensures frame { D.is_modelled → KeepsBlank D.moment D.outcomes D.told D.may_leave d.old d.new }
-    ensures cause { OnErr result (Rose (D.faults d.old).disk (D.faults d.new).disk) }
+    ensures touches { Touches D.Disk (InSectors (IsOfCopies geometry.now.max)) d.old d.new }
+    ensures faults { FailsWithDisk D.Disk d.old d.new result }
 {
     store_table(d, geometry, 0, text)
 }
@@ -69,9 +66,8 @@ pub fn put_places<D: Disk>(d: &mut D, max: u32, text: &[u8]) -> Result<(), DiskF
     requires on_disk { 6144 ≤ D.size d.old }
     requires fits { length text.now ≤ max }
     ensures places { D.is_modelled → OnOk result (HasPlaces max text.now (D.seen d.new)) }
-    ensures quiet { Quiet D.is_modelled D.size D.told D.input_left D.heard D.faults d.old d.new }
-    ensures frame { D.is_modelled → KeepsBlank D.moment D.outcomes D.told D.may_leave d.old d.new }
-    ensures cause { OnErr result (Rose (D.faults d.old).disk (D.faults d.new).disk) }
+    ensures touches { Touches D.Disk (InSectors (IsOfPlaces max)) d.old d.new }
+    ensures faults { FailsWithDisk D.Disk d.old d.new result }
 {
     let geometry = made_geometry(max);
     put_geometry(d, &geometry)?;

@@ -23,7 +23,7 @@ use Rattle.vab_partitions.specs.OwnRules.{none_bad}
 use Rattle.vab_device.specs.Device.{mark_read, slot_in, control_read, control_in, geometry_read, geometry_at, layout_read, layout_at, state_of, judged, device, places, is_good}
 use Rattle.vab_device.proofs.DeviceLaws.{device_read, places_read, state_same, layout_behind}
 use Rattle.vab_recover.specs.declared.device.Device.{Device}
-use Rattle.vab_recover.specs.Stands.{state_on, ArePartsOf, StandsFor, IsDevice}
+use Rattle.vab_recover.specs.Stands.{state_on, ArePartsOf, Represents, IsDevice}
 use Rattle.vab_recover.proofs.StateLaws.{state_is}
 use Rattle.vab_manager.specs.Controls.{HasControl, LeavesControl}
 use Rattle.vab_manager.specs.Steps.{LeavesStep}
@@ -79,11 +79,11 @@ kept_device d size c is fits current = record {
   parts_b = is.parts_b;
 }
 
-parts_held : (d : Device) (c : Control) (size : ℕ) (image : Image) (stands : StandsFor d size image) → ArePartsOf d.mark.slot (layout_of stands.table) (with_boot c d)
+parts_held : (d : Device) (c : Control) (size : ℕ) (image : Image) (stands : Represents d size image) → ArePartsOf d.mark.slot (layout_of stands.table) (with_boot c d)
 parts_held d c size image stands = record { a = stands.parts.a; b = stands.parts.b; cap = stands.parts.cap; groups = stands.parts.groups }
 
 -- what the disk means with it
-means : (d : Device) (size : ℕ) (old new : Image) (c : Control) → IsDevice d size → (stands : StandsFor d size old) → c.current ≡ d.mark.slot → is_good (info_at c d.mark.slot) ≡ true → control_in new ≡ Ok c → Others old new → device size new ≡ Ok (state_on (with_boot c d) new)
+means : (d : Device) (size : ℕ) (old new : Image) (c : Control) → IsDevice d size → (stands : Represents d size old) → c.current ≡ d.mark.slot → is_good (info_at c d.mark.slot) ≡ true → control_in new ≡ Ok c → Others old new → device size new ≡ Ok (state_on (with_boot c d) new)
 means d size old new c is stands current good held others =
     let slot = d.mark.slot in
     let l = layout_of stands.table in
@@ -95,7 +95,7 @@ means d size old new c is stands current good held others =
     ∙ passes ∙ ap Ok (sym (state_is (with_boot c d) slot l new is.slot (parts_held d c size old stands)))
 
 -- the device with it stands for the disk
-pub stands_with : (d : Device) (size : ℕ) (old new : Image) (c : Control) → IsDevice d size → StandsFor d size old → c.current ≡ d.mark.slot → is_good (info_at c d.mark.slot) ≡ true → HasControl c old new → StandsFor (with_boot c d) size new
+pub stands_with : (d : Device) (size : ℕ) (old new : Image) (c : Control) → IsDevice d size → Represents d size old → c.current ≡ d.mark.slot → is_good (info_at c d.mark.slot) ≡ true → HasControl c old new → Represents (with_boot c d) size new
 stands_with d size old new c is stands current good has =
     let others = others_held old new has.0 has.3 in
     let held = control_held old new c has.0 has.3 has.1 in
@@ -118,14 +118,14 @@ stands_with d size old new c is stands current good has =
     }
 
 -- and its partitions stand where they stood
-pub places_with : (d : Device) (size : ℕ) (old new : Image) (c : Control) → StandsFor d size old → HasControl c old new → places size new ≡ places size old
+pub places_with : (d : Device) (size : ℕ) (old new : Image) (c : Control) → Represents d size old → HasControl c old new → places size new ≡ places size old
 places_with d size old new c stands has =
     let others = others_held old new has.0 has.3 in
     places_read size new d.mark.slot d.geometry (layout_of stands.table) (slot_kept old new others ∙ stands.slot) (geometry_kept size old new others ∙ stands.geometry) (layout_kept size d.geometry d.mark.slot old new others ∙ stands.read)
     ∙ sym (places_read size old d.mark.slot d.geometry (layout_of stands.table) stands.slot stands.geometry stands.read)
 
 -- its images stay
-pub state_with : (d : Device) (size : ℕ) (old new : Image) (c : Control) → IsDevice d size → StandsFor d size old → HasControl c old new → state_on (with_boot c d) new ≡ state_on (with_boot c d) old
+pub state_with : (d : Device) (size : ℕ) (old new : Image) (c : Control) → IsDevice d size → Represents d size old → HasControl c old new → state_on (with_boot c d) new ≡ state_on (with_boot c d) old
 state_with d size old new c is stands has =
     let others = others_held old new has.0 has.3 in
     let l = layout_of stands.table in
@@ -135,7 +135,7 @@ state_with d size old new c is stands has =
     ∙ sym (state_is (with_boot c d) d.mark.slot l old is.slot parts)
 
 -- what a cut of power leaves of the change
-pub leaves_with : (d : Device) (size : ℕ) (told : List ℕ) (old : Image) (c : Control) (o : Outcome) → IsDevice d size → StandsFor d size old → c.current ≡ d.mark.slot → is_good (info_at c d.mark.slot) ≡ true → LeavesControl told c old o
+pub leaves_with : (d : Device) (size : ℕ) (told : List ℕ) (old : Image) (c : Control) (o : Outcome) → IsDevice d size → Represents d size old → c.current ≡ d.mark.slot → is_good (info_at c d.mark.slot) ≡ true → LeavesControl told c old o
     → LeavesStep told size old (state_on d old ∷ state_on (with_boot c d) old ∷ []) o
 leaves_with d size told old c o is stands current good leaves = ⊎_elim
     (λ same. record { told_so_far = leaves.told_so_far; state = state_on d old; step = inl refl; means = ap (device size) same ∙ stands.state; places = ap (places size) same })

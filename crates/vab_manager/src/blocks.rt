@@ -2,6 +2,7 @@
 
 ghost use Rattle.std.specs.Prelude.{◌≡◌, ◌≤◌, ◌<◌, ◌^◌, length, slice_index, IsTrue, IfOk, IfErr, OnOk, OnErr};
 ghost use Rattle.std.specs.Option.{option_copied, option_and_then};
+ghost use Rattle.vab_disk.specs.Calls.{OnlyReads};
 ghost use Rattle.vab_disk.specs.Disk.{Image, Adds, Nothing, SameHoldings, Quiet, Rose};
 ghost use Rattle.vab_gate.specs.Gate.{sectors_at};
 ghost use Rattle.vab_names.specs.Names.{is_full, base_of};
@@ -68,10 +69,7 @@ pub fn read_block<D: Disk>(
     ensures sectors { D.is_modelled → (p : Part) → KeepsPart device.now slot name.now p → OnOk result (out.new ≡ sectors_at 8 (D.seen d.old) (slice_index p.map block)) }
     // which is that block of the image
     ensures bytes { D.is_modelled → OnOk result (IsBlockOf (state_on device.now (D.seen d.old)) slot name.now block out.new) }
-    ensures seen { D.is_modelled → D.seen d.new ≡ D.seen d.old }
-    ensures crash { D.is_modelled → SameHoldings (D.may_leave d.old) (D.may_leave d.new) }
-    ensures quiet { Quiet D.is_modelled D.size D.told D.input_left D.heard D.faults d.old d.new }
-    ensures time { D.is_modelled → Adds D.moment D.outcomes d.old d.new Nothing }
+    ensures reads { OnlyReads D.Disk d.old d.new }
     ensures cause { OnErr result (Rose (D.faults d.old).disk (D.faults d.new).disk) }
 {
     match kept_part(device, slot, name) {

@@ -5,7 +5,7 @@ ghost use Rattle.vab_disk.specs.Disk.{IsSettled, Adds, Quiet, Rose};
 ghost use Rattle.vab_bootctl.specs.Control.{Fits};
 ghost use Rattle.vab_bootctl.specs.Boot.{info_at};
 ghost use Rattle.vab_device.specs.Device.{is_good, places};
-ghost use Rattle.vab_recover.specs.Stands.{state_on, StandsFor, IsDevice};
+ghost use Rattle.vab_recover.specs.Stands.{state_on, Represents, IsDevice};
 ghost use Rattle.vab_manager.specs.StateLaws.{with_boot};
 ghost use Rattle.vab_manager.specs.Steps.{LeavesStep};
 
@@ -18,13 +18,13 @@ use vab_recover::Device;
 /// Writes a boot control of the device by one gate.
 pub fn change<D: Disk>(d: &mut D, device: Device, control: Control) -> Result<Device, DiskFault>
     requires kept { IsDevice device (D.size d.old) }
-    requires stands { D.is_modelled → StandsFor device (D.size d.old) (D.seen d.old) }
+    requires stands { D.is_modelled → Represents device (D.size d.old) (D.seen d.old) }
     requires fits { Fits control }
     requires current { control.current ≡ device.mark.slot }
     requires good { D.is_modelled → is_good (info_at control device.mark.slot) ≡ true }
     ensures device { IfOk result (λ r. r ≡ with_boot control device) }
     ensures kept { IfOk result (λ r. IsDevice r (D.size d.old)) }
-    ensures stands { D.is_modelled → IfOk result (λ r. StandsFor r (D.size d.old) (D.seen d.new)) }
+    ensures stands { D.is_modelled → IfOk result (λ r. Represents r (D.size d.old) (D.seen d.new)) }
     ensures state { D.is_modelled → IfOk result (λ r. state_on r (D.seen d.new) ≡ state_on (with_boot control device) (D.seen d.old)) }
     ensures places { D.is_modelled → OnOk result (places (D.size d.old) (D.seen d.new) ≡ places (D.size d.old) (D.seen d.old)) }
     ensures settled { D.is_modelled → OnOk result (IsSettled (D.seen d.new) (D.may_leave d.new)) }

@@ -4,7 +4,7 @@ ghost use Rattle.std.specs.Prelude.{◌≡◌, IfOk, OnOk, OnErr};
 ghost use Rattle.vab_disk.specs.Disk.{IsSettled, Adds, Quiet, Rose};
 ghost use Rattle.vab_model.specs.Step.{state_by, reply_to, steps_by};
 ghost use Rattle.vab_device.specs.Device.{places};
-ghost use Rattle.vab_recover.specs.Stands.{state_on, StandsFor, IsDevice};
+ghost use Rattle.vab_recover.specs.Stands.{state_on, Represents, IsDevice};
 ghost use Rattle.vab_manager.specs.Steps.{LeavesStep};
 
 use crate::images::{digest, print};
@@ -23,9 +23,9 @@ pub fn run_one<D: Disk>(
     command: &Command,
 ) -> Result<(Device, Reply), DiskFault>
     requires kept { IsDevice device (D.size d.old) }
-    requires stands { D.is_modelled → StandsFor device (D.size d.old) (D.seen d.old) }
+    requires stands { D.is_modelled → Represents device (D.size d.old) (D.seen d.old) }
     ensures kept { IfOk result (λ r. IsDevice r.0 (D.size d.old)) }
-    ensures stands { D.is_modelled → IfOk result (λ r. StandsFor r.0 (D.size d.old) (D.seen d.new)) }
+    ensures stands { D.is_modelled → IfOk result (λ r. Represents r.0 (D.size d.old) (D.seen d.new)) }
     ensures state { D.is_modelled → IfOk result (λ r. state_on r.0 (D.seen d.new) ≡ state_by (state_on device (D.seen d.old)) command.now) }
     ensures reply { D.is_modelled → IfOk result (λ r. r.1 ≡ reply_to (state_on device (D.seen d.old)) command.now) }
     ensures places { D.is_modelled → OnOk result (places (D.size d.old) (D.seen d.new) ≡ places (D.size d.old) (D.seen d.old)) }

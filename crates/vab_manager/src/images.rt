@@ -3,6 +3,7 @@
 ghost use Rattle.std.specs.Prelude.{◌≡◌, ◌≤◌, ◌<◌, ◌+◌, length, MatchResult, IfOk, OnOk, OnErr, All, Ok, Err};
 ghost use Rattle.std.specs.Option.{option_copied};
 ghost use Rattle.sha2.specs.Sha256.{sha256};
+ghost use Rattle.vab_disk.specs.Calls.{OnlyReads};
 ghost use Rattle.vab_disk.specs.Disk.{Image, Adds, Nothing, SameHoldings, Quiet, Rose};
 ghost use Rattle.vab_model.specs.Step.{bytes_reply, digest_reply, found_of};
 ghost use Rattle.vab_recover.specs.Stands.{bytes_at, state_on, IsDevice};
@@ -73,10 +74,7 @@ pub fn print(device: &Device, name: &[u8]) -> Reply
 fn digest_of<D: Disk>(d: &mut D, map: &Map) -> Result<[u8; 32], DiskFault>
     requires { All (λ s. s + 8 ≤ D.size d.old) map.now }
     ensures digest { D.is_modelled → IfOk result (λ h. h ≡ sha256 (bytes_at (D.seen d.old) map.now)) }
-    ensures seen { D.is_modelled → D.seen d.new ≡ D.seen d.old }
-    ensures crash { D.is_modelled → SameHoldings (D.may_leave d.old) (D.may_leave d.new) }
-    ensures quiet { Quiet D.is_modelled D.size D.told D.input_left D.heard D.faults d.old d.new }
-    ensures time { D.is_modelled → Adds D.moment D.outcomes d.old d.new Nothing }
+    ensures reads { OnlyReads D.Disk d.old d.new }
     ensures cause { OnErr result (Rose (D.faults d.old).disk (D.faults d.new).disk) }
 {
     let mut hasher = Sha256::new();
@@ -92,10 +90,7 @@ fn digest_of<D: Disk>(d: &mut D, map: &Map) -> Result<[u8; 32], DiskFault>
 pub fn digest<D: Disk>(d: &mut D, device: &Device, name: &[u8]) -> Result<Reply, DiskFault>
     requires kept { IsDevice device.now (D.size d.old) }
     ensures reply { D.is_modelled → IfOk result (λ r. r ≡ digest_reply (found_of (state_on device.now (D.seen d.old)) name.now)) }
-    ensures seen { D.is_modelled → D.seen d.new ≡ D.seen d.old }
-    ensures crash { D.is_modelled → SameHoldings (D.may_leave d.old) (D.may_leave d.new) }
-    ensures quiet { Quiet D.is_modelled D.size D.told D.input_left D.heard D.faults d.old d.new }
-    ensures time { D.is_modelled → Adds D.moment D.outcomes d.old d.new Nothing }
+    ensures reads { OnlyReads D.Disk d.old d.new }
     ensures cause { OnErr result (Rose (D.faults d.old).disk (D.faults d.new).disk) }
 {
     match find(device, name) {

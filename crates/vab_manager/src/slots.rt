@@ -7,7 +7,7 @@ ghost use Rattle.vab_bootctl.specs.Boot.{activated_of};
 ghost use Rattle.vab_model.specs.declared.command.Command.TheVariants.{SetActive, Boot, Mark};
 ghost use Rattle.vab_model.specs.Step.{state_by, reply_to, steps_by};
 ghost use Rattle.vab_device.specs.Device.{places};
-ghost use Rattle.vab_recover.specs.Stands.{state_on, StandsFor, IsDevice};
+ghost use Rattle.vab_recover.specs.Stands.{state_on, Represents, IsDevice};
 ghost use Rattle.vab_manager.specs.StateLaws.{with_boot, has_of_device};
 ghost use Rattle.vab_manager.specs.Steps.{LeavesStep};
 
@@ -50,9 +50,9 @@ pub fn set_active<D: Disk>(
     slot: usize,
 ) -> Result<(Device, Reply), DiskFault>
     requires kept { IsDevice device (D.size d.old) }
-    requires stands { D.is_modelled → StandsFor device (D.size d.old) (D.seen d.old) }
+    requires stands { D.is_modelled → Represents device (D.size d.old) (D.seen d.old) }
     ensures kept { IfOk result (λ r. IsDevice r.0 (D.size d.old)) }
-    ensures stands { D.is_modelled → IfOk result (λ r. StandsFor r.0 (D.size d.old) (D.seen d.new)) }
+    ensures stands { D.is_modelled → IfOk result (λ r. Represents r.0 (D.size d.old) (D.seen d.new)) }
     ensures state { D.is_modelled → IfOk result (λ r. state_on r.0 (D.seen d.new) ≡ state_by (state_on device (D.seen d.old)) (SetActive slot)) }
     ensures reply { D.is_modelled → IfOk result (λ r. r.1 ≡ reply_to (state_on device (D.seen d.old)) (SetActive slot)) }
     ensures places { D.is_modelled → OnOk result (places (D.size d.old) (D.seen d.new) ≡ places (D.size d.old) (D.seen d.old)) }
@@ -75,9 +75,9 @@ pub fn set_active<D: Disk>(
 /// Boots the bootable slot of the higher priority, a on a tie.
 pub fn boot<D: Disk>(d: &mut D, device: Device) -> Result<(Device, Reply), DiskFault>
     requires kept { IsDevice device (D.size d.old) }
-    requires stands { D.is_modelled → StandsFor device (D.size d.old) (D.seen d.old) }
+    requires stands { D.is_modelled → Represents device (D.size d.old) (D.seen d.old) }
     ensures kept { IfOk result (λ r. IsDevice r.0 (D.size d.old)) }
-    ensures stands { D.is_modelled → IfOk result (λ r. StandsFor r.0 (D.size d.old) (D.seen d.new)) }
+    ensures stands { D.is_modelled → IfOk result (λ r. Represents r.0 (D.size d.old) (D.seen d.new)) }
     ensures state { D.is_modelled → IfOk result (λ r. state_on r.0 (D.seen d.new) ≡ state_by (state_on device (D.seen d.old)) Boot) }
     ensures reply { D.is_modelled → IfOk result (λ r. r.1 ≡ reply_to (state_on device (D.seen d.old)) Boot) }
     ensures places { D.is_modelled → OnOk result (places (D.size d.old) (D.seen d.new) ≡ places (D.size d.old) (D.seen d.old)) }
@@ -98,9 +98,9 @@ pub fn boot<D: Disk>(d: &mut D, device: Device) -> Result<(Device, Reply), DiskF
 /// Marks the current slot as one that works.
 pub fn mark<D: Disk>(d: &mut D, device: Device) -> Result<(Device, Reply), DiskFault>
     requires kept { IsDevice device (D.size d.old) }
-    requires stands { D.is_modelled → StandsFor device (D.size d.old) (D.seen d.old) }
+    requires stands { D.is_modelled → Represents device (D.size d.old) (D.seen d.old) }
     ensures kept { IfOk result (λ r. IsDevice r.0 (D.size d.old)) }
-    ensures stands { D.is_modelled → IfOk result (λ r. StandsFor r.0 (D.size d.old) (D.seen d.new)) }
+    ensures stands { D.is_modelled → IfOk result (λ r. Represents r.0 (D.size d.old) (D.seen d.new)) }
     ensures state { D.is_modelled → IfOk result (λ r. state_on r.0 (D.seen d.new) ≡ state_by (state_on device (D.seen d.old)) Mark) }
     ensures reply { D.is_modelled → IfOk result (λ r. r.1 ≡ reply_to (state_on device (D.seen d.old)) Mark) }
     ensures places { D.is_modelled → OnOk result (places (D.size d.old) (D.seen d.new) ≡ places (D.size d.old) (D.seen d.old)) }

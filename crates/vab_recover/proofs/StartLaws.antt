@@ -13,7 +13,7 @@ use Rattle.vab_device.specs.Device.{device, places}
 use Rattle.vab_device.proofs.DeviceLaws.{SameBut, same_slot, same_control, same_geometry, same_layout, device_same, places_same, state_same, layout_behind}
 use Rattle.vab_recover.specs.declared.device.Device.{Device}
 use Rattle.vab_recover.proofs.StateLaws.{state_is}
-use Rattle.vab_recover.specs.Stands.{state_on, StandsFor, IsDevice, IsRead, LeavesSame}
+use Rattle.vab_recover.specs.Stands.{state_on, Represents, IsDevice, IsRead, LeavesSame}
 
 -- the loaded table is the slot's
 pub read_table_is : (d : Device) (l : Loaded) (size : ℕ) (image : Image) → IsRead d l size image → slot_table d.geometry d.mark.slot image ≡ Ok l.table
@@ -60,7 +60,7 @@ leaves_same d l size n told old o is read few leaves =
     record { told_so_far = leaves.told_so_far; device = same_device d l size old o.image is read same; places = same_places d l size old o.image read same }
 
 -- the kept device stands for the repaired disk
-pub stands_after : (d : Device) (l : Loaded) (size : ℕ) (old new : Image) → IsDevice d size → IsRead d l size old → SameBut d.geometry d.mark.slot old new → BothHold d.geometry d.mark.slot l.text new → StandsFor d size new
+pub stands_after : (d : Device) (l : Loaded) (size : ℕ) (old new : Image) → IsDevice d size → IsRead d l size old → SameBut d.geometry d.mark.slot old new → BothHold d.geometry d.mark.slot l.text new → Represents d size new
 stands_after d l size old new is read same both = record {
   state = same_device d l size old new is read same ∙ read.state ∙ ap Ok (sym (same_state d l size old new is.slot read same));
   slot = same_slot d.geometry d.mark.slot old new same ∙ read.slot;

@@ -118,7 +118,7 @@ pub record IsRead (d : Device) (l : Loaded) (size : ℕ) (image : Image) : Type 
   pub loaded : IsLoaded d.geometry.max (primary_bytes d.geometry d.mark.slot image) (backup_bytes d.geometry d.mark.slot image) l
 
 -- The device that is kept is that of the disk: its parts read so, its partitions are those of the table, they keep the rules, and both copies of the table agree.
-pub record StandsFor (d : Device) (size : ℕ) (image : Image) : Type 0 where
+pub record Represents (d : Device) (size : ℕ) (image : Image) : Type 0 where
   pub state : device size image ≡ Ok (state_on d image)
   pub slot : slot_in image ≡ Ok d.mark.slot
   pub control : control_in image ≡ Ok d.control

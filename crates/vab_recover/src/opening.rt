@@ -8,7 +8,7 @@ ghost use Rattle.vab_lpstore.specs.Layout.{primary_bytes, backup_bytes};
 ghost use Rattle.vab_lpstore.specs.Loading.{IsLoaded};
 ghost use Rattle.vab_layout.specs.Layout.{layout_of};
 ghost use Rattle.vab_device.specs.Device.{device, places, slot_in, control_in, geometry_at, layout_at, IsOfContents, IsOfDisk};
-ghost use Rattle.vab_recover.specs.Stands.{state_on, StandsFor, IsDevice, IsRead, LeavesSame};
+ghost use Rattle.vab_recover.specs.Stands.{state_on, Represents, IsDevice, IsRead, LeavesSame};
 
 use crate::Device;
 use crate::judge::{assemble, judge};
@@ -49,7 +49,7 @@ pub fn open<D: Disk>(alloc: Global, d: &mut D) -> Result<(Device, Loaded), Start
 pub fn start<D: Disk>(alloc: Global, d: &mut D) -> Result<Device, StartFault>
     // It answers the device that the disk was, which it still is.
     ensures device { D.is_modelled → IfOk result (λ r. device (D.size d.old) (D.seen d.old) ≡ Ok (state_on r (D.seen d.new))) }
-    ensures stands { D.is_modelled → IfOk result (λ r. StandsFor r (D.size d.old) (D.seen d.new)) }
+    ensures stands { D.is_modelled → IfOk result (λ r. Represents r (D.size d.old) (D.seen d.new)) }
     ensures kept { IfOk result (λ r. IsDevice r (D.size d.old)) }
     ensures places { D.is_modelled → OnOk result (places (D.size d.old) (D.seen d.new) ≡ places (D.size d.old) (D.seen d.old)) }
     ensures fault { D.is_modelled → IfErr result (λ f. IsOfContents f → device (D.size d.old) (D.seen d.old) ≡ Err f) }

@@ -14,7 +14,7 @@ use Rattle.vab_recover.specs.Stands.{state_on}
 use Rattle.vab_manager.specs.Steps.{LeavesStep}
 use Rattle.vab_manager.specs.Steps as manager
 use Rattle.vab_fbproto.specs.Commands.{Named, SetActive, Boot, Mark, Print, Digest, named_of, reply_named, state_named, steps_named}
-use Rattle.vab_session.specs.Items.{Situation, IsIn, Item, IsOneOf, LeavesItem, DoesItem}
+use Rattle.vab_session.specs.Items.{Mounted, IsIn, Item, IsOneOf, LeavesItem, DoesItem}
 use Rattle.vab_fbproto.specs.Requests.{Asked, request_of}
 use Rattle.vab_fbproto.specs.declared.request.BadCommand.{BadCommand}
 use Rattle.vab_session.specs.Answers.{in_state, item_named, item_still, item_asked, item_of}
@@ -25,7 +25,7 @@ on_ok (Ok x) p = p
 on_ok (Err e) p = tt
 
 -- the item of a packet, by what it asks for
-pub item_is : (s : Situation) (p : List ℕ) (r : Result Asked BadCommand) → request_of p ≡ r → item_of s p ≡ item_asked s r
+pub item_is : (s : Mounted) (p : List ℕ) (r : Result Asked BadCommand) → request_of p ≡ r → item_of s p ≡ item_asked s r
 unfolding item_of
 item_is s p r is = ap (item_asked s) is
 
@@ -52,19 +52,19 @@ steps_same s model.Mark = refl
 steps_same s (model.Print name) = refl
 steps_same s (model.Digest name) = refl
 
-pub last_step : (s : Situation) (c : Named) (t : List ℕ) → IsOneOf (item_named s c t).steps (item_named s c t).last
+pub last_step : (s : Mounted) (c : Named) (t : List ℕ) → IsOneOf (item_named s c t).steps (item_named s c t).last
 last_step s (SetActive slot) t = inr (inl refl)
 last_step s Boot t = inr (inl refl)
 last_step s Mark t = inr (inl refl)
 last_step s (Print name) t = inl refl
 last_step s (Digest name) t = inl refl
 
-one_state : (s : Situation) (xs : List State) (x : State) → manager.IsOneOf xs x → IsOneOf (map (in_state s) xs) (in_state s x)
+one_state : (s : Mounted) (xs : List State) (x : State) → manager.IsOneOf xs x → IsOneOf (map (in_state s) xs) (in_state s x)
 one_state s [] x one = one
 one_state s (y ∷ ys) x one = ⊎_elim (λ here. inl (ap (in_state s) here)) (λ there. inr (one_state s ys x there)) one
 
 -- the state that a device is in on a disk is that of the situation
-pub state_here : (size : ℕ) (s : Situation) (state : State) (image : Image) → device size image ≡ Ok state → IsIn size s image → state ≡ s.state
+pub state_here : (size : ℕ) (s : Mounted) (state : State) (image : Image) → device size image ≡ Ok state → IsIn size s image → state ≡ s.state
 state_here size s state image means is = let other = is.state in cc
 
 pub state_current : (d : Device) (image : Image) → (state_on d image).current ≡ d.control.current
@@ -82,7 +82,7 @@ module _ {D : Type 0} (seen_of : D → Image) (held_by : D → ℕ → List ℕ 
   still_settled old new seen holds settled k b held = settled k b (holds.no_more k b held) ∙ ap (λ (x : Image). x k) (sym seen)
 
   -- a reply is told, and nothing else is done
-  pub does_still : {A E : Type 0} (s : Situation) (t : List ℕ) (old new : D) (r : Result A E) → IsIn size s (seen_of old) → OnOk r (told_of new ≡ told_of old ++ t) → (n : ℕ) × (told_of new ≡ told_of old ++ take n t)
+  pub does_still : {A E : Type 0} (s : Mounted) (t : List ℕ) (old new : D) (r : Result A E) → IsIn size s (seen_of old) → OnOk r (told_of new ≡ told_of old ++ t) → (n : ℕ) × (told_of new ≡ told_of old ++ take n t)
       → seen_of new ≡ seen_of old → SameHoldings (held_by old) (held_by new) → Adds moment outcomes old new (LeavesSaying (told_of old) t (held_by old)) → DoesItem seen_of held_by told_of moment outcomes size (item_still s t) old new r
   does_still s t old new r stands told front seen holds time = record {
     told = told;
@@ -93,7 +93,7 @@ module _ {D : Type 0} (seen_of : D → Image) (held_by : D → ℕ → List ℕ 
   }
 
   -- a command is carried out
-  module _ (s : Situation) (state : State) (c : Command) (t : List ℕ) (some : 0 < length t) (old mid : D) (stands : IsIn size s (seen_of old)) (same : state ≡ s.state) (time : IsSettled (seen_of old) (held_by old) → Adds moment outcomes old mid (LeavesStep (told_of old) size (seen_of old) (steps_by state c))) where
+  module _ (s : Mounted) (state : State) (c : Command) (t : List ℕ) (some : 0 < length t) (old mid : D) (stands : IsIn size s (seen_of old)) (same : state ≡ s.state) (time : IsSettled (seen_of old) (held_by old) → Adds moment outcomes old mid (LeavesStep (told_of old) size (seen_of old) (steps_by state c))) where
     leaves : (o : Outcome) → LeavesStep (told_of old) size (seen_of old) (steps_by state c) o → LeavesItem size (told_of old) (item_named s (named_of c) t) o
     leaves o l = record {
       front = (0, l.told_so_far ∙ sym (append-nil (told_of old)));
@@ -147,8 +147,8 @@ module _ {D : Type 0} (seen_of : D → Image) (held_by : D → ℕ → List ℕ 
 
 -- what was said of an item with the size of a disk and the bytes of a packet, of others that are the same
 pub answered : {D : Type 0} (seen_of : D → Image) (held_by : D → ℕ → List ℕ → Type 0) (told_of : D → List ℕ) (moment : D → ℕ) (outcomes : D → ℕ → Outcome → Type 0) {A E : Type 0} (size' size : ℕ) (p' p : List ℕ) (old new : D) (r : Result A E) → size' ≡ size → p' ≡ p
-    → ((s : Situation) → IsIn size' s (seen_of old) → DoesItem seen_of held_by told_of moment outcomes size' (item_of s p') old new r)
-    → (s : Situation) → IsIn size s (seen_of old) → DoesItem seen_of held_by told_of moment outcomes size (item_of s p) old new r
+    → ((s : Mounted) → IsIn size' s (seen_of old) → DoesItem seen_of held_by told_of moment outcomes size' (item_of s p') old new r)
+    → (s : Mounted) → IsIn size s (seen_of old) → DoesItem seen_of held_by told_of moment outcomes size (item_of s p) old new r
 answered seen_of held_by told_of moment outcomes size' size p' p old new r sized packets =
-    subst (λ (n : ℕ). ((s : Situation) → IsIn size' s (seen_of old) → DoesItem seen_of held_by told_of moment outcomes size' (item_of s p') old new r) → (s : Situation) → IsIn n s (seen_of old) → DoesItem seen_of held_by told_of moment outcomes n (item_of s p) old new r) sized
-    (subst (λ (l : List ℕ). ((s : Situation) → IsIn size' s (seen_of old) → DoesItem seen_of held_by told_of moment outcomes size' (item_of s p') old new r) → (s : Situation) → IsIn size' s (seen_of old) → DoesItem seen_of held_by told_of moment outcomes size' (item_of s l) old new r) packets (λ h. h))
+    subst (λ (n : ℕ). ((s : Mounted) → IsIn size' s (seen_of old) → DoesItem seen_of held_by told_of moment outcomes size' (item_of s p') old new r) → (s : Mounted) → IsIn n s (seen_of old) → DoesItem seen_of held_by told_of moment outcomes n (item_of s p) old new r) sized
+    (subst (λ (l : List ℕ). ((s : Mounted) → IsIn size' s (seen_of old) → DoesItem seen_of held_by told_of moment outcomes size' (item_of s p') old new r) → (s : Mounted) → IsIn size' s (seen_of old) → DoesItem seen_of held_by told_of moment outcomes size' (item_of s l) old new r) packets (λ h. h))

@@ -11,24 +11,24 @@ use Rattle.vab_fbproto.specs.Commands.{Named, SetActive, Boot, Mark, Print, Dige
 use Rattle.vab_fbproto.specs.Requests.{Asked, Getvar, Do, BootAndEnd, request_of}
 use Rattle.vab_fbproto.specs.declared.request.BadCommand.{BadCommand}
 use Rattle.vab_session.specs.Session.{packet}
-use Rattle.vab_session.specs.Items.{Situation, IsIn, Item, joined, situation_after, acknowledged, IsOneOf, steps_at, StandsForOne, IsWithin, LeavesItem}
+use Rattle.vab_session.specs.Items.{Mounted, IsIn, Item, joined, mounted_after, acknowledged, IsOneOf, steps_at, RepresentsOne, CrashesWithin, LeavesItem}
 use Rattle.vab_session.specs.Answers.{in_state, item_asked, item_of, items_of}
 
 -- ---- the first step of an item is where the one before it ends
 
 -- each item begins with the situation before it, and something is told of it
-abbrev pub IsChain : Situation → List Item → Type 0
+abbrev pub IsChain : Mounted → List Item → Type 0
 IsChain s [] = Unit {0}
 IsChain s (i ∷ is) = IsOneOf i.steps s × (0 < length i.reply) × IsChain i.last is
 
-pub named_first : (s : Situation) (c : Named) → IsOneOf (map (in_state s) (steps_named s.state c)) s
+pub named_first : (s : Mounted) (c : Named) → IsOneOf (map (in_state s) (steps_named s.state c)) s
 named_first s (SetActive slot) = inl refl
 named_first s Boot = inl refl
 named_first s Mark = inl refl
 named_first s (Print name) = inl refl
 named_first s (Digest name) = inl refl
 
-asked_first : (s : Situation) (r : Result Asked BadCommand) → IsOneOf (item_asked s r).steps s
+asked_first : (s : Mounted) (r : Result Asked BadCommand) → IsOneOf (item_asked s r).steps s
 asked_first s (Ok (Getvar v)) = inl refl
 asked_first s (Ok (Do c)) = named_first s c
 asked_first s (Ok BootAndEnd) = named_first s Boot
@@ -38,27 +38,27 @@ pub packet_some : (b : List ℕ) → 0 < length (packet b)
 unfolding packet
 packet_some b = omega (arith, length-append (to_be_bytes w64 (length b)) b)
 
-asked_some : (s : Situation) (r : Result Asked BadCommand) → 0 < length (item_asked s r).reply
+asked_some : (s : Mounted) (r : Result Asked BadCommand) → 0 < length (item_asked s r).reply
 asked_some s (Ok (Getvar v)) = packet_some _
 asked_some s (Ok (Do c)) = packet_some _
 asked_some s (Ok BootAndEnd) = packet_some _
 asked_some s (Err bad) = packet_some _
 
-item_first : (s : Situation) (p : List ℕ) → IsOneOf (item_of s p).steps s
+item_first : (s : Mounted) (p : List ℕ) → IsOneOf (item_of s p).steps s
 unfolding item_of
 item_first s p = asked_first s (request_of p)
 
-item_some : (s : Situation) (p : List ℕ) → 0 < length (item_of s p).reply
+item_some : (s : Mounted) (p : List ℕ) → 0 < length (item_of s p).reply
 unfolding item_of
 item_some s p = asked_some s (request_of p)
 
-pub items_chain : (s : Situation) (ps : List (List ℕ)) → IsChain s (items_of s ps)
+pub items_chain : (s : Mounted) (ps : List (List ℕ)) → IsChain s (items_of s ps)
 items_chain s [] = tt
 items_chain s (p ∷ ps) = (item_first s p, item_some s p, items_chain (item_of s p).last ps)
 
 -- ---- what stands whole
 
-none_told : (s : Situation) (is : List Item) → IsChain s is → acknowledged is [] ≡ 0
+none_told : (s : Mounted) (is : List Item) → IsChain s is → acknowledged is [] ≡ 0
 none_told s [] chain = refl
 none_told s (i ∷ is) chain = let some : 0 < length i.reply = chain.1 in grind (arith, nat_tests)
 
@@ -91,24 +91,24 @@ pub joined_append : (is js : List Item) → joined (is ++ js) ≡ joined is ++ j
 joined_append [] js = refl
 joined_append (i ∷ is) js = ap (λ (l : List ℕ). i.reply ++ l) (joined_append is js) ∙ sym (append_assoc i.reply (joined is) (joined js))
 
-pub items_append : (s : Situation) (ps qs : List (List ℕ)) → items_of s (ps ++ qs) ≡ items_of s ps ++ items_of (situation_after s (items_of s ps)) qs
+pub items_append : (s : Mounted) (ps qs : List (List ℕ)) → items_of s (ps ++ qs) ≡ items_of s ps ++ items_of (mounted_after s (items_of s ps)) qs
 items_append s [] qs = refl
 items_append s (p ∷ ps) qs = ap (λ (l : List Item). item_of s p ∷ l) (items_append (item_of s p).last ps qs)
 
-pub after_append : (s : Situation) (is js : List Item) → situation_after s (is ++ js) ≡ situation_after (situation_after s is) js
+pub after_append : (s : Mounted) (is js : List Item) → mounted_after s (is ++ js) ≡ mounted_after (mounted_after s is) js
 after_append s [] js = refl
 after_append s (i ∷ is) js = after_append i.last is js
 
-steps_first : (s : Situation) (is : List Item) → IsChain s is → IsOneOf (steps_at s is 0) s
+steps_first : (s : Mounted) (is : List Item) → IsChain s is → IsOneOf (steps_at s is 0) s
 steps_first s [] chain = inl refl
 steps_first s (i ∷ is) chain = chain.0
 
 -- the steps of the item behind the first ones, and those of the next begin with its last
-steps_here : (s : Situation) (done : List Item) (i : Item) (later : List Item) → steps_at s (done ++ i ∷ later) (length done) ≡ i.steps
+steps_here : (s : Mounted) (done : List Item) (i : Item) (later : List Item) → steps_at s (done ++ i ∷ later) (length done) ≡ i.steps
 steps_here s [] i later = refl
 steps_here s (j ∷ done) i later = steps_here j.last done i later
 
-steps_next : (s : Situation) (done : List Item) (i : Item) (later : List Item) → IsChain i.last later → IsOneOf (steps_at s (done ++ i ∷ later) (suc (length done))) i.last
+steps_next : (s : Mounted) (done : List Item) (i : Item) (later : List Item) → IsChain i.last later → IsOneOf (steps_at s (done ++ i ∷ later) (suc (length done))) i.last
 steps_next s [] i later chain = steps_first i.last later chain
 steps_next s (j ∷ done) i later chain = steps_next j.last done i later chain
 
@@ -125,8 +125,8 @@ front_at greeting done later i m =
     (length front, sym (take_at front (drop m r ++ joined later) (length front) refl) ∙ ap (λ (l : List ℕ). take (length front) l) (sym all))
 
 -- One item more of a run: what its outcomes are in the run.
-pub within_item : (size : ℕ) (greeting : List ℕ) (first : Situation) (done later : List Item) (i : Item) (told told' : List ℕ) → IsChain i.last later → told' ≡ told ++ (greeting ++ joined done)
-    → (o : Outcome) → LeavesItem size told' i o → IsWithin size greeting first (done ++ i ∷ later) told o
+pub within_item : (size : ℕ) (greeting : List ℕ) (first : Mounted) (done later : List Item) (i : Item) (told told' : List ℕ) → IsChain i.last later → told' ≡ told ++ (greeting ++ joined done)
+    → (o : Outcome) → LeavesItem size told' i o → CrashesWithin size greeting first (done ++ i ∷ later) told o
 within_item size greeting first done later i told told' chain so_far o leaves =
     let all = done ++ i ∷ later in
     let m = leaves.front.0 in
@@ -134,20 +134,20 @@ within_item size greeting first done later i told told' chain so_far o leaves =
     let since = greeting ++ part in
     let told_is : o.told ≡ told ++ since = leaves.front.1 ∙ ap (λ (l : List ℕ). l ++ take m i.reply) so_far ∙ append_assoc told (greeting ++ joined done) (take m i.reply) ∙ ap (λ (l : List ℕ). told ++ l) (append_assoc greeting (joined done) (take m i.reply)) in
     let behind : drop (length greeting) since ≡ part = drop_at greeting part (length greeting) refl in
-    let at : (n : ℕ) → acknowledged all part ≡ n → StandsForOne size (steps_at first all n) o.image → StandsForOne size (steps_at first all (acknowledged all (drop (length greeting) since))) o.image =
-    λ n is stands. subst (λ (k : ℕ). StandsForOne size (steps_at first all k) o.image) (sym (ap (acknowledged all) behind ∙ is)) stands in
+    let at : (n : ℕ) → acknowledged all part ≡ n → RepresentsOne size (steps_at first all n) o.image → RepresentsOne size (steps_at first all (acknowledged all (drop (length greeting) since))) o.image =
+    λ n is stands. subst (λ (k : ℕ). RepresentsOne size (steps_at first all k) o.image) (sym (ap (acknowledged all) behind ∙ is)) stands in
     record {
       since = since;
       told_since = told_is;
       front = front_at greeting done later i m;
       step = ⊎_elim
-          (λ none. at (length done) none (subst (λ (l : List Situation). StandsForOne size l o.image) (sym (steps_here first done i later)) leaves.step))
+          (λ none. at (length done) none (subst (λ (l : List Mounted). RepresentsOne size l o.image) (sym (steps_here first done i later)) leaves.step))
           (λ one. at (suc (length done)) one.0 (i.last, steps_next first done i later chain, leaves.whole (leaves.front.1 ∙ ap (λ (l : List ℕ). told' ++ l) one.1)))
           (told_up_to done later i chain m);
     }
 
 -- Before the first item: a front of the greeting is told.
-pub within_greeting : (size : ℕ) (greeting : List ℕ) (first : Situation) (is : List Item) (told : List ℕ) (o : Outcome) (n : ℕ) → IsChain first is → n ≤ length greeting → o.told ≡ told ++ take n greeting → IsIn size first o.image → IsWithin size greeting first is told o
+pub within_greeting : (size : ℕ) (greeting : List ℕ) (first : Mounted) (is : List Item) (told : List ℕ) (o : Outcome) (n : ℕ) → IsChain first is → n ≤ length greeting → o.told ≡ told ++ take n greeting → IsIn size first o.image → CrashesWithin size greeting first is told o
 within_greeting size greeting first is told o n chain fits told_is stands =
     let none : drop (length greeting) (take n greeting) ≡ [] = drop_all (length greeting) (take n greeting) (omega (arith, length-take n greeting)) in
     let count : acknowledged is (drop (length greeting) (take n greeting)) ≡ 0 = ap (λ (l : List ℕ). acknowledged is l) none ∙ none_told first is chain in
@@ -155,7 +155,7 @@ within_greeting size greeting first is told o n chain fits told_is stands =
       since = take n greeting;
       told_since = told_is;
       front = (n, sym (take-append-le n greeting (joined is) fits));
-      step = subst (λ (k : ℕ). StandsForOne size (steps_at first is k) o.image) (sym count) (first, steps_first first is chain, stands);
+      step = subst (λ (k : ℕ). RepresentsOne size (steps_at first is k) o.image) (sym count) (first, steps_first first is chain, stands);
     }
 
 -- ---- one item

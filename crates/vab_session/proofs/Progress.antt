@@ -9,7 +9,7 @@ use Rattle.vab_fbtcp.specs.declared.event.Place.TheVariants.{Length}
 use Rattle.vab_recover.specs.declared.device.Device.{Device}
 use Rattle.vab_session.specs.Session.{packet, ends_session, AreShort, IsCutShort, End, Closed, Rebooted, TooLong, Cut, Spent, StopsAt, EndsBy, spent}
 use Rattle.vab_session.specs.Reading.{EndsIn}
-use Rattle.vab_session.specs.Items.{Situation, IsIn, Item, joined, situation_after, IsWithin, LeavesItem}
+use Rattle.vab_session.specs.Items.{Mounted, IsIn, Item, joined, mounted_after, CrashesWithin, LeavesItem}
 use Rattle.vab_session.specs.Answers.{item_of, items_of, output_of}
 use Rattle.vab_session.specs.Served.{Split, Answer, EndedBy, PortHeld, Answers}
 use Rattle.vab_session.specs.Fault.{IsPortFault}
@@ -45,7 +45,7 @@ port_fails faults.Source port held = port
 
 module _ {D : Type 0} (seen_of : D → Image) (held_by : D → ℕ → List ℕ → Type 0) (told_of left_of : D → List ℕ) (moment : D → ℕ) (outcomes : D → ℕ → Outcome → Type 0) (size : ℕ) where
   -- Some of the packets are answered, and the others stand in the bytes that are left.
-  pub record Progress {count : ℕ} {bytes : List ℕ} (s : Split count bytes) (first : Situation) (told : List ℕ) (old now : D) (left : List ℕ) : Type 0 where
+  pub record Progress {count : ℕ} {bytes : List ℕ} (s : Split count bytes) (first : Mounted) (told : List ℕ) (old now : D) (left : List ℕ) : Type 0 where
     pub done : List (List ℕ)
     pub todo : List (List ℕ)
     pub split : s.packets ≡ done ++ todo
@@ -53,12 +53,12 @@ module _ {D : Type 0} (seen_of : D → Image) (held_by : D → ℕ → List ℕ 
     pub short : AreShort todo
     pub ends : EndsBy count todo s.rest s.end
     pub told_is : told_of now ≡ told ++ (codes "FB01" ++ joined (items_of first done))
-    pub stands : IsIn size (situation_after first (items_of first done)) (seen_of now)
+    pub stands : IsIn size (mounted_after first (items_of first done)) (seen_of now)
     pub settled : IsSettled (seen_of old) (held_by old) → IsSettled (seen_of now) (held_by now)
-    pub time : IsSettled (seen_of old) (held_by old) → Adds moment outcomes old now (IsWithin size (codes "FB01") first (items_of first s.packets) told)
+    pub time : IsSettled (seen_of old) (held_by old) → Adds moment outcomes old now (CrashesWithin size (codes "FB01") first (items_of first s.packets) told)
 
   -- before the first packet
-  pub begun : {count : ℕ} {bytes : List ℕ} (s : Split count bytes) (first : Situation) (told : List ℕ) (old : D) → IsIn size first (seen_of old) → told_of old ≡ told ++ codes "FB01" → Progress s first told old old bytes
+  pub begun : {count : ℕ} {bytes : List ℕ} (s : Split count bytes) (first : Mounted) (told : List ℕ) (old : D) → IsIn size first (seen_of old) → told_of old ≡ told ++ codes "FB01" → Progress s first told old old bytes
   begun s first told old stands greeted = record {
     done = [];
     todo = s.packets;
@@ -69,13 +69,13 @@ module _ {D : Type 0} (seen_of : D → Image) (held_by : D → ℕ → List ℕ 
     told_is = greeted;
     stands = stands;
     settled = λ settled. settled;
-    time = λ settled. adds_none moment outcomes old (IsWithin size (codes "FB01") first (items_of first s.packets) told);
+    time = λ settled. adds_none moment outcomes old (CrashesWithin size (codes "FB01") first (items_of first s.packets) told);
   }
 
-  module _ {count : ℕ} {bytes : List ℕ} (s : Split count bytes) (first : Situation) (told : List ℕ) (old mid : D) (left : List ℕ) (so_far : Progress s first told old mid left) where
+  module _ {count : ℕ} {bytes : List ℕ} (s : Split count bytes) (first : Mounted) (told : List ℕ) (old mid : D) (left : List ℕ) (so_far : Progress s first told old mid left) where
     -- where the session is
-    abbrev pub here : Situation
-    here = situation_after first (items_of first so_far.done)
+    abbrev pub here : Mounted
+    here = mounted_after first (items_of first so_far.done)
 
     -- a packet is read: the disk and what was told stay
     pub heard : (now : D) → told_of now ≡ told_of mid → seen_of now ≡ seen_of mid → SameHoldings (held_by mid) (held_by now) → Adds moment outcomes mid now Nothing → Progress s first told old now left
@@ -89,7 +89,7 @@ module _ {D : Type 0} (seen_of : D → Image) (held_by : D → ℕ → List ℕ 
       told_is = same ∙ so_far.told_is;
       stands = subst (λ (x : Image). IsIn size here x) (sym seen) so_far.stands;
       settled = λ settled k b held. so_far.settled settled k b (holds.no_more k b held) ∙ ap (λ (x : Image). x k) (sym seen);
-      time = λ settled. adds_still moment outcomes old mid now (IsWithin size (codes "FB01") first (items_of first s.packets) told) (so_far.time settled) time;
+      time = λ settled. adds_still moment outcomes old mid now (CrashesWithin size (codes "FB01") first (items_of first s.packets) told) (so_far.time settled) time;
     }
 
     -- The packet that stands at the front.
@@ -120,10 +120,10 @@ module _ {D : Type 0} (seen_of : D → Image) (held_by : D → ℕ → List ℕ 
 
       -- while it is answered
       pub answering : (IsSettled (seen_of mid) (held_by mid) → Adds moment outcomes mid now (LeavesItem size (told_of mid) (item_of here body)))
-          → IsSettled (seen_of old) (held_by old) → Adds moment outcomes old now (IsWithin size (codes "FB01") first (items_of first s.packets) told)
+          → IsSettled (seen_of old) (held_by old) → Adds moment outcomes old now (CrashesWithin size (codes "FB01") first (items_of first s.packets) told)
       answering time settled =
-          adds_on moment outcomes old mid now (IsWithin size (codes "FB01") first (items_of first s.packets) told) (LeavesItem size (told_of mid) (item_of here body)) (so_far.time settled) (time (so_far.settled settled))
-          (λ o leaves. subst (λ (l : List Item). IsWithin size (codes "FB01") first l told o) (sym all_items)
+          adds_on moment outcomes old mid now (CrashesWithin size (codes "FB01") first (items_of first s.packets) told) (LeavesItem size (told_of mid) (item_of here body)) (so_far.time settled) (time (so_far.settled settled))
+          (λ o leaves. subst (λ (l : List Item). CrashesWithin size (codes "FB01") first l told o) (sym all_items)
           (within_item size (codes "FB01") first (items_of first so_far.done) (items_of (item_of here body).last next.more) (item_of here body) told (told_of mid) (items_chain (item_of here body).last next.more) so_far.told_is o leaves))
 
       -- a front of its reply is a front of all
@@ -149,8 +149,8 @@ module _ {D : Type 0} (seen_of : D → Image) (held_by : D → ℕ → List ℕ 
           ∙ ap (λ (l : List ℕ). codes "FB01" ++ l) (ap (λ (l : List ℕ). joined done ++ l) (sym (append-nil i.reply)) ∙ sym (joined_append done (i ∷ [])) ∙ ap joined (sym (items_append first so_far.done (body ∷ [])))))
 
       -- where the session is then
-      there : situation_after first (items_of first (so_far.done ++ body ∷ [])) ≡ (item_of here body).last
-      there = ap (situation_after first) (items_append first so_far.done (body ∷ [])) ∙ after_append first (items_of first so_far.done) (item_of here body ∷ [])
+      there : mounted_after first (items_of first (so_far.done ++ body ∷ [])) ≡ (item_of here body).last
+      there = ap (mounted_after first) (items_append first so_far.done (body ∷ [])) ∙ after_append first (items_of first so_far.done) (item_of here body ∷ [])
 
       module _ (told_is : told_of now ≡ told_of mid ++ (item_of here body).reply) (stands : IsIn size (item_of here body).last (seen_of now)) (settled : IsSettled (seen_of mid) (held_by mid) → IsSettled (seen_of now) (held_by now))
           (time : IsSettled (seen_of mid) (held_by mid) → Adds moment outcomes mid now (LeavesItem size (told_of mid) (item_of here body))) where
@@ -164,7 +164,7 @@ module _ {D : Type 0} (seen_of : D → Image) (held_by : D → ℕ → List ℕ 
           short = next.short;
           ends = next.goes_on on;
           told_is = told_after told_is;
-          stands = subst (λ (x : Situation). IsIn size x (seen_of now)) (sym there) stands;
+          stands = subst (λ (x : Mounted). IsIn size x (seen_of now)) (sym there) stands;
           settled = λ before. settled (so_far.settled before);
           time = answering time;
         }
@@ -181,7 +181,7 @@ module _ {D : Type 0} (seen_of : D → Image) (held_by : D → ℕ → List ℕ 
               whole = λ held. told_all;
               rest = λ rest held. record {
                 settled = settled (so_far.settled rest.settled);
-                stands = subst (λ (x : Situation). IsIn size x (seen_of now)) (sym (ap (λ (l : List (List ℕ)). situation_after first (items_of first l)) all ∙ there)) stands;
+                stands = subst (λ (x : Mounted). IsIn size x (seen_of now)) (sym (ap (λ (l : List (List ℕ)). mounted_after first (items_of first l)) all ∙ there)) stands;
               };
               time = λ rest. answering time rest.settled;
             }
@@ -213,7 +213,7 @@ module _ {D : Type 0} (seen_of : D → Image) (held_by : D → ℕ → List ℕ 
             whole = λ held. so_far.told_is ∙ ap (λ (l : List (List ℕ)). told ++ output_of first l) (sym every);
             rest = λ rest held. record {
               settled = so_far.settled rest.settled;
-              stands = subst (λ (l : List (List ℕ)). IsIn size (situation_after first (items_of first l)) (seen_of mid)) (sym every) so_far.stands;
+              stands = subst (λ (l : List (List ℕ)). IsIn size (mounted_after first (items_of first l)) (seen_of mid)) (sym every) so_far.stands;
             };
             time = λ rest. so_far.time rest.settled;
           }

@@ -13,7 +13,7 @@ use Rattle.vab_fbtcp.specs.declared.event.Place.TheVariants.{Hello}
 use Rattle.vab_session.specs.Reading.{EndsIn}
 use Rattle.vab_session.specs.Session.{EndsBy, End, Closed, Rebooted, BadHello, TooLong, Cut, Spent, spent, packet, HasNoHello, Reads, IsSession}
 use Rattle.vab_session.specs.Served.{Split, Answer, EndedBy, PortHeld, Answers, Serves}
-use Rattle.vab_session.specs.Items.{Situation, IsIn, joined, IsWithin, IsAtRest}
+use Rattle.vab_session.specs.Items.{Mounted, IsIn, joined, CrashesWithin, IsAtRest}
 use Rattle.vab_session.specs.Answers.{items_of, output_of}
 use Rattle.vab_session.specs.declared.fault.SessionFault.{SessionFault}
 use Rattle.vab_session.specs.declared.fault.SessionFault.TheVariants as faults
@@ -131,11 +131,11 @@ only_one most input packets others end other a b =
 
 module _ {D : Type 0} (seen_of : D → Image) (held_by : D → ℕ → List ℕ → Type 0) (told_of left_of : D → List ℕ) (moment : D → ℕ) (outcomes : D → ℕ → Outcome → Type 0) (only_now : (d : D) (o : Outcome) → outcomes d (moment d) o → Leaves (told_of d) (held_by d) o) (size : ℕ) where
   -- a cut of power within a session
-  abbrev Within : Situation → List (List ℕ) → D → Outcome → Type 0
-  Within first packets old = IsWithin size (codes "FB01") first (items_of first packets) (told_of old)
+  abbrev Within : Mounted → List (List ℕ) → D → Outcome → Type 0
+  Within first packets old = CrashesWithin size (codes "FB01") first (items_of first packets) (told_of old)
 
   -- every outcome since a moment at rest
-  cuts : (old now : D) (first : Situation) (packets : List (List ℕ)) → Adds moment outcomes old now (Within first packets old) → IsAtRest seen_of held_by size old first → (o : Outcome) → outcomes now (moment old) o → Within first packets old o
+  cuts : (old now : D) (first : Mounted) (packets : List (List ℕ)) → Adds moment outcomes old now (Within first packets old) → IsAtRest seen_of held_by size old first → (o : Outcome) → outcomes now (moment old) o → Within first packets old o
   cuts old now first packets time rest =
       all_since moment outcomes old now (Within first packets old) (Leaves (told_of old) (held_by old)) time (only_now old)
       (λ o leaves.
@@ -143,7 +143,7 @@ module _ {D : Type 0} (seen_of : D → Image) (held_by : D → ℕ → List ℕ 
       within_greeting size (codes "FB01") first (items_of first packets) (told_of old) o 0 (items_chain first packets) (omega arith) (leaves.told_so_far ∙ sym (append-nil (told_of old))) (subst (λ (x : Image). IsIn size first x) (sym image) rest.stands))
 
   -- while the greeting is told
-  pub greeting : (old mid : D) (first : Situation) (packets : List (List ℕ)) → Adds moment outcomes old mid (LeavesSaying (told_of old) (codes "FB01") (held_by old)) → IsAtRest seen_of held_by size old first → Adds moment outcomes old mid (Within first packets old)
+  pub greeting : (old mid : D) (first : Mounted) (packets : List (List ℕ)) → Adds moment outcomes old mid (LeavesSaying (told_of old) (codes "FB01") (held_by old)) → IsAtRest seen_of held_by size old first → Adds moment outcomes old mid (Within first packets old)
   greeting old mid first packets time rest =
       adds_wider moment outcomes old mid (LeavesSaying (told_of old) (codes "FB01") (held_by old)) (Within first packets old) time
       (λ o leaves.
@@ -152,14 +152,14 @@ module _ {D : Type 0} (seen_of : D → Image) (held_by : D → ℕ → List ℕ 
       within_greeting size (codes "FB01") first (items_of first packets) (told_of old) o (min n 4) (items_chain first packets) (omega arith) (leaves.front.1 ∙ ap (λ (l : List ℕ). told_of old ++ l) (sym (take_min n (codes "FB01")))) (subst (λ (x : Image). IsIn size first x) (sym image) rest.stands))
 
   -- a front of the greeting is one of all that is told
-  greeting_front : (told told' : List ℕ) (first : Situation) (packets : List (List ℕ)) → (n : ℕ) × (told' ≡ told ++ take n (codes "FB01")) → (n : ℕ) × (told' ≡ told ++ take n (output_of first packets))
+  greeting_front : (told told' : List ℕ) (first : Mounted) (packets : List (List ℕ)) → (n : ℕ) × (told' ≡ told ++ take n (codes "FB01")) → (n : ℕ) × (told' ≡ told ++ take n (output_of first packets))
   greeting_front told told' first packets front =
       let n = front.0 in
       let fits : min n 4 ≤ length (codes "FB01") = omega arith in
       (min n 4, front.1 ∙ ap (λ (l : List ℕ). told ++ l) (sym (take_min n (codes "FB01")) ∙ sym (take-append-le (min n 4) (codes "FB01") (joined (items_of first packets)) fits)))
 
   -- the port failed before the first packet
-  pub failed_early : (most : ℕ) (first : Situation) (old now : D) (result : Answer) → AreBytes (left_of old) → ((end : End) → EndedBy result end) → (PortHeld result → ⊥)
+  pub failed_early : (most : ℕ) (first : Mounted) (old now : D) (result : Answer) → AreBytes (left_of old) → ((end : End) → EndedBy result end) → (PortHeld result → ⊥)
       → (n : ℕ) × (told_of now ≡ told_of old ++ take n (codes "FB01")) → ((packets : List (List ℕ)) → IsAtRest seen_of held_by size old first → Adds moment outcomes old now (Within first packets old))
       → Serves seen_of held_by told_of left_of moment outcomes size most first old now result
   failed_early most first old now result are any none front time =
@@ -178,7 +178,7 @@ module _ {D : Type 0} (seen_of : D → Image) (held_by : D → ℕ → List ℕ 
       }
 
   -- the input stopped in the hello
-  module _ (most : ℕ) (first : Situation) (old now : D) (told : told_of now ≡ told_of old ++ codes "FB01") (rests : IsAtRest seen_of held_by size old first → IsAtRest seen_of held_by size now first) (time : (packets : List (List ℕ)) → IsAtRest seen_of held_by size old first → Adds moment outcomes old now (Within first packets old)) where
+  module _ (most : ℕ) (first : Mounted) (old now : D) (told : told_of now ≡ told_of old ++ codes "FB01") (rests : IsAtRest seen_of held_by size old first → IsAtRest seen_of held_by size now first) (time : (packets : List (List ℕ)) → IsAtRest seen_of held_by size old first → Adds moment outcomes old now (Within first packets old)) where
     no_packets : (result : Answer) (end : End) → IsSession most (left_of old) [] end → EndedBy result end → Serves seen_of held_by told_of left_of moment outcomes size most first old now result
     no_packets result end session ends = record {
       packets = [];
@@ -208,7 +208,7 @@ module _ {D : Type 0} (seen_of : D → Image) (held_by : D → ℕ → List ℕ 
     stopped_early are faults.Disk why = absurd why
 
   -- the packets were answered
-  pub served : (most : ℕ) (first : Situation) (old mid now : D) (s : Split (min most (length (left_of old))) (drop 4 (take most (left_of old)))) → is_hello (take 4 (take most (left_of old))) ≡ true
+  pub served : (most : ℕ) (first : Mounted) (old mid now : D) (s : Split (min most (length (left_of old))) (drop 4 (take most (left_of old)))) → is_hello (take 4 (take most (left_of old))) ≡ true
       → (IsAtRest seen_of held_by size old first → IsAtRest seen_of held_by size mid first) → (IsAtRest seen_of held_by size old first → Adds moment outcomes old mid (Within first s.packets old))
       → (r : Answer) → Answers seen_of held_by told_of left_of moment outcomes s size most (length (left_of old)) first (told_of old) mid now r → Serves seen_of held_by told_of left_of moment outcomes size most first old now r
   served most first old mid now s hello rests time r answers = record {
@@ -225,7 +225,7 @@ module _ {D : Type 0} (seen_of : D → Image) (held_by : D → ℕ → List ℕ 
   }
 
   -- what only hears or tells leaves the disk at rest
-  pub still_at_rest : (mid now : D) (s : Situation) → seen_of now ≡ seen_of mid → SameHoldings (held_by mid) (held_by now) → IsAtRest seen_of held_by size mid s → IsAtRest seen_of held_by size now s
+  pub still_at_rest : (mid now : D) (s : Mounted) → seen_of now ≡ seen_of mid → SameHoldings (held_by mid) (held_by now) → IsAtRest seen_of held_by size mid s → IsAtRest seen_of held_by size now s
   still_at_rest mid now s same holds rest = record {
     settled = λ k b held. rest.settled k b (holds.no_more k b held) ∙ ap (λ (x : Image). x k) (sym same);
     stands = subst (λ (x : Image). IsIn size s x) (sym same) rest.stands;

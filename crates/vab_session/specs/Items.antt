@@ -5,20 +5,20 @@ use Rattle.vab_model.specs.declared.state.State.{State}
 use Rattle.vab_device.specs.Device.{Places, device, places as places_on}
 
 -- a device: its state, and where its partitions stand
-pub record Situation : Type 0 where
+pub record Mounted : Type 0 where
   pub state : State
   pub places : Places
 
 -- a disk of so many sectors is a device in this situation
-pub record IsIn (size : ℕ) (s : Situation) (image : Image) : Type 0 where
+pub record IsIn (size : ℕ) (s : Mounted) (image : Image) : Type 0 where
   pub state : device size image ≡ Ok s.state
   pub places : places_on size image ≡ Ok s.places
 
 -- what is told, and the situations from the one before it to the last
 pub record Item : Type 0 where
   pub reply : List ℕ
-  pub steps : List Situation
-  pub last : Situation
+  pub steps : List Mounted
+  pub last : Mounted
 
 -- all that is told of them
 abbrev pub joined : List Item → List ℕ
@@ -26,9 +26,9 @@ joined [] = []
 joined (i ∷ is) = i.reply ++ joined is
 
 -- the situation after them
-abbrev pub situation_after : Situation → List Item → Situation
-situation_after s [] = s
-situation_after s (i ∷ is) = situation_after i.last is
+abbrev pub mounted_after : Mounted → List Item → Mounted
+mounted_after s [] = s
+mounted_after s (i ∷ is) = mounted_after i.last is
 
 -- how many of them stand whole in what was told
 abbrev pub acknowledged : List Item → List ℕ → ℕ
@@ -36,36 +36,36 @@ acknowledged [] told = 0
 acknowledged (i ∷ is) told = if nat_le (length i.reply) (length told) then suc (acknowledged is (drop (length i.reply) told)) else 0
 
 -- one of these situations
-abbrev pub IsOneOf : List Situation → Situation → Type 0
+abbrev pub IsOneOf : List Mounted → Mounted → Type 0
 IsOneOf [] s = ⊥
 IsOneOf (x ∷ xs) s = (s ≡ x) ⊎ IsOneOf xs s
 
 -- the steps of the item that follows on the first n, and where there is none the situation after them
-abbrev pub steps_at : Situation → List Item → ℕ → List Situation
+abbrev pub steps_at : Mounted → List Item → ℕ → List Mounted
 steps_at s [] n = s ∷ []
 steps_at s (i ∷ is) zero = i.steps
 steps_at s (i ∷ is) (suc n) = steps_at i.last is n
 
 -- the disk is a device in one of these situations
-abbrev pub StandsForOne : ℕ → List Situation → Image → Type 0
-StandsForOne size steps image = (s : Situation) × IsOneOf steps s × IsIn size s image
+abbrev pub RepresentsOne : ℕ → List Mounted → Image → Type 0
+RepresentsOne size steps image = (s : Mounted) × IsOneOf steps s × IsIn size s image
 
 -- A front of the greeting and of what is told of the items is told, and the disk is in a step of the first item that doesn't stand whole, after
 -- all the acknowledged ones.
-pub record IsWithin (size : ℕ) (greeting : List ℕ) (first : Situation) (items : List Item) (told : List ℕ) (o : Outcome) : Type 0 where
+pub record CrashesWithin (size : ℕ) (greeting : List ℕ) (first : Mounted) (items : List Item) (told : List ℕ) (o : Outcome) : Type 0 where
   pub since : List ℕ
   pub told_since : o.told ≡ told ++ since
   pub front : (n : ℕ) × (since ≡ take n (greeting ++ joined items))
-  pub step : StandsForOne size (steps_at first items (acknowledged items (drop (length greeting) since))) o.image
+  pub step : RepresentsOne size (steps_at first items (acknowledged items (drop (length greeting) since))) o.image
 
 -- Some front of what is told of an item is told, and the disk is in one of its steps. Where all of it stands, it is in the last.
 pub record LeavesItem (size : ℕ) (told : List ℕ) (item : Item) (o : Outcome) : Type 0 where
   pub front : (n : ℕ) × (o.told ≡ told ++ take n item.reply)
-  pub step : StandsForOne size item.steps o.image
+  pub step : RepresentsOne size item.steps o.image
   pub whole : o.told ≡ told ++ item.reply → IsIn size item.last o.image
 
 -- Nothing is pending, and the disk is in this situation.
-pub record IsAtRest {D : Type 0} (seen_of : D → Image) (held_by : D → ℕ → List ℕ → Type 0) (size : ℕ) (d : D) (s : Situation) : Type 0 where
+pub record IsAtRest {D : Type 0} (seen_of : D → Image) (held_by : D → ℕ → List ℕ → Type 0) (size : ℕ) (d : D) (s : Mounted) : Type 0 where
   pub settled : IsSettled (seen_of d) (held_by d)
   pub stands : IsIn size s (seen_of d)
 

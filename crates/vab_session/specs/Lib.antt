@@ -5,4 +5,4 @@ pub mod Items
 pub mod Reading
 pub mod Served
 pub mod Session
-pub mod SituationLaws
+pub mod MountedLaws

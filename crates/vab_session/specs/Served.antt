@@ -5,7 +5,7 @@ use Rattle.vab_disk.specs.Disk.{Image, Outcome, Adds}
 use Rattle.vab_recover.specs.declared.device.Device.{Device}
 use Rattle.vab_session.specs.Session.{packet, AreShort, End, EndsBy, IsSession, spent}
 use Rattle.vab_session.specs.Session as session
-use Rattle.vab_session.specs.Items.{Situation, situation_after, IsWithin, IsAtRest}
+use Rattle.vab_session.specs.Items.{Mounted, mounted_after, CrashesWithin, IsAtRest}
 use Rattle.vab_session.specs.Answers.{items_of, output_of}
 use Rattle.vab_session.specs.declared.fault.Ended.{Ended}
 use Rattle.vab_session.specs.declared.fault.Ended.TheVariants as ended
@@ -60,7 +60,7 @@ module _ {D : Type 0} (seen_of : D → Image) (held_by : D → ℕ → List ℕ 
   -- A session of at most so many bytes, from this situation on: it is one of the input. What was told is a front of what it
   -- tells, and all of it unless the disk or the port failed. In each outcome a front is told, and the disk is in a step of the
   -- first item that doesn't stand whole.
-  pub record Serves (size most : ℕ) (first : Situation) (old new : D) (result : Answer) : Type 0 where
+  pub record Serves (size most : ℕ) (first : Mounted) (old new : D) (result : Answer) : Type 0 where
     pub packets : List (List ℕ)
     pub end : End
     pub session : IsSession most (left_of old) packets end
@@ -69,18 +69,18 @@ module _ {D : Type 0} (seen_of : D → Image) (held_by : D → ℕ → List ℕ 
     pub ends : EndedBy result end
     pub front : (n : ℕ) × (told_of new ≡ told_of old ++ take n (output_of first packets))
     pub whole : PortHeld result → told_of new ≡ told_of old ++ output_of first packets
-    pub rest : IsAtRest seen_of held_by size old first → PortHeld result → IsAtRest seen_of held_by size new (situation_after first (items_of first packets))
-    pub time : IsAtRest seen_of held_by size old first → Adds moment outcomes old new (IsWithin size (codes "FB01") first (items_of first packets) (told_of old))
-    pub every_cut : IsAtRest seen_of held_by size old first → (o : Outcome) → outcomes new (moment old) o → IsWithin size (codes "FB01") first (items_of first packets) (told_of old) o
+    pub rest : IsAtRest seen_of held_by size old first → PortHeld result → IsAtRest seen_of held_by size new (mounted_after first (items_of first packets))
+    pub time : IsAtRest seen_of held_by size old first → Adds moment outcomes old new (CrashesWithin size (codes "FB01") first (items_of first packets) (told_of old))
+    pub every_cut : IsAtRest seen_of held_by size old first → (o : Outcome) → outcomes new (moment old) o → CrashesWithin size (codes "FB01") first (items_of first packets) (told_of old) o
 
   -- The packets of a session that are left, of an input of `total` bytes, where the greeting stands behind what was told
   -- before the session.
-  pub record Answers {count : ℕ} {bytes : List ℕ} (s : Split count bytes) (size most total : ℕ) (first : Situation) (told : List ℕ) (old new : D) (result : Answer) : Type 0 where
+  pub record Answers {count : ℕ} {bytes : List ℕ} (s : Split count bytes) (size most total : ℕ) (first : Mounted) (told : List ℕ) (old new : D) (result : Answer) : Type 0 where
     pub ends : EndedBy result (if nat_le most total then spent s.end else s.end)
     pub front : (n : ℕ) × (told_of new ≡ told ++ take n (output_of first s.packets))
     pub whole : PortHeld result → told_of new ≡ told ++ output_of first s.packets
-    pub rest : IsAtRest seen_of held_by size old first → PortHeld result → IsAtRest seen_of held_by size new (situation_after first (items_of first s.packets))
-    pub time : IsAtRest seen_of held_by size old first → Adds moment outcomes old new (IsWithin size (codes "FB01") first (items_of first s.packets) told)
+    pub rest : IsAtRest seen_of held_by size old first → PortHeld result → IsAtRest seen_of held_by size new (mounted_after first (items_of first s.packets))
+    pub time : IsAtRest seen_of held_by size old first → Adds moment outcomes old new (CrashesWithin size (codes "FB01") first (items_of first s.packets) told)
 
 -- Each input of bytes is a session.
 abbrev pub EachInputIsOne : Type 0

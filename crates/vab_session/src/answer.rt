@@ -2,11 +2,11 @@
 ghost use Rattle.std.specs.Prelude.{◌≡◌, ◌≤◌, ◌++◌, ℕ, length, take, OnOk, OnErr, IfOk, IfErr, IsErrOf, Err};
 ghost use Rattle.vab_disk.specs.Disk.{IsSettled, Adds, SameHoldings, NoFewer, Rose};
 ghost use Rattle.vab_disk.specs.Port.{LeavesSaying};
-ghost use Rattle.vab_recover.specs.Stands.{StandsFor, IsDevice};
+ghost use Rattle.vab_recover.specs.Stands.{Represents, IsDevice};
 ghost use Rattle.vab_fbproto.specs.Commands.{named_of, reply_named};
 ghost use Rattle.vab_fbproto.specs.Texts.{reply_text as text_of};
 ghost use Rattle.vab_session.specs.Session.{packet as spelling, ends_session};
-ghost use Rattle.vab_session.specs.Items.{Situation, IsIn, DoesItem};
+ghost use Rattle.vab_session.specs.Items.{Mounted, IsIn, DoesItem};
 ghost use Rattle.vab_session.specs.Answers.{item_named, item_still, item_of};
 ghost use Rattle.vab_session.specs.Fault.{IsPortFault};
 
@@ -56,12 +56,12 @@ fn tell_reply<P: Port>(p: &mut P, text: &[u8]) -> Result<(), SessionFault>
 fn tell_still<P: Port>(p: &mut P, device: Device, text: &[u8]) -> Result<Device, SessionFault>
     requires short { length text.now ≤ 256 }
     requires kept { IsDevice device (P.size p.old) }
-    requires stands { P.is_modelled → StandsFor device (P.size p.old) (P.seen p.old) }
+    requires stands { P.is_modelled → Represents device (P.size p.old) (P.seen p.old) }
     ensures size { P.size p.new ≡ P.size p.old }
     ensures left { P.is_modelled → P.input_left p.new ≡ P.input_left p.old }
     ensures kept { IfOk result (λ d. IsDevice d (P.size p.old)) }
-    ensures stands { P.is_modelled → IfOk result (λ d. StandsFor d (P.size p.old) (P.seen p.new)) }
-    ensures does { P.is_modelled → (s : Situation) → IsIn (P.size p.old) s (P.seen p.old) → DoesItem P.seen P.may_leave P.told P.moment P.outcomes (P.size p.old) (item_still s (spelling text.now)) p.old p.new result }
+    ensures stands { P.is_modelled → IfOk result (λ d. Represents d (P.size p.old) (P.seen p.new)) }
+    ensures does { P.is_modelled → (s : Mounted) → IsIn (P.size p.old) s (P.seen p.old) → DoesItem P.seen P.may_leave P.told P.moment P.outcomes (P.size p.old) (item_still s (spelling text.now)) p.old p.new result }
     ensures counts { NoFewer (P.faults p.old) (P.faults p.new) }
     ensures disk { IsErrOf result SessionFault.Disk → Rose (P.faults p.old).disk (P.faults p.new).disk }
     ensures sink { IsErrOf result SessionFault.Sink → Rose (P.faults p.old).sink (P.faults p.new).sink }
@@ -76,12 +76,12 @@ fn tell_still<P: Port>(p: &mut P, device: Device, text: &[u8]) -> Result<Device,
 // Carries out a command, and then tells its reply.
 fn carry_out<P: Port>(p: &mut P, device: Device, command: &Command) -> Result<Device, SessionFault>
     requires kept { IsDevice device (P.size p.old) }
-    requires stands { P.is_modelled → StandsFor device (P.size p.old) (P.seen p.old) }
+    requires stands { P.is_modelled → Represents device (P.size p.old) (P.seen p.old) }
     ensures size { P.size p.new ≡ P.size p.old }
     ensures left { P.is_modelled → P.input_left p.new ≡ P.input_left p.old }
     ensures kept { IfOk result (λ d. IsDevice d (P.size p.old)) }
-    ensures stands { P.is_modelled → IfOk result (λ d. StandsFor d (P.size p.old) (P.seen p.new)) }
-    ensures does { P.is_modelled → (s : Situation) → IsIn (P.size p.old) s (P.seen p.old)
+    ensures stands { P.is_modelled → IfOk result (λ d. Represents d (P.size p.old) (P.seen p.new)) }
+    ensures does { P.is_modelled → (s : Mounted) → IsIn (P.size p.old) s (P.seen p.old)
         → DoesItem P.seen P.may_leave P.told P.moment P.outcomes (P.size p.old) (item_named s (named_of command.now) (spelling (text_of (reply_named s.state (named_of command.now))))) p.old p.new result }
     ensures counts { NoFewer (P.faults p.old) (P.faults p.new) }
     ensures disk { IsErrOf result SessionFault.Disk → Rose (P.faults p.old).disk (P.faults p.new).disk }
@@ -118,12 +118,12 @@ pub(crate) fn answer<P: Port>(
     packet: &[u8],
 ) -> Result<Device, SessionFault>
     requires kept { IsDevice device (P.size p.old) }
-    requires stands { P.is_modelled → StandsFor device (P.size p.old) (P.seen p.old) }
+    requires stands { P.is_modelled → Represents device (P.size p.old) (P.seen p.old) }
     ensures size { P.size p.new ≡ P.size p.old }
     ensures left { P.is_modelled → P.input_left p.new ≡ P.input_left p.old }
     ensures kept { IfOk result (λ d. IsDevice d (P.size p.old)) }
-    ensures stands { P.is_modelled → IfOk result (λ d. StandsFor d (P.size p.old) (P.seen p.new)) }
-    ensures does { P.is_modelled → (s : Situation) → IsIn (P.size p.old) s (P.seen p.old) → DoesItem P.seen P.may_leave P.told P.moment P.outcomes (P.size p.old) (item_of s packet.now) p.old p.new result }
+    ensures stands { P.is_modelled → IfOk result (λ d. Represents d (P.size p.old) (P.seen p.new)) }
+    ensures does { P.is_modelled → (s : Mounted) → IsIn (P.size p.old) s (P.seen p.old) → DoesItem P.seen P.may_leave P.told P.moment P.outcomes (P.size p.old) (item_of s packet.now) p.old p.new result }
     ensures counts { NoFewer (P.faults p.old) (P.faults p.new) }
     ensures disk { IsErrOf result SessionFault.Disk → Rose (P.faults p.old).disk (P.faults p.new).disk }
     ensures sink { IsErrOf result SessionFault.Sink → Rose (P.faults p.old).sink (P.faults p.new).sink }

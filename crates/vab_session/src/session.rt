@@ -2,11 +2,11 @@
 ghost use Rattle.std.specs.Prelude.{◌≡◌, ◌≤◌, ◌+◌, ◌++◌, ◌^◌, ℕ, List, length, min, IfOk, IsErrOf, codes};
 ghost use Rattle.vab_disk.specs.Disk.{NoFewer, Rose};
 ghost use Rattle.vab_fbtcp.specs.declared.event.Place.TheVariants.{Length};
-ghost use Rattle.vab_recover.specs.Stands.{StandsFor, IsDevice};
+ghost use Rattle.vab_recover.specs.Stands.{Represents, IsDevice};
 ghost use Rattle.vab_session.specs.Reading.{stands_at, rest_of, IsFed};
-ghost use Rattle.vab_session.specs.Items.{Situation, IsIn};
+ghost use Rattle.vab_session.specs.Items.{Mounted, IsIn};
 ghost use Rattle.vab_session.specs.Served.{Split, Answers, Serves, SaysSlot, EachInputIsOne, NoOtherSession};
-ghost use Rattle.vab_session.specs.SituationLaws.{EachIsSomewhere};
+ghost use Rattle.vab_session.specs.MountedLaws.{EachIsSomewhere};
 
 use crate::answer::{answer, is_last};
 use crate::reader::Reader;
@@ -25,13 +25,13 @@ fn answer_all<P: Port>(
     device: Device,
 ) -> Result<(Ended, Device), SessionFault>
     requires kept { IsDevice device (P.size p.old) }
-    requires stands { P.is_modelled → StandsFor device (P.size p.old) (P.seen p.old) }
+    requires stands { P.is_modelled → Represents device (P.size p.old) (P.seen p.old) }
     requires place { stands_at reader.old ≡ Length }
     requires fed { IsFed reader.old }
-    ensures answers { P.is_modelled → (s : Split (min reader.old.budget.most (reader.old.budget.taken + length (P.input_left p.old))) (rest_of reader.old (P.input_left p.old))) (first : Situation) (told : List ℕ) → IsIn (P.size p.old) first (P.seen p.old) → P.told p.old ≡ told ++ codes "FB01"
+    ensures answers { P.is_modelled → (s : Split (min reader.old.budget.most (reader.old.budget.taken + length (P.input_left p.old))) (rest_of reader.old (P.input_left p.old))) (first : Mounted) (told : List ℕ) → IsIn (P.size p.old) first (P.seen p.old) → P.told p.old ≡ told ++ codes "FB01"
         → Answers P.seen P.may_leave P.told P.input_left P.moment P.outcomes s (P.size p.old) reader.old.budget.most (reader.old.budget.taken + length (P.input_left p.old)) first told p.old p.new result }
     ensures kept { IfOk result (λ r. IsDevice r.1 (P.size p.old)) }
-    ensures stands { P.is_modelled → IfOk result (λ r. StandsFor r.1 (P.size p.old) (P.seen p.new)) }
+    ensures stands { P.is_modelled → IfOk result (λ r. Represents r.1 (P.size p.old) (P.seen p.new)) }
     ensures slot { IfOk result (λ r. SaysSlot r.0 r.1) }
     ensures size { P.size p.new ≡ P.size p.old }
     ensures counts { NoFewer (P.faults p.old) (P.faults p.new) }
@@ -72,10 +72,10 @@ pub fn serve_up_to<P: Port>(
     most: u64,
 ) -> Result<(Ended, Device), SessionFault>
     requires kept { IsDevice device (P.size p.old) }
-    requires stands { P.is_modelled → StandsFor device (P.size p.old) (P.seen p.old) }
-    ensures serves { P.is_modelled → (first : Situation) → IsIn (P.size p.old) first (P.seen p.old) → Serves P.seen P.may_leave P.told P.input_left P.moment P.outcomes (P.size p.old) most first p.old p.new result }
+    requires stands { P.is_modelled → Represents device (P.size p.old) (P.seen p.old) }
+    ensures serves { P.is_modelled → (first : Mounted) → IsIn (P.size p.old) first (P.seen p.old) → Serves P.seen P.may_leave P.told P.input_left P.moment P.outcomes (P.size p.old) most first p.old p.new result }
     ensures kept { IfOk result (λ r. IsDevice r.1 (P.size p.old)) }
-    ensures stands { P.is_modelled → IfOk result (λ r. StandsFor r.1 (P.size p.old) (P.seen p.new)) }
+    ensures stands { P.is_modelled → IfOk result (λ r. Represents r.1 (P.size p.old) (P.seen p.new)) }
     ensures slot { IfOk result (λ r. SaysSlot r.0 r.1) }
     ensures size { P.size p.new ≡ P.size p.old }
     ensures counts { NoFewer (P.faults p.old) (P.faults p.new) }
@@ -97,10 +97,10 @@ pub fn serve_up_to<P: Port>(
 /// A session, of at most 2^44 bytes.
 pub fn serve<P: Port>(p: &mut P, device: Device) -> Result<(Ended, Device), SessionFault>
     requires kept { IsDevice device (P.size p.old) }
-    requires stands { P.is_modelled → StandsFor device (P.size p.old) (P.seen p.old) }
-    ensures serves { P.is_modelled → (first : Situation) → IsIn (P.size p.old) first (P.seen p.old) → Serves P.seen P.may_leave P.told P.input_left P.moment P.outcomes (P.size p.old) (2 ^ 44) first p.old p.new result }
+    requires stands { P.is_modelled → Represents device (P.size p.old) (P.seen p.old) }
+    ensures serves { P.is_modelled → (first : Mounted) → IsIn (P.size p.old) first (P.seen p.old) → Serves P.seen P.may_leave P.told P.input_left P.moment P.outcomes (P.size p.old) (2 ^ 44) first p.old p.new result }
     ensures kept { IfOk result (λ r. IsDevice r.1 (P.size p.old)) }
-    ensures stands { P.is_modelled → IfOk result (λ r. StandsFor r.1 (P.size p.old) (P.seen p.new)) }
+    ensures stands { P.is_modelled → IfOk result (λ r. Represents r.1 (P.size p.old) (P.seen p.new)) }
     ensures slot { IfOk result (λ r. SaysSlot r.0 r.1) }
     ensures size { P.size p.new ≡ P.size p.old }
     ensures counts { NoFewer (P.faults p.old) (P.faults p.new) }

@@ -1,6 +1,6 @@
 use Rattle.std.proofs.Common.{◌≡◌, inl, ℕ, Ok, Err, sym, subst}
 use Rattle.vab_fbproto.specs.Commands.{named_of, reply_named}
-use Rattle.vab_session.specs.Items.{Situation, IsIn}
+use Rattle.vab_session.specs.Items.{Mounted, IsIn}
 use Rattle.vab_session.specs.Answers.{item_named}
 use Rattle.vab_cli.specs.Verbs.{reply_line, verb_status}
 use Rattle.vab_cli.proofs.Lines.{reply_some, verb_kind}
@@ -14,7 +14,7 @@ returns-in-Ok-do_command-clause-runs g c = λ t s stands.
     let new = c.do_command.new.port in
     let size = g.P.Disk.size old in
     let named = named_of c.args.command.now in
-    let line = λ (x : Situation). reply_line named x.state.current (reply_named x.state named) in
+    let line = λ (x : Mounted). reply_line named x.state.current (reply_named x.state named) in
     let status = c.in-Ok-do_command.status in
     let opens = c.in-Ok.ensures.opens t in
     let here = opened_in g.P.Disk.seen g.P.Disk.may_leave g.P.Disk.told g.P.Disk.input_left g.P.Disk.moment g.P.Disk.outcomes g.met.P.Disk.only_now size old mid s opens stands in
@@ -30,7 +30,7 @@ returns-in-Err-do_command-clause-runs g c = λ t s stands.
     let new = c.do_command.new.port in
     let size = g.P.Disk.size old in
     let named = named_of c.args.command.now in
-    let line = λ (x : Situation). reply_line named x.state.current (reply_named x.state named) in
+    let line = λ (x : Mounted). reply_line named x.state.current (reply_named x.state named) in
     let status = c.in-Err-do_command.status in
     let opens = c.in-Ok.ensures.opens t in
     let here = opened_in g.P.Disk.seen g.P.Disk.may_leave g.P.Disk.told g.P.Disk.input_left g.P.Disk.moment g.P.Disk.outcomes g.met.P.Disk.only_now size old mid s opens stands in

@@ -1,7 +1,7 @@
 use Rattle.std.proofs.Common.{◌≡◌, inl, inr, ℕ, Ok, Err, sym, subst}
 use Rattle.vab_model.specs.Step.{found_of}
 use Rattle.vab_fbproto.specs.Commands.{Print}
-use Rattle.vab_session.specs.Items.{Situation, IsIn}
+use Rattle.vab_session.specs.Items.{Mounted, IsIn}
 use Rattle.vab_session.specs.Answers.{item_named}
 use Rattle.vab_cli.specs.Verbs.{print_told, verb_status}
 use Rattle.vab_cli.proofs.Lines.{verb_kind}
@@ -15,7 +15,7 @@ returns-in-Ok-print_image-clause-runs g c = λ t s stands.
     let new = c.print_image.new.port in
     let size = g.P.Disk.size old in
     let named = Print c.args.name.now in
-    let line = λ (x : Situation). print_told (found_of x.state c.args.name.now) in
+    let line = λ (x : Mounted). print_told (found_of x.state c.args.name.now) in
     let status = c.in-Ok-print_image.status in
     let opens = c.in-Ok.ensures.opens t in
     let here = opened_in g.P.Disk.seen g.P.Disk.may_leave g.P.Disk.told g.P.Disk.input_left g.P.Disk.moment g.P.Disk.outcomes g.met.P.Disk.only_now size old mid s opens stands in
@@ -31,7 +31,7 @@ returns-clause-runs g c = λ t s stands.
     let new = c.print_image.new.port in
     let size = g.P.Disk.size old in
     let named = Print c.args.name.now in
-    let line = λ (x : Situation). print_told (found_of x.state c.args.name.now) in
+    let line = λ (x : Mounted). print_told (found_of x.state c.args.name.now) in
     let status = c.in-Err-print_image.status in
     let opens = c.in-Ok.ensures.opens t in
     let here = opened_in g.P.Disk.seen g.P.Disk.may_leave g.P.Disk.told g.P.Disk.input_left g.P.Disk.moment g.P.Disk.outcomes g.met.P.Disk.only_now size old mid s opens stands in

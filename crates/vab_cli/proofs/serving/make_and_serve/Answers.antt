@@ -11,7 +11,7 @@ use Rattle.vab_cli.specs.declared.status.Status.{Status}
 use Rattle.vab_cli.specs.declared.status.Status.TheVariants.{NotADevice, NoMemory}
 use Rattle.vab_cli.specs.Codes.{start_status}
 use Rattle.vab_cli.specs.Opening.{Opens}
-use Rattle.vab_cli.specs.Headline.{IsEarly, RunsSession, made_situation}
+use Rattle.vab_cli.specs.Headline.{IsEarly, RunsSession, made_mounted}
 use Rattle.vab_cli.proofs.Running.{contents_of, early_of, is_one, opened_in}
 use Rattle.vab_cli.proofs.Sessions.{fresh_enough, fresh_small, made_early, made_small, small_unwritten, making_failed, opening_failed, made_runs, opens_made, sized_serves}
 use Rattle.vab_cli.proofs.serving.make_and_serve.Goals as goal
@@ -65,8 +65,8 @@ returns-in-Err-start-clause-runs g c = λ t enough.
     let sized : g.P.Disk.size mid ≡ size = c.make_device.ensures.quiet.size in
     let set : c.from_vec-set.result ≡ [] = search rules in
     let made : IsMade [] 0 65536 size (g.P.Disk.seen mid) = subst (λ (x : List SetImage). IsMade x 0 65536 size (g.P.Disk.seen mid)) set (c.in-Ok.ensures.made t) in
-    let there : IsIn size (made_situation [] 0 65536 size) (g.P.Disk.seen mid) = record { state = made.state; places = made.places } in
-    let other : start_status c.in-Err-start.fault ≢ NotADevice = λ is. is_one size (made_situation [] 0 65536 size) (g.P.Disk.seen mid) c.in-Err-start.fault there (subst (λ (n : ℕ). device n (g.P.Disk.seen mid) ≡ Err c.in-Err-start.fault) sized (c.in-Err-start.ensures.fault t (contents_of c.in-Err-start.fault is))) in
+    let there : IsIn size (made_mounted [] 0 65536 size) (g.P.Disk.seen mid) = record { state = made.state; places = made.places } in
+    let other : start_status c.in-Err-start.fault ≢ NotADevice = λ is. is_one size (made_mounted [] 0 65536 size) (g.P.Disk.seen mid) c.in-Err-start.fault there (subst (λ (n : ℕ). device n (g.P.Disk.seen mid) ≡ Err c.in-Err-start.fault) sized (c.in-Err-start.ensures.fault t (contents_of c.in-Err-start.fault is))) in
     let early : IsEarly c.from-in-Err-start.result = subst IsEarly (sym c.from-in-Err-start.ensures) (early_of c.in-Err-start.fault other) in
     inr (opening_failed g.P.Disk.seen g.P.Disk.may_leave g.P.Disk.told g.P.Disk.input_left g.P.Disk.moment g.P.Disk.outcomes g.met.P.Disk.only_now size [] 0 65536 old mid c.start.new.d c.from-in-Err-start.result early (c.make_device.ensures.quiet.told t) (c.start.ensures.quiet.told t) made (c.in-Ok.ensures.settled t)
     (subst (λ (x : List SetImage). IsSettled (g.P.Disk.seen old) (g.P.Disk.may_leave old) → Adds g.P.Disk.moment g.P.Disk.outcomes old mid (LeavesMaking (g.P.Disk.told old) x 0 65536 size (g.P.Disk.seen old))) set (c.make_device.ensures.time t))
@@ -79,7 +79,7 @@ returns-clause-runs g c = λ t enough.
     let now = c.start.new.d in
     let new = c.serve-answer.new.p in
     let size = g.P.Disk.size old in
-    let first = made_situation [] 0 65536 size in
+    let first = made_mounted [] 0 65536 size in
     let sized : g.P.Disk.size mid ≡ size = c.make_device.ensures.quiet.size in
     let sized_now : g.P.Disk.size now ≡ size = c.start.ensures.quiet.size ∙ sized in
     let set : c.from_vec-set.result ≡ [] = search rules in

@@ -1,24 +1,24 @@
-use Rattle.std.proofs.Common.{◌≡◌, ℕ, ◌+◌, ◌*◌, ◌/◌, inl, ⊎_elim, ap, arith}
-use Rattle.vab_lpstore.specs.Layout.{primary_of, backup_of}
-use Rattle.vab_make.proofs.FrameLaws.{keeps_writes}
+use Rattle.std.proofs.Common.{◌≡◌, ℕ, ◌+◌, ◌*◌, ◌/◌, length, ap, arith}
+use Rattle.vab_disk.proofs.CallLaws.{touches_wider}
+use Rattle.vab_lpstore.specs.Layout.{backup_of, text_sectors}
+use Rattle.vab_lpstore.proofs.StoreLaws.{text_some}
+use Rattle.vab_make.proofs.StateLaws.{geometry_fits}
+use Rattle.vab_make.proofs.TouchLaws.{table_of_copies}
 use Rattle.vab_make.proofs.tables.put_table.Goals as goal
 
 pub store_table-requires-clause-on_disk : goal.store_table-requires-clause-on_disk
 unfolding backup_of
 store_table-requires-clause-on_disk g c =
-    let two : (c.args.geometry.now.slots + 0) * (c.args.geometry.now.max / 512) ≡ 2 * (c.args.geometry.now.max / 512) = ap (λ (k : ℕ). (k + 0) * (c.args.geometry.now.max / 512)) c.requires.two in
+    let two : (c.args.geometry.now.slots + 0) * (c.args.geometry.now.max / 512)
+      ≡ 2 * (c.args.geometry.now.max / 512) =
+    ap (λ (k : ℕ). (k + 0) * (c.args.geometry.now.max / 512)) c.requires.two in
     omega (arith, two, c.requires.most.most, c.requires.on_disk)
 
-pub returns-clause-others : goal.returns-clause-others
-unfolding primary_of backup_of
-returns-clause-others g c = λ t s below. c.store_table.ensures.others t s (inl (omega (arith, below))) (inl (omega (arith, below)))
-
-pub returns-clause-frame : goal.returns-clause-frame
-unfolding primary_of backup_of
-returns-clause-frame g c = λ t.
-    keeps_writes g.D.Disk.moment g.D.Disk.outcomes g.D.Disk.told g.D.Disk.may_leave _ c.args.d.now c.store_table.new.d
-    (λ b is. ⊎_elim
-    (λ primary. ⊎_elim (λ text. omega (arith, text.first)) (λ zero. omega (arith, zero.0)) primary)
-    (λ backup. ⊎_elim (λ text. omega (arith, text.first)) (λ zero. omega (arith, zero.0)) backup)
-    is)
-    (c.store_table.ensures.crash t) (c.store_table.ensures.time t)
+pub returns-clause-touches : goal.returns-clause-touches
+returns-clause-touches g c =
+    touches_wider g.D.Disk _ _ _ _ c.store_table.ensures.touches
+    (λ s b is.
+    table_of_copies c.args.geometry.now (text_sectors (length c.args.text.now)) c.args.text.now s b
+    c.requires.two (text_some (length c.args.text.now))
+    (geometry_fits c.args.geometry.now (length c.args.text.now) c.requires.most c.requires.two
+    c.requires.fits) is)

@@ -3,7 +3,7 @@ use Rattle.std.proofs.lemmas.Bool.{cases_eq}
 use Rattle.vab_fbtcp.specs.declared.event.Place.TheVariants.{Length}
 use Rattle.vab_session.specs.Reading.{rest_of, EndsIn}
 use Rattle.vab_session.specs.Session.{ends_session, IsCutShort}
-use Rattle.vab_recover.specs.Stands.{StandsFor, IsDevice}
+use Rattle.vab_recover.specs.Stands.{Represents, IsDevice}
 use Rattle.vab_session.proofs.AnswerLaws.{answered}
 use Rattle.vab_session.proofs.Progress.{Progress, begun, heard, next_of, answered_one, rebooted, reply_failed, stopped, closed, spent_there}
 use Rattle.vab_session.proofs.session.answer_all.Goals as goal
@@ -100,7 +100,7 @@ loop-packet-preserved g c =
           let place : later ≡ rest_of c.packet.new.self (g.P.Disk.input_left c.answer.new.p) = ap (rest_of c.packet.new.self) (sym (c.answer.ensures.left t)) in
           subst (λ (l : List ℕ). Progress g.P.Disk.seen g.P.Disk.may_leave g.P.Disk.told g.P.Disk.input_left g.P.Disk.moment g.P.Disk.outcomes size s first told c.args.p.now c.answer.new.p l) place one;
       kept = subst (λ (n : ℕ). IsDevice c.in-Ok.next n) sized done.kept;
-      stands = λ t. subst (λ (n : ℕ). StandsFor c.in-Ok.next n (g.P.Disk.seen c.answer.new.p)) sized (done.stands t);
+      stands = λ t. subst (λ (n : ℕ). Represents c.in-Ok.next n (g.P.Disk.seen c.answer.new.p)) sized (done.stands t);
       size = c.answer.ensures.size ∙ ok.listens.size ∙ i.size;
       counts = search rules;
     }

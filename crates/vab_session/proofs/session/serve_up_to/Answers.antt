@@ -2,7 +2,7 @@ use Rattle.std.proofs.Common.{◌≡◌, ℕ, ◌+◌, ◌<◌, ◌++◌, ◌∙
 use Rattle.vab_fbtcp.specs.declared.event.Place.TheVariants.{Hello}
 use Rattle.vab_disk.specs.Disk.{Image}
 use Rattle.vab_session.specs.Reading.{rest_of, EndsIn}
-use Rattle.vab_session.specs.Items.{Situation, IsIn, IsWithin}
+use Rattle.vab_session.specs.Items.{Mounted, IsIn, CrashesWithin}
 use Rattle.vab_session.specs.Answers.{items_of}
 use Rattle.vab_session.specs.Served.{Split, Answers}
 use Rattle.vab_fbtcp.specs.Hello.{is_hello}
@@ -36,7 +36,7 @@ returns-in-Err-clause-serves g c = λ t first stands.
     stopped_early g.P.Disk.seen g.P.Disk.may_leave g.P.Disk.told g.P.Disk.input_left g.P.Disk.moment g.P.Disk.outcomes g.met.P.Disk.only_now size most first old now (stopped.listens.told t ∙ said)
     (λ rest. still_at_rest g.P.Disk.seen g.P.Disk.may_leave g.P.Disk.told g.P.Disk.input_left g.P.Disk.moment g.P.Disk.outcomes g.met.P.Disk.only_now size mid now first (stopped.listens.seen t) (stopped.listens.crash t)
     (still_at_rest g.P.Disk.seen g.P.Disk.may_leave g.P.Disk.told g.P.Disk.input_left g.P.Disk.moment g.P.Disk.outcomes g.met.P.Disk.only_now size old mid first (c.say_all.ensures.seen t) (c.say_all.ensures.crash t) rest))
-    (λ packets rest. adds_still g.P.Disk.moment g.P.Disk.outcomes old mid now (IsWithin size (codes "FB01") first (items_of first packets) (g.P.Disk.told old))
+    (λ packets rest. adds_still g.P.Disk.moment g.P.Disk.outcomes old mid now (CrashesWithin size (codes "FB01") first (items_of first packets) (g.P.Disk.told old))
     (greeting g.P.Disk.seen g.P.Disk.may_leave g.P.Disk.told g.P.Disk.input_left g.P.Disk.moment g.P.Disk.outcomes g.met.P.Disk.only_now size old mid first packets (c.say_all.ensures.time t) rest) (stopped.listens.time t))
     (g.met.P.Disk.bytes old) c.in-Err.fault why
 
@@ -59,7 +59,7 @@ returns-clause-serves g c = λ t first stands.
     let seen : g.P.Disk.seen mid ≡ g.P.Disk.seen old = ok.listens.seen t ∙ c.say_all.ensures.seen t in
     let there : IsIn size first (g.P.Disk.seen mid) = subst (λ (x : Image). IsIn size first x) (sym seen) stands in
     let answers = moved
-    (λ z m n l. (s : Split (min m n) l) (first : Situation) (told : List ℕ) → IsIn z first (g.P.Disk.seen mid) → g.P.Disk.told mid ≡ told ++ codes "FB01"
+    (λ z m n l. (s : Split (min m n) l) (first : Mounted) (told : List ℕ) → IsIn z first (g.P.Disk.seen mid) → g.P.Disk.told mid ≡ told ++ codes "FB01"
     → Answers g.P.Disk.seen g.P.Disk.may_leave g.P.Disk.told g.P.Disk.input_left g.P.Disk.moment g.P.Disk.outcomes s z m n first told mid now c.answer_all.result)
     (g.P.Disk.size mid) size c.hello.new.self.budget.most most (c.hello.new.self.budget.taken + length (g.P.Disk.input_left mid)) (length input) (rest_of c.hello.new.self (g.P.Disk.input_left mid)) (drop 4 (take most input)) sized room total rest (c.answer_all.ensures.answers t)
     (split_here most input (g.met.P.Disk.bytes old)) first (g.P.Disk.told old) there (ok.listens.told t ∙ said) in
@@ -67,6 +67,6 @@ returns-clause-serves g c = λ t first stands.
     served g.P.Disk.seen g.P.Disk.may_leave g.P.Disk.told g.P.Disk.input_left g.P.Disk.moment g.P.Disk.outcomes g.met.P.Disk.only_now size most first old mid now (split_here most input (g.met.P.Disk.bytes old)) hello
     (λ rest. still_at_rest g.P.Disk.seen g.P.Disk.may_leave g.P.Disk.told g.P.Disk.input_left g.P.Disk.moment g.P.Disk.outcomes g.met.P.Disk.only_now size said_to mid first (ok.listens.seen t) (ok.listens.crash t)
     (still_at_rest g.P.Disk.seen g.P.Disk.may_leave g.P.Disk.told g.P.Disk.input_left g.P.Disk.moment g.P.Disk.outcomes g.met.P.Disk.only_now size old said_to first (c.say_all.ensures.seen t) (c.say_all.ensures.crash t) rest))
-    (λ rest. adds_still g.P.Disk.moment g.P.Disk.outcomes old said_to mid (IsWithin size (codes "FB01") first _ (g.P.Disk.told old))
+    (λ rest. adds_still g.P.Disk.moment g.P.Disk.outcomes old said_to mid (CrashesWithin size (codes "FB01") first _ (g.P.Disk.told old))
     (greeting g.P.Disk.seen g.P.Disk.may_leave g.P.Disk.told g.P.Disk.input_left g.P.Disk.moment g.P.Disk.outcomes g.met.P.Disk.only_now size old said_to first _ (c.say_all.ensures.time t) rest) (ok.listens.time t))
     c.answer_all.result answers

@@ -9,11 +9,11 @@ use Rattle.vab_model.specs.declared.state.State.{State}
 use Rattle.vab_device.specs.declared.fault.StartFault.{StartFault}
 use Rattle.vab_device.specs.declared.fault.StartFault.TheVariants.{TooSmall}
 use Rattle.vab_device.specs.Device.{◌>>=◌, unless, Places, slot_in, control_in, geometry_at, layout_at, judged, state_of, device, places}
-use Rattle.vab_session.specs.Items.{Situation, IsIn}
+use Rattle.vab_session.specs.Items.{Mounted, IsIn}
 
 -- a disk that means a state has its partitions somewhere
 abbrev pub EachIsSomewhere : Type 0
-EachIsSomewhere = (size : ℕ) (image : Image) (state : State) → device size image ≡ Ok state → (s : Situation) × (s.state ≡ state) × IsIn size s image
+EachIsSomewhere = (size : ℕ) (image : Image) (state : State) → device size image ≡ Ok state → (s : Mounted) × (s.state ≡ state) × IsIn size s image
 
 -- where the last step gives a value, so does one that gives its places
 last_step : (r : Result Layout StartFault) (judge : Layout → Result State StartFault) (place : Layout → Places) (state : State) → (r >>= judge) ≡ Ok state → (p : Places) × ((r >>= λ l. Ok (place l)) ≡ Ok p)

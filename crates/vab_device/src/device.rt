@@ -1,0 +1,97 @@
+//! The device as it is kept between commands.
+
+ghost use Rattle.std.specs.Prelude.{◌≡◌, ◌<◌, ◌==◌, Option, Some, None, option_map, if◌then◌else◌};
+ghost use Rattle.vab_bootctl.specs.Boot.{info_at};
+
+use vab_bootctl::{Control, Info};
+use vab_bytes::{Listing, Name36};
+use vab_geometry::Geometry;
+use vab_linear::Map;
+use vab_marks::UpdateMark;
+use vab_model::GroupLimit;
+use vab_tables::Table;
+
+/// A partition of a slot.
+#[derive(Drop)]
+pub struct Part {
+    /// The base name, without the slot's suffix.
+    pub name: Name36,
+    /// The full name of its group.
+    pub group: Name36,
+    /// Where its blocks stand on the disk.
+    pub map: Map,
+}
+
+/// What is known of a device between two commands. Its images stay on the disk.
+#[derive(Drop)]
+pub struct Device {
+    pub geometry: Geometry,
+    pub control: Control,
+    pub mark: UpdateMark,
+    /// Blocks of 4096 bytes that partitions may have.
+    pub cap: u64,
+    /// The groups in their order, without the slot's suffix, but for that of no slot.
+    pub groups: Listing<GroupLimit>,
+    /// The partitions of slot a, where it has images.
+    pub a: Option<Listing<Part>>,
+    /// The partitions of slot b, where it has images.
+    pub b: Option<Listing<Part>>,
+    /// The table of slot a, where it is read.
+    pub table_a: Option<Table>,
+    /// The table of slot b, where it is read.
+    pub table_b: Option<Table>,
+}
+
+/// Where an update stands.
+#[derive(Clone, Copy, Debug, PartialEq, Eq)]
+pub enum PhaseKind {
+    /// No update.
+    Idle,
+}
+
+impl Device {
+    /// The slot that was booted last: 0 for a, 1 for b.
+    pub fn current(&self) -> usize
+        ensures { result ≡ self.now.control.current }
+    {
+        self.control.current
+    }
+
+    /// Where an update stands.
+    pub fn phase(&self) -> PhaseKind
+        ensures { result ≡ PhaseKind.Idle }
+    {
+        PhaseKind::Idle
+    }
+
+    /// Blocks of 4096 bytes that partitions may have.
+    pub fn cap(&self) -> u64
+        ensures { result ≡ self.now.cap }
+    {
+        self.cap
+    }
+
+    /// What boot control says of a slot; `None` where it has no images.
+    pub fn slot_info(&self, slot: usize) -> Option<Info>
+        requires { slot < 2 }
+        ensures { result ≡ option_map (λ _. info_at self.now.control slot) (if slot == 0 then self.now.a else self.now.b) }
+    {
+        if slot == 0 {
+            self.a.as_ref().map(|_| self.control.a)
+        } else {
+            self.b.as_ref().map(|_| self.control.b)
+        }
+    }
+
+    /// The partitions of a slot; `None` where it has no images.
+    pub fn images(&self, slot: usize) -> Option<&Listing<Part>>
+        requires { slot < 2 }
+        ensures { option_map (λ p. p.now) result ≡ (if slot == 0 then self.now.a else self.now.b) }
+    {
+        if slot == 0 {
+            self.a.as_ref()
+        } else {
+            self.b.as_ref()
+        }
+    }
+}
