@@ -1,5 +1,1 @@
-pub mod CheckLaws
-pub mod ControlLaws
-pub mod ReadingLaws
-pub mod RepairLaws
-pub mod SameLaws
+pub mod DeviceLaws

@@ -1,6 +1,1 @@
-pub mod Checks
-pub mod Faults
-pub mod Kept
-pub mod Mounted
-pub mod Phases
-pub mod Reading
+pub mod Device

@@ -1,3 +1,2 @@
-pub mod Found
 pub mod Names
-pub mod SeenLaws
+pub mod Found

@@ -1,3 +1,2 @@
-pub mod Commands
-pub mod Effects
 pub mod State
+pub mod Step

@@ -1,4 +1,5 @@
 pub mod DeviceLaws
-mod OpenLaws
 pub mod PartLaws
 pub mod ReadLaws
+pub mod StartLaws
+pub mod StateLaws
