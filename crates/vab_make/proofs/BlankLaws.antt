@@ -1,5 +1,5 @@
 -- A disk whose mark is zeros.
-use Rattle.std.proofs.Common.{◌≡◌, ℕ, ◌≤◌, true, leb, Err, refl, ap, ◌∙◌}
+use Rattle.std.proofs.Common.{◌≡◌, ℕ, ◌≤◌, true, leb, List, Err, refl, ap, ◌∙◌}
 use Rattle.std.proofs.lemmas.Bool.{le-leb}
 use Rattle.vab_disk.specs.Disk.{Image}
 use Rattle.vab_marks.specs.Mark.{mark_of}
