@@ -1,23 +1,13 @@
 -- How writes of sectors join.
-use Rattle.std.proofs.Common.{◌≡◌, inl, inr, ⊎_elim, ℕ, List, refl, ◌∙◌}
+use Rattle.std.proofs.Common.{◌≡◌, inl, inr, ⊎_elim, ℕ, List, refl, ap, ◌∙◌}
 use Rattle.vab_disk.specs.declared.disk.Disk.{Ghosts}
-use Rattle.vab_disk.specs.Disk.{Outcome, Leaves, Writes}
-use Rattle.vab_disk.specs.Calls.{SameBut}
-use Rattle.vab_disk.proofs.Moments.{adds_none, adds_wider, adds_on}
+use Rattle.vab_disk.specs.Disk.{Image, Writes}
+use Rattle.vab_disk.specs.Calls.{SameBut, OnlyReads, OnlySyncs}
+use Rattle.vab_disk.proofs.Moments.{adds_none, adds_wider, adds_on, adds_still}
 use Rattle.vab_disk.proofs.CallLaws.{quiet_none, quiet_then, same_then}
+use Rattle.vab_gate.specs.Gate.{set_sectors, IsAmong}
+use Rattle.vab_buffer.specs.DiskLaws.{leaves_more, set_inside, set_outside, cases_among}
 use Rattle.vab_buffer.specs.Store.{OnlyWrites}
-
--- what could be left still can
-pub leaves_more : (told told' : List ℕ) (hold hold' : ℕ → List ℕ → Type 0)
-    → told' ≡ told
-    → ((s : ℕ) (b : List ℕ) → hold s b → hold' s b)
-    → (o : Outcome)
-    → Leaves told' hold o
-    → Leaves told hold' o
-leaves_more told told' hold hold' same keeps o left = record {
-  told_so_far = left.told_so_far ∙ same;
-  each_sector = λ s. keeps s (o.image s) (left.each_sector s);
-}
 
 pub writes_wider : (V W old new : ℕ → List ℕ → Type 0)
     → Writes W old new
@@ -43,6 +33,21 @@ pub same_but_wider : (V W : ℕ → List ℕ → Type 0) (old new : ℕ → List
     → SameBut V old new
 same_but_wider V W old new same wider s =
     ⊎_elim (λ was. inl was) (λ w. inr (wider s (new s) w)) (same s)
+
+-- sectors that were written
+pub set_same_among : (n at : ℕ) (old new : Image) (bytes : List ℕ)
+    → new ≡ set_sectors n old at bytes
+    → SameBut (IsAmong n at bytes) old new
+set_same_among n at old new bytes is s =
+    ⊎_elim
+    (λ here.
+    inr (record {
+      first = here.0;
+      last = here.1;
+      here = ap (λ (i : Image). i s) is ∙ set_inside n old at bytes s here.0 here.1;
+    }))
+    (λ out. inl (ap (λ (i : Image). i s) is ∙ set_outside n old at bytes s out))
+    (cases_among at n s)
 
 module _ {D : Type 0} (g : Ghosts D) where
   pub writes_none : (W : ℕ → List ℕ → Type 0) (d : D) → OnlyWrites g W d d
@@ -74,4 +79,33 @@ module _ {D : Type 0} (g : Ghosts D) where
         (bc.time t)
         (leaves_more (g.told a) (g.told b) (g.may_leave c) (g.may_leave c)
         (ab.quiet.told t) (λ s x held. held));
+  }
+
+  -- reads write nothing
+  pub writes_reads : (W : ℕ → List ℕ → Type 0) (a b : D) → OnlyReads g a b → OnlyWrites g W a b
+  writes_reads W a b ab = record {
+    quiet = ab.quiet;
+    seen = λ t s. inl (ap (λ (i : Image). i s) (ab.seen t));
+    crash = λ t. record {
+      keeps = (ab.crash t).keeps;
+      adds = λ s x now. inl ((ab.crash t).no_more s x now);
+    };
+    time = λ t. adds_wider g.moment g.outcomes a b _ _ (ab.time t) (λ o none. absurd none);
+  }
+
+  -- writes after reads
+  pub writes_after : (W : ℕ → List ℕ → Type 0) (a b c : D)
+      → OnlyReads g a b
+      → OnlyWrites g W b c
+      → OnlyWrites g W a c
+  writes_after W a b c ab bc =
+      writes_on W W W a b c (writes_reads W a b ab) bc (λ s x w. w) (λ s x w. w)
+
+  -- a sync after reads
+  pub syncs_after : (a b c : D) → OnlyReads g a b → OnlySyncs g b c → OnlySyncs g a c
+  syncs_after a b c ab bc = record {
+    quiet = quiet_then g a b c ab.quiet bc.quiet;
+    seen = λ t. bc.seen t ∙ ab.seen t;
+    crash = λ t s x now. (ab.crash t).no_more s x (bc.crash t s x now);
+    time = λ t. adds_still g.moment g.outcomes a b c _ (ab.time t) (bc.time t);
   }
