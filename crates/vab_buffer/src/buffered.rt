@@ -1,10 +1,10 @@
 // A disk over a store of runs, that holds writes back and reads ahead.
-ghost use Rattle.std.specs.Prelude.{◌≡◌, ◌<◌, ◌≤◌, ◌+◌, ◌*◌, ℕ, length, slice_index, take, IfOk, OnOk, OnErr};
+ghost use Rattle.std.specs.Prelude.{◌≡◌, ◌<◌, ◌≤◌, ◌+◌, ◌*◌, ℕ, List, length, slice_index, take, IfOk, OnOk, OnErr};
 ghost use Rattle.std.specs.Bool.{OnTrue};
-ghost use Rattle.vab_disk.specs.Disk.{NoFewer};
+ghost use Rattle.vab_disk.specs.Disk.{NoFewer, Outcome, SameHoldings};
 ghost use Rattle.vab_disk.specs.Calls.{OnlyReads, FailsWithDisk};
 ghost use Rattle.vab_gate.specs.Gate.{sectors_at};
-ghost use Rattle.vab_buffer.specs.Held.{as_disk, IsFetched, FailsBelow};
+ghost use Rattle.vab_buffer.specs.Held.{as_disk, faults_of, IsFetched, FailsBelow};
 ghost use Rattle.vab_buffer.specs.Run.{over, IsKept, Has, Takes};
 ghost use Rattle.vab_buffer.specs.Store.{OnlyWrites};
 
@@ -94,9 +94,17 @@ fn fill<S: RunStore>(store: &mut S, run: &mut Run, at: u64, count: usize) -> Res
 }
 
 impl<S: RunStore + Drop> Buffered<S> {
-    /// Nothing is held back yet. It takes all its memory here.
+    /// Nothing is held back yet: the disk is as the store is, with no fault counted. It takes all its memory here.
     pub fn new(alloc: Global, store: S) -> Result<Self, NoMemory>
-        ensures { IfOk result (λ d. d.store ≡ store) }
+        ensures size { IfOk result (λ d. ⟦<Buffered<S> as Disk>⟧.size d ≡ S.size store) }
+        ensures seen { IfOk result (λ d. ⟦<Buffered<S> as Disk>⟧.seen d ≡ S.seen store) }
+        ensures crash { IfOk result (λ d.
+            SameHoldings (S.may_leave store) (⟦<Buffered<S> as Disk>⟧.may_leave d)) }
+        ensures told { IfOk result (λ d. ⟦<Buffered<S> as Disk>⟧.told d ≡ S.told store) }
+        ensures left { IfOk result (λ d. ⟦<Buffered<S> as Disk>⟧.input_left d ≡ S.input_left store) }
+        ensures heard { IfOk result (λ d. ⟦<Buffered<S> as Disk>⟧.heard d ≡ S.heard store) }
+        ensures faults { IfOk result (λ d. ⟦<Buffered<S> as Disk>⟧.faults d ≡ faults_of 0) }
+        ensures store { IfOk result (λ d. d.store ≡ store) }
     {
         let held = Run::new(alloc)?;
         let ahead = Run::new(alloc)?;
@@ -106,6 +114,20 @@ impl<S: RunStore + Drop> Buffered<S> {
             ahead,
             failed: 0,
         })
+    }
+
+    /// The store. What it may leave, and what it may have left, the disk may too, at the same moment.
+    pub fn store(&self) -> &S
+        ensures store { result.now ≡ self.now.store }
+        ensures crash { (s : ℕ) (b : List ℕ)
+            → S.may_leave result.now s b
+            → ⟦<Buffered<S> as Disk>⟧.may_leave self.now s b }
+        ensures moment { ⟦<Buffered<S> as Disk>⟧.moment self.now ≡ S.moment result.now }
+        ensures outcomes { (t : ℕ) (o : Outcome)
+            → S.outcomes result.now t o
+            → ⟦<Buffered<S> as Disk>⟧.outcomes self.now t o }
+    {
+        &self.store
     }
 
     // Writes to the store what is held back. Where that fails it is still held back.
@@ -200,7 +222,9 @@ impl<S: RunStore + Drop> Buffered<S> {
 }
 
 impl<S: RunStore + Drop> Disk for Buffered<S> {
-    ghost use Rattle.vab_buffer.specs.Held.{held_seen, held_leave, held_outcomes, faults_of};
+    ghost use Rattle.vab_disk.specs.Disk.{IsAt, set_sector};
+    ghost use Rattle.vab_disk.specs.Calls.{IsAtRest, OnlySyncs};
+    ghost use Rattle.vab_buffer.specs.Held.{held_seen, held_leave, held_outcomes};
     ghost use Rattle.vab_buffer.specs.DiskLaws.{whole_over, seen_held_over, only_now_over};
     ghost use Rattle.std.proofs.Common.{inr};
 
@@ -240,7 +264,14 @@ impl<S: RunStore + Drop> Disk for Buffered<S> {
         self.store.sectors()
     }
 
-    fn read_sector(&mut self, at: u64, out: &mut [u8; 512]) -> Result<(), Failed> {
+    fn read_sector(&mut self, at: u64, out: &mut [u8; 512]) -> Result<(), Failed>
+        requires { at < S.size self.old.store }
+        ensures bytes { S.is_modelled → OnOk result (out.new ≡ ⟦<Buffered<S> as Disk>⟧.seen self.old at) }
+        ensures reads { OnlyReads ⟦<Buffered<S> as Disk>⟧ self.old self.new }
+        ensures faults { FailsWithDisk ⟦<Buffered<S> as Disk>⟧ self.old self.new result }
+        // It fails only where a call of the store failed.
+        ensures below { FailsBelow S.RunStore self.old.store self.new.store result }
+    {
         if self.held.has(at) {
             self.held.get(at, out);
             return Ok(());
@@ -250,13 +281,30 @@ impl<S: RunStore + Drop> Disk for Buffered<S> {
         Ok(())
     }
 
-    fn write_sector(&mut self, at: u64, from: &[u8; 512]) -> Result<(), Failed> {
+    fn write_sector(&mut self, at: u64, from: &[u8; 512]) -> Result<(), Failed>
+        requires { at < S.size self.old.store }
+        ensures written { S.is_modelled → OnOk result
+            (⟦<Buffered<S> as Disk>⟧.seen self.new ≡ set_sector (⟦<Buffered<S> as Disk>⟧.seen self.old) at from.now) }
+        ensures failed { OnErr result (OnlyReads ⟦<Buffered<S> as Disk>⟧ self.old self.new) }
+        ensures writes { OnlyWrites ⟦<Buffered<S> as Disk>⟧ (IsAt at from.now) self.old self.new }
+        ensures faults { FailsWithDisk ⟦<Buffered<S> as Disk>⟧ self.old self.new result }
+        // It fails only where a call of the store failed.
+        ensures below { FailsBelow S.RunStore self.old.store self.new.store result }
+    {
         self.make_room(at)?;
         self.held.push(at, from);
         Ok(())
     }
 
-    fn sync(&mut self) -> Result<(), Failed> {
+    fn sync(&mut self) -> Result<(), Failed>
+        ensures settled { S.is_modelled → OnOk result (IsAtRest ⟦<Buffered<S> as Disk>⟧ self.new) }
+        ensures failed { S.is_modelled → OnErr result
+            (SameHoldings (⟦<Buffered<S> as Disk>⟧.may_leave self.old) (⟦<Buffered<S> as Disk>⟧.may_leave self.new)) }
+        ensures syncs { OnlySyncs ⟦<Buffered<S> as Disk>⟧ self.old self.new }
+        ensures faults { FailsWithDisk ⟦<Buffered<S> as Disk>⟧ self.old self.new result }
+        // It fails only where a call of the store failed.
+        ensures below { FailsBelow S.RunStore self.old.store self.new.store result }
+    {
         self.write_out()?;
         match self.store.sync() {
             Ok(()) => Ok(()),

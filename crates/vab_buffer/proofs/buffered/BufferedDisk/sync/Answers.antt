@@ -25,8 +25,8 @@ invariant_of-self-in-Err g c = record {
       ∙ sym (ap (λ (image : Image). image s) (c.sync.ensures.seen t));
 }
 
-pub returns-in-Ok-clause-time : goal.returns-in-Ok-clause-time
-returns-in-Ok-clause-time g c =
+pub returns-in-Ok-clause-syncs : goal.returns-in-Ok-clause-syncs
+returns-in-Ok-clause-syncs g c =
     let synced = c.in-Ok.ensures in
     let below : OnlySyncs (as_disk g.S.RunStore) c.write_out.new.self.store c.sync.new.self = record {
       quiet = synced.quiet;
@@ -34,7 +34,7 @@ returns-in-Ok-clause-time g c =
       crash = synced.crash;
       time = synced.time;
     } in
-    (syncs_after _ _ _ _ c.write_out.ensures.reads
+    syncs_after _ _ _ _ c.write_out.ensures.reads
     (syncs_below {D = Buffered g.row.S.Denot g.S.RunStore} g.S.RunStore (λ d. d.store) (λ d. d.held)
     (λ d. d.failed) g.met.S.RunStore.counts_now _ _ below
-    c.in_ok-write_out.ensures.none refl (omega arith))).time
+    c.in_ok-write_out.ensures.none refl (omega arith))
