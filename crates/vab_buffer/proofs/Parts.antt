@@ -1,5 +1,31 @@
 -- Sectors in a buffer, and an image with some of them.
-use Rattle.std.proofs.Common.{◌≡◌, ◌⊎◌, inl, inr, ⊎_elim, ℕ, zero, suc, ◌+◌, ◌-◌, ◌*◌, ◌≤◌, ◌<◌, List, ◌++◌, length, take, drop, refl, sym, ◌∙◌, ap, arith, length-append, length-take-le}
+use Rattle.std.proofs.Common.{
+  ◌≡◌,
+  ◌⊎◌,
+  inl,
+  inr,
+  ⊎_elim,
+  ℕ,
+  zero,
+  suc,
+  ◌+◌,
+  ◌-◌,
+  ◌*◌,
+  ◌≤◌,
+  ◌<◌,
+  List,
+  ◌++◌,
+  length,
+  take,
+  drop,
+  refl,
+  sym,
+  ◌∙◌,
+  ap,
+  arith,
+  length-append,
+  length-take-le,
+}
 use Rattle.std.proofs.lemmas.Bool.{cases_lt}
 use Rattle.std.proofs.lemmas.List.{take_all, take-append-le, take-take, drop-take}
 use Rattle.std.proofs.lemmas.Slice.{take-put_mid, take-put_mid_below}
@@ -32,7 +58,8 @@ part_same_front k n a b le same =
 pub part_take : (k n : ℕ) (bytes : List ℕ)
     → 512 * k + 512 ≤ n
     → part k (take n bytes) ≡ part k bytes
-part_take k n bytes le = part_same_front k n (take n bytes) bytes le (take-take n n bytes (omega arith))
+part_take k n bytes le =
+    part_same_front k n (take n bytes) bytes le (take-take n n bytes (omega arith))
 
 pub part_put_before : (k a n : ℕ) (bytes from : List ℕ)
     → 512 * k + 512 ≤ a
@@ -47,7 +74,8 @@ pub part_put_here : (k n : ℕ) (bytes from : List ℕ)
     → 512 * k ≤ length bytes
     → part k (put_mid (512 * k) n bytes from) ≡ from
 part_put_here k n bytes from long fits =
-    let front : take (512 * k + 512) (put_mid (512 * k) n bytes from) ≡ take (512 * k) bytes ++ from =
+    let front : take (512 * k + 512) (put_mid (512 * k) n bytes from)
+    ≡ take (512 * k) bytes ++ from =
     take-put_mid (512 * k) n bytes from (512 * k + 512) (omega (arith, long)) fits in
     let before : length (take (512 * k) bytes) ≡ 512 * k = length-take-le (512 * k) bytes fits in
     part_of_front k (put_mid (512 * k) n bytes from)
@@ -222,5 +250,6 @@ pub filled_is : (first count : ℕ) (image : Image) (bytes : List ℕ)
 filled_is first count image bytes is long s b among =
     let back : first + (s - first) ≡ s = omega (arith, among.first) in
     among.here
-    ∙ front_parts count image first bytes is long (s - first) (omega (arith, among.first, among.last))
+    ∙ front_parts count image first bytes is long (s - first)
+    (omega (arith, among.first, among.last))
     ∙ ap image back

@@ -1,15 +1,39 @@
--- A disk over a store of runs has whole sectors, and a crash at this moment leaves what a crash may leave.
-use Rattle.std.proofs.Common.{◌≡◌, ◌⊎◌, inl, inr, ⊎_elim, ℕ, ◌+◌, ◌-◌, ◌*◌, ◌≤◌, ◌<◌, List, length, drop, refl, sym, ◌∙◌, subst, arith, get_or, length-drop, length-take-le, get_or-drop}
+-- A disk over a store of runs has whole sectors, and a crash at this moment leaves what a crash may
+-- leave.
+use Rattle.std.proofs.Common.{
+  ◌≡◌,
+  ◌⊎◌,
+  inl,
+  inr,
+  ⊎_elim,
+  ℕ,
+  ◌+◌,
+  ◌-◌,
+  ◌*◌,
+  ◌≤◌,
+  ◌<◌,
+  List,
+  length,
+  drop,
+  refl,
+  sym,
+  ◌∙◌,
+  subst,
+  arith,
+  get_or,
+  length-drop,
+  length-take-le,
+  get_or-drop,
+}
 use Rattle.std.proofs.lemmas.Bool.{cases_lt}
 use Rattle.std.proofs.lemmas.Bool.Decides.{nat_tests}
 use Rattle.std.proofs.lemmas.List.{get_or-take, get_or_past, length-take}
 use Rattle.vab_disk.specs.Disk.{Image, IsSector, Outcome, Leaves}
-use Rattle.vab_disk.specs.declared.disk.Disk.{Ghosts as DiskGhosts}
 use Rattle.vab_gate.specs.Gate.{part, set_sectors}
 use Rattle.vab_buffer.specs.declared.store.RunStore.{Ghosts}
 use Rattle.vab_buffer.specs.declared.run.Run.{Run}
 use Rattle.vab_buffer.specs.Run.{over, IsKept}
-use Rattle.vab_buffer.specs.Held.{disk_over}
+use Rattle.vab_buffer.specs.Held.{held_seen, held_leave, held_outcomes}
 
 -- what could be left still can
 pub leaves_more : (told told' : List ℕ) (hold hold' : ℕ → List ℕ → Type 0)
@@ -90,42 +114,33 @@ kept_whole run s b kept =
     (part_whole (s - run.first) run.bytes.items
     (omega (arith, run.long, run.fits, kept.first, kept.last)) run.small)
 
-module _
-    {S D : Type 0}
-    (g : Ghosts S)
-    (store_of : D → S)
-    (held_of : D → Run)
-    (failed : D → ℕ) where
-  abbrev disk : DiskGhosts D
-  disk = disk_over g store_of held_of failed
-
+module _ {S : Type 0} (g : Ghosts S) where
   pub whole_over : ((d : S) (s : ℕ) (b : List ℕ) → s < g.size d → g.may_leave d s b → IsSector b)
-      → (d : D) (s : ℕ) (b : List ℕ)
-      → s < disk.size d
-      → disk.may_leave d s b
+      → (store : S) (held : Run) (s : ℕ) (b : List ℕ)
+      → s < g.size store
+      → held_leave g store held s b
       → IsSector b
-  whole_over whole d s b below held =
-      ⊎_elim (λ left. whole (store_of d) s b below left)
-      (λ kept. kept_whole (held_of d) s b kept) held
+  whole_over whole store held s b below left =
+      ⊎_elim (λ was. whole store s b below was) (λ kept. kept_whole held s b kept) left
 
   pub seen_held_over : ((d : S) (s : ℕ) → g.may_leave d s (g.seen d s))
-      → (d : D) (s : ℕ)
-      → disk.may_leave d s (disk.seen d s)
-  seen_held_over seen_held d s =
+      → (store : S) (held : Run) (s : ℕ)
+      → held_leave g store held s (held_seen g store held s)
+  seen_held_over seen_held store held s =
       ⊎_elim
-      (λ same. inl (subst (g.may_leave (store_of d) s) (sym same) (seen_held (store_of d) s)))
+      (λ same. inl (subst (g.may_leave store s) (sym same) (seen_held store s)))
       (λ kept. inr kept)
-      (over_either (held_of d) (g.seen (store_of d)) s)
+      (over_either held (g.seen store) s)
 
   pub only_now_over : ((d : S) (o : Outcome)
       → g.outcomes d (g.moment d) o
       → Leaves (g.told d) (g.may_leave d) o)
-      → (d : D) (o : Outcome)
-      → disk.outcomes d (disk.moment d) o
-      → Leaves (disk.told d) (disk.may_leave d) o
-  only_now_over only_now d o left =
+      → (store : S) (held : Run) (o : Outcome)
+      → held_outcomes g store held (g.moment store) o
+      → Leaves (g.told store) (held_leave g store held) o
+  only_now_over only_now store held o left =
       ⊎_elim
-      (λ below. leaves_more (disk.told d) (disk.told d) (g.may_leave (store_of d))
-      (disk.may_leave d) refl (λ s x held. inl held) o (only_now (store_of d) o below))
+      (λ below. leaves_more (g.told store) (g.told store) (g.may_leave store)
+      (held_leave g store held) refl (λ s x was. inl was) o (only_now store o below))
       (λ now. now)
       left

@@ -1,5 +1,19 @@
 // A disk over a store of runs, that holds writes back and reads ahead.
-ghost use Rattle.std.specs.Prelude.{◌≡◌, ◌<◌, ◌≤◌, ◌+◌, ◌*◌, ℕ, List, length, slice_index, take, IfOk, OnOk, OnErr};
+ghost use Rattle.std.specs.Prelude.{
+  ◌≡◌,
+  ◌<◌,
+  ◌≤◌,
+  ◌+◌,
+  ◌*◌,
+  ℕ,
+  List,
+  length,
+  slice_index,
+  take,
+  IfOk,
+  OnOk,
+  OnErr,
+};
 ghost use Rattle.std.specs.Bool.{OnTrue};
 ghost use Rattle.vab_disk.specs.Disk.{NoFewer, Outcome, SameHoldings};
 ghost use Rattle.vab_disk.specs.Calls.{OnlyReads, FailsWithDisk};
@@ -17,10 +31,11 @@ use vab_gate::SECTOR;
 // How many times as long the next run is that is read ahead, up to the room that there is.
 const GROWTH: usize = 8;
 
-/// A disk over a store of runs. Writes are held back, as long as each follows the one before, and go to the store as one
-/// run when there are 128 sectors of them, when another sector is written, and before a sync. A crash may leave each
-/// sector as the store may leave it, or as what is held back. Reads one after another are served from a run that is read
-/// ahead. A read ahead that fails is tried again with the sector alone, and is no fault of the disk where that succeeds.
+/// A disk over a store of runs. Writes are held back, as long as each follows the one before, and
+/// go to the store as one run when there are 128 sectors of them, when another sector is written,
+/// and before a sync. A crash may leave each sector as the store may leave it, or as what is held
+/// back. Reads one after another are served from a run that is read ahead. A read ahead that fails
+/// is tried again with the sector alone, and is no fault of the disk where that succeeds.
 #[derive(Drop)]
 pub struct Buffered<S: RunStore + Drop> {
     store: S,
@@ -35,7 +50,8 @@ pub struct Buffered<S: RunStore + Drop> {
 // Writes a run to the store.
 fn write_kept<S: RunStore>(store: &mut S, run: &Run) -> Result<(), Failed>
     requires { run.now.first + run.now.count ≤ S.size store.old }
-    ensures written { S.is_modelled → OnOk result (S.seen store.new ≡ over (S.seen store.old) run.now) }
+    ensures written { S.is_modelled → OnOk result
+        (S.seen store.new ≡ over (S.seen store.old) run.now) }
     ensures writes { OnlyWrites (as_disk S.RunStore) (IsKept run.now) store.old store.new }
     ensures faults { FailsWithDisk (as_disk S.RunStore) store.old store.new result }
 {
@@ -94,14 +110,16 @@ fn fill<S: RunStore>(store: &mut S, run: &mut Run, at: u64, count: usize) -> Res
 }
 
 impl<S: RunStore + Drop> Buffered<S> {
-    /// Nothing is held back yet: the disk is as the store is, with no fault counted. It takes all its memory here.
+    /// Nothing is held back yet: the disk is as the store is, with no fault counted. It takes all
+    /// its memory here.
     pub fn new(alloc: Global, store: S) -> Result<Self, NoMemory>
         ensures size { IfOk result (λ d. ⟦<Buffered<S> as Disk>⟧.size d ≡ S.size store) }
         ensures seen { IfOk result (λ d. ⟦<Buffered<S> as Disk>⟧.seen d ≡ S.seen store) }
         ensures crash { IfOk result (λ d.
             SameHoldings (S.may_leave store) (⟦<Buffered<S> as Disk>⟧.may_leave d)) }
         ensures told { IfOk result (λ d. ⟦<Buffered<S> as Disk>⟧.told d ≡ S.told store) }
-        ensures left { IfOk result (λ d. ⟦<Buffered<S> as Disk>⟧.input_left d ≡ S.input_left store) }
+        ensures left { IfOk result (λ d.
+            ⟦<Buffered<S> as Disk>⟧.input_left d ≡ S.input_left store) }
         ensures heard { IfOk result (λ d. ⟦<Buffered<S> as Disk>⟧.heard d ≡ S.heard store) }
         ensures faults { IfOk result (λ d. ⟦<Buffered<S> as Disk>⟧.faults d ≡ faults_of 0) }
         ensures store { IfOk result (λ d. d.store ≡ store) }
@@ -116,7 +134,8 @@ impl<S: RunStore + Drop> Buffered<S> {
         })
     }
 
-    /// The store. What it may leave, and what it may have left, the disk may too, at the same moment.
+    /// The store. What it may leave, and what it may have left, the disk may too, at the same
+    /// moment.
     pub fn store(&self) -> &S
         ensures store { result.now ≡ self.now.store }
         ensures crash { (s : ℕ) (b : List ℕ)
@@ -180,7 +199,8 @@ impl<S: RunStore + Drop> Buffered<S> {
         (GROWTH * ahead.count).min(RUN_SECTORS).min(left)
     }
 
-    // Reads ahead from a sector on, where those before it were read last. Whether the sector is at hand now.
+    // Reads ahead from a sector on, where those before it were read last. Whether the sector is at
+    // hand now.
     fn read_ahead(&mut self, at: u64) -> bool
         requires { at < S.size self.old.store }
         ensures reads { OnlyReads ⟦<Buffered<S> as Disk>⟧ self.old self.new }
@@ -250,15 +270,15 @@ impl<S: RunStore + Drop> Disk for Buffered<S> {
 
     ghost small = { λ d. S.small d.store };
 
-    ghost whole = { whole_over S.RunStore.own (λ d. d.store) (λ d. d.held) (λ d. d.failed) S.whole };
+    ghost whole = { λ d. whole_over S.RunStore.own S.whole d.store d.held };
 
-    ghost seen_held = { seen_held_over S.RunStore.own (λ d. d.store) (λ d. d.held) (λ d. d.failed) S.seen_held };
+    ghost seen_held = { λ d. seen_held_over S.RunStore.own S.seen_held d.store d.held };
 
     ghost bytes = { λ d. S.bytes d.store };
 
     ghost counts_now = { λ d t o le now. inr now };
 
-    ghost only_now = { only_now_over S.RunStore.own (λ d. d.store) (λ d. d.held) (λ d. d.failed) S.only_now };
+    ghost only_now = { λ d. only_now_over S.RunStore.own S.only_now d.store d.held };
 
     fn sectors(&self) -> u64 {
         self.store.sectors()
@@ -266,7 +286,8 @@ impl<S: RunStore + Drop> Disk for Buffered<S> {
 
     fn read_sector(&mut self, at: u64, out: &mut [u8; 512]) -> Result<(), Failed>
         requires { at < S.size self.old.store }
-        ensures bytes { S.is_modelled → OnOk result (out.new ≡ ⟦<Buffered<S> as Disk>⟧.seen self.old at) }
+        ensures bytes { S.is_modelled → OnOk result
+            (out.new ≡ ⟦<Buffered<S> as Disk>⟧.seen self.old at) }
         ensures reads { OnlyReads ⟦<Buffered<S> as Disk>⟧ self.old self.new }
         ensures faults { FailsWithDisk ⟦<Buffered<S> as Disk>⟧ self.old self.new result }
         // It fails only where a call of the store failed.
@@ -284,7 +305,8 @@ impl<S: RunStore + Drop> Disk for Buffered<S> {
     fn write_sector(&mut self, at: u64, from: &[u8; 512]) -> Result<(), Failed>
         requires { at < S.size self.old.store }
         ensures written { S.is_modelled → OnOk result
-            (⟦<Buffered<S> as Disk>⟧.seen self.new ≡ set_sector (⟦<Buffered<S> as Disk>⟧.seen self.old) at from.now) }
+            (⟦<Buffered<S> as Disk>⟧.seen self.new
+            ≡ set_sector (⟦<Buffered<S> as Disk>⟧.seen self.old) at from.now) }
         ensures failed { OnErr result (OnlyReads ⟦<Buffered<S> as Disk>⟧ self.old self.new) }
         ensures writes { OnlyWrites ⟦<Buffered<S> as Disk>⟧ (IsAt at from.now) self.old self.new }
         ensures faults { FailsWithDisk ⟦<Buffered<S> as Disk>⟧ self.old self.new result }
@@ -299,7 +321,8 @@ impl<S: RunStore + Drop> Disk for Buffered<S> {
     fn sync(&mut self) -> Result<(), Failed>
         ensures settled { S.is_modelled → OnOk result (IsAtRest ⟦<Buffered<S> as Disk>⟧ self.new) }
         ensures failed { S.is_modelled → OnErr result
-            (SameHoldings (⟦<Buffered<S> as Disk>⟧.may_leave self.old) (⟦<Buffered<S> as Disk>⟧.may_leave self.new)) }
+            (SameHoldings (⟦<Buffered<S> as Disk>⟧.may_leave self.old)
+            (⟦<Buffered<S> as Disk>⟧.may_leave self.new)) }
         ensures syncs { OnlySyncs ⟦<Buffered<S> as Disk>⟧ self.old self.new }
         ensures faults { FailsWithDisk ⟦<Buffered<S> as Disk>⟧ self.old self.new result }
         // It fails only where a call of the store failed.
@@ -308,9 +331,9 @@ impl<S: RunStore + Drop> Disk for Buffered<S> {
         self.write_out()?;
         match self.store.sync() {
             Ok(()) => Ok(()),
-            Err(_) => {
+            Err(fault) => {
                 self.failed = self.failed.saturating_add(1);
-                Err(Failed)
+                Err(fault)
             }
         }
     }

@@ -1,4 +1,5 @@
-//! A disk that holds writes back and reads ahead, over a store of sectors that is read and written in long runs.
+//! A disk that holds writes back and reads ahead, over a store of sectors that is read and written
+//! in long runs.
 #![tactic(auto)]
 
 mod buffered;
@@ -9,3 +10,6 @@ mod store;
 pub use buffered::Buffered;
 pub use sectorwise::Sectorwise;
 pub use store::RunStore;
+
+#[cfg(test)]
+mod tests;

@@ -1,5 +1,20 @@
 // Sectors that follow one another, kept in a buffer of fixed size.
-ghost use Rattle.std.specs.Prelude.{◌≡◌, ◌⊎◌, ◌<◌, ◌≤◌, ◌+◌, ◌-◌, ◌*◌, ◌↔◌, ℕ, IsTrue, length, slice_index, take, IfOk};
+ghost use Rattle.std.specs.Prelude.{
+  ◌≡◌,
+  ◌⊎◌,
+  ◌<◌,
+  ◌≤◌,
+  ◌+◌,
+  ◌-◌,
+  ◌*◌,
+  ◌↔◌,
+  ℕ,
+  IsTrue,
+  length,
+  slice_index,
+  take,
+  IfOk,
+};
 
 use std::alloc::{AllocError, Global};
 use vab_gate::SECTOR;
@@ -9,7 +24,8 @@ pub(crate) const RUN_SECTORS: usize = 128;
 
 const RUN_BYTES: usize = 65536;
 
-/// A run of sectors from `first` on. The buffer keeps its size; what stands behind its `count` sectors is of no meaning.
+/// A run of sectors from `first` on. The buffer keeps its size; what stands behind its `count`
+/// sectors is of no meaning.
 #[derive(Drop)]
 pub(crate) struct Run {
     pub(crate) first: u64,

@@ -9,8 +9,8 @@ use crate::RunStore;
 use vab_disk::{Disk, Failed};
 use vab_gate::SECTOR;
 
-/// A store of runs over any disk, each run so many calls of it. Over a port in memory it tells everything, and the calls
-/// that are listed there fail in the midst of a run.
+/// A store of runs over any disk, each run so many calls of it. Over a port in memory it tells
+/// everything, and the calls that are listed there fail in the midst of a run.
 #[derive(Drop)]
 pub struct Sectorwise<D: Disk + Drop> {
     disk: D,

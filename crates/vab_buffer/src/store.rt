@@ -1,14 +1,42 @@
 // A store of sectors that are read and written in runs.
-ghost use Rattle.std.specs.Prelude.{◌≡◌, ◌⊎◌, ◌<◌, ◌≤◌, ◌+◌, ◌^◌, ◌%◌, List, ℕ, length, slice_index, OnOk, OnErr};
-ghost use Rattle.vab_disk.specs.Disk.{Image, IsSector, Outcome, Leaves, IsSettled, Adds, Nothing, Writes, SameHoldings, Faults, Quiet, Rose, Hearing};
+ghost use Rattle.std.specs.Prelude.{
+  ◌≡◌,
+  ◌⊎◌,
+  ◌<◌,
+  ◌≤◌,
+  ◌+◌,
+  ◌^◌,
+  ◌%◌,
+  List,
+  ℕ,
+  length,
+  slice_index,
+  OnOk,
+  OnErr,
+};
+ghost use Rattle.vab_disk.specs.Disk.{
+  Image,
+  IsSector,
+  Outcome,
+  Leaves,
+  IsSettled,
+  Adds,
+  Nothing,
+  Writes,
+  SameHoldings,
+  Faults,
+  Quiet,
+  Rose,
+  Hearing,
+};
 ghost use Rattle.vab_disk.specs.Calls.{SameBut};
 ghost use Rattle.vab_gate.specs.Gate.{set_sectors, sectors_at, IsAmong};
 ghost use Rattle.vab_buffer.specs.Store.{sectors_in};
 
 use vab_disk::Failed;
 
-/// A store of sectors of 512 bytes, of which as many as follow one another are read or written by one call, a run. A
-/// call that answers Ok leaves the counts of faults as they were.
+/// A store of sectors of 512 bytes, of which as many as follow one another are read or written by
+/// one call, a run. A call that answers Ok leaves the counts of faults as they were.
 pub trait RunStore {
     /// Whether the contents are told. Where they are not, the clauses speak of counts alone.
     ghost is_modelled: { Type 0 };
@@ -19,8 +47,8 @@ pub trait RunStore {
     /// What a read gives.
     ghost seen: { Self → Image };
 
-    /// Which bytes a crash at this moment may leave in a sector: the settled ones, or those of a write
-    /// since the last sync that succeeded.
+    /// Which bytes a crash at this moment may leave in a sector: the settled ones, or those of a
+    /// write since the last sync that succeeded.
     ghost may_leave: { Self → ℕ → List ℕ → Type 0 };
 
     /// The bytes told so far.
@@ -57,8 +85,8 @@ pub trait RunStore {
         ensures steady { OnOk result (faults self.new ≡ faults self.old) }
         ensures cause { OnErr result (Rose (faults self.old).disk (faults self.new).disk) };
 
-    /// Writes sectors from `at` on. A crash leaves each of them, by itself, as it could be left before
-    /// or with its new bytes. A run that fails may have written any of them.
+    /// Writes sectors from `at` on. A crash leaves each of them, by itself, as it could be left
+    /// before or with its new bytes. A run that fails may have written any of them.
     fn write_run(&mut self, at: u64, from: &[u8]) -> Result<(), Failed>
         requires whole { length from.now % 512 ≡ 0 }
         requires within { at + sectors_in from.now ≤ size self.old }
@@ -68,7 +96,8 @@ pub trait RunStore {
             (SameBut (IsAmong (sectors_in from.now) at from.now) (seen self.old) (seen self.new)) }
         ensures quiet { Quiet is_modelled size told input_left heard faults self.old self.new }
         ensures crash { is_modelled →
-            Writes (IsAmong (sectors_in from.now) at from.now) (may_leave self.old) (may_leave self.new) }
+            Writes (IsAmong (sectors_in from.now) at from.now)
+            (may_leave self.old) (may_leave self.new) }
         ensures time { is_modelled → Adds moment outcomes self.old self.new
             (Leaves (told self.old) (may_leave self.new)) }
         ensures steady { OnOk result (faults self.new ≡ faults self.old) }
@@ -76,8 +105,10 @@ pub trait RunStore {
 
     /// After it a crash leaves what a read gives. One that fails leaves pending what is pending.
     fn sync(&mut self) -> Result<(), Failed>
-        ensures settled { is_modelled → OnOk result (IsSettled (seen self.new) (may_leave self.new)) }
-        ensures failed { is_modelled → OnErr result (SameHoldings (may_leave self.old) (may_leave self.new)) }
+        ensures settled { is_modelled → OnOk result
+            (IsSettled (seen self.new) (may_leave self.new)) }
+        ensures failed { is_modelled → OnErr result
+            (SameHoldings (may_leave self.old) (may_leave self.new)) }
         ensures crash { is_modelled →
             (s : ℕ) (b : List ℕ) → may_leave self.new s b → may_leave self.old s b }
         ensures quiet { Quiet is_modelled size told input_left heard faults self.old self.new }

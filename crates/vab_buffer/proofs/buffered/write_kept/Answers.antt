@@ -26,7 +26,8 @@ returns-clause-writes g c =
     let count : sectors_in front ≡ run.count =
     omega (arith, ap length c.kept.ensures, long) in
     let among = λ (s : ℕ) (b : List ℕ) (is : IsAmong (sectors_in front) run.first front s b).
-    among_front run.count (sectors_in front) run.bytes.items front c.kept.ensures count run.first s b is in
+    among_front run.count (sectors_in front) run.bytes.items front c.kept.ensures count
+    run.first s b is in
     let ok = c.in_ok-write_run.ensures in
     record {
       quiet = ok.quiet;
@@ -44,7 +45,8 @@ returns-in_err-write_run-clause-writes g c =
     let count : sectors_in front ≡ run.count =
     omega (arith, ap length c.kept.ensures, long) in
     let among = λ (s : ℕ) (b : List ℕ) (is : IsAmong (sectors_in front) run.first front s b).
-    among_front run.count (sectors_in front) run.bytes.items front c.kept.ensures count run.first s b is in
+    among_front run.count (sectors_in front) run.bytes.items front c.kept.ensures count
+    run.first s b is in
     let err = c.in_err-write_run.ensures in
     record {
       quiet = err.quiet;

@@ -11,7 +11,8 @@ returns-clause-bytes g c = λ t.
     let d = c.args.self.now in
     let image = g.S.RunStore.seen c.fetch.new.self.store in
     let apart : Has c.fetch.new.self.held c.args.at → ⊥ = λ has.
-    let was : Has d.held c.args.at = subst (λ (run : Run). Has run c.args.at) c.fetch.ensures.held has in
+    let was : Has d.held c.args.at =
+    subst (λ (run : Run). Has run c.args.at) c.fetch.ensures.held has in
     false≢true (sym c.if-has.false ∙ c.has.ensures.1 was) in
     c.fetch.new.self.fetched t c.args.at c.get-2.new.out c.get-2.ensures
     ∙ sym (over_apart c.fetch.new.self.held image c.args.at apart)

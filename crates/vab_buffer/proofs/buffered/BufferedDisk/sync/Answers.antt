@@ -28,7 +28,8 @@ invariant_of-self-in-Err g c = record {
 pub returns-in-Ok-clause-syncs : goal.returns-in-Ok-clause-syncs
 returns-in-Ok-clause-syncs g c =
     let synced = c.in-Ok.ensures in
-    let below : OnlySyncs (as_disk g.S.RunStore) c.write_out.new.self.store c.sync.new.self = record {
+    let below : OnlySyncs (as_disk g.S.RunStore) c.write_out.new.self.store c.sync.new.self =
+    record {
       quiet = synced.quiet;
       seen = synced.seen;
       crash = synced.crash;
