@@ -1,5 +1,5 @@
 -- What sectors in memory read.
-use Rattle.std.specs.Prelude.{ℕ, List, unwrap_or, replicate}
+use Rattle.std.specs.Prelude.{unwrap_or, replicate}
 use Rattle.std.specs.Ordering.{nat_cmp}
 use Rattle.std.specs.BTreeMap.{get}
 use Rattle.vab_disk.specs.Disk.{Image}

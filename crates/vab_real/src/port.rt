@@ -1,6 +1,6 @@
 // The port over the outside world.
-ghost use Rattle.std.specs.Prelude.{◌≡◌, ◌<◌, ◌^◌, ℕ, IfOk, IsOk, OnOk, OnErr, replicate};
-ghost use Rattle.vab_disk.specs.Disk.{Image, set_sector};
+ghost use Rattle.std.specs.Prelude.{◌≡◌, ◌<◌, ◌≤◌, ◌^◌, IfOk, IsOk, OnOk, OnErr, replicate};
+ghost use Rattle.vab_disk.specs.Disk.{Image, NoFewer, Rose, set_sector};
 
 use crate::cells::Cells;
 use crate::file_store::FileStore;
@@ -69,10 +69,10 @@ impl<R: Read + Drop, W: Write + Drop> FilePort<R, W> {
         FilePort::new(Cells::Memory(Pages::new(alloc, sectors)), input, output)
     }
 
-    /// A port over a file that exists, whose whole pieces of 512 bytes are its sectors. A rest isn't
-    /// read. Its size is where its end is, for a block device too. The file is locked for this port
-    /// alone, as `flock` does, until the port is dropped; where another run has it, nothing is read or
-    /// written.
+    /// A port over a file that exists, whose whole pieces of 512 bytes are its sectors. A rest
+    /// isn't read. Its size is where its end is, for a block device too. The file is locked for
+    /// this port alone, as `flock` does, until the port is dropped; where another run has it,
+    /// nothing is read or written.
     pub fn open<F: Files<File = File> + AllocGlobal>(
         files: &F,
         path: &str,
@@ -108,6 +108,7 @@ impl<R: Read + Drop, W: Write + Drop> Disk for FilePort<R, W> {
     ghost use Rattle.std.specs.Prelude.{[], ℕ, refl, replicate};
     ghost use Rattle.std.proofs.Common.{subst, sym, lit<};
     ghost use Rattle.vab_disk.specs.Disk.{Faults, Leaves, IsSector};
+    ghost use Rattle.vab_disk.specs.Calls.{IsQuiet, OnlyReads, FailsWithDisk};
     ghost use Rattle.vab_disk.specs.MemoryLaws.{zeros_whole};
     ghost use Rattle.vab_real.specs.Cells.{size_of, HasImage, cells_small};
 
@@ -147,7 +148,17 @@ impl<R: Read + Drop, W: Write + Drop> Disk for FilePort<R, W> {
         self.cells.sectors()
     }
 
-    fn read_sector(&mut self, at: u64, out: &mut [u8; 512]) -> Result<(), Failed> {
+    fn read_sector(&mut self, at: u64, out: &mut [u8; 512]) -> Result<(), Failed>
+        requires { at < size_of self.old.cells }
+        ensures reads { OnlyReads ⟦<FilePort<R, W> as Disk>⟧ self.old self.new }
+        ensures faults { FailsWithDisk ⟦<FilePort<R, W> as Disk>⟧ self.old self.new result }
+        // In memory it never fails, and gives what was written there last.
+        ensures ok { (image : Image) → HasImage self.old.cells image → IsOk result }
+        ensures read { (image : Image) → HasImage self.old.cells image → out.new ≡ image at }
+        ensures same { (image : Image)
+            → HasImage self.old.cells image
+            → HasImage self.new.cells image }
+    {
         match self.cells.read(at, out) {
             Ok(()) => Ok(()),
             Err(_) => {
@@ -157,7 +168,16 @@ impl<R: Read + Drop, W: Write + Drop> Disk for FilePort<R, W> {
         }
     }
 
-    fn write_sector(&mut self, at: u64, from: &[u8; 512]) -> Result<(), Failed> {
+    fn write_sector(&mut self, at: u64, from: &[u8; 512]) -> Result<(), Failed>
+        requires { at < size_of self.old.cells }
+        ensures quiet { IsQuiet ⟦<FilePort<R, W> as Disk>⟧ self.old self.new }
+        ensures faults { FailsWithDisk ⟦<FilePort<R, W> as Disk>⟧ self.old self.new result }
+        // In memory it fails only where memory is refused, and leaves all as it was.
+        ensures wrote { (image : Image) → HasImage self.old.cells image → OnOk result
+            (HasImage self.new.cells (set_sector image at from.now)) }
+        ensures refused { (image : Image) → HasImage self.old.cells image → OnErr result
+            (HasImage self.new.cells image) }
+    {
         match self.cells.write(at, from) {
             Ok(()) => Ok(()),
             Err(_) => {
@@ -167,7 +187,15 @@ impl<R: Read + Drop, W: Write + Drop> Disk for FilePort<R, W> {
         }
     }
 
-    fn sync(&mut self) -> Result<(), Failed> {
+    fn sync(&mut self) -> Result<(), Failed>
+        ensures quiet { IsQuiet ⟦<FilePort<R, W> as Disk>⟧ self.old self.new }
+        ensures faults { FailsWithDisk ⟦<FilePort<R, W> as Disk>⟧ self.old self.new result }
+        // In memory it never fails.
+        ensures ok { (image : Image) → HasImage self.old.cells image → IsOk result }
+        ensures same { (image : Image)
+            → HasImage self.old.cells image
+            → HasImage self.new.cells image }
+    {
         match self.cells.sync() {
             Ok(()) => Ok(()),
             Err(_) => {
@@ -179,7 +207,23 @@ impl<R: Read + Drop, W: Write + Drop> Disk for FilePort<R, W> {
 }
 
 impl<R: Read + Drop, W: Write + Drop> Port for FilePort<R, W> {
-    fn hear(&mut self, out: &mut [u8]) -> Result<usize, PortFault> {
+    ghost use Rattle.std.specs.Prelude.{length, IsErrOf};
+
+    fn hear(&mut self, out: &mut [u8]) -> Result<usize, PortFault>
+        ensures fits { IfOk result (λ n. n ≤ length out.old) }
+        ensures size { ⟦<FilePort<R, W> as Disk>⟧.size self.new
+            ≡ ⟦<FilePort<R, W> as Disk>⟧.size self.old }
+        ensures counts { NoFewer (⟦<FilePort<R, W> as Disk>⟧.faults self.old)
+            (⟦<FilePort<R, W> as Disk>⟧.faults self.new) }
+        ensures steady { OnOk result
+            (⟦<FilePort<R, W> as Disk>⟧.faults self.new
+            ≡ ⟦<FilePort<R, W> as Disk>⟧.faults self.old) }
+        ensures kind { IsErrOf result PortFault.Sink → ⊥ }
+        ensures cause { OnErr result
+            (Rose (⟦<FilePort<R, W> as Disk>⟧.faults self.old).source
+            (⟦<FilePort<R, W> as Disk>⟧.faults self.new).source) }
+        ensures cells { self.new.cells ≡ self.old.cells }
+    {
         match self.input.read(out) {
             Ok(count) => Ok(count),
             Err(_) => {
@@ -189,7 +233,22 @@ impl<R: Read + Drop, W: Write + Drop> Port for FilePort<R, W> {
         }
     }
 
-    fn say(&mut self, from: &[u8]) -> Result<usize, PortFault> {
+    fn say(&mut self, from: &[u8]) -> Result<usize, PortFault>
+        ensures fits { IfOk result (λ n. n ≤ length from.now) }
+        ensures some { IfOk result (λ n. n ≡ 0 → length from.now ≡ 0) }
+        ensures size { ⟦<FilePort<R, W> as Disk>⟧.size self.new
+            ≡ ⟦<FilePort<R, W> as Disk>⟧.size self.old }
+        ensures counts { NoFewer (⟦<FilePort<R, W> as Disk>⟧.faults self.old)
+            (⟦<FilePort<R, W> as Disk>⟧.faults self.new) }
+        ensures steady { OnOk result
+            (⟦<FilePort<R, W> as Disk>⟧.faults self.new
+            ≡ ⟦<FilePort<R, W> as Disk>⟧.faults self.old) }
+        ensures kind { IsErrOf result PortFault.Source → ⊥ }
+        ensures cause { OnErr result
+            (Rose (⟦<FilePort<R, W> as Disk>⟧.faults self.old).sink
+            (⟦<FilePort<R, W> as Disk>⟧.faults self.new).sink) }
+        ensures cells { self.new.cells ≡ self.old.cells }
+    {
         match self.output.write(from) {
             Ok(count) if count > 0 || from.is_empty() => Ok(count),
             _ => {
