@@ -45,10 +45,11 @@ pub struct FilePort<R: Read + Drop, W: Write + Drop> {
 }
 
 impl<R: Read + Drop, W: Write + Drop> FilePort<R, W> {
-    ghost use Rattle.vab_real.specs.Cells.{size_of, HasImage};
+    ghost use Rattle.vab_real.specs.Cells.{size_of, HasImage, no_faults};
 
     fn new(cells: Cells, input: R, output: W) -> Self
-        ensures { result.cells ≡ cells }
+        ensures cells { result.cells ≡ cells }
+        ensures faults { ⟦<FilePort<R, W> as Disk>⟧.faults result ≡ no_faults }
     {
         FilePort {
             cells,
@@ -65,6 +66,7 @@ impl<R: Read + Drop, W: Write + Drop> FilePort<R, W> {
         requires { sectors < 2 ^ 55 }
         ensures size { size_of result.cells ≡ sectors }
         ensures zeros { HasImage result.cells (λ s. replicate 512 0) }
+        ensures faults { ⟦<FilePort<R, W> as Disk>⟧.faults result ≡ no_faults }
     {
         FilePort::new(Cells::Memory(Pages::new(alloc, sectors)), input, output)
     }
@@ -78,7 +80,9 @@ impl<R: Read + Drop, W: Write + Drop> FilePort<R, W> {
         path: &str,
         input: R,
         output: W,
-    ) -> Result<Self, OpenFault> {
+    ) -> Result<Self, OpenFault>
+        ensures { IfOk result (λ p. ⟦<FilePort<R, W> as Disk>⟧.faults p ≡ no_faults) }
+    {
         let file = open_alone(files, path)?;
         let store = match FileStore::new(file) {
             Ok(store) => store,
