@@ -7,7 +7,7 @@ use std::env::{self, Env};
 use std::io::{Stdin, Stdout};
 use std::process::ExitCode;
 use vab_cli::{Status, run};
-use vab_real::FilePort;
+use vab_real::{FilePort, OpenFault};
 use word::{Device, parse_device};
 
 const USAGE: &str =
@@ -38,13 +38,16 @@ fn open_port(rt: &HostRuntime, word: &str) -> Result<FilePort<Stdin, Stdout>, u8
     match parse_device(word) {
         Device::Memory(sectors) => {
             let sectors = u64::from(sectors);
-            match FilePort::zeroed(rt.alloc(), sectors, rt.stdin(), rt.stdout()) {
-                Ok(port) => Ok(port),
-                Err(_) => Err(NO_MEMORY),
-            }
+            Ok(FilePort::zeroed(
+                rt.alloc(),
+                sectors,
+                rt.stdin(),
+                rt.stdout(),
+            ))
         }
         Device::File(path) => match FilePort::open(rt, path, rt.stdin(), rt.stdout()) {
             Ok(port) => Ok(port),
+            Err(OpenFault::Memory) => Err(NO_MEMORY),
             Err(fault) => {
                 let _ = eprintln!(rt; "vab: {path}: {fault}");
                 Err(NOT_OPENED)

@@ -1,64 +1,75 @@
 // Where the sectors of a port are.
-ghost use Rattle.std.specs.Prelude.{◌≡◌, ◌<◌, ◌^◌, length};
+ghost use Rattle.std.specs.Prelude.{◌≡◌, ◌<◌, IsOk, OnOk, OnErr};
+ghost use Rattle.vab_disk.specs.Disk.{Image, set_sector};
 
-use std::fs::File;
-use std::io::{self, Read, Seek, SeekFrom, Write};
+use crate::file_store::FileStore;
+use crate::pages::Pages;
+use vab_buffer::Buffered;
+use vab_disk::{Disk, Failed};
 
-/// Sectors of 512 bytes in memory, or in a file from its beginning on.
+/// Sectors in memory, or in a file.
 #[derive(Drop)]
 pub(crate) enum Cells {
-    Memory(Vec<[u8; 512]>),
-    File(File),
-}
-
-// Puts the file's position at a sector.
-fn seek(file: &mut File, at: u64) -> io::Result<()>
-    requires { at < 2 ^ 55 }
-{
-    file.seek(SeekFrom::Start(512 * at))?;
-    Ok(())
+    Memory(Pages),
+    File(Buffered<FileStore>),
 }
 
 impl Cells {
-    /// Reads a sector. In a file that became shorter it fails.
-    pub(crate) fn read(&mut self, at: u64, out: &mut [u8; 512]) -> io::Result<()>
-        requires { at < 2 ^ 55 }
+    ghost use Rattle.vab_real.specs.Cells.{size_of, HasImage};
+
+    pub(crate) fn sectors(&self) -> u64
+        ensures { result ≡ size_of self.now }
     {
         match self {
-            Cells::Memory(cells) => match cells.get(at as usize) {
-                Some(cell) => *out = *cell,
-                None => return Err(io::Error::from(io::ErrorKind::UnexpectedEof)),
-            },
-            Cells::File(file) => {
-                seek(file, at)?;
-                file.read_exact(out)?;
-            }
+            Cells::Memory(pages) => pages.sectors,
+            Cells::File(disk) => disk.sectors(),
         }
-        Ok(())
     }
 
-    /// Writes a sector.
-    pub(crate) fn write(&mut self, at: u64, from: &[u8; 512]) -> io::Result<()>
-        requires { at < 2 ^ 55 }
+    /// Reads a sector. In memory it never fails.
+    pub(crate) fn read(&mut self, at: u64, out: &mut [u8; 512]) -> Result<(), Failed>
+        requires { at < size_of self.old }
+        ensures size { size_of self.new ≡ size_of self.old }
+        ensures bytes { (image : Image) → HasImage self.old image → out.new ≡ image at }
+        ensures ok { (image : Image) → HasImage self.old image → IsOk result }
+        ensures same { (image : Image) → HasImage self.old image → HasImage self.new image }
     {
         match self {
-            Cells::Memory(cells) => match cells.get_mut(at as usize) {
-                Some(cell) => *cell = *from,
-                None => return Err(io::Error::from(io::ErrorKind::UnexpectedEof)),
-            },
-            Cells::File(file) => {
-                seek(file, at)?;
-                file.write_all(from)?;
+            Cells::Memory(pages) => {
+                pages.read(at, out);
+                Ok(())
             }
+            Cells::File(disk) => disk.read_sector(at, out),
         }
-        Ok(())
     }
 
-    /// Makes what was written lasting, by `fsync` of the file.
-    pub(crate) fn sync(&mut self) -> io::Result<()> {
+    /// Writes a sector. In memory it fails only where memory is refused, and leaves all as it was.
+    pub(crate) fn write(&mut self, at: u64, from: &[u8; 512]) -> Result<(), Failed>
+        requires { at < size_of self.old }
+        ensures size { size_of self.new ≡ size_of self.old }
+        ensures written { (image : Image) → HasImage self.old image → OnOk result
+            (HasImage self.new (set_sector image at from.now)) }
+        ensures failed { (image : Image) → HasImage self.old image → OnErr result
+            (HasImage self.new image) }
+    {
+        match self {
+            Cells::Memory(pages) => match pages.write(at, from) {
+                Ok(()) => Ok(()),
+                Err(_) => Err(Failed),
+            },
+            Cells::File(disk) => disk.write_sector(at, from),
+        }
+    }
+
+    /// Makes what was written lasting. In memory it never fails.
+    pub(crate) fn sync(&mut self) -> Result<(), Failed>
+        ensures size { size_of self.new ≡ size_of self.old }
+        ensures ok { (image : Image) → HasImage self.old image → IsOk result }
+        ensures same { (image : Image) → HasImage self.old image → HasImage self.new image }
+    {
         match self {
             Cells::Memory(_) => Ok(()),
-            Cells::File(file) => file.sync_all(),
+            Cells::File(disk) => disk.sync(),
         }
     }
 }

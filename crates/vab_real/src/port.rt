@@ -1,12 +1,16 @@
 // The port over the outside world.
-ghost use Rattle.std.specs.Prelude.{◌≡◌, ◌<◌, ◌^◌, length, IfOk};
+ghost use Rattle.std.specs.Prelude.{◌≡◌, ◌<◌, ◌≤◌, ◌^◌, IfOk, IsOk, OnOk, OnErr, replicate};
+ghost use Rattle.vab_disk.specs.Disk.{Image, NoFewer, Rose, set_sector};
 
 use crate::cells::Cells;
-use std::alloc::{AllocError, Global};
-use std::fs::{File, OpenOptions};
+use crate::file_store::FileStore;
+use crate::pages::Pages;
+use std::alloc::Global;
+use std::fs::{File, OpenOptions, TryLockError};
 use std::io::{self, Read, Write};
 use std::rt::Files;
 use thiserror::Error;
+use vab_buffer::Buffered;
 use vab_disk::{Disk, Failed, NoMemory, Port, PortFault};
 
 /// Why a file can't be the disk.
@@ -15,41 +19,40 @@ pub enum OpenFault {
     /// It can't be opened for reading and writing.
     #[error("the file can't be opened: {0}")]
     Open(io::Error),
-    /// Its length can't be asked.
+    /// Another run has it.
+    #[error("the file is in use by another run")]
+    InUse,
+    /// It can't be locked.
+    #[error("the file can't be locked: {0}")]
+    Lock(io::Error),
+    /// Where its end is can't be asked.
     #[error("the file's length can't be read: {0}")]
     Length(io::Error),
+    /// There is no memory for a buffer.
+    #[error("there is no memory for a buffer")]
+    Memory,
 }
 
 /// A disk in a file or in memory, with a source of input and a sink for what is told.
 #[derive(Drop)]
 pub struct FilePort<R: Read + Drop, W: Write + Drop> {
     cells: Cells,
-    sectors: u64,
     input: R,
     output: W,
     disk_faults: u64,
     source_faults: u64,
     sink_faults: u64,
-    ghost small: { sectors < 2 ^ 55 },
-}
-
-// Sectors of zeros.
-fn zeros(alloc: Global, sectors: u64) -> Result<Vec<[u8; 512]>, AllocError> {
-    let mut cells = Vec::new(alloc);
-    for _i in 0..sectors {
-        cells.push([0u8; 512])?;
-    }
-    Ok(cells)
 }
 
 impl<R: Read + Drop, W: Write + Drop> FilePort<R, W> {
-    fn new(cells: Cells, sectors: u64, input: R, output: W) -> Self
-        requires { sectors < 2 ^ 55 }
-        ensures { result.sectors ≡ sectors }
+    ghost use Rattle.vab_real.specs.Cells.{size_of, HasImage, no_faults};
+
+    fn new(cells: Cells, input: R, output: W) -> Self
+        ensures cells { result.cells ≡ cells }
+        ensures faults { ⟦<FilePort<R, W> as Disk>⟧.faults result ≡ no_faults }
     {
         FilePort {
             cells,
-            sectors,
             input,
             output,
             disk_faults: 0,
@@ -58,35 +61,50 @@ impl<R: Read + Drop, W: Write + Drop> FilePort<R, W> {
         }
     }
 
-    /// A port over so many sectors of zeros in memory.
-    pub fn zeroed(alloc: Global, sectors: u64, input: R, output: W) -> Result<Self, NoMemory>
+    /// A port over so many sectors of zeros in memory, which is taken as they are written.
+    pub fn zeroed(alloc: Global, sectors: u64, input: R, output: W) -> Self
         requires { sectors < 2 ^ 55 }
-        ensures size { IfOk result (λ p. p.sectors ≡ sectors) }
+        ensures size { size_of result.cells ≡ sectors }
+        ensures zeros { HasImage result.cells (λ s. replicate 512 0) }
+        ensures faults { ⟦<FilePort<R, W> as Disk>⟧.faults result ≡ no_faults }
     {
-        match zeros(alloc, sectors) {
-            Ok(cells) => Ok(FilePort::new(Cells::Memory(cells), sectors, input, output)),
-            Err(_) => Err(NoMemory),
-        }
+        FilePort::new(Cells::Memory(Pages::new(alloc, sectors)), input, output)
     }
 
-    /// A port over a file that exists, whose whole pieces of 512 bytes are its sectors. A rest isn't read.
-    pub fn open<F: Files<File = File>>(
+    /// A port over a file that exists, whose whole pieces of 512 bytes are its sectors. A rest
+    /// isn't read. Its size is where its end is, for a block device too. The file is locked for
+    /// this port alone, as `flock` does, until the port is dropped; where another run has it,
+    /// nothing is read or written.
+    pub fn open<F: Files<File = File> + AllocGlobal>(
         files: &F,
         path: &str,
         input: R,
         output: W,
-    ) -> Result<Self, OpenFault> {
-        let file = match OpenOptions::new().read(true).write(true).open(files, path) {
-            Ok(file) => file,
-            Err(fault) => return Err(OpenFault::Open(fault)),
+    ) -> Result<Self, OpenFault>
+        ensures { IfOk result (λ p. ⟦<FilePort<R, W> as Disk>⟧.faults p ≡ no_faults) }
+    {
+        let file = open_alone(files, path)?;
+        let store = match FileStore::new(file) {
+            Ok(store) => store,
+            Err(fault) => return Err(OpenFault::Length(fault)),
         };
-        match file.metadata() {
-            Ok(metadata) => {
-                let sectors = metadata.len() / 512;
-                Ok(FilePort::new(Cells::File(file), sectors, input, output))
-            }
-            Err(fault) => Err(OpenFault::Length(fault)),
+        match Buffered::new(files.alloc(), store) {
+            Ok(disk) => Ok(FilePort::new(Cells::File(disk), input, output)),
+            Err(NoMemory) => Err(OpenFault::Memory),
         }
+    }
+}
+
+// Opens a file for reading and writing, and locks it.
+fn open_alone<F: Files<File = File>>(files: &F, path: &str) -> Result<File, OpenFault> {
+    let file = match OpenOptions::new().read(true).write(true).open(files, path) {
+        Ok(file) => file,
+        Err(fault) => return Err(OpenFault::Open(fault)),
+    };
+    match file.try_lock() {
+        Ok(()) => Ok(file),
+        Err(TryLockError::WouldBlock) => Err(OpenFault::InUse),
+        Err(TryLockError::Error(fault)) => Err(OpenFault::Lock(fault)),
     }
 }
 
@@ -94,11 +112,13 @@ impl<R: Read + Drop, W: Write + Drop> Disk for FilePort<R, W> {
     ghost use Rattle.std.specs.Prelude.{[], ℕ, refl, replicate};
     ghost use Rattle.std.proofs.Common.{subst, sym, lit<};
     ghost use Rattle.vab_disk.specs.Disk.{Faults, Leaves, IsSector};
+    ghost use Rattle.vab_disk.specs.Calls.{IsQuiet, OnlyReads, FailsWithDisk};
     ghost use Rattle.vab_disk.specs.MemoryLaws.{zeros_whole};
+    ghost use Rattle.vab_real.specs.Cells.{size_of, HasImage, cells_small};
 
     ghost is_modelled = { ⊥ };
 
-    ghost size = { λ p. p.sectors };
+    ghost size = { λ p. size_of p.cells };
 
     ghost seen = { λ p s. replicate 512 0 };
 
@@ -116,7 +136,7 @@ impl<R: Read + Drop, W: Write + Drop> Disk for FilePort<R, W> {
 
     ghost outcomes = { λ p t o. Leaves [] (λ s b. b ≡ replicate 512 0) o };
 
-    ghost small = { λ p. p.small };
+    ghost small = { λ p. cells_small p.cells };
 
     ghost whole = { λ p s b below is. subst IsSector (sym is) zeros_whole };
 
@@ -129,10 +149,20 @@ impl<R: Read + Drop, W: Write + Drop> Disk for FilePort<R, W> {
     ghost only_now = { λ p o left. left };
 
     fn sectors(&self) -> u64 {
-        self.sectors
+        self.cells.sectors()
     }
 
-    fn read_sector(&mut self, at: u64, out: &mut [u8; 512]) -> Result<(), Failed> {
+    fn read_sector(&mut self, at: u64, out: &mut [u8; 512]) -> Result<(), Failed>
+        requires { at < size_of self.old.cells }
+        ensures reads { OnlyReads ⟦<FilePort<R, W> as Disk>⟧ self.old self.new }
+        ensures faults { FailsWithDisk ⟦<FilePort<R, W> as Disk>⟧ self.old self.new result }
+        // In memory it never fails, and gives what was written there last.
+        ensures ok { (image : Image) → HasImage self.old.cells image → IsOk result }
+        ensures read { (image : Image) → HasImage self.old.cells image → out.new ≡ image at }
+        ensures same { (image : Image)
+            → HasImage self.old.cells image
+            → HasImage self.new.cells image }
+    {
         match self.cells.read(at, out) {
             Ok(()) => Ok(()),
             Err(_) => {
@@ -142,7 +172,16 @@ impl<R: Read + Drop, W: Write + Drop> Disk for FilePort<R, W> {
         }
     }
 
-    fn write_sector(&mut self, at: u64, from: &[u8; 512]) -> Result<(), Failed> {
+    fn write_sector(&mut self, at: u64, from: &[u8; 512]) -> Result<(), Failed>
+        requires { at < size_of self.old.cells }
+        ensures quiet { IsQuiet ⟦<FilePort<R, W> as Disk>⟧ self.old self.new }
+        ensures faults { FailsWithDisk ⟦<FilePort<R, W> as Disk>⟧ self.old self.new result }
+        // In memory it fails only where memory is refused, and leaves all as it was.
+        ensures wrote { (image : Image) → HasImage self.old.cells image → OnOk result
+            (HasImage self.new.cells (set_sector image at from.now)) }
+        ensures refused { (image : Image) → HasImage self.old.cells image → OnErr result
+            (HasImage self.new.cells image) }
+    {
         match self.cells.write(at, from) {
             Ok(()) => Ok(()),
             Err(_) => {
@@ -152,7 +191,15 @@ impl<R: Read + Drop, W: Write + Drop> Disk for FilePort<R, W> {
         }
     }
 
-    fn sync(&mut self) -> Result<(), Failed> {
+    fn sync(&mut self) -> Result<(), Failed>
+        ensures quiet { IsQuiet ⟦<FilePort<R, W> as Disk>⟧ self.old self.new }
+        ensures faults { FailsWithDisk ⟦<FilePort<R, W> as Disk>⟧ self.old self.new result }
+        // In memory it never fails.
+        ensures ok { (image : Image) → HasImage self.old.cells image → IsOk result }
+        ensures same { (image : Image)
+            → HasImage self.old.cells image
+            → HasImage self.new.cells image }
+    {
         match self.cells.sync() {
             Ok(()) => Ok(()),
             Err(_) => {
@@ -164,7 +211,23 @@ impl<R: Read + Drop, W: Write + Drop> Disk for FilePort<R, W> {
 }
 
 impl<R: Read + Drop, W: Write + Drop> Port for FilePort<R, W> {
-    fn hear(&mut self, out: &mut [u8]) -> Result<usize, PortFault> {
+    ghost use Rattle.std.specs.Prelude.{length, IsErrOf};
+
+    fn hear(&mut self, out: &mut [u8]) -> Result<usize, PortFault>
+        ensures fits { IfOk result (λ n. n ≤ length out.old) }
+        ensures size { ⟦<FilePort<R, W> as Disk>⟧.size self.new
+            ≡ ⟦<FilePort<R, W> as Disk>⟧.size self.old }
+        ensures counts { NoFewer (⟦<FilePort<R, W> as Disk>⟧.faults self.old)
+            (⟦<FilePort<R, W> as Disk>⟧.faults self.new) }
+        ensures steady { OnOk result
+            (⟦<FilePort<R, W> as Disk>⟧.faults self.new
+            ≡ ⟦<FilePort<R, W> as Disk>⟧.faults self.old) }
+        ensures kind { IsErrOf result PortFault.Sink → ⊥ }
+        ensures cause { OnErr result
+            (Rose (⟦<FilePort<R, W> as Disk>⟧.faults self.old).source
+            (⟦<FilePort<R, W> as Disk>⟧.faults self.new).source) }
+        ensures cells { self.new.cells ≡ self.old.cells }
+    {
         match self.input.read(out) {
             Ok(count) => Ok(count),
             Err(_) => {
@@ -174,7 +237,22 @@ impl<R: Read + Drop, W: Write + Drop> Port for FilePort<R, W> {
         }
     }
 
-    fn say(&mut self, from: &[u8]) -> Result<usize, PortFault> {
+    fn say(&mut self, from: &[u8]) -> Result<usize, PortFault>
+        ensures fits { IfOk result (λ n. n ≤ length from.now) }
+        ensures some { IfOk result (λ n. n ≡ 0 → length from.now ≡ 0) }
+        ensures size { ⟦<FilePort<R, W> as Disk>⟧.size self.new
+            ≡ ⟦<FilePort<R, W> as Disk>⟧.size self.old }
+        ensures counts { NoFewer (⟦<FilePort<R, W> as Disk>⟧.faults self.old)
+            (⟦<FilePort<R, W> as Disk>⟧.faults self.new) }
+        ensures steady { OnOk result
+            (⟦<FilePort<R, W> as Disk>⟧.faults self.new
+            ≡ ⟦<FilePort<R, W> as Disk>⟧.faults self.old) }
+        ensures kind { IsErrOf result PortFault.Source → ⊥ }
+        ensures cause { OnErr result
+            (Rose (⟦<FilePort<R, W> as Disk>⟧.faults self.old).sink
+            (⟦<FilePort<R, W> as Disk>⟧.faults self.new).sink) }
+        ensures cells { self.new.cells ≡ self.old.cells }
+    {
         match self.output.write(from) {
             Ok(count) if count > 0 || from.is_empty() => Ok(count),
             _ => {

@@ -32,9 +32,7 @@ fn one_byte_at_a_time_is_told_the_same(rt: HostRuntime) -> Result<(), Fail> {
     };
     let mut told = Vec::new(alloc);
     {
-        let mut port = FilePort::zeroed(alloc, 8192, input, &mut told).map_err(|_| Fail::from(
-            "memory",
-        ))?;
+        let mut port = FilePort::zeroed(alloc, 8192, input, &mut told);
         let fresh = words(alloc, &["serve", "--fresh"])?;
         assert_eq!(rt; run(alloc, &fresh, &mut port).code(), 0);
     }

@@ -1,0 +1,4 @@
+pub mod DiskLaws
+pub mod Held
+pub mod Run
+pub mod Store
