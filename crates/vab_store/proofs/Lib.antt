@@ -1,0 +1,4 @@
+pub mod BlockLaws
+pub mod ChunkLaws
+pub mod ScanLaws
+pub mod WrittenLaws

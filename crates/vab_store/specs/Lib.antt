@@ -1,0 +1,4 @@
+pub mod Layout
+pub mod Scan
+pub mod View
+pub mod Writing
