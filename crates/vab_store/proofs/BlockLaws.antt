@@ -1,8 +1,5 @@
 -- The chunks that a writer makes.
-use Rattle.std.proofs.Common.{
-  ◌≡◌, ℕ, ◌+◌, ◌-◌, ◌*◌, ◌/◌, ◌%◌, ◌≤◌, ◌<◌, min, List, [], ◌++◌, length, take, drop, replicate, inl,
-  inr, refl, sym, ◌∙◌, ap, arith
-}
+use Rattle.std.proofs.Common.{◌≡◌, ℕ, ◌-◌, ◌*◌, ◌≤◌, min, List, [], ◌++◌, length, take, drop, replicate, inl, inr, sym, ◌∙◌, ap, arith}
 use Rattle.std.proofs.lemmas.Bool.{cases_lt}
 use Rattle.std.proofs.lemmas.List.{drop-replicate, length-take-le, take_all, drop_all}
 use Rattle.vab_bytes.specs.Number.{field}

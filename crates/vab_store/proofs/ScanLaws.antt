@@ -1,16 +1,7 @@
 -- What a scan gives, and what it is that a scan gives it.
-use Rattle.std.proofs.Common.{
-  ◌≡◌, ◌≢◌, ◌⊎◌, inl, inr, ⊎_elim, ℕ, zero, suc, ◌+◌, ◌≤◌, ◌<◌, List, [], ◌∷◌, length, take, get_or, refl,
-  sym, ◌∙◌, ap, subst, arith, Bool, true, false, cond, ◌==◌, ◌||◌, ◌&&◌,
-  length-take-le
-}
-use Rattle.std.specs.Prelude.{
-  nat_lt, Option, Some, None, Result, Ok, Err, take_while, slice_index_or, option_map
-}
-use Rattle.std.proofs.lemmas.Bool.{
-  cases_Bool, cases_lt, and_parts, and_from, ltb-true, ltb-false, lt-ltb, le-ltb, eqb-true, eqb-false, ne_eqb,
-  eq-eqb
-}
+use Rattle.std.proofs.Common.{◌≡◌, inl, inr, ℕ, zero, suc, ◌≤◌, ◌<◌, List, length, take, refl, sym, ◌∙◌, ap, subst, arith, Bool, true, false, cond, ◌==◌, ◌||◌, ◌&&◌, length-take-le}
+use Rattle.std.specs.Prelude.{nat_lt, Option, Some, None, Result, Ok, Err}
+use Rattle.std.proofs.lemmas.Bool.{cases_lt, and_parts, and_from, ltb-true, ltb-false, lt-ltb, le-ltb, eqb-false, ne_eqb}
 use Rattle.std.proofs.lemmas.List.{take_all}
 use Rattle.std.proofs.lemmas.List.Sums.{prefix_len_is, prefix_len_passes, prefix_len-le-length}
 use Rattle.std.specs.List.{prefix_len}
@@ -19,16 +10,25 @@ use Rattle.vab_exceptions.specs.declared.area.Exception.{Exception}
 use Rattle.vab_exceptions.specs.declared.header.HeaderFault.{HeaderFault}
 use Rattle.vab_exceptions.specs.Entries.{area_entries, firsts, listed, IsListed}
 use Rattle.vab_exceptions.specs.Header.{header_of}
-use Rattle.vab_exceptions.proofs.EntryLaws.{
-  length-firsts, get_or-firsts, firsts_is, EndsAt, listed_is, ends_at
-}
+use Rattle.vab_exceptions.proofs.EntryLaws.{get_or-firsts, firsts_is, EndsAt, listed_is, ends_at}
 use Rattle.vab_store.specs.declared.fault.StoreFault.{StoreFault}
 use Rattle.vab_store.specs.declared.fault.StoreFault.TheVariants as faults
 use Rattle.vab_store.specs.Layout.{chunks_of, chunk_bytes, is_data, slot_at, slots_of}
-use Rattle.vab_store.specs.View.{no_exception, exception_at, Lies, AreOther, Fits}
+use Rattle.vab_store.specs.View.{no_exception, exception_at, Lies, AreOther}
 use Rattle.vab_store.specs.Scan.{
-  or_else, first_some, share, repeat_at, repeat_of, lies, list_of, good_of, unless_repeated,
-  after_header, judged, scan_of, IsScan
+  or_else,
+  first_some,
+  share,
+  repeat_at,
+  repeat_of,
+  lies,
+  list_of,
+  good_of,
+  unless_repeated,
+  after_header,
+  judged,
+  scan_of,
+  IsScan,
 }
 
 -- ---- the first number at which a function gives something
@@ -107,9 +107,9 @@ none_repeated es once =
     first_none (repeat_at es) (length es)
     (λ k k_below.
     first_none
-      (λ j. cond (share (exception_at es j) (exception_at es k)) (Some (j, k)) None) k
-      (λ j j_below.
-      rw (others_share (exception_at es j) (exception_at es k) (once j k j_below k_below)) refl))
+    (λ j. cond (share (exception_at es j) (exception_at es k)) (Some (j, k)) None) k
+    (λ j j_below.
+    rw (others_share (exception_at es j) (exception_at es k) (once j k j_below k_below)) refl))
 
 some_none : {X : Type 0} (b : Bool) (x : X) → cond b (Some x) None ≡ None → b ≡ false
 some_none true x is = absurd (cc)
@@ -145,13 +145,13 @@ repeat_is es j k is =
     first_found (repeat_at es) (length es) k (j, k) is.within
     (λ b below.
     first_none
-      (λ a. cond (share (exception_at es a) (exception_at es b)) (Some (a, b)) None) b
-      (λ a lt. rw (is.none_before a b lt below) refl))
+    (λ a. cond (share (exception_at es a) (exception_at es b)) (Some (a, b)) None) b
+    (λ a lt. rw (is.none_before a b lt below) refl))
     (first_found
-      (λ a. cond (share (exception_at es a) (exception_at es k)) (Some (a, k)) None) k j (j, k)
-      is.order
-      (λ a lt. rw (is.none_here a lt) refl)
-      (rw is.shared refl))
+    (λ a. cond (share (exception_at es a) (exception_at es k)) (Some (a, k)) None) k j (j, k)
+    is.order
+    (λ a lt. rw (is.none_here a lt) refl)
+    (rw is.shared refl))
 
 -- ---- exceptions that lie in the store
 
@@ -163,14 +163,14 @@ lies_of chunks bound e is =
     (nat_lt e.new_chunk chunks && is_data area_entries e.new_chunk)
     (lt-ltb e.old_chunk bound is.old_chunk)
     (and_from (nat_lt e.new_chunk chunks) (is_data area_entries e.new_chunk)
-      (lt-ltb e.new_chunk chunks is.new_chunk) is.is_data)
+    (lt-ltb e.new_chunk chunks is.new_chunk) is.is_data)
 
 pub of_lies : (chunks bound : ℕ) (e : Exception)
     → lies chunks bound e ≡ true
     → Lies area_entries chunks bound e
 of_lies chunks bound e is =
     let both = and_parts (nat_lt e.old_chunk bound)
-      (nat_lt e.new_chunk chunks && is_data area_entries e.new_chunk) is in
+    (nat_lt e.new_chunk chunks && is_data area_entries e.new_chunk) is in
     let rest = and_parts (nat_lt e.new_chunk chunks) (is_data area_entries e.new_chunk) both.1 in
     record {
       old_chunk = ltb-true e.old_chunk bound both.0;
@@ -198,7 +198,7 @@ unfolding good_of
 good_is chunks bound es k within before here =
     ap (λ (n : ℕ). take n es)
     (prefix_len_is (lies chunks bound) es k no_exception within
-      (λ j lt. lies_of chunks bound (exception_at es j) (before j lt)) here)
+    (λ j lt. lies_of chunks bound (exception_at es j) (before j lt)) here)
 
 pub good_all : (chunks bound : ℕ) (es : List Exception)
     → ((j : ℕ) → j < length es → Lies area_entries chunks bound (exception_at es j))
@@ -222,7 +222,7 @@ good_lies : (chunks bound : ℕ) (es : List Exception)
 good_lies chunks bound es all j below =
     of_lies chunks bound (exception_at es j)
     (prefix_len_passes (lies chunks bound) es j no_exception
-      (omega (arith, all, below, length-good_of chunks bound es)))
+    (omega (arith, all, below, length-good_of chunks bound es)))
 
 -- ---- a list that is a scan
 
@@ -246,15 +246,15 @@ judged_ok chunks bound slots es lie once room =
     let ended : Result (List Exception) StoreFault =
     cond (nat_lt (length es) slots) (Ok es) (Err faults.Unended) in
     ap
-      (λ g. unless_repeated (repeat_of g)
-        (cond (nat_lt (length g) (length es)) (Err (faults.BadChunk (length g))) ended))
-      (good_all chunks bound es lie)
+    (λ g. unless_repeated (repeat_of g)
+    (cond (nat_lt (length g) (length es)) (Err (faults.BadChunk (length g))) ended))
+    (good_all chunks bound es lie)
     ∙ ap
-      (λ r. unless_repeated r
-        (cond (nat_lt (length es) (length es)) (Err (faults.BadChunk (length es))) ended))
-      (none_repeated es once)
+    (λ r. unless_repeated r
+    (cond (nat_lt (length es) (length es)) (Err (faults.BadChunk (length es))) ended))
+    (none_repeated es once)
     ∙ ap (λ b. cond b (Err (faults.BadChunk (length es))) ended)
-      (le-ltb (length es) (length es) (omega arith))
+    (le-ltb (length es) (length es) (omega arith))
     ∙ ap (λ b. cond b (Ok es) (Err faults.Unended)) (lt-ltb (length es) slots room)
 
 pub scan_of_is : (map : List ℕ) (bound : ℕ) (image : Image) (es : List Exception)
@@ -275,7 +275,7 @@ scan_of_is map bound image es is =
     let all : List Exception → Result (List Exception) StoreFault =
     λ l. judged (chunks_of map) bound (slots_of area_entries map) l in
     ap (λ b. cond b (Err faults.Unended) (after_header header (all (list_of map image))))
-      (le-ltb (chunks_of map) 2 fits.chunks)
+    (le-ltb (chunks_of map) 2 fits.chunks)
     ∙ ap (λ h. after_header h (all (list_of map image))) is.header
     ∙ ap all (list_is map image es ends is.reads)
     ∙ judged_ok (chunks_of map) bound (slots_of area_entries map) es fits.lie fits.once fits.room
@@ -324,9 +324,9 @@ of_judged chunks bound slots l es is =
     let ended : Result (List Exception) StoreFault =
     cond (nat_lt (length l) slots) (Ok l) (Err faults.Unended) in
     let unrepeated = ok_unrepeated (repeat_of good)
-      (cond (nat_lt (length good) (length l)) (Err (faults.BadChunk (length good))) ended) es is in
+    (cond (nat_lt (length good) (length l)) (Err (faults.BadChunk (length good))) ended) es is in
     let tested = ok_tested (nat_lt (length good) (length l)) (faults.BadChunk (length good)) ended es
-      unrepeated.1 in
+    unrepeated.1 in
     let whole : length l ≤ length good = ltb-false (length good) (length l) tested.0 in
     let last = ok_ended (nat_lt (length l) slots) faults.Unended l es tested.1 in
     let lie = good_lies chunks bound l whole in

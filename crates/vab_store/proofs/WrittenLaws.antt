@@ -1,30 +1,31 @@
 -- What a scan gives of a store that was written.
-use Rattle.std.proofs.Common.{
-  ◌≡◌, ◌≢◌, ◌⊎◌, inl, inr, ℕ, ◌+◌, ◌-◌, ◌*◌, ◌/◌, ◌%◌, ◌^◌, ◌≤◌, ◌<◌, min, List, [], ◌++◌, length, take, get_or,
-  replicate, refl, sym, ◌∙◌, ap, subst, arith, Bool, true, false, cond, ◌==◌, ◌&&◌, not, All
-}
-use Rattle.std.specs.Prelude.{slice_index, slice_index_or, Ok}
+use Rattle.std.proofs.Common.{◌≡◌, ℕ, ◌+◌, ◌-◌, ◌*◌, ◌/◌, ◌%◌, ◌^◌, ◌≤◌, ◌<◌, min, List, length, take, get_or, refl, sym, ◌∙◌, ap, subst, arith, true, false, cond, ◌==◌, ◌&&◌, not, All}
+use Rattle.std.specs.Prelude.{slice_index, Ok}
 use Rattle.std.specs.List.Sorted.{IsStrictlyIncreasing}
 use Rattle.std.proofs.lemmas.Bool.{ne_eqb, eq-eqb}
-use Rattle.std.proofs.lemmas.List.{take_at}
 use Rattle.std.proofs.lemmas.List.Kept.{AllPairs-from_increasing}
 use Rattle.vab_disk.specs.Disk.{Image}
 use Rattle.vab_space.specs.Space.{need_of}
 use Rattle.vab_exceptions.specs.declared.area.Exception.{Exception}
-use Rattle.vab_exceptions.specs.Entries.{
-  area_entries, firsts, entry_at, area_bytes, FitsEntry
-}
+use Rattle.vab_exceptions.specs.Entries.{area_entries, entry_at, area_bytes, FitsEntry}
 use Rattle.vab_exceptions.specs.Header.{header_of, header_bytes}
 use Rattle.vab_exceptions.proofs.EntryLaws.{
-  length-firsts, get_or-firsts, entry_at-bytes, entry_at-end
+  length-firsts,
+  get_or-firsts,
+  entry_at-bytes,
+  entry_at-end,
 }
-use Rattle.vab_store.specs.Layout.{
-  chunks_of, chunk_bytes, area_chunk, is_data, new_chunk_of, slot_at, slots_of
-}
+use Rattle.vab_store.specs.Layout.{chunks_of, chunk_bytes, area_chunk, is_data, new_chunk_of, slot_at}
 use Rattle.vab_store.specs.View.{no_exception, exception_at, Lies, AreOther, Fits}
 use Rattle.vab_store.specs.Scan.{IsScan}
 use Rattle.vab_store.specs.Writing.{
-  planned_at, planned_of, area_entries_of, block_of, header_chunk, store_chunk, HoldsStore
+  planned_at,
+  planned_of,
+  area_entries_of,
+  block_of,
+  header_chunk,
+  store_chunk,
+  HoldsStore,
 }
 
 -- ---- what stands in each kind of chunk
@@ -35,7 +36,7 @@ store_chunk-header olds image = refl
 
 pub store_chunk-area : (olds image : List ℕ) (k : ℕ)
     → store_chunk area_entries olds image (area_chunk area_entries k)
-      ≡ area_bytes 4096 (area_entries_of area_entries olds k)
+    ≡ area_bytes 4096 (area_entries_of area_entries olds k)
 unfolding store_chunk
 store_chunk-area olds image k =
     let c : ℕ = area_chunk area_entries k in
@@ -50,7 +51,7 @@ store_chunk-area olds image k =
 
 pub store_chunk-data : (olds image : List ℕ) (j : ℕ)
     → store_chunk area_entries olds image (new_chunk_of area_entries j)
-      ≡ block_of image (slice_index olds j)
+    ≡ block_of image (slice_index olds j)
 unfolding store_chunk
 store_chunk-data olds image j =
     let c : ℕ = new_chunk_of area_entries j in
@@ -136,7 +137,7 @@ area_read : (map olds image : List ℕ) (disk : Image) (k : ℕ)
     → IsWritten map olds image disk
     → k ≤ length olds / 256
     → chunk_bytes map disk (area_chunk area_entries k)
-      ≡ area_bytes 4096 (area_entries_of area_entries olds k)
+    ≡ area_bytes 4096 (area_entries_of area_entries olds k)
 area_read map olds image disk k is within =
     is.holds (area_chunk area_entries k) (omega (arith, within)) ∙ store_chunk-area olds image k
 
@@ -162,7 +163,7 @@ slot_read map olds image disk t is small few below =
     } in
     let read : entry_at (area_bytes 4096 es) i ≡ get_or es i no_exception =
     entry_at-bytes 4096 es i no_exception (omega (arith, inside, length-firsts f count))
-      (subst FitsEntry (sym at_t) fits) in
+    (subst FitsEntry (sym at_t) fits) in
     ap (λ (b : List ℕ). entry_at b i) (area_read map olds image disk k is (omega (arith, below)))
     ∙ read ∙ at_t ∙ ap (planned_at olds) here
 
@@ -177,7 +178,7 @@ slot_end map olds image disk is =
     let es : List Exception = area_entries_of area_entries olds k in
     let long : length es ≡ length olds % 256 = omega (arith, length-firsts f count) in
     ap (λ (b : List ℕ). (entry_at b (length olds % 256)).new_chunk)
-      (area_read map olds image disk k is (omega arith))
+    (area_read map olds image disk k is (omega arith))
     ∙ ap (λ (i : ℕ). (entry_at (area_bytes 4096 es) i).new_chunk) (sym long)
     ∙ entry_at-end 4096 es (omega (arith, long))
 
@@ -200,7 +201,7 @@ written_scan map olds image disk bound room holds ascend below small few =
       fits = planned_fits olds map bound room ascend below;
       header =
           ap (λ (b : List ℕ). header_of (take 512 b))
-            (holds 0 (omega arith) ∙ store_chunk-header olds image)
+          (holds 0 (omega arith) ∙ store_chunk-header olds image)
           ∙ header_read;
       reads = λ t lt.
           let in_olds : t < length olds = omega (arith, lt, length-planned_of olds) in

@@ -1,3 +1,5 @@
+pub mod Answers
+pub mod Index
 pub mod Layout
 pub mod Scan
 pub mod View

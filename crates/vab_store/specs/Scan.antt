@@ -1,10 +1,6 @@
 -- What the bytes of a store mean: a list of exceptions, or the first fault.
-use Rattle.std.specs.Prelude.{
-  ◌≡◌, ℕ, zero, suc, ◌<◌, List, length, take, take_while, option_map, Bool, ◌&&◌, ◌||◌, ◌==◌, nat_lt,
-  Option, Some, None, Result, Ok, Err, if◌then◌else◌
-}
-use Rattle.vab_disk.specs.Disk.{Image, Faults, Rose}
-use Rattle.vab_disk.specs.declared.disk.Disk.{Ghosts}
+use Rattle.std.specs.Prelude.{◌≡◌, ℕ, zero, suc, ◌<◌, List, length, take, take_while, Bool, ◌&&◌, ◌||◌, ◌==◌, nat_lt, Option, Some, None, Result, Ok, Err, if◌then◌else◌}
+use Rattle.vab_disk.specs.Disk.{Image}
 use Rattle.vab_exceptions.specs.declared.area.Exception.{Exception}
 use Rattle.vab_exceptions.specs.declared.header.HeaderFault.{HeaderFault}
 use Rattle.vab_exceptions.specs.Entries.{area_entries, firsts, listed}
@@ -79,8 +75,8 @@ scan_of map bound image =
     if nat_lt (chunks_of map) 2
     then Err faults.Unended
     else
-      after_header (header_of (take 512 (chunk_bytes map image 0)))
-      (judged (chunks_of map) bound (slots_of area_entries map) (list_of map image))
+    after_header (header_of (take 512 (chunk_bytes map image 0)))
+    (judged (chunks_of map) bound (slots_of area_entries map) (list_of map image))
 
 -- These exceptions are the store's: the same said of each entry.
 pub record IsScan (map : List ℕ) (bound : ℕ) (image : Image) (es : List Exception) : Type 0 where

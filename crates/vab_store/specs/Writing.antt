@@ -1,11 +1,24 @@
 -- What a writer puts into a store.
 use Rattle.std.specs.Prelude.{
-  ◌≡◌, ℕ, ◌+◌, ◌-◌, ◌*◌, ◌/◌, ◌%◌, ◌<◌, min, List, ◌++◌, length, slice_index, replicate,
-  if◌then◌else◌, ◌==◌
+  ◌≡◌,
+  ℕ,
+  ◌+◌,
+  ◌-◌,
+  ◌*◌,
+  ◌/◌,
+  ◌%◌,
+  ◌<◌,
+  min,
+  List,
+  ◌++◌,
+  length,
+  slice_index,
+  replicate,
+  if◌then◌else◌,
+  ◌==◌,
 }
 use Rattle.vab_bytes.specs.Number.{field}
 use Rattle.vab_disk.specs.Disk.{Image}
-use Rattle.vab_space.specs.Space.{need_of}
 use Rattle.vab_exceptions.specs.declared.area.Exception.{Exception}
 use Rattle.vab_exceptions.specs.Entries.{area_entries, firsts, area_bytes}
 use Rattle.vab_exceptions.specs.Header.{header_bytes}
@@ -42,11 +55,11 @@ store_chunk per olds image c =
     if c == 0
     then header_chunk
     else
-      (if (c - 1) % (per + 1) == 0
-      then area_bytes 4096 (area_entries_of per olds ((c - 1) / (per + 1)))
-      else
-        block_of image
-        (slice_index olds (per * ((c - 1) / (per + 1)) + (c - 1) % (per + 1) - 1)))
+    (if (c - 1) % (per + 1) == 0
+    then area_bytes 4096 (area_entries_of per olds ((c - 1) / (per + 1)))
+    else
+    block_of image
+    (slice_index olds (per * ((c - 1) / (per + 1)) + (c - 1) % (per + 1) - 1)))
 
 -- the first so many chunks hold that
 abbrev pub HoldsStore : List ℕ → List ℕ → List ℕ → Image → ℕ → Type 0

@@ -5,7 +5,12 @@
 #![tactic(auto)]
 
 mod fault;
+mod index;
+mod steps;
+mod view;
 mod writer;
 
 pub use fault::StoreFault;
+pub use steps::Steps;
+pub use view::StoreView;
 pub use writer::write_store;

@@ -32,7 +32,7 @@ fn header_block() -> [u8; 4096]
 }
 
 // The j-th exception of a store that we write.
-fn planned(olds: &[u64], j: usize) -> Exception
+pub(crate) fn planned(olds: &[u64], j: usize) -> Exception
     requires there { j < length olds.now }
     requires small { j < 2 ^ 62 }
     ensures { result ≡ planned_at olds.now j }
@@ -87,7 +87,10 @@ fn chunk_block(olds: &[u64], image: &[u8], chunk: u64) -> [u8; 4096]
     if place == 0 {
         area_block(olds, area as usize)
     } else {
-        image_block(image, olds[AREA_ENTRIES * area as usize + place as usize - 1])
+        image_block(
+            image,
+            olds[AREA_ENTRIES * area as usize + place as usize - 1],
+        )
     }
 }
 
@@ -115,7 +118,7 @@ pub fn write_store<D: Disk>(
         ((j : ℕ)
         → j < length olds.now
         → chunk_bytes map.now (D.seen d.new) (new_chunk_of area_entries j)
-          ≡ block_of image.now (slice_index olds.now j)) }
+        ≡ block_of image.now (slice_index olds.now j)) }
     ensures touches { Touches D.Disk (InSectors (InMap map.now)) d.old d.new }
     ensures faults { FailsWithDisk D.Disk d.old d.new result }
 {

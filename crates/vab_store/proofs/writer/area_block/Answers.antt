@@ -1,6 +1,4 @@
-use Rattle.std.proofs.Common.{
-  ◌≡◌, ◌+◌, ◌*◌, ◌<◌, ◌≤◌, ℕ, ◌∷◌, ◌++◌, [], length, sym, ap, ◌∙◌, refl, arith
-}
+use Rattle.std.proofs.Common.{◌≡◌, ◌+◌, ◌*◌, ℕ, ◌∷◌, ◌++◌, [], length, sym, ap, ◌∙◌, arith}
 use Rattle.vab_exceptions.specs.declared.area.Exception.{Exception}
 use Rattle.vab_exceptions.specs.Entries.{firsts, area_bytes}
 use Rattle.vab_exceptions.proofs.EntryLaws.{length-firsts, firsts-more}
@@ -32,4 +30,4 @@ returns c =
     let all : c.loop-i.i ≡ c.min-count.result = omega (arith, c.loop-i-test.false, c.loop-i.auto.i-end) in
     c.encode_area.ensures.bytes
     ∙ ap (area_bytes 4096)
-      (c.loop-i.invariant ∙ ap (firsts f) (all ∙ c.min-count.ensures))
+    (c.loop-i.invariant ∙ ap (firsts f) (all ∙ c.min-count.ensures))

@@ -1,7 +1,4 @@
-use Rattle.std.proofs.Common.{
-  ◌≡◌, ◌≢◌, ◌+◌, ◌<◌, ◌≤◌, ℕ, List, length, inl, inr, sym, ap, ◌∙◌, arith, rules, subst
-}
-use Rattle.std.specs.Prelude.{slice_index}
+use Rattle.std.proofs.Common.{◌≡◌, ◌≢◌, ◌<◌, ◌≤◌, ℕ, List, length, inl, inr, ◌∙◌, arith, rules, subst}
 use Rattle.std.proofs.lemmas.Bool.{cases_lt}
 use Rattle.vab_disk.proofs.CallLaws.{touches_on}
 use Rattle.vab_exceptions.specs.Entries.{area_entries}
@@ -39,8 +36,8 @@ loop-chunk-preserved g c =
         | inl before ↦
             let other : k ≢ n = omega (arith, before) in
             chunk_there map old new n k bytes
-              (apart_of map k n c.requires.apart (omega (arith, before, below)) below other)
-              (ok.written t)
+            (apart_of map k n c.requires.apart (omega (arith, before, below)) below other)
+            (ok.written t)
             ∙ c.loop-chunk.invariant.holds t k before
         | inr last ↦
             let is : n ≡ k = omega (arith, last, lt) in
@@ -65,8 +62,8 @@ returns-clause-scanned g c = λ t bound below.
     omega (arith, c.loop-chunk-test.false, c.need-chunk-end.ensures) in
     scan_of_is map bound disk (planned_of olds)
     (written_scan map olds image disk bound c.requires.room
-      (λ k lt. c.loop-chunk.invariant.holds t k (omega (arith, lt, all)))
-      c.requires.ascend below (λ i. omega (arith, c.type_inv.olds i)) (omega arith))
+    (λ k lt. c.loop-chunk.invariant.holds t k (omega (arith, lt, all)))
+    c.requires.ascend below (λ i. omega (arith, c.type_inv.olds i)) (omega arith))
 
 pub returns-clause-blocks : goal.returns-clause-blocks
 returns-clause-blocks g c = λ t j below.
