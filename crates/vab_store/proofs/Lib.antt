@@ -2,5 +2,6 @@ pub mod BlockLaws
 pub mod ChunkLaws
 pub mod IndexLaws
 pub mod ScanLaws
+pub mod ViewLaws
 pub mod SortLaws
 pub mod WrittenLaws

@@ -368,3 +368,9 @@ scan_of_ok map bound image es is =
       stops = ends.here judged_so.room;
     } in
     subst (IsScan map bound image) judged_so.same of_list
+
+-- where as many lie there as there are
+pub good_full : (chunks bound : ℕ) (es : List Exception)
+    → length es ≤ length (good_of chunks bound es)
+    → good_of chunks bound es ≡ es
+good_full chunks bound es all = good_all chunks bound es (good_lies chunks bound es all)

@@ -17,11 +17,11 @@ Answers (Err (faults.Repeated j k)) means = means ≡ Err (faults.Repeated j k)
 Answers (Err faults.Unended) means = means ≡ Err faults.Unended
 
 -- A disk fault comes where the count of the disk's faults rose. Any other answer leaves all counts.
-abbrev pub ReadsStore : {D : Type 0}
+abbrev pub ReadsStore : {D X : Type 0}
     → Ghosts D
     → D
     → D
-    → Result (List Exception) StoreFault
+    → Result X StoreFault
     → Type 0
 ReadsStore g old new (Ok es) = g.faults new ≡ g.faults old
 ReadsStore g old new (Err faults.DiskFault) = Rose (g.faults old).disk (g.faults new).disk
