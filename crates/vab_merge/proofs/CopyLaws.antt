@@ -1,20 +1,21 @@
 -- Blocks that are copied, one after another.
-use Rattle.std.proofs.Common.{
-  ◌≡◌, ◌≢◌, ◌⊎◌, inl, inr, ⊎_elim, ℕ, ◌+◌, ◌≤◌, ◌<◌, List, length, sym, ◌∙◌, ap, subst, arith
-}
+use Rattle.std.proofs.Common.{◌≡◌, ◌≢◌, inl, inr, ⊎_elim, ℕ, ◌+◌, ◌≤◌, ◌<◌, List, length, ◌∙◌, subst, arith}
 use Rattle.std.specs.Prelude.{slice_index}
 use Rattle.std.proofs.lemmas.Bool.{cases_lt}
 use Rattle.vab_disk.specs.Disk.{Image}
 use Rattle.vab_disk.specs.Calls.{InSectors, SameBut, IsBetween}
 use Rattle.vab_gate.specs.Gate.{set_block, IsAmong}
 use Rattle.vab_exceptions.specs.declared.area.Exception.{Exception}
-use Rattle.vab_exceptions.specs.Entries.{area_entries}
-use Rattle.vab_store.specs.Layout.{chunks_of, chunk_bytes, AreApart, IsApart, AreDisjoint}
+use Rattle.vab_store.specs.Layout.{chunk_bytes, AreApart, IsApart, AreDisjoint}
 use Rattle.vab_store.specs.View.{exception_at, Fits}
 use Rattle.vab_store.proofs.ChunkLaws.{
-  apart_of, apart_sector, chunk_same, chunk_here, chunk_there
+  apart_of,
+  apart_sector,
+  chunk_same,
+  chunk_here,
+  chunk_there,
 }
-use Rattle.vab_merge.specs.Copied.{InBlockOf, InCopied, AreCopied}
+use Rattle.vab_merge.specs.Copied.{InCopied, AreCopied}
 
 -- what a copy keeps, and where it may write
 pub record MayCopy (base store : List ℕ) (es : List Exception) : Type 0 where
@@ -60,8 +61,8 @@ store_kept base store es first c old new may but below =
     chunk_same store old new c
     (λ s here.
     ⊎_elim (λ same. same)
-      (λ copied. absurd (store_missed base store es first c s may below here copied))
-      (but s))
+    (λ copied. absurd (store_missed base store es first c s may below here copied))
+    (but s))
 
 -- another block of the partition stays
 pub base_kept : (base store : List ℕ) (es : List Exception) (first block : ℕ) (old new : Image)
@@ -74,16 +75,16 @@ base_kept base store es first block old new may but below other =
     chunk_same base old new block
     (λ s here.
     ⊎_elim (λ same. same)
-      (λ copied.
-      let b : ℕ = (exception_at es copied.place).old_chunk in
-      let apart : AreApart (slice_index base b) (slice_index base block) =
-      apart_of base b block may.apart (old_below base store es copied.place may copied.within) below
-        (other copied.place copied.behind copied.within) in
-      ⊎_elim
-      (λ before. absurd (omega (arith, before, here.from)))
-      (λ behind. absurd (omega (arith, behind, here.below)))
-      (apart_sector (slice_index base b) (slice_index base block) s apart copied.here))
-      (but s))
+    (λ copied.
+    let b : ℕ = (exception_at es copied.place).old_chunk in
+    let apart : AreApart (slice_index base b) (slice_index base block) =
+    apart_of base b block may.apart (old_below base store es copied.place may copied.within) below
+    (other copied.place copied.behind copied.within) in
+    ⊎_elim
+    (λ before. absurd (omega (arith, before, here.from)))
+    (λ behind. absurd (omega (arith, behind, here.below)))
+    (apart_sector (slice_index base b) (slice_index base block) s apart copied.here))
+    (but s))
 
 -- the next block is copied
 pub copied_more : (base store : List ℕ) (es : List Exception) (first n : ℕ) (old mid new : Image)
@@ -105,18 +106,18 @@ copied_more base store es first n old mid new bytes may behind within but copied
           let a : ℕ = (exception_at es j).old_chunk in
           let other : a ≢ b = (may.fits.once j n before within).old_chunk in
           chunk_there base mid new b a bytes
-            (apart_of base a b may.apart (old_below base store es j may (omega (arith, before, within)))
-              b_below other)
-            written
+          (apart_of base a b may.apart (old_below base store es j may (omega (arith, before, within)))
+          b_below other)
+          written
           ∙ copied j from before
       | inr last ↦
           let same : n ≡ j = omega (arith, last, below) in
           subst (λ (k : ℕ). chunk_bytes base new (exception_at es k).old_chunk
-            ≡ chunk_bytes store old (exception_at es k).new_chunk) same
+          ≡ chunk_bytes store old (exception_at es k).new_chunk) same
           (chunk_here base mid new b bytes long written
           ∙ is
           ∙ store_kept base store es first (exception_at es n).new_chunk old mid may but
-            (new_below base store es n may within))
+          (new_below base store es n may within))
     ]
 
 -- its sectors are some of those

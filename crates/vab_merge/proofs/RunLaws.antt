@@ -1,7 +1,5 @@
 -- The last exceptions that are merged together.
-use Rattle.std.proofs.Common.{
-  ◌≡◌, ◌≢◌, inl, inr, ℕ, ◌+◌, ◌-◌, ◌/◌, ◌≤◌, ◌<◌, List, length, subst, arith
-}
+use Rattle.std.proofs.Common.{◌≡◌, inl, inr, ℕ, ◌+◌, ◌-◌, ◌≤◌, ◌<◌, List, length, subst, arith}
 use Rattle.std.proofs.lemmas.Bool.{cases_lt}
 use Rattle.vab_exceptions.specs.declared.area.Exception.{Exception}
 use Rattle.vab_merge.specs.Run.{IsJoined, IsRun, IsLongest}
@@ -37,7 +35,7 @@ run_none per es most none = record {
     within = omega arith;
     joined = λ j behind inside. absurd (omega (arith, inside, none));
   };
-  most = omega arith;
+  at_most = omega arith;
   longest = λ k le run. omega (arith, run.within, none);
 }
 
@@ -51,7 +49,7 @@ pub run_ends : (per : ℕ) (es : List Exception) (most n first : ℕ)
     → IsLongest per es most n
 run_ends per es most n first is le some at apart = record {
   run = is;
-  most = le;
+  at_most = le;
   longest = λ k k_le run. elim (cases_lt n k) [
     | inr fine ↦ fine
     | inl more ↦
@@ -66,7 +64,7 @@ pub run_full : (per : ℕ) (es : List Exception) (most n : ℕ)
     → IsLongest per es most n
 run_full per es most n is le all = record {
   run = is;
-  most = le;
+  at_most = le;
   longest = λ k k_le run. omega (arith, run.within, all);
 }
 
@@ -77,7 +75,7 @@ pub run_most : (per : ℕ) (es : List Exception) (most n : ℕ)
     → IsLongest per es most n
 run_most per es most n is le all = record {
   run = is;
-  most = le;
+  at_most = le;
   longest = λ k k_le run. omega (arith, k_le, all);
 }
 

@@ -1,6 +1,19 @@
 -- Entries that are zeroed in their sectors.
 use Rattle.std.specs.Prelude.{
-  ◌≡◌, ◌⊎◌, ℕ, ◌+◌, ◌-◌, ◌*◌, ◌/◌, ◌%◌, ◌≤◌, ◌<◌, min, List, length, slice_index
+  ◌≡◌,
+  ◌⊎◌,
+  ℕ,
+  ◌+◌,
+  ◌-◌,
+  ◌*◌,
+  ◌/◌,
+  ◌%◌,
+  ◌≤◌,
+  ◌<◌,
+  min,
+  List,
+  length,
+  slice_index,
 }
 use Rattle.vab_disk.specs.Disk.{Image}
 use Rattle.vab_exceptions.specs.Entries.{area_entries, entry_at}
@@ -55,5 +68,5 @@ abbrev pub AreCleared : List ℕ → ℕ → ℕ → Image → Image → Type 0
 AreCleared store first end old new = (i : ℕ)
     → IsOfThem first end i
     → IsClearedAt first end i
-      (old (area_sector store first + i))
-      (new (area_sector store first + i))
+    (old (area_sector store first + i))
+    (new (area_sector store first + i))

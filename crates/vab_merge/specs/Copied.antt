@@ -25,4 +25,4 @@ AreCopied base store es first end old new = (j : ℕ)
     → first ≤ j
     → j < end
     → chunk_bytes base new (exception_at es j).old_chunk
-      ≡ chunk_bytes store old (exception_at es j).new_chunk
+    ≡ chunk_bytes store old (exception_at es j).new_chunk

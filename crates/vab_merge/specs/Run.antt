@@ -16,5 +16,5 @@ pub record IsRun (per : ℕ) (es : List Exception) (n : ℕ) : Type 0 where
 -- at most so many, and no more of them do
 pub record IsLongest (per : ℕ) (es : List Exception) (most n : ℕ) : Type 0 where
   pub run : IsRun per es n
-  pub most : n ≤ most
+  pub at_most : n ≤ most
   pub longest : (k : ℕ) → k ≤ most → IsRun per es k → k ≤ n

@@ -46,6 +46,8 @@ pub(crate) fn clear_entries<D: Disk>(
     ensures touches { Touches D.Disk (IsClearing store.now first end (D.seen d.old)) d.old d.new }
     ensures faults { FailsWithDisk D.Disk d.old d.new result }
 {
+    // A partition has fewer than 2^60 blocks.
+    let _chunks = store.len();
     let area = AREA_ENTRIES as u64;
     let at = store.sector_of(1 + AREA_CHUNKS * (first / area));
     let from = first % area;

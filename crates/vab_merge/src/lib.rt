@@ -3,4 +3,7 @@
 
 mod clear;
 mod copy;
+mod merge;
 mod run;
+
+pub use merge::{Ran, run_turn, turn};

@@ -1,4 +1,3 @@
-use Rattle.std.proofs.Common.{◌≡◌, length}
 use Rattle.vab_merge.specs.Cleared.{IsCleared}
 use Rattle.vab_merge.proofs.clear.clear_sector.Given as goal
 

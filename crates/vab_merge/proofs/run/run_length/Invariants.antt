@@ -1,4 +1,4 @@
-use Rattle.std.proofs.Common.{◌≤◌, ◌-◌, length}
+use Rattle.std.proofs.Common.{◌≤◌, ◌-◌}
 use Rattle.vab_exceptions.specs.Entries.{area_entries}
 use Rattle.vab_merge.specs.Run.{IsRun}
 use Rattle.vab_merge.proofs.run.run_length.Given as goal
