@@ -1,0 +1,299 @@
+-- The steps of a run that is merged, on a disk.
+use Rattle.std.proofs.Common.{◌≡◌, inl, inr, ⊎_elim, ℕ, zero, suc, ◌+◌, ◌-◌, ◌*◌, ◌/◌, ◌%◌, ◌≤◌, ◌<◌, List, length, take, sym, ◌∙◌, ap, subst, arith}
+use Rattle.std.specs.Prelude.{slice_index, Ok}
+use Rattle.std.proofs.lemmas.Bool.{cases_lt}
+use Rattle.vab_disk.specs.Disk.{Image, Adds}
+use Rattle.vab_disk.specs.declared.disk.Disk.{Ghosts}
+use Rattle.vab_disk.specs.Calls.{InSectors, Touches, IsAtRest}
+use Rattle.vab_disk.proofs.Moments.{adds_wider, adds_on}
+use Rattle.vab_disk.proofs.CallLaws.{touches_on, touches_wider}
+use Rattle.vab_exceptions.specs.declared.area.Exception.{Exception}
+use Rattle.vab_exceptions.specs.Entries.{area_entries}
+use Rattle.vab_store.specs.Layout.{area_chunk}
+use Rattle.vab_store.specs.Scan.{scan_of}
+use Rattle.std.proofs.lemmas.List.{take_all}
+use Rattle.vab_store.specs.Seen.{view_block}
+use Rattle.vab_store.specs.View.{Fits}
+use Rattle.vab_store.proofs.ScanLaws.{scan_of_ok}
+use Rattle.vab_merge.specs.Run.{IsRun, IsLongest}
+use Rattle.vab_merge.specs.Copied.{InCopied, AreCopied}
+use Rattle.vab_merge.specs.Cleared.{IsClearing, AreCleared, area_sector}
+use Rattle.vab_merge.specs.Merged.{CanMerge, WithoutLast, MayRun, LeavesMerged, IsMergedSector}
+use Rattle.vab_merge.proofs.RunLaws.{run_fewer, run_one}
+use Rattle.vab_merge.proofs.MergeLaws.{copy_keeps, Ready, clear_keeps, clear_drops}
+
+-- ---- a run stands in one area
+
+area_chain : (es : List Exception) (n first more : ℕ)
+    → IsRun area_entries es n
+    → length es ≤ first + n
+    → first + more < length es
+    → first / 256 ≡ (first + more) / 256
+area_chain es n first zero run from below =
+    let same : first ≡ first + zero = omega arith in
+    ap (λ (k : ℕ). k / 256) same
+area_chain es n first (suc more) run from below =
+    let next : first + more + 1 ≡ first + suc more = omega arith in
+    area_chain es n first more run from (omega (arith, below))
+    ∙ (run.joined (first + more) (omega (arith, from)) (omega (arith, below))).same_area
+    ∙ ap (λ (k : ℕ). k / 256) next
+
+pub one_area : (es : List Exception) (n : ℕ)
+    → IsRun area_entries es n
+    → 0 < n
+    → (length es - n) / 256 ≡ (length es - 1) / 256
+one_area es n run some =
+    let last : length es - n + (n - 1) ≡ length es - 1 = omega (arith, some, run.within) in
+    area_chain es n (length es - n) (n - 1) run (omega (arith, run.within)) (omega (arith, some, run.within))
+    ∙ ap (λ (k : ℕ). k / 256) last
+
+pub area_there : (bound : ℕ) (store : List ℕ) (es : List Exception) (first : ℕ)
+    → Fits bound store es
+    → first < length es
+    → area_chunk area_entries (first / 256) < length store
+area_there bound store es first fits below = omega (arith, below, fits.room)
+
+may_none : (es : List Exception) (n : ℕ) → MayRun es n 0
+may_none es n = record {
+  run = record {
+    within = omega arith;
+    joined = λ j behind inside. absurd (omega (arith, behind, inside));
+  };
+  at_most = omega arith;
+}
+
+-- ---- which sectors are written
+
+copied_sector : (base store : List ℕ) (es : List Exception) (n s : ℕ)
+    → IsRun area_entries es n
+    → InCopied base es (length es - n) s
+    → IsMergedSector base store es n s
+copied_sector base store es n s run is = record {
+  place = is.place;
+  within = is.within;
+  may_run = record {
+    run = run_fewer area_entries es n (length es - is.place) run (omega (arith, is.behind));
+    at_most = omega (arith, is.behind);
+  };
+  here = inl is.here;
+}
+
+cleared_sector : (base store : List ℕ) (es : List Exception) (n s : ℕ) (image : Image) (b : List ℕ)
+    → IsRun area_entries es n
+    → 0 < n
+    → IsClearing store (length es - n) (length es) image s b
+    → IsMergedSector base store es n s
+cleared_sector base store es n s image b run some is =
+    let first : ℕ = length es - n in
+    let k : ℕ = first / 256 in
+    let one = one_area es n run some in
+    let i : ℕ = is.sector in
+    let within_run = run.within in
+    elim (cases_lt (first % 256) (32 * i)) [
+      | inl before ↦
+          let j : ℕ = 256 * k + 32 * i in
+          let small : 32 * i < 256 = omega (arith, is.within.below, one, some, within_run) in
+          let inside : j < length es = omega (arith, is.within.below, before, some, within_run) in
+          let which : j / 256 ≡ k = omega (arith, small) in
+          let place : (j % 256) / 32 ≡ i = omega (arith, small) in
+          let behind : first ≤ j = omega (arith, before) in
+          record {
+            place = j;
+            within = inside;
+            may_run = record {
+              run = run_fewer area_entries es n (length es - j) run (omega (arith, behind, within_run));
+              at_most = omega (arith, behind, within_run);
+            };
+            here = inr (is.here
+                ∙ ap (λ (a : ℕ). slice_index store (area_chunk area_entries a) + i) (sym which)
+                ∙ ap (λ (a : ℕ). area_sector store j + a) (sym place));
+          }
+      | inr at_begin ↦
+          let place : (first % 256) / 32 ≡ i = omega (arith, at_begin, is.within.from) in
+          record {
+            place = first;
+            within = omega (arith, some, within_run);
+            may_run = record {
+              run = run_fewer area_entries es n (length es - first) run (omega (arith, within_run));
+              at_most = omega (arith, within_run);
+            };
+            here = inr (is.here ∙ ap (λ (a : ℕ). area_sector store first + a) (sym place));
+          }
+    ]
+
+module _ {D : Type 0} (g : Ghosts D) (base store : List ℕ) (es : List Exception) (n : ℕ)
+    (run : IsRun area_entries es n) where
+  pub touches_copied : (old mid : D)
+      → Touches g (InSectors (InCopied base es (length es - n))) old mid
+      → Touches g (InSectors (IsMergedSector base store es n)) old mid
+  touches_copied old mid touches =
+      touches_wider g (InSectors (IsMergedSector base store es n))
+      (InSectors (InCopied base es (length es - n))) old mid touches
+      (λ s b is. copied_sector base store es n s run is)
+
+  pub touches_merged : (old mid new : D)
+      → 0 < n
+      → Touches g (InSectors (InCopied base es (length es - n))) old mid
+      → Touches g (IsClearing store (length es - n) (length es) (g.seen mid)) mid new
+      → Touches g (InSectors (IsMergedSector base store es n)) old new
+  touches_merged old mid new some copied cleared =
+      touches_on g (InSectors (InCopied base es (length es - n)))
+      (IsClearing store (length es - n) (length es) (g.seen mid))
+      (InSectors (IsMergedSector base store es n)) old mid new copied cleared
+      (λ s b is. copied_sector base store es n s run is)
+      (λ s b is. cleared_sector base store es n s (g.seen mid) b run some is)
+
+  -- ---- what a crash leaves
+
+  pub time_copied : (old mid : D)
+      → g.is_modelled
+      → CanMerge base store es (g.size old)
+      → IsAtRest g old
+      → scan_of store (length base) (g.seen old) ≡ Ok es
+      → Touches g (InSectors (InCopied base es (length es - n))) old mid
+      → Adds g.moment g.outcomes old mid (LeavesMerged base store es n (g.told old) (g.seen old))
+  time_copied old mid t can rest scanned touches =
+      adds_wider g.moment g.outcomes old mid _ _ (touches.time t)
+      (λ o leaves. record {
+        told_so_far = leaves.told_so_far;
+        dropped = 0;
+        may_run = may_none es n;
+        without =
+            copy_keeps base store es (g.size old) (length es - n) (g.seen old) o.image can
+            (scan_of_ok store (length base) (g.seen old) es scanned)
+            (λ s.
+            ⊎_elim (λ was. inl (rest s (o.image s) was)) (λ w. inr w) (leaves.each_sector s));
+      })
+
+  pub ready_of : (old mid : D)
+      → g.is_modelled
+      → 0 < n
+      → CanMerge base store es (g.size old)
+      → scan_of store (length base) (g.seen old) ≡ Ok es
+      → Touches g (InSectors (InCopied base es (length es - n))) old mid
+      → AreCopied base store es (length es - n) (length es) (g.seen old) (g.seen mid)
+      → ((s : ℕ) → s < g.size mid → length (g.seen mid s) ≡ 512)
+      → Ready base store es (g.size old) (length es - n) (g.seen old) (g.seen mid)
+  ready_of old mid t some can scanned touches copied whole =
+      let first : ℕ = length es - n in
+      let below : first < length es = omega (arith, some, run.within) in
+      let there = area_there (length base) store es first can.fits below in
+      let on_disk : area_sector store first + 8 ≤ g.size old =
+      can.store_on_disk (area_chunk area_entries (first / 256)) there in
+      record {
+        can = can;
+        scan = scan_of_ok store (length base) (g.seen old) es scanned;
+        some = below;
+        one_area = one_area es n run some;
+        but = touches.seen t;
+        copied = copied;
+        whole = λ i lt.
+            whole (area_sector store first + i) (omega (arith, lt, on_disk, touches.quiet.size));
+      }
+
+  pub time_merged : (old mid new : D)
+      → g.is_modelled
+      → 0 < n
+      → CanMerge base store es (g.size old)
+      → IsAtRest g old
+      → scan_of store (length base) (g.seen old) ≡ Ok es
+      → Touches g (InSectors (InCopied base es (length es - n))) old mid
+      → AreCopied base store es (length es - n) (length es) (g.seen old) (g.seen mid)
+      → ((s : ℕ) → s < g.size mid → length (g.seen mid s) ≡ 512)
+      → IsAtRest g mid
+      → Touches g (IsClearing store (length es - n) (length es) (g.seen mid)) mid new
+      → Adds g.moment g.outcomes old new (LeavesMerged base store es n (g.told old) (g.seen old))
+  time_merged old mid new t some can rest scanned touches copied whole mid_rest cleared =
+      let ready = ready_of old mid t some can scanned touches copied whole in
+      let more : Adds g.moment g.outcomes mid new (LeavesMerged base store es n (g.told old) (g.seen old)) =
+      adds_wider g.moment g.outcomes mid new _ _ (cleared.time t)
+      (λ o leaves.
+      let kept = clear_keeps base store es (g.size old) (length es - n) (g.seen old) (g.seen mid)
+      o.image ready
+      (λ s. ⊎_elim (λ was. inl (mid_rest s (o.image s) was)) (λ w. inr w) (leaves.each_sector s)) in
+      record {
+        told_so_far = leaves.told_so_far ∙ touches.quiet.told t;
+        dropped = kept.0;
+        may_run = record {
+          run = run_fewer area_entries es n kept.0 run (omega (arith, kept.1, run.within));
+          at_most = omega (arith, kept.1, run.within);
+        };
+        without = kept.2;
+      }) in
+      adds_on g.moment g.outcomes old mid new _ _
+      (time_copied old mid t can rest scanned touches) more (λ o is. is)
+
+  -- what is left where no call failed
+  pub merged : (old mid new : D)
+      → g.is_modelled
+      → 0 < n
+      → CanMerge base store es (g.size old)
+      → scan_of store (length base) (g.seen old) ≡ Ok es
+      → Touches g (InSectors (InCopied base es (length es - n))) old mid
+      → AreCopied base store es (length es - n) (length es) (g.seen old) (g.seen mid)
+      → ((s : ℕ) → s < g.size mid → length (g.seen mid s) ≡ 512)
+      → Touches g (IsClearing store (length es - n) (length es) (g.seen mid)) mid new
+      → AreCleared store (length es - n) (length es) (g.seen mid) (g.seen new)
+      → WithoutLast base store es n (g.seen old) (g.seen new)
+  merged old mid new t some can scanned touches copied whole cleared all =
+      let ready = ready_of old mid t some can scanned touches copied whole in
+      let left : length es - (length es - n) ≡ n = omega (arith, run.within) in
+      subst (λ (k : ℕ). WithoutLast base store es k (g.seen old) (g.seen new)) left
+      (clear_drops base store es (g.size old) (length es - n) (g.seen old) (g.seen mid) (g.seen new)
+      ready (cleared.seen t) all)
+
+-- ---- a run within more
+
+pub leaves_more : {D : Type 0} (g : Ghosts D) (base store : List ℕ) (es : List Exception) (n most : ℕ)
+    (old new : D)
+    → n ≤ most
+    → Adds g.moment g.outcomes old new (LeavesMerged base store es n (g.told old) (g.seen old))
+    → Adds g.moment g.outcomes old new (LeavesMerged base store es most (g.told old) (g.seen old))
+leaves_more g base store es n most old new le adds =
+    adds_wider g.moment g.outcomes old new _ _ adds
+    (λ o leaves. record {
+      told_so_far = leaves.told_so_far;
+      dropped = leaves.dropped;
+      may_run = record {
+        run = leaves.may_run.run;
+        at_most = omega (arith, leaves.may_run.at_most, le);
+      };
+      without = leaves.without;
+    })
+
+pub sectors_more : {D : Type 0} (g : Ghosts D) (base store : List ℕ) (es : List Exception)
+    (n most : ℕ) (old new : D)
+    → n ≤ most
+    → Touches g (InSectors (IsMergedSector base store es n)) old new
+    → Touches g (InSectors (IsMergedSector base store es most)) old new
+sectors_more g base store es n most old new le touches =
+    touches_wider g (InSectors (IsMergedSector base store es most))
+    (InSectors (IsMergedSector base store es n)) old new touches
+    (λ s b is. record {
+      place = is.place;
+      within = is.within;
+      may_run = record { run = is.may_run.run; at_most = omega (arith, is.may_run.at_most, le) };
+      here = is.here;
+    })
+
+-- nothing is merged where no exception is left
+pub without_none : (base store : List ℕ) (es : List Exception) (old : Image)
+    → scan_of store (length base) old ≡ Ok es
+    → WithoutLast base store es 0 old old
+without_none base store es old scanned =
+    let whole : take (length es - 0) es ≡ es = take_all (length es - 0) es (omega arith) in
+    record {
+      scanned = scanned ∙ ap (λ l. Ok l) (sym whole);
+      same = λ block below. ap (λ (l : List Exception). view_block base store l old block) whole;
+    }
+
+pub empty_run : (es : List Exception) (most : ℕ)
+    → 0 < most
+    → IsLongest area_entries es most 0
+    → length es ≡ 0
+empty_run es most some is = elim (cases_lt 0 (length es)) [
+  | inl left ↦
+      let one : 1 ≤ 0 = is.longest 1 (omega (arith, some)) (run_one area_entries es left) in
+      absurd (omega (arith, one))
+  | inr none ↦ omega (arith, none)
+]

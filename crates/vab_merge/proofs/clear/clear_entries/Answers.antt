@@ -1,0 +1,113 @@
+use Rattle.std.proofs.Common.{◌≡◌, ◌+◌, ◌∙◌, inl, inr, ap, ℕ, List, refl, sym, arith, subst}
+use Rattle.std.proofs.lemmas.Bool.{cases_lt}
+use Rattle.vab_disk.specs.Calls.{Touches}
+use Rattle.vab_disk.specs.Disk.{Image}
+use Rattle.vab_disk.proofs.CallLaws.{
+  touches_none,
+  touches_reads,
+  touches_then,
+}
+use Rattle.vab_merge.specs.Cleared.{IsClearedAt, IsClearing, IsOfThem, area_sector}
+use Rattle.vab_merge.proofs.ClearLaws.{cleared_at, there_is, here_is, touches_clearing}
+use Rattle.vab_merge.proofs.clear.clear_entries.Goals as goal
+
+pub loop-i-init : goal.loop-i-init
+loop-i-init g c = record {
+  done = λ t i them below. absurd (omega (arith, them.from, below));
+  left = λ t i over. refl;
+  touches = touches_none g.D.Disk _ _;
+  steady = refl;
+}
+
+pub loop-i-preserved : goal.loop-i-preserved
+loop-i-preserved g c =
+    let inv = c.loop-i.invariant in
+    let store : List ℕ = c.args.store.now in
+    let first : ℕ = c.args.first in
+    let end : ℕ = c.args.end in
+    let n : ℕ = c.loop-i.i in
+    let at : ℕ = c.sector_of-at.result in
+    let at_is : at ≡ area_sector store first = c.sector_of-at.ensures.sector in
+    let bytes : List ℕ = c.clear_sector.new.sector in
+    let now : Image = g.D.Disk.seen c.args.d.now in
+    let mid : Image = g.D.Disk.seen c.get_sector.new.d in
+    let new : Image = g.D.Disk.seen c.put_sector.new.d in
+    let them : IsOfThem first end n = record {
+      from = omega arith;
+      below = omega (arith, c.loop-i-test.true, c.div_ceil-i-end.ensures);
+    } in
+    let cleared : IsClearedAt first end n c.get_sector.new.out bytes =
+    cleared_at first end n c.saturating_sub.result c.min.result c.get_sector.new.out bytes
+    c.saturating_sub.ensures c.min.ensures c.clear_sector.ensures in
+    let read_touches : Touches g.D.Disk (IsClearing store first end now) c.args.d.now c.get_sector.new.d =
+    touches_then g.D.Disk _ _ _ _ inv.touches
+    (touches_reads g.D.Disk _ _ _ c.get_sector.ensures.reads) in
+    record {
+      done = λ t i is below.
+          let was : c.get_sector.new.out ≡ now (area_sector store first + n) =
+          c.in_ok-get_sector.ensures.bytes t
+          ∙ ap (λ (k : ℕ). g.D.Disk.seen c.loop-i.d (k + n)) at_is
+          ∙ inv.left t n (omega arith) in
+          elim (cases_lt i n) [
+            | inl before ↦
+                subst (IsClearedAt first end i (now (area_sector store first + i)))
+                (sym (there_is mid new at n i bytes (area_sector store first) at_is
+                (λ is. omega (arith, is, before)) (c.in_ok-put_sector.ensures.written t)
+                ∙ ap (λ (o : Image). o (area_sector store first + i)) (c.get_sector.ensures.reads.seen t)))
+                (inv.done t i is before)
+            | inr behind ↦
+                let one : n ≡ i = omega (arith, behind, below) in
+                subst (λ (k : ℕ). IsClearedAt first end k (now (area_sector store first + k)) (new (area_sector store first + k))) one
+                (subst (λ (b : List ℕ). IsClearedAt first end n b (new (area_sector store first + n))) was
+                (subst (IsClearedAt first end n c.get_sector.new.out)
+                (sym (here_is mid new at n bytes (area_sector store first) at_is (c.in_ok-put_sector.ensures.written t)))
+                cleared))
+          ];
+      left = λ t i over.
+          there_is mid new at n i bytes (area_sector store first) at_is
+          (λ is. omega (arith, is, over)) (c.in_ok-put_sector.ensures.written t)
+          ∙ ap (λ (o : Image). o (area_sector store first + i)) (c.get_sector.ensures.reads.seen t)
+          ∙ inv.left t i (omega (arith, over));
+      touches = touches_clearing g.D.Disk store first end n at c.get_sector.new.out bytes
+          c.args.d.now c.loop-i.d c.get_sector.new.d c.put_sector.new.d read_touches
+          (λ t. c.in_ok-get_sector.ensures.bytes t)
+          (λ t. inv.left t n (omega arith))
+          c.put_sector.ensures.touches at_is them cleared;
+      steady = c.in_ok-put_sector.ensures.faults.steady ∙ c.in_ok-get_sector.ensures.faults.steady ∙ inv.steady;
+    }
+
+pub returns-clause-cleared : goal.returns-clause-cleared
+returns-clause-cleared g c = λ t i them.
+    c.loop-i.invariant.done t i them (omega (arith, c.loop-i-test.false, them.below))
+
+pub returns-in_err-get_sector-clause-touches : goal.returns-in_err-get_sector-clause-touches
+returns-in_err-get_sector-clause-touches g c =
+    touches_then g.D.Disk _ _ _ _ c.loop-i.invariant.touches
+    (touches_reads g.D.Disk _ _ _ c.get_sector.ensures.reads)
+
+pub returns-in_err-put_sector-clause-touches : goal.returns-in_err-put_sector-clause-touches
+returns-in_err-put_sector-clause-touches g c =
+    let inv = c.loop-i.invariant in
+    let store : List ℕ = c.args.store.now in
+    let first : ℕ = c.args.first in
+    let end : ℕ = c.args.end in
+    let n : ℕ = c.loop-i.i in
+    let at : ℕ = c.sector_of-at.result in
+    let at_is : at ≡ area_sector store first = c.sector_of-at.ensures.sector in
+    let bytes : List ℕ = c.clear_sector.new.sector in
+    let now : Image = g.D.Disk.seen c.args.d.now in
+    let them : IsOfThem first end n = record {
+      from = omega arith;
+      below = omega (arith, c.loop-i-test.true, c.div_ceil-i-end.ensures);
+    } in
+    let cleared : IsClearedAt first end n c.get_sector.new.out bytes =
+    cleared_at first end n c.saturating_sub.result c.min.result c.get_sector.new.out bytes
+    c.saturating_sub.ensures c.min.ensures c.clear_sector.ensures in
+    let read_touches : Touches g.D.Disk (IsClearing store first end now) c.args.d.now c.get_sector.new.d =
+    touches_then g.D.Disk _ _ _ _ inv.touches
+    (touches_reads g.D.Disk _ _ _ c.get_sector.ensures.reads) in
+    touches_clearing g.D.Disk store first end n at c.get_sector.new.out bytes
+    c.args.d.now c.loop-i.d c.get_sector.new.d c.put_sector.new.d read_touches
+    (λ t. c.in_ok-get_sector.ensures.bytes t)
+    (λ t. inv.left t n (omega arith))
+    c.put_sector.ensures.touches at_is them cleared

@@ -1,0 +1,4 @@
+pub mod Cleared
+pub mod Copied
+pub mod Merged
+pub mod Run

@@ -1,0 +1,7 @@
+pub mod BlockLaws
+pub mod ChunkLaws
+pub mod IndexLaws
+pub mod ScanLaws
+pub mod ViewLaws
+pub mod SortLaws
+pub mod WrittenLaws

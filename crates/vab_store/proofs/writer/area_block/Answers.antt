@@ -1,0 +1,33 @@
+use Rattle.std.proofs.Common.{◌≡◌, ◌+◌, ◌*◌, ℕ, ◌∷◌, ◌++◌, [], length, sym, ap, ◌∙◌, arith}
+use Rattle.vab_exceptions.specs.declared.area.Exception.{Exception}
+use Rattle.vab_exceptions.specs.Entries.{firsts, area_bytes}
+use Rattle.vab_exceptions.proofs.EntryLaws.{length-firsts, firsts-more}
+use Rattle.vab_store.specs.Writing.{planned_at}
+use Rattle.vab_store.proofs.writer.area_block.Goals as goal
+
+pub loop-i-init : goal.loop-i-init
+unfolding firsts
+loop-i-init c = c.new-entries.ensures
+
+pub push-requires : goal.push-requires
+push-requires c =
+    let f : ℕ → Exception = λ i. planned_at c.args.olds.now (256 * c.args.area + i) in
+    let so_far : length c.loop-i.entries.items ≡ c.loop-i.i =
+    ap length c.loop-i.invariant ∙ length-firsts f c.loop-i.i in
+    omega (arith, so_far, c.loop-i-test.true, c.min-count.ensures)
+
+pub loop-i-preserved : goal.loop-i-preserved
+loop-i-preserved c =
+    let f : ℕ → Exception = λ i. planned_at c.args.olds.now (256 * c.args.area + i) in
+    c.push.ensures.items
+    ∙ ap (λ l. l ++ c.planned.result ∷ []) c.loop-i.invariant
+    ∙ ap (λ e. firsts f c.loop-i.i ++ e ∷ []) c.planned.ensures
+    ∙ sym (firsts-more f c.loop-i.i)
+
+pub returns : goal.returns
+returns c =
+    let f : ℕ → Exception = λ i. planned_at c.args.olds.now (256 * c.args.area + i) in
+    let all : c.loop-i.i ≡ c.min-count.result = omega (arith, c.loop-i-test.false, c.loop-i.auto.i-end) in
+    c.encode_area.ensures.bytes
+    ∙ ap (area_bytes 4096)
+    (c.loop-i.invariant ∙ ap (firsts f) (all ∙ c.min-count.ensures))

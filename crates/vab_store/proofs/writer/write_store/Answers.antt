@@ -1,0 +1,77 @@
+use Rattle.std.proofs.Common.{◌≡◌, ◌≢◌, ◌<◌, ◌≤◌, ℕ, List, length, inl, inr, ◌∙◌, arith, rules, subst}
+use Rattle.std.proofs.lemmas.Bool.{cases_lt}
+use Rattle.vab_disk.proofs.CallLaws.{touches_on}
+use Rattle.vab_exceptions.specs.Entries.{area_entries}
+use Rattle.vab_store.specs.Layout.{chunk_bytes}
+use Rattle.vab_space.specs.Space.{need_of}
+use Rattle.vab_store.specs.Writing.{store_chunk, planned_of}
+use Rattle.vab_store.proofs.ScanLaws.{scan_of_is}
+use Rattle.vab_store.proofs.WrittenLaws.{written_scan, written_block}
+use Rattle.vab_store.proofs.ChunkLaws.{apart_of, chunk_here, chunk_there, in_map}
+use Rattle.vab_store.proofs.writer.write_store.Goals as goal
+
+pub returns-in_err-write_at-clause-touches : goal.returns-in_err-write_at-clause-touches
+returns-in_err-write_at-clause-touches g c =
+    let n = c.loop-chunk.chunk in
+    let map = c.args.map.now in
+    let below : n < length map = omega (arith, c.loop-chunk-test.true, c.need-chunk-end.ensures, c.requires.room) in
+    touches_on g.D.Disk _ _ _ _ _ _ c.loop-chunk.invariant.touches c.write_at.ensures.touches
+    (λ s b w. w)
+    (λ s b w. in_map map n c.chunk_block.result s b below w)
+
+pub loop-chunk-preserved : goal.loop-chunk-preserved
+loop-chunk-preserved g c =
+    let n = c.loop-chunk.chunk in
+    let map = c.args.map.now in
+    let olds = c.args.olds.now in
+    let image = c.args.image.now in
+    let bytes : List ℕ = c.chunk_block.result in
+    let old = g.D.Disk.seen c.loop-chunk.d in
+    let new = g.D.Disk.seen c.write_at.new.d in
+    let below : n < length map = omega (arith, c.loop-chunk-test.true, c.need-chunk-end.ensures, c.requires.room) in
+    let long : length bytes ≡ 4096 = search rules in
+    let ok = c.in_ok-write_at.ensures in
+    record {
+      holds = λ t k lt. elim (cases_lt k n) [
+        | inl before ↦
+            let other : k ≢ n = omega (arith, before) in
+            chunk_there map old new n k bytes
+            (apart_of map k n c.requires.apart (omega (arith, before, below)) below other)
+            (ok.written t)
+            ∙ c.loop-chunk.invariant.holds t k before
+        | inr last ↦
+            let is : n ≡ k = omega (arith, last, lt) in
+            subst (λ (j : ℕ). chunk_bytes map new j ≡ store_chunk area_entries olds image j) is
+            (chunk_here map old new n bytes long (ok.written t)
+            ∙ c.chunk_block.ensures)
+      ];
+      touches = touches_on g.D.Disk _ _ _ _ _ _ c.loop-chunk.invariant.touches
+          c.write_at.ensures.touches
+          (λ s b w. w)
+          (λ s b w. in_map map n bytes s b below w);
+      steady = ok.faults.steady ∙ c.loop-chunk.invariant.steady;
+    }
+
+pub returns-clause-scanned : goal.returns-clause-scanned
+returns-clause-scanned g c = λ t bound below.
+    let map = c.args.map.now in
+    let olds = c.args.olds.now in
+    let image = c.args.image.now in
+    let disk = g.D.Disk.seen c.loop-chunk.d in
+    let all : need_of (length olds) ≤ c.loop-chunk.chunk =
+    omega (arith, c.loop-chunk-test.false, c.need-chunk-end.ensures) in
+    scan_of_is map bound disk (planned_of olds)
+    (written_scan map olds image disk bound c.requires.room
+    (λ k lt. c.loop-chunk.invariant.holds t k (omega (arith, lt, all)))
+    c.requires.ascend below (λ i. omega (arith, c.type_inv.olds i)) (omega arith))
+
+pub returns-clause-blocks : goal.returns-clause-blocks
+returns-clause-blocks g c = λ t j below.
+    let map = c.args.map.now in
+    let olds = c.args.olds.now in
+    let image = c.args.image.now in
+    let disk = g.D.Disk.seen c.loop-chunk.d in
+    let all : need_of (length olds) ≤ c.loop-chunk.chunk =
+    omega (arith, c.loop-chunk-test.false, c.need-chunk-end.ensures) in
+    written_block map olds image disk j
+    (λ k lt. c.loop-chunk.invariant.holds t k (omega (arith, lt, all))) below

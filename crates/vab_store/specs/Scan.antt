@@ -1,0 +1,86 @@
+-- What the bytes of a store mean: a list of exceptions, or the first fault.
+use Rattle.std.specs.Prelude.{◌≡◌, ℕ, zero, suc, ◌<◌, List, length, take, take_while, Bool, ◌&&◌, ◌||◌, ◌==◌, nat_lt, Option, Some, None, Result, Ok, Err, if◌then◌else◌}
+use Rattle.vab_disk.specs.Disk.{Image}
+use Rattle.vab_exceptions.specs.declared.area.Exception.{Exception}
+use Rattle.vab_exceptions.specs.declared.header.HeaderFault.{HeaderFault}
+use Rattle.vab_exceptions.specs.Entries.{area_entries, firsts, listed}
+use Rattle.vab_exceptions.specs.Header.{header_of}
+use Rattle.vab_store.specs.declared.fault.StoreFault.{StoreFault}
+use Rattle.vab_store.specs.declared.fault.StoreFault.TheVariants as faults
+use Rattle.vab_store.specs.Layout.{chunks_of, chunk_bytes, is_data, slot_at, slots_of}
+use Rattle.vab_store.specs.View.{exception_at, Fits}
+
+-- the one, or else the other
+abbrev pub or_else : {X : Type 0} → Option X → Option X → Option X
+or_else None other = other
+or_else (Some x) other = Some x
+
+-- what a function gives at the first number below n at which it gives something
+unfoldable pub first_some : {X : Type 0} → (ℕ → Option X) → ℕ → Option X
+first_some f zero = None
+first_some f (suc n) = or_else (first_some f n) (f n)
+
+-- two exceptions have a chunk in common
+abbrev pub share : Exception → Exception → Bool
+share a b = a.old_chunk == b.old_chunk || a.new_chunk == b.new_chunk
+
+-- the first exception with which the k-th has a chunk in common
+unfoldable pub repeat_at : List Exception → ℕ → Option (ℕ × ℕ)
+repeat_at es k =
+    first_some (λ j. if share (exception_at es j) (exception_at es k) then Some (j, k) else None) k
+
+-- two exceptions that have a chunk in common: the least second one, with the least first one
+unfoldable pub repeat_of : List Exception → Option (ℕ × ℕ)
+repeat_of es = first_some (repeat_at es) (length es)
+
+-- its old chunk is below the bound, and its new chunk is a data chunk inside the store
+abbrev pub lies : ℕ → ℕ → Exception → Bool
+lies chunks bound e =
+    nat_lt e.old_chunk bound && (nat_lt e.new_chunk chunks && is_data area_entries e.new_chunk)
+
+-- the exceptions of a store's areas, up to the entry that ends them
+unfoldable pub list_of : List ℕ → Image → List Exception
+list_of map image = listed (firsts (slot_at area_entries map image) (slots_of area_entries map))
+
+-- those before the first that doesn't lie there
+unfoldable pub good_of : ℕ → ℕ → List Exception → List Exception
+good_of chunks bound es = take_while (lies chunks bound) es
+
+abbrev pub unless_repeated : {X : Type 0}
+    → Option (ℕ × ℕ)
+    → Result X StoreFault
+    → Result X StoreFault
+unless_repeated None means = means
+unless_repeated (Some (j, k)) means = Err (faults.Repeated j k)
+
+abbrev pub after_header : {X : Type 0}
+    → Result (Unit {0}) HeaderFault
+    → Result X StoreFault
+    → Result X StoreFault
+after_header (Ok u) means = means
+after_header (Err fault) means = Err (faults.Header fault)
+
+-- The first exception at fault decides, where it is bad before it is a repeated one. A list that
+-- goes on to the last entry of the last area has no end.
+unfoldable pub judged : ℕ → ℕ → ℕ → List Exception → Result (List Exception) StoreFault
+judged chunks bound slots es =
+    unless_repeated (repeat_of (good_of chunks bound es))
+    (if nat_lt (length (good_of chunks bound es)) (length es)
+    then Err (faults.BadChunk (length (good_of chunks bound es)))
+    else (if nat_lt (length es) slots then Ok es else Err faults.Unended))
+
+-- the exceptions of the store on these blocks, whose old chunks are below the bound, or the fault
+unfoldable pub scan_of : List ℕ → ℕ → Image → Result (List Exception) StoreFault
+scan_of map bound image =
+    if nat_lt (chunks_of map) 2
+    then Err faults.Unended
+    else
+    after_header (header_of (take 512 (chunk_bytes map image 0)))
+    (judged (chunks_of map) bound (slots_of area_entries map) (list_of map image))
+
+-- These exceptions are the store's: the same said of each entry.
+pub record IsScan (map : List ℕ) (bound : ℕ) (image : Image) (es : List Exception) : Type 0 where
+  pub fits : Fits bound map es
+  pub header : header_of (take 512 (chunk_bytes map image 0)) ≡ Ok tt
+  pub reads : (t : ℕ) → t < length es → slot_at area_entries map image t ≡ exception_at es t
+  pub stops : (slot_at area_entries map image (length es)).new_chunk ≡ 0
