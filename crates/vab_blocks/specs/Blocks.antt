@@ -4,26 +4,14 @@ use Rattle.std.specs.List.{flat_map, filter, list_any, range_with_len}
 use Rattle.std.specs.Str.{bytes_eq}
 use Rattle.vab_tables.specs.declared.entries.Partition.{Partition}
 use Rattle.vab_tables.specs.declared.entries.Extent.{Extent}
-use Rattle.vab_tables.specs.declared.entries.BlockDevice.{BlockDevice}
 use Rattle.vab_tables.specs.declared.table.Table.{Table}
+pub use Rattle.vab_tables.specs.Extents.{first_sector_of_devices, first_sector_of, extents_of}
 
 -- ---- what it is to have a block
-
--- the first sector of block 0: the first logical sector of the device
-abbrev pub first_sector_of_devices : List BlockDevice → ℕ
-first_sector_of_devices [] = 0
-first_sector_of_devices (d ∷ ds) = d.first_logical_sector
-
-abbrev pub first_sector_of : Table → ℕ
-first_sector_of t = first_sector_of_devices t.devices
 
 -- the extent has the sector at which the block begins
 abbrev pub Covers : ℕ → Extent → ℕ → Type 0
 Covers first e block = (e.first_sector ≤ first + 8 * block) × (first + 8 * block < e.first_sector + e.sectors)
-
--- the extents of a partition
-abbrev pub extents_of : Table → Partition → List Extent
-extents_of t p = take p.extent_count (drop p.first_extent t.extents)
 
 -- a partition of the table that has one of these names has an extent with the block
 unfoldable pub HasBlock : Table → List (List ℕ) → ℕ → Type 0

@@ -92,25 +92,21 @@ partition_found : (minor extents groups : ℕ) (p : Partition) → FitsPartition
 unfolding partition_passes
 partition_found minor extents groups p fits h =
     let t0 = eqb (bit_and p.attributes (attributes_of minor)) p.attributes in
-    let t1 = eqb p.extent_count 0 || leb (p.first_extent + p.extent_count) extents in
+    let t1 = leb (p.first_extent + p.extent_count) extents in
     let a = and_parts (t0 && t1) (ltb p.group groups) h in
     let b = and_parts t0 t1 a.0 in
-    let exist : 0 < p.extent_count → p.first_extent + p.extent_count ≤ extents = λ some. elim (or_cases (eqb p.extent_count 0) (leb (p.first_extent + p.extent_count) extents) b.1) [
-      | inl none ↦ absurd (omega (arith, some, eqb-true p.extent_count 0 none))
-      | inr le ↦ leb-true _ _ le
-    ] in
-    record { fits = fits; attributes = eqb-true _ _ b.0; extents_exist = exist; group_exists = ltb-true _ _ a.1 }
+    record {
+      fits = fits;
+      attributes = eqb-true _ _ b.0;
+      extents_exist = leb-true _ _ b.1;
+      group_exists = ltb-true _ _ a.1;
+    }
 
 partition_only : (minor extents groups : ℕ) (p : Partition) → IsPartition minor extents groups p → partition_passes minor extents groups p ≡ true
 unfolding partition_passes
 partition_only minor extents groups p r =
-    let t1 = eqb p.extent_count 0 in
-    let t2 = leb (p.first_extent + p.extent_count) extents in
-    let exist : (t1 || t2) ≡ true = elim (cases_eq p.extent_count 0) [
-      | inl none ↦ or_left t1 t2 (eq-eqb _ _ none)
-      | inr some ↦ or_right t1 t2 (le-leb _ _ (r.extents_exist (omega (arith, some))))
-    ] in
-    and_from _ _ (and_from _ _ (eq-eqb _ _ r.attributes) exist) (lt-ltb _ _ r.group_exists)
+    let first = and_from _ _ (eq-eqb _ _ r.attributes) (le-leb _ _ r.extents_exist) in
+    and_from _ _ first (lt-ltb _ _ r.group_exists)
 
 -- ---- names that differ
 

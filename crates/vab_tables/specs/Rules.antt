@@ -69,15 +69,18 @@ extent_passes d e = e.target_type == 0 && e.target_source == 0 && nat_lt 0 e.sec
 abbrev pub attributes_of : ℕ → ℕ
 attributes_of minor = if minor == 0 then 1 else 13
 
--- a partition of a table of this minor, with so many extents and groups
+-- A partition of a table of this minor, with so many extents and groups. One without extents, too,
+-- names a first extent that is at most the number of extents.
 pub record IsPartition (minor extents groups : ℕ) (p : Partition) : Type 0 where
   pub fits : FitsPartition p
   pub attributes : bit_and p.attributes (attributes_of minor) ≡ p.attributes
-  pub extents_exist : 0 < p.extent_count → p.first_extent + p.extent_count ≤ extents
+  pub extents_exist : p.first_extent + p.extent_count ≤ extents
   pub group_exists : p.group < groups
 
 unfoldable pub partition_passes : ℕ → ℕ → ℕ → Partition → Bool
-partition_passes minor extents groups p = bit_and p.attributes (attributes_of minor) == p.attributes && (p.extent_count == 0 || nat_le (p.first_extent + p.extent_count) extents) && nat_lt p.group groups
+partition_passes minor extents groups p =
+    bit_and p.attributes (attributes_of minor) == p.attributes
+    && nat_le (p.first_extent + p.extent_count) extents && nat_lt p.group groups
 
 -- ---- the whole table
 

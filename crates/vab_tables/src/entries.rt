@@ -14,7 +14,7 @@ pub struct Partition {
     pub name: Name36,
     /// Bits: 1 read-only, 4 updated, 8 disabled; a table of minor 0 has the first alone.
     pub attributes: u32,
-    /// The index of its first extent; of no meaning where it has none.
+    /// The index of its first extent; where it has none, at most the number of extents.
     pub first_extent: u32,
     /// How many extents it has, one after another in the table's list.
     pub extent_count: u32,

@@ -109,7 +109,7 @@ impl Partition {
     {
         let end = self.first_extent as usize + self.extent_count as usize;
         self.attributes & attributes(minor) == self.attributes
-            && (self.extent_count == 0 || end <= extents)
+            && end <= extents
             && (self.group as usize) < groups
     }
 }

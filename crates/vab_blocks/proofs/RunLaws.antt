@@ -1,11 +1,12 @@
 -- Laws of maximal runs.
-use Rattle.std.proofs.Common.{◌≡◌, ◌≢◌, ℕ, zero, suc, ◌+◌, ◌<◌, ◌≤◌, Bool, cond, List, [], ◌∷◌, ◌++◌, length, get_or, take, drop, refl, sym, ap, subst, ◌∙◌, inl, inr, add-zero, add-one, arith}
+use Rattle.std.proofs.Common.{◌≡◌, ◌≢◌, ℕ, zero, suc, ◌+◌, ◌-◌, ◌^◌, ◌<◌, ◌≤◌, Bool, cond, append_assoc, List, [], ◌∷◌, ◌++◌, length, get_or, take, drop, refl, sym, ap, subst, ◌∙◌, inl, inr, add-zero, add-one, arith}
 use Rattle.std.specs.Prelude.{◌==◌, if◌then◌else◌, All}
 use Rattle.std.specs.List.{range_with_len}
 use Rattle.std.proofs.lemmas.Bool.{cases_eq, eq-eqb, ne_eqb}
 use Rattle.std.proofs.lemmas.List.{take-append-drop, length-drop, get_or-drop}
 use Rattle.std.proofs.lemmas.List.Elements.{All-nil, All-cons, All-head, All-tail}
-use Rattle.vab_layout.specs.Runs.{in_front, runs_of, blocks_of_runs}
+use Rattle.std.proofs.Math.ListN.{set}
+use Rattle.vab_blocks.specs.Runs.{in_front, runs_of, blocks_of_runs, AreMaximal}
 
 -- ---- a block in front of runs
 
@@ -270,3 +271,160 @@ pub runs_of_none : (xs : List ℕ) → length xs ≡ 0 → runs_of xs ≡ []
 unfolding runs_of
 runs_of_none [] e = refl
 runs_of_none (x ∷ xs) e = absurd (omega (arith, e))
+
+-- ---- consecutive blocks behind runs
+
+-- Consecutive blocks behind runs: they join the last run where that ends at the first of them.
+abbrev pub behind_run : List (ℕ × ℕ) → ℕ → ℕ → List (ℕ × ℕ)
+behind_run [] first count = (first, count) ∷ []
+behind_run (run ∷ []) first count =
+    if first == run.0 + run.1 then (run.0, run.1 + count) ∷ [] else run ∷ (first, count) ∷ []
+behind_run (run ∷ next ∷ runs) first count = run ∷ behind_run (next ∷ runs) first count
+
+joins_last : (f c a n : ℕ) → a ≡ f + c → behind_run ((f, c) ∷ []) a n ≡ (f, c + n) ∷ []
+joins_last f c a n e =
+    ap (λ (t : Bool). cond t ((f, c + n) ∷ []) ((f, c) ∷ (a, n) ∷ [])) (eq-eqb a (f + c) e)
+
+follows_last : (f c a n : ℕ) → a ≢ f + c → behind_run ((f, c) ∷ []) a n ≡ (f, c) ∷ (a, n) ∷ []
+follows_last f c a n ne =
+    ap (λ (t : Bool). cond t ((f, c + n) ∷ []) ((f, c) ∷ (a, n) ∷ [])) (ne_eqb a (f + c) ne)
+
+behind_one : (runs : List (ℕ × ℕ)) (b : ℕ) → behind runs b ≡ behind_run runs b 1
+behind_one [] b = refl
+behind_one (run ∷ []) b = refl
+behind_one (run ∷ next ∷ runs) b = ap (λ (l : List (ℕ × ℕ)). run ∷ l) (behind_one (next ∷ runs) b)
+
+-- a block behind a run and others
+behind_rest : (run : ℕ × ℕ) (runs : List (ℕ × ℕ)) (b : ℕ)
+    → 0 < length runs
+    → behind (run ∷ runs) b ≡ run ∷ behind runs b
+behind_rest run [] b some = absurd (omega (arith, some))
+behind_rest run (next ∷ runs) b some = refl
+
+behind_some : (runs : List (ℕ × ℕ)) (a n : ℕ) → 0 < length (behind_run runs a n)
+behind_some [] a n = omega arith
+behind_some ((f, c) ∷ []) a n = elim (cases_eq a (f + c)) [
+  | inl e ↦ omega (arith, ap length (joins_last f c a n e))
+  | inr ne ↦ omega (arith, ap length (follows_last f c a n ne))
+]
+behind_some (run ∷ next ∷ runs) a n = omega arith
+
+behind_more : (runs : List (ℕ × ℕ)) (a n : ℕ)
+    → behind (behind_run runs a n) (a + n) ≡ behind_run runs a (n + 1)
+behind_more [] a n = ends a n (a + n) refl
+behind_more ((f, c) ∷ []) a n = elim (cases_eq a (f + c)) [
+  | inl e ↦
+      let at : a + n ≡ f + (c + n) = omega (arith, e) in
+      let sum : c + n + 1 ≡ c + (n + 1) = omega arith in
+      ap (λ (l : List (ℕ × ℕ)). behind l (a + n)) (joins_last f c a n e)
+      ∙ ends f (c + n) (a + n) at
+      ∙ ap (λ (k : ℕ). (f, k) ∷ []) sum
+      ∙ sym (joins_last f c a (n + 1) e)
+  | inr ne ↦
+      ap (λ (l : List (ℕ × ℕ)). behind l (a + n)) (follows_last f c a n ne)
+      ∙ ap (λ (l : List (ℕ × ℕ)). (f, c) ∷ l) (ends a n (a + n) refl)
+      ∙ sym (follows_last f c a (n + 1) ne)
+]
+behind_more (run ∷ next ∷ runs) a n =
+    behind_rest run (behind_run (next ∷ runs) a n) (a + n) (behind_some (next ∷ runs) a n)
+    ∙ ap (λ (l : List (ℕ × ℕ)). run ∷ l) (behind_more (next ∷ runs) a n)
+
+-- one number more of a range
+pub range_push : (a n : ℕ)
+    → range_with_len a (n + 1) ≡ range_with_len a n ++ (a + n) ∷ []
+range_push a zero = ap (λ (x : ℕ). x ∷ []) (sym (add-zero a))
+range_push a (suc n) =
+    let k : suc n + 1 ≡ suc (n + 1) = omega arith in
+    let e : a + 1 + n ≡ a + suc n = omega arith in
+    let rest = range_push (a + 1) n in
+    let last = ap (λ (x : ℕ). range_with_len (a + 1) n ++ x ∷ []) e in
+    ap (range_with_len a) k ∙ ap (λ (l : List ℕ). a ∷ l) (rest ∙ last)
+
+-- the runs of blocks and then consecutive ones
+pub runs_push_run : (xs : List ℕ) (a n : ℕ)
+    → 0 < n
+    → runs_of (xs ++ range_with_len a n) ≡ behind_run (runs_of xs) a n
+runs_push_run xs a zero some = absurd (omega (arith, some))
+runs_push_run xs a (suc zero) some = runs_push xs a ∙ behind_one (runs_of xs) a
+runs_push_run xs a (suc (suc n)) some =
+    let k : suc (suc n) ≡ suc n + 1 = omega arith in
+    let front : List ℕ = range_with_len a (suc n) in
+    let b : ℕ = a + suc n in
+    let split : range_with_len a (suc (suc n)) ≡ front ++ b ∷ [] =
+    ap (range_with_len a) k ∙ range_push a (suc n) in
+    let joined : xs ++ range_with_len a (suc (suc n)) ≡ (xs ++ front) ++ b ∷ [] =
+    ap (λ (l : List ℕ). xs ++ l) split ∙ sym (append_assoc xs front (b ∷ [])) in
+    ap runs_of joined ∙ runs_push (xs ++ front) b
+    ∙ ap (λ (l : List (ℕ × ℕ)). behind l b) (runs_push_run xs a (suc n) (omega arith))
+    ∙ behind_more (runs_of xs) a (suc n)
+    ∙ ap (behind_run (runs_of xs) a) (sym k)
+
+fit_behind : (runs : List (ℕ × ℕ)) (a n : ℕ)
+    → a + n < 2 ^ 64
+    → All (λ run. run.0 + run.1 < 2 ^ 64) runs
+    → All (λ run. run.0 + run.1 < 2 ^ 64) (behind_run runs a n)
+fit_behind [] a n lt fit = All-cons (λ (run : ℕ × ℕ). run.0 + run.1 < 2 ^ 64) (a, n) [] lt fit
+fit_behind ((f, c) ∷ []) a n lt fit =
+    let P : ℕ × ℕ → Type 0 = λ run. run.0 + run.1 < 2 ^ 64 in
+    elim (cases_eq a (f + c)) [
+      | inl e ↦
+          let end : f + (c + n) < 2 ^ 64 = omega (arith, e, lt) in
+          subst (All P) (sym (joins_last f c a n e)) (All-cons P (f, c + n) [] end (All-nil P))
+      | inr ne ↦
+          let last : All P ((a, n) ∷ []) = All-cons P (a, n) [] lt (All-nil P) in
+          let both = All-cons P (f, c) ((a, n) ∷ []) (All-head P (f, c) [] fit) last in
+          subst (All P) (sym (follows_last f c a n ne)) both
+    ]
+fit_behind (run ∷ next ∷ runs) a n lt fit =
+    let P : ℕ × ℕ → Type 0 = λ run. run.0 + run.1 < 2 ^ 64 in
+    All-cons P run (behind_run (next ∷ runs) a n) (All-head P run (next ∷ runs) fit)
+    (fit_behind (next ∷ runs) a n lt (All-tail P run (next ∷ runs) fit))
+
+-- consecutive blocks behind maximal runs
+pub maximal_behind : (runs more : List (ℕ × ℕ)) (a n : ℕ)
+    → AreMaximal runs → 0 < n → a + n < 2 ^ 64 → more ≡ behind_run runs a n
+    → AreMaximal more × (blocks_of_runs more ≡ blocks_of_runs runs ++ range_with_len a n)
+maximal_behind runs more a n m some lt e =
+    let xs : List ℕ = blocks_of_runs runs in
+    let is : runs_of (xs ++ range_with_len a n) ≡ more =
+    runs_push_run xs a n some
+    ∙ ap (λ (l : List (ℕ × ℕ)). behind_run l a n) m.maximal ∙ sym e in
+    let blocks : blocks_of_runs more ≡ xs ++ range_with_len a n =
+    ap blocks_of_runs (sym is) ∙ runs_again (xs ++ range_with_len a n) in
+    let fit = fit_behind runs a n lt m.fit in (
+      record {
+        maximal = ap runs_of blocks ∙ is;
+        fit = subst (All (λ run. run.0 + run.1 < 2 ^ 64)) (sym e) fit;
+      },
+      blocks,
+    )
+
+-- the last run grows
+pub grown_is : (runs : List (ℕ × ℕ)) (f c a n : ℕ)
+    → 0 < length runs
+    → get_or runs (length runs - 1) (f, c) ≡ (f, c)
+    → a ≡ f + c
+    → set runs (length runs - 1) (f, c + n) ≡ behind_run runs a n
+grown_is [] f c a n some at e = absurd (omega (arith, some))
+grown_is (run ∷ []) f c a n some at e =
+    sym (joins_last f c a n e) ∙ ap (λ (r : ℕ × ℕ). behind_run (r ∷ []) a n) (sym at)
+grown_is (run ∷ next ∷ runs) f c a n some at e =
+    let k : length (run ∷ next ∷ runs) - 1 ≡ suc (length (next ∷ runs) - 1) = omega arith in
+    let there : get_or (next ∷ runs) (length (next ∷ runs) - 1) (f, c) ≡ (f, c) =
+    ap (λ (i : ℕ). get_or (run ∷ next ∷ runs) i (f, c)) (sym k) ∙ at in
+    ap (λ (i : ℕ). set (run ∷ next ∷ runs) i (f, c + n)) k
+    ∙ ap (λ (l : List (ℕ × ℕ)). run ∷ l) (grown_is (next ∷ runs) f c a n (omega arith) there e)
+
+-- no run ends there, and one more stands behind them
+pub added_is : (runs : List (ℕ × ℕ)) (d : ℕ × ℕ) (a n : ℕ)
+    → (0 < length runs
+      → a ≢ (get_or runs (length runs - 1) d).0 + (get_or runs (length runs - 1) d).1)
+    → runs ++ (a, n) ∷ [] ≡ behind_run runs a n
+added_is [] d a n off = refl
+added_is ((f, c) ∷ []) d a n off = sym (follows_last f c a n (off (omega arith)))
+added_is (run ∷ next ∷ runs) d a n off =
+    let all : List (ℕ × ℕ) = run ∷ next ∷ runs in
+    let k : length all - 1 ≡ suc (length (next ∷ runs) - 1) = omega arith in
+    let Off : ℕ → Type 0 = λ i. a ≢ (get_or all i d).0 + (get_or all i d).1 in
+    let there = subst Off k (off (omega arith)) in
+    ap (λ (l : List (ℕ × ℕ)). run ∷ l) (added_is (next ∷ runs) d a n (λ _. there))

@@ -16,6 +16,8 @@ use Rattle.vab_tables.specs.declared.entries.Extent.{Extent}
 use Rattle.vab_tables.specs.declared.entries.BlockDevice.{BlockDevice}
 use Rattle.vab_tables.specs.declared.table.Table.{Table}
 use Rattle.vab_tables.specs.Rules.{cap_of, IsDevice, IsExtent, KeepsRules}
+use Rattle.vab_blocks.proofs.Ascending.{range_ascends}
+use Rattle.vab_blocks.proofs.RunLaws.{range_push}
 use Rattle.vab_blocks.specs.Blocks.{first_sector_of_devices, first_sector_of, Covers, extents_of, HasBlock, is_among, blocks_of_extent, blocks_of_named, blocks_of, free_below}
 
 -- ---- lists that ascend
@@ -25,11 +27,6 @@ ascending_le xs up i j le lt = elim (cases_eq i j) [
   | inl e ↦ rw e (omega arith)
   | inr ne ↦ let lower : i < j = omega (arith, ne, le) in omega (arith, AllPairs-from_increasing xs up i j 0 lower lt)
 ]
-
-range_ascends : (a n : ℕ) → IsStrictlyIncreasing (range_with_len a n)
-range_ascends a n = λ k lt.
-    let len = length-range_with_len a n in
-    omega (arith, get_or-range_with_len a n k 0 (omega (arith, len, lt)), get_or-range_with_len a n (k + 1) 0 (omega (arith, len, lt)))
 
 -- ---- what is listed
 
@@ -51,14 +48,14 @@ later x xs y c = (suc c.0, omega (arith, c.1), c.2)
 first : {X : Type 0} (x : X) (xs : List X) (y : X) → x ≡ y → Contains (x ∷ xs) y
 first x xs y e = (0, omega arith, e)
 
-in_range : (a n b : ℕ) → Contains (range_with_len a n) b → (a ≤ b) × (b < a + n)
+pub in_range : (a n b : ℕ) → Contains (range_with_len a n) b → (a ≤ b) × (b < a + n)
 in_range a n b c =
     let lt : c.0 < n = omega (arith, c.1, length-range_with_len a n) in
     let is : get_or (range_with_len a n) c.0 b ≡ a + c.0 = get_or-range_with_len a n c.0 b lt in
     let e : get_or (range_with_len a n) c.0 b ≡ b = c.2 in
     (omega (arith, is, e), omega (arith, is, e, lt))
 
-of_range : (a n b : ℕ) → a ≤ b → b < a + n → Contains (range_with_len a n) b
+pub of_range : (a n b : ℕ) → a ≤ b → b < a + n → Contains (range_with_len a n) b
 of_range a n b low high =
     let lt : b - a < n = omega arith in
     let len = length-range_with_len a n in
@@ -117,13 +114,6 @@ is_free cap taken b =
       ]),
     )
 
-range_push : (a n : ℕ) → range_with_len a (n + 1) ≡ range_with_len a n ++ (a + n) ∷ []
-range_push a zero = ap (λ (x : ℕ). x ∷ []) (sym (add-zero a))
-range_push a (suc n) =
-    let k : suc n + 1 ≡ suc (n + 1) = omega arith in
-    let e : a + 1 + n ≡ a + suc n = omega arith in
-    ap (range_with_len a) k ∙ ap (λ (l : List ℕ). a ∷ l) (range_push (a + 1) n ∙ ap (λ (x : ℕ). range_with_len (a + 1) n ++ x ∷ []) e)
-
 -- one more number of a range
 pub range_more : (a b : ℕ) → a ≤ b → range_with_len a (b + 1 - a) ≡ range_with_len a (b - a) ++ b ∷ []
 range_more a b le =
@@ -149,14 +139,14 @@ free_taken cap taken h =
 
 -- ---- blocks of a table
 
-in_piece : {X A : Type 0} (f : X → List A) (xs : List X) (x : X) (y : A) → Contains xs x → Contains (f x) y → Contains (flat_map f xs) y
+pub in_piece : {X A : Type 0} (f : X → List A) (xs : List X) (x : X) (y : A) → Contains xs x → Contains (f x) y → Contains (flat_map f xs) y
 in_piece f [] x y c d = absurd (omega (arith, c.1))
 in_piece f (z ∷ xs) x y c d = elim (cons_cases z xs x c.0 c.1 c.2) [
   | inl e ↦ Contains-append_left (f z) (flat_map f xs) y (subst (λ (w : _). Contains (f w) y) (sym e) d)
   | inr t ↦ Contains-append_right (f z) (flat_map f xs) y (in_piece f xs x y t d)
 ]
 
-some_piece : {X A : Type 0} (f : X → List A) (xs : List X) (y : A) → Contains (flat_map f xs) y → Any (λ x. Contains (f x) y) xs
+pub some_piece : {X A : Type 0} (f : X → List A) (xs : List X) (y : A) → Contains (flat_map f xs) y → Any (λ x. Contains (f x) y) xs
 some_piece f [] y c = absurd (omega (arith, c.1))
 some_piece f (x ∷ xs) y c = elim (Contains-append_cases (f x) (flat_map f xs) y c) [
   | inl h ↦ (0, x, omega arith, refl, h)
