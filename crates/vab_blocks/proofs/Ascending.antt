@@ -91,7 +91,7 @@ more_ascends (x ∷ y ∷ xs) a n up below =
     let step : x < y = up 0 (omega arith) in
     cons_ascends x (y ∷ xs ++ range_with_len a n) (λ _. step)
     (more_ascends (y ∷ xs) a n (rest_ascends x (y ∷ xs) up)
-      (All-tail (λ (b : ℕ). b < a) x (y ∷ xs) below))
+    (All-tail (λ (b : ℕ). b < a) x (y ∷ xs) below))
 
 -- a number of the front is below one of the back
 pub across : (xs ys : List ℕ) (x y : ℕ)
@@ -153,8 +153,8 @@ runs_ascend (run ∷ runs) some up =
     let rest : All P runs = All-tail P run runs some in
     let last = range_has run.0 run.1 (run.0 + run.1 - 1) (omega (arith, here)) (omega (arith, here)) in
     let above : All (R run) runs = λ k d lt.
-        let full : 0 < (get_or runs k d).1 = rest k d lt in
-        let first = run_has runs k d (get_or runs k d).0 lt (omega arith) (omega (arith, full)) in
-        let step = across front (blocks_of_runs runs) _ _ up last first in
-        omega (arith, step, here) in
+    let full : 0 < (get_or runs k d).1 = rest k d lt in
+    let first = run_has runs k d (get_or runs k d).0 lt (omega arith) (omega (arith, full)) in
+    let step = across front (blocks_of_runs runs) _ _ up last first in
+    omega (arith, step, here) in
     AllPairs-cons R run runs above (runs_ascend runs rest (back_ascends front (blocks_of_runs runs) up))

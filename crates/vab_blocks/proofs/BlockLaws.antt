@@ -1,10 +1,10 @@
 -- Laws of lists of blocks.
-use Rattle.std.proofs.Common.{◌≡◌, ℕ, zero, suc, ◌+◌, ◌-◌, ◌*◌, ◌<◌, ◌≤◌, Bool, true, false, cond, not, eqb, List, [], ◌∷◌, ◌++◌, length, get_or, take, drop, refl, sym, ap, subst, ◌∙◌, ◌⊎◌, inl, inr, add-zero, arith}
+use Rattle.std.proofs.Common.{leb, ltb, ◌≡◌, ℕ, zero, suc, ◌+◌, ◌-◌, ◌*◌, ◌<◌, ◌≤◌, Bool, true, false, cond, not, eqb, List, [], ◌∷◌, ◌++◌, length, get_or, take, drop, refl, sym, ap, subst, ◌∙◌, ◌⊎◌, inl, inr, add-zero, arith}
 use Rattle.std.specs.Prelude.{◌↔◌, All, Any, Contains}
 use Rattle.std.specs.List.{flat_map, filter, list_any, range_with_len}
 use Rattle.std.specs.List.Sorted.{IsStrictlyIncreasing}
 use Rattle.std.specs.Str.{bytes_eq}
-use Rattle.std.proofs.lemmas.Bool.{cases_lt, cases_eq, cases_Bool, eqb-true, eq-eqb, both_ways, not-true, not_from_false}
+use Rattle.std.proofs.lemmas.Bool.{ltb-true, lt-ltb, leb-true, cases_lt, cases_eq, cases_Bool, eqb-true, eq-eqb, both_ways, not-true, not_from_false}
 use Rattle.std.proofs.lemmas.List.{append-nil, length-take, get_or-take, get_or_default}
 use Rattle.std.proofs.lemmas.List.Elements.{All-contains, All-filter, All-contains_itself, All-take, All-drop, filter_passes, filter-append, Contains-append_left, Contains-append_right, Contains-append_cases}
 use Rattle.std.proofs.lemmas.List.Folds.{list_any_at, Any-from_list_any}
@@ -217,3 +217,34 @@ has_block_below t names b keeps h =
     let covers = subst (λ (s : ℕ). Covers s e.1 b) at e.4 in
     let end : e.1.first_sector + e.1.sectors ≤ d.first_logical_sector + 8 * cap_of d = is.below in
     omega (arith, covers.1, end)
+
+-- ---- tests
+
+-- a test that passes exactly where the number is among these
+pub test_is : (t : Bool) (xs : List ℕ) (b : ℕ)
+    → (t ≡ true → Contains xs b)
+    → (Contains xs b → t ≡ true)
+    → t ≡ list_any (λ x. eqb x b) xs
+test_is t xs b there only = elim (cases_Bool t) [
+  | inl pass ↦ pass ∙ sym (listed_then xs b (there pass))
+  | inr fail ↦ elim (cases_Bool (list_any (λ x. eqb x b) xs)) [
+    | inl listed ↦ absurd (both_ways t fail (only (listed_once xs b listed)))
+    | inr other ↦ fail ∙ sym other
+  ]
+]
+
+pub at_run : (f c b : ℕ)
+    → f ≤ b
+    → ltb (b - f) c ≡ list_any (λ x. eqb x b) (range_with_len f c)
+at_run f c b low =
+    test_is (ltb (b - f) c) (range_with_len f c) b
+    (λ t. of_range f c b low (omega (arith, low, ltb-true _ _ t)))
+    (λ there. lt-ltb _ _ (omega (arith, low, (in_range f c b there).1)))
+
+pub before_run : (f c b : ℕ)
+    → b < f
+    → leb f b ≡ list_any (λ x. eqb x b) (range_with_len f c)
+before_run f c b low =
+    test_is (leb f b) (range_with_len f c) b
+    (λ t. absurd (omega (arith, low, leb-true _ _ t)))
+    (λ there. absurd (omega (arith, low, (in_range f c b there).0)))

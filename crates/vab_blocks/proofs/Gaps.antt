@@ -121,11 +121,11 @@ gap_is cap taken i free new at to g within above past pushed = elim (cases_lt to
       let start : min at cap ≡ at = omega (arith, under, within) in
       let sum : at + (to - at) ≡ to = omega (arith, under) in
       let absent : (x : ℕ) → at ≤ x → x < at + (to - at) → Contains taken x → ⊥ = λ x low high.
-          not_taken cap taken i free at x g low
-          (λ k d le lt. omega (arith, above k d le lt, high, sum)) in
+      not_taken cap taken i free at x g low
+      (λ k d le lt. omega (arith, above k d le lt, high, sum)) in
       pushed
       ∙ ap (λ (l : List ℕ). l ++ range_with_len at (to - at))
-        (g.made ∙ ap (λ (k : ℕ). free_below k taken) start)
+      (g.made ∙ ap (λ (k : ℕ). free_below k taken) start)
       ∙ sym (free_between at (to - at) taken absent)
       ∙ ap (λ (k : ℕ). free_below k taken) sum
 ]
@@ -146,22 +146,22 @@ next_gap cap taken i free new at run up g lt is pushed =
     let here : (d : ℕ × ℕ) → get_or rs i d ≡ run = λ d. get_or_default rs i d run lt ∙ sym is in
     let first : (d : ℕ × ℕ) → (get_or rs i d).0 ≡ run.0 = λ d. ap (λ (q : ℕ × ℕ). q.0) (here d) in
     let end : (d : ℕ × ℕ) → (get_or rs i d).0 + (get_or rs i d).1 ≡ run.0 + run.1 = λ d.
-        ap (λ (q : ℕ × ℕ). q.0 + q.1) (here d) in
+    ap (λ (q : ℕ × ℕ). q.0 + q.1) (here d) in
     let to : ℕ = min run.0 cap in
     let begun : at ≤ run.0 = omega (arith, g.begins i run (omega arith) lt, first run) in
     let above : (k : ℕ) (d : ℕ × ℕ) → i ≤ k → k < length rs → run.0 ≤ (get_or rs k d).0 = λ k d le len.
-        elim (cases_eq i k) [
-          | inl e ↦ omega (arith, first d, ap (λ (j : ℕ). (get_or rs j d).0) e)
-          | inr ne ↦ omega (arith, order i k d (omega (arith, ne, le)) len, end d)
-        ] in
+    elim (cases_eq i k) [
+      | inl e ↦ omega (arith, first d, ap (λ (j : ℕ). (get_or rs j d).0) e)
+      | inr ne ↦ omega (arith, order i k d (omega (arith, ne, le)) len, end d)
+    ] in
     let gap : new ≡ free_below to taken =
     gap_is cap taken i free new at to g (omega arith)
     (λ k d le len. omega (arith, above k d le len)) (λ passed. omega (arith, passed, begun)) pushed in
     let rest : ℕ = min (run.0 + run.1) cap - to in
     let sum : to + rest ≡ min (run.0 + run.1) cap = omega arith in
     let own : (x : ℕ) → to ≤ x → x < to + rest → Contains taken x = λ x low high.
-        subst (λ (l : List ℕ). Contains l x) (runs_again taken)
-        (run_has rs i run x lt (omega (arith, first run, low, high, sum)) (omega (arith, end run, high, sum))) in
+    subst (λ (l : List ℕ). Contains l x) (runs_again taken)
+    (run_has rs i run x lt (omega (arith, first run, low, high, sum)) (omega (arith, end run, high, sum))) in
     record {
       made = gap ∙ sym (free_within to rest taken own) ∙ ap (λ (k : ℕ). free_below k taken) sum;
       ends = λ k d less len. elim (cases_eq k i) [
@@ -189,8 +189,8 @@ pub free_is_ascending : (cap : ℕ) (taken : List ℕ) → cap < 2 ^ 64 → IsAs
 free_is_ascending cap taken lt =
     let xs : List ℕ = free_below cap taken in
     let below : All (λ b. b < cap) xs = λ k d less.
-        let b : ℕ = get_or xs k d in
-        ((is_free cap taken b).0 (k, less, get_or_default xs k b d less)).0 in
+    let b : ℕ = get_or xs k d in
+    ((is_free cap taken b).0 (k, less, get_or_default xs k b d less)).0 in
     record {
       ascends = free_ascends cap taken;
       few = omega (arith, few_below xs cap (free_ascends cap taken) below, lt);

@@ -1,21 +1,23 @@
 -- Runs that are merged into an ascending list, in the order of their first numbers.
-use Rattle.std.proofs.Common.{◌≡◌, ℕ, ◌+◌, ◌-◌, ◌^◌, ◌<◌, ◌≤◌, List, [], ◌++◌, length, get_or, take}
+use Rattle.std.proofs.Common.{Bool, eqb, ◌≡◌, ℕ, ◌+◌, ◌-◌, ◌^◌, ◌<◌, ◌≤◌, List, [], ◌++◌, length, get_or, take}
 use Rattle.std.proofs.Common.{refl, sym, ap, subst, ◌∙◌, inl, inr, arith}
 use Rattle.std.specs.Prelude.{◌↔◌, max, All, Contains}
-use Rattle.std.specs.List.{range_with_len}
-use Rattle.std.specs.List.Sorted.{IsNonDecreasingBy, IsStrictlyIncreasing}
+use Rattle.std.specs.List.{list_any, range_with_len}
+use Rattle.std.specs.List.Sorted.{IsNonDecreasingBy, IsPermutation, IsStrictlyIncreasing}
+use Rattle.std.proofs.lemmas.List.Sorted.{list_any-IsPermutation}
 use Rattle.std.proofs.lemmas.Bool.{cases_lt}
 use Rattle.std.proofs.lemmas.List.{take_all, get_or_default}
 use Rattle.std.proofs.lemmas.List.Elements.{All-nil, All-append, All-weaker, Contains-append_left}
 use Rattle.std.proofs.lemmas.List.Elements.{Contains-append_right, Contains-append_cases}
 use Rattle.vab_blocks.specs.Runs.{blocks_of_runs, IsAscending}
-use Rattle.vab_blocks.proofs.BlockLaws.{in_range, of_range}
+use Rattle.vab_blocks.proofs.BlockLaws.{in_range, listed_once, listed_then, of_range}
 use Rattle.vab_blocks.proofs.Ascending.{few_below, more_ascends}
-use Rattle.vab_blocks.proofs.Pieces.{blocks_before}
+use Rattle.vab_blocks.proofs.Pieces.{any_runs, blocks_before}
 
 -- The numbers of the runs in front of a place, which are below the end of the furthest of them;
 -- from the first of the last run on all numbers below that end are among them.
 pub record Merged (runs : List (ℕ × ℕ)) (i : ℕ) (all : List ℕ) (end : ℕ) : Type 0 where
+  pub fits : end < 2 ^ 64
   pub up : IsStrictlyIncreasing all
   pub below : All (λ b. b < end) all
   pub listed : (b : ℕ) → Contains all b ↔ Contains (blocks_of_runs (take i runs)) b
@@ -23,6 +25,7 @@ pub record Merged (runs : List (ℕ × ℕ)) (i : ℕ) (all : List ℕ) (end : �
 
 pub none_merged : (runs : List (ℕ × ℕ)) (all : List ℕ) → all ≡ [] → Merged runs 0 all 0
 none_merged runs all none = record {
+  fits = omega arith;
   up = λ k lt. absurd (omega (arith, lt, ap length none));
   below = λ k d lt. absurd (omega (arith, lt, ap length none));
   listed = λ b. (
@@ -67,9 +70,10 @@ pub more_merged : (runs : List (ℕ × ℕ)) (i : ℕ) (all new : List ℕ) (end
     → i < length runs
     → run ≡ get_or runs i run
     → end < run.0 + run.1
+    → run.0 + run.1 < 2 ^ 64
     → new ≡ all ++ range_with_len (max run.0 end) (run.0 + run.1 - max run.0 end)
     → Merged runs (i + 1) new (run.0 + run.1)
-more_merged runs i all new end run up m lt at higher is =
+more_merged runs i all new end run up m lt at higher fits is =
     let t = taken runs i all end run up m lt at in
     let from : ℕ = max run.0 end in
     let until : ℕ = run.0 + run.1 in
@@ -77,19 +81,20 @@ more_merged runs i all new end run up m lt at higher is =
     let front : List ℕ = blocks_of_runs (take i runs) in
     let own : List ℕ = range_with_len run.0 run.1 in
     let covered : (b : ℕ) → run.0 ≤ b → b < until → Contains (all ++ more) b = λ b low high.
-        elim (cases_lt b end) [
-          | inl under ↦ Contains-append_left all more b (t.cover b low under)
-          | inr over ↦
-              Contains-append_right all more b
-              (of_range from (until - from) b (omega (arith, low, over)) (omega (arith, high, higher)))
-        ] in
+    elim (cases_lt b end) [
+      | inl under ↦ Contains-append_left all more b (t.cover b low under)
+      | inr over ↦
+          Contains-append_right all more b
+          (of_range from (until - from) b (omega (arith, low, over)) (omega (arith, high, higher)))
+    ] in
     let Low : ℕ → Type 0 = λ b. b < until in
     let inside : All Low more = λ k d less.
-        let c = in_range from (until - from) (get_or more k d) (k, less, get_or_default more k _ d less) in
-        omega (arith, c.1, higher) in
+    let c = in_range from (until - from) (get_or more k d) (k, less, get_or_default more k _ d less) in
+    omega (arith, c.1, higher) in
     let lower : All (λ b. b < from) all =
     All-weaker (λ b. b < end) (λ b. b < from) (λ b h. omega (arith, h)) all m.below in
     record {
+      fits = fits;
       up = subst IsStrictlyIncreasing (sym is) (more_ascends all from (until - from) m.up lower);
       below = subst (All Low) (sym is)
           (All-append Low all more (All-weaker (λ b. b < end) Low (λ b h. omega (arith, h, higher)) all m.below) inside);
@@ -126,6 +131,7 @@ same_merged runs i all end run up m lt at lower =
     let front : List ℕ = blocks_of_runs (take i runs) in
     let own : List ℕ = range_with_len run.0 run.1 in
     record {
+      fits = m.fits;
       up = m.up;
       below = m.below;
       listed = λ b. (
@@ -142,11 +148,10 @@ same_merged runs i all end run up m lt at lower =
 
 pub all_ascend : (runs : List (ℕ × ℕ)) (i : ℕ) (all : List ℕ) (end : ℕ)
     → Merged runs i all end
-    → end < 2 ^ 64
     → IsAscending all
-all_ascend runs i all end m lt = record {
+all_ascend runs i all end m = record {
   ascends = m.up;
-  few = omega (arith, few_below all end m.up m.below, lt);
+  few = omega (arith, few_below all end m.up m.below, m.fits);
 }
 
 pub all_listed : (runs : List (ℕ × ℕ)) (i : ℕ) (all : List ℕ) (end : ℕ)
@@ -159,4 +164,17 @@ all_listed runs i all end m le b =
     let l = m.listed b in (
       λ c. subst (λ (xs : List ℕ). Contains xs b) whole (l.0 c),
       λ c. l.1 (subst (λ (xs : List ℕ). Contains xs b) (sym whole) c),
+    )
+
+-- runs in another order have the same blocks
+pub same_listed : (xs ys : List (ℕ × ℕ)) (b : ℕ)
+    → IsPermutation xs ys
+    → Contains (blocks_of_runs xs) b ↔ Contains (blocks_of_runs ys) b
+same_listed xs ys b moved =
+    let p : ℕ → Bool = λ x. eqb x b in
+    let test : ℕ × ℕ → Bool = λ run. list_any p (range_with_len run.0 run.1) in
+    let same : list_any p (blocks_of_runs xs) ≡ list_any p (blocks_of_runs ys) =
+    any_runs p xs ∙ list_any-IsPermutation test xs ys moved ∙ sym (any_runs p ys) in (
+      λ c. listed_once (blocks_of_runs ys) b (sym same ∙ listed_then (blocks_of_runs xs) b c),
+      λ c. listed_once (blocks_of_runs xs) b (same ∙ listed_then (blocks_of_runs ys) b c),
     )

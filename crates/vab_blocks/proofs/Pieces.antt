@@ -18,16 +18,18 @@ use Rattle.vab_blocks.proofs.RunLaws.{runs_again}
 
 pub drop_run : (f c s : ℕ) (rest : List ℕ)
     → drop s (range_with_len f c ++ rest)
-      ≡ range_with_len (f + min s c) (c - min s c) ++ drop (s - min s c) rest
+    ≡ range_with_len (f + min s c) (c - min s c) ++ drop (s - min s c) rest
 drop_run f zero s rest =
     let k : s - min s 0 ≡ s = omega arith in
     let none : 0 - min s 0 ≡ 0 = omega arith in
     ap (λ (i : ℕ). drop i rest) (sym k)
     ∙ ap (λ (i : ℕ). range_with_len (f + min s 0) i ++ drop (s - min s 0) rest) (sym none)
 drop_run f (suc c) zero rest =
-    let k : min 0 (suc c) ≡ 0 = omega arith in
+    let k : 0 ≡ min 0 (suc c) = omega arith in
+    let whole : suc c ≡ suc c - 0 = omega arith in
     ap (λ (i : ℕ). range_with_len i (suc c) ++ rest) (sym (add-zero f))
-    ∙ ap (λ (i : ℕ). range_with_len (f + i) (suc c - i) ++ drop (0 - i) rest) (sym k)
+    ∙ ap (λ (i : ℕ). range_with_len (f + 0) i ++ rest) whole
+    ∙ ap (λ (i : ℕ). range_with_len (f + i) (suc c - i) ++ drop (0 - i) rest) k
 drop_run f (suc c) (suc s) rest =
     let from : f + 1 + min s c ≡ f + min (suc s) (suc c) = omega arith in
     let many : c - min s c ≡ suc c - min (suc s) (suc c) = omega arith in
@@ -39,7 +41,7 @@ drop_run f (suc c) (suc s) rest =
 
 pub take_run : (f c n : ℕ) (rest : List ℕ)
     → take n (range_with_len f c ++ rest)
-      ≡ range_with_len f (min n c) ++ take (n - min n c) rest
+    ≡ range_with_len f (min n c) ++ take (n - min n c) rest
 take_run f zero n rest =
     let none : 0 ≡ min n 0 = omega arith in
     let k : n ≡ n - min n 0 = omega arith in
@@ -62,7 +64,7 @@ pub part_run : (f c s n p t : ℕ) (rest : List ℕ)
     → p ≡ min s c
     → t ≡ min n (c - p)
     → take n (drop s (range_with_len f c ++ rest))
-      ≡ range_with_len (f + p) t ++ take (n - t) (drop (s - p) rest)
+    ≡ range_with_len (f + p) t ++ take (n - t) (drop (s - p) rest)
 part_run f c s n p t rest ep et =
     ap (take n) (drop_run f c s rest)
     ∙ ap (λ (i : ℕ). take n (range_with_len (f + i) (c - i) ++ drop (s - i) rest)) (sym ep)
@@ -75,8 +77,8 @@ part_run f c s n p t rest ep et =
 pub blocks_from : (runs : List (ℕ × ℕ)) (i : ℕ) (d : ℕ × ℕ)
     → i < length runs
     → blocks_of_runs (drop i runs)
-      ≡ range_with_len (get_or runs i d).0 (get_or runs i d).1
-        ++ blocks_of_runs (drop (i + 1) runs)
+    ≡ range_with_len (get_or runs i d).0 (get_or runs i d).1
+    ++ blocks_of_runs (drop (i + 1) runs)
 blocks_from runs i d lt =
     let s : suc i ≡ i + 1 = omega arith in
     ap blocks_of_runs
@@ -86,7 +88,7 @@ blocks_from runs i d lt =
 pub blocks_before : (runs : List (ℕ × ℕ)) (i : ℕ) (d : ℕ × ℕ)
     → i < length runs
     → blocks_of_runs (take (i + 1) runs)
-      ≡ blocks_of_runs (take i runs) ++ range_with_len (get_or runs i d).0 (get_or runs i d).1
+    ≡ blocks_of_runs (take i runs) ++ range_with_len (get_or runs i d).0 (get_or runs i d).1
 blocks_before runs i d lt =
     let g : ℕ × ℕ → List ℕ = λ run. range_with_len run.0 run.1 in
     let run : ℕ × ℕ = get_or runs i d in
@@ -97,7 +99,7 @@ blocks_before runs i d lt =
 pub length_before : (runs : List (ℕ × ℕ)) (i : ℕ) (d : ℕ × ℕ)
     → i < length runs
     → length (blocks_of_runs (take (i + 1) runs))
-      ≡ length (blocks_of_runs (take i runs)) + (get_or runs i d).1
+    ≡ length (blocks_of_runs (take i runs)) + (get_or runs i d).1
 length_before runs i d lt =
     let run : ℕ × ℕ = get_or runs i d in
     omega (
@@ -161,7 +163,7 @@ part_done xs new whole i s n le is =
 
 pub any_runs : (p : ℕ → Bool) (runs : List (ℕ × ℕ))
     → list_any p (blocks_of_runs runs)
-      ≡ list_any (λ run. list_any p (range_with_len run.0 run.1)) runs
+    ≡ list_any (λ run. list_any p (range_with_len run.0 run.1)) runs
 any_runs p [] = refl
 any_runs p (run ∷ runs) =
     list_any-append p (range_with_len run.0 run.1) (blocks_of_runs runs)

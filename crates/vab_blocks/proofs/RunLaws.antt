@@ -1,9 +1,9 @@
 -- Laws of maximal runs.
-use Rattle.std.proofs.Common.{◌≡◌, ◌≢◌, ℕ, zero, suc, ◌+◌, ◌-◌, ◌^◌, ◌<◌, ◌≤◌, Bool, cond, append_assoc, List, [], ◌∷◌, ◌++◌, length, get_or, take, drop, refl, sym, ap, subst, ◌∙◌, inl, inr, add-zero, add-one, arith}
+use Rattle.std.proofs.Common.{true, false, ◌≡◌, ◌≢◌, ℕ, zero, suc, ◌+◌, ◌-◌, ◌^◌, ◌<◌, ◌≤◌, Bool, cond, append_assoc, List, [], ◌∷◌, ◌++◌, length, get_or, take, drop, refl, sym, ap, subst, ◌∙◌, inl, inr, add-zero, add-one, arith}
 use Rattle.std.specs.Prelude.{◌==◌, if◌then◌else◌, All}
 use Rattle.std.specs.List.{range_with_len}
-use Rattle.std.proofs.lemmas.Bool.{cases_eq, eq-eqb, ne_eqb}
-use Rattle.std.proofs.lemmas.List.{take-append-drop, length-drop, get_or-drop}
+use Rattle.std.proofs.lemmas.Bool.{both_ways, cases_eq, eq-eqb, eqb-true, ne_eqb}
+use Rattle.std.proofs.lemmas.List.{take-append-drop, length-drop, get_or-drop, get_or_default}
 use Rattle.std.proofs.lemmas.List.Elements.{All-nil, All-cons, All-head, All-tail}
 use Rattle.std.proofs.Math.ListN.{set}
 use Rattle.vab_blocks.specs.Runs.{in_front, runs_of, blocks_of_runs, AreMaximal}
@@ -418,7 +418,7 @@ grown_is (run ∷ next ∷ runs) f c a n some at e =
 -- no run ends there, and one more stands behind them
 pub added_is : (runs : List (ℕ × ℕ)) (d : ℕ × ℕ) (a n : ℕ)
     → (0 < length runs
-      → a ≢ (get_or runs (length runs - 1) d).0 + (get_or runs (length runs - 1) d).1)
+    → a ≢ (get_or runs (length runs - 1) d).0 + (get_or runs (length runs - 1) d).1)
     → runs ++ (a, n) ∷ [] ≡ behind_run runs a n
 added_is [] d a n off = refl
 added_is ((f, c) ∷ []) d a n off = sym (follows_last f c a n (off (omega arith)))
@@ -428,3 +428,59 @@ added_is (run ∷ next ∷ runs) d a n off =
     let Off : ℕ → Type 0 = λ i. a ≢ (get_or all i d).0 + (get_or all i d).1 in
     let there = subst Off k (off (omega arith)) in
     ap (λ (l : List (ℕ × ℕ)). run ∷ l) (added_is (next ∷ runs) d a n (λ _. there))
+
+pub none_maximal : (runs : List (ℕ × ℕ)) → runs ≡ [] → AreMaximal runs
+unfolding runs_of
+none_maximal runs none =
+    let P : ℕ × ℕ → Type 0 = λ run. run.0 + run.1 < 2 ^ 64 in
+    let nothing : AreMaximal [] = record { maximal = refl; fit = All-nil P } in
+    subst AreMaximal (sym none) nothing
+
+-- no run, no block
+pub no_run : (runs : List (ℕ × ℕ))
+    → AreMaximal runs
+    → blocks_of_runs runs ≡ []
+    → runs ≡ []
+unfolding runs_of
+no_run runs m none = sym m.maximal ∙ ap runs_of none
+
+-- The last run grows, where it was read and then written.
+pub grown : (runs : List (ℕ × ℕ)) (read write : ℕ × ℕ) (len a n : ℕ)
+    → len ≡ length runs
+    → 0 < len
+    → read ≡ get_or runs (len - 1) read
+    → write ≡ get_or runs (len - 1) write
+    → (a == read.0 + read.1) ≡ true
+    → set runs (len - 1) (write.0, write.1 + n) ≡ behind_run runs a n
+grown runs read write len a n is some at1 at2 touches =
+    let k : len - 1 ≡ length runs - 1 = omega (arith, is) in
+    let lt : len - 1 < length runs = omega (arith, is, some) in
+    let same : read ≡ write = at1 ∙ get_or_default runs (len - 1) read write lt ∙ sym at2 in
+    let last : get_or runs (length runs - 1) (write.0, write.1) ≡ (write.0, write.1) =
+    ap (λ (i : ℕ). get_or runs i write) (sym k) ∙ sym at2 in
+    let end : a ≡ write.0 + write.1 =
+    eqb-true _ _ touches ∙ ap (λ (r : ℕ × ℕ). r.0 + r.1) same in
+    ap (λ (i : ℕ). set runs i (write.0, write.1 + n)) k
+    ∙ grown_is runs write.0 write.1 a n (omega (arith, is, some)) last end
+
+-- one more stands behind them, where the last was read
+pub added : (runs : List (ℕ × ℕ)) (read : ℕ × ℕ) (len a n : ℕ)
+    → len ≡ length runs
+    → read ≡ get_or runs (len - 1) read
+    → (a == read.0 + read.1) ≡ false
+    → runs ++ (a, n) ∷ [] ≡ behind_run runs a n
+added runs read len a n is at off =
+    added_is runs read a n (λ some e.
+    let k : len - 1 ≡ length runs - 1 = omega (arith, is) in
+    let last : get_or runs (length runs - 1) read ≡ read =
+    ap (λ (i : ℕ). get_or runs i read) (sym k) ∙ sym at in
+    let end : a ≡ read.0 + read.1 = e ∙ ap (λ (r : ℕ × ℕ). r.0 + r.1) last in
+    both_ways (a == read.0 + read.1) off (eq-eqb _ _ end))
+
+-- the first run
+pub added_first : (runs : List (ℕ × ℕ)) (len a n : ℕ)
+    → len ≡ length runs
+    → len ≤ 0
+    → runs ++ (a, n) ∷ [] ≡ behind_run runs a n
+added_first runs len a n is none =
+    added_is runs (0, 0) a n (λ some. absurd (omega (arith, some, is, none)))

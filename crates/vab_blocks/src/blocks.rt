@@ -111,16 +111,6 @@ impl Blocks {
         Ok(blocks)
     }
 
-    /// The blocks behind the first `n`. `NoMemory` where memory is refused.
-    pub fn skip(&self, alloc: Global, n: u64) -> Result<Blocks, NoMemory>
-        requires { length self.now < 2 ^ 64 }
-        ensures { IfOk result (λ b. b ≡ drop n self.now) }
-    {
-        let mut blocks = Blocks::new(alloc);
-        blocks.append_part(self, n, self.len())?;
-        Ok(blocks)
-    }
-
     /// How many blocks there are.
     pub fn len(&self) -> u64
         requires { length self.now < 2 ^ 64 }
@@ -144,7 +134,7 @@ impl Blocks {
     pub fn contains(&self, block: u64) -> bool
         ensures { result ≡ list_any (λ b. b == block) self.now }
     {
-        self.runs().iter().any(|run| has(*run, block))
+        any_has(self.runs(), block)
     }
 
     /// The maximal runs of the blocks, in their order: pairs of a first block and how many there
@@ -162,6 +152,14 @@ fn touches(run: (u64, u64), first: u64) -> bool
     ensures { result ≡ (first == run.0 + run.1) }
 {
     first.checked_sub(run.0) == Some(run.1)
+}
+
+// Whether the block is one of the runs.
+fn any_has(runs: &[(u64, u64)], block: u64) -> bool
+    ensures { result
+        ≡ list_any (λ run. list_any (λ b. b == block) (range_with_len run.0 run.1)) runs.now }
+{
+    runs.iter().any(|run| has(*run, block))
 }
 
 // Whether the block is one of the run.

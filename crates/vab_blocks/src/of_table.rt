@@ -21,9 +21,7 @@ impl Runs {
     pub fn of_table(alloc: Global, table: &Table, names: &[Name36]) -> Result<Runs, NoMemory>
         requires { KeepsRules table.now }
         ensures ascends { IfOk result (λ r. IsStrictlyIncreasing r) }
-        ensures listed {
-            IfOk result (λ r. (b : ℕ) → Contains r b ↔ HasBlock table.now names.now b)
-        }
+        ensures listed { IfOk result (λ r. (b : ℕ) → Contains r b ↔ HasBlock table.now names.now b) }
     {
         let first = table.first_sector();
         let mut blocks = Blocks::new(alloc);
@@ -41,10 +39,8 @@ impl Blocks {
     /// is refused, `NoMemory`, a part of them may be written.
     pub fn push_extents(&mut self, first_sector: u64, extents: &[Extent]) -> Result<(), NoMemory>
         requires { All (λ e. first_sector ≤ e.first_sector) extents.now }
-        ensures {
-            OnOk result (self.new ≡
-                self.old ++ flat_map (blocks_of_extent first_sector) extents.now)
-        }
+        ensures { OnOk result (self.new ≡
+            self.old ++ flat_map (blocks_of_extent first_sector) extents.now) }
     {
         for extent in extents {
             let from = (extent.first_sector - first_sector) / BLOCK;

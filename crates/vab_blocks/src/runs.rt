@@ -1,10 +1,12 @@
 //! Ascending numbers of blocks.
 
-ghost use Rattle.std.specs.Prelude.{◌≡◌, ◌↔◌, ◌==◌, ℕ, ◌+◌, ◌<◌, ◌^◌, nat_lt, if◌then◌else◌, length, take, IfOk, IfSome, IsTrue, Some, None, Contains, All};
-ghost use Rattle.std.specs.List.{list_any};
+ghost use Rattle.std.specs.Prelude.{◌≡◌, ◌↔◌, ◌==◌, ℕ, ◌+◌, ◌-◌, ◌<◌, ◌^◌, ◌++◌, nat_lt};
+ghost use Rattle.std.specs.Prelude.{if◌then◌else◌, length, take, All, Contains, IfOk, IfSome, OnOk};
+ghost use Rattle.std.specs.Prelude.{IsTrue, Some, None};
+ghost use Rattle.std.specs.List.{list_any, range_with_len};
 ghost use Rattle.std.specs.List.Sorted.{IsNonDecreasingBy, IsStrictlyIncreasing};
 ghost use Rattle.vab_blocks.specs.Blocks.{free_below};
-ghost use Rattle.vab_blocks.specs.Runs.{blocks_of_runs, IsAscending};
+ghost use Rattle.vab_blocks.specs.Runs.{blocks_of_runs, runs_of, IsAscending};
 
 use crate::blocks::Blocks;
 use std::alloc::Global;

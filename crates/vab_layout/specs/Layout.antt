@@ -1,5 +1,6 @@
 -- A table as lists of blocks, and the table of such lists.
-use Rattle.std.specs.Prelude.{ℕ, ◌+◌, ◌*◌, List, [], ◌∷◌, length, map, drop, position, unwrap_or}
+use Rattle.std.specs.Prelude.{ℕ, ◌+◌, ◌*◌, ◌<◌, ◌^◌, List, [], ◌∷◌, length, map, drop, sum_by}
+use Rattle.std.specs.Prelude.{position, unwrap_or, All}
 use Rattle.std.specs.List.{flat_map}
 use Rattle.std.specs.Str.{bytes_eq}
 use Rattle.vab_tables.specs.declared.entries.Partition.{Partition}
@@ -10,7 +11,7 @@ use Rattle.vab_tables.specs.declared.table.Table.{Table}
 use Rattle.vab_blocks.specs.Blocks.{first_sector_of, extents_of, blocks_of_extent}
 use Rattle.vab_layout.specs.declared.layout.Part.{Part}
 use Rattle.vab_layout.specs.declared.layout.Layout.{Layout}
-use Rattle.vab_layout.specs.Runs.{runs_of}
+use Rattle.vab_blocks.specs.Runs.{runs_of}
 
 -- ---- what a table says
 
@@ -75,3 +76,11 @@ table_of l = record {
 -- the blocks of partitions, one after another
 abbrev pub blocks_of_parts : List Part → List ℕ
 blocks_of_parts parts = flat_map (λ p. p.blocks) parts
+
+-- the runs of partitions together
+abbrev pub runs_in : List Part → ℕ
+runs_in parts = sum_by (λ p. length (runs_of p.blocks)) parts
+
+-- the ends of all runs of these blocks are numbers of sectors
+abbrev pub RunsFit : ℕ → List ℕ → Type 0
+RunsFit first blocks = All (λ run. first + 8 * (run.0 + run.1) < 2 ^ 64) (runs_of blocks)

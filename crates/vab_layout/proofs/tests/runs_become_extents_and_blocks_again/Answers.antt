@@ -1,7 +1,7 @@
 use Rattle.std.proofs.Common.{◌<◌, ◌≤◌, ◌^◌, length, sum_by, subst, sym, arith}
 use Rattle.vab_layout.specs.declared.layout.Layout.{Layout}
-use Rattle.vab_layout.specs.Runs.{runs_of}
-use Rattle.vab_layout.specs.LayoutLaws.{layout_runs_small}
+use Rattle.vab_blocks.specs.Runs.{runs_of}
+use Rattle.vab_layout.proofs.LayoutLaws.{layout_runs_small}
 use Rattle.vab_layout.proofs.tests.runs_become_extents_and_blocks_again.Goals as goal
 
 pub text_size-size-requires-clause-runs : goal.text_size-size-requires-clause-runs

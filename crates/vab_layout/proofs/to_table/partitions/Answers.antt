@@ -2,9 +2,9 @@ use Rattle.std.proofs.Common.{◌≡◌, ℕ, ◌<◌, List, [], ◌∷◌, ◌+
 use Rattle.std.proofs.lemmas.List.Sums.{sum_by_more}
 use Rattle.vab_tables.specs.declared.entries.Partition.{Partition}
 use Rattle.vab_layout.specs.declared.layout.Part.{Part}
-use Rattle.vab_layout.specs.Runs.{runs_of}
+use Rattle.vab_blocks.specs.Runs.{runs_of}
 use Rattle.vab_layout.specs.Layout.{partitions_from}
-use Rattle.vab_layout.specs.LayoutLaws.{partitions_more}
+use Rattle.vab_layout.proofs.LayoutLaws.{partitions_more}
 use Rattle.vab_layout.proofs.to_table.partitions.Goals as goal
 
 pub loop-part-preserved : goal.loop-part-preserved

@@ -5,7 +5,7 @@ use Rattle.vab_tables.specs.declared.table.Table.{Table}
 use Rattle.vab_layout.specs.declared.layout.Part.{Part}
 use Rattle.vab_layout.specs.declared.layout.Layout.{Layout}
 use Rattle.vab_layout.specs.Layout.{part_of, first_device, layout_of}
-use Rattle.vab_layout.specs.LayoutLaws.{layout_keeps}
+use Rattle.vab_layout.proofs.LayoutLaws.{layout_keeps}
 use Rattle.vab_layout.specs.Rules.{IsLayout}
 use Rattle.vab_layout.proofs.layout.Layout.of_table.Goals as goal
 

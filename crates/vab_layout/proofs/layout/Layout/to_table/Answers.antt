@@ -8,8 +8,8 @@ use Rattle.vab_tables.specs.declared.table.Table.{Table}
 use Rattle.vab_tables.specs.Rules.{KeepsRules}
 use Rattle.vab_layout.specs.declared.layout.Part.{Part}
 use Rattle.vab_layout.specs.declared.layout.Layout.{Layout}
-use Rattle.vab_layout.specs.Layout.{extents_of_part, layout_of, partitions_from, table_of}
-use Rattle.vab_layout.specs.LayoutLaws.{layout_again, layout_fits, runs_in, table_keeps, table_size_is, RunsFit}
+use Rattle.vab_layout.specs.Layout.{extents_of_part, layout_of, partitions_from, runs_in, table_of, RunsFit}
+use Rattle.vab_layout.proofs.LayoutLaws.{layout_again, layout_fits, table_keeps, table_size_is}
 use Rattle.std.specs.Prelude.{All}
 use Rattle.vab_layout.proofs.layout.Layout.to_table.Goals as goal
 

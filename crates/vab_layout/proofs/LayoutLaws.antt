@@ -21,9 +21,9 @@ use Rattle.vab_tables.specs.SpellingLaws.{keeps_as_minor_2}
 use Rattle.vab_blocks.specs.Blocks.{first_sector_of_devices, first_sector_of, extents_of, blocks_of_extent}
 use Rattle.vab_layout.specs.declared.layout.Part.{Part}
 use Rattle.vab_layout.specs.declared.layout.Layout.{Layout}
-use Rattle.vab_layout.specs.Runs.{runs_of}
-use Rattle.vab_layout.specs.RunLaws.{runs_again, runs_some, runs_within, runs_append_few, runs_at_most, runs_of_range}
-use Rattle.vab_layout.specs.Layout.{blocks_of_partition, group_at, part_of, first_device, layout_of, extent_of_run, extents_of_part, index_of, partitions_from, table_of}
+use Rattle.vab_blocks.specs.Runs.{runs_of}
+use Rattle.vab_blocks.proofs.RunLaws.{runs_again, runs_some, runs_within, runs_append_few, runs_at_most, runs_of_range}
+use Rattle.vab_layout.specs.Layout.{blocks_of_partition, group_at, part_of, first_device, layout_of, extent_of_run, extents_of_part, index_of, partitions_from, runs_in, table_of, RunsFit}
 use Rattle.vab_layout.specs.Rules.{names_of_groups, IsPart, IsLayout}
 
 -- ---- lists of lists
@@ -175,10 +175,6 @@ layout_runs_small t r few =
 
 -- ---- the table of a layout
 
--- the runs of partitions together
-abbrev pub runs_in : List Part → ℕ
-runs_in parts = sum_by (λ p. length (runs_of p.blocks)) parts
-
 length_extents : (first : ℕ) (parts : List Part) → length (flat_map (extents_of_part first) parts) ≡ runs_in parts
 length_extents first [] = refl
 length_extents first (p ∷ ps) =
@@ -214,10 +210,6 @@ partitions_more groups parts i p q lt at is =
 -- the last whole block ends within the device
 pub cap_fits : (d : BlockDevice) → IsDevice d → d.first_logical_sector + 8 * cap_of d < 2 ^ 55
 cap_fits d device = omega (arith, device.within, device.fits.size)
-
--- the ends of all runs of these blocks are numbers of sectors
-abbrev pub RunsFit : ℕ → List ℕ → Type 0
-RunsFit first blocks = All (λ run. first + 8 * (run.0 + run.1) < 2 ^ 64) (runs_of blocks)
 
 part_fits : (d : BlockDevice) (groups : List Group) (p : Part) → IsDevice d → IsPart (cap_of d) groups p → RunsFit d.first_logical_sector p.blocks
 part_fits d groups p device r =
@@ -259,7 +251,7 @@ partitions_keep cap total index groups (p ∷ ps) few names le rules =
     let here : IsPartition 2 total (length groups) first = record {
       fits = record { name = r.name; attributes = r.small; first_extent = omega (arith, le, few, sum); extent_count = omega (arith, le, few, sum); group = omega (arith, found.0, names) };
       attributes = r.attributes;
-      extents_exist = λ _. omega (arith, le, sum);
+      extents_exist = omega (arith, le, sum);
       group_exists = found.0;
     } in
     All-cons (IsPartition 2 total (length groups)) first (partitions_from (index + runs) groups ps) here (partitions_keep cap total (index + runs) groups ps few names (omega (arith, le, sum)) (All-tail (IsPart cap groups) p ps rules))
