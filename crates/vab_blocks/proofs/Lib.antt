@@ -4,3 +4,4 @@ pub mod Pieces
 pub mod Ascending
 mod Merging
 mod Gaps
+pub mod Distinct

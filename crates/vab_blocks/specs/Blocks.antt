@@ -1,5 +1,5 @@
 -- The blocks of extents, of partitions and of a device.
-use Rattle.std.specs.Prelude.{ℕ, ◌+◌, ◌-◌, ◌*◌, ◌/◌, ◌<◌, ◌≤◌, ◌==◌, Bool, not, cond, List, [], ◌∷◌, take, drop, Any, Contains}
+use Rattle.std.specs.Prelude.{ℕ, ◌+◌, ◌-◌, ◌*◌, ◌/◌, ◌<◌, ◌≤◌, ◌==◌, ◌&&◌, Bool, true, not, cond, List, [], ◌∷◌, take, drop, Any, Contains}
 use Rattle.std.specs.List.{flat_map, filter, list_any, range_with_len}
 use Rattle.std.specs.Str.{bytes_eq}
 use Rattle.vab_tables.specs.declared.entries.Partition.{Partition}
@@ -40,3 +40,10 @@ blocks_of t names = flat_map (blocks_of_named t names) t.partitions
 -- the numbers below a bound that are not taken
 unfoldable pub free_below : ℕ → List ℕ → List ℕ
 free_below cap taken = filter (λ block. not (list_any (λ b. b == block) taken)) (range_with_len 0 cap)
+
+-- ---- blocks that differ
+
+-- no number stands twice
+abbrev pub is_distinct : List ℕ → Bool
+is_distinct [] = true
+is_distinct (x ∷ xs) = not (list_any (λ y. y == x) xs) && is_distinct xs

@@ -3,7 +3,9 @@
 ghost use Rattle.std.specs.Prelude.{◌≡◌, ◌↔◌, ◌==◌, ◌+◌, ◌<◌, ◌^◌, ◌++◌, [], length, take, drop};
 ghost use Rattle.std.specs.Prelude.{All, IfOk, OnErr, OnOk, IsTrue};
 ghost use Rattle.std.specs.List.{list_any, range_with_len};
-ghost use Rattle.vab_blocks.specs.Runs.{runs_of};
+ghost use Rattle.std.specs.List.Sorted.{IsNonDecreasingBy};
+ghost use Rattle.vab_blocks.specs.Blocks.{is_distinct};
+ghost use Rattle.vab_blocks.specs.Runs.{blocks_of_runs, runs_of};
 
 use std::alloc::Global;
 use std::marker::Model;
@@ -137,14 +139,41 @@ impl Blocks {
         any_has(self.runs(), block)
     }
 
+    /// Whether no block stands twice. `NoMemory` where memory is refused.
+    pub fn is_distinct(&self, alloc: Global) -> Result<bool, NoMemory>
+        ensures { IfOk result (λ distinct. distinct ≡ is_distinct self.now) }
+    {
+        let mut runs = Vec::from_slice(alloc, self.runs())?;
+        runs.sort_unstable_by_key(|run| run.0);
+        Ok(are_apart(&runs))
+    }
+
     /// The maximal runs of the blocks, in their order: pairs of a first block and how many there
     /// are.
     pub fn runs(&self) -> &[(u64, u64)]
         ensures value { result.now ≡ runs_of self.now }
         ensures fits { All (λ run. run.0 + run.1 < 2 ^ 64) (runs_of self.now) }
+        ensures some { All (λ run. 0 < run.1) (runs_of self.now) }
     {
         &self.runs
     }
+}
+
+// Whether no block stands twice in these runs, where none begins before an earlier one.
+fn are_apart(runs: &[(u64, u64)]) -> bool
+    requires up { IsNonDecreasingBy (λ run. run.0) runs.now }
+    requires fits { All (λ run. run.0 + run.1 < 2 ^ 64) runs.now }
+    requires some { All (λ run. 0 < run.1) runs.now }
+    ensures { result ≡ is_distinct (blocks_of_runs runs.now) }
+{
+    let mut end = 0;
+    for run in runs {
+        if run.0 < end {
+            return false;
+        }
+        end = run.0 + run.1;
+    }
+    true
 }
 
 // Whether the run ends where another begins.

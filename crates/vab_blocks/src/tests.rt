@@ -142,6 +142,16 @@ fn plain_sorted(alloc: Global, numbers: &[u64]) -> Result<Vec<u64>, Fail> {
     Ok(all)
 }
 
+// Whether no number stands twice, each beside all before it.
+fn plain_distinct(numbers: &[u64]) -> bool {
+    for (i, number) in numbers.iter().enumerate() {
+        if numbers.get(..i).unwrap_or(&[]).contains(number) {
+            return false;
+        }
+    }
+    true
+}
+
 // The other numbers below `cap`.
 fn plain_free(alloc: Global, cap: u64, numbers: &[u64]) -> Result<Vec<u64>, Fail> {
     let mut all = Vec::new(alloc);
@@ -175,6 +185,8 @@ fn runs_say_what_a_plain_list_says(rt: HostRuntime) -> Result<(), Fail> {
         assert_eq!(rt; listed.is_empty(), list.is_empty());
         let copied = listed.copy(alloc)?;
         assert_eq!(rt; copied.runs(), listed.runs());
+        let distinct = listed.is_distinct(alloc)?;
+        assert_eq!(rt; distinct, plain_distinct(list));
         let sorted = Runs::sorted(alloc, &listed)?;
         let plain = plain_sorted(alloc, list)?;
         assert_eq!(rt;
