@@ -10,8 +10,8 @@ use Rattle.vab_layout.specs.declared.layout.Part.{Part}
 use Rattle.vab_layout.specs.Layout.{blocks_of_parts}
 use Rattle.vab_layout.specs.Slots.{own_parts, IsOwnPart, IsOwn}
 use Rattle.vab_partitions.specs.Rules.{is_distinct, part_passes, bad_part}
-use Rattle.vab_partitions.specs.Distinct.{distinct_left, distinct_pairs, pairs_distinct}
-use Rattle.vab_partitions.specs.OwnLaws.{blocks_append, bad_next, bad_here, bad_none}
+use Rattle.vab_blocks.proofs.Distinct.{distinct_left, distinct_pairs, pairs_distinct}
+use Rattle.vab_partitions.proofs.OwnLaws.{blocks_append, bad_next, bad_here, bad_none}
 
 -- ---- one partition
 
