@@ -6,7 +6,7 @@ use Rattle.std.specs.List.{filter}
 use Rattle.std.proofs.lemmas.List.Elements.{All-filter, All-map, All-contains, All-append, All-cons, All-nil, All-weaker}
 use Rattle.std.proofs.lemmas.List.{length-map}
 use Rattle.std.proofs.lemmas.List.Sums.{sum-map, sum_by-le, length-filter, count_by-le-length}
-use Rattle.vab_names.specs.Names.{is_of_slot, is_store, store_of}
+use Rattle.vab_names.specs.Names.{in_slot, is_of_slot, is_store, store_of}
 use Rattle.vab_space.specs.declared.Want.{Want}
 use Rattle.vab_space.specs.Space.{used_of, growth_of}
 use Rattle.vab_tables.specs.Rules.{cap_of, IsDevice}
@@ -14,11 +14,12 @@ use Rattle.vab_tables.specs.declared.entries.BlockDevice.{BlockDevice}
 use Rattle.vab_layout.specs.declared.layout.Part.{Part}
 use Rattle.vab_layout.specs.declared.layout.Layout.{Layout}
 use Rattle.vab_layout.specs.Rules.{IsPart}
-use Rattle.vab_layout.specs.Slots.{other_slot, own_parts, store_parts, blocks_named, IsDistinct, IsOwn, IsOwnPart}
-use Rattle.vab_builder.specs.Sizes.{source_sizes, want_of, wants_of, wants_resized, wants_stored, used_by, sizes_in}
+use Rattle.vab_layout.specs.Slots.{other_slot, own_parts, store_parts, before_of, blocks_named, IsDistinct, IsOwn, IsOwnPart}
+use Rattle.vab_builder.specs.Sizes.{WantFits, source_sizes, want_of, wants_of, wants_resized, wants_stored, used_by, sizes_in}
 use Rattle.vab_builder.specs.Counting.{all_from, of_filter, in_filter, few_below, pieces_once}
 use Rattle.std.proofs.lemmas.List.Elements.{Contains-append_right}
-use Rattle.vab_builder.specs.NameCases.{store_is_store}
+use Rattle.vab_builder.specs.NameCases.{in_slot_is, store_is_store}
+use Rattle.vab_builder.specs.OwnLaws.{own_rules}
 use Rattle.vab_builder.specs.PartLaws.{named_cases}
 use Rattle.vab_builder.specs.Update.{IsUpdate}
 
@@ -42,6 +43,17 @@ group_small slot parts group name n own small =
     let inside : List Part = filter (λ p. bytes_eq p.group group) (own_parts slot parts) in
     let each : All (λ p. f p ≤ 2 ^ 28) inside = All-filter (λ p. bytes_eq p.group group) (λ p. f p ≤ 2 ^ 28) (own_parts slot parts) (All-weaker (IsOwnPart slot) (λ p. f p ≤ 2 ^ 28) (λ p h. either_small (bytes_eq p.name name) n (length p.blocks) (2 ^ 28) small h.size) (own_parts slot parts) own.each) in
     sum_small f inside each (omega (arith, few_kept (λ p. bytes_eq p.group group) (own_parts slot parts), own.few))
+
+own_named : (slot : ℕ) (name : List ℕ) (parts : List Part)
+    → IsOwn slot parts
+    → is_of_slot slot name ≡ true
+    → length (blocks_named name parts) ≤ 2 ^ 28
+own_named slot name parts own of = elim (named_cases name parts) [
+  | inl none ↦ omega (arith, ap length none)
+  | inr r ↦
+      let is = own_rules slot parts r.0 own r.1 (ap (is_of_slot slot) r.2 ∙ of) in
+      omega (arith, ap length r.3, is.size)
+]
 
 -- ---- what is in use
 
@@ -111,3 +123,25 @@ stored_bound slot source target name n update small =
     let w : Part → Want = want_of slot source.parts target.parts in
     mapped_bound slot source target (λ p. cond (bytes_eq p.name name) (record (w p) { store = n }) (w p)) update
     (λ p c. stored_small (bytes_eq p.name name) (w p) n small (wanted_small slot source target p update c))
+
+-- ---- numbers of 64 bits
+
+pub before_small : (slot : ℕ) (source target : Layout) (name : List ℕ)
+    → IsUpdate slot source target
+    → length (before_of slot source.parts name) < 2 ^ 64
+before_small slot source target name update =
+    let other : ℕ = other_slot slot in
+    let of = in_slot_is other name in
+    omega (arith, own_named other (in_slot other name) source.parts update.own of)
+
+pub wants_fit : (slot : ℕ) (source target : Layout)
+    → IsUpdate slot source target
+    → All (WantFits slot source.parts target.parts) (own_parts slot target.parts)
+wants_fit slot source target update =
+    all_from (WantFits slot source.parts target.parts) (own_parts slot target.parts) (λ p c.
+    let small = wanted_small slot source target p update c in
+    record {
+      before = before_small slot source target p.name update;
+      blocks = omega (arith, small.0);
+      store = omega (arith, small.1);
+    })

@@ -2,7 +2,7 @@
 use Rattle.std.proofs.Common.{◌≡◌, ℕ, ◌+◌, ◌^◌, ◌<◌, ◌≤◌, length, sum_by, sym, subst, Result, Ok, Err}
 use Rattle.std.specs.Prelude.{IfOk}
 use Rattle.vab_layout.specs.declared.layout.Layout.{Layout}
-use Rattle.vab_layout.specs.Runs.{runs_of}
+use Rattle.vab_blocks.specs.Runs.{runs_of}
 use Rattle.vab_layout.specs.Rules.{IsLayout}
 use Rattle.vab_layout.specs.Slots.{other_slot, IsOwn, IsTarget, groups_of_slot}
 use Rattle.vab_builder.specs.declared.fault.EditFault.{EditFault}

@@ -9,7 +9,7 @@ use Rattle.std.proofs.lemmas.List.Elements.{All-contains, All-filter, All-contai
 use Rattle.std.proofs.lemmas.List.FromFn.{length-range_with_len, get_or-range_with_len}
 use Rattle.std.proofs.lemmas.List.Kept.{AllPairs-cons, AllPairs-filter, AllPairs-from_increasing}
 use Rattle.vab_blocks.specs.Blocks.{free_below}
-use Rattle.vab_blocks.specs.BlockLaws.{listed_once, listed_then}
+use Rattle.vab_blocks.proofs.BlockLaws.{listed_once, listed_then}
 use Rattle.vab_layout.specs.Slots.{IsDistinct}
 
 -- ---- what is contained

@@ -14,7 +14,7 @@ use Rattle.vab_tables.specs.Rules.{cap_of, IsGroup, is_shared, has_slot}
 use Rattle.vab_bytes.specs.Name.{is_name}
 use Rattle.vab_layout.specs.declared.layout.Part.{Part}
 use Rattle.vab_layout.specs.declared.layout.Layout.{Layout}
-use Rattle.vab_layout.specs.Runs.{runs_of}
+use Rattle.vab_blocks.specs.Runs.{runs_of}
 use Rattle.vab_layout.specs.Layout.{blocks_of_parts}
 use Rattle.vab_layout.specs.Rules.{names_of_groups, IsPart}
 use Rattle.vab_layout.specs.Slots.{other_slot, own_parts, store_parts, before_of, is_updated, IsDistinct, IsOwnPart, IsTarget, IsTargetPart, IsStorePart}

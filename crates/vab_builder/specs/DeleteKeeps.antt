@@ -10,7 +10,7 @@ use Rattle.vab_names.specs.Names.{is_of_slot, is_store, store_of}
 use Rattle.vab_tables.specs.Rules.{cap_of}
 use Rattle.vab_layout.specs.declared.layout.Part.{Part}
 use Rattle.vab_layout.specs.declared.layout.Layout.{Layout}
-use Rattle.vab_layout.specs.Runs.{runs_of}
+use Rattle.vab_blocks.specs.Runs.{runs_of}
 use Rattle.vab_layout.specs.Layout.{blocks_of_parts}
 use Rattle.vab_layout.specs.Rules.{IsPart}
 use Rattle.vab_layout.specs.Slots.{own_parts, store_parts, IsDistinct, IsOwnPart, IsTarget, IsTargetPart, IsStorePart}

@@ -18,7 +18,7 @@ use Rattle.vab_tables.specs.Rules.{cap_of, is_shared, has_slot, IsGroup, NamesDi
 use Rattle.vab_tables.specs.RuleLaws.{has_slot-suffix}
 use Rattle.vab_layout.specs.declared.layout.Part.{Part}
 use Rattle.vab_layout.specs.declared.layout.Layout.{Layout}
-use Rattle.vab_layout.specs.Runs.{runs_of}
+use Rattle.vab_blocks.specs.Runs.{runs_of}
 use Rattle.vab_layout.specs.Layout.{blocks_of_parts}
 use Rattle.vab_layout.specs.Rules.{names_of_groups, IsPart, IsLayout}
 use Rattle.vab_layout.specs.Slots.{other_slot, own_parts, store_parts, IsDistinct, IsOwnPart, IsOwn, blocks_named, before_of, IsTargetPart, IsStorePart, IsTarget, groups_of_slot}

@@ -10,12 +10,12 @@ use Rattle.std.proofs.lemmas.List.Elements.{All-contains, All-push, filter-appen
 use Rattle.std.proofs.lemmas.List.Folds.{list_any_at, Any-from_list_any}
 use Rattle.std.proofs.lemmas.List.Quantifiers.{all_pairs_push}
 use Rattle.vab_names.specs.Names.{is_of_slot, base_of, in_slot, store_of}
-use Rattle.vab_blocks.specs.BlockLaws.{is_free, free_ascends}
+use Rattle.vab_blocks.proofs.BlockLaws.{is_free, free_ascends}
 use Rattle.vab_tables.specs.declared.entries.Group.{Group}
 use Rattle.vab_tables.specs.Rules.{cap_of, IsGroup, NamesDiffer}
 use Rattle.vab_layout.specs.declared.layout.Part.{Part}
 use Rattle.vab_layout.specs.declared.layout.Layout.{Layout}
-use Rattle.vab_layout.specs.Runs.{in_front, runs_of}
+use Rattle.vab_blocks.specs.Runs.{in_front, runs_of}
 use Rattle.vab_layout.specs.Layout.{blocks_of_parts}
 use Rattle.vab_layout.specs.Rules.{names_of_groups, IsPart}
 use Rattle.vab_layout.specs.Slots.{other_slot, own_parts, store_parts, before_of, groups_of_slot, is_updated, IsDistinct, IsOwn, IsOwnPart, IsTarget, IsTargetPart, IsStorePart}

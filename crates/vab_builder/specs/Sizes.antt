@@ -1,5 +1,5 @@
 -- The sizes of an update's partitions and stores: numbers of blocks alone.
-use Rattle.std.specs.Prelude.{ℕ, Bool, ◌||◌, ◌==◌, nat_le, if◌then◌else◌, List, [], ◌∷◌, length, map}
+use Rattle.std.specs.Prelude.{◌<◌, ◌^◌, ℕ, Bool, ◌||◌, ◌==◌, nat_le, if◌then◌else◌, List, [], ◌∷◌, length, map}
 use Rattle.std.specs.List.{filter, list_any}
 use Rattle.std.specs.Str.{bytes_eq}
 use Rattle.vab_names.specs.Names.{store_of}
@@ -20,6 +20,12 @@ source_sizes slot source = map (λ p. length p.blocks) (own_parts (other_slot sl
 -- what the update wants of a partition of the target
 abbrev pub want_of : ℕ → List Part → List Part → Part → Want
 want_of slot source target p = record { before = length (before_of slot source p.name); blocks = length p.blocks; store = length (blocks_named (store_of p.name) target) }
+
+-- these are numbers of 64 bits
+pub record WantFits (slot : ℕ) (source target : List Part) (p : Part) : Type 0 where
+  pub before : length (before_of slot source p.name) < 2 ^ 64
+  pub blocks : length p.blocks < 2 ^ 64
+  pub store : length (blocks_named (store_of p.name) target) < 2 ^ 64
 
 abbrev pub wants_of : ℕ → List Part → List Part → List Want
 wants_of slot source target = map (want_of slot source target) (own_parts slot target)

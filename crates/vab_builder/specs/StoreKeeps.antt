@@ -14,7 +14,7 @@ use Rattle.vab_tables.specs.declared.entries.Group.{Group}
 use Rattle.vab_tables.specs.Rules.{cap_of, IsGroup, is_shared, has_slot}
 use Rattle.vab_layout.specs.declared.layout.Part.{Part}
 use Rattle.vab_layout.specs.declared.layout.Layout.{Layout}
-use Rattle.vab_layout.specs.Runs.{runs_of}
+use Rattle.vab_blocks.specs.Runs.{runs_of}
 use Rattle.vab_layout.specs.Layout.{blocks_of_parts}
 use Rattle.vab_layout.specs.Rules.{IsPart}
 use Rattle.vab_layout.specs.Slots.{other_slot, own_parts, store_parts, is_updated, IsDistinct, IsOwnPart, IsTarget, IsTargetPart, IsStorePart}

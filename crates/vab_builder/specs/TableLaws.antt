@@ -13,9 +13,9 @@ use Rattle.vab_tables.specs.Spelling.{table_size_of}
 use Rattle.vab_names.specs.Names.{is_of_slot}
 use Rattle.vab_layout.specs.declared.layout.Part.{Part}
 use Rattle.vab_layout.specs.declared.layout.Layout.{Layout}
-use Rattle.vab_layout.specs.Runs.{runs_of}
+use Rattle.vab_blocks.specs.Runs.{runs_of}
 use Rattle.vab_layout.specs.Layout.{part_of, layout_of, table_of, first_device}
-use Rattle.vab_layout.specs.LayoutLaws.{runs_few, layout_runs, table_size_is}
+use Rattle.vab_layout.proofs.LayoutLaws.{runs_few, layout_runs, table_size_is}
 use Rattle.vab_layout.specs.Slots.{own_parts, IsOwn}
 use Rattle.vab_layout.specs.Plain.{plain}
 use Rattle.vab_builder.specs.Import.{imported}
@@ -67,7 +67,7 @@ runs_small t keeps small =
 
 part_runs : (t : Table) (p : Partition) → IsPartition t.minor (length t.extents) (length t.groups) p → length (runs_of (part_of t p).blocks) ≤ length t.extents
 part_runs t p is = elim (cases_lt 0 p.extent_count) [
-  | inl some ↦ omega (arith, runs_few t p, is.extents_exist some)
+  | inl some ↦ omega (arith, runs_few t p, is.extents_exist)
   | inr none ↦ omega (arith, runs_few t p, none)
 ]
 

@@ -1,7 +1,7 @@
 //! An edit of the target's layout.
 
 ghost use Rattle.std.specs.Prelude.{◌≡◌, ◌≤◌, ◌<◌, ◌+◌, ◌^◌, length, sum_by, IfOk};
-ghost use Rattle.vab_layout.specs.Runs.{runs_of};
+ghost use Rattle.vab_blocks.specs.Runs.{runs_of};
 ghost use Rattle.vab_layout.specs.Rules.{IsLayout};
 ghost use Rattle.vab_layout.specs.Slots.{other_slot, IsOwn, IsTarget, groups_of_slot};
 ghost use Rattle.vab_builder.specs.Edits.{changed_by};

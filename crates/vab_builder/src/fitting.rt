@@ -3,7 +3,7 @@
 ghost use Rattle.std.specs.Prelude.{◌≡◌, ◌≤◌, ◌<◌, ◌^◌, length, sum_by, IfOk};
 ghost use Rattle.vab_tables.specs.Rules.{KeepsRules};
 ghost use Rattle.vab_tables.specs.Spelling.{table_size_of};
-ghost use Rattle.vab_layout.specs.Runs.{runs_of};
+ghost use Rattle.vab_blocks.specs.Runs.{runs_of};
 ghost use Rattle.vab_layout.specs.Layout.{layout_of};
 ghost use Rattle.vab_layout.specs.Rules.{IsLayout};
 ghost use Rattle.vab_builder.specs.Edits.{fitting};

@@ -67,7 +67,7 @@ fn copy_part(alloc: Global, part: &Part) -> Result<Part, NoMemory>
         name: part.name,
         attributes: part.attributes,
         group: part.group,
-        blocks: Listing::from_vec(part.blocks.as_slice().to_vec(alloc)?),
+        blocks: part.blocks.copy(alloc)?,
     })
 }
 
@@ -96,7 +96,7 @@ fn twin_part(alloc: Global, part: &Part, slot: usize) -> Result<Part, NoMemory>
         name: in_slot(&part.name, slot),
         attributes: part.attributes & KEPT,
         group: twin_group_name(&part.group, slot),
-        blocks: Listing::from_vec(part.blocks.as_slice().to_vec(alloc)?),
+        blocks: part.blocks.copy(alloc)?,
     })
 }
 

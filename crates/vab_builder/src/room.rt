@@ -6,7 +6,7 @@ ghost use Rattle.vab_space.specs.Space.{group_sum_of};
 ghost use Rattle.vab_builder.specs.Sizes.{sizes_in, used_by, wants_of, wants_resized, wants_stored};
 ghost use Rattle.vab_builder.specs.Update.{IsUpdate};
 
-use crate::find::before;
+use crate::find::count_before;
 use crate::sizes::{sizes_in, source_sizes, wants, wants_resized, wants_stored};
 use std::alloc::Global;
 use vab_bytes::Name36;
@@ -73,7 +73,7 @@ pub(crate) fn created_used(
         slot,
     )?;
     wants.push(Want {
-        before: before(source.parts.as_slice(), slot, name).len() as u64,
+        before: count_before(source.parts.as_slice(), slot, name),
         blocks: count,
         store: 0,
     })?;

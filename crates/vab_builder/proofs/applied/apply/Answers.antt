@@ -2,7 +2,7 @@ use Rattle.std.proofs.Common.{◌≡◌, arith, ap, sym, ◌∙◌, length}
 use Rattle.std.specs.Prelude.{sum_by}
 use Rattle.vab_tables.specs.Rules.{KeepsRules}
 use Rattle.vab_layout.specs.declared.layout.Layout.{Layout}
-use Rattle.vab_layout.specs.Runs.{runs_of}
+use Rattle.vab_blocks.specs.Runs.{runs_of}
 use Rattle.vab_layout.specs.Layout.{layout_of, first_device}
 use Rattle.vab_layout.specs.Slots.{groups_of_slot}
 use Rattle.vab_builder.specs.TableLaws.{both_ok, layout_groups, layout_device, devices_same, entries_few, runs_small}

@@ -22,5 +22,5 @@ pub returns : goal.returns
 returns c =
     let a = c.args in
     let is = c.in_ok-name.ensures in
-    let made = rw (c.in_ok-push_free.ensures, c.new-fresh.ensures.items, is.0, is.1) at c.in_ok-with_store.ensures in
+    let made = rw (c.in_ok-push_free.ensures, c.new-fresh.ensures, is.0, is.1) at c.in_ok-with_store.ensures in
     stored-ok a.slot a.source.now a.target a.name.now a.bytes is.2 ∙ sym (ap (λ (l : Layout). Ok l) made)

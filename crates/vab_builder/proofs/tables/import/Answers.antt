@@ -6,7 +6,7 @@ use Rattle.vab_layout.specs.Slots.{other_slot, groups_of_slot}
 use Rattle.vab_builder.specs.ImportLaws.{imported_groups_count, imported_runs}
 use Rattle.vab_builder.specs.TableLaws.{both_ok, layout_groups, devices_same, imported_device, entries_few, runs_small}
 use Rattle.std.specs.Prelude.{sum_by}
-use Rattle.vab_layout.specs.Runs.{runs_of}
+use Rattle.vab_blocks.specs.Runs.{runs_of}
 use Rattle.vab_builder.proofs.tables.import.Goals as goal
 
 pub fitting-requires-clause-groups : goal.fitting-requires-clause-groups
