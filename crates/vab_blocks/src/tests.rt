@@ -131,11 +131,11 @@ fn the_lowest_free_blocks(rt: HostRuntime) -> Result<(), Fail> {
     Ok(())
 }
 
-// Numbers that ascend, each once, as a plain program finds them among those below 16.
-fn plain_sorted(alloc: Global, numbers: &[u64]) -> Result<Vec<u64>, Fail> {
+// The numbers below `cap` that are listed, or those that aren't, as a plain program finds them.
+fn plain(alloc: Global, cap: u64, numbers: &[u64], listed: bool) -> Result<Vec<u64>, Fail> {
     let mut all = Vec::new(alloc);
-    for number in 0..16 {
-        if numbers.contains(&number) {
+    for number in 0..cap {
+        if numbers.contains(&number) == listed {
             all.push(number)?;
         }
     }
@@ -152,15 +152,35 @@ fn plain_distinct(numbers: &[u64]) -> bool {
     true
 }
 
-// The other numbers below `cap`.
-fn plain_free(alloc: Global, cap: u64, numbers: &[u64]) -> Result<Vec<u64>, Fail> {
-    let mut all = Vec::new(alloc);
-    for number in 0..cap {
-        if !numbers.contains(&number) {
-            all.push(number)?;
-        }
-    }
-    Ok(all)
+// Whether the sorted and the free numbers of a list are those of the plain program.
+fn sorts(alloc: Global, list: &[u64]) -> Result<bool, Fail> {
+    let listed = blocks(alloc, list)?;
+    let sorted = Runs::sorted(alloc, &listed)?;
+    let free = Runs::free(alloc, 10, &sorted)?;
+    Ok(
+        numbers(alloc, sorted.as_blocks())?.as_slice() == plain(alloc, 16, list, true)?.as_slice()
+            && numbers(alloc, free.as_blocks())?.as_slice()
+                == plain(alloc, 10, list, false)?.as_slice()
+            && listed.is_distinct(alloc)? == plain_distinct(list),
+    )
+}
+
+// Whether the first two numbers, the two behind them and all of them twice are those of the list.
+fn cuts(alloc: Global, list: &[u64]) -> Result<bool, Fail> {
+    let listed = blocks(alloc, list)?;
+    let front = listed.take(alloc, 2)?;
+    let mut rest = Blocks::new(alloc);
+    rest.append_part(&listed, 2, 2)?;
+    let mut twice = listed.copy(alloc)?;
+    twice.append(&listed)?;
+    let mut whole = list.to_vec(alloc)?;
+    whole.extend_from_slice(list)?;
+    let back = list.get(2..).unwrap_or(&[]);
+    Ok(
+        numbers(alloc, &front)?.as_slice() == list.get(..2).unwrap_or(list)
+            && numbers(alloc, &rest)?.as_slice() == back.get(..2).unwrap_or(back)
+            && numbers(alloc, &twice)?.as_slice() == whole.as_slice(),
+    )
 }
 
 // Runs that touch, that overlap and that stand out of order, runs of one block, no block, a full
@@ -168,7 +188,7 @@ fn plain_free(alloc: Global, cap: u64, numbers: &[u64]) -> Result<Vec<u64>, Fail
 const LISTS: [&[u64]; 8] = [
     &[],
     &[5],
-    &[0, 1, 2, 3, 4, 5, 6, 7],
+    &[0, 1, 2, 3, 4, 5, 6, 7, 8, 9],
     &[3, 4, 0, 1, 2],
     &[7, 6, 5],
     &[2, 2, 3, 2, 3, 4],
@@ -178,49 +198,11 @@ const LISTS: [&[u64]; 8] = [
 
 #[test]
 fn runs_say_what_a_plain_list_says(rt: HostRuntime) -> Result<(), Fail> {
-    let alloc = rt.alloc();
     for list in LISTS {
-        let listed = blocks(alloc, list)?;
-        assert_eq!(rt; numbers(alloc, &listed)?.as_slice(), list);
-        assert_eq!(rt; listed.is_empty(), list.is_empty());
-        let copied = listed.copy(alloc)?;
-        assert_eq!(rt; copied.runs(), listed.runs());
-        let distinct = listed.is_distinct(alloc)?;
-        assert_eq!(rt; distinct, plain_distinct(list));
-        let sorted = Runs::sorted(alloc, &listed)?;
-        let plain = plain_sorted(alloc, list)?;
-        assert_eq!(rt;
-            numbers(alloc, sorted.as_blocks())?.as_slice(),
-            plain.as_slice()
-        );
-        for cap in 0..13 {
-            let free = Runs::free(alloc, cap, &sorted)?;
-            let plain = plain_free(alloc, cap, list)?;
-            assert_eq!(rt;
-                numbers(alloc, free.as_blocks())?.as_slice(),
-                plain.as_slice()
-            );
-        }
-        for n in 0..8 {
-            let front = list.get(..n).unwrap_or(list);
-            let back = list.get(n..).unwrap_or(&[]);
-            let taken = listed.take(alloc, n as u64)?;
-            assert_eq!(rt; numbers(alloc, &taken)?.as_slice(), front);
-            let mut whole = taken;
-            whole.append_part(&listed, n as u64, 16)?;
-            assert_eq!(rt; whole.runs(), listed.runs());
-            let mut rest = Blocks::new(alloc);
-            rest.append_part(&listed, n as u64, 2)?;
-            let two = back.get(..2).unwrap_or(back);
-            assert_eq!(rt; numbers(alloc, &rest)?.as_slice(), two);
-        }
-        let mut twice = listed.copy(alloc)?;
-        twice.append(&listed)?;
-        let mut plain = list.to_vec(alloc)?;
-        plain.extend_from_slice(list)?;
-        assert_eq!(rt; numbers(alloc, &twice)?.as_slice(), plain.as_slice());
+        assert!(rt; sorts(rt.alloc(), list)?, "{list:?}");
+        assert!(rt; cuts(rt.alloc(), list)?, "{list:?}");
     }
-    let run = Blocks::consecutive(alloc, 3, 4)?;
+    let run = Blocks::consecutive(rt.alloc(), 3, 4)?;
     assert_eq!(rt; run.runs(), [(3, 4)].as_slice());
     Ok(())
 }

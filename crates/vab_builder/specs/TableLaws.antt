@@ -1,24 +1,27 @@
 -- What callers need of the tables that are given.
-use Rattle.std.proofs.Common.{◌≡◌, ℕ, inl, inr, ◌+◌, ◌*◌, ◌^◌, ◌≤◌, ◌<◌, List, [], ◌∷◌, length, Result, Ok, Err, refl, sym, ◌∙◌, ap, arith}
+use Rattle.std.proofs.Common.{Bool, true, false, map, ◌≡◌, ℕ, inl, inr, ◌+◌, ◌*◌, ◌^◌, ◌≤◌, ◌<◌, List, [], ◌∷◌, length, Result, Ok, Err, refl, sym, ◌∙◌, ap, arith}
 use Rattle.std.specs.Prelude.{sum_by, All, IfOk}
-use Rattle.std.proofs.lemmas.Bool.{cases_lt}
+use Rattle.std.specs.List.{filter}
+use Rattle.std.proofs.lemmas.Bool.{cases_Bool, cases_lt}
 use Rattle.std.proofs.lemmas.List.Elements.{All-filter, All-weaker, All-map}
 use Rattle.std.proofs.Math.Nat.{mul-le-mul_right}
 use Rattle.std.proofs.lemmas.List.Sums.{sum_by-le}
 use Rattle.vab_tables.specs.declared.entries.Partition.{Partition}
+use Rattle.vab_tables.specs.declared.entries.Group.{Group}
 use Rattle.vab_tables.specs.declared.entries.BlockDevice.{BlockDevice}
 use Rattle.vab_tables.specs.declared.table.Table.{Table}
 use Rattle.vab_tables.specs.Rules.{KeepsRules, IsPartition}
 use Rattle.vab_tables.specs.Spelling.{table_size_of}
-use Rattle.vab_names.specs.Names.{is_of_slot}
+use Rattle.vab_names.specs.Names.{base_of, default_name, is_of_slot}
 use Rattle.vab_layout.specs.declared.layout.Part.{Part}
 use Rattle.vab_layout.specs.declared.layout.Layout.{Layout}
 use Rattle.vab_blocks.specs.Runs.{runs_of}
 use Rattle.vab_layout.specs.Layout.{part_of, layout_of, table_of, first_device}
 use Rattle.vab_layout.proofs.LayoutLaws.{runs_few, layout_runs, table_size_is}
-use Rattle.vab_layout.specs.Slots.{own_parts, IsOwn}
+use Rattle.vab_layout.specs.Slots.{groups_of_slot, own_parts, IsOwn}
 use Rattle.vab_layout.specs.Plain.{plain}
 use Rattle.vab_builder.specs.Import.{imported}
+use Rattle.vab_builder.specs.SlotLaws.{default_of_no_slot}
 use Rattle.vab_builder.specs.ImportLaws.{plain_parts, plain_groups_count}
 
 -- two facts of what is given make a third
@@ -91,3 +94,21 @@ plain_small slot t keeps small own =
     let groups : length (plain slot l).groups ≤ length t.groups + 1 = omega (arith, plain_groups_count slot l, ap length (layout_groups t)) in
     let size = table_size_is (plain slot l) in
     omega (arith, size, small, runs, most, is, count, groups, own.few)
+
+-- ---- the groups of a slot alone
+
+filter_again : (p : Group → Bool) (xs : List Group) → filter p (filter p xs) ≡ filter p xs
+filter_again p [] = refl
+filter_again p (x ∷ xs) = elim (cases_Bool (p x)) [
+  | inl t ↦ rw (t, t) (ap (λ (l : List Group). x ∷ l) (filter_again p xs))
+  | inr f ↦ rw f (filter_again p xs)
+]
+
+pub plain_groups_same : (slot : ℕ) (l : Layout)
+    → groups_of_slot slot (plain slot l).groups ≡ groups_of_slot slot l.groups
+unfolding plain
+plain_groups_same slot l =
+    let p : Group → Bool = λ g. is_of_slot slot g.name in
+    let shared : is_of_slot slot default_name ≡ false = default_of_no_slot slot in
+    let of = λ (gs : List Group). map (λ (g : Group). (base_of g.name, g.maximum_size)) gs in
+    rw shared (ap of (filter_again p l.groups))

@@ -5,7 +5,7 @@ ghost use Rattle.vab_tables.specs.Rules.{KeepsRules};
 ghost use Rattle.vab_tables.specs.Spelling.{table_size_of};
 ghost use Rattle.vab_layout.specs.Layout.{layout_of, table_of};
 ghost use Rattle.vab_layout.specs.Slots.{other_slot, IsOwn, IsTarget, groups_of_slot};
-ghost use Rattle.vab_builder.specs.Edits.{edited};
+ghost use Rattle.vab_builder.specs.Edits.{changed_by, edited};
 ghost use Rattle.vab_builder.specs.Gives.{GivesTable};
 
 use crate::change::change;
@@ -36,6 +36,12 @@ pub fn apply(
     ensures exact { GivesTable result (edited target_slot (layout_of source.now) (layout_of target.now) max edit.now) }
     ensures rules { IfOk result KeepsRules }
     ensures size { IfOk result (λ t. table_size_of t ≤ max) }
+    // Its layout is that which the edit gives.
+    ensures layout {
+        IfOk result (λ t.
+          changed_by target_slot (layout_of source.now) (layout_of target.now) edit.now
+            ≡ Ok (layout_of t))
+    }
     // Further edits may be made of it.
     ensures target { IfOk result (λ t. IsTarget target_slot (layout_of source.now).parts (layout_of t).parts) }
     ensures device { IfOk result (λ t. t.devices ≡ target.now.devices) }

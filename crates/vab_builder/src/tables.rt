@@ -28,6 +28,7 @@ pub fn import(alloc: Global, table: &Table, source: usize, max: u32) -> Result<T
     ensures exact { GivesTable result (fitting max (imported source (layout_of table.now))) }
     ensures rules { IfOk result KeepsRules }
     ensures size { IfOk result (λ t. table_size_of t ≤ max) }
+    ensures layout { IfOk result (λ t. layout_of t ≡ imported source (layout_of table.now)) }
     // Edits may be made of it.
     ensures target { IfOk result (λ t. IsTarget (other_slot source) (layout_of table.now).parts (layout_of t).parts) }
     ensures device { IfOk result (λ t. t.devices ≡ table.now.devices) }
@@ -46,7 +47,12 @@ pub fn without_stores(alloc: Global, table: &Table, slot: usize) -> Result<Table
     requires own { IsOwn slot (layout_of table.now).parts }
     ensures exact { IfOk result (λ t. t ≡ table_of (plain slot (layout_of table.now))) }
     ensures rules { IfOk result (λ t. KeepsRules t) }
+    ensures size { IfOk result (λ t. table_size_of t < 2 ^ 32) }
+    ensures layout { IfOk result (λ t. layout_of t ≡ plain slot (layout_of table.now)) }
     ensures own { IfOk result (λ t. IsOwn slot (layout_of t).parts) }
+    ensures groups {
+        IfOk result (λ t. groups_of_slot slot t.groups ≡ groups_of_slot slot table.now.groups)
+    }
     ensures device { IfOk result (λ t. t.devices ≡ table.now.devices) }
 {
     let layout = Layout::of_table(alloc, table)?;

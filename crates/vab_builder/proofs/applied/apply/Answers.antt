@@ -6,6 +6,10 @@ use Rattle.vab_blocks.specs.Runs.{runs_of}
 use Rattle.vab_layout.specs.Layout.{layout_of, first_device}
 use Rattle.vab_layout.specs.Slots.{groups_of_slot}
 use Rattle.vab_builder.specs.TableLaws.{both_ok, layout_groups, layout_device, devices_same, entries_few, runs_small}
+use Rattle.std.proofs.Common.{Ok, Result, ℕ}
+use Rattle.std.proofs.lemmas.Result.{IfOk-weaker}
+use Rattle.vab_builder.specs.declared.fault.EditFault.{EditFault}
+use Rattle.vab_builder.specs.Edits.{changed_by}
 use Rattle.vab_builder.proofs.applied.apply.Goals as goal
 
 pub change-requires-clause-device : goal.change-requires-clause-device
@@ -36,3 +40,16 @@ returns-clause-groups c =
     both_ok c.fitting.result KeepsRules (λ t. layout_of t ≡ c.in_ok-target.target) (λ t. groups_of_slot c.args.target_slot t.groups ≡ groups_of_slot c.args.target_slot c.args.target.now.groups)
     (λ t keeps is. ap (groups_of_slot c.args.target_slot) (sym (layout_groups t) ∙ ap (λ (l : Layout). l.groups) is) ∙ c.in_ok-target.ensures.groups ∙ ap (groups_of_slot c.args.target_slot) from)
     c.fitting.ensures.rules c.fitting.ensures.layout
+
+pub returns-clause-layout : goal.returns-clause-layout
+returns-clause-layout c =
+    let slot = c.args.target_slot in
+    let edit = c.args.edit.now in
+    let by = λ (s : Layout). λ (t : Layout). changed_by slot s t edit in
+    IfOk-weaker c.fitting.result _ _
+    (λ t is.
+      ap (λ (s : Layout). by s (layout_of c.args.target.now)) (sym c.in_ok-source.ensures.value)
+      ∙ ap (by c.in_ok-source.source) (sym c.in_ok-old.ensures.value)
+      ∙ c.in_ok-target.ensures.exact
+      ∙ ap (λ (l : Layout). Ok l) (sym is))
+    c.fitting.ensures.layout

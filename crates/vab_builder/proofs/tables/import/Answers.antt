@@ -7,6 +7,8 @@ use Rattle.vab_builder.specs.ImportLaws.{imported_groups_count, imported_runs}
 use Rattle.vab_builder.specs.TableLaws.{both_ok, layout_groups, devices_same, imported_device, entries_few, runs_small}
 use Rattle.std.specs.Prelude.{sum_by}
 use Rattle.vab_blocks.specs.Runs.{runs_of}
+use Rattle.std.proofs.lemmas.Result.{IfOk-weaker}
+use Rattle.vab_builder.specs.Import.{imported}
 use Rattle.vab_builder.proofs.tables.import.Goals as goal
 
 pub fitting-requires-clause-groups : goal.fitting-requires-clause-groups
@@ -34,3 +36,10 @@ returns-clause-groups c =
     both_ok c.fitting.result KeepsRules (λ t. layout_of t ≡ c.in_ok-target.target) (λ t. groups_of_slot (other_slot c.args.source) t.groups ≡ groups_of_slot c.args.source c.args.table.now.groups)
     (λ t keeps is. ap (groups_of_slot (other_slot c.args.source)) (sym (layout_groups t) ∙ ap (λ (l : Layout). l.groups) is) ∙ c.in_ok-target.ensures.groups ∙ ap (groups_of_slot c.args.source) from)
     c.fitting.ensures.rules c.fitting.ensures.layout
+
+pub returns-clause-layout : goal.returns-clause-layout
+returns-clause-layout c =
+    IfOk-weaker c.fitting.result _ _
+    (λ t is.
+      is ∙ c.in_ok-target.ensures.value ∙ ap (imported c.args.source) c.in_ok-layout.ensures.value)
+    c.fitting.ensures.layout
