@@ -52,7 +52,8 @@ rest_ascends : (x : ℕ) (xs : List ℕ)
     → IsStrictlyIncreasing (x ∷ xs)
     → IsStrictlyIncreasing xs
 rest_ascends x xs up = λ k lt.
-    let step : get_or (x ∷ xs) (suc k) 0 < get_or (x ∷ xs) (suc k + 1) 0 = up (suc k) (omega (arith, lt)) in
+    let step : get_or (x ∷ xs) (suc k) 0 < get_or (x ∷ xs) (suc k + 1) 0 =
+    up (suc k) (omega (arith, lt)) in
     let e : suc k + 1 ≡ suc (k + 1) = omega arith in
     omega (arith, step, ap (λ (j : ℕ). get_or (x ∷ xs) j 0) e)
 
@@ -151,10 +152,12 @@ runs_ascend (run ∷ runs) some up =
     let front : List ℕ = range_with_len run.0 run.1 in
     let here : 0 < run.1 = All-head P run runs some in
     let rest : All P runs = All-tail P run runs some in
-    let last = range_has run.0 run.1 (run.0 + run.1 - 1) (omega (arith, here)) (omega (arith, here)) in
+    let last =
+    range_has run.0 run.1 (run.0 + run.1 - 1) (omega (arith, here)) (omega (arith, here)) in
     let above : All (R run) runs = λ k d lt.
     let full : 0 < (get_or runs k d).1 = rest k d lt in
     let first = run_has runs k d (get_or runs k d).0 lt (omega arith) (omega (arith, full)) in
     let step = across front (blocks_of_runs runs) _ _ up last first in
     omega (arith, step, here) in
-    AllPairs-cons R run runs above (runs_ascend runs rest (back_ascends front (blocks_of_runs runs) up))
+    AllPairs-cons R run runs above
+    (runs_ascend runs rest (back_ascends front (blocks_of_runs runs) up))

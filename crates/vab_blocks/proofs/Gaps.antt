@@ -1,5 +1,6 @@
 -- The numbers between runs that ascend.
-use Rattle.std.proofs.Common.{◌≡◌, ℕ, zero, suc, ◌+◌, ◌-◌, ◌^◌, ◌<◌, ◌≤◌, Bool, true, false, cond, not}
+use Rattle.std.proofs.Common.{◌≡◌, ℕ, zero, suc, ◌+◌, ◌-◌, ◌^◌, ◌<◌, ◌≤◌, Bool, true, false, cond}
+use Rattle.std.proofs.Common.{not}
 use Rattle.std.proofs.Common.{eqb, List, [], ◌∷◌, ◌++◌, length, get_or, refl, sym, ap, subst, ◌∙◌}
 use Rattle.std.proofs.Common.{append_assoc, inl, inr, add-zero, arith}
 use Rattle.std.specs.Prelude.{min, All, AllPairs, Contains}
@@ -82,7 +83,8 @@ no_gaps cap taken free none =
 not_taken : (cap : ℕ) (taken : List ℕ) (i : ℕ) (free : List ℕ) (at x : ℕ)
     → Gaps cap taken i free at
     → at ≤ x
-    → ((k : ℕ) (d : ℕ × ℕ) → i ≤ k → k < length (runs_of taken) → x < (get_or (runs_of taken) k d).0)
+    → ((k : ℕ) (d : ℕ × ℕ) → i ≤ k → k < length (runs_of taken)
+    → x < (get_or (runs_of taken) k d).0)
     → Contains taken x
     → ⊥
 not_taken cap taken i free at x g low above c =
@@ -107,7 +109,8 @@ not_taken cap taken i free at x g low above c =
 gap_is : (cap : ℕ) (taken : List ℕ) (i : ℕ) (free new : List ℕ) (at to : ℕ)
     → Gaps cap taken i free at
     → to ≤ cap
-    → ((k : ℕ) (d : ℕ × ℕ) → i ≤ k → k < length (runs_of taken) → to ≤ (get_or (runs_of taken) k d).0)
+    → ((k : ℕ) (d : ℕ × ℕ) → i ≤ k → k < length (runs_of taken)
+    → to ≤ (get_or (runs_of taken) k d).0)
     → (to < at → cap ≤ to)
     → new ≡ free ++ range_with_len at (to - at)
     → new ≡ free_below to taken
@@ -149,19 +152,22 @@ next_gap cap taken i free new at run up g lt is pushed =
     ap (λ (q : ℕ × ℕ). q.0 + q.1) (here d) in
     let to : ℕ = min run.0 cap in
     let begun : at ≤ run.0 = omega (arith, g.begins i run (omega arith) lt, first run) in
-    let above : (k : ℕ) (d : ℕ × ℕ) → i ≤ k → k < length rs → run.0 ≤ (get_or rs k d).0 = λ k d le len.
+    let above : (k : ℕ) (d : ℕ × ℕ) → i ≤ k → k < length rs
+    → run.0 ≤ (get_or rs k d).0 = λ k d le len.
     elim (cases_eq i k) [
       | inl e ↦ omega (arith, first d, ap (λ (j : ℕ). (get_or rs j d).0) e)
       | inr ne ↦ omega (arith, order i k d (omega (arith, ne, le)) len, end d)
     ] in
     let gap : new ≡ free_below to taken =
     gap_is cap taken i free new at to g (omega arith)
-    (λ k d le len. omega (arith, above k d le len)) (λ passed. omega (arith, passed, begun)) pushed in
+    (λ k d le len. omega (arith, above k d le len)) (λ passed. omega (arith, passed, begun)) pushed
+    in
     let rest : ℕ = min (run.0 + run.1) cap - to in
     let sum : to + rest ≡ min (run.0 + run.1) cap = omega arith in
     let own : (x : ℕ) → to ≤ x → x < to + rest → Contains taken x = λ x low high.
     subst (λ (l : List ℕ). Contains l x) (runs_again taken)
-    (run_has rs i run x lt (omega (arith, first run, low, high, sum)) (omega (arith, end run, high, sum))) in
+    (run_has rs i run x lt (omega (arith, first run, low, high, sum))
+    (omega (arith, end run, high, sum))) in
     record {
       made = gap ∙ sym (free_within to rest taken own) ∙ ap (λ (k : ℕ). free_below k taken) sum;
       ends = λ k d less len. elim (cases_eq k i) [
@@ -185,7 +191,8 @@ last_gap cap taken i free new at g le pushed =
     (λ k d low len. absurd (omega (arith, low, len, le))) (λ _. omega arith) pushed
 
 -- free numbers ascend, and are no more than the bound
-pub free_is_ascending : (cap : ℕ) (taken : List ℕ) → cap < 2 ^ 64 → IsAscending (free_below cap taken)
+pub free_is_ascending : (cap : ℕ) (taken : List ℕ) → cap < 2 ^ 64
+    → IsAscending (free_below cap taken)
 free_is_ascending cap taken lt =
     let xs : List ℕ = free_below cap taken in
     let below : All (λ b. b < cap) xs = λ k d less.

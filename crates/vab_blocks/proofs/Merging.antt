@@ -1,5 +1,6 @@
 -- Runs that are merged into an ascending list, in the order of their first numbers.
-use Rattle.std.proofs.Common.{Bool, eqb, ◌≡◌, ℕ, ◌+◌, ◌-◌, ◌^◌, ◌<◌, ◌≤◌, List, [], ◌++◌, length, get_or, take}
+use Rattle.std.proofs.Common.{Bool, eqb, ◌≡◌, ℕ, ◌+◌, ◌-◌, ◌^◌, ◌<◌, ◌≤◌, List, [], ◌++◌, length}
+use Rattle.std.proofs.Common.{get_or, take}
 use Rattle.std.proofs.Common.{refl, sym, ap, subst, ◌∙◌, inl, inr, arith}
 use Rattle.std.specs.Prelude.{◌↔◌, max, All, Contains}
 use Rattle.std.specs.List.{list_any, range_with_len}
@@ -89,7 +90,8 @@ more_merged runs i all new end run up m lt at higher fits is =
     ] in
     let Low : ℕ → Type 0 = λ b. b < until in
     let inside : All Low more = λ k d less.
-    let c = in_range from (until - from) (get_or more k d) (k, less, get_or_default more k _ d less) in
+    let c =
+    in_range from (until - from) (get_or more k d) (k, less, get_or_default more k _ d less) in
     omega (arith, c.1, higher) in
     let lower : All (λ b. b < from) all =
     All-weaker (λ b. b < end) (λ b. b < from) (λ b h. omega (arith, h)) all m.below in
@@ -97,7 +99,8 @@ more_merged runs i all new end run up m lt at higher fits is =
       fits = fits;
       up = subst IsStrictlyIncreasing (sym is) (more_ascends all from (until - from) m.up lower);
       below = subst (All Low) (sym is)
-          (All-append Low all more (All-weaker (λ b. b < end) Low (λ b h. omega (arith, h, higher)) all m.below) inside);
+          (All-append Low all more
+          (All-weaker (λ b. b < end) Low (λ b h. omega (arith, h, higher)) all m.below) inside);
       listed = λ b. (
         λ c. subst (λ (l : List ℕ). Contains l b) (sym t.before)
             (elim (Contains-append_cases all more b (subst (λ (l : List ℕ). Contains l b) is c)) [
@@ -108,7 +111,8 @@ more_merged runs i all new end run up m lt at higher fits is =
                   (of_range run.0 run.1 b (omega (arith, r.0)) (omega (arith, r.1, higher)))
             ]),
         λ c. subst (λ (l : List ℕ). Contains l b) (sym is)
-            (elim (Contains-append_cases front own b (subst (λ (l : List ℕ). Contains l b) t.before c)) [
+            (elim (Contains-append_cases front own b
+            (subst (λ (l : List ℕ). Contains l b) t.before c)) [
               | inl old ↦ Contains-append_left all more b ((m.listed b).1 old)
               | inr new ↦ let r = in_range run.0 run.1 b new in covered b r.0 r.1
             ]),
@@ -137,11 +141,12 @@ same_merged runs i all end run up m lt at lower =
       listed = λ b. (
         λ c. subst (λ (l : List ℕ). Contains l b) (sym t.before)
             (Contains-append_left front own b ((m.listed b).0 c)),
-        λ c. elim (Contains-append_cases front own b (subst (λ (l : List ℕ). Contains l b) t.before c)) [
-          | inl old ↦ (m.listed b).1 old
-          | inr new ↦
-              let r = in_range run.0 run.1 b new in t.cover b r.0 (omega (arith, r.1, lower))
-        ],
+        λ c. elim
+            (Contains-append_cases front own b (subst (λ (l : List ℕ). Contains l b) t.before c)) [
+              | inl old ↦ (m.listed b).1 old
+              | inr new ↦
+                  let r = in_range run.0 run.1 b new in t.cover b r.0 (omega (arith, r.1, lower))
+            ],
       );
       cover = λ b d low high. t.cover b (omega (arith, low, t.first d)) high;
     }

@@ -7,7 +7,8 @@ use Rattle.std.specs.List.{flat_map, list_any, range_with_len}
 use Rattle.std.proofs.Math.Seq.{drop-cons, take-nil}
 use Rattle.std.proofs.lemmas.List.Folds.{list_any-append}
 use Rattle.std.proofs.lemmas.Bool.{cases_lt}
-use Rattle.std.proofs.lemmas.List.{length-append, length-drop, take_more, take-append-drop, append-nil}
+use Rattle.std.proofs.lemmas.List.{length-append, length-drop, take_more, take-append-drop}
+use Rattle.std.proofs.lemmas.List.{append-nil}
 use Rattle.std.proofs.lemmas.List.{nil_from_length}
 use Rattle.std.proofs.lemmas.Grind.{flat_map-append}
 use Rattle.std.proofs.lemmas.List.FromFn.{length-range_with_len}
@@ -37,7 +38,8 @@ drop_run f (suc c) (suc s) rest =
     drop_run (f + 1) c s rest
     ∙ ap (λ (i : ℕ). range_with_len i (c - min s c) ++ drop (s - min s c) rest) from
     ∙ ap (λ (i : ℕ). range_with_len (f + min (suc s) (suc c)) i ++ drop (s - min s c) rest) many
-    ∙ ap (λ (i : ℕ). range_with_len (f + min (suc s) (suc c)) (suc c - min (suc s) (suc c)) ++ drop i rest) more
+    ∙ ap (λ (i : ℕ). range_with_len (f + min (suc s) (suc c)) (suc c - min (suc s) (suc c))
+    ++ drop i rest) more
 
 pub take_run : (f c n : ℕ) (rest : List ℕ)
     → take n (range_with_len f c ++ rest)

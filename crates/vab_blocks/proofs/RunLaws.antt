@@ -1,5 +1,7 @@
 -- Laws of maximal runs.
-use Rattle.std.proofs.Common.{true, false, ◌≡◌, ◌≢◌, ℕ, zero, suc, ◌+◌, ◌-◌, ◌^◌, ◌<◌, ◌≤◌, Bool, cond, append_assoc, List, [], ◌∷◌, ◌++◌, length, get_or, take, drop, refl, sym, ap, subst, ◌∙◌, inl, inr, add-zero, add-one, arith}
+use Rattle.std.proofs.Common.{true, false, ◌≡◌, ◌≢◌, ℕ, zero, suc, ◌+◌, ◌-◌, ◌^◌, ◌<◌, ◌≤◌, Bool}
+use Rattle.std.proofs.Common.{cond, append_assoc, List, [], ◌∷◌, ◌++◌, length, get_or, take, drop}
+use Rattle.std.proofs.Common.{refl, sym, ap, subst, ◌∙◌, inl, inr, add-zero, add-one, arith}
 use Rattle.std.specs.Prelude.{◌==◌, if◌then◌else◌, All}
 use Rattle.std.specs.List.{range_with_len}
 use Rattle.std.proofs.lemmas.Bool.{both_ways, cases_eq, eq-eqb, eqb-true, ne_eqb}
@@ -10,11 +12,15 @@ use Rattle.vab_blocks.specs.Runs.{in_front, runs_of, blocks_of_runs, AreMaximal}
 
 -- ---- a block in front of runs
 
-joins : (x f c : ℕ) (runs : List (ℕ × ℕ)) → f ≡ x + 1 → in_front x ((f, c) ∷ runs) ≡ (x, c + 1) ∷ runs
-joins x f c runs e = ap (λ (b : Bool). cond b ((x, c + 1) ∷ runs) ((x, 1) ∷ (f, c) ∷ runs)) (eq-eqb f (x + 1) e)
+joins : (x f c : ℕ) (runs : List (ℕ × ℕ)) → f ≡ x + 1
+    → in_front x ((f, c) ∷ runs) ≡ (x, c + 1) ∷ runs
+joins x f c runs e =
+    ap (λ (b : Bool). cond b ((x, c + 1) ∷ runs) ((x, 1) ∷ (f, c) ∷ runs)) (eq-eqb f (x + 1) e)
 
-begins : (x f c : ℕ) (runs : List (ℕ × ℕ)) → f ≢ x + 1 → in_front x ((f, c) ∷ runs) ≡ (x, 1) ∷ (f, c) ∷ runs
-begins x f c runs ne = ap (λ (b : Bool). cond b ((x, c + 1) ∷ runs) ((x, 1) ∷ (f, c) ∷ runs)) (ne_eqb f (x + 1) ne)
+begins : (x f c : ℕ) (runs : List (ℕ × ℕ)) → f ≢ x + 1
+    → in_front x ((f, c) ∷ runs) ≡ (x, 1) ∷ (f, c) ∷ runs
+begins x f c runs ne =
+    ap (λ (b : Bool). cond b ((x, c + 1) ∷ runs) ((x, 1) ∷ (f, c) ∷ runs)) (ne_eqb f (x + 1) ne)
 
 -- the runs of a list that is not empty begin with its first block
 record Starts (x : ℕ) (runs : List (ℕ × ℕ)) : Type 0 where
@@ -35,11 +41,13 @@ starts x xs = starts_front x (runs_of xs)
 
 -- ---- the blocks again
 
-again_front : (x : ℕ) (runs : List (ℕ × ℕ)) → blocks_of_runs (in_front x runs) ≡ x ∷ blocks_of_runs runs
+again_front : (x : ℕ) (runs : List (ℕ × ℕ))
+    → blocks_of_runs (in_front x runs) ≡ x ∷ blocks_of_runs runs
 again_front x [] = refl
 again_front x ((f, c) ∷ runs) = elim (cases_eq f (x + 1)) [
   | inl e ↦
-      let more : range_with_len x (c + 1) ≡ x ∷ range_with_len f c = ap (range_with_len x) (add-one c) ∙ ap (λ (y : ℕ). x ∷ range_with_len y c) (sym e) in
+      let more : range_with_len x (c + 1) ≡ x ∷ range_with_len f c =
+      ap (range_with_len x) (add-one c) ∙ ap (λ (y : ℕ). x ∷ range_with_len y c) (sym e) in
       ap blocks_of_runs (joins x f c runs e) ∙ ap (λ (l : List ℕ). l ++ blocks_of_runs runs) more
   | inr ne ↦ ap blocks_of_runs (begins x f c runs ne)
 ]
@@ -52,13 +60,18 @@ runs_again (x ∷ xs) = again_front x (runs_of xs) ∙ ap (λ (l : List ℕ). x 
 
 -- ---- no run is empty
 
-some_front : (x : ℕ) (runs : List (ℕ × ℕ)) → All (λ run. 0 < run.1) runs → All (λ run. 0 < run.1) (in_front x runs)
+some_front : (x : ℕ) (runs : List (ℕ × ℕ)) → All (λ run. 0 < run.1) runs
+    → All (λ run. 0 < run.1) (in_front x runs)
 some_front x [] some = All-cons (λ (run : ℕ × ℕ). 0 < run.1) (x, 1) [] (omega arith) some
 some_front x ((f, c) ∷ runs) some =
     let P : ℕ × ℕ → Type 0 = λ run. 0 < run.1 in
     elim (cases_eq f (x + 1)) [
-      | inl e ↦ subst (All P) (sym (joins x f c runs e)) (All-cons P (x, c + 1) runs (omega arith) (All-tail P (f, c) runs some))
-      | inr ne ↦ subst (All P) (sym (begins x f c runs ne)) (All-cons P (x, 1) ((f, c) ∷ runs) (omega arith) some)
+      | inl e ↦
+          subst (All P) (sym (joins x f c runs e))
+          (All-cons P (x, c + 1) runs (omega arith) (All-tail P (f, c) runs some))
+      | inr ne ↦
+          subst (All P) (sym (begins x f c runs ne))
+          (All-cons P (x, 1) ((f, c) ∷ runs) (omega arith) some)
     ]
 
 pub runs_some : (xs : List ℕ) → All (λ run. 0 < run.1) (runs_of xs)
@@ -68,23 +81,31 @@ runs_some (x ∷ xs) = some_front x (runs_of xs) (runs_some xs)
 
 -- ---- runs below a bound
 
-within_front : (cap x : ℕ) (runs : List (ℕ × ℕ)) → x < cap → All (λ run. run.0 + run.1 ≤ cap) runs → All (λ run. run.0 + run.1 ≤ cap) (in_front x runs)
-within_front cap x [] lt within = All-cons (λ (run : ℕ × ℕ). run.0 + run.1 ≤ cap) (x, 1) [] (omega (arith, lt)) within
+within_front : (cap x : ℕ) (runs : List (ℕ × ℕ)) → x < cap → All (λ run. run.0 + run.1 ≤ cap) runs
+    → All (λ run. run.0 + run.1 ≤ cap) (in_front x runs)
+within_front cap x [] lt within =
+    All-cons (λ (run : ℕ × ℕ). run.0 + run.1 ≤ cap) (x, 1) [] (omega (arith, lt)) within
 within_front cap x ((f, c) ∷ runs) lt within =
     let P : ℕ × ℕ → Type 0 = λ run. run.0 + run.1 ≤ cap in
     let here : f + c ≤ cap = All-head P (f, c) runs within in
     elim (cases_eq f (x + 1)) [
-      | inl e ↦ subst (All P) (sym (joins x f c runs e)) (All-cons P (x, c + 1) runs (omega (arith, e, here)) (All-tail P (f, c) runs within))
-      | inr ne ↦ subst (All P) (sym (begins x f c runs ne)) (All-cons P (x, 1) ((f, c) ∷ runs) (omega (arith, lt)) within)
+      | inl e ↦
+          subst (All P) (sym (joins x f c runs e))
+          (All-cons P (x, c + 1) runs (omega (arith, e, here)) (All-tail P (f, c) runs within))
+      | inr ne ↦
+          subst (All P) (sym (begins x f c runs ne))
+          (All-cons P (x, 1) ((f, c) ∷ runs) (omega (arith, lt)) within)
     ]
 
 -- runs of blocks below a bound end there at the latest
-pub runs_within : (cap : ℕ) (xs : List ℕ) → All (λ b. b < cap) xs → All (λ run. run.0 + run.1 ≤ cap) (runs_of xs)
+pub runs_within : (cap : ℕ) (xs : List ℕ) → All (λ b. b < cap) xs
+    → All (λ run. run.0 + run.1 ≤ cap) (runs_of xs)
 unfolding runs_of
 runs_within cap [] below = All-nil (λ (run : ℕ × ℕ). run.0 + run.1 ≤ cap)
 runs_within cap (x ∷ xs) below =
     let B : ℕ → Type 0 = λ b. b < cap in
-    within_front cap x (runs_of xs) (All-head B x xs below) (runs_within cap xs (All-tail B x xs below))
+    within_front cap x (runs_of xs) (All-head B x xs below)
+    (runs_within cap xs (All-tail B x xs below))
 
 -- ---- runs are maximal
 
@@ -112,16 +133,20 @@ unfolding runs_of
 apart_runs [] = tt
 apart_runs (x ∷ xs) = apart_front x (runs_of xs) (apart_runs xs)
 
-apart_at : (runs : List (ℕ × ℕ)) → Apart runs → (i : ℕ) (d : ℕ × ℕ) → i + 1 < length runs → (get_or runs (i + 1) d).0 ≢ (get_or runs i d).0 + (get_or runs i d).1
+apart_at : (runs : List (ℕ × ℕ)) → Apart runs → (i : ℕ) (d : ℕ × ℕ) → i + 1 < length runs
+    → (get_or runs (i + 1) d).0 ≢ (get_or runs i d).0 + (get_or runs i d).1
 apart_at [] apart i d lt = absurd (omega (arith, lt))
 apart_at (run ∷ []) apart i d lt = absurd (omega (arith, lt))
 apart_at (run ∷ next ∷ runs) apart zero d lt = apart.0
 apart_at (run ∷ next ∷ runs) apart (suc i) d lt =
     let e : suc (i + 1) ≡ suc i + 1 = omega arith in
-    subst (λ (k : ℕ). (get_or (run ∷ next ∷ runs) k d).0 ≢ (get_or (run ∷ next ∷ runs) (suc i) d).0 + (get_or (run ∷ next ∷ runs) (suc i) d).1) e (apart_at (next ∷ runs) apart.1 i d (omega (arith, lt)))
+    subst (λ (k : ℕ). (get_or (run ∷ next ∷ runs) k d).0 ≢
+    (get_or (run ∷ next ∷ runs) (suc i) d).0 + (get_or (run ∷ next ∷ runs) (suc i) d).1) e
+    (apart_at (next ∷ runs) apart.1 i d (omega (arith, lt)))
 
 -- no run begins where the one before it ends: what could be joined is joined
-pub runs_apart : (xs : List ℕ) (i : ℕ) (d : ℕ × ℕ) → i + 1 < length (runs_of xs) → (get_or (runs_of xs) (i + 1) d).0 ≢ (get_or (runs_of xs) i d).0 + (get_or (runs_of xs) i d).1
+pub runs_apart : (xs : List ℕ) (i : ℕ) (d : ℕ × ℕ) → i + 1 < length (runs_of xs)
+    → (get_or (runs_of xs) (i + 1) d).0 ≢ (get_or (runs_of xs) i d).0 + (get_or (runs_of xs) i d).1
 runs_apart xs i d lt = apart_at (runs_of xs) (apart_runs xs) i d lt
 
 -- ---- a block behind runs
@@ -129,36 +154,49 @@ runs_apart xs i d lt = apart_at (runs_of xs) (apart_runs xs) i d lt
 -- a block behind runs: it joins the last run where that ends at it
 abbrev pub behind : List (ℕ × ℕ) → ℕ → List (ℕ × ℕ)
 behind [] block = (block, 1) ∷ []
-behind (run ∷ []) block = if block == run.0 + run.1 then (run.0, run.1 + 1) ∷ [] else run ∷ (block, 1) ∷ []
+behind (run ∷ []) block =
+    if block == run.0 + run.1 then (run.0, run.1 + 1) ∷ [] else run ∷ (block, 1) ∷ []
 behind (run ∷ next ∷ runs) block = run ∷ behind (next ∷ runs) block
 
 ends : (f c b : ℕ) → b ≡ f + c → behind ((f, c) ∷ []) b ≡ (f, c + 1) ∷ []
-ends f c b e = ap (λ (t : Bool). cond t ((f, c + 1) ∷ []) ((f, c) ∷ (b, 1) ∷ [])) (eq-eqb b (f + c) e)
+ends f c b e =
+    ap (λ (t : Bool). cond t ((f, c + 1) ∷ []) ((f, c) ∷ (b, 1) ∷ [])) (eq-eqb b (f + c) e)
 
 follows : (f c b : ℕ) → b ≢ f + c → behind ((f, c) ∷ []) b ≡ (f, c) ∷ (b, 1) ∷ []
-follows f c b ne = ap (λ (t : Bool). cond t ((f, c + 1) ∷ []) ((f, c) ∷ (b, 1) ∷ [])) (ne_eqb b (f + c) ne)
+follows f c b ne =
+    ap (λ (t : Bool). cond t ((f, c + 1) ∷ []) ((f, c) ∷ (b, 1) ∷ [])) (ne_eqb b (f + c) ne)
 
-push_front : (x : ℕ) (runs : List (ℕ × ℕ)) (b : ℕ) → in_front x (behind runs b) ≡ behind (in_front x runs) b
+push_front : (x : ℕ) (runs : List (ℕ × ℕ)) (b : ℕ)
+    → in_front x (behind runs b) ≡ behind (in_front x runs) b
 push_front x [] b = refl
 push_front x ((f, c) ∷ []) b = elim (cases_eq f (x + 1)) [
   | inl e ↦ elim (cases_eq b (f + c)) [
     | inl at ↦
         let at' : b ≡ x + (c + 1) = omega (arith, e, at) in
-        ap (in_front x) (ends f c b at) ∙ joins x f (c + 1) [] e ∙ sym (ends x (c + 1) b at') ∙ ap (λ (l : List (ℕ × ℕ)). behind l b) (sym (joins x f c [] e))
+        ap (in_front x) (ends f c b at) ∙ joins x f (c + 1) [] e ∙ sym (ends x (c + 1) b at')
+        ∙ ap (λ (l : List (ℕ × ℕ)). behind l b) (sym (joins x f c [] e))
     | inr off ↦
         let off' : b ≢ x + (c + 1) = λ h. off (omega (arith, e, h)) in
-        ap (in_front x) (follows f c b off) ∙ joins x f c ((b, 1) ∷ []) e ∙ sym (follows x (c + 1) b off') ∙ ap (λ (l : List (ℕ × ℕ)). behind l b) (sym (joins x f c [] e))
+        ap (in_front x) (follows f c b off) ∙ joins x f c ((b, 1) ∷ []) e
+        ∙ sym (follows x (c + 1) b off')
+        ∙ ap (λ (l : List (ℕ × ℕ)). behind l b) (sym (joins x f c [] e))
   ]
   | inr ne ↦ elim (cases_eq b (f + c)) [
     | inl at ↦
-        ap (in_front x) (ends f c b at) ∙ begins x f (c + 1) [] ne ∙ ap (λ (l : List (ℕ × ℕ)). (x, 1) ∷ l) (sym (ends f c b at)) ∙ ap (λ (l : List (ℕ × ℕ)). behind l b) (sym (begins x f c [] ne))
+        ap (in_front x) (ends f c b at) ∙ begins x f (c + 1) [] ne
+        ∙ ap (λ (l : List (ℕ × ℕ)). (x, 1) ∷ l) (sym (ends f c b at))
+        ∙ ap (λ (l : List (ℕ × ℕ)). behind l b) (sym (begins x f c [] ne))
     | inr off ↦
-        ap (in_front x) (follows f c b off) ∙ begins x f c ((b, 1) ∷ []) ne ∙ ap (λ (l : List (ℕ × ℕ)). (x, 1) ∷ l) (sym (follows f c b off)) ∙ ap (λ (l : List (ℕ × ℕ)). behind l b) (sym (begins x f c [] ne))
+        ap (in_front x) (follows f c b off) ∙ begins x f c ((b, 1) ∷ []) ne
+        ∙ ap (λ (l : List (ℕ × ℕ)). (x, 1) ∷ l) (sym (follows f c b off))
+        ∙ ap (λ (l : List (ℕ × ℕ)). behind l b) (sym (begins x f c [] ne))
   ]
 ]
 push_front x ((f, c) ∷ next ∷ runs) b = elim (cases_eq f (x + 1)) [
-  | inl e ↦ joins x f c (behind (next ∷ runs) b) e ∙ ap (λ (l : List (ℕ × ℕ)). behind l b) (sym (joins x f c (next ∷ runs) e))
-  | inr ne ↦ begins x f c (behind (next ∷ runs) b) ne ∙ ap (λ (l : List (ℕ × ℕ)). behind l b) (sym (begins x f c (next ∷ runs) ne))
+  | inl e ↦ joins x f c (behind (next ∷ runs) b) e
+      ∙ ap (λ (l : List (ℕ × ℕ)). behind l b) (sym (joins x f c (next ∷ runs) e))
+  | inr ne ↦ begins x f c (behind (next ∷ runs) b) ne
+      ∙ ap (λ (l : List (ℕ × ℕ)). behind l b) (sym (begins x f c (next ∷ runs) ne))
 ]
 
 -- the runs of one more block
@@ -176,13 +214,17 @@ count_joins : (x y : ℕ) (ys : List ℕ) → y ≡ x + 1 → count_of (x ∷ y 
 unfolding runs_of
 count_joins x y ys e =
     let s = starts y ys in
-    ap (λ (l : List (ℕ × ℕ)). length (in_front x l)) s.is ∙ ap (λ (l : List (ℕ × ℕ)). length l) (joins x y s.count s.rest e) ∙ ap (λ (l : List (ℕ × ℕ)). length l) (sym s.is)
+    ap (λ (l : List (ℕ × ℕ)). length (in_front x l)) s.is
+    ∙ ap (λ (l : List (ℕ × ℕ)). length l) (joins x y s.count s.rest e)
+    ∙ ap (λ (l : List (ℕ × ℕ)). length l) (sym s.is)
 
 count_begins : (x y : ℕ) (ys : List ℕ) → y ≢ x + 1 → count_of (x ∷ y ∷ ys) ≡ suc (count_of (y ∷ ys))
 unfolding runs_of
 count_begins x y ys ne =
     let s = starts y ys in
-    ap (λ (l : List (ℕ × ℕ)). length (in_front x l)) s.is ∙ ap (λ (l : List (ℕ × ℕ)). length l) (begins x y s.count s.rest ne) ∙ ap (λ (l : List (ℕ × ℕ)). suc (length l)) (sym s.is)
+    ap (λ (l : List (ℕ × ℕ)). length (in_front x l)) s.is
+    ∙ ap (λ (l : List (ℕ × ℕ)). length l) (begins x y s.count s.rest ne)
+    ∙ ap (λ (l : List (ℕ × ℕ)). suc (length l)) (sym s.is)
 
 count_more : (x : ℕ) (ys : List ℕ) → count_of (x ∷ ys) ≤ suc (count_of ys)
 unfolding runs_of
@@ -201,11 +243,13 @@ unfolding runs_of
 count_one x = refl
 
 -- two lists behind one another have no more runs than each alone
-pub runs_append_few : (xs ys : List ℕ) → length (runs_of (xs ++ ys)) ≤ length (runs_of xs) + length (runs_of ys)
+pub runs_append_few : (xs ys : List ℕ)
+    → length (runs_of (xs ++ ys)) ≤ length (runs_of xs) + length (runs_of ys)
 runs_append_few [] ys = omega arith
 runs_append_few (x ∷ []) ys = omega (arith, count_more x ys, count_one x)
 runs_append_few (x ∷ y ∷ xs) ys =
-    let rest : count_of (y ∷ xs ++ ys) ≤ count_of (y ∷ xs) + count_of ys = runs_append_few (y ∷ xs) ys in
+    let rest : count_of (y ∷ xs ++ ys) ≤ count_of (y ∷ xs) + count_of ys =
+    runs_append_few (y ∷ xs) ys in
     elim (cases_eq y (x + 1)) [
       | inl e ↦ omega (arith, rest, count_joins x y (xs ++ ys) e, count_joins x y xs e)
       | inr ne ↦ omega (arith, rest, count_begins x y (xs ++ ys) ne, count_begins x y xs ne)
@@ -220,7 +264,13 @@ runs_at_most (x ∷ xs) = omega (arith, runs_at_most xs, count_more x xs)
 pub runs_of_range : (a n : ℕ) → length (runs_of (range_with_len a n)) ≤ 1
 runs_of_range a zero = omega (arith, count_none)
 runs_of_range a (suc zero) = omega (arith, count_one a)
-runs_of_range a (suc (suc n)) = omega (arith, runs_of_range (a + 1) (suc n), count_joins a (a + 1) (range_with_len (a + 1 + 1) n) refl)
+runs_of_range a (suc (suc n)) =
+    omega (
+      arith,
+      runs_of_range (a + 1) (suc n),
+      count_joins a (a + 1)
+          (range_with_len (a + 1 + 1) n) refl,
+    )
 
 -- ---- the first run
 
@@ -228,43 +278,57 @@ runs_of_range a (suc (suc n)) = omega (arith, runs_of_range (a + 1) (suc n), cou
 abbrev pub BeginsElsewhere : ℕ → List ℕ → Type 0
 BeginsElsewhere v xs = 0 < length xs → get_or xs 0 0 ≢ v
 
-one_more : (x : ℕ) (ys : List ℕ) → BeginsElsewhere (x + 1) ys → runs_of (x ∷ ys) ≡ (x, 1) ∷ runs_of ys
+one_more : (x : ℕ) (ys : List ℕ) → BeginsElsewhere (x + 1) ys
+    → runs_of (x ∷ ys) ≡ (x, 1) ∷ runs_of ys
 unfolding runs_of
 one_more x [] off = refl
 one_more x (y ∷ ys) off =
     let s = starts y ys in
     let ne : y ≢ x + 1 = off (omega arith) in
-    ap (in_front x) s.is ∙ begins x y s.count s.rest ne ∙ ap (λ (l : List (ℕ × ℕ)). (x, 1) ∷ l) (sym s.is)
+    ap (in_front x) s.is ∙ begins x y s.count s.rest ne
+    ∙ ap (λ (l : List (ℕ × ℕ)). (x, 1) ∷ l) (sym s.is)
 
 -- consecutive numbers are the first run where others follow them
-pub runs_of_front : (a n : ℕ) (ys : List ℕ) → BeginsElsewhere (a + n + 1) ys → runs_of (range_with_len a (suc n) ++ ys) ≡ (a, suc n) ∷ runs_of ys
+pub runs_of_front : (a n : ℕ) (ys : List ℕ) → BeginsElsewhere (a + n + 1) ys
+    → runs_of (range_with_len a (suc n) ++ ys) ≡ (a, suc n) ∷ runs_of ys
 unfolding runs_of
 runs_of_front a zero ys off = one_more a ys (λ some. let o = off some in λ e. o (omega (arith, e)))
 runs_of_front a (suc n) ys off =
     let ih = runs_of_front (a + 1) n ys (λ some. let o = off some in λ e. o (omega (arith, e))) in
-    ap (in_front a) ih ∙ joins a (a + 1) (suc n) (runs_of ys) refl ∙ ap (λ (k : ℕ). (a, k) ∷ runs_of ys) (add-one (suc n))
+    ap (in_front a) ih ∙ joins a (a + 1) (suc n) (runs_of ys) refl
+    ∙ ap (λ (k : ℕ). (a, k) ∷ runs_of ys) (add-one (suc n))
 
 -- the same, cut at a place
-pub runs_at_front : (xs : List ℕ) (a n : ℕ) → 0 < n → take n xs ≡ range_with_len a n → BeginsElsewhere (a + n) (drop n xs) → runs_of xs ≡ (a, n) ∷ runs_of (drop n xs)
+pub runs_at_front : (xs : List ℕ) (a n : ℕ) → 0 < n → take n xs ≡ range_with_len a n
+    → BeginsElsewhere (a + n) (drop n xs) → runs_of xs ≡ (a, n) ∷ runs_of (drop n xs)
 runs_at_front xs a zero some front off = absurd (omega (arith, some))
 runs_at_front xs a (suc n) some front off =
-    let whole : range_with_len a (suc n) ++ drop (suc n) xs ≡ xs = ap (λ (l : List ℕ). l ++ drop (suc n) xs) (sym front) ∙ take-append-drop (suc n) xs in
+    let whole : range_with_len a (suc n) ++ drop (suc n) xs ≡ xs =
+    ap (λ (l : List ℕ). l ++ drop (suc n) xs) (sym front) ∙ take-append-drop (suc n) xs in
     let e : a + n + 1 ≡ a + suc n = omega arith in
     ap runs_of (sym whole) ∙ runs_of_front a n (drop (suc n) xs) (rw e off)
 
-front_counts : (xs : List ℕ) (a n : ℕ) → n ≤ length xs → ((k : ℕ) → k < n → get_or xs k 0 ≡ a + k) → take n xs ≡ range_with_len a n
+front_counts : (xs : List ℕ) (a n : ℕ) → n ≤ length xs → ((k : ℕ) → k < n → get_or xs k 0 ≡ a + k)
+    → take n xs ≡ range_with_len a n
 front_counts xs a zero le at = refl
 front_counts [] a (suc n) le at = absurd (omega (arith, le))
 front_counts (x ∷ xs) a (suc n) le at =
     let here : x ≡ a = omega (arith, at 0 (omega arith)) in
-    let rest = front_counts xs (a + 1) n (omega (arith, le)) (λ k lt. omega (arith, at (suc k) (omega (arith, lt)))) in
+    let rest =
+    front_counts xs (a + 1) n (omega (arith, le))
+    (λ k lt. omega (arith, at (suc k) (omega (arith, lt)))) in
     ap (λ (y : ℕ). y ∷ take n xs) here ∙ ap (λ (l : List ℕ). a ∷ l) rest
 
 -- the same, where each number is known by its place
-pub runs_by_places : (xs : List ℕ) (n : ℕ) → 0 < n → n ≤ length xs → ((k : ℕ) → k < n → get_or xs k 0 ≡ get_or xs 0 0 + k) → (n < length xs → get_or xs n 0 ≢ get_or xs 0 0 + n) → runs_of xs ≡ (get_or xs 0 0, n) ∷ runs_of (drop n xs)
+pub runs_by_places : (xs : List ℕ) (n : ℕ) → 0 < n → n ≤ length xs
+    → ((k : ℕ) → k < n → get_or xs k 0 ≡ get_or xs 0 0 + k)
+    → (n < length xs → get_or xs n 0 ≢ get_or xs 0 0 + n)
+    → runs_of xs ≡ (get_or xs 0 0, n) ∷ runs_of (drop n xs)
 runs_by_places xs n some le at off =
     let a : ℕ = get_or xs 0 0 in
-    let elsewhere : BeginsElsewhere (a + n) (drop n xs) = λ more e. off (omega (arith, more, length-drop n xs)) (ap (λ (k : ℕ). get_or xs k 0) (sym (add-zero n)) ∙ sym (get_or-drop n xs 0 0) ∙ e) in
+    let elsewhere : BeginsElsewhere (a + n) (drop n xs) =
+    λ more e. off (omega (arith, more, length-drop n xs))
+    (ap (λ (k : ℕ). get_or xs k 0) (sym (add-zero n)) ∙ sym (get_or-drop n xs 0 0) ∙ e) in
     runs_at_front xs a n some (front_counts xs a n le at) elsewhere
 
 pub runs_of_none : (xs : List ℕ) → length xs ≡ 0 → runs_of xs ≡ []

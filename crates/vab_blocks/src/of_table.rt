@@ -16,7 +16,8 @@ use vab_tables::{Extent, NoMemory, Table};
 const BLOCK: u64 = 8;
 
 impl Runs {
-    /// The blocks of the table's partitions that have one of these names. `NoMemory` where memory is
+    /// The blocks of the table's partitions that have one of these names. `NoMemory` where memory
+    /// is
     /// refused.
     pub fn of_table(alloc: Global, table: &Table, names: &[Name36]) -> Result<Runs, NoMemory>
         requires { KeepsRules table.now }

@@ -57,10 +57,12 @@ impl Runs {
         Ok(Runs { blocks })
     }
 
-    /// The `n` lowest of these numbers, or `None` exactly where there are fewer than `n`. `NoMemory`
+    /// The `n` lowest of these numbers, or `None` exactly where there are fewer than `n`.
+    /// `NoMemory`
     /// where memory is refused.
     pub fn take_lowest(&self, alloc: Global, n: u64) -> Result<Option<Runs>, NoMemory>
-        ensures value { IfOk result (λ o. o ≡ (if nat_lt (length self.now) n then None else Some (take n self.now))) }
+        ensures value { IfOk result
+            (λ o. o ≡ (if nat_lt (length self.now) n then None else Some (take n self.now))) }
         ensures ascends { IfOk result (λ o. IfSome o (λ r. IsStrictlyIncreasing r)) }
     {
         if self.count() < n {

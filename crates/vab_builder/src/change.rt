@@ -16,7 +16,8 @@ use crate::store::add_store;
 use std::alloc::Global;
 use vab_layout::Layout;
 
-/// The target's layout after an edit, beside the source's. The refusals come in the order of `EditFault`, each exactly where it says;
+/// The target's layout after an edit, beside the source's. The refusals come in the order of
+/// `EditFault`, each exactly where it says;
 /// `NoMemory` where memory is refused.
 pub(crate) fn change(
     alloc: Global,
@@ -39,7 +40,9 @@ pub(crate) fn change(
     // A partition more at most, a group more at most, and not too many runs more.
     ensures few_parts { IfOk result (λ l. length l.parts ≤ length target.parts + 1) }
     ensures few_groups { IfOk result (λ l. length l.groups ≤ length target.groups + 1) }
-    ensures few_runs { IfOk result (λ l. sum_by (λ p. length (runs_of p.blocks)) l.parts ≤ sum_by (λ p. length (runs_of p.blocks)) target.parts + 2 ^ 40) }
+    ensures few_runs { IfOk result
+        (λ l. sum_by (λ p. length (runs_of p.blocks)) l.parts
+        ≤ sum_by (λ p. length (runs_of p.blocks)) target.parts + 2 ^ 40) }
 {
     match *edit {
         Edit::Create(name, bytes) => create(alloc, source, target, slot, name, bytes),

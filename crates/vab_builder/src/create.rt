@@ -1,11 +1,13 @@
 //! A partition more.
 
-ghost use Rattle.std.specs.Prelude.{◌≡◌, ◌≤◌, ◌<◌, ◌-◌, ◌++◌, ◌∷◌, [], length, IfOk, MatchResult, if◌then◌else◌};
+ghost use Rattle.std.specs.Prelude.{◌≡◌, ◌≤◌, ◌<◌, ◌-◌, ◌++◌, ◌∷◌, [], length, IfOk, MatchResult};
+ghost use Rattle.std.specs.Prelude.{if◌then◌else◌};
 ghost use Rattle.std.specs.Str.{bytes_eq};
 ghost use Rattle.vab_names.specs.Names.{default_name};
 ghost use Rattle.vab_layout.specs.Slots.{before_of};
 ghost use Rattle.vab_layout.specs.Plain.{default_group, own_groups};
-ghost use Rattle.vab_builder.specs.Edits.{created, created_blocks, first_group, free_of, with_created, with_group};
+ghost use Rattle.vab_builder.specs.Edits.{created, created_blocks, first_group, free_of};
+ghost use Rattle.vab_builder.specs.Edits.{with_created, with_group};
 ghost use Rattle.vab_builder.specs.Gives.{GivesLayout};
 ghost use Rattle.vab_builder.specs.Update.{IsUpdate, Refuses};
 ghost use Rattle.vab_builder.specs.Verdicts.{IsCreated};
@@ -55,7 +57,9 @@ fn judged(
     bytes: u64,
 ) -> Result<Name36, EditFault>
     requires { IsUpdate slot source.now target.now }
-    ensures { MatchResult result (λ n. (n ≡ name.now) × IsCreated slot source.now target.now name.now bytes) (Refuses (created slot source.now target.now name.now bytes)) }
+    ensures { MatchResult result (λ n. (n ≡ name.now)
+        × IsCreated slot source.now target.now name.now bytes)
+        (Refuses (created slot source.now target.now name.now bytes)) }
 {
     let Some(name) = full_name(name, slot) else {
         return Err(EditFault::BadName);
@@ -111,7 +115,22 @@ fn created_blocks(
 // The target with a partition of these blocks at the end, in the slot's first group.
 fn with_part(target: Layout, slot: usize, name: Name36, blocks: Blocks) -> Result<Layout, NoMemory>
     requires { slot < 2 }
-    ensures { IfOk result (λ l. l ≡ record target { parts = target.parts ++ record { name = name; attributes = 5; group = first_group (own_groups slot target.groups); blocks = blocks } ∷ []; groups = if bytes_eq (first_group (own_groups slot target.groups)) default_name then with_group default_group target.groups else target.groups }) }
+    ensures { IfOk result
+        (λ l. l
+        ≡ record target {
+          parts =
+              target.parts
+              ++ record {
+                name = name;
+                attributes = 5;
+                group =
+                    first_group (own_groups slot target.groups);
+                blocks = blocks;
+              } ∷ [];
+          groups =
+              if bytes_eq (first_group (own_groups slot target.groups)) default_name then with_group
+              default_group target.groups else target.groups;
+        }) }
 {
     let Layout {
         parts,
@@ -137,7 +156,10 @@ fn with_part(target: Layout, slot: usize, name: Name36, blocks: Blocks) -> Resul
 
 // The groups with that of no slot, if it is this one.
 fn with_default(groups: Vec<Group>, group: &Name36) -> Result<Vec<Group>, NoMemory>
-    ensures { IfOk result (λ v. v.items ≡ (if bytes_eq group.now default_name then with_group default_group groups.items else groups.items)) }
+    ensures { IfOk result
+        (λ v. v.items
+        ≡ (if bytes_eq group.now default_name then with_group default_group groups.items else
+        groups.items)) }
 {
     if *group == default_group() {
         with_group(groups, *group)

@@ -14,7 +14,8 @@ use std::alloc::Global;
 use vab_layout::Layout;
 use vab_tables::Table;
 
-/// The table of a layout. `TableFull` exactly where its text is longer than `max` bytes; `NoMemory` where memory is refused.
+/// The table of a layout. `TableFull` exactly where its text is longer than `max` bytes; `NoMemory`
+/// where memory is refused.
 pub(crate) fn fitting(alloc: Global, layout: &Layout, max: u32) -> Result<Table, EditFault>
     requires rules { IsLayout layout.now }
     requires parts { length layout.now.parts < 2 ^ 56 }

@@ -11,7 +11,8 @@ use vab_layout::{Layout, Part};
 use vab_names::{is_of_slot, is_store};
 use vab_tables::NoMemory;
 
-/// The blocks that are in no partition of the source, and in no partition and no store of the target.
+/// The blocks that are in no partition of the source, and in no partition and no store of the
+/// target.
 pub(crate) fn free_blocks(
     alloc: Global,
     source: &Layout,

@@ -1,6 +1,7 @@
 //! Names, partitions and groups of an edited target.
 
-ghost use Rattle.std.specs.Prelude.{◌≡◌, ◌↔◌, ◌≤◌, ◌<◌, ◌++◌, ◌∷◌, [], take, length, IfOk, OnOk, IfSome, IsSome, IsTrue, not};
+ghost use Rattle.std.specs.Prelude.{◌≡◌, ◌↔◌, ◌≤◌, ◌<◌, ◌++◌, ◌∷◌, [], take, length, IfOk, OnOk};
+ghost use Rattle.std.specs.Prelude.{IfSome, IsSome, IsTrue, not};
 ghost use Rattle.std.specs.List.{filter};
 ghost use Rattle.std.specs.Str.{bytes_eq};
 ghost use Rattle.vab_names.specs.Names.{is_full};
@@ -90,7 +91,9 @@ pub(crate) fn kept_blocks(
 
 /// The groups with one of this name, flags 0 and no limit, as the last where there is none.
 pub(crate) fn with_group(mut groups: Vec<Group>, name: Name36) -> Result<Vec<Group>, NoMemory>
-    ensures { IfOk result (λ v. v.items ≡ with_group record { name = name; flags = 0; maximum_size = 0 } groups.items) }
+    ensures { IfOk result
+        (λ v. v.items
+        ≡ with_group record { name = name; flags = 0; maximum_size = 0 } groups.items) }
 {
     if !has_group(&groups, &name) {
         groups.push(Group {

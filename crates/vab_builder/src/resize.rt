@@ -53,7 +53,9 @@ fn judged(
     bytes: u64,
 ) -> Result<Name36, EditFault>
     requires { IsUpdate slot source.now target.now }
-    ensures { MatchResult result (λ n. (n ≡ name.now) × IsResized slot source.now target.now name.now bytes) (Refuses (resized slot source.now target.now name.now bytes)) }
+    ensures { MatchResult result (λ n. (n ≡ name.now)
+        × IsResized slot source.now target.now name.now bytes)
+        (Refuses (resized slot source.now target.now name.now bytes)) }
 {
     let Some(name) = full_name(name, slot) else {
         return Err(EditFault::BadName);
@@ -83,7 +85,8 @@ fn judged(
     Ok(name)
 }
 
-// The blocks of the partition of this name at another size: what it keeps, and then the lowest free ones.
+// The blocks of the partition of this name at another size: what it keeps, and then the lowest free
+// ones.
 fn resized_blocks(
     alloc: Global,
     source: &Layout,
@@ -111,7 +114,10 @@ fn resized_blocks(
 // The target where the partition of this name has these blocks and is marked as updated.
 fn with_blocks(target: Layout, name: &Name36, blocks: Blocks) -> Layout
     requires { NamesDiffer (λ p. p.name) target.parts }
-    ensures { result ≡ record target { parts = changed name.now (λ p. record (updated p) { blocks = blocks }) target.parts } }
+    ensures { result ≡ record target {
+      parts =
+          changed name.now (λ p. record (updated p) { blocks = blocks }) target.parts;
+    } }
 {
     let Layout {
         parts,

@@ -2,7 +2,8 @@
 
 ghost use Rattle.std.specs.Prelude.{◌≡◌, ◌≤◌, ◌<◌, length, All, IfOk};
 ghost use Rattle.vab_layout.specs.Slots.{other_slot, IsOwn, own_parts};
-ghost use Rattle.vab_builder.specs.Sizes.{source_sizes, want_of, wants_of, wants_resized, wants_stored};
+ghost use Rattle.vab_builder.specs.Sizes.{source_sizes, want_of, wants_of, wants_resized};
+ghost use Rattle.vab_builder.specs.Sizes.{wants_stored};
 ghost use Rattle.vab_builder.specs.Sizes.{sizes_in, WantFits};
 
 use crate::find::{count_before, count_named};

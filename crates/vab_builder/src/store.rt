@@ -50,7 +50,9 @@ fn judged(
     bytes: u64,
 ) -> Result<(Name36, u64), EditFault>
     requires { IsUpdate slot source.now target.now }
-    ensures { MatchResult result (λ r. (r.0 ≡ name.now) × (r.1 ≡ store_blocks target.now name.now bytes) × IsStored slot source.now target.now name.now bytes) (Refuses (stored slot source.now target.now name.now bytes)) }
+    ensures { MatchResult result (λ r. (r.0 ≡ name.now) × (r.1 ≡ store_blocks target.now name.now bytes)
+        × IsStored slot source.now target.now name.now bytes)
+        (Refuses (stored slot source.now target.now name.now bytes)) }
 {
     let Some(name) = full_name(name, slot) else {
         return Err(EditFault::BadName);
@@ -81,7 +83,8 @@ fn is_store_size(bytes: u64) -> bool
     bytes <= MAX_BYTES && (bytes == 0 || blocks(bytes) > 1)
 }
 
-// Blocks of a store of so many bytes; 0 bytes are as many blocks as all blocks of the partition may need.
+// Blocks of a store of so many bytes; 0 bytes are as many blocks as all blocks of the partition may
+// need.
 fn store_blocks(target: &Layout, name: &Name36, bytes: u64) -> u64
     requires { length (blocks_named name.now target.now.parts) ≤ 2 ^ 28 }
     ensures { result ≡ store_blocks target.now name.now bytes }
@@ -93,11 +96,25 @@ fn store_blocks(target: &Layout, name: &Name36, bytes: u64) -> u64
     }
 }
 
-// The target with a store of these blocks at the end, in the stores' group, its partition marked as updated.
+// The target with a store of these blocks at the end, in the stores' group, its partition marked as
+// updated.
 fn with_store(target: Layout, name: &Name36, blocks: Blocks) -> Result<Layout, NoMemory>
     requires differ { NamesDiffer (λ p. p.name) target.parts }
     requires short { length name.now ≤ 32 }
-    ensures { IfOk result (λ l. l ≡ record target { parts = changed name.now updated target.parts ++ record { name = store_of name.now; attributes = 0; group = store_group_name; blocks = blocks } ∷ []; groups = with_group stores_group target.groups }) }
+    ensures { IfOk result
+        (λ l. l
+        ≡ record target {
+          parts =
+              changed name.now updated target.parts
+              ++ record {
+                name = store_of name.now;
+                attributes = 0;
+                group = store_group_name;
+                blocks =
+                    blocks;
+              } ∷ [];
+          groups = with_group stores_group target.groups;
+        }) }
 {
     let Layout {
         parts,

@@ -29,21 +29,51 @@ abbrev pub group_at : List Group → ℕ → List ℕ
 group_at groups index = name_of_first (drop index groups)
 
 abbrev pub part_of : Table → Partition → Part
-part_of t p = record { name = p.name; attributes = p.attributes; group = group_at t.groups p.group; blocks = blocks_of_partition t p }
+part_of t p =
+    record {
+      name = p.name;
+      attributes = p.attributes;
+      group = group_at t.groups p.group;
+      blocks =
+          blocks_of_partition t p;
+    }
 
 abbrev pub first_device : List BlockDevice → BlockDevice
-first_device [] = record { first_logical_sector = 0; alignment = 0; alignment_offset = 0; size = 0; partition_name = []; flags = 0 }
+first_device [] =
+    record {
+      first_logical_sector = 0;
+      alignment = 0;
+      alignment_offset = 0;
+      size =
+          0;
+      partition_name = [];
+      flags = 0;
+    }
 first_device (d ∷ ds) = d
 
 -- the table as lists of blocks
 unfoldable pub layout_of : Table → Layout
-layout_of t = record { parts = map (part_of t) t.partitions; groups = t.groups; device = first_device t.devices; flags = t.flags }
+layout_of t =
+    record {
+      parts = map (part_of t) t.partitions;
+      groups = t.groups;
+      device =
+          first_device t.devices;
+      flags = t.flags;
+    }
 
 -- ---- the table of it
 
 -- a run of blocks as an extent
 abbrev pub extent_of_run : ℕ → ℕ × ℕ → Extent
-extent_of_run first run = record { sectors = 8 * run.1; target_type = 0; first_sector = first + 8 * run.0; target_source = 0 }
+extent_of_run first run =
+    record {
+      sectors = 8 * run.1;
+      target_type = 0;
+      first_sector = first + 8 * run.0;
+      target_source =
+          0;
+    }
 
 -- the extents of a partition: the maximal runs of its blocks
 abbrev pub extents_of_part : ℕ → Part → List Extent
@@ -57,10 +87,18 @@ index_of groups name = unwrap_or (position (λ g. bytes_eq g.name name) groups) 
 abbrev pub partitions_from : ℕ → List Group → List Part → List Partition
 partitions_from index groups [] = []
 partitions_from index groups (p ∷ ps) =
-    record { name = p.name; attributes = p.attributes; first_extent = index; extent_count = length (runs_of p.blocks); group = index_of groups p.group }
+    record {
+      name = p.name;
+      attributes = p.attributes;
+      first_extent = index;
+      extent_count =
+          length (runs_of p.blocks);
+      group = index_of groups p.group;
+    }
     ∷ partitions_from (index + length (runs_of p.blocks)) groups ps
 
--- the table of minor version 2 whose partitions have these blocks, their extents in the order of the partitions
+-- the table of minor version 2 whose partitions have these blocks, their extents in the order of
+-- the partitions
 unfoldable pub table_of : Layout → Table
 table_of l = record {
   partitions = partitions_from 0 l.groups l.parts;

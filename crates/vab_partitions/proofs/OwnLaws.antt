@@ -1,10 +1,13 @@
 -- The steps of a loop over the own partitions.
-use Rattle.std.proofs.Common.{◌≡◌, ℕ, suc, ◌+◌, ◌≤◌, ◌<◌, Bool, true, false, ◌&&◌, ◌||◌, ltb, leb, List, [], ◌∷◌, ◌++◌, length, get_or, take, drop, ◌^◌, Some, None, refl, sym, ◌∙◌, ap, subst, arith}
+use Rattle.std.proofs.Common.{◌≡◌, ℕ, suc, ◌+◌, ◌≤◌, ◌<◌, Bool, true, false, ◌&&◌, ◌||◌, ltb, leb}
+use Rattle.std.proofs.Common.{List, [], ◌∷◌, ◌++◌, length, get_or, take, drop, ◌^◌, Some, None}
+use Rattle.std.proofs.Common.{refl, sym, ◌∙◌, ap, subst, arith}
 use Rattle.std.specs.Prelude.{map, All}
 use Rattle.std.specs.Str.{bytes_eq}
 use Rattle.std.proofs.Math.Seq.{drop-cons}
 use Rattle.std.proofs.lemmas.Bool.{and_parts}
-use Rattle.std.proofs.lemmas.List.{append-nil, take-append-drop, take_all, take_more, append_assoc, length-append, length-drop, nil_from_length}
+use Rattle.std.proofs.lemmas.List.{append-nil, take-append-drop, take_all, take_more, append_assoc}
+use Rattle.std.proofs.lemmas.List.{length-append, length-drop, nil_from_length}
 use Rattle.std.proofs.lemmas.List.Elements.{filter-append, All-append, All-take, All-drop}
 use Rattle.vab_names.specs.Names.{is_base, is_of_slot, base_of, default_name}
 use Rattle.vab_tables.specs.declared.entries.Partition.{Partition}
@@ -14,7 +17,8 @@ use Rattle.vab_tables.specs.declared.table.Table.{Table}
 use Rattle.vab_tables.specs.Rules.{IsExtent, KeepsRules}
 use Rattle.vab_blocks.specs.Blocks.{first_sector_of, extents_of}
 use Rattle.vab_layout.specs.declared.layout.Part.{Part}
-use Rattle.vab_layout.specs.Layout.{part_of, group_at, blocks_of_partition, blocks_of_parts, layout_of, first_device}
+use Rattle.vab_layout.specs.Layout.{part_of, group_at, blocks_of_partition, blocks_of_parts}
+use Rattle.vab_layout.specs.Layout.{layout_of, first_device}
 use Rattle.vab_layout.specs.Slots.{own_parts}
 use Rattle.vab_partitions.specs.Rules.{is_distinct, part_passes, bad_part}
 use Rattle.vab_blocks.specs.Blocks.{blocks_of_extent}
@@ -22,42 +26,63 @@ use Rattle.std.specs.List.{flat_map}
 use Rattle.vab_blocks.proofs.Distinct.{distinct_left}
 use Rattle.vab_partitions.specs.Own.{own_before, own_from}
 
-map-append : (f : Partition → Part) (xs ys : List Partition) → map f (xs ++ ys) ≡ map f xs ++ map f ys
+map-append : (f : Partition → Part) (xs ys : List Partition)
+    → map f (xs ++ ys) ≡ map f xs ++ map f ys
 map-append f [] ys = refl
 map-append f (x ∷ xs) ys = ap (λ (l : List Part). f x ∷ l) (map-append f xs ys)
 
-before_split : (slot : ℕ) (t : Table) (i : ℕ) (d : Partition) → i < length t.partitions → own_before slot t (i + 1) ≡ own_before slot t i ++ own_parts slot (part_of t (get_or t.partitions i d) ∷ [])
+before_split : (slot : ℕ) (t : Table) (i : ℕ) (d : Partition) → i < length t.partitions
+    → own_before slot t (i + 1) ≡ own_before slot t i
+    ++ own_parts slot (part_of t (get_or t.partitions i d) ∷ [])
 before_split slot t i d lt =
     ap (λ (l : List Partition). own_parts slot (map (part_of t) l)) (take_more t.partitions i d lt)
-    ∙ ap (own_parts slot) (map-append (part_of t) (take i t.partitions) (get_or t.partitions i d ∷ []))
-    ∙ filter-append (λ (p : Part). is_of_slot slot p.name) (map (part_of t) (take i t.partitions)) (part_of t (get_or t.partitions i d) ∷ [])
+    ∙ ap (own_parts slot)
+    (map-append (part_of t) (take i t.partitions) (get_or t.partitions i d ∷ []))
+    ∙ filter-append (λ (p : Part). is_of_slot slot p.name) (map (part_of t) (take i t.partitions))
+    (part_of t (get_or t.partitions i d) ∷ [])
 
-from_split : (slot : ℕ) (t : Table) (i : ℕ) (d : Partition) → i < length t.partitions → own_from slot t i ≡ own_parts slot (part_of t (get_or t.partitions i d) ∷ map (part_of t) (drop (i + 1) t.partitions))
+from_split : (slot : ℕ) (t : Table) (i : ℕ) (d : Partition) → i < length t.partitions
+    → own_from slot t i
+    ≡ own_parts slot
+    (part_of t (get_or t.partitions i d) ∷ map (part_of t) (drop (i + 1) t.partitions))
 from_split slot t i d lt =
     let s : suc i ≡ i + 1 = omega arith in
-    ap (λ (l : List Partition). own_parts slot (map (part_of t) l)) (drop-cons t.partitions i d lt ∙ ap (λ (k : ℕ). get_or t.partitions i d ∷ drop k t.partitions) s)
+    ap (λ (l : List Partition). own_parts slot (map (part_of t) l)) (drop-cons t.partitions i d lt
+    ∙ ap (λ (k : ℕ). get_or t.partitions i d ∷ drop k t.partitions) s)
 
 -- a partition of the other slot is passed over
-pub skip_before : (slot : ℕ) (t : Table) (i : ℕ) (d : Partition) → i < length t.partitions → is_of_slot slot (get_or t.partitions i d).name ≡ false → own_before slot t (i + 1) ≡ own_before slot t i
+pub skip_before : (slot : ℕ) (t : Table) (i : ℕ) (d : Partition) → i < length t.partitions
+    → is_of_slot slot (get_or t.partitions i d).name ≡ false
+    → own_before slot t (i + 1) ≡ own_before slot t i
 skip_before slot t i d lt other =
     let none : own_parts slot (part_of t (get_or t.partitions i d) ∷ []) ≡ [] = rw other refl in
-    before_split slot t i d lt ∙ ap (λ (l : List Part). own_before slot t i ++ l) none ∙ append-nil (own_before slot t i)
+    before_split slot t i d lt ∙ ap (λ (l : List Part). own_before slot t i ++ l) none
+    ∙ append-nil (own_before slot t i)
 
-pub skip_from : (slot : ℕ) (t : Table) (i : ℕ) (d : Partition) → i < length t.partitions → is_of_slot slot (get_or t.partitions i d).name ≡ false → own_from slot t i ≡ own_from slot t (i + 1)
+pub skip_from : (slot : ℕ) (t : Table) (i : ℕ) (d : Partition) → i < length t.partitions
+    → is_of_slot slot (get_or t.partitions i d).name ≡ false
+    → own_from slot t i ≡ own_from slot t (i + 1)
 skip_from slot t i d lt other = from_split slot t i d lt ∙ rw other refl
 
 -- one of the slot is the next
-pub take_before : (slot : ℕ) (t : Table) (i : ℕ) (d : Partition) → i < length t.partitions → is_of_slot slot (get_or t.partitions i d).name ≡ true → own_before slot t (i + 1) ≡ own_before slot t i ++ part_of t (get_or t.partitions i d) ∷ []
+pub take_before : (slot : ℕ) (t : Table) (i : ℕ) (d : Partition) → i < length t.partitions
+    → is_of_slot slot (get_or t.partitions i d).name ≡ true
+    → own_before slot t (i + 1) ≡ own_before slot t i ++ part_of t (get_or t.partitions i d) ∷ []
 take_before slot t i d lt own =
-    let one : own_parts slot (part_of t (get_or t.partitions i d) ∷ []) ≡ part_of t (get_or t.partitions i d) ∷ [] = rw own refl in
+    let one : own_parts slot (part_of t (get_or t.partitions i d) ∷ [])
+    ≡ part_of t (get_or t.partitions i d) ∷ [] = rw own refl in
     before_split slot t i d lt ∙ ap (λ (l : List Part). own_before slot t i ++ l) one
 
-pub take_from : (slot : ℕ) (t : Table) (i : ℕ) (d : Partition) → i < length t.partitions → is_of_slot slot (get_or t.partitions i d).name ≡ true → own_from slot t i ≡ part_of t (get_or t.partitions i d) ∷ own_from slot t (i + 1)
+pub take_from : (slot : ℕ) (t : Table) (i : ℕ) (d : Partition) → i < length t.partitions
+    → is_of_slot slot (get_or t.partitions i d).name ≡ true
+    → own_from slot t i ≡ part_of t (get_or t.partitions i d) ∷ own_from slot t (i + 1)
 take_from slot t i d lt own = from_split slot t i d lt ∙ rw own refl
 
-pub blocks_append : (xs ys : List Part) → blocks_of_parts (xs ++ ys) ≡ blocks_of_parts xs ++ blocks_of_parts ys
+pub blocks_append : (xs ys : List Part)
+    → blocks_of_parts (xs ++ ys) ≡ blocks_of_parts xs ++ blocks_of_parts ys
 blocks_append [] ys = refl
-blocks_append (x ∷ xs) ys = ap (λ (l : List ℕ). x.blocks ++ l) (blocks_append xs ys) ∙ sym (append_assoc x.blocks (blocks_of_parts xs) (blocks_of_parts ys))
+blocks_append (x ∷ xs) ys = ap (λ (l : List ℕ). x.blocks ++ l) (blocks_append xs ys)
+    ∙ sym (append_assoc x.blocks (blocks_of_parts xs) (blocks_of_parts ys))
 
 -- the blocks of a partition are those of its extents
 pub partition_blocks : (t : Table) (p : Partition)
@@ -67,7 +92,8 @@ partition_blocks t p = refl
 
 -- ---- the test of one partition
 
-tests : (base small group few apart : Bool) → base && small && group && few && apart ≡ (base && group && few) && small && apart
+tests : (base small group few apart : Bool)
+    → base && small && group && few && apart ≡ (base && group && few) && small && apart
 tests false small group few apart = refl
 tests true true false few apart = refl
 tests true true true false apart = refl
@@ -87,16 +113,29 @@ pub both_pass : (a s d ok : Bool) → a ≡ true → s ≡ true → ok ≡ d →
 both_pass a s d ok ha hs h = rw (ha, hs) h
 
 -- the test, as the code makes it
-pub part_passes_is : (slot : ℕ) (t : Table) (earlier : List Part) (p : Partition) → part_passes slot earlier (part_of t p) ≡ (is_base (base_of p.name) && (bytes_eq (group_at t.groups p.group) default_name || is_of_slot slot (group_at t.groups p.group)) && ltb (length earlier) 32) && leb (length (blocks_of_partition t p)) (2 ^ 28) && is_distinct (blocks_of_parts earlier ++ blocks_of_partition t p)
-part_passes_is slot t earlier p = tests (is_base (base_of p.name)) (leb (length (blocks_of_partition t p)) (2 ^ 28)) (bytes_eq (group_at t.groups p.group) default_name || is_of_slot slot (group_at t.groups p.group)) (ltb (length earlier) 32) (is_distinct (blocks_of_parts earlier ++ blocks_of_partition t p))
+pub part_passes_is : (slot : ℕ) (t : Table) (earlier : List Part) (p : Partition)
+    → part_passes slot earlier (part_of t p)
+    ≡ (is_base (base_of p.name)
+    && (bytes_eq (group_at t.groups p.group) default_name
+    || is_of_slot slot (group_at t.groups p.group)) && ltb (length earlier) 32)
+    && leb (length (blocks_of_partition t p)) (2 ^ 28)
+    && is_distinct (blocks_of_parts earlier ++ blocks_of_partition t p)
+part_passes_is slot t earlier p =
+    tests (is_base (base_of p.name)) (leb (length (blocks_of_partition t p)) (2 ^ 28))
+    (bytes_eq (group_at t.groups p.group) default_name
+    || is_of_slot slot (group_at t.groups p.group)) (ltb (length earlier) 32)
+    (is_distinct (blocks_of_parts earlier ++ blocks_of_partition t p))
 
 -- ---- the first bad one
 
-pub bad_next : (slot : ℕ) (earlier : List Part) (p : Part) (rest : List Part) → part_passes slot earlier p ≡ true → bad_part slot earlier (p ∷ rest) ≡ bad_part slot (earlier ++ p ∷ []) rest
+pub bad_next : (slot : ℕ) (earlier : List Part) (p : Part) (rest : List Part)
+    → part_passes slot earlier p ≡ true
+    → bad_part slot earlier (p ∷ rest) ≡ bad_part slot (earlier ++ p ∷ []) rest
 unfolding bad_part
 bad_next slot earlier p rest h = rw h refl
 
-pub bad_here : (slot : ℕ) (earlier : List Part) (p : Part) (rest : List Part) → part_passes slot earlier p ≡ false → bad_part slot earlier (p ∷ rest) ≡ Some p.name
+pub bad_here : (slot : ℕ) (earlier : List Part) (p : Part) (rest : List Part)
+    → part_passes slot earlier p ≡ false → bad_part slot earlier (p ∷ rest) ≡ Some p.name
 unfolding bad_part
 bad_here slot earlier p rest h = rw h refl
 
@@ -225,7 +264,8 @@ stands_take slot t i seen more count p s lt at own passes is =
     take_from slot t i p lt at-place ∙ ap (λ (q : Part). q ∷ rest) part-is in
     let after : own_before slot t (i + 1) ≡ before ++ part_of t p ∷ [] =
     take_before slot t i p lt at-place ∙ ap (λ (q : Part). before ++ q ∷ []) part-is in
-    let next = bad_next slot before (part_of t p) rest (judged_is slot t i seen count p s ∙ passes) in
+    let next =
+    bad_next slot before (part_of t p) rest (judged_is slot t i seen count p s ∙ passes) in
     let len = length-append before (part_of t p ∷ []) in
     record {
       blocks = is ∙ next_blocks slot t i seen p s.blocks lt at own;
@@ -239,7 +279,8 @@ pub stands_last : (slot : ℕ) (t : Table) (i : ℕ) (seen : List ℕ) (count : 
     → length t.partitions ≤ i
     → bad_part slot [] (own_parts slot (layout_of t).parts) ≡ None
 stands_last slot t i seen count s le =
-    let back = nil_from_length (drop i t.partitions) (omega (arith, length-drop i t.partitions, le)) in
+    let back =
+    nil_from_length (drop i t.partitions) (omega (arith, length-drop i t.partitions, le)) in
     let none : own_from slot t i ≡ [] =
     ap (λ (l : List Partition). own_parts slot (map (part_of t) l)) back in
     sym s.bad ∙ ap (bad_part slot (own_before slot t i)) none
@@ -255,7 +296,8 @@ own_split slot t i =
     let back : List Partition = drop i t.partitions in
     sym (filter-append f (map (part_of t) front) (map (part_of t) back))
     ∙ ap (own_parts slot) (sym (map-append (part_of t) front back))
-    ∙ ap (λ (l : List Partition). own_parts slot (map (part_of t) l)) (take-append-drop i t.partitions)
+    ∙ ap (λ (l : List Partition). own_parts slot (map (part_of t) l))
+    (take-append-drop i t.partitions)
     ∙ sym (own_all slot t)
 
 -- where no block stands twice in all of them, none does in a front of them
@@ -275,5 +317,6 @@ pub all_blocks : (slot : ℕ) (t : Table) (i : ℕ) (blocks : List ℕ)
     → length t.partitions ≤ i
     → blocks ≡ blocks_of_parts (own_parts slot (layout_of t).parts)
 all_blocks slot t i blocks is le =
-    is ∙ ap (λ (l : List Partition). blocks_of_parts (own_parts slot (map (part_of t) l))) (take_all i t.partitions le)
+    is ∙ ap (λ (l : List Partition). blocks_of_parts (own_parts slot (map (part_of t) l)))
+    (take_all i t.partitions le)
     ∙ ap blocks_of_parts (sym (own_all slot t))

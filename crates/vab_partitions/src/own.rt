@@ -1,6 +1,7 @@
 //! A slot's own partitions, judged in the order of the table.
 
-ghost use Rattle.std.specs.Prelude.{◌≡◌, ◌<◌, ◌≤◌, ◌+◌, ◌^◌, ◌++◌, ◌&&◌, ◌||◌, true, nat_le, nat_lt};
+ghost use Rattle.std.specs.Prelude.{◌≡◌, ◌<◌, ◌≤◌, ◌+◌, ◌^◌, ◌++◌, ◌&&◌, ◌||◌, true, nat_le};
+ghost use Rattle.std.specs.Prelude.{nat_lt};
 ghost use Rattle.std.specs.Prelude.{length, [], IfOk, IfNone, OnOk};
 ghost use Rattle.std.specs.Str.{bytes_eq};
 ghost use Rattle.vab_names.specs.Names.{is_base, is_of_slot, base_of, default_name};

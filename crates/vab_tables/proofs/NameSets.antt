@@ -113,7 +113,8 @@ same_test a b na nb = elim (cases_Bool (bytes_eq a b)) [
 
 -- ---- the fields beside the entries that have them
 
-pub record Knows {E : Type 0} (name : E → List ℕ) (keys : List (List ℕ)) (earlier : List E) : Type 0 where
+pub record Knows {E : Type 0} (name : E
+    → List ℕ) (keys : List (List ℕ)) (earlier : List E) : Type 0 where
   pub named : All (λ e. IsName (name e)) earlier
   pub listed : (field : List ℕ)
       → list_any (λ k. bytes_eq field k) keys
@@ -130,7 +131,8 @@ knows_none {E} name keys earlier none nil = record {
       ∙ ap (list_any (λ e. bytes_eq field (name_field (name e)))) (sym nil);
 }
 
-pub knows_more : {E : Type 0} (name : E → List ℕ) (keys more : List (List ℕ)) (earlier all : List E) (e : E)
+pub knows_more : {E : Type 0} (name : E
+    → List ℕ) (keys more : List (List ℕ)) (earlier all : List E) (e : E)
     → Knows name keys earlier
     → IsName (name e)
     → ((field : List ℕ)
@@ -162,10 +164,12 @@ all_same {E} name (e ∷ es) text named is =
     let P : E → Type 0 = λ x. IsName (name x) in
     let far : E → Bool = λ x. bytes_eq (name_field text) (name_field (name x)) in
     ap (λ (b : Bool). b || list_any far es) (same_test (name e) text (All-head P e es named) is)
-    ∙ ap (λ (b : Bool). bytes_eq (name e) text || b) (all_same name es text (All-tail P e es named) is)
+    ∙ ap (λ (b : Bool). bytes_eq (name e) text || b)
+    (all_same name es text (All-tail P e es named) is)
 
 -- whether a name stands among the entries
-pub knows_name : {E : Type 0} (name : E → List ℕ) (keys : List (List ℕ)) (earlier : List E) (text : List ℕ)
+pub knows_name : {E : Type 0} (name : E
+    → List ℕ) (keys : List (List ℕ)) (earlier : List E) (text : List ℕ)
     → Knows name keys earlier
     → IsName text
     → list_any (λ k. bytes_eq (name_field text) k) keys ≡ is_named name earlier text

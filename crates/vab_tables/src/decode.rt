@@ -117,7 +117,8 @@ fn read_extents(
     entries: Entries,
 ) -> Result<Vec<Extent>, TableFault>
     requires { length entries.bytes.now ≡ entries.count * 24 }
-    ensures { Gives (λ v. v.items) result (extents_in rules.entry.now.device.now entries.entry.count entries.entry.bytes.now) }
+    ensures { Gives (λ v. v.items) result
+        (extents_in rules.entry.now.device.now entries.entry.count entries.entry.bytes.now) }
 {
     read_all(alloc, EntryKind::Extent, rules, entries)
 }
@@ -129,7 +130,9 @@ fn read_partitions(
     entries: Entries,
 ) -> Result<Vec<Partition>, TableFault>
     requires { length entries.bytes.now ≡ entries.count * 52 }
-    ensures { Gives (λ v. v.items) result (partitions_in rules.now.minor rules.now.extents rules.now.groups entries.entry.count entries.entry.bytes.now) }
+    ensures { Gives (λ v. v.items) result
+        (partitions_in rules.now.minor rules.now.extents rules.now.groups entries.entry.count
+        entries.entry.bytes.now) }
 {
     read_named(alloc, EntryKind::Partition, rules, entries)
 }

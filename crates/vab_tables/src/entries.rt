@@ -3,7 +3,9 @@
 ghost use Rattle.std.specs.Prelude.{◌≡◌, ◌+◌, ◌≤◌, ◌++◌, length, List, ℕ, Option, OnOk};
 ghost use Rattle.vab_bytes.specs.Number.{field};
 ghost use Rattle.vab_bytes.specs.Name.{name_of_field};
-ghost use Rattle.vab_tables.specs.Entries.{partition_of, extent_of, group_of, device_of, partition_bytes, extent_bytes, group_bytes, device_bytes};
+ghost use Rattle.vab_tables.specs.Entries.{partition_of, extent_of, group_of, device_of};
+ghost use Rattle.vab_tables.specs.Entries.{partition_bytes, extent_bytes, group_bytes};
+ghost use Rattle.vab_tables.specs.Entries.{device_bytes};
 
 use crate::fault::NoMemory;
 use vab_bytes::{Name36, le32_at, le64_at};

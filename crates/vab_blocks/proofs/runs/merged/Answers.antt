@@ -1,4 +1,5 @@
-use Rattle.std.proofs.Common.{◌≡◌, ◌<◌, ◌+◌, ◌-◌, ◌^◌, ◌++◌, ℕ, List, get_or, sym, ap, ◌∙◌, subst, refl}
+use Rattle.std.proofs.Common.{◌≡◌, ◌<◌, ◌+◌, ◌-◌, ◌^◌, ◌++◌, ℕ, List, get_or, sym, ap, ◌∙◌, subst}
+use Rattle.std.proofs.Common.{refl}
 use Rattle.std.specs.Prelude.{max}
 use Rattle.std.specs.List.{range_with_len}
 use Rattle.std.proofs.lemmas.List.{get_or_default}
@@ -22,9 +23,12 @@ loop-run-preserved c =
           let piece : ℕ → List ℕ = λ k. all ++ range_with_len k (run.0 + run.1 - k) in
           let new = w.all-is ∙ w.in_ok-push_run.ensures.ok ∙ ap piece from in
           subst (λ (e : ℕ). Merged runs (i + 1) c.if-end-until.all e) (sym w.end-is)
-          (more_merged runs i all c.if-end-until.all end run c.requires.up m c.loop-run-test.true at w.if-end-until.true fits new)
+          (more_merged runs i all c.if-end-until.all end run c.requires.up m c.loop-run-test.true at
+          w.if-end-until.true fits new)
       | else-end-until w ↦
-          let same = same_merged runs i all end run c.requires.up m c.loop-run-test.true at w.if-end-until.false in
+          let same =
+          same_merged runs i all end run c.requires.up m c.loop-run-test.true at
+          w.if-end-until.false in
           let one = subst (λ (e : ℕ). Merged runs (i + 1) all e) (sym w.end-is) same in
           subst (λ (l : List ℕ). Merged runs (i + 1) l c.if-end-until.end) (sym w.all-is) one
     ]

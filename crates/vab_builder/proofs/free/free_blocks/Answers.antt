@@ -15,7 +15,8 @@ returns c =
     blocks_of_parts (own_parts (other_slot slot) source.parts)
     ++ blocks_of_parts (own_parts slot target.parts ++ store_parts slot target.parts) in
     let same =
-    free_same c.cap.result c.in_ok-taken-2.taken c.in_ok-taken.taken c.in_ok-taken-2.ensures.listed in
+    free_same c.cap.result c.in_ok-taken-2.taken c.in_ok-taken.taken c.in_ok-taken-2.ensures.listed
+    in
     let is =
     same ∙ ap (free_below c.cap.result) c.in_ok-taken.ensures
     ∙ ap (λ (n : ℕ). free_below n taken) c.cap.ensures in

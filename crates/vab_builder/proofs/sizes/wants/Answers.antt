@@ -6,13 +6,16 @@ use Rattle.vab_builder.proofs.sizes.wants.Goals as goal
 
 pub want-requires-clause-long : goal.want-requires-clause-long
 want-requires-clause-long c =
-    let own = sym (c.is_of_slot.ensures ∙ ap (is_of_slot c.args.slot) c.text.ensures.value) ∙ c.if-is_of_slot.true in
+    let own = sym (c.is_of_slot.ensures ∙ ap (is_of_slot c.args.slot) c.text.ensures.value)
+    ∙ c.if-is_of_slot.true in
     own_long c.args.slot c.part-item.result.name own
 
 pub want-requires-clause-short : goal.want-requires-clause-short
 want-requires-clause-short c =
-    let own = sym (c.is_of_slot.ensures ∙ ap (is_of_slot c.args.slot) c.text.ensures.value) ∙ c.if-is_of_slot.true in
-    own_short c.args.slot c.args.target.now c.loop-part.part-index c.part-item.result c.requires.own (omega arith) c.part-item.is own
+    let own = sym (c.is_of_slot.ensures ∙ ap (is_of_slot c.args.slot) c.text.ensures.value)
+    ∙ c.if-is_of_slot.true in
+    own_short c.args.slot c.args.target.now c.loop-part.part-index c.part-item.result c.requires.own
+    (omega arith) c.part-item.is own
 
 pub want-requires-clause-fits : goal.want-requires-clause-fits
 want-requires-clause-fits c =

@@ -7,4 +7,6 @@ use Rattle.vab_layout.proofs.tests.runs_become_extents_and_blocks_again.Goals as
 pub text_size-size-requires-clause-runs : goal.text_size-size-requires-clause-runs
 text_size-size-requires-clause-runs g c =
     let few : length c.in_ok-table.table.partitions ≤ 2 ^ 25 = omega arith in
-    subst (λ (l : Layout). sum_by (λ p. length (runs_of p.blocks)) l.parts < 2 ^ 58) (sym c.in_ok-layout.ensures.value) (layout_runs_small c.in_ok-table.table c.in_ok-table.ensures few)
+    subst (λ (l : Layout). sum_by (λ p. length (runs_of p.blocks)) l.parts < 2 ^ 58)
+    (sym c.in_ok-layout.ensures.value)
+    (layout_runs_small c.in_ok-table.table c.in_ok-table.ensures few)

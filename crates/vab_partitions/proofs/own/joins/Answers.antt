@@ -9,7 +9,8 @@ use Rattle.vab_layout.specs.Layout.{blocks_of_partition}
 use Rattle.vab_partitions.specs.Rules.{is_distinct}
 use Rattle.vab_partitions.proofs.OwnLaws.{first_fails, second_fails, both_pass, partition_blocks}
 use Rattle.vab_partitions.proofs.own.joins.Goals as goal
-use Rattle.vab_partitions.proofs.own.joins.Goals.{then-not-passes_alone-via-then-not-passes_alone, then-not-passes_alone-via-else-not-passes_alone+then-not-is_small}
+use Rattle.vab_partitions.proofs.own.joins.Goals.{then-not-passes_alone-via-then-not-passes_alone}
+use Rattle.vab_partitions.proofs.own.joins.Goals.{then-not-passes_alone-via-else-not-passes_alone+then-not-is_small}
 
 -- the size of a partition, by its extents
 small_is : (t : Table) (p : Partition) (first : ℕ) (own : List Extent)

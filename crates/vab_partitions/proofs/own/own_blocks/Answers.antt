@@ -1,10 +1,12 @@
-use Rattle.std.proofs.Common.{◌≡◌, ◌+◌, ◌<◌, ◌≤◌, ℕ, true, false, List, length, get_or, subst, sym, ap, ◌∙◌, arith}
+use Rattle.std.proofs.Common.{◌≡◌, ◌+◌, ◌<◌, ◌≤◌, ℕ, true, false, List, length, get_or, subst, sym}
+use Rattle.std.proofs.Common.{ap, ◌∙◌, arith}
 use Rattle.vab_names.specs.Names.{is_of_slot}
 use Rattle.vab_tables.specs.declared.entries.Partition.{Partition}
 use Rattle.vab_layout.specs.Layout.{blocks_of_parts}
 use Rattle.vab_partitions.proofs.OwnLaws.{all_blocks, next_blocks, skip_before}
 use Rattle.vab_partitions.proofs.own.own_blocks.Goals as goal
-use Rattle.vab_partitions.proofs.own.own_blocks.Goals.{then-is_of_slot+in_ok-push_blocks, else-is_of_slot}
+use Rattle.vab_partitions.proofs.own.own_blocks.Goals.{then-is_of_slot+in_ok-push_blocks}
+use Rattle.vab_partitions.proofs.own.own_blocks.Goals.{else-is_of_slot}
 
 pub loop-partition-preserved : goal.loop-partition-preserved
 loop-partition-preserved c =
@@ -33,5 +35,8 @@ loop-partition-preserved c =
 pub returns : goal.returns
 returns c =
     let i : ℕ = c.loop-partition.partition-index in
-    let done = subst (λ (l : List Partition). length l ≤ i) c.as_slice-partition-items.ensures c.loop-partition-test.false in
-    all_blocks c.args.slot c.args.table.now i c.loop-partition.blocks c.loop-partition.invariant done
+    let done =
+    subst (λ (l : List Partition). length l ≤ i) c.as_slice-partition-items.ensures
+    c.loop-partition-test.false in
+    all_blocks c.args.slot c.args.table.now i c.loop-partition.blocks c.loop-partition.invariant
+    done

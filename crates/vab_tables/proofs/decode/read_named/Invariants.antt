@@ -7,7 +7,8 @@ use Rattle.vab_tables.proofs.decode.read_named.Given as goal
 abbrev pub invariant-loop-index : goal.invariant-loop-index
 invariant-loop-index g l =
     let name = g.E.Named.text_of in
-    let passes = λ (earlier : _) (e : _). g.R.Rules.passing l.rules e && not (is_named name earlier (name e)) in
+    let passes = λ (earlier : _) (e : _). g.R.Rules.passing l.rules e
+    && not (is_named name earlier (name e)) in
     let entries =
     entries_in l.kind g.E.Entry.SIZE g.E.Entry.reading passes l.entries.bytes.now in
     record {

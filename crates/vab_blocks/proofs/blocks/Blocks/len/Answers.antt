@@ -1,4 +1,5 @@
-use Rattle.std.proofs.Common.{◌≡◌, ◌+◌, ℕ, get_or, length, take, arith, ap, sym, ◌∙◌, subst, ◌<◌, ◌≤◌, List}
+use Rattle.std.proofs.Common.{◌≡◌, ◌+◌, ℕ, get_or, length, take, arith, ap, sym, ◌∙◌, subst, ◌<◌}
+use Rattle.std.proofs.Common.{◌≤◌, List}
 use Rattle.std.proofs.lemmas.List.{take_all}
 use Rattle.vab_blocks.specs.Runs.{blocks_of_runs, runs_of}
 use Rattle.vab_blocks.proofs.Pieces.{length_before, length_front}
@@ -22,7 +23,8 @@ overflow_add-count c =
     let whole = ap length (runs_again xs) in
     omega (
       arith,
-      step xs c.runs-run-items.result.now i c.loop-run.count c.runs-run-items.ensures.value c.loop-run-test.true c.loop-run.invariant,
+      step xs c.runs-run-items.result.now i c.loop-run.count c.runs-run-items.ensures.value
+          c.loop-run-test.true c.loop-run.invariant,
       length_front (runs_of xs) (i + 1),
       whole,
       c.requires,

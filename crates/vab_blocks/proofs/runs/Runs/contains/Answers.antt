@@ -10,5 +10,6 @@ returns-clause-listed c =
       λ t. subst (λ (l : List ℕ). Contains l b) is
           (listed_once c.self.inside.blocks b (sym c.contains.ensures ∙ t)),
       λ there. c.contains.ensures
-          ∙ listed_then c.self.inside.blocks b (subst (λ (l : List ℕ). Contains l b) (sym is) there),
+          ∙ listed_then c.self.inside.blocks b
+          (subst (λ (l : List ℕ). Contains l b) (sym is) there),
     )
