@@ -22,7 +22,8 @@ impl Runs {
     pub fn of_table(alloc: Global, table: &Table, names: &[Name36]) -> Result<Runs, NoMemory>
         requires { KeepsRules table.now }
         ensures ascends { IfOk result (λ r. IsStrictlyIncreasing r) }
-        ensures listed { IfOk result (λ r. (b : ℕ) → Contains r b ↔ HasBlock table.now names.now b) }
+        ensures listed { IfOk result (λ r. (b : ℕ)
+            → Contains r b ↔ HasBlock table.now names.now b) }
     {
         let first = table.first_sector();
         let mut blocks = Blocks::new(alloc);

@@ -112,7 +112,8 @@ fn merged(alloc: Global, runs: &[(u64, u64)]) -> Result<Blocks, NoMemory>
     requires up { IsNonDecreasingBy (λ run. run.0) runs.now }
     requires fits { All (λ run. run.0 + run.1 < 2 ^ 64) runs.now }
     ensures ascends { IfOk result (λ b. IsAscending b) }
-    ensures listed { IfOk result (λ r. (b : ℕ) → Contains r b ↔ Contains (blocks_of_runs runs.now) b) }
+    ensures listed { IfOk result (λ r. (b : ℕ)
+        → Contains r b ↔ Contains (blocks_of_runs runs.now) b) }
 {
     let mut all = Blocks::new(alloc);
     let mut end = 0;

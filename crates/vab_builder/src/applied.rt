@@ -32,7 +32,8 @@ pub fn apply(
     requires source_small { table_size_of source.now < 2 ^ 24 }
     requires target_small { table_size_of target.now < 2 ^ 24 }
     requires source_own { IsOwn (other_slot target_slot) (layout_of source.now).parts }
-    requires target { IsTarget target_slot (layout_of source.now).parts (layout_of target.now).parts }
+    requires target { IsTarget target_slot (layout_of source.now).parts
+        (layout_of target.now).parts }
     requires device { source.now.devices ≡ target.now.devices }
     ensures exact { GivesTable result
         (edited target_slot (layout_of source.now) (layout_of target.now) max edit.now) }
@@ -43,7 +44,9 @@ pub fn apply(
         changed_by target_slot (layout_of source.now) (layout_of target.now) edit.now
         ≡ Ok (layout_of t)) }
     // Further edits may be made of it.
-    ensures target { IfOk result (λ t. IsTarget target_slot (layout_of source.now).parts (layout_of t).parts) }
+    ensures target { IfOk result
+        (λ t. IsTarget target_slot (layout_of source.now).parts
+        (layout_of t).parts) }
     ensures device { IfOk result (λ t. t.devices ≡ target.now.devices) }
     ensures groups { IfOk result
         (λ t. groups_of_slot target_slot t.groups ≡ groups_of_slot target_slot target.now.groups) }

@@ -36,7 +36,9 @@ pub(crate) fn change(
     ensures rules { IfOk result IsLayout }
     ensures parts { IfOk result (λ l. IsTarget slot source.now.parts l.parts) }
     ensures device { IfOk result (λ l. l.device ≡ target.device) }
-    ensures groups { IfOk result (λ l. groups_of_slot slot l.groups ≡ groups_of_slot slot target.groups) }
+    ensures groups { IfOk result
+        (λ l. groups_of_slot slot l.groups
+        ≡ groups_of_slot slot target.groups) }
     // A partition more at most, a group more at most, and not too many runs more.
     ensures few_parts { IfOk result (λ l. length l.parts ≤ length target.parts + 1) }
     ensures few_groups { IfOk result (λ l. length l.groups ≤ length target.groups + 1) }

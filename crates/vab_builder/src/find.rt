@@ -91,7 +91,9 @@ pub(crate) fn push_before(
 ) -> Result<(), NoMemory>
     requires slot { slot < 2 }
     requires long { 2 ≤ length name.now }
-    ensures { OnOk result (blocks.new ≡ blocks.old ++ take count (before_of slot source.now name.now)) }
+    ensures { OnOk result
+        (blocks.new ≡ blocks.old
+        ++ take count (before_of slot source.now name.now)) }
 {
     push_named(blocks, in_slot(name, 1 - slot).text(), source, 0, count)
 }

@@ -58,7 +58,9 @@ fn push_own(blocks: &mut Blocks, parts: &[Part], slot: usize) -> Result<(), NoMe
 // Writes the blocks of the slot's stores at the end.
 fn push_stores(blocks: &mut Blocks, parts: &[Part], slot: usize) -> Result<(), NoMemory>
     requires { slot < 2 }
-    ensures { OnOk result (blocks.new ≡ blocks.old ++ blocks_of_parts (store_parts slot parts.now)) }
+    ensures { OnOk result
+        (blocks.new ≡ blocks.old
+        ++ blocks_of_parts (store_parts slot parts.now)) }
 {
     for part in parts {
         if is_store(part.name.text(), slot) {

@@ -57,7 +57,9 @@ pub(crate) fn push_free(
 ) -> Result<(), NoMemory>
     requires slot { slot < 2 }
     requires room { count ≤ length (free_of slot source.now target.now) }
-    ensures { OnOk result (blocks.new ≡ blocks.old ++ take count (free_of slot source.now target.now)) }
+    ensures { OnOk result
+        (blocks.new ≡ blocks.old
+        ++ take count (free_of slot source.now target.now)) }
 {
     let free = free_blocks(alloc, source, target, slot)?;
     match free.take_lowest(alloc, count)? {

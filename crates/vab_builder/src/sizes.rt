@@ -134,7 +134,9 @@ pub(crate) fn sizes_in(
 ) -> Result<Vec<u64>, NoMemory>
     requires slot { slot < 2 }
     requires own { IsOwn slot parts.now }
-    ensures { IfOk result (λ v. v.items ≡ sizes_in group.now name.now count (own_parts slot parts.now)) }
+    ensures { IfOk result
+        (λ v. v.items
+        ≡ sizes_in group.now name.now count (own_parts slot parts.now)) }
 {
     let mut sizes = Vec::new(alloc);
     for part in parts {

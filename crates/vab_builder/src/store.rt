@@ -50,7 +50,8 @@ fn judged(
     bytes: u64,
 ) -> Result<(Name36, u64), EditFault>
     requires { IsUpdate slot source.now target.now }
-    ensures { MatchResult result (λ r. (r.0 ≡ name.now) × (r.1 ≡ store_blocks target.now name.now bytes)
+    ensures { MatchResult result (λ r. (r.0 ≡ name.now)
+        × (r.1 ≡ store_blocks target.now name.now bytes)
         × IsStored slot source.now target.now name.now bytes)
         (Refuses (stored slot source.now target.now name.now bytes)) }
 {

@@ -55,7 +55,9 @@ pub fn without_stores(alloc: Global, table: &Table, slot: usize) -> Result<Table
     ensures size { IfOk result (λ t. table_size_of t < 2 ^ 32) }
     ensures layout { IfOk result (λ t. layout_of t ≡ plain slot (layout_of table.now)) }
     ensures own { IfOk result (λ t. IsOwn slot (layout_of t).parts) }
-    ensures groups { IfOk result (λ t. groups_of_slot slot t.groups ≡ groups_of_slot slot table.now.groups) }
+    ensures groups { IfOk result
+        (λ t. groups_of_slot slot t.groups
+        ≡ groups_of_slot slot table.now.groups) }
     ensures device { IfOk result (λ t. t.devices ≡ table.now.devices) }
 {
     let layout = Layout::of_table(alloc, table)?;

@@ -45,7 +45,8 @@ fn parts(alloc: Global, table: &Table) -> Result<Vec<Part>, NoMemory>
 // A partition of the table with its blocks.
 fn part(alloc: Global, table: &Table, partition: &Partition) -> Result<Part, NoMemory>
     requires table { KeepsRules table.now }
-    requires partition { IsPartition (table.now).minor (length (table.now).extents) (length (table.now).groups)
+    requires partition { IsPartition (table.now).minor (length (table.now).extents)
+        (length (table.now).groups)
         partition.now }
     ensures { IfOk result (λ p. p ≡ part_of table.now partition.now) }
 {

@@ -56,7 +56,8 @@ fn passes_alone(table: &Table, partition: &Partition, slot: usize, count: usize)
 /// Writes the blocks of a partition at the end.
 fn push_blocks(blocks: &mut Blocks, table: &Table, partition: &Partition) -> Result<(), NoMemory>
     requires keeps { KeepsRules table.now }
-    requires extents { partition.now.first_extent + partition.now.extent_count ≤ length table.now.extents }
+    requires extents { partition.now.first_extent + partition.now.extent_count
+        ≤ length table.now.extents }
     ensures { OnOk result (blocks.new ≡ blocks.old ++ blocks_of_partition table.now partition.now) }
 {
     blocks.push_extents(table.first_sector(), table.extents_of(partition))
@@ -91,7 +92,8 @@ fn joins(
 ) -> Result<bool, NoMemory>
     requires slot { slot < 2 }
     requires keeps { KeepsRules table.now }
-    requires rules { IsPartition table.now.minor (length table.now.extents) (length table.now.groups)
+    requires rules { IsPartition table.now.minor (length table.now.extents)
+        (length table.now.groups)
         partition.now }
     requires long { 1 < length partition.now.name }
     requires apart { apart ≡ true
@@ -124,7 +126,9 @@ fn joins(
 pub fn bad_partition(alloc: Global, table: &Table, slot: usize) -> Result<Option<Name36>, NoMemory>
     requires slot { slot < 2 }
     requires keeps { KeepsRules table.now }
-    ensures exact { IfOk result (λ bad. bad ≡ bad_part slot [] (own_parts slot (layout_of table.now).parts)) }
+    ensures exact { IfOk result
+        (λ bad. bad
+        ≡ bad_part slot [] (own_parts slot (layout_of table.now).parts)) }
     ensures own { IfOk result (λ bad. IfNone bad (IsOwn slot (layout_of table.now).parts)) }
 {
     let blocks = own_blocks(alloc, table, slot)?;

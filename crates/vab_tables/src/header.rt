@@ -159,7 +159,9 @@ fn has_header_sum(text: &[u8]) -> bool
 fn has_size(text: &[u8], max: u32) -> bool
     requires { 128 ≤ length text.now }
     ensures is { result ≡ has_size max text.now }
-    ensures text { IsTrue result → header_size_at text.now + tables_size_at text.now ≤ length text.now }
+    ensures text { IsTrue result
+        → header_size_at text.now + tables_size_at text.now
+        ≤ length text.now }
 {
     let size = header_size(text) as usize + tables_size(text) as usize;
     size <= max as usize && size <= text.len()

@@ -32,7 +32,8 @@ impl Table {
 
     /// The extents of a partition of the table, in its order.
     pub fn extents_of(&self, partition: &Partition) -> &[Extent]
-        requires { (partition.now).first_extent + (partition.now).extent_count ≤ length (self.now).extents }
+        requires { (partition.now).first_extent + (partition.now).extent_count
+            ≤ length (self.now).extents }
         ensures { result.now ≡ extents_of self.now partition.now }
     {
         let from = partition.first_extent as usize;
