@@ -1,5 +1,6 @@
-//! Reads a table's text from standard input, and so many times decodes it, writes it again, lists the free blocks, takes the lowest half of
-//! them, or takes SHA-256 of the text, for `bench/tables` and `bench/blocks`.
+//! Reads a table's text from standard input, and so many times decodes it, decodes and judges it,
+//! writes it again, lists the free blocks, takes the lowest half of them, edits the target of an
+//! update from slot a, or takes SHA-256 of the text, for `bench/tables` and `bench/blocks`.
 #![tactic(auto)]
 
 use sha2::{Digest, Sha256};
@@ -8,7 +9,9 @@ use std::env;
 use std::io::{Read, Stdin};
 use std::process::ExitCode;
 use vab_blocks::Runs;
+use vab_builder::{Edit, apply, import};
 use vab_bytes::Name36;
+use vab_partitions::bad_partition;
 use vab_tables::{Table, decode_table, encode_table, table_size};
 
 const MAX: u32 = 1 << 20;
@@ -31,6 +34,44 @@ fn read_text(alloc: Global, input: &mut Stdin) -> Option<Vec<u8>> {
 fn decode(alloc: Global, text: &[u8], times: u32) -> bool {
     for _ in 0..times {
         if decode_table(alloc, text, MAX).is_err() {
+            return false;
+        }
+    }
+    true
+}
+
+// Whether a slot's own partitions were judged: any answer will do.
+fn judge(alloc: Global, text: &[u8], times: u32) -> bool {
+    for _ in 0..times {
+        match decode_table(alloc, text, MAX) {
+            Ok(table) => {
+                if bad_partition(alloc, &table, 0).is_err() {
+                    return false;
+                }
+            }
+            Err(_) => return false,
+        }
+    }
+    true
+}
+
+// Makes the same edit of the target as an update from slot a begins, again and again.
+fn edits(alloc: Global, text: &[u8], edit: &Edit, times: u32) -> bool {
+    let Ok(table) = decode_table(alloc, text, MAX) else {
+        return false;
+    };
+    if !is_small(&table) || table_size(&table) >= 1 << 24 {
+        return false;
+    }
+    match bad_partition(alloc, &table, 0) {
+        Ok(None) => {}
+        _ => return false,
+    }
+    let Ok(target) = import(alloc, &table, 0, MAX) else {
+        return false;
+    };
+    for _ in 0..times {
+        if apply(alloc, &table, &target, 1, edit, MAX).is_err() {
             return false;
         }
     }
@@ -125,12 +166,21 @@ fn main(rt: HostRuntime) -> ExitCode {
         Ok(times) => times,
         Err(_) => return ExitCode::from(2),
     };
+    let bytes = match args.next() {
+        Some(bytes) => bytes.as_str().parse::<u64>().unwrap_or(0),
+        None => 0,
+    };
     let text = match read_text(alloc, &mut rt.stdin()) {
         Some(text) => text,
         None => return ExitCode::from(8),
     };
     let done = match verb.as_str() {
         "decode" => decode(alloc, &text, times),
+        "judge" => judge(alloc, &text, times),
+        "create" => edits(alloc, &text, &Edit::Create(b"new_b", bytes), times),
+        "resize" => edits(alloc, &text, &Edit::Resize(b"system_b", bytes), times),
+        "store" => edits(alloc, &text, &Edit::AddStore(b"system_b", bytes), times),
+        "delete" => edits(alloc, &text, &Edit::Delete(b"system_b"), times),
         "encode" => encode(alloc, &text, times),
         "free" => free(alloc, &text, times),
         "lowest" => lowest(alloc, &text, times),

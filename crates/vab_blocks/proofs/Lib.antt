@@ -1,1 +1,7 @@
-mod Search
+pub mod RunLaws
+pub mod BlockLaws
+pub mod Pieces
+pub mod Ascending
+mod Merging
+mod Gaps
+pub mod Distinct

@@ -1,8 +1,9 @@
 -- The target after an edit keeps the rules.
-use Rattle.std.proofs.Common.{◌≡◌, ℕ, ◌+◌, ◌^◌, ◌<◌, ◌≤◌, length, sum_by, sym, subst, Result, Ok, Err}
+use Rattle.std.proofs.Common.{◌≡◌, ℕ, ◌+◌, ◌^◌, ◌<◌, ◌≤◌, length, sum_by, sym, subst, Result, Ok}
+use Rattle.std.proofs.Common.{Err}
 use Rattle.std.specs.Prelude.{IfOk}
 use Rattle.vab_layout.specs.declared.layout.Layout.{Layout}
-use Rattle.vab_layout.specs.Runs.{runs_of}
+use Rattle.vab_blocks.specs.Runs.{runs_of}
 use Rattle.vab_layout.specs.Rules.{IsLayout}
 use Rattle.vab_layout.specs.Slots.{other_slot, IsOwn, IsTarget, groups_of_slot}
 use Rattle.vab_builder.specs.declared.fault.EditFault.{EditFault}
@@ -21,32 +22,73 @@ use Rattle.vab_builder.specs.ResizeKeeps.{resized_keeps}
 use Rattle.vab_builder.specs.DeleteKeeps.{deleted_keeps}
 use Rattle.vab_builder.specs.StoreKeeps.{stored_keeps}
 
-pub edit_keeps : (slot : ℕ) (source target : Layout) (edit : Edit) (l : Layout) → IsUpdate slot source target → changed_by slot source target edit ≡ Ok l → Keeps slot source target l
+pub edit_keeps : (slot : ℕ) (source target : Layout) (edit : Edit) (l : Layout)
+    → IsUpdate slot source target → changed_by slot source target edit ≡ Ok l
+    → Keeps slot source target l
 edit_keeps slot source target (Create name bytes) l update h =
     let r = created_passes slot source target name.now bytes l h in
-    subst (Keeps slot source target) (sym r.1) (created_keeps slot source target name.now bytes update r.0)
+    subst (Keeps slot source target) (sym r.1)
+    (created_keeps slot source target name.now bytes update r.0)
 edit_keeps slot source target (Resize name bytes) l update h =
     let r = resized_passes slot source target name.now bytes l h in
-    subst (Keeps slot source target) (sym r.1) (resized_keeps slot source target name.now bytes update r.0)
+    subst (Keeps slot source target) (sym r.1)
+    (resized_keeps slot source target name.now bytes update r.0)
 edit_keeps slot source target (Delete name) l update h =
     let r = deleted_passes slot target name.now l h in
-    subst (Keeps slot source target) (sym r.1) (deleted_keeps slot source target name.now update r.0)
+    subst (Keeps slot source target) (sym r.1)
+    (deleted_keeps slot source target name.now update r.0)
 edit_keeps slot source target (AddStore name bytes) l update h =
     let r = stored_passes slot source target name.now bytes l h in
-    subst (Keeps slot source target) (sym r.1) (stored_keeps slot source target name.now bytes update r.0)
+    subst (Keeps slot source target) (sym r.1)
+    (stored_keeps slot source target name.now bytes update r.0)
 
 -- what is given keeps the rules, in the words of the contract
-pub record GivenKeeps (slot : ℕ) (source target : Layout) (r : Result Layout EditFault) : Type 0 where
-  pub rules : IfOk r IsLayout
-  pub parts : IfOk r (λ l. IsTarget slot source.parts l.parts)
-  pub device : IfOk r (λ l. l.device ≡ target.device)
-  pub groups : IfOk r (λ l. groups_of_slot slot l.groups ≡ groups_of_slot slot target.groups)
-  pub few_parts : IfOk r (λ l. length l.parts ≤ length target.parts + 1)
-  pub few_groups : IfOk r (λ l. length l.groups ≤ length target.groups + 1)
-  pub few_runs : IfOk r (λ l. sum_by (λ p. length (runs_of p.blocks)) l.parts ≤ sum_by (λ p. length (runs_of p.blocks)) target.parts + 2 ^ 40)
+pub record GivenKeeps (slot : ℕ) (source target : Layout) (r : Result Layout EditFault) : Type 0
+  where
+    pub rules : IfOk r IsLayout
+    pub parts : IfOk r (λ l. IsTarget slot source.parts l.parts)
+    pub device : IfOk r (λ l. l.device ≡ target.device)
+    pub groups : IfOk r (λ l. groups_of_slot slot l.groups ≡ groups_of_slot slot target.groups)
+    pub few_parts : IfOk r (λ l. length l.parts ≤ length target.parts + 1)
+    pub few_groups : IfOk r (λ l. length l.groups ≤ length target.groups + 1)
+    pub few_runs : IfOk r
+        (λ l. sum_by (λ p. length (runs_of p.blocks)) l.parts
+        ≤ sum_by (λ p. length (runs_of p.blocks)) target.parts + 2 ^ 40)
 
-pub given_keeps : (slot : ℕ) (source target : Layout) (edit : Edit) (r : Result Layout EditFault) → slot < 2 → IsLayout source → IsLayout target → IsOwn (other_slot slot) source.parts → IsTarget slot source.parts target.parts → source.device ≡ target.device → GivesLayout r (changed_by slot source target edit) → GivenKeeps slot source target r
+pub given_keeps : (slot : ℕ) (source target : Layout) (edit : Edit) (r : Result Layout EditFault)
+    → slot < 2 → IsLayout source → IsLayout target → IsOwn (other_slot slot) source.parts
+    → IsTarget slot source.parts target.parts → source.device ≡ target.device
+    → GivesLayout r (changed_by slot source target edit) → GivenKeeps slot source target r
 given_keeps slot source target edit (Ok l) low from to own parts device gives =
-    let k = edit_keeps slot source target edit l (record { low = low; source_rules = from; target_rules = to; own = own; parts = parts; device = device }) gives in
-    record { rules = k.rules; parts = k.parts; device = k.device; groups = k.groups; few_parts = k.few_parts; few_groups = k.few_groups; few_runs = k.few_runs }
-given_keeps slot source target edit (Err fault) low from to own parts device gives = record { rules = tt; parts = tt; device = tt; groups = tt; few_parts = tt; few_groups = tt; few_runs = tt }
+    let k =
+    edit_keeps slot source target edit l
+    (record {
+      low = low;
+      source_rules = from;
+      target_rules = to;
+      own = own;
+      parts =
+          parts;
+      device = device;
+    }) gives in
+    record {
+      rules = k.rules;
+      parts = k.parts;
+      device = k.device;
+      groups = k.groups;
+      few_parts =
+          k.few_parts;
+      few_groups = k.few_groups;
+      few_runs = k.few_runs;
+    }
+given_keeps slot source target edit (Err fault) low from to own parts device gives =
+    record {
+      rules = tt;
+      parts = tt;
+      device = tt;
+      groups = tt;
+      few_parts = tt;
+      few_groups =
+          tt;
+      few_runs = tt;
+    }

@@ -17,31 +17,40 @@ pub record IsDeleted (slot : ℕ) (target : Layout) (name : List ℕ) : Type 0 w
   pub known : has_part name target.parts ≡ true
   pub plain : has_part (store_of name) target.parts ≡ false
 
-pub deleted-bad_name : (slot : ℕ) (target : Layout) (name : List ℕ) → is_full slot name ≡ false → deleted slot target name ≡ Err BadName
+pub deleted-bad_name : (slot : ℕ) (target : Layout) (name : List ℕ) → is_full slot name ≡ false
+    → deleted slot target name ≡ Err BadName
 unfolding deleted
 deleted-bad_name slot target name full = rw full refl
 
-pub deleted-unknown : (slot : ℕ) (target : Layout) (name : List ℕ) → is_full slot name ≡ true → has_part name target.parts ≡ false → deleted slot target name ≡ Err Unknown
+pub deleted-unknown : (slot : ℕ) (target : Layout) (name : List ℕ) → is_full slot name ≡ true
+    → has_part name target.parts ≡ false → deleted slot target name ≡ Err Unknown
 unfolding deleted
 deleted-unknown slot target name full absent =
-    let known : has_part name (own_parts slot target.parts) ≡ false = has_own slot name target.parts (full_slot slot name full) ∙ absent in
+    let known : has_part name (own_parts slot target.parts) ≡ false =
+    has_own slot name target.parts (full_slot slot name full) ∙ absent in
     rw (full, known) refl
 
-pub deleted-has_store : (slot : ℕ) (target : Layout) (name : List ℕ) → is_full slot name ≡ true → has_part name target.parts ≡ true → has_part (store_of name) target.parts ≡ true → deleted slot target name ≡ Err HasStore
+pub deleted-has_store : (slot : ℕ) (target : Layout) (name : List ℕ) → is_full slot name ≡ true
+    → has_part name target.parts ≡ true → has_part (store_of name) target.parts ≡ true
+    → deleted slot target name ≡ Err HasStore
 unfolding deleted
 deleted-has_store slot target name full there store =
-    let known : has_part name (own_parts slot target.parts) ≡ true = has_own slot name target.parts (full_slot slot name full) ∙ there in
+    let known : has_part name (own_parts slot target.parts) ≡ true =
+    has_own slot name target.parts (full_slot slot name full) ∙ there in
     rw (full, known, store) refl
 
-pub deleted-ok : (slot : ℕ) (target : Layout) (name : List ℕ) → IsDeleted slot target name → deleted slot target name ≡ Ok (with_deleted target name)
+pub deleted-ok : (slot : ℕ) (target : Layout) (name : List ℕ) → IsDeleted slot target name
+    → deleted slot target name ≡ Ok (with_deleted target name)
 unfolding deleted
 deleted-ok slot target name h =
     let full = h.full in
-    let known : has_part name (own_parts slot target.parts) ≡ true = has_own slot name target.parts (full_slot slot name full) ∙ h.known in
+    let known : has_part name (own_parts slot target.parts) ≡ true =
+    has_own slot name target.parts (full_slot slot name full) ∙ h.known in
     let plain = h.plain in
     rw (full, known, plain) refl
 
-pub deleted_passes : (slot : ℕ) (target : Layout) (name : List ℕ) (l : Layout) → deleted slot target name ≡ Ok l → IsDeleted slot target name × (l ≡ with_deleted target name)
+pub deleted_passes : (slot : ℕ) (target : Layout) (name : List ℕ) (l : Layout)
+    → deleted slot target name ≡ Ok l → IsDeleted slot target name × (l ≡ with_deleted target name)
 unfolding deleted
 deleted_passes slot target name l h =
     let a = unless_ok _ _ _ l h in

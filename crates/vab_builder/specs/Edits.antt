@@ -1,5 +1,7 @@
 -- The edits of an update's target, each as the layout that it gives or the first refusal.
-use Rattle.std.specs.Prelude.{ℕ, ◌+◌, ◌-◌, ◌^◌, Bool, true, false, not, ◌&&◌, ◌||◌, ◌==◌, nat_le, nat_lt, bit_or, if◌then◌else◌, List, [], ◌∷◌, ◌++◌, length, map, take, drop, Result, Ok, Err}
+use Rattle.std.specs.Prelude.{ℕ, ◌+◌, ◌-◌, ◌^◌, Bool, true, false, not, ◌&&◌, ◌||◌, ◌==◌, nat_le}
+use Rattle.std.specs.Prelude.{nat_lt, bit_or, if◌then◌else◌, List, [], ◌∷◌, ◌++◌, length, map, take}
+use Rattle.std.specs.Prelude.{drop, Result, Ok, Err}
 use Rattle.std.specs.List.{filter, list_any}
 use Rattle.std.specs.Str.{bytes_eq}
 use Rattle.vab_names.specs.Names.{is_full, store_of, default_name, store_group_name}
@@ -13,21 +15,27 @@ use Rattle.vab_layout.specs.declared.layout.Layout.{Layout}
 use Rattle.vab_layout.specs.Layout.{table_of, blocks_of_parts}
 use Rattle.vab_layout.specs.Slots.{other_slot, own_parts, store_parts, blocks_named, before_of}
 use Rattle.vab_builder.specs.declared.fault.EditFault.{EditFault}
-use Rattle.vab_builder.specs.declared.fault.EditFault.TheVariants.{BadName, BadSize, Unknown, Exists, HasStore, TooMany, GroupLimit, NoRoom, TableFull}
+use Rattle.vab_builder.specs.declared.fault.EditFault.TheVariants.{BadName, BadSize, Unknown}
+use Rattle.vab_builder.specs.declared.fault.EditFault.TheVariants.{Exists, HasStore, TooMany}
+use Rattle.vab_builder.specs.declared.fault.EditFault.TheVariants.{GroupLimit, NoRoom, TableFull}
 use Rattle.vab_builder.specs.declared.edit.Edit.{Edit}
 use Rattle.vab_builder.specs.declared.edit.Edit.TheVariants.{Create, Resize, Delete, AddStore}
 use Rattle.vab_layout.specs.Plain.{default_group, own_groups}
 use Rattle.vab_builder.specs.Import.{stores_group}
-use Rattle.vab_builder.specs.Sizes.{has_part, wants_of, wants_resized, wants_stored, used_by, limit_of, sizes_in, is_within}
+use Rattle.vab_builder.specs.Sizes.{has_part, wants_of, wants_resized, wants_stored, used_by}
+use Rattle.vab_builder.specs.Sizes.{limit_of, sizes_in, is_within}
 
 -- ---- blocks
 
 -- the blocks that are in no partition of the source, and in no partition and no store of the target
 abbrev pub free_of : ℕ → Layout → Layout → List ℕ
 free_of slot source target =
-    free_below (cap_of target.device) (blocks_of_parts (own_parts (other_slot slot) source.parts) ++ blocks_of_parts (own_parts slot target.parts ++ store_parts slot target.parts))
+    free_below (cap_of target.device)
+    (blocks_of_parts (own_parts (other_slot slot) source.parts)
+    ++ blocks_of_parts (own_parts slot target.parts ++ store_parts slot target.parts))
 
--- a new partition of n blocks: the source's of the same base name, as many as there are, and then the lowest free ones
+-- a new partition of n blocks: the source's of the same base name, as many as there are, and then
+-- the lowest free ones
 abbrev pub created_blocks : ℕ → Layout → Layout → List ℕ → ℕ → List ℕ
 created_blocks slot source target name n =
     let before = before_of slot source.parts name in
@@ -35,7 +43,8 @@ created_blocks slot source target name n =
 
 -- another size: the source's blocks, then the former fresh ones, and then the lowest free ones
 abbrev pub kept_blocks : List ℕ → List ℕ → ℕ → List ℕ
-kept_blocks before blocks n = take n before ++ take (n - length before) (drop (length before) blocks)
+kept_blocks before blocks n =
+    take n before ++ take (n - length before) (drop (length before) blocks)
 
 abbrev pub resized_blocks : ℕ → Layout → Layout → Part → ℕ → List ℕ
 resized_blocks slot source target p n =
@@ -51,16 +60,26 @@ first_group (g ∷ gs) = g.name
 
 -- the groups with this one, as the last where there is none of its name
 abbrev pub with_group : Group → List Group → List Group
-with_group group groups = if list_any (λ g. bytes_eq g.name group.name) groups then groups else groups ++ group ∷ []
+with_group group groups =
+    if list_any (λ g. bytes_eq g.name group.name) groups then groups else groups ++ group ∷ []
 
 -- read-only and updated
 abbrev pub created_part : ℕ → Layout → Layout → List ℕ → ℕ → Part
-created_part slot source target name n = record { name = name; attributes = 5; group = first_group (own_groups slot target.groups); blocks = created_blocks slot source target name n }
+created_part slot source target name n =
+    record {
+      name = name;
+      attributes = 5;
+      group =
+          first_group (own_groups slot target.groups);
+      blocks = created_blocks slot source target name n;
+    }
 
 abbrev pub with_created : ℕ → Layout → Layout → List ℕ → ℕ → Layout
 with_created slot source target name n = record target {
   parts = target.parts ++ created_part slot source target name n ∷ [];
-  groups = if bytes_eq (first_group (own_groups slot target.groups)) default_name then with_group default_group target.groups else target.groups;
+  groups =
+      if bytes_eq (first_group (own_groups slot target.groups)) default_name then with_group
+      default_group target.groups else target.groups;
 }
 
 -- each partition of this name is changed
@@ -71,21 +90,35 @@ abbrev pub updated : Part → Part
 updated p = record p { attributes = bit_or p.attributes 4 }
 
 abbrev pub resized_part : ℕ → Layout → Layout → ℕ → Part → Part
-resized_part slot source target n p = record p { attributes = bit_or p.attributes 4; blocks = resized_blocks slot source target p n }
+resized_part slot source target n p =
+    record p { attributes = bit_or p.attributes 4; blocks = resized_blocks slot source target p n }
 
 abbrev pub with_resized : ℕ → Layout → Layout → List ℕ → ℕ → Layout
 with_resized slot source target name n =
-    if length (blocks_named name target.parts) == n then target else record target { parts = changed name (resized_part slot source target n) target.parts }
+    if length (blocks_named name target.parts) == n then target else record target {
+      parts =
+          changed name (resized_part slot source target n) target.parts;
+    }
 
 abbrev pub with_deleted : Layout → List ℕ → Layout
-with_deleted target name = record target { parts = filter (λ p. not (bytes_eq p.name name)) target.parts }
+with_deleted target name =
+    record target { parts = filter (λ p. not (bytes_eq p.name name)) target.parts }
 
--- blocks of a store of so many bytes; 0 bytes are as many blocks as all blocks of the partition may need
+-- blocks of a store of so many bytes; 0 bytes are as many blocks as all blocks of the partition may
+-- need
 abbrev pub store_blocks : Layout → List ℕ → ℕ → ℕ
-store_blocks target name bytes = if bytes == 0 then need_of (length (blocks_named name target.parts)) else blocks_of bytes
+store_blocks target name bytes =
+    if bytes == 0 then need_of (length (blocks_named name target.parts)) else blocks_of bytes
 
 abbrev pub store_part : ℕ → Layout → Layout → List ℕ → ℕ → Part
-store_part slot source target name n = record { name = store_of name; attributes = 0; group = store_group_name; blocks = take n (free_of slot source target) }
+store_part slot source target name n =
+    record {
+      name = store_of name;
+      attributes = 0;
+      group = store_group_name;
+      blocks =
+          take n (free_of slot source target);
+    }
 
 abbrev pub with_store : ℕ → Layout → Layout → List ℕ → ℕ → Layout
 with_store slot source target name n = record target {
@@ -110,7 +143,9 @@ is_plain target name = not (has_part (store_of name) target.parts)
 
 -- a layout whose table's text is at most so long
 abbrev pub fitting : ℕ → Layout → Result Layout EditFault
-fitting max l = unless (nat_le (table_size_of (table_of l)) max) (TableFull (table_size_of (table_of l)) max) (Ok l)
+fitting max l =
+    unless (nat_le (table_size_of (table_of l)) max) (TableFull (table_size_of (table_of l)) max)
+    (Ok l)
 
 -- the group of the partition of this name
 abbrev pub group_named : List ℕ → List Part → List ℕ
@@ -123,12 +158,21 @@ created slot source target name bytes =
     let n = blocks_of bytes in
     let group = first_group (own_groups slot target.groups) in
     let sum = group_sum_of (sizes_in group name n own ++ n ∷ []) in
-    let used = used_by slot source.parts (wants_of slot source.parts target.parts ++ record { before = length (before_of slot source.parts name); blocks = n; store = 0 } ∷ []) in
+    let used =
+    used_by slot source.parts
+    (wants_of slot source.parts target.parts
+    ++ record {
+      before = length (before_of slot source.parts name);
+      blocks = n;
+      store =
+          0;
+    } ∷ []) in
     unless (is_full slot name) BadName
     (unless (nat_le bytes (2 ^ 40)) BadSize
     (unless (not (is_known slot target name)) Exists
     (unless (nat_lt (length own) 32) (TooMany (length own + 1))
-    (unless (is_within sum (limit_of target.groups group)) (GroupLimit sum (limit_of target.groups group))
+    (unless (is_within sum (limit_of target.groups group))
+    (GroupLimit sum (limit_of target.groups group))
     (unless (nat_le used (cap_of target.device)) (NoRoom used (cap_of target.device))
     (Ok (with_created slot source target name n)))))))
 
@@ -143,7 +187,8 @@ resized slot source target name bytes =
     (unless (nat_le bytes (2 ^ 40)) BadSize
     (unless (is_known slot target name) Unknown
     (unless (is_plain target name) HasStore
-    (unless (is_within sum (limit_of target.groups group)) (GroupLimit sum (limit_of target.groups group))
+    (unless (is_within sum (limit_of target.groups group))
+    (GroupLimit sum (limit_of target.groups group))
     (unless (nat_le used (cap_of target.device)) (NoRoom used (cap_of target.device))
     (Ok (with_resized slot source target name n)))))))
 

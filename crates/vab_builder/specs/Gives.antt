@@ -4,13 +4,17 @@ use Rattle.vab_tables.specs.declared.table.Table.{Table}
 use Rattle.vab_layout.specs.declared.layout.Layout.{Layout}
 use Rattle.vab_layout.specs.Layout.{table_of}
 use Rattle.vab_builder.specs.declared.fault.EditFault.{EditFault}
-use Rattle.vab_builder.specs.declared.fault.EditFault.TheVariants.{BadName, BadSize, Unknown, Exists, HasStore, TooMany, GroupLimit, NoRoom, TableFull, NoMemory}
+use Rattle.vab_builder.specs.declared.fault.EditFault.TheVariants.{BadName, BadSize, Unknown}
+use Rattle.vab_builder.specs.declared.fault.EditFault.TheVariants.{Exists, HasStore, TooMany}
+use Rattle.vab_builder.specs.declared.fault.EditFault.TheVariants.{GroupLimit, NoRoom, TableFull}
+use Rattle.vab_builder.specs.declared.fault.EditFault.TheVariants.{NoMemory}
 
 -- a layout was given, and this is its table
 abbrev pub IsTableOf : Table → Result Layout EditFault → Type 0
 IsTableOf t said = (l : Layout) × (said ≡ Ok l) × (t ≡ table_of l)
 
--- the table is that of the layout, and the refusal that of the definition; memory may be refused in place of either
+-- the table is that of the layout, and the refusal that of the definition; memory may be refused in
+-- place of either
 abbrev pub GivesTable : Result Table EditFault → Result Layout EditFault → Type 0
 GivesTable (Ok t) said = IsTableOf t said
 GivesTable (Err NoMemory) said = Unit {0}

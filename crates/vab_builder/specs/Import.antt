@@ -23,16 +23,27 @@ twin_group slot g = record g { name = in_slot slot g.name }
 
 -- the same blocks, and the same attributes but for that of an updated partition
 abbrev pub twin_part : ℕ → Part → Part
-twin_part slot p = record { name = in_slot slot p.name; attributes = bit_and p.attributes 9; group = twin_group_name slot p.group; blocks = p.blocks }
+twin_part slot p =
+    record {
+      name = in_slot slot p.name;
+      attributes = bit_and p.attributes 9;
+      group =
+          twin_group_name slot p.group;
+      blocks = p.blocks;
+    }
 
 -- ---- the tables
 
--- The target's table as an update begins, of the source's: the source's groups and their twins with the same limits between the groups of no slot,
+-- The target's table as an update begins, of the source's: the source's groups and their twins with
+-- the same limits between the groups of no slot,
 -- and the source's partitions and then their twins.
 unfoldable pub imported : ℕ → Layout → Layout
 imported source l = record {
-  parts = own_parts source l.parts ++ map (twin_part (other_slot source)) (own_parts source l.parts);
-  groups = default_group ∷ (own_groups source l.groups ++ (map (twin_group (other_slot source)) (own_groups source l.groups) ++ stores_group ∷ []));
+  parts =
+      own_parts source l.parts ++ map (twin_part (other_slot source)) (own_parts source l.parts);
+  groups =
+      default_group ∷ (own_groups source l.groups
+      ++ (map (twin_group (other_slot source)) (own_groups source l.groups) ++ stores_group ∷ []));
   device = l.device;
   flags = bit_or l.flags 1;
 }

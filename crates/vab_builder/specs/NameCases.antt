@@ -1,5 +1,6 @@
 -- Names of partitions, of groups and of stores: which are of a slot, and which are one.
-use Rattle.std.proofs.Common.{◌≡◌, ℕ, ◌-◌, ◌≤◌, true, false, cond, eqb, List, [], ◌∷◌, ◌++◌, length, take, refl, sym, ap, subst, ◌∙◌, inl, inr, arith, append_assoc}
+use Rattle.std.proofs.Common.{◌≡◌, ℕ, ◌-◌, ◌≤◌, true, false, cond, eqb, List, [], ◌∷◌, ◌++◌, length}
+use Rattle.std.proofs.Common.{take, refl, sym, ap, subst, ◌∙◌, inl, inr, arith, append_assoc}
 use Rattle.std.specs.Str.{bytes_eq}
 use Rattle.std.proofs.lemmas.Bool.{cases_Bool, and_parts, false_from_ne_true, both_ways, leb-true}
 use Rattle.std.proofs.lemmas.Bool.Decides.{Decides-eqb}
@@ -7,7 +8,9 @@ use Rattle.std.proofs.lemmas.Slice.Eq.{bytes_eq-Decides, ends_is}
 use Rattle.std.proofs.lemmas.List.{append_cancel_right, same_from_push}
 use Rattle.vab_bytes.specs.Name.{is_name, IsName}
 use Rattle.vab_bytes.specs.NameLaws.{name_bytes}
-use Rattle.vab_names.specs.Names.{is_base, is_short, suffix_of, is_of_slot, base_of, in_slot, is_full, is_store, store_of, store_suffix, default_name, store_group_name}
+use Rattle.vab_names.specs.Names.{is_base, is_short, suffix_of, is_of_slot, base_of, in_slot}
+use Rattle.vab_names.specs.Names.{is_full, is_store, store_of, store_suffix, default_name}
+use Rattle.vab_names.specs.Names.{store_group_name}
 use Rattle.vab_names.specs.NameLaws.{of_slot, of_slot_long, is_slot, full_is_name, length-base_of}
 
 -- ---- texts
@@ -30,7 +33,8 @@ pub full_slot : (slot : ℕ) (name : List ℕ) → is_full slot name ≡ true �
 unfolding is_full
 full_slot slot name h = (and_parts (is_of_slot slot name) (is_base (base_of name)) h).0
 
-pub full_base : (slot : ℕ) (name : List ℕ) → is_full slot name ≡ true → is_base (base_of name) ≡ true
+pub full_base : (slot : ℕ) (name : List ℕ) → is_full slot name ≡ true
+    → is_base (base_of name) ≡ true
 unfolding is_full
 full_base slot name h = (and_parts (is_of_slot slot name) (is_base (base_of name)) h).1
 
@@ -44,17 +48,23 @@ base_short base h =
     let short = (and_parts (is_name base) (is_short base) h).1 in
     leb-true (length base) 30 (and_parts _ _ short).0
 
-pub full_name : (slot : ℕ) (name : List ℕ) → is_of_slot slot name ≡ true → is_base (base_of name) ≡ true → IsName name
+pub full_name : (slot : ℕ) (name : List ℕ) → is_of_slot slot name ≡ true
+    → is_base (base_of name) ≡ true → IsName name
 full_name slot name of base =
-    let is = full_is_name slot (base_of name) (name_bytes (base_of name) (base_name (base_of name) base)) (omega (arith, base_short (base_of name) base)) in
+    let is =
+    full_is_name slot (base_of name) (name_bytes (base_of name) (base_name (base_of name) base))
+    (omega (arith, base_short (base_of name) base)) in
     subst IsName (sym (of_slot slot name of)) is
 
-pub full_short : (slot : ℕ) (name : List ℕ) → is_of_slot slot name ≡ true → is_base (base_of name) ≡ true → length name ≤ 32
-full_short slot name of base = omega (arith, base_short (base_of name) base, length-base_of name, of_slot_long slot name of)
+pub full_short : (slot : ℕ) (name : List ℕ) → is_of_slot slot name ≡ true
+    → is_base (base_of name) ≡ true → length name ≤ 32
+full_short slot name of base =
+    omega (arith, base_short (base_of name) base, length-base_of name, of_slot_long slot name of)
 
 -- ---- no name of a slot is one of a store
 
-last_of_slot : (slot : ℕ) (front : List ℕ) → (init : List ℕ) × (front ++ suffix_of slot ≡ init ++ (cond (eqb slot 0) 97 98) ∷ [])
+last_of_slot : (slot : ℕ) (front : List ℕ)
+    → (init : List ℕ) × (front ++ suffix_of slot ≡ init ++ (cond (eqb slot 0) 97 98) ∷ [])
 last_of_slot slot front = elim (cases_Bool (eqb slot 0)) [
   | inl e ↦ rw e (front ++ 95 ∷ [], sym (append_assoc front (95 ∷ []) (97 ∷ [])))
   | inr e ↦ rw e (front ++ 95 ∷ [], sym (append_assoc front (95 ∷ []) (98 ∷ [])))
@@ -64,19 +74,27 @@ pub ends_in_cow : (slot : ℕ) (front : List ℕ) → is_of_slot slot (front ++ 
 ends_in_cow slot front h =
     let is = of_slot slot (front ++ store_suffix) h in
     let last = last_of_slot slot (base_of (front ++ store_suffix)) in
-    let w : front ++ store_suffix ≡ (front ++ 45 ∷ 99 ∷ 111 ∷ []) ++ 119 ∷ [] = sym (append_assoc front (45 ∷ 99 ∷ 111 ∷ []) (119 ∷ [])) in
-    let same = (same_from_push (front ++ 45 ∷ 99 ∷ 111 ∷ []) last.0 119 (cond (eqb slot 0) 97 98) (sym w ∙ is ∙ last.1)).1 in
+    let w : front ++ store_suffix ≡ (front ++ 45 ∷ 99 ∷ 111 ∷ []) ++ 119 ∷ [] =
+    sym (append_assoc front (45 ∷ 99 ∷ 111 ∷ []) (119 ∷ [])) in
+    let same =
+    (same_from_push (front ++ 45 ∷ 99 ∷ 111 ∷ []) last.0 119 (cond (eqb slot 0) 97 98) (sym w
+    ∙ is ∙ last.1)).1 in
     elim (cases_Bool (eqb slot 0)) [
       | inl e ↦ absurd (let wrong : 119 ≡ 97 = rw e at same in omega (arith, wrong))
       | inr e ↦ absurd (let wrong : 119 ≡ 98 = rw e at same in omega (arith, wrong))
     ]
 
-pub store_ends : (slot : ℕ) (name : List ℕ) → is_store slot name ≡ true → (front : List ℕ) × (name ≡ front ++ store_suffix)
+pub store_ends : (slot : ℕ) (name : List ℕ) → is_store slot name ≡ true
+    → (front : List ℕ) × (name ≡ front ++ store_suffix)
 unfolding is_store
 store_ends slot name h =
     let p : List ℕ = suffix_of slot ++ store_suffix in
-    let is : name ≡ take (length name - length p) name ++ p = (ends_is Decides-eqb name p _ (sym h)).0 refl in
-    (take (length name - length p) name ++ suffix_of slot, is ∙ sym (append_assoc (take (length name - length p) name) (suffix_of slot) store_suffix))
+    let is : name ≡ take (length name - length p) name ++ p =
+    (ends_is Decides-eqb name p _ (sym h)).0 refl in (
+      take (length name - length p) name ++ suffix_of slot,
+      is
+          ∙ sym (append_assoc (take (length name - length p) name) (suffix_of slot) store_suffix),
+    )
 
 pub own_or_store : (s t : ℕ) (name : List ℕ) → is_of_slot s name ≡ true → is_store t name ≡ true → ⊥
 own_or_store s t name own store =
@@ -87,11 +105,14 @@ pub store_not_own : (slot : ℕ) (name : List ℕ) → is_of_slot slot (store_of
 unfolding store_of
 store_not_own slot name h = ends_in_cow slot name h
 
-pub store_is_store : (slot : ℕ) (name : List ℕ) → is_of_slot slot name ≡ true → is_store slot (store_of name) ≡ true
+pub store_is_store : (slot : ℕ) (name : List ℕ) → is_of_slot slot name ≡ true
+    → is_store slot (store_of name) ≡ true
 unfolding store_of is_store
 store_is_store slot name h =
     let p : List ℕ = suffix_of slot ++ store_suffix in
-    let e : name ++ store_suffix ≡ base_of name ++ p = ap (λ (n : List ℕ). n ++ store_suffix) (of_slot slot name h) ∙ append_assoc (base_of name) (suffix_of slot) store_suffix in
+    let e : name ++ store_suffix ≡ base_of name ++ p =
+    ap (λ (n : List ℕ). n ++ store_suffix) (of_slot slot name h)
+    ∙ append_assoc (base_of name) (suffix_of slot) store_suffix in
     (ends_is Decides-eqb (name ++ store_suffix) p _ refl).1 (base_of name) e
 
 pub store_of_same : (a b : List ℕ) → store_of a ≡ store_of b → a ≡ b
@@ -104,7 +125,8 @@ pub in_slot_is : (slot : ℕ) (name : List ℕ) → is_of_slot slot (in_slot slo
 unfolding in_slot
 in_slot_is slot name = is_slot slot (base_of name)
 
-pub in_slot_same : (s t : ℕ) (a b : List ℕ) → is_of_slot s a ≡ true → is_of_slot s b ≡ true → in_slot t a ≡ in_slot t b → a ≡ b
+pub in_slot_same : (s t : ℕ) (a b : List ℕ) → is_of_slot s a ≡ true → is_of_slot s b ≡ true
+    → in_slot t a ≡ in_slot t b → a ≡ b
 unfolding in_slot
 in_slot_same s t a b oa ob h =
     let base = append_cancel_right (base_of a) (base_of b) (suffix_of t) h in

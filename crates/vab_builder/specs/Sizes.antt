@@ -1,5 +1,6 @@
 -- The sizes of an update's partitions and stores: numbers of blocks alone.
-use Rattle.std.specs.Prelude.{ℕ, Bool, ◌||◌, ◌==◌, nat_le, if◌then◌else◌, List, [], ◌∷◌, length, map}
+use Rattle.std.specs.Prelude.{◌<◌, ◌^◌, ℕ, Bool, ◌||◌, ◌==◌, nat_le, if◌then◌else◌, List, [], ◌∷◌}
+use Rattle.std.specs.Prelude.{length, map}
 use Rattle.std.specs.List.{filter, list_any}
 use Rattle.std.specs.Str.{bytes_eq}
 use Rattle.vab_names.specs.Names.{store_of}
@@ -19,7 +20,19 @@ source_sizes slot source = map (λ p. length p.blocks) (own_parts (other_slot sl
 
 -- what the update wants of a partition of the target
 abbrev pub want_of : ℕ → List Part → List Part → Part → Want
-want_of slot source target p = record { before = length (before_of slot source p.name); blocks = length p.blocks; store = length (blocks_named (store_of p.name) target) }
+want_of slot source target p =
+    record {
+      before = length (before_of slot source p.name);
+      blocks = length p.blocks;
+      store =
+          length (blocks_named (store_of p.name) target);
+    }
+
+-- these are numbers of 64 bits
+pub record WantFits (slot : ℕ) (source target : List Part) (p : Part) : Type 0 where
+  pub before : length (before_of slot source p.name) < 2 ^ 64
+  pub blocks : length p.blocks < 2 ^ 64
+  pub store : length (blocks_named (store_of p.name) target) < 2 ^ 64
 
 abbrev pub wants_of : ℕ → List Part → List Part → List Want
 wants_of slot source target = map (want_of slot source target) (own_parts slot target)
@@ -27,12 +40,14 @@ wants_of slot source target = map (want_of slot source target) (own_parts slot t
 -- the same, where the partition of this name has so many blocks
 abbrev pub wants_resized : ℕ → List Part → List Part → List ℕ → ℕ → List Want
 wants_resized slot source target name n =
-    map (λ p. if bytes_eq p.name name then record (want_of slot source target p) { blocks = n } else want_of slot source target p) (own_parts slot target)
+    map (λ p. if bytes_eq p.name name then record (want_of slot source target p) { blocks = n } else
+    want_of slot source target p) (own_parts slot target)
 
 -- and where its store has
 abbrev pub wants_stored : ℕ → List Part → List Part → List ℕ → ℕ → List Want
 wants_stored slot source target name n =
-    map (λ p. if bytes_eq p.name name then record (want_of slot source target p) { store = n } else want_of slot source target p) (own_parts slot target)
+    map (λ p. if bytes_eq p.name name then record (want_of slot source target p) { store = n } else
+    want_of slot source target p) (own_parts slot target)
 
 -- the blocks in use, by what the update wants
 abbrev pub used_by : ℕ → List Part → List Want → ℕ
@@ -47,7 +62,9 @@ limit_of (g ∷ gs) name = if bytes_eq g.name name then g.maximum_size else limi
 
 -- the blocks of each partition in a group, where the one of this name has n
 abbrev pub sizes_in : List ℕ → List ℕ → ℕ → List Part → List ℕ
-sizes_in group name n parts = map (λ p. if bytes_eq p.name name then n else length p.blocks) (filter (λ p. bytes_eq p.group group) parts)
+sizes_in group name n parts =
+    map (λ p. if bytes_eq p.name name then n else length p.blocks)
+    (filter (λ p. bytes_eq p.group group) parts)
 
 -- so many bytes are within a limit
 abbrev pub is_within : ℕ → ℕ → Bool

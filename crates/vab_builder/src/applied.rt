@@ -5,7 +5,7 @@ ghost use Rattle.vab_tables.specs.Rules.{KeepsRules};
 ghost use Rattle.vab_tables.specs.Spelling.{table_size_of};
 ghost use Rattle.vab_layout.specs.Layout.{layout_of, table_of};
 ghost use Rattle.vab_layout.specs.Slots.{other_slot, IsOwn, IsTarget, groups_of_slot};
-ghost use Rattle.vab_builder.specs.Edits.{edited};
+ghost use Rattle.vab_builder.specs.Edits.{changed_by, edited};
 ghost use Rattle.vab_builder.specs.Gives.{GivesTable};
 
 use crate::change::change;
@@ -15,7 +15,8 @@ use std::alloc::Global;
 use vab_layout::Layout;
 use vab_tables::Table;
 
-/// The target's table after an edit, beside the source's. The refusals come in the order of `EditFault`, each exactly where it says;
+/// The target's table after an edit, beside the source's. The refusals come in the order of
+/// `EditFault`, each exactly where it says;
 /// `NoMemory` where memory is refused.
 pub fn apply(
     alloc: Global,
@@ -31,15 +32,24 @@ pub fn apply(
     requires source_small { table_size_of source.now < 2 ^ 24 }
     requires target_small { table_size_of target.now < 2 ^ 24 }
     requires source_own { IsOwn (other_slot target_slot) (layout_of source.now).parts }
-    requires target { IsTarget target_slot (layout_of source.now).parts (layout_of target.now).parts }
+    requires target { IsTarget target_slot (layout_of source.now).parts
+        (layout_of target.now).parts }
     requires device { source.now.devices ≡ target.now.devices }
-    ensures exact { GivesTable result (edited target_slot (layout_of source.now) (layout_of target.now) max edit.now) }
+    ensures exact { GivesTable result
+        (edited target_slot (layout_of source.now) (layout_of target.now) max edit.now) }
     ensures rules { IfOk result KeepsRules }
     ensures size { IfOk result (λ t. table_size_of t ≤ max) }
+    // Its layout is that which the edit gives.
+    ensures layout { IfOk result (λ t.
+        changed_by target_slot (layout_of source.now) (layout_of target.now) edit.now
+        ≡ Ok (layout_of t)) }
     // Further edits may be made of it.
-    ensures target { IfOk result (λ t. IsTarget target_slot (layout_of source.now).parts (layout_of t).parts) }
+    ensures target { IfOk result
+        (λ t. IsTarget target_slot (layout_of source.now).parts
+        (layout_of t).parts) }
     ensures device { IfOk result (λ t. t.devices ≡ target.now.devices) }
-    ensures groups { IfOk result (λ t. groups_of_slot target_slot t.groups ≡ groups_of_slot target_slot target.now.groups) }
+    ensures groups { IfOk result
+        (λ t. groups_of_slot target_slot t.groups ≡ groups_of_slot target_slot target.now.groups) }
 {
     let old = Layout::of_table(alloc, target)?;
     let source = Layout::of_table(alloc, source)?;

@@ -1,7 +1,7 @@
 //! An edit of the target's layout.
 
 ghost use Rattle.std.specs.Prelude.{◌≡◌, ◌≤◌, ◌<◌, ◌+◌, ◌^◌, length, sum_by, IfOk};
-ghost use Rattle.vab_layout.specs.Runs.{runs_of};
+ghost use Rattle.vab_blocks.specs.Runs.{runs_of};
 ghost use Rattle.vab_layout.specs.Rules.{IsLayout};
 ghost use Rattle.vab_layout.specs.Slots.{other_slot, IsOwn, IsTarget, groups_of_slot};
 ghost use Rattle.vab_builder.specs.Edits.{changed_by};
@@ -16,7 +16,8 @@ use crate::store::add_store;
 use std::alloc::Global;
 use vab_layout::Layout;
 
-/// The target's layout after an edit, beside the source's. The refusals come in the order of `EditFault`, each exactly where it says;
+/// The target's layout after an edit, beside the source's. The refusals come in the order of
+/// `EditFault`, each exactly where it says;
 /// `NoMemory` where memory is refused.
 pub(crate) fn change(
     alloc: Global,
@@ -35,11 +36,15 @@ pub(crate) fn change(
     ensures rules { IfOk result IsLayout }
     ensures parts { IfOk result (λ l. IsTarget slot source.now.parts l.parts) }
     ensures device { IfOk result (λ l. l.device ≡ target.device) }
-    ensures groups { IfOk result (λ l. groups_of_slot slot l.groups ≡ groups_of_slot slot target.groups) }
+    ensures groups { IfOk result
+        (λ l. groups_of_slot slot l.groups
+        ≡ groups_of_slot slot target.groups) }
     // A partition more at most, a group more at most, and not too many runs more.
     ensures few_parts { IfOk result (λ l. length l.parts ≤ length target.parts + 1) }
     ensures few_groups { IfOk result (λ l. length l.groups ≤ length target.groups + 1) }
-    ensures few_runs { IfOk result (λ l. sum_by (λ p. length (runs_of p.blocks)) l.parts ≤ sum_by (λ p. length (runs_of p.blocks)) target.parts + 2 ^ 40) }
+    ensures few_runs { IfOk result
+        (λ l. sum_by (λ p. length (runs_of p.blocks)) l.parts
+        ≤ sum_by (λ p. length (runs_of p.blocks)) target.parts + 2 ^ 40) }
 {
     match *edit {
         Edit::Create(name, bytes) => create(alloc, source, target, slot, name, bytes),

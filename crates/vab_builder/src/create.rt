@@ -1,20 +1,23 @@
 //! A partition more.
 
-ghost use Rattle.std.specs.Prelude.{◌≡◌, ◌≤◌, ◌<◌, ◌-◌, ◌++◌, ◌∷◌, [], length, IfOk, MatchResult, if◌then◌else◌};
+ghost use Rattle.std.specs.Prelude.{◌≡◌, ◌≤◌, ◌<◌, ◌-◌, ◌++◌, ◌∷◌, [], length, IfOk, MatchResult};
+ghost use Rattle.std.specs.Prelude.{if◌then◌else◌};
 ghost use Rattle.std.specs.Str.{bytes_eq};
 ghost use Rattle.vab_names.specs.Names.{default_name};
 ghost use Rattle.vab_layout.specs.Slots.{before_of};
 ghost use Rattle.vab_layout.specs.Plain.{default_group, own_groups};
-ghost use Rattle.vab_builder.specs.Edits.{created, created_blocks, first_group, free_of, with_created, with_group};
+ghost use Rattle.vab_builder.specs.Edits.{created, created_blocks, first_group, free_of};
+ghost use Rattle.vab_builder.specs.Edits.{with_created, with_group};
 ghost use Rattle.vab_builder.specs.Gives.{GivesLayout};
 ghost use Rattle.vab_builder.specs.Update.{IsUpdate, Refuses};
 ghost use Rattle.vab_builder.specs.Verdicts.{IsCreated};
 
 use crate::fault::EditFault;
-use crate::find::{before, count_own, first_group, has_part, limit_of};
+use crate::find::{count_own, first_group, has_part, limit_of, push_before};
 use crate::parts::{MAX_BYTES, full_name, is_within, push_free, with_group};
 use crate::room::{created_sum, created_used};
 use std::alloc::Global;
+use vab_blocks::Blocks;
 use vab_bytes::{Listing, Name36};
 use vab_layout::{Layout, Part};
 use vab_names::default_group;
@@ -54,7 +57,9 @@ fn judged(
     bytes: u64,
 ) -> Result<Name36, EditFault>
     requires { IsUpdate slot source.now target.now }
-    ensures { MatchResult result (λ n. (n ≡ name.now) × IsCreated slot source.now target.now name.now bytes) (Refuses (created slot source.now target.now name.now bytes)) }
+    ensures { MatchResult result (λ n. (n ≡ name.now)
+        × IsCreated slot source.now target.now name.now bytes)
+        (Refuses (created slot source.now target.now name.now bytes)) }
 {
     let Some(name) = full_name(name, slot) else {
         return Err(EditFault::BadName);
@@ -93,35 +98,39 @@ fn created_blocks(
     slot: usize,
     name: &Name36,
     count: u64,
-) -> Result<Vec<u64>, NoMemory>
+) -> Result<Blocks, NoMemory>
     requires slot { slot < 2 }
     requires long { 2 ≤ length name.now }
-    requires room { count - length (before_of slot source.now.parts name.now) ≤ length (free_of slot source.now target.now) }
-    ensures { IfOk result (λ v. v.items ≡ created_blocks slot source.now target.now name.now count) }
+    requires room { count - length (before_of slot source.now.parts name.now)
+        ≤ length (free_of slot source.now target.now) }
+    ensures { IfOk result (λ b. b ≡ created_blocks slot source.now target.now name.now count) }
 {
-    let before = before(source.parts.as_slice(), slot, name);
-    let shared = before.len().min(count as usize);
-    let mut fresh = before[..shared].to_vec(alloc)?;
-    push_free(
-        alloc,
-        &mut fresh,
-        source,
-        target,
-        slot,
-        count - shared as u64,
-    )?;
+    let mut fresh = Blocks::new(alloc);
+    push_before(&mut fresh, source.parts.as_slice(), slot, name, count)?;
+    let shared = fresh.len();
+    push_free(alloc, &mut fresh, source, target, slot, count - shared)?;
     Ok(fresh)
 }
 
 // The target with a partition of these blocks at the end, in the slot's first group.
-fn with_part(
-    target: Layout,
-    slot: usize,
-    name: Name36,
-    blocks: Vec<u64>,
-) -> Result<Layout, NoMemory>
+fn with_part(target: Layout, slot: usize, name: Name36, blocks: Blocks) -> Result<Layout, NoMemory>
     requires { slot < 2 }
-    ensures { IfOk result (λ l. l ≡ record target { parts = target.parts ++ record { name = name; attributes = 5; group = first_group (own_groups slot target.groups); blocks = blocks.items } ∷ []; groups = if bytes_eq (first_group (own_groups slot target.groups)) default_name then with_group default_group target.groups else target.groups }) }
+    ensures { IfOk result
+        (λ l. l
+        ≡ record target {
+          parts =
+              target.parts
+              ++ record {
+                name = name;
+                attributes = 5;
+                group =
+                    first_group (own_groups slot target.groups);
+                blocks = blocks;
+              } ∷ [];
+          groups =
+              if bytes_eq (first_group (own_groups slot target.groups)) default_name then with_group
+              default_group target.groups else target.groups;
+        }) }
 {
     let Layout {
         parts,
@@ -135,7 +144,7 @@ fn with_part(
         name,
         attributes: ATTRIBUTES,
         group,
-        blocks: Listing::from_vec(blocks),
+        blocks,
     })?;
     Ok(Layout {
         parts: Listing::from_vec(parts),
@@ -147,7 +156,10 @@ fn with_part(
 
 // The groups with that of no slot, if it is this one.
 fn with_default(groups: Vec<Group>, group: &Name36) -> Result<Vec<Group>, NoMemory>
-    ensures { IfOk result (λ v. v.items ≡ (if bytes_eq group.now default_name then with_group default_group groups.items else groups.items)) }
+    ensures { IfOk result
+        (λ v. v.items
+        ≡ (if bytes_eq group.now default_name then with_group default_group groups.items else
+        groups.items)) }
 {
     if *group == default_group() {
         with_group(groups, *group)

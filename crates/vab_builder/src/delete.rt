@@ -27,7 +27,8 @@ pub(crate) fn delete(target: Layout, slot: usize, name: &[u8]) -> Result<Layout,
 // The name of the partition, or the first refusal.
 fn judged(target: &Layout, slot: usize, name: &[u8]) -> Result<Name36, EditFault>
     requires { slot < 2 }
-    ensures { MatchResult result (λ n. (n ≡ name.now) × IsDeleted slot target.now name.now) (Refuses (deleted slot target.now name.now)) }
+    ensures { MatchResult result (λ n. (n ≡ name.now) × IsDeleted slot target.now name.now)
+        (Refuses (deleted slot target.now name.now)) }
 {
     let Some(name) = full_name(name, slot) else {
         return Err(EditFault::BadName);

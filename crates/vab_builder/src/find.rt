@@ -1,6 +1,7 @@
 //! Partitions and groups by their names.
 
-ghost use Rattle.std.specs.Prelude.{◌≡◌, ◌≤◌, ◌<◌, length, position};
+ghost use Rattle.std.specs.Prelude.{◌≡◌, ◌≤◌, ◌<◌, ◌^◌, ◌++◌, [], length, position, take, drop};
+ghost use Rattle.std.specs.Prelude.{MatchOption, OnOk};
 ghost use Rattle.std.specs.List.{list_any};
 ghost use Rattle.std.specs.Str.{bytes_eq};
 ghost use Rattle.vab_layout.specs.Slots.{own_parts, blocks_named, before_of};
@@ -8,10 +9,11 @@ ghost use Rattle.vab_layout.specs.Plain.{own_groups};
 ghost use Rattle.vab_builder.specs.Sizes.{has_part, limit_of};
 ghost use Rattle.vab_builder.specs.Edits.{group_named, first_group};
 
+use vab_blocks::Blocks;
 use vab_bytes::Name36;
 use vab_layout::Part;
 use vab_names::{default_group, in_slot, is_of_slot};
-use vab_tables::Group;
+use vab_tables::{Group, NoMemory};
 
 /// Whether a partition of this name is among these.
 pub(crate) fn has_part(name: &[u8], parts: &[Part]) -> bool
@@ -27,25 +29,73 @@ pub(crate) fn place_of(name: &[u8], parts: &[Part]) -> Option<usize>
     parts.iter().position(|part| part.name.text() == name)
 }
 
-/// The blocks of the first partition of this name; none where there is no such partition.
-pub(crate) fn blocks_named<'a>(name: &[u8], parts: &'a [Part]) -> &'a [u64]
-    ensures { result.now ≡ blocks_named name.now parts.now }
+/// The first partition of this name.
+pub(crate) fn find_part<'a>(name: &[u8], parts: &'a [Part]) -> Option<&'a Part>
+    ensures { MatchOption result (blocks_named name.now parts.now ≡ [])
+        (λ p. (p.now).blocks ≡ blocks_named name.now parts.now) }
 {
     for part in parts {
         if part.name.text() == name {
-            return part.blocks.as_slice();
+            return Some(part);
         }
     }
-    &[]
+    None
 }
 
-/// The blocks of the source's partition of the same base name.
-pub(crate) fn before<'a>(source: &'a [Part], slot: usize, name: &Name36) -> &'a [u64]
+/// How many blocks the first partition of this name has; 0 where there is no such partition.
+pub(crate) fn count_named(name: &[u8], parts: &[Part]) -> u64
+    requires { length (blocks_named name.now parts.now) < 2 ^ 64 }
+    ensures { result ≡ length (blocks_named name.now parts.now) }
+{
+    match find_part(name, parts) {
+        Some(part) => part.blocks.len(),
+        None => 0,
+    }
+}
+
+/// How many blocks the source's partition of the same base name has.
+pub(crate) fn count_before(source: &[Part], slot: usize, name: &Name36) -> u64
     requires slot { slot < 2 }
     requires long { 2 ≤ length name.now }
-    ensures { result.now ≡ before_of slot source.now name.now }
+    requires small { length (before_of slot source.now name.now) < 2 ^ 64 }
+    ensures { result ≡ length (before_of slot source.now name.now) }
 {
-    blocks_named(in_slot(name, 1 - slot).text(), source)
+    count_named(in_slot(name, 1 - slot).text(), source)
+}
+
+/// Writes blocks of the first partition of this name at the end, so many, from the one with the
+/// index `skip` on.
+pub(crate) fn push_named(
+    blocks: &mut Blocks,
+    name: &[u8],
+    parts: &[Part],
+    skip: u64,
+    count: u64,
+) -> Result<(), NoMemory>
+    ensures { OnOk result (blocks.new
+        ≡ blocks.old ++ take count (drop skip (blocks_named name.now parts.now))) }
+{
+    match find_part(name, parts) {
+        Some(part) => blocks.append_part(&part.blocks, skip, count),
+        None => Ok(()),
+    }
+}
+
+/// Writes the first blocks of the source's partition of the same base name at the end, so many.
+pub(crate) fn push_before(
+    blocks: &mut Blocks,
+    source: &[Part],
+    slot: usize,
+    name: &Name36,
+    count: u64,
+) -> Result<(), NoMemory>
+    requires slot { slot < 2 }
+    requires long { 2 ≤ length name.now }
+    ensures { OnOk result
+        (blocks.new ≡ blocks.old
+        ++ take count (before_of slot source.now name.now)) }
+{
+    push_named(blocks, in_slot(name, 1 - slot).text(), source, 0, count)
 }
 
 /// The group of the first partition of this name, or that of no slot.

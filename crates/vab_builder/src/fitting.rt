@@ -3,7 +3,7 @@
 ghost use Rattle.std.specs.Prelude.{◌≡◌, ◌≤◌, ◌<◌, ◌^◌, length, sum_by, IfOk};
 ghost use Rattle.vab_tables.specs.Rules.{KeepsRules};
 ghost use Rattle.vab_tables.specs.Spelling.{table_size_of};
-ghost use Rattle.vab_layout.specs.Runs.{runs_of};
+ghost use Rattle.vab_blocks.specs.Runs.{runs_of};
 ghost use Rattle.vab_layout.specs.Layout.{layout_of};
 ghost use Rattle.vab_layout.specs.Rules.{IsLayout};
 ghost use Rattle.vab_builder.specs.Edits.{fitting};
@@ -14,7 +14,8 @@ use std::alloc::Global;
 use vab_layout::Layout;
 use vab_tables::Table;
 
-/// The table of a layout. `TableFull` exactly where its text is longer than `max` bytes; `NoMemory` where memory is refused.
+/// The table of a layout. `TableFull` exactly where its text is longer than `max` bytes; `NoMemory`
+/// where memory is refused.
 pub(crate) fn fitting(alloc: Global, layout: &Layout, max: u32) -> Result<Table, EditFault>
     requires rules { IsLayout layout.now }
     requires parts { length layout.now.parts < 2 ^ 56 }

@@ -6,12 +6,13 @@ ghost use Rattle.vab_layout.specs.Slots.{other_slot, own_parts, store_parts};
 ghost use Rattle.vab_builder.specs.Edits.{free_of};
 
 use std::alloc::Global;
-use vab_blocks::Runs;
+use vab_blocks::{Blocks, Runs};
 use vab_layout::{Layout, Part};
 use vab_names::{is_of_slot, is_store};
 use vab_tables::NoMemory;
 
-/// The blocks that are in no partition of the source, and in no partition and no store of the target.
+/// The blocks that are in no partition of the source, and in no partition and no store of the
+/// target.
 pub(crate) fn free_blocks(
     alloc: Global,
     source: &Layout,
@@ -22,15 +23,19 @@ pub(crate) fn free_blocks(
     ensures { IfOk result (λ r. r ≡ free_of slot source.now target.now) }
 {
     let taken = taken(alloc, source, target, slot)?;
-    Runs::free(alloc, target.device.cap(), &Runs::sorted(taken))
+    let taken = Runs::sorted(alloc, &taken)?;
+    Runs::free(alloc, target.device.cap(), &taken)
 }
 
 // The blocks of the source, and those of the target and of its stores.
-fn taken(alloc: Global, source: &Layout, target: &Layout, slot: usize) -> Result<Vec<u64>, NoMemory>
+fn taken(alloc: Global, source: &Layout, target: &Layout, slot: usize) -> Result<Blocks, NoMemory>
     requires { slot < 2 }
-    ensures { IfOk result (λ v. v.items ≡ blocks_of_parts (own_parts (other_slot slot) (source.now).parts) ++ blocks_of_parts (own_parts slot (target.now).parts ++ store_parts slot (target.now).parts)) }
+    ensures { IfOk result (λ b. b
+        ≡ blocks_of_parts (own_parts (other_slot slot) (source.now).parts)
+        ++ blocks_of_parts
+        (own_parts slot (target.now).parts ++ store_parts slot (target.now).parts)) }
 {
-    let mut blocks = Vec::new(alloc);
+    let mut blocks = Blocks::new(alloc);
     push_own(&mut blocks, source.parts.as_slice(), 1 - slot)?;
     push_own(&mut blocks, target.parts.as_slice(), slot)?;
     push_stores(&mut blocks, target.parts.as_slice(), slot)?;
@@ -38,26 +43,28 @@ fn taken(alloc: Global, source: &Layout, target: &Layout, slot: usize) -> Result
 }
 
 // Writes the blocks of the slot's partitions at the end.
-fn push_own(blocks: &mut Vec<u64>, parts: &[Part], slot: usize) -> Result<(), NoMemory>
+fn push_own(blocks: &mut Blocks, parts: &[Part], slot: usize) -> Result<(), NoMemory>
     requires { slot < 2 }
-    ensures { OnOk result (blocks.new.items ≡ blocks.old.items ++ blocks_of_parts (own_parts slot parts.now)) }
+    ensures { OnOk result (blocks.new ≡ blocks.old ++ blocks_of_parts (own_parts slot parts.now)) }
 {
     for part in parts {
         if is_of_slot(part.name.text(), slot) {
-            blocks.extend_from_slice(part.blocks.as_slice())?;
+            blocks.append(&part.blocks)?;
         }
     }
     Ok(())
 }
 
 // Writes the blocks of the slot's stores at the end.
-fn push_stores(blocks: &mut Vec<u64>, parts: &[Part], slot: usize) -> Result<(), NoMemory>
+fn push_stores(blocks: &mut Blocks, parts: &[Part], slot: usize) -> Result<(), NoMemory>
     requires { slot < 2 }
-    ensures { OnOk result (blocks.new.items ≡ blocks.old.items ++ blocks_of_parts (store_parts slot parts.now)) }
+    ensures { OnOk result
+        (blocks.new ≡ blocks.old
+        ++ blocks_of_parts (store_parts slot parts.now)) }
 {
     for part in parts {
         if is_store(part.name.text(), slot) {
-            blocks.extend_from_slice(part.blocks.as_slice())?;
+            blocks.append(&part.blocks)?;
         }
     }
     Ok(())

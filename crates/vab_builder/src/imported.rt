@@ -4,7 +4,8 @@ ghost use Rattle.std.specs.Prelude.{◌≡◌, ◌≤◌, ◌<◌, [], ◌∷◌
 ghost use Rattle.vab_layout.specs.Rules.{IsLayout};
 ghost use Rattle.vab_layout.specs.Slots.{other_slot, own_parts, IsOwn, IsTarget, groups_of_slot};
 ghost use Rattle.vab_layout.specs.Plain.{plain, default_group, own_groups};
-ghost use Rattle.vab_builder.specs.Import.{imported, stores_group, twin_group_name, twin_group, twin_part};
+ghost use Rattle.vab_builder.specs.Import.{imported, stores_group, twin_group_name, twin_group};
+ghost use Rattle.vab_builder.specs.Import.{twin_part};
 
 use std::alloc::Global;
 use vab_bytes::{Listing, Name36};
@@ -18,7 +19,8 @@ const VIRTUAL_AB: u32 = 1;
 /// Read-only and disabled, the attributes that a partition's twin has too.
 const KEPT: u32 = 9;
 
-/// The layout of the target as an update from this source begins. `NoMemory` where memory is refused.
+/// The layout of the target as an update from this source begins. `NoMemory` where memory is
+/// refused.
 pub(crate) fn imported(alloc: Global, layout: &Layout, source: usize) -> Result<Layout, NoMemory>
     requires slot { source < 2 }
     requires rules { IsLayout layout.now }
@@ -26,7 +28,9 @@ pub(crate) fn imported(alloc: Global, layout: &Layout, source: usize) -> Result<
     ensures value { IfOk result (λ l. l ≡ imported source layout.now) }
     ensures rules { IfOk result IsLayout }
     ensures target { IfOk result (λ l. IsTarget (other_slot source) layout.now.parts l.parts) }
-    ensures groups { IfOk result (λ l. groups_of_slot (other_slot source) l.groups ≡ groups_of_slot source layout.now.groups) }
+    ensures groups { IfOk result
+        (λ l. groups_of_slot (other_slot source) l.groups
+        ≡ groups_of_slot source layout.now.groups) }
 {
     let parts = imported_parts(alloc, layout.parts.as_slice(), source)?;
     let groups = imported_groups(alloc, layout.groups.as_slice(), source)?;
@@ -67,7 +71,7 @@ fn copy_part(alloc: Global, part: &Part) -> Result<Part, NoMemory>
         name: part.name,
         attributes: part.attributes,
         group: part.group,
-        blocks: Listing::from_vec(part.blocks.as_slice().to_vec(alloc)?),
+        blocks: part.blocks.copy(alloc)?,
     })
 }
 
@@ -96,7 +100,7 @@ fn twin_part(alloc: Global, part: &Part, slot: usize) -> Result<Part, NoMemory>
         name: in_slot(&part.name, slot),
         attributes: part.attributes & KEPT,
         group: twin_group_name(&part.group, slot),
-        blocks: Listing::from_vec(part.blocks.as_slice().to_vec(alloc)?),
+        blocks: part.blocks.copy(alloc)?,
     })
 }
 
@@ -117,7 +121,9 @@ fn twin_parts(alloc: Global, parts: &[Part], slot: usize) -> Result<Vec<Part>, N
 fn imported_parts(alloc: Global, parts: &[Part], source: usize) -> Result<Vec<Part>, NoMemory>
     requires slot { source < 2 }
     requires long { All (λ p. 2 ≤ length p.group) (own_parts source parts.now) }
-    ensures { IfOk result (λ v. v.items ≡ own_parts source parts.now ++ map (twin_part (other_slot source)) (own_parts source parts.now)) }
+    ensures { IfOk result
+        (λ v. v.items ≡ own_parts source parts.now
+        ++ map (twin_part (other_slot source)) (own_parts source parts.now)) }
 {
     let mut all = own_parts(alloc, parts, source)?;
     let twins = twin_parts(alloc, all.as_slice(), other_slot(source))?;
@@ -184,7 +190,11 @@ fn twin_groups(alloc: Global, groups: &[Group], slot: usize) -> Result<Vec<Group
 // The groups of no slot, and between them the source's and their twins in the other slot.
 fn imported_groups(alloc: Global, groups: &[Group], source: usize) -> Result<Vec<Group>, NoMemory>
     requires { source < 2 }
-    ensures { IfOk result (λ v. v.items ≡ default_group ∷ (own_groups source groups.now ++ (map (twin_group (other_slot source)) (own_groups source groups.now) ++ stores_group ∷ []))) }
+    ensures { IfOk result
+        (λ v. v.items
+        ≡ default_group ∷ (own_groups source groups.now
+        ++ (map (twin_group (other_slot source)) (own_groups source groups.now)
+        ++ stores_group ∷ []))) }
 {
     let own = own_groups(alloc, groups, source)?;
     let twins = twin_groups(alloc, own.as_slice(), other_slot(source))?;

@@ -1,4 +1,5 @@
-//! The tables of an update: the target's as the update begins, what edits make of it, and a slot's table without stores.
+//! The tables of an update: the target's as the update begins, what edits make of it, and a slot's
+//! table without stores.
 #![tactic(auto)]
 
 mod applied;

@@ -1,17 +1,20 @@
 //! Names, partitions and groups of an edited target.
 
-ghost use Rattle.std.specs.Prelude.{◌≡◌, ◌↔◌, ◌≤◌, ◌<◌, ◌++◌, ◌∷◌, [], take, length, IfOk, OnOk, IfSome, IsSome, IsTrue, not};
+ghost use Rattle.std.specs.Prelude.{◌≡◌, ◌↔◌, ◌≤◌, ◌<◌, ◌++◌, ◌∷◌, [], take, length, IfOk, OnOk};
+ghost use Rattle.std.specs.Prelude.{IfSome, IsSome, IsTrue, not};
 ghost use Rattle.std.specs.List.{filter};
 ghost use Rattle.std.specs.Str.{bytes_eq};
 ghost use Rattle.vab_names.specs.Names.{is_full};
 ghost use Rattle.vab_tables.specs.Rules.{NamesDiffer};
+ghost use Rattle.vab_layout.specs.Slots.{before_of, blocks_named};
 ghost use Rattle.vab_builder.specs.Sizes.{is_within};
 ghost use Rattle.vab_builder.specs.Edits.{free_of, kept_blocks, changed, updated, with_group};
 
-use crate::find::{has_group, place_of};
+use crate::find::{has_group, place_of, push_before, push_named};
 use crate::free::free_blocks;
 use std::alloc::Global;
-use vab_bytes::{Listing, Name36};
+use vab_blocks::Blocks;
+use vab_bytes::Name36;
 use vab_layout::{Layout, Part};
 use vab_names::is_full;
 use vab_tables::{Group, NoMemory};
@@ -46,7 +49,7 @@ pub(crate) fn full_name(name: &[u8], slot: usize) -> Option<Name36>
 /// Writes the lowest free blocks at the end, so many.
 pub(crate) fn push_free(
     alloc: Global,
-    blocks: &mut Vec<u64>,
+    blocks: &mut Blocks,
     source: &Layout,
     target: &Layout,
     slot: usize,
@@ -54,36 +57,45 @@ pub(crate) fn push_free(
 ) -> Result<(), NoMemory>
     requires slot { slot < 2 }
     requires room { count ≤ length (free_of slot source.now target.now) }
-    ensures { OnOk result (blocks.new.items ≡ blocks.old.items ++ take count (free_of slot source.now target.now)) }
+    ensures { OnOk result
+        (blocks.new ≡ blocks.old
+        ++ take count (free_of slot source.now target.now)) }
 {
     let free = free_blocks(alloc, source, target, slot)?;
     match free.take_lowest(alloc, count)? {
-        Some(lowest) => blocks.extend_from_slice(lowest.as_slice())?,
+        Some(lowest) => blocks.append(lowest.as_blocks())?,
         None => unreachable!(),
     }
     Ok(())
 }
 
-/// What a partition keeps at another size: blocks of the source, and then fresh ones that it has.
+/// What a partition of the target keeps at another size: blocks of the source, and then fresh ones
+/// that it has.
 pub(crate) fn kept_blocks(
     alloc: Global,
-    before: &[u64],
-    former: &[u64],
+    source: &[Part],
+    target: &[Part],
+    slot: usize,
+    name: &Name36,
     count: u64,
-) -> Result<Vec<u64>, NoMemory>
-    ensures { IfOk result (λ v. v.items ≡ kept_blocks before.now former.now count) }
+) -> Result<Blocks, NoMemory>
+    requires slot { slot < 2 }
+    requires long { 2 ≤ length name.now }
+    ensures { IfOk result (λ b. b
+        ≡ kept_blocks (before_of slot source.now name.now) (blocks_named name.now target.now) count) }
 {
-    let count = count as usize;
-    let shared = before.len().min(count);
-    let fresh = &former[before.len().min(former.len())..];
-    let mut blocks = before[..shared].to_vec(alloc)?;
-    blocks.extend_from_slice(&fresh[..fresh.len().min(count - shared)])?;
-    Ok(blocks)
+    let mut kept = Blocks::new(alloc);
+    push_before(&mut kept, source, slot, name, count)?;
+    let shared = kept.len();
+    push_named(&mut kept, name.text(), target, shared, count - shared)?;
+    Ok(kept)
 }
 
 /// The groups with one of this name, flags 0 and no limit, as the last where there is none.
 pub(crate) fn with_group(mut groups: Vec<Group>, name: Name36) -> Result<Vec<Group>, NoMemory>
-    ensures { IfOk result (λ v. v.items ≡ with_group record { name = name; flags = 0; maximum_size = 0 } groups.items) }
+    ensures { IfOk result
+        (λ v. v.items
+        ≡ with_group record { name = name; flags = 0; maximum_size = 0 } groups.items) }
 {
     if !has_group(&groups, &name) {
         groups.push(Group {
@@ -110,15 +122,16 @@ pub(crate) fn mark_updated(parts: &mut Vec<Part>, name: &[u8])
 }
 
 /// Gives the partition of this name these blocks, and marks it as updated.
-pub(crate) fn set_blocks(parts: &mut Vec<Part>, name: &[u8], blocks: Vec<u64>)
+pub(crate) fn set_blocks(parts: &mut Vec<Part>, name: &[u8], blocks: Blocks)
     requires { NamesDiffer (λ p. p.name) parts.old.items }
-    ensures { parts.new.items ≡ changed name.now (λ p. record (updated p) { blocks = blocks.items }) parts.old.items }
+    ensures { parts.new.items
+        ≡ changed name.now (λ p. record (updated p) { blocks = blocks }) parts.old.items }
 {
     match place_of(name, parts) {
         Some(at) => {
             let part = &mut parts[at];
             part.attributes |= UPDATED;
-            part.blocks = Listing::from_vec(blocks);
+            part.blocks = blocks;
         }
         None => {}
     }

@@ -10,10 +10,11 @@ ghost use Rattle.vab_builder.specs.Update.{IsUpdate, Refuses};
 ghost use Rattle.vab_builder.specs.ResizeVerdicts.{IsResized};
 
 use crate::fault::EditFault;
-use crate::find::{before, blocks_named, group_named, has_part, limit_of};
+use crate::find::{count_named, group_named, has_part, limit_of};
 use crate::parts::{MAX_BYTES, full_name, is_within, kept_blocks, push_free, set_blocks};
 use crate::room::{resized_sum, resized_used};
 use std::alloc::Global;
+use vab_blocks::Blocks;
 use vab_bytes::{Listing, Name36};
 use vab_layout::Layout;
 use vab_names::store_of;
@@ -34,7 +35,7 @@ pub(crate) fn resize(
 {
     let name = judged(alloc, source, &target, slot, name, bytes)?;
     let count = blocks(bytes);
-    let former = blocks_named(name.text(), target.parts.as_slice()).len() as u64;
+    let former = count_named(name.text(), target.parts.as_slice());
     if former == count {
         return Ok(target);
     }
@@ -52,7 +53,9 @@ fn judged(
     bytes: u64,
 ) -> Result<Name36, EditFault>
     requires { IsUpdate slot source.now target.now }
-    ensures { MatchResult result (λ n. (n ≡ name.now) × IsResized slot source.now target.now name.now bytes) (Refuses (resized slot source.now target.now name.now bytes)) }
+    ensures { MatchResult result (λ n. (n ≡ name.now)
+        × IsResized slot source.now target.now name.now bytes)
+        (Refuses (resized slot source.now target.now name.now bytes)) }
 {
     let Some(name) = full_name(name, slot) else {
         return Err(EditFault::BadName);
@@ -82,7 +85,8 @@ fn judged(
     Ok(name)
 }
 
-// The blocks of the partition of this name at another size: what it keeps, and then the lowest free ones.
+// The blocks of the partition of this name at another size: what it keeps, and then the lowest free
+// ones.
 fn resized_blocks(
     alloc: Global,
     source: &Layout,
@@ -90,24 +94,30 @@ fn resized_blocks(
     slot: usize,
     name: &Name36,
     count: u64,
-) -> Result<Vec<u64>, NoMemory>
+) -> Result<Blocks, NoMemory>
     requires slot { slot < 2 }
     requires long { 2 ≤ length name.now }
-    requires room { count - length (kept_blocks (before_of slot source.now.parts name.now) (blocks_named name.now target.now.parts) count) ≤ length (free_of slot source.now target.now) }
-    ensures { IfOk result (λ v. v.items ≡ resized_to slot source.now target.now name.now count) }
+    requires room { count
+        - length
+        (kept_blocks (before_of slot source.now.parts name.now)
+        (blocks_named name.now target.now.parts) count)
+        ≤ length (free_of slot source.now target.now) }
+    ensures { IfOk result (λ b. b ≡ resized_to slot source.now target.now name.now count) }
 {
-    let before = before(source.parts.as_slice(), slot, name);
-    let former = blocks_named(name.text(), target.parts.as_slice());
-    let mut changed = kept_blocks(alloc, before, former, count)?;
-    let more = count.saturating_sub(changed.len() as u64);
+    let (old, new) = (source.parts.as_slice(), target.parts.as_slice());
+    let mut changed = kept_blocks(alloc, old, new, slot, name, count)?;
+    let more = count - changed.len();
     push_free(alloc, &mut changed, source, target, slot, more)?;
     Ok(changed)
 }
 
 // The target where the partition of this name has these blocks and is marked as updated.
-fn with_blocks(target: Layout, name: &Name36, blocks: Vec<u64>) -> Layout
+fn with_blocks(target: Layout, name: &Name36, blocks: Blocks) -> Layout
     requires { NamesDiffer (λ p. p.name) target.parts }
-    ensures { result ≡ record target { parts = changed name.now (λ p. record (updated p) { blocks = blocks.items }) target.parts } }
+    ensures { result ≡ record target {
+      parts =
+          changed name.now (λ p. record (updated p) { blocks = blocks }) target.parts;
+    } }
 {
     let Layout {
         parts,

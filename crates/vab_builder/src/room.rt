@@ -6,7 +6,7 @@ ghost use Rattle.vab_space.specs.Space.{group_sum_of};
 ghost use Rattle.vab_builder.specs.Sizes.{sizes_in, used_by, wants_of, wants_resized, wants_stored};
 ghost use Rattle.vab_builder.specs.Update.{IsUpdate};
 
-use crate::find::before;
+use crate::find::count_before;
 use crate::sizes::{sizes_in, source_sizes, wants, wants_resized, wants_stored};
 use std::alloc::Global;
 use vab_bytes::Name36;
@@ -26,7 +26,10 @@ pub(crate) fn created_sum(
     requires slot { slot < 2 }
     requires own { IsOwn slot target.now }
     requires small { count ≤ 2 ^ 28 }
-    ensures { IfOk result (λ s. s ≡ group_sum_of (sizes_in group.now name.now count (own_parts slot target.now) ++ count ∷ [])) }
+    ensures { IfOk result
+        (λ s. s
+        ≡ group_sum_of
+        (sizes_in group.now name.now count (own_parts slot target.now) ++ count ∷ [])) }
 {
     let mut sizes = sizes_in(alloc, group, name, count, target, slot)?;
     sizes.push(count)?;
@@ -45,7 +48,8 @@ pub(crate) fn resized_sum(
     requires slot { slot < 2 }
     requires own { IsOwn slot target.now }
     requires small { count ≤ 2 ^ 28 }
-    ensures { IfOk result (λ s. s ≡ group_sum_of (sizes_in group.now name.now count (own_parts slot target.now))) }
+    ensures { IfOk result
+        (λ s. s ≡ group_sum_of (sizes_in group.now name.now count (own_parts slot target.now))) }
 {
     let sizes = sizes_in(alloc, group, name, count, target, slot)?;
     Ok(group_sum(&sizes))
@@ -63,7 +67,16 @@ pub(crate) fn created_used(
     requires update { IsUpdate slot source.now target.now }
     requires long { 2 ≤ length name.now }
     requires small { count ≤ 2 ^ 28 }
-    ensures { IfOk result (λ u. u ≡ used_by slot source.now.parts (wants_of slot source.now.parts target.now.parts ++ record { before = length (before_of slot source.now.parts name.now); blocks = count; store = 0 } ∷ [])) }
+    ensures { IfOk result
+        (λ u. u
+        ≡ used_by slot source.now.parts
+        (wants_of slot source.now.parts target.now.parts
+        ++ record {
+          before = length (before_of slot source.now.parts name.now);
+          blocks =
+              count;
+          store = 0;
+        } ∷ [])) }
 {
     let sizes = source_sizes(alloc, source.parts.as_slice(), slot)?;
     let mut wants = wants(
@@ -73,7 +86,7 @@ pub(crate) fn created_used(
         slot,
     )?;
     wants.push(Want {
-        before: before(source.parts.as_slice(), slot, name).len() as u64,
+        before: count_before(source.parts.as_slice(), slot, name),
         blocks: count,
         store: 0,
     })?;
@@ -91,7 +104,10 @@ pub(crate) fn resized_used(
 ) -> Result<u64, NoMemory>
     requires update { IsUpdate slot source.now target.now }
     requires small { count ≤ 2 ^ 28 }
-    ensures { IfOk result (λ u. u ≡ used_by slot source.now.parts (wants_resized slot source.now.parts target.now.parts name.now count)) }
+    ensures { IfOk result
+        (λ u. u
+        ≡ used_by slot source.now.parts
+        (wants_resized slot source.now.parts target.now.parts name.now count)) }
 {
     let (source, target) = (source.parts.as_slice(), target.parts.as_slice());
     let sizes = source_sizes(alloc, source, slot)?;
@@ -110,7 +126,10 @@ pub(crate) fn stored_used(
 ) -> Result<u64, NoMemory>
     requires update { IsUpdate slot source.now target.now }
     requires small { count ≤ 2 ^ 29 }
-    ensures { IfOk result (λ u. u ≡ used_by slot source.now.parts (wants_stored slot source.now.parts target.now.parts name.now count)) }
+    ensures { IfOk result
+        (λ u. u
+        ≡ used_by slot source.now.parts
+        (wants_stored slot source.now.parts target.now.parts name.now count)) }
 {
     let (source, target) = (source.parts.as_slice(), target.parts.as_slice());
     let sizes = source_sizes(alloc, source, slot)?;

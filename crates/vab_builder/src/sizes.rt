@@ -1,10 +1,12 @@
 //! What an update's partitions and stores take, in blocks.
 
-ghost use Rattle.std.specs.Prelude.{◌≡◌, ◌≤◌, ◌<◌, length, IfOk};
-ghost use Rattle.vab_layout.specs.Slots.{IsOwn, own_parts};
-ghost use Rattle.vab_builder.specs.Sizes.{source_sizes, want_of, wants_of, wants_resized, wants_stored, sizes_in};
+ghost use Rattle.std.specs.Prelude.{◌≡◌, ◌≤◌, ◌<◌, length, All, IfOk};
+ghost use Rattle.vab_layout.specs.Slots.{other_slot, IsOwn, own_parts};
+ghost use Rattle.vab_builder.specs.Sizes.{source_sizes, want_of, wants_of, wants_resized};
+ghost use Rattle.vab_builder.specs.Sizes.{wants_stored};
+ghost use Rattle.vab_builder.specs.Sizes.{sizes_in, WantFits};
 
-use crate::find::{before, blocks_named};
+use crate::find::{count_before, count_named};
 use std::alloc::Global;
 use vab_bytes::Name36;
 use vab_layout::Part;
@@ -18,13 +20,14 @@ pub(crate) fn source_sizes(
     source: &[Part],
     slot: usize,
 ) -> Result<Vec<u64>, NoMemory>
-    requires { slot < 2 }
+    requires slot { slot < 2 }
+    requires own { IsOwn (other_slot slot) source.now }
     ensures { IfOk result (λ v. v.items ≡ source_sizes slot source.now) }
 {
     let mut sizes = Vec::new(alloc);
     for part in source {
         if is_of_slot(part.name.text(), 1 - slot) {
-            sizes.push(part.blocks.len() as u64)?;
+            sizes.push(part.blocks.len())?;
         }
     }
     Ok(sizes)
@@ -35,12 +38,13 @@ fn want(source: &[Part], target: &[Part], slot: usize, part: &Part) -> Want
     requires slot { slot < 2 }
     requires long { 2 ≤ length part.now.name }
     requires short { length part.now.name ≤ 32 }
+    requires fits { WantFits slot source.now target.now part.now }
     ensures { result ≡ want_of slot source.now target.now part.now }
 {
     Want {
-        before: before(source, slot, &part.name).len() as u64,
-        blocks: part.blocks.len() as u64,
-        store: blocks_named(store_of(&part.name).text(), target).len() as u64,
+        before: count_before(source, slot, &part.name),
+        blocks: part.blocks.len(),
+        store: count_named(store_of(&part.name).text(), target),
     }
 }
 
@@ -53,6 +57,7 @@ pub(crate) fn wants(
 ) -> Result<Vec<Want>, NoMemory>
     requires slot { slot < 2 }
     requires own { IsOwn slot target.now }
+    requires fit { All (WantFits slot source.now target.now) (own_parts slot target.now) }
     ensures { IfOk result (λ v. v.items ≡ wants_of slot source.now target.now) }
 {
     let mut wants = Vec::new(alloc);
@@ -75,6 +80,7 @@ pub(crate) fn wants_resized(
 ) -> Result<Vec<Want>, NoMemory>
     requires slot { slot < 2 }
     requires own { IsOwn slot target.now }
+    requires fit { All (WantFits slot source.now target.now) (own_parts slot target.now) }
     ensures { IfOk result (λ v. v.items ≡ wants_resized slot source.now target.now name.now count) }
 {
     let mut wants = Vec::new(alloc);
@@ -101,6 +107,7 @@ pub(crate) fn wants_stored(
 ) -> Result<Vec<Want>, NoMemory>
     requires slot { slot < 2 }
     requires own { IsOwn slot target.now }
+    requires fit { All (WantFits slot source.now target.now) (own_parts slot target.now) }
     ensures { IfOk result (λ v. v.items ≡ wants_stored slot source.now target.now name.now count) }
 {
     let mut wants = Vec::new(alloc);
@@ -125,18 +132,17 @@ pub(crate) fn sizes_in(
     parts: &[Part],
     slot: usize,
 ) -> Result<Vec<u64>, NoMemory>
-    requires { slot < 2 }
-    ensures { IfOk result (λ v. v.items ≡ sizes_in group.now name.now count (own_parts slot parts.now)) }
+    requires slot { slot < 2 }
+    requires own { IsOwn slot parts.now }
+    ensures { IfOk result
+        (λ v. v.items
+        ≡ sizes_in group.now name.now count (own_parts slot parts.now)) }
 {
     let mut sizes = Vec::new(alloc);
     for part in parts {
         if is_of_slot(part.name.text(), slot) && part.group == *group {
             let is_changed = part.name.text() == name;
-            sizes.push(if is_changed {
-                count
-            } else {
-                part.blocks.len() as u64
-            })?;
+            sizes.push(if is_changed { count } else { part.blocks.len() })?;
         }
     }
     Ok(sizes)

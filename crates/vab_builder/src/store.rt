@@ -11,10 +11,11 @@ ghost use Rattle.vab_builder.specs.Update.{IsUpdate, Refuses};
 ghost use Rattle.vab_builder.specs.StoreVerdicts.{IsStored, store_size};
 
 use crate::fault::EditFault;
-use crate::find::{blocks_named, has_part};
+use crate::find::{count_named, has_part};
 use crate::parts::{MAX_BYTES, full_name, mark_updated, push_free, with_group};
 use crate::room::stored_used;
 use std::alloc::Global;
+use vab_blocks::Blocks;
 use vab_bytes::{Listing, Name36};
 use vab_layout::{Layout, Part};
 use vab_names::{store_group, store_of};
@@ -34,7 +35,7 @@ pub(crate) fn add_store(
     ensures { GivesLayout result (stored slot source.now target name.now bytes) }
 {
     let (name, count) = judged(alloc, source, &target, slot, name, bytes)?;
-    let mut fresh = Vec::new(alloc);
+    let mut fresh = Blocks::new(alloc);
     push_free(alloc, &mut fresh, source, &target, slot, count)?;
     Ok(with_store(target, &name, fresh)?)
 }
@@ -49,7 +50,10 @@ fn judged(
     bytes: u64,
 ) -> Result<(Name36, u64), EditFault>
     requires { IsUpdate slot source.now target.now }
-    ensures { MatchResult result (λ r. (r.0 ≡ name.now) × (r.1 ≡ store_blocks target.now name.now bytes) × IsStored slot source.now target.now name.now bytes) (Refuses (stored slot source.now target.now name.now bytes)) }
+    ensures { MatchResult result (λ r. (r.0 ≡ name.now)
+        × (r.1 ≡ store_blocks target.now name.now bytes)
+        × IsStored slot source.now target.now name.now bytes)
+        (Refuses (stored slot source.now target.now name.now bytes)) }
 {
     let Some(name) = full_name(name, slot) else {
         return Err(EditFault::BadName);
@@ -80,23 +84,38 @@ fn is_store_size(bytes: u64) -> bool
     bytes <= MAX_BYTES && (bytes == 0 || blocks(bytes) > 1)
 }
 
-// Blocks of a store of so many bytes; 0 bytes are as many blocks as all blocks of the partition may need.
+// Blocks of a store of so many bytes; 0 bytes are as many blocks as all blocks of the partition may
+// need.
 fn store_blocks(target: &Layout, name: &Name36, bytes: u64) -> u64
     requires { length (blocks_named name.now target.now.parts) ≤ 2 ^ 28 }
     ensures { result ≡ store_blocks target.now name.now bytes }
 {
     if bytes == 0 {
-        need(blocks_named(name.text(), target.parts.as_slice()).len() as u64)
+        need(count_named(name.text(), target.parts.as_slice()))
     } else {
         blocks(bytes)
     }
 }
 
-// The target with a store of these blocks at the end, in the stores' group, its partition marked as updated.
-fn with_store(target: Layout, name: &Name36, blocks: Vec<u64>) -> Result<Layout, NoMemory>
+// The target with a store of these blocks at the end, in the stores' group, its partition marked as
+// updated.
+fn with_store(target: Layout, name: &Name36, blocks: Blocks) -> Result<Layout, NoMemory>
     requires differ { NamesDiffer (λ p. p.name) target.parts }
     requires short { length name.now ≤ 32 }
-    ensures { IfOk result (λ l. l ≡ record target { parts = changed name.now updated target.parts ++ record { name = store_of name.now; attributes = 0; group = store_group_name; blocks = blocks.items } ∷ []; groups = with_group stores_group target.groups }) }
+    ensures { IfOk result
+        (λ l. l
+        ≡ record target {
+          parts =
+              changed name.now updated target.parts
+              ++ record {
+                name = store_of name.now;
+                attributes = 0;
+                group = store_group_name;
+                blocks =
+                    blocks;
+              } ∷ [];
+          groups = with_group stores_group target.groups;
+        }) }
 {
     let Layout {
         parts,
@@ -110,7 +129,7 @@ fn with_store(target: Layout, name: &Name36, blocks: Vec<u64>) -> Result<Layout,
         name: store_of(name),
         attributes: 0,
         group: store_group(),
-        blocks: Listing::from_vec(blocks),
+        blocks,
     })?;
     Ok(Layout {
         parts: Listing::from_vec(parts),

@@ -17,8 +17,10 @@ use std::alloc::Global;
 use vab_layout::Layout;
 use vab_tables::{NoMemory, Table};
 
-/// The table of the other slot as an update from this source begins: the source's groups and their twins, the source's partitions and
-/// their twins with the same blocks. `TableFull` exactly where its text is longer than `max` bytes; `NoMemory` where memory is
+/// The table of the other slot as an update from this source begins: the source's groups and their
+/// twins, the source's partitions and
+/// their twins with the same blocks. `TableFull` exactly where its text is longer than `max` bytes;
+/// `NoMemory` where memory is
 /// refused.
 pub fn import(alloc: Global, table: &Table, source: usize, max: u32) -> Result<Table, EditFault>
     requires slot { source < 2 }
@@ -28,10 +30,14 @@ pub fn import(alloc: Global, table: &Table, source: usize, max: u32) -> Result<T
     ensures exact { GivesTable result (fitting max (imported source (layout_of table.now))) }
     ensures rules { IfOk result KeepsRules }
     ensures size { IfOk result (λ t. table_size_of t ≤ max) }
+    ensures layout { IfOk result (λ t. layout_of t ≡ imported source (layout_of table.now)) }
     // Edits may be made of it.
-    ensures target { IfOk result (λ t. IsTarget (other_slot source) (layout_of table.now).parts (layout_of t).parts) }
+    ensures target { IfOk result
+        (λ t. IsTarget (other_slot source) (layout_of table.now).parts (layout_of t).parts) }
     ensures device { IfOk result (λ t. t.devices ≡ table.now.devices) }
-    ensures groups { IfOk result (λ t. groups_of_slot (other_slot source) t.groups ≡ groups_of_slot source table.now.groups) }
+    ensures groups { IfOk result
+        (λ t. groups_of_slot (other_slot source) t.groups
+        ≡ groups_of_slot source table.now.groups) }
 {
     let layout = Layout::of_table(alloc, table)?;
     let target = imported(alloc, &layout, source)?;
@@ -46,7 +52,12 @@ pub fn without_stores(alloc: Global, table: &Table, slot: usize) -> Result<Table
     requires own { IsOwn slot (layout_of table.now).parts }
     ensures exact { IfOk result (λ t. t ≡ table_of (plain slot (layout_of table.now))) }
     ensures rules { IfOk result (λ t. KeepsRules t) }
+    ensures size { IfOk result (λ t. table_size_of t < 2 ^ 32) }
+    ensures layout { IfOk result (λ t. layout_of t ≡ plain slot (layout_of table.now)) }
     ensures own { IfOk result (λ t. IsOwn slot (layout_of t).parts) }
+    ensures groups { IfOk result
+        (λ t. groups_of_slot slot t.groups
+        ≡ groups_of_slot slot table.now.groups) }
     ensures device { IfOk result (λ t. t.devices ≡ table.now.devices) }
 {
     let layout = Layout::of_table(alloc, table)?;

@@ -1,8 +1,11 @@
 -- The rules of a slot's own partitions, of the target of an update and of its exception stores.
-use Rattle.std.specs.Prelude.{◌≡◌, ◌≢◌, ◌⊎◌, ℕ, ◌-◌, ◌<◌, ◌≤◌, ◌^◌, min, bit_and, Bool, not, ◌||◌, ◌==◌, if◌then◌else◌, List, [], ◌∷◌, ◌++◌, length, map, take, drop, All, Any, AllPairs, Contains, IsTrue}
+use Rattle.std.specs.Prelude.{◌≡◌, ◌≢◌, ◌⊎◌, ℕ, ◌-◌, ◌<◌, ◌≤◌, ◌^◌, min, bit_and, Bool, not, ◌||◌}
+use Rattle.std.specs.Prelude.{◌==◌, if◌then◌else◌, List, [], ◌∷◌, ◌++◌, length, map, take, drop}
+use Rattle.std.specs.Prelude.{All, Any, AllPairs, Contains, IsTrue}
 use Rattle.std.specs.List.{filter}
 use Rattle.std.specs.Str.{bytes_eq}
-use Rattle.vab_names.specs.Names.{is_base, is_of_slot, is_store, base_of, in_slot, store_of, default_name, store_group_name}
+use Rattle.vab_names.specs.Names.{is_base, is_of_slot, is_store, base_of, in_slot, store_of}
+use Rattle.vab_names.specs.Names.{default_name, store_group_name}
 use Rattle.vab_tables.specs.declared.entries.Group.{Group}
 use Rattle.vab_layout.specs.declared.layout.Part.{Part}
 use Rattle.vab_layout.specs.declared.layout.Layout.{Layout}
@@ -52,20 +55,30 @@ before_of slot source name = blocks_named (in_slot (other_slot slot) name) sourc
 abbrev pub is_updated : Part → Bool
 is_updated p = not (bit_and p.attributes 4 == 0)
 
--- A partition of the target: it begins with blocks of the source's partition of the same base name, all that there are or as
--- many as it has, and its other blocks are no block of the source. Where it isn't marked as updated it has the source's blocks and no store.
+-- A partition of the target: it begins with blocks of the source's partition of the same base name,
+-- all that there are or as
+-- many as it has, and its other blocks are no block of the source. Where it isn't marked as updated
+-- it has the source's blocks and no store.
 pub record IsTargetPart (slot : ℕ) (source target : List Part) (p : Part) : Type 0 where
-  pub begins : take (length (before_of slot source p.name)) p.blocks ≡ take (length p.blocks) (before_of slot source p.name)
-  pub fresh : All (λ b. Contains (blocks_of_parts (own_parts (other_slot slot) source)) b → ⊥) (drop (length (before_of slot source p.name)) p.blocks)
-  pub kept : IsTrue (is_updated p) ⊎ (Any (λ s. s.name ≡ in_slot (other_slot slot) p.name) source × (p.blocks ≡ before_of slot source p.name) × All (λ s. s.name ≢ store_of p.name) target)
+  pub begins : take (length (before_of slot source p.name)) p.blocks
+      ≡ take (length p.blocks) (before_of slot source p.name)
+  pub fresh : All (λ b. Contains (blocks_of_parts (own_parts (other_slot slot) source)) b
+      → ⊥) (drop (length (before_of slot source p.name)) p.blocks)
+  pub kept : IsTrue (is_updated p)
+      ⊎ (Any (λ s. s.name ≡ in_slot (other_slot slot) p.name) source
+      × (p.blocks ≡ before_of slot source p.name) × All (λ s. s.name ≢ store_of p.name) target)
 
--- a store: it is one of a partition of the target that is marked as updated, stands in the stores' group, and has no block of the source
+-- a store: it is one of a partition of the target that is marked as updated, stands in the stores'
+-- group, and has no block of the source
 pub record IsStorePart (slot : ℕ) (source target : List Part) (s : Part) : Type 0 where
   pub group : s.group ≡ store_group_name
-  pub of_part : Any (λ p. (s.name ≡ store_of p.name) × IsTrue (is_updated p)) (own_parts slot target)
-  pub apart : All (λ b. Contains (blocks_of_parts (own_parts (other_slot slot) source)) b → ⊥) s.blocks
+  pub of_part : Any (λ p. (s.name ≡ store_of p.name) × IsTrue (is_updated p))
+      (own_parts slot target)
+  pub apart : All (λ b. Contains (blocks_of_parts (own_parts (other_slot slot) source)) b
+      → ⊥) s.blocks
 
--- The target of an update from the other slot: no block stands twice in its partitions and their stores.
+-- The target of an update from the other slot: no block stands twice in its partitions and their
+-- stores.
 pub record IsTarget (slot : ℕ) (source target : List Part) : Type 0 where
   pub own : IsOwn slot target
   pub each : All (IsTargetPart slot source target) (own_parts slot target)
@@ -74,4 +87,5 @@ pub record IsTarget (slot : ℕ) (source target : List Part) : Type 0 where
 
 -- the groups of a slot, each with its limit
 abbrev pub groups_of_slot : ℕ → List Group → List (List ℕ × ℕ)
-groups_of_slot slot groups = map (λ g. (base_of g.name, g.maximum_size)) (filter (λ g. is_of_slot slot g.name) groups)
+groups_of_slot slot groups =
+    map (λ g. (base_of g.name, g.maximum_size)) (filter (λ g. is_of_slot slot g.name) groups)

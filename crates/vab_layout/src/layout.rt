@@ -1,5 +1,6 @@
 //! Partitions as lists of blocks.
 
+use vab_blocks::Blocks;
 use vab_bytes::{Listing, Name36};
 use vab_tables::{BlockDevice, Group};
 
@@ -14,8 +15,8 @@ pub struct Part {
     pub attributes: u32,
     /// The name of its group.
     pub group: Name36,
-    /// The numbers of its blocks, in its order.
-    pub blocks: Listing<u64>,
+    /// The numbers of its blocks, in its order; contracts see the list of them.
+    pub blocks: Blocks,
 }
 
 /// A table, with the blocks of each partition in place of extents. Contracts see its lists as

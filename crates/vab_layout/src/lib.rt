@@ -5,7 +5,6 @@
 
 mod layout;
 mod of_table;
-mod runs;
 mod to_table;
 
 pub use layout::{Layout, Part};

@@ -4,7 +4,6 @@ ghost use Rattle.std.specs.Prelude.{IfOk};
 ghost use Rattle.vab_tables.specs.Rules.{KeepsRules};
 
 use super::*;
-use crate::runs::count_runs;
 use std::alloc::Global;
 use std::test::*;
 use vab_tables::{Table, decode_table};
@@ -12,13 +11,13 @@ use vab_tables::{Table, decode_table};
 // The SHA-256 sums of header and tables of the text below, as another program computed them from
 // the public format.
 const HEADER_SUM: [u8; 32] = [
-    22, 158, 45, 84, 207, 67, 48, 95, 249, 75, 193, 122, 150, 6, 7, 157, 92, 235, 59, 37, 151, 81,
-    107, 179, 247, 59, 82, 222, 241, 67, 237, 172,
+    176, 106, 224, 234, 17, 37, 189, 37, 65, 251, 254, 219, 183, 163, 81, 1, 100, 185, 236, 125,
+    242, 228, 67, 5, 146, 95, 238, 226, 118, 36, 111, 197,
 ];
 
 const TABLES_SUM: [u8; 32] = [
-    55, 121, 13, 76, 10, 83, 213, 80, 151, 134, 182, 51, 32, 15, 77, 84, 253, 201, 5, 255, 70, 174,
-    63, 244, 60, 37, 106, 51, 58, 98, 147, 221,
+    86, 117, 230, 130, 150, 119, 3, 40, 206, 250, 45, 143, 104, 19, 236, 100, 15, 105, 59, 238,
+    135, 227, 138, 92, 83, 50, 149, 191, 28, 137, 126, 57,
 ];
 
 // Writes a name's field, if there is a name, and numbers of 32 bits.
@@ -35,31 +34,48 @@ fn put(out: &mut Vec<u8>, name: &[u8], numbers: &[u32]) -> Result<(), Fail> {
     Ok(())
 }
 
-// `a_a` of `main_a` has the blocks 0, 1 and 4 in three extents; `b_a` of `default` has 2 and 3.
+// The sectors of each extent and where it begins, on a device of 256 blocks from sector 2048 on.
+const EXTENTS: [[u32; 2]; 9] = [
+    [8, 2048],
+    [8, 2056],
+    [8, 2080],
+    [16, 2064],
+    [8, 2104],
+    [8, 2096],
+    [8, 2088],
+    [1024, 2048],
+    [1024, 3072],
+];
+
+// `a_a` of `main_a` has the blocks 0, 1 and 4 in three extents; `b_a` of `default` has 2 and 3,
+// `c_a` none, `d_a` 7, 6 and 5 in this order, `e_a` all of the device.
 fn table(alloc: Global) -> Result<Table, Fail>
     ensures { IfOk result (λ t. KeepsRules t) }
 {
     let mut text = b"0PLA".to_vec(alloc)?;
     put(&mut text, b"", &[2 * 65536 + 10, 256])?;
     text.extend_from_slice(&HEADER_SUM)?;
-    put(&mut text, b"", &[360])?;
+    put(&mut text, b"", &[636])?;
     text.extend_from_slice(&TABLES_SUM)?;
     put(
         &mut text,
         b"",
-        &[0, 2, 52, 104, 4, 24, 200, 2, 48, 296, 1, 64, 1],
+        &[0, 5, 52, 260, 9, 24, 476, 2, 48, 572, 1, 64, 1],
     )?;
     text.extend_from_slice(&[0; 124])?;
     put(&mut text, b"a_a", &[1, 0, 3, 1])?;
     put(&mut text, b"b_a", &[0, 3, 1, 0])?;
-    for extent in [[8, 2048], [8, 2056], [8, 2080], [16, 2064]] {
+    put(&mut text, b"c_a", &[0, 0, 0, 0])?;
+    put(&mut text, b"d_a", &[0, 4, 3, 1])?;
+    put(&mut text, b"e_a", &[0, 7, 2, 0])?;
+    for extent in EXTENTS {
         put(&mut text, b"", &[extent[0], 0, 0, extent[1], 0, 0])?;
     }
     put(&mut text, b"default", &[0, 0, 0])?;
     put(&mut text, b"main_a", &[0, 0, 0])?;
     put(&mut text, b"", &[2048, 0, 1048576, 0, 2097152, 0])?;
     put(&mut text, b"super", &[0])?;
-    Ok(decode_table(alloc, &text, 616)?)
+    Ok(decode_table(alloc, &text, 1024)?)
 }
 
 // The sectors of each extent and where they begin.
@@ -71,51 +87,95 @@ fn sectors(alloc: Global, table: &Table) -> Result<Vec<(u64, u64)>, Fail> {
     Ok(all)
 }
 
+// The blocks of a partition one by one, as a plain program reads them off its extents.
+fn plain(alloc: Global, table: &Table, index: usize) -> Result<Vec<u64>, Fail> {
+    let partition = table.partitions.as_slice().get(index).ok_or("no such")?;
+    let mut all = Vec::new(alloc);
+    for i in 0..partition.extent_count {
+        let at = partition.first_extent.wrapping_add(i) as usize;
+        let extent = table.extents.as_slice().get(at).ok_or("no extent")?;
+        for sector in 0..extent.sectors {
+            if sector % 8 == 0 {
+                all.push(extent.first_sector.wrapping_sub(2048).wrapping_add(sector) / 8)?;
+            }
+        }
+    }
+    Ok(all)
+}
+
+// The blocks of a partition of the layout, one by one.
+fn numbers(alloc: Global, part: &Part) -> Result<Vec<u64>, Fail> {
+    let mut all = Vec::new(alloc);
+    for run in part.blocks.runs() {
+        for i in 0..run.1 {
+            all.push(run.0.wrapping_add(i))?;
+        }
+    }
+    Ok(all)
+}
+
+// Whether each partition of the layout has the blocks that the plain program reads.
+fn reads_as_plain(alloc: Global, table: &Table, layout: &Layout) -> Result<bool, Fail> {
+    for (i, part) in layout.parts.as_slice().iter().enumerate() {
+        if numbers(alloc, part)?.as_slice() != plain(alloc, table, i)?.as_slice() {
+            return Ok(false);
+        }
+    }
+    Ok(true)
+}
+
 #[test]
-fn runs_become_extents_and_blocks_again(rt: HostRuntime) -> Result<(), Fail> {
+fn blocks_are_those_that_a_plain_program_reads(rt: HostRuntime) -> Result<(), Fail> {
     let table = table(rt.alloc())?;
-    assert!(rt; table.partitions.len() == 2);
     let layout = Layout::of_table(rt.alloc(), &table)?;
-    assert!(rt; layout.parts.len() == 2 && layout.groups.len() == 2);
-    let a = &layout.parts.as_slice()[0];
-    assert_eq!(rt; a.blocks.as_slice(), [0, 1, 4].as_slice());
-    assert_eq!(rt; (a.name.text(), a.attributes), (b"a_a".as_slice(), 1));
-    assert_eq!(rt; a.group.text(), b"main_a".as_slice());
-    let size = layout.text_size();
-    assert!(rt; size == 592);
-    let joined = layout.to_table(rt.alloc())?;
-    assert_eq!(rt; (joined.minor, joined.flags), (2, 1));
-    assert_eq!(rt;
-        sectors(rt.alloc(), &joined)?.as_slice(),
-        [(16, 2048), (8, 2080), (16, 2064)].as_slice()
-    );
-    assert!(rt; joined.partitions.len() == 2);
-    let b = joined.partitions.as_slice()[1];
-    assert_eq!(rt; (b.first_extent, b.extent_count, b.group), (2, 1, 0));
-    let again = Layout::of_table(rt.alloc(), &joined)?;
-    assert!(rt; again.parts.len() == 2);
-    assert_eq!(rt;
-        again.parts.as_slice()[0].blocks.as_slice(),
-        [0, 1, 4].as_slice()
-    );
-    assert_eq!(rt;
-        again.parts.as_slice()[1].blocks.as_slice(),
-        [2, 3].as_slice()
-    );
+    assert!(rt; reads_as_plain(rt.alloc(), &table, &layout)?);
+    let runs: [&[(u64, u64)]; 5] = [
+        &[(0, 2), (4, 1)],
+        &[(2, 2)],
+        &[],
+        &[(7, 1), (6, 1), (5, 1)],
+        &[(0, 256)],
+    ];
+    for (part, own) in layout.parts.as_slice().iter().zip(runs.iter()) {
+        assert_eq!(rt; part.blocks.runs(), *own);
+    }
     Ok(())
 }
 
 #[test]
-fn runs_are_of_consecutive_numbers(rt: HostRuntime) -> Result<(), Fail> {
-    for (blocks, runs) in [
-        ([].as_slice(), 0),
-        (&[5], 1),
-        (&[0, 1, 4], 2),
-        (&[2, 1, 0], 3),
-        (&[7, 7], 2),
-        (&[u64::MAX, 0], 2),
-    ] {
-        assert_eq!(rt; count_runs(blocks), runs);
-    }
+fn runs_become_extents_and_blocks_again(rt: HostRuntime) -> Result<(), Fail> {
+    let table = table(rt.alloc())?;
+    assert!(rt; table.partitions.len() == 5);
+    let layout = Layout::of_table(rt.alloc(), &table)?;
+    assert!(rt; layout.parts.len() == 5 && layout.groups.len() == 2);
+    let a = &layout.parts.as_slice()[0];
+    assert_eq!(rt; (a.name.text(), a.attributes), (b"a_a".as_slice(), 1));
+    assert_eq!(rt; a.group.text(), b"main_a".as_slice());
+    let size = layout.text_size();
+    assert!(rt; size == 844);
+    let joined = layout.to_table(rt.alloc())?;
+    assert_eq!(rt; (joined.minor, joined.flags), (2, 1));
+    assert_eq!(rt;
+        sectors(rt.alloc(), &joined)?.as_slice(),
+        [
+            (16, 2048),
+            (8, 2080),
+            (16, 2064),
+            (8, 2104),
+            (8, 2096),
+            (8, 2088),
+            (2048, 2048)
+        ]
+        .as_slice()
+    );
+    assert!(rt; joined.partitions.len() == 5);
+    let b = joined.partitions.as_slice()[1];
+    assert_eq!(rt; (b.first_extent, b.extent_count, b.group), (2, 1, 0));
+    let again = Layout::of_table(rt.alloc(), &joined)?;
+    assert!(rt; again.parts.len() == 5);
+    assert_eq!(rt;
+        again.parts.as_slice()[0].blocks.runs(),
+        [(0, 2), (4, 1)].as_slice()
+    );
     Ok(())
 }

@@ -1,24 +1,25 @@
 //! The table of partitions with their blocks.
 
-ghost use Rattle.std.specs.Prelude.{◌≡◌, ◌<◌, ◌≤◌, ◌^◌, ◌++◌, ◌∷◌, [], length, map, sum_by, position, IfOk, OnOk, All};
+ghost use Rattle.std.specs.Prelude.{◌≡◌, ◌<◌, ◌≤◌, ◌^◌, ◌++◌, ◌∷◌, [], length, map, sum_by};
+ghost use Rattle.std.specs.Prelude.{position, IfOk, OnOk, All};
 ghost use Rattle.std.specs.List.{flat_map};
 ghost use Rattle.std.specs.Str.{bytes_eq};
 ghost use Rattle.vab_tables.specs.Rules.{KeepsRules};
 ghost use Rattle.vab_tables.specs.Spelling.{table_size_of};
-ghost use Rattle.vab_layout.specs.Runs.{runs_of};
-ghost use Rattle.vab_layout.specs.Layout.{layout_of, table_of, extent_of_run, extents_of_part, index_of, partitions_from};
+ghost use Rattle.vab_blocks.specs.Runs.{runs_of};
+ghost use Rattle.vab_layout.specs.Layout.{layout_of, table_of, extent_of_run, extents_of_part};
+ghost use Rattle.vab_layout.specs.Layout.{index_of, partitions_from, runs_in, RunsFit};
 ghost use Rattle.vab_layout.specs.Rules.{IsLayout};
-ghost use Rattle.vab_layout.specs.LayoutLaws.{RunsFit, runs_in};
 
 use crate::layout::{BLOCK, Layout, Part};
-use crate::runs::{count_runs, run_len};
 use std::alloc::Global;
+use vab_blocks::Blocks;
 use vab_bytes::{Listing, Name36};
 use vab_tables::{Extent, Group, NoMemory, Partition, Table};
 
 impl Layout {
     /// Bytes of the text of the layout's table.
-    #[tactic(auto, using(crate::specs::LayoutLaws::table_size_is))]
+    #[tactic(auto, using(crate::proofs::LayoutLaws::table_size_is))]
     pub fn text_size(&self) -> u64
         requires parts { length self.now.parts < 2 ^ 56 }
         requires groups { length self.now.groups < 2 ^ 56 }
@@ -65,7 +66,7 @@ fn count_extents(parts: &[Part]) -> u64
 {
     let mut count = 0;
     for part in parts {
-        count += count_runs(part.blocks.as_slice()) as u64;
+        count += part.blocks.runs().len() as u64;
     }
     count
 }
@@ -97,13 +98,13 @@ fn partition(groups: &[Group], part: &Part, first_extent: u32) -> Partition
         name: part.name,
         attributes: part.attributes,
         first_extent,
-        extent_count: count_runs(part.blocks.as_slice()) as u32,
+        extent_count: part.blocks.runs().len() as u32,
         group: group_index(groups, &part.group) as u32,
     }
 }
 
 // The index of the group of this name; 0 where there is none.
-#[tactic(auto, using(crate::specs::LayoutLaws::index_within))]
+#[tactic(auto, using(crate::proofs::LayoutLaws::index_within))]
 fn group_index(groups: &[Group], name: &Name36) -> usize
     ensures value { result ≡ index_of groups.now name.now }
     ensures within { result ≤ length groups.now }
@@ -125,7 +126,7 @@ fn extents(alloc: Global, first_sector: u64, parts: &[Part]) -> Result<Vec<Exten
 {
     let mut extents = Vec::new(alloc);
     for part in parts {
-        push_extents(&mut extents, first_sector, part.blocks.as_slice())?;
+        push_extents(&mut extents, first_sector, &part.blocks)?;
     }
     Ok(extents)
 }
@@ -134,21 +135,19 @@ fn extents(alloc: Global, first_sector: u64, parts: &[Part]) -> Result<Vec<Exten
 fn push_extents(
     extents: &mut Vec<Extent>,
     first_sector: u64,
-    blocks: &[u64],
+    blocks: &Blocks,
 ) -> Result<(), NoMemory>
     requires { RunsFit first_sector blocks.now }
-    ensures { OnOk result (extents.new.items ≡ extents.old.items ++ map (extent_of_run first_sector) (runs_of blocks.now)) }
+    ensures { OnOk result (extents.new.items
+        ≡ extents.old.items ++ map (extent_of_run first_sector) (runs_of blocks.now)) }
 {
-    let mut rest = blocks;
-    while !rest.is_empty() {
-        let (run, behind) = rest.split_at(run_len(rest));
+    for run in blocks.runs() {
         extents.push(Extent {
-            sectors: BLOCK * run.len() as u64,
+            sectors: BLOCK * run.1,
             target_type: 0,
-            first_sector: first_sector + BLOCK * run[0],
+            first_sector: first_sector + BLOCK * run.0,
             target_source: 0,
         })?;
-        rest = behind;
     }
     Ok(())
 }

@@ -1,24 +1,22 @@
 -- The rules of a slot's own partitions, in the order of the table.
-use Rattle.std.specs.Prelude.{ℕ, ◌^◌, Bool, true, not, ◌&&◌, ◌||◌, ◌==◌, nat_le, nat_lt, if◌then◌else◌, List, [], ◌∷◌, ◌++◌, length, Option, Some, None}
-use Rattle.std.specs.List.{list_any}
+use Rattle.std.specs.Prelude.{ℕ, ◌^◌, Bool, ◌&&◌, ◌||◌, nat_le, nat_lt, if◌then◌else◌, List, []}
+use Rattle.std.specs.Prelude.{◌∷◌, ◌++◌, length, Option, Some, None}
 use Rattle.std.specs.Str.{bytes_eq}
 use Rattle.vab_names.specs.Names.{is_base, base_of, is_of_slot, default_name}
+pub use Rattle.vab_blocks.specs.Blocks.{is_distinct}
 use Rattle.vab_layout.specs.declared.layout.Part.{Part}
 use Rattle.vab_layout.specs.Layout.{blocks_of_parts}
 
--- no number stands twice
-abbrev pub is_distinct : List ℕ → Bool
-is_distinct [] = true
-is_distinct (x ∷ xs) = not (list_any (λ y. y == x) xs) && is_distinct xs
-
--- whether a partition may stand behind these: its base name, at most 2^40 bytes, the group of no slot or one of the slot, the
--- 32nd at most, and no block twice in it and in them
+-- Whether a partition may stand behind these: its base name, at most 2^40 bytes, the group of no
+-- slot or one of the slot, the 32nd at most, and no block twice in it and in them.
 abbrev pub part_passes : ℕ → List Part → Part → Bool
 part_passes slot earlier p =
-    is_base (base_of p.name) && nat_le (length p.blocks) (2 ^ 28) && (bytes_eq p.group default_name || is_of_slot slot p.group)
+    is_base (base_of p.name) && nat_le (length p.blocks) (2 ^ 28)
+    && (bytes_eq p.group default_name || is_of_slot slot p.group)
     && nat_lt (length earlier) 32 && is_distinct (blocks_of_parts earlier ++ p.blocks)
 
 -- the first that may not
 unfoldable pub bad_part : ℕ → List Part → List Part → Option (List ℕ)
 bad_part slot earlier [] = None
-bad_part slot earlier (p ∷ ps) = if part_passes slot earlier p then bad_part slot (earlier ++ p ∷ []) ps else Some p.name
+bad_part slot earlier (p ∷ ps) =
+    if part_passes slot earlier p then bad_part slot (earlier ++ p ∷ []) ps else Some p.name

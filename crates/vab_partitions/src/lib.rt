@@ -1,4 +1,5 @@
-//! The rules of a slot's own partitions: their names, sizes and groups, how many there are, and that no block stands twice.
+//! The rules of a slot's own partitions: their names, sizes and groups, how many there are, and
+//! that no block stands twice.
 #![tactic(auto)]
 
 mod extents;

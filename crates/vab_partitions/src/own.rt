@@ -1,20 +1,22 @@
 //! A slot's own partitions, judged in the order of the table.
 
-ghost use Rattle.std.specs.Prelude.{◌≡◌, ◌<◌, ◌^◌, ◌++◌, ◌&&◌, ◌||◌, true, nat_le, nat_lt, length, [], IfOk, IfNone, All};
+ghost use Rattle.std.specs.Prelude.{◌≡◌, ◌<◌, ◌≤◌, ◌+◌, ◌^◌, ◌++◌, ◌&&◌, ◌||◌, true, nat_le};
+ghost use Rattle.std.specs.Prelude.{nat_lt};
+ghost use Rattle.std.specs.Prelude.{length, [], IfOk, IfNone, OnOk};
 ghost use Rattle.std.specs.Str.{bytes_eq};
 ghost use Rattle.vab_names.specs.Names.{is_base, is_of_slot, base_of, default_name};
-ghost use Rattle.vab_tables.specs.Rules.{KeepsRules, IsExtent, IsPartition};
-ghost use Rattle.vab_blocks.specs.Blocks.{extents_of, first_sector_of};
-ghost use Rattle.vab_layout.specs.Layout.{layout_of, group_at, first_device, blocks_of_partition};
+ghost use Rattle.vab_tables.specs.Rules.{KeepsRules, IsPartition};
+ghost use Rattle.vab_layout.specs.Layout.{layout_of, group_at, blocks_of_parts};
+ghost use Rattle.vab_layout.specs.Layout.{blocks_of_partition};
 ghost use Rattle.vab_layout.specs.Slots.{own_parts, IsOwn};
 ghost use Rattle.vab_partitions.specs.Rules.{is_distinct, bad_part};
-ghost use Rattle.vab_partitions.specs.Apart.{blocks_of_extents};
 
-use crate::extents::{add_apart, extents, is_small};
+use crate::extents::is_small;
 use std::alloc::Global;
+use vab_blocks::Blocks;
 use vab_bytes::Name36;
 use vab_names::{base_of, default_group, is_of_slot, parse_base};
-use vab_tables::{Extent, NoMemory, Partition, Table};
+use vab_tables::{NoMemory, Partition, Table};
 
 /// The most partitions of a slot.
 const MAX_PARTITIONS: usize = 32;
@@ -35,66 +37,107 @@ fn has_base(name: &Name36) -> bool
     parse_base(base_of(name.text())).is_some()
 }
 
-/// Whether a partition of the slot may be one of its own, but for the blocks of others.
+/// Whether a partition of the slot may be one of its own, but for its size and its blocks.
 fn passes_alone(table: &Table, partition: &Partition, slot: usize, count: usize) -> bool
     requires slot { slot < 2 }
     requires keeps { KeepsRules table.now }
     requires group { partition.now.group < length table.now.groups }
     requires long { 1 < length partition.now.name }
-    ensures { result ≡ (is_base (base_of partition.now.name) && (bytes_eq (group_at table.now.groups partition.now.group) default_name || is_of_slot slot (group_at table.now.groups partition.now.group)) && nat_lt count 32) }
+    ensures { result
+        ≡ (is_base (base_of partition.now.name)
+        && (bytes_eq (group_at table.now.groups partition.now.group) default_name
+        || is_of_slot slot (group_at table.now.groups partition.now.group))
+        && nat_lt count 32) }
 {
     let group = &table.groups.as_slice()[partition.group as usize];
     has_base(&partition.name) && is_group_of(&group.name, slot) && count < MAX_PARTITIONS
 }
 
-// The first logical sector of the table's device.
-fn first_sector(table: &Table) -> u64
-    requires { KeepsRules table.now }
-    ensures { result ≡ first_sector_of table.now }
+/// Writes the blocks of a partition at the end.
+fn push_blocks(blocks: &mut Blocks, table: &Table, partition: &Partition) -> Result<(), NoMemory>
+    requires keeps { KeepsRules table.now }
+    requires extents { partition.now.first_extent + partition.now.extent_count
+        ≤ length table.now.extents }
+    ensures { OnOk result (blocks.new ≡ blocks.old ++ blocks_of_partition table.now partition.now) }
 {
-    table.devices.as_slice()[0].first_logical_sector
+    blocks.push_extents(table.first_sector(), table.extents_of(partition))
 }
 
-/// Whether a partition of the slot may stand behind `count` own ones whose extents are those that were seen. Its extents are put behind
-/// them where it may.
+/// The blocks of all own partitions of a slot, in the order of the table.
+fn own_blocks(alloc: Global, table: &Table, slot: usize) -> Result<Blocks, NoMemory>
+    requires slot { slot < 2 }
+    requires keeps { KeepsRules table.now }
+    ensures { IfOk result (λ b. b ≡ blocks_of_parts (own_parts slot (layout_of table.now).parts)) }
+{
+    let mut blocks = Blocks::new(alloc);
+    for partition in table.partitions.as_slice() {
+        if is_of_slot(partition.name.text(), slot) {
+            push_blocks(&mut blocks, table, partition)?;
+        }
+    }
+    Ok(blocks)
+}
+
+/// Whether a partition of the slot may stand behind `count` own ones whose blocks are those that
+/// were seen; its blocks are put behind them where it may. `apart` tells that no block stands
+/// twice in all own partitions, so that it need not be judged again.
 fn joins(
+    alloc: Global,
     table: &Table,
-    seen: &mut Vec<Extent>,
+    seen: &mut Blocks,
     partition: &Partition,
     slot: usize,
     count: usize,
+    apart: bool,
 ) -> Result<bool, NoMemory>
     requires slot { slot < 2 }
     requires keeps { KeepsRules table.now }
-    requires rules { IsPartition table.now.minor (length table.now.extents) (length table.now.groups) partition.now }
+    requires rules { IsPartition table.now.minor (length table.now.extents)
+        (length table.now.groups)
+        partition.now }
     requires long { 1 < length partition.now.name }
-    requires seen { All (IsExtent (first_device table.now.devices)) seen.old.items }
-    requires distinct { is_distinct (blocks_of_extents (first_sector_of table.now) seen.old.items) ≡ true }
-    ensures joins { IfOk result (λ ok. ok ≡ ((is_base (base_of partition.now.name) && (bytes_eq (group_at table.now.groups partition.now.group) default_name || is_of_slot slot (group_at table.now.groups partition.now.group)) && nat_lt count 32)
-        && nat_le (length (blocks_of_partition table.now partition.now)) (2 ^ 28) && is_distinct (blocks_of_extents (first_sector_of table.now) (seen.old.items ++ extents_of table.now partition.now)))) }
-    ensures added { IfOk result (λ ok. ok ≡ true → seen.new.items ≡ seen.old.items ++ extents_of table.now partition.now) }
+    requires apart { apart ≡ true
+        → is_distinct (seen.old ++ blocks_of_partition table.now partition.now) ≡ true }
+    ensures joins { IfOk result (λ ok. ok
+        ≡ ((is_base (base_of partition.now.name)
+        && (bytes_eq (group_at table.now.groups partition.now.group) default_name
+        || is_of_slot slot (group_at table.now.groups partition.now.group))
+        && nat_lt count 32)
+        && nat_le (length (blocks_of_partition table.now partition.now)) (2 ^ 28)
+        && is_distinct (seen.old ++ blocks_of_partition table.now partition.now))) }
+    ensures added { IfOk result (λ ok. ok ≡ true
+        → seen.new ≡ seen.old ++ blocks_of_partition table.now partition.now) }
 {
-    let own = extents(table, partition);
-    if !passes_alone(table, partition, slot, count) || !is_small(own, first_sector(table)) {
+    let extents = table.extents_of(partition);
+    if !passes_alone(table, partition, slot, count) || !is_small(extents, table.first_sector()) {
         return Ok(false);
     }
-    add_apart(table, seen, own)
+    push_blocks(seen, table, partition)?;
+    if apart {
+        return Ok(true);
+    }
+    seen.is_distinct(alloc)
 }
 
-/// The first of a slot's own partitions, in the order of the table, that breaks a rule beside those before it: a base name of 1 to 30
-/// bytes of `A-Z a-z 0-9 _ .`, at most 2^40 bytes, the group of no slot or one of the slot, 32 partitions at most, and no block
-/// twice. `NoMemory` where memory is refused.
+/// The first of a slot's own partitions, in the order of the table, that breaks a rule beside
+/// those before it: a base name of 1 to 30 bytes of `A-Z a-z 0-9 _ .`, at most 2^40 bytes, the
+/// group of no slot or one of the slot, 32 partitions at most, and no block twice. `NoMemory`
+/// where memory is refused.
 pub fn bad_partition(alloc: Global, table: &Table, slot: usize) -> Result<Option<Name36>, NoMemory>
     requires slot { slot < 2 }
     requires keeps { KeepsRules table.now }
-    ensures exact { IfOk result (λ bad. bad ≡ bad_part slot [] (own_parts slot (layout_of table.now).parts)) }
+    ensures exact { IfOk result
+        (λ bad. bad
+        ≡ bad_part slot [] (own_parts slot (layout_of table.now).parts)) }
     ensures own { IfOk result (λ bad. IfNone bad (IsOwn slot (layout_of table.now).parts)) }
 {
-    let mut seen: Vec<Extent> = Vec::new(alloc);
+    let blocks = own_blocks(alloc, table, slot)?;
+    let apart = blocks.is_distinct(alloc)?;
+    let mut seen = Blocks::new(alloc);
     let mut count = 0;
     for partition in table.partitions.as_slice() {
         if is_of_slot(partition.name.text(), slot) {
-            if !joins(table, &mut seen, partition, slot, count)? {
+            if !joins(alloc, table, &mut seen, partition, slot, count, apart)? {
                 return Ok(Some(partition.name));
             }
             count += 1;

@@ -8,15 +8,18 @@ use std::alloc::Global;
 use std::test::*;
 use vab_tables::{Table, decode_table};
 
-// A text's partitions, each with its first extent, its count of extents and its group; its extents, each with its sectors and the
-// first one; and the SHA-256 sums of its header and its tables, as another program computed them from the public format.
+// A text's partitions, each with its first extent, its count of extents and its group; its extents,
+// each with its sectors and the
+// first one; and the SHA-256 sums of its header and its tables, as another program computed them
+// from the public format.
 struct Sample {
     partitions: &'static [(&'static [u8], [u32; 3])],
     extents: &'static [[u32; 2]],
     sums: [[u8; 32]; 2],
 }
 
-// `a` has blocks 4, 0 and 1 in `system`, 2 and 3 in `vendor`, and an empty partition; block 9 stands twice in `b`'s one partition.
+// `a` has blocks 4, 0 and 1 in `system`, 2 and 3 in `vendor`, and an empty partition; block 9
+// stands twice in `b`'s one partition.
 const GOOD: Sample = Sample {
     partitions: &[
         (b"system_b", [0, 2, 2]),
@@ -37,7 +40,8 @@ const GOOD: Sample = Sample {
     ],
 };
 
-// `a` has a base name with a hyphen; in `b`, whose blocks are those of `a`, one stands in a group of `a`.
+// `a` has a base name with a hyphen; in `b`, whose blocks are those of `a`, one stands in a group
+// of `a`.
 const NAMES: Sample = Sample {
     partitions: &[
         (b"system_a", [0, 1, 1]),
@@ -94,7 +98,8 @@ fn put(out: &mut Vec<u8>, name: &[u8], numbers: &[u32]) -> Result<(), Fail> {
     Ok(())
 }
 
-// The partitions, the extents, the groups `default`, `main_a` and `main_b`, and a device of 256 blocks that begins at sector 2048.
+// The partitions, the extents, the groups `default`, `main_a` and `main_b`, and a device of 256
+// blocks that begins at sector 2048.
 fn entries(alloc: Global, sample: &Sample) -> Result<Vec<u8>, Fail> {
     let mut out = Vec::new(alloc);
     for (name, numbers) in sample.partitions {

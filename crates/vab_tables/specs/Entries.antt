@@ -11,11 +11,15 @@ use Rattle.vab_tables.specs.declared.entries.BlockDevice.{BlockDevice}
 
 -- 52 bytes: the name's field, attributes, the first extent, how many, the group
 unfoldable pub partition_bytes : Partition → List ℕ
-partition_bytes p = name_field p.name ++ to_le_bytes w32 p.attributes ++ to_le_bytes w32 p.first_extent ++ to_le_bytes w32 p.extent_count ++ to_le_bytes w32 p.group
+partition_bytes p =
+    name_field p.name ++ to_le_bytes w32 p.attributes ++ to_le_bytes w32 p.first_extent
+    ++ to_le_bytes w32 p.extent_count ++ to_le_bytes w32 p.group
 
 -- 24 bytes: how many sectors, the kind, the first sector, the device
 unfoldable pub extent_bytes : Extent → List ℕ
-extent_bytes e = to_le_bytes w64 e.sectors ++ to_le_bytes w32 e.target_type ++ to_le_bytes w64 e.first_sector ++ to_le_bytes w32 e.target_source
+extent_bytes e =
+    to_le_bytes w64 e.sectors ++ to_le_bytes w32 e.target_type ++ to_le_bytes w64 e.first_sector
+    ++ to_le_bytes w32 e.target_source
 
 -- 48 bytes: the name's field, flags, the limit
 unfoldable pub group_bytes : Group → List ℕ
@@ -23,7 +27,10 @@ group_bytes g = name_field g.name ++ to_le_bytes w32 g.flags ++ to_le_bytes w64 
 
 -- 64 bytes: the first sector, alignment, its offset, the size, the name's field, flags
 unfoldable pub device_bytes : BlockDevice → List ℕ
-device_bytes d = to_le_bytes w64 d.first_logical_sector ++ to_le_bytes w32 d.alignment ++ to_le_bytes w32 d.alignment_offset ++ to_le_bytes w64 d.size ++ name_field d.partition_name ++ to_le_bytes w32 d.flags
+device_bytes d =
+    to_le_bytes w64 d.first_logical_sector ++ to_le_bytes w32 d.alignment
+    ++ to_le_bytes w32 d.alignment_offset ++ to_le_bytes w64 d.size ++ name_field d.partition_name
+    ++ to_le_bytes w32 d.flags
 
 -- which entries have a spelling
 pub record FitsPartition (p : Partition) : Type 0 where
@@ -54,16 +61,48 @@ pub record FitsDevice (d : BlockDevice) : Type 0 where
 
 -- the partition that 52 bytes spell, where their name's field spells a name
 unfoldable pub partition_of : List ℕ → Option Partition
-partition_of bytes = option_map (λ name. record { name = name; attributes = le_at w32 bytes 36; first_extent = le_at w32 bytes 40; extent_count = le_at w32 bytes 44; group = le_at w32 bytes 48 }) (name_of_field (field bytes 0 36))
+partition_of bytes =
+    option_map
+    (λ name. record {
+      name = name;
+      attributes = le_at w32 bytes 36;
+      first_extent =
+          le_at w32 bytes 40;
+      extent_count = le_at w32 bytes 44;
+      group = le_at w32 bytes 48;
+    })
+    (name_of_field (field bytes 0 36))
 
 -- the extent that 24 bytes spell
 unfoldable pub extent_of : List ℕ → Option Extent
-extent_of bytes = Some (record { sectors = le_at w64 bytes 0; target_type = le_at w32 bytes 8; first_sector = le_at w64 bytes 12; target_source = le_at w32 bytes 20 })
+extent_of bytes =
+    Some (record {
+      sectors = le_at w64 bytes 0;
+      target_type = le_at w32 bytes 8;
+      first_sector =
+          le_at w64 bytes 12;
+      target_source = le_at w32 bytes 20;
+    })
 
 -- the group that 48 bytes spell, where their name's field spells a name
 unfoldable pub group_of : List ℕ → Option Group
-group_of bytes = option_map (λ name. record { name = name; flags = le_at w32 bytes 36; maximum_size = le_at w64 bytes 40 }) (name_of_field (field bytes 0 36))
+group_of bytes =
+    option_map
+    (λ name. record { name = name; flags = le_at w32 bytes 36; maximum_size = le_at w64 bytes 40 })
+    (name_of_field (field bytes 0 36))
 
 -- the block device that 64 bytes spell, where their name's field spells a name
 unfoldable pub device_of : List ℕ → Option BlockDevice
-device_of bytes = option_map (λ name. record { first_logical_sector = le_at w64 bytes 0; alignment = le_at w32 bytes 8; alignment_offset = le_at w32 bytes 12; size = le_at w64 bytes 16; partition_name = name; flags = le_at w32 bytes 60 }) (name_of_field (field bytes 24 36))
+device_of bytes =
+    option_map
+    (λ name. record {
+      first_logical_sector = le_at w64 bytes 0;
+      alignment =
+          le_at w32 bytes 8;
+      alignment_offset = le_at w32 bytes 12;
+      size =
+          le_at w64 bytes 16;
+      partition_name = name;
+      flags = le_at w32 bytes 60;
+    })
+    (name_of_field (field bytes 24 36))

@@ -1,5 +1,6 @@
 pub mod Entries
 pub mod Rules
+pub mod Extents
 pub mod Text
 pub mod Spelling
 pub mod Reading

@@ -1,5 +1,7 @@
 -- The rules that a table's entries keep, on values.
-use Rattle.std.specs.Prelude.{◌≡◌, ◌≢◌, ℕ, ◌+◌, ◌-◌, ◌*◌, ◌/◌, ◌%◌, ◌<◌, ◌≤◌, ◌^◌, Bool, ◌&&◌, ◌||◌, not, ◌==◌, nat_lt, nat_le, if◌then◌else◌, List, [], ◌∷◌, length, slice_index, codes, bit_and, All, AllPairs, IsTrue}
+use Rattle.std.specs.Prelude.{◌≡◌, ◌≢◌, ℕ, ◌+◌, ◌-◌, ◌*◌, ◌/◌, ◌%◌, ◌<◌, ◌≤◌, ◌^◌, Bool, ◌&&◌, ◌||◌}
+use Rattle.std.specs.Prelude.{not, ◌==◌, nat_lt, nat_le, if◌then◌else◌, List, [], ◌∷◌, length}
+use Rattle.std.specs.Prelude.{slice_index, codes, bit_and, All, AllPairs, IsTrue}
 use Rattle.std.specs.List.{list_any}
 use Rattle.std.specs.Str.{bytes_eq}
 use Rattle.vab_tables.specs.declared.entries.Partition.{Partition}
@@ -26,7 +28,8 @@ pub record IsDevice (d : BlockDevice) : Type 0 where
   pub within : d.first_logical_sector ≤ d.size / 512
 
 unfoldable pub device_passes : BlockDevice → Bool
-device_passes d = d.flags == 0 && d.first_logical_sector % 8 == 0 && nat_le d.first_logical_sector (d.size / 512)
+device_passes d = d.flags == 0 && d.first_logical_sector % 8 == 0
+    && nat_le d.first_logical_sector (d.size / 512)
 
 -- ---- groups
 
@@ -36,7 +39,8 @@ is_shared name = bytes_eq name (codes "default") || bytes_eq name (codes "cow")
 
 -- `_a` or `_b` at the end, after at least one byte
 unfoldable pub has_slot : List ℕ → Bool
-has_slot name = nat_le 3 (length name) && slice_index name (length name - 2) == 95 && (slice_index name (length name - 1) == 97 || slice_index name (length name - 1) == 98)
+has_slot name = nat_le 3 (length name) && slice_index name (length name - 2) == 95
+    && (slice_index name (length name - 1) == 97 || slice_index name (length name - 1) == 98)
 
 pub record IsGroup (g : Group) : Type 0 where
   pub fits : FitsGroup g
@@ -45,7 +49,8 @@ pub record IsGroup (g : Group) : Type 0 where
   pub unlimited : IsTrue (is_shared g.name) → g.maximum_size ≡ 0
 
 unfoldable pub group_passes : Group → Bool
-group_passes g = (is_shared g.name || has_slot g.name) && g.flags == 0 && (not (is_shared g.name) || g.maximum_size == 0)
+group_passes g = (is_shared g.name || has_slot g.name) && g.flags == 0
+    && (not (is_shared g.name) || g.maximum_size == 0)
 
 -- ---- extents
 
@@ -61,23 +66,29 @@ pub record IsExtent (d : BlockDevice) (e : Extent) : Type 0 where
   pub below : e.first_sector + e.sectors ≤ end_of d
 
 unfoldable pub extent_passes : BlockDevice → Extent → Bool
-extent_passes d e = e.target_type == 0 && e.target_source == 0 && nat_lt 0 e.sectors && e.sectors % 8 == 0 && e.first_sector % 8 == 0 && nat_le d.first_logical_sector e.first_sector && nat_le (e.first_sector + e.sectors) (end_of d)
+extent_passes d e = e.target_type == 0 && e.target_source == 0 && nat_lt 0 e.sectors
+    && e.sectors % 8 == 0 && e.first_sector % 8 == 0 && nat_le d.first_logical_sector e.first_sector
+    && nat_le (e.first_sector + e.sectors) (end_of d)
 
 -- ---- partitions
 
--- the attributes that a minor version has, but for the suffix that stands for a slot: read-only; and from 1 on also updated and disabled
+-- the attributes that a minor version has, but for the suffix that stands for a slot: read-only;
+-- and from 1 on also updated and disabled
 abbrev pub attributes_of : ℕ → ℕ
 attributes_of minor = if minor == 0 then 1 else 13
 
--- a partition of a table of this minor, with so many extents and groups
+-- A partition of a table of this minor, with so many extents and groups. One without extents, too,
+-- names a first extent that is at most the number of extents.
 pub record IsPartition (minor extents groups : ℕ) (p : Partition) : Type 0 where
   pub fits : FitsPartition p
   pub attributes : bit_and p.attributes (attributes_of minor) ≡ p.attributes
-  pub extents_exist : 0 < p.extent_count → p.first_extent + p.extent_count ≤ extents
+  pub extents_exist : p.first_extent + p.extent_count ≤ extents
   pub group_exists : p.group < groups
 
 unfoldable pub partition_passes : ℕ → ℕ → ℕ → Partition → Bool
-partition_passes minor extents groups p = bit_and p.attributes (attributes_of minor) == p.attributes && (p.extent_count == 0 || nat_le (p.first_extent + p.extent_count) extents) && nat_lt p.group groups
+partition_passes minor extents groups p =
+    bit_and p.attributes (attributes_of minor) == p.attributes
+    && nat_le (p.first_extent + p.extent_count) extents && nat_lt p.group groups
 
 -- ---- the whole table
 

@@ -1,5 +1,7 @@
--- What it means that a text is that of a table: header fields at their places, sums, and entries where the descriptors say.
-use Rattle.std.specs.Prelude.{◌≡◌, ℕ, ◌+◌, ◌*◌, ◌≤◌, ◌==◌, if◌then◌else◌, List, ◌++◌, length, take, drop, replicate}
+-- What it means that a text is that of a table: header fields at their places, sums, and entries
+-- where the descriptors say.
+use Rattle.std.specs.Prelude.{◌≡◌, ℕ, ◌+◌, ◌*◌, ◌≤◌, ◌==◌, if◌then◌else◌, List, ◌++◌, length, take}
+use Rattle.std.specs.Prelude.{drop, replicate}
 use Rattle.std.specs.List.{flat_map}
 use Rattle.std.specs.Int.{w16, w32}
 use Rattle.sha2.specs.Sha256.{sha256}
@@ -73,10 +75,12 @@ text_size_of text = header_size_at text + tables_size_at text
 
 -- the bytes of a descriptor's entries
 unfoldable pub area_at : List ℕ → ℕ → ℕ → List ℕ
-area_at text descriptor size = field (tables_at text) (offset_at text descriptor) (count_at text descriptor * size)
+area_at text descriptor size =
+    field (tables_at text) (offset_at text descriptor) (count_at text descriptor * size)
 
 -- a descriptor names these entries, and they stand where it says, spelled so
-pub record Lists {E : Type 0} (text : List ℕ) (descriptor size : ℕ) (spell : E → List ℕ) (entries : List E) : Type 0 where
+pub record Lists {E : Type 0} (text : List ℕ) (descriptor size : ℕ) (spell : E
+    → List ℕ) (entries : List E) : Type 0 where
   pub entry_size : entry_size_at text descriptor ≡ size
   pub count : count_at text descriptor ≡ length entries
   pub within : offset_at text descriptor + length entries * size ≤ tables_size_at text

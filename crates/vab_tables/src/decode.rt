@@ -1,34 +1,39 @@
 //! Reading a table.
 
-ghost use Rattle.std.specs.Prelude.{◌≡◌, ◌*◌, [], length, IfOk, Ok};
+ghost use Rattle.std.specs.Prelude.{◌≡◌, ◌*◌, ◌&&◌, not, [], length, IfOk, Ok};
 ghost use Rattle.vab_tables.specs.declared.table.Table.{Table as TableValue};
 ghost use Rattle.vab_tables.specs.declared.fault.TableFault.TheVariants as faults;
+ghost use Rattle.vab_tables.specs.Rules.{is_named};
 ghost use Rattle.vab_tables.specs.Text.{IsTableText};
-ghost use Rattle.vab_tables.specs.Reading.{Gives, entry_or, entries_in, device_in, groups_in, extents_in, partitions_in, table_of};
+ghost use Rattle.vab_tables.specs.Reading.{Gives, entry_or, entries_in, device_in, groups_in};
+ghost use Rattle.vab_tables.specs.Reading.{extents_in, partitions_in, table_of};
 
 use crate::entries::{BlockDevice, Entry, Extent, Group, Partition};
 use crate::fault::{EntryKind, TableFault};
 use crate::header::{
     DEVICES, EXTENTS, Entries, GROUPS, PARTITIONS, check_frame, entries_of, flags, minor,
 };
+use crate::names::{Named, add_name};
 use crate::rules::{DeviceRules, ExtentRules, GroupRules, PartitionRules, Rules};
 use crate::table::Table;
 use std::alloc::Global;
+use std::collections::BTreeSet;
 use vab_bytes::Listing;
 
-// The entry that the bytes spell, if it may stand behind these.
-fn read_behind<E: Entry, R: Rules<E>>(
+// The entry that the bytes spell, if it keeps the rules.
+fn read_next<E: Entry, R: Rules<E>>(
     kind: EntryKind,
     rules: &R,
-    earlier: &[E],
+    index: usize,
     bytes: &[u8],
 ) -> Result<E, TableFault>
     requires { length bytes.now ≡ E.SIZE }
-    ensures { Gives (λ e. e) result (entry_or (faults.BadEntry kind (length earlier.now)) (R.admitted rules.now earlier.now) (E.reading bytes.now)) }
+    ensures { Gives (λ e. e) result
+        (entry_or (faults.BadEntry kind index) (R.passing rules.now) (E.reading bytes.now)) }
 {
     match E::read(bytes) {
-        Some(entry) if rules.admits(earlier, &entry) => Ok(entry),
-        _ => Err(TableFault::BadEntry(kind, earlier.len())),
+        Some(entry) if rules.admits(&entry) => Ok(entry),
+        _ => Err(TableFault::BadEntry(kind, index)),
     }
 }
 
@@ -40,12 +45,41 @@ fn read_all<E: Entry, R: Rules<E>>(
     entries: Entries,
 ) -> Result<Vec<E>, TableFault>
     requires { length entries.bytes.now ≡ entries.count * E.SIZE }
-    ensures { Gives (λ v. v.items) result (entries_in kind E.SIZE E.reading (R.admitted rules.now) entries.entry.bytes.now entries.entry.count []) }
+    ensures { Gives (λ v. v.items) result
+        (entries_in kind E.SIZE E.reading (λ _ e. R.passing rules.now e) entries.entry.bytes.now
+        entries.entry.count []) }
 {
     let mut all = Vec::new(alloc);
     for index in 0..entries.count {
         let at = index * E::SIZE;
-        let entry = read_behind(kind, rules, &all, &entries.bytes[at..at + E::SIZE])?;
+        let entry = read_next(kind, rules, index, &entries.bytes[at..at + E::SIZE])?;
+        all.push(entry)?;
+    }
+    Ok(all)
+}
+
+// All entries of a kind, no two of which have one name. The names stand in their order beside the
+// entries, so that each is looked up among those before it.
+fn read_named<E: Entry + Named, R: Rules<E>>(
+    alloc: Global,
+    kind: EntryKind,
+    rules: &R,
+    entries: Entries,
+) -> Result<Vec<E>, TableFault>
+    requires { length entries.bytes.now ≡ entries.count * E.SIZE }
+    ensures { Gives (λ v. v.items) result
+        (entries_in kind E.SIZE E.reading
+        (λ earlier e. R.passing rules.now e && not (is_named E.text_of earlier (E.text_of e)))
+        entries.entry.bytes.now entries.entry.count []) }
+{
+    let mut all: Vec<E> = Vec::new(alloc);
+    let mut names = BTreeSet::new(alloc);
+    for index in 0..entries.count {
+        let at = index * E::SIZE;
+        let entry = read_next(kind, rules, index, &entries.bytes[at..at + E::SIZE])?;
+        if !add_name(&mut names, entry.name())? {
+            return Err(TableFault::BadEntry(kind, index));
+        }
         all.push(entry)?;
     }
     Ok(all)
@@ -61,7 +95,7 @@ fn read_device(entries: Entries) -> Result<BlockDevice, TableFault>
         return Err(TableFault::BadEntry(EntryKind::Device, 0));
     }
     let first = &entries.bytes[..BlockDevice::SIZE];
-    let device = read_behind(EntryKind::Device, &DeviceRules, &[], first)?;
+    let device = read_next(EntryKind::Device, &DeviceRules, 0, first)?;
     if entries.count > 1 {
         return Err(TableFault::BadEntry(EntryKind::Device, 1));
     }
@@ -73,7 +107,7 @@ fn read_groups(alloc: Global, entries: Entries) -> Result<Vec<Group>, TableFault
     requires { length entries.bytes.now ≡ entries.count * 48 }
     ensures { Gives (λ v. v.items) result (groups_in entries.entry.count entries.entry.bytes.now) }
 {
-    read_all(alloc, EntryKind::Group, &GroupRules, entries)
+    read_named(alloc, EntryKind::Group, &GroupRules, entries)
 }
 
 #[tactic(auto, unfolding(crate::specs::Reading::extents_in))]
@@ -83,7 +117,8 @@ fn read_extents(
     entries: Entries,
 ) -> Result<Vec<Extent>, TableFault>
     requires { length entries.bytes.now ≡ entries.count * 24 }
-    ensures { Gives (λ v. v.items) result (extents_in rules.entry.now.device.now entries.entry.count entries.entry.bytes.now) }
+    ensures { Gives (λ v. v.items) result
+        (extents_in rules.entry.now.device.now entries.entry.count entries.entry.bytes.now) }
 {
     read_all(alloc, EntryKind::Extent, rules, entries)
 }
@@ -95,9 +130,11 @@ fn read_partitions(
     entries: Entries,
 ) -> Result<Vec<Partition>, TableFault>
     requires { length entries.bytes.now ≡ entries.count * 52 }
-    ensures { Gives (λ v. v.items) result (partitions_in rules.now.minor rules.now.extents rules.now.groups entries.entry.count entries.entry.bytes.now) }
+    ensures { Gives (λ v. v.items) result
+        (partitions_in rules.now.minor rules.now.extents rules.now.groups entries.entry.count
+        entries.entry.bytes.now) }
 {
-    read_all(alloc, EntryKind::Partition, rules, entries)
+    read_named(alloc, EntryKind::Partition, rules, entries)
 }
 
 // The whole text.

@@ -1,10 +1,13 @@
 //! Writing a table.
 
-ghost use Rattle.std.specs.Prelude.{◌≡◌, ◌≤◌, ◌<◌, ◌^◌, ◌+◌, ◌*◌, ◌++◌, ℕ, List, length, IfOk, OnOk, Ok};
+ghost use Rattle.std.specs.Prelude.{◌≡◌, ◌≤◌, ◌<◌, ◌^◌, ◌+◌, ◌*◌, ◌++◌, ℕ, List, length, IfOk};
+ghost use Rattle.std.specs.Prelude.{OnOk, Ok};
 ghost use Rattle.std.specs.List.{flat_map};
 ghost use Rattle.vab_tables.specs.Rules.{KeepsRules};
 ghost use Rattle.vab_tables.specs.Text.{IsTableText};
-ghost use Rattle.vab_tables.specs.Spelling.{table_size_of, as_minor_2, tables_text, descriptor_text, descriptors_text, header_back, table_text};
+ghost use Rattle.vab_tables.specs.Spelling.{table_size_of, as_minor_2, tables_text};
+ghost use Rattle.vab_tables.specs.Spelling.{descriptor_text, descriptors_text, header_back};
+ghost use Rattle.vab_tables.specs.Spelling.{table_text};
 ghost use Rattle.vab_tables.specs.Reading.{table_of};
 
 use crate::entries::Entry;
@@ -136,10 +139,13 @@ pub fn encode_table(alloc: Global, table: &Table) -> Result<Vec<u8>, NoMemory>
     requires small { table_size_of table.now < 2 ^ 32 }
     ensures text { IfOk result (λ v. v.items ≡ table_text table.now) }
     ensures size { IfOk result (λ v. length v.items ≡ table_size_of table.now) }
-    ensures stands { IfOk result (λ v. (max : ℕ) → table_size_of table.now ≤ max → IsTableText max v.items (as_minor_2 table.now)) }
-    ensures read { IfOk result (λ v. (max : ℕ) → table_size_of table.now ≤ max → table_of max v.items ≡ Ok (as_minor_2 table.now)) }
+    ensures stands { IfOk result (λ v. (max : ℕ) → table_size_of table.now ≤ max
+        → IsTableText max v.items (as_minor_2 table.now)) }
+    ensures read { IfOk result (λ v. (max : ℕ) → table_size_of table.now ≤ max
+        → table_of max v.items ≡ Ok (as_minor_2 table.now)) }
     // What stands behind the text changes nothing.
-    ensures padded { IfOk result (λ v. (max : ℕ) (rest : List ℕ) → table_size_of table.now ≤ max → table_of max (v.items ++ rest) ≡ Ok (as_minor_2 table.now)) }
+    ensures padded { IfOk result (λ v. (max : ℕ) (rest : List ℕ) → table_size_of table.now ≤ max
+        → table_of max (v.items ++ rest) ≡ Ok (as_minor_2 table.now)) }
 {
     text(alloc, table)
 }

@@ -3,7 +3,9 @@
 ghost use Rattle.std.specs.Prelude.{◌≡◌, ◌+◌, ◌≤◌, ◌++◌, length, List, ℕ, Option, OnOk};
 ghost use Rattle.vab_bytes.specs.Number.{field};
 ghost use Rattle.vab_bytes.specs.Name.{name_of_field};
-ghost use Rattle.vab_tables.specs.Entries.{partition_of, extent_of, group_of, device_of, partition_bytes, extent_bytes, group_bytes, device_bytes};
+ghost use Rattle.vab_tables.specs.Entries.{partition_of, extent_of, group_of, device_of};
+ghost use Rattle.vab_tables.specs.Entries.{partition_bytes, extent_bytes, group_bytes};
+ghost use Rattle.vab_tables.specs.Entries.{device_bytes};
 
 use crate::fault::NoMemory;
 use vab_bytes::{Name36, le32_at, le64_at};
@@ -14,7 +16,7 @@ pub struct Partition {
     pub name: Name36,
     /// Bits: 1 read-only, 4 updated, 8 disabled; a table of minor 0 has the first alone.
     pub attributes: u32,
-    /// The index of its first extent; of no meaning where it has none.
+    /// The index of its first extent; where it has none, at most the number of extents.
     pub first_extent: u32,
     /// How many extents it has, one after another in the table's list.
     pub extent_count: u32,

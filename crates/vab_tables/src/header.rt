@@ -1,8 +1,13 @@
 //! The header of a text: its fields, its sums, and where the entries stand.
 
 ghost use Rattle.std.specs.Prelude.{◌≡◌, ◌≤◌, ◌+◌, ◌*◌, length, IsTrue, OnOk, ◌++◌};
-ghost use Rattle.vab_tables.specs.Text.{magic_at, major_at, minor_at, header_size_at, header_sum_at, tables_size_at, tables_sum_at, offset_at, count_at, entry_size_at, flags_at, header_size_of, blank_header, tables_at, area_at, text_size_of, sum_of, no_sum, EntriesWithin, IsFramed};
-ghost use Rattle.vab_tables.specs.Reading.{has_header, has_version, has_header_sum, has_size, has_tables_sum, is_bounded, has_bounds, frame_of, Gives};
+ghost use Rattle.vab_tables.specs.Text.{magic_at, major_at, minor_at, header_size_at};
+ghost use Rattle.vab_tables.specs.Text.{header_sum_at, tables_size_at, tables_sum_at, offset_at};
+ghost use Rattle.vab_tables.specs.Text.{count_at, entry_size_at, flags_at, header_size_of};
+ghost use Rattle.vab_tables.specs.Text.{blank_header, tables_at, area_at, text_size_of, sum_of};
+ghost use Rattle.vab_tables.specs.Text.{no_sum, EntriesWithin, IsFramed};
+ghost use Rattle.vab_tables.specs.Reading.{has_header, has_version, has_header_sum, has_size};
+ghost use Rattle.vab_tables.specs.Reading.{has_tables_sum, is_bounded, has_bounds, frame_of, Gives};
 
 use crate::entries::{BlockDevice, Entry, Extent, Group, Partition};
 use crate::fault::TableFault;
@@ -154,7 +159,9 @@ fn has_header_sum(text: &[u8]) -> bool
 fn has_size(text: &[u8], max: u32) -> bool
     requires { 128 ≤ length text.now }
     ensures is { result ≡ has_size max text.now }
-    ensures text { IsTrue result → header_size_at text.now + tables_size_at text.now ≤ length text.now }
+    ensures text { IsTrue result
+        → header_size_at text.now + tables_size_at text.now
+        ≤ length text.now }
 {
     let size = header_size(text) as usize + tables_size(text) as usize;
     size <= max as usize && size <= text.len()
@@ -187,7 +194,9 @@ fn is_bounded(text: &[u8], descriptor: usize, size: usize) -> bool
     requires within { descriptor ≤ 116 }
     requires small { size ≤ 64 }
     ensures is { result ≡ is_bounded text.now descriptor size }
-    ensures within { IsTrue result → offset_at text.now descriptor + count_at text.now descriptor * size ≤ tables_size_at text.now }
+    ensures within { IsTrue result
+        → offset_at text.now descriptor + count_at text.now descriptor * size
+        ≤ tables_size_at text.now }
 {
     let end = offset(text, descriptor) as usize + count(text, descriptor) as usize * size;
     entry_size(text, descriptor) as usize == size && end <= tables_size(text) as usize
@@ -255,7 +264,8 @@ pub fn entries_of(text: &[u8], descriptor: usize, size: usize) -> Entries<'_>
     requires descriptor { descriptor ≤ 116 }
     requires small { size ≤ 64 }
     requires text { header_size_at text.now + tables_size_at text.now ≤ length text.now }
-    requires within { offset_at text.now descriptor + count_at text.now descriptor * size ≤ tables_size_at text.now }
+    requires within { offset_at text.now descriptor + count_at text.now descriptor * size
+        ≤ tables_size_at text.now }
     ensures count { result.count ≡ count_at text.now descriptor }
     ensures bytes { result.bytes.now ≡ area_at text.now descriptor size }
     ensures len { length result.bytes.now ≡ result.count * size }

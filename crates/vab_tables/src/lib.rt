@@ -10,6 +10,7 @@ mod encode;
 mod entries;
 mod fault;
 mod header;
+mod names;
 mod rules;
 mod table;
 

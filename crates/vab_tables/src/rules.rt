@@ -1,20 +1,20 @@
 //! The rules that a table's entries keep.
 
-ghost use Rattle.std.specs.Prelude.{◌≡◌, ◌&&◌, not, ℕ, Bool, List};
-ghost use Rattle.vab_tables.specs.Reading.{group_joins, extent_joins, partition_joins};
-ghost use Rattle.vab_tables.specs.Rules.{cap_of, end_of, device_passes, is_shared, has_slot, group_passes, extent_passes, attributes_of, partition_passes, is_named};
+ghost use Rattle.std.specs.Prelude.{◌≡◌, Bool};
+ghost use Rattle.vab_tables.specs.Rules.{cap_of, end_of, device_passes, is_shared, has_slot};
+ghost use Rattle.vab_tables.specs.Rules.{group_passes, extent_passes, attributes_of};
+ghost use Rattle.vab_tables.specs.Rules.{partition_passes};
 
 use crate::entries::{BlockDevice, Extent, Group, Partition};
-use vab_bytes::Name36;
 
-/// Rules that entries keep, each beside those before it.
+/// Rules that entries keep, each by itself.
 pub trait Rules<E> {
-    /// Whether an entry may stand behind these.
-    ghost admitted: { Self → List E → E → Bool };
+    /// Whether an entry keeps them.
+    ghost passing: { Self → E → Bool };
 
-    /// Whether the entry may stand behind these.
-    fn admits(&self, earlier: &[E], entry: &E) -> bool
-        ensures { result ≡ admitted self.now earlier.now entry.now };
+    /// Whether the entry keeps them.
+    fn admits(&self, entry: &E) -> bool
+        ensures { result ≡ passing self.now entry.now };
 }
 
 /// Bytes of a sector.
@@ -109,25 +109,9 @@ impl Partition {
     {
         let end = self.first_extent as usize + self.extent_count as usize;
         self.attributes & attributes(minor) == self.attributes
-            && (self.extent_count == 0 || end <= extents)
+            && end <= extents
             && (self.group as usize) < groups
     }
-}
-
-// Whether a group has this name.
-#[tactic(auto, unfolding(crate::specs::Rules::is_named))]
-fn group_is_named(groups: &[Group], name: &Name36) -> bool
-    ensures { result ≡ is_named (λ g. g.name) groups.now name.now }
-{
-    groups.iter().any(|group| group.name == *name)
-}
-
-// Whether a partition has this name.
-#[tactic(auto, unfolding(crate::specs::Rules::is_named))]
-fn partition_is_named(partitions: &[Partition], name: &Name36) -> bool
-    ensures { result ≡ is_named (λ p. p.name) partitions.now name.now }
-{
-    partitions.iter().any(|partition| partition.name == *name)
 }
 
 /// The rule of the block device.
@@ -135,9 +119,9 @@ fn partition_is_named(partitions: &[Partition], name: &Name36) -> bool
 pub struct DeviceRules;
 
 impl Rules<BlockDevice> for DeviceRules {
-    ghost admitted = { λ _ _ d. device_passes d };
+    ghost passing = { λ _ d. device_passes d };
 
-    fn admits(&self, _earlier: &[BlockDevice], device: &BlockDevice) -> bool {
+    fn admits(&self, device: &BlockDevice) -> bool {
         device.passes()
     }
 }
@@ -147,10 +131,10 @@ impl Rules<BlockDevice> for DeviceRules {
 pub struct GroupRules;
 
 impl Rules<Group> for GroupRules {
-    ghost admitted = { λ _ earlier g. group_joins earlier g };
+    ghost passing = { λ _ g. group_passes g };
 
-    fn admits(&self, earlier: &[Group], group: &Group) -> bool {
-        group.passes() && !group_is_named(earlier, &group.name)
+    fn admits(&self, group: &Group) -> bool {
+        group.passes()
     }
 }
 
@@ -161,9 +145,9 @@ pub struct ExtentRules<'a> {
 }
 
 impl Rules<Extent> for ExtentRules<'_> {
-    ghost admitted = { λ r earlier e. extent_joins r.device.now earlier e };
+    ghost passing = { λ r e. extent_passes r.device.now e };
 
-    fn admits(&self, _earlier: &[Extent], extent: &Extent) -> bool {
+    fn admits(&self, extent: &Extent) -> bool {
         extent.passes(self.device)
     }
 }
@@ -177,10 +161,9 @@ pub struct PartitionRules {
 }
 
 impl Rules<Partition> for PartitionRules {
-    ghost admitted = { λ r earlier p. partition_joins r.minor r.extents r.groups earlier p };
+    ghost passing = { λ r p. partition_passes r.minor r.extents r.groups p };
 
-    fn admits(&self, earlier: &[Partition], partition: &Partition) -> bool {
+    fn admits(&self, partition: &Partition) -> bool {
         partition.passes(self.minor, self.extents, self.groups)
-            && !partition_is_named(earlier, &partition.name)
     }
 }

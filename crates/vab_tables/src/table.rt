@@ -1,6 +1,8 @@
 //! The table of logical partitions.
 
-ghost use Rattle.std.specs.Prelude.{◌≡◌, ◌<◌, ◌^◌, length};
+ghost use Rattle.std.specs.Prelude.{◌≡◌, ◌+◌, ◌≤◌, ◌<◌, ◌^◌, length};
+ghost use Rattle.vab_tables.specs.Extents.{extents_of, first_sector_of};
+ghost use Rattle.vab_tables.specs.Rules.{KeepsRules};
 ghost use Rattle.vab_tables.specs.Spelling.{table_size_of};
 
 use crate::entries::{BlockDevice, Extent, Group, Partition};
@@ -17,6 +19,26 @@ pub struct Table {
     pub minor: u16,
     /// 1: a device with Virtual A/B. Minors 0 and 1 have no flags: 0.
     pub flags: u32,
+}
+
+impl Table {
+    /// The first logical sector of the table's device, at which its blocks begin.
+    pub fn first_sector(&self) -> u64
+        requires { KeepsRules self.now }
+        ensures { result ≡ first_sector_of self.now }
+    {
+        self.devices.as_slice()[0].first_logical_sector
+    }
+
+    /// The extents of a partition of the table, in its order.
+    pub fn extents_of(&self, partition: &Partition) -> &[Extent]
+        requires { (partition.now).first_extent + (partition.now).extent_count
+            ≤ length (self.now).extents }
+        ensures { result.now ≡ extents_of self.now partition.now }
+    {
+        let from = partition.first_extent as usize;
+        &self.extents.as_slice()[from..from + partition.extent_count as usize]
+    }
 }
 
 /// Bytes of the text that `encode_table` writes: a header of 256 bytes, and the entries.

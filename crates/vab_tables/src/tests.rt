@@ -217,8 +217,8 @@ fn the_first_bad_entry(rt: HostRuntime) -> Result<(), Fail> {
     put_device(&mut tables)?;
     let two = text_of(alloc, 2, [0, 0, 0, 2], &tables)?;
     tables.clear();
-    put(&mut tables, b"a", &[1, 7, 0, 0])?;
-    put(&mut tables, b"a", &[1, 7, 0, 0])?;
+    put(&mut tables, b"a", &[1, 0, 0, 0])?;
+    put(&mut tables, b"a", &[1, 0, 0, 0])?;
     put(&mut tables, b"cow", &[0, 0, 0])?;
     put_device(&mut tables)?;
     let doubled = text_of(alloc, 2, [2, 0, 1, 1], &tables)?;
@@ -231,6 +231,24 @@ fn the_first_bad_entry(rt: HostRuntime) -> Result<(), Fail> {
     ] {
         let fault = decode_table(alloc, text, 65536).err();
         assert_eq!(rt; fault, Some(TableFault::BadEntry(kind, index)));
+    }
+    Ok(())
+}
+
+#[test]
+fn a_partition_without_extents_names_one_or_the_end(rt: HostRuntime) -> Result<(), Fail> {
+    let alloc = rt.alloc();
+    let refused = Some(TableFault::BadEntry(EntryKind::Partition, 1));
+    for (first, fault) in [(0, None), (1, None), (2, refused), (u32::MAX, refused)] {
+        let mut tables = Vec::new(alloc);
+        put(&mut tables, b"a", &[1, 0, 1, 0])?;
+        put(&mut tables, b"b", &[1, first, 0, 0])?;
+        put(&mut tables, b"", &[8, 0, 0, 2048, 0, 0])?;
+        put(&mut tables, b"cow", &[0, 0, 0])?;
+        put_device(&mut tables)?;
+        let text = text_of(alloc, 2, [2, 1, 1, 1], &tables)?;
+        let found = decode_table(alloc, &text, 65536).err();
+        assert_eq!(rt; found, fault, "first extent {first}");
     }
     Ok(())
 }

@@ -16,11 +16,14 @@ pub created_blocks-requires-clause-room : goal.created_blocks-requires-clause-ro
 created_blocks-requires-clause-room c =
     let a = c.args in
     let is = c.in_ok-name.ensures in
-    rw (is.0, c.blocks-2.ensures.is) (create_room a.slot a.source.now a.target _ _ c.requires is.1.room)
+    rw (is.0, c.blocks-2.ensures.is)
+    (create_room a.slot a.source.now a.target _ _ c.requires is.1.room)
 
 pub returns : goal.returns
 returns c =
     let a = c.args in
     let is = c.in_ok-name.ensures in
-    let made = rw (c.in_ok-fresh.ensures, c.blocks-2.ensures.is, is.0) at c.in_ok-with_part.ensures in
-    created-ok a.slot a.source.now a.target a.name.now a.bytes is.1 ∙ sym (ap (λ (l : Layout). Ok l) made)
+    let made =
+    rw (c.in_ok-fresh.ensures, c.blocks-2.ensures.is, is.0) at c.in_ok-with_part.ensures in
+    created-ok a.slot a.source.now a.target a.name.now a.bytes is.1
+    ∙ sym (ap (λ (l : Layout). Ok l) made)

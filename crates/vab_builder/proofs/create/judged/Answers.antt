@@ -4,7 +4,8 @@ use Rattle.vab_names.specs.Names.{is_full}
 use Rattle.vab_tables.specs.Rules.{cap_of}
 use Rattle.vab_layout.specs.Slots.{own_parts}
 use Rattle.vab_builder.specs.Sizes.{has_part, is_within}
-use Rattle.vab_builder.specs.Verdicts.{created-bad_name, created-bad_size, created-exists, created-too_many, created-group_limit, created-no_room}
+use Rattle.vab_builder.specs.Verdicts.{created-bad_name, created-bad_size, created-exists}
+use Rattle.vab_builder.specs.Verdicts.{created-too_many, created-group_limit, created-no_room}
 use Rattle.vab_builder.specs.NameCases.{full_slot}
 use Rattle.vab_builder.specs.OwnLaws.{own_long}
 use Rattle.vab_builder.proofs.create.judged.Goals as goal
@@ -12,7 +13,8 @@ use Rattle.vab_builder.proofs.create.judged.Goals as goal
 pub returns-in_default : goal.returns-in_default
 returns-in_default c =
     let a = c.args in
-    let full : is_full a.slot a.name.now ≡ false = false_from_ne_true (is_full a.slot a.name.now) (search rules) in
+    let full : is_full a.slot a.name.now ≡ false =
+    false_from_ne_true (is_full a.slot a.name.now) (search rules) in
     inr (created-bad_name a.slot a.source.now a.target.now a.name.now a.bytes full)
 
 pub returns-then-bytes-gt-MAX_BYTES : goal.returns-then-bytes-gt-MAX_BYTES
@@ -26,26 +28,48 @@ returns-then-has_part c =
     let a = c.args in
     let full : is_full a.slot a.name.now ≡ true = search rules in
     let there : has_part a.name.now a.target.now.parts ≡ true = search rules in
-    inr (created-exists a.slot a.source.now a.target.now a.name.now a.bytes full (omega arith) there)
+    inr (created-exists a.slot a.source.now a.target.now a.name.now a.bytes full (omega arith)
+    there)
 
 pub returns-then-own-ge-MAX_PARTS : goal.returns-then-own-ge-MAX_PARTS
 returns-then-own-ge-MAX_PARTS c =
     let a = c.args in
     let full : is_full a.slot a.name.now ≡ true = search rules in
     let absent : has_part a.name.now a.target.now.parts ≡ false = search rules in
-    let own : c.count_own-own.result ≡ length (own_parts a.slot a.target.now.parts) = search rules in
-    rw own (inr (created-too_many a.slot a.source.now a.target.now a.name.now a.bytes full (omega arith) absent (omega (arith, own, c.if-own-ge-MAX_PARTS.true))))
+    let own : c.count_own-own.result ≡ length (own_parts a.slot a.target.now.parts) =
+    search rules in
+    rw own (inr
+    (created-too_many a.slot a.source.now a.target.now a.name.now a.bytes full (omega arith)
+    absent (omega (arith, own, c.if-own-ge-MAX_PARTS.true))))
 
 pub returns-then-not-is_within : goal.returns-then-not-is_within
 returns-then-not-is_within c =
     let a = c.args in
     let full : is_full a.slot a.name.now ≡ true = search rules in
     let absent : has_part a.name.now a.target.now.parts ≡ false = search rules in
-    let own : c.count_own-own.result ≡ length (own_parts a.slot a.target.now.parts) = search rules in
-    let sum-is = rw (c.first_group-group.ensures, c.as_slice.ensures, c.text-3.ensures.value, c.in-Some.ensures.value, c.blocks-count.ensures.is, c.as_slice-parts.ensures) at c.in_ok-sum.ensures in
-    let limit-is = rw (c.as_slice-2.ensures, c.text-2.ensures.value, c.first_group-group.ensures, c.as_slice.ensures) at c.limit_of-limit.ensures in
+    let own : c.count_own-own.result ≡ length (own_parts a.slot a.target.now.parts) =
+    search rules in
+    let sum-is =
+    rw (
+      c.first_group-group.ensures,
+      c.as_slice.ensures,
+      c.text-3.ensures.value,
+      c.in-Some.ensures.value,
+      c.blocks-count.ensures.is,
+      c.as_slice-parts.ensures,
+    ) at
+    c.in_ok-sum.ensures in
+    let limit-is =
+    rw (
+      c.as_slice-2.ensures,
+      c.text-2.ensures.value,
+      c.first_group-group.ensures,
+      c.as_slice.ensures,
+    ) at c.limit_of-limit.ensures in
     let outside : is_within c.in_ok-sum.sum c.limit_of-limit.result ≡ false = search rules in
-    inr (created-group_limit a.slot a.source.now a.target.now a.name.now a.bytes c.in_ok-sum.sum c.limit_of-limit.result full (omega arith) absent (omega (arith, own)) sum-is limit-is outside)
+    inr (created-group_limit a.slot a.source.now a.target.now a.name.now a.bytes c.in_ok-sum.sum
+    c.limit_of-limit.result full (omega arith) absent (omega (arith, own)) sum-is limit-is
+    outside)
 
 pub created_used-requires-clause-long : goal.created_used-requires-clause-long
 created_used-requires-clause-long c =
@@ -58,12 +82,29 @@ returns-then-not-fits c =
     let a = c.args in
     let full : is_full a.slot a.name.now ≡ true = search rules in
     let absent : has_part a.name.now a.target.now.parts ≡ false = search rules in
-    let own : c.count_own-own.result ≡ length (own_parts a.slot a.target.now.parts) = search rules in
-    let sum-is = rw (c.first_group-group.ensures, c.as_slice.ensures, c.text-3.ensures.value, c.in-Some.ensures.value, c.blocks-count.ensures.is, c.as_slice-parts.ensures) at c.in_ok-sum.ensures in
-    let limit-is = rw (c.as_slice-2.ensures, c.text-2.ensures.value, c.first_group-group.ensures, c.as_slice.ensures) at c.limit_of-limit.ensures in
+    let own : c.count_own-own.result ≡ length (own_parts a.slot a.target.now.parts) =
+    search rules in
+    let sum-is =
+    rw (
+      c.first_group-group.ensures,
+      c.as_slice.ensures,
+      c.text-3.ensures.value,
+      c.in-Some.ensures.value,
+      c.blocks-count.ensures.is,
+      c.as_slice-parts.ensures,
+    ) at
+    c.in_ok-sum.ensures in
+    let limit-is =
+    rw (
+      c.as_slice-2.ensures,
+      c.text-2.ensures.value,
+      c.first_group-group.ensures,
+      c.as_slice.ensures,
+    ) at c.limit_of-limit.ensures in
     let inside : is_within c.in_ok-sum.sum c.limit_of-limit.result ≡ true = search rules in
     let within = rw (sum-is, limit-is) at inside in
     let used-is = rw (c.in-Some.ensures.value, c.blocks-count.ensures.is) at c.in_ok-used.ensures in
     let cap-is : c.cap-cap.result ≡ cap_of a.target.now.device = search rules in
     let over : c.cap-cap.result < c.in_ok-used.used = search rules in
-    inr (created-no_room a.slot a.source.now a.target.now a.name.now a.bytes c.in_ok-used.used c.cap-cap.result full (omega arith) absent (omega (arith, own)) within used-is cap-is over)
+    inr (created-no_room a.slot a.source.now a.target.now a.name.now a.bytes c.in_ok-used.used
+    c.cap-cap.result full (omega arith) absent (omega (arith, own)) within used-is cap-is over)

@@ -9,7 +9,8 @@ use Rattle.vab_builder.proofs.delete.judged.Goals as goal
 pub returns-in_default : goal.returns-in_default
 returns-in_default c =
     let a = c.args in
-    let full : is_full a.slot a.name.now ≡ false = false_from_ne_true (is_full a.slot a.name.now) (search rules) in
+    let full : is_full a.slot a.name.now ≡ false =
+    false_from_ne_true (is_full a.slot a.name.now) (search rules) in
     inr (deleted-bad_name a.slot a.target.now a.name.now full)
 
 pub returns-then-not-has_part : goal.returns-then-not-has_part
@@ -30,5 +31,11 @@ returns-then-has_part c =
     let a = c.args in
     let full : is_full a.slot a.name.now ≡ true = search rules in
     let there : has_part a.name.now a.target.now.parts ≡ true = search rules in
-    let store : has_part (store_of a.name.now) a.target.now.parts ≡ true = rw (c.text-2.ensures.value, c.store_of.ensures, c.in-Some.ensures.value, c.as_slice-parts.ensures) at (sym c.has_part-2.ensures ∙ c.if-has_part.true) in
+    let store : has_part (store_of a.name.now) a.target.now.parts ≡ true =
+    rw (
+      c.text-2.ensures.value,
+      c.store_of.ensures,
+      c.in-Some.ensures.value,
+      c.as_slice-parts.ensures,
+    ) at (sym c.has_part-2.ensures ∙ c.if-has_part.true) in
     inr (deleted-has_store a.slot a.target.now a.name.now full there store)

@@ -1,5 +1,5 @@
-use Rattle.std.proofs.Common.{◌≡◌, ◌++◌, ℕ, List, ap, subst, ◌∙◌}
-use Rattle.std.specs.Prelude.{IfOk}
+use Rattle.std.proofs.Common.{◌≡◌, ◌++◌, ℕ, List, ap, subst, sym, ◌∙◌}
+use Rattle.std.specs.Prelude.{◌↔◌, Contains, IfOk}
 use Rattle.vab_blocks.specs.Blocks.{free_below}
 use Rattle.vab_layout.specs.Layout.{blocks_of_parts}
 use Rattle.vab_layout.specs.Slots.{other_slot, own_parts, store_parts}
@@ -11,7 +11,13 @@ returns c =
     let slot = c.args.slot in
     let source = c.args.source.now in
     let target = c.args.target.now in
-    let taken : List ℕ = blocks_of_parts (own_parts (other_slot slot) source.parts) ++ blocks_of_parts (own_parts slot target.parts ++ store_parts slot target.parts) in
-    let same = free_same c.cap.result c.sorted.result c.in_ok-taken.taken.items c.sorted.ensures.listed in
-    let is = same ∙ ap (free_below c.cap.result) c.in_ok-taken.ensures ∙ ap (λ (n : ℕ). free_below n taken) c.cap.ensures in
-    subst (λ (xs : List ℕ). IfOk c.free-2.result (λ r. r ≡ xs)) is c.free-2.ensures.value
+    let taken : List ℕ =
+    blocks_of_parts (own_parts (other_slot slot) source.parts)
+    ++ blocks_of_parts (own_parts slot target.parts ++ store_parts slot target.parts) in
+    let same =
+    free_same c.cap.result c.in_ok-taken-2.taken c.in_ok-taken.taken c.in_ok-taken-2.ensures.listed
+    in
+    let is =
+    same ∙ ap (free_below c.cap.result) c.in_ok-taken.ensures
+    ∙ ap (λ (n : ℕ). free_below n taken) c.cap.ensures in
+    subst (λ (xs : List ℕ). IfOk c.free.result (λ r. r ≡ xs)) is c.free.ensures.value

@@ -4,4 +4,6 @@ use Rattle.vab_layout.specs.Slots.{store_parts}
 use Rattle.vab_builder.proofs.free.push_stores.Given as goal
 
 abbrev pub invariant-loop-part : goal.invariant-loop-part
-invariant-loop-part l = l.blocks.items ≡ l.initial.blocks.items ++ blocks_of_parts (store_parts l.slot (take l.part-index l.parts))
+invariant-loop-part l =
+    l.blocks
+    ≡ l.initial.blocks ++ blocks_of_parts (store_parts l.slot (take l.part-index l.parts))

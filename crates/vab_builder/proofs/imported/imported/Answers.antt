@@ -6,13 +6,16 @@ use Rattle.vab_layout.specs.declared.layout.Layout.{Layout}
 use Rattle.vab_layout.specs.Rules.{IsLayout}
 use Rattle.vab_layout.specs.Slots.{other_slot, own_parts, IsTarget, groups_of_slot}
 use Rattle.vab_builder.specs.Import.{imported}
-use Rattle.vab_builder.specs.ImportLaws.{own_parts_groups_long, imported_is_layout, imported_is_target, imported_groups_of_slot}
+use Rattle.vab_builder.specs.ImportLaws.{own_parts_groups_long, imported_is_layout}
+use Rattle.vab_builder.specs.ImportLaws.{imported_is_target, imported_groups_of_slot}
 use Rattle.vab_builder.proofs.imported.imported.Goals as goal
 
 pub imported_parts-requires-clause-long : goal.imported_parts-requires-clause-long
 imported_parts-requires-clause-long c =
     let source = c.args.source in
-    subst (λ (ps : List Part). All (λ p. 2 ≤ length p.group) (own_parts source ps)) (sym c.as_slice.ensures) (own_parts_groups_long source c.args.layout.now.parts c.requires.own)
+    subst (λ (ps : List Part). All (λ p. 2 ≤ length p.group) (own_parts source ps))
+    (sym c.as_slice.ensures)
+    (own_parts_groups_long source c.args.layout.now.parts c.requires.own)
 
 pub returns-clause-value : goal.returns-clause-value
 unfolding imported
@@ -26,17 +29,22 @@ returns-clause-value c =
     cc (parts, parts_are, read, groups, groups_are, groups_read)
 
 pub returns-clause-rules : goal.returns-clause-rules
-returns-clause-rules c = subst IsLayout (sym (returns-clause-value c)) (imported_is_layout c.args.source c.args.layout.now c.requires.slot c.requires.rules c.requires.own)
+returns-clause-rules c =
+    subst IsLayout (sym (returns-clause-value c))
+    (imported_is_layout c.args.source c.args.layout.now c.requires.slot c.requires.rules
+    c.requires.own)
 
 pub returns-clause-target : goal.returns-clause-target
 returns-clause-target c =
     let source = c.args.source in
     let before = c.args.layout.now in
     let is = ap (λ (l : Layout). l.parts) (returns-clause-value c) in
-    subst (λ (ps : List Part). IsTarget (other_slot source) before.parts ps) (sym is) (imported_is_target source before c.requires.slot c.requires.rules c.requires.own)
+    subst (λ (ps : List Part). IsTarget (other_slot source) before.parts ps) (sym is)
+    (imported_is_target source before c.requires.slot c.requires.rules c.requires.own)
 
 pub returns-clause-groups : goal.returns-clause-groups
 returns-clause-groups c =
     let source = c.args.source in
     let is = ap (λ (l : Layout). l.groups) (returns-clause-value c) in
-    ap (λ (gs : List Group). groups_of_slot (other_slot source) gs) is ∙ imported_groups_of_slot source c.args.layout.now c.requires.slot
+    ap (λ (gs : List Group). groups_of_slot (other_slot source) gs) is
+    ∙ imported_groups_of_slot source c.args.layout.now c.requires.slot

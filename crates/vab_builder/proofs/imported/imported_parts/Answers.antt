@@ -21,7 +21,10 @@ returns c =
     let own = c.in_ok-all.all.items in
     let twins = c.in_ok-twins.twins.items in
     let Joined = c.extend.new.self.items ≡ own ++ twins in
-    let joined : OnOk c.extend.result Joined = fact_from_extend {Q = Joined} (λ x. x) c.extend.result c.extend.ensures.ran (λ it b. YieldsList-from_vec {s = it} _ b.0 (b.1 ∙ c.in_ok-twins.twins.ok.0)) (λ xs e h. h.0 ∙ ap (λ (l : List Part). own ++ l) (sym (map-id xs) ∙ e)) in
+    let joined : OnOk c.extend.result Joined =
+    fact_from_extend {Q = Joined} (λ x. x) c.extend.result c.extend.ensures.ran
+    (λ it b. YieldsList-from_vec {s = it} _ b.0 (b.1 ∙ c.in_ok-twins.twins.ok.0)) (λ xs e h. h.0
+    ∙ ap (λ (l : List Part). own ++ l) (sym (map-id xs) ∙ e)) in
     let is : Joined = IfOk-at_ok (λ _. Joined) c.in_ok-extend.was joined in
     let first = c.in_ok-all.ensures in
     let read = c.as_slice.ensures.value in

@@ -19,10 +19,13 @@ returns-clause-value c =
     cc (parts, parts_are, read, groups, groups_are, groups_read)
 
 pub returns-clause-rules : goal.returns-clause-rules
-returns-clause-rules c = subst IsLayout (sym (returns-clause-value c)) (plain_is_layout c.args.slot c.args.layout.now c.requires.rules c.requires.own)
+returns-clause-rules c =
+    subst IsLayout (sym (returns-clause-value c))
+    (plain_is_layout c.args.slot c.args.layout.now c.requires.rules c.requires.own)
 
 pub returns-clause-own : goal.returns-clause-own
 returns-clause-own c =
     let slot = c.args.slot in
     let is = ap (λ (l : Layout). l.parts) (returns-clause-value c) in
-    subst (λ (ps : List Part). IsOwn slot ps) (sym is) (plain_is_own slot c.args.layout.now c.requires.own)
+    subst (λ (ps : List Part). IsOwn slot ps) (sym is)
+    (plain_is_own slot c.args.layout.now c.requires.own)

@@ -6,12 +6,13 @@ use Rattle.vab_builder.proofs.parts.set_blocks.Goals as goal
 
 pub returns-in-Some : goal.returns-in-Some
 returns-in-Some c =
-    let f : Part → Part = λ p. record (updated p) { blocks = c.args.blocks.items } in
+    let f : Part → Part = λ p. record (updated p) { blocks = c.args.blocks } in
     let found = rw c.deref.ensures.value at c.in-Some.ensures in
-    rw c.from_vec.ensures (changed_at c.args.name.now f c.args.parts.now.items c.in-Some.at c.index_mut-part.result.now c.requires (sym found) c.index_mut-part.ensures.value)
+    (changed_at c.args.name.now f c.args.parts.now.items c.in-Some.at c.index_mut-part.result.now
+    c.requires (sym found) c.index_mut-part.ensures.value)
 
 pub returns-in-None : goal.returns-in-None
 returns-in-None c =
-    let f : Part → Part = λ p. record (updated p) { blocks = c.args.blocks.items } in
+    let f : Part → Part = λ p. record (updated p) { blocks = c.args.blocks } in
     let none = rw c.deref.ensures.value at c.in-None.ensures in
     changed_none c.args.name.now f c.args.parts.now.items (sym none)

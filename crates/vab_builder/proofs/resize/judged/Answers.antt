@@ -3,7 +3,9 @@ use Rattle.std.proofs.lemmas.Bool.{false_from_ne_true}
 use Rattle.vab_names.specs.Names.{is_full, store_of}
 use Rattle.vab_tables.specs.Rules.{cap_of}
 use Rattle.vab_builder.specs.Sizes.{has_part}
-use Rattle.vab_builder.specs.ResizeVerdicts.{resized-bad_name, resized-bad_size, resized-unknown, resized-has_store, resized-group_limit, resized-no_room}
+use Rattle.vab_builder.specs.ResizeVerdicts.{resized-bad_name, resized-bad_size, resized-unknown}
+use Rattle.vab_builder.specs.ResizeVerdicts.{resized-has_store, resized-group_limit}
+use Rattle.vab_builder.specs.ResizeVerdicts.{resized-no_room}
 use Rattle.vab_builder.specs.NameCases.{full_few}
 use Rattle.vab_builder.specs.Sizes.{is_within}
 use Rattle.vab_builder.proofs.resize.judged.Goals as goal
@@ -11,7 +13,8 @@ use Rattle.vab_builder.proofs.resize.judged.Goals as goal
 pub returns-in_default : goal.returns-in_default
 returns-in_default c =
     let a = c.args in
-    let full : is_full a.slot a.name.now ≡ false = false_from_ne_true (is_full a.slot a.name.now) (search rules) in
+    let full : is_full a.slot a.name.now ≡ false =
+    false_from_ne_true (is_full a.slot a.name.now) (search rules) in
     inr (resized-bad_name a.slot a.source.now a.target.now a.name.now a.bytes full)
 
 pub returns-then-bytes-gt-MAX_BYTES : goal.returns-then-bytes-gt-MAX_BYTES
@@ -25,7 +28,8 @@ returns-then-not-has_part c =
     let a = c.args in
     let full : is_full a.slot a.name.now ≡ true = search rules in
     let absent : has_part a.name.now a.target.now.parts ≡ false = search rules in
-    inr (resized-unknown a.slot a.source.now a.target.now a.name.now a.bytes full (omega arith) absent)
+    inr (resized-unknown a.slot a.source.now a.target.now a.name.now a.bytes full (omega arith)
+    absent)
 
 pub store_of-requires : goal.store_of-requires
 store_of-requires c =
@@ -38,31 +42,90 @@ returns-then-has_part c =
     let a = c.args in
     let full : is_full a.slot a.name.now ≡ true = search rules in
     let there : has_part a.name.now a.target.now.parts ≡ true = search rules in
-    let store : has_part (store_of a.name.now) a.target.now.parts ≡ true = rw (c.text-2.ensures.value, c.store_of.ensures, c.in-Some.ensures.value, c.as_slice-parts.ensures) at (sym c.has_part-2.ensures ∙ c.if-has_part.true) in
-    inr (resized-has_store a.slot a.source.now a.target.now a.name.now a.bytes full (omega arith) there store)
+    let store : has_part (store_of a.name.now) a.target.now.parts ≡ true =
+    rw (
+      c.text-2.ensures.value,
+      c.store_of.ensures,
+      c.in-Some.ensures.value,
+      c.as_slice-parts.ensures,
+    ) at (sym c.has_part-2.ensures ∙ c.if-has_part.true) in
+    inr (resized-has_store a.slot a.source.now a.target.now a.name.now a.bytes full (omega arith)
+    there store)
 
 pub returns-then-not-is_within : goal.returns-then-not-is_within
 returns-then-not-is_within c =
     let a = c.args in
     let full : is_full a.slot a.name.now ≡ true = search rules in
     let there : has_part a.name.now a.target.now.parts ≡ true = search rules in
-    let plain : has_part (store_of a.name.now) a.target.now.parts ≡ false = rw (c.text-2.ensures.value, c.store_of.ensures, c.in-Some.ensures.value, c.as_slice-parts.ensures) at (sym c.has_part-2.ensures ∙ c.if-has_part.false) in
-    let sum-is = rw (c.group_named-group.ensures, c.text-3.ensures.value, c.in-Some.ensures.value, c.text-5.ensures.value, c.in-Some.ensures.value, c.blocks-count.ensures.is, c.as_slice-parts.ensures) at c.in_ok-sum.ensures in
-    let limit-is = rw (c.as_slice.ensures, c.text-4.ensures.value, c.group_named-group.ensures, c.text-3.ensures.value, c.in-Some.ensures.value, c.as_slice-parts.ensures) at c.limit_of-limit.ensures in
+    let plain : has_part (store_of a.name.now) a.target.now.parts ≡ false =
+    rw (
+      c.text-2.ensures.value,
+      c.store_of.ensures,
+      c.in-Some.ensures.value,
+      c.as_slice-parts.ensures,
+    ) at (sym c.has_part-2.ensures ∙ c.if-has_part.false) in
+    let sum-is =
+    rw (
+      c.group_named-group.ensures,
+      c.text-3.ensures.value,
+      c.in-Some.ensures.value,
+      c.text-5.ensures.value,
+      c.in-Some.ensures.value,
+      c.blocks-count.ensures.is,
+      c.as_slice-parts.ensures,
+    ) at c.in_ok-sum.ensures in
+    let limit-is =
+    rw (
+      c.as_slice.ensures,
+      c.text-4.ensures.value,
+      c.group_named-group.ensures,
+      c.text-3.ensures.value,
+      c.in-Some.ensures.value,
+      c.as_slice-parts.ensures,
+    ) at
+    c.limit_of-limit.ensures in
     let outside : is_within c.in_ok-sum.sum c.limit_of-limit.result ≡ false = search rules in
-    inr (resized-group_limit a.slot a.source.now a.target.now a.name.now a.bytes c.in_ok-sum.sum c.limit_of-limit.result full (omega arith) there plain sum-is limit-is outside)
+    inr (resized-group_limit a.slot a.source.now a.target.now a.name.now a.bytes c.in_ok-sum.sum
+    c.limit_of-limit.result full (omega arith) there plain sum-is limit-is outside)
 
 pub returns-then-not-fits : goal.returns-then-not-fits
 returns-then-not-fits c =
     let a = c.args in
     let full : is_full a.slot a.name.now ≡ true = search rules in
     let there : has_part a.name.now a.target.now.parts ≡ true = search rules in
-    let plain : has_part (store_of a.name.now) a.target.now.parts ≡ false = rw (c.text-2.ensures.value, c.store_of.ensures, c.in-Some.ensures.value, c.as_slice-parts.ensures) at (sym c.has_part-2.ensures ∙ c.if-has_part.false) in
-    let sum-is = rw (c.group_named-group.ensures, c.text-3.ensures.value, c.in-Some.ensures.value, c.text-5.ensures.value, c.in-Some.ensures.value, c.blocks-count.ensures.is, c.as_slice-parts.ensures) at c.in_ok-sum.ensures in
-    let limit-is = rw (c.as_slice.ensures, c.text-4.ensures.value, c.group_named-group.ensures, c.text-3.ensures.value, c.in-Some.ensures.value, c.as_slice-parts.ensures) at c.limit_of-limit.ensures in
+    let plain : has_part (store_of a.name.now) a.target.now.parts ≡ false =
+    rw (
+      c.text-2.ensures.value,
+      c.store_of.ensures,
+      c.in-Some.ensures.value,
+      c.as_slice-parts.ensures,
+    ) at (sym c.has_part-2.ensures ∙ c.if-has_part.false) in
+    let sum-is =
+    rw (
+      c.group_named-group.ensures,
+      c.text-3.ensures.value,
+      c.in-Some.ensures.value,
+      c.text-5.ensures.value,
+      c.in-Some.ensures.value,
+      c.blocks-count.ensures.is,
+      c.as_slice-parts.ensures,
+    ) at c.in_ok-sum.ensures in
+    let limit-is =
+    rw (
+      c.as_slice.ensures,
+      c.text-4.ensures.value,
+      c.group_named-group.ensures,
+      c.text-3.ensures.value,
+      c.in-Some.ensures.value,
+      c.as_slice-parts.ensures,
+    ) at
+    c.limit_of-limit.ensures in
     let inside : is_within c.in_ok-sum.sum c.limit_of-limit.result ≡ true = search rules in
     let within = rw (sum-is, limit-is) at inside in
-    let used-is = rw (c.text-6.ensures.value, c.in-Some.ensures.value, c.blocks-count.ensures.is) at c.in_ok-used.ensures in
+    let used-is =
+    rw (c.text-6.ensures.value, c.in-Some.ensures.value, c.blocks-count.ensures.is) at
+    c.in_ok-used.ensures in
     let cap-is : c.cap-cap.result ≡ cap_of a.target.now.device = search rules in
     let over : c.cap-cap.result < c.in_ok-used.used = search rules in
-    inr (resized-no_room a.slot a.source.now a.target.now a.name.now a.bytes c.in_ok-used.used c.cap-cap.result full (omega arith) there plain within used-is cap-is over)
+    inr (resized-no_room a.slot a.source.now a.target.now a.name.now a.bytes c.in_ok-used.used
+    c.cap-cap.result full (omega arith) there plain within used-is cap-is over)

@@ -1,5 +1,5 @@
 use Rattle.std.proofs.Common.{◌∙◌}
-use Rattle.vab_builder.specs.Bounds.{resized_bound}
+use Rattle.vab_builder.specs.Bounds.{resized_bound, wants_fit}
 use Rattle.vab_builder.proofs.room.resized_used.Goals as goal
 
 pub used-requires : goal.used-requires
@@ -7,4 +7,12 @@ used-requires c =
     let a = c.args in
     let sizes = c.deref.ensures.value ∙ c.in_ok-sizes.ensures in
     let wants = c.deref-2.ensures.value ∙ c.in_ok-wants.ensures in
-    rw (sizes, wants, c.as_slice-source.ensures, c.as_slice-target.ensures) (resized_bound a.slot a.source.now a.target.now a.name.now a.count c.requires.update c.requires.small)
+    rw (sizes, wants, c.as_slice-source.ensures, c.as_slice-target.ensures)
+    (resized_bound a.slot a.source.now a.target.now a.name.now a.count c.requires.update
+    c.requires.small)
+
+pub wants_resized-requires-clause-fit : goal.wants_resized-requires-clause-fit
+wants_resized-requires-clause-fit c =
+    let a = c.args in
+    rw (c.as_slice-source.ensures, c.as_slice-target.ensures)
+    (wants_fit a.slot a.source.now a.target.now c.requires.update)

@@ -4,4 +4,5 @@ use Rattle.vab_builder.specs.Sizes.{sizes_in}
 use Rattle.vab_builder.proofs.sizes.sizes_in.Given as goal
 
 abbrev pub invariant-loop-part : goal.invariant-loop-part
-invariant-loop-part l = l.sizes.items ≡ sizes_in l.group l.name l.count (own_parts l.slot (take l.part-index l.parts))
+invariant-loop-part l =
+    l.sizes.items ≡ sizes_in l.group l.name l.count (own_parts l.slot (take l.part-index l.parts))

@@ -10,7 +10,10 @@ pub push_free-requires-clause-room : goal.push_free-requires-clause-room
 push_free-requires-clause-room c =
     let a = c.args in
     let is = c.in_ok-name.ensures in
-    rw is.1 (stored_room a.slot a.source.now a.target a.name.now (store_blocks a.target a.name.now a.bytes) c.requires is.2.full is.2.known is.2.plain is.2.room)
+    rw is.1
+    (stored_room a.slot a.source.now a.target a.name.now
+    (store_blocks a.target a.name.now a.bytes) c.requires is.2.full is.2.known is.2.plain
+    is.2.room)
 
 pub with_store-requires-clause-short : goal.with_store-requires-clause-short
 with_store-requires-clause-short c =
@@ -22,5 +25,8 @@ pub returns : goal.returns
 returns c =
     let a = c.args in
     let is = c.in_ok-name.ensures in
-    let made = rw (c.in_ok-push_free.ensures, c.new-fresh.ensures.items, is.0, is.1) at c.in_ok-with_store.ensures in
-    stored-ok a.slot a.source.now a.target a.name.now a.bytes is.2 ∙ sym (ap (λ (l : Layout). Ok l) made)
+    let made =
+    rw (c.in_ok-push_free.ensures, c.new-fresh.ensures, is.0, is.1) at
+    c.in_ok-with_store.ensures in
+    stored-ok a.slot a.source.now a.target a.name.now a.bytes is.2
+    ∙ sym (ap (λ (l : Layout). Ok l) made)

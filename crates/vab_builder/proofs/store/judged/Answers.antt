@@ -3,7 +3,8 @@ use Rattle.std.proofs.lemmas.Bool.{false_from_ne_true}
 use Rattle.vab_names.specs.Names.{is_full, store_of}
 use Rattle.vab_tables.specs.Rules.{cap_of}
 use Rattle.vab_builder.specs.Sizes.{has_part}
-use Rattle.vab_builder.specs.StoreVerdicts.{store_size, stored-bad_name, stored-bad_size, stored-unknown, stored-has_store, stored-no_room}
+use Rattle.vab_builder.specs.StoreVerdicts.{store_size, stored-bad_name, stored-bad_size}
+use Rattle.vab_builder.specs.StoreVerdicts.{stored-unknown, stored-has_store, stored-no_room}
 use Rattle.vab_builder.specs.NameCases.{full_slot, full_few}
 use Rattle.vab_builder.specs.EditLaws.{named_small, store_few}
 use Rattle.vab_builder.proofs.store.judged.Goals as goal
@@ -11,7 +12,8 @@ use Rattle.vab_builder.proofs.store.judged.Goals as goal
 pub returns-in_default : goal.returns-in_default
 returns-in_default c =
     let a = c.args in
-    let full : is_full a.slot a.name.now ≡ false = false_from_ne_true (is_full a.slot a.name.now) (search rules) in
+    let full : is_full a.slot a.name.now ≡ false =
+    false_from_ne_true (is_full a.slot a.name.now) (search rules) in
     inr (stored-bad_name a.slot a.source.now a.target.now a.name.now a.bytes full)
 
 pub returns-then-not-is_store_size : goal.returns-then-not-is_store_size
@@ -41,21 +43,31 @@ returns-then-has_part c =
     let full : is_full a.slot a.name.now ≡ true = search rules in
     let size : store_size a.bytes ≡ true = search rules in
     let there : has_part a.name.now a.target.now.parts ≡ true = search rules in
-    let store : has_part (store_of a.name.now) a.target.now.parts ≡ true = rw (c.text-2.ensures.value, c.store_of.ensures, c.in-Some.ensures.value, c.as_slice-parts.ensures) at (sym c.has_part-2.ensures ∙ c.if-has_part.true) in
+    let store : has_part (store_of a.name.now) a.target.now.parts ≡ true =
+    rw (
+      c.text-2.ensures.value,
+      c.store_of.ensures,
+      c.in-Some.ensures.value,
+      c.as_slice-parts.ensures,
+    ) at (sym c.has_part-2.ensures ∙ c.if-has_part.true) in
     inr (stored-has_store a.slot a.source.now a.target.now a.name.now a.bytes full size there store)
 
 pub store_blocks-count-requires : goal.store_blocks-count-requires
 store_blocks-count-requires c =
     let a = c.args in
     let full : is_full a.slot a.name.now ≡ true = search rules in
-    rw c.in-Some.ensures.value (named_small a.slot a.name.now a.target.now.parts c.requires.parts.own (full_slot a.slot a.name.now full))
+    rw c.in-Some.ensures.value
+    (named_small a.slot a.name.now a.target.now.parts c.requires.parts.own
+    (full_slot a.slot a.name.now full))
 
 pub stored_used-requires-clause-small : goal.stored_used-requires-clause-small
 stored_used-requires-clause-small c =
     let a = c.args in
     let full : is_full a.slot a.name.now ≡ true = search rules in
     let size : store_size a.bytes ≡ true = search rules in
-    rw (c.store_blocks-count.ensures, c.in-Some.ensures.value) (store_few a.slot a.target.now a.name.now a.bytes c.requires.parts.own (full_slot a.slot a.name.now full) size)
+    rw (c.store_blocks-count.ensures, c.in-Some.ensures.value)
+    (store_few a.slot a.target.now a.name.now a.bytes c.requires.parts.own
+    (full_slot a.slot a.name.now full) size)
 
 pub returns-then-not-fits : goal.returns-then-not-fits
 returns-then-not-fits c =
@@ -63,8 +75,21 @@ returns-then-not-fits c =
     let full : is_full a.slot a.name.now ≡ true = search rules in
     let size : store_size a.bytes ≡ true = search rules in
     let there : has_part a.name.now a.target.now.parts ≡ true = search rules in
-    let plain : has_part (store_of a.name.now) a.target.now.parts ≡ false = rw (c.text-2.ensures.value, c.store_of.ensures, c.in-Some.ensures.value, c.as_slice-parts.ensures) at (sym c.has_part-2.ensures ∙ c.if-has_part.false) in
-    let used-is = rw (c.text-3.ensures.value, c.in-Some.ensures.value, c.store_blocks-count.ensures, c.in-Some.ensures.value) at c.in_ok-used.ensures in
+    let plain : has_part (store_of a.name.now) a.target.now.parts ≡ false =
+    rw (
+      c.text-2.ensures.value,
+      c.store_of.ensures,
+      c.in-Some.ensures.value,
+      c.as_slice-parts.ensures,
+    ) at (sym c.has_part-2.ensures ∙ c.if-has_part.false) in
+    let used-is =
+    rw (
+      c.text-3.ensures.value,
+      c.in-Some.ensures.value,
+      c.store_blocks-count.ensures,
+      c.in-Some.ensures.value,
+    ) at c.in_ok-used.ensures in
     let cap-is : c.cap-cap.result ≡ cap_of a.target.now.device = search rules in
     let over : c.cap-cap.result < c.in_ok-used.used = search rules in
-    inr (stored-no_room a.slot a.source.now a.target.now a.name.now a.bytes c.in_ok-used.used c.cap-cap.result full size there plain used-is cap-is over)
+    inr (stored-no_room a.slot a.source.now a.target.now a.name.now a.bytes c.in_ok-used.used
+    c.cap-cap.result full size there plain used-is cap-is over)

@@ -1,5 +1,5 @@
 use Rattle.std.proofs.Common.{◌≡◌, take}
-use Rattle.vab_layout.specs.LayoutLaws.{runs_in}
+use Rattle.vab_layout.specs.Layout.{runs_in}
 use Rattle.vab_layout.proofs.to_table.count_extents.Given as goal
 
 abbrev pub invariant-loop-part : goal.invariant-loop-part

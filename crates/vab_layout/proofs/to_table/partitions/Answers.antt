@@ -2,9 +2,9 @@ use Rattle.std.proofs.Common.{◌≡◌, ℕ, ◌<◌, List, [], ◌∷◌, ◌+
 use Rattle.std.proofs.lemmas.List.Sums.{sum_by_more}
 use Rattle.vab_tables.specs.declared.entries.Partition.{Partition}
 use Rattle.vab_layout.specs.declared.layout.Part.{Part}
-use Rattle.vab_layout.specs.Runs.{runs_of}
+use Rattle.vab_blocks.specs.Runs.{runs_of}
 use Rattle.vab_layout.specs.Layout.{partitions_from}
-use Rattle.vab_layout.specs.LayoutLaws.{partitions_more}
+use Rattle.vab_layout.proofs.LayoutLaws.{partitions_more}
 use Rattle.vab_layout.proofs.to_table.partitions.Goals as goal
 
 pub loop-part-preserved : goal.loop-part-preserved
@@ -15,9 +15,18 @@ loop-part-preserved c =
     let p : Part = c.part-item.result in
     let q : Partition = c.partition-partition.result in
     let lt : i < length parts = c.loop-part-test.true in
-    let here : q ∷ [] ≡ _ = c.partition-partition.ensures.value ∙ ap (λ (k : ℕ). partitions_from k groups (p ∷ [])) c.loop-part.invariant.next in
+    let here : q ∷ [] ≡ _ = c.partition-partition.ensures.value
+    ∙ ap (λ (k : ℕ). partitions_from k groups (p ∷ [])) c.loop-part.invariant.next in
     let size : Part → ℕ = λ x. length (runs_of x.blocks) in
     record {
-      made = c.in_ok-push.ensures.items ∙ ap (λ (l : List Partition). l ++ q ∷ []) c.loop-part.invariant.made ∙ sym (partitions_more groups parts i p q lt c.part-item.is here);
-      next = omega (arith, sum_by_more size parts i p lt, ap size c.part-item.is, c.partition-partition.ensures.count, c.loop-part.invariant.next);
+      made = c.in_ok-push.ensures.items
+          ∙ ap (λ (l : List Partition). l ++ q ∷ []) c.loop-part.invariant.made
+          ∙ sym (partitions_more groups parts i p q lt c.part-item.is here);
+      next = omega (
+        arith,
+        sum_by_more size parts i p lt,
+        ap size c.part-item.is,
+        c.partition-partition.ensures.count,
+        c.loop-part.invariant.next,
+      );
     }

@@ -1,5 +1,5 @@
-use Rattle.vab_partitions.specs.OwnLaws.{Stands}
+use Rattle.vab_partitions.proofs.OwnLaws.{Stands}
 use Rattle.vab_partitions.proofs.own.bad_partition.Given as goal
 
 abbrev pub invariant-loop-partition : goal.invariant-loop-partition
-invariant-loop-partition l = Stands l.slot l.table l.partition-index l.seen.items l.count
+invariant-loop-partition l = Stands l.slot l.table l.partition-index l.seen l.count

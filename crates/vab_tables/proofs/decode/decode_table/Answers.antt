@@ -8,12 +8,17 @@ use Rattle.vab_tables.specs.TextLaws.{text_found, text_only}
 use Rattle.vab_tables.specs.Reading.{Gives, table_of}
 use Rattle.vab_tables.proofs.decode.decode_table.Goals as goal
 
-found_by : (max : ℕ) (text : List ℕ) (r : Result Table TableFault) → IsBytes text → Gives (λ (t : Table). t) r (table_of max text) → IfOk r (λ t. IsTableText max text t)
+found_by : (max : ℕ) (text : List ℕ) (r : Result Table TableFault) → IsBytes text
+    → Gives (λ (t : Table). t) r (table_of max text) → IfOk r (λ t. IsTableText max text t)
 found_by max text (Ok t) bytes h = text_found max text t bytes h
 found_by max text (Err e) bytes h = tt
 
 pub returns-clause-found : goal.returns-clause-found
-returns-clause-found c = found_by c.args.max c.args.text.now c.read_table.result (λ i. omega (arith, c.type_inv.text i)) c.read_table.ensures
+returns-clause-found c =
+    found_by c.args.max c.args.text.now c.read_table.result (λ i. omega (arith, c.type_inv.text i))
+    c.read_table.ensures
 
 pub returns-clause-only : goal.returns-clause-only
-returns-clause-only c = λ t h. subst (λ (x : Result Table TableFault). Gives (λ (v : Table). v) c.read_table.result x) (text_only c.args.max c.args.text.now t h) c.read_table.ensures
+returns-clause-only c =
+    λ t h. subst (λ (x : Result Table TableFault). Gives (λ (v : Table). v) c.read_table.result x)
+    (text_only c.args.max c.args.text.now t h) c.read_table.ensures

@@ -4,7 +4,9 @@ use Rattle.vab_tables.proofs.decode.read_all.Given as goal
 
 abbrev pub invariant-loop-index : goal.invariant-loop-index
 invariant-loop-index g l =
-    let entries = entries_in l.kind g.E.Entry.SIZE g.E.Entry.reading (g.R.Rules.admitted l.rules) l.entries.bytes.now in
+    let passes = λ (earlier : _) (e : _). g.R.Rules.passing l.rules e in
+    let entries =
+    entries_in l.kind g.E.Entry.SIZE g.E.Entry.reading passes l.entries.bytes.now in
     record {
       count : length l.all.items ≡ l.index;
       rest : entries (l.entries.count - l.index) l.all.items ≡ entries l.entries.count [];

@@ -7,8 +7,8 @@ slice_bounds-first-end c =
     let some : 0 < c.args.entries.count = omega (arith, c.if-entries-eq0.false) in
     omega (arith, length-take 64 c.args.entries.bytes.now)
 
-pub read_behind-requires : goal.read_behind-requires
-read_behind-requires c =
+pub read_next-requires : goal.read_next-requires
+read_next-requires c =
     let len : length c.args.entries.bytes.now ≡ c.args.entries.count * 64 = c.requires in
     let some : 0 < c.args.entries.count = omega (arith, c.if-entries-eq0.false) in
     omega (arith, length-take 64 c.args.entries.bytes.now)

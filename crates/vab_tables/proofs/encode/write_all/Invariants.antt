@@ -3,4 +3,5 @@ use Rattle.std.specs.List.{flat_map}
 use Rattle.vab_tables.proofs.encode.write_all.Given as goal
 
 abbrev pub invariant-loop-entry : goal.invariant-loop-entry
-invariant-loop-entry g l = l.out.items ≡ l.initial.out.items ++ flat_map g.E.Entry.spelling (take l.entry-index l.entries)
+invariant-loop-entry g l =
+    l.out.items ≡ l.initial.out.items ++ flat_map g.E.Entry.spelling (take l.entry-index l.entries)

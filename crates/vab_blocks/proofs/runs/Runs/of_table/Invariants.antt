@@ -4,4 +4,6 @@ use Rattle.vab_blocks.specs.Blocks.{blocks_of_named}
 use Rattle.vab_blocks.proofs.runs.Runs.of_table.Given as goal
 
 abbrev pub invariant-loop-partition : goal.invariant-loop-partition
-invariant-loop-partition l = l.blocks.items ≡ flat_map (blocks_of_named l.table l.names) (take l.partition-index l.table.partitions)
+invariant-loop-partition l =
+    l.blocks
+    ≡ flat_map (blocks_of_named l.table l.names) (take l.partition-index l.table.partitions)

@@ -1,0 +1,7 @@
+use Rattle.std.proofs.Common.{◌≡◌, ◌++◌, take}
+use Rattle.vab_blocks.specs.Runs.{runs_of, blocks_of_runs}
+use Rattle.vab_blocks.proofs.blocks.Blocks.append.Given as goal
+
+abbrev pub invariant-loop-run : goal.invariant-loop-run
+invariant-loop-run l =
+    l.self ≡ l.initial.self ++ blocks_of_runs (take l.run-index (runs_of l.other))

@@ -1,7 +1,0 @@
-use Rattle.std.proofs.Common.{◌≡◌, take}
-use Rattle.std.specs.List.{flat_map}
-use Rattle.vab_blocks.specs.Blocks.{blocks_of_extent}
-use Rattle.vab_layout.proofs.of_table.blocks.Given as goal
-
-abbrev pub invariant-loop-extent : goal.invariant-loop-extent
-invariant-loop-extent l = l.blocks.items ≡ flat_map (blocks_of_extent l.first_sector) (take l.extent-index l.extents)
