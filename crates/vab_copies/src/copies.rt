@@ -29,7 +29,7 @@ pub fn store_copies<D: Disk>(
     ensures copies { D.is_modelled
         → IsAtRest D.Disk d.old
         → Adds D.moment D.outcomes d.old d.new
-          (LeavesCopies (D.told d.old) (D.seen d.old) count primary backup text.now) }
+        (LeavesCopies (D.told d.old) (D.seen d.old) count primary backup text.now) }
     ensures faults { FailsWithDisk D.Disk d.old d.new result }
 {
     write_copy(d, primary, count, text)?;

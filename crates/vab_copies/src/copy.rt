@@ -23,7 +23,7 @@ pub fn write_copy<D: Disk>(d: &mut D, at: u64, count: u64, text: &[u8]) -> Resul
     ensures copy { D.is_modelled
         → IsAtRest D.Disk d.old
         → Adds D.moment D.outcomes d.old d.new
-          (LeavesCopy (D.told d.old) (D.seen d.old) (with_text count text.now (D.seen d.old) at) at count) }
+        (LeavesCopy (D.told d.old) (D.seen d.old) (with_text count text.now (D.seen d.old) at) at count) }
     ensures faults { FailsWithDisk D.Disk d.old d.new result }
 {
     put_gate(d, at, &[0; SECTOR])?;

@@ -1,19 +1,60 @@
 -- How calls join.
 use Rattle.std.proofs.Common.{
-  ◌≡◌, ◌≢◌, ◌⊎◌, inl, inr, ⊎_elim, ℕ, ◌≤◌, ◌<◌, List, refl, sym, ◌∙◌, ap, subst, arith
+  ◌≡◌,
+  ◌≢◌,
+  ◌⊎◌,
+  inl,
+  inr,
+  ⊎_elim,
+  ℕ,
+  ◌≤◌,
+  ◌<◌,
+  List,
+  refl,
+  sym,
+  ◌∙◌,
+  ap,
+  subst,
+  arith,
 }
 use Rattle.std.proofs.lemmas.Bool.{cases_eq}
 use Rattle.vab_disk.specs.declared.disk.Disk.{Ghosts}
 use Rattle.vab_disk.specs.Disk.{
-  Image, Outcome, Leaves, LeavesWith, LeavesEither, Adds, Nothing, Writes, NoFewer, Faults,
-  SameHoldings, IsAt, MayBeSet, Rose, set_sector
+  Image,
+  Outcome,
+  Leaves,
+  LeavesWith,
+  LeavesEither,
+  Adds,
+  Nothing,
+  Writes,
+  NoFewer,
+  Faults,
+  SameHoldings,
+  IsAt,
+  MayBeSet,
+  Rose,
+  set_sector,
 }
 use Rattle.vab_disk.specs.Calls.{
-  IsQuiet, OnlyReads, OnlySyncs, InSectors, SameBut, Touches, IsAtRest
+  IsQuiet,
+  OnlyReads,
+  OnlySyncs,
+  InSectors,
+  SameBut,
+  Touches,
+  IsAtRest,
 }
 use Rattle.vab_disk.specs.Written.{set_here, set_there}
 use Rattle.vab_disk.proofs.Moments.{
-  adds_none, adds_wider, adds_on, adds_still, writes_with, with_wider, with_then, settled_either
+  adds_none,
+  adds_wider,
+  adds_on,
+  adds_still,
+  writes_with,
+  with_wider,
+  with_then,
+  settled_either,
 }
 
 pub fewer_then : (a b c : Faults) → NoFewer a b → NoFewer b c → NoFewer a c
@@ -162,7 +203,7 @@ module _ {D : Type 0} (g : Ghosts D) where
       → (g.is_modelled → SameBut (IsAt at bytes) (g.seen a) (g.seen b))
       → (g.is_modelled → Writes (IsAt at bytes) (g.may_leave a) (g.may_leave b))
       → (g.is_modelled
-        → Adds g.moment g.outcomes a b (Leaves (g.told a) (g.may_leave b)))
+      → Adds g.moment g.outcomes a b (Leaves (g.told a) (g.may_leave b)))
       → Touches g (IsAt at bytes) a b
   touches_write at bytes a b quiet seen crash time = record {
     quiet = quiet;
@@ -187,7 +228,7 @@ module _ {D : Type 0} (g : Ghosts D) where
       → Touches g (IsAt at bytes) a b
       → IsAtRest g a
       → Adds g.moment g.outcomes a b
-        (LeavesEither (g.told a) (g.seen a) (set_sector (g.seen a) at bytes))
+      (LeavesEither (g.told a) (g.seen a) (set_sector (g.seen a) at bytes))
   time_either at bytes a b t touches rest =
       adds_wider g.moment g.outcomes a b _ _ (touches.time t)
       (settled_either (g.may_leave a) (g.told a) (g.seen a) at bytes rest)

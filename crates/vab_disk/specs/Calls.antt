@@ -2,8 +2,16 @@
 use Rattle.std.specs.Prelude.{◌≡◌, ◌⊎◌, ℕ, ◌≤◌, ◌<◌, List, Result, OnOk, OnErr}
 use Rattle.vab_disk.specs.declared.disk.Disk.{Ghosts}
 use Rattle.vab_disk.specs.Disk.{
-  Image, LeavesWith, IsSettled, Adds, Nothing, NoMoreBut, SameHoldings, Quiet, NoFewer,
-  Rose
+  Image,
+  LeavesWith,
+  IsSettled,
+  Adds,
+  Nothing,
+  NoMoreBut,
+  SameHoldings,
+  Quiet,
+  NoFewer,
+  Rose,
 }
 
 -- sectors from the one up to the other, which isn't among them

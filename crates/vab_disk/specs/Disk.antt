@@ -1,6 +1,19 @@
 -- What the calls of a disk do, and what a crash may leave of it.
 use Rattle.std.specs.Prelude.{
-  ◌≡◌, ◌⊎◌, ℕ, ◌+◌, ◌-◌, ◌^◌, ◌≤◌, ◌<◌, min, List, length, slice_index, if◌then◌else◌, ◌==◌
+  ◌≡◌,
+  ◌⊎◌,
+  ℕ,
+  ◌+◌,
+  ◌-◌,
+  ◌^◌,
+  ◌≤◌,
+  ◌<◌,
+  min,
+  List,
+  length,
+  slice_index,
+  if◌then◌else◌,
+  ◌==◌,
 }
 
 -- The bytes of each sector. How many sectors there are is said beside it.

@@ -220,17 +220,12 @@ impl MemPort {
 }
 
 // The last written and the settled bytes of a sector, after one call more.
-fn after_call(
-    call: &Call,
-    at: u64,
-    now: [u8; 512],
-    settled: [u8; 512],
-) -> ([u8; 512], [u8; 512])
+fn after_call(call: &Call, at: u64, now: [u8; 512], settled: [u8; 512]) -> ([u8; 512], [u8; 512])
     ensures { (count : ℕ) (older : List CallOf)
         → now ≡ seen_of count older at
         → settled ≡ settled_of count older at
         → (result.0 ≡ seen_of count (call.now ∷ older) at)
-          × (result.1 ≡ settled_of count (call.now ∷ older) at) }
+        × (result.1 ≡ settled_of count (call.now ∷ older) at) }
 {
     match call {
         Call::Wrote(sector, written) => {

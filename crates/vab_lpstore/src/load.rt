@@ -31,8 +31,8 @@ pub fn load_table<D: Disk>(
     ensures table { D.is_modelled → Gives result (slot_table geometry.now slot (D.seen d.old)) }
     ensures loaded { D.is_modelled → IfOk result
         (λ l. IsLoaded geometry.now.max
-          (primary_bytes geometry.now slot (D.seen d.old))
-          (backup_bytes geometry.now slot (D.seen d.old)) l) }
+        (primary_bytes geometry.now slot (D.seen d.old))
+        (backup_bytes geometry.now slot (D.seen d.old)) l) }
     ensures text { IfOk result (λ l. IsTableText geometry.now.max l.text l.table) }
     ensures fits { IfOk result (λ l. length l.text ≤ geometry.now.max) }
     ensures faults { AreFaults result }

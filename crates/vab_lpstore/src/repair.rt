@@ -40,7 +40,7 @@ pub fn repair_table<D: Disk>(
     ensures table { D.is_modelled
         → IsAtRest D.Disk d.old
         → Adds D.moment D.outcomes d.old d.new
-          (LeavesTable (D.told d.old) geometry.now slot (text_sectors (length loaded.now.text)) (D.seen d.old) loaded.now.table) }
+        (LeavesTable (D.told d.old) geometry.now slot (text_sectors (length loaded.now.text)) (D.seen d.old) loaded.now.table) }
     ensures faults { FailsWithDisk D.Disk d.old d.new result }
 {
     let text = loaded.text.as_slice();

@@ -31,8 +31,8 @@ pub fn store_table<D: Disk>(
     requires fits { length text.now ≤ geometry.now.max }
     ensures written { D.is_modelled → OnOk result
         (D.seen d.new ≡ with_text (text_sectors (length text.now)) text.now
-          (with_text (text_sectors (length text.now)) text.now (D.seen d.old) (primary_of geometry.now slot))
-          (backup_of geometry.now slot)) }
+        (with_text (text_sectors (length text.now)) text.now (D.seen d.old) (primary_of geometry.now slot))
+        (backup_of geometry.now slot)) }
     ensures stored { D.is_modelled → OnOk result (BothHold geometry.now slot text.now (D.seen d.new)) }
     ensures settled { D.is_modelled → OnOk result (IsAtRest D.Disk d.new) }
     ensures touches { Touches D.Disk (IsOfTable geometry.now slot text.now) d.old d.new }
@@ -45,7 +45,7 @@ pub fn store_table<D: Disk>(
         → table_of geometry.now.max (backup_bytes geometry.now slot (D.seen d.old)) ≡ Ok t
         → IsTableText geometry.now.max text.now u
         → Adds D.moment D.outcomes d.old d.new
-          (LeavesEitherTable (D.told d.old) geometry.now slot (text_sectors (length text.now)) (D.seen d.old) t u) }
+        (LeavesEitherTable (D.told d.old) geometry.now slot (text_sectors (length text.now)) (D.seen d.old) t u) }
     ensures faults { FailsWithDisk D.Disk d.old d.new result }
 {
     let count = layout::sectors(text.len());

@@ -85,7 +85,7 @@ fn make_on<D: Disk>(d: &mut D, set: &Set, max: u32, text: &[u8]) -> Result<(), D
         → IsPrepared set.now limit max (D.size d.old) text.now
         → IsAtRest D.Disk d.old
         → Adds D.moment D.outcomes d.old d.new
-          (LeavesMaking (D.told d.old) set.now limit max (D.size d.old) (D.seen d.old)) }
+        (LeavesMaking (D.told d.old) set.now limit max (D.size d.old) (D.seen d.old)) }
     ensures faults { FailsWithDisk D.Disk d.old d.new result }
 {
     put_gate(d, MARK, &[0u8; 512])?;
@@ -122,7 +122,7 @@ pub fn make_device<D: Disk>(
     ensures time { D.is_modelled
         → IsAtRest D.Disk d.old
         → Adds D.moment D.outcomes d.old d.new
-          (LeavesMaking (D.told d.old) set.now limit max (D.size d.old) (D.seen d.old)) }
+        (LeavesMaking (D.told d.old) set.now limit max (D.size d.old) (D.seen d.old)) }
     ensures steady { OnOk result (D.faults d.new ≡ D.faults d.old) }
     ensures cause { IfErr result (λ f. IsOfDisk f → Rose (D.faults d.old).disk (D.faults d.new).disk) }
 {

@@ -6,7 +6,14 @@ use Rattle.vab_disk.proofs.Moments.{adds_wider, adds_on}
 use Rattle.vab_disk.proofs.CallLaws.{touches_wider, touches_on, touches_then}
 use Rattle.vab_copies.specs.Copies.{with_text, with_rest, IsOfCopy}
 use Rattle.vab_copies.proofs.Copying.{
-  zeros_of, rest_of, first_of_copy, torn, torn_done, first_gate, behind, last_gate
+  zeros_of,
+  rest_of,
+  first_of_copy,
+  torn,
+  torn_done,
+  first_gate,
+  behind,
+  last_gate,
 }
 use Rattle.vab_copies.proofs.copy.write_copy.Goals as goal
 
@@ -54,10 +61,10 @@ returns-clause-copy g c = λ t rest.
     let old = g.D.Disk.seen c.args.d.now in
     let new = with_text c.args.count c.args.text.now old c.args.at in
     let mid : g.D.Disk.seen c.write_rest.new.d
-      ≡ torn c.args.text.now c.args.at c.args.count c.requires.some old =
+    ≡ torn c.args.text.now c.args.at c.args.count c.requires.some old =
     c.in_ok-write_rest.ensures.written t
     ∙ ap (λ (image : Image). with_rest 1 c.args.count c.args.text.now image c.args.at)
-        (c.in_ok-put_gate.ensures.written t) in
+    (c.in_ok-put_gate.ensures.written t) in
     adds_on g.D.Disk.moment g.D.Disk.outcomes _ _ _ _ _
     (adds_on g.D.Disk.moment g.D.Disk.outcomes _ _ _ _ _
     (adds_wider g.D.Disk.moment g.D.Disk.outcomes _ _ _ _ (c.put_gate.ensures.gate t rest)
@@ -77,12 +84,12 @@ pub returns-clause-written : goal.returns-clause-written
 returns-clause-written g c = λ t.
     let old = g.D.Disk.seen c.args.d.now in
     let mid : g.D.Disk.seen c.write_rest.new.d
-      ≡ torn c.args.text.now c.args.at c.args.count c.requires.some old =
+    ≡ torn c.args.text.now c.args.at c.args.count c.requires.some old =
     c.in_ok-write_rest.ensures.written t
     ∙ ap (λ (image : Image). with_rest 1 c.args.count c.args.text.now image c.args.at)
-        (c.in_ok-put_gate.ensures.written t) in
+    (c.in_ok-put_gate.ensures.written t) in
     let done : set_sector (g.D.Disk.seen c.write_rest.new.d) c.args.at c.sector_of.result
-      ≡ with_text c.args.count c.args.text.now old c.args.at =
+    ≡ with_text c.args.count c.args.text.now old c.args.at =
     (λ j. set_sector (mid j) c.args.at (c.sector_of.ensures j))
     ∙ torn_done c.args.text.now c.args.at c.args.count c.requires.some old in
     subst (λ (image : Image). OnOk c.put_gate-2.result (g.D.Disk.seen c.put_gate-2.new.d ≡ image)) done

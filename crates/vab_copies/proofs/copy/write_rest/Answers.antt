@@ -11,7 +11,7 @@ pub returns-then-count-eq1-clause-written : goal.returns-then-count-eq1-clause-w
 returns-then-count-eq1-clause-written g c = λ t.
     rest_none 1 c.args.text.now (g.D.Disk.seen c.args.d.now) c.args.at
     ∙ ap (λ (n : ℕ). with_rest 1 n c.args.text.now (g.D.Disk.seen c.args.d.now) c.args.at)
-        (sym c.if-count-eq1.true)
+    (sym c.if-count-eq1.true)
 
 pub returns-then-count-eq1-clause-touches : goal.returns-then-count-eq1-clause-touches
 returns-then-count-eq1-clause-touches g c = touches_none g.D.Disk _ _

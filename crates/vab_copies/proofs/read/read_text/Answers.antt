@@ -1,5 +1,15 @@
 use Rattle.std.proofs.Common.{
-  ◌≡◌, ◌+◌, ◌++◌, length, refl, ap, ◌∙◌, sym, rules, arith, length-append
+  ◌≡◌,
+  ◌+◌,
+  ◌++◌,
+  length,
+  refl,
+  ap,
+  ◌∙◌,
+  sym,
+  rules,
+  arith,
+  length-append,
 }
 use Rattle.vab_disk.specs.Disk.{Image}
 use Rattle.vab_disk.proofs.CallLaws.{reads_none, reads_then}

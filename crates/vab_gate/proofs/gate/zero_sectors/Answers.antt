@@ -28,7 +28,7 @@ loop-i-preserved g c =
           (λ s b is. wider c.args.first c.loop-i.i c.args.count s (omega arith) is.0));
       zeros = λ t s is. elim (cases_eq s at) [
         | inl here ↦ wrote_here old new at _ (c.in_ok-put_sector.ensures.written t) s here
-        | inr other ↦ 
+        | inr other ↦
             wrote_there old new at _ (c.in_ok-put_sector.ensures.written t) s other
             ∙ c.loop-i.invariant.zeros t s (record { from = is.from; below = omega (arith, is.below, is.from) })
       ];

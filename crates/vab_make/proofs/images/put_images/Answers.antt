@@ -1,5 +1,18 @@
 use Rattle.std.proofs.Common.{
-  ◌≡◌, ◌+◌, ◌*◌, ◌<◌, ◌≤◌, ℕ, List, length, get_or, take, refl, ap, ◌∙◌, arith
+  ◌≡◌,
+  ◌+◌,
+  ◌*◌,
+  ◌<◌,
+  ◌≤◌,
+  ℕ,
+  List,
+  length,
+  get_or,
+  take,
+  refl,
+  ap,
+  ◌∙◌,
+  arith,
 }
 use Rattle.vab_disk.specs.Calls.{IsBetween, InSectors}
 use Rattle.vab_disk.proofs.CallLaws.{touches_none, touches_then, touches_wider}
@@ -40,13 +53,19 @@ put_image-requires g c =
     let at : c.image-item.result ≡ get_or set c.loop-image.image-index c.image-item.result =
     c.image-item.is
     ∙ ap (λ (images : List SetImage). get_or images c.loop-image.image-index c.image-item.result)
-        c.as_slice-image-items.ensures in
+    c.as_slice-image-items.ensures in
     let size : c.blocks-count.result
-      ≡ blocks_of (get_or set c.loop-image.image-index c.image-item.result).size =
+    ≡ blocks_of (get_or set c.loop-image.image-index c.image-item.result).size =
     c.blocks-count.ensures.is ∙ ap (λ (x : SetImage). blocks_of x.size) at in
-    omega (arith, size, i.place, i.touches.quiet.size, c.requires.on_disk,
-    blocks_push set c.loop-image.image-index c.image-item.result lt,
-    blocks_within set (c.loop-image.image-index + 1))
+    omega (
+      arith,
+      size,
+      i.place,
+      i.touches.quiet.size,
+      c.requires.on_disk,
+      blocks_push set c.loop-image.image-index c.image-item.result lt,
+      blocks_within set (c.loop-image.image-index + 1),
+    )
 
 pub loop-image-preserved : goal.loop-image-preserved
 loop-image-preserved g c =
@@ -58,14 +77,18 @@ loop-image-preserved g c =
     let at : c.image-item.result ≡ get_or set c.loop-image.image-index c.image-item.result =
     c.image-item.is
     ∙ ap (λ (images : List SetImage). get_or images c.loop-image.image-index c.image-item.result)
-        c.as_slice-image-items.ensures in
+    c.as_slice-image-items.ensures in
     let size : c.blocks-count.result
-      ≡ blocks_of (get_or set c.loop-image.image-index c.image-item.result).size =
+    ≡ blocks_of (get_or set c.loop-image.image-index c.image-item.result).size =
     c.blocks-count.ensures.is ∙ ap (λ (x : SetImage). blocks_of x.size) at in
     record {
       place =
-          omega (arith, size, i.place,
-          blocks_push set c.loop-image.image-index c.image-item.result lt);
+          omega (
+            arith,
+            size,
+            i.place,
+            blocks_push set c.loop-image.image-index c.image-item.result lt,
+          );
       touches = touches_then g.D.Disk _ _ _ _ i.touches
           (touches_wider g.D.Disk _ _ _ _ c.put_image.ensures.touches
           (λ s b is.
@@ -89,9 +112,9 @@ returns-in_err-put_image-clause-touches g c =
     let at : c.image-item.result ≡ get_or set c.loop-image.image-index c.image-item.result =
     c.image-item.is
     ∙ ap (λ (images : List SetImage). get_or images c.loop-image.image-index c.image-item.result)
-        c.as_slice-image-items.ensures in
+    c.as_slice-image-items.ensures in
     let size : c.blocks-count.result
-      ≡ blocks_of (get_or set c.loop-image.image-index c.image-item.result).size =
+    ≡ blocks_of (get_or set c.loop-image.image-index c.image-item.result).size =
     c.blocks-count.ensures.is ∙ ap (λ (x : SetImage). blocks_of x.size) at in
     touches_then g.D.Disk _ _ _ _ i.touches
     (touches_wider g.D.Disk _ _ _ _ c.put_image.ensures.touches

@@ -10,7 +10,7 @@ pub store_table-requires-clause-on_disk : goal.store_table-requires-clause-on_di
 unfolding backup_of
 store_table-requires-clause-on_disk g c =
     let two : (c.args.geometry.now.slots + 0) * (c.args.geometry.now.max / 512)
-      ≡ 2 * (c.args.geometry.now.max / 512) =
+    ≡ 2 * (c.args.geometry.now.max / 512) =
     ap (λ (k : ℕ). (k + 0) * (c.args.geometry.now.max / 512)) c.requires.two in
     omega (arith, two, c.requires.most.most, c.requires.on_disk)
 

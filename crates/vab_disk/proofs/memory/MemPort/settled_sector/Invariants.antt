@@ -6,5 +6,5 @@ abbrev pub invariant-loop-call : goal.invariant-loop-call
 invariant-loop-call l = record {
   now : l.now ≡ seen_of l.self.count (reverse (take l.call-index l.self.calls.items)) l.at;
   settled : l.settled
-    ≡ settled_of l.self.count (reverse (take l.call-index l.self.calls.items)) l.at;
+      ≡ settled_of l.self.count (reverse (take l.call-index l.self.calls.items)) l.at;
 }
