@@ -65,9 +65,6 @@ range_more a (suc n) =
     let e : a + 1 + n ≡ a + suc n = omega arith in
     ap (λ (l : List ℕ). a ∷ l) (range_more (a + 1) n) ∙ ap (λ (k : ℕ). a ∷ (range_with_len (a + 1) n ++ k ∷ [])) e
 
-pub range_push : (a n : ℕ) → range_with_len a (n + 1) ≡ range_with_len a n ++ (a + n) ∷ []
-range_push a n = rw add-one (range_more a n)
-
 blocks_front : (n a : ℕ) (bytes : List ℕ) (image : Image) → HoldsBlocks n (6144 + 8 * a) bytes image → bytes_of image 2048 (range_with_len a n) ≡ filled_to n bytes
 unfolding bytes_of
 blocks_front zero a bytes image holds = let e : 0 - length bytes ≡ 0 = omega arith in sym (ap (λ (k : ℕ). take 0 bytes ++ replicate k 0) e)

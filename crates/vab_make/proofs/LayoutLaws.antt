@@ -23,12 +23,13 @@ use Rattle.vab_layout.specs.declared.layout.Layout.{Layout}
 use Rattle.vab_layout.specs.Layout.{table_of, blocks_of_parts}
 use Rattle.vab_layout.specs.Plain.{default_group}
 use Rattle.vab_layout.specs.Rules.{IsPart, IsLayout}
-use Rattle.vab_layout.specs.Runs.{runs_of}
-use Rattle.vab_layout.specs.RunLaws.{runs_of_range}
+use Rattle.vab_blocks.specs.Runs.{runs_of}
+use Rattle.vab_blocks.proofs.RunLaws.{runs_of_range}
 use Rattle.vab_layout.specs.Slots.{own_parts}
 use Rattle.vab_partitions.specs.Rules.{is_distinct, part_passes, bad_part}
-use Rattle.vab_partitions.specs.Distinct.{distinct_append, distinct_range, in_range}
-use Rattle.vab_partitions.specs.OwnLaws.{blocks_append, bad_next, bad_none}
+use Rattle.vab_blocks.proofs.Distinct.{distinct_append, distinct_range}
+use Rattle.vab_blocks.proofs.BlockLaws.{in_range}
+use Rattle.vab_partitions.proofs.OwnLaws.{blocks_append, bad_next, bad_none}
 use Rattle.vab_make.specs.Made.{main_group, parts_from, made_device, made_layout, set_blocks}
 use Rattle.vab_make.specs.Prepared.{HasRoom}
 

@@ -23,7 +23,7 @@ use Rattle.vab_set.specs.declared.set.SetImage.{SetImage}
 use Rattle.vab_set.specs.Spelling.{IsImage}
 use Rattle.vab_layout.specs.declared.layout.Layout.{Layout}
 use Rattle.vab_layout.specs.Layout.{layout_of, table_of}
-use Rattle.vab_layout.specs.LayoutLaws.{layout_again}
+use Rattle.vab_layout.proofs.LayoutLaws.{layout_again}
 use Rattle.vab_layout.specs.Slots.{own_parts}
 use Rattle.vab_model.specs.declared.state.Image.{Image as ImageOfSlot}
 use Rattle.vab_model.specs.declared.state.GroupLimit.{GroupLimit}

@@ -1,6 +1,5 @@
 // The layout of the device that is made.
 ghost use Rattle.std.specs.Prelude.{◌≡◌, ◌+◌, ◌*◌, ◌<◌, ◌≤◌, ◌^◌, ◌++◌, ◌∷◌, [], List, codes, IfOk, IfErr};
-ghost use Rattle.std.specs.List.{range_with_len};
 ghost use Rattle.vab_bytes.specs.Name.{IsName};
 ghost use Rattle.vab_names.specs.Names.{suffix_of};
 ghost use Rattle.vab_space.specs.Space.{blocks_of};
@@ -13,6 +12,7 @@ ghost use Rattle.vab_make.specs.Made.{main_group, parts_from, made_device, made_
 
 use crate::fault::MakeFault;
 use std::alloc::Global;
+use vab_blocks::Blocks;
 use vab_bytes::{Listing, Name36};
 use vab_layout::{Layout, Part};
 use vab_names::{default_group, full_name};
@@ -22,20 +22,6 @@ use vab_tables::{BlockDevice, Group};
 
 // The disk sector at which `super` begins.
 const SUPER: u64 = 4096;
-
-// So many blocks from this one on.
-#[tactic(auto, using(crate::proofs::BlockLaws::range_push))]
-fn blocks_from(alloc: Global, first: u64, count: u64) -> Result<Listing<u64>, MakeFault>
-    requires { first + count < 2 ^ 64 }
-    ensures blocks { IfOk result (λ l. l ≡ range_with_len first count) }
-    ensures memory { IfErr result (λ f. f ≡ NoMemory) }
-{
-    let mut blocks = Vec::new(alloc);
-    for i in 0..count {
-        blocks.push(first + i)?;
-    }
-    Ok(Listing::from_vec(blocks))
-}
 
 // A name that there is.
 fn named(text: &[u8]) -> Name36
@@ -84,7 +70,7 @@ fn part(alloc: Global, image: &SetImage, first: u64) -> Result<Part, MakeFault>
     ensures value { IfOk result (λ p. p ∷ [] ≡ parts_from first (image.now ∷ [])) }
     ensures memory { IfErr result (λ f. f ≡ NoMemory) }
 {
-    let blocks = blocks_from(alloc, first, blocks(image.size))?;
+    let blocks = Blocks::consecutive(alloc, first, blocks(image.size))?;
     Ok(Part {
         name: full_name(&image.name, 0),
         attributes: 1,

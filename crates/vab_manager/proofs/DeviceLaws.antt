@@ -19,7 +19,7 @@ use Rattle.vab_lpstore.specs.Loading as loading
 use Rattle.vab_layout.specs.Layout.{layout_of}
 use Rattle.vab_layout.specs.Slots.{own_parts}
 use Rattle.vab_partitions.specs.Rules.{bad_part}
-use Rattle.vab_partitions.specs.OwnRules.{none_bad}
+use Rattle.vab_partitions.proofs.OwnRules.{none_bad}
 use Rattle.vab_device.specs.Device.{mark_read, slot_in, control_read, control_in, geometry_read, geometry_at, layout_read, layout_at, state_of, judged, device, places, is_good}
 use Rattle.vab_device.proofs.DeviceLaws.{device_read, places_read, state_same, layout_behind}
 use Rattle.vab_recover.specs.declared.device.Device.{Device}

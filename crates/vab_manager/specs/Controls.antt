@@ -1,8 +1,13 @@
 -- Boot control written into its sector.
-use Rattle.std.specs.Prelude.{◌≡◌, ◌⊎◌, ℕ, List, Ok}
+use Rattle.std.specs.Prelude.{◌≡◌, ◌⊎◌, ℕ, ◌==◌, if◌then◌else◌, true, List, Ok, is_some}
 use Rattle.vab_disk.specs.Disk.{Image, Outcome, set_sector}
 use Rattle.vab_bootctl.specs.declared.slots.Control.{Control}
 use Rattle.vab_bootctl.specs.Control.{control_of, KeepsRest}
+use Rattle.vab_bootctl.specs.Boot.{activated_of, booted_of, marked_of}
+use Rattle.vab_model.specs.declared.command.Command.{Command}
+use Rattle.vab_model.specs.declared.command.Command.TheVariants.{SetActive, Boot, Mark, Print, Digest}
+use Rattle.vab_recover.specs.declared.device.Device.{Device}
+use Rattle.vab_manager.specs.StateLaws.{has_of_device}
 
 -- the new image is the old one with a sector of this boot control in its place; the bits of the sector that no field has stay
 abbrev pub HasControl : Control → Image → Image → Type 0
@@ -12,3 +17,20 @@ HasControl control old new = (sector : List ℕ) × (control_of sector ≡ Ok co
 pub record LeavesControl (told : List ℕ) (control : Control) (old : Image) (o : Outcome) : Type 0 where
   pub told_so_far : o.told ≡ told
   pub either : (o.image ≡ old) ⊎ HasControl control old o.image
+
+-- The boot control's sector with this boot control, and its other bits as these bytes have them.
+pub record IsControl (control : Control) (old : List ℕ) (s : ℕ) (b : List ℕ) : Type 0 where
+  pub at : s ≡ 4
+  pub control : control_of b ≡ Ok control
+  pub rest : KeepsRest old b
+
+-- What a command may write: the boot control that the boot rules make of the old one, of both slots.
+-- A slot without images isn't set active, and a question writes nothing.
+abbrev pub IsOfCommand : Device → List ℕ → Command → ℕ → List ℕ → Type 0
+IsOfCommand d old (SetActive slot) s b =
+    (is_some (if slot == 0 then d.a else d.b) ≡ true)
+    × IsControl (activated_of d.control slot) old s b
+IsOfCommand d old Boot s b = IsControl (booted_of d.control (has_of_device d)) old s b
+IsOfCommand d old Mark s b = IsControl (marked_of d.control) old s b
+IsOfCommand d old (Print name) s b = ⊥
+IsOfCommand d old (Digest name) s b = ⊥

@@ -1,9 +1,9 @@
 //! A block of an image.
 
-ghost use Rattle.std.specs.Prelude.{◌≡◌, ◌≤◌, ◌<◌, ◌^◌, length, slice_index, IsTrue, IfOk, IfErr, OnOk, OnErr};
+ghost use Rattle.std.specs.Prelude.{◌≡◌, ◌≤◌, ◌<◌, ◌^◌, length, slice_index, IsTrue, IfOk, IfErr, OnOk};
 ghost use Rattle.std.specs.Option.{option_copied, option_and_then};
-ghost use Rattle.vab_disk.specs.Calls.{OnlyReads};
-ghost use Rattle.vab_disk.specs.Disk.{Image, Adds, Nothing, SameHoldings, Quiet, Rose};
+ghost use Rattle.vab_disk.specs.Calls.{FailsWithDisk, OnlyReads};
+ghost use Rattle.vab_disk.specs.Disk.{Image};
 ghost use Rattle.vab_gate.specs.Gate.{sectors_at};
 ghost use Rattle.vab_names.specs.Names.{is_full, base_of};
 ghost use Rattle.vab_model.specs.declared.state.Image.{Image as ImageOfSlot};
@@ -70,7 +70,7 @@ pub fn read_block<D: Disk>(
     // which is that block of the image
     ensures bytes { D.is_modelled → OnOk result (IsBlockOf (state_on device.now (D.seen d.old)) slot name.now block out.new) }
     ensures reads { OnlyReads D.Disk d.old d.new }
-    ensures cause { OnErr result (Rose (D.faults d.old).disk (D.faults d.new).disk) }
+    ensures faults { FailsWithDisk D.Disk d.old d.new result }
 {
     match kept_part(device, slot, name) {
         Some(part) => read_at(d, &part.map, block, out),

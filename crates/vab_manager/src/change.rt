@@ -1,12 +1,14 @@
 //! Another boot control for a device.
 
-ghost use Rattle.std.specs.Prelude.{◌≡◌, ◌∷◌, [], true, IfOk, OnOk, OnErr};
-ghost use Rattle.vab_disk.specs.Disk.{IsSettled, Adds, Quiet, Rose};
+ghost use Rattle.std.specs.Prelude.{◌≡◌, ◌∷◌, [], true, IfOk, OnOk};
+ghost use Rattle.vab_disk.specs.Disk.{Adds};
+ghost use Rattle.vab_disk.specs.Calls.{FailsWithDisk, IsAtRest, IsQuiet, Touches};
 ghost use Rattle.vab_bootctl.specs.Control.{Fits};
 ghost use Rattle.vab_bootctl.specs.Boot.{info_at};
 ghost use Rattle.vab_device.specs.Device.{is_good, places};
 ghost use Rattle.vab_recover.specs.Stands.{state_on, Represents, IsDevice};
 ghost use Rattle.vab_manager.specs.StateLaws.{with_boot};
+ghost use Rattle.vab_manager.specs.Controls.{IsControl};
 ghost use Rattle.vab_manager.specs.Steps.{LeavesStep};
 
 use crate::control::put_control;
@@ -24,14 +26,24 @@ pub fn change<D: Disk>(d: &mut D, device: Device, control: Control) -> Result<De
     requires good { D.is_modelled → is_good (info_at control device.mark.slot) ≡ true }
     ensures device { IfOk result (λ r. r ≡ with_boot control device) }
     ensures kept { IfOk result (λ r. IsDevice r (D.size d.old)) }
-    ensures stands { D.is_modelled → IfOk result (λ r. Represents r (D.size d.old) (D.seen d.new)) }
-    ensures state { D.is_modelled → IfOk result (λ r. state_on r (D.seen d.new) ≡ state_on (with_boot control device) (D.seen d.old)) }
-    ensures places { D.is_modelled → OnOk result (places (D.size d.old) (D.seen d.new) ≡ places (D.size d.old) (D.seen d.old)) }
-    ensures settled { D.is_modelled → OnOk result (IsSettled (D.seen d.new) (D.may_leave d.new)) }
-    ensures quiet { Quiet D.is_modelled D.size D.told D.input_left D.heard D.faults d.old d.new }
-    ensures time { D.is_modelled → IsSettled (D.seen d.old) (D.may_leave d.old) → Adds D.moment D.outcomes d.old d.new
-        (LeavesStep (D.told d.old) (D.size d.old) (D.seen d.old) (state_on device (D.seen d.old) ∷ state_on (with_boot control device) (D.seen d.old) ∷ [])) }
-    ensures cause { OnErr result (Rose (D.faults d.old).disk (D.faults d.new).disk) }
+    ensures stands { D.is_modelled
+        → IfOk result (λ r. Represents r (D.size d.old) (D.seen d.new)) }
+    ensures state { D.is_modelled → IfOk result
+        (λ r. state_on r (D.seen d.new) ≡ state_on (with_boot control device) (D.seen d.old)) }
+    ensures places { D.is_modelled → OnOk result
+        (places (D.size d.old) (D.seen d.new) ≡ places (D.size d.old) (D.seen d.old)) }
+    ensures settled { D.is_modelled → OnOk result (IsAtRest D.Disk d.new) }
+    ensures quiet { IsQuiet D.Disk d.old d.new }
+    ensures touches { D.is_modelled
+        → Touches D.Disk (IsControl control (D.seen d.old 4)) d.old d.new }
+    ensures time { D.is_modelled
+        → IsAtRest D.Disk d.old
+        → Adds D.moment D.outcomes d.old d.new
+          (LeavesStep (D.told d.old) (D.size d.old) (D.seen d.old)
+            (state_on device (D.seen d.old)
+              ∷ state_on (with_boot control device) (D.seen d.old)
+              ∷ [])) }
+    ensures faults { FailsWithDisk D.Disk d.old d.new result }
 {
     match put_control(d, &control) {
         Ok(()) => Ok(Device { control, ..device }),

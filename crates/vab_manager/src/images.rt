@@ -1,10 +1,10 @@
 //! The images of a device.
 
-ghost use Rattle.std.specs.Prelude.{◌≡◌, ◌≤◌, ◌<◌, ◌+◌, length, MatchResult, IfOk, OnOk, OnErr, All, Ok, Err};
+ghost use Rattle.std.specs.Prelude.{◌≡◌, ◌≤◌, ◌<◌, ◌+◌, length, MatchResult, IfOk, All, Ok, Err};
 ghost use Rattle.std.specs.Option.{option_copied};
 ghost use Rattle.sha2.specs.Sha256.{sha256};
-ghost use Rattle.vab_disk.specs.Calls.{OnlyReads};
-ghost use Rattle.vab_disk.specs.Disk.{Image, Adds, Nothing, SameHoldings, Quiet, Rose};
+ghost use Rattle.vab_disk.specs.Calls.{FailsWithDisk, OnlyReads};
+ghost use Rattle.vab_disk.specs.Disk.{Image};
 ghost use Rattle.vab_model.specs.Step.{bytes_reply, digest_reply, found_of};
 ghost use Rattle.vab_recover.specs.Stands.{bytes_at, state_on, IsDevice};
 ghost use Rattle.vab_manager.specs.Found.{part_named, part_in, found_part};
@@ -75,7 +75,7 @@ fn digest_of<D: Disk>(d: &mut D, map: &Map) -> Result<[u8; 32], DiskFault>
     requires { All (λ s. s + 8 ≤ D.size d.old) map.now }
     ensures digest { D.is_modelled → IfOk result (λ h. h ≡ sha256 (bytes_at (D.seen d.old) map.now)) }
     ensures reads { OnlyReads D.Disk d.old d.new }
-    ensures cause { OnErr result (Rose (D.faults d.old).disk (D.faults d.new).disk) }
+    ensures faults { FailsWithDisk D.Disk d.old d.new result }
 {
     let mut hasher = Sha256::new();
     for block in 0..map.len() {
@@ -91,7 +91,7 @@ pub fn digest<D: Disk>(d: &mut D, device: &Device, name: &[u8]) -> Result<Reply,
     requires kept { IsDevice device.now (D.size d.old) }
     ensures reply { D.is_modelled → IfOk result (λ r. r ≡ digest_reply (found_of (state_on device.now (D.seen d.old)) name.now)) }
     ensures reads { OnlyReads D.Disk d.old d.new }
-    ensures cause { OnErr result (Rose (D.faults d.old).disk (D.faults d.new).disk) }
+    ensures faults { FailsWithDisk D.Disk d.old d.new result }
 {
     match find(device, name) {
         Err(refusal) => Ok(Reply::Refused(refusal)),

@@ -1,7 +1,8 @@
 //! The commands on slots.
 
-ghost use Rattle.std.specs.Prelude.{◌≡◌, ◌==◌, ◌∷◌, [], is_some, if◌then◌else◌, IfOk, OnOk, OnErr};
-ghost use Rattle.vab_disk.specs.Disk.{IsSettled, Adds, Quiet, Rose};
+ghost use Rattle.std.specs.Prelude.{◌≡◌, ◌==◌, ◌∷◌, [], is_some, if◌then◌else◌, IfOk, OnOk};
+ghost use Rattle.vab_disk.specs.Disk.{Adds};
+ghost use Rattle.vab_disk.specs.Calls.{FailsWithDisk, IsAtRest, IsQuiet, Touches};
 ghost use Rattle.vab_bootctl.specs.Control.{Fits};
 ghost use Rattle.vab_bootctl.specs.Boot.{activated_of};
 ghost use Rattle.vab_model.specs.declared.command.Command.TheVariants.{SetActive, Boot, Mark};
@@ -9,6 +10,7 @@ ghost use Rattle.vab_model.specs.Step.{state_by, reply_to, steps_by};
 ghost use Rattle.vab_device.specs.Device.{places};
 ghost use Rattle.vab_recover.specs.Stands.{state_on, Represents, IsDevice};
 ghost use Rattle.vab_manager.specs.StateLaws.{with_boot, has_of_device};
+ghost use Rattle.vab_manager.specs.Controls.{IsOfCommand};
 ghost use Rattle.vab_manager.specs.Steps.{LeavesStep};
 
 use crate::change::change;
@@ -52,15 +54,24 @@ pub fn set_active<D: Disk>(
     requires kept { IsDevice device (D.size d.old) }
     requires stands { D.is_modelled → Represents device (D.size d.old) (D.seen d.old) }
     ensures kept { IfOk result (λ r. IsDevice r.0 (D.size d.old)) }
-    ensures stands { D.is_modelled → IfOk result (λ r. Represents r.0 (D.size d.old) (D.seen d.new)) }
-    ensures state { D.is_modelled → IfOk result (λ r. state_on r.0 (D.seen d.new) ≡ state_by (state_on device (D.seen d.old)) (SetActive slot)) }
-    ensures reply { D.is_modelled → IfOk result (λ r. r.1 ≡ reply_to (state_on device (D.seen d.old)) (SetActive slot)) }
-    ensures places { D.is_modelled → OnOk result (places (D.size d.old) (D.seen d.new) ≡ places (D.size d.old) (D.seen d.old)) }
-    ensures settled { D.is_modelled → IsSettled (D.seen d.old) (D.may_leave d.old) → OnOk result (IsSettled (D.seen d.new) (D.may_leave d.new)) }
-    ensures quiet { Quiet D.is_modelled D.size D.told D.input_left D.heard D.faults d.old d.new }
-    ensures time { D.is_modelled → IsSettled (D.seen d.old) (D.may_leave d.old) → Adds D.moment D.outcomes d.old d.new
-        (LeavesStep (D.told d.old) (D.size d.old) (D.seen d.old) (steps_by (state_on device (D.seen d.old)) (SetActive slot))) }
-    ensures cause { OnErr result (Rose (D.faults d.old).disk (D.faults d.new).disk) }
+    ensures stands { D.is_modelled
+        → IfOk result (λ r. Represents r.0 (D.size d.old) (D.seen d.new)) }
+    ensures state { D.is_modelled → IfOk result
+        (λ r. state_on r.0 (D.seen d.new) ≡ state_by (state_on device (D.seen d.old)) (SetActive slot)) }
+    ensures reply { D.is_modelled → IfOk result
+        (λ r. r.1 ≡ reply_to (state_on device (D.seen d.old)) (SetActive slot)) }
+    ensures places { D.is_modelled → OnOk result
+        (places (D.size d.old) (D.seen d.new) ≡ places (D.size d.old) (D.seen d.old)) }
+    ensures settled { D.is_modelled → IsAtRest D.Disk d.old → OnOk result (IsAtRest D.Disk d.new) }
+    ensures quiet { IsQuiet D.Disk d.old d.new }
+    ensures touches { D.is_modelled
+        → Touches D.Disk (IsOfCommand device (D.seen d.old 4) (SetActive slot)) d.old d.new }
+    ensures time { D.is_modelled
+        → IsAtRest D.Disk d.old
+        → Adds D.moment D.outcomes d.old d.new
+          (LeavesStep (D.told d.old) (D.size d.old) (D.seen d.old)
+            (steps_by (state_on device (D.seen d.old)) (SetActive slot))) }
+    ensures faults { FailsWithDisk D.Disk d.old d.new result }
 {
     if !has_images(&device, slot) {
         return Ok((device, Reply::Refused(Refusal::NoImages)));
@@ -77,15 +88,24 @@ pub fn boot<D: Disk>(d: &mut D, device: Device) -> Result<(Device, Reply), DiskF
     requires kept { IsDevice device (D.size d.old) }
     requires stands { D.is_modelled → Represents device (D.size d.old) (D.seen d.old) }
     ensures kept { IfOk result (λ r. IsDevice r.0 (D.size d.old)) }
-    ensures stands { D.is_modelled → IfOk result (λ r. Represents r.0 (D.size d.old) (D.seen d.new)) }
-    ensures state { D.is_modelled → IfOk result (λ r. state_on r.0 (D.seen d.new) ≡ state_by (state_on device (D.seen d.old)) Boot) }
-    ensures reply { D.is_modelled → IfOk result (λ r. r.1 ≡ reply_to (state_on device (D.seen d.old)) Boot) }
-    ensures places { D.is_modelled → OnOk result (places (D.size d.old) (D.seen d.new) ≡ places (D.size d.old) (D.seen d.old)) }
-    ensures settled { D.is_modelled → IsSettled (D.seen d.old) (D.may_leave d.old) → OnOk result (IsSettled (D.seen d.new) (D.may_leave d.new)) }
-    ensures quiet { Quiet D.is_modelled D.size D.told D.input_left D.heard D.faults d.old d.new }
-    ensures time { D.is_modelled → IsSettled (D.seen d.old) (D.may_leave d.old) → Adds D.moment D.outcomes d.old d.new
-        (LeavesStep (D.told d.old) (D.size d.old) (D.seen d.old) (steps_by (state_on device (D.seen d.old)) Boot)) }
-    ensures cause { OnErr result (Rose (D.faults d.old).disk (D.faults d.new).disk) }
+    ensures stands { D.is_modelled
+        → IfOk result (λ r. Represents r.0 (D.size d.old) (D.seen d.new)) }
+    ensures state { D.is_modelled → IfOk result
+        (λ r. state_on r.0 (D.seen d.new) ≡ state_by (state_on device (D.seen d.old)) Boot) }
+    ensures reply { D.is_modelled → IfOk result
+        (λ r. r.1 ≡ reply_to (state_on device (D.seen d.old)) Boot) }
+    ensures places { D.is_modelled → OnOk result
+        (places (D.size d.old) (D.seen d.new) ≡ places (D.size d.old) (D.seen d.old)) }
+    ensures settled { D.is_modelled → IsAtRest D.Disk d.old → OnOk result (IsAtRest D.Disk d.new) }
+    ensures quiet { IsQuiet D.Disk d.old d.new }
+    ensures touches { D.is_modelled
+        → Touches D.Disk (IsOfCommand device (D.seen d.old 4) Boot) d.old d.new }
+    ensures time { D.is_modelled
+        → IsAtRest D.Disk d.old
+        → Adds D.moment D.outcomes d.old d.new
+          (LeavesStep (D.told d.old) (D.size d.old) (D.seen d.old)
+            (steps_by (state_on device (D.seen d.old)) Boot)) }
+    ensures faults { FailsWithDisk D.Disk d.old d.new result }
 {
     let has = [has_images(&device, 0), has_images(&device, 1)];
     let control = booted(&device.control, has);
@@ -100,15 +120,24 @@ pub fn mark<D: Disk>(d: &mut D, device: Device) -> Result<(Device, Reply), DiskF
     requires kept { IsDevice device (D.size d.old) }
     requires stands { D.is_modelled → Represents device (D.size d.old) (D.seen d.old) }
     ensures kept { IfOk result (λ r. IsDevice r.0 (D.size d.old)) }
-    ensures stands { D.is_modelled → IfOk result (λ r. Represents r.0 (D.size d.old) (D.seen d.new)) }
-    ensures state { D.is_modelled → IfOk result (λ r. state_on r.0 (D.seen d.new) ≡ state_by (state_on device (D.seen d.old)) Mark) }
-    ensures reply { D.is_modelled → IfOk result (λ r. r.1 ≡ reply_to (state_on device (D.seen d.old)) Mark) }
-    ensures places { D.is_modelled → OnOk result (places (D.size d.old) (D.seen d.new) ≡ places (D.size d.old) (D.seen d.old)) }
-    ensures settled { D.is_modelled → IsSettled (D.seen d.old) (D.may_leave d.old) → OnOk result (IsSettled (D.seen d.new) (D.may_leave d.new)) }
-    ensures quiet { Quiet D.is_modelled D.size D.told D.input_left D.heard D.faults d.old d.new }
-    ensures time { D.is_modelled → IsSettled (D.seen d.old) (D.may_leave d.old) → Adds D.moment D.outcomes d.old d.new
-        (LeavesStep (D.told d.old) (D.size d.old) (D.seen d.old) (steps_by (state_on device (D.seen d.old)) Mark)) }
-    ensures cause { OnErr result (Rose (D.faults d.old).disk (D.faults d.new).disk) }
+    ensures stands { D.is_modelled
+        → IfOk result (λ r. Represents r.0 (D.size d.old) (D.seen d.new)) }
+    ensures state { D.is_modelled → IfOk result
+        (λ r. state_on r.0 (D.seen d.new) ≡ state_by (state_on device (D.seen d.old)) Mark) }
+    ensures reply { D.is_modelled → IfOk result
+        (λ r. r.1 ≡ reply_to (state_on device (D.seen d.old)) Mark) }
+    ensures places { D.is_modelled → OnOk result
+        (places (D.size d.old) (D.seen d.new) ≡ places (D.size d.old) (D.seen d.old)) }
+    ensures settled { D.is_modelled → IsAtRest D.Disk d.old → OnOk result (IsAtRest D.Disk d.new) }
+    ensures quiet { IsQuiet D.Disk d.old d.new }
+    ensures touches { D.is_modelled
+        → Touches D.Disk (IsOfCommand device (D.seen d.old 4) Mark) d.old d.new }
+    ensures time { D.is_modelled
+        → IsAtRest D.Disk d.old
+        → Adds D.moment D.outcomes d.old d.new
+          (LeavesStep (D.told d.old) (D.size d.old) (D.seen d.old)
+            (steps_by (state_on device (D.seen d.old)) Mark)) }
+    ensures faults { FailsWithDisk D.Disk d.old d.new result }
 {
     let control = marked(&device.control);
     match change(d, device, control) {

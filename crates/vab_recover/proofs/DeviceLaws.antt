@@ -20,7 +20,7 @@ use Rattle.vab_layout.specs.declared.layout.Part.{Part as PartOfLayout}
 use Rattle.vab_layout.specs.declared.layout.Layout.{Layout}
 use Rattle.vab_layout.specs.Layout.{layout_of, blocks_of_parts}
 use Rattle.vab_layout.specs.Rules.{IsPart as IsPartOfLayout, IsLayout}
-use Rattle.vab_layout.specs.LayoutLaws.{layout_keeps}
+use Rattle.vab_layout.proofs.LayoutLaws.{layout_keeps}
 use Rattle.vab_layout.specs.Slots.{own_parts, IsOwn, IsDistinct}
 use Rattle.vab_device.specs.Device.{copies_end, super_bytes, lies_in}
 use Rattle.vab_recover.specs.declared.device.Part.{Part}

@@ -3,7 +3,7 @@
 ghost use Rattle.std.specs.Prelude.{◌≡◌, ◌<◌, ◌≤◌, ◌+◌, ◌^◌, length, IfOk, OnErr, Err, IsTrue, true};
 ghost use Rattle.vab_names.specs.Names.{is_base, base_of, is_of_slot};
 ghost use Rattle.vab_tables.specs.Rules.{KeepsRules, IsPartition, IsGroup};
-ghost use Rattle.vab_blocks.specs.Blocks.{extents_of, first_sector_of};
+ghost use Rattle.vab_blocks.specs.Blocks.{first_sector_of};
 ghost use Rattle.vab_layout.specs.Layout.{layout_of, part_of, group_at, blocks_of_partition};
 ghost use Rattle.vab_layout.specs.Slots.{IsOwn};
 ghost use Rattle.vab_device.specs.Device.{limits_of};
@@ -17,19 +17,7 @@ use vab_geometry::SUPER;
 use vab_linear::Map;
 use vab_model::GroupLimit;
 use vab_names::{base_of, is_of_slot, parse_base};
-use vab_tables::{Extent, Group, Partition, Table};
-
-// The extents of a partition of the table.
-fn extents<'a>(table: &'a Table, partition: &Partition) -> &'a [Extent]
-    requires { 0 < (partition.now).extent_count → (partition.now).first_extent + (partition.now).extent_count ≤ length (table.now).extents }
-    ensures { result.now ≡ extents_of table.now partition.now }
-{
-    if partition.extent_count == 0 {
-        return &[];
-    }
-    let from = partition.first_extent as usize;
-    &table.extents.as_slice()[from..from + partition.extent_count as usize]
-}
+use vab_tables::{Group, Partition, Table};
 
 // Where the blocks of a partition stand on the disk.
 fn map(alloc: Global, table: &Table, partition: &Partition) -> Result<Map, StartFault>
@@ -40,7 +28,7 @@ fn map(alloc: Global, table: &Table, partition: &Partition) -> Result<Map, Start
     ensures fault { OnErr result (result ≡ Err StartFault.NoMemory) }
 {
     let mut runs = Vec::new(alloc);
-    for extent in extents(table, partition) {
+    for extent in table.extents_of(partition) {
         runs.push((SUPER + extent.first_sector, extent.sectors))?;
     }
     Ok(Map::new(alloc, &runs)?)

@@ -137,7 +137,13 @@ fn blocks(alloc: Global, table: &Table, name: &[u8]) -> Result<Vec<u64>, Fail>
     let layout = Layout::of_table(alloc, table)?;
     for part in layout.parts.as_slice() {
         if part.name.text() == name {
-            return Ok(part.blocks.as_slice().to_vec(alloc)?);
+            let mut all = Vec::new(alloc);
+            for run in part.blocks.runs() {
+                for i in 0..run.1 {
+                    all.push(run.0.wrapping_add(i))?;
+                }
+            }
+            return Ok(all);
         }
     }
     Ok(Vec::new(alloc))

@@ -6,7 +6,7 @@ use Rattle.vab_tables.specs.Spelling.{table_size_of, as_minor_2}
 use Rattle.vab_layout.specs.declared.layout.Layout.{Layout}
 use Rattle.vab_layout.specs.Rules.{IsLayout}
 use Rattle.vab_layout.specs.Layout.{table_of}
-use Rattle.vab_layout.specs.Runs.{runs_of}
+use Rattle.vab_blocks.specs.Runs.{runs_of}
 use Rattle.vab_make.specs.Made.{made_layout, set_text_size}
 use Rattle.vab_make.specs.Prepared.{HasRoom}
 use Rattle.vab_make.proofs.LayoutLaws.{layout_keeps, runs_few, minor_2}

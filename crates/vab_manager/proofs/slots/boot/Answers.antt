@@ -1,6 +1,8 @@
 use Rattle.std.proofs.Common.{◌≡◌, ◌∷◌, [], Bool, sym, ◌∙◌, ap, subst}
 use Rattle.std.specs.Prelude.{is_some}
 use Rattle.vab_disk.specs.Disk.{Adds}
+use Rattle.vab_disk.specs.Calls.{Touches}
+use Rattle.vab_manager.specs.Controls.{IsControl}
 use Rattle.vab_bootctl.specs.declared.slots.Control.{Control}
 use Rattle.vab_bootctl.specs.Boot.{info_at, booted_of}
 use Rattle.vab_model.specs.declared.state.State.{State}
@@ -39,3 +41,19 @@ returns-in-Err-clause-time g c = λ tells settled.
     let s : State = state_on c.args.device (g.D.Disk.seen c.args.d.now) in
     subst (λ (x : State). Adds g.D.Disk.moment g.D.Disk.outcomes c.args.d.now c.change.new.d (LeavesStep (g.D.Disk.told c.args.d.now) (g.D.Disk.size c.args.d.now) (g.D.Disk.seen c.args.d.now) (s ∷ x ∷ [])))
     (ap (λ (k : Control). state_on (with_boot k c.args.device) (g.D.Disk.seen c.args.d.now)) (c.booted-control.ensures.exact ∙ has_is c.args.device c.has_images.result c.has_images-2.result c.has_images.ensures c.has_images-2.ensures) ∙ sym (booted_state c.args.device (g.D.Disk.seen c.args.d.now))) (c.in-Err.ensures.time tells settled)
+
+pub returns-in-Ok-clause-touches : goal.returns-in-Ok-clause-touches
+returns-in-Ok-clause-touches g c = λ t.
+    subst
+    (λ (k : Control). Touches g.D.Disk (IsControl k (g.D.Disk.seen c.args.d.now 4)) c.args.d.now c.change.new.d)
+    (c.booted-control.ensures.exact
+    ∙ has_is c.args.device c.has_images.result c.has_images-2.result c.has_images.ensures c.has_images-2.ensures)
+    (c.change.ensures.touches t)
+
+pub returns-in-Err-clause-touches : goal.returns-in-Err-clause-touches
+returns-in-Err-clause-touches g c = λ t.
+    subst
+    (λ (k : Control). Touches g.D.Disk (IsControl k (g.D.Disk.seen c.args.d.now 4)) c.args.d.now c.change.new.d)
+    (c.booted-control.ensures.exact
+    ∙ has_is c.args.device c.has_images.result c.has_images-2.result c.has_images.ensures c.has_images-2.ensures)
+    (c.change.ensures.touches t)

@@ -1,5 +1,8 @@
 use Rattle.std.proofs.Common.{◌∷◌, [], sym, ◌∙◌, ap, subst}
 use Rattle.vab_disk.specs.Disk.{Adds}
+use Rattle.vab_disk.specs.Calls.{Touches}
+use Rattle.vab_disk.proofs.CallLaws.{touches_none, touches_wider}
+use Rattle.vab_manager.specs.Controls.{IsControl}
 use Rattle.vab_bootctl.specs.declared.slots.Control.{Control}
 use Rattle.vab_bootctl.specs.Boot.{info_at}
 use Rattle.vab_model.specs.declared.state.State.{State}
@@ -39,3 +42,26 @@ returns-in-Err-clause-time g c = λ tells settled.
     let s : State = state_on c.args.device (g.D.Disk.seen c.args.d.now) in
     subst (λ (x : State). Adds g.D.Disk.moment g.D.Disk.outcomes c.args.d.now c.change.new.d (LeavesStep (g.D.Disk.told c.args.d.now) (g.D.Disk.size c.args.d.now) (g.D.Disk.seen c.args.d.now) (s ∷ x ∷ [])))
     (ap (λ (k : Control). state_on (with_boot k c.args.device) (g.D.Disk.seen c.args.d.now)) (c.activated_at-control.ensures.value) ∙ sym (set_state c.args.device (g.D.Disk.seen c.args.d.now) c.args.slot (sym c.has_images.ensures ∙ c.if-not-has_images.false))) (c.in-Err.ensures.time tells settled)
+
+pub returns-then-not-has_images-clause-touches : goal.returns-then-not-has_images-clause-touches
+returns-then-not-has_images-clause-touches g c = λ t. touches_none g.D.Disk _ _
+
+pub returns-in-Ok-clause-touches : goal.returns-in-Ok-clause-touches
+returns-in-Ok-clause-touches g c = λ t.
+    let has = sym c.has_images.ensures ∙ c.if-not-has_images.false in
+    touches_wider g.D.Disk _ _ _ _
+    (subst
+    (λ (k : Control). Touches g.D.Disk (IsControl k (g.D.Disk.seen c.args.d.now 4)) c.args.d.now c.change.new.d)
+    c.activated_at-control.ensures.value
+    (c.change.ensures.touches t))
+    (λ s b is. (has, is))
+
+pub returns-in-Err-clause-touches : goal.returns-in-Err-clause-touches
+returns-in-Err-clause-touches g c = λ t.
+    let has = sym c.has_images.ensures ∙ c.if-not-has_images.false in
+    touches_wider g.D.Disk _ _ _ _
+    (subst
+    (λ (k : Control). Touches g.D.Disk (IsControl k (g.D.Disk.seen c.args.d.now 4)) c.args.d.now c.change.new.d)
+    c.activated_at-control.ensures.value
+    (c.change.ensures.touches t))
+    (λ s b is. (has, is))
