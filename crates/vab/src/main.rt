@@ -38,12 +38,7 @@ fn open_port(rt: &HostRuntime, word: &str) -> Result<FilePort<Stdin, Stdout>, u8
     match parse_device(word) {
         Device::Memory(sectors) => {
             let sectors = u64::from(sectors);
-            Ok(FilePort::zeroed(
-                rt.alloc(),
-                sectors,
-                rt.stdin(),
-                rt.stdout(),
-            ))
+            Ok(FilePort::zeroed(rt.alloc(), sectors, rt.stdin(), rt.stdout()))
         }
         Device::File(path) => match FilePort::open(rt, path, rt.stdin(), rt.stdout()) {
             Ok(port) => Ok(port),
