@@ -11,7 +11,8 @@ use std::collections::BTreeMap;
 #[derive(Drop)]
 pub(crate) struct Pages {
     pub(crate) sectors: u64,
-    pub(crate) written: BTreeMap<u64, [u8; 512]>,
+    pub(crate) alloc: Global,
+    pub(crate) written: BTreeMap<u64, Box<[u8; 512]>>,
     ghost small: { sectors < 2 ^ 55 },
 }
 
@@ -26,6 +27,7 @@ impl Pages {
     {
         Pages {
             sectors,
+            alloc,
             written: BTreeMap::new(alloc),
         }
     }
@@ -35,7 +37,7 @@ impl Pages {
         ensures { out.new ≡ image_of self.now at }
     {
         *out = match self.written.get(&at) {
-            Some(bytes) => *bytes,
+            Some(bytes) => **bytes,
             None => [0; 512],
         };
     }
@@ -48,7 +50,12 @@ impl Pages {
         ensures sectors { self.new.sectors ≡ self.old.sectors }
         ensures absent { OnErr result (get nat_cmp self.old.written at ≡ None) }
     {
-        self.written.insert(at, *from)?;
+        if let Some(bytes) = self.written.get_mut(&at) {
+            **bytes = *from;
+            return Ok(());
+        }
+        let bytes = Box::new(self.alloc, *from)?;
+        self.written.insert(at, bytes)?;
         Ok(())
     }
 }
