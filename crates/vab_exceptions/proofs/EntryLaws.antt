@@ -219,7 +219,12 @@ pub length-bytes_of : (es : List Exception) → length (bytes_of es) ≡ 16 * le
 unfolding bytes_of
 length-bytes_of [] = refl
 length-bytes_of (x ∷ es) =
-    omega (arith, length-append (entry_bytes x) (bytes_of es), length-entry_bytes x, length-bytes_of es)
+    omega (
+      arith,
+      length-append (entry_bytes x) (bytes_of es),
+      length-entry_bytes x,
+      length-bytes_of es,
+    )
 
 -- a piece that is put where the zeros begin
 put_tail : (xs : List ℕ) (at m : ℕ) (piece : List ℕ)
@@ -275,8 +280,10 @@ drop-entries (e ∷ es) zs (suc i) d below =
       later.0,
       ap (λ (n : ℕ). drop n (entry_bytes e ++ bytes_of es ++ zs)) steps
           ∙ sym (drop-drop (16 * i) 16 (entry_bytes e ++ bytes_of es ++ zs))
-          ∙ ap (λ (l : List ℕ). drop (16 * i) (drop 16 l)) (append_assoc (entry_bytes e) (bytes_of es) zs)
-          ∙ ap (drop (16 * i)) (drop_at (entry_bytes e) (bytes_of es ++ zs) 16 (length-entry_bytes e))
+          ∙ ap (λ (l : List ℕ). drop (16 * i) (drop 16 l))
+          (append_assoc (entry_bytes e) (bytes_of es) zs)
+          ∙ ap (drop (16 * i))
+          (drop_at (entry_bytes e) (bytes_of es ++ zs) 16 (length-entry_bytes e))
           ∙ later.1,
     )
 
@@ -300,8 +307,10 @@ entry_at-bytes size es i d below fits =
     ∙ ap (drop 8) (from.1 ∙ append_assoc old new from.0)
     ∙ drop_at old (new ++ from.0) 8 refl)
     ∙ take_at new from.0 8 refl in
-    let is_old = ap (from_le_bytes w64) first ∙ from_le_bytes-to_le_bytes_8 e.old_chunk fits.old_chunk in
-    let is_new = ap (from_le_bytes w64) second ∙ from_le_bytes-to_le_bytes_8 e.new_chunk fits.new_chunk in
+    let is_old = ap (from_le_bytes w64) first
+    ∙ from_le_bytes-to_le_bytes_8 e.old_chunk fits.old_chunk in
+    let is_new = ap (from_le_bytes w64) second
+    ∙ from_le_bytes-to_le_bytes_8 e.new_chunk fits.new_chunk in
     (λ j. record { old_chunk = is_old j; new_chunk = is_new j })
 
 -- behind them the list ends

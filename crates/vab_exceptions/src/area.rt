@@ -37,8 +37,8 @@ fn entry_at(bytes: &[u8; 4096], i: usize) -> Exception
     }
 }
 
-/// The entries of an area up to the first whose new chunk is 0, which ends the list. An entry is its
-/// old chunk and its new chunk, in eight bytes each, the low byte first.
+/// The entries of an area up to the first whose new chunk is 0, which ends the list. An entry is
+/// its old chunk and its new chunk, in eight bytes each, the low byte first.
 pub fn decode_area(bytes: &[u8; 4096]) -> Area
     ensures { result.items ≡ area_of area_entries bytes.now }
 {

@@ -25,9 +25,9 @@ pub enum HeaderFault {
     BadChunk,
 }
 
-/// Whether this sector begins an exception store: four numbers of four bytes, the low byte first,
-/// namely the magic, whether it is valid, the version 1, and the chunk size in sectors, 8. The first
-/// fault in this order is told. Bytes behind them are not looked at.
+/// Whether this sector begins an exception store: four numbers of four bytes, the low byte first.
+/// They are the magic, whether the store is valid, the version 1, and the chunk size in sectors, 8.
+/// The first fault in this order is told. Bytes behind them are not looked at.
 pub fn decode_store_header(bytes: &[u8; 512]) -> Result<(), HeaderFault>
     ensures { result ≡ header_of bytes.now }
 {

@@ -95,7 +95,8 @@ unfolding entry_at
 entry_here bytes i room =
     let zeros = to_le_bytes w64 0 in
     let mid : List ℕ = put_at bytes (16 * i) zeros in
-    let same : length mid ≡ length bytes = length-put_at bytes (16 * i) zeros (omega (arith, room)) in
+    let same : length mid ≡ length bytes =
+    length-put_at bytes (16 * i) zeros (omega (arith, room)) in
     let old : field (put_entry bytes i no_exception) (16 * i) 8 ≡ zeros =
     field-put_at_below mid (16 * i + 8) zeros (16 * i) 8 (omega (arith, room, same)) (omega arith)
     ∙ field-put_at_same bytes (16 * i) 8 zeros (omega (arith, room)) refl in
@@ -126,15 +127,18 @@ cleared_more from i old mid new long below over is written =
     record {
       long = ap length written ∙ length-put_entry mid i no_exception room ∙ is.long;
       kept = λ j inside out.
-          let other : j ≢ i = λ same. ⊎_elim (λ before. omega (arith, same, before, over)) (λ behind. omega (arith, same, behind)) out in
+          let other : j ≢ i = λ same. ⊎_elim (λ before. omega (arith, same, before, over))
+          (λ behind. omega (arith, same, behind)) out in
           ap (λ (b : List ℕ). entry_at b j) written
           ∙ entry_there mid i j no_exception room other
-          ∙ is.kept j inside (⊎_elim (λ before. inl before) (λ behind. inr (omega (arith, behind))) out);
+          ∙ is.kept j inside (⊎_elim (λ before. inl before)
+          (λ behind. inr (omega (arith, behind))) out);
       gone = λ j from_j to_j.
           ap (λ (b : List ℕ). entry_at b j) written
           ∙ elim (cases_eq j i) [
             | inl same ↦
-                subst (λ (k : ℕ). entry_at (put_entry mid i no_exception) k ≡ no_exception) (sym same)
+                subst (λ (k : ℕ). entry_at (put_entry mid i no_exception) k ≡ no_exception)
+                (sym same)
                 (entry_here mid i room)
             | inr other ↦
                 entry_there mid i j no_exception room other
@@ -150,7 +154,8 @@ pub cleared_at : (first end n from to : ℕ) (old new : List ℕ)
     → IsCleared from to old new
     → IsClearedAt first end n old new
 cleared_at first end n from to old new from_is to_is is =
-    subst (λ (k : ℕ). IsCleared k (min (end_of first end - sector_entries * n) sector_entries) old new) from_is
+    subst (λ (k : ℕ). IsCleared k
+    (min (end_of first end - sector_entries * n) sector_entries) old new) from_is
     (subst (λ (k : ℕ). IsCleared from k old new) to_is is)
 
 pub here_is : (old new : Image) (at n : ℕ) (bytes : List ℕ) (begin : ℕ)
@@ -182,7 +187,8 @@ pub touches_clearing : {D : Type 0} (g : Ghosts D) (store : List ℕ) (first end
 touches_clearing {D} g store first end n at was bytes start before mid new so_far read same more at_is them cleared =
     record {
       quiet = quiet_then g start mid new so_far.quiet more.quiet;
-      seen = λ t. same_then W (g.seen start) (g.seen mid) (g.seen new) (so_far.seen t) ((wide t).seen t);
+      seen = λ t. same_then W (g.seen start) (g.seen mid) (g.seen new) (so_far.seen t)
+          ((wide t).seen t);
       crash = λ t. (joined t).crash t;
       time = λ t. (joined t).time t;
     }
@@ -190,7 +196,8 @@ touches_clearing {D} g store first end n at was bytes start before mid new so_fa
     W : ℕ → List ℕ → Type 0
     W = IsClearing store first end (g.seen start)
 
-    one : g.is_modelled → (s : ℕ) (b : List ℕ) → IsAt (at + n) bytes s b → IsClearing store first end (g.seen start) s b
+    one : g.is_modelled → (s : ℕ) (b : List ℕ) → IsAt (at + n) bytes s b
+        → IsClearing store first end (g.seen start) s b
     one t s b is =
         let here : s ≡ area_sector store first + n = omega (arith, is.0, at_is) in
         let old : was ≡ g.seen start s =
@@ -206,7 +213,9 @@ touches_clearing {D} g store first end n at was bytes start before mid new so_fa
         }
 
     wide : g.is_modelled → Touches g (IsClearing store first end (g.seen start)) mid new
-    wide t = touches_wider g (IsClearing store first end (g.seen start)) (IsAt (at + n) bytes) mid new more (one t)
+    wide t = touches_wider g (IsClearing store first end (g.seen start))
+        (IsAt (at + n) bytes) mid new more (one t)
 
     joined : g.is_modelled → Touches g (IsClearing store first end (g.seen start)) start new
-    joined t = touches_then g (IsClearing store first end (g.seen start)) start mid new so_far (wide t)
+    joined t = touches_then g (IsClearing store first end (g.seen start)) start mid new so_far
+        (wide t)

@@ -106,7 +106,8 @@ copied_more base store es first n old mid new bytes may behind within but copied
           let a : ℕ = (exception_at es j).old_chunk in
           let other : a ≢ b = (may.fits.once j n before within).old_chunk in
           chunk_there base mid new b a bytes
-          (apart_of base a b may.apart (old_below base store es j may (omega (arith, before, within)))
+          (apart_of base a b may.apart
+          (old_below base store es j may (omega (arith, before, within)))
           b_below other)
           written
           ∙ copied j from before

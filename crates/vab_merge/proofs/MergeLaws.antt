@@ -150,7 +150,8 @@ module _ (base store : List ℕ) (es : List Exception) (size first : ℕ) (old m
       ⊎_elim (λ same. same)
       (λ cleared.
       let k : ℕ = area_chunk area_entries (first / 256) in
-      let at = clearing_between store first (length es) mid s (new s) ready.some ready.one_area cleared in
+      let at = clearing_between store first (length es) mid s
+      (new s) ready.some ready.one_area cleared in
       ⊎_elim
       (λ before. absurd (omega (arith, before, at.from)))
       (λ behind. absurd (omega (arith, behind, at.below)))
@@ -166,7 +167,8 @@ module _ (base store : List ℕ) (es : List Exception) (size first : ℕ) (old m
       ⊎_elim (λ same. same)
       (λ cleared.
       let k : ℕ = area_chunk area_entries (first / 256) in
-      let at = clearing_between store first (length es) mid s (new s) ready.some ready.one_area cleared in
+      let at = clearing_between store first (length es) mid s
+      (new s) ready.some ready.one_area cleared in
       ⊎_elim
       (λ before. absurd (omega (arith, before, at.from)))
       (λ behind. absurd (omega (arith, behind, at.below)))
@@ -203,7 +205,8 @@ module _ (base store : List ℕ) (es : List Exception) (size first : ℕ) (old m
       (λ cleared.
       let same_sector : cleared.sector ≡ i = omega (arith, cleared.here) in
       let done : IsClearedAt first (length es) i (mid (at + i)) (new (at + i)) =
-      subst (λ (n : ℕ). IsClearedAt first (length es) n (mid (at + i)) (new (at + i))) same_sector cleared.cleared in
+      subst (λ (n : ℕ). IsClearedAt first (length es) n (mid (at + i))
+      (new (at + i))) same_sector cleared.cleared in
       elim (cases_lt t first) [
         | inl before ↦
             inl (now ∙ done.kept j (omega arith) (inl (omega (arith, before, one))) ∙ sym was)
@@ -212,10 +215,12 @@ module _ (base store : List ℕ) (es : List Exception) (size first : ℕ) (old m
               inr (
                 behind,
                 inside,
-                now ∙ done.gone j (omega (arith, behind, one, ready.some)) (omega (arith, inside, behind, one, ready.some)),
+                now ∙ done.gone j (omega (arith, behind, one, ready.some))
+                    (omega (arith, inside, behind, one, ready.some)),
               )
           | inr past ↦
-              inl (now ∙ done.kept j (omega arith) (inr (omega (arith, past, one, ready.some))) ∙ sym was)
+              inl (now ∙ done.kept j (omega arith) (inr (omega (arith, past, one, ready.some)))
+              ∙ sym was)
         ]
       ])
       (blend (at + i))
@@ -258,7 +263,8 @@ module _ (base store : List ℕ) (es : List Exception) (size first : ℕ) (old m
       → (f : ℕ) × EndsNow f
   find_end zero t sum from so_far =
       let last : t ≡ length es = omega (arith, sum) in
-      let same : slot_at area_entries store new (length es) ≡ slot_at area_entries store mid (length es) =
+      let same : slot_at area_entries store new (length es) ≡ slot_at area_entries store mid
+      (length es) =
       ⊎_elim (λ same. same) (λ zeroed. absurd (omega (arith, zeroed.1)))
       (slot_either (length es) ready.scan.fits.room) in (
         length es,
@@ -341,7 +347,8 @@ module _ (base store : List ℕ) (es : List Exception) (size first : ℕ) (old m
             ∙ mid_scan.header;
         reads = λ t below.
             let lt : t < f = omega (arith, below, long) in
-            ends.before t lt ∙ mid_scan.reads t (omega (arith, lt, ends.within)) ∙ sym (take-at es f t lt);
+            ends.before t lt ∙ mid_scan.reads t (omega (arith, lt, ends.within))
+            ∙ sym (take-at es f t lt);
         stops = ap (λ (n : ℕ). (slot_at area_entries store new n).new_chunk) long ∙ ends.stops;
       } in
       record {

@@ -53,7 +53,8 @@ run_ends per es most n first is le some at apart = record {
   longest = λ k k_le run. elim (cases_lt n k) [
     | inr fine ↦ fine
     | inl more ↦
-        absurd (apart (run.joined first (omega (arith, at, more, run.within)) (omega (arith, at, more, some, run.within))))
+        absurd (apart (run.joined first (omega (arith, at, more, run.within))
+        (omega (arith, at, more, some, run.within))))
   ];
 }
 

@@ -44,7 +44,8 @@ pub one_area : (es : List Exception) (n : ℕ)
     → (length es - n) / 256 ≡ (length es - 1) / 256
 one_area es n run some =
     let last : length es - n + (n - 1) ≡ length es - 1 = omega (arith, some, run.within) in
-    area_chain es n (length es - n) (n - 1) run (omega (arith, run.within)) (omega (arith, some, run.within))
+    area_chain es n (length es - n) (n - 1) run (omega (arith, run.within))
+    (omega (arith, some, run.within))
     ∙ ap (λ (k : ℕ). k / 256) last
 
 pub area_there : (bound : ℕ) (store : List ℕ) (es : List Exception) (first : ℕ)
@@ -101,7 +102,8 @@ cleared_sector base store es n s image b run some is =
             place = j;
             within = inside;
             may_run = record {
-              run = run_fewer area_entries es n (length es - j) run (omega (arith, behind, within_run));
+              run = run_fewer area_entries es n (length es - j) run
+                  (omega (arith, behind, within_run));
               at_most = omega (arith, behind, within_run);
             };
             here = inr (is.here
@@ -205,7 +207,8 @@ module _ {D : Type 0} (g : Ghosts D) (base store : List ℕ) (es : List Exceptio
       → Adds g.moment g.outcomes old new (LeavesMerged base store es n (g.told old) (g.seen old))
   time_merged old mid new t some can rest scanned touches copied whole mid_rest cleared =
       let ready = ready_of old mid t some can scanned touches copied whole in
-      let more : Adds g.moment g.outcomes mid new (LeavesMerged base store es n (g.told old) (g.seen old)) =
+      let more : Adds g.moment g.outcomes mid new
+      (LeavesMerged base store es n (g.told old) (g.seen old)) =
       adds_wider g.moment g.outcomes mid new _ _ (cleared.time t)
       (λ o leaves.
       let kept = clear_keeps base store es (g.size old) (length es - n) (g.seen old) (g.seen mid)
@@ -244,7 +247,8 @@ module _ {D : Type 0} (g : Ghosts D) (base store : List ℕ) (es : List Exceptio
 
 -- ---- a run within more
 
-pub leaves_more : {D : Type 0} (g : Ghosts D) (base store : List ℕ) (es : List Exception) (n most : ℕ)
+pub leaves_more : {D : Type 0} (g : Ghosts D) (base store : List ℕ) (es : List Exception)
+    (n most : ℕ)
     (old new : D)
     → n ≤ most
     → Adds g.moment g.outcomes old new (LeavesMerged base store es n (g.told old) (g.seen old))

@@ -41,7 +41,8 @@ sector_on (suc n) image at k all below =
       | inl before ↦
           let so_far = sector_on n image at k front before in (
             so_far.0 ++ image (at + n),
-            drop-append-le (512 * k) (sectors_at n image at) (image (at + n)) (omega (arith, long, before))
+            drop-append-le (512 * k) (sectors_at n image at) (image (at + n))
+                (omega (arith, long, before))
                 ∙ ap (λ (l : List ℕ). l ++ image (at + n)) so_far.1
                 ∙ append_assoc (image (at + k)) so_far.0 (image (at + n)),
           )
@@ -87,7 +88,8 @@ entry_in n image at k j all below inside =
     ∙ ap (from_le_bytes w64) (number_in n image at k (16 * j) all below (omega (arith, inside))) in
     let new =
     ap (λ (i : ℕ). from_le_bytes w64 (field b i 8)) second
-    ∙ ap (from_le_bytes w64) (number_in n image at k (16 * j + 8) all below (omega (arith, inside))) in
+    ∙ ap (from_le_bytes w64)
+    (number_in n image at k (16 * j + 8) all below (omega (arith, inside))) in
     (λ i. record { old_chunk = old i; new_chunk = new i })
 
 -- the t-th entry of a store, in its sector

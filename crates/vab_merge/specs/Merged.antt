@@ -29,14 +29,15 @@ pub record WithoutLast (base store : List ℕ) (es : List Exception) (n : ℕ) (
   pub scanned : scan_of store (length base) new ≡ Ok (take (length es - n) es)
   pub same : (block : ℕ)
       → block < length base
-      → view_block base store (take (length es - n) es) new block ≡ view_block base store es old block
+      → view_block base store
+      (take (length es - n) es) new block ≡ view_block base store es old block
 
 -- So many of the last exceptions may be merged together.
 pub record MayRun (es : List Exception) (most n : ℕ) : Type 0 where
   pub run : IsRun area_entries es n
   pub at_most : n ≤ most
 
--- With nothing more told, a scan lacks some of the last exceptions that are merged together, or none.
+-- With nothing more told, a scan lacks some of the last exceptions of a run, or none.
 pub record LeavesMerged
     (base store : List ℕ)
     (es : List Exception)

@@ -30,7 +30,8 @@ fn clear_sector(sector: &mut [u8; 512], from: usize, to: usize)
     }
 }
 
-/// Zeroes the entries from `first` up to `end` of one area, in their sectors alone, and doesn't sync.
+/// Zeroes the entries from `first` up to `end` of one area, in their sectors alone, and doesn't
+/// sync.
 pub(crate) fn clear_entries<D: Disk>(
     d: &mut D,
     store: &Map,

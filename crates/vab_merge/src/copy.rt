@@ -11,8 +11,8 @@ use vab_gate::DiskFault;
 use vab_linear::{Map, read_at, write_at};
 use vab_store::StoreView;
 
-/// Copies the blocks of the exceptions from `first` on to their places in the partition, and doesn't
-/// sync.
+/// Copies the blocks of the exceptions from `first` on to their places in the partition, and
+/// doesn't sync.
 pub(crate) fn copy_blocks<D: Disk>(
     d: &mut D,
     base: &Map,
@@ -27,7 +27,8 @@ pub(crate) fn copy_blocks<D: Disk>(
     requires disjoint { AreDisjoint base.now store.now }
     requires first { first ≤ length view.now }
     ensures copied { D.is_modelled → OnOk result
-        (AreCopied base.now store.now view.now first (length view.now) (D.seen d.old) (D.seen d.new)) }
+        (AreCopied base.now store.now view.now first (length view.now)
+        (D.seen d.old) (D.seen d.new)) }
     ensures touches { Touches D.Disk (InSectors (InCopied base.now view.now first)) d.old d.new }
     ensures faults { FailsWithDisk D.Disk d.old d.new result }
 {

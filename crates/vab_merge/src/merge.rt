@@ -39,7 +39,8 @@ fn copy_run<D: Disk>(
     requires can { CanMerge base.now store.now view.now (D.size d.old) }
     requires first { first ≤ length view.now }
     ensures copied { D.is_modelled → OnOk result
-        (AreCopied base.now store.now view.now first (length view.now) (D.seen d.old) (D.seen d.new)) }
+        (AreCopied base.now store.now view.now first (length view.now)
+        (D.seen d.old) (D.seen d.new)) }
     ensures rest { D.is_modelled → OnOk result (IsAtRest D.Disk d.new) }
     ensures touches { Touches D.Disk (InSectors (InCopied base.now view.now first)) d.old d.new }
     ensures faults { FailsWithDisk D.Disk d.old d.new result }
@@ -85,7 +86,8 @@ fn merge_last<D: Disk>(
         → scan_of store.now (length base.now) (D.seen d.old) ≡ Ok view.now
         → Adds D.moment D.outcomes d.old d.new
         (LeavesMerged base.now store.now view.now n (D.told d.old) (D.seen d.old)) }
-    ensures touches { Touches D.Disk (InSectors (IsMergedSector base.now store.now view.now n)) d.old d.new }
+    ensures touches { Touches D.Disk
+        (InSectors (IsMergedSector base.now store.now view.now n)) d.old d.new }
     ensures faults { FailsWithDisk D.Disk d.old d.new result }
 {
     let end = view.count();
@@ -104,9 +106,9 @@ fn drop_run(view: &mut StoreView, n: u64)
     }
 }
 
-/// Merges the last exceptions of a store: as many, but at most `most`, as stand in one area with old
-/// chunks that ascend by one. Their blocks are copied to the partition, then their entries are zeroed,
-/// each with a sync behind it. After a fault the view is not to be used.
+/// Merges the last exceptions of a store: as many, but at most `most`, as stand in one area with
+/// old chunks that ascend by one. Their blocks are copied to the partition, then their entries are
+/// zeroed, each with a sync behind it. After a fault the view is not to be used.
 pub fn run_turn<D: Disk>(
     d: &mut D,
     base: &Map,
@@ -117,7 +119,8 @@ pub fn run_turn<D: Disk>(
     requires can { CanMerge base.now store.now view.old (D.size d.old) }
     requires some { 0 < most }
     ensures ran { IfOk result (IsRan view.old most) }
-    ensures kept { IfOk result (λ ran. view.new ≡ take (length view.old - dropped_by ran) view.old) }
+    ensures kept { IfOk result
+        (λ ran. view.new ≡ take (length view.old - dropped_by ran) view.old) }
     // The kept view is the store's scan, and each block reads as before.
     ensures merged { D.is_modelled
         → IsAtRest D.Disk d.old
@@ -131,7 +134,8 @@ pub fn run_turn<D: Disk>(
         → scan_of store.now (length base.now) (D.seen d.old) ≡ Ok view.old
         → Adds D.moment D.outcomes d.old d.new
         (LeavesMerged base.now store.now view.old most (D.told d.old) (D.seen d.old)) }
-    ensures touches { Touches D.Disk (InSectors (IsMergedSector base.now store.now view.old most)) d.old d.new }
+    ensures touches { Touches D.Disk
+        (InSectors (IsMergedSector base.now store.now view.old most)) d.old d.new }
     ensures faults { FailsWithDisk D.Disk d.old d.new result }
 {
     let n = run_length(view, most);
@@ -156,7 +160,8 @@ pub fn turn<D: Disk>(
 ) -> Result<Ran, DiskFault>
     requires { CanMerge base.now store.now view.old (D.size d.old) }
     ensures ran { IfOk result (IsRan view.old 1) }
-    ensures kept { IfOk result (λ ran. view.new ≡ take (length view.old - dropped_by ran) view.old) }
+    ensures kept { IfOk result
+        (λ ran. view.new ≡ take (length view.old - dropped_by ran) view.old) }
     ensures merged { D.is_modelled
         → IsAtRest D.Disk d.old
         → scan_of store.now (length base.now) (D.seen d.old) ≡ Ok view.old
@@ -168,7 +173,8 @@ pub fn turn<D: Disk>(
         → scan_of store.now (length base.now) (D.seen d.old) ≡ Ok view.old
         → Adds D.moment D.outcomes d.old d.new
         (LeavesMerged base.now store.now view.old 1 (D.told d.old) (D.seen d.old)) }
-    ensures touches { Touches D.Disk (InSectors (IsMergedSector base.now store.now view.old 1)) d.old d.new }
+    ensures touches { Touches D.Disk
+        (InSectors (IsMergedSector base.now store.now view.old 1)) d.old d.new }
     ensures faults { FailsWithDisk D.Disk d.old d.new result }
 {
     run_turn(d, base, store, view, 1)

@@ -84,7 +84,12 @@ pub length_more : (chunks bound : ℕ) (area old new : List Exception) (n : ℕ)
     → TakesTo chunks bound area old new n
     → length new ≡ length old + n
 length_more chunks bound area old new n is =
-    omega (arith, ap length is.new_is, length-append old (take n area), length-take-le n area is.within)
+    omega (
+      arith,
+      ap length is.new_is,
+      length-append old (take n area),
+      length-take-le n area is.within,
+    )
 
 -- ---- the entries of an area
 
@@ -97,7 +102,8 @@ unfolding slot_at
 slot_in map image k i below =
     let which : (256 * k + i) / 256 ≡ k = omega (arith, below) in
     let place : (256 * k + i) % 256 ≡ i = omega (arith, below) in
-    ap (λ (n : ℕ). entry_at (chunk_bytes map image (area_chunk area_entries n)) ((256 * k + i) % 256)) which
+    ap (λ (n : ℕ). entry_at (chunk_bytes map image (area_chunk area_entries n))
+    ((256 * k + i) % 256)) which
     ∙ ap (λ (n : ℕ). entry_at (chunk_bytes map image (area_chunk area_entries k)) n) place
 
 -- as many entries as an area has exceptions
@@ -159,7 +165,8 @@ area_next map image k n area is below few =
 
 -- ---- what is found
 
-record IsRead (map : List ℕ) (bound : ℕ) (image : Image) (es : List Exception) (n : ℕ) : Type 0 where
+record IsRead (map : List ℕ) (bound : ℕ) (image : Image) (es : List Exception)
+    (n : ℕ) : Type 0 where
   read : es ≡ firsts (slot_at area_entries map image) n
   lie : AllLie (chunks_of map) bound es
 
@@ -172,7 +179,8 @@ slots_listed map bound image es n is t below =
     let f : ℕ → Exception = slot_at area_entries map image in
     let long : length es ≡ n = ap length is.read ∙ length-firsts f n in
     let read : exception_at es t ≡ f t =
-    ap (λ (l : List Exception). exception_at l t) is.read ∙ get_or-firsts f n t no_exception below in
+    ap (λ (l : List Exception). exception_at l t) is.read
+    ∙ get_or-firsts f n t no_exception below in
     subst IsListed read
     (lies_listed (chunks_of map) bound (exception_at es t) (is.lie t (omega (arith, below, long))))
 
@@ -245,7 +253,8 @@ found_bad map bound image es n read lie within on bad =
             (ends.here (omega (arith, lt, within))))
         | inr other ↦
             let same : n ≡ length l = omega (arith, le, other) in
-            absurd (on (ap (λ (t : ℕ). (f t).new_chunk) same ∙ ends.here (omega (arith, same, within))))
+            absurd (on (ap (λ (t : ℕ). (f t).new_chunk) same
+            ∙ ends.here (omega (arith, same, within))))
       ]
     ] in
     let at : (t : ℕ) → t < length l → exception_at l t ≡ f t =
@@ -315,7 +324,13 @@ pub kept_so : (map : List ℕ) (bound k : ℕ) (area old new : List Exception) (
     → IsKept map bound new end
 kept_so map bound k area old new Ended long lie below step = record {
   lie = lie_more (chunks_of map) bound area old new (length area) lie step.0;
-  room = omega (arith, length_more (chunks_of map) bound area old new (length area) step.0, long, below, step.1);
+  room = omega (
+    arith,
+    length_more (chunks_of map) bound area old new (length area) step.0,
+    long,
+    below,
+    step.1,
+  );
 }
 kept_so map bound k area old new Unended long lie below step = absurd step
 kept_so map bound k area old new Bad long lie below step = record {
@@ -373,7 +388,8 @@ judged_so chunks bound slots good l end is ending =
   where
     whole : length l ≤ length good → l ≡ good
     whole all =
-        let fits : good_of chunks bound l ≡ l = good_full chunks bound l (omega (arith, all, ap length is)) in
+        let fits : good_of chunks bound l ≡ l =
+        good_full chunks bound l (omega (arith, all, ap length is)) in
         sym (is ∙ fits)
 
     answered : (end : End)

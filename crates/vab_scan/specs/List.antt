@@ -31,7 +31,8 @@ use Rattle.vab_scan.specs.declared.list.End.TheVariants.{Ended, Unended, Bad}
 
 -- each of these exceptions lies in the partition and in the store
 abbrev pub AllLie : ℕ → ℕ → List Exception → Type 0
-AllLie chunks bound es = (j : ℕ) → j < length es → Lies area_entries chunks bound (exception_at es j)
+AllLie chunks bound es = (j : ℕ) → j < length es
+    → Lies area_entries chunks bound (exception_at es j)
 
 -- the exceptions before the first that doesn't lie there are added
 pub record TakesTo (chunks bound : ℕ) (area old new : List Exception) (n : ℕ) : Type 0 where

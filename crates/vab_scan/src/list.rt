@@ -80,7 +80,8 @@ fn read_area<D: Disk>(
     requires on_disk { IsOnDisk map.now (D.size d.old) }
     requires there { area < areas_of area_entries (chunks_of map.now) }
     ensures step { IfOk result
-        (StepsOver D.is_modelled map.now bound (D.seen d.old) area items.old.items items.new.items) }
+        (StepsOver D.is_modelled map.now bound (D.seen d.old) area
+        items.old.items items.new.items) }
     ensures kind { IfErr result IsOutside }
     ensures reads { OnlyReads D.Disk d.old d.new }
     ensures faults { ReadsStore D.Disk d.old d.new result }

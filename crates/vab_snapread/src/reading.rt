@@ -11,8 +11,8 @@ use vab_gate::DiskFault;
 use vab_linear::{Map, read_at};
 use vab_store::StoreView;
 
-/// Reads a block of the partition `base`: the chunk of the store where an exception has it, else the
-/// partition's own block.
+/// Reads a block of the partition `base`: the chunk of the store where an exception has it, else
+/// the partition's own block.
 pub fn read_block<D: Disk>(
     d: &mut D,
     base: &Map,

@@ -38,7 +38,8 @@ pub chunk_same : (map : List ℕ) (old new : Image) (c : ℕ)
     → chunk_bytes map new c ≡ chunk_bytes map old c
 chunk_same map old new c same =
     sectors_same 8 (slice_index map c) old new
-    (λ k below. same (slice_index map c + k) (record { from = omega arith; below = omega (arith, below) }))
+    (λ k below. same (slice_index map c + k)
+    (record { from = omega arith; below = omega (arith, below) }))
 
 -- a chunk that was written
 pub chunk_here : (map : List ℕ) (old new : Image) (c : ℕ) (bytes : List ℕ)

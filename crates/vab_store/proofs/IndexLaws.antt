@@ -41,11 +41,13 @@ view_some (e ∷ es) old zero below is first =
     rw here refl
 view_some (e ∷ es) old (suc k) below is first =
     let here : (e.old_chunk == old) ≡ false = ne_eqb e.old_chunk old (first 0 (omega arith)) in
-    rw here (view_some es old k (omega (arith, below)) is (λ j lt. first (suc j) (omega (arith, lt))))
+    rw here (view_some es old k (omega (arith, below)) is
+    (λ j lt. first (suc j) (omega (arith, lt))))
 
 -- an exception of a list in which no two have one old chunk
 pub view_found : (es : List Exception) (k : ℕ)
-    → ((i j : ℕ) → i < j → j < length es → (exception_at es i).old_chunk ≢ (exception_at es j).old_chunk)
+    → ((i j : ℕ) → i < j → j < length es
+    → (exception_at es i).old_chunk ≢ (exception_at es j).old_chunk)
     → k < length es
     → view_of es (exception_at es k).old_chunk ≡ Some (exception_at es k).new_chunk
 view_found es k once below =
@@ -177,10 +179,17 @@ indexed_front es ps r n is within last long =
           let a = without_at ps r i within (omega (arith, order, below)) in
           let b = without_at ps r j within below in
           let rise : a.0 < b.0 = ⊎_elim
-          (λ low. ⊎_elim (λ l. omega (arith, low.0, low.1, l.0, l.1, order)) (λ h. omega (arith, low.0, low.1, h.0, h.1, order)) b.4)
-          (λ high. ⊎_elim (λ l. omega (arith, high.0, high.1, l.0, l.1, order)) (λ h. omega (arith, high.0, high.1, h.0, h.1, order)) b.4)
+          (λ low. ⊎_elim (λ l. omega (arith, low.0, low.1, l.0, l.1, order))
+          (λ h. omega (arith, low.0, low.1, h.0, h.1, order)) b.4)
+          (λ high. ⊎_elim (λ l. omega (arith, high.0, high.1, l.0, l.1, order))
+          (λ h. omega (arith, high.0, high.1, h.0, h.1, order)) b.4)
           a.4 in
-          omega (arith, is.ascends a.0 b.0 rise b.1, ap (λ (p : Place). p.key) a.3, ap (λ (p : Place). p.key) b.3);
+          omega (
+            arith,
+            is.ascends a.0 b.0 rise b.1,
+            ap (λ (p : Place). p.key) a.3,
+            ap (λ (p : Place). p.key) b.3,
+          );
       points = λ i below.
           let a = without_at ps r i within below in
           let point = is.points a.0 a.1 in
@@ -196,7 +205,8 @@ indexed_front es ps r n is within last long =
             within = omega (arith, small, front);
             key_is =
                 point.key_is
-                ∙ ap (λ (e : Exception). e.old_chunk) (sym (front_at es n (place_at ps a.0).at small));
+                ∙ ap (λ (e : Exception). e.old_chunk)
+                (sym (front_at es n (place_at ps a.0).at small));
           } in
           subst (Points (key_of Old) (take n es)) (sym a.3) here;
       complete = λ k below.
@@ -213,7 +223,8 @@ indexed_front es ps r n is within last long =
             | inr behind ↦
                 let other : held.index ≢ r =
                 λ same.
-                let at_n : k ≡ n = sym held.at_is ∙ ap (λ (i : ℕ). (place_at ps i).at) same ∙ last in
+                let at_n : k ≡ n = sym held.at_is ∙ ap (λ (i : ℕ). (place_at ps i).at) same
+                ∙ last in
                 omega (arith, at_n, below, front) in
                 let back : held.index - 1 + 1 ≡ held.index = omega (arith, behind, other) in
                 record {

@@ -82,8 +82,10 @@ none_each f (suc n) is i below =
 
 pub others_share : (a b : Exception) → AreOther a b → share a b ≡ false
 others_share a b other =
-    let first : (a.old_chunk == b.old_chunk) ≡ false = ne_eqb a.old_chunk b.old_chunk other.old_chunk in
-    let second : (a.new_chunk == b.new_chunk) ≡ false = ne_eqb a.new_chunk b.new_chunk other.new_chunk in
+    let first : (a.old_chunk == b.old_chunk) ≡ false =
+    ne_eqb a.old_chunk b.old_chunk other.old_chunk in
+    let second : (a.new_chunk == b.new_chunk) ≡ false =
+    ne_eqb a.new_chunk b.new_chunk other.new_chunk in
     (λ i. first i || second i)
 
 or_false : (x y : Bool) → (x || y) ≡ false → (x ≡ false) × (y ≡ false)
@@ -127,14 +129,16 @@ repeated_none es is j k j_below k_below =
     λ i. cond (share (exception_at es i) (exception_at es k)) (Some (i, k)) None in
     let at_k : repeat_at es k ≡ None = none_each (repeat_at es) (length es) is k k_below in
     share_others (exception_at es j) (exception_at es k)
-    (some_none (share (exception_at es j) (exception_at es k)) (j, k) (none_each f k at_k j j_below))
+    (some_none (share (exception_at es j) (exception_at es k)) (j, k)
+    (none_each f k at_k j j_below))
 
 -- the first two that do
 pub record IsFirstRepeat (es : List Exception) (j k : ℕ) : Type 0 where
   pub order : j < k
   pub within : k < length es
   pub shared : share (exception_at es j) (exception_at es k) ≡ true
-  pub none_before : (a b : ℕ) → a < b → b < k → share (exception_at es a) (exception_at es b) ≡ false
+  pub none_before : (a b : ℕ) → a < b → b < k
+      → share (exception_at es a) (exception_at es b) ≡ false
   pub none_here : (a : ℕ) → a < j → share (exception_at es a) (exception_at es k) ≡ false
 
 pub repeat_is : (es : List Exception) (j k : ℕ)
@@ -325,7 +329,8 @@ of_judged chunks bound slots l es is =
     cond (nat_lt (length l) slots) (Ok l) (Err faults.Unended) in
     let unrepeated = ok_unrepeated (repeat_of good)
     (cond (nat_lt (length good) (length l)) (Err (faults.BadChunk (length good))) ended) es is in
-    let tested = ok_tested (nat_lt (length good) (length l)) (faults.BadChunk (length good)) ended es
+    let tested = ok_tested (nat_lt (length good) (length l))
+    (faults.BadChunk (length good)) ended es
     unrepeated.1 in
     let whole : length l ≤ length good = ltb-false (length good) (length l) tested.0 in
     let last = ok_ended (nat_lt (length l) slots) faults.Unended l es tested.1 in
@@ -349,7 +354,8 @@ scan_of_ok map bound image es is =
     let l : List Exception = listed (firsts f slots) in
     let header : Result (Unit {0}) HeaderFault = header_of (take 512 (chunk_bytes map image 0)) in
     let all : Result (List Exception) StoreFault = judged (chunks_of map) bound slots l in
-    let enough = ok_tested (nat_lt (chunks_of map) 2) faults.Unended (after_header header all) es is in
+    let enough = ok_tested (nat_lt (chunks_of map) 2) faults.Unended
+    (after_header header all) es is in
     let headed = ok_header header all es enough.1 in
     let judged_so = of_judged (chunks_of map) bound slots l es headed.1 in
     let ends : EndsAt f (length l) slots = ends_at f slots in

@@ -37,7 +37,8 @@ distinct_of [] pairs = tt
 distinct_of (p ∷ ps) pairs = (
   recursion_from_All (λ y. same_at p y ≡ false) ps
       (λ k d below.
-      let read : get_or ps k d ≡ place_at ps k = get_or_default ps k d (record { key = 0; at = 0 }) below in
+      let read : get_or ps k d ≡ place_at ps k =
+      get_or_default ps k d (record { key = 0; at = 0 }) below in
       subst (λ (y : Place). same_at p y ≡ false) (sym read)
       (ne_eqb p.at (place_at ps k).at (pairs 0 (suc k) (omega arith) (omega (arith, below))))),
   distinct_of ps (λ i j order below.
@@ -91,7 +92,8 @@ before_next a b not_less other = elim (cases_lt a.key b.key) [
 before_then : (a b c : Place) → IsBefore a b → IsBefore b c → IsBefore a c
 before_then a b c ab bc =
     ⊎_elim
-    (λ less. ⊎_elim (λ more. inl (omega (arith, less, more))) (λ tie. inl (omega (arith, less, tie.0))) bc)
+    (λ less. ⊎_elim (λ more. inl (omega (arith, less, more)))
+    (λ tie. inl (omega (arith, less, tie.0))) bc)
     (λ tie.
     ⊎_elim
     (λ more. inl (omega (arith, tie.0, more)))
@@ -107,7 +109,8 @@ all_before : (ps : List Place)
     → IsBefore (place_at ps i) (place_at ps (i + suc more))
 all_before ps next i zero below =
     let one : i + suc zero ≡ i + 1 = omega arith in
-    subst (λ (k : ℕ). IsBefore (place_at ps i) (place_at ps k)) (sym one) (next i (omega (arith, below)))
+    subst (λ (k : ℕ). IsBefore (place_at ps i) (place_at ps k)) (sym one)
+    (next i (omega (arith, below)))
 all_before ps next i (suc more) below =
     let one : i + suc (suc more) ≡ i + suc more + 1 = omega arith in
     subst (λ (k : ℕ). IsBefore (place_at ps i) (place_at ps k)) (sym one)
@@ -141,7 +144,8 @@ sorted_is key es was ps n all was_is moved rises =
     ∙ ap (λ (p : Place). p.at) (was_at j none in_n) in
     omega (arith, one, order) in
     let still : AreDistinct ps =
-    of_distinct ps (IsDistinct-IsPermutation same_at flipped was ps moved (distinct_of was distinct)) in
+    of_distinct ps (IsDistinct-IsPermutation same_at flipped was ps moved
+    (distinct_of was distinct)) in
     let next : (k : ℕ) → k + 1 < length ps → IsBefore (place_at ps k) (place_at ps (k + 1)) =
     λ k below.
     before_next (place_at ps k) (place_at ps (k + 1)) (rises k below)
@@ -191,14 +195,16 @@ same_neighbour key es ps a b is order below same =
     let key_b : (place_at ps at_b.index).key ≡ key_of key (exception_at es b) =
     (is.points at_b.index at_b.within).key_is
     ∙ ap (λ (k : ℕ). key_of key (exception_at es k)) at_b.at_is in
-    let tie : (place_at ps at_a.index).key ≡ (place_at ps at_b.index).key = key_a ∙ same ∙ sym key_b in
+    let tie : (place_at ps at_a.index).key ≡ (place_at ps at_b.index).key =
+    key_a ∙ same ∙ sym key_b in
     let i : ℕ = at_a.index in
     let j : ℕ = at_b.index in
     let up : i < j = elim (cases_lt i j) [
       | inl before ↦ before
       | inr behind ↦ elim (cases_eq j i) [
         | inl one ↦
-            let both : a ≡ b = sym at_a.at_is ∙ ap (λ (n : ℕ). (place_at ps n).at) (sym one) ∙ at_b.at_is in
+            let both : a ≡ b = sym at_a.at_is ∙ ap (λ (n : ℕ). (place_at ps n).at) (sym one)
+            ∙ at_b.at_is in
             absurd (omega (arith, both, order))
         | inr other ↦
             ⊎_elim
@@ -320,7 +326,8 @@ sorted_indexed key es ps is none = record {
         let le : (place_at ps (i + suc more)).key ≤ (place_at ps (i + suc more + 1)).key =
         ⊎_elim (λ less. omega (arith, less)) (λ tie. omega (arith, tie.0))
         (sorted (i + suc more) (i + suc more + 1) (omega arith) (omega (arith, below))) in
-        subst (λ (n : ℕ). (place_at ps i).key < (place_at ps n).key) (sym last) (omega (arith, so_far, le))
+        subst (λ (n : ℕ). (place_at ps i).key < (place_at ps n).key) (sym last)
+        (omega (arith, so_far, le))
 
 -- ---- the earlier of two repeats is the first
 
@@ -358,7 +365,12 @@ clear_some key es j k j' k' is up order below = record {
       (λ tie.
       let whole : key_of key (exception_at es a) ≡ key_of key (exception_at es j') =
       same ∙ ap (λ (n : ℕ). key_of key (exception_at es n)) tie.0 ∙ sym is.same in
-      omega (arith, is.least a j' (omega (arith, aj, tie.1)) (omega (arith, is.order, is.within)) whole, is.order))
+      omega (
+        arith,
+        is.least a j' (omega (arith, aj, tie.1))
+            (omega (arith, is.order, is.within)) whole,
+        is.order,
+      ))
       up;
 }
 
@@ -439,7 +451,8 @@ repeat_is_earlier es (Some (j, k)) (Some (j', k')) old new =
           inr (eqb-true k' k both.0, omega (arith, less))
     ]
 
-    sooner_is : (nat_lt k' k || ((k' == k) && nat_lt j' j)) ≡ false → (k < k') ⊎ ((k ≡ k') × (j ≤ j'))
+    sooner_is : (nat_lt k' k || ((k' == k) && nat_lt j' j)) ≡ false
+        → (k < k') ⊎ ((k ≡ k') × (j ≤ j'))
     sooner_is is = elim (cases_lt k k') [
       | inl less ↦ inl less
       | inr le ↦ elim (cases_eq k k') [

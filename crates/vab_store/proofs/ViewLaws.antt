@@ -17,7 +17,8 @@ pub record IsIn (es : List Exception) (old chunk : ℕ) : Type 0 where
   pub new_is : (exception_at es place).new_chunk ≡ chunk
 
 -- where a block has a chunk, an exception has both
-pub view_in : (es : List Exception) (old chunk : ℕ) → view_of es old ≡ Some chunk → IsIn es old chunk
+pub view_in : (es : List Exception) (old chunk : ℕ) → view_of es old ≡ Some chunk
+    → IsIn es old chunk
 view_in [] old chunk is = absurd (cc)
 view_in (e ∷ es) old chunk is =
     elim (cases_Bool (e.old_chunk == old)) [
@@ -125,7 +126,8 @@ view_kept bound map es n j fits within below =
     let long : length (take n es) ≡ n = length-take-le n es within in
     let at_j = take-at es n j below in
     ap (λ (e : Exception). view_of (take n es) e.old_chunk) (sym at_j)
-    ∙ view_at bound map (take n es) j (take_fits bound map es n within fits) (omega (arith, long, below))
+    ∙ view_at bound map (take n es) j (take_fits bound map es n within fits)
+    (omega (arith, long, below))
     ∙ ap (λ (e : Exception). Some e.new_chunk) at_j
 
 -- it is dropped

@@ -30,7 +30,8 @@ use Rattle.vab_store.specs.Writing.{
 
 -- ---- what stands in each kind of chunk
 
-pub store_chunk-header : (olds image : List ℕ) → store_chunk area_entries olds image 0 ≡ header_chunk
+pub store_chunk-header : (olds image : List ℕ)
+    → store_chunk area_entries olds image 0 ≡ header_chunk
 unfolding store_chunk
 store_chunk-header olds image = refl
 
@@ -43,7 +44,8 @@ store_chunk-area olds image k =
     let some : (c == 0) ≡ false = ne_eqb c 0 (λ is. omega (arith, is)) in
     let head : ((c - 1) % 257 == 0) ≡ true = eq-eqb ((c - 1) % 257) 0 (omega arith) in
     let which : (c - 1) / 257 ≡ k = omega arith in
-    let last : List ℕ = block_of image (slice_index olds (256 * ((c - 1) / 257) + (c - 1) % 257 - 1)) in
+    let last : List ℕ = block_of image
+    (slice_index olds (256 * ((c - 1) / 257) + (c - 1) % 257 - 1)) in
     let here : List ℕ = area_bytes 4096 (area_entries_of area_entries olds ((c - 1) / 257)) in
     ap (λ b. cond b header_chunk (cond ((c - 1) % 257 == 0) here last)) some
     ∙ ap (λ b. cond b here last) head
@@ -58,7 +60,8 @@ store_chunk-data olds image j =
     let some : (c == 0) ≡ false = ne_eqb c 0 (λ is. omega (arith, is)) in
     let tail : ((c - 1) % 257 == 0) ≡ false = ne_eqb ((c - 1) % 257) 0 (λ is. omega (arith, is)) in
     let which : 256 * ((c - 1) / 257) + (c - 1) % 257 - 1 ≡ j = omega arith in
-    let last : List ℕ = block_of image (slice_index olds (256 * ((c - 1) / 257) + (c - 1) % 257 - 1)) in
+    let last : List ℕ = block_of image
+    (slice_index olds (256 * ((c - 1) / 257) + (c - 1) % 257 - 1)) in
     let here : List ℕ = area_bytes 4096 (area_entries_of area_entries olds ((c - 1) / 257)) in
     ap (λ b. cond b header_chunk (cond ((c - 1) % 257 == 0) here last)) some
     ∙ ap (λ b. cond b here last) tail

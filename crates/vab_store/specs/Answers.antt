@@ -7,7 +7,8 @@ use Rattle.vab_store.specs.declared.fault.StoreFault.{StoreFault}
 use Rattle.vab_store.specs.declared.fault.StoreFault.TheVariants as faults
 
 -- The answer is what the store means. Want of memory and a fault of the disk tell nothing of it.
-abbrev pub Answers : Result (List Exception) StoreFault → Result (List Exception) StoreFault → Type 0
+abbrev pub Answers : Result (List Exception) StoreFault → Result (List Exception) StoreFault
+    → Type 0
 Answers (Ok es) means = means ≡ Ok es
 Answers (Err faults.NoMemory) means = Unit {0}
 Answers (Err faults.DiskFault) means = Unit {0}

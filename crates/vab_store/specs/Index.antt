@@ -40,7 +40,7 @@ abbrev pub key_of : Key → Exception → ℕ
 key_of Old e = e.old_chunk
 key_of New e = e.new_chunk
 
--- the index of a list by a key that no two exceptions share: each exception once, in ascending order
+-- the index of a list by a key that no two exceptions share: each exception once, ascending
 pub record IsIndexed (key : Key) (es : List Exception) (ps : List Place) : Type 0 where
   pub counted : length ps ≡ length es
   pub ascends : Ascends ps

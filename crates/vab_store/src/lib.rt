@@ -1,7 +1,8 @@
-//! Exception stores on the blocks of a partition: the kernel's dm-snapshot persistent store, version 1,
-//! with chunks of one block of 4096 bytes.
+//! Exception stores on the blocks of a partition: the kernel's dm-snapshot persistent store,
+//! version 1, with chunks of one block of 4096 bytes.
 //!
-//! Chunk 0 is the header, chunks 1, 258, 515 and so on are areas of 256 entries, all others are data.
+//! Chunk 0 is the header, chunks 1, 258, 515 and so on are areas of 256 entries, and all others
+//! are data.
 #![tactic(auto)]
 
 mod fault;

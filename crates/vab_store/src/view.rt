@@ -59,7 +59,8 @@ impl StoreView {
 
     /// These exceptions in their order, or the first two that share an old or a new chunk.
     pub fn indexed(alloc: Global, items: Vec<Exception>) -> Result<StoreView, StoreFault>
-        ensures answers { Answers result (unless_repeated (repeat_of items.items) (Ok items.items)) }
+        ensures answers { Answers result
+            (unless_repeated (repeat_of items.items) (Ok items.items)) }
         ensures kind { IsErrOf result StoreFault.DiskFault → ⊥ }
     {
         let by_new = match repeat_by(alloc, &items, Key::New) {

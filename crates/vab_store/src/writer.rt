@@ -95,8 +95,8 @@ fn chunk_block(olds: &[u64], image: &[u8], chunk: u64) -> [u8; 4096]
 }
 
 /// Writes a store with an exception for each of these blocks of an image, which ascend: the header,
-/// the areas, and in the chunk of exception `j`, which is `2 + j + j / 256`, the image's block. Behind
-/// the image's end there are zeros. It doesn't sync.
+/// the areas, and in the chunk of exception `j`, which is `2 + j + j / 256`, the image's block.
+/// Behind the image's end there are zeros. It doesn't sync.
 pub fn write_store<D: Disk>(
     d: &mut D,
     map: &Map,

@@ -19,7 +19,8 @@ loop-i-preserved c =
     let n = c.loop-i.i in
     let none : Exception = record { old_chunk = 0; new_chunk = 0 } in
     let e : Exception = get_or es n none in
-    let more : take (n + 1) es ≡ take n es ++ (e ∷ []) = rw add-one (take-suc es n none c.loop-i-test.true) in
+    let more : take (n + 1) es ≡ take n es ++ (e ∷ []) =
+    rw add-one (take-suc es n none c.loop-i-test.true) in
     let long : length (take n es) ≡ n = length-take-le n es (omega arith) in
     record {
       bytes =
@@ -45,7 +46,11 @@ returns-clause-read c = λ all.
     let whole : take c.loop-i.i es ≡ c.args.area.now.items =
     take_all c.loop-i.i es (omega arith) ∙ c.as_slice-entry-items.ensures.value in
     let few : length c.args.area.now.items ≤ 256 =
-    omega (arith, ap length c.as_slice-entry-items.ensures.value, c.as_slice-entry-items.ensures.fits) in
+    omega (
+      arith,
+      ap length c.as_slice-entry-items.ensures.value,
+      c.as_slice-entry-items.ensures.fits,
+    ) in
     ap (area_of area_entries)
     (c.loop-i.invariant.bytes ∙ ap (area_bytes 4096) whole)
     ∙ area_of-bytes 4096 256 c.args.area.now.items (omega arith) few all

@@ -39,7 +39,8 @@ loop-i-preserved g c =
     let cleared : IsClearedAt first end n c.get_sector.new.out bytes =
     cleared_at first end n c.saturating_sub.result c.min.result c.get_sector.new.out bytes
     c.saturating_sub.ensures c.min.ensures c.clear_sector.ensures in
-    let read_touches : Touches g.D.Disk (IsClearing store first end now) c.args.d.now c.get_sector.new.d =
+    let read_touches : Touches g.D.Disk
+    (IsClearing store first end now) c.args.d.now c.get_sector.new.d =
     touches_then g.D.Disk _ _ _ _ inv.touches
     (touches_reads g.D.Disk _ _ _ c.get_sector.ensures.reads) in
     record {
@@ -53,14 +54,18 @@ loop-i-preserved g c =
                 subst (IsClearedAt first end i (now (area_sector store first + i)))
                 (sym (there_is mid new at n i bytes (area_sector store first) at_is
                 (λ is. omega (arith, is, before)) (c.in_ok-put_sector.ensures.written t)
-                ∙ ap (λ (o : Image). o (area_sector store first + i)) (c.get_sector.ensures.reads.seen t)))
+                ∙ ap (λ (o : Image). o (area_sector store first + i))
+                (c.get_sector.ensures.reads.seen t)))
                 (inv.done t i is before)
             | inr behind ↦
                 let one : n ≡ i = omega (arith, behind, below) in
-                subst (λ (k : ℕ). IsClearedAt first end k (now (area_sector store first + k)) (new (area_sector store first + k))) one
-                (subst (λ (b : List ℕ). IsClearedAt first end n b (new (area_sector store first + n))) was
+                subst (λ (k : ℕ). IsClearedAt first end k (now (area_sector store first + k))
+                (new (area_sector store first + k))) one
+                (subst (λ (b : List ℕ). IsClearedAt first end n b
+                (new (area_sector store first + n))) was
                 (subst (IsClearedAt first end n c.get_sector.new.out)
-                (sym (here_is mid new at n bytes (area_sector store first) at_is (c.in_ok-put_sector.ensures.written t)))
+                (sym (here_is mid new at n bytes (area_sector store first) at_is
+                (c.in_ok-put_sector.ensures.written t)))
                 cleared))
           ];
       left = λ t i over.
@@ -73,7 +78,8 @@ loop-i-preserved g c =
           (λ t. c.in_ok-get_sector.ensures.bytes t)
           (λ t. inv.left t n (omega arith))
           c.put_sector.ensures.touches at_is them cleared;
-      steady = c.in_ok-put_sector.ensures.faults.steady ∙ c.in_ok-get_sector.ensures.faults.steady ∙ inv.steady;
+      steady = c.in_ok-put_sector.ensures.faults.steady ∙ c.in_ok-get_sector.ensures.faults.steady
+          ∙ inv.steady;
     }
 
 pub returns-clause-cleared : goal.returns-clause-cleared
@@ -103,7 +109,8 @@ returns-in_err-put_sector-clause-touches g c =
     let cleared : IsClearedAt first end n c.get_sector.new.out bytes =
     cleared_at first end n c.saturating_sub.result c.min.result c.get_sector.new.out bytes
     c.saturating_sub.ensures c.min.ensures c.clear_sector.ensures in
-    let read_touches : Touches g.D.Disk (IsClearing store first end now) c.args.d.now c.get_sector.new.d =
+    let read_touches : Touches g.D.Disk
+    (IsClearing store first end now) c.args.d.now c.get_sector.new.d =
     touches_then g.D.Disk _ _ _ _ inv.touches
     (touches_reads g.D.Disk _ _ _ c.get_sector.ensures.reads) in
     touches_clearing g.D.Disk store first end n at c.get_sector.new.out bytes

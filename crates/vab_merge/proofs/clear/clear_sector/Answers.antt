@@ -19,6 +19,7 @@ loop-i-preserved c =
 
 pub returns : goal.returns
 returns c =
-    let ends : c.loop-i.i ≡ c.args.to = omega (arith, c.loop-i-test.false, c.loop-i.auto.i-end, c.requires.order) in
+    let ends : c.loop-i.i ≡ c.args.to = omega
+    (arith, c.loop-i-test.false, c.loop-i.auto.i-end, c.requires.order) in
     subst (λ (n : ℕ). IsCleared c.args.from n c.args.sector.now c.loop-i.sector) ends
     c.loop-i.invariant

@@ -34,7 +34,8 @@ loop-j-preserved g c =
     } in
     let long : length c.read_at.new.out ≡ 4096 = search rules in
     let bytes : List ℕ = c.read_at.new.out in
-    let read_touches : Touches g.D.Disk (InSectors (InCopied base es first)) c.args.d.now c.read_at.new.d =
+    let read_touches : Touches g.D.Disk
+    (InSectors (InCopied base es first)) c.args.d.now c.read_at.new.d =
     touches_then g.D.Disk _ _ _ _ i.touches
     (touches_reads g.D.Disk _ _ _ c.in_ok-read_at.ensures.reads) in
     record {
@@ -43,17 +44,21 @@ loop-j-preserved g c =
           copied_more base store es first n (g.D.Disk.seen c.args.d.now) mid
           (g.D.Disk.seen c.write_at.new.d) bytes may behind within
           (i.touches.seen t) (i.copied t)
-          (c.in_ok-read_at.ensures.bytes t ∙ ap (λ (e : Exception). chunk_bytes store mid e.new_chunk) c.at-exception.ensures)
+          (c.in_ok-read_at.ensures.bytes t
+          ∙ ap (λ (e : Exception). chunk_bytes store mid e.new_chunk) c.at-exception.ensures)
           long
           (c.in_ok-write_at.ensures.written t
           ∙ ap (λ (o : Image). set_block o (slice_index base c.at-exception.result.old_chunk) bytes)
           (c.in_ok-read_at.ensures.reads.seen t)
-          ∙ ap (λ (e : Exception). set_block mid (slice_index base e.old_chunk) bytes) c.at-exception.ensures);
+          ∙ ap (λ (e : Exception). set_block mid
+          (slice_index base e.old_chunk) bytes) c.at-exception.ensures);
       touches = touches_on g.D.Disk _ _ _ _ _ _ read_touches c.write_at.ensures.touches
           (λ s b w. w)
           (λ s b w. in_copied base es first n bytes s b behind within
-          (subst (λ (e : Exception). IsAmong 8 (slice_index base e.old_chunk) bytes s b) c.at-exception.ensures w));
-      steady = c.in_ok-write_at.ensures.faults.steady ∙ c.in_ok-read_at.ensures.faults.steady ∙ i.steady;
+          (subst (λ (e : Exception). IsAmong 8
+          (slice_index base e.old_chunk) bytes s b) c.at-exception.ensures w));
+      steady = c.in_ok-write_at.ensures.faults.steady ∙ c.in_ok-read_at.ensures.faults.steady
+          ∙ i.steady;
     }
 
 pub returns-in_err-write_at-clause-touches : goal.returns-in_err-write_at-clause-touches
@@ -66,10 +71,12 @@ returns-in_err-write_at-clause-touches g c =
     let within : n < length es = omega (arith, c.loop-j-test.true, c.count-j-end.ensures) in
     let behind : first ≤ n = omega arith in
     let bytes : List ℕ = c.read_at.new.out in
-    let read_touches : Touches g.D.Disk (InSectors (InCopied base es first)) c.args.d.now c.read_at.new.d =
+    let read_touches : Touches g.D.Disk
+    (InSectors (InCopied base es first)) c.args.d.now c.read_at.new.d =
     touches_then g.D.Disk _ _ _ _ i.touches
     (touches_reads g.D.Disk _ _ _ c.in_ok-read_at.ensures.reads) in
     touches_on g.D.Disk _ _ _ _ _ _ read_touches c.write_at.ensures.touches
     (λ s b w. w)
     (λ s b w. in_copied base es first n bytes s b behind within
-    (subst (λ (e : Exception). IsAmong 8 (slice_index base e.old_chunk) bytes s b) c.at-exception.ensures w))
+    (subst (λ (e : Exception). IsAmong 8
+    (slice_index base e.old_chunk) bytes s b) c.at-exception.ensures w))

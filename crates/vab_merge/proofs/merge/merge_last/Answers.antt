@@ -21,15 +21,21 @@ clear_run-requires g c =
     let es : List Exception = c.args.view.now in
     let n : ℕ = c.args.n in
     let end_is : c.count-end.result ≡ length es = c.count-end.ensures in
-    let first_below : length es - n < length es = omega (arith, c.requires.some, c.requires.run.within) in
+    let first_below : length es - n < length es =
+    omega (arith, c.requires.some, c.requires.run.within) in
     let one = one_area es n c.requires.run c.requires.some in
-    let there = area_there (length c.args.base.now) c.args.store.now es (length es - n) c.requires.can.fits first_below in
+    let there = area_there (length c.args.base.now) c.args.store.now es
+    (length es - n) c.requires.can.fits first_below in
     record {
       order = omega (arith, end_is, first_below);
       one_area = omega (arith, end_is, one);
       there = omega (arith, end_is, there);
       on_disk = λ i below.
-          omega (arith, c.requires.can.store_on_disk i below, c.copy_run.ensures.touches.quiet.size);
+          omega (
+            arith,
+            c.requires.can.store_on_disk i below,
+            c.copy_run.ensures.touches.quiet.size,
+          );
     }
 
 pub returns-in_err-copy_run-clause-touches : goal.returns-in_err-copy_run-clause-touches
@@ -38,7 +44,8 @@ returns-in_err-copy_run-clause-touches g c =
     let n : ℕ = c.args.n in
     touches_copied g.D.Disk c.args.base.now c.args.store.now es n c.requires.run c.args.d.now
     c.copy_run.new.d
-    (subst (λ (k : ℕ). Touches g.D.Disk (InSectors (InCopied c.args.base.now es (k - n))) c.args.d.now c.copy_run.new.d)
+    (subst (λ (k : ℕ). Touches g.D.Disk
+    (InSectors (InCopied c.args.base.now es (k - n))) c.args.d.now c.copy_run.new.d)
     c.count-end.ensures c.copy_run.ensures.touches)
 
 pub returns-in_err-copy_run-clause-time : goal.returns-in_err-copy_run-clause-time
@@ -47,7 +54,8 @@ returns-in_err-copy_run-clause-time g c = λ t rest scanned.
     let n : ℕ = c.args.n in
     time_copied g.D.Disk c.args.base.now c.args.store.now es n c.requires.run c.args.d.now
     c.copy_run.new.d t c.requires.can rest scanned
-    (subst (λ (k : ℕ). Touches g.D.Disk (InSectors (InCopied c.args.base.now es (k - n))) c.args.d.now c.copy_run.new.d)
+    (subst (λ (k : ℕ). Touches g.D.Disk
+    (InSectors (InCopied c.args.base.now es (k - n))) c.args.d.now c.copy_run.new.d)
     c.count-end.ensures c.copy_run.ensures.touches)
 
 pub returns-clause-touches : goal.returns-clause-touches
@@ -56,9 +64,12 @@ returns-clause-touches g c =
     let n : ℕ = c.args.n in
     touches_merged g.D.Disk c.args.base.now c.args.store.now es n c.requires.run c.args.d.now
     c.copy_run.new.d c.clear_run.new.d c.requires.some
-    (subst (λ (k : ℕ). Touches g.D.Disk (InSectors (InCopied c.args.base.now es (k - n))) c.args.d.now c.copy_run.new.d)
+    (subst (λ (k : ℕ). Touches g.D.Disk
+    (InSectors (InCopied c.args.base.now es (k - n))) c.args.d.now c.copy_run.new.d)
     c.count-end.ensures c.copy_run.ensures.touches)
-    (subst (λ (k : ℕ). Touches g.D.Disk (IsClearing c.args.store.now (k - n) k (g.D.Disk.seen c.copy_run.new.d)) c.copy_run.new.d c.clear_run.new.d)
+    (subst (λ (k : ℕ). Touches g.D.Disk
+    (IsClearing c.args.store.now (k - n) k
+    (g.D.Disk.seen c.copy_run.new.d)) c.copy_run.new.d c.clear_run.new.d)
     c.count-end.ensures c.clear_run.ensures.touches)
 
 pub returns-clause-time : goal.returns-clause-time
@@ -68,13 +79,17 @@ returns-clause-time g c = λ t rest scanned.
     let mid = c.copy_run.new.d in
     time_merged g.D.Disk c.args.base.now c.args.store.now es n c.requires.run c.args.d.now
     mid c.clear_run.new.d t c.requires.some c.requires.can rest scanned
-    (subst (λ (k : ℕ). Touches g.D.Disk (InSectors (InCopied c.args.base.now es (k - n))) c.args.d.now mid)
+    (subst (λ (k : ℕ). Touches g.D.Disk
+    (InSectors (InCopied c.args.base.now es (k - n))) c.args.d.now mid)
     c.count-end.ensures c.copy_run.ensures.touches)
-    (subst (λ (k : ℕ). AreCopied c.args.base.now c.args.store.now es (k - n) (length es) (g.D.Disk.seen c.args.d.now) (g.D.Disk.seen mid))
+    (subst (λ (k : ℕ). AreCopied c.args.base.now c.args.store.now es (k - n) (length es)
+    (g.D.Disk.seen c.args.d.now) (g.D.Disk.seen mid))
     c.count-end.ensures (c.in_ok-copy_run.ensures.copied t))
-    (λ s below. (g.met.D.Disk.whole mid s (g.D.Disk.seen mid s) below (g.met.D.Disk.seen_held mid s)).long)
+    (λ s below. (g.met.D.Disk.whole mid s (g.D.Disk.seen mid s) below
+    (g.met.D.Disk.seen_held mid s)).long)
     (c.in_ok-copy_run.ensures.rest t)
-    (subst (λ (k : ℕ). Touches g.D.Disk (IsClearing c.args.store.now (k - n) k (g.D.Disk.seen mid)) mid c.clear_run.new.d)
+    (subst (λ (k : ℕ). Touches g.D.Disk
+    (IsClearing c.args.store.now (k - n) k (g.D.Disk.seen mid)) mid c.clear_run.new.d)
     c.count-end.ensures c.clear_run.ensures.touches)
 
 pub returns-clause-merged : goal.returns-clause-merged
@@ -83,18 +98,25 @@ returns-clause-merged g c = λ t rest scanned.
     let n : ℕ = c.args.n in
     let mid = c.copy_run.new.d in
     IfOk-weaker c.clear_run.result
-    (λ u. AreCleared c.args.store.now (c.count-end.result - n) c.count-end.result (g.D.Disk.seen mid) (g.D.Disk.seen c.clear_run.new.d))
-    (λ u. WithoutLast c.args.base.now c.args.store.now es n (g.D.Disk.seen c.args.d.now) (g.D.Disk.seen c.clear_run.new.d))
+    (λ u. AreCleared c.args.store.now (c.count-end.result - n) c.count-end.result
+    (g.D.Disk.seen mid) (g.D.Disk.seen c.clear_run.new.d))
+    (λ u. WithoutLast c.args.base.now c.args.store.now es n (g.D.Disk.seen c.args.d.now)
+    (g.D.Disk.seen c.clear_run.new.d))
     (λ u all.
     merged g.D.Disk c.args.base.now c.args.store.now es n c.requires.run c.args.d.now
     mid c.clear_run.new.d t c.requires.some c.requires.can scanned
-    (subst (λ (k : ℕ). Touches g.D.Disk (InSectors (InCopied c.args.base.now es (k - n))) c.args.d.now mid)
+    (subst (λ (k : ℕ). Touches g.D.Disk
+    (InSectors (InCopied c.args.base.now es (k - n))) c.args.d.now mid)
     c.count-end.ensures c.copy_run.ensures.touches)
-    (subst (λ (k : ℕ). AreCopied c.args.base.now c.args.store.now es (k - n) (length es) (g.D.Disk.seen c.args.d.now) (g.D.Disk.seen mid))
+    (subst (λ (k : ℕ). AreCopied c.args.base.now c.args.store.now es (k - n) (length es)
+    (g.D.Disk.seen c.args.d.now) (g.D.Disk.seen mid))
     c.count-end.ensures (c.in_ok-copy_run.ensures.copied t))
-    (λ s below. (g.met.D.Disk.whole mid s (g.D.Disk.seen mid s) below (g.met.D.Disk.seen_held mid s)).long)
-    (subst (λ (k : ℕ). Touches g.D.Disk (IsClearing c.args.store.now (k - n) k (g.D.Disk.seen mid)) mid c.clear_run.new.d)
+    (λ s below. (g.met.D.Disk.whole mid s (g.D.Disk.seen mid s) below
+    (g.met.D.Disk.seen_held mid s)).long)
+    (subst (λ (k : ℕ). Touches g.D.Disk
+    (IsClearing c.args.store.now (k - n) k (g.D.Disk.seen mid)) mid c.clear_run.new.d)
     c.count-end.ensures c.clear_run.ensures.touches)
-    (subst (λ (k : ℕ). AreCleared c.args.store.now (k - n) k (g.D.Disk.seen mid) (g.D.Disk.seen c.clear_run.new.d))
+    (subst (λ (k : ℕ). AreCleared c.args.store.now (k - n) k (g.D.Disk.seen mid)
+    (g.D.Disk.seen c.clear_run.new.d))
     c.count-end.ensures all))
     (c.clear_run.ensures.cleared t)

@@ -18,7 +18,8 @@ returns-then-n-eq0-clause-kept g c =
 
 pub returns-then-n-eq0-clause-merged : goal.returns-then-n-eq0-clause-merged
 returns-then-n-eq0-clause-merged g c = λ t rest scanned.
-    without_none c.args.base.now c.args.store.now c.args.view.now (g.D.Disk.seen c.args.d.now) scanned
+    without_none c.args.base.now c.args.store.now c.args.view.now
+    (g.D.Disk.seen c.args.d.now) scanned
 
 pub returns-then-n-eq0-clause-time : goal.returns-then-n-eq0-clause-time
 returns-then-n-eq0-clause-time g c = λ t rest scanned.

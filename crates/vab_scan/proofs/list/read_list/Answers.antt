@@ -26,7 +26,8 @@ returns-in-Ok-Some-clause-found g c = λ t.
     let k : ℕ = c.loop-area.area in
     let old : List Exception = c.loop-area.items.items in
     let new : List Exception = c.read_area.new.items.items in
-    let step : StepsOver g.D.Disk.is_modelled map c.args.bound (g.D.Disk.seen c.loop-area.d) k old new (Some c.in-Ok-Some.end) =
+    let step : StepsOver g.D.Disk.is_modelled map c.args.bound
+    (g.D.Disk.seen c.loop-area.d) k old new (Some c.in-Ok-Some.end) =
     subst (StepsOver g.D.Disk.is_modelled map c.args.bound (g.D.Disk.seen c.loop-area.d) k old new)
     c.in-Ok-Some.field-0-is c.in-Ok-Some.ensures.step in
     let below : k < areas_of area_entries (chunks_of map) =
@@ -45,7 +46,8 @@ returns-in-Ok-Some-clause-kept g c =
     let k : ℕ = c.loop-area.area in
     let old : List Exception = c.loop-area.items.items in
     let new : List Exception = c.read_area.new.items.items in
-    let step : StepsOver g.D.Disk.is_modelled map c.args.bound (g.D.Disk.seen c.loop-area.d) k old new (Some c.in-Ok-Some.end) =
+    let step : StepsOver g.D.Disk.is_modelled map c.args.bound
+    (g.D.Disk.seen c.loop-area.d) k old new (Some c.in-Ok-Some.end) =
     subst (StepsOver g.D.Disk.is_modelled map c.args.bound (g.D.Disk.seen c.loop-area.d) k old new)
     c.in-Ok-Some.field-0-is c.in-Ok-Some.ensures.step in
     let below : k < areas_of area_entries (chunks_of map) =
@@ -59,7 +61,8 @@ loop-area-preserved g c =
     let k : ℕ = c.loop-area.area in
     let old : List Exception = c.loop-area.items.items in
     let new : List Exception = c.read_area.new.items.items in
-    let step : StepsOver g.D.Disk.is_modelled map c.args.bound (g.D.Disk.seen c.loop-area.d) k old new None =
+    let step : StepsOver g.D.Disk.is_modelled map c.args.bound
+    (g.D.Disk.seen c.loop-area.d) k old new None =
     subst (StepsOver g.D.Disk.is_modelled map c.args.bound (g.D.Disk.seen c.loop-area.d) k old new)
     c.in-Ok-None.field-0-is c.in-Ok-None.ensures.step in
     let n : ℕ = length step.area in
@@ -77,7 +80,12 @@ loop-area-preserved g c =
           (i.reads.seen t))
           (omega arith) step.few
           ∙ ap (firsts (slot_at area_entries map image)) next;
-      long = omega (arith, length_more (chunks_of map) c.args.bound step.area old new n taken, i.long, full);
+      long = omega (
+        arith,
+        length_more (chunks_of map) c.args.bound step.area old new n taken,
+        i.long,
+        full,
+      );
       lie = lie_more (chunks_of map) c.args.bound step.area old new n i.lie taken;
       reads = reads_then g.D.Disk _ _ _ i.reads c.read_area.ensures.reads;
       steady = c.in-Ok-None.ensures.faults ∙ i.steady;
@@ -89,6 +97,12 @@ returns-clause-found g c = λ t.
     let map : List ℕ = c.args.map.now in
     let image = g.D.Disk.seen c.args.d.now in
     let all : 256 * c.loop-area.area ≡ slots_of area_entries map =
-    omega (arith, c.loop-area-test.false, c.loop-area.auto.area-end, c.areas-area-end.ensures, c.len.ensures.count) in
+    omega (
+      arith,
+      c.loop-area-test.false,
+      c.loop-area.auto.area-end,
+      c.areas-area-end.ensures,
+      c.len.ensures.count,
+    ) in
     found_unended map c.args.bound image c.loop-area.items.items
     (i.read t ∙ ap (firsts (slot_at area_entries map image)) all) i.lie

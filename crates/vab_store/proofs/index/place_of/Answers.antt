@@ -14,7 +14,8 @@ loop-low-preserved-in-Less g c =
     let s = c.loop-low.steps - c.args.steps.now in
     let t = c.compare.new.self - c.args.steps.now in
     let some : low < c.loop-low.high = c.loop-low-test.true in
-    let less : (place_at ps mid).key < c.args.key = less_of (place_at ps mid).key c.args.key c.in-Less.ensures.value in
+    let less : (place_at ps mid).key < c.args.key =
+    less_of (place_at ps mid).key c.args.key c.in-Less.ensures.value in
     let more : t ≡ s + 1 = omega (arith, c.compare.ensures.step, i.grows) in
     let within : mid < length ps = omega (arith, some, i.within) in
     record {
@@ -22,7 +23,8 @@ loop-low-preserved-in-Less g c =
       within = i.within;
       below = λ k lt. elim (cases_lt k mid) [
         | inl before ↦
-            let under : (place_at ps k).key < (place_at ps mid).key = c.requires k mid before within in
+            let under : (place_at ps k).key < (place_at ps mid).key =
+            c.requires k mid before within in
             omega (arith, under, less)
         | inr last ↦
             let is : mid ≡ k = omega (arith, last, lt) in
@@ -30,7 +32,8 @@ loop-low-preserved-in-Less g c =
       ];
       above = i.above;
       grows = omega (arith, i.grows, c.compare.ensures.step);
-      halves = halves_more s t m (c.loop-low.high - (mid + 1)) (length ps) more i.halves (omega (arith, some));
+      halves = halves_more s t m (c.loop-low.high - (mid + 1)) (length ps) more i.halves
+          (omega (arith, some));
       cost = cost_more s t m (length ps) more i.halves (omega (arith, some));
     }
 
@@ -44,7 +47,8 @@ loop-low-preserved g c =
     let s = c.loop-low.steps - c.args.steps.now in
     let t = c.compare.new.self - c.args.steps.now in
     let some : low < c.loop-low.high = c.loop-low-test.true in
-    let more_key : c.args.key < (place_at ps mid).key = greater_of (place_at ps mid).key c.args.key c.in-Greater.ensures.value in
+    let more_key : c.args.key < (place_at ps mid).key =
+    greater_of (place_at ps mid).key c.args.key c.in-Greater.ensures.value in
     let more : t ≡ s + 1 = omega (arith, c.compare.ensures.step, i.grows) in
     record {
       order = omega arith;

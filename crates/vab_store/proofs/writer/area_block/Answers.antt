@@ -27,7 +27,8 @@ loop-i-preserved c =
 pub returns : goal.returns
 returns c =
     let f : ℕ → Exception = λ i. planned_at c.args.olds.now (256 * c.args.area + i) in
-    let all : c.loop-i.i ≡ c.min-count.result = omega (arith, c.loop-i-test.false, c.loop-i.auto.i-end) in
+    let all : c.loop-i.i ≡ c.min-count.result =
+    omega (arith, c.loop-i-test.false, c.loop-i.auto.i-end) in
     c.encode_area.ensures.bytes
     ∙ ap (area_bytes 4096)
     (c.loop-i.invariant ∙ ap (firsts f) (all ∙ c.min-count.ensures))

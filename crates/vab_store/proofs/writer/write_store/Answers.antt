@@ -14,7 +14,8 @@ pub returns-in_err-write_at-clause-touches : goal.returns-in_err-write_at-clause
 returns-in_err-write_at-clause-touches g c =
     let n = c.loop-chunk.chunk in
     let map = c.args.map.now in
-    let below : n < length map = omega (arith, c.loop-chunk-test.true, c.need-chunk-end.ensures, c.requires.room) in
+    let below : n < length map = omega
+    (arith, c.loop-chunk-test.true, c.need-chunk-end.ensures, c.requires.room) in
     touches_on g.D.Disk _ _ _ _ _ _ c.loop-chunk.invariant.touches c.write_at.ensures.touches
     (λ s b w. w)
     (λ s b w. in_map map n c.chunk_block.result s b below w)
@@ -28,7 +29,8 @@ loop-chunk-preserved g c =
     let bytes : List ℕ = c.chunk_block.result in
     let old = g.D.Disk.seen c.loop-chunk.d in
     let new = g.D.Disk.seen c.write_at.new.d in
-    let below : n < length map = omega (arith, c.loop-chunk-test.true, c.need-chunk-end.ensures, c.requires.room) in
+    let below : n < length map = omega
+    (arith, c.loop-chunk-test.true, c.need-chunk-end.ensures, c.requires.room) in
     let long : length bytes ≡ 4096 = search rules in
     let ok = c.in_ok-write_at.ensures in
     record {

@@ -15,11 +15,14 @@ invariant_of-self c =
     let r : ℕ = c.index_of-i.result in
     let some : 0 < length es =
     subst (λ (l : List Exception). 0 < length l) (sym c.self.view_is) c.requires in
-    let within : r < length ps = omega (arith, c.index_of-i.ensures.within, ap length c.deref.ensures.value) in
+    let within : r < length ps = omega
+    (arith, c.index_of-i.ensures.within, ap length c.deref.ensures.value) in
     let here : (place_at ps r).at ≡ n =
     ap (λ (l : List Place). (place_at l r).at) (sym c.deref.ensures.value)
     ∙ c.index_of-i.ensures.here in
     let front : IsIndexed Old (take n es) (remove ps r) =
-    indexed_front es ps r n c.self.invariant within here (omega (arith, some, c.len-last.ensures)) in
-    subst (λ (l : List Exception). IsIndexed Old l c.remove.new.self.items) (sym c.truncate.ensures.items)
+    indexed_front es ps r n c.self.invariant within here
+    (omega (arith, some, c.len-last.ensures)) in
+    subst (λ (l : List Exception). IsIndexed Old l c.remove.new.self.items)
+    (sym c.truncate.ensures.items)
     (subst (IsIndexed Old (take n es)) (sym c.remove.ensures.items) front)

@@ -1,0 +1,5 @@
+//! Tests of exception stores: written, scanned, read through and merged on a disk in memory.
+#![tactic(auto)]
+
+#[cfg(test)]
+mod tests;
