@@ -12,7 +12,7 @@ use vab_model::{Command, Refusal, Reply};
 use vab_recover::start;
 use vab_set::{Set, read_set};
 
-const SECTORS: u64 = 8192;
+pub const SECTORS: u64 = 8192;
 
 // One image `x` of three bytes for a partition of 4096 bytes.
 const ONE: [u8; 41] = [
@@ -26,7 +26,7 @@ const SUM: [u8; 32] = [
     36, 189, 81, 35, 95, 49, 31, 50, 170, 245, 252, 66,
 ];
 
-fn set_of_one(alloc: Global) -> Result<Set, Fail>
+pub fn set_of_one(alloc: Global) -> Result<Set, Fail>
     ensures { IfOk result (λ set. IsSet set) }
 {
     match read_set(alloc, &ONE) {
@@ -47,7 +47,7 @@ fn device_of_one(alloc: Global) -> Result<MemPort, Fail> {
 }
 
 // Opens the device of a disk and carries out a command on it, where the disk doesn't fail.
-fn reply(alloc: Global, d: &mut MemPort, command: &Command) -> Option<Reply> {
+pub fn reply(alloc: Global, d: &mut MemPort, command: &Command) -> Option<Reply> {
     let device = start(alloc, d).ok()?;
     let (_, reply) = run_one(d, device, command).ok()?;
     Some(reply)
