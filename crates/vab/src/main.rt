@@ -1,6 +1,7 @@
 //! The program `vab`: the update storage of an Android device in a file or in memory, by verbs and by a fastboot session.
 #![tactic(auto)]
 
+mod usage;
 mod word;
 
 use std::env::{self, Env};
@@ -8,13 +9,11 @@ use std::io::{Stdin, Stdout};
 use std::process::ExitCode;
 use vab_cli::{Status, run};
 use vab_real::{FilePort, OpenFault};
+use usage::USAGE;
 use word::{Device, parse_device};
 
-const USAGE: &str =
-    "usage: vab DEVICE make [--limit BYTES] [--metadata-max BYTES], with a set of images as the input\n\
-    \u{20}      vab DEVICE serve [--fresh]\n\
-    \u{20}      vab DEVICE boot | mark | activate SLOT | print NAME | digest NAME\n\
-    DEVICE is a file that exists, or mem:N for N sectors of zeros in memory";
+// Alone it asks for the usage; it is no path.
+const HELP: &str = "--help";
 
 const NO_MEMORY: u8 = 8;
 
@@ -57,8 +56,8 @@ fn main(rt: HostRuntime) -> ExitCode {
         None => return ExitCode::from(NO_MEMORY),
     };
     let (first, rest) = match words.as_slice() {
-        [first, rest @ ..] => (first, rest),
-        [] => {
+        [first, rest @ ..] if first.as_str() != HELP => (first, rest),
+        _ => {
             let _ = rt.eprintln(USAGE);
             return ExitCode::from(Status::Usage.code());
         }

@@ -19,9 +19,9 @@ pub record LeavesControl (told : List ℕ) (control : Control) (old : Image) (o 
   pub either : (o.image ≡ old) ⊎ HasControl control old o.image
 
 -- The boot control's sector with this boot control, and its other bits as these bytes have them.
-pub record IsControl (control : Control) (old : List ℕ) (s : ℕ) (b : List ℕ) : Type 0 where
+pub record IsControl (c : Control) (old : List ℕ) (s : ℕ) (b : List ℕ) : Type 0 where
   pub at : s ≡ 4
-  pub control : control_of b ≡ Ok control
+  pub control : control_of b ≡ Ok c
   pub rest : KeepsRest old b
 
 -- What a command may write: the boot control that the boot rules make of the old one, of both slots.

@@ -1,4 +1,6 @@
 use Rattle.std.proofs.Common.{◌≡◌, ◌⊎◌, inl, inr, ⊎_elim, ℕ, true, false, Err, Some, sym, ◌∙◌, ap, subst, arith}
+use Rattle.vab_disk.specs.Calls.{OnlyReads}
+use Rattle.vab_disk.proofs.CallLaws.{reads_none}
 use Rattle.vab_make.specs.declared.fault.MakeFault.{MakeFault}
 use Rattle.vab_make.specs.Making.{Gives}
 use Rattle.vab_cli.specs.declared.status.Status.TheVariants.{Done, Port, NoMemory}
@@ -12,7 +14,7 @@ use Rattle.vab_cli.proofs.making.make_of.Goals as goal
 pub tell_made-requires-clause-size : goal.tell_made-requires-clause-size
 tell_made-requires-clause-size g c =
     let enough = enough_sectors c.args.set.now c.args.limit c.args.max (g.P.Disk.size c.args.port.now) c.in-Ok.ensures.exact in
-    omega (arith, enough, c.make_device.ensures.quiet.size)
+    omega (arith, enough, c.make_device.ensures.touches.quiet.size)
 
 pub returns-in-Ok-clause-made : goal.returns-in-Ok-clause-made
 returns-in-Ok-clause-made g c = λ t none.
@@ -20,9 +22,9 @@ returns-in-Ok-clause-made g c = λ t none.
     let mid = c.make_device.new.d in
     let new = c.tell_made.new.port in
     let size = g.P.Disk.size old in
-    let tells = subst (λ (n : ℕ). Tells g.P.Disk.seen g.P.Disk.may_leave g.P.Disk.told g.P.Disk.moment g.P.Disk.outcomes (done_making c.args.set.now n) Done mid new c.tell_made.result) c.make_device.ensures.quiet.size (c.tell_made.ensures.tells t) in
+    let tells = subst (λ (n : ℕ). Tells g.P.Disk.seen g.P.Disk.may_leave g.P.Disk.told g.P.Disk.moment g.P.Disk.outcomes (done_making c.args.set.now n) Done mid new c.tell_made.result) c.make_device.ensures.touches.quiet.size (c.tell_made.ensures.tells t) in
     making_told g.P.Disk.seen g.P.Disk.may_leave g.P.Disk.told g.P.Disk.input_left g.P.Disk.moment g.P.Disk.outcomes g.met.P.Disk.only_now size c.args.set.now c.args.limit c.args.max (done_making c.args.set.now size) old mid new c.tell_made.result
-    (c.make_device.ensures.quiet.told t) (c.in-Ok.ensures.made t) (c.in-Ok.ensures.settled t) (c.make_device.ensures.time t) c.tell_made.ensures.either tells
+    (c.make_device.ensures.touches.quiet.told t) (c.in-Ok.ensures.made t) (c.in-Ok.ensures.settled t) (c.make_device.ensures.time t) c.tell_made.ensures.either tells
 
 pub returns-then-is_silent-clause-made : goal.returns-then-is_silent-clause-made
 returns-then-is_silent-clause-made g c = λ t none.
@@ -35,8 +37,8 @@ returns-then-is_silent-clause-made g c = λ t none.
     (λ disk. inl (inl (c.from.ensures ∙ disk)))
     (λ memory. inr (c.from.ensures ∙ ap make_status memory))
     (silent_early fault is) in
-    making_untold g.P.Disk.seen g.P.Disk.may_leave g.P.Disk.told g.P.Disk.input_left g.P.Disk.moment g.P.Disk.outcomes g.met.P.Disk.only_now size c.args.set.now c.args.limit c.args.max (done_making c.args.set.now size) old new c.from.result (c.make_device.ensures.quiet.told t)
-    (λ memory. (c.in-Err.ensures.untouched t (memory_of_none fault (sym c.from.ensures ∙ memory))).0) (c.make_device.ensures.time t) either
+    making_untold g.P.Disk.seen g.P.Disk.may_leave g.P.Disk.told g.P.Disk.input_left g.P.Disk.moment g.P.Disk.outcomes g.met.P.Disk.only_now size c.args.set.now c.args.limit c.args.max (done_making c.args.set.now size) old new c.from.result (c.make_device.ensures.touches.quiet.told t)
+    (λ memory. ap g.P.Disk.seen (c.in-Err.ensures.untouched (memory_of_none fault (sym c.from.ensures ∙ memory)))) (c.make_device.ensures.time t) either
 
 pub returns-then-is_silent-clause-refused : goal.returns-then-is_silent-clause-refused
 returns-then-is_silent-clause-refused g c = λ t fault refused.
@@ -47,8 +49,9 @@ returns-then-is_silent-clause-refused g c = λ t fault refused.
     let is : is_silent c.in-Err.fault ≡ true = sym c.is_silent.ensures ∙ c.if-is_silent.true in
     let memory : c.from.result ≡ NoMemory = c.from.ensures ∙ silent_memory c.in-Err.fault fault gives is in
     let no_disk = not_of_disk c.in-Err.fault fault gives in
-    refused_unheard g.P.Disk.seen g.P.Disk.may_leave g.P.Disk.told g.P.Disk.input_left g.P.Disk.moment g.P.Disk.outcomes g.met.P.Disk.only_now size (make_line fault) (make_status fault) old new c.from.result (c.make_device.ensures.quiet.told t)
-    (c.in-Err.ensures.untouched t no_disk).0 (c.in-Err.ensures.still t no_disk) (silent_line fault) (status_not_port fault) (inr (inr memory))
+    let reads = subst (λ (x : g.row.P.Denot). OnlyReads g.P.Disk old x) (sym (c.in-Err.ensures.untouched no_disk)) (reads_none g.P.Disk old) in
+    refused_unheard g.P.Disk.seen g.P.Disk.may_leave g.P.Disk.told g.P.Disk.input_left g.P.Disk.moment g.P.Disk.outcomes g.met.P.Disk.only_now size (make_line fault) (make_status fault) old new c.from.result (c.make_device.ensures.touches.quiet.told t)
+    (reads.seen t) (reads.time t) (silent_line fault) (status_not_port fault) (inr (inr memory))
 
 pub returns-clause-refused : goal.returns-clause-refused
 returns-clause-refused g c = λ t fault refused.
@@ -60,7 +63,8 @@ returns-clause-refused g c = λ t fault refused.
     let loud : is_silent c.in-Err.fault ≡ false = sym c.is_silent.ensures ∙ c.if-is_silent.false in
     let same : c.in-Err.fault ≡ fault = loud_refusal c.in-Err.fault fault gives loud in
     let no_disk = not_of_disk c.in-Err.fault fault gives in
+    let reads = subst (λ (x : g.row.P.Denot). OnlyReads g.P.Disk old x) (sym (c.in-Err.ensures.untouched no_disk)) (reads_none g.P.Disk old) in
     let tells = subst (λ (f : MakeFault). Tells g.P.Disk.seen g.P.Disk.may_leave g.P.Disk.told g.P.Disk.moment g.P.Disk.outcomes (make_line f) (make_status f) mid new c.tell_fault.result) same (c.tell_fault.ensures.tells t) in
     let either = subst (λ (f : MakeFault). (c.tell_fault.result ≡ make_status f) ⊎ (c.tell_fault.result ≡ Port)) same c.tell_fault.ensures.either in
-    refused_told g.P.Disk.seen g.P.Disk.may_leave g.P.Disk.told g.P.Disk.input_left g.P.Disk.moment g.P.Disk.outcomes g.met.P.Disk.only_now size (make_line fault) (make_status fault) old mid new c.tell_fault.result (c.make_device.ensures.quiet.told t)
-    (c.in-Err.ensures.untouched t no_disk).0 (c.in-Err.ensures.untouched t no_disk).1 (c.in-Err.ensures.still t no_disk) (silent_line fault) either tells
+    refused_told g.P.Disk.seen g.P.Disk.may_leave g.P.Disk.told g.P.Disk.input_left g.P.Disk.moment g.P.Disk.outcomes g.met.P.Disk.only_now size (make_line fault) (make_status fault) old mid new c.tell_fault.result (c.make_device.ensures.touches.quiet.told t)
+    (reads.seen t) (reads.crash t) (reads.time t) (silent_line fault) either tells

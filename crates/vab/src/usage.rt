@@ -1,0 +1,22 @@
+// What the program says where its words aren't taken.
+
+/// The usage: the verbs, their options with their ranges, the statuses and two examples.
+pub const USAGE: &str = "usage: vab DEVICE VERB\n\
+    DEVICE is the image of a device in a file, or mem:N for N sectors of zeros in memory.\n\
+    verbs:\n\
+    \u{20} make             make a device of the set of images on the input, in slot a\n\
+    \u{20}   --limit BYTES         limit of the partitions' group, 0 to 2^44, 0 for none\n\
+    \u{20}   --metadata-max BYTES  most bytes of a copy of a table, 512 to 65536, by 512\n\
+    \u{20} serve            a fastboot session over TCP framing on the input and the output\n\
+    \u{20}   --fresh               make a device without images first\n\
+    \u{20} boot             boot the slot of the highest priority\n\
+    \u{20} mark             mark the current slot as one that works\n\
+    \u{20} activate SLOT    make slot a or b the one to boot next\n\
+    \u{20} print NAME       the bytes of a partition, as system_a\n\
+    \u{20} digest NAME      their SHA-256\n\
+    statuses: 0 done, 2 the words aren't taken, 3 the input is malformed, 4 refused,\n\
+    \u{20} 5 no device, 6 the disk failed, 7 the input or the output failed,\n\
+    \u{20} 8 memory was refused, 9 the file can't be opened or is in use\n\
+    examples:\n\
+    \u{20} vabpack system=system.img | vab dev.img make\n\
+    \u{20} vab dev.img print system_a >system.img";
