@@ -7,9 +7,9 @@ mod word;
 use std::env::{self, Env};
 use std::io::{Stdin, Stdout};
 use std::process::ExitCode;
+use usage::USAGE;
 use vab_cli::{Status, run};
 use vab_real::{FilePort, OpenFault};
-use usage::USAGE;
 use word::{Device, parse_device};
 
 // Alone it asks for the usage; it is no path.

@@ -39,10 +39,10 @@ pub fn change<D: Disk>(d: &mut D, device: Device, control: Control) -> Result<De
     ensures time { D.is_modelled
         → IsAtRest D.Disk d.old
         → Adds D.moment D.outcomes d.old d.new
-          (LeavesStep (D.told d.old) (D.size d.old) (D.seen d.old)
-            (state_on device (D.seen d.old)
-              ∷ state_on (with_boot control device) (D.seen d.old)
-              ∷ [])) }
+        (LeavesStep (D.told d.old) (D.size d.old) (D.seen d.old)
+        (state_on device (D.seen d.old)
+        ∷ state_on (with_boot control device) (D.seen d.old)
+        ∷ [])) }
     ensures faults { FailsWithDisk D.Disk d.old d.new result }
 {
     match put_control(d, &control) {

@@ -44,8 +44,8 @@ pub fn run_one<D: Disk>(
     ensures time { D.is_modelled
         → IsAtRest D.Disk d.old
         → Adds D.moment D.outcomes d.old d.new
-          (LeavesStep (D.told d.old) (D.size d.old) (D.seen d.old)
-            (steps_by (state_on device (D.seen d.old)) command.now)) }
+        (LeavesStep (D.told d.old) (D.size d.old) (D.seen d.old)
+        (steps_by (state_on device (D.seen d.old)) command.now)) }
     ensures faults { FailsWithDisk D.Disk d.old d.new result }
 {
     match command {

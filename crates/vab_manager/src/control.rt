@@ -27,7 +27,7 @@ pub fn put_control<D: Disk>(d: &mut D, control: &Control) -> Result<(), DiskFaul
     ensures gate { D.is_modelled
         → IsAtRest D.Disk d.old
         → Adds D.moment D.outcomes d.old d.new
-          (LeavesControl (D.told d.old) control.now (D.seen d.old)) }
+        (LeavesControl (D.told d.old) control.now (D.seen d.old)) }
     ensures faults { FailsWithDisk D.Disk d.old d.new result }
 {
     let mut sector = [0u8; 512];

@@ -69,8 +69,8 @@ pub fn set_active<D: Disk>(
     ensures time { D.is_modelled
         → IsAtRest D.Disk d.old
         → Adds D.moment D.outcomes d.old d.new
-          (LeavesStep (D.told d.old) (D.size d.old) (D.seen d.old)
-            (steps_by (state_on device (D.seen d.old)) (SetActive slot))) }
+        (LeavesStep (D.told d.old) (D.size d.old) (D.seen d.old)
+        (steps_by (state_on device (D.seen d.old)) (SetActive slot))) }
     ensures faults { FailsWithDisk D.Disk d.old d.new result }
 {
     if !has_images(&device, slot) {
@@ -103,8 +103,8 @@ pub fn boot<D: Disk>(d: &mut D, device: Device) -> Result<(Device, Reply), DiskF
     ensures time { D.is_modelled
         → IsAtRest D.Disk d.old
         → Adds D.moment D.outcomes d.old d.new
-          (LeavesStep (D.told d.old) (D.size d.old) (D.seen d.old)
-            (steps_by (state_on device (D.seen d.old)) Boot)) }
+        (LeavesStep (D.told d.old) (D.size d.old) (D.seen d.old)
+        (steps_by (state_on device (D.seen d.old)) Boot)) }
     ensures faults { FailsWithDisk D.Disk d.old d.new result }
 {
     let has = [has_images(&device, 0), has_images(&device, 1)];
@@ -135,8 +135,8 @@ pub fn mark<D: Disk>(d: &mut D, device: Device) -> Result<(Device, Reply), DiskF
     ensures time { D.is_modelled
         → IsAtRest D.Disk d.old
         → Adds D.moment D.outcomes d.old d.new
-          (LeavesStep (D.told d.old) (D.size d.old) (D.seen d.old)
-            (steps_by (state_on device (D.seen d.old)) Mark)) }
+        (LeavesStep (D.told d.old) (D.size d.old) (D.seen d.old)
+        (steps_by (state_on device (D.seen d.old)) Mark)) }
     ensures faults { FailsWithDisk D.Disk d.old d.new result }
 {
     let control = marked(&device.control);

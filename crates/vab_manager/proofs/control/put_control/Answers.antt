@@ -1,7 +1,14 @@
 use Rattle.std.proofs.Common.{◌≡◌, inl, inr, ⊎_elim, ℕ, List, Ok, Err, Result, sym, ◌∙◌, ap, subst}
 use Rattle.std.specs.Prelude.{OnOk}
 use Rattle.vab_disk.specs.Disk.{
-  Image, Outcome, IsSettled, SameHoldings, Adds, Nothing, LeavesEither, set_sector
+  Image,
+  Outcome,
+  IsSettled,
+  SameHoldings,
+  Adds,
+  Nothing,
+  LeavesEither,
+  set_sector,
 }
 use Rattle.vab_disk.proofs.CallLaws.{touches_reads, touches_then, touches_wider}
 use Rattle.vab_disk.proofs.Moments.{adds_wider, adds_on}
@@ -20,7 +27,7 @@ module _ {D : Type 0} (moment : D → ℕ) (outcomes : D → ℕ → Outcome →
       → KeepsRest (seen 4) sector
       → Adds moment outcomes old mid Nothing
       → (IsSettled seen' hold'
-        → Adds moment outcomes mid new (LeavesEither told' seen' (set_sector seen' 4 sector)))
+      → Adds moment outcomes mid new (LeavesEither told' seen' (set_sector seen' 4 sector)))
       → IsSettled seen hold
       → Adds moment outcomes old new (LeavesControl told state seen)
   gated old mid new state seen seen' hold hold' told told' sector same same_told holds decoded keeps read gate
@@ -70,7 +77,7 @@ pub returns-clause-touches : goal.returns-clause-touches
 returns-clause-touches g c = λ t.
     let bytes = c.encode_control_into.new.bytes in
     let keeps = subst (λ (l : List ℕ). KeepsRest l bytes) (c.in_ok-get_sector.ensures.bytes t)
-        c.encode_control_into.ensures.rest in
+    c.encode_control_into.ensures.rest in
     touches_then g.D.Disk _ _ _ _ (touches_reads g.D.Disk _ _ _ c.get_sector.ensures.reads)
     (touches_wider g.D.Disk _ _ _ _ c.put_gate.ensures.touches
     (λ s b is. record {
@@ -83,7 +90,7 @@ pub returns-clause-gate : goal.returns-clause-gate
 returns-clause-gate g c = λ t rest.
     let bytes = c.encode_control_into.new.bytes in
     let keeps = subst (λ (l : List ℕ). KeepsRest l bytes) (c.in_ok-get_sector.ensures.bytes t)
-        c.encode_control_into.ensures.rest in
+    c.encode_control_into.ensures.rest in
     gated g.D.Disk.moment g.D.Disk.outcomes _ _ _ c.args.control.now _ _ _ _ _ _ bytes
     (c.get_sector.ensures.reads.seen t) (c.get_sector.ensures.reads.quiet.told t)
     (c.get_sector.ensures.reads.crash t) c.encode_control_into.ensures.decoded keeps
