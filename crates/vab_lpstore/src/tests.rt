@@ -72,15 +72,15 @@ fn what_is_stored_is_loaded(rt: HostRuntime) -> Result<(), Fail> {
 #[test]
 fn a_cut_leaves_the_old_table_or_the_new(rt: HostRuntime) -> Result<(), Fail> {
     let alloc = rt.alloc();
-    for stop in 0..10u64 {
+    for stop in 0..8u64 {
         let mut d = port(alloc)?;
         assert!(rt; store(&mut d, &ONE_GROUP));
         let mut d = d.next_run(Vec::new(alloc));
         d.stop_after(stop);
         assert!(rt; !store(&mut d, &TWO_GROUPS));
         let mut d = d.next_run(Vec::new(alloc));
-        // The fourth is the write of the primary's first sector.
-        let groups = if stop < 4 { 1 } else { 2 };
+        // The third is the write of the primary's first sector.
+        let groups = if stop < 3 { 1 } else { 2 };
         assert_eq!(rt; seen(alloc, &mut d).map(|found| found.0), Ok(groups));
     }
     Ok(())
