@@ -1,1 +1,6 @@
-pub mod DeviceLaws
+pub mod CheckLaws
+pub mod ControlLaws
+pub mod IdleLaws
+pub mod ReadingLaws
+pub mod RepairLaws
+pub mod SameLaws

@@ -1,1 +1,7 @@
-pub mod Device
+pub mod Checks
+pub mod Faults
+pub mod Idle
+pub mod Kept
+pub mod Mounted
+pub mod Phases
+pub mod Reading

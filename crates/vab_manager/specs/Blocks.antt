@@ -1,13 +1,14 @@
 -- A block of the image under a base name in a slot.
-use Rattle.std.specs.Prelude.{◌≡◌, ℕ, ◌*◌, ◌<◌, ◌==◌, if◌then◌else◌, List, length, take, drop, Option, Some}
+use Rattle.std.specs.Prelude.{
+  ◌≡◌, ℕ, ◌*◌, ◌<◌, ◌==◌, if◌then◌else◌, List, length, take, drop, Option, Some
+}
 use Rattle.std.specs.Option.{option_and_then}
 use Rattle.vab_names.specs.Names.{is_full}
 use Rattle.vab_model.specs.declared.state.Image.{Image as ImageOfSlot}
-use Rattle.vab_model.specs.declared.state.SlotState.{SlotState}
 use Rattle.vab_model.specs.declared.state.State.{State}
-use Rattle.vab_model.specs.State.{slot_at, image_named}
-use Rattle.vab_recover.specs.declared.device.Part.{Part}
-use Rattle.vab_recover.specs.declared.device.Device.{Device}
+use Rattle.vab_model.specs.State.{images_at, image_named}
+use Rattle.vab_device.specs.declared.device.Part.{Part}
+use Rattle.vab_device.specs.declared.device.Device.{Device}
 use Rattle.vab_manager.specs.Found.{part_named}
 
 -- the slot whose suffix a name has, where it has one
@@ -28,8 +29,11 @@ HasBlock d slot name block = (p : Part) × KeepsPart d slot name p × (block < l
 
 -- the image that a state has under a base name in a slot
 abbrev pub image_at : State → ℕ → List ℕ → Option ImageOfSlot
-image_at s slot name = option_and_then (λ (x : SlotState). image_named name x.images) (slot_at s slot)
+image_at s slot name = option_and_then (image_named name) (images_at s slot)
 
 -- these bytes are a block of that image
 abbrev pub IsBlockOf : State → ℕ → List ℕ → ℕ → List ℕ → Type 0
-IsBlockOf s slot name block bytes = (image : ImageOfSlot) × (image_at s slot name ≡ Some image) × (bytes ≡ take 4096 (drop (4096 * block) image.bytes))
+IsBlockOf s slot name block bytes =
+    (image : ImageOfSlot)
+    × (image_at s slot name ≡ Some image)
+    × (bytes ≡ take 4096 (drop (4096 * block) image.bytes))

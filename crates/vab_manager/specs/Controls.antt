@@ -1,17 +1,20 @@
 -- Boot control written into its sector.
-use Rattle.std.specs.Prelude.{◌≡◌, ◌⊎◌, ℕ, ◌==◌, if◌then◌else◌, true, List, Ok, is_some}
+use Rattle.std.specs.Prelude.{◌≡◌, ◌⊎◌, ℕ, ◌==◌, if◌then◌else◌, true, List, Ok, [], ◌∷◌, Bool, is_some}
 use Rattle.vab_disk.specs.Disk.{Image, Outcome, set_sector}
 use Rattle.vab_bootctl.specs.declared.slots.Control.{Control}
 use Rattle.vab_bootctl.specs.Control.{control_of, KeepsRest}
 use Rattle.vab_bootctl.specs.Boot.{activated_of, booted_of, marked_of}
-use Rattle.vab_model.specs.declared.command.Command.{Command}
-use Rattle.vab_model.specs.declared.command.Command.TheVariants.{SetActive, Boot, Mark, Print, Digest}
-use Rattle.vab_recover.specs.declared.device.Device.{Device}
-use Rattle.vab_manager.specs.StateLaws.{has_of_device}
+use Rattle.vab_model.specs.Commands.{Command, SetActive, Boot, Mark, Print, Digest}
+use Rattle.vab_device.specs.declared.device.Device.{Device}
 
--- the new image is the old one with a sector of this boot control in its place; the bits of the sector that no field has stay
+-- The new image is the old one with a sector of this boot control in its place; the bits of the sector
+-- that no field has stay.
 abbrev pub HasControl : Control → Image → Image → Type 0
-HasControl control old new = (sector : List ℕ) × (control_of sector ≡ Ok control) × KeepsRest (old 4) sector × (new ≡ set_sector old 4 sector)
+HasControl control old new =
+    (sector : List ℕ)
+    × (control_of sector ≡ Ok control)
+    × KeepsRest (old 4) sector
+    × (new ≡ set_sector old 4 sector)
 
 -- with nothing more told, the image is the old one, or has this boot control
 pub record LeavesControl (told : List ℕ) (control : Control) (old : Image) (o : Outcome) : Type 0 where
@@ -24,13 +27,17 @@ pub record IsControl (c : Control) (old : List ℕ) (s : ℕ) (b : List ℕ) : T
   pub control : control_of b ≡ Ok c
   pub rest : KeepsRest old b
 
+-- which slots of a device have images
+abbrev pub slots_with_images : Device → List Bool
+slots_with_images d = is_some d.a ∷ is_some d.b ∷ []
+
 -- What a command may write: the boot control that the boot rules make of the old one, of both slots.
 -- A slot without images isn't set active, and a question writes nothing.
 abbrev pub IsOfCommand : Device → List ℕ → Command → ℕ → List ℕ → Type 0
 IsOfCommand d old (SetActive slot) s b =
     (is_some (if slot == 0 then d.a else d.b) ≡ true)
     × IsControl (activated_of d.control slot) old s b
-IsOfCommand d old Boot s b = IsControl (booted_of d.control (has_of_device d)) old s b
+IsOfCommand d old Boot s b = IsControl (booted_of d.control (slots_with_images d)) old s b
 IsOfCommand d old Mark s b = IsControl (marked_of d.control) old s b
 IsOfCommand d old (Print name) s b = ⊥
 IsOfCommand d old (Digest name) s b = ⊥

@@ -1,5 +1,4 @@
-pub mod Steps
-pub mod Controls
-pub mod StateLaws
-pub mod Found
 pub mod Blocks
+pub mod Commands
+pub mod Controls
+pub mod Found

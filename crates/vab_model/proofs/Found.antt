@@ -5,7 +5,7 @@ use Rattle.vab_names.specs.Names.{is_full}
 use Rattle.vab_model.specs.declared.command.Refusal.TheVariants.{BadName}
 use Rattle.vab_model.specs.declared.state.Image.{Image}
 use Rattle.vab_model.specs.declared.state.State.{State}
-use Rattle.vab_model.specs.Step.{Found, Image_is, Refused_by, found_in, found_of}
+use Rattle.vab_model.specs.Effects.{Found, Image_is, Refused_by, found_in, found_of}
 use Rattle.vab_model.proofs.Names.{full_is}
 
 of_a_slot : (a b : Bool) (x y : Found) (image : Image) → cond a x (cond b y (Refused_by BadName)) ≡ Image_is image → (a ≡ true) ⊎ (b ≡ true)

@@ -1,2 +1,3 @@
+pub mod Commands
+pub mod Effects
 pub mod State
-pub mod Step

@@ -2,7 +2,8 @@
 
 use vab_bytes::Name36;
 
-/// A command on a device. A slot is 0 for a and 1 for b; a name is a partition's with its slot's suffix.
+/// A command on a device. A slot is 0 for a and 1 for b; a name is a partition's with its slot's
+/// suffix.
 #[derive(Clone, Copy, Debug)]
 pub enum Command<'a> {
     /// Makes a slot the one to boot next.

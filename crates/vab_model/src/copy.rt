@@ -2,7 +2,7 @@
 
 ghost use Rattle.std.specs.Prelude.{◌≡◌, IfOk};
 
-use crate::{GroupLimit, Image, NoMemory, Phase, PlanEntry, PlanImage, SlotState, State};
+use crate::{GroupLimit, Image, NoMemory, Phase, PlanEntry, PlanImage, State};
 use std::alloc::Global;
 use vab_bytes::{Bytes, Listing};
 
@@ -38,12 +38,15 @@ fn copy_plan(alloc: Global, plan: &Listing<PlanEntry>) -> Result<Listing<PlanEnt
     Ok(Listing::from_vec(copies))
 }
 
-fn copy_slot(alloc: Global, slot: &Option<SlotState>) -> Result<Option<SlotState>, NoMemory>
-    ensures { IfOk result (λ x. x ≡ slot.now) }
+fn copy_slot(
+    alloc: Global,
+    images: &Option<Listing<Image>>,
+) -> Result<Option<Listing<Image>>, NoMemory>
+    ensures { IfOk result (λ x. x ≡ images.now) }
 {
-    match slot {
+    match images {
         None => Ok(None),
-        Some(slot) => Ok(Some(slot.copy(alloc)?)),
+        Some(images) => Ok(Some(copy_images(alloc, images)?)),
     }
 }
 
@@ -55,19 +58,6 @@ impl Image {
             name: self.name,
             group: self.group,
             bytes: copy_bytes(alloc, &self.bytes)?,
-        })
-    }
-}
-
-impl SlotState {
-    fn copy(&self, alloc: Global) -> Result<SlotState, NoMemory>
-        ensures { IfOk result (λ x. x ≡ self.now) }
-    {
-        Ok(SlotState {
-            images: copy_images(alloc, &self.images)?,
-            priority: self.priority,
-            tries: self.tries,
-            successful: self.successful,
         })
     }
 }
@@ -124,9 +114,9 @@ impl State {
         Ok(State {
             cap: self.cap,
             groups: copy_groups(alloc, &self.groups)?,
+            control: self.control,
             a: copy_slot(alloc, &self.a)?,
             b: copy_slot(alloc, &self.b)?,
-            current: self.current,
             phase: self.phase.copy(alloc)?,
         })
     }

@@ -1,5 +1,5 @@
-//! The state of a device as a model of its own: images as bytes, slots, and where an update stands; and what each command
-//! makes of it. Nothing here knows of sectors, tables or the order of writes.
+//! The state of a device as a model of its own: images as bytes, slots, and where an update stands;
+//! and what each command makes of it. Nothing here knows of sectors, tables or the order of writes.
 #![tactic(auto)]
 
 mod command;
@@ -11,7 +11,7 @@ mod state;
 pub use command::{Command, Refusal, Reply};
 pub use fault::NoMemory;
 pub use machine::step;
-pub use state::{GroupLimit, Image, Phase, PlanEntry, PlanImage, SlotState, State};
+pub use state::{GroupLimit, Image, Phase, PlanEntry, PlanImage, State};
 
 #[cfg(test)]
 mod tests;

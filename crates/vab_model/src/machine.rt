@@ -2,45 +2,17 @@
 
 ghost use Rattle.std.specs.Prelude.{◌≡◌, ◌≤◌, length, IfOk, MatchResult, option_copied, is_some};
 ghost use Rattle.vab_bootctl.specs.Boot.{activated_of};
-ghost use Rattle.vab_model.specs.declared.command.Command.TheVariants as commands;
-ghost use Rattle.vab_model.specs.State.{slot_at, info_of, control_of_state, has_images, with_info, with_control, image_named};
-ghost use Rattle.vab_model.specs.Step.{Image_is, Refused_by, found_in, found_of, bytes_reply, digest_reply, state_by, reply_to};
+ghost use Rattle.vab_model.specs.State.{images_at, has_images, with_control, image_named};
+ghost use Rattle.vab_model.specs.Commands.{SetActive, Boot, Mark, command_of};
+ghost use Rattle.vab_model.specs.Effects.{Effect, Image_is, Refused_by, found_in, found_of, print_effect, digest_effect, effect, after_of};
+ghost use Rattle.vab_model.specs.declared.state.State.{State as StateOf};
 
-use crate::{Command, Image, NoMemory, Refusal, Reply, SlotState, State};
+use crate::{Command, Image, NoMemory, Refusal, Reply, State};
 use sha2::{Digest, Sha256};
 use std::alloc::Global;
-use vab_bootctl::{Control, Info, activated, booted, marked};
+use vab_bootctl::{Control, activated, booted, marked};
 use vab_bytes::{Listing, Name36};
 use vab_names::{base_of, is_full};
-
-// ---- boot control
-
-fn info_of(slot: &Option<SlotState>) -> Info
-    ensures { result ≡ info_of slot.now }
-{
-    match slot {
-        None => Info {
-            priority: 0,
-            tries: 0,
-            successful: false,
-        },
-        Some(slot) => Info {
-            priority: slot.priority,
-            tries: slot.tries,
-            successful: slot.successful,
-        },
-    }
-}
-
-fn control_of(state: &State) -> Control
-    ensures { result ≡ control_of_state state.now }
-{
-    Control {
-        current: state.current,
-        a: info_of(&state.a),
-        b: info_of(&state.b),
-    }
-}
 
 // Which slots have images.
 fn has_images(state: &State) -> [bool; 2]
@@ -49,39 +21,14 @@ fn has_images(state: &State) -> [bool; 2]
     [state.a.is_some(), state.b.is_some()]
 }
 
-fn with_info(slot: Option<SlotState>, info: &Info) -> Option<SlotState>
-    ensures { result ≡ with_info info.now slot }
-{
-    match slot {
-        None => None,
-        Some(slot) => Some(SlotState {
-            images: slot.images,
-            priority: info.priority,
-            tries: info.tries,
-            successful: info.successful,
-        }),
-    }
-}
-
-// The state with this boot control.
-fn with_control(state: State, control: &Control) -> State
-    ensures { result ≡ with_control control.now state }
-{
-    State {
-        cap: state.cap,
-        groups: state.groups,
-        a: with_info(state.a, &control.a),
-        b: with_info(state.b, &control.b),
-        current: control.current,
-        phase: state.phase,
-    }
-}
-
 // A copy of the state with this boot control.
 fn under(alloc: Global, state: &State, control: &Control) -> Result<State, NoMemory>
     ensures { IfOk result (λ s. s ≡ with_control control.now state.now) }
 {
-    Ok(with_control(state.copy(alloc)?, control))
+    Ok(State {
+        control: *control,
+        ..state.copy(alloc)?
+    })
 }
 
 // ---- images
@@ -99,7 +46,7 @@ fn image_named<'a>(images: &'a Listing<Image>, base: &[u8]) -> Option<&'a Image>
 }
 
 // The image of a name with a slot's suffix, in that slot.
-fn find_in<'a>(slot: &'a Option<SlotState>, name: &[u8]) -> Result<&'a Image, Refusal>
+fn find_in<'a>(slot: &'a Option<Listing<Image>>, name: &[u8]) -> Result<&'a Image, Refusal>
     requires { 2 ≤ length name.now }
     ensures { MatchResult result
         (λ image. found_in slot.now name.now ≡ Image_is image.now)
@@ -107,7 +54,7 @@ fn find_in<'a>(slot: &'a Option<SlotState>, name: &[u8]) -> Result<&'a Image, Re
 {
     match slot {
         None => Err(Refusal::NoImages),
-        Some(slot) => image_named(&slot.images, base_of(name)).ok_or(Refusal::Unknown),
+        Some(images) => image_named(images, base_of(name)).ok_or(Refusal::Unknown),
     }
 }
 
@@ -131,7 +78,7 @@ fn find<'a>(state: &'a State, name: &[u8]) -> Result<&'a Image, Refusal>
 
 // Whether the slot has images; any but 0 is b.
 fn is_there(state: &State, slot: usize) -> bool
-    ensures { result ≡ is_some (slot_at state.now slot) }
+    ensures { result ≡ is_some (images_at state.now slot) }
 {
     if slot == 0 {
         state.a.is_some()
@@ -152,38 +99,42 @@ fn activated_at(control: &Control, slot: usize) -> Control
     }
 }
 
+#[tactic(auto, unfolding(crate::specs::Effects::effect))]
 fn set_active(alloc: Global, state: &State, slot: usize) -> Result<(State, Reply), NoMemory>
-    ensures state { IfOk result (λ r. r.0 ≡ state_by state.now (commands.SetActive slot)) }
-    ensures reply { IfOk result (λ r. r.1 ≡ reply_to state.now (commands.SetActive slot)) }
+    ensures state { IfOk result (λ r. r.0 ≡ after_of state.now (effect state.now (SetActive slot))) }
+    ensures reply { IfOk result (λ r. r.1 ≡ (effect state.now (SetActive slot)).reply) }
 {
     if !is_there(state, slot) {
         return Ok((state.copy(alloc)?, Reply::Refused(Refusal::NoImages)));
     }
-    let control = activated_at(&control_of(state), slot);
+    let control = activated_at(&state.control, slot);
     Ok((under(alloc, state, &control)?, Reply::Done))
 }
 
+#[tactic(auto, unfolding(crate::specs::Effects::effect))]
 fn boot(alloc: Global, state: &State) -> Result<(State, Reply), NoMemory>
-    ensures state { IfOk result (λ r. r.0 ≡ state_by state.now commands.Boot) }
-    ensures reply { IfOk result (λ r. r.1 ≡ reply_to state.now commands.Boot) }
+    ensures state { IfOk result (λ r. r.0 ≡ after_of state.now (effect state.now Boot)) }
+    ensures reply { IfOk result (λ r. r.1 ≡ (effect state.now Boot).reply) }
 {
-    let control = booted(&control_of(state), has_images(state));
+    let control = booted(&state.control, has_images(state));
     Ok((
         under(alloc, state, &control)?,
         Reply::Booted(control.current),
     ))
 }
 
+#[tactic(auto, unfolding(crate::specs::Effects::effect))]
 fn mark(alloc: Global, state: &State) -> Result<(State, Reply), NoMemory>
-    ensures state { IfOk result (λ r. r.0 ≡ state_by state.now commands.Mark) }
-    ensures reply { IfOk result (λ r. r.1 ≡ reply_to state.now commands.Mark) }
+    ensures state { IfOk result (λ r. r.0 ≡ after_of state.now (effect state.now Mark)) }
+    ensures reply { IfOk result (λ r. r.1 ≡ (effect state.now Mark).reply) }
 {
-    let control = marked(&control_of(state));
+    let control = marked(&state.control);
     Ok((under(alloc, state, &control)?, Reply::Done))
 }
 
 fn print(state: &State, name: &[u8]) -> Reply
-    ensures { result ≡ bytes_reply name.now (found_of state.now name.now) }
+    ensures { let told : Effect StateOf = print_effect name.now (found_of state.now name.now) in
+        result ≡ told.reply }
 {
     match find(state, name) {
         Err(refusal) => Reply::Refused(refusal),
@@ -195,7 +146,8 @@ fn print(state: &State, name: &[u8]) -> Reply
 }
 
 fn digest(state: &State, name: &[u8]) -> Reply
-    ensures { result ≡ digest_reply (found_of state.now name.now) }
+    ensures { let told : Effect StateOf = digest_effect (found_of state.now name.now) in
+        result ≡ told.reply }
 {
     match find(state, name) {
         Err(refusal) => Reply::Refused(refusal),
@@ -203,16 +155,18 @@ fn digest(state: &State, name: &[u8]) -> Reply
     }
 }
 
-/// The state after a command, and the reply; the state that is given stays. `staged` is what was downloaded last, if anything: no command takes it
-/// yet. `NoMemory` where memory is refused. It is slow, for tests: the program's own commands are compared with it.
+/// The state after a command, and the reply; the state that is given stays. `staged` is what was
+/// downloaded last, if anything: no command takes it yet. `NoMemory` where memory is refused. It is
+/// slow, for tests: the program's own commands are compared with it.
+#[tactic(auto, unfolding(crate::specs::Effects::effect))]
 pub fn step(
     alloc: Global,
     state: &State,
     command: &Command,
     _staged: Option<&[u8]>,
 ) -> Result<(State, Reply), NoMemory>
-    ensures state { IfOk result (λ r. r.0 ≡ state_by state.now command.now) }
-    ensures reply { IfOk result (λ r. r.1 ≡ reply_to state.now command.now) }
+    ensures state { IfOk result (λ r. r.0 ≡ after_of state.now (effect state.now (command_of command.now))) }
+    ensures reply { IfOk result (λ r. r.1 ≡ (effect state.now (command_of command.now)).reply) }
 {
     match *command {
         Command::SetActive(slot) => set_active(alloc, state, slot),

@@ -1,5 +1,6 @@
 //! The state of a device.
 
+use vab_bootctl::Control;
 use vab_bytes::{Bytes, Listing, Name36};
 
 /// An image of a slot.
@@ -11,19 +12,6 @@ pub struct Image {
     pub group: Option<Name36>,
     /// A whole number of blocks of 4096 bytes.
     pub bytes: Bytes,
-}
-
-/// A slot with images.
-#[derive(Drop)]
-pub struct SlotState {
-    /// In the order of the slot's table.
-    pub images: Listing<Image>,
-    /// 0 (never booted) to 15.
-    pub priority: u8,
-    /// How many boots may still be tried, at most 7.
-    pub tries: u8,
-    /// Whether the slot has been marked as one that works.
-    pub successful: bool,
 }
 
 /// A group of partitions, without the slot's suffix.
@@ -79,9 +67,11 @@ pub struct State {
     pub cap: u64,
     /// The groups in their order, but for that of no slot.
     pub groups: Listing<GroupLimit>,
-    pub a: Option<SlotState>,
-    pub b: Option<SlotState>,
-    /// The slot that was booted last: 0 for a, 1 for b.
-    pub current: usize,
+    /// The boot control; zeros for a slot without images.
+    pub control: Control,
+    /// The images of slot a in the order of its table, where it has some.
+    pub a: Option<Listing<Image>>,
+    /// The images of slot b.
+    pub b: Option<Listing<Image>>,
     pub phase: Phase,
 }

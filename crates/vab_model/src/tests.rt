@@ -3,6 +3,7 @@
 use super::*;
 use std::alloc::Global;
 use std::test::*;
+use vab_bootctl::{Control, Info};
 use vab_bytes::{Bytes, Listing, Name36};
 
 // The SHA-256 of no bytes.
@@ -46,24 +47,28 @@ fn device(alloc: Global) -> Result<State, Fail> {
     Ok(State {
         cap: 256,
         groups: Listing::from_vec(groups),
-        a: Some(SlotState {
-            images: Listing::from_vec(images),
-            priority: 3,
-            tries: 1,
-            successful: false,
-        }),
+        control: Control {
+            current: 0,
+            a: Info {
+                priority: 3,
+                tries: 1,
+                successful: false,
+            },
+            b: Info {
+                priority: 0,
+                tries: 0,
+                successful: false,
+            },
+        },
+        a: Some(Listing::from_vec(images)),
         b: None,
-        current: 0,
         phase: Phase::Idle,
     })
 }
 
 // Priority, tries and whether the slot is successful.
-fn info(slot: &Option<SlotState>) -> Option<(u8, u8, bool)> {
-    match slot {
-        None => None,
-        Some(slot) => Some((slot.priority, slot.tries, slot.successful)),
-    }
+fn info(info: &Info) -> (u8, u8, bool) {
+    (info.priority, info.tries, info.successful)
 }
 
 fn reply(alloc: Global, state: &State, command: Command) -> Result<Reply, Fail> {
@@ -76,11 +81,11 @@ fn a_slot_without_images_is_not_set_active(rt: HostRuntime) -> Result<(), Fail> 
     let state = device(rt.alloc())?;
     let (after, reply) = step(rt.alloc(), &state, &Command::SetActive(1), None)?;
     assert_eq!(rt; reply, Reply::Refused(Refusal::NoImages));
-    assert_eq!(rt; info(&after.a), Some((3, 1, false)));
-    assert_eq!(rt; info(&after.b), None);
+    assert_eq!(rt; info(&after.control.a), (3, 1, false));
+    assert_eq!(rt; info(&after.control.b), (0, 0, false));
     assert_eq!(rt; after.cap, 256);
     assert_eq!(rt; after.groups.len(), 1);
-    assert_eq!(rt; after.current, 0);
+    assert_eq!(rt; after.control.current, 0);
     Ok(())
 }
 
@@ -89,13 +94,13 @@ fn a_slot_is_set_active_booted_and_marked(rt: HostRuntime) -> Result<(), Fail> {
     let state = device(rt.alloc())?;
     let (active, reply) = step(rt.alloc(), &state, &Command::SetActive(0), None)?;
     assert_eq!(rt; reply, Reply::Done);
-    assert_eq!(rt; info(&active.a), Some((15, 6, false)));
+    assert_eq!(rt; info(&active.control.a), (15, 6, false));
     let (booted, reply) = step(rt.alloc(), &active, &Command::Boot, None)?;
     assert_eq!(rt; reply, Reply::Booted(0));
-    assert_eq!(rt; info(&booted.a), Some((15, 5, false)));
+    assert_eq!(rt; info(&booted.control.a), (15, 5, false));
     let (marked, reply) = step(rt.alloc(), &booted, &Command::Mark, None)?;
     assert_eq!(rt; reply, Reply::Done);
-    assert_eq!(rt; info(&marked.a), Some((15, 0, true)));
+    assert_eq!(rt; info(&marked.control.a), (15, 0, true));
     Ok(())
 }
 

@@ -1,9 +1,9 @@
 -- What holds of a kept device over every disk.
-use Rattle.std.proofs.Common.{◌≡◌, ◌≢◌, ℕ, ◌+◌, ◌-◌, ◌*◌, ◌≤◌, ◌<◌, inl, inr, true, ◌==◌, eqb, not, List, [], ◌∷◌, ◌++◌, length, get_or, Option, Some, None, refl, sym, ◌∙◌, ap, subst, arith}
+use Rattle.std.proofs.Common.{◌≡◌, ◌≢◌, ℕ, ◌+◌, ◌-◌, ◌*◌, ◌≤◌, ◌<◌, ◌^◌, inl, inr, true, ◌==◌, eqb, not, List, [], ◌∷◌, ◌++◌, length, get_or, Option, Some, None, refl, sym, ◌∙◌, ap, subst, arith}
 use Rattle.std.specs.Prelude.{map, All, AllPairs, IsTrue, is_some, if◌then◌else◌}
 use Rattle.std.proofs.Math.Seq.{get_or-append_right}
 use Rattle.std.proofs.Math.ListN.{get_or-append}
-use Rattle.std.proofs.lemmas.Bool.{cases_Bool, leb-true, and_parts}
+use Rattle.std.proofs.lemmas.Bool.{cases_Bool, leb-true, and_parts, eqb-true}
 use Rattle.std.proofs.lemmas.List.{length-map, length-append, get_or-map}
 use Rattle.std.proofs.lemmas.List.Elements.{All-map, All-filter, All-cons}
 use Rattle.vab_names.specs.Names.{is_base, base_of, is_of_slot}
@@ -22,10 +22,14 @@ use Rattle.vab_layout.specs.Layout.{layout_of, blocks_of_parts}
 use Rattle.vab_layout.specs.Rules.{IsPart as IsPartOfLayout, IsLayout}
 use Rattle.vab_layout.proofs.LayoutLaws.{layout_keeps}
 use Rattle.vab_layout.specs.Slots.{own_parts, IsOwn, IsDistinct}
-use Rattle.vab_device.specs.Device.{copies_end, super_bytes, lies_in}
-use Rattle.vab_recover.specs.declared.device.Part.{Part}
-use Rattle.vab_recover.specs.declared.device.Device.{Device}
-use Rattle.vab_recover.specs.Stands.{sectors_of, part_on, parts_of, ArePartsOf, IsPart, ArePresent, IsDevice}
+use Rattle.vab_device.specs.declared.device.Part.{Part}
+use Rattle.vab_device.specs.declared.device.Device.{Device}
+use Rattle.vab_device.specs.Kept.{
+  copies_end, super_bytes, lies_in, sectors_of, part_on, parts_of, IsPart, AreParts, ArePresent,
+  IsTableOf, IsKeptTable, IsDevice
+}
+use Rattle.vab_device.specs.Reading.{table_for, parts_for}
+use Rattle.vab_recover.specs.Opened.{idle_kept}
 
 -- ---- lists without repetition
 
@@ -49,6 +53,10 @@ each_distinct (p ∷ ps) h = All-cons (λ (q : PartOfLayout). IsDistinct q.block
 
 -- ---- a partition
 
+length-sectors_of : (first : ℕ) (blocks : List ℕ) → length (sectors_of first blocks) ≡ length blocks
+unfolding sectors_of
+length-sectors_of first blocks = length-map blocks (λ b. 4096 + first + 8 * b)
+
 sectors_distinct : (first : ℕ) (blocks : List ℕ) → IsDistinct blocks → AllPairs (λ a b. a ≢ b) (sectors_of first blocks)
 unfolding sectors_of
 sectors_distinct first blocks h = λ i j d low lt.
@@ -62,8 +70,13 @@ sectors_on : (first cap size : ℕ) (blocks : List ℕ) → 4096 + first + 8 * c
 unfolding sectors_of
 sectors_on first cap size blocks on below = All-map (λ (s : ℕ). s + 8 ≤ size) (λ b. 4096 + first + 8 * b) blocks (λ k d lt. omega (arith, below k d lt, on))
 
-part_is : (size first cap : ℕ) (p : PartOfLayout) → IsTrue (is_base (base_of p.name)) → 4096 + first + 8 * cap ≤ size → All (λ b. b < cap) p.blocks → IsDistinct p.blocks → IsPart size (part_on first p)
-part_is size first cap p base on below once = record { name = base; on_disk = sectors_on first cap size p.blocks on below; once = sectors_distinct first p.blocks once }
+part_is : (size first cap : ℕ) (p : PartOfLayout) → IsTrue (is_base (base_of p.name)) → 4096 + first + 8 * cap ≤ size → All (λ b. b < cap) p.blocks → IsDistinct p.blocks → length p.blocks ≤ 2 ^ 28 → IsPart size (part_on first p)
+part_is size first cap p base on below once small = record {
+  name = base;
+  on_disk = sectors_on first cap size p.blocks on below;
+  once = sectors_distinct first p.blocks once;
+  small = omega (arith, small, length-sectors_of first p.blocks);
+}
 
 -- ---- a slot's own partitions
 
@@ -73,7 +86,7 @@ blocks_on size g d enough is lies =
     let inside = leb-true d.size (super_bytes size) (and_parts _ _ lies).0 in
     omega (arith, enough, inside, is.within)
 
-parts_kept : (size slot : ℕ) (g : Geometry) (l : Layout) → 4120 ≤ size → IsLayout l → IsOwn slot l.parts → lies_in size g l.device ≡ true → All (IsPart size) (parts_of slot l)
+parts_kept : (size slot : ℕ) (g : Geometry) (l : Layout) → 4120 ≤ size → IsLayout l → IsOwn slot l.parts → lies_in size g l.device ≡ true → AreParts size (parts_of slot l)
 parts_kept size slot g l enough rules own lies =
     let first = l.device.first_logical_sector in
     let cap = cap_of l.device in
@@ -81,39 +94,82 @@ parts_kept size slot g l enough rules own lies =
     let on = blocks_on size g l.device enough rules.device lies in
     let each : All (IsPartOfLayout cap l.groups) mine = All-filter (λ (p : PartOfLayout). is_of_slot slot p.name) (IsPartOfLayout cap l.groups) l.parts rules.parts in
     let once = each_distinct mine own.once in
-    All-map (IsPart size) (part_on first) mine (λ k d lt. part_is size first cap (get_or mine k d) (own.each k d lt).base on (each k d lt).blocks (once k d lt))
+    record {
+      each = All-map (IsPart size) (part_on first) mine
+          (λ k d lt.
+          part_is size first cap (get_or mine k d) (own.each k d lt).base on (each k d lt).blocks
+          (once k d lt) (own.each k d lt).size);
+      few = omega (arith, own.few, length-map mine (part_on first));
+    }
 
 -- ---- the device
 
-some_if : (slot : ℕ) (ps : List Part) → is_some (if slot == 0 then Some ps else None) ≡ (slot == 0)
-some_if slot ps = elim (cases_Bool (eqb slot 0)) [ inl h ↦ rw h refl | inr h ↦ rw h refl ]
+some_at : (slot k : ℕ) (t : Table)
+    → is_some (parts_for k (slot == k) (table_for k (slot ∷ []) (t ∷ []))) ≡ (slot == k)
+some_at slot k t = elim (cases_Bool (eqb slot k)) [ inl h ↦ rw h refl | inr h ↦ rw h refl ]
 
-some_if_not : (slot : ℕ) (ps : List Part) → is_some (if slot == 0 then None else Some ps) ≡ not (slot == 0)
-some_if_not slot ps = elim (cases_Bool (eqb slot 0)) [ inl h ↦ rw h refl | inr h ↦ rw h refl ]
+table_at_slot : (size slot k : ℕ) (g : Geometry) (t : Table)
+    → IsTableOf size g slot t
+    → IsKeptTable size g k (table_for k (slot ∷ []) (t ∷ []))
+table_at_slot size slot k g t is = elim (cases_Bool (eqb slot k)) [
+  | inl h ↦ rw h (subst (λ (n : ℕ). IsTableOf size g n t) (eqb-true slot k h) is)
+  | inr h ↦ rw h tt
+]
 
-present_if : (size slot : ℕ) (ps : List Part) → All (IsPart size) ps → ArePresent size (if slot == 0 then Some ps else None)
-present_if size slot ps all = elim (cases_Bool (eqb slot 0)) [ inl h ↦ rw h all | inr h ↦ rw h tt ]
+-- What was read of a disk of so many sectors is a device there.
+pub device_kept : (size : ℕ) (m : UpdateMark) (c : Control) (g : Geometry) (t : Table)
+    → 4120 ≤ size
+    → IsGeometry g
+    → Fits c
+    → m.phase ≡ marks.Idle
+    → m.slot < 2
+    → c.current ≡ m.slot
+    → copies_end g ≤ super_bytes size
+    → KeepsRules t
+    → IsOwn m.slot (layout_of t).parts
+    → lies_in size g (layout_of t).device ≡ true
+    → IsDevice (idle_kept m c g t) size
+device_kept size m c g t enough rules fits phase below current on keeps own lies =
+    let all : AreParts size (parts_of m.slot (layout_of t)) =
+    parts_kept size m.slot g (layout_of t) enough (layout_keeps t keeps) own lies in
+    let table : IsTableOf size g m.slot t = record { rules = keeps; own = own; lies = lies } in
+    of_idle size m c g t phase enough rules fits below current on all table
+  where
+    at_slot : (size k : ℕ) (slot : ℕ) (t : Table)
+        → AreParts size (parts_of slot (layout_of t))
+        → ArePresent size (parts_for k (slot == k) (table_for k (slot ∷ []) (t ∷ [])))
+    at_slot size k slot t are = elim (cases_Bool (eqb slot k)) [
+      | inl h ↦ rw h (subst (λ (n : ℕ). AreParts size (parts_of n (layout_of t))) (eqb-true slot k h) are)
+      | inr h ↦ rw h tt
+    ]
 
-present_if_not : (size slot : ℕ) (ps : List Part) → All (IsPart size) ps → ArePresent size (if slot == 0 then None else Some ps)
-present_if_not size slot ps all = elim (cases_Bool (eqb slot 0)) [ inl h ↦ rw h tt | inr h ↦ rw h all ]
-
--- a device that was read of a disk of so many sectors
-pub device_kept : (d : Device) (size : ℕ) (mark : UpdateMark) (control : Control) (geometry : Geometry) (t : Table) → d.mark ≡ mark → d.control ≡ control → d.geometry ≡ geometry → ArePartsOf mark.slot (layout_of t) d
-    → 4120 ≤ size → IsGeometry geometry → Fits control → mark.phase ≡ marks.Idle → mark.slot < 2 → control.current ≡ mark.slot → copies_end geometry ≤ super_bytes size
-    → KeepsRules t → IsOwn mark.slot (layout_of t).parts → lies_in size geometry (layout_of t).device ≡ true → IsDevice d size
-device_kept d size mark control geometry t m co ge parts enough rules fits phase below current on keeps own lies =
-    let all = parts_kept size mark.slot geometry (layout_of t) enough (layout_keeps t keeps) own lies in
-    let slot : d.mark.slot ≡ mark.slot = ap (λ (k : UpdateMark). k.slot) m in
-    record {
-      enough = enough;
-      geometry = subst IsGeometry (sym ge) rules;
-      control = subst Fits (sym co) fits;
-      phase = ap (λ (k : UpdateMark). k.phase) m ∙ phase;
-      slot = omega (arith, slot, below);
-      current = ap (λ (k : Control). k.current) co ∙ current ∙ sym slot;
-      has_a = ap (λ (o : Option (List Part)). is_some o) parts.a ∙ some_if mark.slot (parts_of mark.slot (layout_of t)) ∙ ap (λ (n : ℕ). n == 0) (sym slot);
-      has_b = ap (λ (o : Option (List Part)). is_some o) parts.b ∙ some_if_not mark.slot (parts_of mark.slot (layout_of t)) ∙ ap (λ (n : ℕ). not (n == 0)) (sym slot);
-      copies_on = subst (λ (k : Geometry). copies_end k ≤ super_bytes size) (sym ge) on;
-      parts_a = subst (ArePresent size) (sym parts.a) (present_if size mark.slot (parts_of mark.slot (layout_of t)) all);
-      parts_b = subst (ArePresent size) (sym parts.b) (present_if_not size mark.slot (parts_of mark.slot (layout_of t)) all);
-    }
+    of_idle : (size : ℕ) (m : UpdateMark) (c : Control) (g : Geometry) (t : Table)
+        → m.phase ≡ marks.Idle
+        → 4120 ≤ size
+        → IsGeometry g
+        → Fits c
+        → m.slot < 2
+        → c.current ≡ m.slot
+        → copies_end g ≤ super_bytes size
+        → AreParts size (parts_of m.slot (layout_of t))
+        → IsTableOf size g m.slot t
+        → IsDevice (idle_kept m c g t) size
+    of_idle size m c g t phase enough rules fits below current on all table =
+        let idle_one : UpdateMark = record { phase = marks.Idle; slot = m.slot } in
+        let same : idle_one ≡ m = rw (sym phase) refl in
+        subst (λ (k : UpdateMark). IsDevice (idle_kept k c g t) size) same
+        (record {
+          enough = enough;
+          geometry = rules;
+          control = fits;
+          phase = refl;
+          slot = below;
+          current = current;
+          has_a = some_at m.slot 0 t;
+          has_b = some_at m.slot 1 t;
+          copies_on = on;
+          parts_a = at_slot size 0 m.slot t all;
+          parts_b = at_slot size 1 m.slot t all;
+          table_a = table_at_slot size m.slot 0 g t table;
+          table_b = table_at_slot size m.slot 1 g t table;
+        })

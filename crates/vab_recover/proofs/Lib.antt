@@ -1,5 +1,4 @@
 pub mod DeviceLaws
+mod OpenLaws
 pub mod PartLaws
 pub mod ReadLaws
-pub mod StartLaws
-pub mod StateLaws

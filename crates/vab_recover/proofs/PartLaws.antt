@@ -9,8 +9,6 @@ use Rattle.std.proofs.lemmas.List.{map-append, length-map, length-append, get_or
 use Rattle.std.proofs.lemmas.List.FromFn.{length-range_with_len}
 use Rattle.std.proofs.lemmas.List.Elements.{All-head, All-tail, All-take, All-drop, All-map, All-weaker, filter-append}
 use Rattle.std.proofs.lemmas.List.Sums.{sum_by-cons}
-use Rattle.vab_disk.specs.Disk.{Image}
-use Rattle.vab_gate.specs.Gate.{sectors_at}
 use Rattle.vab_bytes.specs.Name.{IsName}
 use Rattle.vab_bytes.specs.NameLaws.{name_fits}
 use Rattle.vab_names.specs.Names.{is_of_slot, base_of}
@@ -28,9 +26,8 @@ use Rattle.vab_layout.specs.declared.layout.Part.{Part as PartOfLayout}
 use Rattle.vab_layout.specs.Layout.{part_of, layout_of, first_device, blocks_of_partition}
 use Rattle.vab_layout.specs.Slots.{IsOwnPart, IsOwn}
 use Rattle.vab_layout.specs.Plain.{own_groups}
-use Rattle.vab_device.specs.Device.{bytes_of, image_of, limits_of}
+use Rattle.vab_device.specs.Kept.{limits_of, sectors_of, part_on}
 use Rattle.vab_model.specs.declared.state.GroupLimit.{GroupLimit}
-use Rattle.vab_recover.specs.Stands.{bytes_at, image_on, sectors_of, part_on}
 
 -- ---- blocks as sectors
 
@@ -79,20 +76,6 @@ runs_sum d (e ∷ es) is =
     let first = d.first_logical_sector in
     let here = All-head (IsExtent d) e es is in
     omega (arith, sum_by-cons (λ (r : ℕ × ℕ). r.1) (run_on e) (map run_on es), runs_sum d es (All-tail (IsExtent d) e es is), length-append (blocks_of_extent first e) (flat_map (blocks_of_extent first) es), length-range_with_len ((e.first_sector - first) / 8) (e.sectors / 8), here.whole)
-
--- ---- images
-
-pub bytes_at_are : (image : Image) (first : ℕ) (blocks : List ℕ) → bytes_at image (sectors_of first blocks) ≡ bytes_of image first blocks
-unfolding bytes_at sectors_of bytes_of
-bytes_at_are image first [] = refl
-bytes_at_are image first (b ∷ bs) = ap (λ (l : List ℕ). sectors_at 8 image (4096 + first + 8 * b) ++ l) (bytes_at_are image first bs)
-
-pub images_are : (image : Image) (first : ℕ) (parts : List PartOfLayout) → map (image_on image) (map (part_on first) parts) ≡ map (image_of image first) parts
-images_are image first [] = refl
-images_are image first (p ∷ ps) =
-    let bytes = bytes_at_are image first p.blocks in
-    let here : image_on image (part_on first p) ≡ image_of image first p = rw bytes refl in
-    ap (λ i. i ∷ map (image_on image) (map (part_on first) ps)) here ∙ ap (λ is. image_of image first p ∷ is) (images_are image first ps)
 
 -- ---- one of the partitions that pass a test
 

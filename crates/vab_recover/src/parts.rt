@@ -6,13 +6,11 @@ ghost use Rattle.vab_tables.specs.Rules.{KeepsRules, IsPartition, IsGroup};
 ghost use Rattle.vab_blocks.specs.Blocks.{first_sector_of};
 ghost use Rattle.vab_layout.specs.Layout.{layout_of, part_of, group_at, blocks_of_partition};
 ghost use Rattle.vab_layout.specs.Slots.{IsOwn};
-ghost use Rattle.vab_device.specs.Device.{limits_of};
-ghost use Rattle.vab_recover.specs.Stands.{sectors_of, part_on, parts_of};
+ghost use Rattle.vab_device.specs.Kept.{limits_of, sectors_of, part_on, parts_of};
 
-use crate::Part;
 use std::alloc::Global;
 use vab_bytes::{Listing, Name36};
-use vab_device::StartFault;
+use vab_device::{Part, StartFault};
 use vab_geometry::SUPER;
 use vab_linear::Map;
 use vab_model::GroupLimit;

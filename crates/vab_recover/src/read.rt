@@ -1,18 +1,20 @@
 //! Reading the parts of a disk.
 
-ghost use Rattle.std.specs.Prelude.{◌≡◌, ◌<◌, ◌≤◌, ◌^◌, IfOk, IfErr, Ok, Err};
+ghost use Rattle.std.specs.Prelude.{◌≡◌, ◌<◌, ◌≤◌, ◌^◌, Bool, IfOk, IfErr, Ok, Err};
 ghost use Rattle.vab_disk.specs.Calls.{OnlyReads};
-ghost use Rattle.vab_disk.specs.Disk.{Adds, Nothing, SameHoldings, Quiet, Rose};
 ghost use Rattle.vab_bootctl.specs.Control.{Fits, control_of};
 ghost use Rattle.vab_marks.specs.declared.mark.MarkPhase.TheVariants as marks;
 ghost use Rattle.vab_marks.specs.Mark.{mark_of};
 ghost use Rattle.vab_geometry.specs.Geometry.{IsGeometry};
-ghost use Rattle.vab_device.specs.Device.{mark_read, slot_in, control_read, control_in, geometry_at, copies_end, super_bytes, IsOfContents, IsOfDisk};
+ghost use Rattle.vab_device.specs.Faults.{Answers, IsOfContents, IsOfDisk};
+ghost use Rattle.vab_device.specs.Kept.{copies_end, super_bytes};
+ghost use Rattle.vab_device.specs.Reading.{mark_read, mark_in, control_read, control_in, geometry_at};
+ghost use Rattle.vab_recover.specs.Counts.{CountsFaults};
 
 use vab_bootctl::{Control, decode_control};
 use vab_device::StartFault;
 use vab_disk::Disk;
-use vab_gate::DiskFault;
+use vab_gate::get_sector;
 use vab_geometry::{Geometry, LoadFault, SUPER, load_geometry};
 use vab_marks::{MarkPhase, UpdateMark, decode_mark};
 
@@ -22,25 +24,24 @@ pub const MARK_SECTOR: u64 = 2048;
 /// The disk sector of the boot control.
 pub const CONTROL_SECTOR: u64 = 4;
 
-/// Reads a sector.
+// Reads a sector.
 fn read<D: Disk>(d: &mut D, at: u64) -> Result<[u8; 512], StartFault>
     requires { at < D.size d.old }
     ensures bytes { D.is_modelled → IfOk result (λ b. b ≡ D.seen d.old at) }
     ensures fault { IfErr result IsOfDisk }
     ensures reads { OnlyReads D.Disk d.old d.new }
-    ensures cause { IfErr result (λ f. IsOfDisk f → Rose (D.faults d.old).disk (D.faults d.new).disk) }
+    ensures counts { CountsFaults D.Disk d.old d.new result }
 {
     let mut sector = [0u8; 512];
-    match d.read_sector(at, &mut sector) {
+    match get_sector(d, at, &mut sector) {
         Ok(()) => Ok(sector),
-        Err(_) => Err(StartFault::Disk(DiskFault)),
+        Err(fault) => Err(StartFault::Disk(fault)),
     }
 }
 
 // The mark of these bytes, of a device without an update.
 fn idle_mark(sector: &[u8; 512]) -> Result<UpdateMark, StartFault>
-    ensures ok { IfOk result (λ m. mark_read (mark_of sector.now) ≡ Ok m.slot) }
-    ensures fault { IfErr result (λ f. mark_read (mark_of sector.now) ≡ Err f) }
+    ensures answers { Answers result (mark_read (mark_of sector.now)) }
     ensures kind { IfErr result IsOfContents }
     ensures phase { IfOk result (λ m. m.phase ≡ marks.Idle) }
     ensures slot { IfOk result (λ m. m.slot < 2) }
@@ -55,24 +56,24 @@ fn idle_mark(sector: &[u8; 512]) -> Result<UpdateMark, StartFault>
 }
 
 /// Reads the update mark.
-#[tactic(auto, unfolding(vab_device::specs::Device::slot_in))]
+#[tactic(auto, unfolding(vab_device::specs::Reading::mark_in))]
 pub fn read_mark<D: Disk>(d: &mut D) -> Result<UpdateMark, StartFault>
     requires { 2048 < D.size d.old }
-    ensures ok { D.is_modelled → IfOk result (λ m. slot_in (D.seen d.old) ≡ Ok m.slot) }
-    ensures fault { D.is_modelled → IfErr result (λ f. IsOfContents f → slot_in (D.seen d.old) ≡ Err f) }
+    ensures answers { D.is_modelled → Answers result (mark_in (D.seen d.old)) }
     ensures phase { IfOk result (λ m. m.phase ≡ marks.Idle) }
     ensures slot { IfOk result (λ m. m.slot < 2) }
     ensures reads { OnlyReads D.Disk d.old d.new }
-    ensures cause { IfErr result (λ f. IsOfDisk f → Rose (D.faults d.old).disk (D.faults d.new).disk) }
+    ensures counts { CountsFaults D.Disk d.old d.new result }
 {
     let sector = read(d, MARK_SECTOR)?;
     idle_mark(&sector)
 }
 
 // The boot control of these bytes.
+#[tactic(auto, unfolding(vab_device::specs::Reading::control_in))]
 fn control(sector: &[u8; 512]) -> Result<Control, StartFault>
-    ensures ok { IfOk result (λ c. control_read (control_of sector.now) ≡ Ok c) }
-    ensures fault { IfErr result (λ f. control_read (control_of sector.now) ≡ Err f) }
+    ensures ok { IfOk result (λ c. control_of sector.now ≡ Ok c) }
+    ensures fault { IfErr result (λ f. (a b : Bool) → control_read a b (control_of sector.now) ≡ Err f) }
     ensures kind { IfErr result IsOfContents }
     ensures fits { IfOk result Fits }
 {
@@ -82,15 +83,16 @@ fn control(sector: &[u8; 512]) -> Result<Control, StartFault>
     }
 }
 
-/// Reads the boot control.
-#[tactic(auto, unfolding(vab_device::specs::Device::control_in))]
+/// Reads the boot control, of both slots.
+#[tactic(auto, unfolding(vab_device::specs::Reading::control_in))]
 pub fn read_control<D: Disk>(d: &mut D) -> Result<Control, StartFault>
     requires { 4 < D.size d.old }
-    ensures ok { D.is_modelled → IfOk result (λ c. control_in (D.seen d.old) ≡ Ok c) }
-    ensures fault { D.is_modelled → IfErr result (λ f. IsOfContents f → control_in (D.seen d.old) ≡ Err f) }
+    ensures ok { D.is_modelled → IfOk result (λ c. control_of (D.seen d.old 4) ≡ Ok c) }
+    ensures fault { D.is_modelled → IfErr result
+        (λ f. IsOfContents f → (a b : Bool) → control_in a b (D.seen d.old) ≡ Err f) }
     ensures fits { IfOk result Fits }
     ensures reads { OnlyReads D.Disk d.old d.new }
-    ensures cause { IfErr result (λ f. IsOfDisk f → Rose (D.faults d.old).disk (D.faults d.new).disk) }
+    ensures counts { CountsFaults D.Disk d.old d.new result }
 {
     let sector = read(d, CONTROL_SECTOR)?;
     control(&sector)
@@ -114,15 +116,14 @@ pub fn copies_end(geometry: &Geometry) -> u64
 }
 
 /// Reads the geometry.
-#[tactic(auto, unfolding(vab_device::specs::Device::geometry_at))]
+#[tactic(auto, unfolding(vab_device::specs::Reading::geometry_at))]
 pub fn read_geometry<D: Disk>(d: &mut D) -> Result<Geometry, StartFault>
     requires { 4120 ≤ D.size d.old }
-    ensures ok { D.is_modelled → IfOk result (λ g. geometry_at (D.size d.old) (D.seen d.old) ≡ Ok g) }
-    ensures fault { D.is_modelled → IfErr result (λ f. IsOfContents f → geometry_at (D.size d.old) (D.seen d.old) ≡ Err f) }
+    ensures answers { D.is_modelled → Answers result (geometry_at (D.size d.old) (D.seen d.old)) }
     ensures rules { IfOk result IsGeometry }
     ensures copies_on { IfOk result (λ g. copies_end g ≤ super_bytes (D.size d.old)) }
     ensures reads { OnlyReads D.Disk d.old d.new }
-    ensures cause { IfErr result (λ f. IsOfDisk f → Rose (D.faults d.old).disk (D.faults d.new).disk) }
+    ensures counts { CountsFaults D.Disk d.old d.new result }
 {
     let sectors = d.sectors();
     let geometry = match load_geometry(d) {

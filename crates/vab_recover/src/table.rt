@@ -2,14 +2,16 @@
 
 ghost use Rattle.std.specs.Prelude.{◌≡◌, ◌<◌, ◌≤◌, ◌^◌, length, IfOk, IfErr, Ok, Err, IsTrue};
 ghost use Rattle.vab_disk.specs.Calls.{OnlyReads};
-ghost use Rattle.vab_disk.specs.Disk.{Adds, Nothing, SameHoldings, Quiet, Rose};
 ghost use Rattle.vab_geometry.specs.Geometry.{IsGeometry};
 ghost use Rattle.vab_tables.specs.Rules.{KeepsRules};
 ghost use Rattle.vab_tables.specs.Text.{IsTableText};
 ghost use Rattle.vab_lpstore.specs.Layout.{primary_bytes, backup_bytes};
 ghost use Rattle.vab_lpstore.specs.Loading.{slot_table, IsLoaded};
 ghost use Rattle.vab_layout.specs.Layout.{layout_of};
-ghost use Rattle.vab_device.specs.Device.{layout_at, lies_in, copies_end, super_bytes, IsOfContents, IsOfDisk};
+ghost use Rattle.vab_device.specs.Faults.{IsOfContents, IsOfDisk};
+ghost use Rattle.vab_device.specs.Kept.{lies_in, copies_end, super_bytes};
+ghost use Rattle.vab_device.specs.Reading.{table_at};
+ghost use Rattle.vab_recover.specs.Counts.{CountsFaults};
 
 use crate::read::{copies_end, super_bytes};
 use std::alloc::Global;
@@ -19,7 +21,8 @@ use vab_geometry::Geometry;
 use vab_lpstore::{LoadFault, Loaded, load_table};
 use vab_tables::Table;
 
-// Whether the block device lies in `super`, and its first logical sector behind the copies of the tables.
+// Whether the block device lies in `super`, and its first logical sector behind the copies of the
+// tables.
 #[tactic(auto, unfolding(vab_layout::specs::Layout::layout_of))]
 fn lies_in(table: &Table, geometry: &Geometry, sectors: u64) -> bool
     requires keeps { KeepsRules table.now }
@@ -33,7 +36,7 @@ fn lies_in(table: &Table, geometry: &Geometry, sectors: u64) -> bool
 }
 
 // The table's copies, or why there is none.
-#[tactic(auto, unfolding(vab_device::specs::Device::layout_at))]
+#[tactic(auto, unfolding(vab_device::specs::Reading::table_at))]
 fn load<D: Disk>(
     alloc: Global,
     d: &mut D,
@@ -44,12 +47,16 @@ fn load<D: Disk>(
     requires slot { slot < 2 }
     requires copies_on { copies_end geometry.now ≤ super_bytes (D.size d.old) }
     ensures table { D.is_modelled → IfOk result (λ l. slot_table geometry.now slot (D.seen d.old) ≡ Ok l.table) }
-    ensures fault { D.is_modelled → IfErr result (λ f. IsOfContents f → layout_at (D.size d.old) geometry.now slot (D.seen d.old) ≡ Err f) }
-    ensures loaded { D.is_modelled → IfOk result (λ l. IsLoaded geometry.now.max (primary_bytes geometry.now slot (D.seen d.old)) (backup_bytes geometry.now slot (D.seen d.old)) l) }
+    ensures fault { D.is_modelled → IfErr result
+        (λ f. IsOfContents f → table_at (D.size d.old) geometry.now slot (D.seen d.old) ≡ Err f) }
+    ensures loaded { D.is_modelled → IfOk result
+        (λ l. IsLoaded geometry.now.max
+          (primary_bytes geometry.now slot (D.seen d.old))
+          (backup_bytes geometry.now slot (D.seen d.old)) l) }
     ensures text { IfOk result (λ l. IsTableText geometry.now.max l.text l.table) }
     ensures fits { IfOk result (λ l. length l.text ≤ geometry.now.max) }
     ensures reads { OnlyReads D.Disk d.old d.new }
-    ensures cause { IfErr result (λ f. IsOfDisk f → Rose (D.faults d.old).disk (D.faults d.new).disk) }
+    ensures counts { CountsFaults D.Disk d.old d.new result }
 {
     match load_table(alloc, d, geometry, slot) {
         Ok(loaded) => Ok(loaded),
@@ -59,8 +66,8 @@ fn load<D: Disk>(
     }
 }
 
-/// Reads the table of a slot. `BadTable` comes exactly where neither copy is a table's text, or its block device doesn't lie in `super`
-/// behind the copies.
+/// Reads the table of a slot. `BadTable` comes exactly where neither copy is a table's text, or its
+/// block device doesn't lie in `super` behind the copies.
 pub fn read_table<D: Disk>(
     alloc: Global,
     d: &mut D,
@@ -70,14 +77,19 @@ pub fn read_table<D: Disk>(
     requires rules { IsGeometry geometry.now }
     requires slot { slot < 2 }
     requires copies_on { copies_end geometry.now ≤ super_bytes (D.size d.old) }
-    ensures ok { D.is_modelled → IfOk result (λ l. layout_at (D.size d.old) geometry.now slot (D.seen d.old) ≡ Ok (layout_of l.table)) }
-    ensures fault { D.is_modelled → IfErr result (λ f. IsOfContents f → layout_at (D.size d.old) geometry.now slot (D.seen d.old) ≡ Err f) }
-    ensures loaded { D.is_modelled → IfOk result (λ l. IsLoaded geometry.now.max (primary_bytes geometry.now slot (D.seen d.old)) (backup_bytes geometry.now slot (D.seen d.old)) l) }
+    ensures ok { D.is_modelled → IfOk result
+        (λ l. table_at (D.size d.old) geometry.now slot (D.seen d.old) ≡ Ok l.table) }
+    ensures fault { D.is_modelled → IfErr result
+        (λ f. IsOfContents f → table_at (D.size d.old) geometry.now slot (D.seen d.old) ≡ Err f) }
+    ensures loaded { D.is_modelled → IfOk result
+        (λ l. IsLoaded geometry.now.max
+          (primary_bytes geometry.now slot (D.seen d.old))
+          (backup_bytes geometry.now slot (D.seen d.old)) l) }
     ensures text { IfOk result (λ l. IsTableText geometry.now.max l.text l.table) }
     ensures fits { IfOk result (λ l. length l.text ≤ geometry.now.max) }
     ensures lies { IfOk result (λ l. IsTrue (lies_in (D.size d.old) geometry.now (layout_of l.table).device)) }
     ensures reads { OnlyReads D.Disk d.old d.new }
-    ensures cause { IfErr result (λ f. IsOfDisk f → Rose (D.faults d.old).disk (D.faults d.new).disk) }
+    ensures counts { CountsFaults D.Disk d.old d.new result }
 {
     let sectors = d.sectors();
     let loaded = load(alloc, d, geometry, slot)?;

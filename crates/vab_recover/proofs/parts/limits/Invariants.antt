@@ -1,5 +1,5 @@
 use Rattle.std.proofs.Common.{◌≡◌, take}
-use Rattle.vab_device.specs.Device.{limits_of}
+use Rattle.vab_device.specs.Kept.{limits_of}
 use Rattle.vab_recover.proofs.parts.limits.Given as goal
 
 abbrev pub invariant-loop-group : goal.invariant-loop-group

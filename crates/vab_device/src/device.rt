@@ -9,6 +9,7 @@ use vab_geometry::Geometry;
 use vab_linear::Map;
 use vab_marks::UpdateMark;
 use vab_model::GroupLimit;
+use vab_tables::Table;
 
 /// A partition of a slot.
 #[derive(Drop)]
@@ -35,6 +36,10 @@ pub struct Device {
     pub a: Option<Listing<Part>>,
     /// The partitions of slot b, where it has images.
     pub b: Option<Listing<Part>>,
+    /// The table of slot a, where it is read.
+    pub table_a: Option<Table>,
+    /// The table of slot b, where it is read.
+    pub table_b: Option<Table>,
 }
 
 /// Where an update stands.

@@ -1,0 +1,160 @@
+-- Another boot control in its sector: all else is read as before.
+use Rattle.std.proofs.Common.{
+  ◌≡◌, ◌≢◌, ◌∙◌, inl, inr, ⊎_elim, ℕ, ◌+◌, ◌-◌, ◌*◌, ◌≤◌, ◌<◌, List, [], ◌∷◌, length, take, Result, Ok,
+  refl, sym, ap, subst, arith
+}
+use Rattle.std.specs.Prelude.{Bool, Option, Some, None, is_some}
+use Rattle.vab_disk.specs.Disk.{Image, set_sector}
+use Rattle.vab_disk.specs.Written.{set_here, set_there}
+use Rattle.vab_gate.proofs.Blocks.{sectors_same}
+use Rattle.vab_bootctl.specs.declared.slots.Control.{Control}
+use Rattle.vab_bootctl.specs.declared.sector.ControlFault.{ControlFault}
+use Rattle.vab_bootctl.specs.Control.{control_of}
+use Rattle.vab_geometry.specs.declared.geometry.Geometry.{Geometry}
+use Rattle.vab_lpstore.specs.Layout.{
+  copy_sectors, primary_of, backup_of, primary_bytes, backup_bytes, BothHold
+}
+use Rattle.vab_tables.specs.declared.table.Table.{Table}
+use Rattle.vab_model.specs.State.{control_seen, with_control}
+use Rattle.vab_device.specs.declared.device.Part.{Part}
+use Rattle.vab_device.specs.declared.device.Device.{Device}
+use Rattle.vab_device.specs.Checks.{first_fault}
+use Rattle.vab_device.specs.Mounted.{
+  Mounted, images_on, control_on, state_on, mounted_on, in_state
+}
+use Rattle.vab_device.specs.Phases.{phase_at}
+use Rattle.vab_device.specs.Reading.{
+  Read, mark_in, control_read, control_in, geometry_at, tables_in, state_fault, kept, Reads,
+  AgreeCopies, Represents, IsOfTables, IsOfImages
+}
+use Rattle.vab_device.proofs.SameLaws.{
+  mark_same, geometry_same, tables_agree, images_same, images_behind
+}
+
+-- the copies of tables stand behind the geometries
+tables_from : (g : Geometry) (slots : List ℕ) (s : ℕ) → IsOfTables g slots s → 4120 ≤ s
+unfolding primary_of backup_of
+tables_from g [] s is = absurd is
+tables_from g (slot ∷ slots) s (inl is) = omega (arith, is.from)
+tables_from g (slot ∷ slots) s (inr (inl is)) = omega (arith, is.from)
+tables_from g (slot ∷ slots) s (inr (inr is)) = tables_from g slots s is
+
+copies_kept : (g : Geometry) (slots : List ℕ) (ts : List Table) (old new : Image)
+    → ((s : ℕ) → IsOfTables g slots s → new s ≡ old s)
+    → AgreeCopies g slots ts old
+    → AgreeCopies g slots ts new
+copies_kept g [] ts old new same agree = tt
+copies_kept g (slot ∷ slots) [] old new same agree = agree
+copies_kept g (slot ∷ slots) (t ∷ ts) old new same agree =
+    let n = copy_sectors g in
+    let primary : primary_bytes g slot new ≡ primary_bytes g slot old =
+    sectors_same n (primary_of g slot) old new
+    (λ k below. same (primary_of g slot + k) (inl (record {
+      from = omega arith;
+      below = omega (arith, below);
+    }))) in
+    let backup : backup_bytes g slot new ≡ backup_bytes g slot old =
+    sectors_same n (backup_of g slot) old new
+    (λ k below. same (backup_of g slot + k) (inr (inl (record {
+      from = omega arith;
+      below = omega (arith, below);
+    })))) in
+    let text = agree.0.0 in
+    (
+      (text, agree.0.1, record {
+        primary = ap (λ (l : List ℕ). take (length text) l) primary ∙ agree.0.2.primary;
+        backup = ap (λ (l : List ℕ). take (length text) l) backup ∙ agree.0.2.backup;
+      }),
+      copies_kept g slots ts old new (λ s is. same s (inr (inr is))) agree.1,
+    )
+
+-- what is read with another boot control
+abbrev pub read_with : Read → Control → Read
+read_with r c = record r {
+  control = control_seen
+    ((phase_at r.mark.phase).has_a r.mark.slot) ((phase_at r.mark.phase).has_b r.mark.slot) c
+}
+
+abbrev pub with_boot : Control → Device → Device
+with_boot c d = record d { control = c }
+
+-- the rules of the slots hold with this boot control
+abbrev pub KeepsState : Read → Control → Type 0
+KeepsState r c = state_fault (read_with r c) ≡ None
+
+module _
+    (d : Device) (size : ℕ) (old : Image) (is : Represents d size old)
+    (bytes : List ℕ) (c : Control)
+    (decoded : control_of bytes ≡ Ok c) where
+  abbrev pub gated : Image
+  gated = set_sector old 4 bytes
+
+  elsewhere : (s : ℕ) → s ≢ 4 → gated s ≡ old s
+  elsewhere s other = set_there old 4 bytes s other
+
+  of_tables : (s : ℕ)
+      → IsOfTables is.read.geometry ((phase_at is.read.mark.phase).tables is.read.mark.slot) s
+      → gated s ≡ old s
+  of_tables s there =
+      elsewhere s (λ e. omega (arith, e,
+      tables_from is.read.geometry ((phase_at is.read.mark.phase).tables is.read.mark.slot) s there))
+
+  of_images : (slot : ℕ) (parts : Option (List Part))
+      → ((s : ℕ) → IsOfImages parts s → 4096 ≤ s)
+      → images_on gated parts ≡ images_on old parts
+  of_images slot parts behind =
+      images_same old gated parts (λ s there. elsewhere s (λ e. omega (arith, e, behind s there)))
+
+  control_there : (a b : Bool) → control_in a b gated ≡ Ok (control_seen a b c)
+  unfolding control_in
+  control_there a b =
+      ap (λ x. control_read a b (control_of x)) (set_here old 4 bytes 4 refl)
+      ∙ ap (control_read a b) decoded
+
+  reads_gated : KeepsState is.read c → Reads size (read_with is.read c) gated
+  reads_gated state = record {
+    enough = is.reads.enough;
+    mark = mark_same old gated (elsewhere 2048 (λ e. omega (arith, e))) ∙ is.reads.mark;
+    control = control_there _ _;
+    geometry =
+        geometry_same size old gated
+        (elsewhere 4104 (λ e. omega (arith, e)))
+        (elsewhere 4112 (λ e. omega (arith, e)))
+        ∙ is.reads.geometry;
+    tables =
+        tables_agree size is.read.geometry ((phase_at is.read.mark.phase).tables is.read.mark.slot) old gated
+        of_tables
+        ∙ is.reads.tables;
+    parts = is.reads.parts;
+    state = state;
+  }
+
+  -- the device with this boot control is that of the disk with the sector
+  pub represents_gated : KeepsState is.read c → Represents (with_boot c d) size gated
+  represents_gated state = record {
+    read = read_with is.read c;
+    reads = reads_gated state;
+    is = ap (with_boot c) is.is;
+    control = ap control_of (set_here old 4 bytes 4 refl) ∙ decoded;
+    copies = copies_kept is.read.geometry ((phase_at is.read.mark.phase).tables is.read.mark.slot)
+        is.read.tables old gated of_tables is.copies;
+  }
+
+  images_a : images_on gated d.a ≡ images_on old d.a
+  images_a =
+      of_images 0 d.a (λ s there.
+      images_behind size 4096 0 _ is.read old s is.reads (omega arith)
+      (subst (λ (k : Device). IsOfImages k.a s) is.is there))
+
+  images_b : images_on gated d.b ≡ images_on old d.b
+  images_b =
+      of_images 1 d.b (λ s there.
+      images_behind size 4096 1 _ is.read old s is.reads (omega arith)
+      (subst (λ (k : Device). IsOfImages k.b s) is.is there))
+
+  -- and it means the state with that boot control, as far as slots have images
+  pub mounted_gated : mounted_on (with_boot c d) gated
+    ≡ in_state (mounted_on d old)
+      (with_control (control_seen (is_some d.a) (is_some d.b) c) (state_on d old))
+  unfolding state_on
+  mounted_gated = rw (images_a, images_b) refl

@@ -1,0 +1,112 @@
+-- What is kept of a device between two commands, and what holds of it over every disk.
+use Rattle.std.specs.Prelude.{
+  ◌≡◌, ◌≢◌, ℕ, ◌+◌, ◌-◌, ◌*◌, ◌≤◌, ◌<◌, ◌==◌, ◌&&◌, ◌^◌, Bool, true, false, nat_le, not,
+  if◌then◌else◌, List, map, length, Option, Some, None, is_some, All, AllPairs, IsTrue
+}
+use Rattle.std.specs.Str.{bytes_eq}
+use Rattle.vab_names.specs.Names.{is_base, base_of, default_name}
+use Rattle.vab_bootctl.specs.Control.{Fits}
+use Rattle.vab_marks.specs.declared.mark.MarkPhase.TheVariants as marks
+use Rattle.vab_tables.specs.declared.entries.Group.{Group}
+use Rattle.vab_tables.specs.declared.entries.BlockDevice.{BlockDevice}
+use Rattle.vab_tables.specs.declared.table.Table.{Table}
+use Rattle.vab_tables.specs.Rules.{KeepsRules}
+use Rattle.vab_geometry.specs.declared.geometry.Geometry.{Geometry}
+use Rattle.vab_geometry.specs.Geometry.{IsGeometry}
+use Rattle.vab_layout.specs.declared.layout.Part.{Part as PartOfLayout}
+use Rattle.vab_layout.specs.declared.layout.Layout.{Layout}
+use Rattle.vab_layout.specs.Layout.{layout_of}
+use Rattle.vab_layout.specs.Slots.{own_parts, IsOwn}
+use Rattle.vab_layout.specs.Plain.{own_groups}
+use Rattle.vab_model.specs.declared.state.GroupLimit.{GroupLimit}
+use Rattle.vab_device.specs.declared.device.Part.{Part}
+use Rattle.vab_device.specs.declared.device.Device.{Device}
+
+-- ---- where a partition stands
+
+-- the first disk sector of a block, where block 0 begins at this sector of `super`
+abbrev pub block_sector : ℕ → ℕ → ℕ
+block_sector first b = 4096 + first + 8 * b
+
+-- blocks, each as its first sector on the disk
+unfoldable pub sectors_of : ℕ → List ℕ → List ℕ
+sectors_of first blocks = map (block_sector first) blocks
+
+abbrev pub part_on : ℕ → PartOfLayout → Part
+part_on first p = record {
+  name = base_of p.name;
+  group = p.group;
+  map = sectors_of first p.blocks;
+}
+
+-- a slot's own partitions
+abbrev pub parts_of : ℕ → Layout → List Part
+parts_of slot l = map (part_on l.device.first_logical_sector) (own_parts slot l.parts)
+
+-- the groups of a slot, without its suffix, each with its limit
+abbrev pub limits_of : ℕ → List Group → List GroupLimit
+limits_of slot groups =
+    map (λ g. record { name = base_of g.name; limit = g.maximum_size }) (own_groups slot groups)
+
+-- the group of a name, without the slot's suffix
+abbrev pub group_of : List ℕ → Option (List ℕ)
+group_of name = if bytes_eq name default_name then None else Some (base_of name)
+
+-- ---- the places of the tables
+
+-- the bytes of `super`, from sector 4096 to the end
+abbrev pub super_bytes : ℕ → ℕ
+super_bytes size = 512 * (size - 4096)
+
+-- where the copies of the tables end, in bytes of `super`
+abbrev pub copies_end : Geometry → ℕ
+copies_end g = 12288 + 2 * g.slots * g.max
+
+-- the block device lies in `super`, and its first logical sector behind the copies
+abbrev pub lies_in : ℕ → Geometry → BlockDevice → Bool
+lies_in size g d =
+    nat_le d.size (super_bytes size) && nat_le (copies_end g) (512 * d.first_logical_sector)
+
+-- ---- what holds of a kept device over every disk
+
+-- Its name, and at most 2^28 blocks on the disk, none twice.
+pub record IsPart (size : ℕ) (p : Part) : Type 0 where
+  pub name : IsTrue (is_base p.name)
+  pub on_disk : All (λ s. s + 8 ≤ size) p.map
+  pub once : AllPairs (λ a b. a ≢ b) p.map
+  pub small : length p.map ≤ 2 ^ 28
+
+-- at most 32 partitions of a slot
+pub record AreParts (size : ℕ) (parts : List Part) : Type 0 where
+  pub each : All (IsPart size) parts
+  pub few : length parts ≤ 32
+
+abbrev pub ArePresent : ℕ → Option (List Part) → Type 0
+ArePresent size None = Unit {0}
+ArePresent size (Some parts) = AreParts size parts
+
+-- the table of a slot: its rules, those of the slot's own partitions, and its block device in `super`
+pub record IsTableOf (size : ℕ) (g : Geometry) (slot : ℕ) (t : Table) : Type 0 where
+  pub rules : KeepsRules t
+  pub own : IsOwn slot (layout_of t).parts
+  pub lies : IsTrue (lies_in size g (layout_of t).device)
+
+abbrev pub IsKeptTable : ℕ → Geometry → ℕ → Option Table → Type 0
+IsKeptTable size g slot None = Unit {0}
+IsKeptTable size g slot (Some t) = IsTableOf size g slot t
+
+-- On a disk of so many sectors. The slot of the mark has images and a table, and the other has none.
+pub record IsDevice (d : Device) (size : ℕ) : Type 0 where
+  pub enough : 4120 ≤ size
+  pub geometry : IsGeometry d.geometry
+  pub control : Fits d.control
+  pub phase : d.mark.phase ≡ marks.Idle
+  pub slot : d.mark.slot < 2
+  pub current : d.control.current ≡ d.mark.slot
+  pub has_a : is_some d.a ≡ (d.mark.slot == 0)
+  pub has_b : is_some d.b ≡ (d.mark.slot == 1)
+  pub copies_on : copies_end d.geometry ≤ super_bytes size
+  pub parts_a : ArePresent size d.a
+  pub parts_b : ArePresent size d.b
+  pub table_a : IsKeptTable size d.geometry 0 d.table_a
+  pub table_b : IsKeptTable size d.geometry 1 d.table_b

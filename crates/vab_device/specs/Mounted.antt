@@ -1,0 +1,92 @@
+-- A device with its images: the state that it is in, and where its partitions stand.
+use Rattle.std.specs.Prelude.{ℕ, List, map, Option, Some, None, is_some}
+use Rattle.std.specs.List.{flat_map}
+use Rattle.std.specs.Option.{option_map}
+use Rattle.vab_disk.specs.Disk.{Image}
+use Rattle.vab_gate.specs.Gate.{sectors_at}
+use Rattle.vab_bootctl.specs.declared.slots.Control.{Control}
+use Rattle.vab_tables.specs.declared.table.Table.{Table}
+use Rattle.vab_geometry.specs.declared.geometry.Geometry.{Geometry}
+use Rattle.vab_layout.specs.declared.layout.Layout.{Layout}
+use Rattle.vab_layout.specs.Layout.{layout_of}
+use Rattle.vab_layout.specs.Plain.{plain}
+use Rattle.vab_model.specs.declared.state.Image.{Image as ImageOfSlot}
+use Rattle.vab_model.specs.declared.state.State.{State}
+use Rattle.vab_model.specs.declared.state.Phase.TheVariants.{Idle}
+use Rattle.vab_model.specs.State.{control_seen}
+use Rattle.vab_model.specs.Commands.{Command}
+use Rattle.vab_model.specs.Effects.{Effect, effect, effect_map}
+use Rattle.vab_device.specs.declared.device.Part.{Part}
+use Rattle.vab_device.specs.declared.device.Device.{Device}
+use Rattle.vab_device.specs.Kept.{group_of}
+
+-- Where the partitions stand: the geometry, and for each slot the table that is read of it, without
+-- stores.
+pub record Places : Type 0 where
+  pub geometry : Geometry
+  pub a : Option Layout
+  pub b : Option Layout
+
+pub record Mounted : Type 0 where
+  pub state : State
+  pub places : Places
+
+-- ---- images
+
+-- the bytes of blocks, each as its first sector
+unfoldable pub bytes_at : Image → List ℕ → List ℕ
+bytes_at image blocks = flat_map (λ s. sectors_at 8 image s) blocks
+
+-- for each block of a partition, the first of the sectors that a read of it takes
+abbrev pub sectors_read : Part → List ℕ
+sectors_read p = p.map
+
+abbrev pub image_on : Image → Part → ImageOfSlot
+image_on image p = record {
+  name = p.name;
+  group = group_of p.group;
+  bytes = bytes_at image (sectors_read p);
+}
+
+abbrev pub images_on : Image → Option (List Part) → Option (List ImageOfSlot)
+images_on image None = None
+images_on image (Some parts) = Some (map (image_on image) parts)
+
+-- ---- a kept device, where the disk has this image
+
+-- the boot control that a state has of it
+abbrev pub control_on : Device → Control
+control_on d = control_seen (is_some d.a) (is_some d.b) d.control
+
+unfoldable pub state_on : Device → Image → State
+state_on d image = record {
+  cap = d.cap;
+  groups = d.groups;
+  control = control_on d;
+  a = images_on image d.a;
+  b = images_on image d.b;
+  phase = Idle;
+}
+
+abbrev pub table_placed : ℕ → Option Table → Option Layout
+table_placed slot None = None
+table_placed slot (Some t) = Some (plain slot (layout_of t))
+
+abbrev pub places_on : Device → Places
+places_on d = record {
+  geometry = d.geometry;
+  a = table_placed 0 d.table_a;
+  b = table_placed 1 d.table_b;
+}
+
+abbrev pub mounted_on : Device → Image → Mounted
+mounted_on d image = record { state = state_on d image; places = places_on d }
+
+-- ---- what a command makes of it
+
+-- the same places, in another state
+abbrev pub in_state : Mounted → State → Mounted
+in_state m state = record m { state = state }
+
+abbrev pub effect_on : Mounted → Command → Effect Mounted
+effect_on m command = effect_map (in_state m) (effect m.state command)

@@ -1,0 +1,257 @@
+-- What a whole disk means: a device with its images, or the first thing that is wrong.
+use Rattle.std.specs.Prelude.{
+  ◌≡◌, ◌⊎◌, ℕ, ◌+◌, ◌==◌, Bool, true, false, nat_le, if◌then◌else◌, List, [], ◌∷◌, Option, Some, None,
+  Result, Ok, Err
+}
+use Rattle.vab_disk.specs.Disk.{Image}
+use Rattle.vab_disk.specs.Calls.{IsBetween, SameBut}
+use Rattle.vab_bootctl.specs.declared.slots.Control.{Control}
+use Rattle.vab_bootctl.specs.declared.sector.ControlFault.{ControlFault}
+use Rattle.vab_bootctl.specs.Control.{control_of}
+use Rattle.vab_marks.specs.declared.mark.UpdateMark.{UpdateMark}
+use Rattle.vab_marks.specs.declared.sector.MarkFault.{MarkFault}
+use Rattle.vab_marks.specs.Mark.{mark_of}
+use Rattle.vab_tables.specs.declared.table.Table.{Table}
+use Rattle.vab_tables.specs.declared.fault.TableFault.{TableFault}
+use Rattle.vab_tables.specs.Rules.{cap_of}
+use Rattle.vab_geometry.specs.declared.geometry.Geometry.{Geometry}
+use Rattle.vab_geometry.specs.declared.geometry.GeometryFault.{GeometryFault}
+use Rattle.vab_geometry.specs.Loading.{geometry_in}
+use Rattle.vab_lpstore.specs.Layout.{copy_sectors, primary_of, backup_of, BothHold}
+use Rattle.vab_lpstore.specs.Loading.{slot_table}
+use Rattle.vab_tables.specs.Text.{IsTableText}
+use Rattle.vab_layout.specs.Layout.{layout_of}
+use Rattle.vab_model.specs.State.{control_seen}
+use Rattle.vab_device.specs.declared.fault.StartFault.{StartFault}
+use Rattle.vab_device.specs.declared.fault.StartFault.TheVariants.{
+  TooSmall, BadMark, BadControl, BadGeometry, BadTable
+}
+use Rattle.vab_device.specs.declared.device.Part.{Part}
+use Rattle.vab_device.specs.declared.device.Device.{Device}
+use Rattle.vab_device.specs.Checks.{first_fault, passing, ◌>>=◌}
+use Rattle.vab_device.specs.Kept.{parts_of, limits_of, copies_end, super_bytes, lies_in}
+use Rattle.vab_device.specs.Mounted.{Mounted, mounted_on, images_on, sectors_read}
+use Rattle.vab_device.specs.Phases.{Phase, phase_at, is_known}
+
+-- What the sectors say that the phase reads. The images are left where they stand. Of boot control the
+-- slots with images are read, and of a slot's table that of the whole copy.
+pub record Read : Type 0 where
+  pub mark : UpdateMark
+  pub control : Control
+  pub geometry : Geometry
+  pub tables : List Table
+
+-- ---- the parts of a disk
+
+abbrev pub unless : {A : Type 0} → Bool → StartFault → Result A StartFault → Result A StartFault
+unless true fault next = next
+unless false fault next = Err fault
+
+abbrev pub mark_read : Result UpdateMark MarkFault → Result UpdateMark StartFault
+mark_read (Ok m) = unless (is_known m.phase) (BadMark 2048) (Ok m)
+mark_read (Err fault) = Err (BadMark 2048)
+
+-- the update mark, in sector 2048
+unfoldable pub mark_in : Image → Result UpdateMark StartFault
+mark_in image = mark_read (mark_of (image 2048))
+
+abbrev pub control_read : Bool → Bool → Result Control ControlFault → Result Control StartFault
+control_read has_a has_b (Ok c) = Ok (control_seen has_a has_b c)
+control_read has_a has_b (Err fault) = Err (BadControl fault)
+
+-- the boot control, in sector 4, as far as slots with images go
+unfoldable pub control_in : Bool → Bool → Image → Result Control StartFault
+control_in has_a has_b image = control_read has_a has_b (control_of (image 4))
+
+abbrev pub geometry_read : ℕ → Result Geometry (GeometryFault × GeometryFault) → Result Geometry StartFault
+geometry_read size (Ok g) = unless (nat_le (copies_end g) (super_bytes size)) BadGeometry (Ok g)
+geometry_read size (Err faults) = Err BadGeometry
+
+unfoldable pub geometry_at : ℕ → Image → Result Geometry StartFault
+geometry_at size image = geometry_read size (geometry_in image)
+
+abbrev pub table_read : ℕ → Geometry → ℕ → Result Table (TableFault × TableFault) → Result Table StartFault
+table_read size g slot (Ok t) = unless (lies_in size g (layout_of t).device) (BadTable slot) (Ok t)
+table_read size g slot (Err faults) = Err (BadTable slot)
+
+-- a slot's table
+unfoldable pub table_at : ℕ → Geometry → ℕ → Image → Result Table StartFault
+table_at size g slot image = table_read size g slot (slot_table g slot image)
+
+abbrev pub tables_in : ℕ → Geometry → List ℕ → Image → Result (List Table) StartFault
+tables_in size g [] image = Ok []
+tables_in size g (slot ∷ slots) image =
+    table_at size g slot image >>= λ t.
+    tables_in size g slots image >>= λ ts.
+    Ok (t ∷ ts)
+
+-- ---- the links: each takes what the one before has read
+
+-- the sectors with places of their own
+abbrev pub framed : ℕ → UpdateMark → Phase → Image → Result Read StartFault
+framed size m p image =
+    control_in (p.has_a m.slot) (p.has_b m.slot) image >>= λ c.
+    geometry_at size image >>= λ g.
+    tables_in size g (p.tables m.slot) image >>= λ ts.
+    Ok (record { mark = m; control = c; geometry = g; tables = ts })
+
+unfoldable pub frame : ℕ → Image → Result Read StartFault
+frame size image =
+    unless (nat_le 4120 size) (TooSmall 4120 size) (mark_in image) >>= λ m.
+    framed size m (phase_at m.phase) image
+
+abbrev pub part_fault : Read → Option StartFault
+part_fault r = first_fault ((phase_at r.mark.phase).part_checks r.mark.slot r.tables)
+
+abbrev pub state_fault : Read → Option StartFault
+state_fault r = first_fault ((phase_at r.mark.phase).state_checks r.mark.slot r.control)
+
+-- the rules of the partitions
+unfoldable pub judged : Read → Result Read StartFault
+judged r = passing (part_fault r) r
+
+-- the rules of the slots
+unfoldable pub stated : Read → Result Read StartFault
+stated r = passing (state_fault r) r
+
+-- ---- what is kept
+
+-- the table of a slot among those that are read
+abbrev pub table_for : ℕ → List ℕ → List Table → Option Table
+table_for slot [] ts = None
+table_for slot (s ∷ ss) [] = None
+table_for slot (s ∷ ss) (t ∷ ts) = if s == slot then Some t else table_for slot ss ts
+
+-- a slot's partitions, where it has images
+abbrev pub parts_for : ℕ → Bool → Option Table → Option (List Part)
+parts_for slot false t = None
+parts_for slot true None = None
+parts_for slot true (Some t) = Some (parts_of slot (layout_of t))
+
+abbrev pub read_table : ℕ → Read → Option Table
+read_table slot r = table_for slot ((phase_at r.mark.phase).tables r.mark.slot) r.tables
+
+-- the table whose blocks and groups are the device's
+abbrev pub of_first_table : {A : Type 0} → A → (Table → A) → List Table → A
+of_first_table none f [] = none
+of_first_table none f (t ∷ ts) = f t
+
+abbrev pub kept : Read → Device
+kept r = record {
+  geometry = r.geometry;
+  control = r.control;
+  mark = r.mark;
+  cap = of_first_table 0 (λ t. cap_of (layout_of t).device) r.tables;
+  groups = of_first_table [] (λ t. limits_of r.mark.slot t.groups) r.tables;
+  a = parts_for 0 ((phase_at r.mark.phase).has_a r.mark.slot) (read_table 0 r);
+  b = parts_for 1 ((phase_at r.mark.phase).has_b r.mark.slot) (read_table 1 r);
+  table_a = read_table 0 r;
+  table_b = read_table 1 r;
+}
+
+-- ---- what a disk means
+
+-- What a disk of so many sectors means: the links in their order.
+unfoldable pub device : ℕ → Image → Result Mounted StartFault
+device size image =
+    frame size image >>= judged >>= stated >>= λ r.
+    Ok (mounted_on (kept r) image)
+
+-- a disk of so many sectors is this device
+abbrev pub IsIn : ℕ → Mounted → Image → Type 0
+IsIn size m image = device size image ≡ Ok m
+
+-- A disk is read so: what each link takes, and that its rules are kept.
+pub record Reads (size : ℕ) (r : Read) (image : Image) : Type 0 where
+  pub enough : nat_le 4120 size ≡ true
+  pub mark : mark_in image ≡ Ok r.mark
+  pub control : control_in
+      ((phase_at r.mark.phase).has_a r.mark.slot)
+      ((phase_at r.mark.phase).has_b r.mark.slot)
+      image
+    ≡ Ok r.control
+  pub geometry : geometry_at size image ≡ Ok r.geometry
+  pub tables : tables_in size r.geometry ((phase_at r.mark.phase).tables r.mark.slot) image ≡ Ok r.tables
+  pub parts : part_fault r ≡ None
+  pub state : state_fault r ≡ None
+
+-- ---- a kept device and its disk
+
+-- both copies of each of these slots' tables are the text of the table that is read
+abbrev pub AgreeCopies : Geometry → List ℕ → List Table → Image → Type 0
+AgreeCopies g [] ts image = Unit {0}
+AgreeCopies g (s ∷ ss) [] image = ⊥
+AgreeCopies g (s ∷ ss) (t ∷ ts) image =
+    ((text : List ℕ) × IsTableText g.max text t × BothHold g s text image)
+    × AgreeCopies g ss ts image
+
+-- The device that is kept is that of the disk: it is what is read of it, with the whole boot control,
+-- its tables are those that the disk reads, and both copies of each agree.
+pub record Represents (d : Device) (size : ℕ) (image : Image) : Type 0 where
+  pub read : Read
+  pub reads : Reads size read image
+  pub is : d ≡ record (kept read) { control = d.control }
+  pub control : control_of (image 4) ≡ Ok d.control
+  pub copies : AgreeCopies read.geometry ((phase_at read.mark.phase).tables read.mark.slot) read.tables image
+
+-- ---- what is read the same
+
+-- Each part that is read, and the images, are the same in both.
+pub record SameRead (size : ℕ) (r : Read) (old new : Image) : Type 0 where
+  pub mark : mark_in new ≡ mark_in old
+  pub control : control_in
+      ((phase_at r.mark.phase).has_a r.mark.slot)
+      ((phase_at r.mark.phase).has_b r.mark.slot)
+      new
+    ≡ control_in
+      ((phase_at r.mark.phase).has_a r.mark.slot)
+      ((phase_at r.mark.phase).has_b r.mark.slot)
+      old
+  pub geometry : geometry_at size new ≡ geometry_at size old
+  pub tables : tables_in size r.geometry ((phase_at r.mark.phase).tables r.mark.slot) new
+    ≡ tables_in size r.geometry ((phase_at r.mark.phase).tables r.mark.slot) old
+  pub images_a : images_on new (kept r).a ≡ images_on old (kept r).a
+  pub images_b : images_on new (kept r).b ≡ images_on old (kept r).b
+
+-- Writes of such values are dead: each image that has other bytes there alone is read the same.
+abbrev pub Dead : ℕ → Read → Image → (ℕ → List ℕ → Type 0) → Type 0
+Dead size r old W = (new : Image) → SameBut W old new → SameRead size r old new
+
+-- ---- the sectors on which a reading rests
+
+-- a sector of a copy of one of these slots' tables
+abbrev pub IsOfTables : Geometry → List ℕ → ℕ → Type 0
+IsOfTables g [] s = ⊥
+IsOfTables g (slot ∷ slots) s =
+    IsBetween (primary_of g slot) (primary_of g slot + copy_sectors g) s
+    ⊎ IsBetween (backup_of g slot) (backup_of g slot + copy_sectors g) s
+    ⊎ IsOfTables g slots s
+
+abbrev pub IsOfBlocks : List ℕ → ℕ → Type 0
+IsOfBlocks [] s = ⊥
+IsOfBlocks (b ∷ bs) s = IsBetween b (b + 8) s ⊎ IsOfBlocks bs s
+
+abbrev pub IsOfParts : List Part → ℕ → Type 0
+IsOfParts [] s = ⊥
+IsOfParts (p ∷ ps) s = IsOfBlocks (sectors_read p) s ⊎ IsOfParts ps s
+
+abbrev pub IsOfImages : Option (List Part) → ℕ → Type 0
+IsOfImages None s = ⊥
+IsOfImages (Some parts) s = IsOfParts parts s
+
+-- The live sectors: the reading and the images are the same where these are.
+pub data Live (r : Read) (s : ℕ) : Type 0 where
+  of_mark : s ≡ 2048 → Live r s
+  of_control : s ≡ 4 → Live r s
+  of_geometry : (s ≡ 4104) ⊎ (s ≡ 4112) → Live r s
+  of_tables : IsOfTables r.geometry ((phase_at r.mark.phase).tables r.mark.slot) s → Live r s
+  of_images_a : IsOfImages (kept r).a s → Live r s
+  of_images_b : IsOfImages (kept r).b s → Live r s
+
+-- the same where the reading rests
+abbrev pub Agrees : Read → Image → Image → Type 0
+Agrees r old new = (s : ℕ) → Live r s → new s ≡ old s
+
+-- none of these sectors is live
+abbrev pub Misses : Read → (ℕ → Type 0) → Type 0
+Misses r W = (s : ℕ) → Live r s → W s → ⊥

@@ -1,0 +1,98 @@
+-- What a command makes of a state: the reply, and the states that follow one another.
+use Rattle.std.specs.Prelude.{
+  ◌≡◌, ◌⊎◌, ℕ, if◌then◌else◌, Bool, true, false, List, [], ◌∷◌, ◌++◌, map, Option, Some, None, is_some
+}
+use Rattle.sha2.specs.Sha256.{sha256}
+use Rattle.vab_bootctl.specs.declared.slots.Control.{Control}
+use Rattle.vab_bootctl.specs.Boot.{activated_of, booted_of, marked_of}
+use Rattle.vab_names.specs.Names.{is_full, base_of}
+use Rattle.vab_model.specs.declared.state.Image.{Image}
+use Rattle.vab_model.specs.declared.state.State.{State}
+use Rattle.vab_model.specs.declared.command.Refusal.{Refusal}
+use Rattle.vab_model.specs.declared.command.Refusal.TheVariants.{BadName, Unknown, NoImages}
+use Rattle.vab_model.specs.declared.command.Reply.{Reply}
+use Rattle.vab_model.specs.declared.command.Reply.TheVariants as replies
+use Rattle.vab_model.specs.Commands.{Command, SetActive, Boot, Mark, Print, Digest}
+use Rattle.vab_model.specs.State.{images_at, has_images, with_control, image_named}
+
+-- A reply, and the states that follow one another; none for a refusal or a question.
+pub record Effect (S : Type 0) : Type 0 where
+  pub reply : Reply
+  pub later : List S
+
+abbrev pub answers : {S : Type 0} → Reply → Effect S
+answers reply = record { reply = reply; later = [] }
+
+abbrev pub refuses : {S : Type 0} → Refusal → Effect S
+refuses refusal = answers (replies.Refused refusal)
+
+abbrev pub does : {S : Type 0} → Reply → S → Effect S
+does reply next = record { reply = reply; later = next ∷ [] }
+
+-- the same of what has a state in it
+abbrev pub effect_map : {S T : Type 0} → (S → T) → Effect S → Effect T
+effect_map f e = record { reply = e.reply; later = map f e.later }
+
+-- ---- the image that is asked for
+
+-- what was found under a name
+pub data Found : Type 0 where
+  Image_is : (image : Image) → Found
+  Refused_by : (refusal : Refusal) → Found
+
+abbrev pub found_image : Option Image → Found
+found_image None = Refused_by Unknown
+found_image (Some image) = Image_is image
+
+abbrev pub found_in : Option (List Image) → List ℕ → Found
+found_in None name = Refused_by NoImages
+found_in (Some images) name = found_image (image_named (base_of name) images)
+
+-- the image of a name with a slot's suffix
+abbrev pub found_of : State → List ℕ → Found
+found_of s name =
+    if is_full 0 name then found_in s.a name
+    else (if is_full 1 name then found_in s.b name else Refused_by BadName)
+
+-- ---- the table
+
+abbrev pub print_effect : {S : Type 0} → List ℕ → Found → Effect S
+print_effect name (Image_is image) = answers (replies.Bytes name)
+print_effect name (Refused_by refusal) = refuses refusal
+
+abbrev pub digest_effect : {S : Type 0} → Found → Effect S
+digest_effect (Image_is image) = answers (replies.Digest (sha256 image.bytes))
+digest_effect (Refused_by refusal) = refuses refusal
+
+-- another boot control, where the slot has images
+abbrev pub active_effect : Bool → State → Control → Effect State
+active_effect true s c = does replies.Done (with_control c s)
+active_effect false s c = refuses NoImages
+
+-- each command has a row
+unfoldable pub effect : State → Command → Effect State
+effect s (SetActive slot) = active_effect (is_some (images_at s slot)) s (activated_of s.control slot)
+effect s Boot =
+    let c = booted_of s.control (has_images s) in
+    does (replies.Booted c.current) (with_control c s)
+effect s Mark = does replies.Done (with_control (marked_of s.control) s)
+effect s (Print name) = print_effect name (found_of s name)
+effect s (Digest name) = digest_effect (found_of s name)
+
+-- ---- what follows from an effect, whatever the command is
+
+abbrev pub last_of : {S : Type 0} → S → List S → S
+last_of s [] = s
+last_of s (x ∷ xs) = last_of x xs
+
+-- the states from the one before a command to the one after it
+abbrev pub steps_of : {S : Type 0} → S → Effect S → List S
+steps_of s e = s ∷ e.later
+
+abbrev pub after_of : {S : Type 0} → S → Effect S → S
+after_of s e = last_of s e.later
+
+-- one of these
+abbrev pub IsOneOf : {S : Type 0} → List S → S → Type 0
+IsOneOf [] x = ⊥
+IsOneOf (s ∷ ss) x = (x ≡ s) ⊎ IsOneOf ss x
