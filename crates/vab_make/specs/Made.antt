@@ -17,7 +17,8 @@ use Rattle.vab_layout.specs.Plain.{default_group, plain}
 use Rattle.vab_model.specs.declared.state.Image.{Image as ImageOfSlot}
 use Rattle.vab_model.specs.declared.state.State.{State}
 use Rattle.vab_model.specs.declared.state.Phase.TheVariants.{Idle}
-use Rattle.vab_device.specs.Device.{Places, super_bytes}
+use Rattle.vab_device.specs.Kept.{super_bytes}
+use Rattle.vab_device.specs.Mounted.{Places, Mounted}
 use Rattle.vab_make.specs.declared.fault.MakeFault.{MakeFault}
 use Rattle.vab_make.specs.declared.fault.MakeFault.TheVariants.{TooSmall, GroupLimit, NoRoom, TableFull}
 
@@ -45,7 +46,11 @@ abbrev pub made_geometry : ℕ → Geometry
 made_geometry max = record { max = max; slots = 2 }
 
 unfoldable pub made_places : List SetImage → ℕ → ℕ → ℕ → Places
-made_places set limit max size = record { geometry = made_geometry max; table = plain 0 (made_layout set limit size) }
+made_places set limit max size = record {
+  geometry = made_geometry max;
+  a = Some (plain 0 (made_layout set limit size));
+  b = None;
+}
 
 -- ---- what it is
 
@@ -63,10 +68,17 @@ unfoldable pub made_state : List SetImage → ℕ → ℕ → State
 made_state set limit size = record {
   cap = cap_of (made_device size);
   groups = record { name = codes "main"; limit = limit } ∷ [];
-  a = Some (record { images = map made_image set; priority = 15; tries = 0; successful = true });
+  control = made_control;
+  a = Some (map made_image set);
   b = None;
-  current = 0;
   phase = Idle;
+}
+
+-- the device that is made
+abbrev pub made_device_of : List SetImage → ℕ → ℕ → ℕ → Mounted
+made_device_of set limit max size = record {
+  state = made_state set limit size;
+  places = made_places set limit max size;
 }
 
 -- ---- why it is refused

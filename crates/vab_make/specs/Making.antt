@@ -3,10 +3,10 @@ use Rattle.std.specs.Prelude.{◌≡◌, ◌⊎◌, ℕ, List, Option, Some, Non
 use Rattle.vab_disk.specs.Disk.{Image, Outcome}
 use Rattle.vab_set.specs.declared.set.SetImage.{SetImage}
 use Rattle.vab_device.specs.declared.fault.StartFault.{StartFault}
-use Rattle.vab_device.specs.Device.{device, places}
+use Rattle.vab_device.specs.Reading.{device, IsIn}
 use Rattle.vab_make.specs.declared.fault.MakeFault.{MakeFault}
 use Rattle.vab_make.specs.declared.fault.MakeFault.TheVariants.{TooSmall, GroupLimit, NoRoom, TableFull, NoMemory, Disk}
-use Rattle.vab_make.specs.Made.{made_state, made_places}
+use Rattle.vab_make.specs.Made.{made_device_of}
 
 -- what was answered is the refusal, or there is none; memory may be refused in place of either, and the disk may fail where there is none
 abbrev pub Gives : {A : Type 0} → Result A MakeFault → Option MakeFault → Type 0
@@ -32,9 +32,8 @@ abbrev pub IsNone : ℕ → Image → Type 0
 IsNone size image = (fault : StartFault) × (device size image ≡ Err fault)
 
 -- the image is the made device
-pub record IsMade (set : List SetImage) (limit max size : ℕ) (image : Image) : Type 0 where
-  pub state : device size image ≡ Ok (made_state set limit size)
-  pub places : places size image ≡ Ok (made_places set limit max size)
+abbrev pub IsMade : List SetImage → ℕ → ℕ → ℕ → Image → Type 0
+IsMade set limit max size image = IsIn size (made_device_of set limit max size) image
 
 -- with nothing more told, the disk is as it was, or no device, or the made one
 pub record LeavesMaking (told : List ℕ) (set : List SetImage) (limit max size : ℕ) (old : Image) (o : Outcome) : Type 0 where
