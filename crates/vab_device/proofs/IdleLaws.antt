@@ -82,12 +82,12 @@ frame_is size image m c g t enough mark control geometry table =
     rw (enough, mark, at_idle m.phase, control, geometry, table) refl
 
 -- the rules of a device without an update are those of its phase
-parts_are : (r : Read) (t : Table) → r.tables ≡ t ∷ [] → part_fault r ≡ first_fault (own_check r.mark.slot t ∷ [])
+pub parts_are : (r : Read) (t : Table) → r.tables ≡ t ∷ [] → part_fault r ≡ first_fault (own_check r.mark.slot t ∷ [])
 parts_are r t one =
     ap (λ (p : Phase). first_fault (p.part_checks r.mark.slot r.tables)) (at_idle r.mark.phase)
     ∙ ap (λ (ts : List Table). first_fault (idle.part_checks r.mark.slot ts)) one
 
-state_is : (r : Read) → state_fault r ≡ first_fault (idle.state_checks r.mark.slot r.control)
+pub state_is : (r : Read) → state_fault r ≡ first_fault (idle.state_checks r.mark.slot r.control)
 state_is r = ap (λ (p : Phase). first_fault (p.state_checks r.mark.slot r.control)) (at_idle r.mark.phase)
 
 judged_fault : (r : Read) (f : StartFault) (parts state : Option StartFault)

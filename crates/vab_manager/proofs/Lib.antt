@@ -1,5 +1,6 @@
-pub mod BlockLaws
-pub mod DeviceLaws
-pub mod DigestLaws
-pub mod FoundLaws
-pub mod NameLaws
+mod BlockLaws
+mod BootLaws
+mod CommandLaws
+mod DigestLaws
+mod EffectLaws
+mod FoundLaws
