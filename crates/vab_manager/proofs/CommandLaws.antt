@@ -1,9 +1,6 @@
 -- What a command does, by what it does to the disk.
-use Rattle.std.proofs.Common.{
-  ◌≡◌, ◌∙◌, inl, inr, ⊎_elim, ℕ, ◌<◌, true, false, eqb, List, [], ◌∷◌, Ok, Err, None, refl, sym, ap, subst,
-  arith, eq-eqb
-}
-use Rattle.std.specs.Prelude.{◌==◌, if◌then◌else◌}
+use Rattle.std.proofs.Common.{◌≡◌, ◌∙◌, inl, inr, ⊎_elim, ℕ, ◌<◌, true, eqb, [], ◌∷◌, Ok, Err, None, refl, sym, ap, subst, arith, eq-eqb}
+use Rattle.std.specs.Prelude.{◌==◌}
 use Rattle.std.proofs.lemmas.Bool.{cases_Bool, eqb-false}
 use Rattle.vab_disk.specs.declared.disk.Disk.{Ghosts}
 use Rattle.vab_disk.specs.Disk.{Image, Outcome, Adds, Rose}
@@ -24,18 +21,29 @@ use Rattle.vab_device.specs.Checks.{first_fault, check}
 use Rattle.vab_device.specs.Idle.{control_read_of}
 use Rattle.vab_device.specs.Kept.{IsDevice}
 use Rattle.vab_device.specs.Mounted.{Mounted, mounted_on, effect_on}
-use Rattle.vab_device.specs.Phases.{Phase, idle, phase_at, is_good}
+use Rattle.vab_device.specs.Phases.{Phase, idle, is_good}
 use Rattle.vab_device.specs.Reading.{Read, device, Represents}
 use Rattle.vab_device.proofs.CheckLaws.{check_kept, first_kept}
 use Rattle.vab_device.proofs.ControlLaws.{
-  read_with, with_boot, KeepsState, represents_gated, mounted_gated
+  read_with,
+  with_boot,
+  KeepsState,
+  represents_gated,
+  mounted_gated,
 }
 use Rattle.vab_device.proofs.IdleLaws.{state_is}
 use Rattle.vab_device.proofs.ReadingLaws.{at_idle, control_is_seen, device_stands}
 use Rattle.vab_manager.specs.Commands.{LeavesStep, DoesCommand}
-use Rattle.vab_manager.specs.Controls.{HasControl, LeavesControl, IsControl, IsOfCommand}
+use Rattle.vab_manager.specs.Controls.{
+  HasControl,
+  LeavesControl,
+  IsControl,
+  IsOfCommand,
+  WritesControl,
+  with_kept,
+  GivesControl,
+}
 use Rattle.vab_manager.proofs.BootLaws.{kept_device}
-use Rattle.vab_manager.proofs.EffectLaws.{with_kept, GivesControl}
 
 -- ---- the rules of the slots, with another boot control
 
@@ -84,14 +92,14 @@ keeps_state d size old c is below current good =
     state_is (read_with r c)
     ∙ ap (λ (k : Control). first_fault (idle.state_checks r.mark.slot k)) (seen_idle r c)
     ∙ checks_pass r.mark.slot c (omega (arith, below, slot)) (current ∙ slot)
-      (ap (λ (n : ℕ). is_good (info_at c n)) (sym slot) ∙ good)
+    (ap (λ (n : ℕ). is_good (info_at c n)) (sym slot) ∙ good)
 
 checks_passed : (slot : ℕ) (c : Control)
     → first_fault (idle.state_checks slot c) ≡ None
     → is_good (info_at c slot) ≡ true
 checks_passed slot c none =
     let rest = first_kept (check (c.current == slot) (BadState 1))
-        (check (is_good (info_at c slot)) (BadState 2) ∷ []) none in
+    (check (is_good (info_at c slot)) (BadState 2) ∷ []) none in
     check_kept (is_good (info_at c slot)) (BadState 2)
     (first_kept (check (is_good (info_at c slot)) (BadState 2)) [] rest.1).0
 
@@ -173,14 +181,12 @@ module _ {D : Type 0} (g : Ghosts D) (d : Device) (command : Command) where
       (current : c.current ≡ d.mark.slot)
       (good : g.is_modelled → is_good (info_at c d.mark.slot) ≡ true)
       (gives : g.is_modelled → GivesControl d (g.seen old) command reply c)
-      (writes : (s : ℕ) (b : List ℕ)
-        → IsControl c (g.seen old 4) s b
-        → IsOfCommand d (g.seen old 4) command s b)
+      (writes : WritesControl d (g.seen old 4) command c)
       (touches : g.is_modelled → Touches g (IsControl c (g.seen old 4)) old new)
       (quiet : IsQuiet g old new)
       (gate : g.is_modelled
-        → IsAtRest g old
-        → Adds g.moment g.outcomes old new (LeavesControl (g.told old) c (g.seen old))) where
+      → IsAtRest g old
+      → Adds g.moment g.outcomes old new (LeavesControl (g.told old) c (g.seen old))) where
     next : Mounted
     next = with_kept d c (g.seen old)
 
@@ -202,7 +208,7 @@ module _ {D : Type 0} (g : Ghosts D) (d : Device) (command : Command) where
     leaves : (t : g.is_modelled) (o : Outcome)
         → LeavesControl (g.told old) c (g.seen old) o
         → LeavesStep (g.told old) (g.size old)
-          (steps_of (mounted_on d (g.seen old)) (effect_on (mounted_on d (g.seen old)) command)) o
+        (steps_of (mounted_on d (g.seen old)) (effect_on (mounted_on d (g.seen old)) command)) o
     leaves t o left = ⊎_elim
         (λ same. record {
           told_so_far = left.told_so_far;
@@ -228,8 +234,8 @@ module _ {D : Type 0} (g : Ghosts D) (d : Device) (command : Command) where
     steps : g.is_modelled
         → IsAtRest g old
         → Adds g.moment g.outcomes old new
-          (LeavesStep (g.told old) (g.size old)
-          (steps_of (mounted_on d (g.seen old)) (effect_on (mounted_on d (g.seen old)) command)))
+        (LeavesStep (g.told old) (g.size old)
+        (steps_of (mounted_on d (g.seen old)) (effect_on (mounted_on d (g.seen old)) command)))
     steps t rest = adds_wider g.moment g.outcomes old new _ _ (gate t rest) (leaves t)
 
     -- the disk failed

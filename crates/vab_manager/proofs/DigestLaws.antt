@@ -3,7 +3,7 @@ use Rattle.std.proofs.Common.{◌≡◌, ℕ, ◌+◌, ◌<◌, List, [], ◌∷
 use Rattle.std.proofs.lemmas.List.{take_more, append-nil}
 use Rattle.vab_disk.specs.Disk.{Image}
 use Rattle.vab_gate.specs.Gate.{sectors_at}
-use Rattle.vab_recover.specs.Stands.{bytes_at}
+use Rattle.vab_device.specs.Mounted.{bytes_at}
 
 bytes_append : (image : Image) (xs ys : List ℕ) → bytes_at image (xs ++ ys) ≡ bytes_at image xs ++ bytes_at image ys
 unfolding bytes_at

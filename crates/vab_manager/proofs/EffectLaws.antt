@@ -1,7 +1,5 @@
 -- What the table of effects says of commands on slots, by the boot control that is kept.
-use Rattle.std.proofs.Common.{
-  ◌≡◌, ◌∙◌, ℕ, inl, inr, Bool, true, false, eqb, List, [], ◌∷◌, Option, Some, None, refl, sym, ap, subst
-}
+use Rattle.std.proofs.Common.{◌≡◌, ◌∙◌, ℕ, inl, inr, Bool, true, false, eqb, List, Option, Some, None, refl, sym, ap}
 use Rattle.std.specs.Prelude.{◌==◌, if◌then◌else◌, is_some}
 use Rattle.std.proofs.lemmas.Bool.{cases_Bool}
 use Rattle.vab_disk.specs.Disk.{Image}
@@ -9,29 +7,23 @@ use Rattle.vab_bootctl.specs.declared.slots.Control.{Control}
 use Rattle.vab_bootctl.specs.Boot.{activated_of, booted_of, marked_of}
 use Rattle.vab_model.specs.declared.state.State.{State}
 use Rattle.vab_model.specs.declared.command.Refusal.TheVariants.{NoImages}
-use Rattle.vab_model.specs.declared.command.Reply.{Reply}
 use Rattle.vab_model.specs.declared.command.Reply.TheVariants as replies
-use Rattle.vab_model.specs.Commands.{Command, SetActive, Boot, Mark}
+use Rattle.vab_model.specs.Commands.{SetActive, Boot, Mark}
 use Rattle.vab_model.specs.Effects.{Effect, effect, effect_map, active_effect, does, refuses}
 use Rattle.vab_model.specs.State.{images_at, has_images, control_seen, with_control}
 use Rattle.vab_model.proofs.SeenLaws.{seen_activated, seen_marked, seen_booted}
 use Rattle.vab_device.specs.declared.device.Part.{Part}
 use Rattle.vab_device.specs.declared.device.Device.{Device}
 use Rattle.vab_device.specs.Mounted.{
-  Mounted, images_on, control_on, state_on, mounted_on, in_state, effect_on
+  Mounted,
+  images_on,
+  control_on,
+  state_on,
+  mounted_on,
+  in_state,
+  effect_on,
 }
-use Rattle.vab_manager.specs.Controls.{slots_with_images}
-
--- the device with this boot control, as far as slots have images
-abbrev pub with_kept : Device → Control → Image → Mounted
-with_kept d c image =
-    in_state (mounted_on d image)
-      (with_control (control_seen (is_some d.a) (is_some d.b) c) (state_on d image))
-
--- a command gives this reply, and leaves the device with this boot control
-abbrev pub GivesControl : Device → Image → Command → Reply → Control → Type 0
-GivesControl d image command reply c =
-    effect_on (mounted_on d image) command ≡ does reply (with_kept d c image)
+use Rattle.vab_manager.specs.Controls.{slots_with_images, GivesControl}
 
 some_images : (image : Image) (parts : Option (List Part))
     → is_some (images_on image parts) ≡ is_some parts
@@ -71,7 +63,7 @@ activated_effect d image slot has =
     let s : State = state_on d image in
     let there : is_some (images_at s slot) ≡ true = has_at d image slot ∙ has in
     let seen : activated_of (control_on d) slot
-      ≡ control_seen (is_some d.a) (is_some d.b) (activated_of d.control slot) =
+    ≡ control_seen (is_some d.a) (is_some d.b) (activated_of d.control slot) =
     seen_activated (is_some d.a) (is_some d.b) d.control slot (sym (is_some_at d.a d.b slot) ∙ has) in
     mapped (mounted_on d image) _ _
     (ap (λ (b : Bool). active_effect b s (activated_of s.control slot)) there
@@ -108,8 +100,8 @@ booting s c = does (replies.Booted c.current) (with_control c s)
 
 pub booted_effect : (d : Device) (image : Image)
     → GivesControl d image Boot
-      (replies.Booted (booted_of d.control (slots_with_images d)).current)
-      (booted_of d.control (slots_with_images d))
+    (replies.Booted (booted_of d.control (slots_with_images d)).current)
+    (booted_of d.control (slots_with_images d))
 unfolding effect
 booted_effect d image =
     let s : State = state_on d image in

@@ -6,7 +6,7 @@ use Rattle.vab_disk.specs.Calls.{FailsWithDisk, IsAtRest, IsQuiet, Touches}
 use Rattle.vab_gate.specs.declared.gate.DiskFault.{DiskFault}
 use Rattle.vab_model.specs.declared.command.Reply.{Reply}
 use Rattle.vab_model.specs.Commands.{Command}
-use Rattle.vab_model.specs.Effects.{Effect, steps_of, after_of, IsOneOf}
+use Rattle.vab_model.specs.Effects.{steps_of, after_of, IsOneOf}
 use Rattle.vab_device.specs.declared.device.Device.{Device}
 use Rattle.vab_device.specs.Kept.{IsDevice}
 use Rattle.vab_device.specs.Mounted.{Mounted, mounted_on, effect_on}
@@ -33,7 +33,7 @@ pub record DoesCommand {D : Type 0}
   pub represents : g.is_modelled → IfOk result (λ r. Represents r.0 (g.size old) (g.seen new))
   pub after : g.is_modelled → IfOk result
       (λ r. mounted_on r.0 (g.seen new)
-        ≡ after_of (mounted_on d (g.seen old)) (effect_on (mounted_on d (g.seen old)) command))
+      ≡ after_of (mounted_on d (g.seen old)) (effect_on (mounted_on d (g.seen old)) command))
   pub reply : g.is_modelled → IfOk result
       (λ r. r.1 ≡ (effect_on (mounted_on d (g.seen old)) command).reply)
   pub rest : g.is_modelled → IsAtRest g old → OnOk result (IsAtRest g new)
@@ -42,6 +42,6 @@ pub record DoesCommand {D : Type 0}
   pub time : g.is_modelled
       → IsAtRest g old
       → Adds g.moment g.outcomes old new
-        (LeavesStep (g.told old) (g.size old)
-        (steps_of (mounted_on d (g.seen old)) (effect_on (mounted_on d (g.seen old)) command)))
+      (LeavesStep (g.told old) (g.size old)
+      (steps_of (mounted_on d (g.seen old)) (effect_on (mounted_on d (g.seen old)) command)))
   pub faults : FailsWithDisk g old new result

@@ -4,8 +4,12 @@ use Rattle.vab_disk.specs.Disk.{Image, Outcome, set_sector}
 use Rattle.vab_bootctl.specs.declared.slots.Control.{Control}
 use Rattle.vab_bootctl.specs.Control.{control_of, KeepsRest}
 use Rattle.vab_bootctl.specs.Boot.{activated_of, booted_of, marked_of}
+use Rattle.vab_model.specs.declared.command.Reply.{Reply}
 use Rattle.vab_model.specs.Commands.{Command, SetActive, Boot, Mark, Print, Digest}
+use Rattle.vab_model.specs.Effects.{does}
+use Rattle.vab_model.specs.State.{control_seen, with_control}
 use Rattle.vab_device.specs.declared.device.Device.{Device}
+use Rattle.vab_device.specs.Mounted.{Mounted, state_on, mounted_on, in_state, effect_on}
 
 -- The new image is the old one with a sector of this boot control in its place; the bits of the sector
 -- that no field has stay.
@@ -41,3 +45,19 @@ IsOfCommand d old Boot s b = IsControl (booted_of d.control (slots_with_images d
 IsOfCommand d old Mark s b = IsControl (marked_of d.control) old s b
 IsOfCommand d old (Print name) s b = ⊥
 IsOfCommand d old (Digest name) s b = ⊥
+
+-- A command may write this boot control.
+abbrev pub WritesControl : Device → List ℕ → Command → Control → Type 0
+WritesControl d old command c =
+    (s : ℕ) (b : List ℕ) → IsControl c old s b → IsOfCommand d old command s b
+
+-- the device with this boot control, as far as slots have images
+abbrev pub with_kept : Device → Control → Image → Mounted
+with_kept d c image =
+    in_state (mounted_on d image)
+    (with_control (control_seen (is_some d.a) (is_some d.b) c) (state_on d image))
+
+-- A command gives this reply, and leaves the device with this boot control.
+abbrev pub GivesControl : Device → Image → Command → Reply → Control → Type 0
+GivesControl d image command reply c =
+    effect_on (mounted_on d image) command ≡ does reply (with_kept d c image)
