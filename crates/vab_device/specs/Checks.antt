@@ -1,6 +1,18 @@
 -- Rules, one after another: each has the fault of breaking it.
 use Rattle.std.specs.Prelude.{
-  Bool, true, false, List, [], ◌∷◌, ℕ, Option, Some, None, Result, Ok, Err
+  Bool,
+  true,
+  false,
+  List,
+  [],
+  ◌∷◌,
+  ℕ,
+  Option,
+  Some,
+  None,
+  Result,
+  Ok,
+  Err,
 }
 use Rattle.vab_device.specs.declared.fault.StartFault.{StartFault}
 use Rattle.vab_device.specs.declared.fault.StartFault.TheVariants.{BadPartition}

@@ -1,7 +1,24 @@
 -- What a whole disk means: a device with its images, or the first thing that is wrong.
 use Rattle.std.specs.Prelude.{
-  ◌≡◌, ◌⊎◌, ℕ, ◌+◌, ◌==◌, Bool, true, false, nat_le, if◌then◌else◌, List, [], ◌∷◌, Option, Some, None,
-  Result, Ok, Err
+  ◌≡◌,
+  ◌⊎◌,
+  ℕ,
+  ◌+◌,
+  ◌==◌,
+  Bool,
+  true,
+  false,
+  nat_le,
+  if◌then◌else◌,
+  List,
+  [],
+  ◌∷◌,
+  Option,
+  Some,
+  None,
+  Result,
+  Ok,
+  Err,
 }
 use Rattle.vab_disk.specs.Disk.{Image}
 use Rattle.vab_disk.specs.Calls.{IsBetween, SameBut}
@@ -24,7 +41,11 @@ use Rattle.vab_layout.specs.Layout.{layout_of}
 use Rattle.vab_model.specs.State.{control_seen}
 use Rattle.vab_device.specs.declared.fault.StartFault.{StartFault}
 use Rattle.vab_device.specs.declared.fault.StartFault.TheVariants.{
-  TooSmall, BadMark, BadControl, BadGeometry, BadTable
+  TooSmall,
+  BadMark,
+  BadControl,
+  BadGeometry,
+  BadTable,
 }
 use Rattle.vab_device.specs.declared.device.Part.{Part}
 use Rattle.vab_device.specs.declared.device.Device.{Device}
@@ -169,7 +190,7 @@ pub record Reads (size : ℕ) (r : Read) (image : Image) : Type 0 where
       ((phase_at r.mark.phase).has_a r.mark.slot)
       ((phase_at r.mark.phase).has_b r.mark.slot)
       image
-    ≡ Ok r.control
+      ≡ Ok r.control
   pub geometry : geometry_at size image ≡ Ok r.geometry
   pub tables : tables_in size r.geometry ((phase_at r.mark.phase).tables r.mark.slot) image ≡ Ok r.tables
   pub parts : part_fault r ≡ None
@@ -203,13 +224,13 @@ pub record SameRead (size : ℕ) (r : Read) (old new : Image) : Type 0 where
       ((phase_at r.mark.phase).has_a r.mark.slot)
       ((phase_at r.mark.phase).has_b r.mark.slot)
       new
-    ≡ control_in
+      ≡ control_in
       ((phase_at r.mark.phase).has_a r.mark.slot)
       ((phase_at r.mark.phase).has_b r.mark.slot)
       old
   pub geometry : geometry_at size new ≡ geometry_at size old
   pub tables : tables_in size r.geometry ((phase_at r.mark.phase).tables r.mark.slot) new
-    ≡ tables_in size r.geometry ((phase_at r.mark.phase).tables r.mark.slot) old
+      ≡ tables_in size r.geometry ((phase_at r.mark.phase).tables r.mark.slot) old
   pub images_a : images_on new (kept r).a ≡ images_on old (kept r).a
   pub images_b : images_on new (kept r).b ≡ images_on old (kept r).b
 

@@ -56,7 +56,7 @@ pub fn judge(alloc: Global, table: &Table, control: &Control, slot: usize) -> Re
     ensures state { OnOk result (first_fault (idle.state_checks slot (control_read_of slot control.now)) ≡ None) }
     ensures fault { IfErr result (λ f. IsOfContents f
         → or_else (own_check slot table.now)
-          (first_fault (idle.state_checks slot (control_read_of slot control.now)))
+        (first_fault (idle.state_checks slot (control_read_of slot control.now)))
         ≡ Some f) }
     ensures own { OnOk result (IsOwn slot (layout_of table.now).parts) }
     ensures current { OnOk result (control.now.current ≡ slot) }
