@@ -38,7 +38,7 @@ has_at d image slot = elim (cases_Bool (eqb slot 0)) [
   | inr h ↦ rw h (some_images image d.b)
 ]
 
-is_some_at : (a b : Option (List Part)) (slot : ℕ)
+pub is_some_at : (a b : Option (List Part)) (slot : ℕ)
     → is_some (if slot == 0 then a else b) ≡ (if slot == 0 then is_some a else is_some b)
 is_some_at a b slot = elim (cases_Bool (eqb slot 0)) [ inl h ↦ rw h refl | inr h ↦ rw h refl ]
 

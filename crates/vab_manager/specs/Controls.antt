@@ -35,16 +35,21 @@ pub record IsControl (c : Control) (old : List ℕ) (s : ℕ) (b : List ℕ) : T
 abbrev pub slots_with_images : Device → List Bool
 slots_with_images d = is_some d.a ∷ is_some d.b ∷ []
 
--- What a command may write: the boot control that the boot rules make of the old one, of both slots.
--- A slot without images isn't set active, and a question writes nothing.
+-- What a command may write, where the slots a and b have images or not: the boot control that the boot
+-- rules make of the old one, of both slots. A slot without images isn't set active, and a question
+-- writes nothing.
+abbrev pub IsOfSlots : Control → (a b : Bool) → List ℕ → Command → ℕ → List ℕ → Type 0
+IsOfSlots c a b old (SetActive slot) s bytes =
+    ((if slot == 0 then a else b) ≡ true) × IsControl (activated_of c slot) old s bytes
+IsOfSlots c a b old Boot s bytes = IsControl (booted_of c (a ∷ b ∷ [])) old s bytes
+IsOfSlots c a b old Mark s bytes = IsControl (marked_of c) old s bytes
+IsOfSlots c a b old (Print name) s bytes = ⊥
+IsOfSlots c a b old (Digest name) s bytes = ⊥
+
+-- the same on a device
 abbrev pub IsOfCommand : Device → List ℕ → Command → ℕ → List ℕ → Type 0
-IsOfCommand d old (SetActive slot) s b =
-    (is_some (if slot == 0 then d.a else d.b) ≡ true)
-    × IsControl (activated_of d.control slot) old s b
-IsOfCommand d old Boot s b = IsControl (booted_of d.control (slots_with_images d)) old s b
-IsOfCommand d old Mark s b = IsControl (marked_of d.control) old s b
-IsOfCommand d old (Print name) s b = ⊥
-IsOfCommand d old (Digest name) s b = ⊥
+IsOfCommand d old command s bytes =
+    IsOfSlots d.control (is_some d.a) (is_some d.b) old command s bytes
 
 -- A command may write this boot control.
 abbrev pub WritesControl : Device → List ℕ → Command → Control → Type 0

@@ -10,7 +10,7 @@ use Rattle.vab_device.specs.Phases.{is_good}
 use Rattle.vab_manager.specs.Controls.{GivesControl, WritesControl}
 use Rattle.vab_manager.proofs.BootLaws.{activated_current, activated_good}
 use Rattle.vab_manager.proofs.CommandLaws.{good_of, does_nothing}
-use Rattle.vab_manager.proofs.EffectLaws.{activated_effect, refused_effect}
+use Rattle.vab_manager.proofs.EffectLaws.{activated_effect, refused_effect, is_some_at}
 use Rattle.vab_manager.proofs.slots.set_active.Goals as goal
 
 pub returns-then-not-has_images : goal.returns-then-not-has_images
@@ -44,4 +44,4 @@ returns g c =
     c.change.ensures (SetActive c.args.slot)
     (λ t. subst (λ (k : Control). GivesControl d seen (SetActive c.args.slot) replies.Done k) is
     (activated_effect d seen c.args.slot has))
-    (subst (λ (k : Control). WritesControl d (seen 4) (SetActive c.args.slot) k) is (λ s b w. (has, w)))
+    (subst (λ (k : Control). WritesControl d (seen 4) (SetActive c.args.slot) k) is (λ s b w. (sym (is_some_at d.a d.b c.args.slot) ∙ has, w)))
