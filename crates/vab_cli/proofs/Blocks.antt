@@ -9,8 +9,8 @@ use Rattle.vab_model.specs.declared.command.Refusal.{Refusal}
 use Rattle.vab_model.specs.declared.state.Image.{Image as ImageOfSlot}
 use Rattle.vab_model.specs.declared.state.State.{State}
 use Rattle.vab_model.specs.Step.{Found, Image_is, Refused_by, found_of, bytes_reply}
-use Rattle.vab_recover.specs.declared.device.Device.{Device}
-use Rattle.vab_recover.specs.declared.device.Part.{Part}
+use Rattle.vab_device.specs.declared.device.Device.{Device}
+use Rattle.vab_device.specs.declared.device.Part.{Part}
 use Rattle.vab_recover.specs.Stands.{bytes_at}
 use Rattle.vab_manager.specs.Blocks.{KeepsPart}
 use Rattle.vab_manager.proofs.BlockLaws.{kept_once}

@@ -115,55 +115,55 @@ heard_fault input.TooLong other = absurd (other refl)
 heard_fault input.Source other = inl refl
 heard_fault input.NoMemory other = inr refl
 
-module _ {D : Type 0} (seen_of : D → Image) (held_by : D → ℕ → List ℕ → Type 0) (told_of left_of : D → List ℕ) (moment : D → ℕ) (outcomes : D → ℕ → Outcome → Type 0) (only_now : (d : D) (o : Outcome) → outcomes d (moment d) o → Leaves (told_of d) (held_by d) o) (size : ℕ) where
-  settled_image : (d : D) (o : Outcome) → IsSettled (seen_of d) (held_by d) → Leaves (told_of d) (held_by d) o → o.image ≡ seen_of d
-  settled_image d o settled leaves = same_image o.image (seen_of d) (λ s. settled s (o.image s) (leaves.each_sector s))
+module _ {D : Type 0} (g : Ghosts D) (only_now : (d : D) (o : Outcome) → g.outcomes d (g.moment d) o → Leaves (g.told d) (g.may_leave d) o) (size : ℕ) where
+  settled_image : (d : D) (o : Outcome) → IsAtRest g d → Leaves (g.told d) (g.may_leave d) o → o.image ≡ g.seen d
+  settled_image d o settled leaves = same_image o.image (g.seen d) (λ s. settled s (o.image s) (leaves.each_sector s))
 
   -- ---- nothing changes
 
   -- the outcomes while a line is told on a disk that stays
-  still_cuts : (old mid new : D) (line : List ℕ) → seen_of mid ≡ seen_of old → SameHoldings (held_by old) (held_by mid)
-      → (Same : Outcome → Type 0) → ((o : Outcome) → Same o → o.image ≡ seen_of old) → (IsSettled (seen_of old) (held_by old) → Adds moment outcomes old mid Same)
-      → Adds moment outcomes mid new (LeavesSaying (told_of mid) line (held_by mid)) → IsSettled (seen_of old) (held_by old) → (o : Outcome) → outcomes new (moment old) o → o.image ≡ seen_of old
+  still_cuts : (old mid new : D) (line : List ℕ) → g.seen mid ≡ g.seen old → SameHoldings (g.may_leave old) (g.may_leave mid)
+      → (Same : Outcome → Type 0) → ((o : Outcome) → Same o → o.image ≡ g.seen old) → (IsAtRest g old → Adds g.moment g.outcomes old mid Same)
+      → Adds g.moment g.outcomes mid new (LeavesSaying (g.told mid) line (g.may_leave mid)) → IsAtRest g old → (o : Outcome) → g.outcomes new (g.moment old) o → o.image ≡ g.seen old
   still_cuts old mid new line seen holds Same same before saying settled o at =
-      all_since moment outcomes old new Still (Leaves (told_of old) (held_by old))
-      (adds_on moment outcomes old mid new Still (LeavesSaying (told_of mid) line (held_by mid))
-      (adds_wider moment outcomes old mid Same Still (before settled) same) saying
-      (λ o' leaves. same_image o'.image (seen_of old) (λ s. settled s (o'.image s) (holds.no_more s (o'.image s) (leaves.each_sector s)))))
+      all_since g.moment g.outcomes old new Still (Leaves (g.told old) (g.may_leave old))
+      (adds_on g.moment g.outcomes old mid new Still (LeavesSaying (g.told mid) line (g.may_leave mid))
+      (adds_wider g.moment g.outcomes old mid Same Still (before settled) same) saying
+      (λ o' leaves. same_image o'.image (g.seen old) (λ s. settled s (o'.image s) (holds.no_more s (o'.image s) (leaves.each_sector s)))))
       (only_now old) (λ o' leaves. settled_image old o' settled leaves) o at
     where
       Still : Outcome → Type 0
-      Still o = o.image ≡ seen_of old
+      Still o = o.image ≡ g.seen old
 
   -- a line is told, where nothing was done before
-  pub refused_told : (line : List ℕ) (ends : Status) (old mid new : D) (status : Status) → told_of mid ≡ told_of old → seen_of mid ≡ seen_of old → SameHoldings (held_by old) (held_by mid) → Adds moment outcomes old mid Nothing
-      → (ends ≡ NoMemory → line ≡ []) → (status ≡ ends) ⊎ (status ≡ Port) → Tells seen_of held_by told_of moment outcomes line ends mid new status
-      → RunsRefused seen_of held_by told_of left_of moment outcomes size line ends old new status
+  pub refused_told : (line : List ℕ) (ends : Status) (old mid new : D) (status : Status) → g.told mid ≡ g.told old → g.seen mid ≡ g.seen old → SameHoldings (g.may_leave old) (g.may_leave mid) → Adds g.moment g.outcomes old mid Nothing
+      → (ends ≡ NoMemory → line ≡ []) → (status ≡ ends) ⊎ (status ≡ Port) → Tells g line ends mid new status
+      → RunsRefused g size line ends old new status
   refused_told line ends old mid new status told seen holds before silent either tells = record {
     status_is = ⊎_elim (λ same. inl same) (λ port. inr (inl port)) either;
     front = (let front = tells.front in front.0, (let front = tells.front in front.1) ∙ ap (λ (l : List ℕ). l ++ take (let front = tells.front in front.0) line) told);
     whole = λ same. tells.whole same ∙ ap (λ (l : List ℕ). l ++ line) told;
     untold = λ memory. ⊎_elim
-        (λ same. tells.whole same ∙ ap (λ (l : List ℕ). told_of mid ++ l) (silent (sym same ∙ memory)) ∙ append-nil (told_of mid) ∙ told)
+        (λ same. tells.whole same ∙ ap (λ (l : List ℕ). g.told mid ++ l) (silent (sym same ∙ memory)) ∙ append-nil (g.told mid) ∙ told)
         (λ port. cc) either;
     same = tells.seen ∙ seen;
-    time = λ settled. adds_on moment outcomes old mid new (λ o. o.image ≡ seen_of old) (LeavesSaying (told_of mid) line (held_by mid)) (adds_wider moment outcomes old mid Nothing (λ o. o.image ≡ seen_of old) before (λ o none. absurd none)) tells.time
-        (λ o leaves. same_image o.image (seen_of old) (λ s. settled s (o.image s) (holds.no_more s (o.image s) (leaves.each_sector s))));
+    time = λ settled. adds_on g.moment g.outcomes old mid new (λ o. o.image ≡ g.seen old) (LeavesSaying (g.told mid) line (g.may_leave mid)) (adds_wider g.moment g.outcomes old mid Nothing (λ o. o.image ≡ g.seen old) before (λ o none. absurd none)) tells.time
+        (λ o leaves. same_image o.image (g.seen old) (λ s. settled s (o.image s) (holds.no_more s (o.image s) (leaves.each_sector s))));
     every_cut = λ settled o at. still_cuts old mid new line seen holds Nothing (λ o' none. absurd none) (λ settled'. before) tells.time settled o at;
   }
 
   -- memory was refused, and nothing is told
-  pub refused_unheard : (line : List ℕ) (ends : Status) (old new : D) (status : Status) → told_of new ≡ told_of old → seen_of new ≡ seen_of old → Adds moment outcomes old new Nothing
+  pub refused_unheard : (line : List ℕ) (ends : Status) (old new : D) (status : Status) → g.told new ≡ g.told old → g.seen new ≡ g.seen old → Adds g.moment g.outcomes old new Nothing
       → (ends ≡ NoMemory → line ≡ []) → ends ≢ Port → ((status ≡ ends) × (line ≡ [])) ⊎ ((status ≡ Port) ⊎ (status ≡ NoMemory))
-      → RunsRefused seen_of held_by told_of left_of moment outcomes size line ends old new status
+      → RunsRefused g size line ends old new status
   refused_unheard line ends old new status told seen before silent other either = record {
     status_is = ⊎_elim (λ same. inl same.0) (λ rest. inr rest) either;
-    front = (0, told ∙ sym (append-nil (told_of old)));
-    whole = λ same. told ∙ sym (append-nil (told_of old)) ∙ ap (λ (l : List ℕ). told_of old ++ l) (sym (empty same either));
+    front = (0, told ∙ sym (append-nil (g.told old)));
+    whole = λ same. told ∙ sym (append-nil (g.told old)) ∙ ap (λ (l : List ℕ). g.told old ++ l) (sym (empty same either));
     untold = λ memory. told;
     same = seen;
-    time = λ settled. adds_wider moment outcomes old new Nothing (λ o. o.image ≡ seen_of old) before (λ o none. absurd none);
-    every_cut = λ settled o at. all_since moment outcomes old new (λ o'. o'.image ≡ seen_of old) (Leaves (told_of old) (held_by old)) (adds_wider moment outcomes old new Nothing (λ o'. o'.image ≡ seen_of old) before (λ o' none. absurd none)) (only_now old)
+    time = λ settled. adds_wider g.moment g.outcomes old new Nothing (λ o. o.image ≡ g.seen old) before (λ o none. absurd none);
+    every_cut = λ settled o at. all_since g.moment g.outcomes old new (λ o'. o'.image ≡ g.seen old) (Leaves (g.told old) (g.may_leave old)) (adds_wider g.moment g.outcomes old new Nothing (λ o'. o'.image ≡ g.seen old) before (λ o' none. absurd none)) (only_now old)
         (λ o' leaves. settled_image old o' settled leaves) o at;
   }
     where
@@ -173,8 +173,8 @@ module _ {D : Type 0} (seen_of : D → Image) (held_by : D → ℕ → List ℕ 
       empty same (inr (inr memory)) = silent (sym same ∙ memory)
 
   -- what was said of a run from behind what only reads, of the run from before it
-  pub refused_after : (line : List ℕ) (ends : Status) (old mid new : D) (status : Status) → told_of mid ≡ told_of old → seen_of mid ≡ seen_of old → SameHoldings (held_by old) (held_by mid) → Adds moment outcomes old mid Nothing
-      → RunsRefused seen_of held_by told_of left_of moment outcomes size line ends mid new status → RunsRefused seen_of held_by told_of left_of moment outcomes size line ends old new status
+  pub refused_after : (line : List ℕ) (ends : Status) (old mid new : D) (status : Status) → g.told mid ≡ g.told old → g.seen mid ≡ g.seen old → SameHoldings (g.may_leave old) (g.may_leave mid) → Adds g.moment g.outcomes old mid Nothing
+      → RunsRefused g size line ends mid new status → RunsRefused g size line ends old new status
   refused_after line ends old mid new status told seen holds before runs = record {
     status_is = runs.status_is;
     front = (let front = runs.front in front.0, (let front = runs.front in front.1) ∙ ap (λ (l : List ℕ). l ++ take (let front = runs.front in front.0) line) told);
@@ -182,11 +182,11 @@ module _ {D : Type 0} (seen_of : D → Image) (held_by : D → ℕ → List ℕ 
     untold = λ memory. runs.untold memory ∙ told;
     same = runs.same ∙ seen;
     time = on;
-    every_cut = λ settled o at. all_since moment outcomes old new (λ o'. o'.image ≡ seen_of old) (Leaves (told_of old) (held_by old)) (on settled) (only_now old) (λ o' leaves. settled_image old o' settled leaves) o at;
+    every_cut = λ settled o at. all_since g.moment g.outcomes old new (λ o'. o'.image ≡ g.seen old) (Leaves (g.told old) (g.may_leave old)) (on settled) (only_now old) (λ o' leaves. settled_image old o' settled leaves) o at;
   }
     where
-      on : IsSettled (seen_of old) (held_by old) → Adds moment outcomes old new (λ o. o.image ≡ seen_of old)
-      on settled = adds_on moment outcomes old mid new (λ o. o.image ≡ seen_of old) (λ o. o.image ≡ seen_of mid) (adds_wider moment outcomes old mid Nothing (λ o. o.image ≡ seen_of old) before (λ o none. absurd none))
+      on : IsAtRest g old → Adds g.moment g.outcomes old new (λ o. o.image ≡ g.seen old)
+      on settled = adds_on g.moment g.outcomes old mid new (λ o. o.image ≡ g.seen old) (λ o. o.image ≡ g.seen mid) (adds_wider g.moment g.outcomes old mid Nothing (λ o. o.image ≡ g.seen old) before (λ o none. absurd none))
           (runs.time (λ s b held. settled s b (holds.no_more s b held) ∙ ap (λ (x : Image). x s) (sym seen))) (λ o same. same ∙ seen)
 
   -- ---- a device is made
@@ -194,18 +194,18 @@ module _ {D : Type 0} (seen_of : D → Image) (held_by : D → ℕ → List ℕ 
   module _ (set : List SetImage) (limit max : ℕ) (line : List ℕ) where
     -- what a cut of power leaves
     abbrev Makes : D → Outcome → Type 0
-    Makes old o = CrashesWithin size [] (made_mounted set limit max size) (item_still (made_mounted set limit max size) line ∷ []) (told_of old) o ⊎ LeavesMaking (told_of old) set limit max size (seen_of old) o
+    Makes old o = CrashesWithin size [] (made_mounted set limit max size) (item_still (made_mounted set limit max size) line ∷ []) (g.told old) o ⊎ LeavesMaking (g.told old) set limit max size (g.seen old) o
 
-    making_cuts : (old new : D) → Adds moment outcomes old new (Makes old) → IsSettled (seen_of old) (held_by old) → (o : Outcome) → outcomes new (moment old) o → Makes old o
+    making_cuts : (old new : D) → Adds g.moment g.outcomes old new (Makes old) → IsAtRest g old → (o : Outcome) → g.outcomes new (g.moment old) o → Makes old o
     making_cuts old new time settled =
-        all_since moment outcomes old new (Makes old) (Leaves (told_of old) (held_by old)) time (only_now old)
+        all_since g.moment g.outcomes old new (Makes old) (Leaves (g.told old) (g.may_leave old)) time (only_now old)
         (λ o leaves. inr (record { told_so_far = leaves.told_so_far; either = inl (settled_image old o settled leaves) }))
 
     -- it is made, and the line is told, whole or in part
-    pub making_told : (old mid new : D) (status : Status) → told_of mid ≡ told_of old → IsMade set limit max size (seen_of mid) → IsSettled (seen_of mid) (held_by mid)
-        → (IsSettled (seen_of old) (held_by old) → Adds moment outcomes old mid (LeavesMaking (told_of old) set limit max size (seen_of old)))
-        → (status ≡ Done) ⊎ (status ≡ Port) → Tells seen_of held_by told_of moment outcomes line Done mid new status
-        → RunsMaking seen_of held_by told_of left_of moment outcomes size set limit max line old new status
+    pub making_told : (old mid new : D) (status : Status) → g.told mid ≡ g.told old → IsMade set limit max size (g.seen mid) → IsAtRest g mid
+        → (IsAtRest g old → Adds g.moment g.outcomes old mid (LeavesMaking (g.told old) set limit max size (g.seen old)))
+        → (status ≡ Done) ⊎ (status ≡ Port) → Tells g line Done mid new status
+        → RunsMaking g size set limit max line old new status
     making_told old mid new status told made rest making either tells = record {
       status_is = ⊎_elim (λ done. inl done) (λ port. inr (inl (inr port))) either;
       front = (let front = tells.front in front.0, (let front = tells.front in front.1) ∙ ap (λ (l : List ℕ). l ++ take (let front = tells.front in front.0) line) told);
@@ -219,25 +219,25 @@ module _ {D : Type 0} (seen_of : D → Image) (held_by : D → ℕ → List ℕ 
       every_cut = λ settled. making_cuts old new (on settled) settled;
     }
       where
-        there : IsIn size (made_mounted set limit max size) (seen_of mid)
+        there : IsIn size (made_mounted set limit max size) (g.seen mid)
         there = record { state = made.state; places = made.places }
 
-        on : IsSettled (seen_of old) (held_by old) → Adds moment outcomes old new (Makes old)
-        on settled = adds_on moment outcomes old mid new (Makes old) (LeavesSaying (told_of mid) line (held_by mid)) (adds_wider moment outcomes old mid (LeavesMaking (told_of old) set limit max size (seen_of old)) (Makes old) (making settled) (λ o leaves. inr leaves)) tells.time
-            (λ o leaves. inl (within_item size [] (made_mounted set limit max size) [] [] (item_still (made_mounted set limit max size) line) (told_of old) (told_of old) tt (sym (append-nil (told_of old))) o
-            (telling size (told_of old) (told_of mid) (item_still (made_mounted set limit max size) line) (seen_of mid) (held_by mid) told there (inl refl) rest o leaves)))
+        on : IsAtRest g old → Adds g.moment g.outcomes old new (Makes old)
+        on settled = adds_on g.moment g.outcomes old mid new (Makes old) (LeavesSaying (g.told mid) line (g.may_leave mid)) (adds_wider g.moment g.outcomes old mid (LeavesMaking (g.told old) set limit max size (g.seen old)) (Makes old) (making settled) (λ o leaves. inr leaves)) tells.time
+            (λ o leaves. inl (within_item size [] (made_mounted set limit max size) [] [] (item_still (made_mounted set limit max size) line) (g.told old) (g.told old) tt (sym (append-nil (g.told old))) o
+            (telling size (g.told old) (g.told mid) (item_still (made_mounted set limit max size) line) (g.seen mid) (g.may_leave mid) told there (inl refl) rest o leaves)))
 
     -- the disk or the port failed, or memory was refused, and nothing is told
-    pub making_untold : (old new : D) (status : Status) → told_of new ≡ told_of old → (status ≡ NoMemory → seen_of new ≡ seen_of old) → (IsSettled (seen_of old) (held_by old) → Adds moment outcomes old new (LeavesMaking (told_of old) set limit max size (seen_of old)))
-        → IsFailed status ⊎ (status ≡ NoMemory) → RunsMaking seen_of held_by told_of left_of moment outcomes size set limit max line old new status
+    pub making_untold : (old new : D) (status : Status) → g.told new ≡ g.told old → (status ≡ NoMemory → g.seen new ≡ g.seen old) → (IsAtRest g old → Adds g.moment g.outcomes old new (LeavesMaking (g.told old) set limit max size (g.seen old)))
+        → IsFailed status ⊎ (status ≡ NoMemory) → RunsMaking g size set limit max line old new status
     making_untold old new status told seen making either = record {
       status_is = inr either;
-      front = (0, told ∙ sym (append-nil (told_of old)));
+      front = (0, told ∙ sym (append-nil (g.told old)));
       whole = λ done. absurd (never done either);
       untold = λ memory. (told, seen memory);
       rest = λ done. absurd (never done either);
-      time = λ settled. adds_wider moment outcomes old new (LeavesMaking (told_of old) set limit max size (seen_of old)) (Makes old) (making settled) (λ o leaves. inr leaves);
-      every_cut = λ settled. making_cuts old new (adds_wider moment outcomes old new (LeavesMaking (told_of old) set limit max size (seen_of old)) (Makes old) (making settled) (λ o leaves. inr leaves)) settled;
+      time = λ settled. adds_wider g.moment g.outcomes old new (LeavesMaking (g.told old) set limit max size (g.seen old)) (Makes old) (making settled) (λ o leaves. inr leaves);
+      every_cut = λ settled. making_cuts old new (adds_wider g.moment g.outcomes old new (LeavesMaking (g.told old) set limit max size (g.seen old)) (Makes old) (making settled) (λ o leaves. inr leaves)) settled;
     }
       where
         never : status ≡ Done → IsFailed status ⊎ (status ≡ NoMemory) → ⊥
@@ -246,8 +246,8 @@ module _ {D : Type 0} (seen_of : D → Image) (held_by : D → ℕ → List ℕ 
         never done (inr memory) = cc
 
     -- what was said of a run from behind what only reads, of the run from before it
-    pub making_after : (old mid new : D) (status : Status) → told_of mid ≡ told_of old → seen_of mid ≡ seen_of old → SameHoldings (held_by old) (held_by mid) → Adds moment outcomes old mid Nothing
-        → RunsMaking seen_of held_by told_of left_of moment outcomes size set limit max line mid new status → RunsMaking seen_of held_by told_of left_of moment outcomes size set limit max line old new status
+    pub making_after : (old mid new : D) (status : Status) → g.told mid ≡ g.told old → g.seen mid ≡ g.seen old → SameHoldings (g.may_leave old) (g.may_leave mid) → Adds g.moment g.outcomes old mid Nothing
+        → RunsMaking g size set limit max line mid new status → RunsMaking g size set limit max line old new status
     making_after old mid new status told seen holds before runs = record {
       status_is = runs.status_is;
       front = (let front = runs.front in front.0, (let front = runs.front in front.1) ∙ ap (λ (l : List ℕ). l ++ take (let front = runs.front in front.0) line) told);
@@ -260,8 +260,8 @@ module _ {D : Type 0} (seen_of : D → Image) (held_by : D → ℕ → List ℕ 
       where
         moved : (o : Outcome) → Makes mid o → Makes old o
         moved o (inl within) = inl (subst (λ (l : List ℕ). CrashesWithin size [] (made_mounted set limit max size) (item_still (made_mounted set limit max size) line ∷ []) l o) told within)
-        moved o (inr leaves) = inr (subst (λ (x : Image). LeavesMaking (told_of old) set limit max size x o) seen (subst (λ (l : List ℕ). LeavesMaking l set limit max size (seen_of mid) o) told leaves))
+        moved o (inr leaves) = inr (subst (λ (x : Image). LeavesMaking (g.told old) set limit max size x o) seen (subst (λ (l : List ℕ). LeavesMaking l set limit max size (g.seen mid) o) told leaves))
 
-        on : IsSettled (seen_of old) (held_by old) → Adds moment outcomes old new (Makes old)
-        on settled = adds_on moment outcomes old mid new (Makes old) (Makes mid) (adds_wider moment outcomes old mid Nothing (Makes old) before (λ o none. absurd none))
+        on : IsAtRest g old → Adds g.moment g.outcomes old new (Makes old)
+        on settled = adds_on g.moment g.outcomes old mid new (Makes old) (Makes mid) (adds_wider g.moment g.outcomes old mid Nothing (Makes old) before (λ o none. absurd none))
             (runs.time (λ s b held. settled s b (holds.no_more s b held) ∙ ap (λ (x : Image). x s) (sym seen))) moved

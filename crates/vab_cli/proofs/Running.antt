@@ -52,13 +52,13 @@ if_ok (Err e) held p = cc
 pub is_one : {R : Type 0} (size : ℕ) (s : Mounted) (image : Image) (f : StartFault) → IsIn size s image → device size image ≡ Err f → R
 is_one size s image f is none = let some = is.state in cc
 
-module _ {D : Type 0} (seen_of : D → Image) (held_by : D → ℕ → List ℕ → Type 0) (told_of left_of : D → List ℕ) (moment : D → ℕ) (outcomes : D → ℕ → Outcome → Type 0) (only_now : (d : D) (o : Outcome) → outcomes d (moment d) o → Leaves (told_of d) (held_by d) o) (size : ℕ) where
+module _ {D : Type 0} (g : Ghosts D) (only_now : (d : D) (o : Outcome) → g.outcomes d (g.moment d) o → Leaves (g.told d) (g.may_leave d) o) (size : ℕ) where
   -- the outcome of a disk with nothing pending
-  settled_image : (d : D) (o : Outcome) → IsSettled (seen_of d) (held_by d) → Leaves (told_of d) (held_by d) o → o.image ≡ seen_of d
-  settled_image d o settled leaves = same_image o.image (seen_of d) (λ s. settled s (o.image s) (leaves.each_sector s))
+  settled_image : (d : D) (o : Outcome) → IsAtRest g d → Leaves (g.told d) (g.may_leave d) o → o.image ≡ g.seen d
+  settled_image d o settled leaves = same_image o.image (g.seen d) (λ s. settled s (o.image s) (leaves.each_sector s))
 
   -- a disk with nothing pending leaves itself
-  leaves_same : (old : D) (o : Outcome) → IsSettled (seen_of old) (held_by old) → Leaves (told_of old) (held_by old) o → LeavesSame (told_of old) size (seen_of old) o
+  leaves_same : (old : D) (o : Outcome) → IsAtRest g old → Leaves (g.told old) (g.may_leave old) o → LeavesSame (g.told old) size (g.seen old) o
   leaves_same old o settled leaves = let image = settled_image old o settled leaves in record {
     told_so_far = leaves.told_so_far;
     device = ap (device size) image;
@@ -66,16 +66,16 @@ module _ {D : Type 0} (seen_of : D → Image) (held_by : D → ℕ → List ℕ 
   }
 
   -- every outcome of a disk that means the same
-  pub same_cuts : (old new : D) → Adds moment outcomes old new (LeavesSame (told_of old) size (seen_of old)) → IsSettled (seen_of old) (held_by old) → (o : Outcome) → outcomes new (moment old) o → LeavesSame (told_of old) size (seen_of old) o
-  same_cuts old new time settled = all_since moment outcomes old new (LeavesSame (told_of old) size (seen_of old)) (Leaves (told_of old) (held_by old)) time (only_now old) (λ o leaves. leaves_same old o settled leaves)
+  pub same_cuts : (old new : D) → Adds g.moment g.outcomes old new (LeavesSame (g.told old) size (g.seen old)) → IsAtRest g old → (o : Outcome) → g.outcomes new (g.moment old) o → LeavesSame (g.told old) size (g.seen old) o
+  same_cuts old new time settled = all_since g.moment g.outcomes old new (LeavesSame (g.told old) size (g.seen old)) (Leaves (g.told old) (g.may_leave old)) time (only_now old) (λ o leaves. leaves_same old o settled leaves)
 
   -- a device that is opened is in the situation that it was in
-  pub opened_in : (old mid : D) (s : Mounted) → Opens seen_of held_by told_of left_of moment outcomes size old mid → IsIn size s (seen_of old) → IsIn size s (seen_of mid)
+  pub opened_in : (old mid : D) (s : Mounted) → Opens g size old mid → IsIn size s (g.seen old) → IsIn size s (g.seen mid)
   opened_in old mid s opens is = record { state = opens.device ∙ is.state; places = opens.places ∙ is.places }
 
   -- opening failed
-  pub fails_before : (s : Mounted) (old new : D) (status : Status) → IsEarly status → told_of new ≡ told_of old → (IsSettled (seen_of old) (held_by old) → Adds moment outcomes old new (LeavesSame (told_of old) size (seen_of old)))
-      → FailsBefore seen_of held_by told_of left_of moment outcomes size s old new status
+  pub fails_before : (s : Mounted) (old new : D) (status : Status) → IsEarly status → g.told new ≡ g.told old → (IsAtRest g old → Adds g.moment g.outcomes old new (LeavesSame (g.told old) size (g.seen old)))
+      → FailsBefore g size s old new status
   fails_before s old new status early told time = record {
     early = early;
     told = told;
@@ -86,11 +86,11 @@ module _ {D : Type 0} (seen_of : D → Image) (held_by : D → ℕ → List ℕ 
   }
 
   -- opening failed where there is no device
-  pub none_early : (line : List ℕ) (old new : D) (status : Status) → IsEarly status → told_of new ≡ told_of old → (IsSettled (seen_of old) (held_by old) → Adds moment outcomes old new (LeavesSame (told_of old) size (seen_of old)))
-      → RunsNone seen_of held_by told_of left_of moment outcomes size line old new status
+  pub none_early : (line : List ℕ) (old new : D) (status : Status) → IsEarly status → g.told new ≡ g.told old → (IsAtRest g old → Adds g.moment g.outcomes old new (LeavesSame (g.told old) size (g.seen old)))
+      → RunsNone g size line old new status
   none_early line old new status early told time = record {
     status_is = inr (⊎_elim (λ disk. inl (inl disk)) (λ memory. inr memory) early);
-    front = (0, told ∙ sym (append-nil (told_of old)));
+    front = (0, told ∙ sym (append-nil (g.told old)));
     whole = λ is. absurd (never is early);
     untold = λ is. told;
     same = λ is. absurd (never is early);
@@ -102,10 +102,10 @@ module _ {D : Type 0} (seen_of : D → Image) (held_by : D → ℕ → List ℕ 
       never is (inr memory) = cc
 
   -- there is no device, and the line is told, whole or in part
-  pub none_told : (line : List ℕ) (old mid new : D) (status : Status) → (status ≡ NotADevice) ⊎ (status ≡ Port) → told_of mid ≡ told_of old → seen_of mid ≡ seen_of old → SameHoldings (held_by old) (held_by mid)
-      → (IsSettled (seen_of old) (held_by old) → Adds moment outcomes old mid (LeavesSame (told_of old) size (seen_of old)))
-      → (n : ℕ) × (told_of new ≡ told_of mid ++ take n line) → (status ≡ NotADevice → told_of new ≡ told_of mid ++ line) → seen_of new ≡ seen_of mid → Adds moment outcomes mid new (LeavesSaying (told_of mid) line (held_by mid))
-      → RunsNone seen_of held_by told_of left_of moment outcomes size line old new status
+  pub none_told : (line : List ℕ) (old mid new : D) (status : Status) → (status ≡ NotADevice) ⊎ (status ≡ Port) → g.told mid ≡ g.told old → g.seen mid ≡ g.seen old → SameHoldings (g.may_leave old) (g.may_leave mid)
+      → (IsAtRest g old → Adds g.moment g.outcomes old mid (LeavesSame (g.told old) size (g.seen old)))
+      → (n : ℕ) × (g.told new ≡ g.told mid ++ take n line) → (status ≡ NotADevice → g.told new ≡ g.told mid ++ line) → g.seen new ≡ g.seen mid → Adds g.moment g.outcomes mid new (LeavesSaying (g.told mid) line (g.may_leave mid))
+      → RunsNone g size line old new status
   none_told line old mid new status status_is told seen holds time front whole seen' saying = record {
     status_is = ⊎_elim (λ none. inl none) (λ port. inr (inl (inr port))) status_is;
     front = (front.0, front.1 ∙ ap (λ (l : List ℕ). l ++ take front.0 line) told);
@@ -113,15 +113,15 @@ module _ {D : Type 0} (seen_of : D → Image) (held_by : D → ℕ → List ℕ 
     untold = λ is. ⊎_elim (λ none. cc) (λ port. cc) status_is;
     same = λ is. seen' ∙ seen;
     every_cut = λ settled o at.
-        all_since moment outcomes old new Same (Leaves (told_of old) (held_by old))
-        (adds_on moment outcomes old mid new Same (LeavesSaying (told_of mid) line (held_by mid))
-        (adds_wider moment outcomes old mid (LeavesSame (told_of old) size (seen_of old)) Same (time settled) (λ o' same. same.device)) saying
-        (λ o' leaves. ap (device size) (same_image o'.image (seen_of old) (λ s. settled s (o'.image s) (holds.no_more s (o'.image s) (leaves.each_sector s))))))
+        all_since g.moment g.outcomes old new Same (Leaves (g.told old) (g.may_leave old))
+        (adds_on g.moment g.outcomes old mid new Same (LeavesSaying (g.told mid) line (g.may_leave mid))
+        (adds_wider g.moment g.outcomes old mid (LeavesSame (g.told old) size (g.seen old)) Same (time settled) (λ o' same. same.device)) saying
+        (λ o' leaves. ap (device size) (same_image o'.image (g.seen old) (λ s. settled s (o'.image s) (holds.no_more s (o'.image s) (leaves.each_sector s))))))
         (only_now old) (λ o' leaves. ap (device size) (settled_image old o' settled leaves)) o at;
   }
     where
       Same : Outcome → Type 0
-      Same o = device size o.image ≡ device size (seen_of old)
+      Same o = device size o.image ≡ device size (g.seen old)
 
   -- ---- one item
 
@@ -139,24 +139,24 @@ module _ {D : Type 0} (seen_of : D → Image) (held_by : D → ℕ → List ℕ 
     within_one told o leaves = within_item size [] s [] [] (item_named s c t) told told tt (sym (append-nil told)) o leaves
 
     -- every outcome of an item that is done on a device that is opened
-    item_cuts : (old mid new : D) → Opens seen_of held_by told_of left_of moment outcomes size old mid → Adds moment outcomes mid new (LeavesItem size (told_of mid) (item_named s c t)) → IsAtRest seen_of held_by size old s
-        → (o : Outcome) → outcomes new (moment old) o → CrashesWithin size [] s (item_named s c t ∷ []) (told_of old) o
+    item_cuts : (old mid new : D) → Opens g size old mid → Adds g.moment g.outcomes mid new (LeavesItem size (g.told mid) (item_named s c t)) → IsAtRest g.seen g.may_leave size old s
+        → (o : Outcome) → g.outcomes new (g.moment old) o → CrashesWithin size [] s (item_named s c t ∷ []) (g.told old) o
     item_cuts old mid new opens does rest o at =
         let item = item_named s c t in
-        let P = LeavesItem size (told_of old) item in
+        let P = LeavesItem size (g.told old) item in
         let here = rest.stands in
-        within_one (told_of old) o
-        (all_since moment outcomes old new P (Leaves (told_of old) (held_by old))
-        (adds_on moment outcomes old mid new P (LeavesItem size (told_of mid) item)
-        (adds_wider moment outcomes old mid (LeavesSame (told_of old) size (seen_of old)) P (opens.time rest.settled)
-        (λ o' same. before_item (told_of old) o' same.told_so_far (record { state = same.device ∙ here.state; places = same.places ∙ here.places })))
+        within_one (g.told old) o
+        (all_since g.moment g.outcomes old new P (Leaves (g.told old) (g.may_leave old))
+        (adds_on g.moment g.outcomes old mid new P (LeavesItem size (g.told mid) item)
+        (adds_wider g.moment g.outcomes old mid (LeavesSame (g.told old) size (g.seen old)) P (opens.time rest.settled)
+        (λ o' same. before_item (g.told old) o' same.told_so_far (record { state = same.device ∙ here.state; places = same.places ∙ here.places })))
         does (λ o' leaves. subst (λ (l : List ℕ). LeavesItem size l item o') opens.told leaves))
         (only_now old)
-        (λ o' leaves. before_item (told_of old) o' leaves.told_so_far (subst (λ (x : Image). IsIn size s x) (sym (settled_image old o' rest.settled leaves)) here)) o at)
+        (λ o' leaves. before_item (g.told old) o' leaves.told_so_far (subst (λ (x : Image). IsIn size s x) (sym (settled_image old o' rest.settled leaves)) here)) o at)
 
     -- it is done, and ends so
-    pub runs_done : (ends : Status) (old mid new : D) → Opens seen_of held_by told_of left_of moment outcomes size old mid → (status : Status) → status ≡ ends → DoesItem seen_of held_by told_of moment outcomes {A = Status} {E = Status} size (item_named s c t) mid new (Ok status)
-        → RunsItem seen_of held_by told_of left_of moment outcomes size s (item_named s c t) ends old new status
+    pub runs_done : (ends : Status) (old mid new : D) → Opens g size old mid → (status : Status) → status ≡ ends → DoesItem g {A = Status} {E = Status} size (item_named s c t) mid new (Ok status)
+        → RunsItem g size s (item_named s c t) ends old new status
     runs_done ends old mid new opens status is does = record {
       status_is = inl is;
       front = (let front = does.front in front.0, (let front = does.front in front.1) ∙ ap (λ (l : List ℕ). l ++ take (let front = does.front in front.0) t) opens.told);
@@ -166,8 +166,8 @@ module _ {D : Type 0} (seen_of : D → Image) (held_by : D → ℕ → List ℕ 
     }
 
     -- the disk or the port failed
-    pub runs_failed : (ends : Status) (old mid new : D) → Opens seen_of held_by told_of left_of moment outcomes size old mid → (status : Status) → IsFailed status → (ends ≡ Done) ⊎ (ends ≡ Refused) → DoesItem seen_of held_by told_of moment outcomes {A = Status} {E = Status} size (item_named s c t) mid new (Err status)
-        → RunsItem seen_of held_by told_of left_of moment outcomes size s (item_named s c t) ends old new status
+    pub runs_failed : (ends : Status) (old mid new : D) → Opens g size old mid → (status : Status) → IsFailed status → (ends ≡ Done) ⊎ (ends ≡ Refused) → DoesItem g {A = Status} {E = Status} size (item_named s c t) mid new (Err status)
+        → RunsItem g size s (item_named s c t) ends old new status
     runs_failed ends old mid new opens status failed kind does = record {
       status_is = inr failed;
       front = (let front = does.front in front.0, (let front = does.front in front.1) ∙ ap (λ (l : List ℕ). l ++ take (let front = does.front in front.0) t) opens.told);
@@ -183,8 +183,8 @@ module _ {D : Type 0} (seen_of : D → Image) (held_by : D → ℕ → List ℕ 
         never same (inr port) (inr refused) = cc
 
 -- what was said of an item with the size of a disk, of the same size
-pub does_sized : {D : Type 0} (seen_of : D → Image) (held_by : D → ℕ → List ℕ → Type 0) (told_of : D → List ℕ) (moment : D → ℕ) (outcomes : D → ℕ → Outcome → Type 0) {A E : Type 0} (size' size : ℕ) (item : Mounted → Item) (old new : D) (r : Result A E) → size' ≡ size
-    → ((s : Mounted) → IsIn size' s (seen_of old) → DoesItem seen_of held_by told_of moment outcomes size' (item s) old new r)
-    → (s : Mounted) → IsIn size s (seen_of old) → DoesItem seen_of held_by told_of moment outcomes size (item s) old new r
-does_sized seen_of held_by told_of moment outcomes size' size item old new r sized does =
-    subst (λ (n : ℕ). (s : Mounted) → IsIn n s (seen_of old) → DoesItem seen_of held_by told_of moment outcomes n (item s) old new r) sized does
+pub does_sized : {D : Type 0} (g : Ghosts D) {A E : Type 0} (size' size : ℕ) (item : Mounted → Item) (old new : D) (r : Result A E) → size' ≡ size
+    → ((s : Mounted) → IsIn size' s (g.seen old) → DoesItem g size' (item s) old new r)
+    → (s : Mounted) → IsIn size s (g.seen old) → DoesItem g size (item s) old new r
+does_sized g size' size item old new r sized does =
+    subst (λ (n : ℕ). (s : Mounted) → IsIn n s (g.seen old) → DoesItem g n (item s) old new r) sized does

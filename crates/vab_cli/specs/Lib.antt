@@ -1,5 +1,5 @@
 pub mod Codes
-pub mod Headline
 pub mod Opening
+pub mod Runs
 pub mod Telling
 pub mod Verbs

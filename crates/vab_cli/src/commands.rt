@@ -26,7 +26,7 @@ fn do_command<P: Port>(port: &mut P, device: Device, command: &Command) -> Resul
     requires kept { IsDevice device (P.size port.old) }
     requires stands { P.is_modelled → Represents device (P.size port.old) (P.seen port.old) }
     ensures does { P.is_modelled → (s : Mounted) → IsIn (P.size port.old) s (P.seen port.old)
-        → DoesItem P.seen P.may_leave P.told P.moment P.outcomes (P.size port.old) (item_named s (named_of command.now) (line_of (named_of command.now) s.state.current (reply_named s.state (named_of command.now)))) port.old port.new result }
+        → DoesItem P.Disk (P.size port.old) (item_named s (named_of command.now) (line_of (named_of command.now) s.state.current (reply_named s.state (named_of command.now)))) port.old port.new result }
     ensures status { P.is_modelled → (s : Mounted) → IsIn (P.size port.old) s (P.seen port.old) → IfOk result (λ status. status ≡ verb_status s.state (named_of command.now)) }
     ensures done { IfOk result (λ status. (status ≡ Status.Done) ⊎ (status ≡ Status.Refused)) }
     ensures failed { IfErr result IsFailed }
@@ -50,9 +50,9 @@ fn do_command<P: Port>(port: &mut P, device: Device, command: &Command) -> Resul
 /// Opens the device, carries out a command, and tells its line.
 pub(crate) fn carry_out<P: Port>(alloc: Global, port: &mut P, command: &Command) -> Status
     ensures runs { P.is_modelled → (s : Mounted) → IsIn (P.size port.old) s (P.seen port.old)
-        → RunsItem P.seen P.may_leave P.told P.input_left P.moment P.outcomes (P.size port.old) s (item_named s (named_of command.now) (line_of (named_of command.now) s.state.current (reply_named s.state (named_of command.now)))) (verb_status s.state (named_of command.now)) port.old port.new result
-        ⊎ FailsBefore P.seen P.may_leave P.told P.input_left P.moment P.outcomes (P.size port.old) s port.old port.new result }
-    ensures none { P.is_modelled → (fault : Fault) → device (P.size port.old) (P.seen port.old) ≡ Err fault → RunsNone P.seen P.may_leave P.told P.input_left P.moment P.outcomes (P.size port.old) none_line port.old port.new result }
+        → RunsItem P.Disk (P.size port.old) s (item_named s (named_of command.now) (line_of (named_of command.now) s.state.current (reply_named s.state (named_of command.now)))) (verb_status s.state (named_of command.now)) port.old port.new result
+        ⊎ FailsBefore P.Disk (P.size port.old) s port.old port.new result }
+    ensures none { P.is_modelled → (fault : Fault) → device (P.size port.old) (P.seen port.old) ≡ Err fault → RunsNone P.Disk (P.size port.old) none_line port.old port.new result }
     ensures words { result ≢ Status.Usage }
     ensures disk { result ≡ Status.Disk → Rose (P.faults port.old).disk (P.faults port.new).disk }
     ensures port { result ≡ Status.Port → Rose (P.faults port.old).sink (P.faults port.new).sink }

@@ -30,7 +30,7 @@ const MAX_SET: u64 = 1 << 32;
 // Tells a line, and ends with the status.
 fn tell<P: Port>(port: &mut P, line: &[u8], status: Status) -> Status
     requires { status ≢ Status.Port }
-    ensures tells { P.is_modelled → Tells P.seen P.may_leave P.told P.moment P.outcomes line.now status port.old port.new result }
+    ensures tells { P.is_modelled → Tells P.Disk line.now status port.old port.new result }
     ensures size { P.size port.new ≡ P.size port.old }
     ensures either { (result ≡ status) ⊎ (result ≡ Status.Port) }
     ensures counts { NoFewer (P.faults port.old) (P.faults port.new) }
@@ -46,7 +46,7 @@ fn tell<P: Port>(port: &mut P, line: &[u8], status: Status) -> Status
 fn tell_made<P: Port>(port: &mut P, set: &Set) -> Status
     requires set { IsSet set.now }
     requires size { 6152 ≤ P.size port.old }
-    ensures tells { P.is_modelled → Tells P.seen P.may_leave P.told P.moment P.outcomes (done_making set.now (P.size port.old)) Status.Done port.old port.new result }
+    ensures tells { P.is_modelled → Tells P.Disk (done_making set.now (P.size port.old)) Status.Done port.old port.new result }
     ensures size { P.size port.new ≡ P.size port.old }
     ensures either { (result ≡ Status.Done) ⊎ (result ≡ Status.Port) }
     ensures counts { NoFewer (P.faults port.old) (P.faults port.new) }
@@ -77,7 +77,7 @@ fn is_silent(fault: &MakeFault) -> bool
 
 // Tells why no device is made.
 fn tell_fault<P: Port>(port: &mut P, fault: MakeFault) -> Status
-    ensures tells { P.is_modelled → Tells P.seen P.may_leave P.told P.moment P.outcomes (make_line fault) (make_status fault) port.old port.new result }
+    ensures tells { P.is_modelled → Tells P.Disk (make_line fault) (make_status fault) port.old port.new result }
     ensures size { P.size port.new ≡ P.size port.old }
     ensures either { (result ≡ make_status fault) ⊎ (result ≡ Status.Port) }
     ensures counts { NoFewer (P.faults port.old) (P.faults port.new) }
@@ -102,9 +102,9 @@ fn make_of<P: Port>(alloc: Global, port: &mut P, set: &Set, limit: u64, max: u32
     requires max_least { 512 ≤ max }
     requires max_most { max ≤ 65536 }
     ensures made { P.is_modelled → refusal_of set.now limit max (P.size port.old) ≡ None
-        → RunsMaking P.seen P.may_leave P.told P.input_left P.moment P.outcomes (P.size port.old) set.now limit max (done_making set.now (P.size port.old)) port.old port.new result }
+        → RunsMaking P.Disk (P.size port.old) set.now limit max (done_making set.now (P.size port.old)) port.old port.new result }
     ensures refused { P.is_modelled → (fault : FaultOfMaking) → refusal_of set.now limit max (P.size port.old) ≡ Some fault
-        → RunsRefused P.seen P.may_leave P.told P.input_left P.moment P.outcomes (P.size port.old) (make_line fault) (make_status fault) port.old port.new result }
+        → RunsRefused P.Disk (P.size port.old) (make_line fault) (make_status fault) port.old port.new result }
     ensures words { result ≢ Status.Usage }
     ensures disk { result ≡ Status.Disk → Rose (P.faults port.old).disk (P.faults port.new).disk }
     ensures port { result ≡ Status.Port → Rose (P.faults port.old).sink (P.faults port.new).sink }
@@ -126,11 +126,11 @@ pub(crate) fn make<P: Port>(alloc: Global, port: &mut P, limit: u64, max: u32) -
     requires max_least { 512 ≤ max }
     requires max_most { max ≤ 65536 }
     ensures made { P.is_modelled → (set : List ImageOfSet) → length (P.input_left port.old) ≤ 2 ^ 32 → set_of (P.input_left port.old) ≡ Ok set → refusal_of set limit max (P.size port.old) ≡ None
-        → RunsMaking P.seen P.may_leave P.told P.input_left P.moment P.outcomes (P.size port.old) set limit max (done_making set (P.size port.old)) port.old port.new result }
+        → RunsMaking P.Disk (P.size port.old) set limit max (done_making set (P.size port.old)) port.old port.new result }
     ensures refused { P.is_modelled → (set : List ImageOfSet) → length (P.input_left port.old) ≤ 2 ^ 32 → set_of (P.input_left port.old) ≡ Ok set → (fault : FaultOfMaking) → refusal_of set limit max (P.size port.old) ≡ Some fault
-        → RunsRefused P.seen P.may_leave P.told P.input_left P.moment P.outcomes (P.size port.old) (make_line fault) (make_status fault) port.old port.new result }
+        → RunsRefused P.Disk (P.size port.old) (make_line fault) (make_status fault) port.old port.new result }
     ensures malformed { P.is_modelled → (2 ^ 32 < length (P.input_left port.old)) ⊎ ((fault : FaultOfSet) × (set_of (P.input_left port.old) ≡ Err fault))
-        → RunsRefused P.seen P.may_leave P.told P.input_left P.moment P.outcomes (P.size port.old) [] Status.Malformed port.old port.new result }
+        → RunsRefused P.Disk (P.size port.old) [] Status.Malformed port.old port.new result }
     ensures words { result ≢ Status.Usage }
     ensures disk { result ≡ Status.Disk → Rose (P.faults port.old).disk (P.faults port.new).disk }
     ensures port { result ≡ Status.Port → Rose (P.faults port.old).source (P.faults port.new).source ⊎ Rose (P.faults port.old).sink (P.faults port.new).sink }

@@ -18,9 +18,9 @@ use vab_session::say_all;
 pub(crate) fn open<P: Port>(alloc: Global, port: &mut P, line: &[u8]) -> Result<Device, Status>
     ensures kept { IfOk result (λ d. IsDevice d (P.size port.old)) }
     ensures stands { P.is_modelled → IfOk result (λ d. Represents d (P.size port.old) (P.seen port.new)) }
-    ensures opens { P.is_modelled → OnOk result (Opens P.seen P.may_leave P.told P.input_left P.moment P.outcomes (P.size port.old) port.old port.new) }
-    ensures early { P.is_modelled → (s : Mounted) → IsIn (P.size port.old) s (P.seen port.old) → IfErr result (λ status. FailsBefore P.seen P.may_leave P.told P.input_left P.moment P.outcomes (P.size port.old) s port.old port.new status) }
-    ensures none { P.is_modelled → (fault : Fault) → device (P.size port.old) (P.seen port.old) ≡ Err fault → IfErr result (λ status. RunsNone P.seen P.may_leave P.told P.input_left P.moment P.outcomes (P.size port.old) line.now port.old port.new status) }
+    ensures opens { P.is_modelled → OnOk result (Opens P.Disk (P.size port.old) port.old port.new) }
+    ensures early { P.is_modelled → (s : Mounted) → IsIn (P.size port.old) s (P.seen port.old) → IfErr result (λ status. FailsBefore P.Disk (P.size port.old) s port.old port.new status) }
+    ensures none { P.is_modelled → (fault : Fault) → device (P.size port.old) (P.seen port.old) ≡ Err fault → IfErr result (λ status. RunsNone P.Disk (P.size port.old) line.now port.old port.new status) }
     ensures found { P.is_modelled → (fault : Fault) → device (P.size port.old) (P.seen port.old) ≡ Err fault → OnOk result ⊥ }
     ensures size { P.size port.new ≡ P.size port.old }
     ensures counts { NoFewer (P.faults port.old) (P.faults port.new) }

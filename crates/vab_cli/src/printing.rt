@@ -6,7 +6,7 @@ ghost use Rattle.vab_gate.specs.Gate.{sectors_at};
 ghost use Rattle.vab_model.specs.Step.{found_of};
 ghost use Rattle.vab_device.specs.declared.fault.StartFault.{StartFault as Fault};
 ghost use Rattle.vab_device.specs.Device.{device};
-ghost use Rattle.vab_recover.specs.declared.device.Part.{Part};
+ghost use Rattle.vab_device.specs.declared.device.Part.{Part};
 ghost use Rattle.vab_recover.specs.Stands.{Represents, IsDevice, bytes_at};
 ghost use Rattle.vab_manager.specs.Blocks.{KeepsPart, HasBlock};
 ghost use Rattle.vab_fbproto.specs.Commands.{Print as print_named};
@@ -113,7 +113,7 @@ fn print_image<P: Port>(port: &mut P, device: &Device, name: &[u8]) -> Result<St
     requires kept { IsDevice device.now (P.size port.old) }
     requires stands { P.is_modelled → Represents device.now (P.size port.old) (P.seen port.old) }
     ensures does { P.is_modelled → (s : Mounted) → IsIn (P.size port.old) s (P.seen port.old)
-        → DoesItem P.seen P.may_leave P.told P.moment P.outcomes (P.size port.old) (item_named s (print_named name.now) (print_told (found_of s.state name.now))) port.old port.new result }
+        → DoesItem P.Disk (P.size port.old) (item_named s (print_named name.now) (print_told (found_of s.state name.now))) port.old port.new result }
     ensures status { P.is_modelled → (s : Mounted) → IsIn (P.size port.old) s (P.seen port.old) → IfOk result (λ status. status ≡ verb_status s.state (print_named name.now)) }
     ensures done { IfOk result (λ status. (status ≡ Status.Done) ⊎ (status ≡ Status.Refused)) }
     ensures failed { IfErr result IsFailed }
@@ -133,9 +133,9 @@ fn print_image<P: Port>(port: &mut P, device: &Device, name: &[u8]) -> Result<St
 /// Opens the device, and tells the bytes of an image alone, or why there are none.
 pub(crate) fn print<P: Port>(alloc: Global, port: &mut P, name: &[u8]) -> Status
     ensures runs { P.is_modelled → (s : Mounted) → IsIn (P.size port.old) s (P.seen port.old)
-        → RunsItem P.seen P.may_leave P.told P.input_left P.moment P.outcomes (P.size port.old) s (item_named s (print_named name.now) (print_told (found_of s.state name.now))) (verb_status s.state (print_named name.now)) port.old port.new result
-        ⊎ FailsBefore P.seen P.may_leave P.told P.input_left P.moment P.outcomes (P.size port.old) s port.old port.new result }
-    ensures none { P.is_modelled → (fault : Fault) → device (P.size port.old) (P.seen port.old) ≡ Err fault → RunsNone P.seen P.may_leave P.told P.input_left P.moment P.outcomes (P.size port.old) none_line port.old port.new result }
+        → RunsItem P.Disk (P.size port.old) s (item_named s (print_named name.now) (print_told (found_of s.state name.now))) (verb_status s.state (print_named name.now)) port.old port.new result
+        ⊎ FailsBefore P.Disk (P.size port.old) s port.old port.new result }
+    ensures none { P.is_modelled → (fault : Fault) → device (P.size port.old) (P.seen port.old) ≡ Err fault → RunsNone P.Disk (P.size port.old) none_line port.old port.new result }
     ensures words { result ≢ Status.Usage }
     ensures disk { result ≡ Status.Disk → Rose (P.faults port.old).disk (P.faults port.new).disk }
     ensures port { result ≡ Status.Port → Rose (P.faults port.old).sink (P.faults port.new).sink }

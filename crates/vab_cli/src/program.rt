@@ -32,26 +32,26 @@ use vab_words::{Verb, WordsFault, parse_words};
 fn do_verb<P: Port>(alloc: Global, verb: Verb, port: &mut P) -> Status
     requires { IsInRange verb }
     ensures item { P.is_modelled → (c : Named) → command_of (meaning_of verb.entry) ≡ Some c → (s : Mounted) → IsIn (P.size port.old) s (P.seen port.old)
-        → RunsItem P.seen P.may_leave P.told P.input_left P.moment P.outcomes (P.size port.old) s (verb_item s c) (verb_status s.state c) port.old port.new result
-        ⊎ FailsBefore P.seen P.may_leave P.told P.input_left P.moment P.outcomes (P.size port.old) s port.old port.new result }
+        → RunsItem P.Disk (P.size port.old) s (verb_item s c) (verb_status s.state c) port.old port.new result
+        ⊎ FailsBefore P.Disk (P.size port.old) s port.old port.new result }
     ensures none { P.is_modelled → (c : Named) → command_of (meaning_of verb.entry) ≡ Some c → (fault : Fault) → device (P.size port.old) (P.seen port.old) ≡ Err fault
-        → RunsNone P.seen P.may_leave P.told P.input_left P.moment P.outcomes (P.size port.old) none_line port.old port.new result }
+        → RunsNone P.Disk (P.size port.old) none_line port.old port.new result }
     ensures serve { P.is_modelled → meaning_of verb.entry ≡ Serve false → (s : Mounted) → IsIn (P.size port.old) s (P.seen port.old)
-        → RunsSession P.seen P.may_leave P.told P.input_left P.moment P.outcomes (P.size port.old) (IsAtRest P.seen P.may_leave (P.size port.old) port.old s) (λ o. ⊥) s port.old port.new result
-        ⊎ FailsBefore P.seen P.may_leave P.told P.input_left P.moment P.outcomes (P.size port.old) s port.old port.new result }
+        → RunsSession P.Disk (P.size port.old) (IsAtRest P.seen P.may_leave (P.size port.old) port.old s) (λ o. ⊥) s port.old port.new result
+        ⊎ FailsBefore P.Disk (P.size port.old) s port.old port.new result }
     ensures none_served { P.is_modelled → meaning_of verb.entry ≡ Serve false → (fault : Fault) → device (P.size port.old) (P.seen port.old) ≡ Err fault
-        → RunsNone P.seen P.may_leave P.told P.input_left P.moment P.outcomes (P.size port.old) [] port.old port.new result }
+        → RunsNone P.Disk (P.size port.old) [] port.old port.new result }
     ensures fresh { P.is_modelled → meaning_of verb.entry ≡ Serve true → 6152 ≤ P.size port.old
-        → RunsSession P.seen P.may_leave P.told P.input_left P.moment P.outcomes (P.size port.old) (IsSettled (P.seen port.old) (P.may_leave port.old)) (LeavesMaking (P.told port.old) [] 0 65536 (P.size port.old) (P.seen port.old)) (made_mounted [] 0 65536 (P.size port.old)) port.old port.new result
-        ⊎ FailsMaking P.seen P.may_leave P.told P.input_left P.moment P.outcomes (P.size port.old) [] 0 65536 port.old port.new result }
+        → RunsSession P.Disk (P.size port.old) (IsAtRest P.Disk port.old) (LeavesMaking (P.told port.old) [] 0 65536 (P.size port.old) (P.seen port.old)) (made_mounted [] 0 65536 (P.size port.old)) port.old port.new result
+        ⊎ FailsMaking P.Disk (P.size port.old) [] 0 65536 port.old port.new result }
     ensures too_small { meaning_of verb.entry ≡ Serve true → P.size port.old < 6152 → (result ≡ Status.NotADevice) ⊎ (result ≡ Status.NoMemory) }
     ensures untold { P.is_modelled → meaning_of verb.entry ≡ Serve true → P.size port.old < 6152 → (P.told port.new ≡ P.told port.old) × (P.seen port.new ≡ P.seen port.old) }
     ensures made { P.is_modelled → (limit max : ℕ) → meaning_of verb.entry ≡ Make limit max → (set : List ImageOfSet) → length (P.input_left port.old) ≤ 2 ^ 32 → set_of (P.input_left port.old) ≡ Ok set → refusal_of set limit max (P.size port.old) ≡ None
-        → RunsMaking P.seen P.may_leave P.told P.input_left P.moment P.outcomes (P.size port.old) set limit max (done_making set (P.size port.old)) port.old port.new result }
+        → RunsMaking P.Disk (P.size port.old) set limit max (done_making set (P.size port.old)) port.old port.new result }
     ensures refused { P.is_modelled → (limit max : ℕ) → meaning_of verb.entry ≡ Make limit max → (set : List ImageOfSet) → length (P.input_left port.old) ≤ 2 ^ 32 → set_of (P.input_left port.old) ≡ Ok set → (fault : FaultOfMaking) → refusal_of set limit max (P.size port.old) ≡ Some fault
-        → RunsRefused P.seen P.may_leave P.told P.input_left P.moment P.outcomes (P.size port.old) (make_line fault) (make_status fault) port.old port.new result }
+        → RunsRefused P.Disk (P.size port.old) (make_line fault) (make_status fault) port.old port.new result }
     ensures malformed { P.is_modelled → (limit max : ℕ) → meaning_of verb.entry ≡ Make limit max → (2 ^ 32 < length (P.input_left port.old)) ⊎ ((fault : FaultOfSet) × (set_of (P.input_left port.old) ≡ Err fault))
-        → RunsRefused P.seen P.may_leave P.told P.input_left P.moment P.outcomes (P.size port.old) [] Status.Malformed port.old port.new result }
+        → RunsRefused P.Disk (P.size port.old) [] Status.Malformed port.old port.new result }
     ensures words { result ≢ Status.Usage }
     ensures disk { result ≡ Status.Disk → Rose (P.faults port.old).disk (P.faults port.new).disk }
     ensures port { result ≡ Status.Port → Rose (P.faults port.old).source (P.faults port.new).source ⊎ Rose (P.faults port.old).sink (P.faults port.new).sink }
@@ -81,35 +81,35 @@ pub fn run<P: Port>(alloc: Global, words: &[String], port: &mut P) -> Status
     // `boot`, `mark`, `activate S`, `print NAME`, `digest NAME` over a disk that is a device: one item, done or refused as the model says, with its line or bytes told. Each cut of
     // power leaves a front of what is told and one of its steps, and where all is told the last. Or the disk failed or memory was refused while it was opened.
     ensures item { P.is_modelled → (m : Meaning) → verb_of (map string_bytes words.now) ≡ Some m → (c : Named) → command_of m ≡ Some c → (s : Mounted) → IsIn (P.size port.old) s (P.seen port.old)
-        → RunsItem P.seen P.may_leave P.told P.input_left P.moment P.outcomes (P.size port.old) s (verb_item s c) (verb_status s.state c) port.old port.new result
-        ⊎ FailsBefore P.seen P.may_leave P.told P.input_left P.moment P.outcomes (P.size port.old) s port.old port.new result }
+        → RunsItem P.Disk (P.size port.old) s (verb_item s c) (verb_status s.state c) port.old port.new result
+        ⊎ FailsBefore P.Disk (P.size port.old) s port.old port.new result }
     // Over a disk that is none: `not a device`, status 5, and nothing is written.
     ensures none { P.is_modelled → (m : Meaning) → verb_of (map string_bytes words.now) ≡ Some m → (c : Named) → command_of m ≡ Some c → (fault : Fault) → device (P.size port.old) (P.seen port.old) ≡ Err fault
-        → RunsNone P.seen P.may_leave P.told P.input_left P.moment P.outcomes (P.size port.old) none_line port.old port.new result }
+        → RunsNone P.Disk (P.size port.old) none_line port.old port.new result }
 
     // `serve` over a disk that is a device: the session of the input, with its bytes told, and so is each cut of power. Or the
     // disk failed or memory was refused while it was opened. Over a disk that is none: status 5, and nothing is told or written.
     ensures serve { P.is_modelled → verb_of (map string_bytes words.now) ≡ Some (Serve false) → (s : Mounted) → IsIn (P.size port.old) s (P.seen port.old)
-        → RunsSession P.seen P.may_leave P.told P.input_left P.moment P.outcomes (P.size port.old) (IsAtRest P.seen P.may_leave (P.size port.old) port.old s) (λ o. ⊥) s port.old port.new result
-        ⊎ FailsBefore P.seen P.may_leave P.told P.input_left P.moment P.outcomes (P.size port.old) s port.old port.new result }
+        → RunsSession P.Disk (P.size port.old) (IsAtRest P.seen P.may_leave (P.size port.old) port.old s) (λ o. ⊥) s port.old port.new result
+        ⊎ FailsBefore P.Disk (P.size port.old) s port.old port.new result }
     ensures none_served { P.is_modelled → verb_of (map string_bytes words.now) ≡ Some (Serve false) → (fault : Fault) → device (P.size port.old) (P.seen port.old) ≡ Err fault
-        → RunsNone P.seen P.may_leave P.told P.input_left P.moment P.outcomes (P.size port.old) [] port.old port.new result }
+        → RunsNone P.Disk (P.size port.old) [] port.old port.new result }
 
     // `serve --fresh` on enough sectors: the same over the made device of the empty set. Until its last gate is settled each cut leaves the disk as it
     // was, or no device, or the made one. On too few sectors: status 5, and nothing is told or written.
     ensures fresh { P.is_modelled → verb_of (map string_bytes words.now) ≡ Some (Serve true) → 6152 ≤ P.size port.old
-        → RunsSession P.seen P.may_leave P.told P.input_left P.moment P.outcomes (P.size port.old) (IsSettled (P.seen port.old) (P.may_leave port.old)) (LeavesMaking (P.told port.old) [] 0 65536 (P.size port.old) (P.seen port.old)) (made_mounted [] 0 65536 (P.size port.old)) port.old port.new result
-        ⊎ FailsMaking P.seen P.may_leave P.told P.input_left P.moment P.outcomes (P.size port.old) [] 0 65536 port.old port.new result }
+        → RunsSession P.Disk (P.size port.old) (IsAtRest P.Disk port.old) (LeavesMaking (P.told port.old) [] 0 65536 (P.size port.old) (P.seen port.old)) (made_mounted [] 0 65536 (P.size port.old)) port.old port.new result
+        ⊎ FailsMaking P.Disk (P.size port.old) [] 0 65536 port.old port.new result }
     ensures too_small { verb_of (map string_bytes words.now) ≡ Some (Serve true) → P.size port.old < 6152 → (result ≡ Status.NotADevice) ⊎ (result ≡ Status.NoMemory) }
     ensures untold { P.is_modelled → verb_of (map string_bytes words.now) ≡ Some (Serve true) → P.size port.old < 6152 → (P.told port.new ≡ P.told port.old) × (P.seen port.new ≡ P.seen port.old) }
 
     // `make` of an input that spells a set: the made device, or the first refusal with its line and nothing written; and of another input, status 3 with nothing told or written.
     ensures made { P.is_modelled → (limit max : ℕ) → verb_of (map string_bytes words.now) ≡ Some (Make limit max) → (set : List ImageOfSet) → length (P.input_left port.old) ≤ 2 ^ 32 → set_of (P.input_left port.old) ≡ Ok set → refusal_of set limit max (P.size port.old) ≡ None
-        → RunsMaking P.seen P.may_leave P.told P.input_left P.moment P.outcomes (P.size port.old) set limit max (done_making set (P.size port.old)) port.old port.new result }
+        → RunsMaking P.Disk (P.size port.old) set limit max (done_making set (P.size port.old)) port.old port.new result }
     ensures refused { P.is_modelled → (limit max : ℕ) → verb_of (map string_bytes words.now) ≡ Some (Make limit max) → (set : List ImageOfSet) → length (P.input_left port.old) ≤ 2 ^ 32 → set_of (P.input_left port.old) ≡ Ok set → (fault : FaultOfMaking) → refusal_of set limit max (P.size port.old) ≡ Some fault
-        → RunsRefused P.seen P.may_leave P.told P.input_left P.moment P.outcomes (P.size port.old) (make_line fault) (make_status fault) port.old port.new result }
+        → RunsRefused P.Disk (P.size port.old) (make_line fault) (make_status fault) port.old port.new result }
     ensures malformed { P.is_modelled → (limit max : ℕ) → verb_of (map string_bytes words.now) ≡ Some (Make limit max) → (2 ^ 32 < length (P.input_left port.old)) ⊎ ((fault : FaultOfSet) × (set_of (P.input_left port.old) ≡ Err fault))
-        → RunsRefused P.seen P.may_leave P.told P.input_left P.moment P.outcomes (P.size port.old) [] Status.Malformed port.old port.new result }
+        → RunsRefused P.Disk (P.size port.old) [] Status.Malformed port.old port.new result }
 
     // Status 6 comes only where the count of the disk's faults rose, and 7 only where that of the source or the sink did.
     ensures disk { result ≡ Status.Disk → Rose (P.faults port.old).disk (P.faults port.new).disk }

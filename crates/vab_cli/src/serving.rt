@@ -20,9 +20,9 @@ use vab_session::serve;
 /// A session over the device of the disk.
 pub(crate) fn open_and_serve<P: Port>(alloc: Global, port: &mut P) -> Status
     ensures runs { P.is_modelled → (s : Mounted) → IsIn (P.size port.old) s (P.seen port.old)
-        → RunsSession P.seen P.may_leave P.told P.input_left P.moment P.outcomes (P.size port.old) (IsAtRest P.seen P.may_leave (P.size port.old) port.old s) (λ o. ⊥) s port.old port.new result
-        ⊎ FailsBefore P.seen P.may_leave P.told P.input_left P.moment P.outcomes (P.size port.old) s port.old port.new result }
-    ensures none { P.is_modelled → (fault : Fault) → device (P.size port.old) (P.seen port.old) ≡ Err fault → RunsNone P.seen P.may_leave P.told P.input_left P.moment P.outcomes (P.size port.old) [] port.old port.new result }
+        → RunsSession P.Disk (P.size port.old) (IsAtRest P.seen P.may_leave (P.size port.old) port.old s) (λ o. ⊥) s port.old port.new result
+        ⊎ FailsBefore P.Disk (P.size port.old) s port.old port.new result }
+    ensures none { P.is_modelled → (fault : Fault) → device (P.size port.old) (P.seen port.old) ≡ Err fault → RunsNone P.Disk (P.size port.old) [] port.old port.new result }
     ensures words { result ≢ Status.Usage }
     ensures disk { result ≡ Status.Disk → Rose (P.faults port.old).disk (P.faults port.new).disk }
     ensures port { result ≡ Status.Port → Rose (P.faults port.old).source (P.faults port.new).source ⊎ Rose (P.faults port.old).sink (P.faults port.new).sink }
@@ -41,8 +41,8 @@ const FRESH_METADATA_MAX: u32 = 65536;
 /// A session over the device of the empty set, which is made first.
 pub(crate) fn make_and_serve<P: Port>(alloc: Global, port: &mut P) -> Status
     ensures runs { P.is_modelled → 6152 ≤ P.size port.old
-        → RunsSession P.seen P.may_leave P.told P.input_left P.moment P.outcomes (P.size port.old) (IsSettled (P.seen port.old) (P.may_leave port.old)) (LeavesMaking (P.told port.old) [] 0 65536 (P.size port.old) (P.seen port.old)) (made_mounted [] 0 65536 (P.size port.old)) port.old port.new result
-        ⊎ FailsMaking P.seen P.may_leave P.told P.input_left P.moment P.outcomes (P.size port.old) [] 0 65536 port.old port.new result }
+        → RunsSession P.Disk (P.size port.old) (IsAtRest P.Disk port.old) (LeavesMaking (P.told port.old) [] 0 65536 (P.size port.old) (P.seen port.old)) (made_mounted [] 0 65536 (P.size port.old)) port.old port.new result
+        ⊎ FailsMaking P.Disk (P.size port.old) [] 0 65536 port.old port.new result }
     ensures small { P.size port.old < 6152 → (result ≡ Status.NotADevice) ⊎ (result ≡ Status.NoMemory) }
     ensures untold { P.is_modelled → P.size port.old < 6152 → (P.told port.new ≡ P.told port.old) × (P.seen port.new ≡ P.seen port.old) }
     ensures words { result ≢ Status.Usage }

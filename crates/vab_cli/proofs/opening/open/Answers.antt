@@ -11,7 +11,7 @@ returns-then-is_err-clause-none g c = λ t fault none.
     let is : c.from-status.result ≡ NotADevice = search rules in
     let contents = contents_of c.in-Err.fault (sym c.from-status.ensures ∙ is) in
     let untouched = c.in-Err.ensures.untouched t contents in
-    none_told g.P.Disk.seen g.P.Disk.may_leave g.P.Disk.told g.P.Disk.input_left g.P.Disk.moment g.P.Disk.outcomes g.met.P.Disk.only_now _ c.args.line.now c.args.port.now c.start.new.d c.say_all.new.p Port (inr refl)
+    none_told g.P.Disk g.met.P.Disk.only_now _ c.args.line.now c.args.port.now c.start.new.d c.say_all.new.p Port (inr refl)
     (c.start.ensures.quiet.told t) untouched.0 untouched.1 (c.start.ensures.time t) (c.say_all.ensures.front t) (λ bad. cc) (c.say_all.ensures.seen t) (c.say_all.ensures.time t)
 
 pub returns-clause-early : goal.returns-clause-early
@@ -23,7 +23,7 @@ returns-clause-early g c = λ t s stands. elim c.else-eq.branch [
   | else-eq-via-else-eq w ↦
       let other : c.from-status.result ≢ NotADevice = search rules in
       let early : IsEarly c.from-status.result = subst IsEarly (sym c.from-status.ensures) (early_of c.in-Err.fault (λ is. other (c.from-status.ensures ∙ is))) in
-      rw w.port-is (fails_before g.P.Disk.seen g.P.Disk.may_leave g.P.Disk.told g.P.Disk.input_left g.P.Disk.moment g.P.Disk.outcomes g.met.P.Disk.only_now _ s c.args.port.now c.start.new.d c.from-status.result early (c.start.ensures.quiet.told t) (c.start.ensures.time t))
+      rw w.port-is (fails_before g.P.Disk g.met.P.Disk.only_now _ s c.args.port.now c.start.new.d c.from-status.result early (c.start.ensures.quiet.told t) (c.start.ensures.time t))
 ]
 
 pub returns-clause-none : goal.returns-clause-none
@@ -33,10 +33,10 @@ returns-clause-none g c = λ t fault none. elim c.else-eq.branch [
       let contents = contents_of c.in-Err.fault (sym c.from-status.ensures ∙ is) in
       let untouched = c.in-Err.ensures.untouched t contents in
       let said : is_err w.say_all.result ≡ false = sym w.is_err.ensures.value ∙ w.if-is_err.false in
-      rw w.port-is (none_told g.P.Disk.seen g.P.Disk.may_leave g.P.Disk.told g.P.Disk.input_left g.P.Disk.moment g.P.Disk.outcomes g.met.P.Disk.only_now _ c.args.line.now c.args.port.now c.start.new.d w.say_all.new.p c.from-status.result (inl is)
+      rw w.port-is (none_told g.P.Disk g.met.P.Disk.only_now _ c.args.line.now c.args.port.now c.start.new.d w.say_all.new.p c.from-status.result (inl is)
       (c.start.ensures.quiet.told t) untouched.0 untouched.1 (c.start.ensures.time t) (w.say_all.ensures.front t) (λ same. if_ok w.say_all.result said (w.say_all.ensures.told t)) (w.say_all.ensures.seen t) (w.say_all.ensures.time t))
   | else-eq-via-else-eq w ↦
       let other : c.from-status.result ≢ NotADevice = search rules in
       let early : IsEarly c.from-status.result = subst IsEarly (sym c.from-status.ensures) (early_of c.in-Err.fault (λ is. other (c.from-status.ensures ∙ is))) in
-      rw w.port-is (none_early g.P.Disk.seen g.P.Disk.may_leave g.P.Disk.told g.P.Disk.input_left g.P.Disk.moment g.P.Disk.outcomes g.met.P.Disk.only_now _ c.args.line.now c.args.port.now c.start.new.d c.from-status.result early (c.start.ensures.quiet.told t) (c.start.ensures.time t))
+      rw w.port-is (none_early g.P.Disk g.met.P.Disk.only_now _ c.args.line.now c.args.port.now c.start.new.d c.from-status.result early (c.start.ensures.quiet.told t) (c.start.ensures.time t))
 ]
