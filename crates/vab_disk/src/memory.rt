@@ -438,7 +438,8 @@ impl Disk for MemPort {
             → Writes (IsAt at from.now) (⟦<MemPort as Disk>⟧.may_leave self.old)
             (⟦<MemPort as Disk>⟧.may_leave self.new) }
         ensures time { ⟦<MemPort as Disk>⟧.is_modelled
-            → Adds ⟦<MemPort as Disk>⟧.moment ⟦<MemPort as Disk>⟧.outcomes self.old self.new (Leaves (⟦<MemPort as Disk>⟧.told self.old)
+            → Adds ⟦<MemPort as Disk>⟧.moment ⟦<MemPort as Disk>⟧.outcomes self.old self.new
+            (Leaves (⟦<MemPort as Disk>⟧.told self.old)
             (⟦<MemPort as Disk>⟧.may_leave self.new)) }
         ensures steady { OnOk result
             (⟦<MemPort as Disk>⟧.faults self.new ≡ ⟦<MemPort as Disk>⟧.faults self.old) }
@@ -603,7 +604,8 @@ impl Port for MemPort {
         ensures heard { ⟦<MemPort as Disk>⟧.is_modelled
             → ⟦<MemPort as Disk>⟧.heard self.new ≡ ⟦<MemPort as Disk>⟧.heard self.old }
         ensures time { ⟦<MemPort as Disk>⟧.is_modelled
-            → Adds ⟦<MemPort as Disk>⟧.moment ⟦<MemPort as Disk>⟧.outcomes self.old self.new (LeavesSaying (⟦<MemPort as Disk>⟧.told self.old) from.now
+            → Adds ⟦<MemPort as Disk>⟧.moment ⟦<MemPort as Disk>⟧.outcomes self.old self.new
+            (LeavesSaying (⟦<MemPort as Disk>⟧.told self.old) from.now
             (⟦<MemPort as Disk>⟧.may_leave self.old)) }
         ensures counts { NoFewer (⟦<MemPort as Disk>⟧.faults self.old)
             (⟦<MemPort as Disk>⟧.faults self.new) }
