@@ -45,6 +45,9 @@ passing None x = Ok x
 passing (Some fault) x = Err fault
 
 infixl 10 ◌>>=◌
-abbrev pub ◌>>=◌ : {A B : Type 0} → Result A StartFault → (A → Result B StartFault) → Result B StartFault
+abbrev pub ◌>>=◌ : {A B : Type 0}
+    → Result A StartFault
+    → (A → Result B StartFault)
+    → Result B StartFault
 (Ok x) >>= f = f x
 (Err e) >>= f = Err e

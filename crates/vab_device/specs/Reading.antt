@@ -54,8 +54,8 @@ use Rattle.vab_device.specs.Kept.{parts_of, limits_of, copies_end, super_bytes, 
 use Rattle.vab_device.specs.Mounted.{Mounted, mounted_on, images_on, sectors_read}
 use Rattle.vab_device.specs.Phases.{Phase, phase_at, is_known}
 
--- What the sectors say that the phase reads. The images are left where they stand. Of boot control the
--- slots with images are read, and of a slot's table that of the whole copy.
+-- What the sectors say that the phase reads. The images are left where they stand. Of boot control
+-- the slots with images are read, and of a slot's table that of the whole copy.
 pub record Read : Type 0 where
   pub mark : UpdateMark
   pub control : Control
@@ -84,14 +84,20 @@ control_read has_a has_b (Err fault) = Err (BadControl fault)
 unfoldable pub control_in : Bool → Bool → Image → Result Control StartFault
 control_in has_a has_b image = control_read has_a has_b (control_of (image 4))
 
-abbrev pub geometry_read : ℕ → Result Geometry (GeometryFault × GeometryFault) → Result Geometry StartFault
+abbrev pub geometry_read : ℕ
+    → Result Geometry (GeometryFault × GeometryFault)
+    → Result Geometry StartFault
 geometry_read size (Ok g) = unless (nat_le (copies_end g) (super_bytes size)) BadGeometry (Ok g)
 geometry_read size (Err faults) = Err BadGeometry
 
 unfoldable pub geometry_at : ℕ → Image → Result Geometry StartFault
 geometry_at size image = geometry_read size (geometry_in image)
 
-abbrev pub table_read : ℕ → Geometry → ℕ → Result Table (TableFault × TableFault) → Result Table StartFault
+abbrev pub table_read : ℕ
+    → Geometry
+    → ℕ
+    → Result Table (TableFault × TableFault)
+    → Result Table StartFault
 table_read size g slot (Ok t) = unless (lies_in size g (layout_of t).device) (BadTable slot) (Ok t)
 table_read size g slot (Err faults) = Err (BadTable slot)
 
@@ -192,7 +198,8 @@ pub record Reads (size : ℕ) (r : Read) (image : Image) : Type 0 where
       image
       ≡ Ok r.control
   pub geometry : geometry_at size image ≡ Ok r.geometry
-  pub tables : tables_in size r.geometry ((phase_at r.mark.phase).tables r.mark.slot) image ≡ Ok r.tables
+  pub tables : tables_in size r.geometry ((phase_at r.mark.phase).tables r.mark.slot) image
+      ≡ Ok r.tables
   pub parts : part_fault r ≡ None
   pub state : state_fault r ≡ None
 
@@ -206,14 +213,15 @@ AgreeCopies g (s ∷ ss) (t ∷ ts) image =
     ((text : List ℕ) × IsTableText g.max text t × BothHold g s text image)
     × AgreeCopies g ss ts image
 
--- The device that is kept is that of the disk: it is what is read of it, with the whole boot control,
--- its tables are those that the disk reads, and both copies of each agree.
+-- The device that is kept is that of the disk: it is what is read of it, with the whole boot
+-- control, its tables are those that the disk reads, and both copies of each agree.
 pub record Represents (d : Device) (size : ℕ) (image : Image) : Type 0 where
   pub read : Read
   pub reads : Reads size read image
   pub is : d ≡ record (kept read) { control = d.control }
   pub control : control_of (image 4) ≡ Ok d.control
-  pub copies : AgreeCopies read.geometry ((phase_at read.mark.phase).tables read.mark.slot) read.tables image
+  pub copies : AgreeCopies read.geometry ((phase_at read.mark.phase).tables read.mark.slot)
+      read.tables image
 
 -- ---- what is read the same
 

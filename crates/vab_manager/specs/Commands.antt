@@ -20,9 +20,9 @@ pub record LeavesStep (told : List ℕ) (size : ℕ) (steps : List Mounted) (o :
   pub step : IsOneOf steps mounted
   pub means : device size o.image ≡ Ok mounted
 
--- The reply and the device after it are those of the table of effects, and where nothing was pending
--- each outcome since is one of its steps. It touches what is the command's alone. An error comes where
--- the disk has failed.
+-- The reply and the device after it are those of the table of effects, and where nothing was
+-- pending each outcome since is one of its steps. It touches what is the command's alone. An error
+-- comes where the disk has failed.
 pub record DoesCommand {D : Type 0}
     (g : Ghosts D)
     (d : Device)

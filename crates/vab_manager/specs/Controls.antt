@@ -1,5 +1,7 @@
 -- Boot control written into its sector.
-use Rattle.std.specs.Prelude.{◌≡◌, ◌⊎◌, ℕ, ◌==◌, if◌then◌else◌, true, List, Ok, [], ◌∷◌, Bool, is_some}
+use Rattle.std.specs.Prelude.{
+  ◌≡◌, ◌⊎◌, ℕ, ◌==◌, if◌then◌else◌, true, List, Ok, [], ◌∷◌, Bool, is_some
+}
 use Rattle.vab_disk.specs.Disk.{Image, Outcome, set_sector}
 use Rattle.vab_bootctl.specs.declared.slots.Control.{Control}
 use Rattle.vab_bootctl.specs.Control.{control_of, KeepsRest}
@@ -11,8 +13,8 @@ use Rattle.vab_model.specs.State.{control_seen, with_control}
 use Rattle.vab_device.specs.declared.device.Device.{Device}
 use Rattle.vab_device.specs.Mounted.{Mounted, state_on, mounted_on, in_state, effect_on}
 
--- The new image is the old one with a sector of this boot control in its place; the bits of the sector
--- that no field has stay.
+-- The new image is the old one with a sector of this boot control in its place; the bits of the
+-- sector that no field has stay.
 abbrev pub HasControl : Control → Image → Image → Type 0
 HasControl control old new =
     (sector : List ℕ)
@@ -21,7 +23,8 @@ HasControl control old new =
     × (new ≡ set_sector old 4 sector)
 
 -- with nothing more told, the image is the old one, or has this boot control
-pub record LeavesControl (told : List ℕ) (control : Control) (old : Image) (o : Outcome) : Type 0 where
+pub record LeavesControl (told : List ℕ) (control : Control) (old : Image) (o : Outcome) : Type 0
+    where
   pub told_so_far : o.told ≡ told
   pub either : (o.image ≡ old) ⊎ HasControl control old o.image
 
@@ -35,9 +38,9 @@ pub record IsControl (c : Control) (old : List ℕ) (s : ℕ) (b : List ℕ) : T
 abbrev pub slots_with_images : Device → List Bool
 slots_with_images d = is_some d.a ∷ is_some d.b ∷ []
 
--- What a command may write, where the slots a and b have images or not: the boot control that the boot
--- rules make of the old one, of both slots. A slot without images isn't set active, and a question
--- writes nothing.
+-- What a command may write, where the slots a and b have images or not: the boot control that the
+-- boot rules make of the old one, of both slots. A slot without images isn't set active, and a
+-- question writes nothing.
 abbrev pub IsOfSlots : Control → (a b : Bool) → List ℕ → Command → ℕ → List ℕ → Type 0
 IsOfSlots c a b old (SetActive slot) s bytes =
     ((if slot == 0 then a else b) ≡ true) × IsControl (activated_of c slot) old s bytes

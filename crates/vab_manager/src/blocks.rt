@@ -1,6 +1,7 @@
 //! A block of an image.
 
-ghost use Rattle.std.specs.Prelude.{◌≡◌, ◌≤◌, ◌<◌, ◌^◌, length, slice_index, IsTrue, IfOk, IfErr, OnOk};
+ghost use Rattle.std.specs.Prelude.{◌≡◌, ◌≤◌, ◌<◌, ◌^◌, length, slice_index, IsTrue, IfOk, IfErr};
+ghost use Rattle.std.specs.Prelude.{OnOk};
 ghost use Rattle.std.specs.Option.{option_copied, option_and_then};
 ghost use Rattle.vab_disk.specs.Calls.{FailsWithDisk, OnlyReads};
 ghost use Rattle.vab_disk.specs.Disk.{Image};
@@ -32,7 +33,8 @@ fn slot_named(name: &[u8]) -> usize
 // The partition that is kept under a base name of a slot.
 fn kept_part<'a>(device: &'a Device, slot: usize, name: &[u8]) -> Option<&'a Part>
     requires { slot < 2 }
-    ensures { option_copied result ≡ option_and_then (part_named name.now) (parts_at device.now slot) }
+    ensures { option_copied result
+        ≡ option_and_then (part_named name.now) (parts_at device.now slot) }
 {
     match device.images(slot) {
         Some(parts) => part_named(parts, name),
@@ -40,8 +42,8 @@ fn kept_part<'a>(device: &'a Device, slot: usize, name: &[u8]) -> Option<&'a Par
     }
 }
 
-/// Where the image of a whole name stands: its slot, and how many blocks of 4096 bytes it has; or why
-/// there is none.
+/// Where the image of a whole name stands: its slot, and how many blocks of 4096 bytes it has; or
+/// why there is none.
 pub fn locate(device: &Device, name: &[u8]) -> Result<(usize, u64), Refusal>
     ensures part { IfOk result
         (λ r. (r.0 < 2)

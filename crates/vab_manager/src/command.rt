@@ -12,11 +12,11 @@ use vab_disk::Disk;
 use vab_gate::DiskFault;
 use vab_model::{Command, Reply};
 
-/// Carries out one command on a device. Where the device that is kept is that of the disk, the reply and
-/// the device after it are those of the table of effects; where nothing was pending, each outcome since
-/// is a step of the command. A command on slots touches the boot control's sector alone, and there only
-/// the fields that it changes; a question or a refusal touches nothing. The error comes where the disk
-/// has failed; then nothing is asked of the device any more.
+/// Carries out one command on a device. Where the device that is kept is that of the disk, the
+/// reply and the device after it are those of the table of effects; where nothing was pending, each
+/// outcome since is a step of the command. A command on slots touches the boot control's sector
+/// alone, and there only the fields that it changes; a question or a refusal touches nothing. The
+/// error comes where the disk has failed; then nothing is asked of the device any more.
 pub fn run_one<D: Disk>(
     d: &mut D,
     device: Device,

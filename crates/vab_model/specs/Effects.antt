@@ -86,7 +86,8 @@ active_effect false s c = refuses NoImages
 
 -- each command has a row
 unfoldable pub effect : State → Command → Effect State
-effect s (SetActive slot) = active_effect (is_some (images_at s slot)) s (activated_of s.control slot)
+effect s (SetActive slot) =
+    active_effect (is_some (images_at s slot)) s (activated_of s.control slot)
 effect s Boot =
     let c = booted_of s.control (has_images s) in
     does (replies.Booted c.current) (with_control c s)
