@@ -1,13 +1,39 @@
 -- Where each refusal stands.
-use Rattle.std.proofs.Common.{◌≡◌, ◌⊎◌, ⊎_elim, ℕ, ◌*◌, ◌≤◌, ◌<◌, true, false, eqb, ltb, List, Option, Some, None, refl, sym, ap, arith}
+use Rattle.std.proofs.Common.{
+  ◌≡◌,
+  ◌⊎◌,
+  ⊎_elim,
+  ℕ,
+  ◌*◌,
+  ◌≤◌,
+  ◌<◌,
+  true,
+  false,
+  eqb,
+  ltb,
+  List,
+  Option,
+  Some,
+  None,
+  refl,
+  sym,
+  ap,
+  arith,
+}
 use Rattle.std.proofs.lemmas.Bool.{lt-ltb, le-ltb, ne_eqb}
 use Rattle.std.proofs.lemmas.Bool.Decides.{nat_tests}
 use Rattle.vab_tables.specs.Rules.{cap_of}
 use Rattle.vab_set.specs.declared.set.SetImage.{SetImage}
 use Rattle.vab_make.specs.declared.fault.MakeFault.{MakeFault}
-use Rattle.vab_make.specs.declared.fault.MakeFault.TheVariants.{TooSmall, GroupLimit, NoRoom, TableFull, NoMemory}
-use Rattle.vab_make.specs.Made.{set_blocks, made_device, set_text_size, refusal_of}
-use Rattle.vab_make.specs.Refusals.{Refuses, is_over, PassesSizes}
+use Rattle.vab_make.specs.declared.fault.MakeFault.TheVariants.{
+  TooSmall,
+  GroupLimit,
+  NoRoom,
+  TableFull,
+  NoMemory,
+}
+use Rattle.vab_make.specs.Made.{set_blocks, made_device, set_text_size, is_over, refusal_of}
+use Rattle.vab_make.specs.Refusals.{Refuses, PassesSizes}
 
 pub no_memory : (said : Option MakeFault) → Refuses NoMemory said
 no_memory said = record { gives = tt; not_disk = λ none. none }
