@@ -1,44 +1,13 @@
 -- The bytes of blocks that hold an image.
-use Rattle.std.proofs.Common.{
-  ◌≡◌,
-  ◌∙◌,
-  inl,
-  inr,
-  ℕ,
-  zero,
-  suc,
-  ◌+◌,
-  ◌-◌,
-  ◌*◌,
-  ◌<◌,
-  ◌≤◌,
-  List,
-  [],
-  ◌∷◌,
-  ◌++◌,
-  length,
-  take,
-  drop,
-  replicate,
-  refl,
-  sym,
-  ap,
-  subst,
-  arith,
-  append_assoc,
-}
+use Rattle.std.proofs.Common.{◌≡◌, ◌∙◌, inl, inr, ℕ, zero, suc, ◌+◌, ◌-◌, ◌*◌, ◌<◌, ◌≤◌, List, []}
+use Rattle.std.proofs.Common.{◌∷◌, ◌++◌, length, take, drop, replicate, refl, sym, ap, subst, arith}
+use Rattle.std.proofs.Common.{append_assoc}
 use Rattle.std.specs.Prelude.{map}
 use Rattle.std.specs.List.{range_with_len, flat_map}
 use Rattle.std.proofs.lemmas.Bool.{cases_eq}
 use Rattle.std.proofs.lemmas.Grind.{flat_map-append}
-use Rattle.std.proofs.lemmas.List.{
-  take_all,
-  drop_all,
-  append-nil,
-  length-take,
-  length-drop,
-  replicate-append-replicate,
-}
+use Rattle.std.proofs.lemmas.List.{take_all, drop_all, append-nil, length-take, length-drop}
+use Rattle.std.proofs.lemmas.List.{replicate-append-replicate}
 use Rattle.std.proofs.lemmas.List.FromFn.{map-range_with_len_more}
 use Rattle.std.proofs.Math.Seq.{take-add}
 use Rattle.vab_disk.specs.Disk.{Image}
@@ -54,7 +23,8 @@ use Rattle.vab_make.specs.Steps.{block_of, HoldsBlocks}
 abbrev filled_to : ℕ → List ℕ → List ℕ
 filled_to n bytes = take (4096 * n) bytes ++ replicate (4096 * n - length bytes) 0
 
-filled_more : (n : ℕ) (bytes : List ℕ) → filled_to n bytes ++ block_of bytes n ≡ filled_to (suc n) bytes
+filled_more : (n : ℕ) (bytes : List ℕ)
+    → filled_to n bytes ++ block_of bytes n ≡ filled_to (suc n) bytes
 filled_more n bytes = elim (cases_eq (4096 * n - length bytes) 0) [
   | inl inside ↦
       let front : List ℕ = take (4096 * n) bytes in

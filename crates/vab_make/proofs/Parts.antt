@@ -1,47 +1,10 @@
 -- What single steps leave in single sectors.
-use Rattle.std.proofs.Common.{
-  ◌≡◌,
-  ◌∙◌,
-  ◌⊎◌,
-  inl,
-  inr,
-  ⊎_elim,
-  ℕ,
-  suc,
-  ◌+◌,
-  ◌-◌,
-  ◌*◌,
-  ◌<◌,
-  ◌≤◌,
-  min,
-  List,
-  ◌++◌,
-  length,
-  get_or,
-  take,
-  drop,
-  replicate,
-  Result,
-  Ok,
-  Err,
-  refl,
-  sym,
-  ap,
-  subst,
-  arith,
-  length-append,
-  below_more,
-}
+use Rattle.std.proofs.Common.{◌≡◌, ◌∙◌, ◌⊎◌, inl, inr, ⊎_elim, ℕ, suc, ◌+◌, ◌-◌, ◌*◌, ◌<◌, ◌≤◌, min}
+use Rattle.std.proofs.Common.{List, ◌++◌, length, get_or, take, drop, replicate, Result, Ok, Err}
+use Rattle.std.proofs.Common.{refl, sym, ap, subst, arith, length-append, below_more}
 use Rattle.std.specs.Prelude.{OnOk}
-use Rattle.std.proofs.lemmas.List.{
-  take_at,
-  take_min,
-  drop_min,
-  drop-replicate,
-  length-replicate,
-  length-take,
-  get_or_default,
-}
+use Rattle.std.proofs.lemmas.List.{take_at, take_min, drop_min, drop-replicate, length-replicate}
+use Rattle.std.proofs.lemmas.List.{length-take, get_or_default}
 use Rattle.vab_disk.specs.Disk.{Image, set_sector}
 use Rattle.vab_disk.specs.Written.{set_here, set_there}
 use Rattle.vab_gate.specs.Gate.{part, set_block, sectors_at}
@@ -50,30 +13,15 @@ use Rattle.vab_space.specs.Space.{blocks_of}
 use Rattle.vab_set.specs.declared.set.SetImage.{SetImage}
 use Rattle.vab_bootctl.specs.Control.{control_of, KeepsRest}
 use Rattle.vab_geometry.specs.declared.geometry.Geometry.{Geometry}
-use Rattle.vab_geometry.specs.Geometry.{
-  IsGeometry,
-  front_bytes,
-  back_bytes,
-  sum_around,
-  geometry_sector,
-}
+use Rattle.vab_geometry.specs.Geometry.{IsGeometry, front_bytes, back_bytes, sum_around}
+use Rattle.vab_geometry.specs.Geometry.{geometry_sector}
 use Rattle.vab_geometry.specs.Reading.{geometry_of}
 use Rattle.vab_geometry.proofs.GeometryLaws.{length-sum, sector_read}
 use Rattle.vab_make.specs.Made.{made_control, made_geometry, set_blocks}
-use Rattle.vab_make.specs.Steps.{
-  block_of,
-  HoldsBlocks,
-  HoldsImages,
-  SameAround,
-  blanked,
-  HasControl,
-}
+use Rattle.vab_make.specs.Steps.{block_of, HoldsBlocks, HoldsImages, SameAround, blanked}
+use Rattle.vab_make.specs.Steps.{HasControl}
 use Rattle.vab_make.proofs.BlockLaws.{blocks_kept}
 use Rattle.vab_make.proofs.SumLaws.{blocks_more, blocks_less}
-
-pub on_ok_map : {A E : Type 0} (r : Result A E) (P Q : Type 0) → (P → Q) → OnOk r P → OnOk r Q
-on_ok_map (Ok x) P Q f is = f is
-on_ok_map (Err e) P Q f is = tt
 
 -- the bytes that there are, and zeros behind them
 pub filled : (text rest : List ℕ) (k start n m : ℕ) (piece : List ℕ)
@@ -174,7 +122,8 @@ holds_more k at bytes block old new is one holds =
     (block_here old new (at + 8 * k) block is (ap length one ∙ length-block_of bytes k) ∙ one)
 
 -- one image more
-pub images_more : (i at n : ℕ) (set : List SetImage) (x : SetImage) (bytes : List ℕ) (old new : Image)
+pub images_more : (i at n : ℕ) (set : List SetImage) (x : SetImage) (bytes : List ℕ)
+    (old new : Image)
     → i < length set
     → x ≡ get_or set i x
     → at ≡ 6144 + 8 * set_blocks (take i set)

@@ -1,30 +1,6 @@
 -- A disk with all the parts of the device is the device.
-use Rattle.std.proofs.Common.{
-  ◌≡◌,
-  ◌∙◌,
-  ℕ,
-  suc,
-  ◌+◌,
-  ◌*◌,
-  ◌<◌,
-  ◌≤◌,
-  ◌^◌,
-  true,
-  false,
-  leb,
-  List,
-  [],
-  ◌∷◌,
-  length,
-  get_or,
-  take,
-  codes,
-  Result,
-  Ok,
-  refl,
-  ap,
-  arith,
-}
+use Rattle.std.proofs.Common.{◌≡◌, ◌∙◌, ℕ, suc, ◌+◌, ◌*◌, ◌<◌, ◌≤◌, ◌^◌, true, false, leb, List, []}
+use Rattle.std.proofs.Common.{◌∷◌, length, get_or, take, codes, Result, Ok, refl, ap, arith}
 use Rattle.std.specs.Prelude.{All, map, Option, Some, None, ◌++◌}
 use Rattle.std.specs.List.{range_with_len}
 use Rattle.std.proofs.lemmas.Bool.{le-leb, and_from}
@@ -59,42 +35,16 @@ use Rattle.vab_model.specs.declared.state.GroupLimit.{GroupLimit}
 use Rattle.vab_model.specs.declared.state.Phase.TheVariants as phases
 use Rattle.vab_device.specs.declared.device.Part.{Part}
 use Rattle.vab_device.specs.Idle.{idle_read}
-use Rattle.vab_device.specs.Kept.{
-  sectors_of,
-  part_on,
-  parts_of,
-  limits_of,
-  super_bytes,
-  copies_end,
-  lies_in,
-}
+use Rattle.vab_device.specs.Kept.{sectors_of, part_on, parts_of, limits_of, super_bytes, copies_end}
+use Rattle.vab_device.specs.Kept.{lies_in}
 use Rattle.vab_device.specs.Mounted.{Mounted, bytes_at, image_on, state_on, mounted_on}
 use Rattle.vab_device.specs.Phases.{own_check}
-use Rattle.vab_device.specs.Reading.{
-  Read,
-  mark_read,
-  mark_in,
-  geometry_read,
-  geometry_at,
-  table_read,
-  table_at,
-  kept,
-  Reads,
-}
+use Rattle.vab_device.specs.Reading.{Read, mark_read, mark_in, geometry_read, geometry_at}
+use Rattle.vab_device.specs.Reading.{table_read, table_at, kept, Reads}
 use Rattle.vab_device.proofs.IdleLaws.{reads_idle, control_seen_in}
 use Rattle.vab_device.proofs.ReadingLaws.{device_of}
-use Rattle.vab_make.specs.Made.{
-  parts_from,
-  made_layout,
-  made_geometry,
-  made_places,
-  made_control,
-  filled,
-  made_image,
-  made_state,
-  made_device_of,
-  set_blocks,
-}
+use Rattle.vab_make.specs.Made.{parts_from, made_layout, made_geometry, made_places, made_control}
+use Rattle.vab_make.specs.Made.{filled, made_image, made_state, made_device_of, set_blocks}
 use Rattle.vab_make.specs.Making.{IsMade}
 use Rattle.vab_make.specs.Prepared.{IsMost, HasRoom, IsPrepared}
 use Rattle.vab_make.specs.Steps.{HoldsBlocks, HoldsImages, HasPlaces, HasAll}
@@ -240,7 +190,8 @@ module _
     places = record { geometry = made_geometry max; a = Some (plain 0 l); b = None };
   }
 
-  of_read : mounted_on (kept reading) image ≡ meant (layout_of (table_of made)) (table_of made).groups
+  of_read : mounted_on (kept reading) image
+      ≡ meant (layout_of (table_of made)) (table_of made).groups
   unfolding state_on
   of_read = refl
 

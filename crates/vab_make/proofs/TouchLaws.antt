@@ -1,22 +1,6 @@
 -- What the sectors that are touched leave alone.
-use Rattle.std.proofs.Common.{
-  ◌≡◌,
-  ◌⊎◌,
-  inl,
-  inr,
-  ⊎_elim,
-  ℕ,
-  ◌+◌,
-  ◌*◌,
-  ◌/◌,
-  ◌<◌,
-  ◌≤◌,
-  List,
-  sym,
-  ap,
-  ◌∙◌,
-  arith,
-}
+use Rattle.std.proofs.Common.{◌≡◌, ◌⊎◌, inl, inr, ⊎_elim, ℕ, ◌+◌, ◌*◌, ◌/◌, ◌<◌, ◌≤◌, List, sym, ap}
+use Rattle.std.proofs.Common.{◌∙◌, arith}
 use Rattle.vab_disk.specs.Disk.{Image}
 use Rattle.vab_disk.specs.Calls.{IsBetween, InSectors, SameBut}
 use Rattle.vab_geometry.specs.declared.geometry.Geometry.{Geometry}
@@ -36,7 +20,8 @@ pub around : (at n : ℕ) (old new : Image)
 around at n old new but s out =
     ⊎_elim (λ same. same)
     (λ w.
-    absurd (⊎_elim (λ below. omega (arith, below, w.from)) (λ above. omega (arith, above, w.below)) out))
+    absurd
+    (⊎_elim (λ below. omega (arith, below, w.from)) (λ above. omega (arith, above, w.below)) out))
     (but s)
 
 pub below_images : (n : ℕ) (old new : Image)
@@ -104,7 +89,10 @@ table_of_copies g n text s b two some fits is =
     ⊎_elim
     (λ primary.
     let at = copy_of n (4120 + 0 * (g.max / 512)) text s b some primary in
-    IsOfCopies.of_primary (record { from = omega (arith, at.from); below = omega (arith, at.below, fits) }))
+    IsOfCopies.of_primary (record {
+      from = omega (arith, at.from);
+      below = omega (arith, at.below, fits);
+    }))
     (λ backup.
     let at = copy_of n (4120 + (g.slots + 0) * (g.max / 512)) text s b some backup in
     IsOfCopies.of_backup (record {

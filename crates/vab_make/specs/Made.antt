@@ -1,30 +1,7 @@
 -- The device that is made of a set of images.
-use Rattle.std.specs.Prelude.{
-  ℕ,
-  ◌+◌,
-  ◌-◌,
-  ◌*◌,
-  ◌==◌,
-  ◌&&◌,
-  not,
-  nat_lt,
-  if◌then◌else◌,
-  List,
-  [],
-  ◌∷◌,
-  ◌++◌,
-  length,
-  map,
-  replicate,
-  codes,
-  Bool,
-  true,
-  false,
-  Option,
-  Some,
-  None,
-  sum_by,
-}
+use Rattle.std.specs.Prelude.{ℕ, ◌+◌, ◌-◌, ◌*◌, ◌==◌, ◌&&◌, not, nat_lt, if◌then◌else◌, List, []}
+use Rattle.std.specs.Prelude.{◌∷◌, ◌++◌, length, map, replicate, codes, Bool, true, false, Option}
+use Rattle.std.specs.Prelude.{Some, None, sum_by}
 use Rattle.std.specs.List.{range_with_len}
 use Rattle.vab_names.specs.Names.{suffix_of}
 use Rattle.vab_space.specs.Space.{blocks_of}
@@ -45,12 +22,8 @@ use Rattle.vab_model.specs.declared.state.Phase.TheVariants.{Idle}
 use Rattle.vab_device.specs.Kept.{super_bytes}
 use Rattle.vab_device.specs.Mounted.{Places, Mounted}
 use Rattle.vab_make.specs.declared.fault.MakeFault.{MakeFault}
-use Rattle.vab_make.specs.declared.fault.MakeFault.TheVariants.{
-  TooSmall,
-  GroupLimit,
-  NoRoom,
-  TableFull,
-}
+use Rattle.vab_make.specs.declared.fault.MakeFault.TheVariants.{TooSmall, GroupLimit, NoRoom}
+use Rattle.vab_make.specs.declared.fault.MakeFault.TheVariants.{TableFull}
 
 -- ---- where it stands
 

@@ -5,14 +5,8 @@ use Rattle.vab_set.specs.declared.set.SetImage.{SetImage}
 use Rattle.vab_device.specs.declared.fault.StartFault.{StartFault}
 use Rattle.vab_device.specs.Reading.{device, IsIn}
 use Rattle.vab_make.specs.declared.fault.MakeFault.{MakeFault}
-use Rattle.vab_make.specs.declared.fault.MakeFault.TheVariants.{
-  TooSmall,
-  GroupLimit,
-  NoRoom,
-  TableFull,
-  NoMemory,
-  Disk,
-}
+use Rattle.vab_make.specs.declared.fault.MakeFault.TheVariants.{TooSmall, GroupLimit, NoRoom}
+use Rattle.vab_make.specs.declared.fault.MakeFault.TheVariants.{TableFull, NoMemory, Disk}
 use Rattle.vab_make.specs.Made.{made_device_of}
 
 -- What was answered is the refusal, or there is none. Memory may be refused in place of either, and

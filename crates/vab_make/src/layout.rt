@@ -1,19 +1,6 @@
 // The layout of the device that is made.
-ghost use Rattle.std.specs.Prelude.{
-  ◌≡◌,
-  ◌+◌,
-  ◌*◌,
-  ◌<◌,
-  ◌≤◌,
-  ◌^◌,
-  ◌++◌,
-  ◌∷◌,
-  [],
-  List,
-  codes,
-  IfOk,
-  IfErr,
-};
+ghost use Rattle.std.specs.Prelude.{◌≡◌, ◌+◌, ◌*◌, ◌<◌, ◌≤◌, ◌^◌, ◌++◌, ◌∷◌, [], List, codes, IfOk};
+ghost use Rattle.std.specs.Prelude.{IfErr};
 ghost use Rattle.vab_bytes.specs.Name.{IsName};
 ghost use Rattle.vab_names.specs.Names.{suffix_of};
 ghost use Rattle.vab_space.specs.Space.{blocks_of};

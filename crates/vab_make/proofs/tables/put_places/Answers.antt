@@ -1,4 +1,5 @@
 use Rattle.std.proofs.Common.{◌≡◌, ℕ, inl, inr, ap, subst, arith}
+use Rattle.std.proofs.lemmas.Result.{on_ok_weaker}
 use Rattle.vab_disk.specs.Calls.{Touches, InSectors}
 use Rattle.vab_disk.proofs.CallLaws.{touches_wider, touches_on}
 use Rattle.vab_geometry.specs.declared.geometry.Geometry.{Geometry}
@@ -6,7 +7,7 @@ use Rattle.vab_lpstore.specs.Layout.{BothHold}
 use Rattle.vab_make.specs.Made.{made_geometry}
 use Rattle.vab_make.specs.Touched.{IsOfCopies}
 use Rattle.vab_make.proofs.StateLaws.{most_geometry}
-use Rattle.vab_make.proofs.Parts.{on_ok_map, sector_kept}
+use Rattle.vab_make.proofs.Parts.{sector_kept}
 use Rattle.vab_make.proofs.TouchLaws.{below_copies}
 use Rattle.vab_make.proofs.tables.put_places.Goals as goal
 
@@ -32,7 +33,7 @@ returns-clause-places g c = λ t.
     c.made_geometry-geometry.ensures in
     let most = most_geometry c.args.max c.requires.most in
     let same = below_copies _ _ _ (c.put_table.ensures.touches.seen t) in
-    on_ok_map c.put_table.result _ _
+    on_ok_weaker c.put_table.result
     (λ stored. record {
       primary =
           sector_kept mid new c.made_geometry-geometry.result c.args.max 4104 is most
