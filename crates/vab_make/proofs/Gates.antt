@@ -1,6 +1,6 @@
 -- All parts of the device, kept and marked, and the outcomes of the two gates.
 use Rattle.std.proofs.Common.{◌≡◌, ◌≢◌, ◌∙◌, inl, inr, ⊎_elim, ℕ, ◌+◌, ◌*◌, ◌/◌, ◌<◌, ◌≤◌, ◌^◌}
-use Rattle.std.proofs.Common.{List, length, get_or, take, Ok, refl, sym, ap, subst, arith}
+use Rattle.std.proofs.Common.{List, length, get_or, take, refl, sym, ap, subst, arith}
 use Rattle.vab_disk.specs.Disk.{Image, Outcome, LeavesWith, LeavesEither, IsSettled, set_sector}
 use Rattle.vab_disk.specs.Written.{set_here, set_there}
 use Rattle.vab_disk.specs.Calls.{InSectors}

@@ -200,7 +200,8 @@ layout_keeps set limit size room le small = record {
   groups = groups_keep limit le;
   group_names = group_names limit;
   parts =
-      parts_keep (cap_of (made_device size)) 0 limit set room.images.each (omega (arith, room.room));
+      parts_keep (cap_of (made_device size)) 0 limit set room.images.each
+      (omega (arith, room.room));
   part_names = names_differ 0 set room.images.names;
 }
 

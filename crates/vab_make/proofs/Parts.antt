@@ -1,8 +1,7 @@
 -- What single steps leave in single sectors.
-use Rattle.std.proofs.Common.{◌≡◌, ◌∙◌, ◌⊎◌, inl, inr, ⊎_elim, ℕ, suc, ◌+◌, ◌-◌, ◌*◌, ◌<◌, ◌≤◌, min}
-use Rattle.std.proofs.Common.{List, ◌++◌, length, get_or, take, drop, replicate, Result, Ok, Err}
+use Rattle.std.proofs.Common.{◌≡◌, ◌∙◌, inl, ℕ, suc, ◌+◌, ◌-◌, ◌*◌, ◌<◌, min}
+use Rattle.std.proofs.Common.{List, ◌++◌, length, get_or, take, drop, replicate, Ok}
 use Rattle.std.proofs.Common.{refl, sym, ap, subst, arith, length-append, below_more}
-use Rattle.std.specs.Prelude.{OnOk}
 use Rattle.std.proofs.lemmas.List.{take_at, take_min, drop_min, drop-replicate, length-replicate}
 use Rattle.std.proofs.lemmas.List.{length-take, get_or_default}
 use Rattle.vab_disk.specs.Disk.{Image, set_sector}

@@ -1,7 +1,7 @@
 -- A disk with all the parts of the device is the device.
 use Rattle.std.proofs.Common.{◌≡◌, ◌∙◌, ℕ, suc, ◌+◌, ◌*◌, ◌<◌, ◌≤◌, ◌^◌, true, false, leb, List, []}
 use Rattle.std.proofs.Common.{◌∷◌, length, get_or, take, codes, Result, Ok, refl, ap, arith}
-use Rattle.std.specs.Prelude.{All, map, Option, Some, None, ◌++◌}
+use Rattle.std.specs.Prelude.{All, map, Some, None}
 use Rattle.std.specs.List.{range_with_len}
 use Rattle.std.proofs.lemmas.Bool.{le-leb, and_from}
 use Rattle.std.proofs.lemmas.List.Elements.{All-head, All-tail}
@@ -10,7 +10,6 @@ use Rattle.vab_disk.specs.Disk.{Image}
 use Rattle.vab_names.specs.Names.{is_of_slot, base_of}
 use Rattle.vab_names.specs.NameLaws.{base_of-append}
 use Rattle.vab_space.specs.Space.{blocks_of}
-use Rattle.vab_bootctl.specs.Control.{control_of}
 use Rattle.vab_marks.specs.declared.mark.UpdateMark.{UpdateMark}
 use Rattle.vab_marks.specs.declared.mark.MarkPhase.TheVariants as marks
 use Rattle.vab_marks.specs.declared.sector.MarkFault.{MarkFault}
@@ -24,7 +23,6 @@ use Rattle.vab_lpstore.proofs.StoreLaws.{both_table, text_fits}
 use Rattle.vab_set.specs.declared.set.SetImage.{SetImage}
 use Rattle.vab_set.specs.Spelling.{IsImage}
 use Rattle.vab_tables.specs.declared.entries.Group.{Group}
-use Rattle.vab_tables.specs.declared.table.Table.{Table}
 use Rattle.vab_tables.specs.Rules.{cap_of}
 use Rattle.vab_layout.specs.declared.layout.Layout.{Layout}
 use Rattle.vab_layout.specs.Layout.{layout_of, table_of}
@@ -46,8 +44,8 @@ use Rattle.vab_device.proofs.ReadingLaws.{device_of}
 use Rattle.vab_make.specs.Made.{parts_from, made_layout, made_geometry, made_places, made_control}
 use Rattle.vab_make.specs.Made.{filled, made_image, made_state, made_device_of, set_blocks}
 use Rattle.vab_make.specs.Making.{IsMade}
-use Rattle.vab_make.specs.Prepared.{IsMost, HasRoom, IsPrepared}
-use Rattle.vab_make.specs.Steps.{HoldsBlocks, HoldsImages, HasPlaces, HasAll}
+use Rattle.vab_make.specs.Prepared.{IsMost, IsPrepared}
+use Rattle.vab_make.specs.Steps.{HoldsBlocks, HasAll}
 use Rattle.vab_make.proofs.LayoutLaws.{part_at, made_groups, layout_keeps, own_all, parts_pass}
 use Rattle.vab_make.proofs.BlockLaws.{blocks_bytes, blocks_moved}
 

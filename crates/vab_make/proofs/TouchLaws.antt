@@ -1,16 +1,13 @@
 -- What the sectors that are touched leave alone.
-use Rattle.std.proofs.Common.{◌≡◌, ◌⊎◌, inl, inr, ⊎_elim, ℕ, ◌+◌, ◌*◌, ◌/◌, ◌<◌, ◌≤◌, List, sym, ap}
+use Rattle.std.proofs.Common.{◌≡◌, ◌⊎◌, inl, inr, ⊎_elim, ℕ, ◌+◌, ◌*◌, ◌/◌, ◌<◌, ◌≤◌, List, ap}
 use Rattle.std.proofs.Common.{◌∙◌, arith}
 use Rattle.vab_disk.specs.Disk.{Image}
 use Rattle.vab_disk.specs.Calls.{IsBetween, InSectors, SameBut}
 use Rattle.vab_geometry.specs.declared.geometry.Geometry.{Geometry}
 use Rattle.vab_copies.specs.Copies.{IsOfCopy}
-use Rattle.vab_lpstore.specs.Layout.{copy_sectors, primary_of, backup_of, text_sectors}
-use Rattle.vab_lpstore.specs.Storing.{IsOfTable}
+use Rattle.vab_lpstore.specs.Layout.{copy_sectors, primary_of, backup_of}
 use Rattle.vab_set.specs.declared.set.SetImage.{SetImage}
-use Rattle.vab_make.specs.Made.{set_blocks}
-use Rattle.vab_make.specs.Prepared.{IsMost}
-use Rattle.vab_make.specs.Touched.{IsOfGeometry, IsOfCopies, IsOfPlaces, IsOfContents, IsOfMaking}
+use Rattle.vab_make.specs.Touched.{IsOfCopies, IsOfPlaces, IsOfContents}
 use Rattle.vab_make.specs.Steps.{SameBelow, SameAround}
 
 -- sectors around those that were touched

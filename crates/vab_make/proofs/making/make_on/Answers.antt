@@ -26,7 +26,8 @@ returns-in_err-put_gate-clause-time g c = λ t limit is rest.
     (first_making (g.D.Disk.told c.args.d.now) c.args.set.now limit c.args.max
     (g.D.Disk.size c.args.d.now) (g.D.Disk.seen c.args.d.now) c.requires.room.enough)
 
-pub returns-in_err-settle_contents-clause-touches : goal.returns-in_err-settle_contents-clause-touches
+pub returns-in_err-settle_contents-clause-touches
+    : goal.returns-in_err-settle_contents-clause-touches
 returns-in_err-settle_contents-clause-touches g c =
     touches_on g.D.Disk _ _ _ _ _ _ c.put_gate.ensures.touches c.settle_contents.ensures.touches
     (λ s b is. inl is.0) (λ s b is. inr is)
@@ -102,7 +103,8 @@ returns-clause-time g c = λ t limit is rest.
     let full = g.D.Disk.seen c.settle_contents.new.d in
     let blank = blanked_mark old mid (c.in_ok-put_gate.ensures.written t) in
     let still : full 2048 ≡ zeros =
-    mark_stays c.args.set.now c.args.max mid full (c.settle_contents.ensures.touches.seen t) ∙ blank in
+    mark_stays c.args.set.now c.args.max mid full (c.settle_contents.ensures.touches.seen t)
+    ∙ blank in
     let made =
     marked c.args.set.now limit c.args.max size c.args.text.now c.idle_mark.result full
     (g.met.D.Disk.small c.args.d.now) is (c.in_ok-settle_contents.ensures.all t)

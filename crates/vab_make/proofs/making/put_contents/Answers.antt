@@ -1,4 +1,4 @@
-use Rattle.std.proofs.Common.{◌≡◌, ◌∙◌, List, ℕ, inl, inr, subst, ap}
+use Rattle.std.proofs.Common.{List, ℕ, subst}
 use Rattle.std.proofs.lemmas.Result.{on_ok_weaker}
 use Rattle.vab_disk.proofs.CallLaws.{touches_wider, touches_on, touches_then}
 use Rattle.vab_bootctl.specs.Control.{KeepsRest}
@@ -10,7 +10,8 @@ use Rattle.vab_make.proofs.making.put_contents.Goals as goal
 
 pub returns-in_err-put_places-clause-touches : goal.returns-in_err-put_places-clause-touches
 returns-in_err-put_places-clause-touches g c =
-    touches_wider g.D.Disk _ _ _ _ c.put_places.ensures.touches (λ s b is. IsOfContents.of_places is)
+    touches_wider g.D.Disk _ _ _ _ c.put_places.ensures.touches
+    (λ s b is. IsOfContents.of_places is)
 
 pub returns-in_err-put_images-clause-touches : goal.returns-in_err-put_images-clause-touches
 returns-in_err-put_images-clause-touches g c =

@@ -21,7 +21,8 @@ returns-clause-touches g c =
     ap (λ (x : Geometry). x.max) c.made_geometry-geometry.ensures in
     touches_on g.D.Disk _ _ _ _ _ _ c.put_geometry.ensures.touches
     (subst
-    (λ (m : ℕ). Touches g.D.Disk (InSectors (IsOfCopies m)) c.put_geometry.new.d c.put_table.new.d) max
+    (λ (m : ℕ). Touches g.D.Disk (InSectors (IsOfCopies m)) c.put_geometry.new.d c.put_table.new.d)
+    max
     c.put_table.ensures.touches)
     (λ s b is. inl is) (λ s b is. inr is)
 
