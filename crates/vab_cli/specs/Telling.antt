@@ -1,4 +1,4 @@
--- Telling one item, and a line at the end of a run.
+-- Telling bytes, one item, and a line at the end of a run.
 use Rattle.std.specs.Prelude.{◌≡◌, ℕ, List, ◌++◌, take, Result, OnOk}
 use Rattle.vab_disk.specs.declared.disk.Disk.{Ghosts}
 use Rattle.vab_disk.specs.Disk.{SameHoldings, Adds}
@@ -11,6 +11,19 @@ use Rattle.vab_exchanges.specs.Runs.{LeavesItem}
 use Rattle.vab_cli.specs.declared.status.Status.{Status}
 
 module _ {D : Type 0} (g : Ghosts D) where
+  -- A front of these bytes is told, and all of them where it is done. The disk and the input stay.
+  pub record Says {A E : Type 0}
+      (bytes : List ℕ)
+      (old new : D)
+      (result : Result A E) : Type 0 where
+    pub told : OnOk result (g.told new ≡ g.told old ++ bytes)
+    pub front : (n : ℕ) × (g.told new ≡ g.told old ++ take n bytes)
+    pub seen : g.seen new ≡ g.seen old
+    pub crash : SameHoldings (g.may_leave old) (g.may_leave new)
+    pub left : g.input_left new ≡ g.input_left old
+    pub heard : g.heard new ≡ g.heard old
+    pub time : Adds g.moment g.outcomes old new (LeavesSaying (g.told old) bytes (g.may_leave old))
+
   -- One item is done and told, unless the disk or the port failed.
   pub record DoesItem {A E : Type 0}
       (size : ℕ)

@@ -1,6 +1,6 @@
-mod BlockLaws
+pub mod BlockLaws
 mod BootLaws
 mod CommandLaws
-mod DigestLaws
+pub mod DigestLaws
 mod EffectLaws
 mod FoundLaws
