@@ -1,9 +1,35 @@
 -- Command packets of a fastboot session, and what they ask for.
-use Rattle.std.specs.Prelude.{ℕ, ◌+◌, List, length, codes, take, drop, position, Bool, not, ◌==◌, ◌||◌, ◌&&◌, nat_lt, if◌then◌else◌, Option, Some, None, Result, Ok, Err}
+use Rattle.std.specs.Prelude.{
+  ℕ,
+  ◌+◌,
+  ◌-◌,
+  ◌*◌,
+  List,
+  [],
+  ◌∷◌,
+  length,
+  codes,
+  take,
+  drop,
+  position,
+  Bool,
+  not,
+  ◌==◌,
+  ◌||◌,
+  ◌&&◌,
+  nat_lt,
+  nat_le,
+  if◌then◌else◌,
+  Option,
+  Some,
+  None,
+  Result,
+  Ok,
+  Err,
+}
 use Rattle.std.specs.List.{list_any}
 use Rattle.std.specs.Str.{bytes_eq}
-use Rattle.vab_fbproto.specs.Commands.{Named, named_of}
-use Rattle.vab_fbproto.specs.Commands as named
+use Rattle.vab_model.specs.Commands.{Command, SetActive, Boot, Mark, Digest, command_of}
 use Rattle.vab_fbproto.specs.declared.request.Var.{Var}
 use Rattle.vab_fbproto.specs.declared.request.Var.TheVariants as vars
 use Rattle.vab_fbproto.specs.declared.request.BadCommand.{BadCommand}
@@ -14,12 +40,14 @@ use Rattle.vab_fbproto.specs.declared.request.Request.TheVariants as request
 -- what a packet asks for
 pub data Asked : Type 0 where
   Getvar : (variable : Var) → Asked
-  Do : (command : Named) → Asked
+  Download : (size : ℕ) → Asked
+  Do : (command : Command) → Asked
   BootAndEnd : Asked
 
 abbrev pub asked_of : Request → Asked
 asked_of (request.Getvar variable) = Getvar variable
-asked_of (request.Do command) = Do (named_of command)
+asked_of (request.Download size) = Download size
+asked_of (request.Do command) = Do (command_of command)
 asked_of request.BootAndEnd = BootAndEnd
 
 -- ---- words
@@ -61,16 +89,19 @@ plain None asked = Ok asked
 plain (Some rest) asked = Err BadArgument
 
 -- a known word that has one
-abbrev pub with_rest : (List ℕ → Result Asked BadCommand) → Option (List ℕ) → Result Asked BadCommand
+abbrev pub with_rest :
+    (List ℕ → Result Asked BadCommand) → Option (List ℕ) → Result Asked BadCommand
 with_rest f None = Err BadArgument
 with_rest f (Some rest) = f rest
 
 -- a variable that is known by its word, with what stands behind its first colon
 abbrev pub variable_at : Option ℕ → List ℕ → Result Asked BadCommand
 variable_at end var =
-    if bytes_eq (word_at end var) (codes "version") then plain (rest_at end var) (Getvar vars.Version)
-    else if bytes_eq (word_at end var) (codes "current-slot") then plain (rest_at end var) (Getvar vars.CurrentSlot)
-    else if bytes_eq (word_at end var) (codes "slot-count") then plain (rest_at end var) (Getvar vars.SlotCount)
+    let word = word_at end var in
+    let rest = rest_at end var in
+    if bytes_eq word (codes "version") then plain rest (Getvar vars.Version)
+    else if bytes_eq word (codes "current-slot") then plain rest (Getvar vars.CurrentSlot)
+    else if bytes_eq word (codes "slot-count") then plain rest (Getvar vars.SlotCount)
     else Ok (Getvar vars.Unknown)
 
 -- `getvar:VAR`
@@ -80,8 +111,8 @@ variable_of var = variable_at (position is_colon var) var
 -- `set_active:SLOT`
 unfoldable pub slot_of : List ℕ → Result Asked BadCommand
 slot_of name =
-    if bytes_eq name (codes "a") || bytes_eq name (codes "_a") then Ok (Do (named.SetActive 0))
-    else if bytes_eq name (codes "b") || bytes_eq name (codes "_b") then Ok (Do (named.SetActive 1))
+    if bytes_eq name (codes "a") || bytes_eq name (codes "_a") then Ok (Do (SetActive 0))
+    else if bytes_eq name (codes "b") || bytes_eq name (codes "_b") then Ok (Do (SetActive 1))
     else Err BadArgument
 
 abbrev pub is_delimiter : ℕ → Bool
@@ -93,17 +124,51 @@ is_name name = nat_lt 0 (length name) && not (list_any is_delimiter name)
 
 -- `oem digest NAME`
 unfoldable pub digest_of : List ℕ → Result Asked BadCommand
-digest_of name = if is_name name then Ok (Do (named.Digest name)) else Err BadArgument
+digest_of name = if is_name name then Ok (Do (Digest name)) else Err BadArgument
+
+-- ---- numbers
+
+-- the value of a hexadecimal digit, of either case
+abbrev pub digit_of : ℕ → Option ℕ
+digit_of c =
+    if nat_le 48 c && nat_le c 57 then Some (c - 48)
+    else if nat_le 97 c && nat_le c 102 then Some (c - 87)
+    else if nat_le 65 c && nat_le c 70 then Some (c - 55)
+    else None
+
+-- a number, and one digit more
+abbrev pub with_digit : ℕ → Option ℕ → Option ℕ
+with_digit value (Some digit) = Some (16 * value + digit)
+with_digit value None = None
+
+-- what digits behind a number make of it
+abbrev pub hex_behind : Option ℕ → List ℕ → Option ℕ
+hex_behind value [] = value
+hex_behind None (c ∷ cs) = None
+hex_behind (Some value) (c ∷ cs) = hex_behind (with_digit value (digit_of c)) cs
+
+abbrev pub download_by : Option ℕ → Result Asked BadCommand
+download_by (Some size) = Ok (Download size)
+download_by None = Err BadArgument
+
+-- `download:HEX`, with 1 to 8 digits
+unfoldable pub download_of : List ℕ → Result Asked BadCommand
+download_of digits =
+    if nat_lt 0 (length digits) && nat_le (length digits) 8
+    then download_by (hex_behind (Some 0) digits)
+    else Err BadArgument
 
 -- ---- packets
 
 abbrev pub asked_by : List ℕ → Option (List ℕ) → Result Asked BadCommand
 asked_by word rest =
     if bytes_eq word (codes "getvar") then with_rest variable_of rest
+    else if bytes_eq word (codes "download") then with_rest download_of rest
     else if bytes_eq word (codes "set_active") then with_rest slot_of rest
-    else if bytes_eq word (codes "reboot") || bytes_eq word (codes "continue") then plain rest BootAndEnd
-    else if bytes_eq word (codes "oem boot") then plain rest (Do named.Boot)
-    else if bytes_eq word (codes "oem mark-successful") then plain rest (Do named.Mark)
+    else if bytes_eq word (codes "reboot") || bytes_eq word (codes "continue")
+    then plain rest BootAndEnd
+    else if bytes_eq word (codes "oem boot") then plain rest (Do Boot)
+    else if bytes_eq word (codes "oem mark-successful") then plain rest (Do Mark)
     else if bytes_eq word (codes "oem digest") then with_rest digest_of rest
     else Err Unknown
 

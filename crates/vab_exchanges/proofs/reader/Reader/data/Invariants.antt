@@ -1,0 +1,36 @@
+use Rattle.std.proofs.Common.{◌≡◌, ◌+◌, ◌≤◌, vec_len, vec_capacity}
+use Rattle.vab_fbtcp.specs.declared.event.Place.TheVariants.{Length}
+use Rattle.vab_exchanges.specs.Session.{IsAwaited}
+use Rattle.vab_exchanges.specs.Hearing.{Listens}
+use Rattle.vab_exchanges.specs.Reading.{
+  stands_at,
+  rest_of,
+  beyond_of,
+  all_of,
+  room_of,
+  total_of,
+  IsFed,
+}
+use Rattle.vab_exchanges.proofs.Stops.{HasSome}
+use Rattle.vab_exchanges.proofs.reader.Reader.data.Given as goal
+
+abbrev pub invariant-loop-left : goal.invariant-loop-left
+invariant-loop-left g l = record {
+  listens : Listens g.P.Disk
+      (all_of l.fn.self (g.P.Disk.input_left l.fn.p)) (IsAwaited l.due) l.fn.p l.p;
+  place : stands_at l.self ≡ Length;
+  long : vec_len l.staged + l.left ≡ l.due;
+  space : l.due ≤ vec_capacity l.staged;
+  fed : IsFed l.self;
+  some : g.P.Disk.is_modelled → HasSome l.due l.left (rest_of l.fn.self (g.P.Disk.input_left l.fn.p)) (rest_of l.self (g.P.Disk.input_left l.p)) l.staged.items;
+  room : room_of l.self ≤ room_of l.fn.self;
+  beyond : g.P.Disk.is_modelled
+      → beyond_of l.self (g.P.Disk.input_left l.p)
+      ≡ beyond_of l.fn.self (g.P.Disk.input_left l.fn.p);
+  steady : g.P.Disk.faults l.p ≡ g.P.Disk.faults l.fn.p;
+  count : g.P.Disk.is_modelled → total_of l.self (g.P.Disk.input_left l.p) ≡ total_of l.fn.self (g.P.Disk.input_left l.fn.p);
+  most : l.self.budget.most ≡ l.fn.self.budget.most;
+}
+
+abbrev pub decreases-loop-left : goal.decreases-loop-left
+decreases-loop-left g l = room_of l.self
