@@ -183,3 +183,10 @@ print_item s name told = go (found_of s.state name) where
       } in item ≡ line_item s told)
   go (Image_is image) = refl
   go (Refused_by refusal) = refl
+
+-- so the last of its steps is the first
+pub print_last : (size : ℕ) (s : Mounted) (name told : List ℕ) (image : Image)
+    → IsIn size s image
+    → IsIn size (command_item s (Print name) told).last.now image
+print_last size s name told image is =
+    subst (λ (i : Item Mounted). IsIn size i.last.now image) (sym (print_item s name told)) is

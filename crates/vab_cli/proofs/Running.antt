@@ -66,6 +66,21 @@ not_of_disk_by (start.BadState rule) other is = is
 not_of_disk_by start.NoMemory other is = is
 not_of_disk_by (start.Disk fault) other is = other refl
 
+pub memory_other : {status : Status} → status ≡ NoMemory → status ≢ Disk
+memory_other is other = cc
+
+-- what is of the contents isn't of the disk
+pub contents_no_disk : (f : StartFault) → IsOfContents f → IsOfDisk f → ⊥
+contents_no_disk (start.TooSmall need have) contents is = is
+contents_no_disk (start.BadMark sector) contents is = is
+contents_no_disk (start.BadControl fault) contents is = is
+contents_no_disk start.BadGeometry contents is = is
+contents_no_disk (start.BadTable slot) contents is = is
+contents_no_disk (start.BadPartition name) contents is = is
+contents_no_disk (start.BadState rule) contents is = is
+contents_no_disk start.NoMemory contents is = is
+contents_no_disk (start.Disk fault) contents is = contents
+
 pub if_ok : {A E P : Type 0} (r : Result A E) → is_err r ≡ false → OnOk r P → P
 if_ok (Ok x) held p = p
 if_ok (Err e) held p = cc

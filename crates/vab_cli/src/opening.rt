@@ -56,8 +56,11 @@ pub(crate) fn open<P: Port>(alloc: Global, port: &mut P, line: &[u8]) -> Result<
         Ok(device) => return Ok(device),
         Err(fault) => Status::from(fault),
     };
-    if status == Status::NotADevice && say_all(port, line).is_err() {
-        return Err(Status::Port);
+    if status != Status::NotADevice {
+        return Err(status);
     }
-    Err(status)
+    match say_all(port, line) {
+        Ok(()) => Err(Status::NotADevice),
+        Err(_) => Err(Status::Port),
+    }
 }

@@ -1,5 +1,5 @@
 //! Telling the bytes of an image.
-ghost use Rattle.std.specs.Prelude.{◌≡◌, ◌≢◌, ◌⊎◌, ◌≤◌, ◌+◌, ◌*◌, [], length, take, drop};
+ghost use Rattle.std.specs.Prelude.{◌≡◌, ◌≢◌, ◌⊎◌, ◌≤◌, ◌<◌, ◌+◌, [], length, take, drop};
 ghost use Rattle.std.specs.Prelude.{IfOk, IfErr, OnOk, OnErr, IsErrOf, Err};
 ghost use Rattle.vab_disk.specs.Disk.{Rose};
 ghost use Rattle.vab_disk.specs.Calls.{FailsWithDisk, OnlyReads};
@@ -142,7 +142,10 @@ fn tell_blocks<P: Port>(
     let mut done = 0;
     while done < blocks {
         let count = next_count(blocks - done);
-        tell_piece(port, device, slot, name, done, count)?;
+        match tell_piece(port, device, slot, name, done, count) {
+            Ok(()) => {}
+            Err(status) => return Err(status),
+        }
         done += count;
     }
     Ok(())

@@ -1,7 +1,7 @@
 // Hears the whole input, in pieces of at most 4096 bytes.
 ghost use Rattle.std.specs.Prelude.{◌≡◌, ◌<◌, ◌≤◌, ◌++◌, [], length, IfOk, OnOk, OnErr, IsErrOf};
 ghost use Rattle.std.specs.Bool.{OnTrue, OnFalse};
-ghost use Rattle.vab_disk.specs.Disk.{Adds, Nothing, NoFewer, Rose, SameHoldings};
+ghost use Rattle.vab_disk.specs.Disk.{Adds, Nothing, Rose, SameHoldings};
 
 use std::alloc::{AllocError, Global};
 use vab_disk::{Disk, Port, PortFault};
@@ -54,7 +54,9 @@ fn hear_piece<P: Port>(p: &mut P, heard: &mut Vec<u8>) -> Result<bool, InputFaul
     ensures crash { P.is_modelled → SameHoldings (P.may_leave p.old) (P.may_leave p.new) }
     ensures told { P.is_modelled → P.told p.new ≡ P.told p.old }
     ensures time { P.is_modelled → Adds P.moment P.outcomes p.old p.new Nothing }
-    ensures counts { NoFewer (P.faults p.old) (P.faults p.new) }
+    ensures steady { (IsErrOf result InputFault.Source → ⊥) → P.faults p.new ≡ P.faults p.old }
+    ensures last { P.is_modelled
+        → IfOk result (λ some. OnFalse some (P.input_left p.new ≡ [])) }
     ensures kind { IsErrOf result InputFault.TooLong → ⊥ }
     ensures cause { IsErrOf result InputFault.Source
         → Rose (P.faults p.old).source (P.faults p.new).source }
@@ -78,7 +80,9 @@ pub fn hear_all<P: Port>(alloc: Global, p: &mut P, most: u64) -> Result<Vec<u8>,
     ensures crash { P.is_modelled → SameHoldings (P.may_leave p.old) (P.may_leave p.new) }
     ensures told { P.is_modelled → P.told p.new ≡ P.told p.old }
     ensures time { P.is_modelled → Adds P.moment P.outcomes p.old p.new Nothing }
-    ensures counts { NoFewer (P.faults p.old) (P.faults p.new) }
+    ensures end { P.is_modelled → OnOk result (P.input_left p.new ≡ []) }
+    // Unless hearing fails the counts of faults stay.
+    ensures steady { (IsErrOf result InputFault.Source → ⊥) → P.faults p.new ≡ P.faults p.old }
     ensures cause { IsErrOf result InputFault.Source
         → Rose (P.faults p.old).source (P.faults p.new).source }
 {

@@ -1,4 +1,4 @@
-use Rattle.std.proofs.Common.{◌≡◌, ◌⊎◌, inl, inr, ⊎_elim, ℕ, true, false, Err, Some, sym, ◌∙◌, ap, subst, arith}
+use Rattle.std.proofs.Common.{◌≡◌, ◌⊎◌, ◌∙◌, inl, inr, ⊎_elim, ℕ, true, false, Err, Some, sym, ap, subst, arith}
 use Rattle.vab_disk.specs.Calls.{OnlyReads}
 use Rattle.vab_disk.proofs.CallLaws.{reads_none}
 use Rattle.vab_make.specs.declared.fault.MakeFault.{MakeFault}
@@ -7,13 +7,16 @@ use Rattle.vab_cli.specs.declared.status.Status.TheVariants.{Done, Port, NoMemor
 use Rattle.vab_cli.specs.Codes.{make_status}
 use Rattle.vab_cli.specs.Telling.{Tells}
 use Rattle.vab_cli.specs.Verbs.{make_line, done_making, is_silent}
-use Rattle.vab_cli.specs.Headline.{IsFailed}
-use Rattle.vab_cli.proofs.Makings.{not_of_disk, silent_early, memory_of_none, silent_memory, loud_refusal, silent_line, enough_sectors, status_not_port, refused_told, refused_unheard, making_told, making_untold}
+use Rattle.vab_cli.specs.Runs.{IsFailed}
+use Rattle.vab_cli.proofs.Makings.{not_of_disk, silent_early, memory_of_none, silent_memory}
+use Rattle.vab_cli.proofs.Makings.{loud_refusal, silent_line, enough_sectors, status_not_port}
+use Rattle.vab_cli.proofs.Makings.{refused_told, refused_unheard, making_told, making_untold}
 use Rattle.vab_cli.proofs.making.make_of.Goals as goal
 
 pub tell_made-requires-clause-size : goal.tell_made-requires-clause-size
 tell_made-requires-clause-size g c =
-    let enough = enough_sectors c.args.set.now c.args.limit c.args.max (g.P.Disk.size c.args.port.now) c.in-Ok.ensures.exact in
+    let enough = enough_sectors c.args.set.now c.args.limit c.args.max (g.P.Disk.size c.args.port.now)
+        c.in-Ok.ensures.exact in
     omega (arith, enough, c.make_device.ensures.touches.quiet.size)
 
 pub returns-in-Ok-clause-made : goal.returns-in-Ok-clause-made
@@ -22,9 +25,13 @@ returns-in-Ok-clause-made g c = λ t none.
     let mid = c.make_device.new.d in
     let new = c.tell_made.new.port in
     let size = g.P.Disk.size old in
-    let tells = subst (λ (n : ℕ). Tells g.P.Disk (done_making c.args.set.now n) Done mid new c.tell_made.result) c.make_device.ensures.touches.quiet.size (c.tell_made.ensures.tells t) in
-    making_told g.P.Disk g.met.P.Disk.only_now size c.args.set.now c.args.limit c.args.max (done_making c.args.set.now size) old mid new c.tell_made.result
-    (c.make_device.ensures.touches.quiet.told t) (c.in-Ok.ensures.made t) (c.in-Ok.ensures.settled t) (c.make_device.ensures.time t) c.tell_made.ensures.either tells
+    let tells = subst
+        (λ (n : ℕ). Tells g.P.Disk (done_making c.args.set.now n) Done mid new c.tell_made.result)
+        c.make_device.ensures.touches.quiet.size (c.tell_made.ensures.tells t) in
+    making_told g.P.Disk g.met.P.Disk.only_now size c.args.set.now c.args.limit c.args.max
+    (done_making c.args.set.now size) old mid new c.tell_made.result
+    (c.make_device.ensures.touches.quiet.told t) (c.in-Ok.ensures.made t) (c.in-Ok.ensures.settled t)
+    (c.make_device.ensures.time t) c.tell_made.ensures.either tells
 
 pub returns-then-is_silent-clause-made : goal.returns-then-is_silent-clause-made
 returns-then-is_silent-clause-made g c = λ t none.
@@ -37,21 +44,30 @@ returns-then-is_silent-clause-made g c = λ t none.
     (λ disk. inl (inl (c.from.ensures ∙ disk)))
     (λ memory. inr (c.from.ensures ∙ ap make_status memory))
     (silent_early fault is) in
-    making_untold g.P.Disk g.met.P.Disk.only_now size c.args.set.now c.args.limit c.args.max (done_making c.args.set.now size) old new c.from.result (c.make_device.ensures.touches.quiet.told t)
-    (λ memory. ap g.P.Disk.seen (c.in-Err.ensures.untouched (memory_of_none fault (sym c.from.ensures ∙ memory)))) (c.make_device.ensures.time t) either
+    making_untold g.P.Disk g.met.P.Disk.only_now size c.args.set.now c.args.limit c.args.max
+    (done_making c.args.set.now size) old new c.from.result
+    (c.make_device.ensures.touches.quiet.told t)
+    (λ memory.
+    ap g.P.Disk.seen
+    (c.in-Err.ensures.untouched (memory_of_none fault (sym c.from.ensures ∙ memory))))
+    (c.make_device.ensures.time t) either
 
 pub returns-then-is_silent-clause-refused : goal.returns-then-is_silent-clause-refused
 returns-then-is_silent-clause-refused g c = λ t fault refused.
     let old = c.args.port.now in
     let new = c.make_device.new.d in
     let size = g.P.Disk.size old in
-    let gives : Gives {A = Unit {0}} (Err c.in-Err.fault) (Some fault) = subst (λ said. Gives {A = Unit {0}} (Err c.in-Err.fault) said) refused c.in-Err.ensures.exact in
+    let gives : Gives {A = Unit {0}} (Err c.in-Err.fault) (Some fault) =
+    subst (λ said. Gives {A = Unit {0}} (Err c.in-Err.fault) said) refused c.in-Err.ensures.exact in
     let is : is_silent c.in-Err.fault ≡ true = sym c.is_silent.ensures ∙ c.if-is_silent.true in
-    let memory : c.from.result ≡ NoMemory = c.from.ensures ∙ silent_memory c.in-Err.fault fault gives is in
+    let memory : c.from.result ≡ NoMemory =
+    c.from.ensures ∙ silent_memory c.in-Err.fault fault gives is in
     let no_disk = not_of_disk c.in-Err.fault fault gives in
-    let reads = subst (λ (x : g.row.P.Denot). OnlyReads g.P.Disk old x) (sym (c.in-Err.ensures.untouched no_disk)) (reads_none g.P.Disk old) in
-    refused_unheard g.P.Disk g.met.P.Disk.only_now size (make_line fault) (make_status fault) old new c.from.result (c.make_device.ensures.touches.quiet.told t)
-    (reads.seen t) (reads.time t) (silent_line fault) (status_not_port fault) (inr (inr memory))
+    let reads = subst (λ (x : g.row.P.Denot). OnlyReads g.P.Disk old x)
+        (sym (c.in-Err.ensures.untouched no_disk)) (reads_none g.P.Disk old) in
+    refused_unheard g.P.Disk g.met.P.Disk.only_now size (make_line fault) (make_status fault) old new
+    c.from.result (c.make_device.ensures.touches.quiet.told t) (reads.seen t) (reads.time t)
+    (silent_line fault) (status_not_port fault) (inr (inr memory))
 
 pub returns-clause-refused : goal.returns-clause-refused
 returns-clause-refused g c = λ t fault refused.
@@ -59,12 +75,20 @@ returns-clause-refused g c = λ t fault refused.
     let mid = c.make_device.new.d in
     let new = c.tell_fault.new.port in
     let size = g.P.Disk.size old in
-    let gives : Gives {A = Unit {0}} (Err c.in-Err.fault) (Some fault) = subst (λ said. Gives {A = Unit {0}} (Err c.in-Err.fault) said) refused c.in-Err.ensures.exact in
+    let gives : Gives {A = Unit {0}} (Err c.in-Err.fault) (Some fault) =
+    subst (λ said. Gives {A = Unit {0}} (Err c.in-Err.fault) said) refused c.in-Err.ensures.exact in
     let loud : is_silent c.in-Err.fault ≡ false = sym c.is_silent.ensures ∙ c.if-is_silent.false in
     let same : c.in-Err.fault ≡ fault = loud_refusal c.in-Err.fault fault gives loud in
     let no_disk = not_of_disk c.in-Err.fault fault gives in
-    let reads = subst (λ (x : g.row.P.Denot). OnlyReads g.P.Disk old x) (sym (c.in-Err.ensures.untouched no_disk)) (reads_none g.P.Disk old) in
-    let tells = subst (λ (f : MakeFault). Tells g.P.Disk (make_line f) (make_status f) mid new c.tell_fault.result) same (c.tell_fault.ensures.tells t) in
-    let either = subst (λ (f : MakeFault). (c.tell_fault.result ≡ make_status f) ⊎ (c.tell_fault.result ≡ Port)) same c.tell_fault.ensures.either in
-    refused_told g.P.Disk g.met.P.Disk.only_now size (make_line fault) (make_status fault) old mid new c.tell_fault.result (c.make_device.ensures.touches.quiet.told t)
-    (reads.seen t) (reads.crash t) (reads.time t) (silent_line fault) either tells
+    let reads = subst (λ (x : g.row.P.Denot). OnlyReads g.P.Disk old x)
+        (sym (c.in-Err.ensures.untouched no_disk)) (reads_none g.P.Disk old) in
+    let tells = subst
+        (λ (f : MakeFault).
+        Tells g.P.Disk (make_line f) (make_status f) mid new c.tell_fault.result)
+        same (c.tell_fault.ensures.tells t) in
+    let either = subst
+        (λ (f : MakeFault). (c.tell_fault.result ≡ make_status f) ⊎ (c.tell_fault.result ≡ Port))
+        same c.tell_fault.ensures.either in
+    refused_told g.P.Disk g.met.P.Disk.only_now size (make_line fault) (make_status fault) old mid new
+    c.tell_fault.result (c.make_device.ensures.touches.quiet.told t) (reads.seen t) (reads.crash t)
+    (reads.time t) (silent_line fault) either tells

@@ -1,9 +1,12 @@
-use Rattle.std.proofs.Common.{◌≡◌, inl, inr, ℕ, Ok, Err, sym, subst}
-use Rattle.vab_model.specs.Step.{found_of}
-use Rattle.vab_fbproto.specs.Commands.{Print}
-use Rattle.vab_session.specs.Items.{Mounted, IsIn}
-use Rattle.vab_session.specs.Answers.{item_named}
-use Rattle.vab_cli.specs.Verbs.{print_told, verb_status}
+use Rattle.std.proofs.Common.{◌≡◌, inl, inr, ℕ, Ok, Err, sym, ap, subst, ◌∙◌}
+use Rattle.vab_disk.specs.Disk.{Image}
+use Rattle.vab_device.specs.Mounted.{Mounted}
+use Rattle.vab_device.specs.Reading.{IsIn}
+use Rattle.vab_exchanges.specs.Items.{Item}
+use Rattle.vab_model.specs.Commands.{Print}
+use Rattle.vab_model.specs.Effects.{found_of}
+use Rattle.vab_cli.specs.Verbs.{print_told, command_item, verb_status}
+use Rattle.vab_cli.proofs.Items.{print_last}
 use Rattle.vab_cli.proofs.Lines.{verb_kind}
 use Rattle.vab_cli.proofs.Running.{opened_in, runs_done, runs_failed, does_sized}
 use Rattle.vab_cli.proofs.printing.print.Goals as goal
@@ -14,15 +17,19 @@ returns-in-Ok-print_image-clause-runs g c = λ t s stands.
     let mid = c.open.new.port in
     let new = c.print_image.new.port in
     let size = g.P.Disk.size old in
-    let named = Print c.args.name.now in
+    let command = Print c.args.name.now in
     let line = λ (x : Mounted). print_told (found_of x.state c.args.name.now) in
     let status = c.in-Ok-print_image.status in
     let opens = c.in-Ok.ensures.opens t in
     let here = opened_in g.P.Disk g.met.P.Disk.only_now size old mid s opens stands in
     let sized : g.P.Disk.size mid ≡ size = c.open.ensures.size in
-    let does = does_sized g.P.Disk (g.P.Disk.size mid) size (λ x. item_named x named (line x)) mid new (Ok status) sized (c.in-Ok-print_image.ensures.does t) s here in
-    let is = c.in-Ok-print_image.ensures.status t s (subst (λ (n : ℕ). IsIn n s (g.P.Disk.seen mid)) (sym sized) here) in
-    inl (runs_done g.P.Disk g.met.P.Disk.only_now size s named (line s) (inr (λ image is. is)) (verb_status s.state named) old mid new opens status is does)
+    let does = does_sized g.P.Disk (g.P.Disk.size mid) size (λ x. command_item x command (line x))
+        mid new (Ok status) sized (c.in-Ok-print_image.ensures.does t) s here in
+    let is = c.in-Ok-print_image.ensures.status t s
+        (subst (λ (n : ℕ). IsIn n s (g.P.Disk.seen mid)) (sym sized) here) in
+    inl (runs_done g.P.Disk g.met.P.Disk.only_now size s command (line s)
+    (inr (print_last size s c.args.name.now (line s))) (verb_status s.state command) old mid new opens
+    stands status is does)
 
 pub returns-clause-runs : goal.returns-clause-runs
 returns-clause-runs g c = λ t s stands.
@@ -30,11 +37,14 @@ returns-clause-runs g c = λ t s stands.
     let mid = c.open.new.port in
     let new = c.print_image.new.port in
     let size = g.P.Disk.size old in
-    let named = Print c.args.name.now in
+    let command = Print c.args.name.now in
     let line = λ (x : Mounted). print_told (found_of x.state c.args.name.now) in
     let status = c.in-Err-print_image.status in
     let opens = c.in-Ok.ensures.opens t in
     let here = opened_in g.P.Disk g.met.P.Disk.only_now size old mid s opens stands in
     let sized : g.P.Disk.size mid ≡ size = c.open.ensures.size in
-    let does = does_sized g.P.Disk (g.P.Disk.size mid) size (λ x. item_named x named (line x)) mid new (Err status) sized (c.in-Err-print_image.ensures.does t) s here in
-    inl (runs_failed g.P.Disk g.met.P.Disk.only_now size s named (line s) (inr (λ image is. is)) (verb_status s.state named) old mid new opens status c.in-Err-print_image.ensures.failed (verb_kind s.state named) does)
+    let does = does_sized g.P.Disk (g.P.Disk.size mid) size (λ x. command_item x command (line x))
+        mid new (Err status) sized (c.in-Err-print_image.ensures.does t) s here in
+    inl (runs_failed g.P.Disk g.met.P.Disk.only_now size s command (line s)
+    (inr (print_last size s c.args.name.now (line s))) (verb_status s.state command) old mid new opens
+    stands status c.in-Err-print_image.ensures.failed (verb_kind s.state command) does)

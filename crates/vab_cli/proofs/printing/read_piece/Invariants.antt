@@ -1,4 +1,4 @@
-use Rattle.std.proofs.Common.{◌≡◌, take, drop}
+use Rattle.std.proofs.Common.{◌≡◌, ◌*◌, length, take, drop}
 use Rattle.vab_disk.specs.Calls.{OnlyReads}
 use Rattle.vab_device.specs.declared.device.Part.{Part}
 use Rattle.vab_device.specs.Mounted.{bytes_at}
@@ -11,6 +11,7 @@ invariant-loop-block g l = record {
       → (p : Part)
       → KeepsPart l.device l.slot l.name p
       → l.piece.items ≡ bytes_at (g.P.Disk.seen l.fn.port) (take l.block (drop l.first p.map));
+  long : length l.piece.items ≡ 4096 * l.block;
   reads : OnlyReads g.P.Disk l.fn.port l.port;
   steady : g.P.Disk.faults l.port ≡ g.P.Disk.faults l.fn.port;
 }

@@ -1,66 +1,85 @@
-use Rattle.std.proofs.Common.{◌≡◌, ◌<◌, ℕ, List, ◌++◌, length, take, sym, ◌∙◌, ap, rules, arith}
-use Rattle.std.proofs.lemmas.List.{append-nil, take_all}
-use Rattle.vab_disk.proofs.Moments.{adds_none}
-use Rattle.vab_recover.specs.Stands.{bytes_at}
+use Rattle.std.proofs.Common.{◌≡◌, ◌∙◌, ◌+◌, ◌++◌, ◌≤◌, ℕ, List, Ok, Err, take, drop, sym, ap, subst, arith, refl}
+use Rattle.std.specs.Prelude.{length}
+use Rattle.std.proofs.lemmas.List.{take_all}
+use Rattle.vab_disk.specs.Disk.{Image}
+use Rattle.vab_device.specs.Mounted.{bytes_at}
 use Rattle.vab_manager.proofs.DigestLaws.{bytes_none}
-use Rattle.vab_cli.proofs.Blocks.{told_block, front_block, time_block, count_kept}
+use Rattle.vab_cli.specs.declared.status.Status.{Status}
+use Rattle.vab_cli.specs.Telling.{Says}
+use Rattle.vab_cli.proofs.Blocks.{bytes_piece, bytes_rest, count_kept}
+use Rattle.vab_cli.proofs.Saying.{says_none, says_on, says_front}
 use Rattle.vab_cli.proofs.printing.tell_blocks.Goals as goal
 
-pub loop-block-init : goal.loop-block-init
-loop-block-init g c = record {
-  told = λ t p kept. sym (append-nil (g.P.Disk.told c.args.port.now)) ∙ ap (λ (l : List ℕ). g.P.Disk.told c.args.port.now ++ l) (sym (bytes_none (g.P.Disk.seen c.args.port.now)));
-  size = search rules;
-  seen = search rules;
-  crash = search rules;
-  time = λ t p kept. adds_none g.P.Disk.moment g.P.Disk.outcomes _ _;
-  counts = search rules;
+pub loop-done-init : goal.loop-done-init
+loop-done-init g c = record {
+  within = omega arith;
+  size = refl;
+  steady = refl;
+  says = λ t p kept.
+      subst (λ (l : List ℕ). Says g.P.Disk {A = Unit {0}} {E = Status} l c.args.port.now c.args.port.now (Ok tt))
+      (sym (bytes_none (g.P.Disk.seen c.args.port.now)))
+      (says_none g.P.Disk tt c.args.port.now);
 }
 
-pub returns-in_err-tell_block-clause-front : goal.returns-in_err-tell_block-clause-front
-returns-in_err-tell_block-clause-front g c = λ t p kept.
-    let i = c.loop-block.invariant in
-    let count = count_kept c.args.device.now c.args.slot c.args.name.now p c.args.blocks kept c.requires.part in
-    let lt : c.loop-block.block < length p.map = omega (arith, c.loop-block-test.true, count) in
-    let more = c.tell_block.ensures.front t p kept in
-    front_block (g.P.Disk.told c.args.port.now) (g.P.Disk.told c.loop-block.port) (g.P.Disk.told c.tell_block.new.port) (g.P.Disk.seen c.loop-block.port) (g.P.Disk.seen c.args.port.now) p.map c.loop-block.block more.0 lt (i.seen t) (i.told t p kept) more.1
+pub returns-in-Err-clause-says : goal.returns-in-Err-clause-says
+returns-in-Err-clause-says g c = λ t p kept.
+    let i = c.loop-done.invariant in
+    let old = c.args.port.now in
+    let mid = c.loop-done.port in
+    let new = c.tell_piece.new.port in
+    let image = g.P.Disk.seen old in
+    let done = c.loop-done.done in
+    let count = c.next_count-count.result in
+    let before = i.says t p kept in
+    let status = c.in-Err.status in
+    let piece = subst
+        (λ (x : Image).
+        Says g.P.Disk {A = Unit {0}} {E = Status} (bytes_at x (take count (drop done p.map))) mid new
+        (Err status))
+        before.seen (c.in-Err.ensures.says t p kept) in
+    let both = says_on g.P.Disk (bytes_at image (take done p.map))
+        (bytes_at image (take count (drop done p.map))) old mid new tt (Err status) before piece in
+    subst (λ (l : List ℕ). Says g.P.Disk {A = Unit {0}} {E = Status} l old new (Err status))
+    (bytes_rest image p.map done count)
+    (says_front g.P.Disk
+    (bytes_at image (take done p.map) ++ bytes_at image (take count (drop done p.map)))
+    (bytes_at image (drop (done + count) p.map)) old new status both)
 
-pub returns-in_err-tell_block-clause-time : goal.returns-in_err-tell_block-clause-time
-returns-in_err-tell_block-clause-time g c = λ t p kept.
-    let i = c.loop-block.invariant in
-    let count = count_kept c.args.device.now c.args.slot c.args.name.now p c.args.blocks kept c.requires.part in
-    let lt : c.loop-block.block < length p.map = omega (arith, c.loop-block-test.true, count) in
-    time_block g.P.Disk.moment g.P.Disk.outcomes c.args.port.now c.loop-block.port c.tell_block.new.port (g.P.Disk.told c.args.port.now) (g.P.Disk.told c.loop-block.port) (g.P.Disk.seen c.loop-block.port) (g.P.Disk.seen c.args.port.now) p.map c.loop-block.block (g.P.Disk.may_leave c.args.port.now) (g.P.Disk.may_leave c.loop-block.port) lt (i.seen t) (i.told t p kept) (i.crash t) (i.time t p kept) (c.tell_block.ensures.time t p kept)
-
-pub loop-block-preserved : goal.loop-block-preserved
-loop-block-preserved g c =
-    let i = c.loop-block.invariant in
+pub loop-done-preserved : goal.loop-done-preserved
+loop-done-preserved g c =
+    let i = c.loop-done.invariant in
+    let done = c.loop-done.done in
+    let count = c.next_count-count.result in
     record {
-      told = λ t p kept.
-          let count = count_kept c.args.device.now c.args.slot c.args.name.now p c.args.blocks kept c.requires.part in
-          let lt : c.loop-block.block < length p.map = omega (arith, c.loop-block-test.true, count) in
-          told_block (g.P.Disk.told c.args.port.now) (g.P.Disk.told c.loop-block.port) (g.P.Disk.told c.tell_block.new.port) (g.P.Disk.seen c.loop-block.port) (g.P.Disk.seen c.args.port.now) p.map c.loop-block.block lt (i.seen t) (i.told t p kept) (c.in_ok-tell_block.ensures.told t p kept);
-      size = c.tell_block.ensures.size ∙ i.size;
-      seen = λ t. c.tell_block.ensures.seen t ∙ i.seen t;
-      crash = search rules;
-      time = λ t p kept.
-          let count = count_kept c.args.device.now c.args.slot c.args.name.now p c.args.blocks kept c.requires.part in
-          let lt : c.loop-block.block < length p.map = omega (arith, c.loop-block-test.true, count) in
-          time_block g.P.Disk.moment g.P.Disk.outcomes c.args.port.now c.loop-block.port c.tell_block.new.port (g.P.Disk.told c.args.port.now) (g.P.Disk.told c.loop-block.port) (g.P.Disk.seen c.loop-block.port) (g.P.Disk.seen c.args.port.now) p.map c.loop-block.block (g.P.Disk.may_leave c.args.port.now) (g.P.Disk.may_leave c.loop-block.port) lt (i.seen t) (i.told t p kept) (i.crash t) (i.time t p kept) (c.tell_block.ensures.time t p kept);
-      counts = search rules;
+      within = omega (arith, c.next_count-count.ensures.fits, c.loop-done-test.true);
+      size = c.tell_piece.ensures.size ∙ i.size;
+      steady = c.in-Ok.ensures.steady ∙ i.steady;
+      says = λ t p kept.
+          let old = c.args.port.now in
+          let mid = c.loop-done.port in
+          let new = c.tell_piece.new.port in
+          let image = g.P.Disk.seen old in
+          let before = i.says t p kept in
+          let piece = subst
+              (λ (x : Image).
+              Says g.P.Disk {A = Unit {0}} {E = Status} (bytes_at x (take count (drop done p.map)))
+              mid new (Ok tt))
+              before.seen (c.in-Ok.ensures.says t p kept) in
+          subst (λ (l : List ℕ). Says g.P.Disk {A = Unit {0}} {E = Status} l old new (Ok tt))
+          (bytes_piece image p.map done count)
+          (says_on g.P.Disk (bytes_at image (take done p.map))
+          (bytes_at image (take count (drop done p.map))) old mid new tt (Ok tt) before piece);
     }
 
-pub returns-clause-told : goal.returns-clause-told
-returns-clause-told g c = λ t p kept.
-    let i = c.loop-block.invariant in
-    let count = count_kept c.args.device.now c.args.slot c.args.name.now p c.args.blocks kept c.requires.part in
-    let all : take c.loop-block.block p.map ≡ p.map = take_all c.loop-block.block p.map (omega (arith, c.loop-block-test.false, count)) in
-    i.told t p kept ∙ ap (λ (m : List ℕ). g.P.Disk.told c.args.port.now ++ bytes_at (g.P.Disk.seen c.args.port.now) m) all
-
-pub returns-clause-front : goal.returns-clause-front
-returns-clause-front g c = λ t p kept.
-    let i = c.loop-block.invariant in
-    let count = count_kept c.args.device.now c.args.slot c.args.name.now p c.args.blocks kept c.requires.part in
-    let all : take c.loop-block.block p.map ≡ p.map = take_all c.loop-block.block p.map (omega (arith, c.loop-block-test.false, count)) in
-    let bytes = bytes_at (g.P.Disk.seen c.args.port.now) p.map in
-    let told = i.told t p kept ∙ ap (λ (m : List ℕ). g.P.Disk.told c.args.port.now ++ bytes_at (g.P.Disk.seen c.args.port.now) m) all in
-    (length bytes, told ∙ ap (λ (l : List ℕ). g.P.Disk.told c.args.port.now ++ l) (sym (take_all (length bytes) bytes (omega arith))))
+pub returns-clause-says : goal.returns-clause-says
+returns-clause-says g c = λ t p kept.
+    let i = c.loop-done.invariant in
+    let count = count_kept c.args.device.now c.args.slot c.args.name.now p c.args.blocks kept
+        c.requires.part in
+    let all : take c.loop-done.done p.map ≡ p.map =
+    take_all c.loop-done.done p.map (omega (arith, c.loop-done-test.false, count)) in
+    subst
+    (λ (l : List ℕ).
+    Says g.P.Disk {A = Unit {0}} {E = Status} (bytes_at (g.P.Disk.seen c.args.port.now) l)
+    c.args.port.now c.loop-done.port (Ok tt))
+    all (i.says t p kept)

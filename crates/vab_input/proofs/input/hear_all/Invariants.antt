@@ -1,5 +1,5 @@
 use Rattle.std.proofs.Common.{◌≡◌, ◌≤◌, ◌-◌, ◌++◌, length}
-use Rattle.vab_disk.specs.Disk.{Adds, Nothing, SameHoldings, NoFewer}
+use Rattle.vab_disk.specs.Disk.{Adds, Nothing, SameHoldings}
 use Rattle.vab_input.proofs.input.hear_all.Given as goal
 
 abbrev pub invariant-loop-heard : goal.invariant-loop-heard
@@ -11,7 +11,7 @@ invariant-loop-heard g l = record {
   crash : g.P.Disk.is_modelled → SameHoldings (g.P.Disk.may_leave l.fn.p) (g.P.Disk.may_leave l.p);
   told : g.P.Disk.is_modelled → g.P.Disk.told l.p ≡ g.P.Disk.told l.fn.p;
   time : g.P.Disk.is_modelled → Adds g.P.Disk.moment g.P.Disk.outcomes l.fn.p l.p Nothing;
-  counts : NoFewer (g.P.Disk.faults l.fn.p) (g.P.Disk.faults l.p);
+  steady : g.P.Disk.faults l.p ≡ g.P.Disk.faults l.fn.p;
 }
 
 abbrev pub decreases-loop-heard : goal.decreases-loop-heard
