@@ -24,7 +24,8 @@ use Rattle.vab_exchanges.specs.Items.{Item}
 use Rattle.vab_exchanges.specs.Runs.{LeavesItem}
 use Rattle.vab_exchanges.proofs.RunLaws.{telling}
 use Rattle.vab_cli.specs.Telling.{DoesItem, Says}
-use Rattle.vab_cli.specs.Verbs.{command_item, line_item, nothing_staged}
+use Rattle.vab_session.specs.Served.{nothing_staged}
+use Rattle.vab_cli.specs.Verbs.{command_item, line_item}
 
 on_ok : {A E P : Type 0} (r : Result A E) → P → OnOk r P
 on_ok (Ok x) p = p

@@ -17,6 +17,7 @@ use Rattle.vab_words.specs.Verbs.{Meaning, Make, Serve}
 use Rattle.vab_exchanges.specs.Session.{Exchange, End, IsSession}
 use Rattle.vab_exchanges.specs.Items.{output_of}
 use Rattle.vab_session.specs.Responses.{response}
+use Rattle.vab_session.specs.Served.{nothing_staged}
 use Rattle.vab_cli.specs.declared.status.Status.{Status}
 use Rattle.vab_cli.specs.declared.status.Status.TheVariants.{Done, Usage, Malformed, NotADevice}
 use Rattle.vab_cli.specs.declared.status.Status.TheVariants.{Disk, Port, NoMemory}
@@ -24,7 +25,7 @@ use Rattle.vab_cli.specs.Codes.{make_status}
 use Rattle.vab_cli.specs.Counts.{HearsNothing, IsSteady}
 use Rattle.vab_cli.specs.Runs.{SaysEnd, Held, NoFault, RunsSession, RunsItem, FailsBefore, RunsNone}
 use Rattle.vab_cli.specs.Runs.{RunsRefused, RunsMaking, FailsMaking}
-use Rattle.vab_cli.specs.Verbs.{command_of, none_line, nothing_staged, verb_item, verb_status}
+use Rattle.vab_cli.specs.Verbs.{command_of, none_line, verb_item, verb_status}
 use Rattle.vab_cli.specs.Verbs.{make_line, done_making}
 
 -- The whole session of the input is told, as it ends.

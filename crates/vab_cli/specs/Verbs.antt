@@ -21,7 +21,8 @@ use Rattle.vab_lines.specs.Lines.{refused_line as refused_because}
 use Rattle.vab_words.specs.Verbs.{Meaning}
 use Rattle.vab_words.specs.Verbs as words
 use Rattle.vab_fbproto.specs.Texts.{slot_letter, refusal_text}
-use Rattle.vab_exchanges.specs.Items.{Kept, Item}
+use Rattle.vab_exchanges.specs.Items.{Item}
+use Rattle.vab_session.specs.Served.{nothing_staged}
 use Rattle.vab_cli.specs.declared.status.Status.{Status}
 use Rattle.vab_cli.specs.Codes.{reply_status}
 
@@ -81,10 +82,6 @@ told_of s Mark = command_line s Mark
 told_of s (Digest name) = command_line s (Digest name)
 
 -- ---- items
-
--- a device for which no data are staged
-abbrev pub nothing_staged : Mounted → Kept Mounted
-nothing_staged m = record { now = m; staged = None }
 
 -- this is told of a command
 abbrev pub command_item : Mounted → Command → List ℕ → Item Mounted

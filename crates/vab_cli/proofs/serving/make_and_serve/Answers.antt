@@ -1,19 +1,25 @@
-use Rattle.std.proofs.Common.{◌≡◌, ◌≢◌, ◌<◌, ◌⊎◌, inl, inr, ℕ, List, [], Ok, Err, None, Some, sym, ◌∙◌, ap, subst, ◌^◌, rules}
-use Rattle.vab_disk.specs.Disk.{IsSettled, Adds}
-use Rattle.vab_device.specs.Device.{device}
-use Rattle.vab_recover.specs.Stands.{LeavesSame}
+use Rattle.std.proofs.Common.{◌≡◌, ◌≢◌, ◌<◌, ◌⊎◌, ◌∙◌, ⊎_elim, inl, inr, ℕ, List, [], Ok, Err, None, Some}
+use Rattle.std.proofs.Common.{refl, sym, ap, subst, ◌^◌, rules}
+use Rattle.vab_disk.specs.Disk.{Adds}
+use Rattle.vab_disk.specs.Calls.{IsAtRest, OnlyReads}
+use Rattle.vab_disk.proofs.CallLaws.{reads_none}
+use Rattle.vab_device.specs.Reading.{device, IsIn, Represents}
+use Rattle.vab_device.proofs.ReadingLaws.{device_stands}
+use Rattle.vab_recover.specs.Opened.{LeavesSame}
 use Rattle.vab_set.specs.declared.set.SetImage.{SetImage}
 use Rattle.vab_make.specs.declared.fault.MakeFault.TheVariants as make
-use Rattle.vab_make.specs.Made.{refusal_of}
+use Rattle.vab_make.specs.Made.{refusal_of, made_device_of}
 use Rattle.vab_make.specs.Making.{Gives, IsMade, LeavesMaking}
-use Rattle.vab_session.specs.Items.{IsIn}
+use Rattle.vab_session.specs.Served.{ServesDevice}
 use Rattle.vab_cli.specs.declared.status.Status.{Status}
 use Rattle.vab_cli.specs.declared.status.Status.TheVariants.{NotADevice, NoMemory}
 use Rattle.vab_cli.specs.Codes.{start_status}
 use Rattle.vab_cli.specs.Opening.{Opens}
-use Rattle.vab_cli.specs.Headline.{IsEarly, RunsSession, made_mounted}
-use Rattle.vab_cli.proofs.Running.{contents_of, early_of, is_one, opened_in}
-use Rattle.vab_cli.proofs.Sessions.{fresh_enough, fresh_small, made_early, made_small, small_unwritten, making_failed, opening_failed, made_runs, opens_made, sized_serves}
+use Rattle.vab_cli.specs.Runs.{IsEarly, RunsSession}
+use Rattle.vab_cli.proofs.Makings.{refused_unheard}
+use Rattle.vab_cli.proofs.Running.{contents_of, early_of, is_one}
+use Rattle.vab_cli.proofs.Sessions.{fresh_enough, fresh_small, made_early, made_small, small_unwritten}
+use Rattle.vab_cli.proofs.Sessions.{making_failed, opening_failed, made_runs, opens_sized}
 use Rattle.vab_cli.proofs.serving.make_and_serve.Goals as goal
 
 pub returns-in-Err-clause-runs : goal.returns-in-Err-clause-runs
@@ -21,41 +27,82 @@ returns-in-Err-clause-runs g c = λ t enough.
     let old = c.args.port.now in
     let size = g.P.Disk.size old in
     let set : c.from_vec-set.result ≡ [] = search rules in
-    let gives : Gives {A = Unit {0}} (Err c.in-Err.fault) None = subst (λ said. Gives {A = Unit {0}} (Err c.in-Err.fault) said) (ap (λ (x : List SetImage). refusal_of x 0 65536 size) set ∙ fresh_enough size enough) c.in-Err.ensures.exact in
-    let early : IsEarly c.from.result = subst IsEarly (sym c.from.ensures) (made_early c.in-Err.fault gives) in
-    inr (making_failed g.P.Disk g.met.P.Disk.only_now size [] 0 65536 old c.make_device.new.d c.from.result early (c.make_device.ensures.touches.quiet.told t)
-    (subst (λ (x : List SetImage). IsAtRest g.P.Disk old → Adds g.P.Disk.moment g.P.Disk.outcomes old c.make_device.new.d (LeavesMaking (g.P.Disk.told old) x 0 65536 size (g.P.Disk.seen old))) set (c.make_device.ensures.time t)))
+    let gives : Gives {A = Unit {0}} (Err c.in-Err.fault) None =
+    subst (λ said. Gives {A = Unit {0}} (Err c.in-Err.fault) said)
+    (ap (λ (x : List SetImage). refusal_of x 0 65536 size) set ∙ fresh_enough size enough)
+    c.in-Err.ensures.exact in
+    let early : IsEarly c.from.result =
+    subst IsEarly (sym c.from.ensures) (made_early c.in-Err.fault gives) in
+    inr (making_failed g.P.Disk g.met.P.Disk.only_now size [] 0 65536 old c.make_device.new.d
+    c.from.result early (c.make_device.ensures.touches.quiet.told t)
+    (subst
+    (λ (x : List SetImage).
+    IsAtRest g.P.Disk old
+    → Adds g.P.Disk.moment g.P.Disk.outcomes old c.make_device.new.d
+      (LeavesMaking (g.P.Disk.told old) x 0 65536 size (g.P.Disk.seen old)))
+    set (c.make_device.ensures.time t)))
 
 pub returns-in-Err-clause-small : goal.returns-in-Err-clause-small
-returns-in-Err-clause-small g c = λ small.
-    let size = g.P.Disk.size c.args.port.now in
+returns-in-Err-clause-small g c = λ t small.
+    let old = c.args.port.now in
+    let new = c.make_device.new.d in
+    let size = g.P.Disk.size old in
     let set : c.from_vec-set.result ≡ [] = search rules in
-    let gives : Gives {A = Unit {0}} (Err c.in-Err.fault) (Some (make.TooSmall 6152 size)) = subst (λ said. Gives {A = Unit {0}} (Err c.in-Err.fault) said) (ap (λ (x : List SetImage). refusal_of x 0 65536 size) set ∙ fresh_small size small) c.in-Err.ensures.exact in
-    subst (λ (x : Status). (x ≡ NotADevice) ⊎ (x ≡ NoMemory)) (sym c.from.ensures) (made_small c.in-Err.fault 6152 size gives)
+    let gives : Gives {A = Unit {0}} (Err c.in-Err.fault) (Some (make.TooSmall 6152 size)) =
+    subst (λ said. Gives {A = Unit {0}} (Err c.in-Err.fault) said)
+    (ap (λ (x : List SetImage). refusal_of x 0 65536 size) set ∙ fresh_small size small)
+    c.in-Err.ensures.exact in
+    let reads = subst (λ (x : g.row.P.Denot). OnlyReads g.P.Disk old x)
+        (sym (c.in-Err.ensures.untouched (small_unwritten c.in-Err.fault 6152 size gives)))
+        (reads_none g.P.Disk old) in
+    refused_unheard g.P.Disk g.met.P.Disk.only_now size [] NotADevice old new c.from.result
+    (c.make_device.ensures.touches.quiet.told t) (reads.seen t) (reads.time t) (λ memory. refl)
+    (λ port. cc)
+    (⊎_elim
+    (λ none. inl (c.from.ensures ∙ none, refl))
+    (λ memory. inr (inr (c.from.ensures ∙ memory)))
+    (made_small c.in-Err.fault 6152 size gives))
 
-pub returns-in-Err-clause-untold : goal.returns-in-Err-clause-untold
-returns-in-Err-clause-untold g c = λ t small.
+pub returns-in-Err-clause-too_small : goal.returns-in-Err-clause-too_small
+returns-in-Err-clause-too_small g c = λ small.
     let size = g.P.Disk.size c.args.port.now in
     let set : c.from_vec-set.result ≡ [] = search rules in
-    let gives : Gives {A = Unit {0}} (Err c.in-Err.fault) (Some (make.TooSmall 6152 size)) = subst (λ said. Gives {A = Unit {0}} (Err c.in-Err.fault) said) (ap (λ (x : List SetImage). refusal_of x 0 65536 size) set ∙ fresh_small size small) c.in-Err.ensures.exact in
-    let same = c.in-Err.ensures.untouched (small_unwritten c.in-Err.fault 6152 size gives) in
-    (c.make_device.ensures.touches.quiet.told t, ap g.P.Disk.seen same)
+    let gives : Gives {A = Unit {0}} (Err c.in-Err.fault) (Some (make.TooSmall 6152 size)) =
+    subst (λ said. Gives {A = Unit {0}} (Err c.in-Err.fault) said)
+    (ap (λ (x : List SetImage). refusal_of x 0 65536 size) set ∙ fresh_small size small)
+    c.in-Err.ensures.exact in
+    subst (λ (x : Status). (x ≡ NotADevice) ⊎ (x ≡ NoMemory)) (sym c.from.ensures)
+    (made_small c.in-Err.fault 6152 size gives)
 
 -- a device isn't made where there are too few sectors
-not_small : {R : Type 0} (size : ℕ) (set : List SetImage) → set ≡ [] → Gives {A = Unit {0}} (Ok tt) (refusal_of set 0 65536 size) → size < 6152 → R
-not_small size set is gives small = let refused = ap (λ (x : List SetImage). refusal_of x 0 65536 size) is ∙ fresh_small size small in cc
+not_small : {R : Type 0} (size : ℕ) (set : List SetImage)
+    → set ≡ []
+    → Gives {A = Unit {0}} (Ok tt) (refusal_of set 0 65536 size)
+    → size < 6152
+    → R
+not_small size set is gives small =
+    let refused = ap (λ (x : List SetImage). refusal_of x 0 65536 size) is ∙ fresh_small size small in
+    cc
 
 pub returns-in-Err-start-clause-small : goal.returns-in-Err-start-clause-small
-returns-in-Err-start-clause-small g c = λ small. not_small (g.P.Disk.size c.args.port.now) c.from_vec-set.result (search rules) c.in-Ok.ensures.exact small
+returns-in-Err-start-clause-small g c = λ t small.
+    not_small (g.P.Disk.size c.args.port.now) c.from_vec-set.result (search rules)
+    c.in-Ok.ensures.exact small
 
-pub returns-in-Err-start-clause-untold : goal.returns-in-Err-start-clause-untold
-returns-in-Err-start-clause-untold g c = λ t small. not_small (g.P.Disk.size c.args.port.now) c.from_vec-set.result (search rules) c.in-Ok.ensures.exact small
+pub returns-in-Err-start-clause-too_small : goal.returns-in-Err-start-clause-too_small
+returns-in-Err-start-clause-too_small g c = λ small.
+    not_small (g.P.Disk.size c.args.port.now) c.from_vec-set.result (search rules)
+    c.in-Ok.ensures.exact small
 
 pub returns-clause-small : goal.returns-clause-small
-returns-clause-small g c = λ small. not_small (g.P.Disk.size c.args.port.now) c.from_vec-set.result (search rules) c.in-Ok.ensures.exact small
+returns-clause-small g c = λ t small.
+    not_small (g.P.Disk.size c.args.port.now) c.from_vec-set.result (search rules)
+    c.in-Ok.ensures.exact small
 
-pub returns-clause-untold : goal.returns-clause-untold
-returns-clause-untold g c = λ t small. not_small (g.P.Disk.size c.args.port.now) c.from_vec-set.result (search rules) c.in-Ok.ensures.exact small
+pub returns-clause-too_small : goal.returns-clause-too_small
+returns-clause-too_small g c = λ small.
+    not_small (g.P.Disk.size c.args.port.now) c.from_vec-set.result (search rules)
+    c.in-Ok.ensures.exact small
 
 pub returns-in-Err-start-clause-runs : goal.returns-in-Err-start-clause-runs
 returns-in-Err-start-clause-runs g c = λ t enough.
@@ -64,13 +111,30 @@ returns-in-Err-start-clause-runs g c = λ t enough.
     let size = g.P.Disk.size old in
     let sized : g.P.Disk.size mid ≡ size = c.make_device.ensures.touches.quiet.size in
     let set : c.from_vec-set.result ≡ [] = search rules in
-    let made : IsMade [] 0 65536 size (g.P.Disk.seen mid) = subst (λ (x : List SetImage). IsMade x 0 65536 size (g.P.Disk.seen mid)) set (c.in-Ok.ensures.made t) in
-    let there : IsIn size (made_mounted [] 0 65536 size) (g.P.Disk.seen mid) = record { state = made.state; places = made.places } in
-    let other : start_status c.in-Err-start.fault ≢ NotADevice = λ is. is_one size (made_mounted [] 0 65536 size) (g.P.Disk.seen mid) c.in-Err-start.fault there (subst (λ (n : ℕ). device n (g.P.Disk.seen mid) ≡ Err c.in-Err-start.fault) sized (c.in-Err-start.ensures.fault t (contents_of c.in-Err-start.fault is))) in
-    let early : IsEarly c.from-in-Err-start.result = subst IsEarly (sym c.from-in-Err-start.ensures) (early_of c.in-Err-start.fault other) in
-    inr (opening_failed g.P.Disk g.met.P.Disk.only_now size [] 0 65536 old mid c.start.new.d c.from-in-Err-start.result early (c.make_device.ensures.touches.quiet.told t) (c.start.ensures.quiet.told t) made (c.in-Ok.ensures.settled t)
-    (subst (λ (x : List SetImage). IsAtRest g.P.Disk old → Adds g.P.Disk.moment g.P.Disk.outcomes old mid (LeavesMaking (g.P.Disk.told old) x 0 65536 size (g.P.Disk.seen old))) set (c.make_device.ensures.time t))
-    (subst (λ (n : ℕ). IsAtRest g.P.Disk mid → Adds g.P.Disk.moment g.P.Disk.outcomes mid c.start.new.d (LeavesSame (g.P.Disk.told mid) n (g.P.Disk.seen mid))) sized (c.start.ensures.time t)))
+    let made : IsMade [] 0 65536 size (g.P.Disk.seen mid) =
+    subst (λ (x : List SetImage). IsMade x 0 65536 size (g.P.Disk.seen mid)) set
+    (c.in-Ok.ensures.made t) in
+    let other : start_status c.in-Err-start.fault ≢ NotADevice = λ is.
+    is_one size (made_device_of [] 0 65536 size) (g.P.Disk.seen mid) c.in-Err-start.fault made
+    (subst (λ (n : ℕ). device n (g.P.Disk.seen mid) ≡ Err c.in-Err-start.fault) sized
+    (c.in-Err-start.ensures.fault t (contents_of c.in-Err-start.fault is))) in
+    let early : IsEarly c.from-in-Err-start.result =
+    subst IsEarly (sym c.from-in-Err-start.ensures) (early_of c.in-Err-start.fault other) in
+    inr (opening_failed g.P.Disk g.met.P.Disk.only_now size [] 0 65536 old mid c.start.new.d
+    c.from-in-Err-start.result early (c.make_device.ensures.touches.quiet.told t)
+    (c.start.ensures.quiet.told t) made (c.in-Ok.ensures.settled t)
+    (subst
+    (λ (x : List SetImage).
+    IsAtRest g.P.Disk old
+    → Adds g.P.Disk.moment g.P.Disk.outcomes old mid
+      (LeavesMaking (g.P.Disk.told old) x 0 65536 size (g.P.Disk.seen old)))
+    set (c.make_device.ensures.time t))
+    (subst
+    (λ (n : ℕ).
+    IsAtRest g.P.Disk mid
+    → Adds g.P.Disk.moment g.P.Disk.outcomes mid c.start.new.d
+      (LeavesSame (g.P.Disk.told mid) n (g.P.Disk.seen mid)))
+    sized (c.start.ensures.time t)))
 
 pub returns-clause-runs : goal.returns-clause-runs
 returns-clause-runs g c = λ t enough.
@@ -79,15 +143,43 @@ returns-clause-runs g c = λ t enough.
     let now = c.start.new.d in
     let new = c.serve-answer.new.p in
     let size = g.P.Disk.size old in
-    let first = made_mounted [] 0 65536 size in
+    let first = made_device_of [] 0 65536 size in
     let sized : g.P.Disk.size mid ≡ size = c.make_device.ensures.touches.quiet.size in
     let sized_now : g.P.Disk.size now ≡ size = c.start.ensures.quiet.size ∙ sized in
     let set : c.from_vec-set.result ≡ [] = search rules in
-    let made : IsMade [] 0 65536 size (g.P.Disk.seen mid) = subst (λ (x : List SetImage). IsMade x 0 65536 size (g.P.Disk.seen mid)) set (c.in-Ok.ensures.made t) in
-    let there : IsIn size first (g.P.Disk.seen mid) = record { state = made.state; places = made.places } in
-    let opens : Opens g.P.Disk size mid now = opens_made g.P.Disk (g.P.Disk.size mid) size mid now _ sized (c.start.ensures.quiet.told t) (c.start.ensures.quiet.left t) (c.in-Ok-start.ensures.device t) (let stands = c.in-Ok-start.ensures.stands t in stands.state) (c.in-Ok-start.ensures.places t) (c.in-Ok-start.ensures.settled t) (c.start.ensures.time t) in
-    let here = opened_in g.P.Disk g.met.P.Disk.only_now size mid now first opens there in
-    let serves = sized_serves g.P.Disk (g.P.Disk.size now) size (2 ^ 44) now new c.serve-answer.result sized_now (c.serve-answer.ensures.serves t) first here in
-    let runs = made_runs g.P.Disk g.met.P.Disk.only_now size [] 0 65536 old mid now new c.serve-answer.result (c.make_device.ensures.touches.quiet.told t) (c.make_device.ensures.touches.quiet.left t) made (c.in-Ok.ensures.settled t)
-    (subst (λ (x : List SetImage). IsAtRest g.P.Disk old → Adds g.P.Disk.moment g.P.Disk.outcomes old mid (LeavesMaking (g.P.Disk.told old) x 0 65536 size (g.P.Disk.seen old))) set (c.make_device.ensures.time t)) opens serves in
-    inl (subst (λ (x : Status). RunsSession g.P.Disk size (IsAtRest g.P.Disk old) (LeavesMaking (g.P.Disk.told old) [] 0 65536 size (g.P.Disk.seen old)) first old new x) (sym c.session_status.ensures) runs)
+    let d = c.in-Ok-start.device in
+    let made : IsMade [] 0 65536 size (g.P.Disk.seen mid) =
+    subst (λ (x : List SetImage). IsMade x 0 65536 size (g.P.Disk.seen mid)) set
+    (c.in-Ok.ensures.made t) in
+    let opens : Opens g.P.Disk size mid now = opens_sized g.P.Disk (g.P.Disk.size mid) size mid now sized
+    (record {
+      told = c.start.ensures.quiet.told t;
+      left = c.start.ensures.quiet.left t;
+      heard = c.start.ensures.quiet.heard t;
+      device = device_stands d _ _ (c.in-Ok-start.ensures.represents t)
+          ∙ sym (c.in-Ok-start.ensures.device t);
+      settled = c.in-Ok-start.ensures.settled t;
+      time = c.start.ensures.time t;
+    }) in
+    let represents : Represents d size (g.P.Disk.seen now) =
+    subst (λ (n : ℕ). Represents d n (g.P.Disk.seen now)) sized
+    (c.in-Ok-start.ensures.represents t) in
+    let serves = subst
+        (λ (n : ℕ). ServesDevice n g.P.Disk d (2 ^ 44) now new c.serve-answer.result)
+        sized_now (c.serve-answer.ensures.serves t) in
+    let runs = made_runs g.P.Disk g.met.P.Disk.only_now size [] 0 65536 d old mid now new
+        c.serve-answer.result
+        (c.make_device.ensures.touches.quiet.told t) (c.make_device.ensures.touches.quiet.left t)
+        (c.make_device.ensures.touches.quiet.heard t) made (c.in-Ok.ensures.settled t)
+        (subst
+        (λ (x : List SetImage).
+        IsAtRest g.P.Disk old
+        → Adds g.P.Disk.moment g.P.Disk.outcomes old mid
+          (LeavesMaking (g.P.Disk.told old) x 0 65536 size (g.P.Disk.seen old)))
+        set (c.make_device.ensures.time t))
+        opens represents serves in
+    inl (subst
+    (λ (x : Status).
+    RunsSession g.P.Disk size
+    (LeavesMaking (g.P.Disk.told old) [] 0 65536 size (g.P.Disk.seen old)) first old new x)
+    (sym c.session_status.ensures) runs)

@@ -1,10 +1,10 @@
-use Rattle.vab_cli.proofs.serving.open_and_serve.Goals as goal
-use Rattle.std.proofs.Common.{inl, sym, subst, ◌^◌}
-use Rattle.vab_session.specs.Items.{IsAtRest}
+use Rattle.std.proofs.Common.{◌≡◌, inl, ℕ, sym, subst, ◌^◌}
+use Rattle.vab_device.specs.Reading.{Represents}
+use Rattle.vab_session.specs.Served.{ServesDevice}
 use Rattle.vab_cli.specs.declared.status.Status.{Status}
-use Rattle.vab_cli.specs.Headline.{RunsSession}
-use Rattle.vab_cli.proofs.Running.{opened_in}
-use Rattle.vab_cli.proofs.Sessions.{opened_runs, sized_serves}
+use Rattle.vab_cli.specs.Runs.{RunsSession}
+use Rattle.vab_cli.proofs.Sessions.{opened_runs}
+use Rattle.vab_cli.proofs.serving.open_and_serve.Goals as goal
 
 pub returns-clause-runs : goal.returns-clause-runs
 returns-clause-runs g c = λ t s stands.
@@ -12,8 +12,12 @@ returns-clause-runs g c = λ t s stands.
     let mid = c.open.new.port in
     let new = c.serve-answer.new.p in
     let size = g.P.Disk.size old in
-    let opens = c.in-Ok.ensures.opens t in
-    let here = opened_in g.P.Disk g.met.P.Disk.only_now size old mid s opens stands in
-    let serves = sized_serves g.P.Disk (g.P.Disk.size mid) size (2 ^ 44) mid new c.serve-answer.result c.open.ensures.size (c.serve-answer.ensures.serves t) s here in
-    let runs = opened_runs g.P.Disk g.met.P.Disk.only_now size s old mid new c.serve-answer.result opens here serves in
-    inl (subst (λ (x : Status). RunsSession g.P.Disk size (IsAtRest g.P.Disk.seen g.P.Disk.may_leave size old s) (λ o. ⊥) s old new x) (sym c.session_status.ensures) runs)
+    let d = c.in-Ok.device in
+    let serves = subst
+        (λ (n : ℕ). ServesDevice n g.P.Disk d (2 ^ 44) mid new c.serve-answer.result)
+        c.open.ensures.size (c.serve-answer.ensures.serves t) in
+    let runs = opened_runs g.P.Disk g.met.P.Disk.only_now size d s old mid new c.serve-answer.result
+        (c.in-Ok.ensures.opens t) stands (c.in-Ok.ensures.represents t) serves in
+    inl (subst
+    (λ (x : Status). RunsSession g.P.Disk size (λ o. ⊥) s old new x)
+    (sym c.session_status.ensures) runs)

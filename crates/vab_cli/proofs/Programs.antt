@@ -1,0 +1,259 @@
+-- What the verbs do, by what their functions do.
+use Rattle.std.proofs.Common.{◌≡◌, ◌≢◌, ◌⊎◌, ◌∙◌, inl, inr, ⊎_elim, ◌≤◌, ◌<◌, ◌^◌, ◌++◌, ℕ, List, [], length}
+use Rattle.std.proofs.Common.{true, false, None, Some, Ok, Err, refl, sym, ap, subst}
+use Rattle.vab_disk.specs.declared.disk.Disk.{Ghosts}
+use Rattle.vab_disk.specs.Disk.{Rose}
+use Rattle.vab_set.specs.Reading.{set_of}
+use Rattle.vab_set.specs.declared.set.SetImage.{SetImage}
+use Rattle.vab_set.specs.declared.fault.SetFault.{SetFault}
+use Rattle.vab_model.specs.Commands.{Command}
+use Rattle.vab_device.specs.declared.fault.StartFault.{StartFault}
+use Rattle.vab_device.specs.Mounted.{Mounted}
+use Rattle.vab_device.specs.Reading.{device, IsIn}
+use Rattle.vab_make.specs.declared.fault.MakeFault.{MakeFault}
+use Rattle.vab_make.specs.Made.{refusal_of, made_device_of}
+use Rattle.vab_make.specs.Making.{LeavesMaking}
+use Rattle.vab_words.specs.Verbs.{Meaning, Make, Serve}
+use Rattle.vab_cli.specs.declared.status.Status.{Status}
+use Rattle.vab_cli.specs.declared.status.Status.TheVariants.{Done, Usage, Malformed, NotADevice}
+use Rattle.vab_cli.specs.declared.status.Status.TheVariants.{Disk, Port, NoMemory}
+use Rattle.vab_cli.specs.Codes.{make_status}
+use Rattle.vab_cli.specs.Counts.{HearsNothing, IsSteady}
+use Rattle.vab_cli.specs.Program.{DoesVerb}
+use Rattle.vab_cli.specs.Runs.{IsEarly, IsFailed, NoFault, RunsSession, RunsItem, FailsBefore}
+use Rattle.vab_cli.specs.Runs.{RunsNone, RunsRefused, RunsMaking, FailsMaking}
+use Rattle.vab_cli.specs.Verbs.{command_of, none_line, verb_item, verb_status, make_line, done_making}
+use Rattle.vab_cli.proofs.Sessions.{completed}
+
+-- the verbs that are no command
+is_command : {R : Type 0} (m n : Meaning) (c : Command)
+    → command_of m ≡ Some c
+    → m ≡ n
+    → command_of n ≡ None
+    → R
+is_command m n c some is none = let both = sym some ∙ ap command_of is ∙ none in cc
+
+no_command : {R : Type 0} (m n : Meaning) (c : Command)
+    → m ≡ n
+    → command_of n ≡ None
+    → command_of m ≡ Some c
+    → R
+no_command m n c is none some = is_command m n c some is none
+
+module _ {D : Type 0}
+    (g : Ghosts D)
+    (m : Meaning)
+    (old new : D)
+    (status : Status)
+    (words : status ≢ Usage)
+    (steady : IsSteady g old new status)
+    (disk : status ≡ Disk → Rose (g.faults old).disk (g.faults new).disk)
+    (port : status ≡ Port
+      → Rose (g.faults old).source (g.faults new).source
+        ⊎ Rose (g.faults old).sink (g.faults new).sink) where
+  no_disk : NoFault (g.faults old) (g.faults new) → status ≡ Disk → ⊥
+  no_disk none is = none.disk (disk is)
+
+  no_port : NoFault (g.faults old) (g.faults new) → status ≡ Port → ⊥
+  no_port none is = ⊎_elim none.source none.sink (port is)
+
+  -- an item is done whole
+  item_whole : (c : Command) (s : Mounted)
+      → NoFault (g.faults old) (g.faults new)
+      → RunsItem g (g.size old) s (verb_item s c) (verb_status s.state c) old new status
+        ⊎ FailsBefore g (g.size old) s old new status
+      → ((status ≡ verb_status s.state c) × (g.told new ≡ g.told old ++ (verb_item s c).reply))
+        ⊎ (status ≡ NoMemory)
+  item_whole c s none (inl runs) =
+      ⊎_elim
+      (λ is. inl (is, runs.whole is))
+      (λ failed. absurd (⊎_elim (no_disk none) (no_port none) failed))
+      runs.status_is
+  item_whole c s none (inr fails) =
+      ⊎_elim (λ is. absurd (no_disk none is)) (λ memory. inr memory) fails.early
+
+  -- a verb that is a command on a device
+  pub command_verb : (c : Command)
+      → command_of m ≡ Some c
+      → (g.is_modelled
+        → (s : Mounted)
+        → IsIn (g.size old) s (g.seen old)
+        → RunsItem g (g.size old) s (verb_item s c) (verb_status s.state c) old new status
+          ⊎ FailsBefore g (g.size old) s old new status)
+      → (g.is_modelled
+        → (fault : StartFault)
+        → device (g.size old) (g.seen old) ≡ Err fault
+        → RunsNone g (g.size old) none_line old new status)
+      → (g.is_modelled → HearsNothing g old new)
+      → DoesVerb g m old new status
+  command_verb c some runs none quiet = record {
+    item = λ t c' is s stands.
+        let same : Some c ≡ Some c' = sym some ∙ is in
+        let one : c ≡ c' = cc in
+        subst
+        (λ (x : Command).
+        RunsItem g (g.size old) s (verb_item s x) (verb_status s.state x) old new status
+        ⊎ FailsBefore g (g.size old) s old new status)
+        one (runs t s stands);
+    none = λ t c' is. none t;
+    quiet = λ t c' is. quiet t;
+    serve = λ t is. is_command m (Serve false) c some is refl;
+    none_served = λ t is. is_command m (Serve false) c some is refl;
+    fresh = λ t is. is_command m (Serve true) c some is refl;
+    small = λ t is. is_command m (Serve true) c some is refl;
+    too_small = λ is. is_command m (Serve true) c some is refl;
+    made = λ t limit max is. is_command m (Make limit max) c some is refl;
+    refused = λ t limit max is. is_command m (Make limit max) c some is refl;
+    malformed = λ t limit max is. is_command m (Make limit max) c some is refl;
+    end = λ t limit max is. is_command m (Make limit max) c some is refl;
+    disk = disk;
+    port = port;
+    steady = steady;
+    words = words;
+    complete = λ t held c' is s stands.
+        let same : Some c ≡ Some c' = sym some ∙ is in
+        let one : c ≡ c' = cc in
+        subst
+        (λ (x : Command).
+        ((status ≡ verb_status s.state x) × (g.told new ≡ g.told old ++ (verb_item s x).reply))
+        ⊎ (status ≡ NoMemory))
+        one (item_whole c s held (runs t s stands));
+    complete_serve = λ t held is. is_command m (Serve false) c some is refl;
+    complete_fresh = λ t held is. is_command m (Serve true) c some is refl;
+  }
+
+  -- a session over the device of the disk
+  pub serve_verb : m ≡ Serve false
+      → (g.is_modelled
+        → (s : Mounted)
+        → IsIn (g.size old) s (g.seen old)
+        → RunsSession g (g.size old) (λ o. ⊥) s old new status
+          ⊎ FailsBefore g (g.size old) s old new status)
+      → (g.is_modelled
+        → (fault : StartFault)
+        → device (g.size old) (g.seen old) ≡ Err fault
+        → RunsNone g (g.size old) [] old new status)
+      → DoesVerb g m old new status
+  serve_verb is runs none = record {
+    item = λ t c some. no_command m (Serve false) c is refl some;
+    none = λ t c some. no_command m (Serve false) c is refl some;
+    quiet = λ t c some. no_command m (Serve false) c is refl some;
+    serve = λ t same. runs t;
+    none_served = λ t same. none t;
+    fresh = λ t other. let both = sym is ∙ other in cc;
+    small = λ t other. let both = sym is ∙ other in cc;
+    too_small = λ other. let both = sym is ∙ other in cc;
+    made = λ t limit max other. let both = sym is ∙ other in cc;
+    refused = λ t limit max other. let both = sym is ∙ other in cc;
+    malformed = λ t limit max other. let both = sym is ∙ other in cc;
+    end = λ t limit max other. let both = sym is ∙ other in cc;
+    disk = disk;
+    port = port;
+    steady = steady;
+    words = words;
+    complete = λ t held c some. no_command m (Serve false) c is refl some;
+    complete_serve = λ t held same s stands.
+        completed g (g.size old) (λ o. ⊥) s old new status (runs t s stands) (λ fails. fails.early)
+        (no_disk held) (no_port held);
+    complete_fresh = λ t held other. let both = sym is ∙ other in cc;
+  }
+
+  -- a session over a device that is made first
+  pub fresh_verb : m ≡ Serve true
+      → (g.is_modelled
+        → 6152 ≤ g.size old
+        → RunsSession g (g.size old)
+          (LeavesMaking (g.told old) [] 0 65536 (g.size old) (g.seen old))
+          (made_device_of [] 0 65536 (g.size old)) old new status
+          ⊎ FailsMaking g (g.size old) [] 0 65536 old new status)
+      → (g.is_modelled
+        → g.size old < 6152
+        → RunsRefused g (g.size old) [] NotADevice old new status)
+      → (g.size old < 6152 → (status ≡ NotADevice) ⊎ (status ≡ NoMemory))
+      → DoesVerb g m old new status
+  fresh_verb is runs small too_small = record {
+    item = λ t c some. no_command m (Serve true) c is refl some;
+    none = λ t c some. no_command m (Serve true) c is refl some;
+    quiet = λ t c some. no_command m (Serve true) c is refl some;
+    serve = λ t other. let both = sym is ∙ other in cc;
+    none_served = λ t other. let both = sym is ∙ other in cc;
+    fresh = λ t same. runs t;
+    small = λ t same. small t;
+    too_small = λ same. too_small;
+    made = λ t limit max other. let both = sym is ∙ other in cc;
+    refused = λ t limit max other. let both = sym is ∙ other in cc;
+    malformed = λ t limit max other. let both = sym is ∙ other in cc;
+    end = λ t limit max other. let both = sym is ∙ other in cc;
+    disk = disk;
+    port = port;
+    steady = steady;
+    words = words;
+    complete = λ t held c some. no_command m (Serve true) c is refl some;
+    complete_serve = λ t held other. let both = sym is ∙ other in cc;
+    complete_fresh = λ t held same enough.
+        completed g (g.size old) _ _ old new status (runs t enough) (λ fails. fails.early)
+        (no_disk held) (no_port held);
+  }
+
+  -- a device is made
+  pub make_verb : (limit max : ℕ)
+      → m ≡ Make limit max
+      → (g.is_modelled
+        → (set : List SetImage)
+        → length (g.input_left old) ≤ 2 ^ 32
+        → set_of (g.input_left old) ≡ Ok set
+        → refusal_of set limit max (g.size old) ≡ None
+        → RunsMaking g (g.size old) set limit max (done_making set (g.size old)) old new status)
+      → (g.is_modelled
+        → (set : List SetImage)
+        → length (g.input_left old) ≤ 2 ^ 32
+        → set_of (g.input_left old) ≡ Ok set
+        → (fault : MakeFault)
+        → refusal_of set limit max (g.size old) ≡ Some fault
+        → RunsRefused g (g.size old) (make_line fault) (make_status fault) old new status)
+      → (g.is_modelled
+        → (2 ^ 32 < length (g.input_left old))
+          ⊎ ((fault : SetFault) × (set_of (g.input_left old) ≡ Err fault))
+        → RunsRefused g (g.size old) [] Malformed old new status)
+      → (g.is_modelled → status ≡ Done → g.input_left new ≡ [])
+      → DoesVerb g m old new status
+  make_verb limit max is made refused malformed end = record {
+    item = λ t c some. no_command m (Make limit max) c is refl some;
+    none = λ t c some. no_command m (Make limit max) c is refl some;
+    quiet = λ t c some. no_command m (Make limit max) c is refl some;
+    serve = λ t other. let both = sym is ∙ other in cc;
+    none_served = λ t other. let both = sym is ∙ other in cc;
+    fresh = λ t other. let both = sym is ∙ other in cc;
+    small = λ t other. let both = sym is ∙ other in cc;
+    too_small = λ other. let both = sym is ∙ other in cc;
+    made = λ t l x same set fits spelled none.
+        let both : Make limit max ≡ Make l x = sym is ∙ same in
+        let limits : limit ≡ l = cc in
+        let most : max ≡ x = cc in
+        subst
+        (λ (l : ℕ).
+        refusal_of set l x (g.size old) ≡ None
+        → RunsMaking g (g.size old) set l x (done_making set (g.size old)) old new status)
+        limits
+        (subst
+        (λ (x : ℕ).
+        refusal_of set limit x (g.size old) ≡ None
+        → RunsMaking g (g.size old) set limit x (done_making set (g.size old)) old new status)
+        most (made t set fits spelled))
+        none;
+    refused = λ t l x same set fits spelled fault refusal.
+        let both : Make limit max ≡ Make l x = sym is ∙ same in
+        let limits : limit ≡ l = cc in
+        let most : max ≡ x = cc in
+        refused t set fits spelled fault
+        ((λ i. refusal_of set (limits i) (most i) (g.size old)) ∙ refusal);
+    malformed = λ t l x same. malformed t;
+    end = λ t l x same. end t;
+    disk = disk;
+    port = port;
+    steady = steady;
+    words = words;
+    complete = λ t held c some. no_command m (Make limit max) c is refl some;
+    complete_serve = λ t held other. let both = sym is ∙ other in cc;
+    complete_fresh = λ t held other. let both = sym is ∙ other in cc;
+  }

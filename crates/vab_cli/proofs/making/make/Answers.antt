@@ -1,0 +1,70 @@
+use Rattle.std.proofs.Common.{◌≡◌, ◌∙◌, ℕ, List, Ok, Some, None, ap, subst}
+use Rattle.vab_set.specs.declared.set.SetImage.{SetImage}
+use Rattle.vab_set.specs.Reading.{set_of}
+use Rattle.vab_make.specs.Made.{refusal_of}
+use Rattle.vab_cli.specs.Codes.{make_status}
+use Rattle.vab_cli.specs.Verbs.{make_line, done_making}
+use Rattle.vab_cli.specs.Runs.{RunsRefused, RunsMaking}
+use Rattle.vab_cli.proofs.Makings.{refused_after, making_after}
+use Rattle.vab_cli.proofs.making.make.Goals as goal
+
+-- the set that is read is that of the input
+same_set : (heard text left : List ℕ) (set set' : List SetImage)
+    → heard ≡ left
+    → text ≡ heard
+    → set_of text ≡ Ok set'
+    → set_of left ≡ Ok set
+    → set' ≡ set
+same_set heard text left set set' a b c d = let same = ap set_of (b ∙ a) in cc
+
+pub returns-clause-made : goal.returns-clause-made
+returns-clause-made g c = λ t set fits is none.
+    let old = c.args.port.now in
+    let mid = c.hear_all.new.p in
+    let new = c.make_of.new.port in
+    let size = g.P.Disk.size old in
+    let limit = c.args.limit in
+    let max = c.args.max in
+    let found : c.in-Ok-read_set.set ≡ set = same_set _ _ _ set c.in-Ok-read_set.set
+        (c.in-Ok.ensures.bytes t) c.deref.ensures.value c.in-Ok-read_set.ensures.exact is in
+    making_after g.P.Disk g.met.P.Disk.only_now size set limit max (done_making set size)
+    old mid new c.make_of.result
+    (c.hear_all.ensures.told t) (c.hear_all.ensures.seen t) (c.hear_all.ensures.crash t)
+    (c.hear_all.ensures.time t)
+    (subst
+    (λ (n : ℕ).
+    refusal_of set limit max n ≡ None
+    → RunsMaking g.P.Disk n set limit max (done_making set n) mid new c.make_of.result)
+    c.hear_all.ensures.size
+    (subst
+    (λ (x : List SetImage).
+    refusal_of x limit max (g.P.Disk.size mid) ≡ None
+    → RunsMaking g.P.Disk (g.P.Disk.size mid) x limit max (done_making x (g.P.Disk.size mid))
+      mid new c.make_of.result)
+    found (c.make_of.ensures.made t)) none)
+
+pub returns-clause-refused : goal.returns-clause-refused
+returns-clause-refused g c = λ t set fits is fault refused.
+    let old = c.args.port.now in
+    let mid = c.hear_all.new.p in
+    let new = c.make_of.new.port in
+    let size = g.P.Disk.size old in
+    let limit = c.args.limit in
+    let max = c.args.max in
+    let found : c.in-Ok-read_set.set ≡ set = same_set _ _ _ set c.in-Ok-read_set.set
+        (c.in-Ok.ensures.bytes t) c.deref.ensures.value c.in-Ok-read_set.ensures.exact is in
+    refused_after g.P.Disk g.met.P.Disk.only_now size (make_line fault) (make_status fault)
+    old mid new c.make_of.result
+    (c.hear_all.ensures.told t) (c.hear_all.ensures.seen t) (c.hear_all.ensures.crash t)
+    (c.hear_all.ensures.time t)
+    (subst
+    (λ (n : ℕ).
+    refusal_of set limit max n ≡ Some fault
+    → RunsRefused g.P.Disk n (make_line fault) (make_status fault) mid new c.make_of.result)
+    c.hear_all.ensures.size
+    (subst
+    (λ (x : List SetImage).
+    refusal_of x limit max (g.P.Disk.size mid) ≡ Some fault
+    → RunsRefused g.P.Disk (g.P.Disk.size mid) (make_line fault) (make_status fault) mid new
+      c.make_of.result)
+    found (c.make_of.ensures.refused t fault)) refused)
