@@ -35,16 +35,16 @@ piece_more image seen map items bytes new first i lt same held read is =
     is
     ∙ ap (λ (l : List ℕ). l ++ bytes) held
     ∙ ap (λ (l : List ℕ). bytes_at image (take i (drop first map)) ++ l)
-      (read
-      ∙ ap (λ (x : Image). sectors_at 8 x (get_or map (first + i) 0)) same
-      ∙ ap (sectors_at 8 image) (sym (get_or-drop first map i 0)))
+    (read
+    ∙ ap (λ (x : Image). sectors_at 8 x (get_or map (first + i) 0)) same
+    ∙ ap (sectors_at 8 image) (sym (get_or-drop first map i 0)))
     ∙ bytes_more image (drop first map) i (omega (arith, lt, length-drop first map))
 
 -- ---- one piece more of an image
 
 pub bytes_piece : (image : Image) (map : List ℕ) (done count : ℕ)
     → bytes_at image (take done map) ++ bytes_at image (take count (drop done map))
-      ≡ bytes_at image (take (done + count) map)
+    ≡ bytes_at image (take (done + count) map)
 bytes_piece image map done count =
     sym (bytes_append image (take done map) (take count (drop done map)))
     ∙ ap (bytes_at image) (sym (take-add done count map))
@@ -52,8 +52,8 @@ bytes_piece image map done count =
 -- and what is behind it
 pub bytes_rest : (image : Image) (map : List ℕ) (done count : ℕ)
     → (bytes_at image (take done map) ++ bytes_at image (take count (drop done map)))
-      ++ bytes_at image (drop (done + count) map)
-      ≡ bytes_at image map
+    ++ bytes_at image (drop (done + count) map)
+    ≡ bytes_at image map
 bytes_rest image map done count =
     ap (λ (l : List ℕ). l ++ bytes_at image (drop (done + count) map)) (bytes_piece image map done count)
     ∙ sym (bytes_append image (take (done + count) map) (drop (done + count) map))

@@ -150,11 +150,10 @@ module _ {D : Type 0} (g : Ghosts D) (size : ℕ) where
     command_does d' reply new r does t says = record {
       told = on_ok_map r _ _
           (λ is'. is' ∙ ap (λ (l : List ℕ). l ++ line) (does.quiet.told t)) says.told;
-      front = (let front = says.front in
-        (
-          front.0,
-          front.1 ∙ ap (λ (l : List ℕ). l ++ take front.0 line) (does.quiet.told t),
-        ));
+      front = (let front = says.front in (
+        front.0,
+        front.1 ∙ ap (λ (l : List ℕ). l ++ take front.0 line) (does.quiet.told t),
+      ));
       stands = on_ok r (ap (device size) says.seen ∙ there);
       settled = λ rest. on_ok r (still_rest line mid new r says (does.rest t rest));
       time = λ rest.

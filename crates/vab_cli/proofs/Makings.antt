@@ -124,8 +124,8 @@ heard_fault input.NoMemory other = inr refl
 module _ {D : Type 0}
     (g : Ghosts D)
     (only_now : (d : D) (o : Outcome)
-      → g.outcomes d (g.moment d) o
-      → Leaves (g.told d) (g.may_leave d) o)
+    → g.outcomes d (g.moment d) o
+    → Leaves (g.told d) (g.may_leave d) o)
     (size : ℕ) where
   -- ---- nothing changes
 
@@ -167,7 +167,7 @@ module _ {D : Type 0}
   refused_told line ends old mid new status told seen holds before silent either tells = record {
     status_is = ⊎_elim (λ same. inl same) (λ port. inr (inl port)) either;
     front = (let front = tells.front in
-      (front.0, front.1 ∙ ap (λ (l : List ℕ). l ++ take front.0 line) told));
+        (front.0, front.1 ∙ ap (λ (l : List ℕ). l ++ take front.0 line) told));
     whole = λ same. tells.whole same ∙ ap (λ (l : List ℕ). l ++ line) told;
     untold = λ memory. ⊎_elim
         (λ same.
@@ -234,7 +234,7 @@ module _ {D : Type 0}
   refused_after line ends old mid new status told seen holds before runs = record {
     status_is = runs.status_is;
     front = (let front = runs.front in
-      (front.0, front.1 ∙ ap (λ (l : List ℕ). l ++ take front.0 line) told));
+        (front.0, front.1 ∙ ap (λ (l : List ℕ). l ++ take front.0 line) told));
     whole = λ same. runs.whole same ∙ ap (λ (l : List ℕ). l ++ line) told;
     untold = λ memory. runs.untold memory ∙ told;
     same = runs.same ∙ seen;
@@ -299,7 +299,7 @@ module _ {D : Type 0}
 
     making_left : (old mid : D)
         → Adds g.moment g.outcomes old mid
-          (LeavesMaking (g.told old) set limit max size (g.seen old))
+        (LeavesMaking (g.told old) set limit max size (g.seen old))
         → Adds g.moment g.outcomes old mid (Makes old)
     making_left old mid making =
         adds_wider g.moment g.outcomes old mid
@@ -312,15 +312,15 @@ module _ {D : Type 0}
         → IsMade set limit max size (g.seen mid)
         → IsAtRest g mid
         → (IsAtRest g old
-          → Adds g.moment g.outcomes old mid
-            (LeavesMaking (g.told old) set limit max size (g.seen old)))
+        → Adds g.moment g.outcomes old mid
+        (LeavesMaking (g.told old) set limit max size (g.seen old)))
         → (status ≡ Done) ⊎ (status ≡ Port)
         → Tells g line Done mid new status
         → RunsMaking g size set limit max line old new status
     making_told old mid new status told is rest making either tells = record {
       status_is = ⊎_elim (λ done. inl done) (λ port. inr (inl (inr port))) either;
       front = (let front = tells.front in
-        (front.0, front.1 ∙ ap (λ (l : List ℕ). l ++ take front.0 line) told));
+          (front.0, front.1 ∙ ap (λ (l : List ℕ). l ++ take front.0 line) told));
       whole = λ done. tells.whole done ∙ ap (λ (l : List ℕ). l ++ line) told;
       untold = λ memory. ⊎_elim (λ done. cc) (λ port. cc) either;
       stands = λ done. ap (device size) tells.seen ∙ is;
@@ -346,8 +346,8 @@ module _ {D : Type 0}
         → g.told new ≡ g.told old
         → (status ≡ NoMemory → g.seen new ≡ g.seen old)
         → (IsAtRest g old
-          → Adds g.moment g.outcomes old new
-            (LeavesMaking (g.told old) set limit max size (g.seen old)))
+        → Adds g.moment g.outcomes old new
+        (LeavesMaking (g.told old) set limit max size (g.seen old)))
         → IsFailed status ⊎ (status ≡ NoMemory)
         → RunsMaking g size set limit max line old new status
     making_untold old new status told seen making either = record {
@@ -377,7 +377,7 @@ module _ {D : Type 0}
     making_after old mid new status told seen holds before runs = record {
       status_is = runs.status_is;
       front = (let front = runs.front in
-        (front.0, front.1 ∙ ap (λ (l : List ℕ). l ++ take front.0 line) told));
+          (front.0, front.1 ∙ ap (λ (l : List ℕ). l ++ take front.0 line) told));
       whole = λ done. runs.whole done ∙ ap (λ (l : List ℕ). l ++ line) told;
       untold = λ memory. (let untold = runs.untold memory in (untold.0 ∙ told, untold.1 ∙ seen));
       stands = runs.stands;

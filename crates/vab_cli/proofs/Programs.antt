@@ -49,8 +49,8 @@ module _ {D : Type 0}
     (steady : IsSteady g old new status)
     (disk : status ≡ Disk → Rose (g.faults old).disk (g.faults new).disk)
     (port : status ≡ Port
-      → Rose (g.faults old).source (g.faults new).source
-        ⊎ Rose (g.faults old).sink (g.faults new).sink) where
+    → Rose (g.faults old).source (g.faults new).source
+    ⊎ Rose (g.faults old).sink (g.faults new).sink) where
   no_disk : NoFault (g.faults old) (g.faults new) → status ≡ Disk → ⊥
   no_disk none is = none.disk (disk is)
 
@@ -61,9 +61,9 @@ module _ {D : Type 0}
   item_whole : (c : Command) (s : Mounted)
       → NoFault (g.faults old) (g.faults new)
       → RunsItem g (g.size old) s (verb_item s c) (verb_status s.state c) old new status
-        ⊎ FailsBefore g (g.size old) s old new status
+      ⊎ FailsBefore g (g.size old) s old new status
       → ((status ≡ verb_status s.state c) × (g.told new ≡ g.told old ++ (verb_item s c).reply))
-        ⊎ (status ≡ NoMemory)
+      ⊎ (status ≡ NoMemory)
   item_whole c s none (inl runs) =
       ⊎_elim
       (λ is. inl (is, runs.whole is))
@@ -76,14 +76,14 @@ module _ {D : Type 0}
   pub command_verb : (c : Command)
       → command_of m ≡ Some c
       → (g.is_modelled
-        → (s : Mounted)
-        → IsIn (g.size old) s (g.seen old)
-        → RunsItem g (g.size old) s (verb_item s c) (verb_status s.state c) old new status
-          ⊎ FailsBefore g (g.size old) s old new status)
+      → (s : Mounted)
+      → IsIn (g.size old) s (g.seen old)
+      → RunsItem g (g.size old) s (verb_item s c) (verb_status s.state c) old new status
+      ⊎ FailsBefore g (g.size old) s old new status)
       → (g.is_modelled
-        → (fault : StartFault)
-        → device (g.size old) (g.seen old) ≡ Err fault
-        → RunsNone g (g.size old) none_line old new status)
+      → (fault : StartFault)
+      → device (g.size old) (g.seen old) ≡ Err fault
+      → RunsNone g (g.size old) none_line old new status)
       → (g.is_modelled → HearsNothing g old new)
       → DoesVerb g m old new status
   command_verb c some runs none quiet = record {
@@ -125,14 +125,14 @@ module _ {D : Type 0}
   -- a session over the device of the disk
   pub serve_verb : m ≡ Serve false
       → (g.is_modelled
-        → (s : Mounted)
-        → IsIn (g.size old) s (g.seen old)
-        → RunsSession g (g.size old) (λ o. ⊥) s old new status
-          ⊎ FailsBefore g (g.size old) s old new status)
+      → (s : Mounted)
+      → IsIn (g.size old) s (g.seen old)
+      → RunsSession g (g.size old) (λ o. ⊥) s old new status
+      ⊎ FailsBefore g (g.size old) s old new status)
       → (g.is_modelled
-        → (fault : StartFault)
-        → device (g.size old) (g.seen old) ≡ Err fault
-        → RunsNone g (g.size old) [] old new status)
+      → (fault : StartFault)
+      → device (g.size old) (g.seen old) ≡ Err fault
+      → RunsNone g (g.size old) [] old new status)
       → DoesVerb g m old new status
   serve_verb is runs none = record {
     item = λ t c some. no_command m (Serve false) c is refl some;
@@ -161,14 +161,14 @@ module _ {D : Type 0}
   -- a session over a device that is made first
   pub fresh_verb : m ≡ Serve true
       → (g.is_modelled
-        → 6152 ≤ g.size old
-        → RunsSession g (g.size old)
-          (LeavesMaking (g.told old) [] 0 65536 (g.size old) (g.seen old))
-          (made_device_of [] 0 65536 (g.size old)) old new status
-          ⊎ FailsMaking g (g.size old) [] 0 65536 old new status)
+      → 6152 ≤ g.size old
+      → RunsSession g (g.size old)
+      (LeavesMaking (g.told old) [] 0 65536 (g.size old) (g.seen old))
+      (made_device_of [] 0 65536 (g.size old)) old new status
+      ⊎ FailsMaking g (g.size old) [] 0 65536 old new status)
       → (g.is_modelled
-        → g.size old < 6152
-        → RunsRefused g (g.size old) [] NotADevice old new status)
+      → g.size old < 6152
+      → RunsRefused g (g.size old) [] NotADevice old new status)
       → (g.size old < 6152 → (status ≡ NotADevice) ⊎ (status ≡ NoMemory))
       → DoesVerb g m old new status
   fresh_verb is runs small too_small = record {
@@ -199,22 +199,22 @@ module _ {D : Type 0}
   pub make_verb : (limit max : ℕ)
       → m ≡ Make limit max
       → (g.is_modelled
-        → (set : List SetImage)
-        → length (g.input_left old) ≤ 2 ^ 32
-        → set_of (g.input_left old) ≡ Ok set
-        → refusal_of set limit max (g.size old) ≡ None
-        → RunsMaking g (g.size old) set limit max (done_making set (g.size old)) old new status)
+      → (set : List SetImage)
+      → length (g.input_left old) ≤ 2 ^ 32
+      → set_of (g.input_left old) ≡ Ok set
+      → refusal_of set limit max (g.size old) ≡ None
+      → RunsMaking g (g.size old) set limit max (done_making set (g.size old)) old new status)
       → (g.is_modelled
-        → (set : List SetImage)
-        → length (g.input_left old) ≤ 2 ^ 32
-        → set_of (g.input_left old) ≡ Ok set
-        → (fault : MakeFault)
-        → refusal_of set limit max (g.size old) ≡ Some fault
-        → RunsRefused g (g.size old) (make_line fault) (make_status fault) old new status)
+      → (set : List SetImage)
+      → length (g.input_left old) ≤ 2 ^ 32
+      → set_of (g.input_left old) ≡ Ok set
+      → (fault : MakeFault)
+      → refusal_of set limit max (g.size old) ≡ Some fault
+      → RunsRefused g (g.size old) (make_line fault) (make_status fault) old new status)
       → (g.is_modelled
-        → (2 ^ 32 < length (g.input_left old))
-          ⊎ ((fault : SetFault) × (set_of (g.input_left old) ≡ Err fault))
-        → RunsRefused g (g.size old) [] Malformed old new status)
+      → (2 ^ 32 < length (g.input_left old))
+      ⊎ ((fault : SetFault) × (set_of (g.input_left old) ≡ Err fault))
+      → RunsRefused g (g.size old) [] Malformed old new status)
       → (g.is_modelled → status ≡ Done → g.input_left new ≡ [])
       → DoesVerb g m old new status
   make_verb limit max is made refused malformed end = record {

@@ -95,8 +95,8 @@ is_one size s image f is none = cc
 module _ {D : Type 0}
     (g : Ghosts D)
     (only_now : (d : D) (o : Outcome)
-      → g.outcomes d (g.moment d) o
-      → Leaves (g.told d) (g.may_leave d) o)
+    → g.outcomes d (g.moment d) o
+    → Leaves (g.told d) (g.may_leave d) o)
     (size : ℕ) where
   -- the outcome of a disk with nothing pending
   pub settled_image : (d : D) (o : Outcome)
@@ -142,7 +142,7 @@ module _ {D : Type 0}
       → g.told new ≡ g.told old
       → (status ≡ NoMemory → g.seen new ≡ g.seen old)
       → (IsAtRest g old
-        → Adds g.moment g.outcomes old new (LeavesSame (g.told old) size (g.seen old)))
+      → Adds g.moment g.outcomes old new (LeavesSame (g.told old) size (g.seen old)))
       → FailsBefore g size s old new status
   fails_before s old new status is early told same time = record {
     early = early;
@@ -159,7 +159,7 @@ module _ {D : Type 0}
       → g.told new ≡ g.told old
       → (status ≡ NoMemory → g.seen new ≡ g.seen old)
       → (IsAtRest g old
-        → Adds g.moment g.outcomes old new (LeavesSame (g.told old) size (g.seen old)))
+      → Adds g.moment g.outcomes old new (LeavesSame (g.told old) size (g.seen old)))
       → RunsNone g size line old new status
   none_early line old new status early told same time = record {
     status_is = inr (⊎_elim (λ disk. inl (inl disk)) (λ memory. inr memory) early);
@@ -186,7 +186,7 @@ module _ {D : Type 0}
       → g.seen mid ≡ g.seen old
       → SameHoldings (g.may_leave old) (g.may_leave mid)
       → (IsAtRest g old
-        → Adds g.moment g.outcomes old mid (LeavesSame (g.told old) size (g.seen old)))
+      → Adds g.moment g.outcomes old mid (LeavesSame (g.told old) size (g.seen old)))
       → (n : ℕ) × (g.told new ≡ g.told mid ++ take n line)
       → (status ≡ NotADevice → g.told new ≡ g.told mid ++ line)
       → g.seen new ≡ g.seen mid
@@ -232,7 +232,7 @@ module _ {D : Type 0}
 
   module _ (s : Mounted) (c : Command) (t : List ℕ)
       (some : (0 < length t)
-        ⊎ ((image : Image) → IsIn size s image → IsIn size (command_item s c t).last.now image)) where
+      ⊎ ((image : Image) → IsIn size s image → IsIn size (command_item s c t).last.now image)) where
     item : Item Mounted
     item = command_item s c t
 
@@ -298,7 +298,7 @@ module _ {D : Type 0}
     runs_done ends old mid new opens stands status is does = record {
       status_is = inl is;
       front = (let front = does.front in
-        (front.0, front.1 ∙ ap (λ (l : List ℕ). l ++ take front.0 t) opens.told));
+          (front.0, front.1 ∙ ap (λ (l : List ℕ). l ++ take front.0 t) opens.told));
       whole = λ same. does.told ∙ ap (λ (l : List ℕ). l ++ t) opens.told;
       stands = λ same. does.stands;
       settled = λ rest same. does.settled (opens.settled rest);
@@ -318,7 +318,7 @@ module _ {D : Type 0}
     runs_failed ends old mid new opens stands status failed kind does = record {
       status_is = inr failed;
       front = (let front = does.front in
-        (front.0, front.1 ∙ ap (λ (l : List ℕ). l ++ take front.0 t) opens.told));
+          (front.0, front.1 ∙ ap (λ (l : List ℕ). l ++ take front.0 t) opens.told));
       whole = λ same. absurd (never same failed kind);
       stands = λ same. absurd (never same failed kind);
       settled = λ rest same. absurd (never same failed kind);

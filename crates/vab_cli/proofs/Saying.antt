@@ -49,13 +49,12 @@ module _ {D : Type 0} (g : Ghosts D) where
         (λ is.
         is ∙ ap (λ (l : List ℕ). l ++ b) first.told ∙ append_assoc (g.told old) a b)
         second.told;
-    front = (let front = second.front in
-      (
-        length a + front.0,
-        front.1
-        ∙ ap (λ (l : List ℕ). l ++ take front.0 b) first.told
-        ∙ front_second (g.told old) a b front.0,
-      ));
+    front = (let front = second.front in (
+      length a + front.0,
+      front.1
+          ∙ ap (λ (l : List ℕ). l ++ take front.0 b) first.told
+          ∙ front_second (g.told old) a b front.0,
+    ));
     seen = second.seen ∙ first.seen;
     crash = record {
       keeps = λ s x h. (let crash = second.crash in crash.keeps) s x
@@ -72,7 +71,7 @@ module _ {D : Type 0} (g : Ghosts D) where
           front = (
             min leaves.front.0 (length a),
             leaves.front.1
-            ∙ ap (λ (l : List ℕ). g.told old ++ l) (front_first a b leaves.front.0),
+                ∙ ap (λ (l : List ℕ). g.told old ++ l) (front_first a b leaves.front.0),
           );
           each_sector = leaves.each_sector;
         }))
@@ -81,8 +80,8 @@ module _ {D : Type 0} (g : Ghosts D) where
           front = (
             length a + leaves.front.0,
             leaves.front.1
-            ∙ ap (λ (l : List ℕ). l ++ take leaves.front.0 b) first.told
-            ∙ front_second (g.told old) a b leaves.front.0,
+                ∙ ap (λ (l : List ℕ). l ++ take leaves.front.0 b) first.told
+                ∙ front_second (g.told old) a b leaves.front.0,
           );
           each_sector = λ s.
               (let crash = first.crash in crash.no_more) s (o.image s) (leaves.each_sector s);
@@ -95,11 +94,10 @@ module _ {D : Type 0} (g : Ghosts D) where
       → Says g {A = A} (a ++ b) old new (Err e)
   says_front a b old new e says = record {
     told = tt;
-    front = (let front = says.front in
-      (
-        min front.0 (length a),
-        front.1 ∙ ap (λ (l : List ℕ). g.told old ++ l) (front_first a b front.0),
-      ));
+    front = (let front = says.front in (
+      min front.0 (length a),
+      front.1 ∙ ap (λ (l : List ℕ). g.told old ++ l) (front_first a b front.0),
+    ));
     seen = says.seen;
     crash = says.crash;
     left = says.left;
@@ -110,7 +108,7 @@ module _ {D : Type 0} (g : Ghosts D) where
           front = (
             min leaves.front.0 (length a),
             leaves.front.1
-            ∙ ap (λ (l : List ℕ). g.told old ++ l) (front_first a b leaves.front.0),
+                ∙ ap (λ (l : List ℕ). g.told old ++ l) (front_first a b leaves.front.0),
           );
           each_sector = leaves.each_sector;
         });
@@ -140,11 +138,10 @@ module _ {D : Type 0} (g : Ghosts D) where
   says_behind bytes old mid new r t reads says = record {
     told = on_ok_map r _ _
         (λ is. is ∙ ap (λ (l : List ℕ). l ++ bytes) (reads.quiet.told t)) says.told;
-    front = (let front = says.front in
-      (
-        front.0,
-        front.1 ∙ ap (λ (l : List ℕ). l ++ take front.0 bytes) (reads.quiet.told t),
-      ));
+    front = (let front = says.front in (
+      front.0,
+      front.1 ∙ ap (λ (l : List ℕ). l ++ take front.0 bytes) (reads.quiet.told t),
+    ));
     seen = says.seen ∙ reads.seen t;
     crash = record {
       keeps = λ s x h. (let crash = says.crash in crash.keeps) s x ((reads.crash t).keeps s x h);
@@ -160,7 +157,7 @@ module _ {D : Type 0} (g : Ghosts D) where
           front = (
             leaves.front.0,
             leaves.front.1
-            ∙ ap (λ (l : List ℕ). l ++ take leaves.front.0 bytes) (reads.quiet.told t),
+                ∙ ap (λ (l : List ℕ). l ++ take leaves.front.0 bytes) (reads.quiet.told t),
           );
           each_sector = λ s. (reads.crash t).no_more s (o.image s) (leaves.each_sector s);
         });

@@ -115,8 +115,8 @@ small_unwritten (make.Disk fault) need have gives disk = cc
 module _ {D : Type 0}
     (g : Ghosts D)
     (only_now : (d : D) (o : Outcome)
-      → g.outcomes d (g.moment d) o
-      → Leaves (g.told d) (g.may_leave d) o)
+    → g.outcomes d (g.moment d) o
+    → Leaves (g.told d) (g.may_leave d) o)
     (size : ℕ) where
   -- a cut of power within a session
   abbrev Within : Mounted → List Exchange → Option (List ℕ) → List ℕ → Outcome → Type 0
@@ -175,22 +175,21 @@ module _ {D : Type 0}
             (subst (λ (l : List ℕ). IsSession (2 ^ 44) serves.refused l others v other)
             (sym behind.left) is);
         status_is = says r serves.end serves.ends;
-        front = (let front = serves.front in
-          (
-            front.0,
-            front.1
-            ∙ ap
+        front = (let front = serves.front in (
+          front.0,
+          front.1
+              ∙ ap
               (λ (l : List ℕ).
               l ++ take front.0
               (output_of response (nothing_staged first) serves.exchanges serves.unfinished))
               behind.told,
-          ));
+        ));
         whole = λ held.
             serves.whole (port_held r held)
             ∙ ap
-              (λ (l : List ℕ).
-              l ++ output_of response (nothing_staged first) serves.exchanges serves.unfinished)
-              behind.told;
+            (λ (l : List ℕ).
+            l ++ output_of response (nothing_staged first) serves.exchanges serves.unfinished)
+            behind.told;
         stands = λ held. serves.stands (port_held r held);
         settled = λ rest held. serves.settled (port_held r held) (behind.settled rest);
         heard =
@@ -268,7 +267,7 @@ module _ {D : Type 0}
     -- every outcome of making
     making_cuts : (old new : D)
         → Adds g.moment g.outcomes old new
-          (LeavesMaking (g.told old) set limit max size (g.seen old))
+        (LeavesMaking (g.told old) set limit max size (g.seen old))
         → IsAtRest g old
         → (o : Outcome)
         → g.outcomes new (g.moment old) o
@@ -287,10 +286,10 @@ module _ {D : Type 0}
         → g.told mid ≡ g.told old
         → IsMade set limit max size (g.seen mid)
         → Adds g.moment g.outcomes old mid
-          (LeavesMaking (g.told old) set limit max size (g.seen old))
+        (LeavesMaking (g.told old) set limit max size (g.seen old))
         → Adds g.moment g.outcomes mid now (LeavesSame (g.told mid) size (g.seen mid))
         → Adds g.moment g.outcomes old now
-          (LeavesMaking (g.told old) set limit max size (g.seen old))
+        (LeavesMaking (g.told old) set limit max size (g.seen old))
     prepared old mid now told made making opening =
         adds_on g.moment g.outcomes old mid now
         (LeavesMaking (g.told old) set limit max size (g.seen old))
@@ -305,8 +304,8 @@ module _ {D : Type 0}
         → IsEarly status
         → g.told new ≡ g.told old
         → (IsAtRest g old
-          → Adds g.moment g.outcomes old new
-            (LeavesMaking (g.told old) set limit max size (g.seen old)))
+        → Adds g.moment g.outcomes old new
+        (LeavesMaking (g.told old) set limit max size (g.seen old)))
         → FailsMaking g size set limit max old new status
     making_failed old new status early told making = record {
       early = early;
@@ -322,10 +321,10 @@ module _ {D : Type 0}
         → IsMade set limit max size (g.seen mid)
         → IsAtRest g mid
         → (IsAtRest g old
-          → Adds g.moment g.outcomes old mid
-            (LeavesMaking (g.told old) set limit max size (g.seen old)))
+        → Adds g.moment g.outcomes old mid
+        (LeavesMaking (g.told old) set limit max size (g.seen old)))
         → (IsAtRest g mid
-          → Adds g.moment g.outcomes mid new (LeavesSame (g.told mid) size (g.seen mid)))
+        → Adds g.moment g.outcomes mid new (LeavesSame (g.told mid) size (g.seen mid)))
         → FailsMaking g size set limit max old new status
     opening_failed old mid new status early told told' made rest making opening =
         making_failed old new status early (told' ∙ told)
@@ -339,13 +338,13 @@ module _ {D : Type 0}
         → IsMade set limit max size (g.seen mid)
         → IsAtRest g mid
         → (IsAtRest g old
-          → Adds g.moment g.outcomes old mid
-            (LeavesMaking (g.told old) set limit max size (g.seen old)))
+        → Adds g.moment g.outcomes old mid
+        (LeavesMaking (g.told old) set limit max size (g.seen old)))
         → Opens g size mid now
         → Represents d size (g.seen now)
         → ServesDevice size g d (2 ^ 44) now new r
         → RunsSession g size (LeavesMaking (g.told old) set limit max size (g.seen old))
-          (made_device_of set limit max size) old new (session_status r)
+        (made_device_of set limit max size) old new (session_status r)
     made_runs d old mid now new r told left heard made rest making opens represents serves =
         runs_behind (LeavesMaking (g.told old) set limit max size (g.seen old)) d
         (made_device_of set limit max size) old now new r

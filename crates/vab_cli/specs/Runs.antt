@@ -102,11 +102,11 @@ MeansAs size old image = device size image ≡ device size old
 -- ---- runs
 
 module _ {D : Type 0} (g : Ghosts D) (size : ℕ) where
-  -- The input is a session of at most 2^44 bytes, for some choice of the commands to which memory is
-  -- refused. What was told is a front of what the session tells, and all of it unless the disk or the
-  -- port failed. However power is cut, a front is told, and the disk is in a step of the first item
-  -- that doesn't stand whole, after all the acknowledged ones. It hears only where all that had come
-  -- is answered. `Else` are the outcomes from before the session.
+  -- The input is a session of at most 2^44 bytes, for some choice of the commands to which memory
+  -- is refused. What was told is a front of what the session tells, and all of it unless the disk
+  -- or the port failed. However power is cut, a front is told, and the disk is in a step of the
+  -- first item that doesn't stand whole, after all the acknowledged ones. It hears only where all
+  -- that had come is answered. `Else` are the outcomes from before the session.
   pub record RunsSession
       (Else : Outcome → Type 0)
       (first : Mounted)
@@ -124,7 +124,7 @@ module _ {D : Type 0} (g : Ghosts D) (size : ℕ) where
     pub status_is : SaysEnd status end
     pub front : (n : ℕ)
         × (g.told new
-          ≡ g.told old ++ take n (output_of response (nothing_staged first) exchanges unfinished))
+        ≡ g.told old ++ take n (output_of response (nothing_staged first) exchanges unfinished))
     pub whole : Held status
         → g.told new ≡ g.told old ++ output_of response (nothing_staged first) exchanges unfinished
     pub stands : Held status
@@ -138,12 +138,12 @@ module _ {D : Type 0} (g : Ghosts D) (size : ℕ) where
         → (o : Outcome)
         → g.outcomes new (g.moment old) o
         → CrashesWithin (IsIn size) (codes "FB01") first
-          (items_of response (nothing_staged first) exchanges unfinished) (g.told old) o
-          ⊎ Else o
+        (items_of response (nothing_staged first) exchanges unfinished) (g.told old) o
+        ⊎ Else o
 
-  -- One item alone: what was told is a front of its line or bytes, and all of it where the run ends as
-  -- the item does; then the disk is in its last step. However power is cut, the disk is in one of its
-  -- steps, and where all is told, in the last.
+  -- One item alone: what was told is a front of its line or bytes, and all of it where the run ends
+  -- as the item does; then the disk is in its last step. However power is cut, the disk is in one
+  -- of its steps, and where all is told, in the last.
   pub record RunsItem
       (first : Mounted)
       (item : Item Mounted)
@@ -160,8 +160,8 @@ module _ {D : Type 0} (g : Ghosts D) (size : ℕ) where
         → g.outcomes new (g.moment old) o
         → CrashesWithin (IsIn size) [] first (item ∷ []) (g.told old) o
 
-  -- The disk failed, or memory was refused, while the device was opened: nothing is told, and every cut
-  -- of power leaves the device that it was. Where memory was refused it reads as before.
+  -- The disk failed, or memory was refused, while the device was opened: nothing is told, and every
+  -- cut of power leaves the device that it was. Where memory was refused it reads as before.
   pub record FailsBefore (first : Mounted) (old new : D) (status : Status) : Type 0 where
     pub early : IsEarly status
     pub told : g.told new ≡ g.told old
@@ -185,8 +185,8 @@ module _ {D : Type 0} (g : Ghosts D) (size : ℕ) where
         → LeavesTelling (g.told old) line (MeansAs size (g.seen old)) o
 
   -- A run that changes nothing: a front of this is told, and all of it where the run ends so. Where
-  -- memory is refused nothing is told. Nothing is written, and every cut of power leaves the disk as it
-  -- was.
+  -- memory is refused nothing is told. Nothing is written, and every cut of power leaves the disk
+  -- as it was.
   pub record RunsRefused
       (line : List ℕ)
       (ends : Status)
@@ -199,7 +199,7 @@ module _ {D : Type 0} (g : Ghosts D) (size : ℕ) where
     pub same : g.seen new ≡ g.seen old
     pub time : IsAtRest g old
         → Adds g.moment g.outcomes old new
-          (LeavesTelling (g.told old) line (λ image. image ≡ g.seen old))
+        (LeavesTelling (g.told old) line (λ image. image ≡ g.seen old))
     pub every_cut : IsAtRest g old
         → (o : Outcome)
         → g.outcomes new (g.moment old) o
@@ -213,9 +213,9 @@ module _ {D : Type 0} (g : Ghosts D) (size : ℕ) where
       (line_item (made_device_of set limit max size) line ∷ []) told o
       ⊎ LeavesMaking told set limit max size old o
 
-  -- A device is made of a set, and this line is told. Until its last gate is settled, every cut of power
-  -- leaves the disk as it was, or no device, or the made one; from then on the made one. Where memory is
-  -- refused nothing is told or written.
+  -- A device is made of a set, and this line is told. Until its last gate is settled, every cut of
+  -- power leaves the disk as it was, or no device, or the made one; from then on the made one.
+  -- Where memory is refused nothing is told or written.
   pub record RunsMaking
       (set : List SetImage)
       (limit max : ℕ)
@@ -230,14 +230,15 @@ module _ {D : Type 0} (g : Ghosts D) (size : ℕ) where
     pub settled : status ≡ Done → IsAtRest g new
     pub time : IsAtRest g old
         → Adds g.moment g.outcomes old new
-          (MakesWithin set limit max line (g.told old) (g.seen old))
+        (MakesWithin set limit max line (g.told old) (g.seen old))
     pub every_cut : IsAtRest g old
         → (o : Outcome)
         → g.outcomes new (g.moment old) o
         → MakesWithin set limit max line (g.told old) (g.seen old) o
 
-  -- The disk failed, or memory was refused, while a device was made or the made one was opened: nothing
-  -- is told, and every cut of power leaves the disk as it was, or no device, or the made one.
+  -- The disk failed, or memory was refused, while a device was made or the made one was opened:
+  -- nothing is told, and every cut of power leaves the disk as it was, or no device, or the made
+  -- one.
   pub record FailsMaking
       (set : List SetImage)
       (limit max : ℕ)

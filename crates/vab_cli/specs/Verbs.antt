@@ -1,5 +1,5 @@
--- The verbs on a device: what is told of each, how it ends, and the devices from the one before it to the
--- one after it.
+-- The verbs on a device: what is told of each, how it ends, and the devices from the one before it
+-- to the one after it.
 use Rattle.std.specs.Prelude.{ℕ, Bool, true, false, List, length, [], ◌∷◌, ◌++◌, codes, Option}
 use Rattle.std.specs.Prelude.{Some, None}
 use Rattle.hex.specs.Hex.{encode_lower}
@@ -48,7 +48,8 @@ none_line = line (codes "not a device")
 abbrev pub refused_line : Refusal → List ℕ
 refused_line refusal = line (codes "refused: " ++ refusal_text refusal)
 
--- a command that is done and has no more to tell, where this slot is the current one; the others have
+-- a command that is done and has no more to tell, where this slot is the current one; the others
+-- have
 abbrev pub done_line : Command → ℕ → List ℕ
 done_line (SetActive slot) current = line (codes "active " ++ slot_letter slot)
 done_line Mark current = line (codes "marked " ++ slot_letter current)

@@ -30,8 +30,8 @@ fn do_command<P: Port>(port: &mut P, device: Device, command: &Command) -> Resul
         → (s : Mounted)
         → IsIn (P.size port.old) s (P.seen port.old)
         → DoesItem P.Disk (P.size port.old)
-          (command_item s (command_of command.now) (command_line s.state (command_of command.now)))
-          port.old port.new result }
+        (command_item s (command_of command.now) (command_line s.state (command_of command.now)))
+        port.old port.new result }
     ensures status { P.is_modelled
         → (s : Mounted)
         → IsIn (P.size port.old) s (P.seen port.old)
@@ -64,10 +64,10 @@ pub(crate) fn carry_out<P: Port>(alloc: Global, port: &mut P, command: &Command)
         → (s : Mounted)
         → IsIn (P.size port.old) s (P.seen port.old)
         → RunsItem P.Disk (P.size port.old) s
-          (command_item s (command_of command.now) (command_line s.state (command_of command.now)))
-          (verb_status s.state (command_of command.now))
-          port.old port.new result
-          ⊎ FailsBefore P.Disk (P.size port.old) s port.old port.new result }
+        (command_item s (command_of command.now) (command_line s.state (command_of command.now)))
+        (verb_status s.state (command_of command.now))
+        port.old port.new result
+        ⊎ FailsBefore P.Disk (P.size port.old) s port.old port.new result }
     ensures none { P.is_modelled
         → (fault : Fault)
         → device (P.size port.old) (P.seen port.old) ≡ Err fault

@@ -1,4 +1,5 @@
-//! The program over a port: the words of the command line, what they do, and the status that it ends with.
+//! The program over a port: the words of the command line, what they do, and the status that it
+//! ends with.
 #![tactic(auto)]
 
 mod commands;

@@ -49,7 +49,7 @@ fn tell_made<P: Port>(port: &mut P, set: &Set) -> Status
     requires size { 6152 ≤ P.size port.old }
     ensures tells { P.is_modelled
         → Tells P.Disk (done_making set.now (P.size port.old)) Status.Done
-          port.old port.new result }
+        port.old port.new result }
     ensures size { P.size port.new ≡ P.size port.old }
     ensures either { (result ≡ Status.Done) ⊎ (result ≡ Status.Port) }
     ensures steady { IsSteady P.Disk port.old port.new result }
@@ -109,13 +109,13 @@ fn make_of<P: Port>(alloc: Global, port: &mut P, set: &Set, limit: u64, max: u32
     ensures made { P.is_modelled
         → refusal_of set.now limit max (P.size port.old) ≡ None
         → RunsMaking P.Disk (P.size port.old) set.now limit max
-          (done_making set.now (P.size port.old))
-          port.old port.new result }
+        (done_making set.now (P.size port.old))
+        port.old port.new result }
     ensures refused { P.is_modelled
         → (fault : FaultOfMaking)
         → refusal_of set.now limit max (P.size port.old) ≡ Some fault
         → RunsRefused P.Disk (P.size port.old) (make_line fault) (make_status fault)
-          port.old port.new result }
+        port.old port.new result }
     ensures left { P.is_modelled → P.input_left port.new ≡ P.input_left port.old }
     ensures steady { IsSteady P.Disk port.old port.new result }
     ensures words { result ≢ Status.Usage }
@@ -132,7 +132,8 @@ fn make_of<P: Port>(alloc: Global, port: &mut P, set: &Set, limit: u64, max: u32
     tell_fault(port, fault)
 }
 
-/// Makes a device of the set of images that the input spells, and tells that it is made, or why not.
+/// Makes a device of the set of images that the input spells, and tells that it is made, or why
+/// not.
 pub(crate) fn make<P: Port>(alloc: Global, port: &mut P, limit: u64, max: u32) -> Status
     requires limit { limit ≤ 2 ^ 44 }
     requires max_sectors { max % 512 ≡ 0 }
@@ -144,7 +145,7 @@ pub(crate) fn make<P: Port>(alloc: Global, port: &mut P, limit: u64, max: u32) -
         → set_of (P.input_left port.old) ≡ Ok set
         → refusal_of set limit max (P.size port.old) ≡ None
         → RunsMaking P.Disk (P.size port.old) set limit max (done_making set (P.size port.old))
-          port.old port.new result }
+        port.old port.new result }
     ensures refused { P.is_modelled
         → (set : List ImageOfSet)
         → length (P.input_left port.old) ≤ 2 ^ 32
@@ -152,10 +153,10 @@ pub(crate) fn make<P: Port>(alloc: Global, port: &mut P, limit: u64, max: u32) -
         → (fault : FaultOfMaking)
         → refusal_of set limit max (P.size port.old) ≡ Some fault
         → RunsRefused P.Disk (P.size port.old) (make_line fault) (make_status fault)
-          port.old port.new result }
+        port.old port.new result }
     ensures malformed { P.is_modelled
         → (2 ^ 32 < length (P.input_left port.old))
-          ⊎ ((fault : FaultOfSet) × (set_of (P.input_left port.old) ≡ Err fault))
+        ⊎ ((fault : FaultOfSet) × (set_of (P.input_left port.old) ≡ Err fault))
         → RunsRefused P.Disk (P.size port.old) [] Status.Malformed port.old port.new result }
     // Once it is done the whole input was heard.
     ensures end { P.is_modelled → result ≡ Status.Done → P.input_left port.new ≡ [] }
@@ -164,7 +165,7 @@ pub(crate) fn make<P: Port>(alloc: Global, port: &mut P, limit: u64, max: u32) -
     ensures disk { result ≡ Status.Disk → Rose (P.faults port.old).disk (P.faults port.new).disk }
     ensures port { result ≡ Status.Port
         → Rose (P.faults port.old).source (P.faults port.new).source
-          ⊎ Rose (P.faults port.old).sink (P.faults port.new).sink }
+        ⊎ Rose (P.faults port.old).sink (P.faults port.new).sink }
 {
     let bytes = match hear_all(alloc, port, MAX_SET) {
         Ok(bytes) => bytes,

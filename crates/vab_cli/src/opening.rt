@@ -18,8 +18,8 @@ use vab_disk::{Disk, Port};
 use vab_exchanges::say_all;
 use vab_recover::start;
 
-/// Opens the device of the disk. Where there is none, it tells the line; the error is the status to end
-/// with.
+/// Opens the device of the disk. Where there is none, it tells the line; the error is the status to
+/// end with.
 pub(crate) fn open<P: Port>(alloc: Global, port: &mut P, line: &[u8]) -> Result<Device, Status>
     ensures kept { IfOk result (λ d. IsDevice d (P.size port.old)) }
     ensures represents { P.is_modelled
@@ -30,12 +30,12 @@ pub(crate) fn open<P: Port>(alloc: Global, port: &mut P, line: &[u8]) -> Result<
         → (s : Mounted)
         → IsIn (P.size port.old) s (P.seen port.old)
         → IfErr result
-          (λ status. FailsBefore P.Disk (P.size port.old) s port.old port.new status) }
+        (λ status. FailsBefore P.Disk (P.size port.old) s port.old port.new status) }
     ensures none { P.is_modelled
         → (fault : Fault)
         → device (P.size port.old) (P.seen port.old) ≡ Err fault
         → IfErr result
-          (λ status. RunsNone P.Disk (P.size port.old) line.now port.old port.new status) }
+        (λ status. RunsNone P.Disk (P.size port.old) line.now port.old port.new status) }
     ensures found { P.is_modelled
         → (fault : Fault)
         → device (P.size port.old) (P.seen port.old) ≡ Err fault

@@ -57,7 +57,7 @@ fn read_piece<P: Port>(
         → (p : Part)
         → KeepsPart device.now slot name.now p
         → OnOk result
-          (piece.new.items ≡ bytes_at (P.seen port.old) (take count (drop first p.map))) }
+        (piece.new.items ≡ bytes_at (P.seen port.old) (take count (drop first p.map))) }
     ensures reads { OnlyReads P.Disk port.old port.new }
     ensures faults { FailsWithDisk P.Disk port.old port.new result }
 {
@@ -88,7 +88,7 @@ fn tell_piece<P: Port>(
         → (p : Part)
         → KeepsPart device.now slot name.now p
         → Says P.Disk (bytes_at (P.seen port.old) (take count (drop first p.map)))
-          port.old port.new result }
+        port.old port.new result }
     ensures size { P.size port.new ≡ P.size port.old }
     ensures steady { OnOk result (P.faults port.new ≡ P.faults port.old) }
     ensures failed { IfErr result IsFailed }
@@ -170,13 +170,14 @@ fn refuse<P: Port>(port: &mut P, refusal: Refusal) -> Result<Status, Status>
 // Tells an image's bytes, or why there are none.
 fn print_image<P: Port>(port: &mut P, device: &Device, name: &[u8]) -> Result<Status, Status>
     requires kept { IsDevice device.now (P.size port.old) }
-    requires represents { P.is_modelled → Represents device.now (P.size port.old) (P.seen port.old) }
+    requires represents { P.is_modelled
+        → Represents device.now (P.size port.old) (P.seen port.old) }
     ensures does { P.is_modelled
         → (s : Mounted)
         → IsIn (P.size port.old) s (P.seen port.old)
         → DoesItem P.Disk (P.size port.old)
-          (command_item s (PrintOf name.now) (print_told (found_of s.state name.now)))
-          port.old port.new result }
+        (command_item s (PrintOf name.now) (print_told (found_of s.state name.now)))
+        port.old port.new result }
     ensures status { P.is_modelled
         → (s : Mounted)
         → IsIn (P.size port.old) s (P.seen port.old)
@@ -205,10 +206,10 @@ pub(crate) fn print<P: Port>(alloc: Global, port: &mut P, name: &[u8]) -> Status
         → (s : Mounted)
         → IsIn (P.size port.old) s (P.seen port.old)
         → RunsItem P.Disk (P.size port.old) s
-          (command_item s (PrintOf name.now) (print_told (found_of s.state name.now)))
-          (verb_status s.state (PrintOf name.now))
-          port.old port.new result
-          ⊎ FailsBefore P.Disk (P.size port.old) s port.old port.new result }
+        (command_item s (PrintOf name.now) (print_told (found_of s.state name.now)))
+        (verb_status s.state (PrintOf name.now))
+        port.old port.new result
+        ⊎ FailsBefore P.Disk (P.size port.old) s port.old port.new result }
     ensures none { P.is_modelled
         → (fault : Fault)
         → device (P.size port.old) (P.seen port.old) ≡ Err fault

@@ -40,9 +40,9 @@ pub fn run<P: Port>(alloc: Global, words: &[String], port: &mut P) -> Status
     ensures verb { (m : Meaning)
         → verb_of (map string_bytes words.now) ≡ Some m
         → (result ≡ Status.NoMemory) × (port.new ≡ port.old)
-          ⊎ DoesVerb P.Disk m port.old port.new result }
-    // Status 2 comes only where they ask for nothing, and where they do nothing but want of memory comes
-    // in its place. Then nothing is told or written.
+        ⊎ DoesVerb P.Disk m port.old port.new result }
+    // Status 2 comes only where they ask for nothing, and where they do nothing but want of memory
+    // comes in its place. Then nothing is told or written.
     ensures usage { result ≡ Status.Usage → verb_of (map string_bytes words.now) ≡ None }
     ensures untaken { verb_of (map string_bytes words.now) ≡ None
         → (result ≡ Status.Usage) ⊎ (result ≡ Status.NoMemory) }

@@ -25,7 +25,7 @@ pub(crate) fn open_and_serve<P: Port>(alloc: Global, port: &mut P) -> Status
         → (s : Mounted)
         → IsIn (P.size port.old) s (P.seen port.old)
         → RunsSession P.Disk (P.size port.old) (λ o. ⊥) s port.old port.new result
-          ⊎ FailsBefore P.Disk (P.size port.old) s port.old port.new result }
+        ⊎ FailsBefore P.Disk (P.size port.old) s port.old port.new result }
     ensures none { P.is_modelled
         → (fault : Fault)
         → device (P.size port.old) (P.seen port.old) ≡ Err fault
@@ -35,7 +35,7 @@ pub(crate) fn open_and_serve<P: Port>(alloc: Global, port: &mut P) -> Status
     ensures disk { result ≡ Status.Disk → Rose (P.faults port.old).disk (P.faults port.new).disk }
     ensures port { result ≡ Status.Port
         → Rose (P.faults port.old).source (P.faults port.new).source
-          ⊎ Rose (P.faults port.old).sink (P.faults port.new).sink }
+        ⊎ Rose (P.faults port.old).sink (P.faults port.new).sink }
 {
     let device = match open(alloc, port, b"") {
         Ok(device) => device,
@@ -53,10 +53,10 @@ pub(crate) fn make_and_serve<P: Port>(alloc: Global, port: &mut P) -> Status
     ensures runs { P.is_modelled
         → 6152 ≤ P.size port.old
         → RunsSession P.Disk (P.size port.old)
-          (LeavesMaking (P.told port.old) [] 0 65536 (P.size port.old) (P.seen port.old))
-          (made_device_of [] 0 65536 (P.size port.old))
-          port.old port.new result
-          ⊎ FailsMaking P.Disk (P.size port.old) [] 0 65536 port.old port.new result }
+        (LeavesMaking (P.told port.old) [] 0 65536 (P.size port.old) (P.seen port.old))
+        (made_device_of [] 0 65536 (P.size port.old))
+        port.old port.new result
+        ⊎ FailsMaking P.Disk (P.size port.old) [] 0 65536 port.old port.new result }
     ensures small { P.is_modelled
         → P.size port.old < 6152
         → RunsRefused P.Disk (P.size port.old) [] Status.NotADevice port.old port.new result }
@@ -67,7 +67,7 @@ pub(crate) fn make_and_serve<P: Port>(alloc: Global, port: &mut P) -> Status
     ensures disk { result ≡ Status.Disk → Rose (P.faults port.old).disk (P.faults port.new).disk }
     ensures port { result ≡ Status.Port
         → Rose (P.faults port.old).source (P.faults port.new).source
-          ⊎ Rose (P.faults port.old).sink (P.faults port.new).sink }
+        ⊎ Rose (P.faults port.old).sink (P.faults port.new).sink }
 {
     let set = Listing::from_vec(Vec::new(alloc));
     match make_device(alloc, port, &set, 0, FRESH_METADATA_MAX) {

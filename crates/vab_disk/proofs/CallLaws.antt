@@ -213,7 +213,7 @@ module _ {D : Type 0} (g : Ghosts D) where
       → (g.is_modelled → g.seen b ≡ g.seen a)
       → (g.is_modelled → SameHoldings (g.may_leave a) (g.may_leave b))
       → (g.is_modelled
-        → Adds g.moment g.outcomes a b (LeavesSaying (g.told a) piece (g.may_leave a)))
+      → Adds g.moment g.outcomes a b (LeavesSaying (g.told a) piece (g.may_leave a)))
       → Changes g W a b
   changes_telling W piece a b size seen crash time = record {
     size = size;

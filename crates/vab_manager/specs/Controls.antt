@@ -23,9 +23,9 @@ HasControl control old new =
 
 -- with nothing more told, the image is the old one, or has this boot control
 pub record LeavesControl (told : List ℕ) (control : Control) (old : Image) (o : Outcome) : Type 0
-    where
-  pub told_so_far : o.told ≡ told
-  pub either : (o.image ≡ old) ⊎ HasControl control old o.image
+  where
+    pub told_so_far : o.told ≡ told
+    pub either : (o.image ≡ old) ⊎ HasControl control old o.image
 
 -- The boot control's sector with this boot control, and its other bits as these bytes have them.
 pub record IsControl (c : Control) (old : List ℕ) (s : ℕ) (b : List ℕ) : Type 0 where

@@ -20,9 +20,9 @@ returns-in-Ok-do_command-clause-runs g c = λ t s stands.
     let here = opened_in g.P.Disk g.met.P.Disk.only_now size old mid s opens stands in
     let sized : g.P.Disk.size mid ≡ size = c.open.ensures.size in
     let does = does_sized g.P.Disk (g.P.Disk.size mid) size (λ x. command_item x command (line x))
-        mid new (Ok status) sized (c.in-Ok-do_command.ensures.does t) s here in
+    mid new (Ok status) sized (c.in-Ok-do_command.ensures.does t) s here in
     let is = c.in-Ok-do_command.ensures.status t s
-        (subst (λ (n : ℕ). IsIn n s (g.P.Disk.seen mid)) (sym sized) here) in
+    (subst (λ (n : ℕ). IsIn n s (g.P.Disk.seen mid)) (sym sized) here) in
     inl (runs_done g.P.Disk g.met.P.Disk.only_now size s command (line s)
     (inl (reply_some command _ _)) (verb_status s.state command) old mid new opens stands status is does)
 
@@ -39,7 +39,7 @@ returns-in-Err-do_command-clause-runs g c = λ t s stands.
     let here = opened_in g.P.Disk g.met.P.Disk.only_now size old mid s opens stands in
     let sized : g.P.Disk.size mid ≡ size = c.open.ensures.size in
     let does = does_sized g.P.Disk (g.P.Disk.size mid) size (λ x. command_item x command (line x))
-        mid new (Err status) sized (c.in-Err-do_command.ensures.does t) s here in
+    mid new (Err status) sized (c.in-Err-do_command.ensures.does t) s here in
     inl (runs_failed g.P.Disk g.met.P.Disk.only_now size s command (line s)
     (inl (reply_some command _ _)) (verb_status s.state command) old mid new opens stands status
     c.in-Err-do_command.ensures.failed (verb_kind s.state command) does)

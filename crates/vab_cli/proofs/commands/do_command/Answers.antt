@@ -26,7 +26,7 @@ returns-in-Ok-say_all-clause-does g c = λ t s stands.
     let command = command_of c.args.command.now in
     let same = mounted_is d _ (g.P.Disk.seen old) s (c.requires.represents t) stands in
     let text = told_line d (g.P.Disk.seen old) s command _ _ _ _ same c.current-current.ensures
-        (c.in-Ok.ensures.reply t) c.reply_line.ensures c.as_slice.ensures.value in
+    (c.in-Ok.ensures.reply t) c.reply_line.ensures c.as_slice.ensures.value in
     command_does g.P.Disk (g.P.Disk.size old) d command s (command_line s.state command)
     (reply_some command _ _) old mid refl (c.requires.represents t) stands
     _ _ new _ c.in-Ok.ensures t
@@ -59,7 +59,7 @@ returns-clause-does g c = λ t s stands.
     let command = command_of c.args.command.now in
     let same = mounted_is d _ (g.P.Disk.seen old) s (c.requires.represents t) stands in
     let text = told_line d (g.P.Disk.seen old) s command _ _ _ _ same c.current-current.ensures
-        (c.in-Ok.ensures.reply t) c.reply_line.ensures c.as_slice.ensures.value in
+    (c.in-Ok.ensures.reply t) c.reply_line.ensures c.as_slice.ensures.value in
     command_does g.P.Disk (g.P.Disk.size old) d command s (command_line s.state command)
     (reply_some command _ _) old mid refl (c.requires.represents t) stands
     _ _ new _ c.in-Ok.ensures t

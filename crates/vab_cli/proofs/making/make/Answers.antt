@@ -26,7 +26,7 @@ returns-clause-made g c = λ t set fits is none.
     let limit = c.args.limit in
     let max = c.args.max in
     let found : c.in-Ok-read_set.set ≡ set = same_set _ _ _ set c.in-Ok-read_set.set
-        (c.in-Ok.ensures.bytes t) c.deref.ensures.value c.in-Ok-read_set.ensures.exact is in
+    (c.in-Ok.ensures.bytes t) c.deref.ensures.value c.in-Ok-read_set.ensures.exact is in
     making_after g.P.Disk g.met.P.Disk.only_now size set limit max (done_making set size)
     old mid new c.make_of.result
     (c.hear_all.ensures.told t) (c.hear_all.ensures.seen t) (c.hear_all.ensures.crash t)
@@ -40,7 +40,7 @@ returns-clause-made g c = λ t set fits is none.
     (λ (x : List SetImage).
     refusal_of x limit max (g.P.Disk.size mid) ≡ None
     → RunsMaking g.P.Disk (g.P.Disk.size mid) x limit max (done_making x (g.P.Disk.size mid))
-      mid new c.make_of.result)
+    mid new c.make_of.result)
     found (c.make_of.ensures.made t)) none)
 
 pub returns-clause-refused : goal.returns-clause-refused
@@ -52,7 +52,7 @@ returns-clause-refused g c = λ t set fits is fault refused.
     let limit = c.args.limit in
     let max = c.args.max in
     let found : c.in-Ok-read_set.set ≡ set = same_set _ _ _ set c.in-Ok-read_set.set
-        (c.in-Ok.ensures.bytes t) c.deref.ensures.value c.in-Ok-read_set.ensures.exact is in
+    (c.in-Ok.ensures.bytes t) c.deref.ensures.value c.in-Ok-read_set.ensures.exact is in
     refused_after g.P.Disk g.met.P.Disk.only_now size (make_line fault) (make_status fault)
     old mid new c.make_of.result
     (c.hear_all.ensures.told t) (c.hear_all.ensures.seen t) (c.hear_all.ensures.crash t)
@@ -66,5 +66,5 @@ returns-clause-refused g c = λ t set fits is fault refused.
     (λ (x : List SetImage).
     refusal_of x limit max (g.P.Disk.size mid) ≡ Some fault
     → RunsRefused g.P.Disk (g.P.Disk.size mid) (make_line fault) (make_status fault) mid new
-      c.make_of.result)
+    c.make_of.result)
     found (c.make_of.ensures.refused t fault)) refused)

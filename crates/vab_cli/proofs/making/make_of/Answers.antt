@@ -16,7 +16,7 @@ use Rattle.vab_cli.proofs.making.make_of.Goals as goal
 pub tell_made-requires-clause-size : goal.tell_made-requires-clause-size
 tell_made-requires-clause-size g c =
     let enough = enough_sectors c.args.set.now c.args.limit c.args.max (g.P.Disk.size c.args.port.now)
-        c.in-Ok.ensures.exact in
+    c.in-Ok.ensures.exact in
     omega (arith, enough, c.make_device.ensures.touches.quiet.size)
 
 pub returns-in-Ok-clause-made : goal.returns-in-Ok-clause-made
@@ -26,8 +26,8 @@ returns-in-Ok-clause-made g c = λ t none.
     let new = c.tell_made.new.port in
     let size = g.P.Disk.size old in
     let tells = subst
-        (λ (n : ℕ). Tells g.P.Disk (done_making c.args.set.now n) Done mid new c.tell_made.result)
-        c.make_device.ensures.touches.quiet.size (c.tell_made.ensures.tells t) in
+    (λ (n : ℕ). Tells g.P.Disk (done_making c.args.set.now n) Done mid new c.tell_made.result)
+    c.make_device.ensures.touches.quiet.size (c.tell_made.ensures.tells t) in
     making_told g.P.Disk g.met.P.Disk.only_now size c.args.set.now c.args.limit c.args.max
     (done_making c.args.set.now size) old mid new c.tell_made.result
     (c.make_device.ensures.touches.quiet.told t) (c.in-Ok.ensures.made t) (c.in-Ok.ensures.settled t)
@@ -64,7 +64,7 @@ returns-then-is_silent-clause-refused g c = λ t fault refused.
     c.from.ensures ∙ silent_memory c.in-Err.fault fault gives is in
     let no_disk = not_of_disk c.in-Err.fault fault gives in
     let reads = subst (λ (x : g.row.P.Denot). OnlyReads g.P.Disk old x)
-        (sym (c.in-Err.ensures.untouched no_disk)) (reads_none g.P.Disk old) in
+    (sym (c.in-Err.ensures.untouched no_disk)) (reads_none g.P.Disk old) in
     refused_unheard g.P.Disk g.met.P.Disk.only_now size (make_line fault) (make_status fault) old new
     c.from.result (c.make_device.ensures.touches.quiet.told t) (reads.seen t) (reads.time t)
     (silent_line fault) (status_not_port fault) (inr (inr memory))
@@ -81,14 +81,14 @@ returns-clause-refused g c = λ t fault refused.
     let same : c.in-Err.fault ≡ fault = loud_refusal c.in-Err.fault fault gives loud in
     let no_disk = not_of_disk c.in-Err.fault fault gives in
     let reads = subst (λ (x : g.row.P.Denot). OnlyReads g.P.Disk old x)
-        (sym (c.in-Err.ensures.untouched no_disk)) (reads_none g.P.Disk old) in
+    (sym (c.in-Err.ensures.untouched no_disk)) (reads_none g.P.Disk old) in
     let tells = subst
-        (λ (f : MakeFault).
-        Tells g.P.Disk (make_line f) (make_status f) mid new c.tell_fault.result)
-        same (c.tell_fault.ensures.tells t) in
+    (λ (f : MakeFault).
+    Tells g.P.Disk (make_line f) (make_status f) mid new c.tell_fault.result)
+    same (c.tell_fault.ensures.tells t) in
     let either = subst
-        (λ (f : MakeFault). (c.tell_fault.result ≡ make_status f) ⊎ (c.tell_fault.result ≡ Port))
-        same c.tell_fault.ensures.either in
+    (λ (f : MakeFault). (c.tell_fault.result ≡ make_status f) ⊎ (c.tell_fault.result ≡ Port))
+    same c.tell_fault.ensures.either in
     refused_told g.P.Disk g.met.P.Disk.only_now size (make_line fault) (make_status fault) old mid new
     c.tell_fault.result (c.make_device.ensures.touches.quiet.told t) (reads.seen t) (reads.crash t)
     (reads.time t) (silent_line fault) either tells

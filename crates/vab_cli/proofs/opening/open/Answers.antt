@@ -56,7 +56,7 @@ pub returns-in-Ok-say_all-clause-none : goal.returns-in-Ok-say_all-clause-none
 returns-in-Ok-say_all-clause-none g c = λ t fault none.
     let is : c.from-status.result ≡ NotADevice = search rules in
     let reads = c.in-Err.ensures.unwritten
-        (contents_no_disk c.in-Err.fault (contents_of c.in-Err.fault (sym c.from-status.ensures ∙ is))) in
+    (contents_no_disk c.in-Err.fault (contents_of c.in-Err.fault (sym c.from-status.ensures ∙ is))) in
     none_told g.P.Disk g.met.P.Disk.only_now _ c.args.line.now c.args.port.now c.start.new.d
     c.say_all.new.p NotADevice (inl refl) (c.start.ensures.quiet.told t) (reads.seen t) (reads.crash t)
     (c.start.ensures.time t) (c.say_all.ensures.front t) (λ same. c.in-Ok-say_all.ensures.told t)
@@ -66,7 +66,7 @@ pub returns-in-Err-say_all-clause-none : goal.returns-in-Err-say_all-clause-none
 returns-in-Err-say_all-clause-none g c = λ t fault none.
     let is : c.from-status.result ≡ NotADevice = search rules in
     let reads = c.in-Err.ensures.unwritten
-        (contents_no_disk c.in-Err.fault (contents_of c.in-Err.fault (sym c.from-status.ensures ∙ is))) in
+    (contents_no_disk c.in-Err.fault (contents_of c.in-Err.fault (sym c.from-status.ensures ∙ is))) in
     none_told g.P.Disk g.met.P.Disk.only_now _ c.args.line.now c.args.port.now c.start.new.d
     c.say_all.new.p Port (inr refl) (c.start.ensures.quiet.told t) (reads.seen t) (reads.crash t)
     (c.start.ensures.time t) (c.say_all.ensures.front t) (λ same. cc)

@@ -24,9 +24,9 @@ returns-in-Ok-print_image-clause-runs g c = λ t s stands.
     let here = opened_in g.P.Disk g.met.P.Disk.only_now size old mid s opens stands in
     let sized : g.P.Disk.size mid ≡ size = c.open.ensures.size in
     let does = does_sized g.P.Disk (g.P.Disk.size mid) size (λ x. command_item x command (line x))
-        mid new (Ok status) sized (c.in-Ok-print_image.ensures.does t) s here in
+    mid new (Ok status) sized (c.in-Ok-print_image.ensures.does t) s here in
     let is = c.in-Ok-print_image.ensures.status t s
-        (subst (λ (n : ℕ). IsIn n s (g.P.Disk.seen mid)) (sym sized) here) in
+    (subst (λ (n : ℕ). IsIn n s (g.P.Disk.seen mid)) (sym sized) here) in
     inl (runs_done g.P.Disk g.met.P.Disk.only_now size s command (line s)
     (inr (print_last size s c.args.name.now (line s))) (verb_status s.state command) old mid new opens
     stands status is does)
@@ -44,7 +44,7 @@ returns-clause-runs g c = λ t s stands.
     let here = opened_in g.P.Disk g.met.P.Disk.only_now size old mid s opens stands in
     let sized : g.P.Disk.size mid ≡ size = c.open.ensures.size in
     let does = does_sized g.P.Disk (g.P.Disk.size mid) size (λ x. command_item x command (line x))
-        mid new (Err status) sized (c.in-Err-print_image.ensures.does t) s here in
+    mid new (Err status) sized (c.in-Err-print_image.ensures.does t) s here in
     inl (runs_failed g.P.Disk g.met.P.Disk.only_now size s command (line s)
     (inr (print_last size s c.args.name.now (line s))) (verb_status s.state command) old mid new opens
     stands status c.in-Err-print_image.ensures.failed (verb_kind s.state command) does)

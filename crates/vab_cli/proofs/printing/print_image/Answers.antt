@@ -18,13 +18,13 @@ returns-in-Ok-tell_blocks-clause-does g c = λ t s stands.
     let size = g.P.Disk.size old in
     let image = g.P.Disk.seen old in
     let same = ap (λ (m : Mounted). m.state)
-        (mounted_is c.args.device.now size image s (c.requires.represents t) stands) in
+    (mounted_is c.args.device.now size image s (c.requires.represents t) stands) in
     let found = c.in-Ok.ensures.image image in
     let p = found.2 in
     let kept = subst (λ (name : List ℕ). KeepsPart c.args.device.now c.in-Ok.slot name p)
-        (sym c.base_of.ensures) found.3 in
+    (sym c.base_of.ensures) found.3 in
     let text = image_told (state_on c.args.device.now image) s.state c.args.name.now found.0
-        (bytes_at image p.map) same found.1 found.4 in
+    (bytes_at image p.map) same found.1 found.4 in
     subst (λ (i : Item Mounted). DoesItem g.P.Disk {A = Status} {E = Status} size i old new (Ok Done))
     (ap (line_item s) text ∙ sym (print_item s c.args.name.now _))
     (does_line g.P.Disk size s (bytes_at image p.map) old new _ stands
@@ -42,7 +42,7 @@ pub returns-in-Ok-tell_blocks-clause-status : goal.returns-in-Ok-tell_blocks-cla
 returns-in-Ok-tell_blocks-clause-status g c = λ t s stands.
     let image = g.P.Disk.seen c.args.port.now in
     let same = ap (λ (m : Mounted). m.state)
-        (mounted_is c.args.device.now _ image s (c.requires.represents t) stands) in
+    (mounted_is c.args.device.now _ image s (c.requires.represents t) stands) in
     let found = c.in-Ok.ensures.image image in
     image_done (state_on c.args.device.now image) s.state c.args.name.now found.0 same found.1
 
@@ -53,13 +53,13 @@ returns-in-Err-tell_blocks-clause-does g c = λ t s stands.
     let size = g.P.Disk.size old in
     let image = g.P.Disk.seen old in
     let same = ap (λ (m : Mounted). m.state)
-        (mounted_is c.args.device.now size image s (c.requires.represents t) stands) in
+    (mounted_is c.args.device.now size image s (c.requires.represents t) stands) in
     let found = c.in-Ok.ensures.image image in
     let p = found.2 in
     let kept = subst (λ (name : List ℕ). KeepsPart c.args.device.now c.in-Ok.slot name p)
-        (sym c.base_of.ensures) found.3 in
+    (sym c.base_of.ensures) found.3 in
     let text = image_told (state_on c.args.device.now image) s.state c.args.name.now found.0
-        (bytes_at image p.map) same found.1 found.4 in
+    (bytes_at image p.map) same found.1 found.4 in
     subst
     (λ (i : Item Mounted).
     DoesItem g.P.Disk {A = Status} {E = Status} size i old new (Err c.in-Err-tell_blocks.status))
@@ -82,9 +82,9 @@ returns-in-Err-clause-does g c = λ t s stands.
     let size = g.P.Disk.size old in
     let image = g.P.Disk.seen old in
     let same = ap (λ (m : Mounted). m.state)
-        (mounted_is c.args.device.now size image s (c.requires.represents t) stands) in
+    (mounted_is c.args.device.now size image s (c.requires.represents t) stands) in
     let text = refusal_told (state_on c.args.device.now image) s.state c.args.name.now
-        c.in-Err.refusal same (c.in-Err.ensures.refused image) in
+    c.in-Err.refusal same (c.in-Err.ensures.refused image) in
     subst (λ (i : Item Mounted). DoesItem g.P.Disk {A = Status} {E = Status} size i old new c.refuse.result)
     (ap (line_item s) text ∙ sym (print_item s c.args.name.now _))
     (does_line g.P.Disk size s (refused_line c.in-Err.refusal) old new c.refuse.result stands
@@ -94,7 +94,7 @@ pub returns-in-Ok-tell_blocks-clause-quiet : goal.returns-in-Ok-tell_blocks-clau
 returns-in-Ok-tell_blocks-clause-quiet g c = λ t.
     let found = c.in-Ok.ensures.image (g.P.Disk.seen c.args.port.now) in
     let kept = subst (λ (name : List ℕ). KeepsPart c.args.device.now c.in-Ok.slot name found.2)
-        (sym c.base_of.ensures) found.3 in
+    (sym c.base_of.ensures) found.3 in
     let says = c.in-Ok-tell_blocks.ensures.says t found.2 kept in
     record { left = says.left; heard = says.heard }
 
@@ -102,7 +102,7 @@ pub returns-in-Err-tell_blocks-clause-quiet : goal.returns-in-Err-tell_blocks-cl
 returns-in-Err-tell_blocks-clause-quiet g c = λ t.
     let found = c.in-Ok.ensures.image (g.P.Disk.seen c.args.port.now) in
     let kept = subst (λ (name : List ℕ). KeepsPart c.args.device.now c.in-Ok.slot name found.2)
-        (sym c.base_of.ensures) found.3 in
+    (sym c.base_of.ensures) found.3 in
     let says = c.in-Err-tell_blocks.ensures.says t found.2 kept in
     record { left = says.left; heard = says.heard }
 
@@ -110,7 +110,7 @@ pub returns-in-Err-clause-status : goal.returns-in-Err-clause-status
 returns-in-Err-clause-status g c = λ t s stands.
     let image = g.P.Disk.seen c.args.port.now in
     let same = ap (λ (m : Mounted). m.state)
-        (mounted_is c.args.device.now _ image s (c.requires.represents t) stands) in
+    (mounted_is c.args.device.now _ image s (c.requires.represents t) stands) in
     subst (λ (x : Status). IfOk c.refuse.result (λ (status : Status). status ≡ x))
     (refusal_done (state_on c.args.device.now image) s.state c.args.name.now c.in-Err.refusal same
     (c.in-Err.ensures.refused image))

@@ -20,7 +20,7 @@ pub overflow_add-first : goal.overflow_add-first
 overflow_add-first g c =
     let part = c.requires.part in
     let small = (part_kept c.args.device.now (g.P.Disk.size c.args.port.now) c.args.slot
-        c.args.name.now part.0 c.requires.kept part.1).small in
+    c.args.name.now part.0 c.requires.kept part.1).small in
     omega (arith, part.2, small, c.loop-block-test.true)
 
 pub loop-block-preserved : goal.loop-block-preserved
@@ -29,19 +29,24 @@ loop-block-preserved g c =
     let fits : 4096 * c.loop-block.block + 4096 ≤ 65536 =
     omega (arith, c.loop-block-test.true, c.requires.few) in
     let more : c.try_extend_from_slice.new.self.items
-      ≡ c.loop-block.piece.items ++ c.read_block.new.out = search rules in
+    ≡ c.loop-block.piece.items ++ c.read_block.new.out = search rules in
     record {
       bytes = λ t p kept.
           let end = within_kept c.args.device.now c.args.slot c.args.name.now p
-              (c.args.first + c.args.count) kept c.requires.part in
+          (c.args.first + c.args.count) kept c.requires.part in
           piece_more (g.P.Disk.seen c.args.port.now) (g.P.Disk.seen c.loop-block.port) p.map
           c.loop-block.piece.items c.read_block.new.out c.try_extend_from_slice.new.self.items
           c.args.first c.loop-block.block
           (omega (arith, end, c.loop-block-test.true)) (i.reads.seen t) (i.bytes t p kept)
           (c.in_ok-read_block.ensures.sectors t p kept) more;
       long = (let both = ap length more in
-        omega (arith, both, length-append c.loop-block.piece.items c.read_block.new.out,
-        c.read_block.array_long, i.long));
+          omega (
+            arith,
+            both,
+            length-append c.loop-block.piece.items c.read_block.new.out,
+            c.read_block.array_long,
+            i.long,
+          ));
       reads = reads_then g.P.Disk c.args.port.now c.loop-block.port c.read_block.new.d
           i.reads c.read_block.ensures.reads;
       steady = c.in_ok-read_block.ensures.faults.steady ∙ i.steady;

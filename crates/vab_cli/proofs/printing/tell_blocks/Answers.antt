@@ -33,12 +33,12 @@ returns-in-Err-clause-says g c = λ t p kept.
     let before = i.says t p kept in
     let status = c.in-Err.status in
     let piece = subst
-        (λ (x : Image).
-        Says g.P.Disk {A = Unit {0}} {E = Status} (bytes_at x (take count (drop done p.map))) mid new
-        (Err status))
-        before.seen (c.in-Err.ensures.says t p kept) in
+    (λ (x : Image).
+    Says g.P.Disk {A = Unit {0}} {E = Status} (bytes_at x (take count (drop done p.map))) mid new
+    (Err status))
+    before.seen (c.in-Err.ensures.says t p kept) in
     let both = says_on g.P.Disk (bytes_at image (take done p.map))
-        (bytes_at image (take count (drop done p.map))) old mid new tt (Err status) before piece in
+    (bytes_at image (take count (drop done p.map))) old mid new tt (Err status) before piece in
     subst (λ (l : List ℕ). Says g.P.Disk {A = Unit {0}} {E = Status} l old new (Err status))
     (bytes_rest image p.map done count)
     (says_front g.P.Disk
@@ -61,10 +61,10 @@ loop-done-preserved g c =
           let image = g.P.Disk.seen old in
           let before = i.says t p kept in
           let piece = subst
-              (λ (x : Image).
-              Says g.P.Disk {A = Unit {0}} {E = Status} (bytes_at x (take count (drop done p.map)))
-              mid new (Ok tt))
-              before.seen (c.in-Ok.ensures.says t p kept) in
+          (λ (x : Image).
+          Says g.P.Disk {A = Unit {0}} {E = Status} (bytes_at x (take count (drop done p.map)))
+          mid new (Ok tt))
+          before.seen (c.in-Ok.ensures.says t p kept) in
           subst (λ (l : List ℕ). Says g.P.Disk {A = Unit {0}} {E = Status} l old new (Ok tt))
           (bytes_piece image p.map done count)
           (says_on g.P.Disk (bytes_at image (take done p.map))
@@ -75,7 +75,7 @@ pub returns-clause-says : goal.returns-clause-says
 returns-clause-says g c = λ t p kept.
     let i = c.loop-done.invariant in
     let count = count_kept c.args.device.now c.args.slot c.args.name.now p c.args.blocks kept
-        c.requires.part in
+    c.requires.part in
     let all : take c.loop-done.done p.map ≡ p.map =
     take_all c.loop-done.done p.map (omega (arith, c.loop-done-test.false, count)) in
     subst

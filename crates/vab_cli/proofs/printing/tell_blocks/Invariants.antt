@@ -15,7 +15,7 @@ invariant-loop-done g l = record {
       → (p : Part)
       → KeepsPart l.device l.slot l.name p
       → Says g.P.Disk {A = Unit {0}} {E = Status}
-        (bytes_at (g.P.Disk.seen l.fn.port) (take l.done p.map)) l.fn.port l.port (Ok tt);
+      (bytes_at (g.P.Disk.seen l.fn.port) (take l.done p.map)) l.fn.port l.port (Ok tt);
 }
 
 abbrev pub decreases-loop-done : goal.decreases-loop-done

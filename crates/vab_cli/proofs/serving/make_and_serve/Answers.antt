@@ -39,7 +39,7 @@ returns-in-Err-clause-runs g c = λ t enough.
     (λ (x : List SetImage).
     IsAtRest g.P.Disk old
     → Adds g.P.Disk.moment g.P.Disk.outcomes old c.make_device.new.d
-      (LeavesMaking (g.P.Disk.told old) x 0 65536 size (g.P.Disk.seen old)))
+    (LeavesMaking (g.P.Disk.told old) x 0 65536 size (g.P.Disk.seen old)))
     set (c.make_device.ensures.time t)))
 
 pub returns-in-Err-clause-small : goal.returns-in-Err-clause-small
@@ -53,8 +53,8 @@ returns-in-Err-clause-small g c = λ t small.
     (ap (λ (x : List SetImage). refusal_of x 0 65536 size) set ∙ fresh_small size small)
     c.in-Err.ensures.exact in
     let reads = subst (λ (x : g.row.P.Denot). OnlyReads g.P.Disk old x)
-        (sym (c.in-Err.ensures.untouched (small_unwritten c.in-Err.fault 6152 size gives)))
-        (reads_none g.P.Disk old) in
+    (sym (c.in-Err.ensures.untouched (small_unwritten c.in-Err.fault 6152 size gives)))
+    (reads_none g.P.Disk old) in
     refused_unheard g.P.Disk g.met.P.Disk.only_now size [] NotADevice old new c.from.result
     (c.make_device.ensures.touches.quiet.told t) (reads.seen t) (reads.time t) (λ memory. refl)
     (λ port. cc)
@@ -127,13 +127,13 @@ returns-in-Err-start-clause-runs g c = λ t enough.
     (λ (x : List SetImage).
     IsAtRest g.P.Disk old
     → Adds g.P.Disk.moment g.P.Disk.outcomes old mid
-      (LeavesMaking (g.P.Disk.told old) x 0 65536 size (g.P.Disk.seen old)))
+    (LeavesMaking (g.P.Disk.told old) x 0 65536 size (g.P.Disk.seen old)))
     set (c.make_device.ensures.time t))
     (subst
     (λ (n : ℕ).
     IsAtRest g.P.Disk mid
     → Adds g.P.Disk.moment g.P.Disk.outcomes mid c.start.new.d
-      (LeavesSame (g.P.Disk.told mid) n (g.P.Disk.seen mid)))
+    (LeavesSame (g.P.Disk.told mid) n (g.P.Disk.seen mid)))
     sized (c.start.ensures.time t)))
 
 pub returns-clause-runs : goal.returns-clause-runs
@@ -165,19 +165,19 @@ returns-clause-runs g c = λ t enough.
     subst (λ (n : ℕ). Represents d n (g.P.Disk.seen now)) sized
     (c.in-Ok-start.ensures.represents t) in
     let serves = subst
-        (λ (n : ℕ). ServesDevice n g.P.Disk d (2 ^ 44) now new c.serve-answer.result)
-        sized_now (c.serve-answer.ensures.serves t) in
+    (λ (n : ℕ). ServesDevice n g.P.Disk d (2 ^ 44) now new c.serve-answer.result)
+    sized_now (c.serve-answer.ensures.serves t) in
     let runs = made_runs g.P.Disk g.met.P.Disk.only_now size [] 0 65536 d old mid now new
-        c.serve-answer.result
-        (c.make_device.ensures.touches.quiet.told t) (c.make_device.ensures.touches.quiet.left t)
-        (c.make_device.ensures.touches.quiet.heard t) made (c.in-Ok.ensures.settled t)
-        (subst
-        (λ (x : List SetImage).
-        IsAtRest g.P.Disk old
-        → Adds g.P.Disk.moment g.P.Disk.outcomes old mid
-          (LeavesMaking (g.P.Disk.told old) x 0 65536 size (g.P.Disk.seen old)))
-        set (c.make_device.ensures.time t))
-        opens represents serves in
+    c.serve-answer.result
+    (c.make_device.ensures.touches.quiet.told t) (c.make_device.ensures.touches.quiet.left t)
+    (c.make_device.ensures.touches.quiet.heard t) made (c.in-Ok.ensures.settled t)
+    (subst
+    (λ (x : List SetImage).
+    IsAtRest g.P.Disk old
+    → Adds g.P.Disk.moment g.P.Disk.outcomes old mid
+    (LeavesMaking (g.P.Disk.told old) x 0 65536 size (g.P.Disk.seen old)))
+    set (c.make_device.ensures.time t))
+    opens represents serves in
     inl (subst
     (λ (x : Status).
     RunsSession g.P.Disk size

@@ -14,10 +14,10 @@ returns-clause-runs g c = λ t s stands.
     let size = g.P.Disk.size old in
     let d = c.in-Ok.device in
     let serves = subst
-        (λ (n : ℕ). ServesDevice n g.P.Disk d (2 ^ 44) mid new c.serve-answer.result)
-        c.open.ensures.size (c.serve-answer.ensures.serves t) in
+    (λ (n : ℕ). ServesDevice n g.P.Disk d (2 ^ 44) mid new c.serve-answer.result)
+    c.open.ensures.size (c.serve-answer.ensures.serves t) in
     let runs = opened_runs g.P.Disk g.met.P.Disk.only_now size d s old mid new c.serve-answer.result
-        (c.in-Ok.ensures.opens t) stands (c.in-Ok.ensures.represents t) serves in
+    (c.in-Ok.ensures.opens t) stands (c.in-Ok.ensures.represents t) serves in
     inl (subst
     (λ (x : Status). RunsSession g.P.Disk size (λ o. ⊥) s old new x)
     (sym c.session_status.ensures) runs)
