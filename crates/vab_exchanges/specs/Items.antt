@@ -1,4 +1,5 @@
--- What the exchanges of a session make of a device, and what is told of each. What a command makes of
+-- What the exchanges of a session make of a device, and what is told of each. What a command
+-- makes of
 -- it is given by the device.
 use Rattle.std.specs.Prelude.{
   ◌≡◌,
@@ -33,8 +34,10 @@ use Rattle.vab_fbproto.specs.Requests.{Asked, Getvar, Download, Do, BootAndEnd, 
 use Rattle.vab_fbproto.specs.declared.request.BadCommand.{BadCommand}
 use Rattle.vab_exchanges.specs.Session.{packet, most_data, Exchange, End, IsSession}
 
--- What a command makes of a device, if it has its memory: the text of the reply, the situations after
--- the one that it is in, whether it uses the staged bytes up, and whether it may be told that there is
+-- What a command makes of a device, if it has its memory: the text of the reply, the situations
+-- after
+-- the one that it is in, whether it uses the staged bytes up, and whether it may be told that
+-- there is
 -- no memory in place of all this.
 pub record Response (S : Type 0) : Type 0 where
   pub text : List ℕ
@@ -93,7 +96,8 @@ item_staged k size parts = record {
   last = record { now = k.now; staged = Some (flat_map (λ part. part) parts) };
 }
 
--- A download of so many bytes, whether memory is refused to it, and its data. One that is empty wants
+-- A download of so many bytes, whether memory is refused to it, and its data. One that is empty
+-- wants
 -- no memory.
 abbrev pub item_download : {S : Type 0} → Kept S → ℕ → Bool → List (List ℕ) → Item S
 item_download k size refused parts =
@@ -168,7 +172,8 @@ module _ {S : Type 0} (effect : S → Option (List ℕ) → Result Asked BadComm
         → (effect s staged asked).may_want ≡ true
         → (effect s staged asked).text ≢ codes "FAILout of memory"
 
-  -- What is told fixes the choices, as far as they tell: where two sessions of an input tell the same
+  -- What is told fixes the choices, as far as they tell: where two sessions of an input tell the
+  -- same
   -- through the last reply of an item, they have the same items so far.
   abbrev pub TellsItsChoices : Type 0
   TellsItsChoices =

@@ -65,7 +65,8 @@ acknowledged (i ∷ is) told =
     then suc (acknowledged is (drop (length i.reply) told))
     else 0
 
--- the steps of the item that follows on the first n, and where there is none the situation after them
+-- the steps of the item that follows on the first n, and where there is none the situation after
+-- them
 abbrev pub steps_at : {S : Type 0} → S → List (Item S) → ℕ → List S
 steps_at s [] n = s ∷ []
 steps_at s (i ∷ is) zero = i.steps
@@ -75,7 +76,8 @@ module _ {S : Type 0} (IsIn : S → Image → Type 0) where
   abbrev pub StandsForOne : List S → Image → Type 0
   StandsForOne steps image = (s : S) × IsOneOf steps s × IsIn s image
 
-  -- A front of the greeting and of what is told of the items is told, and the disk is in a step of the
+  -- A front of the greeting and of what is told of the items is told, and the disk is in a step
+  -- of the
   -- first item that doesn't stand whole, after all the acknowledged ones.
   pub record CrashesWithin
       (greeting : List ℕ)
@@ -90,7 +92,8 @@ module _ {S : Type 0} (IsIn : S → Image → Type 0) where
         (steps_at first items (acknowledged items (drop (length greeting) since)))
         o.image
 
-  -- Some front of what is told of an item is told, and the disk is in one of its steps. Where all of
+  -- Some front of what is told of an item is told, and the disk is in one of its steps. Where
+  -- all of
   -- it stands, it is in the last.
   pub record LeavesItem (told : List ℕ) (item : Item S) (o : Outcome) : Type 0 where
     pub front : (n : ℕ) × (o.told ≡ told ++ take n item.reply)
@@ -98,7 +101,8 @@ module _ {S : Type 0} (IsIn : S → Image → Type 0) where
     pub whole : o.told ≡ told ++ item.reply → IsIn item.last.now o.image
 
 module _ {S : Type 0} (effect : S → Option (List ℕ) → Result Asked BadCommand → Response S) where
-  -- When the reader hears behind the hello, what had come by then is some of the exchanges, and none
+  -- When the reader hears behind the hello, what had come by then is some of the exchanges, and
+  -- none
   -- whole behind them; and what was told by then is all that is told of them.
   pub record IsPrompt
       (first : Kept S)
@@ -115,7 +119,8 @@ module _ {S : Type 0} (effect : S → Option (List ℕ) → Result Asked BadComm
         → (end : End) × IsRead count came exchanges unfinished end × IsWaiting count end
     pub told_then : h.told ≡ told ++ output_of effect first exchanges unfinished
 
-  -- The same from the hello on: what had come by then is an input of its own that may go on, with the
+  -- The same from the hello on: what had come by then is an input of its own that may go on,
+  -- with the
   -- first exchanges of the session, and what was told by then is what a session of it tells.
   pub record IsTold
       (first : Kept S)
@@ -137,8 +142,10 @@ module _ {S D : Type 0}
     (effect : S → Option (List ℕ) → Result Asked BadCommand → Response S)
     (IsIn : S → Image → Type 0)
     (g : Ghosts D) where
-  -- The exchanges that stand in these bytes were answered, as far as the port let it: what is said of
-  -- the end, what was told, in which situation it was left where that is known, what each cut of power
+  -- The exchanges that stand in these bytes were answered, as far as the port let it: what is
+  -- said of
+  -- the end, what was told, in which situation it was left where that is known, what each cut of
+  -- power
   -- leaves, and that it hears only where all else is answered. The bytes behind them are not the
   -- session's.
   pub record Ran
@@ -179,7 +186,8 @@ module _ {S D : Type 0}
       (g.heard old)
       (g.heard new)
 
-  -- An exchange was answered: its command, behind which the bytes stood, and the data that it brought.
+  -- An exchange was answered: its command, behind which the bytes stood, and the data that it
+  -- brought.
   pub record Answers
       (k k' : Kept S)
       (command before after beyond : List ℕ)

@@ -12,8 +12,8 @@ pub enum ReadFault {
     TooLong(u64),
     /// Of so many bytes that were due, a data packet of so many came.
     Overrun(u64, u64),
-    /// The input ended inside the hello, a length, a packet or the data of a download, after so many
-    /// bytes.
+    /// The input ended inside the hello, a length, a packet or the data of a download, after so
+    /// many bytes.
     Cut(u64),
     /// As many bytes were taken as a session may have, and it would hear again.
     Spent,

@@ -1,5 +1,5 @@
-//! A fastboot session as a relation on its whole input, and a reader of its exchanges. An exchange is
-//! a command packet, whether memory is refused to it, and the data packets behind it.
+//! A fastboot session as a relation on its whole input, and a reader of its exchanges. An exchange
+//! is a command packet, whether memory is refused to it, and the data packets behind it.
 #![tactic(auto)]
 
 mod budget;

@@ -27,9 +27,9 @@ impl Reader {
     ghost use Rattle.vab_fbtcp.specs.Unread.{unread_of};
     ghost use Rattle.vab_exchanges.specs.Hearing.{Listens};
     ghost use Rattle.vab_exchanges.specs.Reading.{stands_at, rest_of, beyond_of, all_of, room_of};
-    ghost use Rattle.vab_exchanges.specs.Reading.{total_of, count_of, most_of, IsFed, Suits, IsNext};
-    ghost use Rattle.vab_exchanges.specs.Reading.{FaultAt, StopsBy, EndsAs, cut_of, IsShort};
-    ghost use Rattle.vab_exchanges.specs.Reading.{HasData, IsBroken, IsSpent, IsFewerThan};
+    ghost use Rattle.vab_exchanges.specs.Reading.{total_of, count_of, most_of, IsFed, Suits};
+    ghost use Rattle.vab_exchanges.specs.Reading.{IsNext, FaultAt, StopsBy, EndsAs, cut_of};
+    ghost use Rattle.vab_exchanges.specs.Reading.{IsShort, HasData, IsBroken, IsSpent, IsFewerThan};
     ghost use Rattle.vab_exchanges.specs.Session.{packet as spelling, Stops, HasNoHello};
     ghost use Rattle.vab_exchanges.specs.Session.{IsCutShort, IsAwaited};
     ghost use Rattle.vab_exchanges.specs.Session as session;
@@ -50,8 +50,8 @@ impl Reader {
         }
     }
 
-    // Hears the next piece. `false`: none comes, since the input has ended or the session has had all
-    // its bytes.
+    // Hears the next piece. `false`: none comes, since the input has ended or the session has had
+    // all its bytes.
     fn hear<P: Port>(&mut self, p: &mut P) -> Result<bool, ReadFault>
         requires { IsIdle (stands_at self.old) (unread_of self.old.framer) }
         ensures listens { Listens P.Disk
@@ -93,8 +93,8 @@ impl Reader {
         Ok(true)
     }
 
-    // The next event of the session's bytes, whole or not heard yet, where so many bytes of data are
-    // due. `None`: they hold no further one.
+    // The next event of the session's bytes, whole or not heard yet, where so many bytes of data
+    // are due. `None`: they hold no further one.
     fn next<P: Port>(&mut self, p: &mut P, due: u64) -> Result<Option<Event>, ReadFault>
         requires { IsFed self.old }
         ensures fed { IfOk result (λ next. IfSome next (λ _. IsFed self.new)) }
@@ -118,7 +118,8 @@ impl Reader {
             (IsIdle (stands_at self.old) (rest_of self.old (P.input_left p.old)))) }
         ensures held { P.is_modelled → IfOk result (λ next. IfNone next
             (unread_of self.new.framer ≡ rest_of self.old (P.input_left p.old))) }
-        ensures stays { IfOk result (λ next. IfNone next (stands_at self.new ≡ stands_at self.old)) }
+        ensures stays { IfOk result
+            (λ next. IfNone next (stands_at self.new ≡ stands_at self.old)) }
         ensures end { P.is_modelled → IfOk result
             (λ next. IfNone next (IsSpent self.new (P.input_left p.new))) }
         ensures count { P.is_modelled → OnOk result
@@ -235,8 +236,8 @@ impl Reader {
         Ok(())
     }
 
-    /// Reads the next command packet. `false`: the input ends behind the last one. It hears while no
-    /// whole packet has come, and no more.
+    /// Reads the next command packet. `false`: the input ends behind the last one. It hears while
+    /// no whole packet has come, and no more.
     pub fn packet<P: Port>(
         &mut self,
         p: &mut P,

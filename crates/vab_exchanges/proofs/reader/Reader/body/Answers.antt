@@ -1,4 +1,18 @@
-use Rattle.std.proofs.Common.{◌≡◌, Some, ◌+◌, ◌-◌, ◌<◌, ◌++◌, length, slice_range, sym, ◌∙◌, ap, arith, rules}
+use Rattle.std.proofs.Common.{
+  ◌≡◌,
+  Some,
+  ◌+◌,
+  ◌-◌,
+  ◌<◌,
+  ◌++◌,
+  length,
+  slice_range,
+  sym,
+  ◌∙◌,
+  ap,
+  arith,
+  rules,
+}
 use Rattle.vab_fbtcp.specs.declared.event.Event.TheVariants.{Piece}
 use Rattle.vab_exchanges.specs.Reading.{stands_at, rest_of, beyond_of}
 use Rattle.vab_exchanges.proofs.ReaderLaws.{listens_body}
@@ -12,12 +26,17 @@ loop-left-preserved g c =
     let n = range.end - range.start in
     let some : 0 < c.loop-left.left = omega arith in
     let ok = c.in-Ok-Some-Piece.ensures in
-    let is : c.in-Ok-Some-Piece.field-0 ≡ Some (Piece range) = c.in-Ok-Some-Piece.field-0-is ∙ ap Some c.in-Ok-Some-Piece.field-0-0-is in
+    let is : c.in-Ok-Some-Piece.field-0 ≡ Some (Piece range) =
+    c.in-Ok-Some-Piece.field-0-is ∙ ap Some c.in-Ok-Some-Piece.field-0-0-is in
     let suits = rw (is, i.place, body_some c.loop-left.left some) at ok.suits in
     let place = rw (is, i.place) at ok.place in
     let room = rw is at ok.room in
-    let more : c.try_extend_from_slice.new.self.items ≡ c.loop-left.packet.items ++ slice_range c.next.new.self.piece range.start range.end = search rules in
-    let long : length c.try_extend_from_slice.new.self.items ≡ length c.loop-left.packet.items + n = search rules in
+    let more : c.try_extend_from_slice.new.self.items
+    ≡ c.loop-left.packet.items ++ slice_range c.next.new.self.piece range.start range.end =
+    search rules in
+    let long : length c.try_extend_from_slice.new.self.items
+    ≡ length c.loop-left.packet.items + n =
+    search rules in
     record {
       listens =
           let i = c.loop-left.invariant in
@@ -37,7 +56,10 @@ loop-left-preserved g c =
       packet = λ t.
           let event = rw is at ok.event t in
           let rest = rw is at ok.rest t in
-          i.packet t ∙ part_read c.loop-left.packet.items (rest_of c.loop-left.self (g.P.Disk.input_left c.loop-left.p)) _ n event.1 ∙ (λ j. sym more j ++ sym rest j);
+          i.packet t
+          ∙ part_read c.loop-left.packet.items
+          (rest_of c.loop-left.self (g.P.Disk.input_left c.loop-left.p)) _ n event.1
+          ∙ (λ j. sym more j ++ sym rest j);
       room = omega (arith, room, i.room);
       beyond = λ t. ok.beyond t ∙ i.beyond t;
       steady = ok.steady ∙ i.steady;
