@@ -54,9 +54,19 @@ use Rattle.vab_exchanges.specs.Session.{
   spent,
 }
 use Rattle.vab_exchanges.specs.Session as session
-use Rattle.vab_exchanges.specs.Reading.{FaultAt, cut_of, EndsAs, StopsBy, IsShort, IsBroken}
+use Rattle.vab_exchanges.specs.Reading.{
+  IfNotSource,
+  UnlessSource,
+  FaultAt,
+  cut_of,
+  EndsAs,
+  StopsBy,
+  IsShort,
+  IsBroken,
+}
 use Rattle.std.specs.Int.{w64, to_be_bytes}
 use Rattle.vab_exchanges.proofs.Packets.{is_packet}
+use Rattle.std.proofs.Common.{Result, Ok, Err}
 use Rattle.vab_exchanges.specs.declared.fault.ReadFault.{ReadFault}
 use Rattle.vab_exchanges.specs.declared.fault.ReadFault.TheVariants.{
   BadHello,
@@ -115,6 +125,30 @@ by_cut Stop taken most left within end stops = by_test (eqb taken most) refl
       where
         differ : (taken ≡ most → ⊥) → taken < most
         differ other = omega (arith, other)
+
+-- what holds, and what holds unless hearing failed
+pub in_any_case : (P : Type 0) (fault : ReadFault) → P → IfNotSource P fault
+in_any_case P Source holds = tt
+in_any_case P BadHello holds = holds
+in_any_case P (TooLong n) holds = holds
+in_any_case P (Overrun due came) holds = holds
+in_any_case P (Cut at) holds = holds
+in_any_case P Spent holds = holds
+
+pub in_any_result : {A : Type 0} (P : Type 0) (r : Result A ReadFault) → P → UnlessSource P r
+in_any_result P (Ok x) holds = holds
+in_any_result P (Err fault) holds = in_any_case P fault holds
+
+pub unless_then : (P Q : Type 0) (fault : ReadFault)
+    → (P → Q)
+    → IfNotSource P fault
+    → IfNotSource Q fault
+unless_then P Q Source then holds = tt
+unless_then P Q BadHello then holds = then holds
+unless_then P Q (TooLong n) then holds = then holds
+unless_then P Q (Overrun due came) then holds = then holds
+unless_then P Q (Cut at) then holds = then holds
+unless_then P Q Spent then holds = then holds
 
 -- what stops a reading stops one of which it says as much
 pub wider : (A B : End → Type 0) (total most : ℕ) (fault : ReadFault)

@@ -20,6 +20,9 @@ use Rattle.std.specs.Prelude.{
   nat_le,
   if◌then◌else◌,
   ◌==◌,
+  Result,
+  Ok,
+  Err,
 }
 use Rattle.std.specs.Int.{w64, to_be_bytes}
 use Rattle.std.specs.List.{flat_map}
@@ -129,6 +132,19 @@ FaultAt due place rest Source = Unit {0}
 FaultAt due place rest (Overrun d n) = ⊥
 FaultAt due place rest (Cut at) = ⊥
 FaultAt due place rest Spent = ⊥
+
+-- a fact, unless hearing failed
+abbrev pub IfNotSource : Type 0 → ReadFault → Type 0
+IfNotSource P Source = Unit {0}
+IfNotSource P BadHello = P
+IfNotSource P (TooLong n) = P
+IfNotSource P (Overrun due came) = P
+IfNotSource P (Cut at) = P
+IfNotSource P Spent = P
+
+abbrev pub UnlessSource : {A : Type 0} → Type 0 → Result A ReadFault → Type 0
+UnlessSource P (Ok x) = P
+UnlessSource P (Err fault) = IfNotSource P fault
 
 -- the fault where the input ends inside something
 abbrev pub cut_of : ℕ → ℕ → ReadFault

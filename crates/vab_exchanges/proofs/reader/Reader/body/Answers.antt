@@ -17,6 +17,7 @@ use Rattle.vab_fbtcp.specs.declared.event.Event.TheVariants.{Piece}
 use Rattle.vab_exchanges.specs.Reading.{stands_at, rest_of, beyond_of}
 use Rattle.vab_exchanges.proofs.ReaderLaws.{listens_body}
 use Rattle.vab_exchanges.proofs.Events.{body_some, place_after-Part, part_read}
+use Rattle.vab_exchanges.proofs.Stops.{in_any_case, unless_then}
 use Rattle.vab_exchanges.proofs.reader.Reader.body.Goals as goal
 
 pub loop-left-preserved : goal.loop-left-preserved
@@ -92,3 +93,12 @@ returns-in-Err-clause-listens g c =
     (beyond_of c.args.self.now left_old) (beyond_of c.loop-left.self left_now)
     i.place (omega arith) (omega (arith, i.long))
     (i.packet) i.beyond i.listens c.next.ensures.listens
+
+pub returns-in-Err-clause-steady : goal.returns-in-Err-clause-steady
+returns-in-Err-clause-steady g c =
+    unless_then _ _ c.in-Err.fault (λ same. same ∙ c.loop-left.invariant.steady)
+    c.in-Err.ensures.steady
+
+pub returns-in-Ok-None-clause-steady : goal.returns-in-Ok-None-clause-steady
+returns-in-Ok-None-clause-steady g c =
+    in_any_case _ c.cut.result (c.in-Ok-None.ensures.steady ∙ c.loop-left.invariant.steady)

@@ -3,6 +3,7 @@ use Rattle.vab_fbtcp.specs.declared.event.Event.TheVariants.{Head}
 use Rattle.vab_exchanges.specs.Reading.{stands_at, rest_of, beyond_of, total_of, count_of, IsBroken}
 use Rattle.vab_exchanges.proofs.ReaderLaws.{listens_head, listens_part}
 use Rattle.vab_exchanges.proofs.Stops.{has_more, cut_here, broken_short, broken_cut, overrun}
+use Rattle.vab_exchanges.proofs.Stops.{in_any_case, unless_then}
 use Rattle.vab_exchanges.proofs.reader.Reader.data.Goals as goal
 
 pub returns-then-count-left-clause-fault : goal.returns-then-count-left-clause-fault
@@ -163,3 +164,18 @@ returns-in-Err-clause-listens g c =
     (rest_of c.args.self.now left_old) (rest_of c.loop-left.self left_now)
     (beyond_of c.args.self.now left_old) (beyond_of c.loop-left.self left_now)
     c.loop-left.staged.items i.place (omega arith) i.some i.beyond i.listens c.next.ensures.listens
+
+pub returns-in-Err-clause-steady : goal.returns-in-Err-clause-steady
+returns-in-Err-clause-steady g c =
+    unless_then _ _ c.in-Err.fault (λ same. same ∙ c.loop-left.invariant.steady)
+    c.in-Err.ensures.steady
+
+pub returns-in-Ok-None-clause-steady : goal.returns-in-Ok-None-clause-steady
+returns-in-Ok-None-clause-steady g c =
+    in_any_case _ c.cut.result (c.in-Ok-None.ensures.steady ∙ c.loop-left.invariant.steady)
+
+pub returns-in-Err-part-clause-steady : goal.returns-in-Err-part-clause-steady
+returns-in-Err-part-clause-steady g c =
+    unless_then _ _ c.in-Err-part.fault
+    (λ same. same ∙ c.in-Ok-Some-Head.ensures.steady ∙ c.loop-left.invariant.steady)
+    c.in-Err-part.ensures.steady

@@ -2,6 +2,7 @@ use Rattle.std.proofs.Common.{refl}
 use Rattle.vab_exchanges.specs.Session.{HasNoHello}
 use Rattle.vab_exchanges.specs.Reading.{rest_of, total_of, count_of}
 use Rattle.vab_exchanges.proofs.Stops.{cut_here, by_hello}
+use Rattle.vab_exchanges.proofs.Stops.{in_any_case}
 use Rattle.vab_exchanges.proofs.reader.Reader.hello.Goals as goal
 
 pub returns-in-Ok-None-clause-fault : goal.returns-in-Ok-None-clause-fault
@@ -18,3 +19,6 @@ returns-in-Ok-None-clause-fault g c = λ t.
 pub returns-in-Err-clause-fault : goal.returns-in-Err-clause-fault
 returns-in-Err-clause-fault g c =
     λ t. by_hello _ _ _ _ c.in-Err.fault (rw c.requires.place at c.in-Err.ensures.fault t)
+
+pub returns-in-Ok-None-clause-steady : goal.returns-in-Ok-None-clause-steady
+returns-in-Ok-None-clause-steady g c = in_any_case _ c.cut.result c.in-Ok-None.ensures.steady

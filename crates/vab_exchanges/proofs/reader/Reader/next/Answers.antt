@@ -11,6 +11,9 @@ use Rattle.vab_exchanges.proofs.Events.{
   nothing_more,
   place_after-More,
 }
+use Rattle.vab_exchanges.proofs.Stops.{in_any_result, unless_then}
+use Rattle.std.proofs.Common.{Err}
+use Rattle.vab_exchanges.specs.Reading.{UnlessSource}
 use Rattle.vab_exchanges.proofs.reader.Reader.next.Goals as goal
 
 found : (g : _) (c : goal.In_default g)
@@ -162,3 +165,17 @@ loop-event-preserved g c = record {
   count = search rules;
   most = search rules;
 }
+
+pub returns-in_err-event-clause-steady : goal.returns-in_err-event-clause-steady
+returns-in_err-event-clause-steady g c =
+    in_any_result _ c.from_residual.result c.loop-event.invariant.steady
+
+pub returns-in_err-hear-clause-steady : goal.returns-in_err-hear-clause-steady
+returns-in_err-hear-clause-steady g c =
+    let fault = c.in_err-hear.field-0.0 in
+    let is : c.from_residual-in_err-hear.result ≡ Err fault = search rules in
+    let P : Type 0 = g.P.Disk.faults c.hear.new.p ≡ g.P.Disk.faults c.loop-event.p in
+    let Q : Type 0 = g.P.Disk.faults c.hear.new.p ≡ g.P.Disk.faults c.args.p.now in
+    subst (λ r. UnlessSource Q r) (sym is)
+    (unless_then P Q fault (λ same. same ∙ c.loop-event.invariant.steady)
+    c.in_err-hear.ensures.steady)

@@ -14,6 +14,7 @@ use Rattle.vab_exchanges.proofs.Stops.{
   by_length,
   by_short,
 }
+use Rattle.vab_exchanges.proofs.Stops.{in_any_case, unless_then}
 use Rattle.vab_exchanges.proofs.reader.Reader.packet.Goals as goal
 
 pub returns-in-Ok-clause-packet : goal.returns-in-Ok-clause-packet
@@ -125,3 +126,12 @@ returns-in-Err-body-clause-listens g c =
     (λ t. let event = rw is at ok.event t in event.1)
     (λ t. let rest = rw is at ok.rest t in rest)
     ok.beyond c.next.ensures.listens c.body.ensures.listens
+
+pub returns-in-Err-body-clause-steady : goal.returns-in-Err-body-clause-steady
+returns-in-Err-body-clause-steady g c =
+    unless_then _ _ c.in-Err-body.fault (λ same. same ∙ c.in-Ok-Some-Head.ensures.steady)
+    c.in-Err-body.ensures.steady
+
+pub returns-then-not-is_between-clause-steady : goal.returns-then-not-is_between-clause-steady
+returns-then-not-is_between-clause-steady g c =
+    in_any_case _ c.cut.result c.in-Ok-None.ensures.steady

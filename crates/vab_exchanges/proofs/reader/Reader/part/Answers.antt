@@ -1,9 +1,30 @@
-use Rattle.std.proofs.Common.{◌≡◌, refl, length, take, length-take, length-append, [], Some, ◌+◌, ◌-◌, ◌<◌, ◌++◌, slice_range, vec_len, sym, ◌∙◌, ap, arith, rules}
+use Rattle.std.proofs.Common.{
+  ◌≡◌,
+  refl,
+  length,
+  take,
+  length-take,
+  length-append,
+  [],
+  Some,
+  ◌+◌,
+  ◌-◌,
+  ◌<◌,
+  ◌++◌,
+  slice_range,
+  vec_len,
+  sym,
+  ◌∙◌,
+  ap,
+  arith,
+  rules,
+}
 use Rattle.vab_fbtcp.specs.declared.event.Event.TheVariants.{Piece}
 use Rattle.vab_exchanges.specs.Reading.{stands_at, rest_of, beyond_of, count_of, total_of, IsShort}
 use Rattle.vab_exchanges.proofs.ReaderLaws.{listens_body}
 use Rattle.vab_exchanges.proofs.Stops.{grown, cut_here}
 use Rattle.vab_exchanges.proofs.Events.{body_some, place_after-Part, part_read}
+use Rattle.vab_exchanges.proofs.Stops.{in_any_case, unless_then}
 use Rattle.vab_exchanges.proofs.reader.Reader.part.Goals as goal
 
 pub loop-left-preserved : goal.loop-left-preserved
@@ -153,3 +174,12 @@ returns-in-Ok-None-clause-fault g c = λ t.
     (total_of old left) old.budget.most c.cut.result c.next.new.self.budget.within
     end (c.in-Ok-None.ensures.count t ∙ i.count t) (c.next.ensures.most ∙ i.most) c.cut.ensures
     (short, refl)
+
+pub returns-in-Err-clause-steady : goal.returns-in-Err-clause-steady
+returns-in-Err-clause-steady g c =
+    unless_then _ _ c.in-Err.fault (λ same. same ∙ c.loop-left.invariant.steady)
+    c.in-Err.ensures.steady
+
+pub returns-in-Ok-None-clause-steady : goal.returns-in-Ok-None-clause-steady
+returns-in-Ok-None-clause-steady g c =
+    in_any_case _ c.cut.result (c.in-Ok-None.ensures.steady ∙ c.loop-left.invariant.steady)
