@@ -1,4 +1,5 @@
-//! The program `vab`: the update storage of an Android device in a file or in memory, by verbs and by a fastboot session.
+//! The program `vab`: the update storage of an Android device in a file or in memory, by verbs and
+//! by a fastboot session.
 #![tactic(auto)]
 
 mod usage;

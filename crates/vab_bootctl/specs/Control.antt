@@ -1,5 +1,33 @@
 -- The boot control sector: what spells a boot control, and what the bytes of a sector mean.
-use Rattle.std.specs.Prelude.{◌≡◌, ◌≢◌, ℕ, ◌+◌, ◌*◌, ◌/◌, ◌%◌, ◌<◌, ◌≤◌, not, ◌==◌, nat_le, if◌then◌else◌, List, [], ◌∷◌, take, slice_index, slice_set, Option, Some, None, option_map, ok_or, Result, Err, ◌⊎◌}
+use Rattle.std.specs.Prelude.{
+  ◌≡◌,
+  ◌≢◌,
+  ℕ,
+  ◌+◌,
+  ◌*◌,
+  ◌/◌,
+  ◌%◌,
+  ◌<◌,
+  ◌≤◌,
+  not,
+  ◌==◌,
+  nat_le,
+  if◌then◌else◌,
+  List,
+  [],
+  ◌∷◌,
+  take,
+  slice_index,
+  slice_set,
+  Option,
+  Some,
+  None,
+  option_map,
+  ok_or,
+  Result,
+  Err,
+  ◌⊎◌,
+}
 use Rattle.std.specs.Int.{w32, to_le_bytes}
 use Rattle.std.specs.Str.{bytes_eq}
 use Rattle.vab_bytes.specs.Number.{field, le_at, put_at}
@@ -7,7 +35,12 @@ use Rattle.vab_bytes.specs.Crc.{crc_of}
 use Rattle.vab_bootctl.specs.declared.slots.Info.{Info}
 use Rattle.vab_bootctl.specs.declared.slots.Control.{Control}
 use Rattle.vab_bootctl.specs.declared.sector.ControlFault.{ControlFault}
-use Rattle.vab_bootctl.specs.declared.sector.ControlFault.TheVariants.{BadMagic, BadVersion, BadSum, BadSlots}
+use Rattle.vab_bootctl.specs.declared.sector.ControlFault.TheVariants.{
+  BadMagic,
+  BadVersion,
+  BadSum,
+  BadSlots,
+}
 
 -- ---- what has a spelling
 
@@ -43,7 +76,12 @@ pub record Represents (bytes : List ℕ) (c : Control) : Type 0 where
 -- the new sector has the old one's bits wherever no field of a boot control stands
 pub record KeepsRest (old new : List ℕ) : Type 0 where
   pub bits : slice_index new 9 / 8 ≡ slice_index old 9 / 8
-  pub bytes : (k : ℕ) → 10 ≤ k → k ≢ 12 → k ≢ 14 → (k < 28) ⊎ (32 ≤ k) → slice_index new k ≡ slice_index old k
+  pub bytes : (k : ℕ)
+      → 10 ≤ k
+      → k ≢ 12
+      → k ≢ 14
+      → (k < 28) ⊎ (32 ≤ k)
+      → slice_index new k ≡ slice_index old k
 
 -- ---- the reading
 
@@ -51,10 +89,16 @@ abbrev pub info_of : ℕ → Info
 info_of byte = record { priority = byte % 16; tries = byte / 16 % 8; successful = nat_le 128 byte }
 
 abbrev pub slot_of : List ℕ → Option ℕ
-slot_of text = if bytes_eq text (suffix 0) then Some 0 else (if bytes_eq text (suffix 1) then Some 1 else None)
+slot_of text =
+    if bytes_eq text (suffix 0) then Some 0 else (if bytes_eq text (suffix 1) then Some 1 else None)
 
 abbrev pub with_infos : List ℕ → ℕ → Control
-with_infos bytes slot = record { current = slot; a = info_of (slice_index bytes 12); b = info_of (slice_index bytes 14) }
+with_infos bytes slot =
+    record {
+      current = slot;
+      a = info_of (slice_index bytes 12);
+      b = info_of (slice_index bytes 14);
+    }
 
 -- the boot control in the bytes of a sector, or the first fault
 unfoldable pub control_of : List ℕ → Result Control ControlFault

@@ -3,7 +3,8 @@
 ghost use Rattle.std.specs.Prelude.{◌≡◌, ◌<◌, ℕ, IfSome, IfNone};
 ghost use Rattle.vab_bootctl.specs.Control.{Fits};
 ghost use Rattle.vab_bootctl.specs.Boot.{is_bootable, IsBootable, IsChosen, chosen_of, booted_of};
-ghost use Rattle.vab_bootctl.specs.Boot.{activated_of, marked_of, after_try, active, demoted, proven};
+ghost use Rattle.vab_bootctl.specs.Boot.{activated_of, marked_of, after_try, active, demoted};
+ghost use Rattle.vab_bootctl.specs.Boot.{proven};
 
 use crate::slots::{Control, Info};
 

@@ -1,5 +1,34 @@
 -- What callers need of names.
-use Rattle.std.proofs.Common.{◌≡◌, ℕ, zero, suc, ◌-◌, [], ◌∷◌, ◌++◌, ◌≤◌, true, ◌&&◌, cond, List, length, take, drop, replicate, refl, sym, ap, subst, ◌∙◌, arith, eqb, leb, Option, Some, None}
+use Rattle.std.proofs.Common.{
+  ◌≡◌,
+  ℕ,
+  zero,
+  suc,
+  ◌-◌,
+  [],
+  ◌∷◌,
+  ◌++◌,
+  ◌≤◌,
+  true,
+  ◌&&◌,
+  cond,
+  List,
+  length,
+  take,
+  drop,
+  replicate,
+  refl,
+  sym,
+  ap,
+  subst,
+  ◌∙◌,
+  arith,
+  eqb,
+  leb,
+  Option,
+  Some,
+  None,
+}
 use Rattle.std.specs.Prelude.{not}
 use Rattle.std.specs.List.{list_all, before_first, position_or_len}
 use Rattle.std.proofs.lemmas.Bool.{leb-true, eqb-true, ne_eqb, and_parts, and_from, cond-true}
@@ -7,13 +36,21 @@ use Rattle.std.proofs.lemmas.List.{take_at, length-drop, take-append-drop, drop_
 use Rattle.std.proofs.lemmas.List.Folds.{length-prefix_len}
 use Rattle.std.proofs.lemmas.Option.{cond_some}
 use Rattle.vab_bytes.specs.declared.name.Name36.TheInside.{Inside}
-use Rattle.vab_bytes.specs.Name.{is_name_byte, is_name, IsName, name_field, name_of_field, HoldsName}
+use Rattle.vab_bytes.specs.Name.{
+  is_name_byte,
+  is_name,
+  IsName,
+  name_field,
+  name_of_field,
+  HoldsName,
+}
 
 -- a name has 1 to 36 bytes
 pub name_fits : (text : List ℕ) → is_name text ≡ true → (1 ≤ length text) × (length text ≤ 36)
 unfolding is_name
 name_fits text h =
-    let a = and_parts (leb 1 (length text) && leb (length text) 36) (list_all is_name_byte text) h in
+    let a =
+    and_parts (leb 1 (length text) && leb (length text) 36) (list_all is_name_byte text) h in
     let b = and_parts (leb 1 (length text)) (leb (length text) 36) a.0 in
     (leb-true _ _ b.0, leb-true _ _ b.1)
 
@@ -24,9 +61,15 @@ name_bytes text h =
     (and_parts (leb 1 (length text) && leb (length text) 36) (list_all is_name_byte text) h).1
 
 -- the fields of a name come back from its text
-pub held_again : (n : Inside) → HoldsName n.bytes n.len → (let again : Inside = record { bytes = name_field (take n.len n.bytes); len = length (take n.len n.bytes) } in again ≡ n)
+pub held_again : (n : Inside)
+    → HoldsName n.bytes n.len
+    → (let again : Inside =
+    record { bytes = name_field (take n.len n.bytes); len = length (take n.len n.bytes) } in
+    again
+    ≡ n)
 held_again n h =
-    let with_bytes : List ℕ → Inside = λ b. record { bytes = b; len = length (take n.len n.bytes) } in
+    let with_bytes : List ℕ → Inside =
+    λ b. record { bytes = b; len = length (take n.len n.bytes) } in
     let with_len : ℕ → Inside = λ k. record { bytes = n.bytes; len = k } in
     ap with_bytes (sym h.spelled) ∙ ap with_len h.text_len
 
@@ -38,7 +81,12 @@ take-name_field text = take_at text _ (length text) refl
 pub holds_name : (text : List ℕ) → IsName text → HoldsName (name_field text) (length text)
 holds_name text h =
     let front = take-name_field text in
-    record { name = subst IsName (sym front) h; text_len = ap length front; spelled = ap name_field (sym front) }
+    record {
+      name =
+          subst IsName (sym front) h;
+      text_len = ap length front;
+      spelled = ap name_field (sym front);
+    }
 
 -- ---- the field
 
@@ -64,7 +112,9 @@ end_of_zeros : (n : ℕ) → position_or_len (λ b. eqb b 0) (replicate n 0) ≡
 end_of_zeros zero = refl
 end_of_zeros (suc n) = refl
 
-end_of_text : (text : List ℕ) (n : ℕ) → list_all is_name_byte text ≡ true → position_or_len (λ b. eqb b 0) (text ++ replicate n 0) ≡ length text
+end_of_text : (text : List ℕ) (n : ℕ)
+    → list_all is_name_byte text ≡ true
+    → position_or_len (λ b. eqb b 0) (text ++ replicate n 0) ≡ length text
 end_of_text [] n h = end_of_zeros n
 end_of_text (x ∷ xs) n h =
     let a = and_parts (is_name_byte x) (list_all is_name_byte xs) h in
@@ -73,34 +123,50 @@ end_of_text (x ∷ xs) n h =
     rw (here, rest) (omega arith)
 
 -- a field that spells a name is its text with zeros behind it
-pub found_name : (bytes text : List ℕ) → length bytes ≡ 36 → name_of_field bytes ≡ Some text → IsName text × (bytes ≡ name_field text)
+pub found_name : (bytes text : List ℕ)
+    → length bytes ≡ 36
+    → name_of_field bytes ≡ Some text
+    → IsName text × (bytes ≡ name_field text)
 unfolding name_of_field
 found_name bytes text len h =
     let cut : List ℕ = before_first (λ b. eqb b 0) bytes in
-    let a = cond_some (is_name cut && list_all (λ b. eqb b 0) (drop (length cut) bytes)) cut text h in
+    let a =
+    cond_some (is_name cut && list_all (λ b. eqb b 0) (drop (length cut) bytes)) cut text h in
     let b = and_parts (is_name cut) (list_all (λ b. eqb b 0) (drop (length cut) bytes)) a.0 in
-    let place : length cut ≡ position_or_len (λ b. eqb b 0) bytes = length-prefix_len (λ b. not (eqb b 0)) bytes in
+    let place : length cut ≡ position_or_len (λ b. eqb b 0) bytes =
+    length-prefix_len (λ b. not (eqb b 0)) bytes in
     let front : take (length cut) bytes ≡ cut = ap (λ (k : ℕ). take k bytes) place in
-    let many : length (drop (length cut) bytes) ≡ 36 - length cut = rw length-drop (ap (λ (k : ℕ). k - length cut) len) in
+    let many : length (drop (length cut) bytes) ≡ 36 - length cut =
+    rw length-drop (ap (λ (k : ℕ). k - length cut) len) in
     let back : drop (length cut) bytes ≡ replicate (36 - length cut) 0 =
     all_zeros (drop (length cut) bytes) b.1 ∙ ap (λ (k : ℕ). replicate k 0) many in
     let whole : bytes ≡ name_field cut =
-    sym (take-append-drop (length cut) bytes) ∙ ap (λ (t : List ℕ). t ++ drop (length cut) bytes) front ∙ ap (λ (t : List ℕ). cut ++ t) back in
+    sym (take-append-drop (length cut) bytes)
+    ∙ ap (λ (t : List ℕ). t ++ drop (length cut) bytes) front
+    ∙ ap (λ (t : List ℕ). cut ++ t) back in
     let P : List ℕ → Type 0 = λ t. IsName t × (bytes ≡ name_field t) in
     subst P a.1 (b.0, whole)
 
 -- the text with zeros behind it spells the name
-pub only_name : (bytes text : List ℕ) → IsName text → bytes ≡ name_field text → name_of_field bytes ≡ Some text
+pub only_name : (bytes text : List ℕ)
+    → IsName text
+    → bytes ≡ name_field text
+    → name_of_field bytes ≡ Some text
 unfolding name_of_field
 only_name bytes text h e =
     let n : ℕ = 36 - length text in
     let zeros : List ℕ = replicate n 0 in
-    let place : position_or_len (λ b. eqb b 0) (text ++ zeros) ≡ length text = end_of_text text n (name_bytes text h) in
+    let place : position_or_len (λ b. eqb b 0) (text ++ zeros) ≡ length text =
+    end_of_text text n (name_bytes text h) in
     let cut : before_first (λ b. eqb b 0) (text ++ zeros) ≡ text =
     ap (λ (k : ℕ). take k (text ++ zeros)) place ∙ take_at text zeros (length text) refl in
     let behind : list_all (λ b. eqb b 0) (drop (length text) (text ++ zeros)) ≡ true =
-    ap (λ (t : List ℕ). list_all (λ b. eqb b 0) t) (drop_at text zeros (length text) refl) ∙ zeros_all n in
-    let test : (is_name text && list_all (λ b. eqb b 0) (drop (length text) (text ++ zeros))) ≡ true = and_from _ _ h behind in
+    ap (λ (t : List ℕ). list_all (λ b. eqb b 0) t) (drop_at text zeros (length text) refl)
+    ∙ zeros_all n in
+    let test :
+    (is_name text && list_all (λ b. eqb b 0) (drop (length text) (text ++ zeros))) ≡ true =
+    and_from _ _ h behind in
     let chosen : List ℕ → Option (List ℕ) =
-    λ t. cond (is_name t && list_all (λ b. eqb b 0) (drop (length t) (text ++ zeros))) (Some t) None in
+    λ t. cond (is_name t && list_all (λ b. eqb b 0) (drop (length t) (text ++ zeros))) (Some t)
+    None in
     ap name_of_field e ∙ ap chosen cut ∙ cond-true _ (Some text) None test

@@ -1,5 +1,8 @@
 mod Blocks
+mod Items
 mod Lines
 mod Makings
+mod Programs
 mod Running
+mod Saying
 mod Sessions

@@ -1,28 +1,35 @@
 -- Making a device as a run of the program.
-use Rattle.std.proofs.Common.{◌≡◌, ◌≢◌, ◌⊎◌, inl, inr, ⊎_elim, ◌<◌, ◌≤◌, ◌-◌, arith, true, false, ℕ, List, [], ◌∷◌, ◌++◌, take, Some, None, Err, refl, sym, ◌∙◌, ap, subst}
+use Rattle.std.proofs.Common.{
+  ◌≡◌, ◌≢◌, ◌⊎◌, ◌∙◌, inl, inr, ⊎_elim, ◌<◌, ◌≤◌, ◌-◌, arith, true, false, ℕ, List, [], ◌∷◌, ◌++◌, take, Some,
+  None, Err, refl, sym, ap, subst
+}
 use Rattle.std.proofs.lemmas.Bool.{cases_eq}
 use Rattle.std.proofs.lemmas.Bool.Decides.{nat_tests}
 use Rattle.std.proofs.lemmas.List.{append-nil}
-use Rattle.vab_disk.specs.Disk.{Image, Outcome, Leaves, IsSettled, SameHoldings, Adds, Nothing}
+use Rattle.vab_disk.specs.declared.disk.Disk.{Ghosts}
+use Rattle.vab_disk.specs.Disk.{Image, Outcome, Leaves, SameHoldings, Adds, Nothing}
+use Rattle.vab_disk.specs.Calls.{IsAtRest}
 use Rattle.vab_disk.specs.Port.{LeavesSaying}
 use Rattle.vab_disk.specs.Written.{same_image}
 use Rattle.vab_disk.proofs.Moments.{adds_wider, adds_on, all_since}
 use Rattle.vab_set.specs.declared.set.SetImage.{SetImage}
+use Rattle.vab_device.specs.Mounted.{Mounted}
+use Rattle.vab_device.specs.Reading.{device, IsIn}
 use Rattle.vab_make.specs.declared.fault.MakeFault.{MakeFault}
 use Rattle.vab_make.specs.declared.fault.MakeFault.TheVariants as make
-use Rattle.vab_make.specs.Made.{refusal_of}
+use Rattle.vab_make.specs.Made.{refusal_of, made_device_of}
 use Rattle.vab_make.specs.Making.{Gives, IsOfDisk, IsMade, LeavesMaking}
-use Rattle.vab_session.specs.Items.{IsIn, CrashesWithin}
-use Rattle.vab_session.proofs.ItemLaws.{telling, within_item}
-use Rattle.vab_session.specs.Answers.{item_still}
+use Rattle.vab_exchanges.specs.Runs.{CrashesWithin, LeavesItem}
+use Rattle.vab_exchanges.proofs.RunLaws.{telling, within_item}
 use Rattle.vab_cli.specs.declared.status.Status.{Status}
 use Rattle.vab_cli.specs.declared.status.Status.TheVariants.{Done, Disk, Port, NoMemory}
 use Rattle.vab_cli.specs.Codes.{make_status, input_status}
 use Rattle.vab_input.specs.declared.input.InputFault.{InputFault}
 use Rattle.vab_input.specs.declared.input.InputFault.TheVariants as input
 use Rattle.vab_cli.specs.Telling.{Tells}
-use Rattle.vab_cli.specs.Verbs.{is_silent, make_line}
-use Rattle.vab_cli.specs.Headline.{IsFailed, RunsRefused, RunsMaking, made_mounted}
+use Rattle.vab_cli.specs.Verbs.{is_silent, make_line, line_item}
+use Rattle.vab_cli.specs.Runs.{IsFailed, LeavesTelling, RunsRefused, RunsMaking, MakesWithin}
+use Rattle.vab_cli.proofs.Running.{settled_image}
 
 -- ---- faults of making
 
@@ -115,129 +122,244 @@ heard_fault input.TooLong other = absurd (other refl)
 heard_fault input.Source other = inl refl
 heard_fault input.NoMemory other = inr refl
 
-module _ {D : Type 0} (seen_of : D → Image) (held_by : D → ℕ → List ℕ → Type 0) (told_of left_of : D → List ℕ) (moment : D → ℕ) (outcomes : D → ℕ → Outcome → Type 0) (only_now : (d : D) (o : Outcome) → outcomes d (moment d) o → Leaves (told_of d) (held_by d) o) (size : ℕ) where
-  settled_image : (d : D) (o : Outcome) → IsSettled (seen_of d) (held_by d) → Leaves (told_of d) (held_by d) o → o.image ≡ seen_of d
-  settled_image d o settled leaves = same_image o.image (seen_of d) (λ s. settled s (o.image s) (leaves.each_sector s))
-
+module _ {D : Type 0}
+    (g : Ghosts D)
+    (only_now : (d : D) (o : Outcome)
+      → g.outcomes d (g.moment d) o
+      → Leaves (g.told d) (g.may_leave d) o)
+    (size : ℕ) where
   -- ---- nothing changes
 
-  -- the outcomes while a line is told on a disk that stays
-  still_cuts : (old mid new : D) (line : List ℕ) → seen_of mid ≡ seen_of old → SameHoldings (held_by old) (held_by mid)
-      → (Same : Outcome → Type 0) → ((o : Outcome) → Same o → o.image ≡ seen_of old) → (IsSettled (seen_of old) (held_by old) → Adds moment outcomes old mid Same)
-      → Adds moment outcomes mid new (LeavesSaying (told_of mid) line (held_by mid)) → IsSettled (seen_of old) (held_by old) → (o : Outcome) → outcomes new (moment old) o → o.image ≡ seen_of old
-  still_cuts old mid new line seen holds Same same before saying settled o at =
-      all_since moment outcomes old new Still (Leaves (told_of old) (held_by old))
-      (adds_on moment outcomes old mid new Still (LeavesSaying (told_of mid) line (held_by mid))
-      (adds_wider moment outcomes old mid Same Still (before settled) same) saying
-      (λ o' leaves. same_image o'.image (seen_of old) (λ s. settled s (o'.image s) (holds.no_more s (o'.image s) (leaves.each_sector s)))))
-      (only_now old) (λ o' leaves. settled_image old o' settled leaves) o at
-    where
-      Still : Outcome → Type 0
-      Still o = o.image ≡ seen_of old
+  -- what a cut of power leaves where a line is told of a disk that stays
+  abbrev Stays : List ℕ → D → Outcome → Type 0
+  Stays line old = LeavesTelling (g.told old) line (λ (image : Image). image ≡ g.seen old)
+
+  -- every outcome since nothing was pending
+  still_cuts : (line : List ℕ) (old new : D)
+      → Adds g.moment g.outcomes old new (Stays line old)
+      → IsAtRest g old
+      → (o : Outcome)
+      → g.outcomes new (g.moment old) o
+      → Stays line old o
+  still_cuts line old new time rest =
+      all_since g.moment g.outcomes old new (Stays line old)
+      (Leaves (g.told old) (g.may_leave old)) time (only_now old)
+      (λ o leaves. record {
+        front = (0, leaves.told_so_far ∙ sym (append-nil (g.told old)));
+        kind = settled_image g only_now size old o rest leaves;
+      })
+
+  none_left : (line : List ℕ) (old mid : D)
+      → Adds g.moment g.outcomes old mid Nothing
+      → Adds g.moment g.outcomes old mid (Stays line old)
+  none_left line old mid before =
+      adds_wider g.moment g.outcomes old mid Nothing (Stays line old) before (λ o none. absurd none)
 
   -- a line is told, where nothing was done before
-  pub refused_told : (line : List ℕ) (ends : Status) (old mid new : D) (status : Status) → told_of mid ≡ told_of old → seen_of mid ≡ seen_of old → SameHoldings (held_by old) (held_by mid) → Adds moment outcomes old mid Nothing
-      → (ends ≡ NoMemory → line ≡ []) → (status ≡ ends) ⊎ (status ≡ Port) → Tells seen_of held_by told_of moment outcomes line ends mid new status
-      → RunsRefused seen_of held_by told_of left_of moment outcomes size line ends old new status
+  pub refused_told : (line : List ℕ) (ends : Status) (old mid new : D) (status : Status)
+      → g.told mid ≡ g.told old
+      → g.seen mid ≡ g.seen old
+      → SameHoldings (g.may_leave old) (g.may_leave mid)
+      → Adds g.moment g.outcomes old mid Nothing
+      → (ends ≡ NoMemory → line ≡ [])
+      → (status ≡ ends) ⊎ (status ≡ Port)
+      → Tells g line ends mid new status
+      → RunsRefused g size line ends old new status
   refused_told line ends old mid new status told seen holds before silent either tells = record {
     status_is = ⊎_elim (λ same. inl same) (λ port. inr (inl port)) either;
-    front = (let front = tells.front in front.0, (let front = tells.front in front.1) ∙ ap (λ (l : List ℕ). l ++ take (let front = tells.front in front.0) line) told);
+    front = (let front = tells.front in
+      (front.0, front.1 ∙ ap (λ (l : List ℕ). l ++ take front.0 line) told));
     whole = λ same. tells.whole same ∙ ap (λ (l : List ℕ). l ++ line) told;
     untold = λ memory. ⊎_elim
-        (λ same. tells.whole same ∙ ap (λ (l : List ℕ). told_of mid ++ l) (silent (sym same ∙ memory)) ∙ append-nil (told_of mid) ∙ told)
+        (λ same.
+        tells.whole same
+        ∙ ap (λ (l : List ℕ). g.told mid ++ l) (silent (sym same ∙ memory))
+        ∙ append-nil (g.told mid) ∙ told)
         (λ port. cc) either;
     same = tells.seen ∙ seen;
-    time = λ settled. adds_on moment outcomes old mid new (λ o. o.image ≡ seen_of old) (LeavesSaying (told_of mid) line (held_by mid)) (adds_wider moment outcomes old mid Nothing (λ o. o.image ≡ seen_of old) before (λ o none. absurd none)) tells.time
-        (λ o leaves. same_image o.image (seen_of old) (λ s. settled s (o.image s) (holds.no_more s (o.image s) (leaves.each_sector s))));
-    every_cut = λ settled o at. still_cuts old mid new line seen holds Nothing (λ o' none. absurd none) (λ settled'. before) tells.time settled o at;
-  }
-
-  -- memory was refused, and nothing is told
-  pub refused_unheard : (line : List ℕ) (ends : Status) (old new : D) (status : Status) → told_of new ≡ told_of old → seen_of new ≡ seen_of old → Adds moment outcomes old new Nothing
-      → (ends ≡ NoMemory → line ≡ []) → ends ≢ Port → ((status ≡ ends) × (line ≡ [])) ⊎ ((status ≡ Port) ⊎ (status ≡ NoMemory))
-      → RunsRefused seen_of held_by told_of left_of moment outcomes size line ends old new status
-  refused_unheard line ends old new status told seen before silent other either = record {
-    status_is = ⊎_elim (λ same. inl same.0) (λ rest. inr rest) either;
-    front = (0, told ∙ sym (append-nil (told_of old)));
-    whole = λ same. told ∙ sym (append-nil (told_of old)) ∙ ap (λ (l : List ℕ). told_of old ++ l) (sym (empty same either));
-    untold = λ memory. told;
-    same = seen;
-    time = λ settled. adds_wider moment outcomes old new Nothing (λ o. o.image ≡ seen_of old) before (λ o none. absurd none);
-    every_cut = λ settled o at. all_since moment outcomes old new (λ o'. o'.image ≡ seen_of old) (Leaves (told_of old) (held_by old)) (adds_wider moment outcomes old new Nothing (λ o'. o'.image ≡ seen_of old) before (λ o' none. absurd none)) (only_now old)
-        (λ o' leaves. settled_image old o' settled leaves) o at;
+    time = on;
+    every_cut = λ rest. still_cuts line old new (on rest) rest;
   }
     where
-      empty : status ≡ ends → ((status ≡ ends) × (line ≡ [])) ⊎ ((status ≡ Port) ⊎ (status ≡ NoMemory)) → line ≡ []
+      on : IsAtRest g old → Adds g.moment g.outcomes old new (Stays line old)
+      on rest =
+          adds_on g.moment g.outcomes old mid new (Stays line old)
+          (LeavesSaying (g.told mid) line (g.may_leave mid))
+          (none_left line old mid before) tells.time
+          (λ o leaves. record {
+            front = (
+              leaves.front.0,
+              leaves.front.1 ∙ ap (λ (l : List ℕ). l ++ take leaves.front.0 line) told,
+            );
+            kind =
+                same_image o.image (g.seen old)
+                (λ s. rest s (o.image s) (holds.no_more s (o.image s) (leaves.each_sector s)));
+          })
+
+  -- memory was refused, and nothing is told
+  pub refused_unheard : (line : List ℕ) (ends : Status) (old new : D) (status : Status)
+      → g.told new ≡ g.told old
+      → g.seen new ≡ g.seen old
+      → Adds g.moment g.outcomes old new Nothing
+      → (ends ≡ NoMemory → line ≡ [])
+      → ends ≢ Port
+      → ((status ≡ ends) × (line ≡ [])) ⊎ ((status ≡ Port) ⊎ (status ≡ NoMemory))
+      → RunsRefused g size line ends old new status
+  refused_unheard line ends old new status told seen before silent other either = record {
+    status_is = ⊎_elim (λ same. inl same.0) (λ rest. inr rest) either;
+    front = (0, told ∙ sym (append-nil (g.told old)));
+    whole = λ same.
+        told ∙ sym (append-nil (g.told old))
+        ∙ ap (λ (l : List ℕ). g.told old ++ l) (sym (empty same either));
+    untold = λ memory. told;
+    same = seen;
+    time = λ rest. none_left line old new before;
+    every_cut = λ rest. still_cuts line old new (none_left line old new before) rest;
+  }
+    where
+      empty : status ≡ ends
+          → ((status ≡ ends) × (line ≡ [])) ⊎ ((status ≡ Port) ⊎ (status ≡ NoMemory))
+          → line ≡ []
       empty same (inl both) = both.1
       empty same (inr (inl port)) = absurd (other (sym same ∙ port))
       empty same (inr (inr memory)) = silent (sym same ∙ memory)
 
   -- what was said of a run from behind what only reads, of the run from before it
-  pub refused_after : (line : List ℕ) (ends : Status) (old mid new : D) (status : Status) → told_of mid ≡ told_of old → seen_of mid ≡ seen_of old → SameHoldings (held_by old) (held_by mid) → Adds moment outcomes old mid Nothing
-      → RunsRefused seen_of held_by told_of left_of moment outcomes size line ends mid new status → RunsRefused seen_of held_by told_of left_of moment outcomes size line ends old new status
+  pub refused_after : (line : List ℕ) (ends : Status) (old mid new : D) (status : Status)
+      → g.told mid ≡ g.told old
+      → g.seen mid ≡ g.seen old
+      → SameHoldings (g.may_leave old) (g.may_leave mid)
+      → Adds g.moment g.outcomes old mid Nothing
+      → RunsRefused g size line ends mid new status
+      → RunsRefused g size line ends old new status
   refused_after line ends old mid new status told seen holds before runs = record {
     status_is = runs.status_is;
-    front = (let front = runs.front in front.0, (let front = runs.front in front.1) ∙ ap (λ (l : List ℕ). l ++ take (let front = runs.front in front.0) line) told);
+    front = (let front = runs.front in
+      (front.0, front.1 ∙ ap (λ (l : List ℕ). l ++ take front.0 line) told));
     whole = λ same. runs.whole same ∙ ap (λ (l : List ℕ). l ++ line) told;
     untold = λ memory. runs.untold memory ∙ told;
     same = runs.same ∙ seen;
     time = on;
-    every_cut = λ settled o at. all_since moment outcomes old new (λ o'. o'.image ≡ seen_of old) (Leaves (told_of old) (held_by old)) (on settled) (only_now old) (λ o' leaves. settled_image old o' settled leaves) o at;
+    every_cut = λ rest. still_cuts line old new (on rest) rest;
   }
     where
-      on : IsSettled (seen_of old) (held_by old) → Adds moment outcomes old new (λ o. o.image ≡ seen_of old)
-      on settled = adds_on moment outcomes old mid new (λ o. o.image ≡ seen_of old) (λ o. o.image ≡ seen_of mid) (adds_wider moment outcomes old mid Nothing (λ o. o.image ≡ seen_of old) before (λ o none. absurd none))
-          (runs.time (λ s b held. settled s b (holds.no_more s b held) ∙ ap (λ (x : Image). x s) (sym seen))) (λ o same. same ∙ seen)
+      on : IsAtRest g old → Adds g.moment g.outcomes old new (Stays line old)
+      on rest =
+          adds_on g.moment g.outcomes old mid new (Stays line old) (Stays line mid)
+          (none_left line old mid before)
+          (runs.time (λ s b held.
+          rest s b (holds.no_more s b held) ∙ ap (λ (x : Image). x s) (sym seen)))
+          (λ o left. record {
+            front = (
+              left.front.0,
+              left.front.1 ∙ ap (λ (l : List ℕ). l ++ take left.front.0 line) told,
+            );
+            kind = left.kind ∙ seen;
+          })
 
   -- ---- a device is made
 
   module _ (set : List SetImage) (limit max : ℕ) (line : List ℕ) where
+    made : Mounted
+    made = made_device_of set limit max size
+
     -- what a cut of power leaves
     abbrev Makes : D → Outcome → Type 0
-    Makes old o = CrashesWithin size [] (made_mounted set limit max size) (item_still (made_mounted set limit max size) line ∷ []) (told_of old) o ⊎ LeavesMaking (told_of old) set limit max size (seen_of old) o
+    Makes old o = MakesWithin g size set limit max line (g.told old) (g.seen old) o
 
-    making_cuts : (old new : D) → Adds moment outcomes old new (Makes old) → IsSettled (seen_of old) (held_by old) → (o : Outcome) → outcomes new (moment old) o → Makes old o
-    making_cuts old new time settled =
-        all_since moment outcomes old new (Makes old) (Leaves (told_of old) (held_by old)) time (only_now old)
-        (λ o leaves. inr (record { told_so_far = leaves.told_so_far; either = inl (settled_image old o settled leaves) }))
+    making_cuts : (old new : D)
+        → Adds g.moment g.outcomes old new (Makes old)
+        → IsAtRest g old
+        → (o : Outcome)
+        → g.outcomes new (g.moment old) o
+        → Makes old o
+    making_cuts old new time rest =
+        all_since g.moment g.outcomes old new (Makes old) (Leaves (g.told old) (g.may_leave old))
+        time (only_now old)
+        (λ o leaves. inr (record {
+          told_so_far = leaves.told_so_far;
+          either = inl (settled_image g only_now size old o rest leaves);
+        }))
+
+    -- the line is told of the made device
+    line_told : (old mid : D)
+        → g.told mid ≡ g.told old
+        → IsMade set limit max size (g.seen mid)
+        → IsAtRest g mid
+        → (o : Outcome)
+        → LeavesSaying (g.told mid) line (g.may_leave mid) o
+        → LeavesItem (IsIn size) (g.told old) (line_item (made_device_of set limit max size) line) o
+    line_told old mid told is rest =
+        telling (IsIn size) (g.told old) (g.told mid)
+        (line_item (made_device_of set limit max size) line) [] line [] (g.may_leave mid)
+        (sym (append-nil line)) (told ∙ sym (append-nil (g.told old))) (inl refl)
+        (λ o leaves.
+        ap (device size)
+        (same_image o.image (g.seen mid) (λ s. rest s (o.image s) (leaves.each_sector s)))
+        ∙ is)
+
+    making_left : (old mid : D)
+        → Adds g.moment g.outcomes old mid
+          (LeavesMaking (g.told old) set limit max size (g.seen old))
+        → Adds g.moment g.outcomes old mid (Makes old)
+    making_left old mid making =
+        adds_wider g.moment g.outcomes old mid
+        (LeavesMaking (g.told old) set limit max size (g.seen old)) (Makes old) making
+        (λ o leaves. inr leaves)
 
     -- it is made, and the line is told, whole or in part
-    pub making_told : (old mid new : D) (status : Status) → told_of mid ≡ told_of old → IsMade set limit max size (seen_of mid) → IsSettled (seen_of mid) (held_by mid)
-        → (IsSettled (seen_of old) (held_by old) → Adds moment outcomes old mid (LeavesMaking (told_of old) set limit max size (seen_of old)))
-        → (status ≡ Done) ⊎ (status ≡ Port) → Tells seen_of held_by told_of moment outcomes line Done mid new status
-        → RunsMaking seen_of held_by told_of left_of moment outcomes size set limit max line old new status
-    making_told old mid new status told made rest making either tells = record {
+    pub making_told : (old mid new : D) (status : Status)
+        → g.told mid ≡ g.told old
+        → IsMade set limit max size (g.seen mid)
+        → IsAtRest g mid
+        → (IsAtRest g old
+          → Adds g.moment g.outcomes old mid
+            (LeavesMaking (g.told old) set limit max size (g.seen old)))
+        → (status ≡ Done) ⊎ (status ≡ Port)
+        → Tells g line Done mid new status
+        → RunsMaking g size set limit max line old new status
+    making_told old mid new status told is rest making either tells = record {
       status_is = ⊎_elim (λ done. inl done) (λ port. inr (inl (inr port))) either;
-      front = (let front = tells.front in front.0, (let front = tells.front in front.1) ∙ ap (λ (l : List ℕ). l ++ take (let front = tells.front in front.0) line) told);
+      front = (let front = tells.front in
+        (front.0, front.1 ∙ ap (λ (l : List ℕ). l ++ take front.0 line) told));
       whole = λ done. tells.whole done ∙ ap (λ (l : List ℕ). l ++ line) told;
       untold = λ memory. ⊎_elim (λ done. cc) (λ port. cc) either;
-      rest = λ done. record {
-        settled = λ s b held. rest s b ((let crash = tells.crash in crash.no_more) s b held) ∙ ap (λ (x : Image). x s) (sym tells.seen);
-        stands = subst (λ (x : Image). IsIn size (made_mounted set limit max size) x) (sym tells.seen) there;
-      };
+      stands = λ done. ap (device size) tells.seen ∙ is;
+      settled = λ done s b held.
+          rest s b ((let crash = tells.crash in crash.no_more) s b held)
+          ∙ ap (λ (x : Image). x s) (sym tells.seen);
       time = on;
-      every_cut = λ settled. making_cuts old new (on settled) settled;
+      every_cut = λ before. making_cuts old new (on before) before;
     }
       where
-        there : IsIn size (made_mounted set limit max size) (seen_of mid)
-        there = record { state = made.state; places = made.places }
-
-        on : IsSettled (seen_of old) (held_by old) → Adds moment outcomes old new (Makes old)
-        on settled = adds_on moment outcomes old mid new (Makes old) (LeavesSaying (told_of mid) line (held_by mid)) (adds_wider moment outcomes old mid (LeavesMaking (told_of old) set limit max size (seen_of old)) (Makes old) (making settled) (λ o leaves. inr leaves)) tells.time
-            (λ o leaves. inl (within_item size [] (made_mounted set limit max size) [] [] (item_still (made_mounted set limit max size) line) (told_of old) (told_of old) tt (sym (append-nil (told_of old))) o
-            (telling size (told_of old) (told_of mid) (item_still (made_mounted set limit max size) line) (seen_of mid) (held_by mid) told there (inl refl) rest o leaves)))
+        on : IsAtRest g old → Adds g.moment g.outcomes old new (Makes old)
+        on before =
+            adds_on g.moment g.outcomes old mid new (Makes old)
+            (LeavesSaying (g.told mid) line (g.may_leave mid))
+            (making_left old mid (making before)) tells.time
+            (λ o leaves.
+            inl (within_item (IsIn size) [] (made_device_of set limit max size) [] []
+            (line_item (made_device_of set limit max size) line) (g.told old) (g.told old) tt
+            (sym (append-nil (g.told old))) o (line_told old mid told is rest o leaves)))
 
     -- the disk or the port failed, or memory was refused, and nothing is told
-    pub making_untold : (old new : D) (status : Status) → told_of new ≡ told_of old → (status ≡ NoMemory → seen_of new ≡ seen_of old) → (IsSettled (seen_of old) (held_by old) → Adds moment outcomes old new (LeavesMaking (told_of old) set limit max size (seen_of old)))
-        → IsFailed status ⊎ (status ≡ NoMemory) → RunsMaking seen_of held_by told_of left_of moment outcomes size set limit max line old new status
+    pub making_untold : (old new : D) (status : Status)
+        → g.told new ≡ g.told old
+        → (status ≡ NoMemory → g.seen new ≡ g.seen old)
+        → (IsAtRest g old
+          → Adds g.moment g.outcomes old new
+            (LeavesMaking (g.told old) set limit max size (g.seen old)))
+        → IsFailed status ⊎ (status ≡ NoMemory)
+        → RunsMaking g size set limit max line old new status
     making_untold old new status told seen making either = record {
       status_is = inr either;
-      front = (0, told ∙ sym (append-nil (told_of old)));
+      front = (0, told ∙ sym (append-nil (g.told old)));
       whole = λ done. absurd (never done either);
       untold = λ memory. (told, seen memory);
-      rest = λ done. absurd (never done either);
-      time = λ settled. adds_wider moment outcomes old new (LeavesMaking (told_of old) set limit max size (seen_of old)) (Makes old) (making settled) (λ o leaves. inr leaves);
-      every_cut = λ settled. making_cuts old new (adds_wider moment outcomes old new (LeavesMaking (told_of old) set limit max size (seen_of old)) (Makes old) (making settled) (λ o leaves. inr leaves)) settled;
+      stands = λ done. absurd (never done either);
+      settled = λ done. absurd (never done either);
+      time = λ rest. making_left old new (making rest);
+      every_cut = λ rest. making_cuts old new (making_left old new (making rest)) rest;
     }
       where
         never : status ≡ Done → IsFailed status ⊎ (status ≡ NoMemory) → ⊥
@@ -246,22 +368,39 @@ module _ {D : Type 0} (seen_of : D → Image) (held_by : D → ℕ → List ℕ 
         never done (inr memory) = cc
 
     -- what was said of a run from behind what only reads, of the run from before it
-    pub making_after : (old mid new : D) (status : Status) → told_of mid ≡ told_of old → seen_of mid ≡ seen_of old → SameHoldings (held_by old) (held_by mid) → Adds moment outcomes old mid Nothing
-        → RunsMaking seen_of held_by told_of left_of moment outcomes size set limit max line mid new status → RunsMaking seen_of held_by told_of left_of moment outcomes size set limit max line old new status
+    pub making_after : (old mid new : D) (status : Status)
+        → g.told mid ≡ g.told old
+        → g.seen mid ≡ g.seen old
+        → SameHoldings (g.may_leave old) (g.may_leave mid)
+        → Adds g.moment g.outcomes old mid Nothing
+        → RunsMaking g size set limit max line mid new status
+        → RunsMaking g size set limit max line old new status
     making_after old mid new status told seen holds before runs = record {
       status_is = runs.status_is;
-      front = (let front = runs.front in front.0, (let front = runs.front in front.1) ∙ ap (λ (l : List ℕ). l ++ take (let front = runs.front in front.0) line) told);
+      front = (let front = runs.front in
+        (front.0, front.1 ∙ ap (λ (l : List ℕ). l ++ take front.0 line) told));
       whole = λ done. runs.whole done ∙ ap (λ (l : List ℕ). l ++ line) told;
-      untold = λ memory. ((let untold = runs.untold memory in untold.0) ∙ told, (let untold = runs.untold memory in untold.1) ∙ seen);
-      rest = runs.rest;
+      untold = λ memory. (let untold = runs.untold memory in (untold.0 ∙ told, untold.1 ∙ seen));
+      stands = runs.stands;
+      settled = runs.settled;
       time = on;
-      every_cut = λ settled. making_cuts old new (on settled) settled;
+      every_cut = λ rest. making_cuts old new (on rest) rest;
     }
       where
         moved : (o : Outcome) → Makes mid o → Makes old o
-        moved o (inl within) = inl (subst (λ (l : List ℕ). CrashesWithin size [] (made_mounted set limit max size) (item_still (made_mounted set limit max size) line ∷ []) l o) told within)
-        moved o (inr leaves) = inr (subst (λ (x : Image). LeavesMaking (told_of old) set limit max size x o) seen (subst (λ (l : List ℕ). LeavesMaking l set limit max size (seen_of mid) o) told leaves))
+        moved o =
+            subst
+            (λ (x : Image).
+            Makes mid o → MakesWithin g size set limit max line (g.told old) x o) seen
+            (subst
+            (λ (l : List ℕ). Makes mid o → MakesWithin g size set limit max line l (g.seen mid) o)
+            told (λ is. is))
 
-        on : IsSettled (seen_of old) (held_by old) → Adds moment outcomes old new (Makes old)
-        on settled = adds_on moment outcomes old mid new (Makes old) (Makes mid) (adds_wider moment outcomes old mid Nothing (Makes old) before (λ o none. absurd none))
-            (runs.time (λ s b held. settled s b (holds.no_more s b held) ∙ ap (λ (x : Image). x s) (sym seen))) moved
+        on : IsAtRest g old → Adds g.moment g.outcomes old new (Makes old)
+        on rest =
+            adds_on g.moment g.outcomes old mid new (Makes old) (Makes mid)
+            (adds_wider g.moment g.outcomes old mid Nothing (Makes old) before
+            (λ o none. absurd none))
+            (runs.time (λ s b held.
+            rest s b (holds.no_more s b held) ∙ ap (λ (x : Image). x s) (sym seen)))
+            moved

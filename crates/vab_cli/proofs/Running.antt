@@ -1,24 +1,37 @@
 -- Runs of the program, by what their parts do.
-use Rattle.std.proofs.Common.{◌≡◌, ◌≢◌, ◌⊎◌, inl, inr, ⊎_elim, ◌<◌, ℕ, List, [], ◌∷◌, ◌++◌, length, take, Result, Ok, Err, OnOk, false, refl, sym, ◌∙◌, ap, subst, arith, length-append}
+use Rattle.std.proofs.Common.{
+  ◌≡◌, ◌≢◌, ◌⊎◌, ◌∙◌, inl, inr, ⊎_elim, ◌<◌, ℕ, List, [], ◌∷◌, ◌++◌, length, take, Result, Ok, Err, OnOk,
+  false, refl, sym, ap, subst, arith, length-append
+}
 use Rattle.std.proofs.lemmas.List.{append-nil}
 use Rattle.std.specs.Result.{is_err}
-use Rattle.vab_disk.specs.Disk.{Image, Outcome, Leaves, IsSettled, SameHoldings, Adds}
+use Rattle.vab_disk.specs.declared.disk.Disk.{Ghosts}
+use Rattle.vab_disk.specs.Disk.{Image, Outcome, Leaves, SameHoldings, Adds}
+use Rattle.vab_disk.specs.Calls.{IsAtRest}
 use Rattle.vab_disk.specs.Port.{LeavesSaying}
 use Rattle.vab_disk.specs.Written.{same_image}
 use Rattle.vab_disk.proofs.Moments.{adds_wider, adds_on, all_since}
 use Rattle.vab_device.specs.declared.fault.StartFault.{StartFault}
 use Rattle.vab_device.specs.declared.fault.StartFault.TheVariants as start
-use Rattle.vab_device.specs.Device.{device, places, IsOfContents}
-use Rattle.vab_recover.specs.Stands.{LeavesSame}
-use Rattle.vab_fbproto.specs.Commands.{Named}
-use Rattle.vab_session.specs.Items.{Mounted, IsIn, Item, CrashesWithin, LeavesItem, IsAtRest, DoesItem}
-use Rattle.vab_session.specs.Answers.{item_named}
-use Rattle.vab_session.proofs.ItemLaws.{named_first, within_item}
+use Rattle.vab_device.specs.Faults.{IsOfContents, IsOfDisk}
+use Rattle.vab_device.specs.Mounted.{Mounted}
+use Rattle.vab_device.specs.Reading.{device, IsIn}
+use Rattle.vab_recover.specs.Opened.{LeavesSame}
+use Rattle.vab_model.specs.Commands.{Command}
+use Rattle.vab_exchanges.specs.Items.{Item}
+use Rattle.vab_exchanges.specs.Runs.{CrashesWithin, LeavesItem}
+use Rattle.vab_exchanges.proofs.RunLaws.{within_item}
 use Rattle.vab_cli.specs.declared.status.Status.{Status}
-use Rattle.vab_cli.specs.declared.status.Status.TheVariants.{Done, Refused, NotADevice, Port, NoMemory}
+use Rattle.vab_cli.specs.declared.status.Status.TheVariants.{
+  Done, Refused, NotADevice, Disk, Port, NoMemory
+}
 use Rattle.vab_cli.specs.Codes.{start_status}
 use Rattle.vab_cli.specs.Opening.{Opens}
-use Rattle.vab_cli.specs.Headline.{IsEarly, IsFailed, RunsItem, FailsBefore, RunsNone}
+use Rattle.vab_cli.specs.Runs.{
+  IsEarly, IsFailed, LeavesTelling, MeansAs, RunsItem, FailsBefore, RunsNone
+}
+use Rattle.vab_cli.specs.Telling.{DoesItem}
+use Rattle.vab_cli.specs.Verbs.{command_item}
 
 -- ---- why a device isn't opened
 
@@ -44,57 +57,110 @@ early_of (start.BadState rule) other = absurd (other refl)
 early_of start.NoMemory other = inr refl
 early_of (start.Disk fault) other = inl refl
 
+-- a fault that ends otherwise than as the disk's is none of the disk
+pub not_of_disk_by : (f : StartFault) → start_status f ≢ Disk → IsOfDisk f → ⊥
+not_of_disk_by (start.TooSmall need have) other is = is
+not_of_disk_by (start.BadMark sector) other is = is
+not_of_disk_by (start.BadControl fault) other is = is
+not_of_disk_by start.BadGeometry other is = is
+not_of_disk_by (start.BadTable slot) other is = is
+not_of_disk_by (start.BadPartition name) other is = is
+not_of_disk_by (start.BadState rule) other is = is
+not_of_disk_by start.NoMemory other is = is
+not_of_disk_by (start.Disk fault) other is = other refl
+
 pub if_ok : {A E P : Type 0} (r : Result A E) → is_err r ≡ false → OnOk r P → P
 if_ok (Ok x) held p = p
 if_ok (Err e) held p = cc
 
 -- a disk that is a device isn't none
-pub is_one : {R : Type 0} (size : ℕ) (s : Mounted) (image : Image) (f : StartFault) → IsIn size s image → device size image ≡ Err f → R
-is_one size s image f is none = let some = is.state in cc
+pub is_one : {R : Type 0} (size : ℕ) (s : Mounted) (image : Image) (f : StartFault)
+    → IsIn size s image
+    → device size image ≡ Err f
+    → R
+is_one size s image f is none = cc
 
-module _ {D : Type 0} (seen_of : D → Image) (held_by : D → ℕ → List ℕ → Type 0) (told_of left_of : D → List ℕ) (moment : D → ℕ) (outcomes : D → ℕ → Outcome → Type 0) (only_now : (d : D) (o : Outcome) → outcomes d (moment d) o → Leaves (told_of d) (held_by d) o) (size : ℕ) where
+module _ {D : Type 0}
+    (g : Ghosts D)
+    (only_now : (d : D) (o : Outcome)
+      → g.outcomes d (g.moment d) o
+      → Leaves (g.told d) (g.may_leave d) o)
+    (size : ℕ) where
   -- the outcome of a disk with nothing pending
-  settled_image : (d : D) (o : Outcome) → IsSettled (seen_of d) (held_by d) → Leaves (told_of d) (held_by d) o → o.image ≡ seen_of d
-  settled_image d o settled leaves = same_image o.image (seen_of d) (λ s. settled s (o.image s) (leaves.each_sector s))
+  pub settled_image : (d : D) (o : Outcome)
+      → IsAtRest g d
+      → Leaves (g.told d) (g.may_leave d) o
+      → o.image ≡ g.seen d
+  settled_image d o settled leaves =
+      same_image o.image (g.seen d) (λ s. settled s (o.image s) (leaves.each_sector s))
 
   -- a disk with nothing pending leaves itself
-  leaves_same : (old : D) (o : Outcome) → IsSettled (seen_of old) (held_by old) → Leaves (told_of old) (held_by old) o → LeavesSame (told_of old) size (seen_of old) o
-  leaves_same old o settled leaves = let image = settled_image old o settled leaves in record {
+  leaves_same : (old : D) (o : Outcome)
+      → IsAtRest g old
+      → Leaves (g.told old) (g.may_leave old) o
+      → LeavesSame (g.told old) size (g.seen old) o
+  leaves_same old o settled leaves = record {
     told_so_far = leaves.told_so_far;
-    device = ap (device size) image;
-    places = ap (places size) image;
+    same = ap (device size) (settled_image old o settled leaves);
   }
 
   -- every outcome of a disk that means the same
-  pub same_cuts : (old new : D) → Adds moment outcomes old new (LeavesSame (told_of old) size (seen_of old)) → IsSettled (seen_of old) (held_by old) → (o : Outcome) → outcomes new (moment old) o → LeavesSame (told_of old) size (seen_of old) o
-  same_cuts old new time settled = all_since moment outcomes old new (LeavesSame (told_of old) size (seen_of old)) (Leaves (told_of old) (held_by old)) time (only_now old) (λ o leaves. leaves_same old o settled leaves)
+  pub same_cuts : (old new : D)
+      → Adds g.moment g.outcomes old new (LeavesSame (g.told old) size (g.seen old))
+      → IsAtRest g old
+      → (o : Outcome)
+      → g.outcomes new (g.moment old) o
+      → LeavesSame (g.told old) size (g.seen old) o
+  same_cuts old new time settled =
+      all_since g.moment g.outcomes old new (LeavesSame (g.told old) size (g.seen old))
+      (Leaves (g.told old) (g.may_leave old)) time (only_now old)
+      (λ o leaves. leaves_same old o settled leaves)
 
-  -- a device that is opened is in the situation that it was in
-  pub opened_in : (old mid : D) (s : Mounted) → Opens seen_of held_by told_of left_of moment outcomes size old mid → IsIn size s (seen_of old) → IsIn size s (seen_of mid)
-  opened_in old mid s opens is = record { state = opens.device ∙ is.state; places = opens.places ∙ is.places }
+  -- a device that is opened is the one that it was
+  pub opened_in : (old mid : D) (s : Mounted)
+      → Opens g size old mid
+      → IsIn size s (g.seen old)
+      → IsIn size s (g.seen mid)
+  opened_in old mid s opens is = opens.device ∙ is
 
   -- opening failed
-  pub fails_before : (s : Mounted) (old new : D) (status : Status) → IsEarly status → told_of new ≡ told_of old → (IsSettled (seen_of old) (held_by old) → Adds moment outcomes old new (LeavesSame (told_of old) size (seen_of old)))
-      → FailsBefore seen_of held_by told_of left_of moment outcomes size s old new status
-  fails_before s old new status early told time = record {
+  pub fails_before : (s : Mounted) (old new : D) (status : Status)
+      → IsIn size s (g.seen old)
+      → IsEarly status
+      → g.told new ≡ g.told old
+      → (status ≡ NoMemory → g.seen new ≡ g.seen old)
+      → (IsAtRest g old
+        → Adds g.moment g.outcomes old new (LeavesSame (g.told old) size (g.seen old)))
+      → FailsBefore g size s old new status
+  fails_before s old new status is early told same time = record {
     early = early;
     told = told;
-    every_cut = λ rest o at. let same = same_cuts old new (time rest.settled) rest.settled o at in record {
-      told_so_far = same.told_so_far;
-      stands = record { state = same.device ∙ (let is = rest.stands in is.state); places = same.places ∙ (let is = rest.stands in is.places) };
-    };
+    same = same;
+    every_cut = λ rest o at.
+        let left = same_cuts old new (time rest) rest o at in
+        record { told_so_far = left.told_so_far; stands = left.same ∙ is };
   }
 
   -- opening failed where there is no device
-  pub none_early : (line : List ℕ) (old new : D) (status : Status) → IsEarly status → told_of new ≡ told_of old → (IsSettled (seen_of old) (held_by old) → Adds moment outcomes old new (LeavesSame (told_of old) size (seen_of old)))
-      → RunsNone seen_of held_by told_of left_of moment outcomes size line old new status
-  none_early line old new status early told time = record {
+  pub none_early : (line : List ℕ) (old new : D) (status : Status)
+      → IsEarly status
+      → g.told new ≡ g.told old
+      → (status ≡ NoMemory → g.seen new ≡ g.seen old)
+      → (IsAtRest g old
+        → Adds g.moment g.outcomes old new (LeavesSame (g.told old) size (g.seen old)))
+      → RunsNone g size line old new status
+  none_early line old new status early told same time = record {
     status_is = inr (⊎_elim (λ disk. inl (inl disk)) (λ memory. inr memory) early);
-    front = (0, told ∙ sym (append-nil (told_of old)));
+    front = (0, told ∙ sym (append-nil (g.told old)));
     whole = λ is. absurd (never is early);
     untold = λ is. told;
-    same = λ is. absurd (never is early);
-    every_cut = λ settled o at. (same_cuts old new (time settled) settled o at).device;
+    same = λ either. ⊎_elim (λ is. absurd (never is early)) same either;
+    every_cut = λ rest o at.
+        let left = same_cuts old new (time rest) rest o at in
+        record {
+          front = (0, left.told_so_far ∙ sym (append-nil (g.told old)));
+          kind = left.same;
+        };
   }
     where
       never : status ≡ NotADevice → IsEarly status → ⊥
@@ -102,78 +168,150 @@ module _ {D : Type 0} (seen_of : D → Image) (held_by : D → ℕ → List ℕ 
       never is (inr memory) = cc
 
   -- there is no device, and the line is told, whole or in part
-  pub none_told : (line : List ℕ) (old mid new : D) (status : Status) → (status ≡ NotADevice) ⊎ (status ≡ Port) → told_of mid ≡ told_of old → seen_of mid ≡ seen_of old → SameHoldings (held_by old) (held_by mid)
-      → (IsSettled (seen_of old) (held_by old) → Adds moment outcomes old mid (LeavesSame (told_of old) size (seen_of old)))
-      → (n : ℕ) × (told_of new ≡ told_of mid ++ take n line) → (status ≡ NotADevice → told_of new ≡ told_of mid ++ line) → seen_of new ≡ seen_of mid → Adds moment outcomes mid new (LeavesSaying (told_of mid) line (held_by mid))
-      → RunsNone seen_of held_by told_of left_of moment outcomes size line old new status
+  pub none_told : (line : List ℕ) (old mid new : D) (status : Status)
+      → (status ≡ NotADevice) ⊎ (status ≡ Port)
+      → g.told mid ≡ g.told old
+      → g.seen mid ≡ g.seen old
+      → SameHoldings (g.may_leave old) (g.may_leave mid)
+      → (IsAtRest g old
+        → Adds g.moment g.outcomes old mid (LeavesSame (g.told old) size (g.seen old)))
+      → (n : ℕ) × (g.told new ≡ g.told mid ++ take n line)
+      → (status ≡ NotADevice → g.told new ≡ g.told mid ++ line)
+      → g.seen new ≡ g.seen mid
+      → Adds g.moment g.outcomes mid new (LeavesSaying (g.told mid) line (g.may_leave mid))
+      → RunsNone g size line old new status
   none_told line old mid new status status_is told seen holds time front whole seen' saying = record {
     status_is = ⊎_elim (λ none. inl none) (λ port. inr (inl (inr port))) status_is;
     front = (front.0, front.1 ∙ ap (λ (l : List ℕ). l ++ take front.0 line) told);
     whole = λ is. whole is ∙ ap (λ (l : List ℕ). l ++ line) told;
     untold = λ is. ⊎_elim (λ none. cc) (λ port. cc) status_is;
     same = λ is. seen' ∙ seen;
-    every_cut = λ settled o at.
-        all_since moment outcomes old new Same (Leaves (told_of old) (held_by old))
-        (adds_on moment outcomes old mid new Same (LeavesSaying (told_of mid) line (held_by mid))
-        (adds_wider moment outcomes old mid (LeavesSame (told_of old) size (seen_of old)) Same (time settled) (λ o' same. same.device)) saying
-        (λ o' leaves. ap (device size) (same_image o'.image (seen_of old) (λ s. settled s (o'.image s) (holds.no_more s (o'.image s) (leaves.each_sector s))))))
-        (only_now old) (λ o' leaves. ap (device size) (settled_image old o' settled leaves)) o at;
+    every_cut = λ rest o at.
+        all_since g.moment g.outcomes old new P (Leaves (g.told old) (g.may_leave old))
+        (adds_on g.moment g.outcomes old mid new P
+        (LeavesSaying (g.told mid) line (g.may_leave mid))
+        (adds_wider g.moment g.outcomes old mid (LeavesSame (g.told old) size (g.seen old)) P (time rest)
+        (λ o' same. record {
+          front = (0, same.told_so_far ∙ sym (append-nil (g.told old)));
+          kind = same.same;
+        }))
+        saying
+        (λ o' leaves. record {
+          front = (
+            leaves.front.0,
+            leaves.front.1 ∙ ap (λ (l : List ℕ). l ++ take leaves.front.0 line) told,
+          );
+          kind = ap (device size)
+              (same_image o'.image (g.seen old)
+              (λ s. rest s (o'.image s) (holds.no_more s (o'.image s) (leaves.each_sector s))));
+        }))
+        (only_now old)
+        (λ o' leaves. record {
+          front = (0, leaves.told_so_far ∙ sym (append-nil (g.told old)));
+          kind = ap (device size) (settled_image old o' rest leaves);
+        })
+        o at;
   }
     where
-      Same : Outcome → Type 0
-      Same o = device size o.image ≡ device size (seen_of old)
+      P : Outcome → Type 0
+      P = LeavesTelling (g.told old) line (MeansAs size (g.seen old))
 
   -- ---- one item
 
-  module _ (s : Mounted) (c : Named) (t : List ℕ) (some : (0 < length t) ⊎ ((image : Image) → IsIn size s image → IsIn size (item_named s c t).last image)) where
+  module _ (s : Mounted) (c : Command) (t : List ℕ)
+      (some : (0 < length t)
+        ⊎ ((image : Image) → IsIn size s image → IsIn size (command_item s c t).last.now image)) where
+    item : Item Mounted
+    item = command_item s c t
+
     -- before anything of it is done
-    before_item : (told : List ℕ) (o : Outcome) → o.told ≡ told → IsIn size s o.image → LeavesItem size told (item_named s c t) o
+    before_item : (told : List ℕ) (o : Outcome)
+        → o.told ≡ told
+        → IsIn size s o.image
+        → LeavesItem (IsIn size) told (command_item s c t) o
     before_item told o same is = record {
       front = (0, same ∙ sym (append-nil told));
-      step = (s, named_first s c, is);
-      whole = λ all. ⊎_elim (λ long. absurd (omega (arith, long, ap length (sym same ∙ all), length-append told t))) (λ last. last o.image is) some;
+      step = (s, inl refl, is);
+      whole = λ all.
+          ⊎_elim
+          (λ long. absurd (omega (arith, long, ap length (sym same ∙ all), length-append told t)))
+          (λ last. last o.image is)
+          some;
     }
 
     -- what an item leaves is within the run of it alone
-    within_one : (told : List ℕ) (o : Outcome) → LeavesItem size told (item_named s c t) o → CrashesWithin size [] s (item_named s c t ∷ []) told o
-    within_one told o leaves = within_item size [] s [] [] (item_named s c t) told told tt (sym (append-nil told)) o leaves
+    within_one : (told : List ℕ) (o : Outcome)
+        → LeavesItem (IsIn size) told (command_item s c t) o
+        → CrashesWithin (IsIn size) [] s (command_item s c t ∷ []) told o
+    within_one told o leaves =
+        within_item (IsIn size) [] s [] [] (command_item s c t) told told tt (sym (append-nil told)) o leaves
 
     -- every outcome of an item that is done on a device that is opened
-    item_cuts : (old mid new : D) → Opens seen_of held_by told_of left_of moment outcomes size old mid → Adds moment outcomes mid new (LeavesItem size (told_of mid) (item_named s c t)) → IsAtRest seen_of held_by size old s
-        → (o : Outcome) → outcomes new (moment old) o → CrashesWithin size [] s (item_named s c t ∷ []) (told_of old) o
-    item_cuts old mid new opens does rest o at =
-        let item = item_named s c t in
-        let P = LeavesItem size (told_of old) item in
-        let here = rest.stands in
-        within_one (told_of old) o
-        (all_since moment outcomes old new P (Leaves (told_of old) (held_by old))
-        (adds_on moment outcomes old mid new P (LeavesItem size (told_of mid) item)
-        (adds_wider moment outcomes old mid (LeavesSame (told_of old) size (seen_of old)) P (opens.time rest.settled)
-        (λ o' same. before_item (told_of old) o' same.told_so_far (record { state = same.device ∙ here.state; places = same.places ∙ here.places })))
-        does (λ o' leaves. subst (λ (l : List ℕ). LeavesItem size l item o') opens.told leaves))
+    item_cuts : (old mid new : D)
+        → Opens g size old mid
+        → IsIn size s (g.seen old)
+        → Adds g.moment g.outcomes mid new (LeavesItem (IsIn size) (g.told mid) (command_item s c t))
+        → IsAtRest g old
+        → (o : Outcome)
+        → g.outcomes new (g.moment old) o
+        → CrashesWithin (IsIn size) [] s (command_item s c t ∷ []) (g.told old) o
+    item_cuts old mid new opens is does rest o at =
+        within_one (g.told old) o
+        (all_since g.moment g.outcomes old new P (Leaves (g.told old) (g.may_leave old))
+        (adds_on g.moment g.outcomes old mid new P
+        (LeavesItem (IsIn size) (g.told mid) (command_item s c t))
+        (adds_wider g.moment g.outcomes old mid (LeavesSame (g.told old) size (g.seen old)) P
+        (opens.time rest)
+        (λ o' same. before_item (g.told old) o' same.told_so_far (same.same ∙ is)))
+        does
+        (λ o' leaves.
+        subst (λ (l : List ℕ). LeavesItem (IsIn size) l (command_item s c t) o') opens.told leaves))
         (only_now old)
-        (λ o' leaves. before_item (told_of old) o' leaves.told_so_far (subst (λ (x : Image). IsIn size s x) (sym (settled_image old o' rest.settled leaves)) here)) o at)
+        (λ o' leaves.
+        before_item (g.told old) o' leaves.told_so_far
+        (ap (device size) (settled_image old o' rest leaves) ∙ is))
+        o at)
+      where
+        P : Outcome → Type 0
+        P = LeavesItem (IsIn size) (g.told old) (command_item s c t)
 
     -- it is done, and ends so
-    pub runs_done : (ends : Status) (old mid new : D) → Opens seen_of held_by told_of left_of moment outcomes size old mid → (status : Status) → status ≡ ends → DoesItem seen_of held_by told_of moment outcomes {A = Status} {E = Status} size (item_named s c t) mid new (Ok status)
-        → RunsItem seen_of held_by told_of left_of moment outcomes size s (item_named s c t) ends old new status
-    runs_done ends old mid new opens status is does = record {
+    pub runs_done : (ends : Status) (old mid new : D)
+        → Opens g size old mid
+        → IsIn size s (g.seen old)
+        → (status : Status)
+        → status ≡ ends
+        → DoesItem g {A = Status} {E = Status} size (command_item s c t) mid new (Ok status)
+        → RunsItem g size s (command_item s c t) ends old new status
+    runs_done ends old mid new opens stands status is does = record {
       status_is = inl is;
-      front = (let front = does.front in front.0, (let front = does.front in front.1) ∙ ap (λ (l : List ℕ). l ++ take (let front = does.front in front.0) t) opens.told);
+      front = (let front = does.front in
+        (front.0, front.1 ∙ ap (λ (l : List ℕ). l ++ take front.0 t) opens.told));
       whole = λ same. does.told ∙ ap (λ (l : List ℕ). l ++ t) opens.told;
-      rest = λ rest same. record { settled = does.settled (opens.settled rest.settled); stands = does.stands };
-      every_cut = λ rest o at. item_cuts old mid new opens (does.time (opens.settled rest.settled)) rest o at;
+      stands = λ same. does.stands;
+      settled = λ rest same. does.settled (opens.settled rest);
+      every_cut = λ rest o at.
+          item_cuts old mid new opens stands (does.time (opens.settled rest)) rest o at;
     }
 
     -- the disk or the port failed
-    pub runs_failed : (ends : Status) (old mid new : D) → Opens seen_of held_by told_of left_of moment outcomes size old mid → (status : Status) → IsFailed status → (ends ≡ Done) ⊎ (ends ≡ Refused) → DoesItem seen_of held_by told_of moment outcomes {A = Status} {E = Status} size (item_named s c t) mid new (Err status)
-        → RunsItem seen_of held_by told_of left_of moment outcomes size s (item_named s c t) ends old new status
-    runs_failed ends old mid new opens status failed kind does = record {
+    pub runs_failed : (ends : Status) (old mid new : D)
+        → Opens g size old mid
+        → IsIn size s (g.seen old)
+        → (status : Status)
+        → IsFailed status
+        → (ends ≡ Done) ⊎ (ends ≡ Refused)
+        → DoesItem g {A = Status} {E = Status} size (command_item s c t) mid new (Err status)
+        → RunsItem g size s (command_item s c t) ends old new status
+    runs_failed ends old mid new opens stands status failed kind does = record {
       status_is = inr failed;
-      front = (let front = does.front in front.0, (let front = does.front in front.1) ∙ ap (λ (l : List ℕ). l ++ take (let front = does.front in front.0) t) opens.told);
+      front = (let front = does.front in
+        (front.0, front.1 ∙ ap (λ (l : List ℕ). l ++ take front.0 t) opens.told));
       whole = λ same. absurd (never same failed kind);
-      rest = λ rest same. absurd (never same failed kind);
-      every_cut = λ rest o at. item_cuts old mid new opens (does.time (opens.settled rest.settled)) rest o at;
+      stands = λ same. absurd (never same failed kind);
+      settled = λ rest same. absurd (never same failed kind);
+      every_cut = λ rest o at.
+          item_cuts old mid new opens stands (does.time (opens.settled rest)) rest o at;
     }
       where
         never : status ≡ ends → IsFailed status → (ends ≡ Done) ⊎ (ends ≡ Refused) → ⊥
@@ -183,8 +321,18 @@ module _ {D : Type 0} (seen_of : D → Image) (held_by : D → ℕ → List ℕ 
         never same (inr port) (inr refused) = cc
 
 -- what was said of an item with the size of a disk, of the same size
-pub does_sized : {D : Type 0} (seen_of : D → Image) (held_by : D → ℕ → List ℕ → Type 0) (told_of : D → List ℕ) (moment : D → ℕ) (outcomes : D → ℕ → Outcome → Type 0) {A E : Type 0} (size' size : ℕ) (item : Mounted → Item) (old new : D) (r : Result A E) → size' ≡ size
-    → ((s : Mounted) → IsIn size' s (seen_of old) → DoesItem seen_of held_by told_of moment outcomes size' (item s) old new r)
-    → (s : Mounted) → IsIn size s (seen_of old) → DoesItem seen_of held_by told_of moment outcomes size (item s) old new r
-does_sized seen_of held_by told_of moment outcomes size' size item old new r sized does =
-    subst (λ (n : ℕ). (s : Mounted) → IsIn n s (seen_of old) → DoesItem seen_of held_by told_of moment outcomes n (item s) old new r) sized does
+pub does_sized : {D A E : Type 0}
+    (g : Ghosts D)
+    (size' size : ℕ)
+    (item : Mounted → Item Mounted)
+    (old new : D)
+    (r : Result A E)
+    → size' ≡ size
+    → ((s : Mounted) → IsIn size' s (g.seen old) → DoesItem g size' (item s) old new r)
+    → (s : Mounted)
+    → IsIn size s (g.seen old)
+    → DoesItem g size (item s) old new r
+does_sized g size' size item old new r sized does =
+    subst
+    (λ (n : ℕ). (s : Mounted) → IsIn n s (g.seen old) → DoesItem g n (item s) old new r)
+    sized does

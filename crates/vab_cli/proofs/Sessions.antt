@@ -86,7 +86,7 @@ small_unwritten (make.TableFull size max) need have gives disk = disk
 small_unwritten make.NoMemory need have gives disk = disk
 small_unwritten (make.Disk fault) need have gives disk = cc
 
-module _ {D : Type 0} (seen_of : D → Image) (held_by : D → ℕ → List ℕ → Type 0) (told_of left_of : D → List ℕ) (moment : D → ℕ) (outcomes : D → ℕ → Outcome → Type 0) (only_now : (d : D) (o : Outcome) → outcomes d (moment d) o → Leaves (told_of d) (held_by d) o) (size : ℕ) where
+module _ {D : Type 0} (g : Ghosts D) (only_now : (d : D) (o : Outcome) → g.outcomes d (g.moment d) o → Leaves (g.told d) (g.may_leave d) o) (size : ℕ) where
   -- a cut of power within a session
   abbrev Within : Mounted → List (List ℕ) → List ℕ → Outcome → Type 0
   Within first packets told = CrashesWithin size (codes "FB01") first (items_of first packets) told
@@ -100,8 +100,8 @@ module _ {D : Type 0} (seen_of : D → Image) (held_by : D → ℕ → List ℕ 
       empty (x ∷ l) = ap (λ (k : List ℕ). x ∷ k) (empty l)
 
   -- a session over the device of the disk
-  pub opened_runs : (first : Mounted) (old mid new : D) (r : Answer) → Opens seen_of held_by told_of left_of moment outcomes size old mid → IsIn size first (seen_of mid)
-      → Serves seen_of held_by told_of left_of moment outcomes size (2 ^ 44) first mid new r → RunsSession seen_of held_by told_of left_of moment outcomes size (IsAtRest seen_of held_by size old first) (λ o. ⊥) first old new (session_status r)
+  pub opened_runs : (first : Mounted) (old mid new : D) (r : Answer) → Opens g size old mid → IsIn size first (g.seen mid)
+      → Serves g size (2 ^ 44) first mid new r → RunsSession g size (IsAtRest g.seen g.may_leave size old first) (λ o. ⊥) first old new (session_status r)
   opened_runs first old mid new r opens here serves = record {
     packets = serves.packets;
     end = serves.end;
@@ -112,61 +112,61 @@ module _ {D : Type 0} (seen_of : D → Image) (held_by : D → ℕ → List ℕ 
     whole = λ held. serves.whole (port_held r held) ∙ ap (λ (l : List ℕ). l ++ output_of first serves.packets) opens.told;
     rest = λ rest held. serves.rest (record { settled = opens.settled rest.settled; stands = here }) (port_held r held);
     every_cut = λ rest o at.
-        let P = Within first serves.packets (told_of old) in
+        let P = Within first serves.packets (g.told old) in
         let stands = rest.stands in
-        let mid_rest : IsAtRest seen_of held_by size mid first = record { settled = opens.settled rest.settled; stands = here } in
-        inl (all_since moment outcomes old new P (Leaves (told_of old) (held_by old))
-        (adds_on moment outcomes old mid new P (Within first serves.packets (told_of mid))
-        (adds_wider moment outcomes old mid (LeavesSame (told_of old) size (seen_of old)) P (opens.time rest.settled)
-        (λ o' same. before_all first serves.packets (told_of old) o' same.told_so_far (record { state = same.device ∙ stands.state; places = same.places ∙ stands.places })))
+        let mid_rest : IsAtRest g.seen g.may_leave size mid first = record { settled = opens.settled rest.settled; stands = here } in
+        inl (all_since g.moment g.outcomes old new P (Leaves (g.told old) (g.may_leave old))
+        (adds_on g.moment g.outcomes old mid new P (Within first serves.packets (g.told mid))
+        (adds_wider g.moment g.outcomes old mid (LeavesSame (g.told old) size (g.seen old)) P (opens.time rest.settled)
+        (λ o' same. before_all first serves.packets (g.told old) o' same.told_so_far (record { state = same.device ∙ stands.state; places = same.places ∙ stands.places })))
         (serves.time mid_rest) (λ o' within. subst (λ (l : List ℕ). Within first serves.packets l o') opens.told within))
         (only_now old)
-        (λ o' leaves. before_all first serves.packets (told_of old) o' leaves.told_so_far
-        (subst (λ (x : Image). IsIn size first x) (sym (same_image o'.image (seen_of old) (λ s. rest.settled s (o'.image s) (leaves.each_sector s)))) stands)) o at);
+        (λ o' leaves. before_all first serves.packets (g.told old) o' leaves.told_so_far
+        (subst (λ (x : Image). IsIn size first x) (sym (same_image o'.image (g.seen old) (λ s. rest.settled s (o'.image s) (leaves.each_sector s)))) stands)) o at);
   }
 
   -- ---- a device that is made first
 
   module _ (set : List SetImage) (limit max : ℕ) where
     -- the outcomes of making, at the first moment too
-    making_cuts : (old mid : D) → Adds moment outcomes old mid (LeavesMaking (told_of old) set limit max size (seen_of old)) → IsSettled (seen_of old) (held_by old)
-        → (o : Outcome) → outcomes mid (moment old) o → LeavesMaking (told_of old) set limit max size (seen_of old) o
+    making_cuts : (old mid : D) → Adds g.moment g.outcomes old mid (LeavesMaking (g.told old) set limit max size (g.seen old)) → IsAtRest g old
+        → (o : Outcome) → g.outcomes mid (g.moment old) o → LeavesMaking (g.told old) set limit max size (g.seen old) o
     making_cuts old mid making settled =
-        all_since moment outcomes old mid (LeavesMaking (told_of old) set limit max size (seen_of old)) (Leaves (told_of old) (held_by old)) making (only_now old)
-        (λ o leaves. record { told_so_far = leaves.told_so_far; either = inl (same_image o.image (seen_of old) (λ s. settled s (o.image s) (leaves.each_sector s))) })
+        all_since g.moment g.outcomes old mid (LeavesMaking (g.told old) set limit max size (g.seen old)) (Leaves (g.told old) (g.may_leave old)) making (only_now old)
+        (λ o leaves. record { told_so_far = leaves.told_so_far; either = inl (same_image o.image (g.seen old) (λ s. settled s (o.image s) (leaves.each_sector s))) })
 
     -- what opening the made device leaves
-    opening_made : (old mid : D) → told_of mid ≡ told_of old → IsMade set limit max size (seen_of mid) → (o : Outcome) → LeavesSame (told_of mid) size (seen_of mid) o → LeavesMaking (told_of old) set limit max size (seen_of old) o
+    opening_made : (old mid : D) → g.told mid ≡ g.told old → IsMade set limit max size (g.seen mid) → (o : Outcome) → LeavesSame (g.told mid) size (g.seen mid) o → LeavesMaking (g.told old) set limit max size (g.seen old) o
     opening_made old mid told made o same = record {
       told_so_far = same.told_so_far ∙ told;
       either = inr (inr (record { state = same.device ∙ made.state; places = same.places ∙ made.places }));
     }
 
     -- the outcomes up to where the made device is opened
-    prepared : (old mid now : D) → told_of mid ≡ told_of old → IsMade set limit max size (seen_of mid) → Adds moment outcomes old mid (LeavesMaking (told_of old) set limit max size (seen_of old)) → Adds moment outcomes mid now (LeavesSame (told_of mid) size (seen_of mid))
-        → Adds moment outcomes old now (LeavesMaking (told_of old) set limit max size (seen_of old))
+    prepared : (old mid now : D) → g.told mid ≡ g.told old → IsMade set limit max size (g.seen mid) → Adds g.moment g.outcomes old mid (LeavesMaking (g.told old) set limit max size (g.seen old)) → Adds g.moment g.outcomes mid now (LeavesSame (g.told mid) size (g.seen mid))
+        → Adds g.moment g.outcomes old now (LeavesMaking (g.told old) set limit max size (g.seen old))
     prepared old mid now told made making opening =
-        adds_on moment outcomes old mid now (LeavesMaking (told_of old) set limit max size (seen_of old)) (LeavesSame (told_of mid) size (seen_of mid)) making opening (opening_made old mid told made)
+        adds_on g.moment g.outcomes old mid now (LeavesMaking (g.told old) set limit max size (g.seen old)) (LeavesSame (g.told mid) size (g.seen mid)) making opening (opening_made old mid told made)
 
     -- making failed
-    pub making_failed : (old new : D) (status : Status) → IsEarly status → told_of new ≡ told_of old → (IsSettled (seen_of old) (held_by old) → Adds moment outcomes old new (LeavesMaking (told_of old) set limit max size (seen_of old)))
-        → FailsMaking seen_of held_by told_of left_of moment outcomes size set limit max old new status
+    pub making_failed : (old new : D) (status : Status) → IsEarly status → g.told new ≡ g.told old → (IsAtRest g old → Adds g.moment g.outcomes old new (LeavesMaking (g.told old) set limit max size (g.seen old)))
+        → FailsMaking g size set limit max old new status
     making_failed old new status early told making = record { early = early; told = told; every_cut = λ settled. making_cuts old new (making settled) settled }
 
     -- opening the made device failed
-    pub opening_failed : (old mid new : D) (status : Status) → IsEarly status → told_of mid ≡ told_of old → told_of new ≡ told_of mid → IsMade set limit max size (seen_of mid) → IsSettled (seen_of mid) (held_by mid)
-        → (IsSettled (seen_of old) (held_by old) → Adds moment outcomes old mid (LeavesMaking (told_of old) set limit max size (seen_of old)))
-        → (IsSettled (seen_of mid) (held_by mid) → Adds moment outcomes mid new (LeavesSame (told_of mid) size (seen_of mid)))
-        → FailsMaking seen_of held_by told_of left_of moment outcomes size set limit max old new status
+    pub opening_failed : (old mid new : D) (status : Status) → IsEarly status → g.told mid ≡ g.told old → g.told new ≡ g.told mid → IsMade set limit max size (g.seen mid) → IsAtRest g mid
+        → (IsAtRest g old → Adds g.moment g.outcomes old mid (LeavesMaking (g.told old) set limit max size (g.seen old)))
+        → (IsAtRest g mid → Adds g.moment g.outcomes mid new (LeavesSame (g.told mid) size (g.seen mid)))
+        → FailsMaking g size set limit max old new status
     opening_failed old mid new status early told told' made rest making opening =
         making_failed old new status early (told' ∙ told) (λ settled. prepared old mid new told made (making settled) (opening rest))
 
     -- a session over the made device
-    pub made_runs : (old mid now new : D) (r : Answer) → told_of mid ≡ told_of old → left_of mid ≡ left_of old → IsMade set limit max size (seen_of mid) → IsSettled (seen_of mid) (held_by mid)
-        → (IsSettled (seen_of old) (held_by old) → Adds moment outcomes old mid (LeavesMaking (told_of old) set limit max size (seen_of old)))
-        → Opens seen_of held_by told_of left_of moment outcomes size mid now
-        → Serves seen_of held_by told_of left_of moment outcomes size (2 ^ 44) (made_mounted set limit max size) now new r
-        → RunsSession seen_of held_by told_of left_of moment outcomes size (IsSettled (seen_of old) (held_by old)) (LeavesMaking (told_of old) set limit max size (seen_of old)) (made_mounted set limit max size) old new (session_status r)
+    pub made_runs : (old mid now new : D) (r : Answer) → g.told mid ≡ g.told old → g.input_left mid ≡ g.input_left old → IsMade set limit max size (g.seen mid) → IsAtRest g mid
+        → (IsAtRest g old → Adds g.moment g.outcomes old mid (LeavesMaking (g.told old) set limit max size (g.seen old)))
+        → Opens g size mid now
+        → Serves g size (2 ^ 44) (made_mounted set limit max size) now new r
+        → RunsSession g size (IsAtRest g old) (LeavesMaking (g.told old) set limit max size (g.seen old)) (made_mounted set limit max size) old new (session_status r)
     made_runs old mid now new r told left made rest making opens serves = record {
       packets = serves.packets;
       end = serves.end;
@@ -179,31 +179,31 @@ module _ {D : Type 0} (seen_of : D → Image) (held_by : D → ℕ → List ℕ 
       every_cut = λ settled o at. ⊎_elim
           (λ was. inr (making_cuts old now (prepared old mid now told made (making settled) (opens.time rest)) settled o was))
           (λ now_. inl (subst (λ (l : List ℕ). Within first serves.packets l o) same now_))
-          ((serves.time at_rest).adds (moment old) o (prepared old mid now told made (making settled) (opens.time rest)).later at);
+          ((serves.time at_rest).adds (g.moment old) o (prepared old mid now told made (making settled) (opens.time rest)).later at);
     }
       where
         first : Mounted
         first = made_mounted set limit max size
 
-        same : told_of now ≡ told_of old
+        same : g.told now ≡ g.told old
         same = opens.told ∙ told
 
-        at_rest : IsAtRest seen_of held_by size now (made_mounted set limit max size)
+        at_rest : IsAtRest g.seen g.may_leave size now (made_mounted set limit max size)
         at_rest = record { settled = opens.settled rest; stands = record { state = opens.device ∙ made.state; places = opens.places ∙ made.places } }
 
 -- what was said of a session with the size of a disk, of the same size
-pub sized_serves : {D : Type 0} (seen_of : D → Image) (held_by : D → ℕ → List ℕ → Type 0) (told_of left_of : D → List ℕ) (moment : D → ℕ) (outcomes : D → ℕ → Outcome → Type 0) (size' size most : ℕ) (old new : D) (r : Answer) → size' ≡ size
-    → ((s : Mounted) → IsIn size' s (seen_of old) → Serves seen_of held_by told_of left_of moment outcomes size' most s old new r)
-    → (s : Mounted) → IsIn size s (seen_of old) → Serves seen_of held_by told_of left_of moment outcomes size most s old new r
-sized_serves seen_of held_by told_of left_of moment outcomes size' size most old new r sized serves =
-    subst (λ (n : ℕ). (s : Mounted) → IsIn n s (seen_of old) → Serves seen_of held_by told_of left_of moment outcomes n most s old new r) sized serves
+pub sized_serves : {D : Type 0} (g : Ghosts D) (size' size most : ℕ) (old new : D) (r : Answer) → size' ≡ size
+    → ((s : Mounted) → IsIn size' s (g.seen old) → Serves g size' most s old new r)
+    → (s : Mounted) → IsIn size s (g.seen old) → Serves g size most s old new r
+sized_serves g size' size most old new r sized serves =
+    subst (λ (n : ℕ). (s : Mounted) → IsIn n s (g.seen old) → Serves g n most s old new r) sized serves
 
 -- opening a device, by what it says of the size that the disk has
-pub opens_made : {D : Type 0} (seen_of : D → Image) (held_by : D → ℕ → List ℕ → Type 0) (told_of left_of : D → List ℕ) (moment : D → ℕ) (outcomes : D → ℕ → Outcome → Type 0) (size' size : ℕ) (old new : D) (state : State) → size' ≡ size → told_of new ≡ told_of old → left_of new ≡ left_of old
-    → device size' (seen_of old) ≡ Ok state → device size' (seen_of new) ≡ Ok state → places size' (seen_of new) ≡ places size' (seen_of old) → (IsSettled (seen_of old) (held_by old) → IsSettled (seen_of new) (held_by new))
-    → (IsSettled (seen_of old) (held_by old) → Adds moment outcomes old new (LeavesSame (told_of old) size' (seen_of old))) → Opens seen_of held_by told_of left_of moment outcomes size old new
-opens_made seen_of held_by told_of left_of moment outcomes size' size old new state sized told left was is where_ settled time =
-    subst (λ (n : ℕ). Opens seen_of held_by told_of left_of moment outcomes n old new) sized (record {
+pub opens_made : {D : Type 0} (g : Ghosts D) (size' size : ℕ) (old new : D) (state : State) → size' ≡ size → g.told new ≡ g.told old → g.input_left new ≡ g.input_left old
+    → device size' (g.seen old) ≡ Ok state → device size' (g.seen new) ≡ Ok state → places size' (g.seen new) ≡ places size' (g.seen old) → (IsAtRest g old → IsAtRest g new)
+    → (IsAtRest g old → Adds g.moment g.outcomes old new (LeavesSame (g.told old) size' (g.seen old))) → Opens g size old new
+opens_made g size' size old new state sized told left was is where_ settled time =
+    subst (λ (n : ℕ). Opens g n old new) sized (record {
       told = told;
       left = left;
       device = is ∙ sym was;
@@ -230,14 +230,14 @@ ends_done NoMemory end says is disk port = absurd says
 ends_done Disk end says is disk port = absurd (disk refl)
 ends_done Port end says is disk port = absurd (port refl)
 
-module _ {D : Type 0} (seen_of : D → Image) (held_by : D → ℕ → List ℕ → Type 0) (told_of left_of : D → List ℕ) (moment : D → ℕ) (outcomes : D → ℕ → Outcome → Type 0) (size : ℕ) where
+module _ {D : Type 0} (g : Ghosts D) (size : ℕ) where
   -- an input by its grammar is answered whole
   pub completed : (Premise : Type 0) (Else : Outcome → Type 0) (Fails : Type 0) (first : Mounted) (old new : D) (status : Status)
-      → RunsSession seen_of held_by told_of left_of moment outcomes size Premise Else first old new status ⊎ Fails → (Fails → IsEarly status)
-      → (status ≡ Disk → ⊥) → (status ≡ Port → ⊥) → (packets : List (List ℕ)) (end : End) → IsSession (2 ^ 44) (left_of old) packets end → IsEnd end
-      → ((status ≡ Done) × (told_of new ≡ told_of old ++ output_of first packets)) ⊎ (status ≡ NoMemory)
+      → RunsSession g size Premise Else first old new status ⊎ Fails → (Fails → IsEarly status)
+      → (status ≡ Disk → ⊥) → (status ≡ Port → ⊥) → (packets : List (List ℕ)) (end : End) → IsSession (2 ^ 44) (g.input_left old) packets end → IsEnd end
+      → ((status ≡ Done) × (g.told new ≡ g.told old ++ output_of first packets)) ⊎ (status ≡ NoMemory)
   completed Premise Else Fails first old new status (inl runs) early disk port packets end is ends =
       let one = runs.only packets end is in
       let done = ends_done status runs.end runs.status_is (subst IsEnd one.1 ends) disk port in
-      inl (done.0, runs.whole done.1 ∙ ap (λ (l : List (List ℕ)). told_of old ++ output_of first l) (sym one.0))
+      inl (done.0, runs.whole done.1 ∙ ap (λ (l : List (List ℕ)). g.told old ++ output_of first l) (sym one.0))
   completed Premise Else Fails first old new status (inr fails) early disk port packets end is ends = ⊎_elim (λ failed. absurd (disk failed)) (λ memory. inr memory) (early fails)

@@ -14,7 +14,9 @@ use Rattle.vab_set.specs.declared.fault.SetFault.TheVariants as set
 use Rattle.vab_model.specs.declared.command.Reply.{Reply}
 use Rattle.vab_model.specs.declared.command.Reply.TheVariants as replies
 use Rattle.vab_cli.specs.declared.status.Status.{Status}
-use Rattle.vab_cli.specs.declared.status.Status.TheVariants.{Done, Usage, Malformed, Refused, NotADevice, Disk, Port, NoMemory}
+use Rattle.vab_cli.specs.declared.status.Status.TheVariants.{
+  Done, Usage, Malformed, Refused, NotADevice, Disk, Port, NoMemory
+}
 
 abbrev pub code_of : Status → ℕ
 code_of Done = 0
@@ -34,6 +36,7 @@ status_of session.Sink = Port
 status_of session.BadHello = Malformed
 status_of (session.TooLong n) = Malformed
 status_of (session.Cut at) = Malformed
+status_of (session.Overrun due came) = Malformed
 status_of session.Spent = Malformed
 
 -- the status of what a session answers

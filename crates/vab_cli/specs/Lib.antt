@@ -1,5 +1,7 @@
 pub mod Codes
-pub mod Headline
+pub mod Counts
 pub mod Opening
+pub mod Program
+pub mod Runs
 pub mod Telling
 pub mod Verbs

@@ -1,14 +1,17 @@
 -- What opening a device leaves.
-use Rattle.std.specs.Prelude.{◌≡◌, ℕ, List}
-use Rattle.vab_disk.specs.Disk.{Image, Outcome, IsSettled, Adds}
-use Rattle.vab_device.specs.Device.{device, places}
-use Rattle.vab_recover.specs.Stands.{LeavesSame}
+use Rattle.std.specs.Prelude.{◌≡◌, ℕ}
+use Rattle.vab_disk.specs.declared.disk.Disk.{Ghosts}
+use Rattle.vab_disk.specs.Disk.{Adds}
+use Rattle.vab_disk.specs.Calls.{IsAtRest}
+use Rattle.vab_device.specs.Reading.{device}
+use Rattle.vab_recover.specs.Opened.{LeavesSame}
 
 -- nothing is heard or told, and the disk means the same in every outcome
-pub record Opens {D : Type 0} (seen_of : D → Image) (held_by : D → ℕ → List ℕ → Type 0) (told_of left_of : D → List ℕ) (moment : D → ℕ) (outcomes : D → ℕ → Outcome → Type 0) (size : ℕ) (old new : D) : Type 0 where
-  pub told : told_of new ≡ told_of old
-  pub left : left_of new ≡ left_of old
-  pub device : device size (seen_of new) ≡ device size (seen_of old)
-  pub places : places size (seen_of new) ≡ places size (seen_of old)
-  pub settled : IsSettled (seen_of old) (held_by old) → IsSettled (seen_of new) (held_by new)
-  pub time : IsSettled (seen_of old) (held_by old) → Adds moment outcomes old new (LeavesSame (told_of old) size (seen_of old))
+pub record Opens {D : Type 0} (g : Ghosts D) (size : ℕ) (old new : D) : Type 0 where
+  pub told : g.told new ≡ g.told old
+  pub left : g.input_left new ≡ g.input_left old
+  pub heard : g.heard new ≡ g.heard old
+  pub device : device size (g.seen new) ≡ device size (g.seen old)
+  pub settled : IsAtRest g old → IsAtRest g new
+  pub time : IsAtRest g old
+      → Adds g.moment g.outcomes old new (LeavesSame (g.told old) size (g.seen old))

@@ -1,13 +1,20 @@
--- The verbs on a device: what is told of each, how it ends, and the situations from the one before it to the one after it.
-use Rattle.std.specs.Prelude.{ℕ, Bool, true, false, List, length, [], ◌∷◌, ◌++◌, codes, Option, Some, None}
+-- The verbs on a device: what is told of each, how it ends, and the devices from the one before it to the
+-- one after it.
+use Rattle.std.specs.Prelude.{
+  ℕ, Bool, true, false, List, length, [], ◌∷◌, ◌++◌, codes, Option, Some, None
+}
 use Rattle.hex.specs.Hex.{encode_lower}
 use Rattle.vab_model.specs.declared.state.State.{State}
 use Rattle.vab_model.specs.declared.command.Reply.{Reply}
 use Rattle.vab_model.specs.declared.command.Reply.TheVariants as replies
-use Rattle.vab_model.specs.Step.{Found, Image_is, Refused_by, found_of}
 use Rattle.vab_model.specs.declared.command.Refusal.{Refusal}
+use Rattle.vab_model.specs.Commands.{Command, SetActive, Boot, Mark, Print, Digest}
+use Rattle.vab_model.specs.Effects.{
+  Found, Image_is, Refused_by, found_of, effect, steps_of, after_of
+}
 use Rattle.vab_tables.specs.Rules.{cap_of}
 use Rattle.vab_set.specs.declared.set.SetImage.{SetImage}
+use Rattle.vab_device.specs.Mounted.{Mounted, effect_on}
 use Rattle.vab_make.specs.declared.fault.MakeFault.{MakeFault}
 use Rattle.vab_make.specs.declared.fault.MakeFault.TheVariants as make
 use Rattle.vab_make.specs.Made.{set_blocks, made_device}
@@ -15,15 +22,13 @@ use Rattle.vab_lines.specs.Lines.{made_line, make_refusal}
 use Rattle.vab_lines.specs.Lines.{refused_line as refused_because}
 use Rattle.vab_words.specs.Verbs.{Meaning}
 use Rattle.vab_words.specs.Verbs as words
-use Rattle.vab_fbproto.specs.Commands.{Named, SetActive, Boot, Mark, Print, Digest, reply_named}
 use Rattle.vab_fbproto.specs.Texts.{slot_letter, refusal_text}
-use Rattle.vab_session.specs.Items.{Mounted, Item}
-use Rattle.vab_session.specs.Answers.{item_named}
+use Rattle.vab_exchanges.specs.Items.{Kept, Item}
 use Rattle.vab_cli.specs.declared.status.Status.{Status}
 use Rattle.vab_cli.specs.Codes.{reply_status}
 
 -- the command that a verb on a device is
-abbrev pub command_of : Meaning → Option Named
+abbrev pub command_of : Meaning → Option Command
 command_of (words.Make limit metadata_max) = None
 command_of (words.Serve fresh) = None
 command_of words.Boot = Some Boot
@@ -45,7 +50,7 @@ abbrev pub refused_line : Refusal → List ℕ
 refused_line refusal = line (codes "refused: " ++ refusal_text refusal)
 
 -- a command that is done and has no more to tell, where this slot is the current one; the others have
-abbrev pub done_line : Named → ℕ → List ℕ
+abbrev pub done_line : Command → ℕ → List ℕ
 done_line (SetActive slot) current = line (codes "active " ++ slot_letter slot)
 done_line Mark current = line (codes "marked " ++ slot_letter current)
 done_line Boot current = line []
@@ -53,35 +58,55 @@ done_line (Print name) current = line []
 done_line (Digest name) current = line []
 
 -- the line of a reply
-unfoldable pub reply_line : Named → ℕ → Reply → List ℕ
+unfoldable pub reply_line : Command → ℕ → Reply → List ℕ
 reply_line c current replies.Done = done_line c current
 reply_line c current (replies.Booted slot) = line (codes "booted " ++ slot_letter slot)
 reply_line c current (replies.Bytes name) = line []
 reply_line c current (replies.Digest sum) = line (encode_lower sum)
 reply_line c current (replies.Refused refusal) = refused_line refusal
 
+-- the line of a command on a device in this state
+abbrev pub command_line : State → Command → List ℕ
+command_line s c = reply_line c s.control.current (effect s c).reply
+
 -- an image's bytes, or why there are none
 abbrev pub print_told : Found → List ℕ
 print_told (Image_is image) = image.bytes
 print_told (Refused_by refusal) = refused_line refusal
 
--- what is told of a command
-abbrev pub told_of : State → Named → List ℕ
+-- what is told of a command: the bytes of an image, or its line
+abbrev pub told_of : State → Command → List ℕ
 told_of s (Print name) = print_told (found_of s name)
-told_of s (SetActive slot) = reply_line (SetActive slot) s.current (reply_named s (SetActive slot))
-told_of s Boot = reply_line Boot s.current (reply_named s Boot)
-told_of s Mark = reply_line Mark s.current (reply_named s Mark)
-told_of s (Digest name) = reply_line (Digest name) s.current (reply_named s (Digest name))
+told_of s (SetActive slot) = command_line s (SetActive slot)
+told_of s Boot = command_line s Boot
+told_of s Mark = command_line s Mark
+told_of s (Digest name) = command_line s (Digest name)
 
 -- ---- items
 
+-- a device for which no data are staged
+abbrev pub nothing_staged : Mounted → Kept Mounted
+nothing_staged m = record { now = m; staged = None }
+
+-- this is told of a command
+abbrev pub command_item : Mounted → Command → List ℕ → Item Mounted
+command_item m c told = record {
+  reply = told;
+  steps = steps_of m (effect_on m c);
+  last = nothing_staged (after_of m (effect_on m c));
+}
+
+-- this is told, and nothing changes
+abbrev pub line_item : Mounted → List ℕ → Item Mounted
+line_item m told = record { reply = told; steps = m ∷ []; last = nothing_staged m }
+
 -- the one item of a verb on a device
-abbrev pub verb_item : Mounted → Named → Item
-verb_item s c = item_named s c (told_of s.state c)
+abbrev pub verb_item : Mounted → Command → Item Mounted
+verb_item m c = command_item m c (told_of m.state c)
 
 -- and how it ends
-abbrev pub verb_status : State → Named → Status
-verb_status s c = reply_status (reply_named s c)
+abbrev pub verb_status : State → Command → Status
+verb_status s c = reply_status (effect s c).reply
 
 -- ---- making a device
 

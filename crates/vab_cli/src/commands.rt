@@ -1,38 +1,49 @@
 //! The verbs that are one command.
-ghost use Rattle.std.specs.Prelude.{◌≡◌, ◌≢◌, ◌⊎◌, IfOk, IfErr, IsErrOf, Err};
-ghost use Rattle.vab_disk.specs.Disk.{NoFewer, Rose};
+ghost use Rattle.std.specs.Prelude.{◌≡◌, ◌≢◌, ◌⊎◌, IfOk, IfErr, OnOk, IsErrOf, Err};
+ghost use Rattle.vab_disk.specs.Disk.{Rose};
+ghost use Rattle.vab_model.specs.Commands.{command_of};
 ghost use Rattle.vab_device.specs.declared.fault.StartFault.{StartFault as Fault};
-ghost use Rattle.vab_device.specs.Device.{device};
-ghost use Rattle.vab_recover.specs.Stands.{Represents, IsDevice};
-ghost use Rattle.vab_fbproto.specs.Commands.{named_of, reply_named};
-ghost use Rattle.vab_session.specs.Items.{Mounted, IsIn, DoesItem};
-ghost use Rattle.vab_session.specs.Answers.{item_named};
-ghost use Rattle.vab_cli.specs.Verbs.{none_line, reply_line as line_of, verb_status};
-ghost use Rattle.vab_cli.specs.Headline.{RunsItem, FailsBefore, RunsNone, IsFailed};
+ghost use Rattle.vab_device.specs.Kept.{IsDevice};
+ghost use Rattle.vab_device.specs.Mounted.{Mounted};
+ghost use Rattle.vab_device.specs.Reading.{device, IsIn, Represents};
+ghost use Rattle.vab_cli.specs.Counts.{HearsNothing, IsSteady};
+ghost use Rattle.vab_cli.specs.Telling.{DoesItem};
+ghost use Rattle.vab_cli.specs.Verbs.{none_line, command_line, command_item, verb_status};
+ghost use Rattle.vab_cli.specs.Runs.{RunsItem, FailsBefore, RunsNone, IsFailed};
 
 use crate::Status;
 use crate::line::{NOT_A_DEVICE, reply_line};
 use crate::opening::open;
 use arrayvec::ArrayVec;
 use std::alloc::Global;
+use vab_device::Device;
 use vab_disk::{Disk, Port};
+use vab_exchanges::say_all;
 use vab_manager::run_one;
 use vab_model::Command;
-use vab_recover::Device;
-use vab_session::say_all;
 
 // Carries out a command, and tells its line.
 fn do_command<P: Port>(port: &mut P, device: Device, command: &Command) -> Result<Status, Status>
     requires kept { IsDevice device (P.size port.old) }
-    requires stands { P.is_modelled → Represents device (P.size port.old) (P.seen port.old) }
-    ensures does { P.is_modelled → (s : Mounted) → IsIn (P.size port.old) s (P.seen port.old)
-        → DoesItem P.seen P.may_leave P.told P.moment P.outcomes (P.size port.old) (item_named s (named_of command.now) (line_of (named_of command.now) s.state.current (reply_named s.state (named_of command.now)))) port.old port.new result }
-    ensures status { P.is_modelled → (s : Mounted) → IsIn (P.size port.old) s (P.seen port.old) → IfOk result (λ status. status ≡ verb_status s.state (named_of command.now)) }
+    requires represents { P.is_modelled → Represents device (P.size port.old) (P.seen port.old) }
+    ensures does { P.is_modelled
+        → (s : Mounted)
+        → IsIn (P.size port.old) s (P.seen port.old)
+        → DoesItem P.Disk (P.size port.old)
+          (command_item s (command_of command.now) (command_line s.state (command_of command.now)))
+          port.old port.new result }
+    ensures status { P.is_modelled
+        → (s : Mounted)
+        → IsIn (P.size port.old) s (P.seen port.old)
+        → IfOk result (λ status. status ≡ verb_status s.state (command_of command.now)) }
+    ensures quiet { P.is_modelled → HearsNothing P.Disk port.old port.new }
+    ensures steady { OnOk result (P.faults port.new ≡ P.faults port.old) }
     ensures done { IfOk result (λ status. (status ≡ Status.Done) ⊎ (status ≡ Status.Refused)) }
     ensures failed { IfErr result IsFailed }
-    ensures counts { NoFewer (P.faults port.old) (P.faults port.new) }
-    ensures disk { IsErrOf result Status.Disk → Rose (P.faults port.old).disk (P.faults port.new).disk }
-    ensures port { IsErrOf result Status.Port → Rose (P.faults port.old).sink (P.faults port.new).sink }
+    ensures disk { IsErrOf result Status.Disk
+        → Rose (P.faults port.old).disk (P.faults port.new).disk }
+    ensures port { IsErrOf result Status.Port
+        → Rose (P.faults port.old).sink (P.faults port.new).sink }
 {
     let current = device.current();
     let (_device, reply) = match run_one(port, device, command) {
@@ -49,10 +60,20 @@ fn do_command<P: Port>(port: &mut P, device: Device, command: &Command) -> Resul
 
 /// Opens the device, carries out a command, and tells its line.
 pub(crate) fn carry_out<P: Port>(alloc: Global, port: &mut P, command: &Command) -> Status
-    ensures runs { P.is_modelled → (s : Mounted) → IsIn (P.size port.old) s (P.seen port.old)
-        → RunsItem P.seen P.may_leave P.told P.input_left P.moment P.outcomes (P.size port.old) s (item_named s (named_of command.now) (line_of (named_of command.now) s.state.current (reply_named s.state (named_of command.now)))) (verb_status s.state (named_of command.now)) port.old port.new result
-        ⊎ FailsBefore P.seen P.may_leave P.told P.input_left P.moment P.outcomes (P.size port.old) s port.old port.new result }
-    ensures none { P.is_modelled → (fault : Fault) → device (P.size port.old) (P.seen port.old) ≡ Err fault → RunsNone P.seen P.may_leave P.told P.input_left P.moment P.outcomes (P.size port.old) none_line port.old port.new result }
+    ensures runs { P.is_modelled
+        → (s : Mounted)
+        → IsIn (P.size port.old) s (P.seen port.old)
+        → RunsItem P.Disk (P.size port.old) s
+          (command_item s (command_of command.now) (command_line s.state (command_of command.now)))
+          (verb_status s.state (command_of command.now))
+          port.old port.new result
+          ⊎ FailsBefore P.Disk (P.size port.old) s port.old port.new result }
+    ensures none { P.is_modelled
+        → (fault : Fault)
+        → device (P.size port.old) (P.seen port.old) ≡ Err fault
+        → RunsNone P.Disk (P.size port.old) none_line port.old port.new result }
+    ensures quiet { P.is_modelled → HearsNothing P.Disk port.old port.new }
+    ensures steady { IsSteady P.Disk port.old port.new result }
     ensures words { result ≢ Status.Usage }
     ensures disk { result ≡ Status.Disk → Rose (P.faults port.old).disk (P.faults port.new).disk }
     ensures port { result ≡ Status.Port → Rose (P.faults port.old).sink (P.faults port.new).sink }

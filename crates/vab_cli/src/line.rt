@@ -1,6 +1,6 @@
 //! The lines that verbs tell.
 ghost use Rattle.std.specs.Prelude.{◌≡◌, ◌≤◌, ◌∷◌, ◌++◌, [], length};
-ghost use Rattle.vab_fbproto.specs.Commands.{named_of};
+ghost use Rattle.vab_model.specs.Commands.{command_of};
 ghost use Rattle.vab_cli.specs.Verbs as verbs;
 
 use arrayvec::ArrayVec;
@@ -36,7 +36,7 @@ pub(crate) fn refused_line(refusal: Refusal, out: &mut Line)
 // The line of a command that is done.
 fn done_line(command: &Command, current: usize, out: &mut Line)
     requires { out.old.items ≡ [] }
-    ensures { out.new.items ≡ verbs.done_line (named_of command.now) current }
+    ensures { out.new.items ≡ verbs.done_line (command_of command.now) current }
 {
     match command {
         Command::SetActive(slot) => put_line(out, b"active ", slot_letter(*slot)),
@@ -49,7 +49,7 @@ fn done_line(command: &Command, current: usize, out: &mut Line)
 #[tactic(auto, unfolding(crate::specs::Verbs::reply_line))]
 pub(crate) fn reply_line(command: &Command, current: usize, reply: &Reply, out: &mut Line)
     requires { out.old.items ≡ [] }
-    ensures { out.new.items ≡ verbs.reply_line (named_of command.now) current reply.now }
+    ensures { out.new.items ≡ verbs.reply_line (command_of command.now) current reply.now }
 {
     match reply {
         Reply::Done => done_line(command, current, out),

@@ -1,7 +1,7 @@
 //! Making a device of the set of images that the input spells.
-ghost use Rattle.std.specs.Prelude.{◌≡◌, ◌≢◌, ◌⊎◌, ◌≤◌, ◌<◌, ◌%◌, ◌^◌, [], List, length, Some, None, Ok, Err};
-ghost use Rattle.vab_disk.specs.Disk.{IsSettled, SameHoldings, Adds, NoFewer, Rose};
-ghost use Rattle.vab_disk.specs.Port.{LeavesSaying};
+ghost use Rattle.std.specs.Prelude.{◌≡◌, ◌≢◌, ◌⊎◌, ◌≤◌, ◌<◌, ◌%◌, ◌^◌, [], List, length};
+ghost use Rattle.std.specs.Prelude.{Some, None, Ok, Err};
+ghost use Rattle.vab_disk.specs.Disk.{Rose};
 ghost use Rattle.vab_set.specs.Spelling.{IsSet};
 ghost use Rattle.vab_set.specs.Reading.{set_of};
 ghost use Rattle.vab_set.specs.declared.set.SetImage.{SetImage as ImageOfSet};
@@ -9,8 +9,9 @@ ghost use Rattle.vab_set.specs.declared.fault.SetFault.{SetFault as FaultOfSet};
 ghost use Rattle.vab_make.specs.declared.fault.MakeFault.{MakeFault as FaultOfMaking};
 ghost use Rattle.vab_make.specs.Made.{refusal_of};
 ghost use Rattle.vab_cli.specs.Codes.{make_status};
+ghost use Rattle.vab_cli.specs.Counts.{IsSteady};
 ghost use Rattle.vab_cli.specs.Verbs.{is_silent, make_line, done_making};
-ghost use Rattle.vab_cli.specs.Headline.{RunsRefused, RunsMaking};
+ghost use Rattle.vab_cli.specs.Runs.{RunsRefused, RunsMaking};
 ghost use Rattle.vab_cli.specs.Telling.{Tells};
 
 use crate::Status;
@@ -18,10 +19,10 @@ use crate::line::NOT_A_DEVICE;
 use arrayvec::ArrayVec;
 use std::alloc::Global;
 use vab_disk::{Disk, Port};
+use vab_exchanges::say_all;
 use vab_input::hear_all;
 use vab_lines::{made_line, make_refused_line};
 use vab_make::{MakeFault, capacity, make_device, set_blocks};
-use vab_session::say_all;
 use vab_set::{Set, read_set};
 
 // The most bytes of a set.
@@ -30,10 +31,10 @@ const MAX_SET: u64 = 1 << 32;
 // Tells a line, and ends with the status.
 fn tell<P: Port>(port: &mut P, line: &[u8], status: Status) -> Status
     requires { status ≢ Status.Port }
-    ensures tells { P.is_modelled → Tells P.seen P.may_leave P.told P.moment P.outcomes line.now status port.old port.new result }
+    ensures tells { P.is_modelled → Tells P.Disk line.now status port.old port.new result }
     ensures size { P.size port.new ≡ P.size port.old }
     ensures either { (result ≡ status) ⊎ (result ≡ Status.Port) }
-    ensures counts { NoFewer (P.faults port.old) (P.faults port.new) }
+    ensures steady { IsSteady P.Disk port.old port.new result }
     ensures port { result ≢ status → Rose (P.faults port.old).sink (P.faults port.new).sink }
 {
     match say_all(port, line) {
@@ -46,10 +47,12 @@ fn tell<P: Port>(port: &mut P, line: &[u8], status: Status) -> Status
 fn tell_made<P: Port>(port: &mut P, set: &Set) -> Status
     requires set { IsSet set.now }
     requires size { 6152 ≤ P.size port.old }
-    ensures tells { P.is_modelled → Tells P.seen P.may_leave P.told P.moment P.outcomes (done_making set.now (P.size port.old)) Status.Done port.old port.new result }
+    ensures tells { P.is_modelled
+        → Tells P.Disk (done_making set.now (P.size port.old)) Status.Done
+          port.old port.new result }
     ensures size { P.size port.new ≡ P.size port.old }
     ensures either { (result ≡ Status.Done) ⊎ (result ≡ Status.Port) }
-    ensures counts { NoFewer (P.faults port.old) (P.faults port.new) }
+    ensures steady { IsSteady P.Disk port.old port.new result }
     ensures port { result ≢ Status.Done → Rose (P.faults port.old).sink (P.faults port.new).sink }
 {
     let mut line = ArrayVec::new();
@@ -77,11 +80,13 @@ fn is_silent(fault: &MakeFault) -> bool
 
 // Tells why no device is made.
 fn tell_fault<P: Port>(port: &mut P, fault: MakeFault) -> Status
-    ensures tells { P.is_modelled → Tells P.seen P.may_leave P.told P.moment P.outcomes (make_line fault) (make_status fault) port.old port.new result }
+    ensures tells { P.is_modelled
+        → Tells P.Disk (make_line fault) (make_status fault) port.old port.new result }
     ensures size { P.size port.new ≡ P.size port.old }
     ensures either { (result ≡ make_status fault) ⊎ (result ≡ Status.Port) }
-    ensures counts { NoFewer (P.faults port.old) (P.faults port.new) }
-    ensures port { result ≢ make_status fault → Rose (P.faults port.old).sink (P.faults port.new).sink }
+    ensures steady { IsSteady P.Disk port.old port.new result }
+    ensures port { result ≢ make_status fault
+        → Rose (P.faults port.old).sink (P.faults port.new).sink }
 {
     let mut line = ArrayVec::new();
     match fault {
@@ -101,10 +106,18 @@ fn make_of<P: Port>(alloc: Global, port: &mut P, set: &Set, limit: u64, max: u32
     requires max_sectors { max % 512 ≡ 0 }
     requires max_least { 512 ≤ max }
     requires max_most { max ≤ 65536 }
-    ensures made { P.is_modelled → refusal_of set.now limit max (P.size port.old) ≡ None
-        → RunsMaking P.seen P.may_leave P.told P.input_left P.moment P.outcomes (P.size port.old) set.now limit max (done_making set.now (P.size port.old)) port.old port.new result }
-    ensures refused { P.is_modelled → (fault : FaultOfMaking) → refusal_of set.now limit max (P.size port.old) ≡ Some fault
-        → RunsRefused P.seen P.may_leave P.told P.input_left P.moment P.outcomes (P.size port.old) (make_line fault) (make_status fault) port.old port.new result }
+    ensures made { P.is_modelled
+        → refusal_of set.now limit max (P.size port.old) ≡ None
+        → RunsMaking P.Disk (P.size port.old) set.now limit max
+          (done_making set.now (P.size port.old))
+          port.old port.new result }
+    ensures refused { P.is_modelled
+        → (fault : FaultOfMaking)
+        → refusal_of set.now limit max (P.size port.old) ≡ Some fault
+        → RunsRefused P.Disk (P.size port.old) (make_line fault) (make_status fault)
+          port.old port.new result }
+    ensures left { P.is_modelled → P.input_left port.new ≡ P.input_left port.old }
+    ensures steady { IsSteady P.Disk port.old port.new result }
     ensures words { result ≢ Status.Usage }
     ensures disk { result ≡ Status.Disk → Rose (P.faults port.old).disk (P.faults port.new).disk }
     ensures port { result ≡ Status.Port → Rose (P.faults port.old).sink (P.faults port.new).sink }
@@ -125,15 +138,33 @@ pub(crate) fn make<P: Port>(alloc: Global, port: &mut P, limit: u64, max: u32) -
     requires max_sectors { max % 512 ≡ 0 }
     requires max_least { 512 ≤ max }
     requires max_most { max ≤ 65536 }
-    ensures made { P.is_modelled → (set : List ImageOfSet) → length (P.input_left port.old) ≤ 2 ^ 32 → set_of (P.input_left port.old) ≡ Ok set → refusal_of set limit max (P.size port.old) ≡ None
-        → RunsMaking P.seen P.may_leave P.told P.input_left P.moment P.outcomes (P.size port.old) set limit max (done_making set (P.size port.old)) port.old port.new result }
-    ensures refused { P.is_modelled → (set : List ImageOfSet) → length (P.input_left port.old) ≤ 2 ^ 32 → set_of (P.input_left port.old) ≡ Ok set → (fault : FaultOfMaking) → refusal_of set limit max (P.size port.old) ≡ Some fault
-        → RunsRefused P.seen P.may_leave P.told P.input_left P.moment P.outcomes (P.size port.old) (make_line fault) (make_status fault) port.old port.new result }
-    ensures malformed { P.is_modelled → (2 ^ 32 < length (P.input_left port.old)) ⊎ ((fault : FaultOfSet) × (set_of (P.input_left port.old) ≡ Err fault))
-        → RunsRefused P.seen P.may_leave P.told P.input_left P.moment P.outcomes (P.size port.old) [] Status.Malformed port.old port.new result }
+    ensures made { P.is_modelled
+        → (set : List ImageOfSet)
+        → length (P.input_left port.old) ≤ 2 ^ 32
+        → set_of (P.input_left port.old) ≡ Ok set
+        → refusal_of set limit max (P.size port.old) ≡ None
+        → RunsMaking P.Disk (P.size port.old) set limit max (done_making set (P.size port.old))
+          port.old port.new result }
+    ensures refused { P.is_modelled
+        → (set : List ImageOfSet)
+        → length (P.input_left port.old) ≤ 2 ^ 32
+        → set_of (P.input_left port.old) ≡ Ok set
+        → (fault : FaultOfMaking)
+        → refusal_of set limit max (P.size port.old) ≡ Some fault
+        → RunsRefused P.Disk (P.size port.old) (make_line fault) (make_status fault)
+          port.old port.new result }
+    ensures malformed { P.is_modelled
+        → (2 ^ 32 < length (P.input_left port.old))
+          ⊎ ((fault : FaultOfSet) × (set_of (P.input_left port.old) ≡ Err fault))
+        → RunsRefused P.Disk (P.size port.old) [] Status.Malformed port.old port.new result }
+    // Once it is done the whole input was heard.
+    ensures end { P.is_modelled → result ≡ Status.Done → P.input_left port.new ≡ [] }
+    ensures steady { IsSteady P.Disk port.old port.new result }
     ensures words { result ≢ Status.Usage }
     ensures disk { result ≡ Status.Disk → Rose (P.faults port.old).disk (P.faults port.new).disk }
-    ensures port { result ≡ Status.Port → Rose (P.faults port.old).source (P.faults port.new).source ⊎ Rose (P.faults port.old).sink (P.faults port.new).sink }
+    ensures port { result ≡ Status.Port
+        → Rose (P.faults port.old).source (P.faults port.new).source
+          ⊎ Rose (P.faults port.old).sink (P.faults port.new).sink }
 {
     let bytes = match hear_all(alloc, port, MAX_SET) {
         Ok(bytes) => bytes,

@@ -1,32 +1,56 @@
 //! Opening the device of the disk.
 ghost use Rattle.std.specs.Prelude.{◌≡◌, ◌≢◌, IfOk, IfErr, OnOk, IsErrOf, Ok, Err};
-ghost use Rattle.vab_disk.specs.Disk.{NoFewer, Rose};
+ghost use Rattle.vab_disk.specs.Disk.{Rose};
+ghost use Rattle.vab_disk.specs.Calls.{Changes};
 ghost use Rattle.vab_device.specs.declared.fault.StartFault.{StartFault as Fault};
-ghost use Rattle.vab_device.specs.Device.{device};
-ghost use Rattle.vab_recover.specs.Stands.{Represents, IsDevice};
-ghost use Rattle.vab_session.specs.Items.{Mounted, IsIn};
+ghost use Rattle.vab_device.specs.Kept.{IsDevice};
+ghost use Rattle.vab_device.specs.Mounted.{Mounted};
+ghost use Rattle.vab_device.specs.Reading.{device, IsIn, Represents};
+ghost use Rattle.vab_recover.specs.Opened.{IsRepair};
+ghost use Rattle.vab_cli.specs.Counts.{HearsNothing, IsSteady};
 ghost use Rattle.vab_cli.specs.Opening.{Opens};
-ghost use Rattle.vab_cli.specs.Headline.{FailsBefore, RunsNone};
+ghost use Rattle.vab_cli.specs.Runs.{FailsBefore, RunsNone};
 
 use crate::Status;
 use std::alloc::Global;
+use vab_device::Device;
 use vab_disk::{Disk, Port};
-use vab_recover::{Device, start};
-use vab_session::say_all;
+use vab_exchanges::say_all;
+use vab_recover::start;
 
-/// Opens the device of the disk. Where there is none, it tells the line; the error is the status to end with.
+/// Opens the device of the disk. Where there is none, it tells the line; the error is the status to end
+/// with.
 pub(crate) fn open<P: Port>(alloc: Global, port: &mut P, line: &[u8]) -> Result<Device, Status>
     ensures kept { IfOk result (λ d. IsDevice d (P.size port.old)) }
-    ensures stands { P.is_modelled → IfOk result (λ d. Represents d (P.size port.old) (P.seen port.new)) }
-    ensures opens { P.is_modelled → OnOk result (Opens P.seen P.may_leave P.told P.input_left P.moment P.outcomes (P.size port.old) port.old port.new) }
-    ensures early { P.is_modelled → (s : Mounted) → IsIn (P.size port.old) s (P.seen port.old) → IfErr result (λ status. FailsBefore P.seen P.may_leave P.told P.input_left P.moment P.outcomes (P.size port.old) s port.old port.new status) }
-    ensures none { P.is_modelled → (fault : Fault) → device (P.size port.old) (P.seen port.old) ≡ Err fault → IfErr result (λ status. RunsNone P.seen P.may_leave P.told P.input_left P.moment P.outcomes (P.size port.old) line.now port.old port.new status) }
-    ensures found { P.is_modelled → (fault : Fault) → device (P.size port.old) (P.seen port.old) ≡ Err fault → OnOk result ⊥ }
+    ensures represents { P.is_modelled
+        → IfOk result (λ d. Represents d (P.size port.old) (P.seen port.new)) }
+    ensures opens { P.is_modelled
+        → OnOk result (Opens P.Disk (P.size port.old) port.old port.new) }
+    ensures early { P.is_modelled
+        → (s : Mounted)
+        → IsIn (P.size port.old) s (P.seen port.old)
+        → IfErr result
+          (λ status. FailsBefore P.Disk (P.size port.old) s port.old port.new status) }
+    ensures none { P.is_modelled
+        → (fault : Fault)
+        → device (P.size port.old) (P.seen port.old) ≡ Err fault
+        → IfErr result
+          (λ status. RunsNone P.Disk (P.size port.old) line.now port.old port.new status) }
+    ensures found { P.is_modelled
+        → (fault : Fault)
+        → device (P.size port.old) (P.seen port.old) ≡ Err fault
+        → OnOk result ⊥ }
     ensures size { P.size port.new ≡ P.size port.old }
-    ensures counts { NoFewer (P.faults port.old) (P.faults port.new) }
+    ensures quiet { P.is_modelled → HearsNothing P.Disk port.old port.new }
+    ensures changes { P.is_modelled
+        → Changes P.Disk (IsRepair (P.size port.old) (P.seen port.old)) port.old port.new }
+    ensures steady { OnOk result (P.faults port.new ≡ P.faults port.old) }
+    ensures held { IfErr result (IsSteady P.Disk port.old port.new) }
     ensures words { IfErr result (λ status. status ≢ Status.Usage) }
-    ensures disk { IsErrOf result Status.Disk → Rose (P.faults port.old).disk (P.faults port.new).disk }
-    ensures port { IsErrOf result Status.Port → Rose (P.faults port.old).sink (P.faults port.new).sink }
+    ensures disk { IsErrOf result Status.Disk
+        → Rose (P.faults port.old).disk (P.faults port.new).disk }
+    ensures port { IsErrOf result Status.Port
+        → Rose (P.faults port.old).sink (P.faults port.new).sink }
 {
     let status = match start(alloc, port) {
         Ok(device) => return Ok(device),

@@ -1,11 +1,13 @@
 //! A session over the device of the disk, or over one that is made first.
-ghost use Rattle.std.specs.Prelude.{◌≡◌, ◌≢◌, ◌⊎◌, ◌≤◌, ◌<◌, ◌++◌, [], Err, IfErr, OnOk, IsErrOf, Ok};
-ghost use Rattle.vab_disk.specs.Disk.{IsSettled, NoFewer, Rose};
+ghost use Rattle.std.specs.Prelude.{◌≡◌, ◌≢◌, ◌⊎◌, ◌≤◌, ◌<◌, [], Err, IfErr, OnOk, IsErrOf, Ok};
+ghost use Rattle.vab_disk.specs.Disk.{Rose};
 ghost use Rattle.vab_device.specs.declared.fault.StartFault.{StartFault as Fault};
-ghost use Rattle.vab_device.specs.Device.{device};
+ghost use Rattle.vab_device.specs.Mounted.{Mounted};
+ghost use Rattle.vab_device.specs.Reading.{device, IsIn};
+ghost use Rattle.vab_make.specs.Made.{made_device_of};
 ghost use Rattle.vab_make.specs.Making.{LeavesMaking};
-ghost use Rattle.vab_session.specs.Items.{Mounted, IsIn, IsAtRest};
-ghost use Rattle.vab_cli.specs.Headline.{RunsSession, FailsBefore, RunsNone, FailsMaking, made_mounted};
+ghost use Rattle.vab_cli.specs.Counts.{IsSteady};
+ghost use Rattle.vab_cli.specs.Runs.{RunsSession, FailsBefore, RunsNone, RunsRefused, FailsMaking};
 
 use crate::Status;
 use crate::opening::open;
@@ -19,19 +21,27 @@ use vab_session::serve;
 
 /// A session over the device of the disk.
 pub(crate) fn open_and_serve<P: Port>(alloc: Global, port: &mut P) -> Status
-    ensures runs { P.is_modelled → (s : Mounted) → IsIn (P.size port.old) s (P.seen port.old)
-        → RunsSession P.seen P.may_leave P.told P.input_left P.moment P.outcomes (P.size port.old) (IsAtRest P.seen P.may_leave (P.size port.old) port.old s) (λ o. ⊥) s port.old port.new result
-        ⊎ FailsBefore P.seen P.may_leave P.told P.input_left P.moment P.outcomes (P.size port.old) s port.old port.new result }
-    ensures none { P.is_modelled → (fault : Fault) → device (P.size port.old) (P.seen port.old) ≡ Err fault → RunsNone P.seen P.may_leave P.told P.input_left P.moment P.outcomes (P.size port.old) [] port.old port.new result }
+    ensures runs { P.is_modelled
+        → (s : Mounted)
+        → IsIn (P.size port.old) s (P.seen port.old)
+        → RunsSession P.Disk (P.size port.old) (λ o. ⊥) s port.old port.new result
+          ⊎ FailsBefore P.Disk (P.size port.old) s port.old port.new result }
+    ensures none { P.is_modelled
+        → (fault : Fault)
+        → device (P.size port.old) (P.seen port.old) ≡ Err fault
+        → RunsNone P.Disk (P.size port.old) [] port.old port.new result }
+    ensures steady { IsSteady P.Disk port.old port.new result }
     ensures words { result ≢ Status.Usage }
     ensures disk { result ≡ Status.Disk → Rose (P.faults port.old).disk (P.faults port.new).disk }
-    ensures port { result ≡ Status.Port → Rose (P.faults port.old).source (P.faults port.new).source ⊎ Rose (P.faults port.old).sink (P.faults port.new).sink }
+    ensures port { result ≡ Status.Port
+        → Rose (P.faults port.old).source (P.faults port.new).source
+          ⊎ Rose (P.faults port.old).sink (P.faults port.new).sink }
 {
     let device = match open(alloc, port, b"") {
         Ok(device) => device,
         Err(status) => return status,
     };
-    let answer = serve(port, device);
+    let answer = serve(alloc, port, device);
     session_status(&answer)
 }
 
@@ -40,14 +50,24 @@ const FRESH_METADATA_MAX: u32 = 65536;
 
 /// A session over the device of the empty set, which is made first.
 pub(crate) fn make_and_serve<P: Port>(alloc: Global, port: &mut P) -> Status
-    ensures runs { P.is_modelled → 6152 ≤ P.size port.old
-        → RunsSession P.seen P.may_leave P.told P.input_left P.moment P.outcomes (P.size port.old) (IsSettled (P.seen port.old) (P.may_leave port.old)) (LeavesMaking (P.told port.old) [] 0 65536 (P.size port.old) (P.seen port.old)) (made_mounted [] 0 65536 (P.size port.old)) port.old port.new result
-        ⊎ FailsMaking P.seen P.may_leave P.told P.input_left P.moment P.outcomes (P.size port.old) [] 0 65536 port.old port.new result }
-    ensures small { P.size port.old < 6152 → (result ≡ Status.NotADevice) ⊎ (result ≡ Status.NoMemory) }
-    ensures untold { P.is_modelled → P.size port.old < 6152 → (P.told port.new ≡ P.told port.old) × (P.seen port.new ≡ P.seen port.old) }
+    ensures runs { P.is_modelled
+        → 6152 ≤ P.size port.old
+        → RunsSession P.Disk (P.size port.old)
+          (LeavesMaking (P.told port.old) [] 0 65536 (P.size port.old) (P.seen port.old))
+          (made_device_of [] 0 65536 (P.size port.old))
+          port.old port.new result
+          ⊎ FailsMaking P.Disk (P.size port.old) [] 0 65536 port.old port.new result }
+    ensures small { P.is_modelled
+        → P.size port.old < 6152
+        → RunsRefused P.Disk (P.size port.old) [] Status.NotADevice port.old port.new result }
+    ensures too_small { P.size port.old < 6152
+        → (result ≡ Status.NotADevice) ⊎ (result ≡ Status.NoMemory) }
+    ensures steady { IsSteady P.Disk port.old port.new result }
     ensures words { result ≢ Status.Usage }
     ensures disk { result ≡ Status.Disk → Rose (P.faults port.old).disk (P.faults port.new).disk }
-    ensures port { result ≡ Status.Port → Rose (P.faults port.old).source (P.faults port.new).source ⊎ Rose (P.faults port.old).sink (P.faults port.new).sink }
+    ensures port { result ≡ Status.Port
+        → Rose (P.faults port.old).source (P.faults port.new).source
+          ⊎ Rose (P.faults port.old).sink (P.faults port.new).sink }
 {
     let set = Listing::from_vec(Vec::new(alloc));
     match make_device(alloc, port, &set, 0, FRESH_METADATA_MAX) {
@@ -58,6 +78,6 @@ pub(crate) fn make_and_serve<P: Port>(alloc: Global, port: &mut P) -> Status
         Ok(device) => device,
         Err(fault) => return Status::from(fault),
     };
-    let answer = serve(port, device);
+    let answer = serve(alloc, port, device);
     session_status(&answer)
 }

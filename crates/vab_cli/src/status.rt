@@ -1,11 +1,11 @@
 // How the program ends.
 ghost use Rattle.std.specs.Prelude.{◌≡◌};
 
-use vab_device::StartFault;
+use vab_device::{Device, StartFault};
 use vab_input::InputFault;
 use vab_make::MakeFault;
 use vab_model::Reply;
-use vab_recover::Device;
+
 use vab_session::{Ended, SessionFault};
 use vab_set::SetFault;
 
@@ -16,8 +16,9 @@ pub enum Status {
     Done,
     /// 2: the words aren't taken. Nothing is told.
     Usage,
-    /// 3: the input is malformed: of a session a bad hello, a command packet that is too long, an input that ends inside something, or
-    /// one of more than 2^44 bytes; or no set of images, or more than 2^32 bytes.
+    /// 3: the input is malformed: of a session a bad hello, a command packet that is too long, more data
+    /// than were announced, an input that ends inside something, or one of more than 2^44 bytes; or no
+    /// set of images, or more than 2^32 bytes.
     Malformed,
     /// 4: the command is refused, or the device isn't made.
     Refused,
@@ -63,6 +64,7 @@ impl From<SessionFault> for Status {
             SessionFault::BadHello
             | SessionFault::TooLong(_)
             | SessionFault::Cut(_)
+            | SessionFault::Overrun(_, _)
             | SessionFault::Spent => Status::Malformed,
         }
     }

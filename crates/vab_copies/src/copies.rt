@@ -9,7 +9,8 @@ use crate::copy::write_copy;
 use vab_disk::Disk;
 use vab_gate::DiskFault;
 
-/// Writes a text into `count` sectors from sector `primary` on, and when it stands there, from sector
+/// Writes a text into `count` sectors from sector `primary` on, and when it stands there, from
+/// sector
 /// `backup` on.
 pub fn store_copies<D: Disk>(
     d: &mut D,
@@ -22,7 +23,8 @@ pub fn store_copies<D: Disk>(
     requires apart { primary + count ≤ backup }
     requires on_disk { backup + count ≤ D.size d.old }
     ensures written { D.is_modelled → OnOk result
-        (D.seen d.new ≡ with_text count text.now (with_text count text.now (D.seen d.old) primary) backup) }
+        (D.seen d.new
+        ≡ with_text count text.now (with_text count text.now (D.seen d.old) primary) backup) }
     ensures settled { D.is_modelled → OnOk result (IsAtRest D.Disk d.new) }
     ensures touches { Touches D.Disk (IsOfEither count primary backup text.now) d.old d.new }
     // Where nothing was pending, the backup is the old one until the primary is the new one.

@@ -9,9 +9,9 @@ use crate::text::{sector_of, write_sectors};
 use vab_disk::Disk;
 use vab_gate::{DiskFault, SECTOR, put_gate, settle};
 
-/// Writes a text into `count` sectors from sector `at` on, its last sector filled up with zeros. First
-/// its first sector is zeros, then the other sectors are written, and then the first; what was written
-/// is synced after each of these.
+/// Writes a text into `count` sectors from sector `at` on, its last sector filled up with zeros.
+/// First its first sector is zeros, then the other sectors are written, and then the first; what
+/// was written is synced after each of these.
 pub fn write_copy<D: Disk>(d: &mut D, at: u64, count: u64, text: &[u8]) -> Result<(), DiskFault>
     requires some { 0 < count }
     requires on_disk { at + count ≤ D.size d.old }
@@ -23,7 +23,8 @@ pub fn write_copy<D: Disk>(d: &mut D, at: u64, count: u64, text: &[u8]) -> Resul
     ensures copy { D.is_modelled
         → IsAtRest D.Disk d.old
         → Adds D.moment D.outcomes d.old d.new
-        (LeavesCopy (D.told d.old) (D.seen d.old) (with_text count text.now (D.seen d.old) at) at count) }
+        (LeavesCopy (D.told d.old) (D.seen d.old) (with_text count text.now (D.seen d.old) at) at
+        count) }
     ensures faults { FailsWithDisk D.Disk d.old d.new result }
 {
     put_gate(d, at, &[0; SECTOR])?;
@@ -48,8 +49,9 @@ fn write_rest<D: Disk>(d: &mut D, at: u64, count: u64, text: &[u8]) -> Result<()
     settle(d)
 }
 
-/// Writes a text into `count` sectors from sector `at` on, its last sector filled up with zeros, and
-/// then syncs. A cut may leave any mixture of the old sectors and the new: for a copy that isn't needed.
+/// Writes a text into `count` sectors from sector `at` on, its last sector filled up with zeros,
+/// and then syncs. A cut may leave any mixture of the old sectors and the new: for a copy that
+/// isn't needed.
 pub fn rewrite_copy<D: Disk>(d: &mut D, at: u64, count: u64, text: &[u8]) -> Result<(), DiskFault>
     requires { at + count ≤ D.size d.old }
     ensures written { D.is_modelled → OnOk result

@@ -44,12 +44,14 @@ pub fn read_text<D: Disk>(
     count: u64,
 ) -> Result<Vec<u8>, ReadFault>
     requires { at + count ≤ D.size d.old }
-    ensures text { D.is_modelled → IfOk result (λ text. text.items ≡ sectors_at count (D.seen d.old) at) }
+    ensures text { D.is_modelled
+        → IfOk result (λ text. text.items ≡ sectors_at count (D.seen d.old) at) }
     ensures long { IfOk result (λ text. length text.items ≡ 512 * count) }
     ensures reads { OnlyReads D.Disk d.old d.new }
     // Only where the disk has failed a count rose.
     ensures steady { IsErrOf result ReadFault.Disk ⊎ (D.faults d.new ≡ D.faults d.old) }
-    ensures cause { IsErrOf result ReadFault.Disk → Rose (D.faults d.old).disk (D.faults d.new).disk }
+    ensures cause { IsErrOf result ReadFault.Disk
+        → Rose (D.faults d.old).disk (D.faults d.new).disk }
 {
     let mut text = Vec::new(alloc);
     for i in 0..count {

@@ -53,7 +53,8 @@ fn both_copies_hold_the_text_and_zeros_behind_it(rt: HostRuntime) -> Result<(), 
 #[test]
 fn a_cut_leaves_one_copy_whole(rt: HostRuntime) -> Result<(), Fail> {
     let alloc = rt.alloc();
-    // After so many writes and syncs: the first byte of each copy's first sector, and of its second.
+    // After so many writes and syncs: the first byte of each copy's first sector, and of its
+    // second.
     let left = [
         (0u64, [1u8, 1, 1, 1]),
         (1, [0, 1, 1, 1]),

@@ -1,7 +1,29 @@
 -- Another boot control in its sector: all else is read as before.
 use Rattle.std.proofs.Common.{
-  ◌≡◌, ◌≢◌, ◌∙◌, inl, inr, ⊎_elim, ℕ, ◌+◌, ◌-◌, ◌*◌, ◌≤◌, ◌<◌, List, [], ◌∷◌, length, take, Result, Ok,
-  refl, sym, ap, subst, arith
+  ◌≡◌,
+  ◌≢◌,
+  ◌∙◌,
+  inl,
+  inr,
+  ⊎_elim,
+  ℕ,
+  ◌+◌,
+  ◌-◌,
+  ◌*◌,
+  ◌≤◌,
+  ◌<◌,
+  List,
+  [],
+  ◌∷◌,
+  length,
+  take,
+  Result,
+  Ok,
+  refl,
+  sym,
+  ap,
+  subst,
+  arith,
 }
 use Rattle.std.specs.Prelude.{Bool, Option, Some, None, is_some}
 use Rattle.vab_disk.specs.Disk.{Image, set_sector}
@@ -12,7 +34,12 @@ use Rattle.vab_bootctl.specs.declared.sector.ControlFault.{ControlFault}
 use Rattle.vab_bootctl.specs.Control.{control_of}
 use Rattle.vab_geometry.specs.declared.geometry.Geometry.{Geometry}
 use Rattle.vab_lpstore.specs.Layout.{
-  copy_sectors, primary_of, backup_of, primary_bytes, backup_bytes, BothHold
+  copy_sectors,
+  primary_of,
+  backup_of,
+  primary_bytes,
+  backup_bytes,
+  BothHold,
 }
 use Rattle.vab_tables.specs.declared.table.Table.{Table}
 use Rattle.vab_model.specs.State.{control_seen, with_control}
@@ -20,15 +47,35 @@ use Rattle.vab_device.specs.declared.device.Part.{Part}
 use Rattle.vab_device.specs.declared.device.Device.{Device}
 use Rattle.vab_device.specs.Checks.{first_fault}
 use Rattle.vab_device.specs.Mounted.{
-  Mounted, images_on, control_on, state_on, mounted_on, in_state
+  Mounted,
+  images_on,
+  control_on,
+  state_on,
+  mounted_on,
+  in_state,
 }
 use Rattle.vab_device.specs.Phases.{phase_at}
 use Rattle.vab_device.specs.Reading.{
-  Read, mark_in, control_read, control_in, geometry_at, tables_in, state_fault, kept, Reads,
-  AgreeCopies, Represents, IsOfTables, IsOfImages
+  Read,
+  mark_in,
+  control_read,
+  control_in,
+  geometry_at,
+  tables_in,
+  state_fault,
+  kept,
+  Reads,
+  AgreeCopies,
+  Represents,
+  IsOfTables,
+  IsOfImages,
 }
 use Rattle.vab_device.proofs.SameLaws.{
-  mark_same, geometry_same, tables_agree, images_same, images_behind
+  mark_same,
+  geometry_same,
+  tables_agree,
+  images_same,
+  images_behind,
 }
 
 -- the copies of tables stand behind the geometries
@@ -59,12 +106,15 @@ copies_kept g (slot ∷ slots) (t ∷ ts) old new same agree =
       from = omega arith;
       below = omega (arith, below);
     })))) in
-    let text = agree.0.0 in
-    (
-      (text, agree.0.1, record {
-        primary = ap (λ (l : List ℕ). take (length text) l) primary ∙ agree.0.2.primary;
-        backup = ap (λ (l : List ℕ). take (length text) l) backup ∙ agree.0.2.backup;
-      }),
+    let text = agree.0.0 in (
+      (
+        text,
+        agree.0.1,
+        record {
+          primary = ap (λ (l : List ℕ). take (length text) l) primary ∙ agree.0.2.primary;
+          backup = ap (λ (l : List ℕ). take (length text) l) backup ∙ agree.0.2.backup;
+        },
+      ),
       copies_kept g slots ts old new (λ s is. same s (inr (inr is))) agree.1,
     )
 
@@ -72,7 +122,7 @@ copies_kept g (slot ∷ slots) (t ∷ ts) old new same agree =
 abbrev pub read_with : Read → Control → Read
 read_with r c = record r {
   control = control_seen
-    ((phase_at r.mark.phase).has_a r.mark.slot) ((phase_at r.mark.phase).has_b r.mark.slot) c
+      ((phase_at r.mark.phase).has_a r.mark.slot) ((phase_at r.mark.phase).has_b r.mark.slot) c;
 }
 
 abbrev pub with_boot : Control → Device → Device
@@ -96,8 +146,11 @@ module _
       → IsOfTables is.read.geometry ((phase_at is.read.mark.phase).tables is.read.mark.slot) s
       → gated s ≡ old s
   of_tables s there =
-      elsewhere s (λ e. omega (arith, e,
-      tables_from is.read.geometry ((phase_at is.read.mark.phase).tables is.read.mark.slot) s there))
+      elsewhere s (λ e. omega (
+        arith,
+        e,
+        tables_from is.read.geometry ((phase_at is.read.mark.phase).tables is.read.mark.slot) s there,
+      ))
 
   of_images : (slot : ℕ) (parts : Option (List Part))
       → ((s : ℕ) → IsOfImages parts s → 4096 ≤ s)
@@ -154,7 +207,7 @@ module _
 
   -- and it means the state with that boot control, as far as slots have images
   pub mounted_gated : mounted_on (with_boot c d) gated
-    ≡ in_state (mounted_on d old)
+      ≡ in_state (mounted_on d old)
       (with_control (control_seen (is_some d.a) (is_some d.b) c) (state_on d old))
   unfolding state_on
   mounted_gated = rw (images_a, images_b) refl

@@ -1,6 +1,21 @@
 -- What the links of a disk without an update answer, one after another.
 use Rattle.std.proofs.Common.{
-  ◌≡◌, ◌∙◌, ℕ, true, false, leb, List, [], ◌∷◌, Result, Ok, Err, refl, sym, ap, subst
+  ◌≡◌,
+  ◌∙◌,
+  ℕ,
+  true,
+  false,
+  leb,
+  List,
+  [],
+  ◌∷◌,
+  Result,
+  Ok,
+  Err,
+  refl,
+  sym,
+  ap,
+  subst,
 }
 use Rattle.std.specs.Prelude.{Bool, Option, Some, None, ◌==◌}
 use Rattle.vab_disk.specs.Disk.{Image}
@@ -17,8 +32,22 @@ use Rattle.vab_device.specs.Idle.{control_read_of, idle_read}
 use Rattle.vab_device.specs.Mounted.{mounted_on}
 use Rattle.vab_device.specs.Phases.{Phase, idle, phase_at, own_check}
 use Rattle.vab_device.specs.Reading.{
-  Read, mark_in, control_read, control_in, geometry_at, table_at, tables_in, framed, frame, part_fault,
-  state_fault, judged, stated, kept, device, Reads
+  Read,
+  mark_in,
+  control_read,
+  control_in,
+  geometry_at,
+  table_at,
+  tables_in,
+  framed,
+  frame,
+  part_fault,
+  state_fault,
+  judged,
+  stated,
+  kept,
+  device,
+  Reads,
 }
 use Rattle.vab_device.proofs.ReadingLaws.{at_idle}
 
@@ -76,18 +105,18 @@ frame_is : (size : ℕ) (image : Image) (m : UpdateMark) (c : Control) (g : Geom
     → geometry_at size image ≡ Ok g
     → table_at size g m.slot image ≡ Ok t
     → (let r : Read = record { mark = m; control = c; geometry = g; tables = t ∷ [] } in
-      frame size image ≡ Ok r)
+    frame size image ≡ Ok r)
 unfolding frame
 frame_is size image m c g t enough mark control geometry table =
     rw (enough, mark, at_idle m.phase, control, geometry, table) refl
 
 -- the rules of a device without an update are those of its phase
-parts_are : (r : Read) (t : Table) → r.tables ≡ t ∷ [] → part_fault r ≡ first_fault (own_check r.mark.slot t ∷ [])
+pub parts_are : (r : Read) (t : Table) → r.tables ≡ t ∷ [] → part_fault r ≡ first_fault (own_check r.mark.slot t ∷ [])
 parts_are r t one =
     ap (λ (p : Phase). first_fault (p.part_checks r.mark.slot r.tables)) (at_idle r.mark.phase)
     ∙ ap (λ (ts : List Table). first_fault (idle.part_checks r.mark.slot ts)) one
 
-state_is : (r : Read) → state_fault r ≡ first_fault (idle.state_checks r.mark.slot r.control)
+pub state_is : (r : Read) → state_fault r ≡ first_fault (idle.state_checks r.mark.slot r.control)
 state_is r = ap (λ (p : Phase). first_fault (p.state_checks r.mark.slot r.control)) (at_idle r.mark.phase)
 
 judged_fault : (r : Read) (f : StartFault) (parts state : Option StartFault)
@@ -109,7 +138,7 @@ or_first (Some f) = refl
 
 bind_assoc : (x : Result Read StartFault) (image : Image)
     → x >>= judged >>= stated >>= (λ r. Ok (mounted_on (kept r) image))
-      ≡ x >>= (λ r. judged r >>= stated >>= (λ r. Ok (mounted_on (kept r) image)))
+    ≡ x >>= (λ r. judged r >>= stated >>= (λ r. Ok (mounted_on (kept r) image)))
 bind_assoc (Ok r) image = refl
 bind_assoc (Err f) image = refl
 
@@ -127,8 +156,8 @@ device_judged size image m c g t f enough mark control geometry table is =
     let r : Read = idle_read m c g t in
     let framed_so = frame_is size image m (control_read_of m.slot c) g t enough mark control geometry table in
     let bad = judged_fault r f (own_check m.slot t)
-        (first_fault (idle.state_checks m.slot (control_read_of m.slot c)))
-        (parts_are r t refl ∙ or_first (own_check m.slot t)) (state_is r) is in
+    (first_fault (idle.state_checks m.slot (control_read_of m.slot c)))
+    (parts_are r t refl ∙ or_first (own_check m.slot t)) (state_is r) is in
     ap (λ x. x >>= judged >>= stated >>= (λ r. Ok (mounted_on (kept r) image))) framed_so
     ∙ ap (λ x. x >>= (λ r. Ok (mounted_on (kept r) image))) bad
 

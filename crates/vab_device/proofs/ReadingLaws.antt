@@ -1,9 +1,34 @@
 -- A disk means a device exactly where it is read so.
 use Rattle.std.proofs.Common.{
-  ◌≡◌, ◌∙◌, inl, inr, ℕ, true, false, List, [], ◌∷◌, Result, Ok, Err, refl, sym, ap, subst, leb, eqb
+  ◌≡◌,
+  ◌∙◌,
+  inl,
+  inr,
+  ℕ,
+  true,
+  false,
+  List,
+  [],
+  ◌∷◌,
+  Result,
+  Ok,
+  Err,
+  refl,
+  sym,
+  ap,
+  subst,
+  leb,
+  eqb,
 }
 use Rattle.std.specs.Prelude.{
-  Bool, Option, Some, None, is_some, nat_le, ◌==◌, if◌then◌else◌
+  Bool,
+  Option,
+  Some,
+  None,
+  is_some,
+  nat_le,
+  ◌==◌,
+  if◌then◌else◌,
 }
 use Rattle.std.proofs.lemmas.Bool.{cases_Bool}
 use Rattle.vab_disk.specs.Disk.{Image}
@@ -25,9 +50,28 @@ use Rattle.vab_device.specs.Checks.{passing, ◌>>=◌}
 use Rattle.vab_device.specs.Mounted.{Mounted, control_on, state_on, mounted_on, images_on}
 use Rattle.vab_device.specs.Phases.{Phase, idle, phase_at}
 use Rattle.vab_device.specs.Reading.{
-  Read, unless, mark_in, control_read, control_in, geometry_at, table_at, tables_in, framed, frame, part_fault,
-  state_fault, judged, stated, table_for, parts_for, read_table, kept, device, Reads, Represents,
-  SameRead
+  Read,
+  unless,
+  mark_in,
+  control_read,
+  control_in,
+  geometry_at,
+  table_at,
+  tables_in,
+  framed,
+  frame,
+  part_fault,
+  state_fault,
+  judged,
+  stated,
+  table_for,
+  parts_for,
+  read_table,
+  kept,
+  device,
+  Reads,
+  Represents,
+  SameRead,
 }
 use Rattle.vab_device.proofs.CheckLaws.{bound, passed}
 
@@ -53,7 +97,7 @@ record FrameWas (size : ℕ) (image : Image) (r : Read) : Type 0 where
       ((phase_at r.mark.phase).has_a r.mark.slot)
       ((phase_at r.mark.phase).has_b r.mark.slot)
       image
-    ≡ Ok r.control
+      ≡ Ok r.control
   geometry : geometry_at size image ≡ Ok r.geometry
   tables : tables_in size r.geometry ((phase_at r.mark.phase).tables r.mark.slot) image ≡ Ok r.tables
 
@@ -65,14 +109,14 @@ framed_was : (size : ℕ) (m : UpdateMark) (image : Image) (r : Read)
 framed_was size m image r enough mark is =
     let p : Phase = phase_at m.phase in
     let c = bound (control_in (p.has_a m.slot) (p.has_b m.slot) image)
-        (λ c. geometry_at size image >>= λ g. tables_in size g (p.tables m.slot) image >>= λ ts. Ok (record { mark = m; control = c; geometry = g; tables = ts }))
-        r is in
+    (λ c. geometry_at size image >>= λ g. tables_in size g (p.tables m.slot) image >>= λ ts. Ok (record { mark = m; control = c; geometry = g; tables = ts }))
+    r is in
     let g = bound (geometry_at size image)
-        (λ g. tables_in size g (p.tables m.slot) image >>= λ ts. Ok (record { mark = m; control = c.0; geometry = g; tables = ts }))
-        r c.2 in
+    (λ g. tables_in size g (p.tables m.slot) image >>= λ ts. Ok (record { mark = m; control = c.0; geometry = g; tables = ts }))
+    r c.2 in
     let ts = bound (tables_in size g.0 (p.tables m.slot) image)
-        (λ ts. Ok (record { mark = m; control = c.0; geometry = g.0; tables = ts }))
-        r g.2 in
+    (λ ts. Ok (record { mark = m; control = c.0; geometry = g.0; tables = ts }))
+    r g.2 in
     let read : Read = record { mark = m; control = c.0; geometry = g.0; tables = ts.0 } in
     let whole : Ok read ≡ Ok r = ts.2 in
     let same : read ≡ r = cc in
@@ -180,7 +224,7 @@ tables_one : (size : ℕ) (g : Geometry) (slot : ℕ) (image : Image) (ts : List
     → (t : Table) × (ts ≡ t ∷ [])
 tables_one size g slot image ts is =
     let t = bound (table_at size g slot image)
-        (λ t. tables_in size g [] image >>= λ ts. Ok (t ∷ ts)) ts is in
+    (λ t. tables_in size g [] image >>= λ ts. Ok (t ∷ ts)) ts is in
     let whole : Ok (t.0 ∷ []) ≡ Ok ts = t.2 in
     (t.0, let same : t.0 ∷ [] ≡ ts = cc in sym same)
 
@@ -207,11 +251,11 @@ has_parts : (m : UpdateMark) (p : Phase) (ts : List Table) (t : Table)
     → p ≡ idle
     → ts ≡ t ∷ []
     → (is_some (parts_for 0 (p.has_a m.slot) (table_for 0 (p.tables m.slot) ts)) ≡ p.has_a m.slot)
-      × (is_some (parts_for 1 (p.has_b m.slot) (table_for 1 (p.tables m.slot) ts)) ≡ p.has_b m.slot)
+    × (is_some (parts_for 1 (p.has_b m.slot) (table_for 1 (p.tables m.slot) ts)) ≡ p.has_b m.slot)
 has_parts m p ts t is one =
     let P : Phase → List Table → Type 0 = λ p ts.
-      (is_some (parts_for 0 (p.has_a m.slot) (table_for 0 (p.tables m.slot) ts)) ≡ p.has_a m.slot)
-      × (is_some (parts_for 1 (p.has_b m.slot) (table_for 1 (p.tables m.slot) ts)) ≡ p.has_b m.slot) in
+    (is_some (parts_for 0 (p.has_a m.slot) (table_for 0 (p.tables m.slot) ts)) ≡ p.has_a m.slot)
+    × (is_some (parts_for 1 (p.has_b m.slot) (table_for 1 (p.tables m.slot) ts)) ≡ p.has_b m.slot) in
     subst (λ (p : Phase). P p ts) (sym is)
     (subst (λ (ts : List Table). P idle ts) (sym one)
     (some_parts 0 (eqb m.slot 0) t, some_parts 1 (eqb m.slot 1) t))
@@ -223,8 +267,6 @@ has_images size r image reads =
     record { a = both.0; b = both.1 }
 
 -- ---- a kept device
-
-
 
 -- what is read of the boot control is what is seen of the whole
 pub control_is_seen : (a b : Bool) (image : Image) (c seen : Control)

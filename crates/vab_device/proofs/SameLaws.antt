@@ -1,8 +1,35 @@
 -- What is read the same: where live sectors stay, where copies of tables are written, and where boot
 -- control is.
 use Rattle.std.proofs.Common.{
-  ◌≡◌, ◌≢◌, ◌⊎◌, ◌∙◌, inl, inr, ⊎_elim, ℕ, ◌+◌, ◌-◌, ◌*◌, ◌/◌, ◌≤◌, ◌<◌, true, false, List, [], ◌∷◌, ◌++◌,
-  Result, Ok, Err, refl, sym, ap, subst, leb, arith
+  ◌≡◌,
+  ◌≢◌,
+  ◌⊎◌,
+  ◌∙◌,
+  inl,
+  inr,
+  ⊎_elim,
+  ℕ,
+  ◌+◌,
+  ◌-◌,
+  ◌*◌,
+  ◌/◌,
+  ◌≤◌,
+  ◌<◌,
+  true,
+  false,
+  List,
+  [],
+  ◌∷◌,
+  ◌++◌,
+  Result,
+  Ok,
+  Err,
+  refl,
+  sym,
+  ap,
+  subst,
+  leb,
+  arith,
 }
 use Rattle.std.specs.Prelude.{Bool, Option, Some, None, map, nat_le, All, IsTrue, ◌==◌, if◌then◌else◌}
 use Rattle.std.proofs.lemmas.Bool.{cases_Bool, and_parts, leb-true}
@@ -30,14 +57,42 @@ use Rattle.vab_device.specs.declared.fault.StartFault.TheVariants.{BadTable}
 use Rattle.vab_device.specs.declared.device.Part.{Part}
 use Rattle.vab_device.specs.Checks.{◌>>=◌}
 use Rattle.vab_device.specs.Kept.{
-  block_sector, sectors_of, part_on, parts_of, copies_end, super_bytes, lies_in
+  block_sector,
+  sectors_of,
+  part_on,
+  parts_of,
+  copies_end,
+  super_bytes,
+  lies_in,
 }
 use Rattle.vab_device.specs.Mounted.{bytes_at, sectors_read, image_on, images_on}
 use Rattle.vab_device.specs.Phases.{phase_at}
 use Rattle.vab_device.specs.Reading.{
-  Read, unless, mark_read, mark_in, control_read, control_in, geometry_read, geometry_at, table_read,
-  table_at, tables_in, table_for, parts_for, read_table, kept, Reads, SameRead, Dead, IsOfTables,
-  IsOfBlocks, IsOfParts, IsOfImages, Live, Agrees, Misses
+  Read,
+  unless,
+  mark_read,
+  mark_in,
+  control_read,
+  control_in,
+  geometry_read,
+  geometry_at,
+  table_read,
+  table_at,
+  tables_in,
+  table_for,
+  parts_for,
+  read_table,
+  kept,
+  Reads,
+  SameRead,
+  Dead,
+  IsOfTables,
+  IsOfBlocks,
+  IsOfParts,
+  IsOfImages,
+  Live,
+  Agrees,
+  Misses,
 }
 use Rattle.vab_device.proofs.CheckLaws.{bound}
 
@@ -206,8 +261,8 @@ read_behind size g slot (Ok u) t is = elim (cases_Bool (lies_in size g (layout_o
       let same : (let r : Result Table StartFault = Ok u in r ≡ Ok t) = rw lies at is in
       let e : u ≡ t = cc in
       let both = and_parts
-          (leb (layout_of u).device.size (super_bytes size))
-          (leb (copies_end g) (512 * (layout_of u).device.first_logical_sector)) lies in
+      (leb (layout_of u).device.size (super_bytes size))
+      (leb (copies_end g) (512 * (layout_of u).device.first_logical_sector)) lies in
       subst (λ (x : Table). copies_end g ≤ 512 * (layout_of x).device.first_logical_sector) e
       (leb-true (copies_end g) (512 * (layout_of u).device.first_logical_sector) both.1)
   | inr fails ↦
@@ -231,13 +286,13 @@ tables_behind size low g [] image ts le is =
     subst (BeginBehind low) e tt
 tables_behind size low g (slot ∷ slots) image ts le is =
     let t = bound (table_at size g slot image)
-        (λ t. tables_in size g slots image >>= λ ts. Ok (t ∷ ts)) ts is in
+    (λ t. tables_in size g slots image >>= λ ts. Ok (t ∷ ts)) ts is in
     let rest = bound (tables_in size g slots image) (λ ts. Ok (t.0 ∷ ts)) ts t.2 in
     let whole : Ok (t.0 ∷ rest.0) ≡ Ok ts = rest.2 in
     let e : t.0 ∷ rest.0 ≡ ts = cc in
     subst (BeginBehind low) e (
       omega (arith, table_behind size g slot image t.0 t.1, le),
-      tables_behind size low g slots image rest.0 le rest.1
+      tables_behind size low g slots image rest.0 le rest.1,
     )
 
 -- a sector of an image stands behind the copies

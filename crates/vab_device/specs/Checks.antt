@@ -1,6 +1,18 @@
 -- Rules, one after another: each has the fault of breaking it.
 use Rattle.std.specs.Prelude.{
-  Bool, true, false, List, [], ◌∷◌, ℕ, Option, Some, None, Result, Ok, Err
+  Bool,
+  true,
+  false,
+  List,
+  [],
+  ◌∷◌,
+  ℕ,
+  Option,
+  Some,
+  None,
+  Result,
+  Ok,
+  Err,
 }
 use Rattle.vab_device.specs.declared.fault.StartFault.{StartFault}
 use Rattle.vab_device.specs.declared.fault.StartFault.TheVariants.{BadPartition}
@@ -33,6 +45,9 @@ passing None x = Ok x
 passing (Some fault) x = Err fault
 
 infixl 10 ◌>>=◌
-abbrev pub ◌>>=◌ : {A B : Type 0} → Result A StartFault → (A → Result B StartFault) → Result B StartFault
+abbrev pub ◌>>=◌ : {A B : Type 0}
+    → Result A StartFault
+    → (A → Result B StartFault)
+    → Result B StartFault
 (Ok x) >>= f = f x
 (Err e) >>= f = Err e

@@ -2,7 +2,15 @@
 use Rattle.std.specs.Prelude.{◌≡◌, Result, Ok, Err}
 use Rattle.vab_device.specs.declared.fault.StartFault.{StartFault}
 use Rattle.vab_device.specs.declared.fault.StartFault.TheVariants.{
-  TooSmall, BadMark, BadControl, BadGeometry, BadTable, BadPartition, BadState, NoMemory, Disk
+  TooSmall,
+  BadMark,
+  BadControl,
+  BadGeometry,
+  BadTable,
+  BadPartition,
+  BadState,
+  NoMemory,
+  Disk,
 }
 
 -- a fault of what the disk holds, and not of the disk or of memory

@@ -1,7 +1,32 @@
 -- What is kept of a device between two commands, and what holds of it over every disk.
 use Rattle.std.specs.Prelude.{
-  ◌≡◌, ◌≢◌, ℕ, ◌+◌, ◌-◌, ◌*◌, ◌≤◌, ◌<◌, ◌==◌, ◌&&◌, ◌^◌, Bool, true, false, nat_le, not,
-  if◌then◌else◌, List, map, length, Option, Some, None, is_some, All, AllPairs, IsTrue
+  ◌≡◌,
+  ◌≢◌,
+  ℕ,
+  ◌+◌,
+  ◌-◌,
+  ◌*◌,
+  ◌≤◌,
+  ◌<◌,
+  ◌==◌,
+  ◌&&◌,
+  ◌^◌,
+  Bool,
+  true,
+  false,
+  nat_le,
+  not,
+  if◌then◌else◌,
+  List,
+  map,
+  length,
+  Option,
+  Some,
+  None,
+  is_some,
+  All,
+  AllPairs,
+  IsTrue,
 }
 use Rattle.std.specs.Str.{bytes_eq}
 use Rattle.vab_names.specs.Names.{is_base, base_of, default_name}
@@ -85,7 +110,8 @@ abbrev pub ArePresent : ℕ → Option (List Part) → Type 0
 ArePresent size None = Unit {0}
 ArePresent size (Some parts) = AreParts size parts
 
--- the table of a slot: its rules, those of the slot's own partitions, and its block device in `super`
+-- the table of a slot: its rules, those of the slot's own partitions, and its block device in
+-- `super`
 pub record IsTableOf (size : ℕ) (g : Geometry) (slot : ℕ) (t : Table) : Type 0 where
   pub rules : KeepsRules t
   pub own : IsOwn slot (layout_of t).parts
@@ -95,7 +121,8 @@ abbrev pub IsKeptTable : ℕ → Geometry → ℕ → Option Table → Type 0
 IsKeptTable size g slot None = Unit {0}
 IsKeptTable size g slot (Some t) = IsTableOf size g slot t
 
--- On a disk of so many sectors. The slot of the mark has images and a table, and the other has none.
+-- On a disk of so many sectors. The slot of the mark has images and a table, and the other has
+-- none.
 pub record IsDevice (d : Device) (size : ℕ) : Type 0 where
   pub enough : 4120 ≤ size
   pub geometry : IsGeometry d.geometry

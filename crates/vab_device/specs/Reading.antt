@@ -1,7 +1,24 @@
 -- What a whole disk means: a device with its images, or the first thing that is wrong.
 use Rattle.std.specs.Prelude.{
-  ◌≡◌, ◌⊎◌, ℕ, ◌+◌, ◌==◌, Bool, true, false, nat_le, if◌then◌else◌, List, [], ◌∷◌, Option, Some, None,
-  Result, Ok, Err
+  ◌≡◌,
+  ◌⊎◌,
+  ℕ,
+  ◌+◌,
+  ◌==◌,
+  Bool,
+  true,
+  false,
+  nat_le,
+  if◌then◌else◌,
+  List,
+  [],
+  ◌∷◌,
+  Option,
+  Some,
+  None,
+  Result,
+  Ok,
+  Err,
 }
 use Rattle.vab_disk.specs.Disk.{Image}
 use Rattle.vab_disk.specs.Calls.{IsBetween, SameBut}
@@ -24,7 +41,11 @@ use Rattle.vab_layout.specs.Layout.{layout_of}
 use Rattle.vab_model.specs.State.{control_seen}
 use Rattle.vab_device.specs.declared.fault.StartFault.{StartFault}
 use Rattle.vab_device.specs.declared.fault.StartFault.TheVariants.{
-  TooSmall, BadMark, BadControl, BadGeometry, BadTable
+  TooSmall,
+  BadMark,
+  BadControl,
+  BadGeometry,
+  BadTable,
 }
 use Rattle.vab_device.specs.declared.device.Part.{Part}
 use Rattle.vab_device.specs.declared.device.Device.{Device}
@@ -33,8 +54,8 @@ use Rattle.vab_device.specs.Kept.{parts_of, limits_of, copies_end, super_bytes, 
 use Rattle.vab_device.specs.Mounted.{Mounted, mounted_on, images_on, sectors_read}
 use Rattle.vab_device.specs.Phases.{Phase, phase_at, is_known}
 
--- What the sectors say that the phase reads. The images are left where they stand. Of boot control the
--- slots with images are read, and of a slot's table that of the whole copy.
+-- What the sectors say that the phase reads. The images are left where they stand. Of boot control
+-- the slots with images are read, and of a slot's table that of the whole copy.
 pub record Read : Type 0 where
   pub mark : UpdateMark
   pub control : Control
@@ -63,14 +84,20 @@ control_read has_a has_b (Err fault) = Err (BadControl fault)
 unfoldable pub control_in : Bool → Bool → Image → Result Control StartFault
 control_in has_a has_b image = control_read has_a has_b (control_of (image 4))
 
-abbrev pub geometry_read : ℕ → Result Geometry (GeometryFault × GeometryFault) → Result Geometry StartFault
+abbrev pub geometry_read : ℕ
+    → Result Geometry (GeometryFault × GeometryFault)
+    → Result Geometry StartFault
 geometry_read size (Ok g) = unless (nat_le (copies_end g) (super_bytes size)) BadGeometry (Ok g)
 geometry_read size (Err faults) = Err BadGeometry
 
 unfoldable pub geometry_at : ℕ → Image → Result Geometry StartFault
 geometry_at size image = geometry_read size (geometry_in image)
 
-abbrev pub table_read : ℕ → Geometry → ℕ → Result Table (TableFault × TableFault) → Result Table StartFault
+abbrev pub table_read : ℕ
+    → Geometry
+    → ℕ
+    → Result Table (TableFault × TableFault)
+    → Result Table StartFault
 table_read size g slot (Ok t) = unless (lies_in size g (layout_of t).device) (BadTable slot) (Ok t)
 table_read size g slot (Err faults) = Err (BadTable slot)
 
@@ -169,9 +196,10 @@ pub record Reads (size : ℕ) (r : Read) (image : Image) : Type 0 where
       ((phase_at r.mark.phase).has_a r.mark.slot)
       ((phase_at r.mark.phase).has_b r.mark.slot)
       image
-    ≡ Ok r.control
+      ≡ Ok r.control
   pub geometry : geometry_at size image ≡ Ok r.geometry
-  pub tables : tables_in size r.geometry ((phase_at r.mark.phase).tables r.mark.slot) image ≡ Ok r.tables
+  pub tables : tables_in size r.geometry ((phase_at r.mark.phase).tables r.mark.slot) image
+      ≡ Ok r.tables
   pub parts : part_fault r ≡ None
   pub state : state_fault r ≡ None
 
@@ -185,14 +213,15 @@ AgreeCopies g (s ∷ ss) (t ∷ ts) image =
     ((text : List ℕ) × IsTableText g.max text t × BothHold g s text image)
     × AgreeCopies g ss ts image
 
--- The device that is kept is that of the disk: it is what is read of it, with the whole boot control,
--- its tables are those that the disk reads, and both copies of each agree.
+-- The device that is kept is that of the disk: it is what is read of it, with the whole boot
+-- control, its tables are those that the disk reads, and both copies of each agree.
 pub record Represents (d : Device) (size : ℕ) (image : Image) : Type 0 where
   pub read : Read
   pub reads : Reads size read image
   pub is : d ≡ record (kept read) { control = d.control }
   pub control : control_of (image 4) ≡ Ok d.control
-  pub copies : AgreeCopies read.geometry ((phase_at read.mark.phase).tables read.mark.slot) read.tables image
+  pub copies : AgreeCopies read.geometry ((phase_at read.mark.phase).tables read.mark.slot)
+      read.tables image
 
 -- ---- what is read the same
 
@@ -203,13 +232,13 @@ pub record SameRead (size : ℕ) (r : Read) (old new : Image) : Type 0 where
       ((phase_at r.mark.phase).has_a r.mark.slot)
       ((phase_at r.mark.phase).has_b r.mark.slot)
       new
-    ≡ control_in
+      ≡ control_in
       ((phase_at r.mark.phase).has_a r.mark.slot)
       ((phase_at r.mark.phase).has_b r.mark.slot)
       old
   pub geometry : geometry_at size new ≡ geometry_at size old
   pub tables : tables_in size r.geometry ((phase_at r.mark.phase).tables r.mark.slot) new
-    ≡ tables_in size r.geometry ((phase_at r.mark.phase).tables r.mark.slot) old
+      ≡ tables_in size r.geometry ((phase_at r.mark.phase).tables r.mark.slot) old
   pub images_a : images_on new (kept r).a ≡ images_on old (kept r).a
   pub images_b : images_on new (kept r).b ≡ images_on old (kept r).b
 

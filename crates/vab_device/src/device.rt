@@ -74,7 +74,9 @@ impl Device {
     /// What boot control says of a slot; `None` where it has no images.
     pub fn slot_info(&self, slot: usize) -> Option<Info>
         requires { slot < 2 }
-        ensures { result ≡ option_map (λ _. info_at self.now.control slot) (if slot == 0 then self.now.a else self.now.b) }
+        ensures { result
+            ≡ option_map (λ _. info_at self.now.control slot)
+            (if slot == 0 then self.now.a else self.now.b) }
     {
         if slot == 0 {
             self.a.as_ref().map(|_| self.control.a)

@@ -16,11 +16,14 @@ pub enum StartFault {
     BadControl(ControlFault),
     /// Neither copy of the geometry passes, or the copies of the tables pass the end of `super`.
     BadGeometry,
-    /// Neither copy of this slot's table is a table's text, or its block device doesn't lie in `super` behind the copies.
+    /// Neither copy of this slot's table is a table's text, or its block device doesn't lie in
+    /// `super` behind the copies.
     BadTable(usize),
-    /// The first partition, in the order of the table, that breaks a rule of a slot's own partitions.
+    /// The first partition, in the order of the table, that breaks a rule of a slot's own
+    /// partitions.
     BadPartition(Name36),
-    /// 1: the current slot has no images. 2: the slot with images has priority 0 or isn't successful.
+    /// 1: the current slot has no images. 2: the slot with images has priority 0 or isn't
+    /// successful.
     BadState(u8),
     /// Memory was refused.
     NoMemory,

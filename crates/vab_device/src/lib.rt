@@ -1,5 +1,5 @@
-//! What the bytes of a whole disk mean: the state of a device and where its partitions stand, or the
-//! first thing that is wrong; and what is kept of a device between two commands.
+//! What the bytes of a whole disk mean: the state of a device and where its partitions stand, or
+//! the first thing that is wrong; and what is kept of a device between two commands.
 #![tactic(auto)]
 
 mod device;

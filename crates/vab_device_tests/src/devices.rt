@@ -136,7 +136,8 @@ fn a_device_that_is_not_made_is_what_the_disk_was(rt: HostRuntime) -> Result<(),
     let made = make_device(alloc, &mut d, &set, 0, 512);
     assert_eq!(rt; made, Err(MakeFault::TableFull(540, 512)));
     assert_eq!(rt; info(&mut d, 0)?, [0xef, 0]);
-    // Two calls were made. After four more the mark is gone, and there is no device until the made one.
+    // Two calls were made. After four more the mark is gone, and there is no device until the made
+    // one.
     d.stop_after(6);
     assert!(rt; make_device(alloc, &mut d, &set, 0, 65536).is_err());
     let mut d = d.next_run(Vec::new(alloc));

@@ -22,8 +22,8 @@ fn disk_of_ones(alloc: Global) -> Result<MemPort, Fail> {
     }
 }
 
-// Whether a device of one block, with tables of up to 65536 bytes, has a place there: boot control, the mark, both
-// geometries and the primary of slot a's table, its backup, the block.
+// Whether a device of one block, with tables of up to 65536 bytes, has a place there: boot control,
+// the mark, both geometries and the primary of slot a's table, its backup, the block.
 fn is_of_the_device(at: u64) -> bool {
     at == 4
         || at == 2048

@@ -43,8 +43,10 @@ use Rattle.vab_disk.specs.Calls.{
   InSectors,
   SameBut,
   Touches,
+  Changes,
   IsAtRest,
 }
+use Rattle.vab_disk.specs.Port.{LeavesSaying}
 use Rattle.vab_disk.specs.Written.{set_here, set_there}
 use Rattle.vab_disk.proofs.Moments.{
   adds_none,
@@ -232,3 +234,87 @@ module _ {D : Type 0} (g : Ghosts D) where
   time_either at bytes a b t touches rest =
       adds_wider g.moment g.outcomes a b _ _ (touches.time t)
       (settled_either (g.may_leave a) (g.told a) (g.seen a) at bytes rest)
+
+  -- ---- runs of calls that hear and tell
+
+  pub changes_none : (W : ℕ → List ℕ → Type 0) (d : D) → Changes g W d d
+  changes_none W d = record {
+    size = refl;
+    seen = λ t s. inl refl;
+    crash = λ t s b now. inl now;
+    time = λ t. adds_none g.moment g.outcomes d _;
+  }
+
+  pub changes_touches : (W : ℕ → List ℕ → Type 0) (a b : D) → Touches g W a b → Changes g W a b
+  changes_touches W a b ab = record {
+    size = ab.quiet.size;
+    seen = ab.seen;
+    crash = ab.crash;
+    time = λ t. adds_wider g.moment g.outcomes a b _ _ (ab.time t) (λ o leaves. leaves.each_sector);
+  }
+
+  -- what is told alone
+  pub changes_telling : (W : ℕ → List ℕ → Type 0) (piece : List ℕ) (a b : D)
+      → g.size b ≡ g.size a
+      → (g.is_modelled → g.seen b ≡ g.seen a)
+      → (g.is_modelled → SameHoldings (g.may_leave a) (g.may_leave b))
+      → (g.is_modelled
+        → Adds g.moment g.outcomes a b (LeavesSaying (g.told a) piece (g.may_leave a)))
+      → Changes g W a b
+  changes_telling W piece a b size seen crash time = record {
+    size = size;
+    seen = λ t s. inl (ap (λ (i : Image). i s) (seen t));
+    crash = λ t s x now. inl ((crash t).no_more s x now);
+    time = λ t. adds_wider g.moment g.outcomes a b _ _ (time t)
+        (λ o leaves s. inl (leaves.each_sector s));
+  }
+
+  -- what is heard alone
+  pub changes_hearing : (W : ℕ → List ℕ → Type 0) (a b : D)
+      → g.size b ≡ g.size a
+      → (g.is_modelled → g.seen b ≡ g.seen a)
+      → (g.is_modelled → SameHoldings (g.may_leave a) (g.may_leave b))
+      → (g.is_modelled → Adds g.moment g.outcomes a b Nothing)
+      → Changes g W a b
+  changes_hearing W a b size seen crash time = record {
+    size = size;
+    seen = λ t s. inl (ap (λ (i : Image). i s) (seen t));
+    crash = λ t s x now. inl ((crash t).no_more s x now);
+    time = λ t. adds_wider g.moment g.outcomes a b _ _ (time t) (λ o none. absurd none);
+  }
+
+  pub changes_then : (W : ℕ → List ℕ → Type 0) (a b c : D)
+      → Changes g W a b
+      → Changes g W b c
+      → Changes g W a c
+  changes_then W a b c ab bc = record {
+    size = bc.size ∙ ab.size;
+    seen = λ t. same_then W (g.seen a) (g.seen b) (g.seen c) (ab.seen t) (bc.seen t);
+    crash = λ t s x now. ⊎_elim (λ was. ab.crash t s x was) (λ w. inr w) (bc.crash t s x now);
+    time = λ t. adds_on g.moment g.outcomes a b c _ _ (ab.time t) (bc.time t)
+        (λ o leaves s.
+        ⊎_elim (λ was. ab.crash t s (o.image s) was) (λ w. inr w) (leaves s));
+  }
+
+  pub changes_wider : (V W : ℕ → List ℕ → Type 0) (a b : D)
+      → Changes g W a b
+      → ((s : ℕ) (x : List ℕ) → W s x → V s x)
+      → Changes g V a b
+  changes_wider V W a b ab wider = record {
+    size = ab.size;
+    seen = λ t s. ⊎_elim (λ same. inl same) (λ w. inr (wider s (g.seen b s) w)) (ab.seen t s);
+    crash = λ t s x now. ⊎_elim (λ was. inl was) (λ w. inr (wider s x w)) (ab.crash t s x now);
+    time = λ t. adds_wider g.moment g.outcomes a b _ _ (ab.time t)
+        (λ o leaves s. ⊎_elim (λ was. inl was) (λ w. inr (wider s (o.image s) w)) (leaves s));
+  }
+
+  -- Where nothing was pending, each sector is in each outcome as it was, or as one of these says.
+  pub changes_cuts : (W : ℕ → List ℕ → Type 0) (a b : D)
+      → g.is_modelled
+      → Changes g W a b
+      → IsAtRest g a
+      → Adds g.moment g.outcomes a b (λ o. SameBut W (g.seen a) o.image)
+  changes_cuts W a b t ab rest =
+      adds_wider g.moment g.outcomes a b _ _ (ab.time t)
+      (λ o leaves s.
+      ⊎_elim (λ was. inl (rest s (o.image s) was)) (λ w. inr w) (leaves s))

@@ -68,3 +68,16 @@ pub record FailsWithDisk {D A E : Type 0}
 -- nothing is pending: what a crash leaves is what a read gives
 abbrev pub IsAtRest : {D : Type 0} → Ghosts D → D → Type 0
 IsAtRest g d = IsSettled (g.seen d) (g.may_leave d)
+
+-- What a run of calls does to the sectors, whatever it hears and tells: each sector reads and may be
+-- left by a crash as before, or with such bytes as W has there; the same in each outcome since.
+pub record Changes {D : Type 0}
+    (g : Ghosts D)
+    (W : ℕ → List ℕ → Type 0)
+    (old new : D) : Type 0 where
+  pub size : g.size new ≡ g.size old
+  pub seen : g.is_modelled → SameBut W (g.seen old) (g.seen new)
+  pub crash : g.is_modelled → NoMoreBut W (g.may_leave old) (g.may_leave new)
+  pub time : g.is_modelled
+      → Adds g.moment g.outcomes old new
+        (λ o. (s : ℕ) → g.may_leave old s (o.image s) ⊎ W s (o.image s))

@@ -104,7 +104,8 @@ LeavesNow count earlier calls = Leaves (told_of calls) (Holds count (calls ++ ea
 -- what a crash may have left since as many calls of the run
 abbrev pub LeftSince : ℕ → List Call → List Call → ℕ → Outcome → Type 0
 LeftSince count earlier [] t o = LeavesNow count earlier [] o
-LeftSince count earlier (c ∷ older) t o = LeavesNow count earlier (c ∷ older) o ⊎ ((t ≤ length older) × LeftSince count earlier older t o)
+LeftSince count earlier (c ∷ older) t o =
+    LeavesNow count earlier (c ∷ older) o ⊎ ((t ≤ length older) × LeftSince count earlier older t o)
 
 -- these bytes were written to a sector after the last sync
 abbrev pub IsWrittenSince : List Call → ℕ → List ℕ → Type 0

@@ -47,27 +47,34 @@ use Rattle.vab_disk.specs.Written.{set_here, set_there}
 use Rattle.vab_disk.specs.declared.record.Call.{Call}
 use Rattle.vab_disk.specs.declared.record.Call.TheVariants.{Read, Wrote, Synced, Heard, Said}
 
-pub seen_holds : (count : ℕ) (calls : List Call) (s : ℕ) → Holds count calls s (seen_of count calls s)
+pub seen_holds : (count : ℕ) (calls : List Call) (s : ℕ)
+    → Holds count calls s (seen_of count calls s)
 seen_holds count [] s = refl
 seen_holds count (Wrote at sector ∷ older) s = elim (cases_eq s at) [
   | inl here ↦ inr (here, set_here (seen_of count older) at sector.bytes s here)
-  | inr other ↦ inl (subst (Holds count older s) (sym (set_there (seen_of count older) at sector.bytes s other)) (seen_holds count older s))
+  | inr other ↦ inl (subst (Holds count older s)
+      (sym (set_there (seen_of count older) at sector.bytes s other)) (seen_holds count older s))
 ]
 seen_holds count (Read at ∷ older) s = seen_holds count older s
 seen_holds count (Synced ∷ older) s = refl
 seen_holds count (Heard n ∷ older) s = seen_holds count older s
 seen_holds count (Said bytes ∷ older) s = seen_holds count older s
 
-pub left_now : (count : ℕ) (earlier calls : List Call) (t : ℕ) (o : Outcome) → LeavesNow count earlier calls o → LeftSince count earlier calls t o
+pub left_now : (count : ℕ) (earlier calls : List Call) (t : ℕ) (o : Outcome)
+    → LeavesNow count earlier calls o
+    → LeftSince count earlier calls t o
 left_now count earlier [] t o now = now
 left_now count earlier (c ∷ older) t o now = inl now
 
-pub left_only : (count : ℕ) (earlier calls : List Call) (o : Outcome) → LeftSince count earlier calls (length calls) o → LeavesNow count earlier calls o
+pub left_only : (count : ℕ) (earlier calls : List Call) (o : Outcome)
+    → LeftSince count earlier calls (length calls) o
+    → LeavesNow count earlier calls o
 left_only count earlier [] o left = left
 left_only count earlier (c ∷ older) o (inl now) = now
 left_only count earlier (c ∷ older) o (inr past) = absurd (omega (arith, past.0))
 
-pub settled_holds : (count : ℕ) (calls : List Call) (s : ℕ) → Holds count calls s (settled_of count calls s)
+pub settled_holds : (count : ℕ) (calls : List Call) (s : ℕ)
+    → Holds count calls s (settled_of count calls s)
 settled_holds count [] s = refl
 settled_holds count (Wrote at sector ∷ older) s = inl (settled_holds count older s)
 settled_holds count (Read at ∷ older) s = settled_holds count older s
@@ -91,29 +98,43 @@ zeros_whole = record {
 }
 
 -- what was written or what was there at first is a whole sector
-pub seen_whole : (count : ℕ) (calls : List Call) (s : ℕ) → s < count → IsSector (seen_of count calls s)
+pub seen_whole : (count : ℕ) (calls : List Call) (s : ℕ)
+    → s < count
+    → IsSector (seen_of count calls s)
 seen_whole count [] s below = subst IsSector (sym (blank_at count s below)) zeros_whole
 seen_whole count (Wrote at sector ∷ older) s below = elim (cases_eq s at) [
-  | inl here ↦ subst IsSector (sym (set_here (seen_of count older) at sector.bytes s here)) sector.whole
-  | inr other ↦ subst IsSector (sym (set_there (seen_of count older) at sector.bytes s other)) (seen_whole count older s below)
+  | inl here ↦ subst IsSector (sym (set_here (seen_of count older) at sector.bytes s here))
+      sector.whole
+  | inr other ↦ subst IsSector (sym (set_there (seen_of count older) at sector.bytes s other))
+      (seen_whole count older s below)
 ]
 seen_whole count (Read at ∷ older) s below = seen_whole count older s below
 seen_whole count (Synced ∷ older) s below = seen_whole count older s below
 seen_whole count (Heard n ∷ older) s below = seen_whole count older s below
 seen_whole count (Said bytes ∷ older) s below = seen_whole count older s below
 
-pub held_whole : (count : ℕ) (calls : List Call) (s : ℕ) (b : List ℕ) → s < count → Holds count calls s b → IsSector b
+pub held_whole : (count : ℕ) (calls : List Call) (s : ℕ) (b : List ℕ)
+    → s < count
+    → Holds count calls s b
+    → IsSector b
 held_whole count [] s b below is = subst IsSector (sym (is ∙ blank_at count s below)) zeros_whole
-held_whole count (Wrote at sector ∷ older) s b below (inl was) = held_whole count older s b below was
-held_whole count (Wrote at sector ∷ older) s b below (inr wrote) = subst IsSector (sym wrote.1) sector.whole
+held_whole count (Wrote at sector ∷ older) s b below (inl was) =
+    held_whole count older s b below was
+held_whole count (Wrote at sector ∷ older) s b below (inr wrote) =
+    subst IsSector (sym wrote.1) sector.whole
 held_whole count (Read at ∷ older) s b below is = held_whole count older s b below is
-held_whole count (Synced ∷ older) s b below is = subst IsSector (sym is) (seen_whole count older s below)
+held_whole count (Synced ∷ older) s b below is =
+    subst IsSector (sym is) (seen_whole count older s below)
 held_whole count (Heard n ∷ older) s b below is = held_whole count older s b below is
 held_whole count (Said bytes ∷ older) s b below is = held_whole count older s b below is
 
 -- what is left of bytes is bytes
-pub dropped_bytes : (input : List ℕ) (n k : ℕ) → ((i : ℕ) → get_or input i 0 < 256) → get_or (drop n input) k 0 < 256
-dropped_bytes input n k bytes = let at : get_or (drop n input) k 0 ≡ get_or input (n + k) 0 = get_or-drop n input k 0 in omega (arith, bytes (n + k), at)
+pub dropped_bytes : (input : List ℕ) (n k : ℕ)
+    → ((i : ℕ) → get_or input i 0 < 256)
+    → get_or (drop n input) k 0 < 256
+dropped_bytes input n k bytes =
+    let at : get_or (drop n input) k 0
+    ≡ get_or input (n + k) 0 = get_or-drop n input k 0 in omega (arith, bytes (n + k), at)
 
 pub leaves_settled_or_written : LeavesSettledOrWritten
 leaves_settled_or_written count [] s b held = inl held

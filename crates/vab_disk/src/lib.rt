@@ -1,4 +1,5 @@
-//! A disk of sectors and a pair of streams, as the code above sees them, with what a cut of power may leave.
+//! A disk of sectors and a pair of streams, as the code above sees them, with what a cut of power
+//! may leave.
 #![tactic(auto)]
 
 mod disk;

@@ -1,11 +1,16 @@
-// A port in memory. Each call is done at once. It keeps each call that took effect, and so what each moment left.
-ghost use Rattle.std.specs.Prelude.{◌≡◌, ◌⊎◌, ◌≤◌, ◌<◌, ◌^◌, ℕ, List, [], ◌∷◌, ◌+◌, ◌++◌, length, drop, reverse, slice_index_or, replicate, IfOk, OnOk, OnErr, IsTrue, ◌↔◌, Contains};
+// A port in memory. Each call is done at once. It keeps each call that took effect, and so what
+// each moment left.
+ghost use Rattle.std.specs.Prelude.{◌≡◌, ◌⊎◌, ◌≤◌, ◌<◌, ◌^◌, ℕ, List, [], ◌∷◌, ◌+◌, ◌++◌, length};
+ghost use Rattle.std.specs.Prelude.{drop, reverse, slice_index_or, replicate, IfOk, OnOk, OnErr};
+ghost use Rattle.std.specs.Prelude.{IsTrue, ◌↔◌, Contains};
 ghost use Rattle.std.specs.Bool.{OnTrue, OnFalse};
 ghost use Rattle.vab_disk.specs.Disk.{IsSettled, SameHoldings, Rose};
 ghost use Rattle.vab_disk.specs.Numbered.{Numbered};
 ghost use Rattle.vab_disk.specs.Port.{Hears};
 ghost use Rattle.vab_disk.specs.declared.record.Call.{Call as CallOf};
-ghost use Rattle.vab_disk.specs.Memory.{seen_of, settled_of, told_of, taken_of, calls_of, earlier_of, IsStopped, LeavesSettledOrWritten, LeavesEachOfThem};
+ghost use Rattle.vab_disk.specs.Memory.{seen_of, settled_of, told_of, taken_of, calls_of};
+ghost use Rattle.vab_disk.specs.Memory.{earlier_of, IsStopped, LeavesSettledOrWritten};
+ghost use Rattle.vab_disk.specs.Memory.{LeavesEachOfThem};
 
 use crate::input::Input;
 use crate::{Call, Disk, Failed, Failing, Port, PortFault, Sector};
@@ -46,7 +51,9 @@ pub struct MemPort {
     stop: Option<u64>,
     ghost small: { count < 2 ^ 55 },
     ghost whole: { length cells.items ≡ count },
-    ghost reads: { (s : ℕ) → slice_index_or cells.items s [] ≡ seen_of count (calls_of begun calls.items ++ earlier_of begun calls.items) s },
+    ghost reads: { (s : ℕ)
+        → slice_index_or cells.items s []
+        ≡ seen_of count (calls_of begun calls.items ++ earlier_of begun calls.items) s },
     ghost tells: { told.items ≡ told_of (calls_of begun calls.items) },
     ghost began: { begun ≤ length calls.items },
     ghost within: { heard ≤ length input.bytes.items },
@@ -85,8 +92,10 @@ impl MemPort {
     pub fn new(alloc: Global, sectors: u64, input: Vec<u8>) -> Result<MemPort, NoMemory>
         requires { sectors < 2 ^ 55 }
         ensures size { IfOk result (λ p. ⟦<MemPort as Disk>⟧.size p ≡ sectors) }
-        ensures zeros { IfOk result (λ p. (s : ℕ) → s < sectors → ⟦<MemPort as Disk>⟧.seen p s ≡ replicate 512 0) }
-        ensures settled { IfOk result (λ p. IsSettled (⟦<MemPort as Disk>⟧.seen p) (⟦<MemPort as Disk>⟧.may_leave p)) }
+        ensures zeros { IfOk result
+            (λ p. (s : ℕ) → s < sectors → ⟦<MemPort as Disk>⟧.seen p s ≡ replicate 512 0) }
+        ensures settled { IfOk result
+            (λ p. IsSettled (⟦<MemPort as Disk>⟧.seen p) (⟦<MemPort as Disk>⟧.may_leave p)) }
         ensures told { IfOk result (λ p. ⟦<MemPort as Disk>⟧.told p ≡ []) }
         ensures left { IfOk result (λ p. ⟦<MemPort as Disk>⟧.input_left p ≡ input.items) }
         ensures unheard { IfOk result (λ p. ⟦<MemPort as Disk>⟧.heard p ≡ []) }
@@ -120,9 +129,11 @@ impl MemPort {
         ensures same { OnErr result (SameListed self.old self.new) }
         ensures size { ⟦<MemPort as Disk>⟧.size self.new ≡ ⟦<MemPort as Disk>⟧.size self.old }
         ensures seen { ⟦<MemPort as Disk>⟧.seen self.new ≡ ⟦<MemPort as Disk>⟧.seen self.old }
-        ensures may_leave { SameHoldings (⟦<MemPort as Disk>⟧.may_leave self.old) (⟦<MemPort as Disk>⟧.may_leave self.new) }
+        ensures may_leave { SameHoldings (⟦<MemPort as Disk>⟧.may_leave self.old)
+            (⟦<MemPort as Disk>⟧.may_leave self.new) }
         ensures told { ⟦<MemPort as Disk>⟧.told self.new ≡ ⟦<MemPort as Disk>⟧.told self.old }
-        ensures left { ⟦<MemPort as Disk>⟧.input_left self.new ≡ ⟦<MemPort as Disk>⟧.input_left self.old }
+        ensures left { ⟦<MemPort as Disk>⟧.input_left self.new
+            ≡ ⟦<MemPort as Disk>⟧.input_left self.old }
     {
         match kind {
             CallKind::Disk => self.disk.listed.push(nth)?,
@@ -143,18 +154,22 @@ impl MemPort {
         ensures stop { self.new ≡ record self.old { stop = Some count } }
         ensures size { ⟦<MemPort as Disk>⟧.size self.new ≡ ⟦<MemPort as Disk>⟧.size self.old }
         ensures seen { ⟦<MemPort as Disk>⟧.seen self.new ≡ ⟦<MemPort as Disk>⟧.seen self.old }
-        ensures may_leave { SameHoldings (⟦<MemPort as Disk>⟧.may_leave self.old) (⟦<MemPort as Disk>⟧.may_leave self.new) }
+        ensures may_leave { SameHoldings (⟦<MemPort as Disk>⟧.may_leave self.old)
+            (⟦<MemPort as Disk>⟧.may_leave self.new) }
         ensures told { ⟦<MemPort as Disk>⟧.told self.new ≡ ⟦<MemPort as Disk>⟧.told self.old }
-        ensures left { ⟦<MemPort as Disk>⟧.input_left self.new ≡ ⟦<MemPort as Disk>⟧.input_left self.old }
+        ensures left { ⟦<MemPort as Disk>⟧.input_left self.new
+            ≡ ⟦<MemPort as Disk>⟧.input_left self.old }
     {
         self.stop = Some(count);
     }
 
-    /// The next run on the same disk, with its pending sectors. Nothing is told yet, and other input is heard.
+    /// The next run on the same disk, with its pending sectors. Nothing is told yet, and other
+    /// input is heard.
     pub fn next_run(self, input: Vec<u8>) -> MemPort
         ensures size { ⟦<MemPort as Disk>⟧.size result ≡ ⟦<MemPort as Disk>⟧.size self }
         ensures seen { ⟦<MemPort as Disk>⟧.seen result ≡ ⟦<MemPort as Disk>⟧.seen self }
-        ensures may_leave { SameHoldings (⟦<MemPort as Disk>⟧.may_leave self) (⟦<MemPort as Disk>⟧.may_leave result) }
+        ensures may_leave { SameHoldings (⟦<MemPort as Disk>⟧.may_leave self)
+            (⟦<MemPort as Disk>⟧.may_leave result) }
         ensures told { ⟦<MemPort as Disk>⟧.told result ≡ [] }
         ensures left { ⟦<MemPort as Disk>⟧.input_left result ≡ input.items }
         ensures unheard { ⟦<MemPort as Disk>⟧.heard result ≡ [] }
@@ -185,7 +200,8 @@ impl MemPort {
         ensures later { self.old.sink.faults ≤ self.new.sink.faults }
         ensures calls { self.new.sink.calls ≡ self.old.sink.calls }
         ensures listed { self.new.sink.listed.items ≡ self.old.sink.listed.items }
-        ensures same { self.new ≡ record self.old { sink = self.new.sink; starved = self.new.starved } }
+        ensures same { self.new
+            ≡ record self.old { sink = self.new.sink; starved = self.new.starved } }
     {
         self.starved = self.starved.saturating_add(1);
         self.sink.fail();
@@ -195,7 +211,9 @@ impl MemPort {
     /// The settled bytes of a sector: those that the last sync left there.
     pub fn settled_sector(&self, at: u64) -> [u8; 512]
         requires { at < ⟦<MemPort as Disk>⟧.size self.now }
-        ensures { result ≡ settled_of self.now.count (calls_of self.now.begun self.now.calls.items ++ earlier_of self.now.begun self.now.calls.items) at }
+        ensures { result
+            ≡ settled_of self.now.count (calls_of self.now.begun self.now.calls.items
+            ++ earlier_of self.now.begun self.now.calls.items) at }
     {
         let mut now = [0u8; 512];
         let mut settled = [0u8; 512];
@@ -242,7 +260,8 @@ fn after_call(call: &Call, at: u64, now: [u8; 512], settled: [u8; 512]) -> ([u8;
 
 // Numbers a disk call, and says whether it is to fail.
 fn disk_fails(disk: &mut Failing, stop: Option<u64>, writes: u64) -> bool
-    ensures fails { IsTrue result ↔ (Contains disk.old.listed.items disk.old.calls ⊎ IsStopped stop writes) }
+    ensures fails { IsTrue result ↔
+        (Contains disk.old.listed.items disk.old.calls ⊎ IsStopped stop writes) }
     ensures rose { OnTrue result (Rose disk.old.faults disk.new.faults) }
     ensures steady { OnFalse result (disk.new.faults ≡ disk.old.faults) }
     ensures later { disk.old.faults ≤ disk.new.faults }
@@ -271,7 +290,8 @@ fn record(
     call: Call,
 ) -> Result<(), Failed>
     requires { begun ≤ length calls.old.items }
-    ensures ok { OnOk result (calls_of begun calls.new.items ≡ call ∷ calls_of begun calls.old.items) }
+    ensures ok { OnOk result
+        (calls_of begun calls.new.items ≡ call ∷ calls_of begun calls.old.items) }
     ensures earlier { earlier_of begun calls.new.items ≡ earlier_of begun calls.old.items }
     ensures longer { length calls.old.items ≤ length calls.new.items }
     ensures kind_ok { OnOk result (kind.new ≡ kind.old) }
@@ -296,7 +316,8 @@ fn record(
 fn hand_out(input: &[u8], heard: usize, out: &mut [u8]) -> usize
     requires { heard ≤ length input.now }
     ensures within { heard + result ≤ length input.now }
-    ensures heard { Hears result (drop heard input.now) (drop (heard + result) input.now) out.old out.new }
+    ensures heard { Hears result (drop heard input.now) (drop (heard + result) input.now) out.old
+        out.new }
 {
     let left = &input[heard..];
     let count = left.len().min(out.len());
@@ -306,18 +327,23 @@ fn hand_out(input: &[u8], heard: usize, out: &mut [u8]) -> usize
 
 impl Disk for MemPort {
     ghost use Rattle.std.specs.Prelude.{IsErr};
-    ghost use Rattle.vab_disk.specs.Disk.{Faults, Adds, Nothing, Quiet, Leaves, Writes, IsAt, MayBeSet, set_sector};
-    ghost use Rattle.vab_disk.specs.Listed.{IsDiskListed, IsDiskCall, SameWrites, OneWrite, OneSync};
+    ghost use Rattle.vab_disk.specs.Disk.{Faults, Adds, Nothing, Quiet, Leaves, Writes, IsAt};
+    ghost use Rattle.vab_disk.specs.Disk.{MayBeSet, set_sector};
+    ghost use Rattle.vab_disk.specs.Listed.{IsDiskListed, IsDiskCall, SameWrites, OneWrite};
+    ghost use Rattle.vab_disk.specs.Listed.{OneSync};
     ghost use Rattle.vab_disk.specs.Memory.{Holds, LeftSince, heard_of};
-    ghost use Rattle.vab_disk.specs.MemoryLaws.{seen_holds, held_whole, dropped_bytes, left_now, left_only};
+    ghost use Rattle.vab_disk.specs.MemoryLaws.{seen_holds, held_whole, dropped_bytes, left_now};
+    ghost use Rattle.vab_disk.specs.MemoryLaws.{left_only};
 
     ghost is_modelled = { Unit {0} };
 
     ghost size = { λ m. m.count };
 
-    ghost seen = { λ m. seen_of m.count (calls_of m.begun m.calls.items ++ earlier_of m.begun m.calls.items) };
+    ghost seen = { λ m. seen_of m.count
+        (calls_of m.begun m.calls.items ++ earlier_of m.begun m.calls.items) };
 
-    ghost may_leave = { λ m. Holds m.count (calls_of m.begun m.calls.items ++ earlier_of m.begun m.calls.items) };
+    ghost may_leave = { λ m. Holds m.count
+        (calls_of m.begun m.calls.items ++ earlier_of m.begun m.calls.items) };
 
     ghost told = { λ m. told_of (calls_of m.begun m.calls.items) };
 
@@ -325,23 +351,32 @@ impl Disk for MemPort {
 
     ghost heard = { λ m. heard_of m.input.bytes.items (calls_of m.begun m.calls.items) };
 
-    ghost faults = { λ m. record { disk = m.disk.faults; source = m.source.faults; sink = m.sink.faults } };
+    ghost faults = { λ m. record {
+      disk = m.disk.faults;
+      source = m.source.faults;
+      sink = m.sink.faults;
+    } };
 
     ghost moment = { λ m. length (calls_of m.begun m.calls.items) };
 
-    ghost outcomes = { λ m. LeftSince m.count (earlier_of m.begun m.calls.items) (calls_of m.begun m.calls.items) };
+    ghost outcomes = { λ m. LeftSince m.count (earlier_of m.begun m.calls.items)
+        (calls_of m.begun m.calls.items) };
 
     ghost small = { λ m. m.small };
 
-    ghost whole = { λ m s b below. held_whole m.count (calls_of m.begun m.calls.items ++ earlier_of m.begun m.calls.items) s b below };
+    ghost whole = { λ m s b below. held_whole m.count
+        (calls_of m.begun m.calls.items ++ earlier_of m.begun m.calls.items) s b below };
 
-    ghost seen_held = { λ m s. seen_holds m.count (calls_of m.begun m.calls.items ++ earlier_of m.begun m.calls.items) s };
+    ghost seen_held = { λ m s. seen_holds m.count
+        (calls_of m.begun m.calls.items ++ earlier_of m.begun m.calls.items) s };
 
     ghost bytes = { λ m k. dropped_bytes m.input.bytes.items m.heard k m.input.small };
 
-    ghost counts_now = { λ m t o le now. left_now m.count (earlier_of m.begun m.calls.items) (calls_of m.begun m.calls.items) t o now };
+    ghost counts_now = { λ m t o le now. left_now m.count (earlier_of m.begun m.calls.items)
+        (calls_of m.begun m.calls.items) t o now };
 
-    ghost only_now = { λ m o left. left_only m.count (earlier_of m.begun m.calls.items) (calls_of m.begun m.calls.items) o left };
+    ghost only_now = { λ m o left. left_only m.count (earlier_of m.begun m.calls.items)
+        (calls_of m.begun m.calls.items) o left };
 
     fn sectors(&self) -> u64 {
         self.count
@@ -349,16 +384,27 @@ impl Disk for MemPort {
 
     fn read_sector(&mut self, at: u64, out: &mut [u8; 512]) -> Result<(), Failed>
         requires { at < ⟦<MemPort as Disk>⟧.size self.old }
-        ensures bytes { ⟦<MemPort as Disk>⟧.is_modelled → OnOk result (out.new ≡ ⟦<MemPort as Disk>⟧.seen self.old at) }
-        ensures quiet { Quiet ⟦<MemPort as Disk>⟧.is_modelled ⟦<MemPort as Disk>⟧.size ⟦<MemPort as Disk>⟧.told ⟦<MemPort as Disk>⟧.input_left ⟦<MemPort as Disk>⟧.heard ⟦<MemPort as Disk>⟧.faults self.old self.new }
-        ensures seen { ⟦<MemPort as Disk>⟧.is_modelled → ⟦<MemPort as Disk>⟧.seen self.new ≡ ⟦<MemPort as Disk>⟧.seen self.old }
-        ensures crash { ⟦<MemPort as Disk>⟧.is_modelled → SameHoldings (⟦<MemPort as Disk>⟧.may_leave self.old) (⟦<MemPort as Disk>⟧.may_leave self.new) }
-        ensures time { ⟦<MemPort as Disk>⟧.is_modelled → Adds ⟦<MemPort as Disk>⟧.moment ⟦<MemPort as Disk>⟧.outcomes self.old self.new Nothing }
-        ensures steady { OnOk result (⟦<MemPort as Disk>⟧.faults self.new ≡ ⟦<MemPort as Disk>⟧.faults self.old) }
-        ensures cause { OnErr result (Rose (⟦<MemPort as Disk>⟧.faults self.old).disk (⟦<MemPort as Disk>⟧.faults self.new).disk) }
+        ensures bytes { ⟦<MemPort as Disk>⟧.is_modelled
+            → OnOk result (out.new ≡ ⟦<MemPort as Disk>⟧.seen self.old at) }
+        ensures quiet { Quiet ⟦<MemPort as Disk>⟧.is_modelled ⟦<MemPort as Disk>⟧.size
+            ⟦<MemPort as Disk>⟧.told ⟦<MemPort as Disk>⟧.input_left ⟦<MemPort as Disk>⟧.heard
+            ⟦<MemPort as Disk>⟧.faults self.old self.new }
+        ensures seen { ⟦<MemPort as Disk>⟧.is_modelled
+            → ⟦<MemPort as Disk>⟧.seen self.new ≡ ⟦<MemPort as Disk>⟧.seen self.old }
+        ensures crash { ⟦<MemPort as Disk>⟧.is_modelled
+            → SameHoldings (⟦<MemPort as Disk>⟧.may_leave self.old)
+            (⟦<MemPort as Disk>⟧.may_leave self.new) }
+        ensures time { ⟦<MemPort as Disk>⟧.is_modelled
+            → Adds ⟦<MemPort as Disk>⟧.moment ⟦<MemPort as Disk>⟧.outcomes self.old self.new
+            Nothing }
+        ensures steady { OnOk result
+            (⟦<MemPort as Disk>⟧.faults self.new ≡ ⟦<MemPort as Disk>⟧.faults self.old) }
+        ensures cause { OnErr result (Rose (⟦<MemPort as Disk>⟧.faults self.old).disk
+            (⟦<MemPort as Disk>⟧.faults self.new).disk) }
         // It fails exactly where it is listed, or stopped, or memory was refused.
         ensures fed { self.old.starved ≤ self.new.starved }
-        ensures only { OnErr result (IsDiskListed self.old ⊎ Rose self.old.starved self.new.starved) }
+        ensures only { OnErr result
+            (IsDiskListed self.old ⊎ Rose self.old.starved self.new.starved) }
         ensures fails { IsDiskListed self.old → IsErr result }
         ensures numbered { IsDiskCall self.old self.new }
         ensures writes { SameWrites self.old self.new }
@@ -379,16 +425,30 @@ impl Disk for MemPort {
 
     fn write_sector(&mut self, at: u64, from: &[u8; 512]) -> Result<(), Failed>
         requires { at < ⟦<MemPort as Disk>⟧.size self.old }
-        ensures written { ⟦<MemPort as Disk>⟧.is_modelled → OnOk result (⟦<MemPort as Disk>⟧.seen self.new ≡ set_sector (⟦<MemPort as Disk>⟧.seen self.old) at from.now) }
-        ensures failed { ⟦<MemPort as Disk>⟧.is_modelled → OnErr result (MayBeSet at from.now (⟦<MemPort as Disk>⟧.seen self.old) (⟦<MemPort as Disk>⟧.seen self.new)) }
-        ensures quiet { Quiet ⟦<MemPort as Disk>⟧.is_modelled ⟦<MemPort as Disk>⟧.size ⟦<MemPort as Disk>⟧.told ⟦<MemPort as Disk>⟧.input_left ⟦<MemPort as Disk>⟧.heard ⟦<MemPort as Disk>⟧.faults self.old self.new }
-        ensures crash { ⟦<MemPort as Disk>⟧.is_modelled → Writes (IsAt at from.now) (⟦<MemPort as Disk>⟧.may_leave self.old) (⟦<MemPort as Disk>⟧.may_leave self.new) }
-        ensures time { ⟦<MemPort as Disk>⟧.is_modelled → Adds ⟦<MemPort as Disk>⟧.moment ⟦<MemPort as Disk>⟧.outcomes self.old self.new (Leaves (⟦<MemPort as Disk>⟧.told self.old) (⟦<MemPort as Disk>⟧.may_leave self.new)) }
-        ensures steady { OnOk result (⟦<MemPort as Disk>⟧.faults self.new ≡ ⟦<MemPort as Disk>⟧.faults self.old) }
-        ensures cause { OnErr result (Rose (⟦<MemPort as Disk>⟧.faults self.old).disk (⟦<MemPort as Disk>⟧.faults self.new).disk) }
+        ensures written { ⟦<MemPort as Disk>⟧.is_modelled
+            → OnOk result (⟦<MemPort as Disk>⟧.seen self.new
+            ≡ set_sector (⟦<MemPort as Disk>⟧.seen self.old) at from.now) }
+        ensures failed { ⟦<MemPort as Disk>⟧.is_modelled
+            → OnErr result (MayBeSet at from.now (⟦<MemPort as Disk>⟧.seen self.old)
+            (⟦<MemPort as Disk>⟧.seen self.new)) }
+        ensures quiet { Quiet ⟦<MemPort as Disk>⟧.is_modelled ⟦<MemPort as Disk>⟧.size
+            ⟦<MemPort as Disk>⟧.told ⟦<MemPort as Disk>⟧.input_left ⟦<MemPort as Disk>⟧.heard
+            ⟦<MemPort as Disk>⟧.faults self.old self.new }
+        ensures crash { ⟦<MemPort as Disk>⟧.is_modelled
+            → Writes (IsAt at from.now) (⟦<MemPort as Disk>⟧.may_leave self.old)
+            (⟦<MemPort as Disk>⟧.may_leave self.new) }
+        ensures time { ⟦<MemPort as Disk>⟧.is_modelled
+            → Adds ⟦<MemPort as Disk>⟧.moment ⟦<MemPort as Disk>⟧.outcomes self.old self.new
+            (Leaves (⟦<MemPort as Disk>⟧.told self.old)
+            (⟦<MemPort as Disk>⟧.may_leave self.new)) }
+        ensures steady { OnOk result
+            (⟦<MemPort as Disk>⟧.faults self.new ≡ ⟦<MemPort as Disk>⟧.faults self.old) }
+        ensures cause { OnErr result (Rose (⟦<MemPort as Disk>⟧.faults self.old).disk
+            (⟦<MemPort as Disk>⟧.faults self.new).disk) }
         // It fails exactly where it is listed, or stopped, or memory was refused.
         ensures fed { self.old.starved ≤ self.new.starved }
-        ensures only { OnErr result (IsDiskListed self.old ⊎ Rose self.old.starved self.new.starved) }
+        ensures only { OnErr result
+            (IsDiskListed self.old ⊎ Rose self.old.starved self.new.starved) }
         ensures fails { IsDiskListed self.old → IsErr result }
         ensures numbered { IsDiskCall self.old self.new }
         ensures writes { OnOk result (OneWrite self.old self.new) }
@@ -410,17 +470,32 @@ impl Disk for MemPort {
     }
 
     fn sync(&mut self) -> Result<(), Failed>
-        ensures settled { ⟦<MemPort as Disk>⟧.is_modelled → OnOk result (IsSettled (⟦<MemPort as Disk>⟧.seen self.new) (⟦<MemPort as Disk>⟧.may_leave self.new)) }
-        ensures failed { ⟦<MemPort as Disk>⟧.is_modelled → OnErr result (SameHoldings (⟦<MemPort as Disk>⟧.may_leave self.old) (⟦<MemPort as Disk>⟧.may_leave self.new)) }
-        ensures crash { ⟦<MemPort as Disk>⟧.is_modelled → (s : ℕ) (b : List ℕ) → ⟦<MemPort as Disk>⟧.may_leave self.new s b → ⟦<MemPort as Disk>⟧.may_leave self.old s b }
-        ensures quiet { Quiet ⟦<MemPort as Disk>⟧.is_modelled ⟦<MemPort as Disk>⟧.size ⟦<MemPort as Disk>⟧.told ⟦<MemPort as Disk>⟧.input_left ⟦<MemPort as Disk>⟧.heard ⟦<MemPort as Disk>⟧.faults self.old self.new }
-        ensures seen { ⟦<MemPort as Disk>⟧.is_modelled → ⟦<MemPort as Disk>⟧.seen self.new ≡ ⟦<MemPort as Disk>⟧.seen self.old }
-        ensures time { ⟦<MemPort as Disk>⟧.is_modelled → Adds ⟦<MemPort as Disk>⟧.moment ⟦<MemPort as Disk>⟧.outcomes self.old self.new Nothing }
-        ensures steady { OnOk result (⟦<MemPort as Disk>⟧.faults self.new ≡ ⟦<MemPort as Disk>⟧.faults self.old) }
-        ensures cause { OnErr result (Rose (⟦<MemPort as Disk>⟧.faults self.old).disk (⟦<MemPort as Disk>⟧.faults self.new).disk) }
+        ensures settled { ⟦<MemPort as Disk>⟧.is_modelled
+            → OnOk result (IsSettled (⟦<MemPort as Disk>⟧.seen self.new)
+            (⟦<MemPort as Disk>⟧.may_leave self.new)) }
+        ensures failed { ⟦<MemPort as Disk>⟧.is_modelled
+            → OnErr result (SameHoldings (⟦<MemPort as Disk>⟧.may_leave self.old)
+            (⟦<MemPort as Disk>⟧.may_leave self.new)) }
+        ensures crash { ⟦<MemPort as Disk>⟧.is_modelled
+            → (s : ℕ) (b : List ℕ)
+            → ⟦<MemPort as Disk>⟧.may_leave self.new s b
+            → ⟦<MemPort as Disk>⟧.may_leave self.old s b }
+        ensures quiet { Quiet ⟦<MemPort as Disk>⟧.is_modelled ⟦<MemPort as Disk>⟧.size
+            ⟦<MemPort as Disk>⟧.told ⟦<MemPort as Disk>⟧.input_left ⟦<MemPort as Disk>⟧.heard
+            ⟦<MemPort as Disk>⟧.faults self.old self.new }
+        ensures seen { ⟦<MemPort as Disk>⟧.is_modelled
+            → ⟦<MemPort as Disk>⟧.seen self.new ≡ ⟦<MemPort as Disk>⟧.seen self.old }
+        ensures time { ⟦<MemPort as Disk>⟧.is_modelled
+            → Adds ⟦<MemPort as Disk>⟧.moment ⟦<MemPort as Disk>⟧.outcomes self.old self.new
+            Nothing }
+        ensures steady { OnOk result
+            (⟦<MemPort as Disk>⟧.faults self.new ≡ ⟦<MemPort as Disk>⟧.faults self.old) }
+        ensures cause { OnErr result (Rose (⟦<MemPort as Disk>⟧.faults self.old).disk
+            (⟦<MemPort as Disk>⟧.faults self.new).disk) }
         // It fails exactly where it is listed, or stopped, or memory was refused.
         ensures fed { self.old.starved ≤ self.new.starved }
-        ensures only { OnErr result (IsDiskListed self.old ⊎ Rose self.old.starved self.new.starved) }
+        ensures only { OnErr result
+            (IsDiskListed self.old ⊎ Rose self.old.starved self.new.starved) }
         ensures fails { IsDiskListed self.old → IsErr result }
         ensures numbered { IsDiskCall self.old self.new }
         ensures writes { OnOk result (OneSync self.old self.new) }
@@ -449,24 +524,42 @@ impl Port for MemPort {
     ghost use Rattle.vab_disk.specs.Listed.{IsHearListed, IsSayListed, IsHearCall, IsSayCall};
 
     fn hear(&mut self, out: &mut [u8]) -> Result<usize, PortFault>
-        ensures bytes { ⟦<MemPort as Disk>⟧.is_modelled → IfOk result (λ n. Hears n (⟦<MemPort as Disk>⟧.input_left self.old) (⟦<MemPort as Disk>⟧.input_left self.new) out.old out.new) }
+        ensures bytes { ⟦<MemPort as Disk>⟧.is_modelled
+            → IfOk result (λ n. Hears n (⟦<MemPort as Disk>⟧.input_left self.old)
+            (⟦<MemPort as Disk>⟧.input_left self.new) out.old out.new) }
         ensures heard { ⟦<MemPort as Disk>⟧.is_modelled → OnOk result
-            (⟦<MemPort as Disk>⟧.heard self.new ≡ heard_then (⟦<MemPort as Disk>⟧.heard self.old) (⟦<MemPort as Disk>⟧.told self.old) (⟦<MemPort as Disk>⟧.input_left self.old)) }
-        ensures unheard { ⟦<MemPort as Disk>⟧.is_modelled → OnErr result (⟦<MemPort as Disk>⟧.heard self.new ≡ ⟦<MemPort as Disk>⟧.heard self.old) }
+            (⟦<MemPort as Disk>⟧.heard self.new
+            ≡ heard_then (⟦<MemPort as Disk>⟧.heard self.old)
+            (⟦<MemPort as Disk>⟧.told self.old) (⟦<MemPort as Disk>⟧.input_left self.old)) }
+        ensures unheard { ⟦<MemPort as Disk>⟧.is_modelled
+            → OnErr result
+            (⟦<MemPort as Disk>⟧.heard self.new ≡ ⟦<MemPort as Disk>⟧.heard self.old) }
         ensures fits { IfOk result (λ n. n ≤ length out.old) }
         ensures size { ⟦<MemPort as Disk>⟧.size self.new ≡ ⟦<MemPort as Disk>⟧.size self.old }
-        ensures seen { ⟦<MemPort as Disk>⟧.is_modelled → ⟦<MemPort as Disk>⟧.seen self.new ≡ ⟦<MemPort as Disk>⟧.seen self.old }
-        ensures crash { ⟦<MemPort as Disk>⟧.is_modelled → SameHoldings (⟦<MemPort as Disk>⟧.may_leave self.old) (⟦<MemPort as Disk>⟧.may_leave self.new) }
-        ensures told { ⟦<MemPort as Disk>⟧.is_modelled → ⟦<MemPort as Disk>⟧.told self.new ≡ ⟦<MemPort as Disk>⟧.told self.old }
-        ensures time { ⟦<MemPort as Disk>⟧.is_modelled → Adds ⟦<MemPort as Disk>⟧.moment ⟦<MemPort as Disk>⟧.outcomes self.old self.new Nothing }
-        ensures counts { NoFewer (⟦<MemPort as Disk>⟧.faults self.old) (⟦<MemPort as Disk>⟧.faults self.new) }
+        ensures seen { ⟦<MemPort as Disk>⟧.is_modelled
+            → ⟦<MemPort as Disk>⟧.seen self.new ≡ ⟦<MemPort as Disk>⟧.seen self.old }
+        ensures crash { ⟦<MemPort as Disk>⟧.is_modelled
+            → SameHoldings (⟦<MemPort as Disk>⟧.may_leave self.old)
+            (⟦<MemPort as Disk>⟧.may_leave self.new) }
+        ensures told { ⟦<MemPort as Disk>⟧.is_modelled
+            → ⟦<MemPort as Disk>⟧.told self.new ≡ ⟦<MemPort as Disk>⟧.told self.old }
+        ensures time { ⟦<MemPort as Disk>⟧.is_modelled
+            → Adds ⟦<MemPort as Disk>⟧.moment ⟦<MemPort as Disk>⟧.outcomes self.old self.new
+            Nothing }
+        ensures counts { NoFewer (⟦<MemPort as Disk>⟧.faults self.old)
+            (⟦<MemPort as Disk>⟧.faults self.new) }
         ensures kind { IsErrOf result PortFault.Sink → ⊥ }
-        ensures steady { OnOk result (⟦<MemPort as Disk>⟧.faults self.new ≡ ⟦<MemPort as Disk>⟧.faults self.old) }
-        ensures cause { OnErr result (Rose (⟦<MemPort as Disk>⟧.faults self.old).source (⟦<MemPort as Disk>⟧.faults self.new).source) }
+        ensures steady { OnOk result
+            (⟦<MemPort as Disk>⟧.faults self.new ≡ ⟦<MemPort as Disk>⟧.faults self.old) }
+        ensures cause { OnErr result (Rose (⟦<MemPort as Disk>⟧.faults self.old).source
+            (⟦<MemPort as Disk>⟧.faults self.new).source) }
         // It fails exactly where it is listed, or memory was refused.
-        ensures failed { ⟦<MemPort as Disk>⟧.is_modelled → OnErr result (⟦<MemPort as Disk>⟧.input_left self.new ≡ ⟦<MemPort as Disk>⟧.input_left self.old) }
+        ensures failed { ⟦<MemPort as Disk>⟧.is_modelled
+            → OnErr result
+            (⟦<MemPort as Disk>⟧.input_left self.new ≡ ⟦<MemPort as Disk>⟧.input_left self.old) }
         ensures fed { self.old.starved ≤ self.new.starved }
-        ensures only { OnErr result (IsHearListed self.old ⊎ Rose self.old.starved self.new.starved) }
+        ensures only { OnErr result
+            (IsHearListed self.old ⊎ Rose self.old.starved self.new.starved) }
         ensures fails { IsHearListed self.old → IsErr result }
         ensures numbered { IsHearCall self.old self.new }
     {
@@ -490,23 +583,41 @@ impl Port for MemPort {
     }
 
     fn say(&mut self, from: &[u8]) -> Result<usize, PortFault>
-        ensures bytes { ⟦<MemPort as Disk>⟧.is_modelled → IfOk result (λ n. ⟦<MemPort as Disk>⟧.told self.new ≡ ⟦<MemPort as Disk>⟧.told self.old ++ take n from.now) }
+        ensures bytes { ⟦<MemPort as Disk>⟧.is_modelled
+            → IfOk result (λ n. ⟦<MemPort as Disk>⟧.told self.new
+            ≡ ⟦<MemPort as Disk>⟧.told self.old
+            ++ take n from.now) }
         ensures fits { IfOk result (λ n. n ≤ length from.now) }
         ensures some { IfOk result (λ n. n ≡ 0 → length from.now ≡ 0) }
-        ensures failed { ⟦<MemPort as Disk>⟧.is_modelled → (n : ℕ) × (⟦<MemPort as Disk>⟧.told self.new ≡ ⟦<MemPort as Disk>⟧.told self.old ++ take n from.now) }
+        ensures failed { ⟦<MemPort as Disk>⟧.is_modelled
+            → (n : ℕ)
+            × (⟦<MemPort as Disk>⟧.told self.new ≡ ⟦<MemPort as Disk>⟧.told self.old
+            ++ take n from.now) }
         ensures size { ⟦<MemPort as Disk>⟧.size self.new ≡ ⟦<MemPort as Disk>⟧.size self.old }
-        ensures seen { ⟦<MemPort as Disk>⟧.is_modelled → ⟦<MemPort as Disk>⟧.seen self.new ≡ ⟦<MemPort as Disk>⟧.seen self.old }
-        ensures crash { ⟦<MemPort as Disk>⟧.is_modelled → SameHoldings (⟦<MemPort as Disk>⟧.may_leave self.old) (⟦<MemPort as Disk>⟧.may_leave self.new) }
-        ensures left { ⟦<MemPort as Disk>⟧.is_modelled → ⟦<MemPort as Disk>⟧.input_left self.new ≡ ⟦<MemPort as Disk>⟧.input_left self.old }
-        ensures heard { ⟦<MemPort as Disk>⟧.is_modelled → ⟦<MemPort as Disk>⟧.heard self.new ≡ ⟦<MemPort as Disk>⟧.heard self.old }
-        ensures time { ⟦<MemPort as Disk>⟧.is_modelled → Adds ⟦<MemPort as Disk>⟧.moment ⟦<MemPort as Disk>⟧.outcomes self.old self.new (LeavesSaying (⟦<MemPort as Disk>⟧.told self.old) from.now (⟦<MemPort as Disk>⟧.may_leave self.old)) }
-        ensures counts { NoFewer (⟦<MemPort as Disk>⟧.faults self.old) (⟦<MemPort as Disk>⟧.faults self.new) }
+        ensures seen { ⟦<MemPort as Disk>⟧.is_modelled
+            → ⟦<MemPort as Disk>⟧.seen self.new ≡ ⟦<MemPort as Disk>⟧.seen self.old }
+        ensures crash { ⟦<MemPort as Disk>⟧.is_modelled
+            → SameHoldings (⟦<MemPort as Disk>⟧.may_leave self.old)
+            (⟦<MemPort as Disk>⟧.may_leave self.new) }
+        ensures left { ⟦<MemPort as Disk>⟧.is_modelled
+            → ⟦<MemPort as Disk>⟧.input_left self.new ≡ ⟦<MemPort as Disk>⟧.input_left self.old }
+        ensures heard { ⟦<MemPort as Disk>⟧.is_modelled
+            → ⟦<MemPort as Disk>⟧.heard self.new ≡ ⟦<MemPort as Disk>⟧.heard self.old }
+        ensures time { ⟦<MemPort as Disk>⟧.is_modelled
+            → Adds ⟦<MemPort as Disk>⟧.moment ⟦<MemPort as Disk>⟧.outcomes self.old self.new
+            (LeavesSaying (⟦<MemPort as Disk>⟧.told self.old) from.now
+            (⟦<MemPort as Disk>⟧.may_leave self.old)) }
+        ensures counts { NoFewer (⟦<MemPort as Disk>⟧.faults self.old)
+            (⟦<MemPort as Disk>⟧.faults self.new) }
         ensures kind { IsErrOf result PortFault.Source → ⊥ }
-        ensures steady { OnOk result (⟦<MemPort as Disk>⟧.faults self.new ≡ ⟦<MemPort as Disk>⟧.faults self.old) }
-        ensures cause { OnErr result (Rose (⟦<MemPort as Disk>⟧.faults self.old).sink (⟦<MemPort as Disk>⟧.faults self.new).sink) }
+        ensures steady { OnOk result
+            (⟦<MemPort as Disk>⟧.faults self.new ≡ ⟦<MemPort as Disk>⟧.faults self.old) }
+        ensures cause { OnErr result (Rose (⟦<MemPort as Disk>⟧.faults self.old).sink
+            (⟦<MemPort as Disk>⟧.faults self.new).sink) }
         // It fails exactly where it is listed, or memory was refused.
         ensures fed { self.old.starved ≤ self.new.starved }
-        ensures only { OnErr result (IsSayListed self.old ⊎ Rose self.old.starved self.new.starved) }
+        ensures only { OnErr result
+            (IsSayListed self.old ⊎ Rose self.old.starved self.new.starved) }
         ensures fails { IsSayListed self.old → IsErr result }
         ensures numbered { IsSayCall self.old self.new }
     {

@@ -1,5 +1,27 @@
 -- The events of a stream, as a function of where it stands and of the bytes that have come.
-use Rattle.std.specs.Prelude.{◌≡◌, ℕ, ◌+◌, ◌-◌, ◌<◌, ◌≤◌, min, List, [], ◌++◌, length, take, drop, slice_range, ◌==◌, ◌&&◌, nat_lt, if◌then◌else◌, Result, Ok, Err}
+use Rattle.std.specs.Prelude.{
+  ◌≡◌,
+  ℕ,
+  ◌+◌,
+  ◌-◌,
+  ◌<◌,
+  ◌≤◌,
+  min,
+  List,
+  [],
+  ◌++◌,
+  length,
+  take,
+  drop,
+  slice_range,
+  ◌==◌,
+  ◌&&◌,
+  nat_lt,
+  if◌then◌else◌,
+  Result,
+  Ok,
+  Err,
+}
 use Rattle.std.specs.Int.{w64, from_be_bytes, to_be_bytes}
 use Rattle.vab_fbtcp.specs.Hello.{is_hello, version_of}
 use Rattle.vab_fbtcp.specs.declared.event.Event.{Event}
@@ -16,11 +38,21 @@ pub data Found : Type 0 where
   Part : (count : ℕ) → Found
   More : Found
 
--- what comes next: `due` bytes are wanted of a data phase, and these bytes have come and aren't taken yet
+-- what comes next: `due` bytes are wanted of a data phase, and these bytes have come and aren't
+-- taken yet
 abbrev pub next_of : ℕ → Place → List ℕ → Result Found FrameFault
-next_of due Hello bytes = if nat_lt (length bytes) 4 then Ok More else (if is_hello (take 4 bytes) then Ok (Version (version_of (take 4 bytes))) else Err BadHello)
-next_of due Length bytes = if nat_lt (length bytes) 8 then Ok More else (if due == 0 && nat_lt 4096 (from_be_bytes w64 (take 8 bytes)) then Err (TooLong (from_be_bytes w64 (take 8 bytes))) else Ok (Header (from_be_bytes w64 (take 8 bytes))))
-next_of due (Body left) bytes = if length bytes == 0 then Ok More else Ok (Part (min left (length bytes)))
+next_of due Hello bytes =
+    if nat_lt (length bytes) 4 then Ok More
+    else
+    (if is_hello (take 4 bytes) then Ok (Version (version_of (take 4 bytes))) else Err BadHello)
+next_of due Length bytes =
+    if nat_lt (length bytes) 8 then Ok More
+    else (if due == 0
+    && nat_lt 4096 (from_be_bytes w64 (take 8 bytes)) then Err
+    (TooLong (from_be_bytes w64 (take 8 bytes)))
+    else Ok (Header (from_be_bytes w64 (take 8 bytes))))
+next_of due (Body left) bytes =
+    if length bytes == 0 then Ok More else Ok (Part (min left (length bytes)))
 
 -- an event as what was found
 abbrev pub found_of : Event → Found
@@ -60,21 +92,35 @@ IsIdle Hello bytes = length bytes < 4
 IsIdle Length bytes = length bytes < 8
 IsIdle (Body left) bytes = bytes ≡ []
 
--- a length is spelled by the next eight bytes of the stream, and the bytes of a piece are the next ones
+-- a length is spelled by the next eight bytes of the stream, and the bytes of a piece are the next
+-- ones
 abbrev pub IsPart : Event → List ℕ → List ℕ → Type 0
-IsPart (events.Piece range) piece bytes = (slice_range piece range.start range.end ≡ take (range.end - range.start) bytes) × (range.start < range.end) × (range.end ≤ length piece)
+IsPart (events.Piece range) piece bytes =
+    (slice_range piece range.start range.end ≡ take (range.end - range.start) bytes)
+    × (range.start < range.end)
+    × (range.end ≤ length piece)
 IsPart (events.Hello version) piece bytes = Unit {0}
 IsPart (events.Head length) piece bytes = take 8 bytes ≡ to_be_bytes w64 length
 IsPart events.NeedMore piece bytes = Unit {0}
 
 -- Whatever comes later, the hello and a length that are there stay what they are.
 abbrev pub LaterBytesKeepIt : Type 0
-LaterBytesKeepIt = (due : ℕ) (bytes later : List ℕ) → (4 ≤ length bytes → next_of due Hello (bytes ++ later) ≡ next_of due Hello bytes) × (8 ≤ length bytes → next_of due Length (bytes ++ later) ≡ next_of due Length bytes)
+LaterBytesKeepIt =
+    (due : ℕ) (bytes later : List ℕ)
+    → (4 ≤ length bytes → next_of due Hello (bytes ++ later) ≡ next_of due Hello bytes)
+    × (8 ≤ length bytes → next_of due Length (bytes ++ later) ≡ next_of due Length bytes)
 
--- Bytes of a packet that come at once are one part, and where they come in two pieces they are two: they end at the
--- same place.
+-- Bytes of a packet that come at once are one part, and where they come in two pieces they are two:
+-- they end at the same place.
 abbrev pub PartsJoin : Type 0
-PartsJoin = (due left : ℕ) (bytes later : List ℕ) → 0 < length bytes → length bytes < left → 0 < length later → (count : ℕ) → next_of due (Body (left - length bytes)) later ≡ Ok (Part count)
+PartsJoin =
+    (due left : ℕ) (bytes later : List ℕ)
+    → 0 < length bytes
+    → length bytes < left
+    → 0 < length later
+    → (count : ℕ)
+    → next_of due (Body (left - length bytes)) later ≡ Ok (Part count)
     → (next_of due (Body left) (bytes ++ later) ≡ Ok (Part (length bytes + count)))
-    × (place_after (Body left) (Part (length bytes + count)) ≡ place_after (Body (left - length bytes)) (Part count))
+    × (place_after (Body left) (Part (length bytes + count))
+    ≡ place_after (Body (left - length bytes)) (Part count))
     × (drop (length bytes + count) (bytes ++ later) ≡ drop count later)

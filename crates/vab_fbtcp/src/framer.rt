@@ -1,9 +1,12 @@
 // The framer: bytes in pieces of any size go in, events come out.
-ghost use Rattle.std.specs.Prelude.{◌≡◌, ◌≢◌, ◌<◌, ◌≤◌, ◌+◌, ◌-◌, ◌++◌, ℕ, List, [], length, take, drop, slice_range, IfOk, OnOk, OnErr, IsTrue, ◌↔◌, if◌then◌else◌};
+ghost use Rattle.std.specs.Prelude.{◌≡◌, ◌≢◌, ◌<◌, ◌≤◌, ◌+◌, ◌-◌, ◌++◌, ℕ, List, [], length, take};
+ghost use Rattle.std.specs.Prelude.{drop, slice_range, IfOk, OnOk, OnErr, IsTrue, ◌↔◌};
+ghost use Rattle.std.specs.Prelude.{if◌then◌else◌};
 ghost use Rattle.std.specs.Bool.{OnTrue, OnFalse};
 ghost use Rattle.std.specs.Int.{w64, from_be_bytes, to_be_bytes};
 ghost use Rattle.vab_fbtcp.specs.Hello.{is_hello, version_of};
-ghost use Rattle.vab_fbtcp.specs.Frame.{next_of, found_of, place_after, body_place, bytes_of, MapsTo, IsIdle, IsPart, LaterBytesKeepIt, PartsJoin};
+ghost use Rattle.vab_fbtcp.specs.Frame.{next_of, found_of, place_after, body_place, bytes_of};
+ghost use Rattle.vab_fbtcp.specs.Frame.{MapsTo, IsIdle, IsPart, LaterBytesKeepIt, PartsJoin};
 ghost use Rattle.vab_fbtcp.specs.declared.event.Place.TheVariants.{Hello, Length, Body};
 
 use crate::{Event, FrameFault, Place};
@@ -35,7 +38,9 @@ fn gather(held: &mut ArrayVec<u8, 8>, piece: &[u8], at: &mut usize, want: usize)
     requires room { want ≤ 8 }
     requires within { at.old ≤ length piece.now }
     ensures within { at.new ≤ length piece.now }
-    ensures same { held.new.items ++ drop at.new piece.now ≡ held.old.items ++ drop at.old piece.now }
+    ensures same { held.new.items
+        ++ drop at.new piece.now ≡ held.old.items
+        ++ drop at.old piece.now }
     ensures full { IsTrue result → length held.new.items ≡ want }
     ensures more { OnFalse result ((length held.new.items < want) × (at.new ≡ length piece.now)) }
 {
@@ -109,7 +114,8 @@ impl Framer {
         }
     }
 
-    /// Takes the next piece of the stream: 1 to 4096 bytes, once the bytes fed before hold no further event.
+    /// Takes the next piece of the stream: 1 to 4096 bytes, once the bytes fed before hold no
+    /// further event.
     pub fn feed(&mut self, piece: &[u8])
         requires idle { IsIdle (place_of self.old) (unread_of self.old) }
         requires some { 0 < length piece.now }
@@ -136,17 +142,25 @@ impl Framer {
 
     /// The next event. `due` is how many bytes a data phase still wants, 0 outside one.
     ///
-    /// `BadHello` comes exactly where the four bytes of the hello are there and aren't one. `TooLong` comes exactly
-    /// where a length above 4096 is there and `due` is 0. After a fault the framer gives the same fault again.
+    /// `BadHello` comes exactly where the four bytes of the hello are there and aren't one.
+    /// `TooLong` comes exactly
+    /// where a length above 4096 is there and `due` is 0. After a fault the framer gives the same
+    /// fault again.
     pub fn next(&mut self, due: u64) -> Result<Event, FrameFault>
-        ensures event { MapsTo found_of result (next_of due (place_of self.old) (unread_of self.old)) }
-        ensures place { IfOk result (λ event. place_of self.new ≡ place_after (place_of self.old) (found_of event)) }
-        ensures unread { IfOk result (λ event. unread_of self.new ≡ drop (bytes_of (found_of event)) (unread_of self.old)) }
-        ensures part { IfOk result (λ event. IsPart event (piece_of self.old) (unread_of self.old)) }
-        ensures err { OnErr result ((place_of self.new ≡ place_of self.old) × (unread_of self.new ≡ unread_of self.old)) }
+        ensures event { MapsTo found_of result
+            (next_of due (place_of self.old) (unread_of self.old)) }
+        ensures place { IfOk result
+            (λ event. place_of self.new ≡ place_after (place_of self.old) (found_of event)) }
+        ensures unread { IfOk result
+            (λ event. unread_of self.new ≡ drop (bytes_of (found_of event)) (unread_of self.old)) }
+        ensures part { IfOk result
+            (λ event. IsPart event (piece_of self.old) (unread_of self.old)) }
+        ensures err { OnErr result
+            ((place_of self.new ≡ place_of self.old) × (unread_of self.new ≡ unread_of self.old)) }
         ensures piece { piece_of self.new ≡ piece_of self.old }
         // After `NeedMore` the next piece may come.
-        ensures idle { IfOk result (λ event. event ≡ Event.NeedMore → IsIdle (place_of self.new) (unread_of self.new)) }
+        ensures idle { IfOk result
+            (λ event. event ≡ Event.NeedMore → IsIdle (place_of self.new) (unread_of self.new)) }
     {
         match self.place {
             Place::Hello => self.next_hello(),
@@ -159,12 +173,17 @@ impl Framer {
     fn next_hello(&mut self) -> Result<Event, FrameFault>
         requires { place_of self.old ≡ Hello }
         ensures event { MapsTo found_of result (next_of 0 Hello (unread_of self.old)) }
-        ensures place { IfOk result (λ event. place_of self.new ≡ place_after Hello (found_of event)) }
-        ensures unread { IfOk result (λ event. unread_of self.new ≡ drop (bytes_of (found_of event)) (unread_of self.old)) }
-        ensures part { IfOk result (λ event. IsPart event (piece_of self.old) (unread_of self.old)) }
-        ensures err { OnErr result ((place_of self.new ≡ place_of self.old) × (unread_of self.new ≡ unread_of self.old)) }
+        ensures place { IfOk result
+            (λ event. place_of self.new ≡ place_after Hello (found_of event)) }
+        ensures unread { IfOk result
+            (λ event. unread_of self.new ≡ drop (bytes_of (found_of event)) (unread_of self.old)) }
+        ensures part { IfOk result
+            (λ event. IsPart event (piece_of self.old) (unread_of self.old)) }
+        ensures err { OnErr result
+            ((place_of self.new ≡ place_of self.old) × (unread_of self.new ≡ unread_of self.old)) }
         ensures piece { piece_of self.new ≡ piece_of self.old }
-        ensures idle { IfOk result (λ event. event ≡ Event.NeedMore → IsIdle (place_of self.new) (unread_of self.new)) }
+        ensures idle { IfOk result
+            (λ event. event ≡ Event.NeedMore → IsIdle (place_of self.new) (unread_of self.new)) }
     {
         if !gather(&mut self.held, self.piece.as_slice(), &mut self.at, 4) {
             return Ok(Event::NeedMore);
@@ -183,12 +202,17 @@ impl Framer {
     fn next_length(&mut self, due: u64) -> Result<Event, FrameFault>
         requires { place_of self.old ≡ Length }
         ensures event { MapsTo found_of result (next_of due Length (unread_of self.old)) }
-        ensures place { IfOk result (λ event. place_of self.new ≡ place_after Length (found_of event)) }
-        ensures unread { IfOk result (λ event. unread_of self.new ≡ drop (bytes_of (found_of event)) (unread_of self.old)) }
-        ensures part { IfOk result (λ event. IsPart event (piece_of self.old) (unread_of self.old)) }
-        ensures err { OnErr result ((place_of self.new ≡ place_of self.old) × (unread_of self.new ≡ unread_of self.old)) }
+        ensures place { IfOk result
+            (λ event. place_of self.new ≡ place_after Length (found_of event)) }
+        ensures unread { IfOk result
+            (λ event. unread_of self.new ≡ drop (bytes_of (found_of event)) (unread_of self.old)) }
+        ensures part { IfOk result
+            (λ event. IsPart event (piece_of self.old) (unread_of self.old)) }
+        ensures err { OnErr result
+            ((place_of self.new ≡ place_of self.old) × (unread_of self.new ≡ unread_of self.old)) }
         ensures piece { piece_of self.new ≡ piece_of self.old }
-        ensures idle { IfOk result (λ event. event ≡ Event.NeedMore → IsIdle (place_of self.new) (unread_of self.new)) }
+        ensures idle { IfOk result
+            (λ event. event ≡ Event.NeedMore → IsIdle (place_of self.new) (unread_of self.new)) }
     {
         if !gather(&mut self.held, self.piece.as_slice(), &mut self.at, 8) {
             return Ok(Event::NeedMore);
@@ -207,7 +231,8 @@ impl Framer {
         requires { place_of self.old ≡ Body left }
         ensures event { Ok (found_of result) ≡ next_of 0 (Body left) (unread_of self.old) }
         ensures place { place_of self.new ≡ place_after (Body left) (found_of result) }
-        ensures unread { unread_of self.new ≡ drop (bytes_of (found_of result)) (unread_of self.old) }
+        ensures unread { unread_of self.new
+            ≡ drop (bytes_of (found_of result)) (unread_of self.old) }
         ensures part { IsPart result (piece_of self.old) (unread_of self.old) }
         ensures piece { piece_of self.new ≡ piece_of self.old }
         ensures idle { result ≡ Event.NeedMore → IsIdle (place_of self.new) (unread_of self.new) }

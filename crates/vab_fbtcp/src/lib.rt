@@ -1,5 +1,5 @@
-//! The framing of fastboot over TCP, version 1: a hello of four bytes, then packets, each behind the eight bytes of
-//! its length, the high byte first.
+//! The framing of fastboot over TCP, version 1: a hello of four bytes, then packets, each behind
+//! the eight bytes of its length, the high byte first.
 #![tactic(auto)]
 
 mod event;

@@ -5,11 +5,19 @@ use Rattle.std.specs.Str.{bytes_eq}
 use Rattle.vab_bytes.specs.Number.{field, le_at}
 use Rattle.vab_geometry.specs.declared.geometry.Geometry.{Geometry}
 use Rattle.vab_geometry.specs.declared.geometry.GeometryFault.{GeometryFault}
-use Rattle.vab_geometry.specs.declared.geometry.GeometryFault.TheVariants.{BadMagic, BadSize, BadSum, BadField}
+use Rattle.vab_geometry.specs.declared.geometry.GeometryFault.TheVariants.{
+  BadMagic,
+  BadSize,
+  BadSum,
+  BadField,
+}
 use Rattle.vab_geometry.specs.Geometry.{sum_around}
 
 infixl 10 ◌>>=◌
-abbrev pub ◌>>=◌ : {A B : Type 0} → Result A GeometryFault → (A → Result B GeometryFault) → Result B GeometryFault
+abbrev pub ◌>>=◌ : {A B : Type 0}
+    → Result A GeometryFault
+    → (A → Result B GeometryFault)
+    → Result B GeometryFault
 (Ok x) >>= f = f x
 (Err e) >>= f = Err e
 
@@ -20,7 +28,12 @@ unless false fault = Err fault
 
 -- whether a geometry keeps the rules of its fields
 abbrev pub keeps_rules : Geometry → Bool
-keeps_rules g = g.max % 512 == 0 && nat_le 512 g.max && nat_le g.max 1048576 && nat_le 2 g.slots && nat_le g.slots 8
+keeps_rules g =
+    g.max % 512 == 0
+    && nat_le 512 g.max
+    && nat_le g.max 1048576
+    && nat_le 2 g.slots
+    && nat_le g.slots 8
 
 -- the fields that are kept
 abbrev pub fields_at : List ℕ → Geometry

@@ -40,7 +40,8 @@ impl From<DiskFault> for LoadFault {
 
 fn geometry_at<D: Disk>(d: &mut D, at: u64) -> Result<Result<Geometry, GeometryFault>, DiskFault>
     requires { at < D.size d.old }
-    ensures geometry { D.is_modelled → IfOk result (λ found. found ≡ geometry_of (D.seen d.old at)) }
+    ensures geometry { D.is_modelled
+        → IfOk result (λ found. found ≡ geometry_of (D.seen d.old at)) }
     ensures rules { IfOk result (λ found. IfOk found (λ g. IsGeometry g)) }
     ensures reads { OnlyReads D.Disk d.old d.new }
     ensures faults { FailsWithDisk D.Disk d.old d.new result }

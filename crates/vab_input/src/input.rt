@@ -39,10 +39,14 @@ impl From<AllocError> for InputFault {
     }
 }
 
-// Hears the next piece and puts it behind what was heard. `false`: none comes, since the input has ended.
+// Hears the next piece and puts it behind what was heard. `false`: none comes, since the input has
+// ended.
 fn hear_piece<P: Port>(p: &mut P, heard: &mut Vec<u8>) -> Result<bool, InputFault>
-    ensures bytes { P.is_modelled → OnOk result (heard.new.items ++ P.input_left p.new ≡ heard.old.items ++ P.input_left p.old) }
-    ensures some { IfOk result (λ some. OnTrue some (length heard.old.items < length heard.new.items)) }
+    ensures bytes { P.is_modelled
+        → OnOk result
+        (heard.new.items ++ P.input_left p.new ≡ heard.old.items ++ P.input_left p.old) }
+    ensures some { IfOk result
+        (λ some. OnTrue some (length heard.old.items < length heard.new.items)) }
     ensures none { IfOk result (λ some. OnFalse some (heard.new.items ≡ heard.old.items)) }
     ensures end { P.is_modelled → IfOk result (λ some. OnFalse some (P.input_left p.old ≡ [])) }
     ensures size { P.size p.new ≡ P.size p.old }
@@ -52,7 +56,8 @@ fn hear_piece<P: Port>(p: &mut P, heard: &mut Vec<u8>) -> Result<bool, InputFaul
     ensures time { P.is_modelled → Adds P.moment P.outcomes p.old p.new Nothing }
     ensures counts { NoFewer (P.faults p.old) (P.faults p.new) }
     ensures kind { IsErrOf result InputFault.TooLong → ⊥ }
-    ensures cause { IsErrOf result InputFault.Source → Rose (P.faults p.old).source (P.faults p.new).source }
+    ensures cause { IsErrOf result InputFault.Source
+        → Rose (P.faults p.old).source (P.faults p.new).source }
 {
     let mut piece = [0u8; 4096];
     let count = p.hear(&mut piece)?;
@@ -60,18 +65,22 @@ fn hear_piece<P: Port>(p: &mut P, heard: &mut Vec<u8>) -> Result<bool, InputFaul
     Ok(count > 0)
 }
 
-/// Hears the input to its end, of at most `most` bytes. `TooLong` comes once more than `most` bytes are heard.
+/// Hears the input to its end, of at most `most` bytes. `TooLong` comes once more than `most` bytes
+/// are heard.
 pub fn hear_all<P: Port>(alloc: Global, p: &mut P, most: u64) -> Result<Vec<u8>, InputFault>
     ensures bytes { P.is_modelled → IfOk result (λ v. v.items ≡ P.input_left p.old) }
     ensures fits { IfOk result (λ v. length v.items ≤ most) }
-    ensures long { P.is_modelled → IsErrOf result InputFault.TooLong → most < length (P.input_left p.old) }
+    ensures long { P.is_modelled
+        → IsErrOf result InputFault.TooLong
+        → most < length (P.input_left p.old) }
     ensures size { P.size p.new ≡ P.size p.old }
     ensures seen { P.is_modelled → P.seen p.new ≡ P.seen p.old }
     ensures crash { P.is_modelled → SameHoldings (P.may_leave p.old) (P.may_leave p.new) }
     ensures told { P.is_modelled → P.told p.new ≡ P.told p.old }
     ensures time { P.is_modelled → Adds P.moment P.outcomes p.old p.new Nothing }
     ensures counts { NoFewer (P.faults p.old) (P.faults p.new) }
-    ensures cause { IsErrOf result InputFault.Source → Rose (P.faults p.old).source (P.faults p.new).source }
+    ensures cause { IsErrOf result InputFault.Source
+        → Rose (P.faults p.old).source (P.faults p.new).source }
 {
     let mut heard = Vec::new(alloc);
     while hear_piece(p, &mut heard)? {

@@ -15,8 +15,8 @@ struct Run {
     blocks: u64,
 }
 
-/// A partition: runs of blocks of 4096 bytes, one after another. Contracts see the list of its blocks, each as its
-/// first sector of 512 bytes.
+/// A partition: runs of blocks of 4096 bytes, one after another. Contracts see the list of its
+/// blocks, each as its first sector of 512 bytes.
 #[derive(Drop)]
 pub struct Map {
     runs: Vec<Run>,
@@ -36,8 +36,8 @@ impl Model for Map {
 }
 
 impl Map {
-    /// The partition of these runs in this order, each a pair of its first sector and its length in sectors.
-    /// Sectors after the last whole block of a run are no part of it.
+    /// The partition of these runs in this order, each a pair of its first sector and its length in
+    /// sectors. Sectors after the last whole block of a run are no part of it.
     pub fn new(alloc: Global, runs: &[(u64, u64)]) -> Result<Map, NoMemory>
         requires ends { All (λ r. r.0 + r.1 < 2 ^ 63) runs.now }
         requires sum { sum_by (λ r. r.1) runs.now < 2 ^ 63 }

@@ -1,17 +1,34 @@
 -- The lines that are told of making a device.
 use Rattle.std.specs.Prelude.{ℕ, List, [], ◌++◌, codes, decimal}
 use Rattle.vab_make.specs.declared.fault.MakeFault.{MakeFault}
-use Rattle.vab_make.specs.declared.fault.MakeFault.TheVariants.{TooSmall, GroupLimit, NoRoom, TableFull, NoMemory, Disk}
+use Rattle.vab_make.specs.declared.fault.MakeFault.TheVariants.{
+  TooSmall,
+  GroupLimit,
+  NoRoom,
+  TableFull,
+  NoMemory,
+  Disk,
+}
 
 -- a device is made
 unfoldable pub made_line : ℕ → ℕ → ℕ → List ℕ
-made_line images used cap = codes "made " ++ decimal images ++ codes " images, " ++ decimal used ++ codes " of " ++ decimal cap ++ codes " blocks\n"
+made_line images used cap =
+    codes "made "
+    ++ decimal images
+    ++ codes " images, "
+    ++ decimal used
+    ++ codes " of "
+    ++ decimal cap
+    ++ codes " blocks\n"
 
 -- why a set of images is refused; the other faults refuse none
 unfoldable pub make_refusal : MakeFault → List ℕ
-make_refusal (GroupLimit used limit) = codes "group limit: " ++ decimal used ++ codes " of " ++ decimal limit ++ codes " bytes"
-make_refusal (NoRoom used cap) = codes "no room: " ++ decimal used ++ codes " of " ++ decimal cap ++ codes " blocks"
-make_refusal (TableFull size most) = codes "table full: " ++ decimal size ++ codes " of " ++ decimal most ++ codes " bytes"
+make_refusal (GroupLimit used limit) =
+    codes "group limit: " ++ decimal used ++ codes " of " ++ decimal limit ++ codes " bytes"
+make_refusal (NoRoom used cap) =
+    codes "no room: " ++ decimal used ++ codes " of " ++ decimal cap ++ codes " blocks"
+make_refusal (TableFull size most) =
+    codes "table full: " ++ decimal size ++ codes " of " ++ decimal most ++ codes " bytes"
 make_refusal (TooSmall needed had) = []
 make_refusal NoMemory = []
 make_refusal (Disk fault) = []

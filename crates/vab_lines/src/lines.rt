@@ -20,7 +20,8 @@ fn put_share(head: &[u8], used: u64, most: u64, unit: &[u8], out: &mut ArrayVec<
     requires head { length head.now ≤ 16 }
     requires unit { length unit.now ≤ 16 }
     requires room { length out.old.items + 76 ≤ 128 }
-    ensures text { out.new.items ≡ out.old.items ++ (head.now ++ decimal used ++ codes " of " ++ decimal most ++ unit.now) }
+    ensures text { out.new.items ≡ out.old.items
+        ++ (head.now ++ decimal used ++ codes " of " ++ decimal most ++ unit.now) }
     ensures short { length out.new.items ≤ length out.old.items + 76 }
 {
     put(head, out);
@@ -30,7 +31,8 @@ fn put_share(head: &[u8], used: u64, most: u64, unit: &[u8], out: &mut ArrayVec<
     put(unit, out);
 }
 
-/// The line for a device that is made: how many images it has, and how many blocks of 4096 bytes they fill, of how many.
+/// The line for a device that is made: how many images it has, and how many blocks of 4096 bytes
+/// they fill, of how many.
 #[tactic(auto, unfolding(crate::specs::Lines::made_line))]
 pub fn made_line(images: u64, used: u64, cap: u64, out: &mut ArrayVec<u8, 128>)
     requires { out.old.items ≡ [] }
@@ -60,7 +62,8 @@ fn put_refusal(fault: &MakeFault, out: &mut ArrayVec<u8, 128>)
     }
 }
 
-/// The line for a set of images that is refused. A fault that refuses no set leaves the reason empty.
+/// The line for a set of images that is refused. A fault that refuses no set leaves the reason
+/// empty.
 pub fn make_refused_line(fault: &MakeFault, out: &mut ArrayVec<u8, 128>)
     requires { out.old.items ≡ [] }
     ensures { out.new.items ≡ texts.refused_line (texts.make_refusal fault.now) }

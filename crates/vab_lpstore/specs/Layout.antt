@@ -1,4 +1,5 @@
--- Where the copies of a slot's table stand: behind the geometries, first the primary tables of all slots and then the backups.
+-- Where the copies of a slot's table stand: behind the geometries, first the primary tables of all
+-- slots and then the backups.
 use Rattle.std.specs.Prelude.{◌≡◌, ℕ, ◌+◌, ◌*◌, ◌/◌, List, length, take, max}
 use Rattle.vab_disk.specs.Disk.{Image}
 use Rattle.vab_gate.specs.Gate.{sectors_at}

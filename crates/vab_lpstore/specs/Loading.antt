@@ -13,20 +13,25 @@ use Rattle.vab_lpstore.specs.declared.loaded.LoadFault.TheVariants.{BothBad, NoM
 use Rattle.vab_lpstore.specs.Layout.{primary_bytes, backup_bytes, Begins}
 
 -- the first, or else the second, or else both faults
-abbrev pub first_of : Result Table TableFault → Result Table TableFault → Result Table (TableFault × TableFault)
+abbrev pub first_of : Result Table TableFault
+    → Result Table TableFault
+    → Result Table (TableFault × TableFault)
 first_of (Ok t) backup = Ok t
 first_of (Err f) (Ok t) = Ok t
 first_of (Err f) (Err h) = Err (f, h)
 
 -- a slot's table is the primary's, or where that is no table's text the backup's
 unfoldable pub slot_table : Geometry → ℕ → Image → Result Table (TableFault × TableFault)
-slot_table g slot image = first_of (table_of g.max (primary_bytes g slot image)) (table_of g.max (backup_bytes g slot image))
+slot_table g slot image =
+    first_of (table_of g.max (primary_bytes g slot image))
+    (table_of g.max (backup_bytes g slot image))
 
 -- it is no table's text
 abbrev pub IsNoTable : ℕ → List ℕ → Type 0
 IsNoTable max bytes = (f : TableFault) × (table_of max bytes ≡ Err f)
 
--- What is loaded of two copies: the text of the table, and which copies hold it. It is the primary's, or where that is none the backup's.
+-- What is loaded of two copies: the text of the table, and which copies hold it. It is the
+-- primary's, or where that is none the backup's.
 pub record IsLoaded (max : ℕ) (primary backup : List ℕ) (l : Loaded) : Type 0 where
   pub text : IsTableText max l.text l.table
   pub whole : length l.text ≡ text_size_of l.text
@@ -34,7 +39,8 @@ pub record IsLoaded (max : ℕ) (primary backup : List ℕ) (l : Loaded) : Type 
   pub in_backup : IsTrue l.backup ↔ Begins backup l.text
   pub first : Begins primary l.text ⊎ (Begins backup l.text × IsNoTable max primary)
 
--- What a function returned is what two copies say, unless the disk has failed or memory was refused.
+-- What a function returned is what two copies say, unless the disk has failed or memory was
+-- refused.
 abbrev pub Gives : Result Loaded LoadFault → Result Table (TableFault × TableFault) → Type 0
 Gives (Ok l) said = said ≡ Ok l.table
 Gives (Err (BothBad f h)) said = said ≡ Err (f, h)

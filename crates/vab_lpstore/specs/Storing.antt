@@ -15,8 +15,10 @@ IsOfTable g slot text =
 
 -- what a repair writes, where the primary and the backup hold the text or not: the one that doesn't
 abbrev pub IsOfRepair : Bool → Bool → Geometry → ℕ → List ℕ → ℕ → List ℕ → Type 0
-IsOfRepair false backup g slot text s b = IsOfCopy (text_sectors (length text)) (primary_of g slot) text s b
-IsOfRepair true false g slot text s b = IsOfText 0 (text_sectors (length text)) (backup_of g slot) text s b
+IsOfRepair false backup g slot text s b =
+    IsOfCopy (text_sectors (length text)) (primary_of g slot) text s b
+IsOfRepair true false g slot text s b =
+    IsOfText 0 (text_sectors (length text)) (backup_of g slot) text s b
 IsOfRepair true true g slot text s b = ⊥
 
 -- all but n sectors of both copies is as before

@@ -35,7 +35,8 @@ pub fn choose(
     backup: Vec<u8>,
     max: u32,
 ) -> Result<Loaded, LoadFault>
-    ensures table { Gives result (first_of (table_of max primary.items) (table_of max backup.items)) }
+    ensures table { Gives result
+        (first_of (table_of max primary.items) (table_of max backup.items)) }
     ensures loaded { IfOk result (λ l. IsLoaded max primary.items backup.items l) }
     ensures faults { AreFaults result }
     ensures disk { IsDiskFault result → ⊥ }

@@ -1,4 +1,5 @@
-//! The tables of logical partitions on a disk: each slot's stands in two copies, of which one is always whole.
+//! The tables of logical partitions on a disk: each slot's stands in two copies, of which one is
+//! always whole.
 #![tactic(auto)]
 
 mod judge;

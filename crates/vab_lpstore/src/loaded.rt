@@ -5,8 +5,8 @@ use vab_copies::ReadFault;
 use vab_gate::DiskFault;
 use vab_tables::{Table, TableFault};
 
-/// A slot's table, its text, and which of its two copies hold this text. What stands behind the text in a
-/// copy is not looked at.
+/// A slot's table, its text, and which of its two copies hold this text. What stands behind the
+/// text in a copy is not looked at.
 #[derive(Drop)]
 pub struct Loaded {
     pub table: Table,

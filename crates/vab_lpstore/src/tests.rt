@@ -6,7 +6,8 @@ use vab_disk::{Disk, MemPort};
 use vab_geometry::Geometry;
 use vab_tables::TableFault;
 
-// Two slots with copies of two sectors: slot 0 has its primary in sector 4120, and its backup in sector 4124.
+// Two slots with copies of two sectors: slot 0 has its primary in sector 4120, and its backup in
+// sector 4124.
 const GEOMETRY: Geometry = Geometry {
     max: 1024,
     slots: 2,

@@ -1,4 +1,5 @@
-// Texts of tables, made outside from the public format: minor 0, a block device of 4 MiB, and groups.
+// Texts of tables, made outside from the public format: minor 0, a block device of 4 MiB, and
+// groups.
 
 /// The one group `default`.
 pub const ONE_GROUP: [u8; 240] = [

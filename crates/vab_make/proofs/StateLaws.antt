@@ -1,6 +1,7 @@
 -- A disk with all the parts of the device is the device.
-use Rattle.std.proofs.Common.{◌≡◌, ℕ, suc, ◌+◌, ◌*◌, ◌<◌, ◌≤◌, ◌^◌, true, leb, List, [], ◌∷◌, length, get_or, take, codes, Some, Ok, refl, ap, ◌∙◌, arith}
-use Rattle.std.specs.Prelude.{All, map}
+use Rattle.std.proofs.Common.{◌≡◌, ◌∙◌, ℕ, suc, ◌+◌, ◌*◌, ◌<◌, ◌≤◌, ◌^◌, true, false, leb, List, []}
+use Rattle.std.proofs.Common.{◌∷◌, length, get_or, take, codes, Result, Ok, refl, ap, arith}
+use Rattle.std.specs.Prelude.{All, map, Some, None}
 use Rattle.std.specs.List.{range_with_len}
 use Rattle.std.proofs.lemmas.Bool.{le-leb, and_from}
 use Rattle.std.proofs.lemmas.List.Elements.{All-head, All-tail}
@@ -9,9 +10,9 @@ use Rattle.vab_disk.specs.Disk.{Image}
 use Rattle.vab_names.specs.Names.{is_of_slot, base_of}
 use Rattle.vab_names.specs.NameLaws.{base_of-append}
 use Rattle.vab_space.specs.Space.{blocks_of}
-use Rattle.vab_bootctl.specs.Control.{control_of}
 use Rattle.vab_marks.specs.declared.mark.UpdateMark.{UpdateMark}
 use Rattle.vab_marks.specs.declared.mark.MarkPhase.TheVariants as marks
+use Rattle.vab_marks.specs.declared.sector.MarkFault.{MarkFault}
 use Rattle.vab_marks.specs.Mark.{mark_of}
 use Rattle.vab_geometry.specs.declared.geometry.Geometry.{Geometry}
 use Rattle.vab_geometry.specs.Geometry.{IsGeometry}
@@ -21,19 +22,30 @@ use Rattle.vab_lpstore.specs.Layout.{copy_sectors, text_sectors}
 use Rattle.vab_lpstore.proofs.StoreLaws.{both_table, text_fits}
 use Rattle.vab_set.specs.declared.set.SetImage.{SetImage}
 use Rattle.vab_set.specs.Spelling.{IsImage}
+use Rattle.vab_tables.specs.declared.entries.Group.{Group}
+use Rattle.vab_tables.specs.Rules.{cap_of}
 use Rattle.vab_layout.specs.declared.layout.Layout.{Layout}
 use Rattle.vab_layout.specs.Layout.{layout_of, table_of}
+use Rattle.vab_layout.specs.Plain.{plain}
 use Rattle.vab_layout.proofs.LayoutLaws.{layout_again}
-use Rattle.vab_layout.specs.Slots.{own_parts}
 use Rattle.vab_model.specs.declared.state.Image.{Image as ImageOfSlot}
 use Rattle.vab_model.specs.declared.state.GroupLimit.{GroupLimit}
-use Rattle.vab_model.specs.declared.state.State.{State}
-use Rattle.vab_device.specs.Device.{mark_read, slot_in, control_read, control_in, geometry_read, geometry_at, super_bytes, copies_end, lies_in, layout_read, layout_at, bytes_of, image_of, limits_of, state_of, judged}
-use Rattle.vab_device.proofs.DeviceLaws.{device_read, places_read}
-use Rattle.vab_make.specs.Made.{parts_from, made_layout, made_geometry, made_places, made_control, filled, made_image, made_state, set_blocks}
+use Rattle.vab_model.specs.declared.state.Phase.TheVariants as phases
+use Rattle.vab_device.specs.declared.device.Part.{Part}
+use Rattle.vab_device.specs.Idle.{idle_read}
+use Rattle.vab_device.specs.Kept.{sectors_of, part_on, parts_of, limits_of, super_bytes, copies_end}
+use Rattle.vab_device.specs.Kept.{lies_in}
+use Rattle.vab_device.specs.Mounted.{Mounted, bytes_at, image_on, state_on, mounted_on}
+use Rattle.vab_device.specs.Phases.{own_check}
+use Rattle.vab_device.specs.Reading.{Read, mark_read, mark_in, geometry_read, geometry_at}
+use Rattle.vab_device.specs.Reading.{table_read, table_at, kept, Reads}
+use Rattle.vab_device.proofs.IdleLaws.{reads_idle, control_seen_in}
+use Rattle.vab_device.proofs.ReadingLaws.{device_of}
+use Rattle.vab_make.specs.Made.{parts_from, made_layout, made_geometry, made_places, made_control}
+use Rattle.vab_make.specs.Made.{filled, made_image, made_state, made_device_of, set_blocks}
 use Rattle.vab_make.specs.Making.{IsMade}
-use Rattle.vab_make.specs.Prepared.{IsMost, HasRoom, IsPrepared}
-use Rattle.vab_make.specs.Steps.{HoldsBlocks, HoldsImages, HasPlaces, HasAll}
+use Rattle.vab_make.specs.Prepared.{IsMost, IsPrepared}
+use Rattle.vab_make.specs.Steps.{HoldsBlocks, HasAll}
 use Rattle.vab_make.proofs.LayoutLaws.{part_at, made_groups, layout_keeps, own_all, parts_pass}
 use Rattle.vab_make.proofs.BlockLaws.{blocks_bytes, blocks_moved}
 
@@ -41,89 +53,171 @@ use Rattle.vab_make.proofs.BlockLaws.{blocks_bytes, blocks_moved}
 
 -- the images of a set stand from this block on
 abbrev StandsFrom : ℕ → List SetImage → Image → Type 0
-StandsFrom at set image = (j : ℕ) (d : SetImage) → j < length set → HoldsBlocks (blocks_of (get_or set j d).size) (6144 + 8 * (at + set_blocks (take j set))) (get_or set j d).bytes image
+StandsFrom at set image =
+    (j : ℕ) (d : SetImage)
+    → j < length set
+    → HoldsBlocks (blocks_of (get_or set j d).size) (6144 + 8 * (at + set_blocks (take j set)))
+    (get_or set j d).bytes image
 
-image_is : (at : ℕ) (x : SetImage) (image : Image) → IsImage x → HoldsBlocks (blocks_of x.size) (6144 + 8 * at) x.bytes image → image_of image 2048 (part_at at x) ≡ made_image x
+image_is : (at : ℕ) (x : SetImage) (image : Image)
+    → IsImage x
+    → HoldsBlocks (blocks_of x.size) (6144 + 8 * at) x.bytes image
+    → image_on image (part_on 2048 (part_at at x)) ≡ made_image x
 image_is at x image is holds =
-    let make : List ℕ → List ℕ → List ℕ → ImageOfSlot = λ name group bytes. record { name = name; group = Some group; bytes = bytes } in
-    let bytes : bytes_of image 2048 (range_with_len at (blocks_of x.size)) ≡ filled x = blocks_bytes (blocks_of x.size) at x.bytes image (omega (arith, is.short)) holds in
+    let make : List ℕ → List ℕ → List ℕ → ImageOfSlot =
+    λ name group bytes. record { name = name; group = Some group; bytes = bytes } in
+    let bytes : bytes_at image (sectors_of 2048 (range_with_len at (blocks_of x.size))) ≡ filled x =
+    blocks_bytes (blocks_of x.size) at x.bytes image (omega (arith, is.short)) holds in
     (λ i. make (base_of-append 0 x.name i) (base_of-append 0 (codes "main") i) (bytes i))
 
-images_are : (at : ℕ) (set : List SetImage) (image : Image) → All IsImage set → StandsFrom at set image → map (image_of image 2048) (parts_from at set) ≡ map made_image set
+-- where the partitions of the set stand on the disk
+abbrev stood : ℕ → List SetImage → List Part
+stood at set = map (part_on 2048) (parts_from at set)
+
+images_are : (at : ℕ) (set : List SetImage) (image : Image)
+    → All IsImage set
+    → StandsFrom at set image
+    → map (image_on image) (stood at set) ≡ map made_image set
 images_are at [] image all stand = refl
 images_are at (x ∷ xs) image all stand =
+    let next : ℕ = at + blocks_of x.size in
     let first : 6144 + 8 * (at + 0) ≡ 6144 + 8 * at = omega arith in
-    let here = image_is at x image (All-head IsImage x xs all) (blocks_moved (blocks_of x.size) (6144 + 8 * (at + 0)) (6144 + 8 * at) x.bytes image first (stand 0 x (omega arith))) in
-    let rest : StandsFrom (at + blocks_of x.size) xs image = λ j d lt.
+    let here =
+    image_is at x image (All-head IsImage x xs all)
+    (blocks_moved (blocks_of x.size) (6144 + 8 * (at + 0)) (6144 + 8 * at) x.bytes image first
+    (stand 0 x (omega arith))) in
+    let rest : StandsFrom next xs image =
+    λ j d lt.
     let sum = sum_by-cons (λ (y : SetImage). blocks_of y.size) x (take j xs) in
-    let place : 6144 + 8 * (at + set_blocks (x ∷ take j xs)) ≡ 6144 + 8 * (at + blocks_of x.size + set_blocks (take j xs)) = omega (arith, sum) in
-    blocks_moved (blocks_of (get_or xs j d).size) _ _ (get_or xs j d).bytes image place (stand (suc j) d (omega (arith, lt))) in
-    (λ i. here i ∷ images_are (at + blocks_of x.size) xs image (All-tail IsImage x xs all) rest i)
+    let place : 6144 + 8 * (at + set_blocks (x ∷ take j xs))
+    ≡ 6144 + 8 * (at + blocks_of x.size + set_blocks (take j xs)) =
+    omega (arith, sum) in
+    blocks_moved (blocks_of (get_or xs j d).size) _ _ (get_or xs j d).bytes image place
+    (stand (suc j) d (omega (arith, lt))) in
+    (λ i. here i ∷ images_are next xs image (All-tail IsImage x xs all) rest i)
 
-limits_are : (limit : ℕ) → (let one : List GroupLimit = record { name = codes "main"; limit = limit } ∷ [] in limits_of 0 (made_groups limit) ≡ one)
+limits_are : (limit : ℕ)
+    → (let one : List GroupLimit = record { name = codes "main"; limit = limit } ∷ [] in
+    limits_of 0 (made_groups limit) ≡ one)
 unfolding is_of_slot base_of
 limits_are limit = refl
-
--- ---- the state
-
-state_is : (set : List SetImage) (limit size : ℕ) (image : Image) → HasRoom set size → HoldsImages (length set) set image → state_of image 0 made_control (made_layout set limit size) ≡ made_state set limit size
-unfolding state_of made_layout made_state
-state_is set limit size image room holds =
-    let stand : StandsFrom 0 set image = λ j d lt.
-    let place : 6144 + 8 * set_blocks (take j set) ≡ 6144 + 8 * (0 + set_blocks (take j set)) = omega arith in
-    blocks_moved (blocks_of (get_or set j d).size) _ _ (get_or set j d).bytes image place (holds j d lt) in
-    let images : map (image_of image 2048) (own_parts 0 (parts_from 0 set)) ≡ map made_image set = ap (map (image_of image 2048)) (own_all 0 set) ∙ images_are 0 set image room.images.each stand in
-    rw (images, limits_are limit) refl
 
 -- ---- the parts of the disk
 
 pub most_geometry : (max : ℕ) → IsMost max → IsGeometry (made_geometry max)
-most_geometry max most = record { sectors = most.sectors; least = most.least; most = omega (arith, most.most); two = omega arith; eight = omega arith }
+most_geometry max most = record {
+  sectors = most.sectors;
+  least = most.least;
+  most = omega (arith, most.most);
+  two = omega arith;
+  eight = omega arith;
+}
 
-slot_is : (image : Image) → (let idle : UpdateMark = record { phase = marks.Idle; slot = 0 } in mark_of (image 2048) ≡ Ok idle) → slot_in image ≡ Ok 0
-unfolding slot_in
-slot_is image mark = ap mark_read mark
+-- the mark of a device without an update, with images in slot a
+abbrev pub idle_one : UpdateMark
+idle_one = record { phase = marks.Idle; slot = 0 }
 
-control_is : (image : Image) → control_of (image 4) ≡ Ok made_control → control_in image ≡ Ok made_control
-unfolding control_in
-control_is image control = ap control_read control
+-- the bytes are those of this mark
+abbrev pub IsIdle : List ℕ → Type 0
+IsIdle bytes = (let is : Result UpdateMark MarkFault = Ok idle_one in mark_of bytes ≡ is)
 
-geometry_is : (max size : ℕ) (image : Image) → IsMost max → 6152 ≤ size → geometry_of (image 4104) ≡ Ok (made_geometry max) → geometry_at size image ≡ Ok (made_geometry max)
+mark_is : (image : Image) → IsIdle (image 2048) → mark_in image ≡ Ok idle_one
+unfolding mark_in
+mark_is image mark = ap mark_read mark
+
+geometry_is : (max size : ℕ) (image : Image)
+    → IsMost max
+    → 6152 ≤ size
+    → geometry_of (image 4104) ≡ Ok (made_geometry max)
+    → geometry_at size image ≡ Ok (made_geometry max)
 unfolding geometry_at geometry_in
 geometry_is max size image most enough primary =
-    let ends : leb (copies_end (made_geometry max)) (super_bytes size) ≡ true = le-leb _ _ (omega (arith, most.most, enough)) in
+    let ends : leb (copies_end (made_geometry max)) (super_bytes size) ≡ true =
+    le-leb _ _ (omega (arith, most.most, enough)) in
     ap (λ r. geometry_read size (first_of r (geometry_of (image 4112)))) primary ∙ rw ends refl
 
-layout_is : (set : List SetImage) (limit max size : ℕ) (text : List ℕ) (image : Image) → size < 2 ^ 55 → IsPrepared set limit max size text → HasPlaces max text image → layout_at size (made_geometry max) 0 image ≡ Ok (made_layout set limit size)
-unfolding layout_at made_layout
-layout_is set limit max size text image small is has =
-    let l : Layout = made_layout set limit size in
-    let table = both_table (made_geometry max) 0 text (table_of l) image has.table is.stands in
-    let again : layout_of (table_of l) ≡ l = layout_again l (layout_keeps set limit size is.room is.limited small) in
-    let ends : leb (copies_end (made_geometry max)) 1048576 ≡ true = le-leb _ _ (omega (arith, is.most.most)) in
-    let within : leb (super_bytes size) (super_bytes size) ≡ true = le-leb _ _ (omega arith) in
-    let lies : lies_in size (made_geometry max) l.device ≡ true = and_from _ _ within ends in
-    ap (layout_read size (made_geometry max) 0) table ∙ rw (again, lies) refl
+module _
+    (set : List SetImage) (limit max size : ℕ) (text : List ℕ) (image : Image)
+    (small : size < 2 ^ 55) (is : IsPrepared set limit max size text)
+    (has : HasAll set max text image) where
+  abbrev made : Layout
+  made = made_layout set limit size
 
-judged_is : (set : List SetImage) (limit size : ℕ) (state : State) → HasRoom set size → judged 0 made_control (made_layout set limit size) state ≡ Ok state
-unfolding made_layout
-judged_is set limit size state room = rw (parts_pass set room.images) refl
+  again : layout_of (table_of made) ≡ made
+  again = layout_again made (layout_keeps set limit size is.room is.limited small)
 
--- where all the parts stand and the mark is Idle, the disk is the device
-pub all_made : (set : List SetImage) (limit max size : ℕ) (text : List ℕ) (image : Image) → size < 2 ^ 55 → IsPrepared set limit max size text → HasAll set max text image → (let idle : UpdateMark = record { phase = marks.Idle; slot = 0 } in mark_of (image 2048) ≡ Ok idle) → IsMade set limit max size image
-unfolding made_places
-all_made set limit max size text image small is has mark =
-    let l : Layout = made_layout set limit size in
-    let g : Geometry = made_geometry max in
-    let enough : leb 4120 size ≡ true = le-leb _ _ (omega (arith, is.room.enough)) in
-    let s = slot_is image mark in
-    let co = control_is image has.control in
-    let ge = geometry_is max size image is.most is.room.enough has.places.primary in
-    let la = layout_is set limit max size text image small is has.places in
-    record {
-      state = device_read size image 0 made_control g l enough s co ge la ∙ judged_is set limit size (state_of image 0 made_control l) is.room ∙ ap Ok (state_is set limit size image is.room has.images);
-      places = places_read size image 0 g l s ge la;
-    }
+  table_is : table_at size (made_geometry max) 0 image ≡ Ok (table_of made)
+  unfolding table_at made_layout
+  table_is =
+      let g : Geometry = made_geometry max in
+      let table = both_table g 0 text (table_of made) image has.places.table is.stands in
+      let ends : leb (copies_end g) 1048576 ≡ true = le-leb _ _ (omega (arith, is.most.most)) in
+      let within : leb (super_bytes size) (super_bytes size) ≡ true = le-leb _ _ (omega arith) in
+      let lies : lies_in size g made.device ≡ true = and_from _ _ within ends in
+      ap (table_read size g 0) table ∙ rw (again, lies) refl
+
+  parts_are : own_check 0 (table_of made) ≡ None
+  unfolding made_layout
+  parts_are = rw (again, parts_pass set is.room.images) refl
+
+  -- what is read of the disk
+  abbrev reading : Read
+  reading = idle_read idle_one made_control (made_geometry max) (table_of made)
+
+  reads : IsIdle (image 2048) → Reads size reading image
+  reads mark =
+      reads_idle size image idle_one made_control (made_geometry max) (table_of made)
+      (le-leb 4120 size (omega (arith, is.room.enough))) (mark_is image mark)
+      (control_seen_in true false image made_control has.control)
+      (geometry_is max size image is.most is.room.enough has.places.primary)
+      table_is parts_are refl
+
+  -- ---- what it means
+
+  -- of a table with this layout and these groups
+  abbrev meant : Layout → List Group → Mounted
+  meant l groups = record {
+    state = record {
+      cap = cap_of l.device;
+      groups = limits_of 0 groups;
+      control = made_control;
+      a = Some (map (image_on image) (parts_of 0 l));
+      b = None;
+      phase = phases.Idle;
+    };
+    places = record { geometry = made_geometry max; a = Some (plain 0 l); b = None };
+  }
+
+  of_read : mounted_on (kept reading) image
+      ≡ meant (layout_of (table_of made)) (table_of made).groups
+  unfolding state_on
+  of_read = refl
+
+  of_made : meant made (made_groups limit) ≡ made_device_of set limit max size
+  unfolding made_layout made_state made_places
+  of_made =
+      let stand : StandsFrom 0 set image =
+      λ j d lt.
+      let place : 6144 + 8 * set_blocks (take j set) ≡ 6144 + 8 * (0 + set_blocks (take j set)) =
+      omega arith in
+      blocks_moved (blocks_of (get_or set j d).size) _ _ (get_or set j d).bytes image place
+      (has.images j d lt) in
+      let images : map (image_on image) (parts_of 0 made) ≡ map made_image set =
+      ap (λ parts. map (image_on image) (map (part_on 2048) parts)) (own_all 0 set)
+      ∙ images_are 0 set image is.room.images.each stand in
+      rw (images, limits_are limit) refl
+
+  groups_are : (table_of made).groups ≡ made_groups limit
+  unfolding table_of made_layout
+  groups_are = refl
+
+  -- where all the parts stand and the mark is Idle, the disk is the device
+  pub all_made : IsIdle (image 2048) → IsMade set limit max size image
+  all_made mark =
+      device_of size reading image (reads mark)
+      ∙ ap Ok (of_read ∙ (λ i. meant (again i) (groups_are i)) ∙ of_made)
+
+-- ---- the copies of the table
 
 -- a text of at most the maximum has room in a copy
 pub geometry_fits : (g : Geometry) (n : ℕ)

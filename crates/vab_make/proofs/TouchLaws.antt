@@ -1,32 +1,13 @@
 -- What the sectors that are touched leave alone.
-use Rattle.std.proofs.Common.{
-  ◌≡◌,
-  ◌⊎◌,
-  inl,
-  inr,
-  ⊎_elim,
-  ℕ,
-  ◌+◌,
-  ◌*◌,
-  ◌/◌,
-  ◌<◌,
-  ◌≤◌,
-  List,
-  sym,
-  ap,
-  ◌∙◌,
-  arith,
-}
+use Rattle.std.proofs.Common.{◌≡◌, ◌⊎◌, inl, inr, ⊎_elim, ℕ, ◌+◌, ◌*◌, ◌/◌, ◌<◌, ◌≤◌, List, ap}
+use Rattle.std.proofs.Common.{◌∙◌, arith}
 use Rattle.vab_disk.specs.Disk.{Image}
 use Rattle.vab_disk.specs.Calls.{IsBetween, InSectors, SameBut}
 use Rattle.vab_geometry.specs.declared.geometry.Geometry.{Geometry}
 use Rattle.vab_copies.specs.Copies.{IsOfCopy}
-use Rattle.vab_lpstore.specs.Layout.{copy_sectors, primary_of, backup_of, text_sectors}
-use Rattle.vab_lpstore.specs.Storing.{IsOfTable}
+use Rattle.vab_lpstore.specs.Layout.{copy_sectors, primary_of, backup_of}
 use Rattle.vab_set.specs.declared.set.SetImage.{SetImage}
-use Rattle.vab_make.specs.Made.{set_blocks}
-use Rattle.vab_make.specs.Prepared.{IsMost}
-use Rattle.vab_make.specs.Touched.{IsOfGeometry, IsOfCopies, IsOfPlaces, IsOfContents, IsOfMaking}
+use Rattle.vab_make.specs.Touched.{IsOfCopies, IsOfPlaces, IsOfContents}
 use Rattle.vab_make.specs.Steps.{SameBelow, SameAround}
 
 -- sectors around those that were touched
@@ -36,7 +17,8 @@ pub around : (at n : ℕ) (old new : Image)
 around at n old new but s out =
     ⊎_elim (λ same. same)
     (λ w.
-    absurd (⊎_elim (λ below. omega (arith, below, w.from)) (λ above. omega (arith, above, w.below)) out))
+    absurd
+    (⊎_elim (λ below. omega (arith, below, w.from)) (λ above. omega (arith, above, w.below)) out))
     (but s)
 
 pub below_images : (n : ℕ) (old new : Image)
@@ -104,7 +86,10 @@ table_of_copies g n text s b two some fits is =
     ⊎_elim
     (λ primary.
     let at = copy_of n (4120 + 0 * (g.max / 512)) text s b some primary in
-    IsOfCopies.of_primary (record { from = omega (arith, at.from); below = omega (arith, at.below, fits) }))
+    IsOfCopies.of_primary (record {
+      from = omega (arith, at.from);
+      below = omega (arith, at.below, fits);
+    }))
     (λ backup.
     let at = copy_of n (4120 + (g.slots + 0) * (g.max / 512)) text s b some backup in
     IsOfCopies.of_backup (record {

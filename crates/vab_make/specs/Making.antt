@@ -5,10 +5,12 @@ use Rattle.vab_set.specs.declared.set.SetImage.{SetImage}
 use Rattle.vab_device.specs.declared.fault.StartFault.{StartFault}
 use Rattle.vab_device.specs.Reading.{device, IsIn}
 use Rattle.vab_make.specs.declared.fault.MakeFault.{MakeFault}
-use Rattle.vab_make.specs.declared.fault.MakeFault.TheVariants.{TooSmall, GroupLimit, NoRoom, TableFull, NoMemory, Disk}
+use Rattle.vab_make.specs.declared.fault.MakeFault.TheVariants.{TooSmall, GroupLimit, NoRoom}
+use Rattle.vab_make.specs.declared.fault.MakeFault.TheVariants.{TableFull, NoMemory, Disk}
 use Rattle.vab_make.specs.Made.{made_device_of}
 
--- what was answered is the refusal, or there is none; memory may be refused in place of either, and the disk may fail where there is none
+-- What was answered is the refusal, or there is none. Memory may be refused in place of either, and
+-- the disk may fail where there is none.
 abbrev pub Gives : {A : Type 0} → Result A MakeFault → Option MakeFault → Type 0
 Gives (Ok done) said = said ≡ None
 Gives (Err (TooSmall need have)) said = said ≡ Some (TooSmall need have)
@@ -36,6 +38,8 @@ abbrev pub IsMade : List SetImage → ℕ → ℕ → ℕ → Image → Type 0
 IsMade set limit max size image = IsIn size (made_device_of set limit max size) image
 
 -- with nothing more told, the disk is as it was, or no device, or the made one
-pub record LeavesMaking (told : List ℕ) (set : List SetImage) (limit max size : ℕ) (old : Image) (o : Outcome) : Type 0 where
+pub record LeavesMaking
+    (told : List ℕ) (set : List SetImage) (limit max size : ℕ) (old : Image) (o : Outcome)
+    : Type 0 where
   pub told_so_far : o.told ≡ told
   pub either : (o.image ≡ old) ⊎ (IsNone size o.image ⊎ IsMade set limit max size o.image)

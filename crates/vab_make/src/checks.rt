@@ -9,7 +9,8 @@ use crate::fault::MakeFault;
 use vab_set::Set;
 use vab_space::blocks;
 
-// The least disk: the copies of two slots' tables, and one block behind the first megabyte of `super`.
+// The least disk: the copies of two slots' tables, and one block behind the first megabyte of
+// `super`.
 const LEAST: u64 = 6152;
 
 // The disk sector of the device's first block.
@@ -42,7 +43,8 @@ pub fn capacity(sectors: u64) -> u64
 pub fn check_sizes(set: &Set, limit: u64, sectors: u64) -> Result<(), MakeFault>
     requires { IsSet set.now }
     ensures passed { OnOk result (PassesSizes set.now limit sectors) }
-    ensures refused { IfErr result (λ f. (max : ℕ) → Refuses f (refusal_of set.now limit max sectors)) }
+    ensures refused { IfErr result (λ f. (max : ℕ)
+        → Refuses f (refusal_of set.now limit max sectors)) }
 {
     if sectors < LEAST {
         return Err(MakeFault::TooSmall(LEAST, sectors));

@@ -44,8 +44,10 @@ fn put_image<D: Disk>(d: &mut D, at: u64, count: u64, bytes: &[u8]) -> Result<()
 pub fn put_images<D: Disk>(d: &mut D, set: &Set) -> Result<(), DiskFault>
     requires set { IsSet set.now }
     requires on_disk { 6144 + 8 * set_blocks set.now ≤ D.size d.old }
-    ensures holds { D.is_modelled → OnOk result (HoldsImages (length set.now) set.now (D.seen d.new)) }
-    ensures touches { Touches D.Disk (InSectors (IsBetween 6144 (6144 + 8 * set_blocks set.now))) d.old d.new }
+    ensures holds { D.is_modelled
+        → OnOk result (HoldsImages (length set.now) set.now (D.seen d.new)) }
+    ensures touches { Touches D.Disk
+        (InSectors (IsBetween 6144 (6144 + 8 * set_blocks set.now))) d.old d.new }
     ensures faults { FailsWithDisk D.Disk d.old d.new result }
 {
     let mut at = FIRST;

@@ -1,5 +1,6 @@
 // The layout of the device that is made.
-ghost use Rattle.std.specs.Prelude.{◌≡◌, ◌+◌, ◌*◌, ◌<◌, ◌≤◌, ◌^◌, ◌++◌, ◌∷◌, [], List, codes, IfOk, IfErr};
+ghost use Rattle.std.specs.Prelude.{◌≡◌, ◌+◌, ◌*◌, ◌<◌, ◌≤◌, ◌^◌, ◌++◌, ◌∷◌, [], List, codes, IfOk};
+ghost use Rattle.std.specs.Prelude.{IfErr};
 ghost use Rattle.vab_bytes.specs.Name.{IsName};
 ghost use Rattle.vab_names.specs.Names.{suffix_of};
 ghost use Rattle.vab_space.specs.Space.{blocks_of};
@@ -95,7 +96,8 @@ fn parts(alloc: Global, set: &Set) -> Result<Vec<Part>, MakeFault>
     Ok(parts)
 }
 
-// The block device of a disk of so many sectors: `super`, with the partitions behind its first megabyte.
+// The block device of a disk of so many sectors: `super`, with the partitions behind its first
+// megabyte.
 fn device(sectors: u64) -> BlockDevice
     requires least { 6152 ≤ sectors }
     requires most { sectors < 2 ^ 55 }

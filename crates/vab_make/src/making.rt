@@ -42,7 +42,8 @@ fn put_contents<D: Disk>(d: &mut D, set: &Set, max: u32, text: &[u8]) -> Result<
     requires room { HasRoom set.now (D.size d.old) }
     requires fits { length text.now ≤ max }
     ensures all { D.is_modelled → OnOk result (HasAll set.now max text.now (D.seen d.new)) }
-    ensures rest { D.is_modelled → OnOk result (KeepsRest (blanked (D.seen d.old 4)) (D.seen d.new 4)) }
+    ensures rest { D.is_modelled
+        → OnOk result (KeepsRest (blanked (D.seen d.old 4)) (D.seen d.new 4)) }
     ensures touches { Touches D.Disk (InSectors (IsOfContents set.now max)) d.old d.new }
     ensures faults { FailsWithDisk D.Disk d.old d.new result }
 {
@@ -57,7 +58,8 @@ fn settle_contents<D: Disk>(d: &mut D, set: &Set, max: u32, text: &[u8]) -> Resu
     requires room { HasRoom set.now (D.size d.old) }
     requires fits { length text.now ≤ max }
     ensures all { D.is_modelled → OnOk result (HasAll set.now max text.now (D.seen d.new)) }
-    ensures rest { D.is_modelled → OnOk result (KeepsRest (blanked (D.seen d.old 4)) (D.seen d.new 4)) }
+    ensures rest { D.is_modelled
+        → OnOk result (KeepsRest (blanked (D.seen d.old 4)) (D.seen d.new 4)) }
     ensures settled { D.is_modelled → OnOk result (IsAtRest D.Disk d.new) }
     ensures touches { Touches D.Disk (InSectors (IsOfContents set.now max)) d.old d.new }
     ensures faults { FailsWithDisk D.Disk d.old d.new result }
@@ -77,7 +79,8 @@ fn make_on<D: Disk>(d: &mut D, set: &Set, max: u32, text: &[u8]) -> Result<(), D
         → IsPrepared set.now limit max (D.size d.old) text.now
         → OnOk result (IsMade set.now limit max (D.size d.old) (D.seen d.new)) }
     ensures copies { D.is_modelled → OnOk result (HasPlaces max text.now (D.seen d.new)) }
-    ensures rest { D.is_modelled → OnOk result (KeepsRest (blanked (D.seen d.old 4)) (D.seen d.new 4)) }
+    ensures rest { D.is_modelled
+        → OnOk result (KeepsRest (blanked (D.seen d.old 4)) (D.seen d.new 4)) }
     ensures settled { D.is_modelled → OnOk result (IsAtRest D.Disk d.new) }
     ensures touches { Touches D.Disk (InSectors (IsOfMaking set.now max)) d.old d.new }
     ensures time { D.is_modelled
@@ -95,9 +98,10 @@ fn make_on<D: Disk>(d: &mut D, set: &Set, max: u32, text: &[u8]) -> Result<(), D
 
 /// Makes the device whose slot a has the images of a set, filled with zeros to whole blocks, and is
 /// current and successful with priority 15, and whose slot b has none. `limit` is that of the group
-/// `main` in bytes, 0 for none; `max` is the most bytes of a copy of a table, a multiple of 512. The
-/// refusals come in the order of `MakeFault`, each exactly where it says, and the disk isn't asked
-/// then. A disk that fails, or a cut of power, leaves the disk as it was, or no device, or the made one.
+/// `main` in bytes, 0 for none; `max` is the most bytes of a copy of a table, a multiple of 512.
+/// The refusals come in the order of `MakeFault`, each exactly where it says, and the disk isn't
+/// asked then. A disk that fails, or a cut of power, leaves the disk as it was, or no device, or
+/// the made one.
 pub fn make_device<D: Disk>(
     alloc: Global,
     d: &mut D,
@@ -111,11 +115,14 @@ pub fn make_device<D: Disk>(
     requires max_least { 512 ≤ max }
     requires max_most { max ≤ 65536 }
     ensures exact { Gives result (refusal_of set.now limit max (D.size d.old)) }
-    ensures made { D.is_modelled → OnOk result (IsMade set.now limit max (D.size d.old) (D.seen d.new)) }
+    ensures made { D.is_modelled
+        → OnOk result (IsMade set.now limit max (D.size d.old) (D.seen d.new)) }
     // Both copies of the geometry and of the table are there.
-    ensures copies { D.is_modelled → OnOk result ((text : List ℕ) × HasPlaces max text (D.seen d.new)) }
+    ensures copies { D.is_modelled
+        → OnOk result ((text : List ℕ) × HasPlaces max text (D.seen d.new)) }
     // The boot control's sector stays behind the 32 bytes of the boot control.
-    ensures rest { D.is_modelled → OnOk result (KeepsRest (blanked (D.seen d.old 4)) (D.seen d.new 4)) }
+    ensures rest { D.is_modelled
+        → OnOk result (KeepsRest (blanked (D.seen d.old 4)) (D.seen d.new 4)) }
     ensures settled { D.is_modelled → OnOk result (IsAtRest D.Disk d.new) }
     ensures untouched { IfErr result (λ f. (IsOfDisk f → ⊥) → d.new ≡ d.old) }
     ensures touches { Touches D.Disk (InSectors (IsOfMaking set.now max)) d.old d.new }
@@ -124,7 +131,8 @@ pub fn make_device<D: Disk>(
         → Adds D.moment D.outcomes d.old d.new
         (LeavesMaking (D.told d.old) set.now limit max (D.size d.old) (D.seen d.old)) }
     ensures steady { OnOk result (D.faults d.new ≡ D.faults d.old) }
-    ensures cause { IfErr result (λ f. IsOfDisk f → Rose (D.faults d.old).disk (D.faults d.new).disk) }
+    ensures cause { IfErr result (λ f. IsOfDisk f
+        → Rose (D.faults d.old).disk (D.faults d.new).disk) }
 {
     let text = prepare(alloc, set, limit, max, d.sectors())?;
     make_on(d, set, max, &text)?;

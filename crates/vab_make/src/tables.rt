@@ -37,8 +37,10 @@ fn put_geometry<D: Disk>(d: &mut D, geometry: &Geometry) -> Result<(), DiskFault
     requires most { IsMost geometry.now.max }
     requires two { geometry.now.slots ≡ 2 }
     requires on_disk { 4120 ≤ D.size d.old }
-    ensures primary { D.is_modelled → OnOk result (D.seen d.new 4104 ≡ geometry_sector geometry.now) }
-    ensures backup { D.is_modelled → OnOk result (D.seen d.new 4112 ≡ geometry_sector geometry.now) }
+    ensures primary { D.is_modelled
+        → OnOk result (D.seen d.new 4104 ≡ geometry_sector geometry.now) }
+    ensures backup { D.is_modelled
+        → OnOk result (D.seen d.new 4112 ≡ geometry_sector geometry.now) }
     ensures touches { Touches D.Disk (InSectors IsOfGeometry) d.old d.new }
     ensures faults { FailsWithDisk D.Disk d.old d.new result }
 {

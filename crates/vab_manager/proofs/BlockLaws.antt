@@ -11,15 +11,14 @@ use Rattle.std.proofs.Math.Seq.{drop-append-add}
 use Rattle.vab_disk.specs.Disk.{Image}
 use Rattle.vab_gate.specs.Gate.{sectors_at}
 use Rattle.vab_copies.proofs.CopyLaws.{length-sectors}
-use Rattle.vab_bootctl.specs.declared.slots.Info.{Info}
 use Rattle.vab_names.specs.Names.{is_full, base_of}
 use Rattle.vab_model.specs.declared.command.Refusal.{Refusal}
 use Rattle.vab_model.specs.declared.command.Refusal.TheVariants.{BadName, Unknown}
-use Rattle.vab_model.specs.declared.state.SlotState.{SlotState}
 use Rattle.vab_model.specs.State.{image_named}
-use Rattle.vab_recover.specs.declared.device.Part.{Part}
-use Rattle.vab_recover.specs.declared.device.Device.{Device}
-use Rattle.vab_recover.specs.Stands.{bytes_at, image_on, slot_on, state_on, IsPart, ArePresent, IsDevice}
+use Rattle.vab_device.specs.declared.device.Part.{Part}
+use Rattle.vab_device.specs.declared.device.Device.{Device}
+use Rattle.vab_device.specs.Kept.{IsPart, ArePresent, IsDevice}
+use Rattle.vab_device.specs.Mounted.{bytes_at, image_on, images_on, state_on}
 use Rattle.vab_manager.specs.Found.{part_named, part_in, found_part}
 use Rattle.vab_manager.specs.Blocks.{slot_named, KeepsPart, image_at, IsBlockOf}
 
@@ -76,7 +75,7 @@ one_of size base (q ∷ ps) p all h = elim (cases_Bool (bytes_eq q.name base)) [
 
 of_slot : (size : ℕ) (name : List ℕ) (o : Option (List Part)) (p : Part) → ArePresent size o → option_and_then (part_named name) o ≡ Some p → IsPart size p
 of_slot size name None p all h = absurd cc
-of_slot size name (Some ps) p all h = one_of size name ps p all h
+of_slot size name (Some ps) p all h = one_of size name ps p all.each h
 
 pub part_kept : (d : Device) (size slot : ℕ) (name : List ℕ) (p : Part) → IsDevice d size → KeepsPart d slot name p → IsPart size p
 part_kept d size slot name p is h = elim (cases_Bool (eqb slot 0)) [
@@ -95,17 +94,18 @@ pub image_of_part : (image : Image) (base : List ℕ) (ps : List Part) → image
 image_of_part image base [] = refl
 image_of_part image base (p ∷ ps) = elim (cases_Bool (bytes_eq p.name base)) [ inl h ↦ rw h refl | inr h ↦ rw h (image_of_part image base ps) ]
 
-in_slot : (image : Image) (info : Info) (name : List ℕ) (o : Option (List Part)) (p : Part) → option_and_then (part_named name) o ≡ Some p
-    → option_and_then (λ (x : SlotState). image_named name x.images) (slot_on image info o) ≡ Some (image_on image p)
-in_slot image info name None p h = absurd cc
-in_slot image info name (Some ps) p h = image_of_part image name ps ∙ ap (option_map (image_on image)) h
+in_slot : (image : Image) (name : List ℕ) (o : Option (List Part)) (p : Part)
+    → option_and_then (part_named name) o ≡ Some p
+    → option_and_then (image_named name) (images_on image o) ≡ Some (image_on image p)
+in_slot image name None p h = absurd cc
+in_slot image name (Some ps) p h = image_of_part image name ps ∙ ap (option_map (image_on image)) h
 
 -- the image under the name is that of the partition under it
 pub image_kept : (d : Device) (image : Image) (slot : ℕ) (name : List ℕ) (p : Part) → KeepsPart d slot name p → image_at (state_on d image) slot name ≡ Some (image_on image p)
 unfolding state_on
 image_kept d image slot name p h = elim (cases_Bool (eqb slot 0)) [
-  | inl a ↦ let here : option_and_then (part_named name) d.a ≡ Some p = rw a at h in rw a (in_slot image d.control.a name d.a p here)
-  | inr a ↦ let here : option_and_then (part_named name) d.b ≡ Some p = rw a at h in rw a (in_slot image d.control.b name d.b p here)
+  | inl a ↦ let here : option_and_then (part_named name) d.a ≡ Some p = rw a at h in rw a (in_slot image name d.a p here)
+  | inr a ↦ let here : option_and_then (part_named name) d.b ≡ Some p = rw a at h in rw a (in_slot image name d.b p here)
 ]
 
 -- ---- its blocks

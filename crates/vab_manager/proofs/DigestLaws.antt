@@ -3,9 +3,9 @@ use Rattle.std.proofs.Common.{◌≡◌, ℕ, ◌+◌, ◌<◌, List, [], ◌∷
 use Rattle.std.proofs.lemmas.List.{take_more, append-nil}
 use Rattle.vab_disk.specs.Disk.{Image}
 use Rattle.vab_gate.specs.Gate.{sectors_at}
-use Rattle.vab_recover.specs.Stands.{bytes_at}
+use Rattle.vab_device.specs.Mounted.{bytes_at}
 
-bytes_append : (image : Image) (xs ys : List ℕ) → bytes_at image (xs ++ ys) ≡ bytes_at image xs ++ bytes_at image ys
+pub bytes_append : (image : Image) (xs ys : List ℕ) → bytes_at image (xs ++ ys) ≡ bytes_at image xs ++ bytes_at image ys
 unfolding bytes_at
 bytes_append image [] ys = refl
 bytes_append image (x ∷ xs) ys = ap (λ (l : List ℕ). sectors_at 8 image x ++ l) (bytes_append image xs ys) ∙ sym (append_assoc (sectors_at 8 image x) (bytes_at image xs) (bytes_at image ys))

@@ -5,16 +5,28 @@ use Rattle.std.specs.Option.{option_map}
 use Rattle.std.proofs.lemmas.Bool.{cases_Bool}
 use Rattle.vab_disk.specs.Disk.{Image}
 use Rattle.vab_bytes.specs.Name.{IsName}
-use Rattle.vab_bootctl.specs.declared.slots.Info.{Info}
 use Rattle.vab_names.specs.Names.{is_full, base_of}
 use Rattle.vab_model.specs.declared.command.Refusal.{Refusal}
 use Rattle.vab_model.specs.declared.command.Refusal.TheVariants.{Unknown}
-use Rattle.vab_model.specs.Step.{Found, Image_is, Refused_by, found_image, found_in, found_of}
-use Rattle.vab_recover.specs.declared.device.Part.{Part}
-use Rattle.vab_recover.specs.declared.device.Device.{Device}
-use Rattle.vab_recover.specs.Stands.{image_on, slot_on, state_on, IsPart, IsDevice}
+use Rattle.vab_model.specs.Commands.{Print, Digest}
+use Rattle.vab_model.specs.Effects.{
+  Found,
+  Image_is,
+  Refused_by,
+  found_image,
+  found_in,
+  found_of,
+  print_effect,
+  digest_effect,
+  effect,
+  effect_map,
+}
+use Rattle.vab_device.specs.declared.device.Part.{Part}
+use Rattle.vab_device.specs.declared.device.Device.{Device}
+use Rattle.vab_device.specs.Kept.{IsPart, IsDevice}
+use Rattle.vab_device.specs.Mounted.{image_on, images_on, state_on, mounted_on, in_state, effect_on}
 use Rattle.vab_manager.specs.Found.{part_named, part_in, found_part}
-use Rattle.vab_manager.proofs.NameLaws.{full_is}
+use Rattle.vab_model.proofs.Names.{full_is}
 use Rattle.vab_manager.specs.Blocks.{slot_named}
 use Rattle.vab_manager.proofs.BlockLaws.{found_keeps, found_full, part_kept, image_of_part}
 
@@ -27,16 +39,17 @@ as_found : (image : Image) (o : Option Part) → found_image (option_map (image_
 as_found image None = refl
 as_found image (Some p) = refl
 
-in_slot : (image : Image) (info : Info) (name : List ℕ) (o : Option (List Part)) → found_in (slot_on image info o) name ≡ found_by image (part_in name o)
-in_slot image info name None = refl
-in_slot image info name (Some ps) = ap found_image (image_of_part image (base_of name) ps) ∙ as_found image (part_named (base_of name) ps)
+in_slot : (image : Image) (name : List ℕ) (o : Option (List Part))
+    → found_in (images_on image o) name ≡ found_by image (part_in name o)
+in_slot image name None = refl
+in_slot image name (Some ps) = ap found_image (image_of_part image (base_of name) ps) ∙ as_found image (part_named (base_of name) ps)
 
 -- the image under a name is that of the partition under it
 pub found_is : (d : Device) (image : Image) (name : List ℕ) → found_of (state_on d image) name ≡ found_by image (found_part d name)
 unfolding state_on
 found_is d image name = elim (cases_Bool (is_full 0 name)) [
-  | inl h ↦ rw h (in_slot image d.control.a name d.a)
-  | inr h ↦ elim (cases_Bool (is_full 1 name)) [ inl k ↦ rw (h, k) (in_slot image d.control.b name d.b) | inr k ↦ rw (h, k) refl ]
+  | inl h ↦ rw h (in_slot image name d.a)
+  | inr h ↦ elim (cases_Bool (is_full 1 name)) [ inl k ↦ rw (h, k) (in_slot image name d.b) | inr k ↦ rw (h, k) refl ]
 ]
 
 -- ---- what is known of it
@@ -46,3 +59,23 @@ found_kept d size name p is h = part_kept d size (slot_named name) (base_of name
 
 pub found_name : (d : Device) (name : List ℕ) (p : Part) → found_part d name ≡ Ok p → IsName name
 found_name d name p h = full_is (slot_named name) name (found_full d name p h)
+
+-- ---- the effects of questions
+
+pub print_is : (d : Device) (image : Image) (name : List ℕ) (found : Result Part Refusal)
+    → found_part d name ≡ found
+    → effect_on (mounted_on d image) (Print name)
+    ≡ effect_map (in_state (mounted_on d image)) (print_effect name (found_by image found))
+unfolding effect
+print_is d image name found is =
+    ap (λ (f : Found). effect_map (in_state (mounted_on d image)) (print_effect name f))
+    (found_is d image name ∙ ap (found_by image) is)
+
+pub digest_is : (d : Device) (image : Image) (name : List ℕ) (found : Result Part Refusal)
+    → found_part d name ≡ found
+    → effect_on (mounted_on d image) (Digest name)
+    ≡ effect_map (in_state (mounted_on d image)) (digest_effect (found_by image found))
+unfolding effect
+digest_is d image name found is =
+    ap (λ (f : Found). effect_map (in_state (mounted_on d image)) (digest_effect f))
+    (found_is d image name ∙ ap (found_by image) is)

@@ -1,5 +1,6 @@
 pub mod BlockLaws
-pub mod DeviceLaws
+mod BootLaws
+mod CommandLaws
 pub mod DigestLaws
-pub mod FoundLaws
-pub mod NameLaws
+mod EffectLaws
+mod FoundLaws

@@ -6,7 +6,7 @@ use Rattle.vab_disk.specs.Calls.{FailsWithDisk, IsAtRest, IsQuiet, Touches}
 use Rattle.vab_gate.specs.declared.gate.DiskFault.{DiskFault}
 use Rattle.vab_model.specs.declared.command.Reply.{Reply}
 use Rattle.vab_model.specs.Commands.{Command}
-use Rattle.vab_model.specs.Effects.{Effect, steps_of, after_of, IsOneOf}
+use Rattle.vab_model.specs.Effects.{steps_of, after_of, IsOneOf}
 use Rattle.vab_device.specs.declared.device.Device.{Device}
 use Rattle.vab_device.specs.Kept.{IsDevice}
 use Rattle.vab_device.specs.Mounted.{Mounted, mounted_on, effect_on}
@@ -20,9 +20,9 @@ pub record LeavesStep (told : List ℕ) (size : ℕ) (steps : List Mounted) (o :
   pub step : IsOneOf steps mounted
   pub means : device size o.image ≡ Ok mounted
 
--- The reply and the device after it are those of the table of effects, and where nothing was pending
--- each outcome since is one of its steps. It touches what is the command's alone. An error comes where
--- the disk has failed.
+-- The reply and the device after it are those of the table of effects, and where nothing was
+-- pending each outcome since is one of its steps. It touches what is the command's alone. An error
+-- comes where the disk has failed.
 pub record DoesCommand {D : Type 0}
     (g : Ghosts D)
     (d : Device)
@@ -33,7 +33,7 @@ pub record DoesCommand {D : Type 0}
   pub represents : g.is_modelled → IfOk result (λ r. Represents r.0 (g.size old) (g.seen new))
   pub after : g.is_modelled → IfOk result
       (λ r. mounted_on r.0 (g.seen new)
-        ≡ after_of (mounted_on d (g.seen old)) (effect_on (mounted_on d (g.seen old)) command))
+      ≡ after_of (mounted_on d (g.seen old)) (effect_on (mounted_on d (g.seen old)) command))
   pub reply : g.is_modelled → IfOk result
       (λ r. r.1 ≡ (effect_on (mounted_on d (g.seen old)) command).reply)
   pub rest : g.is_modelled → IsAtRest g old → OnOk result (IsAtRest g new)
@@ -42,6 +42,6 @@ pub record DoesCommand {D : Type 0}
   pub time : g.is_modelled
       → IsAtRest g old
       → Adds g.moment g.outcomes old new
-        (LeavesStep (g.told old) (g.size old)
-        (steps_of (mounted_on d (g.seen old)) (effect_on (mounted_on d (g.seen old)) command)))
+      (LeavesStep (g.told old) (g.size old)
+      (steps_of (mounted_on d (g.seen old)) (effect_on (mounted_on d (g.seen old)) command)))
   pub faults : FailsWithDisk g old new result

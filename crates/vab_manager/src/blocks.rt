@@ -1,25 +1,27 @@
 //! A block of an image.
 
-ghost use Rattle.std.specs.Prelude.{◌≡◌, ◌≤◌, ◌<◌, ◌^◌, length, slice_index, IsTrue, IfOk, IfErr, OnOk};
+ghost use Rattle.std.specs.Prelude.{◌≡◌, ◌≤◌, ◌<◌, ◌^◌, length, slice_index, IsTrue, IfOk, IfErr};
+ghost use Rattle.std.specs.Prelude.{OnOk};
 ghost use Rattle.std.specs.Option.{option_copied, option_and_then};
 ghost use Rattle.vab_disk.specs.Calls.{FailsWithDisk, OnlyReads};
 ghost use Rattle.vab_disk.specs.Disk.{Image};
 ghost use Rattle.vab_gate.specs.Gate.{sectors_at};
 ghost use Rattle.vab_names.specs.Names.{is_full, base_of};
 ghost use Rattle.vab_model.specs.declared.state.Image.{Image as ImageOfSlot};
-ghost use Rattle.vab_model.specs.Step.{found_of, Image_is, Refused_by};
-ghost use Rattle.vab_recover.specs.declared.device.Part.{Part};
-ghost use Rattle.vab_recover.specs.Stands.{bytes_at, state_on, IsDevice};
+ghost use Rattle.vab_model.specs.Effects.{found_of, Image_is, Refused_by};
+ghost use Rattle.vab_device.specs.declared.device.Part.{Part};
+ghost use Rattle.vab_device.specs.Kept.{IsDevice};
+ghost use Rattle.vab_device.specs.Mounted.{bytes_at, state_on};
 ghost use Rattle.vab_manager.specs.Found.{part_named};
 ghost use Rattle.vab_manager.specs.Blocks.{slot_named, parts_at, KeepsPart, HasBlock, IsBlockOf};
 
 use crate::images::{find, part_named};
+use vab_device::{Device, Part};
 use vab_disk::Disk;
 use vab_gate::DiskFault;
 use vab_linear::read_at;
 use vab_model::Refusal;
 use vab_names::is_full;
-use vab_recover::{Device, Part};
 
 // The slot of a name's suffix.
 fn slot_named(name: &[u8]) -> usize
@@ -31,7 +33,8 @@ fn slot_named(name: &[u8]) -> usize
 // The partition that is kept under a base name of a slot.
 fn kept_part<'a>(device: &'a Device, slot: usize, name: &[u8]) -> Option<&'a Part>
     requires { slot < 2 }
-    ensures { option_copied result ≡ option_and_then (part_named name.now) (parts_at device.now slot) }
+    ensures { option_copied result
+        ≡ option_and_then (part_named name.now) (parts_at device.now slot) }
 {
     match device.images(slot) {
         Some(parts) => part_named(parts, name),
@@ -39,13 +42,25 @@ fn kept_part<'a>(device: &'a Device, slot: usize, name: &[u8]) -> Option<&'a Par
     }
 }
 
-/// Where the image of a whole name stands: its slot, and how many blocks of 4096 bytes it has; or why there is none.
+/// Where the image of a whole name stands: its slot, and how many blocks of 4096 bytes it has; or
+/// why there is none.
 pub fn locate(device: &Device, name: &[u8]) -> Result<(usize, u64), Refusal>
-    ensures part { IfOk result (λ r. (r.0 < 2) × (2 ≤ length name.now) × (p : Part) × KeepsPart device.now r.0 (base_of name.now) p × (r.1 ≡ length p.map)) }
+    ensures part { IfOk result
+        (λ r. (r.0 < 2)
+        × (2 ≤ length name.now)
+        × (p : Part)
+        × KeepsPart device.now r.0 (base_of name.now) p
+        × (r.1 ≡ length p.map)) }
     ensures suffix { IfOk result (λ r. IsTrue (is_full r.0 name.now)) }
     ensures small { IfOk result (λ r. r.1 < 2 ^ 60) }
-    ensures image { (seen : Image) → IfOk result (λ r. (i : ImageOfSlot) × (found_of (state_on device.now seen) name.now ≡ Image_is i) × (p : Part) × KeepsPart device.now r.0 (base_of name.now) p × (i.bytes ≡ bytes_at seen p.map)) }
-    ensures refused { (seen : Image) → IfErr result (λ f. found_of (state_on device.now seen) name.now ≡ Refused_by f) }
+    ensures image { (seen : Image) → IfOk result
+        (λ r. (i : ImageOfSlot)
+        × (found_of (state_on device.now seen) name.now ≡ Image_is i)
+        × (p : Part)
+        × KeepsPart device.now r.0 (base_of name.now) p
+        × (i.bytes ≡ bytes_at seen p.map)) }
+    ensures refused { (seen : Image) → IfErr result
+        (λ f. found_of (state_on device.now seen) name.now ≡ Refused_by f) }
 {
     match find(device, name) {
         Ok(part) => Ok((slot_named(name), part.map.len())),
@@ -66,9 +81,13 @@ pub fn read_block<D: Disk>(
     requires slot { slot < 2 }
     requires block { HasBlock device.now slot name.now block }
     // the block where the partition has it on the disk
-    ensures sectors { D.is_modelled → (p : Part) → KeepsPart device.now slot name.now p → OnOk result (out.new ≡ sectors_at 8 (D.seen d.old) (slice_index p.map block)) }
+    ensures sectors { D.is_modelled
+        → (p : Part)
+        → KeepsPart device.now slot name.now p
+        → OnOk result (out.new ≡ sectors_at 8 (D.seen d.old) (slice_index p.map block)) }
     // which is that block of the image
-    ensures bytes { D.is_modelled → OnOk result (IsBlockOf (state_on device.now (D.seen d.old)) slot name.now block out.new) }
+    ensures bytes { D.is_modelled
+        → OnOk result (IsBlockOf (state_on device.now (D.seen d.old)) slot name.now block out.new) }
     ensures reads { OnlyReads D.Disk d.old d.new }
     ensures faults { FailsWithDisk D.Disk d.old d.new result }
 {

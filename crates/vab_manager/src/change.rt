@@ -1,52 +1,42 @@
 //! Another boot control for a device.
 
-ghost use Rattle.std.specs.Prelude.{◌≡◌, ◌∷◌, [], true, IfOk, OnOk};
-ghost use Rattle.vab_disk.specs.Disk.{Adds};
-ghost use Rattle.vab_disk.specs.Calls.{FailsWithDisk, IsAtRest, IsQuiet, Touches};
+ghost use Rattle.std.specs.Prelude.{◌≡◌, ℕ, List, true};
 ghost use Rattle.vab_bootctl.specs.Control.{Fits};
 ghost use Rattle.vab_bootctl.specs.Boot.{info_at};
-ghost use Rattle.vab_device.specs.Device.{is_good, places};
-ghost use Rattle.vab_recover.specs.Stands.{state_on, Represents, IsDevice};
-ghost use Rattle.vab_manager.specs.StateLaws.{with_boot};
-ghost use Rattle.vab_manager.specs.Controls.{IsControl};
-ghost use Rattle.vab_manager.specs.Steps.{LeavesStep};
+ghost use Rattle.vab_device.specs.Kept.{IsDevice};
+ghost use Rattle.vab_device.specs.Phases.{is_good};
+ghost use Rattle.vab_device.specs.Reading.{Represents};
+ghost use Rattle.vab_model.specs.Commands.{Command as CommandOf};
+ghost use Rattle.vab_manager.specs.Commands.{DoesCommand};
+ghost use Rattle.vab_manager.specs.Controls.{GivesControl, WritesControl};
 
 use crate::control::put_control;
 use vab_bootctl::Control;
+use vab_device::Device;
 use vab_disk::Disk;
 use vab_gate::DiskFault;
-use vab_recover::Device;
+use vab_model::Reply;
 
-/// Writes a boot control of the device by one gate.
-pub fn change<D: Disk>(d: &mut D, device: Device, control: Control) -> Result<Device, DiskFault>
+/// Writes a boot control of the device by one gate, and gives this reply.
+pub fn change<D: Disk>(
+    d: &mut D,
+    device: Device,
+    control: Control,
+    reply: Reply,
+) -> Result<(Device, Reply), DiskFault>
     requires kept { IsDevice device (D.size d.old) }
-    requires stands { D.is_modelled → Represents device (D.size d.old) (D.seen d.old) }
+    requires represents { D.is_modelled → Represents device (D.size d.old) (D.seen d.old) }
     requires fits { Fits control }
     requires current { control.current ≡ device.mark.slot }
     requires good { D.is_modelled → is_good (info_at control device.mark.slot) ≡ true }
-    ensures device { IfOk result (λ r. r ≡ with_boot control device) }
-    ensures kept { IfOk result (λ r. IsDevice r (D.size d.old)) }
-    ensures stands { D.is_modelled
-        → IfOk result (λ r. Represents r (D.size d.old) (D.seen d.new)) }
-    ensures state { D.is_modelled → IfOk result
-        (λ r. state_on r (D.seen d.new) ≡ state_on (with_boot control device) (D.seen d.old)) }
-    ensures places { D.is_modelled → OnOk result
-        (places (D.size d.old) (D.seen d.new) ≡ places (D.size d.old) (D.seen d.old)) }
-    ensures settled { D.is_modelled → OnOk result (IsAtRest D.Disk d.new) }
-    ensures quiet { IsQuiet D.Disk d.old d.new }
-    ensures touches { D.is_modelled
-        → Touches D.Disk (IsControl control (D.seen d.old 4)) d.old d.new }
-    ensures time { D.is_modelled
-        → IsAtRest D.Disk d.old
-        → Adds D.moment D.outcomes d.old d.new
-        (LeavesStep (D.told d.old) (D.size d.old) (D.seen d.old)
-        (state_on device (D.seen d.old)
-        ∷ state_on (with_boot control device) (D.seen d.old)
-        ∷ [])) }
-    ensures faults { FailsWithDisk D.Disk d.old d.new result }
+    // It does each command that gives this reply and boot control, and may write it.
+    ensures { (command : CommandOf)
+        → (D.is_modelled → GivesControl device (D.seen d.old) command reply control)
+        → WritesControl device (D.seen d.old 4) command control
+        → DoesCommand D.Disk device command d.old d.new result }
 {
     match put_control(d, &control) {
-        Ok(()) => Ok(Device { control, ..device }),
+        Ok(()) => Ok((Device { control, ..device }, reply)),
         Err(fault) => Err(fault),
     }
 }

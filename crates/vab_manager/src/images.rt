@@ -5,18 +5,20 @@ ghost use Rattle.std.specs.Option.{option_copied};
 ghost use Rattle.sha2.specs.Sha256.{sha256};
 ghost use Rattle.vab_disk.specs.Calls.{FailsWithDisk, OnlyReads};
 ghost use Rattle.vab_disk.specs.Disk.{Image};
-ghost use Rattle.vab_model.specs.Step.{bytes_reply, digest_reply, found_of};
-ghost use Rattle.vab_recover.specs.Stands.{bytes_at, state_on, IsDevice};
+ghost use Rattle.vab_model.specs.Commands.{Print, Digest as DigestOf};
+ghost use Rattle.vab_model.specs.Effects.{answers};
+ghost use Rattle.vab_device.specs.Kept.{IsDevice};
+ghost use Rattle.vab_device.specs.Mounted.{bytes_at, mounted_on, effect_on};
 ghost use Rattle.vab_manager.specs.Found.{part_named, part_in, found_part};
 
 use sha2::{Digest, Sha256};
 use vab_bytes::{Listing, Name36};
+use vab_device::{Device, Part};
 use vab_disk::Disk;
 use vab_gate::DiskFault;
 use vab_linear::{Map, read_at};
 use vab_model::{Refusal, Reply};
 use vab_names::{base_of, is_full};
-use vab_recover::{Device, Part};
 
 /// The first partition of this base name.
 pub fn part_named<'a>(parts: &'a Listing<Part>, base: &[u8]) -> Option<&'a Part>
@@ -33,7 +35,9 @@ pub fn part_named<'a>(parts: &'a Listing<Part>, base: &[u8]) -> Option<&'a Part>
 // The partition of a slot under a name.
 fn part_in<'a>(parts: &'a Option<Listing<Part>>, name: &[u8]) -> Result<&'a Part, Refusal>
     requires { 2 ≤ length name.now }
-    ensures { MatchResult result (λ p. part_in name.now parts.now ≡ Ok p.now) (λ f. part_in name.now parts.now ≡ Err f) }
+    ensures { MatchResult result
+        (λ p. part_in name.now parts.now ≡ Ok p.now)
+        (λ f. part_in name.now parts.now ≡ Err f) }
 {
     match parts {
         None => Err(Refusal::NoImages),
@@ -46,7 +50,9 @@ fn part_in<'a>(parts: &'a Option<Listing<Part>>, name: &[u8]) -> Result<&'a Part
 
 /// The partition of a name with a slot's suffix, or why there is none.
 pub fn find<'a>(device: &'a Device, name: &[u8]) -> Result<&'a Part, Refusal>
-    ensures { MatchResult result (λ p. found_part device.now name.now ≡ Ok p.now) (λ f. found_part device.now name.now ≡ Err f) }
+    ensures { MatchResult result
+        (λ p. found_part device.now name.now ≡ Ok p.now)
+        (λ f. found_part device.now name.now ≡ Err f) }
 {
     if is_full(name, 0) {
         part_in(&device.a, name)
@@ -59,7 +65,8 @@ pub fn find<'a>(device: &'a Device, name: &[u8]) -> Result<&'a Part, Refusal>
 
 /// Whether an image can be told.
 pub fn print(device: &Device, name: &[u8]) -> Reply
-    ensures { (image : Image) → result ≡ bytes_reply name.now (found_of (state_on device.now image) name.now) }
+    ensures { (image : Image)
+        → effect_on (mounted_on device.now image) (Print name.now) ≡ answers result }
 {
     match find(device, name) {
         Err(refusal) => Reply::Refused(refusal),
@@ -73,7 +80,8 @@ pub fn print(device: &Device, name: &[u8]) -> Reply
 // The SHA-256 of the bytes of blocks.
 fn digest_of<D: Disk>(d: &mut D, map: &Map) -> Result<[u8; 32], DiskFault>
     requires { All (λ s. s + 8 ≤ D.size d.old) map.now }
-    ensures digest { D.is_modelled → IfOk result (λ h. h ≡ sha256 (bytes_at (D.seen d.old) map.now)) }
+    ensures digest { D.is_modelled
+        → IfOk result (λ h. h ≡ sha256 (bytes_at (D.seen d.old) map.now)) }
     ensures reads { OnlyReads D.Disk d.old d.new }
     ensures faults { FailsWithDisk D.Disk d.old d.new result }
 {
@@ -89,7 +97,8 @@ fn digest_of<D: Disk>(d: &mut D, map: &Map) -> Result<[u8; 32], DiskFault>
 /// The SHA-256 of an image's bytes.
 pub fn digest<D: Disk>(d: &mut D, device: &Device, name: &[u8]) -> Result<Reply, DiskFault>
     requires kept { IsDevice device.now (D.size d.old) }
-    ensures reply { D.is_modelled → IfOk result (λ r. r ≡ digest_reply (found_of (state_on device.now (D.seen d.old)) name.now)) }
+    ensures reply { D.is_modelled → IfOk result
+        (λ r. effect_on (mounted_on device.now (D.seen d.old)) (DigestOf name.now) ≡ answers r) }
     ensures reads { OnlyReads D.Disk d.old d.new }
     ensures faults { FailsWithDisk D.Disk d.old d.new result }
 {

@@ -1,10 +1,36 @@
 -- The update mark: the one spelling of each, and what the bytes of a sector mean.
-use Rattle.std.specs.Prelude.{ℕ, zero, suc, ◌<◌, ◌&&◌, nat_lt, if◌then◌else◌, List, [], ◌∷◌, ◌++◌, slice_index, Option, Some, None, option_map, ok_or, Result, Err}
+use Rattle.std.specs.Prelude.{
+  ℕ,
+  zero,
+  suc,
+  ◌<◌,
+  ◌&&◌,
+  nat_lt,
+  if◌then◌else◌,
+  List,
+  [],
+  ◌∷◌,
+  ◌++◌,
+  slice_index,
+  Option,
+  Some,
+  None,
+  option_map,
+  ok_or,
+  Result,
+  Err,
+}
 use Rattle.vab_bytes.specs.Number.{field}
 use Rattle.vab_marks.specs.declared.sector.MarkFault.{MarkFault}
 use Rattle.vab_marks.specs.declared.sector.MarkFault.TheVariants.{BadField}
 use Rattle.vab_marks.specs.declared.mark.MarkPhase.{MarkPhase}
-use Rattle.vab_marks.specs.declared.mark.MarkPhase.TheVariants.{Idle, Installing, Staged, Merging, Completed}
+use Rattle.vab_marks.specs.declared.mark.MarkPhase.TheVariants.{
+  Idle,
+  Installing,
+  Staged,
+  Merging,
+  Completed,
+}
 use Rattle.vab_marks.specs.declared.mark.UpdateMark.{UpdateMark}
 use Rattle.vab_marks.specs.Sector.{zeros, are_zeros, sealed, head_fault, unless}
 
@@ -42,11 +68,13 @@ phase_of (suc (suc (suc (suc (suc n))))) = None
 abbrev pub with_phase : ℕ → MarkPhase → UpdateMark
 with_phase slot phase = record { phase = phase; slot = slot }
 
--- a field is bad where it has a value that is not named, or a byte is not zero where no field stands
+-- a field is bad where it has a value that is not named, or a byte is not zero where no field
+-- stands
 abbrev pub mark_fields : List ℕ → Result UpdateMark MarkFault
 mark_fields bytes =
     if nat_lt (slice_index bytes 6) 2 && are_zeros (field bytes 7 501)
-    then ok_or (option_map (with_phase (slice_index bytes 6)) (phase_of (slice_index bytes 5))) BadField
+    then ok_or (option_map (with_phase (slice_index bytes 6)) (phase_of (slice_index bytes 5)))
+    BadField
     else Err BadField
 
 -- the mark in the bytes of a sector, or the first fault

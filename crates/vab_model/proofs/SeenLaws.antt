@@ -1,6 +1,23 @@
 -- Boot rules keep what a state has of the boot control: of a slot without images nothing.
 use Rattle.std.proofs.Common.{
-  ◌≡◌, ◌∙◌, ℕ, inl, inr, Bool, true, false, eqb, List, [], ◌∷◌, Option, Some, None, refl, sym, ap
+  ◌≡◌,
+  ◌∙◌,
+  ℕ,
+  inl,
+  inr,
+  Bool,
+  true,
+  false,
+  eqb,
+  List,
+  [],
+  ◌∷◌,
+  Option,
+  Some,
+  None,
+  refl,
+  sym,
+  ap,
 }
 use Rattle.std.specs.Prelude.{◌==◌, if◌then◌else◌, is_some}
 use Rattle.std.proofs.lemmas.Bool.{cases_Bool}

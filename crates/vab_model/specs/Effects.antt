@@ -1,6 +1,21 @@
 -- What a command makes of a state: the reply, and the states that follow one another.
 use Rattle.std.specs.Prelude.{
-  ◌≡◌, ◌⊎◌, ℕ, if◌then◌else◌, Bool, true, false, List, [], ◌∷◌, ◌++◌, map, Option, Some, None, is_some
+  ◌≡◌,
+  ◌⊎◌,
+  ℕ,
+  if◌then◌else◌,
+  Bool,
+  true,
+  false,
+  List,
+  [],
+  ◌∷◌,
+  ◌++◌,
+  map,
+  Option,
+  Some,
+  None,
+  is_some,
 }
 use Rattle.sha2.specs.Sha256.{sha256}
 use Rattle.vab_bootctl.specs.declared.slots.Control.{Control}
@@ -71,7 +86,8 @@ active_effect false s c = refuses NoImages
 
 -- each command has a row
 unfoldable pub effect : State → Command → Effect State
-effect s (SetActive slot) = active_effect (is_some (images_at s slot)) s (activated_of s.control slot)
+effect s (SetActive slot) =
+    active_effect (is_some (images_at s slot)) s (activated_of s.control slot)
 effect s Boot =
     let c = booted_of s.control (has_images s) in
     does (replies.Booted c.current) (with_control c s)

@@ -4,7 +4,8 @@ ghost use Rattle.std.specs.Prelude.{◌≡◌, ◌≤◌, length, IfOk, MatchRes
 ghost use Rattle.vab_bootctl.specs.Boot.{activated_of};
 ghost use Rattle.vab_model.specs.State.{images_at, has_images, with_control, image_named};
 ghost use Rattle.vab_model.specs.Commands.{SetActive, Boot, Mark, command_of};
-ghost use Rattle.vab_model.specs.Effects.{Effect, Image_is, Refused_by, found_in, found_of, print_effect, digest_effect, effect, after_of};
+ghost use Rattle.vab_model.specs.Effects.{Effect, Image_is, Refused_by, found_in, found_of};
+ghost use Rattle.vab_model.specs.Effects.{print_effect, digest_effect, effect, after_of};
 ghost use Rattle.vab_model.specs.declared.state.State.{State as StateOf};
 
 use crate::{Command, Image, NoMemory, Refusal, Reply, State};
@@ -101,7 +102,8 @@ fn activated_at(control: &Control, slot: usize) -> Control
 
 #[tactic(auto, unfolding(crate::specs::Effects::effect))]
 fn set_active(alloc: Global, state: &State, slot: usize) -> Result<(State, Reply), NoMemory>
-    ensures state { IfOk result (λ r. r.0 ≡ after_of state.now (effect state.now (SetActive slot))) }
+    ensures state { IfOk result
+        (λ r. r.0 ≡ after_of state.now (effect state.now (SetActive slot))) }
     ensures reply { IfOk result (λ r. r.1 ≡ (effect state.now (SetActive slot)).reply) }
 {
     if !is_there(state, slot) {
@@ -165,7 +167,8 @@ pub fn step(
     command: &Command,
     _staged: Option<&[u8]>,
 ) -> Result<(State, Reply), NoMemory>
-    ensures state { IfOk result (λ r. r.0 ≡ after_of state.now (effect state.now (command_of command.now))) }
+    ensures state { IfOk result
+        (λ r. r.0 ≡ after_of state.now (effect state.now (command_of command.now))) }
     ensures reply { IfOk result (λ r. r.1 ≡ (effect state.now (command_of command.now)).reply) }
 {
     match *command {

@@ -25,7 +25,8 @@ fn image(alloc: Global, text: &[u8], group: Option<Name36>) -> Result<Image, Fai
     })
 }
 
-// Slot a has `system`, of the group of no slot, and `vendor`, of the group `main`; slot b has no images.
+// Slot a has `system`, of the group of no slot, and `vendor`, of the group `main`; slot b has no
+// images.
 fn device(alloc: Global) -> Result<State, Fail> {
     let main = name(b"main")?;
     let mut images = Vec::new(alloc);

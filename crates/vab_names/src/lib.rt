@@ -1,10 +1,13 @@
-//! Names of partitions and groups that belong to a slot: a base name and the slot's suffix, `_a` or `_b`.
+//! Names of partitions and groups that belong to a slot: a base name and the slot's suffix, `_a` or
+//! `_b`.
 #![tactic(auto)]
 
-ghost use Rattle.std.specs.Prelude.{◌≡◌, ◌≤◌, ◌<◌, ◌+◌, ◌++◌, ◌↔◌, length, IsTrue, ◌==◌, IsSome, IfSome};
+ghost use Rattle.std.specs.Prelude.{◌≡◌, ◌≤◌, ◌<◌, ◌+◌, ◌++◌, ◌↔◌, length, IsTrue, ◌==◌, IsSome};
+ghost use Rattle.std.specs.Prelude.{IfSome};
 ghost use Rattle.std.specs.List.{list_any};
 ghost use Rattle.vab_bytes.specs.Name.{IsName};
-ghost use Rattle.vab_names.specs.Names.{is_base, suffix_of, is_of_slot, base_of, in_slot, is_full, is_store, store_of, default_name, store_group_name};
+ghost use Rattle.vab_names.specs.Names.{is_base, suffix_of, is_of_slot, base_of, in_slot, is_full};
+ghost use Rattle.vab_names.specs.Names.{is_store, store_of, default_name, store_group_name};
 
 use arrayvec::ArrayVec;
 use vab_bytes::Name36;
@@ -77,7 +80,8 @@ pub fn is_full(text: &[u8], slot: usize) -> bool
     is_of_slot(text, slot) && parse_base(base_of(text)).is_some()
 }
 
-/// Whether this is the name of an exception store of the slot: it ends in the slot's suffix and `-cow`.
+/// Whether this is the name of an exception store of the slot: it ends in the slot's suffix and
+/// `-cow`.
 #[tactic(auto, unfolding(crate::specs::Names::is_store))]
 pub fn is_store(name: &[u8], slot: usize) -> bool
     requires { slot < 2 }

@@ -1,5 +1,19 @@
 -- What words ask for: images of these names, with the bytes of the files at these paths.
-use Rattle.std.specs.Prelude.{◌≡◌, ◌≢◌, ℕ, ◌<◌, ◌≤◌, List, ◌∷◌, ◌++◌, length, map, IsTrue, All, AllPairs}
+use Rattle.std.specs.Prelude.{
+  ◌≡◌,
+  ◌≢◌,
+  ℕ,
+  ◌<◌,
+  ◌≤◌,
+  List,
+  ◌∷◌,
+  ◌++◌,
+  length,
+  map,
+  IsTrue,
+  All,
+  AllPairs,
+}
 use Rattle.vab_names.specs.Names.{is_base}
 
 -- an image: its name, and the path of its file

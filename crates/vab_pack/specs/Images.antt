@@ -10,8 +10,13 @@ whole_blocks len = (len + 4095) / 4096 * 4096
 
 -- an image of this name with the bytes of a file
 abbrev pub image_of : List ℕ → List ℕ → SetImage
-image_of name bytes = record { name = name; size = whole_blocks (length bytes); store = 0; bytes = bytes }
+image_of name bytes =
+    record { name = name; size = whole_blocks (length bytes); store = 0; bytes = bytes }
 
 -- images of the names that are asked for are a set, where each of them can stand in one
 abbrev pub NamesOfSet : List Asked → Type 0
-NamesOfSet asked = (images : List SetImage) → map (λ i. i.name) images ≡ map (λ a. a.name) asked → All IsImage images → IsSet images
+NamesOfSet asked =
+    (images : List SetImage)
+    → map (λ i. i.name) images ≡ map (λ a. a.name) asked
+    → All IsImage images
+    → IsSet images

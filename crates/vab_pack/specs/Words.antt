@@ -1,5 +1,24 @@
 -- What words ask for: the images, or the first fault from left to right.
-use Rattle.std.specs.Prelude.{◌≡◌, ℕ, Bool, ◌==◌, nat_lt, if◌then◌else◌, List, [], ◌∷◌, ◌++◌, length, position, Option, Some, None, Result, Ok, Err}
+use Rattle.std.specs.Prelude.{
+  ◌≡◌,
+  ℕ,
+  Bool,
+  ◌==◌,
+  nat_lt,
+  if◌then◌else◌,
+  List,
+  [],
+  ◌∷◌,
+  ◌++◌,
+  length,
+  position,
+  Option,
+  Some,
+  None,
+  Result,
+  Ok,
+  Err,
+}
 use Rattle.std.specs.List.{before_first, after_first}
 use Rattle.std.specs.Str.{bytes_eq}
 use Rattle.vab_names.specs.Names.{is_base}
@@ -8,7 +27,10 @@ use Rattle.vab_pack.specs.declared.fault.WordFault.TheVariants as faults
 use Rattle.vab_pack.specs.Asked.{Asked}
 
 infixl 10 ◌>>=◌
-abbrev pub ◌>>=◌ : {A B : Type 0} → Result A WordFault → (A → Result B WordFault) → Result B WordFault
+abbrev pub ◌>>=◌ : {A B : Type 0}
+    → Result A WordFault
+    → (A → Result B WordFault)
+    → Result B WordFault
 (Ok x) >>= f = f x
 (Err e) >>= f = Err e
 
@@ -43,7 +65,9 @@ unless_first word a (Some first) = Err (faults.Repeated first word)
 
 abbrev pub judged : List Asked → Option Asked → Result Asked WordFault
 judged asked None = Err (faults.BadWord (length asked))
-judged asked (Some a) = if is_base a.name then unless_first (length asked) a (first_named asked a.name) else Err (faults.BadName (length asked))
+judged asked (Some a) =
+    if is_base a.name then unless_first (length asked) a (first_named asked a.name)
+    else Err (faults.BadName (length asked))
 
 -- what the word behind those that ask for these asks for
 unfoldable pub asked_by : List Asked → List ℕ → Result Asked WordFault
@@ -59,4 +83,5 @@ asked_behind asked (word ∷ words) = do
   asked_behind (asked ++ a ∷ []) words
 
 unfoldable pub asked_of : List (List ℕ) → Result (List Asked) WordFault
-asked_of words = if nat_lt 32 (length words) then Err (faults.TooMany (length words)) else asked_behind [] words
+asked_of words =
+    if nat_lt 32 (length words) then Err (faults.TooMany (length words)) else asked_behind [] words

@@ -5,8 +5,8 @@ ghost use Rattle.vab_pack.specs.declared.fault.WordFault.TheVariants as faults;
 
 use std::alloc::{AllocError, AllocFailed};
 
-/// What is wrong with the words: too many of them, or else the first of these from left to right, but for `NoMemory`.
-/// Words are counted from 0.
+/// What is wrong with the words: too many of them, or else the first of these from left to right,
+/// but for `NoMemory`. Words are counted from 0.
 #[derive(Clone, Copy, Debug, PartialEq, Eq)]
 pub enum WordFault {
     /// More than 32 words, and how many.

@@ -11,8 +11,8 @@ use vab_set::SetImage;
 /// Bytes of a block.
 const BLOCK: u64 = 4096;
 
-/// The image of this name with a file's bytes, for a partition of the whole blocks of 4096 bytes that hold them, and
-/// with no store.
+/// The image of this name with a file's bytes, for a partition of the whole blocks of 4096 bytes
+/// that hold them, and with no store.
 pub fn set_image(name: &Name36, bytes: Vec<u8>) -> SetImage
     requires { length bytes.items ≤ 2 ^ 40 }
     ensures exact { result ≡ image_of name.now bytes.items }

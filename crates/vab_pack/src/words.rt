@@ -1,6 +1,7 @@
 //! What words ask for.
 
-ghost use Rattle.std.specs.Prelude.{◌≡◌, ◌⊎◌, List, map, option_map, Some, IfSome, IfOk, IfErr, Ok, Err, string_bytes};
+ghost use Rattle.std.specs.Prelude.{◌≡◌, ◌⊎◌, List, map, option_map, Some, IfSome, IfOk, IfErr, Ok};
+ghost use Rattle.std.specs.Prelude.{Err, string_bytes};
 ghost use Rattle.vab_pack.specs.Asked.{Ask, Asked};
 ghost use Rattle.vab_pack.specs.declared.fault.WordFault.{WordFault as Fault};
 ghost use Rattle.vab_pack.specs.Faults.{HasParts, IsFaultOf};
@@ -18,7 +19,8 @@ const MAX_WORDS: usize = 32;
 // What stands before the first `=` of a word and what stands behind it.
 #[tactic(auto, unfolding(crate::specs::Words::parts_of))]
 fn split_word(word: &str) -> Option<(&str, &str)>
-    ensures { option_map (λ x. record { name = x.0.now; path = x.1.now }) result ≡ parts_of word.now }
+    ensures { option_map (λ x. record { name = x.0.now; path = x.1.now }) result
+        ≡ parts_of word.now }
 {
     let (name, path) = word.split_once('=')?;
     if path.is_empty() {
@@ -27,15 +29,19 @@ fn split_word(word: &str) -> Option<(&str, &str)>
     Some((name, path))
 }
 
-/// What stands before the first `=` of a word and what stands behind it; `None` where there is no `=`, or nothing
-/// behind it. What stands before it may be no name.
+/// What stands before the first `=` of a word and what stands behind it; `None` where there is no
+/// `=`, or nothing behind it. What stands before it may be no name.
 pub fn parse_word(word: &str) -> Option<(&str, &str)>
     // What comes is the word, taken apart.
-    ensures found { IfSome result (λ x. HasParts word.now (record { name = x.0.now; path = x.1.now })) }
+    ensures found { IfSome result
+        (λ x. HasParts word.now (record { name = x.0.now; path = x.1.now })) }
     // What has parts is taken apart.
-    ensures only { (a : Asked) → HasParts word.now a → option_map (λ x. record { name = x.0.now; path = x.1.now }) result ≡ Some a }
+    ensures only { (a : Asked)
+        → HasParts word.now a
+        → option_map (λ x. record { name = x.0.now; path = x.1.now }) result ≡ Some a }
     // Both, by a definition that computes.
-    ensures exact { option_map (λ x. record { name = x.0.now; path = x.1.now }) result ≡ parts_of word.now }
+    ensures exact { option_map (λ x. record { name = x.0.now; path = x.1.now }) result
+        ≡ parts_of word.now }
 {
     split_word(word)
 }
@@ -82,17 +88,22 @@ fn parse_all<'a>(alloc: Global, words: &'a [String]) -> Result<Vec<Entry<'a>>, W
     Ok(entries)
 }
 
-/// The images that the words ask for, each `NAME=FILE` up to its first `=`, in their order; a fault counts words from 0.
-/// No words ask for no image.
+/// The images that the words ask for, each `NAME=FILE` up to its first `=`, in their order; a fault
+/// counts words from 0. No words ask for no image.
 pub fn parse_words<'a>(alloc: Global, words: &'a [String]) -> Result<Vec<Entry<'a>>, WordFault>
     // What comes is what the words spell.
     ensures found { IfOk result (λ v. Ask (map string_bytes words.entry.now) v.items) }
     // What the words spell comes, unless memory is refused.
-    ensures only { (asked : List Asked) → Ask (map string_bytes words.entry.now) asked → Gives (λ v. v.items) result (Ok asked) }
+    ensures only { (asked : List Asked)
+        → Ask (map string_bytes words.entry.now) asked
+        → Gives (λ v. v.items) result (Ok asked) }
     // A fault is what is wrong with the words.
-    ensures fault { IfErr result (λ e. (e ≡ WordFault.NoMemory) ⊎ IsFaultOf (map string_bytes words.entry.now) e) }
+    ensures fault { IfErr result
+        (λ e. (e ≡ WordFault.NoMemory) ⊎ IsFaultOf (map string_bytes words.entry.now) e) }
     // What is wrong with the words comes as a fault, unless memory is refused.
-    ensures faulty { (e : Fault) → IsFaultOf (map string_bytes words.entry.now) e → Gives (λ v. v.items) result (Err e) }
+    ensures faulty { (e : Fault)
+        → IsFaultOf (map string_bytes words.entry.now) e
+        → Gives (λ v. v.items) result (Err e) }
     // All of it, by a definition that computes.
     ensures exact { Gives (λ v. v.items) result (asked_of (map string_bytes words.entry.now)) }
     // Images of these names are a set.

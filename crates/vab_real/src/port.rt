@@ -130,7 +130,11 @@ impl<R: Read + Drop, W: Write + Drop> Disk for FilePort<R, W> {
 
     ghost heard = { λ p. [] };
 
-    ghost faults = { λ p. record { disk = p.disk_faults; source = p.source_faults; sink = p.sink_faults } };
+    ghost faults = { λ p. record {
+      disk = p.disk_faults;
+      source = p.source_faults;
+      sink = p.sink_faults;
+    } };
 
     ghost moment = { λ p. 0 };
 

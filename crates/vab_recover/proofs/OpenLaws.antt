@@ -1,7 +1,30 @@
 -- What a repair of the table leaves of the device that was read.
 use Rattle.std.proofs.Common.{
-  ◌≡◌, ◌≢◌, ◌⊎◌, ◌∙◌, inl, inr, ⊎_elim, ℕ, ◌≤◌, ◌<◌, true, false, leb, List, [], ◌∷◌, length, Result, Ok,
-  Err, refl, sym, ap, subst, arith
+  ◌≡◌,
+  ◌≢◌,
+  ◌⊎◌,
+  ◌∙◌,
+  inl,
+  inr,
+  ⊎_elim,
+  ℕ,
+  ◌≤◌,
+  ◌<◌,
+  true,
+  false,
+  leb,
+  List,
+  [],
+  ◌∷◌,
+  length,
+  Result,
+  Ok,
+  Err,
+  refl,
+  sym,
+  ap,
+  subst,
+  arith,
 }
 use Rattle.std.specs.Prelude.{Bool, Option, Some, None, ◌==◌, IsTrue}
 use Rattle.vab_disk.specs.Disk.{Image, Outcome}
@@ -15,7 +38,13 @@ use Rattle.vab_geometry.specs.Geometry.{IsGeometry}
 use Rattle.vab_tables.specs.declared.table.Table.{Table}
 use Rattle.vab_lpstore.specs.declared.loaded.Loaded.{Loaded}
 use Rattle.vab_lpstore.specs.Layout.{
-  copy_sectors, primary_of, backup_of, primary_bytes, backup_bytes, text_sectors, BothHold
+  copy_sectors,
+  primary_of,
+  backup_of,
+  primary_bytes,
+  backup_bytes,
+  text_sectors,
+  BothHold,
 }
 use Rattle.vab_lpstore.specs.Loading.{slot_table, IsLoaded}
 use Rattle.vab_lpstore.specs.Storing.{IsOfRepair, SameElsewhere, LeavesTable}
@@ -27,16 +56,43 @@ use Rattle.vab_device.specs.Checks.{first_fault, or_else, passing, ◌>>=◌}
 use Rattle.vab_device.specs.Mounted.{mounted_on}
 use Rattle.vab_device.specs.Phases.{Phase, idle, phase_at, own_check}
 use Rattle.vab_device.specs.Reading.{
-  Read, mark_in, control_read, control_in, geometry_at, table_at, tables_in, framed, frame, part_fault,
-  state_fault, judged, stated, kept, device, Reads, AgreeCopies, Represents, SameRead
+  Read,
+  mark_in,
+  control_read,
+  control_in,
+  geometry_at,
+  table_at,
+  tables_in,
+  framed,
+  frame,
+  part_fault,
+  state_fault,
+  judged,
+  stated,
+  kept,
+  device,
+  Reads,
+  AgreeCopies,
+  Represents,
+  SameRead,
 }
 use Rattle.vab_device.proofs.ReadingLaws.{
-  at_idle, device_of, device_same, device_stands, reads_kept, mounted_same
+  at_idle,
+  device_of,
+  device_same,
+  device_stands,
+  reads_kept,
+  mounted_same,
 }
 use Rattle.vab_device.proofs.RepairLaws.{repair_same}
 use Rattle.vab_device.specs.Idle.{idle_read}
 use Rattle.vab_recover.specs.Opened.{
-  idle_kept, with_table, IsOpened, LeavesSame, IsRepair, BothCopiesHold
+  idle_kept,
+  with_table,
+  IsOpened,
+  LeavesSame,
+  IsRepair,
+  BothCopiesHold,
 }
 
 -- ---- a repair

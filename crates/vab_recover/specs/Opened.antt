@@ -56,7 +56,7 @@ abbrev pub BothCopiesHold : ℕ → Image → Type 0
 BothCopiesHold size image = (r : Read) (l : Loaded)
     → Reads size r image
     → IsLoaded r.geometry.max
-      (primary_bytes r.geometry r.mark.slot image)
-      (backup_bytes r.geometry r.mark.slot image)
-      l
+    (primary_bytes r.geometry r.mark.slot image)
+    (backup_bytes r.geometry r.mark.slot image)
+    l
     → BothHold r.geometry r.mark.slot l.text image

@@ -1,6 +1,7 @@
 //! The rules of the slot with images, and the device that is kept.
 
-ghost use Rattle.std.specs.Prelude.{◌≡◌, ◌<◌, ℕ, IfOk, OnOk, IfErr, OnErr, Err, ◌==◌, if◌then◌else◌, Some, None, [], ◌∷◌, true};
+ghost use Rattle.std.specs.Prelude.{◌≡◌, ◌<◌, ℕ, IfOk, OnOk, IfErr, OnErr, Err, ◌==◌};
+ghost use Rattle.std.specs.Prelude.{if◌then◌else◌, Some, None, [], ◌∷◌, true};
 ghost use Rattle.vab_bootctl.specs.Boot.{info_at};
 ghost use Rattle.vab_marks.specs.declared.mark.MarkPhase.TheVariants as marks;
 ghost use Rattle.vab_tables.specs.Rules.{KeepsRules};
@@ -32,8 +33,10 @@ fn is_good(info: &Info) -> bool
 // The rules of the slot with images, by its boot control.
 fn judge_slot(control: &Control, slot: usize) -> Result<(), StartFault>
     requires slot { slot < 2 }
-    ensures ok { OnOk result (first_fault (idle.state_checks slot (control_read_of slot control.now)) ≡ None) }
-    ensures fault { IfErr result (λ f. first_fault (idle.state_checks slot (control_read_of slot control.now)) ≡ Some f) }
+    ensures ok { OnOk result
+        (first_fault (idle.state_checks slot (control_read_of slot control.now)) ≡ None) }
+    ensures fault { IfErr result
+        (λ f. first_fault (idle.state_checks slot (control_read_of slot control.now)) ≡ Some f) }
     ensures kind { IfErr result (λ f. IsOfDisk f → ⊥) }
     ensures current { OnOk result (control.now.current ≡ slot) }
 {
@@ -47,16 +50,17 @@ fn judge_slot(control: &Control, slot: usize) -> Result<(), StartFault>
     Ok(())
 }
 
-/// Whether the partitions of the slot and its boot control keep the rules of a device. `BadPartition`
-/// and `BadState` come exactly where they say, the partitions' first.
+/// Whether the partitions of the slot and its boot control keep the rules of a device.
+/// `BadPartition` and `BadState` come exactly where they say, the partitions' first.
 pub fn judge(alloc: Global, table: &Table, control: &Control, slot: usize) -> Result<(), StartFault>
     requires slot { slot < 2 }
     requires keeps { KeepsRules table.now }
     ensures parts { OnOk result (own_check slot table.now ≡ None) }
-    ensures state { OnOk result (first_fault (idle.state_checks slot (control_read_of slot control.now)) ≡ None) }
+    ensures state { OnOk result
+        (first_fault (idle.state_checks slot (control_read_of slot control.now)) ≡ None) }
     ensures fault { IfErr result (λ f. IsOfContents f
         → or_else (own_check slot table.now)
-          (first_fault (idle.state_checks slot (control_read_of slot control.now)))
+        (first_fault (idle.state_checks slot (control_read_of slot control.now)))
         ≡ Some f) }
     ensures own { OnOk result (IsOwn slot (layout_of table.now).parts) }
     ensures current { OnOk result (control.now.current ≡ slot) }
@@ -93,7 +97,8 @@ pub fn assemble(
     requires phase { mark.phase ≡ marks.Idle }
     requires keeps { KeepsRules table.now }
     requires own { IsOwn mark.slot (layout_of table.now).parts }
-    ensures kept { IfOk result (λ d. with_table table.now d ≡ idle_kept mark control geometry table.now) }
+    ensures kept { IfOk result
+        (λ d. with_table table.now d ≡ idle_kept mark control geometry table.now) }
     ensures mark { IfOk result (λ d. d.mark ≡ mark) }
     ensures control { IfOk result (λ d. d.control ≡ control) }
     ensures geometry { IfOk result (λ d. d.geometry ≡ geometry) }

@@ -8,7 +8,8 @@ ghost use Rattle.vab_device.specs.Kept.{IsDevice};
 ghost use Rattle.vab_device.specs.Mounted.{mounted_on};
 ghost use Rattle.vab_device.specs.Reading.{device, Represents};
 ghost use Rattle.vab_recover.specs.Counts.{CountsFaults};
-ghost use Rattle.vab_recover.specs.Opened.{with_table, idle_kept, IsOpened, LeavesSame, IsRepair, BothCopiesHold};
+ghost use Rattle.vab_recover.specs.Opened.{with_table, idle_kept, IsOpened, LeavesSame, IsRepair};
+ghost use Rattle.vab_recover.specs.Opened.{BothCopiesHold};
 
 use crate::judge::{assemble, judge};
 use crate::read::{read_control, read_geometry, read_mark};
@@ -23,10 +24,12 @@ pub const MIN_SECTORS: u64 = 4120;
 
 /// Reads the device of a disk, but for its table, and the table that it was read from.
 pub fn open<D: Disk>(alloc: Global, d: &mut D) -> Result<(Device, Loaded), StartFault>
-    ensures opened { D.is_modelled → IfOk result (λ r. IsOpened r.0 r.1 (D.size d.old) (D.seen d.old)) }
+    ensures opened { D.is_modelled
+        → IfOk result (λ r. IsOpened r.0 r.1 (D.size d.old) (D.seen d.old)) }
     ensures fault { D.is_modelled → IfErr result
         (λ f. IsOfContents f → device (D.size d.old) (D.seen d.old) ≡ Err f) }
-    ensures is { IfOk result (λ r. with_table r.1.table r.0 ≡ idle_kept r.0.mark r.0.control r.0.geometry r.1.table) }
+    ensures is { IfOk result
+        (λ r. with_table r.1.table r.0 ≡ idle_kept r.0.mark r.0.control r.0.geometry r.1.table) }
     ensures kept { IfOk result (λ r. IsDevice (with_table r.1.table r.0) (D.size d.old)) }
     ensures fits { IfOk result (λ r. length r.1.text ≤ r.0.geometry.max) }
     ensures reads { OnlyReads D.Disk d.old d.new }
@@ -71,15 +74,16 @@ fn with_table(device: Device, loaded: Loaded) -> Device
     }
 }
 
-/// Opens the device of a disk: it reads it, and repairs the copy of its table that a cut of power has
-/// left behind. Each fault of the disk's contents comes exactly where the disk is no device and that is
-/// the first thing wrong; then, and where memory is refused, nothing is written. Where both copies hold
-/// the table's text, nothing is written and nothing is synced.
+/// Opens the device of a disk: it reads it, and repairs the copy of its table that a cut of power
+/// has left behind. Each fault of the disk's contents comes exactly where the disk is no device and
+/// that is the first thing wrong; then, and where memory is refused, nothing is written. Where both
+/// copies hold the table's text, nothing is written and nothing is synced.
 pub fn start<D: Disk>(alloc: Global, d: &mut D) -> Result<Device, StartFault>
     // It answers the device that the disk was, which it still is.
     ensures device { D.is_modelled → IfOk result
         (λ r. device (D.size d.old) (D.seen d.old) ≡ Ok (mounted_on r (D.seen d.new))) }
-    ensures represents { D.is_modelled → IfOk result (λ r. Represents r (D.size d.old) (D.seen d.new)) }
+    ensures represents { D.is_modelled
+        → IfOk result (λ r. Represents r (D.size d.old) (D.seen d.new)) }
     ensures kept { IfOk result (λ r. IsDevice r (D.size d.old)) }
     ensures fault { D.is_modelled → IfErr result
         (λ f. IsOfContents f → device (D.size d.old) (D.seen d.old) ≡ Err f) }
@@ -95,7 +99,8 @@ pub fn start<D: Disk>(alloc: Global, d: &mut D) -> Result<Device, StartFault>
     // Where nothing was pending, each outcome of the repair is a disk that means the same.
     ensures time { D.is_modelled
         → IsAtRest D.Disk d.old
-        → Adds D.moment D.outcomes d.old d.new (LeavesSame (D.told d.old) (D.size d.old) (D.seen d.old)) }
+        → Adds D.moment D.outcomes d.old d.new
+        (LeavesSame (D.told d.old) (D.size d.old) (D.seen d.old)) }
     ensures counts { CountsFaults D.Disk d.old d.new result }
 {
     let (device, loaded) = open(alloc, d)?;

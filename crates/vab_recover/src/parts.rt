@@ -1,6 +1,7 @@
 //! A slot's own partitions as blocks on the disk.
 
-ghost use Rattle.std.specs.Prelude.{◌≡◌, ◌<◌, ◌≤◌, ◌+◌, ◌^◌, length, IfOk, OnErr, Err, IsTrue, true};
+ghost use Rattle.std.specs.Prelude.{◌≡◌, ◌<◌, ◌≤◌, ◌+◌, ◌^◌, length, IfOk, OnErr, Err, IsTrue};
+ghost use Rattle.std.specs.Prelude.{true};
 ghost use Rattle.vab_names.specs.Names.{is_base, base_of, is_of_slot};
 ghost use Rattle.vab_tables.specs.Rules.{KeepsRules, IsPartition, IsGroup};
 ghost use Rattle.vab_blocks.specs.Blocks.{first_sector_of};
@@ -20,9 +21,12 @@ use vab_tables::{Group, Partition, Table};
 // Where the blocks of a partition stand on the disk.
 fn map(alloc: Global, table: &Table, partition: &Partition) -> Result<Map, StartFault>
     requires keeps { KeepsRules table.now }
-    requires rules { IsPartition table.now.minor (length table.now.extents) (length table.now.groups) partition.now }
+    requires rules { IsPartition table.now.minor (length table.now.extents)
+        (length table.now.groups) partition.now }
     requires small { length (blocks_of_partition table.now partition.now) ≤ 2 ^ 28 }
-    ensures blocks { IfOk result (λ m. m ≡ sectors_of (first_sector_of table.now) (blocks_of_partition table.now partition.now)) }
+    ensures blocks { IfOk result (λ m. m
+        ≡ sectors_of (first_sector_of table.now)
+        (blocks_of_partition table.now partition.now)) }
     ensures fault { OnErr result (result ≡ Err StartFault.NoMemory) }
 {
     let mut runs = Vec::new(alloc);
@@ -47,11 +51,13 @@ fn base(name: &Name36) -> Name36
 // A partition with its blocks on the disk.
 fn part(alloc: Global, table: &Table, partition: &Partition) -> Result<Part, StartFault>
     requires keeps { KeepsRules table.now }
-    requires rules { IsPartition table.now.minor (length table.now.extents) (length table.now.groups) partition.now }
+    requires rules { IsPartition table.now.minor (length table.now.extents)
+        (length table.now.groups) partition.now }
     requires small { length (blocks_of_partition table.now partition.now) ≤ 2 ^ 28 }
     requires long { 2 ≤ length partition.now.name }
     requires base { IsTrue (is_base (base_of partition.now.name)) }
-    ensures part { IfOk result (λ p. p ≡ part_on (first_sector_of table.now) (part_of table.now partition.now)) }
+    ensures part { IfOk result
+        (λ p. p ≡ part_on (first_sector_of table.now) (part_of table.now partition.now)) }
     ensures fault { OnErr result (result ≡ Err StartFault.NoMemory) }
 {
     Ok(Part {

@@ -8,7 +8,8 @@ ghost use Rattle.vab_marks.specs.Mark.{mark_of};
 ghost use Rattle.vab_geometry.specs.Geometry.{IsGeometry};
 ghost use Rattle.vab_device.specs.Faults.{Answers, IsOfContents, IsOfDisk};
 ghost use Rattle.vab_device.specs.Kept.{copies_end, super_bytes};
-ghost use Rattle.vab_device.specs.Reading.{mark_read, mark_in, control_read, control_in, geometry_at};
+ghost use Rattle.vab_device.specs.Reading.{mark_read, mark_in, control_read, control_in};
+ghost use Rattle.vab_device.specs.Reading.{geometry_at};
 ghost use Rattle.vab_recover.specs.Counts.{CountsFaults};
 
 use vab_bootctl::{Control, decode_control};
@@ -73,7 +74,8 @@ pub fn read_mark<D: Disk>(d: &mut D) -> Result<UpdateMark, StartFault>
 #[tactic(auto, unfolding(vab_device::specs::Reading::control_in))]
 fn control(sector: &[u8; 512]) -> Result<Control, StartFault>
     ensures ok { IfOk result (λ c. control_of sector.now ≡ Ok c) }
-    ensures fault { IfErr result (λ f. (a b : Bool) → control_read a b (control_of sector.now) ≡ Err f) }
+    ensures fault { IfErr result
+        (λ f. (a b : Bool) → control_read a b (control_of sector.now) ≡ Err f) }
     ensures kind { IfErr result IsOfContents }
     ensures fits { IfOk result Fits }
 {

@@ -46,13 +46,14 @@ fn load<D: Disk>(
     requires rules { IsGeometry geometry.now }
     requires slot { slot < 2 }
     requires copies_on { copies_end geometry.now ≤ super_bytes (D.size d.old) }
-    ensures table { D.is_modelled → IfOk result (λ l. slot_table geometry.now slot (D.seen d.old) ≡ Ok l.table) }
+    ensures table { D.is_modelled
+        → IfOk result (λ l. slot_table geometry.now slot (D.seen d.old) ≡ Ok l.table) }
     ensures fault { D.is_modelled → IfErr result
         (λ f. IsOfContents f → table_at (D.size d.old) geometry.now slot (D.seen d.old) ≡ Err f) }
     ensures loaded { D.is_modelled → IfOk result
         (λ l. IsLoaded geometry.now.max
-          (primary_bytes geometry.now slot (D.seen d.old))
-          (backup_bytes geometry.now slot (D.seen d.old)) l) }
+        (primary_bytes geometry.now slot (D.seen d.old))
+        (backup_bytes geometry.now slot (D.seen d.old)) l) }
     ensures text { IfOk result (λ l. IsTableText geometry.now.max l.text l.table) }
     ensures fits { IfOk result (λ l. length l.text ≤ geometry.now.max) }
     ensures reads { OnlyReads D.Disk d.old d.new }
@@ -83,11 +84,12 @@ pub fn read_table<D: Disk>(
         (λ f. IsOfContents f → table_at (D.size d.old) geometry.now slot (D.seen d.old) ≡ Err f) }
     ensures loaded { D.is_modelled → IfOk result
         (λ l. IsLoaded geometry.now.max
-          (primary_bytes geometry.now slot (D.seen d.old))
-          (backup_bytes geometry.now slot (D.seen d.old)) l) }
+        (primary_bytes geometry.now slot (D.seen d.old))
+        (backup_bytes geometry.now slot (D.seen d.old)) l) }
     ensures text { IfOk result (λ l. IsTableText geometry.now.max l.text l.table) }
     ensures fits { IfOk result (λ l. length l.text ≤ geometry.now.max) }
-    ensures lies { IfOk result (λ l. IsTrue (lies_in (D.size d.old) geometry.now (layout_of l.table).device)) }
+    ensures lies { IfOk result
+        (λ l. IsTrue (lies_in (D.size d.old) geometry.now (layout_of l.table).device)) }
     ensures reads { OnlyReads D.Disk d.old d.new }
     ensures counts { CountsFaults D.Disk d.old d.new result }
 {

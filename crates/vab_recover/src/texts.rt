@@ -1,6 +1,7 @@
 // A table's text, made outside from the public format.
 
-/// One partition of 100 blocks, `system_a` in `main_a`, on a block device of 2097152 bytes whose first logical sector is 2048, with version 10.2.
+/// One partition of 100 blocks, `system_a` in `main_a`, on a block device of 2097152 bytes whose
+/// first logical sector is 2048, with version 10.2.
 pub const UNLIMITED: [u8; 540] = [
     48, 80, 76, 65, 10, 0, 2, 0, 0, 1, 0, 0, 137, 109, 164, 232, 211, 24, 214, 178, 235, 75, 120,
     254, 146, 73, 239, 117, 37, 39, 59, 184, 198, 133, 106, 33, 150, 116, 72, 91, 111, 95, 100,

@@ -1,5 +1,30 @@
 -- What bytes mean: the set, or the first fault from left to right.
-use Rattle.std.specs.Prelude.{◌≡◌, ℕ, zero, suc, not, ◌||◌, ◌==◌, nat_lt, if◌then◌else◌, List, [], ◌∷◌, ◌++◌, length, take, drop, slice_index, position, Option, Some, None, Result, Ok, Err}
+use Rattle.std.specs.Prelude.{
+  ◌≡◌,
+  ℕ,
+  zero,
+  suc,
+  not,
+  ◌||◌,
+  ◌==◌,
+  nat_lt,
+  if◌then◌else◌,
+  List,
+  [],
+  ◌∷◌,
+  ◌++◌,
+  length,
+  take,
+  drop,
+  slice_index,
+  position,
+  Option,
+  Some,
+  None,
+  Result,
+  Ok,
+  Err,
+}
 use Rattle.std.specs.Int.{w32, w64}
 use Rattle.std.specs.Str.{bytes_eq}
 use Rattle.vab_bytes.specs.Number.{le_at}
@@ -27,10 +52,12 @@ Gives view (Err e) read = Fails e read
 
 -- n bytes, all of them there
 abbrev pub taken : ℕ → ℕ → List ℕ → Result (List ℕ × List ℕ) SetFault
-taken image n bytes = if nat_lt (length bytes) n then Err (faults.Cut image) else Ok (take n bytes, drop n bytes)
+taken image n bytes =
+    if nat_lt (length bytes) n then Err (faults.Cut image) else Ok (take n bytes, drop n bytes)
 
 unfoldable pub number_at : ℕ → List ℕ → Result (ℕ × List ℕ) SetFault
-number_at image bytes = if nat_lt (length bytes) 8 then Err (faults.Cut image) else Ok (le_at w64 bytes 0, drop 8 bytes)
+number_at image bytes =
+    if nat_lt (length bytes) 8 then Err (faults.Cut image) else Ok (le_at w64 bytes 0, drop 8 bytes)
 
 -- the name that a text is
 abbrev pub base_of : List ℕ → Option (List ℕ)
@@ -88,7 +115,8 @@ unfoldable pub count_at : List ℕ → Result (ℕ × List ℕ) SetFault
 count_at bytes =
     if nat_lt (length bytes) 8 || not (bytes_eq (take 8 bytes) magic) then Err faults.BadMagic else
     if nat_lt (length bytes) 12 then Err (faults.Cut 0) else
-    if nat_lt 32 (le_at w32 bytes 8) then Err (faults.TooMany (le_at w32 bytes 8)) else Ok (le_at w32 bytes 8, drop 12 bytes)
+    if nat_lt 32 (le_at w32 bytes 8) then Err (faults.TooMany (le_at w32 bytes 8))
+    else Ok (le_at w32 bytes 8, drop 12 bytes)
 
 unfoldable pub set_of : List ℕ → Result (List SetImage) SetFault
 set_of bytes = do

@@ -1,5 +1,19 @@
 -- The bytes that spell a set of images.
-use Rattle.std.specs.Prelude.{◌≢◌, ℕ, ◌<◌, ◌≤◌, ◌^◌, List, [], ◌∷◌, ◌++◌, length, IsTrue, All, AllPairs}
+use Rattle.std.specs.Prelude.{
+  ◌≢◌,
+  ℕ,
+  ◌<◌,
+  ◌≤◌,
+  ◌^◌,
+  List,
+  [],
+  ◌∷◌,
+  ◌++◌,
+  length,
+  IsTrue,
+  All,
+  AllPairs,
+}
 use Rattle.std.specs.Int.{w32, w64, to_le_bytes}
 use Rattle.vab_names.specs.Names.{is_base}
 use Rattle.vab_bytes.specs.Number.{IsBytes}
@@ -11,7 +25,12 @@ magic = 86 ∷ 65 ∷ 66 ∷ 83 ∷ 69 ∷ 84 ∷ 49 ∷ 10 ∷ []
 
 -- an image: its name with its length, three numbers, and its bytes
 unfoldable pub image_text : SetImage → List ℕ
-image_text image = length image.name ∷ image.name ++ to_le_bytes w64 image.size ++ to_le_bytes w64 image.store ++ to_le_bytes w64 (length image.bytes) ++ image.bytes
+image_text image =
+    length image.name ∷ image.name
+    ++ to_le_bytes w64 image.size
+    ++ to_le_bytes w64 image.store
+    ++ to_le_bytes w64 (length image.bytes)
+    ++ image.bytes
 
 unfoldable pub images_text : List SetImage → List ℕ
 images_text [] = []

@@ -5,8 +5,8 @@ ghost use Rattle.vab_set.specs.declared.fault.SetFault.TheVariants as faults;
 
 use std::alloc::{AllocError, AllocFailed};
 
-/// What is wrong with the bytes of a set: the first of these from left to right, but for `NoMemory`. Images are
-/// counted from 0.
+/// What is wrong with the bytes of a set: the first of these from left to right, but for
+/// `NoMemory`. Images are counted from 0.
 #[derive(Clone, Copy, Debug, PartialEq, Eq)]
 pub enum SetFault {
     /// Fewer than 8 bytes, or another magic.

@@ -3,7 +3,8 @@
 ghost use Rattle.std.specs.Prelude.{◌≡◌, List, [], IfOk, Ok};
 ghost use Rattle.vab_set.specs.declared.set.SetImage.{SetImage as ImageValue};
 ghost use Rattle.vab_set.specs.Spelling.{IsSet, set_text};
-ghost use Rattle.vab_set.specs.Reading.{Gives, taken, number_at, base_of, first_named, text_at, new_name, size_at, image_at, images_at, count_at, set_of};
+ghost use Rattle.vab_set.specs.Reading.{Gives, taken, number_at, base_of, first_named, text_at};
+ghost use Rattle.vab_set.specs.Reading.{new_name, size_at, image_at, images_at, count_at, set_of};
 
 use crate::{Set, SetFault, SetImage};
 use std::alloc::Global;
@@ -156,14 +157,18 @@ fn read_all(alloc: Global, bytes: &[u8]) -> Result<Vec<SetImage>, SetFault>
     read_images(alloc, count, rest)
 }
 
-/// The set that the bytes spell, all of the bytes: the magic `VABSET1\n`, the count as four bytes, and for each image
-/// the length of its name as a byte, its name, the sizes of its partition and of its store and the length of its bytes
-/// as eight bytes each, and its bytes. Numbers have the low byte first.
+/// The set that the bytes spell, all of the bytes: the magic `VABSET1\n`, the count as four bytes,
+/// and for each image the length of its name as a byte, its name, the sizes of its partition and of
+/// its store and the length of its bytes as eight bytes each, and its bytes. Numbers have the low
+/// byte first.
 pub fn read_set(alloc: Global, bytes: &[u8]) -> Result<Set, SetFault>
     // What is read is spelled so.
     ensures found { IfOk result (λ s. IsSet s × (bytes.now ≡ set_text s)) }
     // What is spelled so is read, unless memory is refused.
-    ensures only { (s : List ImageValue) → IsSet s → bytes.now ≡ set_text s → Gives (λ v. v) result (Ok s) }
+    ensures only { (s : List ImageValue)
+        → IsSet s
+        → bytes.now ≡ set_text s
+        → Gives (λ v. v) result (Ok s) }
     // Which fault it is.
     ensures exact { Gives (λ v. v) result (set_of bytes.now) }
 {

@@ -1,8 +1,10 @@
--- The arithmetic of space: blocks of 4096 bytes, what an exception store takes, and what a device uses.
+-- The arithmetic of space: blocks of 4096 bytes, what an exception store takes, and what a device
+-- uses.
 use Rattle.std.specs.Prelude.{ℕ, ◌+◌, ◌-◌, ◌*◌, ◌/◌, List, sum, sum_by}
 use Rattle.vab_space.specs.declared.Want.{Want}
 
--- the chunks of a store that holds n exceptions: its header, its areas of 256 entries and one entry more to end the list, and a block for each
+-- the chunks of a store that holds n exceptions: its header, its areas of 256 entries and one entry
+-- more to end the list, and a block for each
 abbrev pub need_of : ℕ → ℕ
 need_of n = 1 + (n / 256 + 1) + n
 

@@ -1,4 +1,5 @@
-//! Tests that cross crates: whole runs of the program over ports in memory, over files and over streams of the tests' own.
+//! Tests that cross crates: whole runs of the program over ports in memory, over files and over
+//! streams of the tests' own.
 #![tactic(auto)]
 
 #[cfg(test)]

@@ -168,7 +168,8 @@ fn a_device_of_one_image_is_made_and_used(rt: HostRuntime) -> Result<(), Fail> {
             &["serve"],
             b"FB01\0\0\0\0\0\0\0\x0eoem digest x_a",
             0,
-            b"FB01\0\0\0\0\0\0\0\x44OKAY73fbfd76aa2143de160edd509ff93771f44db16924bd51235f311f32aaf5fc42",
+            b"FB01\0\0\0\0\0\0\0\x44OKAY\
+              73fbfd76aa2143de160edd509ff93771f44db16924bd51235f311f32aaf5fc42",
         ),
     ];
     steps(&rt, rt.alloc(), SECTORS, &cases)?;

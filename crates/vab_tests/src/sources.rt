@@ -1,4 +1,5 @@
-// Texts of tables, made outside from the public format: minor 2, a block device of 2 MiB that begins at sector 2048, and the groups `default`,
+// Texts of tables, made outside from the public format: minor 2, a block device of 2 MiB that
+// begins at sector 2048, and the groups `default`,
 // `main_a` and `main_b`.
 
 /// `system_a` of 100 blocks at the front of 256, in a group of at most 409600 bytes.

@@ -28,7 +28,8 @@ fn load(alloc: Global, d: &mut MemPort) -> Result<Loaded, LoadFault> {
     load_table(alloc, d, &GEOMETRY, 0)
 }
 
-// The calls are: the primary's first sector as zeros, sync, its second sector, sync, its first sector, and so on.
+// The calls are: the primary's first sector as zeros, sync, its second sector, sync, its first
+// sector, and so on.
 #[test]
 fn an_update_of_664_bytes_to_740_is_cut(rt: HostRuntime) -> Result<(), Fail> {
     let alloc = rt.alloc();

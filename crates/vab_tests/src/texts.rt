@@ -1,4 +1,5 @@
-// Texts of tables, made outside from the public format: minor 2, three groups and a block device of 4 MiB.
+// Texts of tables, made outside from the public format: minor 2, three groups and a block device of
+// 4 MiB.
 
 /// Two partitions of two extents.
 pub const TWO_PARTITIONS: [u8; 664] = [

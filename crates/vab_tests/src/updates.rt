@@ -44,7 +44,8 @@ fn begun(alloc: Global, source: &Table) -> Result<Table, Fail>
     requires own { IsOwn 0 (layout_of source.now).parts }
     ensures keeps { IfOk result (λ t. KeepsRules t) }
     ensures small { IfOk result (λ t. table_size_of t < 2 ^ 24) }
-    ensures target { IfOk result (λ t. IsTarget 1 (layout_of source.now).parts (layout_of t).parts) }
+    ensures target { IfOk result
+        (λ t. IsTarget 1 (layout_of source.now).parts (layout_of t).parts) }
     ensures device { IfOk result (λ t. source.now.devices ≡ t.devices) }
 {
     Ok(import(alloc, source, 0, 1024)?)
@@ -61,7 +62,8 @@ fn edited(alloc: Global, source: &Table, target: &Table, edit: &Edit) -> Result<
     requires device { source.now.devices ≡ target.now.devices }
     ensures keeps { IfOk result (λ t. KeepsRules t) }
     ensures small { IfOk result (λ t. table_size_of t < 2 ^ 24) }
-    ensures target { IfOk result (λ t. IsTarget 1 (layout_of source.now).parts (layout_of t).parts) }
+    ensures target { IfOk result
+        (λ t. IsTarget 1 (layout_of source.now).parts (layout_of t).parts) }
     ensures device { IfOk result (λ t. source.now.devices ≡ t.devices) }
 {
     Ok(apply(alloc, source, target, 1, edit, 1024)?)
@@ -84,7 +86,8 @@ fn edited_twice(
     requires device { source.now.devices ≡ target.now.devices }
     ensures keeps { IfOk result (λ t. KeepsRules t) }
     ensures small { IfOk result (λ t. table_size_of t < 2 ^ 24) }
-    ensures target { IfOk result (λ t. IsTarget 1 (layout_of source.now).parts (layout_of t).parts) }
+    ensures target { IfOk result
+        (λ t. IsTarget 1 (layout_of source.now).parts (layout_of t).parts) }
     ensures device { IfOk result (λ t. source.now.devices ≡ t.devices) }
 {
     let once = edited(alloc, source, target, first)?;
@@ -98,7 +101,8 @@ fn after(alloc: Global, source: &Table, edits: &[Edit; 6]) -> Result<Table, Fail
     requires own { IsOwn 0 (layout_of source.now).parts }
     ensures keeps { IfOk result (λ t. KeepsRules t) }
     ensures small { IfOk result (λ t. table_size_of t < 2 ^ 24) }
-    ensures target { IfOk result (λ t. IsTarget 1 (layout_of source.now).parts (layout_of t).parts) }
+    ensures target { IfOk result
+        (λ t. IsTarget 1 (layout_of source.now).parts (layout_of t).parts) }
     ensures device { IfOk result (λ t. source.now.devices ≡ t.devices) }
 {
     let begun = begun(alloc, source)?;

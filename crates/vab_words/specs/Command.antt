@@ -1,6 +1,17 @@
 -- The command that the words are read by, as what `clap` reads of it.
 use Rattle.std.specs.Prelude.{Bool, true, List, [], Option, Some, codes}
-use Rattle.clap.specs.Words.{App, Row, Rule, Text, new_app, new_rule, subcommand_of, takes, with_rule, with_subcommand}
+use Rattle.clap.specs.Words.{
+  App,
+  Row,
+  Rule,
+  Text,
+  new_app,
+  new_rule,
+  subcommand_of,
+  takes,
+  with_rule,
+  with_subcommand,
+}
 use Rattle.clap.specs.Simple.{new_shape}
 use Rattle.clap.specs.declared.builder.action.ArgAction.TheVariants.{Set, SetTrue}
 
@@ -18,7 +29,9 @@ operand_rule name = record (new_rule name) { action = Some Set; required = true 
 
 -- `make [--limit BYTES] [--metadata-max BYTES]`
 abbrev pub make_app : App
-make_app = with_rule (with_rule (new_app (codes "make")) (option_rule (codes "limit"))) (option_rule (codes "metadata-max"))
+make_app =
+    with_rule (with_rule (new_app (codes "make")) (option_rule (codes "limit")))
+    (option_rule (codes "metadata-max"))
 
 -- `serve [--fresh]`
 abbrev pub serve_app : App
@@ -28,7 +41,8 @@ serve_app = with_rule (new_app (codes "serve")) (flag_rule (codes "fresh"))
 abbrev pub operand_app : Text → Text → App
 operand_app verb operand = with_rule (new_app verb) (operand_rule operand)
 
--- the command before its verbs: one has to be named, no program's name stands before it, and there is no help
+-- the command before its verbs: one has to be named, no program's name stands before it, and there
+-- is no help
 abbrev pub no_verbs : App
 no_verbs = record {
   top = record (new_shape (codes "vab")) {
@@ -45,8 +59,12 @@ with_verb command verb = with_subcommand command verb.top
 
 -- the command of `vab`
 unfoldable pub vab_app : App
-vab_app = with_verb (with_verb (with_verb (with_verb (with_verb (with_verb (with_verb no_verbs make_app) serve_app) (new_app (codes "boot"))) (new_app (codes "mark")))
-    (operand_app (codes "activate") (codes "slot"))) (operand_app (codes "print") (codes "name"))) (operand_app (codes "digest") (codes "name"))
+vab_app =
+    with_verb (with_verb (with_verb (with_verb (with_verb
+    (with_verb (with_verb no_verbs make_app) serve_app) (new_app (codes "boot")))
+    (new_app (codes "mark")))
+    (operand_app (codes "activate") (codes "slot"))) (operand_app (codes "print")
+    (codes "name"))) (operand_app (codes "digest") (codes "name"))
 
 -- the words are such as `clap` takes for this command
 unfoldable pub is_taken : List Text → Bool

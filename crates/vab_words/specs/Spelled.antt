@@ -3,7 +3,17 @@ use Rattle.std.specs.Prelude.{◌≡◌, ◌≢◌, Bool, List, [], ◌∷◌, O
 use Rattle.std.specs.List.{list_any}
 use Rattle.std.specs.Str.{bytes_eq}
 use Rattle.clap.specs.Words.{Text}
-use Rattle.vab_words.specs.Verbs.{Activate, Boot, Digest, Make, Mark, Meaning, Print, Serve, verb_of}
+use Rattle.vab_words.specs.Verbs.{
+  Activate,
+  Boot,
+  Digest,
+  Make,
+  Mark,
+  Meaning,
+  Print,
+  Serve,
+  verb_of,
+}
 
 -- the word is no option: it doesn't begin with a hyphen
 abbrev pub IsPlain : Text → Type 0
@@ -15,10 +25,13 @@ AsksBy verb meaning = (text : Text) → IsPlain text → verb_of (verb ∷ text 
 
 -- `make` and one option with a plain word
 abbrev pub MakesBy : Text → (Text → Option Meaning) → Type 0
-MakesBy option meaning = (text : Text) → IsPlain text → verb_of (codes "make" ∷ option ∷ text ∷ []) ≡ meaning text
+MakesBy option meaning =
+    (text : Text) → IsPlain text → verb_of (codes "make" ∷ option ∷ text ∷ []) ≡ meaning text
 
 abbrev pub verb_names : List Text
-verb_names = codes "make" ∷ codes "serve" ∷ codes "boot" ∷ codes "mark" ∷ codes "activate" ∷ codes "print" ∷ codes "digest" ∷ []
+verb_names =
+    codes "make" ∷ codes "serve" ∷ codes "boot" ∷ codes "mark" ∷ codes "activate" ∷ codes "print" ∷
+    codes "digest" ∷ []
 
 -- the word is the name of a verb
 abbrev pub is_verb_name : Text → Bool

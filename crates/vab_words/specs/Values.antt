@@ -1,5 +1,24 @@
 -- The values of options and operands.
-use Rattle.std.specs.Prelude.{◌≡◌, ◌≤◌, ℕ, Bool, ◌&&◌, ◌==◌, ◌%◌, ◌^◌, List, length, Option, Some, None, codes, if◌then◌else◌, nat_lt, nat_le, option_and_then}
+use Rattle.std.specs.Prelude.{
+  ◌≡◌,
+  ◌≤◌,
+  ℕ,
+  Bool,
+  ◌&&◌,
+  ◌==◌,
+  ◌%◌,
+  ◌^◌,
+  List,
+  length,
+  Option,
+  Some,
+  None,
+  codes,
+  if◌then◌else◌,
+  nat_lt,
+  nat_le,
+  option_and_then,
+}
 use Rattle.std.specs.Char.{is_ascii_digit}
 use Rattle.std.specs.List.{list_all}
 use Rattle.std.specs.Str.{bytes_eq}
@@ -11,14 +30,17 @@ is_number text = list_all is_ascii_digit text && (nat_lt 0 (length text) && nat_
 
 -- the number that 1 to 20 decimal digits write, where it is at most `most`
 unfoldable pub number_up_to : ℕ → List ℕ → Option ℕ
-number_up_to most text = if is_number text && nat_le (digits_value 10 text) most then Some (digits_value 10 text) else None
+number_up_to most text =
+    if is_number text && nat_le (digits_value 10 text) most then Some (digits_value 10 text)
+    else None
 
 -- the bytes of `--limit`: from 0 to 2^44, and 0 where the option isn't given
 unfoldable pub limit_of : Option (List ℕ) → Option ℕ
 limit_of None = Some 0
 limit_of (Some text) = number_up_to (2 ^ 44) text
 
--- the bytes of `--metadata-max`: a multiple of 512 from 512 to 65536, and 65536 where the option isn't given
+-- the bytes of `--metadata-max`: a multiple of 512 from 512 to 65536, and 65536 where the option
+-- isn't given
 abbrev pub whole_sectors : ℕ → Option ℕ
 whole_sectors bytes = if nat_le 512 bytes && bytes % 512 == 0 then Some bytes else None
 
@@ -32,4 +54,5 @@ IsMetadataMax bytes = (bytes % 512 ≡ 0) × (512 ≤ bytes) × (bytes ≤ 65536
 
 -- the slot of a letter: 0 for a and 1 for b
 unfoldable pub slot_of : List ℕ → Option ℕ
-slot_of text = if bytes_eq text (codes "a") then Some 0 else if bytes_eq text (codes "b") then Some 1 else None
+slot_of text =
+    if bytes_eq text (codes "a") then Some 0 else if bytes_eq text (codes "b") then Some 1 else None

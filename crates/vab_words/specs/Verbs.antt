@@ -1,5 +1,19 @@
 -- What the words ask for.
-use Rattle.std.specs.Prelude.{◌≤◌, ◌^◌, ℕ, Bool, false, List, Option, Some, None, codes, if◌then◌else◌, option_and_then, option_map}
+use Rattle.std.specs.Prelude.{
+  ◌≤◌,
+  ◌^◌,
+  ℕ,
+  Bool,
+  false,
+  List,
+  Option,
+  Some,
+  None,
+  codes,
+  if◌then◌else◌,
+  option_and_then,
+  option_map,
+}
 use Rattle.std.specs.Option.{option_map_or}
 use Rattle.std.specs.Str.{bytes_eq}
 use Rattle.clap.specs.Words.{Row, Text, first_of}
@@ -43,7 +57,9 @@ IsInRange (code.Digest name) = Unit {0}
 
 -- `make` with the texts of its options
 unfoldable pub make_of : Option Text → Option Text → Option Meaning
-make_of limit metadata_max = option_and_then (λ bytes. option_map (Make bytes) (metadata_max_of metadata_max)) (limit_of limit)
+make_of limit metadata_max =
+    option_and_then (λ bytes. option_map (Make bytes) (metadata_max_of metadata_max))
+    (limit_of limit)
 
 -- a flag is given where its value is `true`
 unfoldable pub is_set : Option Text → Bool
@@ -52,18 +68,22 @@ is_set value = option_map_or (λ text. bytes_eq text (codes "true")) value false
 -- the verb of this name, by what was found for its arguments
 unfoldable pub verb_in : Text → List Row → Option Meaning
 verb_in name rows =
-    if bytes_eq name (codes "make") then make_of (first_of (codes "limit") rows) (first_of (codes "metadata-max") rows)
+    if bytes_eq name (codes "make") then make_of (first_of (codes "limit") rows)
+    (first_of (codes "metadata-max") rows)
     else if bytes_eq name (codes "serve") then Some (Serve (is_set (first_of (codes "fresh") rows)))
     else if bytes_eq name (codes "boot") then Some Boot
     else if bytes_eq name (codes "mark") then Some Mark
-    else if bytes_eq name (codes "activate") then option_map Activate (option_and_then slot_of (first_of (codes "slot") rows))
+    else if bytes_eq name (codes "activate") then option_map Activate
+    (option_and_then slot_of (first_of (codes "slot") rows))
     else if bytes_eq name (codes "print") then option_map Print (first_of (codes "name") rows)
     else if bytes_eq name (codes "digest") then option_map Digest (first_of (codes "name") rows)
     else None
 
 -- what the words ask for, where they are taken and the values are in form and range
 unfoldable pub verb_of : List Text → Option Meaning
-verb_of words = if is_taken words then option_and_then (λ found. verb_in found.0 found.1) (found_in words) else None
+verb_of words =
+    if is_taken words then option_and_then (λ found. verb_in found.0 found.1) (found_in words)
+    else None
 
 -- why a parse that fails asks for nothing
 abbrev pub fault_of : ErrorKind → WordsFault

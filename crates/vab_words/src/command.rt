@@ -2,7 +2,8 @@
 ghost use Rattle.std.specs.Prelude.{◌≡◌, IfOk, true, false, codes};
 ghost use Rattle.clap.specs.Words.{app_of, new_app, rule_of};
 ghost use Rattle.clap.specs.declared.builder.command.Command.TheViews.{out-Command as fields_of};
-ghost use Rattle.vab_words.specs.Command.{flag_rule, option_rule, operand_rule, make_app, serve_app, operand_app, no_verbs, vab_app};
+ghost use Rattle.vab_words.specs.Command.{flag_rule, option_rule, operand_rule, make_app};
+ghost use Rattle.vab_words.specs.Command.{serve_app, operand_app, no_verbs, vab_app};
 
 use clap::{Arg, ArgAction, Command};
 use std::alloc::{AllocError, Global};

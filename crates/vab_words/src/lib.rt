@@ -1,4 +1,5 @@
-//! The words of the command line of `vab`, behind the device's: a verb with its options and operands.
+//! The words of the command line of `vab`, behind the device's: a verb with its options and
+//! operands.
 #![tactic(auto)]
 
 mod command;

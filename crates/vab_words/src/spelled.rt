@@ -1,16 +1,21 @@
 // What words that are written out ask for.
-ghost use Rattle.std.specs.Prelude.{◌≡◌, true, false, List, ℕ, [], ◌∷◌, Some, None, IfSome, codes, option_map};
+ghost use Rattle.std.specs.Prelude.{◌≡◌, true, false, List, ℕ, [], ◌∷◌, Some, None, IfSome, codes};
+ghost use Rattle.std.specs.Prelude.{option_map};
 ghost use Rattle.vab_words.specs.Spelled.{AsksBy, IsPlain, MakesBy, is_verb_name, name_of};
 ghost use Rattle.vab_words.specs.Values.{slot_of};
-ghost use Rattle.vab_words.specs.Verbs.{Activate, Boot, Digest, Make, Mark, Print, Serve, make_of, verb_of};
+ghost use Rattle.vab_words.specs.Verbs.{Activate, Boot, Digest, Make, Mark, Print, Serve, make_of};
+ghost use Rattle.vab_words.specs.Verbs.{verb_of};
 
 /// What the definition says of words that are written out. It does nothing.
 pub fn spelled_out()
     ensures make { verb_of (codes "make" ∷ []) ≡ Some (Make 0 65536) }
     ensures make_limit { MakesBy (codes "--limit") (λ text. make_of (Some text) None) }
-    ensures make_metadata_max { MakesBy (codes "--metadata-max") (λ text. make_of None (Some text)) }
+    ensures make_metadata_max { MakesBy (codes "--metadata-max")
+        (λ text. make_of None (Some text)) }
     ensures make_both { (limit metadata_max : List ℕ) → IsPlain limit → IsPlain metadata_max
-        → verb_of (codes "make" ∷ codes "--limit" ∷ limit ∷ codes "--metadata-max" ∷ metadata_max ∷ []) ≡ make_of (Some limit) (Some metadata_max) }
+        → verb_of
+        (codes "make" ∷ codes "--limit" ∷ limit ∷ codes "--metadata-max" ∷ metadata_max ∷ [])
+        ≡ make_of (Some limit) (Some metadata_max) }
     ensures serve { verb_of (codes "serve" ∷ []) ≡ Some (Serve false) }
     ensures serve_fresh { verb_of (codes "serve" ∷ codes "--fresh" ∷ []) ≡ Some (Serve true) }
     ensures boot { verb_of (codes "boot" ∷ []) ≡ Some Boot }
@@ -18,9 +23,14 @@ pub fn spelled_out()
     ensures activate { AsksBy (codes "activate") (λ text. option_map Activate (slot_of text)) }
     ensures print { AsksBy (codes "print") (λ text. Some (Print text)) }
     ensures digest { AsksBy (codes "digest") (λ text. Some (Digest text)) }
-    ensures print_any { (text : List ℕ) → verb_of (codes "print" ∷ codes "--" ∷ text ∷ []) ≡ Some (Print text) }
-    ensures digest_any { (text : List ℕ) → verb_of (codes "digest" ∷ codes "--" ∷ text ∷ []) ≡ Some (Digest text) }
+    ensures print_any { (text : List ℕ)
+        → verb_of (codes "print" ∷ codes "--" ∷ text ∷ []) ≡ Some (Print text) }
+    ensures digest_any { (text : List ℕ)
+        → verb_of (codes "digest" ∷ codes "--" ∷ text ∷ []) ≡ Some (Digest text) }
     ensures nothing { verb_of [] ≡ None }
-    ensures other { (word : List ℕ) (rest : List (List ℕ)) → is_verb_name word ≡ false → verb_of (word ∷ rest) ≡ None }
-    ensures first { (word : List ℕ) (rest : List (List ℕ)) → IfSome (verb_of (word ∷ rest)) (λ m. word ≡ name_of m) }
+    ensures other { (word : List ℕ) (rest : List (List ℕ))
+        → is_verb_name word ≡ false
+        → verb_of (word ∷ rest) ≡ None }
+    ensures first { (word : List ℕ) (rest : List (List ℕ))
+        → IfSome (verb_of (word ∷ rest)) (λ m. word ≡ name_of m) }
 {}

@@ -2,7 +2,8 @@
 ghost use Rattle.std.specs.Prelude.{◌≡◌, ◌≤◌, ◌^◌, IfSome, option_map};
 ghost use Rattle.std.specs.Char.{is_ascii_digit};
 ghost use Rattle.std.specs.List.{list_all};
-ghost use Rattle.vab_words.specs.Values.{is_number, number_up_to, limit_of, metadata_max_of, slot_of, IsMetadataMax};
+ghost use Rattle.vab_words.specs.Values.{is_number, number_up_to, limit_of, metadata_max_of};
+ghost use Rattle.vab_words.specs.Values.{slot_of, IsMetadataMax};
 
 const LIMIT_MAX: u64 = 1 << 44;
 
@@ -53,7 +54,8 @@ pub(crate) fn parse_limit(text: Option<&str>) -> Option<u64>
     }
 }
 
-/// The bytes of `--metadata-max`: a multiple of 512 from 512 to 65536, and 65536 where the option isn't given.
+/// The bytes of `--metadata-max`: a multiple of 512 from 512 to 65536, and 65536 where the option
+/// isn't given.
 #[tactic(auto, unfolding(crate::specs::Values::metadata_max_of))]
 pub(crate) fn parse_metadata_max(text: Option<&str>) -> Option<u32>
     ensures value { result ≡ metadata_max_of (option_map (λ t. t.now) text.entry) }

@@ -1,5 +1,6 @@
 // What the words ask for.
-ghost use Rattle.std.specs.Prelude.{◌≡◌, ◌↔◌, IfSome, IfOk, IfErr, Some, None, true, false, map, option_and_then, option_map, string_bytes, codes};
+ghost use Rattle.std.specs.Prelude.{◌≡◌, ◌↔◌, IfSome, IfOk, IfErr, Some, None, true, false, map};
+ghost use Rattle.std.specs.Prelude.{option_and_then, option_map, string_bytes, codes};
 ghost use Rattle.clap.specs.Words.{first_of, found_of, kind_of, rows_of, subcommand_rows_of};
 ghost use Rattle.clap.specs.declared.error.kind.ErrorKind.TheVariants.{OutOfMemory};
 
@@ -74,8 +75,10 @@ ghost use Rattle.vab_words.specs.Verbs.{IsInRange, is_set, make_of, meaning_of, 
 // What clap finds in the words.
 fn parse_matches<'a>(alloc: Global, words: &'a [String]) -> Result<ArgMatches<'a>, WordsFault>
     ensures taken { IfOk result (λ _. is_taken (map string_bytes words.entry.now) ≡ true) }
-    ensures found { IfOk result (λ m. subcommand_rows_of m ≡ found_in (map string_bytes words.entry.now)) }
-    ensures usage { IfErr result (λ fault. fault ≡ WordsFault.Usage → is_taken (map string_bytes words.entry.now) ≡ false) }
+    ensures found { IfOk result
+        (λ m. subcommand_rows_of m ≡ found_in (map string_bytes words.entry.now)) }
+    ensures usage { IfErr result
+        (λ fault. fault ≡ WordsFault.Usage → is_taken (map string_bytes words.entry.now) ≡ false) }
 {
     let matches = vab(alloc)?.try_get_matches_from(words)?;
     Ok(matches)
@@ -93,7 +96,8 @@ fn text_of<'a>(values: &ArgMatches<'a>, id: &str) -> Option<&'a str>
 fn make_in<'a>(values: &ArgMatches<'a>) -> Option<Verb<'a>>
     ensures range { IfSome result IsInRange }
     ensures value { option_map meaning_of result
-        ≡ make_of (first_of (codes "limit") (rows_of (found_of values.now))) (first_of (codes "metadata-max") (rows_of (found_of values.now))) }
+        ≡ make_of (first_of (codes "limit") (rows_of (found_of values.now)))
+        (first_of (codes "metadata-max") (rows_of (found_of values.now))) }
 {
     let limit = parse_limit(text_of(values, "limit"))?;
     let metadata_max = parse_metadata_max(text_of(values, "metadata-max"))?;
@@ -118,7 +122,8 @@ fn is_set(values: &ArgMatches<'_>, id: &str) -> bool
 #[tactic(auto, unfolding(crate::specs::Verbs::verb_in))]
 fn verb_in<'a>(name: &str, values: &ArgMatches<'a>) -> Option<Verb<'a>>
     ensures range { IfSome result IsInRange }
-    ensures value { option_map meaning_of result ≡ verb_in name.now (rows_of (found_of values.now)) }
+    ensures value { option_map meaning_of result
+        ≡ verb_in name.now (rows_of (found_of values.now)) }
 {
     match name {
         "make" => make_in(values),
@@ -137,18 +142,22 @@ fn verb_in<'a>(name: &str, values: &ArgMatches<'a>) -> Option<Verb<'a>>
 // The verb that clap found.
 fn found_verb<'a>(matches: &ArgMatches<'a>) -> Option<Verb<'a>>
     ensures range { IfSome result IsInRange }
-    ensures value { option_map meaning_of result ≡ option_and_then (λ found. verb_in found.0 found.1) (subcommand_rows_of matches.now) }
+    ensures value { option_map meaning_of result
+        ≡ option_and_then (λ found. verb_in found.0 found.1) (subcommand_rows_of matches.now) }
 {
     let (name, values) = matches.subcommand()?;
     verb_in(name, values)
 }
 
-/// What the words behind the device's ask for: `make [--limit BYTES] [--metadata-max BYTES]`, `serve [--fresh]`, `boot`, `mark`,
+/// What the words behind the device's ask for: `make [--limit BYTES] [--metadata-max BYTES]`,
+/// `serve [--fresh]`, `boot`, `mark`,
 /// `activate SLOT`, `print NAME` or `digest NAME`.
 pub fn parse_words<'a>(alloc: Global, words: &'a [String]) -> Result<Verb<'a>, WordsFault>
     // A verb comes only where the words ask for it, and a refusal only where they ask for none.
-    ensures verb { IfOk result (λ v. verb_of (map string_bytes words.entry.now) ≡ Some (meaning_of v)) }
-    ensures usage { IfErr result (λ fault. fault ≡ WordsFault.Usage → verb_of (map string_bytes words.entry.now) ≡ None) }
+    ensures verb { IfOk result
+        (λ v. verb_of (map string_bytes words.entry.now) ≡ Some (meaning_of v)) }
+    ensures usage { IfErr result
+        (λ fault. fault ≡ WordsFault.Usage → verb_of (map string_bytes words.entry.now) ≡ None) }
     ensures range { IfOk result IsInRange }
 {
     let matches = parse_matches(alloc, words)?;

@@ -54,11 +54,14 @@ status_of (refusals.File path fault) = 9
 status_of refusals.NoMemory = 8
 status_of _ = 2
 
--- the words are refused with their fault, and else they ask for images, but where memory was refused
+-- the words are refused with their fault, and else they ask for images, but where memory was
+-- refused
 abbrev pub Answers : {V : Type 0} → Result V Refusal → List (List ℕ) → Type 0
 Answers (Err refusals.NoWords) words = words ≡ []
 Answers (Err (refusals.Words fault)) words = IsFaultOf words fault
-Answers (Err (refusals.TooLarge path)) words = (asked : List Asked) × Ask words asked × HasPath asked path.now
-Answers (Err (refusals.File path fault)) words = (asked : List Asked) × Ask words asked × HasPath asked path.now
+Answers (Err (refusals.TooLarge path)) words =
+    (asked : List Asked) × Ask words asked × HasPath asked path.now
+Answers (Err (refusals.File path fault)) words =
+    (asked : List Asked) × Ask words asked × HasPath asked path.now
 Answers (Err refusals.NoMemory) words = words ≢ []
 Answers _ words = (asked : List Asked) × Ask words asked

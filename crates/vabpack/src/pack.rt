@@ -1,6 +1,7 @@
 //! The bytes of the set that words ask for.
 
-ghost use Rattle.std.specs.Prelude.{◌≡◌, ◌+◌, ◌^◌, take, IfOk, IfSome, IfErr, All, [], ◌∷◌, map, string_bytes};
+ghost use Rattle.std.specs.Prelude.{◌≡◌, ◌+◌, ◌^◌, take, IfOk, IfSome, IfErr, All, [], ◌∷◌, map};
+ghost use Rattle.std.specs.Prelude.{string_bytes};
 ghost use Rattle.vab_pack.specs.Asked.{IsAsked};
 ghost use Rattle.vabpack.specs.Packed.{Answers, IsImageOf, IsOfFiles, AreImagesOf, IsPacked};
 
@@ -18,7 +19,8 @@ const MAX_BYTES: u64 = 1 << 32;
 
 // What is left to read, up to one byte more than a set may have.
 fn read_whole<F: Read + Drop>(alloc: Global, file: F) -> io::Result<Vec<u8>>
-    ensures { IfOk result (λ v. IfSome (F.remaining file) (λ rest. v.items ≡ take (2 ^ 32 + 1) rest)) }
+    ensures { IfOk result
+        (λ v. IfSome (F.remaining file) (λ rest. v.items ≡ take (2 ^ 32 + 1) rest)) }
 {
     let mut bytes = Vec::new(alloc);
     file.take(MAX_BYTES + 1).read_to_end(&mut bytes)?;

@@ -9,7 +9,8 @@ use vab_pack::WordFault;
 use vab_set::NoMemory;
 
 const USAGE: &str = "usage: vabpack NAME=FILE..\n\
-    a set on standard output, with an image for each of up to 32 words: its name, 1 to 30 of A-Z a-z 0-9 _ ., and the file with its bytes";
+    a set on standard output, with an image for each of up to 32 words: its name, \
+    1 to 30 of A-Z a-z 0-9 _ ., and the file with its bytes";
 
 /// Why there is no set.
 #[derive(Debug, Drop)]
@@ -105,7 +106,8 @@ impl<'a> Refusal<'a> {
         }
     }
 
-    /// Says on standard error why there is no set of these words, with the usage where they aren't taken.
+    /// Says on standard error why there is no set of these words, with the usage where they aren't
+    /// taken.
     pub fn explain<R: Eprint>(&self, rt: &R, words: &[String]) {
         let _ = match self {
             Refusal::NoWords => Ok(()),

@@ -20,10 +20,10 @@ returns-clause-made g c = λ t set fits is none.
     let size = g.P.Disk.size old in
     let found : c.in-Ok-read_set.set ≡ set = same_set _ _ _ set c.in-Ok-read_set.set (c.in-Ok.ensures.bytes t) c.deref.ensures.value c.in-Ok-read_set.ensures.exact is in
     let runs = c.make_of.ensures.made t in
-    making_after g.P.Disk.seen g.P.Disk.may_leave g.P.Disk.told g.P.Disk.input_left g.P.Disk.moment g.P.Disk.outcomes g.met.P.Disk.only_now size set c.args.limit c.args.max (done_making set size) old mid new c.make_of.result
+    making_after g.P.Disk g.met.P.Disk.only_now size set c.args.limit c.args.max (done_making set size) old mid new c.make_of.result
     (c.hear_all.ensures.told t) (c.hear_all.ensures.seen t) (c.hear_all.ensures.crash t) (c.hear_all.ensures.time t)
-    (subst (λ (n : ℕ). refusal_of set c.args.limit c.args.max n ≡ None → RunsMaking g.P.Disk.seen g.P.Disk.may_leave g.P.Disk.told g.P.Disk.input_left g.P.Disk.moment g.P.Disk.outcomes n set c.args.limit c.args.max (done_making set n) mid new c.make_of.result) c.hear_all.ensures.size
-    (subst (λ (x : List SetImage). refusal_of x c.args.limit c.args.max (g.P.Disk.size mid) ≡ None → RunsMaking g.P.Disk.seen g.P.Disk.may_leave g.P.Disk.told g.P.Disk.input_left g.P.Disk.moment g.P.Disk.outcomes (g.P.Disk.size mid) x c.args.limit c.args.max (done_making x (g.P.Disk.size mid)) mid new c.make_of.result) found runs) none)
+    (subst (λ (n : ℕ). refusal_of set c.args.limit c.args.max n ≡ None → RunsMaking g.P.Disk n set c.args.limit c.args.max (done_making set n) mid new c.make_of.result) c.hear_all.ensures.size
+    (subst (λ (x : List SetImage). refusal_of x c.args.limit c.args.max (g.P.Disk.size mid) ≡ None → RunsMaking g.P.Disk (g.P.Disk.size mid) x c.args.limit c.args.max (done_making x (g.P.Disk.size mid)) mid new c.make_of.result) found runs) none)
 
 pub returns-clause-refused : goal.returns-clause-refused
 returns-clause-refused g c = λ t set fits is fault refused.
@@ -33,7 +33,7 @@ returns-clause-refused g c = λ t set fits is fault refused.
     let size = g.P.Disk.size old in
     let found : c.in-Ok-read_set.set ≡ set = same_set _ _ _ set c.in-Ok-read_set.set (c.in-Ok.ensures.bytes t) c.deref.ensures.value c.in-Ok-read_set.ensures.exact is in
     let runs = c.make_of.ensures.refused t fault in
-    refused_after g.P.Disk.seen g.P.Disk.may_leave g.P.Disk.told g.P.Disk.input_left g.P.Disk.moment g.P.Disk.outcomes g.met.P.Disk.only_now size (make_line fault) (make_status fault) old mid new c.make_of.result
+    refused_after g.P.Disk g.met.P.Disk.only_now size (make_line fault) (make_status fault) old mid new c.make_of.result
     (c.hear_all.ensures.told t) (c.hear_all.ensures.seen t) (c.hear_all.ensures.crash t) (c.hear_all.ensures.time t)
-    (subst (λ (n : ℕ). refusal_of set c.args.limit c.args.max n ≡ Some fault → RunsRefused g.P.Disk.seen g.P.Disk.may_leave g.P.Disk.told g.P.Disk.input_left g.P.Disk.moment g.P.Disk.outcomes n (make_line fault) (make_status fault) mid new c.make_of.result) c.hear_all.ensures.size
-    (subst (λ (x : List SetImage). refusal_of x c.args.limit c.args.max (g.P.Disk.size mid) ≡ Some fault → RunsRefused g.P.Disk.seen g.P.Disk.may_leave g.P.Disk.told g.P.Disk.input_left g.P.Disk.moment g.P.Disk.outcomes (g.P.Disk.size mid) (make_line fault) (make_status fault) mid new c.make_of.result) found runs) refused)
+    (subst (λ (n : ℕ). refusal_of set c.args.limit c.args.max n ≡ Some fault → RunsRefused g.P.Disk n (make_line fault) (make_status fault) mid new c.make_of.result) c.hear_all.ensures.size
+    (subst (λ (x : List SetImage). refusal_of x c.args.limit c.args.max (g.P.Disk.size mid) ≡ Some fault → RunsRefused g.P.Disk (g.P.Disk.size mid) (make_line fault) (make_status fault) mid new c.make_of.result) found runs) refused)

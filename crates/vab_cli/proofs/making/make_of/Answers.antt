@@ -22,8 +22,8 @@ returns-in-Ok-clause-made g c = λ t none.
     let mid = c.make_device.new.d in
     let new = c.tell_made.new.port in
     let size = g.P.Disk.size old in
-    let tells = subst (λ (n : ℕ). Tells g.P.Disk.seen g.P.Disk.may_leave g.P.Disk.told g.P.Disk.moment g.P.Disk.outcomes (done_making c.args.set.now n) Done mid new c.tell_made.result) c.make_device.ensures.touches.quiet.size (c.tell_made.ensures.tells t) in
-    making_told g.P.Disk.seen g.P.Disk.may_leave g.P.Disk.told g.P.Disk.input_left g.P.Disk.moment g.P.Disk.outcomes g.met.P.Disk.only_now size c.args.set.now c.args.limit c.args.max (done_making c.args.set.now size) old mid new c.tell_made.result
+    let tells = subst (λ (n : ℕ). Tells g.P.Disk (done_making c.args.set.now n) Done mid new c.tell_made.result) c.make_device.ensures.touches.quiet.size (c.tell_made.ensures.tells t) in
+    making_told g.P.Disk g.met.P.Disk.only_now size c.args.set.now c.args.limit c.args.max (done_making c.args.set.now size) old mid new c.tell_made.result
     (c.make_device.ensures.touches.quiet.told t) (c.in-Ok.ensures.made t) (c.in-Ok.ensures.settled t) (c.make_device.ensures.time t) c.tell_made.ensures.either tells
 
 pub returns-then-is_silent-clause-made : goal.returns-then-is_silent-clause-made
@@ -37,7 +37,7 @@ returns-then-is_silent-clause-made g c = λ t none.
     (λ disk. inl (inl (c.from.ensures ∙ disk)))
     (λ memory. inr (c.from.ensures ∙ ap make_status memory))
     (silent_early fault is) in
-    making_untold g.P.Disk.seen g.P.Disk.may_leave g.P.Disk.told g.P.Disk.input_left g.P.Disk.moment g.P.Disk.outcomes g.met.P.Disk.only_now size c.args.set.now c.args.limit c.args.max (done_making c.args.set.now size) old new c.from.result (c.make_device.ensures.touches.quiet.told t)
+    making_untold g.P.Disk g.met.P.Disk.only_now size c.args.set.now c.args.limit c.args.max (done_making c.args.set.now size) old new c.from.result (c.make_device.ensures.touches.quiet.told t)
     (λ memory. ap g.P.Disk.seen (c.in-Err.ensures.untouched (memory_of_none fault (sym c.from.ensures ∙ memory)))) (c.make_device.ensures.time t) either
 
 pub returns-then-is_silent-clause-refused : goal.returns-then-is_silent-clause-refused
@@ -50,7 +50,7 @@ returns-then-is_silent-clause-refused g c = λ t fault refused.
     let memory : c.from.result ≡ NoMemory = c.from.ensures ∙ silent_memory c.in-Err.fault fault gives is in
     let no_disk = not_of_disk c.in-Err.fault fault gives in
     let reads = subst (λ (x : g.row.P.Denot). OnlyReads g.P.Disk old x) (sym (c.in-Err.ensures.untouched no_disk)) (reads_none g.P.Disk old) in
-    refused_unheard g.P.Disk.seen g.P.Disk.may_leave g.P.Disk.told g.P.Disk.input_left g.P.Disk.moment g.P.Disk.outcomes g.met.P.Disk.only_now size (make_line fault) (make_status fault) old new c.from.result (c.make_device.ensures.touches.quiet.told t)
+    refused_unheard g.P.Disk g.met.P.Disk.only_now size (make_line fault) (make_status fault) old new c.from.result (c.make_device.ensures.touches.quiet.told t)
     (reads.seen t) (reads.time t) (silent_line fault) (status_not_port fault) (inr (inr memory))
 
 pub returns-clause-refused : goal.returns-clause-refused
@@ -64,7 +64,7 @@ returns-clause-refused g c = λ t fault refused.
     let same : c.in-Err.fault ≡ fault = loud_refusal c.in-Err.fault fault gives loud in
     let no_disk = not_of_disk c.in-Err.fault fault gives in
     let reads = subst (λ (x : g.row.P.Denot). OnlyReads g.P.Disk old x) (sym (c.in-Err.ensures.untouched no_disk)) (reads_none g.P.Disk old) in
-    let tells = subst (λ (f : MakeFault). Tells g.P.Disk.seen g.P.Disk.may_leave g.P.Disk.told g.P.Disk.moment g.P.Disk.outcomes (make_line f) (make_status f) mid new c.tell_fault.result) same (c.tell_fault.ensures.tells t) in
+    let tells = subst (λ (f : MakeFault). Tells g.P.Disk (make_line f) (make_status f) mid new c.tell_fault.result) same (c.tell_fault.ensures.tells t) in
     let either = subst (λ (f : MakeFault). (c.tell_fault.result ≡ make_status f) ⊎ (c.tell_fault.result ≡ Port)) same c.tell_fault.ensures.either in
-    refused_told g.P.Disk.seen g.P.Disk.may_leave g.P.Disk.told g.P.Disk.input_left g.P.Disk.moment g.P.Disk.outcomes g.met.P.Disk.only_now size (make_line fault) (make_status fault) old mid new c.tell_fault.result (c.make_device.ensures.touches.quiet.told t)
+    refused_told g.P.Disk g.met.P.Disk.only_now size (make_line fault) (make_status fault) old mid new c.tell_fault.result (c.make_device.ensures.touches.quiet.told t)
     (reads.seen t) (reads.crash t) (reads.time t) (silent_line fault) either tells

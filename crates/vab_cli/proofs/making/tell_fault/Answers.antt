@@ -9,5 +9,5 @@ pub returns-in-TooSmall-clause-tells : goal.returns-in-TooSmall-clause-tells
 returns-in-TooSmall-clause-tells g c = λ t.
     let is : c.args.fault ≡ make.TooSmall c.in-TooSmall.field-0 c.in-TooSmall.field-1 = search rules in
     let line : none_line ≡ make_line c.args.fault = sym (ap make_line is) in
-    subst (λ (x : Status). Tells g.P.Disk.seen g.P.Disk.may_leave g.P.Disk.told g.P.Disk.moment g.P.Disk.outcomes (make_line c.args.fault) x c.args.port.now c.tell.new.port c.tell.result) c.from.ensures
-    (subst (λ (l : List ℕ). Tells g.P.Disk.seen g.P.Disk.may_leave g.P.Disk.told g.P.Disk.moment g.P.Disk.outcomes l c.from.result c.args.port.now c.tell.new.port c.tell.result) line (c.tell.ensures.tells t))
+    subst (λ (x : Status). Tells g.P.Disk (make_line c.args.fault) x c.args.port.now c.tell.new.port c.tell.result) c.from.ensures
+    (subst (λ (l : List ℕ). Tells g.P.Disk l c.from.result c.args.port.now c.tell.new.port c.tell.result) line (c.tell.ensures.tells t))

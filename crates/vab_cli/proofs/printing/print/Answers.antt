@@ -18,11 +18,11 @@ returns-in-Ok-print_image-clause-runs g c = λ t s stands.
     let line = λ (x : Mounted). print_told (found_of x.state c.args.name.now) in
     let status = c.in-Ok-print_image.status in
     let opens = c.in-Ok.ensures.opens t in
-    let here = opened_in g.P.Disk.seen g.P.Disk.may_leave g.P.Disk.told g.P.Disk.input_left g.P.Disk.moment g.P.Disk.outcomes g.met.P.Disk.only_now size old mid s opens stands in
+    let here = opened_in g.P.Disk g.met.P.Disk.only_now size old mid s opens stands in
     let sized : g.P.Disk.size mid ≡ size = c.open.ensures.size in
-    let does = does_sized g.P.Disk.seen g.P.Disk.may_leave g.P.Disk.told g.P.Disk.moment g.P.Disk.outcomes (g.P.Disk.size mid) size (λ x. item_named x named (line x)) mid new (Ok status) sized (c.in-Ok-print_image.ensures.does t) s here in
+    let does = does_sized g.P.Disk (g.P.Disk.size mid) size (λ x. item_named x named (line x)) mid new (Ok status) sized (c.in-Ok-print_image.ensures.does t) s here in
     let is = c.in-Ok-print_image.ensures.status t s (subst (λ (n : ℕ). IsIn n s (g.P.Disk.seen mid)) (sym sized) here) in
-    inl (runs_done g.P.Disk.seen g.P.Disk.may_leave g.P.Disk.told g.P.Disk.input_left g.P.Disk.moment g.P.Disk.outcomes g.met.P.Disk.only_now size s named (line s) (inr (λ image is. is)) (verb_status s.state named) old mid new opens status is does)
+    inl (runs_done g.P.Disk g.met.P.Disk.only_now size s named (line s) (inr (λ image is. is)) (verb_status s.state named) old mid new opens status is does)
 
 pub returns-clause-runs : goal.returns-clause-runs
 returns-clause-runs g c = λ t s stands.
@@ -34,7 +34,7 @@ returns-clause-runs g c = λ t s stands.
     let line = λ (x : Mounted). print_told (found_of x.state c.args.name.now) in
     let status = c.in-Err-print_image.status in
     let opens = c.in-Ok.ensures.opens t in
-    let here = opened_in g.P.Disk.seen g.P.Disk.may_leave g.P.Disk.told g.P.Disk.input_left g.P.Disk.moment g.P.Disk.outcomes g.met.P.Disk.only_now size old mid s opens stands in
+    let here = opened_in g.P.Disk g.met.P.Disk.only_now size old mid s opens stands in
     let sized : g.P.Disk.size mid ≡ size = c.open.ensures.size in
-    let does = does_sized g.P.Disk.seen g.P.Disk.may_leave g.P.Disk.told g.P.Disk.moment g.P.Disk.outcomes (g.P.Disk.size mid) size (λ x. item_named x named (line x)) mid new (Err status) sized (c.in-Err-print_image.ensures.does t) s here in
-    inl (runs_failed g.P.Disk.seen g.P.Disk.may_leave g.P.Disk.told g.P.Disk.input_left g.P.Disk.moment g.P.Disk.outcomes g.met.P.Disk.only_now size s named (line s) (inr (λ image is. is)) (verb_status s.state named) old mid new opens status c.in-Err-print_image.ensures.failed (verb_kind s.state named) does)
+    let does = does_sized g.P.Disk (g.P.Disk.size mid) size (λ x. item_named x named (line x)) mid new (Err status) sized (c.in-Err-print_image.ensures.does t) s here in
+    inl (runs_failed g.P.Disk g.met.P.Disk.only_now size s named (line s) (inr (λ image is. is)) (verb_status s.state named) old mid new opens status c.in-Err-print_image.ensures.failed (verb_kind s.state named) does)

@@ -1,7 +1,7 @@
 use Rattle.std.proofs.Common.{◌≡◌, ◌++◌, take}
 use Rattle.vab_disk.specs.Disk.{Adds, SameHoldings, NoFewer}
 use Rattle.vab_disk.specs.Port.{LeavesSaying}
-use Rattle.vab_recover.specs.declared.device.Part.{Part}
+use Rattle.vab_device.specs.declared.device.Part.{Part}
 use Rattle.vab_recover.specs.Stands.{bytes_at}
 use Rattle.vab_manager.specs.Blocks.{KeepsPart}
 use Rattle.vab_cli.proofs.printing.tell_blocks.Given as goal

@@ -23,8 +23,8 @@ returns-in-Err-clause-runs g c = λ t enough.
     let set : c.from_vec-set.result ≡ [] = search rules in
     let gives : Gives {A = Unit {0}} (Err c.in-Err.fault) None = subst (λ said. Gives {A = Unit {0}} (Err c.in-Err.fault) said) (ap (λ (x : List SetImage). refusal_of x 0 65536 size) set ∙ fresh_enough size enough) c.in-Err.ensures.exact in
     let early : IsEarly c.from.result = subst IsEarly (sym c.from.ensures) (made_early c.in-Err.fault gives) in
-    inr (making_failed g.P.Disk.seen g.P.Disk.may_leave g.P.Disk.told g.P.Disk.input_left g.P.Disk.moment g.P.Disk.outcomes g.met.P.Disk.only_now size [] 0 65536 old c.make_device.new.d c.from.result early (c.make_device.ensures.touches.quiet.told t)
-    (subst (λ (x : List SetImage). IsSettled (g.P.Disk.seen old) (g.P.Disk.may_leave old) → Adds g.P.Disk.moment g.P.Disk.outcomes old c.make_device.new.d (LeavesMaking (g.P.Disk.told old) x 0 65536 size (g.P.Disk.seen old))) set (c.make_device.ensures.time t)))
+    inr (making_failed g.P.Disk g.met.P.Disk.only_now size [] 0 65536 old c.make_device.new.d c.from.result early (c.make_device.ensures.touches.quiet.told t)
+    (subst (λ (x : List SetImage). IsAtRest g.P.Disk old → Adds g.P.Disk.moment g.P.Disk.outcomes old c.make_device.new.d (LeavesMaking (g.P.Disk.told old) x 0 65536 size (g.P.Disk.seen old))) set (c.make_device.ensures.time t)))
 
 pub returns-in-Err-clause-small : goal.returns-in-Err-clause-small
 returns-in-Err-clause-small g c = λ small.
@@ -68,9 +68,9 @@ returns-in-Err-start-clause-runs g c = λ t enough.
     let there : IsIn size (made_mounted [] 0 65536 size) (g.P.Disk.seen mid) = record { state = made.state; places = made.places } in
     let other : start_status c.in-Err-start.fault ≢ NotADevice = λ is. is_one size (made_mounted [] 0 65536 size) (g.P.Disk.seen mid) c.in-Err-start.fault there (subst (λ (n : ℕ). device n (g.P.Disk.seen mid) ≡ Err c.in-Err-start.fault) sized (c.in-Err-start.ensures.fault t (contents_of c.in-Err-start.fault is))) in
     let early : IsEarly c.from-in-Err-start.result = subst IsEarly (sym c.from-in-Err-start.ensures) (early_of c.in-Err-start.fault other) in
-    inr (opening_failed g.P.Disk.seen g.P.Disk.may_leave g.P.Disk.told g.P.Disk.input_left g.P.Disk.moment g.P.Disk.outcomes g.met.P.Disk.only_now size [] 0 65536 old mid c.start.new.d c.from-in-Err-start.result early (c.make_device.ensures.touches.quiet.told t) (c.start.ensures.quiet.told t) made (c.in-Ok.ensures.settled t)
-    (subst (λ (x : List SetImage). IsSettled (g.P.Disk.seen old) (g.P.Disk.may_leave old) → Adds g.P.Disk.moment g.P.Disk.outcomes old mid (LeavesMaking (g.P.Disk.told old) x 0 65536 size (g.P.Disk.seen old))) set (c.make_device.ensures.time t))
-    (subst (λ (n : ℕ). IsSettled (g.P.Disk.seen mid) (g.P.Disk.may_leave mid) → Adds g.P.Disk.moment g.P.Disk.outcomes mid c.start.new.d (LeavesSame (g.P.Disk.told mid) n (g.P.Disk.seen mid))) sized (c.start.ensures.time t)))
+    inr (opening_failed g.P.Disk g.met.P.Disk.only_now size [] 0 65536 old mid c.start.new.d c.from-in-Err-start.result early (c.make_device.ensures.touches.quiet.told t) (c.start.ensures.quiet.told t) made (c.in-Ok.ensures.settled t)
+    (subst (λ (x : List SetImage). IsAtRest g.P.Disk old → Adds g.P.Disk.moment g.P.Disk.outcomes old mid (LeavesMaking (g.P.Disk.told old) x 0 65536 size (g.P.Disk.seen old))) set (c.make_device.ensures.time t))
+    (subst (λ (n : ℕ). IsAtRest g.P.Disk mid → Adds g.P.Disk.moment g.P.Disk.outcomes mid c.start.new.d (LeavesSame (g.P.Disk.told mid) n (g.P.Disk.seen mid))) sized (c.start.ensures.time t)))
 
 pub returns-clause-runs : goal.returns-clause-runs
 returns-clause-runs g c = λ t enough.
@@ -85,9 +85,9 @@ returns-clause-runs g c = λ t enough.
     let set : c.from_vec-set.result ≡ [] = search rules in
     let made : IsMade [] 0 65536 size (g.P.Disk.seen mid) = subst (λ (x : List SetImage). IsMade x 0 65536 size (g.P.Disk.seen mid)) set (c.in-Ok.ensures.made t) in
     let there : IsIn size first (g.P.Disk.seen mid) = record { state = made.state; places = made.places } in
-    let opens : Opens g.P.Disk.seen g.P.Disk.may_leave g.P.Disk.told g.P.Disk.input_left g.P.Disk.moment g.P.Disk.outcomes size mid now = opens_made g.P.Disk.seen g.P.Disk.may_leave g.P.Disk.told g.P.Disk.input_left g.P.Disk.moment g.P.Disk.outcomes (g.P.Disk.size mid) size mid now _ sized (c.start.ensures.quiet.told t) (c.start.ensures.quiet.left t) (c.in-Ok-start.ensures.device t) (let stands = c.in-Ok-start.ensures.stands t in stands.state) (c.in-Ok-start.ensures.places t) (c.in-Ok-start.ensures.settled t) (c.start.ensures.time t) in
-    let here = opened_in g.P.Disk.seen g.P.Disk.may_leave g.P.Disk.told g.P.Disk.input_left g.P.Disk.moment g.P.Disk.outcomes g.met.P.Disk.only_now size mid now first opens there in
-    let serves = sized_serves g.P.Disk.seen g.P.Disk.may_leave g.P.Disk.told g.P.Disk.input_left g.P.Disk.moment g.P.Disk.outcomes (g.P.Disk.size now) size (2 ^ 44) now new c.serve-answer.result sized_now (c.serve-answer.ensures.serves t) first here in
-    let runs = made_runs g.P.Disk.seen g.P.Disk.may_leave g.P.Disk.told g.P.Disk.input_left g.P.Disk.moment g.P.Disk.outcomes g.met.P.Disk.only_now size [] 0 65536 old mid now new c.serve-answer.result (c.make_device.ensures.touches.quiet.told t) (c.make_device.ensures.touches.quiet.left t) made (c.in-Ok.ensures.settled t)
-    (subst (λ (x : List SetImage). IsSettled (g.P.Disk.seen old) (g.P.Disk.may_leave old) → Adds g.P.Disk.moment g.P.Disk.outcomes old mid (LeavesMaking (g.P.Disk.told old) x 0 65536 size (g.P.Disk.seen old))) set (c.make_device.ensures.time t)) opens serves in
-    inl (subst (λ (x : Status). RunsSession g.P.Disk.seen g.P.Disk.may_leave g.P.Disk.told g.P.Disk.input_left g.P.Disk.moment g.P.Disk.outcomes size (IsSettled (g.P.Disk.seen old) (g.P.Disk.may_leave old)) (LeavesMaking (g.P.Disk.told old) [] 0 65536 size (g.P.Disk.seen old)) first old new x) (sym c.session_status.ensures) runs)
+    let opens : Opens g.P.Disk size mid now = opens_made g.P.Disk (g.P.Disk.size mid) size mid now _ sized (c.start.ensures.quiet.told t) (c.start.ensures.quiet.left t) (c.in-Ok-start.ensures.device t) (let stands = c.in-Ok-start.ensures.stands t in stands.state) (c.in-Ok-start.ensures.places t) (c.in-Ok-start.ensures.settled t) (c.start.ensures.time t) in
+    let here = opened_in g.P.Disk g.met.P.Disk.only_now size mid now first opens there in
+    let serves = sized_serves g.P.Disk (g.P.Disk.size now) size (2 ^ 44) now new c.serve-answer.result sized_now (c.serve-answer.ensures.serves t) first here in
+    let runs = made_runs g.P.Disk g.met.P.Disk.only_now size [] 0 65536 old mid now new c.serve-answer.result (c.make_device.ensures.touches.quiet.told t) (c.make_device.ensures.touches.quiet.left t) made (c.in-Ok.ensures.settled t)
+    (subst (λ (x : List SetImage). IsAtRest g.P.Disk old → Adds g.P.Disk.moment g.P.Disk.outcomes old mid (LeavesMaking (g.P.Disk.told old) x 0 65536 size (g.P.Disk.seen old))) set (c.make_device.ensures.time t)) opens serves in
+    inl (subst (λ (x : Status). RunsSession g.P.Disk size (IsAtRest g.P.Disk old) (LeavesMaking (g.P.Disk.told old) [] 0 65536 size (g.P.Disk.seen old)) first old new x) (sym c.session_status.ensures) runs)

@@ -13,7 +13,7 @@ returns-clause-runs g c = λ t s stands.
     let new = c.serve-answer.new.p in
     let size = g.P.Disk.size old in
     let opens = c.in-Ok.ensures.opens t in
-    let here = opened_in g.P.Disk.seen g.P.Disk.may_leave g.P.Disk.told g.P.Disk.input_left g.P.Disk.moment g.P.Disk.outcomes g.met.P.Disk.only_now size old mid s opens stands in
-    let serves = sized_serves g.P.Disk.seen g.P.Disk.may_leave g.P.Disk.told g.P.Disk.input_left g.P.Disk.moment g.P.Disk.outcomes (g.P.Disk.size mid) size (2 ^ 44) mid new c.serve-answer.result c.open.ensures.size (c.serve-answer.ensures.serves t) s here in
-    let runs = opened_runs g.P.Disk.seen g.P.Disk.may_leave g.P.Disk.told g.P.Disk.input_left g.P.Disk.moment g.P.Disk.outcomes g.met.P.Disk.only_now size s old mid new c.serve-answer.result opens here serves in
-    inl (subst (λ (x : Status). RunsSession g.P.Disk.seen g.P.Disk.may_leave g.P.Disk.told g.P.Disk.input_left g.P.Disk.moment g.P.Disk.outcomes size (IsAtRest g.P.Disk.seen g.P.Disk.may_leave size old s) (λ o. ⊥) s old new x) (sym c.session_status.ensures) runs)
+    let here = opened_in g.P.Disk g.met.P.Disk.only_now size old mid s opens stands in
+    let serves = sized_serves g.P.Disk (g.P.Disk.size mid) size (2 ^ 44) mid new c.serve-answer.result c.open.ensures.size (c.serve-answer.ensures.serves t) s here in
+    let runs = opened_runs g.P.Disk g.met.P.Disk.only_now size s old mid new c.serve-answer.result opens here serves in
+    inl (subst (λ (x : Status). RunsSession g.P.Disk size (IsAtRest g.P.Disk.seen g.P.Disk.may_leave size old s) (λ o. ⊥) s old new x) (sym c.session_status.ensures) runs)

@@ -1,5 +1,5 @@
-use Rattle.std.proofs.Common.{◌+◌, ◌*◌, ◌<◌, ◌≤◌, ℕ, List, refl, arith, ◌∙◌}
-use Rattle.vab_disk.specs.Calls.{IsBetween, InSectors}
+use Rattle.std.proofs.Common.{◌+◌, ◌*◌, ◌<◌, ℕ, List, refl, arith, ◌∙◌}
+use Rattle.vab_disk.specs.Calls.{IsBetween}
 use Rattle.vab_disk.proofs.CallLaws.{touches_none, touches_then, touches_wider}
 use Rattle.vab_gate.specs.Gate.{IsAmong}
 use Rattle.vab_make.proofs.Parts.{holds_more}

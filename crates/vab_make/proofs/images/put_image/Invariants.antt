@@ -1,6 +1,6 @@
 use Rattle.std.proofs.Common.{◌≡◌, ◌+◌, ◌*◌}
 use Rattle.vab_disk.specs.Calls.{IsBetween, InSectors, Touches}
-use Rattle.vab_make.specs.Steps.{HoldsBlocks, SameAround}
+use Rattle.vab_make.specs.Steps.{HoldsBlocks}
 use Rattle.vab_make.proofs.images.put_image.Given as goal
 
 abbrev pub invariant-loop-k : goal.invariant-loop-k

@@ -1,20 +1,6 @@
-use Rattle.std.proofs.Common.{
-  ◌≡◌,
-  ◌+◌,
-  ◌*◌,
-  ◌<◌,
-  ◌≤◌,
-  ℕ,
-  List,
-  length,
-  get_or,
-  take,
-  refl,
-  ap,
-  ◌∙◌,
-  arith,
-}
-use Rattle.vab_disk.specs.Calls.{IsBetween, InSectors}
+use Rattle.std.proofs.Common.{◌≡◌, ◌+◌, ◌*◌, ◌<◌, ℕ, List, length, get_or, take, refl, ap, ◌∙◌}
+use Rattle.std.proofs.Common.{arith}
+use Rattle.vab_disk.specs.Calls.{IsBetween}
 use Rattle.vab_disk.proofs.CallLaws.{touches_none, touches_then, touches_wider}
 use Rattle.vab_space.specs.Space.{blocks_of}
 use Rattle.vab_set.specs.declared.set.SetImage.{SetImage}
@@ -92,8 +78,8 @@ loop-image-preserved g c =
       touches = touches_then g.D.Disk _ _ _ _ i.touches
           (touches_wider g.D.Disk _ _ _ _ c.put_image.ensures.touches
           (λ s b is.
-          next_of c.loop-image.at c.blocks-count.result c.loop-image.image-index set c.image-item.result
-          s lt i.place size is));
+          next_of c.loop-image.at c.blocks-count.result c.loop-image.image-index set
+          c.image-item.result s lt i.place size is));
       steady = ok.faults.steady ∙ i.steady;
       holds = λ t.
           images_more c.loop-image.image-index c.loop-image.at c.blocks-count.result set

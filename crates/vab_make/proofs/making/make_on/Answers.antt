@@ -1,4 +1,5 @@
 use Rattle.std.proofs.Common.{◌≡◌, ℕ, List, inl, inr, ap, subst, sym, refl, ◌∙◌, arith}
+use Rattle.std.proofs.lemmas.Result.{on_ok_weaker}
 use Rattle.vab_disk.specs.Disk.{Image, set_sector}
 use Rattle.vab_disk.specs.Written.{set_here, set_there}
 use Rattle.vab_disk.proofs.Moments.{adds_on, adds_wider}
@@ -7,7 +8,6 @@ use Rattle.vab_bootctl.specs.Control.{KeepsRest}
 use Rattle.vab_copies.specs.Copies.{zeros}
 use Rattle.vab_make.specs.Making.{IsMade}
 use Rattle.vab_make.specs.Steps.{blanked}
-use Rattle.vab_make.proofs.Parts.{on_ok_map}
 use Rattle.vab_make.proofs.TouchLaws.{mark_stays}
 use Rattle.vab_make.proofs.Gates.{marked, places_marked, blank_making, first_making, last_making}
 use Rattle.vab_make.proofs.making.make_on.Goals as goal
@@ -26,7 +26,8 @@ returns-in_err-put_gate-clause-time g c = λ t limit is rest.
     (first_making (g.D.Disk.told c.args.d.now) c.args.set.now limit c.args.max
     (g.D.Disk.size c.args.d.now) (g.D.Disk.seen c.args.d.now) c.requires.room.enough)
 
-pub returns-in_err-settle_contents-clause-touches : goal.returns-in_err-settle_contents-clause-touches
+pub returns-in_err-settle_contents-clause-touches
+    : goal.returns-in_err-settle_contents-clause-touches
 returns-in_err-settle_contents-clause-touches g c =
     touches_on g.D.Disk _ _ _ _ _ _ c.put_gate.ensures.touches c.settle_contents.ensures.touches
     (λ s b is. inl is.0) (λ s b is. inr is)
@@ -57,7 +58,7 @@ returns-clause-touches g c =
 pub returns-clause-made : goal.returns-clause-made
 returns-clause-made g c = λ t limit is.
     let size = g.D.Disk.size c.args.d.now in
-    on_ok_map c.put_gate-2.result _ _
+    on_ok_weaker c.put_gate-2.result
     (λ now.
     subst (λ (i : Image). IsMade c.args.set.now limit c.args.max size i) (sym now)
     (marked c.args.set.now limit c.args.max size c.args.text.now c.idle_mark.result
@@ -67,7 +68,7 @@ returns-clause-made g c = λ t limit is.
 
 pub returns-clause-copies : goal.returns-clause-copies
 returns-clause-copies g c = λ t.
-    on_ok_map c.put_gate-2.result _ _
+    on_ok_weaker c.put_gate-2.result
     (λ now.
     places_marked c.args.max c.args.text.now c.idle_mark.result
     (g.D.Disk.seen c.settle_contents.new.d) (g.D.Disk.seen c.put_gate-2.new.d) c.requires.most now
@@ -83,7 +84,7 @@ returns-clause-rest g c = λ t.
     let first : mid 4 ≡ old 4 =
     ap (λ (i : Image). i 4) (c.in_ok-put_gate.ensures.written t)
     ∙ set_there old 2048 zeros 4 (λ e. omega (arith, e)) in
-    on_ok_map c.put_gate-2.result _ _
+    on_ok_weaker c.put_gate-2.result
     (λ now.
     let last : new 4 ≡ full 4 =
     ap (λ (i : Image). i 4) now
@@ -102,7 +103,8 @@ returns-clause-time g c = λ t limit is rest.
     let full = g.D.Disk.seen c.settle_contents.new.d in
     let blank = blanked_mark old mid (c.in_ok-put_gate.ensures.written t) in
     let still : full 2048 ≡ zeros =
-    mark_stays c.args.set.now c.args.max mid full (c.settle_contents.ensures.touches.seen t) ∙ blank in
+    mark_stays c.args.set.now c.args.max mid full (c.settle_contents.ensures.touches.seen t)
+    ∙ blank in
     let made =
     marked c.args.set.now limit c.args.max size c.args.text.now c.idle_mark.result full
     (g.met.D.Disk.small c.args.d.now) is (c.in_ok-settle_contents.ensures.all t)

@@ -1,16 +1,17 @@
-use Rattle.std.proofs.Common.{◌≡◌, ◌∙◌, List, ℕ, inl, inr, subst, ap}
+use Rattle.std.proofs.Common.{List, ℕ, subst}
+use Rattle.std.proofs.lemmas.Result.{on_ok_weaker}
 use Rattle.vab_disk.proofs.CallLaws.{touches_wider, touches_on, touches_then}
 use Rattle.vab_bootctl.specs.Control.{KeepsRest}
 use Rattle.vab_make.specs.Steps.{blanked}
 use Rattle.vab_make.specs.Touched.{IsOfContents}
-use Rattle.vab_make.proofs.Parts.{on_ok_map}
 use Rattle.vab_make.proofs.Gates.{all_of}
 use Rattle.vab_make.proofs.TouchLaws.{below_images, control_before}
 use Rattle.vab_make.proofs.making.put_contents.Goals as goal
 
 pub returns-in_err-put_places-clause-touches : goal.returns-in_err-put_places-clause-touches
 returns-in_err-put_places-clause-touches g c =
-    touches_wider g.D.Disk _ _ _ _ c.put_places.ensures.touches (λ s b is. IsOfContents.of_places is)
+    touches_wider g.D.Disk _ _ _ _ c.put_places.ensures.touches
+    (λ s b is. IsOfContents.of_places is)
 
 pub returns-in_err-put_images-clause-touches : goal.returns-in_err-put_images-clause-touches
 returns-in_err-put_images-clause-touches g c =
@@ -27,7 +28,7 @@ returns-clause-touches g c =
 
 pub returns-clause-all : goal.returns-clause-all
 returns-clause-all g c = λ t.
-    on_ok_map c.put_control.result _ _
+    on_ok_weaker c.put_control.result
     (λ is.
     all_of c.args.set.now c.args.max c.args.text.now (g.D.Disk.seen c.put_places.new.d)
     (g.D.Disk.seen c.put_images.new.d) (g.D.Disk.seen c.put_control.new.d) c.requires.most
@@ -38,7 +39,7 @@ returns-clause-all g c = λ t.
 
 pub returns-clause-rest : goal.returns-clause-rest
 returns-clause-rest g c = λ t.
-    on_ok_map c.put_control.result _ _
+    on_ok_weaker c.put_control.result
     (λ is.
     subst (λ (b : List ℕ). KeepsRest (blanked b) (g.D.Disk.seen c.put_control.new.d 4))
     (control_before _ _ _ _ _ (c.put_places.ensures.touches.seen t)

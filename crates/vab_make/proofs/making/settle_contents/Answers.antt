@@ -1,4 +1,4 @@
-use Rattle.std.proofs.Common.{◌≡◌, List, ℕ, ap, sym, subst}
+use Rattle.std.proofs.Common.{sym, subst}
 use Rattle.vab_disk.specs.Disk.{Image}
 use Rattle.vab_disk.proofs.CallLaws.{touches_then, touches_sync}
 use Rattle.vab_bootctl.specs.Control.{KeepsRest}

@@ -1,4 +1,5 @@
 use Rattle.std.proofs.Common.{◌≡◌, ℕ, inl, inr, ap, subst, arith}
+use Rattle.std.proofs.lemmas.Result.{on_ok_weaker}
 use Rattle.vab_disk.specs.Calls.{Touches, InSectors}
 use Rattle.vab_disk.proofs.CallLaws.{touches_wider, touches_on}
 use Rattle.vab_geometry.specs.declared.geometry.Geometry.{Geometry}
@@ -6,7 +7,7 @@ use Rattle.vab_lpstore.specs.Layout.{BothHold}
 use Rattle.vab_make.specs.Made.{made_geometry}
 use Rattle.vab_make.specs.Touched.{IsOfCopies}
 use Rattle.vab_make.proofs.StateLaws.{most_geometry}
-use Rattle.vab_make.proofs.Parts.{on_ok_map, sector_kept}
+use Rattle.vab_make.proofs.Parts.{sector_kept}
 use Rattle.vab_make.proofs.TouchLaws.{below_copies}
 use Rattle.vab_make.proofs.tables.put_places.Goals as goal
 
@@ -20,7 +21,8 @@ returns-clause-touches g c =
     ap (λ (x : Geometry). x.max) c.made_geometry-geometry.ensures in
     touches_on g.D.Disk _ _ _ _ _ _ c.put_geometry.ensures.touches
     (subst
-    (λ (m : ℕ). Touches g.D.Disk (InSectors (IsOfCopies m)) c.put_geometry.new.d c.put_table.new.d) max
+    (λ (m : ℕ). Touches g.D.Disk (InSectors (IsOfCopies m)) c.put_geometry.new.d c.put_table.new.d)
+    max
     c.put_table.ensures.touches)
     (λ s b is. inl is) (λ s b is. inr is)
 
@@ -32,7 +34,7 @@ returns-clause-places g c = λ t.
     c.made_geometry-geometry.ensures in
     let most = most_geometry c.args.max c.requires.most in
     let same = below_copies _ _ _ (c.put_table.ensures.touches.seen t) in
-    on_ok_map c.put_table.result _ _
+    on_ok_weaker c.put_table.result
     (λ stored. record {
       primary =
           sector_kept mid new c.made_geometry-geometry.result c.args.max 4104 is most

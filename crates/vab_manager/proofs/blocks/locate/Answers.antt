@@ -1,12 +1,12 @@
 use Rattle.std.proofs.Common.{◌≡◌, ◌<◌, ℕ, List, Ok, ap, sym, subst, ◌∙◌, refl}
 use Rattle.vab_names.specs.Names.{base_of}
-use Rattle.vab_recover.specs.declared.device.Part.{Part}
-use Rattle.vab_recover.specs.declared.device.Device.{Device}
-use Rattle.vab_recover.specs.Stands.{image_on}
+use Rattle.vab_device.specs.declared.device.Part.{Part}
+use Rattle.vab_device.specs.declared.device.Device.{Device}
+use Rattle.vab_device.specs.Mounted.{image_on}
 use Rattle.vab_manager.specs.Found.{found_part}
 use Rattle.vab_manager.specs.Blocks.{slot_named, KeepsPart}
 use Rattle.vab_manager.proofs.BlockLaws.{found_keeps, found_full, slot_below}
-use Rattle.vab_manager.proofs.NameLaws.{full_long}
+use Rattle.vab_model.proofs.Names.{full_long}
 use Rattle.vab_manager.proofs.FoundLaws.{found_by, found_is}
 use Rattle.vab_manager.proofs.blocks.locate.Goals as goal
 

@@ -1,7 +1,7 @@
 use Rattle.std.proofs.Common.{◌<◌, ℕ, List, length, Result, Ok, Err, subst, sym}
 use Rattle.std.specs.Prelude.{OnOk}
-use Rattle.vab_recover.specs.declared.device.Part.{Part}
-use Rattle.vab_recover.specs.declared.device.Device.{Device}
+use Rattle.vab_device.specs.declared.device.Part.{Part}
+use Rattle.vab_device.specs.declared.device.Device.{Device}
 use Rattle.vab_manager.specs.Blocks.{KeepsPart, HasBlock}
 use Rattle.vab_manager.proofs.BlockLaws.{kept_once, block_on_disk, block_is}
 use Rattle.vab_manager.proofs.blocks.read_block.Goals as goal

@@ -14,7 +14,7 @@ use Rattle.vab_disk.proofs.CallLaws.{touches_reads, touches_then, touches_wider}
 use Rattle.vab_disk.proofs.Moments.{adds_wider, adds_on}
 use Rattle.vab_bootctl.specs.Control.{control_of, KeepsRest}
 use Rattle.vab_bootctl.specs.declared.slots.Control.{Control}
-use Rattle.vab_manager.specs.Controls.{HasControl, LeavesControl, IsControl}
+use Rattle.vab_manager.specs.Controls.{HasControl, LeavesControl}
 use Rattle.vab_manager.proofs.control.put_control.Goals as goal
 
 module _ {D : Type 0} (moment : D → ℕ) (outcomes : D → ℕ → Outcome → Type 0) where

@@ -4,7 +4,7 @@ use Rattle.sha2.specs.Hashers.{Holds256}
 use Rattle.vab_disk.specs.Disk.{Image}
 use Rattle.vab_disk.proofs.CallLaws.{reads_none, reads_then}
 use Rattle.vab_gate.specs.Gate.{sectors_at}
-use Rattle.vab_recover.specs.Stands.{bytes_at}
+use Rattle.vab_device.specs.Mounted.{bytes_at}
 use Rattle.vab_manager.proofs.DigestLaws.{bytes_more, bytes_none}
 use Rattle.vab_manager.proofs.images.digest_of.Goals as goal
 

@@ -1,7 +1,7 @@
 use Rattle.std.proofs.Common.{◌≡◌, take}
 use Rattle.sha2.specs.Hashers.{Holds256}
 use Rattle.vab_disk.specs.Calls.{OnlyReads}
-use Rattle.vab_recover.specs.Stands.{bytes_at}
+use Rattle.vab_device.specs.Mounted.{bytes_at}
 use Rattle.vab_manager.proofs.images.digest_of.Given as goal
 
 abbrev pub invariant-loop-block : goal.invariant-loop-block

@@ -1,5 +1,5 @@
 use Rattle.std.proofs.Common.{sym, ◌∙◌}
-use Rattle.vab_manager.proofs.NameLaws.{full_long}
+use Rattle.vab_model.proofs.Names.{full_long}
 use Rattle.vab_manager.proofs.images.find.Goals as goal
 
 pub part_in-requires : goal.part_in-requires

@@ -1,5 +1,21 @@
 use Rattle.std.proofs.Common.{
-  ◌≡◌, ◌==◌, ℕ, List, [], ◌∷◌, get_or, refl, Some, None, ap, sym, ◌∙◌, eqb, inl, inr, subst
+  ◌≡◌,
+  ◌==◌,
+  ℕ,
+  List,
+  [],
+  ◌∷◌,
+  get_or,
+  refl,
+  Some,
+  None,
+  ap,
+  sym,
+  ◌∙◌,
+  eqb,
+  inl,
+  inr,
+  subst,
 }
 use Rattle.std.specs.Prelude.{if◌then◌else◌, Option, Bool}
 use Rattle.std.proofs.lemmas.Bool.{cases_Bool, eqb-true}
@@ -34,7 +50,7 @@ first_of t keeps ds d same at =
 -- the partitions of a slot, where it is the one with images
 parts_at : (slot k : ℕ) (t : Table)
     → (if slot == k then Some (parts_of slot (layout_of t)) else None)
-      ≡ parts_for k (slot == k) (table_for k (slot ∷ []) (t ∷ []))
+    ≡ parts_for k (slot == k) (table_for k (slot ∷ []) (t ∷ []))
 parts_at slot k t = elim (cases_Bool (eqb slot k)) [
   | inl h ↦ rw h (ap (λ (n : ℕ). Some (parts_of n (layout_of t))) (eqb-true slot k h))
   | inr h ↦ rw h refl
@@ -53,24 +69,41 @@ is_kept : (m : UpdateMark) (c : Control) (g : Geometry) (t : Table) (cap : ℕ) 
     → a ≡ (if m.slot == 0 then Some (parts_of m.slot (layout_of t)) else None)
     → b ≡ (if m.slot == 1 then Some (parts_of m.slot (layout_of t)) else None)
     → (let d : Device = record {
-        geometry = g; control = c; mark = m; cap = cap; groups = groups; a = a; b = b;
-        table_a = None; table_b = None;
-      } in
-      let k : Device = record {
-        geometry = g; control = c; mark = m; cap = cap_of (layout_of t).device;
-        groups = limits_of m.slot t.groups;
-        a = parts_for 0 (p.has_a m.slot) (table_for 0 (p.tables m.slot) (t ∷ []));
-        b = parts_for 1 (p.has_b m.slot) (table_for 1 (p.tables m.slot) (t ∷ []));
-        table_a = table_for 0 (p.tables m.slot) (t ∷ []);
-        table_b = table_for 1 (p.tables m.slot) (t ∷ []);
-      } in
-      with_table t d ≡ k)
+      geometry = g;
+      control = c;
+      mark = m;
+      cap = cap;
+      groups = groups;
+      a = a;
+      b = b;
+      table_a = None;
+      table_b = None;
+    } in
+    let k : Device = record {
+      geometry = g;
+      control = c;
+      mark = m;
+      cap = cap_of (layout_of t).device;
+      groups = limits_of m.slot t.groups;
+      a = parts_for 0 (p.has_a m.slot) (table_for 0 (p.tables m.slot) (t ∷ []));
+      b = parts_for 1 (p.has_b m.slot) (table_for 1 (p.tables m.slot) (t ∷ []));
+      table_a = table_for 0 (p.tables m.slot) (t ∷ []);
+      table_b = table_for 1 (p.tables m.slot) (t ∷ []);
+    } in
+    with_table t d ≡ k)
 is_kept m c g t cap groups a b p is is_cap is_groups is_a is_b =
     let at_a = is_a ∙ parts_at m.slot 0 t in
     let at_b = is_b ∙ parts_at m.slot 1 t in
     rw is (λ i. record {
-      geometry = g; control = c; mark = m; cap = is_cap i; groups = is_groups i;
-      a = at_a i; b = at_b i; table_a = table_at m.slot 0 t i; table_b = table_at m.slot 1 t i;
+      geometry = g;
+      control = c;
+      mark = m;
+      cap = is_cap i;
+      groups = is_groups i;
+      a = at_a i;
+      b = at_b i;
+      table_a = table_at m.slot 0 t i;
+      table_b = table_at m.slot 1 t i;
     })
 
 pub returns-clause-kept : goal.returns-clause-kept
@@ -82,7 +115,7 @@ returns-clause-kept c =
     c.by_slot-a.result.0 c.by_slot-a.result.1 (phase_at m.phase) (at_idle m.phase)
     (c.cap-cap.ensures
     ∙ ap cap_of (first_of t c.requires.keeps c.as_slice.result.now c.index-as_slice-0.result
-      c.as_slice.ensures c.index-as_slice-0.is))
+    c.as_slice.ensures c.index-as_slice-0.is))
     c.in_ok-groups.ensures.limits
     (c.by_slot-a.ensures.a ∙ ap (only 0) c.in_ok-parts.ensures.parts)
     (c.by_slot-a.ensures.b ∙ ap (only 1) c.in_ok-parts.ensures.parts)

@@ -1,5 +1,22 @@
 use Rattle.std.proofs.Common.{
-  ◌≡◌, ◌+◌, ◌≤◌, ◌<◌, ◌∙◌, ℕ, List, length, true, Ok, Err, inl, inr, refl, ap, sym, subst, arith
+  ◌≡◌,
+  ◌+◌,
+  ◌≤◌,
+  ◌<◌,
+  ◌∙◌,
+  ℕ,
+  List,
+  length,
+  true,
+  Ok,
+  Err,
+  inl,
+  inr,
+  refl,
+  ap,
+  sym,
+  subst,
+  arith,
 }
 use Rattle.vab_disk.specs.Disk.{Image, Outcome, Nothing, IsSettled, Adds, SameHoldings}
 use Rattle.vab_disk.specs.Calls.{OnlyReads, Touches, SameBut}
@@ -16,11 +33,21 @@ use Rattle.vab_device.specs.Kept.{IsDevice}
 use Rattle.vab_device.specs.Reading.{device, Represents}
 use Rattle.vab_device.proofs.ReadingLaws.{device_stands}
 use Rattle.vab_recover.specs.Opened.{
-  with_table, idle_kept, IsOpened, IsRepair, LeavesSame, BothCopiesHold
+  with_table,
+  idle_kept,
+  IsOpened,
+  IsRepair,
+  LeavesSame,
+  BothCopiesHold,
 }
 use Rattle.vab_recover.proofs.ReadLaws.{copies_on_disk}
 use Rattle.vab_recover.proofs.OpenLaws.{
-  leaves_same, repair_is, both_flags, represented, means_same, control_stays
+  leaves_same,
+  repair_is,
+  both_flags,
+  represented,
+  means_same,
+  control_stays,
 }
 use Rattle.vab_recover.proofs.opening.start.Goals as goal
 
@@ -53,7 +80,7 @@ module _ {D : Type 0} (moment : D → ℕ) (outcomes : D → ℕ → Outcome →
       → mid ≡ old
       → Adds moment outcomes a b Nothing
       → Adds moment outcomes b c
-        (LeavesTable told_mid d.geometry d.mark.slot (text_sectors (length l.text)) mid l.table)
+      (LeavesTable told_mid d.geometry d.mark.slot (text_sectors (length l.text)) mid l.table)
       → Adds moment outcomes a c (LeavesSame told size old)
   repair_time a b c told told_mid d l size old mid kept fits opened t s none time =
       let n = text_sectors (length l.text) in
@@ -93,7 +120,7 @@ returns-in-Ok-clause-represents g c = λ t.
     let old = g.D.Disk.seen c.args.d.now in
     let new = g.D.Disk.seen c.repair_table.new.d in
     let others = others_of d l old _ new (c.in_ok-device.ensures.reads.seen t)
-        (c.repair_table.ensures.touches.seen t) in
+    (c.repair_table.ensures.touches.seen t) in
     subst (λ (x : Device). Represents x size new) (sym c.with_table.ensures)
     (represented d l size old kept.geometry kept.slot c.in_ok-device.ensures.fits
     (c.in_ok-device.ensures.opened t) new c.in_ok-device.ensures.is others (c.in-Ok.ensures.repaired t)
@@ -108,7 +135,7 @@ returns-in-Ok-clause-device g c = λ t.
     let old = g.D.Disk.seen c.args.d.now in
     let new = g.D.Disk.seen c.repair_table.new.d in
     let others = others_of d l old _ new (c.in_ok-device.ensures.reads.seen t)
-        (c.repair_table.ensures.touches.seen t) in
+    (c.repair_table.ensures.touches.seen t) in
     sym
     (means_same d l size old kept.geometry kept.slot c.in_ok-device.ensures.fits
     (c.in_ok-device.ensures.opened t) new others (c.in-Ok.ensures.repaired t))
@@ -164,8 +191,8 @@ pub returns-in-Ok-clause-healthy : goal.returns-in-Ok-clause-healthy
 returns-in-Ok-clause-healthy g c = λ t hold.
     let kept = c.in_ok-device.ensures.kept in
     let flags = both_flags c.in_ok-device.device c.in_ok-device.loaded (g.D.Disk.size c.args.d.now)
-        (g.D.Disk.seen c.args.d.now) kept.geometry kept.slot c.in_ok-device.ensures.fits
-        (c.in_ok-device.ensures.opened t) hold in
+    (g.D.Disk.seen c.args.d.now) kept.geometry kept.slot c.in_ok-device.ensures.fits
+    (c.in_ok-device.ensures.opened t) hold in
     subst (λ (x : g.row.D.Denot). OnlyReads g.D.Disk c.args.d.now x)
     (sym (c.repair_table.ensures.untouched flags.0 flags.1))
     c.in_ok-device.ensures.reads
@@ -174,8 +201,8 @@ pub returns-in-Err-clause-healthy : goal.returns-in-Err-clause-healthy
 returns-in-Err-clause-healthy g c = λ t hold.
     let kept = c.in_ok-device.ensures.kept in
     let flags = both_flags c.in_ok-device.device c.in_ok-device.loaded (g.D.Disk.size c.args.d.now)
-        (g.D.Disk.seen c.args.d.now) kept.geometry kept.slot c.in_ok-device.ensures.fits
-        (c.in_ok-device.ensures.opened t) hold in
+    (g.D.Disk.seen c.args.d.now) kept.geometry kept.slot c.in_ok-device.ensures.fits
+    (c.in_ok-device.ensures.opened t) hold in
     subst (λ (x : g.row.D.Denot). OnlyReads g.D.Disk c.args.d.now x)
     (sym (c.repair_table.ensures.untouched flags.0 flags.1))
     c.in_ok-device.ensures.reads

@@ -1,0 +1,188 @@
+-- Items that are done, by what was done and told for them.
+use Rattle.std.proofs.Common.{
+  ◌≡◌, ◌∙◌, inl, inr, ⊎_elim, ℕ, ◌<◌, List, [], ◌∷◌, ◌++◌, length, take, Result, Ok, Err, refl, sym, ap, subst,
+  arith, length-append
+}
+use Rattle.std.specs.Prelude.{OnOk}
+use Rattle.std.proofs.lemmas.List.{append-nil}
+use Rattle.vab_disk.specs.declared.disk.Disk.{Ghosts}
+use Rattle.vab_disk.specs.Disk.{Image, Outcome, Adds}
+use Rattle.vab_disk.specs.Calls.{IsAtRest}
+use Rattle.vab_disk.specs.Port.{LeavesSaying}
+use Rattle.vab_disk.specs.Written.{same_image}
+use Rattle.vab_disk.proofs.Moments.{adds_wider, adds_on}
+use Rattle.vab_gate.specs.declared.gate.DiskFault.{DiskFault}
+use Rattle.vab_model.specs.declared.command.Reply.{Reply}
+use Rattle.vab_model.specs.Commands.{Command, Print}
+use Rattle.vab_model.specs.Effects.{
+  Found, Image_is, Refused_by, found_of, effect, effect_map, print_effect, last_of, steps_of, after_of, IsOneOf
+}
+use Rattle.vab_device.specs.declared.device.Device.{Device}
+use Rattle.vab_device.specs.declared.fault.StartFault.{StartFault}
+use Rattle.vab_device.specs.Mounted.{Mounted, mounted_on, in_state, effect_on}
+use Rattle.vab_device.specs.Reading.{device, IsIn, Represents}
+use Rattle.vab_device.proofs.ReadingLaws.{device_stands}
+use Rattle.vab_manager.specs.Commands.{LeavesStep, DoesCommand}
+use Rattle.vab_exchanges.specs.Items.{Item}
+use Rattle.vab_exchanges.specs.Runs.{LeavesItem}
+use Rattle.vab_exchanges.proofs.RunLaws.{telling}
+use Rattle.vab_cli.specs.Telling.{DoesItem, Says}
+use Rattle.vab_cli.specs.Verbs.{command_item, line_item, nothing_staged}
+
+on_ok : {A E P : Type 0} (r : Result A E) → P → OnOk r P
+on_ok (Ok x) p = p
+on_ok (Err e) p = tt
+
+on_ok_map : {A E : Type 0} (r : Result A E) (P Q : Type 0) → (P → Q) → OnOk r P → OnOk r Q
+on_ok_map (Ok x) P Q f is = f is
+on_ok_map (Err e) P Q f is = tt
+
+-- the last of some steps is one of them
+last_step : {S : Type 0} (s : S) (later : List S) → IsOneOf (s ∷ later) (last_of s later)
+last_step s [] = inl refl
+last_step s (x ∷ xs) = inr (last_step x xs)
+
+-- where the disk is this device, the one that is kept is it
+pub mounted_is : (d : Device) (size : ℕ) (image : Image) (s : Mounted)
+    → Represents d size image
+    → IsIn size s image
+    → mounted_on d image ≡ s
+mounted_is d size image s represents is =
+    let same : Ok (mounted_on d image) ≡ Ok s = sym (device_stands d size image represents) ∙ is in
+    cc
+
+module _ {D : Type 0} (g : Ghosts D) (size : ℕ) where
+  -- what is told of an item, with the disk in its last situation and nothing pending
+  saying : {A E : Type 0} (item : Item Mounted) (told : List ℕ) (mid new : D) (r : Result A E)
+      → Says g item.reply mid new r
+      → g.told mid ≡ told
+      → IsIn size item.last.now (g.seen mid)
+      → IsOneOf item.steps item.last.now
+      → IsAtRest g mid
+      → Adds g.moment g.outcomes mid new (LeavesItem (IsIn size) told item)
+  saying item told mid new r says same is one rest =
+      adds_wider g.moment g.outcomes mid new _ _ says.time
+      (telling (IsIn size) told (g.told mid) item [] item.reply [] (g.may_leave mid)
+      (sym (append-nil item.reply)) (same ∙ sym (append-nil told)) one
+      (λ o leaves.
+      ap (device size)
+      (same_image o.image (g.seen mid) (λ s. rest s (o.image s) (leaves.each_sector s)))
+      ∙ is))
+
+  still_rest : {A E : Type 0} (bytes : List ℕ) (mid new : D) (r : Result A E)
+      → Says g bytes mid new r
+      → IsAtRest g mid
+      → IsAtRest g new
+  still_rest bytes mid new r says rest = λ s b held.
+      rest s b ((let crash = says.crash in crash.no_more) s b held)
+      ∙ ap (λ (x : Image). x s) (sym says.seen)
+
+  -- a line is told, and nothing else is done
+  pub does_line : {A E : Type 0} (s : Mounted) (line : List ℕ) (old new : D) (r : Result A E)
+      → IsIn size s (g.seen old)
+      → Says g line old new r
+      → DoesItem g size (line_item s line) old new r
+  does_line s line old new r is says = record {
+    told = says.told;
+    front = says.front;
+    stands = on_ok r (ap (device size) says.seen ∙ is);
+    settled = λ rest. on_ok r (still_rest line old new r says rest);
+    time = λ rest. saying (line_item s line) (g.told old) old new r says refl is (inl refl) rest;
+  }
+
+  -- ---- a command
+
+  module _ (d : Device) (c : Command) (s : Mounted) (line : List ℕ) (some : 0 < length line)
+      (old mid : D)
+      (sized : g.size old ≡ size)
+      (represents : Represents d size (g.seen old))
+      (is : IsIn size s (g.seen old)) where
+    same : mounted_on d (g.seen old) ≡ s
+    same = mounted_is d size (g.seen old) s represents is
+
+    -- before anything is told of it
+    leaves_item : (o : Outcome)
+        → LeavesStep (g.told old) size (steps_of s (effect_on s c)) o
+        → LeavesItem (IsIn size) (g.told old) (command_item s c line) o
+    leaves_item o left = record {
+      front = (0, left.told_so_far ∙ sym (append-nil (g.told old)));
+      step = (left.mounted, left.step, left.means);
+      whole = λ all.
+          absurd
+          (omega (arith, some, ap length (sym left.told_so_far ∙ all), length-append (g.told old) line));
+    }
+
+    doing : {result : Result (Device × Reply) DiskFault}
+        → DoesCommand g d c old mid result
+        → g.is_modelled
+        → IsAtRest g old
+        → Adds g.moment g.outcomes old mid (LeavesItem (IsIn size) (g.told old) (command_item s c line))
+    doing does t rest =
+        adds_wider g.moment g.outcomes old mid _ _
+        (subst
+        (λ (n : ℕ).
+        Adds g.moment g.outcomes old mid (LeavesStep (g.told old) n (steps_of s (effect_on s c))))
+        sized
+        (subst
+        (λ (x : Mounted).
+        Adds g.moment g.outcomes old mid
+        (LeavesStep (g.told old) (g.size old) (steps_of x (effect_on x c))))
+        same (does.time t rest)))
+        leaves_item
+
+    -- the disk failed
+    pub command_fails : {A E : Type 0} (fault : DiskFault) (e : E)
+        → DoesCommand g d c old mid (Err fault)
+        → g.is_modelled
+        → DoesItem g {A = A} size (command_item s c line) old mid (Err e)
+    command_fails fault e does t = record {
+      told = tt;
+      front = (0, does.quiet.told t ∙ sym (append-nil (g.told old)));
+      stands = tt;
+      settled = λ rest. tt;
+      time = doing does t;
+    }
+
+    -- it is done, and its line is told, whole or in part
+    pub command_does : {A E : Type 0} (d' : Device) (reply : Reply) (new : D) (r : Result A E)
+        → DoesCommand g d c old mid (Ok (d', reply))
+        → g.is_modelled
+        → Says g line mid new r
+        → DoesItem g size (command_item s c line) old new r
+    command_does d' reply new r does t says = record {
+      told = on_ok_map r _ _
+          (λ is'. is' ∙ ap (λ (l : List ℕ). l ++ line) (does.quiet.told t)) says.told;
+      front = (let front = says.front in
+        (
+          front.0,
+          front.1 ∙ ap (λ (l : List ℕ). l ++ take front.0 line) (does.quiet.told t),
+        ));
+      stands = on_ok r (ap (device size) says.seen ∙ there);
+      settled = λ rest. on_ok r (still_rest line mid new r says (does.rest t rest));
+      time = λ rest.
+          adds_on g.moment g.outcomes old mid new _ _ (doing does t rest)
+          (saying (command_item s c line) (g.told old) mid new r says (does.quiet.told t) there
+          (last_step s (effect_on s c).later) (does.rest t rest))
+          (λ o leaves. leaves);
+    }
+      where
+        there : IsIn size (after_of s (effect_on s c)) (g.seen mid)
+        there =
+            device_stands d' size (g.seen mid)
+            (subst (λ (n : ℕ). Represents d' n (g.seen mid)) sized (does.represents t))
+            ∙ ap Ok (does.after t)
+            ∙ ap (λ (x : Mounted). (let r : Result Mounted StartFault = Ok (after_of x (effect_on x c)) in r)) same
+
+-- an image's bytes, or why there are none, are told as a line is: nothing changes
+pub print_item : (s : Mounted) (name told : List ℕ)
+    → command_item s (Print name) told ≡ line_item s told
+unfolding effect
+print_item s name told = go (found_of s.state name) where
+  go : (f : Found)
+      → (let item : Item Mounted = record {
+        reply = told;
+        steps = steps_of s (effect_map (in_state s) (print_effect name f));
+        last = nothing_staged (after_of s (effect_map (in_state s) (print_effect name f)));
+      } in item ≡ line_item s told)
+  go (Image_is image) = refl
+  go (Refused_by refusal) = refl

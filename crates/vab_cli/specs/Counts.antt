@@ -1,0 +1,14 @@
+-- What a run leaves of the input and of the counts of faults.
+use Rattle.std.specs.Prelude.{◌≡◌}
+use Rattle.vab_disk.specs.declared.disk.Disk.{Ghosts}
+use Rattle.vab_cli.specs.declared.status.Status.{Status}
+use Rattle.vab_cli.specs.Runs.{Held}
+
+-- the input is as it was
+pub record HearsNothing {D : Type 0} (g : Ghosts D) (old new : D) : Type 0 where
+  pub left : g.input_left new ≡ g.input_left old
+  pub heard : g.heard new ≡ g.heard old
+
+-- No fault is passed over: unless the run ends by one, the counts are as they were.
+abbrev pub IsSteady : {D : Type 0} → Ghosts D → (old new : D) → Status → Type 0
+IsSteady g old new status = Held status → g.faults new ≡ g.faults old

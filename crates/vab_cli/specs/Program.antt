@@ -1,0 +1,170 @@
+-- What the program does where its words ask for a verb.
+use Rattle.std.specs.Prelude.{
+  ◌≡◌, ◌≢◌, ◌⊎◌, ◌≤◌, ◌<◌, ◌^◌, ◌++◌, ℕ, List, [], length, true, false, Some, None, Ok, Err, Bool, Option
+}
+use Rattle.vab_disk.specs.declared.disk.Disk.{Ghosts}
+use Rattle.vab_disk.specs.Disk.{Rose}
+use Rattle.vab_set.specs.Reading.{set_of}
+use Rattle.vab_set.specs.declared.set.SetImage.{SetImage}
+use Rattle.vab_set.specs.declared.fault.SetFault.{SetFault}
+use Rattle.vab_model.specs.Commands.{Command}
+use Rattle.vab_device.specs.declared.fault.StartFault.{StartFault}
+use Rattle.vab_device.specs.Mounted.{Mounted}
+use Rattle.vab_device.specs.Reading.{device, IsIn}
+use Rattle.vab_make.specs.declared.fault.MakeFault.{MakeFault}
+use Rattle.vab_make.specs.Made.{refusal_of, made_device_of}
+use Rattle.vab_make.specs.Making.{LeavesMaking}
+use Rattle.vab_words.specs.Verbs.{Meaning, Make, Serve}
+use Rattle.vab_exchanges.specs.Session.{Exchange, End, IsSession}
+use Rattle.vab_exchanges.specs.Items.{output_of}
+use Rattle.vab_session.specs.Responses.{response}
+use Rattle.vab_cli.specs.declared.status.Status.{Status}
+use Rattle.vab_cli.specs.declared.status.Status.TheVariants.{
+  Done, Usage, Malformed, NotADevice, Disk, Port, NoMemory
+}
+use Rattle.vab_cli.specs.Codes.{make_status}
+use Rattle.vab_cli.specs.Counts.{HearsNothing, IsSteady}
+use Rattle.vab_cli.specs.Runs.{
+  SaysEnd, Held, NoFault, RunsSession, RunsItem, FailsBefore, RunsNone, RunsRefused, RunsMaking, FailsMaking
+}
+use Rattle.vab_cli.specs.Verbs.{
+  command_of, none_line, nothing_staged, verb_item, verb_status, make_line, done_making
+}
+
+-- The whole session of the input is told, as it ends.
+pub record AnswersAll {D : Type 0}
+    (g : Ghosts D)
+    (first : Mounted)
+    (old new : D)
+    (status : Status) : Type 0 where
+  pub refused : ℕ → Bool
+  pub exchanges : List Exchange
+  pub unfinished : Option (List ℕ)
+  pub end : End
+  pub session : IsSession (2 ^ 44) refused (g.input_left old) exchanges unfinished end
+  pub status_is : SaysEnd status end
+  pub held : Held status
+  pub told : g.told new
+      ≡ g.told old ++ output_of response (nothing_staged first) exchanges unfinished
+
+pub record DoesVerb {D : Type 0}
+    (g : Ghosts D)
+    (m : Meaning)
+    (old new : D)
+    (status : Status) : Type 0 where
+  -- `boot`, `mark`, `activate S`, `print NAME`, `digest NAME` over a disk that is a device: one item,
+  -- done or refused as the table of effects says, with its line or bytes told. Each cut of power leaves
+  -- a front of what is told and one of its steps, and where all is told the last. Or the disk failed or
+  -- memory was refused while it was opened.
+  pub item : g.is_modelled
+      → (c : Command)
+      → command_of m ≡ Some c
+      → (s : Mounted)
+      → IsIn (g.size old) s (g.seen old)
+      → RunsItem g (g.size old) s (verb_item s c) (verb_status s.state c) old new status
+        ⊎ FailsBefore g (g.size old) s old new status
+  -- Over a disk that is none: `not a device`, status 5, and nothing is written.
+  pub none : g.is_modelled
+      → (c : Command)
+      → command_of m ≡ Some c
+      → (fault : StartFault)
+      → device (g.size old) (g.seen old) ≡ Err fault
+      → RunsNone g (g.size old) none_line old new status
+  -- They hear nothing.
+  pub quiet : g.is_modelled → (c : Command) → command_of m ≡ Some c → HearsNothing g old new
+
+  -- `serve` over a disk that is a device: the session of the input, with its bytes told, and so is each
+  -- cut of power. Or the disk failed or memory was refused while it was opened. Over a disk that is
+  -- none: status 5, and nothing is told or written.
+  pub serve : g.is_modelled
+      → m ≡ Serve false
+      → (s : Mounted)
+      → IsIn (g.size old) s (g.seen old)
+      → RunsSession g (g.size old) (λ o. ⊥) s old new status
+        ⊎ FailsBefore g (g.size old) s old new status
+  pub none_served : g.is_modelled
+      → m ≡ Serve false
+      → (fault : StartFault)
+      → device (g.size old) (g.seen old) ≡ Err fault
+      → RunsNone g (g.size old) [] old new status
+
+  -- `serve --fresh` on enough sectors: the same over the made device of the empty set. Until its last
+  -- gate is settled each cut leaves the disk as it was, or no device, or the made one. On too few
+  -- sectors: status 5, and nothing is told or written.
+  pub fresh : g.is_modelled
+      → m ≡ Serve true
+      → 6152 ≤ g.size old
+      → RunsSession g (g.size old)
+        (LeavesMaking (g.told old) [] 0 65536 (g.size old) (g.seen old))
+        (made_device_of [] 0 65536 (g.size old))
+        old new status
+        ⊎ FailsMaking g (g.size old) [] 0 65536 old new status
+  pub small : g.is_modelled
+      → m ≡ Serve true
+      → g.size old < 6152
+      → RunsRefused g (g.size old) [] NotADevice old new status
+  pub too_small : m ≡ Serve true
+      → g.size old < 6152
+      → (status ≡ NotADevice) ⊎ (status ≡ NoMemory)
+
+  -- `make` of an input that spells a set: the made device, or the first refusal with its line and
+  -- nothing written; of another input status 3, with nothing told or written. Where it is made the
+  -- input was heard to its end.
+  pub made : g.is_modelled
+      → (limit max : ℕ)
+      → m ≡ Make limit max
+      → (set : List SetImage)
+      → length (g.input_left old) ≤ 2 ^ 32
+      → set_of (g.input_left old) ≡ Ok set
+      → refusal_of set limit max (g.size old) ≡ None
+      → RunsMaking g (g.size old) set limit max (done_making set (g.size old)) old new status
+  pub refused : g.is_modelled
+      → (limit max : ℕ)
+      → m ≡ Make limit max
+      → (set : List SetImage)
+      → length (g.input_left old) ≤ 2 ^ 32
+      → set_of (g.input_left old) ≡ Ok set
+      → (fault : MakeFault)
+      → refusal_of set limit max (g.size old) ≡ Some fault
+      → RunsRefused g (g.size old) (make_line fault) (make_status fault) old new status
+  pub malformed : g.is_modelled
+      → (limit max : ℕ)
+      → m ≡ Make limit max
+      → (2 ^ 32 < length (g.input_left old))
+        ⊎ ((fault : SetFault) × (set_of (g.input_left old) ≡ Err fault))
+      → RunsRefused g (g.size old) [] Malformed old new status
+  pub end : g.is_modelled
+      → (limit max : ℕ)
+      → m ≡ Make limit max
+      → status ≡ Done
+      → g.input_left new ≡ []
+
+  -- Status 6 comes only where the count of the disk's faults rose, and 7 only where that of the source
+  -- or the sink did. With any other the counts are as they were.
+  pub disk : status ≡ Disk → Rose (g.faults old).disk (g.faults new).disk
+  pub port : status ≡ Port
+      → Rose (g.faults old).source (g.faults new).source
+        ⊎ Rose (g.faults old).sink (g.faults new).sink
+  pub steady : IsSteady g old new status
+  pub words : status ≢ Usage
+
+  -- Where no count rises, what is asked for is done and told whole, or memory is refused.
+  pub complete : g.is_modelled
+      → NoFault (g.faults old) (g.faults new)
+      → (c : Command)
+      → command_of m ≡ Some c
+      → (s : Mounted)
+      → IsIn (g.size old) s (g.seen old)
+      → ((status ≡ verb_status s.state c) × (g.told new ≡ g.told old ++ (verb_item s c).reply))
+        ⊎ (status ≡ NoMemory)
+  pub complete_serve : g.is_modelled
+      → NoFault (g.faults old) (g.faults new)
+      → m ≡ Serve false
+      → (s : Mounted)
+      → IsIn (g.size old) s (g.seen old)
+      → AnswersAll g s old new status ⊎ (status ≡ NoMemory)
+  pub complete_fresh : g.is_modelled
+      → NoFault (g.faults old) (g.faults new)
+      → m ≡ Serve true
+      → 6152 ≤ g.size old
+      → AnswersAll g (made_device_of [] 0 65536 (g.size old)) old new status ⊎ (status ≡ NoMemory)

@@ -1,0 +1,251 @@
+-- What a run of the program promises.
+use Rattle.std.specs.Prelude.{◌≡◌, ◌⊎◌, ◌^◌, ℕ, List, [], ◌∷◌, ◌++◌, take, codes, Bool, Option}
+use Rattle.vab_disk.specs.declared.disk.Disk.{Ghosts}
+use Rattle.vab_disk.specs.Disk.{Image, Outcome, Adds, Faults, Rose}
+use Rattle.vab_disk.specs.Calls.{IsAtRest}
+use Rattle.vab_set.specs.declared.set.SetImage.{SetImage}
+use Rattle.vab_device.specs.Mounted.{Mounted}
+use Rattle.vab_device.specs.Reading.{device, IsIn}
+use Rattle.vab_make.specs.Made.{made_device_of}
+use Rattle.vab_make.specs.Making.{LeavesMaking}
+use Rattle.vab_exchanges.specs.Session.{Exchange, End, IsSession}
+use Rattle.vab_exchanges.specs.Session as session
+use Rattle.vab_exchanges.specs.Items.{Kept, Item, items_of, kept_after, output_of}
+use Rattle.vab_exchanges.specs.Runs.{CrashesWithin, IsTold}
+use Rattle.vab_exchanges.specs.Hearing.{HearsWhere}
+use Rattle.vab_session.specs.Responses.{response}
+use Rattle.vab_cli.specs.declared.status.Status.{Status}
+use Rattle.vab_cli.specs.declared.status.Status.TheVariants.{
+  Done, Usage, Malformed, Refused, NotADevice, Disk, Port, NoMemory
+}
+use Rattle.vab_cli.specs.Verbs.{nothing_staged, line_item}
+
+-- ---- how a run ends
+
+-- the session ends so, unless the disk or the port failed
+abbrev pub SaysEnd : Status → End → Type 0
+SaysEnd Done session.Closed = Unit {0}
+SaysEnd Done session.Rebooted = Unit {0}
+SaysEnd Malformed session.BadHello = Unit {0}
+SaysEnd Malformed (session.TooLong n) = Unit {0}
+SaysEnd Malformed (session.Cut at) = Unit {0}
+SaysEnd Malformed (session.Overrun due came) = Unit {0}
+SaysEnd Malformed session.Spent = Unit {0}
+SaysEnd Port end = Unit {0}
+SaysEnd Disk end = Unit {0}
+SaysEnd Done session.BadHello = ⊥
+SaysEnd Done (session.TooLong n) = ⊥
+SaysEnd Done (session.Cut at) = ⊥
+SaysEnd Done (session.Overrun due came) = ⊥
+SaysEnd Done session.Spent = ⊥
+SaysEnd Malformed session.Closed = ⊥
+SaysEnd Malformed session.Rebooted = ⊥
+SaysEnd Usage end = ⊥
+SaysEnd Refused end = ⊥
+SaysEnd NotADevice end = ⊥
+SaysEnd NoMemory end = ⊥
+
+-- the session ends between two packets, or behind a packet that asks for a boot
+abbrev pub IsEnd : End → Type 0
+IsEnd session.Closed = Unit {0}
+IsEnd session.Rebooted = Unit {0}
+IsEnd session.BadHello = ⊥
+IsEnd (session.TooLong n) = ⊥
+IsEnd (session.Cut at) = ⊥
+IsEnd (session.Overrun due came) = ⊥
+IsEnd session.Spent = ⊥
+
+-- neither the disk nor the port failed
+abbrev pub Held : Status → Type 0
+Held Port = ⊥
+Held Disk = ⊥
+Held Done = Unit {0}
+Held Malformed = Unit {0}
+Held Usage = Unit {0}
+Held Refused = Unit {0}
+Held NotADevice = Unit {0}
+Held NoMemory = Unit {0}
+
+-- a run that ends before it has told anything, since the disk failed or memory was refused
+abbrev pub IsEarly : Status → Type 0
+IsEarly status = (status ≡ Disk) ⊎ (status ≡ NoMemory)
+
+-- the disk or the port failed
+abbrev pub IsFailed : Status → Type 0
+IsFailed status = (status ≡ Disk) ⊎ (status ≡ Port)
+
+-- no count of faults has risen
+pub record NoFault (before now : Faults) : Type 0 where
+  pub disk : Rose before.disk now.disk → ⊥
+  pub source : Rose before.source now.source → ⊥
+  pub sink : Rose before.sink now.sink → ⊥
+
+-- ---- what a cut of power leaves
+
+-- with nothing more told, this device
+pub record LeavesFirst (told : List ℕ) (size : ℕ) (first : Mounted) (o : Outcome) : Type 0 where
+  pub told_so_far : o.told ≡ told
+  pub stands : IsIn size first o.image
+
+-- some front of a line is told, and the disk is of this kind
+pub record LeavesTelling
+    (told line : List ℕ)
+    (IsKind : Image → Type 0)
+    (o : Outcome) : Type 0 where
+  pub front : (n : ℕ) × (o.told ≡ told ++ take n line)
+  pub kind : IsKind o.image
+
+-- the disk means what this one does
+abbrev pub MeansAs : ℕ → Image → Image → Type 0
+MeansAs size old image = device size image ≡ device size old
+
+-- ---- runs
+
+module _ {D : Type 0} (g : Ghosts D) (size : ℕ) where
+  -- The input is a session of at most 2^44 bytes, for some choice of the commands to which memory is
+  -- refused. What was told is a front of what the session tells, and all of it unless the disk or the
+  -- port failed. However power is cut, a front is told, and the disk is in a step of the first item
+  -- that doesn't stand whole, after all the acknowledged ones. It hears only where all that had come
+  -- is answered. `Else` are the outcomes from before the session.
+  pub record RunsSession
+      (Else : Outcome → Type 0)
+      (first : Mounted)
+      (old new : D)
+      (status : Status) : Type 0 where
+    pub refused : ℕ → Bool
+    pub exchanges : List Exchange
+    pub unfinished : Option (List ℕ)
+    pub end : End
+    pub session : IsSession (2 ^ 44) refused (g.input_left old) exchanges unfinished end
+    -- no other is the input's for this choice
+    pub only : (others : List Exchange) (v : Option (List ℕ)) (other : End)
+        → IsSession (2 ^ 44) refused (g.input_left old) others v other
+        → (others ≡ exchanges) × (v ≡ unfinished) × (other ≡ end)
+    pub status_is : SaysEnd status end
+    pub front : (n : ℕ)
+        × (g.told new
+          ≡ g.told old ++ take n (output_of response (nothing_staged first) exchanges unfinished))
+    pub whole : Held status
+        → g.told new ≡ g.told old ++ output_of response (nothing_staged first) exchanges unfinished
+    pub stands : Held status
+        → IsIn size (kept_after response (nothing_staged first) exchanges).now (g.seen new)
+    pub settled : IsAtRest g old → Held status → IsAtRest g new
+    pub heard : HearsWhere
+        (IsTold response (nothing_staged first) exchanges (g.input_left old) (g.told old))
+        (g.heard old)
+        (g.heard new)
+    pub every_cut : IsAtRest g old
+        → (o : Outcome)
+        → g.outcomes new (g.moment old) o
+        → CrashesWithin (IsIn size) (codes "FB01") first
+          (items_of response (nothing_staged first) exchanges unfinished) (g.told old) o
+          ⊎ Else o
+
+  -- One item alone: what was told is a front of its line or bytes, and all of it where the run ends as
+  -- the item does; then the disk is in its last step. However power is cut, the disk is in one of its
+  -- steps, and where all is told, in the last.
+  pub record RunsItem
+      (first : Mounted)
+      (item : Item Mounted)
+      (ends : Status)
+      (old new : D)
+      (status : Status) : Type 0 where
+    pub status_is : (status ≡ ends) ⊎ IsFailed status
+    pub front : (n : ℕ) × (g.told new ≡ g.told old ++ take n item.reply)
+    pub whole : status ≡ ends → g.told new ≡ g.told old ++ item.reply
+    pub stands : status ≡ ends → IsIn size item.last.now (g.seen new)
+    pub settled : IsAtRest g old → status ≡ ends → IsAtRest g new
+    pub every_cut : IsAtRest g old
+        → (o : Outcome)
+        → g.outcomes new (g.moment old) o
+        → CrashesWithin (IsIn size) [] first (item ∷ []) (g.told old) o
+
+  -- The disk failed, or memory was refused, while the device was opened: nothing is told, and every cut
+  -- of power leaves the device that it was. Where memory was refused it reads as before.
+  pub record FailsBefore (first : Mounted) (old new : D) (status : Status) : Type 0 where
+    pub early : IsEarly status
+    pub told : g.told new ≡ g.told old
+    pub same : status ≡ NoMemory → g.seen new ≡ g.seen old
+    pub every_cut : IsAtRest g old
+        → (o : Outcome)
+        → g.outcomes new (g.moment old) o
+        → LeavesFirst (g.told old) size first o
+
+  -- The disk is no device: this line is told. Nothing is written, and no cut of power makes it one.
+  -- Where memory is refused nothing is told.
+  pub record RunsNone (line : List ℕ) (old new : D) (status : Status) : Type 0 where
+    pub status_is : (status ≡ NotADevice) ⊎ (IsFailed status ⊎ (status ≡ NoMemory))
+    pub front : (n : ℕ) × (g.told new ≡ g.told old ++ take n line)
+    pub whole : status ≡ NotADevice → g.told new ≡ g.told old ++ line
+    pub untold : status ≡ NoMemory → g.told new ≡ g.told old
+    pub same : (status ≡ NotADevice) ⊎ (status ≡ NoMemory) → g.seen new ≡ g.seen old
+    pub every_cut : IsAtRest g old
+        → (o : Outcome)
+        → g.outcomes new (g.moment old) o
+        → LeavesTelling (g.told old) line (MeansAs size (g.seen old)) o
+
+  -- A run that changes nothing: a front of this is told, and all of it where the run ends so. Where
+  -- memory is refused nothing is told. Nothing is written, and every cut of power leaves the disk as it
+  -- was.
+  pub record RunsRefused
+      (line : List ℕ)
+      (ends : Status)
+      (old new : D)
+      (status : Status) : Type 0 where
+    pub status_is : (status ≡ ends) ⊎ ((status ≡ Port) ⊎ (status ≡ NoMemory))
+    pub front : (n : ℕ) × (g.told new ≡ g.told old ++ take n line)
+    pub whole : status ≡ ends → g.told new ≡ g.told old ++ line
+    pub untold : status ≡ NoMemory → g.told new ≡ g.told old
+    pub same : g.seen new ≡ g.seen old
+    pub time : IsAtRest g old
+        → Adds g.moment g.outcomes old new
+          (LeavesTelling (g.told old) line (λ image. image ≡ g.seen old))
+    pub every_cut : IsAtRest g old
+        → (o : Outcome)
+        → g.outcomes new (g.moment old) o
+        → LeavesTelling (g.told old) line (λ image. image ≡ g.seen old) o
+
+  -- the made device, with a front of the line told; or with nothing told the disk as it was, or no
+  -- device, or the made one
+  abbrev pub MakesWithin : List SetImage → ℕ → ℕ → List ℕ → List ℕ → Image → Outcome → Type 0
+  MakesWithin set limit max line told old o =
+      CrashesWithin (IsIn size) [] (made_device_of set limit max size)
+      (line_item (made_device_of set limit max size) line ∷ []) told o
+      ⊎ LeavesMaking told set limit max size old o
+
+  -- A device is made of a set, and this line is told. Until its last gate is settled, every cut of power
+  -- leaves the disk as it was, or no device, or the made one; from then on the made one. Where memory is
+  -- refused nothing is told or written.
+  pub record RunsMaking
+      (set : List SetImage)
+      (limit max : ℕ)
+      (line : List ℕ)
+      (old new : D)
+      (status : Status) : Type 0 where
+    pub status_is : (status ≡ Done) ⊎ (IsFailed status ⊎ (status ≡ NoMemory))
+    pub front : (n : ℕ) × (g.told new ≡ g.told old ++ take n line)
+    pub whole : status ≡ Done → g.told new ≡ g.told old ++ line
+    pub untold : status ≡ NoMemory → (g.told new ≡ g.told old) × (g.seen new ≡ g.seen old)
+    pub stands : status ≡ Done → IsIn size (made_device_of set limit max size) (g.seen new)
+    pub settled : status ≡ Done → IsAtRest g new
+    pub time : IsAtRest g old
+        → Adds g.moment g.outcomes old new
+          (MakesWithin set limit max line (g.told old) (g.seen old))
+    pub every_cut : IsAtRest g old
+        → (o : Outcome)
+        → g.outcomes new (g.moment old) o
+        → MakesWithin set limit max line (g.told old) (g.seen old) o
+
+  -- The disk failed, or memory was refused, while a device was made or the made one was opened: nothing
+  -- is told, and every cut of power leaves the disk as it was, or no device, or the made one.
+  pub record FailsMaking
+      (set : List SetImage)
+      (limit max : ℕ)
+      (old new : D)
+      (status : Status) : Type 0 where
+    pub early : IsEarly status
+    pub told : g.told new ≡ g.told old
+    pub every_cut : IsAtRest g old
+        → (o : Outcome)
+        → g.outcomes new (g.moment old) o
+        → LeavesMaking (g.told old) set limit max size (g.seen old) o
