@@ -1,26 +1,7 @@
 -- Which slot is booted, and what a boot and the commands on slots change.
-use Rattle.std.specs.Prelude.{
-  ℕ,
-  ◌-◌,
-  ◌<◌,
-  ◌≤◌,
-  Bool,
-  true,
-  false,
-  ◌&&◌,
-  ◌||◌,
-  not,
-  ◌==◌,
-  nat_lt,
-  nat_le,
-  if◌then◌else◌,
-  List,
-  slice_index_or,
-  Option,
-  Some,
-  None,
-  IsTrue,
-}
+use Rattle.std.specs.Prelude.{ℕ, ◌-◌, ◌<◌, ◌≤◌, Bool, true, false, ◌&&◌, ◌||◌, not, ◌==◌, nat_lt}
+use Rattle.std.specs.Prelude.{nat_le, if◌then◌else◌, List, slice_index_or, Option, Some, None}
+use Rattle.std.specs.Prelude.{IsTrue}
 use Rattle.vab_bootctl.specs.declared.slots.Info.{Info}
 use Rattle.vab_bootctl.specs.declared.slots.Control.{Control}
 

@@ -1,33 +1,7 @@
 -- The boot control sector: what spells a boot control, and what the bytes of a sector mean.
-use Rattle.std.specs.Prelude.{
-  ◌≡◌,
-  ◌≢◌,
-  ℕ,
-  ◌+◌,
-  ◌*◌,
-  ◌/◌,
-  ◌%◌,
-  ◌<◌,
-  ◌≤◌,
-  not,
-  ◌==◌,
-  nat_le,
-  if◌then◌else◌,
-  List,
-  [],
-  ◌∷◌,
-  take,
-  slice_index,
-  slice_set,
-  Option,
-  Some,
-  None,
-  option_map,
-  ok_or,
-  Result,
-  Err,
-  ◌⊎◌,
-}
+use Rattle.std.specs.Prelude.{◌≡◌, ◌≢◌, ℕ, ◌+◌, ◌*◌, ◌/◌, ◌%◌, ◌<◌, ◌≤◌, not, ◌==◌, nat_le}
+use Rattle.std.specs.Prelude.{if◌then◌else◌, List, [], ◌∷◌, take, slice_index, slice_set, Option}
+use Rattle.std.specs.Prelude.{Some, None, option_map, ok_or, Result, Err, ◌⊎◌}
 use Rattle.std.specs.Int.{w32, to_le_bytes}
 use Rattle.std.specs.Str.{bytes_eq}
 use Rattle.vab_bytes.specs.Number.{field, le_at, put_at}
@@ -35,12 +9,8 @@ use Rattle.vab_bytes.specs.Crc.{crc_of}
 use Rattle.vab_bootctl.specs.declared.slots.Info.{Info}
 use Rattle.vab_bootctl.specs.declared.slots.Control.{Control}
 use Rattle.vab_bootctl.specs.declared.sector.ControlFault.{ControlFault}
-use Rattle.vab_bootctl.specs.declared.sector.ControlFault.TheVariants.{
-  BadMagic,
-  BadVersion,
-  BadSum,
-  BadSlots,
-}
+use Rattle.vab_bootctl.specs.declared.sector.ControlFault.TheVariants.{BadMagic, BadVersion, BadSum}
+use Rattle.vab_bootctl.specs.declared.sector.ControlFault.TheVariants.{BadSlots}
 
 -- ---- what has a spelling
 

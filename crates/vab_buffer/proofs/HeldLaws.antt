@@ -1,18 +1,8 @@
 -- What calls of the store, and what is held back, make of the disk over it.
 use Rattle.std.proofs.Common.{◌≡◌, inl, inr, ⊎_elim, ℕ, ◌≤◌, List, refl, sym, ◌∙◌, ap, subst, arith}
 use Rattle.vab_disk.specs.declared.disk.Disk.{Ghosts as DiskGhosts}
-use Rattle.vab_disk.specs.Disk.{
-  Image,
-  Outcome,
-  Leaves,
-  IsSettled,
-  Adds,
-  Nothing,
-  IsAt,
-  Writes,
-  SameHoldings,
-  set_sector,
-}
+use Rattle.vab_disk.specs.Disk.{Image, Outcome, Leaves, IsSettled, Adds, Nothing, IsAt, Writes}
+use Rattle.vab_disk.specs.Disk.{SameHoldings, set_sector}
 use Rattle.vab_disk.specs.Calls.{IsQuiet, OnlyReads, OnlySyncs, SameBut}
 use Rattle.vab_disk.proofs.CallLaws.{set_same_but}
 use Rattle.vab_gate.specs.Gate.{set_sectors}

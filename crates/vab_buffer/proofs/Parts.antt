@@ -1,31 +1,7 @@
 -- Sectors in a buffer, and an image with some of them.
-use Rattle.std.proofs.Common.{
-  ◌≡◌,
-  ◌⊎◌,
-  inl,
-  inr,
-  ⊎_elim,
-  ℕ,
-  zero,
-  suc,
-  ◌+◌,
-  ◌-◌,
-  ◌*◌,
-  ◌≤◌,
-  ◌<◌,
-  List,
-  ◌++◌,
-  length,
-  take,
-  drop,
-  refl,
-  sym,
-  ◌∙◌,
-  ap,
-  arith,
-  length-append,
-  length-take-le,
-}
+use Rattle.std.proofs.Common.{◌≡◌, ◌⊎◌, inl, inr, ⊎_elim, ℕ, zero, suc, ◌+◌, ◌-◌, ◌*◌, ◌≤◌, ◌<◌}
+use Rattle.std.proofs.Common.{List, ◌++◌, length, take, drop, refl, sym, ◌∙◌, ap, arith}
+use Rattle.std.proofs.Common.{length-append, length-take-le}
 use Rattle.std.proofs.lemmas.Bool.{cases_lt}
 use Rattle.std.proofs.lemmas.List.{take_all, take-append-le, take-take, drop-take}
 use Rattle.std.proofs.lemmas.Slice.{take-put_mid, take-put_mid_below}

@@ -1,30 +1,8 @@
 -- A disk over a store of runs has whole sectors, and a crash at this moment leaves what a crash may
 -- leave.
-use Rattle.std.proofs.Common.{
-  ◌≡◌,
-  ◌⊎◌,
-  inl,
-  inr,
-  ⊎_elim,
-  ℕ,
-  ◌+◌,
-  ◌-◌,
-  ◌*◌,
-  ◌≤◌,
-  ◌<◌,
-  List,
-  length,
-  drop,
-  refl,
-  sym,
-  ◌∙◌,
-  subst,
-  arith,
-  get_or,
-  length-drop,
-  length-take-le,
-  get_or-drop,
-}
+use Rattle.std.proofs.Common.{◌≡◌, ◌⊎◌, inl, inr, ⊎_elim, ℕ, ◌+◌, ◌-◌, ◌*◌, ◌≤◌, ◌<◌, List, length}
+use Rattle.std.proofs.Common.{drop, refl, sym, ◌∙◌, subst, arith, get_or, length-drop}
+use Rattle.std.proofs.Common.{length-take-le, get_or-drop}
 use Rattle.std.proofs.lemmas.Bool.{cases_lt}
 use Rattle.std.proofs.lemmas.Bool.Decides.{nat_tests}
 use Rattle.std.proofs.lemmas.List.{get_or-take, get_or_past, length-take}

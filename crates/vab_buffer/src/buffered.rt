@@ -1,19 +1,6 @@
 // A disk over a store of runs, that holds writes back and reads ahead.
-ghost use Rattle.std.specs.Prelude.{
-  ◌≡◌,
-  ◌<◌,
-  ◌≤◌,
-  ◌+◌,
-  ◌*◌,
-  ℕ,
-  List,
-  length,
-  slice_index,
-  take,
-  IfOk,
-  OnOk,
-  OnErr,
-};
+ghost use Rattle.std.specs.Prelude.{◌≡◌, ◌<◌, ◌≤◌, ◌+◌, ◌*◌, ℕ, List, length, slice_index, take};
+ghost use Rattle.std.specs.Prelude.{IfOk, OnOk, OnErr};
 ghost use Rattle.std.specs.Bool.{OnTrue};
 ghost use Rattle.vab_disk.specs.Disk.{NoFewer, Outcome, SameHoldings};
 ghost use Rattle.vab_disk.specs.Calls.{OnlyReads, FailsWithDisk};

@@ -1,20 +1,6 @@
 // Sectors that follow one another, kept in a buffer of fixed size.
-ghost use Rattle.std.specs.Prelude.{
-  ◌≡◌,
-  ◌⊎◌,
-  ◌<◌,
-  ◌≤◌,
-  ◌+◌,
-  ◌-◌,
-  ◌*◌,
-  ◌↔◌,
-  ℕ,
-  IsTrue,
-  length,
-  slice_index,
-  take,
-  IfOk,
-};
+ghost use Rattle.std.specs.Prelude.{◌≡◌, ◌⊎◌, ◌<◌, ◌≤◌, ◌+◌, ◌-◌, ◌*◌, ◌↔◌, ℕ, IsTrue, length};
+ghost use Rattle.std.specs.Prelude.{slice_index, take, IfOk};
 
 use std::alloc::{AllocError, Global};
 use vab_gate::SECTOR;

@@ -1,34 +1,8 @@
 // A store of sectors that are read and written in runs.
-ghost use Rattle.std.specs.Prelude.{
-  ◌≡◌,
-  ◌⊎◌,
-  ◌<◌,
-  ◌≤◌,
-  ◌+◌,
-  ◌^◌,
-  ◌%◌,
-  List,
-  ℕ,
-  length,
-  slice_index,
-  OnOk,
-  OnErr,
-};
-ghost use Rattle.vab_disk.specs.Disk.{
-  Image,
-  IsSector,
-  Outcome,
-  Leaves,
-  IsSettled,
-  Adds,
-  Nothing,
-  Writes,
-  SameHoldings,
-  Faults,
-  Quiet,
-  Rose,
-  Hearing,
-};
+ghost use Rattle.std.specs.Prelude.{◌≡◌, ◌⊎◌, ◌<◌, ◌≤◌, ◌+◌, ◌^◌, ◌%◌, List, ℕ, length};
+ghost use Rattle.std.specs.Prelude.{slice_index, OnOk, OnErr};
+ghost use Rattle.vab_disk.specs.Disk.{Image, IsSector, Outcome, Leaves, IsSettled, Adds, Nothing};
+ghost use Rattle.vab_disk.specs.Disk.{Writes, SameHoldings, Faults, Quiet, Rose, Hearing};
 ghost use Rattle.vab_disk.specs.Calls.{SameBut};
 ghost use Rattle.vab_gate.specs.Gate.{set_sectors, sectors_at, IsAmong};
 ghost use Rattle.vab_buffer.specs.Store.{sectors_in};

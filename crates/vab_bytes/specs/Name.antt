@@ -1,25 +1,6 @@
 -- Names of partitions, groups and block devices.
-use Rattle.std.specs.Prelude.{
-  ◌≡◌,
-  ℕ,
-  ◌-◌,
-  Bool,
-  ◌&&◌,
-  ◌||◌,
-  ◌==◌,
-  nat_le,
-  if◌then◌else◌,
-  List,
-  ◌++◌,
-  length,
-  take,
-  drop,
-  replicate,
-  Option,
-  Some,
-  None,
-  IsTrue,
-}
+use Rattle.std.specs.Prelude.{◌≡◌, ℕ, ◌-◌, Bool, ◌&&◌, ◌||◌, ◌==◌, nat_le, if◌then◌else◌, List}
+use Rattle.std.specs.Prelude.{◌++◌, length, take, drop, replicate, Option, Some, None, IsTrue}
 use Rattle.std.specs.List.{list_all, before_first}
 
 -- one of A-Z a-z 0-9 _ . -

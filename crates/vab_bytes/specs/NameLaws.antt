@@ -1,34 +1,7 @@
 -- What callers need of names.
-use Rattle.std.proofs.Common.{
-  ◌≡◌,
-  ℕ,
-  zero,
-  suc,
-  ◌-◌,
-  [],
-  ◌∷◌,
-  ◌++◌,
-  ◌≤◌,
-  true,
-  ◌&&◌,
-  cond,
-  List,
-  length,
-  take,
-  drop,
-  replicate,
-  refl,
-  sym,
-  ap,
-  subst,
-  ◌∙◌,
-  arith,
-  eqb,
-  leb,
-  Option,
-  Some,
-  None,
-}
+use Rattle.std.proofs.Common.{◌≡◌, ℕ, zero, suc, ◌-◌, [], ◌∷◌, ◌++◌, ◌≤◌, true, ◌&&◌, cond, List}
+use Rattle.std.proofs.Common.{length, take, drop, replicate, refl, sym, ap, subst, ◌∙◌, arith, eqb}
+use Rattle.std.proofs.Common.{leb, Option, Some, None}
 use Rattle.std.specs.Prelude.{not}
 use Rattle.std.specs.List.{list_all, before_first, position_or_len}
 use Rattle.std.proofs.lemmas.Bool.{leb-true, eqb-true, ne_eqb, and_parts, and_from, cond-true}
@@ -36,14 +9,8 @@ use Rattle.std.proofs.lemmas.List.{take_at, length-drop, take-append-drop, drop_
 use Rattle.std.proofs.lemmas.List.Folds.{length-prefix_len}
 use Rattle.std.proofs.lemmas.Option.{cond_some}
 use Rattle.vab_bytes.specs.declared.name.Name36.TheInside.{Inside}
-use Rattle.vab_bytes.specs.Name.{
-  is_name_byte,
-  is_name,
-  IsName,
-  name_field,
-  name_of_field,
-  HoldsName,
-}
+use Rattle.vab_bytes.specs.Name.{is_name_byte, is_name, IsName, name_field, name_of_field}
+use Rattle.vab_bytes.specs.Name.{HoldsName}
 
 -- a name has 1 to 36 bytes
 pub name_fits : (text : List ℕ) → is_name text ≡ true → (1 ≤ length text) × (length text ≤ 36)

@@ -1,53 +1,14 @@
 -- What callers need of numbers and pieces at a place.
-use Rattle.std.proofs.Common.{
-  ◌≡◌,
-  ℕ,
-  ◌+◌,
-  ◌-◌,
-  ◌^◌,
-  ◌<◌,
-  ◌≤◌,
-  List,
-  ◌++◌,
-  length,
-  take,
-  drop,
-  get_or,
-  refl,
-  sym,
-  ap,
-  ◌∙◌,
-  arith,
-  inl,
-  inr,
-  append_assoc,
-}
+use Rattle.std.proofs.Common.{◌≡◌, ℕ, ◌+◌, ◌-◌, ◌^◌, ◌<◌, ◌≤◌, List, ◌++◌, length, take, drop}
+use Rattle.std.proofs.Common.{get_or, refl, sym, ap, ◌∙◌, arith, inl, inr, append_assoc}
 use Rattle.std.specs.Int.{w16, w32, w64, to_le_bytes, from_le_bytes}
 use Rattle.std.proofs.lemmas.Bool.{cases_lt}
-use Rattle.std.proofs.lemmas.List.{
-  get_or-take,
-  get_or-drop,
-  get_or_past,
-  get_or_append_left,
-  get_or-append_right,
-  length-take,
-  length-take-le,
-  length-drop,
-  length-append,
-  ext_get_or,
-  take-append-drop,
-  take_at,
-  drop_at,
-  drop-drop,
-}
-use Rattle.std.proofs.lemmas.Nat.{
-  le_bytes_2,
-  le_bytes_4,
-  le_bytes_8,
-  from_le_bytes-to_le_bytes_2,
-  from_le_bytes-to_le_bytes_4,
-  from_le_bytes-to_le_bytes_8,
-}
+use Rattle.std.proofs.lemmas.List.{get_or-take, get_or-drop, get_or_past, get_or_append_left}
+use Rattle.std.proofs.lemmas.List.{get_or-append_right, length-take, length-take-le, length-drop}
+use Rattle.std.proofs.lemmas.List.{length-append, ext_get_or, take-append-drop, take_at, drop_at}
+use Rattle.std.proofs.lemmas.List.{drop-drop}
+use Rattle.std.proofs.lemmas.Nat.{le_bytes_2, le_bytes_4, le_bytes_8, from_le_bytes-to_le_bytes_2}
+use Rattle.std.proofs.lemmas.Nat.{from_le_bytes-to_le_bytes_4, from_le_bytes-to_le_bytes_8}
 use Rattle.vab_bytes.specs.Number.{IsBytes, field, le_at, put_at}
 
 -- ---- fields

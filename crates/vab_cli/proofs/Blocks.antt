@@ -1,8 +1,6 @@
 -- The bytes of an image, one piece of blocks after another.
-use Rattle.std.proofs.Common.{
-  ◌≡◌, ◌∙◌, ℕ, ◌+◌, ◌-◌, ◌<◌, ◌≤◌, List, [], ◌∷◌, ◌++◌, length, get_or, take, drop, refl, sym, ap, arith,
-  append_assoc, take-append-drop
-}
+use Rattle.std.proofs.Common.{◌≡◌, ◌∙◌, ℕ, ◌+◌, ◌-◌, ◌<◌, ◌≤◌, List, [], ◌∷◌, ◌++◌, length, get_or}
+use Rattle.std.proofs.Common.{take, drop, refl, sym, ap, arith, append_assoc, take-append-drop}
 use Rattle.std.proofs.lemmas.List.{get_or-drop, length-drop, take_all}
 use Rattle.std.proofs.Math.Seq.{take-add}
 use Rattle.vab_disk.specs.Disk.{Image}
@@ -12,9 +10,8 @@ use Rattle.vab_model.specs.declared.state.Image.{Image as ImageOfSlot}
 use Rattle.vab_model.specs.declared.state.State.{State}
 use Rattle.vab_model.specs.Commands.{Print}
 use Rattle.vab_model.specs.declared.command.Reply.{Reply}
-use Rattle.vab_model.specs.Effects.{
-  Effect, Found, Image_is, Refused_by, found_of, print_effect, effect
-}
+use Rattle.vab_model.specs.Effects.{Effect, Found, Image_is, Refused_by, found_of, print_effect}
+use Rattle.vab_model.specs.Effects.{effect}
 use Rattle.vab_device.specs.declared.device.Device.{Device}
 use Rattle.vab_device.specs.declared.device.Part.{Part}
 use Rattle.vab_device.specs.Mounted.{bytes_at}

@@ -1,8 +1,6 @@
 -- Items that are done, by what was done and told for them.
-use Rattle.std.proofs.Common.{
-  ◌≡◌, ◌∙◌, inl, inr, ⊎_elim, ℕ, ◌<◌, List, [], ◌∷◌, ◌++◌, length, take, Result, Ok, Err, refl, sym, ap, subst,
-  arith, length-append
-}
+use Rattle.std.proofs.Common.{◌≡◌, ◌∙◌, inl, inr, ⊎_elim, ℕ, ◌<◌, List, [], ◌∷◌, ◌++◌, length, take}
+use Rattle.std.proofs.Common.{Result, Ok, Err, refl, sym, ap, subst, arith, length-append}
 use Rattle.std.specs.Prelude.{OnOk}
 use Rattle.std.proofs.lemmas.List.{append-nil}
 use Rattle.vab_disk.specs.declared.disk.Disk.{Ghosts}
@@ -14,9 +12,8 @@ use Rattle.vab_disk.proofs.Moments.{adds_wider, adds_on}
 use Rattle.vab_gate.specs.declared.gate.DiskFault.{DiskFault}
 use Rattle.vab_model.specs.declared.command.Reply.{Reply}
 use Rattle.vab_model.specs.Commands.{Command, Print}
-use Rattle.vab_model.specs.Effects.{
-  Found, Image_is, Refused_by, found_of, effect, effect_map, print_effect, last_of, steps_of, after_of, IsOneOf
-}
+use Rattle.vab_model.specs.Effects.{Found, Image_is, Refused_by, found_of, effect, effect_map}
+use Rattle.vab_model.specs.Effects.{print_effect, last_of, steps_of, after_of, IsOneOf}
 use Rattle.vab_device.specs.declared.device.Device.{Device}
 use Rattle.vab_device.specs.declared.fault.StartFault.{StartFault}
 use Rattle.vab_device.specs.Mounted.{Mounted, mounted_on, in_state, effect_on}

@@ -1,8 +1,6 @@
 -- Lines of commands.
-use Rattle.std.proofs.Common.{
-  ◌≡◌, ◌∙◌, ◌⊎◌, inl, inr, ◌<◌, ℕ, List, [], ◌∷◌, ◌++◌, length, codes, refl, sym, ap, arith,
-  length-append
-}
+use Rattle.std.proofs.Common.{◌≡◌, ◌∙◌, ◌⊎◌, inl, inr, ◌<◌, ℕ, List, [], ◌∷◌, ◌++◌, length, codes}
+use Rattle.std.proofs.Common.{refl, sym, ap, arith, length-append}
 use Rattle.hex.specs.Hex.{encode_lower}
 use Rattle.vab_disk.specs.Disk.{Image}
 use Rattle.vab_model.specs.declared.state.State.{State}

@@ -1,8 +1,7 @@
 -- Making a device as a run of the program.
-use Rattle.std.proofs.Common.{
-  ◌≡◌, ◌≢◌, ◌⊎◌, ◌∙◌, inl, inr, ⊎_elim, ◌<◌, ◌≤◌, ◌-◌, arith, true, false, ℕ, List, [], ◌∷◌, ◌++◌, take, Some,
-  None, Err, refl, sym, ap, subst
-}
+use Rattle.std.proofs.Common.{◌≡◌, ◌≢◌, ◌⊎◌, ◌∙◌, inl, inr, ⊎_elim, ◌<◌, ◌≤◌, ◌-◌, arith, true}
+use Rattle.std.proofs.Common.{false, ℕ, List, [], ◌∷◌, ◌++◌, take, Some, None, Err, refl, sym, ap}
+use Rattle.std.proofs.Common.{subst}
 use Rattle.std.proofs.lemmas.Bool.{cases_eq}
 use Rattle.std.proofs.lemmas.Bool.Decides.{nat_tests}
 use Rattle.std.proofs.lemmas.List.{append-nil}

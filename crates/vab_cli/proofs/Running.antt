@@ -1,8 +1,7 @@
 -- Runs of the program, by what their parts do.
-use Rattle.std.proofs.Common.{
-  ◌≡◌, ◌≢◌, ◌⊎◌, ◌∙◌, inl, inr, ⊎_elim, ◌<◌, ℕ, List, [], ◌∷◌, ◌++◌, length, take, Result, Ok, Err, OnOk,
-  false, refl, sym, ap, subst, arith, length-append
-}
+use Rattle.std.proofs.Common.{◌≡◌, ◌≢◌, ◌⊎◌, ◌∙◌, inl, inr, ⊎_elim, ◌<◌, ℕ, List, [], ◌∷◌, ◌++◌}
+use Rattle.std.proofs.Common.{length, take, Result, Ok, Err, OnOk, false, refl, sym, ap, subst}
+use Rattle.std.proofs.Common.{arith, length-append}
 use Rattle.std.proofs.lemmas.List.{append-nil}
 use Rattle.std.specs.Result.{is_err}
 use Rattle.vab_disk.specs.declared.disk.Disk.{Ghosts}
@@ -22,14 +21,12 @@ use Rattle.vab_exchanges.specs.Items.{Item}
 use Rattle.vab_exchanges.specs.Runs.{CrashesWithin, LeavesItem}
 use Rattle.vab_exchanges.proofs.RunLaws.{within_item}
 use Rattle.vab_cli.specs.declared.status.Status.{Status}
-use Rattle.vab_cli.specs.declared.status.Status.TheVariants.{
-  Done, Refused, NotADevice, Disk, Port, NoMemory
-}
+use Rattle.vab_cli.specs.declared.status.Status.TheVariants.{Done, Refused, NotADevice, Disk, Port}
+use Rattle.vab_cli.specs.declared.status.Status.TheVariants.{NoMemory}
 use Rattle.vab_cli.specs.Codes.{start_status}
 use Rattle.vab_cli.specs.Opening.{Opens}
-use Rattle.vab_cli.specs.Runs.{
-  IsEarly, IsFailed, LeavesTelling, MeansAs, RunsItem, FailsBefore, RunsNone
-}
+use Rattle.vab_cli.specs.Runs.{IsEarly, IsFailed, LeavesTelling, MeansAs, RunsItem, FailsBefore}
+use Rattle.vab_cli.specs.Runs.{RunsNone}
 use Rattle.vab_cli.specs.Telling.{DoesItem}
 use Rattle.vab_cli.specs.Verbs.{command_item}
 

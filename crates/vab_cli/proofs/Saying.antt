@@ -1,7 +1,6 @@
 -- How what is told joins, one piece behind another.
-use Rattle.std.proofs.Common.{
-  ◌≡◌, ◌∙◌, ℕ, ◌+◌, min, List, [], ◌++◌, length, take, Result, Ok, Err, refl, sym, ap, arith, append_assoc
-}
+use Rattle.std.proofs.Common.{◌≡◌, ◌∙◌, ℕ, ◌+◌, min, List, [], ◌++◌, length, take, Result, Ok, Err}
+use Rattle.std.proofs.Common.{refl, sym, ap, arith, append_assoc}
 use Rattle.std.specs.Prelude.{OnOk}
 use Rattle.std.proofs.lemmas.List.{append-nil, take-append-le, take_min}
 use Rattle.std.proofs.Math.Seq.{take-append-add}

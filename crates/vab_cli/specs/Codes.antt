@@ -14,9 +14,8 @@ use Rattle.vab_set.specs.declared.fault.SetFault.TheVariants as set
 use Rattle.vab_model.specs.declared.command.Reply.{Reply}
 use Rattle.vab_model.specs.declared.command.Reply.TheVariants as replies
 use Rattle.vab_cli.specs.declared.status.Status.{Status}
-use Rattle.vab_cli.specs.declared.status.Status.TheVariants.{
-  Done, Usage, Malformed, Refused, NotADevice, Disk, Port, NoMemory
-}
+use Rattle.vab_cli.specs.declared.status.Status.TheVariants.{Done, Usage, Malformed, Refused}
+use Rattle.vab_cli.specs.declared.status.Status.TheVariants.{NotADevice, Disk, Port, NoMemory}
 
 abbrev pub code_of : Status → ℕ
 code_of Done = 0

@@ -1,7 +1,6 @@
 -- What the program does where its words ask for a verb.
-use Rattle.std.specs.Prelude.{
-  ◌≡◌, ◌≢◌, ◌⊎◌, ◌≤◌, ◌<◌, ◌^◌, ◌++◌, ℕ, List, [], length, true, false, Some, None, Ok, Err, Bool, Option
-}
+use Rattle.std.specs.Prelude.{◌≡◌, ◌≢◌, ◌⊎◌, ◌≤◌, ◌<◌, ◌^◌, ◌++◌, ℕ, List, [], length, true, false}
+use Rattle.std.specs.Prelude.{Some, None, Ok, Err, Bool, Option}
 use Rattle.vab_disk.specs.declared.disk.Disk.{Ghosts}
 use Rattle.vab_disk.specs.Disk.{Rose}
 use Rattle.vab_set.specs.Reading.{set_of}
@@ -19,17 +18,14 @@ use Rattle.vab_exchanges.specs.Session.{Exchange, End, IsSession}
 use Rattle.vab_exchanges.specs.Items.{output_of}
 use Rattle.vab_session.specs.Responses.{response}
 use Rattle.vab_cli.specs.declared.status.Status.{Status}
-use Rattle.vab_cli.specs.declared.status.Status.TheVariants.{
-  Done, Usage, Malformed, NotADevice, Disk, Port, NoMemory
-}
+use Rattle.vab_cli.specs.declared.status.Status.TheVariants.{Done, Usage, Malformed, NotADevice}
+use Rattle.vab_cli.specs.declared.status.Status.TheVariants.{Disk, Port, NoMemory}
 use Rattle.vab_cli.specs.Codes.{make_status}
 use Rattle.vab_cli.specs.Counts.{HearsNothing, IsSteady}
-use Rattle.vab_cli.specs.Runs.{
-  SaysEnd, Held, NoFault, RunsSession, RunsItem, FailsBefore, RunsNone, RunsRefused, RunsMaking, FailsMaking
-}
-use Rattle.vab_cli.specs.Verbs.{
-  command_of, none_line, nothing_staged, verb_item, verb_status, make_line, done_making
-}
+use Rattle.vab_cli.specs.Runs.{SaysEnd, Held, NoFault, RunsSession, RunsItem, FailsBefore, RunsNone}
+use Rattle.vab_cli.specs.Runs.{RunsRefused, RunsMaking, FailsMaking}
+use Rattle.vab_cli.specs.Verbs.{command_of, none_line, nothing_staged, verb_item, verb_status}
+use Rattle.vab_cli.specs.Verbs.{make_line, done_making}
 
 -- The whole session of the input is told, as it ends.
 pub record AnswersAll {D : Type 0}

@@ -15,9 +15,8 @@ use Rattle.vab_exchanges.specs.Runs.{CrashesWithin, IsTold}
 use Rattle.vab_exchanges.specs.Hearing.{HearsWhere}
 use Rattle.vab_session.specs.Responses.{response}
 use Rattle.vab_cli.specs.declared.status.Status.{Status}
-use Rattle.vab_cli.specs.declared.status.Status.TheVariants.{
-  Done, Usage, Malformed, Refused, NotADevice, Disk, Port, NoMemory
-}
+use Rattle.vab_cli.specs.declared.status.Status.TheVariants.{Done, Usage, Malformed, Refused}
+use Rattle.vab_cli.specs.declared.status.Status.TheVariants.{NotADevice, Disk, Port, NoMemory}
 use Rattle.vab_cli.specs.Verbs.{nothing_staged, line_item}
 
 -- ---- how a run ends

@@ -1,17 +1,15 @@
 -- The verbs on a device: what is told of each, how it ends, and the devices from the one before it to the
 -- one after it.
-use Rattle.std.specs.Prelude.{
-  ℕ, Bool, true, false, List, length, [], ◌∷◌, ◌++◌, codes, Option, Some, None
-}
+use Rattle.std.specs.Prelude.{ℕ, Bool, true, false, List, length, [], ◌∷◌, ◌++◌, codes, Option}
+use Rattle.std.specs.Prelude.{Some, None}
 use Rattle.hex.specs.Hex.{encode_lower}
 use Rattle.vab_model.specs.declared.state.State.{State}
 use Rattle.vab_model.specs.declared.command.Reply.{Reply}
 use Rattle.vab_model.specs.declared.command.Reply.TheVariants as replies
 use Rattle.vab_model.specs.declared.command.Refusal.{Refusal}
 use Rattle.vab_model.specs.Commands.{Command, SetActive, Boot, Mark, Print, Digest}
-use Rattle.vab_model.specs.Effects.{
-  Found, Image_is, Refused_by, found_of, effect, steps_of, after_of
-}
+use Rattle.vab_model.specs.Effects.{Found, Image_is, Refused_by, found_of, effect, steps_of}
+use Rattle.vab_model.specs.Effects.{after_of}
 use Rattle.vab_tables.specs.Rules.{cap_of}
 use Rattle.vab_set.specs.declared.set.SetImage.{SetImage}
 use Rattle.vab_device.specs.Mounted.{Mounted, effect_on}

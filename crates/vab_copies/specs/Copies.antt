@@ -1,24 +1,6 @@
 -- A text that is kept twice.
-use Rattle.std.specs.Prelude.{
-  ◌≡◌,
-  ◌⊎◌,
-  ◌<◌,
-  ◌≤◌,
-  ◌+◌,
-  ◌-◌,
-  ◌*◌,
-  ℕ,
-  List,
-  ◌++◌,
-  length,
-  take,
-  drop,
-  replicate,
-  if◌then◌else◌,
-  nat_lt,
-  nat_le,
-  ◌&&◌,
-}
+use Rattle.std.specs.Prelude.{◌≡◌, ◌⊎◌, ◌<◌, ◌≤◌, ◌+◌, ◌-◌, ◌*◌, ℕ, List, ◌++◌, length, take, drop}
+use Rattle.std.specs.Prelude.{replicate, if◌then◌else◌, nat_lt, nat_le, ◌&&◌}
 use Rattle.vab_disk.specs.Disk.{Image, Outcome, IsAt}
 
 -- a sector of zeros

@@ -1,30 +1,6 @@
 -- Another boot control in its sector: all else is read as before.
-use Rattle.std.proofs.Common.{
-  ◌≡◌,
-  ◌≢◌,
-  ◌∙◌,
-  inl,
-  inr,
-  ⊎_elim,
-  ℕ,
-  ◌+◌,
-  ◌-◌,
-  ◌*◌,
-  ◌≤◌,
-  ◌<◌,
-  List,
-  [],
-  ◌∷◌,
-  length,
-  take,
-  Result,
-  Ok,
-  refl,
-  sym,
-  ap,
-  subst,
-  arith,
-}
+use Rattle.std.proofs.Common.{◌≡◌, ◌≢◌, ◌∙◌, inl, inr, ⊎_elim, ℕ, ◌+◌, ◌-◌, ◌*◌, ◌≤◌, ◌<◌, List, []}
+use Rattle.std.proofs.Common.{◌∷◌, length, take, Result, Ok, refl, sym, ap, subst, arith}
 use Rattle.std.specs.Prelude.{Bool, Option, Some, None, is_some}
 use Rattle.vab_disk.specs.Disk.{Image, set_sector}
 use Rattle.vab_disk.specs.Written.{set_here, set_there}
@@ -33,50 +9,20 @@ use Rattle.vab_bootctl.specs.declared.slots.Control.{Control}
 use Rattle.vab_bootctl.specs.declared.sector.ControlFault.{ControlFault}
 use Rattle.vab_bootctl.specs.Control.{control_of}
 use Rattle.vab_geometry.specs.declared.geometry.Geometry.{Geometry}
-use Rattle.vab_lpstore.specs.Layout.{
-  copy_sectors,
-  primary_of,
-  backup_of,
-  primary_bytes,
-  backup_bytes,
-  BothHold,
-}
+use Rattle.vab_lpstore.specs.Layout.{copy_sectors, primary_of, backup_of, primary_bytes}
+use Rattle.vab_lpstore.specs.Layout.{backup_bytes, BothHold}
 use Rattle.vab_tables.specs.declared.table.Table.{Table}
 use Rattle.vab_model.specs.State.{control_seen, with_control}
 use Rattle.vab_device.specs.declared.device.Part.{Part}
 use Rattle.vab_device.specs.declared.device.Device.{Device}
 use Rattle.vab_device.specs.Checks.{first_fault}
-use Rattle.vab_device.specs.Mounted.{
-  Mounted,
-  images_on,
-  control_on,
-  state_on,
-  mounted_on,
-  in_state,
-}
+use Rattle.vab_device.specs.Mounted.{Mounted, images_on, control_on, state_on, mounted_on, in_state}
 use Rattle.vab_device.specs.Phases.{phase_at}
-use Rattle.vab_device.specs.Reading.{
-  Read,
-  mark_in,
-  control_read,
-  control_in,
-  geometry_at,
-  tables_in,
-  state_fault,
-  kept,
-  Reads,
-  AgreeCopies,
-  Represents,
-  IsOfTables,
-  IsOfImages,
-}
-use Rattle.vab_device.proofs.SameLaws.{
-  mark_same,
-  geometry_same,
-  tables_agree,
-  images_same,
-  images_behind,
-}
+use Rattle.vab_device.specs.Reading.{Read, mark_in, control_read, control_in, geometry_at}
+use Rattle.vab_device.specs.Reading.{tables_in, state_fault, kept, Reads, AgreeCopies, Represents}
+use Rattle.vab_device.specs.Reading.{IsOfTables, IsOfImages}
+use Rattle.vab_device.proofs.SameLaws.{mark_same, geometry_same, tables_agree, images_same}
+use Rattle.vab_device.proofs.SameLaws.{images_behind}
 
 -- the copies of tables stand behind the geometries
 tables_from : (g : Geometry) (slots : List ℕ) (s : ℕ) → IsOfTables g slots s → 4120 ≤ s

@@ -1,22 +1,6 @@
 -- What the links of a disk without an update answer, one after another.
-use Rattle.std.proofs.Common.{
-  ◌≡◌,
-  ◌∙◌,
-  ℕ,
-  true,
-  false,
-  leb,
-  List,
-  [],
-  ◌∷◌,
-  Result,
-  Ok,
-  Err,
-  refl,
-  sym,
-  ap,
-  subst,
-}
+use Rattle.std.proofs.Common.{◌≡◌, ◌∙◌, ℕ, true, false, leb, List, [], ◌∷◌, Result, Ok, Err, refl}
+use Rattle.std.proofs.Common.{sym, ap, subst}
 use Rattle.std.specs.Prelude.{Bool, Option, Some, None, ◌==◌}
 use Rattle.vab_disk.specs.Disk.{Image}
 use Rattle.vab_bootctl.specs.declared.slots.Control.{Control}
@@ -31,24 +15,9 @@ use Rattle.vab_device.specs.Checks.{first_fault, or_else, passing, ◌>>=◌}
 use Rattle.vab_device.specs.Idle.{control_read_of, idle_read}
 use Rattle.vab_device.specs.Mounted.{mounted_on}
 use Rattle.vab_device.specs.Phases.{Phase, idle, phase_at, own_check}
-use Rattle.vab_device.specs.Reading.{
-  Read,
-  mark_in,
-  control_read,
-  control_in,
-  geometry_at,
-  table_at,
-  tables_in,
-  framed,
-  frame,
-  part_fault,
-  state_fault,
-  judged,
-  stated,
-  kept,
-  device,
-  Reads,
-}
+use Rattle.vab_device.specs.Reading.{Read, mark_in, control_read, control_in, geometry_at, table_at}
+use Rattle.vab_device.specs.Reading.{tables_in, framed, frame, part_fault, state_fault, judged}
+use Rattle.vab_device.specs.Reading.{stated, kept, device, Reads}
 use Rattle.vab_device.proofs.ReadingLaws.{at_idle}
 
 -- ---- a link that fails

@@ -1,35 +1,7 @@
 -- A disk means a device exactly where it is read so.
-use Rattle.std.proofs.Common.{
-  ◌≡◌,
-  ◌∙◌,
-  inl,
-  inr,
-  ℕ,
-  true,
-  false,
-  List,
-  [],
-  ◌∷◌,
-  Result,
-  Ok,
-  Err,
-  refl,
-  sym,
-  ap,
-  subst,
-  leb,
-  eqb,
-}
-use Rattle.std.specs.Prelude.{
-  Bool,
-  Option,
-  Some,
-  None,
-  is_some,
-  nat_le,
-  ◌==◌,
-  if◌then◌else◌,
-}
+use Rattle.std.proofs.Common.{◌≡◌, ◌∙◌, inl, inr, ℕ, true, false, List, [], ◌∷◌, Result, Ok, Err}
+use Rattle.std.proofs.Common.{refl, sym, ap, subst, leb, eqb}
+use Rattle.std.specs.Prelude.{Bool, Option, Some, None, is_some, nat_le, ◌==◌, if◌then◌else◌}
 use Rattle.std.proofs.lemmas.Bool.{cases_Bool}
 use Rattle.vab_disk.specs.Disk.{Image}
 use Rattle.vab_bootctl.specs.declared.slots.Control.{Control}
@@ -49,30 +21,10 @@ use Rattle.vab_device.specs.declared.device.Device.{Device}
 use Rattle.vab_device.specs.Checks.{passing, ◌>>=◌}
 use Rattle.vab_device.specs.Mounted.{Mounted, control_on, state_on, mounted_on, images_on}
 use Rattle.vab_device.specs.Phases.{Phase, idle, phase_at}
-use Rattle.vab_device.specs.Reading.{
-  Read,
-  unless,
-  mark_in,
-  control_read,
-  control_in,
-  geometry_at,
-  table_at,
-  tables_in,
-  framed,
-  frame,
-  part_fault,
-  state_fault,
-  judged,
-  stated,
-  table_for,
-  parts_for,
-  read_table,
-  kept,
-  device,
-  Reads,
-  Represents,
-  SameRead,
-}
+use Rattle.vab_device.specs.Reading.{Read, unless, mark_in, control_read, control_in, geometry_at}
+use Rattle.vab_device.specs.Reading.{table_at, tables_in, framed, frame, part_fault, state_fault}
+use Rattle.vab_device.specs.Reading.{judged, stated, table_for, parts_for, read_table, kept, device}
+use Rattle.vab_device.specs.Reading.{Reads, Represents, SameRead}
 use Rattle.vab_device.proofs.CheckLaws.{bound, passed}
 
 -- ---- where it is read it means so

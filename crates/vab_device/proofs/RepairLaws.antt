@@ -1,27 +1,6 @@
 -- Copies of a table that are written while the slot's table stays: all is read as before.
-use Rattle.std.proofs.Common.{
-  ◌≡◌,
-  ◌∙◌,
-  inl,
-  inr,
-  ℕ,
-  ◌+◌,
-  ◌-◌,
-  ◌*◌,
-  ◌/◌,
-  ◌≤◌,
-  ◌<◌,
-  List,
-  [],
-  ◌∷◌,
-  Result,
-  Ok,
-  refl,
-  sym,
-  ap,
-  subst,
-  arith,
-}
+use Rattle.std.proofs.Common.{◌≡◌, ◌∙◌, inl, inr, ℕ, ◌+◌, ◌-◌, ◌*◌, ◌/◌, ◌≤◌, ◌<◌, List, [], ◌∷◌}
+use Rattle.std.proofs.Common.{Result, Ok, refl, sym, ap, subst, arith}
 use Rattle.std.proofs.Math.Nat.{mul-le-mul_right}
 use Rattle.vab_disk.specs.Disk.{Image}
 use Rattle.vab_geometry.specs.declared.geometry.Geometry.{Geometry}
@@ -34,25 +13,11 @@ use Rattle.vab_device.specs.declared.fault.StartFault.{StartFault}
 use Rattle.vab_device.specs.Checks.{◌>>=◌}
 use Rattle.vab_device.specs.Kept.{copies_end}
 use Rattle.vab_device.specs.Phases.{Phase, phase_at}
-use Rattle.vab_device.specs.Reading.{
-  Read,
-  table_at,
-  tables_in,
-  kept,
-  Reads,
-  SameRead,
-  IsOfImages,
-}
+use Rattle.vab_device.specs.Reading.{Read, table_at, tables_in, kept, Reads, SameRead, IsOfImages}
 use Rattle.vab_tables.specs.declared.table.Table.{Table}
 use Rattle.vab_device.proofs.ReadingLaws.{at_idle}
-use Rattle.vab_device.proofs.SameLaws.{
-  mark_same,
-  control_same,
-  geometry_same,
-  table_same,
-  images_same,
-  images_behind,
-}
+use Rattle.vab_device.proofs.SameLaws.{mark_same, control_same, geometry_same, table_same}
+use Rattle.vab_device.proofs.SameLaws.{images_same, images_behind}
 
 -- where both copies of a slot's table end
 abbrev pub end_of : Geometry → ℕ → ℕ

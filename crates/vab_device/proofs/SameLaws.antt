@@ -1,36 +1,8 @@
 -- What is read the same: where live sectors stay, where copies of tables are written, and where boot
 -- control is.
-use Rattle.std.proofs.Common.{
-  ◌≡◌,
-  ◌≢◌,
-  ◌⊎◌,
-  ◌∙◌,
-  inl,
-  inr,
-  ⊎_elim,
-  ℕ,
-  ◌+◌,
-  ◌-◌,
-  ◌*◌,
-  ◌/◌,
-  ◌≤◌,
-  ◌<◌,
-  true,
-  false,
-  List,
-  [],
-  ◌∷◌,
-  ◌++◌,
-  Result,
-  Ok,
-  Err,
-  refl,
-  sym,
-  ap,
-  subst,
-  leb,
-  arith,
-}
+use Rattle.std.proofs.Common.{◌≡◌, ◌≢◌, ◌⊎◌, ◌∙◌, inl, inr, ⊎_elim, ℕ, ◌+◌, ◌-◌, ◌*◌, ◌/◌, ◌≤◌, ◌<◌}
+use Rattle.std.proofs.Common.{true, false, List, [], ◌∷◌, ◌++◌, Result, Ok, Err, refl, sym, ap}
+use Rattle.std.proofs.Common.{subst, leb, arith}
 use Rattle.std.specs.Prelude.{Bool, Option, Some, None, map, nat_le, All, IsTrue, ◌==◌, if◌then◌else◌}
 use Rattle.std.proofs.lemmas.Bool.{cases_Bool, and_parts, leb-true}
 use Rattle.vab_disk.specs.Disk.{Image, set_sector}
@@ -56,44 +28,15 @@ use Rattle.vab_device.specs.declared.fault.StartFault.{StartFault}
 use Rattle.vab_device.specs.declared.fault.StartFault.TheVariants.{BadTable}
 use Rattle.vab_device.specs.declared.device.Part.{Part}
 use Rattle.vab_device.specs.Checks.{◌>>=◌}
-use Rattle.vab_device.specs.Kept.{
-  block_sector,
-  sectors_of,
-  part_on,
-  parts_of,
-  copies_end,
-  super_bytes,
-  lies_in,
-}
+use Rattle.vab_device.specs.Kept.{block_sector, sectors_of, part_on, parts_of, copies_end}
+use Rattle.vab_device.specs.Kept.{super_bytes, lies_in}
 use Rattle.vab_device.specs.Mounted.{bytes_at, sectors_read, image_on, images_on}
 use Rattle.vab_device.specs.Phases.{phase_at}
-use Rattle.vab_device.specs.Reading.{
-  Read,
-  unless,
-  mark_read,
-  mark_in,
-  control_read,
-  control_in,
-  geometry_read,
-  geometry_at,
-  table_read,
-  table_at,
-  tables_in,
-  table_for,
-  parts_for,
-  read_table,
-  kept,
-  Reads,
-  SameRead,
-  Dead,
-  IsOfTables,
-  IsOfBlocks,
-  IsOfParts,
-  IsOfImages,
-  Live,
-  Agrees,
-  Misses,
-}
+use Rattle.vab_device.specs.Reading.{Read, unless, mark_read, mark_in, control_read, control_in}
+use Rattle.vab_device.specs.Reading.{geometry_read, geometry_at, table_read, table_at, tables_in}
+use Rattle.vab_device.specs.Reading.{table_for, parts_for, read_table, kept, Reads, SameRead, Dead}
+use Rattle.vab_device.specs.Reading.{IsOfTables, IsOfBlocks, IsOfParts, IsOfImages, Live, Agrees}
+use Rattle.vab_device.specs.Reading.{Misses}
 use Rattle.vab_device.proofs.CheckLaws.{bound}
 
 -- ---- single parts

@@ -1,19 +1,6 @@
 -- Rules, one after another: each has the fault of breaking it.
-use Rattle.std.specs.Prelude.{
-  Bool,
-  true,
-  false,
-  List,
-  [],
-  ◌∷◌,
-  ℕ,
-  Option,
-  Some,
-  None,
-  Result,
-  Ok,
-  Err,
-}
+use Rattle.std.specs.Prelude.{Bool, true, false, List, [], ◌∷◌, ℕ, Option, Some, None, Result, Ok}
+use Rattle.std.specs.Prelude.{Err}
 use Rattle.vab_device.specs.declared.fault.StartFault.{StartFault}
 use Rattle.vab_device.specs.declared.fault.StartFault.TheVariants.{BadPartition}
 

@@ -1,17 +1,10 @@
 -- Kinds of faults of opening.
 use Rattle.std.specs.Prelude.{◌≡◌, Result, Ok, Err}
 use Rattle.vab_device.specs.declared.fault.StartFault.{StartFault}
-use Rattle.vab_device.specs.declared.fault.StartFault.TheVariants.{
-  TooSmall,
-  BadMark,
-  BadControl,
-  BadGeometry,
-  BadTable,
-  BadPartition,
-  BadState,
-  NoMemory,
-  Disk,
-}
+use Rattle.vab_device.specs.declared.fault.StartFault.TheVariants.{TooSmall, BadMark, BadControl}
+use Rattle.vab_device.specs.declared.fault.StartFault.TheVariants.{BadGeometry, BadTable}
+use Rattle.vab_device.specs.declared.fault.StartFault.TheVariants.{BadPartition, BadState, NoMemory}
+use Rattle.vab_device.specs.declared.fault.StartFault.TheVariants.{Disk}
 
 -- a fault of what the disk holds, and not of the disk or of memory
 abbrev pub IsOfContents : StartFault → Type 0

@@ -1,63 +1,17 @@
 -- How calls join.
-use Rattle.std.proofs.Common.{
-  ◌≡◌,
-  ◌≢◌,
-  ◌⊎◌,
-  inl,
-  inr,
-  ⊎_elim,
-  ℕ,
-  ◌≤◌,
-  ◌<◌,
-  List,
-  refl,
-  sym,
-  ◌∙◌,
-  ap,
-  subst,
-  arith,
-}
+use Rattle.std.proofs.Common.{◌≡◌, ◌≢◌, ◌⊎◌, inl, inr, ⊎_elim, ℕ, ◌≤◌, ◌<◌, List, refl, sym, ◌∙◌}
+use Rattle.std.proofs.Common.{ap, subst, arith}
 use Rattle.std.proofs.lemmas.Bool.{cases_eq}
 use Rattle.vab_disk.specs.declared.disk.Disk.{Ghosts}
-use Rattle.vab_disk.specs.Disk.{
-  Image,
-  Outcome,
-  Leaves,
-  LeavesWith,
-  LeavesEither,
-  Adds,
-  Nothing,
-  Writes,
-  NoFewer,
-  Faults,
-  SameHoldings,
-  IsAt,
-  MayBeSet,
-  Rose,
-  set_sector,
-}
-use Rattle.vab_disk.specs.Calls.{
-  IsQuiet,
-  OnlyReads,
-  OnlySyncs,
-  InSectors,
-  SameBut,
-  Touches,
-  Changes,
-  IsAtRest,
-}
+use Rattle.vab_disk.specs.Disk.{Image, Outcome, Leaves, LeavesWith, LeavesEither, Adds, Nothing}
+use Rattle.vab_disk.specs.Disk.{Writes, NoFewer, Faults, SameHoldings, IsAt, MayBeSet, Rose}
+use Rattle.vab_disk.specs.Disk.{set_sector}
+use Rattle.vab_disk.specs.Calls.{IsQuiet, OnlyReads, OnlySyncs, InSectors, SameBut, Touches}
+use Rattle.vab_disk.specs.Calls.{Changes, IsAtRest}
 use Rattle.vab_disk.specs.Port.{LeavesSaying}
 use Rattle.vab_disk.specs.Written.{set_here, set_there}
-use Rattle.vab_disk.proofs.Moments.{
-  adds_none,
-  adds_wider,
-  adds_on,
-  adds_still,
-  writes_with,
-  with_wider,
-  with_then,
-  settled_either,
-}
+use Rattle.vab_disk.proofs.Moments.{adds_none, adds_wider, adds_on, adds_still, writes_with}
+use Rattle.vab_disk.proofs.Moments.{with_wider, with_then, settled_either}
 
 pub fewer_then : (a b c : Faults) → NoFewer a b → NoFewer b c → NoFewer a c
 fewer_then a b c ab bc = record {

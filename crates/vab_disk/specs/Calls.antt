@@ -1,18 +1,8 @@
 -- What a run of calls does to a disk, said of the bound's members all at once.
 use Rattle.std.specs.Prelude.{◌≡◌, ◌⊎◌, ℕ, ◌≤◌, ◌<◌, List, Result, OnOk, OnErr}
 use Rattle.vab_disk.specs.declared.disk.Disk.{Ghosts}
-use Rattle.vab_disk.specs.Disk.{
-  Image,
-  LeavesWith,
-  IsSettled,
-  Adds,
-  Nothing,
-  NoMoreBut,
-  SameHoldings,
-  Quiet,
-  NoFewer,
-  Rose,
-}
+use Rattle.vab_disk.specs.Disk.{Image, LeavesWith, IsSettled, Adds, Nothing, NoMoreBut}
+use Rattle.vab_disk.specs.Disk.{SameHoldings, Quiet, NoFewer, Rose}
 
 -- sectors from the one up to the other, which isn't among them
 pub record IsBetween (first end s : ℕ) : Type 0 where

@@ -1,20 +1,6 @@
 -- What the calls of a disk do, and what a crash may leave of it.
-use Rattle.std.specs.Prelude.{
-  ◌≡◌,
-  ◌⊎◌,
-  ℕ,
-  ◌+◌,
-  ◌-◌,
-  ◌^◌,
-  ◌≤◌,
-  ◌<◌,
-  min,
-  List,
-  length,
-  slice_index,
-  if◌then◌else◌,
-  ◌==◌,
-}
+use Rattle.std.specs.Prelude.{◌≡◌, ◌⊎◌, ℕ, ◌+◌, ◌-◌, ◌^◌, ◌≤◌, ◌<◌, min, List, length, slice_index}
+use Rattle.std.specs.Prelude.{if◌then◌else◌, ◌==◌}
 
 -- The bytes of each sector. How many sectors there are is said beside it.
 abbrev pub Image : Type 0

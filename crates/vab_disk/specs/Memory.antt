@@ -1,26 +1,6 @@
 -- What a port in memory holds, by the calls that took effect, the newest first.
-use Rattle.std.specs.Prelude.{
-  ◌≡◌,
-  ◌⊎◌,
-  ℕ,
-  ◌+◌,
-  ◌≤◌,
-  ◌<◌,
-  List,
-  [],
-  ◌∷◌,
-  ◌++◌,
-  length,
-  take,
-  drop,
-  reverse,
-  replicate,
-  nat_lt,
-  if◌then◌else◌,
-  Option,
-  Some,
-  None,
-}
+use Rattle.std.specs.Prelude.{◌≡◌, ◌⊎◌, ℕ, ◌+◌, ◌≤◌, ◌<◌, List, [], ◌∷◌, ◌++◌, length, take, drop}
+use Rattle.std.specs.Prelude.{reverse, replicate, nat_lt, if◌then◌else◌, Option, Some, None}
 use Rattle.vab_disk.specs.Disk.{Image, set_sector, Outcome, Hearing, Leaves, IsAt}
 use Rattle.vab_disk.specs.Port.{heard_then}
 use Rattle.vab_disk.specs.declared.record.Call.{Call}

@@ -1,48 +1,13 @@
 -- What a port in memory holds is whole sectors, and what a crash may leave is among them.
-use Rattle.std.proofs.Common.{
-  ◌≡◌,
-  ◌⊎◌,
-  inl,
-  inr,
-  ℕ,
-  zero,
-  suc,
-  ◌+◌,
-  ◌≤◌,
-  ◌<◌,
-  List,
-  [],
-  ◌∷◌,
-  ◌++◌,
-  length,
-  take,
-  drop,
-  reverse,
-  replicate,
-  refl,
-  arith,
-  sym,
-  subst,
-  ◌∙◌,
-  get_or,
-  get_or-drop,
-}
+use Rattle.std.proofs.Common.{◌≡◌, ◌⊎◌, inl, inr, ℕ, zero, suc, ◌+◌, ◌≤◌, ◌<◌, List, [], ◌∷◌, ◌++◌}
+use Rattle.std.proofs.Common.{length, take, drop, reverse, replicate, refl, arith, sym, subst, ◌∙◌}
+use Rattle.std.proofs.Common.{get_or, get_or-drop}
 use Rattle.std.proofs.lemmas.List.{length-replicate}
 use Rattle.std.proofs.lemmas.Bool.Decides.{nat_tests}
 use Rattle.std.proofs.lemmas.Bool.{cases_eq}
 use Rattle.vab_disk.specs.Disk.{Image, IsSector, set_sector, Outcome, Leaves, IsAt}
-use Rattle.vab_disk.specs.Memory.{
-  blank,
-  seen_of,
-  Holds,
-  settled_of,
-  told_of,
-  LeavesNow,
-  LeftSince,
-  IsWrittenSince,
-  LeavesSettledOrWritten,
-  LeavesEachOfThem,
-}
+use Rattle.vab_disk.specs.Memory.{blank, seen_of, Holds, settled_of, told_of, LeavesNow, LeftSince}
+use Rattle.vab_disk.specs.Memory.{IsWrittenSince, LeavesSettledOrWritten, LeavesEachOfThem}
 use Rattle.vab_disk.specs.Written.{set_here, set_there}
 use Rattle.vab_disk.specs.declared.record.Call.{Call}
 use Rattle.vab_disk.specs.declared.record.Call.TheVariants.{Read, Wrote, Synced, Heard, Said}

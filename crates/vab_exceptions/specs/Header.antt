@@ -3,12 +3,8 @@ use Rattle.std.specs.Prelude.{ℕ, List, ◌++◌, replicate, if◌then◌else�
 use Rattle.std.specs.Int.{w32, to_le_bytes}
 use Rattle.vab_bytes.specs.Number.{le_at}
 use Rattle.vab_exceptions.specs.declared.header.HeaderFault.{HeaderFault}
-use Rattle.vab_exceptions.specs.declared.header.HeaderFault.TheVariants.{
-  BadMagic,
-  Invalid,
-  BadVersion,
-  BadChunk,
-}
+use Rattle.vab_exceptions.specs.declared.header.HeaderFault.TheVariants.{BadMagic, Invalid}
+use Rattle.vab_exceptions.specs.declared.header.HeaderFault.TheVariants.{BadVersion, BadChunk}
 
 -- the four numbers in their order, or the first fault
 abbrev pub header_of : List ℕ → Result (Unit {0}) HeaderFault

@@ -1,38 +1,7 @@
 -- A command whose reply was told.
-use Rattle.std.proofs.Common.{
-  ◌≡◌,
-  inl,
-  inr,
-  ℕ,
-  ◌+◌,
-  ◌<◌,
-  ◌≤◌,
-  Bool,
-  true,
-  false,
-  ◌&&◌,
-  ◌||◌,
-  cond,
-  List,
-  [],
-  ◌∷◌,
-  ◌++◌,
-  Option,
-  Some,
-  Result,
-  Ok,
-  Err,
-  length,
-  take,
-  refl,
-  sym,
-  ◌∙◌,
-  ap,
-  subst,
-  append_assoc,
-  codes,
-  ltb,
-}
+use Rattle.std.proofs.Common.{◌≡◌, inl, inr, ℕ, ◌+◌, ◌<◌, ◌≤◌, Bool, true, false, ◌&&◌, ◌||◌, cond}
+use Rattle.std.proofs.Common.{List, [], ◌∷◌, ◌++◌, Option, Some, Result, Ok, Err, length, take}
+use Rattle.std.proofs.Common.{refl, sym, ◌∙◌, ap, subst, append_assoc, codes, ltb}
 use Rattle.std.proofs.lemmas.List.{append-nil}
 use Rattle.std.proofs.lemmas.Bool.{lt-ltb, le-ltb}
 use Rattle.vab_disk.specs.Disk.{Image, Outcome, SameHoldings, Adds}
@@ -42,44 +11,18 @@ use Rattle.vab_disk.specs.Port.{LeavesSaying}
 use Rattle.vab_disk.specs.declared.disk.Disk.{Ghosts}
 use Rattle.vab_fbproto.specs.Requests.{Asked, Getvar, Download, Do, BootAndEnd, request_of}
 use Rattle.vab_fbproto.specs.declared.request.BadCommand.{BadCommand}
-use Rattle.vab_exchanges.specs.Session.{
-  packet,
-  most_data,
-  wanted,
-  due_of,
-  Exchange,
-  Leaves,
-  End,
-  IsAwaited,
-}
+use Rattle.vab_exchanges.specs.Session.{packet, most_data, wanted, due_of, Exchange, Leaves, End}
+use Rattle.vab_exchanges.specs.Session.{IsAwaited}
 use Rattle.vab_exchanges.specs.Reading.{HasData, IsBroken, EndsAs}
-use Rattle.vab_exchanges.specs.Items.{
-  Response,
-  AsksNoData,
-  unless_refused,
-  Kept,
-  Item,
-  item_by,
-  item_still,
-  item_asked,
-  item_of,
-  item_open,
-  data_text,
-  asked_size,
-}
+use Rattle.vab_exchanges.specs.Items.{Response, AsksNoData, unless_refused, Kept, Item, item_by}
+use Rattle.vab_exchanges.specs.Items.{item_still, item_asked, item_of, item_open, data_text}
+use Rattle.vab_exchanges.specs.Items.{asked_size}
 use Rattle.vab_disk.specs.Calls.{IsAtRest}
 use Rattle.vab_model.specs.Effects.{IsOneOf, last_of}
 use Rattle.vab_exchanges.specs.Hearing.{HearsWhere, IsHeardFor}
 use Rattle.vab_exchanges.proofs.Listening.{hears_same, hears_still}
-use Rattle.vab_exchanges.specs.Runs.{
-  LeavesItem,
-  HearsData,
-  Answers,
-  FailsWhole,
-  StartsAs,
-  FailsOpen,
-  BreaksOff,
-}
+use Rattle.vab_exchanges.specs.Runs.{LeavesItem, HearsData, Answers, FailsWhole, StartsAs}
+use Rattle.vab_exchanges.specs.Runs.{FailsOpen, BreaksOff}
 use Rattle.vab_exchanges.proofs.RunLaws.{telling}
 use Rattle.vab_exchanges.proofs.Choices.{chosen}
 use Rattle.vab_exchanges.proofs.Progress.{opens, started_by, still_settled}

@@ -1,93 +1,23 @@
 -- What is told fixes the choices.
-use Rattle.std.proofs.Common.{
-  ◌≡◌,
-  ◌≢◌,
-  inl,
-  inr,
-  ⊎_elim,
-  Bool,
-  true,
-  false,
-  cond,
-  subst,
-  ℕ,
-  zero,
-  suc,
-  ◌<◌,
-  ◌≤◌,
-  List,
-  [],
-  ◌∷◌,
-  ◌++◌,
-  Option,
-  Some,
-  None,
-  Result,
-  Ok,
-  Err,
-  length,
-  get_or,
-  take,
-  drop,
-  refl,
-  sym,
-  ◌∙◌,
-  ap,
-  arith,
-  append_assoc,
-  ltb,
-  codes,
-}
+use Rattle.std.proofs.Common.{◌≡◌, ◌≢◌, inl, inr, ⊎_elim, Bool, true, false, cond, subst, ℕ, zero}
+use Rattle.std.proofs.Common.{suc, ◌<◌, ◌≤◌, List, [], ◌∷◌, ◌++◌, Option, Some, None, Result, Ok}
+use Rattle.std.proofs.Common.{Err, length, get_or, take, drop, refl, sym, ◌∙◌, ap, arith}
+use Rattle.std.proofs.Common.{append_assoc, ltb, codes}
 use Rattle.std.proofs.lemmas.Bool.{cases_Bool, ltb-false}
 use Rattle.std.proofs.lemmas.List.{drop_at}
 use Rattle.std.specs.List.{flat_map}
 use Rattle.hex.specs.Hex.{encode_with}
 use Rattle.vab_fbproto.specs.Requests.{Asked, Getvar, Download, Do, BootAndEnd, request_of}
 use Rattle.vab_fbproto.specs.declared.request.BadCommand.{BadCommand}
-use Rattle.vab_exchanges.specs.Session.{
-  packet,
-  ends_session,
-  most_data,
-  due_of,
-  wanted,
-  Exchange,
-  spelled,
-  IsExchange,
-  Leaves,
-  End,
-  Stops,
-  IsUnfinished,
-  IsRead,
-  Reads,
-}
-use Rattle.vab_exchanges.specs.Items.{
-  Response,
-  no_memory,
-  unless_refused,
-  Kept,
-  Item,
-  item_by,
-  item_still,
-  data_text,
-  item_begun,
-  joined,
-  item_asked,
-  item_of,
-  item_open,
-  items_of,
-  IsPlain,
-  TellsItsChoices,
-}
+use Rattle.vab_exchanges.specs.Session.{packet, ends_session, most_data, due_of, wanted, Exchange}
+use Rattle.vab_exchanges.specs.Session.{spelled, IsExchange, Leaves, End, Stops, IsUnfinished}
+use Rattle.vab_exchanges.specs.Session.{IsRead, Reads}
+use Rattle.vab_exchanges.specs.Items.{Response, no_memory, unless_refused, Kept, Item, item_by}
+use Rattle.vab_exchanges.specs.Items.{item_still, data_text, item_begun, joined, item_asked}
+use Rattle.vab_exchanges.specs.Items.{item_of, item_open, items_of, IsPlain, TellsItsChoices}
 use Rattle.vab_exchanges.proofs.Sessions.{append_front, hello_or_not}
-use Rattle.vab_exchanges.proofs.Packets.{
-  same_packet,
-  same_exchange,
-  stop_or_packet,
-  due_refused,
-  due_fits,
-  leave_some,
-  all_or_not,
-}
+use Rattle.vab_exchanges.proofs.Packets.{same_packet, same_exchange, stop_or_packet, due_refused}
+use Rattle.vab_exchanges.proofs.Packets.{due_fits, leave_some, all_or_not}
 
 -- a text that stands at the front of what is told is the first that is told
 first_text : (a b x y : List ℕ)

@@ -1,62 +1,16 @@
 -- What an event of the framer says of all the bytes that are to come.
-use Rattle.std.proofs.Common.{
-  ◌≡◌,
-  ◌≢◌,
-  ◌⊎◌,
-  inl,
-  inr,
-  ⊎_elim,
-  ℕ,
-  ◌+◌,
-  ◌-◌,
-  ◌<◌,
-  ◌≤◌,
-  min,
-  Bool,
-  true,
-  false,
-  cond,
-  ◌==◌,
-  ◌&&◌,
-  nat_lt,
-  Ok,
-  Err,
-  List,
-  [],
-  ◌++◌,
-  length,
-  take,
-  drop,
-  slice_range,
-  refl,
-  sym,
-  ◌∙◌,
-  ap,
-  arith,
-  length-append,
-  length-take,
-  append_assoc,
-  take-append-drop,
-}
+use Rattle.std.proofs.Common.{◌≡◌, ◌≢◌, ◌⊎◌, inl, inr, ⊎_elim, ℕ, ◌+◌, ◌-◌, ◌<◌, ◌≤◌, min, Bool}
+use Rattle.std.proofs.Common.{true, false, cond, ◌==◌, ◌&&◌, nat_lt, Ok, Err, List, [], ◌++◌}
+use Rattle.std.proofs.Common.{length, take, drop, slice_range, refl, sym, ◌∙◌, ap, arith}
+use Rattle.std.proofs.Common.{length-append, length-take, append_assoc, take-append-drop}
 use Rattle.std.proofs.lemmas.List.{take-append-le, take-take, drop-take}
 use Rattle.std.proofs.Math.Seq.{take-nil}
 use Rattle.std.proofs.lemmas.Bool.{and_parts, eqb-true, ltb-true}
 use Rattle.std.proofs.lemmas.Bool.Decides.{nat_tests}
 use Rattle.std.specs.Int.{w64, from_be_bytes}
 use Rattle.vab_fbtcp.specs.Hello.{is_hello, version_of}
-use Rattle.vab_fbtcp.specs.Frame.{
-  Found,
-  Version,
-  Header,
-  Part,
-  More,
-  next_of,
-  found_of,
-  bytes_of,
-  body_place,
-  place_after,
-  IsPart,
-}
+use Rattle.vab_fbtcp.specs.Frame.{Found, Version, Header, Part, More, next_of, found_of, bytes_of}
+use Rattle.vab_fbtcp.specs.Frame.{body_place, place_after, IsPart}
 use Rattle.vab_fbtcp.specs.declared.event.Event.{Event}
 use Rattle.vab_fbtcp.specs.declared.event.Event.TheVariants as events
 use Rattle.vab_fbtcp.specs.declared.event.FrameFault.{FrameFault}

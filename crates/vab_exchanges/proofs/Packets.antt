@@ -1,48 +1,9 @@
 -- A list of bytes as exchanges, in the one way that there is for a choice.
-use Rattle.std.proofs.Common.{
-  ◌≡◌,
-  ◌⊎◌,
-  inl,
-  inr,
-  ⊎_elim,
-  Bool,
-  true,
-  false,
-  cond,
-  subst,
-  ℕ,
-  zero,
-  suc,
-  ◌+◌,
-  ◌-◌,
-  ◌<◌,
-  ◌≤◌,
-  List,
-  [],
-  ◌∷◌,
-  ◌++◌,
-  Option,
-  Some,
-  None,
-  Result,
-  Ok,
-  Err,
-  length,
-  get_or,
-  take,
-  drop,
-  refl,
-  sym,
-  ◌∙◌,
-  ap,
-  arith,
-  append_assoc,
-  length-append,
-  length-take,
-  length-drop,
-  take-append-drop,
-  ltb,
-}
+use Rattle.std.proofs.Common.{◌≡◌, ◌⊎◌, inl, inr, ⊎_elim, Bool, true, false, cond, subst, ℕ, zero}
+use Rattle.std.proofs.Common.{suc, ◌+◌, ◌-◌, ◌<◌, ◌≤◌, List, [], ◌∷◌, ◌++◌, Option, Some, None}
+use Rattle.std.proofs.Common.{Result, Ok, Err, length, get_or, take, drop, refl, sym, ◌∙◌, ap}
+use Rattle.std.proofs.Common.{arith, append_assoc, length-append, length-take, length-drop}
+use Rattle.std.proofs.Common.{take-append-drop, ltb}
 use Rattle.std.proofs.lemmas.Bool.{cases_eq, cases_Bool, ltb-false}
 use Rattle.std.proofs.lemmas.List.{take_at, drop_at, get_or-append-add}
 use Rattle.std.proofs.lemmas.Nat.{be_bytes_8, from_be_bytes-to_be_bytes_8}
@@ -50,33 +11,11 @@ use Rattle.std.specs.List.{flat_map}
 use Rattle.std.specs.Int.{w64, to_be_bytes, from_be_bytes}
 use Rattle.vab_fbproto.specs.Requests.{Asked, Getvar, Download, Do, BootAndEnd, request_of}
 use Rattle.vab_fbproto.specs.declared.request.BadCommand.{BadCommand}
-use Rattle.vab_exchanges.specs.Session.{
-  packet,
-  length_at,
-  ends_session,
-  most_data,
-  wanted,
-  due_of,
-  Exchange,
-  spelled,
-  Leaves,
-  IsExchange,
-  End,
-  Closed,
-  Rebooted,
-  BadHello,
-  TooLong,
-  Overrun,
-  Cut,
-  Spent,
-  IsCutShort,
-  IsAbove,
-  Stops,
-  Breaks,
-  StopsWith,
-  IsRead,
-  Follows,
-}
+use Rattle.vab_exchanges.specs.Session.{packet, length_at, ends_session, most_data, wanted, due_of}
+use Rattle.vab_exchanges.specs.Session.{Exchange, spelled, Leaves, IsExchange, End, Closed}
+use Rattle.vab_exchanges.specs.Session.{Rebooted, BadHello, TooLong, Overrun, Cut, Spent}
+use Rattle.vab_exchanges.specs.Session.{IsCutShort, IsAbove, Stops, Breaks, StopsWith, IsRead}
+use Rattle.vab_exchanges.specs.Session.{Follows}
 
 -- ---- one packet
 

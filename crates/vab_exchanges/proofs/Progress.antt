@@ -1,39 +1,8 @@
 -- How far a session has come, and how it ends from there.
-use Rattle.std.proofs.Common.{
-  ◌≡◌,
-  inl,
-  inr,
-  ⊎_elim,
-  ℕ,
-  ◌+◌,
-  ◌<◌,
-  ◌≤◌,
-  min,
-  Bool,
-  true,
-  false,
-  cond,
-  nat_le,
-  if◌then◌else◌,
-  List,
-  [],
-  ◌∷◌,
-  ◌++◌,
-  Option,
-  Some,
-  None,
-  Result,
-  length,
-  take,
-  codes,
-  refl,
-  sym,
-  ◌∙◌,
-  ap,
-  subst,
-  arith,
-  append_assoc,
-}
+use Rattle.std.proofs.Common.{◌≡◌, inl, inr, ⊎_elim, ℕ, ◌+◌, ◌<◌, ◌≤◌, min, Bool, true, false, cond}
+use Rattle.std.proofs.Common.{nat_le, if◌then◌else◌, List, [], ◌∷◌, ◌++◌, Option, Some, None}
+use Rattle.std.proofs.Common.{Result, length, take, codes, refl, sym, ◌∙◌, ap, subst, arith}
+use Rattle.std.proofs.Common.{append_assoc}
 use Rattle.std.proofs.lemmas.List.{append-nil, take_at, take-append-le, take_min}
 use Rattle.std.proofs.lemmas.Bool.{cases_Bool}
 use Rattle.std.proofs.Math.Seq.{take-append-add}
@@ -45,66 +14,20 @@ use Rattle.vab_disk.proofs.Moments.{adds_none, adds_on, adds_still}
 use Rattle.vab_disk.specs.declared.disk.Disk.{Ghosts}
 use Rattle.vab_fbproto.specs.Requests.{Asked, request_of}
 use Rattle.vab_fbproto.specs.declared.request.BadCommand.{BadCommand}
-use Rattle.vab_exchanges.specs.Session.{
-  packet,
-  ends_session,
-  due_of,
-  Exchange,
-  spelled,
-  Leaves,
-  IsExchange,
-  End,
-  Closed,
-  Rebooted,
-  Cut,
-  Stops,
-  IsCutShort,
-  IsUnfinished,
-  IsRead,
-  IsWaiting,
-  IsAwaited,
-  spent,
-}
+use Rattle.vab_exchanges.specs.Session.{packet, ends_session, due_of, Exchange, spelled, Leaves}
+use Rattle.vab_exchanges.specs.Session.{IsExchange, End, Closed, Rebooted, Cut, Stops, IsCutShort}
+use Rattle.vab_exchanges.specs.Session.{IsUnfinished, IsRead, IsWaiting, IsAwaited, spent}
 use Rattle.vab_exchanges.specs.Reading.{EndsAs, IsBroken}
-use Rattle.vab_exchanges.specs.Items.{
-  Response,
-  Kept,
-  Item,
-  data_text,
-  asked_size,
-  joined,
-  item_of,
-  item_open,
-  items_of,
-  kept_after,
-  output_of,
-}
+use Rattle.vab_exchanges.specs.Items.{Response, Kept, Item, data_text, asked_size, joined, item_of}
+use Rattle.vab_exchanges.specs.Items.{item_open, items_of, kept_after, output_of}
 use Rattle.vab_disk.specs.Calls.{IsAtRest}
 use Rattle.vab_model.specs.Effects.{IsOneOf}
-use Rattle.vab_exchanges.specs.Runs.{
-  CrashesWithin,
-  LeavesItem,
-  IsPrompt,
-  HearsData,
-  Ran,
-  Answers,
-  FailsWhole,
-  StartsAs,
-  FailsOpen,
-  BreaksOff,
-}
+use Rattle.vab_exchanges.specs.Runs.{CrashesWithin, LeavesItem, IsPrompt, HearsData, Ran, Answers}
+use Rattle.vab_exchanges.specs.Runs.{FailsWhole, StartsAs, FailsOpen, BreaksOff}
 use Rattle.vab_exchanges.proofs.Packets.{AreBytes, later_byte, split_of, data_of, due_fits}
 use Rattle.vab_exchanges.proofs.Choices.{chosen}
-use Rattle.vab_exchanges.proofs.RunLaws.{
-  IsChain,
-  item_chain,
-  open_chain,
-  items_chain,
-  items_append,
-  after_append,
-  joined_append,
-  within_item,
-}
+use Rattle.vab_exchanges.proofs.RunLaws.{IsChain, item_chain, open_chain, items_chain, items_append}
+use Rattle.vab_exchanges.proofs.RunLaws.{after_append, joined_append, within_item}
 
 -- these exchanges are whole, and the session goes on behind them
 abbrev pub AreDone : List Exchange → Type 0

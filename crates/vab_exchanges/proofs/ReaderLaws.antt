@@ -1,25 +1,6 @@
 -- What a reader hears for while it reads a packet, and the data of a download.
-use Rattle.std.proofs.Common.{
-  ◌≡◌,
-  inl,
-  ℕ,
-  ◌+◌,
-  ◌<◌,
-  ◌≤◌,
-  List,
-  [],
-  ◌++◌,
-  length,
-  take,
-  drop,
-  sym,
-  ◌∙◌,
-  ap,
-  subst,
-  arith,
-  append_assoc,
-  length-append,
-}
+use Rattle.std.proofs.Common.{◌≡◌, inl, ℕ, ◌+◌, ◌<◌, ◌≤◌, List, [], ◌++◌, length, take, drop, sym}
+use Rattle.std.proofs.Common.{◌∙◌, ap, subst, arith, append_assoc, length-append}
 use Rattle.std.specs.List.{flat_map}
 use Rattle.vab_disk.specs.declared.disk.Disk.{Ghosts}
 use Rattle.vab_fbtcp.specs.Frame.{IsIdle, body_place}
@@ -29,15 +10,8 @@ use Rattle.vab_exchanges.specs.Hearing.{Listens}
 use Rattle.vab_exchanges.specs.Reading.{IsFewerThan}
 use Rattle.vab_exchanges.specs.Session.{packet, length_at, IsCutShort, IsAwaited}
 use Rattle.vab_exchanges.proofs.Events.{body_some}
-use Rattle.vab_exchanges.proofs.Listening.{
-  listens_wider,
-  listens_then,
-  wants_behind,
-  all_behind,
-  taken_off,
-  short_behind,
-  awaited_behind,
-}
+use Rattle.vab_exchanges.proofs.Listening.{listens_wider, listens_then, wants_behind, all_behind}
+use Rattle.vab_exchanges.proofs.Listening.{taken_off, short_behind, awaited_behind}
 use Rattle.vab_exchanges.proofs.Stops.{HasSome}
 
 few_behind : (place : Place) (left count : ℕ) (front came : List ℕ)

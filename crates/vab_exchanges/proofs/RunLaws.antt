@@ -1,55 +1,10 @@
 -- An item that is done, and the items that stand whole after it.
-use Rattle.std.proofs.Common.{
-  ◌≡◌,
-  ◌⊎◌,
-  inl,
-  inr,
-  ⊎_elim,
-  ℕ,
-  suc,
-  min,
-  ◌+◌,
-  ◌-◌,
-  ◌<◌,
-  ◌≤◌,
-  Bool,
-  true,
-  false,
-  cond,
-  List,
-  [],
-  ◌∷◌,
-  ◌++◌,
-  Option,
-  Some,
-  None,
-  Result,
-  Ok,
-  Err,
-  length,
-  take,
-  drop,
-  refl,
-  sym,
-  ◌∙◌,
-  ap,
-  subst,
-  arith,
-  codes,
-  append_assoc,
-  length-append,
-  length-take,
-  take-append-drop,
-}
-use Rattle.std.proofs.lemmas.List.{
-  take_at,
-  drop_at,
-  take_all,
-  drop_all,
-  take-append-le,
-  append-nil,
-  take_min,
-}
+use Rattle.std.proofs.Common.{◌≡◌, ◌⊎◌, inl, inr, ⊎_elim, ℕ, suc, min, ◌+◌, ◌-◌, ◌<◌, ◌≤◌, Bool}
+use Rattle.std.proofs.Common.{true, false, cond, List, [], ◌∷◌, ◌++◌, Option, Some, None, Result}
+use Rattle.std.proofs.Common.{Ok, Err, length, take, drop, refl, sym, ◌∙◌, ap, subst, arith, codes}
+use Rattle.std.proofs.Common.{append_assoc, length-append, length-take, take-append-drop}
+use Rattle.std.proofs.lemmas.List.{take_at, drop_at, take_all, drop_all, take-append-le, append-nil}
+use Rattle.std.proofs.lemmas.List.{take_min}
 use Rattle.std.proofs.Math.Seq.{take-append-add}
 use Rattle.std.proofs.lemmas.Bool.{cases_eq}
 use Rattle.std.proofs.lemmas.Bool.Decides.{nat_tests}
@@ -60,28 +15,11 @@ use Rattle.vab_fbproto.specs.Requests.{Asked, Getvar, Download, Do, BootAndEnd, 
 use Rattle.vab_fbproto.specs.declared.request.BadCommand.{BadCommand}
 use Rattle.vab_model.specs.Effects.{IsOneOf}
 use Rattle.vab_exchanges.specs.Session.{packet, Exchange}
-use Rattle.vab_exchanges.specs.Items.{
-  Response,
-  Kept,
-  Item,
-  joined,
-  item_by,
-  item_still,
-  item_asked,
-  item_of,
-  item_open,
-  items_of,
-  kept_after,
-  unless_refused,
-  data_text,
-}
-use Rattle.vab_exchanges.specs.Runs.{
-  acknowledged,
-  steps_at,
-  StandsForOne,
-  CrashesWithin,
-  LeavesItem,
-}
+use Rattle.vab_exchanges.specs.Items.{Response, Kept, Item, joined, item_by, item_still, item_asked}
+use Rattle.vab_exchanges.specs.Items.{item_of, item_open, items_of, kept_after, unless_refused}
+use Rattle.vab_exchanges.specs.Items.{data_text}
+use Rattle.vab_exchanges.specs.Runs.{acknowledged, steps_at, StandsForOne, CrashesWithin}
+use Rattle.vab_exchanges.specs.Runs.{LeavesItem}
 
 -- each item begins with the situation before it, and something is told of it
 abbrev pub IsChain : {S : Type 0} → S → List (Item S) → Type 0

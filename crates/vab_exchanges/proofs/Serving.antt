@@ -1,42 +1,8 @@
 -- A whole session, from its hello on, and the choices that it shows.
-use Rattle.std.proofs.Common.{
-  append_assoc,
-  IsTrue,
-  ◌≡◌,
-  inl,
-  inr,
-  ℕ,
-  zero,
-  suc,
-  ◌+◌,
-  ◌≤◌,
-  min,
-  Bool,
-  true,
-  false,
-  nat_le,
-  if◌then◌else◌,
-  List,
-  [],
-  ◌∷◌,
-  ◌++◌,
-  Option,
-  Some,
-  None,
-  Result,
-  length,
-  take,
-  drop,
-  codes,
-  refl,
-  sym,
-  ◌∙◌,
-  ap,
-  subst,
-  arith,
-  length-take,
-  take-append-drop,
-}
+use Rattle.std.proofs.Common.{append_assoc, IsTrue, ◌≡◌, inl, inr, ℕ, zero, suc, ◌+◌, ◌≤◌, min}
+use Rattle.std.proofs.Common.{Bool, true, false, nat_le, if◌then◌else◌, List, [], ◌∷◌, ◌++◌, Option}
+use Rattle.std.proofs.Common.{Some, None, Result, length, take, drop, codes, refl, sym, ◌∙◌, ap}
+use Rattle.std.proofs.Common.{subst, arith, length-take, take-append-drop}
 use Rattle.std.proofs.lemmas.Bool.Decides.{nat_tests}
 use Rattle.std.proofs.lemmas.List.{take-append-le, take_min, take_at, append-nil}
 use Rattle.vab_disk.specs.Disk.{Image, Outcome, Leaves, Adds, Hearing}
@@ -49,16 +15,8 @@ use Rattle.vab_disk.specs.declared.disk.Disk.{Ghosts}
 use Rattle.vab_fbtcp.specs.Hello.{is_hello}
 use Rattle.vab_fbproto.specs.Requests.{Asked}
 use Rattle.vab_fbproto.specs.declared.request.BadCommand.{BadCommand}
-use Rattle.vab_exchanges.specs.Session.{
-  Exchange,
-  End,
-  Cut,
-  IsRead,
-  Follows,
-  HasNoHello,
-  IsSession,
-  spent,
-}
+use Rattle.vab_exchanges.specs.Session.{Exchange, End, Cut, IsRead, Follows, HasNoHello, IsSession}
+use Rattle.vab_exchanges.specs.Session.{spent}
 use Rattle.vab_exchanges.specs.Reading.{EndsAs, IsFewerThan}
 use Rattle.vab_exchanges.specs.Items.{Response, Kept, Item, items_of, joined}
 use Rattle.vab_disk.specs.Calls.{IsAtRest}

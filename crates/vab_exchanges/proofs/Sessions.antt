@@ -1,58 +1,15 @@
 -- The session of an input.
-use Rattle.std.proofs.Common.{
-  ◌≡◌,
-  inl,
-  inr,
-  ℕ,
-  ◌+◌,
-  ◌-◌,
-  ◌≤◌,
-  Bool,
-  true,
-  false,
-  IsTrue,
-  nat_le,
-  if◌then◌else◌,
-  List,
-  [],
-  ◌++◌,
-  length,
-  get_or,
-  take,
-  drop,
-  Option,
-  None,
-  refl,
-  sym,
-  ◌∙◌,
-  ap,
-  subst,
-  arith,
-  length-take,
-  take-append-drop,
-  get_or-drop,
-}
+use Rattle.std.proofs.Common.{◌≡◌, inl, inr, ℕ, ◌+◌, ◌-◌, ◌≤◌, Bool, true, false, IsTrue, nat_le}
+use Rattle.std.proofs.Common.{if◌then◌else◌, List, [], ◌++◌, length, get_or, take, drop, Option}
+use Rattle.std.proofs.Common.{None, refl, sym, ◌∙◌, ap, subst, arith, length-take, take-append-drop}
+use Rattle.std.proofs.Common.{get_or-drop}
 use Rattle.std.proofs.lemmas.Bool.{cases_eq}
 use Rattle.std.proofs.lemmas.Bool.Decides.{nat_tests}
 use Rattle.std.proofs.lemmas.List.{drop_at}
 use Rattle.vab_fbtcp.specs.Hello.{is_hello}
-use Rattle.vab_exchanges.specs.Session.{
-  Exchange,
-  End,
-  Closed,
-  Rebooted,
-  BadHello,
-  TooLong,
-  Overrun,
-  Cut,
-  Spent,
-  spent,
-  IsRead,
-  Follows,
-  HasNoHello,
-  Reads,
-  IsSession,
-}
+use Rattle.vab_exchanges.specs.Session.{Exchange, End, Closed, Rebooted, BadHello, TooLong, Overrun}
+use Rattle.vab_exchanges.specs.Session.{Cut, Spent, spent, IsRead, Follows, HasNoHello, Reads}
+use Rattle.vab_exchanges.specs.Session.{IsSession}
 use Rattle.vab_exchanges.proofs.Packets.{AreBytes, split_of, taken_byte, same_read}
 
 pub record AnySession (most : ℕ) (refused : ℕ → Bool) (input : List ℕ) : Type 0 where

@@ -1,81 +1,25 @@
 -- How a reading stops.
-use Rattle.std.proofs.Common.{
-  ◌≡◌,
-  ◌⊎◌,
-  ◌↔◌,
-  IsTrue,
-  inr,
-  ⊎_elim,
-  ℕ,
-  ◌+◌,
-  ◌-◌,
-  ◌<◌,
-  ◌≤◌,
-  min,
-  Bool,
-  true,
-  false,
-  cond,
-  eqb,
-  nat_le,
-  List,
-  [],
-  ◌∷◌,
-  ◌++◌,
-  length,
-  take,
-  drop,
-  refl,
-  sym,
-  ◌∙◌,
-  ap,
-  subst,
-  arith,
-  append_assoc,
-  length-append,
-  length-drop,
-}
+use Rattle.std.proofs.Common.{◌≡◌, ◌⊎◌, ◌↔◌, IsTrue, inr, ⊎_elim, ℕ, ◌+◌, ◌-◌, ◌<◌, ◌≤◌, min, Bool}
+use Rattle.std.proofs.Common.{true, false, cond, eqb, nat_le, List, [], ◌∷◌, ◌++◌, length, take}
+use Rattle.std.proofs.Common.{drop, refl, sym, ◌∙◌, ap, subst, arith, append_assoc, length-append}
+use Rattle.std.proofs.Common.{length-drop}
 use Rattle.std.proofs.lemmas.Bool.{eqb-true, eqb-false, le-leb, lt-leb}
 use Rattle.std.proofs.lemmas.List.{append-nil, take_at, drop_at}
 use Rattle.std.proofs.Math.Seq.{take-append-add}
 use Rattle.std.specs.List.{flat_map}
 use Rattle.vab_fbtcp.specs.declared.event.Place.{Place}
 use Rattle.vab_fbtcp.specs.declared.event.Place.TheVariants.{Hello, Length, Body}
-use Rattle.vab_exchanges.specs.Session.{
-  packet,
-  length_at,
-  Leaves,
-  IsCutShort,
-  IsAbove,
-  Breaks,
-  Stops,
-  HasNoHello,
-  End,
-  spent,
-}
+use Rattle.vab_exchanges.specs.Session.{packet, length_at, Leaves, IsCutShort, IsAbove, Breaks}
+use Rattle.vab_exchanges.specs.Session.{Stops, HasNoHello, End, spent}
 use Rattle.vab_exchanges.specs.Session as session
-use Rattle.vab_exchanges.specs.Reading.{
-  IfNotSource,
-  UnlessSource,
-  FaultAt,
-  cut_of,
-  EndsAs,
-  StopsBy,
-  IsShort,
-  IsBroken,
-}
+use Rattle.vab_exchanges.specs.Reading.{IfNotSource, UnlessSource, FaultAt, cut_of, EndsAs, StopsBy}
+use Rattle.vab_exchanges.specs.Reading.{IsShort, IsBroken}
 use Rattle.std.specs.Int.{w64, to_be_bytes}
 use Rattle.vab_exchanges.proofs.Packets.{is_packet}
 use Rattle.std.proofs.Common.{Result, Ok, Err}
 use Rattle.vab_exchanges.specs.declared.fault.ReadFault.{ReadFault}
-use Rattle.vab_exchanges.specs.declared.fault.ReadFault.TheVariants.{
-  BadHello,
-  TooLong,
-  Overrun,
-  Cut,
-  Spent,
-  Source,
-}
+use Rattle.vab_exchanges.specs.declared.fault.ReadFault.TheVariants.{BadHello, TooLong, Overrun}
+use Rattle.vab_exchanges.specs.declared.fault.ReadFault.TheVariants.{Cut, Spent, Source}
 
 -- which way a test goes doesn't matter where both are one
 same_either : (b : Bool) (x : End) → x ≡ cond b x x

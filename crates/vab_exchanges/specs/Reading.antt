@@ -1,29 +1,7 @@
 -- What a reader of a session has before it.
-use Rattle.std.specs.Prelude.{
-  ◌≡◌,
-  ◌⊎◌,
-  ℕ,
-  ◌+◌,
-  ◌-◌,
-  ◌<◌,
-  ◌≤◌,
-  List,
-  [],
-  ◌++◌,
-  length,
-  take,
-  drop,
-  min,
-  slice_range,
-  IsTrue,
-  false,
-  nat_le,
-  if◌then◌else◌,
-  ◌==◌,
-  Result,
-  Ok,
-  Err,
-}
+use Rattle.std.specs.Prelude.{◌≡◌, ◌⊎◌, ℕ, ◌+◌, ◌-◌, ◌<◌, ◌≤◌, List, [], ◌++◌, length, take, drop}
+use Rattle.std.specs.Prelude.{min, slice_range, IsTrue, false, nat_le, if◌then◌else◌, ◌==◌, Result}
+use Rattle.std.specs.Prelude.{Ok, Err}
 use Rattle.std.specs.Int.{w64, to_be_bytes}
 use Rattle.std.specs.List.{flat_map}
 use Rattle.vab_fbtcp.specs.Hello.{is_hello}
@@ -37,14 +15,8 @@ use Rattle.vab_fbtcp.specs.Unread.{place_of, unread_of, piece_of}
 use Rattle.vab_exchanges.specs.Session.{packet, length_at, Leaves, IsAbove, Breaks, End, spent}
 use Rattle.vab_exchanges.specs.Session as session
 use Rattle.vab_exchanges.specs.declared.fault.ReadFault.{ReadFault}
-use Rattle.vab_exchanges.specs.declared.fault.ReadFault.TheVariants.{
-  BadHello,
-  TooLong,
-  Overrun,
-  Cut,
-  Spent,
-  Source,
-}
+use Rattle.vab_exchanges.specs.declared.fault.ReadFault.TheVariants.{BadHello, TooLong, Overrun}
+use Rattle.vab_exchanges.specs.declared.fault.ReadFault.TheVariants.{Cut, Spent, Source}
 use Rattle.vab_exchanges.specs.declared.reader.Reader.{Reader}
 
 -- where the stream stands

@@ -1,26 +1,7 @@
 -- A run of items: which of their situations a cut of power may leave, and what was told whenever it
 -- heard. Whether a disk is in a situation is given by the device.
-use Rattle.std.specs.Prelude.{
-  ◌≡◌,
-  ℕ,
-  zero,
-  suc,
-  List,
-  [],
-  ◌∷◌,
-  ◌++◌,
-  length,
-  take,
-  drop,
-  if◌then◌else◌,
-  nat_le,
-  codes,
-  Option,
-  Some,
-  Result,
-  Bool,
-  false,
-}
+use Rattle.std.specs.Prelude.{◌≡◌, ℕ, zero, suc, List, [], ◌∷◌, ◌++◌, length, take, drop}
+use Rattle.std.specs.Prelude.{if◌then◌else◌, nat_le, codes, Option, Some, Result, Bool, false}
 use Rattle.std.specs.List.{flat_map}
 use Rattle.vab_disk.specs.Disk.{Image, Outcome, Adds, Hearing}
 use Rattle.vab_disk.specs.Calls.{IsAtRest}
@@ -28,34 +9,12 @@ use Rattle.vab_disk.specs.declared.disk.Disk.{Ghosts}
 use Rattle.vab_model.specs.Effects.{IsOneOf}
 use Rattle.vab_fbproto.specs.Requests.{Asked, request_of}
 use Rattle.vab_fbproto.specs.declared.request.BadCommand.{BadCommand}
-use Rattle.vab_exchanges.specs.Session.{
-  packet,
-  Exchange,
-  Leaves,
-  due_of,
-  End,
-  spent,
-  IsRead,
-  Reads,
-  IsSession,
-  IsWaiting,
-  IsAwaited,
-}
+use Rattle.vab_exchanges.specs.Session.{packet, Exchange, Leaves, due_of, End, spent, IsRead, Reads}
+use Rattle.vab_exchanges.specs.Session.{IsSession, IsWaiting, IsAwaited}
 use Rattle.vab_exchanges.specs.Hearing.{HearsWhere, IsHeardFor}
 use Rattle.vab_exchanges.specs.Reading.{EndsAs, IsBroken}
-use Rattle.vab_exchanges.specs.Items.{
-  Response,
-  Kept,
-  Item,
-  data_text,
-  asked_size,
-  joined,
-  item_of,
-  item_open,
-  items_of,
-  kept_after,
-  output_of,
-}
+use Rattle.vab_exchanges.specs.Items.{Response, Kept, Item, data_text, asked_size, joined, item_of}
+use Rattle.vab_exchanges.specs.Items.{item_open, items_of, kept_after, output_of}
 
 -- how many of them stand whole in what was told
 abbrev pub acknowledged : {S : Type 0} → List (Item S) → List ℕ → ℕ

@@ -1,32 +1,7 @@
 -- Command packets of a fastboot session, and what they ask for.
-use Rattle.std.specs.Prelude.{
-  ℕ,
-  ◌+◌,
-  ◌-◌,
-  ◌*◌,
-  List,
-  [],
-  ◌∷◌,
-  length,
-  codes,
-  take,
-  drop,
-  position,
-  Bool,
-  not,
-  ◌==◌,
-  ◌||◌,
-  ◌&&◌,
-  nat_lt,
-  nat_le,
-  if◌then◌else◌,
-  Option,
-  Some,
-  None,
-  Result,
-  Ok,
-  Err,
-}
+use Rattle.std.specs.Prelude.{ℕ, ◌+◌, ◌-◌, ◌*◌, List, [], ◌∷◌, length, codes, take, drop, position}
+use Rattle.std.specs.Prelude.{Bool, not, ◌==◌, ◌||◌, ◌&&◌, nat_lt, nat_le, if◌then◌else◌, Option}
+use Rattle.std.specs.Prelude.{Some, None, Result, Ok, Err}
 use Rattle.std.specs.List.{list_any}
 use Rattle.std.specs.Str.{bytes_eq}
 use Rattle.vab_model.specs.Commands.{Command, SetActive, Boot, Mark, Digest, command_of}

@@ -1,27 +1,6 @@
 -- The events of a stream, as a function of where it stands and of the bytes that have come.
-use Rattle.std.specs.Prelude.{
-  ◌≡◌,
-  ℕ,
-  ◌+◌,
-  ◌-◌,
-  ◌<◌,
-  ◌≤◌,
-  min,
-  List,
-  [],
-  ◌++◌,
-  length,
-  take,
-  drop,
-  slice_range,
-  ◌==◌,
-  ◌&&◌,
-  nat_lt,
-  if◌then◌else◌,
-  Result,
-  Ok,
-  Err,
-}
+use Rattle.std.specs.Prelude.{◌≡◌, ℕ, ◌+◌, ◌-◌, ◌<◌, ◌≤◌, min, List, [], ◌++◌, length, take, drop}
+use Rattle.std.specs.Prelude.{slice_range, ◌==◌, ◌&&◌, nat_lt, if◌then◌else◌, Result, Ok, Err}
 use Rattle.std.specs.Int.{w64, from_be_bytes, to_be_bytes}
 use Rattle.vab_fbtcp.specs.Hello.{is_hello, version_of}
 use Rattle.vab_fbtcp.specs.declared.event.Event.{Event}

@@ -1,18 +1,6 @@
 -- The hello of fastboot over TCP: `FB` and a version of two decimal digits, from 01 on.
-use Rattle.std.specs.Prelude.{
-  ℕ,
-  ◌+◌,
-  ◌-◌,
-  ◌*◌,
-  List,
-  Bool,
-  ◌==◌,
-  ◌&&◌,
-  nat_lt,
-  nat_le,
-  slice_index,
-  length,
-}
+use Rattle.std.specs.Prelude.{ℕ, ◌+◌, ◌-◌, ◌*◌, List, Bool, ◌==◌, ◌&&◌, nat_lt, nat_le, slice_index}
+use Rattle.std.specs.Prelude.{length}
 
 abbrev pub is_digit : ℕ → Bool
 is_digit c = nat_le 48 c && nat_le c 57

@@ -5,12 +5,8 @@ use Rattle.std.specs.Str.{bytes_eq}
 use Rattle.vab_bytes.specs.Number.{field, le_at}
 use Rattle.vab_geometry.specs.declared.geometry.Geometry.{Geometry}
 use Rattle.vab_geometry.specs.declared.geometry.GeometryFault.{GeometryFault}
-use Rattle.vab_geometry.specs.declared.geometry.GeometryFault.TheVariants.{
-  BadMagic,
-  BadSize,
-  BadSum,
-  BadField,
-}
+use Rattle.vab_geometry.specs.declared.geometry.GeometryFault.TheVariants.{BadMagic, BadSize}
+use Rattle.vab_geometry.specs.declared.geometry.GeometryFault.TheVariants.{BadSum, BadField}
 use Rattle.vab_geometry.specs.Geometry.{sum_around}
 
 infixl 10 ◌>>=◌

@@ -1,14 +1,8 @@
 -- The lines that are told of making a device.
 use Rattle.std.specs.Prelude.{ℕ, List, [], ◌++◌, codes, decimal}
 use Rattle.vab_make.specs.declared.fault.MakeFault.{MakeFault}
-use Rattle.vab_make.specs.declared.fault.MakeFault.TheVariants.{
-  TooSmall,
-  GroupLimit,
-  NoRoom,
-  TableFull,
-  NoMemory,
-  Disk,
-}
+use Rattle.vab_make.specs.declared.fault.MakeFault.TheVariants.{TooSmall, GroupLimit, NoRoom}
+use Rattle.vab_make.specs.declared.fault.MakeFault.TheVariants.{TableFull, NoMemory, Disk}
 
 -- a device is made
 unfoldable pub made_line : ℕ → ℕ → ℕ → List ℕ

@@ -4,12 +4,12 @@ ghost use Rattle.std.specs.Prelude.{◌≡◌, ◌≤◌, ◌%◌, ◌^◌, ℕ,
 ghost use Rattle.vab_disk.specs.Disk.{Adds, Rose};
 ghost use Rattle.vab_disk.specs.Calls.{IsAtRest, InSectors, Touches, FailsWithDisk};
 ghost use Rattle.vab_set.specs.Spelling.{IsSet};
-ghost use Rattle.vab_make.specs.Made.{refusal_of};
+ghost use Rattle.vab_make.specs.Made.{made_control, refusal_of};
 ghost use Rattle.vab_make.specs.Making.{Gives, IsOfDisk, IsMade, LeavesMaking};
 ghost use Rattle.vab_marks.specs.Mark.{mark_of};
 ghost use Rattle.vab_make.specs.Prepared.{IsMost, HasRoom, IsPrepared};
 ghost use Rattle.vab_make.specs.Touched.{IsOfContents, IsOfMaking};
-ghost use Rattle.vab_bootctl.specs.Control.{KeepsRest};
+ghost use Rattle.vab_bootctl.specs.Control.{control_of, KeepsRest};
 ghost use Rattle.vab_make.specs.Steps.{HasAll, HasPlaces, blanked};
 
 use crate::control::put_control;
@@ -79,6 +79,8 @@ fn make_on<D: Disk>(d: &mut D, set: &Set, max: u32, text: &[u8]) -> Result<(), D
         → IsPrepared set.now limit max (D.size d.old) text.now
         → OnOk result (IsMade set.now limit max (D.size d.old) (D.seen d.new)) }
     ensures copies { D.is_modelled → OnOk result (HasPlaces max text.now (D.seen d.new)) }
+    ensures control { D.is_modelled
+        → OnOk result (control_of (D.seen d.new 4) ≡ Ok made_control) }
     ensures rest { D.is_modelled
         → OnOk result (KeepsRest (blanked (D.seen d.old 4)) (D.seen d.new 4)) }
     ensures settled { D.is_modelled → OnOk result (IsAtRest D.Disk d.new) }
@@ -120,6 +122,9 @@ pub fn make_device<D: Disk>(
     // Both copies of the geometry and of the table are there.
     ensures copies { D.is_modelled
         → OnOk result ((text : List ℕ) × HasPlaces max text (D.seen d.new)) }
+    // The boot control is there as a whole, also what it says of slot b, which has no images.
+    ensures control { D.is_modelled
+        → OnOk result (control_of (D.seen d.new 4) ≡ Ok made_control) }
     // The boot control's sector stays behind the 32 bytes of the boot control.
     ensures rest { D.is_modelled
         → OnOk result (KeepsRest (blanked (D.seen d.old 4)) (D.seen d.new 4)) }

@@ -4,14 +4,8 @@ use Rattle.std.specs.Prelude.{is_some, if◌then◌else◌}
 use Rattle.std.proofs.lemmas.Bool.{cases_Bool, and_parts, and_from, not-true, eqb-true, eqb-false}
 use Rattle.vab_bootctl.specs.declared.slots.Control.{Control}
 use Rattle.vab_bootctl.specs.Control.{Fits}
-use Rattle.vab_bootctl.specs.Boot.{
-  info_at,
-  activated_of,
-  marked_of,
-  booted_of,
-  chosen_of,
-  is_bootable,
-}
+use Rattle.vab_bootctl.specs.Boot.{info_at, activated_of, marked_of, booted_of, chosen_of}
+use Rattle.vab_bootctl.specs.Boot.{is_bootable}
 use Rattle.vab_device.specs.declared.device.Device.{Device}
 use Rattle.vab_device.specs.Kept.{IsDevice}
 use Rattle.vab_device.specs.Phases.{is_good}

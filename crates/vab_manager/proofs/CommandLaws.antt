@@ -24,25 +24,13 @@ use Rattle.vab_device.specs.Mounted.{Mounted, mounted_on, effect_on}
 use Rattle.vab_device.specs.Phases.{Phase, idle, is_good}
 use Rattle.vab_device.specs.Reading.{Read, device, Represents}
 use Rattle.vab_device.proofs.CheckLaws.{check_kept, first_kept}
-use Rattle.vab_device.proofs.ControlLaws.{
-  read_with,
-  with_boot,
-  KeepsState,
-  represents_gated,
-  mounted_gated,
-}
+use Rattle.vab_device.proofs.ControlLaws.{read_with, with_boot, KeepsState, represents_gated}
+use Rattle.vab_device.proofs.ControlLaws.{mounted_gated}
 use Rattle.vab_device.proofs.IdleLaws.{state_is}
 use Rattle.vab_device.proofs.ReadingLaws.{at_idle, control_is_seen, device_stands}
 use Rattle.vab_manager.specs.Commands.{LeavesStep, DoesCommand}
-use Rattle.vab_manager.specs.Controls.{
-  HasControl,
-  LeavesControl,
-  IsControl,
-  IsOfCommand,
-  WritesControl,
-  with_kept,
-  GivesControl,
-}
+use Rattle.vab_manager.specs.Controls.{HasControl, LeavesControl, IsControl, IsOfCommand}
+use Rattle.vab_manager.specs.Controls.{WritesControl, with_kept, GivesControl}
 use Rattle.vab_manager.proofs.BootLaws.{kept_device}
 
 -- ---- the rules of the slots, with another boot control

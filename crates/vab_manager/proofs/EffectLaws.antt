@@ -14,15 +14,8 @@ use Rattle.vab_model.specs.State.{images_at, has_images, control_seen, with_cont
 use Rattle.vab_model.proofs.SeenLaws.{seen_activated, seen_marked, seen_booted}
 use Rattle.vab_device.specs.declared.device.Part.{Part}
 use Rattle.vab_device.specs.declared.device.Device.{Device}
-use Rattle.vab_device.specs.Mounted.{
-  Mounted,
-  images_on,
-  control_on,
-  state_on,
-  mounted_on,
-  in_state,
-  effect_on,
-}
+use Rattle.vab_device.specs.Mounted.{Mounted, images_on, control_on, state_on, mounted_on, in_state}
+use Rattle.vab_device.specs.Mounted.{effect_on}
 use Rattle.vab_manager.specs.Controls.{slots_with_images, GivesControl}
 
 some_images : (image : Image) (parts : Option (List Part))

@@ -9,18 +9,8 @@ use Rattle.vab_names.specs.Names.{is_full, base_of}
 use Rattle.vab_model.specs.declared.command.Refusal.{Refusal}
 use Rattle.vab_model.specs.declared.command.Refusal.TheVariants.{Unknown}
 use Rattle.vab_model.specs.Commands.{Print, Digest}
-use Rattle.vab_model.specs.Effects.{
-  Found,
-  Image_is,
-  Refused_by,
-  found_image,
-  found_in,
-  found_of,
-  print_effect,
-  digest_effect,
-  effect,
-  effect_map,
-}
+use Rattle.vab_model.specs.Effects.{Found, Image_is, Refused_by, found_image, found_in, found_of}
+use Rattle.vab_model.specs.Effects.{print_effect, digest_effect, effect, effect_map}
 use Rattle.vab_device.specs.declared.device.Part.{Part}
 use Rattle.vab_device.specs.declared.device.Device.{Device}
 use Rattle.vab_device.specs.Kept.{IsPart, IsDevice}

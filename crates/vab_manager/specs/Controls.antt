@@ -1,7 +1,6 @@
 -- Boot control written into its sector.
-use Rattle.std.specs.Prelude.{
-  ◌≡◌, ◌⊎◌, ℕ, ◌==◌, if◌then◌else◌, true, List, Ok, [], ◌∷◌, Bool, is_some
-}
+use Rattle.std.specs.Prelude.{◌≡◌, ◌⊎◌, ℕ, ◌==◌, if◌then◌else◌, true, List, Ok, [], ◌∷◌, Bool}
+use Rattle.std.specs.Prelude.{is_some}
 use Rattle.vab_disk.specs.Disk.{Image, Outcome, set_sector}
 use Rattle.vab_bootctl.specs.declared.slots.Control.{Control}
 use Rattle.vab_bootctl.specs.Control.{control_of, KeepsRest}

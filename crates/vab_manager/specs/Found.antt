@@ -1,17 +1,6 @@
 -- The partition under a name.
-use Rattle.std.specs.Prelude.{
-  ℕ,
-  if◌then◌else◌,
-  List,
-  [],
-  ◌∷◌,
-  Option,
-  Some,
-  None,
-  ok_or,
-  Result,
-  Err,
-}
+use Rattle.std.specs.Prelude.{ℕ, if◌then◌else◌, List, [], ◌∷◌, Option, Some, None, ok_or, Result}
+use Rattle.std.specs.Prelude.{Err}
 use Rattle.std.specs.Str.{bytes_eq}
 use Rattle.vab_names.specs.Names.{is_full, base_of}
 use Rattle.vab_model.specs.declared.command.Refusal.{Refusal}

@@ -1,36 +1,12 @@
 -- The update mark: the one spelling of each, and what the bytes of a sector mean.
-use Rattle.std.specs.Prelude.{
-  ℕ,
-  zero,
-  suc,
-  ◌<◌,
-  ◌&&◌,
-  nat_lt,
-  if◌then◌else◌,
-  List,
-  [],
-  ◌∷◌,
-  ◌++◌,
-  slice_index,
-  Option,
-  Some,
-  None,
-  option_map,
-  ok_or,
-  Result,
-  Err,
-}
+use Rattle.std.specs.Prelude.{ℕ, zero, suc, ◌<◌, ◌&&◌, nat_lt, if◌then◌else◌, List, [], ◌∷◌, ◌++◌}
+use Rattle.std.specs.Prelude.{slice_index, Option, Some, None, option_map, ok_or, Result, Err}
 use Rattle.vab_bytes.specs.Number.{field}
 use Rattle.vab_marks.specs.declared.sector.MarkFault.{MarkFault}
 use Rattle.vab_marks.specs.declared.sector.MarkFault.TheVariants.{BadField}
 use Rattle.vab_marks.specs.declared.mark.MarkPhase.{MarkPhase}
-use Rattle.vab_marks.specs.declared.mark.MarkPhase.TheVariants.{
-  Idle,
-  Installing,
-  Staged,
-  Merging,
-  Completed,
-}
+use Rattle.vab_marks.specs.declared.mark.MarkPhase.TheVariants.{Idle, Installing, Staged, Merging}
+use Rattle.vab_marks.specs.declared.mark.MarkPhase.TheVariants.{Completed}
 use Rattle.vab_marks.specs.declared.mark.UpdateMark.{UpdateMark}
 use Rattle.vab_marks.specs.Sector.{zeros, are_zeros, sealed, head_fault, unless}
 

@@ -1,21 +1,6 @@
 -- What marks and statuses share: a sector with a magic, a version, fields, zeros and a sum.
-use Rattle.std.specs.Prelude.{
-  ℕ,
-  Bool,
-  not,
-  ◌==◌,
-  if◌then◌else◌,
-  List,
-  ◌++◌,
-  take,
-  slice_index,
-  replicate,
-  Option,
-  Some,
-  None,
-  Result,
-  Err,
-}
+use Rattle.std.specs.Prelude.{ℕ, Bool, not, ◌==◌, if◌then◌else◌, List, ◌++◌, take, slice_index}
+use Rattle.std.specs.Prelude.{replicate, Option, Some, None, Result, Err}
 use Rattle.std.specs.List.{list_all}
 use Rattle.std.specs.Int.{w32, to_le_bytes}
 use Rattle.std.specs.Str.{bytes_eq}

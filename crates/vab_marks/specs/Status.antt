@@ -1,21 +1,6 @@
 -- The status of a partition: the one spelling of each, and what the bytes of a sector mean.
-use Rattle.std.specs.Prelude.{
-  ℕ,
-  ◌<◌,
-  ◌^◌,
-  ◌&&◌,
-  ◌==◌,
-  if◌then◌else◌,
-  List,
-  [],
-  ◌∷◌,
-  ◌++◌,
-  slice_index,
-  option_map,
-  ok_or,
-  Result,
-  Err,
-}
+use Rattle.std.specs.Prelude.{ℕ, ◌<◌, ◌^◌, ◌&&◌, ◌==◌, if◌then◌else◌, List, [], ◌∷◌, ◌++◌}
+use Rattle.std.specs.Prelude.{slice_index, option_map, ok_or, Result, Err}
 use Rattle.std.specs.Int.{w16, w64, to_le_bytes}
 use Rattle.vab_bytes.specs.Number.{field, le_at}
 use Rattle.vab_bytes.specs.Name.{IsName, name_field, name_of_field}

@@ -4,12 +4,8 @@ use Rattle.std.specs.Int.{w64, to_le_bytes, from_le_bytes}
 use Rattle.std.proofs.lemmas.Bool.{cases_lt, cases_eq}
 use Rattle.std.proofs.lemmas.Nat.{from_le_bytes-to_le_bytes_8}
 use Rattle.vab_bytes.specs.Number.{field, le_at, put_at}
-use Rattle.vab_bytes.specs.NumberLaws.{
-  length-put_at,
-  field-put_at_same,
-  field-put_at_below,
-  field-put_at_above,
-}
+use Rattle.vab_bytes.specs.NumberLaws.{length-put_at, field-put_at_same, field-put_at_below}
+use Rattle.vab_bytes.specs.NumberLaws.{field-put_at_above}
 use Rattle.vab_disk.specs.Disk.{Image}
 use Rattle.vab_exceptions.specs.declared.area.Exception.{Exception}
 use Rattle.vab_exceptions.specs.Entries.{entry_at, put_entry}
@@ -17,24 +13,10 @@ use Rattle.vab_store.specs.View.{no_exception}
 use Rattle.vab_disk.specs.declared.disk.Disk.{Ghosts}
 use Rattle.vab_disk.specs.Disk.{set_sector, IsAt}
 use Rattle.vab_disk.specs.Calls.{Touches}
-use Rattle.vab_disk.proofs.CallLaws.{
-  wrote_here,
-  wrote_there,
-  quiet_then,
-  same_then,
-  touches_wider,
-  touches_then,
-}
-use Rattle.vab_merge.specs.Cleared.{
-  sector_entries,
-  IsCleared,
-  begin_of,
-  end_of,
-  IsClearedAt,
-  IsOfThem,
-  IsClearing,
-  area_sector,
-}
+use Rattle.vab_disk.proofs.CallLaws.{wrote_here, wrote_there, quiet_then, same_then, touches_wider}
+use Rattle.vab_disk.proofs.CallLaws.{touches_then}
+use Rattle.vab_merge.specs.Cleared.{sector_entries, IsCleared, begin_of, end_of, IsClearedAt}
+use Rattle.vab_merge.specs.Cleared.{IsOfThem, IsClearing, area_sector}
 
 -- ---- one entry that is put
 

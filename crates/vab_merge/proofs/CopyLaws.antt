@@ -8,13 +8,7 @@ use Rattle.vab_gate.specs.Gate.{set_block, IsAmong}
 use Rattle.vab_exceptions.specs.declared.area.Exception.{Exception}
 use Rattle.vab_store.specs.Layout.{chunk_bytes, AreApart, IsApart, AreDisjoint}
 use Rattle.vab_store.specs.View.{exception_at, Fits}
-use Rattle.vab_store.proofs.ChunkLaws.{
-  apart_of,
-  apart_sector,
-  chunk_same,
-  chunk_here,
-  chunk_there,
-}
+use Rattle.vab_store.proofs.ChunkLaws.{apart_of, apart_sector, chunk_same, chunk_here, chunk_there}
 use Rattle.vab_merge.specs.Copied.{InCopied, AreCopied}
 
 -- what a copy keeps, and where it may write

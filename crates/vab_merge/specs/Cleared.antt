@@ -1,20 +1,6 @@
 -- Entries that are zeroed in their sectors.
-use Rattle.std.specs.Prelude.{
-  ◌≡◌,
-  ◌⊎◌,
-  ℕ,
-  ◌+◌,
-  ◌-◌,
-  ◌*◌,
-  ◌/◌,
-  ◌%◌,
-  ◌≤◌,
-  ◌<◌,
-  min,
-  List,
-  length,
-  slice_index,
-}
+use Rattle.std.specs.Prelude.{◌≡◌, ◌⊎◌, ℕ, ◌+◌, ◌-◌, ◌*◌, ◌/◌, ◌%◌, ◌≤◌, ◌<◌, min, List, length}
+use Rattle.std.specs.Prelude.{slice_index}
 use Rattle.vab_disk.specs.Disk.{Image}
 use Rattle.vab_exceptions.specs.Entries.{area_entries, entry_at}
 use Rattle.vab_store.specs.Layout.{area_chunk}

@@ -1,20 +1,6 @@
 -- Names of partitions and groups that belong to a slot: a base name and the slot's suffix.
-use Rattle.std.specs.Prelude.{
-  ℕ,
-  ◌-◌,
-  Bool,
-  ◌&&◌,
-  not,
-  ◌==◌,
-  nat_eq,
-  nat_le,
-  if◌then◌else◌,
-  List,
-  ◌++◌,
-  length,
-  take,
-  codes,
-}
+use Rattle.std.specs.Prelude.{ℕ, ◌-◌, Bool, ◌&&◌, not, ◌==◌, nat_eq, nat_le, if◌then◌else◌, List}
+use Rattle.std.specs.Prelude.{◌++◌, length, take, codes}
 use Rattle.std.specs.List.{list_any, ends_with}
 use Rattle.vab_bytes.specs.Name.{is_name}
 

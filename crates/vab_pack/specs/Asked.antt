@@ -1,19 +1,6 @@
 -- What words ask for: images of these names, with the bytes of the files at these paths.
-use Rattle.std.specs.Prelude.{
-  ◌≡◌,
-  ◌≢◌,
-  ℕ,
-  ◌<◌,
-  ◌≤◌,
-  List,
-  ◌∷◌,
-  ◌++◌,
-  length,
-  map,
-  IsTrue,
-  All,
-  AllPairs,
-}
+use Rattle.std.specs.Prelude.{◌≡◌, ◌≢◌, ℕ, ◌<◌, ◌≤◌, List, ◌∷◌, ◌++◌, length, map, IsTrue, All}
+use Rattle.std.specs.Prelude.{AllPairs}
 use Rattle.vab_names.specs.Names.{is_base}
 
 -- an image: its name, and the path of its file

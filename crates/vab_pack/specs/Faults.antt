@@ -1,18 +1,6 @@
 -- Why words ask for no images.
-use Rattle.std.specs.Prelude.{
-  ◌≡◌,
-  ◌≢◌,
-  ℕ,
-  ◌<◌,
-  ◌≤◌,
-  List,
-  [],
-  length,
-  take,
-  slice_index_or,
-  IsTrue,
-  All,
-}
+use Rattle.std.specs.Prelude.{◌≡◌, ◌≢◌, ℕ, ◌<◌, ◌≤◌, List, [], length, take, slice_index_or, IsTrue}
+use Rattle.std.specs.Prelude.{All}
 use Rattle.vab_names.specs.Names.{is_base}
 use Rattle.vab_pack.specs.declared.fault.WordFault.{WordFault}
 use Rattle.vab_pack.specs.declared.fault.WordFault.TheVariants as faults

@@ -24,20 +24,8 @@ use Rattle.vab_layout.proofs.LayoutLaws.{layout_keeps}
 use Rattle.vab_layout.specs.Slots.{own_parts, IsOwn, IsDistinct}
 use Rattle.vab_device.specs.declared.device.Part.{Part}
 use Rattle.vab_device.specs.declared.device.Device.{Device}
-use Rattle.vab_device.specs.Kept.{
-  copies_end,
-  super_bytes,
-  lies_in,
-  sectors_of,
-  part_on,
-  parts_of,
-  IsPart,
-  AreParts,
-  ArePresent,
-  IsTableOf,
-  IsKeptTable,
-  IsDevice,
-}
+use Rattle.vab_device.specs.Kept.{copies_end, super_bytes, lies_in, sectors_of, part_on, parts_of}
+use Rattle.vab_device.specs.Kept.{IsPart, AreParts, ArePresent, IsTableOf, IsKeptTable, IsDevice}
 use Rattle.vab_device.specs.Reading.{table_for, parts_for}
 use Rattle.vab_recover.specs.Opened.{idle_kept}
 

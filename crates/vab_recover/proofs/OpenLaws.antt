@@ -1,31 +1,6 @@
 -- What a repair of the table leaves of the device that was read.
-use Rattle.std.proofs.Common.{
-  ◌≡◌,
-  ◌≢◌,
-  ◌⊎◌,
-  ◌∙◌,
-  inl,
-  inr,
-  ⊎_elim,
-  ℕ,
-  ◌≤◌,
-  ◌<◌,
-  true,
-  false,
-  leb,
-  List,
-  [],
-  ◌∷◌,
-  length,
-  Result,
-  Ok,
-  Err,
-  refl,
-  sym,
-  ap,
-  subst,
-  arith,
-}
+use Rattle.std.proofs.Common.{◌≡◌, ◌≢◌, ◌⊎◌, ◌∙◌, inl, inr, ⊎_elim, ℕ, ◌≤◌, ◌<◌, true, false, leb}
+use Rattle.std.proofs.Common.{List, [], ◌∷◌, length, Result, Ok, Err, refl, sym, ap, subst, arith}
 use Rattle.std.specs.Prelude.{Bool, Option, Some, None, ◌==◌, IsTrue}
 use Rattle.vab_disk.specs.Disk.{Image, Outcome}
 use Rattle.vab_disk.specs.Calls.{SameBut}
@@ -37,15 +12,8 @@ use Rattle.vab_geometry.specs.declared.geometry.Geometry.{Geometry}
 use Rattle.vab_geometry.specs.Geometry.{IsGeometry}
 use Rattle.vab_tables.specs.declared.table.Table.{Table}
 use Rattle.vab_lpstore.specs.declared.loaded.Loaded.{Loaded}
-use Rattle.vab_lpstore.specs.Layout.{
-  copy_sectors,
-  primary_of,
-  backup_of,
-  primary_bytes,
-  backup_bytes,
-  text_sectors,
-  BothHold,
-}
+use Rattle.vab_lpstore.specs.Layout.{copy_sectors, primary_of, backup_of, primary_bytes}
+use Rattle.vab_lpstore.specs.Layout.{backup_bytes, text_sectors, BothHold}
 use Rattle.vab_lpstore.specs.Loading.{slot_table, IsLoaded}
 use Rattle.vab_lpstore.specs.Storing.{IsOfRepair, SameElsewhere, LeavesTable}
 use Rattle.vab_lpstore.proofs.StoreLaws.{loaded_table, both_table, text_fits, repair_elsewhere}
@@ -55,45 +23,15 @@ use Rattle.vab_device.specs.declared.device.Device.{Device}
 use Rattle.vab_device.specs.Checks.{first_fault, or_else, passing, ◌>>=◌}
 use Rattle.vab_device.specs.Mounted.{mounted_on}
 use Rattle.vab_device.specs.Phases.{Phase, idle, phase_at, own_check}
-use Rattle.vab_device.specs.Reading.{
-  Read,
-  mark_in,
-  control_read,
-  control_in,
-  geometry_at,
-  table_at,
-  tables_in,
-  framed,
-  frame,
-  part_fault,
-  state_fault,
-  judged,
-  stated,
-  kept,
-  device,
-  Reads,
-  AgreeCopies,
-  Represents,
-  SameRead,
-}
-use Rattle.vab_device.proofs.ReadingLaws.{
-  at_idle,
-  device_of,
-  device_same,
-  device_stands,
-  reads_kept,
-  mounted_same,
-}
+use Rattle.vab_device.specs.Reading.{Read, mark_in, control_read, control_in, geometry_at, table_at}
+use Rattle.vab_device.specs.Reading.{tables_in, framed, frame, part_fault, state_fault, judged}
+use Rattle.vab_device.specs.Reading.{stated, kept, device, Reads, AgreeCopies, Represents, SameRead}
+use Rattle.vab_device.proofs.ReadingLaws.{at_idle, device_of, device_same, device_stands}
+use Rattle.vab_device.proofs.ReadingLaws.{reads_kept, mounted_same}
 use Rattle.vab_device.proofs.RepairLaws.{repair_same}
 use Rattle.vab_device.specs.Idle.{idle_read}
-use Rattle.vab_recover.specs.Opened.{
-  idle_kept,
-  with_table,
-  IsOpened,
-  LeavesSame,
-  IsRepair,
-  BothCopiesHold,
-}
+use Rattle.vab_recover.specs.Opened.{idle_kept, with_table, IsOpened, LeavesSame, IsRepair}
+use Rattle.vab_recover.specs.Opened.{BothCopiesHold}
 
 -- ---- a repair
 

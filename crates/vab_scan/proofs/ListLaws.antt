@@ -7,47 +7,17 @@ use Rattle.vab_disk.specs.Disk.{Image}
 use Rattle.vab_disk.specs.declared.disk.Disk.{Ghosts}
 use Rattle.vab_exceptions.specs.declared.area.Exception.{Exception}
 use Rattle.vab_exceptions.specs.declared.header.HeaderFault.{HeaderFault}
-use Rattle.vab_exceptions.specs.Entries.{
-  area_entries,
-  firsts,
-  entry_at,
-  area_of,
-  listed,
-  IsListed,
-}
+use Rattle.vab_exceptions.specs.Entries.{area_entries, firsts, entry_at, area_of, listed, IsListed}
 use Rattle.vab_exceptions.specs.Header.{header_of}
-use Rattle.vab_exceptions.proofs.EntryLaws.{
-  length-firsts,
-  get_or-firsts,
-  firsts_same,
-  firsts-add,
-  take-firsts,
-  EndsAt,
-  listed_is,
-  ends_at,
-}
+use Rattle.vab_exceptions.proofs.EntryLaws.{length-firsts, get_or-firsts, firsts_same, firsts-add}
+use Rattle.vab_exceptions.proofs.EntryLaws.{take-firsts, EndsAt, listed_is, ends_at}
 use Rattle.vab_store.specs.declared.fault.StoreFault.{StoreFault}
 use Rattle.vab_store.specs.declared.fault.StoreFault.TheVariants as faults
 use Rattle.vab_store.specs.Answers.{ReadsStore}
-use Rattle.vab_store.specs.Layout.{
-  chunks_of,
-  chunk_bytes,
-  area_chunk,
-  areas_of,
-  slot_at,
-  slots_of,
-}
+use Rattle.vab_store.specs.Layout.{chunks_of, chunk_bytes, area_chunk, areas_of, slot_at, slots_of}
 use Rattle.vab_store.specs.View.{no_exception, exception_at, Lies, Fits}
-use Rattle.vab_store.specs.Scan.{
-  lies,
-  list_of,
-  good_of,
-  repeat_of,
-  unless_repeated,
-  after_header,
-  judged,
-  scan_of,
-}
+use Rattle.vab_store.specs.Scan.{lies, list_of, good_of, repeat_of, unless_repeated, after_header}
+use Rattle.vab_store.specs.Scan.{judged, scan_of}
 use Rattle.vab_store.proofs.ScanLaws.{good_is, good_all, good_full, lies_listed, repeated_none}
 use Rattle.vab_scan.specs.declared.list.End.{End}
 use Rattle.vab_scan.specs.declared.list.End.TheVariants.{Ended, Unended, Bad}

@@ -1,8 +1,6 @@
 -- What answering a packet leaves of a device.
-use Rattle.std.proofs.Common.{
-  ◌≡◌, inl, ℕ, ◌+◌, ◌≤◌, false, List, [], ◌∷◌, ◌++◌, Ok, length, length-append, take, sym, ◌∙◌, ap,
-  subst, refl, arith
-}
+use Rattle.std.proofs.Common.{◌≡◌, inl, ℕ, ◌+◌, ◌≤◌, false, List, [], ◌∷◌, ◌++◌, Ok, length}
+use Rattle.std.proofs.Common.{length-append, take, sym, ◌∙◌, ap, subst, refl, arith}
 use Rattle.std.proofs.lemmas.List.{append-nil, take_at}
 use Rattle.vab_disk.specs.Disk.{Image, Outcome, SameHoldings, Adds, Nothing}
 use Rattle.vab_disk.specs.Calls.{IsAtRest}
@@ -26,9 +24,8 @@ use Rattle.vab_exchanges.specs.Items.{Response, AsksNoData, Kept, item_by, data_
 use Rattle.vab_exchanges.specs.Runs.{LeavesItem, Answers, FailsWhole, FailsOpen, BreaksOff}
 use Rattle.vab_exchanges.specs.declared.fault.ReadFault.{ReadFault}
 use Rattle.vab_exchanges.specs.declared.fault.ReadFault.TheVariants as reads
-use Rattle.vab_exchanges.proofs.Answering.{
-  fails_before, answers_done, fails_done, answers_plain, fails_plain, fails_data, breaks_off
-}
+use Rattle.vab_exchanges.proofs.Answering.{fails_before, answers_done, fails_done, answers_plain}
+use Rattle.vab_exchanges.proofs.Answering.{fails_plain, fails_data, breaks_off}
 use Rattle.vab_exchanges.proofs.RunLaws.{packet_some}
 use Rattle.vab_session.specs.Fault.{fault_of_read}
 use Rattle.vab_session.specs.Responses.{response, still, by_effect}
@@ -64,7 +61,7 @@ module _ {D : Type 0}
     (holds : SameHoldings (g.may_leave old) (g.may_leave new))
     (deaf : g.heard new ≡ g.heard old)
     (time : Adds g.moment g.outcomes old new
-      (LeavesSaying (g.told old) (packet text) (g.may_leave old))) where
+    (LeavesSaying (g.told old) (packet text) (g.may_leave old))) where
   last_is : k ≡ (item_by k (response k.now k.staged asked)).last
   last_is = ap (λ (r : Response Mounted). (item_by k r).last) (sym same)
 
@@ -120,11 +117,11 @@ module _ {D : Type 0}
     (quiet : g.told mid ≡ g.told old)
     (deaf : g.heard mid ≡ g.heard old)
     (time : IsAtRest g old
-      → Adds g.moment g.outcomes old mid
-        (LeavesStep (g.told old) size (steps_of k.now (effect_on k.now c)))) where
+    → Adds g.moment g.outcomes old mid
+    (LeavesStep (g.told old) size (steps_of k.now (effect_on k.now c)))) where
   during : IsAtRest g old
       → Adds g.moment g.outcomes old mid
-        (LeavesItem (IsIn size) (g.told old) (item_by k (response k.now k.staged asked)))
+      (LeavesItem (IsIn size) (g.told old) (item_by k (response k.now k.staged asked)))
   during rest =
       subst
       (λ (r : Response Mounted).
@@ -150,7 +147,7 @@ module _ {D : Type 0}
       (holds : SameHoldings (g.may_leave mid) (g.may_leave new))
       (deaf' : g.heard new ≡ g.heard mid)
       (telling : Adds g.moment g.outcomes mid new
-        (LeavesSaying (g.told mid) (packet text) (g.may_leave mid))) where
+      (LeavesSaying (g.told mid) (packet text) (g.may_leave mid))) where
     text_there : text ≡ (response k.now k.staged asked).text
     text_there = text_is ∙ ap (λ (r : Response Mounted). r.text) (sym same)
 
@@ -195,11 +192,11 @@ module _ {D : Type 0}
     (told : g.told mid ≡ g.told old ++ packet (data_text size))
     (quiet : g.told new ≡ g.told mid)
     (hears : HearsWhere
-      (IsHeardFor (g.told old ++ packet (data_text size)) (before ++ beyond) (IsAwaited size))
-      (g.heard old)
-      (g.heard new))
+    (IsHeardFor (g.told old ++ packet (data_text size)) (before ++ beyond) (IsAwaited size))
+    (g.heard old)
+    (g.heard new))
     (time : Adds g.moment g.outcomes old mid
-      (LeavesSaying (g.told old) (packet (data_text size)) (g.may_leave old)))
+    (LeavesSaying (g.told old) (packet (data_text size)) (g.may_leave old)))
     (after : Adds g.moment g.outcomes mid new Nothing) where
   all_time : Adds g.moment g.outcomes old new
       (LeavesSaying (g.told old) (packet (data_text size)) (g.may_leave old))

@@ -1,7 +1,6 @@
 -- How a session over a device ends.
-use Rattle.std.proofs.Common.{
-  ◌≡◌, inl, inr, ℕ, ◌≤◌, List, [], ◌++◌, Some, None, Err, length, take, codes, subst, sym, ◌∙◌
-}
+use Rattle.std.proofs.Common.{◌≡◌, inl, inr, ℕ, ◌≤◌, List, [], ◌++◌, Some, None, Err, length, take}
+use Rattle.std.proofs.Common.{codes, subst, sym, ◌∙◌}
 use Rattle.vab_disk.specs.Disk.{Outcome, Leaves, Adds}
 use Rattle.vab_disk.specs.Calls.{IsAtRest}
 use Rattle.vab_disk.specs.declared.disk.Disk.{Ghosts}
@@ -12,21 +11,18 @@ use Rattle.vab_exchanges.specs.Session as session
 use Rattle.vab_exchanges.specs.Hearing.{HearsWhere, IsHeardFor}
 use Rattle.vab_exchanges.specs.Reading.{EndsAs, StopsBy, end_of, IsFewerThan}
 use Rattle.vab_exchanges.specs.Items.{Kept, Item}
-use Rattle.vab_exchanges.specs.Runs.{
-  CrashesWithin, FailsWhole, FailsOpen, BreaksOff, Ran, Serves
-}
+use Rattle.vab_exchanges.specs.Runs.{CrashesWithin, FailsWhole, FailsOpen, BreaksOff, Ran, Serves}
 use Rattle.vab_exchanges.specs.declared.fault.ReadFault.{ReadFault}
 use Rattle.vab_exchanges.specs.declared.fault.ReadFault.TheVariants as reads
 use Rattle.vab_exchanges.proofs.Packets.{AreBytes}
 use Rattle.vab_exchanges.proofs.RunLaws.{IsChain}
 use Rattle.vab_exchanges.proofs.Serving.{stopped_early, failed_early}
-use Rattle.vab_exchanges.proofs.Progress.{
-  Progress, stopped, failed_nowhere, failed_whole, failed_open, broke_off
-}
+use Rattle.vab_exchanges.proofs.Progress.{Progress, stopped, failed_nowhere, failed_whole}
+use Rattle.vab_exchanges.proofs.Progress.{failed_open, broke_off}
 use Rattle.vab_session.specs.declared.fault.SessionFault.{SessionFault}
-use Rattle.vab_session.specs.declared.fault.SessionFault.TheVariants.{
-  BadHello, TooLong, Overrun, Cut, Spent, Disk, Source, Sink
-}
+use Rattle.vab_session.specs.declared.fault.SessionFault.TheVariants.{BadHello, TooLong, Overrun}
+use Rattle.vab_session.specs.declared.fault.SessionFault.TheVariants.{Cut, Spent, Disk, Source}
+use Rattle.vab_session.specs.declared.fault.SessionFault.TheVariants.{Sink}
 use Rattle.vab_session.specs.Fault.{fault_of_read}
 use Rattle.vab_session.specs.Responses.{response}
 use Rattle.vab_session.specs.Served.{HeldBy, Says, Fails}
@@ -57,7 +53,7 @@ module _ {D : Type 0}
   stops : (fault : ReadFault)
       → EndsAs (Stops count left) total most (end_of fault)
       → Ran response (IsIn size) g (Unit {0}) (λ e. end_of fault ≡ e) None count total most bytes
-        beyond first told old mid
+      beyond first told old mid
   stops fault ends =
       stopped response (IsIn size) g bytes beyond first told old mid left kept so_far
       (Unit {0}) None count total most (end_of fault) ends (λ s is. none_is kept.now s is)
@@ -65,9 +61,9 @@ module _ {D : Type 0}
   pub read_fails : (fault : ReadFault)
       → StopsBy (Stops count left) total most fault
       → (let e : SessionFault = fault_of_read fault in
-        Ran response (IsIn size) g
-        (HeldBy e) (Says (Err e)) None count total most bytes
-        beyond first told old mid)
+      Ran response (IsIn size) g
+      (HeldBy e) (Says (Err e)) None count total most bytes
+      beyond first told old mid)
   read_fails reads.Source why =
       failed_nowhere response (IsIn size) g bytes beyond first told old mid left kept so_far
       count total most are
@@ -84,21 +80,21 @@ module _ {D : Type 0}
     breaks : (end : session.End)
         → BreaksOff response (IsIn size) g kept command before beyond count total most end mid now
         → Ran response (IsIn size) g (Unit {0}) (λ e. end ≡ e) None count total most bytes
-          beyond first told old now
+        beyond first told old now
     breaks end why =
         broke_off response (IsIn size) g bytes beyond first told old mid left kept so_far
         command before short is (Unit {0}) count total most end now why
 
     whole : FailsWhole response (IsIn size) g kept command before beyond mid now
         → Ran response (IsIn size) g ⊥ (λ e. Unit {0}) None count total most bytes
-          beyond first told old now
+        beyond first told old now
     whole why =
         failed_whole response (IsIn size) g bytes beyond first told old mid left kept so_far
         command before short is count total most now are why
 
     open_one : FailsOpen response (IsIn size) g kept command before beyond mid now
         → Ran response (IsIn size) g ⊥ (λ e. Unit {0}) None count total most bytes
-          beyond first told old now
+        beyond first told old now
     open_one why =
         failed_open response (IsIn size) g bytes beyond first told old mid left kept so_far
         command before short is count total most now are why
@@ -106,8 +102,8 @@ module _ {D : Type 0}
     pub answer_fails : (fault : SessionFault)
         → Fails size g kept command before beyond count total most mid now fault
         → Ran response (IsIn size) g
-          (HeldBy fault) (Says (Err fault)) None count total most bytes
-          beyond first told old now
+        (HeldBy fault) (Says (Err fault)) None count total most bytes
+        beyond first told old now
     answer_fails Disk why = whole why
     answer_fails Sink (inl why) = whole why
     answer_fails Sink (inr why) = open_one why
@@ -124,8 +120,8 @@ module _ {D : Type 0}
     (size : ℕ)
     (g : Ghosts D)
     (only_now : (d : D) (o : Outcome)
-      → g.outcomes d (g.moment d) o
-      → Leaves (g.told d) (g.may_leave d) o)
+    → g.outcomes d (g.moment d) o
+    → Leaves (g.told d) (g.may_leave d) o)
     (most : ℕ)
     (first : Kept Mounted)
     (old new : D)
@@ -134,19 +130,19 @@ module _ {D : Type 0}
     (there : IsIn size first.now (g.seen old))
     (stands : IsIn size first.now (g.seen new))
     (hears : HearsWhere
-      (IsHeardFor (g.told old ++ codes "FB01") (g.input_left old) (IsFewerThan 4))
-      (g.heard old)
-      (g.heard new))
+    (IsHeardFor (g.told old ++ codes "FB01") (g.input_left old) (IsFewerThan 4))
+    (g.heard old)
+    (g.heard new))
     (rests : IsAtRest g old → IsAtRest g new)
     (time : IsAtRest g old
-      → (later : List (Item Mounted))
-      → IsChain first.now later
-      → Adds g.moment g.outcomes old new
-        (CrashesWithin (IsIn size) (codes "FB01") first.now later (g.told old))) where
+    → (later : List (Item Mounted))
+    → IsChain first.now later
+    → Adds g.moment g.outcomes old new
+    (CrashesWithin (IsIn size) (codes "FB01") first.now later (g.told old))) where
   early : (end : session.End)
       → EndsAs
-        (HasNoHello (length (take most (g.input_left old))) (take most (g.input_left old)))
-        (length (g.input_left old)) most end
+      (HasNoHello (length (take most (g.input_left old))) (take most (g.input_left old)))
+      (length (g.input_left old)) most end
       → Serves response (IsIn size) g (Unit {0}) (λ e. end ≡ e) None most first old new
   early end ends =
       stopped_early response (IsIn size) g only_now (Unit {0}) None most first old new end ends
@@ -154,10 +150,10 @@ module _ {D : Type 0}
 
   pub hello_fails : (fault : ReadFault)
       → StopsBy
-        (HasNoHello (length (take most (g.input_left old))) (take most (g.input_left old)))
-        (length (g.input_left old)) most fault
+      (HasNoHello (length (take most (g.input_left old))) (take most (g.input_left old)))
+      (length (g.input_left old)) most fault
       → (let e : SessionFault = fault_of_read fault in
-        Serves response (IsIn size) g (HeldBy e) (Says (Err e)) None most first old new)
+      Serves response (IsIn size) g (HeldBy e) (Says (Err e)) None most first old new)
   hello_fails reads.Source why =
       failed_early response (IsIn size) g only_now most first old new are (4, told) there hears time
   hello_fails reads.BadHello why = early session.BadHello why

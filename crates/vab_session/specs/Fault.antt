@@ -2,14 +2,8 @@
 use Rattle.vab_exchanges.specs.declared.fault.ReadFault.{ReadFault}
 use Rattle.vab_exchanges.specs.declared.fault.ReadFault.TheVariants as reads
 use Rattle.vab_session.specs.declared.fault.SessionFault.{SessionFault}
-use Rattle.vab_session.specs.declared.fault.SessionFault.TheVariants.{
-  BadHello,
-  TooLong,
-  Overrun,
-  Cut,
-  Spent,
-  Source,
-}
+use Rattle.vab_session.specs.declared.fault.SessionFault.TheVariants.{BadHello, TooLong, Overrun}
+use Rattle.vab_session.specs.declared.fault.SessionFault.TheVariants.{Cut, Spent, Source}
 
 abbrev pub fault_of_read : ReadFault → SessionFault
 fault_of_read reads.BadHello = BadHello

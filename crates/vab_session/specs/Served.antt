@@ -1,7 +1,6 @@
 -- How a session over a device ends, and what it leaves.
-use Rattle.std.specs.Prelude.{
-  ◌≡◌, ◌⊎◌, ℕ, List, Option, Some, None, Result, Ok, Err, MatchResult, option_map
-}
+use Rattle.std.specs.Prelude.{◌≡◌, ◌⊎◌, ℕ, List, Option, Some, None, Result, Ok, Err, MatchResult}
+use Rattle.std.specs.Prelude.{option_map}
 use Rattle.vab_disk.specs.Disk.{Image, NoFewer, Rose}
 use Rattle.vab_disk.specs.declared.disk.Disk.{Ghosts}
 use Rattle.vab_device.specs.declared.device.Device.{Device}
@@ -15,9 +14,9 @@ use Rattle.vab_session.specs.Responses.{response}
 use Rattle.vab_session.specs.declared.fault.Ended.{Ended}
 use Rattle.vab_session.specs.declared.fault.Ended.TheVariants.{Closed, Rebooted}
 use Rattle.vab_session.specs.declared.fault.SessionFault.{SessionFault}
-use Rattle.vab_session.specs.declared.fault.SessionFault.TheVariants.{
-  BadHello, TooLong, Overrun, Cut, Spent, Disk, Source, Sink
-}
+use Rattle.vab_session.specs.declared.fault.SessionFault.TheVariants.{BadHello, TooLong, Overrun}
+use Rattle.vab_session.specs.declared.fault.SessionFault.TheVariants.{Cut, Spent, Disk, Source}
+use Rattle.vab_session.specs.declared.fault.SessionFault.TheVariants.{Sink}
 use Rattle.vab_session.specs.declared.kept.KeptDevice.{KeptDevice}
 
 -- the device on a disk, and the staged bytes

@@ -28,11 +28,7 @@ use vab_model::Command;
 pub const MAX_DATA: u32 = 0x10000000;
 
 // Tells a reply where nothing changes. It hears nothing.
-fn tell_still<P: Port>(
-    p: &mut P,
-    kept: KeptDevice,
-    text: &[u8],
-) -> Result<KeptDevice, SessionFault>
+fn tell_still<P: Port>(p: &mut P, kept: KeptDevice, text: &[u8]) -> Result<KeptDevice, SessionFault>
     requires short { length text.now ≤ 64 }
     requires device { IsDevice kept.device (P.size p.old) }
     requires stands { P.is_modelled → Represents kept.device (P.size p.old) (P.seen p.old) }
@@ -95,11 +91,7 @@ fn carry_out<P: Port>(
 }
 
 // Answers a packet that isn't a download. It hears nothing.
-fn command<P: Port>(
-    p: &mut P,
-    kept: KeptDevice,
-    packet: &[u8],
-) -> Result<KeptDevice, SessionFault>
+fn command<P: Port>(p: &mut P, kept: KeptDevice, packet: &[u8]) -> Result<KeptDevice, SessionFault>
     requires plain { AsksNoData (request_of packet.now) }
     requires device { IsDevice kept.device (P.size p.old) }
     requires stands { P.is_modelled → Represents kept.device (P.size p.old) (P.seen p.old) }

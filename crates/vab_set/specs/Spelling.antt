@@ -1,19 +1,6 @@
 -- The bytes that spell a set of images.
-use Rattle.std.specs.Prelude.{
-  ◌≢◌,
-  ℕ,
-  ◌<◌,
-  ◌≤◌,
-  ◌^◌,
-  List,
-  [],
-  ◌∷◌,
-  ◌++◌,
-  length,
-  IsTrue,
-  All,
-  AllPairs,
-}
+use Rattle.std.specs.Prelude.{◌≢◌, ℕ, ◌<◌, ◌≤◌, ◌^◌, List, [], ◌∷◌, ◌++◌, length, IsTrue, All}
+use Rattle.std.specs.Prelude.{AllPairs}
 use Rattle.std.specs.Int.{w32, w64, to_le_bytes}
 use Rattle.vab_names.specs.Names.{is_base}
 use Rattle.vab_bytes.specs.Number.{IsBytes}

@@ -15,21 +15,8 @@ use Rattle.vab_store.specs.declared.fault.StoreFault.{StoreFault}
 use Rattle.vab_store.specs.declared.fault.StoreFault.TheVariants as faults
 use Rattle.vab_store.specs.Layout.{chunks_of, chunk_bytes, is_data, slot_at, slots_of}
 use Rattle.vab_store.specs.View.{no_exception, exception_at, Lies, AreOther}
-use Rattle.vab_store.specs.Scan.{
-  or_else,
-  first_some,
-  share,
-  repeat_at,
-  repeat_of,
-  lies,
-  list_of,
-  good_of,
-  unless_repeated,
-  after_header,
-  judged,
-  scan_of,
-  IsScan,
-}
+use Rattle.vab_store.specs.Scan.{or_else, first_some, share, repeat_at, repeat_of, lies, list_of}
+use Rattle.vab_store.specs.Scan.{good_of, unless_repeated, after_header, judged, scan_of, IsScan}
 
 -- ---- the first number at which a function gives something
 

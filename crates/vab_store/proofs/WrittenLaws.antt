@@ -9,24 +9,13 @@ use Rattle.vab_space.specs.Space.{need_of}
 use Rattle.vab_exceptions.specs.declared.area.Exception.{Exception}
 use Rattle.vab_exceptions.specs.Entries.{area_entries, entry_at, area_bytes, FitsEntry}
 use Rattle.vab_exceptions.specs.Header.{header_of, header_bytes}
-use Rattle.vab_exceptions.proofs.EntryLaws.{
-  length-firsts,
-  get_or-firsts,
-  entry_at-bytes,
-  entry_at-end,
-}
+use Rattle.vab_exceptions.proofs.EntryLaws.{length-firsts, get_or-firsts, entry_at-bytes}
+use Rattle.vab_exceptions.proofs.EntryLaws.{entry_at-end}
 use Rattle.vab_store.specs.Layout.{chunks_of, chunk_bytes, area_chunk, is_data, new_chunk_of, slot_at}
 use Rattle.vab_store.specs.View.{no_exception, exception_at, Lies, AreOther, Fits}
 use Rattle.vab_store.specs.Scan.{IsScan}
-use Rattle.vab_store.specs.Writing.{
-  planned_at,
-  planned_of,
-  area_entries_of,
-  block_of,
-  header_chunk,
-  store_chunk,
-  HoldsStore,
-}
+use Rattle.vab_store.specs.Writing.{planned_at, planned_of, area_entries_of, block_of, header_chunk}
+use Rattle.vab_store.specs.Writing.{store_chunk, HoldsStore}
 
 -- ---- what stands in each kind of chunk
 

@@ -1,22 +1,6 @@
 -- What a writer puts into a store.
-use Rattle.std.specs.Prelude.{
-  ◌≡◌,
-  ℕ,
-  ◌+◌,
-  ◌-◌,
-  ◌*◌,
-  ◌/◌,
-  ◌%◌,
-  ◌<◌,
-  min,
-  List,
-  ◌++◌,
-  length,
-  slice_index,
-  replicate,
-  if◌then◌else◌,
-  ◌==◌,
-}
+use Rattle.std.specs.Prelude.{◌≡◌, ℕ, ◌+◌, ◌-◌, ◌*◌, ◌/◌, ◌%◌, ◌<◌, min, List, ◌++◌, length}
+use Rattle.std.specs.Prelude.{slice_index, replicate, if◌then◌else◌, ◌==◌}
 use Rattle.vab_bytes.specs.Number.{field}
 use Rattle.vab_disk.specs.Disk.{Image}
 use Rattle.vab_exceptions.specs.declared.area.Exception.{Exception}

@@ -1,17 +1,7 @@
 -- The command that the words are read by, as what `clap` reads of it.
 use Rattle.std.specs.Prelude.{Bool, true, List, [], Option, Some, codes}
-use Rattle.clap.specs.Words.{
-  App,
-  Row,
-  Rule,
-  Text,
-  new_app,
-  new_rule,
-  subcommand_of,
-  takes,
-  with_rule,
-  with_subcommand,
-}
+use Rattle.clap.specs.Words.{App, Row, Rule, Text, new_app, new_rule, subcommand_of, takes}
+use Rattle.clap.specs.Words.{with_rule, with_subcommand}
 use Rattle.clap.specs.Simple.{new_shape}
 use Rattle.clap.specs.declared.builder.action.ArgAction.TheVariants.{Set, SetTrue}
 

@@ -3,17 +3,8 @@ use Rattle.std.specs.Prelude.{◌≡◌, ◌≢◌, Bool, List, [], ◌∷◌, O
 use Rattle.std.specs.List.{list_any}
 use Rattle.std.specs.Str.{bytes_eq}
 use Rattle.clap.specs.Words.{Text}
-use Rattle.vab_words.specs.Verbs.{
-  Activate,
-  Boot,
-  Digest,
-  Make,
-  Mark,
-  Meaning,
-  Print,
-  Serve,
-  verb_of,
-}
+use Rattle.vab_words.specs.Verbs.{Activate, Boot, Digest, Make, Mark, Meaning, Print, Serve}
+use Rattle.vab_words.specs.Verbs.{verb_of}
 
 -- the word is no option: it doesn't begin with a hyphen
 abbrev pub IsPlain : Text → Type 0

@@ -1,24 +1,6 @@
 -- The values of options and operands.
-use Rattle.std.specs.Prelude.{
-  ◌≡◌,
-  ◌≤◌,
-  ℕ,
-  Bool,
-  ◌&&◌,
-  ◌==◌,
-  ◌%◌,
-  ◌^◌,
-  List,
-  length,
-  Option,
-  Some,
-  None,
-  codes,
-  if◌then◌else◌,
-  nat_lt,
-  nat_le,
-  option_and_then,
-}
+use Rattle.std.specs.Prelude.{◌≡◌, ◌≤◌, ℕ, Bool, ◌&&◌, ◌==◌, ◌%◌, ◌^◌, List, length, Option, Some}
+use Rattle.std.specs.Prelude.{None, codes, if◌then◌else◌, nat_lt, nat_le, option_and_then}
 use Rattle.std.specs.Char.{is_ascii_digit}
 use Rattle.std.specs.List.{list_all}
 use Rattle.std.specs.Str.{bytes_eq}

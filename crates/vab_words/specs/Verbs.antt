@@ -1,19 +1,6 @@
 -- What the words ask for.
-use Rattle.std.specs.Prelude.{
-  ◌≤◌,
-  ◌^◌,
-  ℕ,
-  Bool,
-  false,
-  List,
-  Option,
-  Some,
-  None,
-  codes,
-  if◌then◌else◌,
-  option_and_then,
-  option_map,
-}
+use Rattle.std.specs.Prelude.{◌≤◌, ◌^◌, ℕ, Bool, false, List, Option, Some, None, codes}
+use Rattle.std.specs.Prelude.{if◌then◌else◌, option_and_then, option_map}
 use Rattle.std.specs.Option.{option_map_or}
 use Rattle.std.specs.Str.{bytes_eq}
 use Rattle.clap.specs.Words.{Row, Text, first_of}

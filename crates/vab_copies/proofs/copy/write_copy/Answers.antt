@@ -5,16 +5,8 @@ use Rattle.vab_disk.specs.Calls.{Touches}
 use Rattle.vab_disk.proofs.Moments.{adds_wider, adds_on}
 use Rattle.vab_disk.proofs.CallLaws.{touches_wider, touches_on, touches_then}
 use Rattle.vab_copies.specs.Copies.{with_text, with_rest, IsOfCopy}
-use Rattle.vab_copies.proofs.Copying.{
-  zeros_of,
-  rest_of,
-  first_of_copy,
-  torn,
-  torn_done,
-  first_gate,
-  behind,
-  last_gate,
-}
+use Rattle.vab_copies.proofs.Copying.{zeros_of, rest_of, first_of_copy, torn, torn_done, first_gate}
+use Rattle.vab_copies.proofs.Copying.{behind, last_gate}
 use Rattle.vab_copies.proofs.copy.write_copy.Goals as goal
 
 pub returns-in_err-put_gate-clause-touches : goal.returns-in_err-put_gate-clause-touches

@@ -1,16 +1,5 @@
-use Rattle.std.proofs.Common.{
-  ◌≡◌,
-  ◌+◌,
-  ◌++◌,
-  length,
-  refl,
-  ap,
-  ◌∙◌,
-  sym,
-  rules,
-  arith,
-  length-append,
-}
+use Rattle.std.proofs.Common.{◌≡◌, ◌+◌, ◌++◌, length, refl, ap, ◌∙◌, sym, rules, arith}
+use Rattle.std.proofs.Common.{length-append}
 use Rattle.vab_disk.specs.Disk.{Image}
 use Rattle.vab_disk.proofs.CallLaws.{reads_none, reads_then}
 use Rattle.vab_gate.specs.Gate.{sectors_at}

@@ -1,27 +1,5 @@
-use Rattle.std.proofs.Common.{
-  ◌≡◌,
-  ℕ,
-  suc,
-  ◌<◌,
-  ◌≤◌,
-  ◌^◌,
-  List,
-  [],
-  ◌∷◌,
-  Option,
-  None,
-  Some,
-  length,
-  drop,
-  get_or,
-  refl,
-  sym,
-  ◌∙◌,
-  ap,
-  arith,
-  rules,
-  drop-cons,
-}
+use Rattle.std.proofs.Common.{◌≡◌, ℕ, suc, ◌<◌, ◌≤◌, ◌^◌, List, [], ◌∷◌, Option, None, Some, length}
+use Rattle.std.proofs.Common.{drop, get_or, refl, sym, ◌∙◌, ap, arith, rules, drop-cons}
 use Rattle.std.proofs.Math.Nat.{pow-le-pow_right}
 use Rattle.vab_fbproto.specs.Requests.{digit_of, with_digit, hex_behind}
 use Rattle.vab_fbproto.proofs.request.hex_number.Goals as goal

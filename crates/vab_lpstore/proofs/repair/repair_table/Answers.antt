@@ -9,15 +9,8 @@ use Rattle.vab_copies.proofs.Copying.{whole_blend}
 use Rattle.vab_lpstore.specs.Layout.{primary_of, backup_of, primary_bytes, backup_bytes, text_sectors}
 use Rattle.vab_lpstore.specs.Storing.{IsOfRepair}
 use Rattle.vab_lpstore.proofs.StoreLaws.{copies_apart, text_fits, text_room, text_some}
-use Rattle.vab_lpstore.proofs.Outcomes.{
-  primary_table,
-  primary_both,
-  backup_table,
-  backup_both,
-  places,
-  on_ok_map,
-  not_primary,
-}
+use Rattle.vab_lpstore.proofs.Outcomes.{primary_table, primary_both, backup_table, backup_both}
+use Rattle.vab_lpstore.proofs.Outcomes.{places, on_ok_map, not_primary}
 use Rattle.vab_lpstore.proofs.repair.repair_table.Goals as goal
 
 pub write_copy-requires-clause-some : goal.write_copy-requires-clause-some

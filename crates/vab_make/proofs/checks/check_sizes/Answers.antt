@@ -1,10 +1,8 @@
 use Rattle.std.proofs.Common.{inl, inr, arith}
 use Rattle.vab_make.proofs.RefusalLaws.{refuses_small, refuses_limit, refuses_room, not_over}
 use Rattle.vab_make.proofs.checks.check_sizes.Goals as goal
-use Rattle.vab_make.proofs.checks.check_sizes.Goals.{
-  else-limit-ne0-via-then-limit-ne0+else-limit-used,
-  else-limit-ne0-via-else-limit-ne0,
-}
+use Rattle.vab_make.proofs.checks.check_sizes.Goals.{else-limit-ne0-via-then-limit-ne0+else-limit-used}
+use Rattle.vab_make.proofs.checks.check_sizes.Goals.{else-limit-ne0-via-else-limit-ne0}
 
 pub returns-then-sectors-lt-LEAST-clause-refused : goal.returns-then-sectors-lt-LEAST-clause-refused
 returns-then-sectors-lt-LEAST-clause-refused c = λ max.

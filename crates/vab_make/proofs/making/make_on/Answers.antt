@@ -4,7 +4,7 @@ use Rattle.vab_disk.specs.Disk.{Image, set_sector}
 use Rattle.vab_disk.specs.Written.{set_here, set_there}
 use Rattle.vab_disk.proofs.Moments.{adds_on, adds_wider}
 use Rattle.vab_disk.proofs.CallLaws.{touches_wider, touches_on, touches_then}
-use Rattle.vab_bootctl.specs.Control.{KeepsRest}
+use Rattle.vab_bootctl.specs.Control.{control_of, KeepsRest}
 use Rattle.vab_copies.specs.Copies.{zeros}
 use Rattle.vab_make.specs.Making.{IsMade}
 use Rattle.vab_make.specs.Steps.{blanked}
@@ -73,6 +73,17 @@ returns-clause-copies g c = λ t.
     places_marked c.args.max c.args.text.now c.idle_mark.result
     (g.D.Disk.seen c.settle_contents.new.d) (g.D.Disk.seen c.put_gate-2.new.d) c.requires.most now
     (c.in_ok-settle_contents.ensures.all t).places)
+    (c.put_gate-2.ensures.written t)
+
+pub returns-clause-control : goal.returns-clause-control
+returns-clause-control g c = λ t.
+    let full = g.D.Disk.seen c.settle_contents.new.d in
+    on_ok_weaker c.put_gate-2.result
+    (λ now.
+    ap control_of
+    (ap (λ (i : Image). i 4) now
+    ∙ set_there full 2048 c.idle_mark.result 4 (λ e. omega (arith, e)))
+    ∙ (c.in_ok-settle_contents.ensures.all t).control)
     (c.put_gate-2.ensures.written t)
 
 pub returns-clause-rest : goal.returns-clause-rest

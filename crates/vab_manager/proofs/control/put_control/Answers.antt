@@ -1,15 +1,7 @@
 use Rattle.std.proofs.Common.{◌≡◌, inl, inr, ⊎_elim, ℕ, List, Ok, Err, Result, sym, ◌∙◌, ap, subst}
 use Rattle.std.specs.Prelude.{OnOk}
-use Rattle.vab_disk.specs.Disk.{
-  Image,
-  Outcome,
-  IsSettled,
-  SameHoldings,
-  Adds,
-  Nothing,
-  LeavesEither,
-  set_sector,
-}
+use Rattle.vab_disk.specs.Disk.{Image, Outcome, IsSettled, SameHoldings, Adds, Nothing}
+use Rattle.vab_disk.specs.Disk.{LeavesEither, set_sector}
 use Rattle.vab_disk.proofs.CallLaws.{touches_reads, touches_then, touches_wider}
 use Rattle.vab_disk.proofs.Moments.{adds_wider, adds_on}
 use Rattle.vab_bootctl.specs.Control.{control_of, KeepsRest}

@@ -2,11 +2,7 @@ use Rattle.std.proofs.Common.{◌≡◌, ◌+◌, ◌∙◌, inl, inr, ap, ℕ, 
 use Rattle.std.proofs.lemmas.Bool.{cases_lt}
 use Rattle.vab_disk.specs.Calls.{Touches}
 use Rattle.vab_disk.specs.Disk.{Image}
-use Rattle.vab_disk.proofs.CallLaws.{
-  touches_none,
-  touches_reads,
-  touches_then,
-}
+use Rattle.vab_disk.proofs.CallLaws.{touches_none, touches_reads, touches_then}
 use Rattle.vab_merge.specs.Cleared.{IsClearedAt, IsClearing, IsOfThem, area_sector}
 use Rattle.vab_merge.proofs.ClearLaws.{cleared_at, there_is, here_is, touches_clearing}
 use Rattle.vab_merge.proofs.clear.clear_entries.Goals as goal

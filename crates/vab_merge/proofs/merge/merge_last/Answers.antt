@@ -5,15 +5,8 @@ use Rattle.vab_exceptions.specs.declared.area.Exception.{Exception}
 use Rattle.vab_merge.specs.Copied.{InCopied, AreCopied}
 use Rattle.vab_merge.specs.Cleared.{IsClearing, AreCleared}
 use Rattle.vab_merge.specs.Merged.{WithoutLast}
-use Rattle.vab_merge.proofs.RunSteps.{
-  one_area,
-  area_there,
-  touches_copied,
-  touches_merged,
-  time_copied,
-  time_merged,
-  merged,
-}
+use Rattle.vab_merge.proofs.RunSteps.{one_area, area_there, touches_copied, touches_merged}
+use Rattle.vab_merge.proofs.RunSteps.{time_copied, time_merged, merged}
 use Rattle.vab_merge.proofs.merge.merge_last.Goals as goal
 
 pub clear_run-requires : goal.clear_run-requires

@@ -1,22 +1,5 @@
-use Rattle.std.proofs.Common.{
-  ◌≡◌,
-  ◌==◌,
-  ℕ,
-  List,
-  [],
-  ◌∷◌,
-  get_or,
-  refl,
-  Some,
-  None,
-  ap,
-  sym,
-  ◌∙◌,
-  eqb,
-  inl,
-  inr,
-  subst,
-}
+use Rattle.std.proofs.Common.{◌≡◌, ◌==◌, ℕ, List, [], ◌∷◌, get_or, refl, Some, None, ap, sym, ◌∙◌}
+use Rattle.std.proofs.Common.{eqb, inl, inr, subst}
 use Rattle.std.specs.Prelude.{if◌then◌else◌, Option, Bool}
 use Rattle.std.proofs.lemmas.Bool.{cases_Bool, eqb-true}
 use Rattle.vab_bootctl.specs.declared.slots.Control.{Control}

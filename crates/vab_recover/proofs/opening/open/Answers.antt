@@ -1,18 +1,4 @@
-use Rattle.std.proofs.Common.{
-  ◌≡◌,
-  ◌∙◌,
-  ℕ,
-  ◌≤◌,
-  Result,
-  Ok,
-  Err,
-  true,
-  sym,
-  ap,
-  subst,
-  arith,
-  leb,
-}
+use Rattle.std.proofs.Common.{◌≡◌, ◌∙◌, ℕ, ◌≤◌, Result, Ok, Err, true, sym, ap, subst, arith, leb}
 use Rattle.std.specs.Prelude.{◌==◌, Some, IfErr}
 use Rattle.std.specs.Result.{IsErrAnd}
 use Rattle.std.proofs.lemmas.Bool.{le-leb, lt-leb}
@@ -39,16 +25,9 @@ use Rattle.vab_marks.specs.declared.mark.UpdateMark.{UpdateMark}
 use Rattle.vab_device.specs.Idle.{control_read_of, idle_read}
 use Rattle.vab_recover.specs.Opened.{idle_kept, IsOpened}
 use Rattle.vab_recover.proofs.DeviceLaws.{device_kept}
-use Rattle.vab_device.proofs.IdleLaws.{
-  device_small,
-  device_no_mark,
-  device_no_control,
-  device_no_geometry,
-  device_no_table,
-  device_judged,
-  reads_idle,
-  control_seen_in,
-}
+use Rattle.vab_device.proofs.IdleLaws.{device_small, device_no_mark, device_no_control}
+use Rattle.vab_device.proofs.IdleLaws.{device_no_geometry, device_no_table, device_judged}
+use Rattle.vab_device.proofs.IdleLaws.{reads_idle, control_seen_in}
 use Rattle.vab_recover.proofs.opening.open.Goals as goal
 
 -- a fault that is passed on

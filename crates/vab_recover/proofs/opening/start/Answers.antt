@@ -1,23 +1,5 @@
-use Rattle.std.proofs.Common.{
-  ◌≡◌,
-  ◌+◌,
-  ◌≤◌,
-  ◌<◌,
-  ◌∙◌,
-  ℕ,
-  List,
-  length,
-  true,
-  Ok,
-  Err,
-  inl,
-  inr,
-  refl,
-  ap,
-  sym,
-  subst,
-  arith,
-}
+use Rattle.std.proofs.Common.{◌≡◌, ◌+◌, ◌≤◌, ◌<◌, ◌∙◌, ℕ, List, length, true, Ok, Err, inl, inr}
+use Rattle.std.proofs.Common.{refl, ap, sym, subst, arith}
 use Rattle.vab_disk.specs.Disk.{Image, Outcome, Nothing, IsSettled, Adds, SameHoldings}
 use Rattle.vab_disk.specs.Calls.{OnlyReads, Touches, SameBut}
 use Rattle.vab_disk.proofs.Moments.{adds_on, adds_wider}
@@ -32,23 +14,11 @@ use Rattle.vab_device.specs.Mounted.{mounted_on}
 use Rattle.vab_device.specs.Kept.{IsDevice}
 use Rattle.vab_device.specs.Reading.{device, Represents}
 use Rattle.vab_device.proofs.ReadingLaws.{device_stands}
-use Rattle.vab_recover.specs.Opened.{
-  with_table,
-  idle_kept,
-  IsOpened,
-  IsRepair,
-  LeavesSame,
-  BothCopiesHold,
-}
+use Rattle.vab_recover.specs.Opened.{with_table, idle_kept, IsOpened, IsRepair, LeavesSame}
+use Rattle.vab_recover.specs.Opened.{BothCopiesHold}
 use Rattle.vab_recover.proofs.ReadLaws.{copies_on_disk}
-use Rattle.vab_recover.proofs.OpenLaws.{
-  leaves_same,
-  repair_is,
-  both_flags,
-  represented,
-  means_same,
-  control_stays,
-}
+use Rattle.vab_recover.proofs.OpenLaws.{leaves_same, repair_is, both_flags, represented, means_same}
+use Rattle.vab_recover.proofs.OpenLaws.{control_stays}
 use Rattle.vab_recover.proofs.opening.start.Goals as goal
 
 pub with_table-requires : goal.with_table-requires

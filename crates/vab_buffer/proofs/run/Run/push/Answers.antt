@@ -1,23 +1,5 @@
-use Rattle.std.proofs.Common.{
-  ◌≡◌,
-  ◌⊎◌,
-  inl,
-  inr,
-  ⊎_elim,
-  ℕ,
-  List,
-  ◌+◌,
-  ◌-◌,
-  ◌*◌,
-  ◌≤◌,
-  ◌<◌,
-  length,
-  refl,
-  ap,
-  ◌∙◌,
-  arith,
-  rules,
-}
+use Rattle.std.proofs.Common.{◌≡◌, ◌⊎◌, inl, inr, ⊎_elim, ℕ, List, ◌+◌, ◌-◌, ◌*◌, ◌≤◌, ◌<◌, length}
+use Rattle.std.proofs.Common.{refl, ap, ◌∙◌, arith, rules}
 use borrow.Rule.Slice.PartMut.{put_mid}
 use Rattle.std.specs.Vec.{with_items}
 use Rattle.vab_gate.specs.Gate.{part}

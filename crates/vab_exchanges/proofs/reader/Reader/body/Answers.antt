@@ -1,18 +1,5 @@
-use Rattle.std.proofs.Common.{
-  ◌≡◌,
-  Some,
-  ◌+◌,
-  ◌-◌,
-  ◌<◌,
-  ◌++◌,
-  length,
-  slice_range,
-  sym,
-  ◌∙◌,
-  ap,
-  arith,
-  rules,
-}
+use Rattle.std.proofs.Common.{◌≡◌, Some, ◌+◌, ◌-◌, ◌<◌, ◌++◌, length, slice_range, sym, ◌∙◌, ap}
+use Rattle.std.proofs.Common.{arith, rules}
 use Rattle.vab_fbtcp.specs.declared.event.Event.TheVariants.{Piece}
 use Rattle.vab_exchanges.specs.Reading.{stands_at, rest_of, beyond_of}
 use Rattle.vab_exchanges.proofs.ReaderLaws.{listens_body}

@@ -1,16 +1,8 @@
 use Rattle.std.proofs.Common.{◌≡◌, ◌+◌, ◌≤◌, ◌++◌, length}
 use Rattle.vab_fbtcp.specs.Frame.{body_place}
 use Rattle.vab_exchanges.specs.Hearing.{Listens}
-use Rattle.vab_exchanges.specs.Reading.{
-  stands_at,
-  rest_of,
-  beyond_of,
-  all_of,
-  room_of,
-  total_of,
-  IsFed,
-  IsFewerThan,
-}
+use Rattle.vab_exchanges.specs.Reading.{stands_at, rest_of, beyond_of, all_of, room_of, total_of}
+use Rattle.vab_exchanges.specs.Reading.{IsFed, IsFewerThan}
 use Rattle.vab_exchanges.proofs.reader.Reader.body.Given as goal
 
 abbrev pub invariant-loop-left : goal.invariant-loop-left

@@ -2,15 +2,8 @@ use Rattle.std.proofs.Common.{◌≡◌, ◌+◌, ◌≤◌, vec_len, vec_capaci
 use Rattle.vab_fbtcp.specs.declared.event.Place.TheVariants.{Length}
 use Rattle.vab_exchanges.specs.Session.{IsAwaited}
 use Rattle.vab_exchanges.specs.Hearing.{Listens}
-use Rattle.vab_exchanges.specs.Reading.{
-  stands_at,
-  rest_of,
-  beyond_of,
-  all_of,
-  room_of,
-  total_of,
-  IsFed,
-}
+use Rattle.vab_exchanges.specs.Reading.{stands_at, rest_of, beyond_of, all_of, room_of, total_of}
+use Rattle.vab_exchanges.specs.Reading.{IsFed}
 use Rattle.vab_exchanges.proofs.Stops.{HasSome}
 use Rattle.vab_exchanges.proofs.reader.Reader.data.Given as goal
 

@@ -4,13 +4,8 @@ use Rattle.vab_fbtcp.specs.Frame.{More, found_of, bytes_of, place_after, IsIdle}
 use Rattle.vab_fbtcp.specs.Unread.{place_of, unread_of}
 use Rattle.vab_exchanges.specs.Reading.{IsNext, Suits, stands_at, rest_of, all_of}
 use Rattle.vab_exchanges.proofs.ReaderLaws.{listens_idle}
-use Rattle.vab_exchanges.proofs.Events.{
-  Found_at,
-  event_found,
-  part_in_buffer,
-  nothing_more,
-  place_after-More,
-}
+use Rattle.vab_exchanges.proofs.Events.{Found_at, event_found, part_in_buffer, nothing_more}
+use Rattle.vab_exchanges.proofs.Events.{place_after-More}
 use Rattle.vab_exchanges.proofs.Stops.{in_any_result, unless_then}
 use Rattle.std.proofs.Common.{Err}
 use Rattle.vab_exchanges.specs.Reading.{UnlessSource}

@@ -1,15 +1,8 @@
 use Rattle.std.proofs.Common.{◌≡◌, ◌-◌}
 use Rattle.vab_fbtcp.specs.Frame.{IsIdle}
 use Rattle.vab_exchanges.specs.Hearing.{Listens}
-use Rattle.vab_exchanges.specs.Reading.{
-  stands_at,
-  rest_of,
-  beyond_of,
-  all_of,
-  room_of,
-  total_of,
-  IsFed,
-}
+use Rattle.vab_exchanges.specs.Reading.{stands_at, rest_of, beyond_of, all_of, room_of, total_of}
+use Rattle.vab_exchanges.specs.Reading.{IsFed}
 use Rattle.vab_exchanges.proofs.reader.Reader.next.Given as goal
 
 abbrev pub invariant-loop-event : goal.invariant-loop-event

@@ -5,15 +5,8 @@ use Rattle.vab_exchanges.specs.Session.{Stops}
 use Rattle.vab_exchanges.specs.Reading.{stands_at, rest_of, beyond_of, total_of, count_of}
 use Rattle.vab_exchanges.proofs.ReaderLaws.{listens_packet}
 use Rattle.vab_exchanges.proofs.Packets.{is_packet}
-use Rattle.vab_exchanges.proofs.Stops.{
-  cut_here,
-  closed_here,
-  spent_here,
-  between_none,
-  between_some,
-  by_length,
-  by_short,
-}
+use Rattle.vab_exchanges.proofs.Stops.{cut_here, closed_here, spent_here, between_none}
+use Rattle.vab_exchanges.proofs.Stops.{between_some, by_length, by_short}
 use Rattle.vab_exchanges.proofs.Stops.{in_any_case, unless_then}
 use Rattle.vab_exchanges.proofs.reader.Reader.packet.Goals as goal
 

@@ -1,24 +1,5 @@
-use Rattle.std.proofs.Common.{
-  ◌≡◌,
-  refl,
-  length,
-  take,
-  length-take,
-  length-append,
-  [],
-  Some,
-  ◌+◌,
-  ◌-◌,
-  ◌<◌,
-  ◌++◌,
-  slice_range,
-  vec_len,
-  sym,
-  ◌∙◌,
-  ap,
-  arith,
-  rules,
-}
+use Rattle.std.proofs.Common.{◌≡◌, refl, length, take, length-take, length-append, [], Some, ◌+◌}
+use Rattle.std.proofs.Common.{◌-◌, ◌<◌, ◌++◌, slice_range, vec_len, sym, ◌∙◌, ap, arith, rules}
 use Rattle.vab_fbtcp.specs.declared.event.Event.TheVariants.{Piece}
 use Rattle.vab_exchanges.specs.Reading.{stands_at, rest_of, beyond_of, count_of, total_of, IsShort}
 use Rattle.vab_exchanges.proofs.ReaderLaws.{listens_body}
