@@ -3,6 +3,9 @@ use Rattle.std.proofs.Common.{◌≡◌, inl, ℕ, ◌+◌, ◌≤◌, false, Li
 use Rattle.std.proofs.Common.{length-append, take, sym, ◌∙◌, ap, subst, refl, arith}
 use Rattle.std.proofs.lemmas.List.{append-nil, take_at}
 use Rattle.vab_disk.specs.Disk.{Image, Outcome, SameHoldings, Adds, Nothing}
+use Rattle.vab_disk.specs.Disk.{Faults, NoFewer, Rose}
+use Rattle.std.proofs.Common.{Err}
+use Rattle.vab_exchanges.specs.Reading.{IfNotSource}
 use Rattle.vab_disk.specs.Calls.{IsAtRest}
 use Rattle.vab_disk.specs.Port.{LeavesSaying}
 use Rattle.vab_disk.specs.declared.disk.Disk.{Ghosts}
@@ -29,7 +32,7 @@ use Rattle.vab_exchanges.proofs.Answering.{fails_plain, fails_data, breaks_off}
 use Rattle.vab_exchanges.proofs.RunLaws.{packet_some}
 use Rattle.vab_session.specs.Fault.{fault_of_read}
 use Rattle.vab_session.specs.Responses.{response, still, by_effect}
-use Rattle.vab_session.specs.Served.{Fails}
+use Rattle.vab_session.specs.Served.{Fails, HasCause}
 
 take_whole : (l : List ℕ) → take (length l) l ≡ l
 take_whole l = ap (take (length l)) (sym (append-nil l)) ∙ take_at l [] (length l) refl
@@ -229,3 +232,55 @@ module _ {D : Type 0}
       broken count total most (session.Overrun due came) why
   data_fails count total most (reads.Cut at) why = broken count total most (session.Cut at) why
   data_fails count total most reads.Spent why = broken count total most session.Spent why
+
+-- ---- counts
+
+-- a reader's fault has its cause, where nothing failed before
+pub read_cause : {D A : Type 0} (g : Ghosts D) (old mid new : D) (fault : ReadFault)
+    → g.faults mid ≡ g.faults old
+    → NoFewer (g.faults mid) (g.faults new)
+    → IfNotSource (g.faults new ≡ g.faults mid) fault
+    → (fault ≡ reads.Source → Rose (g.faults mid).source (g.faults new).source)
+    → HasCause {A = A} g old new (Err (fault_of_read fault))
+read_cause g old mid new reads.Source same counts steady rose = record {
+  counts = subst (λ (f : Faults). NoFewer f (g.faults new)) same counts;
+  steady = λ held. absurd held;
+  disk = λ is. cc;
+  source = λ is. subst (λ (f : Faults). Rose f.source (g.faults new).source) same (rose refl);
+  sink = λ is. cc;
+}
+read_cause g old mid new reads.BadHello same counts steady rose = record {
+  counts = subst (λ (f : Faults). NoFewer f (g.faults new)) same counts;
+  steady = λ held. steady ∙ same;
+  disk = λ is. cc;
+  source = λ is. cc;
+  sink = λ is. cc;
+}
+read_cause g old mid new (reads.TooLong n) same counts steady rose = record {
+  counts = subst (λ (f : Faults). NoFewer f (g.faults new)) same counts;
+  steady = λ held. steady ∙ same;
+  disk = λ is. cc;
+  source = λ is. cc;
+  sink = λ is. cc;
+}
+read_cause g old mid new (reads.Overrun due came) same counts steady rose = record {
+  counts = subst (λ (f : Faults). NoFewer f (g.faults new)) same counts;
+  steady = λ held. steady ∙ same;
+  disk = λ is. cc;
+  source = λ is. cc;
+  sink = λ is. cc;
+}
+read_cause g old mid new (reads.Cut at) same counts steady rose = record {
+  counts = subst (λ (f : Faults). NoFewer f (g.faults new)) same counts;
+  steady = λ held. steady ∙ same;
+  disk = λ is. cc;
+  source = λ is. cc;
+  sink = λ is. cc;
+}
+read_cause g old mid new reads.Spent same counts steady rose = record {
+  counts = subst (λ (f : Faults). NoFewer f (g.faults new)) same counts;
+  steady = λ held. steady ∙ same;
+  disk = λ is. cc;
+  source = λ is. cc;
+  sink = λ is. cc;
+}
