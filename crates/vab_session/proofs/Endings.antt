@@ -1,14 +1,15 @@
 -- How a session over a device ends.
 use Rattle.std.proofs.Common.{◌≡◌, inl, inr, ℕ, ◌≤◌, List, [], ◌++◌, Some, None, Err, length, take}
 use Rattle.std.proofs.Common.{codes, subst, sym, ◌∙◌}
-use Rattle.vab_disk.specs.Disk.{Outcome, Leaves, Adds}
+use Rattle.std.proofs.Common.{min, Result}
+use Rattle.vab_disk.specs.Disk.{Image, Outcome, Leaves, Adds}
 use Rattle.vab_disk.specs.Calls.{IsAtRest}
 use Rattle.vab_disk.specs.declared.disk.Disk.{Ghosts}
 use Rattle.vab_device.specs.Mounted.{Mounted}
 use Rattle.vab_device.specs.Reading.{IsIn}
-use Rattle.vab_exchanges.specs.Session.{packet, Stops, HasNoHello}
+use Rattle.vab_exchanges.specs.Session.{packet, Stops, HasNoHello, IsCutShort}
 use Rattle.vab_exchanges.specs.Session as session
-use Rattle.vab_exchanges.specs.Hearing.{HearsWhere, IsHeardFor}
+use Rattle.vab_exchanges.specs.Hearing.{HearsWhere, IsHeardFor, Listens}
 use Rattle.vab_exchanges.specs.Reading.{EndsAs, StopsBy, end_of, IsFewerThan}
 use Rattle.vab_exchanges.specs.Items.{Kept, Item}
 use Rattle.vab_exchanges.specs.Runs.{CrashesWithin, FailsWhole, FailsOpen, BreaksOff, Ran, Serves}
@@ -25,7 +26,9 @@ use Rattle.vab_session.specs.declared.fault.SessionFault.TheVariants.{Cut, Spent
 use Rattle.vab_session.specs.declared.fault.SessionFault.TheVariants.{Sink}
 use Rattle.vab_session.specs.Fault.{fault_of_read}
 use Rattle.vab_session.specs.Responses.{response}
-use Rattle.vab_session.specs.Served.{HeldBy, Says, Fails}
+use Rattle.vab_session.specs.Served.{HeldBy, Says, Fails, AnswersOrFails, kept_on}
+use Rattle.vab_session.specs.declared.kept.KeptDevice.{KeptDevice}
+use Rattle.vab_exchanges.proofs.Progress.{heard}
 
 -- what was said of two numbers, of others that are the same
 pub moved : (F : ℕ → ℕ → Type 0) (m m' n n' : ℕ) → m' ≡ m → n' ≡ n → F m' n' → F m n
@@ -161,3 +164,57 @@ module _ {D : Type 0}
   hello_fails (reads.Overrun due came) why = early (session.Overrun due came) why
   hello_fails (reads.Cut at) why = early (session.Cut at) why
   hello_fails reads.Spent why = early session.Spent why
+
+-- ---- by other names
+
+-- what answering a packet left, of numbers and bytes that are the same
+pub does_moved : {D : Type 0} (g : Ghosts D) (k : Kept Mounted) (before after : List ℕ)
+    (n n' total total' most most' : ℕ)
+    (command command' b b' : List ℕ)
+    (old new : D)
+    (result : Result KeptDevice SessionFault)
+    → n ≡ n'
+    → command ≡ command'
+    → b ≡ b'
+    → total ≡ total'
+    → most ≡ most'
+    → AnswersOrFails n g k command before after b (min most total) total most old new result
+    → AnswersOrFails n' g k command' before after b' (min most' total') total' most' old new result
+does_moved g k before after n n' total total' most most' command command' b b' old new result
+    sizes commands beyonds totals mosts does =
+    subst
+    (λ (q : ℕ × List ℕ × List ℕ × ℕ × ℕ).
+    AnswersOrFails q.0 g k q.1 before after q.2 (min q.4 q.3) q.3 q.4 old new result)
+    (λ i. (sizes i, commands i, beyonds i, totals i, mosts i))
+    does
+
+module _ {D : Type 0}
+    (size : ℕ)
+    (g : Ghosts D)
+    (bytes beyond : List ℕ)
+    (first : Kept Mounted)
+    (told : List ℕ)
+    (old mid now : D)
+    (left : List ℕ)
+    (kept : KeptDevice) where
+  -- a command packet was heard
+  pub heard_on : (b : List ℕ)
+      → Progress response (IsIn size) g bytes beyond first told old mid left
+        (kept_on kept (g.seen mid))
+      → b ≡ beyond
+      → g.is_modelled
+      → Listens g (left ++ b) (IsCutShort 4096) mid now
+      → Progress response (IsIn size) g bytes beyond first told old now left
+        (kept_on kept (g.seen now))
+  heard_on b so_far same t listens =
+      subst
+      (λ (image : Image).
+      Progress response (IsIn size) g bytes beyond first told old now left (kept_on kept image))
+      (sym (listens.seen t))
+      (heard response (IsIn size) g bytes beyond first told old mid left (kept_on kept (g.seen mid))
+      so_far now (listens.told t) (listens.seen t) (listens.crash t)
+      (subst
+      (λ (l : List ℕ).
+      HearsWhere (IsHeardFor (g.told mid) (left ++ l) (IsCutShort 4096)) (g.heard mid) (g.heard now))
+      same (listens.heard t))
+      (listens.time t))
