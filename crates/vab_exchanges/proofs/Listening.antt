@@ -1,12 +1,12 @@
 -- How runs of calls that only hear join.
-use Rattle.std.proofs.Common.{◌≡◌, ◌⊎◌, inl, inr, ℕ, ◌+◌, ◌-◌, ◌<◌, ◌≤◌, List, [], ◌∷◌, ◌++◌}
-use Rattle.std.proofs.Common.{length, take, drop, refl, sym, ◌∙◌, ap, subst, arith, append_assoc}
-use Rattle.std.proofs.Common.{length-append, length-take, take-append-drop}
+use Rattle.std.proofs.Common.{◌≡◌, inr, ℕ, ◌<◌, ◌≤◌, List, [], ◌∷◌, ◌++◌, length, take, drop, refl}
+use Rattle.std.proofs.Common.{sym, ◌∙◌, ap, subst, arith, append_assoc, length-append, length-take}
+use Rattle.std.proofs.Common.{take-append-drop}
 use Rattle.std.proofs.lemmas.List.{append-nil, take_at}
 use Rattle.std.proofs.lemmas.List.Elements.{All-append, All-nil}
 use Rattle.std.specs.List.{All, flat_map}
 use Rattle.std.specs.Int.{w64, from_be_bytes}
-use Rattle.vab_disk.specs.Disk.{SameHoldings, Adds, Nothing, NoFewer, Hearing}
+use Rattle.vab_disk.specs.Disk.{Nothing, Hearing}
 use Rattle.vab_disk.specs.Port.{heard_then}
 use Rattle.vab_disk.specs.declared.disk.Disk.{Ghosts}
 use Rattle.vab_disk.proofs.CallLaws.{fewer_then}
@@ -187,7 +187,10 @@ short_behind most n rest came eight is fits few =
     let long : length (take 8 rest) ≡ 8 = omega (arith, length-take 8 rest, eight) in
     let front : take 8 (take 8 rest ++ came) ≡ take 8 rest = take_at (take 8 rest) came 8 long in
     let same : length_at (take 8 rest ++ came) ≡ n = ap (from_be_bytes w64) front ∙ sym is in
-    inr (omega (arith, same, fits), omega (arith, length-append (take 8 rest) came, long, same, few))
+    inr (
+      omega (arith, same, fits),
+      omega (arith, length-append (take 8 rest) came, long, same, few),
+    )
 
 -- some of the data have come, and no whole packet behind them
 pub awaited_behind : (due still : ℕ) (parts : List (List ℕ)) (came : List ℕ)

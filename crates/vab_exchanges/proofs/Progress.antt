@@ -1,5 +1,8 @@
 -- How far a session has come, and how it ends from there.
-use Rattle.std.proofs.Common.{◌≡◌, inl, inr, ⊎_elim, ℕ, ◌+◌, ◌<◌, ◌≤◌, min, Bool, true, false, cond, nat_le, if◌then◌else◌, List, [], ◌∷◌, ◌++◌, Option, Some, None, Result, length, take, codes, refl, sym, ◌∙◌, ap, subst, arith, append_assoc}
+use Rattle.std.proofs.Common.{◌≡◌, inl, inr, ⊎_elim, ℕ, ◌+◌, ◌<◌, ◌≤◌, min, Bool, true, false, cond}
+use Rattle.std.proofs.Common.{nat_le, if◌then◌else◌, List, [], ◌∷◌, ◌++◌, Option, Some, None}
+use Rattle.std.proofs.Common.{Result, length, take, codes, refl, sym, ◌∙◌, ap, subst, arith}
+use Rattle.std.proofs.Common.{append_assoc}
 use Rattle.std.proofs.lemmas.List.{append-nil, take_at, take-append-le, take_min}
 use Rattle.std.proofs.lemmas.Bool.{cases_Bool}
 use Rattle.std.proofs.Math.Seq.{take-append-add}
@@ -11,52 +14,83 @@ use Rattle.vab_disk.proofs.Moments.{adds_none, adds_on, adds_still}
 use Rattle.vab_disk.specs.declared.disk.Disk.{Ghosts}
 use Rattle.vab_fbproto.specs.Requests.{Asked, request_of}
 use Rattle.vab_fbproto.specs.declared.request.BadCommand.{BadCommand}
-use Rattle.vab_exchanges.specs.Session.{packet, ends_session, due_of, Exchange, spelled, Leaves, IsExchange, End, Closed, Rebooted, Cut, Stops, IsCutShort, IsUnfinished, IsRead, IsWaiting, IsAwaited, spent}
+use Rattle.vab_exchanges.specs.Session.{packet, ends_session, due_of, Exchange, spelled, Leaves}
+use Rattle.vab_exchanges.specs.Session.{IsExchange, End, Closed, Rebooted, Cut, Stops, IsCutShort}
+use Rattle.vab_exchanges.specs.Session.{IsUnfinished, IsRead, IsWaiting, IsAwaited, spent}
 use Rattle.vab_exchanges.specs.Reading.{EndsAs, IsBroken}
-use Rattle.vab_exchanges.specs.Items.{Response, Kept, Item, data_text, asked_size, joined, item_of, item_open, items_of, kept_after, output_of}
+use Rattle.vab_exchanges.specs.Items.{Response, Kept, Item, data_text, asked_size, joined, item_of}
+use Rattle.vab_exchanges.specs.Items.{item_open, items_of, kept_after, output_of}
 use Rattle.vab_disk.specs.Calls.{IsAtRest}
 use Rattle.vab_model.specs.Effects.{IsOneOf}
-use Rattle.vab_exchanges.specs.Runs.{CrashesWithin, LeavesItem, IsPrompt, HearsData, Ran, Answers, FailsWhole, StartsAs, FailsOpen, BreaksOff}
+use Rattle.vab_exchanges.specs.Runs.{CrashesWithin, LeavesItem, IsPrompt, HearsData, Ran, Answers}
+use Rattle.vab_exchanges.specs.Runs.{FailsWhole, StartsAs, FailsOpen, BreaksOff}
 use Rattle.vab_exchanges.proofs.Packets.{AreBytes, later_byte, split_of, data_of, due_fits}
 use Rattle.vab_exchanges.proofs.Choices.{chosen}
-use Rattle.vab_exchanges.proofs.RunLaws.{IsChain, item_chain, open_chain, items_chain, items_append, after_append, joined_append, within_item}
+use Rattle.vab_exchanges.proofs.RunLaws.{IsChain, item_chain, open_chain, items_chain, items_append}
+use Rattle.vab_exchanges.proofs.RunLaws.{after_append, joined_append, within_item}
 
 -- these exchanges are whole, and the session goes on behind them
 abbrev pub AreDone : List Exchange → Type 0
 AreDone [] = Unit {0}
 AreDone (s ∷ ss) = IsExchange s × (ends_session s.command ≡ false) × AreDone ss
 
-are_more : (ss : List Exchange) (s : Exchange) → AreDone ss → IsExchange s → ends_session s.command ≡ false → AreDone (ss ++ s ∷ [])
+are_more : (ss : List Exchange) (s : Exchange)
+    → AreDone ss
+    → IsExchange s
+    → ends_session s.command ≡ false
+    → AreDone (ss ++ s ∷ [])
 are_more [] s are one on = (one, on, tt)
 are_more (t ∷ ts) s are one on = (are.0, are.1, are_more ts s are.2 one on)
 
-spelled_more : (ss : List Exchange) (s : Exchange) (later : List ℕ) → flat_map spelled (ss ++ s ∷ []) ++ later ≡ flat_map spelled ss ++ (spelled s ++ later)
+spelled_more : (ss : List Exchange) (s : Exchange) (later : List ℕ)
+    → flat_map spelled (ss ++ s ∷ []) ++ later ≡ flat_map spelled ss ++ (spelled s ++ later)
 spelled_more [] s later = ap (λ (l : List ℕ). l ++ later) (append-nil (spelled s))
-spelled_more (t ∷ ts) s later = append_assoc (spelled t) (flat_map spelled (ts ++ s ∷ [])) later ∙ ap (λ (l : List ℕ). spelled t ++ l) (spelled_more ts s later) ∙ sym (append_assoc (spelled t) (flat_map spelled ts) (spelled s ++ later))
+spelled_more (t ∷ ts) s later =
+    append_assoc (spelled t) (flat_map spelled (ts ++ s ∷ [])) later
+    ∙ ap (λ (l : List ℕ). spelled t ++ l) (spelled_more ts s later)
+    ∙ sym (append_assoc (spelled t) (flat_map spelled ts) (spelled s ++ later))
 
-read_on : (count : ℕ) (ss ts : List Exchange) (left : List ℕ) (u : Option (List ℕ)) (e : End) → AreDone ss → IsRead count left ts u e → IsRead count (flat_map spelled ss ++ left) (ss ++ ts) u e
+read_on : (count : ℕ) (ss ts : List Exchange) (left : List ℕ) (u : Option (List ℕ)) (e : End)
+    → AreDone ss
+    → IsRead count left ts u e
+    → IsRead count (flat_map spelled ss ++ left) (ss ++ ts) u e
 read_on count [] ts left u e are read = read
-read_on count (s ∷ ss) ts left u e are read = (flat_map spelled ss ++ left, append_assoc (spelled s) (flat_map spelled ss) left, are.0, inr (are.1, read_on count ss ts left u e are.2 read))
+read_on count (s ∷ ss) ts left u e are read = (
+  flat_map spelled ss ++ left,
+  append_assoc (spelled s) (flat_map spelled ss) left,
+  are.0,
+  inr (are.1, read_on count ss ts left u e are.2 read),
+)
 
 take_whole : (l : List ℕ) → take (length l) l ≡ l
 take_whole l = ap (take (length l)) (sym (append-nil l)) ∙ take_at l [] (length l) refl
 
 -- a front of what comes first is a front of all
 front_of : (n : ℕ) (reply rest : List ℕ) → (m : ℕ) × (take n reply ≡ take m (reply ++ rest))
-front_of n reply rest = (min n (length reply), sym (take-append-le (min n (length reply)) reply rest (omega arith) ∙ take_min n reply))
+front_of n reply rest = (
+  min n (length reply),
+  sym (take-append-le (min n (length reply)) reply rest (omega arith) ∙ take_min n reply),
+)
 
 -- where a command is to come, and no whole packet has come
-stop_here : (count : ℕ) (came : List ℕ) → IsCutShort 4096 came → (end : End) × Stops count came end × IsWaiting count end
+stop_here : (count : ℕ) (came : List ℕ)
+    → IsCutShort 4096 came
+    → (end : End) × Stops count came end × IsWaiting count end
 stop_here count [] cut = (Closed, refl, inl refl)
 stop_here count (x ∷ xs) cut = (Cut count, (refl, omega arith, cut), inr refl)
 
-prompt_more : {S : Type 0} (effect : S → Option (List ℕ) → Result Asked BadCommand → Response S) (first : Kept S) (all more : List Exchange) (bytes told : List ℕ) (h : Hearing) → IsPrompt effect first all bytes told h → IsPrompt effect first (all ++ more) bytes told h
+prompt_more : {S : Type 0} (effect : S → Option (List ℕ) → Result Asked BadCommand → Response S)
+    (first : Kept S) (all more : List Exchange) (bytes told : List ℕ) (h : Hearing)
+    → IsPrompt effect first all bytes told h
+    → IsPrompt effect first (all ++ more) bytes told h
 prompt_more effect first all more bytes told h p = record {
   came = p.came;
   is = p.is;
   exchanges = p.exchanges;
   others = p.others ++ more;
-  first_ones = ap (λ (l : List Exchange). l ++ more) p.first_ones ∙ append_assoc p.exchanges p.others more;
+  first_ones =
+      ap (λ (l : List Exchange). l ++ more) p.first_ones
+      ∙ append_assoc p.exchanges p.others more;
   unfinished = p.unfinished;
   waits = p.waits;
   told_then = p.told_then;
@@ -70,17 +104,30 @@ pub record Started {S : Type 0} (k : Kept S) (size : ℕ) (i : Item S) : Type 0 
   pub steps : i.steps ≡ k.now ∷ []
   pub last : i.last.now ≡ k.now
 
-pub started_by : {S : Type 0} (k : Kept S) (size : ℕ) (parts : List (List ℕ)) → Started k size (chosen k size false false parts)
-started_by k size parts = record { more = packet (codes "OKAY"); reply = refl; steps = refl; last = refl }
+pub started_by : {S : Type 0} (k : Kept S) (size : ℕ) (parts : List (List ℕ))
+    → Started k size (chosen k size false false parts)
+started_by k size parts =
+    record { more = packet (codes "OKAY"); reply = refl; steps = refl; last = refl }
 
-module _ {S D : Type 0} (effect : S → Option (List ℕ) → Result Asked BadCommand → Response S) (IsIn : S → Image → Type 0) (g : Ghosts D) where
-  pub opens : (k : Kept S) (command : List ℕ) → StartsAs effect IsIn g k command (item_open effect k command)
+module _ {S D : Type 0} (effect : S → Option (List ℕ) → Result Asked BadCommand → Response S)
+    (IsIn : S → Image → Type 0) (g : Ghosts D) where
+  pub opens : (k : Kept S) (command : List ℕ)
+      → StartsAs effect IsIn g k command (item_open effect k command)
   unfolding item_open
-  opens k command = record { more = []; reply = sym (append-nil (packet (data_text (asked_size (request_of command))))); steps = refl; last = refl }
+  opens k command =
+      record {
+        more = [];
+        reply = sym (append-nil (packet (data_text (asked_size (request_of command)))));
+        steps = refl;
+        last = refl;
+      }
 
-module _ {S D : Type 0} (effect : S → Option (List ℕ) → Result Asked BadCommand → Response S) (IsIn : S → Image → Type 0) (g : Ghosts D) where
-  -- Some exchanges are answered, and whatever comes behind them, no cut of power left anything else.
-  pub record Progress (bytes beyond : List ℕ) (first : Kept S) (told : List ℕ) (old now : D) (left : List ℕ) (kept : Kept S) : Type 0 where
+module _ {S D : Type 0} (effect : S → Option (List ℕ) → Result Asked BadCommand → Response S)
+    (IsIn : S → Image → Type 0) (g : Ghosts D) where
+  -- Some exchanges are answered, and whatever comes behind them, no cut of power left anything
+  -- else.
+  pub record Progress (bytes beyond : List ℕ) (first : Kept S) (told : List ℕ) (old now : D)
+      (left : List ℕ) (kept : Kept S) : Type 0 where
     pub done : List Exchange
     pub are : AreDone done
     pub is : bytes ≡ flat_map spelled done ++ left
@@ -88,14 +135,28 @@ module _ {S D : Type 0} (effect : S → Option (List ℕ) → Result Asked BadCo
     pub told_is : g.told now ≡ told ++ (codes "FB01" ++ joined (items_of effect first done None))
     pub stands : IsIn kept.now (g.seen now)
     pub settled : IsAtRest g old → IsAtRest g now
-    pub heard : HearsWhere (IsPrompt effect first done (bytes ++ beyond) told) (g.heard old) (g.heard now)
-    pub time : IsAtRest g old → (later : List (Item S)) → IsChain kept.now later → Adds g.moment g.outcomes old now (CrashesWithin IsIn (codes "FB01") first.now (items_of effect first done None ++ later) told)
+    pub heard : HearsWhere (IsPrompt effect first done (bytes ++ beyond) told) (g.heard old)
+        (g.heard now)
+    pub time : IsAtRest g old
+        → (later : List (Item S))
+        → IsChain kept.now later
+        → Adds g.moment g.outcomes old now
+        (CrashesWithin IsIn (codes "FB01") first.now (items_of effect first done None ++ later)
+        told)
 
   -- what only hears or tells leaves nothing pending
-  pub still_settled : (old new : D) → g.seen new ≡ g.seen old → SameHoldings (g.may_leave old) (g.may_leave new) → IsAtRest g old → IsAtRest g new
-  still_settled old new seen holds settled k b held = settled k b (holds.no_more k b held) ∙ ap (λ (x : Image). x k) (sym seen)
+  pub still_settled : (old new : D)
+      → g.seen new ≡ g.seen old
+      → SameHoldings (g.may_leave old) (g.may_leave new)
+      → IsAtRest g old
+      → IsAtRest g new
+  still_settled old new seen holds settled k b held =
+      settled k b (holds.no_more k b held) ∙ ap (λ (x : Image). x k) (sym seen)
 
-  pub begun : (bytes beyond : List ℕ) (first : Kept S) (told : List ℕ) (old : D) → g.told old ≡ told ++ codes "FB01" → IsIn first.now (g.seen old) → Progress bytes beyond first told old old bytes first
+  pub begun : (bytes beyond : List ℕ) (first : Kept S) (told : List ℕ) (old : D)
+      → g.told old ≡ told ++ codes "FB01"
+      → IsIn first.now (g.seen old)
+      → Progress bytes beyond first told old old bytes first
   begun bytes beyond first told old greeted stands = record {
     done = [];
     are = tt;
@@ -105,29 +166,50 @@ module _ {S D : Type 0} (effect : S → Option (List ℕ) → Result Asked BadCo
     stands = stands;
     settled = λ rest. rest;
     heard = hears_none (IsPrompt effect first [] (bytes ++ beyond) told) (g.heard old);
-    time = λ rest later chain. adds_none g.moment g.outcomes old (CrashesWithin IsIn (codes "FB01") first.now later told);
+    time =
+        λ rest later chain. adds_none g.moment g.outcomes old
+        (CrashesWithin IsIn (codes "FB01") first.now later told);
   }
 
-  module _ (bytes beyond : List ℕ) (first : Kept S) (told : List ℕ) (old mid : D) (left : List ℕ) (kept : Kept S) (so_far : Progress bytes beyond first told old mid left kept) where
+  module _ (bytes beyond : List ℕ) (first : Kept S) (told : List ℕ) (old mid : D) (left : List ℕ)
+      (kept : Kept S) (so_far : Progress bytes beyond first told old mid left kept) where
     -- a hearing between two exchanges
-    between : (h : Hearing) → IsHeardFor (g.told mid) (left ++ beyond) (IsCutShort 4096) h → IsPrompt effect first so_far.done (bytes ++ beyond) told h
+    between : (h : Hearing)
+        → IsHeardFor (g.told mid) (left ++ beyond) (IsCutShort 4096) h
+        → IsPrompt effect first so_far.done (bytes ++ beyond) told h
     between h hears =
         let before = flat_map spelled so_far.done in
         let came = hears.wants.came in
         record {
           came = before ++ came;
-          is = ap (λ (l : List ℕ). l ++ beyond) so_far.is ∙ append_assoc before left beyond ∙ ap (λ (l : List ℕ). before ++ l) hears.wants.is ∙ sym (append_assoc before came h.input_left);
+          is =
+              ap (λ (l : List ℕ). l ++ beyond) so_far.is
+              ∙ append_assoc before left beyond
+              ∙ ap (λ (l : List ℕ). before ++ l) hears.wants.is
+              ∙ sym (append_assoc before came h.input_left);
           exchanges = so_far.done;
           others = [];
           first_ones = sym (append-nil so_far.done);
           unfinished = None;
           waits = λ count.
-              let stop = stop_here count came hears.wants.too_few in
-              (stop.0, subst (λ (l : List Exchange). IsRead count (before ++ came) l None stop.0) (append-nil so_far.done) (read_on count so_far.done [] came None stop.0 so_far.are stop.1), stop.2);
+              let stop = stop_here count came hears.wants.too_few in (
+                stop.0,
+                subst (λ (l : List Exchange). IsRead count (before ++ came) l None stop.0)
+                    (append-nil so_far.done)
+                    (read_on count so_far.done [] came None stop.0 so_far.are stop.1),
+                stop.2,
+              );
           told_then = hears.told_then ∙ so_far.told_is;
         }
 
-    pub heard : (now : D) → g.told now ≡ g.told mid → g.seen now ≡ g.seen mid → SameHoldings (g.may_leave mid) (g.may_leave now) → HearsWhere (IsHeardFor (g.told mid) (left ++ beyond) (IsCutShort 4096)) (g.heard mid) (g.heard now) → Adds g.moment g.outcomes mid now Nothing → Progress bytes beyond first told old now left kept
+    pub heard : (now : D)
+        → g.told now ≡ g.told mid
+        → g.seen now ≡ g.seen mid
+        → SameHoldings (g.may_leave mid) (g.may_leave now)
+        → HearsWhere (IsHeardFor (g.told mid) (left ++ beyond) (IsCutShort 4096)) (g.heard mid)
+        (g.heard now)
+        → Adds g.moment g.outcomes mid now Nothing
+        → Progress bytes beyond first told old now left kept
     heard now same seen holds hears time = record {
       done = so_far.done;
       are = so_far.are;
@@ -136,69 +218,165 @@ module _ {S D : Type 0} (effect : S → Option (List ℕ) → Result Asked BadCo
       told_is = same ∙ so_far.told_is;
       stands = subst (λ (x : Image). IsIn kept.now x) (sym seen) so_far.stands;
       settled = λ rest. still_settled mid now seen holds (so_far.settled rest);
-      heard = hears_then (IsPrompt effect first so_far.done (bytes ++ beyond) told) (g.heard old) (g.heard mid) (g.heard now) so_far.heard (hears_wider (IsHeardFor (g.told mid) (left ++ beyond) (IsCutShort 4096)) (IsPrompt effect first so_far.done (bytes ++ beyond) told) (g.heard mid) (g.heard now) between hears);
-      time = λ rest later chain. adds_still g.moment g.outcomes old mid now (CrashesWithin IsIn (codes "FB01") first.now (items_of effect first so_far.done None ++ later) told) (so_far.time rest later chain) time;
+      heard =
+          hears_then (IsPrompt effect first so_far.done (bytes ++ beyond) told) (g.heard old)
+          (g.heard mid) (g.heard now) so_far.heard
+          (hears_wider (IsHeardFor (g.told mid) (left ++ beyond) (IsCutShort 4096))
+          (IsPrompt effect first so_far.done (bytes ++ beyond) told) (g.heard mid) (g.heard now)
+          between hears);
+      time =
+          λ rest later chain. adds_still g.moment g.outcomes old mid now
+          (CrashesWithin IsIn (codes "FB01") first.now
+          (items_of effect first so_far.done None ++ later) told) (so_far.time rest later chain)
+          time;
     }
 
     -- one item more is being answered
-    during : (now : D) (i : Item S) (js : List (Item S)) → IsOneOf i.steps kept.now → 0 < length i.reply → IsChain i.last.now js → (IsAtRest g mid → Adds g.moment g.outcomes mid now (LeavesItem IsIn (g.told mid) i))
-        → IsAtRest g old → Adds g.moment g.outcomes old now (CrashesWithin IsIn (codes "FB01") first.now (items_of effect first so_far.done None ++ i ∷ js) told)
+    during : (now : D) (i : Item S) (js : List (Item S))
+        → IsOneOf i.steps kept.now
+        → 0 < length i.reply
+        → IsChain i.last.now js
+        → (IsAtRest g mid → Adds g.moment g.outcomes mid now (LeavesItem IsIn (g.told mid) i))
+        → IsAtRest g old
+        → Adds g.moment g.outcomes old now
+        (CrashesWithin IsIn (codes "FB01") first.now
+        (items_of effect first so_far.done None ++ i ∷ js) told)
     during now i js one some chain time rest =
-        adds_on g.moment g.outcomes old mid now (CrashesWithin IsIn (codes "FB01") first.now (items_of effect first so_far.done None ++ i ∷ js) told) (LeavesItem IsIn (g.told mid) i) (so_far.time rest (i ∷ js) (one, some, chain)) (time (so_far.settled rest))
-        (λ o leaves. within_item IsIn (codes "FB01") first.now (items_of effect first so_far.done None) js i told (g.told mid) chain so_far.told_is o leaves)
+        adds_on g.moment g.outcomes old mid now
+        (CrashesWithin IsIn (codes "FB01") first.now
+        (items_of effect first so_far.done None ++ i ∷ js) told)
+        (LeavesItem IsIn (g.told mid) i) (so_far.time rest (i ∷ js) (one, some, chain))
+        (time (so_far.settled rest))
+        (λ o leaves. within_item IsIn (codes "FB01") first.now
+        (items_of effect first so_far.done None) js i told (g.told mid) chain so_far.told_is o
+        leaves)
 
     -- the items of the whole session, where those behind what is done are known
-    all_items : (ts : List Exchange) (u : Option (List ℕ)) → items_of effect first (so_far.done ++ ts) u ≡ items_of effect first so_far.done None ++ items_of effect kept ts u
-    all_items ts u = items_append effect first so_far.done ts u ∙ ap (λ (k : Kept S). items_of effect first so_far.done None ++ items_of effect k ts u) (sym so_far.kept_is)
+    all_items : (ts : List Exchange) (u : Option (List ℕ))
+        → items_of effect first (so_far.done ++ ts) u
+        ≡ items_of effect first so_far.done None ++ items_of effect kept ts u
+    all_items ts u =
+        items_append effect first so_far.done ts u
+        ∙ ap (λ (k : Kept S). items_of effect first so_far.done None ++ items_of effect k ts u)
+        (sym so_far.kept_is)
 
-    all_told : (ts : List Exchange) (u : Option (List ℕ)) → output_of effect first (so_far.done ++ ts) u ≡ (codes "FB01" ++ joined (items_of effect first so_far.done None)) ++ joined (items_of effect kept ts u)
+    all_told : (ts : List Exchange) (u : Option (List ℕ))
+        → output_of effect first (so_far.done ++ ts) u
+        ≡ (codes "FB01" ++ joined (items_of effect first so_far.done None))
+        ++ joined (items_of effect kept ts u)
     all_told ts u =
-        ap (λ (l : List (Item S)). codes "FB01" ++ joined l) (all_items ts u) ∙ ap (λ (l : List ℕ). codes "FB01" ++ l) (joined_append IsIn (items_of effect first so_far.done None) (items_of effect kept ts u))
-        ∙ sym (append_assoc (codes "FB01") (joined (items_of effect first so_far.done None)) (joined (items_of effect kept ts u)))
+        ap (λ (l : List (Item S)). codes "FB01" ++ joined l) (all_items ts u)
+        ∙ ap (λ (l : List ℕ). codes "FB01" ++ l)
+        (joined_append IsIn (items_of effect first so_far.done None)
+        (items_of effect kept ts u))
+        ∙ sym
+        (append_assoc (codes "FB01") (joined (items_of effect first so_far.done None))
+        (joined (items_of effect kept ts u)))
 
     -- what is left was read so, and this was told of it
-    finish : (Held : Type 0) (Says : End → Type 0) (reached : Option S) (count total most : ℕ) (now : D) (ts : List Exchange) (u : Option (List ℕ)) (end : End) → IsRead count left ts u end → Says (if nat_le most total then spent end else end)
-        → (n : ℕ) → g.told now ≡ g.told mid ++ take n (joined (items_of effect kept ts u)) → (Held → g.told now ≡ g.told mid ++ joined (items_of effect kept ts u)) → ((s : S) → reached ≡ Some s → s ≡ (kept_after effect kept ts).now)
-        → (Held → IsIn (kept_after effect kept ts).now (g.seen now)) → (Held → IsAtRest g mid → IsAtRest g now)
-        → HearsWhere (IsPrompt effect first so_far.done (bytes ++ beyond) told) (g.heard mid) (g.heard now)
-        → (IsAtRest g old → Adds g.moment g.outcomes old now (CrashesWithin IsIn (codes "FB01") first.now (items_of effect first so_far.done None ++ items_of effect kept ts u) told))
+    finish : (Held : Type 0) (Says : End → Type 0) (reached : Option S) (count total most : ℕ)
+        (now : D) (ts : List Exchange) (u : Option (List ℕ)) (end : End)
+        → IsRead count left ts u end
+        → Says (if nat_le most total then spent end else end)
+        → (n : ℕ)
+        → g.told now ≡ g.told mid ++ take n (joined (items_of effect kept ts u))
+        → (Held → g.told now ≡ g.told mid ++ joined (items_of effect kept ts u))
+        → ((s : S) → reached ≡ Some s → s ≡ (kept_after effect kept ts).now)
+        → (Held → IsIn (kept_after effect kept ts).now (g.seen now))
+        → (Held → IsAtRest g mid → IsAtRest g now)
+        → HearsWhere (IsPrompt effect first so_far.done (bytes ++ beyond) told) (g.heard mid)
+        (g.heard now)
+        →
+        (IsAtRest g old
+        → Adds g.moment g.outcomes old now
+        (CrashesWithin IsIn (codes "FB01") first.now
+        (items_of effect first so_far.done None ++ items_of effect kept ts u) told))
         → Ran effect IsIn g Held Says reached count total most bytes beyond first told old now
-    finish Held Says reached count total most now ts u end read says n front whole at stands settled hears time =
+    finish Held Says reached count total most now ts u end read says n front whole at stands
+        settled hears time =
         let before = codes "FB01" ++ joined (items_of effect first so_far.done None) in
         let rest = joined (items_of effect kept ts u) in
         record {
           exchanges = so_far.done ++ ts;
           unfinished = u;
           end = end;
-          read = subst (λ (l : List ℕ). IsRead count l (so_far.done ++ ts) u end) (sym so_far.is) (read_on count so_far.done ts left u end so_far.are read);
+          read =
+              subst (λ (l : List ℕ). IsRead count l (so_far.done ++ ts) u end) (sym so_far.is)
+              (read_on count so_far.done ts left u end so_far.are read);
           ends = says;
           front = (
             length before + n,
-            front ∙ ap (λ (l : List ℕ). l ++ take n rest) so_far.told_is ∙ append_assoc told before (take n rest) ∙ ap (λ (l : List ℕ). told ++ l) (sym (ap (take (length before + n)) (all_told ts u) ∙ take-append-add before rest n)),
+            front
+                ∙ ap (λ (l : List ℕ). l ++ take n rest) so_far.told_is
+                ∙ append_assoc told before (take n rest)
+                ∙ ap (λ (l : List ℕ). told ++ l)
+                (sym
+                (ap (take (length before + n)) (all_told ts u) ∙ take-append-add before rest n)),
           );
-          whole = λ held. whole held ∙ ap (λ (l : List ℕ). l ++ rest) so_far.told_is ∙ append_assoc told before rest ∙ ap (λ (l : List ℕ). told ++ l) (sym (all_told ts u));
-          reached = λ s is. at s is ∙ ap (λ (k : Kept S). (kept_after effect k ts).now) so_far.kept_is ∙ ap (λ (k : Kept S). k.now) (sym (after_append effect first so_far.done ts));
-          stands = λ held. subst (λ (x : S). IsIn x (g.seen now)) (ap (λ (k : Kept S). (kept_after effect k ts).now) so_far.kept_is ∙ ap (λ (k : Kept S). k.now) (sym (after_append effect first so_far.done ts))) (stands held);
+          whole =
+              λ held. whole held
+              ∙ ap (λ (l : List ℕ). l ++ rest) so_far.told_is
+              ∙ append_assoc told before rest
+              ∙ ap (λ (l : List ℕ). told ++ l) (sym (all_told ts u));
+          reached =
+              λ s is. at s is
+              ∙ ap (λ (k : Kept S). (kept_after effect k ts).now) so_far.kept_is
+              ∙ ap (λ (k : Kept S). k.now) (sym (after_append effect first so_far.done ts));
+          stands =
+              λ held. subst (λ (x : S). IsIn x (g.seen now))
+              (ap (λ (k : Kept S). (kept_after effect k ts).now) so_far.kept_is
+              ∙ ap (λ (k : Kept S). k.now) (sym (after_append effect first so_far.done ts)))
+              (stands held);
           settled = λ held rest. settled held (so_far.settled rest);
-          heard = hears_wider (IsPrompt effect first so_far.done (bytes ++ beyond) told) (IsPrompt effect first (so_far.done ++ ts) (bytes ++ beyond) told) (g.heard old) (g.heard now) (prompt_more effect first so_far.done ts (bytes ++ beyond) told)
-              (hears_then (IsPrompt effect first so_far.done (bytes ++ beyond) told) (g.heard old) (g.heard mid) (g.heard now) so_far.heard hears);
-          time = λ rest. subst (λ (l : List (Item S)). Adds g.moment g.outcomes old now (CrashesWithin IsIn (codes "FB01") first.now l told)) (sym (all_items ts u)) (time rest);
+          heard =
+              hears_wider (IsPrompt effect first so_far.done (bytes ++ beyond) told)
+              (IsPrompt effect first (so_far.done ++ ts) (bytes ++ beyond) told) (g.heard old)
+              (g.heard now) (prompt_more effect first so_far.done ts (bytes ++ beyond) told)
+              (hears_then (IsPrompt effect first so_far.done (bytes ++ beyond) told) (g.heard old)
+              (g.heard mid) (g.heard now) so_far.heard hears);
+          time =
+              λ rest. subst
+              (λ (l : List (Item S)). Adds g.moment g.outcomes old now
+              (CrashesWithin IsIn (codes "FB01") first.now l told)) (sym (all_items ts u))
+              (time rest);
         }
 
     -- nothing more is left
-    pub stopped : (Held : Type 0) (reached : Option S) (count total most : ℕ) (end : End) → EndsAs (Stops count left) total most end → ((s : S) → reached ≡ Some s → s ≡ kept.now) → Ran effect IsIn g Held (λ e. end ≡ e) reached count total most bytes beyond first told old mid
+    pub stopped : (Held : Type 0) (reached : Option S) (count total most : ℕ) (end : End)
+        → EndsAs (Stops count left) total most end
+        → ((s : S) → reached ≡ Some s → s ≡ kept.now)
+        → Ran effect IsIn g Held (λ e. end ≡ e) reached count total most bytes beyond first told
+        old mid
     stopped Held reached count total most end ends at =
-        finish Held (λ e. end ≡ e) reached count total most mid [] None ends.first ends.stops ends.is 0 (sym (append-nil (g.told mid))) (λ held. sym (append-nil (g.told mid))) at (λ held. so_far.stands) (λ held rest. rest) (hears_none (IsPrompt effect first so_far.done (bytes ++ beyond) told) (g.heard mid)) (λ rest. so_far.time rest [] tt)
+        finish Held (λ e. end ≡ e) reached count total most mid [] None ends.first ends.stops
+        ends.is 0 (sym (append-nil (g.told mid))) (λ held. sym (append-nil (g.told mid))) at
+        (λ held. so_far.stands) (λ held rest. rest)
+        (hears_none (IsPrompt effect first so_far.done (bytes ++ beyond) told) (g.heard mid))
+        (λ rest. so_far.time rest [] tt)
 
-    module _ (command before : List ℕ) (short : length command ≤ 4096) (is : left ≡ packet command ++ before) where
-      exchange_is : (s : Exchange) (after : List ℕ) → s.command ≡ command → before ≡ flat_map packet s.parts ++ after → left ≡ spelled s ++ after
-      exchange_is s after same behind = is ∙ (λ i. packet (sym same i) ++ behind i) ∙ sym (append_assoc (packet s.command) (flat_map packet s.parts) after)
+    module _ (command before : List ℕ) (short : length command ≤ 4096)
+        (is : left ≡ packet command ++ before) where
+      exchange_is : (s : Exchange) (after : List ℕ)
+          → s.command ≡ command
+          → before ≡ flat_map packet s.parts ++ after
+          → left ≡ spelled s ++ after
+      exchange_is s after same behind =
+          is
+          ∙ (λ i. packet (sym same i) ++ behind i)
+          ∙ sym (append_assoc (packet s.command) (flat_map packet s.parts) after)
 
-      exchange_whole : (s : Exchange) → s.command ≡ command → Leaves (due_of s.refused s.command) s.parts 0 → IsExchange s
-      exchange_whole s same all = record { short = subst (λ (l : List ℕ). length l ≤ 4096) (sym same) short; all = all }
+      exchange_whole : (s : Exchange)
+          → s.command ≡ command
+          → Leaves (due_of s.refused s.command) s.parts 0
+          → IsExchange s
+      exchange_whole s same all =
+          record { short = subst (λ (l : List ℕ). length l ≤ 4096) (sym same) short; all = all }
 
       -- a hearing while data are due
-      within_data : (h : Hearing) → IsHeardFor (g.told mid ++ (item_open effect kept command).reply) (before ++ beyond) (IsAwaited (due_of false command)) h → IsPrompt effect first so_far.done (bytes ++ beyond) told h
+      within_data : (h : Hearing)
+          → IsHeardFor (g.told mid ++ (item_open effect kept command).reply) (before ++ beyond)
+          (IsAwaited (due_of false command)) h
+          → IsPrompt effect first so_far.done (bytes ++ beyond) told h
       within_data h hears =
           let done = flat_map spelled so_far.done in
           let awaited = hears.wants.too_few in
@@ -206,9 +384,15 @@ module _ {S D : Type 0} (effect : S → Option (List ℕ) → Result Asked BadCo
           let reply = (item_open effect kept command).reply in
           let before_it = codes "FB01" ++ joined (items_of effect first so_far.done None) in
           let there : left ++ beyond ≡ came ++ h.input_left =
-          ap (λ (l : List ℕ). l ++ beyond) is ∙ append_assoc (packet command) before beyond ∙ ap (λ (l : List ℕ). packet command ++ l) hears.wants.is ∙ sym (append_assoc (packet command) hears.wants.came h.input_left) in
+          ap (λ (l : List ℕ). l ++ beyond) is
+          ∙ append_assoc (packet command) before beyond
+          ∙ ap (λ (l : List ℕ). packet command ++ l) hears.wants.is
+          ∙ sym (append_assoc (packet command) hears.wants.came h.input_left) in
           let output : before_it ++ reply ≡ output_of effect first so_far.done (Some command) =
-          ap (λ (l : List ℕ). before_it ++ l) (sym (append-nil reply)) ∙ sym (all_told [] (Some command)) ∙ ap (λ (l : List Exchange). output_of effect first l (Some command)) (append-nil so_far.done) in
+          ap (λ (l : List ℕ). before_it ++ l) (sym (append-nil reply))
+          ∙ sym (all_told [] (Some command))
+          ∙ ap (λ (l : List Exchange). output_of effect first l (Some command))
+          (append-nil so_far.done) in
           let opened : (count : ℕ) → IsUnfinished count command came (Cut count) =
           λ count. record {
             parts = awaited.parts;
@@ -222,56 +406,130 @@ module _ {S D : Type 0} (effect : S → Option (List ℕ) → Result Asked BadCo
           } in
           record {
             came = done ++ came;
-            is = ap (λ (l : List ℕ). l ++ beyond) so_far.is ∙ append_assoc done left beyond ∙ ap (λ (l : List ℕ). done ++ l) there ∙ sym (append_assoc done came h.input_left);
+            is =
+                ap (λ (l : List ℕ). l ++ beyond) so_far.is
+                ∙ append_assoc done left beyond
+                ∙ ap (λ (l : List ℕ). done ++ l) there
+                ∙ sym (append_assoc done came h.input_left);
             exchanges = so_far.done;
             others = [];
             first_ones = sym (append-nil so_far.done);
             unfinished = Some command;
-            waits = λ count. (Cut count, subst (λ (l : List Exchange). IsRead count (done ++ came) l (Some command) (Cut count)) (append-nil so_far.done) (read_on count so_far.done [] came (Some command) (Cut count) so_far.are (opened count)), inr refl);
-            told_then = hears.told_then ∙ ap (λ (l : List ℕ). l ++ reply) so_far.told_is ∙ append_assoc told before_it reply ∙ ap (λ (l : List ℕ). told ++ l) output;
+            waits =
+                λ count. (
+                  Cut count,
+                  subst
+                      (λ (l : List Exchange).
+                      IsRead count (done ++ came) l (Some command) (Cut count))
+                      (append-nil so_far.done)
+                      (read_on count so_far.done [] came (Some command) (Cut count) so_far.are
+                      (opened count)),
+                  inr refl,
+                );
+            told_then =
+                hears.told_then
+                ∙ ap (λ (l : List ℕ). l ++ reply) so_far.told_is
+                ∙ append_assoc told before_it reply
+                ∙ ap (λ (l : List ℕ). told ++ l) output;
           }
 
-      data_heard : (now : D) → HearsData effect IsIn g kept command (before ++ beyond) mid now → HearsWhere (IsPrompt effect first so_far.done (bytes ++ beyond) told) (g.heard mid) (g.heard now)
-      data_heard now hears = hears_wider (IsHeardFor (g.told mid ++ (item_open effect kept command).reply) (before ++ beyond) (IsAwaited (due_of false command))) (IsPrompt effect first so_far.done (bytes ++ beyond) told) (g.heard mid) (g.heard now) within_data hears
+      data_heard : (now : D)
+          → HearsData effect IsIn g kept command (before ++ beyond) mid now
+          → HearsWhere (IsPrompt effect first so_far.done (bytes ++ beyond) told) (g.heard mid)
+          (g.heard now)
+      data_heard now hears =
+          hears_wider
+          (IsHeardFor (g.told mid ++ (item_open effect kept command).reply) (before ++ beyond)
+          (IsAwaited (due_of false command)))
+          (IsPrompt effect first so_far.done (bytes ++ beyond) told) (g.heard mid) (g.heard now)
+          within_data hears
 
       -- the exchange is answered, and the session goes on
-      pub answered : (after : List ℕ) (now : D) (k' : Kept S) → ends_session command ≡ false → Answers effect IsIn g kept k' command before after beyond mid now → Progress bytes beyond first told old now after k'
+      pub answered : (after : List ℕ) (now : D) (k' : Kept S)
+          → ends_session command ≡ false
+          → Answers effect IsIn g kept k' command before after beyond mid now
+          → Progress bytes beyond first told old now after k'
       answered after now k' on a =
           let i = item_of effect kept a.exchange in
           let items = items_of effect first so_far.done None in
-          let all : items_of effect first (so_far.done ++ a.exchange ∷ []) None ≡ items ++ i ∷ [] = all_items (a.exchange ∷ []) None in
+          let all : items_of effect first (so_far.done ++ a.exchange ∷ []) None
+          ≡ items ++ i ∷ [] =
+          all_items (a.exchange ∷ []) None in
           record {
             done = so_far.done ++ a.exchange ∷ [];
-            are = are_more so_far.done a.exchange so_far.are (exchange_whole a.exchange a.command_is a.all) (ap ends_session a.command_is ∙ on);
-            is = so_far.is ∙ ap (λ (l : List ℕ). flat_map spelled so_far.done ++ l) (exchange_is a.exchange after a.command_is a.is) ∙ sym (spelled_more so_far.done a.exchange after);
-            kept_is = a.kept ∙ ap (λ (k : Kept S). (item_of effect k a.exchange).last) so_far.kept_is ∙ sym (after_append effect first so_far.done (a.exchange ∷ []));
-            told_is = a.told ∙ ap (λ (l : List ℕ). l ++ i.reply) so_far.told_is ∙ append_assoc told (codes "FB01" ++ joined items) i.reply
-                ∙ ap (λ (l : List ℕ). told ++ l) (ap (λ (l : List ℕ). (codes "FB01" ++ joined items) ++ l) (sym (append-nil i.reply)) ∙ sym (all_told (a.exchange ∷ []) None));
+            are =
+                are_more so_far.done a.exchange so_far.are
+                (exchange_whole a.exchange a.command_is a.all)
+                (ap ends_session a.command_is ∙ on);
+            is =
+                so_far.is
+                ∙ ap (λ (l : List ℕ). flat_map spelled so_far.done ++ l)
+                (exchange_is a.exchange after a.command_is a.is)
+                ∙ sym (spelled_more so_far.done a.exchange after);
+            kept_is =
+                a.kept
+                ∙ ap (λ (k : Kept S). (item_of effect k a.exchange).last) so_far.kept_is
+                ∙ sym (after_append effect first so_far.done (a.exchange ∷ []));
+            told_is =
+                a.told
+                ∙ ap (λ (l : List ℕ). l ++ i.reply) so_far.told_is
+                ∙ append_assoc told (codes "FB01" ++ joined items) i.reply
+                ∙ ap (λ (l : List ℕ). told ++ l)
+                (ap (λ (l : List ℕ). (codes "FB01" ++ joined items) ++ l)
+                (sym (append-nil i.reply))
+                ∙ sym (all_told (a.exchange ∷ []) None));
             stands = a.stands;
             settled = λ rest. a.settled (so_far.settled rest);
-            heard = hears_wider (IsPrompt effect first so_far.done (bytes ++ beyond) told) (IsPrompt effect first (so_far.done ++ a.exchange ∷ []) (bytes ++ beyond) told) (g.heard old) (g.heard now) (prompt_more effect first so_far.done (a.exchange ∷ []) (bytes ++ beyond) told)
-                (hears_then (IsPrompt effect first so_far.done (bytes ++ beyond) told) (g.heard old) (g.heard mid) (g.heard now) so_far.heard (data_heard now a.heard));
+            heard =
+                hears_wider (IsPrompt effect first so_far.done (bytes ++ beyond) told)
+                (IsPrompt effect first (so_far.done ++ a.exchange ∷ []) (bytes ++ beyond) told)
+                (g.heard old) (g.heard now)
+                (prompt_more effect first so_far.done (a.exchange ∷ []) (bytes ++ beyond) told)
+                (hears_then (IsPrompt effect first so_far.done (bytes ++ beyond) told)
+                (g.heard old) (g.heard mid) (g.heard now) so_far.heard (data_heard now a.heard));
             time = λ rest later chain.
                 let first_of = item_chain effect kept a.exchange in
-                let joined_later : items_of effect first (so_far.done ++ a.exchange ∷ []) None ++ later ≡ items ++ i ∷ later = ap (λ (l : List (Item S)). l ++ later) all ∙ append_assoc items (i ∷ []) later in
-                subst (λ (l : List (Item S)). Adds g.moment g.outcomes old now (CrashesWithin IsIn (codes "FB01") first.now l told)) (sym joined_later)
-                (during now i later first_of.0 first_of.1 (subst (λ (k : Kept S). IsChain k.now later) a.kept chain) a.time rest);
+                let joined_later : items_of effect first (so_far.done ++ a.exchange ∷ []) None
+                ++ later
+                ≡ items ++ i ∷ later =
+                ap (λ (l : List (Item S)). l ++ later) all
+                ∙ append_assoc items (i ∷ []) later in
+                subst
+                (λ (l : List (Item S)). Adds g.moment g.outcomes old now
+                (CrashesWithin IsIn (codes "FB01") first.now l told)) (sym joined_later)
+                (during now i later first_of.0 first_of.1
+                (subst (λ (k : Kept S). IsChain k.now later) a.kept chain) a.time rest);
           }
 
       -- the exchange is answered, and the session ends behind it
-      pub rebooted : (Held : Type 0) (reached : Option S) (count total most : ℕ) (after : List ℕ) (now : D) (k' : Kept S) → ends_session command ≡ true → Answers effect IsIn g kept k' command before after beyond mid now → ((s : S) → reached ≡ Some s → s ≡ k'.now)
-          → Ran effect IsIn g Held (λ e. Rebooted ≡ e) reached count total most bytes beyond first told old now
+      pub rebooted : (Held : Type 0) (reached : Option S) (count total most : ℕ) (after : List ℕ)
+          (now : D) (k' : Kept S)
+          → ends_session command ≡ true
+          → Answers effect IsIn g kept k' command before after beyond mid now
+          → ((s : S) → reached ≡ Some s → s ≡ k'.now)
+          → Ran effect IsIn g Held (λ e. Rebooted ≡ e) reached count total most bytes beyond
+          first told old now
       rebooted Held reached count total most after now k' last a at =
           let i = item_of effect kept a.exchange in
           let first_of = item_chain effect kept a.exchange in
-          let one : i.reply ≡ joined (items_of effect kept (a.exchange ∷ []) None) = sym (append-nil i.reply) in
-          finish Held (λ e. Rebooted ≡ e) reached count total most now (a.exchange ∷ []) None Rebooted
-          (after, exchange_is a.exchange after a.command_is a.is, exchange_whole a.exchange a.command_is a.all, inl (ap ends_session a.command_is ∙ last, (refl, refl, refl)))
-          (either (nat_le most total)) (length (joined (items_of effect kept (a.exchange ∷ []) None)))
-          (a.told ∙ ap (λ (l : List ℕ). g.told mid ++ l) (one ∙ sym (take_all_of (joined (items_of effect kept (a.exchange ∷ []) None)))))
+          let one : i.reply ≡ joined (items_of effect kept (a.exchange ∷ []) None) =
+          sym (append-nil i.reply) in
+          finish Held (λ e. Rebooted ≡ e) reached count total most now (a.exchange ∷ []) None
+          Rebooted (
+            after,
+            exchange_is a.exchange after a.command_is a.is,
+            exchange_whole a.exchange a.command_is a.all,
+            inl (ap ends_session a.command_is ∙ last, (refl, refl, refl)),
+          )
+          (either (nat_le most total))
+          (length (joined (items_of effect kept (a.exchange ∷ []) None)))
+          (a.told
+          ∙ ap (λ (l : List ℕ). g.told mid ++ l)
+          (one ∙ sym (take_all_of (joined (items_of effect kept (a.exchange ∷ []) None)))))
           (λ held. a.told ∙ ap (λ (l : List ℕ). g.told mid ++ l) one)
           (λ s is. at s is ∙ ap (λ (k : Kept S). k.now) a.kept)
-          (λ held. subst (λ (k : Kept S). IsIn k.now (g.seen now)) a.kept a.stands) (λ held. a.settled)
+          (λ held. subst (λ (k : Kept S). IsIn k.now (g.seen now)) a.kept a.stands)
+          (λ held. a.settled)
           (data_heard now a.heard) (during now i [] first_of.0 first_of.1 tt a.time)
         where
           either : (b : Bool) → Rebooted ≡ cond b Rebooted Rebooted
@@ -282,7 +540,9 @@ module _ {S D : Type 0} (effect : S → Option (List ℕ) → Result Asked BadCo
           take_all_of l = ap (take (length l)) (sym (append-nil l)) ∙ take_at l [] (length l) refl
 
       -- the data of a download break off
-      unfinished_is : (count : ℕ) (end : End) → IsBroken count (due_of false command) before end → IsUnfinished count command left end
+      unfinished_is : (count : ℕ) (end : End)
+          → IsBroken count (due_of false command) before end
+          → IsUnfinished count command left end
       unfinished_is count end b = record {
         parts = b.parts;
         rest = b.rest;
@@ -294,47 +554,74 @@ module _ {S D : Type 0} (effect : S → Option (List ℕ) → Result Asked BadCo
         breaks = b.breaks;
       }
 
-      pub broke_off : (Held : Type 0) (count total most : ℕ) (end : End) (now : D) → BreaksOff effect IsIn g kept command before beyond count total most end mid now → Ran effect IsIn g Held (λ e. end ≡ e) None count total most bytes beyond first told old now
+      pub broke_off : (Held : Type 0) (count total most : ℕ) (end : End) (now : D)
+          → BreaksOff effect IsIn g kept command before beyond count total most end mid now
+          → Ran effect IsIn g Held (λ e. end ≡ e) None count total most bytes beyond first told
+          old now
       broke_off Held count total most end now b =
           let i = item_open effect kept command in
           let first_of = open_chain effect kept command in
           let one : i.reply ≡ joined (i ∷ []) = sym (append-nil i.reply) in
-          finish Held (λ e. end ≡ e) None count total most now [] (Some command) b.ends.first (unfinished_is count b.ends.first b.ends.stops) b.ends.is
-          (length (joined (i ∷ []))) (b.told ∙ ap (λ (l : List ℕ). g.told mid ++ l) (one ∙ sym (take_whole (joined (i ∷ [])))))
+          finish Held (λ e. end ≡ e) None count total most now [] (Some command) b.ends.first
+          (unfinished_is count b.ends.first b.ends.stops) b.ends.is
+          (length (joined (i ∷ [])))
+          (b.told
+          ∙ ap (λ (l : List ℕ). g.told mid ++ l) (one ∙ sym (take_whole (joined (i ∷ [])))))
           (λ held. b.told ∙ ap (λ (l : List ℕ). g.told mid ++ l) one)
           (λ s is. cc)
           (λ held. b.stands) (λ held. b.settled)
           (data_heard now b.heard) (during now i [] first_of.0 first_of.1 tt b.time)
 
       -- the port failed while an exchange was answered
-      pub failed_whole : (count total most : ℕ) (now : D) → AreBytes bytes → FailsWhole effect IsIn g kept command before beyond mid now → Ran effect IsIn g ⊥ (λ e. Unit {0}) None count total most bytes beyond first told old now
+      pub failed_whole : (count total most : ℕ) (now : D)
+          → AreBytes bytes
+          → FailsWhole effect IsIn g kept command before beyond mid now
+          → Ran effect IsIn g ⊥ (λ e. Unit {0}) None count total most bytes beyond first told old
+          now
       failed_whole count total most now bytes_are f =
           let i = item_of effect kept f.exchange in
           let first_of = item_chain effect kept f.exchange in
           let here = exchange_is f.exchange f.after f.command_is f.is in
           let whole = exchange_whole f.exchange f.command_is f.all in
-          let after_are : AreBytes f.after = later_byte left (spelled f.exchange) f.after here (later_byte bytes (flat_map spelled so_far.done) left so_far.is bytes_are) in
+          let after_are : AreBytes f.after =
+          later_byte left (spelled f.exchange) f.after here
+          (later_byte bytes (flat_map spelled so_far.done) left so_far.is bytes_are) in
           let front = front_of f.front.0 i.reply in
           ⊎_elim
           (λ last.
-          finish ⊥ (λ e. Unit {0}) None count total most now (f.exchange ∷ []) None Rebooted (f.after, here, whole, inl (last, (refl, refl, refl))) tt
-          (front []).0 (f.front.1 ∙ ap (λ (l : List ℕ). g.told mid ++ l) (front []).1) (λ held. absurd held) (λ s is. cc) (λ held. absurd held) (λ held. absurd held)
+          finish ⊥ (λ e. Unit {0}) None count total most now (f.exchange ∷ []) None Rebooted
+          (f.after, here, whole, inl (last, (refl, refl, refl))) tt
+          (front []).0 (f.front.1 ∙ ap (λ (l : List ℕ). g.told mid ++ l) (front []).1)
+          (λ held. absurd held) (λ s is. cc) (λ held. absurd held) (λ held. absurd held)
           (data_heard now f.heard) (during now i [] first_of.0 first_of.1 tt f.time))
           (λ on.
-          let more = split_of (length f.after) count (λ k. false) 0 f.after (omega arith) after_are in
+          let more =
+          split_of (length f.after) count (λ k. false) 0 f.after (omega arith) after_are in
           let js = items_of effect i.last more.exchanges more.unfinished in
-          finish ⊥ (λ e. Unit {0}) None count total most now (f.exchange ∷ more.exchanges) more.unfinished more.end (f.after, here, whole, inr (on, more.read)) tt
-          (front (joined js)).0 (f.front.1 ∙ ap (λ (l : List ℕ). g.told mid ++ l) (front (joined js)).1) (λ held. absurd held) (λ s is. cc) (λ held. absurd held) (λ held. absurd held)
-          (data_heard now f.heard) (during now i js first_of.0 first_of.1 (items_chain effect i.last more.exchanges more.unfinished) f.time))
+          finish ⊥ (λ e. Unit {0}) None count total most now (f.exchange ∷ more.exchanges)
+          more.unfinished more.end (f.after, here, whole, inr (on, more.read)) tt
+          (front (joined js)).0
+          (f.front.1 ∙ ap (λ (l : List ℕ). g.told mid ++ l) (front (joined js)).1)
+          (λ held. absurd held) (λ s is. cc) (λ held. absurd held) (λ held. absurd held)
+          (data_heard now f.heard)
+          (during now i js first_of.0 first_of.1
+          (items_chain effect i.last more.exchanges more.unfinished) f.time))
           (cases_Bool (ends_session f.exchange.command))
 
-      pub failed_open : (count total most : ℕ) (now : D) → AreBytes bytes → FailsOpen effect IsIn g kept command before beyond mid now → Ran effect IsIn g ⊥ (λ e. Unit {0}) None count total most bytes beyond first told old now
+      pub failed_open : (count total most : ℕ) (now : D)
+          → AreBytes bytes
+          → FailsOpen effect IsIn g kept command before beyond mid now
+          → Ran effect IsIn g ⊥ (λ e. Unit {0}) None count total most bytes beyond first told old
+          now
       failed_open count total most now bytes_are f =
-          let before_are : AreBytes before = later_byte left (packet command) before is (later_byte bytes (flat_map spelled so_far.done) left so_far.is bytes_are) in
+          let before_are : AreBytes before =
+          later_byte left (packet command) before is
+          (later_byte bytes (flat_map spelled so_far.done) left so_far.is bytes_are) in
           let told_data = packet (data_text (asked_size (request_of command))) in
           ⊎_elim
           (λ came.
-          let exchange : Exchange = record { command = command; refused = false; parts = came.parts } in
+          let exchange : Exchange =
+          record { command = command; refused = false; parts = came.parts } in
           let starts = f.starts came.parts in
           let front = front_of f.front.0 told_data starts.more in
           failed_whole count total most now bytes_are (record {
@@ -343,7 +630,12 @@ module _ {S D : Type 0} (effect : S → Option (List ℕ) → Result Asked BadCo
             command_is = refl;
             all = came.all;
             is = came.is;
-            front = (front.0, f.front.1 ∙ ap (λ (l : List ℕ). g.told mid ++ l) (front.1 ∙ ap (take front.0) (sym starts.reply)));
+            front = (
+              front.0,
+              f.front.1
+                  ∙ ap (λ (l : List ℕ). g.told mid ++ l)
+                  (front.1 ∙ ap (take front.0) (sym starts.reply)),
+            );
             heard = f.heard;
             time = λ rest. f.time rest (item_of effect kept exchange) starts;
           }))
@@ -354,15 +646,38 @@ module _ {S D : Type 0} (effect : S → Option (List ℕ) → Result Asked BadCo
           let front = front_of f.front.0 told_data starts.more in
           let one : i.reply ≡ joined (i ∷ []) = sym (append-nil i.reply) in
           finish ⊥ (λ e. Unit {0}) None count total most now [] (Some command) broken.end
-          (unfinished_is count broken.end (record { parts = broken.parts; rest = broken.rest; still = broken.still; is = broken.is; some = broken.some; leaves = broken.leaves; breaks = broken.breaks })) tt
-          front.0 (f.front.1 ∙ ap (λ (l : List ℕ). g.told mid ++ l) (front.1 ∙ ap (take front.0) (sym starts.reply ∙ one))) (λ held. absurd held) (λ s is. cc) (λ held. absurd held) (λ held. absurd held)
-          (data_heard now f.heard) (during now i [] first_of.0 first_of.1 tt (λ rest. f.time rest i starts)))
-          (data_of (length before) count (due_of false command) before (omega arith) (due_fits false command) before_are)
+          (unfinished_is count broken.end
+          (record {
+            parts = broken.parts;
+            rest = broken.rest;
+            still = broken.still;
+            is = broken.is;
+            some = broken.some;
+            leaves = broken.leaves;
+            breaks = broken.breaks;
+          })) tt
+          front.0
+          (f.front.1
+          ∙ ap (λ (l : List ℕ). g.told mid ++ l)
+          (front.1 ∙ ap (take front.0) (sym starts.reply ∙ one))) (λ held. absurd held)
+          (λ s is. cc) (λ held. absurd held) (λ held. absurd held)
+          (data_heard now f.heard)
+          (during now i [] first_of.0 first_of.1 tt (λ rest. f.time rest i starts)))
+          (data_of (length before) count (due_of false command) before (omega arith)
+          (due_fits false command) before_are)
 
     -- the port failed while a command was heard
-    pub failed_nowhere : (count total most : ℕ) → AreBytes bytes → Ran effect IsIn g ⊥ (λ e. Unit {0}) None count total most bytes beyond first told old mid
+    pub failed_nowhere : (count total most : ℕ)
+        → AreBytes bytes
+        → Ran effect IsIn g ⊥ (λ e. Unit {0}) None count total most bytes beyond first told old
+        mid
     failed_nowhere count total most bytes_are =
-        let left_are : AreBytes left = later_byte bytes (flat_map spelled so_far.done) left so_far.is bytes_are in
+        let left_are : AreBytes left =
+        later_byte bytes (flat_map spelled so_far.done) left so_far.is bytes_are in
         let more = split_of (length left) count (λ k. false) 0 left (omega arith) left_are in
-        finish ⊥ (λ e. Unit {0}) None count total most mid more.exchanges more.unfinished more.end more.read tt 0 (sym (append-nil (g.told mid))) (λ held. absurd held) (λ s is. cc) (λ held. absurd held) (λ held. absurd held)
-        (hears_none (IsPrompt effect first so_far.done (bytes ++ beyond) told) (g.heard mid)) (λ rest. so_far.time rest (items_of effect kept more.exchanges more.unfinished) (items_chain effect kept more.exchanges more.unfinished))
+        finish ⊥ (λ e. Unit {0}) None count total most mid more.exchanges more.unfinished
+        more.end more.read tt 0 (sym (append-nil (g.told mid))) (λ held. absurd held)
+        (λ s is. cc) (λ held. absurd held) (λ held. absurd held)
+        (hears_none (IsPrompt effect first so_far.done (bytes ++ beyond) told) (g.heard mid))
+        (λ rest. so_far.time rest (items_of effect kept more.exchanges more.unfinished)
+        (items_chain effect kept more.exchanges more.unfinished))

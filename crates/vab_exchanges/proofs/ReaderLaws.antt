@@ -1,17 +1,17 @@
 -- What a reader hears for while it reads a packet, and the data of a download.
-use Rattle.std.proofs.Common.{◌≡◌, inl, ℕ, ◌+◌, ◌-◌, ◌<◌, ◌≤◌, List, [], ◌++◌, length, take, drop}
-use Rattle.std.proofs.Common.{sym, ◌∙◌, ap, subst, arith, append_assoc, length-append}
+use Rattle.std.proofs.Common.{◌≡◌, inl, ℕ, ◌+◌, ◌<◌, ◌≤◌, List, [], ◌++◌, length, take, drop, sym}
+use Rattle.std.proofs.Common.{◌∙◌, ap, subst, arith, append_assoc, length-append}
 use Rattle.std.specs.List.{flat_map}
 use Rattle.vab_disk.specs.declared.disk.Disk.{Ghosts}
 use Rattle.vab_fbtcp.specs.Frame.{IsIdle, body_place}
 use Rattle.vab_fbtcp.specs.declared.event.Place.{Place}
-use Rattle.vab_fbtcp.specs.declared.event.Place.TheVariants.{Length, Body}
-use Rattle.vab_exchanges.specs.Hearing.{Wants, Listens}
+use Rattle.vab_fbtcp.specs.declared.event.Place.TheVariants.{Length}
+use Rattle.vab_exchanges.specs.Hearing.{Listens}
 use Rattle.vab_exchanges.specs.Reading.{IsFewerThan}
 use Rattle.vab_exchanges.specs.Session.{packet, length_at, IsCutShort, IsAwaited}
 use Rattle.vab_exchanges.proofs.Events.{body_some}
-use Rattle.vab_exchanges.proofs.Listening.{listens_wider, listens_then, wants_behind, all_there}
-use Rattle.vab_exchanges.proofs.Listening.{all_behind, taken_off, short_behind, awaited_behind}
+use Rattle.vab_exchanges.proofs.Listening.{listens_wider, listens_then, wants_behind, all_behind}
+use Rattle.vab_exchanges.proofs.Listening.{taken_off, short_behind, awaited_behind}
 use Rattle.vab_exchanges.proofs.Stops.{HasSome}
 
 few_behind : (place : Place) (left count : ℕ) (front came : List ℕ)
@@ -65,7 +65,8 @@ module _ {D : Type 0} (g : Ghosts D) (a b c : D) where
       (IsIdle place) (IsFewerThan count)
       a b c x y
       (λ t wanted wants.
-      wants_behind front (rest' ++ beyond') (rest ++ beyond) (IsIdle place) (IsFewerThan count) wanted
+      wants_behind front (rest' ++ beyond') (rest ++ beyond) (IsIdle place) (IsFewerThan count)
+      wanted
       (all_behind front rest rest' beyond beyond' (behind t) (same t))
       (λ came idle. few_behind place left count front came is some long idle)
       wants)
@@ -93,7 +94,8 @@ module _ {D : Type 0} (g : Ghosts D) (a b c : D) where
       listens_then g (rest' ++ beyond') all (IsFewerThan n) (IsCutShort 4096) a b c first y
       (λ t wanted wants.
       wants_behind (take 8 rest) (rest' ++ beyond') all (IsFewerThan n) (IsCutShort 4096) wanted
-      (all_behind (take 8 rest) rest rest' beyond beyond' (taken_off 8 rest rest' (behind t)) (same t))
+      (all_behind (take 8 rest) rest rest' beyond beyond' (taken_off 8 rest rest' (behind t))
+      (same t))
       (λ came few. short_behind 4096 n rest came (eight t) (spelled t) fits few)
       wants)
 
@@ -133,7 +135,8 @@ module _ {D : Type 0} (g : Ghosts D) (a b c : D) where
       → Listens g (rest ++ beyond) (IsAwaited due) a b
       → Listens g (rest' ++ beyond') (IsFewerThan n) b c
       → Listens g (rest ++ beyond) (IsAwaited due) a c
-  listens_part due left n rest here rest' beyond beyond' bytes some fits so_far eight spelled behind same x y =
+  listens_part due left n rest here rest' beyond beyond' bytes some fits so_far eight spelled
+      behind same x y =
       listens_then g
       (rest' ++ beyond') (rest ++ beyond)
       (IsFewerThan n) (IsAwaited due)

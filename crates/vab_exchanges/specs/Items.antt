@@ -1,5 +1,6 @@
--- What the exchanges of a session make of a device, and what is told of each. What a command makes
--- of it is given by the device.
+-- What the exchanges of a session make of a device, and what is told of each. What a command
+-- makes of
+-- it is given by the device.
 use Rattle.std.specs.Prelude.{◌≡◌, ◌≢◌, ℕ, ◌≤◌, Bool, true, false, ◌&&◌, List, [], ◌∷◌, ◌++◌}
 use Rattle.std.specs.Prelude.{length, take, codes, nat_lt, if◌then◌else◌, Option, Some, None}
 use Rattle.std.specs.Prelude.{Result, Ok, Err}
@@ -12,8 +13,10 @@ use Rattle.vab_fbproto.specs.declared.request.BadCommand.{BadCommand}
 use Rattle.vab_exchanges.specs.Session.{packet, most_data, Exchange, End, IsSession}
 
 -- What a command makes of a device, if it has its memory: the text of the reply, the situations
--- after the one that it is in, whether it uses the staged bytes up, and whether it may be told that
--- there is no memory in place of all this.
+-- after
+-- the one that it is in, whether it uses the staged bytes up, and whether it may be told that
+-- there is
+-- no memory in place of all this.
 pub record Response (S : Type 0) : Type 0 where
   pub text : List ℕ
   pub later : List S
@@ -72,7 +75,8 @@ item_staged k size parts = record {
 }
 
 -- A download of so many bytes, whether memory is refused to it, and its data. One that is empty
--- wants no memory.
+-- wants
+-- no memory.
 abbrev pub item_download : {S : Type 0} → Kept S → ℕ → Bool → List (List ℕ) → Item S
 item_download k size refused parts =
     if nat_lt most_data size then item_still k (packet (codes "FAILtoo large"))
@@ -147,7 +151,8 @@ module _ {S : Type 0} (effect : S → Option (List ℕ) → Result Asked BadComm
         → (effect s staged asked).text ≢ codes "FAILout of memory"
 
   -- What is told fixes the choices, as far as they tell: where two sessions of an input tell the
-  -- same through the last reply of an item, they have the same items so far.
+  -- same
+  -- through the last reply of an item, they have the same items so far.
   abbrev pub TellsItsChoices : Type 0
   TellsItsChoices =
       (most : ℕ) (refused other : ℕ → Bool) (input : List ℕ)

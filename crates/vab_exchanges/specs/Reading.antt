@@ -1,6 +1,7 @@
 -- What a reader of a session has before it.
 use Rattle.std.specs.Prelude.{◌≡◌, ◌⊎◌, ℕ, ◌+◌, ◌-◌, ◌<◌, ◌≤◌, List, [], ◌++◌, length, take, drop}
-use Rattle.std.specs.Prelude.{min, slice_range, IsTrue, false, nat_le, if◌then◌else◌, ◌==◌}
+use Rattle.std.specs.Prelude.{min, slice_range, IsTrue, false, nat_le, if◌then◌else◌, ◌==◌, Result}
+use Rattle.std.specs.Prelude.{Ok, Err}
 use Rattle.std.specs.Int.{w64, to_be_bytes}
 use Rattle.std.specs.List.{flat_map}
 use Rattle.vab_fbtcp.specs.Hello.{is_hello}
@@ -103,6 +104,19 @@ FaultAt due place rest Source = Unit {0}
 FaultAt due place rest (Overrun d n) = ⊥
 FaultAt due place rest (Cut at) = ⊥
 FaultAt due place rest Spent = ⊥
+
+-- a fact, unless hearing failed
+abbrev pub IfNotSource : Type 0 → ReadFault → Type 0
+IfNotSource P Source = Unit {0}
+IfNotSource P BadHello = P
+IfNotSource P (TooLong n) = P
+IfNotSource P (Overrun due came) = P
+IfNotSource P (Cut at) = P
+IfNotSource P Spent = P
+
+abbrev pub UnlessSource : {A : Type 0} → Type 0 → Result A ReadFault → Type 0
+UnlessSource P (Ok x) = P
+UnlessSource P (Err fault) = IfNotSource P fault
 
 -- the fault where the input ends inside something
 abbrev pub cut_of : ℕ → ℕ → ReadFault

@@ -35,8 +35,9 @@ module _ {S : Type 0} (IsIn : S → Image → Type 0) where
   abbrev pub StandsForOne : List S → Image → Type 0
   StandsForOne steps image = (s : S) × IsOneOf steps s × IsIn s image
 
-  -- A front of the greeting and of what is told of the items is told, and the disk is in a step of
-  -- the first item that doesn't stand whole, after all the acknowledged ones.
+  -- A front of the greeting and of what is told of the items is told, and the disk is in a step
+  -- of the
+  -- first item that doesn't stand whole, after all the acknowledged ones.
   pub record CrashesWithin
       (greeting : List ℕ)
       (first : S)
@@ -50,8 +51,9 @@ module _ {S : Type 0} (IsIn : S → Image → Type 0) where
         (steps_at first items (acknowledged items (drop (length greeting) since)))
         o.image
 
-  -- Some front of what is told of an item is told, and the disk is in one of its steps. Where all
-  -- of it stands, it is in the last.
+  -- Some front of what is told of an item is told, and the disk is in one of its steps. Where
+  -- all of
+  -- it stands, it is in the last.
   pub record LeavesItem (told : List ℕ) (item : Item S) (o : Outcome) : Type 0 where
     pub front : (n : ℕ) × (o.told ≡ told ++ take n item.reply)
     pub step : StandsForOne item.steps o.image
@@ -59,7 +61,8 @@ module _ {S : Type 0} (IsIn : S → Image → Type 0) where
 
 module _ {S : Type 0} (effect : S → Option (List ℕ) → Result Asked BadCommand → Response S) where
   -- When the reader hears behind the hello, what had come by then is some of the exchanges, and
-  -- none whole behind them; and what was told by then is all that is told of them.
+  -- none
+  -- whole behind them; and what was told by then is all that is told of them.
   pub record IsPrompt
       (first : Kept S)
       (all : List Exchange)
@@ -75,8 +78,9 @@ module _ {S : Type 0} (effect : S → Option (List ℕ) → Result Asked BadComm
         → (end : End) × IsRead count came exchanges unfinished end × IsWaiting count end
     pub told_then : h.told ≡ told ++ output_of effect first exchanges unfinished
 
-  -- The same from the hello on: what had come by then is an input of its own that may go on, with
-  -- the first exchanges of the session, and what was told by then is what a session of it tells.
+  -- The same from the hello on: what had come by then is an input of its own that may go on,
+  -- with the
+  -- first exchanges of the session, and what was told by then is what a session of it tells.
   pub record IsTold
       (first : Kept S)
       (all : List Exchange)
@@ -97,10 +101,12 @@ module _ {S D : Type 0}
     (effect : S → Option (List ℕ) → Result Asked BadCommand → Response S)
     (IsIn : S → Image → Type 0)
     (g : Ghosts D) where
-  -- The exchanges that stand in these bytes were answered, as far as the port let it: what is said
-  -- of the end, what was told, in which situation it was left where that is known, what each cut of
-  -- power leaves, and that it hears only where all else is answered. The bytes behind them are not
-  -- the session's.
+  -- The exchanges that stand in these bytes were answered, as far as the port let it: what is
+  -- said of
+  -- the end, what was told, in which situation it was left where that is known, what each cut of
+  -- power
+  -- leaves, and that it hears only where all else is answered. The bytes behind them are not the
+  -- session's.
   pub record Ran
       (Held : Type 0)
       (Says : End → Type 0)

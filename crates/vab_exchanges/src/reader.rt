@@ -28,9 +28,9 @@ impl Reader {
     ghost use Rattle.vab_exchanges.specs.Hearing.{Listens};
     ghost use Rattle.vab_exchanges.specs.Reading.{stands_at, rest_of, beyond_of, all_of, room_of};
     ghost use Rattle.vab_exchanges.specs.Reading.{total_of, count_of, most_of, IsFed, Suits};
-    ghost use Rattle.vab_exchanges.specs.Reading.{IsNext};
-    ghost use Rattle.vab_exchanges.specs.Reading.{FaultAt, StopsBy, EndsAs, cut_of, IsShort};
-    ghost use Rattle.vab_exchanges.specs.Reading.{HasData, IsBroken, IsSpent, IsFewerThan};
+    ghost use Rattle.vab_exchanges.specs.Reading.{IsNext, FaultAt, StopsBy, EndsAs, cut_of};
+    ghost use Rattle.vab_exchanges.specs.Reading.{UnlessSource};
+    ghost use Rattle.vab_exchanges.specs.Reading.{IsShort, HasData, IsBroken, IsSpent, IsFewerThan};
     ghost use Rattle.vab_exchanges.specs.Session.{packet as spelling, Stops, HasNoHello};
     ghost use Rattle.vab_exchanges.specs.Session.{IsCutShort, IsAwaited};
     ghost use Rattle.vab_exchanges.specs.Session as session;
@@ -77,7 +77,7 @@ impl Reader {
             (λ some. OnFalse some (IsSpent self.new (P.input_left p.new))) }
         ensures most { most_of self.new ≡ most_of self.old }
         ensures fault { OnErr result (result ≡ Err ReadFault.Source) }
-        ensures steady { OnOk result (P.faults p.new ≡ P.faults p.old) }
+        ensures steady { UnlessSource (P.faults p.new ≡ P.faults p.old) result }
         ensures cause { OnErr result (Rose (P.faults p.old).source (P.faults p.new).source) }
     {
         let room = self.budget.room();
@@ -128,7 +128,7 @@ impl Reader {
         ensures most { most_of self.new ≡ most_of self.old }
         ensures fault { P.is_modelled → IfErr result
             (FaultAt due (stands_at self.old) (rest_of self.old (P.input_left p.old))) }
-        ensures steady { OnOk result (P.faults p.new ≡ P.faults p.old) }
+        ensures steady { UnlessSource (P.faults p.new ≡ P.faults p.old) result }
         ensures cause { IsErrOf result ReadFault.Source
             → Rose (P.faults p.old).source (P.faults p.new).source }
     {
@@ -177,7 +177,7 @@ impl Reader {
             (HasNoHello (count_of self.old (P.input_left p.old))
             (rest_of self.old (P.input_left p.old)))
             (total_of self.old (P.input_left p.old)) (most_of self.old)) }
-        ensures steady { OnOk result (P.faults p.new ≡ P.faults p.old) }
+        ensures steady { UnlessSource (P.faults p.new ≡ P.faults p.old) result }
         ensures cause { IsErrOf result ReadFault.Source
             → Rose (P.faults p.old).source (P.faults p.new).source }
     {
@@ -218,7 +218,7 @@ impl Reader {
             (IsShort (count_of self.old (P.input_left p.old)) count
             (rest_of self.old (P.input_left p.old)))
             (total_of self.old (P.input_left p.old)) (most_of self.old)) }
-        ensures steady { OnOk result (P.faults p.new ≡ P.faults p.old) }
+        ensures steady { UnlessSource (P.faults p.new ≡ P.faults p.old) result }
         ensures cause { IsErrOf result ReadFault.Source
             → Rose (P.faults p.old).source (P.faults p.new).source }
     {
@@ -266,7 +266,7 @@ impl Reader {
         ensures fault { P.is_modelled → IfErr result (StopsBy
             (Stops (count_of self.old (P.input_left p.old)) (rest_of self.old (P.input_left p.old)))
             (total_of self.old (P.input_left p.old)) (most_of self.old)) }
-        ensures steady { OnOk result (P.faults p.new ≡ P.faults p.old) }
+        ensures steady { UnlessSource (P.faults p.new ≡ P.faults p.old) result }
         ensures cause { IsErrOf result ReadFault.Source
             → Rose (P.faults p.old).source (P.faults p.new).source }
     {
@@ -319,7 +319,7 @@ impl Reader {
             (IsShort (count_of self.old (P.input_left p.old)) count
             (rest_of self.old (P.input_left p.old)))
             (total_of self.old (P.input_left p.old)) (most_of self.old)) }
-        ensures steady { OnOk result (P.faults p.new ≡ P.faults p.old) }
+        ensures steady { UnlessSource (P.faults p.new ≡ P.faults p.old) result }
         ensures cause { IsErrOf result ReadFault.Source
             → Rose (P.faults p.old).source (P.faults p.new).source }
     {
@@ -369,7 +369,7 @@ impl Reader {
             (IsBroken (count_of self.old (P.input_left p.old)) due
             (rest_of self.old (P.input_left p.old)))
             (total_of self.old (P.input_left p.old)) (most_of self.old)) }
-        ensures steady { OnOk result (P.faults p.new ≡ P.faults p.old) }
+        ensures steady { UnlessSource (P.faults p.new ≡ P.faults p.old) result }
         ensures cause { IsErrOf result ReadFault.Source
             → Rose (P.faults p.old).source (P.faults p.new).source }
     {

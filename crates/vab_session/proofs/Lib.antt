@@ -1,8 +1,3 @@
-pub mod AnswerLaws
-mod Events
-mod Hearings
-pub mod ItemLaws
-mod Packets
-mod Progress
-mod Sessions
-mod Telling
+mod Data
+mod Endings
+mod Plain

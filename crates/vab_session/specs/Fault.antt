@@ -1,25 +1,14 @@
--- The faults of a session, by those of the layers below.
-use Rattle.vab_disk.specs.declared.disk.PortFault.{PortFault}
-use Rattle.vab_disk.specs.declared.disk.PortFault.TheVariants as port
-use Rattle.vab_fbtcp.specs.declared.event.FrameFault.{FrameFault}
-use Rattle.vab_fbtcp.specs.declared.event.FrameFault.TheVariants as frame
+-- The faults of a session, by those of its reader.
+use Rattle.vab_exchanges.specs.declared.fault.ReadFault.{ReadFault}
+use Rattle.vab_exchanges.specs.declared.fault.ReadFault.TheVariants as reads
 use Rattle.vab_session.specs.declared.fault.SessionFault.{SessionFault}
-use Rattle.vab_session.specs.declared.fault.SessionFault.TheVariants.{BadHello, TooLong, Cut, Spent, Disk, Source, Sink}
+use Rattle.vab_session.specs.declared.fault.SessionFault.TheVariants.{BadHello, TooLong, Overrun}
+use Rattle.vab_session.specs.declared.fault.SessionFault.TheVariants.{Cut, Spent, Source}
 
-abbrev pub fault_of_frame : FrameFault → SessionFault
-fault_of_frame frame.BadHello = BadHello
-fault_of_frame (frame.TooLong length) = TooLong length
-
-abbrev pub fault_of_port : PortFault → SessionFault
-fault_of_port port.Source = Source
-fault_of_port port.Sink = Sink
-
--- the disk or the sink failed
-abbrev pub IsPortFault : SessionFault → Type 0
-IsPortFault Disk = Unit {0}
-IsPortFault Sink = Unit {0}
-IsPortFault BadHello = ⊥
-IsPortFault (TooLong n) = ⊥
-IsPortFault (Cut at) = ⊥
-IsPortFault Spent = ⊥
-IsPortFault Source = ⊥
+abbrev pub fault_of_read : ReadFault → SessionFault
+fault_of_read reads.BadHello = BadHello
+fault_of_read (reads.TooLong length) = TooLong length
+fault_of_read (reads.Overrun due came) = Overrun due came
+fault_of_read (reads.Cut at) = Cut at
+fault_of_read reads.Spent = Spent
+fault_of_read reads.Source = Source

@@ -1,8 +1,3 @@
-pub mod Answers
 pub mod Fault
-pub mod Hearing
-pub mod Items
-pub mod Reading
+pub mod Responses
 pub mod Served
-pub mod Session
-pub mod MountedLaws

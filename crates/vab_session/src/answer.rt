@@ -1,93 +1,83 @@
-// One packet: what it changes, and then its reply.
-ghost use Rattle.std.specs.Prelude.{◌≡◌, ◌≤◌, ◌++◌, ℕ, length, take, OnOk, OnErr, IfOk, IfErr, IsErrOf, Err};
-ghost use Rattle.vab_disk.specs.Disk.{IsSettled, Adds, SameHoldings, NoFewer, Rose};
-ghost use Rattle.vab_disk.specs.Port.{LeavesSaying};
-ghost use Rattle.vab_recover.specs.Stands.{Represents, IsDevice};
-ghost use Rattle.vab_fbproto.specs.Commands.{named_of, reply_named};
-ghost use Rattle.vab_fbproto.specs.Texts.{reply_text as text_of};
-ghost use Rattle.vab_session.specs.Session.{packet as spelling, ends_session};
-ghost use Rattle.vab_session.specs.Items.{Mounted, IsIn, DoesItem};
-ghost use Rattle.vab_session.specs.Answers.{item_named, item_still, item_of};
-ghost use Rattle.vab_session.specs.Fault.{IsPortFault};
+//! One exchange: what it changes, and then its reply.
+ghost use Rattle.std.specs.Prelude.{◌≡◌, ◌≤◌, ℕ, List, length, OnOk, IfOk, IfErr, Ok, MatchOption};
+ghost use Rattle.std.specs.Prelude.{Result};
+ghost use Rattle.vab_fbtcp.specs.declared.event.Place.TheVariants.{Length};
+ghost use Rattle.vab_device.specs.Kept.{IsDevice};
+ghost use Rattle.vab_device.specs.Reading.{Represents};
+ghost use Rattle.vab_fbproto.specs.Requests.{Asked, Do, Download, request_of};
+ghost use Rattle.vab_fbproto.specs.declared.request.BadCommand.{BadCommand};
+ghost use Rattle.vab_model.specs.Commands.{command_of};
+ghost use Rattle.vab_exchanges.specs.Session.{ends_session};
+ghost use Rattle.vab_exchanges.specs.Reading.{stands_at, rest_of, beyond_of, room_of, total_of};
+ghost use Rattle.vab_exchanges.specs.Reading.{count_of, most_of, IsFed};
+ghost use Rattle.vab_exchanges.specs.Items.{AsksNoData};
+ghost use Rattle.vab_session.specs.Responses.{response, still};
+ghost use Rattle.vab_session.specs.Served.{kept_on, AnswersOrFails, HasCause};
 
-use crate::{SessionFault, say_all};
+use crate::tell::{data_text, tell_reply};
+use crate::{KeptDevice, SessionFault};
 use arrayvec::ArrayVec;
+use std::alloc::Global;
 use vab_disk::{Disk, Port};
+use vab_exchanges::Reader;
 use vab_fbproto::{Request, bad_text, read_command, reply_text, variable_text};
 use vab_manager::run_one;
 use vab_model::Command;
-use vab_recover::Device;
 
-// The most bytes of a reply, with its length.
-const MAX_REPLY: usize = 264;
+/// The most bytes of a download.
+pub const MAX_DATA: u32 = 0x10000000;
 
-// A reply as a packet.
-fn reply_packet(text: &[u8]) -> ArrayVec<u8, MAX_REPLY>
-    requires { length text.now ≤ 256 }
-    ensures { result.items ≡ spelling text.now }
-{
-    let mut packet = ArrayVec::new();
-    let _ = packet.try_extend_from_slice(&(text.len() as u64).to_be_bytes());
-    let _ = packet.try_extend_from_slice(text);
-    packet
-}
-
-// Tells a reply of at most 256 bytes, as a packet.
-fn tell_reply<P: Port>(p: &mut P, text: &[u8]) -> Result<(), SessionFault>
-    requires { length text.now ≤ 256 }
+// Tells a reply where nothing changes. It hears nothing.
+fn tell_still<P: Port>(p: &mut P, kept: KeptDevice, text: &[u8]) -> Result<KeptDevice, SessionFault>
+    requires short { length text.now ≤ 64 }
+    requires device { IsDevice kept.device (P.size p.old) }
+    requires stands { P.is_modelled → Represents kept.device (P.size p.old) (P.seen p.old) }
     ensures size { P.size p.new ≡ P.size p.old }
-    ensures seen { P.is_modelled → P.seen p.new ≡ P.seen p.old }
-    ensures crash { P.is_modelled → SameHoldings (P.may_leave p.old) (P.may_leave p.new) }
     ensures left { P.is_modelled → P.input_left p.new ≡ P.input_left p.old }
-    ensures told { P.is_modelled → OnOk result (P.told p.new ≡ P.told p.old ++ spelling text.now) }
-    ensures front { P.is_modelled → (n : ℕ) × (P.told p.new ≡ P.told p.old ++ take n (spelling text.now)) }
-    ensures time { P.is_modelled → Adds P.moment P.outcomes p.old p.new (LeavesSaying (P.told p.old) (spelling text.now) (P.may_leave p.old)) }
-    ensures counts { NoFewer (P.faults p.old) (P.faults p.new) }
-    ensures fault { OnErr result (result ≡ Err SessionFault.Sink) }
-    ensures cause { OnErr result (Rose (P.faults p.old).sink (P.faults p.new).sink) }
+    ensures device { IfOk result (λ k. IsDevice k.device (P.size p.old)) }
+    ensures stands { P.is_modelled
+        → IfOk result (λ k. Represents k.device (P.size p.old) (P.seen p.new)) }
+    ensures does { P.is_modelled
+        → (command before beyond : List ℕ) (count total most : ℕ)
+        → (asked : Result Asked BadCommand)
+        → request_of command ≡ asked
+        → AsksNoData asked
+        → (let k = kept_on kept (P.seen p.old) in response k.now k.staged asked ≡ still text.now)
+        → AnswersOrFails (P.size p.old) P.Disk (kept_on kept (P.seen p.old))
+        command before before beyond count total most p.old p.new result }
+    ensures cause { HasCause P.Disk p.old p.new result }
 {
-    match say_all(p, reply_packet(text).as_slice()) {
-        Ok(()) => Ok(()),
+    match tell_reply(p, text) {
+        Ok(()) => Ok(kept),
         Err(_) => Err(SessionFault::Sink),
     }
 }
 
-// Tells a reply where nothing changes.
-fn tell_still<P: Port>(p: &mut P, device: Device, text: &[u8]) -> Result<Device, SessionFault>
-    requires short { length text.now ≤ 256 }
-    requires kept { IsDevice device (P.size p.old) }
-    requires stands { P.is_modelled → Represents device (P.size p.old) (P.seen p.old) }
+// Carries out a command, and then tells its reply. It hears nothing.
+fn carry_out<P: Port>(
+    p: &mut P,
+    kept: KeptDevice,
+    command: &Command,
+) -> Result<KeptDevice, SessionFault>
+    requires device { IsDevice kept.device (P.size p.old) }
+    requires stands { P.is_modelled → Represents kept.device (P.size p.old) (P.seen p.old) }
     ensures size { P.size p.new ≡ P.size p.old }
     ensures left { P.is_modelled → P.input_left p.new ≡ P.input_left p.old }
-    ensures kept { IfOk result (λ d. IsDevice d (P.size p.old)) }
-    ensures stands { P.is_modelled → IfOk result (λ d. Represents d (P.size p.old) (P.seen p.new)) }
-    ensures does { P.is_modelled → (s : Mounted) → IsIn (P.size p.old) s (P.seen p.old) → DoesItem P.seen P.may_leave P.told P.moment P.outcomes (P.size p.old) (item_still s (spelling text.now)) p.old p.new result }
-    ensures counts { NoFewer (P.faults p.old) (P.faults p.new) }
-    ensures disk { IsErrOf result SessionFault.Disk → Rose (P.faults p.old).disk (P.faults p.new).disk }
-    ensures sink { IsErrOf result SessionFault.Sink → Rose (P.faults p.old).sink (P.faults p.new).sink }
-    ensures fault { IfErr result IsPortFault }
+    ensures device { IfOk result (λ k. IsDevice k.device (P.size p.old)) }
+    ensures stands { P.is_modelled
+        → IfOk result (λ k. Represents k.device (P.size p.old) (P.seen p.new)) }
+    ensures does { P.is_modelled
+        → (packet before beyond : List ℕ) (count total most : ℕ)
+        → (asked : Result Asked BadCommand)
+        → request_of packet ≡ asked
+        → AsksNoData asked
+        → (let k = kept_on kept (P.seen p.old) in
+        response k.now k.staged asked ≡ response k.now k.staged (Ok (Do (command_of command.now))))
+        → AnswersOrFails (P.size p.old) P.Disk (kept_on kept (P.seen p.old))
+        packet before before beyond count total most p.old p.new result }
+    ensures cause { HasCause P.Disk p.old p.new result }
 {
-    match tell_reply(p, text) {
-        Ok(()) => Ok(device),
-        Err(fault) => Err(fault),
-    }
-}
-
-// Carries out a command, and then tells its reply.
-fn carry_out<P: Port>(p: &mut P, device: Device, command: &Command) -> Result<Device, SessionFault>
-    requires kept { IsDevice device (P.size p.old) }
-    requires stands { P.is_modelled → Represents device (P.size p.old) (P.seen p.old) }
-    ensures size { P.size p.new ≡ P.size p.old }
-    ensures left { P.is_modelled → P.input_left p.new ≡ P.input_left p.old }
-    ensures kept { IfOk result (λ d. IsDevice d (P.size p.old)) }
-    ensures stands { P.is_modelled → IfOk result (λ d. Represents d (P.size p.old) (P.seen p.new)) }
-    ensures does { P.is_modelled → (s : Mounted) → IsIn (P.size p.old) s (P.seen p.old)
-        → DoesItem P.seen P.may_leave P.told P.moment P.outcomes (P.size p.old) (item_named s (named_of command.now) (spelling (text_of (reply_named s.state (named_of command.now))))) p.old p.new result }
-    ensures counts { NoFewer (P.faults p.old) (P.faults p.new) }
-    ensures disk { IsErrOf result SessionFault.Disk → Rose (P.faults p.old).disk (P.faults p.new).disk }
-    ensures sink { IsErrOf result SessionFault.Sink → Rose (P.faults p.old).sink (P.faults p.new).sink }
-    ensures fault { IfErr result IsPortFault }
-{
+    let KeptDevice { device, staged } = kept;
     let (device, reply) = match run_one(p, device, command) {
         Ok(done) => done,
         Err(_) => return Err(SessionFault::Disk),
@@ -95,47 +85,176 @@ fn carry_out<P: Port>(p: &mut P, device: Device, command: &Command) -> Result<De
     let mut text = ArrayVec::new();
     reply_text(&reply, &mut text);
     match tell_reply(p, text.as_slice()) {
-        Ok(()) => Ok(device),
-        Err(fault) => Err(fault),
+        Ok(()) => Ok(KeptDevice { device, staged }),
+        Err(_) => Err(SessionFault::Sink),
     }
 }
 
-/// What a packet asks for: whether the session ends behind it.
-#[tactic(auto, unfolding(crate::specs::Session::ends_session))]
+// Answers a packet that isn't a download. It hears nothing.
+fn command<P: Port>(p: &mut P, kept: KeptDevice, packet: &[u8]) -> Result<KeptDevice, SessionFault>
+    requires plain { AsksNoData (request_of packet.now) }
+    requires device { IsDevice kept.device (P.size p.old) }
+    requires stands { P.is_modelled → Represents kept.device (P.size p.old) (P.seen p.old) }
+    ensures size { P.size p.new ≡ P.size p.old }
+    ensures left { P.is_modelled → P.input_left p.new ≡ P.input_left p.old }
+    ensures device { IfOk result (λ k. IsDevice k.device (P.size p.old)) }
+    ensures stands { P.is_modelled
+        → IfOk result (λ k. Represents k.device (P.size p.old) (P.seen p.new)) }
+    ensures does { P.is_modelled
+        → (before beyond : List ℕ) (count total most : ℕ)
+        → AnswersOrFails (P.size p.old) P.Disk (kept_on kept (P.seen p.old))
+        packet.now before before beyond count total most p.old p.new result }
+    ensures cause { HasCause P.Disk p.old p.new result }
+{
+    match read_command(packet) {
+        Ok(Request::Download(_)) => unreachable!(),
+        Ok(Request::Getvar(variable)) => {
+            let text = variable_text(kept.device.current(), variable);
+            tell_still(p, kept, text)
+        }
+        Ok(Request::Do(command)) => carry_out(p, kept, &command),
+        Ok(Request::BootAndEnd) => carry_out(p, kept, &Command::Boot),
+        Err(bad) => tell_still(p, kept, bad_text(bad)),
+    }
+}
+
+// Answers a download: its data are staged in place of the earlier ones once their `OKAY` is told.
+fn download<P: Port>(
+    alloc: Global,
+    p: &mut P,
+    reader: &mut Reader,
+    kept: KeptDevice,
+    size: u32,
+) -> Result<KeptDevice, SessionFault>
+    requires place { stands_at reader.old ≡ Length }
+    requires fed { IsFed reader.old }
+    requires device { IsDevice kept.device (P.size p.old) }
+    requires stands { P.is_modelled → Represents kept.device (P.size p.old) (P.seen p.old) }
+    ensures size { P.size p.new ≡ P.size p.old }
+    ensures place { OnOk result (stands_at reader.new ≡ Length) }
+    ensures fed { OnOk result (IsFed reader.new) }
+    ensures room { OnOk result (room_of reader.new ≤ room_of reader.old) }
+    ensures count { P.is_modelled → OnOk result
+        (total_of reader.new (P.input_left p.new) ≡ total_of reader.old (P.input_left p.old)) }
+    ensures beyond { P.is_modelled → OnOk result
+        (beyond_of reader.new (P.input_left p.new) ≡ beyond_of reader.old (P.input_left p.old)) }
+    ensures most { most_of reader.new ≡ most_of reader.old }
+    ensures device { IfOk result (λ k. IsDevice k.device (P.size p.old)) }
+    ensures stands { P.is_modelled
+        → IfOk result (λ k. Represents k.device (P.size p.old) (P.seen p.new)) }
+    ensures does { P.is_modelled
+        → (command : List ℕ)
+        → request_of command ≡ Ok (Download size)
+        → AnswersOrFails (P.size p.old) P.Disk (kept_on kept (P.seen p.old))
+        command
+        (rest_of reader.old (P.input_left p.old))
+        (rest_of reader.new (P.input_left p.new))
+        (beyond_of reader.old (P.input_left p.old))
+        (count_of reader.old (P.input_left p.old))
+        (total_of reader.old (P.input_left p.old))
+        (most_of reader.old) p.old p.new result }
+    ensures cause { HasCause P.Disk p.old p.new result }
+{
+    if size > MAX_DATA {
+        match tell_reply(p, b"FAILtoo large") {
+            Ok(()) => return Ok(kept),
+            Err(_) => return Err(SessionFault::Sink),
+        }
+    }
+    let mut bytes = match Vec::with_capacity(alloc, size as usize) {
+        Ok(bytes) => bytes,
+        Err(_) => match tell_reply(p, b"FAILout of memory") {
+            Ok(()) => return Ok(kept),
+            Err(_) => return Err(SessionFault::Sink),
+        },
+    };
+    match tell_reply(p, data_text(size).as_slice()) {
+        Ok(()) => {}
+        Err(_) => return Err(SessionFault::Sink),
+    }
+    match reader.data(p, &mut bytes, size as u64) {
+        Ok(()) => {}
+        Err(fault) => return Err(SessionFault::from(fault)),
+    }
+    match tell_reply(p, b"OKAY") {
+        Ok(()) => {}
+        Err(_) => return Err(SessionFault::Sink),
+    }
+    let KeptDevice { device, staged: _ } = kept;
+    Ok(KeptDevice {
+        device,
+        staged: Some(bytes),
+    })
+}
+
+// How many bytes a packet announces, where it is a download.
+fn announced(packet: &[u8]) -> Option<u32>
+    ensures { MatchOption result
+        (AsksNoData (request_of packet.now))
+        (λ size. request_of packet.now ≡ Ok (Download size)) }
+{
+    match read_command(packet) {
+        Ok(Request::Download(size)) => Some(size),
+        Ok(Request::Getvar(_)) => None,
+        Ok(Request::Do(_)) => None,
+        Ok(Request::BootAndEnd) => None,
+        Err(_) => None,
+    }
+}
+
+/// Whether the session ends behind a packet.
+#[tactic(auto, unfolding(vab_exchanges::specs::Session::ends_session))]
 pub(crate) fn is_last(packet: &[u8]) -> bool
     ensures { result ≡ ends_session packet.now }
 {
     matches!(read_command(packet), Ok(Request::BootAndEnd))
 }
 
-/// Answers a packet. Where the device that is kept is that of the disk and nothing is pending, in each outcome since
-/// some front of the reply is told and the disk is in one of the item's steps, and where the whole reply is told,
-/// in the last of them.
-#[tactic(auto, unfolding(crate::specs::Answers::item_of))]
+/// Answers a packet, with the data that it brings. Where the device that is kept is that of the
+/// disk and nothing is pending, in each outcome since some front of the reply is told and the disk
+/// is in one of the item's steps, and where the whole reply is told, in the last of them.
 pub(crate) fn answer<P: Port>(
+    alloc: Global,
     p: &mut P,
-    device: Device,
+    reader: &mut Reader,
+    kept: KeptDevice,
     packet: &[u8],
-) -> Result<Device, SessionFault>
-    requires kept { IsDevice device (P.size p.old) }
-    requires stands { P.is_modelled → Represents device (P.size p.old) (P.seen p.old) }
+) -> Result<KeptDevice, SessionFault>
+    requires place { stands_at reader.old ≡ Length }
+    requires fed { IsFed reader.old }
+    requires device { IsDevice kept.device (P.size p.old) }
+    requires stands { P.is_modelled → Represents kept.device (P.size p.old) (P.seen p.old) }
     ensures size { P.size p.new ≡ P.size p.old }
-    ensures left { P.is_modelled → P.input_left p.new ≡ P.input_left p.old }
-    ensures kept { IfOk result (λ d. IsDevice d (P.size p.old)) }
-    ensures stands { P.is_modelled → IfOk result (λ d. Represents d (P.size p.old) (P.seen p.new)) }
-    ensures does { P.is_modelled → (s : Mounted) → IsIn (P.size p.old) s (P.seen p.old) → DoesItem P.seen P.may_leave P.told P.moment P.outcomes (P.size p.old) (item_of s packet.now) p.old p.new result }
-    ensures counts { NoFewer (P.faults p.old) (P.faults p.new) }
-    ensures disk { IsErrOf result SessionFault.Disk → Rose (P.faults p.old).disk (P.faults p.new).disk }
-    ensures sink { IsErrOf result SessionFault.Sink → Rose (P.faults p.old).sink (P.faults p.new).sink }
-    ensures fault { IfErr result IsPortFault }
+    ensures place { OnOk result (stands_at reader.new ≡ Length) }
+    ensures fed { OnOk result (IsFed reader.new) }
+    ensures room { OnOk result (room_of reader.new ≤ room_of reader.old) }
+    ensures count { P.is_modelled → OnOk result
+        (total_of reader.new (P.input_left p.new) ≡ total_of reader.old (P.input_left p.old)) }
+    ensures beyond { P.is_modelled → OnOk result
+        (beyond_of reader.new (P.input_left p.new) ≡ beyond_of reader.old (P.input_left p.old)) }
+    ensures most { most_of reader.new ≡ most_of reader.old }
+    ensures device { IfOk result (λ k. IsDevice k.device (P.size p.old)) }
+    ensures stands { P.is_modelled
+        → IfOk result (λ k. Represents k.device (P.size p.old) (P.seen p.new)) }
+    ensures does { P.is_modelled
+        → AnswersOrFails (P.size p.old) P.Disk (kept_on kept (P.seen p.old))
+        packet.now
+        (rest_of reader.old (P.input_left p.old))
+        (rest_of reader.new (P.input_left p.new))
+        (beyond_of reader.old (P.input_left p.old))
+        (count_of reader.old (P.input_left p.old))
+        (total_of reader.old (P.input_left p.old))
+        (most_of reader.old) p.old p.new result }
+    ensures cause { HasCause P.Disk p.old p.new result }
 {
-    match read_command(packet) {
-        Ok(Request::Getvar(variable)) => {
-            let text = variable_text(device.current(), variable);
-            tell_still(p, device, text)
-        }
-        Ok(Request::Do(command)) => carry_out(p, device, &command),
-        Ok(Request::BootAndEnd) => carry_out(p, device, &Command::Boot),
-        Err(bad) => tell_still(p, device, bad_text(bad)),
+    match announced(packet) {
+        Some(size) => match download(alloc, p, reader, kept, size) {
+            Ok(kept) => Ok(kept),
+            Err(fault) => Err(fault),
+        },
+        None => match command(p, kept, packet) {
+            Ok(kept) => Ok(kept),
+            Err(fault) => Err(fault),
+        },
     }
 }

@@ -1,9 +1,8 @@
-// How a session ends.
+//! How a session ends.
+
 ghost use Rattle.std.specs.Prelude.{◌≡◌};
 
-use vab_disk::PortFault;
-use vab_fbtcp::FrameFault;
-use vab_gate::DiskFault;
+use vab_exchanges::ReadFault;
 
 /// How a session ends that isn't malformed.
 #[derive(Clone, Copy, Debug, PartialEq, Eq)]
@@ -21,7 +20,10 @@ pub enum SessionFault {
     BadHello,
     /// A command packet of this length is longer than 4096 bytes.
     TooLong(u64),
-    /// The input ended inside the hello, a length or a packet, after so many bytes.
+    /// Of so many bytes that were due, a data packet of so many came.
+    Overrun(u64, u64),
+    /// The input ended inside the hello, a length, a packet or the data of a download, after so
+    /// many bytes.
     Cut(u64),
     /// As many bytes were taken as a session may have, and it would hear again.
     Spent,
@@ -33,38 +35,19 @@ pub enum SessionFault {
     Sink,
 }
 
-impl From<FrameFault> for SessionFault {
-    ghost use Rattle.vab_session.specs.Fault.{fault_of_frame};
+impl From<ReadFault> for SessionFault {
+    ghost use Rattle.vab_session.specs.Fault.{fault_of_read};
 
-    ghost from_gives = { λ fault e. e ≡ fault_of_frame fault };
+    ghost from_gives = { λ fault e. e ≡ fault_of_read fault };
 
-    fn from(fault: FrameFault) -> Self {
+    fn from(fault: ReadFault) -> Self {
         match fault {
-            FrameFault::BadHello => SessionFault::BadHello,
-            FrameFault::TooLong(length) => SessionFault::TooLong(length),
-        }
-    }
-}
-
-impl From<DiskFault> for SessionFault {
-    ghost use Rattle.vab_session.specs.declared.fault.SessionFault.TheVariants.{Disk};
-
-    ghost from_gives = { λ _ e. e ≡ Disk };
-
-    fn from(_: DiskFault) -> Self {
-        SessionFault::Disk
-    }
-}
-
-impl From<PortFault> for SessionFault {
-    ghost use Rattle.vab_session.specs.Fault.{fault_of_port};
-
-    ghost from_gives = { λ fault e. e ≡ fault_of_port fault };
-
-    fn from(fault: PortFault) -> Self {
-        match fault {
-            PortFault::Source => SessionFault::Source,
-            PortFault::Sink => SessionFault::Sink,
+            ReadFault::BadHello => SessionFault::BadHello,
+            ReadFault::TooLong(length) => SessionFault::TooLong(length),
+            ReadFault::Overrun(due, came) => SessionFault::Overrun(due, came),
+            ReadFault::Cut(at) => SessionFault::Cut(at),
+            ReadFault::Spent => SessionFault::Spent,
+            ReadFault::Source => SessionFault::Source,
         }
     }
 }

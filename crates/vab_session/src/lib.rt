@@ -1,13 +1,16 @@
-//! A fastboot session over a port: the hello, then command packets, each with its reply.
+//! A fastboot session over a device: the hello, then exchange after exchange, each with its
+//! replies.
 #![tactic(auto)]
 
 mod answer;
-mod budget;
 mod fault;
-mod reader;
+mod kept;
+mod law;
 mod session;
 mod tell;
 
+pub use answer::MAX_DATA;
 pub use fault::{Ended, SessionFault};
-pub use session::{MAX_SESSION, each_device_is_somewhere, one_session, serve, serve_up_to};
-pub use tell::say_all;
+pub use kept::KeptDevice;
+pub use law::told_choices;
+pub use session::{MAX_SESSION, serve, serve_up_to};

@@ -1,59 +1,70 @@
-use Rattle.vab_session.proofs.answer.carry_out.Goals as goal
-use Rattle.std.proofs.Common.{◌≡◌, List, ℕ, ◌++◌, take, ◌∙◌, ap, subst}
-use Rattle.vab_disk.specs.Disk.{Adds}
-use Rattle.vab_disk.specs.Port.{LeavesSaying}
-use Rattle.vab_model.specs.declared.state.State.{State}
-use Rattle.vab_model.specs.declared.command.Command.{Command}
-use Rattle.vab_model.specs.Step.{reply_to}
-use Rattle.vab_model.specs.declared.command.Reply.{Reply}
-use Rattle.vab_fbproto.specs.Commands.{named_of, reply_named}
+use Rattle.std.proofs.Common.{◌≡◌, inl, List, ℕ, sym, ◌∙◌, ap, subst}
+use Rattle.vab_model.specs.Commands.{command_of}
+use Rattle.vab_model.specs.Effects.{after_of}
+use Rattle.vab_device.specs.Mounted.{Mounted, mounted_on, effect_on}
+use Rattle.vab_device.specs.Reading.{IsIn}
+use Rattle.vab_device.proofs.ReadingLaws.{device_stands}
 use Rattle.vab_fbproto.specs.Texts.{reply_text}
-use Rattle.vab_recover.specs.Stands.{state_on}
-use Rattle.vab_session.specs.Session.{packet}
-use Rattle.vab_session.proofs.ItemLaws.{packet_some}
-use Rattle.vab_session.proofs.AnswerLaws.{state_here, reply_same, failed, does_command}
+use Rattle.vab_exchanges.specs.Items.{Kept}
+use Rattle.vab_session.specs.Served.{kept_on}
+use Rattle.vab_session.proofs.Data.{command_before, command_done, command_told}
+use Rattle.vab_session.proofs.answer.carry_out.Goals as goal
 
 pub returns-in-Err-clause-does : goal.returns-in-Err-clause-does
-returns-in-Err-clause-does g c = λ t s stands.
-    let state = state_on c.args.device (g.P.Disk.seen c.args.p.now) in
-    let reply = packet (reply_text (reply_named s.state (named_of c.args.command.now))) in
-    failed g.P.Disk.seen g.P.Disk.may_leave g.P.Disk.told g.P.Disk.moment g.P.Disk.outcomes _ s state c.args.command.now reply (packet_some _) c.args.p.now c.run_one.new.d stands
-    (state_here _ s state _ (let here = c.requires.stands t in here.state) stands) (c.run_one.ensures.time t) _ (c.run_one.ensures.quiet.told t)
-
--- what is told is the text of the reply that the model gives
-told_text : (state s : State) (command : Command) (reply : Reply) (out text : List ℕ) → state ≡ s → reply ≡ reply_to state command → out ≡ reply_text reply → text ≡ out → packet text ≡ packet (reply_text (reply_named s (named_of command)))
-told_text state s command reply out text same replied written is = ap packet (is ∙ written ∙ ap reply_text (replied ∙ ap (λ (x : State). reply_to x command) same ∙ reply_same s command))
+returns-in-Err-clause-does g c = λ t packet before beyond count total most asked is none same.
+    let old = c.args.p.now in
+    let did = c.run_one.ensures in
+    command_before (g.P.Disk.size old) g.P.Disk (kept_on c.args.kept (g.P.Disk.seen old))
+    packet before beyond asked is none (command_of c.args.command.now) same old c.run_one.new.d
+    (did.quiet.told t) (did.quiet.heard t) (did.time t)
 
 pub returns-in-Ok-tell_reply-clause-does : goal.returns-in-Ok-tell_reply-clause-does
-returns-in-Ok-tell_reply-clause-does g c = λ t s stands.
+returns-in-Ok-tell_reply-clause-does g c =
+    λ t packet before beyond count total most asked is none same.
     let old = c.args.p.now in
     let mid = c.run_one.new.d in
     let new = c.tell_reply.new.p in
-    let command = c.args.command.now in
-    let state = state_on c.args.device (g.P.Disk.seen old) in
-    let reply = packet (reply_text (reply_named s.state (named_of command))) in
-    let same = state_here _ s state _ (let here = c.requires.stands t in here.state) stands in
-    let text = told_text state s.state command _ _ _ same (c.in-Ok.ensures.reply t) c.reply_text.ensures c.as_slice.ensures.value in
-    does_command g.P.Disk.seen g.P.Disk.may_leave g.P.Disk.told g.P.Disk.moment g.P.Disk.outcomes _ s state command reply (packet_some _) old mid stands same (c.run_one.ensures.time t) new
-    (state_on c.in-Ok.done.0 (g.P.Disk.seen mid)) _ (c.run_one.ensures.quiet.told t) (let after = c.in-Ok.ensures.stands t in after.state) (c.in-Ok.ensures.state t) (c.in-Ok.ensures.places t) (c.in-Ok.ensures.settled t)
-    (subst (λ (l : List ℕ). g.P.Disk.told new ≡ g.P.Disk.told mid ++ l) text (c.in-Ok-tell_reply.ensures.told t))
-    (subst (λ (l : List ℕ). (n : ℕ) × (g.P.Disk.told new ≡ g.P.Disk.told mid ++ take n l)) text (c.tell_reply.ensures.front t))
-    (c.tell_reply.ensures.seen t) (c.tell_reply.ensures.crash t)
-    (subst (λ (l : List ℕ). Adds g.P.Disk.moment g.P.Disk.outcomes mid new (LeavesSaying (g.P.Disk.told mid) l (g.P.Disk.may_leave mid))) text (c.tell_reply.ensures.time t))
+    let size = g.P.Disk.size old in
+    let did = c.run_one.ensures in
+    let ok = c.in-Ok.ensures in
+    let k = kept_on c.args.kept (g.P.Disk.seen old) in
+    let cmd = command_of c.args.command.now in
+    let after = after_of k.now (effect_on k.now cmd) in
+    let text_is : c.as_slice.result.now ≡ reply_text (effect_on k.now cmd).reply =
+    c.as_slice.ensures.value ∙ c.reply_text.ensures ∙ ap reply_text (ok.reply t) in
+    let stands : IsIn size after (g.P.Disk.seen mid) =
+    subst (λ (m : Mounted). IsIn size m (g.P.Disk.seen mid)) (ok.after t)
+    (device_stands c.in-Ok.done.0 size (g.P.Disk.seen mid) (ok.represents t)) in
+    let now : mounted_on c.in-Ok.done.0 (g.P.Disk.seen new) ≡ after =
+    ap (mounted_on c.in-Ok.done.0) (c.tell_reply.ensures.seen t) ∙ ok.after t in
+    let kept : kept_on (record { device = c.in-Ok.done.0; staged = c.args.kept.staged })
+    (g.P.Disk.seen new) ≡ record { now = after; staged = k.staged } =
+    ap (λ (m : Mounted). record { now = m; staged = k.staged }) now in
+    command_done size g.P.Disk k packet before beyond asked is none cmd same old mid
+    (did.quiet.told t) (did.quiet.heard t) (did.time t)
+    new c.as_slice.result.now text_is stands (λ rest. ok.rest t rest)
+    (c.tell_reply.ensures.seen t) (c.tell_reply.ensures.crash t) (c.tell_reply.ensures.heard t)
+    (c.tell_reply.ensures.time t)
+    (kept_on (record { device = c.in-Ok.done.0; staged = c.args.kept.staged }) (g.P.Disk.seen new))
+    kept (c.in-Ok-tell_reply.ensures.told t)
 
 pub returns-in-Err-tell_reply-clause-does : goal.returns-in-Err-tell_reply-clause-does
-returns-in-Err-tell_reply-clause-does g c = λ t s stands.
+returns-in-Err-tell_reply-clause-does g c =
+    λ t packet before beyond count total most asked is none same.
     let old = c.args.p.now in
     let mid = c.run_one.new.d in
-    let new = c.tell_reply.new.p in
-    let command = c.args.command.now in
-    let state = state_on c.args.device (g.P.Disk.seen old) in
-    let reply = packet (reply_text (reply_named s.state (named_of command))) in
-    let same = state_here _ s state _ (let here = c.requires.stands t in here.state) stands in
-    let text = told_text state s.state command _ _ _ same (c.in-Ok.ensures.reply t) c.reply_text.ensures c.as_slice.ensures.value in
-    does_command g.P.Disk.seen g.P.Disk.may_leave g.P.Disk.told g.P.Disk.moment g.P.Disk.outcomes _ s state command reply (packet_some _) old mid stands same (c.run_one.ensures.time t) new
-    (state_on c.in-Ok.done.0 (g.P.Disk.seen mid)) _ (c.run_one.ensures.quiet.told t) (let after = c.in-Ok.ensures.stands t in after.state) (c.in-Ok.ensures.state t) (c.in-Ok.ensures.places t) (c.in-Ok.ensures.settled t)
-    tt
-    (subst (λ (l : List ℕ). (n : ℕ) × (g.P.Disk.told new ≡ g.P.Disk.told mid ++ take n l)) text (c.tell_reply.ensures.front t))
-    (c.tell_reply.ensures.seen t) (c.tell_reply.ensures.crash t)
-    (subst (λ (l : List ℕ). Adds g.P.Disk.moment g.P.Disk.outcomes mid new (LeavesSaying (g.P.Disk.told mid) l (g.P.Disk.may_leave mid))) text (c.tell_reply.ensures.time t))
+    let size = g.P.Disk.size old in
+    let did = c.run_one.ensures in
+    let ok = c.in-Ok.ensures in
+    let k = kept_on c.args.kept (g.P.Disk.seen old) in
+    let cmd = command_of c.args.command.now in
+    let text_is : c.as_slice.result.now ≡ reply_text (effect_on k.now cmd).reply =
+    c.as_slice.ensures.value ∙ c.reply_text.ensures ∙ ap reply_text (ok.reply t) in
+    let stands : IsIn size (after_of k.now (effect_on k.now cmd)) (g.P.Disk.seen mid) =
+    subst (λ (m : Mounted). IsIn size m (g.P.Disk.seen mid)) (ok.after t)
+    (device_stands c.in-Ok.done.0 size (g.P.Disk.seen mid) (ok.represents t)) in
+    inl (command_told size g.P.Disk k packet before beyond asked is none cmd same old mid
+    (did.quiet.told t) (did.quiet.heard t) (did.time t)
+    c.tell_reply.new.p c.as_slice.result.now text_is stands (λ rest. ok.rest t rest)
+    (c.tell_reply.ensures.seen t) (c.tell_reply.ensures.crash t) (c.tell_reply.ensures.heard t)
+    (c.tell_reply.ensures.time t) (c.tell_reply.ensures.front t))

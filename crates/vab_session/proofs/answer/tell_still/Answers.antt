@@ -1,9 +1,36 @@
+use Rattle.std.proofs.Common.{◌≡◌, inl, List, ℕ, sym, subst}
+use Rattle.vab_disk.specs.Disk.{Image}
+use Rattle.vab_device.specs.Reading.{IsIn}
+use Rattle.vab_device.proofs.ReadingLaws.{device_stands}
+use Rattle.vab_exchanges.specs.Runs.{Answers}
+use Rattle.vab_session.specs.Responses.{response}
+use Rattle.vab_session.specs.Served.{kept_on}
+use Rattle.vab_session.proofs.Data.{still_answers, still_fails}
 use Rattle.vab_session.proofs.answer.tell_still.Goals as goal
-use Rattle.vab_session.specs.Session.{packet}
-use Rattle.vab_session.proofs.AnswerLaws.{does_still}
 
 pub returns-in-Ok-clause-does : goal.returns-in-Ok-clause-does
-returns-in-Ok-clause-does g c = λ t s stands. does_still g.P.Disk.seen g.P.Disk.may_leave g.P.Disk.told g.P.Disk.moment g.P.Disk.outcomes _ s (packet c.args.text.now) c.args.p.now c.tell_reply.new.p _ stands (c.in-Ok.ensures.told t) (c.tell_reply.ensures.front t) (c.tell_reply.ensures.seen t) (c.tell_reply.ensures.crash t) (c.tell_reply.ensures.time t)
+returns-in-Ok-clause-does g c = λ t command before beyond count total most asked is none same.
+    let old = c.args.p.now in
+    let new = c.tell_reply.new.p in
+    let size = g.P.Disk.size old in
+    let kept = c.args.kept in
+    let k = kept_on kept (g.P.Disk.seen old) in
+    let stands = device_stands kept.device size (g.P.Disk.seen old) (c.requires.stands t) in
+    subst
+    (λ (image : Image).
+    Answers response (IsIn size) g.P.Disk k (kept_on kept image) command before before beyond old new)
+    (sym (c.tell_reply.ensures.seen t))
+    (still_answers size g.P.Disk k command before beyond asked is none c.args.text.now same old new
+    stands (c.tell_reply.ensures.seen t) (c.tell_reply.ensures.crash t)
+    (c.tell_reply.ensures.heard t) (c.tell_reply.ensures.time t) (c.in-Ok.ensures.told t))
 
 pub returns-in-Err-clause-does : goal.returns-in-Err-clause-does
-returns-in-Err-clause-does g c = λ t s stands. does_still g.P.Disk.seen g.P.Disk.may_leave g.P.Disk.told g.P.Disk.moment g.P.Disk.outcomes _ s (packet c.args.text.now) c.args.p.now c.tell_reply.new.p _ stands tt (c.tell_reply.ensures.front t) (c.tell_reply.ensures.seen t) (c.tell_reply.ensures.crash t) (c.tell_reply.ensures.time t)
+returns-in-Err-clause-does g c = λ t command before beyond count total most asked is none same.
+    let old = c.args.p.now in
+    let size = g.P.Disk.size old in
+    let kept = c.args.kept in
+    let stands = device_stands kept.device size (g.P.Disk.seen old) (c.requires.stands t) in
+    inl (still_fails size g.P.Disk (kept_on kept (g.P.Disk.seen old)) command before beyond asked is
+    none c.args.text.now same old c.tell_reply.new.p stands
+    (c.tell_reply.ensures.seen t) (c.tell_reply.ensures.crash t)
+    (c.tell_reply.ensures.heard t) (c.tell_reply.ensures.time t) (c.tell_reply.ensures.front t))

@@ -1,72 +1,218 @@
-use Rattle.std.proofs.Common.{◌≡◌, ℕ, ◌+◌, ◌<◌, ◌++◌, ◌∙◌, List, length, take, drop, min, codes, true, Err, ap, sym, subst, arith, rules}
-use Rattle.vab_fbtcp.specs.declared.event.Place.TheVariants.{Hello}
-use Rattle.vab_disk.specs.Disk.{Image}
-use Rattle.vab_session.specs.Reading.{rest_of, EndsIn}
-use Rattle.vab_session.specs.Items.{Mounted, IsIn, CrashesWithin}
-use Rattle.vab_session.specs.Answers.{items_of}
-use Rattle.vab_session.specs.Served.{Split, Answers}
-use Rattle.vab_fbtcp.specs.Hello.{is_hello}
-use Rattle.vab_session.specs.declared.fault.SessionFault.TheVariants as faults
-use Rattle.vab_session.proofs.Sessions.{failed_early, stopped_early, greeting, split_here, served, moved, still_at_rest}
+use Rattle.std.proofs.Common.{◌≡◌, ℕ, ◌+◌, ◌++◌, ◌∙◌, min, true, List, None, Err, Result, length, take, drop, codes, sym, ap, subst, arith, rules, length-take, get_or, get_or-drop, take-append-drop}
+use Rattle.vab_disk.specs.Disk.{Image, Outcome, Adds, Nothing}
+use Rattle.vab_disk.specs.Calls.{IsAtRest}
 use Rattle.vab_disk.proofs.Moments.{adds_still}
+use Rattle.vab_disk.specs.declared.disk.Disk.{Ghosts}
+use Rattle.vab_fbtcp.specs.Hello.{is_hello}
+use Rattle.vab_device.specs.declared.device.Device.{Device}
+use Rattle.vab_device.specs.Mounted.{Mounted, mounted_on}
+use Rattle.vab_device.specs.Reading.{IsIn}
+use Rattle.vab_device.proofs.ReadingLaws.{device_stands}
+use Rattle.vab_exchanges.specs.Session.{HasNoHello}
+use Rattle.vab_exchanges.specs.Hearing.{HearsWhere, IsHeardFor}
+use Rattle.vab_exchanges.specs.Reading.{rest_of, beyond_of, all_of, total_of, count_of, most_of, StopsBy, IsFewerThan}
+use Rattle.vab_exchanges.specs.Items.{Kept, Item}
+use Rattle.vab_exchanges.specs.Runs.{CrashesWithin, Ran, Serves}
+use Rattle.vab_exchanges.proofs.RunLaws.{IsChain}
+use Rattle.vab_exchanges.proofs.Progress.{still_settled}
+use Rattle.vab_exchanges.proofs.Packets.{AreBytes, taken_byte}
+use Rattle.vab_exchanges.proofs.Listening.{hears_at, hears_same}
+use Rattle.vab_exchanges.proofs.Serving.{served, failed_early, greeting}
+use Rattle.vab_session.specs.declared.fault.Ended.{Ended}
+use Rattle.vab_session.specs.declared.fault.SessionFault.{SessionFault}
+use Rattle.vab_session.specs.Responses.{response}
+use Rattle.vab_session.specs.Served.{kept_on, nothing_staged, Held, HeldBy, Says, HasCause, reached}
+use Rattle.vab_session.proofs.Data.{read_cause}
+use Rattle.vab_session.proofs.Endings.{moved, hello_fails}
 use Rattle.vab_session.proofs.session.serve_up_to.Goals as goal
 
 pub returns-then-is_err-clause-serves : goal.returns-then-is_err-clause-serves
-returns-then-is_err-clause-serves g c = λ t first stands.
+returns-then-is_err-clause-serves g c = λ t.
     let old = c.args.p.now in
-    failed_early g.P.Disk.seen g.P.Disk.may_leave g.P.Disk.told g.P.Disk.input_left g.P.Disk.moment g.P.Disk.outcomes g.met.P.Disk.only_now (g.P.Disk.size old) c.args.most first old c.say_all.new.p (Err faults.Sink) (g.met.P.Disk.bytes old) (λ end. tt) (λ held. held)
-    (c.say_all.ensures.front t)
-    (λ packets rest. greeting g.P.Disk.seen g.P.Disk.may_leave g.P.Disk.told g.P.Disk.input_left g.P.Disk.moment g.P.Disk.outcomes g.met.P.Disk.only_now (g.P.Disk.size old) old c.say_all.new.p first packets (c.say_all.ensures.time t) rest)
+    let new = c.say_all.new.p in
+    let N = g.P.Disk.size old in
+    let m = mounted_on c.args.device (g.P.Disk.seen old) in
+    let there = device_stands c.args.device N (g.P.Disk.seen old) (c.requires.stands t) in
+    failed_early response (IsIn N) g.P.Disk g.met.P.Disk.only_now c.args.most (nothing_staged m)
+    old new (g.met.P.Disk.bytes old) (c.say_all.ensures.front t) there
+    (hears_same
+    (IsHeardFor (g.P.Disk.told old ++ codes "FB01") (g.P.Disk.input_left old) (IsFewerThan 4))
+    (g.P.Disk.heard old) (g.P.Disk.heard new) (c.say_all.ensures.heard t))
+    (greeting response (IsIn N) g.P.Disk g.met.P.Disk.only_now old new m there
+    (c.say_all.ensures.time t))
+
+-- the greeting was told, and then nothing
+still_greeting : {D : Type 0} (size : ℕ) (g : Ghosts D) (old mid new : D) (first : Mounted)
+    → (IsAtRest g old
+    → (later : List (Item Mounted))
+    → IsChain first later
+    → Adds g.moment g.outcomes old mid
+    (CrashesWithin (IsIn size) (codes "FB01") first later (g.told old)))
+    → Adds g.moment g.outcomes mid new Nothing
+    → IsAtRest g old
+    → (later : List (Item Mounted))
+    → IsChain first later
+    → Adds g.moment g.outcomes old new
+    (CrashesWithin (IsIn size) (codes "FB01") first later (g.told old))
+still_greeting size g old mid new first time still rest later chain =
+    adds_still g.moment g.outcomes old mid new
+    (CrashesWithin (IsIn size) (codes "FB01") first later (g.told old))
+    (time rest later chain) still
+
+-- what was heard for the hello, said from before the greeting
+hello_hears : {D : Type 0} (g : Ghosts D) (old mid new : D) (bytes input : List ℕ)
+    → g.told mid ≡ g.told old ++ codes "FB01"
+    → g.heard mid ≡ g.heard old
+    → bytes ≡ input
+    → HearsWhere (IsHeardFor (g.told mid) bytes (IsFewerThan 4)) (g.heard mid) (g.heard new)
+    → HearsWhere
+    (IsHeardFor (g.told old ++ codes "FB01") input (IsFewerThan 4))
+    (g.heard old)
+    (g.heard new)
+hello_hears g old mid new bytes input told heard same hears =
+    hears_at (g.told old ++ codes "FB01") (g.told mid) input (IsFewerThan 4)
+    (g.heard old) (g.heard mid) (g.heard new) told heard
+    (subst
+    (λ (l : List ℕ).
+    HearsWhere (IsHeardFor (g.told mid) l (IsFewerThan 4)) (g.heard mid) (g.heard new))
+    same hears)
+
+all_input : (most : ℕ) (rest beyond input : List ℕ)
+    → rest ≡ take most input
+    → beyond ≡ drop most input
+    → rest ++ beyond ≡ input
+all_input most rest beyond input is is' = (λ i. is i ++ is' i) ∙ take-append-drop most input
 
 pub returns-in-Err-clause-serves : goal.returns-in-Err-clause-serves
-returns-in-Err-clause-serves g c = λ t first stands.
+returns-in-Err-clause-serves g c = λ t.
     let old = c.args.p.now in
     let mid = c.say_all.new.p in
-    let now = c.hello.new.p in
-    let size = g.P.Disk.size old in
+    let new = c.hello.new.p in
+    let N = g.P.Disk.size old in
+    let image = g.P.Disk.seen old in
+    let m = mounted_on c.args.device image in
+    let input = g.P.Disk.input_left old in
     let most = c.args.most in
-    let stopped = c.in-Err.ensures in
+    let r = c.new-reader.result in
+    let lp = g.P.Disk.input_left mid in
+    let fault = c.in-Err.fault in
+    let listens = c.hello.ensures.listens in
+    let left = c.say_all.ensures.left t in
+    let there = device_stands c.args.device N image (c.requires.stands t) in
     let said : g.P.Disk.told mid ≡ g.P.Disk.told old ++ codes "FB01" = search rules in
-    let left : rest_of c.new-reader.result (g.P.Disk.input_left mid) ≡ take most (g.P.Disk.input_left old) = c.new-reader.ensures.rest (g.P.Disk.input_left mid) ∙ ap (take most) (c.say_all.ensures.left t) in
-    let total : c.new-reader.result.budget.taken + length (g.P.Disk.input_left mid) ≡ length (g.P.Disk.input_left old) = omega (arith, c.new-reader.ensures.taken, ap length (c.say_all.ensures.left t)) in
-    let why : EndsIn (length (take most (g.P.Disk.input_left old)) < 4) Hello (take most (g.P.Disk.input_left old)) (length (g.P.Disk.input_left old)) most c.in-Err.fault =
-    subst (λ (l : List ℕ). EndsIn (length l < 4) Hello l (length (g.P.Disk.input_left old)) most c.in-Err.fault) left
-    (subst (λ (n : ℕ). EndsIn (length (rest_of c.new-reader.result (g.P.Disk.input_left mid)) < 4) Hello (rest_of c.new-reader.result (g.P.Disk.input_left mid)) n most c.in-Err.fault) total
-    (subst (λ (n : ℕ). EndsIn (length (rest_of c.new-reader.result (g.P.Disk.input_left mid)) < 4) Hello (rest_of c.new-reader.result (g.P.Disk.input_left mid)) (c.new-reader.result.budget.taken + length (g.P.Disk.input_left mid)) n c.in-Err.fault) c.new-reader.ensures.most (stopped.fault t))) in
-    stopped_early g.P.Disk.seen g.P.Disk.may_leave g.P.Disk.told g.P.Disk.input_left g.P.Disk.moment g.P.Disk.outcomes g.met.P.Disk.only_now size most first old now (stopped.listens.told t ∙ said)
-    (λ rest. still_at_rest g.P.Disk.seen g.P.Disk.may_leave g.P.Disk.told g.P.Disk.input_left g.P.Disk.moment g.P.Disk.outcomes g.met.P.Disk.only_now size mid now first (stopped.listens.seen t) (stopped.listens.crash t)
-    (still_at_rest g.P.Disk.seen g.P.Disk.may_leave g.P.Disk.told g.P.Disk.input_left g.P.Disk.moment g.P.Disk.outcomes g.met.P.Disk.only_now size old mid first (c.say_all.ensures.seen t) (c.say_all.ensures.crash t) rest))
-    (λ packets rest. adds_still g.P.Disk.moment g.P.Disk.outcomes old mid now (CrashesWithin size (codes "FB01") first (items_of first packets) (g.P.Disk.told old))
-    (greeting g.P.Disk.seen g.P.Disk.may_leave g.P.Disk.told g.P.Disk.input_left g.P.Disk.moment g.P.Disk.outcomes g.met.P.Disk.only_now size old mid first packets (c.say_all.ensures.time t) rest) (stopped.listens.time t))
-    (g.met.P.Disk.bytes old) c.in-Err.fault why
+    let rest : rest_of r lp ≡ take most input = c.new-reader.ensures.rest lp ∙ ap (take most) left in
+    let beyond : beyond_of r lp ≡ drop most input =
+    c.new-reader.ensures.beyond lp ∙ ap (drop most) left in
+    let total : total_of r lp ≡ length input =
+    omega (arith, c.new-reader.ensures.taken, ap length left) in
+    let count : min most (length input) ≡ length (take most input) =
+    omega (arith, length-take most input) in
+    let why =
+    subst (λ (n : ℕ). StopsBy (HasNoHello n (take most input)) (length input) most fault) count
+    (subst
+    (λ (l : List ℕ). StopsBy (HasNoHello (min most (length input)) l) (length input) most fault)
+    rest
+    (moved (λ m n. StopsBy (HasNoHello (min m n) (rest_of r lp)) n m fault)
+    most (most_of r) (length input) (total_of r lp) c.new-reader.ensures.most total
+    (c.in-Err.ensures.fault t))) in
+    subst
+    (λ (e : SessionFault).
+    Serves response (IsIn N) g.P.Disk (HeldBy e) (Says (Err e)) None most (nothing_staged m) old new)
+    (sym c.from.ensures)
+    (hello_fails N g.P.Disk g.met.P.Disk.only_now most (nothing_staged m) old new
+    (g.met.P.Disk.bytes old) (listens.told t ∙ said) there
+    (subst (λ (x : Image). IsIn N m x) (sym (listens.seen t ∙ c.say_all.ensures.seen t)) there)
+    (hello_hears g.P.Disk old mid new (all_of r lp) input said (c.say_all.ensures.heard t)
+    (all_input most (rest_of r lp) (beyond_of r lp) input rest beyond) (listens.heard t))
+    (λ rest.
+    still_settled response (IsIn N) g.P.Disk mid new (listens.seen t) (listens.crash t)
+    (still_settled response (IsIn N) g.P.Disk old mid
+    (c.say_all.ensures.seen t) (c.say_all.ensures.crash t) rest))
+    (still_greeting N g.P.Disk old mid new m
+    (greeting response (IsIn N) g.P.Disk g.met.P.Disk.only_now old mid m there
+    (c.say_all.ensures.time t))
+    (listens.time t))
+    fault why)
+
+pub returns-in-Err-clause-cause : goal.returns-in-Err-clause-cause
+returns-in-Err-clause-cause g c =
+    let steady : g.P.Disk.faults c.say_all.new.p ≡ g.P.Disk.faults c.args.p.now = search rules in
+    subst
+    (λ (e : SessionFault).
+    HasCause {A = Ended × Device} g.P.Disk c.args.p.now c.hello.new.p (Err e))
+    (sym c.from.ensures)
+    (read_cause g.P.Disk c.args.p.now c.say_all.new.p c.hello.new.p c.in-Err.fault
+    steady
+    c.hello.ensures.listens.counts
+    c.in-Err.ensures.steady
+    (λ is. c.in-Err.ensures.cause (ap Err is)))
+
+-- what is left behind the hello is bytes
+dropped_byte : (l : List ℕ) (n : ℕ) → AreBytes l → AreBytes (drop n l)
+dropped_byte l n are k =
+    let at : get_or (drop n l) k 0 ≡ get_or l (n + k) 0 = get_or-drop n l k 0 in
+    omega (arith, are (n + k), at)
 
 pub returns-clause-serves : goal.returns-clause-serves
-returns-clause-serves g c = λ t first stands.
+returns-clause-serves g c = λ t.
     let old = c.args.p.now in
     let said_to = c.say_all.new.p in
     let mid = c.hello.new.p in
-    let now = c.answer_all.new.p in
-    let size = g.P.Disk.size old in
+    let new = c.answer_all.new.p in
+    let N = g.P.Disk.size old in
+    let image = g.P.Disk.seen old in
+    let device = c.args.device in
+    let m = mounted_on device image in
+    let input = g.P.Disk.input_left old in
     let most = c.args.most in
     let ok = c.in-Ok.ensures in
-    let input = g.P.Disk.input_left old in
+    let listens = c.hello.ensures.listens in
+    let r0 = c.new-reader.result in
+    let r = c.hello.new.self in
+    let l0 = g.P.Disk.input_left said_to in
+    let lp = g.P.Disk.input_left mid in
+    let left = c.say_all.ensures.left t in
+    let there = device_stands device N image (c.requires.stands t) in
     let said : g.P.Disk.told said_to ≡ g.P.Disk.told old ++ codes "FB01" = search rules in
-    let left : rest_of c.new-reader.result (g.P.Disk.input_left said_to) ≡ take most input = c.new-reader.ensures.rest (g.P.Disk.input_left said_to) ∙ ap (take most) (c.say_all.ensures.left t) in
-    let total : c.hello.new.self.budget.taken + length (g.P.Disk.input_left mid) ≡ length input = omega (arith, ok.count t, c.new-reader.ensures.taken, ap length (c.say_all.ensures.left t)) in
-    let room : c.hello.new.self.budget.most ≡ most = c.hello.ensures.most ∙ c.new-reader.ensures.most in
-    let rest : rest_of c.hello.new.self (g.P.Disk.input_left mid) ≡ drop 4 (take most input) = ok.rest t ∙ ap (λ (l : List ℕ). drop 4 l) left in
-    let sized : g.P.Disk.size mid ≡ size = ok.listens.size ∙ c.say_all.ensures.size in
-    let seen : g.P.Disk.seen mid ≡ g.P.Disk.seen old = ok.listens.seen t ∙ c.say_all.ensures.seen t in
-    let there : IsIn size first (g.P.Disk.seen mid) = subst (λ (x : Image). IsIn size first x) (sym seen) stands in
-    let answers = moved
-    (λ z m n l. (s : Split (min m n) l) (first : Mounted) (told : List ℕ) → IsIn z first (g.P.Disk.seen mid) → g.P.Disk.told mid ≡ told ++ codes "FB01"
-    → Answers g.P.Disk.seen g.P.Disk.may_leave g.P.Disk.told g.P.Disk.input_left g.P.Disk.moment g.P.Disk.outcomes s z m n first told mid now c.answer_all.result)
-    (g.P.Disk.size mid) size c.hello.new.self.budget.most most (c.hello.new.self.budget.taken + length (g.P.Disk.input_left mid)) (length input) (rest_of c.hello.new.self (g.P.Disk.input_left mid)) (drop 4 (take most input)) sized room total rest (c.answer_all.ensures.answers t)
-    (split_here most input (g.met.P.Disk.bytes old)) first (g.P.Disk.told old) there (ok.listens.told t ∙ said) in
-    let hello : is_hello (take 4 (take most input)) ≡ true = subst (λ (l : List ℕ). is_hello (take 4 l) ≡ true) left (let both = ok.hello t in both.1) in
-    served g.P.Disk.seen g.P.Disk.may_leave g.P.Disk.told g.P.Disk.input_left g.P.Disk.moment g.P.Disk.outcomes g.met.P.Disk.only_now size most first old mid now (split_here most input (g.met.P.Disk.bytes old)) hello
-    (λ rest. still_at_rest g.P.Disk.seen g.P.Disk.may_leave g.P.Disk.told g.P.Disk.input_left g.P.Disk.moment g.P.Disk.outcomes g.met.P.Disk.only_now size said_to mid first (ok.listens.seen t) (ok.listens.crash t)
-    (still_at_rest g.P.Disk.seen g.P.Disk.may_leave g.P.Disk.told g.P.Disk.input_left g.P.Disk.moment g.P.Disk.outcomes g.met.P.Disk.only_now size old said_to first (c.say_all.ensures.seen t) (c.say_all.ensures.crash t) rest))
-    (λ rest. adds_still g.P.Disk.moment g.P.Disk.outcomes old said_to mid (CrashesWithin size (codes "FB01") first _ (g.P.Disk.told old))
-    (greeting g.P.Disk.seen g.P.Disk.may_leave g.P.Disk.told g.P.Disk.input_left g.P.Disk.moment g.P.Disk.outcomes g.met.P.Disk.only_now size old said_to first _ (c.say_all.ensures.time t) rest) (ok.listens.time t))
-    c.answer_all.result answers
+    let rest0 : rest_of r0 l0 ≡ take most input = c.new-reader.ensures.rest l0 ∙ ap (take most) left in
+    let beyond0 : beyond_of r0 l0 ≡ drop most input =
+    c.new-reader.ensures.beyond l0 ∙ ap (drop most) left in
+    let rest : rest_of r lp ≡ drop 4 (take most input) =
+    ok.rest t ∙ ap (λ (l : List ℕ). drop 4 l) rest0 in
+    let beyond : beyond_of r lp ≡ drop most input = ok.beyond t ∙ beyond0 in
+    let total : total_of r lp ≡ length input =
+    omega (arith, ok.count t, c.new-reader.ensures.taken, ap length left) in
+    let room : most_of r ≡ most = c.hello.ensures.most ∙ c.new-reader.ensures.most in
+    let count : count_of r lp ≡ min most (length input) = λ i. min (room i) (total i) in
+    let tested = ok.hello t in
+    let hello : is_hello (take 4 (take most input)) ≡ true =
+    subst (λ (l : List ℕ). is_hello (take 4 l) ≡ true) rest0 tested.1 in
+    let are : AreBytes (rest_of r lp) =
+    subst AreBytes (sym rest)
+    (dropped_byte (take most input) 4 (λ k. taken_byte input most k (g.met.P.Disk.bytes old))) in
+    let ran = c.answer_all.ensures.ran t are (g.P.Disk.told old) (listens.told t ∙ said) in
+    let sizes : g.P.Disk.size mid ≡ N = listens.size ∙ c.say_all.ensures.size in
+    let seen : g.P.Disk.seen mid ≡ image = listens.seen t ∙ c.say_all.ensures.seen t in
+    let result = c.answer_all.result in
+    served response (IsIn N) g.P.Disk g.met.P.Disk.only_now
+    (Held result) (Says result) (reached result (g.P.Disk.seen new))
+    (count_of r lp) (total_of r lp) most (rest_of r lp) (beyond_of r lp) (nothing_staged m)
+    old mid new there hello count total rest beyond
+    (hello_hears g.P.Disk old said_to mid (all_of r0 l0) input said (c.say_all.ensures.heard t)
+    (all_input most (rest_of r0 l0) (beyond_of r0 l0) input rest0 beyond0) (listens.heard t))
+    (still_greeting N g.P.Disk old said_to mid m
+    (greeting response (IsIn N) g.P.Disk g.met.P.Disk.only_now old said_to m there
+    (c.say_all.ensures.time t))
+    (listens.time t))
+    (λ rest.
+    still_settled response (IsIn N) g.P.Disk said_to mid (listens.seen t) (listens.crash t)
+    (still_settled response (IsIn N) g.P.Disk old said_to
+    (c.say_all.ensures.seen t) (c.say_all.ensures.crash t) rest))
+    (subst
+    (λ (q : ℕ × ℕ × Image).
+    Ran response (IsIn q.0) g.P.Disk
+    (Held result) (Says result) (reached result (g.P.Disk.seen new))
+    (count_of r lp) (total_of r lp) q.1 (rest_of r lp) (beyond_of r lp)
+    (nothing_staged (mounted_on device q.2)) (g.P.Disk.told old) mid new)
+    (λ i. (sizes i, room i, seen i))
+    ran)

@@ -13,13 +13,17 @@ invariant-loop-left g l = record {
   long : length l.packet.items + l.left ≡ l.count;
   fits : l.count ≤ 4096;
   fed : IsFed l.self;
-  packet : g.P.Disk.is_modelled → rest_of l.fn.self (g.P.Disk.input_left l.fn.p) ≡ l.packet.items ++ rest_of l.self (g.P.Disk.input_left l.p);
+  packet : g.P.Disk.is_modelled
+      → rest_of l.fn.self (g.P.Disk.input_left l.fn.p)
+      ≡ l.packet.items ++ rest_of l.self (g.P.Disk.input_left l.p);
   room : room_of l.self ≤ room_of l.fn.self;
   beyond : g.P.Disk.is_modelled
       → beyond_of l.self (g.P.Disk.input_left l.p)
       ≡ beyond_of l.fn.self (g.P.Disk.input_left l.fn.p);
   steady : g.P.Disk.faults l.p ≡ g.P.Disk.faults l.fn.p;
-  count : g.P.Disk.is_modelled → total_of l.self (g.P.Disk.input_left l.p) ≡ total_of l.fn.self (g.P.Disk.input_left l.fn.p);
+  count : g.P.Disk.is_modelled
+      → total_of l.self (g.P.Disk.input_left l.p)
+      ≡ total_of l.fn.self (g.P.Disk.input_left l.fn.p);
   most : l.self.budget.most ≡ l.fn.self.budget.most;
 }
 

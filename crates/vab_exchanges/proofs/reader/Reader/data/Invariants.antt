@@ -15,13 +15,17 @@ invariant-loop-left g l = record {
   long : vec_len l.staged + l.left ≡ l.due;
   space : l.due ≤ vec_capacity l.staged;
   fed : IsFed l.self;
-  some : g.P.Disk.is_modelled → HasSome l.due l.left (rest_of l.fn.self (g.P.Disk.input_left l.fn.p)) (rest_of l.self (g.P.Disk.input_left l.p)) l.staged.items;
+  some : g.P.Disk.is_modelled
+      → HasSome l.due l.left (rest_of l.fn.self (g.P.Disk.input_left l.fn.p))
+      (rest_of l.self (g.P.Disk.input_left l.p)) l.staged.items;
   room : room_of l.self ≤ room_of l.fn.self;
   beyond : g.P.Disk.is_modelled
       → beyond_of l.self (g.P.Disk.input_left l.p)
       ≡ beyond_of l.fn.self (g.P.Disk.input_left l.fn.p);
   steady : g.P.Disk.faults l.p ≡ g.P.Disk.faults l.fn.p;
-  count : g.P.Disk.is_modelled → total_of l.self (g.P.Disk.input_left l.p) ≡ total_of l.fn.self (g.P.Disk.input_left l.fn.p);
+  count : g.P.Disk.is_modelled
+      → total_of l.self (g.P.Disk.input_left l.p)
+      ≡ total_of l.fn.self (g.P.Disk.input_left l.fn.p);
   most : l.self.budget.most ≡ l.fn.self.budget.most;
 }
 

@@ -11,9 +11,14 @@ returns-clause-rest g c = λ t.
     let budget = c.args.self.now.budget in
     let hears = c.in-Ok.ensures.bytes t in
     let fits : n ≤ length c.hear.new.out = omega (arith, hears.fits, c.hear.auto.out) in
-    let fed : unread_of c.feed.new.self ≡ unread_of c.args.self.now.framer ++ take n c.hear.new.out =
-    c.feed.ensures.unread ∙ ap (λ (l : List ℕ). unread_of c.args.self.now.framer ++ l) (take-append-le n c.hear.new.out _ fits) in
-    let room : c.take.new.self.most - c.take.new.self.taken ≡ (budget.most - budget.taken) - n = omega (arith, c.take.ensures.taken, c.take.ensures.most) in
+    let fed : unread_of c.feed.new.self
+    ≡ unread_of c.args.self.now.framer ++ take n c.hear.new.out =
+    c.feed.ensures.unread
+    ∙ ap (λ (l : List ℕ). unread_of c.args.self.now.framer ++ l)
+    (take-append-le n c.hear.new.out _ fits) in
+    let room : c.take.new.self.most - c.take.new.self.taken ≡ (budget.most - budget.taken) - n =
+    omega (arith, c.take.ensures.taken, c.take.ensures.most) in
     let within : n ≤ budget.most - budget.taken = search rules in
-    (λ i. (fed ∙ ap (λ (l : List ℕ). unread_of c.args.self.now.framer ++ l) hears.bytes) i ++ take (room i) (hears.rest i))
+    (λ i. (fed ∙ ap (λ (l : List ℕ). unread_of c.args.self.now.framer ++ l) hears.bytes) i
+    ++ take (room i) (hears.rest i))
     ∙ heard_more (unread_of c.args.self.now.framer) left n (budget.most - budget.taken) within

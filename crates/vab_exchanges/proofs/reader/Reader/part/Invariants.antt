@@ -15,13 +15,17 @@ invariant-loop-left g l = record {
   space : vec_len l.staged + l.left ≤ vec_capacity l.staged;
   capacity : vec_capacity l.fn.staged ≤ vec_capacity l.staged;
   fed : IsFed l.self;
-  bytes : g.P.Disk.is_modelled → l.fn.staged.items ++ rest_of l.fn.self (g.P.Disk.input_left l.fn.p) ≡ l.staged.items ++ rest_of l.self (g.P.Disk.input_left l.p);
+  bytes : g.P.Disk.is_modelled
+      → l.fn.staged.items ++ rest_of l.fn.self (g.P.Disk.input_left l.fn.p)
+      ≡ l.staged.items ++ rest_of l.self (g.P.Disk.input_left l.p);
   room : room_of l.self ≤ room_of l.fn.self;
   beyond : g.P.Disk.is_modelled
       → beyond_of l.self (g.P.Disk.input_left l.p)
       ≡ beyond_of l.fn.self (g.P.Disk.input_left l.fn.p);
   steady : g.P.Disk.faults l.p ≡ g.P.Disk.faults l.fn.p;
-  count : g.P.Disk.is_modelled → total_of l.self (g.P.Disk.input_left l.p) ≡ total_of l.fn.self (g.P.Disk.input_left l.fn.p);
+  count : g.P.Disk.is_modelled
+      → total_of l.self (g.P.Disk.input_left l.p)
+      ≡ total_of l.fn.self (g.P.Disk.input_left l.fn.p);
   most : l.self.budget.most ≡ l.fn.self.budget.most;
 }
 

@@ -1,0 +1,47 @@
+use Rattle.std.proofs.Common.{◌≡◌, Ok, Err, refl, sym, ◌∙◌, ap}
+use Rattle.vab_disk.specs.Disk.{Image}
+use Rattle.vab_model.specs.Commands.{command_of}
+use Rattle.vab_device.specs.declared.device.Device.{Device}
+use Rattle.vab_device.specs.Mounted.{state_on}
+use Rattle.vab_fbproto.specs.Requests.{Getvar, Do, BootAndEnd, request_of}
+use Rattle.vab_session.specs.Responses.{still}
+use Rattle.vab_session.proofs.answer.command.Goals as goal
+
+current_is : (d : Device) (image : Image) → (state_on d image).control.current ≡ d.control.current
+unfolding state_on
+current_is d image = refl
+
+pub returns-in-Ok-Getvar-clause-does : goal.returns-in-Ok-Getvar-clause-does
+returns-in-Ok-Getvar-clause-does g c = λ t before beyond count total most.
+    let packet = c.args.packet.now in
+    let variable = c.in-Ok-Getvar.variable in
+    let device = c.args.kept.device in
+    let image = g.P.Disk.seen c.args.p.now in
+    let is : request_of packet ≡ Ok (Getvar variable) =
+    rw c.in-Ok-Getvar.field-0-is at c.in-Ok-Getvar.ensures in
+    let text =
+    c.variable_text-text.ensures.text (state_on device image)
+    (current_is device image ∙ sym c.current.ensures) in
+    c.tell_still.ensures.does t packet before beyond count total most (Ok (Getvar variable)) is tt
+    (ap still (sym text))
+
+pub returns-in-Ok-Do-clause-does : goal.returns-in-Ok-Do-clause-does
+returns-in-Ok-Do-clause-does g c = λ t before beyond count total most.
+    let packet = c.args.packet.now in
+    let command = command_of c.in-Ok-Do.command in
+    let is : request_of packet ≡ Ok (Do command) =
+    rw c.in-Ok-Do.field-0-is at c.in-Ok-Do.ensures in
+    c.carry_out.ensures.does t packet before beyond count total most (Ok (Do command)) is tt refl
+
+pub returns-in-Ok-BootAndEnd-clause-does : goal.returns-in-Ok-BootAndEnd-clause-does
+returns-in-Ok-BootAndEnd-clause-does g c = λ t before beyond count total most.
+    let packet = c.args.packet.now in
+    let is : request_of packet ≡ Ok BootAndEnd =
+    rw c.in-Ok-BootAndEnd.field-0-is at c.in-Ok-BootAndEnd.ensures in
+    c.carry_out-in-Ok-BootAndEnd.ensures.does t packet before beyond count total most
+    (Ok BootAndEnd) is tt refl
+
+pub returns-in-Err-clause-does : goal.returns-in-Err-clause-does
+returns-in-Err-clause-does g c = λ t before beyond count total most.
+    c.tell_still-in-Err.ensures.does t c.args.packet.now before beyond count total most
+    (Err c.in-Err.bad) c.in-Err.ensures tt (ap still (sym c.bad_text.ensures.text))

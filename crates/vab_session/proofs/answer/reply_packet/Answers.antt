@@ -1,7 +1,0 @@
-use Rattle.std.proofs.Common.{rules}
-use Rattle.vab_session.specs.Session.{packet}
-use Rattle.vab_session.proofs.answer.reply_packet.Goals as goal
-
-pub returns : goal.returns
-unfolding packet
-returns c = search rules
