@@ -1,7 +1,7 @@
 -- The bytes of an image, one piece of blocks after another.
-use Rattle.std.proofs.Common.{◌≡◌, ◌∙◌, ℕ, ◌+◌, ◌-◌, ◌<◌, ◌≤◌, List, [], ◌∷◌, ◌++◌, length, get_or}
-use Rattle.std.proofs.Common.{take, drop, refl, sym, ap, arith, append_assoc, take-append-drop}
-use Rattle.std.proofs.lemmas.List.{get_or-drop, length-drop, take_all}
+use Rattle.std.proofs.Common.{◌≡◌, ◌∙◌, ℕ, ◌+◌, ◌<◌, ◌≤◌, List, ◌++◌, length, get_or}
+use Rattle.std.proofs.Common.{take, drop, sym, ap, arith, take-append-drop}
+use Rattle.std.proofs.lemmas.List.{get_or-drop, length-drop}
 use Rattle.std.proofs.Math.Seq.{take-add}
 use Rattle.vab_disk.specs.Disk.{Image}
 use Rattle.vab_gate.specs.Gate.{sectors_at}
@@ -17,7 +17,7 @@ use Rattle.vab_device.specs.declared.device.Part.{Part}
 use Rattle.vab_device.specs.Mounted.{bytes_at}
 use Rattle.vab_manager.specs.Blocks.{KeepsPart}
 use Rattle.vab_manager.proofs.BlockLaws.{kept_once}
-use Rattle.vab_manager.proofs.DigestLaws.{bytes_append, bytes_more, bytes_none}
+use Rattle.vab_manager.proofs.DigestLaws.{bytes_append, bytes_more}
 use Rattle.vab_cli.specs.Codes.{reply_status}
 use Rattle.vab_cli.specs.Verbs.{refused_line, print_told, verb_status}
 use Rattle.vab_cli.specs.declared.status.Status.TheVariants.{Done, Refused}

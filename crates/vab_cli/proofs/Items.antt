@@ -1,12 +1,11 @@
 -- Items that are done, by what was done and told for them.
-use Rattle.std.proofs.Common.{◌≡◌, ◌∙◌, inl, inr, ⊎_elim, ℕ, ◌<◌, List, [], ◌∷◌, ◌++◌, length, take}
+use Rattle.std.proofs.Common.{◌≡◌, ◌∙◌, inl, inr, ℕ, ◌<◌, List, [], ◌∷◌, ◌++◌, length, take}
 use Rattle.std.proofs.Common.{Result, Ok, Err, refl, sym, ap, subst, arith, length-append}
 use Rattle.std.specs.Prelude.{OnOk}
 use Rattle.std.proofs.lemmas.List.{append-nil}
 use Rattle.vab_disk.specs.declared.disk.Disk.{Ghosts}
 use Rattle.vab_disk.specs.Disk.{Image, Outcome, Adds}
 use Rattle.vab_disk.specs.Calls.{IsAtRest}
-use Rattle.vab_disk.specs.Port.{LeavesSaying}
 use Rattle.vab_disk.specs.Written.{same_image}
 use Rattle.vab_disk.proofs.Moments.{adds_wider, adds_on}
 use Rattle.vab_gate.specs.declared.gate.DiskFault.{DiskFault}

@@ -1,6 +1,6 @@
 -- Making a device as a run of the program.
 use Rattle.std.proofs.Common.{◌≡◌, ◌≢◌, ◌⊎◌, ◌∙◌, inl, inr, ⊎_elim, ◌<◌, ◌≤◌, ◌-◌, arith, true}
-use Rattle.std.proofs.Common.{false, ℕ, List, [], ◌∷◌, ◌++◌, take, Some, None, Err, refl, sym, ap}
+use Rattle.std.proofs.Common.{false, ℕ, List, [], ◌++◌, take, Some, None, Err, refl, sym, ap}
 use Rattle.std.proofs.Common.{subst}
 use Rattle.std.proofs.lemmas.Bool.{cases_eq}
 use Rattle.std.proofs.lemmas.Bool.Decides.{nat_tests}
@@ -18,7 +18,7 @@ use Rattle.vab_make.specs.declared.fault.MakeFault.{MakeFault}
 use Rattle.vab_make.specs.declared.fault.MakeFault.TheVariants as make
 use Rattle.vab_make.specs.Made.{refusal_of, made_device_of}
 use Rattle.vab_make.specs.Making.{Gives, IsOfDisk, IsMade, LeavesMaking}
-use Rattle.vab_exchanges.specs.Runs.{CrashesWithin, LeavesItem}
+use Rattle.vab_exchanges.specs.Runs.{LeavesItem}
 use Rattle.vab_exchanges.proofs.RunLaws.{telling, within_item}
 use Rattle.vab_cli.specs.declared.status.Status.{Status}
 use Rattle.vab_cli.specs.declared.status.Status.TheVariants.{Done, Disk, Port, NoMemory}

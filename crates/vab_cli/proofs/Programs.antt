@@ -20,7 +20,7 @@ use Rattle.vab_cli.specs.declared.status.Status.TheVariants.{Disk, Port, NoMemor
 use Rattle.vab_cli.specs.Codes.{make_status}
 use Rattle.vab_cli.specs.Counts.{HearsNothing, IsSteady}
 use Rattle.vab_cli.specs.Program.{DoesVerb}
-use Rattle.vab_cli.specs.Runs.{IsEarly, IsFailed, NoFault, RunsSession, RunsItem, FailsBefore}
+use Rattle.vab_cli.specs.Runs.{NoFault, RunsSession, RunsItem, FailsBefore}
 use Rattle.vab_cli.specs.Runs.{RunsNone, RunsRefused, RunsMaking, FailsMaking}
 use Rattle.vab_cli.specs.Verbs.{command_of, none_line, verb_item, verb_status, make_line, done_making}
 use Rattle.vab_cli.proofs.Sessions.{completed}

@@ -5,9 +5,8 @@ use Rattle.std.specs.Prelude.{OnOk}
 use Rattle.std.proofs.lemmas.List.{append-nil, take-append-le, take_min}
 use Rattle.std.proofs.Math.Seq.{take-append-add}
 use Rattle.vab_disk.specs.declared.disk.Disk.{Ghosts}
-use Rattle.vab_disk.specs.Disk.{Outcome, SameHoldings, Adds, Nothing}
+use Rattle.vab_disk.specs.Disk.{Nothing}
 use Rattle.vab_disk.specs.Calls.{OnlyReads}
-use Rattle.vab_disk.specs.Port.{LeavesSaying}
 use Rattle.vab_disk.proofs.Moments.{adds_none, adds_wider, adds_on}
 use Rattle.vab_cli.specs.Telling.{Says}
 

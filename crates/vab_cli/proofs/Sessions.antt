@@ -1,11 +1,11 @@
 -- A session as a run of the program.
-use Rattle.std.proofs.Common.{◌≡◌, ◌⊎◌, ◌∙◌, inl, inr, ⊎_elim, ◌^◌, ◌<◌, ◌≤◌, ℕ, List, [], ◌∷◌, ◌++◌, take}
+use Rattle.std.proofs.Common.{◌≡◌, ◌⊎◌, ◌∙◌, inl, inr, ⊎_elim, ◌^◌, ◌<◌, ◌≤◌, ℕ, List, [], ◌++◌, take}
 use Rattle.std.proofs.Common.{codes, Some, None, Ok, Err, refl, sym, ap, subst, arith}
-use Rattle.std.specs.Prelude.{Option, Bool}
+use Rattle.std.specs.Prelude.{Option}
 use Rattle.std.proofs.lemmas.Bool.Decides.{nat_tests}
 use Rattle.std.proofs.lemmas.List.{append-nil}
 use Rattle.vab_disk.specs.declared.disk.Disk.{Ghosts}
-use Rattle.vab_disk.specs.Disk.{Image, Outcome, Leaves, Adds, Hearing}
+use Rattle.vab_disk.specs.Disk.{Outcome, Leaves, Adds, Hearing}
 use Rattle.vab_disk.specs.Calls.{IsAtRest}
 use Rattle.vab_disk.proofs.Moments.{adds_wider, adds_on, all_since}
 use Rattle.vab_device.specs.declared.device.Device.{Device}
@@ -19,9 +19,8 @@ use Rattle.vab_make.specs.declared.fault.MakeFault.TheVariants as make
 use Rattle.vab_make.specs.Made.{made_layout, refusal_of, made_device_of}
 use Rattle.vab_make.specs.Making.{Gives, IsOfDisk, IsMade, LeavesMaking}
 use Rattle.vab_exchanges.specs.Session.{Exchange, End, IsSession}
-use Rattle.vab_exchanges.specs.Session as session
 use Rattle.vab_exchanges.specs.Hearing.{HearsWhere}
-use Rattle.vab_exchanges.specs.Items.{items_of, kept_after, output_of}
+use Rattle.vab_exchanges.specs.Items.{items_of, output_of}
 use Rattle.vab_exchanges.specs.Runs.{CrashesWithin, IsTold, Serves}
 use Rattle.vab_exchanges.proofs.RunLaws.{items_chain, within_greeting}
 use Rattle.vab_session.specs.Responses.{response}
@@ -37,7 +36,7 @@ use Rattle.vab_cli.specs.declared.status.Status.TheVariants.{NotADevice, Disk, P
 use Rattle.vab_cli.specs.Codes.{session_status, make_status}
 use Rattle.vab_cli.specs.Opening.{Opens}
 use Rattle.vab_cli.specs.Program.{AnswersAll}
-use Rattle.vab_cli.specs.Runs.{SaysEnd, Held, IsEarly, RunsSession, FailsBefore, FailsMaking}
+use Rattle.vab_cli.specs.Runs.{SaysEnd, Held, IsEarly, RunsSession, FailsMaking}
 use Rattle.vab_cli.proofs.Items.{mounted_is}
 use Rattle.vab_cli.proofs.Running.{settled_image}
 
@@ -366,8 +365,9 @@ module _ {D : Type 0}
         })
         represents serves
 
-  -- ---- where no count rises
+-- ---- where no count rises
 
+module _ {D : Type 0} (g : Ghosts D) (size : ℕ) where
   -- neither the disk nor the port failed
   held_of : (status : Status) → (status ≡ Disk → ⊥) → (status ≡ Port → ⊥) → Held status
   held_of Done disk port = tt

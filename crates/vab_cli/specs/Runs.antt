@@ -10,7 +10,7 @@ use Rattle.vab_make.specs.Made.{made_device_of}
 use Rattle.vab_make.specs.Making.{LeavesMaking}
 use Rattle.vab_exchanges.specs.Session.{Exchange, End, IsSession}
 use Rattle.vab_exchanges.specs.Session as session
-use Rattle.vab_exchanges.specs.Items.{Kept, Item, items_of, kept_after, output_of}
+use Rattle.vab_exchanges.specs.Items.{Item, items_of, kept_after, output_of}
 use Rattle.vab_exchanges.specs.Runs.{CrashesWithin, IsTold}
 use Rattle.vab_exchanges.specs.Hearing.{HearsWhere}
 use Rattle.vab_session.specs.Responses.{response}

@@ -1,5 +1,4 @@
-use Rattle.std.proofs.Common.{◌≡◌, ◌∙◌, List, ℕ, Ok, Err, refl, sym, subst}
-use Rattle.vab_device.specs.Mounted.{Mounted}
+use Rattle.std.proofs.Common.{List, ℕ, Ok, Err, refl, subst}
 use Rattle.vab_model.specs.Commands.{command_of}
 use Rattle.vab_cli.specs.declared.status.Status.{Status}
 use Rattle.vab_cli.specs.declared.status.Status.TheVariants.{Port}

@@ -1,13 +1,9 @@
 use Rattle.std.proofs.Common.{◌≡◌, ◌≢◌, ◌∙◌, inl, inr, refl, sym, subst, rules}
-use Rattle.vab_disk.specs.Calls.{Changes}
 use Rattle.vab_disk.proofs.CallLaws.{changes_touches, changes_then, changes_telling}
-use Rattle.vab_device.specs.Faults.{IsOfDisk}
 use Rattle.vab_device.proofs.ReadingLaws.{device_stands}
-use Rattle.vab_recover.specs.Opened.{IsRepair}
-use Rattle.vab_cli.specs.declared.status.Status.{Status}
-use Rattle.vab_cli.specs.declared.status.Status.TheVariants.{NotADevice, Disk, Port, NoMemory}
+use Rattle.vab_cli.specs.declared.status.Status.TheVariants.{NotADevice, Port}
 use Rattle.vab_cli.specs.Runs.{IsEarly}
-use Rattle.vab_cli.proofs.Running.{contents_of, early_of, not_of_disk_by, memory_other, is_one}
+use Rattle.vab_cli.proofs.Running.{contents_of, early_of, not_of_disk_by, memory_other}
 use Rattle.vab_cli.proofs.Running.{fails_before, none_early, none_told, contents_no_disk}
 use Rattle.vab_cli.proofs.opening.open.Goals as goal
 

@@ -1,8 +1,6 @@
-use Rattle.std.proofs.Common.{◌≡◌, inl, inr, ℕ, Ok, Err, sym, ap, subst, ◌∙◌}
-use Rattle.vab_disk.specs.Disk.{Image}
+use Rattle.std.proofs.Common.{◌≡◌, inl, inr, ℕ, Ok, Err, sym, subst}
 use Rattle.vab_device.specs.Mounted.{Mounted}
 use Rattle.vab_device.specs.Reading.{IsIn}
-use Rattle.vab_exchanges.specs.Items.{Item}
 use Rattle.vab_model.specs.Commands.{Print}
 use Rattle.vab_model.specs.Effects.{found_of}
 use Rattle.vab_cli.specs.Verbs.{print_told, command_item, verb_status}

@@ -1,8 +1,6 @@
-use Rattle.std.proofs.Common.{◌≡◌, ◌∙◌, ◌+◌, ◌*◌, ◌++◌, ◌≤◌, ℕ, length, refl, sym, ap, arith, rules}
+use Rattle.std.proofs.Common.{◌≡◌, ◌∙◌, ◌+◌, ◌*◌, ◌++◌, ◌≤◌, length, refl, sym, ap, arith, rules}
 use Rattle.std.proofs.Common.{length-append}
-use Rattle.std.specs.Prelude.{OnOk}
 use Rattle.vab_disk.proofs.CallLaws.{reads_none, reads_then}
-use Rattle.vab_device.specs.Mounted.{bytes_at}
 use Rattle.vab_manager.proofs.BlockLaws.{part_kept}
 use Rattle.vab_manager.proofs.DigestLaws.{bytes_none}
 use Rattle.vab_cli.proofs.Blocks.{piece_more, within_kept}

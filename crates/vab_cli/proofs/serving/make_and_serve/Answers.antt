@@ -3,7 +3,7 @@ use Rattle.std.proofs.Common.{refl, sym, ap, subst, ◌^◌, rules}
 use Rattle.vab_disk.specs.Disk.{Adds}
 use Rattle.vab_disk.specs.Calls.{IsAtRest, OnlyReads}
 use Rattle.vab_disk.proofs.CallLaws.{reads_none}
-use Rattle.vab_device.specs.Reading.{device, IsIn, Represents}
+use Rattle.vab_device.specs.Reading.{device, Represents}
 use Rattle.vab_device.proofs.ReadingLaws.{device_stands}
 use Rattle.vab_recover.specs.Opened.{LeavesSame}
 use Rattle.vab_set.specs.declared.set.SetImage.{SetImage}

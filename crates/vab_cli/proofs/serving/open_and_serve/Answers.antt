@@ -1,5 +1,4 @@
-use Rattle.std.proofs.Common.{◌≡◌, inl, ℕ, sym, subst, ◌^◌}
-use Rattle.vab_device.specs.Reading.{Represents}
+use Rattle.std.proofs.Common.{inl, ℕ, sym, subst, ◌^◌}
 use Rattle.vab_session.specs.Served.{ServesDevice}
 use Rattle.vab_cli.specs.declared.status.Status.{Status}
 use Rattle.vab_cli.specs.Runs.{RunsSession}
