@@ -17,10 +17,10 @@ invariant-loop-packet g l = record {
   most : most_of l.reader ≡ most_of l.fn.reader;
   count : g.P.Disk.is_modelled
       → total_of l.reader (g.P.Disk.input_left l.p)
-        ≡ total_of l.fn.reader (g.P.Disk.input_left l.fn.p);
+      ≡ total_of l.fn.reader (g.P.Disk.input_left l.fn.p);
   beyond : g.P.Disk.is_modelled
       → beyond_of l.reader (g.P.Disk.input_left l.p)
-        ≡ beyond_of l.fn.reader (g.P.Disk.input_left l.fn.p);
+      ≡ beyond_of l.fn.reader (g.P.Disk.input_left l.fn.p);
   size : g.P.Disk.size l.p ≡ g.P.Disk.size l.fn.p;
   device : IsDevice l.kept.device (g.P.Disk.size l.fn.p);
   stands : g.P.Disk.is_modelled
@@ -31,12 +31,12 @@ invariant-loop-packet g l = record {
       → (told : List ℕ)
       → g.P.Disk.told l.fn.p ≡ told ++ codes "FB01"
       → Progress response (IsIn (g.P.Disk.size l.fn.p)) g.P.Disk
-        (rest_of l.fn.reader (g.P.Disk.input_left l.fn.p))
-        (beyond_of l.fn.reader (g.P.Disk.input_left l.fn.p))
-        (kept_on l.fn.kept (g.P.Disk.seen l.fn.p))
-        told l.fn.p l.p
-        (rest_of l.reader (g.P.Disk.input_left l.p))
-        (kept_on l.kept (g.P.Disk.seen l.p));
+      (rest_of l.fn.reader (g.P.Disk.input_left l.fn.p))
+      (beyond_of l.fn.reader (g.P.Disk.input_left l.fn.p))
+      (kept_on l.fn.kept (g.P.Disk.seen l.fn.p))
+      told l.fn.p l.p
+      (rest_of l.reader (g.P.Disk.input_left l.p))
+      (kept_on l.kept (g.P.Disk.seen l.p));
 }
 
 abbrev pub decreases-loop-packet : goal.decreases-loop-packet
