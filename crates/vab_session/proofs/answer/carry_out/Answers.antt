@@ -1,11 +1,10 @@
-use Rattle.std.proofs.Common.{◌≡◌, inl, List, ℕ, sym, ◌∙◌, ap, subst}
+use Rattle.std.proofs.Common.{◌≡◌, inl, ◌∙◌, ap, subst}
 use Rattle.vab_model.specs.Commands.{command_of}
 use Rattle.vab_model.specs.Effects.{after_of}
 use Rattle.vab_device.specs.Mounted.{Mounted, mounted_on, effect_on}
 use Rattle.vab_device.specs.Reading.{IsIn}
 use Rattle.vab_device.proofs.ReadingLaws.{device_stands}
 use Rattle.vab_fbproto.specs.Texts.{reply_text}
-use Rattle.vab_exchanges.specs.Items.{Kept}
 use Rattle.vab_session.specs.Served.{kept_on}
 use Rattle.vab_session.proofs.Data.{command_before, command_done, command_told}
 use Rattle.vab_session.proofs.answer.carry_out.Goals as goal

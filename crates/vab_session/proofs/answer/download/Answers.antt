@@ -1,5 +1,6 @@
-use Rattle.std.proofs.Common.{◌≡◌, inl, inr, true, false, ℕ, zero, suc, ◌<◌, List, ◌++◌, Some, Ok, Err, take, refl, sym, ◌∙◌, ap, subst, arith, rules}
-use Rattle.vab_disk.specs.Disk.{Image, Adds, Nothing, Hearing}
+use Rattle.std.proofs.Common.{◌≡◌, inl, inr, true, false, ℕ, zero, suc, ◌<◌, List, ◌++◌, Some, Err}
+use Rattle.std.proofs.Common.{take, refl, sym, ◌∙◌, ap, subst, arith}
+use Rattle.vab_disk.specs.Disk.{Image, Adds, Nothing}
 use Rattle.vab_disk.specs.declared.disk.Disk.{Ghosts}
 use Rattle.vab_disk.specs.Port.{LeavesSaying}
 use Rattle.vab_disk.proofs.Moments.{adds_still}
@@ -9,14 +10,15 @@ use Rattle.vab_device.proofs.ReadingLaws.{device_stands}
 use Rattle.vab_exchanges.specs.Session.{packet, IsAwaited}
 use Rattle.vab_exchanges.specs.Hearing.{HearsWhere, IsHeardFor}
 use Rattle.vab_exchanges.specs.Items.{Kept, data_text}
-use Rattle.vab_exchanges.specs.Reading.{rest_of, beyond_of, all_of, total_of, count_of, most_of, StopsBy, IsBroken, HasData}
+use Rattle.vab_exchanges.specs.Reading.{rest_of, beyond_of, all_of, total_of, count_of, most_of}
+use Rattle.vab_exchanges.specs.Reading.{StopsBy, IsBroken, HasData}
 use Rattle.vab_exchanges.specs.Runs.{Answers}
-use Rattle.vab_exchanges.proofs.Answering.{answers_large, fails_large, answers_refused, fails_refused, fails_data, answers_download, fails_okay}
+use Rattle.vab_exchanges.proofs.Answering.{answers_large, fails_large, answers_refused}
+use Rattle.vab_exchanges.proofs.Answering.{fails_refused, fails_data, answers_download, fails_okay}
 use Rattle.vab_exchanges.proofs.Listening.{hears_at, hears_same}
 use Rattle.vab_session.specs.declared.kept.KeptDevice.{KeptDevice}
 use Rattle.vab_session.specs.Responses.{response}
 use Rattle.vab_session.specs.Served.{kept_on, Fails, HasCause}
-use Rattle.vab_session.specs.Fault.{fault_of_read}
 use Rattle.vab_session.specs.declared.fault.SessionFault.{SessionFault}
 use Rattle.vab_session.proofs.Data.{data_fails, same_holds, read_cause}
 use Rattle.vab_session.proofs.answer.download.Goals as goal
@@ -34,8 +36,10 @@ by_names : {D : Type 0} (size : ℕ) (g : Ghosts D) (k : Kept Mounted) (kept : K
     (old new : D)
     → left' ≡ left
     → image' ≡ image
-    → Answers response (IsIn size) g k (kept_on kept image) command before (rest left) beyond old new
-    → Answers response (IsIn size) g k (kept_on kept image') command before (rest left') beyond old new
+    → Answers response (IsIn size) g k (kept_on kept image) command before (rest left) beyond old
+    new
+    → Answers response (IsIn size) g k (kept_on kept image') command before (rest left') beyond
+    old new
 by_names size g k kept command before beyond rest left left' image image' old new same same' a =
     subst
     (λ (l : List ℕ).
@@ -195,7 +199,8 @@ returns-in-Err-data-clause-does g c = λ t command is.
     let why =
     subst
     (λ (l : List ℕ).
-    StopsBy (IsBroken (count_of r l) size (rest_of r l)) (total_of r l) (most_of r) c.in-Err-data.fault)
+    StopsBy (IsBroken (count_of r l) size (rest_of r l)) (total_of r l) (most_of r)
+    c.in-Err-data.fault)
     (said.left t) (c.in-Err-data.ensures.fault t) in
     subst
     (λ (e : SessionFault).

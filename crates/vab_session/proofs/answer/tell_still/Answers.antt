@@ -1,4 +1,4 @@
-use Rattle.std.proofs.Common.{◌≡◌, inl, List, ℕ, sym, subst}
+use Rattle.std.proofs.Common.{inl, sym, subst}
 use Rattle.vab_disk.specs.Disk.{Image}
 use Rattle.vab_device.specs.Reading.{IsIn}
 use Rattle.vab_device.proofs.ReadingLaws.{device_stands}
@@ -18,7 +18,8 @@ returns-in-Ok-clause-does g c = λ t command before beyond count total most aske
     let stands = device_stands kept.device size (g.P.Disk.seen old) (c.requires.stands t) in
     subst
     (λ (image : Image).
-    Answers response (IsIn size) g.P.Disk k (kept_on kept image) command before before beyond old new)
+    Answers response (IsIn size) g.P.Disk k (kept_on kept image) command before before beyond old
+    new)
     (sym (c.tell_reply.ensures.seen t))
     (still_answers size g.P.Disk k command before beyond asked is none c.args.text.now same old new
     stands (c.tell_reply.ensures.seen t) (c.tell_reply.ensures.crash t)

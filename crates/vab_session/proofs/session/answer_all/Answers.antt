@@ -1,4 +1,5 @@
-use Rattle.std.proofs.Common.{◌≡◌, ℕ, ◌∙◌, min, true, false, List, Some, None, Ok, Err, refl, sym, ap, subst, rules}
+use Rattle.std.proofs.Common.{◌≡◌, ℕ, ◌∙◌, min, true, false, List, Some, None, Ok, Err, refl, sym}
+use Rattle.std.proofs.Common.{ap, subst, rules}
 use Rattle.vab_disk.proofs.CallLaws.{fewer_then}
 use Rattle.vab_device.specs.declared.device.Device.{Device}
 use Rattle.vab_device.specs.Kept.{IsDevice}
@@ -6,13 +7,14 @@ use Rattle.vab_device.specs.Mounted.{mounted_on}
 use Rattle.vab_device.specs.Reading.{IsIn, Represents}
 use Rattle.vab_device.proofs.ReadingLaws.{device_stands}
 use Rattle.vab_exchanges.specs.Session.{ends_session, Stops, Closed}
-use Rattle.vab_exchanges.specs.Reading.{rest_of, beyond_of, total_of, count_of, most_of, EndsAs, StopsBy}
+use Rattle.vab_exchanges.specs.Reading.{rest_of, beyond_of, total_of, most_of, EndsAs, StopsBy}
 use Rattle.vab_exchanges.specs.Runs.{Ran}
 use Rattle.vab_exchanges.proofs.Progress.{begun, stopped, answered, rebooted}
 use Rattle.vab_session.specs.declared.fault.SessionFault.{SessionFault}
 use Rattle.vab_session.specs.Responses.{response}
 use Rattle.vab_session.specs.Served.{kept_on, HeldBy, Says}
-use Rattle.vab_session.proofs.Endings.{moved, some_is, heard_on, does_moved, read_fails, answer_fails}
+use Rattle.vab_session.proofs.Endings.{moved, some_is, heard_on, does_moved, read_fails}
+use Rattle.vab_session.proofs.Endings.{answer_fails}
 use Rattle.vab_session.proofs.session.answer_all.Goals as goal
 
 pub returns-in-Ok-false-clause-ran : goal.returns-in-Ok-false-clause-ran
@@ -45,7 +47,8 @@ returns-in-Ok-false-clause-ran g c = λ t are told greeted.
     stopped response (IsIn N) g.P.Disk bytes beyond first told old now left K so_far
     (Unit {0}) (Some reached) (min most total) total most Closed ends
     (λ s is.
-    some_is reached s is ∙ ap (λ (d : Device). mounted_on d (g.P.Disk.seen now)) c.device_of.ensures)
+    some_is reached s is
+    ∙ ap (λ (d : Device). mounted_on d (g.P.Disk.seen now)) c.device_of.ensures)
 
 pub returns-in-Err-clause-ran : goal.returns-in-Err-clause-ran
 returns-in-Err-clause-ran g c = λ t are told greeted.
@@ -187,7 +190,8 @@ loop-packet-preserved g c =
           (λ (n : ℕ). Represents c.in-Ok.next.device n (g.P.Disk.seen c.answer.new.p))
           sizes (c.in-Ok.ensures.stands t);
       counts =
-          fewer_then _ _ _ (fewer_then _ _ _ i.counts ok.listens.counts) c.answer.ensures.cause.counts;
+          fewer_then _ _ _ (fewer_then _ _ _ i.counts ok.listens.counts)
+          c.answer.ensures.cause.counts;
       steady = c.in-Ok.ensures.cause.steady tt ∙ ok.steady ∙ i.steady;
       progress = λ t told greeted.
           let old = c.args.p.now in

@@ -1,5 +1,7 @@
-use Rattle.std.proofs.Common.{◌≡◌, ℕ, ◌+◌, ◌++◌, ◌∙◌, min, true, List, None, Err, Result, length, take, drop, codes, sym, ap, subst, arith, rules, length-take, get_or, get_or-drop, take-append-drop}
-use Rattle.vab_disk.specs.Disk.{Image, Outcome, Adds, Nothing}
+use Rattle.std.proofs.Common.{◌≡◌, ℕ, ◌+◌, ◌++◌, ◌∙◌, min, true, List, None, Err, length, take}
+use Rattle.std.proofs.Common.{drop, codes, sym, ap, subst, arith, rules, length-take, get_or}
+use Rattle.std.proofs.Common.{get_or-drop, take-append-drop}
+use Rattle.vab_disk.specs.Disk.{Image, Adds, Nothing}
 use Rattle.vab_disk.specs.Calls.{IsAtRest}
 use Rattle.vab_disk.proofs.Moments.{adds_still}
 use Rattle.vab_disk.specs.declared.disk.Disk.{Ghosts}
@@ -10,8 +12,9 @@ use Rattle.vab_device.specs.Reading.{IsIn}
 use Rattle.vab_device.proofs.ReadingLaws.{device_stands}
 use Rattle.vab_exchanges.specs.Session.{HasNoHello}
 use Rattle.vab_exchanges.specs.Hearing.{HearsWhere, IsHeardFor}
-use Rattle.vab_exchanges.specs.Reading.{rest_of, beyond_of, all_of, total_of, count_of, most_of, StopsBy, IsFewerThan}
-use Rattle.vab_exchanges.specs.Items.{Kept, Item}
+use Rattle.vab_exchanges.specs.Reading.{rest_of, beyond_of, all_of, total_of, count_of, most_of}
+use Rattle.vab_exchanges.specs.Reading.{StopsBy, IsFewerThan}
+use Rattle.vab_exchanges.specs.Items.{Item}
 use Rattle.vab_exchanges.specs.Runs.{CrashesWithin, Ran, Serves}
 use Rattle.vab_exchanges.proofs.RunLaws.{IsChain}
 use Rattle.vab_exchanges.proofs.Progress.{still_settled}
@@ -21,7 +24,7 @@ use Rattle.vab_exchanges.proofs.Serving.{served, failed_early, greeting}
 use Rattle.vab_session.specs.declared.fault.Ended.{Ended}
 use Rattle.vab_session.specs.declared.fault.SessionFault.{SessionFault}
 use Rattle.vab_session.specs.Responses.{response}
-use Rattle.vab_session.specs.Served.{kept_on, nothing_staged, Held, HeldBy, Says, HasCause, reached}
+use Rattle.vab_session.specs.Served.{nothing_staged, Held, HeldBy, Says, HasCause, reached}
 use Rattle.vab_session.proofs.Data.{read_cause}
 use Rattle.vab_session.proofs.Endings.{moved, hello_fails}
 use Rattle.vab_session.proofs.session.serve_up_to.Goals as goal
@@ -100,7 +103,8 @@ returns-in-Err-clause-serves g c = λ t.
     let left = c.say_all.ensures.left t in
     let there = device_stands c.args.device N image (c.requires.stands t) in
     let said : g.P.Disk.told mid ≡ g.P.Disk.told old ++ codes "FB01" = search rules in
-    let rest : rest_of r lp ≡ take most input = c.new-reader.ensures.rest lp ∙ ap (take most) left in
+    let rest : rest_of r lp ≡ take most input =
+    c.new-reader.ensures.rest lp ∙ ap (take most) left in
     let beyond : beyond_of r lp ≡ drop most input =
     c.new-reader.ensures.beyond lp ∙ ap (drop most) left in
     let total : total_of r lp ≡ length input =
@@ -117,7 +121,8 @@ returns-in-Err-clause-serves g c = λ t.
     (c.in-Err.ensures.fault t))) in
     subst
     (λ (e : SessionFault).
-    Serves response (IsIn N) g.P.Disk (HeldBy e) (Says (Err e)) None most (nothing_staged m) old new)
+    Serves response (IsIn N) g.P.Disk (HeldBy e) (Says (Err e)) None most (nothing_staged m) old
+    new)
     (sym c.from.ensures)
     (hello_fails N g.P.Disk g.met.P.Disk.only_now most (nothing_staged m) old new
     (g.met.P.Disk.bytes old) (listens.told t ∙ said) there
@@ -174,7 +179,8 @@ returns-clause-serves g c = λ t.
     let left = c.say_all.ensures.left t in
     let there = device_stands device N image (c.requires.stands t) in
     let said : g.P.Disk.told said_to ≡ g.P.Disk.told old ++ codes "FB01" = search rules in
-    let rest0 : rest_of r0 l0 ≡ take most input = c.new-reader.ensures.rest l0 ∙ ap (take most) left in
+    let rest0 : rest_of r0 l0 ≡ take most input =
+    c.new-reader.ensures.rest l0 ∙ ap (take most) left in
     let beyond0 : beyond_of r0 l0 ≡ drop most input =
     c.new-reader.ensures.beyond l0 ∙ ap (drop most) left in
     let rest : rest_of r lp ≡ drop 4 (take most input) =
