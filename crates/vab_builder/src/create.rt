@@ -10,7 +10,7 @@ ghost use Rattle.vab_builder.specs.Edits.{created, created_blocks, first_group, 
 ghost use Rattle.vab_builder.specs.Edits.{with_created, with_group};
 ghost use Rattle.vab_builder.specs.Gives.{GivesLayout};
 ghost use Rattle.vab_builder.specs.Update.{IsUpdate, Refuses};
-ghost use Rattle.vab_builder.specs.Verdicts.{IsCreated};
+ghost use Rattle.vab_builder.specs.Passes.{IsCreated};
 
 use crate::fault::EditFault;
 use crate::find::{count_own, first_group, has_part, limit_of, push_before};

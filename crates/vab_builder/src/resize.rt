@@ -4,10 +4,10 @@ ghost use Rattle.std.specs.Prelude.{◌≡◌, ◌≤◌, ◌<◌, ◌-◌, leng
 ghost use Rattle.vab_layout.specs.Slots.{before_of, blocks_named};
 ghost use Rattle.vab_tables.specs.Rules.{NamesDiffer};
 ghost use Rattle.vab_builder.specs.Edits.{changed, free_of, kept_blocks, resized, updated};
-ghost use Rattle.vab_builder.specs.EditLaws.{resized_to};
+ghost use Rattle.vab_builder.specs.Edits.{resized_to};
 ghost use Rattle.vab_builder.specs.Gives.{GivesLayout};
 ghost use Rattle.vab_builder.specs.Update.{IsUpdate, Refuses};
-ghost use Rattle.vab_builder.specs.ResizeVerdicts.{IsResized};
+ghost use Rattle.vab_builder.specs.Passes.{IsResized};
 
 use crate::fault::EditFault;
 use crate::find::{count_named, group_named, has_part, limit_of};

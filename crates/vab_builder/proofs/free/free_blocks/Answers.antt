@@ -3,7 +3,7 @@ use Rattle.std.specs.Prelude.{◌↔◌, Contains, IfOk}
 use Rattle.vab_blocks.specs.Blocks.{free_below}
 use Rattle.vab_layout.specs.Layout.{blocks_of_parts}
 use Rattle.vab_layout.specs.Slots.{other_slot, own_parts, store_parts}
-use Rattle.vab_builder.specs.Counting.{free_same}
+use Rattle.vab_builder.proofs.Counting.{free_same}
 use Rattle.vab_builder.proofs.free.free_blocks.Goals as goal
 
 pub returns : goal.returns

@@ -3,10 +3,10 @@ use Rattle.std.proofs.lemmas.Bool.{false_from_ne_true}
 use Rattle.vab_names.specs.Names.{is_full, store_of}
 use Rattle.vab_tables.specs.Rules.{cap_of}
 use Rattle.vab_builder.specs.Sizes.{has_part}
-use Rattle.vab_builder.specs.ResizeVerdicts.{resized-bad_name, resized-bad_size, resized-unknown}
-use Rattle.vab_builder.specs.ResizeVerdicts.{resized-has_store, resized-group_limit}
-use Rattle.vab_builder.specs.ResizeVerdicts.{resized-no_room}
-use Rattle.vab_builder.specs.NameCases.{full_few}
+use Rattle.vab_builder.proofs.ResizeVerdicts.{resized-bad_name, resized-bad_size, resized-unknown}
+use Rattle.vab_builder.proofs.ResizeVerdicts.{resized-has_store, resized-group_limit}
+use Rattle.vab_builder.proofs.ResizeVerdicts.{resized-no_room}
+use Rattle.vab_builder.proofs.NameCases.{full_few}
 use Rattle.vab_builder.specs.Sizes.{is_within}
 use Rattle.vab_builder.proofs.resize.judged.Goals as goal
 

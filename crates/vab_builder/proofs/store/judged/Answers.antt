@@ -3,10 +3,11 @@ use Rattle.std.proofs.lemmas.Bool.{false_from_ne_true}
 use Rattle.vab_names.specs.Names.{is_full, store_of}
 use Rattle.vab_tables.specs.Rules.{cap_of}
 use Rattle.vab_builder.specs.Sizes.{has_part}
-use Rattle.vab_builder.specs.StoreVerdicts.{store_size, stored-bad_name, stored-bad_size}
-use Rattle.vab_builder.specs.StoreVerdicts.{stored-unknown, stored-has_store, stored-no_room}
-use Rattle.vab_builder.specs.NameCases.{full_slot, full_few}
-use Rattle.vab_builder.specs.EditLaws.{named_small, store_few}
+use Rattle.vab_builder.proofs.StoreVerdicts.{stored-bad_name, stored-bad_size}
+use Rattle.vab_builder.specs.Passes.{store_size}
+use Rattle.vab_builder.proofs.StoreVerdicts.{stored-unknown, stored-has_store, stored-no_room}
+use Rattle.vab_builder.proofs.NameCases.{full_slot, full_few}
+use Rattle.vab_builder.proofs.EditLaws.{named_small, store_few}
 use Rattle.vab_builder.proofs.store.judged.Goals as goal
 
 pub returns-in_default : goal.returns-in_default

@@ -34,14 +34,14 @@ use Rattle.vab_layout.specs.Slots.{blocks_named, before_of, IsTargetPart, IsStor
 use Rattle.vab_layout.specs.Slots.{groups_of_slot}
 use Rattle.vab_layout.specs.Plain.{default_group, own_groups, plain}
 use Rattle.vab_builder.specs.Import.{stores_group, twin_group_name, twin_group, twin_part, imported}
-use Rattle.vab_builder.specs.ListLaws.{filter_all, filter_none, length-filter-le, sum_by-filter-le}
-use Rattle.vab_builder.specs.ListLaws.{map_keeps, flat_map-map, sum_by-map, pairs_head, pairs_tail}
-use Rattle.vab_builder.specs.ListLaws.{pairs_append, pairs_map, pairs_weaker, cons_cases}
-use Rattle.vab_builder.specs.ListLaws.{contains_later, contains_filter, contains_map, mapped_from}
-use Rattle.vab_builder.specs.SlotLaws.{letter_of, other_slot_again, suffix_letter, of_other_slot}
-use Rattle.vab_builder.specs.SlotLaws.{default_of_no_slot, store_group_of_no_slot, store_of_no_slot}
-use Rattle.vab_builder.specs.SlotLaws.{of_slot_no_store, in_slot_of_slot, base_of-in_slot}
-use Rattle.vab_builder.specs.SlotLaws.{in_slot_again, in_slot_one, slots_apart, of_slot_not}
+use Rattle.vab_builder.proofs.ListLaws.{filter_all, filter_none, length-filter-le, sum_by-filter-le}
+use Rattle.vab_builder.proofs.ListLaws.{map_keeps, flat_map-map, sum_by-map, pairs_head, pairs_tail}
+use Rattle.vab_builder.proofs.ListLaws.{pairs_append, pairs_map, pairs_weaker, cons_cases}
+use Rattle.vab_builder.proofs.ListLaws.{contains_later, contains_filter, contains_map, mapped_from}
+use Rattle.vab_builder.proofs.SlotLaws.{letter_of, other_slot_again, suffix_letter, of_other_slot}
+use Rattle.vab_builder.proofs.SlotLaws.{default_of_no_slot, store_group_of_no_slot, store_of_no_slot}
+use Rattle.vab_builder.proofs.SlotLaws.{of_slot_no_store, in_slot_of_slot, base_of-in_slot}
+use Rattle.vab_builder.proofs.SlotLaws.{in_slot_again, in_slot_one, slots_apart, of_slot_not}
 
 -- ---- groups
 

@@ -12,14 +12,15 @@ use Rattle.vab_layout.specs.declared.layout.Layout.{Layout}
 use Rattle.vab_layout.specs.Slots.{blocks_named, before_of, own_parts, IsOwn}
 use Rattle.vab_builder.specs.Edits.{free_of, kept_blocks, resized_blocks, resized_part, updated}
 use Rattle.vab_builder.specs.Edits.{changed, store_blocks, with_resized}
-use Rattle.vab_builder.specs.Counting.{first, later, of_filter}
-use Rattle.vab_builder.specs.NameCases.{same_name, full_slot}
-use Rattle.vab_builder.specs.OwnLaws.{own_rules}
-use Rattle.vab_builder.specs.PartLaws.{named_cases, named_is, part_there, has_own}
-use Rattle.vab_builder.specs.Room.{resize_room, store_room}
+use Rattle.vab_builder.proofs.Counting.{first, later, of_filter}
+use Rattle.vab_builder.proofs.NameCases.{same_name, full_slot}
+use Rattle.vab_builder.proofs.OwnLaws.{own_rules}
+use Rattle.vab_builder.proofs.PartLaws.{named_cases, named_is, part_there, has_own}
+use Rattle.vab_builder.proofs.RoomLaws.{resize_room, store_room}
 use Rattle.vab_builder.specs.Sizes.{has_part, used_by, wants_resized, wants_stored}
 use Rattle.vab_builder.specs.Update.{IsUpdate}
-use Rattle.vab_builder.specs.StoreVerdicts.{store_size}
+use Rattle.vab_builder.specs.Passes.{store_size}
+use Rattle.vab_builder.specs.Edits.{resized_to}
 
 pub changed_same : (name : List ℕ) (f g : Part → Part) (parts : List Part)
     → ((p : Part) → Contains parts p → p.name ≡ name → f p ≡ g p)
@@ -34,15 +35,6 @@ changed_same name f g (p ∷ ps) h =
           ∙ ap (λ (l : List Part). g p ∷ l) rest)
       | inr other ↦ rw other (ap (λ (l : List Part). p ∷ l) rest)
     ]
-
--- the blocks of the partition of this name at another size
-abbrev pub resized_to : ℕ → Layout → Layout → List ℕ → ℕ → List ℕ
-resized_to slot source target name n =
-    kept_blocks (before_of slot source.parts name) (blocks_named name target.parts) n
-    ++ take
-    (n - length
-    (kept_blocks (before_of slot source.parts name) (blocks_named name target.parts) n))
-    (free_of slot source target)
 
 pub resized_alike : (slot : ℕ) (source target : Layout) (name : List ℕ) (n : ℕ)
     → NamesDiffer (λ q. q.name) target.parts

@@ -22,8 +22,8 @@ use Rattle.vab_layout.proofs.LayoutLaws.{runs_few, layout_runs, table_size_is}
 use Rattle.vab_layout.specs.Slots.{groups_of_slot, own_parts, IsOwn}
 use Rattle.vab_layout.specs.Plain.{plain}
 use Rattle.vab_builder.specs.Import.{imported}
-use Rattle.vab_builder.specs.SlotLaws.{default_of_no_slot}
-use Rattle.vab_builder.specs.ImportLaws.{plain_parts, plain_groups_count}
+use Rattle.vab_builder.proofs.SlotLaws.{default_of_no_slot}
+use Rattle.vab_builder.proofs.ImportLaws.{plain_parts, plain_groups_count}
 
 -- two facts of what is given make a third
 pub both_ok : {A E : Type 0} (r : Result A E) (P Q R : A → Type 0) → ((x : A) → P x → Q x → R x)

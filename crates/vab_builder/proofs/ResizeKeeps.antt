@@ -22,20 +22,20 @@ use Rattle.vab_layout.specs.Slots.{other_slot, own_parts, store_parts, before_of
 use Rattle.vab_layout.specs.Slots.{IsDistinct, IsOwnPart, IsTargetPart}
 use Rattle.vab_builder.specs.Edits.{free_of, kept_blocks, resized_blocks, resized_part, changed}
 use Rattle.vab_builder.specs.Edits.{with_resized}
-use Rattle.vab_builder.specs.Counting.{all_from, of_take, of_drop, Apart, once_append, once_take}
-use Rattle.vab_builder.specs.Counting.{once_drop, pieces_once}
-use Rattle.vab_builder.specs.NameCases.{full_slot}
-use Rattle.vab_builder.specs.Room.{before_listed, length-kept_blocks}
-use Rattle.vab_builder.specs.EditLaws.{same_size, other_size}
-use Rattle.vab_builder.specs.KeepLaws.{runs_few, before_once, before_below, before_not_own}
-use Rattle.vab_builder.specs.KeepLaws.{before_not_store, free_below_cap, free_not_source}
-use Rattle.vab_builder.specs.KeepLaws.{free_not_target, free_once}
-use Rattle.vab_builder.specs.CreateKeeps.{begins_so, behind_so}
-use Rattle.vab_builder.specs.ChangedTarget.{ChangesWell, target_changed, changed_all}
-use Rattle.vab_builder.specs.ChangedTarget.{changed_differ, changed_sum, apart_pair}
-use Rattle.vab_builder.specs.Keeps.{Keeps}
+use Rattle.vab_builder.proofs.Counting.{all_from, of_take, of_drop, Apart, once_append, once_take}
+use Rattle.vab_builder.proofs.Counting.{once_drop, pieces_once}
+use Rattle.vab_builder.proofs.NameCases.{full_slot}
+use Rattle.vab_builder.proofs.RoomLaws.{before_listed, length-kept_blocks}
+use Rattle.vab_builder.proofs.EditLaws.{same_size, other_size}
+use Rattle.vab_builder.proofs.KeepLaws.{runs_few, before_once, before_below, before_not_own}
+use Rattle.vab_builder.proofs.KeepLaws.{before_not_store, free_below_cap, free_not_source}
+use Rattle.vab_builder.proofs.KeepLaws.{free_not_target, free_once}
+use Rattle.vab_builder.proofs.CreateKeeps.{begins_so, behind_so}
+use Rattle.vab_builder.proofs.ChangedTarget.{ChangesWell, target_changed, changed_all}
+use Rattle.vab_builder.proofs.ChangedTarget.{changed_differ, changed_sum, apart_pair}
+use Rattle.vab_builder.proofs.Keeps.{Keeps}
 use Rattle.vab_builder.specs.Update.{IsUpdate}
-use Rattle.vab_builder.specs.ResizeVerdicts.{IsResized}
+use Rattle.vab_builder.specs.Passes.{IsResized}
 
 -- ---- the attribute of an updated partition
 

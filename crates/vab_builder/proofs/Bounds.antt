@@ -20,11 +20,11 @@ use Rattle.vab_layout.specs.Slots.{other_slot, own_parts, store_parts, before_of
 use Rattle.vab_layout.specs.Slots.{IsDistinct, IsOwn, IsOwnPart}
 use Rattle.vab_builder.specs.Sizes.{WantFits, source_sizes, want_of, wants_of, wants_resized}
 use Rattle.vab_builder.specs.Sizes.{wants_stored, used_by, sizes_in}
-use Rattle.vab_builder.specs.Counting.{all_from, of_filter, in_filter, few_below, pieces_once}
+use Rattle.vab_builder.proofs.Counting.{all_from, of_filter, in_filter, few_below, pieces_once}
 use Rattle.std.proofs.lemmas.List.Elements.{Contains-append_right}
-use Rattle.vab_builder.specs.NameCases.{in_slot_is, store_is_store}
-use Rattle.vab_builder.specs.OwnLaws.{own_rules}
-use Rattle.vab_builder.specs.PartLaws.{named_cases}
+use Rattle.vab_builder.proofs.NameCases.{in_slot_is, store_is_store}
+use Rattle.vab_builder.proofs.OwnLaws.{own_rules}
+use Rattle.vab_builder.proofs.PartLaws.{named_cases}
 use Rattle.vab_builder.specs.Update.{IsUpdate}
 
 pub few_kept : (p : Part → Bool) (parts : List Part) → length (filter p parts) ≤ length parts

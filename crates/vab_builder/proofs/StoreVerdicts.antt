@@ -11,27 +11,10 @@ use Rattle.vab_builder.specs.declared.fault.EditFault.TheVariants.{BadName, BadS
 use Rattle.vab_builder.specs.declared.fault.EditFault.TheVariants.{HasStore, NoRoom}
 use Rattle.vab_builder.specs.Sizes.{has_part, wants_stored, used_by}
 use Rattle.vab_builder.specs.Edits.{store_blocks, with_store, stored}
-use Rattle.vab_builder.specs.NameCases.{full_slot}
-use Rattle.vab_builder.specs.PartLaws.{has_own}
-use Rattle.vab_builder.specs.Verdicts.{unless_ok, ok_same}
-
--- a size that a store may have: 0, or more than a block
-abbrev pub store_size : ℕ → Bool
-store_size bytes = leb bytes (2 ^ 40) && (eqb bytes 0 || ltb 1 (blocks_of bytes))
-
--- blocks in use
-abbrev pub stored_in_use : ℕ → Layout → Layout → List ℕ → ℕ → ℕ
-stored_in_use slot source target name n =
-    used_by slot source.parts (wants_stored slot source.parts target.parts name n)
-
--- the edit passes all tests
-pub record IsStored (slot : ℕ) (source target : Layout) (name : List ℕ) (bytes : ℕ) : Type 0 where
-  pub full : is_full slot name ≡ true
-  pub size : store_size bytes ≡ true
-  pub known : has_part name target.parts ≡ true
-  pub plain : has_part (store_of name) target.parts ≡ false
-  pub room : stored_in_use slot source target name (store_blocks target name bytes)
-      ≤ cap_of target.device
+use Rattle.vab_builder.proofs.NameCases.{full_slot}
+use Rattle.vab_builder.proofs.PartLaws.{has_own}
+use Rattle.vab_builder.proofs.Verdicts.{unless_ok, ok_same}
+use Rattle.vab_builder.specs.Passes.{store_size, stored_in_use, IsStored}
 
 pub stored-bad_name : (slot : ℕ) (source target : Layout) (name : List ℕ) (bytes : ℕ)
     → is_full slot name ≡ false → stored slot source target name bytes ≡ Err BadName

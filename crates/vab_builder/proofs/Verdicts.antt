@@ -19,8 +19,10 @@ use Rattle.vab_builder.specs.Sizes.{has_part, wants_of, used_by, limit_of, sizes
 use Rattle.vab_builder.specs.Edits.{unless, first_group, with_created, created}
 use Rattle.vab_builder.specs.Gives.{GivesLayout}
 use Rattle.vab_builder.specs.Update.{Refuses}
-use Rattle.vab_builder.specs.NameCases.{full_slot}
-use Rattle.vab_builder.specs.PartLaws.{has_own}
+use Rattle.vab_builder.proofs.NameCases.{full_slot}
+use Rattle.vab_builder.proofs.PartLaws.{has_own}
+use Rattle.vab_builder.specs.Passes.{created_group, created_group_sum, created_group_limit}
+use Rattle.vab_builder.specs.Passes.{created_in_use, IsCreated}
 
 pub unless_ok : (t : Bool) (fault : EditFault) (next : Result Layout EditFault) (l : Layout)
     → unless t fault next ≡ Ok l → (t ≡ true) × (next ≡ Ok l)
@@ -49,35 +51,6 @@ gives (Ok l) said h = h
 gives (Err fault) said h = gives_fault fault said h
 
 -- ---- a partition more
-
-abbrev created_group : ℕ → Layout → List ℕ
-created_group slot target = first_group (own_groups slot target.groups)
-
--- bytes in the group with the partition more
-abbrev pub created_group_sum : ℕ → Layout → List ℕ → ℕ → ℕ
-created_group_sum slot target name n =
-    group_sum_of
-    (sizes_in (created_group slot target) name n (own_parts slot target.parts) ++ n ∷ [])
-
-abbrev pub created_group_limit : ℕ → Layout → ℕ
-created_group_limit slot target = limit_of target.groups (created_group slot target)
-
--- blocks in use with the partition more
-abbrev pub created_in_use : ℕ → Layout → Layout → List ℕ → ℕ → ℕ
-created_in_use slot source target name n =
-    used_by slot source.parts
-    (wants_of slot source.parts target.parts
-    ++ record { before = length (before_of slot source.parts name); blocks = n; store = 0 } ∷ [])
-
--- the edit passes all tests
-pub record IsCreated (slot : ℕ) (source target : Layout) (name : List ℕ) (bytes : ℕ) : Type 0 where
-  pub full : is_full slot name ≡ true
-  pub size : bytes ≤ 2 ^ 40
-  pub absent : has_part name target.parts ≡ false
-  pub few : length (own_parts slot target.parts) < 32
-  pub within : is_within (created_group_sum slot target name (blocks_of bytes))
-      (created_group_limit slot target) ≡ true
-  pub room : created_in_use slot source target name (blocks_of bytes) ≤ cap_of target.device
 
 pub created-bad_name : (slot : ℕ) (source target : Layout) (name : List ℕ) (bytes : ℕ)
     → is_full slot name ≡ false → created slot source target name bytes ≡ Err BadName

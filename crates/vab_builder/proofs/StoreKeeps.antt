@@ -26,23 +26,23 @@ use Rattle.vab_layout.specs.Slots.{IsOwnPart, IsTarget, IsTargetPart, IsStorePar
 use Rattle.vab_builder.specs.Import.{stores_group}
 use Rattle.vab_builder.specs.Edits.{free_of, changed, updated, store_part, store_blocks, with_group}
 use Rattle.vab_builder.specs.Edits.{with_store}
-use Rattle.vab_builder.specs.Counting.{all_from, cons_cases, none_in_nil, of_take, in_map, of_map}
-use Rattle.vab_builder.specs.Counting.{pairs_append, Apart, once_take, once_pieces, pieces_once}
-use Rattle.vab_builder.specs.Counting.{pieces_apart}
-use Rattle.vab_builder.specs.NameCases.{full_slot, full_named, full_few, store_not_own}
-use Rattle.vab_builder.specs.NameCases.{store_is_store, store_of_same, cow_not_own, eq_name}
-use Rattle.vab_builder.specs.PartLaws.{part_absent}
-use Rattle.vab_builder.specs.EditLaws.{own_there, store_few}
-use Rattle.vab_builder.specs.KeepLaws.{runs_few, more_groups, group_there, part_in, free_below_cap}
-use Rattle.vab_builder.specs.KeepLaws.{free_not_source, free_not_target, free_once, target_made}
-use Rattle.vab_builder.specs.KeepLaws.{target_part_among, store_part_among}
-use Rattle.vab_builder.specs.ResizeKeeps.{updated_attributes, updated_small, updated_is}
-use Rattle.vab_builder.specs.ChangedTarget.{target_changed, changed_own, changed_stores}
-use Rattle.vab_builder.specs.ChangedTarget.{changed_all, changed_differ, changed_no_name}
-use Rattle.vab_builder.specs.ChangedTarget.{apart_pair, either_by}
-use Rattle.vab_builder.specs.Keeps.{Keeps}
+use Rattle.vab_builder.proofs.Counting.{all_from, cons_cases, none_in_nil, of_take, in_map, of_map}
+use Rattle.vab_builder.proofs.Counting.{pairs_append, Apart, once_take, once_pieces, pieces_once}
+use Rattle.vab_builder.proofs.Counting.{pieces_apart}
+use Rattle.vab_builder.proofs.NameCases.{full_slot, full_named, full_few, store_not_own}
+use Rattle.vab_builder.proofs.NameCases.{store_is_store, store_of_same, cow_not_own, eq_name}
+use Rattle.vab_builder.proofs.PartLaws.{part_absent}
+use Rattle.vab_builder.proofs.EditLaws.{own_there, store_few}
+use Rattle.vab_builder.proofs.KeepLaws.{runs_few, more_groups, group_there, part_in, free_below_cap}
+use Rattle.vab_builder.proofs.KeepLaws.{free_not_source, free_not_target, free_once, target_made}
+use Rattle.vab_builder.proofs.KeepLaws.{target_part_among, store_part_among}
+use Rattle.vab_builder.proofs.ResizeKeeps.{updated_attributes, updated_small, updated_is}
+use Rattle.vab_builder.proofs.ChangedTarget.{target_changed, changed_own, changed_stores}
+use Rattle.vab_builder.proofs.ChangedTarget.{changed_all, changed_differ, changed_no_name}
+use Rattle.vab_builder.proofs.ChangedTarget.{apart_pair, either_by}
+use Rattle.vab_builder.proofs.Keeps.{Keeps}
 use Rattle.vab_builder.specs.Update.{IsUpdate}
-use Rattle.vab_builder.specs.StoreVerdicts.{IsStored}
+use Rattle.vab_builder.specs.Passes.{IsStored}
 
 -- ---- the partition is marked as updated
 

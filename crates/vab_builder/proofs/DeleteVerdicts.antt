@@ -7,15 +7,10 @@ use Rattle.vab_layout.specs.Slots.{own_parts}
 use Rattle.vab_builder.specs.declared.fault.EditFault.TheVariants.{BadName, Unknown, HasStore}
 use Rattle.vab_builder.specs.Sizes.{has_part}
 use Rattle.vab_builder.specs.Edits.{with_deleted, deleted}
-use Rattle.vab_builder.specs.NameCases.{full_slot}
-use Rattle.vab_builder.specs.PartLaws.{has_own}
-use Rattle.vab_builder.specs.Verdicts.{unless_ok, ok_same}
-
--- the edit passes all tests
-pub record IsDeleted (slot : ℕ) (target : Layout) (name : List ℕ) : Type 0 where
-  pub full : is_full slot name ≡ true
-  pub known : has_part name target.parts ≡ true
-  pub plain : has_part (store_of name) target.parts ≡ false
+use Rattle.vab_builder.proofs.NameCases.{full_slot}
+use Rattle.vab_builder.proofs.PartLaws.{has_own}
+use Rattle.vab_builder.proofs.Verdicts.{unless_ok, ok_same}
+use Rattle.vab_builder.specs.Passes.{IsDeleted}
 
 pub deleted-bad_name : (slot : ℕ) (target : Layout) (name : List ℕ) → is_full slot name ≡ false
     → deleted slot target name ≡ Err BadName

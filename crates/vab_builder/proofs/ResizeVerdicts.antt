@@ -13,9 +13,11 @@ use Rattle.vab_builder.specs.declared.fault.EditFault.TheVariants.{BadName, BadS
 use Rattle.vab_builder.specs.declared.fault.EditFault.TheVariants.{HasStore, GroupLimit, NoRoom}
 use Rattle.vab_builder.specs.Sizes.{has_part, wants_resized, used_by, limit_of, sizes_in, is_within}
 use Rattle.vab_builder.specs.Edits.{group_named, with_resized, resized}
-use Rattle.vab_builder.specs.NameCases.{full_slot, ne_name}
-use Rattle.vab_builder.specs.PartLaws.{has_own}
-use Rattle.vab_builder.specs.Verdicts.{unless_ok, ok_same}
+use Rattle.vab_builder.proofs.NameCases.{full_slot, ne_name}
+use Rattle.vab_builder.proofs.PartLaws.{has_own}
+use Rattle.vab_builder.proofs.Verdicts.{unless_ok, ok_same}
+use Rattle.vab_builder.specs.Passes.{resized_group_sum, resized_group_limit, resized_in_use}
+use Rattle.vab_builder.specs.Passes.{IsResized}
 
 group_own : (slot : ℕ) (name : List ℕ) (parts : List Part) → is_of_slot slot name ≡ true
     → group_named name (own_parts slot parts) ≡ group_named name parts
@@ -29,29 +31,6 @@ group_own slot name (p ∷ ps) h = elim (cases_Bool (is_of_slot slot p.name)) [
       (λ e. both_ways (is_of_slot slot p.name) other (ap (is_of_slot slot) e ∙ h)) in
       rw (other, no) (group_own slot name ps h)
 ]
-
--- bytes in its group
-abbrev pub resized_group_sum : ℕ → Layout → List ℕ → ℕ → ℕ
-resized_group_sum slot target name n =
-    group_sum_of (sizes_in (group_named name target.parts) name n (own_parts slot target.parts))
-
-abbrev pub resized_group_limit : Layout → List ℕ → ℕ
-resized_group_limit target name = limit_of target.groups (group_named name target.parts)
-
--- blocks in use
-abbrev pub resized_in_use : ℕ → Layout → Layout → List ℕ → ℕ → ℕ
-resized_in_use slot source target name n =
-    used_by slot source.parts (wants_resized slot source.parts target.parts name n)
-
--- the edit passes all tests
-pub record IsResized (slot : ℕ) (source target : Layout) (name : List ℕ) (bytes : ℕ) : Type 0 where
-  pub full : is_full slot name ≡ true
-  pub size : bytes ≤ 2 ^ 40
-  pub known : has_part name target.parts ≡ true
-  pub plain : has_part (store_of name) target.parts ≡ false
-  pub within : is_within (resized_group_sum slot target name (blocks_of bytes))
-      (resized_group_limit target name) ≡ true
-  pub room : resized_in_use slot source target name (blocks_of bytes) ≤ cap_of target.device
 
 pub resized-bad_name : (slot : ℕ) (source target : Layout) (name : List ℕ) (bytes : ℕ)
     → is_full slot name ≡ false → resized slot source target name bytes ≡ Err BadName

@@ -18,15 +18,15 @@ use Rattle.vab_layout.specs.Slots.{own_parts, store_parts, IsDistinct, IsOwnPart
 use Rattle.vab_layout.specs.Slots.{IsTargetPart, IsStorePart}
 use Rattle.vab_builder.specs.Sizes.{has_part}
 use Rattle.vab_builder.specs.Edits.{with_deleted}
-use Rattle.vab_builder.specs.Bounds.{few_kept}
-use Rattle.vab_builder.specs.Counting.{all_from, of_filter, in_filter, Apart, once_pieces}
-use Rattle.vab_builder.specs.Counting.{pieces_once, pieces_apart}
-use Rattle.vab_builder.specs.NameCases.{ne_name}
-use Rattle.vab_builder.specs.PartLaws.{part_absent}
-use Rattle.vab_builder.specs.KeepLaws.{target_made, target_part_among, store_part_among}
-use Rattle.vab_builder.specs.Keeps.{Keeps}
+use Rattle.vab_builder.proofs.Bounds.{few_kept}
+use Rattle.vab_builder.proofs.Counting.{all_from, of_filter, in_filter, Apart, once_pieces}
+use Rattle.vab_builder.proofs.Counting.{pieces_once, pieces_apart}
+use Rattle.vab_builder.proofs.NameCases.{ne_name}
+use Rattle.vab_builder.proofs.PartLaws.{part_absent}
+use Rattle.vab_builder.proofs.KeepLaws.{target_made, target_part_among, store_part_among}
+use Rattle.vab_builder.proofs.Keeps.{Keeps}
 use Rattle.vab_builder.specs.Update.{IsUpdate}
-use Rattle.vab_builder.specs.DeleteVerdicts.{IsDeleted}
+use Rattle.vab_builder.specs.Passes.{IsDeleted}
 
 filter_swap : (p q : Part → Bool) (xs : List Part) → filter p (filter q xs) ≡ filter q (filter p xs)
 filter_swap p q [] = refl
