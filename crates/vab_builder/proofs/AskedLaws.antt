@@ -1,5 +1,5 @@
 -- The partition that an edit speaks of has the blocks that were asked for, and the others stay.
-use Rattle.std.proofs.Common.{◌≡◌, ◌≢◌, ℕ, Bool, true, false, cond, eqb, ◌||◌, List, [], ◌∷◌, ◌++◌}
+use Rattle.std.proofs.Common.{◌≡◌, ◌≢◌, ℕ, Bool, true, false, cond, ◌||◌, List, [], ◌∷◌, ◌++◌}
 use Rattle.std.proofs.Common.{length, refl, sym, ◌∙◌, ap, subst, inl, inr, Ok}
 use Rattle.std.specs.Prelude.{not, Contains}
 use Rattle.std.specs.List.{filter}
@@ -13,11 +13,11 @@ use Rattle.vab_layout.specs.declared.layout.Layout.{Layout}
 use Rattle.vab_layout.specs.Slots.{blocks_named}
 use Rattle.vab_builder.specs.declared.edit.Edit.{Edit}
 use Rattle.vab_builder.specs.declared.edit.Edit.TheVariants.{Create, Resize, Delete, AddStore}
-use Rattle.vab_builder.specs.Asked.{edited_name, HasBlocks, HasAsked, IsAsBefore, KeepsOthers}
+use Rattle.vab_builder.specs.Asked.{edited_name, HasBlocks, HasAsked, KeepsOthers}
 use Rattle.vab_builder.specs.Edits.{changed, changed_by, created_part, resized_part, updated}
 use Rattle.vab_builder.specs.Edits.{store_part, store_blocks, with_created, with_resized}
 use Rattle.vab_builder.specs.Edits.{with_deleted, with_store}
-use Rattle.vab_builder.specs.Passes.{IsCreated, IsResized, IsDeleted, IsStored}
+use Rattle.vab_builder.specs.Passes.{IsCreated, IsResized, IsStored}
 use Rattle.vab_builder.specs.Sizes.{has_part}
 use Rattle.vab_builder.specs.Update.{IsUpdate}
 use Rattle.vab_builder.proofs.ChangedTarget.{KeepsNames, either, either_name, changed_differ}

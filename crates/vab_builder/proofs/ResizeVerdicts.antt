@@ -4,14 +4,14 @@ use Rattle.std.proofs.Common.{sym, ap, ◌∙◌, inl, inr, Ok, Err}
 use Rattle.std.specs.Str.{bytes_eq}
 use Rattle.std.proofs.lemmas.Bool.{cases_Bool, both_ways, le-leb, lt-leb, leb-true, not-true}
 use Rattle.vab_names.specs.Names.{is_full, is_of_slot, store_of}
-use Rattle.vab_space.specs.Space.{blocks_of, group_sum_of}
+use Rattle.vab_space.specs.Space.{blocks_of}
 use Rattle.vab_tables.specs.Rules.{cap_of}
 use Rattle.vab_layout.specs.declared.layout.Part.{Part}
 use Rattle.vab_layout.specs.declared.layout.Layout.{Layout}
 use Rattle.vab_layout.specs.Slots.{own_parts}
 use Rattle.vab_builder.specs.declared.fault.EditFault.TheVariants.{BadName, BadSize, Unknown}
 use Rattle.vab_builder.specs.declared.fault.EditFault.TheVariants.{HasStore, GroupLimit, NoRoom}
-use Rattle.vab_builder.specs.Sizes.{has_part, wants_resized, used_by, limit_of, sizes_in, is_within}
+use Rattle.vab_builder.specs.Sizes.{has_part, is_within}
 use Rattle.vab_builder.specs.Edits.{group_named, with_resized, resized}
 use Rattle.vab_builder.proofs.NameCases.{full_slot, ne_name}
 use Rattle.vab_builder.proofs.PartLaws.{has_own}

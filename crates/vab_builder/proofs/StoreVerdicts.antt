@@ -1,15 +1,14 @@
 -- What a store more answers.
-use Rattle.std.proofs.Common.{◌≡◌, ℕ, ◌^◌, ◌<◌, ◌≤◌, Bool, true, false, ◌&&◌, ◌||◌, eqb, leb, ltb}
+use Rattle.std.proofs.Common.{◌≡◌, ℕ, ◌<◌, true, false, leb}
 use Rattle.std.proofs.Common.{List, refl, sym, ◌∙◌, Ok, Err}
 use Rattle.std.proofs.lemmas.Bool.{le-leb, lt-leb, leb-true, not-true}
 use Rattle.vab_names.specs.Names.{is_full, store_of}
-use Rattle.vab_space.specs.Space.{blocks_of}
 use Rattle.vab_tables.specs.Rules.{cap_of}
 use Rattle.vab_layout.specs.declared.layout.Layout.{Layout}
 use Rattle.vab_layout.specs.Slots.{own_parts}
 use Rattle.vab_builder.specs.declared.fault.EditFault.TheVariants.{BadName, BadSize, Unknown}
 use Rattle.vab_builder.specs.declared.fault.EditFault.TheVariants.{HasStore, NoRoom}
-use Rattle.vab_builder.specs.Sizes.{has_part, wants_stored, used_by}
+use Rattle.vab_builder.specs.Sizes.{has_part}
 use Rattle.vab_builder.specs.Edits.{store_blocks, with_store, stored}
 use Rattle.vab_builder.proofs.NameCases.{full_slot}
 use Rattle.vab_builder.proofs.PartLaws.{has_own}

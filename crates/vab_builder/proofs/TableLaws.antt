@@ -1,5 +1,5 @@
 -- What callers need of the tables that are given.
-use Rattle.std.proofs.Common.{Bool, true, false, map, ◌≡◌, ℕ, inl, inr, ◌+◌, ◌*◌, ◌^◌, ◌≤◌, ◌<◌}
+use Rattle.std.proofs.Common.{Bool, false, map, ◌≡◌, ℕ, inl, inr, ◌+◌, ◌*◌, ◌^◌, ◌≤◌, ◌<◌}
 use Rattle.std.proofs.Common.{List, [], ◌∷◌, length, Result, Ok, Err, refl, sym, ◌∙◌, ap, arith}
 use Rattle.std.specs.Prelude.{sum_by, All, IfOk}
 use Rattle.std.specs.List.{filter}

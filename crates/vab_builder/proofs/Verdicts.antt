@@ -1,27 +1,26 @@
 -- What an edit answers: the refusals in their order, and what stands where there is none.
-use Rattle.std.proofs.Common.{◌≡◌, ℕ, ◌+◌, ◌^◌, ◌<◌, ◌≤◌, Bool, true, false, leb, ltb, List, []}
-use Rattle.std.proofs.Common.{◌∷◌, ◌++◌, length, refl, sym, ◌∙◌, inl, inr, Result, Ok, Err}
+use Rattle.std.proofs.Common.{◌≡◌, ℕ, ◌+◌, ◌^◌, ◌<◌, ◌≤◌, Bool, true, false, leb, ltb, List}
+use Rattle.std.proofs.Common.{length, refl, sym, ◌∙◌, inl, inr, Result, Ok, Err}
 use Rattle.std.specs.Prelude.{MatchResult}
 use Rattle.std.proofs.lemmas.Bool.{le-leb, lt-leb, lt-ltb, le-ltb, leb-true, ltb-true, not-true}
 use Rattle.vab_names.specs.Names.{is_full}
-use Rattle.vab_space.specs.Space.{blocks_of, group_sum_of}
+use Rattle.vab_space.specs.Space.{blocks_of}
 use Rattle.vab_tables.specs.Rules.{cap_of}
 use Rattle.vab_layout.specs.declared.layout.Part.{Part}
 use Rattle.vab_layout.specs.declared.layout.Layout.{Layout}
-use Rattle.vab_layout.specs.Slots.{own_parts, before_of}
+use Rattle.vab_layout.specs.Slots.{own_parts}
 use Rattle.vab_builder.specs.declared.fault.EditFault.{EditFault}
 use Rattle.vab_builder.specs.declared.fault.EditFault.TheVariants.{BadName, BadSize, Unknown}
 use Rattle.vab_builder.specs.declared.fault.EditFault.TheVariants.{Exists, HasStore, TooMany}
 use Rattle.vab_builder.specs.declared.fault.EditFault.TheVariants.{GroupLimit, NoRoom, TableFull}
 use Rattle.vab_builder.specs.declared.fault.EditFault.TheVariants.{NoMemory}
-use Rattle.vab_layout.specs.Plain.{own_groups}
-use Rattle.vab_builder.specs.Sizes.{has_part, wants_of, used_by, limit_of, sizes_in, is_within}
-use Rattle.vab_builder.specs.Edits.{unless, first_group, with_created, created}
+use Rattle.vab_builder.specs.Sizes.{has_part, is_within}
+use Rattle.vab_builder.specs.Edits.{unless, with_created, created}
 use Rattle.vab_builder.specs.Gives.{GivesLayout}
 use Rattle.vab_builder.specs.Update.{Refuses}
 use Rattle.vab_builder.proofs.NameCases.{full_slot}
 use Rattle.vab_builder.proofs.PartLaws.{has_own}
-use Rattle.vab_builder.specs.Passes.{created_group, created_group_sum, created_group_limit}
+use Rattle.vab_builder.specs.Passes.{created_group_sum, created_group_limit}
 use Rattle.vab_builder.specs.Passes.{created_in_use, IsCreated}
 
 pub unless_ok : (t : Bool) (fault : EditFault) (next : Result Layout EditFault) (l : Layout)

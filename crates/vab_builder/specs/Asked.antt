@@ -1,5 +1,5 @@
 -- What an edit asks of the blocks of the target's partitions.
-use Rattle.std.specs.Prelude.{◌≡◌, ◌≢◌, ℕ, List, length, Bool, true, false}
+use Rattle.std.specs.Prelude.{◌≡◌, ◌≢◌, ℕ, List, length, true, false}
 use Rattle.vab_names.specs.Names.{store_of}
 use Rattle.vab_space.specs.Space.{blocks_of}
 use Rattle.vab_layout.specs.declared.layout.Layout.{Layout}

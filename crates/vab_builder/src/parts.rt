@@ -82,7 +82,8 @@ pub(crate) fn kept_blocks(
     requires slot { slot < 2 }
     requires long { 2 ≤ length name.now }
     ensures { IfOk result (λ b. b
-        ≡ kept_blocks (before_of slot source.now name.now) (blocks_named name.now target.now) count) }
+        ≡ kept_blocks (before_of slot source.now name.now)
+        (blocks_named name.now target.now) count) }
 {
     let mut kept = Blocks::new(alloc);
     push_before(&mut kept, source, slot, name, count)?;

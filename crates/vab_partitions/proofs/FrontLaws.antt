@@ -12,6 +12,9 @@ use Rattle.vab_layout.specs.Slots.{own_parts, IsDistinct, IsTarget}
 use Rattle.vab_partitions.specs.declared.target.Front.{Front}
 use Rattle.vab_partitions.specs.Target.{target_parts, KeepsAlone, KeepTogether, IsFirstBad}
 use Rattle.vab_partitions.specs.Front.{Joins, IsJoined}
+use Rattle.vab_blocks.specs.Blocks.{is_distinct}
+use Rattle.vab_blocks.proofs.Distinct.{distinct_left}
+use Rattle.vab_partitions.proofs.OwnLaws.{blocks_append}
 use Rattle.vab_partitions.proofs.OwnRules.{with_one}
 use Rattle.vab_partitions.proofs.TargetLaws.{in_target, own_of_target, together_target}
 
@@ -20,12 +23,15 @@ pub record Stands (slot : ℕ) (source target : List Part) (i : ℕ) (front : Fr
   pub seen : front.seen ≡ blocks_of_parts (target_parts slot (take i target))
   pub own : front.own ≡ length (own_parts slot (take i target))
   pub kept : KeepTogether slot source target (target_parts slot (take i target))
+  pub apart : front.apart ≡ is_distinct (blocks_of_parts (target_parts slot target))
 
 pub stands_first : (slot : ℕ) (source target : List Part) (front : Front)
     → front.seen ≡ []
     → front.own ≡ 0
+    → front.apart ≡ is_distinct (blocks_of_parts (target_parts slot target))
     → Stands slot source target 0 front
-stands_first slot source target front none zero = record {
+stands_first slot source target front none zero apart = record {
+  apart = apart;
   seen = none;
   own = zero;
   kept = record {
@@ -74,6 +80,7 @@ stands_skip slot source target i front p s lt at other =
     ∙ ap (λ (l : List Part). target_parts slot (take i target) ++ l) none
     ∙ append-nil (target_parts slot (take i target)) in
     record {
+      apart = s.apart;
       seen = s.seen ∙ ap blocks_of_parts (sym same);
       own = omega (arith, s.own, next_own slot target i p lt at, ap length no_own);
       kept = subst (KeepTogether slot source target) (sym same) s.kept;
@@ -145,6 +152,7 @@ pub stands_take : (slot : ℕ) (source target : List Part) (i : ℕ) (front new 
 stands_take slot source target i front new p s lt at is j joined =
     let more = one_more slot target i p lt at is in
     record {
+      apart = joined.apart ∙ s.apart;
       seen = joined.seen ∙ ap (λ (l : List ℕ). l ++ p.blocks) s.seen
           ∙ sym (with_one (target_parts slot (take i target)) p)
           ∙ ap blocks_of_parts (sym more);
@@ -193,3 +201,26 @@ pub own_few : (slot : ℕ) (source target : List Part) (i : ℕ) (front : Front)
     → front.own ≤ 32
 own_few slot source target i front s =
     omega (arith, s.own, s.kept.few, ap length (own_of_target slot (take i target)))
+
+-- where no block stands twice in all, none does in the front and the next
+pub apart_next : (slot : ℕ) (source target : List Part) (i : ℕ) (front : Front) (p : Part)
+    → Stands slot source target i front
+    → i < length target
+    → p ≡ get_or target i p
+    → (is_of_slot slot p.name || is_store slot p.name) ≡ true
+    → front.apart ≡ true
+    → is_distinct (front.seen ++ p.blocks) ≡ true
+apart_next slot source target i front p s lt at is apart =
+    let xs : List Part = target_parts slot (take i target) in
+    let rest : List Part = target_parts slot (drop (i + 1) target) in
+    let split : target_parts slot target ≡ (xs ++ p ∷ []) ++ rest =
+    ap (target_parts slot) (sym (take-append-drop (i + 1) target))
+    ∙ filter-append (in_target slot) (take (i + 1) target) (drop (i + 1) target)
+    ∙ ap (λ (l : List Part). l ++ rest) (one_more slot target i p lt at is) in
+    let blocks = ap blocks_of_parts split ∙ blocks_append (xs ++ p ∷ []) rest in
+    let front_once : is_distinct (blocks_of_parts (xs ++ p ∷ [])) ≡ true =
+    distinct_left (blocks_of_parts (xs ++ p ∷ [])) (blocks_of_parts rest)
+    (ap is_distinct (sym blocks) ∙ sym s.apart ∙ apart) in
+    ap (λ (l : List ℕ). is_distinct (l ++ p.blocks)) s.seen
+    ∙ ap is_distinct (sym (with_one xs p))
+    ∙ front_once

@@ -1,3 +1,4 @@
+pub mod OwnFront
 pub mod NameCases
 pub mod PartCases
 pub mod OwnLaws

@@ -13,5 +13,6 @@ pub record Joins (slot : ℕ) (source target : List Part) (front : Front) (p : P
 
 -- it does
 pub record IsJoined (slot : ℕ) (old new : Front) (p : Part) : Type 0 where
+  pub apart : new.apart ≡ old.apart
   pub seen : new.seen ≡ old.seen ++ p.blocks
   pub own : new.own ≡ old.own + length (own_parts slot (p ∷ []))

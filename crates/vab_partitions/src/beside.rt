@@ -92,6 +92,9 @@ fn is_apart(alloc: Global, taken: &Blocks, blocks: &Blocks) -> Result<bool, NoMe
     requires blocks { IsDistinct blocks.now }
     ensures { IfOk result (λ ok. IsTrue ok ↔ All (λ b. Contains taken.now b → ⊥) blocks.now) }
 {
+    if blocks.is_empty() {
+        return Ok(true);
+    }
     let mut both = taken.copy(alloc)?;
     both.append(blocks)?;
     both.is_distinct(alloc)

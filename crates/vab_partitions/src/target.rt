@@ -6,7 +6,8 @@ ghost use Rattle.vab_names.specs.Names.{is_of_slot, is_store};
 ghost use Rattle.vab_tables.specs.Rules.{KeepsRules};
 ghost use Rattle.vab_layout.specs.Layout.{layout_of, blocks_of_parts};
 ghost use Rattle.vab_layout.specs.Slots.{other_slot, own_parts, IsOwn, IsTarget};
-ghost use Rattle.vab_partitions.specs.Target.{IsFirstBad};
+ghost use Rattle.vab_blocks.specs.Blocks.{is_distinct};
+ghost use Rattle.vab_partitions.specs.Target.{target_parts, IsFirstBad};
 
 use crate::beside::keeps_alone;
 use std::alloc::Global;
@@ -20,10 +21,13 @@ use vab_tables::{NoMemory, Table};
 const MAX_PARTITIONS: u64 = 32;
 
 /// The blocks of the partitions and stores that were seen, and how many partitions these are.
+/// `apart` tells that no block stands twice in the whole target, so that it need not be judged
+/// again.
 #[derive(Debug, Drop)]
 pub(crate) struct Front {
     pub(crate) seen: Blocks,
     pub(crate) own: u64,
+    pub(crate) apart: bool,
 }
 
 // The blocks of a slot's own partitions, one after another.
@@ -38,6 +42,31 @@ fn taken_by(alloc: Global, parts: &[Part], slot: usize) -> Result<Blocks, NoMemo
         }
     }
     Ok(blocks)
+}
+
+// The blocks of the target's partitions and stores, one after another.
+fn blocks_of_target(alloc: Global, parts: &[Part], slot: usize) -> Result<Blocks, NoMemory>
+    requires { slot < 2 }
+    ensures { IfOk result (λ b. b ≡ blocks_of_parts (target_parts slot parts.now)) }
+{
+    let mut blocks = Blocks::new(alloc);
+    for part in parts {
+        if is_of_target(part, slot) {
+            blocks.append(&part.blocks)?;
+        }
+    }
+    Ok(blocks)
+}
+
+// Whether no block stands twice, where that may be known before.
+fn is_once(alloc: Global, blocks: &Blocks, apart: bool) -> Result<bool, NoMemory>
+    requires { apart ≡ true → is_distinct blocks.now ≡ true }
+    ensures { IfOk result (λ once. once ≡ is_distinct blocks.now) }
+{
+    if apart {
+        return Ok(true);
+    }
+    blocks.is_distinct(alloc)
 }
 
 // Whether this is a partition of the slot or a store.
@@ -67,12 +96,14 @@ impl Front {
         requires taken { taken.now ≡ blocks_of_parts (own_parts (other_slot slot) source.now) }
         requires either { (is_of_slot slot part.now.name || is_store slot part.now.name) ≡ true }
         requires few { self.old.own ≤ 32 }
+        requires apart { self.old.apart ≡ true
+            → is_distinct (self.old.seen ++ part.now.blocks) ≡ true }
         ensures joins { IfOk result
             (λ ok. IsTrue ok ↔ Joins slot source.now target.now self.old part.now) }
         ensures joined { IfOk result (λ ok. IsTrue ok → IsJoined slot self.old self.new part.now) }
     {
         self.seen.append(&part.blocks)?;
-        if !self.seen.is_distinct(alloc)? {
+        if !is_once(alloc, &self.seen, self.apart)? {
             return Ok(false);
         }
         if is_of_slot(part.name.text(), slot) {
@@ -98,9 +129,11 @@ fn first_bad(
     ensures first { IfOk result (λ bad. IfSome bad (IsFirstBad slot source.now target.now)) }
 {
     let taken = taken_by(alloc, source, 1 - slot)?;
+    let all = blocks_of_target(alloc, target, slot)?;
     let mut front = Front {
         seen: Blocks::new(alloc),
         own: 0,
+        apart: all.is_distinct(alloc)?,
     };
     for part in target {
         if is_of_target(part, slot) && !front.join(alloc, source, target, &taken, part, slot)? {

@@ -8,7 +8,7 @@ use Rattle.vab_layout.specs.Layout.{layout_of, first_device}
 use Rattle.vab_layout.specs.Slots.{other_slot, IsOwn, IsTarget, groups_of_slot}
 use Rattle.vab_builder.proofs.TableLaws.{both_ok, layout_groups, layout_device, devices_same}
 use Rattle.vab_builder.proofs.TableLaws.{entries_few, runs_small}
-use Rattle.std.proofs.Common.{Ok, Result, ℕ}
+use Rattle.std.proofs.Common.{Ok, Result}
 use Rattle.std.proofs.lemmas.Result.{IfOk-weaker}
 use Rattle.vab_builder.specs.declared.fault.EditFault.{EditFault}
 use Rattle.vab_builder.specs.Asked.{edited_name, HasAsked, KeepsOthers}

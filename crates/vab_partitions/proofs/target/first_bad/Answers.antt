@@ -2,7 +2,7 @@ use Rattle.std.proofs.Common.{◌≡◌, ◌+◌, true, false, refl, subst, sym,
 use Rattle.vab_layout.specs.declared.layout.Part.{Part}
 use Rattle.vab_partitions.specs.declared.target.Front.{Front}
 use Rattle.vab_partitions.proofs.FrontLaws.{Stands, stands_skip, stands_take}
-use Rattle.vab_partitions.proofs.FrontLaws.{stands_last, bad_first, own_few}
+use Rattle.vab_partitions.proofs.FrontLaws.{stands_last, bad_first, own_few, apart_next}
 use Rattle.vab_partitions.proofs.TargetLaws.{bad_no_target}
 use Rattle.vab_partitions.proofs.target.first_bad.Goals as goal
 use Rattle.vab_partitions.proofs.target.first_bad.Goals.{else-is_of_target-via-then-is_of_target+in_ok-join+else-not-branch}
@@ -12,6 +12,12 @@ pub join-requires-clause-few : goal.join-requires-clause-few
 join-requires-clause-few c =
     own_few c.args.slot c.args.source.now c.args.target.now c.loop-part.part-index
     c.loop-part.front c.loop-part.invariant
+
+pub join-requires-clause-apart : goal.join-requires-clause-apart
+join-requires-clause-apart c =
+    apart_next c.args.slot c.args.source.now c.args.target.now c.loop-part.part-index
+    c.loop-part.front c.part-item.result c.loop-part.invariant c.loop-part-test.true
+    c.part-item.is (sym c.is_of_target.ensures ∙ c.if-is_of_target.true)
 
 -- what is refused may not stand behind what was seen
 pub returns-then-not-branch-clause-first : goal.returns-then-not-branch-clause-first

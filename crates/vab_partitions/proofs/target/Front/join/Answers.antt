@@ -14,15 +14,19 @@ use Rattle.vab_partitions.proofs.target.Front.join.Goals.{else-is_of_slot}
 pub returns-then-not-branch-clause-joins : goal.returns-then-not-branch-clause-joins
 returns-then-not-branch-clause-joins c = (
   λ t. absurd (let wrong : false ≡ true = t in cc),
-  λ j. sym c.if-not-branch.true ∙ c.in_ok-is_distinct.ensures
+  λ j. sym c.if-not-branch.true ∙ c.in_ok-is_once.ensures
       ∙ ap is_distinct c.in_ok-append.ensures
       ∙ pairs_distinct (c.args.self.now.seen ++ c.args.part.now.blocks) j.once,
 )
 
+pub is_once-requires : goal.is_once-requires
+is_once-requires c = λ apart.
+    ap is_distinct c.in_ok-append.ensures ∙ c.requires.apart apart
+
 pub keeps_alone-requires-clause-once : goal.keeps_alone-requires-clause-once
 keeps_alone-requires-clause-once c =
     distinct_right c.args.self.now.seen c.args.part.now.blocks
-    (ap is_distinct (sym c.in_ok-append.ensures) ∙ sym c.in_ok-is_distinct.ensures
+    (ap is_distinct (sym c.in_ok-append.ensures) ∙ sym c.in_ok-is_once.ensures
     ∙ c.if-not-branch.false)
 
 pub returns-clause-joins : goal.returns-clause-joins
@@ -32,7 +36,7 @@ returns-clause-joins c =
     let seen : List ℕ = c.args.self.now.seen in
     let once : IsDistinct (seen ++ p.blocks) =
     distinct_pairs (seen ++ p.blocks)
-    (ap is_distinct (sym c.in_ok-append.ensures) ∙ sym c.in_ok-is_distinct.ensures
+    (ap is_distinct (sym c.in_ok-append.ensures) ∙ sym c.in_ok-is_once.ensures
     ∙ c.if-not-branch.false) in
     let named = ap (is_of_slot slot) (sym c.text.ensures.value) ∙ sym c.is_of_slot.ensures in
     let few : c.args.self.now.own + length (own_parts slot (p ∷ [])) ≤ 32 =
