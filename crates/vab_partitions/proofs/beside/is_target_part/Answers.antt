@@ -1,4 +1,4 @@
-use Rattle.std.proofs.Common.{◌≡◌, ◌-◌, ℕ, true, false, List, length, take, ap, sym}
+use Rattle.std.proofs.Common.{◌≡◌, ◌≤◌, ◌^◌, ◌-◌, ℕ, true, false, List, length, take, ap, sym}
 use Rattle.std.proofs.Common.{subst, ◌∙◌, inl, inr, arith}
 use Rattle.std.specs.Prelude.{bit_and, not, IsTrue}
 use Rattle.std.proofs.lemmas.Bool.{ne_eqb, eq-eqb}
@@ -6,7 +6,7 @@ use Rattle.vab_names.specs.Names.{in_slot}
 use Rattle.vab_names.specs.NameLaws.{of_slot_long}
 use Rattle.vab_layout.specs.declared.layout.Part.{Part}
 use Rattle.vab_layout.specs.Layout.{blocks_of_parts}
-use Rattle.vab_layout.specs.Slots.{before_of, blocks_named, is_updated, other_slot, own_parts}
+use Rattle.vab_layout.specs.Slots.{before_of, blocks_named, is_updated, other_slot, own_parts, IsOwn}
 use Rattle.vab_partitions.proofs.NameCases.{in_slot_is, own_short}
 use Rattle.vab_partitions.proofs.PartCases.{named_small, fresh_as}
 use Rattle.vab_partitions.proofs.beside.is_target_part.Goals as goal
@@ -21,29 +21,33 @@ before_is : (slot : ℕ) (source : List Part) (name twin text before : List ℕ)
 before_is slot source name twin text before is same in_other =
     is ∙ ap (λ (n : List ℕ). blocks_named n source) (same ∙ in_other)
 
+-- they are few
+before_few : (slot : ℕ) (source : List Part) (name twin text before : List ℕ)
+    → IsOwn (other_slot slot) source
+    → before ≡ blocks_named text source
+    → text ≡ twin
+    → twin ≡ in_slot (1 - slot) name
+    → length before ≤ 2 ^ 28
+before_few slot source name twin text before own is same in_other =
+    let small =
+    named_small (1 - slot) (in_slot (1 - slot) name) source own (in_slot_is (1 - slot) name) in
+    omega (arith, ap length (before_is slot source name twin text before is same in_other), small)
+
 pub in_slot-requires-clause-long : goal.in_slot-requires-clause-long
 in_slot-requires-clause-long c =
     of_slot_long c.args.slot c.args.part.now.name c.requires.of_slot
 
 pub begins-requires-clause-before : goal.begins-requires-clause-before
 begins-requires-clause-before c =
-    let before =
-    before_is c.args.slot c.args.source.now c.args.part.now.name _ _ c.in_ok-before.before
-    c.in_ok-before.ensures c.text.ensures.value c.in_slot.ensures in
-    let small =
-    named_small (1 - c.args.slot) _ c.args.source.now c.requires.source
-    (in_slot_is (1 - c.args.slot) c.args.part.now.name) in
-    omega (arith, ap length before, small)
+    before_few c.args.slot c.args.source.now c.args.part.now.name _ _ c.in_ok-before.before
+    c.requires.source c.in_ok-before.ensures c.text.ensures.value c.in_slot.ensures
 
 pub len-requires : goal.len-requires
 len-requires c =
-    let before =
-    before_is c.args.slot c.args.source.now c.args.part.now.name _ _ c.in_ok-before.before
-    c.in_ok-before.ensures c.text.ensures.value c.in_slot.ensures in
-    let small =
-    named_small (1 - c.args.slot) _ c.args.source.now c.requires.source
-    (in_slot_is (1 - c.args.slot) c.args.part.now.name) in
-    omega (arith, ap length before, small)
+    let few =
+    before_few c.args.slot c.args.source.now c.args.part.now.name _ _ c.in_ok-before.before
+    c.requires.source c.in_ok-before.ensures c.text.ensures.value c.in_slot.ensures in
+    omega (arith, few)
 
 pub returns-then-not-branch-2 : goal.returns-then-not-branch-2
 returns-then-not-branch-2 c =

@@ -1,5 +1,5 @@
 use Rattle.std.proofs.Common.{arith}
-use Rattle.vab_store_tests.proofs.Parts.{can_merge}
+use Rattle.vab_merge.proofs.PairLaws.{can_merge}
 use Rattle.vab_store_tests.proofs.cuts.turned.Goals as goal
 
 pub turn-requires : goal.turn-requires

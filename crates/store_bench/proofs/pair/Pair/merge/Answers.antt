@@ -1,4 +1,4 @@
-use Rattle.store_bench.proofs.Parts.{can_merge}
+use Rattle.vab_merge.proofs.PairLaws.{can_merge}
 use Rattle.store_bench.proofs.pair.Pair.merge.Goals as goal
 
 pub run_turn-requires-clause-can : goal.run_turn-requires-clause-can

@@ -1,5 +1,5 @@
 use Rattle.std.proofs.Common.{arith}
-use Rattle.vab_store_tests.proofs.Parts.{can_merge}
+use Rattle.vab_merge.proofs.PairLaws.{can_merge}
 use Rattle.vab_store_tests.proofs.pair.Pair.merge.Goals as goal
 
 pub run_turn-requires-clause-can : goal.run_turn-requires-clause-can

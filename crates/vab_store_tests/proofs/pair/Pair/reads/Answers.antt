@@ -1,6 +1,6 @@
 use Rattle.std.proofs.Common.{◌*◌, arith}
 use Rattle.vab_store.proofs.PartLaws.{run_long, run_on_disk}
-use Rattle.vab_store_tests.proofs.Parts.{fits_base}
+use Rattle.vab_merge.proofs.PairLaws.{fits_base}
 use Rattle.vab_store_tests.proofs.pair.Pair.reads.Goals as goal
 
 pub read_block-requires-clause-block : goal.read_block-requires-clause-block

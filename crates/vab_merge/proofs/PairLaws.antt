@@ -1,4 +1,4 @@
--- A partition and its store behind it.
+-- A partition of blocks that follow one another, and its store behind it.
 use Rattle.std.proofs.Common.{◌≡◌, ℕ, ◌+◌, ◌*◌, ◌≤◌, List, length, subst, sym, arith}
 use Rattle.vab_exceptions.specs.declared.area.Exception.{Exception}
 use Rattle.vab_linear.specs.Map.{run_of}
