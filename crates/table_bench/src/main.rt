@@ -1,6 +1,7 @@
 //! Reads a table's text from standard input, and so many times decodes it, decodes and judges it,
-//! writes it again, lists the free blocks, takes the lowest half of them, judges or edits the target
-//! of an update from slot a, or takes SHA-256 of the text, for `bench/tables` and `bench/blocks`.
+//! writes it again, lists the free blocks, takes the lowest half of them, judges or edits the
+//! target of an update from slot a, or takes SHA-256 of the text, for `bench/tables` and
+//! `bench/blocks`.
 #![tactic(auto)]
 
 use sha2::{Digest, Sha256};

@@ -9,7 +9,8 @@ ghost use Rattle.vab_store.specs.Scan.{scan_of};
 ghost use Rattle.vab_merge.specs.Run.{IsRun};
 ghost use Rattle.vab_merge.specs.Copied.{InCopied, AreCopied};
 ghost use Rattle.vab_merge.specs.Cleared.{IsClearing, AreCleared};
-ghost use Rattle.vab_merge.specs.Merged.{CanMerge, WithoutLast, LeavesMerged, IsMergedSector, IsRan, dropped_by};
+ghost use Rattle.vab_merge.specs.Merged.{CanMerge, WithoutLast, LeavesMerged, IsMergedSector};
+ghost use Rattle.vab_merge.specs.Merged.{IsRan, dropped_by};
 
 use crate::clear::clear_entries;
 use crate::copy::copy_blocks;
@@ -108,8 +109,8 @@ fn drop_run(view: &mut StoreView, n: u64)
 
 /// Merges the last exceptions of a store: as many, but at most `most`, as stand in one area with
 /// old chunks that ascend by one. Their blocks are copied to the partition, then their entries are
-/// zeroed, each with a sync behind it. After a fault the view is the old one: the store may have fewer
-/// exceptions by then, so it has to be scanned again.
+/// zeroed, each with a sync behind it. After a fault the view is the old one: the store may have
+/// fewer exceptions by then, so it has to be scanned again.
 pub fn run_turn<D: Disk>(
     d: &mut D,
     base: &Map,

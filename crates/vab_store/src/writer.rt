@@ -1,13 +1,15 @@
 //! A store written for an image.
 
-ghost use Rattle.std.specs.Prelude.{◌≡◌, ℕ, ◌+◌, ◌*◌, ◌<◌, ◌≤◌, ◌^◌, length, slice_index, All, Ok, OnOk};
+ghost use Rattle.std.specs.Prelude.{◌≡◌, ℕ, ◌+◌, ◌*◌, ◌<◌, ◌≤◌, ◌^◌, length, slice_index, All, Ok};
+ghost use Rattle.std.specs.Prelude.{OnOk};
 ghost use Rattle.std.specs.List.Sorted.{IsStrictlyIncreasing};
 ghost use Rattle.vab_disk.specs.Calls.{InSectors, Touches, FailsWithDisk};
 ghost use Rattle.vab_space.specs.Space.{need_of};
 ghost use Rattle.vab_exceptions.specs.Entries.{area_entries, area_bytes};
 ghost use Rattle.vab_store.specs.Scan.{scan_of};
 ghost use Rattle.vab_store.specs.Layout.{new_chunk_of, chunk_bytes, IsOnDisk, IsApart, InFirst};
-ghost use Rattle.vab_store.specs.Writing.{planned_at, planned_of, area_entries_of, header_chunk, block_of, store_chunk, HoldsStore};
+ghost use Rattle.vab_store.specs.Writing.{planned_at, planned_of, area_entries_of, header_chunk};
+ghost use Rattle.vab_store.specs.Writing.{block_of, store_chunk, HoldsStore};
 
 use arrayvec::ArrayVec;
 use vab_disk::Disk;

@@ -33,8 +33,8 @@ fn pending_sectors(alloc: Global, d: &mut MemPort) -> Result<Vec<Pending>, Fail>
     Ok(found)
 }
 
-// Lays a blend of the pending sectors: the written bytes where the blend has a bit, else the settled
-// ones.
+// Lays a blend of the pending sectors: the written bytes where the blend has a bit, else the
+// settled ones.
 fn lay(d: &mut MemPort, pending: &[Pending], blend: u32) -> bool {
     let mut left = blend;
     for sector in pending {
