@@ -1,6 +1,6 @@
 mod BootLaws
 mod CommandLaws
-mod EffectLaws
+pub mod EffectLaws
 mod FoundLaws
 pub mod BlockLaws
 pub mod ChangeLaws
