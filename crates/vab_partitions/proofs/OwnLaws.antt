@@ -20,7 +20,7 @@ use Rattle.vab_partitions.specs.Rules.{is_distinct, part_passes, bad_part}
 use Rattle.vab_blocks.specs.Blocks.{blocks_of_extent}
 use Rattle.std.specs.List.{flat_map}
 use Rattle.vab_blocks.proofs.Distinct.{distinct_left}
-use Rattle.vab_partitions.proofs.OwnFront.{own_before, own_from}
+use Rattle.vab_partitions.specs.Own.{own_before, own_from}
 
 map-append : (f : Partition → Part) (xs ys : List Partition)
     → map f (xs ++ ys) ≡ map f xs ++ map f ys

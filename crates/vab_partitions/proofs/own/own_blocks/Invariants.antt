@@ -1,6 +1,6 @@
 use Rattle.std.proofs.Common.{◌≡◌}
 use Rattle.vab_layout.specs.Layout.{blocks_of_parts}
-use Rattle.vab_partitions.proofs.OwnFront.{own_before}
+use Rattle.vab_partitions.specs.Own.{own_before}
 use Rattle.vab_partitions.proofs.own.own_blocks.Given as goal
 
 abbrev pub invariant-loop-partition : goal.invariant-loop-partition
