@@ -1,9 +1,9 @@
 -- Which boot controls a run of commands leaves, and what it may write.
-use Rattle.std.proofs.Common.{◌≡◌, ◌≢◌, ◌∙◌, ⊎_elim, ℕ, List, [], ◌∷◌, ◌++◌, Ok, refl, sym, ap}
+use Rattle.std.proofs.Common.{◌≡◌, ◌∙◌, ⊎_elim, ℕ, List, [], ◌∷◌, ◌++◌, Ok, refl, sym, ap}
 use Rattle.std.proofs.Common.{Result, subst, arith}
 use Rattle.std.specs.Prelude.{Bool, true, false, is_some, ◌==◌, if◌then◌else◌}
 use Rattle.vab_disk.specs.declared.disk.Disk.{Ghosts}
-use Rattle.vab_disk.specs.Calls.{Changes, Touches}
+use Rattle.vab_disk.specs.Calls.{Touches}
 use Rattle.vab_disk.proofs.CallLaws.{changes_touches, changes_then, changes_wider}
 use Rattle.vab_bootctl.specs.declared.slots.Control.{Control}
 use Rattle.vab_bootctl.specs.Boot.{activated_of}
@@ -12,7 +12,7 @@ use Rattle.vab_marks.specs.declared.mark.UpdateMark.{UpdateMark}
 use Rattle.vab_model.specs.Commands.{Command, SetActive, Boot, Mark, Print, Digest}
 use Rattle.vab_device.specs.declared.device.Device.{Device}
 use Rattle.vab_device.specs.Kept.{IsDevice}
-use Rattle.vab_device.specs.Reading.{Represents, mark_in}
+use Rattle.vab_device.specs.Reading.{Represents}
 use Rattle.vab_device.proofs.SameLaws.{mark_same}
 use Rattle.vab_manager.specs.Controls.{IsControl, IsOfSlots, IsOfCommand, IsOfCommands}
 use Rattle.vab_manager.specs.Controls.{control_by, controls_by}

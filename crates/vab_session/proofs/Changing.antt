@@ -1,6 +1,5 @@
 -- What a session does to the sectors of a disk.
-use Rattle.std.proofs.Common.{◌≡◌, ◌∙◌, ℕ, List, sym, subst}
-use Rattle.vab_disk.specs.Disk.{Image}
+use Rattle.std.proofs.Common.{ℕ, List, sym, subst}
 use Rattle.vab_disk.specs.Calls.{Changes}
 use Rattle.vab_disk.specs.declared.disk.Disk.{Ghosts}
 use Rattle.vab_disk.proofs.CallLaws.{changes_hearing, changes_then}
