@@ -1,4 +1,5 @@
 mod Blocks
+mod FreshTouching
 mod Items
 mod Lines
 mod Makings

@@ -26,7 +26,7 @@ use Rattle.vab_cli.specs.Counts.{HearsNothing, IsSteady}
 use Rattle.vab_cli.specs.Program.{DoesVerb}
 use Rattle.vab_cli.specs.Runs.{NoFault, RunsSession, RunsItem, FailsBefore}
 use Rattle.vab_cli.specs.Runs.{RunsNone, RunsRefused, RunsMaking, FailsMaking}
-use Rattle.vab_cli.specs.Touched.{IsOfVerb}
+use Rattle.vab_cli.specs.Touched.{IsOfVerb, IsOfServing}
 use Rattle.vab_cli.specs.Verbs.{command_of, none_line, verb_item, verb_status, make_line, done_making}
 use Rattle.vab_cli.proofs.Sessions.{completed}
 
@@ -116,6 +116,8 @@ module _ {D : Type 0}
     quiet = λ t c' is. quiet t;
     serve = λ t is. is_command m (Serve false) c some is refl;
     none_served = λ t is. is_command m (Serve false) c some is refl;
+    touches_served = λ t is. is_command m (Serve false) c some is refl;
+    touches_fresh = λ t is. is_command m (Serve true) c some is refl;
     fresh = λ t is. is_command m (Serve true) c some is refl;
     small = λ t is. is_command m (Serve true) c some is refl;
     too_small = λ is. is_command m (Serve true) c some is refl;
@@ -151,14 +153,22 @@ module _ {D : Type 0}
       → (fault : StartFault)
       → device (g.size old) (g.seen old) ≡ Err fault
       → RunsNone g (g.size old) [] old new status)
+      → (g.is_modelled
+        → (s : Mounted)
+        → IsIn (g.size old) s (g.seen old)
+        → (boot : Control)
+        → control_of (g.seen old 4) ≡ Ok boot
+        → Changes g (IsOfServing (g.size old) (g.seen old) s boot) old new)
       → DoesVerb g m old new status
-  serve_verb is runs none = record {
+  serve_verb is runs none touches = record {
     item = λ t c some. no_command m (Serve false) c is refl some;
     none = λ t c some. no_command m (Serve false) c is refl some;
     touches = λ t c some. no_command m (Serve false) c is refl some;
     quiet = λ t c some. no_command m (Serve false) c is refl some;
     serve = λ t same. runs t;
     none_served = λ t same. none t;
+    touches_served = λ t same. touches t;
+    touches_fresh = λ t other. let both = sym is ∙ other in cc;
     fresh = λ t other. let both = sym is ∙ other in cc;
     small = λ t other. let both = sym is ∙ other in cc;
     too_small = λ other. let both = sym is ∙ other in cc;
@@ -190,14 +200,17 @@ module _ {D : Type 0}
       → g.size old < 6152
       → RunsRefused g (g.size old) [] NotADevice old new status)
       → (g.size old < 6152 → (status ≡ NotADevice) ⊎ (status ≡ NoMemory))
+      → (g.is_modelled → Changes g (InSectors (IsOfMaking [] 65536)) old new)
       → DoesVerb g m old new status
-  fresh_verb is runs small too_small = record {
+  fresh_verb is runs small too_small touches = record {
     item = λ t c some. no_command m (Serve true) c is refl some;
     none = λ t c some. no_command m (Serve true) c is refl some;
     touches = λ t c some. no_command m (Serve true) c is refl some;
     quiet = λ t c some. no_command m (Serve true) c is refl some;
     serve = λ t other. let both = sym is ∙ other in cc;
     none_served = λ t other. let both = sym is ∙ other in cc;
+    touches_served = λ t other. let both = sym is ∙ other in cc;
+    touches_fresh = λ t same. touches t;
     fresh = λ t same. runs t;
     small = λ t same. small t;
     too_small = λ same. too_small;
@@ -250,6 +263,8 @@ module _ {D : Type 0}
     quiet = λ t c some. no_command m (Make limit max) c is refl some;
     serve = λ t other. let both = sym is ∙ other in cc;
     none_served = λ t other. let both = sym is ∙ other in cc;
+    touches_served = λ t other. let both = sym is ∙ other in cc;
+    touches_fresh = λ t other. let both = sym is ∙ other in cc;
     fresh = λ t other. let both = sym is ∙ other in cc;
     small = λ t other. let both = sym is ∙ other in cc;
     too_small = λ other. let both = sym is ∙ other in cc;

@@ -17,9 +17,8 @@ use Rattle.vab_device.specs.Mounted.{Mounted, state_on, mounted_on}
 use Rattle.vab_device.specs.Reading.{IsIn, Represents}
 use Rattle.vab_recover.specs.Opened.{IsRepair}
 use Rattle.vab_recover.proofs.OpenLaws.{control_stays}
-use Rattle.vab_manager.specs.Controls.{IsOfSlots, IsOfCommand}
+use Rattle.vab_manager.specs.Controls.{IsOfSlots, IsOfCommand, IsOfCommands}
 use Rattle.vab_manager.proofs.EffectLaws.{some_images}
-use Rattle.vab_cli.specs.Touched.{IsOfVerb}
 use Rattle.vab_cli.proofs.Items.{mounted_is}
 
 -- ---- the repair leaves the boot control
@@ -57,15 +56,15 @@ has_b : (d : Device) (image : Image) → is_some (state_on d image).b ≡ is_som
 unfolding state_on
 has_b d image = some_images image d.b
 
--- what a command writes is said by the state and by the boot control that is there
-pub slots_are : (d : Device) (size : ℕ) (image : Image) (m : Mounted) (boot : Control) (c : Command)
-    (s : ℕ) (bytes : List ℕ)
+-- What is said of a device's boot control and slots is said of the disk's.
+said_by : (W : Control → Bool → Bool → Type 0) (d : Device) (size : ℕ) (image : Image) (m : Mounted)
+    (boot : Control)
     → Represents d size image
     → IsIn size m image
     → control_of (image 4) ≡ Ok boot
-    → IsOfCommand d (image 4) c s bytes
-    → IsOfSlots boot (is_some m.state.a) (is_some m.state.b) (image 4) c s bytes
-slots_are d size image m boot c s bytes represents is there w =
+    → W d.control (is_some d.a) (is_some d.b)
+    → W boot (is_some m.state.a) (is_some m.state.b)
+said_by W d size image m boot represents is there w =
     let same = mounted_is d size image m represents is in
     let a : is_some d.a ≡ is_some m.state.a =
     sym (has_a d image) ∙ ap (λ (x : Mounted). is_some x.state.a) same in
@@ -73,35 +72,55 @@ slots_are d size image m boot c s bytes represents is there w =
     sym (has_b d image) ∙ ap (λ (x : Mounted). is_some x.state.b) same in
     let both : Ok d.control ≡ Ok boot = sym represents.control ∙ there in
     let control : d.control ≡ boot = cc in
-    subst (λ (k : Control). IsOfSlots k (is_some m.state.a) (is_some m.state.b) (image 4) c s bytes)
-    control
-    (subst (λ (x : Bool). IsOfSlots d.control x (is_some m.state.b) (image 4) c s bytes) a
-    (subst (λ (x : Bool). IsOfSlots d.control (is_some d.a) x (image 4) c s bytes) b w))
+    subst (λ (k : Control). W k (is_some m.state.a) (is_some m.state.b)) control
+    (subst (λ (x : Bool). W d.control x (is_some m.state.b)) a
+    (subst (λ (x : Bool). W d.control (is_some d.a) x) b w))
 
-module _ {D : Type 0} (g : Ghosts D) (size : ℕ) (m : Mounted) (boot : Control) (c : Command) where
+pub slots_are : (d : Device) (size : ℕ) (image : Image) (m : Mounted) (boot : Control) (c : Command)
+    (s : ℕ) (bytes : List ℕ)
+    → Represents d size image
+    → IsIn size m image
+    → control_of (image 4) ≡ Ok boot
+    → IsOfCommand d (image 4) c s bytes
+    → IsOfSlots boot (is_some m.state.a) (is_some m.state.b) (image 4) c s bytes
+slots_are d size image m boot c s bytes =
+    said_by (λ k a b. IsOfSlots k a b (image 4) c s bytes) d size image m boot
+
+pub commands_are : (d : Device) (size : ℕ) (image : Image) (m : Mounted) (boot : Control)
+    (s : ℕ) (bytes : List ℕ)
+    → Represents d size image
+    → IsIn size m image
+    → control_of (image 4) ≡ Ok boot
+    → IsOfCommands d.control (is_some d.a) (is_some d.b) (image 4) s bytes
+    → IsOfCommands boot (is_some m.state.a) (is_some m.state.b) (image 4) s bytes
+commands_are d size image m boot s bytes =
+    said_by (λ k a b. IsOfCommands k a b (image 4) s bytes) d size image m boot
+
+-- ---- opening, and then what writes so, where the boot control's sector has these bytes
+
+module _ {D : Type 0} (g : Ghosts D) (size : ℕ) (W : List ℕ → ℕ → List ℕ → Type 0) where
+  -- both
+  abbrev pub IsOfBoth : Image → ℕ → List ℕ → Type 0
+  IsOfBoth image s bytes = IsRepair size image s bytes ⊎ W (image 4) s bytes
+
   -- opening alone
   pub opening_changes : (old new : D)
       → Changes g (IsRepair size (g.seen old)) old new
-      → Changes g (IsOfVerb size (g.seen old) m boot c) old new
+      → Changes g (IsOfBoth (g.seen old)) old new
   opening_changes old new opens =
-      changes_wider g (IsOfVerb size (g.seen old) m boot c) (IsRepair size (g.seen old)) old new opens
+      changes_wider g (IsOfBoth (g.seen old)) (IsRepair size (g.seen old)) old new opens
       (λ s x w. inl w)
 
-  -- opening, and then the command
-  pub verb_changes : (old mid new : D)
+  pub opened_changes : (boot : Control) (old mid new : D)
       → (t : g.is_modelled)
       → Changes g (IsRepair size (g.seen old)) old mid
-      → (control_of (g.seen mid 4) ≡ Ok boot
-        → Changes g
-          (IsOfSlots boot (is_some m.state.a) (is_some m.state.b) (g.seen mid 4) c) mid new)
+      → (control_of (g.seen mid 4) ≡ Ok boot → Changes g (W (g.seen mid 4)) mid new)
       → control_of (g.seen old 4) ≡ Ok boot
-      → Changes g (IsOfVerb size (g.seen old) m boot c) old new
-  verb_changes old mid new t opens does there =
+      → Changes g (IsOfBoth (g.seen old)) old new
+  opened_changes boot old mid new t opens does there =
       let same = repair_leaves size (g.seen old) (g.seen mid) (opens.seen t) in
-      changes_then g (IsOfVerb size (g.seen old) m boot c) old mid new
+      changes_then g (IsOfBoth (g.seen old)) old mid new
       (opening_changes old mid opens)
-      (changes_wider g (IsOfVerb size (g.seen old) m boot c) _ mid new
+      (changes_wider g (IsOfBoth (g.seen old)) (W (g.seen mid 4)) mid new
       (does (ap control_of same ∙ there))
-      (λ s x w.
-      inr (subst
-      (λ (l : List ℕ). IsOfSlots boot (is_some m.state.a) (is_some m.state.b) l c s x) same w)))
+      (λ s x w. inr (subst (λ (l : List ℕ). W l s x) same w)))

@@ -29,7 +29,7 @@ use Rattle.vab_cli.specs.Codes.{make_status}
 use Rattle.vab_cli.specs.Counts.{HearsNothing, IsSteady}
 use Rattle.vab_cli.specs.Runs.{SaysEnd, Held, NoFault, RunsSession, RunsItem, FailsBefore, RunsNone}
 use Rattle.vab_cli.specs.Runs.{RunsRefused, RunsMaking, FailsMaking}
-use Rattle.vab_cli.specs.Touched.{IsOfVerb}
+use Rattle.vab_cli.specs.Touched.{IsOfVerb, IsOfServing}
 use Rattle.vab_cli.specs.Verbs.{command_of, none_line, verb_item, verb_status}
 use Rattle.vab_cli.specs.Verbs.{make_line, done_making}
 
@@ -55,10 +55,9 @@ pub record DoesVerb {D : Type 0}
     (old new : D)
     (status : Status) : Type 0 where
   -- `boot`, `mark`, `activate S`, `print NAME`, `digest NAME` over a disk that is a device: one
-  -- item,
-  -- done or refused as the table of effects says, with its line or bytes told. Each cut of power
-  -- leaves a front of what is told and one of its steps, and where all is told the last. Or the
-  -- disk failed or memory was refused while it was opened.
+  -- item, done or refused as the table of effects says, with its line or bytes told. Each cut of
+  -- power leaves a front of what is told and one of its steps, and where all is told the last. Or
+  -- the disk failed or memory was refused while it was opened.
   pub item : g.is_modelled
       → (c : Command)
       → command_of m ≡ Some c
@@ -73,9 +72,9 @@ pub record DoesVerb {D : Type 0}
       → (fault : StartFault)
       → device (g.size old) (g.seen old) ≡ Err fault
       → RunsNone g (g.size old) none_line old new status
-  -- They write what opening repairs, and boot control's sector where the command is one on slots: the
-  -- boot control that the boot rules make of the one that is there, of both slots; all else stays, as
-  -- it reads and in each outcome.
+  -- They write what opening repairs, and boot control's sector where the command is one on slots:
+  -- the boot control that the boot rules make of the one that is there, of both slots; all else
+  -- stays, as it reads and in each outcome.
   pub touches : g.is_modelled
       → (c : Command)
       → command_of m ≡ Some c
@@ -87,9 +86,8 @@ pub record DoesVerb {D : Type 0}
   -- They hear nothing.
   pub quiet : g.is_modelled → (c : Command) → command_of m ≡ Some c → HearsNothing g old new
   -- `serve` over a disk that is a device: the session of the input, with its bytes told, and so is
-  -- each
-  -- cut of power. Or the disk failed or memory was refused while it was opened. Over a disk that is
-  -- none: status 5, and nothing is told or written.
+  -- each cut of power. Or the disk failed or memory was refused while it was opened. Over a disk
+  -- that is none: status 5, and nothing is told or written.
   pub serve : g.is_modelled
       → m ≡ Serve false
       → (s : Mounted)
@@ -101,10 +99,18 @@ pub record DoesVerb {D : Type 0}
       → (fault : StartFault)
       → device (g.size old) (g.seen old) ≡ Err fault
       → RunsNone g (g.size old) [] old new status
+  -- It writes what opening repairs, and boot control's sector: a boot control that the boot rules
+  -- make of the one that is there by some commands.
+  pub touches_served : g.is_modelled
+      → m ≡ Serve false
+      → (s : Mounted)
+      → IsIn (g.size old) s (g.seen old)
+      → (boot : Control)
+      → control_of (g.seen old 4) ≡ Ok boot
+      → Changes g (IsOfServing (g.size old) (g.seen old) s boot) old new
   -- `serve --fresh` on enough sectors: the same over the made device of the empty set. Until its
-  -- last
-  -- gate is settled each cut leaves the disk as it was, or no device, or the made one. On too few
-  -- sectors: status 5, and nothing is told or written.
+  -- last gate is settled each cut leaves the disk as it was, or no device, or the made one. On too
+  -- few sectors: status 5, and nothing is told or written.
   pub fresh : g.is_modelled
       → m ≡ Serve true
       → 6152 ≤ g.size old
@@ -120,6 +126,9 @@ pub record DoesVerb {D : Type 0}
   pub too_small : m ≡ Serve true
       → g.size old < 6152
       → (status ≡ NotADevice) ⊎ (status ≡ NoMemory)
+  pub touches_fresh : g.is_modelled
+      → m ≡ Serve true
+      → Changes g (InSectors (IsOfMaking [] 65536)) old new
   -- `make` of an input that spells a set: the made device, or the first refusal with its line and
   -- nothing written; of another input status 3, with nothing told or written. Where it is made the
   -- input was heard to its end.

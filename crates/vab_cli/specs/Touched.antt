@@ -8,7 +8,8 @@ use Rattle.vab_recover.specs.Opened.{IsRepair}
 use Rattle.vab_manager.specs.Controls.{IsOfSlots, IsOfCommands}
 
 -- What a verb that is a command writes on a device whose boot control is this one: the copy of its
--- table that opening repairs, and the boot control that the boot rules make of this one, of both slots.
+-- table that opening repairs, and the boot control that the boot rules make of this one, of both
+-- slots.
 abbrev pub IsOfVerb : ℕ → Image → Mounted → Control → Command → ℕ → List ℕ → Type 0
 IsOfVerb size image m boot c s bytes =
     IsRepair size image s bytes

@@ -1,11 +1,13 @@
 use Rattle.std.proofs.Common.{◌≡◌, inl, ℕ, Ok, Err, sym, subst}
+use Rattle.std.specs.Prelude.{List, is_some}
 use Rattle.vab_device.specs.Mounted.{Mounted}
+use Rattle.vab_manager.specs.Controls.{IsOfSlots}
 use Rattle.vab_device.specs.Reading.{IsIn}
 use Rattle.vab_model.specs.Commands.{command_of}
 use Rattle.vab_cli.specs.Verbs.{command_line, command_item, verb_status}
 use Rattle.vab_cli.proofs.Lines.{reply_some, verb_kind}
 use Rattle.vab_cli.proofs.Running.{opened_in, runs_done, runs_failed, does_sized}
-use Rattle.vab_cli.proofs.Touching.{opening_changes, verb_changes}
+use Rattle.vab_cli.proofs.Touching.{opening_changes, opened_changes}
 use Rattle.vab_cli.proofs.commands.carry_out.Goals as goal
 
 pub returns-in-Ok-do_command-clause-runs : goal.returns-in-Ok-do_command-clause-runs
@@ -47,8 +49,9 @@ returns-in-Err-do_command-clause-runs g c = λ t s stands.
 
 pub returns-in-Err-clause-changes : goal.returns-in-Err-clause-changes
 returns-in-Err-clause-changes g c = λ t s stands boot there.
-    opening_changes g.P.Disk _ s boot (command_of c.args.command.now) c.args.port.now c.open.new.port
-    (c.open.ensures.changes t)
+    opening_changes g.P.Disk _
+    (λ l. IsOfSlots boot (is_some s.state.a) (is_some s.state.b) l (command_of c.args.command.now))
+    c.args.port.now c.open.new.port (c.open.ensures.changes t)
 
 pub returns-in-Ok-do_command-clause-changes : goal.returns-in-Ok-do_command-clause-changes
 returns-in-Ok-do_command-clause-changes g c = λ t s stands boot there.
@@ -56,7 +59,9 @@ returns-in-Ok-do_command-clause-changes g c = λ t s stands boot there.
     let mid = c.open.new.port in
     let size = g.P.Disk.size old in
     let here = opened_in g.P.Disk g.met.P.Disk.only_now size old mid s (c.in-Ok.ensures.opens t) stands in
-    verb_changes g.P.Disk size s boot (command_of c.args.command.now) old mid c.do_command.new.port t
+    opened_changes g.P.Disk size
+    (λ l. IsOfSlots boot (is_some s.state.a) (is_some s.state.b) l (command_of c.args.command.now))
+    boot old mid c.do_command.new.port t
     (c.open.ensures.changes t)
     (c.do_command.ensures.changes t s
     (subst (λ (n : ℕ). IsIn n s (g.P.Disk.seen mid)) (sym c.open.ensures.size) here) boot)
@@ -68,7 +73,9 @@ returns-in-Err-do_command-clause-changes g c = λ t s stands boot there.
     let mid = c.open.new.port in
     let size = g.P.Disk.size old in
     let here = opened_in g.P.Disk g.met.P.Disk.only_now size old mid s (c.in-Ok.ensures.opens t) stands in
-    verb_changes g.P.Disk size s boot (command_of c.args.command.now) old mid c.do_command.new.port t
+    opened_changes g.P.Disk size
+    (λ l. IsOfSlots boot (is_some s.state.a) (is_some s.state.b) l (command_of c.args.command.now))
+    boot old mid c.do_command.new.port t
     (c.open.ensures.changes t)
     (c.do_command.ensures.changes t s
     (subst (λ (n : ℕ). IsIn n s (g.P.Disk.seen mid)) (sym c.open.ensures.size) here) boot)

@@ -1,5 +1,7 @@
 use Rattle.std.proofs.Common.{◌≡◌, inl, inr, ℕ, Ok, Err, sym, subst}
+use Rattle.std.specs.Prelude.{is_some}
 use Rattle.vab_device.specs.Mounted.{Mounted}
+use Rattle.vab_manager.specs.Controls.{IsOfSlots}
 use Rattle.vab_device.specs.Reading.{IsIn}
 use Rattle.vab_model.specs.Commands.{Print}
 use Rattle.vab_model.specs.Effects.{found_of}
@@ -7,7 +9,7 @@ use Rattle.vab_cli.specs.Verbs.{print_told, command_item, verb_status}
 use Rattle.vab_cli.proofs.Items.{print_last}
 use Rattle.vab_cli.proofs.Lines.{verb_kind}
 use Rattle.vab_cli.proofs.Running.{opened_in, runs_done, runs_failed, does_sized}
-use Rattle.vab_cli.proofs.Touching.{opening_changes, verb_changes}
+use Rattle.vab_cli.proofs.Touching.{opening_changes, opened_changes}
 use Rattle.vab_cli.proofs.printing.print.Goals as goal
 
 pub returns-in-Ok-print_image-clause-runs : goal.returns-in-Ok-print_image-clause-runs
@@ -50,15 +52,20 @@ returns-clause-runs g c = λ t s stands.
 
 pub returns-in-Err-clause-changes : goal.returns-in-Err-clause-changes
 returns-in-Err-clause-changes g c = λ t s stands boot there.
-    opening_changes g.P.Disk _ s boot (Print c.args.name.now) c.args.port.now c.open.new.port
-    (c.open.ensures.changes t)
+    opening_changes g.P.Disk _
+    (λ l. IsOfSlots boot (is_some s.state.a) (is_some s.state.b) l (Print c.args.name.now))
+    c.args.port.now c.open.new.port (c.open.ensures.changes t)
 
 pub returns-in-Ok-print_image-clause-changes : goal.returns-in-Ok-print_image-clause-changes
 returns-in-Ok-print_image-clause-changes g c = λ t s stands boot there.
-    verb_changes g.P.Disk _ s boot (Print c.args.name.now) c.args.port.now c.open.new.port
-    c.print_image.new.port t (c.open.ensures.changes t) (λ is. c.print_image.ensures.changes t) there
+    opened_changes g.P.Disk _
+    (λ l. IsOfSlots boot (is_some s.state.a) (is_some s.state.b) l (Print c.args.name.now))
+    boot c.args.port.now c.open.new.port c.print_image.new.port t (c.open.ensures.changes t)
+    (λ is. c.print_image.ensures.changes t) there
 
 pub returns-clause-changes : goal.returns-clause-changes
 returns-clause-changes g c = λ t s stands boot there.
-    verb_changes g.P.Disk _ s boot (Print c.args.name.now) c.args.port.now c.open.new.port
-    c.print_image.new.port t (c.open.ensures.changes t) (λ is. c.print_image.ensures.changes t) there
+    opened_changes g.P.Disk _
+    (λ l. IsOfSlots boot (is_some s.state.a) (is_some s.state.b) l (Print c.args.name.now))
+    boot c.args.port.now c.open.new.port c.print_image.new.port t (c.open.ensures.changes t)
+    (λ is. c.print_image.ensures.changes t) there

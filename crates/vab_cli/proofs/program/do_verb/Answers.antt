@@ -13,7 +13,7 @@ returns-in-Serve-true g c =
     c.make_and_serve.result c.make_and_serve.ensures.words c.make_and_serve.ensures.steady
     c.make_and_serve.ensures.disk c.make_and_serve.ensures.port
     is c.make_and_serve.ensures.runs c.make_and_serve.ensures.small
-    c.make_and_serve.ensures.too_small
+    c.make_and_serve.ensures.too_small c.make_and_serve.ensures.changes
 
 pub returns-in-Serve-false : goal.returns-in-Serve-false
 returns-in-Serve-false g c =
@@ -22,6 +22,7 @@ returns-in-Serve-false g c =
     c.open_and_serve.result c.open_and_serve.ensures.words c.open_and_serve.ensures.steady
     c.open_and_serve.ensures.disk c.open_and_serve.ensures.port
     is c.open_and_serve.ensures.runs c.open_and_serve.ensures.none
+    c.open_and_serve.ensures.changes
 
 pub returns-in-Boot : goal.returns-in-Boot
 returns-in-Boot g c =

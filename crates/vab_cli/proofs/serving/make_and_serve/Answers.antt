@@ -1,11 +1,14 @@
 use Rattle.std.proofs.Common.{◌≡◌, ◌≢◌, ◌<◌, ◌⊎◌, ◌∙◌, ⊎_elim, inl, inr, ℕ, List, [], Ok, Err, None, Some}
 use Rattle.std.proofs.Common.{refl, sym, ap, subst, ◌^◌, rules}
 use Rattle.vab_disk.specs.Disk.{Adds}
-use Rattle.vab_disk.specs.Calls.{IsAtRest, OnlyReads}
-use Rattle.vab_disk.proofs.CallLaws.{reads_none}
+use Rattle.std.specs.Prelude.{is_some}
+use Rattle.vab_disk.specs.declared.disk.Disk.{Ghosts}
+use Rattle.vab_disk.specs.Calls.{IsAtRest, OnlyReads, Touches, Changes, InSectors}
+use Rattle.vab_disk.proofs.CallLaws.{reads_none, changes_touches}
 use Rattle.vab_device.specs.Reading.{device, Represents}
 use Rattle.vab_device.proofs.ReadingLaws.{device_stands}
-use Rattle.vab_recover.specs.Opened.{LeavesSame}
+use Rattle.vab_recover.specs.Opened.{LeavesSame, IsRepair}
+use Rattle.vab_make.specs.Touched.{IsOfMaking}
 use Rattle.vab_set.specs.declared.set.SetImage.{SetImage}
 use Rattle.vab_make.specs.declared.fault.MakeFault.TheVariants as make
 use Rattle.vab_make.specs.Made.{refusal_of, made_device_of}
@@ -20,6 +23,7 @@ use Rattle.vab_cli.proofs.Makings.{refused_unheard}
 use Rattle.vab_cli.proofs.Running.{contents_of, early_of, is_one}
 use Rattle.vab_cli.proofs.Sessions.{fresh_enough, fresh_small, made_early, made_small, small_unwritten}
 use Rattle.vab_cli.proofs.Sessions.{making_failed, opening_failed, made_runs, opens_sized}
+use Rattle.vab_cli.proofs.FreshTouching.{made_opened, made_served}
 use Rattle.vab_cli.proofs.serving.make_and_serve.Goals as goal
 
 pub returns-in-Err-clause-runs : goal.returns-in-Err-clause-runs
@@ -183,3 +187,42 @@ returns-clause-runs g c = λ t enough.
     RunsSession g.P.Disk size
     (LeavesMaking (g.P.Disk.told old) [] 0 65536 size (g.P.Disk.seen old)) first old new x)
     (sym c.session_status.ensures) runs)
+
+pub returns-in-Err-clause-changes : goal.returns-in-Err-clause-changes
+returns-in-Err-clause-changes g c = λ t.
+    let set : c.from_vec-set.result ≡ [] = search rules in
+    subst (λ (x : List SetImage). Changes g.P.Disk (InSectors (IsOfMaking x 65536))
+    c.args.port.now c.make_device.new.d) set
+    (changes_touches g.P.Disk _ c.args.port.now c.make_device.new.d c.make_device.ensures.touches)
+
+-- the device is made, and what is there is opened
+opens_made : {D : Type 0} (g : Ghosts D) (set : List SetImage) (old mid new : D)
+    → set ≡ []
+    → g.size mid ≡ g.size old
+    → IsMade set 0 65536 (g.size old) (g.seen mid)
+    → Touches g (InSectors (IsOfMaking set 65536)) old mid
+    → Touches g (IsRepair (g.size mid) (g.seen mid)) mid new
+    → Changes g (InSectors (IsOfMaking [] 65536)) old new
+opens_made g set old mid new is sized made makes opens =
+    let here = subst (λ (x : List SetImage). IsMade x 0 65536 (g.size old) (g.seen mid)) is made in
+    let writes = subst (λ (x : List SetImage). Changes g (InSectors (IsOfMaking x 65536)) old mid) is
+        (changes_touches g _ old mid makes) in
+    made_opened g (g.size old) old mid new here writes
+    (subst (λ (n : ℕ). Changes g (IsRepair n (g.seen mid)) mid new) sized
+    (changes_touches g _ mid new opens))
+
+pub returns-in-Err-start-clause-changes : goal.returns-in-Err-start-clause-changes
+returns-in-Err-start-clause-changes g c = λ t.
+    opens_made g.P.Disk c.from_vec-set.result c.args.port.now c.make_device.new.d c.start.new.d
+    (search rules) c.make_device.ensures.touches.quiet.size (c.in-Ok.ensures.made t)
+    c.make_device.ensures.touches (c.start.ensures.touches t)
+
+pub returns-clause-changes : goal.returns-clause-changes
+returns-clause-changes g c = λ t.
+    let d = c.in-Ok-start.device in
+    made_served g.P.Disk (g.P.Disk.size c.args.port.now) d.control (is_some d.a) (is_some d.b)
+    (g.P.Disk.seen c.start.new.d 4) c.args.port.now c.start.new.d c.serve-answer.new.p
+    (opens_made g.P.Disk c.from_vec-set.result c.args.port.now c.make_device.new.d c.start.new.d
+    (search rules) c.make_device.ensures.touches.quiet.size (c.in-Ok.ensures.made t)
+    c.make_device.ensures.touches (c.start.ensures.touches t))
+    (c.serve-answer.ensures.changes t)

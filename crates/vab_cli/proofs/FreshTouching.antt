@@ -1,0 +1,159 @@
+-- What is written where a device is made, opened and served.
+use Rattle.std.proofs.Common.{◌≡◌, ◌⊎◌, ◌∙◌, ◌≤◌, inl, inr, ⊎_elim, ℕ, ◌+◌, ◌*◌, ◌/◌, ◌==◌, List}
+use Rattle.std.proofs.Common.{zero, suc, [], ◌∷◌, length, Ok, Some, None, refl, sym, ap, subst, arith, true, false}
+use Rattle.std.specs.Prelude.{Bool, Option, if◌then◌else◌}
+use Rattle.std.proofs.lemmas.Bool.{ne_eqb}
+use Rattle.vab_disk.specs.declared.disk.Disk.{Ghosts}
+use Rattle.vab_disk.specs.Disk.{Image}
+use Rattle.vab_disk.specs.Calls.{Changes, InSectors, IsBetween}
+use Rattle.vab_disk.proofs.CallLaws.{changes_then, changes_wider}
+use Rattle.vab_copies.specs.Copies.{IsOfText, IsOfCopy}
+use Rattle.vab_geometry.specs.declared.geometry.Geometry.{Geometry}
+use Rattle.vab_tables.specs.declared.table.Table.{Table}
+use Rattle.vab_tables.specs.Text.{IsTableText, text_size_of}
+use Rattle.vab_tables.specs.FrontLaws.{text_size_fits}
+use Rattle.vab_lpstore.specs.declared.loaded.Loaded.{Loaded}
+use Rattle.vab_lpstore.specs.Layout.{primary_of, backup_of, text_sectors}
+use Rattle.vab_lpstore.specs.Storing.{IsOfRepair}
+use Rattle.vab_set.specs.declared.set.SetImage.{SetImage}
+use Rattle.vab_marks.specs.declared.mark.UpdateMark.{UpdateMark}
+use Rattle.vab_bootctl.specs.declared.slots.Control.{Control}
+use Rattle.vab_layout.specs.declared.layout.Layout.{Layout}
+use Rattle.vab_layout.specs.Plain.{plain}
+use Rattle.vab_device.specs.Mounted.{Mounted, mounted_on, table_placed}
+use Rattle.vab_device.specs.Phases.{Phase, idle, phase_at}
+use Rattle.vab_device.specs.Reading.{Read, Reads, kept, table_for}
+use Rattle.vab_device.proofs.ReadingLaws.{at_idle, device_of}
+use Rattle.vab_recover.specs.Opened.{IsRepair}
+use Rattle.vab_manager.specs.Controls.{IsOfCommands}
+use Rattle.vab_make.specs.Made.{made_device_of, made_places, made_geometry, made_layout}
+use Rattle.vab_make.specs.Making.{IsMade}
+use Rattle.vab_make.specs.Touched.{IsOfMaking, IsOfContents, of_control, of_places, IsOfCopies}
+use Rattle.vab_make.specs.Touched.{of_primary, of_backup}
+
+none_some : {R : Type 0} (l : Layout) → (let none : Option Layout = None in none ≡ Some l) → R
+none_some l is = cc
+
+-- The first slot's table is read where it is the slot's own.
+first_slot : (slot : ℕ) (ts : List Table) (l : Layout)
+    → table_placed 0 (table_for 0 (slot ∷ []) ts) ≡ Some l
+    → slot ≡ 0
+first_slot zero ts l is = refl
+first_slot (suc n) [] l is = none_some l is
+first_slot (suc n) (t ∷ ts) l is =
+    let other : (suc n == 0) ≡ false = ne_eqb (suc n) 0 (λ is. omega (arith, is)) in
+    none_some l
+    (subst (λ (b : Bool). table_placed 0 (if b then Some t else None) ≡ Some l) other is)
+
+-- the text of a table is within the most bytes of a copy
+text_short : (g : Geometry) (text : List ℕ) (table : Table)
+    → g ≡ made_geometry 65536
+    → IsTableText g.max text table
+    → length text ≡ text_size_of text
+    → length text ≤ 65536
+text_short g text table is said whole =
+    let per : g.max ≡ 65536 = ap (λ (x : Geometry). x.max) is in
+    omega (arith, per, whole, text_size_fits g.max text table said)
+
+-- a repair is of one of the copies
+of_flags : (p b : Bool) (g : Geometry) (slot : ℕ) (text : List ℕ) (s : ℕ) (bytes : List ℕ)
+    → IsOfRepair p b g slot text s bytes
+    → IsOfCopy (text_sectors (length text)) (primary_of g slot) text s bytes
+    ⊎ IsOfCopy (text_sectors (length text)) (backup_of g slot) text s bytes
+of_flags false b g slot text s bytes w = inl w
+of_flags true false g slot text s bytes w = inr (inl w)
+of_flags true true g slot text s bytes w = absurd w
+
+module _ (size : ℕ) (image : Image) (made : IsMade [] 0 65536 size image) where
+  module _ (r : Read) (reads : Reads size r image) where
+    is : mounted_on (kept r) image ≡ made_device_of [] 0 65536 size
+    is = let both = sym (device_of size r image reads) ∙ made in cc
+
+    geometry : r.geometry ≡ made_geometry 65536
+    unfolding made_places
+    geometry = ap (λ (m : Mounted). m.places.geometry) is
+
+    placed : table_placed 0 (table_for 0 (r.mark.slot ∷ []) r.tables)
+        ≡ Some (plain 0 (made_layout [] 0 size))
+    unfolding made_places
+    placed =
+        subst
+        (λ (p : Phase).
+        table_placed 0 (table_for 0 (p.tables r.mark.slot) r.tables)
+        ≡ Some (plain 0 (made_layout [] 0 size)))
+        (at_idle r.mark.phase)
+        (ap (λ (m : Mounted). m.places.a) is)
+
+    slot : r.mark.slot ≡ 0
+    slot = first_slot r.mark.slot r.tables (plain 0 (made_layout [] 0 size)) placed
+
+  -- a copy's text takes no more than its place
+  within : (at : ℕ) (text : List ℕ) (s : ℕ) (bytes : List ℕ) (first : ℕ)
+      → length text ≤ 65536
+      → at ≡ first
+      → IsOfCopy (text_sectors (length text)) at text s bytes
+      → IsBetween first (first + 128) s
+  unfolding text_sectors
+  within at text s bytes first fits is w =
+      ⊎_elim
+      (λ text. record {
+        from = omega (arith, is, text.first);
+        below = omega (arith, is, text.last, fits);
+      })
+      (λ zero. record { from = omega (arith, is, zero.0); below = omega (arith, is, zero.0) })
+      w
+
+  -- the copies of the table lie where they were made
+  of_copy : (g : Geometry) (slot : ℕ) (text : List ℕ) (s : ℕ) (bytes : List ℕ)
+      → g ≡ made_geometry 65536
+      → slot ≡ 0
+      → length text ≤ 65536
+      → IsOfCopy (text_sectors (length text)) (primary_of g slot) text s bytes
+      ⊎ IsOfCopy (text_sectors (length text)) (backup_of g slot) text s bytes
+      → IsOfMaking [] 65536 s
+  unfolding primary_of backup_of text_sectors
+  of_copy g slot text s bytes is first_one fits w =
+      let first : primary_of g slot ≡ 4120 = λ i. primary_of (is i) (first_one i) in
+      let second : backup_of g slot ≡ 4376 = λ i. backup_of (is i) (first_one i) in
+      ⊎_elim
+      (λ primary.
+      inr (of_places (inr (of_primary
+      (within (primary_of g slot) text s bytes 4120 fits first primary)))))
+      (λ backup.
+      inr (of_places (inr (of_backup
+      (within (backup_of g slot) text s bytes 4376 fits second backup)))))
+      w
+
+  repair_made : (s : ℕ) (bytes : List ℕ) → IsRepair size image s bytes → IsOfMaking [] 65536 s
+  repair_made s bytes w =
+      let l = w.table in
+      of_copy w.read.geometry w.read.mark.slot l.text s bytes (geometry w.read w.reads)
+      (slot w.read w.reads)
+      (text_short w.read.geometry l.text l.table (geometry w.read w.reads) w.loaded.text
+      w.loaded.whole)
+      (of_flags l.primary l.backup w.read.geometry w.read.mark.slot l.text s bytes w.writes)
+
+-- ---- made, opened and served
+
+module _ {D : Type 0} (g : Ghosts D) (size : ℕ) where
+  abbrev Fresh : ℕ → List ℕ → Type 0
+  Fresh = InSectors (IsOfMaking [] 65536)
+
+  pub made_opened : (old mid new : D)
+      → IsMade [] 0 65536 size (g.seen mid)
+      → Changes g Fresh old mid
+      → Changes g (IsRepair size (g.seen mid)) mid new
+      → Changes g Fresh old new
+  made_opened old mid new made makes opens =
+      changes_then g Fresh old mid new makes
+      (changes_wider g Fresh (IsRepair size (g.seen mid)) mid new opens
+      (repair_made size (g.seen mid) made))
+
+  pub made_served : (control : Control) (a b : Bool) (bytes : List ℕ) (old mid new : D)
+      → Changes g Fresh old mid
+      → Changes g (IsOfCommands control a b bytes) mid new
+      → Changes g Fresh old new
+  made_served control a b bytes old mid new first serves =
+      changes_then g Fresh old mid new first
+      (changes_wider g Fresh (IsOfCommands control a b bytes) mid new serves
+      (λ s x w. inr (of_control w.writes.at)))
