@@ -1,6 +1,7 @@
 //! Reads a table's text from standard input, and so many times decodes it, decodes and judges it,
-//! writes it again, lists the free blocks, takes the lowest half of them, edits the target of an
-//! update from slot a, or takes SHA-256 of the text, for `bench/tables` and `bench/blocks`.
+//! writes it again, lists the free blocks, takes the lowest half of them, judges or edits the
+//! target of an update from slot a, or takes SHA-256 of the text, for `bench/tables` and
+//! `bench/blocks`.
 #![tactic(auto)]
 
 use sha2::{Digest, Sha256};
@@ -11,7 +12,7 @@ use std::process::ExitCode;
 use vab_blocks::Runs;
 use vab_builder::{Edit, apply, import};
 use vab_bytes::Name36;
-use vab_partitions::bad_partition;
+use vab_partitions::{bad_partition, bad_target};
 use vab_tables::{Table, decode_table, encode_table, table_size};
 
 const MAX: u32 = 1 << 20;
@@ -73,6 +74,30 @@ fn edits(alloc: Global, text: &[u8], edit: &Edit, times: u32) -> bool {
     for _ in 0..times {
         if apply(alloc, &table, &target, 1, edit, MAX).is_err() {
             return false;
+        }
+    }
+    true
+}
+
+// Judges the target of an update from slot a as it begins, again and again.
+fn targets(alloc: Global, text: &[u8], times: u32) -> bool {
+    let Ok(table) = decode_table(alloc, text, MAX) else {
+        return false;
+    };
+    if !is_small(&table) || table_size(&table) >= 1 << 24 {
+        return false;
+    }
+    match bad_partition(alloc, &table, 0) {
+        Ok(None) => {}
+        _ => return false,
+    }
+    let Ok(target) = import(alloc, &table, 0, MAX) else {
+        return false;
+    };
+    for _ in 0..times {
+        match bad_target(alloc, &table, &target, 1) {
+            Ok(None) => {}
+            _ => return false,
         }
     }
     true
@@ -181,6 +206,7 @@ fn main(rt: HostRuntime) -> ExitCode {
         "resize" => edits(alloc, &text, &Edit::Resize(b"system_b", bytes), times),
         "store" => edits(alloc, &text, &Edit::AddStore(b"system_b", bytes), times),
         "delete" => edits(alloc, &text, &Edit::Delete(b"system_b"), times),
+        "target" => targets(alloc, &text, times),
         "encode" => encode(alloc, &text, times),
         "free" => free(alloc, &text, times),
         "lowest" => lowest(alloc, &text, times),

@@ -51,6 +51,15 @@ resized_blocks slot source target p n =
     let kept = kept_blocks (before_of slot source.parts p.name) p.blocks n in
     kept ++ take (n - length kept) (free_of slot source target)
 
+-- the blocks of the partition of this name at another size
+abbrev pub resized_to : ℕ → Layout → Layout → List ℕ → ℕ → List ℕ
+resized_to slot source target name n =
+    kept_blocks (before_of slot source.parts name) (blocks_named name target.parts) n
+    ++ take
+    (n - length
+    (kept_blocks (before_of slot source.parts name) (blocks_named name target.parts) n))
+    (free_of slot source target)
+
 -- ---- layouts
 
 -- the first group of the slot, or that of no slot

@@ -5,6 +5,7 @@ ghost use Rattle.vab_tables.specs.Rules.{KeepsRules};
 ghost use Rattle.vab_tables.specs.Spelling.{table_size_of};
 ghost use Rattle.vab_layout.specs.Layout.{layout_of, table_of};
 ghost use Rattle.vab_layout.specs.Slots.{other_slot, IsOwn, IsTarget, groups_of_slot};
+ghost use Rattle.vab_builder.specs.Asked.{edited_name, HasAsked, KeepsOthers};
 ghost use Rattle.vab_builder.specs.Edits.{changed_by, edited};
 ghost use Rattle.vab_builder.specs.Gives.{GivesTable};
 
@@ -43,6 +44,12 @@ pub fn apply(
     ensures layout { IfOk result (λ t.
         changed_by target_slot (layout_of source.now) (layout_of target.now) edit.now
         ≡ Ok (layout_of t)) }
+    // The partition that the edit makes or changes, or its store, has exactly the blocks that are
+    // asked for, and each other one is as before.
+    ensures asked { IfOk result
+        (λ t. HasAsked edit.now (layout_of target.now) (layout_of t)) }
+    ensures others { IfOk result
+        (λ t. KeepsOthers (edited_name edit.now) (layout_of target.now) (layout_of t)) }
     // Further edits may be made of it.
     ensures target { IfOk result
         (λ t. IsTarget target_slot (layout_of source.now).parts

@@ -1,11 +1,13 @@
 //! An edit of the target's layout.
 
-ghost use Rattle.std.specs.Prelude.{◌≡◌, ◌≤◌, ◌<◌, ◌+◌, ◌^◌, length, sum_by, IfOk};
+ghost use Rattle.std.specs.Prelude.{◌≡◌, ◌≤◌, ◌+◌, ◌^◌, length, sum_by, IfOk};
 ghost use Rattle.vab_blocks.specs.Runs.{runs_of};
 ghost use Rattle.vab_layout.specs.Rules.{IsLayout};
-ghost use Rattle.vab_layout.specs.Slots.{other_slot, IsOwn, IsTarget, groups_of_slot};
+ghost use Rattle.vab_layout.specs.Slots.{IsTarget, groups_of_slot};
+ghost use Rattle.vab_builder.specs.Asked.{edited_name, HasAsked, KeepsOthers};
 ghost use Rattle.vab_builder.specs.Edits.{changed_by};
 ghost use Rattle.vab_builder.specs.Gives.{GivesLayout};
+ghost use Rattle.vab_builder.specs.Update.{IsUpdate};
 
 use crate::create::create;
 use crate::delete::delete;
@@ -16,9 +18,27 @@ use crate::store::add_store;
 use std::alloc::Global;
 use vab_layout::Layout;
 
+// The target's layout after an edit, or the first refusal.
+fn changed(
+    alloc: Global,
+    source: &Layout,
+    target: Layout,
+    slot: usize,
+    edit: &Edit,
+) -> Result<Layout, EditFault>
+    requires { IsUpdate slot source.now target }
+    ensures { GivesLayout result (changed_by slot source.now target edit.now) }
+{
+    match *edit {
+        Edit::Create(name, bytes) => create(alloc, source, target, slot, name, bytes),
+        Edit::Resize(name, bytes) => resize(alloc, source, target, slot, name, bytes),
+        Edit::Delete(name) => delete(target, slot, name),
+        Edit::AddStore(name, bytes) => add_store(alloc, source, target, slot, name, bytes),
+    }
+}
+
 /// The target's layout after an edit, beside the source's. The refusals come in the order of
-/// `EditFault`, each exactly where it says;
-/// `NoMemory` where memory is refused.
+/// `EditFault`, each exactly where it says; `NoMemory` where memory is refused.
 pub(crate) fn change(
     alloc: Global,
     source: &Layout,
@@ -26,13 +46,10 @@ pub(crate) fn change(
     slot: usize,
     edit: &Edit,
 ) -> Result<Layout, EditFault>
-    requires slot { slot < 2 }
-    requires source_rules { IsLayout source.now }
-    requires target_rules { IsLayout target }
-    requires own { IsOwn (other_slot slot) source.now.parts }
-    requires parts { IsTarget slot source.now.parts target.parts }
-    requires device { source.now.device ≡ target.device }
+    requires { IsUpdate slot source.now target }
     ensures exact { GivesLayout result (changed_by slot source.now target edit.now) }
+    ensures asked { IfOk result (HasAsked edit.now target) }
+    ensures others { IfOk result (KeepsOthers (edited_name edit.now) target) }
     ensures rules { IfOk result IsLayout }
     ensures parts { IfOk result (λ l. IsTarget slot source.now.parts l.parts) }
     ensures device { IfOk result (λ l. l.device ≡ target.device) }
@@ -46,10 +63,5 @@ pub(crate) fn change(
         (λ l. sum_by (λ p. length (runs_of p.blocks)) l.parts
         ≤ sum_by (λ p. length (runs_of p.blocks)) target.parts + 2 ^ 40) }
 {
-    match *edit {
-        Edit::Create(name, bytes) => create(alloc, source, target, slot, name, bytes),
-        Edit::Resize(name, bytes) => resize(alloc, source, target, slot, name, bytes),
-        Edit::Delete(name) => delete(target, slot, name),
-        Edit::AddStore(name, bytes) => add_store(alloc, source, target, slot, name, bytes),
-    }
+    changed(alloc, source, target, slot, edit)
 }

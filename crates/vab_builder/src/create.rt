@@ -10,12 +10,12 @@ ghost use Rattle.vab_builder.specs.Edits.{created, created_blocks, first_group, 
 ghost use Rattle.vab_builder.specs.Edits.{with_created, with_group};
 ghost use Rattle.vab_builder.specs.Gives.{GivesLayout};
 ghost use Rattle.vab_builder.specs.Update.{IsUpdate, Refuses};
-ghost use Rattle.vab_builder.specs.Verdicts.{IsCreated};
+ghost use Rattle.vab_builder.specs.Passes.{IsCreated};
 
 use crate::fault::EditFault;
-use crate::find::{count_own, first_group, has_part, limit_of, push_before};
+use crate::find::{count_own, first_group, has_part, push_before};
 use crate::parts::{MAX_BYTES, full_name, is_within, push_free, with_group};
-use crate::room::{created_sum, created_used};
+use crate::room::{created_group, created_used};
 use std::alloc::Global;
 use vab_blocks::Blocks;
 use vab_bytes::{Listing, Name36};
@@ -76,9 +76,7 @@ fn judged(
         return Err(EditFault::TooMany(own + 1));
     }
     let count = blocks(bytes);
-    let group = first_group(target.groups.as_slice(), slot);
-    let limit = limit_of(target.groups.as_slice(), group.text());
-    let sum = created_sum(alloc, parts, slot, &group, name.text(), count)?;
+    let (sum, limit) = created_group(alloc, target, slot, name.text(), count)?;
     if !is_within(sum, limit) {
         return Err(EditFault::GroupLimit(sum, limit));
     }

@@ -5,7 +5,7 @@ ghost use Rattle.vab_tables.specs.Rules.{NamesDiffer};
 ghost use Rattle.vab_builder.specs.Edits.{deleted, with_deleted};
 ghost use Rattle.vab_builder.specs.Gives.{GivesLayout};
 ghost use Rattle.vab_builder.specs.Update.{Refuses};
-ghost use Rattle.vab_builder.specs.DeleteVerdicts.{IsDeleted};
+ghost use Rattle.vab_builder.specs.Passes.{IsDeleted};
 
 use crate::fault::EditFault;
 use crate::find::has_part;

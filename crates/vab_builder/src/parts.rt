@@ -33,7 +33,7 @@ pub(crate) fn is_within(sum: u64, limit: u64) -> bool
 }
 
 /// The name, if it is a base name and the slot's suffix.
-#[tactic(auto, using(crate::specs::NameCases::full_named))]
+#[tactic(auto, using(crate::proofs::NameCases::full_named))]
 pub(crate) fn full_name(name: &[u8], slot: usize) -> Option<Name36>
     requires { slot < 2 }
     ensures value { IfSome result (λ n. n ≡ name.now) }
@@ -82,7 +82,8 @@ pub(crate) fn kept_blocks(
     requires slot { slot < 2 }
     requires long { 2 ≤ length name.now }
     ensures { IfOk result (λ b. b
-        ≡ kept_blocks (before_of slot source.now name.now) (blocks_named name.now target.now) count) }
+        ≡ kept_blocks (before_of slot source.now name.now)
+        (blocks_named name.now target.now) count) }
 {
     let mut kept = Blocks::new(alloc);
     push_before(&mut kept, source, slot, name, count)?;

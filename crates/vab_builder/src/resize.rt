@@ -4,15 +4,15 @@ ghost use Rattle.std.specs.Prelude.{◌≡◌, ◌≤◌, ◌<◌, ◌-◌, leng
 ghost use Rattle.vab_layout.specs.Slots.{before_of, blocks_named};
 ghost use Rattle.vab_tables.specs.Rules.{NamesDiffer};
 ghost use Rattle.vab_builder.specs.Edits.{changed, free_of, kept_blocks, resized, updated};
-ghost use Rattle.vab_builder.specs.EditLaws.{resized_to};
+ghost use Rattle.vab_builder.specs.Edits.{resized_to};
 ghost use Rattle.vab_builder.specs.Gives.{GivesLayout};
 ghost use Rattle.vab_builder.specs.Update.{IsUpdate, Refuses};
-ghost use Rattle.vab_builder.specs.ResizeVerdicts.{IsResized};
+ghost use Rattle.vab_builder.specs.Passes.{IsResized};
 
 use crate::fault::EditFault;
-use crate::find::{count_named, group_named, has_part, limit_of};
+use crate::find::{count_named, has_part};
 use crate::parts::{MAX_BYTES, full_name, is_within, kept_blocks, push_free, set_blocks};
-use crate::room::{resized_sum, resized_used};
+use crate::room::{resized_group, resized_used};
 use std::alloc::Global;
 use vab_blocks::Blocks;
 use vab_bytes::{Listing, Name36};
@@ -71,9 +71,7 @@ fn judged(
         return Err(EditFault::HasStore);
     }
     let count = blocks(bytes);
-    let group = group_named(name.text(), parts);
-    let limit = limit_of(target.groups.as_slice(), group.text());
-    let sum = resized_sum(alloc, parts, slot, &group, name.text(), count)?;
+    let (sum, limit) = resized_group(alloc, target, slot, name.text(), count)?;
     if !is_within(sum, limit) {
         return Err(EditFault::GroupLimit(sum, limit));
     }

@@ -4,9 +4,11 @@ ghost use Rattle.std.specs.Prelude.{◌≡◌, ◌≤◌, ◌<◌, ◌^◌, ◌�
 ghost use Rattle.vab_layout.specs.Slots.{IsOwn, own_parts, before_of};
 ghost use Rattle.vab_space.specs.Space.{group_sum_of};
 ghost use Rattle.vab_builder.specs.Sizes.{sizes_in, used_by, wants_of, wants_resized, wants_stored};
+ghost use Rattle.vab_builder.specs.Passes.{created_group_sum, created_group_limit};
+ghost use Rattle.vab_builder.specs.Passes.{resized_group_sum, resized_group_limit};
 ghost use Rattle.vab_builder.specs.Update.{IsUpdate};
 
-use crate::find::count_before;
+use crate::find::{count_before, first_group, group_named, limit_of};
 use crate::sizes::{sizes_in, source_sizes, wants, wants_resized, wants_stored};
 use std::alloc::Global;
 use vab_bytes::Name36;
@@ -14,8 +16,8 @@ use vab_layout::{Layout, Part};
 use vab_space::{Want, group_sum, used};
 use vab_tables::NoMemory;
 
-/// Bytes in a group with a partition more, of so many blocks.
-pub(crate) fn created_sum(
+// Bytes in a group with a partition more, of so many blocks.
+fn created_sum(
     alloc: Global,
     target: &[Part],
     slot: usize,
@@ -36,8 +38,8 @@ pub(crate) fn created_sum(
     Ok(group_sum(&sizes))
 }
 
-/// Bytes in a group where the partition of this name has so many blocks.
-pub(crate) fn resized_sum(
+// Bytes in a group where the partition of this name has so many blocks.
+fn resized_sum(
     alloc: Global,
     target: &[Part],
     slot: usize,
@@ -53,6 +55,47 @@ pub(crate) fn resized_sum(
 {
     let sizes = sizes_in(alloc, group, name, count, target, slot)?;
     Ok(group_sum(&sizes))
+}
+
+/// Bytes in the group of a partition more, of so many blocks, and the group's limit.
+pub(crate) fn created_group(
+    alloc: Global,
+    target: &Layout,
+    slot: usize,
+    name: &[u8],
+    count: u64,
+) -> Result<(u64, u64), NoMemory>
+    requires slot { slot < 2 }
+    requires own { IsOwn slot target.now.parts }
+    requires small { count ≤ 2 ^ 28 }
+    ensures { IfOk result (λ r. (r.0 ≡ created_group_sum slot target.now name.now count)
+        × (r.1 ≡ created_group_limit slot target.now)) }
+{
+    let groups = target.groups.as_slice();
+    let group = first_group(groups, slot);
+    let sum = created_sum(alloc, target.parts.as_slice(), slot, &group, name, count)?;
+    Ok((sum, limit_of(groups, group.text())))
+}
+
+/// Bytes in the group of the partition of this name, where it has so many blocks, and the group's
+/// limit.
+pub(crate) fn resized_group(
+    alloc: Global,
+    target: &Layout,
+    slot: usize,
+    name: &[u8],
+    count: u64,
+) -> Result<(u64, u64), NoMemory>
+    requires slot { slot < 2 }
+    requires own { IsOwn slot target.now.parts }
+    requires small { count ≤ 2 ^ 28 }
+    ensures { IfOk result (λ r. (r.0 ≡ resized_group_sum slot target.now name.now count)
+        × (r.1 ≡ resized_group_limit target.now name.now)) }
+{
+    let parts = target.parts.as_slice();
+    let group = group_named(name, parts);
+    let sum = resized_sum(alloc, parts, slot, &group, name, count)?;
+    Ok((sum, limit_of(target.groups.as_slice(), group.text())))
 }
 
 /// The blocks in use with a partition more, of so many blocks.

@@ -8,7 +8,7 @@ ghost use Rattle.vab_builder.specs.Import.{stores_group};
 ghost use Rattle.vab_builder.specs.Edits.{changed, store_blocks, stored, updated, with_group};
 ghost use Rattle.vab_builder.specs.Gives.{GivesLayout};
 ghost use Rattle.vab_builder.specs.Update.{IsUpdate, Refuses};
-ghost use Rattle.vab_builder.specs.StoreVerdicts.{IsStored, store_size};
+ghost use Rattle.vab_builder.specs.Passes.{IsStored, store_size};
 
 use crate::fault::EditFault;
 use crate::find::{count_named, has_part};

@@ -6,3 +6,4 @@ mod Programs
 mod Running
 mod Saying
 mod Sessions
+mod Touching

@@ -3,6 +3,9 @@ use Rattle.std.proofs.Common.{◌≡◌, ◌≢◌, ◌⊎◌, ◌∙◌, inl, i
 use Rattle.std.proofs.Common.{true, false, None, Some, Ok, Err, refl, sym, ap, subst}
 use Rattle.vab_disk.specs.declared.disk.Disk.{Ghosts}
 use Rattle.vab_disk.specs.Disk.{Rose}
+use Rattle.vab_disk.specs.Calls.{Changes, InSectors}
+use Rattle.vab_bootctl.specs.declared.slots.Control.{Control}
+use Rattle.vab_bootctl.specs.Control.{control_of}
 use Rattle.vab_set.specs.Reading.{set_of}
 use Rattle.vab_set.specs.declared.set.SetImage.{SetImage}
 use Rattle.vab_set.specs.declared.fault.SetFault.{SetFault}
@@ -13,6 +16,7 @@ use Rattle.vab_device.specs.Reading.{device, IsIn}
 use Rattle.vab_make.specs.declared.fault.MakeFault.{MakeFault}
 use Rattle.vab_make.specs.Made.{refusal_of, made_device_of}
 use Rattle.vab_make.specs.Making.{LeavesMaking}
+use Rattle.vab_make.specs.Touched.{IsOfMaking}
 use Rattle.vab_words.specs.Verbs.{Meaning, Make, Serve}
 use Rattle.vab_cli.specs.declared.status.Status.{Status}
 use Rattle.vab_cli.specs.declared.status.Status.TheVariants.{Done, Usage, Malformed, NotADevice}
@@ -22,6 +26,7 @@ use Rattle.vab_cli.specs.Counts.{HearsNothing, IsSteady}
 use Rattle.vab_cli.specs.Program.{DoesVerb}
 use Rattle.vab_cli.specs.Runs.{NoFault, RunsSession, RunsItem, FailsBefore}
 use Rattle.vab_cli.specs.Runs.{RunsNone, RunsRefused, RunsMaking, FailsMaking}
+use Rattle.vab_cli.specs.Touched.{IsOfVerb}
 use Rattle.vab_cli.specs.Verbs.{command_of, none_line, verb_item, verb_status, make_line, done_making}
 use Rattle.vab_cli.proofs.Sessions.{completed}
 
@@ -84,9 +89,15 @@ module _ {D : Type 0}
       → (fault : StartFault)
       → device (g.size old) (g.seen old) ≡ Err fault
       → RunsNone g (g.size old) none_line old new status)
+      → (g.is_modelled
+        → (s : Mounted)
+        → IsIn (g.size old) s (g.seen old)
+        → (boot : Control)
+        → control_of (g.seen old 4) ≡ Ok boot
+        → Changes g (IsOfVerb (g.size old) (g.seen old) s boot c) old new)
       → (g.is_modelled → HearsNothing g old new)
       → DoesVerb g m old new status
-  command_verb c some runs none quiet = record {
+  command_verb c some runs none touches quiet = record {
     item = λ t c' is s stands.
         let same : Some c ≡ Some c' = sym some ∙ is in
         let one : c ≡ c' = cc in
@@ -96,6 +107,12 @@ module _ {D : Type 0}
         ⊎ FailsBefore g (g.size old) s old new status)
         one (runs t s stands);
     none = λ t c' is. none t;
+    touches = λ t c' is s stands boot there.
+        let same : Some c ≡ Some c' = sym some ∙ is in
+        let one : c ≡ c' = cc in
+        subst
+        (λ (x : Command). Changes g (IsOfVerb (g.size old) (g.seen old) s boot x) old new)
+        one (touches t s stands boot there);
     quiet = λ t c' is. quiet t;
     serve = λ t is. is_command m (Serve false) c some is refl;
     none_served = λ t is. is_command m (Serve false) c some is refl;
@@ -105,6 +122,7 @@ module _ {D : Type 0}
     made = λ t limit max is. is_command m (Make limit max) c some is refl;
     refused = λ t limit max is. is_command m (Make limit max) c some is refl;
     malformed = λ t limit max is. is_command m (Make limit max) c some is refl;
+    touches_made = λ t limit max is. is_command m (Make limit max) c some is refl;
     end = λ t limit max is. is_command m (Make limit max) c some is refl;
     disk = disk;
     port = port;
@@ -137,6 +155,7 @@ module _ {D : Type 0}
   serve_verb is runs none = record {
     item = λ t c some. no_command m (Serve false) c is refl some;
     none = λ t c some. no_command m (Serve false) c is refl some;
+    touches = λ t c some. no_command m (Serve false) c is refl some;
     quiet = λ t c some. no_command m (Serve false) c is refl some;
     serve = λ t same. runs t;
     none_served = λ t same. none t;
@@ -146,6 +165,7 @@ module _ {D : Type 0}
     made = λ t limit max other. let both = sym is ∙ other in cc;
     refused = λ t limit max other. let both = sym is ∙ other in cc;
     malformed = λ t limit max other. let both = sym is ∙ other in cc;
+    touches_made = λ t limit max other. let both = sym is ∙ other in cc;
     end = λ t limit max other. let both = sym is ∙ other in cc;
     disk = disk;
     port = port;
@@ -174,6 +194,7 @@ module _ {D : Type 0}
   fresh_verb is runs small too_small = record {
     item = λ t c some. no_command m (Serve true) c is refl some;
     none = λ t c some. no_command m (Serve true) c is refl some;
+    touches = λ t c some. no_command m (Serve true) c is refl some;
     quiet = λ t c some. no_command m (Serve true) c is refl some;
     serve = λ t other. let both = sym is ∙ other in cc;
     none_served = λ t other. let both = sym is ∙ other in cc;
@@ -183,6 +204,7 @@ module _ {D : Type 0}
     made = λ t limit max other. let both = sym is ∙ other in cc;
     refused = λ t limit max other. let both = sym is ∙ other in cc;
     malformed = λ t limit max other. let both = sym is ∙ other in cc;
+    touches_made = λ t limit max other. let both = sym is ∙ other in cc;
     end = λ t limit max other. let both = sym is ∙ other in cc;
     disk = disk;
     port = port;
@@ -215,11 +237,16 @@ module _ {D : Type 0}
       → (2 ^ 32 < length (g.input_left old))
       ⊎ ((fault : SetFault) × (set_of (g.input_left old) ≡ Err fault))
       → RunsRefused g (g.size old) [] Malformed old new status)
+      → (g.is_modelled
+        → (set : List SetImage)
+        → set_of (g.input_left old) ≡ Ok set
+        → Changes g (InSectors (IsOfMaking set max)) old new)
       → (g.is_modelled → status ≡ Done → g.input_left new ≡ [])
       → DoesVerb g m old new status
-  make_verb limit max is made refused malformed end = record {
+  make_verb limit max is made refused malformed touches end = record {
     item = λ t c some. no_command m (Make limit max) c is refl some;
     none = λ t c some. no_command m (Make limit max) c is refl some;
+    touches = λ t c some. no_command m (Make limit max) c is refl some;
     quiet = λ t c some. no_command m (Make limit max) c is refl some;
     serve = λ t other. let both = sym is ∙ other in cc;
     none_served = λ t other. let both = sym is ∙ other in cc;
@@ -248,6 +275,11 @@ module _ {D : Type 0}
         refused t set fits spelled fault
         ((λ i. refusal_of set (limits i) (most i) (g.size old)) ∙ refusal);
     malformed = λ t l x same. malformed t;
+    touches_made = λ t l x same set spelled.
+        let both : Make limit max ≡ Make l x = sym is ∙ same in
+        let most : max ≡ x = cc in
+        subst (λ (x : ℕ). Changes g (InSectors (IsOfMaking set x)) old new) most
+        (touches t set spelled);
     end = λ t l x same. end t;
     disk = disk;
     port = port;

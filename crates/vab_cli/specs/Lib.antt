@@ -4,4 +4,5 @@ pub mod Opening
 pub mod Program
 pub mod Runs
 pub mod Telling
+pub mod Touched
 pub mod Verbs

@@ -3,6 +3,9 @@ use Rattle.std.specs.Prelude.{◌≡◌, ◌≢◌, ◌⊎◌, ◌≤◌, ◌<�
 use Rattle.std.specs.Prelude.{Some, None, Ok, Err, Bool, Option}
 use Rattle.vab_disk.specs.declared.disk.Disk.{Ghosts}
 use Rattle.vab_disk.specs.Disk.{Rose}
+use Rattle.vab_disk.specs.Calls.{Changes, InSectors}
+use Rattle.vab_bootctl.specs.declared.slots.Control.{Control}
+use Rattle.vab_bootctl.specs.Control.{control_of}
 use Rattle.vab_set.specs.Reading.{set_of}
 use Rattle.vab_set.specs.declared.set.SetImage.{SetImage}
 use Rattle.vab_set.specs.declared.fault.SetFault.{SetFault}
@@ -13,6 +16,7 @@ use Rattle.vab_device.specs.Reading.{device, IsIn}
 use Rattle.vab_make.specs.declared.fault.MakeFault.{MakeFault}
 use Rattle.vab_make.specs.Made.{refusal_of, made_device_of}
 use Rattle.vab_make.specs.Making.{LeavesMaking}
+use Rattle.vab_make.specs.Touched.{IsOfMaking}
 use Rattle.vab_words.specs.Verbs.{Meaning, Make, Serve}
 use Rattle.vab_exchanges.specs.Session.{Exchange, End, IsSession}
 use Rattle.vab_exchanges.specs.Items.{output_of}
@@ -25,6 +29,7 @@ use Rattle.vab_cli.specs.Codes.{make_status}
 use Rattle.vab_cli.specs.Counts.{HearsNothing, IsSteady}
 use Rattle.vab_cli.specs.Runs.{SaysEnd, Held, NoFault, RunsSession, RunsItem, FailsBefore, RunsNone}
 use Rattle.vab_cli.specs.Runs.{RunsRefused, RunsMaking, FailsMaking}
+use Rattle.vab_cli.specs.Touched.{IsOfVerb}
 use Rattle.vab_cli.specs.Verbs.{command_of, none_line, verb_item, verb_status}
 use Rattle.vab_cli.specs.Verbs.{make_line, done_making}
 
@@ -68,6 +73,17 @@ pub record DoesVerb {D : Type 0}
       → (fault : StartFault)
       → device (g.size old) (g.seen old) ≡ Err fault
       → RunsNone g (g.size old) none_line old new status
+  -- They write what opening repairs, and boot control's sector where the command is one on slots: the
+  -- boot control that the boot rules make of the one that is there, of both slots; all else stays, as
+  -- it reads and in each outcome.
+  pub touches : g.is_modelled
+      → (c : Command)
+      → command_of m ≡ Some c
+      → (s : Mounted)
+      → IsIn (g.size old) s (g.seen old)
+      → (boot : Control)
+      → control_of (g.seen old 4) ≡ Ok boot
+      → Changes g (IsOfVerb (g.size old) (g.seen old) s boot c) old new
   -- They hear nothing.
   pub quiet : g.is_modelled → (c : Command) → command_of m ≡ Some c → HearsNothing g old new
   -- `serve` over a disk that is a device: the session of the input, with its bytes told, and so is
@@ -130,6 +146,12 @@ pub record DoesVerb {D : Type 0}
       → (2 ^ 32 < length (g.input_left old))
       ⊎ ((fault : SetFault) × (set_of (g.input_left old) ≡ Err fault))
       → RunsRefused g (g.size old) [] Malformed old new status
+  pub touches_made : g.is_modelled
+      → (limit max : ℕ)
+      → m ≡ Make limit max
+      → (set : List SetImage)
+      → set_of (g.input_left old) ≡ Ok set
+      → Changes g (InSectors (IsOfMaking set max)) old new
   pub end : g.is_modelled
       → (limit max : ℕ)
       → m ≡ Make limit max

@@ -1,14 +1,19 @@
 //! The verbs that are one command.
-ghost use Rattle.std.specs.Prelude.{◌≡◌, ◌≢◌, ◌⊎◌, IfOk, IfErr, OnOk, IsErrOf, Err};
+ghost use Rattle.std.specs.Prelude.{◌≡◌, ◌≢◌, ◌⊎◌, is_some, IfOk, IfErr, OnOk, IsErrOf, Ok, Err};
 ghost use Rattle.vab_disk.specs.Disk.{Rose};
+ghost use Rattle.vab_disk.specs.Calls.{Changes};
+ghost use Rattle.vab_bootctl.specs.declared.slots.Control.{Control};
+ghost use Rattle.vab_bootctl.specs.Control.{control_of};
 ghost use Rattle.vab_model.specs.Commands.{command_of};
 ghost use Rattle.vab_device.specs.declared.fault.StartFault.{StartFault as Fault};
 ghost use Rattle.vab_device.specs.Kept.{IsDevice};
 ghost use Rattle.vab_device.specs.Mounted.{Mounted};
 ghost use Rattle.vab_device.specs.Reading.{device, IsIn, Represents};
+ghost use Rattle.vab_manager.specs.Controls.{IsOfSlots};
 ghost use Rattle.vab_cli.specs.Counts.{HearsNothing, IsSteady};
 ghost use Rattle.vab_cli.specs.Telling.{DoesItem};
 ghost use Rattle.vab_cli.specs.Verbs.{none_line, command_line, command_item, verb_status};
+ghost use Rattle.vab_cli.specs.Touched.{IsOfVerb};
 ghost use Rattle.vab_cli.specs.Runs.{RunsItem, FailsBefore, RunsNone, IsFailed};
 
 use crate::Status;
@@ -36,6 +41,15 @@ fn do_command<P: Port>(port: &mut P, device: Device, command: &Command) -> Resul
         → (s : Mounted)
         → IsIn (P.size port.old) s (P.seen port.old)
         → IfOk result (λ status. status ≡ verb_status s.state (command_of command.now)) }
+    ensures changes { P.is_modelled
+        → (s : Mounted)
+        → IsIn (P.size port.old) s (P.seen port.old)
+        → (boot : Control)
+        → control_of (P.seen port.old 4) ≡ Ok boot
+        → Changes P.Disk
+          (IsOfSlots boot (is_some s.state.a) (is_some s.state.b) (P.seen port.old 4)
+          (command_of command.now))
+          port.old port.new }
     ensures quiet { P.is_modelled → HearsNothing P.Disk port.old port.new }
     ensures steady { OnOk result (P.faults port.new ≡ P.faults port.old) }
     ensures done { IfOk result (λ status. (status ≡ Status.Done) ⊎ (status ≡ Status.Refused)) }
@@ -72,6 +86,14 @@ pub(crate) fn carry_out<P: Port>(alloc: Global, port: &mut P, command: &Command)
         → (fault : Fault)
         → device (P.size port.old) (P.seen port.old) ≡ Err fault
         → RunsNone P.Disk (P.size port.old) none_line port.old port.new result }
+    ensures changes { P.is_modelled
+        → (s : Mounted)
+        → IsIn (P.size port.old) s (P.seen port.old)
+        → (boot : Control)
+        → control_of (P.seen port.old 4) ≡ Ok boot
+        → Changes P.Disk
+          (IsOfVerb (P.size port.old) (P.seen port.old) s boot (command_of command.now))
+          port.old port.new }
     ensures quiet { P.is_modelled → HearsNothing P.Disk port.old port.new }
     ensures steady { IsSteady P.Disk port.old port.new result }
     ensures words { result ≢ Status.Usage }

@@ -2,12 +2,14 @@
 ghost use Rattle.std.specs.Prelude.{◌≡◌, ◌≢◌, ◌⊎◌, ◌≤◌, ◌<◌, ◌%◌, ◌^◌, [], List, length};
 ghost use Rattle.std.specs.Prelude.{Some, None, Ok, Err};
 ghost use Rattle.vab_disk.specs.Disk.{Rose};
+ghost use Rattle.vab_disk.specs.Calls.{Changes, InSectors};
 ghost use Rattle.vab_set.specs.Spelling.{IsSet};
 ghost use Rattle.vab_set.specs.Reading.{set_of};
 ghost use Rattle.vab_set.specs.declared.set.SetImage.{SetImage as ImageOfSet};
 ghost use Rattle.vab_set.specs.declared.fault.SetFault.{SetFault as FaultOfSet};
 ghost use Rattle.vab_make.specs.declared.fault.MakeFault.{MakeFault as FaultOfMaking};
 ghost use Rattle.vab_make.specs.Made.{refusal_of};
+ghost use Rattle.vab_make.specs.Touched.{IsOfMaking};
 ghost use Rattle.vab_cli.specs.Codes.{make_status};
 ghost use Rattle.vab_cli.specs.Counts.{IsSteady};
 ghost use Rattle.vab_cli.specs.Verbs.{is_silent, make_line, done_making};
@@ -116,6 +118,8 @@ fn make_of<P: Port>(alloc: Global, port: &mut P, set: &Set, limit: u64, max: u32
         → refusal_of set.now limit max (P.size port.old) ≡ Some fault
         → RunsRefused P.Disk (P.size port.old) (make_line fault) (make_status fault)
         port.old port.new result }
+    ensures changes { P.is_modelled
+        → Changes P.Disk (InSectors (IsOfMaking set.now max)) port.old port.new }
     ensures left { P.is_modelled → P.input_left port.new ≡ P.input_left port.old }
     ensures steady { IsSteady P.Disk port.old port.new result }
     ensures words { result ≢ Status.Usage }
@@ -158,6 +162,10 @@ pub(crate) fn make<P: Port>(alloc: Global, port: &mut P, limit: u64, max: u32) -
         → (2 ^ 32 < length (P.input_left port.old))
         ⊎ ((fault : FaultOfSet) × (set_of (P.input_left port.old) ≡ Err fault))
         → RunsRefused P.Disk (P.size port.old) [] Status.Malformed port.old port.new result }
+    ensures changes { P.is_modelled
+        → (set : List ImageOfSet)
+        → set_of (P.input_left port.old) ≡ Ok set
+        → Changes P.Disk (InSectors (IsOfMaking set max)) port.old port.new }
     // Once it is done the whole input was heard.
     ensures end { P.is_modelled → result ≡ Status.Done → P.input_left port.new ≡ [] }
     ensures steady { IsSteady P.Disk port.old port.new result }

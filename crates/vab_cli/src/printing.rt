@@ -1,8 +1,10 @@
 //! Telling the bytes of an image.
 ghost use Rattle.std.specs.Prelude.{◌≡◌, ◌≢◌, ◌⊎◌, ◌≤◌, ◌<◌, ◌+◌, [], length, take, drop};
-ghost use Rattle.std.specs.Prelude.{IfOk, IfErr, OnOk, OnErr, IsErrOf, Err};
+ghost use Rattle.std.specs.Prelude.{IfOk, IfErr, OnOk, OnErr, IsErrOf, Ok, Err};
 ghost use Rattle.vab_disk.specs.Disk.{Rose};
-ghost use Rattle.vab_disk.specs.Calls.{FailsWithDisk, OnlyReads};
+ghost use Rattle.vab_disk.specs.Calls.{Changes, FailsWithDisk, OnlyReads};
+ghost use Rattle.vab_bootctl.specs.declared.slots.Control.{Control};
+ghost use Rattle.vab_bootctl.specs.Control.{control_of};
 ghost use Rattle.vab_model.specs.Commands.{Print as PrintOf};
 ghost use Rattle.vab_model.specs.Effects.{found_of};
 ghost use Rattle.vab_device.specs.declared.fault.StartFault.{StartFault as Fault};
@@ -15,6 +17,7 @@ ghost use Rattle.vab_cli.specs.Counts.{HearsNothing, IsSteady};
 ghost use Rattle.vab_cli.specs.Telling.{DoesItem, Says};
 ghost use Rattle.vab_cli.specs.Verbs.{none_line, refused_line as line_of, print_told};
 ghost use Rattle.vab_cli.specs.Verbs.{command_item, verb_status};
+ghost use Rattle.vab_cli.specs.Touched.{IsOfVerb};
 ghost use Rattle.vab_cli.specs.Runs.{RunsItem, FailsBefore, RunsNone, IsFailed};
 
 use crate::Status;
@@ -132,6 +135,7 @@ fn tell_blocks<P: Port>(
         → (p : Part)
         → KeepsPart device.now slot name.now p
         → Says P.Disk (bytes_at (P.seen port.old) p.map) port.old port.new result }
+    ensures size { P.size port.new ≡ P.size port.old }
     ensures steady { OnOk result (P.faults port.new ≡ P.faults port.old) }
     ensures failed { IfErr result IsFailed }
     ensures disk { IsErrOf result Status.Disk
@@ -154,6 +158,7 @@ fn tell_blocks<P: Port>(
 // Tells a refusal's line.
 fn refuse<P: Port>(port: &mut P, refusal: Refusal) -> Result<Status, Status>
     ensures says { P.is_modelled → Says P.Disk (line_of refusal) port.old port.new result }
+    ensures size { P.size port.new ≡ P.size port.old }
     ensures steady { OnOk result (P.faults port.new ≡ P.faults port.old) }
     ensures status { IfOk result (λ status. status ≡ Status.Refused) }
     ensures failed { IfErr result (λ status. status ≡ Status.Port) }
@@ -182,6 +187,7 @@ fn print_image<P: Port>(port: &mut P, device: &Device, name: &[u8]) -> Result<St
         → (s : Mounted)
         → IsIn (P.size port.old) s (P.seen port.old)
         → IfOk result (λ status. status ≡ verb_status s.state (PrintOf name.now)) }
+    ensures changes { P.is_modelled → Changes P.Disk (λ s b. ⊥) port.old port.new }
     ensures quiet { P.is_modelled → HearsNothing P.Disk port.old port.new }
     ensures steady { OnOk result (P.faults port.new ≡ P.faults port.old) }
     ensures done { IfOk result (λ status. (status ≡ Status.Done) ⊎ (status ≡ Status.Refused)) }
@@ -214,6 +220,14 @@ pub(crate) fn print<P: Port>(alloc: Global, port: &mut P, name: &[u8]) -> Status
         → (fault : Fault)
         → device (P.size port.old) (P.seen port.old) ≡ Err fault
         → RunsNone P.Disk (P.size port.old) none_line port.old port.new result }
+    ensures changes { P.is_modelled
+        → (s : Mounted)
+        → IsIn (P.size port.old) s (P.seen port.old)
+        → (boot : Control)
+        → control_of (P.seen port.old 4) ≡ Ok boot
+        → Changes P.Disk
+          (IsOfVerb (P.size port.old) (P.seen port.old) s boot (PrintOf name.now))
+          port.old port.new }
     ensures quiet { P.is_modelled → HearsNothing P.Disk port.old port.new }
     ensures steady { IsSteady P.Disk port.old port.new result }
     ensures words { result ≢ Status.Usage }

@@ -1,5 +1,6 @@
 -- What the bytes of an area stand for.
-use Rattle.std.specs.Prelude.{◌≢◌, ℕ, zero, suc, ◌+◌, ◌-◌, ◌*◌, ◌<◌, ◌^◌, List, [], ◌∷◌, ◌++◌, length, replicate, All, if◌then◌else◌, ◌==◌}
+use Rattle.std.specs.Prelude.{◌≢◌, ℕ, zero, suc, ◌+◌, ◌-◌, ◌*◌, ◌<◌, ◌^◌, List, [], ◌∷◌, ◌++◌}
+use Rattle.std.specs.Prelude.{length, replicate, All, if◌then◌else◌, ◌==◌}
 use Rattle.std.specs.Int.{w64, to_le_bytes}
 use Rattle.vab_bytes.specs.Number.{le_at, put_at}
 use Rattle.vab_exceptions.specs.declared.area.Exception.{Exception}

@@ -1,7 +1,8 @@
 //! Areas: lists of exceptions, one block long.
 
 ghost use Rattle.std.specs.Prelude.{◌≡◌, ◌+◌, ◌*◌, ◌≤◌, ◌<◌, length};
-ghost use Rattle.vab_exceptions.specs.Entries.{AllListed, FitsEntry, area_entries, entry_at, area_of, put_entry, area_bytes};
+ghost use Rattle.vab_exceptions.specs.Entries.{AllListed, FitsEntry, area_entries, entry_at};
+ghost use Rattle.vab_exceptions.specs.Entries.{area_of, put_entry, area_bytes};
 
 use arrayvec::ArrayVec;
 use vab_bytes::{le64_at, put_le64};

@@ -18,7 +18,7 @@ use Rattle.vab_device.specs.Mounted.{Mounted, images_on, control_on, state_on, m
 use Rattle.vab_device.specs.Mounted.{effect_on}
 use Rattle.vab_manager.specs.Controls.{slots_with_images, GivesControl}
 
-some_images : (image : Image) (parts : Option (List Part))
+pub some_images : (image : Image) (parts : Option (List Part))
     → is_some (images_on image parts) ≡ is_some parts
 some_images image None = refl
 some_images image (Some parts) = refl

@@ -1,6 +1,7 @@
-pub mod BlockLaws
 mod BootLaws
 mod CommandLaws
-pub mod DigestLaws
-mod EffectLaws
+pub mod EffectLaws
 mod FoundLaws
+pub mod BlockLaws
+pub mod ChangeLaws
+pub mod DigestLaws

@@ -53,6 +53,33 @@ abbrev pub IsOfCommand : Device → List ℕ → Command → ℕ → List ℕ �
 IsOfCommand d old command s bytes =
     IsOfSlots d.control (is_some d.a) (is_some d.b) old command s bytes
 
+-- ---- several commands
+
+-- the boot control after a command
+abbrev pub control_by : (a b : Bool) → Command → Control → Control
+control_by a b (SetActive slot) c =
+    if (if slot == 0 then a else b) then activated_of c slot else c
+control_by a b Boot c = booted_of c (a ∷ b ∷ [])
+control_by a b Mark c = marked_of c
+control_by a b (Print name) c = c
+control_by a b (Digest name) c = c
+
+-- and after some of them, one behind the other
+abbrev pub controls_by : (a b : Bool) → List Command → Control → Control
+controls_by a b [] c = c
+controls_by a b (command ∷ commands) c = controls_by a b commands (control_by a b command c)
+
+-- What commands may write, one behind the other: a boot control that the boot rules make of the
+-- old one by some of them, of both slots.
+pub record IsOfCommands
+    (c : Control)
+    (a b : Bool)
+    (old : List ℕ)
+    (s : ℕ)
+    (bytes : List ℕ) : Type 0 where
+  pub commands : List Command
+  pub writes : IsControl (controls_by a b commands c) old s bytes
+
 -- A command may write this boot control.
 abbrev pub WritesControl : Device → List ℕ → Command → Control → Type 0
 WritesControl d old command c =

@@ -1,6 +1,6 @@
 //! The merge of a run.
 
-ghost use Rattle.std.specs.Prelude.{◌≡◌, ◌-◌, ◌/◌, ◌<◌, ◌≤◌, length, take, Ok, IfOk, OnOk};
+ghost use Rattle.std.specs.Prelude.{◌≡◌, ◌-◌, ◌/◌, ◌<◌, ◌≤◌, length, take, Ok, IfOk, OnErr, OnOk};
 ghost use Rattle.vab_disk.specs.Disk.{Adds};
 ghost use Rattle.vab_disk.specs.Calls.{InSectors, Touches, IsAtRest, FailsWithDisk};
 ghost use Rattle.vab_exceptions.specs.Entries.{area_entries};
@@ -9,7 +9,8 @@ ghost use Rattle.vab_store.specs.Scan.{scan_of};
 ghost use Rattle.vab_merge.specs.Run.{IsRun};
 ghost use Rattle.vab_merge.specs.Copied.{InCopied, AreCopied};
 ghost use Rattle.vab_merge.specs.Cleared.{IsClearing, AreCleared};
-ghost use Rattle.vab_merge.specs.Merged.{CanMerge, WithoutLast, LeavesMerged, IsMergedSector, IsRan, dropped_by};
+ghost use Rattle.vab_merge.specs.Merged.{CanMerge, WithoutLast, LeavesMerged, IsMergedSector};
+ghost use Rattle.vab_merge.specs.Merged.{IsRan, dropped_by};
 
 use crate::clear::clear_entries;
 use crate::copy::copy_blocks;
@@ -108,7 +109,8 @@ fn drop_run(view: &mut StoreView, n: u64)
 
 /// Merges the last exceptions of a store: as many, but at most `most`, as stand in one area with
 /// old chunks that ascend by one. Their blocks are copied to the partition, then their entries are
-/// zeroed, each with a sync behind it. After a fault the view is not to be used.
+/// zeroed, each with a sync behind it. After a fault the view is the old one: the store may have
+/// fewer exceptions by then, so it has to be scanned again.
 pub fn run_turn<D: Disk>(
     d: &mut D,
     base: &Map,
@@ -121,6 +123,7 @@ pub fn run_turn<D: Disk>(
     ensures ran { IfOk result (IsRan view.old most) }
     ensures kept { IfOk result
         (λ ran. view.new ≡ take (length view.old - dropped_by ran) view.old) }
+    ensures failed { OnErr result (view.new ≡ view.old) }
     // The kept view is the store's scan, and each block reads as before.
     ensures merged { D.is_modelled
         → IsAtRest D.Disk d.old
@@ -162,6 +165,7 @@ pub fn turn<D: Disk>(
     ensures ran { IfOk result (IsRan view.old 1) }
     ensures kept { IfOk result
         (λ ran. view.new ≡ take (length view.old - dropped_by ran) view.old) }
+    ensures failed { OnErr result (view.new ≡ view.old) }
     ensures merged { D.is_modelled
         → IsAtRest D.Disk d.old
         → scan_of store.now (length base.now) (D.seen d.old) ≡ Ok view.old

@@ -2,23 +2,19 @@
 use Rattle.std.proofs.Common.{◌≡◌, ℕ, suc, ◌+◌, ◌≤◌, ◌<◌, Bool, true, false, ◌&&◌, ◌||◌, ltb, leb}
 use Rattle.std.proofs.Common.{List, [], ◌∷◌, ◌++◌, length, get_or, take, drop, ◌^◌, Some, None}
 use Rattle.std.proofs.Common.{refl, sym, ◌∙◌, ap, subst, arith}
-use Rattle.std.specs.Prelude.{map, All}
+use Rattle.std.specs.Prelude.{map}
 use Rattle.std.specs.Str.{bytes_eq}
 use Rattle.std.proofs.Math.Seq.{drop-cons}
-use Rattle.std.proofs.lemmas.Bool.{and_parts}
 use Rattle.std.proofs.lemmas.List.{append-nil, take-append-drop, take_all, take_more, append_assoc}
 use Rattle.std.proofs.lemmas.List.{length-append, length-drop, nil_from_length}
-use Rattle.std.proofs.lemmas.List.Elements.{filter-append, All-append, All-take, All-drop}
+use Rattle.std.proofs.lemmas.List.Elements.{filter-append}
 use Rattle.vab_names.specs.Names.{is_base, is_of_slot, base_of, default_name}
 use Rattle.vab_tables.specs.declared.entries.Partition.{Partition}
-use Rattle.vab_tables.specs.declared.entries.Extent.{Extent}
-use Rattle.vab_tables.specs.declared.entries.BlockDevice.{BlockDevice}
 use Rattle.vab_tables.specs.declared.table.Table.{Table}
-use Rattle.vab_tables.specs.Rules.{IsExtent, KeepsRules}
 use Rattle.vab_blocks.specs.Blocks.{first_sector_of, extents_of}
 use Rattle.vab_layout.specs.declared.layout.Part.{Part}
 use Rattle.vab_layout.specs.Layout.{part_of, group_at, blocks_of_partition, blocks_of_parts}
-use Rattle.vab_layout.specs.Layout.{layout_of, first_device}
+use Rattle.vab_layout.specs.Layout.{layout_of}
 use Rattle.vab_layout.specs.Slots.{own_parts}
 use Rattle.vab_partitions.specs.Rules.{is_distinct, part_passes, bad_part}
 use Rattle.vab_blocks.specs.Blocks.{blocks_of_extent}

@@ -25,7 +25,7 @@ record Passes (slot : ℕ) (earlier : List Part) (p : Part) : Type 0 where
   few : length earlier < 32
   once : is_distinct (blocks_of_parts (earlier ++ p ∷ [])) ≡ true
 
-with_one : (earlier : List Part) (p : Part)
+pub with_one : (earlier : List Part) (p : Part)
     → blocks_of_parts (earlier ++ p ∷ []) ≡ blocks_of_parts earlier ++ p.blocks
 with_one earlier p = blocks_append earlier (p ∷ [])
     ∙ ap (λ (l : List ℕ). blocks_of_parts earlier ++ l) (append-nil p.blocks)

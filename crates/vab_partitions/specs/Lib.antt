@@ -1,2 +1,4 @@
 pub mod Rules
 pub mod Own
+pub mod Target
+pub mod Front

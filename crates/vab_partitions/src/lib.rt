@@ -1,11 +1,14 @@
-//! The rules of a slot's own partitions: their names, sizes and groups, how many there are, and
-//! that no block stands twice.
+//! The rules of a slot's own partitions (their names, sizes and groups, how many there are, and
+//! that no block stands twice), and of an update's target with its stores.
 #![tactic(auto)]
 
+mod beside;
 mod extents;
 mod own;
+mod target;
 
 pub use own::bad_partition;
+pub use target::bad_target;
 
 #[cfg(test)]
 mod tests;

@@ -22,7 +22,7 @@ use vab_tables::{NoMemory, Partition, Table};
 const MAX_PARTITIONS: usize = 32;
 
 /// Whether the group is that of no slot or one of this slot.
-fn is_group_of(name: &Name36, slot: usize) -> bool
+pub(crate) fn is_group_of(name: &Name36, slot: usize) -> bool
     requires { slot < 2 }
     ensures { result ≡ (bytes_eq name.now default_name || is_of_slot slot name.now) }
 {
@@ -30,7 +30,7 @@ fn is_group_of(name: &Name36, slot: usize) -> bool
 }
 
 /// Whether the name has a base name before the slot's suffix.
-fn has_base(name: &Name36) -> bool
+pub(crate) fn has_base(name: &Name36) -> bool
     requires { 1 < length name.now }
     ensures { result ≡ is_base (base_of name.now) }
 {

@@ -1,4 +1,4 @@
 pub mod DeviceLaws
-mod OpenLaws
+pub mod OpenLaws
 pub mod PartLaws
 pub mod ReadLaws

@@ -1,8 +1,8 @@
 -- What answering a packet leaves of a device.
-use Rattle.std.proofs.Common.{◌≡◌, inl, ℕ, ◌+◌, ◌≤◌, false, List, [], ◌∷◌, ◌++◌, Ok, length}
+use Rattle.std.proofs.Common.{◌≡◌, ℕ, ◌≤◌, false, List, [], ◌++◌, Ok, length}
 use Rattle.std.proofs.Common.{length-append, take, sym, ◌∙◌, ap, subst, refl, arith}
 use Rattle.std.proofs.lemmas.List.{append-nil, take_at}
-use Rattle.vab_disk.specs.Disk.{Image, Outcome, SameHoldings, Adds, Nothing}
+use Rattle.vab_disk.specs.Disk.{Outcome, SameHoldings, Adds, Nothing}
 use Rattle.vab_disk.specs.Disk.{Faults, NoFewer, Rose}
 use Rattle.std.proofs.Common.{Err}
 use Rattle.vab_exchanges.specs.Reading.{IfNotSource}
@@ -227,7 +227,8 @@ module _ {D : Type 0}
       → Fails sectors g k command before beyond count total most old new (fault_of_read fault)
   data_fails count total most reads.Source why = failed
   data_fails count total most reads.BadHello why = broken count total most session.BadHello why
-  data_fails count total most (reads.TooLong n) why = broken count total most (session.TooLong n) why
+  data_fails count total most (reads.TooLong n) why =
+      broken count total most (session.TooLong n) why
   data_fails count total most (reads.Overrun due came) why =
       broken count total most (session.Overrun due came) why
   data_fails count total most (reads.Cut at) why = broken count total most (session.Cut at) why

@@ -1,6 +1,6 @@
 -- How a session over a device ends.
 use Rattle.std.proofs.Common.{◌≡◌, inl, inr, ℕ, ◌≤◌, List, [], ◌++◌, Some, None, Err, length, take}
-use Rattle.std.proofs.Common.{codes, subst, sym, ◌∙◌}
+use Rattle.std.proofs.Common.{codes, subst, sym}
 use Rattle.std.proofs.Common.{min, Result}
 use Rattle.vab_disk.specs.Disk.{Image, Outcome, Leaves, Adds}
 use Rattle.vab_disk.specs.Calls.{IsAtRest}
@@ -215,6 +215,7 @@ module _ {D : Type 0}
       so_far now (listens.told t) (listens.seen t) (listens.crash t)
       (subst
       (λ (l : List ℕ).
-      HearsWhere (IsHeardFor (g.told mid) (left ++ l) (IsCutShort 4096)) (g.heard mid) (g.heard now))
+      HearsWhere (IsHeardFor (g.told mid) (left ++ l) (IsCutShort 4096)) (g.heard mid)
+      (g.heard now))
       same (listens.heard t))
       (listens.time t))

@@ -1,10 +1,9 @@
 -- What is told of a command is short.
-use Rattle.std.proofs.Common.{◌≡◌, ◌≢◌, ℕ, ◌+◌, ◌*◌, ◌≤◌, ◌==◌, if◌then◌else◌, Bool, true, false}
-use Rattle.std.proofs.Common.{List, length, codes, Option, Some, None, Result, Ok, Err, arith}
+use Rattle.std.proofs.Common.{◌≡◌, ◌≢◌, ℕ, ◌≤◌, ◌==◌, if◌then◌else◌, Bool, true, false}
+use Rattle.std.proofs.Common.{List, length, codes, Option, Result, Ok, Err, arith}
 use Rattle.std.proofs.Common.{length-append}
 use Rattle.hex.proofs.HexLemmas.{length-encode_with}
 use Rattle.hex.specs.Hex.{encode_lower, lower_digits}
-use Rattle.sha2.specs.Sha256.{sha256}
 use Rattle.sha2.proofs.Facts256.{length-sha256}
 use Rattle.vab_bootctl.specs.declared.slots.Control.{Control}
 use Rattle.vab_model.specs.declared.state.State.{State}
@@ -15,7 +14,7 @@ use Rattle.vab_model.specs.declared.command.Reply.TheVariants as replies
 use Rattle.vab_model.specs.Commands.{Command, SetActive, Boot, Mark, Print, Digest}
 use Rattle.vab_model.specs.Effects.{Effect, Found, Image_is, Refused_by, found_of, print_effect}
 use Rattle.vab_model.specs.Effects.{digest_effect, active_effect, effect}
-use Rattle.vab_device.specs.Mounted.{Mounted, effect_on}
+use Rattle.vab_device.specs.Mounted.{Mounted}
 use Rattle.vab_fbproto.specs.Requests.{Asked, Getvar, Download, Do, BootAndEnd}
 use Rattle.vab_fbproto.specs.Texts.{slot_letter, refusal_text, reply_text, variable_text, bad_text}
 use Rattle.vab_fbproto.specs.declared.request.Var.{Var}

@@ -6,7 +6,7 @@ use Rattle.vab_disk.specs.Disk.{Image}
 use Rattle.vab_disk.specs.Calls.{IsBetween}
 use Rattle.vab_gate.specs.Gate.{set_block, IsAmong}
 use Rattle.vab_gate.proofs.Blocks.{block_here, block_there, sectors_same}
-use Rattle.vab_store.specs.Layout.{chunk_bytes, AreApart, IsApart, InMap}
+use Rattle.vab_store.specs.Layout.{chunk_bytes, AreApart, IsApart, InFirst}
 
 pub apart_flip : (a b : ℕ) → AreApart a b → AreApart b a
 apart_flip a b (inl before) = inr before
@@ -59,12 +59,12 @@ chunk_there map old new c other bytes apart is =
     block_there old new (slice_index map c) bytes is s
     (apart_sector (slice_index map other) (slice_index map c) s apart here))
 
--- a block's sectors are sectors of the partition
-pub in_map : (map : List ℕ) (c : ℕ) (bytes : List ℕ) (s : ℕ) (b : List ℕ)
-    → c < length map
+-- a block's sectors are sectors of the first blocks, where it is one of them
+pub in_first : (map : List ℕ) (n c : ℕ) (bytes : List ℕ) (s : ℕ) (b : List ℕ)
+    → c < n
     → IsAmong 8 (slice_index map c) bytes s b
-    → InMap map s
-in_map map c bytes s b below is = record {
+    → InFirst map n s
+in_first map n c bytes s b below is = record {
   block = c;
   within = below;
   here = record { from = is.first; below = is.last };

@@ -1,5 +1,6 @@
 -- An index of a list of exceptions.
-use Rattle.std.specs.Prelude.{◌≡◌, ◌≢◌, ◌⊎◌, ℕ, ◌≤◌, ◌<◌, ◌+◌, List, length, slice_index_or, Option, Some, None, nat_lt, ◌==◌, ◌||◌, ◌&&◌, if◌then◌else◌}
+use Rattle.std.specs.Prelude.{◌≡◌, ◌≢◌, ◌⊎◌, ℕ, ◌≤◌, ◌<◌, ◌+◌, List, length, slice_index_or, Option}
+use Rattle.std.specs.Prelude.{Some, None, nat_lt, ◌==◌, ◌||◌, ◌&&◌, if◌then◌else◌}
 use Rattle.vab_exceptions.specs.declared.area.Exception.{Exception}
 use Rattle.vab_store.specs.declared.index.Key.{Key}
 use Rattle.vab_store.specs.declared.index.Key.TheVariants.{Old, New}

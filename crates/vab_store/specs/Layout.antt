@@ -1,5 +1,6 @@
 -- Where things stand in an exception store. An area holds `per` entries, and a chunk is one block.
-use Rattle.std.specs.Prelude.{◌⊎◌, ℕ, ◌+◌, ◌-◌, ◌*◌, ◌/◌, ◌%◌, ◌<◌, ◌≤◌, Bool, ◌&&◌, ◌==◌, not, List, length, slice_index}
+use Rattle.std.specs.Prelude.{◌⊎◌, ℕ, ◌+◌, ◌-◌, ◌*◌, ◌/◌, ◌%◌, ◌<◌, ◌≤◌, Bool, ◌&&◌, ◌==◌, not}
+use Rattle.std.specs.Prelude.{List, length, slice_index}
 use Rattle.vab_disk.specs.Disk.{Image}
 use Rattle.vab_disk.specs.Calls.{IsBetween}
 use Rattle.vab_gate.specs.Gate.{sectors_at}
@@ -42,10 +43,10 @@ slots_of per map = per * areas_of per (chunks_of map)
 abbrev pub IsOnDisk : List ℕ → ℕ → Type 0
 IsOnDisk map size = (i : ℕ) → i < length map → slice_index map i + 8 ≤ size
 
--- one of its sectors
-pub record InMap (map : List ℕ) (s : ℕ) : Type 0 where
+-- a sector of one of its first n blocks
+pub record InFirst (map : List ℕ) (n s : ℕ) : Type 0 where
   pub block : ℕ
-  pub within : block < length map
+  pub within : block < n
   pub here : IsBetween (slice_index map block) (slice_index map block + 8) s
 
 -- two blocks have no sector in common

@@ -1,5 +1,6 @@
 -- Lists of exceptions: what they say of a partition's blocks, and the rules that they keep.
-use Rattle.std.specs.Prelude.{◌≢◌, ℕ, ◌≤◌, ◌<◌, List, [], ◌∷◌, length, slice_index_or, IsTrue, Option, Some, None, if◌then◌else◌, ◌==◌}
+use Rattle.std.specs.Prelude.{◌≢◌, ℕ, ◌≤◌, ◌<◌, List, [], ◌∷◌, length, slice_index_or, IsTrue}
+use Rattle.std.specs.Prelude.{Option, Some, None, if◌then◌else◌, ◌==◌}
 use Rattle.vab_exceptions.specs.declared.area.Exception.{Exception}
 use Rattle.vab_exceptions.specs.Entries.{area_entries}
 use Rattle.vab_store.specs.Layout.{chunks_of, is_data, slots_of}

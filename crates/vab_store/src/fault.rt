@@ -25,9 +25,9 @@ pub enum StoreFault {
 
 impl From<NoMemory> for StoreFault {
     ghost use Rattle.std.specs.Prelude.{◌≡◌};
-    ghost use Rattle.vab_store.specs.declared.fault.StoreFault.TheVariants.{NoMemory as MemoryWanted};
+    ghost use Rattle.vab_store.specs.declared.fault.StoreFault.TheVariants as faults;
 
-    ghost from_gives = { λ _ fault. fault ≡ MemoryWanted };
+    ghost from_gives = { λ _ fault. fault ≡ faults.NoMemory };
 
     fn from(_: NoMemory) -> Self {
         StoreFault::NoMemory
@@ -36,9 +36,9 @@ impl From<NoMemory> for StoreFault {
 
 impl From<DiskFault> for StoreFault {
     ghost use Rattle.std.specs.Prelude.{◌≡◌};
-    ghost use Rattle.vab_store.specs.declared.fault.StoreFault.TheVariants.{DiskFault as DiskFailed};
+    ghost use Rattle.vab_store.specs.declared.fault.StoreFault.TheVariants as faults;
 
-    ghost from_gives = { λ _ fault. fault ≡ DiskFailed };
+    ghost from_gives = { λ _ fault. fault ≡ faults.DiskFault };
 
     fn from(_: DiskFault) -> Self {
         StoreFault::DiskFault

@@ -1,7 +1,9 @@
 //! Exceptions sorted by their old chunks.
 
-ghost use Rattle.std.specs.Prelude.{◌≡◌, ℕ, ◌+◌, ◌-◌, ◌*◌, ◌^◌, ◌<◌, ◌≤◌, length, IfOk, MatchOption, IsTrue, ◌↔◌};
-ghost use Rattle.vab_store.specs.Index.{place_at, Ascends, HasPlace, HoldsPlace, LacksKey, key_of, IsSortedBy, IsSooner, TellsTie, TellsRepeat, earlier_of};
+ghost use Rattle.std.specs.Prelude.{◌≡◌, ℕ, ◌+◌, ◌-◌, ◌*◌, ◌^◌, ◌<◌, ◌≤◌, length, IfOk};
+ghost use Rattle.std.specs.Prelude.{MatchOption, IsTrue, ◌↔◌};
+ghost use Rattle.vab_store.specs.Index.{place_at, Ascends, HasPlace, HoldsPlace, LacksKey, key_of};
+ghost use Rattle.vab_store.specs.Index.{IsSortedBy, IsSooner, TellsTie, TellsRepeat, earlier_of};
 
 use crate::Steps;
 use std::alloc::Global;

@@ -1,6 +1,7 @@
 //! The exceptions of a store, as they are kept.
 
-ghost use Rattle.std.specs.Prelude.{◌≡◌, ℕ, ◌+◌, ◌-◌, ◌*◌, ◌^◌, ◌<◌, ◌≤◌, length, take, IfOk, Ok, IsErrOf};
+ghost use Rattle.std.specs.Prelude.{◌≡◌, ℕ, ◌+◌, ◌-◌, ◌*◌, ◌^◌, ◌<◌, ◌≤◌, length, take, IfOk, Ok};
+ghost use Rattle.std.specs.Prelude.{IsErrOf};
 ghost use Rattle.vab_store.specs.Scan.{repeat_of, unless_repeated};
 ghost use Rattle.std.specs.List.Sorted.{IsStrictlyIncreasing};
 ghost use Rattle.vab_store.specs.View.{exception_at, view_of};

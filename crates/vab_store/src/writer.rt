@@ -1,13 +1,15 @@
 //! A store written for an image.
 
-ghost use Rattle.std.specs.Prelude.{◌≡◌, ℕ, ◌+◌, ◌*◌, ◌<◌, ◌≤◌, ◌^◌, length, slice_index, All, Ok, OnOk};
+ghost use Rattle.std.specs.Prelude.{◌≡◌, ℕ, ◌+◌, ◌*◌, ◌<◌, ◌≤◌, ◌^◌, length, slice_index, All, Ok};
+ghost use Rattle.std.specs.Prelude.{OnOk};
 ghost use Rattle.std.specs.List.Sorted.{IsStrictlyIncreasing};
 ghost use Rattle.vab_disk.specs.Calls.{InSectors, Touches, FailsWithDisk};
 ghost use Rattle.vab_space.specs.Space.{need_of};
 ghost use Rattle.vab_exceptions.specs.Entries.{area_entries, area_bytes};
 ghost use Rattle.vab_store.specs.Scan.{scan_of};
-ghost use Rattle.vab_store.specs.Layout.{new_chunk_of, chunk_bytes, IsOnDisk, IsApart, InMap};
-ghost use Rattle.vab_store.specs.Writing.{planned_at, planned_of, area_entries_of, header_chunk, block_of, store_chunk, HoldsStore};
+ghost use Rattle.vab_store.specs.Layout.{new_chunk_of, chunk_bytes, IsOnDisk, IsApart, InFirst};
+ghost use Rattle.vab_store.specs.Writing.{planned_at, planned_of, area_entries_of, header_chunk};
+ghost use Rattle.vab_store.specs.Writing.{block_of, store_chunk, HoldsStore};
 
 use arrayvec::ArrayVec;
 use vab_disk::Disk;
@@ -119,7 +121,9 @@ pub fn write_store<D: Disk>(
         → j < length olds.now
         → chunk_bytes map.now (D.seen d.new) (new_chunk_of area_entries j)
         ≡ block_of image.now (slice_index olds.now j)) }
-    ensures touches { Touches D.Disk (InSectors (InMap map.now)) d.old d.new }
+    // Chunks behind the last one that is needed stay.
+    ensures touches { Touches D.Disk
+        (InSectors (InFirst map.now (need_of (length olds.now)))) d.old d.new }
     ensures faults { FailsWithDisk D.Disk d.old d.new result }
 {
     for chunk in 0..need(olds.len() as u64) {

@@ -3,6 +3,8 @@
 #![tactic(auto)]
 
 #[cfg(test)]
+mod downloads;
+#[cfg(test)]
 mod faults;
 #[cfg(test)]
 mod ports;

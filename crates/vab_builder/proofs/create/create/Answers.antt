@@ -1,9 +1,9 @@
 use Rattle.std.proofs.Common.{◌∙◌, sym, ap, Ok}
 use Rattle.vab_layout.specs.declared.layout.Layout.{Layout}
-use Rattle.vab_builder.specs.NameCases.{full_slot}
-use Rattle.vab_builder.specs.OwnLaws.{own_long}
-use Rattle.vab_builder.specs.Verdicts.{created-ok}
-use Rattle.vab_builder.specs.Room.{create_room}
+use Rattle.vab_builder.proofs.NameCases.{full_slot}
+use Rattle.vab_builder.proofs.OwnLaws.{own_long}
+use Rattle.vab_builder.proofs.Verdicts.{created-ok}
+use Rattle.vab_builder.proofs.RoomLaws.{create_room}
 use Rattle.vab_builder.proofs.create.create.Goals as goal
 
 pub created_blocks-requires-clause-long : goal.created_blocks-requires-clause-long

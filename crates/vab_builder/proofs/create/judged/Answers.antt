@@ -4,10 +4,10 @@ use Rattle.vab_names.specs.Names.{is_full}
 use Rattle.vab_tables.specs.Rules.{cap_of}
 use Rattle.vab_layout.specs.Slots.{own_parts}
 use Rattle.vab_builder.specs.Sizes.{has_part, is_within}
-use Rattle.vab_builder.specs.Verdicts.{created-bad_name, created-bad_size, created-exists}
-use Rattle.vab_builder.specs.Verdicts.{created-too_many, created-group_limit, created-no_room}
-use Rattle.vab_builder.specs.NameCases.{full_slot}
-use Rattle.vab_builder.specs.OwnLaws.{own_long}
+use Rattle.vab_builder.proofs.Verdicts.{created-bad_name, created-bad_size, created-exists}
+use Rattle.vab_builder.proofs.Verdicts.{created-too_many, created-group_limit, created-no_room}
+use Rattle.vab_builder.proofs.NameCases.{full_slot}
+use Rattle.vab_builder.proofs.OwnLaws.{own_long}
 use Rattle.vab_builder.proofs.create.judged.Goals as goal
 
 pub returns-in_default : goal.returns-in_default
@@ -49,27 +49,14 @@ returns-then-not-is_within c =
     let absent : has_part a.name.now a.target.now.parts ≡ false = search rules in
     let own : c.count_own-own.result ≡ length (own_parts a.slot a.target.now.parts) =
     search rules in
-    let sum-is =
-    rw (
-      c.first_group-group.ensures,
-      c.as_slice.ensures,
-      c.text-3.ensures.value,
-      c.in-Some.ensures.value,
-      c.blocks-count.ensures.is,
-      c.as_slice-parts.ensures,
-    ) at
+    let group =
+    rw (c.text-2.ensures.value, c.in-Some.ensures.value, c.blocks-count.ensures.is) at
     c.in_ok-sum.ensures in
-    let limit-is =
-    rw (
-      c.as_slice-2.ensures,
-      c.text-2.ensures.value,
-      c.first_group-group.ensures,
-      c.as_slice.ensures,
-    ) at c.limit_of-limit.ensures in
-    let outside : is_within c.in_ok-sum.sum c.limit_of-limit.result ≡ false = search rules in
-    inr (created-group_limit a.slot a.source.now a.target.now a.name.now a.bytes c.in_ok-sum.sum
-    c.limit_of-limit.result full (omega arith) absent (omega (arith, own)) sum-is limit-is
-    outside)
+    let outside : is_within c.in_ok-sum.sum c.in_ok-sum.limit ≡ false =
+    search rules in
+    inr (created-group_limit a.slot a.source.now a.target.now a.name.now a.bytes
+    c.in_ok-sum.sum c.in_ok-sum.limit full (omega arith) absent
+    (omega (arith, own)) group.0 group.1 outside)
 
 pub created_used-requires-clause-long : goal.created_used-requires-clause-long
 created_used-requires-clause-long c =
@@ -84,25 +71,12 @@ returns-then-not-fits c =
     let absent : has_part a.name.now a.target.now.parts ≡ false = search rules in
     let own : c.count_own-own.result ≡ length (own_parts a.slot a.target.now.parts) =
     search rules in
-    let sum-is =
-    rw (
-      c.first_group-group.ensures,
-      c.as_slice.ensures,
-      c.text-3.ensures.value,
-      c.in-Some.ensures.value,
-      c.blocks-count.ensures.is,
-      c.as_slice-parts.ensures,
-    ) at
+    let group =
+    rw (c.text-2.ensures.value, c.in-Some.ensures.value, c.blocks-count.ensures.is) at
     c.in_ok-sum.ensures in
-    let limit-is =
-    rw (
-      c.as_slice-2.ensures,
-      c.text-2.ensures.value,
-      c.first_group-group.ensures,
-      c.as_slice.ensures,
-    ) at c.limit_of-limit.ensures in
-    let inside : is_within c.in_ok-sum.sum c.limit_of-limit.result ≡ true = search rules in
-    let within = rw (sum-is, limit-is) at inside in
+    let inside : is_within c.in_ok-sum.sum c.in_ok-sum.limit ≡ true =
+    search rules in
+    let within = rw (group.0, group.1) at inside in
     let used-is = rw (c.in-Some.ensures.value, c.blocks-count.ensures.is) at c.in_ok-used.ensures in
     let cap-is : c.cap-cap.result ≡ cap_of a.target.now.device = search rules in
     let over : c.cap-cap.result < c.in_ok-used.used = search rules in

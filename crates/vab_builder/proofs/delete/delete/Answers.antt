@@ -1,6 +1,6 @@
 use Rattle.std.proofs.Common.{◌∙◌, sym, ap, Ok}
 use Rattle.vab_layout.specs.declared.layout.Layout.{Layout}
-use Rattle.vab_builder.specs.DeleteVerdicts.{deleted-ok}
+use Rattle.vab_builder.proofs.DeleteVerdicts.{deleted-ok}
 use Rattle.vab_builder.proofs.delete.delete.Goals as goal
 
 pub returns : goal.returns

@@ -1,9 +1,9 @@
-use Rattle.std.proofs.Common.{◌≡◌, ◌++◌, ℕ, List, ap, subst, sym, ◌∙◌}
-use Rattle.std.specs.Prelude.{◌↔◌, Contains, IfOk}
+use Rattle.std.proofs.Common.{◌≡◌, ◌++◌, ℕ, List, ap, subst, ◌∙◌}
+use Rattle.std.specs.Prelude.{IfOk}
 use Rattle.vab_blocks.specs.Blocks.{free_below}
 use Rattle.vab_layout.specs.Layout.{blocks_of_parts}
 use Rattle.vab_layout.specs.Slots.{other_slot, own_parts, store_parts}
-use Rattle.vab_builder.specs.Counting.{free_same}
+use Rattle.vab_builder.proofs.Counting.{free_same}
 use Rattle.vab_builder.proofs.free.free_blocks.Goals as goal
 
 pub returns : goal.returns

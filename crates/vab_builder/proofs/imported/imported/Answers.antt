@@ -6,8 +6,8 @@ use Rattle.vab_layout.specs.declared.layout.Layout.{Layout}
 use Rattle.vab_layout.specs.Rules.{IsLayout}
 use Rattle.vab_layout.specs.Slots.{other_slot, own_parts, IsTarget, groups_of_slot}
 use Rattle.vab_builder.specs.Import.{imported}
-use Rattle.vab_builder.specs.ImportLaws.{own_parts_groups_long, imported_is_layout}
-use Rattle.vab_builder.specs.ImportLaws.{imported_is_target, imported_groups_of_slot}
+use Rattle.vab_builder.proofs.ImportLaws.{own_parts_groups_long, imported_is_layout}
+use Rattle.vab_builder.proofs.ImportLaws.{imported_is_target, imported_groups_of_slot}
 use Rattle.vab_builder.proofs.imported.imported.Goals as goal
 
 pub imported_parts-requires-clause-long : goal.imported_parts-requires-clause-long

@@ -1,7 +1,7 @@
 use Rattle.std.proofs.Common.{◌≤◌, List, length, sym, subst, ◌∙◌}
 use Rattle.std.specs.Prelude.{All}
 use Rattle.vab_tables.specs.declared.entries.Group.{Group}
-use Rattle.vab_builder.specs.ImportLaws.{slot_groups_long}
+use Rattle.vab_builder.proofs.ImportLaws.{slot_groups_long}
 use Rattle.vab_builder.proofs.imported.imported_groups.Goals as goal
 
 pub twin_groups-requires-clause-long : goal.twin_groups-requires-clause-long

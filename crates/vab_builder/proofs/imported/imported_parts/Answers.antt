@@ -4,7 +4,7 @@ use Rattle.std.proofs.lemmas.List.{map-id}
 use Rattle.std.proofs.lemmas.Result.{IfOk-at_ok}
 use Rattle.std.proofs.lemmas.Iterator.Adapters.{fact_from_extend, YieldsList-from_vec}
 use Rattle.vab_layout.specs.declared.layout.Part.{Part}
-use Rattle.vab_builder.specs.ImportLaws.{own_parts_long}
+use Rattle.vab_builder.proofs.ImportLaws.{own_parts_long}
 use Rattle.vab_builder.proofs.imported.imported_parts.Goals as goal
 
 pub twin_parts-requires-clause-long : goal.twin_parts-requires-clause-long

@@ -4,7 +4,7 @@ use Rattle.vab_layout.specs.declared.layout.Layout.{Layout}
 use Rattle.vab_layout.specs.Rules.{IsLayout}
 use Rattle.vab_layout.specs.Slots.{IsOwn}
 use Rattle.vab_layout.specs.Plain.{plain}
-use Rattle.vab_builder.specs.ImportLaws.{plain_is_layout, plain_is_own}
+use Rattle.vab_builder.proofs.ImportLaws.{plain_is_layout, plain_is_own}
 use Rattle.vab_builder.proofs.imported.plain.Goals as goal
 
 pub returns-clause-value : goal.returns-clause-value

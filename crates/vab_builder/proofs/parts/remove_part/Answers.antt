@@ -1,5 +1,5 @@
 use Rattle.std.proofs.Common.{sym, ◌∙◌}
-use Rattle.vab_builder.specs.ChangeLaws.{removed_at, removed_none}
+use Rattle.vab_builder.proofs.ChangeLaws.{removed_at, removed_none}
 use Rattle.vab_builder.proofs.parts.remove_part.Goals as goal
 
 pub returns-in-Some : goal.returns-in-Some

@@ -1,7 +1,7 @@
 use Rattle.std.proofs.Common.{sym}
 use Rattle.vab_layout.specs.declared.layout.Part.{Part}
 use Rattle.vab_builder.specs.Edits.{updated}
-use Rattle.vab_builder.specs.ChangeLaws.{changed_at, changed_none}
+use Rattle.vab_builder.proofs.ChangeLaws.{changed_at, changed_none}
 use Rattle.vab_builder.proofs.parts.set_blocks.Goals as goal
 
 pub returns-in-Some : goal.returns-in-Some

@@ -1,12 +1,13 @@
-use Rattle.std.proofs.Common.{◌≡◌, ◌<◌, true, false, inr, sym, ◌∙◌, rules, arith}
+use Rattle.std.proofs.Common.{◌≡◌, ◌<◌, true, false, inr, rules, arith}
 use Rattle.std.proofs.lemmas.Bool.{false_from_ne_true}
-use Rattle.vab_names.specs.Names.{is_full, store_of}
+use Rattle.vab_names.specs.Names.{is_full}
 use Rattle.vab_tables.specs.Rules.{cap_of}
 use Rattle.vab_builder.specs.Sizes.{has_part}
-use Rattle.vab_builder.specs.ResizeVerdicts.{resized-bad_name, resized-bad_size, resized-unknown}
-use Rattle.vab_builder.specs.ResizeVerdicts.{resized-has_store, resized-group_limit}
-use Rattle.vab_builder.specs.ResizeVerdicts.{resized-no_room}
-use Rattle.vab_builder.specs.NameCases.{full_few}
+use Rattle.vab_builder.proofs.ResizeVerdicts.{resized-bad_name, resized-bad_size, resized-unknown}
+use Rattle.vab_builder.proofs.ResizeVerdicts.{resized-has_store, resized-group_limit}
+use Rattle.vab_builder.proofs.ResizeVerdicts.{resized-no_room}
+use Rattle.vab_builder.proofs.PartLaws.{store_told}
+use Rattle.vab_builder.proofs.NameCases.{full_few}
 use Rattle.vab_builder.specs.Sizes.{is_within}
 use Rattle.vab_builder.proofs.resize.judged.Goals as goal
 
@@ -42,13 +43,10 @@ returns-then-has_part c =
     let a = c.args in
     let full : is_full a.slot a.name.now ≡ true = search rules in
     let there : has_part a.name.now a.target.now.parts ≡ true = search rules in
-    let store : has_part (store_of a.name.now) a.target.now.parts ≡ true =
-    rw (
-      c.text-2.ensures.value,
-      c.store_of.ensures,
-      c.in-Some.ensures.value,
-      c.as_slice-parts.ensures,
-    ) at (sym c.has_part-2.ensures ∙ c.if-has_part.true) in
+    let store =
+    store_told a.name.now _ _ _ a.target.now.parts _ _ true c.has_part-2.ensures
+    c.text-2.ensures.value c.store_of.ensures c.in-Some.ensures.value c.as_slice-parts.ensures
+    c.if-has_part.true in
     inr (resized-has_store a.slot a.source.now a.target.now a.name.now a.bytes full (omega arith)
     there store)
 
@@ -57,73 +55,36 @@ returns-then-not-is_within c =
     let a = c.args in
     let full : is_full a.slot a.name.now ≡ true = search rules in
     let there : has_part a.name.now a.target.now.parts ≡ true = search rules in
-    let plain : has_part (store_of a.name.now) a.target.now.parts ≡ false =
-    rw (
-      c.text-2.ensures.value,
-      c.store_of.ensures,
-      c.in-Some.ensures.value,
-      c.as_slice-parts.ensures,
-    ) at (sym c.has_part-2.ensures ∙ c.if-has_part.false) in
-    let sum-is =
-    rw (
-      c.group_named-group.ensures,
-      c.text-3.ensures.value,
-      c.in-Some.ensures.value,
-      c.text-5.ensures.value,
-      c.in-Some.ensures.value,
-      c.blocks-count.ensures.is,
-      c.as_slice-parts.ensures,
-    ) at c.in_ok-sum.ensures in
-    let limit-is =
-    rw (
-      c.as_slice.ensures,
-      c.text-4.ensures.value,
-      c.group_named-group.ensures,
-      c.text-3.ensures.value,
-      c.in-Some.ensures.value,
-      c.as_slice-parts.ensures,
-    ) at
-    c.limit_of-limit.ensures in
-    let outside : is_within c.in_ok-sum.sum c.limit_of-limit.result ≡ false = search rules in
-    inr (resized-group_limit a.slot a.source.now a.target.now a.name.now a.bytes c.in_ok-sum.sum
-    c.limit_of-limit.result full (omega arith) there plain sum-is limit-is outside)
+    let plain =
+    store_told a.name.now _ _ _ a.target.now.parts _ _ false c.has_part-2.ensures
+    c.text-2.ensures.value c.store_of.ensures c.in-Some.ensures.value c.as_slice-parts.ensures
+    c.if-has_part.false in
+    let group =
+    rw (c.text-3.ensures.value, c.in-Some.ensures.value, c.blocks-count.ensures.is) at
+    c.in_ok-sum.ensures in
+    let outside : is_within c.in_ok-sum.sum c.in_ok-sum.limit ≡ false =
+    search rules in
+    inr (resized-group_limit a.slot a.source.now a.target.now a.name.now a.bytes
+    c.in_ok-sum.sum c.in_ok-sum.limit full (omega arith) there plain group.0
+    group.1 outside)
 
 pub returns-then-not-fits : goal.returns-then-not-fits
 returns-then-not-fits c =
     let a = c.args in
     let full : is_full a.slot a.name.now ≡ true = search rules in
     let there : has_part a.name.now a.target.now.parts ≡ true = search rules in
-    let plain : has_part (store_of a.name.now) a.target.now.parts ≡ false =
-    rw (
-      c.text-2.ensures.value,
-      c.store_of.ensures,
-      c.in-Some.ensures.value,
-      c.as_slice-parts.ensures,
-    ) at (sym c.has_part-2.ensures ∙ c.if-has_part.false) in
-    let sum-is =
-    rw (
-      c.group_named-group.ensures,
-      c.text-3.ensures.value,
-      c.in-Some.ensures.value,
-      c.text-5.ensures.value,
-      c.in-Some.ensures.value,
-      c.blocks-count.ensures.is,
-      c.as_slice-parts.ensures,
-    ) at c.in_ok-sum.ensures in
-    let limit-is =
-    rw (
-      c.as_slice.ensures,
-      c.text-4.ensures.value,
-      c.group_named-group.ensures,
-      c.text-3.ensures.value,
-      c.in-Some.ensures.value,
-      c.as_slice-parts.ensures,
-    ) at
-    c.limit_of-limit.ensures in
-    let inside : is_within c.in_ok-sum.sum c.limit_of-limit.result ≡ true = search rules in
-    let within = rw (sum-is, limit-is) at inside in
+    let plain =
+    store_told a.name.now _ _ _ a.target.now.parts _ _ false c.has_part-2.ensures
+    c.text-2.ensures.value c.store_of.ensures c.in-Some.ensures.value c.as_slice-parts.ensures
+    c.if-has_part.false in
+    let group =
+    rw (c.text-3.ensures.value, c.in-Some.ensures.value, c.blocks-count.ensures.is) at
+    c.in_ok-sum.ensures in
+    let inside : is_within c.in_ok-sum.sum c.in_ok-sum.limit ≡ true =
+    search rules in
+    let within = rw (group.0, group.1) at inside in
     let used-is =
-    rw (c.text-6.ensures.value, c.in-Some.ensures.value, c.blocks-count.ensures.is) at
+    rw (c.text-4.ensures.value, c.in-Some.ensures.value, c.blocks-count.ensures.is) at
     c.in_ok-used.ensures in
     let cap-is : c.cap-cap.result ≡ cap_of a.target.now.device = search rules in
     let over : c.cap-cap.result < c.in_ok-used.used = search rules in

@@ -2,7 +2,7 @@ use Rattle.std.proofs.Common.{ℕ, arith}
 use Rattle.std.proofs.lemmas.List.Sums.{sum_by_push}
 use Rattle.vab_layout.specs.Slots.{own_parts}
 use Rattle.vab_builder.specs.Sizes.{sizes_in}
-use Rattle.vab_builder.specs.Bounds.{group_small}
+use Rattle.vab_builder.proofs.Bounds.{group_small}
 use Rattle.vab_builder.proofs.room.created_sum.Goals as goal
 
 pub group_sum-requires : goal.group_sum-requires

@@ -1,5 +1,5 @@
 use Rattle.std.proofs.Common.{◌∙◌}
-use Rattle.vab_builder.specs.Bounds.{before_small, created_bound, wants_fit}
+use Rattle.vab_builder.proofs.Bounds.{before_small, created_bound, wants_fit}
 use Rattle.vab_builder.proofs.room.created_used.Goals as goal
 
 pub used-requires : goal.used-requires

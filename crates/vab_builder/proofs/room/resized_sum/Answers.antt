@@ -1,5 +1,5 @@
 use Rattle.std.proofs.Common.{◌∙◌, arith}
-use Rattle.vab_builder.specs.Bounds.{group_small}
+use Rattle.vab_builder.proofs.Bounds.{group_small}
 use Rattle.vab_builder.proofs.room.resized_sum.Goals as goal
 
 pub group_sum-requires : goal.group_sum-requires

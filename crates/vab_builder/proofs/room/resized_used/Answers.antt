@@ -1,5 +1,5 @@
 use Rattle.std.proofs.Common.{◌∙◌}
-use Rattle.vab_builder.specs.Bounds.{resized_bound, wants_fit}
+use Rattle.vab_builder.proofs.Bounds.{resized_bound, wants_fit}
 use Rattle.vab_builder.proofs.room.resized_used.Goals as goal
 
 pub used-requires : goal.used-requires

@@ -1,5 +1,5 @@
 use Rattle.std.proofs.Common.{◌∙◌}
-use Rattle.vab_builder.specs.Bounds.{stored_bound, wants_fit}
+use Rattle.vab_builder.proofs.Bounds.{stored_bound, wants_fit}
 use Rattle.vab_builder.proofs.room.stored_used.Goals as goal
 
 pub used-requires : goal.used-requires

@@ -1,6 +1,6 @@
 use Rattle.std.proofs.Common.{sym, ap, ◌∙◌, arith}
 use Rattle.vab_names.specs.Names.{is_of_slot}
-use Rattle.vab_builder.specs.OwnLaws.{own_size}
+use Rattle.vab_builder.proofs.OwnLaws.{own_size}
 use Rattle.vab_builder.proofs.sizes.sizes_in.Goals as goal
 
 pub len-requires : goal.len-requires

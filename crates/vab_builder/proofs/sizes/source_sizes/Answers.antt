@@ -1,7 +1,7 @@
 use Rattle.std.proofs.Common.{sym, ap, ◌∙◌, arith}
 use Rattle.vab_names.specs.Names.{is_of_slot}
 use Rattle.vab_layout.specs.Slots.{other_slot}
-use Rattle.vab_builder.specs.OwnLaws.{own_size}
+use Rattle.vab_builder.proofs.OwnLaws.{own_size}
 use Rattle.vab_builder.proofs.sizes.source_sizes.Goals as goal
 
 pub len-requires : goal.len-requires

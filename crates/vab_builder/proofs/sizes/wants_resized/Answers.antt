@@ -1,6 +1,6 @@
 use Rattle.std.proofs.Common.{sym, ap, ◌∙◌, arith}
 use Rattle.vab_names.specs.Names.{is_of_slot}
-use Rattle.vab_builder.specs.OwnLaws.{own_each, own_long, own_short}
+use Rattle.vab_builder.proofs.OwnLaws.{own_each, own_long, own_short}
 use Rattle.vab_builder.specs.Sizes.{WantFits}
 use Rattle.vab_builder.proofs.sizes.wants_resized.Goals as goal
 

@@ -1,9 +1,9 @@
 use Rattle.std.proofs.Common.{◌∙◌, sym, ap, Ok}
 use Rattle.vab_layout.specs.declared.layout.Layout.{Layout}
 use Rattle.vab_builder.specs.Edits.{store_blocks}
-use Rattle.vab_builder.specs.NameCases.{full_few}
-use Rattle.vab_builder.specs.EditLaws.{stored_room}
-use Rattle.vab_builder.specs.StoreVerdicts.{stored-ok}
+use Rattle.vab_builder.proofs.NameCases.{full_few}
+use Rattle.vab_builder.proofs.EditLaws.{stored_room}
+use Rattle.vab_builder.proofs.StoreVerdicts.{stored-ok}
 use Rattle.vab_builder.proofs.store.add_store.Goals as goal
 
 pub push_free-requires-clause-room : goal.push_free-requires-clause-room

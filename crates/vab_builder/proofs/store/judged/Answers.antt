@@ -1,12 +1,14 @@
-use Rattle.std.proofs.Common.{◌≡◌, ◌<◌, true, false, inr, sym, ◌∙◌, rules}
+use Rattle.std.proofs.Common.{◌≡◌, ◌<◌, true, false, inr, rules}
 use Rattle.std.proofs.lemmas.Bool.{false_from_ne_true}
-use Rattle.vab_names.specs.Names.{is_full, store_of}
+use Rattle.vab_names.specs.Names.{is_full}
 use Rattle.vab_tables.specs.Rules.{cap_of}
 use Rattle.vab_builder.specs.Sizes.{has_part}
-use Rattle.vab_builder.specs.StoreVerdicts.{store_size, stored-bad_name, stored-bad_size}
-use Rattle.vab_builder.specs.StoreVerdicts.{stored-unknown, stored-has_store, stored-no_room}
-use Rattle.vab_builder.specs.NameCases.{full_slot, full_few}
-use Rattle.vab_builder.specs.EditLaws.{named_small, store_few}
+use Rattle.vab_builder.proofs.StoreVerdicts.{stored-bad_name, stored-bad_size}
+use Rattle.vab_builder.specs.Passes.{store_size}
+use Rattle.vab_builder.proofs.StoreVerdicts.{stored-unknown, stored-has_store, stored-no_room}
+use Rattle.vab_builder.proofs.PartLaws.{store_told}
+use Rattle.vab_builder.proofs.NameCases.{full_slot, full_few}
+use Rattle.vab_builder.proofs.EditLaws.{named_small, store_few}
 use Rattle.vab_builder.proofs.store.judged.Goals as goal
 
 pub returns-in_default : goal.returns-in_default
@@ -43,13 +45,10 @@ returns-then-has_part c =
     let full : is_full a.slot a.name.now ≡ true = search rules in
     let size : store_size a.bytes ≡ true = search rules in
     let there : has_part a.name.now a.target.now.parts ≡ true = search rules in
-    let store : has_part (store_of a.name.now) a.target.now.parts ≡ true =
-    rw (
-      c.text-2.ensures.value,
-      c.store_of.ensures,
-      c.in-Some.ensures.value,
-      c.as_slice-parts.ensures,
-    ) at (sym c.has_part-2.ensures ∙ c.if-has_part.true) in
+    let store =
+    store_told a.name.now _ _ _ a.target.now.parts _ _ true c.has_part-2.ensures
+    c.text-2.ensures.value c.store_of.ensures c.in-Some.ensures.value c.as_slice-parts.ensures
+    c.if-has_part.true in
     inr (stored-has_store a.slot a.source.now a.target.now a.name.now a.bytes full size there store)
 
 pub store_blocks-count-requires : goal.store_blocks-count-requires
@@ -75,13 +74,10 @@ returns-then-not-fits c =
     let full : is_full a.slot a.name.now ≡ true = search rules in
     let size : store_size a.bytes ≡ true = search rules in
     let there : has_part a.name.now a.target.now.parts ≡ true = search rules in
-    let plain : has_part (store_of a.name.now) a.target.now.parts ≡ false =
-    rw (
-      c.text-2.ensures.value,
-      c.store_of.ensures,
-      c.in-Some.ensures.value,
-      c.as_slice-parts.ensures,
-    ) at (sym c.has_part-2.ensures ∙ c.if-has_part.false) in
+    let plain =
+    store_told a.name.now _ _ _ a.target.now.parts _ _ false c.has_part-2.ensures
+    c.text-2.ensures.value c.store_of.ensures c.in-Some.ensures.value c.as_slice-parts.ensures
+    c.if-has_part.false in
     let used-is =
     rw (
       c.text-3.ensures.value,

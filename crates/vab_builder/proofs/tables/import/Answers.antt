@@ -3,9 +3,9 @@ use Rattle.vab_tables.specs.Rules.{KeepsRules}
 use Rattle.vab_layout.specs.declared.layout.Layout.{Layout}
 use Rattle.vab_layout.specs.Layout.{layout_of}
 use Rattle.vab_layout.specs.Slots.{other_slot, groups_of_slot}
-use Rattle.vab_builder.specs.ImportLaws.{imported_groups_count, imported_runs}
-use Rattle.vab_builder.specs.TableLaws.{both_ok, layout_groups, devices_same, imported_device}
-use Rattle.vab_builder.specs.TableLaws.{entries_few, runs_small}
+use Rattle.vab_builder.proofs.ImportLaws.{imported_groups_count, imported_runs}
+use Rattle.vab_builder.proofs.TableLaws.{both_ok, layout_groups, devices_same, imported_device}
+use Rattle.vab_builder.proofs.TableLaws.{entries_few, runs_small}
 use Rattle.std.specs.Prelude.{sum_by}
 use Rattle.vab_blocks.specs.Runs.{runs_of}
 use Rattle.std.proofs.lemmas.Result.{IfOk-weaker}

@@ -4,8 +4,8 @@ use Rattle.vab_tables.specs.Spelling.{table_size_of}
 use Rattle.vab_layout.specs.declared.layout.Layout.{Layout}
 use Rattle.vab_layout.specs.Layout.{layout_of, table_of}
 use Rattle.vab_layout.specs.Plain.{plain}
-use Rattle.vab_builder.specs.TableLaws.{both_ok, devices_same, layout_groups, plain_groups_same}
-use Rattle.vab_builder.specs.TableLaws.{plain_device, plain_small}
+use Rattle.vab_builder.proofs.TableLaws.{both_ok, devices_same, layout_groups, plain_groups_same}
+use Rattle.vab_builder.proofs.TableLaws.{plain_device, plain_small}
 use Rattle.std.proofs.lemmas.Result.{IfOk-weaker}
 use Rattle.vab_layout.specs.Slots.{groups_of_slot}
 use Rattle.vab_tables.specs.declared.table.Table.{Table}

@@ -5,6 +5,7 @@ use Rattle.vab_model.specs.Commands.{command_of}
 use Rattle.vab_cli.specs.Verbs.{command_line, command_item, verb_status}
 use Rattle.vab_cli.proofs.Lines.{reply_some, verb_kind}
 use Rattle.vab_cli.proofs.Running.{opened_in, runs_done, runs_failed, does_sized}
+use Rattle.vab_cli.proofs.Touching.{opening_changes, verb_changes}
 use Rattle.vab_cli.proofs.commands.carry_out.Goals as goal
 
 pub returns-in-Ok-do_command-clause-runs : goal.returns-in-Ok-do_command-clause-runs
@@ -43,3 +44,32 @@ returns-in-Err-do_command-clause-runs g c = λ t s stands.
     inl (runs_failed g.P.Disk g.met.P.Disk.only_now size s command (line s)
     (inl (reply_some command _ _)) (verb_status s.state command) old mid new opens stands status
     c.in-Err-do_command.ensures.failed (verb_kind s.state command) does)
+
+pub returns-in-Err-clause-changes : goal.returns-in-Err-clause-changes
+returns-in-Err-clause-changes g c = λ t s stands boot there.
+    opening_changes g.P.Disk _ s boot (command_of c.args.command.now) c.args.port.now c.open.new.port
+    (c.open.ensures.changes t)
+
+pub returns-in-Ok-do_command-clause-changes : goal.returns-in-Ok-do_command-clause-changes
+returns-in-Ok-do_command-clause-changes g c = λ t s stands boot there.
+    let old = c.args.port.now in
+    let mid = c.open.new.port in
+    let size = g.P.Disk.size old in
+    let here = opened_in g.P.Disk g.met.P.Disk.only_now size old mid s (c.in-Ok.ensures.opens t) stands in
+    verb_changes g.P.Disk size s boot (command_of c.args.command.now) old mid c.do_command.new.port t
+    (c.open.ensures.changes t)
+    (c.do_command.ensures.changes t s
+    (subst (λ (n : ℕ). IsIn n s (g.P.Disk.seen mid)) (sym c.open.ensures.size) here) boot)
+    there
+
+pub returns-in-Err-do_command-clause-changes : goal.returns-in-Err-do_command-clause-changes
+returns-in-Err-do_command-clause-changes g c = λ t s stands boot there.
+    let old = c.args.port.now in
+    let mid = c.open.new.port in
+    let size = g.P.Disk.size old in
+    let here = opened_in g.P.Disk g.met.P.Disk.only_now size old mid s (c.in-Ok.ensures.opens t) stands in
+    verb_changes g.P.Disk size s boot (command_of c.args.command.now) old mid c.do_command.new.port t
+    (c.open.ensures.changes t)
+    (c.do_command.ensures.changes t s
+    (subst (λ (n : ℕ). IsIn n s (g.P.Disk.seen mid)) (sym c.open.ensures.size) here) boot)
+    there

@@ -1,3 +1,4 @@
+use Rattle.vab_disk.proofs.CallLaws.{changes_touches, changes_then, changes_wider, changes_telling}
 use Rattle.std.proofs.Common.{List, ℕ, Ok, Err, refl, subst}
 use Rattle.vab_model.specs.Commands.{command_of}
 use Rattle.vab_cli.specs.declared.status.Status.{Status}
@@ -6,6 +7,7 @@ use Rattle.vab_cli.specs.Telling.{Says}
 use Rattle.vab_cli.specs.Verbs.{command_line}
 use Rattle.vab_cli.proofs.Items.{mounted_is, command_fails, command_does}
 use Rattle.vab_cli.proofs.Lines.{reply_some, told_line, said_status}
+use Rattle.vab_cli.proofs.Touching.{slots_are}
 use Rattle.vab_cli.proofs.commands.do_command.Goals as goal
 
 pub returns-in-Err-clause-does : goal.returns-in-Err-clause-does
@@ -72,3 +74,33 @@ returns-clause-does g c = λ t s stands.
       heard = c.say_all.ensures.heard t;
       time = c.say_all.ensures.time t;
     }))
+
+pub returns-in-Err-clause-changes : goal.returns-in-Err-clause-changes
+returns-in-Err-clause-changes g c = λ t s stands boot there.
+    changes_wider g.P.Disk _ _ c.args.port.now c.run_one.new.d
+    (changes_touches g.P.Disk _ _ _ (c.in-Err.ensures.touches t))
+    (λ n x w.
+    slots_are c.args.device _ (g.P.Disk.seen c.args.port.now) s boot (command_of c.args.command.now)
+    n x (c.requires.represents t) stands there w)
+
+pub returns-in-Ok-say_all-clause-changes : goal.returns-in-Ok-say_all-clause-changes
+returns-in-Ok-say_all-clause-changes g c = λ t s stands boot there.
+    changes_then g.P.Disk _ c.args.port.now c.run_one.new.d c.say_all.new.p
+    (changes_wider g.P.Disk _ _ c.args.port.now c.run_one.new.d
+    (changes_touches g.P.Disk _ _ _ (c.in-Ok.ensures.touches t))
+    (λ n x w.
+    slots_are c.args.device _ (g.P.Disk.seen c.args.port.now) s boot (command_of c.args.command.now)
+    n x (c.requires.represents t) stands there w))
+    (changes_telling g.P.Disk _ _ c.run_one.new.d c.say_all.new.p c.say_all.ensures.size
+    c.say_all.ensures.seen c.say_all.ensures.crash c.say_all.ensures.time)
+
+pub returns-clause-changes : goal.returns-clause-changes
+returns-clause-changes g c = λ t s stands boot there.
+    changes_then g.P.Disk _ c.args.port.now c.run_one.new.d c.say_all.new.p
+    (changes_wider g.P.Disk _ _ c.args.port.now c.run_one.new.d
+    (changes_touches g.P.Disk _ _ _ (c.in-Ok.ensures.touches t))
+    (λ n x w.
+    slots_are c.args.device _ (g.P.Disk.seen c.args.port.now) s boot (command_of c.args.command.now)
+    n x (c.requires.represents t) stands there w))
+    (changes_telling g.P.Disk _ _ c.run_one.new.d c.say_all.new.p c.say_all.ensures.size
+    c.say_all.ensures.seen c.say_all.ensures.crash c.say_all.ensures.time)

@@ -1,3 +1,4 @@
+use Rattle.vab_disk.proofs.CallLaws.{changes_touches, changes_then, changes_telling}
 use Rattle.std.proofs.Common.{◌≡◌, ◌⊎◌, ◌∙◌, inl, inr, ⊎_elim, ℕ, true, false, Err, Some, sym, ap, subst, arith}
 use Rattle.vab_disk.specs.Calls.{OnlyReads}
 use Rattle.vab_disk.proofs.CallLaws.{reads_none}
@@ -92,3 +93,23 @@ returns-clause-refused g c = λ t fault refused.
     refused_told g.P.Disk g.met.P.Disk.only_now size (make_line fault) (make_status fault) old mid new
     c.tell_fault.result (c.make_device.ensures.touches.quiet.told t) (reads.seen t) (reads.crash t)
     (reads.time t) (silent_line fault) either tells
+
+pub returns-in-Ok-clause-changes : goal.returns-in-Ok-clause-changes
+returns-in-Ok-clause-changes g c = λ t.
+    let tells = c.tell_made.ensures.tells t in
+    changes_then g.P.Disk _ c.args.port.now c.make_device.new.d c.tell_made.new.port
+    (changes_touches g.P.Disk _ _ _ c.make_device.ensures.touches)
+    (changes_telling g.P.Disk _ _ c.make_device.new.d c.tell_made.new.port c.tell_made.ensures.size
+    (λ t. tells.seen) (λ t. tells.crash) (λ t. tells.time))
+
+pub returns-then-is_silent-clause-changes : goal.returns-then-is_silent-clause-changes
+returns-then-is_silent-clause-changes g c = λ t.
+    changes_touches g.P.Disk _ _ _ c.make_device.ensures.touches
+
+pub returns-clause-changes : goal.returns-clause-changes
+returns-clause-changes g c = λ t.
+    let tells = c.tell_fault.ensures.tells t in
+    changes_then g.P.Disk _ c.args.port.now c.make_device.new.d c.tell_fault.new.port
+    (changes_touches g.P.Disk _ _ _ c.make_device.ensures.touches)
+    (changes_telling g.P.Disk _ _ c.make_device.new.d c.tell_fault.new.port c.tell_fault.ensures.size
+    (λ t. tells.seen) (λ t. tells.crash) (λ t. tells.time))

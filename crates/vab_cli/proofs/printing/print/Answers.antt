@@ -7,6 +7,7 @@ use Rattle.vab_cli.specs.Verbs.{print_told, command_item, verb_status}
 use Rattle.vab_cli.proofs.Items.{print_last}
 use Rattle.vab_cli.proofs.Lines.{verb_kind}
 use Rattle.vab_cli.proofs.Running.{opened_in, runs_done, runs_failed, does_sized}
+use Rattle.vab_cli.proofs.Touching.{opening_changes, verb_changes}
 use Rattle.vab_cli.proofs.printing.print.Goals as goal
 
 pub returns-in-Ok-print_image-clause-runs : goal.returns-in-Ok-print_image-clause-runs
@@ -46,3 +47,18 @@ returns-clause-runs g c = λ t s stands.
     inl (runs_failed g.P.Disk g.met.P.Disk.only_now size s command (line s)
     (inr (print_last size s c.args.name.now (line s))) (verb_status s.state command) old mid new opens
     stands status c.in-Err-print_image.ensures.failed (verb_kind s.state command) does)
+
+pub returns-in-Err-clause-changes : goal.returns-in-Err-clause-changes
+returns-in-Err-clause-changes g c = λ t s stands boot there.
+    opening_changes g.P.Disk _ s boot (Print c.args.name.now) c.args.port.now c.open.new.port
+    (c.open.ensures.changes t)
+
+pub returns-in-Ok-print_image-clause-changes : goal.returns-in-Ok-print_image-clause-changes
+returns-in-Ok-print_image-clause-changes g c = λ t s stands boot there.
+    verb_changes g.P.Disk _ s boot (Print c.args.name.now) c.args.port.now c.open.new.port
+    c.print_image.new.port t (c.open.ensures.changes t) (λ is. c.print_image.ensures.changes t) there
+
+pub returns-clause-changes : goal.returns-clause-changes
+returns-clause-changes g c = λ t s stands boot there.
+    verb_changes g.P.Disk _ s boot (Print c.args.name.now) c.args.port.now c.open.new.port
+    c.print_image.new.port t (c.open.ensures.changes t) (λ is. c.print_image.ensures.changes t) there

@@ -1,5 +1,6 @@
 use Rattle.std.proofs.Common.{◌≡◌, ◌∙◌, List, ℕ, Ok, Err, sym, ap, subst}
 use Rattle.std.specs.Prelude.{IfOk}
+use Rattle.vab_disk.proofs.CallLaws.{changes_telling}
 use Rattle.vab_device.specs.Mounted.{Mounted, state_on, bytes_at}
 use Rattle.vab_exchanges.specs.Items.{Item}
 use Rattle.vab_manager.specs.Blocks.{KeepsPart}
@@ -115,3 +116,31 @@ returns-in-Err-clause-status g c = λ t s stands.
     (refusal_done (state_on c.args.device.now image) s.state c.args.name.now c.in-Err.refusal same
     (c.in-Err.ensures.refused image))
     c.refuse.ensures.status
+
+pub returns-in-Ok-tell_blocks-clause-changes : goal.returns-in-Ok-tell_blocks-clause-changes
+returns-in-Ok-tell_blocks-clause-changes g c = λ t.
+    let old = c.args.port.now in
+    let new = c.tell_blocks.new.port in
+    let found = c.in-Ok.ensures.image (g.P.Disk.seen old) in
+    let kept = subst (λ (name : List ℕ). KeepsPart c.args.device.now c.in-Ok.slot name found.2)
+        (sym c.base_of.ensures) found.3 in
+    let says = c.in-Ok-tell_blocks.ensures.says t found.2 kept in
+    changes_telling g.P.Disk _ (bytes_at (g.P.Disk.seen old) found.2.map) old new
+    c.tell_blocks.ensures.size (λ t. says.seen) (λ t. says.crash) (λ t. says.time)
+
+pub returns-in-Err-tell_blocks-clause-changes : goal.returns-in-Err-tell_blocks-clause-changes
+returns-in-Err-tell_blocks-clause-changes g c = λ t.
+    let old = c.args.port.now in
+    let new = c.tell_blocks.new.port in
+    let found = c.in-Ok.ensures.image (g.P.Disk.seen old) in
+    let kept = subst (λ (name : List ℕ). KeepsPart c.args.device.now c.in-Ok.slot name found.2)
+        (sym c.base_of.ensures) found.3 in
+    let says = c.in-Err-tell_blocks.ensures.says t found.2 kept in
+    changes_telling g.P.Disk _ (bytes_at (g.P.Disk.seen old) found.2.map) old new
+    c.tell_blocks.ensures.size (λ t. says.seen) (λ t. says.crash) (λ t. says.time)
+
+pub returns-in-Err-clause-changes : goal.returns-in-Err-clause-changes
+returns-in-Err-clause-changes g c = λ t.
+    let says = c.refuse.ensures.says t in
+    changes_telling g.P.Disk _ (refused_line c.in-Err.refusal) c.args.port.now c.refuse.new.port
+    c.refuse.ensures.size (λ t. says.seen) (λ t. says.crash) (λ t. says.time)

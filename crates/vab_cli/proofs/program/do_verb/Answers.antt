@@ -1,6 +1,9 @@
-use Rattle.std.proofs.Common.{◌≡◌, true, false, rules}
+use Rattle.std.proofs.Common.{◌≡◌, inr, ap, true, false, rules}
+use Rattle.vab_model.specs.Commands.{SetActive, Boot, Mark, Print, Digest}
 use Rattle.vab_words.specs.Verbs.{Serve, meaning_of}
-use Rattle.vab_cli.proofs.Programs.{serve_verb, fresh_verb}
+use Rattle.vab_words.specs.Verbs as words
+use Rattle.vab_cli.specs.Verbs.{command_of}
+use Rattle.vab_cli.proofs.Programs.{command_verb, serve_verb, fresh_verb}
 use Rattle.vab_cli.proofs.program.do_verb.Goals as goal
 
 pub returns-in-Serve-true : goal.returns-in-Serve-true
@@ -19,3 +22,48 @@ returns-in-Serve-false g c =
     c.open_and_serve.result c.open_and_serve.ensures.words c.open_and_serve.ensures.steady
     c.open_and_serve.ensures.disk c.open_and_serve.ensures.port
     is c.open_and_serve.ensures.runs c.open_and_serve.ensures.none
+
+pub returns-in-Boot : goal.returns-in-Boot
+returns-in-Boot g c =
+    let is : meaning_of c.args.verb ≡ words.Boot = search rules in
+    command_verb g.P.Disk (meaning_of c.args.verb) c.args.port.now c.carry_out.new.port
+    c.carry_out.result c.carry_out.ensures.words c.carry_out.ensures.steady c.carry_out.ensures.disk
+    (λ port. inr (c.carry_out.ensures.port port)) Boot (ap command_of is)
+    c.carry_out.ensures.runs c.carry_out.ensures.none c.carry_out.ensures.changes
+    c.carry_out.ensures.quiet
+
+pub returns-in-Mark : goal.returns-in-Mark
+returns-in-Mark g c =
+    let is : meaning_of c.args.verb ≡ words.Mark = search rules in
+    command_verb g.P.Disk (meaning_of c.args.verb) c.args.port.now c.carry_out-in-Mark.new.port
+    c.carry_out-in-Mark.result c.carry_out-in-Mark.ensures.words c.carry_out-in-Mark.ensures.steady c.carry_out-in-Mark.ensures.disk
+    (λ port. inr (c.carry_out-in-Mark.ensures.port port)) Mark (ap command_of is)
+    c.carry_out-in-Mark.ensures.runs c.carry_out-in-Mark.ensures.none c.carry_out-in-Mark.ensures.changes
+    c.carry_out-in-Mark.ensures.quiet
+
+pub returns-in-Activate : goal.returns-in-Activate
+returns-in-Activate g c =
+    let is : meaning_of c.args.verb ≡ words.Activate c.in-Activate.slot = search rules in
+    command_verb g.P.Disk (meaning_of c.args.verb) c.args.port.now c.carry_out-in-Activate.new.port
+    c.carry_out-in-Activate.result c.carry_out-in-Activate.ensures.words c.carry_out-in-Activate.ensures.steady c.carry_out-in-Activate.ensures.disk
+    (λ port. inr (c.carry_out-in-Activate.ensures.port port)) (SetActive c.in-Activate.slot) (ap command_of is)
+    c.carry_out-in-Activate.ensures.runs c.carry_out-in-Activate.ensures.none c.carry_out-in-Activate.ensures.changes
+    c.carry_out-in-Activate.ensures.quiet
+
+pub returns-in-Print : goal.returns-in-Print
+returns-in-Print g c =
+    let is : meaning_of c.args.verb ≡ words.Print c.as_bytes.result.now = search rules in
+    command_verb g.P.Disk (meaning_of c.args.verb) c.args.port.now c.print.new.port
+    c.print.result c.print.ensures.words c.print.ensures.steady c.print.ensures.disk
+    (λ port. inr (c.print.ensures.port port)) (Print c.as_bytes.result.now) (ap command_of is)
+    c.print.ensures.runs c.print.ensures.none c.print.ensures.changes
+    c.print.ensures.quiet
+
+pub returns-in-Digest : goal.returns-in-Digest
+returns-in-Digest g c =
+    let is : meaning_of c.args.verb ≡ words.Digest c.as_bytes-in-Digest.result.now = search rules in
+    command_verb g.P.Disk (meaning_of c.args.verb) c.args.port.now c.carry_out-in-Digest.new.port
+    c.carry_out-in-Digest.result c.carry_out-in-Digest.ensures.words c.carry_out-in-Digest.ensures.steady c.carry_out-in-Digest.ensures.disk
+    (λ port. inr (c.carry_out-in-Digest.ensures.port port)) (Digest c.as_bytes-in-Digest.result.now) (ap command_of is)
+    c.carry_out-in-Digest.ensures.runs c.carry_out-in-Digest.ensures.none c.carry_out-in-Digest.ensures.changes
+    c.carry_out-in-Digest.ensures.quiet

@@ -1,4 +1,4 @@
-use Rattle.std.proofs.Common.{◌≡◌, ◌+◌, ◌<◌, ◌≤◌, ℕ, true, false, List, length, get_or, subst, sym}
+use Rattle.std.proofs.Common.{◌≡◌, ◌+◌, ◌<◌, ℕ, true, false, List, length, get_or, subst, sym}
 use Rattle.std.proofs.Common.{ap, ◌∙◌, arith}
 use Rattle.vab_names.specs.Names.{is_of_slot}
 use Rattle.vab_names.specs.NameLaws.{of_slot_long}

@@ -1,5 +1,5 @@
-use Rattle.std.proofs.Common.{◌≡◌, ◌+◌, ◌<◌, ◌≤◌, ℕ, true, false, List, length, get_or, subst, sym}
-use Rattle.std.proofs.Common.{ap, ◌∙◌, arith}
+use Rattle.std.proofs.Common.{◌≡◌, ◌<◌, ◌≤◌, ℕ, false, List, length, get_or, subst, sym}
+use Rattle.std.proofs.Common.{ap, ◌∙◌}
 use Rattle.vab_names.specs.Names.{is_of_slot}
 use Rattle.vab_tables.specs.declared.entries.Partition.{Partition}
 use Rattle.vab_layout.specs.Layout.{blocks_of_parts}

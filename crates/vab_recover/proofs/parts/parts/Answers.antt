@@ -8,7 +8,7 @@ use Rattle.vab_tables.specs.declared.table.Table.{Table}
 use Rattle.vab_blocks.specs.Blocks.{first_sector_of}
 use Rattle.vab_layout.specs.Layout.{part_of, layout_of}
 use Rattle.vab_layout.specs.Slots.{own_parts, IsOwnPart, IsOwn}
-use Rattle.vab_partitions.specs.Own.{own_before}
+use Rattle.vab_partitions.proofs.OwnFront.{own_before}
 use Rattle.vab_device.specs.Kept.{part_on}
 use Rattle.vab_recover.proofs.PartLaws.{own_at, layout_first}
 use Rattle.vab_recover.proofs.parts.parts.Goals as goal

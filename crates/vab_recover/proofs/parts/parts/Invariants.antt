@@ -1,7 +1,7 @@
 use Rattle.std.proofs.Common.{◌≡◌}
 use Rattle.std.specs.Prelude.{map}
 use Rattle.vab_blocks.specs.Blocks.{first_sector_of}
-use Rattle.vab_partitions.specs.Own.{own_before}
+use Rattle.vab_partitions.proofs.OwnFront.{own_before}
 use Rattle.vab_device.specs.Kept.{part_on}
 use Rattle.vab_recover.proofs.parts.parts.Given as goal
 

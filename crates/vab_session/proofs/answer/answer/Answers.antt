@@ -1,4 +1,4 @@
-use Rattle.std.proofs.Common.{◌≡◌, List, ℕ, Ok, Err, sym, subst}
+use Rattle.std.proofs.Common.{List, ℕ, Ok, sym, subst}
 use Rattle.vab_exchanges.specs.Reading.{rest_of, beyond_of, total_of, count_of, most_of}
 use Rattle.vab_session.specs.Served.{kept_on, AnswersOrFails}
 use Rattle.vab_session.proofs.answer.answer.Goals as goal

@@ -1,24 +1,28 @@
-use Rattle.std.proofs.Common.{◌≡◌, inl, inr, true, false, ℕ, zero, suc, ◌<◌, List, ◌++◌, Some, Ok, Err, take, refl, sym, ◌∙◌, ap, subst, arith, rules}
-use Rattle.vab_disk.specs.Disk.{Image, Adds, Nothing, Hearing}
+use Rattle.std.proofs.Common.{◌≡◌, inl, inr, true, false, ℕ, zero, suc, ◌<◌, List, ◌++◌, Some, Err}
+use Rattle.std.proofs.Common.{take, refl, sym, ◌∙◌, ap, subst, arith}
+use Rattle.vab_disk.specs.Disk.{Image, Adds, Nothing}
 use Rattle.vab_disk.specs.declared.disk.Disk.{Ghosts}
 use Rattle.vab_disk.specs.Port.{LeavesSaying}
 use Rattle.vab_disk.proofs.Moments.{adds_still}
+use Rattle.vab_disk.proofs.CallLaws.{changes_telling, changes_then}
 use Rattle.vab_device.specs.Mounted.{Mounted}
 use Rattle.vab_device.specs.Reading.{IsIn}
 use Rattle.vab_device.proofs.ReadingLaws.{device_stands}
 use Rattle.vab_exchanges.specs.Session.{packet, IsAwaited}
 use Rattle.vab_exchanges.specs.Hearing.{HearsWhere, IsHeardFor}
 use Rattle.vab_exchanges.specs.Items.{Kept, data_text}
-use Rattle.vab_exchanges.specs.Reading.{rest_of, beyond_of, all_of, total_of, count_of, most_of, StopsBy, IsBroken, HasData}
+use Rattle.vab_exchanges.specs.Reading.{rest_of, beyond_of, all_of, total_of, count_of, most_of}
+use Rattle.vab_exchanges.specs.Reading.{StopsBy, IsBroken, HasData}
 use Rattle.vab_exchanges.specs.Runs.{Answers}
-use Rattle.vab_exchanges.proofs.Answering.{answers_large, fails_large, answers_refused, fails_refused, fails_data, answers_download, fails_okay}
+use Rattle.vab_exchanges.proofs.Answering.{answers_large, fails_large, answers_refused}
+use Rattle.vab_exchanges.proofs.Answering.{fails_refused, fails_data, answers_download, fails_okay}
 use Rattle.vab_exchanges.proofs.Listening.{hears_at, hears_same}
 use Rattle.vab_session.specs.declared.kept.KeptDevice.{KeptDevice}
 use Rattle.vab_session.specs.Responses.{response}
 use Rattle.vab_session.specs.Served.{kept_on, Fails, HasCause}
-use Rattle.vab_session.specs.Fault.{fault_of_read}
 use Rattle.vab_session.specs.declared.fault.SessionFault.{SessionFault}
 use Rattle.vab_session.proofs.Data.{data_fails, same_holds, read_cause}
+use Rattle.vab_session.proofs.Changing.{changes_listening}
 use Rattle.vab_session.proofs.answer.download.Goals as goal
 
 some_wanted : (n : ℕ) → (n ≡ 0 → false ≡ true) → 0 < n
@@ -34,8 +38,10 @@ by_names : {D : Type 0} (size : ℕ) (g : Ghosts D) (k : Kept Mounted) (kept : K
     (old new : D)
     → left' ≡ left
     → image' ≡ image
-    → Answers response (IsIn size) g k (kept_on kept image) command before (rest left) beyond old new
-    → Answers response (IsIn size) g k (kept_on kept image') command before (rest left') beyond old new
+    → Answers response (IsIn size) g k (kept_on kept image) command before (rest left) beyond old
+    new
+    → Answers response (IsIn size) g k (kept_on kept image') command before (rest left') beyond
+    old new
 by_names size g k kept command before beyond rest left left' image image' old new same same' a =
     subst
     (λ (l : List ℕ).
@@ -195,7 +201,8 @@ returns-in-Err-data-clause-does g c = λ t command is.
     let why =
     subst
     (λ (l : List ℕ).
-    StopsBy (IsBroken (count_of r l) size (rest_of r l)) (total_of r l) (most_of r) c.in-Err-data.fault)
+    StopsBy (IsBroken (count_of r l) size (rest_of r l)) (total_of r l) (most_of r)
+    c.in-Err-data.fault)
     (said.left t) (c.in-Err-data.ensures.fault t) in
     subst
     (λ (e : SessionFault).
@@ -310,3 +317,60 @@ returns-clause-does g c = λ t command is.
     (heard_time g.P.Disk old mid heard (packet (data_text size))
     (data_time g.P.Disk old mid c.as_slice.result.now size text (said.time t)) (listens.time t))
     (last.time t) (kept_on kept' image) refl (c.in-Ok-tell_reply-3.ensures.told t))
+
+pub returns-in-Ok-clause-changes : goal.returns-in-Ok-clause-changes
+returns-in-Ok-clause-changes g c = λ t.
+    let said = c.tell_reply.ensures in
+    changes_telling g.P.Disk _ _ c.args.p.now c.tell_reply.new.p said.size said.seen said.crash said.time
+
+pub returns-in-Err-clause-changes : goal.returns-in-Err-clause-changes
+returns-in-Err-clause-changes g c = λ t.
+    let said = c.tell_reply.ensures in
+    changes_telling g.P.Disk _ _ c.args.p.now c.tell_reply.new.p said.size said.seen said.crash said.time
+
+pub returns-in-Ok-tell_reply-clause-changes : goal.returns-in-Ok-tell_reply-clause-changes
+returns-in-Ok-tell_reply-clause-changes g c = λ t.
+    let said = c.tell_reply-in-Err-with_capacity.ensures in
+    changes_telling g.P.Disk _ _ c.args.p.now c.tell_reply-in-Err-with_capacity.new.p said.size said.seen said.crash said.time
+
+pub returns-in-Err-tell_reply-clause-changes : goal.returns-in-Err-tell_reply-clause-changes
+returns-in-Err-tell_reply-clause-changes g c = λ t.
+    let said = c.tell_reply-in-Err-with_capacity.ensures in
+    changes_telling g.P.Disk _ _ c.args.p.now c.tell_reply-in-Err-with_capacity.new.p said.size said.seen said.crash said.time
+
+pub returns-in-Err-tell_reply-2-clause-changes : goal.returns-in-Err-tell_reply-2-clause-changes
+returns-in-Err-tell_reply-2-clause-changes g c = λ t.
+    let said = c.tell_reply-2.ensures in
+    changes_telling g.P.Disk _ _ c.args.p.now c.tell_reply-2.new.p said.size said.seen said.crash said.time
+
+pub returns-in-Err-data-clause-changes : goal.returns-in-Err-data-clause-changes
+returns-in-Err-data-clause-changes g c = λ t.
+    let said = c.tell_reply-2.ensures in
+    changes_then g.P.Disk _ c.args.p.now c.tell_reply-2.new.p c.data.new.p
+    (changes_telling g.P.Disk _ _ c.args.p.now c.tell_reply-2.new.p
+    said.size said.seen said.crash said.time)
+    (changes_listening g.P.Disk _ _ _ c.tell_reply-2.new.p c.data.new.p c.data.ensures.listens)
+
+pub returns-in-Err-tell_reply-3-clause-changes : goal.returns-in-Err-tell_reply-3-clause-changes
+returns-in-Err-tell_reply-3-clause-changes g c = λ t.
+    let said = c.tell_reply-2.ensures in
+    let last = c.tell_reply-3.ensures in
+    changes_then g.P.Disk _ c.args.p.now c.data.new.p c.tell_reply-3.new.p
+    (changes_then g.P.Disk _ c.args.p.now c.tell_reply-2.new.p c.data.new.p
+    (changes_telling g.P.Disk _ _ c.args.p.now c.tell_reply-2.new.p
+    said.size said.seen said.crash said.time)
+    (changes_listening g.P.Disk _ _ _ c.tell_reply-2.new.p c.data.new.p c.data.ensures.listens))
+    (changes_telling g.P.Disk _ _ c.data.new.p c.tell_reply-3.new.p
+    last.size last.seen last.crash last.time)
+
+pub returns-clause-changes : goal.returns-clause-changes
+returns-clause-changes g c = λ t.
+    let said = c.tell_reply-2.ensures in
+    let last = c.tell_reply-3.ensures in
+    changes_then g.P.Disk _ c.args.p.now c.data.new.p c.tell_reply-3.new.p
+    (changes_then g.P.Disk _ c.args.p.now c.tell_reply-2.new.p c.data.new.p
+    (changes_telling g.P.Disk _ _ c.args.p.now c.tell_reply-2.new.p
+    said.size said.seen said.crash said.time)
+    (changes_listening g.P.Disk _ _ _ c.tell_reply-2.new.p c.data.new.p c.data.ensures.listens))
+    (changes_telling g.P.Disk _ _ c.data.new.p c.tell_reply-3.new.p
+    last.size last.seen last.crash last.time)

@@ -1,17 +1,24 @@
-use Rattle.std.proofs.Common.{◌≡◌, ℕ, ◌+◌, ◌++◌, ◌∙◌, min, true, List, None, Err, Result, length, take, drop, codes, sym, ap, subst, arith, rules, length-take, get_or, get_or-drop, take-append-drop}
-use Rattle.vab_disk.specs.Disk.{Image, Outcome, Adds, Nothing}
+use Rattle.std.proofs.Common.{◌≡◌, ℕ, ◌+◌, ◌++◌, ◌∙◌, min, true, List, None, Err, length, take}
+use Rattle.std.proofs.Common.{drop, codes, sym, ap, subst, arith, rules, length-take, get_or}
+use Rattle.std.proofs.Common.{get_or-drop, take-append-drop}
+use Rattle.std.specs.Prelude.{is_some}
+use Rattle.vab_disk.specs.Disk.{Image, Adds, Nothing}
 use Rattle.vab_disk.specs.Calls.{IsAtRest}
 use Rattle.vab_disk.proofs.Moments.{adds_still}
 use Rattle.vab_disk.specs.declared.disk.Disk.{Ghosts}
+use Rattle.vab_disk.specs.Calls.{Changes}
+use Rattle.vab_disk.proofs.CallLaws.{changes_telling, changes_then}
 use Rattle.vab_fbtcp.specs.Hello.{is_hello}
 use Rattle.vab_device.specs.declared.device.Device.{Device}
 use Rattle.vab_device.specs.Mounted.{Mounted, mounted_on}
 use Rattle.vab_device.specs.Reading.{IsIn}
 use Rattle.vab_device.proofs.ReadingLaws.{device_stands}
+use Rattle.vab_manager.specs.Controls.{IsOfCommands}
 use Rattle.vab_exchanges.specs.Session.{HasNoHello}
 use Rattle.vab_exchanges.specs.Hearing.{HearsWhere, IsHeardFor}
-use Rattle.vab_exchanges.specs.Reading.{rest_of, beyond_of, all_of, total_of, count_of, most_of, StopsBy, IsFewerThan}
-use Rattle.vab_exchanges.specs.Items.{Kept, Item}
+use Rattle.vab_exchanges.specs.Reading.{rest_of, beyond_of, all_of, total_of, count_of, most_of}
+use Rattle.vab_exchanges.specs.Reading.{StopsBy, IsFewerThan}
+use Rattle.vab_exchanges.specs.Items.{Item}
 use Rattle.vab_exchanges.specs.Runs.{CrashesWithin, Ran, Serves}
 use Rattle.vab_exchanges.proofs.RunLaws.{IsChain}
 use Rattle.vab_exchanges.proofs.Progress.{still_settled}
@@ -21,9 +28,10 @@ use Rattle.vab_exchanges.proofs.Serving.{served, failed_early, greeting}
 use Rattle.vab_session.specs.declared.fault.Ended.{Ended}
 use Rattle.vab_session.specs.declared.fault.SessionFault.{SessionFault}
 use Rattle.vab_session.specs.Responses.{response}
-use Rattle.vab_session.specs.Served.{kept_on, nothing_staged, Held, HeldBy, Says, HasCause, reached}
+use Rattle.vab_session.specs.Served.{nothing_staged, Held, HeldBy, Says, HasCause, reached}
 use Rattle.vab_session.proofs.Data.{read_cause}
 use Rattle.vab_session.proofs.Endings.{moved, hello_fails}
+use Rattle.vab_session.proofs.Changing.{changes_listening}
 use Rattle.vab_session.proofs.session.serve_up_to.Goals as goal
 
 pub returns-then-is_err-clause-serves : goal.returns-then-is_err-clause-serves
@@ -100,7 +108,8 @@ returns-in-Err-clause-serves g c = λ t.
     let left = c.say_all.ensures.left t in
     let there = device_stands c.args.device N image (c.requires.stands t) in
     let said : g.P.Disk.told mid ≡ g.P.Disk.told old ++ codes "FB01" = search rules in
-    let rest : rest_of r lp ≡ take most input = c.new-reader.ensures.rest lp ∙ ap (take most) left in
+    let rest : rest_of r lp ≡ take most input =
+    c.new-reader.ensures.rest lp ∙ ap (take most) left in
     let beyond : beyond_of r lp ≡ drop most input =
     c.new-reader.ensures.beyond lp ∙ ap (drop most) left in
     let total : total_of r lp ≡ length input =
@@ -117,7 +126,8 @@ returns-in-Err-clause-serves g c = λ t.
     (c.in-Err.ensures.fault t))) in
     subst
     (λ (e : SessionFault).
-    Serves response (IsIn N) g.P.Disk (HeldBy e) (Says (Err e)) None most (nothing_staged m) old new)
+    Serves response (IsIn N) g.P.Disk (HeldBy e) (Says (Err e)) None most (nothing_staged m) old
+    new)
     (sym c.from.ensures)
     (hello_fails N g.P.Disk g.met.P.Disk.only_now most (nothing_staged m) old new
     (g.met.P.Disk.bytes old) (listens.told t ∙ said) there
@@ -174,7 +184,8 @@ returns-clause-serves g c = λ t.
     let left = c.say_all.ensures.left t in
     let there = device_stands device N image (c.requires.stands t) in
     let said : g.P.Disk.told said_to ≡ g.P.Disk.told old ++ codes "FB01" = search rules in
-    let rest0 : rest_of r0 l0 ≡ take most input = c.new-reader.ensures.rest l0 ∙ ap (take most) left in
+    let rest0 : rest_of r0 l0 ≡ take most input =
+    c.new-reader.ensures.rest l0 ∙ ap (take most) left in
     let beyond0 : beyond_of r0 l0 ≡ drop most input =
     c.new-reader.ensures.beyond l0 ∙ ap (drop most) left in
     let rest : rest_of r lp ≡ drop 4 (take most input) =
@@ -216,3 +227,35 @@ returns-clause-serves g c = λ t.
     (nothing_staged (mounted_on device q.2)) (g.P.Disk.told old) mid new)
     (λ i. (sizes i, room i, seen i))
     ran)
+
+pub returns-then-is_err-clause-changes : goal.returns-then-is_err-clause-changes
+returns-then-is_err-clause-changes g c = λ t.
+    let said = c.say_all.ensures in
+    changes_telling g.P.Disk _ _ c.args.p.now c.say_all.new.p said.size said.seen said.crash said.time
+
+pub returns-in-Err-clause-changes : goal.returns-in-Err-clause-changes
+returns-in-Err-clause-changes g c = λ t.
+    let said = c.say_all.ensures in
+    changes_then g.P.Disk _ c.args.p.now c.say_all.new.p c.hello.new.p
+    (changes_telling g.P.Disk _ _ c.args.p.now c.say_all.new.p
+    said.size said.seen said.crash said.time)
+    (changes_listening g.P.Disk _ _ _ c.say_all.new.p c.hello.new.p c.hello.ensures.listens)
+
+pub returns-clause-changes : goal.returns-clause-changes
+returns-clause-changes g c = λ t.
+    let said = c.say_all.ensures in
+    let d = c.args.device in
+    let old = c.args.p.now in
+    let mid = c.hello.new.p in
+    let new = c.answer_all.new.p in
+    let seen : g.P.Disk.seen mid ≡ g.P.Disk.seen old =
+    c.hello.ensures.listens.seen t ∙ c.say_all.ensures.seen t in
+    changes_then g.P.Disk _ old mid new
+    (changes_then g.P.Disk _ old c.say_all.new.p mid
+    (changes_telling g.P.Disk _ _ old c.say_all.new.p said.size said.seen said.crash said.time)
+    (changes_listening g.P.Disk _ _ _ c.say_all.new.p mid c.hello.ensures.listens))
+    (subst
+    (λ (image : Image).
+    Changes g.P.Disk
+    (IsOfCommands d.control (is_some d.a) (is_some d.b) (image 4)) mid new)
+    seen (c.answer_all.ensures.changes t))

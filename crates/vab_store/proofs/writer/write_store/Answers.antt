@@ -7,18 +7,18 @@ use Rattle.vab_space.specs.Space.{need_of}
 use Rattle.vab_store.specs.Writing.{store_chunk, planned_of}
 use Rattle.vab_store.proofs.ScanLaws.{scan_of_is}
 use Rattle.vab_store.proofs.WrittenLaws.{written_scan, written_block}
-use Rattle.vab_store.proofs.ChunkLaws.{apart_of, chunk_here, chunk_there, in_map}
+use Rattle.vab_store.proofs.ChunkLaws.{apart_of, chunk_here, chunk_there, in_first}
 use Rattle.vab_store.proofs.writer.write_store.Goals as goal
 
 pub returns-in_err-write_at-clause-touches : goal.returns-in_err-write_at-clause-touches
 returns-in_err-write_at-clause-touches g c =
     let n = c.loop-chunk.chunk in
     let map = c.args.map.now in
-    let below : n < length map = omega
-    (arith, c.loop-chunk-test.true, c.need-chunk-end.ensures, c.requires.room) in
+    let below : n < need_of (length c.args.olds.now) =
+    omega (arith, c.loop-chunk-test.true, c.need-chunk-end.ensures) in
     touches_on g.D.Disk _ _ _ _ _ _ c.loop-chunk.invariant.touches c.write_at.ensures.touches
     (λ s b w. w)
-    (λ s b w. in_map map n c.chunk_block.result s b below w)
+    (λ s b w. in_first map _ n c.chunk_block.result s b below w)
 
 pub loop-chunk-preserved : goal.loop-chunk-preserved
 loop-chunk-preserved g c =
@@ -29,8 +29,9 @@ loop-chunk-preserved g c =
     let bytes : List ℕ = c.chunk_block.result in
     let old = g.D.Disk.seen c.loop-chunk.d in
     let new = g.D.Disk.seen c.write_at.new.d in
-    let below : n < length map = omega
-    (arith, c.loop-chunk-test.true, c.need-chunk-end.ensures, c.requires.room) in
+    let needed : n < need_of (length olds) =
+    omega (arith, c.loop-chunk-test.true, c.need-chunk-end.ensures) in
+    let below : n < length map = omega (arith, needed, c.requires.room) in
     let long : length bytes ≡ 4096 = search rules in
     let ok = c.in_ok-write_at.ensures in
     record {
@@ -50,7 +51,7 @@ loop-chunk-preserved g c =
       touches = touches_on g.D.Disk _ _ _ _ _ _ c.loop-chunk.invariant.touches
           c.write_at.ensures.touches
           (λ s b w. w)
-          (λ s b w. in_map map n bytes s b below w);
+          (λ s b w. in_first map _ n bytes s b needed w);
       steady = ok.faults.steady ∙ c.loop-chunk.invariant.steady;
     }
 

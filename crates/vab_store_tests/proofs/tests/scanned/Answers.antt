@@ -1,5 +1,5 @@
 use Rattle.std.proofs.Common.{arith}
-use Rattle.vab_store_tests.proofs.Parts.{run_on_disk}
+use Rattle.vab_store.proofs.PartLaws.{run_on_disk}
 use Rattle.vab_store_tests.proofs.tests.scanned.Goals as goal
 
 pub scan-requires : goal.scan-requires

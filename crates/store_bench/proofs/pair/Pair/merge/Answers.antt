@@ -1,0 +1,9 @@
+use Rattle.vab_merge.proofs.PairLaws.{can_merge}
+use Rattle.store_bench.proofs.pair.Pair.merge.Goals as goal
+
+pub run_turn-requires-clause-can : goal.run_turn-requires-clause-can
+run_turn-requires-clause-can g c =
+    let pair = c.args.self.now in
+    let i = c.loop-runs.invariant in
+    can_merge pair.base pair.store c.loop-runs.view _ pair.blocks pair.chunks pair.base_is
+    pair.store_is i.on_disk i.fits

@@ -1,0 +1,107 @@
+-- What verbs touch, by what their functions touch.
+use Rattle.std.proofs.Common.{◌≡◌, ◌⊎◌, ◌∙◌, inl, inr, ⊎_elim, ℕ, List, length, Ok, refl, sym, ap, subst}
+use Rattle.std.specs.Prelude.{Bool, is_some}
+use Rattle.vab_disk.specs.declared.disk.Disk.{Ghosts}
+use Rattle.vab_disk.specs.Disk.{Image, IsAt, set_sector}
+use Rattle.vab_disk.specs.Written.{set_here}
+use Rattle.vab_disk.specs.Calls.{Changes, SameBut}
+use Rattle.vab_disk.proofs.CallLaws.{set_same_but, changes_then, changes_wider}
+use Rattle.vab_bootctl.specs.declared.slots.Control.{Control}
+use Rattle.vab_bootctl.specs.Control.{control_of}
+use Rattle.vab_lpstore.specs.Layout.{text_sectors}
+use Rattle.vab_lpstore.specs.Storing.{IsOfRepair}
+use Rattle.vab_lpstore.proofs.StoreLaws.{repair_elsewhere}
+use Rattle.vab_model.specs.Commands.{Command}
+use Rattle.vab_device.specs.declared.device.Device.{Device}
+use Rattle.vab_device.specs.Mounted.{Mounted, state_on, mounted_on}
+use Rattle.vab_device.specs.Reading.{IsIn, Represents}
+use Rattle.vab_recover.specs.Opened.{IsRepair}
+use Rattle.vab_recover.proofs.OpenLaws.{control_stays}
+use Rattle.vab_manager.specs.Controls.{IsOfSlots, IsOfCommand}
+use Rattle.vab_manager.proofs.EffectLaws.{some_images}
+use Rattle.vab_cli.specs.Touched.{IsOfVerb}
+use Rattle.vab_cli.proofs.Items.{mounted_is}
+
+-- ---- the repair leaves the boot control
+
+-- what a repair would write there is what is there
+not_there : (size : ℕ) (old : Image) (bytes : List ℕ) → IsRepair size old 4 bytes → bytes ≡ old 4
+not_there size old bytes w =
+    let mid : Image = set_sector old 4 bytes in
+    let g = w.read.geometry in
+    let slot = w.read.mark.slot in
+    let text = w.table.text in
+    let W : ℕ → List ℕ → Type 0 = IsOfRepair w.table.primary w.table.backup g slot text in
+    let but : SameBut W old mid = λ s.
+    ⊎_elim
+    (λ same. inl same)
+    (λ is.
+    inr (subst (λ (n : ℕ). W n (mid s)) (sym is.0)
+    (subst (λ (l : List ℕ). W 4 l) (sym is.1) w.writes)))
+    (set_same_but old mid 4 bytes (inr refl) s) in
+    let stays = control_stays g slot (text_sectors (length text)) old mid
+        (repair_elsewhere w.table.primary w.table.backup g slot text old mid but) in
+    sym (set_here old 4 bytes 4 refl) ∙ stays
+
+pub repair_leaves : (size : ℕ) (old new : Image) → SameBut (IsRepair size old) old new → new 4 ≡ old 4
+repair_leaves size old new but =
+    ⊎_elim (λ same. same) (λ w. not_there size old (new 4) w) (but 4)
+
+-- ---- a command on the device of a disk
+
+has_a : (d : Device) (image : Image) → is_some (state_on d image).a ≡ is_some d.a
+unfolding state_on
+has_a d image = some_images image d.a
+
+has_b : (d : Device) (image : Image) → is_some (state_on d image).b ≡ is_some d.b
+unfolding state_on
+has_b d image = some_images image d.b
+
+-- what a command writes is said by the state and by the boot control that is there
+pub slots_are : (d : Device) (size : ℕ) (image : Image) (m : Mounted) (boot : Control) (c : Command)
+    (s : ℕ) (bytes : List ℕ)
+    → Represents d size image
+    → IsIn size m image
+    → control_of (image 4) ≡ Ok boot
+    → IsOfCommand d (image 4) c s bytes
+    → IsOfSlots boot (is_some m.state.a) (is_some m.state.b) (image 4) c s bytes
+slots_are d size image m boot c s bytes represents is there w =
+    let same = mounted_is d size image m represents is in
+    let a : is_some d.a ≡ is_some m.state.a =
+    sym (has_a d image) ∙ ap (λ (x : Mounted). is_some x.state.a) same in
+    let b : is_some d.b ≡ is_some m.state.b =
+    sym (has_b d image) ∙ ap (λ (x : Mounted). is_some x.state.b) same in
+    let both : Ok d.control ≡ Ok boot = sym represents.control ∙ there in
+    let control : d.control ≡ boot = cc in
+    subst (λ (k : Control). IsOfSlots k (is_some m.state.a) (is_some m.state.b) (image 4) c s bytes)
+    control
+    (subst (λ (x : Bool). IsOfSlots d.control x (is_some m.state.b) (image 4) c s bytes) a
+    (subst (λ (x : Bool). IsOfSlots d.control (is_some d.a) x (image 4) c s bytes) b w))
+
+module _ {D : Type 0} (g : Ghosts D) (size : ℕ) (m : Mounted) (boot : Control) (c : Command) where
+  -- opening alone
+  pub opening_changes : (old new : D)
+      → Changes g (IsRepair size (g.seen old)) old new
+      → Changes g (IsOfVerb size (g.seen old) m boot c) old new
+  opening_changes old new opens =
+      changes_wider g (IsOfVerb size (g.seen old) m boot c) (IsRepair size (g.seen old)) old new opens
+      (λ s x w. inl w)
+
+  -- opening, and then the command
+  pub verb_changes : (old mid new : D)
+      → (t : g.is_modelled)
+      → Changes g (IsRepair size (g.seen old)) old mid
+      → (control_of (g.seen mid 4) ≡ Ok boot
+        → Changes g
+          (IsOfSlots boot (is_some m.state.a) (is_some m.state.b) (g.seen mid 4) c) mid new)
+      → control_of (g.seen old 4) ≡ Ok boot
+      → Changes g (IsOfVerb size (g.seen old) m boot c) old new
+  verb_changes old mid new t opens does there =
+      let same = repair_leaves size (g.seen old) (g.seen mid) (opens.seen t) in
+      changes_then g (IsOfVerb size (g.seen old) m boot c) old mid new
+      (opening_changes old mid opens)
+      (changes_wider g (IsOfVerb size (g.seen old) m boot c) _ mid new
+      (does (ap control_of same ∙ there))
+      (λ s x w.
+      inr (subst
+      (λ (l : List ℕ). IsOfSlots boot (is_some m.state.a) (is_some m.state.b) l c s x) same w)))

@@ -1,0 +1,179 @@
+//! An update's target, judged in the order of its table.
+
+ghost use Rattle.std.specs.Prelude.{◌≡◌, ◌↔◌, ◌<◌, ◌≤◌, ◌||◌, ◌++◌, [], ◌∷◌, true, IfOk, IfSome};
+ghost use Rattle.std.specs.Prelude.{IsNone, IsTrue, OnOk};
+ghost use Rattle.vab_names.specs.Names.{is_of_slot, is_store};
+ghost use Rattle.vab_tables.specs.Rules.{KeepsRules};
+ghost use Rattle.vab_layout.specs.Layout.{layout_of, blocks_of_parts};
+ghost use Rattle.vab_layout.specs.Slots.{other_slot, own_parts, IsOwn, IsTarget};
+ghost use Rattle.vab_blocks.specs.Blocks.{is_distinct};
+ghost use Rattle.vab_partitions.specs.Target.{target_parts, IsFirstBad};
+
+use crate::beside::keeps_alone;
+use std::alloc::Global;
+use vab_blocks::Blocks;
+use vab_bytes::Name36;
+use vab_layout::{Layout, Part};
+use vab_names::{is_of_slot, is_store};
+use vab_tables::{NoMemory, Table};
+
+/// The most partitions of a slot.
+const MAX_PARTITIONS: u64 = 32;
+
+/// The blocks of the partitions and stores that were seen, and how many partitions these are.
+/// `apart` tells that no block stands twice in the whole target, so that it need not be judged
+/// again.
+#[derive(Debug, Drop)]
+pub(crate) struct Front {
+    pub(crate) seen: Blocks,
+    pub(crate) own: u64,
+    pub(crate) apart: bool,
+}
+
+// The blocks of a slot's own partitions, one after another.
+fn taken_by(alloc: Global, parts: &[Part], slot: usize) -> Result<Blocks, NoMemory>
+    requires { slot < 2 }
+    ensures { IfOk result (λ b. b ≡ blocks_of_parts (own_parts slot parts.now)) }
+{
+    let mut blocks = Blocks::new(alloc);
+    for part in parts {
+        if is_of_slot(part.name.text(), slot) {
+            blocks.append(&part.blocks)?;
+        }
+    }
+    Ok(blocks)
+}
+
+// The blocks of the target's partitions and stores, one after another.
+fn blocks_of_target(alloc: Global, parts: &[Part], slot: usize) -> Result<Blocks, NoMemory>
+    requires { slot < 2 }
+    ensures { IfOk result (λ b. b ≡ blocks_of_parts (target_parts slot parts.now)) }
+{
+    let mut blocks = Blocks::new(alloc);
+    for part in parts {
+        if is_of_target(part, slot) {
+            blocks.append(&part.blocks)?;
+        }
+    }
+    Ok(blocks)
+}
+
+// Whether no block stands twice, where that may be known before.
+fn is_once(alloc: Global, blocks: &Blocks, apart: bool) -> Result<bool, NoMemory>
+    requires { apart ≡ true → is_distinct blocks.now ≡ true }
+    ensures { IfOk result (λ once. once ≡ is_distinct blocks.now) }
+{
+    if apart {
+        return Ok(true);
+    }
+    blocks.is_distinct(alloc)
+}
+
+// Whether this is a partition of the slot or a store.
+fn is_of_target(part: &Part, slot: usize) -> bool
+    requires { slot < 2 }
+    ensures { result ≡ (is_of_slot slot part.now.name || is_store slot part.now.name) }
+{
+    is_of_slot(part.name.text(), slot) || is_store(part.name.text(), slot)
+}
+
+impl Front {
+    ghost use Rattle.vab_partitions.specs.Front.{Joins, IsJoined};
+
+    // Whether a partition or a store may stand behind those that were seen. Where it may, it is one
+    // of them.
+    fn join(
+        &mut self,
+        alloc: Global,
+        source: &[Part],
+        target: &[Part],
+        taken: &Blocks,
+        part: &Part,
+        slot: usize,
+    ) -> Result<bool, NoMemory>
+        requires slot { slot < 2 }
+        requires source { IsOwn (other_slot slot) source.now }
+        requires taken { taken.now ≡ blocks_of_parts (own_parts (other_slot slot) source.now) }
+        requires either { (is_of_slot slot part.now.name || is_store slot part.now.name) ≡ true }
+        requires few { self.old.own ≤ 32 }
+        requires apart { self.old.apart ≡ true
+            → is_distinct (self.old.seen ++ part.now.blocks) ≡ true }
+        ensures joins { IfOk result
+            (λ ok. IsTrue ok ↔ Joins slot source.now target.now self.old part.now) }
+        ensures joined { IfOk result (λ ok. IsTrue ok → IsJoined slot self.old self.new part.now) }
+    {
+        self.seen.append(&part.blocks)?;
+        if !is_once(alloc, &self.seen, self.apart)? {
+            return Ok(false);
+        }
+        if is_of_slot(part.name.text(), slot) {
+            if self.own >= MAX_PARTITIONS {
+                return Ok(false);
+            }
+            self.own += 1;
+        }
+        keeps_alone(alloc, source, target, taken, part, slot)
+    }
+}
+
+// The first partition or store of the target that breaks a rule.
+fn first_bad(
+    alloc: Global,
+    source: &[Part],
+    target: &[Part],
+    slot: usize,
+) -> Result<Option<Name36>, NoMemory>
+    requires slot { slot < 2 }
+    requires source { IsOwn (other_slot slot) source.now }
+    ensures kept { IfOk result (λ bad. IsNone bad ↔ IsTarget slot source.now target.now) }
+    ensures first { IfOk result (λ bad. IfSome bad (IsFirstBad slot source.now target.now)) }
+{
+    let taken = taken_by(alloc, source, 1 - slot)?;
+    let all = blocks_of_target(alloc, target, slot)?;
+    let mut front = Front {
+        seen: Blocks::new(alloc),
+        own: 0,
+        apart: all.is_distinct(alloc)?,
+    };
+    for part in target {
+        if is_of_target(part, slot) && !front.join(alloc, source, target, &taken, part, slot)? {
+            return Ok(Some(part.name));
+        }
+    }
+    Ok(None)
+}
+
+/// The first partition or store of an update's target, in the order of its table, that breaks a
+/// rule beside those before it.
+///
+/// A partition of the slot keeps the rules of [`bad_partition`](crate::bad_partition), begins with
+/// the source's blocks, as many as it has or all, and has no other block of the source; where it
+/// isn't marked as updated it has the source's blocks and no store. A store stands in the group
+/// `cow`, its partition is there and marked as updated, and it has no block of the source. No block
+/// stands twice. The source is the other slot's, whose own partitions keep their rules. `NoMemory`
+/// where memory is refused.
+pub fn bad_target(
+    alloc: Global,
+    source: &Table,
+    target: &Table,
+    slot: usize,
+) -> Result<Option<Name36>, NoMemory>
+    requires slot { slot < 2 }
+    requires source_keeps { KeepsRules source.now }
+    requires target_keeps { KeepsRules target.now }
+    requires source_own { IsOwn (other_slot slot) (layout_of source.now).parts }
+    // None exactly where the target keeps all of its rules.
+    ensures kept { IfOk result (λ bad. IsNone bad
+        ↔ IsTarget slot (layout_of source.now).parts (layout_of target.now).parts) }
+    ensures first { IfOk result (λ bad. IfSome bad
+        (IsFirstBad slot (layout_of source.now).parts (layout_of target.now).parts)) }
+{
+    let source = Layout::of_table(alloc, source)?;
+    let target = Layout::of_table(alloc, target)?;
+    first_bad(
+        alloc,
+        source.parts.as_slice(),
+        target.parts.as_slice(),
+        slot,
+    )
+}
