@@ -5,7 +5,7 @@ use crate::texts::UNLIMITED;
 use std::alloc::Global;
 use std::test::*;
 use vab_bootctl::{Control, ControlFault, Info, encode_control_into};
-use vab_device::StartFault;
+use vab_device::{PhaseKind, StartFault};
 use vab_disk::{CallKind, Disk, MemPort};
 use vab_gate::DiskFault;
 use vab_geometry::{Geometry, encode_geometry};
