@@ -1,8 +1,8 @@
 -- What is promised of a command.
-use Rattle.std.specs.Prelude.{◌≡◌, ℕ, List, Result, Ok, IfOk, OnOk}
+use Rattle.std.specs.Prelude.{◌≡◌, ℕ, List, Result, Ok, IfOk, OnOk, is_some}
 use Rattle.vab_disk.specs.declared.disk.Disk.{Ghosts}
 use Rattle.vab_disk.specs.Disk.{Outcome, Adds}
-use Rattle.vab_disk.specs.Calls.{FailsWithDisk, IsAtRest, IsQuiet, Touches}
+use Rattle.vab_disk.specs.Calls.{FailsWithDisk, IsAtRest, IsQuiet, Touches, Changes}
 use Rattle.vab_gate.specs.declared.gate.DiskFault.{DiskFault}
 use Rattle.vab_model.specs.declared.command.Reply.{Reply}
 use Rattle.vab_model.specs.Commands.{Command}
@@ -11,7 +11,7 @@ use Rattle.vab_device.specs.declared.device.Device.{Device}
 use Rattle.vab_device.specs.Kept.{IsDevice}
 use Rattle.vab_device.specs.Mounted.{Mounted, mounted_on, effect_on}
 use Rattle.vab_device.specs.Reading.{device, Represents}
-use Rattle.vab_manager.specs.Controls.{IsOfCommand}
+use Rattle.vab_manager.specs.Controls.{IsOfCommand, IsOfCommands}
 
 -- with nothing more told, the disk is one of these devices
 pub record LeavesStep (told : List ℕ) (size : ℕ) (steps : List Mounted) (o : Outcome) : Type 0 where
@@ -45,3 +45,10 @@ pub record DoesCommand {D : Type 0}
       (LeavesStep (g.told old) (g.size old)
       (steps_of (mounted_on d (g.seen old)) (effect_on (mounted_on d (g.seen old)) command)))
   pub faults : FailsWithDisk g old new result
+
+-- What commands do to the sectors of a device, one behind the other, whatever is heard and told:
+-- each sector reads and may be left by a crash as before, but for boot control's, which holds a
+-- boot control that the boot rules make of the old one; the same in each outcome since.
+abbrev pub ChangesControl : {D : Type 0} → Ghosts D → Device → D → D → Type 0
+ChangesControl g d old new =
+    Changes g (IsOfCommands d.control (is_some d.a) (is_some d.b) (g.seen old 4)) old new

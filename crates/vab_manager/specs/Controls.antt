@@ -69,9 +69,14 @@ abbrev pub controls_by : (a b : Bool) → List Command → Control → Control
 controls_by a b [] c = c
 controls_by a b (command ∷ commands) c = controls_by a b commands (control_by a b command c)
 
--- What commands may write, one behind the other: a boot control that the boot rules make of the old one
--- by some of them, of both slots.
-pub record IsOfCommands (c : Control) (a b : Bool) (old : List ℕ) (s : ℕ) (bytes : List ℕ) : Type 0 where
+-- What commands may write, one behind the other: a boot control that the boot rules make of the
+-- old one by some of them, of both slots.
+pub record IsOfCommands
+    (c : Control)
+    (a b : Bool)
+    (old : List ℕ)
+    (s : ℕ)
+    (bytes : List ℕ) : Type 0 where
   pub commands : List Command
   pub writes : IsControl (controls_by a b commands c) old s bytes
 

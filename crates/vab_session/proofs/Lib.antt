@@ -1,3 +1,4 @@
+mod Changing
 mod Data
 mod Endings
 mod Plain

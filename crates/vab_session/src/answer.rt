@@ -7,6 +7,7 @@ ghost use Rattle.vab_device.specs.Reading.{Represents};
 ghost use Rattle.vab_fbproto.specs.Requests.{Asked, Do, Download, request_of};
 ghost use Rattle.vab_fbproto.specs.declared.request.BadCommand.{BadCommand};
 ghost use Rattle.vab_model.specs.Commands.{command_of};
+ghost use Rattle.vab_manager.specs.Commands.{ChangesControl};
 ghost use Rattle.vab_exchanges.specs.Session.{ends_session};
 ghost use Rattle.vab_exchanges.specs.Reading.{stands_at, rest_of, beyond_of, room_of, total_of};
 ghost use Rattle.vab_exchanges.specs.Reading.{count_of, most_of, IsFed};
@@ -45,6 +46,7 @@ fn tell_still<P: Port>(p: &mut P, kept: KeptDevice, text: &[u8]) -> Result<KeptD
         → (let k = kept_on kept (P.seen p.old) in response k.now k.staged asked ≡ still text.now)
         → AnswersOrFails (P.size p.old) P.Disk (kept_on kept (P.seen p.old))
         command before before beyond count total most p.old p.new result }
+    ensures changes { P.is_modelled → ChangesControl P.Disk kept.device p.old p.new }
     ensures cause { HasCause P.Disk p.old p.new result }
 {
     match tell_reply(p, text) {
@@ -75,6 +77,7 @@ fn carry_out<P: Port>(
         response k.now k.staged asked ≡ response k.now k.staged (Ok (Do (command_of command.now))))
         → AnswersOrFails (P.size p.old) P.Disk (kept_on kept (P.seen p.old))
         packet before before beyond count total most p.old p.new result }
+    ensures changes { P.is_modelled → ChangesControl P.Disk kept.device p.old p.new }
     ensures cause { HasCause P.Disk p.old p.new result }
 {
     let KeptDevice { device, staged } = kept;
@@ -104,6 +107,7 @@ fn command<P: Port>(p: &mut P, kept: KeptDevice, packet: &[u8]) -> Result<KeptDe
         → (before beyond : List ℕ) (count total most : ℕ)
         → AnswersOrFails (P.size p.old) P.Disk (kept_on kept (P.seen p.old))
         packet.now before before beyond count total most p.old p.new result }
+    ensures changes { P.is_modelled → ChangesControl P.Disk kept.device p.old p.new }
     ensures cause { HasCause P.Disk p.old p.new result }
 {
     match read_command(packet) {
@@ -153,6 +157,7 @@ fn download<P: Port>(
         (count_of reader.old (P.input_left p.old))
         (total_of reader.old (P.input_left p.old))
         (most_of reader.old) p.old p.new result }
+    ensures changes { P.is_modelled → ChangesControl P.Disk kept.device p.old p.new }
     ensures cause { HasCause P.Disk p.old p.new result }
 {
     if size > MAX_DATA {
@@ -245,6 +250,7 @@ pub(crate) fn answer<P: Port>(
         (count_of reader.old (P.input_left p.old))
         (total_of reader.old (P.input_left p.old))
         (most_of reader.old) p.old p.new result }
+    ensures changes { P.is_modelled → ChangesControl P.Disk kept.device p.old p.new }
     ensures cause { HasCause P.Disk p.old p.new result }
 {
     match announced(packet) {

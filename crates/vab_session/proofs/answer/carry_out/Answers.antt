@@ -1,9 +1,11 @@
 use Rattle.std.proofs.Common.{◌≡◌, inl, ◌∙◌, ap, subst}
+use Rattle.vab_disk.proofs.CallLaws.{changes_telling, changes_then}
 use Rattle.vab_model.specs.Commands.{command_of}
 use Rattle.vab_model.specs.Effects.{after_of}
 use Rattle.vab_device.specs.Mounted.{Mounted, mounted_on, effect_on}
 use Rattle.vab_device.specs.Reading.{IsIn}
 use Rattle.vab_device.proofs.ReadingLaws.{device_stands}
+use Rattle.vab_manager.proofs.ChangeLaws.{command_changes}
 use Rattle.vab_fbproto.specs.Texts.{reply_text}
 use Rattle.vab_session.specs.Served.{kept_on}
 use Rattle.vab_session.proofs.Data.{command_before, command_done, command_told}
@@ -67,3 +69,26 @@ returns-in-Err-tell_reply-clause-does g c =
     c.tell_reply.new.p c.as_slice.result.now text_is stands (λ rest. ok.rest t rest)
     (c.tell_reply.ensures.seen t) (c.tell_reply.ensures.crash t) (c.tell_reply.ensures.heard t)
     (c.tell_reply.ensures.time t) (c.tell_reply.ensures.front t))
+
+pub returns-in-Err-clause-changes : goal.returns-in-Err-clause-changes
+returns-in-Err-clause-changes g c = λ t.
+    command_changes g.P.Disk c.args.kept.device (command_of c.args.command.now)
+    c.args.p.now c.run_one.new.d (c.run_one.ensures.touches t)
+
+pub returns-in-Ok-tell_reply-clause-changes : goal.returns-in-Ok-tell_reply-clause-changes
+returns-in-Ok-tell_reply-clause-changes g c = λ t.
+    let said = c.tell_reply.ensures in
+    changes_then g.P.Disk _ c.args.p.now c.run_one.new.d c.tell_reply.new.p
+    (command_changes g.P.Disk c.args.kept.device (command_of c.args.command.now)
+    c.args.p.now c.run_one.new.d (c.run_one.ensures.touches t))
+    (changes_telling g.P.Disk _ _ c.run_one.new.d c.tell_reply.new.p
+    said.size said.seen said.crash said.time)
+
+pub returns-in-Err-tell_reply-clause-changes : goal.returns-in-Err-tell_reply-clause-changes
+returns-in-Err-tell_reply-clause-changes g c = λ t.
+    let said = c.tell_reply.ensures in
+    changes_then g.P.Disk _ c.args.p.now c.run_one.new.d c.tell_reply.new.p
+    (command_changes g.P.Disk c.args.kept.device (command_of c.args.command.now)
+    c.args.p.now c.run_one.new.d (c.run_one.ensures.touches t))
+    (changes_telling g.P.Disk _ _ c.run_one.new.d c.tell_reply.new.p
+    said.size said.seen said.crash said.time)

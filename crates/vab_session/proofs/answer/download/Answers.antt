@@ -4,6 +4,7 @@ use Rattle.vab_disk.specs.Disk.{Image, Adds, Nothing}
 use Rattle.vab_disk.specs.declared.disk.Disk.{Ghosts}
 use Rattle.vab_disk.specs.Port.{LeavesSaying}
 use Rattle.vab_disk.proofs.Moments.{adds_still}
+use Rattle.vab_disk.proofs.CallLaws.{changes_telling, changes_then}
 use Rattle.vab_device.specs.Mounted.{Mounted}
 use Rattle.vab_device.specs.Reading.{IsIn}
 use Rattle.vab_device.proofs.ReadingLaws.{device_stands}
@@ -21,6 +22,7 @@ use Rattle.vab_session.specs.Responses.{response}
 use Rattle.vab_session.specs.Served.{kept_on, Fails, HasCause}
 use Rattle.vab_session.specs.declared.fault.SessionFault.{SessionFault}
 use Rattle.vab_session.proofs.Data.{data_fails, same_holds, read_cause}
+use Rattle.vab_session.proofs.Changing.{changes_listening}
 use Rattle.vab_session.proofs.answer.download.Goals as goal
 
 some_wanted : (n : ℕ) → (n ≡ 0 → false ≡ true) → 0 < n
@@ -315,3 +317,65 @@ returns-clause-does g c = λ t command is.
     (heard_time g.P.Disk old mid heard (packet (data_text size))
     (data_time g.P.Disk old mid c.as_slice.result.now size text (said.time t)) (listens.time t))
     (last.time t) (kept_on kept' image) refl (c.in-Ok-tell_reply-3.ensures.told t))
+
+pub returns-in-Ok-clause-changes : goal.returns-in-Ok-clause-changes
+returns-in-Ok-clause-changes g c = λ t.
+    let said = c.tell_reply.ensures in
+    changes_telling g.P.Disk _ _ c.args.p.now c.tell_reply.new.p
+    said.size said.seen said.crash said.time
+
+pub returns-in-Err-clause-changes : goal.returns-in-Err-clause-changes
+returns-in-Err-clause-changes g c = λ t.
+    let said = c.tell_reply.ensures in
+    changes_telling g.P.Disk _ _ c.args.p.now c.tell_reply.new.p
+    said.size said.seen said.crash said.time
+
+pub returns-in-Ok-tell_reply-clause-changes : goal.returns-in-Ok-tell_reply-clause-changes
+returns-in-Ok-tell_reply-clause-changes g c = λ t.
+    let said = c.tell_reply-in-Err-with_capacity.ensures in
+    changes_telling g.P.Disk _ _ c.args.p.now c.tell_reply-in-Err-with_capacity.new.p
+    said.size said.seen said.crash said.time
+
+pub returns-in-Err-tell_reply-clause-changes : goal.returns-in-Err-tell_reply-clause-changes
+returns-in-Err-tell_reply-clause-changes g c = λ t.
+    let said = c.tell_reply-in-Err-with_capacity.ensures in
+    changes_telling g.P.Disk _ _ c.args.p.now c.tell_reply-in-Err-with_capacity.new.p
+    said.size said.seen said.crash said.time
+
+pub returns-in-Err-tell_reply-2-clause-changes : goal.returns-in-Err-tell_reply-2-clause-changes
+returns-in-Err-tell_reply-2-clause-changes g c = λ t.
+    let said = c.tell_reply-2.ensures in
+    changes_telling g.P.Disk _ _ c.args.p.now c.tell_reply-2.new.p
+    said.size said.seen said.crash said.time
+
+pub returns-in-Err-data-clause-changes : goal.returns-in-Err-data-clause-changes
+returns-in-Err-data-clause-changes g c = λ t.
+    let said = c.tell_reply-2.ensures in
+    changes_then g.P.Disk _ c.args.p.now c.tell_reply-2.new.p c.data.new.p
+    (changes_telling g.P.Disk _ _ c.args.p.now c.tell_reply-2.new.p
+    said.size said.seen said.crash said.time)
+    (changes_listening g.P.Disk _ _ _ c.tell_reply-2.new.p c.data.new.p c.data.ensures.listens)
+
+pub returns-in-Err-tell_reply-3-clause-changes : goal.returns-in-Err-tell_reply-3-clause-changes
+returns-in-Err-tell_reply-3-clause-changes g c = λ t.
+    let said = c.tell_reply-2.ensures in
+    let last = c.tell_reply-3.ensures in
+    changes_then g.P.Disk _ c.args.p.now c.data.new.p c.tell_reply-3.new.p
+    (changes_then g.P.Disk _ c.args.p.now c.tell_reply-2.new.p c.data.new.p
+    (changes_telling g.P.Disk _ _ c.args.p.now c.tell_reply-2.new.p
+    said.size said.seen said.crash said.time)
+    (changes_listening g.P.Disk _ _ _ c.tell_reply-2.new.p c.data.new.p c.data.ensures.listens))
+    (changes_telling g.P.Disk _ _ c.data.new.p c.tell_reply-3.new.p
+    last.size last.seen last.crash last.time)
+
+pub returns-clause-changes : goal.returns-clause-changes
+returns-clause-changes g c = λ t.
+    let said = c.tell_reply-2.ensures in
+    let last = c.tell_reply-3.ensures in
+    changes_then g.P.Disk _ c.args.p.now c.data.new.p c.tell_reply-3.new.p
+    (changes_then g.P.Disk _ c.args.p.now c.tell_reply-2.new.p c.data.new.p
+    (changes_telling g.P.Disk _ _ c.args.p.now c.tell_reply-2.new.p
+    said.size said.seen said.crash said.time)
+    (changes_listening g.P.Disk _ _ _ c.tell_reply-2.new.p c.data.new.p c.data.ensures.listens))
+    (changes_telling g.P.Disk _ _ c.data.new.p c.tell_reply-3.new.p
+    last.size last.seen last.crash last.time)

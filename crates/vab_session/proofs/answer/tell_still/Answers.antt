@@ -1,5 +1,6 @@
 use Rattle.std.proofs.Common.{inl, sym, subst}
 use Rattle.vab_disk.specs.Disk.{Image}
+use Rattle.vab_disk.proofs.CallLaws.{changes_telling}
 use Rattle.vab_device.specs.Reading.{IsIn}
 use Rattle.vab_device.proofs.ReadingLaws.{device_stands}
 use Rattle.vab_exchanges.specs.Runs.{Answers}
@@ -35,3 +36,15 @@ returns-in-Err-clause-does g c = λ t command before beyond count total most ask
     none c.args.text.now same old c.tell_reply.new.p stands
     (c.tell_reply.ensures.seen t) (c.tell_reply.ensures.crash t)
     (c.tell_reply.ensures.heard t) (c.tell_reply.ensures.time t) (c.tell_reply.ensures.front t))
+
+pub returns-in-Ok-clause-changes : goal.returns-in-Ok-clause-changes
+returns-in-Ok-clause-changes g c = λ t.
+    let said = c.tell_reply.ensures in
+    changes_telling g.P.Disk _ _ c.args.p.now c.tell_reply.new.p
+    said.size said.seen said.crash said.time
+
+pub returns-in-Err-clause-changes : goal.returns-in-Err-clause-changes
+returns-in-Err-clause-changes g c = λ t.
+    let said = c.tell_reply.ensures in
+    changes_telling g.P.Disk _ _ c.args.p.now c.tell_reply.new.p
+    said.size said.seen said.crash said.time

@@ -1,6 +1,6 @@
 use Rattle.std.proofs.Common.{◌≡◌, ℕ, ◌∙◌, min, true, false, List, Some, None, Ok, Err, refl, sym}
 use Rattle.std.proofs.Common.{ap, subst, rules}
-use Rattle.vab_disk.proofs.CallLaws.{fewer_then}
+use Rattle.vab_disk.proofs.CallLaws.{fewer_then, changes_none, changes_then}
 use Rattle.vab_device.specs.declared.device.Device.{Device}
 use Rattle.vab_device.specs.Kept.{IsDevice}
 use Rattle.vab_device.specs.Mounted.{mounted_on}
@@ -15,6 +15,7 @@ use Rattle.vab_session.specs.Responses.{response}
 use Rattle.vab_session.specs.Served.{kept_on, HeldBy, Says}
 use Rattle.vab_session.proofs.Endings.{moved, some_is, heard_on, does_moved, read_fails}
 use Rattle.vab_session.proofs.Endings.{answer_fails}
+use Rattle.vab_session.proofs.Changing.{changes_listening, changes_answered}
 use Rattle.vab_session.proofs.session.answer_all.Goals as goal
 
 pub returns-in-Ok-false-clause-ran : goal.returns-in-Ok-false-clause-ran
@@ -189,6 +190,11 @@ loop-packet-preserved g c =
           subst
           (λ (n : ℕ). Represents c.in-Ok.next.device n (g.P.Disk.seen c.answer.new.p))
           sizes (c.in-Ok.ensures.stands t);
+      changes = λ t.
+          changes_answered g.P.Disk (g.P.Disk.size c.args.p.now) c.args.kept.device
+          c.loop-packet.kept.device _ _ c.args.p.now c.loop-packet.p c.packet.new.p c.answer.new.p
+          t c.requires.device i.device (c.requires.stands t) (i.stands t) (i.changes t)
+          c.packet.ensures.listens (c.answer.ensures.changes t);
       counts =
           fewer_then _ _ _ (fewer_then _ _ _ i.counts ok.listens.counts)
           c.answer.ensures.cause.counts;
@@ -251,6 +257,7 @@ loop-packet-init g c =
       size = refl;
       device = c.requires.device;
       stands = c.requires.stands;
+      changes = λ t. changes_none g.P.Disk _ old;
       counts = search rules;
       steady = refl;
       progress = λ t told greeted.
@@ -258,3 +265,31 @@ loop-packet-init g c =
           (kept_on c.args.kept (g.P.Disk.seen old)) told old greeted
           (device_stands c.args.kept.device N (g.P.Disk.seen old) (c.requires.stands t));
     }
+
+pub returns-in-Ok-false-clause-changes : goal.returns-in-Ok-false-clause-changes
+returns-in-Ok-false-clause-changes g c = λ t.
+    changes_then g.P.Disk _ c.args.p.now c.loop-packet.p c.packet.new.p
+    (c.loop-packet.invariant.changes t)
+    (changes_listening g.P.Disk _ _ _ c.loop-packet.p c.packet.new.p c.packet.ensures.listens)
+
+pub returns-in-Err-clause-changes : goal.returns-in-Err-clause-changes
+returns-in-Err-clause-changes g c = λ t.
+    changes_then g.P.Disk _ c.args.p.now c.loop-packet.p c.packet.new.p
+    (c.loop-packet.invariant.changes t)
+    (changes_listening g.P.Disk _ _ _ c.loop-packet.p c.packet.new.p c.packet.ensures.listens)
+
+pub returns-in-Err-answer-clause-changes : goal.returns-in-Err-answer-clause-changes
+returns-in-Err-answer-clause-changes g c = λ t.
+    let i = c.loop-packet.invariant in
+    changes_answered g.P.Disk (g.P.Disk.size c.args.p.now) c.args.kept.device
+    c.loop-packet.kept.device _ _ c.args.p.now c.loop-packet.p c.packet.new.p c.answer.new.p
+    t c.requires.device i.device (c.requires.stands t) (i.stands t) (i.changes t)
+    c.packet.ensures.listens (c.answer.ensures.changes t)
+
+pub returns-then-is_last-clause-changes : goal.returns-then-is_last-clause-changes
+returns-then-is_last-clause-changes g c = λ t.
+    let i = c.loop-packet.invariant in
+    changes_answered g.P.Disk (g.P.Disk.size c.args.p.now) c.args.kept.device
+    c.loop-packet.kept.device _ _ c.args.p.now c.loop-packet.p c.packet.new.p c.answer.new.p
+    t c.requires.device i.device (c.requires.stands t) (i.stands t) (i.changes t)
+    c.packet.ensures.listens (c.answer.ensures.changes t)

@@ -1,15 +1,19 @@
 use Rattle.std.proofs.Common.{◌≡◌, ℕ, ◌+◌, ◌++◌, ◌∙◌, min, true, List, None, Err, length, take}
 use Rattle.std.proofs.Common.{drop, codes, sym, ap, subst, arith, rules, length-take, get_or}
 use Rattle.std.proofs.Common.{get_or-drop, take-append-drop}
+use Rattle.std.specs.Prelude.{is_some}
 use Rattle.vab_disk.specs.Disk.{Image, Adds, Nothing}
 use Rattle.vab_disk.specs.Calls.{IsAtRest}
 use Rattle.vab_disk.proofs.Moments.{adds_still}
 use Rattle.vab_disk.specs.declared.disk.Disk.{Ghosts}
+use Rattle.vab_disk.specs.Calls.{Changes}
+use Rattle.vab_disk.proofs.CallLaws.{changes_telling, changes_then}
 use Rattle.vab_fbtcp.specs.Hello.{is_hello}
 use Rattle.vab_device.specs.declared.device.Device.{Device}
 use Rattle.vab_device.specs.Mounted.{Mounted, mounted_on}
 use Rattle.vab_device.specs.Reading.{IsIn}
 use Rattle.vab_device.proofs.ReadingLaws.{device_stands}
+use Rattle.vab_manager.specs.Controls.{IsOfCommands}
 use Rattle.vab_exchanges.specs.Session.{HasNoHello}
 use Rattle.vab_exchanges.specs.Hearing.{HearsWhere, IsHeardFor}
 use Rattle.vab_exchanges.specs.Reading.{rest_of, beyond_of, all_of, total_of, count_of, most_of}
@@ -27,6 +31,7 @@ use Rattle.vab_session.specs.Responses.{response}
 use Rattle.vab_session.specs.Served.{nothing_staged, Held, HeldBy, Says, HasCause, reached}
 use Rattle.vab_session.proofs.Data.{read_cause}
 use Rattle.vab_session.proofs.Endings.{moved, hello_fails}
+use Rattle.vab_session.proofs.Changing.{changes_listening}
 use Rattle.vab_session.proofs.session.serve_up_to.Goals as goal
 
 pub returns-then-is_err-clause-serves : goal.returns-then-is_err-clause-serves
@@ -222,3 +227,36 @@ returns-clause-serves g c = λ t.
     (nothing_staged (mounted_on device q.2)) (g.P.Disk.told old) mid new)
     (λ i. (sizes i, room i, seen i))
     ran)
+
+pub returns-then-is_err-clause-changes : goal.returns-then-is_err-clause-changes
+returns-then-is_err-clause-changes g c = λ t.
+    let said = c.say_all.ensures in
+    changes_telling g.P.Disk _ _ c.args.p.now c.say_all.new.p
+    said.size said.seen said.crash said.time
+
+pub returns-in-Err-clause-changes : goal.returns-in-Err-clause-changes
+returns-in-Err-clause-changes g c = λ t.
+    let said = c.say_all.ensures in
+    changes_then g.P.Disk _ c.args.p.now c.say_all.new.p c.hello.new.p
+    (changes_telling g.P.Disk _ _ c.args.p.now c.say_all.new.p
+    said.size said.seen said.crash said.time)
+    (changes_listening g.P.Disk _ _ _ c.say_all.new.p c.hello.new.p c.hello.ensures.listens)
+
+pub returns-clause-changes : goal.returns-clause-changes
+returns-clause-changes g c = λ t.
+    let said = c.say_all.ensures in
+    let d = c.args.device in
+    let old = c.args.p.now in
+    let mid = c.hello.new.p in
+    let new = c.answer_all.new.p in
+    let seen : g.P.Disk.seen mid ≡ g.P.Disk.seen old =
+    c.hello.ensures.listens.seen t ∙ c.say_all.ensures.seen t in
+    changes_then g.P.Disk _ old mid new
+    (changes_then g.P.Disk _ old c.say_all.new.p mid
+    (changes_telling g.P.Disk _ _ old c.say_all.new.p said.size said.seen said.crash said.time)
+    (changes_listening g.P.Disk _ _ _ c.say_all.new.p mid c.hello.ensures.listens))
+    (subst
+    (λ (image : Image).
+    Changes g.P.Disk
+    (IsOfCommands d.control (is_some d.a) (is_some d.b) (image 4)) mid new)
+    seen (c.answer_all.ensures.changes t))
