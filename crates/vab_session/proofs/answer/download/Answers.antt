@@ -321,27 +321,32 @@ returns-clause-does g c = λ t command is.
 pub returns-in-Ok-clause-changes : goal.returns-in-Ok-clause-changes
 returns-in-Ok-clause-changes g c = λ t.
     let said = c.tell_reply.ensures in
-    changes_telling g.P.Disk _ _ c.args.p.now c.tell_reply.new.p said.size said.seen said.crash said.time
+    changes_telling g.P.Disk _ _ c.args.p.now c.tell_reply.new.p
+    said.size said.seen said.crash said.time
 
 pub returns-in-Err-clause-changes : goal.returns-in-Err-clause-changes
 returns-in-Err-clause-changes g c = λ t.
     let said = c.tell_reply.ensures in
-    changes_telling g.P.Disk _ _ c.args.p.now c.tell_reply.new.p said.size said.seen said.crash said.time
+    changes_telling g.P.Disk _ _ c.args.p.now c.tell_reply.new.p
+    said.size said.seen said.crash said.time
 
 pub returns-in-Ok-tell_reply-clause-changes : goal.returns-in-Ok-tell_reply-clause-changes
 returns-in-Ok-tell_reply-clause-changes g c = λ t.
     let said = c.tell_reply-in-Err-with_capacity.ensures in
-    changes_telling g.P.Disk _ _ c.args.p.now c.tell_reply-in-Err-with_capacity.new.p said.size said.seen said.crash said.time
+    changes_telling g.P.Disk _ _ c.args.p.now c.tell_reply-in-Err-with_capacity.new.p
+    said.size said.seen said.crash said.time
 
 pub returns-in-Err-tell_reply-clause-changes : goal.returns-in-Err-tell_reply-clause-changes
 returns-in-Err-tell_reply-clause-changes g c = λ t.
     let said = c.tell_reply-in-Err-with_capacity.ensures in
-    changes_telling g.P.Disk _ _ c.args.p.now c.tell_reply-in-Err-with_capacity.new.p said.size said.seen said.crash said.time
+    changes_telling g.P.Disk _ _ c.args.p.now c.tell_reply-in-Err-with_capacity.new.p
+    said.size said.seen said.crash said.time
 
 pub returns-in-Err-tell_reply-2-clause-changes : goal.returns-in-Err-tell_reply-2-clause-changes
 returns-in-Err-tell_reply-2-clause-changes g c = λ t.
     let said = c.tell_reply-2.ensures in
-    changes_telling g.P.Disk _ _ c.args.p.now c.tell_reply-2.new.p said.size said.seen said.crash said.time
+    changes_telling g.P.Disk _ _ c.args.p.now c.tell_reply-2.new.p
+    said.size said.seen said.crash said.time
 
 pub returns-in-Err-data-clause-changes : goal.returns-in-Err-data-clause-changes
 returns-in-Err-data-clause-changes g c = λ t.

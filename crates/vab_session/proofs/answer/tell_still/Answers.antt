@@ -40,9 +40,11 @@ returns-in-Err-clause-does g c = λ t command before beyond count total most ask
 pub returns-in-Ok-clause-changes : goal.returns-in-Ok-clause-changes
 returns-in-Ok-clause-changes g c = λ t.
     let said = c.tell_reply.ensures in
-    changes_telling g.P.Disk _ _ c.args.p.now c.tell_reply.new.p said.size said.seen said.crash said.time
+    changes_telling g.P.Disk _ _ c.args.p.now c.tell_reply.new.p
+    said.size said.seen said.crash said.time
 
 pub returns-in-Err-clause-changes : goal.returns-in-Err-clause-changes
 returns-in-Err-clause-changes g c = λ t.
     let said = c.tell_reply.ensures in
-    changes_telling g.P.Disk _ _ c.args.p.now c.tell_reply.new.p said.size said.seen said.crash said.time
+    changes_telling g.P.Disk _ _ c.args.p.now c.tell_reply.new.p
+    said.size said.seen said.crash said.time

@@ -231,7 +231,8 @@ returns-clause-serves g c = λ t.
 pub returns-then-is_err-clause-changes : goal.returns-then-is_err-clause-changes
 returns-then-is_err-clause-changes g c = λ t.
     let said = c.say_all.ensures in
-    changes_telling g.P.Disk _ _ c.args.p.now c.say_all.new.p said.size said.seen said.crash said.time
+    changes_telling g.P.Disk _ _ c.args.p.now c.say_all.new.p
+    said.size said.seen said.crash said.time
 
 pub returns-in-Err-clause-changes : goal.returns-in-Err-clause-changes
 returns-in-Err-clause-changes g c = λ t.
