@@ -2,6 +2,11 @@
 //! by a fastboot session.
 #![tactic(auto)]
 
+ghost use Rattle.std.specs.Prelude.{◌≡◌, ◌⊎◌, ℕ, List, IsOkAnd, IfErr, replicate};
+ghost use Rattle.std.specs.Str.Parse.{digits_value};
+ghost use Rattle.vab_real.specs.Cells.{size_of, HasImage};
+ghost use Rattle.vab.specs.Word.{AsksMemory};
+
 mod usage;
 mod word;
 
@@ -34,7 +39,14 @@ fn words_of<R: Env + AllocGlobal>(rt: &R) -> Option<Vec<String>> {
 }
 
 // The port of the device that the first word names, or the status to end with.
-fn open_port(rt: &HostRuntime, word: &str) -> Result<FilePort<Stdin, Stdout>, u8> {
+fn open_port(rt: &HostRuntime, word: &str) -> Result<FilePort<Stdin, Stdout>, u8>
+    // A word that asks for memory gets as many sectors of zeros as it says.
+    ensures memory { (digits : List ℕ)
+        → AsksMemory word.now digits
+        → IsOkAnd result (λ port. (size_of port.cells ≡ digits_value 10 digits)
+        × HasImage port.cells (λ sector. replicate 512 0)) }
+    ensures status { IfErr result (λ status. (status ≡ NO_MEMORY) ⊎ (status ≡ NOT_OPENED)) }
+{
     match parse_device(word) {
         Device::Memory(sectors) => {
             let sectors = u64::from(sectors);

@@ -1,5 +1,6 @@
--- What the program's answer is.
-use Rattle.std.specs.Prelude.{◌≡◌, ◌≢◌, ℕ, ◌≤◌, ◌^◌, List, [], length, map, All, Any, Result, Err}
+-- What the program's answer is, of its words and of what is known of the files that they name.
+use Rattle.std.specs.Prelude.{◌≡◌, ◌≢◌, ◌⊎◌, ℕ, ◌<◌, ◌≤◌, ◌^◌, List, [], ◌∷◌, ◌++◌, length, Option}
+use Rattle.std.specs.Prelude.{Some, IfSome, IsErrAnd, Result}
 use Rattle.vab_set.specs.declared.set.SetImage.{SetImage}
 use Rattle.vab_set.specs.Spelling.{IsImage, IsSet, set_text}
 use Rattle.vab_pack.specs.Asked.{Asked, Ask}
@@ -10,58 +11,123 @@ use Rattle.vab_pack.specs.Faults.{IsFaultOf}
 use Rattle.vabpack.specs.declared.refusal.Refusal.{Refusal}
 use Rattle.vabpack.specs.declared.refusal.Refusal.TheVariants as refusals
 
--- an image of this name with a file's bytes, which can stand in a set
-pub record IsImageOf (asked : Asked) (image : SetImage) : Type 0 where
+-- the bytes of the file at a path, where they are known
+abbrev pub Contents : Type 0
+Contents = List ℕ → Option (List ℕ)
+
+-- ---- the set
+
+-- an image of this name with all bytes of its file, which can stand in a set
+pub record IsImageOf (files : Contents) (asked : Asked) (image : SetImage) : Type 0 where
   pub whole : image ≡ image_of asked.name image.bytes
+  pub bytes : IfSome (files asked.path) (λ bytes. image.bytes ≡ bytes)
+  pub short : length image.bytes ≤ 2 ^ 32
   pub fits : IsImage image
 
--- images of these names, one for each, each with a file's bytes
-pub record AreImagesOf (asked : List Asked) (images : List SetImage) : Type 0 where
-  pub names : map (λ i. i.name) images ≡ map (λ a. a.name) asked
-  pub whole : All (λ i. i ≡ image_of i.name i.bytes) images
-  pub fits : All IsImage images
+-- an image for each, in their order
+abbrev pub AreImagesOf : Contents → List Asked → List SetImage → Type 0
+AreImagesOf files [] [] = Unit {0}
+AreImagesOf files (asked ∷ rest) (image ∷ images) =
+    IsImageOf files asked image × AreImagesOf files rest images
+AreImagesOf files _ _ = ⊥
 
--- the one spelling of a set of images that the words ask for
-pub record IsPacked (words : List (List ℕ)) (bytes : List ℕ) : Type 0 where
-  pub some : words ≢ []
-  pub asked : List Asked
-  pub asks : Ask words asked
+-- the one spelling of the set of their images, which is no longer than a set may be
+pub record IsSetOf (files : Contents) (asked : List Asked) (bytes : List ℕ) : Type 0 where
   pub images : List SetImage
-  pub files : AreImagesOf asked images
+  pub each : AreImagesOf files asked images
   pub set : IsSet images
   pub spelled : bytes ≡ set_text images
   pub short : length bytes ≤ 2 ^ 32
+
+-- the set that the words ask for, and there are words
+pub record IsPacked (files : Contents) (words : List (List ℕ)) (bytes : List ℕ) : Type 0 where
+  pub some : words ≢ []
+  pub asked : List Asked
+  pub asks : Ask words asked
+  pub set : IsSetOf files asked bytes
+
+-- ---- why there is none
 
 -- why there is no set where words have a fault
 abbrev pub refusal_of : WordFault → Refusal
 refusal_of faults.NoMemory = refusals.NoMemory
 refusal_of fault = refusals.Words fault
 
--- one of these has its file at this path
-abbrev pub HasPath : List Asked → List ℕ → Type 0
-HasPath asked path = Any (λ a. a.path ≡ path) asked
+-- the file at a path is longer than a set may be, where its bytes are known
+abbrev pub IsLong : Contents → List ℕ → Type 0
+IsLong files path = IfSome (files path) (λ bytes. 2 ^ 32 < length bytes)
 
--- why there is no set where these are asked for: a file at one of their paths, or want of memory
-abbrev pub IsOfFiles : List Asked → Refusal → Type 0
-IsOfFiles asked (refusals.TooLarge path) = HasPath asked path.now
-IsOfFiles asked (refusals.File path fault) = HasPath asked path.now
-IsOfFiles asked refusals.NoMemory = Unit {0}
-IsOfFiles asked _ = ⊥
+-- why there is no image of this one: its file is too long or can't be read, or want of memory
+abbrev pub IsOfFile : Contents → Asked → Refusal → Type 0
+IsOfFile files asked (refusals.TooLarge path) =
+    (asked.path ≡ path.now) × IsLong files path.now
+IsOfFile files asked (refusals.File path fault) = asked.path ≡ path.now
+IsOfFile files asked refusals.NoMemory = Unit {0}
+IsOfFile files asked _ = ⊥
+
+-- the first of these without an image has none for this reason
+pub record StopsAt (files : Contents) (asked : List Asked) (refusal : Refusal) : Type 0 where
+  pub before : List Asked
+  pub images : List SetImage
+  pub at : Asked
+  pub behind : List Asked
+  pub whole : asked ≡ before ++ at ∷ behind
+  pub each : AreImagesOf files before images
+  pub reason : IsOfFile files at refusal
+
+-- why there is no set where these are asked for: a file, a set that is too long, or want of memory
+abbrev pub IsOfSet : Contents → List Asked → Refusal → Type 0
+IsOfSet files asked refusals.SetTooLarge =
+    (images : List SetImage) × AreImagesOf files asked images × (2 ^ 32 < length (set_text images))
+IsOfSet files asked refusals.NoMemory = Unit {0}
+IsOfSet files asked refusal = StopsAt files asked refusal
+
+-- why there is no set where these are the words
+abbrev pub IsCause : Contents → List (List ℕ) → Refusal → Type 0
+IsCause files words refusals.NoWords = words ≡ []
+IsCause files words (refusals.Words fault) = IsFaultOf words fault
+IsCause files words refusals.NoMemory = words ≢ []
+IsCause files words refusal = (asked : List Asked) × Ask words asked × IsOfSet files asked refusal
+
+-- ---- where each reason holds, it comes
+
+-- refused so, unless memory was refused
+abbrev pub RefusesWith : {V : Type 0} → Result V Refusal → Refusal → Type 0
+RefusesWith result refusal = IsErrAnd result (λ e. (e ≡ refusals.NoMemory) ⊎ (e ≡ refusal))
+
+-- a file is too long or can't be read, or memory was refused
+abbrev pub IsAboutFiles : Refusal → Type 0
+IsAboutFiles (refusals.TooLarge path) = Unit {0}
+IsAboutFiles (refusals.File path fault) = Unit {0}
+IsAboutFiles refusals.NoMemory = Unit {0}
+IsAboutFiles _ = ⊥
+
+-- the set is too long, a file can't be read, or memory was refused
+abbrev pub IsAboutSet : Refusal → Type 0
+IsAboutSet refusals.SetTooLarge = Unit {0}
+IsAboutSet (refusals.File path fault) = Unit {0}
+IsAboutSet refusals.NoMemory = Unit {0}
+IsAboutSet _ = ⊥
+
+-- images of files of these bytes
+abbrev pub AreKnownAs : Contents → List Asked → List SetImage → Type 0
+AreKnownAs files [] [] = Unit {0}
+AreKnownAs files (asked ∷ rest) (image ∷ images) =
+    (files asked.path ≡ Some image.bytes)
+    × (image ≡ image_of asked.name image.bytes)
+    × (length image.bytes ≤ 2 ^ 32)
+    × AreKnownAs files rest images
+AreKnownAs files _ _ = ⊥
+
+-- one of these has a file that is known to be longer than a set may be
+abbrev pub HasLong : Contents → List Asked → Type 0
+HasLong files [] = ⊥
+HasLong files (asked ∷ rest) =
+    ((bytes : List ℕ) × (files asked.path ≡ Some bytes) × (2 ^ 32 < length bytes))
+    ⊎ HasLong files rest
 
 -- the program's status: the words aren't taken, a file can't be read, or memory was refused
 abbrev pub status_of : Refusal → ℕ
 status_of (refusals.File path fault) = 9
 status_of refusals.NoMemory = 8
 status_of _ = 2
-
--- the words are refused with their fault, and else they ask for images, but where memory was
--- refused
-abbrev pub Answers : {V : Type 0} → Result V Refusal → List (List ℕ) → Type 0
-Answers (Err refusals.NoWords) words = words ≡ []
-Answers (Err (refusals.Words fault)) words = IsFaultOf words fault
-Answers (Err (refusals.TooLarge path)) words =
-    (asked : List Asked) × Ask words asked × HasPath asked path.now
-Answers (Err (refusals.File path fault)) words =
-    (asked : List Asked) × Ask words asked × HasPath asked path.now
-Answers (Err refusals.NoMemory) words = words ≢ []
-Answers _ words = (asked : List Asked) × Ask words asked

@@ -6,6 +6,7 @@ ghost use Rattle.std.specs.Io.KnownBytes.{Appends};
 
 mod pack;
 mod refusal;
+mod source;
 
 use pack::pack;
 use refusal::Refusal;
@@ -47,7 +48,7 @@ fn main(rt: HostRuntime) -> ExitCode {
         Some(words) => words,
         None => return ExitCode::from(Refusal::NoMemory.status()),
     };
-    match pack(&rt, &words) {
+    match pack(rt.alloc(), &rt, &words) {
         Ok(bytes) => ExitCode::from(write_out(&mut rt.stdout(), &bytes)),
         Err(refusal) => {
             refusal.explain(&rt, &words);

@@ -1,48 +1,33 @@
 //! The bytes of the set that words ask for.
 
-ghost use Rattle.std.specs.Prelude.{◌≡◌, ◌+◌, ◌^◌, take, IfOk, IfSome, IfErr, All, [], ◌∷◌, map};
-ghost use Rattle.std.specs.Prelude.{string_bytes};
-ghost use Rattle.vab_pack.specs.Asked.{IsAsked};
-ghost use Rattle.vabpack.specs.Packed.{Answers, IsImageOf, IsOfFiles, AreImagesOf, IsPacked};
+ghost use Rattle.std.specs.Prelude.{◌≡◌, ◌⊎◌, ◌<◌, ◌≤◌, ◌^◌, List, [], length, map, All, IfOk};
+ghost use Rattle.std.specs.Prelude.{IfErr, IsErrAnd, string_bytes};
+ghost use Rattle.vab_set.specs.declared.set.SetImage.{SetImage as Image};
+ghost use Rattle.vab_set.specs.Spelling.{IsSet, set_text};
+ghost use Rattle.vab_pack.specs.Asked.{Asked, IsAsked, Ask};
+ghost use Rattle.vab_pack.specs.Faults.{IsFaultOf};
+ghost use Rattle.vab_pack.specs.Images.{NamesOfSet};
+ghost use Rattle.vab_pack.specs.declared.fault.WordFault.{WordFault as Fault};
+ghost use Rattle.vabpack.specs.Packed.{IsImageOf, AreImagesOf, IsSetOf, IsPacked, IsOfFile};
+ghost use Rattle.vabpack.specs.Packed.{StopsAt, IsOfSet, IsCause, RefusesWith, HasLong};
+ghost use Rattle.vabpack.specs.Packed.{IsAboutFiles, IsAboutSet, AreKnownAs};
 
 use crate::Refusal;
+use crate::source::{MAX_BYTES, Source};
 use std::alloc::Global;
-use std::fs::File;
-use std::io::{self, Read};
-use std::rt::Files;
+use std::io;
 use vab_bytes::Listing;
 use vab_pack::{Entry, parse_words, set_image};
 use vab_set::{SetImage, write_set};
 
-/// The most bytes of a set, as the program that takes it has it.
-const MAX_BYTES: u64 = 1 << 32;
-
-// What is left to read, up to one byte more than a set may have.
-fn read_whole<F: Read + Drop>(alloc: Global, file: F) -> io::Result<Vec<u8>>
-    ensures { IfOk result
-        (λ v. IfSome (F.remaining file) (λ rest. v.items ≡ take (2 ^ 32 + 1) rest)) }
-{
-    let mut bytes = Vec::new(alloc);
-    file.take(MAX_BYTES + 1).read_to_end(&mut bytes)?;
-    Ok(bytes)
-}
-
-// The bytes of a file.
-fn read_file<R: Files + AllocGlobal>(rt: &R, path: &str) -> io::Result<Vec<u8>> {
-    read_whole(rt.alloc(), File::open(rt, path)?)
-}
-
 // The image that an entry asks for.
-fn read_image<'a, R: Files + AllocGlobal>(
-    rt: &R,
-    entry: &Entry<'a>,
-) -> Result<SetImage, Refusal<'a>>
+fn read_image<'a, S: Source>(source: &S, entry: &Entry<'a>) -> Result<SetImage, Refusal<'a>>
     requires { IsAsked entry.now }
-    ensures image { IfOk result (IsImageOf entry.now) }
-    ensures refused { IfErr result (IsOfFiles (entry.now ∷ [])) }
+    ensures image { IfOk result (IsImageOf (S.bytes_at source.now) entry.now) }
+    ensures refused { IfErr result (IsOfFile (S.bytes_at source.now) entry.now) }
 {
     let path = entry.path();
-    let bytes = match read_file(rt, path) {
+    let bytes = match source.read_file(path) {
         Ok(bytes) => bytes,
         Err(fault) if fault.kind() == io::ErrorKind::OutOfMemory => return Err(Refusal::NoMemory),
         Err(fault) => return Err(Refusal::File(path, fault)),
@@ -54,35 +39,88 @@ fn read_image<'a, R: Files + AllocGlobal>(
 }
 
 // The images that the entries ask for.
-fn read_images<'a, R: Files + AllocGlobal>(
-    rt: &R,
+fn read_images<'a, S: Source>(
+    alloc: Global,
+    source: &S,
     entries: &[Entry<'a>],
 ) -> Result<Vec<SetImage>, Refusal<'a>>
     requires { All IsAsked entries.now }
-    ensures images { IfOk result (λ v. AreImagesOf entries.now v.items) }
-    ensures refused { IfErr result (IsOfFiles entries.now) }
+    ensures images { IfOk result (λ v. AreImagesOf (S.bytes_at source.now) entries.now v.items) }
+    ensures refused { IfErr result (λ e. (e ≡ Refusal.NoMemory)
+        ⊎ StopsAt (S.bytes_at source.now) entries.now e) }
 {
-    let mut images = Vec::new(rt.alloc());
+    let mut images = Vec::new(alloc);
     for entry in entries {
-        let image = read_image(rt, entry)?;
+        let image = read_image(source, entry)?;
         images.push(image)?;
     }
     Ok(images)
 }
 
-/// The bytes of the set that the words ask for.
-pub fn pack<'a, R: Files + AllocGlobal>(rt: &R, words: &'a [String]) -> Result<Vec<u8>, Refusal<'a>>
-    ensures packed { IfOk result (λ v. IsPacked (map string_bytes words.entry.now) v.items) }
-    ensures refused { Answers result (map string_bytes words.entry.now) }
+// The one spelling of a set, where it is no longer than a set may be.
+fn spell<'a>(alloc: Global, images: &Listing<SetImage>) -> Result<Vec<u8>, Refusal<'a>>
+    requires { IsSet images.now }
+    ensures spelled { IfOk result (λ v. v.items ≡ set_text images.now) }
+    ensures short { IfOk result (λ v. length v.items ≤ 2 ^ 32) }
+    ensures refused { IfErr result (λ e. (e ≡ Refusal.NoMemory)
+        ⊎ ((e ≡ Refusal.SetTooLarge) × (2 ^ 32 < length (set_text images.now)))) }
 {
-    if words.is_empty() {
-        return Err(Refusal::NoWords);
-    }
-    let entries = parse_words(rt.alloc(), words)?;
-    let images = Listing::from_vec(read_images(rt, &entries)?);
-    let set = write_set(rt.alloc(), &images)?;
+    let set = write_set(alloc, images)?;
     if set.len() as u64 > MAX_BYTES {
         return Err(Refusal::SetTooLarge);
     }
     Ok(set)
+}
+
+// The bytes of the set of the images that the entries ask for.
+fn pack_entries<'a, S: Source>(
+    alloc: Global,
+    source: &S,
+    entries: &[Entry<'a>],
+) -> Result<Vec<u8>, Refusal<'a>>
+    requires asked { All IsAsked entries.now }
+    requires names { NamesOfSet entries.now }
+    ensures set { IfOk result (λ v. IsSetOf (S.bytes_at source.now) entries.now v.items) }
+    ensures refused { IfErr result (IsOfSet (S.bytes_at source.now) entries.now) }
+{
+    let images = Listing::from_vec(read_images(alloc, source, entries)?);
+    spell(alloc, &images)
+}
+
+/// The bytes of the set that the words ask for.
+pub fn pack<'a, S: Source>(
+    alloc: Global,
+    source: &S,
+    words: &'a [String],
+) -> Result<Vec<u8>, Refusal<'a>>
+    // What comes is the set of the files.
+    ensures packed { IfOk result
+        (λ v. IsPacked (S.bytes_at source.now) (map string_bytes words.entry.now) v.items) }
+    // A refusal comes only where its reason holds.
+    ensures refused { IfErr result
+        (IsCause (S.bytes_at source.now) (map string_bytes words.entry.now)) }
+    // Where there is no word, that is the refusal.
+    ensures none { words.entry.now ≡ [] → IsErrAnd result (λ e. e ≡ Refusal.NoWords) }
+    // Where the words have a fault, it is refused with, unless memory is refused.
+    ensures faulty { (fault : Fault)
+        → IsFaultOf (map string_bytes words.entry.now) fault
+        → RefusesWith result (Refusal.Words fault) }
+    // Where a file is too long, a file is refused, unless memory is refused.
+    ensures long { (asked : List Asked)
+        → Ask (map string_bytes words.entry.now) asked
+        → HasLong (S.bytes_at source.now) asked
+        → IsErrAnd result IsAboutFiles }
+    // Where the set is too long, that is the refusal, unless a file can't be read or memory is
+    // refused.
+    ensures large { (asked : List Asked) (images : List Image)
+        → Ask (map string_bytes words.entry.now) asked
+        → AreKnownAs (S.bytes_at source.now) asked images
+        → 2 ^ 32 < length (set_text images)
+        → IsErrAnd result IsAboutSet }
+{
+    if words.is_empty() {
+        return Err(Refusal::NoWords);
+    }
+    let entries = parse_words(alloc, words)?;
+    pack_entries(alloc, source, &entries)
 }

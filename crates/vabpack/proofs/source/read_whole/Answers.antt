@@ -1,5 +1,5 @@
 use Rattle.std.proofs.Common.{◌≡◌, List, ℕ, [], ◌++◌, Option, Some, None, take, option_map, IfSome, ap, ◌∙◌}
-use Rattle.vabpack.proofs.pack.read_whole.Goals as goal
+use Rattle.vabpack.proofs.source.read_whole.Goals as goal
 
 taken : (limit : ℕ) (left : Option (List ℕ)) (old new : List ℕ) → old ≡ [] → IfSome (option_map (take limit) left) (λ xs. new ≡ old ++ xs) → IfSome left (λ rest. new ≡ take limit rest)
 taken limit None old new none h = tt
