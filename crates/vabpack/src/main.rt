@@ -14,6 +14,9 @@ use std::env::{self, Env};
 use std::io::Write;
 use std::process::ExitCode;
 
+// Alone it asks for the usage; it is no image.
+const HELP: &str = "--help";
+
 const NOT_WRITTEN: u8 = 7;
 
 // The words behind the program's name, or nothing where they can't be had.
@@ -48,10 +51,14 @@ fn main(rt: HostRuntime) -> ExitCode {
         Some(words) => words,
         None => return ExitCode::from(Refusal::NoMemory.status()),
     };
-    match pack(rt.alloc(), &rt, &words) {
+    let words = match words.as_slice() {
+        [first, rest @ ..] if first.as_str() == HELP && rest.is_empty() => rest,
+        all => all,
+    };
+    match pack(rt.alloc(), &rt, words) {
         Ok(bytes) => ExitCode::from(write_out(&mut rt.stdout(), &bytes)),
         Err(refusal) => {
-            refusal.explain(&rt, &words);
+            refusal.explain(&rt, words);
             ExitCode::from(refusal.status())
         }
     }

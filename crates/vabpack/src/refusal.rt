@@ -9,8 +9,14 @@ use vab_pack::WordFault;
 use vab_set::NoMemory;
 
 const USAGE: &str = "usage: vabpack NAME=FILE..\n\
-    a set on standard output, with an image for each of up to 32 words: its name, \
-    1 to 30 of A-Z a-z 0-9 _ ., and the file with its bytes";
+    A set of images on the output, as `vab DEVICE make` takes it, one for each of 1 to 32 words.\n\
+    \u{20} NAME             the partition's name without its slot, 1 to 30 of A-Z a-z 0-9 _ .\n\
+    \u{20} FILE             the file with its bytes\n\
+    statuses: 0 done, 2 the words aren't taken, or a set would be longer than 2^32 bytes,\n\
+    \u{20} 7 the output failed, 8 memory was refused, 9 a file can't be read\n\
+    examples:\n\
+    \u{20} vabpack system=system.img >images.set\n\
+    \u{20} vabpack system=system.img vendor=vendor.img | vab dev.img make";
 
 /// Why there is no set.
 #[derive(Debug, Drop)]
