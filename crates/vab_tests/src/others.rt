@@ -184,7 +184,7 @@ fn opened_of_all(
     for stop in 0..200u64 {
         let (cut, left) = is_cut(rt, alloc, d, runs, stop)?;
         if !cut {
-            return Ok((opened, left));
+            return Ok((opened, left.next_run(Vec::new(alloc))));
         }
         let (opens, left) = opens(alloc, left)?;
         opened = opened.saturating_add(u64::from(opens));
