@@ -10,6 +10,7 @@ ghost use Rattle.vab_tests.specs.Updates.{AreSlots, IsSource, IsUpdated};
 use crate::sets::text_of_many;
 use crate::sources::{LIMITED, UNLIMITED};
 use std::alloc::Global;
+use std::process::Abort;
 use std::test::*;
 use vab_builder::{Edit, EditFault, apply, import, without_stores};
 use vab_layout::Layout;
@@ -318,59 +319,69 @@ fn a_store_takes_the_blocks_behind_a_larger_partition(rt: HostRuntime) -> Result
     Ok(())
 }
 
-// The system has the source's 100 blocks and 50 behind that of `p`, and its store 100 behind these.
+// Makes each edit of an update once, of the partitions `system` and two others; the name that isn't
+// the target's is refused. The system has the source's 100 blocks and 50 behind that of the created
+// partition, and its store 100 behind these.
+fn each_edit(
+    rt: &impl Abort,
+    alloc: Global,
+    update: &Update<'_>,
+    names: [&[u8]; 4],
+) -> Result<(), Fail>
+    requires { AreSlots update.now.from update.now.to }
+{
+    let [system, created, deleted, other] = names;
+    let edits = [
+        Edit::Create(created, 4096),
+        Edit::Create(deleted, 8192),
+        Edit::Resize(created, 4095),
+        Edit::Delete(deleted),
+        Edit::Resize(system, 614400),
+        Edit::AddStore(system, 409600),
+    ];
+    let (target, alone) = tables_after(alloc, update, &edits)?;
+    assert_eq!(rt; text_size(alloc, &target)?, 840);
+    assert_eq!(rt;
+        extents(alloc, &target)?.as_slice(),
+        [
+            (800, 2048),
+            (800, 2048),
+            (400, 2856),
+            (8, 2848),
+            (800, 3256)
+        ]
+        .as_slice()
+    );
+    assert_eq!(rt; text_size(alloc, &alone)?, 592);
+    assert_eq!(rt;
+        extents(alloc, &alone)?.as_slice(),
+        [(800, 2048), (400, 2856), (8, 2848)].as_slice()
+    );
+    for (edit, fault) in [
+        (Edit::Create(other, 0), EditFault::BadName),
+        (Edit::Create(created, 0), EditFault::Exists),
+        (Edit::Delete(deleted), EditFault::Unknown),
+        (Edit::Delete(system), EditFault::HasStore),
+        (Edit::Resize(system, 0), EditFault::HasStore),
+        (Edit::AddStore(system, 0), EditFault::HasStore),
+        (
+            Edit::AddStore(created, 8192),
+            EditFault::TableFull(916, 900),
+        ),
+        (Edit::Resize(created, 28672), EditFault::NoRoom(257, 256)),
+    ] {
+        let refused = refusal_after(alloc, update, &edits, &edit)?;
+        assert_eq!(rt; refused, Some(fault));
+    }
+    Ok(())
+}
+
 #[test]
 fn both_slots_are_updated_alike_and_lose_their_stores(rt: HostRuntime) -> Result<(), Fail> {
     let alloc = rt.alloc();
-    for (update, system, created, deleted, other) in [
-        (TO_B, SYSTEM, b"p_b".as_slice(), b"q_b".as_slice(), b"p_a"),
-        (TO_A, b"system_a", b"p_a", b"q_a", b"p_b"),
-    ] {
-        let edits = [
-            Edit::Create(created, 4096),
-            Edit::Create(deleted, 8192),
-            Edit::Resize(created, 4095),
-            Edit::Delete(deleted),
-            Edit::Resize(system, 614400),
-            Edit::AddStore(system, 409600),
-        ];
-        let (target, alone) = tables_after(alloc, &update, &edits)?;
-        assert_eq!(rt; text_size(alloc, &target)?, 840);
-        assert_eq!(rt;
-            extents(alloc, &target)?.as_slice(),
-            [
-                (800, 2048),
-                (800, 2048),
-                (400, 2856),
-                (8, 2848),
-                (800, 3256)
-            ]
-            .as_slice()
-        );
-        assert_eq!(rt; text_size(alloc, &alone)?, 592);
-        assert_eq!(rt;
-            extents(alloc, &alone)?.as_slice(),
-            [(800, 2048), (400, 2856), (8, 2848)].as_slice()
-        );
-        for (edit, fault) in [
-            (Edit::Create(other, 0), EditFault::BadName),
-            (Edit::Create(created, 0), EditFault::Exists),
-            (Edit::Delete(deleted), EditFault::Unknown),
-            (Edit::Delete(system), EditFault::HasStore),
-            (Edit::Resize(system, 0), EditFault::HasStore),
-            (Edit::AddStore(system, 0), EditFault::HasStore),
-            (
-                Edit::AddStore(created, 8192),
-                EditFault::TableFull(916, 900),
-            ),
-            (Edit::Resize(created, 28672), EditFault::NoRoom(257, 256)),
-        ] {
-            let short = Update { max: 900, ..update };
-            let refused = refusal_after(alloc, &short, &edits, &edit)?;
-            assert_eq!(rt; refused, Some(fault));
-        }
-    }
-    Ok(())
+    let (to_b, to_a) = (Update { max: 900, ..TO_B }, Update { max: 900, ..TO_A });
+    each_edit(&rt, alloc, &to_b, [SYSTEM, b"p_b", b"q_b", b"p_a"])?;
+    each_edit(&rt, alloc, &to_a, [b"system_a", b"p_a", b"q_a", b"p_b"])
 }
 
 #[test]
