@@ -7,11 +7,17 @@ mod downloads;
 #[cfg(test)]
 mod faults;
 #[cfg(test)]
+mod others;
+#[cfg(test)]
 mod ports;
 #[cfg(test)]
 mod runs;
 #[cfg(test)]
 mod sessions;
+#[cfg(test)]
+mod sets;
+#[cfg(test)]
+mod slots;
 #[cfg(test)]
 mod sources;
 #[cfg(test)]

@@ -1,5 +1,6 @@
 // Runs over a port in memory, each on the disk that the one before has left.
 
+use crate::sessions::sector;
 use std::alloc::Global;
 use std::process::Abort;
 use std::test::Fail;
@@ -36,14 +37,14 @@ pub(crate) fn port(alloc: Global, sectors: u64, input: &[u8]) -> Result<MemPort,
 /// A run: its words, its input, its status, and what it tells.
 pub(crate) type Step<'a> = (&'a [&'a str], &'a [u8], u8, &'a [u8]);
 
-/// Runs these steps on a disk of so many sectors of zeros, one after another, and gives the port.
-pub(crate) fn steps(
+/// Runs these steps on the port's disk, one after another, and gives the port.
+pub(crate) fn steps_on(
     rt: &impl Abort,
     alloc: Global,
-    sectors: u64,
+    port: MemPort,
     steps: &[Step<'_>],
 ) -> Result<MemPort, Fail> {
-    let mut port = port(alloc, sectors, b"")?;
+    let mut port = port;
     for (texts, input, status, told) in steps {
         port = port.next_run(input.to_vec(alloc)?);
         let words = words(alloc, texts)?;
@@ -52,6 +53,16 @@ pub(crate) fn steps(
         assert_eq!(rt; port.told(), *told, "{texts:?}");
     }
     Ok(port)
+}
+
+/// Runs these steps on a disk of so many sectors of zeros, one after another, and gives the port.
+pub(crate) fn steps(
+    rt: &impl Abort,
+    alloc: Global,
+    sectors: u64,
+    steps: &[Step<'_>],
+) -> Result<MemPort, Fail> {
+    steps_on(rt, alloc, port(alloc, sectors, b"")?, steps)
 }
 
 const FRESH: &[&str] = &["serve", "--fresh"];
@@ -133,15 +144,29 @@ fn too_few_sectors_and_no_device_are_status_5(rt: HostRuntime) -> Result<(), Fai
 
 #[test]
 fn words_that_ask_for_nothing_are_status_2(rt: HostRuntime) -> Result<(), Fail> {
-    let cases: [Step; 6] = [
+    let five = ["make", "--limit", "4096", "--metadata-max", "1024"];
+    let cases: [Step; 9] = [
         (&[], b"", 2, b""),
         (&["merge", "0"], b"", 2, b""),
         (&["activate", "c"], b"", 2, b""),
         (&["make", "--limit", "x"], NONE, 2, b""),
         (&["make", "--metadata-max", "513"], NONE, 2, b""),
         (&["--help"], b"", 2, b""),
+        (
+            &["make", "--limit", "4096", "--metadata-max", "1024", "x"],
+            &ONE,
+            2,
+            b"",
+        ),
+        (&["serve", "--fresh", "a", "b", "c", "d"], b"FB01", 2, b""),
+        (&["boot", "", "", "", "", ""], b"", 2, b""),
     ];
-    steps(&rt, rt.alloc(), SECTORS, &cases)?;
+    let mut d = steps(&rt, rt.alloc(), SECTORS, &cases)?;
+    for at in 0..SECTORS {
+        assert_eq!(rt; sector(&mut d, at), Some([0; 512]));
+    }
+    let made = b"made 1 images, 1 of 256 blocks\n";
+    steps_on(&rt, rt.alloc(), d, &[(&five, &ONE, 0, made)])?;
     Ok(())
 }
 

@@ -1,12 +1,13 @@
 // What sessions write, and where they end.
 
 use crate::runs::{ONE, SECTORS, Step, port, steps, words};
+use std::alloc::Global;
 use std::test::Fail;
 use vab_cli::run;
 use vab_disk::{CallKind, Disk, MemPort};
 
-// A sector of the disk, where it is on it and can be read.
-fn sector(d: &mut MemPort, at: u64) -> Option<[u8; 512]> {
+/// A sector of the disk, where it is on it and can be read.
+pub(crate) fn sector(d: &mut MemPort, at: u64) -> Option<[u8; 512]> {
     let mut sector = [0u8; 512];
     if at >= d.sectors() || d.read_sector(at, &mut sector).is_err() {
         return None;
@@ -14,16 +15,36 @@ fn sector(d: &mut MemPort, at: u64) -> Option<[u8; 512]> {
     Some(sector)
 }
 
-// Another byte in a sector, where it is on the disk and can be written.
-fn damage(d: &mut MemPort, at: u64, byte: usize, value: u8) -> bool {
+/// The bytes of so many sectors from one on.
+pub(crate) fn text_at(
+    alloc: Global,
+    d: &mut MemPort,
+    at: u64,
+    count: u64,
+) -> Result<Vec<u8>, Fail> {
+    let mut text = Vec::new(alloc);
+    for index in 0..count {
+        let bytes = sector(d, at.saturating_add(index)).ok_or("a sector is read")?;
+        text.extend_from_slice(&bytes)?;
+    }
+    Ok(text)
+}
+
+/// Writes a sector, where it is on the disk and can be written.
+pub(crate) fn put(d: &mut MemPort, at: u64, bytes: &[u8; 512]) -> bool {
+    at < d.sectors() && d.write_sector(at, bytes).is_ok() && d.sync().is_ok()
+}
+
+/// Another byte in a sector, where it is on the disk and can be written.
+pub(crate) fn damage(d: &mut MemPort, at: u64, byte: usize, value: u8) -> bool {
     let Some(mut bytes) = sector(d, at) else {
         return false;
     };
-    if byte >= 512 || at >= d.sectors() {
+    if byte >= 512 {
         return false;
     }
     bytes[byte] = value;
-    d.write_sector(at, &bytes).is_ok() && d.sync().is_ok()
+    put(d, at, &bytes)
 }
 
 const FRESH: &[&str] = &["serve", "--fresh"];

@@ -4,124 +4,172 @@ ghost use Rattle.std.specs.Prelude.{◌≡◌, ◌<◌, ◌^◌, true, IfOk};
 ghost use Rattle.vab_tables.specs.Rules.{KeepsRules};
 ghost use Rattle.vab_tables.specs.Spelling.{table_size_of};
 ghost use Rattle.vab_layout.specs.Layout.{layout_of};
-ghost use Rattle.vab_layout.specs.Slots.{IsOwn, IsTarget};
+ghost use Rattle.vab_layout.specs.Slots.{IsOwn};
+ghost use Rattle.vab_tests.specs.Updates.{AreSlots, IsSource, IsUpdated};
 
+use crate::sets::text_of_many;
 use crate::sources::{LIMITED, UNLIMITED};
 use std::alloc::Global;
+use std::process::Abort;
 use std::test::*;
 use vab_builder::{Edit, EditFault, apply, import, without_stores};
 use vab_layout::Layout;
 use vab_partitions::bad_partition;
 use vab_tables::{Table, decode_table, encode_table};
 
+/// An update: the text of a table of slot a, the slots of its source and of its target, and the
+/// most bytes of a copy of a table. Where the source is slot b, it is what an update of b without
+/// edits makes of the text.
+#[derive(Clone, Copy)]
+pub(crate) struct Update<'a> {
+    pub text: &'a [u8],
+    pub from: usize,
+    pub to: usize,
+    pub max: u32,
+}
+
+const TO_B: Update<'static> = Update {
+    text: &UNLIMITED,
+    from: 0,
+    to: 1,
+    max: 1024,
+};
+
+const TO_A: Update<'static> = Update {
+    text: &UNLIMITED,
+    from: 1,
+    to: 0,
+    max: 1024,
+};
+
 // Whether a table has so few entries that its text is short.
 fn is_small(table: &Table) -> bool
     ensures { result ≡ true → table_size_of table.now < 2 ^ 24 }
 {
-    table.partitions.len() < 9
-        && table.extents.len() < 9
-        && table.groups.len() < 9
-        && table.devices.len() < 9
+    table.partitions.len() < 99
+        && table.extents.len() < 99
+        && table.groups.len() < 99
+        && table.devices.len() < 99
 }
 
-// The table of a device's slot a.
-fn source(alloc: Global, text: &[u8]) -> Result<Table, Fail>
-    ensures rules { IfOk result (λ t. KeepsRules t) }
-    ensures small { IfOk result (λ t. table_size_of t < 2 ^ 24) }
-    ensures own { IfOk result (λ t. IsOwn 0 (layout_of t).parts) }
+// The table of slot a that a text spells.
+fn spelled(alloc: Global, text: &[u8], max: u32) -> Result<Table, Fail>
+    ensures { IfOk result (λ t. IsSource 0 t) }
 {
-    let table = decode_table(alloc, text, 1024)?;
+    let table = decode_table(alloc, text, max)?;
     match bad_partition(alloc, &table, 0)? {
         None if is_small(&table) => Ok(table),
         _ => Err(Fail::from("a small table of a good slot")),
     }
 }
 
-// The table that an update of slot b begins with.
-fn begun(alloc: Global, source: &Table) -> Result<Table, Fail>
-    requires keeps { KeepsRules source.now }
-    requires small { table_size_of source.now < 2 ^ 24 }
-    requires own { IsOwn 0 (layout_of source.now).parts }
-    ensures keeps { IfOk result (λ t. KeepsRules t) }
-    ensures small { IfOk result (λ t. table_size_of t < 2 ^ 24) }
-    ensures target { IfOk result
-        (λ t. IsTarget 1 (layout_of source.now).parts (layout_of t).parts) }
-    ensures device { IfOk result (λ t. source.now.devices ≡ t.devices) }
+// The table that an update from a slot to the other one begins with.
+fn begun(alloc: Global, source: &Table, from: usize, to: usize, max: u32) -> Result<Table, Fail>
+    requires slots { AreSlots from to }
+    requires source { IsSource from source.now }
+    ensures { IfOk result (λ t. IsUpdated to source.now t) }
 {
-    Ok(import(alloc, source, 0, 1024)?)
+    let begun = import(alloc, source, from, max)?;
+    if !is_small(&begun) {
+        return Err("a small table".into());
+    }
+    Ok(begun)
+}
+
+// The table of a slot alone.
+fn alone(alloc: Global, table: &Table, slot: usize) -> Result<Table, Fail>
+    requires slot { slot < 2 }
+    requires keeps { KeepsRules table.now }
+    requires small { table_size_of table.now < 2 ^ 24 }
+    requires own { IsOwn slot (layout_of table.now).parts }
+    ensures { IfOk result (λ t. IsSource slot t) }
+{
+    let alone = without_stores(alloc, table, slot)?;
+    if !is_small(&alone) {
+        return Err("a small table".into());
+    }
+    Ok(alone)
+}
+
+// The table of slot b alone after an update without edits of slot a, whose table a text spells.
+fn of_slot_b(alloc: Global, text: &[u8], max: u32) -> Result<Table, Fail>
+    ensures { IfOk result (λ t. IsSource 1 t) }
+{
+    let source = spelled(alloc, text, max)?;
+    let target = begun(alloc, &source, 0, 1, max)?;
+    alone(alloc, &target, 1)
+}
+
+/// The text of the table of slot b alone after an update without edits of slot a, whose table this
+/// text spells.
+pub(crate) fn text_of_slot_b(alloc: Global, text: &[u8], max: u32) -> Result<Vec<u8>, Fail> {
+    let table = of_slot_b(alloc, text, max)?;
+    Ok(encode_table(alloc, &table)?)
+}
+
+// The table of the update's source.
+fn source(alloc: Global, update: &Update<'_>) -> Result<Table, Fail>
+    requires { AreSlots update.now.from update.now.to }
+    ensures { IfOk result (λ t. IsSource update.now.from t) }
+{
+    match update.from {
+        0 => spelled(alloc, update.text, update.max),
+        _ => of_slot_b(alloc, update.text, update.max),
+    }
 }
 
 // The table after an edit that is made.
-fn edited(alloc: Global, source: &Table, target: &Table, edit: &Edit) -> Result<Table, Fail>
-    requires keeps { KeepsRules source.now }
-    requires small { table_size_of source.now < 2 ^ 24 }
-    requires own { IsOwn 0 (layout_of source.now).parts }
-    requires target_keeps { KeepsRules target.now }
-    requires target_small { table_size_of target.now < 2 ^ 24 }
-    requires target { IsTarget 1 (layout_of source.now).parts (layout_of target.now).parts }
-    requires device { source.now.devices ≡ target.now.devices }
-    ensures keeps { IfOk result (λ t. KeepsRules t) }
-    ensures small { IfOk result (λ t. table_size_of t < 2 ^ 24) }
-    ensures target { IfOk result
-        (λ t. IsTarget 1 (layout_of source.now).parts (layout_of t).parts) }
-    ensures device { IfOk result (λ t. source.now.devices ≡ t.devices) }
+fn edited(
+    alloc: Global,
+    update: &Update<'_>,
+    source: &Table,
+    target: &Table,
+    edit: &Edit,
+) -> Result<Table, Fail>
+    requires slots { AreSlots update.now.from update.now.to }
+    requires source { IsSource update.now.from source.now }
+    requires target { IsUpdated update.now.to source.now target.now }
+    ensures { IfOk result (λ t. IsUpdated update.now.to source.now t) }
 {
-    Ok(apply(alloc, source, target, 1, edit, 1024)?)
+    let edited = apply(alloc, source, target, update.to, edit, update.max)?;
+    if !is_small(&edited) {
+        return Err("a small table".into());
+    }
+    Ok(edited)
 }
 
 // The table after two edits that are made.
 fn edited_twice(
     alloc: Global,
+    update: &Update<'_>,
     source: &Table,
     target: &Table,
-    first: &Edit,
-    second: &Edit,
+    edits: [&Edit; 2],
 ) -> Result<Table, Fail>
-    requires keeps { KeepsRules source.now }
-    requires small { table_size_of source.now < 2 ^ 24 }
-    requires own { IsOwn 0 (layout_of source.now).parts }
-    requires target_keeps { KeepsRules target.now }
-    requires target_small { table_size_of target.now < 2 ^ 24 }
-    requires target { IsTarget 1 (layout_of source.now).parts (layout_of target.now).parts }
-    requires device { source.now.devices ≡ target.now.devices }
-    ensures keeps { IfOk result (λ t. KeepsRules t) }
-    ensures small { IfOk result (λ t. table_size_of t < 2 ^ 24) }
-    ensures target { IfOk result
-        (λ t. IsTarget 1 (layout_of source.now).parts (layout_of t).parts) }
-    ensures device { IfOk result (λ t. source.now.devices ≡ t.devices) }
+    requires slots { AreSlots update.now.from update.now.to }
+    requires source { IsSource update.now.from source.now }
+    requires target { IsUpdated update.now.to source.now target.now }
+    ensures { IfOk result (λ t. IsUpdated update.now.to source.now t) }
 {
-    let once = edited(alloc, source, target, first)?;
-    edited(alloc, source, &once, second)
+    let once = edited(alloc, update, source, target, edits[0])?;
+    edited(alloc, update, source, &once, edits[1])
 }
 
 // The table of an update after these edits.
-fn after(alloc: Global, source: &Table, edits: &[Edit; 6]) -> Result<Table, Fail>
-    requires keeps { KeepsRules source.now }
-    requires small { table_size_of source.now < 2 ^ 24 }
-    requires own { IsOwn 0 (layout_of source.now).parts }
-    ensures keeps { IfOk result (λ t. KeepsRules t) }
-    ensures small { IfOk result (λ t. table_size_of t < 2 ^ 24) }
-    ensures target { IfOk result
-        (λ t. IsTarget 1 (layout_of source.now).parts (layout_of t).parts) }
-    ensures device { IfOk result (λ t. source.now.devices ≡ t.devices) }
+fn after(
+    alloc: Global,
+    update: &Update<'_>,
+    source: &Table,
+    edits: &[Edit; 6],
+) -> Result<Table, Fail>
+    requires slots { AreSlots update.now.from update.now.to }
+    requires source { IsSource update.now.from source.now }
+    ensures { IfOk result (λ t. IsUpdated update.now.to source.now t) }
 {
-    let begun = begun(alloc, source)?;
-    let two = edited_twice(alloc, source, &begun, &edits[0], &edits[1])?;
-    let four = edited_twice(alloc, source, &two, &edits[2], &edits[3])?;
-    edited_twice(alloc, source, &four, &edits[4], &edits[5])
-}
-
-// The refusal of an edit, if it is refused.
-fn refusal(alloc: Global, source: &Table, target: &Table, edit: &Edit) -> Option<EditFault>
-    requires keeps { KeepsRules source.now }
-    requires small { table_size_of source.now < 2 ^ 24 }
-    requires own { IsOwn 0 (layout_of source.now).parts }
-    requires target_keeps { KeepsRules target.now }
-    requires target_small { table_size_of target.now < 2 ^ 24 }
-    requires target { IsTarget 1 (layout_of source.now).parts (layout_of target.now).parts }
-    requires device { source.now.devices ≡ target.now.devices }
-{
-    apply(alloc, source, target, 1, edit, 1024).err()
+    let begun = begun(alloc, source, update.from, update.to, update.max)?;
+    let two = edited_twice(alloc, update, source, &begun, [&edits[0], &edits[1]])?;
+    let four = edited_twice(alloc, update, source, &two, [&edits[2], &edits[3]])?;
+    edited_twice(alloc, update, source, &four, [&edits[4], &edits[5]])
 }
 
 // The bytes of a small table's text.
@@ -153,36 +201,43 @@ fn blocks(alloc: Global, table: &Table, name: &[u8]) -> Result<Vec<u64>, Fail>
     Ok(Vec::new(alloc))
 }
 
-// The bytes of the text after these edits.
-fn size_after(alloc: Global, edits: &[Edit; 6]) -> Result<usize, Fail> {
-    let source = source(alloc, &UNLIMITED)?;
-    let target = after(alloc, &source, edits)?;
-    text_size(alloc, &target)
-}
-
-// The refusal of an edit after these.
-fn refusal_after(alloc: Global, edits: &[Edit; 6], edit: &Edit) -> Result<Option<EditFault>, Fail> {
-    let source = source(alloc, &UNLIMITED)?;
-    let target = after(alloc, &source, edits)?;
-    Ok(refusal(alloc, &source, &target, edit))
-}
-
-// The blocks of the target's partition `system` after these edits.
-fn system_after(alloc: Global, edits: &[Edit; 6]) -> Result<Vec<u64>, Fail> {
-    let source = source(alloc, &UNLIMITED)?;
-    let target = after(alloc, &source, edits)?;
-    blocks(alloc, &target, b"system_b")
-}
-
-// The extents, as sectors and the first sector, after these edits.
-fn extents_after(alloc: Global, edits: &[Edit; 6]) -> Result<Vec<(u64, u64)>, Fail> {
-    let source = source(alloc, &UNLIMITED)?;
-    let target = after(alloc, &source, edits)?;
+// The extents of a table, as sectors and the first sector.
+fn extents(alloc: Global, table: &Table) -> Result<Vec<(u64, u64)>, Fail> {
     let mut extents = Vec::new(alloc);
-    for extent in target.extents.as_slice() {
+    for extent in table.extents.as_slice() {
         extents.push((extent.sectors, extent.first_sector))?;
     }
     Ok(extents)
+}
+
+// The table of an update after these edits, and that of the target's slot alone.
+fn tables_after(
+    alloc: Global,
+    update: &Update<'_>,
+    edits: &[Edit; 6],
+) -> Result<(Table, Table), Fail>
+    requires { AreSlots update.now.from update.now.to }
+    ensures target { IfOk result (λ t. KeepsRules t.0) }
+    ensures alone { IfOk result (λ t. KeepsRules t.1) }
+{
+    let source = source(alloc, update)?;
+    let target = after(alloc, update, &source, edits)?;
+    let alone = alone(alloc, &target, update.to)?;
+    Ok((target, alone))
+}
+
+/// The refusal of an edit after these.
+pub(crate) fn refusal_after(
+    alloc: Global,
+    update: &Update<'_>,
+    edits: &[Edit; 6],
+    edit: &Edit,
+) -> Result<Option<EditFault>, Fail>
+    requires { AreSlots update.now.from update.now.to }
+{
+    let source = source(alloc, update)?;
+    let target = after(alloc, update, &source, edits)?;
+    Ok(apply(alloc, &source, &target, update.to, edit, update.max).err())
 }
 
 const SYSTEM: &[u8] = b"system_b";
@@ -211,9 +266,10 @@ fn texts_grow_by_76_bytes_until_a_copy_is_full(rt: HostRuntime) -> Result<(), Fa
         ([P1, P2, P3, P4, SAME, SAME], 968),
         ([P1, P2, P3, P4, Edit::Delete(b"p4_b"), P5], 968),
     ] {
-        assert_eq!(rt; size_after(alloc, &edits)?, size);
+        let (target, _) = tables_after(alloc, &TO_B, &edits)?;
+        assert_eq!(rt; text_size(alloc, &target)?, size);
     }
-    let full = refusal_after(alloc, &[P1, P2, P3, P4, SAME, SAME], &P5)?;
+    let full = refusal_after(alloc, &TO_B, &[P1, P2, P3, P4, SAME, SAME], &P5)?;
     assert_eq!(rt; full, Some(EditFault::TableFull(1044, 1024)));
     Ok(())
 }
@@ -233,8 +289,11 @@ fn a_partition_made_smaller_and_larger_has_the_sources_blocks(rt: HostRuntime) -
         ([SAME, SAME, SAME, SAME, Edit::Delete(SYSTEM), made], 100),
     ] {
         let expected: Vec<u64> = (0..count).collect(alloc)?;
-        let blocks = system_after(alloc, &edits)?;
-        assert_eq!(rt; blocks.as_slice(), expected.as_slice());
+        let (target, _) = tables_after(alloc, &TO_B, &edits)?;
+        assert_eq!(rt;
+            blocks(alloc, &target, SYSTEM)?.as_slice(),
+            expected.as_slice()
+        );
     }
     Ok(())
 }
@@ -246,25 +305,93 @@ fn a_store_takes_the_blocks_behind_a_larger_partition(rt: HostRuntime) -> Result
     let store = Edit::AddStore(SYSTEM, 434176);
     let whole = Edit::AddStore(SYSTEM, 0);
     let grown = [SAME, SAME, SAME, SAME, SAME, large];
-    let room = refusal_after(alloc, &grown, &whole)?;
+    let room = refusal_after(alloc, &TO_B, &grown, &whole)?;
     assert_eq!(rt; room, Some(EditFault::NoRoom(302, 256)));
     let stored = [SAME, SAME, SAME, SAME, large, store];
-    assert_eq!(rt; size_after(alloc, &stored)?, 740);
-    let extents = extents_after(alloc, &stored)?;
+    let (target, _) = tables_after(alloc, &TO_B, &stored)?;
+    assert_eq!(rt; text_size(alloc, &target)?, 740);
     assert_eq!(rt;
-        extents.as_slice(),
+        extents(alloc, &target)?.as_slice(),
         [(800, 2048), (1200, 2048), (848, 3248)].as_slice()
     );
-    let twice = refusal_after(alloc, &stored, &store)?;
+    let twice = refusal_after(alloc, &TO_B, &stored, &store)?;
     assert_eq!(rt; twice, Some(EditFault::HasStore));
     Ok(())
+}
+
+// Makes each edit of an update once, of the partitions `system` and two others; the name that isn't
+// the target's is refused. The system has the source's 100 blocks and 50 behind that of the created
+// partition, and its store 100 behind these.
+fn each_edit(
+    rt: &impl Abort,
+    alloc: Global,
+    update: &Update<'_>,
+    names: [&[u8]; 4],
+) -> Result<(), Fail>
+    requires { AreSlots update.now.from update.now.to }
+{
+    let [system, created, deleted, other] = names;
+    let edits = [
+        Edit::Create(created, 4096),
+        Edit::Create(deleted, 8192),
+        Edit::Resize(created, 4095),
+        Edit::Delete(deleted),
+        Edit::Resize(system, 614400),
+        Edit::AddStore(system, 409600),
+    ];
+    let (target, alone) = tables_after(alloc, update, &edits)?;
+    assert_eq!(rt; text_size(alloc, &target)?, 840);
+    assert_eq!(rt;
+        extents(alloc, &target)?.as_slice(),
+        [
+            (800, 2048),
+            (800, 2048),
+            (400, 2856),
+            (8, 2848),
+            (800, 3256)
+        ]
+        .as_slice()
+    );
+    assert_eq!(rt; text_size(alloc, &alone)?, 592);
+    assert_eq!(rt;
+        extents(alloc, &alone)?.as_slice(),
+        [(800, 2048), (400, 2856), (8, 2848)].as_slice()
+    );
+    for (edit, fault) in [
+        (Edit::Create(other, 0), EditFault::BadName),
+        (Edit::Create(created, 0), EditFault::Exists),
+        (Edit::Delete(deleted), EditFault::Unknown),
+        (Edit::Delete(system), EditFault::HasStore),
+        (Edit::Resize(system, 0), EditFault::HasStore),
+        (Edit::AddStore(system, 0), EditFault::HasStore),
+        (
+            Edit::AddStore(created, 8192),
+            EditFault::TableFull(916, 900),
+        ),
+        (Edit::Resize(created, 28672), EditFault::NoRoom(257, 256)),
+    ] {
+        let refused = refusal_after(alloc, update, &edits, &edit)?;
+        assert_eq!(rt; refused, Some(fault));
+    }
+    Ok(())
+}
+
+#[test]
+fn both_slots_are_updated_alike_and_lose_their_stores(rt: HostRuntime) -> Result<(), Fail> {
+    let alloc = rt.alloc();
+    let (to_b, to_a) = (Update { max: 900, ..TO_B }, Update { max: 900, ..TO_A });
+    each_edit(&rt, alloc, &to_b, [SYSTEM, b"p_b", b"q_b", b"p_a"])?;
+    each_edit(&rt, alloc, &to_a, [b"system_a", b"p_a", b"q_a", b"p_b"])
 }
 
 #[test]
 fn edits_are_refused_by_name(rt: HostRuntime) -> Result<(), Fail> {
     let alloc = rt.alloc();
-    let source = source(alloc, &LIMITED)?;
-    let begun = begun(alloc, &source)?;
+    let limited = Update {
+        text: &LIMITED,
+        ..TO_B
+    };
+    let same = [SAME, SAME, SAME, SAME, SAME, SAME];
     for (edit, fault) in [
         (Edit::Create(b"system_a", 0), EditFault::BadName),
         (Edit::Create(b"a-b_b", 0), EditFault::BadName),
@@ -278,19 +405,33 @@ fn edits_are_refused_by_name(rt: HostRuntime) -> Result<(), Fail> {
             EditFault::GroupLimit(413696, 409600),
         ),
     ] {
-        let refused = refusal(alloc, &source, &begun, &edit);
+        let refused = refusal_after(alloc, &limited, &same, &edit)?;
         assert_eq!(rt; refused, Some(fault));
     }
-    let same = edited(alloc, &source, &begun, &Edit::Resize(b"system_b", 409600))?;
-    assert_eq!(rt; text_size(alloc, &same)?, 664);
+    let (target, _) = tables_after(alloc, &limited, &same)?;
+    assert_eq!(rt; text_size(alloc, &target)?, 664);
+    // 32 partitions of a block each; an edit in place of one is taken.
+    let text = text_of_many(&rt, alloc)?;
+    let many = Update {
+        text: text.as_slice(),
+        max: 65536,
+        ..TO_B
+    };
+    let first = Edit::Resize(b"p00_b", 4096);
+    let edits = [first, first, first, first, first, first];
+    let more = refusal_after(alloc, &many, &edits, &Edit::Create(b"x_b", 0))?;
+    assert_eq!(rt; more, Some(EditFault::TooMany(33)));
+    let edits = [first, first, first, first, first, Edit::Delete(b"p31_b")];
+    let more = refusal_after(alloc, &many, &edits, &Edit::Create(b"x_b", 0))?;
+    assert_eq!(rt; more, None);
     Ok(())
 }
 
 #[test]
 fn the_table_of_a_slot_alone(rt: HostRuntime) -> Result<(), Fail> {
     let alloc = rt.alloc();
-    let source = source(alloc, &UNLIMITED)?;
-    let alone = without_stores(alloc, &source, 0)?;
+    let source = source(alloc, &TO_B)?;
+    let alone = alone(alloc, &source, 0)?;
     assert_eq!(rt; text_size(alloc, &alone)?, 492);
     assert_eq!(rt; blocks(alloc, &alone, b"system_a")?.len(), 100);
     Ok(())
