@@ -90,11 +90,11 @@ module _ {D : Type 0}
       → device (g.size old) (g.seen old) ≡ Err fault
       → RunsNone g (g.size old) none_line old new status)
       → (g.is_modelled
-        → (s : Mounted)
-        → IsIn (g.size old) s (g.seen old)
-        → (boot : Control)
-        → control_of (g.seen old 4) ≡ Ok boot
-        → Changes g (IsOfVerb (g.size old) (g.seen old) s boot c) old new)
+      → (s : Mounted)
+      → IsIn (g.size old) s (g.seen old)
+      → (boot : Control)
+      → control_of (g.seen old 4) ≡ Ok boot
+      → Changes g (IsOfVerb (g.size old) (g.seen old) s boot c) old new)
       → (g.is_modelled → HearsNothing g old new)
       → DoesVerb g m old new status
   command_verb c some runs none touches quiet = record {
@@ -154,11 +154,11 @@ module _ {D : Type 0}
       → device (g.size old) (g.seen old) ≡ Err fault
       → RunsNone g (g.size old) [] old new status)
       → (g.is_modelled
-        → (s : Mounted)
-        → IsIn (g.size old) s (g.seen old)
-        → (boot : Control)
-        → control_of (g.seen old 4) ≡ Ok boot
-        → Changes g (IsOfServing (g.size old) (g.seen old) s boot) old new)
+      → (s : Mounted)
+      → IsIn (g.size old) s (g.seen old)
+      → (boot : Control)
+      → control_of (g.seen old 4) ≡ Ok boot
+      → Changes g (IsOfServing (g.size old) (g.seen old) s boot) old new)
       → DoesVerb g m old new status
   serve_verb is runs none touches = record {
     item = λ t c some. no_command m (Serve false) c is refl some;
@@ -251,9 +251,9 @@ module _ {D : Type 0}
       ⊎ ((fault : SetFault) × (set_of (g.input_left old) ≡ Err fault))
       → RunsRefused g (g.size old) [] Malformed old new status)
       → (g.is_modelled
-        → (set : List SetImage)
-        → set_of (g.input_left old) ≡ Ok set
-        → Changes g (InSectors (IsOfMaking set max)) old new)
+      → (set : List SetImage)
+      → set_of (g.input_left old) ≡ Ok set
+      → Changes g (InSectors (IsOfMaking set max)) old new)
       → (g.is_modelled → status ≡ Done → g.input_left new ≡ [])
       → DoesVerb g m old new status
   make_verb limit max is made refused malformed touches end = record {

@@ -39,7 +39,7 @@ not_there size old bytes w =
     (subst (λ (l : List ℕ). W 4 l) (sym is.1) w.writes)))
     (set_same_but old mid 4 bytes (inr refl) s) in
     let stays = control_stays g slot (text_sectors (length text)) old mid
-        (repair_elsewhere w.table.primary w.table.backup g slot text old mid but) in
+    (repair_elsewhere w.table.primary w.table.backup g slot text old mid but) in
     sym (set_here old 4 bytes 4 refl) ∙ stays
 
 pub repair_leaves : (size : ℕ) (old new : Image) → SameBut (IsRepair size old) old new → new 4 ≡ old 4

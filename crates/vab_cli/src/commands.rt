@@ -47,9 +47,9 @@ fn do_command<P: Port>(port: &mut P, device: Device, command: &Command) -> Resul
         → (boot : Control)
         → control_of (P.seen port.old 4) ≡ Ok boot
         → Changes P.Disk
-          (IsOfSlots boot (is_some s.state.a) (is_some s.state.b) (P.seen port.old 4)
-          (command_of command.now))
-          port.old port.new }
+        (IsOfSlots boot (is_some s.state.a) (is_some s.state.b) (P.seen port.old 4)
+        (command_of command.now))
+        port.old port.new }
     ensures quiet { P.is_modelled → HearsNothing P.Disk port.old port.new }
     ensures steady { OnOk result (P.faults port.new ≡ P.faults port.old) }
     ensures done { IfOk result (λ status. (status ≡ Status.Done) ⊎ (status ≡ Status.Refused)) }
@@ -92,8 +92,8 @@ pub(crate) fn carry_out<P: Port>(alloc: Global, port: &mut P, command: &Command)
         → (boot : Control)
         → control_of (P.seen port.old 4) ≡ Ok boot
         → Changes P.Disk
-          (IsOfVerb (P.size port.old) (P.seen port.old) s boot (command_of command.now))
-          port.old port.new }
+        (IsOfVerb (P.size port.old) (P.seen port.old) s boot (command_of command.now))
+        port.old port.new }
     ensures quiet { P.is_modelled → HearsNothing P.Disk port.old port.new }
     ensures steady { IsSteady P.Disk port.old port.new result }
     ensures words { result ≢ Status.Usage }

@@ -226,8 +226,8 @@ pub(crate) fn print<P: Port>(alloc: Global, port: &mut P, name: &[u8]) -> Status
         → (boot : Control)
         → control_of (P.seen port.old 4) ≡ Ok boot
         → Changes P.Disk
-          (IsOfVerb (P.size port.old) (P.seen port.old) s boot (PrintOf name.now))
-          port.old port.new }
+        (IsOfVerb (P.size port.old) (P.seen port.old) s boot (PrintOf name.now))
+        port.old port.new }
     ensures quiet { P.is_modelled → HearsNothing P.Disk port.old port.new }
     ensures steady { IsSteady P.Disk port.old port.new result }
     ensures words { result ≢ Status.Usage }

@@ -37,7 +37,7 @@ pub(crate) fn open_and_serve<P: Port>(alloc: Global, port: &mut P) -> Status
         → (boot : Control)
         → control_of (P.seen port.old 4) ≡ Ok boot
         → Changes P.Disk (IsOfServing (P.size port.old) (P.seen port.old) s boot)
-          port.old port.new }
+        port.old port.new }
     ensures none { P.is_modelled
         → (fault : Fault)
         → device (P.size port.old) (P.seen port.old) ≡ Err fault

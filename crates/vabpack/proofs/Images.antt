@@ -1,7 +1,34 @@
 -- Images made one after the other, as a loop does, and images of files whose bytes are known.
 use Rattle.std.proofs.Common.{
-  ◌≡◌, ℕ, ◌+◌, ◌<◌, ◌≤◌, ◌^◌, List, [], ◌∷◌, ◌++◌, length, get_or, map, take, drop, Option, Some,
-  None, IfSome, refl, sym, ap, subst, ◌∙◌, add-one, drop-cons, arith, inl, inr
+  ◌≡◌,
+  ℕ,
+  ◌+◌,
+  ◌<◌,
+  ◌≤◌,
+  ◌^◌,
+  List,
+  [],
+  ◌∷◌,
+  ◌++◌,
+  length,
+  get_or,
+  map,
+  take,
+  drop,
+  Option,
+  Some,
+  None,
+  IfSome,
+  refl,
+  sym,
+  ap,
+  subst,
+  ◌∙◌,
+  add-one,
+  drop-cons,
+  arith,
+  inl,
+  inr,
 }
 use Rattle.std.specs.Prelude.{All}
 use Rattle.std.proofs.Math.Seq.{take-suc}
@@ -12,7 +39,13 @@ use Rattle.vab_set.specs.Spelling.{IsImage}
 use Rattle.vab_pack.specs.Asked.{Asked}
 use Rattle.vab_pack.specs.Images.{image_of}
 use Rattle.vabpack.specs.Packed.{
-  Contents, IsImageOf, AreImagesOf, IsOfFile, StopsAt, AreKnownAs, HasLong
+  Contents,
+  IsImageOf,
+  AreImagesOf,
+  IsOfFile,
+  StopsAt,
+  AreKnownAs,
+  HasLong,
 }
 use Rattle.vabpack.specs.declared.refusal.Refusal.{Refusal}
 
@@ -58,11 +91,11 @@ pub goes_on : (files : Contents) (asked : List Asked) (i : ℕ) (images : List S
     → AreImagesOf files (take (i + 1) asked) (images ++ image ∷ [])
 goes_on files asked i images a image lt at are is =
     let more : take (i + 1) asked ≡ take i asked ++ (get_or asked i a ∷ []) =
-        rw add-one (take-suc asked i a lt) in
+    rw add-one (take-suc asked i a lt) in
     let last : take (i + 1) asked ≡ take i asked ++ (a ∷ []) =
-        more ∙ ap (λ (x : Asked). take i asked ++ (x ∷ [])) (sym at) in
+    more ∙ ap (λ (x : Asked). take i asked ++ (x ∷ [])) (sym at) in
     subst (λ (l : List Asked). AreImagesOf files l (images ++ image ∷ [])) (sym last)
-        (pushed files (take i asked) images a image are is)
+    (pushed files (take i asked) images a image are is)
 
 pub stops : (files : Contents) (asked : List Asked) (i : ℕ) (images : List SetImage) (a : Asked)
     (refusal : Refusal)
@@ -73,9 +106,9 @@ pub stops : (files : Contents) (asked : List Asked) (i : ℕ) (images : List Set
     → StopsAt files asked refusal
 stops files asked i images a refusal lt at are is =
     let first : drop i asked ≡ get_or asked i a ∷ drop (i + 1) asked =
-        rw add-one (drop-cons asked i a lt) in
+    rw add-one (drop-cons asked i a lt) in
     let here : drop i asked ≡ a ∷ drop (i + 1) asked =
-        first ∙ ap (λ (x : Asked). x ∷ drop (i + 1) asked) (sym at) in
+    first ∙ ap (λ (x : Asked). x ∷ drop (i + 1) asked) (sym at) in
     record {
       before = take i asked;
       images = images;
@@ -97,7 +130,7 @@ names files (a ∷ asked) [] are = absurd are
 names files (a ∷ asked) (i ∷ images) are =
     let name : i.name ≡ a.name = ap (λ (i : SetImage). i.name) are.0.whole in
     ap (λ (n : List ℕ). n ∷ map (λ i. i.name) images) name
-        ∙ ap (λ (l : List (List ℕ)). a.name ∷ l) (names files asked images are.1)
+    ∙ ap (λ (l : List (List ℕ)). a.name ∷ l) (names files asked images are.1)
 
 pub fit : (files : Contents) (asked : List Asked) (images : List SetImage)
     → AreImagesOf files asked images
@@ -135,7 +168,7 @@ known_same files (a ∷ asked) (i ∷ images) (j ∷ others) known are =
     let bytes : j.bytes ≡ i.bytes = subst P known.0 are.0.bytes in
     let same : j ≡ i = are.0.whole ∙ ap (image_of a.name) bytes ∙ sym known.1 in
     ap (λ (x : SetImage). x ∷ others) same
-        ∙ ap (λ (l : List SetImage). i ∷ l) (known_same files asked images others known.3 are.1)
+    ∙ ap (λ (l : List SetImage). i ∷ l) (known_same files asked images others known.3 are.1)
 
 pub known_at : (files : Contents) (before behind : List Asked) (a : Asked) (images : List SetImage)
     → AreKnownAs files (before ++ a ∷ behind) images

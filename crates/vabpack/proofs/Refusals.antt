@@ -1,14 +1,43 @@
 -- What a refusal of the entries says of the words.
 use Rattle.std.proofs.Common.{
-  ◌≡◌, ℕ, ◌<◌, ◌≤◌, ◌^◌, ◌∙◌, map, List, [], ◌∷◌, ◌++◌, length, Option, IfSome, Result, Ok, Err,
-  IfOk, IfErr, sym, ap, subst, arith
+  ◌≡◌,
+  ℕ,
+  ◌<◌,
+  ◌≤◌,
+  ◌^◌,
+  ◌∙◌,
+  map,
+  List,
+  [],
+  ◌∷◌,
+  ◌++◌,
+  length,
+  Option,
+  IfSome,
+  Result,
+  Ok,
+  Err,
+  IfOk,
+  IfErr,
+  sym,
+  ap,
+  subst,
+  arith,
 }
 use Rattle.std.specs.Prelude.{IsErrAnd}
 use Rattle.vab_set.specs.declared.set.SetImage.{SetImage}
 use Rattle.vab_set.specs.Spelling.{IsSet, set_text, images_text}
 use Rattle.vab_pack.specs.Asked.{Asked, Ask, word_of}
 use Rattle.vabpack.specs.Packed.{
-  Contents, AreImagesOf, IsSetOf, IsLong, IsOfSet, AreKnownAs, HasLong, IsAboutFiles, IsAboutSet
+  Contents,
+  AreImagesOf,
+  IsSetOf,
+  IsLong,
+  IsOfSet,
+  AreKnownAs,
+  HasLong,
+  IsAboutFiles,
+  IsAboutSet,
 }
 use Rattle.vabpack.proofs.Images.{none_long, known_same, known_at}
 use Rattle.vabpack.specs.declared.refusal.Refusal.{Refusal}
@@ -37,16 +66,16 @@ long_is_refused view files asked (Err e) is refused long = about_files files ask
 
 not_long : (files : Contents) (asked : List Asked) (images : List SetImage) (path : List ℕ) (s :
     (before : List Asked)
-          × (behind : List Asked)
-          × (at : Asked)
-          × (asked ≡ before ++ at ∷ behind)
-          × (at.path ≡ path))
+    × (behind : List Asked)
+    × (at : Asked)
+    × (asked ≡ before ++ at ∷ behind)
+    × (at.path ≡ path))
     → AreKnownAs files asked images
     → ¬ IsLong files path
 not_long files asked images path s known long =
     let there =
-        known_at files s.0 s.1 s.2 images
-        (subst (λ (l : List Asked). AreKnownAs files l images) s.3 known) in
+    known_at files s.0 s.1 s.2 images
+    (subst (λ (l : List Asked). AreKnownAs files l images) s.3 known) in
     let P : Option (List ℕ) → Type 0 = λ o. IfSome o (λ b. 2 ^ 32 < length b) in
     let Q : List ℕ → Type 0 = λ p. IfSome (files p) (λ b. 2 ^ 32 < length b) in
     let over : 2 ^ 32 < length there.0 = subst P there.1 (subst Q (sym s.4) long) in
@@ -62,7 +91,7 @@ about_set files asked images refusals.NoWords known h = absurd h.reason
 about_set files asked images (refusals.Words fault) known h = absurd h.reason
 about_set files asked images (refusals.TooLarge path) known h =
     absurd (not_long files asked images path.now (h.before, h.behind, h.at, h.whole, h.reason.0)
-      known h.reason.1)
+    known h.reason.1)
 about_set files asked images (refusals.File path fault) known h = tt
 
 pub large_is_refused : {V : Type 0} (view : V → List ℕ) (files : Contents) (asked : List Asked)
@@ -75,7 +104,7 @@ pub large_is_refused : {V : Type 0} (view : V → List ℕ) (files : Contents) (
 large_is_refused view files asked images (Ok v) is refused known long =
     let same : is.images ≡ images = known_same files asked images is.images known is.each in
     let text : length (set_text is.images) ≡ length (set_text images) =
-        ap (λ (l : List SetImage). length (set_text l)) same in
+    ap (λ (l : List SetImage). length (set_text l)) same in
     absurd (omega (arith, text, long, is.short, ap length is.spelled))
 large_is_refused view files asked images (Err e) is refused known long =
     about_set files asked images e known refused

@@ -123,7 +123,7 @@ returns-in-Ok-tell_blocks-clause-changes g c = λ t.
     let new = c.tell_blocks.new.port in
     let found = c.in-Ok.ensures.image (g.P.Disk.seen old) in
     let kept = subst (λ (name : List ℕ). KeepsPart c.args.device.now c.in-Ok.slot name found.2)
-        (sym c.base_of.ensures) found.3 in
+    (sym c.base_of.ensures) found.3 in
     let says = c.in-Ok-tell_blocks.ensures.says t found.2 kept in
     changes_telling g.P.Disk _ (bytes_at (g.P.Disk.seen old) found.2.map) old new
     c.tell_blocks.ensures.size (λ t. says.seen) (λ t. says.crash) (λ t. says.time)
@@ -134,7 +134,7 @@ returns-in-Err-tell_blocks-clause-changes g c = λ t.
     let new = c.tell_blocks.new.port in
     let found = c.in-Ok.ensures.image (g.P.Disk.seen old) in
     let kept = subst (λ (name : List ℕ). KeepsPart c.args.device.now c.in-Ok.slot name found.2)
-        (sym c.base_of.ensures) found.3 in
+    (sym c.base_of.ensures) found.3 in
     let says = c.in-Err-tell_blocks.ensures.says t found.2 kept in
     changes_telling g.P.Disk _ (bytes_at (g.P.Disk.seen old) found.2.map) old new
     c.tell_blocks.ensures.size (λ t. says.seen) (λ t. says.crash) (λ t. says.time)

@@ -206,7 +206,7 @@ opens_made : {D : Type 0} (g : Ghosts D) (set : List SetImage) (old mid new : D)
 opens_made g set old mid new is sized made makes opens =
     let here = subst (λ (x : List SetImage). IsMade x 0 65536 (g.size old) (g.seen mid)) is made in
     let writes = subst (λ (x : List SetImage). Changes g (InSectors (IsOfMaking x 65536)) old mid) is
-        (changes_touches g _ old mid makes) in
+    (changes_touches g _ old mid makes) in
     made_opened g (g.size old) old mid new here writes
     (subst (λ (n : ℕ). Changes g (IsRepair n (g.seen mid)) mid new) sized
     (changes_touches g _ mid new opens))

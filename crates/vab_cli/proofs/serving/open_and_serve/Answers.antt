@@ -40,7 +40,7 @@ returns-clause-changes g c = λ t s stands boot there.
     let size = g.P.Disk.size old in
     let d = c.in-Ok.device in
     let here = opened_in g.P.Disk g.met.P.Disk.only_now size old mid s (c.in-Ok.ensures.opens t)
-        stands in
+    stands in
     opened_changes g.P.Disk size (IsOfCommands boot (is_some s.state.a) (is_some s.state.b))
     boot old mid new t (c.open.ensures.changes t)
     (λ is.
