@@ -5,7 +5,7 @@
 pub struct Info {
     /// 0 (never booted) to 15.
     pub priority: u8,
-    /// How many boots may still be after_try, at most 7.
+    /// How many boots may still be tried, at most 7.
     pub tries: u8,
     /// Whether the slot has been marked as one that works.
     pub successful: bool,
