@@ -1,0 +1,7 @@
+//! Tests that cross crates: devices that are made, opened, and given commands.
+#![tactic(auto)]
+
+#[cfg(test)]
+mod devices;
+#[cfg(test)]
+mod others;
