@@ -48,8 +48,14 @@ fn device_of_one(alloc: Global) -> Result<MemPort, Fail> {
 
 // Opens the device of a disk and carries out a command on it, where the disk doesn't fail.
 pub fn reply(alloc: Global, d: &mut MemPort, command: &Command) -> Option<Reply> {
-    let device = start(alloc, d).ok()?;
-    let (_, reply) = run_one(d, device, command).ok()?;
+    let device = match start(alloc, d) {
+        Ok(device) => device,
+        Err(_) => return None,
+    };
+    let (_device, reply) = match run_one(d, device, command) {
+        Ok(done) => done,
+        Err(_) => return None,
+    };
     Some(reply)
 }
 
