@@ -19,10 +19,12 @@ use Rattle.vab_device.specs.Checks.{first_fault}
 use Rattle.vab_device.specs.Mounted.{Mounted, images_on, control_on, state_on, mounted_on, in_state}
 use Rattle.vab_device.specs.Phases.{phase_at}
 use Rattle.vab_device.specs.Reading.{Read, mark_in, control_read, control_in, geometry_at}
-use Rattle.vab_device.specs.Reading.{tables_in, state_fault, kept, Reads, AgreeCopies, Represents}
-use Rattle.vab_device.specs.Reading.{IsOfTables, IsOfImages}
+use Rattle.vab_device.specs.Reading.{tables_in, state_fault, stores_of, kept, Reads, AgreeCopies}
+use Rattle.vab_device.specs.Reading.{Represents, IsOfTables, IsOfImages, IsOfPlan}
+use Rattle.vab_device.specs.Mounted.{phase_on}
 use Rattle.vab_device.proofs.SameLaws.{mark_same, geometry_same, tables_agree, images_same}
-use Rattle.vab_device.proofs.SameLaws.{images_behind}
+use Rattle.vab_device.proofs.StoreLaws.{statuses_kept, stores_kept, plan_kept}
+use Rattle.vab_device.proofs.Behind.{images_behind, stores_behind, plan_behind}
 
 -- the copies of tables stand behind the geometries
 tables_from : (g : Geometry) (slots : List ℕ) (s : ℕ) → IsOfTables g slots s → 4120 ≤ s
@@ -114,6 +116,10 @@ module _
   reads_gated state = record {
     enough = is.reads.enough;
     mark = mark_same old gated (elsewhere 2048 (λ e. omega (arith, e))) ∙ is.reads.mark;
+    statuses =
+        statuses_kept (phase_at is.read.mark.phase).reads_statuses old gated
+        (λ read s there. elsewhere s (λ e. omega (arith, e, there.from)))
+        ∙ is.reads.statuses;
     control = control_there _ _;
     geometry =
         geometry_same size old gated
@@ -125,6 +131,16 @@ module _
         of_tables
         ∙ is.reads.tables;
     parts = is.reads.parts;
+    stores =
+        stores_kept (stores_of is.read) old gated is.read.scanned
+        (λ s there.
+        elsewhere s (λ e. omega (
+          arith,
+          e,
+          stores_behind size 4096 is.read old s is.reads (omega arith) there,
+        )))
+        is.reads.stores
+        ∙ is.reads.stores;
     state = state;
   }
 
@@ -151,9 +167,20 @@ module _
       images_behind size 4096 1 _ is.read old s is.reads (omega arith)
       (subst (λ (k : Device). IsOfImages k.b s) is.is there))
 
+  plan : phase_on d.mark.slot gated d.plan ≡ phase_on d.mark.slot old d.plan
+  plan =
+      plan_kept d.mark.slot d.plan old gated
+      (λ s there.
+      elsewhere s (λ e. omega (
+        arith,
+        e,
+        plan_behind size 4096 is.read old s is.reads (omega arith)
+        (subst (λ (k : Device). IsOfPlan k.plan s) is.is there),
+      )))
+
   -- and it means the state with that boot control, as far as slots have images
   pub mounted_gated : mounted_on (with_boot c d) gated
       ≡ in_state (mounted_on d old)
       (with_control (control_seen (is_some d.a) (is_some d.b) c) (state_on d old))
   unfolding state_on
-  mounted_gated = rw (images_a, images_b) refl
+  mounted_gated = rw (images_a, images_b, plan) refl

@@ -1,6 +1,10 @@
+pub mod Behind
+pub mod BlockLaws
 pub mod CheckLaws
 pub mod ControlLaws
 pub mod IdleLaws
+pub mod OpeningLaws
 pub mod ReadingLaws
 pub mod RepairLaws
 pub mod SameLaws
+pub mod StoreLaws

@@ -13,6 +13,7 @@ use Rattle.vab_marks.specs.declared.mark.MarkPhase.TheVariants as marks
 use Rattle.vab_tables.specs.declared.table.Table.{Table}
 use Rattle.vab_geometry.specs.declared.geometry.Geometry.{Geometry}
 use Rattle.vab_layout.specs.Layout.{layout_of}
+use Rattle.vab_layout.specs.Slots.{other_slot}
 use Rattle.vab_model.specs.State.{control_seen}
 use Rattle.vab_model.proofs.SeenLaws.{seen_again}
 use Rattle.vab_device.specs.declared.fault.StartFault.{StartFault}
@@ -20,8 +21,11 @@ use Rattle.vab_device.specs.declared.fault.StartFault.TheVariants.{TooSmall}
 use Rattle.vab_device.specs.declared.device.Device.{Device}
 use Rattle.vab_device.specs.Checks.{passing, ◌>>=◌}
 use Rattle.vab_device.specs.Mounted.{Mounted, control_on, state_on, mounted_on, images_on}
-use Rattle.vab_device.specs.Phases.{Phase, idle, phase_at}
-use Rattle.vab_device.specs.Reading.{Read, unless, mark_in, control_read, control_in, geometry_at}
+use Rattle.vab_device.specs.Mounted.{phase_on}
+use Rattle.vab_device.specs.Stores.{Scanned, scans_in}
+use Rattle.vab_device.specs.Phases.{Phase, slot_checks, idle, phase_at}
+use Rattle.vab_device.specs.Reading.{Read, mark_in, statuses_at, control_read, control_in}
+use Rattle.vab_device.specs.Reading.{geometry_at, stores_of, scanned_in}
 use Rattle.vab_device.specs.Reading.{table_at, tables_in, framed, frame, part_fault, state_fault}
 use Rattle.vab_device.specs.Reading.{judged, stated, table_for, parts_for, read_table, kept, device}
 use Rattle.vab_device.specs.Reading.{Reads, Represents, SameRead}
@@ -29,53 +33,105 @@ use Rattle.vab_device.proofs.CheckLaws.{bound, passed}
 
 -- ---- where it is read it means so
 
-frame_of : (size : ℕ) (r : Read) (image : Image) → Reads size r image → frame size image ≡ Ok r
+-- what is read before the stores are
+abbrev pub unscanned : Read → Read
+unscanned r = record r { scanned = [] }
+
+-- what the frame of a disk gives
+pub record FrameReads (size : ℕ) (image : Image) (r : Read) : Type 0 where
+  pub enough : nat_le 4120 size ≡ true
+  pub mark : mark_in image ≡ Ok r.mark
+  pub statuses : statuses_at (phase_at r.mark.phase).reads_statuses image ≡ Ok r.statuses
+  pub control : control_in
+      ((phase_at r.mark.phase).has_a r.mark.slot)
+      ((phase_at r.mark.phase).has_b r.mark.slot)
+      image
+      ≡ Ok r.control
+  pub geometry : geometry_at size image ≡ Ok r.geometry
+  pub tables : tables_in size r.geometry ((phase_at r.mark.phase).tables r.mark.slot) image
+      ≡ Ok r.tables
+
+pub frame_is : (size : ℕ) (r : Read) (image : Image)
+    → FrameReads size image r
+    → frame size image ≡ Ok (unscanned r)
 unfolding frame
-frame_of size r image reads =
-    rw (reads.enough, reads.mark, reads.control, reads.geometry, reads.tables) refl
+frame_is size r image reads =
+    rw (reads.enough, reads.mark, reads.statuses, reads.control, reads.geometry, reads.tables) refl
+
+frame_of : (size : ℕ) (r : Read) (image : Image)
+    → Reads size r image
+    → frame size image ≡ Ok (unscanned r)
+frame_of size r image reads = frame_is size r image (record {
+  enough = reads.enough;
+  mark = reads.mark;
+  statuses = reads.statuses;
+  control = reads.control;
+  geometry = reads.geometry;
+  tables = reads.tables;
+})
+
+scanned_of : (size : ℕ) (r : Read) (image : Image)
+    → Reads size r image
+    → scanned_in image (unscanned r) ≡ Ok r
+unfolding scanned_in
+scanned_of size r image reads = rw reads.stores refl
 
 pub device_of : (size : ℕ) (r : Read) (image : Image)
     → Reads size r image
     → device size image ≡ Ok (mounted_on (kept r) image)
 unfolding device judged stated
-device_of size r image reads = rw (frame_of size r image reads, reads.parts, reads.state) refl
+device_of size r image reads =
+    rw (frame_of size r image reads, reads.parts, scanned_of size r image reads, reads.state) refl
 
 -- ---- and where it means so it is read
-
-record FrameWas (size : ℕ) (image : Image) (r : Read) : Type 0 where
-  enough : nat_le 4120 size ≡ true
-  mark : mark_in image ≡ Ok r.mark
-  control : control_in
-      ((phase_at r.mark.phase).has_a r.mark.slot)
-      ((phase_at r.mark.phase).has_b r.mark.slot)
-      image
-      ≡ Ok r.control
-  geometry : geometry_at size image ≡ Ok r.geometry
-  tables : tables_in size r.geometry ((phase_at r.mark.phase).tables r.mark.slot) image ≡ Ok r.tables
 
 framed_was : (size : ℕ) (m : UpdateMark) (image : Image) (r : Read)
     → nat_le 4120 size ≡ true
     → mark_in image ≡ Ok m
     → framed size m (phase_at m.phase) image ≡ Ok r
-    → FrameWas size image r
+    → FrameReads size image r
 framed_was size m image r enough mark is =
     let p : Phase = phase_at m.phase in
-    let c = bound (control_in (p.has_a m.slot) (p.has_b m.slot) image)
-    (λ c. geometry_at size image >>= λ g. tables_in size g (p.tables m.slot) image >>= λ ts. Ok (record { mark = m; control = c; geometry = g; tables = ts }))
+    let ss = bound (statuses_at p.reads_statuses image)
+    (λ ss. control_in (p.has_a m.slot) (p.has_b m.slot) image >>= λ c.
+    geometry_at size image >>= λ g.
+    tables_in size g (p.tables m.slot) image >>= λ ts.
+    Ok (record { mark = m; statuses = ss; control = c; geometry = g; tables = ts; scanned = [] }))
     r is in
+    let c = bound (control_in (p.has_a m.slot) (p.has_b m.slot) image)
+    (λ c. geometry_at size image >>= λ g.
+    tables_in size g (p.tables m.slot) image >>= λ ts.
+    Ok (record { mark = m; statuses = ss.0; control = c; geometry = g; tables = ts; scanned = [] }))
+    r ss.2 in
     let g = bound (geometry_at size image)
-    (λ g. tables_in size g (p.tables m.slot) image >>= λ ts. Ok (record { mark = m; control = c.0; geometry = g; tables = ts }))
+    (λ g. tables_in size g (p.tables m.slot) image >>= λ ts.
+    Ok (record { mark = m; statuses = ss.0; control = c.0; geometry = g; tables = ts; scanned = [] }))
     r c.2 in
     let ts = bound (tables_in size g.0 (p.tables m.slot) image)
-    (λ ts. Ok (record { mark = m; control = c.0; geometry = g.0; tables = ts }))
+    (λ ts.
+    Ok (record { mark = m; statuses = ss.0; control = c.0; geometry = g.0; tables = ts; scanned = [] }))
     r g.2 in
-    let read : Read = record { mark = m; control = c.0; geometry = g.0; tables = ts.0 } in
+    let read : Read = record {
+      mark = m;
+      statuses = ss.0;
+      control = c.0;
+      geometry = g.0;
+      tables = ts.0;
+      scanned = [];
+    } in
     let whole : Ok read ≡ Ok r = ts.2 in
     let same : read ≡ r = cc in
-    subst (FrameWas size image) same
-    (record { enough = enough; mark = mark; control = c.1; geometry = g.1; tables = ts.1 })
+    subst (FrameReads size image) same
+    (record {
+      enough = enough;
+      mark = mark;
+      statuses = ss.1;
+      control = c.1;
+      geometry = g.1;
+      tables = ts.1;
+    })
 
-frame_was : (size : ℕ) (image : Image) (r : Read) → frame size image ≡ Ok r → FrameWas size image r
+frame_was : (size : ℕ) (image : Image) (r : Read) → frame size image ≡ Ok r → FrameReads size image r
 unfolding frame
 frame_was size image r is = elim (cases_Bool (nat_le 4120 size)) [
   | inl enough ↦
@@ -89,36 +145,72 @@ frame_was size image r is = elim (cases_Bool (nat_le 4120 size)) [
       absurd cc
 ]
 
+-- what the stores' link leaves
+record ScannedWas (image : Image) (first r : Read) : Type 0 where
+  scanned : List Scanned
+  stores : scans_in (stores_of first) image ≡ Ok scanned
+  is : record first { scanned = scanned } ≡ r
+
+scanned_was : (image : Image) (first r : Read)
+    → scanned_in image first ≡ Ok r
+    → ScannedWas image first r
+unfolding scanned_in
+scanned_was image first r is =
+    let ss = bound (scans_in (stores_of first) image)
+    (λ ss. Ok (record first { scanned = ss })) r is in
+    let whole : Ok (record first { scanned = ss.0 }) ≡ Ok r = ss.2 in
+    record { scanned = ss.0; stores = ss.1; is = cc }
+
 pub record DeviceWas (size : ℕ) (image : Image) (m : Mounted) : Type 0 where
   pub read : Read
   pub reads : Reads size read image
   pub is : m ≡ mounted_on (kept read) image
+
+-- the links of a reading, from the frame to the stores
+read_was : (size : ℕ) (image : Image) (first r : Read)
+    → FrameReads size image first
+    → part_fault first ≡ None
+    → ScannedWas image first r
+    → state_fault r ≡ None
+    → Reads size r image
+read_was size image first r was parts scanned state =
+    subst
+    (λ (x : Read). state_fault x ≡ None → Reads size x image)
+    scanned.is
+    (λ state. record {
+      enough = was.enough;
+      mark = was.mark;
+      statuses = was.statuses;
+      control = was.control;
+      geometry = was.geometry;
+      tables = was.tables;
+      parts = parts;
+      stores = scanned.stores;
+      state = state;
+    })
+    state
 
 pub device_was : (size : ℕ) (image : Image) (m : Mounted)
     → device size image ≡ Ok m
     → DeviceWas size image m
 unfolding device judged stated
 device_was size image m is =
-    let last = bound (frame size image >>= judged >>= stated) (λ r. Ok (mounted_on (kept r) image)) m is in
-    let mid = bound (frame size image >>= judged) stated last.0 last.1 in
-    let first = bound (frame size image) judged mid.0 mid.1 in
-    let parts = passed (part_fault first.0) first.0 mid.0 first.2 in
+    let last = bound (frame size image >>= judged >>= scanned_in image >>= stated)
+    (λ r. Ok (mounted_on (kept r) image)) m is in
+    let mid = bound (frame size image >>= judged >>= scanned_in image) stated last.0 last.1 in
+    let judging = bound (frame size image >>= judged) (scanned_in image) mid.0 mid.1 in
+    let first = bound (frame size image) judged judging.0 judging.1 in
+    let parts = passed (part_fault first.0) first.0 judging.0 first.2 in
     let state = passed (state_fault mid.0) mid.0 last.0 mid.2 in
+    let scanned : ScannedWas image first.0 mid.0 =
+    subst (λ (x : Read). ScannedWas image x mid.0) (sym parts.1)
+    (scanned_was image judging.0 mid.0 judging.2) in
     let whole : Ok (mounted_on (kept last.0) image) ≡ Ok m = last.2 in
     let same : mounted_on (kept last.0) image ≡ m = cc in
-    let was : FrameWas size image mid.0 =
-    subst (FrameWas size image) parts.1 (frame_was size image first.0 first.1) in
     record {
       read = mid.0;
-      reads = record {
-        enough = was.enough;
-        mark = was.mark;
-        control = was.control;
-        geometry = was.geometry;
-        tables = was.tables;
-        parts = subst (λ (x : Read). part_fault x ≡ None) parts.1 parts.0;
-        state = state.0;
-      };
+      reads = read_was size image first.0 mid.0 (frame_was size image first.0 first.1) parts.0 scanned
+          state.0;
       is = sym same ∙ ap (λ (x : Read). mounted_on (kept x) image) (sym state.1);
     }
 
@@ -131,25 +223,29 @@ pub reads_kept : (size : ℕ) (r : Read) (old new : Image)
 reads_kept size r old new reads same = record {
   enough = reads.enough;
   mark = same.mark ∙ reads.mark;
+  statuses = same.statuses ∙ reads.statuses;
   control = same.control ∙ reads.control;
   geometry = same.geometry ∙ reads.geometry;
   tables = same.tables ∙ reads.tables;
   parts = reads.parts;
+  stores = same.stores ∙ reads.stores;
   state = reads.state;
 }
 
 pub state_same : (d : Device) (old new : Image)
     → images_on new d.a ≡ images_on old d.a
     → images_on new d.b ≡ images_on old d.b
+    → phase_on d.mark.slot new d.plan ≡ phase_on d.mark.slot old d.plan
     → state_on d new ≡ state_on d old
 unfolding state_on
-state_same d old new a b = rw (a, b) refl
+state_same d old new a b plan = rw (a, b, plan) refl
 
 pub mounted_same : (d : Device) (old new : Image)
     → images_on new d.a ≡ images_on old d.a
     → images_on new d.b ≡ images_on old d.b
+    → phase_on d.mark.slot new d.plan ≡ phase_on d.mark.slot old d.plan
     → mounted_on d new ≡ mounted_on d old
-mounted_same d old new a b = rw (state_same d old new a b) refl
+mounted_same d old new a b plan = rw (state_same d old new a b plan) refl
 
 -- A disk that is read the same means the same.
 pub device_same : (size : ℕ) (r : Read) (old new : Image)
@@ -158,18 +254,65 @@ pub device_same : (size : ℕ) (r : Read) (old new : Image)
     → device size new ≡ device size old
 device_same size r old new reads same =
     device_of size r new (reads_kept size r old new reads same)
-    ∙ ap Ok (mounted_same (kept r) old new same.images_a same.images_b)
+    ∙ ap Ok (mounted_same (kept r) old new same.images_a same.images_b same.plan)
     ∙ sym (device_of size r old reads)
 
 -- ---- the phases
 
--- there is one so far
-pub at_idle : (m : MarkPhase) → phase_at m ≡ idle
-at_idle marks.Idle = refl
-at_idle marks.Installing = refl
-at_idle marks.Staged = refl
-at_idle marks.Merging = refl
-at_idle marks.Completed = refl
+pub idle_at : (m : MarkPhase) → m ≡ marks.Idle → phase_at m ≡ idle
+idle_at m is = ap phase_at is
+
+-- In each phase the slot of the mark has images, its table is read first, and the rules of the
+-- slots are the same.
+pub record IsSingle (p : Phase) : Type 0 where
+  pub has_a : p.has_a ≡ (λ slot. slot == 0)
+  pub has_b : p.has_b ≡ (λ slot. slot == 1)
+  pub state : p.state_checks ≡ slot_checks
+  pub others : ℕ → List ℕ
+  pub tables : p.tables ≡ (λ slot. slot ∷ others slot)
+
+pub idle_single : IsSingle idle
+idle_single = record {
+  has_a = refl;
+  has_b = refl;
+  state = refl;
+  others = λ slot. [];
+  tables = refl;
+}
+
+pub single_at : (m : MarkPhase) → IsSingle (phase_at m)
+single_at marks.Idle = idle_single
+single_at marks.Installing = record {
+  has_a = refl;
+  has_b = refl;
+  state = refl;
+  others = λ slot. other_slot slot ∷ [];
+  tables = refl;
+}
+single_at marks.Staged = idle_single
+single_at marks.Merging = idle_single
+single_at marks.Completed = idle_single
+
+pub tables_first : (size : ℕ) (g : Geometry) (slot : ℕ) (slots : List ℕ) (image : Image)
+    (ts : List Table)
+    → tables_in size g (slot ∷ slots) image ≡ Ok ts
+    → (t : Table) × (rest : List Table) × (ts ≡ t ∷ rest)
+tables_first size g slot slots image ts is =
+    let t = bound (table_at size g slot image)
+    (λ t. tables_in size g slots image >>= λ ts. Ok (t ∷ ts)) ts is in
+    let rest = bound (tables_in size g slots image) (λ ts. Ok (t.0 ∷ ts)) ts t.2 in
+    let whole : Ok (t.0 ∷ rest.0) ≡ Ok ts = rest.2 in
+    (t.0, rest.0, let same : t.0 ∷ rest.0 ≡ ts = cc in sym same)
+
+-- the table of the slot of the mark
+pub source_table : (size : ℕ) (r : Read) (image : Image)
+    → Reads size r image
+    → (t : Table) × (rest : List Table) × (r.tables ≡ t ∷ rest)
+source_table size r image reads =
+    let single = single_at r.mark.phase in
+    tables_first size r.geometry r.mark.slot (single.others r.mark.slot) image r.tables
+    (subst (λ (f : ℕ → List ℕ). tables_in size r.geometry (f r.mark.slot) image ≡ Ok r.tables)
+    single.tables reads.tables)
 
 tables_one : (size : ℕ) (g : Geometry) (slot : ℕ) (image : Image) (ts : List Table)
     → tables_in size g (slot ∷ []) image ≡ Ok ts
@@ -182,40 +325,50 @@ tables_one size g slot image ts is =
 
 -- the one table that is read without an update
 pub one_table : (size : ℕ) (r : Read) (image : Image)
+    → r.mark.phase ≡ marks.Idle
     → Reads size r image
     → (t : Table) × (r.tables ≡ t ∷ [])
-one_table size r image reads =
+one_table size r image is reads =
     tables_one size r.geometry r.mark.slot image r.tables
     (subst (λ (p : Phase). tables_in size r.geometry (p.tables r.mark.slot) image ≡ Ok r.tables)
-    (at_idle r.mark.phase) reads.tables)
+    (idle_at r.mark.phase is) reads.tables)
 
-some_parts : (slot : ℕ) (b : Bool) (t : Table)
-    → is_some (parts_for slot b (if b then Some t else None)) ≡ b
-some_parts slot true t = refl
-some_parts slot false t = refl
+some_parts : (slot own : ℕ) (others : List ℕ) (t : Table) (ts : List Table)
+    → is_some (parts_for slot (own == slot) (table_for slot (own ∷ others) (t ∷ ts)))
+    ≡ (own == slot)
+some_parts slot own others t ts = elim (cases_Bool (own == slot)) [
+  | inl same ↦ rw same refl
+  | inr other ↦ rw other refl
+]
 
 -- a slot has partitions where the phase says that it has images
 pub record HasImages (r : Read) : Type 0 where
   pub a : is_some (kept r).a ≡ (phase_at r.mark.phase).has_a r.mark.slot
   pub b : is_some (kept r).b ≡ (phase_at r.mark.phase).has_b r.mark.slot
 
-has_parts : (m : UpdateMark) (p : Phase) (ts : List Table) (t : Table)
-    → p ≡ idle
-    → ts ≡ t ∷ []
-    → (is_some (parts_for 0 (p.has_a m.slot) (table_for 0 (p.tables m.slot) ts)) ≡ p.has_a m.slot)
-    × (is_some (parts_for 1 (p.has_b m.slot) (table_for 1 (p.tables m.slot) ts)) ≡ p.has_b m.slot)
-has_parts m p ts t is one =
-    let P : Phase → List Table → Type 0 = λ p ts.
-    (is_some (parts_for 0 (p.has_a m.slot) (table_for 0 (p.tables m.slot) ts)) ≡ p.has_a m.slot)
-    × (is_some (parts_for 1 (p.has_b m.slot) (table_for 1 (p.tables m.slot) ts)) ≡ p.has_b m.slot) in
-    subst (λ (p : Phase). P p ts) (sym is)
-    (subst (λ (ts : List Table). P idle ts) (sym one)
-    (some_parts 0 (eqb m.slot 0) t, some_parts 1 (eqb m.slot 1) t))
+has_parts : (slot : ℕ) (p : Phase) (ts : List Table) (t : Table) (rest : List Table)
+    → IsSingle p
+    → ts ≡ t ∷ rest
+    → (is_some (parts_for 0 (p.has_a slot) (table_for 0 (p.tables slot) ts)) ≡ p.has_a slot)
+    × (is_some (parts_for 1 (p.has_b slot) (table_for 1 (p.tables slot) ts)) ≡ p.has_b slot)
+has_parts slot p ts t rest single one =
+    let P : (ℕ → Bool) → (ℕ → List ℕ) → List Table → ℕ → Type 0 = λ has tables ts k.
+    is_some (parts_for k (has slot) (table_for k (tables slot) ts)) ≡ has slot in
+    let whole : (k : ℕ) → P (λ slot. slot == k) p.tables ts k =
+    λ k.
+    subst (λ (f : ℕ → List ℕ). P (λ slot. slot == k) f ts k) (sym single.tables)
+    (subst (λ (l : List Table). P (λ slot. slot == k) (λ slot. slot ∷ single.others slot) l k)
+    (sym one)
+    (some_parts k slot (single.others slot) t rest)) in (
+      subst (λ (has : ℕ → Bool). P has p.tables ts 0) (sym single.has_a) (whole 0),
+      subst (λ (has : ℕ → Bool). P has p.tables ts 1) (sym single.has_b) (whole 1),
+    )
 
 pub has_images : (size : ℕ) (r : Read) (image : Image) → Reads size r image → HasImages r
 has_images size r image reads =
-    let one = one_table size r image reads in
-    let both = has_parts r.mark (phase_at r.mark.phase) r.tables one.0 (at_idle r.mark.phase) one.1 in
+    let one = source_table size r image reads in
+    let both = has_parts r.mark.slot (phase_at r.mark.phase) r.tables one.0 one.1
+    (single_at r.mark.phase) one.2 in
     record { a = both.0; b = both.1 }
 
 -- ---- a kept device

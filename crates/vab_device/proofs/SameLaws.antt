@@ -32,12 +32,15 @@ use Rattle.vab_device.specs.Kept.{block_sector, sectors_of, part_on, parts_of, c
 use Rattle.vab_device.specs.Kept.{super_bytes, lies_in}
 use Rattle.vab_device.specs.Mounted.{bytes_at, sectors_read, image_on, images_on}
 use Rattle.vab_device.specs.Phases.{phase_at}
-use Rattle.vab_device.specs.Reading.{Read, unless, mark_read, mark_in, control_read, control_in}
+use Rattle.vab_device.specs.Checks.{unless}
+use Rattle.vab_device.specs.Reading.{Read, mark_read, mark_in, control_read, control_in}
 use Rattle.vab_device.specs.Reading.{geometry_read, geometry_at, table_read, table_at, tables_in}
 use Rattle.vab_device.specs.Reading.{table_for, parts_for, read_table, kept, Reads, SameRead, Dead}
-use Rattle.vab_device.specs.Reading.{IsOfTables, IsOfBlocks, IsOfParts, IsOfImages, Live, Agrees}
-use Rattle.vab_device.specs.Reading.{Misses}
+use Rattle.vab_device.specs.Reading.{stores_of, IsOfTables, IsOfBlocks, IsOfParts, IsOfImages}
+use Rattle.vab_device.specs.Reading.{IsOfStores, IsOfPlan, Live, Agrees, Misses}
 use Rattle.vab_device.proofs.CheckLaws.{bound}
+use Rattle.vab_device.proofs.BlockLaws.{bytes_same}
+use Rattle.vab_device.proofs.StoreLaws.{statuses_kept, stores_kept, plan_kept}
 
 -- ---- single parts
 
@@ -73,18 +76,6 @@ unfolding table_at
 table_same size g slot old new same = ap (table_read size g slot) same
 
 -- ---- the images
-
-pub bytes_same : (old new : Image) (blocks : List ℕ)
-    → ((s : ℕ) → IsOfBlocks blocks s → new s ≡ old s)
-    → bytes_at new blocks ≡ bytes_at old blocks
-unfolding bytes_at
-bytes_same old new [] same = refl
-bytes_same old new (b ∷ bs) same =
-    let here : sectors_at 8 new b ≡ sectors_at 8 old b =
-    sectors_same 8 b old new
-    (λ k below. same (b + k) (inl (record { from = omega arith; below = omega (arith, below) }))) in
-    let rest = bytes_same old new bs (λ s is. same s (inr is)) in
-    (λ i. here i ++ rest i)
 
 parts_same : (old new : Image) (parts : List Part)
     → ((s : ℕ) → IsOfParts parts s → new s ≡ old s)
@@ -128,124 +119,32 @@ tables_agree size g (slot ∷ slots) old new same =
     (λ i. here i >>= λ t. rest i >>= λ ts. Ok (t ∷ ts))
 
 -- The first law of live sectors: where they stay, all is read the same.
-pub agrees_same : (size : ℕ) (r : Read) (old new : Image) → Agrees r old new → SameRead size r old new
-agrees_same size r old new agrees = record {
+pub agrees_same : (size : ℕ) (r : Read) (old new : Image)
+    → Reads size r old
+    → Agrees r old new
+    → SameRead size r old new
+agrees_same size r old new reads agrees = record {
   mark = mark_same old new (agrees 2048 (Live.of_mark refl));
+  statuses = statuses_kept (phase_at r.mark.phase).reads_statuses old new
+      (λ read s is. agrees s (Live.of_statuses read is));
   control = control_same _ _ old new (agrees 4 (Live.of_control refl));
   geometry = geometry_same size old new
       (agrees 4104 (Live.of_geometry (inl refl)))
       (agrees 4112 (Live.of_geometry (inr refl)));
   tables = tables_agree size r.geometry ((phase_at r.mark.phase).tables r.mark.slot) old new
       (λ s is. agrees s (Live.of_tables is));
+  stores = stores_kept (stores_of r) old new r.scanned (λ s is. agrees s (Live.of_stores is))
+      reads.stores;
   images_a = images_same old new (kept r).a (λ s is. agrees s (Live.of_images_a is));
   images_b = images_same old new (kept r).b (λ s is. agrees s (Live.of_images_b is));
+  plan = plan_kept r.mark.slot (kept r).plan old new (λ s is. agrees s (Live.of_plan is));
 }
 
 -- The second: writes that miss them are dead.
 pub dead_of : (size : ℕ) (r : Read) (old : Image) (W : ℕ → Type 0)
+    → Reads size r old
     → Misses r W
     → Dead size r old (InSectors W)
-dead_of size r old W misses new but =
-    agrees_same size r old new
+dead_of size r old W reads misses new but =
+    agrees_same size r old new reads
     (λ s live. ⊎_elim (λ same. same) (λ w. absurd (misses s live w)) (but s))
-
--- ---- the blocks of partitions stand behind the copies of the tables
-
-blocks_from : (first low : ℕ) (blocks : List ℕ) (s : ℕ)
-    → low ≤ 4096 + first
-    → IsOfBlocks (map (block_sector first) blocks) s
-    → low ≤ s
-blocks_from first low [] s le is = absurd is
-blocks_from first low (b ∷ bs) s le (inl is) = omega (arith, is.from, le)
-blocks_from first low (b ∷ bs) s le (inr is) = blocks_from first low bs s le is
-
-sectors_from : (first low : ℕ) (blocks : List ℕ) (s : ℕ)
-    → low ≤ 4096 + first
-    → IsOfBlocks (sectors_of first blocks) s
-    → low ≤ s
-unfolding sectors_of
-sectors_from first low blocks s le is = blocks_from first low blocks s le is
-
-parts_from : (first low : ℕ) (parts : List PartOfLayout) (s : ℕ)
-    → low ≤ 4096 + first
-    → IsOfParts (map (part_on first) parts) s
-    → low ≤ s
-parts_from first low [] s le is = absurd is
-parts_from first low (p ∷ ps) s le (inl is) = sectors_from first low p.blocks s le is
-parts_from first low (p ∷ ps) s le (inr is) = parts_from first low ps s le is
-
--- each of these tables' devices begins behind this sector
-abbrev BeginBehind : ℕ → List Table → Type 0
-BeginBehind low [] = Unit {0}
-BeginBehind low (t ∷ ts) = (low ≤ 4096 + (layout_of t).device.first_logical_sector) × BeginBehind low ts
-
-for_from : (low slot : ℕ) (b : Bool) (slots : List ℕ) (ts : List Table) (s : ℕ)
-    → BeginBehind low ts
-    → IsOfImages (parts_for slot b (table_for slot slots ts)) s
-    → low ≤ s
-for_from low slot false slots ts s begin is = absurd is
-for_from low slot true [] ts s begin is = absurd is
-for_from low slot true (k ∷ ks) [] s begin is = absurd is
-for_from low slot true (k ∷ ks) (t ∷ ts) s begin is = elim (cases_Bool (k == slot)) [
-  | inl here ↦
-      parts_from (layout_of t).device.first_logical_sector low (own_parts slot (layout_of t).parts) s
-      begin.0 (rw here at is)
-  | inr other ↦ for_from low slot true ks ts s begin.1 (rw other at is)
-]
-
--- the table that was read has a device behind the copies
-read_behind : (size : ℕ) (g : Geometry) (slot : ℕ) (x : Result Table (TableFault × TableFault)) (t : Table)
-    → table_read size g slot x ≡ Ok t
-    → copies_end g ≤ 512 * (layout_of t).device.first_logical_sector
-read_behind size g slot (Err faults) t is =
-    absurd (let bad : (let r : Result Table StartFault = Err (BadTable slot) in r ≡ Ok t) = is in cc)
-read_behind size g slot (Ok u) t is = elim (cases_Bool (lies_in size g (layout_of u).device)) [
-  | inl lies ↦
-      let same : (let r : Result Table StartFault = Ok u in r ≡ Ok t) = rw lies at is in
-      let e : u ≡ t = cc in
-      let both = and_parts
-      (leb (layout_of u).device.size (super_bytes size))
-      (leb (copies_end g) (512 * (layout_of u).device.first_logical_sector)) lies in
-      subst (λ (x : Table). copies_end g ≤ 512 * (layout_of x).device.first_logical_sector) e
-      (leb-true (copies_end g) (512 * (layout_of u).device.first_logical_sector) both.1)
-  | inr fails ↦
-      let bad : (let r : Result Table StartFault = Err (BadTable slot) in r ≡ Ok t) = rw fails at is in
-      absurd cc
-]
-
-table_behind : (size : ℕ) (g : Geometry) (slot : ℕ) (image : Image) (t : Table)
-    → table_at size g slot image ≡ Ok t
-    → copies_end g ≤ 512 * (layout_of t).device.first_logical_sector
-unfolding table_at
-table_behind size g slot image t is = read_behind size g slot (slot_table g slot image) t is
-
-tables_behind : (size low : ℕ) (g : Geometry) (slots : List ℕ) (image : Image) (ts : List Table)
-    → 512 * (low - 4096) ≤ copies_end g
-    → tables_in size g slots image ≡ Ok ts
-    → BeginBehind low ts
-tables_behind size low g [] image ts le is =
-    let none : Ok [] ≡ Ok ts = is in
-    let e : [] ≡ ts = cc in
-    subst (BeginBehind low) e tt
-tables_behind size low g (slot ∷ slots) image ts le is =
-    let t = bound (table_at size g slot image)
-    (λ t. tables_in size g slots image >>= λ ts. Ok (t ∷ ts)) ts is in
-    let rest = bound (tables_in size g slots image) (λ ts. Ok (t.0 ∷ ts)) ts t.2 in
-    let whole : Ok (t.0 ∷ rest.0) ≡ Ok ts = rest.2 in
-    let e : t.0 ∷ rest.0 ≡ ts = cc in
-    subst (BeginBehind low) e (
-      omega (arith, table_behind size g slot image t.0 t.1, le),
-      tables_behind size low g slots image rest.0 le rest.1,
-    )
-
--- a sector of an image stands behind the copies
-pub images_behind : (size low slot : ℕ) (b : Bool) (r : Read) (image : Image) (s : ℕ)
-    → Reads size r image
-    → 512 * (low - 4096) ≤ copies_end r.geometry
-    → IsOfImages (parts_for slot b (read_table slot r)) s
-    → low ≤ s
-images_behind size low slot b r image s reads le is =
-    for_from low slot b ((phase_at r.mark.phase).tables r.mark.slot) r.tables s
-    (tables_behind size low r.geometry ((phase_at r.mark.phase).tables r.mark.slot) image r.tables le
-    reads.tables)
-    is

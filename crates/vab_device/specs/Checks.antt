@@ -31,6 +31,11 @@ abbrev pub passing : {A : Type 0} → Option StartFault → A → Result A Start
 passing None x = Ok x
 passing (Some fault) x = Err fault
 
+-- this fault, where a test fails
+abbrev pub unless : {A : Type 0} → Bool → StartFault → Result A StartFault → Result A StartFault
+unless true fault next = next
+unless false fault next = Err fault
+
 infixl 10 ◌>>=◌
 abbrev pub ◌>>=◌ : {A B : Type 0}
     → Result A StartFault

@@ -3,8 +3,8 @@ use Rattle.std.specs.Prelude.{◌≡◌, Result, Ok, Err}
 use Rattle.vab_device.specs.declared.fault.StartFault.{StartFault}
 use Rattle.vab_device.specs.declared.fault.StartFault.TheVariants.{TooSmall, BadMark, BadControl}
 use Rattle.vab_device.specs.declared.fault.StartFault.TheVariants.{BadGeometry, BadTable}
-use Rattle.vab_device.specs.declared.fault.StartFault.TheVariants.{BadPartition, BadState, NoMemory}
-use Rattle.vab_device.specs.declared.fault.StartFault.TheVariants.{Disk}
+use Rattle.vab_device.specs.declared.fault.StartFault.TheVariants.{BadPartition, BadStore, BadState}
+use Rattle.vab_device.specs.declared.fault.StartFault.TheVariants.{NoMemory, Disk}
 
 -- a fault of what the disk holds, and not of the disk or of memory
 abbrev pub IsOfContents : StartFault → Type 0
@@ -14,6 +14,7 @@ IsOfContents (BadControl fault) = Unit {0}
 IsOfContents BadGeometry = Unit {0}
 IsOfContents (BadTable slot) = Unit {0}
 IsOfContents (BadPartition name) = Unit {0}
+IsOfContents (BadStore name) = Unit {0}
 IsOfContents (BadState rule) = Unit {0}
 IsOfContents NoMemory = ⊥
 IsOfContents (Disk fault) = ⊥
@@ -26,6 +27,7 @@ IsOfDisk (BadControl fault) = ⊥
 IsOfDisk BadGeometry = ⊥
 IsOfDisk (BadTable slot) = ⊥
 IsOfDisk (BadPartition name) = ⊥
+IsOfDisk (BadStore name) = ⊥
 IsOfDisk (BadState rule) = ⊥
 IsOfDisk NoMemory = ⊥
 IsOfDisk (Disk fault) = Unit {0}

@@ -14,7 +14,9 @@ control_read_of slot c = control_seen (slot == 0) (slot == 1) c
 abbrev pub idle_read : UpdateMark → Control → Geometry → Table → Read
 idle_read m c g t = record {
   mark = m;
+  statuses = [];
   control = control_read_of m.slot c;
   geometry = g;
   tables = t ∷ [];
+  scanned = [];
 }

@@ -5,3 +5,4 @@ pub mod Kept
 pub mod Mounted
 pub mod Phases
 pub mod Reading
+pub mod Stores

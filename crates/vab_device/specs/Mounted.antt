@@ -1,5 +1,6 @@
 -- A device with its images: the state that it is in, and where its partitions stand.
-use Rattle.std.specs.Prelude.{ℕ, List, map, Option, Some, None, is_some}
+use Rattle.std.specs.Prelude.{ℕ, List, [], map, length, Bool, if◌then◌else◌, Option, Some, None}
+use Rattle.std.specs.Prelude.{is_some}
 use Rattle.std.specs.List.{flat_map}
 use Rattle.std.specs.Option.{option_map}
 use Rattle.vab_disk.specs.Disk.{Image}
@@ -10,18 +11,27 @@ use Rattle.vab_geometry.specs.declared.geometry.Geometry.{Geometry}
 use Rattle.vab_layout.specs.declared.layout.Layout.{Layout}
 use Rattle.vab_layout.specs.Layout.{layout_of}
 use Rattle.vab_layout.specs.Plain.{plain}
+use Rattle.vab_exceptions.specs.declared.area.Exception.{Exception}
 use Rattle.vab_model.specs.declared.state.Image.{Image as ImageOfSlot}
+use Rattle.vab_model.specs.declared.state.PlanImage.{PlanImage}
+use Rattle.vab_model.specs.declared.state.PlanImage.TheVariants as planned
+use Rattle.vab_model.specs.declared.state.PlanEntry.{PlanEntry}
 use Rattle.vab_model.specs.declared.state.State.{State}
-use Rattle.vab_model.specs.declared.state.Phase.TheVariants.{Idle}
+use Rattle.vab_model.specs.declared.state.Phase.{Phase}
+use Rattle.vab_model.specs.declared.state.Phase.TheVariants.{Idle, Installing}
 use Rattle.vab_model.specs.State.{control_seen}
 use Rattle.vab_model.specs.Commands.{Command}
 use Rattle.vab_model.specs.Effects.{Effect, effect, effect_map}
 use Rattle.vab_device.specs.declared.device.Part.{Part}
+use Rattle.vab_device.specs.declared.device.Planned.{Planned}
+use Rattle.vab_device.specs.declared.device.PlannedImage.{PlannedImage}
+use Rattle.vab_device.specs.declared.device.PlannedImage.TheVariants.{Kept, Declared, Written}
 use Rattle.vab_device.specs.declared.device.Device.{Device}
 use Rattle.vab_device.specs.Kept.{group_of}
+use Rattle.vab_device.specs.Stores.{sectors_seen}
 
--- Where the partitions stand: the geometry, and for each slot the table that is read of it, without
--- stores.
+-- Where the partitions stand: the geometry, and for each slot the table that is read of it; that of
+-- a slot with images without stores.
 pub record Places : Type 0 where
   pub geometry : Geometry
   pub a : Option Layout
@@ -52,6 +62,37 @@ abbrev pub images_on : Image → Option (List Part) → Option (List ImageOfSlot
 images_on image None = None
 images_on image (Some parts) = Some (map (image_on image) parts)
 
+-- ---- the partitions that are planned
+
+-- where a store stands; nowhere, where there is none
+abbrev pub blocks_there : Option (List ℕ) → List ℕ
+blocks_there None = []
+blocks_there (Some store) = store
+
+-- the sectors that a read of a written partition takes
+abbrev pub written_sectors : Planned → List Exception → List ℕ
+written_sectors p es = sectors_seen (blocks_there p.store) es 0 p.map
+
+abbrev pub planned_on : Image → Planned → PlannedImage → PlanImage
+planned_on image p Kept = planned.Kept
+planned_on image p Declared = planned.Declared
+planned_on image p (Written es) =
+    planned.Written (bytes_at image (written_sectors p es)) (length es)
+
+abbrev pub entry_on : Image → Planned → PlanEntry
+entry_on image p = record {
+  name = p.name;
+  group = group_of p.group;
+  blocks = length p.map;
+  store = option_map length p.store;
+  image = planned_on image p p.image;
+}
+
+-- where an update from this source stands
+abbrev pub phase_on : ℕ → Image → Option (List Planned) → Phase
+phase_on source image None = Idle
+phase_on source image (Some plan) = Installing source (map (entry_on image) plan)
+
 -- ---- a kept device, where the disk has this image
 
 -- the boot control that a state has of it
@@ -65,18 +106,19 @@ state_on d image = record {
   control = control_on d;
   a = images_on image d.a;
   b = images_on image d.b;
-  phase = Idle;
+  phase = phase_on d.mark.slot image d.plan;
 }
 
-abbrev pub table_placed : ℕ → Option Table → Option Layout
-table_placed slot None = None
-table_placed slot (Some t) = Some (plain slot (layout_of t))
+abbrev pub table_placed : ℕ → Bool → Option Table → Option Layout
+table_placed slot has_images None = None
+table_placed slot has_images (Some t) =
+    Some (if has_images then plain slot (layout_of t) else layout_of t)
 
 abbrev pub places_on : Device → Places
 places_on d = record {
   geometry = d.geometry;
-  a = table_placed 0 d.table_a;
-  b = table_placed 1 d.table_b;
+  a = table_placed 0 (is_some d.a) d.table_a;
+  b = table_placed 1 (is_some d.b) d.table_b;
 }
 
 abbrev pub mounted_on : Device → Image → Mounted

@@ -1,16 +1,30 @@
 -- A phase of an update: what it reads of a disk, and what it asks of that.
-use Rattle.std.specs.Prelude.{ℕ, ◌==◌, Bool, true, false, not, ◌&&◌, List, [], ◌∷◌}
+use Rattle.std.specs.Prelude.{ℕ, ◌==◌, Bool, true, false, not, ◌&&◌, List, [], ◌∷◌, map, length}
+use Rattle.std.specs.Prelude.{Option, Some, None, Result, option_map}
 use Rattle.vab_bootctl.specs.declared.slots.Info.{Info}
 use Rattle.vab_bootctl.specs.declared.slots.Control.{Control}
 use Rattle.vab_bootctl.specs.Boot.{info_at}
 use Rattle.vab_marks.specs.declared.mark.MarkPhase.{MarkPhase}
 use Rattle.vab_marks.specs.declared.mark.MarkPhase.TheVariants as marks
+use Rattle.vab_marks.specs.declared.status.PartStatus.{PartStatus}
+use Rattle.vab_exceptions.specs.declared.area.Exception.{Exception}
+use Rattle.vab_names.specs.Names.{base_of, store_of}
 use Rattle.vab_tables.specs.declared.table.Table.{Table}
+use Rattle.vab_layout.specs.declared.layout.Part.{Part as PartOfLayout}
+use Rattle.vab_layout.specs.declared.layout.Layout.{Layout}
 use Rattle.vab_layout.specs.Layout.{layout_of}
-use Rattle.vab_layout.specs.Slots.{own_parts}
+use Rattle.vab_layout.specs.Slots.{other_slot, own_parts, is_updated}
 use Rattle.vab_partitions.specs.Rules.{bad_part}
+use Rattle.vab_partitions.specs.TargetRules.{bad_target_of}
+use Rattle.vab_partitions.specs.Twins.{are_twins, are_devices}
+use Rattle.vab_device.specs.declared.fault.StartFault.{StartFault}
 use Rattle.vab_device.specs.declared.fault.StartFault.TheVariants.{BadState, BadTable}
+use Rattle.vab_device.specs.declared.device.Planned.{Planned}
+use Rattle.vab_device.specs.declared.device.PlannedImage.{PlannedImage}
+use Rattle.vab_device.specs.declared.device.PlannedImage.TheVariants.{Kept, Declared, Written}
 use Rattle.vab_device.specs.Checks.{Check, check, names_none}
+use Rattle.vab_device.specs.Kept.{sectors_of}
+use Rattle.vab_device.specs.Stores.{Wanted, wanted_of, first_named, Scanned, exceptions_of}
 
 -- No field sees more than it may depend on. A slot is that of the update mark.
 pub record Phase : Type 0 where
@@ -19,9 +33,15 @@ pub record Phase : Type 0 where
   -- the slots with images
   pub has_a : ℕ → Bool
   pub has_b : ℕ → Bool
-  -- the rules of the partitions, and those of the slots
+  -- the statuses of partitions are read
+  pub reads_statuses : Bool
+  -- the rules of the tables and of their partitions, and those of the slots
   pub part_checks : ℕ → List Table → List Check
   pub state_checks : ℕ → Control → List Check
+  -- the stores that are read, in the order of the statuses that name them
+  pub stores : ℕ → List Table → List PartStatus → List (Result Wanted StartFault)
+  -- the partitions that are planned
+  pub plan : ℕ → List Table → List Scanned → Option (List Planned)
 
 -- a slot may be booted as one that works
 abbrev pub is_good : Info → Bool
@@ -36,20 +56,93 @@ abbrev pub of_first : ℕ → (Table → List Check) → List Table → List Che
 of_first slot f [] = check false (BadTable slot) ∷ []
 of_first slot f (t ∷ ts) = f t
 
--- no update: the slot of the mark alone has images; it is current, and works
+-- the slot of the mark is current, and works
+abbrev pub slot_checks : ℕ → Control → List Check
+slot_checks slot c =
+    check (c.current == slot) (BadState 1)
+    ∷ check (is_good (info_at c slot)) (BadState 2)
+    ∷ []
+
+-- no update: the slot of the mark alone has images
 abbrev pub idle : Phase
 idle = record {
   tables = λ slot. slot ∷ [];
   has_a = λ slot. slot == 0;
   has_b = λ slot. slot == 1;
+  reads_statuses = false;
   part_checks = λ slot. of_first slot (λ t. own_check slot t ∷ []);
-  state_checks = λ slot c.
-      check (c.current == slot) (BadState 1)
-      ∷ check (is_good (info_at c slot)) (BadState 2)
-      ∷ [];
+  state_checks = slot_checks;
+  stores = λ slot ts statuses. [];
+  plan = λ slot ts scanned. None;
 }
 
--- the phases that there are
+-- ---- an update is installed
+
+-- of both tables, the source's and the target's
+abbrev pub of_both : {A : Type 0} → A → (Table → Table → A) → List Table → A
+of_both none f [] = none
+of_both none f (s ∷ []) = none
+of_both none f (s ∷ t ∷ ts) = f s t
+
+-- the target has the source's block device, and its groups with the same limits
+abbrev pub twin_check : ℕ → Table → Table → Check
+twin_check target s t =
+    check
+    (are_devices s.devices t.devices && are_twins target s.groups t.groups)
+    (BadTable target)
+
+-- the target's partitions and stores keep their rules beside the source
+abbrev pub target_check : ℕ → Table → Table → Check
+target_check target s t = names_none (bad_target_of target (layout_of s).parts (layout_of t).parts)
+
+abbrev pub update_checks : ℕ → Table → Table → List Check
+update_checks source s t =
+    twin_check (other_slot source) s t
+    ∷ own_check source s
+    ∷ target_check (other_slot source) s t
+    ∷ []
+
+-- what is known of a partition that is updated or not, and the exceptions of its store
+abbrev pub planned_image : Bool → Option (List Exception) → PlannedImage
+planned_image false es = Kept
+planned_image true None = Declared
+planned_image true (Some es) = Written es
+
+-- where the store of a partition stands, where it has one
+abbrev pub store_on : Layout → List ℕ → Option (List ℕ)
+store_on l name =
+    option_map (λ store. sectors_of l.device.first_logical_sector store.blocks)
+    (first_named (store_of name) l.parts)
+
+abbrev pub planned_on : Layout → List Scanned → PartOfLayout → Planned
+planned_on l scanned p = record {
+  name = base_of p.name;
+  group = p.group;
+  map = sectors_of l.device.first_logical_sector p.blocks;
+  store = store_on l p.name;
+  image = planned_image (is_updated p) (exceptions_of p.name scanned);
+}
+
+-- the partitions of an update's target
+abbrev pub plan_of : ℕ → Layout → List Scanned → List Planned
+plan_of target l scanned = map (planned_on l scanned) (own_parts target l.parts)
+
+-- An update is installed: the slot of the mark, its source, has images as without one, and the
+-- partitions of the other slot, its target, are planned.
+abbrev pub installing : Phase
+installing = record idle {
+  tables = λ slot. slot ∷ other_slot slot ∷ [];
+  reads_statuses = true;
+  part_checks = λ slot.
+      of_both (check false (BadTable slot) ∷ []) (λ s t. update_checks slot s t);
+  stores = λ slot ts statuses.
+      of_both [] (λ s t. map (wanted_of (other_slot slot) (layout_of t)) statuses) ts;
+  plan = λ slot ts scanned.
+      of_both None (λ s t. Some (plan_of (other_slot slot) (layout_of t) scanned)) ts;
+}
+
+-- ---- the phases that there are
+
 abbrev pub is_known : MarkPhase → Bool
 is_known marks.Idle = true
 is_known marks.Installing = false
@@ -59,7 +152,7 @@ is_known marks.Completed = false
 
 abbrev pub phase_at : MarkPhase → Phase
 phase_at marks.Idle = idle
-phase_at marks.Installing = idle
+phase_at marks.Installing = installing
 phase_at marks.Staged = idle
 phase_at marks.Merging = idle
 phase_at marks.Completed = idle

@@ -8,7 +8,9 @@ use Rattle.vab_bootctl.specs.declared.sector.ControlFault.{ControlFault}
 use Rattle.vab_bootctl.specs.Control.{control_of}
 use Rattle.vab_marks.specs.declared.mark.UpdateMark.{UpdateMark}
 use Rattle.vab_marks.specs.declared.sector.MarkFault.{MarkFault}
+use Rattle.vab_marks.specs.declared.status.PartStatus.{PartStatus}
 use Rattle.vab_marks.specs.Mark.{mark_of}
+use Rattle.vab_statuses.specs.Statuses.{statuses_in, written_in, IsOfStatuses}
 use Rattle.vab_tables.specs.declared.table.Table.{Table}
 use Rattle.vab_tables.specs.declared.fault.TableFault.{TableFault}
 use Rattle.vab_tables.specs.Rules.{cap_of}
@@ -24,25 +26,28 @@ use Rattle.vab_device.specs.declared.fault.StartFault.{StartFault}
 use Rattle.vab_device.specs.declared.fault.StartFault.TheVariants.{TooSmall, BadMark, BadControl}
 use Rattle.vab_device.specs.declared.fault.StartFault.TheVariants.{BadGeometry, BadTable}
 use Rattle.vab_device.specs.declared.device.Part.{Part}
+use Rattle.vab_device.specs.declared.device.Planned.{Planned}
+use Rattle.vab_device.specs.declared.device.PlannedImage.{PlannedImage}
+use Rattle.vab_device.specs.declared.device.PlannedImage.TheVariants.{Kept, Declared, Written}
 use Rattle.vab_device.specs.declared.device.Device.{Device}
-use Rattle.vab_device.specs.Checks.{first_fault, passing, ◌>>=◌}
+use Rattle.vab_device.specs.Checks.{unless, first_fault, passing, ◌>>=◌}
 use Rattle.vab_device.specs.Kept.{parts_of, limits_of, copies_end, super_bytes, lies_in}
-use Rattle.vab_device.specs.Mounted.{Mounted, mounted_on, images_on, sectors_read}
+use Rattle.vab_device.specs.Mounted.{Mounted, mounted_on, images_on, sectors_read, phase_on}
+use Rattle.vab_device.specs.Mounted.{written_sectors}
 use Rattle.vab_device.specs.Phases.{Phase, phase_at, is_known}
+use Rattle.vab_device.specs.Stores.{Wanted, Scanned, scans_in}
 
 -- What the sectors say that the phase reads. The images are left where they stand. Of boot control
 -- the slots with images are read, and of a slot's table that of the whole copy.
 pub record Read : Type 0 where
   pub mark : UpdateMark
+  pub statuses : List (Option PartStatus)
   pub control : Control
   pub geometry : Geometry
   pub tables : List Table
+  pub scanned : List Scanned
 
 -- ---- the parts of a disk
-
-abbrev pub unless : {A : Type 0} → Bool → StartFault → Result A StartFault → Result A StartFault
-unless true fault next = next
-unless false fault next = Err fault
 
 abbrev pub mark_read : Result UpdateMark MarkFault → Result UpdateMark StartFault
 mark_read (Ok m) = unless (is_known m.phase) (BadMark 2048) (Ok m)
@@ -51,6 +56,16 @@ mark_read (Err fault) = Err (BadMark 2048)
 -- the update mark, in sector 2048
 unfoldable pub mark_in : Image → Result UpdateMark StartFault
 mark_in image = mark_read (mark_of (image 2048))
+
+abbrev pub statuses_read : Result (List (Option PartStatus)) ℕ
+    → Result (List (Option PartStatus)) StartFault
+statuses_read (Ok statuses) = Ok statuses
+statuses_read (Err sector) = Err (BadMark sector)
+
+-- the statuses, where they are read
+unfoldable pub statuses_at : Bool → Image → Result (List (Option PartStatus)) StartFault
+statuses_at false image = Ok []
+statuses_at true image = statuses_read (statuses_in image)
 
 abbrev pub control_read : Bool → Bool → Result Control ControlFault → Result Control StartFault
 control_read has_a has_b (Ok c) = Ok (control_seen has_a has_b c)
@@ -93,10 +108,18 @@ tables_in size g (slot ∷ slots) image =
 -- the sectors with places of their own
 abbrev pub framed : ℕ → UpdateMark → Phase → Image → Result Read StartFault
 framed size m p image =
+    statuses_at p.reads_statuses image >>= λ ss.
     control_in (p.has_a m.slot) (p.has_b m.slot) image >>= λ c.
     geometry_at size image >>= λ g.
     tables_in size g (p.tables m.slot) image >>= λ ts.
-    Ok (record { mark = m; control = c; geometry = g; tables = ts })
+    Ok (record {
+      mark = m;
+      statuses = ss;
+      control = c;
+      geometry = g;
+      tables = ts;
+      scanned = [];
+    })
 
 unfoldable pub frame : ℕ → Image → Result Read StartFault
 frame size image =
@@ -112,6 +135,14 @@ state_fault r = first_fault ((phase_at r.mark.phase).state_checks r.mark.slot r.
 -- the rules of the partitions
 unfoldable pub judged : Read → Result Read StartFault
 judged r = passing (part_fault r) r
+
+-- the stores that are read
+abbrev pub stores_of : Read → List (Result Wanted StartFault)
+stores_of r = (phase_at r.mark.phase).stores r.mark.slot r.tables (written_in r.statuses)
+
+-- their exceptions
+unfoldable pub scanned_in : Image → Read → Result Read StartFault
+scanned_in image r = scans_in (stores_of r) image >>= λ ss. Ok (record r { scanned = ss })
 
 -- the rules of the slots
 unfoldable pub stated : Read → Result Read StartFault
@@ -150,6 +181,7 @@ kept r = record {
   b = parts_for 1 ((phase_at r.mark.phase).has_b r.mark.slot) (read_table 1 r);
   table_a = read_table 0 r;
   table_b = read_table 1 r;
+  plan = (phase_at r.mark.phase).plan r.mark.slot r.tables r.scanned;
 }
 
 -- ---- what a disk means
@@ -157,7 +189,7 @@ kept r = record {
 -- What a disk of so many sectors means: the links in their order.
 unfoldable pub device : ℕ → Image → Result Mounted StartFault
 device size image =
-    frame size image >>= judged >>= stated >>= λ r.
+    frame size image >>= judged >>= scanned_in image >>= stated >>= λ r.
     Ok (mounted_on (kept r) image)
 
 -- a disk of so many sectors is this device
@@ -168,6 +200,7 @@ IsIn size m image = device size image ≡ Ok m
 pub record Reads (size : ℕ) (r : Read) (image : Image) : Type 0 where
   pub enough : nat_le 4120 size ≡ true
   pub mark : mark_in image ≡ Ok r.mark
+  pub statuses : statuses_at (phase_at r.mark.phase).reads_statuses image ≡ Ok r.statuses
   pub control : control_in
       ((phase_at r.mark.phase).has_a r.mark.slot)
       ((phase_at r.mark.phase).has_b r.mark.slot)
@@ -177,6 +210,7 @@ pub record Reads (size : ℕ) (r : Read) (image : Image) : Type 0 where
   pub tables : tables_in size r.geometry ((phase_at r.mark.phase).tables r.mark.slot) image
       ≡ Ok r.tables
   pub parts : part_fault r ≡ None
+  pub stores : scans_in (stores_of r) image ≡ Ok r.scanned
   pub state : state_fault r ≡ None
 
 -- ---- a kept device and its disk
@@ -204,6 +238,8 @@ pub record Represents (d : Device) (size : ℕ) (image : Image) : Type 0 where
 -- Each part that is read, and the images, are the same in both.
 pub record SameRead (size : ℕ) (r : Read) (old new : Image) : Type 0 where
   pub mark : mark_in new ≡ mark_in old
+  pub statuses : statuses_at (phase_at r.mark.phase).reads_statuses new
+      ≡ statuses_at (phase_at r.mark.phase).reads_statuses old
   pub control : control_in
       ((phase_at r.mark.phase).has_a r.mark.slot)
       ((phase_at r.mark.phase).has_b r.mark.slot)
@@ -215,8 +251,10 @@ pub record SameRead (size : ℕ) (r : Read) (old new : Image) : Type 0 where
   pub geometry : geometry_at size new ≡ geometry_at size old
   pub tables : tables_in size r.geometry ((phase_at r.mark.phase).tables r.mark.slot) new
       ≡ tables_in size r.geometry ((phase_at r.mark.phase).tables r.mark.slot) old
+  pub stores : scans_in (stores_of r) new ≡ scans_in (stores_of r) old
   pub images_a : images_on new (kept r).a ≡ images_on old (kept r).a
   pub images_b : images_on new (kept r).b ≡ images_on old (kept r).b
+  pub plan : phase_on r.mark.slot new (kept r).plan ≡ phase_on r.mark.slot old (kept r).plan
 
 -- Writes of such values are dead: each image that has other bytes there alone is read the same.
 abbrev pub Dead : ℕ → Read → Image → (ℕ → List ℕ → Type 0) → Type 0
@@ -244,14 +282,37 @@ abbrev pub IsOfImages : Option (List Part) → ℕ → Type 0
 IsOfImages None s = ⊥
 IsOfImages (Some parts) s = IsOfParts parts s
 
+-- a sector of a store that is read
+abbrev pub IsOfStores : List (Result Wanted StartFault) → ℕ → Type 0
+IsOfStores [] s = ⊥
+IsOfStores (Err fault ∷ ws) s = IsOfStores ws s
+IsOfStores (Ok w ∷ ws) s = IsOfBlocks w.store s ⊎ IsOfStores ws s
+
+-- a sector that a read of a written partition takes
+abbrev pub IsOfWritten : Planned → PlannedImage → ℕ → Type 0
+IsOfWritten p Kept s = ⊥
+IsOfWritten p Declared s = ⊥
+IsOfWritten p (Written es) s = IsOfBlocks (written_sectors p es) s
+
+abbrev pub IsOfPlanned : List Planned → ℕ → Type 0
+IsOfPlanned [] s = ⊥
+IsOfPlanned (p ∷ ps) s = IsOfWritten p p.image s ⊎ IsOfPlanned ps s
+
+abbrev pub IsOfPlan : Option (List Planned) → ℕ → Type 0
+IsOfPlan None s = ⊥
+IsOfPlan (Some plan) s = IsOfPlanned plan s
+
 -- The live sectors: the reading and the images are the same where these are.
 pub data Live (r : Read) (s : ℕ) : Type 0 where
   of_mark : s ≡ 2048 → Live r s
+  of_statuses : (phase_at r.mark.phase).reads_statuses ≡ true → IsOfStatuses s → Live r s
   of_control : s ≡ 4 → Live r s
   of_geometry : (s ≡ 4104) ⊎ (s ≡ 4112) → Live r s
   of_tables : IsOfTables r.geometry ((phase_at r.mark.phase).tables r.mark.slot) s → Live r s
+  of_stores : IsOfStores (stores_of r) s → Live r s
   of_images_a : IsOfImages (kept r).a s → Live r s
   of_images_b : IsOfImages (kept r).b s → Live r s
+  of_plan : IsOfPlan (kept r).plan s → Live r s
 
 -- the same where the reading rests
 abbrev pub Agrees : Read → Image → Image → Type 0

@@ -2,6 +2,7 @@
 
 ghost use Rattle.std.specs.Prelude.{◌≡◌, ◌<◌, ◌==◌, Option, Some, None, option_map, if◌then◌else◌};
 ghost use Rattle.vab_bootctl.specs.Boot.{info_at};
+ghost use Rattle.vab_device.specs.Kept.{phase_kind};
 
 use vab_bootctl::{Control, Info};
 use vab_bytes::{Listing, Name36};
@@ -9,6 +10,7 @@ use vab_geometry::Geometry;
 use vab_linear::Map;
 use vab_marks::UpdateMark;
 use vab_model::GroupLimit;
+use vab_store::StoreView;
 use vab_tables::Table;
 
 /// A partition of a slot.
@@ -20,6 +22,31 @@ pub struct Part {
     pub group: Name36,
     /// Where its blocks stand on the disk.
     pub map: Map,
+}
+
+/// What is known of the image of a planned partition.
+#[derive(Drop)]
+pub enum PlannedImage {
+    /// It is the source's.
+    Kept,
+    /// There is none yet.
+    Declared,
+    /// It was written: the blocks of these exceptions stand in the store.
+    Written(StoreView),
+}
+
+/// A partition that the target of an update is to have.
+#[derive(Drop)]
+pub struct Planned {
+    /// The base name, without the slot's suffix.
+    pub name: Name36,
+    /// The full name of its group.
+    pub group: Name36,
+    /// Where its blocks stand on the disk.
+    pub map: Map,
+    /// Where the blocks of its exception store stand, if it has one.
+    pub store: Option<Map>,
+    pub image: PlannedImage,
 }
 
 /// What is known of a device between two commands. Its images stay on the disk.
@@ -40,6 +67,8 @@ pub struct Device {
     pub table_a: Option<Table>,
     /// The table of slot b, where it is read.
     pub table_b: Option<Table>,
+    /// The partitions of the target, while an update is installed.
+    pub plan: Option<Listing<Planned>>,
 }
 
 /// Where an update stands.
@@ -47,6 +76,8 @@ pub struct Device {
 pub enum PhaseKind {
     /// No update.
     Idle,
+    /// An update is installed beside this slot, the source.
+    Installing(usize),
 }
 
 impl Device {
@@ -59,9 +90,12 @@ impl Device {
 
     /// Where an update stands.
     pub fn phase(&self) -> PhaseKind
-        ensures { result ≡ PhaseKind.Idle }
+        ensures { result ≡ phase_kind self.now }
     {
-        PhaseKind::Idle
+        match self.plan {
+            None => PhaseKind::Idle,
+            Some(_) => PhaseKind::Installing(self.mark.slot),
+        }
     }
 
     /// Blocks of 4096 bytes that partitions may have.

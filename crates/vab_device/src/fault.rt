@@ -10,18 +10,21 @@ use vab_gate::DiskFault;
 pub enum StartFault {
     /// So many sectors are needed, and there are fewer.
     TooSmall(u64, u64),
-    /// This sector is no update mark.
+    /// This sector is no update mark, or no status of a partition.
     BadMark(u64),
     /// Sector 4 is no boot control.
     BadControl(ControlFault),
     /// Neither copy of the geometry passes, or the copies of the tables pass the end of `super`.
     BadGeometry,
     /// Neither copy of this slot's table is a table's text, or its block device doesn't lie in
-    /// `super` behind the copies.
+    /// `super` behind the copies, or the target's block device or groups aren't the source's.
     BadTable(usize),
     /// The first partition, in the order of the table, that breaks a rule of a slot's own
-    /// partitions.
+    /// partitions or of an update's target.
     BadPartition(Name36),
+    /// A status has this name, and there is no such partition with a store, or the store holds no
+    /// list of exceptions as long as the status says.
+    BadStore(Name36),
     /// 1: the current slot has no images. 2: the slot with images has priority 0 or isn't
     /// successful.
     BadState(u8),

@@ -1,5 +1,6 @@
 -- What holds of a kept device over every disk.
-use Rattle.std.proofs.Common.{◌≡◌, ◌≢◌, ℕ, ◌+◌, ◌-◌, ◌*◌, ◌≤◌, ◌<◌, ◌^◌, inl, inr, true, ◌==◌, eqb, not, List, [], ◌∷◌, ◌++◌, length, get_or, Option, Some, None, refl, sym, ◌∙◌, ap, subst, arith}
+use Rattle.std.proofs.Common.{◌≡◌, ◌≢◌, ℕ, ◌+◌, ◌-◌, ◌*◌, ◌≤◌, ◌<◌, ◌^◌, inl, inr, true, ◌==◌, eqb, not, List, [], ◌∷◌, ◌++◌, length, get_or, Option, Some, None, refl, sym, ◌∙◌, ap, subst, arith, cond}
+use Rattle.std.proofs.Common.{zero, suc, false}
 use Rattle.std.specs.Prelude.{map, All, AllPairs, IsTrue, is_some, if◌then◌else◌}
 use Rattle.std.proofs.Math.Seq.{get_or-append_right}
 use Rattle.std.proofs.Math.ListN.{get_or-append}
@@ -21,11 +22,12 @@ use Rattle.vab_layout.specs.declared.layout.Layout.{Layout}
 use Rattle.vab_layout.specs.Layout.{layout_of, blocks_of_parts}
 use Rattle.vab_layout.specs.Rules.{IsPart as IsPartOfLayout, IsLayout}
 use Rattle.vab_layout.proofs.LayoutLaws.{layout_keeps}
-use Rattle.vab_layout.specs.Slots.{own_parts, IsOwn, IsDistinct}
+use Rattle.vab_layout.specs.Slots.{other_slot, own_parts, IsOwn, IsDistinct}
 use Rattle.vab_device.specs.declared.device.Part.{Part}
 use Rattle.vab_device.specs.declared.device.Device.{Device}
 use Rattle.vab_device.specs.Kept.{copies_end, super_bytes, lies_in, sectors_of, part_on, parts_of}
-use Rattle.vab_device.specs.Kept.{IsPart, AreParts, ArePresent, IsTableOf, IsKeptTable, IsDevice}
+use Rattle.vab_device.specs.Kept.{IsPart, AreParts, ArePresent, IsTableOf, IsKeptTable, IsUpdate}
+use Rattle.vab_device.specs.Kept.{IsDevice}
 use Rattle.vab_device.specs.Reading.{table_for, parts_for}
 use Rattle.vab_recover.specs.Opened.{idle_kept}
 
@@ -114,6 +116,21 @@ table_at_slot size slot k g t is = elim (cases_Bool (eqb slot k)) [
   | inr h ↦ rw h tt
 ]
 
+-- one table is read, that of the slot with images
+record HasOneTable (slot : ℕ) (t : Table) : Type 0 where
+  source : is_some (cond (slot == 0) (table_for 0 (slot ∷ []) (t ∷ [])) (table_for 1 (slot ∷ []) (t ∷ [])))
+      ≡ true
+  target : cond (other_slot slot == 0) (table_for 0 (slot ∷ []) (t ∷ [])) (table_for 1 (slot ∷ []) (t ∷ []))
+      ≡ None
+  update : IsUpdate slot
+      (cond (slot == 0) (table_for 0 (slot ∷ []) (t ∷ [])) (table_for 1 (slot ∷ []) (t ∷ [])))
+      None
+
+has_one_table : (slot : ℕ) (t : Table) → slot < 2 → HasOneTable slot t
+has_one_table zero t below = record { source = refl; target = refl; update = tt }
+has_one_table (suc zero) t below = record { source = refl; target = refl; update = tt }
+has_one_table (suc (suc n)) t below = absurd (omega (arith, below))
+
 -- What was read of a disk of so many sectors is a device there.
 pub device_kept : (size : ℕ) (m : UpdateMark) (c : Control) (g : Geometry) (t : Table)
     → 4120 ≤ size
@@ -155,12 +172,13 @@ device_kept size m c g t enough rules fits phase below current on keeps own lies
     of_idle size m c g t phase enough rules fits below current on all table =
         let idle_one : UpdateMark = record { phase = marks.Idle; slot = m.slot } in
         let same : idle_one ≡ m = rw (sym phase) refl in
+        let one = has_one_table m.slot t below in
         subst (λ (k : UpdateMark). IsDevice (idle_kept k c g t) size) same
         (record {
           enough = enough;
           geometry = rules;
           control = fits;
-          phase = refl;
+          phase = inl refl;
           slot = below;
           current = current;
           has_a = some_at m.slot 0 t;
@@ -170,4 +188,15 @@ device_kept size m c g t enough rules fits phase below current on keeps own lies
           parts_b = at_slot size 1 m.slot t all;
           table_a = table_at_slot size m.slot 0 g t table;
           table_b = table_at_slot size m.slot 1 g t table;
+          source = one.source;
+          target = ap is_some one.target;
+          planned = refl;
+          plan = tt;
+          update =
+              subst
+              (λ (x : Option Table).
+              IsUpdate m.slot
+              (cond (m.slot == 0) (table_for 0 (m.slot ∷ []) (t ∷ [])) (table_for 1 (m.slot ∷ []) (t ∷ [])))
+              x)
+              (sym one.target) one.update;
         })

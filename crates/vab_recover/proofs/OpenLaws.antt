@@ -7,6 +7,7 @@ use Rattle.vab_disk.specs.Calls.{SameBut}
 use Rattle.vab_bootctl.specs.declared.slots.Control.{Control}
 use Rattle.vab_bootctl.specs.declared.sector.ControlFault.{ControlFault}
 use Rattle.vab_bootctl.specs.Control.{control_of}
+use Rattle.vab_marks.specs.declared.mark.MarkPhase.TheVariants as marks
 use Rattle.vab_marks.specs.declared.mark.UpdateMark.{UpdateMark}
 use Rattle.vab_geometry.specs.declared.geometry.Geometry.{Geometry}
 use Rattle.vab_geometry.specs.Geometry.{IsGeometry}
@@ -22,11 +23,11 @@ use Rattle.vab_device.specs.declared.fault.StartFault.TheVariants.{TooSmall}
 use Rattle.vab_device.specs.declared.device.Device.{Device}
 use Rattle.vab_device.specs.Checks.{first_fault, or_else, passing, ◌>>=◌}
 use Rattle.vab_device.specs.Mounted.{mounted_on}
-use Rattle.vab_device.specs.Phases.{Phase, idle, phase_at, own_check}
+use Rattle.vab_device.specs.Phases.{Phase, phase_at}
 use Rattle.vab_device.specs.Reading.{Read, mark_in, control_read, control_in, geometry_at, table_at}
 use Rattle.vab_device.specs.Reading.{tables_in, framed, frame, part_fault, state_fault, judged}
 use Rattle.vab_device.specs.Reading.{stated, kept, device, Reads, AgreeCopies, Represents, SameRead}
-use Rattle.vab_device.proofs.ReadingLaws.{at_idle, device_of, device_same, device_stands}
+use Rattle.vab_device.proofs.ReadingLaws.{idle_at, device_of, device_same, device_stands}
 use Rattle.vab_device.proofs.ReadingLaws.{reads_kept, mounted_same}
 use Rattle.vab_device.proofs.RepairLaws.{repair_same}
 use Rattle.vab_device.specs.Idle.{idle_read}
@@ -45,7 +46,8 @@ loaded_is g slot l image is =
 
 module _
     (d : Device) (l : Loaded) (size : ℕ) (old : Image)
-    (geometry : IsGeometry d.geometry) (slot : d.mark.slot < 2) (fits : length l.text ≤ d.geometry.max)
+    (geometry : IsGeometry d.geometry) (slot : d.mark.slot < 2) (idle : d.mark.phase ≡ marks.Idle)
+    (fits : length l.text ≤ d.geometry.max)
     (opened : IsOpened d l size old) where
   read : Read
   read = idle_read d.mark d.control d.geometry l.table
@@ -59,7 +61,7 @@ module _
       → slot_table d.geometry d.mark.slot new ≡ Ok l.table
       → SameRead size (idle_read d.mark d.control d.geometry l.table) old new
   same_read new others table =
-      repair_same size n (idle_read d.mark d.control d.geometry l.table) old new geometry slot
+      repair_same size n d.mark.slot (idle_read d.mark d.control d.geometry l.table) old new geometry slot slot
       (text_fits d.geometry (length l.text) geometry fits) opened.reads others
       (table ∙ sym (loaded_is d.geometry d.mark.slot l old opened.loaded))
 
@@ -110,7 +112,7 @@ module _
         copies =
             subst
             (λ (p : Phase). AgreeCopies d.geometry (p.tables d.mark.slot) (l.table ∷ []) new)
-            (sym (at_idle d.mark.phase))
+            (sym (idle_at d.mark.phase idle))
             ((l.text, opened.loaded.text, both), tt);
       }
 

@@ -117,5 +117,6 @@ pub fn assemble(
         b,
         table_a: None,
         table_b: None,
+        plan: None,
     })
 }

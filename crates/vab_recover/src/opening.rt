@@ -3,6 +3,7 @@
 ghost use Rattle.std.specs.Prelude.{◌≡◌, ◌<◌, ◌≤◌, length, IfOk, OnOk, IfErr, Ok, Err};
 ghost use Rattle.vab_disk.specs.Disk.{Adds};
 ghost use Rattle.vab_disk.specs.Calls.{OnlyReads, Touches, IsAtRest, IsQuiet};
+ghost use Rattle.vab_marks.specs.declared.mark.MarkPhase.TheVariants as marks;
 ghost use Rattle.vab_device.specs.Faults.{Answers, IsOfContents, IsOfDisk};
 ghost use Rattle.vab_device.specs.Kept.{IsDevice};
 ghost use Rattle.vab_device.specs.Mounted.{mounted_on};
@@ -31,6 +32,7 @@ pub fn open<D: Disk>(alloc: Global, d: &mut D) -> Result<(Device, Loaded), Start
     ensures is { IfOk result
         (λ r. with_table r.1.table r.0 ≡ idle_kept r.0.mark r.0.control r.0.geometry r.1.table) }
     ensures kept { IfOk result (λ r. IsDevice (with_table r.1.table r.0) (D.size d.old)) }
+    ensures phase { IfOk result (λ r. r.0.mark.phase ≡ marks.Idle) }
     ensures fits { IfOk result (λ r. length r.1.text ≤ r.0.geometry.max) }
     ensures reads { OnlyReads D.Disk d.old d.new }
     ensures counts { CountsFaults D.Disk d.old d.new result }

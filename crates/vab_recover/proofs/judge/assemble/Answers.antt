@@ -15,7 +15,7 @@ use Rattle.vab_device.specs.declared.device.Device.{Device}
 use Rattle.vab_device.specs.Kept.{limits_of, parts_of}
 use Rattle.vab_device.specs.Phases.{Phase, idle, phase_at}
 use Rattle.vab_device.specs.Reading.{Read, parts_for, table_for, kept}
-use Rattle.vab_device.proofs.ReadingLaws.{at_idle}
+use Rattle.vab_device.proofs.ReadingLaws.{idle_at}
 use Rattle.vab_device.specs.Idle.{idle_read}
 use Rattle.vab_recover.specs.Opened.{idle_kept, with_table}
 use Rattle.vab_recover.proofs.judge.assemble.Goals as goal
@@ -61,6 +61,7 @@ is_kept : (m : UpdateMark) (c : Control) (g : Geometry) (t : Table) (cap : ℕ) 
       b = b;
       table_a = None;
       table_b = None;
+      plan = None;
     } in
     let k : Device = record {
       geometry = g;
@@ -72,6 +73,7 @@ is_kept : (m : UpdateMark) (c : Control) (g : Geometry) (t : Table) (cap : ℕ) 
       b = parts_for 1 (p.has_b m.slot) (table_for 1 (p.tables m.slot) (t ∷ []));
       table_a = table_for 0 (p.tables m.slot) (t ∷ []);
       table_b = table_for 1 (p.tables m.slot) (t ∷ []);
+      plan = p.plan m.slot (t ∷ []) [];
     } in
     with_table t d ≡ k)
 is_kept m c g t cap groups a b p is is_cap is_groups is_a is_b =
@@ -87,6 +89,7 @@ is_kept m c g t cap groups a b p is is_cap is_groups is_a is_b =
       b = at_b i;
       table_a = table_at m.slot 0 t i;
       table_b = table_at m.slot 1 t i;
+      plan = None;
     })
 
 pub returns-clause-kept : goal.returns-clause-kept
@@ -95,7 +98,7 @@ returns-clause-kept c =
     let m = c.args.mark in
     let only = λ (slot : ℕ) (ps : List Part). (if m.slot == slot then Some ps else None) in
     is_kept m c.args.control c.args.geometry t c.cap-cap.result c.in_ok-groups.groups
-    c.by_slot-a.result.0 c.by_slot-a.result.1 (phase_at m.phase) (at_idle m.phase)
+    c.by_slot-a.result.0 c.by_slot-a.result.1 (phase_at m.phase) (idle_at m.phase c.requires.phase)
     (c.cap-cap.ensures
     ∙ ap cap_of (first_of t c.requires.keeps c.as_slice.result.now c.index-as_slice-0.result
     c.as_slice.ensures c.index-as_slice-0.is))

@@ -25,9 +25,9 @@ use Rattle.vab_marks.specs.declared.mark.UpdateMark.{UpdateMark}
 use Rattle.vab_device.specs.Idle.{control_read_of, idle_read}
 use Rattle.vab_recover.specs.Opened.{idle_kept, IsOpened}
 use Rattle.vab_recover.proofs.DeviceLaws.{device_kept}
-use Rattle.vab_device.proofs.IdleLaws.{device_small, device_no_mark, device_no_control}
-use Rattle.vab_device.proofs.IdleLaws.{device_no_geometry, device_no_table, device_judged}
-use Rattle.vab_device.proofs.IdleLaws.{reads_idle, control_seen_in}
+use Rattle.vab_device.proofs.OpeningLaws.{device_small, device_no_mark, control_seen_in}
+use Rattle.vab_device.proofs.IdleLaws.{idle_no_control, idle_no_geometry, idle_no_table}
+use Rattle.vab_device.proofs.IdleLaws.{idle_judged, reads_idle}
 use Rattle.vab_recover.proofs.opening.open.Goals as goal
 
 -- a fault that is passed on
@@ -82,7 +82,8 @@ returns-in_err-control-clause-fault g c = λ t.
     let s1 = c.read_mark.ensures.reads.seen t in
     let is_same = device size (g.D.Disk.seen c.args.d.now) in
     passed c.from_residual-in_err-control.result c.in_err-control.field-0.0 is_same c.from_residual-in_err-control.ensures.1
-    (λ kind. device_no_control size (g.D.Disk.seen c.args.d.now) m _ enough (c.in_ok-mark.ensures.answers t)
+    (λ kind. idle_no_control size (g.D.Disk.seen c.args.d.now) m enough (c.in_ok-mark.ensures.answers t)
+    c.in_ok-mark.ensures.phase _
     (ap (control_in (m.slot == 0) (m.slot == 1)) (sym s1)
     ∙ c.in_err-control.ensures.fault t kind (m.slot == 0) (m.slot == 1)))
 
@@ -98,7 +99,7 @@ returns-in_err-geometry-clause-fault g c = λ t.
     let control = control_moved old _ _ s1 (c.in_ok-control.ensures.ok t) in
     let is_same = device size (g.D.Disk.seen c.args.d.now) in
     passed c.from_residual-in_err-geometry.result c.in_err-geometry.field-0.0 is_same c.from_residual-in_err-geometry.ensures.1
-    (λ kind. device_no_geometry size old m _ _ enough (c.in_ok-mark.ensures.answers t)
+    (λ kind. idle_no_geometry size old m enough (c.in_ok-mark.ensures.answers t) c.in_ok-mark.ensures.phase _ _
     (control_seen_in (m.slot == 0) (m.slot == 1) old c.in_ok-control.control control)
     (geometry_moved size _ old _ _ n2 s2 (c.in_err-geometry.ensures.answers t kind)))
 
@@ -116,7 +117,8 @@ returns-in_err-loaded-clause-fault g c = λ t.
     let control = control_moved old _ _ s1 (c.in_ok-control.ensures.ok t) in
     let is_same = device size (g.D.Disk.seen c.args.d.now) in
     passed c.from_residual-in_err-loaded.result c.in_err-loaded.field-0.0 is_same c.from_residual-in_err-loaded.ensures.1
-    (λ kind. device_no_table size old m _ c.in_ok-geometry.geometry _ enough (c.in_ok-mark.ensures.answers t)
+    (λ kind. idle_no_table size old m enough (c.in_ok-mark.ensures.answers t) c.in_ok-mark.ensures.phase _
+    c.in_ok-geometry.geometry _
     (control_seen_in (m.slot == 0) (m.slot == 1) old c.in_ok-control.control control)
     (geometry_moved size _ old _ _ n2 s2 (c.in_ok-geometry.ensures.answers t))
     (table_moved c.in_ok-geometry.geometry m.slot size _ old _ _ n3 s3 (c.in_err-loaded.ensures.fault t kind)))
@@ -135,12 +137,12 @@ returns-in_err-judge-clause-fault g c = λ t.
     let control = control_moved old _ _ s1 (c.in_ok-control.ensures.ok t) in
     let is_same = device size (g.D.Disk.seen c.args.d.now) in
     passed c.from_residual-in_err-judge.result c.in_err-judge.field-0.0 is_same c.from_residual-in_err-judge.ensures.1
-    (λ kind. device_judged size old m c.in_ok-control.control c.in_ok-geometry.geometry c.in_ok-loaded.loaded.table _
-    enough (c.in_ok-mark.ensures.answers t)
+    (λ kind. idle_judged size old m enough (c.in_ok-mark.ensures.answers t) c.in_ok-mark.ensures.phase
+    c.in_ok-control.control c.in_ok-geometry.geometry c.in_ok-loaded.loaded.table
     (control_seen_in (m.slot == 0) (m.slot == 1) old c.in_ok-control.control control)
     (geometry_moved size _ old _ _ n2 s2 (c.in_ok-geometry.ensures.answers t))
     (table_moved c.in_ok-geometry.geometry m.slot size _ old _ _ n3 s3 (c.in_ok-loaded.ensures.ok t))
-    (c.in_err-judge.ensures.fault kind))
+    _ (c.in_err-judge.ensures.fault kind))
 
 -- a device whose parts were read so
 opened_of : (d : Device) (m : UpdateMark) (k : Control) (geometry : Geometry) (size : ℕ) (image : Image)
@@ -184,7 +186,7 @@ returns-clause-opened g c = λ t.
     let control = control_moved old _ _ s1 (c.in_ok-control.ensures.ok t) in
     opened_of c.in_ok-device.device m k x size old l
     c.in_ok-device.ensures.mark c.in_ok-device.ensures.control c.in_ok-device.ensures.geometry
-    (reads_idle size old m k x l.table enough (c.in_ok-mark.ensures.answers t)
+    (reads_idle size old m enough (c.in_ok-mark.ensures.answers t) c.in_ok-mark.ensures.phase k x l.table
     (control_seen_in (m.slot == 0) (m.slot == 1) old k control)
     (geometry_moved size _ old _ _ n2 s2 (c.in_ok-geometry.ensures.answers t))
     (table_moved x m.slot size _ old _ _ n3 s3 (c.in_ok-loaded.ensures.ok t))

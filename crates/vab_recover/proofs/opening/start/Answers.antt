@@ -9,6 +9,7 @@ use Rattle.vab_lpstore.specs.Storing.{SameElsewhere, LeavesTable, IsOfRepair}
 use Rattle.vab_lpstore.specs.declared.loaded.Loaded.{Loaded}
 use Rattle.vab_lpstore.proofs.StoreLaws.{repair_elsewhere}
 use Rattle.vab_bootctl.specs.Control.{control_of}
+use Rattle.vab_marks.specs.declared.mark.MarkPhase.TheVariants as marks
 use Rattle.vab_device.specs.declared.device.Device.{Device}
 use Rattle.vab_device.specs.Mounted.{mounted_on}
 use Rattle.vab_device.specs.Kept.{IsDevice}
@@ -44,6 +45,7 @@ repair_table-requires-clause-on_disk g c =
 module _ {D : Type 0} (moment : D → ℕ) (outcomes : D → ℕ → Outcome → Type 0) where
   repair_time : (a b c : D) (told told_mid : List ℕ) (d : Device) (l : Loaded) (size : ℕ) (old mid : Image)
       → IsDevice (with_table l.table d) size
+      → d.mark.phase ≡ marks.Idle
       → length l.text ≤ d.geometry.max
       → IsOpened d l size old
       → told_mid ≡ told
@@ -52,7 +54,7 @@ module _ {D : Type 0} (moment : D → ℕ) (outcomes : D → ℕ → Outcome →
       → Adds moment outcomes b c
       (LeavesTable told_mid d.geometry d.mark.slot (text_sectors (length l.text)) mid l.table)
       → Adds moment outcomes a c (LeavesSame told size old)
-  repair_time a b c told told_mid d l size old mid kept fits opened t s none time =
+  repair_time a b c told told_mid d l size old mid kept phase fits opened t s none time =
       let n = text_sectors (length l.text) in
       let moved : Adds moment outcomes b c (LeavesTable told d.geometry d.mark.slot n old l.table) =
       subst (λ (k : List ℕ). Adds moment outcomes b c (LeavesTable k d.geometry d.mark.slot n old l.table)) t
@@ -61,7 +63,7 @@ module _ {D : Type 0} (moment : D → ℕ) (outcomes : D → ℕ → Outcome →
       time) in
       adds_on moment outcomes a b c (LeavesSame told size old) (LeavesTable told d.geometry d.mark.slot n old l.table)
       (adds_wider moment outcomes a b Nothing (LeavesSame told size old) none (λ o h. absurd h)) moved
-      (λ o. leaves_same d l size old kept.geometry kept.slot fits opened told o)
+      (λ o. leaves_same d l size old kept.geometry kept.slot phase fits opened told o)
 
 -- the disk is at rest as it was
 still_settled : (old mid : Image) (was now : ℕ → List ℕ → Type 0)
@@ -92,7 +94,8 @@ returns-in-Ok-clause-represents g c = λ t.
     let others = others_of d l old _ new (c.in_ok-device.ensures.reads.seen t)
     (c.repair_table.ensures.touches.seen t) in
     subst (λ (x : Device). Represents x size new) (sym c.with_table.ensures)
-    (represented d l size old kept.geometry kept.slot c.in_ok-device.ensures.fits
+    (represented d l size old kept.geometry kept.slot
+    c.in_ok-device.ensures.phase c.in_ok-device.ensures.fits
     (c.in_ok-device.ensures.opened t) new c.in_ok-device.ensures.is others (c.in-Ok.ensures.repaired t)
     (ap control_of (control_stays d.geometry d.mark.slot _ old new others)))
 
@@ -107,7 +110,8 @@ returns-in-Ok-clause-device g c = λ t.
     let others = others_of d l old _ new (c.in_ok-device.ensures.reads.seen t)
     (c.repair_table.ensures.touches.seen t) in
     sym
-    (means_same d l size old kept.geometry kept.slot c.in_ok-device.ensures.fits
+    (means_same d l size old kept.geometry kept.slot
+    c.in_ok-device.ensures.phase c.in_ok-device.ensures.fits
     (c.in_ok-device.ensures.opened t) new others (c.in-Ok.ensures.repaired t))
     ∙ device_stands c.with_table.result size new (returns-in-Ok-clause-represents g c t)
 
@@ -115,7 +119,8 @@ pub returns-in-Ok-clause-time : goal.returns-in-Ok-clause-time
 returns-in-Ok-clause-time g c = λ t rest.
     repair_time g.D.Disk.moment g.D.Disk.outcomes c.args.d.now c.open.new.d c.repair_table.new.d _ _
     c.in_ok-device.device c.in_ok-device.loaded (g.D.Disk.size c.args.d.now) (g.D.Disk.seen c.args.d.now) _
-    c.in_ok-device.ensures.kept c.in_ok-device.ensures.fits (c.in_ok-device.ensures.opened t)
+    c.in_ok-device.ensures.kept c.in_ok-device.ensures.phase c.in_ok-device.ensures.fits
+    (c.in_ok-device.ensures.opened t)
     (c.in_ok-device.ensures.reads.quiet.told t) (c.in_ok-device.ensures.reads.seen t)
     (c.in_ok-device.ensures.reads.time t)
     (c.repair_table.ensures.table t
@@ -125,7 +130,8 @@ pub returns-in-Err-clause-time : goal.returns-in-Err-clause-time
 returns-in-Err-clause-time g c = λ t rest.
     repair_time g.D.Disk.moment g.D.Disk.outcomes c.args.d.now c.open.new.d c.repair_table.new.d _ _
     c.in_ok-device.device c.in_ok-device.loaded (g.D.Disk.size c.args.d.now) (g.D.Disk.seen c.args.d.now) _
-    c.in_ok-device.ensures.kept c.in_ok-device.ensures.fits (c.in_ok-device.ensures.opened t)
+    c.in_ok-device.ensures.kept c.in_ok-device.ensures.phase c.in_ok-device.ensures.fits
+    (c.in_ok-device.ensures.opened t)
     (c.in_ok-device.ensures.reads.quiet.told t) (c.in_ok-device.ensures.reads.seen t)
     (c.in_ok-device.ensures.reads.time t)
     (c.repair_table.ensures.table t
@@ -141,7 +147,8 @@ returns-in-Ok-clause-touches g c = λ t.
     touches_then g.D.Disk (IsRepair size old) _ _ _
     (touches_reads g.D.Disk (IsRepair size old) _ _ c.in_ok-device.ensures.reads)
     (touches_wider g.D.Disk (IsRepair size old) _ _ _ c.repair_table.ensures.touches
-    (repair_is d l size old kept.geometry kept.slot c.in_ok-device.ensures.fits
+    (repair_is d l size old kept.geometry kept.slot
+    c.in_ok-device.ensures.phase c.in_ok-device.ensures.fits
     (c.in_ok-device.ensures.opened t)))
 
 pub returns-in-Err-clause-touches : goal.returns-in-Err-clause-touches
@@ -154,14 +161,16 @@ returns-in-Err-clause-touches g c = λ t.
     touches_then g.D.Disk (IsRepair size old) _ _ _
     (touches_reads g.D.Disk (IsRepair size old) _ _ c.in_ok-device.ensures.reads)
     (touches_wider g.D.Disk (IsRepair size old) _ _ _ c.repair_table.ensures.touches
-    (repair_is d l size old kept.geometry kept.slot c.in_ok-device.ensures.fits
+    (repair_is d l size old kept.geometry kept.slot
+    c.in_ok-device.ensures.phase c.in_ok-device.ensures.fits
     (c.in_ok-device.ensures.opened t)))
 
 pub returns-in-Ok-clause-healthy : goal.returns-in-Ok-clause-healthy
 returns-in-Ok-clause-healthy g c = λ t hold.
     let kept = c.in_ok-device.ensures.kept in
     let flags = both_flags c.in_ok-device.device c.in_ok-device.loaded (g.D.Disk.size c.args.d.now)
-    (g.D.Disk.seen c.args.d.now) kept.geometry kept.slot c.in_ok-device.ensures.fits
+    (g.D.Disk.seen c.args.d.now) kept.geometry kept.slot
+    c.in_ok-device.ensures.phase c.in_ok-device.ensures.fits
     (c.in_ok-device.ensures.opened t) hold in
     subst (λ (x : g.row.D.Denot). OnlyReads g.D.Disk c.args.d.now x)
     (sym (c.repair_table.ensures.untouched flags.0 flags.1))
@@ -171,7 +180,8 @@ pub returns-in-Err-clause-healthy : goal.returns-in-Err-clause-healthy
 returns-in-Err-clause-healthy g c = λ t hold.
     let kept = c.in_ok-device.ensures.kept in
     let flags = both_flags c.in_ok-device.device c.in_ok-device.loaded (g.D.Disk.size c.args.d.now)
-    (g.D.Disk.seen c.args.d.now) kept.geometry kept.slot c.in_ok-device.ensures.fits
+    (g.D.Disk.seen c.args.d.now) kept.geometry kept.slot
+    c.in_ok-device.ensures.phase c.in_ok-device.ensures.fits
     (c.in_ok-device.ensures.opened t) hold in
     subst (λ (x : g.row.D.Denot). OnlyReads g.D.Disk c.args.d.now x)
     (sym (c.repair_table.ensures.untouched flags.0 flags.1))

@@ -1,0 +1,284 @@
+-- The blocks of partitions and of stores stand behind the copies of the tables.
+use Rattle.std.proofs.Common.{◌≡◌, ◌⊎◌, inl, inr, ⊎_elim, ℕ, zero, suc, ◌+◌, ◌-◌, ◌*◌, ◌≤◌, ◌<◌, true}
+use Rattle.std.proofs.Common.{false, List, [], ◌∷◌, Result, Ok, Err, subst, leb, arith}
+use Rattle.std.specs.Prelude.{Bool, Option, Some, None, map, length, slice_index_or, ◌==◌}
+use Rattle.std.specs.Prelude.{if◌then◌else◌, option_map}
+use Rattle.std.proofs.lemmas.Bool.{cases_Bool, and_parts, leb-true}
+use Rattle.vab_disk.specs.Disk.{Image}
+use Rattle.vab_names.specs.Names.{store_of}
+use Rattle.vab_marks.specs.declared.mark.MarkPhase.{MarkPhase}
+use Rattle.vab_marks.specs.declared.mark.MarkPhase.TheVariants as marks
+use Rattle.vab_marks.specs.declared.status.PartStatus.{PartStatus}
+use Rattle.vab_exceptions.specs.declared.area.Exception.{Exception}
+use Rattle.vab_store.specs.View.{view_of}
+use Rattle.vab_statuses.specs.Statuses.{written_in}
+use Rattle.vab_geometry.specs.declared.geometry.Geometry.{Geometry}
+use Rattle.vab_lpstore.specs.Loading.{slot_table}
+use Rattle.vab_tables.specs.declared.table.Table.{Table}
+use Rattle.vab_tables.specs.declared.fault.TableFault.{TableFault}
+use Rattle.vab_layout.specs.declared.layout.Part.{Part as PartOfLayout}
+use Rattle.vab_layout.specs.declared.layout.Layout.{Layout}
+use Rattle.vab_layout.specs.Layout.{layout_of}
+use Rattle.vab_layout.specs.Slots.{other_slot, own_parts, is_updated}
+use Rattle.vab_device.specs.declared.fault.StartFault.{StartFault}
+use Rattle.vab_device.specs.declared.fault.StartFault.TheVariants.{BadTable}
+use Rattle.vab_device.specs.declared.device.Planned.{Planned}
+use Rattle.vab_device.specs.declared.device.PlannedImage.{PlannedImage}
+use Rattle.vab_device.specs.declared.device.PlannedImage.TheVariants.{Kept, Declared, Written}
+use Rattle.vab_device.specs.Checks.{◌>>=◌}
+use Rattle.vab_device.specs.Kept.{block_sector, sectors_of, part_on, copies_end, super_bytes, lies_in}
+use Rattle.vab_device.specs.Mounted.{blocks_there, written_sectors}
+use Rattle.vab_device.specs.Phases.{phase_at, store_on, planned_on, planned_image, plan_of}
+use Rattle.vab_device.specs.Reading.{Read, table_read, table_at, tables_in, table_for, parts_for}
+use Rattle.vab_device.specs.Reading.{read_table, kept, stores_of, Reads, IsOfBlocks, IsOfParts}
+use Rattle.vab_device.specs.Reading.{IsOfImages, IsOfStores, IsOfWritten, IsOfPlanned, IsOfPlan}
+use Rattle.vab_device.specs.Stores.{Wanted, Scanned, first_named, wanted_by, wanted_of}
+use Rattle.vab_device.specs.Stores.{exceptions_of, sector_seen, sectors_seen}
+use Rattle.vab_device.proofs.CheckLaws.{bound}
+
+-- ---- partitions
+
+blocks_from : (first low : ℕ) (blocks : List ℕ) (s : ℕ)
+    → low ≤ 4096 + first
+    → IsOfBlocks (map (block_sector first) blocks) s
+    → low ≤ s
+blocks_from first low [] s le is = absurd is
+blocks_from first low (b ∷ bs) s le (inl is) = omega (arith, is.from, le)
+blocks_from first low (b ∷ bs) s le (inr is) = blocks_from first low bs s le is
+
+sectors_from : (first low : ℕ) (blocks : List ℕ) (s : ℕ)
+    → low ≤ 4096 + first
+    → IsOfBlocks (sectors_of first blocks) s
+    → low ≤ s
+unfolding sectors_of
+sectors_from first low blocks s le is = blocks_from first low blocks s le is
+
+parts_from : (first low : ℕ) (parts : List PartOfLayout) (s : ℕ)
+    → low ≤ 4096 + first
+    → IsOfParts (map (part_on first) parts) s
+    → low ≤ s
+parts_from first low [] s le is = absurd is
+parts_from first low (p ∷ ps) s le (inl is) = sectors_from first low p.blocks s le is
+parts_from first low (p ∷ ps) s le (inr is) = parts_from first low ps s le is
+
+-- each of these tables' devices begins behind this sector
+abbrev BeginBehind : ℕ → List Table → Type 0
+BeginBehind low [] = Unit {0}
+BeginBehind low (t ∷ ts) = (low ≤ 4096 + (layout_of t).device.first_logical_sector) × BeginBehind low ts
+
+for_from : (low slot : ℕ) (b : Bool) (slots : List ℕ) (ts : List Table) (s : ℕ)
+    → BeginBehind low ts
+    → IsOfImages (parts_for slot b (table_for slot slots ts)) s
+    → low ≤ s
+for_from low slot false slots ts s begin is = absurd is
+for_from low slot true [] ts s begin is = absurd is
+for_from low slot true (k ∷ ks) [] s begin is = absurd is
+for_from low slot true (k ∷ ks) (t ∷ ts) s begin is = elim (cases_Bool (k == slot)) [
+  | inl here ↦
+      parts_from (layout_of t).device.first_logical_sector low (own_parts slot (layout_of t).parts) s
+      begin.0 (rw here at is)
+  | inr other ↦ for_from low slot true ks ts s begin.1 (rw other at is)
+]
+
+-- the table that was read has a device behind the copies
+read_behind : (size : ℕ) (g : Geometry) (slot : ℕ) (x : Result Table (TableFault × TableFault)) (t : Table)
+    → table_read size g slot x ≡ Ok t
+    → copies_end g ≤ 512 * (layout_of t).device.first_logical_sector
+read_behind size g slot (Err faults) t is =
+    absurd (let bad : (let r : Result Table StartFault = Err (BadTable slot) in r ≡ Ok t) = is in cc)
+read_behind size g slot (Ok u) t is = elim (cases_Bool (lies_in size g (layout_of u).device)) [
+  | inl lies ↦
+      let same : (let r : Result Table StartFault = Ok u in r ≡ Ok t) = rw lies at is in
+      let e : u ≡ t = cc in
+      let both = and_parts
+      (leb (layout_of u).device.size (super_bytes size))
+      (leb (copies_end g) (512 * (layout_of u).device.first_logical_sector)) lies in
+      subst (λ (x : Table). copies_end g ≤ 512 * (layout_of x).device.first_logical_sector) e
+      (leb-true (copies_end g) (512 * (layout_of u).device.first_logical_sector) both.1)
+  | inr fails ↦
+      let bad : (let r : Result Table StartFault = Err (BadTable slot) in r ≡ Ok t) = rw fails at is in
+      absurd cc
+]
+
+table_behind : (size : ℕ) (g : Geometry) (slot : ℕ) (image : Image) (t : Table)
+    → table_at size g slot image ≡ Ok t
+    → copies_end g ≤ 512 * (layout_of t).device.first_logical_sector
+unfolding table_at
+table_behind size g slot image t is = read_behind size g slot (slot_table g slot image) t is
+
+tables_behind : (size low : ℕ) (g : Geometry) (slots : List ℕ) (image : Image) (ts : List Table)
+    → 512 * (low - 4096) ≤ copies_end g
+    → tables_in size g slots image ≡ Ok ts
+    → BeginBehind low ts
+tables_behind size low g [] image ts le is =
+    let none : Ok [] ≡ Ok ts = is in
+    let e : [] ≡ ts = cc in
+    subst (BeginBehind low) e tt
+tables_behind size low g (slot ∷ slots) image ts le is =
+    let t = bound (table_at size g slot image)
+    (λ t. tables_in size g slots image >>= λ ts. Ok (t ∷ ts)) ts is in
+    let rest = bound (tables_in size g slots image) (λ ts. Ok (t.0 ∷ ts)) ts t.2 in
+    let whole : Ok (t.0 ∷ rest.0) ≡ Ok ts = rest.2 in
+    let e : t.0 ∷ rest.0 ≡ ts = cc in
+    subst (BeginBehind low) e (
+      omega (arith, table_behind size g slot image t.0 t.1, le),
+      tables_behind size low g slots image rest.0 le rest.1,
+    )
+
+-- ---- stores
+
+wanted_from : (first low : ℕ) (st : PartStatus) (p q : Option PartOfLayout)
+    (ws : List (Result Wanted StartFault)) (s : ℕ)
+    → low ≤ 4096 + first
+    → IsOfStores (wanted_by first st p q ∷ ws) s
+    → (low ≤ s) ⊎ IsOfStores ws s
+wanted_from first low st None q ws s le is = inr is
+wanted_from first low st (Some p) None ws s le is = inr is
+wanted_from first low st (Some p) (Some q) ws s le (inl is) =
+    inl (sectors_from first low q.blocks s le is)
+wanted_from first low st (Some p) (Some q) ws s le (inr is) = inr is
+
+stores_from : (low slot : ℕ) (l : Layout) (statuses : List PartStatus) (s : ℕ)
+    → low ≤ 4096 + l.device.first_logical_sector
+    → IsOfStores (map (wanted_of slot l) statuses) s
+    → low ≤ s
+stores_from low slot l [] s le is = absurd is
+stores_from low slot l (st ∷ sts) s le is =
+    ⊎_elim (λ here. here) (λ there. stores_from low slot l sts s le there)
+    (wanted_from l.device.first_logical_sector low st
+    (first_named st.name (own_parts slot l.parts)) (first_named (store_of st.name) l.parts)
+    (map (wanted_of slot l) sts) s le is)
+
+phase_stores_from : (low slot : ℕ) (m : MarkPhase) (ts : List Table) (statuses : List PartStatus)
+    (s : ℕ)
+    → BeginBehind low ts
+    → IsOfStores ((phase_at m).stores slot ts statuses) s
+    → low ≤ s
+phase_stores_from low slot marks.Idle ts statuses s begin is = absurd is
+phase_stores_from low slot marks.Installing [] statuses s begin is = absurd is
+phase_stores_from low slot marks.Installing (t ∷ []) statuses s begin is = absurd is
+phase_stores_from low slot marks.Installing (t ∷ u ∷ ts) statuses s begin is =
+    stores_from low (other_slot slot) (layout_of u) statuses s begin.1.0 is
+phase_stores_from low slot marks.Staged ts statuses s begin is = absurd is
+phase_stores_from low slot marks.Merging ts statuses s begin is = absurd is
+phase_stores_from low slot marks.Completed ts statuses s begin is = absurd is
+
+-- ---- the partitions that are planned
+
+-- a block of a list, or what stands in place of it
+block_or : (blocks : List ℕ) (n own s : ℕ)
+    → IsOfBlocks (slice_index_or blocks n own ∷ []) s
+    → IsOfBlocks blocks s ⊎ IsOfBlocks (own ∷ []) s
+block_or [] n own s is = inr is
+block_or (b ∷ bs) zero own s (inl is) = inl (inl is)
+block_or (b ∷ bs) zero own s (inr is) = absurd is
+block_or (b ∷ bs) (suc n) own s is =
+    ⊎_elim (λ here. inl (inr here)) (λ there. inr there) (block_or bs n own s is)
+
+chosen_or : (store : List ℕ) (own : ℕ) (chunk : Option ℕ) (s : ℕ)
+    → IsOfBlocks (sector_seen store own chunk ∷ []) s
+    → IsOfBlocks store s ⊎ IsOfBlocks (own ∷ []) s
+chosen_or store own None s is = inr is
+chosen_or store own (Some chunk) s is = block_or store chunk own s is
+
+-- a sector that is seen is one of the store's or of the partition's own
+pub seen_or : (store : List ℕ) (es : List Exception) (n : ℕ) (own : List ℕ) (s : ℕ)
+    → IsOfBlocks (sectors_seen store es n own) s
+    → IsOfBlocks store s ⊎ IsOfBlocks own s
+seen_or store es n [] s is = absurd is
+seen_or store es n (b ∷ bs) s (inl is) =
+    ⊎_elim (λ here. inl here) (λ there. inr (own_here there))
+    (chosen_or store b (view_of es n) s (inl is))
+  where
+    own_here : IsOfBlocks (b ∷ []) s → IsOfBlocks (b ∷ bs) s
+    own_here (inl here) = inl here
+    own_here (inr none) = absurd none
+seen_or store es n (b ∷ bs) s (inr is) =
+    ⊎_elim (λ here. inl here) (λ there. inr (inr there)) (seen_or store es (n + 1) bs s is)
+
+store_from : (first low : ℕ) (q : Option PartOfLayout) (s : ℕ)
+    → low ≤ 4096 + first
+    → IsOfBlocks (blocks_there (option_map (λ q. sectors_of first q.blocks) q)) s
+    → low ≤ s
+store_from first low None s le is = absurd is
+store_from first low (Some q) s le is = sectors_from first low q.blocks s le is
+
+written_from : (low : ℕ) (l : Layout) (ss : List Scanned) (p : PartOfLayout) (image : PlannedImage)
+    (s : ℕ)
+    → low ≤ 4096 + l.device.first_logical_sector
+    → IsOfWritten (planned_on l ss p) image s
+    → low ≤ s
+written_from low l ss p Kept s le is = absurd is
+written_from low l ss p Declared s le is = absurd is
+written_from low l ss p (Written es) s le is =
+    let first = l.device.first_logical_sector in
+    ⊎_elim
+    (λ here. store_from first low (first_named (store_of p.name) l.parts) s le here)
+    (λ there. sectors_from first low p.blocks s le there)
+    (seen_or (blocks_there (store_on l p.name)) es 0 (sectors_of first p.blocks) s is)
+
+planned_from : (low : ℕ) (l : Layout) (ss : List Scanned) (parts : List PartOfLayout) (s : ℕ)
+    → low ≤ 4096 + l.device.first_logical_sector
+    → IsOfPlanned (map (planned_on l ss) parts) s
+    → low ≤ s
+planned_from low l ss [] s le is = absurd is
+planned_from low l ss (p ∷ ps) s le (inl is) =
+    written_from low l ss p (planned_image (is_updated p) (exceptions_of p.name ss)) s le is
+planned_from low l ss (p ∷ ps) s le (inr is) = planned_from low l ss ps s le is
+
+phase_plan_from : (low slot : ℕ) (m : MarkPhase) (ts : List Table) (ss : List Scanned) (s : ℕ)
+    → BeginBehind low ts
+    → IsOfPlan ((phase_at m).plan slot ts ss) s
+    → low ≤ s
+phase_plan_from low slot marks.Idle ts ss s begin is = absurd is
+phase_plan_from low slot marks.Installing [] ss s begin is = absurd is
+phase_plan_from low slot marks.Installing (t ∷ []) ss s begin is = absurd is
+phase_plan_from low slot marks.Installing (t ∷ u ∷ ts) ss s begin is =
+    planned_from low (layout_of u) ss (own_parts (other_slot slot) (layout_of u).parts) s begin.1.0 is
+phase_plan_from low slot marks.Staged ts ss s begin is = absurd is
+phase_plan_from low slot marks.Merging ts ss s begin is = absurd is
+phase_plan_from low slot marks.Completed ts ss s begin is = absurd is
+
+-- ---- all that is read
+
+-- the tables of a reading begin behind the copies
+read_begins : (size low : ℕ) (r : Read) (image : Image)
+    → Reads size r image
+    → 512 * (low - 4096) ≤ copies_end r.geometry
+    → BeginBehind low r.tables
+read_begins size low r image reads le =
+    tables_behind size low r.geometry ((phase_at r.mark.phase).tables r.mark.slot) image r.tables le
+    reads.tables
+
+-- a sector of an image stands behind the copies
+pub images_behind : (size low slot : ℕ) (b : Bool) (r : Read) (image : Image) (s : ℕ)
+    → Reads size r image
+    → 512 * (low - 4096) ≤ copies_end r.geometry
+    → IsOfImages (parts_for slot b (read_table slot r)) s
+    → low ≤ s
+images_behind size low slot b r image s reads le is =
+    for_from low slot b ((phase_at r.mark.phase).tables r.mark.slot) r.tables s
+    (read_begins size low r image reads le)
+    is
+
+-- so does one of a store that is read
+pub stores_behind : (size low : ℕ) (r : Read) (image : Image) (s : ℕ)
+    → Reads size r image
+    → 512 * (low - 4096) ≤ copies_end r.geometry
+    → IsOfStores (stores_of r) s
+    → low ≤ s
+stores_behind size low r image s reads le is =
+    phase_stores_from low r.mark.slot r.mark.phase r.tables (written_in r.statuses) s
+    (read_begins size low r image reads le)
+    is
+
+-- and one of a written partition
+pub plan_behind : (size low : ℕ) (r : Read) (image : Image) (s : ℕ)
+    → Reads size r image
+    → 512 * (low - 4096) ≤ copies_end r.geometry
+    → IsOfPlan (kept r).plan s
+    → low ≤ s
+plan_behind size low r image s reads le is =
+    phase_plan_from low r.mark.slot r.mark.phase r.tables r.scanned s
+    (read_begins size low r image reads le)
+    is

@@ -1,0 +1,137 @@
+-- Stores whose sectors stay are read the same.
+use Rattle.std.proofs.Common.{◌≡◌, ◌∙◌, inl, inr, ℕ, zero, suc, ◌+◌, ◌*◌, ◌/◌, ◌%◌, ◌≤◌, ◌<◌, List}
+use Rattle.std.proofs.Common.{[], ◌∷◌, length, take, slice_index, Result, Ok, Err, refl, sym, ap, arith}
+use Rattle.std.proofs.Common.{subst}
+use Rattle.std.specs.Prelude.{Bool, true, false, map, Option, Some, None, ◌==◌}
+use Rattle.std.proofs.lemmas.Bool.{cases_Bool}
+use Rattle.vab_disk.specs.Disk.{Image}
+use Rattle.vab_disk.specs.Calls.{IsBetween}
+use Rattle.vab_exceptions.specs.declared.area.Exception.{Exception}
+use Rattle.vab_exceptions.specs.Entries.{area_entries, entry_at}
+use Rattle.vab_exceptions.specs.Header.{header_of}
+use Rattle.vab_store.specs.declared.fault.StoreFault.{StoreFault}
+use Rattle.vab_store.specs.Layout.{chunk_bytes, area_chunk, slot_at, slots_of, areas_of}
+use Rattle.vab_store.specs.Scan.{scan_of, IsScan}
+use Rattle.vab_store.specs.View.{exception_at}
+use Rattle.vab_store.proofs.ChunkLaws.{chunk_same}
+use Rattle.vab_store.proofs.ScanLaws.{scan_of_is, scan_of_ok}
+use Rattle.vab_statuses.specs.Statuses.{statuses_in, IsOfStatuses}
+use Rattle.vab_statuses.proofs.StatusesLaws.{statuses_same}
+use Rattle.vab_device.specs.declared.fault.StartFault.{StartFault}
+use Rattle.vab_device.specs.declared.fault.StartFault.TheVariants.{BadStore}
+use Rattle.vab_device.specs.declared.device.Planned.{Planned}
+use Rattle.vab_device.specs.declared.device.PlannedImage.{PlannedImage}
+use Rattle.vab_device.specs.declared.device.PlannedImage.TheVariants.{Kept, Declared, Written}
+use Rattle.vab_device.specs.Checks.{unless, ◌>>=◌}
+use Rattle.vab_device.specs.Mounted.{bytes_at, written_sectors, planned_on, entry_on, phase_on}
+use Rattle.vab_device.specs.Reading.{statuses_read, statuses_at, IsOfBlocks, IsOfStores}
+use Rattle.vab_device.specs.Reading.{IsOfWritten, IsOfPlanned, IsOfPlan}
+use Rattle.vab_device.specs.Stores.{Wanted, Scanned, scan_read, scan_at, scans_in}
+use Rattle.vab_device.proofs.CheckLaws.{bound}
+use Rattle.vab_device.proofs.BlockLaws.{bytes_same}
+
+-- ---- the statuses
+
+pub statuses_kept : (b : Bool) (old new : Image)
+    → (b ≡ true → (s : ℕ) → IsOfStatuses s → new s ≡ old s)
+    → statuses_at b new ≡ statuses_at b old
+unfolding statuses_at
+statuses_kept false old new same = refl
+statuses_kept true old new same = ap statuses_read (statuses_same old new (same refl))
+
+-- ---- a store
+
+in_blocks : (blocks : List ℕ) (c s : ℕ)
+    → c < length blocks
+    → IsBetween (slice_index blocks c) (slice_index blocks c + 8) s
+    → IsOfBlocks blocks s
+in_blocks [] c s below is = absurd (omega (arith, below))
+in_blocks (b ∷ bs) zero s below is = inl is
+in_blocks (b ∷ bs) (suc c) s below is = inr (in_blocks bs c s (omega (arith, below)) is)
+
+module _
+    (store : List ℕ) (old new : Image)
+    (same : (s : ℕ) → IsOfBlocks store s → new s ≡ old s) where
+  chunk_kept : (c : ℕ) → c < length store → chunk_bytes store new c ≡ chunk_bytes store old c
+  chunk_kept c below = chunk_same store old new c (λ s is. same s (in_blocks store c s below is))
+
+  slot_kept : (t : ℕ)
+      → t < slots_of area_entries store
+      → slot_at area_entries store new t ≡ slot_at area_entries store old t
+  unfolding slot_at
+  slot_kept t below =
+      let within : area_chunk area_entries (t / area_entries) < length store = omega (arith, below) in
+      ap (λ bytes. entry_at bytes (t % area_entries))
+      (chunk_kept (area_chunk area_entries (t / area_entries)) within)
+
+  pub scan_kept : (bound : ℕ) (es : List Exception)
+      → scan_of store bound old ≡ Ok es
+      → scan_of store bound new ≡ Ok es
+  scan_kept bound es is =
+      let was = scan_of_ok store bound old es is in
+      scan_of_is store bound new es (record {
+        fits = was.fits;
+        header =
+            ap (λ bytes. header_of (take 512 bytes))
+            (chunk_kept 0 (omega (arith, was.fits.chunks)))
+            ∙ was.header;
+        reads = λ t below. slot_kept t (omega (arith, below, was.fits.room)) ∙ was.reads t below;
+        stops =
+            ap (λ (e : Exception). e.new_chunk) (slot_kept (length es) was.fits.room) ∙ was.stops;
+      })
+
+-- a list of exceptions that was taken is one
+scan_taken : (w : Wanted) (x : Result (List Exception) StoreFault) (s : Scanned)
+    → scan_read w x ≡ Ok s
+    → (es : List Exception) × (x ≡ Ok es)
+scan_taken w (Ok es) s is = (es, refl)
+scan_taken w (Err fault) s is =
+    absurd (let bad : (let r : Result Scanned StartFault = Err (BadStore w.name) in r ≡ Ok s) = is in cc)
+
+store_kept : (w : Wanted) (old new : Image) (s : Scanned)
+    → ((s : ℕ) → IsOfBlocks w.store s → new s ≡ old s)
+    → scan_at w old ≡ Ok s
+    → scan_at w new ≡ scan_at w old
+unfolding scan_at
+store_kept w old new s same is =
+    let taken = scan_taken w (scan_of w.store (length w.base) old) s is in
+    let new_is = scan_kept w.store old new same (length w.base) taken.0 taken.1 in
+    ap (scan_read w) (new_is ∙ sym taken.1)
+
+pub stores_kept : (ws : List (Result Wanted StartFault)) (old new : Image) (ss : List Scanned)
+    → ((s : ℕ) → IsOfStores ws s → new s ≡ old s)
+    → scans_in ws old ≡ Ok ss
+    → scans_in ws new ≡ scans_in ws old
+stores_kept [] old new ss same is = refl
+stores_kept (Err fault ∷ ws) old new ss same is = refl
+stores_kept (Ok w ∷ ws) old new ss same is =
+    let first = bound (scan_at w old) (λ s. scans_in ws old >>= λ rest. Ok (s ∷ rest)) ss is in
+    let rest = bound (scans_in ws old) (λ rest. Ok (first.0 ∷ rest)) ss first.2 in
+    let here = store_kept w old new first.0 (λ s there. same s (inl there)) first.1 in
+    let others = stores_kept ws old new rest.0 (λ s there. same s (inr there)) rest.1 in
+    (λ i. here i >>= λ s. others i >>= λ rest. Ok (s ∷ rest))
+
+-- ---- the partitions that are planned
+
+image_kept : (p : Planned) (image : PlannedImage) (old new : Image)
+    → ((s : ℕ) → IsOfWritten p image s → new s ≡ old s)
+    → planned_on new p image ≡ planned_on old p image
+image_kept p Kept old new same = refl
+image_kept p Declared old new same = refl
+image_kept p (Written es) old new same = rw (bytes_same old new (written_sectors p es) same) refl
+
+planned_kept : (plan : List Planned) (old new : Image)
+    → ((s : ℕ) → IsOfPlanned plan s → new s ≡ old s)
+    → map (entry_on new) plan ≡ map (entry_on old) plan
+planned_kept [] old new same = refl
+planned_kept (p ∷ ps) old new same =
+    let image = image_kept p p.image old new (λ s is. same s (inl is)) in
+    let here : entry_on new p ≡ entry_on old p = rw image refl in
+    let rest = planned_kept ps old new (λ s is. same s (inr is)) in
+    (λ i. here i ∷ rest i)
+
+pub plan_kept : (source : ℕ) (plan : Option (List Planned)) (old new : Image)
+    → ((s : ℕ) → IsOfPlan plan s → new s ≡ old s)
+    → phase_on source new plan ≡ phase_on source old plan
+plan_kept source None old new same = refl
+plan_kept source (Some plan) old new same = rw (planned_kept plan old new same) refl

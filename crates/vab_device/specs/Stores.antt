@@ -1,0 +1,97 @@
+-- The stores that statuses name, and what is read of them.
+use Rattle.std.specs.Prelude.{ℕ, ◌+◌, ◌==◌, Bool, true, false, if◌then◌else◌, List, [], ◌∷◌, length}
+use Rattle.std.specs.Prelude.{slice_index_or, Option, Some, None, Result, Ok, Err}
+use Rattle.std.specs.Str.{bytes_eq}
+use Rattle.vab_disk.specs.Disk.{Image}
+use Rattle.vab_names.specs.Names.{store_of}
+use Rattle.vab_marks.specs.declared.status.PartStatus.{PartStatus}
+use Rattle.vab_exceptions.specs.declared.area.Exception.{Exception}
+use Rattle.vab_store.specs.declared.fault.StoreFault.{StoreFault}
+use Rattle.vab_store.specs.Scan.{scan_of}
+use Rattle.vab_store.specs.View.{view_of}
+use Rattle.vab_layout.specs.declared.layout.Part.{Part as PartOfLayout}
+use Rattle.vab_layout.specs.declared.layout.Layout.{Layout}
+use Rattle.vab_layout.specs.Slots.{own_parts}
+use Rattle.vab_device.specs.declared.fault.StartFault.{StartFault}
+use Rattle.vab_device.specs.declared.fault.StartFault.TheVariants.{BadStore}
+use Rattle.vab_device.specs.Checks.{unless, ◌>>=◌}
+use Rattle.vab_device.specs.Kept.{sectors_of}
+
+-- A store that a status names: the partition's whole name, its blocks and those of its store, each
+-- as its first sector, and how many exceptions the status says.
+pub record Wanted : Type 0 where
+  pub name : List ℕ
+  pub base : List ℕ
+  pub store : List ℕ
+  pub count : ℕ
+
+-- the exceptions of the store of a partition
+pub record Scanned : Type 0 where
+  pub name : List ℕ
+  pub exceptions : List Exception
+
+-- the first partition of this name
+abbrev pub first_named : List ℕ → List PartOfLayout → Option PartOfLayout
+first_named name [] = None
+first_named name (p ∷ ps) = if bytes_eq p.name name then Some p else first_named name ps
+
+abbrev pub wanted_by : ℕ
+    → PartStatus
+    → Option PartOfLayout
+    → Option PartOfLayout
+    → Result Wanted StartFault
+wanted_by first s None store = Err (BadStore s.name)
+wanted_by first s (Some p) None = Err (BadStore s.name)
+wanted_by first s (Some p) (Some store) = Ok (record {
+  name = s.name;
+  base = sectors_of first p.blocks;
+  store = sectors_of first store.blocks;
+  count = s.count;
+})
+
+-- the store of the slot's partition of that name, or the fault that there is none
+abbrev pub wanted_of : ℕ → Layout → PartStatus → Result Wanted StartFault
+wanted_of slot l s =
+    wanted_by l.device.first_logical_sector s
+    (first_named s.name (own_parts slot l.parts))
+    (first_named (store_of s.name) l.parts)
+
+-- ---- what is read of them
+
+-- a list of exceptions as long as the status says
+abbrev pub scan_read : Wanted → Result (List Exception) StoreFault → Result Scanned StartFault
+scan_read w (Ok es) =
+    unless (length es == w.count) (BadStore w.name) (Ok (record { name = w.name; exceptions = es }))
+scan_read w (Err fault) = Err (BadStore w.name)
+
+unfoldable pub scan_at : Wanted → Image → Result Scanned StartFault
+scan_at w image = scan_read w (scan_of w.store (length w.base) image)
+
+-- those of all stores, or the first fault
+abbrev pub scans_in : List (Result Wanted StartFault) → Image → Result (List Scanned) StartFault
+scans_in [] image = Ok []
+scans_in (Err fault ∷ ws) image = Err fault
+scans_in (Ok w ∷ ws) image =
+    scan_at w image >>= λ s.
+    scans_in ws image >>= λ rest.
+    Ok (s ∷ rest)
+
+-- the exceptions of the partition of this name, where its store was read
+abbrev pub exceptions_of : List ℕ → List Scanned → Option (List Exception)
+exceptions_of name [] = None
+exceptions_of name (s ∷ ss) =
+    if bytes_eq s.name name then Some s.exceptions else exceptions_of name ss
+
+-- ---- what a partition reads as through its store
+
+-- the first sector of a block: of the store's chunk, where an exception has it and the store has
+-- that chunk, else of the partition's own
+abbrev pub sector_seen : List ℕ → ℕ → Option ℕ → ℕ
+sector_seen store own (Some chunk) = slice_index_or store chunk own
+sector_seen store own None = own
+
+-- for each block, counted from this number on, the first of the sectors that a read of it takes
+abbrev pub sectors_seen : List ℕ → List Exception → ℕ → List ℕ → List ℕ
+sectors_seen store es n [] = []
+sectors_seen store es n (own ∷ owns) =
+    sector_seen store own (view_of es n) ∷ sectors_seen store es (n + 1) owns
