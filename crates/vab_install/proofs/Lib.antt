@@ -1,0 +1,4 @@
+pub mod CallsLaws
+pub mod DifferingLaws
+pub mod SnapshotLaws
+pub mod BeginLaws

@@ -1,0 +1,5 @@
+pub mod Control
+pub mod Begin
+pub mod Differing
+pub mod Counts
+pub mod Snapshot

@@ -1,0 +1,17 @@
+//! What the installation of an update writes: the begin of an update, its mark, and a partition's
+//! image into an exception store.
+#![tactic(auto)]
+
+mod begin;
+mod blocks;
+mod control;
+mod fault;
+mod mark;
+mod snapshot;
+
+pub use begin::prepare_begin;
+pub use blocks::differing;
+pub use control::{cleared, put_info};
+pub use fault::PartFault;
+pub use mark::put_mark;
+pub use snapshot::write_snapshot;

@@ -1,0 +1,134 @@
+-- The sectors of an update's statuses, and what they hold.
+use Rattle.std.specs.Prelude.{◌≡◌, ◌≢◌, ℕ, zero, suc, ◌+◌, ◌-◌, Bool, true, false, List}
+use Rattle.std.specs.Prelude.{[], ◌∷◌, ◌++◌, length, replicate, slice_set, if◌then◌else◌}
+use Rattle.std.specs.Prelude.{Option, Some, None, Result, Ok, Err}
+use Rattle.std.specs.List.{All, AllPairs, list_any}
+use Rattle.std.specs.Str.{bytes_eq}
+use Rattle.vab_disk.specs.Disk.{Image}
+use Rattle.vab_disk.specs.Calls.{IsBetween}
+use Rattle.vab_marks.specs.declared.sector.MarkFault.{MarkFault}
+use Rattle.vab_marks.specs.declared.status.PartStatus.{PartStatus}
+use Rattle.vab_marks.specs.Sector.{are_zeros}
+use Rattle.vab_marks.specs.Status.{FitsStatus, status_of}
+
+-- how many sectors hold statuses
+abbrev pub status_sectors : ℕ
+status_sectors = 32
+
+-- the first of them
+abbrev pub first_status : ℕ
+first_status = 2049
+
+-- one of them
+abbrev pub IsOfStatuses : ℕ → Type 0
+IsOfStatuses s = IsBetween 2049 2081 s
+
+-- ---- one sector
+
+abbrev pub some_status : Result PartStatus MarkFault → Result (Option PartStatus) MarkFault
+some_status (Ok s) = Ok (Some s)
+some_status (Err fault) = Err fault
+
+-- the status in the bytes of a sector, none where they are all zeros, or the first fault
+abbrev pub status_read : List ℕ → Result (Option PartStatus) MarkFault
+status_read bytes = if are_zeros bytes then Ok None else some_status (status_of bytes)
+
+-- a status has a spelling
+abbrev pub FitsEntry : Option PartStatus → Type 0
+FitsEntry (Some s) = FitsStatus s
+FitsEntry None = Unit {0}
+
+-- ---- statuses in the order of their sectors
+
+abbrev pub has_name : List ℕ → Option PartStatus → Bool
+has_name name (Some s) = bytes_eq s.name name
+has_name name None = false
+
+-- one of these has the name
+abbrev pub is_named : List ℕ → List (Option PartStatus) → Bool
+is_named name statuses = list_any (has_name name) statuses
+
+-- the statuses that there are
+abbrev pub written_in : List (Option PartStatus) → List PartStatus
+written_in [] = []
+written_in (None ∷ rest) = written_in rest
+written_in (Some s ∷ rest) = s ∷ written_in rest
+
+-- the first with this name
+abbrev pub status_named : List ℕ → List PartStatus → Option PartStatus
+status_named name [] = None
+status_named name (s ∷ rest) = if bytes_eq s.name name then Some s else status_named name rest
+
+-- the first place without a status, where the first of these stands at that place
+abbrev pub free_from : ℕ → List (Option PartStatus) → Option ℕ
+free_from at [] = None
+free_from at (None ∷ rest) = Some at
+free_from at (Some s ∷ rest) = free_from (at + 1) rest
+
+-- the first sector without a status
+abbrev pub free_in : List (Option PartStatus) → Option ℕ
+free_in statuses = free_from 2049 statuses
+
+-- these, with a status in this sector
+abbrev pub with_status : List (Option PartStatus) → ℕ → PartStatus → List (Option PartStatus)
+with_status statuses at s = slice_set statuses (at - 2049) (Some s)
+
+-- two statuses are of partitions of other names
+abbrev pub AreOther : Option PartStatus → Option PartStatus → Type 0
+AreOther (Some a) (Some b) = a.name ≢ b.name
+AreOther (Some a) None = Unit {0}
+AreOther None b = Unit {0}
+
+-- no two of them are of one name
+abbrev pub NamesDiffer : List (Option PartStatus) → Type 0
+NamesDiffer statuses = AllPairs AreOther statuses
+
+abbrev pub AreFitting : List (Option PartStatus) → Type 0
+AreFitting statuses = All FitsEntry statuses
+
+-- ---- the sectors of a disk
+
+-- a status of a partition that one of these names
+abbrev pub repeats : Option PartStatus → List (Option PartStatus) → Bool
+repeats None done = false
+repeats (Some s) done = is_named s.name done
+
+abbrev pub entry_read : ℕ → List (Option PartStatus) → Result (Option PartStatus) MarkFault
+    → Result (Option PartStatus) ℕ
+entry_read at done (Ok status) = if repeats status done then Err at else Ok status
+entry_read at done (Err fault) = Err at
+
+-- what a sector has, behind those before it; where it is bad, its number
+abbrev pub entry_of : ℕ → List (Option PartStatus) → List ℕ → Result (Option PartStatus) ℕ
+entry_of at done bytes = entry_read at done (status_read bytes)
+
+abbrev pub go_on : Result (Option PartStatus) ℕ
+    → (Option PartStatus → Result (List (Option PartStatus)) ℕ)
+    → Result (List (Option PartStatus)) ℕ
+go_on (Ok status) rest = rest status
+go_on (Err at) rest = Err at
+
+-- those so far, and those of so many sectors more
+unfoldable pub statuses_from : ℕ → Image → List (Option PartStatus)
+    → Result (List (Option PartStatus)) ℕ
+statuses_from zero image done = Ok done
+statuses_from (suc n) image done =
+    go_on (entry_of (2049 + length done) done (image (2049 + length done)))
+    (λ status. statuses_from n image (done ++ status ∷ []))
+
+-- What the 32 sectors hold, in their order; or the first sector that is neither all zeros nor a
+-- status, or that names a partition which a sector before it names.
+unfoldable pub statuses_in : Image → Result (List (Option PartStatus)) ℕ
+statuses_in image = statuses_from 32 image []
+
+-- no status in any of the sectors
+unfoldable pub no_statuses : List (Option PartStatus)
+no_statuses = replicate 32 None
+
+-- the first of the sectors that is all zeros
+abbrev pub IsFirstFree : Image → Option ℕ → Type 0
+IsFirstFree image (Some at) =
+    IsOfStatuses at
+    × (are_zeros (image at) ≡ true)
+    × ((s : ℕ) → IsBetween 2049 at s → are_zeros (image s) ≡ false)
+IsFirstFree image None = (s : ℕ) → IsOfStatuses s → are_zeros (image s) ≡ false

@@ -1,0 +1,10 @@
+//! The statuses of an update's partitions, in 32 sectors of a disk: a sector for each.
+#![tactic(auto)]
+
+mod fault;
+mod reading;
+mod writing;
+
+pub use fault::StatusFault;
+pub use reading::{FIRST_STATUS, STATUS_SECTORS, Statuses, first_free, read_statuses};
+pub use writing::{clear_statuses, put_status};
