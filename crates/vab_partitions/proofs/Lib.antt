@@ -4,3 +4,6 @@ pub mod OwnLaws
 pub mod OwnRules
 pub mod TargetLaws
 pub mod FrontLaws
+pub mod TargetTests
+pub mod BadTarget
+pub mod TwinLaws

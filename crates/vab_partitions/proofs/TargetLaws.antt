@@ -220,7 +220,7 @@ target_together slot source target is =
           (λ b. sym (times_both slot b target)) is.once;
     }
 
-front_keeps : (slot : ℕ) (source target xs ys : List Part)
+pub front_keeps : (slot : ℕ) (source target xs ys : List Part)
     → KeepTogether slot source target (xs ++ ys)
     → KeepTogether slot source target xs
 front_keeps slot source target xs ys k = record {

@@ -6,9 +6,11 @@ mod beside;
 mod extents;
 mod own;
 mod target;
+mod twins;
 
 pub use own::bad_partition;
 pub use target::bad_target;
+pub use twins::{has_twins, same_device};
 
 #[cfg(test)]
 mod tests;

@@ -8,6 +8,7 @@ ghost use Rattle.vab_layout.specs.Layout.{layout_of, blocks_of_parts};
 ghost use Rattle.vab_layout.specs.Slots.{other_slot, own_parts, IsOwn, IsTarget};
 ghost use Rattle.vab_blocks.specs.Blocks.{is_distinct};
 ghost use Rattle.vab_partitions.specs.Target.{target_parts, IsFirstBad};
+ghost use Rattle.vab_partitions.specs.TargetRules.{bad_target_of};
 
 use crate::beside::keeps_alone;
 use std::alloc::Global;
@@ -127,6 +128,7 @@ fn first_bad(
     requires source { IsOwn (other_slot slot) source.now }
     ensures kept { IfOk result (λ bad. IsNone bad ↔ IsTarget slot source.now target.now) }
     ensures first { IfOk result (λ bad. IfSome bad (IsFirstBad slot source.now target.now)) }
+    ensures is { IfOk result (λ bad. bad ≡ bad_target_of slot source.now target.now) }
 {
     let taken = taken_by(alloc, source, 1 - slot)?;
     let all = blocks_of_target(alloc, target, slot)?;
@@ -167,6 +169,9 @@ pub fn bad_target(
         ↔ IsTarget slot (layout_of source.now).parts (layout_of target.now).parts) }
     ensures first { IfOk result (λ bad. IfSome bad
         (IsFirstBad slot (layout_of source.now).parts (layout_of target.now).parts)) }
+    // It is a function of both tables.
+    ensures is { IfOk result (λ bad. bad
+        ≡ bad_target_of slot (layout_of source.now).parts (layout_of target.now).parts) }
 {
     let source = Layout::of_table(alloc, source)?;
     let target = Layout::of_table(alloc, target)?;

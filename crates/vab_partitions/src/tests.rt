@@ -6,7 +6,8 @@ ghost use Rattle.vab_tables.specs.Rules.{KeepsRules};
 use super::*;
 use std::alloc::Global;
 use std::test::*;
-use vab_tables::{Table, decode_table};
+use vab_bytes::{Listing, Name36};
+use vab_tables::{BlockDevice, Group, Table, decode_table};
 
 // A text's partitions, each with its attributes, its first extent, its count of extents and its
 // group; its extents, each with its sectors and the first one; its groups; and the SHA-256 sums of
@@ -378,5 +379,59 @@ fn the_first_bad_one_of_a_target_is_named(rt: HostRuntime) -> Result<(), Fail> {
         let found = bad_one(rt.alloc(), &table)?;
         assert_eq!(rt; found.as_slice(), bad);
     }
+    Ok(())
+}
+
+// A table of these groups, each with its limit, and a block device of so many bytes.
+fn with_groups(alloc: Global, groups: &[(&[u8], u64)], size: u64) -> Result<Table, Fail> {
+    let mut all = Vec::new(alloc);
+    for (text, maximum_size) in groups {
+        let name = Name36::parse(text).ok().ok_or("a name")?;
+        all.push(Group {
+            name,
+            flags: 0,
+            maximum_size: *maximum_size,
+        })?;
+    }
+    let mut devices = Vec::new(alloc);
+    devices.push(BlockDevice {
+        first_logical_sector: 2048,
+        alignment: 0,
+        alignment_offset: 0,
+        size,
+        partition_name: Name36::parse(b"super").ok().ok_or("a name")?,
+        flags: 0,
+    })?;
+    Ok(Table {
+        partitions: Listing::from_vec(Vec::new(alloc)),
+        extents: Listing::from_vec(Vec::new(alloc)),
+        groups: Listing::from_vec(all),
+        devices: Listing::from_vec(devices),
+        minor: 2,
+        flags: 0,
+    })
+}
+
+#[test]
+fn twins_have_one_name_one_limit_and_one_order(rt: HostRuntime) -> Result<(), Fail> {
+    let alloc = rt.alloc();
+    let groups = [(b"one_a".as_slice(), 8), (b"cow", 0), (b"two_a", 16)];
+    let source = with_groups(alloc, &groups, 1 << 20)?;
+    for (groups, twins) in [
+        (
+            [(b"one_b".as_slice(), 8), (b"two_b", 16), (b"cow", 0)],
+            true,
+        ),
+        ([(b"two_b", 16), (b"one_b", 8), (b"cow", 0)], false),
+        ([(b"one_b", 8), (b"two_b", 17), (b"cow", 0)], false),
+        ([(b"one_b", 8), (b"two_a", 16), (b"cow", 0)], false),
+        ([(b"one_b", 8), (b"two_b", 16), (b"three_b", 0)], false),
+    ] {
+        let target = with_groups(alloc, &groups, 1 << 20)?;
+        assert_eq!(rt; has_twins(&source, &target, 1), twins);
+        assert!(rt; same_device(&source, &target));
+    }
+    let other = with_groups(alloc, &groups, 1 << 21)?;
+    assert!(rt; !same_device(&source, &other));
     Ok(())
 }

@@ -4,6 +4,7 @@ use Rattle.vab_partitions.specs.declared.target.Front.{Front}
 use Rattle.vab_partitions.proofs.FrontLaws.{Stands, stands_skip, stands_take}
 use Rattle.vab_partitions.proofs.FrontLaws.{stands_last, bad_first, own_few, apart_next}
 use Rattle.vab_partitions.proofs.TargetLaws.{bad_no_target}
+use Rattle.vab_partitions.proofs.BadTarget.{first_is_bad, target_not_bad}
 use Rattle.vab_partitions.proofs.target.first_bad.Goals as goal
 use Rattle.vab_partitions.proofs.target.first_bad.Goals.{else-is_of_target-via-then-is_of_target+in_ok-join+else-not-branch}
 use Rattle.vab_partitions.proofs.target.first_bad.Goals.{else-is_of_target-via-else-is_of_target}
@@ -35,6 +36,11 @@ returns-then-not-branch-clause-kept c = (
       c.part-item.result.name (returns-then-not-branch-clause-first c) is),
 )
 
+pub returns-then-not-branch-clause-is : goal.returns-then-not-branch-clause-is
+returns-then-not-branch-clause-is c =
+    sym (first_is_bad c.args.slot c.args.source.now c.args.target.now c.part-item.result.name
+    (returns-then-not-branch-clause-first c))
+
 pub loop-part-preserved : goal.loop-part-preserved
 loop-part-preserved c =
     let slot = c.args.slot in
@@ -64,3 +70,9 @@ returns-clause-kept c = (
       c.loop-part.front c.loop-part.invariant c.loop-part-test.false,
   λ is. refl,
 )
+
+pub returns-clause-is : goal.returns-clause-is
+returns-clause-is c =
+    sym (target_not_bad c.args.slot c.args.source.now c.args.target.now
+    (stands_last c.args.slot c.args.source.now c.args.target.now c.loop-part.part-index
+    c.loop-part.front c.loop-part.invariant c.loop-part-test.false))
