@@ -9,7 +9,8 @@ use Rattle.vab_disk.specs.Written.{same_image}
 use Rattle.vab_disk.proofs.Moments.{adds_wider, adds_on}
 use Rattle.vab_disk.specs.Port.{LeavesSaying}
 use Rattle.vab_disk.specs.declared.disk.Disk.{Ghosts}
-use Rattle.vab_fbproto.specs.Requests.{Asked, Getvar, Download, Do, BootAndEnd, request_of}
+use Rattle.vab_fbproto.specs.Requests.{Asked, Getvar, Download, Do, MergeAll, BootAndEnd}
+use Rattle.vab_fbproto.specs.Requests.{request_of}
 use Rattle.vab_fbproto.specs.declared.request.BadCommand.{BadCommand}
 use Rattle.vab_exchanges.specs.Session.{packet, most_data, wanted, due_of, Exchange, Leaves, End}
 use Rattle.vab_exchanges.specs.Session.{IsAwaited}
@@ -38,6 +39,7 @@ pub none_wanted : (refused : Bool) (asked : Result Asked BadCommand)
     → 0 ≡ wanted refused asked
 none_wanted refused (Ok (Download size)) none = absurd none
 none_wanted refused (Ok BootAndEnd) none = refl
+none_wanted refused (Ok MergeAll) none = refl
 none_wanted refused (Ok (Getvar variable)) none = refl
 none_wanted refused (Ok (Do command)) none = refl
 none_wanted refused (Err bad) none = refl
@@ -50,6 +52,7 @@ module _ {S D : Type 0} (effect : S → Option (List ℕ) → Result Asked BadCo
       ≡ item_by k (unless_refused refused (effect k.now k.staged asked))
   plain_asked k refused (Ok (Download size)) none = absurd none
   plain_asked k refused (Ok BootAndEnd) none = refl
+  plain_asked k refused (Ok MergeAll) none = refl
   plain_asked k refused (Ok (Getvar variable)) none = refl
   plain_asked k refused (Ok (Do command)) none = refl
   plain_asked k refused (Err bad) none = refl

@@ -7,7 +7,8 @@ use Rattle.std.proofs.lemmas.Bool.{cases_Bool, ltb-false}
 use Rattle.std.proofs.lemmas.List.{drop_at}
 use Rattle.std.specs.List.{flat_map}
 use Rattle.hex.specs.Hex.{encode_with}
-use Rattle.vab_fbproto.specs.Requests.{Asked, Getvar, Download, Do, BootAndEnd, request_of}
+use Rattle.vab_fbproto.specs.Requests.{Asked, Getvar, Download, Do, MergeAll, BootAndEnd}
+use Rattle.vab_fbproto.specs.Requests.{request_of}
 use Rattle.vab_fbproto.specs.declared.request.BadCommand.{BadCommand}
 use Rattle.vab_exchanges.specs.Session.{packet, ends_session, most_data, due_of, wanted, Exchange}
 use Rattle.vab_exchanges.specs.Session.{spelled, IsExchange, Leaves, End, Stops, IsUnfinished}
@@ -136,6 +137,8 @@ module _ {S : Type 0} (effect : S → Option (List ℕ) → Result Asked BadComm
       (none_due 0 ps refl all) all' told
   by_asked k (Ok BootAndEnd) ps qs x y all all' told =
       (told_command k true false (Ok BootAndEnd) x y told, refl)
+  by_asked k (Ok MergeAll) ps qs x y all all' told =
+      (told_command k true false (Ok MergeAll) x y told, refl)
   by_asked k (Ok (Getvar variable)) ps qs x y all all' told =
       (told_command k true false (Ok (Getvar variable)) x y told, refl)
   by_asked k (Ok (Do command)) ps qs x y all all' told =
@@ -150,6 +153,7 @@ module _ {S : Type 0} (effect : S → Option (List ℕ) → Result Asked BadComm
   open_asked k (Ok (Download size)) ps x y wants told =
       begun_or_refused k size (ltb most_data size) (ltb 0 size) ps x y refl wants told
   open_asked k (Ok BootAndEnd) ps x y wants told = omega (arith, wants)
+  open_asked k (Ok MergeAll) ps x y wants told = omega (arith, wants)
   open_asked k (Ok (Getvar variable)) ps x y wants told = omega (arith, wants)
   open_asked k (Ok (Do command)) ps x y wants told = omega (arith, wants)
   open_asked k (Err bad) ps x y wants told = omega (arith, wants)

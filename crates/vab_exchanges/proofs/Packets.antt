@@ -9,7 +9,8 @@ use Rattle.std.proofs.lemmas.List.{take_at, drop_at, get_or-append-add}
 use Rattle.std.proofs.lemmas.Nat.{be_bytes_8, from_be_bytes-to_be_bytes_8}
 use Rattle.std.specs.List.{flat_map}
 use Rattle.std.specs.Int.{w64, to_be_bytes, from_be_bytes}
-use Rattle.vab_fbproto.specs.Requests.{Asked, Getvar, Download, Do, BootAndEnd, request_of}
+use Rattle.vab_fbproto.specs.Requests.{Asked, Getvar, Download, Do, MergeAll, BootAndEnd}
+use Rattle.vab_fbproto.specs.Requests.{request_of}
 use Rattle.vab_fbproto.specs.declared.request.BadCommand.{BadCommand}
 use Rattle.vab_exchanges.specs.Session.{packet, length_at, ends_session, most_data, wanted, due_of}
 use Rattle.vab_exchanges.specs.Session.{Exchange, spelled, Leaves, IsExchange, End, Closed}
@@ -264,6 +265,7 @@ wanted_fits false (Ok (Download size)) = by_size (ltb most_data size) refl
     by_size true is = omega arith
     by_size false is = ltb-false most_data size is
 wanted_fits refused (Ok BootAndEnd) = omega arith
+wanted_fits refused (Ok MergeAll) = omega arith
 wanted_fits refused (Ok (Getvar variable)) = omega arith
 wanted_fits refused (Ok (Do command)) = omega arith
 wanted_fits refused (Err bad) = omega arith
@@ -275,6 +277,7 @@ due_fits refused p = wanted_fits refused (request_of p)
 wanted_refused : (r : Result Asked BadCommand) → wanted true r ≡ 0
 wanted_refused (Ok (Download size)) = refl
 wanted_refused (Ok BootAndEnd) = refl
+wanted_refused (Ok MergeAll) = refl
 wanted_refused (Ok (Getvar variable)) = refl
 wanted_refused (Ok (Do command)) = refl
 wanted_refused (Err bad) = refl

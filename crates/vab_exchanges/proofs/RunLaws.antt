@@ -11,7 +11,8 @@ use Rattle.std.proofs.lemmas.Bool.Decides.{nat_tests}
 use Rattle.std.specs.Int.{w64, to_be_bytes}
 use Rattle.vab_disk.specs.Disk.{Image, Outcome}
 use Rattle.vab_disk.specs.Port.{LeavesSaying}
-use Rattle.vab_fbproto.specs.Requests.{Asked, Getvar, Download, Do, BootAndEnd, request_of}
+use Rattle.vab_fbproto.specs.Requests.{Asked, Getvar, Download, Do, MergeAll, BootAndEnd}
+use Rattle.vab_fbproto.specs.Requests.{request_of}
 use Rattle.vab_fbproto.specs.declared.request.BadCommand.{BadCommand}
 use Rattle.vab_model.specs.Effects.{IsOneOf}
 use Rattle.vab_exchanges.specs.Session.{packet, Exchange}
@@ -259,6 +260,8 @@ module _ {S : Type 0} (effect : S → Option (List ℕ) → Result Asked BadComm
       (inl refl, both_some (data_text size) (codes "OKAY"))
   asked_chain k refused parts (Ok BootAndEnd) =
       by_chain k (unless_refused refused (effect k.now k.staged (Ok BootAndEnd)))
+  asked_chain k refused parts (Ok MergeAll) =
+      by_chain k (unless_refused refused (effect k.now k.staged (Ok MergeAll)))
   asked_chain k refused parts (Ok (Getvar variable)) =
       by_chain k (unless_refused refused (effect k.now k.staged (Ok (Getvar variable))))
   asked_chain k refused parts (Ok (Do command)) =

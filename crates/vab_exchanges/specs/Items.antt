@@ -8,7 +8,8 @@ use Rattle.std.specs.List.{flat_map}
 use Rattle.std.specs.Int.{w32, to_be_bytes}
 use Rattle.hex.specs.Hex.{encode_lower}
 use Rattle.vab_model.specs.Effects.{last_of}
-use Rattle.vab_fbproto.specs.Requests.{Asked, Getvar, Download, Do, BootAndEnd, request_of}
+use Rattle.vab_fbproto.specs.Requests.{Asked, Getvar, Download, Do, MergeAll, BootAndEnd}
+use Rattle.vab_fbproto.specs.Requests.{request_of}
 use Rattle.vab_fbproto.specs.declared.request.BadCommand.{BadCommand}
 use Rattle.vab_exchanges.specs.Session.{packet, most_data, Exchange, End, IsSession}
 
@@ -87,6 +88,7 @@ item_download k size refused parts =
 abbrev pub asked_size : Result Asked BadCommand → ℕ
 asked_size (Ok (Download size)) = size
 asked_size (Ok BootAndEnd) = 0
+asked_size (Ok MergeAll) = 0
 asked_size (Ok (Getvar variable)) = 0
 asked_size (Ok (Do command)) = 0
 asked_size (Err bad) = 0
@@ -99,6 +101,7 @@ item_begun k asked = item_still k (packet (data_text (asked_size asked)))
 abbrev pub AsksNoData : Result Asked BadCommand → Type 0
 AsksNoData (Ok (Download size)) = ⊥
 AsksNoData (Ok BootAndEnd) = Unit {0}
+AsksNoData (Ok MergeAll) = Unit {0}
 AsksNoData (Ok (Getvar variable)) = Unit {0}
 AsksNoData (Ok (Do command)) = Unit {0}
 AsksNoData (Err bad) = Unit {0}
@@ -115,6 +118,7 @@ module _ {S : Type 0} (effect : S → Option (List ℕ) → Result Asked BadComm
   abbrev pub item_asked : Kept S → Bool → List (List ℕ) → Result Asked BadCommand → Item S
   item_asked k refused parts (Ok (Download size)) = item_download k size refused parts
   item_asked k refused parts (Ok BootAndEnd) = item_done k refused (Ok BootAndEnd)
+  item_asked k refused parts (Ok MergeAll) = item_done k refused (Ok MergeAll)
   item_asked k refused parts (Ok (Getvar variable)) = item_done k refused (Ok (Getvar variable))
   item_asked k refused parts (Ok (Do command)) = item_done k refused (Ok (Do command))
   item_asked k refused parts (Err bad) = item_done k refused (Err bad)

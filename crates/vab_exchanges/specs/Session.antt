@@ -6,7 +6,8 @@ use Rattle.std.specs.Prelude.{if◌then◌else◌, Option, Some, None, Result, O
 use Rattle.std.specs.List.{flat_map}
 use Rattle.std.specs.Int.{w64, to_be_bytes, from_be_bytes}
 use Rattle.vab_fbtcp.specs.Hello.{is_hello}
-use Rattle.vab_fbproto.specs.Requests.{Asked, Getvar, Download, Do, BootAndEnd, request_of}
+use Rattle.vab_fbproto.specs.Requests.{Asked, Getvar, Download, Do, MergeAll, BootAndEnd}
+use Rattle.vab_fbproto.specs.Requests.{request_of}
 use Rattle.vab_fbproto.specs.declared.request.BadCommand.{BadCommand}
 
 -- a packet: the eight bytes of its length, the high byte first, and its bytes
@@ -15,6 +16,7 @@ packet bytes = to_be_bytes w64 (length bytes) ++ bytes
 
 abbrev pub is_last : Result Asked BadCommand → Bool
 is_last (Ok BootAndEnd) = true
+is_last (Ok MergeAll) = false
 is_last (Ok (Getvar variable)) = false
 is_last (Ok (Download size)) = false
 is_last (Ok (Do command)) = false
@@ -31,6 +33,7 @@ most_data = 268435456
 abbrev pub wanted : Bool → Result Asked BadCommand → ℕ
 wanted refused (Ok (Download size)) = if refused || nat_lt most_data size then 0 else size
 wanted refused (Ok BootAndEnd) = 0
+wanted refused (Ok MergeAll) = 0
 wanted refused (Ok (Getvar variable)) = 0
 wanted refused (Ok (Do command)) = 0
 wanted refused (Err bad) = 0

@@ -1,23 +1,38 @@
 //! What a packet asks for.
 ghost use Rattle.std.specs.Prelude.{◌≡◌, ◌≤◌, ◌<◌, length, MatchResult, Ok, Err, option_map};
-ghost use Rattle.std.specs.Prelude.{IfSome};
-ghost use Rattle.std.specs.List.{list_any};
-ghost use Rattle.vab_fbproto.specs.Requests.{asked_of, plain, variable_of, slot_of, is_delimiter};
-ghost use Rattle.vab_fbproto.specs.Requests.{is_name, digest_of, digit_of, hex_behind, download_of};
-ghost use Rattle.vab_fbproto.specs.Requests.{request_of};
+ghost use Rattle.vab_fbproto.specs.Requests.{asked_of, plain, argued_variable, asked_variable};
+ghost use Rattle.vab_fbproto.specs.Requests.{update_action, asked_oem, asked_update, request_of};
 
-use crate::word::{split_packet, split_variable};
+use crate::argument::{blank_argument, colon_argument, count_argument, length_argument};
+use crate::argument::{name_argument, no_argument, slot_argument};
+use crate::word::{split_at_colon, split_packet};
 use vab_model::Command;
 
-/// A variable that `getvar` asks for.
-#[derive(Clone, Copy, Debug, PartialEq, Eq)]
-pub enum Var {
+/// A variable that `getvar` asks for. A slot is 0 for a and 1 for b.
+#[derive(Clone, Copy, Debug)]
+pub enum Var<'a> {
     /// The protocol's version.
     Version,
     /// The slot that was booted last.
     CurrentSlot,
     /// How many slots there are.
     SlotCount,
+    /// The most bytes of a download.
+    MaxDownloadSize,
+    /// Whether a slot has an image of this base name.
+    HasSlot(&'a [u8]),
+    /// Whether the slot is marked as one that works.
+    SlotSuccessful(usize),
+    /// Whether the slot can't be booted.
+    SlotUnbootable(usize),
+    /// How many tries a slot has left.
+    SlotRetryCount(usize),
+    /// How many bytes the image of this name has.
+    PartitionSize(&'a [u8]),
+    /// Whether there is an image of this name.
+    IsLogical(&'a [u8]),
+    /// Where an update stands.
+    SnapshotUpdateStatus,
     /// A variable that isn't known.
     Unknown,
 }
@@ -26,11 +41,13 @@ pub enum Var {
 #[derive(Clone, Copy, Debug)]
 pub enum Request<'a> {
     /// A variable.
-    Getvar(Var),
+    Getvar(Var<'a>),
     /// To take so many bytes of data, the most that eight hexadecimal digits spell.
     Download(u32),
     /// A command.
     Do(Command<'a>),
+    /// To merge all that is left, and to end the merge.
+    MergeAll,
     /// A boot, behind which the session ends.
     BootAndEnd,
 }
@@ -45,124 +62,135 @@ pub enum BadCommand {
 }
 
 // A request of a word without an argument.
-fn plain<'a>(argument: Option<&[u8]>, request: Request<'a>) -> Result<Request<'a>, BadCommand>
-    ensures { let rest = option_map (λ a. a.now) argument.entry in
+fn plain<'a>(rest: Option<&[u8]>, request: Request<'a>) -> Result<Request<'a>, BadCommand>
+    ensures { let text = option_map (λ r. r.now) rest.entry in
         MatchResult result
-        (λ r. plain rest (asked_of request.entry) ≡ Ok (asked_of r))
-        (λ e. plain rest (asked_of request.entry) ≡ Err e) }
+        (λ r. plain text (asked_of request.entry) ≡ Ok (asked_of r))
+        (λ e. plain text (asked_of request.entry) ≡ Err e) }
 {
-    match argument {
-        None => Ok(request),
-        Some(_) => Err(BadCommand::BadArgument),
+    match no_argument(rest) {
+        Ok(()) => Ok(request),
+        Err(bad) => Err(bad),
+    }
+}
+
+// A variable of a slot or a name.
+#[tactic(auto, unfolding(crate::specs::Requests::argued_variable))]
+fn argued_variable<'a>(word: &[u8], rest: Option<&'a [u8]>) -> Result<Request<'a>, BadCommand>
+    ensures { let text = option_map (λ r. r.now) rest.entry in
+        MatchResult result
+        (λ r. argued_variable word.now text ≡ Ok (asked_of r))
+        (λ e. argued_variable word.now text ≡ Err e) }
+{
+    if word == b"has-slot".as_slice() {
+        Ok(Request::Getvar(Var::HasSlot(name_argument(rest)?)))
+    } else if word == b"slot-successful".as_slice() {
+        Ok(Request::Getvar(Var::SlotSuccessful(slot_argument(rest)?)))
+    } else if word == b"slot-unbootable".as_slice() {
+        Ok(Request::Getvar(Var::SlotUnbootable(slot_argument(rest)?)))
+    } else if word == b"slot-retry-count".as_slice() {
+        Ok(Request::Getvar(Var::SlotRetryCount(slot_argument(rest)?)))
+    } else if word == b"partition-size".as_slice() {
+        Ok(Request::Getvar(Var::PartitionSize(name_argument(rest)?)))
+    } else if word == b"is-logical".as_slice() {
+        Ok(Request::Getvar(Var::IsLogical(name_argument(rest)?)))
+    } else {
+        Ok(Request::Getvar(Var::Unknown))
     }
 }
 
 // `getvar:VAR`.
-#[tactic(auto, unfolding(crate::specs::Requests::variable_of))]
-fn read_variable<'a>(variable: &[u8]) -> Result<Request<'a>, BadCommand>
-    ensures { MatchResult result
-        (λ r. variable_of variable.now ≡ Ok (asked_of r))
-        (λ e. variable_of variable.now ≡ Err e) }
+#[tactic(auto, unfolding(crate::specs::Requests::asked_variable))]
+fn read_variable(rest: Option<&[u8]>) -> Result<Request<'_>, BadCommand>
+    ensures { let text = option_map (λ r. r.now) rest.entry in
+        MatchResult result
+        (λ r. asked_variable text ≡ Ok (asked_of r))
+        (λ e. asked_variable text ≡ Err e) }
 {
-    let (word, argument) = split_variable(variable);
-    let known = if word == b"version".as_slice() {
-        Var::Version
+    let (word, rest) = split_at_colon(rest.ok_or(BadCommand::BadArgument)?);
+    if word == b"version".as_slice() {
+        plain(rest, Request::Getvar(Var::Version))
     } else if word == b"current-slot".as_slice() {
-        Var::CurrentSlot
+        plain(rest, Request::Getvar(Var::CurrentSlot))
     } else if word == b"slot-count".as_slice() {
-        Var::SlotCount
+        plain(rest, Request::Getvar(Var::SlotCount))
+    } else if word == b"max-download-size".as_slice() {
+        plain(rest, Request::Getvar(Var::MaxDownloadSize))
+    } else if word == b"snapshot-update-status".as_slice() {
+        plain(rest, Request::Getvar(Var::SnapshotUpdateStatus))
     } else {
-        return Ok(Request::Getvar(Var::Unknown));
-    };
-    plain(argument, Request::Getvar(known))
-}
-
-// `set_active:SLOT`.
-#[tactic(auto, unfolding(crate::specs::Requests::slot_of))]
-fn read_slot<'a>(slot: &[u8]) -> Result<Request<'a>, BadCommand>
-    ensures { MatchResult result
-        (λ r. slot_of slot.now ≡ Ok (asked_of r))
-        (λ e. slot_of slot.now ≡ Err e) }
-{
-    if slot == b"a".as_slice() || slot == b"_a".as_slice() {
-        Ok(Request::Do(Command::SetActive(0)))
-    } else if slot == b"b".as_slice() || slot == b"_b".as_slice() {
-        Ok(Request::Do(Command::SetActive(1)))
-    } else {
-        Err(BadCommand::BadArgument)
+        argued_variable(word, rest)
     }
 }
 
-// The value of a hexadecimal digit.
-fn digit(byte: u8) -> Option<u32>
-    ensures value { result ≡ digit_of byte }
-    ensures small { IfSome result (λ d. d < 16) }
+// `snapshot-update:cancel` and `snapshot-update:merge`.
+#[tactic(auto, unfolding(crate::specs::Requests::update_action))]
+fn read_action<'a>(rest: Option<&[u8]>) -> Result<Request<'a>, BadCommand>
+    ensures { let text = option_map (λ r. r.now) rest.entry in
+        MatchResult result
+        (λ r. update_action text ≡ Ok (asked_of r))
+        (λ e. update_action text ≡ Err e) }
 {
-    match byte {
-        b'0'..=b'9' => Some((byte - b'0') as u32),
-        b'a'..=b'f' => Some((byte - b'a' + 10) as u32),
-        b'A'..=b'F' => Some((byte - b'A' + 10) as u32),
-        _ => None,
-    }
-}
-
-// The number that at most eight hexadecimal digits spell.
-fn hex_number(digits: &[u8]) -> Option<u32>
-    requires { length digits.now ≤ 8 }
-    ensures { result ≡ hex_behind (Some 0) digits.now }
-{
-    let mut value: u32 = 0;
-    for byte in digits {
-        match digit(*byte) {
-            Some(next) => value = 16 * value + next,
-            None => return None,
-        }
-    }
-    Some(value)
-}
-
-// `download:HEX`.
-#[tactic(auto, unfolding(crate::specs::Requests::download_of))]
-fn read_download<'a>(digits: &[u8]) -> Result<Request<'a>, BadCommand>
-    ensures { MatchResult result
-        (λ r. download_of digits.now ≡ Ok (asked_of r))
-        (λ e. download_of digits.now ≡ Err e) }
-{
-    if digits.is_empty() || digits.len() > 8 {
-        return Err(BadCommand::BadArgument);
-    }
-    match hex_number(digits) {
-        Some(size) => Ok(Request::Download(size)),
-        None => Err(BadCommand::BadArgument),
-    }
-}
-
-// Whether one of the bytes is a colon or a blank.
-fn has_delimiter(name: &[u8]) -> bool
-    ensures { result ≡ list_any is_delimiter name.now }
-{
-    name.iter().any(|b| *b == b':' || *b == b' ' || *b == b'\t')
-}
-
-// Whether these are one or more bytes that are neither a colon nor a blank.
-#[tactic(auto, unfolding(crate::specs::Requests::is_name))]
-fn is_name(name: &[u8]) -> bool
-    ensures { result ≡ is_name name.now }
-{
-    !name.is_empty() && !has_delimiter(name)
-}
-
-// `oem digest NAME`.
-#[tactic(auto, unfolding(crate::specs::Requests::digest_of))]
-fn read_digest(name: &[u8]) -> Result<Request<'_>, BadCommand>
-    ensures { MatchResult result
-        (λ r. digest_of name.now ≡ Ok (asked_of r))
-        (λ e. digest_of name.now ≡ Err e) }
-{
-    if is_name(name) {
-        Ok(Request::Do(Command::Digest(name)))
+    let action = rest.ok_or(BadCommand::BadArgument)?;
+    if action == b"cancel".as_slice() {
+        Ok(Request::Do(Command::Cancel))
+    } else if action == b"merge".as_slice() {
+        Ok(Request::MergeAll)
     } else {
         Err(BadCommand::BadArgument)
+    }
+}
+
+// The words behind `oem`.
+#[tactic(auto, unfolding(crate::specs::Requests::asked_oem))]
+fn read_oem<'a>(word: &[u8], rest: Option<&'a [u8]>) -> Result<Request<'a>, BadCommand>
+    ensures { let text = option_map (λ r. r.now) rest.entry in
+        MatchResult result
+        (λ r. asked_oem word.now text ≡ Ok (asked_of r))
+        (λ e. asked_oem word.now text ≡ Err e) }
+{
+    if word == b"oem boot".as_slice() {
+        plain(rest, Request::Do(Command::Boot))
+    } else if word == b"oem mark-successful".as_slice() {
+        plain(rest, Request::Do(Command::Mark))
+    } else if word == b"oem finish".as_slice() {
+        plain(rest, Request::Do(Command::Finish))
+    } else if word == b"oem begin-merge".as_slice() {
+        plain(rest, Request::Do(Command::BeginMerge))
+    } else if word == b"oem merge".as_slice() {
+        Ok(Request::Do(Command::Merge(count_argument(rest)?)))
+    } else if word == b"oem snapshot".as_slice() {
+        let (name, size) = blank_argument(rest)?;
+        Ok(Request::Do(Command::Snapshot(name, size)))
+    } else if word == b"oem digest".as_slice() {
+        Ok(Request::Do(Command::Digest(name_argument(rest)?)))
+    } else {
+        Err(BadCommand::Unknown)
+    }
+}
+
+// The words of an update.
+#[tactic(auto, unfolding(crate::specs::Requests::asked_update))]
+fn read_update<'a>(word: &[u8], rest: Option<&'a [u8]>) -> Result<Request<'a>, BadCommand>
+    ensures { let text = option_map (λ r. r.now) rest.entry in
+        MatchResult result
+        (λ r. asked_update word.now text ≡ Ok (asked_of r))
+        (λ e. asked_update word.now text ≡ Err e) }
+{
+    if word == b"create-logical-partition".as_slice() {
+        let (name, size) = colon_argument(rest)?;
+        Ok(Request::Do(Command::Create(name, size)))
+    } else if word == b"resize-logical-partition".as_slice() {
+        let (name, size) = colon_argument(rest)?;
+        Ok(Request::Do(Command::Resize(name, size)))
+    } else if word == b"delete-logical-partition".as_slice() {
+        Ok(Request::Do(Command::Delete(name_argument(rest)?)))
+    } else if word == b"flash".as_slice() {
+        Ok(Request::Do(Command::Flash(name_argument(rest)?)))
+    } else if word == b"snapshot-update".as_slice() {
+        read_action(rest)
+    } else {
+        read_oem(word, rest)
     }
 }
 
@@ -175,22 +203,16 @@ pub fn read_command(packet: &[u8]) -> Result<Request<'_>, BadCommand>
         (λ r. request_of packet.now ≡ Ok (asked_of r))
         (λ e. request_of packet.now ≡ Err e) }
 {
-    let (word, argument) = split_packet(packet);
+    let (word, rest) = split_packet(packet);
     if word == b"getvar".as_slice() {
-        read_variable(argument.ok_or(BadCommand::BadArgument)?)
+        read_variable(rest)
     } else if word == b"download".as_slice() {
-        read_download(argument.ok_or(BadCommand::BadArgument)?)
+        Ok(Request::Download(length_argument(rest)?))
     } else if word == b"set_active".as_slice() {
-        read_slot(argument.ok_or(BadCommand::BadArgument)?)
+        Ok(Request::Do(Command::SetActive(slot_argument(rest)?)))
     } else if word == b"reboot".as_slice() || word == b"continue".as_slice() {
-        plain(argument, Request::BootAndEnd)
-    } else if word == b"oem boot".as_slice() {
-        plain(argument, Request::Do(Command::Boot))
-    } else if word == b"oem mark-successful".as_slice() {
-        plain(argument, Request::Do(Command::Mark))
-    } else if word == b"oem digest".as_slice() {
-        read_digest(argument.ok_or(BadCommand::BadArgument)?)
+        plain(rest, Request::BootAndEnd)
     } else {
-        Err(BadCommand::Unknown)
+        read_update(word, rest)
     }
 }

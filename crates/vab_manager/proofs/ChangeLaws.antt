@@ -9,7 +9,9 @@ use Rattle.vab_bootctl.specs.declared.slots.Control.{Control}
 use Rattle.vab_bootctl.specs.Boot.{activated_of}
 use Rattle.vab_bootctl.specs.Control.{control_of, KeepsRest}
 use Rattle.vab_marks.specs.declared.mark.UpdateMark.{UpdateMark}
-use Rattle.vab_model.specs.Commands.{Command, SetActive, Boot, Mark, Print, Digest}
+use Rattle.vab_model.specs.Commands.{Command, SetActive, Boot, Mark, Print, Digest, Create}
+use Rattle.vab_model.specs.Commands.{Resize, Delete, Snapshot, Flash, Finish, Cancel, BeginMerge}
+use Rattle.vab_model.specs.Commands.{Merge}
 use Rattle.vab_device.specs.declared.device.Device.{Device}
 use Rattle.vab_device.specs.Kept.{IsDevice}
 use Rattle.vab_device.specs.Reading.{Represents}
@@ -53,6 +55,15 @@ one_writes Boot c a b old s bytes is = is
 one_writes Mark c a b old s bytes is = is
 one_writes (Print name) c a b old s bytes is = absurd is
 one_writes (Digest name) c a b old s bytes is = absurd is
+one_writes (Create name size) c a b old s bytes is = absurd is
+one_writes (Resize name size) c a b old s bytes is = absurd is
+one_writes (Delete name) c a b old s bytes is = absurd is
+one_writes (Snapshot name size) c a b old s bytes is = absurd is
+one_writes (Flash name) c a b old s bytes is = absurd is
+one_writes Finish c a b old s bytes is = absurd is
+one_writes Cancel c a b old s bytes is = absurd is
+one_writes BeginMerge c a b old s bytes is = absurd is
+one_writes (Merge blocks) c a b old s bytes is = absurd is
 
 -- What commands left: a boot control, and bytes that keep the rest of the first ones.
 record Reached (first : Control) (a b : Bool) (old : List ℕ) (c : Control) (mid : List ℕ)

@@ -6,7 +6,9 @@ use Rattle.vab_bootctl.specs.declared.slots.Control.{Control}
 use Rattle.vab_bootctl.specs.Control.{control_of, KeepsRest}
 use Rattle.vab_bootctl.specs.Boot.{activated_of, booted_of, marked_of}
 use Rattle.vab_model.specs.declared.command.Reply.{Reply}
-use Rattle.vab_model.specs.Commands.{Command, SetActive, Boot, Mark, Print, Digest}
+use Rattle.vab_model.specs.Commands.{Command, SetActive, Boot, Mark, Print, Digest, Create}
+use Rattle.vab_model.specs.Commands.{Resize, Delete, Snapshot, Flash, Finish, Cancel, BeginMerge}
+use Rattle.vab_model.specs.Commands.{Merge}
 use Rattle.vab_model.specs.Effects.{does}
 use Rattle.vab_model.specs.State.{control_seen, with_control}
 use Rattle.vab_device.specs.declared.device.Device.{Device}
@@ -39,7 +41,7 @@ slots_with_images d = is_some d.a ∷ is_some d.b ∷ []
 
 -- What a command may write, where the slots a and b have images or not: the boot control that the
 -- boot rules make of the old one, of both slots. A slot without images isn't set active, and a
--- question writes nothing.
+-- question writes nothing; nor does a command on an update, as long as there is none.
 abbrev pub IsOfSlots : Control → (a b : Bool) → List ℕ → Command → ℕ → List ℕ → Type 0
 IsOfSlots c a b old (SetActive slot) s bytes =
     ((if slot == 0 then a else b) ≡ true) × IsControl (activated_of c slot) old s bytes
@@ -47,6 +49,15 @@ IsOfSlots c a b old Boot s bytes = IsControl (booted_of c (a ∷ b ∷ [])) old 
 IsOfSlots c a b old Mark s bytes = IsControl (marked_of c) old s bytes
 IsOfSlots c a b old (Print name) s bytes = ⊥
 IsOfSlots c a b old (Digest name) s bytes = ⊥
+IsOfSlots c a b old (Create name size) s bytes = ⊥
+IsOfSlots c a b old (Resize name size) s bytes = ⊥
+IsOfSlots c a b old (Delete name) s bytes = ⊥
+IsOfSlots c a b old (Snapshot name size) s bytes = ⊥
+IsOfSlots c a b old (Flash name) s bytes = ⊥
+IsOfSlots c a b old Finish s bytes = ⊥
+IsOfSlots c a b old Cancel s bytes = ⊥
+IsOfSlots c a b old BeginMerge s bytes = ⊥
+IsOfSlots c a b old (Merge blocks) s bytes = ⊥
 
 -- the same on a device
 abbrev pub IsOfCommand : Device → List ℕ → Command → ℕ → List ℕ → Type 0
@@ -63,6 +74,15 @@ control_by a b Boot c = booted_of c (a ∷ b ∷ [])
 control_by a b Mark c = marked_of c
 control_by a b (Print name) c = c
 control_by a b (Digest name) c = c
+control_by a b (Create name size) c = c
+control_by a b (Resize name size) c = c
+control_by a b (Delete name) c = c
+control_by a b (Snapshot name size) c = c
+control_by a b (Flash name) c = c
+control_by a b Finish c = c
+control_by a b Cancel c = c
+control_by a b BeginMerge c = c
+control_by a b (Merge blocks) c = c
 
 -- and after some of them, one behind the other
 abbrev pub controls_by : (a b : Bool) → List Command → Control → Control

@@ -10,13 +10,14 @@ use crate::slots::{boot, mark, set_active};
 use vab_device::Device;
 use vab_disk::Disk;
 use vab_gate::DiskFault;
-use vab_model::{Command, Reply};
+use vab_model::{Command, Refusal, Reply};
 
 /// Carries out one command on a device. Where the device that is kept is that of the disk, the
 /// reply and the device after it are those of the table of effects; where nothing was pending, each
 /// outcome since is a step of the command. A command on slots touches the boot control's sector
 /// alone, and there only the fields that it changes; a question or a refusal touches nothing. The
-/// error comes where the disk has failed; then nothing is asked of the device any more.
+/// error comes where the disk has failed; then nothing is asked of the device any more. There is no
+/// update yet, and so the commands on one are refused.
 pub fn run_one<D: Disk>(
     d: &mut D,
     device: Device,
@@ -38,5 +39,14 @@ pub fn run_one<D: Disk>(
             Ok(reply) => Ok((device, reply)),
             Err(fault) => Err(fault),
         },
+        Command::Create(_, _) => Ok((device, Reply::Refused(Refusal::NotInstalling))),
+        Command::Resize(_, _) => Ok((device, Reply::Refused(Refusal::NotInstalling))),
+        Command::Delete(_) => Ok((device, Reply::Refused(Refusal::NotInstalling))),
+        Command::Snapshot(_, _) => Ok((device, Reply::Refused(Refusal::NotInstalling))),
+        Command::Flash(_) => Ok((device, Reply::Refused(Refusal::NotInstalling))),
+        Command::Finish => Ok((device, Reply::Refused(Refusal::NotInstalling))),
+        Command::Cancel => Ok((device, Reply::Refused(Refusal::NothingToCancel))),
+        Command::BeginMerge => Ok((device, Reply::Refused(Refusal::NotStaged))),
+        Command::Merge(_) => Ok((device, Reply::Refused(Refusal::NotMerging))),
     }
 }

@@ -1,5 +1,5 @@
 -- What a command makes of a state: the reply, and the states that follow one another.
-use Rattle.std.specs.Prelude.{◌≡◌, ◌⊎◌, ℕ, if◌then◌else◌, Bool, true, false, List, [], ◌∷◌, ◌++◌}
+use Rattle.std.specs.Prelude.{◌≡◌, ◌⊎◌, ℕ, if◌then◌else◌, Bool, true, false, List, [], ◌∷◌}
 use Rattle.std.specs.Prelude.{map, Option, Some, None, is_some}
 use Rattle.sha2.specs.Sha256.{sha256}
 use Rattle.vab_bootctl.specs.declared.slots.Control.{Control}
@@ -9,9 +9,13 @@ use Rattle.vab_model.specs.declared.state.Image.{Image}
 use Rattle.vab_model.specs.declared.state.State.{State}
 use Rattle.vab_model.specs.declared.command.Refusal.{Refusal}
 use Rattle.vab_model.specs.declared.command.Refusal.TheVariants.{BadName, Unknown, NoImages}
+use Rattle.vab_model.specs.declared.command.Refusal.TheVariants.{NotInstalling, NotStaged}
+use Rattle.vab_model.specs.declared.command.Refusal.TheVariants.{NotMerging, NothingToCancel}
 use Rattle.vab_model.specs.declared.command.Reply.{Reply}
 use Rattle.vab_model.specs.declared.command.Reply.TheVariants as replies
-use Rattle.vab_model.specs.Commands.{Command, SetActive, Boot, Mark, Print, Digest}
+use Rattle.vab_model.specs.Commands.{Command, SetActive, Boot, Mark, Print, Digest, Create}
+use Rattle.vab_model.specs.Commands.{Resize, Delete, Snapshot, Flash, Finish, Cancel, BeginMerge}
+use Rattle.vab_model.specs.Commands.{Merge}
 use Rattle.vab_model.specs.State.{images_at, has_images, with_control, image_named}
 
 -- A reply, and the states that follow one another; none for a refusal or a question.
@@ -68,7 +72,8 @@ abbrev pub active_effect : Bool → State → Control → Effect State
 active_effect true s c = does replies.Done (with_control c s)
 active_effect false s c = refuses NoImages
 
--- each command has a row
+-- Each command has a row. No command begins an update yet: there is none, and so the commands on
+-- one are refused.
 unfoldable pub effect : State → Command → Effect State
 effect s (SetActive slot) =
     active_effect (is_some (images_at s slot)) s (activated_of s.control slot)
@@ -78,6 +83,15 @@ effect s Boot =
 effect s Mark = does replies.Done (with_control (marked_of s.control) s)
 effect s (Print name) = print_effect name (found_of s name)
 effect s (Digest name) = digest_effect (found_of s name)
+effect s (Create name size) = refuses NotInstalling
+effect s (Resize name size) = refuses NotInstalling
+effect s (Delete name) = refuses NotInstalling
+effect s (Snapshot name size) = refuses NotInstalling
+effect s (Flash name) = refuses NotInstalling
+effect s Finish = refuses NotInstalling
+effect s Cancel = refuses NothingToCancel
+effect s BeginMerge = refuses NotStaged
+effect s (Merge blocks) = refuses NotMerging
 
 -- ---- what follows from an effect, whatever the command is
 

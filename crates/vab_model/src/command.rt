@@ -3,7 +3,7 @@
 use vab_bytes::Name36;
 
 /// A command on a device. A slot is 0 for a and 1 for b; a name is a partition's with its slot's
-/// suffix.
+/// suffix; a size is in bytes.
 #[derive(Clone, Copy, Debug)]
 pub enum Command<'a> {
     /// Makes a slot the one to boot next.
@@ -16,17 +16,84 @@ pub enum Command<'a> {
     Print(&'a [u8]),
     /// Tells the SHA-256 of an image's bytes.
     Digest(&'a [u8]),
+    /// Gives the target of an update a partition of this size.
+    Create(&'a [u8], u64),
+    /// Gives a partition of the target another size.
+    Resize(&'a [u8], u64),
+    /// Takes a partition from the target.
+    Delete(&'a [u8]),
+    /// Gives a partition of the target an exception store of this size; 0: of the size that it
+    /// needs at most.
+    Snapshot(&'a [u8], u64),
+    /// Makes the staged bytes the image of a partition of the target.
+    Flash(&'a [u8]),
+    /// Ends the installing of an update: its target is ready to be booted.
+    Finish,
+    /// Drops an update.
+    Cancel,
+    /// Begins to merge an update into its target's partitions.
+    BeginMerge,
+    /// Merges at most so many blocks.
+    Merge(u64),
 }
 
 /// Why a command is refused. A refused command changes nothing.
 #[derive(Clone, Copy, Debug, PartialEq, Eq)]
 pub enum Refusal {
+    /// There is an update.
+    NotIdle,
+    /// No update is being installed.
+    NotInstalling,
+    /// No update waits to be merged.
+    NotStaged,
+    /// No update is being merged.
+    NotMerging,
+    /// There is no update.
+    NothingToCancel,
+    /// The update is being merged.
+    Merging,
+    /// The target of the update was booted last.
+    RunningTarget,
+    /// The target of the update wasn't booted last.
+    NotRunningTarget,
+    /// The slot that was booted last isn't marked as one that works.
+    NotSuccessful,
     /// The name is not 1 to 30 bytes of `A-Z a-z 0-9 _ .` and a slot's suffix.
     BadName,
-    /// The slot has images, and not this one.
+    /// The size is above 2^40 bytes, or that of a store, other than 0, below two blocks.
+    BadSize,
+    /// The slot has images, and not this one; or the target has no such partition.
     Unknown,
+    /// The target has such a partition.
+    Exists,
+    /// The partition has an exception store.
+    HasStore,
+    /// The partition has no exception store.
+    NoStore,
+    /// The partition was flashed.
+    Written,
+    /// Nothing was downloaded.
+    NothingStaged,
+    /// The staged bytes are a sparse image.
+    Sparse,
+    /// So many bytes are staged for a partition of so many.
+    TooLarge(u64, u64),
+    /// The target would have a 33rd partition.
+    TooMany,
+    /// The partitions of a group would have so many bytes, of so many.
+    GroupLimit(u64, u64),
+    /// Partitions and stores would have so many blocks, of so many.
+    NoRoom(u64, u64),
+    /// The exceptions would fill so many blocks of a store of so many.
+    StoreFull(u64, u64),
+    /// The text of the table would have so many bytes, of so many.
+    TableFull(u64, u64),
+    /// The partition of this base name has no image yet.
+    Incomplete(Name36),
     /// The slot has no images.
     NoImages,
+    /// Memory was refused.
+    NoMemory,
 }
 
 /// The reply to a command.
@@ -39,5 +106,9 @@ pub enum Reply {
     Bytes(Name36),
     /// The SHA-256 of an image's bytes.
     Digest([u8; 32]),
+    /// So many blocks are left to merge.
+    Left(u64),
+    /// The update is merged.
+    Merged,
     Refused(Refusal),
 }

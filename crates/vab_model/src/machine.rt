@@ -3,7 +3,8 @@
 ghost use Rattle.std.specs.Prelude.{◌≡◌, ◌≤◌, length, IfOk, MatchResult, option_copied, is_some};
 ghost use Rattle.vab_bootctl.specs.Boot.{activated_of};
 ghost use Rattle.vab_model.specs.State.{images_at, has_images, with_control, image_named};
-ghost use Rattle.vab_model.specs.Commands.{SetActive, Boot, Mark, command_of};
+ghost use Rattle.vab_model.specs.Commands.{SetActive, Boot, Mark, Print, command_of};
+ghost use Rattle.vab_model.specs.Commands.{Digest as DigestOf};
 ghost use Rattle.vab_model.specs.Effects.{Effect, Image_is, Refused_by, found_in, found_of};
 ghost use Rattle.vab_model.specs.Effects.{print_effect, digest_effect, effect, after_of};
 ghost use Rattle.vab_model.specs.declared.state.State.{State as StateOf};
@@ -157,9 +158,36 @@ fn digest(state: &State, name: &[u8]) -> Reply
     }
 }
 
+#[tactic(auto, unfolding(crate::specs::Effects::effect))]
+fn printed(alloc: Global, state: &State, name: &[u8]) -> Result<(State, Reply), NoMemory>
+    ensures state { IfOk result
+        (λ r. r.0 ≡ after_of state.now (effect state.now (Print name.now))) }
+    ensures reply { IfOk result (λ r. r.1 ≡ (effect state.now (Print name.now)).reply) }
+{
+    Ok((state.copy(alloc)?, print(state, name)))
+}
+
+#[tactic(auto, unfolding(crate::specs::Effects::effect))]
+fn digested(alloc: Global, state: &State, name: &[u8]) -> Result<(State, Reply), NoMemory>
+    ensures state { IfOk result
+        (λ r. r.0 ≡ after_of state.now (effect state.now (DigestOf name.now))) }
+    ensures reply { IfOk result (λ r. r.1 ≡ (effect state.now (DigestOf name.now)).reply) }
+{
+    Ok((state.copy(alloc)?, digest(state, name)))
+}
+
+// A command that is refused.
+fn refuse(alloc: Global, state: &State, refusal: Refusal) -> Result<(State, Reply), NoMemory>
+    ensures state { IfOk result (λ r. r.0 ≡ state.now) }
+    ensures reply { IfOk result (λ r. r.1 ≡ Reply.Refused refusal) }
+{
+    Ok((state.copy(alloc)?, Reply::Refused(refusal)))
+}
+
 /// The state after a command, and the reply; the state that is given stays. `staged` is what was
-/// downloaded last, if anything: no command takes it yet. `NoMemory` where memory is refused. It is
-/// slow, for tests: the program's own commands are compared with it.
+/// downloaded last, if anything: no command takes it yet. There is no update yet, and so the
+/// commands on one are refused. `NoMemory` where memory is refused. It is slow, for tests: the
+/// program's own commands are compared with it.
 #[tactic(auto, unfolding(crate::specs::Effects::effect))]
 pub fn step(
     alloc: Global,
@@ -175,7 +203,16 @@ pub fn step(
         Command::SetActive(slot) => set_active(alloc, state, slot),
         Command::Boot => boot(alloc, state),
         Command::Mark => mark(alloc, state),
-        Command::Print(name) => Ok((state.copy(alloc)?, print(state, name))),
-        Command::Digest(name) => Ok((state.copy(alloc)?, digest(state, name))),
+        Command::Print(name) => printed(alloc, state, name),
+        Command::Digest(name) => digested(alloc, state, name),
+        Command::Create(_, _) => refuse(alloc, state, Refusal::NotInstalling),
+        Command::Resize(_, _) => refuse(alloc, state, Refusal::NotInstalling),
+        Command::Delete(_) => refuse(alloc, state, Refusal::NotInstalling),
+        Command::Snapshot(_, _) => refuse(alloc, state, Refusal::NotInstalling),
+        Command::Flash(_) => refuse(alloc, state, Refusal::NotInstalling),
+        Command::Finish => refuse(alloc, state, Refusal::NotInstalling),
+        Command::Cancel => refuse(alloc, state, Refusal::NothingToCancel),
+        Command::BeginMerge => refuse(alloc, state, Refusal::NotStaged),
+        Command::Merge(_) => refuse(alloc, state, Refusal::NotMerging),
     }
 }

@@ -173,3 +173,22 @@ fn a_plan_is_copied(rt: HostRuntime) -> Result<(), Fail> {
     assert_eq!(rt; exceptions, 7);
     Ok(())
 }
+
+#[test]
+fn without_an_update_its_commands_are_refused(rt: HostRuntime) -> Result<(), Fail> {
+    let state = device(rt.alloc())?;
+    for (command, want) in [
+        (Command::Create(b"x_b", 4096), Refusal::NotInstalling),
+        (Command::Resize(b"system_b", 0), Refusal::NotInstalling),
+        (Command::Delete(b""), Refusal::NotInstalling),
+        (Command::Snapshot(b"system_b", 0), Refusal::NotInstalling),
+        (Command::Flash(b"system_b"), Refusal::NotInstalling),
+        (Command::Finish, Refusal::NotInstalling),
+        (Command::Cancel, Refusal::NothingToCancel),
+        (Command::BeginMerge, Refusal::NotStaged),
+        (Command::Merge(1), Refusal::NotMerging),
+    ] {
+        assert_eq!(rt; reply(rt.alloc(), &state, command)?, Reply::Refused(want));
+    }
+    Ok(())
+}
