@@ -19,7 +19,8 @@ use Rattle.vab_model.proofs.SeenLaws.{seen_again}
 use Rattle.vab_device.specs.declared.fault.StartFault.{StartFault}
 use Rattle.vab_device.specs.declared.fault.StartFault.TheVariants.{TooSmall}
 use Rattle.vab_device.specs.declared.device.Device.{Device}
-use Rattle.vab_device.specs.Checks.{passing, ◌>>=◌}
+use Rattle.vab_device.specs.Checks.{Check, first_fault, passing, ◌>>=◌}
+use Rattle.vab_device.specs.Idle.{control_read_of}
 use Rattle.vab_device.specs.Mounted.{Mounted, control_on, state_on, mounted_on, images_on}
 use Rattle.vab_device.specs.Mounted.{phase_on}
 use Rattle.vab_device.specs.Stores.{Scanned, scans_in}
@@ -292,6 +293,20 @@ single_at marks.Installing = record {
 single_at marks.Staged = idle_single
 single_at marks.Merging = idle_single
 single_at marks.Completed = idle_single
+
+-- the rules of the slots are those of the one slot, in each phase
+pub state_single : (r : Read) → state_fault r ≡ first_fault (slot_checks r.mark.slot r.control)
+state_single r =
+    ap (λ (f : ℕ → Control → List Check). first_fault (f r.mark.slot r.control))
+    (single_at r.mark.phase).state
+
+-- of boot control its info is read
+pub seen_single : (r : Read) (c : Control)
+    → control_seen ((phase_at r.mark.phase).has_a r.mark.slot) ((phase_at r.mark.phase).has_b r.mark.slot) c
+    ≡ control_read_of r.mark.slot c
+seen_single r c =
+    let single = single_at r.mark.phase in
+    (λ i. control_seen (single.has_a i r.mark.slot) (single.has_b i r.mark.slot) c)
 
 pub tables_first : (size : ℕ) (g : Geometry) (slot : ℕ) (slots : List ℕ) (image : Image)
     (ts : List Table)

@@ -31,6 +31,11 @@ kept_device d size c is fits current = record {
   parts_b = is.parts_b;
   table_a = is.table_a;
   table_b = is.table_b;
+  source = is.source;
+  target = is.target;
+  planned = is.planned;
+  plan = is.plan;
+  update = is.update;
 }
 
 -- ---- the boot controls of commands

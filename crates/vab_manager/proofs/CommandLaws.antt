@@ -21,13 +21,13 @@ use Rattle.vab_device.specs.Checks.{first_fault, check}
 use Rattle.vab_device.specs.Idle.{control_read_of}
 use Rattle.vab_device.specs.Kept.{IsDevice}
 use Rattle.vab_device.specs.Mounted.{Mounted, mounted_on, effect_on}
-use Rattle.vab_device.specs.Phases.{Phase, idle, is_good}
+use Rattle.vab_device.specs.Phases.{slot_checks, is_good}
 use Rattle.vab_device.specs.Reading.{Read, device, Represents}
 use Rattle.vab_device.proofs.CheckLaws.{check_kept, first_kept}
 use Rattle.vab_device.proofs.ControlLaws.{read_with, with_boot, KeepsState, represents_gated}
 use Rattle.vab_device.proofs.ControlLaws.{mounted_gated}
-use Rattle.vab_device.proofs.IdleLaws.{state_is}
-use Rattle.vab_device.proofs.ReadingLaws.{at_idle, control_is_seen, device_stands}
+use Rattle.vab_device.proofs.ReadingLaws.{state_single, seen_single, control_is_seen}
+use Rattle.vab_device.proofs.ReadingLaws.{device_stands}
 use Rattle.vab_manager.specs.Commands.{LeavesStep, DoesCommand}
 use Rattle.vab_manager.specs.Controls.{HasControl, LeavesControl, IsControl, IsOfCommand}
 use Rattle.vab_manager.specs.Controls.{WritesControl, with_kept, GivesControl}
@@ -51,18 +51,16 @@ checks_pass : (slot : ℕ) (c : Control)
     → slot < 2
     → c.current ≡ slot
     → is_good (info_at c slot) ≡ true
-    → first_fault (idle.state_checks slot (control_read_of slot c)) ≡ None
+    → first_fault (slot_checks slot (control_read_of slot c)) ≡ None
 checks_pass slot c below current good =
     let now : eqb c.current slot ≡ true = eq-eqb c.current slot current in
     let works : is_good (info_at (control_read_of slot c) slot) ≡ true =
     ap is_good (info_seen_at slot c below) ∙ good in
     rw (now, works) refl
 
--- what is read of a boot control, without an update
-seen_idle : (r : Read) (c : Control) → (read_with r c).control ≡ control_read_of r.mark.slot c
-seen_idle r c =
-    ap (λ (p : Phase). control_seen (p.has_a r.mark.slot) (p.has_b r.mark.slot) c)
-    (at_idle r.mark.phase)
+-- what is read of a boot control
+seen_slot : (r : Read) (c : Control) → (read_with r c).control ≡ control_read_of r.mark.slot c
+seen_slot r c = seen_single r c
 
 own_slot : (d : Device) (size : ℕ) (old : Image) (is : Represents d size old)
     → d.mark.slot ≡ is.read.mark.slot
@@ -77,13 +75,13 @@ pub keeps_state : (d : Device) (size : ℕ) (old : Image) (c : Control) (is : Re
 keeps_state d size old c is below current good =
     let r : Read = is.read in
     let slot = own_slot d size old is in
-    state_is (read_with r c)
-    ∙ ap (λ (k : Control). first_fault (idle.state_checks r.mark.slot k)) (seen_idle r c)
+    state_single (read_with r c)
+    ∙ ap (λ (k : Control). first_fault (slot_checks r.mark.slot k)) (seen_slot r c)
     ∙ checks_pass r.mark.slot c (omega (arith, below, slot)) (current ∙ slot)
     (ap (λ (n : ℕ). is_good (info_at c n)) (sym slot) ∙ good)
 
 checks_passed : (slot : ℕ) (c : Control)
-    → first_fault (idle.state_checks slot c) ≡ None
+    → first_fault (slot_checks slot c) ≡ None
     → is_good (info_at c slot) ≡ true
 checks_passed slot c none =
     let rest = first_kept (check (c.current == slot) (BadState 1))
@@ -101,9 +99,9 @@ good_of d size old is below =
     let slot = own_slot d size old is in
     let seen : r.control ≡ (read_with r d.control).control =
     control_is_seen _ _ old d.control r.control is.reads.control is.control in
-    let passed : first_fault (idle.state_checks r.mark.slot (control_read_of r.mark.slot d.control)) ≡ None =
-    ap (λ (k : Control). first_fault (idle.state_checks r.mark.slot k)) (sym (seen ∙ seen_idle r d.control))
-    ∙ sym (state_is r) ∙ is.reads.state in
+    let passed : first_fault (slot_checks r.mark.slot (control_read_of r.mark.slot d.control)) ≡ None =
+    ap (λ (k : Control). first_fault (slot_checks r.mark.slot k)) (sym (seen ∙ seen_slot r d.control))
+    ∙ sym (state_single r) ∙ is.reads.state in
     ap (λ (n : ℕ). is_good (info_at d.control n)) slot
     ∙ ap is_good (sym (info_seen_at r.mark.slot d.control (omega (arith, below, slot))))
     ∙ checks_passed r.mark.slot (control_read_of r.mark.slot d.control) passed
