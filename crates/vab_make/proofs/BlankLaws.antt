@@ -7,7 +7,7 @@ use Rattle.vab_marks.proofs.MarkLaws.{zero_is_no_mark}
 use Rattle.vab_copies.specs.Copies.{zeros}
 use Rattle.vab_device.specs.declared.fault.StartFault.TheVariants as faults
 use Rattle.vab_device.specs.Reading.{mark_read, mark_in}
-use Rattle.vab_device.proofs.IdleLaws.{device_no_mark}
+use Rattle.vab_device.proofs.OpeningLaws.{device_no_mark}
 use Rattle.vab_make.specs.Making.{IsNone}
 
 blank_mark : (image : Image) → image 2048 ≡ zeros → mark_in image ≡ Err (faults.BadMark 2048)

@@ -39,7 +39,8 @@ use Rattle.vab_device.specs.Mounted.{Mounted, bytes_at, image_on, state_on, moun
 use Rattle.vab_device.specs.Phases.{own_check}
 use Rattle.vab_device.specs.Reading.{Read, mark_read, mark_in, geometry_read, geometry_at}
 use Rattle.vab_device.specs.Reading.{table_read, table_at, kept, Reads}
-use Rattle.vab_device.proofs.IdleLaws.{reads_idle, control_seen_in}
+use Rattle.vab_device.proofs.IdleLaws.{reads_idle}
+use Rattle.vab_device.proofs.OpeningLaws.{control_seen_in}
 use Rattle.vab_device.proofs.ReadingLaws.{device_of}
 use Rattle.vab_make.specs.Made.{parts_from, made_layout, made_geometry, made_places, made_control}
 use Rattle.vab_make.specs.Made.{filled, made_image, made_state, made_device_of, set_blocks}
@@ -166,8 +167,9 @@ module _
 
   reads : IsIdle (image 2048) → Reads size reading image
   reads mark =
-      reads_idle size image idle_one made_control (made_geometry max) (table_of made)
-      (le-leb 4120 size (omega (arith, is.room.enough))) (mark_is image mark)
+      reads_idle size image idle_one
+      (le-leb 4120 size (omega (arith, is.room.enough))) (mark_is image mark) refl
+      made_control (made_geometry max) (table_of made)
       (control_seen_in true false image made_control has.control)
       (geometry_is max size image is.most is.room.enough has.places.primary)
       table_is parts_are refl
