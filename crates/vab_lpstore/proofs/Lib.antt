@@ -1,3 +1,4 @@
 mod Judging
 mod Outcomes
 pub mod StoreLaws
+mod FrontReads

@@ -2,3 +2,4 @@ pub mod Layout
 pub mod Faults
 pub mod Loading
 pub mod Storing
+pub mod Front

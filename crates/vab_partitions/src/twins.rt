@@ -16,7 +16,8 @@ fn is_twin(a: &Group, b: &Group) -> bool
     requires a { 2 ≤ length a.now.name }
     requires b { 2 ≤ length b.now.name }
     ensures { result
-        ≡ is_twin (base_of a.now.name, a.now.maximum_size) (base_of b.now.name, b.now.maximum_size) }
+        ≡ is_twin (base_of a.now.name, a.now.maximum_size)
+        (base_of b.now.name, b.now.maximum_size) }
 {
     base_of(a.name.text()) == base_of(b.name.text()) && a.maximum_size == b.maximum_size
 }

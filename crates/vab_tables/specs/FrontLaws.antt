@@ -31,24 +31,24 @@ field_same a b n at m h le =
 take_same : (a b : List ℕ) (n m : ℕ) → take n a ≡ take n b → m ≤ n → take m a ≡ take m b
 take_same a b n m h le = sym (take-take m n a le) ∙ ap (take m) h ∙ take-take m n b le
 
-header_size_long : (minor : ℕ) → 128 ≤ header_size_of minor
+pub header_size_long : (minor : ℕ) → 128 ≤ header_size_of minor
 header_size_long minor =
     elim (eqb minor 2) as (λ b. 128 ≤ cond b 256 128) [ true ↦ omega arith | false ↦ omega arith ]
 
 -- the parts of two texts with the same front
-record SameParts (a b : List ℕ) : Type 0 where
-  magic : magic_at a ≡ magic_at b
-  major : major_at a ≡ major_at b
-  minor : minor_at a ≡ minor_at b
-  header_size : header_size_at a ≡ header_size_at b
-  header_sum : header_sum_at a ≡ header_sum_at b
-  tables_size : tables_size_at a ≡ tables_size_at b
-  tables_sum : tables_sum_at a ≡ tables_sum_at b
-  offset : (d : ℕ) → d ≤ 116 → offset_at a d ≡ offset_at b d
-  count : (d : ℕ) → d ≤ 116 → count_at a d ≡ count_at b d
-  entry_size : (d : ℕ) → d ≤ 116 → entry_size_at a d ≡ entry_size_at b d
+pub record SameParts (a b : List ℕ) : Type 0 where
+  pub magic : magic_at a ≡ magic_at b
+  pub major : major_at a ≡ major_at b
+  pub minor : minor_at a ≡ minor_at b
+  pub header_size : header_size_at a ≡ header_size_at b
+  pub header_sum : header_sum_at a ≡ header_sum_at b
+  pub tables_size : tables_size_at a ≡ tables_size_at b
+  pub tables_sum : tables_sum_at a ≡ tables_sum_at b
+  pub offset : (d : ℕ) → d ≤ 116 → offset_at a d ≡ offset_at b d
+  pub count : (d : ℕ) → d ≤ 116 → count_at a d ≡ count_at b d
+  pub entry_size : (d : ℕ) → d ≤ 116 → entry_size_at a d ≡ entry_size_at b d
 
-same_parts : (a b : List ℕ) (n : ℕ) → 128 ≤ n → take n a ≡ take n b → SameParts a b
+pub same_parts : (a b : List ℕ) (n : ℕ) → 128 ≤ n → take n a ≡ take n b → SameParts a b
 unfolding magic_at major_at minor_at header_size_at header_sum_at tables_size_at tables_sum_at
     offset_at count_at entry_size_at
 same_parts a b n long h = record {
@@ -65,7 +65,7 @@ same_parts a b n long h = record {
       λ d le. ap (from_le_bytes w32) (field_same a b n (d + 8) 4 h (omega (arith, long, le)));
 }
 
-flags_same : (a b : List ℕ) (n : ℕ) → minor_at a ≡ minor_at b → (minor_at b ≡ 2 → 256 ≤ n)
+pub flags_same : (a b : List ℕ) (n : ℕ) → minor_at a ≡ minor_at b → (minor_at b ≡ 2 → 256 ≤ n)
     → take n a ≡ take n b → flags_at a ≡ flags_at b
 unfolding flags_at
 flags_same a b n minor long h =
@@ -77,14 +77,14 @@ flags_same a b n minor long h =
       | inr other ↦ rw other refl
     ]
 
-blank_same : (a b : List ℕ) (n : ℕ) → 128 ≤ n → header_size_at a ≡ header_size_at b
+pub blank_same : (a b : List ℕ) (n : ℕ) → 128 ≤ n → header_size_at a ≡ header_size_at b
     → header_size_at b ≤ n → take n a ≡ take n b → blank_header a ≡ blank_header b
 unfolding blank_header
 blank_same a b n long size le h =
     rw (size, take_same a b n 12 h (omega (arith, long)), take_same a b n (header_size_at b) h le)
     refl
 
-tables_same : (a b : List ℕ) (n : ℕ) → header_size_at a ≡ header_size_at b
+pub tables_same : (a b : List ℕ) (n : ℕ) → header_size_at a ≡ header_size_at b
     → tables_size_at a ≡ tables_size_at b → header_size_at b + tables_size_at b ≤ n
     → take n a ≡ take n b → tables_at a ≡ tables_at b
 unfolding tables_at

@@ -10,3 +10,4 @@ pub mod ListLaws
 pub mod TextLaws
 pub mod FrontLaws
 pub mod SpellingLaws
+pub mod Needs

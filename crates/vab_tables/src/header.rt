@@ -8,6 +8,7 @@ ghost use Rattle.vab_tables.specs.Text.{blank_header, tables_at, area_at, text_s
 ghost use Rattle.vab_tables.specs.Text.{no_sum, EntriesWithin, IsFramed};
 ghost use Rattle.vab_tables.specs.Reading.{has_header, has_version, has_header_sum, has_size};
 ghost use Rattle.vab_tables.specs.Reading.{has_tables_sum, is_bounded, has_bounds, frame_of, Gives};
+ghost use Rattle.vab_tables.specs.Needs.{has_whole_header, need_of};
 
 use crate::entries::{BlockDevice, Entry, Extent, Group, Partition};
 use crate::fault::TableFault;
@@ -221,6 +222,28 @@ pub fn text_size(text: &[u8]) -> usize
     ensures { result ≡ text_size_of text.now }
 {
     header_size(text) as usize + tables_size(text) as usize
+}
+
+#[tactic(auto, unfolding(crate::specs::Needs::has_whole_header))]
+fn has_whole_header(text: &[u8]) -> bool
+    ensures is { result ≡ has_whole_header text.now }
+    ensures long { IsTrue result → 128 ≤ length text.now }
+{
+    has_header(text) && has_version(text) && has_header_sum(text)
+}
+
+/// How many of the first bytes decide what a text means, besides the 256 of the longest header:
+/// those of header and tables, where the header is whole and they are at most `max`; else 0.
+#[tactic(auto, unfolding(crate::specs::Needs::need_of))]
+pub fn needed_size(text: &[u8], max: u32) -> usize
+    ensures is { result ≡ need_of max text.now }
+    ensures most { result ≤ max }
+{
+    if !has_whole_header(text) {
+        return 0;
+    }
+    let size = text_size(text);
+    if size <= max as usize { size } else { 0 }
 }
 
 /// Judges all but the entries: the header, its version, both sums, sizes and bounds, in this order.

@@ -18,7 +18,7 @@ pub use decode::decode_table;
 pub use encode::encode_table;
 pub use entries::{BlockDevice, Extent, Group, Partition};
 pub use fault::{EntryKind, NoMemory, TableFault};
-pub use header::text_size;
+pub use header::{needed_size, text_size};
 pub use table::{Table, table_size};
 
 #[cfg(test)]
