@@ -12,6 +12,7 @@ use Rattle.vab_tables.specs.declared.entries.Group.{Group}
 use Rattle.vab_tables.specs.declared.entries.BlockDevice.{BlockDevice}
 use Rattle.vab_tables.specs.declared.table.Table.{Table}
 use Rattle.vab_tables.specs.Rules.{KeepsRules}
+use Rattle.vab_tables.specs.Spelling.{table_size_of}
 use Rattle.vab_geometry.specs.declared.geometry.Geometry.{Geometry}
 use Rattle.vab_geometry.specs.Geometry.{IsGeometry}
 use Rattle.vab_layout.specs.declared.layout.Part.{Part as PartOfLayout}
@@ -91,10 +92,11 @@ abbrev pub ArePresent : ℕ → Option (List Part) → Type 0
 ArePresent size None = Unit {0}
 ArePresent size (Some parts) = AreParts size parts
 
--- the table of a slot: its rules, those of the slot's own partitions, and its block device in
--- `super`
+-- the table of a slot: its rules, those of the slot's own partitions, its block device in `super`,
+-- and the size of its text
 pub record IsTableOf (size : ℕ) (g : Geometry) (slot : ℕ) (t : Table) : Type 0 where
   pub rules : KeepsRules t
+  pub small : table_size_of t < 2 ^ 24
   pub own : IsOwn slot (layout_of t).parts
   pub lies : IsTrue (lies_in size g (layout_of t).device)
 

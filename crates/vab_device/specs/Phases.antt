@@ -145,7 +145,7 @@ installing = record idle {
 
 abbrev pub is_known : MarkPhase → Bool
 is_known marks.Idle = true
-is_known marks.Installing = false
+is_known marks.Installing = true
 is_known marks.Staged = false
 is_known marks.Merging = false
 is_known marks.Completed = false
