@@ -1,4 +1,5 @@
 pub mod Checks
+pub mod Does
 pub mod Faults
 pub mod Idle
 pub mod Kept
@@ -6,3 +7,4 @@ pub mod Mounted
 pub mod Phases
 pub mod Reading
 pub mod Stores
+pub mod Updates

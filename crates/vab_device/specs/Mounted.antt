@@ -20,8 +20,6 @@ use Rattle.vab_model.specs.declared.state.State.{State}
 use Rattle.vab_model.specs.declared.state.Phase.{Phase}
 use Rattle.vab_model.specs.declared.state.Phase.TheVariants.{Idle, Installing}
 use Rattle.vab_model.specs.State.{control_seen}
-use Rattle.vab_model.specs.Commands.{Command}
-use Rattle.vab_model.specs.Effects.{Effect, effect, effect_map}
 use Rattle.vab_device.specs.declared.device.Part.{Part}
 use Rattle.vab_device.specs.declared.device.Planned.{Planned}
 use Rattle.vab_device.specs.declared.device.PlannedImage.{PlannedImage}
@@ -124,11 +122,6 @@ places_on d = record {
 abbrev pub mounted_on : Device → Image → Mounted
 mounted_on d image = record { state = state_on d image; places = places_on d }
 
--- ---- what a command makes of it
-
 -- the same places, in another state
 abbrev pub in_state : Mounted → State → Mounted
 in_state m state = record m { state = state }
-
-abbrev pub effect_on : Mounted → Command → Effect Mounted
-effect_on m command = effect_map (in_state m) (effect m.state command)

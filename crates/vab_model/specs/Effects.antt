@@ -1,21 +1,31 @@
 -- What a command makes of a state: the reply, and the states that follow one another.
 use Rattle.std.specs.Prelude.{◌≡◌, ◌⊎◌, ℕ, if◌then◌else◌, Bool, true, false, List, [], ◌∷◌}
-use Rattle.std.specs.Prelude.{map, Option, Some, None, is_some}
+use Rattle.std.specs.Prelude.{◌/◌, ◌&&◌, length, map, Option, Some, None, is_some}
 use Rattle.sha2.specs.Sha256.{sha256}
 use Rattle.vab_bootctl.specs.declared.slots.Control.{Control}
 use Rattle.vab_bootctl.specs.Boot.{activated_of, booted_of, marked_of}
 use Rattle.vab_names.specs.Names.{is_full, base_of}
 use Rattle.vab_model.specs.declared.state.Image.{Image}
+use Rattle.vab_model.specs.declared.state.PlanImage.TheVariants.{Kept}
+use Rattle.vab_model.specs.declared.state.PlanEntry.{PlanEntry}
+use Rattle.vab_model.specs.declared.state.Phase.TheVariants.{Installing}
 use Rattle.vab_model.specs.declared.state.State.{State}
 use Rattle.vab_model.specs.declared.command.Refusal.{Refusal}
-use Rattle.vab_model.specs.declared.command.Refusal.TheVariants.{BadName, Unknown, NoImages}
-use Rattle.vab_model.specs.declared.command.Refusal.TheVariants.{NotInstalling, NotStaged}
-use Rattle.vab_model.specs.declared.command.Refusal.TheVariants.{NotMerging, NothingToCancel}
+use Rattle.vab_model.specs.declared.command.Refusal.TheVariants.{NotIdle, NotInstalling}
+use Rattle.vab_model.specs.declared.command.Refusal.TheVariants.{NotStaged, NotMerging}
+use Rattle.vab_model.specs.declared.command.Refusal.TheVariants.{NothingToCancel, Merging}
+use Rattle.vab_model.specs.declared.command.Refusal.TheVariants.{RunningTarget, NotRunningTarget}
+use Rattle.vab_model.specs.declared.command.Refusal.TheVariants.{NotSuccessful, BadName, BadSize}
+use Rattle.vab_model.specs.declared.command.Refusal.TheVariants.{Unknown, Exists, HasStore}
+use Rattle.vab_model.specs.declared.command.Refusal.TheVariants.{NoStore, Written, NothingStaged}
+use Rattle.vab_model.specs.declared.command.Refusal.TheVariants.{Sparse, TooLarge, TooMany}
+use Rattle.vab_model.specs.declared.command.Refusal.TheVariants.{GroupLimit, NoRoom, StoreFull}
+use Rattle.vab_model.specs.declared.command.Refusal.TheVariants.{TableFull, Incomplete, NoImages}
+use Rattle.vab_model.specs.declared.command.Refusal.TheVariants.{NoMemory}
 use Rattle.vab_model.specs.declared.command.Reply.{Reply}
 use Rattle.vab_model.specs.declared.command.Reply.TheVariants as replies
-use Rattle.vab_model.specs.Commands.{Command, SetActive, Boot, Mark, Print, Digest, Create}
-use Rattle.vab_model.specs.Commands.{Resize, Delete, Snapshot, Flash, Finish, Cancel, BeginMerge}
-use Rattle.vab_model.specs.Commands.{Merge}
+use Rattle.vab_model.specs.Commands.{Command, SetActive, Boot, Mark, Print, Digest, Begin, Create}
+use Rattle.vab_model.specs.Commands.{Resize, Delete, Snapshot, Flash, Cancel, BeginMerge, Merge}
 use Rattle.vab_model.specs.State.{images_at, has_images, with_control, image_named}
 
 -- A reply, and the states that follow one another; none for a refusal or a question.
@@ -72,8 +82,29 @@ abbrev pub active_effect : Bool → State → Control → Effect State
 active_effect true s c = does replies.Done (with_control c s)
 active_effect false s c = refuses NoImages
 
--- Each command has a row. No command begins an update yet: there is none, and so the commands on
--- one are refused.
+-- an image that the target of an update has from the source
+abbrev pub kept_entry : Image → PlanEntry
+kept_entry image = record {
+  name = image.name;
+  group = image.group;
+  blocks = length image.bytes / 4096;
+  store = None;
+  image = Kept;
+}
+
+-- the plan of an update as it begins: the images of the current slot
+abbrev pub kept_plan : Option (List Image) → List PlanEntry
+kept_plan None = []
+kept_plan (Some images) = map kept_entry images
+
+abbrev pub begun : State → State
+begun s = record s {
+  phase =
+      Installing s.control.current (kept_plan (images_at s s.control.current));
+}
+
+-- Each command has a row, on a state without an update. The commands on an update that there isn't
+-- are refused.
 unfoldable pub effect : State → Command → Effect State
 effect s (SetActive slot) =
     active_effect (is_some (images_at s slot)) s (activated_of s.control slot)
@@ -83,15 +114,78 @@ effect s Boot =
 effect s Mark = does replies.Done (with_control (marked_of s.control) s)
 effect s (Print name) = print_effect name (found_of s name)
 effect s (Digest name) = digest_effect (found_of s name)
+effect s Begin = does replies.Done (begun s)
 effect s (Create name size) = refuses NotInstalling
 effect s (Resize name size) = refuses NotInstalling
 effect s (Delete name) = refuses NotInstalling
 effect s (Snapshot name size) = refuses NotInstalling
 effect s (Flash name) = refuses NotInstalling
-effect s Finish = refuses NotInstalling
 effect s Cancel = refuses NothingToCancel
 effect s BeginMerge = refuses NotStaged
 effect s (Merge blocks) = refuses NotMerging
+
+-- ---- want of memory
+
+-- a command that takes memory
+abbrev pub takes_memory : Command → Bool
+takes_memory (SetActive slot) = false
+takes_memory Boot = false
+takes_memory Mark = false
+takes_memory (Print name) = false
+takes_memory (Digest name) = false
+takes_memory Begin = true
+takes_memory (Create name size) = true
+takes_memory (Resize name size) = true
+takes_memory (Delete name) = true
+takes_memory (Snapshot name size) = true
+takes_memory (Flash name) = true
+takes_memory Cancel = false
+takes_memory BeginMerge = false
+takes_memory (Merge blocks) = false
+
+-- a reply in whose place it may be told that there is no memory
+abbrev pub may_want : Reply → Bool
+may_want replies.Done = true
+may_want (replies.Booted slot) = false
+may_want (replies.Bytes name) = false
+may_want (replies.Digest sum) = false
+may_want (replies.Left blocks) = false
+may_want replies.Merged = false
+may_want (replies.Refused refusal) = is_table_full refusal
+  where
+    is_table_full : Refusal → Bool
+    is_table_full (TableFull size most) = true
+    is_table_full NotIdle = false
+    is_table_full NotInstalling = false
+    is_table_full NotStaged = false
+    is_table_full NotMerging = false
+    is_table_full NothingToCancel = false
+    is_table_full Merging = false
+    is_table_full RunningTarget = false
+    is_table_full NotRunningTarget = false
+    is_table_full NotSuccessful = false
+    is_table_full BadName = false
+    is_table_full BadSize = false
+    is_table_full Unknown = false
+    is_table_full Exists = false
+    is_table_full HasStore = false
+    is_table_full NoStore = false
+    is_table_full Written = false
+    is_table_full NothingStaged = false
+    is_table_full Sparse = false
+    is_table_full (TooLarge bytes most) = false
+    is_table_full TooMany = false
+    is_table_full (GroupLimit used limit) = false
+    is_table_full (NoRoom used cap) = false
+    is_table_full (StoreFull needed have) = false
+    is_table_full (Incomplete name) = false
+    is_table_full NoImages = false
+    is_table_full NoMemory = false
+
+-- what a command does, where memory is refused to it or not
+abbrev pub unless_refused : {S : Type 0} → Bool → Command → Effect S → Effect S
+unless_refused refused command e =
+    if refused && (takes_memory command && may_want e.reply) then refuses NoMemory else e
 
 -- ---- what follows from an effect, whatever the command is
 
