@@ -1,12 +1,14 @@
 -- Lines of commands.
-use Rattle.std.proofs.Common.{◌≡◌, ◌∙◌, ◌⊎◌, inl, inr, ◌<◌, ℕ, List, [], ◌∷◌, ◌++◌, length, codes}
+use Rattle.std.proofs.Common.{◌≡◌, ◌∙◌, ◌⊎◌, inl, inr, ◌<◌, ℕ, List, [], ◌∷◌, ◌++◌, length, codes, decimal}
 use Rattle.std.proofs.Common.{refl, sym, ap, arith, length-append}
 use Rattle.hex.specs.Hex.{encode_lower}
 use Rattle.vab_disk.specs.Disk.{Image}
 use Rattle.vab_model.specs.declared.state.State.{State}
 use Rattle.vab_model.specs.declared.command.Reply.{Reply}
 use Rattle.vab_model.specs.declared.command.Reply.TheVariants as replies
-use Rattle.vab_model.specs.Commands.{Command, SetActive, Boot, Mark, Print, Digest}
+use Rattle.vab_model.specs.Commands.{Command, SetActive, Boot, Mark, Print, Digest, Create}
+use Rattle.vab_model.specs.Commands.{Resize, Delete, Snapshot, Flash, Finish, Cancel, BeginMerge}
+use Rattle.vab_model.specs.Commands.{Merge}
 use Rattle.vab_model.specs.Effects.{effect}
 use Rattle.vab_device.specs.declared.device.Device.{Device}
 use Rattle.vab_device.specs.Mounted.{Mounted, state_on, mounted_on}
@@ -25,6 +27,15 @@ done_some Mark current = line_some (codes "marked " ++ slot_letter current)
 done_some Boot current = line_some []
 done_some (Print name) current = line_some []
 done_some (Digest name) current = line_some []
+done_some (Create name size) current = line_some []
+done_some (Resize name size) current = line_some []
+done_some (Delete name) current = line_some []
+done_some (Snapshot name size) current = line_some []
+done_some (Flash name) current = line_some []
+done_some Finish current = line_some []
+done_some Cancel current = line_some []
+done_some BeginMerge current = line_some []
+done_some (Merge blocks) current = line_some []
 
 -- each reply has a line
 pub reply_some : (c : Command) (current : ℕ) (r : Reply) → 0 < length (reply_line c current r)
@@ -33,6 +44,8 @@ reply_some c current replies.Done = done_some c current
 reply_some c current (replies.Booted slot) = line_some (codes "booted " ++ slot_letter slot)
 reply_some c current (replies.Bytes name) = line_some []
 reply_some c current (replies.Digest sum) = line_some (encode_lower sum)
+reply_some c current (replies.Left blocks) = line_some (codes "left " ++ decimal blocks)
+reply_some c current replies.Merged = line_some (codes "merged")
 reply_some c current (replies.Refused refusal) = line_some (codes "refused: " ++ refusal_text refusal)
 
 -- a command ends as done or as refused
@@ -41,6 +54,8 @@ reply_kind replies.Done = inl refl
 reply_kind (replies.Booted slot) = inl refl
 reply_kind (replies.Bytes name) = inl refl
 reply_kind (replies.Digest sum) = inl refl
+reply_kind (replies.Left blocks) = inl refl
+reply_kind replies.Merged = inl refl
 reply_kind (replies.Refused refusal) = inr refl
 
 pub verb_kind : (s : State) (c : Command) → (verb_status s c ≡ Done) ⊎ (verb_status s c ≡ Refused)

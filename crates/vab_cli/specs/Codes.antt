@@ -87,3 +87,5 @@ reply_status replies.Done = Done
 reply_status (replies.Booted slot) = Done
 reply_status (replies.Bytes name) = Done
 reply_status (replies.Digest sum) = Done
+reply_status (replies.Left blocks) = Done
+reply_status replies.Merged = Done

@@ -1,13 +1,15 @@
 -- The verbs on a device: what is told of each, how it ends, and the devices from the one before it
 -- to the one after it.
-use Rattle.std.specs.Prelude.{ℕ, Bool, true, false, List, length, [], ◌∷◌, ◌++◌, codes, Option}
-use Rattle.std.specs.Prelude.{Some, None}
+use Rattle.std.specs.Prelude.{ℕ, Bool, true, false, List, length, [], ◌∷◌, ◌++◌, codes, decimal}
+use Rattle.std.specs.Prelude.{Option, Some, None}
 use Rattle.hex.specs.Hex.{encode_lower}
 use Rattle.vab_model.specs.declared.state.State.{State}
 use Rattle.vab_model.specs.declared.command.Reply.{Reply}
 use Rattle.vab_model.specs.declared.command.Reply.TheVariants as replies
 use Rattle.vab_model.specs.declared.command.Refusal.{Refusal}
-use Rattle.vab_model.specs.Commands.{Command, SetActive, Boot, Mark, Print, Digest}
+use Rattle.vab_model.specs.Commands.{Command, SetActive, Boot, Mark, Print, Digest, Create}
+use Rattle.vab_model.specs.Commands.{Resize, Delete, Snapshot, Flash, Finish, Cancel, BeginMerge}
+use Rattle.vab_model.specs.Commands.{Merge}
 use Rattle.vab_model.specs.Effects.{Found, Image_is, Refused_by, found_of, effect, steps_of}
 use Rattle.vab_model.specs.Effects.{after_of}
 use Rattle.vab_tables.specs.Rules.{cap_of}
@@ -49,13 +51,22 @@ abbrev pub refused_line : Refusal → List ℕ
 refused_line refusal = line (codes "refused: " ++ refusal_text refusal)
 
 -- a command that is done and has no more to tell, where this slot is the current one; the others
--- have
+-- have, or are no verbs
 abbrev pub done_line : Command → ℕ → List ℕ
 done_line (SetActive slot) current = line (codes "active " ++ slot_letter slot)
 done_line Mark current = line (codes "marked " ++ slot_letter current)
 done_line Boot current = line []
 done_line (Print name) current = line []
 done_line (Digest name) current = line []
+done_line (Create name size) current = line []
+done_line (Resize name size) current = line []
+done_line (Delete name) current = line []
+done_line (Snapshot name size) current = line []
+done_line (Flash name) current = line []
+done_line Finish current = line []
+done_line Cancel current = line []
+done_line BeginMerge current = line []
+done_line (Merge blocks) current = line []
 
 -- the line of a reply
 unfoldable pub reply_line : Command → ℕ → Reply → List ℕ
@@ -63,6 +74,8 @@ reply_line c current replies.Done = done_line c current
 reply_line c current (replies.Booted slot) = line (codes "booted " ++ slot_letter slot)
 reply_line c current (replies.Bytes name) = line []
 reply_line c current (replies.Digest sum) = line (encode_lower sum)
+reply_line c current (replies.Left blocks) = line (codes "left " ++ decimal blocks)
+reply_line c current replies.Merged = line (codes "merged")
 reply_line c current (replies.Refused refusal) = refused_line refusal
 
 -- the line of a command on a device in this state
@@ -81,6 +94,15 @@ told_of s (SetActive slot) = command_line s (SetActive slot)
 told_of s Boot = command_line s Boot
 told_of s Mark = command_line s Mark
 told_of s (Digest name) = command_line s (Digest name)
+told_of s (Create name size) = command_line s (Create name size)
+told_of s (Resize name size) = command_line s (Resize name size)
+told_of s (Delete name) = command_line s (Delete name)
+told_of s (Snapshot name size) = command_line s (Snapshot name size)
+told_of s (Flash name) = command_line s (Flash name)
+told_of s Finish = command_line s Finish
+told_of s Cancel = command_line s Cancel
+told_of s BeginMerge = command_line s BeginMerge
+told_of s (Merge blocks) = command_line s (Merge blocks)
 
 -- ---- items
 

@@ -1,17 +1,17 @@
 //! The lines that verbs tell.
-ghost use Rattle.std.specs.Prelude.{◌≡◌, ◌≤◌, ◌∷◌, ◌++◌, [], length};
+ghost use Rattle.std.specs.Prelude.{◌≡◌, ◌≤◌, ◌∷◌, ◌++◌, [], length, codes, decimal};
 ghost use Rattle.vab_model.specs.Commands.{command_of};
 ghost use Rattle.vab_cli.specs.Verbs as verbs;
 
 use arrayvec::ArrayVec;
-use vab_fbproto::{digits_of, refusal_text, slot_letter};
+use vab_fbproto::{digits_of, put, put_decimal, put_refusal, slot_letter};
 use vab_model::{Command, Refusal, Reply};
 
 /// The line of a verb that finds no device.
 pub(crate) const NOT_A_DEVICE: &[u8] = b"not a device\n";
 
-/// A line: at most 128 bytes, with its newline.
-pub(crate) type Line = ArrayVec<u8, 128>;
+/// A line: at most 256 bytes, with its newline.
+pub(crate) type Line = ArrayVec<u8, 256>;
 
 // Two texts as a line.
 fn put_line(out: &mut Line, head: &[u8], tail: &[u8])
@@ -20,9 +20,9 @@ fn put_line(out: &mut Line, head: &[u8], tail: &[u8])
     requires fits { length tail.now ≤ 64 }
     ensures { out.new.items ≡ (head.now ++ tail.now) ++ 10 ∷ [] }
 {
-    let _ = out.try_extend_from_slice(head);
-    let _ = out.try_extend_from_slice(tail);
-    let _ = out.try_push(b'\n');
+    put(head, out);
+    put(tail, out);
+    put(b"\n", out);
 }
 
 /// The line of a refusal.
@@ -30,7 +30,19 @@ pub(crate) fn refused_line(refusal: Refusal, out: &mut Line)
     requires { out.old.items ≡ [] }
     ensures { out.new.items ≡ verbs.refused_line refusal }
 {
-    put_line(out, b"refused: ", refusal_text(refusal));
+    put(b"refused: ", out);
+    put_refusal(&refusal, out);
+    put(b"\n", out);
+}
+
+// The line of how many blocks are left to merge.
+fn left_line(blocks: u64, out: &mut Line)
+    requires { out.old.items ≡ [] }
+    ensures { out.new.items ≡ verbs.line (codes "left " ++ decimal blocks) }
+{
+    put(b"left ", out);
+    put_decimal(blocks, out);
+    put(b"\n", out);
 }
 
 // The line of a command that is done.
@@ -41,7 +53,18 @@ fn done_line(command: &Command, current: usize, out: &mut Line)
     match command {
         Command::SetActive(slot) => put_line(out, b"active ", slot_letter(*slot)),
         Command::Mark => put_line(out, b"marked ", slot_letter(current)),
-        Command::Boot | Command::Print(_) | Command::Digest(_) => put_line(out, b"", b""),
+        Command::Boot
+        | Command::Print(_)
+        | Command::Digest(_)
+        | Command::Create(_, _)
+        | Command::Resize(_, _)
+        | Command::Delete(_)
+        | Command::Snapshot(_, _)
+        | Command::Flash(_)
+        | Command::Finish
+        | Command::Cancel
+        | Command::BeginMerge
+        | Command::Merge(_) => put_line(out, b"", b""),
     }
 }
 
@@ -56,6 +79,8 @@ pub(crate) fn reply_line(command: &Command, current: usize, reply: &Reply, out: 
         Reply::Booted(slot) => put_line(out, b"booted ", slot_letter(*slot)),
         Reply::Bytes(_) => put_line(out, b"", b""),
         Reply::Digest(sum) => put_line(out, b"", &digits_of(sum)),
+        Reply::Left(blocks) => left_line(*blocks, out),
+        Reply::Merged => put_line(out, b"merged", b""),
         Reply::Refused(refusal) => refused_line(*refusal, out),
     }
 }

@@ -147,7 +147,12 @@ impl From<&Reply> for Status {
     fn from(reply: &Reply) -> Self {
         match reply {
             Reply::Refused(_) => Status::Refused,
-            Reply::Done | Reply::Booted(_) | Reply::Bytes(_) | Reply::Digest(_) => Status::Done,
+            Reply::Done
+            | Reply::Booted(_)
+            | Reply::Bytes(_)
+            | Reply::Digest(_)
+            | Reply::Left(_)
+            | Reply::Merged => Status::Done,
         }
     }
 }

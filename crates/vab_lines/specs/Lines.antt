@@ -1,5 +1,7 @@
 -- The lines that are told of making a device.
 use Rattle.std.specs.Prelude.{ℕ, List, [], ◌++◌, codes, decimal}
+use Rattle.vab_model.specs.declared.command.Refusal.TheVariants as refusals
+use Rattle.vab_fbproto.specs.Texts.{refusal_text}
 use Rattle.vab_make.specs.declared.fault.MakeFault.{MakeFault}
 use Rattle.vab_make.specs.declared.fault.MakeFault.TheVariants.{TooSmall, GroupLimit, NoRoom}
 use Rattle.vab_make.specs.declared.fault.MakeFault.TheVariants.{TableFull, NoMemory, Disk}
@@ -15,14 +17,11 @@ made_line images used cap =
     ++ decimal cap
     ++ codes " blocks\n"
 
--- why a set of images is refused; the other faults refuse none
+-- why a set of images is refused, as a command is; the other faults refuse none
 unfoldable pub make_refusal : MakeFault → List ℕ
-make_refusal (GroupLimit used limit) =
-    codes "group limit: " ++ decimal used ++ codes " of " ++ decimal limit ++ codes " bytes"
-make_refusal (NoRoom used cap) =
-    codes "no room: " ++ decimal used ++ codes " of " ++ decimal cap ++ codes " blocks"
-make_refusal (TableFull size most) =
-    codes "table full: " ++ decimal size ++ codes " of " ++ decimal most ++ codes " bytes"
+make_refusal (GroupLimit used limit) = refusal_text (refusals.GroupLimit used limit)
+make_refusal (NoRoom used cap) = refusal_text (refusals.NoRoom used cap)
+make_refusal (TableFull size most) = refusal_text (refusals.TableFull size most)
 make_refusal (TooSmall needed had) = []
 make_refusal NoMemory = []
 make_refusal (Disk fault) = []

@@ -1,10 +1,8 @@
 //! The lines that are told of making a device: each is text in ASCII and one newline byte.
 #![tactic(auto)]
 
-mod decimal;
 mod lines;
 
-pub use decimal::put_decimal;
 pub use lines::{made_line, make_refused_line};
 
 #[cfg(test)]

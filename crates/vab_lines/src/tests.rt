@@ -1,23 +1,9 @@
-//! Numbers and lines that are written out.
+//! Lines that are written out.
 
 use super::*;
 use arrayvec::ArrayVec;
 use std::test::*;
 use vab_make::MakeFault;
-
-#[test]
-fn numbers_have_no_leading_zero(rt: HostRuntime) {
-    for (n, digits) in [
-        (0, b"0".as_slice()),
-        (9, b"9"),
-        (10, b"10"),
-        (u64::MAX, b"18446744073709551615"),
-    ] {
-        let mut out = ArrayVec::new();
-        put_decimal(n, &mut out);
-        assert_eq!(rt; out.as_slice(), digits);
-    }
-}
 
 #[test]
 fn a_made_device_has_its_line(rt: HostRuntime) {

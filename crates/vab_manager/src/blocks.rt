@@ -30,8 +30,8 @@ fn slot_named(name: &[u8]) -> usize
     if is_full(name, 0) { 0 } else { 1 }
 }
 
-// The partition that is kept under a base name of a slot.
-fn kept_part<'a>(device: &'a Device, slot: usize, name: &[u8]) -> Option<&'a Part>
+/// The partition that is kept under a base name of a slot.
+pub fn kept_part<'a>(device: &'a Device, slot: usize, name: &[u8]) -> Option<&'a Part>
     requires { slot < 2 }
     ensures { option_copied result
         ≡ option_and_then (part_named name.now) (parts_at device.now slot) }

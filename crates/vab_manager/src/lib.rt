@@ -8,5 +8,5 @@ mod control;
 mod images;
 mod slots;
 
-pub use blocks::{locate, read_block};
+pub use blocks::{kept_part, locate, read_block};
 pub use command::run_one;

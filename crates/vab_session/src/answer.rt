@@ -21,7 +21,8 @@ use arrayvec::ArrayVec;
 use std::alloc::Global;
 use vab_disk::{Disk, Port};
 use vab_exchanges::Reader;
-use vab_fbproto::{Request, bad_text, read_command, reply_text, variable_text};
+use vab_fbproto::{Request, bad_text, read_command, reply_text};
+use vab_fbvars::variable;
 use vab_manager::run_one;
 use vab_model::Command;
 
@@ -30,7 +31,7 @@ pub const MAX_DATA: u32 = 0x10000000;
 
 // Tells a reply where nothing changes. It hears nothing.
 fn tell_still<P: Port>(p: &mut P, kept: KeptDevice, text: &[u8]) -> Result<KeptDevice, SessionFault>
-    requires short { length text.now ≤ 64 }
+    requires short { length text.now ≤ 256 }
     requires device { IsDevice kept.device (P.size p.old) }
     requires stands { P.is_modelled → Represents kept.device (P.size p.old) (P.seen p.old) }
     ensures size { P.size p.new ≡ P.size p.old }
@@ -93,7 +94,8 @@ fn carry_out<P: Port>(
     }
 }
 
-// Answers a packet that isn't a download. It hears nothing.
+// Answers a packet that isn't a download. It hears nothing. There is no update yet, and so none of
+// its blocks are left to merge.
 fn command<P: Port>(p: &mut P, kept: KeptDevice, packet: &[u8]) -> Result<KeptDevice, SessionFault>
     requires plain { AsksNoData (request_of packet.now) }
     requires device { IsDevice kept.device (P.size p.old) }
@@ -112,11 +114,13 @@ fn command<P: Port>(p: &mut P, kept: KeptDevice, packet: &[u8]) -> Result<KeptDe
 {
     match read_command(packet) {
         Ok(Request::Download(_)) => unreachable!(),
-        Ok(Request::Getvar(variable)) => {
-            let text = variable_text(kept.device.current(), variable);
-            tell_still(p, kept, text)
+        Ok(Request::Getvar(asked)) => {
+            let mut text = ArrayVec::new();
+            variable(&kept.device, &asked, &mut text);
+            tell_still(p, kept, text.as_slice())
         }
         Ok(Request::Do(command)) => carry_out(p, kept, &command),
+        Ok(Request::MergeAll) => carry_out(p, kept, &Command::Merge(1)),
         Ok(Request::BootAndEnd) => carry_out(p, kept, &Command::Boot),
         Err(bad) => tell_still(p, kept, bad_text(bad)),
     }
@@ -202,6 +206,7 @@ fn announced(packet: &[u8]) -> Option<u32>
         Ok(Request::Download(size)) => Some(size),
         Ok(Request::Getvar(_)) => None,
         Ok(Request::Do(_)) => None,
+        Ok(Request::MergeAll) => None,
         Ok(Request::BootAndEnd) => None,
         Err(_) => None,
     }

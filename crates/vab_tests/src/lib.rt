@@ -9,6 +9,8 @@ mod faults;
 #[cfg(test)]
 mod others;
 #[cfg(test)]
+mod packets;
+#[cfg(test)]
 mod ports;
 #[cfg(test)]
 mod runs;

@@ -32,7 +32,7 @@ returns-in-Ok-tell_reply-clause-does g c =
     let cmd = command_of c.args.command.now in
     let after = after_of k.now (effect_on k.now cmd) in
     let text_is : c.as_slice.result.now ≡ reply_text (effect_on k.now cmd).reply =
-    c.as_slice.ensures.value ∙ c.reply_text.ensures ∙ ap reply_text (ok.reply t) in
+    c.as_slice.ensures.value ∙ c.reply_text.ensures.text ∙ ap reply_text (ok.reply t) in
     let stands : IsIn size after (g.P.Disk.seen mid) =
     subst (λ (m : Mounted). IsIn size m (g.P.Disk.seen mid)) (ok.after t)
     (device_stands c.in-Ok.done.0 size (g.P.Disk.seen mid) (ok.represents t)) in
@@ -60,7 +60,7 @@ returns-in-Err-tell_reply-clause-does g c =
     let k = kept_on c.args.kept (g.P.Disk.seen old) in
     let cmd = command_of c.args.command.now in
     let text_is : c.as_slice.result.now ≡ reply_text (effect_on k.now cmd).reply =
-    c.as_slice.ensures.value ∙ c.reply_text.ensures ∙ ap reply_text (ok.reply t) in
+    c.as_slice.ensures.value ∙ c.reply_text.ensures.text ∙ ap reply_text (ok.reply t) in
     let stands : IsIn size (after_of k.now (effect_on k.now cmd)) (g.P.Disk.seen mid) =
     subst (λ (m : Mounted). IsIn size m (g.P.Disk.seen mid)) (ok.after t)
     (device_stands c.in-Ok.done.0 size (g.P.Disk.seen mid) (ok.represents t)) in

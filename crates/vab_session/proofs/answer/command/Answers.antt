@@ -1,29 +1,38 @@
 use Rattle.std.proofs.Common.{◌≡◌, Ok, Err, refl, sym, ◌∙◌, ap}
 use Rattle.vab_disk.specs.Disk.{Image}
-use Rattle.vab_model.specs.Commands.{command_of}
+use Rattle.vab_model.specs.Commands.{command_of, Merge}
 use Rattle.vab_device.specs.declared.device.Device.{Device}
 use Rattle.vab_device.specs.Mounted.{state_on}
-use Rattle.vab_fbproto.specs.Requests.{Getvar, Do, BootAndEnd, request_of}
-use Rattle.vab_session.specs.Responses.{still}
+use Rattle.vab_fbproto.specs.Requests.{Getvar, Do, MergeAll, BootAndEnd, request_of, variable_of}
+use Rattle.vab_fbvars.specs.Variables.{variable_text}
+use Rattle.vab_session.specs.Responses.{still, left_of}
 use Rattle.vab_session.proofs.answer.command.Goals as goal
-
-current_is : (d : Device) (image : Image) → (state_on d image).control.current ≡ d.control.current
-unfolding state_on
-current_is d image = refl
 
 pub returns-in-Ok-Getvar-clause-does : goal.returns-in-Ok-Getvar-clause-does
 returns-in-Ok-Getvar-clause-does g c = λ t before beyond count total most.
     let packet = c.args.packet.now in
-    let variable = c.in-Ok-Getvar.variable in
+    let asked = variable_of c.in-Ok-Getvar.asked in
     let device = c.args.kept.device in
-    let image = g.P.Disk.seen c.args.p.now in
-    let is : request_of packet ≡ Ok (Getvar variable) =
+    let old = c.args.p.now in
+    let image = g.P.Disk.seen old in
+    let is : request_of packet ≡ Ok (Getvar asked) =
     rw c.in-Ok-Getvar.field-0-is at c.in-Ok-Getvar.ensures in
-    let text =
-    c.variable_text-text.ensures.text (state_on device image)
-    (current_is device image ∙ sym c.current.ensures) in
-    c.tell_still.ensures.does t packet before beyond count total most (Ok (Getvar variable)) is tt
+    let text : c.as_slice.result.now ≡ variable_text (state_on device image) asked =
+    c.as_slice.ensures.value
+    ∙ c.variable.ensures.text (g.P.Disk.size old) image c.requires.device
+    (λ s lt. (g.met.P.Disk.whole old s (g.P.Disk.seen old s) lt (g.met.P.Disk.seen_held old s)).long)
+    in
+    c.tell_still.ensures.does t packet before beyond count total most (Ok (Getvar asked)) is tt
     (ap still (sym text))
+
+pub returns-in-Ok-MergeAll-clause-does : goal.returns-in-Ok-MergeAll-clause-does
+unfolding state_on
+returns-in-Ok-MergeAll-clause-does g c = λ t before beyond count total most.
+    let packet = c.args.packet.now in
+    let is : request_of packet ≡ Ok MergeAll =
+    rw c.in-Ok-MergeAll.field-0-is at c.in-Ok-MergeAll.ensures in
+    c.carry_out-in-Ok-MergeAll.ensures.does t packet before beyond count total most
+    (Ok MergeAll) is tt refl
 
 pub returns-in-Ok-Do-clause-does : goal.returns-in-Ok-Do-clause-does
 returns-in-Ok-Do-clause-does g c = λ t before beyond count total most.

@@ -1,0 +1,3 @@
+pub mod Decimals
+mod Digits
+mod OnDevice

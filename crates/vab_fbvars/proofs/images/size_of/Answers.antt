@@ -1,0 +1,30 @@
+use Rattle.std.proofs.Common.{◌∙◌, ℕ, ◌*◌, Some, length, sym, ap, arith}
+use Rattle.vab_names.specs.Names.{base_of}
+use Rattle.vab_device.specs.declared.device.Part.{Part}
+use Rattle.vab_manager.proofs.BlockLaws.{kept_once, part_kept}
+use Rattle.vab_fbvars.specs.Variables.{size_found}
+use Rattle.vab_fbvars.proofs.OnDevice.{bytes_long}
+use Rattle.vab_fbvars.proofs.images.size_of.Goals as goal
+
+pub overflow_mul-result : goal.overflow_mul-result
+overflow_mul-result c =
+    let part = c.in-Ok.ensures.part in
+    let kept = part_kept c.args.device.now c.requires.0 c.in-Ok.field-0-0 (base_of c.args.name.now)
+    part.2 c.requires.1 part.3 in
+    omega (arith, kept.small, part.4)
+
+pub returns-in-Ok : goal.returns-in-Ok
+returns-in-Ok c = λ size image is sectors.
+    let d = c.args.device.now in
+    let slot = c.in-Ok.field-0-0 in
+    let base = base_of c.args.name.now in
+    let part = c.in-Ok.ensures.part in
+    let found = c.in-Ok.ensures.image image in
+    let kept = part_kept d size slot base found.2 is found.3 in
+    let same = kept_once d slot base found.2 part.2 found.3 part.3 in
+    ap size_found found.1
+    ∙ ap (λ (n : ℕ). Some n)
+    (ap length found.4
+    ∙ bytes_long image size found.2.map sectors kept.on_disk
+    ∙ ap (λ (p : Part). 4096 * length p.map) same
+    ∙ ap (λ (n : ℕ). 4096 * n) (sym part.4))
