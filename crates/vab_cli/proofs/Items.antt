@@ -15,7 +15,7 @@ use Rattle.vab_model.specs.Effects.{Found, Image_is, Refused_by, found_of, effec
 use Rattle.vab_model.specs.Effects.{print_effect, last_of, steps_of, after_of, IsOneOf}
 use Rattle.vab_device.specs.declared.device.Device.{Device}
 use Rattle.vab_device.specs.declared.fault.StartFault.{StartFault}
-use Rattle.vab_device.specs.Mounted.{Mounted, mounted_on, in_state, effect_on}
+use Rattle.vab_device.specs.Mounted.{Mounted, mounted_on, in_state, effect_in}
 use Rattle.vab_device.specs.Reading.{device, IsIn, Represents}
 use Rattle.vab_device.proofs.ReadingLaws.{device_stands}
 use Rattle.vab_manager.specs.Commands.{LeavesStep, DoesCommand}
@@ -99,7 +99,7 @@ module _ {D : Type 0} (g : Ghosts D) (size : ℕ) where
 
     -- before anything is told of it
     leaves_item : (o : Outcome)
-        → LeavesStep (g.told old) size (steps_of s (effect_on s c)) o
+        → LeavesStep (g.told old) size (steps_of s (effect_in s c)) o
         → LeavesItem (IsIn size) (g.told old) (command_item s c line) o
     leaves_item o left = record {
       front = (0, left.told_so_far ∙ sym (append-nil (g.told old)));
@@ -118,12 +118,12 @@ module _ {D : Type 0} (g : Ghosts D) (size : ℕ) where
         adds_wider g.moment g.outcomes old mid _ _
         (subst
         (λ (n : ℕ).
-        Adds g.moment g.outcomes old mid (LeavesStep (g.told old) n (steps_of s (effect_on s c))))
+        Adds g.moment g.outcomes old mid (LeavesStep (g.told old) n (steps_of s (effect_in s c))))
         sized
         (subst
         (λ (x : Mounted).
         Adds g.moment g.outcomes old mid
-        (LeavesStep (g.told old) (g.size old) (steps_of x (effect_on x c))))
+        (LeavesStep (g.told old) (g.size old) (steps_of x (effect_in x c))))
         same (does.time t rest)))
         leaves_item
 
@@ -158,16 +158,16 @@ module _ {D : Type 0} (g : Ghosts D) (size : ℕ) where
       time = λ rest.
           adds_on g.moment g.outcomes old mid new _ _ (doing does t rest)
           (saying (command_item s c line) (g.told old) mid new r says (does.quiet.told t) there
-          (last_step s (effect_on s c).later) (does.rest t rest))
+          (last_step s (effect_in s c).later) (does.rest t rest))
           (λ o leaves. leaves);
     }
       where
-        there : IsIn size (after_of s (effect_on s c)) (g.seen mid)
+        there : IsIn size (after_of s (effect_in s c)) (g.seen mid)
         there =
             device_stands d' size (g.seen mid)
             (subst (λ (n : ℕ). Represents d' n (g.seen mid)) sized (does.represents t))
             ∙ ap Ok (does.after t)
-            ∙ ap (λ (x : Mounted). (let r : Result Mounted StartFault = Ok (after_of x (effect_on x c)) in r)) same
+            ∙ ap (λ (x : Mounted). (let r : Result Mounted StartFault = Ok (after_of x (effect_in x c)) in r)) same
 
 -- an image's bytes, or why there are none, are told as a line is: nothing changes
 pub print_item : (s : Mounted) (name told : List ℕ)

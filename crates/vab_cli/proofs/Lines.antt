@@ -6,7 +6,7 @@ use Rattle.vab_disk.specs.Disk.{Image}
 use Rattle.vab_model.specs.declared.state.State.{State}
 use Rattle.vab_model.specs.declared.command.Reply.{Reply}
 use Rattle.vab_model.specs.declared.command.Reply.TheVariants as replies
-use Rattle.vab_model.specs.Commands.{Command, SetActive, Boot, Mark, Print, Digest, Create}
+use Rattle.vab_model.specs.Commands.{Command, SetActive, Boot, Mark, Print, Digest, Begin, Create}
 use Rattle.vab_model.specs.Commands.{Resize, Delete, Snapshot, Flash, Finish, Cancel, BeginMerge}
 use Rattle.vab_model.specs.Commands.{Merge}
 use Rattle.vab_model.specs.Effects.{effect}
@@ -27,6 +27,7 @@ done_some Mark current = line_some (codes "marked " ++ slot_letter current)
 done_some Boot current = line_some []
 done_some (Print name) current = line_some []
 done_some (Digest name) current = line_some []
+done_some Begin current = line_some []
 done_some (Create name size) current = line_some []
 done_some (Resize name size) current = line_some []
 done_some (Delete name) current = line_some []

@@ -7,14 +7,14 @@ use Rattle.vab_model.specs.declared.state.State.{State}
 use Rattle.vab_model.specs.declared.command.Reply.{Reply}
 use Rattle.vab_model.specs.declared.command.Reply.TheVariants as replies
 use Rattle.vab_model.specs.declared.command.Refusal.{Refusal}
-use Rattle.vab_model.specs.Commands.{Command, SetActive, Boot, Mark, Print, Digest, Create}
+use Rattle.vab_model.specs.Commands.{Command, SetActive, Boot, Mark, Print, Digest, Begin, Create}
 use Rattle.vab_model.specs.Commands.{Resize, Delete, Snapshot, Flash, Finish, Cancel, BeginMerge}
 use Rattle.vab_model.specs.Commands.{Merge}
 use Rattle.vab_model.specs.Effects.{Found, Image_is, Refused_by, found_of, effect, steps_of}
 use Rattle.vab_model.specs.Effects.{after_of}
 use Rattle.vab_tables.specs.Rules.{cap_of}
 use Rattle.vab_set.specs.declared.set.SetImage.{SetImage}
-use Rattle.vab_device.specs.Mounted.{Mounted, effect_on}
+use Rattle.vab_device.specs.Mounted.{Mounted, effect_in}
 use Rattle.vab_make.specs.declared.fault.MakeFault.{MakeFault}
 use Rattle.vab_make.specs.declared.fault.MakeFault.TheVariants as make
 use Rattle.vab_make.specs.Made.{set_blocks, made_device}
@@ -58,6 +58,7 @@ done_line Mark current = line (codes "marked " ++ slot_letter current)
 done_line Boot current = line []
 done_line (Print name) current = line []
 done_line (Digest name) current = line []
+done_line Begin current = line []
 done_line (Create name size) current = line []
 done_line (Resize name size) current = line []
 done_line (Delete name) current = line []
@@ -94,6 +95,7 @@ told_of s (SetActive slot) = command_line s (SetActive slot)
 told_of s Boot = command_line s Boot
 told_of s Mark = command_line s Mark
 told_of s (Digest name) = command_line s (Digest name)
+told_of s Begin = command_line s Begin
 told_of s (Create name size) = command_line s (Create name size)
 told_of s (Resize name size) = command_line s (Resize name size)
 told_of s (Delete name) = command_line s (Delete name)
@@ -110,8 +112,8 @@ told_of s (Merge blocks) = command_line s (Merge blocks)
 abbrev pub command_item : Mounted → Command → List ℕ → Item Mounted
 command_item m c told = record {
   reply = told;
-  steps = steps_of m (effect_on m c);
-  last = nothing_staged (after_of m (effect_on m c));
+  steps = steps_of m (effect_in m c);
+  last = nothing_staged (after_of m (effect_in m c));
 }
 
 -- this is told, and nothing changes

@@ -20,6 +20,8 @@ use Rattle.vab_model.specs.declared.state.State.{State}
 use Rattle.vab_model.specs.declared.state.Phase.{Phase}
 use Rattle.vab_model.specs.declared.state.Phase.TheVariants.{Idle, Installing}
 use Rattle.vab_model.specs.State.{control_seen}
+use Rattle.vab_model.specs.Commands.{Command}
+use Rattle.vab_model.specs.Effects.{Effect, effect, effect_map}
 use Rattle.vab_device.specs.declared.device.Part.{Part}
 use Rattle.vab_device.specs.declared.device.Planned.{Planned}
 use Rattle.vab_device.specs.declared.device.PlannedImage.{PlannedImage}
@@ -125,3 +127,7 @@ mounted_on d image = record { state = state_on d image; places = places_on d }
 -- the same places, in another state
 abbrev pub in_state : Mounted → State → Mounted
 in_state m state = record m { state = state }
+
+-- What a command of the program makes of it: that of the model, in the same places.
+abbrev pub effect_in : Mounted → Command → Effect Mounted
+effect_in m command = effect_map (in_state m) (effect m.state command)

@@ -27,7 +27,8 @@ use Rattle.vab_model.specs.declared.command.Refusal.{Refusal}
 use Rattle.vab_model.specs.declared.command.Refusal.TheVariants as refusals
 use Rattle.vab_model.specs.declared.command.Reply.TheVariants as replies
 use Rattle.vab_model.specs.Commands.{Command, SetActive, Boot, Mark, Print, Digest, Begin, Create}
-use Rattle.vab_model.specs.Commands.{Resize, Delete, Snapshot, Flash, Cancel, BeginMerge, Merge}
+use Rattle.vab_model.specs.Commands.{Resize, Delete, Snapshot, Flash, Finish, Cancel, BeginMerge}
+use Rattle.vab_model.specs.Commands.{Merge}
 use Rattle.vab_model.specs.Effects.{Effect, refuses, does, effect, effect_map}
 use Rattle.vab_model.specs.State.{images_at, image_named, control_seen}
 use Rattle.vab_device.specs.Kept.{group_of}
@@ -311,5 +312,6 @@ effect_on m staged Boot = effect_map (in_state m) (effect m.state Boot)
 effect_on m staged Mark = effect_map (in_state m) (effect m.state Mark)
 effect_on m staged (Print name) = effect_map (in_state m) (effect m.state (Print name))
 effect_on m staged (Digest name) = effect_map (in_state m) (effect m.state (Digest name))
+effect_on m staged Finish = effect_map (in_state m) (effect m.state Finish)
 effect_on m staged BeginMerge = effect_map (in_state m) (effect m.state BeginMerge)
 effect_on m staged (Merge blocks) = effect_map (in_state m) (effect m.state (Merge blocks))

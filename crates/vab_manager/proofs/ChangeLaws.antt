@@ -9,7 +9,7 @@ use Rattle.vab_bootctl.specs.declared.slots.Control.{Control}
 use Rattle.vab_bootctl.specs.Boot.{activated_of}
 use Rattle.vab_bootctl.specs.Control.{control_of, KeepsRest}
 use Rattle.vab_marks.specs.declared.mark.UpdateMark.{UpdateMark}
-use Rattle.vab_model.specs.Commands.{Command, SetActive, Boot, Mark, Print, Digest, Create}
+use Rattle.vab_model.specs.Commands.{Command, SetActive, Boot, Mark, Print, Digest, Begin, Create}
 use Rattle.vab_model.specs.Commands.{Resize, Delete, Snapshot, Flash, Finish, Cancel, BeginMerge}
 use Rattle.vab_model.specs.Commands.{Merge}
 use Rattle.vab_device.specs.declared.device.Device.{Device}
@@ -55,6 +55,7 @@ one_writes Boot c a b old s bytes is = is
 one_writes Mark c a b old s bytes is = is
 one_writes (Print name) c a b old s bytes is = absurd is
 one_writes (Digest name) c a b old s bytes is = absurd is
+one_writes Begin c a b old s bytes is = absurd is
 one_writes (Create name size) c a b old s bytes is = absurd is
 one_writes (Resize name size) c a b old s bytes is = absurd is
 one_writes (Delete name) c a b old s bytes is = absurd is

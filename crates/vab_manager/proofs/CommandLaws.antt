@@ -20,7 +20,7 @@ use Rattle.vab_device.specs.declared.fault.StartFault.TheVariants.{BadState}
 use Rattle.vab_device.specs.Checks.{first_fault, check}
 use Rattle.vab_device.specs.Idle.{control_read_of}
 use Rattle.vab_device.specs.Kept.{IsDevice}
-use Rattle.vab_device.specs.Mounted.{Mounted, mounted_on, effect_on}
+use Rattle.vab_device.specs.Mounted.{Mounted, mounted_on, effect_in}
 use Rattle.vab_device.specs.Phases.{slot_checks, is_good}
 use Rattle.vab_device.specs.Reading.{Read, device, Represents}
 use Rattle.vab_device.proofs.CheckLaws.{check_kept, first_kept}
@@ -124,7 +124,7 @@ module _ {D : Type 0} (g : Ghosts D) (d : Device) (command : Command) where
   pub does_nothing : (reply : Reply) (old new : D)
       → IsDevice d (g.size old)
       → (g.is_modelled → Represents d (g.size old) (g.seen old))
-      → (g.is_modelled → effect_on (mounted_on d (g.seen old)) command ≡ answers reply)
+      → (g.is_modelled → effect_in (mounted_on d (g.seen old)) command ≡ answers reply)
       → OnlyReads g old new
       → g.faults new ≡ g.faults old
       → DoesCommand g d command old new (Ok (d, reply))
@@ -194,7 +194,7 @@ module _ {D : Type 0} (g : Ghosts D) (d : Device) (command : Command) where
     leaves : (t : g.is_modelled) (o : Outcome)
         → LeavesControl (g.told old) c (g.seen old) o
         → LeavesStep (g.told old) (g.size old)
-        (steps_of (mounted_on d (g.seen old)) (effect_on (mounted_on d (g.seen old)) command)) o
+        (steps_of (mounted_on d (g.seen old)) (effect_in (mounted_on d (g.seen old)) command)) o
     leaves t o left = ⊎_elim
         (λ same. record {
           told_so_far = left.told_so_far;
@@ -221,7 +221,7 @@ module _ {D : Type 0} (g : Ghosts D) (d : Device) (command : Command) where
         → IsAtRest g old
         → Adds g.moment g.outcomes old new
         (LeavesStep (g.told old) (g.size old)
-        (steps_of (mounted_on d (g.seen old)) (effect_on (mounted_on d (g.seen old)) command)))
+        (steps_of (mounted_on d (g.seen old)) (effect_in (mounted_on d (g.seen old)) command)))
     steps t rest = adds_wider g.moment g.outcomes old new _ _ (gate t rest) (leaves t)
 
     -- the disk failed

@@ -15,7 +15,7 @@ use Rattle.vab_model.proofs.SeenLaws.{seen_activated, seen_marked, seen_booted}
 use Rattle.vab_device.specs.declared.device.Part.{Part}
 use Rattle.vab_device.specs.declared.device.Device.{Device}
 use Rattle.vab_device.specs.Mounted.{Mounted, images_on, control_on, state_on, mounted_on, in_state}
-use Rattle.vab_device.specs.Mounted.{effect_on}
+use Rattle.vab_device.specs.Mounted.{effect_in}
 use Rattle.vab_manager.specs.Controls.{slots_with_images, GivesControl}
 
 pub some_images : (image : Image) (parts : Option (List Part))
@@ -65,7 +65,7 @@ activated_effect d image slot has =
 
 pub refused_effect : (d : Device) (image : Image) (slot : ℕ)
     → is_some (if slot == 0 then d.a else d.b) ≡ false
-    → effect_on (mounted_on d image) (SetActive slot) ≡ refuses NoImages
+    → effect_in (mounted_on d image) (SetActive slot) ≡ refuses NoImages
 unfolding effect
 refused_effect d image slot none =
     let s : State = state_on d image in

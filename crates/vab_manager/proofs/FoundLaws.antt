@@ -14,7 +14,7 @@ use Rattle.vab_model.specs.Effects.{print_effect, digest_effect, effect, effect_
 use Rattle.vab_device.specs.declared.device.Part.{Part}
 use Rattle.vab_device.specs.declared.device.Device.{Device}
 use Rattle.vab_device.specs.Kept.{IsPart, IsDevice}
-use Rattle.vab_device.specs.Mounted.{image_on, images_on, state_on, mounted_on, in_state, effect_on}
+use Rattle.vab_device.specs.Mounted.{image_on, images_on, state_on, mounted_on, in_state, effect_in}
 use Rattle.vab_manager.specs.Found.{part_named, part_in, found_part}
 use Rattle.vab_model.proofs.Names.{full_is}
 use Rattle.vab_manager.specs.Blocks.{slot_named}
@@ -54,7 +54,7 @@ found_name d name p h = full_is (slot_named name) name (found_full d name p h)
 
 pub print_is : (d : Device) (image : Image) (name : List ℕ) (found : Result Part Refusal)
     → found_part d name ≡ found
-    → effect_on (mounted_on d image) (Print name)
+    → effect_in (mounted_on d image) (Print name)
     ≡ effect_map (in_state (mounted_on d image)) (print_effect name (found_by image found))
 unfolding effect
 print_is d image name found is =
@@ -63,7 +63,7 @@ print_is d image name found is =
 
 pub digest_is : (d : Device) (image : Image) (name : List ℕ) (found : Result Part Refusal)
     → found_part d name ≡ found
-    → effect_on (mounted_on d image) (Digest name)
+    → effect_in (mounted_on d image) (Digest name)
     ≡ effect_map (in_state (mounted_on d image)) (digest_effect (found_by image found))
 unfolding effect
 digest_is d image name found is =

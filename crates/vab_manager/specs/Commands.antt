@@ -9,7 +9,7 @@ use Rattle.vab_model.specs.Commands.{Command}
 use Rattle.vab_model.specs.Effects.{steps_of, after_of, IsOneOf}
 use Rattle.vab_device.specs.declared.device.Device.{Device}
 use Rattle.vab_device.specs.Kept.{IsDevice}
-use Rattle.vab_device.specs.Mounted.{Mounted, mounted_on, effect_on}
+use Rattle.vab_device.specs.Mounted.{Mounted, mounted_on, effect_in}
 use Rattle.vab_device.specs.Reading.{device, Represents}
 use Rattle.vab_manager.specs.Controls.{IsOfCommand, IsOfCommands}
 
@@ -33,9 +33,9 @@ pub record DoesCommand {D : Type 0}
   pub represents : g.is_modelled → IfOk result (λ r. Represents r.0 (g.size old) (g.seen new))
   pub after : g.is_modelled → IfOk result
       (λ r. mounted_on r.0 (g.seen new)
-      ≡ after_of (mounted_on d (g.seen old)) (effect_on (mounted_on d (g.seen old)) command))
+      ≡ after_of (mounted_on d (g.seen old)) (effect_in (mounted_on d (g.seen old)) command))
   pub reply : g.is_modelled → IfOk result
-      (λ r. r.1 ≡ (effect_on (mounted_on d (g.seen old)) command).reply)
+      (λ r. r.1 ≡ (effect_in (mounted_on d (g.seen old)) command).reply)
   pub rest : g.is_modelled → IsAtRest g old → OnOk result (IsAtRest g new)
   pub quiet : IsQuiet g old new
   pub touches : g.is_modelled → Touches g (IsOfCommand d (g.seen old 4) command) old new
@@ -43,7 +43,7 @@ pub record DoesCommand {D : Type 0}
       → IsAtRest g old
       → Adds g.moment g.outcomes old new
       (LeavesStep (g.told old) (g.size old)
-      (steps_of (mounted_on d (g.seen old)) (effect_on (mounted_on d (g.seen old)) command)))
+      (steps_of (mounted_on d (g.seen old)) (effect_in (mounted_on d (g.seen old)) command)))
   pub faults : FailsWithDisk g old new result
 
 -- What commands do to the sectors of a device, one behind the other, whatever is heard and told:

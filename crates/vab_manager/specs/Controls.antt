@@ -6,13 +6,13 @@ use Rattle.vab_bootctl.specs.declared.slots.Control.{Control}
 use Rattle.vab_bootctl.specs.Control.{control_of, KeepsRest}
 use Rattle.vab_bootctl.specs.Boot.{activated_of, booted_of, marked_of}
 use Rattle.vab_model.specs.declared.command.Reply.{Reply}
-use Rattle.vab_model.specs.Commands.{Command, SetActive, Boot, Mark, Print, Digest, Create}
+use Rattle.vab_model.specs.Commands.{Command, SetActive, Boot, Mark, Print, Digest, Begin, Create}
 use Rattle.vab_model.specs.Commands.{Resize, Delete, Snapshot, Flash, Finish, Cancel, BeginMerge}
 use Rattle.vab_model.specs.Commands.{Merge}
 use Rattle.vab_model.specs.Effects.{does}
 use Rattle.vab_model.specs.State.{control_seen, with_control}
 use Rattle.vab_device.specs.declared.device.Device.{Device}
-use Rattle.vab_device.specs.Mounted.{Mounted, state_on, mounted_on, in_state, effect_on}
+use Rattle.vab_device.specs.Mounted.{Mounted, state_on, mounted_on, in_state, effect_in}
 
 -- The new image is the old one with a sector of this boot control in its place; the bits of the
 -- sector that no field has stay.
@@ -49,6 +49,7 @@ IsOfSlots c a b old Boot s bytes = IsControl (booted_of c (a ∷ b ∷ [])) old 
 IsOfSlots c a b old Mark s bytes = IsControl (marked_of c) old s bytes
 IsOfSlots c a b old (Print name) s bytes = ⊥
 IsOfSlots c a b old (Digest name) s bytes = ⊥
+IsOfSlots c a b old Begin s bytes = ⊥
 IsOfSlots c a b old (Create name size) s bytes = ⊥
 IsOfSlots c a b old (Resize name size) s bytes = ⊥
 IsOfSlots c a b old (Delete name) s bytes = ⊥
@@ -74,6 +75,7 @@ control_by a b Boot c = booted_of c (a ∷ b ∷ [])
 control_by a b Mark c = marked_of c
 control_by a b (Print name) c = c
 control_by a b (Digest name) c = c
+control_by a b Begin c = c
 control_by a b (Create name size) c = c
 control_by a b (Resize name size) c = c
 control_by a b (Delete name) c = c
@@ -114,4 +116,4 @@ with_kept d c image =
 -- A command gives this reply, and leaves the device with this boot control.
 abbrev pub GivesControl : Device → Image → Command → Reply → Control → Type 0
 GivesControl d image command reply c =
-    effect_on (mounted_on d image) command ≡ does reply (with_kept d c image)
+    effect_in (mounted_on d image) command ≡ does reply (with_kept d c image)

@@ -1,6 +1,10 @@
 //! One command.
 
+ghost use Rattle.std.specs.Prelude.{◌≡◌};
+ghost use Rattle.vab_disk.specs.Disk.{Image};
 ghost use Rattle.vab_model.specs.Commands.{command_of};
+ghost use Rattle.vab_model.specs.Effects.{unless_idle};
+ghost use Rattle.vab_device.specs.Mounted.{state_on};
 ghost use Rattle.vab_device.specs.Kept.{IsDevice};
 ghost use Rattle.vab_device.specs.Reading.{Represents};
 ghost use Rattle.vab_manager.specs.Commands.{DoesCommand};
@@ -12,12 +16,25 @@ use vab_disk::Disk;
 use vab_gate::DiskFault;
 use vab_model::{Command, Refusal, Reply};
 
+// A command on an update, which is refused so where there is none.
+fn refuse_update(device: Device, refusal: Refusal) -> (Device, Reply)
+    ensures device { result.0 ≡ device }
+    ensures reply { (image : Image)
+        → result.1 ≡ Reply.Refused (unless_idle (state_on device image).phase refusal) }
+{
+    let refusal = match device.plan {
+        None => refusal,
+        Some(_) => Refusal::NotIdle,
+    };
+    (device, Reply::Refused(refusal))
+}
+
 /// Carries out one command on a device. Where the device that is kept is that of the disk, the
 /// reply and the device after it are those of the table of effects; where nothing was pending, each
 /// outcome since is a step of the command. A command on slots touches the boot control's sector
 /// alone, and there only the fields that it changes; a question or a refusal touches nothing. The
-/// error comes where the disk has failed; then nothing is asked of the device any more. There is no
-/// update yet, and so the commands on one are refused.
+/// error comes where the disk has failed; then nothing is asked of the device any more. The commands
+/// on an update are refused: none begins one yet.
 pub fn run_one<D: Disk>(
     d: &mut D,
     device: Device,
@@ -39,13 +56,13 @@ pub fn run_one<D: Disk>(
             Ok(reply) => Ok((device, reply)),
             Err(fault) => Err(fault),
         },
-        Command::Create(_, _) => Ok((device, Reply::Refused(Refusal::NotInstalling))),
-        Command::Resize(_, _) => Ok((device, Reply::Refused(Refusal::NotInstalling))),
-        Command::Delete(_) => Ok((device, Reply::Refused(Refusal::NotInstalling))),
-        Command::Snapshot(_, _) => Ok((device, Reply::Refused(Refusal::NotInstalling))),
-        Command::Flash(_) => Ok((device, Reply::Refused(Refusal::NotInstalling))),
-        Command::Finish => Ok((device, Reply::Refused(Refusal::NotInstalling))),
-        Command::Cancel => Ok((device, Reply::Refused(Refusal::NothingToCancel))),
+        Command::Create(_, _) => Ok(refuse_update(device, Refusal::NotInstalling)),
+        Command::Resize(_, _) => Ok(refuse_update(device, Refusal::NotInstalling)),
+        Command::Delete(_) => Ok(refuse_update(device, Refusal::NotInstalling)),
+        Command::Snapshot(_, _) => Ok(refuse_update(device, Refusal::NotInstalling)),
+        Command::Flash(_) => Ok(refuse_update(device, Refusal::NotInstalling)),
+        Command::Finish => Ok(refuse_update(device, Refusal::NotInstalling)),
+        Command::Cancel => Ok(refuse_update(device, Refusal::NothingToCancel)),
         Command::BeginMerge => Ok((device, Reply::Refused(Refusal::NotStaged))),
         Command::Merge(_) => Ok((device, Reply::Refused(Refusal::NotMerging))),
     }

@@ -8,7 +8,7 @@ ghost use Rattle.vab_disk.specs.Disk.{Image};
 ghost use Rattle.vab_model.specs.Commands.{Print, Digest as DigestOf};
 ghost use Rattle.vab_model.specs.Effects.{answers};
 ghost use Rattle.vab_device.specs.Kept.{IsDevice};
-ghost use Rattle.vab_device.specs.Mounted.{bytes_at, mounted_on, effect_on};
+ghost use Rattle.vab_device.specs.Mounted.{bytes_at, mounted_on, effect_in};
 ghost use Rattle.vab_manager.specs.Found.{part_named, part_in, found_part};
 
 use sha2::{Digest, Sha256};
@@ -66,7 +66,7 @@ pub fn find<'a>(device: &'a Device, name: &[u8]) -> Result<&'a Part, Refusal>
 /// Whether an image can be told.
 pub fn print(device: &Device, name: &[u8]) -> Reply
     ensures { (image : Image)
-        → effect_on (mounted_on device.now image) (Print name.now) ≡ answers result }
+        → effect_in (mounted_on device.now image) (Print name.now) ≡ answers result }
 {
     match find(device, name) {
         Err(refusal) => Reply::Refused(refusal),
@@ -98,7 +98,7 @@ fn digest_of<D: Disk>(d: &mut D, map: &Map) -> Result<[u8; 32], DiskFault>
 pub fn digest<D: Disk>(d: &mut D, device: &Device, name: &[u8]) -> Result<Reply, DiskFault>
     requires kept { IsDevice device.now (D.size d.old) }
     ensures reply { D.is_modelled → IfOk result
-        (λ r. effect_on (mounted_on device.now (D.seen d.old)) (DigestOf name.now) ≡ answers r) }
+        (λ r. effect_in (mounted_on device.now (D.seen d.old)) (DigestOf name.now) ≡ answers r) }
     ensures reads { OnlyReads D.Disk d.old d.new }
     ensures faults { FailsWithDisk D.Disk d.old d.new result }
 {

@@ -1,4 +1,4 @@
--- Commands, with their names as bytes.
+-- Commands, with their names as bytes. No command of the program begins an update yet.
 use Rattle.std.specs.Prelude.{ℕ, List}
 use Rattle.vab_model.specs.declared.command.Command.{Command as CommandOfCode}
 use Rattle.vab_model.specs.declared.command.Command.TheVariants as code
@@ -15,6 +15,7 @@ pub data Command : Type 0 where
   Delete : (name : List ℕ) → Command
   Snapshot : (name : List ℕ) (size : ℕ) → Command
   Flash : (name : List ℕ) → Command
+  Finish : Command
   Cancel : Command
   BeginMerge : Command
   Merge : (blocks : ℕ) → Command
@@ -25,12 +26,12 @@ command_of code.Boot = Boot
 command_of code.Mark = Mark
 command_of (code.Print name) = Print name.now
 command_of (code.Digest name) = Digest name.now
-command_of code.Begin = Begin
 command_of (code.Create name size) = Create name.now size
 command_of (code.Resize name size) = Resize name.now size
 command_of (code.Delete name) = Delete name.now
 command_of (code.Snapshot name size) = Snapshot name.now size
 command_of (code.Flash name) = Flash name.now
+command_of code.Finish = Finish
 command_of code.Cancel = Cancel
 command_of code.BeginMerge = BeginMerge
 command_of (code.Merge blocks) = Merge blocks

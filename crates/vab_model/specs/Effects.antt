@@ -8,7 +8,9 @@ use Rattle.vab_names.specs.Names.{is_full, base_of}
 use Rattle.vab_model.specs.declared.state.Image.{Image}
 use Rattle.vab_model.specs.declared.state.PlanImage.TheVariants.{Kept}
 use Rattle.vab_model.specs.declared.state.PlanEntry.{PlanEntry}
-use Rattle.vab_model.specs.declared.state.Phase.TheVariants.{Installing}
+use Rattle.vab_model.specs.declared.state.Phase.{Phase}
+use Rattle.vab_model.specs.declared.state.Phase.TheVariants.{Idle, Installing, Staged}
+use Rattle.vab_model.specs.declared.state.Phase.TheVariants.{Merging as IsMerging}
 use Rattle.vab_model.specs.declared.state.State.{State}
 use Rattle.vab_model.specs.declared.command.Refusal.{Refusal}
 use Rattle.vab_model.specs.declared.command.Refusal.TheVariants.{NotIdle, NotInstalling}
@@ -25,7 +27,8 @@ use Rattle.vab_model.specs.declared.command.Refusal.TheVariants.{NoMemory}
 use Rattle.vab_model.specs.declared.command.Reply.{Reply}
 use Rattle.vab_model.specs.declared.command.Reply.TheVariants as replies
 use Rattle.vab_model.specs.Commands.{Command, SetActive, Boot, Mark, Print, Digest, Begin, Create}
-use Rattle.vab_model.specs.Commands.{Resize, Delete, Snapshot, Flash, Cancel, BeginMerge, Merge}
+use Rattle.vab_model.specs.Commands.{Resize, Delete, Snapshot, Flash, Finish, Cancel, BeginMerge}
+use Rattle.vab_model.specs.Commands.{Merge}
 use Rattle.vab_model.specs.State.{images_at, has_images, with_control, image_named}
 
 -- A reply, and the states that follow one another; none for a refusal or a question.
@@ -103,8 +106,15 @@ begun s = record s {
       Installing s.control.current (kept_plan (images_at s s.control.current));
 }
 
--- Each command has a row, on a state without an update. The commands on an update that there isn't
--- are refused.
+-- why a command on an update is refused: there is none, or it can't be carried on yet
+abbrev pub unless_idle : Phase → Refusal → Refusal
+unless_idle Idle refusal = refusal
+unless_idle (Installing source plan) refusal = NotIdle
+unless_idle (Staged source left) refusal = NotIdle
+unless_idle (IsMerging target left) refusal = NotIdle
+
+-- Each command has a row. The program begins no update yet: the commands on one are refused where
+-- there is none, and where another program has begun one.
 unfoldable pub effect : State → Command → Effect State
 effect s (SetActive slot) =
     active_effect (is_some (images_at s slot)) s (activated_of s.control slot)
@@ -115,12 +125,13 @@ effect s Mark = does replies.Done (with_control (marked_of s.control) s)
 effect s (Print name) = print_effect name (found_of s name)
 effect s (Digest name) = digest_effect (found_of s name)
 effect s Begin = does replies.Done (begun s)
-effect s (Create name size) = refuses NotInstalling
-effect s (Resize name size) = refuses NotInstalling
-effect s (Delete name) = refuses NotInstalling
-effect s (Snapshot name size) = refuses NotInstalling
-effect s (Flash name) = refuses NotInstalling
-effect s Cancel = refuses NothingToCancel
+effect s (Create name size) = refuses (unless_idle s.phase NotInstalling)
+effect s (Resize name size) = refuses (unless_idle s.phase NotInstalling)
+effect s (Delete name) = refuses (unless_idle s.phase NotInstalling)
+effect s (Snapshot name size) = refuses (unless_idle s.phase NotInstalling)
+effect s (Flash name) = refuses (unless_idle s.phase NotInstalling)
+effect s Finish = refuses (unless_idle s.phase NotInstalling)
+effect s Cancel = refuses (unless_idle s.phase NothingToCancel)
 effect s BeginMerge = refuses NotStaged
 effect s (Merge blocks) = refuses NotMerging
 
@@ -139,6 +150,7 @@ takes_memory (Resize name size) = true
 takes_memory (Delete name) = true
 takes_memory (Snapshot name size) = true
 takes_memory (Flash name) = true
+takes_memory Finish = false
 takes_memory Cancel = false
 takes_memory BeginMerge = false
 takes_memory (Merge blocks) = false

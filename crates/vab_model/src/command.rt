@@ -16,8 +16,6 @@ pub enum Command<'a> {
     Print(&'a [u8]),
     /// Tells the SHA-256 of an image's bytes.
     Digest(&'a [u8]),
-    /// Begins an update of the slot that isn't current, its target.
-    Begin,
     /// Gives the target of an update a partition of this size.
     Create(&'a [u8], u64),
     /// Gives a partition of the target another size.
@@ -29,6 +27,8 @@ pub enum Command<'a> {
     Snapshot(&'a [u8], u64),
     /// Makes the staged bytes the image of a partition of the target.
     Flash(&'a [u8]),
+    /// Ends the installing of an update: its target is ready to be booted.
+    Finish,
     /// Drops an update.
     Cancel,
     /// Begins to merge an update into its target's partitions.

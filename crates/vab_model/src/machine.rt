@@ -1,17 +1,16 @@
 //! The plain machine: what a command makes of a state.
 
-ghost use Rattle.std.specs.Prelude.{◌≡◌, ◌≤◌, length, map, IfOk, MatchResult, option_copied};
-ghost use Rattle.std.specs.Prelude.{is_some};
+ghost use Rattle.std.specs.Prelude.{◌≡◌, ◌≤◌, length, IfOk, MatchResult, option_copied, is_some};
 ghost use Rattle.vab_bootctl.specs.Boot.{activated_of};
 ghost use Rattle.vab_model.specs.State.{images_at, has_images, with_control, image_named};
 ghost use Rattle.vab_model.specs.Commands.{SetActive, Boot, Mark, Print, command_of};
-ghost use Rattle.vab_model.specs.Commands.{Digest as DigestOf, Begin as BeginOf};
+ghost use Rattle.vab_model.specs.Commands.{Digest as DigestOf};
 ghost use Rattle.vab_model.specs.Effects.{Effect, Image_is, Refused_by, found_in, found_of};
 ghost use Rattle.vab_model.specs.Effects.{print_effect, digest_effect, effect, after_of};
-ghost use Rattle.vab_model.specs.Effects.{kept_entry, kept_plan};
+ghost use Rattle.vab_model.specs.Effects.{unless_idle};
 ghost use Rattle.vab_model.specs.declared.state.State.{State as StateOf};
 
-use crate::{Command, Image, NoMemory, Phase, PlanEntry, PlanImage, Refusal, Reply, State};
+use crate::{Command, Image, NoMemory, Phase, Refusal, Reply, State};
 use sha2::{Digest, Sha256};
 use std::alloc::Global;
 use vab_bootctl::{Control, activated, booted, marked};
@@ -178,52 +177,6 @@ fn digested(alloc: Global, state: &State, name: &[u8]) -> Result<(State, Reply),
     Ok((state.copy(alloc)?, digest(state, name)))
 }
 
-// The plan of these images, each kept.
-fn kept_entries(alloc: Global, images: &Listing<Image>) -> Result<Listing<PlanEntry>, NoMemory>
-    ensures { IfOk result (λ p. p ≡ map kept_entry images.now) }
-{
-    let mut entries = Vec::new(alloc);
-    for image in images.as_slice() {
-        entries.push(PlanEntry {
-            name: image.name,
-            group: image.group,
-            blocks: (image.bytes.as_slice().len() / 4096) as u64,
-            store: None,
-            image: PlanImage::Kept,
-        })?;
-    }
-    Ok(Listing::from_vec(entries))
-}
-
-fn kept_plan(alloc: Global, state: &State) -> Result<Listing<PlanEntry>, NoMemory>
-    ensures { IfOk result (λ p. p ≡ kept_plan (images_at state.now state.now.control.current)) }
-{
-    let images = if state.control.current == 0 {
-        &state.a
-    } else {
-        &state.b
-    };
-    match images {
-        None => Ok(Listing::from_vec(Vec::new(alloc))),
-        Some(images) => kept_entries(alloc, images),
-    }
-}
-
-#[tactic(auto, unfolding(crate::specs::Effects::effect))]
-fn begin(alloc: Global, state: &State) -> Result<(State, Reply), NoMemory>
-    ensures state { IfOk result (λ r. r.0 ≡ after_of state.now (effect state.now BeginOf)) }
-    ensures reply { IfOk result (λ r. r.1 ≡ (effect state.now BeginOf).reply) }
-{
-    let plan = kept_plan(alloc, state)?;
-    Ok((
-        State {
-            phase: Phase::Installing(state.control.current, plan),
-            ..state.copy(alloc)?
-        },
-        Reply::Done,
-    ))
-}
-
 // A command that is refused.
 fn refuse(alloc: Global, state: &State, refusal: Refusal) -> Result<(State, Reply), NoMemory>
     ensures state { IfOk result (λ r. r.0 ≡ state.now) }
@@ -232,9 +185,24 @@ fn refuse(alloc: Global, state: &State, refusal: Refusal) -> Result<(State, Repl
     Ok((state.copy(alloc)?, Reply::Refused(refusal)))
 }
 
+// A command on an update, which is refused so where there is none.
+fn refuse_update(
+    alloc: Global,
+    state: &State,
+    refusal: Refusal,
+) -> Result<(State, Reply), NoMemory>
+    ensures state { IfOk result (λ r. r.0 ≡ state.now) }
+    ensures reply { IfOk result (λ r. r.1 ≡ Reply.Refused (unless_idle state.now.phase refusal)) }
+{
+    match state.phase {
+        Phase::Idle => refuse(alloc, state, refusal),
+        _ => refuse(alloc, state, Refusal::NotIdle),
+    }
+}
+
 /// The state after a command, and the reply; the state that is given stays. `staged` is what was
-/// downloaded last, if anything: no command takes it yet. The state is one without an update, and so
-/// the commands on one are refused. `NoMemory` where memory is refused. It is slow, for tests: the
+/// downloaded last, if anything: no command takes it yet. The commands on an update are refused,
+/// since none begins one yet. `NoMemory` where memory is refused. It is slow, for tests: the
 /// program's own commands are compared with it.
 #[tactic(auto, unfolding(crate::specs::Effects::effect))]
 pub fn step(
@@ -253,13 +221,13 @@ pub fn step(
         Command::Mark => mark(alloc, state),
         Command::Print(name) => printed(alloc, state, name),
         Command::Digest(name) => digested(alloc, state, name),
-        Command::Begin => begin(alloc, state),
-        Command::Create(_, _) => refuse(alloc, state, Refusal::NotInstalling),
-        Command::Resize(_, _) => refuse(alloc, state, Refusal::NotInstalling),
-        Command::Delete(_) => refuse(alloc, state, Refusal::NotInstalling),
-        Command::Snapshot(_, _) => refuse(alloc, state, Refusal::NotInstalling),
-        Command::Flash(_) => refuse(alloc, state, Refusal::NotInstalling),
-        Command::Cancel => refuse(alloc, state, Refusal::NothingToCancel),
+        Command::Create(_, _) => refuse_update(alloc, state, Refusal::NotInstalling),
+        Command::Resize(_, _) => refuse_update(alloc, state, Refusal::NotInstalling),
+        Command::Delete(_) => refuse_update(alloc, state, Refusal::NotInstalling),
+        Command::Snapshot(_, _) => refuse_update(alloc, state, Refusal::NotInstalling),
+        Command::Flash(_) => refuse_update(alloc, state, Refusal::NotInstalling),
+        Command::Finish => refuse_update(alloc, state, Refusal::NotInstalling),
+        Command::Cancel => refuse_update(alloc, state, Refusal::NothingToCancel),
         Command::BeginMerge => refuse(alloc, state, Refusal::NotStaged),
         Command::Merge(_) => refuse(alloc, state, Refusal::NotMerging),
     }

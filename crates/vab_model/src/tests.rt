@@ -183,6 +183,7 @@ fn without_an_update_its_commands_are_refused(rt: HostRuntime) -> Result<(), Fai
         (Command::Delete(b""), Refusal::NotInstalling),
         (Command::Snapshot(b"system_b", 0), Refusal::NotInstalling),
         (Command::Flash(b"system_b"), Refusal::NotInstalling),
+        (Command::Finish, Refusal::NotInstalling),
         (Command::Cancel, Refusal::NothingToCancel),
         (Command::BeginMerge, Refusal::NotStaged),
         (Command::Merge(1), Refusal::NotMerging),

@@ -12,7 +12,7 @@ use Rattle.vab_disk.specs.declared.disk.Disk.{Ghosts}
 use Rattle.vab_disk.proofs.Moments.{adds_still, adds_wider}
 use Rattle.vab_model.specs.Commands.{Command}
 use Rattle.vab_model.specs.Effects.{steps_of, after_of}
-use Rattle.vab_device.specs.Mounted.{Mounted, effect_on}
+use Rattle.vab_device.specs.Mounted.{Mounted, effect_in}
 use Rattle.vab_device.specs.Reading.{IsIn}
 use Rattle.vab_manager.specs.Commands.{LeavesStep}
 use Rattle.vab_fbproto.specs.Requests.{Asked, Do, Download, request_of}
@@ -90,13 +90,13 @@ module _ {D : Type 0}
 
 -- a step of a command, with nothing told of it
 leaves_step : (size : ℕ) (k : Kept Mounted) (c : Command) (told : List ℕ) (o : Outcome)
-    → LeavesStep told size (steps_of k.now (effect_on k.now c)) o
-    → LeavesItem (IsIn size) told (item_by k (by_effect (effect_on k.now c))) o
+    → LeavesStep told size (steps_of k.now (effect_in k.now c)) o
+    → LeavesItem (IsIn size) told (item_by k (by_effect (effect_in k.now c))) o
 leaves_step size k c told o leaves = record {
   front = (0, leaves.told_so_far ∙ sym (append-nil told));
   step = (leaves.mounted, leaves.step, leaves.means);
   whole = λ all.
-      let text = reply_text (effect_on k.now c).reply in
+      let text = reply_text (effect_in k.now c).reply in
       let some = packet_some text in
       absurd (omega (
         arith,
@@ -121,7 +121,7 @@ module _ {D : Type 0}
     (deaf : g.heard mid ≡ g.heard old)
     (time : IsAtRest g old
     → Adds g.moment g.outcomes old mid
-    (LeavesStep (g.told old) size (steps_of k.now (effect_on k.now c)))) where
+    (LeavesStep (g.told old) size (steps_of k.now (effect_in k.now c)))) where
   during : IsAtRest g old
       → Adds g.moment g.outcomes old mid
       (LeavesItem (IsIn size) (g.told old) (item_by k (response k.now k.staged asked)))
@@ -131,8 +131,8 @@ module _ {D : Type 0}
       Adds g.moment g.outcomes old mid (LeavesItem (IsIn size) (g.told old) (item_by k r)))
       (sym same)
       (adds_wider g.moment g.outcomes old mid
-      (LeavesStep (g.told old) size (steps_of k.now (effect_on k.now c)))
-      (LeavesItem (IsIn size) (g.told old) (item_by k (by_effect (effect_on k.now c))))
+      (LeavesStep (g.told old) size (steps_of k.now (effect_in k.now c)))
+      (LeavesItem (IsIn size) (g.told old) (item_by k (by_effect (effect_in k.now c))))
       (time rest) (leaves_step size k c (g.told old)))
 
   -- the disk failed
@@ -143,8 +143,8 @@ module _ {D : Type 0}
 
   module _ (new : D)
       (text : List ℕ)
-      (text_is : text ≡ reply_text (effect_on k.now c).reply)
-      (stands : IsIn size (after_of k.now (effect_on k.now c)) (g.seen mid))
+      (text_is : text ≡ reply_text (effect_in k.now c).reply)
+      (stands : IsIn size (after_of k.now (effect_in k.now c)) (g.seen mid))
       (settled : IsAtRest g old → IsAtRest g mid)
       (seen : g.seen new ≡ g.seen mid)
       (holds : SameHoldings (g.may_leave mid) (g.may_leave new))
@@ -154,7 +154,7 @@ module _ {D : Type 0}
     text_there : text ≡ (response k.now k.staged asked).text
     text_there = text_is ∙ ap (λ (r : Response Mounted). r.text) (sym same)
 
-    last_there : (item_by k (by_effect (effect_on k.now c))).last
+    last_there : (item_by k (by_effect (effect_in k.now c))).last
         ≡ (item_by k (response k.now k.staged asked)).last
     last_there = ap (λ (r : Response Mounted). (item_by k r).last) (sym same)
 
@@ -162,7 +162,7 @@ module _ {D : Type 0}
     there_then = subst (λ (q : Kept Mounted). IsIn size q.now (g.seen mid)) last_there stands
 
     pub command_done : (k' : Kept Mounted)
-        → k' ≡ record { now = after_of k.now (effect_on k.now c); staged = k.staged }
+        → k' ≡ record { now = after_of k.now (effect_in k.now c); staged = k.staged }
         → g.told new ≡ g.told mid ++ packet text
         → Answers response (IsIn size) g k k' asking before before beyond old new
     command_done k' kept told =

@@ -13,15 +13,17 @@ use Rattle.vab_model.specs.declared.state.Phase.{Phase}
 use Rattle.vab_model.specs.declared.state.Phase.TheVariants.{Idle, Installing, Staged, Merging}
 use Rattle.vab_model.specs.declared.state.State.{State}
 use Rattle.vab_model.specs.declared.command.Refusal.{Refusal}
-use Rattle.vab_model.specs.declared.command.Refusal.TheVariants.{BadName}
+use Rattle.vab_model.specs.declared.command.Refusal.TheVariants.{BadName, NotInstalling}
+use Rattle.vab_model.specs.declared.command.Refusal.TheVariants.{NothingToCancel}
 use Rattle.vab_model.specs.declared.command.Reply.{Reply}
 use Rattle.vab_model.specs.declared.command.Reply.TheVariants as replies
-use Rattle.vab_model.specs.Commands.{Command, SetActive, Boot, Mark, Print, Digest, Create}
+use Rattle.vab_model.specs.Commands.{Command, SetActive, Boot, Mark, Print, Digest, Begin, Create}
 use Rattle.vab_model.specs.Commands.{Resize, Delete, Snapshot, Flash, Finish, Cancel, BeginMerge}
 use Rattle.vab_model.specs.Commands.{Merge}
 use Rattle.vab_model.specs.State.{image_named}
 use Rattle.vab_model.specs.Effects.{Effect, Found, Image_is, Refused_by, found_of, print_effect}
 use Rattle.vab_model.specs.Effects.{digest_effect, active_effect, effect, found_image, found_in}
+use Rattle.vab_model.specs.Effects.{unless_idle}
 use Rattle.vab_device.specs.Mounted.{Mounted}
 use Rattle.vab_fbproto.specs.Requests.{Asked, Getvar, Download, Do, MergeAll, BootAndEnd, Variable}
 use Rattle.vab_fbproto.specs.Requests.{Version, CurrentSlot, SlotCount, MaxDownloadSize, HasSlot}
@@ -118,6 +120,16 @@ digest_short : (found : Found)
 digest_short (Image_is image) short = length-sha256 image.bytes
 digest_short (Refused_by refusal) short = short
 
+-- a command on an update, which is refused
+unless_short : (phase : Phase) (refusal : Refusal)
+    → length (refusal_text refusal) ≤ 200
+    → length (refusal_text (unless_idle phase refusal)) ≤ 200
+unfolding refusal_text
+unless_short Idle refusal short = short
+unless_short (Installing source plan) refusal short = omega arith
+unless_short (Staged source left) refusal short = omega arith
+unless_short (Merging target left) refusal short = omega arith
+
 effect_short : (s : State) (command : Command) → IsShort (effect s command).reply
 unfolding effect refusal_text
 effect_short s (SetActive slot) = active_short _ s _
@@ -125,13 +137,14 @@ effect_short s Boot = tt
 effect_short s Mark = tt
 effect_short s (Print name) = print_short name (found_of s name) (found_short s name)
 effect_short s (Digest name) = digest_short (found_of s name) (found_short s name)
-effect_short s (Create name size) = omega arith
-effect_short s (Resize name size) = omega arith
-effect_short s (Delete name) = omega arith
-effect_short s (Snapshot name size) = omega arith
-effect_short s (Flash name) = omega arith
-effect_short s Finish = omega arith
-effect_short s Cancel = omega arith
+effect_short s Begin = tt
+effect_short s (Create name size) = unless_short s.phase NotInstalling (omega arith)
+effect_short s (Resize name size) = unless_short s.phase NotInstalling (omega arith)
+effect_short s (Delete name) = unless_short s.phase NotInstalling (omega arith)
+effect_short s (Snapshot name size) = unless_short s.phase NotInstalling (omega arith)
+effect_short s (Flash name) = unless_short s.phase NotInstalling (omega arith)
+effect_short s Finish = unless_short s.phase NotInstalling (omega arith)
+effect_short s Cancel = unless_short s.phase NothingToCancel (omega arith)
 effect_short s BeginMerge = omega arith
 effect_short s (Merge blocks) = omega arith
 

@@ -4,7 +4,7 @@ use Rattle.vab_model.specs.declared.state.Phase.{Phase}
 use Rattle.vab_model.specs.declared.state.Phase.TheVariants.{Idle, Installing, Staged, Merging}
 use Rattle.vab_model.specs.Commands.{Boot, Merge}
 use Rattle.vab_model.specs.Effects.{Effect}
-use Rattle.vab_device.specs.Mounted.{Mounted, effect_on}
+use Rattle.vab_device.specs.Mounted.{Mounted, effect_in}
 use Rattle.vab_fbproto.specs.Requests.{Asked, Getvar, Download, Do, MergeAll, BootAndEnd}
 use Rattle.vab_fbproto.specs.Texts.{reply_text, bad_text}
 use Rattle.vab_fbvars.specs.Variables.{variable_text}
@@ -36,7 +36,7 @@ left_of (Merging target left) = left
 abbrev pub response : Mounted → Option (List ℕ) → Result Asked BadCommand → Response Mounted
 response m staged (Ok (Getvar variable)) = still (variable_text m.state variable)
 response m staged (Ok (Download size)) = still (codes "OKAY")
-response m staged (Ok (Do command)) = by_effect (effect_on m command)
-response m staged (Ok MergeAll) = by_effect (effect_on m (Merge (left_of m.state.phase + 1)))
-response m staged (Ok BootAndEnd) = by_effect (effect_on m Boot)
+response m staged (Ok (Do command)) = by_effect (effect_in m command)
+response m staged (Ok MergeAll) = by_effect (effect_in m (Merge (left_of m.state.phase + 1)))
+response m staged (Ok BootAndEnd) = by_effect (effect_in m Boot)
 response m staged (Err bad) = still (bad_text bad)

@@ -2,7 +2,7 @@ use Rattle.std.proofs.Common.{◌≡◌, inl, ◌∙◌, ap, subst}
 use Rattle.vab_disk.proofs.CallLaws.{changes_telling, changes_then}
 use Rattle.vab_model.specs.Commands.{command_of}
 use Rattle.vab_model.specs.Effects.{after_of}
-use Rattle.vab_device.specs.Mounted.{Mounted, mounted_on, effect_on}
+use Rattle.vab_device.specs.Mounted.{Mounted, mounted_on, effect_in}
 use Rattle.vab_device.specs.Reading.{IsIn}
 use Rattle.vab_device.proofs.ReadingLaws.{device_stands}
 use Rattle.vab_manager.proofs.ChangeLaws.{command_changes}
@@ -30,8 +30,8 @@ returns-in-Ok-tell_reply-clause-does g c =
     let ok = c.in-Ok.ensures in
     let k = kept_on c.args.kept (g.P.Disk.seen old) in
     let cmd = command_of c.args.command.now in
-    let after = after_of k.now (effect_on k.now cmd) in
-    let text_is : c.as_slice.result.now ≡ reply_text (effect_on k.now cmd).reply =
+    let after = after_of k.now (effect_in k.now cmd) in
+    let text_is : c.as_slice.result.now ≡ reply_text (effect_in k.now cmd).reply =
     c.as_slice.ensures.value ∙ c.reply_text.ensures.text ∙ ap reply_text (ok.reply t) in
     let stands : IsIn size after (g.P.Disk.seen mid) =
     subst (λ (m : Mounted). IsIn size m (g.P.Disk.seen mid)) (ok.after t)
@@ -59,9 +59,9 @@ returns-in-Err-tell_reply-clause-does g c =
     let ok = c.in-Ok.ensures in
     let k = kept_on c.args.kept (g.P.Disk.seen old) in
     let cmd = command_of c.args.command.now in
-    let text_is : c.as_slice.result.now ≡ reply_text (effect_on k.now cmd).reply =
+    let text_is : c.as_slice.result.now ≡ reply_text (effect_in k.now cmd).reply =
     c.as_slice.ensures.value ∙ c.reply_text.ensures.text ∙ ap reply_text (ok.reply t) in
-    let stands : IsIn size (after_of k.now (effect_on k.now cmd)) (g.P.Disk.seen mid) =
+    let stands : IsIn size (after_of k.now (effect_in k.now cmd)) (g.P.Disk.seen mid) =
     subst (λ (m : Mounted). IsIn size m (g.P.Disk.seen mid)) (ok.after t)
     (device_stands c.in-Ok.done.0 size (g.P.Disk.seen mid) (ok.represents t)) in
     inl (command_told size g.P.Disk k packet before beyond asked is none cmd same old mid

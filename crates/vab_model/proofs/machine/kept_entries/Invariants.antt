@@ -1,7 +1,0 @@
-use Rattle.std.proofs.Common.{◌≡◌, take}
-use Rattle.std.specs.Prelude.{map}
-use Rattle.vab_model.specs.Effects.{kept_entry}
-use Rattle.vab_model.proofs.machine.kept_entries.Given as goal
-
-abbrev pub invariant-loop-image : goal.invariant-loop-image
-invariant-loop-image l = l.entries.items ≡ map kept_entry (take l.image-index l.image-items)
