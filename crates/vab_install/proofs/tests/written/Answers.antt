@@ -2,8 +2,8 @@ use Rattle.std.proofs.Common.{arith}
 use Rattle.vab_store.proofs.PartLaws.{run_on_disk, run_apart, runs_disjoint}
 use Rattle.vab_install.proofs.tests.written.Goals as goal
 
-pub differing-requires-clause-on_disk : goal.differing-requires-clause-on_disk
-differing-requires-clause-on_disk g c =
+pub differing-requires : goal.differing-requires
+differing-requires g c =
     run_on_disk c.args.base.now 0 3 _ c.requires.base (omega arith)
 
 pub write_snapshot-requires-clause-base_on_disk : goal.write_snapshot-requires-clause-base_on_disk
