@@ -6,9 +6,13 @@ use Rattle.std.proofs.Math.ListN.{get_or-append}
 use Rattle.std.proofs.Math.Seq.{get_or-append_seam}
 use Rattle.std.specs.List.{All, filter, range_with_len}
 use Rattle.std.specs.List.Sorted.{IsStrictlyIncreasing}
-use Rattle.std.proofs.lemmas.Bool.{cases_lt}
+use Rattle.std.proofs.Common.{◌&&◌, not, ltb}
+use Rattle.std.specs.Str.{bytes_eq}
+use Rattle.std.proofs.lemmas.Bool.{cases_lt, le-ltb}
 use Rattle.std.proofs.lemmas.List.Elements.{filter-append, All-push}
 use Rattle.vab_disk.specs.Disk.{Image}
+use Rattle.vab_store.specs.Layout.{chunk_bytes}
+use Rattle.vab_store.specs.Writing.{block_of}
 use Rattle.vab_install.specs.Differing.{differs_at, differing_of}
 
 range_more : (a n : ℕ) → range_with_len a (suc n) ≡ range_with_len a n ++ (a + n) ∷ []
@@ -152,3 +156,47 @@ ascends_more n olds new false made is =
       below = wider n olds is.below;
       most = omega (arith, is.most);
     })
+
+-- ---- the list
+
+pub differing_ascends : (base : List ℕ) (image : Image) (staged : List ℕ) (n : ℕ)
+    → AscendsBelow n (differing_of base image staged n)
+differing_ascends base image staged zero =
+    subst (AscendsBelow 0) (sym (differing_none base image staged)) ascends_none
+differing_ascends base image staged (suc n) =
+    let one : n + 1 ≡ suc n = omega arith in
+    subst (λ (k : ℕ). AscendsBelow k (differing_of base image staged k)) one
+    (ascends_more n (differing_of base image staged n) (differing_of base image staged (n + 1))
+    (differs_at base image staged n) (differing_more base image staged n)
+    (differing_ascends base image staged n))
+
+-- it depends on the partition's blocks alone
+differs_same : (base : List ℕ) (old new : Image) (staged : List ℕ) (i : ℕ)
+    → ((k : ℕ) → k < length base → chunk_bytes base new k ≡ chunk_bytes base old k)
+    → differs_at base new staged i ≡ differs_at base old staged i
+differs_same base old new staged i same = elim (cases_lt i (length base)) [
+  | inl inside ↦
+      ap (λ (b : List ℕ). not (ltb i (length base) && bytes_eq b (block_of staged i)))
+      (same i inside)
+  | inr behind ↦
+      let past : ltb i (length base) ≡ false = le-ltb i (length base) behind in
+      ap (λ (t : Bool). not (t && bytes_eq (chunk_bytes base new i) (block_of staged i))) past
+      ∙ ap (λ (t : Bool). not (t && bytes_eq (chunk_bytes base old i) (block_of staged i)))
+      (sym past)
+]
+
+pub differing_same : (base : List ℕ) (old new : Image) (staged : List ℕ) (n : ℕ)
+    → ((k : ℕ) → k < length base → chunk_bytes base new k ≡ chunk_bytes base old k)
+    → differing_of base new staged n ≡ differing_of base old staged n
+differing_same base old new staged zero same =
+    differing_none base new staged ∙ sym (differing_none base old staged)
+differing_same base old new staged (suc n) same =
+    let one : suc n ≡ n + 1 = omega arith in
+    ap (differing_of base new staged) one
+    ∙ differing_more base new staged n
+    ∙ ap (λ (l : List ℕ). l ++ cond (differs_at base new staged n) (n ∷ []) [])
+    (differing_same base old new staged n same)
+    ∙ ap (λ (t : Bool). differing_of base old staged n ++ cond t (n ∷ []) [])
+    (differs_same base old new staged n same)
+    ∙ sym (differing_more base old staged n)
+    ∙ ap (differing_of base old staged) (sym one)

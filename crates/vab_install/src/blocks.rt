@@ -1,6 +1,6 @@
 //! The blocks of an image that differ from a partition's.
 
-ghost use Rattle.std.specs.Prelude.{◌≡◌, ◌<◌, ◌≤◌, ◌++◌, ◌^◌, [], ◌∷◌, length, if◌then◌else◌};
+ghost use Rattle.std.specs.Prelude.{◌≡◌, ◌<◌, ◌≤◌, ◌++◌, [], ◌∷◌, length, if◌then◌else◌};
 ghost use Rattle.std.specs.Prelude.{All, IfOk, OnOk};
 ghost use Rattle.std.specs.List.Sorted.{IsStrictlyIncreasing};
 ghost use Rattle.vab_disk.specs.Calls.{OnlyReads, FailsWithDisk};
@@ -57,8 +57,7 @@ pub fn differing<D: Disk>(
     image: &[u8],
     blocks: u64,
 ) -> Result<u64, DiskFault>
-    requires on_disk { IsOnDisk base.now (D.size d.old) }
-    requires small { blocks ≤ 2 ^ 28 }
+    requires { IsOnDisk base.now (D.size d.old) }
     ensures exact { D.is_modelled → IfOk result
         (λ n. n ≡ length (differing_of base.now (D.seen d.old) image.now blocks)) }
     ensures most { IfOk result (λ n. n ≤ blocks) }

@@ -15,3 +15,6 @@ pub use control::{cleared, put_info};
 pub use fault::PartFault;
 pub use mark::put_mark;
 pub use snapshot::write_snapshot;
+
+#[cfg(test)]
+mod tests;

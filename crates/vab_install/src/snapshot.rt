@@ -1,6 +1,6 @@
 //! A partition's image in an exception store.
 
-ghost use Rattle.std.specs.Prelude.{◌≡◌, ℕ, ◌<◌, ◌≤◌, ◌^◌, length, All, Ok, IfOk, OnOk};
+ghost use Rattle.std.specs.Prelude.{◌≡◌, ℕ, ◌<◌, ◌≤◌, length, All, Ok, IfOk, OnOk};
 ghost use Rattle.std.specs.List.Sorted.{IsStrictlyIncreasing};
 ghost use Rattle.vab_disk.specs.Calls.{IsAtRest, InSectors, OnlyReads, Touches, FailsWithDisk};
 ghost use Rattle.vab_space.specs.Space.{need_of};
@@ -38,8 +38,7 @@ fn make_plan<D: Disk>(
     image: &[u8],
     blocks: u64,
 ) -> Result<Plan, PartFault>
-    requires on_disk { IsOnDisk base.now (D.size d.old) }
-    requires small { blocks ≤ 2 ^ 28 }
+    requires { IsOnDisk base.now (D.size d.old) }
     ensures exact { D.is_modelled → IfOk result
         (λ p. p.olds.items ≡ differing_of base.now (D.seen d.old) image.now blocks) }
     ensures ascend { IfOk result (λ p. IsStrictlyIncreasing p.olds.items) }
@@ -105,7 +104,6 @@ pub fn write_snapshot<D: Disk>(
     requires store_on_disk { IsOnDisk store.now (D.size d.old) }
     requires apart { IsApart store.now }
     requires disjoint { AreDisjoint base.now store.now }
-    requires small { blocks ≤ 2 ^ 28 }
     requires room { D.is_modelled
         → need_of (length (differing_of base.now (D.seen d.old) image.now blocks))
         ≤ length store.now }

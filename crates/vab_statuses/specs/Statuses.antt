@@ -21,7 +21,7 @@ first_status = 2049
 
 -- one of them
 abbrev pub IsOfStatuses : ℕ → Type 0
-IsOfStatuses s = IsBetween 2049 2081 s
+IsOfStatuses s = IsBetween first_status (first_status + status_sectors) s
 
 -- ---- one sector
 
@@ -67,11 +67,11 @@ free_from at (Some s ∷ rest) = free_from (at + 1) rest
 
 -- the first sector without a status
 abbrev pub free_in : List (Option PartStatus) → Option ℕ
-free_in statuses = free_from 2049 statuses
+free_in statuses = free_from first_status statuses
 
 -- these, with a status in this sector
 abbrev pub with_status : List (Option PartStatus) → ℕ → PartStatus → List (Option PartStatus)
-with_status statuses at s = slice_set statuses (at - 2049) (Some s)
+with_status statuses at s = slice_set statuses (at - first_status) (Some s)
 
 -- two statuses are of partitions of other names
 abbrev pub AreOther : Option PartStatus → Option PartStatus → Type 0
@@ -113,22 +113,22 @@ unfoldable pub statuses_from : ℕ → Image → List (Option PartStatus)
     → Result (List (Option PartStatus)) ℕ
 statuses_from zero image done = Ok done
 statuses_from (suc n) image done =
-    go_on (entry_of (2049 + length done) done (image (2049 + length done)))
+    go_on (entry_of (first_status + length done) done (image (first_status + length done)))
     (λ status. statuses_from n image (done ++ status ∷ []))
 
 -- What the 32 sectors hold, in their order; or the first sector that is neither all zeros nor a
 -- status, or that names a partition which a sector before it names.
 unfoldable pub statuses_in : Image → Result (List (Option PartStatus)) ℕ
-statuses_in image = statuses_from 32 image []
+statuses_in image = statuses_from status_sectors image []
 
 -- no status in any of the sectors
 unfoldable pub no_statuses : List (Option PartStatus)
-no_statuses = replicate 32 None
+no_statuses = replicate status_sectors None
 
 -- the first of the sectors that is all zeros
 abbrev pub IsFirstFree : Image → Option ℕ → Type 0
 IsFirstFree image (Some at) =
     IsOfStatuses at
     × (are_zeros (image at) ≡ true)
-    × ((s : ℕ) → IsBetween 2049 at s → are_zeros (image s) ≡ false)
+    × ((s : ℕ) → IsBetween first_status at s → are_zeros (image s) ≡ false)
 IsFirstFree image None = (s : ℕ) → IsOfStatuses s → are_zeros (image s) ≡ false
