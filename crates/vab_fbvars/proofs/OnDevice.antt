@@ -1,7 +1,9 @@
 -- The variables of a kept device.
-use Rattle.std.proofs.Common.{◌≡◌, ◌∙◌, ℕ, ◌+◌, ◌*◌, ◌≤◌, inl, inr, Bool, true, false, eqb, List, [], ◌∷◌}
-use Rattle.std.proofs.Common.{length, Option, Some, None, refl, sym, ap, arith, length-append, Bor}
-use Rattle.std.specs.Prelude.{◌==◌, ◌||◌, if◌then◌else◌, is_some, All}
+use Rattle.std.proofs.Common.{◌≡◌, ◌∙◌, ℕ, ◌+◌, ◌*◌, ◌≤◌, ◌^◌, inl, inr, Bool, true, false, eqb, List, [], ◌∷◌}
+use Rattle.std.proofs.Common.{length, Option, Some, None, refl, sym, ap, subst, arith, length-append}
+use Rattle.std.proofs.Common.{Bor}
+use Rattle.std.specs.Prelude.{◌==◌, ◌||◌, if◌then◌else◌, is_some, All, map, codes}
+use Rattle.std.specs.Str.{bytes_eq}
 use Rattle.std.specs.Option.{option_map, option_and_then, option_copied}
 use Rattle.std.specs.List.{flat_map}
 use Rattle.std.proofs.lemmas.Bool.{cases_Bool}
@@ -13,12 +15,19 @@ use Rattle.vab_bootctl.specs.declared.slots.Info.{Info}
 use Rattle.vab_bootctl.specs.Boot.{info_at}
 use Rattle.vab_device.specs.declared.device.Part.{Part}
 use Rattle.vab_device.specs.declared.device.Device.{Device}
-use Rattle.vab_device.specs.Mounted.{state_on, images_on, image_on, bytes_at}
+use Rattle.vab_device.specs.declared.device.Planned.{Planned}
+use Rattle.vab_device.specs.Kept.{IsPlanned, IsPlan}
+use Rattle.vab_device.specs.Mounted.{state_on, images_on, image_on, bytes_at, entry_on, phase_on}
+use Rattle.vab_device.specs.Updates.{entry_named}
+use Rattle.vab_names.specs.Names.{is_full, base_of}
+use Rattle.vab_layout.specs.Slots.{other_slot}
+use Rattle.vab_fbvars.specs.Planned.{planned_named, kept_planned, bytes_planned}
 use Rattle.vab_model.specs.State.{image_named, info_seen}
 use Rattle.vab_manager.specs.Found.{part_named}
 use Rattle.vab_manager.specs.Blocks.{image_at, parts_at}
 use Rattle.vab_manager.proofs.BlockLaws.{image_of_part}
-use Rattle.vab_fbvars.specs.Variables.{slot_info, AreSectors}
+use Rattle.vab_fbvars.specs.Variables.{slot_info, AreSectors, planned_in, entry_size, size_planned}
+use Rattle.vab_fbvars.specs.Variables.{status_text}
 
 -- ---- boot control
 
@@ -104,3 +113,76 @@ bytes_long image size blocks whole on_disk =
     (All-weaker (λ s. s + 8 ≤ size) (λ s. length (sectors_at 8 image s) ≡ 4096)
     (λ s fits. length-sectors 8 image s (λ k lt. whole (s + k) (omega (arith, fits, lt))))
     blocks on_disk)
+
+-- ---- the plan
+
+-- nothing is merged while an update is installed
+pub status_none : (slot : ℕ) (image : Image) (plan : Option (List Planned))
+    → status_text (phase_on slot image plan) ≡ codes "OKAYnone"
+status_none slot image None = refl
+status_none slot image (Some plan) = refl
+
+entry_mapped : (image : Image) (base : List ℕ) (plan : List Planned)
+    → entry_named base (map (entry_on image) plan)
+    ≡ option_map (entry_on image) (planned_named base plan)
+entry_mapped image base [] = refl
+entry_mapped image base (p ∷ ps) = elim (cases_Bool (bytes_eq p.name base)) [
+  | inl h ↦ rw h refl
+  | inr h ↦ rw h (entry_mapped image base ps)
+]
+
+-- the planned partition of a base name
+entry_kept : (slot : ℕ) (image : Image) (base : List ℕ) (plan : Option (List Planned))
+    → entry_named base (planned_in (phase_on slot image plan))
+    ≡ option_map (entry_on image) (kept_planned base plan)
+entry_kept slot image base None = refl
+entry_kept slot image base (Some plan) = entry_mapped image base plan
+
+pub planned_on : (d : Device) (image : Image) (base : List ℕ)
+    → is_some (entry_named base (planned_in (state_on d image).phase))
+    ≡ is_some (kept_planned base d.plan)
+unfolding state_on
+planned_on d image base =
+    ap is_some (entry_kept d.mark.slot image base d.plan)
+    ∙ is_mapped (entry_on image) (kept_planned base d.plan)
+
+size_mapped : (image : Image) (o : Option Planned)
+    → entry_size (option_map (entry_on image) o) ≡ bytes_planned o
+size_mapped image None = refl
+size_mapped image (Some p) = refl
+
+pub none_planned : (slot : ℕ) (image : Image) (name : List ℕ) (plan : Option (List Planned))
+    → is_full (other_slot slot) name ≡ false
+    → size_planned (phase_on slot image plan) name ≡ None
+none_planned slot image name None other = refl
+none_planned slot image name (Some plan) other = rw other refl
+
+pub some_planned : (slot : ℕ) (image : Image) (name : List ℕ) (plan : Option (List Planned))
+    → is_full (other_slot slot) name ≡ true
+    → size_planned (phase_on slot image plan) name ≡ bytes_planned (kept_planned (base_of name) plan)
+some_planned slot image name None own = refl
+some_planned slot image name (Some plan) own =
+    rw own (ap entry_size (entry_mapped image (base_of name) plan)
+    ∙ size_mapped image (planned_named (base_of name) plan))
+
+-- the rules of a planned partition that was found
+pub planned_small : (size : ℕ) (base : List ℕ) (plan : List Planned) (p : Planned)
+    → All (IsPlanned size) plan
+    → planned_named base plan ≡ Some p
+    → length p.map ≤ 2 ^ 28
+planned_small size base [] p each is = absurd cc
+planned_small size base (q ∷ qs) p each is = elim (cases_Bool (bytes_eq q.name base)) [
+  | inl h ↦
+      let here : Some q ≡ Some p = rw h at is in
+      let same : q ≡ p = cc in
+      subst (λ (x : Planned). length x.map ≤ 2 ^ 28) same (All-head (IsPlanned size) q qs each).small
+  | inr h ↦
+      planned_small size base qs p (All-tail (IsPlanned size) q qs each) (rw h at is)
+]
+
+pub kept_small : (size : ℕ) (base : List ℕ) (plan : Option (List Planned)) (p : Planned)
+    → IsPlan size plan
+    → kept_planned base plan ≡ Some p
+    → length p.map ≤ 2 ^ 28
+kept_small size base None p are is = absurd cc
+kept_small size base (Some plan) p are is = planned_small size base plan p are.each is

@@ -1,5 +1,6 @@
 -- The variables of a device, and what is told of them.
-use Rattle.std.specs.Prelude.{◌≡◌, ℕ, ◌<◌, Bool, true, false, not, ◌||◌, List, length, ◌++◌, codes}
+use Rattle.std.specs.Prelude.{◌≡◌, ℕ, ◌*◌, ◌<◌, Bool, true, false, not, ◌||◌, List, [], length}
+use Rattle.std.specs.Prelude.{◌++◌, codes}
 use Rattle.std.specs.Prelude.{decimal, if◌then◌else◌, Option, Some, None, is_some}
 use Rattle.std.specs.Option.{option_map}
 use Rattle.vab_disk.specs.Disk.{Image}
@@ -8,7 +9,11 @@ use Rattle.vab_bootctl.specs.Boot.{info_at, is_bootable}
 use Rattle.vab_model.specs.declared.state.State.{State}
 use Rattle.vab_model.specs.declared.state.Phase.{Phase}
 use Rattle.vab_model.specs.declared.state.Phase.TheVariants.{Idle, Installing, Staged, Merging}
+use Rattle.vab_names.specs.Names.{is_full, base_of}
+use Rattle.vab_layout.specs.Slots.{other_slot}
+use Rattle.vab_model.specs.declared.state.PlanEntry.{PlanEntry}
 use Rattle.vab_model.specs.State.{images_at}
+use Rattle.vab_device.specs.Updates.{entry_named}
 use Rattle.vab_model.specs.Effects.{Found, Image_is, Refused_by, found_of}
 use Rattle.vab_manager.specs.Blocks.{image_at}
 use Rattle.vab_fbproto.specs.Texts.{slot_letter}
@@ -44,18 +49,43 @@ tries_left None = 0
 
 -- ---- images
 
--- a slot has an image of this base name
+-- the partitions that are planned, while an update is installed
+abbrev pub planned_in : Phase → List PlanEntry
+planned_in Idle = []
+planned_in (Installing source plan) = plan
+planned_in (Staged source left) = []
+planned_in (Merging target left) = []
+
+-- a slot has an image of this base name, or such a partition is planned
 abbrev pub has_base : State → List ℕ → Bool
-has_base s base = is_some (image_at s 0 base) || is_some (image_at s 1 base)
+has_base s base =
+    is_some (image_at s 0 base)
+    || (is_some (image_at s 1 base) || is_some (entry_named base (planned_in s.phase)))
 
 -- the bytes of an image that was found
 abbrev pub size_found : Found → Option ℕ
 size_found (Image_is image) = Some (length image.bytes)
 size_found (Refused_by refusal) = None
 
--- the size of the image of this name, where there is one
+abbrev pub entry_size : Option PlanEntry → Option ℕ
+entry_size None = None
+entry_size (Some e) = Some (4096 * e.blocks)
+
+-- the size of the planned partition of this name, while an update is installed
+abbrev pub size_planned : Phase → List ℕ → Option ℕ
+size_planned Idle name = None
+size_planned (Installing source plan) name =
+    if is_full (other_slot source) name then entry_size (entry_named (base_of name) plan) else None
+size_planned (Staged source left) name = None
+size_planned (Merging target left) name = None
+
+abbrev pub or_else : Option ℕ → Option ℕ → Option ℕ
+or_else (Some size) other = Some size
+or_else None other = other
+
+-- the size of the image of this name, or of such a partition that is planned, where there is one
 abbrev pub size_of : State → List ℕ → Option ℕ
-size_of s name = size_found (found_of s name)
+size_of s name = or_else (size_found (found_of s name)) (size_planned s.phase name)
 
 -- ---- texts
 

@@ -11,7 +11,7 @@ use crate::images::{has_base, size_of};
 use crate::put_hexadecimal;
 use crate::slots::{is_successful, is_unbootable, slot_info, tries_left};
 use arrayvec::ArrayVec;
-use vab_device::{Device, PhaseKind};
+use vab_device::Device;
 use vab_fbproto::{Var, put, put_decimal, slot_letter};
 
 // `yes` or `no`.
@@ -85,9 +85,8 @@ pub fn variable(device: &Device, variable: &Var, out: &mut ArrayVec<u8, 256>)
         Var::SlotRetryCount(slot) => put_count(tries_left(slot_info(device, *slot)), out),
         Var::PartitionSize(name) => put_size(size_of(device, name), out),
         Var::IsLogical(name) => put_answer(size_of(device, name).is_some(), out),
-        Var::SnapshotUpdateStatus => match device.phase() {
-            PhaseKind::Idle => put(b"OKAYnone", out),
-        },
+        // Nothing is merged yet.
+        Var::SnapshotUpdateStatus => put(b"OKAYnone", out),
         Var::Unknown => put(b"FAILunknown variable", out),
     }
 }

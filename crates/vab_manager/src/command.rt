@@ -16,16 +16,25 @@ use vab_disk::Disk;
 use vab_gate::DiskFault;
 use vab_model::{Command, Refusal, Reply};
 
+// Why a command on an update is refused: as it is where there is none, or since there is one.
+#[tactic(auto, unfolding(vab_device::specs::Mounted::state_on))]
+fn refusal_on(device: &Device, refusal: Refusal) -> Refusal
+    ensures { (image : Image)
+        → result ≡ unless_idle (state_on device.now image).phase refusal }
+{
+    match &device.plan {
+        None => refusal,
+        Some(_) => Refusal::NotIdle,
+    }
+}
+
 // A command on an update, which is refused so where there is none.
 fn refuse_update(device: Device, refusal: Refusal) -> (Device, Reply)
     ensures device { result.0 ≡ device }
     ensures reply { (image : Image)
         → result.1 ≡ Reply.Refused (unless_idle (state_on device image).phase refusal) }
 {
-    let refusal = match device.plan {
-        None => refusal,
-        Some(_) => Refusal::NotIdle,
-    };
+    let refusal = refusal_on(&device, refusal);
     (device, Reply::Refused(refusal))
 }
 

@@ -2,7 +2,9 @@ use Rattle.std.proofs.Common.{◌∙◌, ℕ, ◌*◌, Some, length, sym, ap, ar
 use Rattle.vab_names.specs.Names.{base_of}
 use Rattle.vab_device.specs.declared.device.Part.{Part}
 use Rattle.vab_manager.proofs.BlockLaws.{kept_once, part_kept}
-use Rattle.vab_fbvars.specs.Variables.{size_found}
+use Rattle.vab_model.specs.Effects.{Found}
+use Rattle.vab_device.specs.Mounted.{state_on}
+use Rattle.vab_fbvars.specs.Variables.{size_found, size_planned, or_else}
 use Rattle.vab_fbvars.proofs.OnDevice.{bytes_long}
 use Rattle.vab_fbvars.proofs.images.size_of.Goals as goal
 
@@ -22,9 +24,17 @@ returns-in-Ok c = λ size image is sectors.
     let found = c.in-Ok.ensures.image image in
     let kept = part_kept d size slot base found.2 is found.3 in
     let same = kept_once d slot base found.2 part.2 found.3 part.3 in
-    ap size_found found.1
+    ap (λ (f : Found). or_else (size_found f) (size_planned (state_on d image).phase c.args.name.now))
+    found.1
     ∙ ap (λ (n : ℕ). Some n)
     (ap length found.4
     ∙ bytes_long image size found.2.map sectors kept.on_disk
     ∙ ap (λ (p : Part). 4096 * length p.map) same
     ∙ ap (λ (n : ℕ). 4096 * n) (sym part.4))
+
+pub returns-in-Err : goal.returns-in-Err
+returns-in-Err c = λ size image is sectors.
+    let d = c.args.device.now in
+    ap (λ (f : Found). or_else (size_found f) (size_planned (state_on d image).phase c.args.name.now))
+    (c.in-Err.ensures.refused image)
+    ∙ c.planned_size.ensures image

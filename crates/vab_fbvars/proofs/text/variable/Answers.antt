@@ -4,6 +4,7 @@ use Rattle.vab_fbproto.specs.declared.request.Var.{Var}
 use Rattle.vab_fbproto.specs.Requests.{variable_of}
 use Rattle.vab_fbproto.specs.Texts.{slot_letter}
 use Rattle.vab_fbvars.specs.Variables.{variable_text}
+use Rattle.vab_fbvars.proofs.OnDevice.{status_none}
 use Rattle.vab_fbvars.proofs.text.variable.Goals as goal
 
 pub returns-in-CurrentSlot-clause-text : goal.returns-in-CurrentSlot-clause-text
@@ -17,7 +18,9 @@ returns-in-CurrentSlot-clause-text c = λ size image is sectors.
 pub returns-in-SnapshotUpdateStatus-clause-text : goal.returns-in-SnapshotUpdateStatus-clause-text
 unfolding state_on variable_text
 returns-in-SnapshotUpdateStatus-clause-text c = λ size image is sectors.
+    let d = c.args.device.now in
     c.put-in-SnapshotUpdateStatus.ensures.text
     ∙ ap (λ (l : List ℕ). l ++ codes "OKAYnone") c.requires.empty
-    ∙ ap (λ (v : Var). variable_text (state_on c.args.device.now image) (variable_of v))
+    ∙ sym (status_none d.mark.slot image d.plan)
+    ∙ ap (λ (v : Var). variable_text (state_on d image) (variable_of v))
     (sym c.in-SnapshotUpdateStatus.is)

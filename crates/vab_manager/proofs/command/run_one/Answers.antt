@@ -60,55 +60,55 @@ pub returns-in-Resize : goal.returns-in-Resize
 unfolding effect
 returns-in-Resize g c =
     updated g.D.Disk c.args.device (command_of c.args.command.now) NotInstalling c.args.d.now
-    c.refuse_update.result c.requires.kept c.requires.represents
+    c.refuse_update-in-Resize.result c.requires.kept c.requires.represents
     (λ image. ap (λ (k : CommandOfCode). effect_in (mounted_on c.args.device image) (command_of k))
     c.in-Resize.is)
-    c.refuse_update.ensures.device c.refuse_update.ensures.reply
+    c.refuse_update-in-Resize.ensures.device c.refuse_update-in-Resize.ensures.reply
 
 pub returns-in-Delete : goal.returns-in-Delete
 unfolding effect
 returns-in-Delete g c =
     updated g.D.Disk c.args.device (command_of c.args.command.now) NotInstalling c.args.d.now
-    c.refuse_update.result c.requires.kept c.requires.represents
+    c.refuse_update-in-Delete.result c.requires.kept c.requires.represents
     (λ image. ap (λ (k : CommandOfCode). effect_in (mounted_on c.args.device image) (command_of k))
     c.in-Delete.is)
-    c.refuse_update.ensures.device c.refuse_update.ensures.reply
+    c.refuse_update-in-Delete.ensures.device c.refuse_update-in-Delete.ensures.reply
 
 pub returns-in-Snapshot : goal.returns-in-Snapshot
 unfolding effect
 returns-in-Snapshot g c =
     updated g.D.Disk c.args.device (command_of c.args.command.now) NotInstalling c.args.d.now
-    c.refuse_update.result c.requires.kept c.requires.represents
+    c.refuse_update-in-Snapshot.result c.requires.kept c.requires.represents
     (λ image. ap (λ (k : CommandOfCode). effect_in (mounted_on c.args.device image) (command_of k))
     c.in-Snapshot.is)
-    c.refuse_update.ensures.device c.refuse_update.ensures.reply
+    c.refuse_update-in-Snapshot.ensures.device c.refuse_update-in-Snapshot.ensures.reply
 
 pub returns-in-Flash : goal.returns-in-Flash
 unfolding effect
 returns-in-Flash g c =
     updated g.D.Disk c.args.device (command_of c.args.command.now) NotInstalling c.args.d.now
-    c.refuse_update.result c.requires.kept c.requires.represents
+    c.refuse_update-in-Flash.result c.requires.kept c.requires.represents
     (λ image. ap (λ (k : CommandOfCode). effect_in (mounted_on c.args.device image) (command_of k))
     c.in-Flash.is)
-    c.refuse_update.ensures.device c.refuse_update.ensures.reply
+    c.refuse_update-in-Flash.ensures.device c.refuse_update-in-Flash.ensures.reply
 
 pub returns-in-Finish : goal.returns-in-Finish
 unfolding effect
 returns-in-Finish g c =
     updated g.D.Disk c.args.device (command_of c.args.command.now) NotInstalling c.args.d.now
-    c.refuse_update.result c.requires.kept c.requires.represents
+    c.refuse_update-in-Finish.result c.requires.kept c.requires.represents
     (λ image. ap (λ (k : CommandOfCode). effect_in (mounted_on c.args.device image) (command_of k))
     c.in-Finish.is)
-    c.refuse_update.ensures.device c.refuse_update.ensures.reply
+    c.refuse_update-in-Finish.ensures.device c.refuse_update-in-Finish.ensures.reply
 
 pub returns-in-Cancel : goal.returns-in-Cancel
 unfolding effect
 returns-in-Cancel g c =
     updated g.D.Disk c.args.device (command_of c.args.command.now) NothingToCancel c.args.d.now
-    c.refuse_update.result c.requires.kept c.requires.represents
+    c.refuse_update-in-Cancel.result c.requires.kept c.requires.represents
     (λ image. ap (λ (k : CommandOfCode). effect_in (mounted_on c.args.device image) (command_of k))
     c.in-Cancel.is)
-    c.refuse_update.ensures.device c.refuse_update.ensures.reply
+    c.refuse_update-in-Cancel.ensures.device c.refuse_update-in-Cancel.ensures.reply
 
 pub returns-in-BeginMerge : goal.returns-in-BeginMerge
 unfolding effect
