@@ -26,7 +26,7 @@ const SUM: [u8; 32] = [
     36, 189, 81, 35, 95, 49, 31, 50, 170, 245, 252, 66,
 ];
 
-pub fn set_of_one(alloc: Global) -> Result<Set, Fail>
+pub fn set_of_one(alloc: Global) -> Result<Set<'static>, Fail>
     ensures { IfOk result (λ set. IsSet set) }
 {
     match read_set(alloc, &ONE) {

@@ -13,7 +13,7 @@ const ONE: [u8; 41] = [
     0, 0, 0, 0, 0, 0, 0, 0, 3, 0, 0, 0, 0, 0, 0, 0, b'a', b'b', b'c',
 ];
 
-fn set_of_one(alloc: Global) -> Result<Set, Fail>
+fn set_of_one(alloc: Global) -> Result<Set<'static>, Fail>
     ensures { IfOk result (λ set. IsSet set) }
 {
     match read_set(alloc, &ONE) {

@@ -6,9 +6,9 @@ ghost use Rattle.vab_set.specs.Spelling.{IsSet, set_text};
 ghost use Rattle.vab_set.specs.Reading.{Gives, taken, number_at, base_of, first_named, text_at};
 ghost use Rattle.vab_set.specs.Reading.{new_name, size_at, image_at, images_at, count_at, set_of};
 
-use crate::{Set, SetFault, SetImage};
+use crate::{Content, Set, SetFault, SetImage};
 use std::alloc::Global;
-use vab_bytes::{Bytes, Listing, Name36, le32_at, le64_at};
+use vab_bytes::{Listing, Name36, le32_at, le64_at};
 use vab_names::parse_base;
 
 const MAGIC: &[u8; 8] = b"VABSET1\n";
@@ -89,10 +89,9 @@ fn read_size(image: usize, max: u64, bytes: &[u8]) -> Result<(u64, &[u8]), SetFa
 // The next image, behind these.
 #[tactic(auto, unfolding(crate::specs::Reading::image_at))]
 fn read_image<'a>(
-    alloc: Global,
-    images: &[SetImage],
+    images: &[SetImage<'a>],
     bytes: &'a [u8],
-) -> Result<(SetImage, &'a [u8]), SetFault>
+) -> Result<(SetImage<'a>, &'a [u8]), SetFault>
     ensures { Gives (λ x. (x.0, x.1.now)) result (image_at images.now bytes.now) }
 {
     let image = images.len();
@@ -102,7 +101,7 @@ fn read_image<'a>(
     let (store, rest) = read_number(image, rest)?;
     let (len, rest) = read_size(image, size, rest)?;
     let (content, rest) = take(image, len as usize, rest)?;
-    let bytes = Bytes::from_vec(Vec::from_slice(alloc, content)?);
+    let bytes = Content::from_slice(content);
     Ok((
         SetImage {
             name,
@@ -115,13 +114,17 @@ fn read_image<'a>(
 }
 
 // So many images, and nothing behind them.
-fn read_images(alloc: Global, count: u32, bytes: &[u8]) -> Result<Vec<SetImage>, SetFault>
+fn read_images<'a>(
+    alloc: Global,
+    count: u32,
+    bytes: &'a [u8],
+) -> Result<Vec<SetImage<'a>>, SetFault>
     ensures { Gives (λ v. v.items) result (images_at count [] bytes.now) }
 {
     let mut images = Vec::new(alloc);
     let mut rest = bytes;
     for _ in 0..count {
-        let (image, after) = read_image(alloc, &images, rest)?;
+        let (image, after) = read_image(&images, rest)?;
         images.push(image)?;
         rest = after;
     }
@@ -150,7 +153,7 @@ fn read_count(bytes: &[u8]) -> Result<(u32, &[u8]), SetFault>
 }
 
 #[tactic(auto, unfolding(crate::specs::Reading::set_of))]
-fn read_all(alloc: Global, bytes: &[u8]) -> Result<Vec<SetImage>, SetFault>
+fn read_all<'a>(alloc: Global, bytes: &'a [u8]) -> Result<Vec<SetImage<'a>>, SetFault>
     ensures { Gives (λ v. v.items) result (set_of bytes.now) }
 {
     let (count, rest) = read_count(bytes)?;
@@ -160,8 +163,8 @@ fn read_all(alloc: Global, bytes: &[u8]) -> Result<Vec<SetImage>, SetFault>
 /// The set that the bytes spell, all of the bytes: the magic `VABSET1\n`, the count as four bytes,
 /// and for each image the length of its name as a byte, its name, the sizes of its partition and of
 /// its store and the length of its bytes as eight bytes each, and its bytes. Numbers have the low
-/// byte first.
-pub fn read_set(alloc: Global, bytes: &[u8]) -> Result<Set, SetFault>
+/// byte first. The images' bytes stay where they are.
+pub fn read_set<'a>(alloc: Global, bytes: &'a [u8]) -> Result<Set<'a>, SetFault>
     // What is read is spelled so.
     ensures found { IfOk result (λ s. IsSet s × (bytes.now ≡ set_text s)) }
     // What is spelled so is read, unless memory is refused.

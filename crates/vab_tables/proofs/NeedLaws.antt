@@ -34,8 +34,8 @@ header_same : (a b : List ℕ) (n : ℕ) → SameFront a b n → has_header a �
 unfolding has_header
 header_same a b n s =
     let p = parts_of a b n s in
-    let long_a : leb 128 (length a) ≡ true = le-leb 128 (length a) (omega (arith, s.header, s.first))
-    in
+    let long_a : leb 128 (length a) ≡ true =
+    le-leb 128 (length a) (omega (arith, s.header, s.first)) in
     let long_b : leb 128 (length b) ≡ true =
     le-leb 128 (length b) (omega (arith, s.header, s.second)) in
     rw (long_a, long_b, p.magic) refl
@@ -49,8 +49,8 @@ unfolding has_version
 version_same a b n s =
     let p = parts_of a b n s in
     let fields : Bool =
-    eqb (major_at b) 10 && leb (minor_at b) 2 && eqb (header_size_at b) (header_size_of (minor_at b))
-    in
+    eqb (major_at b) 10 && leb (minor_at b) 2
+    && eqb (header_size_at b) (header_size_of (minor_at b)) in
     let same_fields : (eqb (major_at a) 10 && leb (minor_at a) 2
     && eqb (header_size_at a) (header_size_of (minor_at a)))
     ≡ fields = rw (p.major, p.minor, p.header_size) refl in
@@ -279,7 +279,8 @@ same_read : (max : ℕ) (a b : List ℕ) (n : ℕ)
     → table_of max a ≡ table_of max b
 same_read max a b n s need = elim (cases_Bool (has_whole_header b)) [
   | inr f ↦
-      fault_read max a (whole_same a b n s ∙ f) ∙ ap (λ (x : TableFault). Err x) (fault_same a b n s)
+      fault_read max a (whole_same a b n s ∙ f)
+      ∙ ap (λ (x : TableFault). Err x) (fault_same a b n s)
       ∙ sym (fault_read max b f)
   | inl t ↦
       let w = whole_header b t in

@@ -40,6 +40,7 @@ use Rattle.vab_pack.specs.Asked.{Asked}
 use Rattle.vab_pack.specs.Images.{image_of}
 use Rattle.vabpack.specs.Packed.{
   Contents,
+  Failing,
   IsImageOf,
   AreImagesOf,
   IsOfFile,
@@ -97,14 +98,14 @@ goes_on files asked i images a image lt at are is =
     subst (λ (l : List Asked). AreImagesOf files l (images ++ image ∷ [])) (sym last)
     (pushed files (take i asked) images a image are is)
 
-pub stops : (files : Contents) (asked : List Asked) (i : ℕ) (images : List SetImage) (a : Asked)
-    (refusal : Refusal)
+pub stops : (files : Contents) (fails : Failing) (asked : List Asked) (i : ℕ)
+    (images : List SetImage) (a : Asked) (refusal : Refusal)
     → i < length asked
     → a ≡ get_or asked i a
     → AreImagesOf files (take i asked) images
-    → IsOfFile files a refusal
-    → StopsAt files asked refusal
-stops files asked i images a refusal lt at are is =
+    → IsOfFile files fails a refusal
+    → StopsAt files fails asked refusal
+stops files fails asked i images a refusal lt at are is =
     let first : drop i asked ≡ get_or asked i a ∷ drop (i + 1) asked =
     rw add-one (drop-cons asked i a lt) in
     let here : drop i asked ≡ a ∷ drop (i + 1) asked =

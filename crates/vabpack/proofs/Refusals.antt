@@ -30,6 +30,7 @@ use Rattle.vab_set.specs.Spelling.{IsSet, set_text, images_text}
 use Rattle.vab_pack.specs.Asked.{Asked, Ask, word_of}
 use Rattle.vabpack.specs.Packed.{
   Contents,
+  Failing,
   AreImagesOf,
   IsSetOf,
   IsLong,
@@ -43,26 +44,26 @@ use Rattle.vabpack.proofs.Images.{none_long, known_same, known_at}
 use Rattle.vabpack.specs.declared.refusal.Refusal.{Refusal}
 use Rattle.vabpack.specs.declared.refusal.Refusal.TheVariants as refusals
 
-about_files : (files : Contents) (asked : List Asked) (e : Refusal)
+about_files : (files : Contents) (fails : Failing) (asked : List Asked) (e : Refusal)
     → HasLong files asked
-    → IsOfSet files asked e
+    → IsOfSet files fails asked e
     → IsAboutFiles e
-about_files files asked refusals.NoMemory long h = tt
-about_files files asked refusals.SetTooLarge long h = absurd (none_long files asked h.0 h.1 long)
-about_files files asked refusals.NoWords long h = absurd h.reason
-about_files files asked (refusals.Words fault) long h = absurd h.reason
-about_files files asked (refusals.TooLarge path) long h = tt
-about_files files asked (refusals.File path fault) long h = tt
+about_files files fails asked refusals.NoMemory long h = tt
+about_files files fails asked refusals.SetTooLarge long h = absurd (none_long files asked h.0 h.1 long)
+about_files files fails asked refusals.NoWords long h = absurd h.reason
+about_files files fails asked (refusals.Words fault) long h = absurd h.reason
+about_files files fails asked (refusals.TooLarge path) long h = tt
+about_files files fails asked (refusals.File path fault) long h = tt
 
-pub long_is_refused : {V : Type 0} (view : V → List ℕ) (files : Contents) (asked : List Asked)
-    (r : Result V Refusal)
+pub long_is_refused : {V : Type 0} (view : V → List ℕ) (files : Contents) (fails : Failing)
+    (asked : List Asked) (r : Result V Refusal)
     → IfOk r (λ v. IsSetOf files asked (view v))
-    → IfErr r (IsOfSet files asked)
+    → IfErr r (IsOfSet files fails asked)
     → HasLong files asked
     → IsErrAnd r IsAboutFiles
-long_is_refused view files asked (Ok v) is refused long =
+long_is_refused view files fails asked (Ok v) is refused long =
     absurd (none_long files asked is.images is.each long)
-long_is_refused view files asked (Err e) is refused long = about_files files asked e long refused
+long_is_refused view files fails asked (Err e) is refused long = about_files files fails asked e long refused
 
 not_long : (files : Contents) (asked : List Asked) (images : List SetImage) (path : List ℕ) (s :
     (before : List Asked)
@@ -81,33 +82,34 @@ not_long files asked images path s known long =
     let over : 2 ^ 32 < length there.0 = subst P there.1 (subst Q (sym s.4) long) in
     absurd (omega (arith, over, there.2))
 
-about_set : (files : Contents) (asked : List Asked) (images : List SetImage) (e : Refusal)
+about_set : (files : Contents) (fails : Failing) (asked : List Asked) (images : List SetImage)
+    (e : Refusal)
     → AreKnownAs files asked images
-    → IsOfSet files asked e
+    → IsOfSet files fails asked e
     → IsAboutSet e
-about_set files asked images refusals.NoMemory known h = tt
-about_set files asked images refusals.SetTooLarge known h = tt
-about_set files asked images refusals.NoWords known h = absurd h.reason
-about_set files asked images (refusals.Words fault) known h = absurd h.reason
-about_set files asked images (refusals.TooLarge path) known h =
+about_set files fails asked images refusals.NoMemory known h = tt
+about_set files fails asked images refusals.SetTooLarge known h = tt
+about_set files fails asked images refusals.NoWords known h = absurd h.reason
+about_set files fails asked images (refusals.Words fault) known h = absurd h.reason
+about_set files fails asked images (refusals.TooLarge path) known h =
     absurd (not_long files asked images path.now (h.before, h.behind, h.at, h.whole, h.reason.0)
     known h.reason.1)
-about_set files asked images (refusals.File path fault) known h = tt
+about_set files fails asked images (refusals.File path fault) known h = tt
 
-pub large_is_refused : {V : Type 0} (view : V → List ℕ) (files : Contents) (asked : List Asked)
-    (images : List SetImage) (r : Result V Refusal)
+pub large_is_refused : {V : Type 0} (view : V → List ℕ) (files : Contents) (fails : Failing)
+    (asked : List Asked) (images : List SetImage) (r : Result V Refusal)
     → IfOk r (λ v. IsSetOf files asked (view v))
-    → IfErr r (IsOfSet files asked)
+    → IfErr r (IsOfSet files fails asked)
     → AreKnownAs files asked images
     → 2 ^ 32 < length (set_text images)
     → IsErrAnd r IsAboutSet
-large_is_refused view files asked images (Ok v) is refused known long =
+large_is_refused view files fails asked images (Ok v) is refused known long =
     let same : is.images ≡ images = known_same files asked images is.images known is.each in
     let text : length (set_text is.images) ≡ length (set_text images) =
     ap (λ (l : List SetImage). length (set_text l)) same in
     absurd (omega (arith, text, long, is.short, ap length is.spelled))
-large_is_refused view files asked images (Err e) is refused known long =
-    about_set files asked images e known refused
+large_is_refused view files fails asked images (Err e) is refused known long =
+    about_set files fails asked images e known refused
 
 -- ---- the set
 

@@ -1,6 +1,6 @@
 -- What the program's answer is, of its words and of what is known of the files that they name.
 use Rattle.std.specs.Prelude.{◌≡◌, ◌≢◌, ◌⊎◌, ℕ, ◌<◌, ◌≤◌, ◌^◌, List, [], ◌∷◌, ◌++◌, length, Option}
-use Rattle.std.specs.Prelude.{Some, IfSome, IsErrAnd, Result}
+use Rattle.std.specs.Prelude.{Some, IfSome, IsErrAnd, IsTrue, Bool, Result}
 use Rattle.vab_set.specs.declared.set.SetImage.{SetImage}
 use Rattle.vab_set.specs.Spelling.{IsImage, IsSet, set_text}
 use Rattle.vab_pack.specs.Asked.{Asked, Ask}
@@ -8,12 +8,23 @@ use Rattle.vab_pack.specs.Images.{image_of}
 use Rattle.vab_pack.specs.declared.fault.WordFault.{WordFault}
 use Rattle.vab_pack.specs.declared.fault.WordFault.TheVariants as faults
 use Rattle.vab_pack.specs.Faults.{IsFaultOf}
+use Rattle.vabpack.specs.declared.source.Unread.{Unread}
+use Rattle.vabpack.specs.declared.source.Unread.TheVariants as unread
 use Rattle.vabpack.specs.declared.refusal.Refusal.{Refusal}
 use Rattle.vabpack.specs.declared.refusal.Refusal.TheVariants as refusals
 
 -- the bytes of the file at a path, where they are known
 abbrev pub Contents : Type 0
 Contents = List ℕ → Option (List ℕ)
+
+-- whether the file at a path may fail to be opened or read
+abbrev pub Failing : Type 0
+Failing = List ℕ → Bool
+
+-- why a file isn't read, where it may fail or not
+abbrev pub IsUnread : Bool → Unread → Type 0
+IsUnread fails unread.NoMemory = Unit {0}
+IsUnread fails (unread.File fault) = IsTrue fails
 
 -- ---- the set
 
@@ -57,37 +68,41 @@ refusal_of fault = refusals.Words fault
 abbrev pub IsLong : Contents → List ℕ → Type 0
 IsLong files path = IfSome (files path) (λ bytes. 2 ^ 32 < length bytes)
 
--- why there is no image of this one: its file is too long or can't be read, or want of memory
-abbrev pub IsOfFile : Contents → Asked → Refusal → Type 0
-IsOfFile files asked (refusals.TooLarge path) =
+-- why there is no image of this one: its file is too long or failed, or want of memory
+abbrev pub IsOfFile : Contents → Failing → Asked → Refusal → Type 0
+IsOfFile files fails asked (refusals.TooLarge path) =
     (asked.path ≡ path.now) × IsLong files path.now
-IsOfFile files asked (refusals.File path fault) = asked.path ≡ path.now
-IsOfFile files asked refusals.NoMemory = Unit {0}
-IsOfFile files asked _ = ⊥
+IsOfFile files fails asked (refusals.File path fault) =
+    (asked.path ≡ path.now) × IsTrue (fails path.now)
+IsOfFile files fails asked refusals.NoMemory = Unit {0}
+IsOfFile files fails asked _ = ⊥
 
 -- the first of these without an image has none for this reason
-pub record StopsAt (files : Contents) (asked : List Asked) (refusal : Refusal) : Type 0 where
+pub record StopsAt
+    (files : Contents) (fails : Failing) (asked : List Asked) (refusal : Refusal)
+    : Type 0 where
   pub before : List Asked
   pub images : List SetImage
   pub at : Asked
   pub behind : List Asked
   pub whole : asked ≡ before ++ at ∷ behind
   pub each : AreImagesOf files before images
-  pub reason : IsOfFile files at refusal
+  pub reason : IsOfFile files fails at refusal
 
 -- why there is no set where these are asked for: a file, a set that is too long, or want of memory
-abbrev pub IsOfSet : Contents → List Asked → Refusal → Type 0
-IsOfSet files asked refusals.SetTooLarge =
+abbrev pub IsOfSet : Contents → Failing → List Asked → Refusal → Type 0
+IsOfSet files fails asked refusals.SetTooLarge =
     (images : List SetImage) × AreImagesOf files asked images × (2 ^ 32 < length (set_text images))
-IsOfSet files asked refusals.NoMemory = Unit {0}
-IsOfSet files asked refusal = StopsAt files asked refusal
+IsOfSet files fails asked refusals.NoMemory = Unit {0}
+IsOfSet files fails asked refusal = StopsAt files fails asked refusal
 
 -- why there is no set where these are the words
-abbrev pub IsCause : Contents → List (List ℕ) → Refusal → Type 0
-IsCause files words refusals.NoWords = words ≡ []
-IsCause files words (refusals.Words fault) = IsFaultOf words fault
-IsCause files words refusals.NoMemory = words ≢ []
-IsCause files words refusal = (asked : List Asked) × Ask words asked × IsOfSet files asked refusal
+abbrev pub IsCause : Contents → Failing → List (List ℕ) → Refusal → Type 0
+IsCause files fails words refusals.NoWords = words ≡ []
+IsCause files fails words (refusals.Words fault) = IsFaultOf words fault
+IsCause files fails words refusals.NoMemory = words ≢ []
+IsCause files fails words refusal =
+    (asked : List Asked) × Ask words asked × IsOfSet files fails asked refusal
 
 -- ---- where each reason holds, it comes
 

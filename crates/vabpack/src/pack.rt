@@ -13,24 +13,27 @@ ghost use Rattle.vabpack.specs.Packed.{StopsAt, IsOfSet, IsCause, RefusesWith, H
 ghost use Rattle.vabpack.specs.Packed.{IsAboutFiles, IsAboutSet, AreKnownAs};
 
 use crate::Refusal;
-use crate::source::{MAX_BYTES, Source};
+use crate::source::{MAX_BYTES, Source, Unread};
 use std::alloc::Global;
-use std::io;
 use vab_bytes::Listing;
 use vab_pack::{Entry, parse_words, set_image};
-use vab_set::{SetImage, write_set};
+use vab_set::{Set, SetImage, write_set};
 
 // The image that an entry asks for.
-fn read_image<'a, S: Source>(source: &S, entry: &Entry<'a>) -> Result<SetImage, Refusal<'a>>
+fn read_image<'a, S: Source>(
+    source: &S,
+    entry: &Entry<'a>,
+) -> Result<SetImage<'static>, Refusal<'a>>
     requires { IsAsked entry.now }
     ensures image { IfOk result (IsImageOf (S.bytes_at source.now) entry.now) }
-    ensures refused { IfErr result (IsOfFile (S.bytes_at source.now) entry.now) }
+    ensures refused { IfErr result
+        (IsOfFile (S.bytes_at source.now) (S.fails source.now) entry.now) }
 {
     let path = entry.path();
     let bytes = match source.read_file(path) {
         Ok(bytes) => bytes,
-        Err(fault) if fault.kind() == io::ErrorKind::OutOfMemory => return Err(Refusal::NoMemory),
-        Err(fault) => return Err(Refusal::File(path, fault)),
+        Err(Unread::NoMemory) => return Err(Refusal::NoMemory),
+        Err(Unread::File(fault)) => return Err(Refusal::File(path, fault)),
     };
     if bytes.len() as u64 > MAX_BYTES {
         return Err(Refusal::TooLarge(path));
@@ -43,11 +46,11 @@ fn read_images<'a, S: Source>(
     alloc: Global,
     source: &S,
     entries: &[Entry<'a>],
-) -> Result<Vec<SetImage>, Refusal<'a>>
+) -> Result<Vec<SetImage<'static>>, Refusal<'a>>
     requires { All IsAsked entries.now }
     ensures images { IfOk result (λ v. AreImagesOf (S.bytes_at source.now) entries.now v.items) }
     ensures refused { IfErr result (λ e. (e ≡ Refusal.NoMemory)
-        ⊎ StopsAt (S.bytes_at source.now) entries.now e) }
+        ⊎ StopsAt (S.bytes_at source.now) (S.fails source.now) entries.now e) }
 {
     let mut images = Vec::new(alloc);
     for entry in entries {
@@ -58,7 +61,7 @@ fn read_images<'a, S: Source>(
 }
 
 // The one spelling of a set, where it is no longer than a set may be.
-fn spell<'a>(alloc: Global, images: &Listing<SetImage>) -> Result<Vec<u8>, Refusal<'a>>
+fn spell<'a>(alloc: Global, images: &Set<'static>) -> Result<Vec<u8>, Refusal<'a>>
     requires { IsSet images.now }
     ensures spelled { IfOk result (λ v. v.items ≡ set_text images.now) }
     ensures short { IfOk result (λ v. length v.items ≤ 2 ^ 32) }
@@ -81,7 +84,8 @@ fn pack_entries<'a, S: Source>(
     requires asked { All IsAsked entries.now }
     requires names { NamesOfSet entries.now }
     ensures set { IfOk result (λ v. IsSetOf (S.bytes_at source.now) entries.now v.items) }
-    ensures refused { IfErr result (IsOfSet (S.bytes_at source.now) entries.now) }
+    ensures refused { IfErr result
+        (IsOfSet (S.bytes_at source.now) (S.fails source.now) entries.now) }
 {
     let images = Listing::from_vec(read_images(alloc, source, entries)?);
     spell(alloc, &images)
@@ -96,9 +100,10 @@ pub fn pack<'a, S: Source>(
     // What comes is the set of the files.
     ensures packed { IfOk result
         (λ v. IsPacked (S.bytes_at source.now) (map string_bytes words.entry.now) v.items) }
-    // A refusal comes only where its reason holds.
+    // A refusal comes only where its reason holds, that of a file only where this file may fail.
     ensures refused { IfErr result
-        (IsCause (S.bytes_at source.now) (map string_bytes words.entry.now)) }
+        (IsCause (S.bytes_at source.now) (S.fails source.now)
+        (map string_bytes words.entry.now)) }
     // Where there is no word, that is the refusal.
     ensures none { words.entry.now ≡ [] → IsErrAnd result (λ e. e ≡ Refusal.NoWords) }
     // Where the words have a fault, it is refused with, unless memory is refused.

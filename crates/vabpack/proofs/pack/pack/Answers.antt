@@ -24,10 +24,10 @@ pub returns-clause-long : goal.returns-clause-long
 returns-clause-long g c = λ asked asks long.
     let files = g.S.Source.bytes_at c.args.source.now in
     let is : asked ≡ c.deref.result.now = same asked c.in_ok-entries.entries.items (c.in_ok-entries.ensures.only asked asks) ∙ sym c.deref.ensures.value in
-    long_is_refused (λ v. v.items) files c.deref.result.now c.pack_entries.result c.pack_entries.ensures.set c.pack_entries.ensures.refused (subst (HasLong files) is long)
+    long_is_refused (λ v. v.items) files (g.S.Source.fails c.args.source.now) c.deref.result.now c.pack_entries.result c.pack_entries.ensures.set c.pack_entries.ensures.refused (subst (HasLong files) is long)
 
 pub returns-clause-large : goal.returns-clause-large
 returns-clause-large g c = λ asked images asks known.
     let files = g.S.Source.bytes_at c.args.source.now in
     let is : asked ≡ c.deref.result.now = same asked c.in_ok-entries.entries.items (c.in_ok-entries.ensures.only asked asks) ∙ sym c.deref.ensures.value in
-    large_is_refused (λ v. v.items) files c.deref.result.now images c.pack_entries.result c.pack_entries.ensures.set c.pack_entries.ensures.refused (subst (λ (l : List Asked). AreKnownAs files l images) is known)
+    large_is_refused (λ v. v.items) files (g.S.Source.fails c.args.source.now) c.deref.result.now images c.pack_entries.result c.pack_entries.ensures.set c.pack_entries.ensures.refused (subst (λ (l : List Asked). AreKnownAs files l images) is known)
