@@ -109,7 +109,8 @@ with_digit base value None = None
 abbrev pub digits_behind : ℕ → Option ℕ → List ℕ → Option ℕ
 digits_behind base value [] = value
 digits_behind base None (c ∷ cs) = None
-digits_behind base (Some value) (c ∷ cs) = digits_behind base (with_digit base value (digit_of c)) cs
+digits_behind base (Some value) (c ∷ cs) =
+    digits_behind base (with_digit base value (digit_of c)) cs
 
 -- the number that 1 to so many digits spell
 unfoldable pub number_in : ℕ → ℕ → List ℕ → Option ℕ

@@ -5,8 +5,8 @@ ghost use Rattle.vab_fbproto.specs.Requests.{is_delimiter, is_name, no_argument,
 ghost use Rattle.vab_fbproto.specs.Requests.{slot_argument, length_argument, count_argument};
 ghost use Rattle.vab_fbproto.specs.Requests.{sized_name, colon_argument, blank_argument};
 
-use crate::request::BadCommand;
 use crate::number::{decimal_number, number_of, short_hexadecimal};
+use crate::request::BadCommand;
 use crate::word::{split_at_blank, split_at_colon};
 
 // Whether one of the bytes is a colon or a blank.

@@ -96,8 +96,8 @@ fn is_hexadecimal(text: &[u8]) -> bool
     matches!(text, [b'0', b'x', ..])
 }
 
-/// The number that `0x` and 1 to 16 hexadecimal digits spell, or 1 to 20 decimal digits, where it is
-/// below 2^64.
+/// The number that `0x` and 1 to 16 hexadecimal digits spell, or 1 to 20 decimal digits, where it
+/// is below 2^64.
 #[tactic(auto, unfolding(crate::specs::Requests::number_of))]
 pub(crate) fn number_of(text: &[u8]) -> Option<u64>
     ensures { result ≡ number_of text.now }

@@ -3,8 +3,10 @@ ghost use Rattle.std.specs.Prelude.{◌≡◌, ◌≤◌, ◌<◌, length, Match
 ghost use Rattle.vab_fbproto.specs.Requests.{asked_of, plain, argued_variable, asked_variable};
 ghost use Rattle.vab_fbproto.specs.Requests.{update_action, asked_oem, asked_update, request_of};
 
-use crate::argument::{blank_argument, colon_argument, count_argument, length_argument};
-use crate::argument::{name_argument, no_argument, slot_argument};
+use crate::argument::{
+    blank_argument, colon_argument, count_argument, length_argument, name_argument, no_argument,
+    slot_argument,
+};
 use crate::word::{split_at_colon, split_packet};
 use vab_model::Command;
 

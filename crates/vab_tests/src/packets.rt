@@ -7,7 +7,8 @@ use std::test::Fail;
 // One image `system` of three bytes for a partition of 409600 bytes, 100 blocks.
 const SYSTEM: [u8; 46] = [
     b'V', b'A', b'B', b'S', b'E', b'T', b'1', b'\n', 1, 0, 0, 0, 6, b's', b'y', b's', b't', b'e',
-    b'm', 0, 64, 6, 0, 0, 0, 0, 0, 0, 0, 0, 0, 0, 0, 0, 0, 3, 0, 0, 0, 0, 0, 0, 0, b'a', b'b', b'c',
+    b'm', 0, 64, 6, 0, 0, 0, 0, 0, 0, 0, 0, 0, 0, 0, 0, 0, 3, 0, 0, 0, 0, 0, 0, 0, b'a', b'b',
+    b'c',
 ];
 
 // A packet and its reply.
@@ -58,11 +59,26 @@ fn each_packet_has_its_reply(rt: HostRuntime) -> Result<(), Fail> {
         (b"getvar:partition-size:a b", b"FAILbad argument"),
         (b"set_active:a", b"OKAY"),
         (b"getvar:slot-retry-count:a", b"OKAY6"),
-        (b"create-logical-partition:x_b:4096", b"FAILno update is being installed"),
-        (b"create-logical-partition:x_b:18446744073709551615", b"FAILno update is being installed"),
-        (b"resize-logical-partition:system_b:0x1000", b"FAILno update is being installed"),
-        (b"delete-logical-partition:system_b", b"FAILno update is being installed"),
-        (b"oem snapshot system_b 0", b"FAILno update is being installed"),
+        (
+            b"create-logical-partition:x_b:4096",
+            b"FAILno update is being installed",
+        ),
+        (
+            b"create-logical-partition:x_b:18446744073709551615",
+            b"FAILno update is being installed",
+        ),
+        (
+            b"resize-logical-partition:system_b:0x1000",
+            b"FAILno update is being installed",
+        ),
+        (
+            b"delete-logical-partition:system_b",
+            b"FAILno update is being installed",
+        ),
+        (
+            b"oem snapshot system_b 0",
+            b"FAILno update is being installed",
+        ),
         (b"oem finish", b"FAILno update is being installed"),
         (b"flash:system_b", b"FAILno update is being installed"),
         (b"download:00000004", b"DATA00000004"),
@@ -78,8 +94,14 @@ fn each_packet_has_its_reply(rt: HostRuntime) -> Result<(), Fail> {
         (b"oem merge 4294967296", b"FAILbad argument"),
         (b"create-logical-partition:x_b", b"FAILbad argument"),
         (b"create-logical-partition:x_b:0x", b"FAILbad argument"),
-        (b"create-logical-partition:x_b:000000000000000000001", b"FAILbad argument"),
-        (b"create-logical-partition:x_b:18446744073709551616", b"FAILbad argument"),
+        (
+            b"create-logical-partition:x_b:000000000000000000001",
+            b"FAILbad argument",
+        ),
+        (
+            b"create-logical-partition:x_b:18446744073709551616",
+            b"FAILbad argument",
+        ),
         (b"oem snapshot system_b", b"FAILbad argument"),
         (b"oem finish x", b"FAILbad argument"),
         (b"snapshot-update", b"FAILbad argument"),
