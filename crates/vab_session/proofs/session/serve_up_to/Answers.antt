@@ -1,7 +1,7 @@
 use Rattle.std.proofs.Common.{◌≡◌, ℕ, ◌+◌, ◌++◌, ◌∙◌, min, true, List, None, Err, length, take}
 use Rattle.std.proofs.Common.{drop, codes, sym, ap, subst, arith, rules, length-take, get_or}
-use Rattle.std.proofs.Common.{get_or-drop, take-append-drop}
-use Rattle.std.specs.Prelude.{is_some}
+use Rattle.std.proofs.Common.{get_or-drop, take-append-drop, Result, Ok, false}
+use Rattle.std.specs.Prelude.{is_some, is_err, OnOk}
 use Rattle.vab_disk.specs.Disk.{Image, Adds, Nothing}
 use Rattle.vab_disk.specs.Calls.{IsAtRest}
 use Rattle.vab_disk.proofs.Moments.{adds_still}
@@ -163,6 +163,11 @@ dropped_byte l n are k =
     let at : get_or (drop n l) k 0 ≡ get_or l (n + k) 0 = get_or-drop n l k 0 in
     omega (arith, are (n + k), at)
 
+-- what is promised of an Ok
+where_ok : {A E : Type 0} (r : Result A E) (P : Type 0) → is_err r ≡ false → OnOk r P → P
+where_ok (Ok x) P okay is = is
+where_ok (Err e) P okay is = absurd (let bad : true ≡ false = okay in cc)
+
 pub returns-clause-serves : goal.returns-clause-serves
 returns-clause-serves g c = λ t.
     let old = c.args.p.now in
@@ -183,7 +188,9 @@ returns-clause-serves g c = λ t.
     let lp = g.P.Disk.input_left mid in
     let left = c.say_all.ensures.left t in
     let there = device_stands device N image (c.requires.stands t) in
-    let said : g.P.Disk.told said_to ≡ g.P.Disk.told old ++ codes "FB01" = search rules in
+    let said : g.P.Disk.told said_to ≡ g.P.Disk.told old ++ codes "FB01" =
+    where_ok c.say_all.result (g.P.Disk.told said_to ≡ g.P.Disk.told old ++ codes "FB01")
+    (sym c.is_err.ensures.value ∙ c.if-is_err.false) (c.say_all.ensures.told t) in
     let rest0 : rest_of r0 l0 ≡ take most input =
     c.new-reader.ensures.rest l0 ∙ ap (take most) left in
     let beyond0 : beyond_of r0 l0 ≡ drop most input =
