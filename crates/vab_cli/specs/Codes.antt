@@ -51,6 +51,7 @@ start_status (start.BadControl fault) = NotADevice
 start_status start.BadGeometry = NotADevice
 start_status (start.BadTable slot) = NotADevice
 start_status (start.BadPartition name) = NotADevice
+start_status (start.BadStore name) = NotADevice
 start_status (start.BadState rule) = NotADevice
 start_status start.NoMemory = NoMemory
 start_status (start.Disk fault) = Disk

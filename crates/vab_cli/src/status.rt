@@ -82,6 +82,7 @@ impl From<StartFault> for Status {
             | StartFault::BadGeometry
             | StartFault::BadTable(_)
             | StartFault::BadPartition(_)
+            | StartFault::BadStore(_)
             | StartFault::BadState(_) => Status::NotADevice,
             StartFault::NoMemory => Status::NoMemory,
             StartFault::Disk(_) => Status::Disk,

@@ -1,7 +1,10 @@
 use Rattle.std.proofs.Common.{◌≡◌, ◌∙◌, ℕ, List, Ok, Some, None, ap, subst}
 use Rattle.vab_set.specs.declared.set.SetImage.{SetImage}
 use Rattle.vab_set.specs.Reading.{set_of}
+use Rattle.vab_disk.specs.Calls.{Changes, InSectors}
+use Rattle.vab_disk.proofs.CallLaws.{changes_hearing, changes_then}
 use Rattle.vab_make.specs.Made.{refusal_of}
+use Rattle.vab_make.specs.Touched.{IsOfMaking}
 use Rattle.vab_cli.specs.Codes.{make_status}
 use Rattle.vab_cli.specs.Verbs.{make_line, done_making}
 use Rattle.vab_cli.specs.Runs.{RunsRefused, RunsMaking}
@@ -68,3 +71,17 @@ returns-clause-refused g c = λ t set fits is fault refused.
     → RunsRefused g.P.Disk (g.P.Disk.size mid) (make_line fault) (make_status fault) mid new
     c.make_of.result)
     found (c.make_of.ensures.refused t fault)) refused)
+
+pub returns-clause-changes : goal.returns-clause-changes
+returns-clause-changes g c = λ t set is.
+    let old = c.args.port.now in
+    let mid = c.hear_all.new.p in
+    let new = c.make_of.new.port in
+    let W = InSectors (IsOfMaking set c.args.max) in
+    let found : c.in-Ok-read_set.set ≡ set = same_set _ _ _ set c.in-Ok-read_set.set
+    (c.in-Ok.ensures.bytes t) c.deref.ensures.value c.in-Ok-read_set.ensures.exact is in
+    changes_then g.P.Disk W old mid new
+    (changes_hearing g.P.Disk W old mid c.hear_all.ensures.size c.hear_all.ensures.seen
+    c.hear_all.ensures.crash c.hear_all.ensures.time)
+    (subst (λ (x : List SetImage). Changes g.P.Disk (InSectors (IsOfMaking x c.args.max)) mid new)
+    found (c.make_of.ensures.changes t))
