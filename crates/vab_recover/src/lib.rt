@@ -4,6 +4,7 @@
 mod judge;
 mod opening;
 mod parts;
+mod plan;
 mod read;
 mod table;
 
