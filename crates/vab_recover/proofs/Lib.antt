@@ -1,4 +1,5 @@
 pub mod DeviceLaws
 pub mod OpenLaws
 pub mod PartLaws
+pub mod PlanLaws
 pub mod ReadLaws

@@ -219,8 +219,9 @@ pub fn scan_stores<D: Disk>(
 {
     let mut scans = Vec::new(alloc);
     for entry in statuses.as_slice() {
-        if let Some(status) = entry {
-            scans.push(scan_store(alloc, d, table, status, slot)?)?;
+        match entry {
+            None => {}
+            Some(status) => scans.push(scan_store(alloc, d, table, status, slot)?)?,
         }
     }
     Ok(scans)
