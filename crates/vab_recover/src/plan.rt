@@ -14,7 +14,7 @@ ghost use Rattle.vab_store.specs.Answers.{Answers};
 ghost use Rattle.vab_store.specs.Layout.{IsOnDisk};
 ghost use Rattle.vab_store.specs.View.{Fits};
 ghost use Rattle.vab_layout.specs.Layout.{layout_of, part_of};
-ghost use Rattle.vab_layout.specs.Slots.{IsOwnPart};
+ghost use Rattle.vab_layout.specs.Slots.{IsOwnPart, other_slot};
 ghost use Rattle.vab_device.specs.Faults.{IsOfContents, IsOfDisk};
 ghost use Rattle.vab_device.specs.Phases.{store_on, planned_image, planned_on, plan_of};
 ghost use Rattle.vab_device.specs.Stores.{Wanted, first_named, wanted_of, scan_read, scans_in, exceptions_of};
@@ -22,6 +22,7 @@ ghost use Rattle.vab_recover.specs.Counts.{CountsFaults};
 ghost use Rattle.vab_recover.specs.declared.plan.Scan.{Scan};
 ghost use Rattle.vab_recover.specs.Scans.{scanned_of, scans_of, wanted_at, IsTargetTable, AreBlocks};
 ghost use Rattle.vab_recover.specs.Scans.{IsMissing, IsScanned};
+ghost use Rattle.vab_recover.specs.Opened.{stores_by, IsPlanRead};
 
 use crate::parts::{base, map};
 use std::alloc::Global;
@@ -30,6 +31,7 @@ use vab_device::{Planned, PlannedImage, StartFault};
 use vab_disk::Disk;
 use vab_gate::DiskFault;
 use vab_linear::Map;
+use vab_lpstore::Loaded;
 use vab_marks::PartStatus;
 use vab_names::{is_of_slot, store_of};
 use vab_scan::scan;
@@ -334,4 +336,37 @@ pub fn plan(
         }
     }
     Ok(Listing::from_vec(plan))
+}
+
+/// The plan of the target, while an update is installed from this slot, with what the stores hold
+/// that the statuses name.
+pub fn read_plan<D: Disk>(
+    alloc: Global,
+    d: &mut D,
+    target: &Option<Loaded>,
+    statuses: &Statuses,
+    slot: usize,
+) -> Result<Option<Listing<Planned>>, StartFault>
+    requires slot { slot < 2 }
+    requires target { IfSome target.now (λ l. IsTargetTable (other_slot slot) l.table) }
+    requires on_disk { IfSome target.now
+        (λ l. 4096 + end_of (layout_of l.table).device ≤ D.size d.old) }
+    ensures plan { IfOk result
+        (IsPlanRead D.is_modelled slot target.now statuses.now.items (D.seen d.old)) }
+    ensures fault { D.is_modelled → IfErr result (λ f. IsOfContents f
+        → scans_in (stores_by slot target.now (written_in statuses.now.items)) (D.seen d.old)
+        ≡ Err f) }
+    ensures reads { OnlyReads D.Disk d.old d.new }
+    ensures counts { CountsFaults D.Disk d.old d.new result }
+{
+    match target {
+        None => Ok(None),
+        Some(loaded) => match scan_stores(alloc, d, &loaded.table, statuses, 1 - slot) {
+            Err(fault) => Err(fault),
+            Ok(scans) => match plan(alloc, &loaded.table, 1 - slot, scans) {
+                Err(fault) => Err(fault),
+                Ok(plan) => Ok(Some(plan)),
+            },
+        },
+    }
 }

@@ -15,7 +15,7 @@ use Rattle.vab_recover.specs.declared.plan.Scan.{Scan}
 use Rattle.vab_recover.specs.Scans.{scanned_of, scans_of, wanted_at, IsScanned}
 use Rattle.vab_recover.proofs.PlanLaws.{scans_step, scans_skip}
 use Rattle.vab_recover.proofs.plan.scan_stores.Goals as goal
-use Rattle.vab_recover.proofs.plan.scan_stores.Goals.{in-Some+in_ok-scan_store+in_ok-push, in-None}
+use Rattle.vab_recover.proofs.plan.scan_stores.Goals.{in-Some+in_ok-scan_store-in-Some+in_ok-push-in-Some, in-None}
 
 pub loop-entry-preserved : goal.loop-entry-preserved
 loop-entry-preserved g c =
@@ -28,22 +28,22 @@ loop-entry-preserved g c =
     let lt : i < length all =
     omega (arith, ap length c.as_slice-entry-items.ensures.value, c.loop-entry-test.true) in
     elim c.match-entry.branch [
-      | in-Some+in_ok-scan_store+in_ok-push w ↦
+      | in-Some+in_ok-scan_store-in-Some+in_ok-push-in-Some w ↦
           let s : PartStatus = w.in-Some.status in
-          let x : Scan = w.in_ok-scan_store.field-0 in
+          let x : Scan = w.in_ok-scan_store-in-Some.field-0 in
           let done : List Scan = c.loop-entry.scans.items in
           let at : Some s ≡ get_or all i (Some s) =
           sym w.in-Some.is
           ∙ c.entry-item.is
           ∙ (λ j. get_or (c.as_slice-entry-items.ensures.value j) i (w.in-Some.is j)) in
           let more : c.match-entry.scans.items ≡ done ++ x ∷ [] =
-          ap (λ v. v.items) w.scans-is ∙ w.in_ok-push.ensures.items in
+          ap (λ v. v.items) w.scans-is ∙ w.in_ok-push-in-Some.ensures.items in
           record {
             so_far = λ t.
                 inv.so_far t
                 ∙ scans_step W all i s image done x lt at
                 (ap (λ (m : Image). wanted_at (W s) m) (sym (inv.reads.seen t))
-                ∙ w.in_ok-scan_store.ensures.ok t)
+                ∙ w.in_ok-scan_store-in-Some.ensures.ok t)
                 ∙ ap
                 (λ (l : List Scan).
                 scans_in (map W (written_in (drop (i + 1) all))) image
@@ -54,13 +54,13 @@ loop-entry-preserved g c =
                 (subst (λ (l : List Scanned). All (IsScanned c.args.slot (layout_of c.args.table.now)) l)
                 (sym (map-append scanned_of done (x ∷ [])))
                 (All-push (IsScanned c.args.slot (layout_of c.args.table.now)) (scans_of done) (scanned_of x) inv.are
-                w.in_ok-scan_store.ensures.is));
+                w.in_ok-scan_store-in-Some.ensures.is));
             reads =
                 subst (λ (e : g.row.D.Denot). OnlyReads g.D.Disk c.args.d.now e) (sym w.d-is)
-                (reads_then g.D.Disk _ _ _ inv.reads w.in_ok-scan_store.ensures.reads);
+                (reads_then g.D.Disk _ _ _ inv.reads w.in_ok-scan_store-in-Some.ensures.reads);
             steady =
                 ap g.D.Disk.faults w.d-is
-                ∙ w.in_ok-scan_store.ensures.counts.steady
+                ∙ w.in_ok-scan_store-in-Some.ensures.counts.steady
                 ∙ inv.steady;
           }
       | in-None w ↦
