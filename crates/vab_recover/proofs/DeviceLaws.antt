@@ -241,15 +241,15 @@ module _
         let x = s.1 in
         let same : Some x.part ≡ Some p =
         sym x.named
-        ∙ ap (λ (n : List ℕ). first_named n (own_parts slot l.parts)) s.2.0
+        ∙ ap (λ (n : List ℕ). first_named n (own_parts slot l.parts)) s.2
         ∙ found in
         let part_is : x.part ≡ p = cc in
         let long : length x.part.blocks ≡ length (sectors_of first p.blocks) =
         ap (λ (q : PartOfLayout). length q.blocks) part_is ∙ sym (length-sectors_of first p.blocks) in
         (
           x.store,
-          sym (ap (store_on l) s.2.0) ∙ x.stored,
-          subst (λ (es : List Exception). FitsStore (length (sectors_of first p.blocks)) x.store es) s.2.1
+          sym (ap (store_on l) s.2) ∙ x.stored,
+          subst (λ (es : List Exception). FitsStore (length (sectors_of first p.blocks)) x.store es) s.3
           (subst (λ (k : ℕ). FitsStore k x.store s.0.exceptions) long x.fits),
         ));
   }
@@ -261,7 +261,8 @@ module _
       let mine : List PartOfLayout = own_parts slot l.parts in
       let parts = parts_kept size slot g l enough layout target.own lies in
       let differ : AllPairs (λ a b. a.name ≢ b.name) mine =
-      AllPairs-filter (λ (p : PartOfLayout). is_of_slot slot p.name) (λ a b. a.name ≢ b.name) l.parts
+      AllPairs-filter (λ (a b : PartOfLayout). a.name ≢ b.name)
+      (λ (p : PartOfLayout). is_of_slot slot p.name) l.parts
       layout.part_names in
       let own : All (λ p. is_of_slot slot p.name ≡ true) mine =
       filter_passes (λ (p : PartOfLayout). is_of_slot slot p.name) l.parts in

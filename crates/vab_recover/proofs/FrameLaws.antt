@@ -355,7 +355,7 @@ opened_of d t size image m ss c g scanned is_m is_c is_g reads is control loaded
       statuses = ss;
       scanned = scanned;
       reads = all.0;
-      is = all.1.0;
-      control = all.1.1.0;
-      loaded = all.1.1.1;
+      is = all.1;
+      control = all.2;
+      loaded = all.3;
     }

@@ -1,4 +1,5 @@
 pub mod DeviceLaws
+pub mod FinishLaws
 pub mod FrameLaws
 pub mod OpenLaws
 pub mod PartLaws

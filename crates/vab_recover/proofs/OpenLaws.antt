@@ -13,13 +13,13 @@ use Rattle.vab_geometry.specs.Geometry.{IsGeometry}
 use Rattle.vab_tables.specs.Text.{IsTableText}
 use Rattle.vab_lpstore.specs.declared.loaded.Loaded.{Loaded}
 use Rattle.vab_lpstore.specs.Layout.{copy_sectors, primary_of, backup_of, primary_bytes}
-use Rattle.vab_lpstore.specs.Layout.{backup_bytes, text_sectors, BothHold}
+use Rattle.vab_lpstore.specs.Layout.{backup_bytes, text_sectors, BothHold, Begins}
 use Rattle.vab_lpstore.specs.Loading.{slot_table, IsLoaded}
 use Rattle.vab_lpstore.specs.Storing.{IsOfRepair, SameElsewhere, LeavesTable}
 use Rattle.vab_lpstore.proofs.StoreLaws.{loaded_table, both_table, text_fits, repair_elsewhere}
 use Rattle.vab_layout.specs.Slots.{other_slot}
 use Rattle.vab_device.specs.declared.device.Device.{Device}
-use Rattle.vab_device.specs.Kept.{is_installing}
+use Rattle.vab_device.specs.Kept.{is_installing, IsDevice}
 use Rattle.vab_device.specs.Phases.{Phase, phase_at}
 use Rattle.vab_device.specs.Reading.{Read, kept, device, Reads, AgreeCopies, Represents, SameRead}
 use Rattle.vab_device.proofs.ReadingLaws.{device_same, reads_kept}
@@ -27,7 +27,7 @@ use Rattle.vab_device.proofs.RepairLaws.{repair_same, primary_kept, backup_kept}
 use Rattle.vab_recover.specs.declared.table.Tables.{Tables}
 use Rattle.vab_recover.specs.Opened.{read_of, IsLoadedAt, AreLoaded, target_slots, target_tables}
 use Rattle.vab_recover.specs.Opened.{tables_of, with_tables, IsOpened, LeavesSame, IsOneOf, IsRepair}
-use Rattle.vab_recover.specs.Opened.{BothCopiesHold}
+use Rattle.vab_recover.specs.Opened.{BothCopiesHold, IsTableThere, AreTablesThere}
 use Rattle.vab_recover.proofs.FrameLaws.{tables_split}
 
 -- the table that was loaded is the slot's
@@ -113,6 +113,15 @@ module _
       subst (λ (p : List ℕ). IsLoaded g.max p (backup_bytes g j new) l) (sym primary)
       (subst (λ (b : List ℕ). IsLoaded g.max (primary_bytes g j old) b l) (sym backup) is)
 
+  pub other_holds : (text : List ℕ) → BothHold g j text old → BothHold g j text new
+  other_holds text both =
+      let primary = primary_kept g j k n old new two j_below k_below other fits others in
+      let backup = backup_kept g j k n old new two j_below k_below other fits others in
+      record {
+        primary = subst (λ (p : List ℕ). Begins p text) (sym primary) both.primary;
+        backup = subst (λ (p : List ℕ). Begins p text) (sym backup) both.backup;
+      }
+
 -- ---- the copies of both tables
 
 abbrev pub Holds : Geometry → ℕ → Image → Loaded → Type 0
@@ -151,23 +160,8 @@ target_read m is =
 
 -- ---- the device
 
--- The repaired disk is that of the device with its tables.
-pub represented : (d : Device) (t : Tables) (size : ℕ) (old new : Image)
-    → (opened : IsOpened d t size old)
-    → SameRead size (read_of d.mark opened.statuses d.control d.geometry (tables_of t) opened.scanned) old new
-    → control_of (new 4) ≡ control_of (old 4)
-    → AgreeCopies d.geometry ((phase_at d.mark.phase).tables d.mark.slot) (tables_of t) new
-    → Represents (with_tables t d) size new
-represented d t size old new opened same control copies =
-    let r : Read =
-    read_of d.mark opened.statuses d.control d.geometry (tables_of t) opened.scanned in
-    record {
-      read = r;
-      reads = reads_kept size r old new opened.reads same;
-      is = opened.is;
-      control = control ∙ opened.control;
-      copies = copies;
-    }
+some_at : (x : Option Loaded) (l : Loaded) (P : Loaded → Type 0) → x ≡ Some l → IfSome x P → P l
+some_at x l P is p = subst (λ (y : Option Loaded). IfSome y P) is p
 
 -- the boot control lies before both copies
 pub control_stays : (g : Geometry) (slot n : ℕ) (old new : Image)
@@ -179,3 +173,190 @@ control_stays g slot n old new others = others 4 (inl (omega arith)) (inl (omega
 pub on_ok : {A E : Type 0} (P Q : Type 0) (r : Result A E) → (P → Q) → OnOk r P → OnOk r Q
 on_ok P Q (Ok x) f p = f p
 on_ok P Q (Err e) f p = p
+
+module _
+    (d : Device) (t : Tables) (size : ℕ) (old : Image)
+    (kept : IsDevice (with_tables t d) size)
+    (there : AreTablesThere size d.geometry d.mark t)
+    (opened : IsOpened d t size old) where
+  read : Read
+  read = read_of d.mark opened.statuses d.control d.geometry (tables_of t) opened.scanned
+
+  pub source_repair : (s : ℕ) (b : List ℕ)
+      → IsOfRepair t.source.primary t.source.backup d.geometry d.mark.slot t.source.text s b
+      → IsRepair size old s b
+  source_repair s b writes =
+      repair_is size
+      (read_of d.mark opened.statuses d.control d.geometry (tables_of t) opened.scanned)
+      d.mark.slot t.source old kept.geometry kept.slot kept.slot there.source.fits opened.reads
+      opened.loaded.source (source_read d.mark) s b writes
+
+  pub source_flags : BothCopiesHold size old
+      → (t.source.primary ≡ true) × (t.source.backup ≡ true)
+  source_flags hold =
+      both_flags size
+      (read_of d.mark opened.statuses d.control d.geometry (tables_of t) opened.scanned)
+      d.mark.slot t.source old kept.geometry kept.slot kept.slot there.source.fits opened.reads
+      opened.loaded.source (source_read d.mark) hold
+
+  pub source_leaves : (told : List ℕ) (o : Outcome)
+      → LeavesTable told d.geometry d.mark.slot (sectors_in t.source) old t.source.table o
+      → LeavesSame told size old o
+  source_leaves told o leaves =
+      leaves_same size
+      (read_of d.mark opened.statuses d.control d.geometry (tables_of t) opened.scanned)
+      d.mark.slot t.source old kept.geometry kept.slot kept.slot there.source.fits opened.reads
+      opened.loaded.source told o leaves
+
+  installing : (l : Loaded) → t.target ≡ Some l → is_installing d.mark.phase ≡ true
+  installing l is = sym there.both ∙ ap is_some is
+
+  pub target_repair : (l : Loaded)
+      → t.target ≡ Some l
+      → (s : ℕ) (b : List ℕ)
+      → IsOfRepair l.primary l.backup d.geometry (other_slot d.mark.slot) l.text s b
+      → IsRepair size old s b
+  target_repair l is s b writes =
+      repair_is size
+      (read_of d.mark opened.statuses d.control d.geometry (tables_of t) opened.scanned)
+      (other_slot d.mark.slot) l old kept.geometry kept.slot (omega arith)
+      (some_at t.target l (IsTableThere size d.geometry) is there.target).fits opened.reads
+      (some_at t.target l (IsLoadedAt d.geometry (other_slot d.mark.slot) old) is opened.loaded.target)
+      (target_read d.mark (installing l is)) s b writes
+
+  pub target_flags : (l : Loaded)
+      → t.target ≡ Some l
+      → BothCopiesHold size old
+      → (l.primary ≡ true) × (l.backup ≡ true)
+  target_flags l is hold =
+      both_flags size
+      (read_of d.mark opened.statuses d.control d.geometry (tables_of t) opened.scanned)
+      (other_slot d.mark.slot) l old kept.geometry kept.slot (omega arith)
+      (some_at t.target l (IsTableThere size d.geometry) is there.target).fits opened.reads
+      (some_at t.target l (IsLoadedAt d.geometry (other_slot d.mark.slot) old) is opened.loaded.target)
+      (target_read d.mark (installing l is)) hold
+
+  -- ---- the source's table is repaired
+
+  module _
+      (mid : Image)
+      (but : SameBut (IsOfRepair t.source.primary t.source.backup d.geometry d.mark.slot t.source.text) old mid)
+      (held : BothHold d.geometry d.mark.slot t.source.text mid) where
+    others : SameElsewhere d.geometry d.mark.slot (sectors_in t.source) old mid
+    others =
+        repair_elsewhere t.source.primary t.source.backup d.geometry d.mark.slot t.source.text old mid but
+
+    mid_same : SameRead size
+        (read_of d.mark opened.statuses d.control d.geometry (tables_of t) opened.scanned) old mid
+    mid_same =
+        repaired_same size
+        (read_of d.mark opened.statuses d.control d.geometry (tables_of t) opened.scanned)
+        d.mark.slot t.source old kept.geometry kept.slot kept.slot there.source.fits opened.reads
+        opened.loaded.source mid others held
+
+    pub mid_means : device size mid ≡ device size old
+    mid_means =
+        device_same size
+        (read_of d.mark opened.statuses d.control d.geometry (tables_of t) opened.scanned) old mid
+        opened.reads mid_same
+
+    mid_reads : Reads size
+        (read_of d.mark opened.statuses d.control d.geometry (tables_of t) opened.scanned) mid
+    mid_reads =
+        reads_kept size
+        (read_of d.mark opened.statuses d.control d.geometry (tables_of t) opened.scanned) old mid
+        opened.reads mid_same
+
+    mid_control : control_of (mid 4) ≡ Ok d.control
+    mid_control =
+        ap control_of (control_stays d.geometry d.mark.slot (sectors_in t.source) old mid others)
+        ∙ opened.control
+
+    pub mid_represents : t.target ≡ None → Represents (with_tables t d) size mid
+    mid_represents none = record {
+      read = read_of d.mark opened.statuses d.control d.geometry (tables_of t) opened.scanned;
+      reads = mid_reads;
+      is = opened.is;
+      control = mid_control;
+      copies = copies_agree d.geometry d.mark t mid there.both (there.source.text, held)
+          (subst (λ (y : Option Loaded). IfSome y (Holds d.geometry (other_slot d.mark.slot) mid))
+          (sym none) tt);
+    }
+
+    -- ---- and then the target's
+
+    module _ (l : Loaded) (is : t.target ≡ Some l) where
+      apart : d.mark.slot ≢ other_slot d.mark.slot
+      apart e = omega (arith, e, kept.slot)
+
+      apart_too : other_slot d.mark.slot ≢ d.mark.slot
+      apart_too e = omega (arith, e, kept.slot)
+
+      l_there : IsTableThere size d.geometry l
+      l_there = some_at t.target l (IsTableThere size d.geometry) is there.target
+
+      pub mid_loaded : IsLoadedAt d.geometry (other_slot d.mark.slot) mid l
+      mid_loaded =
+          other_loaded d.geometry (other_slot d.mark.slot) d.mark.slot (sectors_in t.source) old mid
+          kept.geometry.two (omega arith) kept.slot apart_too
+          (text_fits d.geometry (length t.source.text) kept.geometry there.source.fits) others l
+          (some_at t.target l (IsLoadedAt d.geometry (other_slot d.mark.slot) old) is
+          opened.loaded.target)
+
+      pub target_leaves : (told : List ℕ) (o : Outcome)
+          → LeavesTable told d.geometry (other_slot d.mark.slot) (sectors_in l) mid l.table o
+          → LeavesSame told size old o
+      target_leaves told o leaves =
+          let same = leaves_same size
+          (read_of d.mark opened.statuses d.control d.geometry (tables_of t) opened.scanned)
+          (other_slot d.mark.slot) l mid kept.geometry kept.slot (omega arith) l_there.fits mid_reads
+          mid_loaded told o leaves in
+          record { told_so_far = same.told_so_far; same = same.same ∙ mid_means }
+
+      module _
+          (new : Image)
+          (but_too : SameBut (IsOfRepair l.primary l.backup d.geometry (other_slot d.mark.slot) l.text) mid new)
+          (held_too : BothHold d.geometry (other_slot d.mark.slot) l.text new) where
+        others_too : SameElsewhere d.geometry (other_slot d.mark.slot) (sectors_in l) mid new
+        others_too =
+            repair_elsewhere l.primary l.backup d.geometry (other_slot d.mark.slot) l.text mid new
+            but_too
+
+        new_same : SameRead size
+            (read_of d.mark opened.statuses d.control d.geometry (tables_of t) opened.scanned) mid new
+        new_same =
+            repaired_same size
+            (read_of d.mark opened.statuses d.control d.geometry (tables_of t) opened.scanned)
+            (other_slot d.mark.slot) l mid kept.geometry kept.slot (omega arith) l_there.fits
+            mid_reads mid_loaded new others_too held_too
+
+        pub new_means : device size new ≡ device size old
+        new_means =
+            device_same size
+            (read_of d.mark opened.statuses d.control d.geometry (tables_of t) opened.scanned) mid new
+            mid_reads new_same
+            ∙ mid_means
+
+        source_holds : BothHold d.geometry d.mark.slot t.source.text new
+        source_holds =
+            let fits = text_fits d.geometry (length l.text) kept.geometry l_there.fits in
+            other_holds d.geometry d.mark.slot (other_slot d.mark.slot) (sectors_in l) mid new
+            kept.geometry.two kept.slot (omega arith) apart fits others_too t.source.text held
+
+        pub new_represents : Represents (with_tables t d) size new
+        new_represents = record {
+          read = read_of d.mark opened.statuses d.control d.geometry (tables_of t) opened.scanned;
+          reads =
+              reads_kept size
+              (read_of d.mark opened.statuses d.control d.geometry (tables_of t) opened.scanned) mid
+              new mid_reads new_same;
+          is = opened.is;
+          control =
+              ap control_of
+              (control_stays d.geometry (other_slot d.mark.slot) (sectors_in l) mid new others_too)
+              ∙ mid_control;
+          copies =
+              copies_agree d.geometry d.mark t new there.both (there.source.text, source_holds)
+              (subst (λ (y : Option Loaded). IfSome y (Holds d.geometry (other_slot d.mark.slot) new))
+              (sym is) (l_there.text, held_too));
+        }
