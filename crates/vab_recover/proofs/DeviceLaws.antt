@@ -1,17 +1,15 @@
 -- What holds of a kept device over every disk.
-use Rattle.std.proofs.Common.{◌≡◌, ◌≢◌, ℕ, ◌+◌, ◌-◌, ◌*◌, ◌≤◌, ◌<◌, ◌^◌, inl, inr, true, ◌==◌, eqb, not, List, [], ◌∷◌, ◌++◌, length, get_or, Option, Some, None, refl, sym, ◌∙◌, ap, subst, arith, cond}
+use Rattle.std.proofs.Common.{◌≡◌, ◌≢◌, ℕ, ◌+◌, ◌-◌, ◌*◌, ◌≤◌, ◌<◌, ◌^◌, inl, inr, true, List, [], ◌∷◌, ◌++◌, length, get_or, Option, Some, None, refl, sym, ◌∙◌, ap, subst, arith}
 use Rattle.std.proofs.Common.{zero, suc, false}
-use Rattle.std.specs.Prelude.{map, All, AllPairs, IsTrue, is_some, if◌then◌else◌}
+use Rattle.std.specs.Prelude.{map, All, AllPairs, IsTrue, is_some}
 use Rattle.std.proofs.Math.Seq.{get_or-append_right}
 use Rattle.std.proofs.Math.ListN.{get_or-append}
-use Rattle.std.proofs.lemmas.Bool.{cases_Bool, leb-true, and_parts, eqb-true}
+use Rattle.std.proofs.lemmas.Bool.{cases_Bool, leb-true, and_parts}
 use Rattle.std.proofs.lemmas.List.{length-map, length-append, get_or-map}
 use Rattle.std.proofs.lemmas.List.Elements.{All-map, All-filter, All-cons, filter_passes}
 use Rattle.vab_names.specs.Names.{is_base, base_of, is_of_slot}
 use Rattle.vab_bootctl.specs.declared.slots.Control.{Control}
-use Rattle.vab_bootctl.specs.Control.{Fits}
 use Rattle.vab_geometry.specs.declared.geometry.Geometry.{Geometry}
-use Rattle.vab_geometry.specs.Geometry.{IsGeometry}
 use Rattle.vab_marks.specs.declared.mark.MarkPhase.TheVariants as marks
 use Rattle.vab_marks.specs.declared.mark.UpdateMark.{UpdateMark}
 use Rattle.vab_tables.specs.declared.entries.BlockDevice.{BlockDevice}
@@ -23,14 +21,10 @@ use Rattle.vab_layout.specs.Layout.{layout_of, blocks_of_parts}
 use Rattle.vab_layout.specs.Rules.{IsPart as IsPartOfLayout, IsLayout}
 use Rattle.vab_layout.proofs.LayoutLaws.{layout_keeps}
 use Rattle.vab_layout.specs.Slots.{other_slot, own_parts, IsOwn, IsDistinct}
-use Rattle.vab_device.specs.declared.device.Part.{Part}
-use Rattle.vab_device.specs.declared.device.Device.{Device}
-use Rattle.vab_device.specs.Kept.{copies_end, super_bytes, lies_in, sectors_of, part_on, parts_of}
-use Rattle.vab_device.specs.Kept.{IsPart, AreParts, ArePresent, IsTableOf, IsKeptTable, IsUpdate}
+use Rattle.vab_device.specs.Kept.{super_bytes, lies_in, sectors_of, part_on, parts_of}
+use Rattle.vab_device.specs.Kept.{IsPart, AreParts, IsTableOf}
 use Rattle.vab_device.specs.Kept.{IsDevice}
-use Rattle.vab_device.specs.Reading.{table_for, parts_for}
 use Rattle.std.specs.Prelude.{Bool, option_map, IfSome}
-use Rattle.std.specs.List.{filter}
 use Rattle.std.specs.Str.{bytes_eq}
 use Rattle.std.proofs.lemmas.Slice.Eq.{bytes_eq-Decides}
 use Rattle.std.proofs.lemmas.List.Elements.{All-head, All-tail}
@@ -43,7 +37,6 @@ use Rattle.vab_store.specs.View.{Fits as FitsStore}
 use Rattle.vab_lpstore.specs.declared.loaded.Loaded.{Loaded}
 use Rattle.vab_builder.proofs.NameCases.{store_is_store}
 use Rattle.vab_layout.specs.Slots.{store_parts, is_updated, IsTarget}
-use Rattle.vab_device.specs.declared.device.Planned.{Planned}
 use Rattle.vab_device.specs.Kept.{IsStore, IsStored, IsPlanned, ArePlanned, AreOfUpdate, IsPhase}
 use Rattle.vab_device.specs.Kept.{is_installing}
 use Rattle.vab_device.specs.Phases.{store_on, planned_image, planned_on, plan_of}

@@ -1,24 +1,23 @@
 -- What is known of a device whose parts were judged.
-use Rattle.std.proofs.Common.{◌≡◌, ◌∙◌, ℕ, ◌+◌, ◌*◌, ◌<◌, ◌≤◌, List, [], ◌∷◌, refl, sym, subst}
-use Rattle.std.specs.Prelude.{Bool, Option, Some, None, is_some, IfSome, All}
+use Rattle.std.proofs.Common.{◌≡◌, ℕ, ◌+◌, ◌≤◌, List, sym, subst}
+use Rattle.std.specs.Prelude.{Option, Some, None, IfSome, All}
 use Rattle.vab_bootctl.specs.declared.slots.Control.{Control}
 use Rattle.vab_marks.specs.declared.mark.UpdateMark.{UpdateMark}
 use Rattle.vab_marks.specs.declared.status.PartStatus.{PartStatus}
 use Rattle.vab_geometry.specs.declared.geometry.Geometry.{Geometry}
 use Rattle.vab_tables.specs.declared.table.Table.{Table}
-use Rattle.vab_tables.specs.Rules.{KeepsRules, cap_of, end_of}
+use Rattle.vab_tables.specs.Rules.{end_of}
 use Rattle.vab_lpstore.specs.declared.loaded.Loaded.{Loaded}
 use Rattle.vab_layout.specs.Layout.{layout_of}
 use Rattle.vab_layout.specs.Slots.{other_slot, IsOwn}
 use Rattle.vab_device.specs.declared.device.Device.{Device}
 use Rattle.vab_device.specs.declared.device.Planned.{Planned}
-use Rattle.vab_device.specs.Kept.{IsTableOf, ArePlanned, AreOfUpdate, IsDevice, is_installing}
+use Rattle.vab_device.specs.Kept.{IsTableOf, ArePlanned, AreOfUpdate, IsDevice}
 use Rattle.vab_device.specs.Phases.{plan_of}
-use Rattle.vab_device.specs.Reading.{kept}
 use Rattle.vab_device.specs.Stores.{Scanned}
 use Rattle.vab_recover.specs.declared.table.Tables.{Tables}
 use Rattle.vab_recover.specs.Scans.{IsScanned, IsTargetTable}
-use Rattle.vab_recover.specs.Opened.{read_of, target_tables, tables_of, with_tables, AreHeads}
+use Rattle.vab_recover.specs.Opened.{with_tables, AreHeads}
 use Rattle.vab_recover.specs.Opened.{IsTableThere, AreTablesThere, IsAssembled, plan_by}
 use Rattle.vab_recover.proofs.DeviceLaws.{device_kept, plan_kept, target_table, target_on_disk}
 use Rattle.vab_recover.proofs.FrameLaws.{kept_is}

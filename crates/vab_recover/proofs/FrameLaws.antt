@@ -1,7 +1,7 @@
 -- What a disk means by what was read of it in front of its stores, and the device that is kept.
-use Rattle.std.proofs.Common.{◌≡◌, ◌∙◌, inl, inr, ℕ, zero, suc, ◌<◌, true, false, leb, List, [], ◌∷◌}
+use Rattle.std.proofs.Common.{◌≡◌, ◌∙◌, inl, inr, ℕ, zero, suc, ◌<◌, true, false, List, [], ◌∷◌}
 use Rattle.std.proofs.Common.{Result, Ok, Err, refl, sym, ap, subst, arith}
-use Rattle.std.specs.Prelude.{Bool, Option, Some, None, is_some, map, ◌==◌, if◌then◌else◌}
+use Rattle.std.specs.Prelude.{Bool, Option, Some, None, is_some, ◌==◌, if◌then◌else◌}
 use Rattle.vab_disk.specs.Disk.{Image}
 use Rattle.vab_bootctl.specs.declared.slots.Control.{Control}
 use Rattle.vab_bootctl.specs.Control.{control_of}
@@ -12,23 +12,21 @@ use Rattle.vab_marks.specs.declared.status.PartStatus.{PartStatus}
 use Rattle.vab_statuses.specs.Statuses.{written_in}
 use Rattle.vab_geometry.specs.declared.geometry.Geometry.{Geometry}
 use Rattle.vab_tables.specs.declared.table.Table.{Table}
-use Rattle.vab_tables.specs.Rules.{cap_of}
 use Rattle.vab_lpstore.specs.declared.loaded.Loaded.{Loaded}
 use Rattle.vab_layout.specs.Layout.{layout_of}
 use Rattle.vab_layout.specs.Slots.{other_slot}
 use Rattle.vab_device.specs.declared.fault.StartFault.{StartFault}
 use Rattle.vab_device.specs.declared.device.Device.{Device}
-use Rattle.vab_device.specs.declared.device.Part.{Part}
 use Rattle.vab_device.specs.declared.device.Planned.{Planned}
-use Rattle.vab_device.specs.Checks.{first_fault, ◌>>=◌}
+use Rattle.vab_device.specs.Checks.{first_fault}
 use Rattle.vab_device.specs.Idle.{control_read_of}
-use Rattle.vab_device.specs.Kept.{is_installing, IsPhase, parts_of, limits_of}
-use Rattle.vab_device.specs.Phases.{Phase, phase_at, own_check, slot_checks}
-use Rattle.vab_device.specs.Reading.{Read, mark_in, statuses_at, control_read, control_in}
+use Rattle.vab_device.specs.Kept.{is_installing, IsPhase, parts_of}
+use Rattle.vab_device.specs.Phases.{phase_at, own_check, slot_checks}
+use Rattle.vab_device.specs.Reading.{Read, control_in}
 use Rattle.vab_device.specs.Reading.{geometry_at, table_at, tables_in, table_for, parts_for}
-use Rattle.vab_device.specs.Reading.{part_fault, state_fault, stores_of, kept, device, Reads}
+use Rattle.vab_device.specs.Reading.{state_fault, stores_of, kept, device, Reads}
 use Rattle.vab_device.specs.Stores.{Wanted, Scanned, scans_in}
-use Rattle.vab_device.proofs.OpeningLaws.{device_no_statuses, device_no_control, device_no_geometry}
+use Rattle.vab_device.proofs.OpeningLaws.{device_no_control, device_no_geometry}
 use Rattle.vab_device.proofs.OpeningLaws.{device_no_tables, device_judged, device_scanned}
 use Rattle.vab_device.proofs.OpeningLaws.{device_stated, reads_of, control_seen_in, or_first}
 use Rattle.vab_device.proofs.ReadingLaws.{FrameReads, state_single, seen_single}

@@ -1,13 +1,11 @@
 -- What a repair of a table leaves of the device that was read.
-use Rattle.std.proofs.Common.{◌≡◌, ◌≢◌, ◌⊎◌, ◌∙◌, inl, inr, ℕ, ◌-◌, ◌≤◌, ◌<◌, true, false, List, [], ◌∷◌}
+use Rattle.std.proofs.Common.{◌≡◌, ◌≢◌, ◌∙◌, inl, inr, ℕ, ◌≤◌, ◌<◌, true, false, List, [], ◌∷◌}
 use Rattle.std.proofs.Common.{length, Result, Ok, Err, refl, sym, ap, subst, arith}
-use Rattle.std.specs.Prelude.{Bool, Option, Some, None, is_some, IfSome, OnOk, ◌==◌, if◌then◌else◌}
+use Rattle.std.specs.Prelude.{Bool, Option, Some, None, is_some, IfSome, OnOk, if◌then◌else◌}
 use Rattle.vab_disk.specs.Disk.{Image, Outcome}
 use Rattle.vab_disk.specs.Calls.{SameBut}
-use Rattle.vab_bootctl.specs.declared.slots.Control.{Control}
 use Rattle.vab_bootctl.specs.Control.{control_of}
 use Rattle.vab_marks.specs.declared.mark.UpdateMark.{UpdateMark}
-use Rattle.vab_marks.specs.declared.status.PartStatus.{PartStatus}
 use Rattle.vab_geometry.specs.declared.geometry.Geometry.{Geometry}
 use Rattle.vab_geometry.specs.Geometry.{IsGeometry}
 use Rattle.vab_tables.specs.Text.{IsTableText}
@@ -20,12 +18,12 @@ use Rattle.vab_lpstore.proofs.StoreLaws.{loaded_table, both_table, text_fits, re
 use Rattle.vab_layout.specs.Slots.{other_slot}
 use Rattle.vab_device.specs.declared.device.Device.{Device}
 use Rattle.vab_device.specs.Kept.{is_installing, IsDevice}
-use Rattle.vab_device.specs.Phases.{Phase, phase_at}
-use Rattle.vab_device.specs.Reading.{Read, kept, device, Reads, AgreeCopies, Represents, SameRead}
+use Rattle.vab_device.specs.Phases.{phase_at}
+use Rattle.vab_device.specs.Reading.{Read, device, Reads, AgreeCopies, Represents, SameRead}
 use Rattle.vab_device.proofs.ReadingLaws.{device_same, reads_kept}
 use Rattle.vab_device.proofs.RepairLaws.{repair_same, primary_kept, backup_kept}
 use Rattle.vab_recover.specs.declared.table.Tables.{Tables}
-use Rattle.vab_recover.specs.Opened.{read_of, IsLoadedAt, AreLoaded, target_slots, target_tables}
+use Rattle.vab_recover.specs.Opened.{read_of, IsLoadedAt, target_tables}
 use Rattle.vab_recover.specs.Opened.{tables_of, with_tables, IsOpened, LeavesSame, IsOneOf, IsRepair}
 use Rattle.vab_recover.specs.Opened.{BothCopiesHold, IsTableThere, AreTablesThere}
 use Rattle.vab_recover.proofs.FrameLaws.{tables_split}

@@ -26,7 +26,7 @@ use Rattle.vab_layout.specs.declared.layout.Part.{Part as PartOfLayout}
 use Rattle.vab_layout.specs.Layout.{part_of, layout_of, first_device, blocks_of_partition}
 use Rattle.vab_layout.specs.Slots.{IsOwnPart, IsOwn}
 use Rattle.vab_layout.specs.Plain.{own_groups}
-use Rattle.vab_device.specs.Kept.{limits_of, sectors_of, part_on}
+use Rattle.vab_device.specs.Kept.{limits_of, sectors_of}
 use Rattle.vab_model.specs.declared.state.GroupLimit.{GroupLimit}
 
 -- ---- blocks as sectors

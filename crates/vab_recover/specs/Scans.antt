@@ -1,5 +1,5 @@
 -- Stores that are scanned, and the tables of targets that they are scanned by.
-use Rattle.std.specs.Prelude.{◌≡◌, ◌⊎◌, ℕ, List, map, length, ◌++◌, All, Option, Some, None}
+use Rattle.std.specs.Prelude.{◌≡◌, ◌⊎◌, ℕ, List, map, length, All, Some, None}
 use Rattle.std.specs.Prelude.{Result, Ok, Err}
 use Rattle.vab_disk.specs.Disk.{Image}
 use Rattle.vab_store.specs.View.{Fits}

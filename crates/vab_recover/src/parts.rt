@@ -24,7 +24,7 @@ pub fn map(alloc: Global, table: &Table, partition: &Partition) -> Result<Map, S
     requires rules { IsPartition table.now.minor (length table.now.extents)
         (length table.now.groups) partition.now }
     requires small { length (blocks_of_partition table.now partition.now) < 2 ^ 60 }
-    ensures blocks { IfOk result (λ m. m
+    ensures sectors { IfOk result (λ m. m
         ≡ sectors_of (first_sector_of table.now)
         (blocks_of_partition table.now partition.now)) }
     ensures fault { OnErr result (result ≡ Err StartFault.NoMemory) }

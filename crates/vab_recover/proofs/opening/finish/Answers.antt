@@ -1,4 +1,3 @@
-use Rattle.std.proofs.Common.{◌≡◌, ◌∙◌, refl}
 use Rattle.vab_recover.proofs.FrameLaws.{frame_judged, frame_scanned, frame_stated, frame_read}
 use Rattle.vab_recover.proofs.FrameLaws.{kept_is, opened_of}
 use Rattle.vab_recover.proofs.FinishLaws.{targets_are, targets_on_disk, assembled_kept}

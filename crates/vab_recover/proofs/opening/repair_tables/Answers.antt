@@ -1,6 +1,5 @@
-use Rattle.std.proofs.Common.{◌≡◌, ◌∙◌, ◌+◌, ◌≤◌, ℕ, List, refl, sym, ap, subst, arith}
-use Rattle.vab_disk.specs.Disk.{Image, Adds}
-use Rattle.vab_disk.specs.Calls.{IsAtRest}
+use Rattle.std.proofs.Common.{◌≡◌, ◌∙◌, ◌+◌, ◌≤◌, ℕ, List, sym, subst, arith}
+use Rattle.vab_disk.specs.Disk.{Adds}
 use Rattle.vab_disk.proofs.Moments.{adds_on, adds_wider}
 use Rattle.vab_disk.proofs.CallLaws.{touches_then, touches_wider}
 use Rattle.vab_lpstore.specs.Layout.{copy_sectors, backup_of, BothHold}

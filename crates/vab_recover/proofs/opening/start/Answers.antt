@@ -1,5 +1,5 @@
 use Rattle.std.proofs.Common.{◌≡◌, ◌∙◌, ℕ, List, Ok, sym, ap, subst}
-use Rattle.vab_disk.specs.Disk.{Image, Outcome, Nothing, IsSettled, Adds, SameHoldings}
+use Rattle.vab_disk.specs.Disk.{Image, Outcome, Nothing, IsSettled, SameHoldings}
 use Rattle.vab_disk.specs.Calls.{OnlyReads, Touches}
 use Rattle.vab_disk.proofs.Moments.{adds_on, adds_wider}
 use Rattle.vab_disk.proofs.CallLaws.{touches_reads, touches_then}

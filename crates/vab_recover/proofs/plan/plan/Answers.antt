@@ -1,13 +1,11 @@
-use Rattle.std.proofs.Common.{◌≡◌, ◌≢◌, ◌∙◌, ℕ, ◌+◌, ◌≤◌, ◌<◌, true, false, List, [], ◌∷◌, ◌++◌, length, get_or}
+use Rattle.std.proofs.Common.{◌≡◌, ◌≢◌, ◌∙◌, ℕ, ◌<◌, true, false, List, [], ◌∷◌, ◌++◌, length, get_or}
 use Rattle.std.proofs.Common.{ap, sym, subst, arith}
 use Rattle.std.specs.Prelude.{map}
 use Rattle.vab_names.specs.Names.{is_of_slot}
 use Rattle.vab_tables.specs.declared.entries.Partition.{Partition}
 use Rattle.vab_layout.specs.Layout.{layout_of, part_of}
-use Rattle.vab_device.specs.declared.device.Planned.{Planned}
 use Rattle.vab_device.specs.Phases.{planned_on}
 use Rattle.vab_recover.specs.Scans.{scans_of}
-use Rattle.vab_recover.specs.declared.plan.Scan.{Scan}
 use Rattle.vab_device.specs.Stores.{exceptions_of}
 use Rattle.vab_recover.proofs.PlanLaws.{own_rules, all_before, plan_skip, plan_more, planned_same, at_any}
 use Rattle.vab_recover.proofs.plan.plan.Goals as goal

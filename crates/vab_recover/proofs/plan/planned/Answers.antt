@@ -3,9 +3,7 @@ use Rattle.vab_names.specs.NameLaws.{of_slot_long}
 use Rattle.vab_tables.specs.declared.entries.Group.{Group}
 use Rattle.vab_layout.specs.Layout.{part_of}
 use Rattle.vab_layout.proofs.LayoutLaws.{group_at_is}
-use Rattle.vab_layout.specs.Layout.{blocks_of_partition, layout_of, group_at}
-use Rattle.vab_exceptions.specs.declared.area.Exception.{Exception}
-use Rattle.std.specs.Prelude.{Option}
+use Rattle.vab_layout.specs.Layout.{blocks_of_partition, group_at}
 use Rattle.vab_layout.specs.Slots.{is_updated}
 use Rattle.vab_device.specs.Kept.{sectors_of}
 use Rattle.vab_device.specs.Phases.{planned_image}
@@ -30,7 +28,7 @@ returns-clause-entry c =
     c.as_slice.ensures
     ∙ sym (group_at_is t.groups p.group c.index-as_slice-partition.result c.requires.rules.group_exists)
     in
-    let map = c.in_ok-map.ensures.blocks
+    let map = c.in_ok-map.ensures.sectors
     ∙ ap (λ (n : ℕ). sectors_of n (blocks_of_partition t p)) (sym (layout_first t)) in
     let image = c.image.ensures
     ∙ ap (planned_image (is_updated (part_of t p))) c.take-view.ensures.found in

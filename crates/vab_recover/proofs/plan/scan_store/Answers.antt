@@ -1,4 +1,4 @@
-use Rattle.std.proofs.Common.{◌≡◌, ◌∙◌, ℕ, List, Result, Ok, Err, refl, sym, ap, subst}
+use Rattle.std.proofs.Common.{◌≡◌, ℕ, List, Result, Ok, Err, refl, sym, subst}
 use Rattle.std.specs.Prelude.{IfOk, IfErr, IfSome, Option}
 use Rattle.vab_layout.specs.Layout.{layout_of}
 use Rattle.vab_device.specs.declared.fault.StartFault.{StartFault}

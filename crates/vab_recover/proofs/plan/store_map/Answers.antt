@@ -19,4 +19,4 @@ returns-in-Ok-clause-store c =
     (subst
     (λ (n : List ℕ). first_named n (layout_of t).parts ≡ Some (part_of t c.in-Some.store.now))
     c.store_of.ensures c.in-Some.ensures.some)
-    c.in-Ok.ensures.blocks
+    c.in-Ok.ensures.sectors

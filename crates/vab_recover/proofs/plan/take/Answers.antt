@@ -1,4 +1,4 @@
-use Rattle.std.proofs.Common.{◌≡◌, ◌≢◌, ◌∙◌, ◌<◌, List, ℕ, length, get_or, ap, sym, subst}
+use Rattle.std.proofs.Common.{◌≡◌, ◌∙◌, ◌<◌, List, length, get_or, ap, sym, subst}
 use Rattle.vab_device.specs.Stores.{exceptions_of}
 use Rattle.vab_recover.specs.declared.plan.Scan.{Scan}
 use Rattle.vab_recover.specs.Scans.{scans_of}

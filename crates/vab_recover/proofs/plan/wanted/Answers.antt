@@ -1,4 +1,4 @@
-use Rattle.std.proofs.Common.{◌≡◌, ◌∙◌, ℕ, List, true, false, Some, inl, ap, sym, subst, arith}
+use Rattle.std.proofs.Common.{◌≡◌, ◌∙◌, ℕ, List, true, false, inl, ap, sym, subst, arith}
 use Rattle.vab_names.specs.Names.{is_of_slot}
 use Rattle.vab_names.specs.Names.{base_of, is_base}
 use Rattle.std.specs.Prelude.{IsTrue}
@@ -59,7 +59,7 @@ returns-in_ok-map-in-Some-2-clause-there c =
       named =
           first_filter (is_of_slot c.args.slot) c.args.name.now (layout_of t).parts own
           ∙ c.in-Some.ensures.some;
-      base_is = c.in_ok-map-in-Some-2.ensures.blocks
+      base_is = c.in_ok-map-in-Some-2.ensures.sectors
           ∙ ap (λ (n : ℕ). sectors_of n (blocks_of_partition t c.in-Some.partition.now))
           (sym (layout_first t));
       stored = sym c.in_ok-store_map.ensures.store ∙ c.in-Some-2.is;
