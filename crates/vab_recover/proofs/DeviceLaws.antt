@@ -1,5 +1,7 @@
 -- What holds of a kept device over every disk.
-use Rattle.std.proofs.Common.{◌≡◌, ◌≢◌, ℕ, ◌+◌, ◌-◌, ◌*◌, ◌≤◌, ◌<◌, ◌^◌, inl, inr, true, List, [], ◌∷◌, ◌++◌, length, get_or, Option, Some, None, refl, sym, ◌∙◌, ap, subst, arith}
+use Rattle.std.proofs.Common.{◌≡◌, ◌≢◌, ℕ, ◌+◌, ◌-◌, ◌*◌, ◌≤◌, ◌<◌, ◌^◌, inl, inr, true, List, []}
+use Rattle.std.proofs.Common.{◌∷◌, ◌++◌, length, get_or, Option, Some, None, refl, sym, ◌∙◌, ap}
+use Rattle.std.proofs.Common.{subst, arith}
 use Rattle.std.proofs.Common.{zero, suc, false}
 use Rattle.std.specs.Prelude.{map, All, AllPairs, IsTrue, is_some}
 use Rattle.std.proofs.Math.Seq.{get_or-append_right}
@@ -238,12 +240,11 @@ module _
         ∙ found in
         let part_is : x.part ≡ p = cc in
         let long : length x.part.blocks ≡ length (sectors_of first p.blocks) =
-        ap (λ (q : PartOfLayout). length q.blocks) part_is ∙ sym (length-sectors_of first p.blocks) in
-        (
+        ap (λ (q : PartOfLayout). length q.blocks) part_is ∙ sym (length-sectors_of first p.blocks) in (
           x.store,
           sym (ap (store_on l) s.2) ∙ x.stored,
           subst (λ (es : List Exception). FitsStore (length (sectors_of first p.blocks)) x.store es) s.3
-          (subst (λ (k : ℕ). FitsStore k x.store s.0.exceptions) long x.fits),
+              (subst (λ (k : ℕ). FitsStore k x.store s.0.exceptions) long x.fits),
         ));
   }
 

@@ -32,7 +32,8 @@ use Rattle.vab_device.proofs.OpeningLaws.{device_stated, reads_of, control_seen_
 use Rattle.vab_device.proofs.ReadingLaws.{FrameReads, state_single, seen_single}
 use Rattle.vab_recover.specs.declared.frame.Frame.{Frame}
 use Rattle.vab_recover.specs.declared.table.Tables.{Tables}
-use Rattle.vab_recover.specs.Opened.{read_of, IsMarked, IsHeaded, IsFramed, target_tables, tables_of}
+use Rattle.vab_recover.specs.Opened.{read_of, IsMarked, IsHeaded, IsFramed, target_tables}
+use Rattle.vab_recover.specs.Opened.{tables_of}
 use Rattle.vab_recover.specs.Opened.{target_slots, fault_of, stores_by, plan_by, IsAssembled}
 use Rattle.vab_recover.specs.Opened.{with_tables, table_if, IsOpened, AreLoaded}
 
@@ -44,8 +45,6 @@ reads_if marks.Installing = refl
 reads_if marks.Staged = refl
 reads_if marks.Merging = refl
 reads_if marks.Completed = refl
-
-
 
 pub tables_split : (m : UpdateMark)
     → (phase_at m.phase).tables m.slot ≡ m.slot ∷ target_slots m
@@ -59,45 +58,6 @@ tables_split m = by_phase m.phase m.slot
     by_phase marks.Staged slot = refl
     by_phase marks.Merging slot = refl
     by_phase marks.Completed slot = refl
-
--- the tables, one slot after another
-pub tables_read : (size : ℕ) (g : Geometry) (m : UpdateMark) (image : Image) (t : Table) (ts : List Table)
-    → table_at size g m.slot image ≡ Ok t
-    → tables_in size g (target_slots m) image ≡ Ok ts
-    → tables_in size g ((phase_at m.phase).tables m.slot) image ≡ Ok (t ∷ ts)
-tables_read size g m image t ts here rest =
-    ap (λ (slots : List ℕ). tables_in size g slots image) (tables_split m) ∙ rw (here, rest) refl
-
-pub first_bad : (size : ℕ) (g : Geometry) (m : UpdateMark) (image : Image) (f : StartFault)
-    → table_at size g m.slot image ≡ Err f
-    → tables_in size g ((phase_at m.phase).tables m.slot) image ≡ Err f
-first_bad size g m image f here =
-    ap (λ (slots : List ℕ). tables_in size g slots image) (tables_split m) ∙ rw here refl
-
-pub rest_bad : (size : ℕ) (g : Geometry) (m : UpdateMark) (image : Image) (t : Table) (f : StartFault)
-    → table_at size g m.slot image ≡ Ok t
-    → tables_in size g (target_slots m) image ≡ Err f
-    → tables_in size g ((phase_at m.phase).tables m.slot) image ≡ Err f
-rest_bad size g m image t f here rest =
-    ap (λ (slots : List ℕ). tables_in size g slots image) (tables_split m) ∙ rw (here, rest) refl
-
--- the target's table alone
-pub one_read : (size : ℕ) (g : Geometry) (m : UpdateMark) (image : Image) (t : Table)
-    → is_installing m.phase ≡ true
-    → table_at size g (other_slot m.slot) image ≡ Ok t
-    → tables_in size g (target_slots m) image ≡ Ok (t ∷ [])
-one_read size g m image t is here = rw (is, here) refl
-
-pub one_bad : (size : ℕ) (g : Geometry) (m : UpdateMark) (image : Image) (f : StartFault)
-    → is_installing m.phase ≡ true
-    → table_at size g (other_slot m.slot) image ≡ Err f
-    → tables_in size g (target_slots m) image ≡ Err f
-one_bad size g m image f is here = rw (is, here) refl
-
-pub none_read : (size : ℕ) (g : Geometry) (m : UpdateMark) (image : Image)
-    → is_installing m.phase ≡ false
-    → tables_in size g (target_slots m) image ≡ Ok []
-none_read size g m image is = rw is refl
 
 -- what the phase makes of the tables that were read
 pub record IsOfPhase

@@ -24,7 +24,8 @@ use Rattle.vab_device.proofs.ReadingLaws.{device_same, reads_kept}
 use Rattle.vab_device.proofs.RepairLaws.{repair_same, primary_kept, backup_kept}
 use Rattle.vab_recover.specs.declared.table.Tables.{Tables}
 use Rattle.vab_recover.specs.Opened.{read_of, IsLoadedAt, target_tables}
-use Rattle.vab_recover.specs.Opened.{tables_of, with_tables, IsOpened, LeavesSame, IsOneOf, IsRepair}
+use Rattle.vab_recover.specs.Opened.{tables_of, with_tables, IsOpened, LeavesSame, IsOneOf}
+use Rattle.vab_recover.specs.Opened.{IsRepair}
 use Rattle.vab_recover.specs.Opened.{BothCopiesHold, IsTableThere, AreTablesThere}
 use Rattle.vab_recover.proofs.FrameLaws.{tables_split}
 
@@ -140,8 +141,7 @@ pub copies_agree : (g : Geometry) (m : UpdateMark) (t : Tables) (image : Image)
     → IfSome t.target (Holds g (other_slot m.slot) image)
     → AgreeCopies g ((phase_at m.phase).tables m.slot) (tables_of t) image
 copies_agree g m t image is source target =
-    subst (λ (slots : List ℕ). AgreeCopies g slots (tables_of t) image) (sym (tables_split m))
-    (
+    subst (λ (slots : List ℕ). AgreeCopies g slots (tables_of t) image) (sym (tables_split m)) (
       (t.source.text, source.0, source.1),
       by_target g (other_slot m.slot) image t.target (is_installing m.phase) is target,
     )

@@ -1,5 +1,6 @@
 -- What is found by a name, and the steps of the loops over partitions, statuses and scans.
-use Rattle.std.proofs.Common.{◌≡◌, ◌≢◌, ◌∙◌, ℕ, zero, suc, ◌+◌, ◌*◌, ◌≤◌, ◌<◌, ◌^◌, Bool, true, false}
+use Rattle.std.proofs.Common.{◌≡◌, ◌≢◌, ◌∙◌, ℕ, zero, suc, ◌+◌, ◌*◌, ◌≤◌, ◌<◌, ◌^◌, Bool, true}
+use Rattle.std.proofs.Common.{false}
 use Rattle.std.proofs.Common.{List, [], ◌∷◌, ◌++◌, length, get_or, take, drop, inl, inr}
 use Rattle.std.proofs.Common.{Option, Some, None, Result, Ok, Err, refl, sym, ap, subst, arith}
 use Rattle.std.proofs.Common.{drop-cons, append-nil}
@@ -74,25 +75,6 @@ at_any (y ∷ ys) zero x d lt at = at
 at_any (y ∷ ys) (suc i) x d lt at = at_any ys i x d (omega (arith, lt)) at
 
 -- ---- the partition of a name
-
-pub named_here : (name : List ℕ) (t : Table) (i : ℕ) (p : Partition)
-    → i < length t.partitions
-    → p ≡ get_or t.partitions i p
-    → bytes_eq p.name name ≡ true
-    → first_named name (map (part_of t) (drop i t.partitions)) ≡ Some (part_of t p)
-named_here name t i p lt at here =
-    ap (λ (l : List Partition). first_named name (map (part_of t) l)) (drop_at t.partitions i p lt at)
-    ∙ rw here refl
-
-pub named_skip : (name : List ℕ) (t : Table) (i : ℕ) (p : Partition)
-    → i < length t.partitions
-    → p ≡ get_or t.partitions i p
-    → bytes_eq p.name name ≡ false
-    → first_named name (map (part_of t) (drop i t.partitions))
-    ≡ first_named name (map (part_of t) (drop (i + 1) t.partitions))
-named_skip name t i p lt at other =
-    ap (λ (l : List Partition). first_named name (map (part_of t) l)) (drop_at t.partitions i p lt at)
-    ∙ rw other refl
 
 -- of those whose names pass a test
 pub first_filter : (q : List ℕ → Bool) (name : List ℕ) (ps : List PartOfLayout)
@@ -207,22 +189,6 @@ wanted_there slot l s base store are =
     (first_named s.name (own_parts slot l.parts)) (first_named (store_of s.name) l.parts)
     are.named are.stored are.base_is
 
-by_none : (first : ℕ) (s : PartStatus) (x y : Option PartOfLayout)
-    → option_map (λ q. sectors_of first q.blocks) y ≡ None
-    → wanted_by first s x y ≡ Err (BadStore s.name)
-by_none first s None y stored = refl
-by_none first s (Some p) None stored = refl
-by_none first s (Some p) (Some q) stored =
-    absurd (let no : Some (sectors_of first q.blocks) ≡ None = stored in cc)
-
-pub wanted_missing : (slot : ℕ) (l : Layout) (s : PartStatus)
-    → IsMissing slot l s.name
-    → wanted_of slot l s ≡ Err (BadStore s.name)
-wanted_missing slot l s (inl none) = rw none refl
-wanted_missing slot l s (inr none) =
-    by_none l.device.first_logical_sector s (first_named s.name (own_parts slot l.parts))
-    (first_named (store_of s.name) l.parts) none
-
 -- where a store stands on the disk
 sectors_within : (first cap size : ℕ) (blocks : List ℕ)
     → 4096 + first + 8 * cap ≤ size
@@ -269,15 +235,6 @@ store_on_disk slot size t name store target on stored =
 
 -- ---- one scan after another
 
-abbrev pub joined : List Scanned → List Scanned → Result (List Scanned) StartFault
-joined done rest = Ok (done ++ rest)
-
-pub scans_none : (W : PartStatus → Result Wanted StartFault) (all : List (Option PartStatus)) (i : ℕ)
-    → i < length all
-    → None ≡ get_or all i None
-    → written_in (drop i all) ≡ written_in (drop (i + 1) all)
-scans_none W all i lt at = ap written_in (drop_at all i None lt at)
-
 by_rest : (done : List Scanned) (x : Scanned) (r : Result (List Scanned) StartFault)
     → ((r >>= λ rest. Ok (x ∷ rest)) >>= λ rest. Ok (done ++ rest))
     ≡ (r >>= λ rest. Ok ((done ++ x ∷ []) ++ rest))
@@ -297,33 +254,7 @@ pub scans_ok : (w : Result Wanted StartFault) (ws : List (Result Wanted StartFau
 scans_ok (Ok w) ws image done x is = rw is (by_rest done x (scans_in ws image))
 scans_ok (Err f) ws image done x is = absurd (let no : (let r : Result Scanned StartFault = Err f in r ≡ Ok x) = is in cc)
 
-pub scans_err : (w : Result Wanted StartFault) (ws : List (Result Wanted StartFault)) (image : Image)
-    (done : List Scanned) (f : StartFault)
-    → wanted_at w image ≡ Err f
-    → (scans_in (w ∷ ws) image >>= λ rest. Ok (done ++ rest)) ≡ Err f
-scans_err (Ok w) ws image done f is = rw is refl
-scans_err (Err h) ws image done f is =
-    let bad : (let r : Result Scanned StartFault = Err h in r ≡ Err f) = is in
-    let same : h ≡ f = cc in
-    ap Err same
-
 -- ---- the exceptions of a name
-
-pub exceptions_here : (name : List ℕ) (scans : List Scan) (i : ℕ) (s : Scan)
-    → i < length scans
-    → s ≡ get_or scans i s
-    → bytes_eq s.name name ≡ true
-    → exceptions_of name (scans_of (drop i scans)) ≡ Some s.view
-exceptions_here name scans i s lt at here =
-    ap (λ (l : List Scan). exceptions_of name (scans_of l)) (drop_at scans i s lt at) ∙ rw here refl
-
-pub exceptions_skip : (name : List ℕ) (scans : List Scan) (i : ℕ) (s : Scan)
-    → i < length scans
-    → s ≡ get_or scans i s
-    → bytes_eq s.name name ≡ false
-    → exceptions_of name (scans_of (drop i scans)) ≡ exceptions_of name (scans_of (drop (i + 1) scans))
-exceptions_skip name scans i s lt at other =
-    ap (λ (l : List Scan). exceptions_of name (scans_of l)) (drop_at scans i s lt at) ∙ rw other refl
 
 not_name : (a b : List ℕ) → a ≢ b → bytes_eq a b ≡ false
 not_name a b differ = elim (cases_Bool (bytes_eq a b)) [
@@ -503,17 +434,3 @@ scans_skip W all i image done lt at =
     (λ (l : List (Option PartStatus)).
     scans_in (map W (written_in l)) image >>= λ rest. Ok (scans_of done ++ rest))
     (drop_at all i None lt at)
-
-pub scans_bad : (W : PartStatus → Result Wanted StartFault) (all : List (Option PartStatus)) (i : ℕ)
-    (s : PartStatus) (image : Image) (done : List Scan) (f : StartFault)
-    → i < length all
-    → Some s ≡ get_or all i (Some s)
-    → wanted_at (W s) image ≡ Err f
-    → (scans_in (map W (written_in (drop i all))) image >>= λ rest. Ok (scans_of done ++ rest))
-    ≡ Err f
-scans_bad W all i s image done f lt at is =
-    ap
-    (λ (l : List (Option PartStatus)).
-    scans_in (map W (written_in l)) image >>= λ rest. Ok (scans_of done ++ rest))
-    (drop_at all i (Some s) lt at)
-    ∙ scans_err (W s) (map W (written_in (drop (i + 1) all))) image (scans_of done) f is

@@ -1,5 +1,6 @@
 -- What opening a device reads, answers and leaves.
-use Rattle.std.specs.Prelude.{◌≡◌, ◌⊎◌, ℕ, ◌<◌, ◌≤◌, ◌^◌, ◌==◌, if◌then◌else◌, List, [], ◌∷◌, length}
+use Rattle.std.specs.Prelude.{◌≡◌, ◌⊎◌, ℕ, ◌<◌, ◌≤◌, ◌^◌, ◌==◌, if◌then◌else◌, List, [], ◌∷◌}
+use Rattle.std.specs.Prelude.{length}
 use Rattle.std.specs.Prelude.{Bool, Option, Some, None, is_some, Ok, IfSome, IsTrue, nat_le, true}
 use Rattle.std.specs.Prelude.{false, map, All, Result}
 use Rattle.vab_disk.specs.Disk.{Image, Outcome}
@@ -28,7 +29,8 @@ use Rattle.vab_device.specs.Idle.{control_read_of}
 use Rattle.vab_device.specs.Kept.{lies_in, is_installing, IsPhase, copies_end, super_bytes}
 use Rattle.vab_device.specs.Kept.{limits_of, parts_of}
 use Rattle.vab_device.specs.Phases.{phase_at, own_check, update_checks, plan_of}
-use Rattle.vab_device.specs.Reading.{Read, mark_in, statuses_at, geometry_at, tables_in, kept, device}
+use Rattle.vab_device.specs.Reading.{Read, mark_in, statuses_at, geometry_at, tables_in, kept}
+use Rattle.vab_device.specs.Reading.{device}
 use Rattle.vab_device.specs.Reading.{Reads}
 use Rattle.vab_device.specs.Stores.{Wanted, Scanned, wanted_of, scans_in}
 use Rattle.vab_recover.specs.Scans.{IsScanned}
@@ -97,7 +99,8 @@ target_slots m = if is_installing m.phase then other_slot m.slot ∷ [] else []
 
 -- the copies of the slot's table are loaded so
 abbrev pub IsLoadedAt : Geometry → ℕ → Image → Loaded → Type 0
-IsLoadedAt g slot image l = IsLoaded g.max (primary_bytes g slot image) (backup_bytes g slot image) l
+IsLoadedAt g slot image l =
+    IsLoaded g.max (primary_bytes g slot image) (backup_bytes g slot image) l
 
 -- so are those of both slots
 pub record AreLoaded (g : Geometry) (slot : ℕ) (image : Image) (t : Tables) : Type 0 where
@@ -118,7 +121,8 @@ pub record AreTablesThere (size : ℕ) (g : Geometry) (m : UpdateMark) (t : Tabl
 
 -- what is read of a disk in front of its stores
 pub record IsFramed (size : ℕ) (image : Image) (f : Frame) : Type 0 where
-  pub heads : IsHeaded size image f.heads.mark f.heads.statuses.items f.heads.control f.heads.geometry
+  pub heads : IsHeaded size image f.heads.mark f.heads.statuses.items f.heads.control
+      f.heads.geometry
   pub tables : tables_in size f.heads.geometry
       ((phase_at f.heads.mark.phase).tables f.heads.mark.slot)
       image

@@ -8,7 +8,8 @@ ghost use Rattle.vab_device.specs.Kept.{IsDevice};
 ghost use Rattle.vab_device.specs.Mounted.{mounted_on};
 ghost use Rattle.vab_device.specs.Reading.{device, Represents};
 ghost use Rattle.vab_recover.specs.Counts.{CountsFaults};
-ghost use Rattle.vab_recover.specs.Opened.{IsFramed, AreHeads, AreTablesThere, with_tables, IsOpened};
+ghost use Rattle.vab_recover.specs.Opened.{IsFramed, AreHeads, AreTablesThere, with_tables};
+ghost use Rattle.vab_recover.specs.Opened.{IsOpened};
 ghost use Rattle.vab_recover.specs.Opened.{LeavesSame, IsRepair, BothCopiesHold};
 
 use crate::frame::{Frame, read_frame};
@@ -22,11 +23,7 @@ use vab_gate::DiskFault;
 use vab_lpstore::repair_table;
 
 // The device of what was read in front of the stores, but for its tables, and these.
-fn finish<D: Disk>(
-    alloc: Global,
-    d: &mut D,
-    frame: Frame,
-) -> Result<(Device, Tables), StartFault>
+fn finish<D: Disk>(alloc: Global, d: &mut D, frame: Frame) -> Result<(Device, Tables), StartFault>
     requires framed { D.is_modelled → IsFramed (D.size d.old) (D.seen d.old) frame }
     requires are { AreHeads (D.size d.old) frame.heads.mark frame.heads.control
         frame.heads.geometry }
@@ -142,10 +139,10 @@ fn repair_tables<D: Disk>(d: &mut D, kept: &Device, tables: &Tables) -> Result<(
     }
 }
 
-/// Opens the device of a disk: it reads it, and repairs the copies of its tables that a cut of power
-/// has left behind. Each fault of the disk's contents comes exactly where the disk is no device and
-/// that is the first thing wrong; then, and where memory is refused, nothing is written. Where both
-/// copies of each table hold its text, nothing is written and nothing is synced.
+/// Opens the device of a disk: it reads it, and repairs the copies of its tables that a cut of
+/// power has left behind. Each fault of the disk's contents comes exactly where the disk is no
+/// device and that is the first thing wrong; then, and where memory is refused, nothing is written.
+/// Where both copies of each table hold its text, nothing is written and nothing is synced.
 pub fn start<D: Disk>(alloc: Global, d: &mut D) -> Result<Device, StartFault>
     // It answers the device that the disk was, which it still is.
     ensures device { D.is_modelled → IfOk result

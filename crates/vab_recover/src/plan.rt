@@ -1,7 +1,9 @@
 //! The partitions of an update's target, with what their stores hold.
 
-ghost use Rattle.std.specs.Prelude.{◌≡◌, ◌≢◌, ◌<◌, ◌≤◌, ◌+◌, ◌*◌, ◌^◌, ℕ, List, length, IfOk, OnErr, Err, IfErr};
-ghost use Rattle.std.specs.Prelude.{IfSome, IfNone, Some, None, true, Ok, All, get_or, Option, Result, map};
+ghost use Rattle.std.specs.Prelude.{◌≡◌, ◌≢◌, ◌<◌, ◌≤◌, ◌+◌, ◌*◌, ◌^◌, ℕ, List, length, IfOk};
+ghost use Rattle.std.specs.Prelude.{OnErr, Err, IfErr};
+ghost use Rattle.std.specs.Prelude.{IfSome, IfNone, Some, None, true, Ok, All, get_or, Option};
+ghost use Rattle.std.specs.Prelude.{Result, map};
 ghost use Rattle.std.specs.Str.{bytes_eq};
 ghost use Rattle.vab_disk.specs.Calls.{OnlyReads};
 ghost use Rattle.vab_names.specs.Names.{is_of_slot};
@@ -17,10 +19,12 @@ ghost use Rattle.vab_layout.specs.Layout.{layout_of, part_of};
 ghost use Rattle.vab_layout.specs.Slots.{IsOwnPart, other_slot};
 ghost use Rattle.vab_device.specs.Faults.{IsOfContents, IsOfDisk};
 ghost use Rattle.vab_device.specs.Phases.{store_on, planned_image, planned_on, plan_of};
-ghost use Rattle.vab_device.specs.Stores.{Wanted, first_named, wanted_of, scan_read, scans_in, exceptions_of};
+ghost use Rattle.vab_device.specs.Stores.{Wanted, first_named, wanted_of, scan_read, scans_in};
+ghost use Rattle.vab_device.specs.Stores.{exceptions_of};
 ghost use Rattle.vab_recover.specs.Counts.{CountsFaults};
 ghost use Rattle.vab_recover.specs.declared.plan.Scan.{Scan};
-ghost use Rattle.vab_recover.specs.Scans.{scanned_of, scans_of, wanted_at, IsTargetTable, AreBlocks};
+ghost use Rattle.vab_recover.specs.Scans.{scanned_of, scans_of, wanted_at, IsTargetTable};
+ghost use Rattle.vab_recover.specs.Scans.{AreBlocks};
 ghost use Rattle.vab_recover.specs.Scans.{IsMissing, IsScanned};
 ghost use Rattle.vab_recover.specs.Opened.{stores_by, IsPlanRead};
 

@@ -24,8 +24,8 @@ use std::alloc::Global;
 use vab_device::StartFault;
 use vab_disk::Disk;
 use vab_geometry::Geometry;
-use vab_marks::UpdateMark;
 use vab_lpstore::{LoadFault, Loaded, load_table};
+use vab_marks::UpdateMark;
 use vab_tables::Table;
 
 /// The tables that are read of a device.

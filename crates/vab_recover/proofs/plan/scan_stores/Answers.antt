@@ -1,4 +1,5 @@
-use Rattle.std.proofs.Common.{◌≡◌, ◌∙◌, ◌+◌, ◌<◌, ℕ, List, [], ◌∷◌, ◌++◌, length, get_or, drop, Some, None, Ok}
+use Rattle.std.proofs.Common.{◌≡◌, ◌∙◌, ◌+◌, ◌<◌, ℕ, List, [], ◌∷◌, ◌++◌, length, get_or, drop}
+use Rattle.std.proofs.Common.{Some, None, Ok}
 use Rattle.std.proofs.Common.{Option, sym, ap, subst, arith}
 use Rattle.std.specs.Prelude.{map, All}
 use Rattle.std.proofs.lemmas.List.{map-append}
@@ -15,7 +16,9 @@ use Rattle.vab_recover.specs.declared.plan.Scan.{Scan}
 use Rattle.vab_recover.specs.Scans.{scanned_of, scans_of, wanted_at, IsScanned}
 use Rattle.vab_recover.proofs.PlanLaws.{scans_step, scans_skip}
 use Rattle.vab_recover.proofs.plan.scan_stores.Goals as goal
-use Rattle.vab_recover.proofs.plan.scan_stores.Goals.{in-Some+in_ok-scan_store-in-Some+in_ok-push-in-Some, in-None}
+use Rattle.vab_recover.proofs.plan.scan_stores.Goals.{}
+use Rattle.vab_recover.proofs.plan.scan_stores.Goals.{in-Some+in_ok-scan_store-in-Some+in_ok-push-in-Some}
+use Rattle.vab_recover.proofs.plan.scan_stores.Goals.{in-None}
 
 pub loop-entry-preserved : goal.loop-entry-preserved
 loop-entry-preserved g c =
