@@ -71,7 +71,7 @@ module _
       let more : (j + 1) * c ≤ (g.slots + k) * c = mul-le-mul_right c (omega (arith, j_below, two)) in
       omega (arith, more)
 
-  primary_kept : primary_bytes g j new ≡ primary_bytes g j old
+  pub primary_kept : primary_bytes g j new ≡ primary_bytes g j old
   unfolding primary_of backup_of
   primary_kept =
       sectors_same c (primary_of g j) old new
@@ -81,7 +81,7 @@ module _
       (λ behind. inr (omega (arith, behind, fits))) first_or)
       (inl (omega (arith, below, backups_too))))
 
-  backup_kept : backup_bytes g j new ≡ backup_bytes g j old
+  pub backup_kept : backup_bytes g j new ≡ backup_bytes g j old
   unfolding primary_of backup_of
   backup_kept =
       let spread : (g.slots + j) * c ≡ g.slots * c + j * c = add-mul g.slots j c in

@@ -1,17 +1,17 @@
 -- What holds of a kept device over every disk.
-use Rattle.std.proofs.Common.{◌≡◌, ◌≢◌, ℕ, ◌+◌, ◌-◌, ◌*◌, ◌≤◌, ◌<◌, ◌^◌, inl, inr, true, ◌==◌, eqb, not, List, [], ◌∷◌, ◌++◌, length, get_or, Option, Some, None, refl, sym, ◌∙◌, ap, subst, arith, cond}
+use Rattle.std.proofs.Common.{◌≡◌, ◌≢◌, ℕ, ◌+◌, ◌-◌, ◌*◌, ◌≤◌, ◌<◌, ◌^◌, inl, inr, true, List, []}
+use Rattle.std.proofs.Common.{◌∷◌, ◌++◌, length, get_or, Option, Some, None, refl, sym, ◌∙◌, ap}
+use Rattle.std.proofs.Common.{subst, arith}
 use Rattle.std.proofs.Common.{zero, suc, false}
-use Rattle.std.specs.Prelude.{map, All, AllPairs, IsTrue, is_some, if◌then◌else◌}
+use Rattle.std.specs.Prelude.{map, All, AllPairs, IsTrue, is_some}
 use Rattle.std.proofs.Math.Seq.{get_or-append_right}
 use Rattle.std.proofs.Math.ListN.{get_or-append}
-use Rattle.std.proofs.lemmas.Bool.{cases_Bool, leb-true, and_parts, eqb-true}
+use Rattle.std.proofs.lemmas.Bool.{cases_Bool, leb-true, and_parts}
 use Rattle.std.proofs.lemmas.List.{length-map, length-append, get_or-map}
-use Rattle.std.proofs.lemmas.List.Elements.{All-map, All-filter, All-cons}
+use Rattle.std.proofs.lemmas.List.Elements.{All-map, All-filter, All-cons, filter_passes}
 use Rattle.vab_names.specs.Names.{is_base, base_of, is_of_slot}
 use Rattle.vab_bootctl.specs.declared.slots.Control.{Control}
-use Rattle.vab_bootctl.specs.Control.{Fits}
 use Rattle.vab_geometry.specs.declared.geometry.Geometry.{Geometry}
-use Rattle.vab_geometry.specs.Geometry.{IsGeometry}
 use Rattle.vab_marks.specs.declared.mark.MarkPhase.TheVariants as marks
 use Rattle.vab_marks.specs.declared.mark.UpdateMark.{UpdateMark}
 use Rattle.vab_tables.specs.declared.entries.BlockDevice.{BlockDevice}
@@ -23,13 +23,30 @@ use Rattle.vab_layout.specs.Layout.{layout_of, blocks_of_parts}
 use Rattle.vab_layout.specs.Rules.{IsPart as IsPartOfLayout, IsLayout}
 use Rattle.vab_layout.proofs.LayoutLaws.{layout_keeps}
 use Rattle.vab_layout.specs.Slots.{other_slot, own_parts, IsOwn, IsDistinct}
-use Rattle.vab_device.specs.declared.device.Part.{Part}
-use Rattle.vab_device.specs.declared.device.Device.{Device}
-use Rattle.vab_device.specs.Kept.{copies_end, super_bytes, lies_in, sectors_of, part_on, parts_of}
-use Rattle.vab_device.specs.Kept.{IsPart, AreParts, ArePresent, IsTableOf, IsKeptTable, IsUpdate}
+use Rattle.vab_device.specs.Kept.{super_bytes, lies_in, sectors_of, part_on, parts_of}
+use Rattle.vab_device.specs.Kept.{IsPart, AreParts, IsTableOf}
 use Rattle.vab_device.specs.Kept.{IsDevice}
-use Rattle.vab_device.specs.Reading.{table_for, parts_for}
-use Rattle.vab_recover.specs.Opened.{idle_kept}
+use Rattle.std.specs.Prelude.{Bool, option_map, IfSome}
+use Rattle.std.specs.Str.{bytes_eq}
+use Rattle.std.proofs.lemmas.Slice.Eq.{bytes_eq-Decides}
+use Rattle.std.proofs.lemmas.List.Elements.{All-head, All-tail}
+use Rattle.std.proofs.lemmas.List.Kept.{AllPairs-filter}
+use Rattle.vab_names.specs.Names.{is_store, store_of}
+use Rattle.vab_marks.specs.declared.mark.MarkPhase.{MarkPhase}
+use Rattle.vab_marks.specs.declared.status.PartStatus.{PartStatus}
+use Rattle.vab_exceptions.specs.declared.area.Exception.{Exception}
+use Rattle.vab_store.specs.View.{Fits as FitsStore}
+use Rattle.vab_lpstore.specs.declared.loaded.Loaded.{Loaded}
+use Rattle.vab_builder.proofs.NameCases.{store_is_store}
+use Rattle.vab_layout.specs.Slots.{store_parts, is_updated, IsTarget}
+use Rattle.vab_device.specs.Kept.{IsStore, IsStored, IsPlanned, ArePlanned, AreOfUpdate, IsPhase}
+use Rattle.vab_device.specs.Kept.{is_installing}
+use Rattle.vab_device.specs.Phases.{store_on, planned_image, planned_on, plan_of}
+use Rattle.vab_device.specs.Reading.{kept}
+use Rattle.vab_device.specs.Stores.{Scanned, first_named, exceptions_of}
+use Rattle.vab_recover.specs.Scans.{IsScanned, IsTargetTable}
+use Rattle.vab_recover.specs.Opened.{read_of, target_tables, AreHeads}
+use Rattle.vab_recover.proofs.PlanLaws.{first_filter, first_all}
 
 -- ---- lists without repetition
 
@@ -102,101 +119,326 @@ parts_kept size slot g l enough rules own lies =
       few = omega (arith, own.few, length-map mine (part_on first));
     }
 
--- ---- the device
+-- ---- the partitions that are planned
 
-some_at : (slot k : ℕ) (t : Table)
-    → is_some (parts_for k (slot == k) (table_for k (slot ∷ []) (t ∷ []))) ≡ (slot == k)
-some_at slot k t = elim (cases_Bool (eqb slot k)) [ inl h ↦ rw h refl | inr h ↦ rw h refl ]
+-- a store's image, where it is there
+stored : (size first : ℕ) (base : List ℕ) (x : Option PartOfLayout) (updated : Bool)
+    (es : Option (List Exception))
+    → ((q : PartOfLayout) → x ≡ Some q → IsStore size (sectors_of first q.blocks))
+    → ((e : List Exception)
+    → es ≡ Some e
+    → (store : List ℕ)
+    × (option_map (λ q. sectors_of first q.blocks) x ≡ Some store)
+    × FitsStore (length base) store e)
+    → IsStored size base (option_map (λ q. sectors_of first q.blocks) x) (planned_image updated es)
+stored size first base None false es store fits = tt
+stored size first base None true None store fits = tt
+stored size first base None true (Some e) store fits =
+    let f = fits e refl in
+    absurd (let no : None ≡ Some f.0 = f.1 in cc)
+stored size first base (Some q) false es store fits = store q refl
+stored size first base (Some q) true None store fits = store q refl
+stored size first base (Some q) true (Some e) store fits =
+    let f = fits e refl in
+    let whole : Some (sectors_of first q.blocks) ≡ Some f.0 = f.1 in
+    let same : sectors_of first q.blocks ≡ f.0 = cc in (
+      store q refl,
+      subst (λ (s : List ℕ). FitsStore (length base) s e) (sym same) f.2,
+    )
 
-table_at_slot : (size slot k : ℕ) (g : Geometry) (t : Table)
-    → IsTableOf size g slot t
-    → IsKeptTable size g k (table_for k (slot ∷ []) (t ∷ []))
-table_at_slot size slot k g t is = elim (cases_Bool (eqb slot k)) [
-  | inl h ↦ rw h (subst (λ (n : ℕ). IsTableOf size g n t) (eqb-true slot k h) is)
-  | inr h ↦ rw h tt
+-- the exceptions of a name are of one of the scans
+exceptions_are : (P : Scanned → Type 0) (name : List ℕ) (ss : List Scanned) (es : List Exception)
+    → All P ss
+    → exceptions_of name ss ≡ Some es
+    → (s : Scanned) × P s × (s.name ≡ name) × (s.exceptions ≡ es)
+exceptions_are P name [] es all is = absurd (let no : None ≡ Some es = is in cc)
+exceptions_are P name (s ∷ ss) es all is = elim (cases_Bool (bytes_eq s.name name)) [
+  | inl here ↦
+      let found : Some s.exceptions ≡ Some es = rw here at is in
+      let same : s.exceptions ≡ es = cc in
+      (s, All-head P s ss all, (bytes_eq-Decides s.name name).0 here, same)
+  | inr other ↦
+      let found : exceptions_of name ss ≡ Some es = rw other at is in
+      exceptions_are P name ss es (All-tail P s ss all) found
 ]
 
--- one table is read, that of the slot with images
-record HasOneTable (slot : ℕ) (t : Table) : Type 0 where
-  source : is_some (cond (slot == 0) (table_for 0 (slot ∷ []) (t ∷ [])) (table_for 1 (slot ∷ []) (t ∷ [])))
-      ≡ true
-  target : cond (other_slot slot == 0) (table_for 0 (slot ∷ []) (t ∷ [])) (table_for 1 (slot ∷ []) (t ∷ []))
-      ≡ None
-  update : IsUpdate slot
-      (cond (slot == 0) (table_for 0 (slot ∷ []) (t ∷ [])) (table_for 1 (slot ∷ []) (t ∷ [])))
-      None
+-- where names differ, each is found by its own
+found_at : (ps : List PartOfLayout) (k : ℕ) (d : PartOfLayout)
+    → AllPairs (λ a b. a.name ≢ b.name) ps
+    → k < length ps
+    → first_named (get_or ps k d).name ps ≡ Some (get_or ps k d)
+found_at [] k d differ lt = absurd (omega (arith, lt))
+found_at (p ∷ ps) zero d differ lt =
+    let here = (bytes_eq-Decides p.name p.name).1 refl in rw here refl
+found_at (p ∷ ps) (suc k) d differ lt = elim (cases_Bool (bytes_eq p.name (get_or ps k d).name)) [
+  | inl same ↦
+      absurd (differ 0 (suc k) d (omega arith) lt
+      ((bytes_eq-Decides p.name (get_or ps k d).name).0 same))
+  | inr other ↦
+      rw other
+      (found_at ps k d
+      (λ i j d low below. differ (suc i) (suc j) d (omega (arith, low)) (omega (arith, below)))
+      (omega (arith, lt)))
+]
 
-has_one_table : (slot : ℕ) (t : Table) → slot < 2 → HasOneTable slot t
-has_one_table zero t below = record { source = refl; target = refl; update = tt }
-has_one_table (suc zero) t below = record { source = refl; target = refl; update = tt }
-has_one_table (suc (suc n)) t below = absurd (omega (arith, below))
+module _
+    (size slot : ℕ) (g : Geometry) (t : Table)
+    (enough : 4120 ≤ size)
+    (target : IsTargetTable slot t)
+    (lies : lies_in size g (layout_of t).device ≡ true) where
+  abbrev l : Layout
+  l = layout_of t
+
+  abbrev first : ℕ
+  first = (layout_of t).device.first_logical_sector
+
+  abbrev cap : ℕ
+  cap = cap_of (layout_of t).device
+
+  layout : IsLayout (layout_of t)
+  layout = layout_keeps t target.rules
+
+  on : 4096 + first + 8 * cap ≤ size
+  on = blocks_on size g (layout_of t).device enough layout.device lies
+
+  store_is : (name : List ℕ) (q : PartOfLayout)
+      → is_of_slot slot name ≡ true
+      → first_named (store_of name) l.parts ≡ Some q
+      → IsStore size (sectors_of first q.blocks)
+  store_is name q own is =
+      let part = (first_all (IsPartOfLayout cap l.groups) (store_of name) l.parts q layout.parts is).0 in
+      let named : first_named (store_of name) (store_parts slot l.parts) ≡ Some q =
+      first_filter (is_store slot) (store_of name) l.parts (store_is_store slot name own) ∙ is in
+      let once = (first_all (λ p. IsDistinct p.blocks) (store_of name) (store_parts slot l.parts) q
+      target.stores named).0 in
+      record {
+        on_disk = sectors_on first cap size q.blocks on part.blocks;
+        once = sectors_distinct first q.blocks once;
+      }
+
+  planned_is : (ss : List Scanned) (p : PartOfLayout)
+      → All (IsScanned slot l) ss
+      → is_of_slot slot p.name ≡ true
+      → first_named p.name (own_parts slot l.parts) ≡ Some p
+      → IsPart size (part_on first p)
+      → IsPlanned size (planned_on l ss p)
+  planned_is ss p are own found part = record {
+    name = part.name;
+    on_disk = part.on_disk;
+    once = part.once;
+    small = part.small;
+    store =
+        stored size first (sectors_of first p.blocks) (first_named (store_of p.name) l.parts)
+        (is_updated p) (exceptions_of p.name ss)
+        (λ q is. store_is p.name q own is)
+        (λ e is.
+        let s = exceptions_are (IsScanned slot l) p.name ss e are is in
+        let x = s.1 in
+        let same : Some x.part ≡ Some p =
+        sym x.named
+        ∙ ap (λ (n : List ℕ). first_named n (own_parts slot l.parts)) s.2
+        ∙ found in
+        let part_is : x.part ≡ p = cc in
+        let long : length x.part.blocks ≡ length (sectors_of first p.blocks) =
+        ap (λ (q : PartOfLayout). length q.blocks) part_is ∙ sym (length-sectors_of first p.blocks) in (
+          x.store,
+          sym (ap (store_on l) s.2) ∙ x.stored,
+          subst (λ (es : List Exception). FitsStore (length (sectors_of first p.blocks)) x.store es) s.3
+              (subst (λ (k : ℕ). FitsStore k x.store s.0.exceptions) long x.fits),
+        ));
+  }
+
+  pub plan_kept : (ss : List Scanned)
+      → All (IsScanned slot l) ss
+      → ArePlanned size (plan_of slot l ss)
+  plan_kept ss are =
+      let mine : List PartOfLayout = own_parts slot l.parts in
+      let parts = parts_kept size slot g l enough layout target.own lies in
+      let differ : AllPairs (λ a b. a.name ≢ b.name) mine =
+      AllPairs-filter (λ (a b : PartOfLayout). a.name ≢ b.name)
+      (λ (p : PartOfLayout). is_of_slot slot p.name) l.parts
+      layout.part_names in
+      let own : All (λ p. is_of_slot slot p.name ≡ true) mine =
+      filter_passes (λ (p : PartOfLayout). is_of_slot slot p.name) l.parts in
+      let long = length-map mine (part_on first) in
+      record {
+        each = All-map (IsPlanned size) (planned_on l ss) mine
+            (λ k d lt. planned_is ss (get_or mine k d) are (own k d lt) (found_at mine k d differ lt)
+            (subst (IsPart size) (get_or-map (part_on first) mine k d (part_on first d) lt)
+            (parts.each k (part_on first d) (omega (arith, lt, long)))));
+        few = omega (arith, target.own.few, length-map mine (planned_on l ss));
+      }
+
+-- ---- the device
+
+by_case : (size : ℕ) (phase : MarkPhase) (slot : ℕ) (statuses : List (Option PartStatus)) (c : Control)
+    (g : Geometry) (s : Table) (t : Option Loaded) (ss : List Scanned)
+    → AreHeads size (record { phase = phase; slot = slot }) c g
+    → c.current ≡ slot
+    → IsTableOf size g slot s
+    → IfSome t (λ l. IsTableOf size g (other_slot slot) l.table)
+    → IfSome t (λ l. AreOfUpdate slot s l.table)
+    → is_some t ≡ is_installing phase
+    → IfSome t (λ l. ArePlanned size (plan_of (other_slot slot) (layout_of l.table) ss))
+    → AreParts size (parts_of slot (layout_of s))
+    → (let m : UpdateMark = record { phase = phase; slot = slot } in
+    IsDevice (record (kept (read_of m statuses c g (s ∷ target_tables t) ss)) { control = c }) size)
+by_case size marks.Idle zero statuses c g s None ss heads current source target update both plan parts =
+    record {
+      enough = heads.enough;
+      geometry = heads.geometry;
+      control = heads.control;
+      phase = inl refl;
+      slot = heads.slot;
+      current = current;
+      has_a = refl;
+      has_b = refl;
+      copies_on = heads.copies_on;
+      parts_a = parts;
+      parts_b = tt;
+      table_a = source;
+      table_b = tt;
+      source = refl;
+      target = refl;
+      planned = refl;
+      plan = tt;
+      update = tt;
+    }
+by_case size marks.Idle (suc zero) statuses c g s None ss heads current source target update both plan parts =
+    record {
+      enough = heads.enough;
+      geometry = heads.geometry;
+      control = heads.control;
+      phase = inl refl;
+      slot = heads.slot;
+      current = current;
+      has_a = refl;
+      has_b = refl;
+      copies_on = heads.copies_on;
+      parts_a = tt;
+      parts_b = parts;
+      table_a = tt;
+      table_b = source;
+      source = refl;
+      target = refl;
+      planned = refl;
+      plan = tt;
+      update = tt;
+    }
+by_case size marks.Installing zero statuses c g s (Some l) ss heads current source target update both plan parts =
+    record {
+      enough = heads.enough;
+      geometry = heads.geometry;
+      control = heads.control;
+      phase = inr refl;
+      slot = heads.slot;
+      current = current;
+      has_a = refl;
+      has_b = refl;
+      copies_on = heads.copies_on;
+      parts_a = parts;
+      parts_b = tt;
+      table_a = source;
+      table_b = target;
+      source = refl;
+      target = refl;
+      planned = refl;
+      plan = plan;
+      update = update;
+    }
+by_case size marks.Installing (suc zero) statuses c g s (Some l) ss heads current source target update both plan parts =
+    record {
+      enough = heads.enough;
+      geometry = heads.geometry;
+      control = heads.control;
+      phase = inr refl;
+      slot = heads.slot;
+      current = current;
+      has_a = refl;
+      has_b = refl;
+      copies_on = heads.copies_on;
+      parts_a = tt;
+      parts_b = parts;
+      table_a = target;
+      table_b = source;
+      source = refl;
+      target = refl;
+      planned = refl;
+      plan = plan;
+      update = update;
+    }
+by_case size phase (suc (suc n)) statuses c g s t ss heads current source target update both plan parts =
+    absurd (omega (arith, heads.slot))
+by_case size marks.Idle zero statuses c g s (Some l) ss heads current source target update both plan parts =
+    absurd (let no : true ≡ false = both in cc)
+by_case size marks.Idle (suc zero) statuses c g s (Some l) ss heads current source target update both plan parts =
+    absurd (let no : true ≡ false = both in cc)
+by_case size marks.Installing zero statuses c g s None ss heads current source target update both plan parts =
+    absurd (let no : false ≡ true = both in cc)
+by_case size marks.Installing (suc zero) statuses c g s None ss heads current source target update both plan parts =
+    absurd (let no : false ≡ true = both in cc)
+by_case size marks.Staged slot statuses c g s t ss heads current source target update both plan parts =
+    absurd (no_staged heads.phase)
+  where
+    no_staged : IsPhase marks.Staged → ⊥
+    no_staged (inl e) = absurd (let no : marks.Staged ≡ marks.Idle = e in cc)
+    no_staged (inr e) = absurd (let no : marks.Staged ≡ marks.Installing = e in cc)
+by_case size marks.Merging slot statuses c g s t ss heads current source target update both plan parts =
+    absurd (no_merging heads.phase)
+  where
+    no_merging : IsPhase marks.Merging → ⊥
+    no_merging (inl e) = absurd (let no : marks.Merging ≡ marks.Idle = e in cc)
+    no_merging (inr e) = absurd (let no : marks.Merging ≡ marks.Installing = e in cc)
+by_case size marks.Completed slot statuses c g s t ss heads current source target update both plan parts =
+    absurd (no_completed heads.phase)
+  where
+    no_completed : IsPhase marks.Completed → ⊥
+    no_completed (inl e) = absurd (let no : marks.Completed ≡ marks.Idle = e in cc)
+    no_completed (inr e) = absurd (let no : marks.Completed ≡ marks.Installing = e in cc)
 
 -- What was read of a disk of so many sectors is a device there.
-pub device_kept : (size : ℕ) (m : UpdateMark) (c : Control) (g : Geometry) (t : Table)
-    → 4120 ≤ size
-    → IsGeometry g
-    → Fits c
-    → m.phase ≡ marks.Idle
-    → m.slot < 2
+pub device_kept : (size : ℕ) (m : UpdateMark) (statuses : List (Option PartStatus)) (c : Control)
+    (g : Geometry) (s : Table) (t : Option Loaded) (ss : List Scanned)
+    → AreHeads size m c g
     → c.current ≡ m.slot
-    → copies_end g ≤ super_bytes size
-    → KeepsRules t
-    → IsOwn m.slot (layout_of t).parts
-    → lies_in size g (layout_of t).device ≡ true
-    → IsDevice (idle_kept m c g t) size
-device_kept size m c g t enough rules fits phase below current on keeps own lies =
-    let all : AreParts size (parts_of m.slot (layout_of t)) =
-    parts_kept size m.slot g (layout_of t) enough (layout_keeps t keeps) own lies in
-    let table : IsTableOf size g m.slot t = record { rules = keeps; own = own; lies = lies } in
-    of_idle size m c g t phase enough rules fits below current on all table
-  where
-    at_slot : (size k : ℕ) (slot : ℕ) (t : Table)
-        → AreParts size (parts_of slot (layout_of t))
-        → ArePresent size (parts_for k (slot == k) (table_for k (slot ∷ []) (t ∷ [])))
-    at_slot size k slot t are = elim (cases_Bool (eqb slot k)) [
-      | inl h ↦ rw h (subst (λ (n : ℕ). AreParts size (parts_of n (layout_of t))) (eqb-true slot k h) are)
-      | inr h ↦ rw h tt
-    ]
+    → IsTableOf size g m.slot s
+    → IfSome t (λ l. IsTableOf size g (other_slot m.slot) l.table)
+    → IfSome t (λ l. AreOfUpdate m.slot s l.table)
+    → is_some t ≡ is_installing m.phase
+    → IfSome t (λ l. ArePlanned size (plan_of (other_slot m.slot) (layout_of l.table) ss))
+    → IsDevice (record (kept (read_of m statuses c g (s ∷ target_tables t) ss)) { control = c }) size
+device_kept size m statuses c g s t ss heads current source target update both plan =
+    by_case size m.phase m.slot statuses c g s t ss heads current source target update both plan
+    (parts_kept size m.slot g (layout_of s) heads.enough (layout_keeps s source.rules) source.own
+    source.lies)
 
-    of_idle : (size : ℕ) (m : UpdateMark) (c : Control) (g : Geometry) (t : Table)
-        → m.phase ≡ marks.Idle
-        → 4120 ≤ size
-        → IsGeometry g
-        → Fits c
-        → m.slot < 2
-        → c.current ≡ m.slot
-        → copies_end g ≤ super_bytes size
-        → AreParts size (parts_of m.slot (layout_of t))
-        → IsTableOf size g m.slot t
-        → IsDevice (idle_kept m c g t) size
-    of_idle size m c g t phase enough rules fits below current on all table =
-        let idle_one : UpdateMark = record { phase = marks.Idle; slot = m.slot } in
-        let same : idle_one ≡ m = rw (sym phase) refl in
-        let one = has_one_table m.slot t below in
-        subst (λ (k : UpdateMark). IsDevice (idle_kept k c g t) size) same
-        (record {
-          enough = enough;
-          geometry = rules;
-          control = fits;
-          phase = inl refl;
-          slot = below;
-          current = current;
-          has_a = some_at m.slot 0 t;
-          has_b = some_at m.slot 1 t;
-          copies_on = on;
-          parts_a = at_slot size 0 m.slot t all;
-          parts_b = at_slot size 1 m.slot t all;
-          table_a = table_at_slot size m.slot 0 g t table;
-          table_b = table_at_slot size m.slot 1 g t table;
-          source = one.source;
-          target = ap is_some one.target;
-          planned = refl;
-          plan = tt;
-          update =
-              subst
-              (λ (x : Option Table).
-              IsUpdate m.slot
-              (cond (m.slot == 0) (table_for 0 (m.slot ∷ []) (t ∷ [])) (table_for 1 (m.slot ∷ []) (t ∷ [])))
-              x)
-              (sym one.target) one.update;
-        })
+-- the stores of a target whose blocks stand once
+pub target_table : (slot : ℕ) (source : List PartOfLayout) (t : Table)
+    → KeepsRules t
+    → IsTarget slot source (layout_of t).parts
+    → IsTargetTable slot t
+target_table slot source t keeps target = record {
+  rules = keeps;
+  own = target.own;
+  stores = stores_once (own_parts slot (layout_of t).parts) (store_parts slot (layout_of t).parts)
+      target.once;
+}
+  where
+    rest_once : (ps qs : List PartOfLayout)
+        → IsDistinct (blocks_of_parts (ps ++ qs))
+        → IsDistinct (blocks_of_parts qs)
+    rest_once [] qs once = once
+    rest_once (p ∷ ps) qs once = rest_once ps qs (pairs_right p.blocks (blocks_of_parts (ps ++ qs)) once)
+
+    stores_once : (ps qs : List PartOfLayout)
+        → IsDistinct (blocks_of_parts (ps ++ qs))
+        → All (λ p. IsDistinct p.blocks) qs
+    stores_once ps qs once = each_distinct qs (rest_once ps qs once)
+
+pub target_on_disk : (size : ℕ) (g : Geometry) (t : Table)
+    → 4120 ≤ size
+    → KeepsRules t
+    → lies_in size g (layout_of t).device ≡ true
+    → 4096 + ((layout_of t).device.first_logical_sector + 8 * cap_of (layout_of t).device) ≤ size
+target_on_disk size g t enough keeps lies =
+    omega (arith, blocks_on size g (layout_of t).device enough (layout_keeps t keeps).device lies)

@@ -1,4 +1,7 @@
 pub mod DeviceLaws
+pub mod FinishLaws
+pub mod FrameLaws
 pub mod OpenLaws
 pub mod PartLaws
+pub mod PlanLaws
 pub mod ReadLaws

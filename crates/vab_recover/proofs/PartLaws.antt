@@ -1,5 +1,7 @@
 -- Where the blocks of a slot's own partitions stand.
-use Rattle.std.proofs.Common.{◌≡◌, ℕ, zero, suc, ◌+◌, ◌-◌, ◌*◌, ◌/◌, ◌^◌, ◌≤◌, ◌<◌, inl, inr, Bool, true, false, List, [], ◌∷◌, ◌++◌, length, get_or, take, drop, leb, codes, refl, sym, ◌∙◌, ap, subst, arith, append-nil}
+use Rattle.std.proofs.Common.{◌≡◌, ℕ, zero, suc, ◌+◌, ◌-◌, ◌*◌, ◌/◌, ◌^◌, ◌≤◌, ◌<◌, inl, inr, Bool}
+use Rattle.std.proofs.Common.{true, false, List, [], ◌∷◌, ◌++◌, length, get_or, take, drop, leb}
+use Rattle.std.proofs.Common.{codes, refl, sym, ◌∙◌, ap, subst, arith, append-nil}
 use Rattle.std.specs.Prelude.{map, All, sum_by}
 use Rattle.std.specs.List.{flat_map, filter, range_with_len}
 use Rattle.std.specs.Str.{bytes_eq}
@@ -7,7 +9,8 @@ use Rattle.std.proofs.lemmas.Bool.{cases_Bool, leb-true, and_parts}
 use Rattle.std.proofs.lemmas.Slice.Eq.{bytes_eq-Decides}
 use Rattle.std.proofs.lemmas.List.{map-append, length-map, length-append, get_or-map, take_more}
 use Rattle.std.proofs.lemmas.List.FromFn.{length-range_with_len}
-use Rattle.std.proofs.lemmas.List.Elements.{All-head, All-tail, All-take, All-drop, All-map, All-weaker, filter-append}
+use Rattle.std.proofs.lemmas.List.Elements.{All-head, All-tail, All-take, All-drop, All-map}
+use Rattle.std.proofs.lemmas.List.Elements.{All-weaker, filter-append}
 use Rattle.std.proofs.lemmas.List.Sums.{sum_by-cons}
 use Rattle.vab_bytes.specs.Name.{IsName}
 use Rattle.vab_bytes.specs.NameLaws.{name_fits}
@@ -19,14 +22,15 @@ use Rattle.vab_tables.specs.declared.entries.Partition.{Partition}
 use Rattle.vab_tables.specs.declared.table.Table.{Table}
 use Rattle.vab_tables.specs.declared.entries.Group.{Group}
 use Rattle.vab_tables.specs.Rules.{is_shared, has_slot, IsDevice, IsExtent, IsGroup, KeepsRules}
-use Rattle.vab_blocks.specs.Blocks.{blocks_of_extent, extents_of, first_sector_of, first_sector_of_devices}
+use Rattle.vab_blocks.specs.Blocks.{blocks_of_extent, extents_of, first_sector_of}
+use Rattle.vab_blocks.specs.Blocks.{first_sector_of_devices}
 use Rattle.vab_linear.specs.Map.{run_of, blocks_of}
 use Rattle.vab_linear.proofs.MapLaws.{blocks_of-nil, blocks_of-cons}
 use Rattle.vab_layout.specs.declared.layout.Part.{Part as PartOfLayout}
 use Rattle.vab_layout.specs.Layout.{part_of, layout_of, first_device, blocks_of_partition}
 use Rattle.vab_layout.specs.Slots.{IsOwnPart, IsOwn}
 use Rattle.vab_layout.specs.Plain.{own_groups}
-use Rattle.vab_device.specs.Kept.{limits_of, sectors_of, part_on}
+use Rattle.vab_device.specs.Kept.{limits_of, sectors_of}
 use Rattle.vab_model.specs.declared.state.GroupLimit.{GroupLimit}
 
 -- ---- blocks as sectors

@@ -1,62 +1,232 @@
--- What opening a device answers and leaves.
-use Rattle.std.specs.Prelude.{◌≡◌, ℕ, ◌==◌, if◌then◌else◌, List, [], ◌∷◌, Bool, Some, None, Ok}
+-- What opening a device reads, answers and leaves.
+use Rattle.std.specs.Prelude.{◌≡◌, ◌⊎◌, ℕ, ◌<◌, ◌≤◌, ◌^◌, ◌==◌, if◌then◌else◌, List, [], ◌∷◌}
+use Rattle.std.specs.Prelude.{length}
+use Rattle.std.specs.Prelude.{Bool, Option, Some, None, is_some, Ok, IfSome, IsTrue, nat_le, true}
+use Rattle.std.specs.Prelude.{false, map, All, Result}
 use Rattle.vab_disk.specs.Disk.{Image, Outcome}
-use Rattle.vab_bootctl.specs.Control.{control_of}
+use Rattle.vab_bootctl.specs.Control.{control_of, Fits}
 use Rattle.vab_bootctl.specs.declared.slots.Control.{Control}
 use Rattle.vab_marks.specs.declared.mark.UpdateMark.{UpdateMark}
+use Rattle.vab_marks.specs.declared.status.PartStatus.{PartStatus}
 use Rattle.vab_geometry.specs.declared.geometry.Geometry.{Geometry}
+use Rattle.vab_geometry.specs.Geometry.{IsGeometry}
 use Rattle.vab_tables.specs.declared.table.Table.{Table}
+use Rattle.vab_tables.specs.Spelling.{table_size_of}
+use Rattle.vab_tables.specs.Text.{IsTableText}
 use Rattle.vab_lpstore.specs.declared.loaded.Loaded.{Loaded}
 use Rattle.vab_lpstore.specs.Layout.{primary_bytes, backup_bytes, BothHold}
 use Rattle.vab_lpstore.specs.Loading.{IsLoaded}
 use Rattle.vab_lpstore.specs.Storing.{IsOfRepair}
+use Rattle.vab_layout.specs.Layout.{layout_of}
+use Rattle.vab_layout.specs.Slots.{other_slot}
 use Rattle.vab_device.specs.declared.device.Device.{Device}
-use Rattle.vab_device.specs.Idle.{idle_read}
-use Rattle.vab_device.specs.Mounted.{Mounted}
-use Rattle.vab_device.specs.Reading.{Read, kept, device, Reads}
+use Rattle.vab_statuses.specs.Statuses.{written_in}
+use Rattle.vab_tables.specs.Rules.{cap_of}
+use Rattle.vab_device.specs.declared.fault.StartFault.{StartFault}
+use Rattle.vab_device.specs.declared.device.Planned.{Planned}
+use Rattle.vab_device.specs.Checks.{first_fault}
+use Rattle.vab_device.specs.Idle.{control_read_of}
+use Rattle.vab_device.specs.Kept.{lies_in, is_installing, IsPhase, copies_end, super_bytes}
+use Rattle.vab_device.specs.Kept.{limits_of, parts_of}
+use Rattle.vab_device.specs.Phases.{phase_at, own_check, update_checks, plan_of}
+use Rattle.vab_device.specs.Reading.{Read, mark_in, statuses_at, geometry_at, tables_in, kept}
+use Rattle.vab_device.specs.Reading.{device}
+use Rattle.vab_device.specs.Reading.{Reads}
+use Rattle.vab_device.specs.Stores.{Wanted, Scanned, wanted_of, scans_in}
+use Rattle.vab_recover.specs.Scans.{IsScanned}
+use Rattle.vab_recover.specs.declared.table.Tables.{Tables}
+use Rattle.vab_recover.specs.declared.frame.Frame.{Frame}
 
--- the device that is kept of it, with the whole boot control
-abbrev pub idle_kept : UpdateMark → Control → Geometry → Table → Device
-idle_kept m c g t = record (kept (idle_read m c g t)) { control = c }
+-- ---- what is read in front of the stores
 
--- the device with the table of its slot
-abbrev pub with_table : Table → Device → Device
-with_table t d = record d {
-  table_a = if d.mark.slot == 0 then Some t else None;
-  table_b = if d.mark.slot == 1 then Some t else None;
+abbrev pub read_of : UpdateMark
+    → List (Option PartStatus)
+    → Control
+    → Geometry
+    → List Table
+    → List Scanned
+    → Read
+read_of m statuses c g ts scanned = record {
+  mark = m;
+  statuses = statuses;
+  control = control_read_of m.slot c;
+  geometry = g;
+  tables = ts;
+  scanned = scanned;
 }
 
--- A device that was read of a disk, but for its table, and the table that was loaded.
-pub record IsOpened (d : Device) (l : Loaded) (size : ℕ) (image : Image) : Type 0 where
-  pub reads : Reads size (idle_read d.mark d.control d.geometry l.table) image
+-- the mark and the statuses of a disk that is large enough
+pub record IsMarked (size : ℕ) (image : Image) (m : UpdateMark) (ss : List (Option PartStatus))
+    : Type 0 where
+  pub enough : nat_le 4120 size ≡ true
+  pub mark : mark_in image ≡ Ok m
+  pub statuses : statuses_at (phase_at m.phase).reads_statuses image ≡ Ok ss
+
+-- those, the whole boot control and the geometry
+pub record IsHeaded
+    (size : ℕ)
+    (image : Image)
+    (m : UpdateMark)
+    (ss : List (Option PartStatus))
+    (c : Control)
+    (g : Geometry) : Type 0 where
+  pub marked : IsMarked size image m ss
+  pub control : control_of (image 4) ≡ Ok c
+  pub geometry : geometry_at size image ≡ Ok g
+
+-- what holds of the heads over every disk
+pub record AreHeads (size : ℕ) (m : UpdateMark) (c : Control) (g : Geometry) : Type 0 where
+  pub enough : 4120 ≤ size
+  pub phase : IsPhase m.phase
+  pub slot : m.slot < 2
+  pub control : Fits c
+  pub geometry : IsGeometry g
+  pub copies_on : copies_end g ≤ super_bytes size
+
+-- ---- tables
+
+abbrev pub target_tables : Option Loaded → List Table
+target_tables None = []
+target_tables (Some l) = l.table ∷ []
+
+-- the tables that were loaded, the source's first
+abbrev pub tables_of : Tables → List Table
+tables_of t = t.source.table ∷ target_tables t.target
+
+-- the slots whose tables are read behind the source's
+abbrev pub target_slots : UpdateMark → List ℕ
+target_slots m = if is_installing m.phase then other_slot m.slot ∷ [] else []
+
+-- the copies of the slot's table are loaded so
+abbrev pub IsLoadedAt : Geometry → ℕ → Image → Loaded → Type 0
+IsLoadedAt g slot image l =
+    IsLoaded g.max (primary_bytes g slot image) (backup_bytes g slot image) l
+
+-- so are those of both slots
+pub record AreLoaded (g : Geometry) (slot : ℕ) (image : Image) (t : Tables) : Type 0 where
+  pub source : IsLoadedAt g slot image t.source
+  pub target : IfSome t.target (IsLoadedAt g (other_slot slot) image)
+
+-- what holds of a loaded table over every disk
+pub record IsTableThere (size : ℕ) (g : Geometry) (l : Loaded) : Type 0 where
+  pub text : IsTableText g.max l.text l.table
+  pub fits : length l.text ≤ g.max
+  pub small : table_size_of l.table < 2 ^ 24
+  pub lies : IsTrue (lies_in size g (layout_of l.table).device)
+
+pub record AreTablesThere (size : ℕ) (g : Geometry) (m : UpdateMark) (t : Tables) : Type 0 where
+  pub source : IsTableThere size g t.source
+  pub target : IfSome t.target (IsTableThere size g)
+  pub both : is_some t.target ≡ is_installing m.phase
+
+-- what is read of a disk in front of its stores
+pub record IsFramed (size : ℕ) (image : Image) (f : Frame) : Type 0 where
+  pub heads : IsHeaded size image f.heads.mark f.heads.statuses.items f.heads.control
+      f.heads.geometry
+  pub tables : tables_in size f.heads.geometry
+      ((phase_at f.heads.mark.phase).tables f.heads.mark.slot)
+      image
+      ≡ Ok (tables_of f.tables)
+  pub loaded : AreLoaded f.heads.geometry f.heads.mark.slot image f.tables
+
+-- ---- rules and plan
+
+-- the first fault of the tables and of their partitions
+abbrev pub fault_of : ℕ → Table → Option Loaded → Option StartFault
+fault_of slot s None = own_check slot s
+fault_of slot s (Some l) = first_fault (update_checks slot s l.table)
+
+-- the stores that are read
+abbrev pub stores_by : ℕ → Option Loaded → List PartStatus → List (Result Wanted StartFault)
+stores_by slot None statuses = []
+stores_by slot (Some l) statuses = map (wanted_of (other_slot slot) (layout_of l.table)) statuses
+
+abbrev pub plan_by : ℕ → Option Loaded → List Scanned → Option (List Planned)
+plan_by slot None scanned = None
+plan_by slot (Some l) scanned = Some (plan_of (other_slot slot) (layout_of l.table) scanned)
+
+-- the plan with what the stores hold
+pub record IsPlanRead
+    (modelled : Type 0)
+    (slot : ℕ)
+    (target : Option Loaded)
+    (statuses : List (Option PartStatus))
+    (image : Image)
+    (plan : Option (List Planned)) : Type 0 where
+  pub scanned : List Scanned
+  pub plan_is : plan ≡ plan_by slot target scanned
+  pub are : IfSome target (λ l. All (IsScanned (other_slot slot) (layout_of l.table)) scanned)
+  pub read : modelled → scans_in (stores_by slot target (written_in statuses)) image ≡ Ok scanned
+
+-- a device of these parts, but for its tables
+pub record IsAssembled
+    (d : Device)
+    (m : UpdateMark)
+    (c : Control)
+    (g : Geometry)
+    (s : Table)
+    (planned : Option (List Planned)) : Type 0 where
+  pub mark : d.mark ≡ m
+  pub control : d.control ≡ c
+  pub geometry : d.geometry ≡ g
+  pub cap : d.cap ≡ cap_of (layout_of s).device
+  pub groups : d.groups ≡ limits_of m.slot s.groups
+  pub a : d.a ≡ (if m.slot == 0 then Some (parts_of m.slot (layout_of s)) else None)
+  pub b : d.b ≡ (if m.slot == 1 then Some (parts_of m.slot (layout_of s)) else None)
+  pub plan : d.plan ≡ planned
+
+-- ---- what is opened
+
+-- the device with the tables that were loaded
+abbrev pub table_if : Bool → Table → Option Loaded → Option Table
+table_if true t target = Some t
+table_if false t None = None
+table_if false t (Some l) = Some l.table
+
+abbrev pub with_tables : Tables → Device → Device
+with_tables t d = record d {
+  table_a = table_if (d.mark.slot == 0) t.source.table t.target;
+  table_b = table_if (d.mark.slot == 1) t.source.table t.target;
+}
+
+-- A device that was read of a disk, but for its tables, and the tables that were loaded.
+pub record IsOpened (d : Device) (t : Tables) (size : ℕ) (image : Image) : Type 0 where
+  pub statuses : List (Option PartStatus)
+  pub scanned : List Scanned
+  pub reads : Reads size
+      (read_of d.mark statuses d.control d.geometry (tables_of t) scanned)
+      image
+  pub is : with_tables t d
+      ≡ record (kept (read_of d.mark statuses d.control d.geometry (tables_of t) scanned)) {
+        control = d.control;
+      }
   pub control : control_of (image 4) ≡ Ok d.control
-  pub loaded : IsLoaded d.geometry.max
-      (primary_bytes d.geometry d.mark.slot image)
-      (backup_bytes d.geometry d.mark.slot image)
-      l
+  pub loaded : AreLoaded d.geometry d.mark.slot image t
 
 -- with nothing more told, a disk that means the same
 pub record LeavesSame (told : List ℕ) (size : ℕ) (old : Image) (o : Outcome) : Type 0 where
   pub told_so_far : o.told ≡ told
   pub same : device size o.image ≡ device size old
 
--- What opening may write: the one copy of the table that is read which doesn't hold its text.
+-- one of these slots
+abbrev pub IsOneOf : ℕ → List ℕ → Type 0
+IsOneOf slot [] = ⊥
+IsOneOf slot (s ∷ ss) = (slot ≡ s) ⊎ IsOneOf slot ss
+
+-- What opening may write: of a table that is read, the one copy which doesn't hold its text.
 pub record IsRepair (size : ℕ) (image : Image) (s : ℕ) (b : List ℕ) : Type 0 where
   pub read : Read
   pub reads : Reads size read image
+  pub slot : ℕ
+  pub is_read : IsOneOf slot ((phase_at read.mark.phase).tables read.mark.slot)
   pub table : Loaded
-  pub loaded : IsLoaded read.geometry.max
-      (primary_bytes read.geometry read.mark.slot image)
-      (backup_bytes read.geometry read.mark.slot image)
-      table
-  pub writes : IsOfRepair table.primary table.backup read.geometry read.mark.slot table.text s b
+  pub loaded : IsLoadedAt read.geometry slot image table
+  pub writes : IsOfRepair table.primary table.backup read.geometry slot table.text s b
 
--- both copies of the table that is read hold its text
+-- both copies of each table that is read hold its text
 abbrev pub BothCopiesHold : ℕ → Image → Type 0
-BothCopiesHold size image = (r : Read) (l : Loaded)
+BothCopiesHold size image = (r : Read) (slot : ℕ) (l : Loaded)
     → Reads size r image
-    → IsLoaded r.geometry.max
-    (primary_bytes r.geometry r.mark.slot image)
-    (backup_bytes r.geometry r.mark.slot image)
-    l
-    → BothHold r.geometry r.mark.slot l.text image
+    → IsOneOf slot ((phase_at r.mark.phase).tables r.mark.slot)
+    → IsLoadedAt r.geometry slot image l
+    → BothHold r.geometry slot l.text image

@@ -1,26 +1,26 @@
-//! The rules of the slot with images, and the device that is kept.
+//! The rules of tables, partitions and slots, and the device that is kept.
 
-ghost use Rattle.std.specs.Prelude.{◌≡◌, ◌<◌, ℕ, IfOk, OnOk, IfErr, OnErr, Err, ◌==◌};
-ghost use Rattle.std.specs.Prelude.{if◌then◌else◌, Some, None, [], ◌∷◌, true};
-ghost use Rattle.vab_bootctl.specs.Boot.{info_at};
-ghost use Rattle.vab_marks.specs.declared.mark.MarkPhase.TheVariants as marks;
+ghost use Rattle.std.specs.Prelude.{◌≡◌, ◌<◌, ℕ, IfOk, OnOk, IfErr, OnErr, Err, ◌==◌, IfSome};
+ghost use Rattle.std.specs.Prelude.{if◌then◌else◌, Some, None};
 ghost use Rattle.vab_tables.specs.Rules.{KeepsRules};
 ghost use Rattle.vab_layout.specs.Layout.{layout_of};
 ghost use Rattle.vab_layout.specs.Slots.{IsOwn};
-ghost use Rattle.vab_device.specs.Checks.{first_fault, or_else};
+ghost use Rattle.vab_device.specs.Checks.{first_fault};
 ghost use Rattle.vab_device.specs.Faults.{IsOfContents, IsOfDisk};
-ghost use Rattle.vab_device.specs.Phases.{idle, own_check, is_good};
+ghost use Rattle.vab_device.specs.Phases.{slot_checks, own_check, update_checks, is_good};
 ghost use Rattle.vab_device.specs.Idle.{control_read_of};
-ghost use Rattle.vab_recover.specs.Opened.{idle_kept, with_table};
+ghost use Rattle.vab_device.specs.Kept.{AreOfUpdate};
+ghost use Rattle.vab_recover.specs.Opened.{fault_of, IsAssembled};
 
 use crate::parts::{limits, parts};
+use crate::table::Tables;
 use std::alloc::Global;
 use vab_bootctl::{Control, Info};
 use vab_bytes::Listing;
-use vab_device::{Device, Part, StartFault};
+use vab_device::{Device, Part, Planned, StartFault};
 use vab_geometry::Geometry;
 use vab_marks::UpdateMark;
-use vab_partitions::bad_partition;
+use vab_partitions::{bad_partition, bad_target, has_twins, same_device};
 use vab_tables::Table;
 
 // Whether a slot may be booted as one that works.
@@ -30,13 +30,14 @@ fn is_good(info: &Info) -> bool
     info.priority != 0 && info.successful
 }
 
-// The rules of the slot with images, by its boot control.
-fn judge_slot(control: &Control, slot: usize) -> Result<(), StartFault>
+/// Whether the boot control of the slot with images keeps its rules. `BadState` comes exactly where
+/// it says.
+pub fn judge_slot(control: &Control, slot: usize) -> Result<(), StartFault>
     requires slot { slot < 2 }
     ensures ok { OnOk result
-        (first_fault (idle.state_checks slot (control_read_of slot control.now)) ≡ None) }
+        (first_fault (slot_checks slot (control_read_of slot control.now)) ≡ None) }
     ensures fault { IfErr result
-        (λ f. first_fault (idle.state_checks slot (control_read_of slot control.now)) ≡ Some f) }
+        (λ f. first_fault (slot_checks slot (control_read_of slot control.now)) ≡ Some f) }
     ensures kind { IfErr result (λ f. IsOfDisk f → ⊥) }
     ensures current { OnOk result (control.now.current ≡ slot) }
 {
@@ -50,26 +51,71 @@ fn judge_slot(control: &Control, slot: usize) -> Result<(), StartFault>
     Ok(())
 }
 
-/// Whether the partitions of the slot and its boot control keep the rules of a device.
-/// `BadPartition` and `BadState` come exactly where they say, the partitions' first.
-pub fn judge(alloc: Global, table: &Table, control: &Control, slot: usize) -> Result<(), StartFault>
+// Whether a slot's own partitions keep their rules.
+fn judge_own(alloc: Global, table: &Table, slot: usize) -> Result<(), StartFault>
     requires slot { slot < 2 }
     requires keeps { KeepsRules table.now }
-    ensures parts { OnOk result (own_check slot table.now ≡ None) }
-    ensures state { OnOk result
-        (first_fault (idle.state_checks slot (control_read_of slot control.now)) ≡ None) }
-    ensures fault { IfErr result (λ f. IsOfContents f
-        → or_else (own_check slot table.now)
-        (first_fault (idle.state_checks slot (control_read_of slot control.now)))
-        ≡ Some f) }
+    ensures kept { OnOk result (own_check slot table.now ≡ None) }
+    ensures fault { IfErr result (λ f. IsOfContents f → own_check slot table.now ≡ Some f) }
     ensures own { OnOk result (IsOwn slot (layout_of table.now).parts) }
-    ensures current { OnOk result (control.now.current ≡ slot) }
     ensures kind { IfErr result (λ f. IsOfDisk f → ⊥) }
 {
-    if let Some(name) = bad_partition(alloc, table, slot)? {
-        return Err(StartFault::BadPartition(name));
+    match bad_partition(alloc, table, slot) {
+        Ok(None) => Ok(()),
+        Ok(Some(name)) => Err(StartFault::BadPartition(name)),
+        Err(_) => Err(StartFault::NoMemory),
     }
-    judge_slot(control, slot)
+}
+
+// Whether both tables are those of an update from this slot.
+fn judge_update(
+    alloc: Global,
+    source: &Table,
+    target: &Table,
+    slot: usize,
+) -> Result<(), StartFault>
+    requires slot { slot < 2 }
+    requires source_keeps { KeepsRules source.now }
+    requires target_keeps { KeepsRules target.now }
+    ensures kept { OnOk result (first_fault (update_checks slot source.now target.now) ≡ None) }
+    ensures fault { IfErr result (λ f. IsOfContents f
+        → first_fault (update_checks slot source.now target.now) ≡ Some f) }
+    ensures own { OnOk result (IsOwn slot (layout_of source.now).parts) }
+    ensures update { OnOk result (AreOfUpdate slot source.now target.now) }
+    ensures kind { IfErr result (λ f. IsOfDisk f → ⊥) }
+{
+    if !same_device(source, target) || !has_twins(source, target, 1 - slot) {
+        return Err(StartFault::BadTable(1 - slot));
+    }
+    match judge_own(alloc, source, slot) {
+        Err(fault) => Err(fault),
+        Ok(()) => match bad_target(alloc, source, target, 1 - slot) {
+            Ok(None) => Ok(()),
+            Ok(Some(name)) => Err(StartFault::BadPartition(name)),
+            Err(_) => Err(StartFault::NoMemory),
+        },
+    }
+}
+
+/// Whether the tables and the partitions keep the rules of a device, where the mark has this slot.
+/// `BadTable` and `BadPartition` come exactly where they say.
+pub fn judge_parts(alloc: Global, tables: &Tables, slot: usize) -> Result<(), StartFault>
+    requires slot { slot < 2 }
+    requires source { KeepsRules tables.now.source.table }
+    requires target { IfSome tables.now.target (λ l. KeepsRules l.table) }
+    ensures kept { OnOk result
+        (fault_of slot tables.now.source.table tables.now.target ≡ None) }
+    ensures fault { IfErr result (λ f. IsOfContents f
+        → fault_of slot tables.now.source.table tables.now.target ≡ Some f) }
+    ensures own { OnOk result (IsOwn slot (layout_of tables.now.source.table).parts) }
+    ensures update { OnOk result (IfSome tables.now.target
+        (λ l. AreOfUpdate slot tables.now.source.table l.table)) }
+    ensures kind { IfErr result (λ f. IsOfDisk f → ⊥) }
+{
+    match &tables.target {
+        None => judge_own(alloc, &tables.source.table, slot),
+        Some(target) => judge_update(alloc, &tables.source.table, &target.table, slot),
+    }
 }
 
 // The partitions of each slot, where this one has images.
@@ -85,23 +131,19 @@ fn by_slot(parts: Listing<Part>, slot: usize) -> (Option<Listing<Part>>, Option<
     }
 }
 
-/// The device of a table that was judged, but for the table itself.
+/// The device whose source has this table, but for its tables.
 pub fn assemble(
     alloc: Global,
     table: &Table,
     geometry: Geometry,
     control: Control,
     mark: UpdateMark,
+    plan: Option<Listing<Planned>>,
 ) -> Result<Device, StartFault>
     requires slot { mark.slot < 2 }
-    requires phase { mark.phase ≡ marks.Idle }
     requires keeps { KeepsRules table.now }
     requires own { IsOwn mark.slot (layout_of table.now).parts }
-    ensures kept { IfOk result
-        (λ d. with_table table.now d ≡ idle_kept mark control geometry table.now) }
-    ensures mark { IfOk result (λ d. d.mark ≡ mark) }
-    ensures control { IfOk result (λ d. d.control ≡ control) }
-    ensures geometry { IfOk result (λ d. d.geometry ≡ geometry) }
+    ensures is { IfOk result (λ d. IsAssembled d mark control geometry table.now plan) }
     ensures fault { OnErr result (result ≡ Err StartFault.NoMemory) }
 {
     let groups = limits(alloc, table, mark.slot)?;
@@ -117,6 +159,6 @@ pub fn assemble(
         b,
         table_a: None,
         table_b: None,
-        plan: None,
+        plan,
     })
 }

@@ -1,9 +1,11 @@
 //! Opening a device: what its disk holds, and repairs of what was cut off.
 #![tactic(auto)]
 
+mod frame;
 mod judge;
 mod opening;
 mod parts;
+mod plan;
 mod read;
 mod table;
 

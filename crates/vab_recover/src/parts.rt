@@ -18,13 +18,13 @@ use vab_model::GroupLimit;
 use vab_names::{base_of, is_of_slot, parse_base};
 use vab_tables::{Group, Partition, Table};
 
-// Where the blocks of a partition stand on the disk.
-fn map(alloc: Global, table: &Table, partition: &Partition) -> Result<Map, StartFault>
+/// Where the blocks of a partition stand on the disk.
+pub fn map(alloc: Global, table: &Table, partition: &Partition) -> Result<Map, StartFault>
     requires keeps { KeepsRules table.now }
     requires rules { IsPartition table.now.minor (length table.now.extents)
         (length table.now.groups) partition.now }
-    requires small { length (blocks_of_partition table.now partition.now) ≤ 2 ^ 28 }
-    ensures blocks { IfOk result (λ m. m
+    requires small { length (blocks_of_partition table.now partition.now) < 2 ^ 60 }
+    ensures sectors { IfOk result (λ m. m
         ≡ sectors_of (first_sector_of table.now)
         (blocks_of_partition table.now partition.now)) }
     ensures fault { OnErr result (result ≡ Err StartFault.NoMemory) }
@@ -36,8 +36,8 @@ fn map(alloc: Global, table: &Table, partition: &Partition) -> Result<Map, Start
     Ok(Map::new(alloc, &runs)?)
 }
 
-// The base name of a partition.
-fn base(name: &Name36) -> Name36
+/// The base name of a partition.
+pub fn base(name: &Name36) -> Name36
     requires long { 2 ≤ length name.now }
     requires is { IsTrue (is_base (base_of name.now)) }
     ensures { result ≡ base_of name.now }

@@ -3,13 +3,12 @@
 ghost use Rattle.std.specs.Prelude.{◌≡◌, ◌<◌, ◌≤◌, ◌^◌, Bool, IfOk, IfErr, Ok, Err};
 ghost use Rattle.vab_disk.specs.Calls.{OnlyReads};
 ghost use Rattle.vab_bootctl.specs.Control.{Fits, control_of};
-ghost use Rattle.vab_marks.specs.declared.mark.MarkPhase.TheVariants as marks;
 ghost use Rattle.vab_marks.specs.Mark.{mark_of};
 ghost use Rattle.vab_geometry.specs.Geometry.{IsGeometry};
 ghost use Rattle.vab_device.specs.Faults.{Answers, IsOfContents, IsOfDisk};
-ghost use Rattle.vab_device.specs.Kept.{copies_end, super_bytes};
+ghost use Rattle.vab_device.specs.Kept.{copies_end, super_bytes, is_installing, IsPhase};
 ghost use Rattle.vab_device.specs.Reading.{mark_read, mark_in, control_read, control_in};
-ghost use Rattle.vab_device.specs.Reading.{geometry_at};
+ghost use Rattle.vab_device.specs.Reading.{geometry_at, statuses_at};
 ghost use Rattle.vab_recover.specs.Counts.{CountsFaults};
 
 use vab_bootctl::{Control, decode_control};
@@ -18,6 +17,7 @@ use vab_disk::Disk;
 use vab_gate::get_sector;
 use vab_geometry::{Geometry, LoadFault, SUPER, load_geometry};
 use vab_marks::{MarkPhase, UpdateMark, decode_mark};
+use vab_statuses::{StatusFault, Statuses, read_statuses};
 
 /// The disk sector of the update mark.
 pub const MARK_SECTOR: u64 = 2048;
@@ -40,17 +40,33 @@ fn read<D: Disk>(d: &mut D, at: u64) -> Result<[u8; 512], StartFault>
     }
 }
 
-// The mark of these bytes, of a device without an update.
-fn idle_mark(sector: &[u8; 512]) -> Result<UpdateMark, StartFault>
+/// Whether an update is installed in this phase.
+pub fn is_installing(phase: MarkPhase) -> bool
+    ensures { result ≡ is_installing phase }
+{
+    match phase {
+        MarkPhase::Idle => false,
+        MarkPhase::Installing => true,
+        MarkPhase::Staged => false,
+        MarkPhase::Merging => false,
+        MarkPhase::Completed => false,
+    }
+}
+
+// The mark of these bytes, of a phase that a device may be in.
+fn known_mark(sector: &[u8; 512]) -> Result<UpdateMark, StartFault>
     ensures answers { Answers result (mark_read (mark_of sector.now)) }
     ensures kind { IfErr result IsOfContents }
-    ensures phase { IfOk result (λ m. m.phase ≡ marks.Idle) }
+    ensures phase { IfOk result (λ m. IsPhase m.phase) }
     ensures slot { IfOk result (λ m. m.slot < 2) }
 {
     match decode_mark(sector) {
         Ok(mark) => match mark.phase {
             MarkPhase::Idle => Ok(mark),
-            _ => Err(StartFault::BadMark(MARK_SECTOR)),
+            MarkPhase::Installing => Ok(mark),
+            MarkPhase::Staged => Err(StartFault::BadMark(MARK_SECTOR)),
+            MarkPhase::Merging => Err(StartFault::BadMark(MARK_SECTOR)),
+            MarkPhase::Completed => Err(StartFault::BadMark(MARK_SECTOR)),
         },
         Err(_) => Err(StartFault::BadMark(MARK_SECTOR)),
     }
@@ -61,13 +77,34 @@ fn idle_mark(sector: &[u8; 512]) -> Result<UpdateMark, StartFault>
 pub fn read_mark<D: Disk>(d: &mut D) -> Result<UpdateMark, StartFault>
     requires { 2048 < D.size d.old }
     ensures answers { D.is_modelled → Answers result (mark_in (D.seen d.old)) }
-    ensures phase { IfOk result (λ m. m.phase ≡ marks.Idle) }
+    ensures phase { IfOk result (λ m. IsPhase m.phase) }
     ensures slot { IfOk result (λ m. m.slot < 2) }
     ensures reads { OnlyReads D.Disk d.old d.new }
     ensures counts { CountsFaults D.Disk d.old d.new result }
 {
     let sector = read(d, MARK_SECTOR)?;
-    idle_mark(&sector)
+    known_mark(&sector)
+}
+
+/// Reads the statuses where an update is installed; elsewhere there are none.
+#[tactic(auto, unfolding(vab_device::specs::Reading::statuses_at))]
+pub fn read_if<D: Disk>(d: &mut D, installing: bool) -> Result<Statuses, StartFault>
+    requires { 2081 ≤ D.size d.old }
+    ensures ok { D.is_modelled → IfOk result
+        (λ s. statuses_at installing (D.seen d.old) ≡ Ok s.items) }
+    ensures fault { D.is_modelled → IfErr result (λ f. IsOfContents f
+        → statuses_at installing (D.seen d.old) ≡ Err f) }
+    ensures reads { OnlyReads D.Disk d.old d.new }
+    ensures counts { CountsFaults D.Disk d.old d.new result }
+{
+    if !installing {
+        return Ok(Statuses::new());
+    }
+    match read_statuses(d) {
+        Ok(statuses) => Ok(statuses),
+        Err(StatusFault::Bad(sector)) => Err(StartFault::BadMark(sector)),
+        Err(StatusFault::Disk(fault)) => Err(StartFault::Disk(fault)),
+    }
 }
 
 // The boot control of these bytes.

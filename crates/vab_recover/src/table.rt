@@ -1,25 +1,41 @@
-//! Reading the table of the slot with images.
+//! Reading the tables of a device.
 
 ghost use Rattle.std.specs.Prelude.{◌≡◌, ◌<◌, ◌≤◌, ◌^◌, length, IfOk, IfErr, Ok, Err, IsTrue};
+ghost use Rattle.std.specs.Prelude.{IfSome, is_some};
 ghost use Rattle.vab_disk.specs.Calls.{OnlyReads};
 ghost use Rattle.vab_geometry.specs.Geometry.{IsGeometry};
 ghost use Rattle.vab_tables.specs.Rules.{KeepsRules};
 ghost use Rattle.vab_tables.specs.Text.{IsTableText};
-ghost use Rattle.vab_lpstore.specs.Layout.{primary_bytes, backup_bytes};
-ghost use Rattle.vab_lpstore.specs.Loading.{slot_table, IsLoaded};
+ghost use Rattle.vab_tables.specs.Spelling.{table_size_of};
+ghost use Rattle.vab_lpstore.specs.Loading.{slot_table};
 ghost use Rattle.vab_layout.specs.Layout.{layout_of};
 ghost use Rattle.vab_device.specs.Faults.{IsOfContents, IsOfDisk};
 ghost use Rattle.vab_device.specs.Kept.{lies_in, copies_end, super_bytes};
-ghost use Rattle.vab_device.specs.Reading.{table_at};
+ghost use Rattle.vab_layout.specs.Slots.{other_slot};
+ghost use Rattle.vab_device.specs.Reading.{table_at, tables_in};
+ghost use Rattle.vab_device.specs.Kept.{is_installing};
+ghost use Rattle.vab_device.specs.Phases.{phase_at};
+ghost use Rattle.vab_recover.specs.Opened.{IsLoadedAt, IsTableThere, AreLoaded, AreTablesThere};
+ghost use Rattle.vab_recover.specs.Opened.{target_slots, target_tables, tables_of};
 ghost use Rattle.vab_recover.specs.Counts.{CountsFaults};
 
-use crate::read::{copies_end, super_bytes};
+use crate::read::{copies_end, is_installing, super_bytes};
 use std::alloc::Global;
 use vab_device::StartFault;
 use vab_disk::Disk;
 use vab_geometry::Geometry;
 use vab_lpstore::{LoadFault, Loaded, load_table};
+use vab_marks::UpdateMark;
 use vab_tables::Table;
+
+/// The tables that are read of a device.
+#[derive(Drop)]
+pub struct Tables {
+    /// That of the mark's slot.
+    pub source: Loaded,
+    /// That of the other slot, while an update is installed.
+    pub target: Option<Loaded>,
+}
 
 // Whether the block device lies in `super`, and its first logical sector behind the copies of the
 // tables.
@@ -50,12 +66,10 @@ fn load<D: Disk>(
         → IfOk result (λ l. slot_table geometry.now slot (D.seen d.old) ≡ Ok l.table) }
     ensures fault { D.is_modelled → IfErr result
         (λ f. IsOfContents f → table_at (D.size d.old) geometry.now slot (D.seen d.old) ≡ Err f) }
-    ensures loaded { D.is_modelled → IfOk result
-        (λ l. IsLoaded geometry.now.max
-        (primary_bytes geometry.now slot (D.seen d.old))
-        (backup_bytes geometry.now slot (D.seen d.old)) l) }
+    ensures loaded { D.is_modelled → IfOk result (IsLoadedAt geometry.now slot (D.seen d.old)) }
     ensures text { IfOk result (λ l. IsTableText geometry.now.max l.text l.table) }
     ensures fits { IfOk result (λ l. length l.text ≤ geometry.now.max) }
+    ensures small { IfOk result (λ l. table_size_of l.table < 2 ^ 24) }
     ensures reads { OnlyReads D.Disk d.old d.new }
     ensures counts { CountsFaults D.Disk d.old d.new result }
 {
@@ -82,14 +96,8 @@ pub fn read_table<D: Disk>(
         (λ l. table_at (D.size d.old) geometry.now slot (D.seen d.old) ≡ Ok l.table) }
     ensures fault { D.is_modelled → IfErr result
         (λ f. IsOfContents f → table_at (D.size d.old) geometry.now slot (D.seen d.old) ≡ Err f) }
-    ensures loaded { D.is_modelled → IfOk result
-        (λ l. IsLoaded geometry.now.max
-        (primary_bytes geometry.now slot (D.seen d.old))
-        (backup_bytes geometry.now slot (D.seen d.old)) l) }
-    ensures text { IfOk result (λ l. IsTableText geometry.now.max l.text l.table) }
-    ensures fits { IfOk result (λ l. length l.text ≤ geometry.now.max) }
-    ensures lies { IfOk result
-        (λ l. IsTrue (lies_in (D.size d.old) geometry.now (layout_of l.table).device)) }
+    ensures loaded { D.is_modelled → IfOk result (IsLoadedAt geometry.now slot (D.seen d.old)) }
+    ensures there { IfOk result (IsTableThere (D.size d.old) geometry.now) }
     ensures reads { OnlyReads D.Disk d.old d.new }
     ensures counts { CountsFaults D.Disk d.old d.new result }
 {
@@ -99,4 +107,69 @@ pub fn read_table<D: Disk>(
         return Err(StartFault::BadTable(slot));
     }
     Ok(loaded)
+}
+
+// Reads the target's table, where an update is installed.
+fn read_target<D: Disk>(
+    alloc: Global,
+    d: &mut D,
+    geometry: &Geometry,
+    mark: &UpdateMark,
+) -> Result<Option<Loaded>, StartFault>
+    requires rules { IsGeometry geometry.now }
+    requires slot { mark.now.slot < 2 }
+    requires copies_on { copies_end geometry.now ≤ super_bytes (D.size d.old) }
+    ensures ok { D.is_modelled → IfOk result (λ t.
+        tables_in (D.size d.old) geometry.now (target_slots mark.now) (D.seen d.old)
+        ≡ Ok (target_tables t)) }
+    ensures fault { D.is_modelled → IfErr result (λ f. IsOfContents f
+        → tables_in (D.size d.old) geometry.now (target_slots mark.now) (D.seen d.old) ≡ Err f) }
+    ensures loaded { D.is_modelled → IfOk result (λ t. IfSome t
+        (IsLoadedAt geometry.now (other_slot mark.now.slot) (D.seen d.old))) }
+    ensures there { IfOk result (λ t. IfSome t (IsTableThere (D.size d.old) geometry.now)) }
+    ensures both { IfOk result (λ t. is_some t ≡ is_installing mark.now.phase) }
+    ensures reads { OnlyReads D.Disk d.old d.new }
+    ensures counts { CountsFaults D.Disk d.old d.new result }
+{
+    if !is_installing(mark.phase) {
+        return Ok(None);
+    }
+    match read_table(alloc, d, geometry, 1 - mark.slot) {
+        Ok(loaded) => Ok(Some(loaded)),
+        Err(fault) => Err(fault),
+    }
+}
+
+/// Reads the table of the mark's slot, and while an update is installed that of the other.
+/// `BadTable` comes exactly where it says, the mark's slot's first.
+pub fn read_tables<D: Disk>(
+    alloc: Global,
+    d: &mut D,
+    geometry: &Geometry,
+    mark: &UpdateMark,
+) -> Result<Tables, StartFault>
+    requires rules { IsGeometry geometry.now }
+    requires slot { mark.now.slot < 2 }
+    requires copies_on { copies_end geometry.now ≤ super_bytes (D.size d.old) }
+    ensures ok { D.is_modelled → IfOk result (λ t.
+        tables_in (D.size d.old) geometry.now
+        ((phase_at mark.now.phase).tables mark.now.slot) (D.seen d.old)
+        ≡ Ok (tables_of t)) }
+    ensures fault { D.is_modelled → IfErr result (λ f. IsOfContents f
+        → tables_in (D.size d.old) geometry.now
+        ((phase_at mark.now.phase).tables mark.now.slot) (D.seen d.old)
+        ≡ Err f) }
+    ensures loaded { D.is_modelled → IfOk result
+        (AreLoaded geometry.now mark.now.slot (D.seen d.old)) }
+    ensures there { IfOk result (AreTablesThere (D.size d.old) geometry.now mark.now) }
+    ensures reads { OnlyReads D.Disk d.old d.new }
+    ensures counts { CountsFaults D.Disk d.old d.new result }
+{
+    match read_table(alloc, d, geometry, mark.slot) {
+        Err(fault) => Err(fault),
+        Ok(source) => match read_target(alloc, d, geometry, mark) {
+            Err(fault) => Err(fault),
+            Ok(target) => Ok(Tables { source, target }),
+        },
+    }
 }

@@ -148,7 +148,6 @@ fn a_disk_is_its_device(rt: HostRuntime) -> Result<(), Fail> {
 fn the_first_fault_is_told(rt: HostRuntime) -> Result<(), Fail> {
     let alloc = rt.alloc();
     let zeros = [0u8; 512];
-    let other_mark = mark(MarkPhase::Installing);
     // The sectors that are other ones, what stands there, and the device's blocks or the fault.
     let cases = [
         ([MARK, MARK], mark(MarkPhase::Idle), Ok(256)),
@@ -166,7 +165,17 @@ fn the_first_fault_is_told(rt: HostRuntime) -> Result<(), Fail> {
             Err(StartFault::BadGeometry),
         ),
         ([MARK, MARK], zeros, Err(StartFault::BadMark(2048))),
-        ([MARK, MARK], other_mark, Err(StartFault::BadMark(2048))),
+        (
+            [MARK, MARK],
+            mark(MarkPhase::Staged),
+            Err(StartFault::BadMark(2048)),
+        ),
+        // While an update is installed, slot b has a table too.
+        (
+            [MARK, MARK],
+            mark(MarkPhase::Installing),
+            Err(StartFault::BadTable(1)),
+        ),
         (
             [CONTROL, CONTROL],
             bad_control(),

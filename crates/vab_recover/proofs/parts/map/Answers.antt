@@ -1,4 +1,5 @@
-use Rattle.std.proofs.Common.{◌≡◌, ◌+◌, ◌^◌, ◌<◌, ◌≤◌, ℕ, List, length, take, arith, ap, sym, subst, ◌∙◌}
+use Rattle.std.proofs.Common.{◌≡◌, ◌+◌, ◌^◌, ◌<◌, ◌≤◌, ℕ, List, length, take, arith, ap, sym, subst}
+use Rattle.std.proofs.Common.{◌∙◌}
 use Rattle.std.specs.Prelude.{map, sum_by, All}
 use Rattle.std.proofs.lemmas.List.{take_all}
 use Rattle.vab_tables.specs.declared.entries.Extent.{Extent}
@@ -24,8 +25,8 @@ new-requires-clause-sum c =
     let sum : sum_by (λ r. r.1) c.deref.result.now ≡ sum_by (λ r. r.1) (map run_on es) = ap (λ (l : List (ℕ × ℕ)). sum_by (λ r. r.1) l) (c.deref.ensures.value ∙ is) in
     omega (arith, sum, partition_sum c.args.table.now c.requires.keeps c.args.partition.now, c.requires.small)
 
-pub returns-clause-blocks : goal.returns-clause-blocks
-returns-clause-blocks c =
+pub returns-clause-sectors : goal.returns-clause-sectors
+returns-clause-sectors c =
     let es : List Extent = extents_of c.args.table.now c.args.partition.now in
     let is : c.loop-extent.runs.items ≡ map run_on es = all_of c.loop-extent.runs.items c.extents_of-extent-items.result.now es c.loop-extent.extent-index c.loop-extent.invariant c.extents_of-extent-items.ensures (omega (arith, c.loop-extent-test.false)) in
     c.in_ok-new.ensures ∙ ap blocks_of (c.deref.ensures.value ∙ is) ∙ partition_runs c.args.table.now c.requires.keeps c.args.partition.now
