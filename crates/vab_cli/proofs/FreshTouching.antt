@@ -20,11 +20,12 @@ use Rattle.vab_marks.specs.declared.mark.UpdateMark.{UpdateMark}
 use Rattle.vab_bootctl.specs.declared.slots.Control.{Control}
 use Rattle.vab_layout.specs.declared.layout.Layout.{Layout}
 use Rattle.vab_layout.specs.Plain.{plain}
-use Rattle.vab_device.specs.Mounted.{Mounted, mounted_on, table_placed}
+use Rattle.vab_device.specs.Mounted.{Mounted, state_on, mounted_on, table_placed}
+use Rattle.vab_marks.specs.declared.mark.MarkPhase.TheVariants as marks
 use Rattle.vab_device.specs.Phases.{Phase, idle, phase_at}
 use Rattle.vab_device.specs.Reading.{Read, Reads, kept, table_for}
-use Rattle.vab_device.proofs.ReadingLaws.{at_idle, device_of}
-use Rattle.vab_recover.specs.Opened.{IsRepair}
+use Rattle.vab_device.proofs.ReadingLaws.{idle_at, idle_read_of, device_of}
+use Rattle.vab_recover.specs.Opened.{IsRepair, IsOneOf}
 use Rattle.vab_manager.specs.Controls.{IsOfCommands}
 use Rattle.vab_make.specs.Made.{made_device_of, made_places, made_geometry, made_layout}
 use Rattle.vab_make.specs.Making.{IsMade}
@@ -35,15 +36,15 @@ none_some : {R : Type 0} (l : Layout) → (let none : Option Layout = None in no
 none_some l is = cc
 
 -- The first slot's table is read where it is the slot's own.
-first_slot : (slot : ℕ) (ts : List Table) (l : Layout)
-    → table_placed 0 (table_for 0 (slot ∷ []) ts) ≡ Some l
+first_slot : (slot : ℕ) (has : Bool) (ts : List Table) (l : Layout)
+    → table_placed 0 has (table_for 0 (slot ∷ []) ts) ≡ Some l
     → slot ≡ 0
-first_slot zero ts l is = refl
-first_slot (suc n) [] l is = none_some l is
-first_slot (suc n) (t ∷ ts) l is =
+first_slot zero has ts l is = refl
+first_slot (suc n) has [] l is = none_some l is
+first_slot (suc n) has (t ∷ ts) l is =
     let other : (suc n == 0) ≡ false = ne_eqb (suc n) 0 (λ is. omega (arith, is)) in
     none_some l
-    (subst (λ (b : Bool). table_placed 0 (if b then Some t else None) ≡ Some l) other is)
+    (subst (λ (b : Bool). table_placed 0 has (if b then Some t else None) ≡ Some l) other is)
 
 -- the text of a table is within the most bytes of a copy
 text_short : (g : Geometry) (text : List ℕ) (table : Table)
@@ -54,6 +55,10 @@ text_short : (g : Geometry) (text : List ℕ) (table : Table)
 text_short g text table is said whole =
     let per : g.max ≡ 65536 = ap (λ (x : Geometry). x.max) is in
     omega (arith, per, whole, text_size_fits g.max text table said)
+
+of_one : (k slot : ℕ) → slot ≡ 0 → IsOneOf k (slot ∷ []) → k ≡ 0
+of_one k slot is (inl same) = same ∙ is
+of_one k slot is (inr none) = absurd none
 
 -- a repair is of one of the copies
 of_flags : (p b : Bool) (g : Geometry) (slot : ℕ) (text : List ℕ) (s : ℕ) (bytes : List ℕ)
@@ -73,19 +78,31 @@ module _ (size : ℕ) (image : Image) (made : IsMade [] 0 65536 size image) wher
     unfolding made_places
     geometry = ap (λ (m : Mounted). m.places.geometry) is
 
-    placed : table_placed 0 (table_for 0 (r.mark.slot ∷ []) r.tables)
+    -- no update is installed
+    phase : r.mark.phase ≡ marks.Idle
+    unfolding state_on
+    phase = idle_read_of size r image reads (ap (λ (m : Mounted). m.state.phase) is)
+
+    placed : table_placed 0 (is_some (kept r).a) (table_for 0 (r.mark.slot ∷ []) r.tables)
         ≡ Some (plain 0 (made_layout [] 0 size))
     unfolding made_places
     placed =
         subst
         (λ (p : Phase).
-        table_placed 0 (table_for 0 (p.tables r.mark.slot) r.tables)
+        table_placed 0 (is_some (kept r).a) (table_for 0 (p.tables r.mark.slot) r.tables)
         ≡ Some (plain 0 (made_layout [] 0 size)))
-        (at_idle r.mark.phase)
+        (idle_at r.mark.phase phase)
         (ap (λ (m : Mounted). m.places.a) is)
 
     slot : r.mark.slot ≡ 0
-    slot = first_slot r.mark.slot r.tables (plain 0 (made_layout [] 0 size)) placed
+    slot =
+        first_slot r.mark.slot (is_some (kept r).a) r.tables (plain 0 (made_layout [] 0 size)) placed
+
+    -- the one table that is read is slot a's
+    one_slot : (k : ℕ) → IsOneOf k ((phase_at r.mark.phase).tables r.mark.slot) → k ≡ 0
+    one_slot k is_read =
+        of_one k r.mark.slot slot
+        (subst (λ (p : Phase). IsOneOf k (p.tables r.mark.slot)) (idle_at r.mark.phase phase) is_read)
 
   -- a copy's text takes no more than its place
   within : (at : ℕ) (text : List ℕ) (s : ℕ) (bytes : List ℕ) (first : ℕ)
@@ -127,11 +144,11 @@ module _ (size : ℕ) (image : Image) (made : IsMade [] 0 65536 size image) wher
   repair_made : (s : ℕ) (bytes : List ℕ) → IsRepair size image s bytes → IsOfMaking [] 65536 s
   repair_made s bytes w =
       let l = w.table in
-      of_copy w.read.geometry w.read.mark.slot l.text s bytes (geometry w.read w.reads)
-      (slot w.read w.reads)
+      of_copy w.read.geometry w.slot l.text s bytes (geometry w.read w.reads)
+      (one_slot w.read w.reads w.slot w.is_read)
       (text_short w.read.geometry l.text l.table (geometry w.read w.reads) w.loaded.text
       w.loaded.whole)
-      (of_flags l.primary l.backup w.read.geometry w.read.mark.slot l.text s bytes w.writes)
+      (of_flags l.primary l.backup w.read.geometry w.slot l.text s bytes w.writes)
 
 -- ---- made, opened and served
 

@@ -1,5 +1,5 @@
 -- A disk means a device exactly where it is read so.
-use Rattle.std.proofs.Common.{◌≡◌, ◌∙◌, inl, inr, ℕ, true, false, List, [], ◌∷◌, Result, Ok, Err}
+use Rattle.std.proofs.Common.{◌≡◌, ◌≢◌, ◌∙◌, inl, inr, ⊎_elim, ℕ, true, false, List, [], ◌∷◌, Result, Ok, Err}
 use Rattle.std.proofs.Common.{refl, sym, ap, subst, leb, eqb}
 use Rattle.std.specs.Prelude.{Bool, Option, Some, None, is_some, nat_le, ◌==◌, if◌then◌else◌}
 use Rattle.std.proofs.lemmas.Bool.{cases_Bool}
@@ -17,15 +17,20 @@ use Rattle.vab_layout.specs.Slots.{other_slot}
 use Rattle.vab_model.specs.State.{control_seen}
 use Rattle.vab_model.proofs.SeenLaws.{seen_again}
 use Rattle.vab_device.specs.declared.fault.StartFault.{StartFault}
-use Rattle.vab_device.specs.declared.fault.StartFault.TheVariants.{TooSmall}
+use Rattle.vab_device.specs.declared.fault.StartFault.TheVariants.{TooSmall, BadMark}
+use Rattle.vab_marks.specs.declared.sector.MarkFault.{MarkFault}
+use Rattle.vab_marks.specs.Mark.{mark_of}
+use Rattle.vab_model.specs.declared.state.Phase.TheVariants as phases
 use Rattle.vab_device.specs.declared.device.Device.{Device}
 use Rattle.vab_device.specs.Checks.{Check, first_fault, passing, ◌>>=◌}
 use Rattle.vab_device.specs.Idle.{control_read_of}
 use Rattle.vab_device.specs.Mounted.{Mounted, control_on, state_on, mounted_on, images_on}
 use Rattle.vab_device.specs.Mounted.{phase_on}
 use Rattle.vab_device.specs.Stores.{Scanned, scans_in}
-use Rattle.vab_device.specs.Phases.{Phase, slot_checks, idle, phase_at}
-use Rattle.vab_device.specs.Reading.{Read, mark_in, statuses_at, control_read, control_in}
+use Rattle.vab_device.specs.Kept.{IsPhase}
+use Rattle.vab_device.specs.Phases.{Phase, slot_checks, idle, installing, phase_at, is_known}
+use Rattle.vab_device.specs.Checks.{unless}
+use Rattle.vab_device.specs.Reading.{Read, mark_read, mark_in, statuses_at, control_read, control_in}
 use Rattle.vab_device.specs.Reading.{geometry_at, stores_of, scanned_in}
 use Rattle.vab_device.specs.Reading.{table_at, tables_in, framed, frame, part_fault, state_fault}
 use Rattle.vab_device.specs.Reading.{judged, stated, table_for, parts_for, read_table, kept, device}
@@ -307,6 +312,75 @@ pub seen_single : (r : Read) (c : Control)
 seen_single r c =
     let single = single_at r.mark.phase in
     (λ i. control_seen (single.has_a i r.mark.slot) (single.has_b i r.mark.slot) c)
+
+-- a mark that is read is of a phase that there is
+known_by : (phase : MarkPhase) (m r : UpdateMark)
+    → m.phase ≡ phase
+    → unless (is_known phase) (BadMark 2048) (Ok m) ≡ Ok r
+    → IsPhase r.phase
+known_by marks.Idle m r at is =
+    let same : (let x : Result UpdateMark StartFault = Ok m in x ≡ Ok r) = is in
+    let e : m ≡ r = cc in
+    inl (ap (λ (x : UpdateMark). x.phase) (sym e) ∙ at)
+known_by marks.Installing m r at is =
+    let same : (let x : Result UpdateMark StartFault = Ok m in x ≡ Ok r) = is in
+    let e : m ≡ r = cc in
+    inr (ap (λ (x : UpdateMark). x.phase) (sym e) ∙ at)
+known_by marks.Staged m r at is = absurd cc
+known_by marks.Merging m r at is = absurd cc
+known_by marks.Completed m r at is = absurd cc
+
+known_of : (x : Result UpdateMark MarkFault) (r : UpdateMark) → mark_read x ≡ Ok r → IsPhase r.phase
+known_of (Ok m) r is = known_by m.phase m r refl is
+known_of (Err fault) r is =
+    absurd (let bad : (let x : Result UpdateMark StartFault = Err (BadMark 2048) in x ≡ Ok r) = is in cc)
+
+pub known_phase : (image : Image) (m : UpdateMark) → mark_in image ≡ Ok m → IsPhase m.phase
+unfolding mark_in
+known_phase image m is = known_of (mark_of (image 2048)) m is
+
+plan_there : (slot : ℕ) (ss : List Scanned) (image : Image) (t u : Table)
+    → phase_on slot image (installing.plan slot (t ∷ u ∷ []) ss) ≢ phases.Idle
+plan_there slot ss image t u is = absurd cc
+
+tables_two : (size : ℕ) (g : Geometry) (slot other : ℕ) (image : Image) (ts : List Table)
+    → tables_in size g (slot ∷ other ∷ []) image ≡ Ok ts
+    → (t : Table) × (u : Table) × (ts ≡ t ∷ u ∷ [])
+tables_two size g slot other image ts is =
+    let t = bound (table_at size g slot image)
+    (λ t. tables_in size g (other ∷ []) image >>= λ ts. Ok (t ∷ ts)) ts is in
+    let rest = bound (tables_in size g (other ∷ []) image) (λ ts. Ok (t.0 ∷ ts)) ts t.2 in
+    let u = bound (table_at size g other image)
+    (λ u. tables_in size g [] image >>= λ ts. Ok (u ∷ ts)) rest.0 rest.1 in
+    let last : Ok (u.0 ∷ []) ≡ Ok rest.0 = u.2 in
+    let tail : u.0 ∷ [] ≡ rest.0 = cc in
+    let whole : Ok (t.0 ∷ rest.0) ≡ Ok ts = rest.2 in
+    let same : t.0 ∷ rest.0 ≡ ts = cc in
+    (t.0, u.0, sym same ∙ ap (λ (l : List Table). t.0 ∷ l) (sym tail))
+
+-- where no update is said to be there, the disk was read without one
+pub idle_read_of : (size : ℕ) (r : Read) (image : Image)
+    → Reads size r image
+    → phase_on r.mark.slot image (kept r).plan ≡ phases.Idle
+    → r.mark.phase ≡ marks.Idle
+idle_read_of size r image reads none =
+    ⊎_elim (λ idle. idle)
+    (λ installing_now.
+    let two = tables_two size r.geometry r.mark.slot (other_slot r.mark.slot) image r.tables
+    (subst (λ (p : MarkPhase). tables_in size r.geometry ((phase_at p).tables r.mark.slot) image ≡ Ok r.tables)
+    installing_now reads.tables) in
+    let there : phase_on r.mark.slot image (installing.plan r.mark.slot (two.0 ∷ two.1 ∷ []) r.scanned)
+    ≡ phases.Idle =
+    subst
+    (λ (ts : List Table).
+    phase_on r.mark.slot image (installing.plan r.mark.slot ts r.scanned) ≡ phases.Idle)
+    two.2
+    (subst
+    (λ (p : MarkPhase).
+    phase_on r.mark.slot image ((phase_at p).plan r.mark.slot r.tables r.scanned) ≡ phases.Idle)
+    installing_now none) in
+    absurd (plan_there r.mark.slot r.scanned image two.0 two.1 there))
+    (known_phase image r.mark reads.mark)
 
 pub tables_first : (size : ℕ) (g : Geometry) (slot : ℕ) (slots : List ℕ) (image : Image)
     (ts : List Table)
