@@ -1,0 +1,4 @@
+pub mod DoesLaws
+pub mod KeptLaws
+pub mod StayLaws
+pub mod CancelLaws
