@@ -113,7 +113,7 @@ pub cancel_refused : (d : Device) (old : Image) (staged : Option (List ℕ))
 unfolding state_on
 cancel_refused d old staged is = rw is refl
 
-some_same : (x : List Part) (old new : Image) (a : Option (List Part))
+pub some_same : (x : List Part) (old new : Image) (a : Option (List Part))
     → a ≡ Some x
     → images_on new a ≡ images_on old a
     → map (image_on new) x ≡ map (image_on old) x

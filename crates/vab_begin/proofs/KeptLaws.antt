@@ -15,7 +15,7 @@ use Rattle.vab_device.specs.declared.device.PhaseKind.TheVariants as kinds
 use Rattle.vab_device.specs.declared.device.Device.{Device}
 use Rattle.vab_device.specs.Kept.{IsDevice, IsKeptTable, IsPlan, IsPhase, IsUpdate}
 use Rattle.vab_device.specs.Kept.{is_installing, table_of_slot, phase_kind, phase_by}
-use Rattle.vab_begin.specs.Kept.{with_update}
+use Rattle.vab_begin.specs.Kept.{with_control, with_update}
 
 pub cases_slot : (n : ℕ) → n < 2 → (n ≡ 0) ⊎ (n ≡ 1)
 cases_slot zero below = inl refl
@@ -111,9 +111,6 @@ table_b_at (suc zero) size g b t below is new = is
 table_b_at (suc (suc n)) size g b t below is new = absurd (omega (arith, below))
 
 -- ---- the device
-
-abbrev pub with_control : Control → Device → Device
-with_control c d = record d { control = c }
 
 -- With another phase, table of the other slot, plan and boot control it is a device.
 pub update_kept : (d : Device) (size : ℕ) (c : Control) (phase : MarkPhase) (t : Option Table)

@@ -2,3 +2,9 @@ pub mod DoesLaws
 pub mod KeptLaws
 pub mod StayLaws
 pub mod CancelLaws
+pub mod PlannedLaws
+pub mod CopiesApart
+pub mod ImportLaws
+pub mod BeginLaws
+pub mod BegunLaws
+pub mod WriteLaws
