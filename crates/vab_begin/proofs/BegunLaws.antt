@@ -1,0 +1,430 @@
+-- A begin: its dead writes, and its step.
+use Rattle.std.proofs.Common.{◌≡◌, ◌∙◌, inl, inr, ℕ, zero, suc, ◌≤◌, ◌<◌, List}
+use Rattle.std.proofs.Common.{[], ◌∷◌, length, Ok, refl, sym, ap, subst, arith}
+use Rattle.std.specs.Prelude.{Bool, true, false, Option, Some, None, ◌==◌, map, nat_le}
+use Rattle.std.specs.Prelude.{if◌then◌else◌}
+use Rattle.std.proofs.lemmas.Bool.{cases_Bool}
+use Rattle.vab_disk.specs.Disk.{Image}
+use Rattle.vab_disk.specs.Calls.{SameBut}
+use Rattle.vab_bootctl.specs.declared.slots.Control.{Control}
+use Rattle.vab_bootctl.specs.Control.{control_of, Fits, FitsInfo}
+use Rattle.vab_marks.specs.declared.mark.MarkPhase.{MarkPhase}
+use Rattle.vab_marks.specs.declared.mark.MarkPhase.TheVariants as marks
+use Rattle.vab_marks.specs.declared.status.PartStatus.{PartStatus}
+use Rattle.vab_marks.specs.Mark.{mark_of, mark_spelling}
+use Rattle.vab_statuses.specs.Statuses.{no_statuses}
+use Rattle.vab_geometry.specs.declared.geometry.Geometry.{Geometry}
+use Rattle.vab_tables.specs.declared.table.Table.{Table}
+use Rattle.vab_tables.specs.Spelling.{table_size_of}
+use Rattle.vab_tables.specs.Text.{IsTableText}
+use Rattle.vab_layout.specs.declared.layout.Layout.{Layout}
+use Rattle.vab_layout.specs.Layout.{layout_of, table_of, first_device}
+use Rattle.vab_layout.specs.Slots.{other_slot}
+use Rattle.vab_layout.specs.Plain.{plain}
+use Rattle.vab_builder.specs.declared.fault.EditFault.{EditFault}
+use Rattle.vab_builder.specs.declared.fault.EditFault.TheVariants as faults
+use Rattle.vab_builder.specs.Import.{imported}
+use Rattle.vab_builder.specs.Edits.{fitting}
+use Rattle.vab_install.specs.Control.{cleared_of, no_info}
+use Rattle.vab_model.specs.declared.command.Reply.TheVariants as replies
+use Rattle.vab_model.specs.declared.command.Refusal.TheVariants as refusals
+use Rattle.vab_model.specs.Commands.{Begin}
+use Rattle.vab_model.specs.Effects.{does, refuses, unless_refused}
+use Rattle.vab_device.specs.declared.device.Part.{Part}
+use Rattle.vab_device.specs.declared.device.Planned.{Planned}
+use Rattle.vab_device.specs.declared.device.Device.{Device}
+use Rattle.vab_device.specs.Idle.{control_read_of}
+use Rattle.vab_device.specs.Kept.{IsDevice, IsTableOf, IsKeptTable, IsUpdate, lies_in}
+use Rattle.vab_device.specs.Kept.{table_of_slot}
+use Rattle.vab_device.specs.Mounted.{Mounted, mounted_on, state_on, images_on, image_on}
+use Rattle.vab_device.specs.Phases.{phase_at, plan_of}
+use Rattle.vab_device.specs.Reading.{Read, tables_in, table_at, Reads, AgreeCopies}
+use Rattle.vab_device.specs.Reading.{Represents, Dead}
+use Rattle.vab_device.specs.Stores.{Scanned}
+use Rattle.vab_device.specs.Updates.{effect_on, table_effect, installing_with, refusal_of}
+use Rattle.vab_begin.specs.declared.target.Target.{Target}
+use Rattle.vab_begin.specs.Kept.{with_control, with_update}
+use Rattle.vab_begin.specs.Target.{layout_for, IsTargetOf, IsTargetFor, IsRefusedBy}
+use Rattle.vab_begin.specs.Writes.{IsOfPlaces}
+use Rattle.vab_begin.proofs.DoesLaws.{marked, IsStep}
+use Rattle.vab_begin.proofs.KeptLaws.{some_of, none_of, cases_slot, update_kept}
+use Rattle.vab_begin.proofs.StayLaws.{one_of}
+use Rattle.vab_begin.proofs.CancelLaws.{installing_read, kept_with, some_same}
+use Rattle.vab_begin.proofs.ImportLaws.{imported_plain, fitting_same, plan_same}
+use Rattle.vab_begin.proofs.PlannedLaws.{plan_keeps, target_table}
+use Rattle.vab_begin.proofs.BeginLaws.{idle_shape, installing_mark, IsPrepared, same_read, reads_new}
+use Rattle.vab_begin.proofs.BeginLaws.{copies_new, control_new, images_new_a, images_new_b}
+
+-- the device with an update to a target of this table
+abbrev pub begun_device : Device → Table → Device
+begun_device d u =
+    with_control (cleared_of d.control (other_slot d.mark.slot))
+    (with_update d marks.Installing (Some u)
+    (Some (plan_of (other_slot d.mark.slot) (layout_of u) [])))
+
+-- ---- what it means
+
+begun_a : (d : Device) (old new : Image) (a : List Part) (u : Table)
+    → d.mark.slot ≡ 0
+    → d.a ≡ Some a
+    → d.b ≡ None
+    → map (image_on new) a ≡ map (image_on old) a
+    → mounted_on (begun_device d u) new
+    ≡ installing_with (mounted_on d old) d.mark.slot [] (layout_of u)
+unfolding state_on cleared_of
+begun_a d old new a u slot some none same =
+    rw (plan_same new (other_slot d.mark.slot) (layout_of u), slot, some, none, same) refl
+
+begun_b : (d : Device) (old new : Image) (b : List Part) (u : Table)
+    → d.mark.slot ≡ 1
+    → d.a ≡ None
+    → d.b ≡ Some b
+    → map (image_on new) b ≡ map (image_on old) b
+    → mounted_on (begun_device d u) new
+    ≡ installing_with (mounted_on d old) d.mark.slot [] (layout_of u)
+unfolding state_on cleared_of
+begun_b d old new b u slot none some same =
+    rw (plan_same new (other_slot d.mark.slot) (layout_of u), slot, some, none, same) refl
+
+begins_a : (d : Device) (old : Image) (staged : Option (List ℕ)) (a : List Part) (s : Table)
+    → d.plan ≡ None
+    → d.mark.slot ≡ 0
+    → d.control.current ≡ 0
+    → d.a ≡ Some a
+    → d.table_a ≡ Some s
+    → effect_on (mounted_on d old) staged Begin
+    ≡ table_effect (mounted_on d old) d.mark.slot []
+    (fitting d.geometry.max (imported d.mark.slot (plain d.mark.slot (layout_of s))))
+unfolding state_on
+begins_a d old staged a s plan slot current some table =
+    rw (plan, slot, current, some, table) refl
+
+begins_b : (d : Device) (old : Image) (staged : Option (List ℕ)) (b : List Part) (s : Table)
+    → d.plan ≡ None
+    → d.mark.slot ≡ 1
+    → d.control.current ≡ 1
+    → d.b ≡ Some b
+    → d.table_b ≡ Some s
+    → effect_on (mounted_on d old) staged Begin
+    ≡ table_effect (mounted_on d old) d.mark.slot []
+    (fitting d.geometry.max (imported d.mark.slot (plain d.mark.slot (layout_of s))))
+unfolding state_on
+begins_b d old staged b s plan slot current some table =
+    rw (plan, slot, current, some, table) refl
+
+-- the table of a slot, where the slot is known
+slot_at : (n k : ℕ) (a b x : Option Table)
+    → n ≡ k
+    → (if n == 0 then a else b) ≡ x
+    → (if k == 0 then a else b) ≡ x
+slot_at n k a b x is same = subst (λ (m : ℕ). (if m == 0 then a else b) ≡ x) is same
+
+-- The begin of an update of a device: the target's table, or the refusal.
+pub begin_is : (d : Device) (size : ℕ) (old : Image) (staged : Option (List ℕ)) (s : Table)
+    → IsDevice d size
+    → d.plan ≡ None
+    → table_of_slot d d.mark.slot ≡ Some s
+    → effect_on (mounted_on d old) staged Begin
+    ≡ table_effect (mounted_on d old) d.mark.slot [] (layout_for d.geometry.max d.mark.slot s)
+begin_is d size old staged s dev plan is =
+    let plainly : effect_on (mounted_on d old) staged Begin
+    ≡ table_effect (mounted_on d old) d.mark.slot []
+    (fitting d.geometry.max (imported d.mark.slot (plain d.mark.slot (layout_of s)))) =
+    elim (cases_slot d.mark.slot dev.slot) [
+      | inl first ↦
+          let a = some_of d.a (dev.has_a ∙ ap (λ (n : ℕ). n == 0) first) in
+          begins_a d old staged a.0 s plan first (dev.current ∙ first) a.1
+          (slot_at d.mark.slot 0 d.table_a d.table_b (Some s) first is)
+      | inr one ↦
+          let b = some_of d.b (dev.has_b ∙ ap (λ (n : ℕ). n == 1) one) in
+          begins_b d old staged b.0 s plan one (dev.current ∙ one) b.1
+          (slot_at d.mark.slot 1 d.table_a d.table_b (Some s) one is)
+    ] in
+    plainly
+    ∙ ap (λ (l : Layout). table_effect (mounted_on d old) d.mark.slot [] (fitting d.geometry.max l))
+    (imported_plain d.mark.slot (layout_of s) dev.slot)
+
+pub begin_refused : (d : Device) (old : Image) (staged : Option (List ℕ)) (plan : List Planned)
+    → d.plan ≡ Some plan
+    → effect_on (mounted_on d old) staged Begin ≡ refuses refusals.NotIdle
+unfolding state_on
+begin_refused d old staged plan is = rw is refl
+
+-- ---- why there is no target
+
+abbrev pub is_memory : EditFault → Bool
+is_memory faults.BadName = false
+is_memory faults.BadSize = false
+is_memory faults.Unknown = false
+is_memory faults.Exists = false
+is_memory faults.HasStore = false
+is_memory (faults.TooMany count) = false
+is_memory (faults.GroupLimit used limit) = false
+is_memory (faults.NoRoom used cap) = false
+is_memory (faults.TableFull size most) = false
+is_memory faults.NoMemory = true
+
+-- memory may be refused in place of each answer of a table
+may_refuse : (m : Mounted) (slot max : ℕ) (l : Layout)
+    → unless_refused true Begin (table_effect m slot [] (fitting max l)) ≡ refuses refusals.NoMemory
+may_refuse m slot max l = elim (cases_Bool (nat_le (table_size_of (table_of l)) max)) [
+  | inl fits ↦ rw fits refl
+  | inr long ↦ rw long refl
+]
+
+pub refused_is : (m : Mounted) (slot max : ℕ) (s : Table) (fault : EditFault)
+    → IsRefusedBy max slot s fault
+    → unless_refused (is_memory fault) Begin (table_effect m slot [] (layout_for max slot s))
+    ≡ refuses (refusal_of fault)
+refused_is m slot max s faults.BadName is = ap (table_effect m slot []) is
+refused_is m slot max s faults.BadSize is = ap (table_effect m slot []) is
+refused_is m slot max s faults.Unknown is = ap (table_effect m slot []) is
+refused_is m slot max s faults.Exists is = ap (table_effect m slot []) is
+refused_is m slot max s faults.HasStore is = ap (table_effect m slot []) is
+refused_is m slot max s (faults.TooMany count) is = ap (table_effect m slot []) is
+refused_is m slot max s (faults.GroupLimit used limit) is = ap (table_effect m slot []) is
+refused_is m slot max s (faults.NoRoom used cap) is = ap (table_effect m slot []) is
+refused_is m slot max s (faults.TableFull size most) is = ap (table_effect m slot []) is
+refused_is m slot max s faults.NoMemory is = may_refuse m slot max (imported slot (layout_of s))
+
+-- ---- what is kept
+
+pub source_rules : (d : Device) (size : ℕ) (s : Table)
+    → IsDevice d size
+    → table_of_slot d d.mark.slot ≡ Some s
+    → IsTableOf size d.geometry d.mark.slot s
+source_rules d size s dev is = elim (cases_slot d.mark.slot dev.slot) [
+  | inl first ↦
+      let there = slot_at d.mark.slot 0 d.table_a d.table_b (Some s) first is in
+      let kept : IsTableOf size d.geometry 0 s = subst (IsKeptTable size d.geometry 0) there dev.table_a in
+      subst (λ (n : ℕ). IsTableOf size d.geometry n s) (sym first) kept
+  | inr one ↦
+      let there = slot_at d.mark.slot 1 d.table_a d.table_b (Some s) one is in
+      let kept : IsTableOf size d.geometry 1 s = subst (IsKeptTable size d.geometry 1) there dev.table_b in
+      subst (λ (n : ℕ). IsTableOf size d.geometry n s) (sym one) kept
+]
+
+pub device_same : (s u : Table) → u.devices ≡ s.devices → (layout_of u).device ≡ (layout_of s).device
+unfolding layout_of
+device_same s u is = ap first_device is
+
+none_fits : FitsInfo no_info
+none_fits = record { priority = omega arith; tries = omega arith }
+
+cleared_fits : (c : Control) (slot : ℕ) → Fits c → Fits (cleared_of c slot)
+unfolding cleared_of
+cleared_fits c slot is = elim (cases_Bool (slot == 0)) [
+  | inl h ↦ rw h (record { current = is.current; a = none_fits; b = is.b })
+  | inr h ↦ rw h (record { current = is.current; a = is.a; b = none_fits })
+]
+
+cleared_current : (c : Control) (slot : ℕ) → (cleared_of c slot).current ≡ c.current
+unfolding cleared_of
+cleared_current c slot = elim (cases_Bool (slot == 0)) [ inl h ↦ rw h refl | inr h ↦ rw h refl ]
+
+pub begun_kept : (d : Device) (size : ℕ) (x : Target)
+    → IsDevice d size
+    → IsTargetFor d x
+    → IsDevice (begun_device d x.table) size
+begun_kept d size x dev for =
+    let g = d.geometry in
+    let s = for.source in
+    let of = for.target in
+    let rules = source_rules d size s dev for.is in
+    let lies : lies_in size g (layout_of x.table).device ≡ true =
+    ap (lies_in size g) (device_same s x.table of.device) ∙ rules.lies in
+    let planned = plan_keeps size (other_slot d.mark.slot) g x.table dev.enough
+    (target_table (other_slot d.mark.slot) (layout_of s).parts x.table of.rules of.target) lies in
+    update_kept d size (cleared_of d.control (other_slot d.mark.slot)) marks.Installing
+    (Some x.table) (Some (plan_of (other_slot d.mark.slot) (layout_of x.table) [])) dev
+    (cleared_fits d.control (other_slot d.mark.slot) dev.control)
+    (cleared_current d.control (other_slot d.mark.slot) ∙ dev.current)
+    (inr refl)
+    (record {
+      rules = of.rules;
+      small = omega (arith, of.size, dev.geometry.most);
+      own = of.target.own;
+      lies = lies;
+    })
+    refl refl planned
+    (subst (λ (t : Option Table). IsUpdate d.mark.slot t (Some x.table)) (sym for.is)
+    (record { target = of.target; device = sym of.device }))
+
+kept_begun : (slot : ℕ) (c : Control) (ss : List (Option PartStatus)) (seen : Control) (g : Geometry)
+    (s u : Table) (scanned : List Scanned)
+    → slot < 2
+    → begun_device (kept_with (idle_shape slot ss seen g s scanned) c) u
+    ≡ kept_with (installing_read slot no_statuses (control_read_of slot c) g s u [])
+    (cleared_of c (other_slot slot))
+kept_begun zero c ss seen g s u scanned below = refl
+kept_begun (suc zero) c ss seen g s u scanned below = refl
+kept_begun (suc (suc n)) c ss seen g s u scanned below = absurd (omega (arith, below))
+
+kept_source : (slot : ℕ) (c : Control) (ss : List (Option PartStatus)) (seen : Control) (g : Geometry)
+    (s : Table) (scanned : List Scanned)
+    → slot < 2
+    → table_of_slot (kept_with (idle_shape slot ss seen g s scanned) c) slot ≡ Some s
+kept_source zero c ss seen g s scanned below = refl
+kept_source (suc zero) c ss seen g s scanned below = refl
+kept_source (suc (suc n)) c ss seen g s scanned below = absurd (omega (arith, below))
+
+-- ---- from the form in which it is read to the device
+
+module _ (told : Type 0) (text : List ℕ) (size : ℕ) (old : Image) where
+  abbrev DeadOf : Device → Read → Type 0
+  DeadOf d r =
+      IsDevice d size
+      → Reads size r old
+      → control_of (old 4) ≡ Ok d.control
+      → length text ≤ d.geometry.max
+      → Dead size r old (IsOfPlaces told d text (old 4))
+
+  -- what is shown of the next device
+  record IsNext (d next : Device) (new : Image) : Type 0 where
+    represents : Represents next size new
+    images_a : images_on new d.a ≡ images_on old d.a
+    images_b : images_on new d.b ≡ images_on old d.b
+
+  abbrev NextOf : Target → Image → Device → Read → Type 0
+  NextOf x mid d r =
+      IsDevice d size
+      → IsTargetFor d x
+      → Reads size r old
+      → control_of (old 4) ≡ Ok d.control
+      → AgreeCopies r.geometry ((phase_at r.mark.phase).tables r.mark.slot) r.tables old
+      → length text ≤ d.geometry.max
+      → SameBut (IsOfPlaces told d text (old 4)) old mid
+      → IsPrepared d text mid
+      → IsTableText d.geometry.max text x.table
+      → mark_of (mark_spelling (installing_mark d.mark.slot)) ≡ Ok (installing_mark d.mark.slot)
+      → IsNext d (begun_device d x.table) (marked mid (mark_spelling (installing_mark d.mark.slot)))
+
+  module _
+      (slot : ℕ) (ss : List (Option PartStatus)) (seen : Control) (g : Geometry) (s : Table)
+      (scanned : List Scanned) (c : Control) where
+    dead_shape : DeadOf (kept_with (idle_shape slot ss seen g s scanned) c)
+        (idle_shape slot ss seen g s scanned)
+    dead_shape dev reads whole short new same =
+        same_read slot ss seen g s scanned c told text size old new dev.slot dev.geometry short same
+        reads whole
+
+    next_shape : (x : Target) (mid : Image)
+        → NextOf x mid (kept_with (idle_shape slot ss seen g s scanned) c)
+        (idle_shape slot ss seen g s scanned)
+    next_shape x mid dev for reads whole copies short same prepared stands read =
+        let both : Some for.source ≡ Some s =
+        sym for.is ∙ kept_source slot c ss seen g s scanned dev.slot in
+        let source : for.source ≡ s = cc in
+        let of : IsTargetOf g.max slot s x = subst (λ (t : Table). IsTargetOf g.max slot t x) source for.target in
+        let rules = source_rules (kept_with (idle_shape slot ss seen g s scanned) c) size s dev
+        (kept_source slot c ss seen g s scanned dev.slot) in
+        record {
+          represents = record {
+            read = installing_read slot no_statuses (control_read_of slot c) g s x.table [];
+            reads = reads_new slot ss seen g s scanned c told text size old mid dev.slot dev.geometry
+                short same reads whole x.table of.target of.device of.groups stands rules.lies prepared
+                copies read;
+            is = kept_begun slot c ss seen g s x.table scanned dev.slot;
+            control = control_new slot ss seen g s scanned c told text size old mid dev.slot dev.geometry
+                short same reads whole x.table of.target of.device of.groups stands rules.lies prepared
+                copies read;
+            copies = copies_new slot ss seen g s scanned c told text size old mid dev.slot dev.geometry
+                short same reads whole x.table of.target of.device of.groups stands rules.lies prepared
+                copies read;
+          };
+          images_a = images_new_a slot ss seen g s scanned c told text size old mid dev.slot dev.geometry
+              short same reads whole x.table of.target of.device of.groups stands rules.lies prepared
+              copies read;
+          images_b = images_new_b slot ss seen g s scanned c told text size old mid dev.slot dev.geometry
+              short same reads whole x.table of.target of.device of.groups stands rules.lies prepared
+              copies read;
+        }
+
+  -- ---- a device
+
+  module _
+      (d : Device)
+      (dev : IsDevice d size)
+      (is : Represents d size old)
+      (idle : d.mark.phase ≡ marks.Idle)
+      (short : length text ≤ d.geometry.max) where
+    abbrev r : Read
+    r = is.read
+
+    phase : is.read.mark.phase ≡ marks.Idle
+    phase = sym (ap (λ (k : Device). k.mark.phase) is.is) ∙ idle
+
+    one : (t : Table) × (r.tables ≡ t ∷ []) × (table_at size r.geometry r.mark.slot old ≡ Ok t)
+    one =
+        one_of size r.geometry r.mark.slot old r.tables
+        (subst (λ (m : MarkPhase). tables_in size r.geometry ((phase_at m).tables r.mark.slot) old ≡ Ok r.tables)
+        phase is.reads.tables)
+
+    abbrev shaped : Read
+    shaped = idle_shape r.mark.slot r.statuses r.control r.geometry one.0 r.scanned
+
+    shape : r ≡ shaped
+    shape = (λ i. record {
+      mark = record { phase = phase i; slot = r.mark.slot };
+      statuses = r.statuses;
+      control = r.control;
+      geometry = r.geometry;
+      tables = one.1 i;
+      scanned = r.scanned;
+    })
+
+    form : d ≡ kept_with shaped d.control
+    form = is.is ∙ ap (λ (x : Read). kept_with x d.control) shape
+
+    pub begin_dead : Dead size is.read old (IsOfPlaces told d text (old 4))
+    begin_dead =
+        subst (λ (x : Read). DeadOf d x) (sym shape)
+        (subst (λ (k : Device). DeadOf k shaped) (sym form)
+        (dead_shape r.mark.slot r.statuses r.control r.geometry one.0 r.scanned d.control))
+        dev is.reads is.control short
+
+    module _
+        (x : Target) (mid : Image) (for : IsTargetFor d x)
+        (same : SameBut (IsOfPlaces told d text (old 4)) old mid)
+        (prepared : IsPrepared d text mid)
+        (stands : IsTableText d.geometry.max text x.table)
+        (read : mark_of (mark_spelling (installing_mark d.mark.slot)) ≡ Ok (installing_mark d.mark.slot)) where
+      abbrev new : Image
+      new = marked mid (mark_spelling (installing_mark d.mark.slot))
+
+      next : IsNext d (begun_device d x.table) (marked mid (mark_spelling (installing_mark d.mark.slot)))
+      next =
+          subst (λ (y : Read). NextOf x mid d y) (sym shape)
+          (subst (λ (k : Device). NextOf x mid k shaped) (sym form)
+          (next_shape r.mark.slot r.statuses r.control r.geometry one.0 r.scanned d.control x mid))
+          dev for is.reads is.control is.copies short same prepared stands read
+
+      means : mounted_on (begun_device d x.table) new
+          ≡ installing_with (mounted_on d old) d.mark.slot [] (layout_of x.table)
+      means = elim (cases_slot d.mark.slot dev.slot) [
+        | inl first ↦
+            let a = some_of d.a (dev.has_a ∙ ap (λ (n : ℕ). n == 0) first) in
+            let b = none_of d.b (dev.has_b ∙ ap (λ (n : ℕ). n == 1) first) in
+            begun_a d old new a.0 x.table first a.1 b (some_same a.0 old new d.a a.1 next.images_a)
+        | inr last ↦
+            let a = none_of d.a (dev.has_a ∙ ap (λ (n : ℕ). n == 0) last) in
+            let b = some_of d.b (dev.has_b ∙ ap (λ (n : ℕ). n == 1) last) in
+            begun_b d old new b.0 x.table last a b.1 (some_same b.0 old new d.b b.1 next.images_b)
+      ]
+
+      pub begin_step : (staged : Option (List ℕ))
+          → d.plan ≡ None
+          → IsStep d (begun_device d x.table) staged Begin replies.Done size old new
+      begin_step staged plan =
+          let of = for.target in
+          let gives : layout_for d.geometry.max d.mark.slot for.source ≡ Ok (layout_of x.table) =
+          of.gives.1
+          ∙ ap Ok (sym (fitting_same d.geometry.max (imported d.mark.slot (layout_of for.source)) of.gives.0
+          of.gives.1) ∙ sym of.layout) in
+          record {
+            represents = next.represents;
+            effect =
+                begin_is d size old staged for.source dev plan for.is
+                ∙ ap (table_effect (mounted_on d old) d.mark.slot []) gives
+                ∙ ap (λ (m : Mounted). does replies.Done m) (sym means);
+          }

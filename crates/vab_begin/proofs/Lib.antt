@@ -1,0 +1,10 @@
+pub mod DoesLaws
+pub mod KeptLaws
+pub mod StayLaws
+pub mod CancelLaws
+pub mod PlannedLaws
+pub mod CopiesApart
+pub mod ImportLaws
+pub mod BeginLaws
+pub mod BegunLaws
+pub mod WriteLaws

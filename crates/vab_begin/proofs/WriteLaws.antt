@@ -1,0 +1,61 @@
+-- What a begin writes is the begin's, and stands for the target's table.
+use Rattle.std.proofs.Common.{◌≡◌, ◌∙◌, inl, inr, ℕ, ◌≤◌, List, length, sym, ap, subst, arith}
+use Rattle.std.specs.Prelude.{None}
+use Rattle.vab_disk.specs.Disk.{IsAt}
+use Rattle.vab_marks.specs.declared.mark.MarkPhase.TheVariants as marks
+use Rattle.vab_marks.specs.Mark.{mark_spelling}
+use Rattle.vab_tables.specs.declared.table.Table.{Table}
+use Rattle.vab_tables.specs.Spelling.{table_text, as_minor_2}
+use Rattle.vab_tables.specs.Text.{IsTableText}
+use Rattle.vab_layout.specs.Layout.{table_of}
+use Rattle.vab_device.specs.declared.device.Device.{Device}
+use Rattle.vab_device.specs.Kept.{IsDevice, is_installing}
+use Rattle.vab_begin.specs.declared.target.Target.{Target}
+use Rattle.vab_begin.specs.Target.{IsTargetFor}
+use Rattle.vab_begin.specs.Writes.{IsOfPlaces, IsOfBegun}
+use Rattle.vab_begin.proofs.BeginLaws.{installing_mark}
+use Rattle.vab_begin.proofs.ImportLaws.{minor_2}
+use Rattle.vab_begin.proofs.KeptLaws.{none_of}
+
+pub idle_plan : (d : Device) (size : ℕ) → IsDevice d size → d.mark.phase ≡ marks.Idle → d.plan ≡ None
+idle_plan d size dev idle = none_of d.plan (dev.planned ∙ ap is_installing idle)
+
+module _ (d : Device) (x : Target) (for : IsTargetFor d x) (text : List ℕ) (same : text ≡ x.text) where
+  pub target_short : length text ≤ d.geometry.max
+  target_short = omega (arith, ap length same, for.target.spelled.long, for.target.size)
+
+  pub target_stands : IsTableText d.geometry.max text x.table
+  target_stands =
+      let gives = for.target.gives in
+      let minor : as_minor_2 x.table ≡ x.table =
+      ap as_minor_2 gives.2 ∙ minor_2 gives.0 ∙ sym gives.2 in
+      subst (λ (t : Table). IsTableText d.geometry.max text t) minor
+      (subst (λ (b : List ℕ). IsTableText d.geometry.max b (as_minor_2 x.table)) (sym same)
+      (for.target.spelled.stands d.geometry.max for.target.size))
+
+  module _ (told : Type 0) (old : List ℕ) (idle : d.mark.phase ≡ marks.Idle) where
+    pub places_in : (s : ℕ) (b : List ℕ) → IsOfPlaces told d text old s b → IsOfBegun told d old s b
+    places_in s b w =
+        let gives = for.target.gives in
+        let spelled : text ≡ table_text (table_of gives.0) =
+        same ∙ for.target.spelled.text ∙ ap table_text gives.2 in
+        record {
+          idle = idle;
+          source = for.source;
+          is = for.is;
+          layout = gives.0;
+          fits = gives.1;
+          writes = inl (subst (λ (t : List ℕ). IsOfPlaces told d t old s b) spelled w);
+        }
+
+    pub mark_in : (s : ℕ) (b : List ℕ)
+        → IsAt 2048 (mark_spelling (installing_mark d.mark.slot)) s b
+        → IsOfBegun told d old s b
+    mark_in s b w = record {
+      idle = idle;
+      source = for.source;
+      is = for.is;
+      layout = for.target.gives.0;
+      fits = for.target.gives.1;
+      writes = inr w;
+    }

@@ -1,0 +1,43 @@
+use Rattle.std.proofs.Common.{◌∙◌, refl, sym, ap, false}
+use Rattle.vab_disk.proofs.CallLaws.{reads_none}
+use Rattle.vab_model.specs.declared.command.Refusal.{Refusal}
+use Rattle.vab_model.specs.declared.command.Reply.TheVariants as replies
+use Rattle.vab_model.specs.declared.command.Refusal.TheVariants as refusals
+use Rattle.vab_model.specs.Commands.{Begin}
+use Rattle.vab_model.specs.Effects.{Effect, refuses, unless_refused}
+use Rattle.vab_device.specs.Mounted.{Mounted, mounted_on}
+use Rattle.vab_begin.specs.Writes.{IsOfBegun}
+use Rattle.vab_begin.proofs.DoesLaws.{does_nothing}
+use Rattle.vab_begin.proofs.KeptLaws.{unplanned, planned_of, installing_of}
+use Rattle.vab_begin.proofs.BegunLaws.{begin_refused, begin_is, is_memory, refused_is}
+use Rattle.vab_begin.proofs.beginning.begin.Goals as goal
+
+pub returns-in-Installing : goal.returns-in-Installing
+returns-in-Installing g c = λ staged.
+    let d = c.args.device in
+    let old = c.args.d.now in
+    let size = g.D.Disk.size old in
+    let plan = planned_of d size c.requires.kept
+    (installing_of d size c.in-Installing.field-0 c.requires.kept c.in-Installing.ensures) in
+    does_nothing g.D.Disk d staged Begin (IsOfBegun g.D.Disk.is_modelled d (g.D.Disk.seen old 4)) false
+    (replies.Refused refusals.NotIdle) old old c.requires.kept c.requires.represents
+    (λ t. begin_refused d (g.D.Disk.seen old) staged plan.0 plan.1)
+    (reads_none g.D.Disk old) refl
+
+pub returns-in-Err : goal.returns-in-Err
+returns-in-Err g c = λ staged.
+    let d = c.args.device in
+    let old = c.args.d.now in
+    let size = g.D.Disk.size old in
+    let for = c.in-Err.ensures.refused in
+    let fault = c.in-Err.fault in
+    does_nothing g.D.Disk d staged Begin (IsOfBegun g.D.Disk.is_modelled d (g.D.Disk.seen old 4))
+    (is_memory fault) (replies.Refused c.refusal.result) old old c.requires.kept c.requires.represents
+    (λ t.
+    ap (λ (e : Effect Mounted). unless_refused (is_memory fault) Begin e)
+    (begin_is d size (g.D.Disk.seen old) staged for.source c.requires.kept
+    (unplanned d c.in-Idle.ensures) for.is)
+    ∙ refused_is (mounted_on d (g.D.Disk.seen old)) d.mark.slot d.geometry.max for.source fault
+    for.refused
+    ∙ ap (λ (r : Refusal). refuses r) (sym c.refusal.ensures))
+    (reads_none g.D.Disk old) refl

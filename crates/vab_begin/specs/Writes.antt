@@ -1,0 +1,46 @@
+-- What the begin of an update and its cancelling write.
+use Rattle.std.specs.Prelude.{◌≡◌, ◌⊎◌, ℕ, List, Some, Ok}
+use Rattle.vab_disk.specs.Disk.{IsAt}
+use Rattle.vab_marks.specs.declared.mark.MarkPhase.{MarkPhase}
+use Rattle.vab_marks.specs.declared.mark.MarkPhase.TheVariants as marks
+use Rattle.vab_marks.specs.Mark.{mark_spelling}
+use Rattle.vab_tables.specs.declared.table.Table.{Table}
+use Rattle.vab_tables.specs.Spelling.{table_text}
+use Rattle.vab_layout.specs.declared.layout.Layout.{Layout}
+use Rattle.vab_layout.specs.Layout.{table_of}
+use Rattle.vab_layout.specs.Slots.{other_slot}
+use Rattle.vab_install.specs.Begin.{IsOfBegin}
+use Rattle.vab_install.specs.Control.{cleared_of}
+use Rattle.vab_device.specs.declared.device.Device.{Device}
+use Rattle.vab_device.specs.Kept.{table_of_slot}
+use Rattle.vab_begin.specs.Target.{layout_for}
+
+-- the sector of the update mark, with the device's slot and this phase
+abbrev pub IsOfMark : MarkPhase → Device → ℕ → List ℕ → Type 0
+IsOfMark phase d = IsAt 2048 (mark_spelling (record { phase = phase; slot = d.mark.slot }))
+
+-- before the mark: boot control's sector without the target, the sectors of the statuses, and the
+-- copies of the target's table with this text
+abbrev pub IsOfPlaces : Type 0 → Device → List ℕ → List ℕ → ℕ → List ℕ → Type 0
+IsOfPlaces told d text old =
+    IsOfBegin told d.geometry (other_slot d.mark.slot)
+    (cleared_of d.control (other_slot d.mark.slot)) text old
+
+-- What a begin writes, where boot control's sector had these bytes: with the text of the table that
+-- is imported of the source's, and then the mark that an update is installed. Where there is an
+-- update, or the text is too long, nothing is written.
+pub record IsOfBegun (told : Type 0) (d : Device) (old : List ℕ) (s : ℕ) (b : List ℕ) : Type 0
+  where
+    pub idle : d.mark.phase ≡ marks.Idle
+    pub source : Table
+    pub is : table_of_slot d d.mark.slot ≡ Some source
+    pub layout : Layout
+    pub fits : layout_for d.geometry.max d.mark.slot source ≡ Ok layout
+    pub writes : IsOfPlaces told d (table_text (table_of layout)) old s b
+        ⊎ IsOfMark marks.Installing d s b
+
+-- What a cancel writes: the mark that there is no update. Where none is installed nothing is
+-- written.
+pub record IsOfCancelled (d : Device) (s : ℕ) (b : List ℕ) : Type 0 where
+  pub installed : d.mark.phase ≡ marks.Installing
+  pub mark : IsOfMark marks.Idle d s b

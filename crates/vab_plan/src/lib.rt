@@ -1,0 +1,9 @@
+//! A slot's own partitions as blocks on the disk, and the partitions of an update's target with
+//! what their stores hold.
+#![tactic(auto)]
+
+mod partitions;
+mod planning;
+
+pub use partitions::{limits, parts};
+pub use planning::{Scan, plan};
