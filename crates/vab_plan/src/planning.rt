@@ -39,8 +39,8 @@ fn is_named(partition: &Partition, name: &Name36) -> bool
     partition.name.text() == name.text()
 }
 
-// The first partition of this name.
-fn named<'a>(table: &'a Table, name: &Name36) -> Option<&'a Partition>
+/// The first partition of this name.
+pub fn named<'a>(table: &'a Table, name: &Name36) -> Option<&'a Partition>
     requires keeps { KeepsRules table.now }
     ensures some { IfSome result (λ p. first_named name.now (layout_of table.now).parts
         ≡ Some (part_of table.now p.now)) }
@@ -56,8 +56,9 @@ fn named<'a>(table: &'a Table, name: &Name36) -> Option<&'a Partition>
     None
 }
 
-// Where the blocks of the store of the slot's partition of this name stand, if it has one.
-fn store_map(
+/// Where the blocks of the store of the slot's partition of this name stand, if it has one.
+/// `NoMemory` where memory is refused.
+pub fn store_map(
     alloc: Global,
     table: &Table,
     name: &Name36,

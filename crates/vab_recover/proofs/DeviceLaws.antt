@@ -44,9 +44,10 @@ use Rattle.vab_device.specs.Kept.{is_installing}
 use Rattle.vab_device.specs.Phases.{store_on, planned_image, planned_on, plan_of}
 use Rattle.vab_device.specs.Reading.{kept}
 use Rattle.vab_device.specs.Stores.{Scanned, first_named, exceptions_of}
-use Rattle.vab_recover.specs.Scans.{IsScanned, IsTargetTable}
+use Rattle.vab_plan.specs.Scans.{IsTargetTable}
+use Rattle.vab_recover.specs.Scans.{IsScanned}
 use Rattle.vab_recover.specs.Opened.{read_of, target_tables, AreHeads}
-use Rattle.vab_recover.proofs.PlanLaws.{first_filter, first_all}
+use Rattle.vab_plan.proofs.PlanLaws.{first_filter, first_all}
 
 -- ---- lists without repetition
 

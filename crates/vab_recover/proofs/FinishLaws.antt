@@ -16,7 +16,8 @@ use Rattle.vab_device.specs.Kept.{IsTableOf, ArePlanned, AreOfUpdate, IsDevice}
 use Rattle.vab_device.specs.Phases.{plan_of}
 use Rattle.vab_device.specs.Stores.{Scanned}
 use Rattle.vab_recover.specs.declared.table.Tables.{Tables}
-use Rattle.vab_recover.specs.Scans.{IsScanned, IsTargetTable}
+use Rattle.vab_plan.specs.Scans.{IsTargetTable}
+use Rattle.vab_recover.specs.Scans.{IsScanned}
 use Rattle.vab_recover.specs.Opened.{with_tables, AreHeads}
 use Rattle.vab_recover.specs.Opened.{IsTableThere, AreTablesThere, IsAssembled, plan_by}
 use Rattle.vab_recover.proofs.DeviceLaws.{device_kept, plan_kept, target_table, target_on_disk}

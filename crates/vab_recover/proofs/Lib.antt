@@ -2,6 +2,5 @@ pub mod DeviceLaws
 pub mod FinishLaws
 pub mod FrameLaws
 pub mod OpenLaws
-pub mod PartLaws
 pub mod PlanLaws
 pub mod ReadLaws

@@ -41,7 +41,8 @@ use Rattle.std.proofs.lemmas.Bool.{leb-true, and_parts}
 use Rattle.std.proofs.lemmas.List.{map-append, take_more, take_all}
 use Rattle.std.proofs.lemmas.List.Elements.{filter-append}
 use Rattle.vab_device.specs.Phases.{planned_on}
-use Rattle.vab_recover.proofs.PartLaws.{own_at, layout_first}
+use Rattle.vab_plan.proofs.PartLaws.{own_at, layout_first}
+use Rattle.vab_plan.proofs.PlanLaws.{drop_at, at_any, first_filter, first_all, own_part, store_is}
 use Rattle.vab_builder.proofs.Counting.{few_below}
 use Rattle.vab_builder.proofs.NameCases.{store_is_store}
 use Rattle.vab_device.specs.declared.fault.StartFault.{StartFault}
@@ -51,51 +52,13 @@ use Rattle.vab_device.specs.Kept.{sectors_of}
 use Rattle.vab_device.specs.Phases.{store_on}
 use Rattle.vab_device.specs.Stores.{Wanted, Scanned, first_named, wanted_by, wanted_of, scan_at}
 use Rattle.vab_device.specs.Stores.{scans_in, exceptions_of}
-use Rattle.vab_recover.specs.declared.plan.Scan.{Scan}
-use Rattle.vab_recover.specs.Scans.{scanned_of, scans_of, wanted_at, IsTargetTable, AreBlocks}
-use Rattle.vab_recover.specs.Scans.{IsMissing, IsScanned}
+use Rattle.vab_plan.specs.declared.planning.Scan.{Scan}
+use Rattle.vab_plan.specs.Scans.{scanned_of, scans_of, IsTargetTable}
+use Rattle.vab_recover.specs.Scans.{wanted_at, AreBlocks, IsMissing, IsScanned}
 
 -- ---- a place of a list
 
-pub drop_at : {X : Type 0} (xs : List X) (i : ℕ) (x : X)
-    → i < length xs
-    → x ≡ get_or xs i x
-    → drop i xs ≡ x ∷ drop (i + 1) xs
-drop_at xs i x lt at =
-    drop-cons xs i x lt
-    ∙ ap (λ y. y ∷ drop (suc i) xs) (sym at)
-    ∙ ap (λ (k : ℕ). x ∷ drop k xs) (let e : suc i ≡ i + 1 = omega arith in e)
-
-pub at_any : {X : Type 0} (xs : List X) (i : ℕ) (x d : X)
-    → i < length xs
-    → x ≡ get_or xs i x
-    → x ≡ get_or xs i d
-at_any [] i x d lt at = absurd (omega (arith, lt))
-at_any (y ∷ ys) zero x d lt at = at
-at_any (y ∷ ys) (suc i) x d lt at = at_any ys i x d (omega (arith, lt)) at
-
 -- ---- the partition of a name
-
--- of those whose names pass a test
-pub first_filter : (q : List ℕ → Bool) (name : List ℕ) (ps : List PartOfLayout)
-    → q name ≡ true
-    → first_named name (filter (λ p. q p.name) ps) ≡ first_named name ps
-first_filter q name [] is = refl
-first_filter q name (p ∷ ps) is =
-    let rest = first_filter q name ps is in
-    elim (cases_Bool (q p.name)) [
-      | inl passes ↦ elim (cases_Bool (bytes_eq p.name name)) [
-        | inl here ↦ rw (passes, here) refl
-        | inr other ↦ rw (passes, other) rest
-      ]
-      | inr fails ↦ elim (cases_Bool (bytes_eq p.name name)) [
-        | inl here ↦
-            let same : q p.name ≡ true = ap q ((bytes_eq-Decides p.name name).0 here) ∙ is in
-            let no : false ≡ true = sym fails ∙ same in
-            absurd (let e : false ≡ true = no in cc)
-        | inr other ↦ rw (fails, other) rest
-      ]
-    ]
 
 pub first_none : (q : List ℕ → Bool) (name : List ℕ) (ps : List PartOfLayout)
     → q name ≡ false
@@ -114,24 +77,6 @@ first_none q name (p ∷ ps) is =
       | inr fails ↦ rw fails rest
     ]
 
--- what holds of all holds of the one that is found, and it has the name
-pub first_all : (P : PartOfLayout → Type 0) (name : List ℕ) (ps : List PartOfLayout) (p : PartOfLayout)
-    → All P ps
-    → first_named name ps ≡ Some p
-    → P p × (p.name ≡ name)
-first_all P name [] p all is = absurd (let no : None ≡ Some p = is in cc)
-first_all P name (x ∷ xs) p all is = elim (cases_Bool (bytes_eq x.name name)) [
-  | inl here ↦
-      let found : Some x ≡ Some p = rw here at is in
-      let same : x ≡ p = cc in (
-        subst P same (All-head P x xs all),
-        ap (λ (y : PartOfLayout). y.name) (sym same) ∙ (bytes_eq-Decides x.name name).0 here,
-      )
-  | inr other ↦
-      let found : first_named name xs ≡ Some p = rw other at is in
-      first_all P name xs p (All-tail P x xs all) found
-]
-
 -- ---- the blocks of a store
 
 store_cap : (slot : ℕ) (t : Table) (name : List ℕ) (q : PartOfLayout)
@@ -149,15 +94,6 @@ store_cap slot t name q target own is =
     let part = (first_all (IsPartOfLayout (cap_of l.device) l.groups) (store_of name) l.parts q
     rules.parts is).0 in
     few_below (cap_of l.device) q.blocks once part.blocks
-
-pub store_small : (slot : ℕ) (t : Table) (name : List ℕ) (p : Partition)
-    → IsTargetTable slot t
-    → is_of_slot slot name ≡ true
-    → first_named (store_of name) (layout_of t).parts ≡ Some (part_of t p)
-    → length (blocks_of_partition t p) < 2 ^ 60
-store_small slot t name p target own is =
-    let rules = layout_keeps t target.rules in
-    omega (arith, store_cap slot t name (part_of t p) target own is, rules.device.fits.size)
 
 -- ---- a store that a status names
 
@@ -256,112 +192,7 @@ scans_ok (Err f) ws image done x is = absurd (let no : (let r : Result Scanned S
 
 -- ---- the exceptions of a name
 
-not_name : (a b : List ℕ) → a ≢ b → bytes_eq a b ≡ false
-not_name a b differ = elim (cases_Bool (bytes_eq a b)) [
-  | inl same ↦ absurd (differ ((bytes_eq-Decides a b).0 same))
-  | inr other ↦ other
-]
-
--- without one of another name they are the same
-pub exceptions_without : (name : List ℕ) (scans : List Scan) (i : ℕ) (d : Scan)
-    → i < length scans
-    → (get_or scans i d).name ≢ name
-    → exceptions_of name (scans_of (take i scans ++ drop (suc i) scans))
-    ≡ exceptions_of name (scans_of scans)
-exceptions_without name [] i d lt differ = absurd (omega (arith, lt))
-exceptions_without name (s ∷ ss) zero d lt differ =
-    let other = not_name s.name name differ in rw other refl
-exceptions_without name (s ∷ ss) (suc i) d lt differ =
-    let rest = exceptions_without name ss i d (omega (arith, lt)) differ in
-    elim (cases_Bool (bytes_eq s.name name)) [
-      | inl here ↦ rw here refl
-      | inr other ↦ rw other rest
-    ]
-
 -- ---- a slot's own partitions
-
-pub own_part : (slot : ℕ) (t : Table) (name : List ℕ) (p : Partition)
-    → IsTargetTable slot t
-    → is_of_slot slot name ≡ true
-    → first_named name (layout_of t).parts ≡ Some (part_of t p)
-    → IsOwnPart slot (part_of t p) × (p.name ≡ name)
-own_part slot t name p target own is =
-    first_all (IsOwnPart slot) name (own_parts slot (layout_of t).parts) (part_of t p)
-    target.own.each (first_filter (is_of_slot slot) name (layout_of t).parts own ∙ is)
-
-short_base : (text : List ℕ) → IsTrue (is_base text) → length text ≤ 30
-unfolding is_base
-short_base text is = leb-true (length text) 30 (and_parts _ _ (and_parts _ _ is).1).0
-
-pub short_name : (slot : ℕ) (name : List ℕ) → IsTrue (is_base (base_of name)) → length name ≤ 32
-short_name slot name is = omega (arith, short_base (base_of name) is, length-base_of name)
-
-pub store_is : (t : Table) (name store : List ℕ) (p : Partition)
-    → first_named (store_of name) (layout_of t).parts ≡ Some (part_of t p)
-    → store ≡ sectors_of (first_sector_of t) (blocks_of_partition t p)
-    → Some store ≡ store_on (layout_of t) name
-store_is t name store p is same =
-    let first = (layout_of t).device.first_logical_sector in
-    ap Some (same ∙ ap (λ (n : ℕ). sectors_of n (blocks_of_partition t p)) (sym (layout_first t)))
-    ∙ sym (ap (option_map (λ (q : PartOfLayout). sectors_of first q.blocks)) is)
-
-pub own_rules : (slot : ℕ) (t : Table) (i : ℕ) (p : Partition)
-    → IsTargetTable slot t
-    → i < length t.partitions
-    → p ≡ get_or t.partitions i p
-    → is_of_slot slot p.name ≡ true
-    → IsOwnPart slot (part_of t p)
-own_rules slot t i p target lt at own =
-    let there : is_of_slot slot (get_or t.partitions i p).name ≡ true =
-    subst (λ (q : Partition). is_of_slot slot q.name ≡ true) at own in
-    subst (λ (q : Partition). IsOwnPart slot (part_of t q)) (sym at)
-    (own_at slot t i p target.own lt there)
-
-pub all_before : (slot : ℕ) (t : Table) (i : ℕ)
-    → length t.partitions ≤ i
-    → own_before slot t i ≡ own_parts slot (layout_of t).parts
-unfolding layout_of
-all_before slot t i done =
-    ap (λ (l : List Partition). own_parts slot (map (part_of t) l)) (take_all i t.partitions done)
-
-more_before : (slot : ℕ) (t : Table) (i : ℕ) (p : Partition)
-    → i < length t.partitions
-    → p ≡ get_or t.partitions i p
-    → own_before slot t (i + 1) ≡ own_before slot t i ++ own_parts slot (part_of t p ∷ [])
-more_before slot t i p lt at =
-    ap (λ (l : List Partition). own_parts slot (map (part_of t) l)) (take_more t.partitions i p lt)
-    ∙ ap (λ (q : Partition). own_parts slot (map (part_of t) (take i t.partitions ++ q ∷ []))) (sym at)
-    ∙ ap (own_parts slot) (map-append (part_of t) (take i t.partitions) (p ∷ []))
-    ∙ filter-append (λ (q : PartOfLayout). is_of_slot slot q.name)
-    (map (part_of t) (take i t.partitions)) (part_of t p ∷ [])
-
-pub plan_skip : {X : Type 0} (f : PartOfLayout → X) (slot : ℕ) (t : Table) (i : ℕ) (p : Partition)
-    → i < length t.partitions
-    → p ≡ get_or t.partitions i p
-    → is_of_slot slot p.name ≡ false
-    → map f (own_before slot t i) ≡ map f (own_before slot t (i + 1))
-plan_skip f slot t i p lt at other =
-    let none : own_parts slot (part_of t p ∷ []) ≡ [] = rw other refl in
-    ap (map f)
-    (sym (more_before slot t i p lt at ∙ ap (λ (l : List PartOfLayout). own_before slot t i ++ l) none
-    ∙ append-nil (own_before slot t i)))
-
-pub plan_more : {X : Type 0} (f : PartOfLayout → X) (slot : ℕ) (t : Table) (i : ℕ) (p : Partition)
-    → i < length t.partitions
-    → p ≡ get_or t.partitions i p
-    → is_of_slot slot p.name ≡ true
-    → map f (own_before slot t i) ++ f (part_of t p) ∷ [] ≡ map f (own_before slot t (i + 1))
-plan_more f slot t i p lt at own =
-    let one : own_parts slot (part_of t p ∷ []) ≡ part_of t p ∷ [] = rw own refl in
-    sym (map-append f (own_before slot t i) (part_of t p ∷ []))
-    ∙ ap (map f)
-    (sym (more_before slot t i p lt at
-    ∙ ap (λ (l : List PartOfLayout). own_before slot t i ++ l) one))
-
-pub planned_same : (l : Layout) (xs ys : List Scanned) (p : PartOfLayout)
-    → exceptions_of p.name xs ≡ exceptions_of p.name ys
-    → planned_on l xs p ≡ planned_on l ys p
-planned_same l xs ys p same = rw same refl
 
 -- ---- a scan of the store that a status names
 

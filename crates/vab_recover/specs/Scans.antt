@@ -1,4 +1,4 @@
--- Stores that are scanned, and the tables of targets that they are scanned by.
+-- Stores that are scanned.
 use Rattle.std.specs.Prelude.{◌≡◌, ◌⊎◌, ℕ, List, map, length, All, Some, None}
 use Rattle.std.specs.Prelude.{Result, Ok, Err}
 use Rattle.vab_disk.specs.Disk.{Image}
@@ -13,24 +13,11 @@ use Rattle.vab_device.specs.declared.fault.StartFault.{StartFault}
 use Rattle.vab_device.specs.Kept.{sectors_of}
 use Rattle.vab_device.specs.Phases.{store_on}
 use Rattle.vab_device.specs.Stores.{Wanted, Scanned, first_named, scan_at}
-use Rattle.vab_recover.specs.declared.plan.Scan.{Scan}
-
-abbrev pub scanned_of : Scan → Scanned
-scanned_of s = record { name = s.name; exceptions = s.view }
-
-abbrev pub scans_of : List Scan → List Scanned
-scans_of scans = map scanned_of scans
 
 -- the exceptions of a store that is wanted, or the fault
 abbrev pub wanted_at : Result Wanted StartFault → Image → Result Scanned StartFault
 wanted_at (Ok w) image = scan_at w image
 wanted_at (Err fault) image = Err fault
-
--- A target's table: its rules, those of the slot's own partitions, and no block twice in a store.
-pub record IsTargetTable (slot : ℕ) (t : Table) : Type 0 where
-  pub rules : KeepsRules t
-  pub own : IsOwn slot (layout_of t).parts
-  pub stores : All (λ p. IsDistinct p.blocks) (store_parts slot (layout_of t).parts)
 
 -- the blocks of the slot's partition of this name, and those of its store
 pub record AreBlocks (slot : ℕ) (l : Layout) (name base store : List ℕ) : Type 0 where

@@ -12,7 +12,6 @@ ghost use Rattle.vab_device.specs.Idle.{control_read_of};
 ghost use Rattle.vab_device.specs.Kept.{AreOfUpdate};
 ghost use Rattle.vab_recover.specs.Opened.{fault_of, IsAssembled};
 
-use crate::parts::{limits, parts};
 use crate::table::Tables;
 use std::alloc::Global;
 use vab_bootctl::{Control, Info};
@@ -21,6 +20,7 @@ use vab_device::{Device, Part, Planned, StartFault};
 use vab_geometry::Geometry;
 use vab_marks::UpdateMark;
 use vab_partitions::{bad_partition, bad_target, has_twins, same_device};
+use vab_plan::{limits, parts};
 use vab_tables::Table;
 
 // Whether a slot may be booted as one that works.

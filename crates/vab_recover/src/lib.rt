@@ -4,7 +4,6 @@
 mod frame;
 mod judge;
 mod opening;
-mod parts;
 mod plan;
 mod read;
 mod table;

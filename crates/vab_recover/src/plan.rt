@@ -22,83 +22,24 @@ ghost use Rattle.vab_device.specs.Phases.{store_on, planned_image, planned_on, p
 ghost use Rattle.vab_device.specs.Stores.{Wanted, first_named, wanted_of, scan_read, scans_in};
 ghost use Rattle.vab_device.specs.Stores.{exceptions_of};
 ghost use Rattle.vab_recover.specs.Counts.{CountsFaults};
-ghost use Rattle.vab_recover.specs.declared.plan.Scan.{Scan};
-ghost use Rattle.vab_recover.specs.Scans.{scanned_of, scans_of, wanted_at, IsTargetTable};
-ghost use Rattle.vab_recover.specs.Scans.{AreBlocks};
-ghost use Rattle.vab_recover.specs.Scans.{IsMissing, IsScanned};
+ghost use Rattle.vab_plan.specs.Scans.{scanned_of, scans_of, IsTargetTable};
+ghost use Rattle.vab_recover.specs.Scans.{wanted_at, AreBlocks, IsMissing, IsScanned};
 ghost use Rattle.vab_recover.specs.Opened.{stores_by, IsPlanRead};
 
-use crate::parts::{base, map};
 use std::alloc::Global;
 use vab_bytes::{Listing, Name36};
-use vab_device::{Planned, PlannedImage, StartFault};
+use vab_device::{Planned, StartFault};
 use vab_disk::Disk;
 use vab_gate::DiskFault;
 use vab_linear::Map;
 use vab_lpstore::Loaded;
 use vab_marks::PartStatus;
-use vab_names::{is_of_slot, store_of};
+use vab_names::is_of_slot;
+use vab_plan::{Scan, map, named, plan, store_map};
 use vab_scan::scan;
 use vab_statuses::Statuses;
 use vab_store::{StoreFault, StoreView};
-use vab_tables::{Partition, Table};
-
-/// The attribute of a partition that an update changes.
-const UPDATED: u32 = 4;
-
-/// The exceptions of the store of a partition.
-#[derive(Drop)]
-pub struct Scan {
-    /// The partition's whole name.
-    pub name: Name36,
-    pub view: StoreView,
-}
-
-// Whether the partition has this name.
-fn is_named(partition: &Partition, name: &Name36) -> bool
-    ensures { result ≡ bytes_eq partition.now.name name.now }
-{
-    partition.name.text() == name.text()
-}
-
-// The first partition of this name.
-fn named<'a>(table: &'a Table, name: &Name36) -> Option<&'a Partition>
-    requires keeps { KeepsRules table.now }
-    ensures some { IfSome result (λ p. first_named name.now (layout_of table.now).parts
-        ≡ Some (part_of table.now p.now)) }
-    ensures rules { IfSome result (λ p. IsPartition table.now.minor (length table.now.extents)
-        (length table.now.groups) p.now) }
-    ensures none { IfNone result (first_named name.now (layout_of table.now).parts ≡ None) }
-{
-    for partition in table.partitions.as_slice() {
-        if is_named(partition, name) {
-            return Some(partition);
-        }
-    }
-    None
-}
-
-// Where the blocks of the store of the slot's partition of this name stand, if it has one.
-fn store_map(
-    alloc: Global,
-    table: &Table,
-    name: &Name36,
-    slot: usize,
-) -> Result<Option<Map>, StartFault>
-    requires target { IsTargetTable slot table.now }
-    requires own { is_of_slot slot name.now ≡ true }
-    requires short { length name.now ≤ 32 }
-    ensures store { IfOk result (λ m. m ≡ store_on (layout_of table.now) name.now) }
-    ensures fault { OnErr result (result ≡ Err StartFault.NoMemory) }
-{
-    match named(table, &store_of(name)) {
-        None => Ok(None),
-        Some(store) => match map(alloc, table, store) {
-            Ok(map) => Ok(Some(map)),
-            Err(fault) => Err(fault),
-        },
-    }
-}
+use vab_tables::Table;
 
 // The blocks of the slot's partition of this name and those of its store, where both are there.
 fn wanted(
@@ -231,115 +172,6 @@ pub fn scan_stores<D: Disk>(
         }
     }
     Ok(scans)
-}
-
-// Where the exceptions of the partition of this name stand.
-fn place(scans: &[Scan], name: &Name36) -> Option<usize>
-    ensures none { IfNone result (exceptions_of name.now (scans_of scans.now) ≡ None) }
-    ensures within { IfSome result (λ i. i < length scans.now) }
-    ensures first { IfSome result (λ i. (d : Scan)
-        → exceptions_of name.now (scans_of scans.now) ≡ Some (get_or scans.now i d).view) }
-    ensures is { IfSome result (λ i. (d : Scan) → (get_or scans.now i d).name ≡ name.now) }
-{
-    for i in 0..scans.len() {
-        if scans[i].name.text() == name.text() {
-            return Some(i);
-        }
-    }
-    None
-}
-
-// The exceptions of the partition of this name, which leave the list.
-fn take(scans: &mut Vec<Scan>, name: &Name36) -> Option<StoreView>
-    ensures found { result ≡ exceptions_of name.now (scans_of scans.old.items) }
-    ensures others { (n : List ℕ)
-        → n ≢ name.now
-        → exceptions_of n (scans_of scans.new.items)
-        ≡ exceptions_of n (scans_of scans.old.items) }
-{
-    match place(scans.as_slice(), name) {
-        None => None,
-        Some(at) => Some(scans.remove(at).view),
-    }
-}
-
-// What is known of the image of a partition.
-fn image(updated: bool, view: Option<StoreView>) -> PlannedImage
-    ensures { result ≡ planned_image updated view }
-{
-    match view {
-        None => {
-            if updated {
-                PlannedImage::Declared
-            } else {
-                PlannedImage::Kept
-            }
-        }
-        Some(view) => {
-            if updated {
-                PlannedImage::Written(view)
-            } else {
-                PlannedImage::Kept
-            }
-        }
-    }
-}
-
-// A partition of the target, with the exceptions of its store, which leave the list.
-fn planned(
-    alloc: Global,
-    table: &Table,
-    partition: &Partition,
-    slot: usize,
-    scans: &mut Vec<Scan>,
-) -> Result<Planned, StartFault>
-    requires target { IsTargetTable slot table.now }
-    requires rules { IsPartition table.now.minor (length table.now.extents)
-        (length table.now.groups) partition.now }
-    requires own { is_of_slot slot partition.now.name ≡ true }
-    requires part { IsOwnPart slot (part_of table.now partition.now) }
-    ensures entry { IfOk result (λ p. p
-        ≡ planned_on (layout_of table.now) (scans_of scans.old.items)
-        (part_of table.now partition.now)) }
-    ensures others { (n : List ℕ)
-        → n ≢ partition.now.name
-        → exceptions_of n (scans_of scans.new.items)
-        ≡ exceptions_of n (scans_of scans.old.items) }
-    ensures fault { OnErr result (result ≡ Err StartFault.NoMemory) }
-{
-    let view = take(scans, &partition.name);
-    let map = map(alloc, table, partition)?;
-    let store = store_map(alloc, table, &partition.name, slot)?;
-    Ok(Planned {
-        name: base(&partition.name),
-        group: table.groups.as_slice()[partition.group as usize].name,
-        map,
-        store,
-        image: image(partition.attributes & UPDATED != 0, view),
-    })
-}
-
-/// The partitions of an update's target, in the order of the table, with these exceptions.
-pub fn plan(
-    alloc: Global,
-    table: &Table,
-    slot: usize,
-    scans: Vec<Scan>,
-) -> Result<Listing<Planned>, StartFault>
-    requires slot { slot < 2 }
-    requires target { IsTargetTable slot table.now }
-    ensures plan { IfOk result
-        (λ ps. ps ≡ plan_of slot (layout_of table.now) (scans_of scans.items)) }
-    ensures fault { OnErr result (result ≡ Err StartFault.NoMemory) }
-{
-    let mut left = scans;
-    let mut plan = Vec::new(alloc);
-    for partition in table.partitions.as_slice() {
-        if is_of_slot(partition.name.text(), slot) {
-            plan.push(planned(alloc, table, partition, slot, &mut left)?)?;
-        }
-    }
-    Ok(Listing::from_vec(plan))
 }
 
 /// The plan of the target, while an update is installed from this slot, with what the stores hold

@@ -2,7 +2,7 @@ use Rattle.std.proofs.Common.{Some, sym, ap, subst}
 use Rattle.std.specs.Prelude.{Option}
 use Rattle.vab_lpstore.specs.declared.loaded.Loaded.{Loaded}
 use Rattle.vab_recover.specs.Opened.{IsPlanRead}
-use Rattle.vab_recover.specs.Scans.{scans_of}
+use Rattle.vab_plan.specs.Scans.{scans_of}
 use Rattle.vab_recover.proofs.plan.read_plan.Goals as goal
 
 pub returns-in-Ok-plan-clause-plan : goal.returns-in-Ok-plan-clause-plan

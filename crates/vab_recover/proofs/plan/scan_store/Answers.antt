@@ -5,7 +5,8 @@ use Rattle.vab_device.specs.declared.fault.StartFault.{StartFault}
 use Rattle.vab_device.specs.Faults.{IsOfContents}
 use Rattle.vab_device.specs.Stores.{Scanned, Wanted}
 use Rattle.vab_store.specs.Scan.{scan_of}
-use Rattle.vab_recover.specs.Scans.{scanned_of, AreBlocks}
+use Rattle.vab_plan.specs.Scans.{scanned_of}
+use Rattle.vab_recover.specs.Scans.{AreBlocks}
 use Rattle.vab_recover.proofs.PlanLaws.{wanted_is, is_scanned, store_on_disk}
 use Rattle.vab_recover.proofs.plan.scan_store.Goals as goal
 

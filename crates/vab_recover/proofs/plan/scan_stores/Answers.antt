@@ -12,8 +12,9 @@ use Rattle.vab_layout.specs.Layout.{layout_of}
 use Rattle.vab_device.specs.Checks.{◌>>=◌}
 use Rattle.vab_device.specs.Stores.{Scanned, wanted_of, scans_in}
 use Rattle.vab_statuses.specs.Statuses.{written_in}
-use Rattle.vab_recover.specs.declared.plan.Scan.{Scan}
-use Rattle.vab_recover.specs.Scans.{scanned_of, scans_of, wanted_at, IsScanned}
+use Rattle.vab_plan.specs.declared.planning.Scan.{Scan}
+use Rattle.vab_plan.specs.Scans.{scanned_of, scans_of}
+use Rattle.vab_recover.specs.Scans.{wanted_at, IsScanned}
 use Rattle.vab_recover.proofs.PlanLaws.{scans_step, scans_skip}
 use Rattle.vab_recover.proofs.plan.scan_stores.Goals as goal
 use Rattle.vab_recover.proofs.plan.scan_stores.Goals.{}

@@ -5,7 +5,8 @@ use Rattle.vab_statuses.specs.Statuses.{written_in}
 use Rattle.vab_layout.specs.Layout.{layout_of}
 use Rattle.vab_device.specs.Checks.{◌>>=◌}
 use Rattle.vab_device.specs.Stores.{wanted_of, scans_in}
-use Rattle.vab_recover.specs.Scans.{scans_of, IsScanned}
+use Rattle.vab_plan.specs.Scans.{scans_of}
+use Rattle.vab_recover.specs.Scans.{IsScanned}
 use Rattle.vab_recover.proofs.plan.scan_stores.Given as goal
 
 abbrev pub invariant-loop-entry : goal.invariant-loop-entry

@@ -4,8 +4,9 @@ use Rattle.vab_names.specs.Names.{base_of, is_base}
 use Rattle.std.specs.Prelude.{IsTrue}
 use Rattle.vab_layout.specs.Layout.{layout_of, part_of, blocks_of_partition}
 use Rattle.vab_device.specs.Kept.{sectors_of}
-use Rattle.vab_recover.proofs.PartLaws.{layout_first}
-use Rattle.vab_recover.proofs.PlanLaws.{first_filter, first_none, own_part, short_name}
+use Rattle.vab_plan.proofs.PartLaws.{layout_first}
+use Rattle.vab_plan.proofs.PlanLaws.{first_filter, own_part, short_name}
+use Rattle.vab_recover.proofs.PlanLaws.{first_none}
 use Rattle.vab_recover.proofs.plan.wanted.Goals as goal
 
 pub returns-then-not-is_of_slot-clause-none : goal.returns-then-not-is_of_slot-clause-none
@@ -59,7 +60,7 @@ returns-in_ok-map-in-Some-2-clause-there c =
       named =
           first_filter (is_of_slot c.args.slot) c.args.name.now (layout_of t).parts own
           ∙ c.in-Some.ensures.some;
-      base_is = c.in_ok-map-in-Some-2.ensures.sectors
+      base_is = c.in_ok-map-in-Some-2.ensures.blocks
           ∙ ap (λ (n : ℕ). sectors_of n (blocks_of_partition t c.in-Some.partition.now))
           (sym (layout_first t));
       stored = sym c.in_ok-store_map.ensures.store ∙ c.in-Some-2.is;

@@ -1,7 +1,0 @@
-use Rattle.std.proofs.Common.{◌≡◌, take}
-use Rattle.std.specs.Prelude.{map}
-use Rattle.vab_recover.proofs.PartLaws.{run_on}
-use Rattle.vab_recover.proofs.parts.map.Given as goal
-
-abbrev pub invariant-loop-extent : goal.invariant-loop-extent
-invariant-loop-extent l = l.runs.items ≡ map run_on (take l.extent-index l.extent-items)

@@ -1,7 +1,0 @@
-use Rattle.std.proofs.Common.{refl}
-use Rattle.vab_layout.specs.Layout.{layout_of}
-use Rattle.vab_recover.proofs.plan.named.Goals as goal
-
-pub loop-partition-init : goal.loop-partition-init
-unfolding layout_of
-loop-partition-init c = refl
