@@ -25,7 +25,7 @@ use Rattle.vab_marks.specs.declared.mark.MarkPhase.TheVariants as marks
 use Rattle.vab_device.specs.Phases.{Phase, idle, phase_at}
 use Rattle.vab_device.specs.Reading.{Read, Reads, kept, table_for}
 use Rattle.vab_device.proofs.ReadingLaws.{idle_at, idle_read_of, device_of}
-use Rattle.vab_recover.specs.Opened.{IsRepair, IsOneOf}
+use Rattle.vab_recover.specs.Repairs.{IsRepair, IsOneOf}
 use Rattle.vab_manager.specs.Controls.{IsOfCommands}
 use Rattle.vab_make.specs.Made.{made_device_of, made_places, made_geometry, made_layout}
 use Rattle.vab_make.specs.Making.{IsMade}

@@ -15,7 +15,7 @@ use Rattle.vab_device.specs.declared.fault.StartFault.TheVariants as start
 use Rattle.vab_device.specs.Faults.{IsOfContents, IsOfDisk}
 use Rattle.vab_device.specs.Mounted.{Mounted}
 use Rattle.vab_device.specs.Reading.{device, IsIn}
-use Rattle.vab_recover.specs.Opened.{LeavesSame}
+use Rattle.vab_recover.specs.Repairs.{LeavesSame}
 use Rattle.vab_model.specs.Commands.{Command}
 use Rattle.vab_exchanges.specs.Items.{Item}
 use Rattle.vab_exchanges.specs.Runs.{CrashesWithin, LeavesItem}

@@ -11,7 +11,7 @@ use Rattle.vab_disk.proofs.Moments.{adds_wider, adds_on, all_since}
 use Rattle.vab_device.specs.declared.device.Device.{Device}
 use Rattle.vab_device.specs.Mounted.{Mounted, mounted_on}
 use Rattle.vab_device.specs.Reading.{device, IsIn, Represents}
-use Rattle.vab_recover.specs.Opened.{LeavesSame}
+use Rattle.vab_recover.specs.Repairs.{LeavesSame}
 use Rattle.vab_set.specs.declared.set.SetImage.{SetImage}
 use Rattle.vab_layout.specs.Layout.{table_of}
 use Rattle.vab_make.specs.declared.fault.MakeFault.{MakeFault}

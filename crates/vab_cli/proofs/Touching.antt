@@ -15,7 +15,7 @@ use Rattle.vab_model.specs.Commands.{Command}
 use Rattle.vab_device.specs.declared.device.Device.{Device}
 use Rattle.vab_device.specs.Mounted.{Mounted, state_on, mounted_on}
 use Rattle.vab_device.specs.Reading.{IsIn, Represents}
-use Rattle.vab_recover.specs.Opened.{IsRepair}
+use Rattle.vab_recover.specs.Repairs.{IsRepair}
 use Rattle.vab_recover.proofs.OpenLaws.{control_stays}
 use Rattle.vab_manager.specs.Controls.{IsOfSlots, IsOfCommand, IsOfCommands}
 use Rattle.vab_manager.proofs.EffectLaws.{some_images}

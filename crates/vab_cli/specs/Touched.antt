@@ -4,7 +4,7 @@ use Rattle.vab_disk.specs.Disk.{Image}
 use Rattle.vab_bootctl.specs.declared.slots.Control.{Control}
 use Rattle.vab_model.specs.Commands.{Command}
 use Rattle.vab_device.specs.Mounted.{Mounted}
-use Rattle.vab_recover.specs.Opened.{IsRepair}
+use Rattle.vab_recover.specs.Repairs.{IsRepair}
 use Rattle.vab_manager.specs.Controls.{IsOfSlots, IsOfCommands}
 
 -- What a verb that is a command writes on a device whose boot control is this one: the copy of its

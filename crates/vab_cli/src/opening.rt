@@ -6,7 +6,7 @@ ghost use Rattle.vab_device.specs.declared.fault.StartFault.{StartFault as Fault
 ghost use Rattle.vab_device.specs.Kept.{IsDevice};
 ghost use Rattle.vab_device.specs.Mounted.{Mounted};
 ghost use Rattle.vab_device.specs.Reading.{device, IsIn, Represents};
-ghost use Rattle.vab_recover.specs.Opened.{IsRepair};
+ghost use Rattle.vab_recover.specs.Repairs.{IsRepair};
 ghost use Rattle.vab_cli.specs.Counts.{HearsNothing, IsSteady};
 ghost use Rattle.vab_cli.specs.Opening.{Opens};
 ghost use Rattle.vab_cli.specs.Runs.{FailsBefore, RunsNone};

@@ -18,7 +18,6 @@ use Rattle.vab_device.specs.declared.device.Device.{Device}
 use Rattle.vab_device.specs.declared.device.Planned.{Planned}
 use Rattle.vab_device.specs.Kept.{IsPlanned, IsPlan}
 use Rattle.vab_device.specs.Mounted.{state_on, images_on, image_on, bytes_at, entry_on, phase_on}
-use Rattle.vab_device.specs.Updates.{entry_named}
 use Rattle.vab_names.specs.Names.{is_full, base_of}
 use Rattle.vab_layout.specs.Slots.{other_slot}
 use Rattle.vab_fbvars.specs.Planned.{planned_named, kept_planned, bytes_planned}
@@ -27,7 +26,7 @@ use Rattle.vab_manager.specs.Found.{part_named}
 use Rattle.vab_manager.specs.Blocks.{image_at, parts_at}
 use Rattle.vab_manager.proofs.BlockLaws.{image_of_part}
 use Rattle.vab_fbvars.specs.Variables.{slot_info, AreSectors, planned_in, entry_size, size_planned}
-use Rattle.vab_fbvars.specs.Variables.{status_text}
+use Rattle.vab_fbvars.specs.Variables.{status_text, entry_named}
 
 -- ---- boot control
 

@@ -1,8 +1,9 @@
 -- The variables of a device, and what is told of them.
-use Rattle.std.specs.Prelude.{◌≡◌, ℕ, ◌*◌, ◌<◌, Bool, true, false, not, ◌||◌, List, [], length}
-use Rattle.std.specs.Prelude.{◌++◌, codes}
+use Rattle.std.specs.Prelude.{◌≡◌, ℕ, ◌*◌, ◌<◌, Bool, true, false, not, ◌||◌, List, [], ◌∷◌}
+use Rattle.std.specs.Prelude.{◌++◌, length, codes}
 use Rattle.std.specs.Prelude.{decimal, if◌then◌else◌, Option, Some, None, is_some}
-use Rattle.std.specs.Option.{option_map}
+use Rattle.std.specs.Option.{option_map, option_and_then}
+use Rattle.std.specs.Str.{bytes_eq}
 use Rattle.vab_disk.specs.Disk.{Image}
 use Rattle.vab_bootctl.specs.declared.slots.Info.{Info}
 use Rattle.vab_bootctl.specs.Boot.{info_at, is_bootable}
@@ -12,10 +13,8 @@ use Rattle.vab_model.specs.declared.state.Phase.TheVariants.{Idle, Installing, S
 use Rattle.vab_names.specs.Names.{is_full, base_of}
 use Rattle.vab_layout.specs.Slots.{other_slot}
 use Rattle.vab_model.specs.declared.state.PlanEntry.{PlanEntry}
-use Rattle.vab_model.specs.State.{images_at}
-use Rattle.vab_device.specs.Updates.{entry_named}
+use Rattle.vab_model.specs.State.{images_at, image_named}
 use Rattle.vab_model.specs.Effects.{Found, Image_is, Refused_by, found_of}
-use Rattle.vab_manager.specs.Blocks.{image_at}
 use Rattle.vab_fbproto.specs.Texts.{slot_letter}
 use Rattle.vab_fbproto.specs.Requests.{Variable, Version, CurrentSlot, SlotCount, MaxDownloadSize}
 use Rattle.vab_fbproto.specs.Requests.{HasSlot, SlotSuccessful, SlotUnbootable, SlotRetryCount}
@@ -56,11 +55,20 @@ planned_in (Installing source plan) = plan
 planned_in (Staged source left) = []
 planned_in (Merging target left) = []
 
--- a slot has an image of this base name, or such a partition is planned
+-- the first of this base name
+abbrev pub entry_named : List ℕ → List PlanEntry → Option PlanEntry
+entry_named base [] = None
+entry_named base (e ∷ es) = if bytes_eq e.name base then Some e else entry_named base es
+
+-- a slot has an image of this base name
+abbrev pub has_image : State → ℕ → List ℕ → Bool
+has_image s slot base = is_some (option_and_then (image_named base) (images_at s slot))
+
+-- a slot has one, or such a partition is planned
 abbrev pub has_base : State → List ℕ → Bool
 has_base s base =
-    is_some (image_at s 0 base)
-    || (is_some (image_at s 1 base) || is_some (entry_named base (planned_in s.phase)))
+    has_image s 0 base
+    || (has_image s 1 base || is_some (entry_named base (planned_in s.phase)))
 
 -- the bytes of an image that was found
 abbrev pub size_found : Found → Option ℕ

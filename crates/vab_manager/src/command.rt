@@ -42,8 +42,8 @@ fn refuse_update(device: Device, refusal: Refusal) -> (Device, Reply)
 /// reply and the device after it are those of the table of effects; where nothing was pending, each
 /// outcome since is a step of the command. A command on slots touches the boot control's sector
 /// alone, and there only the fields that it changes; a question or a refusal touches nothing. The
-/// error comes where the disk has failed; then nothing is asked of the device any more. The commands
-/// on an update are refused: none begins one yet.
+/// error comes where the disk has failed; then nothing is asked of the device any more. Commands on
+/// an update are refused: the program begins none yet.
 pub fn run_one<D: Disk>(
     d: &mut D,
     device: Device,

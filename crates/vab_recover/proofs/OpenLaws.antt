@@ -23,10 +23,13 @@ use Rattle.vab_device.specs.Reading.{Read, device, Reads, AgreeCopies, Represent
 use Rattle.vab_device.proofs.ReadingLaws.{device_same, reads_kept}
 use Rattle.vab_device.proofs.RepairLaws.{repair_same, primary_kept, backup_kept}
 use Rattle.vab_recover.specs.declared.table.Tables.{Tables}
-use Rattle.vab_recover.specs.Opened.{read_of, IsLoadedAt, target_tables}
-use Rattle.vab_recover.specs.Opened.{tables_of, with_tables, IsOpened, LeavesSame, IsOneOf}
-use Rattle.vab_recover.specs.Opened.{IsRepair}
-use Rattle.vab_recover.specs.Opened.{BothCopiesHold, IsTableThere, AreTablesThere}
+use Rattle.vab_recover.specs.Opened.{read_of, target_tables}
+use Rattle.vab_recover.specs.Repairs.{IsLoadedAt}
+use Rattle.vab_recover.specs.Opened.{tables_of, with_tables, IsOpened}
+use Rattle.vab_recover.specs.Repairs.{LeavesSame, IsOneOf}
+use Rattle.vab_recover.specs.Repairs.{IsRepair}
+use Rattle.vab_recover.specs.Opened.{IsTableThere, AreTablesThere}
+use Rattle.vab_recover.specs.Repairs.{BothCopiesHold}
 use Rattle.vab_recover.proofs.FrameLaws.{tables_split}
 
 -- the table that was loaded is the slot's

@@ -1,3 +1,4 @@
 pub mod Counts
 pub mod Opened
+pub mod Repairs
 pub mod Scans

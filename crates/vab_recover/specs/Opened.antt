@@ -1,4 +1,4 @@
--- What opening a device reads, answers and leaves.
+-- What opening a device reads, and what of it is kept.
 use Rattle.std.specs.Prelude.{◌≡◌, ◌⊎◌, ℕ, ◌<◌, ◌≤◌, ◌^◌, ◌==◌, if◌then◌else◌, List, [], ◌∷◌}
 use Rattle.std.specs.Prelude.{length}
 use Rattle.std.specs.Prelude.{Bool, Option, Some, None, is_some, Ok, IfSome, IsTrue, nat_le, true}
@@ -33,6 +33,7 @@ use Rattle.vab_device.specs.Reading.{Read, mark_in, statuses_at, geometry_at, ta
 use Rattle.vab_device.specs.Reading.{device}
 use Rattle.vab_device.specs.Reading.{Reads}
 use Rattle.vab_device.specs.Stores.{Wanted, Scanned, wanted_of, scans_in}
+use Rattle.vab_recover.specs.Repairs.{IsLoadedAt}
 use Rattle.vab_recover.specs.Scans.{IsScanned}
 use Rattle.vab_recover.specs.declared.table.Tables.{Tables}
 use Rattle.vab_recover.specs.declared.frame.Frame.{Frame}
@@ -96,11 +97,6 @@ tables_of t = t.source.table ∷ target_tables t.target
 -- the slots whose tables are read behind the source's
 abbrev pub target_slots : UpdateMark → List ℕ
 target_slots m = if is_installing m.phase then other_slot m.slot ∷ [] else []
-
--- the copies of the slot's table are loaded so
-abbrev pub IsLoadedAt : Geometry → ℕ → Image → Loaded → Type 0
-IsLoadedAt g slot image l =
-    IsLoaded g.max (primary_bytes g slot image) (backup_bytes g slot image) l
 
 -- so are those of both slots
 pub record AreLoaded (g : Geometry) (slot : ℕ) (image : Image) (t : Tables) : Type 0 where
@@ -202,31 +198,3 @@ pub record IsOpened (d : Device) (t : Tables) (size : ℕ) (image : Image) : Typ
       }
   pub control : control_of (image 4) ≡ Ok d.control
   pub loaded : AreLoaded d.geometry d.mark.slot image t
-
--- with nothing more told, a disk that means the same
-pub record LeavesSame (told : List ℕ) (size : ℕ) (old : Image) (o : Outcome) : Type 0 where
-  pub told_so_far : o.told ≡ told
-  pub same : device size o.image ≡ device size old
-
--- one of these slots
-abbrev pub IsOneOf : ℕ → List ℕ → Type 0
-IsOneOf slot [] = ⊥
-IsOneOf slot (s ∷ ss) = (slot ≡ s) ⊎ IsOneOf slot ss
-
--- What opening may write: of a table that is read, the one copy which doesn't hold its text.
-pub record IsRepair (size : ℕ) (image : Image) (s : ℕ) (b : List ℕ) : Type 0 where
-  pub read : Read
-  pub reads : Reads size read image
-  pub slot : ℕ
-  pub is_read : IsOneOf slot ((phase_at read.mark.phase).tables read.mark.slot)
-  pub table : Loaded
-  pub loaded : IsLoadedAt read.geometry slot image table
-  pub writes : IsOfRepair table.primary table.backup read.geometry slot table.text s b
-
--- both copies of each table that is read hold its text
-abbrev pub BothCopiesHold : ℕ → Image → Type 0
-BothCopiesHold size image = (r : Read) (slot : ℕ) (l : Loaded)
-    → Reads size r image
-    → IsOneOf slot ((phase_at r.mark.phase).tables r.mark.slot)
-    → IsLoadedAt r.geometry slot image l
-    → BothHold r.geometry slot l.text image

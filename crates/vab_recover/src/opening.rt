@@ -10,7 +10,7 @@ ghost use Rattle.vab_device.specs.Reading.{device, Represents};
 ghost use Rattle.vab_recover.specs.Counts.{CountsFaults};
 ghost use Rattle.vab_recover.specs.Opened.{IsFramed, AreHeads, AreTablesThere, with_tables};
 ghost use Rattle.vab_recover.specs.Opened.{IsOpened};
-ghost use Rattle.vab_recover.specs.Opened.{LeavesSame, IsRepair, BothCopiesHold};
+ghost use Rattle.vab_recover.specs.Repairs.{LeavesSame, IsRepair, BothCopiesHold};
 
 use crate::frame::{Frame, read_frame};
 use crate::judge::{assemble, judge_parts, judge_slot};

@@ -15,7 +15,8 @@ ghost use Rattle.vab_layout.specs.Slots.{other_slot};
 ghost use Rattle.vab_device.specs.Reading.{table_at, tables_in};
 ghost use Rattle.vab_device.specs.Kept.{is_installing};
 ghost use Rattle.vab_device.specs.Phases.{phase_at};
-ghost use Rattle.vab_recover.specs.Opened.{IsLoadedAt, IsTableThere, AreLoaded, AreTablesThere};
+ghost use Rattle.vab_recover.specs.Opened.{IsTableThere, AreLoaded, AreTablesThere};
+ghost use Rattle.vab_recover.specs.Repairs.{IsLoadedAt};
 ghost use Rattle.vab_recover.specs.Opened.{target_slots, target_tables, tables_of};
 ghost use Rattle.vab_recover.specs.Counts.{CountsFaults};
 

@@ -7,7 +7,7 @@ use Rattle.vab_disk.specs.Calls.{IsAtRest, OnlyReads, Touches, Changes, InSector
 use Rattle.vab_disk.proofs.CallLaws.{reads_none, changes_touches}
 use Rattle.vab_device.specs.Reading.{device, Represents}
 use Rattle.vab_device.proofs.ReadingLaws.{device_stands}
-use Rattle.vab_recover.specs.Opened.{LeavesSame, IsRepair}
+use Rattle.vab_recover.specs.Repairs.{LeavesSame, IsRepair}
 use Rattle.vab_make.specs.Touched.{IsOfMaking}
 use Rattle.vab_set.specs.declared.set.SetImage.{SetImage}
 use Rattle.vab_make.specs.declared.fault.MakeFault.TheVariants as make

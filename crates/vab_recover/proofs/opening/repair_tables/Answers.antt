@@ -6,7 +6,8 @@ use Rattle.vab_lpstore.specs.Layout.{copy_sectors, backup_of, BothHold}
 use Rattle.vab_lpstore.specs.Storing.{LeavesTable}
 use Rattle.vab_layout.specs.Slots.{other_slot}
 use Rattle.vab_device.specs.Reading.{device, Represents}
-use Rattle.vab_recover.specs.Opened.{with_tables, IsRepair, LeavesSame}
+use Rattle.vab_recover.specs.Opened.{with_tables}
+use Rattle.vab_recover.specs.Repairs.{IsRepair, LeavesSame}
 use Rattle.vab_recover.proofs.ReadLaws.{copies_on_disk}
 use Rattle.vab_recover.proofs.OpenLaws.{source_repair, source_flags, source_leaves, target_repair}
 use Rattle.vab_recover.proofs.OpenLaws.{target_flags, mid_means, mid_represents, mid_loaded}

@@ -7,7 +7,8 @@ use Rattle.vab_device.specs.declared.device.Device.{Device}
 use Rattle.vab_device.specs.Mounted.{mounted_on}
 use Rattle.vab_device.specs.Reading.{device}
 use Rattle.vab_device.proofs.ReadingLaws.{device_stands}
-use Rattle.vab_recover.specs.Opened.{with_tables, IsRepair, LeavesSame, BothCopiesHold}
+use Rattle.vab_recover.specs.Opened.{with_tables}
+use Rattle.vab_recover.specs.Repairs.{IsRepair, LeavesSame, BothCopiesHold}
 use Rattle.vab_recover.proofs.opening.start.Goals as goal
 
 -- the disk is at rest as it was
