@@ -95,7 +95,8 @@ module _
     (below : slot < 2)
     (rules : IsGeometry g)
     (short : length text ≤ g.max)
-    (same : SameBut (IsOfPlaces told (kept_with (idle_shape slot ss seen g s scanned) c) text (old 4)) old mid)
+    (same : SameBut
+    (IsOfPlaces told (kept_with (idle_shape slot ss seen g s scanned) c) text (old 4)) old mid)
     (reads : Reads size (idle_shape slot ss seen g s scanned) old)
     (whole : control_of (old 4) ≡ Ok c) where
   abbrev r : Read
@@ -112,12 +113,14 @@ module _
   stay at control statuses table = by_write (same at)
     where
       by_write : (mid at ≡ old at)
-          ⊎ IsOfPlaces told (kept_with (idle_shape slot ss seen g s scanned) c) text (old 4) at (mid at)
+          ⊎ IsOfPlaces told (kept_with (idle_shape slot ss seen g s scanned) c) text (old 4) at
+          (mid at)
           → mid at ≡ old at
       by_write (inl is) = is
       by_write (inr (inl (inl w))) = absurd (control w.at)
       by_write (inr (inl (inr w))) = absurd (statuses w)
-      by_write (inr (inr w)) = absurd (table (table_in g (other_slot slot) text at (mid at) rules short w))
+      by_write (inr (inr w)) = absurd
+          (table (table_in g (other_slot slot) text at (mid at) rules short w))
 
   low : (at : ℕ) → at ≢ 4 → (IsOfStatuses at → ⊥) → at < 4120 → mid at ≡ old at
   low at control statuses lt =
@@ -151,7 +154,8 @@ module _
           ∙ sym (control_seen_in (slot == 0) (slot == 1) old c whole)
 
       by_write : (mid 4 ≡ old 4)
-          ⊎ IsOfPlaces told (kept_with (idle_shape slot ss seen g s scanned) c) text (old 4) 4 (mid 4)
+          ⊎ IsOfPlaces told (kept_with (idle_shape slot ss seen g s scanned) c) text (old 4) 4
+          (mid 4)
           → control_in (slot == 0) (slot == 1) mid ≡ control_in (slot == 0) (slot == 1) old
       by_write (inl is) = control_same (slot == 0) (slot == 1) old mid is
       by_write (inr (inl (inl w))) = by_control w.control
@@ -169,12 +173,14 @@ module _
   pub images_a : images_on mid (kept r).a ≡ images_on old (kept r).a
   images_a =
       images_same old mid (kept r).a
-      (λ at is. behind at (images_behind size (end_of g (other_slot slot)) 0 _ r old at reads within is))
+      (λ at is. behind at
+      (images_behind size (end_of g (other_slot slot)) 0 _ r old at reads within is))
 
   pub images_b : images_on mid (kept r).b ≡ images_on old (kept r).b
   images_b =
       images_same old mid (kept r).b
-      (λ at is. behind at (images_behind size (end_of g (other_slot slot)) 1 _ r old at reads within is))
+      (λ at is. behind at
+      (images_behind size (end_of g (other_slot slot)) 1 _ r old at reads within is))
 
   pub same_read : SameRead size (idle_shape slot ss seen g s scanned) old mid
   same_read = record {
@@ -289,7 +295,8 @@ module _
 
     target_rules : target_check (other_slot slot) s u ≡ None
     target_rules =
-        ap names_none (target_not_bad (other_slot slot) (layout_of s).parts (layout_of u).parts target)
+        ap names_none
+        (target_not_bad (other_slot slot) (layout_of s).parts (layout_of u).parts target)
 
     own_rules : own_check slot s ≡ None
     own_rules = (first_kept (own_check slot s) [] reads.parts).0

@@ -52,7 +52,8 @@ use Rattle.vab_begin.proofs.StayLaws.{one_of}
 use Rattle.vab_begin.proofs.CancelLaws.{installing_read, kept_with, some_same}
 use Rattle.vab_begin.proofs.ImportLaws.{imported_plain, fitting_same, plan_same}
 use Rattle.vab_begin.proofs.PlannedLaws.{plan_keeps, target_table}
-use Rattle.vab_begin.proofs.BeginLaws.{idle_shape, installing_mark, IsPrepared, same_read, reads_new}
+use Rattle.vab_begin.proofs.BeginLaws.{idle_shape, installing_mark, IsPrepared, same_read}
+use Rattle.vab_begin.proofs.BeginLaws.{reads_new}
 use Rattle.vab_begin.proofs.BeginLaws.{copies_new, control_new, images_new_a, images_new_b}
 
 -- the device with an update to a target of this table
@@ -196,15 +197,19 @@ pub source_rules : (d : Device) (size : ℕ) (s : Table)
 source_rules d size s dev is = elim (cases_slot d.mark.slot dev.slot) [
   | inl first ↦
       let there = slot_at d.mark.slot 0 d.table_a d.table_b (Some s) first is in
-      let kept : IsTableOf size d.geometry 0 s = subst (IsKeptTable size d.geometry 0) there dev.table_a in
+      let kept : IsTableOf size d.geometry 0 s = subst (IsKeptTable size d.geometry 0) there
+      dev.table_a in
       subst (λ (n : ℕ). IsTableOf size d.geometry n s) (sym first) kept
   | inr one ↦
       let there = slot_at d.mark.slot 1 d.table_a d.table_b (Some s) one is in
-      let kept : IsTableOf size d.geometry 1 s = subst (IsKeptTable size d.geometry 1) there dev.table_b in
+      let kept : IsTableOf size d.geometry 1 s = subst (IsKeptTable size d.geometry 1) there
+      dev.table_b in
       subst (λ (n : ℕ). IsTableOf size d.geometry n s) (sym one) kept
 ]
 
-pub device_same : (s u : Table) → u.devices ≡ s.devices → (layout_of u).device ≡ (layout_of s).device
+pub device_same : (s u : Table)
+    → u.devices ≡ s.devices
+    → (layout_of u).device ≡ (layout_of s).device
 unfolding layout_of
 device_same s u is = ap first_device is
 
@@ -250,7 +255,8 @@ begun_kept d size x dev for =
     (subst (λ (t : Option Table). IsUpdate d.mark.slot t (Some x.table)) (sym for.is)
     (record { target = of.target; device = sym of.device }))
 
-kept_begun : (slot : ℕ) (c : Control) (ss : List (Option PartStatus)) (seen : Control) (g : Geometry)
+kept_begun : (slot : ℕ) (c : Control) (ss : List (Option PartStatus)) (seen : Control)
+    (g : Geometry)
     (s u : Table) (scanned : List Scanned)
     → slot < 2
     → begun_device (kept_with (idle_shape slot ss seen g s scanned) c) u
@@ -260,7 +266,8 @@ kept_begun zero c ss seen g s u scanned below = refl
 kept_begun (suc zero) c ss seen g s u scanned below = refl
 kept_begun (suc (suc n)) c ss seen g s u scanned below = absurd (omega (arith, below))
 
-kept_source : (slot : ℕ) (c : Control) (ss : List (Option PartStatus)) (seen : Control) (g : Geometry)
+kept_source : (slot : ℕ) (c : Control) (ss : List (Option PartStatus)) (seen : Control)
+    (g : Geometry)
     (s : Table) (scanned : List Scanned)
     → slot < 2
     → table_of_slot (kept_with (idle_shape slot ss seen g s scanned) c) slot ≡ Some s
@@ -315,29 +322,30 @@ module _ (told : Type 0) (text : List ℕ) (size : ℕ) (old : Image) where
         let both : Some for.source ≡ Some s =
         sym for.is ∙ kept_source slot c ss seen g s scanned dev.slot in
         let source : for.source ≡ s = cc in
-        let of : IsTargetOf g.max slot s x = subst (λ (t : Table). IsTargetOf g.max slot t x) source for.target in
+        let of : IsTargetOf g.max slot s x = subst (λ (t : Table). IsTargetOf g.max slot t x)
+        source for.target in
         let rules = source_rules (kept_with (idle_shape slot ss seen g s scanned) c) size s dev
         (kept_source slot c ss seen g s scanned dev.slot) in
         record {
           represents = record {
             read = installing_read slot no_statuses (control_read_of slot c) g s x.table [];
-            reads = reads_new slot ss seen g s scanned c told text size old mid dev.slot dev.geometry
-                short same reads whole x.table of.target of.device of.groups stands rules.lies prepared
-                copies read;
+            reads = reads_new slot ss seen g s scanned c told text size old mid
+                dev.slot dev.geometry short same reads whole x.table of.target of.device
+                of.groups stands rules.lies prepared copies read;
             is = kept_begun slot c ss seen g s x.table scanned dev.slot;
-            control = control_new slot ss seen g s scanned c told text size old mid dev.slot dev.geometry
-                short same reads whole x.table of.target of.device of.groups stands rules.lies prepared
-                copies read;
-            copies = copies_new slot ss seen g s scanned c told text size old mid dev.slot dev.geometry
-                short same reads whole x.table of.target of.device of.groups stands rules.lies prepared
-                copies read;
+            control = control_new slot ss seen g s scanned c told text size old mid
+                dev.slot dev.geometry short same reads whole x.table of.target of.device
+                of.groups stands rules.lies prepared copies read;
+            copies = copies_new slot ss seen g s scanned c told text size old mid
+                dev.slot dev.geometry short same reads whole x.table of.target of.device
+                of.groups stands rules.lies prepared copies read;
           };
-          images_a = images_new_a slot ss seen g s scanned c told text size old mid dev.slot dev.geometry
-              short same reads whole x.table of.target of.device of.groups stands rules.lies prepared
-              copies read;
-          images_b = images_new_b slot ss seen g s scanned c told text size old mid dev.slot dev.geometry
-              short same reads whole x.table of.target of.device of.groups stands rules.lies prepared
-              copies read;
+          images_a = images_new_a slot ss seen g s scanned c told text size old mid
+              dev.slot dev.geometry short same reads whole x.table of.target of.device
+              of.groups stands rules.lies prepared copies read;
+          images_b = images_new_b slot ss seen g s scanned c told text size old mid
+              dev.slot dev.geometry short same reads whole x.table of.target of.device
+              of.groups stands rules.lies prepared copies read;
         }
 
   -- ---- a device
@@ -357,7 +365,8 @@ module _ (told : Type 0) (text : List ℕ) (size : ℕ) (old : Image) where
     one : (t : Table) × (r.tables ≡ t ∷ []) × (table_at size r.geometry r.mark.slot old ≡ Ok t)
     one =
         one_of size r.geometry r.mark.slot old r.tables
-        (subst (λ (m : MarkPhase). tables_in size r.geometry ((phase_at m).tables r.mark.slot) old ≡ Ok r.tables)
+        (subst (λ (m : MarkPhase). tables_in size r.geometry ((phase_at m).tables r.mark.slot) old
+        ≡ Ok r.tables)
         phase is.reads.tables)
 
     abbrev shaped : Read
@@ -388,11 +397,13 @@ module _ (told : Type 0) (text : List ℕ) (size : ℕ) (old : Image) where
         (same : SameBut (IsOfPlaces told d text (old 4)) old mid)
         (prepared : IsPrepared d text mid)
         (stands : IsTableText d.geometry.max text x.table)
-        (read : mark_of (mark_spelling (installing_mark d.mark.slot)) ≡ Ok (installing_mark d.mark.slot)) where
+        (read : mark_of (mark_spelling (installing_mark d.mark.slot))
+        ≡ Ok (installing_mark d.mark.slot)) where
       abbrev new : Image
       new = marked mid (mark_spelling (installing_mark d.mark.slot))
 
-      next : IsNext d (begun_device d x.table) (marked mid (mark_spelling (installing_mark d.mark.slot)))
+      next : IsNext d (begun_device d x.table)
+          (marked mid (mark_spelling (installing_mark d.mark.slot)))
       next =
           subst (λ (y : Read). NextOf x mid d y) (sym shape)
           (subst (λ (k : Device). NextOf x mid k shaped) (sym form)
@@ -419,7 +430,8 @@ module _ (told : Type 0) (text : List ℕ) (size : ℕ) (old : Image) where
           let of = for.target in
           let gives : layout_for d.geometry.max d.mark.slot for.source ≡ Ok (layout_of x.table) =
           of.gives.1
-          ∙ ap Ok (sym (fitting_same d.geometry.max (imported d.mark.slot (layout_of for.source)) of.gives.0
+          ∙ ap Ok (sym
+          (fitting_same d.geometry.max (imported d.mark.slot (layout_of for.source)) of.gives.0
           of.gives.1) ∙ sym of.layout) in
           record {
             represents = next.represents;

@@ -152,7 +152,8 @@ module _
       × (table_at size r.geometry r.mark.slot old ≡ Ok t)
   two =
       two_of size r.geometry r.mark.slot (other_slot r.mark.slot) old r.tables
-      (subst (λ (m : MarkPhase). tables_in size r.geometry ((phase_at m).tables r.mark.slot) old ≡ Ok r.tables)
+      (subst (λ (m : MarkPhase). tables_in size r.geometry ((phase_at m).tables r.mark.slot) old
+      ≡ Ok r.tables)
       phase is.reads.tables)
 
   abbrev t : Table
@@ -218,7 +219,8 @@ module _
       ∙ is.reads.geometry)
       table_new own_rules (state_passed d size old is seen)
 
-  kept_is : next ≡ kept_with (idle_read (idle_mark r.mark.slot) d.control r.geometry two.0) d.control
+  kept_is : next
+      ≡ kept_with (idle_read (idle_mark r.mark.slot) d.control r.geometry two.0) d.control
   kept_is =
       ap (λ (k : Device). with_update k marks.Idle None None)
       (is.is ∙ ap (λ (x : Read). kept_with x d.control) shape)
@@ -229,7 +231,8 @@ module _
   copies =
       let were : AgreeCopies r.geometry (r.mark.slot ∷ other_slot r.mark.slot ∷ [])
       (two.0 ∷ two.1 ∷ []) old =
-      subst (λ (x : Read). AgreeCopies x.geometry ((phase_at x.mark.phase).tables x.mark.slot) x.tables old)
+      subst (λ (x : Read). AgreeCopies x.geometry ((phase_at x.mark.phase).tables x.mark.slot)
+      x.tables old)
       shape is.copies in (
         (
           were.0.0,
@@ -282,6 +285,7 @@ module _
   cancel_step = record {
     represents = represents;
     effect =
-        cancel_is d old staged (planned_of d size dev installed).0 (planned_of d size dev installed).1
+        cancel_is d old staged (planned_of d size dev installed).0
+        (planned_of d size dev installed).1
         ∙ ap (λ (m : Mounted). does replies.Done m) (sym means);
   }

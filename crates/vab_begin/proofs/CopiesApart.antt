@@ -1,5 +1,6 @@
 -- The copies of one slot's table stand apart from the other's.
-use Rattle.std.proofs.Common.{◌≡◌, ◌≢◌, ◌⊎◌, inl, inr, ⊎_elim, ℕ, ◌+◌, ◌-◌, ◌*◌, ◌/◌, ◌≤◌, ◌<◌, List, [], ◌∷◌}
+use Rattle.std.proofs.Common.{◌≡◌, ◌≢◌, ◌⊎◌, inl, inr, ⊎_elim, ℕ, ◌+◌, ◌-◌, ◌*◌, ◌/◌, ◌≤◌, ◌<◌}
+use Rattle.std.proofs.Common.{List, [], ◌∷◌}
 use Rattle.std.proofs.Common.{length, arith, add-mul}
 use Rattle.std.proofs.lemmas.Bool.{cases_lt}
 use Rattle.std.proofs.Math.Nat.{mul-le-mul_right}
@@ -60,12 +61,14 @@ module _
 
   backups : k * c + c ≤ (g.slots + j) * c
   backups =
-      let more : (k + 1) * c ≤ (g.slots + j) * c = mul-le-mul_right c (omega (arith, k_below, two)) in
+      let more : (k + 1) * c ≤ (g.slots + j) * c = mul-le-mul_right c
+      (omega (arith, k_below, two)) in
       omega (arith, more)
 
   backups_too : j * c + c ≤ (g.slots + k) * c
   backups_too =
-      let more : (j + 1) * c ≤ (g.slots + k) * c = mul-le-mul_right c (omega (arith, j_below, two)) in
+      let more : (j + 1) * c ≤ (g.slots + k) * c = mul-le-mul_right c
+      (omega (arith, j_below, two)) in
       omega (arith, more)
 
   primaries : (s : ℕ)

@@ -54,7 +54,8 @@ module _
   does_nothing refused reply old new kept is told reads counts = record {
     refused = refused;
     kept = kept;
-    represents = λ t. subst (λ (i : Image). Represents d (g.size old) i) (sym (reads.seen t)) (is t);
+    represents = λ t. subst (λ (i : Image). Represents d (g.size old) i) (sym (reads.seen t))
+        (is t);
     after = λ t.
         ap (mounted_on d) (reads.seen t)
         ∙ ap (λ (e : Effect Mounted). after_of (mounted_on d (g.seen old)) e) (sym (told t));
@@ -103,7 +104,8 @@ module _
         → IsAtRest g old
         → Adds g.moment g.outcomes old mid steps
     time_before t rest =
-        adds_wider g.moment g.outcomes old mid _ _ (first.time t) (λ o left. leaves_old t o rest left)
+        adds_wider g.moment g.outcomes old mid _ _ (first.time t)
+        (λ o left. leaves_old t o rest left)
 
     -- the disk failed before the gate
     pub fails_before : (fault : DiskFault)
@@ -128,7 +130,8 @@ module _
         (next : Device) (reply : Reply) (spelling : List ℕ) (new : D)
         (settled : g.is_modelled → IsAtRest g old → IsAtRest g mid)
         (step : (t : g.is_modelled)
-        → IsStep d next staged command reply (g.size old) (g.seen old) (marked (g.seen mid) spelling))
+        → IsStep d next staged command reply (g.size old) (g.seen old)
+        (marked (g.seen mid) spelling))
         (second : Touches g (IsAt 2048 spelling) mid new)
         (second_in : (s : ℕ) (b : List ℕ) → IsAt 2048 spelling s b → W s b)
         (gate : g.is_modelled

@@ -1,5 +1,6 @@
 -- The table that is imported of a source.
-use Rattle.std.proofs.Common.{◌≡◌, ◌∙◌, inl, inr, ℕ, zero, suc, ◌+◌, ◌*◌, ◌<◌, List, [], ◌∷◌, Result, Ok, Err, refl}
+use Rattle.std.proofs.Common.{◌≡◌, ◌∙◌, inl, inr, ℕ, zero, suc, ◌+◌, ◌*◌, ◌<◌, List, [], ◌∷◌}
+use Rattle.std.proofs.Common.{Result, Ok, Err, refl}
 use Rattle.std.proofs.Common.{arith, length}
 use Rattle.std.specs.Prelude.{Bool, false, map, nat_le, Option, Some, None}
 use Rattle.std.specs.List.{filter}
@@ -45,10 +46,15 @@ own_again slot groups below =
     ≡ own_groups slot (own_groups slot groups) = rw (default_of_none slot below) refl in
     first ∙ twice (λ (g : Group). is_of_slot slot g.name) groups
 
-pub imported_plain : (slot : ℕ) (l : Layout) → slot < 2 → imported slot (plain slot l) ≡ imported slot l
+pub imported_plain : (slot : ℕ) (l : Layout) → slot < 2 → imported slot (plain slot l)
+    ≡ imported slot l
 unfolding imported plain
 imported_plain slot l below =
-    rw (twice (λ (p : PartOfLayout). is_of_slot slot p.name) l.parts, own_again slot l.groups below) refl
+    rw (
+      twice (λ (p : PartOfLayout). is_of_slot slot p.name) l.parts,
+      own_again slot l.groups
+          below,
+    ) refl
 
 -- ---- a layout that fits
 
@@ -58,7 +64,9 @@ fitting_same max x l is = elim (cases_Bool (nat_le (table_size_of (table_of x)) 
       let same : (let r : Result Layout EditFault = Ok x in r ≡ Ok l) = rw fits at is in
       cc
   | inr long ↦
-      let bad : (let r : Result Layout EditFault = Err (TableFull (table_size_of (table_of x)) max) in r ≡ Ok l) =
+      let bad :
+      (let r : Result Layout EditFault = Err (TableFull (table_size_of (table_of x)) max) in r
+      ≡ Ok l) =
       rw long at is in
       absurd cc
 ]
@@ -85,8 +93,20 @@ entry_same image l p = by_store (first_named (store_of p.name) l.parts) refl
       | inr f ↦ rw (is, f, length_of l.device.first_logical_sector p.blocks) refl
     ]
     by_store (Some q) is = elim (cases_Bool (is_updated p)) [
-      | inl t ↦ rw (is, t, length_of l.device.first_logical_sector p.blocks, length_of l.device.first_logical_sector q.blocks) refl
-      | inr f ↦ rw (is, f, length_of l.device.first_logical_sector p.blocks, length_of l.device.first_logical_sector q.blocks) refl
+      | inl t ↦ rw (
+        is,
+        t,
+        length_of l.device.first_logical_sector p.blocks,
+        length_of
+            l.device.first_logical_sector q.blocks,
+      ) refl
+      | inr f ↦ rw (
+        is,
+        f,
+        length_of l.device.first_logical_sector p.blocks,
+        length_of
+            l.device.first_logical_sector q.blocks,
+      ) refl
     ]
 
 entries_same : (image : Image) (l : Layout) (ps : List PartOfLayout)

@@ -1,5 +1,6 @@
 -- What is kept of a device as its phase and the other slot's table change.
-use Rattle.std.proofs.Common.{◌≡◌, ◌∙◌, ◌⊎◌, inl, inr, ⊎_elim, ℕ, zero, suc, ◌<◌, List, refl, sym, ap}
+use Rattle.std.proofs.Common.{◌≡◌, ◌∙◌, ◌⊎◌, inl, inr, ⊎_elim, ℕ, zero, suc, ◌<◌, List, refl, sym}
+use Rattle.std.proofs.Common.{ap}
 use Rattle.std.proofs.Common.{subst, arith, true, false}
 use Rattle.std.specs.Prelude.{◌==◌, if◌then◌else◌, Option, Some, None, is_some}
 use Rattle.std.proofs.lemmas.Bool.{cases_Bool}
@@ -126,7 +127,8 @@ pub update_kept : (d : Device) (size : ℕ) (c : Control) (phase : MarkPhase) (t
     → IsUpdate d.mark.slot (table_of_slot d d.mark.slot) t
     → IsDevice (with_control c (with_update d phase t plan)) size
 update_kept d size c phase t plan is fits current known table there planned plans update =
-    let source : table_of_slot (with_update d phase t plan) d.mark.slot ≡ table_of_slot d d.mark.slot =
+    let source : table_of_slot (with_update d phase t plan) d.mark.slot
+    ≡ table_of_slot d d.mark.slot =
     source_at d.mark.slot d.table_a d.table_b t in
     let target : table_of_slot (with_update d phase t plan) (other_slot d.mark.slot) ≡ t =
     target_at d.mark.slot d.table_a d.table_b t is.slot in
@@ -164,5 +166,6 @@ pub cancelled_kept : (d : Device) (size : ℕ)
     → IsDevice d size
     → IsDevice (with_update d marks.Idle None None) size
 cancelled_kept d size is =
-    update_kept d size d.control marks.Idle None None is is.control is.current (inl refl) tt refl refl
+    update_kept d size d.control marks.Idle None None is is.control is.current
+    (inl refl) tt refl refl
     tt (no_target d.mark.slot (table_of_slot d d.mark.slot))

@@ -1,6 +1,7 @@
 -- The partitions that are planned of a target's table keep the rules of a plan.
 use Rattle.std.proofs.Common.{◌≡◌, ◌≢◌, ℕ, ◌+◌, ◌-◌, ◌*◌, ◌≤◌, ◌<◌, ◌^◌, true}
-use Rattle.std.proofs.Common.{false, List, [], ◌∷◌, ◌++◌, length, get_or, Option, Some, None, refl, sym}
+use Rattle.std.proofs.Common.{false, List, [], ◌∷◌, ◌++◌, length, get_or, Option, Some, None, refl}
+use Rattle.std.proofs.Common.{sym}
 use Rattle.std.proofs.Common.{◌∙◌, ap, subst, arith, length-append}
 use Rattle.std.specs.Prelude.{map, All, AllPairs, IsTrue, Bool, option_map}
 use Rattle.std.proofs.Math.Seq.{get_or-append_right}
@@ -39,13 +40,19 @@ pairs_left xs ys h = λ i j d low lt.
 pairs_right : (xs ys : List ℕ) → IsDistinct (xs ++ ys) → IsDistinct ys
 pairs_right xs ys h = λ i j d low lt.
     let n : ℕ = length xs in
-    let ei : get_or (xs ++ ys) (n + i) d ≡ get_or ys i d = get_or-append_right xs ys (n + i) d (omega arith) ∙ ap (λ (k : ℕ). get_or ys k d) (let k : n + i - n ≡ i = omega arith in k) in
-    let ej : get_or (xs ++ ys) (n + j) d ≡ get_or ys j d = get_or-append_right xs ys (n + j) d (omega arith) ∙ ap (λ (k : ℕ). get_or ys k d) (let k : n + j - n ≡ j = omega arith in k) in
-    λ e. h (n + i) (n + j) d (omega (arith, low)) (omega (arith, length-append xs ys, lt)) (ei ∙ e ∙ sym ej)
+    let ei : get_or (xs ++ ys) (n + i) d ≡ get_or ys i d = get_or-append_right xs ys (n + i) d
+    (omega arith) ∙ ap (λ (k : ℕ). get_or ys k d) (let k : n + i - n ≡ i = omega arith in k) in
+    let ej : get_or (xs ++ ys) (n + j) d ≡ get_or ys j d = get_or-append_right xs ys (n + j) d
+    (omega arith) ∙ ap (λ (k : ℕ). get_or ys k d) (let k : n + j - n ≡ j = omega arith in k) in
+    λ e. h (n + i) (n + j) d (omega (arith, low)) (omega (arith, length-append xs ys, lt))
+    (ei ∙ e ∙ sym ej)
 
-each_distinct : (ps : List PartOfLayout) → IsDistinct (blocks_of_parts ps) → All (λ p. IsDistinct p.blocks) ps
+each_distinct : (ps : List PartOfLayout) → IsDistinct (blocks_of_parts ps)
+    → All (λ p. IsDistinct p.blocks) ps
 each_distinct [] h = λ k d lt. absurd (omega arith)
-each_distinct (p ∷ ps) h = All-cons (λ (q : PartOfLayout). IsDistinct q.blocks) p ps (pairs_left p.blocks (blocks_of_parts ps) h) (each_distinct ps (pairs_right p.blocks (blocks_of_parts ps) h))
+each_distinct (p ∷ ps) h = All-cons (λ (q : PartOfLayout). IsDistinct q.blocks) p ps
+    (pairs_left p.blocks (blocks_of_parts ps) h)
+    (each_distinct ps (pairs_right p.blocks (blocks_of_parts ps) h))
 
 -- ---- a partition
 
@@ -53,20 +60,28 @@ length-sectors_of : (first : ℕ) (blocks : List ℕ) → length (sectors_of fir
 unfolding sectors_of
 length-sectors_of first blocks = length-map blocks (λ b. 4096 + first + 8 * b)
 
-sectors_distinct : (first : ℕ) (blocks : List ℕ) → IsDistinct blocks → AllPairs (λ a b. a ≢ b) (sectors_of first blocks)
+sectors_distinct : (first : ℕ) (blocks : List ℕ) → IsDistinct blocks
+    → AllPairs (λ a b. a ≢ b) (sectors_of first blocks)
 unfolding sectors_of
 sectors_distinct first blocks h = λ i j d low lt.
     let place : ℕ → ℕ = λ b. 4096 + first + 8 * b in
     let long = length-map blocks place in
-    let ei : get_or (map place blocks) i d ≡ place (get_or blocks i 0) = get_or-map place blocks i 0 d (omega (arith, low, lt, long)) in
-    let ej : get_or (map place blocks) j d ≡ place (get_or blocks j 0) = get_or-map place blocks j 0 d (omega (arith, lt, long)) in
+    let ei : get_or (map place blocks) i d
+    ≡ place (get_or blocks i 0) = get_or-map place blocks i 0 d
+    (omega (arith, low, lt, long)) in
+    let ej : get_or (map place blocks) j d
+    ≡ place (get_or blocks j 0) = get_or-map place blocks j 0 d (omega (arith, lt, long)) in
     λ e. h i j 0 low (omega (arith, lt, long)) (omega (arith, sym ei ∙ e ∙ ej))
 
-sectors_on : (first cap size : ℕ) (blocks : List ℕ) → 4096 + first + 8 * cap ≤ size → All (λ b. b < cap) blocks → All (λ s. s + 8 ≤ size) (sectors_of first blocks)
+sectors_on : (first cap size : ℕ) (blocks : List ℕ) → 4096 + first + 8 * cap ≤ size
+    → All (λ b. b < cap) blocks → All (λ s. s + 8 ≤ size) (sectors_of first blocks)
 unfolding sectors_of
-sectors_on first cap size blocks on below = All-map (λ (s : ℕ). s + 8 ≤ size) (λ b. 4096 + first + 8 * b) blocks (λ k d lt. omega (arith, below k d lt, on))
+sectors_on first cap size blocks on below = All-map (λ (s : ℕ). s + 8 ≤ size)
+    (λ b. 4096 + first + 8 * b) blocks (λ k d lt. omega (arith, below k d lt, on))
 
-part_is : (size first cap : ℕ) (p : PartOfLayout) → IsTrue (is_base (base_of p.name)) → 4096 + first + 8 * cap ≤ size → All (λ b. b < cap) p.blocks → IsDistinct p.blocks → length p.blocks ≤ 2 ^ 28 → IsPart size (part_on first p)
+part_is : (size first cap : ℕ) (p : PartOfLayout) → IsTrue (is_base (base_of p.name))
+    → 4096 + first + 8 * cap ≤ size → All (λ b. b < cap) p.blocks → IsDistinct p.blocks
+    → length p.blocks ≤ 2 ^ 28 → IsPart size (part_on first p)
 part_is size first cap p base on below once small = record {
   name = base;
   on_disk = sectors_on first cap size p.blocks on below;
@@ -77,18 +92,22 @@ part_is size first cap p base on below once small = record {
 -- ---- a slot's own partitions
 
 -- the blocks of the device end by the end of the disk
-blocks_on : (size : ℕ) (g : Geometry) (d : BlockDevice) → 4120 ≤ size → IsBlockDevice d → lies_in size g d ≡ true → 4096 + d.first_logical_sector + 8 * cap_of d ≤ size
+blocks_on : (size : ℕ) (g : Geometry) (d : BlockDevice) → 4120 ≤ size → IsBlockDevice d
+    → lies_in size g d ≡ true → 4096 + d.first_logical_sector + 8 * cap_of d ≤ size
 blocks_on size g d enough is lies =
     let inside = leb-true d.size (super_bytes size) (and_parts _ _ lies).0 in
     omega (arith, enough, inside, is.within)
 
-parts_kept : (size slot : ℕ) (g : Geometry) (l : Layout) → 4120 ≤ size → IsLayout l → IsOwn slot l.parts → lies_in size g l.device ≡ true → AreParts size (parts_of slot l)
+parts_kept : (size slot : ℕ) (g : Geometry) (l : Layout) → 4120 ≤ size → IsLayout l
+    → IsOwn slot l.parts → lies_in size g l.device ≡ true → AreParts size (parts_of slot l)
 parts_kept size slot g l enough rules own lies =
     let first = l.device.first_logical_sector in
     let cap = cap_of l.device in
     let mine : List PartOfLayout = own_parts slot l.parts in
     let on = blocks_on size g l.device enough rules.device lies in
-    let each : All (IsPartOfLayout cap l.groups) mine = All-filter (λ (p : PartOfLayout). is_of_slot slot p.name) (IsPartOfLayout cap l.groups) l.parts rules.parts in
+    let each : All (IsPartOfLayout cap l.groups) mine = All-filter
+    (λ (p : PartOfLayout). is_of_slot slot p.name) (IsPartOfLayout cap l.groups) l.parts
+    rules.parts in
     let once = each_distinct mine own.once in
     record {
       each = All-map (IsPart size) (part_on first) mine
@@ -102,7 +121,8 @@ parts_kept size slot g l enough rules own lies =
 
 stored : (size first : ℕ) (base : List ℕ) (x : Option PartOfLayout) (updated : Bool)
     → ((q : PartOfLayout) → x ≡ Some q → IsStore size (sectors_of first q.blocks))
-    → IsStored size base (option_map (λ q. sectors_of first q.blocks) x) (planned_image updated None)
+    → IsStored size base (option_map (λ q. sectors_of first q.blocks) x)
+    (planned_image updated None)
 stored size first base None false store = tt
 stored size first base None true store = tt
 stored size first base (Some q) false store = store q refl
@@ -133,7 +153,8 @@ module _
       → first_named (store_of name) l.parts ≡ Some q
       → IsStore size (sectors_of first q.blocks)
   store_is name q own is =
-      let part = (first_all (IsPartOfLayout cap l.groups) (store_of name) l.parts q layout.parts is).0 in
+      let part =
+      (first_all (IsPartOfLayout cap l.groups) (store_of name) l.parts q layout.parts is).0 in
       let named : first_named (store_of name) (store_parts slot l.parts) ≡ Some q =
       first_filter (is_store slot) (store_of name) l.parts (store_is_store slot name own) ∙ is in
       let once = (first_all (λ p. IsDistinct p.blocks) (store_of name) (store_parts slot l.parts) q
@@ -178,7 +199,8 @@ rest_once : (ps qs : List PartOfLayout)
     → IsDistinct (blocks_of_parts (ps ++ qs))
     → IsDistinct (blocks_of_parts qs)
 rest_once [] qs once = once
-rest_once (p ∷ ps) qs once = rest_once ps qs (pairs_right p.blocks (blocks_of_parts (ps ++ qs)) once)
+rest_once (p ∷ ps) qs once = rest_once ps qs
+    (pairs_right p.blocks (blocks_of_parts (ps ++ qs)) once)
 
 stores_distinct : (own stores : List PartOfLayout)
     → IsDistinct (blocks_of_parts (own ++ stores))

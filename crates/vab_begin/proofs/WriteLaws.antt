@@ -17,10 +17,12 @@ use Rattle.vab_begin.proofs.BeginLaws.{installing_mark}
 use Rattle.vab_begin.proofs.ImportLaws.{minor_2}
 use Rattle.vab_begin.proofs.KeptLaws.{none_of}
 
-pub idle_plan : (d : Device) (size : ℕ) → IsDevice d size → d.mark.phase ≡ marks.Idle → d.plan ≡ None
+pub idle_plan : (d : Device) (size : ℕ) → IsDevice d size → d.mark.phase ≡ marks.Idle → d.plan
+    ≡ None
 idle_plan d size dev idle = none_of d.plan (dev.planned ∙ ap is_installing idle)
 
-module _ (d : Device) (x : Target) (for : IsTargetFor d x) (text : List ℕ) (same : text ≡ x.text) where
+module _ (d : Device) (x : Target) (for : IsTargetFor d x) (text : List ℕ)
+    (same : text ≡ x.text) where
   pub target_short : length text ≤ d.geometry.max
   target_short = omega (arith, ap length same, for.target.spelled.long, for.target.size)
 

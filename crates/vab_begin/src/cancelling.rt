@@ -1,12 +1,12 @@
 //! An update that is dropped.
 
-ghost use Rattle.std.specs.Prelude.{◌≡◌, ℕ, List, Option};
-ghost use Rattle.vab_marks.specs.declared.mark.MarkPhase.{MarkPhase as MarkPhaseOf};
+ghost use Rattle.std.specs.Prelude.{◌≡◌, ◌<◌, ℕ, List, Option, None};
 ghost use Rattle.vab_marks.specs.declared.mark.MarkPhase.TheVariants as marks;
 ghost use Rattle.vab_model.specs.Commands.{Cancel};
 ghost use Rattle.vab_device.specs.Does.{Does};
 ghost use Rattle.vab_device.specs.Kept.{IsDevice};
 ghost use Rattle.vab_device.specs.Reading.{Represents};
+ghost use Rattle.vab_begin.specs.Kept.{with_update};
 ghost use Rattle.vab_begin.specs.Writes.{IsOfCancelled};
 
 use crate::kept::with_update;
@@ -16,6 +16,14 @@ use vab_gate::DiskFault;
 use vab_install::put_mark;
 use vab_marks::{MarkPhase, UpdateMark};
 use vab_model::{Refusal, Reply};
+
+// The device without its update.
+fn ended(device: Device) -> Device
+    requires { device.mark.slot < 2 }
+    ensures { result ≡ with_update device marks.Idle None None }
+{
+    with_update(device, MarkPhase::Idle, None, None)
+}
 
 // Drops the update that is installed: the mark says that there is none.
 fn end_update<D: Disk>(d: &mut D, device: Device) -> Result<(Device, Reply), DiskFault>
@@ -31,10 +39,7 @@ fn end_update<D: Disk>(d: &mut D, device: Device) -> Result<(Device, Reply), Dis
     };
     match put_mark(d, &mark) {
         Err(fault) => Err(fault),
-        Ok(()) => Ok((
-            with_update(device, MarkPhase::Idle, None, None),
-            Reply::Done,
-        )),
+        Ok(()) => Ok((ended(device), Reply::Done)),
     }
 }
 

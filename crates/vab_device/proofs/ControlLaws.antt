@@ -175,7 +175,7 @@ module _
         arith,
         e,
         plan_behind size 4096 is.read old s is.reads (omega arith)
-        (subst (λ (k : Device). IsOfPlan k.plan s) is.is there),
+            (subst (λ (k : Device). IsOfPlan k.plan s) is.is there),
       )))
 
   -- and it means the state with that boot control, as far as slots have images

@@ -186,11 +186,7 @@ fn refuse(alloc: Global, state: &State, refusal: Refusal) -> Result<(State, Repl
 }
 
 // A command on an update, which is refused so where there is none.
-fn refuse_update(
-    alloc: Global,
-    state: &State,
-    refusal: Refusal,
-) -> Result<(State, Reply), NoMemory>
+fn refuse_update(alloc: Global, state: &State, refusal: Refusal) -> Result<(State, Reply), NoMemory>
     ensures state { IfOk result (λ r. r.0 ≡ state.now) }
     ensures reply { IfOk result (λ r. r.1 ≡ Reply.Refused (unless_idle state.now.phase refusal)) }
 {

@@ -19,7 +19,8 @@ returns-in-Installing g c = λ staged.
     let size = g.D.Disk.size old in
     let plan = planned_of d size c.requires.kept
     (installing_of d size c.in-Installing.field-0 c.requires.kept c.in-Installing.ensures) in
-    does_nothing g.D.Disk d staged Begin (IsOfBegun g.D.Disk.is_modelled d (g.D.Disk.seen old 4)) false
+    does_nothing g.D.Disk d staged Begin (IsOfBegun g.D.Disk.is_modelled d (g.D.Disk.seen old 4))
+    false
     (replies.Refused refusals.NotIdle) old old c.requires.kept c.requires.represents
     (λ t. begin_refused d (g.D.Disk.seen old) staged plan.0 plan.1)
     (reads_none g.D.Disk old) refl
@@ -32,7 +33,8 @@ returns-in-Err g c = λ staged.
     let for = c.in-Err.ensures.refused in
     let fault = c.in-Err.fault in
     does_nothing g.D.Disk d staged Begin (IsOfBegun g.D.Disk.is_modelled d (g.D.Disk.seen old 4))
-    (is_memory fault) (replies.Refused c.refusal.result) old old c.requires.kept c.requires.represents
+    (is_memory fault) (replies.Refused c.refusal.result) old old c.requires.kept
+    c.requires.represents
     (λ t.
     ap (λ (e : Effect Mounted). unless_refused (is_memory fault) Begin e)
     (begin_is d size (g.D.Disk.seen old) staged for.source c.requires.kept

@@ -53,7 +53,8 @@ returns-in-Err-put_mark g c = λ staged.
     let text = c.as_slice-text.result.now in
     let bytes = g.D.Disk.seen old 4 in
     let short = target_short d x c.requires.target text c.as_slice-text.ensures in
-    fails_gate g.D.Disk d staged Begin (IsOfBegun told d bytes) (IsOfPlaces told d text bytes) old mid
+    fails_gate g.D.Disk d staged Begin (IsOfBegun told d bytes) (IsOfPlaces told d text bytes) old
+    mid
     c.requires.represents
     (λ t. begin_dead told text size (g.D.Disk.seen old) d c.requires.kept (c.requires.represents t)
     c.requires.idle short)
@@ -63,7 +64,8 @@ returns-in-Err-put_mark g c = λ staged.
     c.put_mark.new.d
     (λ t rest. c.in-Ok.ensures.settled t)
     (λ t. begin_step told text size (g.D.Disk.seen old) d c.requires.kept (c.requires.represents t)
-    c.requires.idle short x (g.D.Disk.seen mid) c.requires.target (c.prepare_begin.ensures.touches.seen t)
+    c.requires.idle short x (g.D.Disk.seen mid) c.requires.target
+    (c.prepare_begin.ensures.touches.seen t)
     (record {
       control = (c.in-Ok.ensures.control t).control;
       statuses = c.in-Ok.ensures.statuses t;
@@ -95,9 +97,11 @@ returns-in-Ok-put_mark g c = λ staged.
     with_control (cleared_of d.control (other_slot d.mark.slot))
     (with_update d marks.Installing (Some x.table) (Some plan)))
     c.requires.target.target.spelled.plan in
-    subst (λ (k : Device). Does g.D.Disk d staged Begin (IsOfBegun told d bytes) old c.put_mark.new.d
+    subst (λ (k : Device). Does g.D.Disk d staged Begin
+    (IsOfBegun told d bytes) old c.put_mark.new.d
     (Ok (k, replies.Done))) (sym next)
-    (does_gate g.D.Disk d staged Begin (IsOfBegun told d bytes) (IsOfPlaces told d text bytes) old mid
+    (does_gate g.D.Disk d staged Begin (IsOfBegun told d bytes) (IsOfPlaces told d text bytes) old
+    mid
     c.requires.represents
     (λ t. begin_dead told text size (g.D.Disk.seen old) d c.requires.kept (c.requires.represents t)
     c.requires.idle short)
@@ -107,7 +111,8 @@ returns-in-Ok-put_mark g c = λ staged.
     c.put_mark.new.d
     (λ t rest. c.in-Ok.ensures.settled t)
     (λ t. begin_step told text size (g.D.Disk.seen old) d c.requires.kept (c.requires.represents t)
-    c.requires.idle short x (g.D.Disk.seen mid) c.requires.target (c.prepare_begin.ensures.touches.seen t)
+    c.requires.idle short x (g.D.Disk.seen mid) c.requires.target
+    (c.prepare_begin.ensures.touches.seen t)
     (record {
       control = (c.in-Ok.ensures.control t).control;
       statuses = c.in-Ok.ensures.statuses t;

@@ -21,7 +21,8 @@ returns-in-Err g c = λ staged.
     let old = c.args.d.now in
     let size = g.D.Disk.size old in
     fails_gate g.D.Disk d staged Cancel (IsOfCancelled d) (λ s b. ⊥) old old c.requires.represents
-    (λ t. dead_of size _ (g.D.Disk.seen old) (λ s. ⊥) (c.requires.represents t).reads (λ s live w. w))
+    (λ t. dead_of size _ (g.D.Disk.seen old) (λ s. ⊥) (c.requires.represents t).reads
+    (λ s live w. w))
     (touches_none g.D.Disk (λ s b. ⊥) old) (λ s b w. absurd w)
     (with_update d marks.Idle None None) replies.Done (mark_spelling (idle_mark d.mark.slot))
     c.put_mark.new.d
@@ -39,9 +40,10 @@ returns-in-Ok g c = λ staged.
     let old = c.args.d.now in
     let size = g.D.Disk.size old in
     subst (λ (next : Device). Does g.D.Disk d staged Cancel (IsOfCancelled d) old c.put_mark.new.d
-    (Ok (next, replies.Done))) (sym c.with_update.ensures)
+    (Ok (next, replies.Done))) (sym c.ended.ensures)
     (does_gate g.D.Disk d staged Cancel (IsOfCancelled d) (λ s b. ⊥) old old c.requires.represents
-    (λ t. dead_of size _ (g.D.Disk.seen old) (λ s. ⊥) (c.requires.represents t).reads (λ s live w. w))
+    (λ t. dead_of size _ (g.D.Disk.seen old) (λ s. ⊥) (c.requires.represents t).reads
+    (λ s live w. w))
     (touches_none g.D.Disk (λ s b. ⊥) old) (λ s b w. absurd w)
     (with_update d marks.Idle None None) replies.Done (mark_spelling (idle_mark d.mark.slot))
     c.put_mark.new.d
