@@ -36,7 +36,7 @@ pub fn set_of_one(alloc: Global) -> Result<Set<'static>, Fail>
 }
 
 // A disk with the device of one image.
-fn device_of_one(alloc: Global) -> Result<MemPort, Fail> {
+pub fn device_of_one(alloc: Global) -> Result<MemPort, Fail> {
     let d = MemPort::new(alloc, SECTORS, Vec::new(alloc));
     let mut d = d.ok().ok_or("there is memory for a disk")?;
     let set = set_of_one(alloc)?;

@@ -5,3 +5,5 @@
 mod devices;
 #[cfg(test)]
 mod others;
+#[cfg(test)]
+mod updates;
