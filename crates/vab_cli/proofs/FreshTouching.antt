@@ -1,7 +1,7 @@
 -- What is written where a device is made, opened and served.
 use Rattle.std.proofs.Common.{◌≡◌, ◌⊎◌, ◌∙◌, ◌≤◌, inl, inr, ⊎_elim, ℕ, ◌+◌, ◌*◌, ◌/◌, ◌==◌, List}
 use Rattle.std.proofs.Common.{zero, suc, [], ◌∷◌, length, Ok, Some, None, refl, sym, ap, subst, arith, true, false}
-use Rattle.std.specs.Prelude.{Bool, Option, if◌then◌else◌}
+use Rattle.std.specs.Prelude.{Bool, Option, is_some, if◌then◌else◌}
 use Rattle.std.proofs.lemmas.Bool.{ne_eqb}
 use Rattle.vab_disk.specs.declared.disk.Disk.{Ghosts}
 use Rattle.vab_disk.specs.Disk.{Image}
@@ -27,7 +27,7 @@ use Rattle.vab_device.specs.Reading.{Read, Reads, kept, table_for}
 use Rattle.vab_device.proofs.ReadingLaws.{idle_at, idle_read_of, device_of}
 use Rattle.vab_recover.specs.Repairs.{IsRepair, IsOneOf}
 use Rattle.vab_manager.specs.Controls.{IsOfCommands}
-use Rattle.vab_make.specs.Made.{made_device_of, made_places, made_geometry, made_layout}
+use Rattle.vab_make.specs.Made.{made_device_of, made_state, made_places, made_geometry, made_layout}
 use Rattle.vab_make.specs.Making.{IsMade}
 use Rattle.vab_make.specs.Touched.{IsOfMaking, IsOfContents, of_control, of_places, IsOfCopies}
 use Rattle.vab_make.specs.Touched.{of_primary, of_backup}
@@ -80,7 +80,7 @@ module _ (size : ℕ) (image : Image) (made : IsMade [] 0 65536 size image) wher
 
     -- no update is installed
     phase : r.mark.phase ≡ marks.Idle
-    unfolding state_on
+    unfolding state_on made_state
     phase = idle_read_of size r image reads (ap (λ (m : Mounted). m.state.phase) is)
 
     placed : table_placed 0 (is_some (kept r).a) (table_for 0 (r.mark.slot ∷ []) r.tables)

@@ -28,7 +28,7 @@ not_there : (size : ℕ) (old : Image) (bytes : List ℕ) → IsRepair size old 
 not_there size old bytes w =
     let mid : Image = set_sector old 4 bytes in
     let g = w.read.geometry in
-    let slot = w.read.mark.slot in
+    let slot = w.slot in
     let text = w.table.text in
     let W : ℕ → List ℕ → Type 0 = IsOfRepair w.table.primary w.table.backup g slot text in
     let but : SameBut W old mid = λ s.

@@ -1,0 +1,172 @@
+-- A kept device with another table and plan of the target is one.
+use Rattle.std.proofs.Common.{◌≡◌, ◌∙◌, ◌⊎◌, inl, inr, ℕ, zero, suc, ◌<◌, true, List, [], refl, sym, ap, subst, arith}
+use Rattle.std.specs.Prelude.{map, is_some, Option, Some, if◌then◌else◌, ◌==◌}
+use Rattle.vab_tables.specs.declared.table.Table.{Table}
+use Rattle.vab_layout.specs.Layout.{layout_of}
+use Rattle.vab_layout.specs.Slots.{other_slot}
+use Rattle.vab_layout.proofs.LayoutLaws.{layout_keeps}
+use Rattle.vab_builder.specs.declared.edit.Edit.{Edit}
+use Rattle.vab_device.specs.declared.device.Planned.{Planned}
+use Rattle.vab_device.specs.declared.device.Device.{Device}
+use Rattle.vab_device.specs.Kept.{lies_in, table_of_slot, is_installing, IsTableOf, IsKeptTable, IsPlan}
+use Rattle.vab_device.specs.Kept.{ArePlanned, AreOfUpdate, IsUpdate, IsDevice}
+use Rattle.vab_device.specs.Phases.{plan_of}
+use Rattle.vab_edit.specs.Carried.{carried}
+use Rattle.vab_edit.specs.Prepared.{IsEdited, HasTables, with_target}
+use Rattle.vab_edit.proofs.GateLaws.{device_of_layout}
+use Rattle.vab_edit.proofs.KeptLaws.{fresh_planned, all_carried}
+
+-- a slot is a or b
+pub slot_cases : (k : ℕ) → k < 2 → (k ≡ 0) ⊎ (k ≡ 1)
+slot_cases zero below = inl refl
+slot_cases (suc zero) below = inr refl
+slot_cases (suc (suc n)) below = absurd (omega (arith, below))
+
+-- what holds of a table that is kept
+pub kept_table : (d : Device) (size slot : ℕ) (t : Table)
+    → IsDevice d size
+    → slot < 2
+    → table_of_slot d slot ≡ Some t
+    → IsTableOf size d.geometry slot t
+kept_table d size zero t kept below is = subst (IsKeptTable size d.geometry 0) is kept.table_a
+kept_table d size (suc zero) t kept below is = subst (IsKeptTable size d.geometry 1) is kept.table_b
+kept_table d size (suc (suc n)) t kept below is = absurd (omega (arith, below))
+
+-- and of the two of an update
+pub kept_update : (d : Device) (size : ℕ) (s t : Table)
+    → IsDevice d size
+    → HasTables d s t
+    → AreOfUpdate d.mark.slot s t
+kept_update d size s t kept has =
+    subst (λ (x : Option Table). IsUpdate d.mark.slot (Some s) x) has.target
+    (subst
+    (λ (x : Option Table). IsUpdate d.mark.slot x (table_of_slot d (other_slot d.mark.slot)))
+    has.source kept.update)
+
+module _
+    (d : Device) (size : ℕ) (edit : Edit) (s t u : Table)
+    (kept : IsDevice d size)
+    (has : HasTables d s t)
+    (edited : IsEdited d.geometry.max d.mark.slot edit s t u) where
+  o : ℕ
+  o = other_slot d.mark.slot
+
+  pub new_lies : lies_in size d.geometry (layout_of u).device ≡ true
+  new_lies =
+      ap (lies_in size d.geometry) (device_of_layout t u edited.device)
+      ∙ (kept_table d size (other_slot d.mark.slot) t kept (omega arith) has.target).lies
+
+  new_table : IsTableOf size d.geometry (other_slot d.mark.slot) u
+  new_table = record {
+    rules = edited.rules;
+    small = omega (arith, edited.size, kept.geometry.most);
+    own = edited.target.own;
+    lies = new_lies;
+  }
+
+  new_plan : ArePlanned size
+      (map (carried has.old_plan) (plan_of (other_slot d.mark.slot) (layout_of u) []))
+  new_plan =
+      all_carried size has.old_plan (plan_of (other_slot d.mark.slot) (layout_of u) [])
+      (subst (IsPlan size) has.is_planned kept.plan)
+      (fresh_planned size (other_slot d.mark.slot) d.geometry (layout_of u) (layout_of s).parts
+      kept.enough (layout_keeps u edited.rules) edited.target new_lies)
+
+  installing : is_installing d.mark.phase ≡ true
+  installing = sym kept.planned ∙ ap is_some has.is_planned
+
+  are : AreOfUpdate d.mark.slot s u
+  are = record {
+    target = edited.target;
+    device = (kept_update d size s t kept has).device ∙ sym edited.device;
+  }
+
+  beside_a : (plan : List Planned)
+      → ArePlanned size plan
+      → d.mark.slot ≡ 0
+      → IsDevice (record d { table_b = Some u; plan = Some plan }) size
+  beside_a plan is e =
+      let ta : d.table_a ≡ Some s = ap (table_of_slot d) (sym e) ∙ has.source in
+      record {
+        enough = kept.enough;
+        geometry = kept.geometry;
+        control = kept.control;
+        phase = kept.phase;
+        slot = kept.slot;
+        current = kept.current;
+        has_a = kept.has_a;
+        has_b = kept.has_b;
+        copies_on = kept.copies_on;
+        parts_a = kept.parts_a;
+        parts_b = kept.parts_b;
+        table_a = kept.table_a;
+        table_b = subst (λ (n : ℕ). IsTableOf size d.geometry (other_slot n) u) e new_table;
+        source =
+            ap (λ (n : ℕ). is_some (if n == 0 then d.table_a else Some u)) e ∙ ap is_some ta;
+        target =
+            ap (λ (n : ℕ). is_some (if other_slot n == 0 then d.table_a else Some u)) e
+            ∙ sym installing;
+        planned = sym installing;
+        plan = is;
+        update =
+            subst
+            (λ (x : Option Table).
+            IsUpdate d.mark.slot x (if other_slot d.mark.slot == 0 then d.table_a else Some u))
+            (sym (ap (λ (n : ℕ). if n == 0 then d.table_a else Some u) e ∙ ta))
+            (subst (λ (x : Option Table). IsUpdate d.mark.slot (Some s) x)
+            (sym (ap (λ (n : ℕ). if other_slot n == 0 then d.table_a else Some u) e))
+            are);
+      }
+
+  beside_b : (plan : List Planned)
+      → ArePlanned size plan
+      → d.mark.slot ≡ 1
+      → IsDevice (record d { table_a = Some u; plan = Some plan }) size
+  beside_b plan is e =
+      let tb : d.table_b ≡ Some s = ap (table_of_slot d) (sym e) ∙ has.source in
+      record {
+        enough = kept.enough;
+        geometry = kept.geometry;
+        control = kept.control;
+        phase = kept.phase;
+        slot = kept.slot;
+        current = kept.current;
+        has_a = kept.has_a;
+        has_b = kept.has_b;
+        copies_on = kept.copies_on;
+        parts_a = kept.parts_a;
+        parts_b = kept.parts_b;
+        table_a = subst (λ (n : ℕ). IsTableOf size d.geometry (other_slot n) u) e new_table;
+        table_b = kept.table_b;
+        source =
+            ap (λ (n : ℕ). is_some (if n == 0 then Some u else d.table_b)) e ∙ ap is_some tb;
+        target =
+            ap (λ (n : ℕ). is_some (if other_slot n == 0 then Some u else d.table_b)) e
+            ∙ sym installing;
+        planned = sym installing;
+        plan = is;
+        update =
+            subst
+            (λ (x : Option Table).
+            IsUpdate d.mark.slot x (if other_slot d.mark.slot == 0 then Some u else d.table_b))
+            (sym (ap (λ (n : ℕ). if n == 0 then Some u else d.table_b) e ∙ tb))
+            (subst (λ (x : Option Table). IsUpdate d.mark.slot (Some s) x)
+            (sym (ap (λ (n : ℕ). if other_slot n == 0 then Some u else d.table_b) e))
+            are);
+      }
+
+  pub next_kept : (plan : List Planned)
+      → plan ≡ map (carried has.old_plan) (plan_of (other_slot d.mark.slot) (layout_of u) [])
+      → IsDevice (with_target d (other_slot d.mark.slot) u plan) size
+  next_kept plan is =
+      let planned : ArePlanned size plan = subst (ArePlanned size) (sym is) new_plan in
+      elim (slot_cases d.mark.slot kept.slot) [
+        | inl e ↦
+            subst (λ (x : Device). IsDevice x size)
+            (sym (ap (λ (n : ℕ). with_target d (other_slot n) u plan) e))
+            (beside_a plan planned e)
+        | inr e ↦
+            subst (λ (x : Device). IsDevice x size)
+            (sym (ap (λ (n : ℕ). with_target d (other_slot n) u plan) e))
+            (beside_b plan planned e)
+      ]

@@ -1,0 +1,157 @@
+-- What is read of a disk while an update is installed.
+use Rattle.std.proofs.Common.{◌≡◌, ◌∙◌, ℕ, List, [], ◌∷◌, Result, Ok, refl, sym, ap, subst}
+use Rattle.std.specs.Prelude.{Option}
+use Rattle.vab_disk.specs.Disk.{Image}
+use Rattle.vab_bootctl.specs.declared.slots.Control.{Control}
+use Rattle.vab_bootctl.specs.Control.{control_of}
+use Rattle.vab_marks.specs.declared.mark.MarkPhase.TheVariants as marks
+use Rattle.vab_marks.specs.declared.status.PartStatus.{PartStatus}
+use Rattle.vab_tables.specs.declared.table.Table.{Table}
+use Rattle.vab_geometry.specs.declared.geometry.Geometry.{Geometry}
+use Rattle.vab_layout.specs.Slots.{other_slot}
+use Rattle.vab_model.specs.State.{control_seen}
+use Rattle.vab_model.proofs.SeenLaws.{seen_again}
+use Rattle.vab_device.specs.declared.fault.StartFault.{StartFault}
+use Rattle.vab_device.specs.declared.device.Device.{Device}
+use Rattle.vab_device.specs.Checks.{◌>>=◌}
+use Rattle.vab_device.specs.Mounted.{control_on, state_on, mounted_on}
+use Rattle.vab_device.specs.Phases.{phase_at}
+use Rattle.vab_device.specs.Reading.{Read, table_at, tables_in, kept, device, Reads, Represents}
+use Rattle.vab_device.specs.Reading.{AgreeCopies}
+use Rattle.vab_device.specs.Stores.{Scanned}
+use Rattle.vab_device.proofs.CheckLaws.{bound}
+use Rattle.vab_device.proofs.ReadingLaws.{device_of, has_images, control_is_seen}
+
+-- what is read: the source's slot, its table and the target's
+abbrev pub read_at : ℕ
+    → List (Option PartStatus)
+    → Control
+    → Geometry
+    → Table
+    → Table
+    → List Scanned
+    → Read
+read_at k statuses c g s t scanned = record {
+  mark = record { phase = marks.Installing; slot = k };
+  statuses = statuses;
+  control = c;
+  geometry = g;
+  tables = s ∷ t ∷ [];
+  scanned = scanned;
+}
+
+-- the two tables that are read
+pub record TwoTables (size : ℕ) (g : Geometry) (a b : ℕ) (image : Image) (ts : List Table) : Type 0
+  where
+    pub source : Table
+    pub target : Table
+    pub source_read : table_at size g a image ≡ Ok source
+    pub target_read : table_at size g b image ≡ Ok target
+    pub are : ts ≡ source ∷ target ∷ []
+
+pub two_tables : (size : ℕ) (g : Geometry) (a b : ℕ) (image : Image) (ts : List Table)
+    → tables_in size g (a ∷ b ∷ []) image ≡ Ok ts
+    → TwoTables size g a b image ts
+two_tables size g a b image ts is =
+    let s = bound (table_at size g a image)
+    (λ s. tables_in size g (b ∷ []) image >>= λ ts. Ok (s ∷ ts)) ts is in
+    let rest = bound (tables_in size g (b ∷ []) image) (λ ts. Ok (s.0 ∷ ts)) ts s.2 in
+    let t = bound (table_at size g b image)
+    (λ t. tables_in size g [] image >>= λ ts. Ok (t ∷ ts)) rest.0 rest.1 in
+    let last : (let r : Result (List Table) StartFault = Ok (t.0 ∷ []) in r ≡ Ok rest.0) = t.2 in
+    let last_is : t.0 ∷ [] ≡ rest.0 = cc in
+    let whole : (let r : Result (List Table) StartFault = Ok (s.0 ∷ rest.0) in r ≡ Ok ts) = rest.2 in
+    let whole_is : s.0 ∷ rest.0 ≡ ts = cc in
+    record {
+      source = s.0;
+      target = t.0;
+      source_read = s.1;
+      target_read = t.1;
+      are = sym whole_is ∙ ap (λ (l : List Table). s.0 ∷ l) (sym last_is);
+    }
+
+-- What a device with an update stands for, with the parts of its reading by name.
+pub record StandsInstalling (d : Device) (size : ℕ) (image : Image) : Type 0 where
+  pub slot : ℕ
+  pub statuses : List (Option PartStatus)
+  pub seen : Control
+  pub geometry : Geometry
+  pub source : Table
+  pub target : Table
+  pub scanned : List Scanned
+  pub reads : Reads size (read_at slot statuses seen geometry source target scanned) image
+  pub is : d ≡ record (kept (read_at slot statuses seen geometry source target scanned)) {
+    control = d.control;
+  }
+  pub control : control_of (image 4) ≡ Ok d.control
+  pub copies : AgreeCopies geometry (slot ∷ other_slot slot ∷ []) (source ∷ target ∷ []) image
+
+-- the parts of a reading that is a device's
+record StandsFor (d : Device) (size : ℕ) (image : Image) (r : Read) : Type 0 where
+  reads : Reads size r image
+  is : d ≡ record (kept r) { control = d.control }
+  copies : AgreeCopies r.geometry ((phase_at r.mark.phase).tables r.mark.slot) r.tables image
+
+pub stands_installing : (d : Device) (size : ℕ) (image : Image)
+    → Represents d size image
+    → d.mark.phase ≡ marks.Installing
+    → StandsInstalling d size image
+stands_installing d size image is installing =
+    let r : Read = is.read in
+    let phase : r.mark.phase ≡ marks.Installing =
+    sym (ap (λ (k : Device). k.mark.phase) is.is) ∙ installing in
+    let marked : r ≡ record r { mark = record { phase = marks.Installing; slot = r.mark.slot } } =
+    (λ i. record r { mark = record { phase = phase i; slot = r.mark.slot } }) in
+    let now = subst (StandsFor d size image) marked
+    (record { reads = is.reads; is = is.is; copies = is.copies }) in
+    let two = two_tables size r.geometry r.mark.slot (other_slot r.mark.slot) image r.tables
+    now.reads.tables in
+    let form : record r { mark = record { phase = marks.Installing; slot = r.mark.slot } }
+    ≡ read_at r.mark.slot r.statuses r.control r.geometry two.source two.target r.scanned =
+    (λ i. record {
+      mark = record { phase = marks.Installing; slot = r.mark.slot };
+      statuses = r.statuses;
+      control = r.control;
+      geometry = r.geometry;
+      tables = two.are i;
+      scanned = r.scanned;
+    }) in
+    let formed = subst (StandsFor d size image) form now in
+    record {
+      slot = r.mark.slot;
+      statuses = r.statuses;
+      seen = r.control;
+      geometry = r.geometry;
+      source = two.source;
+      target = two.target;
+      scanned = r.scanned;
+      reads = formed.reads;
+      is = formed.is;
+      control = is.control;
+      copies = formed.copies;
+    }
+
+-- ---- what a disk means, whose boot control is kept whole
+
+whole_seen : (r : Read) (c : Control) (image : Image)
+    → control_on (record (kept r) { control = c }) ≡ control_on (kept r)
+    → mounted_on (record (kept r) { control = c }) image ≡ mounted_on (kept r) image
+unfolding state_on
+whole_seen r c image same = rw same refl
+
+pub device_reads : (size : ℕ) (r : Read) (c : Control) (image : Image)
+    → Reads size r image
+    → control_of (image 4) ≡ Ok c
+    → device size image ≡ Ok (mounted_on (record (kept r) { control = c }) image)
+device_reads size r c image reads control =
+    let a = (phase_at r.mark.phase).has_a r.mark.slot in
+    let b = (phase_at r.mark.phase).has_b r.mark.slot in
+    let has = has_images size r image reads in
+    let seen : r.control ≡ control_seen a b c =
+    control_is_seen a b image c r.control reads.control control in
+    let left : control_on (record (kept r) { control = c }) ≡ control_seen a b c =
+    (λ i. control_seen (has.a i) (has.b i) c) in
+    let right : control_on (kept r) ≡ control_seen a b c =
+    (λ i. control_seen (has.a i) (has.b i) (seen i)) ∙ seen_again a b c in
+    device_of size r image reads
+    ∙ ap Ok (sym (whole_seen r c image (left ∙ sym right)))

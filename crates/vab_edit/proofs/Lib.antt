@@ -1,0 +1,16 @@
+pub mod SparedLaws
+pub mod PlainLaws
+pub mod NamedLaws
+pub mod WantedLaws
+pub mod PlanLaws
+pub mod CopiesLaws
+pub mod InstallingLaws
+pub mod NextLaws
+pub mod GateLaws
+pub mod CarryLaws
+pub mod KeptLaws
+pub mod DeviceLaws
+pub mod PreparedLaws
+pub mod EffectLaws
+pub mod StandsLaws
+pub mod CommandLaws

@@ -1,0 +1,311 @@
+-- The plan after an edit: that of the new table, with what was written.
+use Rattle.std.proofs.Common.{◌≡◌, ◌∙◌, inl, inr, ℕ, Bool, true, false, List, [], ◌∷◌, refl, sym}
+use Rattle.std.proofs.Common.{ap, length}
+use Rattle.std.specs.Prelude.{Option, Some, None, Contains, map, option_map}
+use Rattle.std.specs.Str.{bytes_eq}
+use Rattle.std.proofs.lemmas.Bool.{cases_Bool}
+use Rattle.std.proofs.lemmas.List.{length-map}
+use Rattle.std.proofs.lemmas.List.Elements.{All-contains}
+use Rattle.vab_disk.specs.Disk.{Image}
+use Rattle.vab_names.specs.Names.{is_of_slot, store_of, base_of}
+use Rattle.vab_tables.specs.Rules.{NamesDiffer}
+use Rattle.vab_exceptions.specs.declared.area.Exception.{Exception}
+use Rattle.vab_layout.specs.declared.layout.Part.{Part}
+use Rattle.vab_layout.specs.declared.layout.Layout.{Layout}
+use Rattle.vab_layout.specs.Slots.{own_parts, is_updated, IsTarget, IsTargetPart}
+use Rattle.vab_builder.specs.Sizes.{has_part}
+use Rattle.vab_builder.proofs.Counting.{first, later, of_filter}
+use Rattle.vab_builder.proofs.PartLaws.{named_is, named_own, part_there}
+use Rattle.vab_model.specs.declared.state.PlanImage.TheVariants as planned
+use Rattle.vab_model.specs.declared.state.PlanEntry.{PlanEntry}
+use Rattle.vab_device.specs.declared.device.Planned.{Planned}
+use Rattle.vab_device.specs.declared.device.PlannedImage.TheVariants.{Written}
+use Rattle.vab_device.specs.Kept.{block_sector, sectors_of, group_of}
+use Rattle.vab_device.specs.Mounted.{bytes_at, blocks_there, entry_on}
+use Rattle.vab_device.specs.Mounted.{planned_on as image_planned}
+use Rattle.vab_device.specs.Phases.{planned_image, store_on, planned_on, plan_of}
+use Rattle.vab_device.specs.Stores.{Scanned, first_named, exceptions_of, sectors_seen}
+use Rattle.vab_device.specs.Updates.{image_or, if_written, entry_named, written_of, entry_by, plan_by}
+use Rattle.vab_edit.specs.Carried.{planned_named, written_by, with_written, carried}
+use Rattle.vab_edit.proofs.NamedLaws.{first_is, base_eq, HasBoth, LeavesBoth, has_still}
+
+-- ---- lists
+
+pub map_among : {X Y : Type 0} (f g : X → Y) (xs : List X)
+    → ((x : X) → Contains xs x → f x ≡ g x)
+    → map f xs ≡ map g xs
+map_among f g [] same = refl
+map_among f g (x ∷ xs) same =
+    let here = same x (first x xs) in
+    let rest = map_among f g xs (λ y c. same y (later x xs y c)) in
+    (λ i. here i ∷ rest i)
+
+pub map_map : {X Y Z : Type 0} (f : X → Y) (g : Y → Z) (xs : List X)
+    → map g (map f xs) ≡ map (λ x. g (f x)) xs
+map_map f g [] = refl
+map_map f g (x ∷ xs) = let rest = map_map f g xs in (λ i. g (f x) ∷ rest i)
+
+-- ---- a partition with a store is updated
+
+pub store_updated : (slot : ℕ) (source parts : List Part) (p : Part)
+    → IsTarget slot source parts
+    → Contains (own_parts slot parts) p
+    → has_part (store_of p.name) parts ≡ true
+    → is_updated p ≡ true
+store_updated slot source parts p is c there =
+    elim (All-contains (IsTargetPart slot source parts) (own_parts slot parts) p is.each c).kept [
+      | inl updated ↦ updated
+      | inr none ↦
+          let s = part_there (store_of p.name) parts there in
+          absurd (All-contains (λ (q : Part). q.name ≡ store_of p.name → ⊥) parts s.0 none.2 s.1 s.2)
+    ]
+
+-- the lengths of stores
+store_length : (n : ℕ) (o : Option Part)
+    → option_map (λ (l : List ℕ). length l) (option_map (λ (q : Part). sectors_of n q.blocks) o)
+    ≡ option_map (λ (q : Part). length q.blocks) o
+unfolding sectors_of
+store_length n None = refl
+store_length n (Some q) = ap Some (length-map q.blocks (block_sector n))
+
+map_length : (n : ℕ) (blocks : List ℕ) → length (sectors_of n blocks) ≡ length blocks
+unfolding sectors_of
+map_length n blocks = length-map blocks (block_sector n)
+
+-- ---- an edit
+
+module _
+    (slot : ℕ) (old new : Layout) (ss : List Scanned) (image : Image)
+    (device : new.device ≡ old.device)
+    (leaves : LeavesBoth slot old new)
+    (both : (name : List ℕ) (es : List Exception) → exceptions_of name ss ≡ Some es → HasBoth slot old name)
+    (was_updated : (q : Part) → Contains (own_parts slot old.parts) q
+    → has_part (store_of q.name) old.parts ≡ true → is_updated q ≡ true)
+    (now_updated : (q : Part) → Contains (own_parts slot new.parts) q
+    → has_part (store_of q.name) new.parts ≡ true → is_updated q ≡ true)
+    (differ : NamesDiffer (λ (q : Part). q.name) new.parts) where
+  f : Part → Planned
+  f q = planned_on old ss q
+
+  -- ---- what was planned under a name
+
+  planned_found : (name : List ℕ) (own : List Part)
+      → is_of_slot slot name ≡ true
+      → ((q : Part) → Contains own q → is_of_slot slot q.name ≡ true)
+      → planned_named (base_of name) (map (planned_on old ss) own)
+      ≡ option_map (planned_on old ss) (first_named name own)
+  planned_found name [] is each = refl
+  planned_found name (q ∷ qs) is each =
+      let e = base_eq slot q.name name (each q (first q qs)) is in
+      elim (cases_Bool (bytes_eq q.name name)) [
+        | inl t ↦ rw (e, t) refl
+        | inr other ↦
+            rw (e, other) (planned_found name qs is (λ x c. each x (later q qs x c)))
+      ]
+
+  entry_found : (name : List ℕ) (own : List Part)
+      → is_of_slot slot name ≡ true
+      → ((q : Part) → Contains own q → is_of_slot slot q.name ≡ true)
+      → entry_named (base_of name) (map (entry_on image) (map (planned_on old ss) own))
+      ≡ option_map (λ (q : Part). entry_on image (planned_on old ss q)) (first_named name own)
+  entry_found name [] is each = refl
+  entry_found name (q ∷ qs) is each =
+      let e = base_eq slot q.name name (each q (first q qs)) is in
+      elim (cases_Bool (bytes_eq q.name name)) [
+        | inl t ↦ rw (e, t) refl
+        | inr other ↦
+            rw (e, other) (entry_found name qs is (λ x c. each x (later q qs x c)))
+      ]
+
+  old_each : (q : Part) → Contains (own_parts slot old.parts) q → is_of_slot slot q.name ≡ true
+  old_each q c = (of_filter (λ (x : Part). is_of_slot slot x.name) old.parts q c).1
+
+  -- ---- one partition
+
+  first_sector : new.device.first_logical_sector ≡ old.device.first_logical_sector
+  first_sector = ap (λ (d : _). d.first_logical_sector) device
+
+  -- a partition whose store was scanned
+  record IsWritten (p q : Part) : Type 0 where
+    map : (planned_on old ss q).map ≡ (planned_on new ss p).map
+    store : store_on old q.name ≡ store_on new p.name
+    was : is_updated q ≡ true
+    now : is_updated p ≡ true
+    named : q.name ≡ p.name
+
+  is_written : (p q : Part) (es : List Exception)
+      → Contains (own_parts slot new.parts) p
+      → exceptions_of p.name ss ≡ Some es
+      → first_named p.name (own_parts slot old.parts) ≡ Some q
+      → IsWritten p q
+  is_written p q es c ex fo =
+      let b = both p.name es ex in
+      let left = leaves p.name b in
+      let still = has_still slot old new p.name leaves b in
+      let among = of_filter (λ (x : Part). is_of_slot slot x.name) new.parts p c in
+      let was = first_is p.name (own_parts slot old.parts) q fo in
+      let stored_old = first_is (store_of p.name) old.parts b.store b.stored in
+      let stored_new = first_is (store_of p.name) new.parts still.both.store still.both.stored in
+      let blocks : q.blocks ≡ p.blocks =
+      sym was.blocks ∙ named_own slot p.name old.parts among.1 ∙ sym left.part.blocks
+      ∙ named_is p.name new.parts p differ among.0 refl in
+      let os : ℕ = old.device.first_logical_sector in
+      let ns : ℕ = new.device.first_logical_sector in
+      record {
+        map = λ i. sectors_of (sym first_sector i) (blocks i);
+        store =
+            ap (λ (n : List ℕ). store_on old n) was.named
+            ∙ ap (option_map (λ (x : Part). sectors_of os x.blocks)) b.stored
+            ∙ (λ i. Some (sectors_of (sym first_sector i) (sym still.store_blocks i)))
+            ∙ sym (ap (option_map (λ (x : Part). sectors_of ns x.blocks)) still.both.stored);
+        was = was_updated q was.among
+            (ap (λ (n : List ℕ). has_part (store_of n) old.parts) was.named ∙ stored_old.there);
+        now = now_updated p c stored_new.there;
+        named = was.named;
+      }
+
+  -- what is read before the stores are
+  fresh : Part → Planned
+  fresh p = planned_on new [] p
+
+  nothing_written : (p q : Part) (b : Bool)
+      → written_by (planned_on new [] p) (planned_on old ss q) (planned_image b None)
+      ≡ planned_on new [] p
+  nothing_written p q false = refl
+  nothing_written p q true = refl
+
+  carried_is : (p : Part)
+      → Contains (own_parts slot new.parts) p
+      → carried (plan_of slot old ss) (planned_on new [] p) ≡ planned_on new ss p
+  carried_is p c =
+      let own = (of_filter (λ (x : Part). is_of_slot slot x.name) new.parts p c).1 in
+      ap (with_written (planned_on new [] p))
+      (planned_found p.name (own_parts slot old.parts) own old_each)
+      ∙ go (exceptions_of p.name ss) (first_named p.name (own_parts slot old.parts)) refl refl
+    where
+      alike : exceptions_of p.name ss ≡ None → planned_on new [] p ≡ planned_on new ss p
+      alike ex = λ i. record {
+        name = base_of p.name;
+        group = p.group;
+        map = sectors_of new.device.first_logical_sector p.blocks;
+        store = store_on new p.name;
+        image = planned_image (is_updated p) (sym ex i);
+      }
+
+      go : (x : Option (List Exception)) (o : Option Part)
+          → exceptions_of p.name ss ≡ x
+          → first_named p.name (own_parts slot old.parts) ≡ o
+          → with_written (planned_on new [] p) (option_map (planned_on old ss) o)
+          ≡ planned_on new ss p
+      go None None ex fo = alike ex
+      go None (Some q) ex fo =
+          let named = (first_is p.name (own_parts slot old.parts) q fo).named in
+          ap (λ (y : Option (List Exception)).
+          written_by (planned_on new [] p) (planned_on old ss q) (planned_image (is_updated q) y))
+          (ap (λ (n : List ℕ). exceptions_of n ss) named ∙ ex)
+          ∙ nothing_written p q (is_updated q)
+          ∙ alike ex
+      go (Some es) None ex fo =
+          absurd (let b = both p.name es ex in
+          let bad : (let x : Option Part = None in x ≡ Some b.part) = sym fo ∙ b.named in cc)
+      go (Some es) (Some q) ex fo =
+          let w = is_written p q es c ex fo in
+          let was : planned_image (is_updated q) (exceptions_of q.name ss) ≡ Written es =
+          (λ i. planned_image (w.was i) ((ap (λ (n : List ℕ). exceptions_of n ss) w.named ∙ ex) i)) in
+          let now : planned_image (is_updated p) (exceptions_of p.name ss) ≡ Written es =
+          (λ i. planned_image (w.now i) (ex i)) in
+          ap (written_by (planned_on new [] p) (planned_on old ss q)) was
+          ∙ (λ i. record {
+            name = base_of p.name;
+            group = p.group;
+            map = w.map i;
+            store = w.store i;
+            image = sym now i;
+          })
+
+  -- ---- its entry
+
+  none_written : (p q : Part) (b : Bool)
+      → if_written (image_planned image (planned_on old ss q) (planned_image b None)) ≡ None
+  none_written p q false = refl
+  none_written p q true = refl
+
+  unwritten : (p : Part) (b : Bool)
+      → image_planned image (planned_on new ss p) (planned_image b None) ≡ image_or b None
+  unwritten p false = refl
+  unwritten p true = refl
+
+  image_is : (p : Part)
+      → Contains (own_parts slot new.parts) p
+      → (x : Option (List Exception)) (o : Option Part)
+      → exceptions_of p.name ss ≡ x
+      → first_named p.name (own_parts slot old.parts) ≡ o
+      → image_planned image (planned_on new ss p) (planned_image (is_updated p) (exceptions_of p.name ss))
+      ≡ image_or (is_updated p)
+      (written_of (option_map (λ (q : Part). entry_on image (planned_on old ss q)) o))
+  image_is p c None None ex fo =
+      ap (λ (y : Option (List Exception)).
+      image_planned image (planned_on new ss p) (planned_image (is_updated p) y)) ex
+      ∙ unwritten p (is_updated p)
+  image_is p c None (Some q) ex fo =
+      let named = (first_is p.name (own_parts slot old.parts) q fo).named in
+      let none : if_written (image_planned image (planned_on old ss q)
+      (planned_image (is_updated q) (exceptions_of q.name ss))) ≡ None =
+      ap (λ (y : Option (List Exception)).
+      if_written (image_planned image (planned_on old ss q) (planned_image (is_updated q) y)))
+      (ap (λ (n : List ℕ). exceptions_of n ss) named ∙ ex)
+      ∙ none_written p q (is_updated q) in
+      ap (λ (y : Option (List Exception)).
+      image_planned image (planned_on new ss p) (planned_image (is_updated p) y)) ex
+      ∙ unwritten p (is_updated p)
+      ∙ ap (image_or (is_updated p)) (sym none)
+  image_is p c (Some es) None ex fo =
+      absurd (let b = both p.name es ex in
+      let bad : (let x : Option Part = None in x ≡ Some b.part) = sym fo ∙ b.named in cc)
+  image_is p c (Some es) (Some q) ex fo =
+      let w = is_written p q es c ex fo in
+      let was : planned_image (is_updated q) (exceptions_of q.name ss) ≡ Written es =
+      (λ i. planned_image (w.was i) ((ap (λ (n : List ℕ). exceptions_of n ss) w.named ∙ ex) i)) in
+      let now : planned_image (is_updated p) (exceptions_of p.name ss) ≡ Written es =
+      (λ i. planned_image (w.now i) (ex i)) in
+      ap (image_planned image (planned_on new ss p)) now
+      ∙ (λ i. planned.Written
+      (bytes_at image (sectors_seen (blocks_there (sym w.store i)) es 0 (sym w.map i))) (length es))
+      ∙ (λ i. image_or (sym w.now i) (if_written (image_planned image (planned_on old ss q) (sym was i))))
+
+  entry_is : (p : Part)
+      → Contains (own_parts slot new.parts) p
+      → entry_on image (planned_on new ss p)
+      ≡ entry_by new (map (entry_on image) (plan_of slot old ss)) p
+  entry_is p c =
+      let own = (of_filter (λ (x : Part). is_of_slot slot x.name) new.parts p c).1 in
+      let found = entry_found p.name (own_parts slot old.parts) own old_each in
+      let seen = image_is p c (exceptions_of p.name ss)
+      (first_named p.name (own_parts slot old.parts)) refl refl
+      ∙ ap (λ (e : Option PlanEntry). image_or (is_updated p) (written_of e)) (sym found) in
+      let blocks = map_length new.device.first_logical_sector p.blocks in
+      let store = store_length new.device.first_logical_sector (first_named (store_of p.name) new.parts) in
+      (λ i. record {
+        name = base_of p.name;
+        group = group_of p.group;
+        blocks = blocks i;
+        store = store i;
+        image = seen i;
+      })
+
+  -- ---- the plan
+
+  -- the plan of the new table alone, with what was written, is that with the scanned stores
+  pub plan_carried : map (carried (plan_of slot old ss)) (plan_of slot new []) ≡ plan_of slot new ss
+  plan_carried =
+      map_map (planned_on new []) (carried (plan_of slot old ss)) (own_parts slot new.parts)
+      ∙ map_among (λ p. carried (plan_of slot old ss) (planned_on new [] p)) (planned_on new ss)
+      (own_parts slot new.parts) carried_is
+
+  -- and it means the new table's entries with what was written
+  pub plan_means : map (entry_on image) (plan_of slot new ss)
+      ≡ plan_by slot new (map (entry_on image) (plan_of slot old ss))
+  plan_means =
+      map_map (planned_on new ss) (entry_on image) (own_parts slot new.parts)
+      ∙ map_among (λ p. entry_on image (planned_on new ss p))
+      (entry_by new (map (entry_on image) (plan_of slot old ss))) (own_parts slot new.parts) entry_is

@@ -1,0 +1,103 @@
+-- What holds of a table that an edit gives.
+use Rattle.std.proofs.Common.{◌≡◌, ◌≢◌, ◌∙◌, inl, inr, ℕ, List, [], ◌++◌, Result, Ok, Err, refl, sym, ap}
+use Rattle.std.specs.Prelude.{AllPairs, nat_le}
+use Rattle.std.proofs.lemmas.List.Elements.{All-contains, Contains-append_right}
+use Rattle.std.proofs.lemmas.List.Kept.{AllPairs-filter}
+use Rattle.vab_names.specs.Names.{base_of, is_of_slot, suffix_of}
+use Rattle.vab_names.specs.NameLaws.{of_slot}
+use Rattle.vab_tables.specs.declared.table.Table.{Table}
+use Rattle.vab_tables.specs.Rules.{KeepsRules}
+use Rattle.vab_tables.specs.Spelling.{table_size_of, as_minor_2}
+use Rattle.vab_layout.specs.declared.layout.Part.{Part}
+use Rattle.vab_layout.specs.declared.layout.Layout.{Layout}
+use Rattle.vab_layout.specs.Layout.{layout_of, table_of}
+use Rattle.vab_layout.specs.Slots.{own_parts, store_parts, IsDistinct, IsTarget}
+use Rattle.vab_layout.proofs.LayoutLaws.{layout_keeps}
+use Rattle.vab_builder.specs.declared.edit.Edit.{Edit}
+use Rattle.vab_builder.specs.declared.fault.EditFault.{EditFault}
+use Rattle.vab_builder.specs.declared.fault.EditFault.TheVariants as faults
+use Rattle.vab_builder.specs.Edits.{changed_by, edited, fitting, if_fitting}
+use Rattle.vab_builder.specs.Gives.{IsTableOf, GivesTable}
+use Rattle.vab_builder.proofs.Counting.{all_from, of_filter, pairs_map, pairs_weaker, pieces_once}
+use Rattle.vab_builder.proofs.Verdicts.{unless_ok}
+use Rattle.vab_device.specs.declared.device.Planned.{Planned}
+use Rattle.vab_device.specs.Phases.{planned_on, plan_of}
+use Rattle.vab_device.specs.Updates.{refusal_of}
+use Rattle.vab_edit.specs.Prepared.{RefusesBy}
+use Rattle.vab_plan.specs.Scans.{IsTargetTable}
+
+-- ---- the table
+
+pub target_table : (slot : ℕ) (source : List Part) (u : Table)
+    → KeepsRules u
+    → IsTarget slot source (layout_of u).parts
+    → IsTargetTable slot u
+target_table slot source u rules target =
+    let own : List Part = own_parts slot (layout_of u).parts in
+    let stores : List Part = store_parts slot (layout_of u).parts in
+    let once = pieces_once (λ (p : Part). p.blocks) (own ++ stores) target.once in
+    record {
+      rules = rules;
+      own = target.own;
+      stores = all_from (λ (p : Part). IsDistinct p.blocks) stores
+          (λ p c. All-contains (λ (q : Part). IsDistinct q.blocks) (own ++ stores) p once
+          (Contains-append_right own stores p c));
+    }
+
+-- it is read again as it is
+minor_2 : (l : Layout) → as_minor_2 (table_of l) ≡ table_of l
+unfolding table_of
+minor_2 l = refl
+
+pub same_minor : (u : Table) (said : Result Layout EditFault)
+    → IsTableOf u said
+    → as_minor_2 u ≡ u
+same_minor u said is = ap as_minor_2 is.2 ∙ minor_2 is.0 ∙ sym is.2
+
+-- its layout is that which the edit gives
+pub gives_layout : (slot max : ℕ) (s t u : Table) (edit : Edit)
+    → IsTableOf u (edited slot (layout_of s) (layout_of t) max edit)
+    → changed_by slot (layout_of s) (layout_of t) edit ≡ Ok (layout_of u)
+    → edited slot (layout_of s) (layout_of t) max edit ≡ Ok (layout_of u)
+gives_layout slot max s t u edit is layout =
+    let fits : edited slot (layout_of s) (layout_of t) max edit ≡ fitting max (layout_of u) =
+    ap (if_fitting max) layout in
+    let taken = unless_ok (nat_le (table_size_of (table_of (layout_of u))) max)
+    (faults.TableFull (table_size_of (table_of (layout_of u))) max) (Ok (layout_of u)) is.0
+    (sym fits ∙ is.1) in
+    is.1 ∙ sym taken.1
+
+-- ---- refusals
+
+pub gives_refusal : (said : Result Layout EditFault) (fault : EditFault)
+    → (let r : Result Table EditFault = Err fault in GivesTable r said)
+    → RefusesBy said (refusal_of fault)
+gives_refusal said faults.NoMemory h = inl refl
+gives_refusal said faults.BadName h = inr (faults.BadName, h, refl)
+gives_refusal said faults.BadSize h = inr (faults.BadSize, h, refl)
+gives_refusal said faults.Unknown h = inr (faults.Unknown, h, refl)
+gives_refusal said faults.Exists h = inr (faults.Exists, h, refl)
+gives_refusal said faults.HasStore h = inr (faults.HasStore, h, refl)
+gives_refusal said (faults.TooMany n) h = inr (faults.TooMany n, h, refl)
+gives_refusal said (faults.GroupLimit u l) h = inr (faults.GroupLimit u l, h, refl)
+gives_refusal said (faults.NoRoom u c) h = inr (faults.NoRoom u c, h, refl)
+gives_refusal said (faults.TableFull s m) h = inr (faults.TableFull s m, h, refl)
+
+-- ---- the plan
+
+-- no two of a plan have one name
+pub plan_differs : (slot : ℕ) (u : Table)
+    → KeepsRules u
+    → AllPairs (λ (a b : Planned). a.name ≢ b.name) (plan_of slot (layout_of u) [])
+plan_differs slot u rules =
+    let l : Layout = layout_of u in
+    let own : List Part = own_parts slot l.parts in
+    let differ = AllPairs-filter (λ (a b : Part). a.name ≢ b.name) (λ p. is_of_slot slot p.name) l.parts
+    (layout_keeps u rules).part_names in
+    pairs_map (λ (a b : Planned). a.name ≢ b.name) (planned_on l []) own
+    (pairs_weaker (λ (a b : Part). a.name ≢ b.name) (λ (a b : Part). base_of a.name ≢ base_of b.name) own
+    (λ a b in_a in_b other e. other
+    (of_slot slot a.name (of_filter (λ (p : Part). is_of_slot slot p.name) l.parts a in_a).1
+    ∙ ap (λ (n : List ℕ). n ++ suffix_of slot) e
+    ∙ sym (of_slot slot b.name (of_filter (λ (p : Part). is_of_slot slot p.name) l.parts b in_b).1)))
+    differ)

@@ -1,0 +1,91 @@
+-- A table that an edit gives, ready to be written.
+use Rattle.std.specs.Prelude.{◌≡◌, ◌⊎◌, ℕ, ◌≤◌, List, [], length, map, Option, Some, None, Ok, Err}
+use Rattle.std.specs.Prelude.{◌==◌, if◌then◌else◌, Result}
+use Rattle.vab_tables.specs.declared.table.Table.{Table}
+use Rattle.vab_tables.specs.Rules.{KeepsRules}
+use Rattle.vab_tables.specs.Spelling.{table_size_of}
+use Rattle.vab_tables.specs.Text.{IsTableText}
+use Rattle.vab_layout.specs.declared.layout.Layout.{Layout}
+use Rattle.vab_layout.specs.Layout.{layout_of}
+use Rattle.vab_layout.specs.Slots.{other_slot, IsTarget, groups_of_slot}
+use Rattle.vab_builder.specs.declared.edit.Edit.{Edit}
+use Rattle.vab_builder.specs.declared.fault.EditFault.{EditFault}
+use Rattle.vab_builder.specs.Asked.{edited_name, KeepsOthers}
+use Rattle.vab_builder.specs.Edits.{changed_by, edited}
+use Rattle.vab_model.specs.declared.command.Refusal.{Refusal}
+use Rattle.vab_model.specs.declared.command.Refusal.TheVariants.{NoMemory, NotInstalling}
+use Rattle.vab_device.specs.declared.device.Planned.{Planned}
+use Rattle.vab_device.specs.declared.device.Device.{Device}
+use Rattle.vab_device.specs.Kept.{table_of_slot}
+use Rattle.vab_device.specs.Phases.{plan_of}
+use Rattle.vab_device.specs.Updates.{refusal_of}
+use Rattle.vab_edit.specs.Carried.{carried}
+
+-- The table that an edit gives beside the source's: its layout, its rules, and what it has of the
+-- table before it.
+pub record IsEdited (max source : ℕ) (edit : Edit) (s t u : Table) : Type 0 where
+  pub rules : KeepsRules u
+  pub size : table_size_of u ≤ max
+  pub layout : changed_by (other_slot source) (layout_of s) (layout_of t) edit ≡ Ok (layout_of u)
+  pub others : KeepsOthers (edited_name edit) (layout_of t) (layout_of u)
+  pub target : IsTarget (other_slot source) (layout_of s).parts (layout_of u).parts
+  pub device : u.devices ≡ t.devices
+  pub groups : groups_of_slot (other_slot source) u.groups
+      ≡ groups_of_slot (other_slot source) t.groups
+
+-- with its text, and its plan with nothing written
+pub record IsGiven
+    (max source : ℕ)
+    (edit : Edit)
+    (s t u : Table)
+    (text : List ℕ)
+    (plan : List Planned) : Type 0 where
+  pub is_edited : IsEdited max source edit s t u
+  pub gives : edited (other_slot source) (layout_of s) (layout_of t) max edit ≡ Ok (layout_of u)
+  pub is_text : IsTableText max text u
+  pub fits : length text ≤ max
+  pub is_plan : plan ≡ plan_of (other_slot source) (layout_of u) []
+
+-- an update is installed, and these are the tables of its source and of its target
+pub record HasTables (d : Device) (s t : Table) : Type 0 where
+  pub source : table_of_slot d d.mark.slot ≡ Some s
+  pub target : table_of_slot d (other_slot d.mark.slot) ≡ Some t
+  pub old_plan : List Planned
+  pub is_planned : d.plan ≡ Some old_plan
+
+-- what an edit of a device's tables gives
+pub record IsPrepared (d : Device) (edit : Edit) (u : Table) (text : List ℕ) (plan : List Planned)
+    : Type 0 where
+  pub s : Table
+  pub t : Table
+  pub tables : HasTables d s t
+  pub given : IsGiven d.geometry.max d.mark.slot edit s t u text plan
+
+-- the refusal of a definition, or want of memory
+abbrev pub RefusesBy : Result Layout EditFault → Refusal → Type 0
+RefusesBy said r = (r ≡ NoMemory) ⊎ ((f : EditFault) × (said ≡ Err f) × (r ≡ refusal_of f))
+
+-- why an edit of a device's tables is refused
+pub record IsRefused (d : Device) (edit : Edit) (r : Refusal) : Type 0 where
+  pub s : Table
+  pub t : Table
+  pub tables : HasTables d s t
+  pub by : RefusesBy
+      (edited (other_slot d.mark.slot) (layout_of s) (layout_of t) d.geometry.max edit)
+      r
+
+-- or there is no update
+abbrev pub Refuses : Device → Edit → Refusal → Type 0
+Refuses d edit r = ((d.plan ≡ None) × (r ≡ NotInstalling)) ⊎ IsRefused d edit r
+
+-- the device with another table and plan of the target in this slot
+abbrev pub with_target : Device → (target : ℕ) → Table → List Planned → Device
+with_target d target t plan =
+    if target == 0
+    then record d { table_a = Some t; plan = Some plan }
+    else record d { table_b = Some t; plan = Some plan }
+
+-- a plan with what the one before it has written
+abbrev pub carried_over : Option (List Planned) → List Planned → List Planned
+carried_over None plan = plan
+carried_over (Some olds) plan = map (carried olds) plan

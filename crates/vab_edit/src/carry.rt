@@ -1,0 +1,140 @@
+//! A plan of another table that keeps what was written.
+
+ghost use Rattle.std.specs.Prelude.{◌≡◌, ◌≢◌, ℕ, ◌<◌, AllPairs, get_or, IfNone, IfSome, length, List, map};
+ghost use Rattle.std.specs.Prelude.{None, Some, slice_set};
+ghost use Rattle.vab_tables.specs.declared.table.Table.{Table as TableOf};
+ghost use Rattle.vab_edit.specs.Carried.{carried, planned_named, with_written};
+ghost use Rattle.vab_edit.specs.Prepared.{carried_over, with_target};
+
+use vab_bytes::{Listing, Name36};
+use vab_device::{Device, Planned, PlannedImage};
+use vab_tables::Table;
+
+// Where the first that is planned under this base name stands.
+fn place(plan: &[Planned], name: &Name36) -> Option<usize>
+    ensures none { IfNone result (planned_named name.now plan.now ≡ None) }
+    ensures within { IfSome result (λ i. i < length plan.now) }
+    ensures first { IfSome result (λ i. (d : Planned)
+        → planned_named name.now plan.now ≡ Some (get_or plan.now i d)) }
+    ensures is { IfSome result (λ i. (d : Planned) → (get_or plan.now i d).name ≡ name.now) }
+{
+    for i in 0..plan.len() {
+        if plan[i].name.text() == name.text() {
+            return Some(i);
+        }
+    }
+    None
+}
+
+// The first that is planned under this base name, which leaves the plan.
+fn take(plan: &mut Vec<Planned>, name: &Name36) -> Option<Planned>
+    ensures found { result ≡ planned_named name.now plan.old.items }
+    ensures others { (n : List ℕ)
+        → n ≢ name.now
+        → planned_named n plan.new.items ≡ planned_named n plan.old.items }
+{
+    match place(plan.as_slice(), name) {
+        None => None,
+        Some(at) => Some(plan.remove(at)),
+    }
+}
+
+// Gives a planned partition what was written to this one.
+fn give(planned: &mut Planned, old: Option<Planned>)
+    ensures { planned.new ≡ with_written planned.old old }
+{
+    match old {
+        None => {}
+        Some(
+            Planned {
+                map,
+                store,
+                image,
+                ..
+            },
+        ) => match image {
+            PlannedImage::Kept => {}
+            PlannedImage::Declared => {}
+            PlannedImage::Written(view) => {
+                planned.map = map;
+                planned.store = store;
+                planned.image = PlannedImage::Written(view);
+            }
+        },
+    }
+}
+
+// Gives each partition of a plan what the one before it has written.
+fn give_all(olds: Vec<Planned>, plan: &mut Vec<Planned>)
+    requires { AllPairs (λ a b. a.name ≢ b.name) plan.old.items }
+    ensures { plan.new.items ≡ map (carried olds.items) plan.old.items }
+{
+    let mut left = olds;
+    for i in 0..plan.len() {
+        let name = plan[i].name;
+        let old = take(&mut left, &name);
+        give(&mut plan[i], old);
+    }
+}
+
+/// The device with another table of the target in this slot, and this plan with what was written.
+pub fn with_table(device: Device, target: usize, table: Table, plan: Listing<Planned>) -> Device
+    requires { AllPairs (λ a b. a.name ≢ b.name) plan }
+    ensures { result ≡ with_target device target table (carried_over device.plan plan) }
+{
+    let Device {
+        geometry,
+        control,
+        mark,
+        cap,
+        groups,
+        a,
+        b,
+        table_a,
+        table_b,
+        plan: old,
+    } = device;
+    let plan = Some(carry(old, plan));
+    if target == 0 {
+        Device {
+            geometry,
+            control,
+            mark,
+            cap,
+            groups,
+            a,
+            b,
+            table_a: Some(table),
+            table_b,
+            plan,
+        }
+    } else {
+        Device {
+            geometry,
+            control,
+            mark,
+            cap,
+            groups,
+            a,
+            b,
+            table_a,
+            table_b: Some(table),
+            plan,
+        }
+    }
+}
+
+// A plan with what the one before it has written.
+fn carry(old: Option<Listing<Planned>>, plan: Listing<Planned>) -> Listing<Planned>
+    requires { AllPairs (λ a b. a.name ≢ b.name) plan }
+    ensures { result ≡ carried_over old plan }
+{
+    match old {
+        None => plan,
+        Some(olds) => {
+            let mut plan = plan.into_vec();
+            give_all(olds.into_vec(), &mut plan);
+            Listing::from_vec(plan)
+        }
+    }
+}

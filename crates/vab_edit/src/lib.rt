@@ -1,0 +1,8 @@
+//! Edits of the target's table while an update is installed.
+#![tactic(auto)]
+
+mod carry;
+mod command;
+mod prepared;
+
+pub use command::edit;
