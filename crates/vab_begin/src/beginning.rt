@@ -1,7 +1,6 @@
 //! An update that begins.
 
 ghost use Rattle.std.specs.Prelude.{◌≡◌, ◌<◌, ℕ, List, Option, Some};
-ghost use Rattle.vab_bootctl.specs.Control.{Fits};
 ghost use Rattle.vab_marks.specs.declared.mark.MarkPhase.TheVariants as marks;
 ghost use Rattle.vab_install.specs.Control.{cleared_of};
 ghost use Rattle.vab_layout.specs.Slots.{other_slot};

@@ -135,7 +135,8 @@ module _ {D : Type 0} (g : Ghosts D) (d : Device) (edit : Edit) (staged : Option
       does_refused false r old kept is
       (λ t.
       not_wanting d.plan (effect_on (mounted_on d (g.seen old)) staged (command_by edit))
-      ∙ effect_edited d (g.size old) refused.s refused.t kept refused.tables (g.seen old) staged edit
+      ∙ effect_edited d (g.size old) refused.s refused.t kept refused.tables
+      (g.seen old) staged edit
       ∙ ap
       (table_effect (mounted_on d (g.seen old)) d.mark.slot
       (map (entry_on (g.seen old)) refused.tables.old_plan))
@@ -194,32 +195,38 @@ module _ {D : Type 0} (g : Ghosts D) (d : Device) (edit : Edit) (staged : Option
         (others : SameElsewhere d.geometry (other_slot d.mark.slot) (text_sectors (length text))
         (g.seen old) image) where
       mounted : mounted_on
-          (device_at d.mark.slot (st t).statuses (st t).seen d.geometry p.s u (st t).scanned d.control)
+          (device_at d.mark.slot (st t).statuses (st t).seen d.geometry p.s u
+          (st t).scanned d.control)
           image
           ≡ next
       mounted =
-          mounted_edited (g.size old) d.mark.slot (text_sectors (length text)) (st t).statuses (st t).seen
+          mounted_edited (g.size old) d.mark.slot (text_sectors (length text)) (st t).statuses
+          (st t).seen
           d.geometry p.s p.t u (st t).scanned edit (g.seen old) image kept.geometry kept.slot fits
           (st t).reads was p.given.is_edited lies others d.control
           ∙ (λ i. installing_with (mounted_on (sym (st t).is i) (g.seen old)) d.mark.slot
           (map (entry_on (g.seen old))
-          (sym (planned_at d (g.size old) (g.seen old) p.s p.t p.tables.old_plan (st t) p.tables.is_planned) i))
+          (sym (planned_at d (g.size old) (g.seen old) p.s p.t p.tables.old_plan
+          (st t) p.tables.is_planned) i))
           (layout_of u))
 
       means : slot_table d.geometry (other_slot d.mark.slot) image ≡ Ok u
           → device (g.size old) image ≡ Ok next
       means there =
-          device_edited (g.size old) d.mark.slot (text_sectors (length text)) (st t).statuses (st t).seen
+          device_edited (g.size old) d.mark.slot (text_sectors (length text)) (st t).statuses
+          (st t).seen
           d.geometry p.s p.t u (st t).scanned edit (g.seen old) image kept.geometry kept.slot fits
           (st t).reads was p.given.is_edited lies others d.control (st t).control there
           ∙ ap Ok mounted
 
       represents_at : BothHold d.geometry (other_slot d.mark.slot) text image
           → Represents
-          (device_at d.mark.slot (st t).statuses (st t).seen d.geometry p.s u (st t).scanned d.control)
+          (device_at d.mark.slot (st t).statuses (st t).seen d.geometry p.s u
+          (st t).scanned d.control)
           (g.size old) image
       represents_at held =
-          represents_edited (g.size old) d.mark.slot (text_sectors (length text)) (st t).statuses (st t).seen
+          represents_edited (g.size old) d.mark.slot (text_sectors (length text)) (st t).statuses
+          (st t).seen
           d.geometry p.s p.t u (st t).scanned edit (g.seen old) image kept.geometry kept.slot fits
           (st t).reads was p.given.is_edited lies others d.control text (st t).control (st t).copies
           p.given.is_text held
@@ -229,16 +236,19 @@ module _ {D : Type 0} (g : Ghosts D) (d : Device) (edit : Edit) (staged : Option
       plan_is =
           ap (λ (x : Option (List Planned)). carried_over x plan)
           (p.tables.is_planned
-          ∙ ap Some (planned_at d (g.size old) (g.seen old) p.s p.t p.tables.old_plan (st t) p.tables.is_planned))
+          ∙ ap Some (planned_at d (g.size old) (g.seen old) p.s p.t p.tables.old_plan
+          (st t) p.tables.is_planned))
           ∙ ap
           (map (carried (plan_of (other_slot d.mark.slot) (layout_of p.t) (st t).scanned)))
           p.given.is_plan
-          ∙ carried_plan (g.size old) d.mark.slot (text_sectors (length text)) (st t).statuses (st t).seen
+          ∙ carried_plan (g.size old) d.mark.slot (text_sectors (length text)) (st t).statuses
+          (st t).seen
           d.geometry p.s p.t u (st t).scanned edit (g.seen old) image kept.geometry kept.slot fits
           (st t).reads was p.given.is_edited lies others
 
       device_is : with_target d (other_slot d.mark.slot) u (carried_over d.plan plan)
-          ≡ device_at d.mark.slot (st t).statuses (st t).seen d.geometry p.s u (st t).scanned d.control
+          ≡ device_at d.mark.slot (st t).statuses (st t).seen d.geometry p.s u
+          (st t).scanned d.control
       device_is =
           ap
           (λ (x : Device). with_target x (other_slot d.mark.slot) u (carried_over d.plan plan))
@@ -254,7 +264,8 @@ module _ {D : Type 0} (g : Ghosts D) (d : Device) (edit : Edit) (staged : Option
         both_table d.geometry (other_slot d.mark.slot) copy.0 p.t (g.seen old) copy.2 copy.1
 
     leaves : (t : g.is_modelled) (o : Outcome)
-        → LeavesEitherTable (g.told old) d.geometry (other_slot d.mark.slot) (text_sectors (length text))
+        → LeavesEitherTable (g.told old) d.geometry (other_slot d.mark.slot) (text_sectors
+        (length text))
         (g.seen old) p.t u o
         → LeavesStep (g.told old) (g.size old)
         (steps_of (mounted_on d (g.seen old)) (effect_or g d staged (command_by edit) false old)) o
@@ -269,7 +280,8 @@ module _ {D : Type 0} (g : Ghosts D) (d : Device) (edit : Edit) (staged : Option
               (g.seen old) o.image (st t).reads
               (repair_same (g.size old) (text_sectors (length text)) (other_slot d.mark.slot)
               (read_at d.mark.slot (st t).statuses (st t).seen d.geometry p.s p.t (st t).scanned)
-              (g.seen old) o.image kept.geometry kept.slot (other_below d.mark.slot) fits (st t).reads
+              (g.seen old) o.image kept.geometry kept.slot (other_below d.mark.slot) fits
+              (st t).reads
               left.others (same ∙ sym (old_table t)))
               ∙ device_stands d (g.size old) (g.seen old) (is t);
         })
@@ -320,9 +332,11 @@ module _ {D : Type 0} (g : Ghosts D) (d : Device) (edit : Edit) (staged : Option
     }
 
     elsewhere : (t : g.is_modelled)
-        → SameElsewhere d.geometry (other_slot d.mark.slot) (text_sectors (length text)) (g.seen old) (g.seen new)
+        → SameElsewhere d.geometry (other_slot d.mark.slot) (text_sectors (length text))
+        (g.seen old) (g.seen new)
     elsewhere t =
-        store_elsewhere d.geometry (other_slot d.mark.slot) text (g.seen old) (g.seen new) (touches.seen t)
+        store_elsewhere d.geometry (other_slot d.mark.slot) text (g.seen old) (g.seen new)
+        (touches.seen t)
 
     pub does_edit : (g.is_modelled → BothHold d.geometry (other_slot d.mark.slot) text (g.seen new))
         → (g.is_modelled → IsAtRest g new)

@@ -7,7 +7,8 @@ use Rattle.vab_disk.specs.Disk.{Image}
 use Rattle.vab_geometry.specs.declared.geometry.Geometry.{Geometry}
 use Rattle.vab_geometry.specs.Geometry.{IsGeometry}
 use Rattle.vab_gate.proofs.Blocks.{sectors_same}
-use Rattle.vab_lpstore.specs.Layout.{copy_sectors, primary_of, backup_of, primary_bytes, backup_bytes}
+use Rattle.vab_lpstore.specs.Layout.{copy_sectors, primary_of, backup_of, primary_bytes}
+use Rattle.vab_lpstore.specs.Layout.{backup_bytes}
 use Rattle.vab_lpstore.specs.Layout.{BothHold}
 use Rattle.vab_lpstore.specs.Storing.{SameElsewhere}
 use Rattle.vab_lpstore.proofs.StoreLaws.{backup_byte}
@@ -49,12 +50,14 @@ module _
   -- the backups stand behind both primaries
   backups : k * c + c ≤ (g.slots + j) * c
   backups =
-      let more : (k + 1) * c ≤ (g.slots + j) * c = mul-le-mul_right c (omega (arith, k_below, two)) in
+      let more : (k + 1) * c ≤ (g.slots + j) * c = mul-le-mul_right c (omega
+      (arith, k_below, two)) in
       omega (arith, more)
 
   backups_too : j * c + c ≤ (g.slots + k) * c
   backups_too =
-      let more : (j + 1) * c ≤ (g.slots + k) * c = mul-le-mul_right c (omega (arith, j_below, two)) in
+      let more : (j + 1) * c ≤ (g.slots + k) * c = mul-le-mul_right c (omega
+      (arith, j_below, two)) in
       omega (arith, more)
 
   primary_kept : primary_bytes g j new ≡ primary_bytes g j old

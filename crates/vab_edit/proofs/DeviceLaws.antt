@@ -1,5 +1,6 @@
 -- A kept device with another table and plan of the target is one.
-use Rattle.std.proofs.Common.{◌≡◌, ◌∙◌, ◌⊎◌, inl, inr, ℕ, zero, suc, ◌<◌, true, List, [], refl, sym, ap, subst, arith}
+use Rattle.std.proofs.Common.{◌≡◌, ◌∙◌, ◌⊎◌, inl, inr, ℕ, zero, suc, ◌<◌, true, List, [], refl, sym}
+use Rattle.std.proofs.Common.{ap, subst, arith}
 use Rattle.std.specs.Prelude.{map, is_some, Option, Some, if◌then◌else◌, ◌==◌}
 use Rattle.vab_tables.specs.declared.table.Table.{Table}
 use Rattle.vab_layout.specs.Layout.{layout_of}
@@ -8,7 +9,8 @@ use Rattle.vab_layout.proofs.LayoutLaws.{layout_keeps}
 use Rattle.vab_builder.specs.declared.edit.Edit.{Edit}
 use Rattle.vab_device.specs.declared.device.Planned.{Planned}
 use Rattle.vab_device.specs.declared.device.Device.{Device}
-use Rattle.vab_device.specs.Kept.{lies_in, table_of_slot, is_installing, IsTableOf, IsKeptTable, IsPlan}
+use Rattle.vab_device.specs.Kept.{lies_in, table_of_slot, is_installing, IsTableOf, IsKeptTable}
+use Rattle.vab_device.specs.Kept.{IsPlan}
 use Rattle.vab_device.specs.Kept.{ArePlanned, AreOfUpdate, IsUpdate, IsDevice}
 use Rattle.vab_device.specs.Phases.{plan_of}
 use Rattle.vab_edit.specs.Carried.{carried}

@@ -1,5 +1,6 @@
 -- What the table of effects says of an edit.
-use Rattle.std.proofs.Common.{◌≡◌, ◌∙◌, inl, inr, ℕ, true, false, List, Result, refl, sym, ap, arith}
+use Rattle.std.proofs.Common.{◌≡◌, ◌∙◌, inl, inr, ℕ, true, false, List, Result, refl, sym, ap}
+use Rattle.std.proofs.Common.{arith}
 use Rattle.std.specs.Prelude.{map, Option, Some, None, is_some, ◌==◌}
 use Rattle.vab_disk.specs.Disk.{Image}
 use Rattle.vab_tables.specs.declared.table.Table.{Table}
@@ -16,8 +17,10 @@ use Rattle.vab_model.specs.declared.command.Refusal.TheVariants.{NotInstalling}
 use Rattle.vab_model.specs.Effects.{refuses}
 use Rattle.vab_device.specs.declared.device.Device.{Device}
 use Rattle.vab_device.specs.Kept.{table_of_slot, IsDevice}
-use Rattle.vab_device.specs.Mounted.{Mounted, table_placed, places_on, entry_on, phase_on, state_on, mounted_on}
-use Rattle.vab_device.specs.Updates.{EditOf, layout_at, edited_effect, edit_effect, table_effect, effect_on}
+use Rattle.vab_device.specs.Mounted.{Mounted, table_placed, places_on, entry_on, phase_on, state_on}
+use Rattle.vab_device.specs.Mounted.{mounted_on}
+use Rattle.vab_device.specs.Updates.{EditOf, layout_at, edited_effect, edit_effect, table_effect}
+use Rattle.vab_device.specs.Updates.{effect_on}
 use Rattle.vab_edit.specs.Does.{command_by}
 use Rattle.vab_edit.specs.Prepared.{HasTables}
 use Rattle.vab_edit.proofs.DeviceLaws.{slot_cases}
@@ -34,7 +37,8 @@ by_edit m staged (Resize name bytes) = refl
 by_edit m staged (Delete name) = refl
 by_edit m staged (AddStore name bytes) = refl
 
-phase_is : (d : Device) (image : Image) → (mounted_on d image).state.phase ≡ phase_on d.mark.slot image d.plan
+phase_is : (d : Device) (image : Image) → (mounted_on d image).state.phase
+    ≡ phase_on d.mark.slot image d.plan
 unfolding state_on
 phase_is d image = refl
 
@@ -90,7 +94,8 @@ module _
       ≡ changed_by (other_slot d.mark.slot) (layout_of s) (layout_of t) edit
   plain_same edit =
       let twice : other_slot (other_slot d.mark.slot) ≡ d.mark.slot = omega (arith, kept.slot) in
-      ap (λ (n : ℕ). changed_by (other_slot d.mark.slot) (plain n (layout_of s)) (layout_of t) edit) (sym twice)
+      ap (λ (n : ℕ). changed_by (other_slot d.mark.slot) (plain n (layout_of s))
+      (layout_of t) edit) (sym twice)
       ∙ changed_plain (other_slot d.mark.slot) (layout_of s) (layout_of t) edit
 
   -- An edit of a device with an update gives what the builder gives of its tables.

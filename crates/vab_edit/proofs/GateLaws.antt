@@ -71,7 +71,8 @@ three_none : (a b c : Check)
     → first_fault (a ∷ b ∷ c ∷ []) ≡ None
 three_none a b c ea eb ec = (λ i. first_fault (ea i ∷ eb i ∷ ec i ∷ []))
 
-pub device_of_layout : (t u : Table) → u.devices ≡ t.devices → (layout_of u).device ≡ (layout_of t).device
+pub device_of_layout : (t u : Table) → u.devices ≡ t.devices → (layout_of u).device ≡
+    (layout_of t).device
 unfolding layout_of
 device_of_layout t u e = ap first_device e
 
@@ -86,7 +87,8 @@ leaves_both max k edit s t u is name b =
     let own = own_named o name old.parts b.part b.named in
     let was = first_is name old.parts b.part (sym (first_own o name old.parts own) ∙ b.named) in
     let stored = first_is (store_of name) old.parts b.store b.stored in
-    let sp = spared o (layout_of s) old (layout_of u) edit name is.layout own was.there stored.there in
+    let sp = spared o (layout_of s) old (layout_of u) edit name is.layout own was.there
+    stored.there in
     record { part = is.others name sp.part; store = is.others (store_of name) sp.store }
 
 -- ---- the disk
@@ -125,14 +127,16 @@ module _
 
   old_rules : (twin_check o s t ≡ None) × (own_check k s ≡ None)
   old_rules =
-      let first = first_kept (twin_check o s t) (own_check k s ∷ target_check o s t ∷ []) reads.parts in
+      let first = first_kept (twin_check o s t) (own_check k s ∷ target_check o s t ∷ [])
+      reads.parts in
       let second = first_kept (own_check k s) (target_check o s t ∷ []) first.1 in
       (first.0, second.0)
 
   twins : twin_check o s u ≡ None
   twins =
       let both = and_parts (are_devices s.devices t.devices) (are_twins o s.groups t.groups)
-      (check_kept (are_devices s.devices t.devices && are_twins o s.groups t.groups) (BadTable o) old_rules.0) in
+      (check_kept (are_devices s.devices t.devices && are_twins o s.groups t.groups)
+      (BadTable o) old_rules.0) in
       let devices = (devices_are s.devices u.devices).1
       ((devices_are s.devices t.devices).0 both.0 ∙ sym edited.device) in
       let groups = (twins_are o s.groups u.groups).1
@@ -153,7 +157,8 @@ module _
         let are : s ∷ t ∷ [] ≡ two.source ∷ two.target ∷ [] = two.are in
         let same : s ≡ two.source = cc in
         table_same size g k old image
-        (other_table g k o n old image rules.two below (other_below k) (other_not k below) fits others)
+        (other_table g k o n old image rules.two below (other_below k)
+        (other_not k below) fits others)
         ∙ two.source_read ∙ ap Ok (sym same)
 
     target_read : table_at size g o image ≡ Ok u

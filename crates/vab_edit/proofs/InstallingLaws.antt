@@ -60,7 +60,8 @@ two_tables size g a b image ts is =
     (λ t. tables_in size g [] image >>= λ ts. Ok (t ∷ ts)) rest.0 rest.1 in
     let last : (let r : Result (List Table) StartFault = Ok (t.0 ∷ []) in r ≡ Ok rest.0) = t.2 in
     let last_is : t.0 ∷ [] ≡ rest.0 = cc in
-    let whole : (let r : Result (List Table) StartFault = Ok (s.0 ∷ rest.0) in r ≡ Ok ts) = rest.2 in
+    let whole : (let r : Result (List Table) StartFault = Ok (s.0 ∷ rest.0) in r
+    ≡ Ok ts) = rest.2 in
     let whole_is : s.0 ∷ rest.0 ≡ ts = cc in
     record {
       source = s.0;

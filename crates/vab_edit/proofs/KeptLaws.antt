@@ -73,7 +73,8 @@ blocks_on size g d enough is lies =
 
 nothing_stored : (size first : ℕ) (base : List ℕ) (o : Option Part) (b : Bool)
     → ((q : Part) → o ≡ Some q → IsStore size (sectors_of first q.blocks))
-    → IsStored size base (option_map (λ (q : Part). sectors_of first q.blocks) o) (planned_image b None)
+    → IsStored size base (option_map (λ (q : Part). sectors_of first q.blocks) o)
+    (planned_image b None)
 nothing_stored size first base None false is = tt
 nothing_stored size first base None true is = tt
 nothing_stored size first base (Some q) false is = is q refl
@@ -92,7 +93,8 @@ module _
   on = blocks_on size g l.device enough rules.device lies
 
   once : All (λ p. IsDistinct p.blocks) (own_parts slot l.parts ++ store_parts slot l.parts)
-  once = pieces_once (λ (p : Part). p.blocks) (own_parts slot l.parts ++ store_parts slot l.parts) target.once
+  once = pieces_once (λ (p : Part). p.blocks) (own_parts slot l.parts ++ store_parts slot l.parts)
+      target.once
 
   in_cap : (p : Part) → Contains l.parts p → All (λ b. b < cap_of l.device) p.blocks
   in_cap p c =
@@ -105,7 +107,8 @@ module _
   store_rules name q own is =
       let found = first_is (store_of name) l.parts q is in
       let stored : is_store slot q.name ≡ true =
-      subst (λ (n : List ℕ). is_store slot n ≡ true) (sym found.named) (store_is_store slot name own) in
+      subst (λ (n : List ℕ). is_store slot n ≡ true) (sym found.named)
+      (store_is_store slot name own) in
       let among : Contains (own_parts slot l.parts ++ store_parts slot l.parts) q =
       Contains-append_right (own_parts slot l.parts) (store_parts slot l.parts) q
       (in_filter (λ (p : Part). is_store slot p.name) l.parts q found.among stored) in

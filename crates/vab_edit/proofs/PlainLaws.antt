@@ -43,7 +43,8 @@ module _
         (blocks_of_parts l
         ++ blocks_of_parts (own_parts slot target.parts ++ store_parts slot target.parts))) own
 
-    want : (p : Part) → want_of slot from.parts target.parts p ≡ want_of slot source.parts target.parts p
+    want : (p : Part) → want_of slot from.parts target.parts p
+        ≡ want_of slot source.parts target.parts p
     want p = λ i. record {
       before = length (before p.name i);
       blocks = length p.blocks;
@@ -61,7 +62,8 @@ module _
         ++ record { before = length (before_of slot from.parts name); blocks = n; store = 0 } ∷ [])
         ≡ used_by slot source.parts
         (wants_of slot source.parts target.parts
-        ++ record { before = length (before_of slot source.parts name); blocks = n; store = 0 } ∷ [])
+        ++ record { before = length (before_of slot source.parts name); blocks = n; store = 0 } ∷
+        [])
     created_used name n = used _ _ (λ i.
         map (λ p. want p i) (own_parts slot target.parts)
         ++ record { before = length (before name i); blocks = n; store = 0 } ∷ [])

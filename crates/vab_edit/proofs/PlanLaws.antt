@@ -25,7 +25,8 @@ use Rattle.vab_device.specs.Mounted.{bytes_at, blocks_there, entry_on}
 use Rattle.vab_device.specs.Mounted.{planned_on as image_planned}
 use Rattle.vab_device.specs.Phases.{planned_image, store_on, planned_on, plan_of}
 use Rattle.vab_device.specs.Stores.{Scanned, first_named, exceptions_of, sectors_seen}
-use Rattle.vab_device.specs.Updates.{image_or, if_written, entry_named, written_of, entry_by, plan_by}
+use Rattle.vab_device.specs.Updates.{image_or, if_written, entry_named, written_of, entry_by}
+use Rattle.vab_device.specs.Updates.{plan_by}
 use Rattle.vab_edit.specs.Carried.{planned_named, written_by, with_written, carried}
 use Rattle.vab_edit.proofs.NamedLaws.{first_is, base_eq, HasBoth, LeavesBoth, has_still}
 
@@ -57,7 +58,8 @@ store_updated slot source parts p is c there =
       | inl updated ↦ updated
       | inr none ↦
           let s = part_there (store_of p.name) parts there in
-          absurd (All-contains (λ (q : Part). q.name ≡ store_of p.name → ⊥) parts s.0 none.2 s.1 s.2)
+          absurd (All-contains (λ (q : Part). q.name ≡ store_of p.name
+          → ⊥) parts s.0 none.2 s.1 s.2)
     ]
 
 -- the lengths of stores
@@ -78,7 +80,8 @@ module _
     (slot : ℕ) (old new : Layout) (ss : List Scanned) (image : Image)
     (device : new.device ≡ old.device)
     (leaves : LeavesBoth slot old new)
-    (both : (name : List ℕ) (es : List Exception) → exceptions_of name ss ≡ Some es → HasBoth slot old name)
+    (both : (name : List ℕ) (es : List Exception) → exceptions_of name ss ≡ Some es
+    → HasBoth slot old name)
     (was_updated : (q : Part) → Contains (own_parts slot old.parts) q
     → has_part (store_of q.name) old.parts ≡ true → is_updated q ≡ true)
     (now_updated : (q : Part) → Contains (own_parts slot new.parts) q
@@ -211,7 +214,8 @@ module _
       go (Some es) (Some q) ex fo =
           let w = is_written p q es c ex fo in
           let was : planned_image (is_updated q) (exceptions_of q.name ss) ≡ Written es =
-          (λ i. planned_image (w.was i) ((ap (λ (n : List ℕ). exceptions_of n ss) w.named ∙ ex) i)) in
+          (λ i. planned_image (w.was i) ((ap (λ (n : List ℕ). exceptions_of n ss) w.named
+          ∙ ex) i)) in
           let now : planned_image (is_updated p) (exceptions_of p.name ss) ≡ Written es =
           (λ i. planned_image (w.now i) (ex i)) in
           ap (written_by (planned_on new [] p) (planned_on old ss q)) was
@@ -240,7 +244,8 @@ module _
       → (x : Option (List Exception)) (o : Option Part)
       → exceptions_of p.name ss ≡ x
       → first_named p.name (own_parts slot old.parts) ≡ o
-      → image_planned image (planned_on new ss p) (planned_image (is_updated p) (exceptions_of p.name ss))
+      → image_planned image (planned_on new ss p) (planned_image (is_updated p)
+      (exceptions_of p.name ss))
       ≡ image_or (is_updated p)
       (written_of (option_map (λ (q : Part). entry_on image (planned_on old ss q)) o))
   image_is p c None None ex fo =
@@ -271,7 +276,8 @@ module _
       ap (image_planned image (planned_on new ss p)) now
       ∙ (λ i. planned.Written
       (bytes_at image (sectors_seen (blocks_there (sym w.store i)) es 0 (sym w.map i))) (length es))
-      ∙ (λ i. image_or (sym w.now i) (if_written (image_planned image (planned_on old ss q) (sym was i))))
+      ∙ (λ i. image_or (sym w.now i) (if_written (image_planned image (planned_on old ss q)
+      (sym was i))))
 
   entry_is : (p : Part)
       → Contains (own_parts slot new.parts) p
@@ -284,7 +290,8 @@ module _
       (first_named p.name (own_parts slot old.parts)) refl refl
       ∙ ap (λ (e : Option PlanEntry). image_or (is_updated p) (written_of e)) (sym found) in
       let blocks = map_length new.device.first_logical_sector p.blocks in
-      let store = store_length new.device.first_logical_sector (first_named (store_of p.name) new.parts) in
+      let store = store_length new.device.first_logical_sector (first_named
+      (store_of p.name) new.parts) in
       (λ i. record {
         name = base_of p.name;
         group = group_of p.group;
@@ -308,4 +315,5 @@ module _
   plan_means =
       map_map (planned_on new ss) (entry_on image) (own_parts slot new.parts)
       ∙ map_among (λ p. entry_on image (planned_on new ss p))
-      (entry_by new (map (entry_on image) (plan_of slot old ss))) (own_parts slot new.parts) entry_is
+      (entry_by new (map (entry_on image) (plan_of slot old ss)))
+      (own_parts slot new.parts) entry_is

@@ -1,5 +1,6 @@
 -- What holds of a table that an edit gives.
-use Rattle.std.proofs.Common.{◌≡◌, ◌≢◌, ◌∙◌, inl, inr, ℕ, List, [], ◌++◌, Result, Ok, Err, refl, sym, ap}
+use Rattle.std.proofs.Common.{◌≡◌, ◌≢◌, ◌∙◌, inl, inr, ℕ, List, [], ◌++◌, Result, Ok, Err, refl}
+use Rattle.std.proofs.Common.{sym, ap}
 use Rattle.std.specs.Prelude.{AllPairs, nat_le}
 use Rattle.std.proofs.lemmas.List.Elements.{All-contains, Contains-append_right}
 use Rattle.std.proofs.lemmas.List.Kept.{AllPairs-filter}
@@ -92,12 +93,15 @@ pub plan_differs : (slot : ℕ) (u : Table)
 plan_differs slot u rules =
     let l : Layout = layout_of u in
     let own : List Part = own_parts slot l.parts in
-    let differ = AllPairs-filter (λ (a b : Part). a.name ≢ b.name) (λ p. is_of_slot slot p.name) l.parts
+    let differ = AllPairs-filter (λ (a b : Part). a.name ≢ b.name)
+    (λ p. is_of_slot slot p.name) l.parts
     (layout_keeps u rules).part_names in
     pairs_map (λ (a b : Planned). a.name ≢ b.name) (planned_on l []) own
-    (pairs_weaker (λ (a b : Part). a.name ≢ b.name) (λ (a b : Part). base_of a.name ≢ base_of b.name) own
+    (pairs_weaker (λ (a b : Part). a.name ≢ b.name) (λ (a b : Part). base_of a.name ≢ base_of
+    b.name) own
     (λ a b in_a in_b other e. other
     (of_slot slot a.name (of_filter (λ (p : Part). is_of_slot slot p.name) l.parts a in_a).1
     ∙ ap (λ (n : List ℕ). n ++ suffix_of slot) e
-    ∙ sym (of_slot slot b.name (of_filter (λ (p : Part). is_of_slot slot p.name) l.parts b in_b).1)))
+    ∙ sym (of_slot slot b.name (of_filter (λ (p : Part). is_of_slot slot p.name) l.parts b
+    in_b).1)))
     differ)

@@ -1,5 +1,6 @@
 -- A device with an update and its disk, by the tables that are kept.
-use Rattle.std.proofs.Common.{◌≡◌, ◌∙◌, inl, inr, ℕ, zero, suc, ◌<◌, List, [], ◌∷◌, true, false, Ok, refl, sym, ap, subst, arith}
+use Rattle.std.proofs.Common.{◌≡◌, ◌∙◌, inl, inr, ℕ, zero, suc, ◌<◌, List, [], ◌∷◌, true, false, Ok}
+use Rattle.std.proofs.Common.{refl, sym, ap, subst, arith}
 use Rattle.std.specs.Prelude.{Option, Some, is_some}
 use Rattle.vab_disk.specs.Disk.{Image}
 use Rattle.vab_bootctl.specs.declared.slots.Control.{Control}
@@ -60,7 +61,8 @@ pub stands_update : (d : Device) (size : ℕ) (image : Image) (s t : Table)
     → Represents d size image
     → StandsUpdate d size image s t
 stands_update d size image s t is has represents =
-    let phase = installing_phase d.mark.phase is.phase (sym is.planned ∙ ap is_some has.is_planned) in
+    let phase = installing_phase d.mark.phase is.phase (sym is.planned
+    ∙ ap is_some has.is_planned) in
     let st = stands_installing d size image represents phase in
     let slot : d.mark.slot ≡ st.slot = ap (λ (x : Device). x.mark.slot) st.is in
     let geometry : d.geometry ≡ st.geometry = ap (λ (x : Device). x.geometry) st.is in
@@ -68,12 +70,15 @@ stands_update d size image s t is has represents =
     let source : s ≡ st.source =
     some_same s st.source
     (sym has.source ∙ ap (λ (x : Device). table_of_slot x x.mark.slot) st.is
-    ∙ source_at st.slot st.statuses st.seen st.geometry st.source st.target st.scanned d.control below) in
+    ∙ source_at st.slot st.statuses st.seen st.geometry st.source st.target st.scanned d.control
+    below) in
     let target : t ≡ st.target =
     some_same t st.target
     (sym has.target ∙ ap (λ (x : Device). table_of_slot x (other_slot x.mark.slot)) st.is
-    ∙ target_at st.slot st.statuses st.seen st.geometry st.source st.target st.scanned d.control below) in
-    let all : (let x : ℕ × Geometry × Table × Table = (st.slot, st.geometry, st.source, st.target) in
+    ∙ target_at st.slot st.statuses st.seen st.geometry st.source st.target st.scanned d.control
+    below) in
+    let all : (let x : ℕ × Geometry × Table × Table = (st.slot, st.geometry, st.source, st.target)
+    in
     let y : ℕ × Geometry × Table × Table = (d.mark.slot, d.geometry, s, t) in x ≡ y) =
     (λ i. (sym slot i, sym geometry i, sym source i, sym target i)) in
     record {

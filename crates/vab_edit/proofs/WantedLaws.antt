@@ -28,7 +28,8 @@ read_name : (w : Wanted) (x : Result (List Exception) StoreFault) (s : Scanned)
     → scan_read w x ≡ Ok s
     → s.name ≡ w.name
 read_name w (Err fault) s is =
-    absurd (let bad : (let r : Result Scanned StartFault = Err (BadStore w.name) in r ≡ Ok s) = is in cc)
+    absurd (let bad : (let r : Result Scanned StartFault = Err (BadStore w.name) in r
+    ≡ Ok s) = is in cc)
 read_name w (Ok es) s is = elim (cases_Bool (eqb (length es) w.count)) [
   | inl t ↦
       let read : Scanned = record { name = w.name; exceptions = es } in
@@ -36,7 +37,8 @@ read_name w (Ok es) s is = elim (cases_Bool (eqb (length es) w.count)) [
       let same : read ≡ s = cc in
       sym (ap (λ (x : Scanned). x.name) same)
   | inr f ↦
-      let bad : (let r : Result Scanned StartFault = Err (BadStore w.name) in r ≡ Ok s) = rw f at is in
+      let bad : (let r : Result Scanned StartFault = Err (BadStore w.name) in r
+      ≡ Ok s) = rw f at is in
       absurd cc
 ]
 
@@ -62,9 +64,11 @@ scans_first : (first : ℕ) (st : PartStatus) (a b : Option Part)
     → scans_in (wanted_by first st a b ∷ ws) image ≡ Ok ss
     → ScansFirst st a b ws image ss
 scans_first first st None b ws image ss h =
-    absurd (let bad : (let r : Result (List Scanned) StartFault = Err (BadStore st.name) in r ≡ Ok ss) = h in cc)
+    absurd (let bad : (let r : Result (List Scanned) StartFault = Err (BadStore st.name) in r
+    ≡ Ok ss) = h in cc)
 scans_first first st (Some p) None ws image ss h =
-    absurd (let bad : (let r : Result (List Scanned) StartFault = Err (BadStore st.name) in r ≡ Ok ss) = h in cc)
+    absurd (let bad : (let r : Result (List Scanned) StartFault = Err (BadStore st.name) in r
+    ≡ Ok ss) = h in cc)
 scans_first first st (Some p) (Some q) ws image ss h =
     let w : Wanted = record {
       name = st.name;
@@ -74,7 +78,8 @@ scans_first first st (Some p) (Some q) ws image ss h =
     } in
     let s = bound (scan_at w image) (λ s. scans_in ws image >>= λ rest. Ok (s ∷ rest)) ss h in
     let rest = bound (scans_in ws image) (λ rest. Ok (s.0 ∷ rest)) ss s.2 in
-    let whole : (let r : Result (List Scanned) StartFault = Ok (s.0 ∷ rest.0) in r ≡ Ok ss) = rest.2 in
+    let whole : (let r : Result (List Scanned) StartFault = Ok (s.0 ∷ rest.0) in r
+    ≡ Ok ss) = rest.2 in
     let same : s.0 ∷ rest.0 ≡ ss = cc in
     record {
       part = p;
@@ -126,10 +131,12 @@ want_still slot old new st device leaves b =
     let n : ℕ = new.device.first_logical_sector in
     let o : ℕ = old.device.first_logical_sector in
     let first : n ≡ o = ap (λ (d : _). d.first_logical_sector) device in
-    let right : wanted_by o st (first_named st.name (own_parts slot old.parts)) (first_named (store_of st.name) old.parts)
+    let right : wanted_by o st (first_named st.name (own_parts slot old.parts)) (first_named
+    (store_of st.name) old.parts)
     ≡ wanted_by o st (Some b.part) (Some b.store) =
     (λ i. wanted_by o st (b.named i) (b.stored i)) in
-    let left : wanted_by n st (first_named st.name (own_parts slot new.parts)) (first_named (store_of st.name) new.parts)
+    let left : wanted_by n st (first_named st.name (own_parts slot new.parts)) (first_named
+    (store_of st.name) new.parts)
     ≡ wanted_by n st (Some still.both.part) (Some still.both.store) =
     (λ i. wanted_by n st (still.both.named i) (still.both.stored i)) in
     let mid : wanted_by n st (Some still.both.part) (Some still.both.store)

@@ -31,8 +31,8 @@ command_by (edits.Resize name bytes) = Resize name.now bytes
 command_by (edits.Delete name) = Delete name.now
 command_by (edits.AddStore name bytes) = Snapshot name.now bytes
 
--- What an edit may write: a sector of the copies of the target's table, with its part of the text of
--- a table; nothing where no update is installed.
+-- What an edit may write: a sector of the copies of the target's table, with its part of the text
+-- of a table; nothing where no update is installed.
 abbrev pub IsOfPhase : Option (List Planned) → Geometry → (target : ℕ) → ℕ → List ℕ → Type 0
 IsOfPhase None g target s b = ⊥
 IsOfPhase (Some plan) g target s b =

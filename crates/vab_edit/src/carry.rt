@@ -1,8 +1,8 @@
 //! A plan of another table that keeps what was written.
 
-ghost use Rattle.std.specs.Prelude.{◌≡◌, ◌≢◌, ℕ, ◌<◌, AllPairs, get_or, IfNone, IfSome, length, List, map};
-ghost use Rattle.std.specs.Prelude.{None, Some, slice_set};
-ghost use Rattle.vab_tables.specs.declared.table.Table.{Table as TableOf};
+ghost use Rattle.std.specs.Prelude.{◌≡◌, ◌≢◌, ℕ, ◌<◌, AllPairs};
+ghost use Rattle.std.specs.Prelude.{get_or, IfNone, IfSome, length, List, map};
+ghost use Rattle.std.specs.Prelude.{None, Some};
 ghost use Rattle.vab_edit.specs.Carried.{carried, planned_named, with_written};
 ghost use Rattle.vab_edit.specs.Prepared.{carried_over, with_target};
 

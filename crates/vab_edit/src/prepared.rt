@@ -101,7 +101,8 @@ fn given(
 /// What an edit gives of a device's tables, or the first refusal.
 pub fn prepare(alloc: Global, device: &Device, edit: &Edit) -> Result<Prepared, Refusal>
     requires kept { (size : ℕ) × IsDevice device.now size }
-    ensures prepared { IfOk result (λ p. IsPrepared device.now edit.now p.table p.text.items p.plan) }
+    ensures prepared { IfOk result
+        (λ p. IsPrepared device.now edit.now p.table p.text.items p.plan) }
     ensures refused { IfErr result (Refuses device.now edit.now) }
 {
     match tables(device) {

@@ -71,7 +71,7 @@ fn write_planned<D: Disk>(
     requires room { need_of (length olds.now) ≤ length store.now }
     requires ascend { IsStrictlyIncreasing olds.now }
     requires on_disk { IsOnDisk store.now (D.size d.old) }
-    requires apart { IsApart store.now }
+    requires apart { D.is_modelled → IsApart store.now }
     ensures scanned { D.is_modelled → OnOk result
         ((bound : ℕ)
         → All (λ old. old < bound) olds.now
@@ -102,8 +102,8 @@ pub fn write_snapshot<D: Disk>(
 ) -> Result<StoreView, PartFault>
     requires base_on_disk { IsOnDisk base.now (D.size d.old) }
     requires store_on_disk { IsOnDisk store.now (D.size d.old) }
-    requires apart { IsApart store.now }
-    requires disjoint { AreDisjoint base.now store.now }
+    requires apart { D.is_modelled → IsApart store.now }
+    requires disjoint { D.is_modelled → AreDisjoint base.now store.now }
     requires room { D.is_modelled
         → need_of (length (differing_of base.now (D.seen d.old) image.now blocks))
         ≤ length store.now }

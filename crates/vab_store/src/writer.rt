@@ -108,7 +108,7 @@ pub fn write_store<D: Disk>(
     requires room { need_of (length olds.now) ≤ length map.now }
     requires ascend { IsStrictlyIncreasing olds.now }
     requires on_disk { IsOnDisk map.now (D.size d.old) }
-    requires apart { IsApart map.now }
+    requires apart { D.is_modelled → IsApart map.now }
     ensures holds { D.is_modelled → OnOk result
         (HoldsStore map.now olds.now image.now (D.seen d.new) (need_of (length olds.now))) }
     // A scan then gives these exceptions, whatever the blocks held before.

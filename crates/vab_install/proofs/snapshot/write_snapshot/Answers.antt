@@ -41,5 +41,5 @@ returns-in-Ok-write_planned-clause-holds g c = λ t.
     subst (λ (es : List Exception). HoldsBlocks base store es new staged c.args.blocks)
     (sym ok.view)
     (holds_blocks base store olds staged begun new c.args.blocks (ok.exact t) holds
-    (λ i below. base_stays base store n begun new i c.requires.disjoint ok.room touched_begun
+    (λ i below. base_stays base store n begun new i (c.requires.disjoint t) ok.room touched_begun
     below))

@@ -39,7 +39,7 @@ loop-chunk-preserved g c =
         | inl before ↦
             let other : k ≢ n = omega (arith, before) in
             chunk_there map old new n k bytes
-            (apart_of map k n c.requires.apart (omega (arith, before, below)) below other)
+            (apart_of map k n (c.requires.apart t) (omega (arith, before, below)) below other)
             (ok.written t)
             ∙ c.loop-chunk.invariant.holds t k before
         | inr last ↦

@@ -1,0 +1,308 @@
+-- The blocks of a partition's exception store are those of no other partition and store.
+use Rattle.std.proofs.Common.{◌≡◌, ◌≢◌, ◌∙◌, inl, inr, ⊎_elim, ℕ, ◌+◌, ◌≤◌, ◌<◌}
+use Rattle.std.proofs.Common.{true, false, List, [], ◌∷◌, ◌++◌, cond, Result, refl, sym}
+use Rattle.std.proofs.Common.{ap, subst, arith}
+use Rattle.std.specs.Prelude.{Bool, Option, Some, None, map, ◌==◌, Contains}
+use Rattle.std.specs.Prelude.{option_map}
+use Rattle.std.specs.Str.{bytes_eq}
+use Rattle.std.proofs.lemmas.Bool.{cases_Bool, eqb-true}
+use Rattle.std.proofs.lemmas.List.Elements.{All-contains, Contains-append_left}
+use Rattle.std.proofs.lemmas.List.Elements.{Contains-append_right}
+use Rattle.vab_disk.specs.Calls.{IsBetween}
+use Rattle.vab_marks.specs.declared.status.PartStatus.{PartStatus}
+use Rattle.vab_names.specs.Names.{is_of_slot, is_store, store_of}
+use Rattle.vab_statuses.specs.Statuses.{status_named}
+use Rattle.vab_exceptions.specs.declared.area.Exception.{Exception}
+use Rattle.vab_tables.specs.declared.table.Table.{Table}
+use Rattle.vab_layout.specs.declared.layout.Part.{Part as PartOfLayout}
+use Rattle.vab_layout.specs.declared.layout.Layout.{Layout}
+use Rattle.vab_layout.specs.Layout.{layout_of, blocks_of_parts}
+use Rattle.vab_layout.specs.Slots.{other_slot, own_parts, store_parts, is_updated, IsTarget}
+use Rattle.vab_layout.specs.Slots.{IsStorePart}
+use Rattle.vab_builder.proofs.Counting.{Apart, in_piece, of_filter, in_filter, first, later}
+use Rattle.vab_builder.proofs.ChangedTarget.{apart_pair}
+use Rattle.vab_builder.proofs.NameCases.{same_name, other_name, own_or_store, store_is_store}
+use Rattle.vab_builder.proofs.NameCases.{store_of_same}
+use Rattle.vab_device.specs.declared.fault.StartFault.{StartFault}
+use Rattle.vab_device.specs.Kept.{block_sector, sectors_of, part_on, parts_of}
+use Rattle.vab_device.specs.Mounted.{blocks_there}
+use Rattle.vab_device.specs.Phases.{store_on, planned_on, planned_image}
+use Rattle.vab_device.specs.Reading.{IsOfBlocks, IsOfParts, IsOfImages, IsOfStores, IsOfWritten}
+use Rattle.vab_device.specs.Reading.{IsOfPlanned, table_for, parts_for}
+use Rattle.vab_device.specs.Stores.{Wanted, Scanned, first_named, wanted_by, wanted_of}
+use Rattle.vab_device.specs.Stores.{exceptions_of}
+use Rattle.vab_device.proofs.Behind.{seen_or}
+
+-- ---- sectors and blocks
+
+-- a sector of one of these blocks
+pub record OfBlock (first : ℕ) (blocks : List ℕ) (s : ℕ) : Type 0 where
+  pub block : ℕ
+  pub there : Contains blocks block
+  pub here : IsBetween (block_sector first block) (block_sector first block + 8) s
+
+mapped_block : (at : ℕ) (blocks : List ℕ) (s : ℕ)
+    → IsOfBlocks (map (block_sector at) blocks) s
+    → OfBlock at blocks s
+mapped_block at [] s is = absurd is
+mapped_block at (b ∷ bs) s (inl is) = record { block = b; there = first b bs; here = is }
+mapped_block at (b ∷ bs) s (inr is) =
+    let rest : OfBlock at bs s = mapped_block at bs s is in
+    record { block = rest.block; there = later b bs rest.block rest.there; here = rest.here }
+
+pub of_block : (at : ℕ) (blocks : List ℕ) (s : ℕ)
+    → IsOfBlocks (sectors_of at blocks) s
+    → OfBlock at blocks s
+unfolding sectors_of
+of_block at blocks s is = mapped_block at blocks s is
+
+-- it stands behind the first logical sector
+pub block_behind : (at : ℕ) (blocks : List ℕ) (s : ℕ)
+    → IsOfBlocks (sectors_of at blocks) s
+    → 4096 + at ≤ s
+block_behind at blocks s is =
+    let o : OfBlock at blocks s = of_block at blocks s is in omega (arith, o.here.from)
+
+-- blocks that have no block in common have no sector in common
+pub sectors_apart : (at : ℕ) (xs ys : List ℕ) (s : ℕ)
+    → Apart xs ys
+    → IsOfBlocks (sectors_of at xs) s
+    → IsOfBlocks (sectors_of at ys) s
+    → ⊥
+sectors_apart at xs ys s apart in_xs in_ys =
+    let x : OfBlock at xs s = of_block at xs s in_xs in
+    let y : OfBlock at ys s = of_block at ys s in_ys in
+    let same : y.block ≡ x.block =
+    omega (arith, x.here.from, x.here.below, y.here.from, y.here.below) in
+    apart x.block x.there (subst (λ (b : ℕ). Contains ys b) same y.there)
+
+-- ---- partitions by their name
+
+pub named_in : (name : List ℕ) (parts : List PartOfLayout) (p : PartOfLayout)
+    → first_named name parts ≡ Some p
+    → Contains parts p × (p.name ≡ name)
+named_in name [] p h = absurd cc
+named_in name (q ∷ qs) p h = elim (cases_Bool (bytes_eq q.name name)) [
+  | inl here ↦
+      let found : (let o : Option PartOfLayout = Some q in o ≡ Some p) = rw here at h in
+      let same : q ≡ p = cc in (
+        subst (λ (x : PartOfLayout). Contains (q ∷ qs) x) same (first q qs),
+        ap (λ (x : PartOfLayout). x.name) (sym same) ∙ same_name q.name name here,
+      )
+  | inr other ↦
+      let rest = named_in name qs p (rw other at h) in
+      (later q qs p rest.0, rest.1)
+]
+
+some_none : {A : Type 0} (x : A) (o : Option A) → o ≡ Some x → o ≡ None → ⊥
+some_none x o is none = let bad : Some x ≡ None = sym is ∙ none in absurd cc
+
+test_other : (b : Bool) (st : PartStatus) (o : Option PartStatus)
+    → cond b (Some st) o ≡ None
+    → (b ≡ false) × (o ≡ None)
+test_other true st o h = absurd cc
+test_other false st o h = (refl, h)
+
+-- ---- the store of a partition of the target
+
+module _ (slot : ℕ) (source target : List PartOfLayout) (name : List ℕ) (store : PartOfLayout)
+    (below : slot < 2)
+    (is : IsTarget (other_slot slot) source target)
+    (own : is_of_slot (other_slot slot) name ≡ true)
+    (found : first_named (store_of name) target ≡ Some store) where
+  there : Contains target store × (store.name ≡ store_of name)
+  there = named_in (store_of name) target store found
+
+  among : Contains (store_parts (other_slot slot) target) store
+  among =
+      in_filter (λ p. is_store (other_slot slot) p.name) target store there.0
+      (ap (is_store (other_slot slot)) there.1 ∙ store_is_store (other_slot slot) name own)
+
+  rule : IsStorePart (other_slot slot) source target store
+  rule = All-contains (IsStorePart (other_slot slot) source target)
+      (store_parts (other_slot slot) target) store is.stores among
+
+  -- no block of the source's
+  pub from_source : (p : PartOfLayout)
+      → Contains (own_parts slot source) p
+      → Apart p.blocks store.blocks
+  from_source p c b in_p in_store =
+      let again : other_slot (other_slot slot) ≡ slot = omega (arith, below) in
+      All-contains
+      (λ b. Contains (blocks_of_parts (own_parts (other_slot (other_slot slot)) source)) b → ⊥)
+      store.blocks b rule.apart in_store
+      (subst (λ (k : ℕ). Contains (blocks_of_parts (own_parts k source)) b) (sym again)
+      (in_piece (λ r. r.blocks) (own_parts slot source) p b c in_p))
+
+  abbrev both : List PartOfLayout
+  both = own_parts (other_slot slot) target ++ store_parts (other_slot slot) target
+
+  -- nor of the target's partitions
+  pub from_own : (p : PartOfLayout)
+      → Contains (own_parts (other_slot slot) target) p
+      → Apart p.blocks store.blocks
+  from_own p c =
+      apart_pair both p store is.once
+      (Contains-append_left (own_parts (other_slot slot) target)
+      (store_parts (other_slot slot) target) p c)
+      (Contains-append_right (own_parts (other_slot slot) target)
+      (store_parts (other_slot slot) target) store among)
+      (λ same.
+      own_or_store (other_slot slot) (other_slot slot) p.name
+      (of_filter (λ q. is_of_slot (other_slot slot) q.name) target p c).1
+      (ap (is_store (other_slot slot)) same
+      ∙ (of_filter (λ q. is_store (other_slot slot) q.name) target store among).1))
+
+  -- nor of another partition's store
+  pub from_store : (other : List ℕ) (q : PartOfLayout)
+      → is_of_slot (other_slot slot) other ≡ true
+      → first_named (store_of other) target ≡ Some q
+      → other ≢ name
+      → Apart q.blocks store.blocks
+  from_store other q of h differs =
+      let q_there = named_in (store_of other) target q h in
+      let q_among : Contains (store_parts (other_slot slot) target) q =
+      in_filter (λ p. is_store (other_slot slot) p.name) target q q_there.0
+      (ap (is_store (other_slot slot)) q_there.1 ∙ store_is_store (other_slot slot) other of) in
+      apart_pair both q store is.once
+      (Contains-append_right (own_parts (other_slot slot) target)
+      (store_parts (other_slot slot) target) q q_among)
+      (Contains-append_right (own_parts (other_slot slot) target)
+      (store_parts (other_slot slot) target) store among)
+      (λ same. differs (store_of_same other name (sym q_there.1 ∙ same ∙ there.1)))
+
+  -- ---- the same of sectors
+
+  module _ (at : ℕ) (s : ℕ) (in_store : IsOfBlocks (sectors_of at store.blocks) s) where
+    parts_miss : (parts : List PartOfLayout)
+        → ((p : PartOfLayout) → Contains parts p → Apart p.blocks store.blocks)
+        → IsOfParts (map (part_on at) parts) s
+        → ⊥
+    parts_miss [] apart is = is
+    parts_miss (p ∷ ps) apart (inl is) =
+        sectors_apart at p.blocks store.blocks s (apart p (first p ps)) is in_store
+    parts_miss (p ∷ ps) apart (inr is) =
+        parts_miss ps (λ q c. apart q (later p ps q c)) is
+
+    wanted_miss : (st : PartStatus) (p q : Option PartOfLayout)
+        (ws : List (Result Wanted StartFault))
+        → first_named st.name (own_parts (other_slot slot) target) ≡ p
+        → first_named (store_of st.name) target ≡ q
+        → st.name ≢ name
+        → IsOfStores (wanted_by at st p q ∷ ws) s
+        → IsOfStores ws s
+    wanted_miss st None q ws p_is q_is differs is = is
+    wanted_miss st (Some p) None ws p_is q_is differs is = is
+    wanted_miss st (Some p) (Some q) ws p_is q_is differs (inl is) =
+        let p_there = named_in st.name (own_parts (other_slot slot) target) p p_is in
+        let of : is_of_slot (other_slot slot) st.name ≡ true =
+        ap (is_of_slot (other_slot slot)) (sym p_there.1)
+        ∙ (of_filter (λ r. is_of_slot (other_slot slot) r.name) target p p_there.0).1 in
+        absurd (sectors_apart at q.blocks store.blocks s (from_store st.name q of q_is differs) is
+        in_store)
+    wanted_miss st (Some p) (Some q) ws p_is q_is differs (inr is) = is
+
+    pub stores_miss : (l : Layout) (sts : List PartStatus)
+        → l.parts ≡ target
+        → l.device.first_logical_sector ≡ at
+        → status_named name sts ≡ None
+        → IsOfStores (map (wanted_of (other_slot slot) l) sts) s
+        → ⊥
+    stores_miss l [] parts begins none is = is
+    stores_miss l (st ∷ sts) parts begins none is =
+        let t = test_other (bytes_eq st.name name) st (status_named name sts) none in
+        let ws : List (Result Wanted StartFault) = map (wanted_of (other_slot slot) l) sts in
+        let here : IsOfStores
+        (wanted_by at st (first_named st.name (own_parts (other_slot slot) target))
+        (first_named (store_of st.name) target) ∷ ws) s =
+        subst (λ (ps : List PartOfLayout).
+        IsOfStores
+        (wanted_by at st (first_named st.name (own_parts (other_slot slot) ps))
+        (first_named (store_of st.name) ps) ∷ ws) s) parts
+        (subst (λ (k : ℕ).
+        IsOfStores
+        (wanted_by k st (first_named st.name (own_parts (other_slot slot) l.parts))
+        (first_named (store_of st.name) l.parts) ∷ ws) s) begins is) in
+        stores_miss l sts parts begins t.1
+        (wanted_miss st (first_named st.name (own_parts (other_slot slot) target))
+        (first_named (store_of st.name) target) ws refl refl
+        (other_name st.name name t.0) here)
+
+    -- ---- what is planned
+
+    place_miss : (p : PartOfLayout) (q : Option PartOfLayout)
+        → is_of_slot (other_slot slot) p.name ≡ true
+        → first_named (store_of p.name) target ≡ q
+        → p.name ≢ name
+        → IsOfBlocks (blocks_there (option_map (λ st. sectors_of at st.blocks) q)) s
+        → ⊥
+    place_miss p None of h differs is = is
+    place_miss p (Some q) of h differs is =
+        sectors_apart at q.blocks store.blocks s (from_store p.name q of h differs) is in_store
+
+    written_miss : (l : Layout) (ss : List Scanned) (p : PartOfLayout) (b : Bool)
+        (o : Option (List Exception))
+        → l.parts ≡ target
+        → l.device.first_logical_sector ≡ at
+        → Contains (own_parts (other_slot slot) target) p
+        → exceptions_of p.name ss ≡ o
+        → exceptions_of name ss ≡ None
+        → IsOfWritten (planned_on l ss p) (planned_image b o) s
+        → ⊥
+    written_miss l ss p false o parts begins c o_is none is = is
+    written_miss l ss p true None parts begins c o_is none is = is
+    written_miss l ss p true (Some es) parts begins c o_is none is =
+        let differs : p.name ≢ name =
+        λ same. some_none es (exceptions_of p.name ss) o_is
+        (ap (λ (n : List ℕ). exceptions_of n ss) same ∙ none) in
+        let of : is_of_slot (other_slot slot) p.name ≡ true =
+        (of_filter (λ r. is_of_slot (other_slot slot) r.name) target p c).1 in
+        ⊎_elim
+        (λ here.
+        place_miss p (first_named (store_of p.name) target) of refl differs
+        (subst (λ (ps : List PartOfLayout).
+        IsOfBlocks (blocks_there (option_map (λ st. sectors_of at st.blocks)
+        (first_named (store_of p.name) ps))) s) parts
+        (subst (λ (k : ℕ).
+        IsOfBlocks (blocks_there (option_map (λ st. sectors_of k st.blocks)
+        (first_named (store_of p.name) l.parts))) s) begins here)))
+        (λ there.
+        sectors_apart at p.blocks store.blocks s (from_own p c)
+        (subst (λ (k : ℕ). IsOfBlocks (sectors_of k p.blocks) s) begins there) in_store)
+        (seen_or (blocks_there (store_on l p.name)) es 0
+        (sectors_of l.device.first_logical_sector p.blocks) s is)
+
+    pub planned_miss : (l : Layout) (ss : List Scanned) (parts : List PartOfLayout)
+        → l.parts ≡ target
+        → l.device.first_logical_sector ≡ at
+        → ((p : PartOfLayout) → Contains parts p → Contains (own_parts (other_slot slot) target) p)
+        → exceptions_of name ss ≡ None
+        → IsOfPlanned (map (planned_on l ss) parts) s
+        → ⊥
+    planned_miss l ss [] is_target begins within none is = is
+    planned_miss l ss (p ∷ ps) is_target begins within none (inl is) =
+        written_miss l ss p (is_updated p) (exceptions_of p.name ss) is_target begins
+        (within p (first p ps)) refl none is
+    planned_miss l ss (p ∷ ps) is_target begins within none (inr is) =
+        planned_miss l ss ps is_target begins (λ q c. within q (later p ps q c)) none is
+
+    -- ---- the images of the source
+
+    pub images_miss : (k : ℕ) (t u : Table) (others : List Table)
+        → (layout_of t).parts ≡ source
+        → (layout_of t).device.first_logical_sector ≡ at
+        → IsOfImages (parts_for k (slot == k)
+        (table_for k (slot ∷ other_slot slot ∷ []) (t ∷ u ∷ others))) s
+        → ⊥
+    images_miss k t u others is_source begins is = elim (cases_Bool (slot == k)) [
+      | inl here ↦
+          let found : IsOfParts (parts_of k (layout_of t)) s = rw here at is in
+          let same : slot ≡ k = eqb-true slot k here in
+          parts_miss (own_parts slot source) from_source
+          (subst (λ (j : ℕ). IsOfParts (map (part_on at) (own_parts j source)) s) (sym same)
+          (subst (λ (ps : List PartOfLayout). IsOfParts (map (part_on at) (own_parts k ps)) s)
+          is_source
+          (subst (λ (j : ℕ). IsOfParts (map (part_on j) (own_parts k (layout_of t).parts)) s)
+          begins found)))
+      | inr other ↦ rw other at is
+    ]

@@ -1,0 +1,212 @@
+-- What the table of effects says of a flash, by what is kept of the device.
+use Rattle.std.proofs.Common.{◌≡◌, ◌∙◌, ℕ, zero, suc, ◌<◌, ◌≤◌, true, false, List, [], ◌∷◌, refl}
+use Rattle.std.proofs.Common.{sym}
+use Rattle.std.proofs.Common.{subst, ap, length, get_or, inl, inr, arith}
+use Rattle.std.specs.Prelude.{Bool, ◌==◌, Option, Some, None, map, All, nat_lt, if◌then◌else◌}
+use Rattle.std.specs.Str.{bytes_eq}
+use Rattle.std.proofs.lemmas.Bool.{cases_Bool, ltb-false}
+use Rattle.std.proofs.lemmas.List.Elements.{All-head, All-tail}
+use Rattle.std.proofs.lemmas.List.Quantifiers.{position-Some}
+use Rattle.std.proofs.lemmas.List.Sums.{fails_before_first}
+use Rattle.std.specs.List.{position_or_len}
+use Rattle.vab_disk.specs.Disk.{Image}
+use Rattle.vab_names.specs.Names.{is_full, base_of}
+use Rattle.vab_layout.specs.Slots.{other_slot}
+use Rattle.vab_model.specs.declared.state.Phase.TheVariants.{Installing}
+use Rattle.vab_model.specs.declared.command.Refusal.TheVariants as refusals
+use Rattle.vab_model.specs.Commands.{Flash}
+use Rattle.vab_model.specs.Effects.{refuses}
+use Rattle.vab_device.specs.declared.device.Planned.{Planned}
+use Rattle.vab_device.specs.declared.device.Device.{Device}
+use Rattle.vab_device.specs.Mounted.{state_on, mounted_on, entry_on, phase_on}
+use Rattle.vab_device.specs.Updates.{effect_on, flash_effect, entry_effect, entry_named}
+use Rattle.vab_device.specs.Updates.{if_room, differences, source_bytes, bytes_of}
+use Rattle.vab_bootctl.specs.declared.slots.Control.{Control}
+use Rattle.vab_model.specs.declared.state.State.{State}
+use Rattle.vab_model.specs.declared.state.Phase.TheVariants.{Idle}
+use Rattle.vab_model.specs.State.{image_named}
+use Rattle.vab_device.specs.declared.device.Part.{Part}
+use Rattle.vab_device.specs.Mounted.{bytes_at, image_on, images_on}
+use Rattle.vab_flash.specs.Chosen.{place_of, HasPlace, IsChosen, plan_or, planned_at, no_planned}
+use Rattle.vab_flash.specs.Chosen.{blocks_or, part_named, part_among, part_at}
+
+pub flash_idle : (d : Device) (image : Image) (staged : Option (List ℕ)) (name : List ℕ)
+    → d.plan ≡ None
+    → effect_on (mounted_on d image) staged (Flash name) ≡ refuses refusals.NotInstalling
+unfolding state_on
+flash_idle d image staged name none =
+    (λ k. flash_effect (mounted_on d image) staged name (phase_on d.mark.slot image (none k)))
+
+-- of a plan
+pub flash_planned : (d : Device) (image : Image) (staged : Option (List ℕ)) (name : List ℕ)
+    (plan : List Planned)
+    → d.plan ≡ Some plan
+    → effect_on (mounted_on d image) staged (Flash name)
+    ≡ flash_effect (mounted_on d image) staged name
+    (Installing d.mark.slot (map (entry_on image) plan))
+unfolding state_on
+flash_planned d image staged name plan is =
+    (λ k. flash_effect (mounted_on d image) staged name (phase_on d.mark.slot image (is k)))
+
+pub flash_named : (d : Device) (image : Image) (staged : Option (List ℕ)) (name : List ℕ)
+    (plan : List Planned)
+    → d.plan ≡ Some plan
+    → is_full (other_slot d.mark.slot) name ≡ true
+    → effect_on (mounted_on d image) staged (Flash name)
+    ≡ entry_effect (mounted_on d image) d.mark.slot (map (entry_on image) plan) staged
+    (entry_named (base_of name) (map (entry_on image) plan))
+flash_named d image staged name plan is full =
+    flash_planned d image staged name plan is
+    ∙ (λ k.
+    if full k
+    then entry_effect (mounted_on d image) d.mark.slot (map (entry_on image) plan) staged
+    (entry_named (base_of name) (map (entry_on image) plan))
+    else refuses refusals.BadName)
+
+pub flash_other : (d : Device) (image : Image) (staged : Option (List ℕ)) (name : List ℕ)
+    (plan : List Planned)
+    → d.plan ≡ Some plan
+    → is_full (other_slot d.mark.slot) name ≡ false
+    → effect_on (mounted_on d image) staged (Flash name) ≡ refuses refusals.BadName
+flash_other d image staged name plan is other =
+    flash_planned d image staged name plan is
+    ∙ (λ k.
+    if other k
+    then entry_effect (mounted_on d image) d.mark.slot (map (entry_on image) plan) staged
+    (entry_named (base_of name) (map (entry_on image) plan))
+    else refuses refusals.BadName)
+
+-- ---- the entry of a name
+
+pub none_named : (image : Image) (base : List ℕ) (plan : List Planned)
+    → All (λ p. bytes_eq p.name base ≡ false) plan
+    → entry_named base (map (entry_on image) plan) ≡ None
+none_named image base [] all = refl
+none_named image base (p ∷ ps) all =
+    let other : bytes_eq p.name base ≡ false =
+    All-head (λ p. bytes_eq p.name base ≡ false) p ps all in
+    rw other (none_named image base ps (All-tail (λ p. bytes_eq p.name base ≡ false) p ps all))
+
+pub first_named_entry : (image : Image) (base : List ℕ) (plan : List Planned) (k : ℕ) (d : Planned)
+    → k < length plan
+    → bytes_eq (get_or plan k d).name base ≡ true
+    → ((j : ℕ) → j < k → bytes_eq (get_or plan j d).name base ≡ false)
+    → entry_named base (map (entry_on image) plan) ≡ Some (entry_on image (get_or plan k d))
+first_named_entry image base [] k d below is before = absurd (omega (arith, below))
+first_named_entry image base (p ∷ ps) zero d below is before = rw is refl
+first_named_entry image base (p ∷ ps) (suc k) d below is before =
+    let other : bytes_eq p.name base ≡ false = before 0 (omega arith) in
+    rw other (first_named_entry image base ps k d (omega (arith, below)) is
+    (λ j lt. before (suc j) (omega (arith, lt))))
+
+pub place_named : (image : Image) (base : List ℕ) (plan : List Planned) (k : ℕ) (d : Planned)
+    → place_of base plan ≡ Some k
+    → entry_named base (map (entry_on image) plan) ≡ Some (entry_on image (get_or plan k d))
+place_named image base plan k d is =
+    let at = position-Some (λ p. bytes_eq p.name base) plan k d is in
+    first_named_entry image base plan k d at.0 at.1 at.2
+
+all_fail : (base : List ℕ) (plan : List Planned)
+    → place_of base plan ≡ None
+    → All (λ p. bytes_eq p.name base ≡ false) plan
+all_fail base plan is =
+    let test : Planned → Bool = λ p. bytes_eq p.name base in
+    elim (cases_Bool (nat_lt (position_or_len test plan) (length plan))) [
+      | inl below ↦
+          absurd (let bad : Some (position_or_len test plan) ≡ None = rw below at is in cc)
+      | inr not_below ↦
+          let past : length plan ≤ position_or_len test plan =
+          ltb-false (position_or_len test plan) (length plan) not_below in
+          λ k d lt. fails_before_first test plan k d (omega (arith, lt, past))
+    ]
+
+pub no_place : (image : Image) (base : List ℕ) (plan : List Planned)
+    → place_of base plan ≡ None
+    → entry_named base (map (entry_on image) plan) ≡ None
+no_place image base plan is =
+    none_named image base plan (all_fail base plan is)
+
+pub flash_unknown : (d : Device) (image : Image) (staged : Option (List ℕ)) (name : List ℕ)
+    (plan : List Planned)
+    → d.plan ≡ Some plan
+    → is_full (other_slot d.mark.slot) name ≡ true
+    → place_of (base_of name) plan ≡ None
+    → effect_on (mounted_on d image) staged (Flash name) ≡ refuses refusals.Unknown
+flash_unknown d image staged name plan is full none =
+    flash_named d image staged name plan is full
+    ∙ ap (entry_effect (mounted_on d image) d.mark.slot (map (entry_on image) plan) staged)
+    (no_place image (base_of name) plan none)
+
+-- of the partition at its place
+pub flash_at : (d : Device) (image : Image) (staged : Option (List ℕ)) (name : List ℕ) (place : ℕ)
+    → HasPlace d name place
+    → effect_on (mounted_on d image) staged (Flash name)
+    ≡ entry_effect (mounted_on d image) d.mark.slot (map (entry_on image) (plan_or d.plan)) staged
+    (Some (entry_on image (planned_at d place)))
+flash_at d image staged name place has =
+    let plan : List Planned = has.plan in
+    let is : plan_or d.plan ≡ plan = ap plan_or has.plan_is in
+    let at_plan : effect_on (mounted_on d image) staged (Flash name)
+    ≡ entry_effect (mounted_on d image) d.mark.slot (map (entry_on image) plan) staged
+    (Some (entry_on image (get_or plan place no_planned))) =
+    flash_named d image staged name plan has.plan_is has.full
+    ∙ ap (entry_effect (mounted_on d image) d.mark.slot (map (entry_on image) plan) staged)
+    (place_named image (base_of name) plan place no_planned has.place_is) in
+    subst
+    (λ (ps : List Planned).
+    effect_on (mounted_on d image) staged (Flash name)
+    ≡ entry_effect (mounted_on d image) d.mark.slot (map (entry_on image) ps) staged
+    (Some (entry_on image (get_or ps place no_planned))))
+    (sym is) at_plan
+
+pub flash_chosen : (d : Device) (image : Image) (staged : Option (List ℕ)) (name : List ℕ)
+    (place : ℕ) (bytes : List ℕ) (chosen : IsChosen d name staged place bytes)
+    → effect_on (mounted_on d image) staged (Flash name)
+    ≡ if_room (mounted_on d image) d.mark.slot (map (entry_on image) (plan_or d.plan))
+    (entry_on image (planned_at d place)) (length chosen.fits.store) bytes
+    (differences
+    (source_bytes (state_on d image) d.mark.slot (planned_at d place).name) bytes
+    (length (planned_at d place).map))
+flash_chosen d image staged name place bytes chosen =
+    flash_at d image staged name place chosen.has
+    ∙ chosen.fits.effect (mounted_on d image) d.mark.slot (map (entry_on image) (plan_or d.plan))
+    image
+
+-- ---- the source's image
+
+named_bytes : (image : Image) (base : List ℕ) (ps : List Part)
+    → bytes_of (image_named base (map (image_on image) ps))
+    ≡ bytes_at image (blocks_or (part_named base ps))
+unfolding bytes_at
+named_bytes image base [] = refl
+named_bytes image base (p ∷ ps) = elim (cases_Bool (bytes_eq p.name base)) [
+  | inl here ↦ rw here refl
+  | inr other ↦ rw other (named_bytes image base ps)
+]
+
+no_control : Control
+no_control = record {
+  current = 0;
+  a = record { priority = 0; tries = 0; successful = false };
+  b = record { priority = 0; tries = 0; successful = false };
+}
+
+no_state : State
+no_state = record { cap = 0; groups = []; control = no_control; a = None; b = None; phase = Idle }
+
+among_bytes : (image : Image) (base : List ℕ) (o : Option (List Part))
+    → source_bytes (record no_state { a = images_on image o }) 0 base ≡ bytes_at image
+    (blocks_or (part_among base o))
+unfolding bytes_at
+among_bytes image base None = refl
+among_bytes image base (Some ps) = named_bytes image base ps
+
+-- its bytes are those of its partition's blocks
+pub source_is : (d : Device) (image : Image) (base : List ℕ)
+    → source_bytes (state_on d image) d.mark.slot base
+    ≡ bytes_at image (blocks_or (part_at d d.mark.slot base))
+unfolding state_on
+source_is d image base = elim (cases_Bool (d.mark.slot == 0)) [
+  | inl a ↦ rw a (among_bytes image base d.a)
+  | inr b ↦ rw b (among_bytes image base d.b)
+]

@@ -1,0 +1,126 @@
+-- A device with an update that is installed, by what is read of its disk.
+use Rattle.std.proofs.Common.{◌≡◌, ◌∙◌, ℕ, ◌-◌, List, [], ◌∷◌, Ok, refl, sym, ap, subst}
+use Rattle.std.specs.Prelude.{Option, Some}
+use Rattle.vab_disk.specs.Disk.{Image}
+use Rattle.vab_bootctl.specs.declared.slots.Control.{Control}
+use Rattle.vab_bootctl.specs.Control.{control_of}
+use Rattle.vab_marks.specs.declared.mark.MarkPhase.{MarkPhase}
+use Rattle.vab_marks.specs.declared.mark.MarkPhase.TheVariants as marks
+use Rattle.vab_marks.specs.declared.status.PartStatus.{PartStatus}
+use Rattle.vab_geometry.specs.declared.geometry.Geometry.{Geometry}
+use Rattle.vab_tables.specs.declared.table.Table.{Table}
+use Rattle.vab_device.specs.declared.device.Planned.{Planned}
+use Rattle.vab_device.specs.declared.device.Device.{Device}
+use Rattle.vab_device.specs.Phases.{phase_at}
+use Rattle.vab_device.specs.Reading.{Read, kept, Reads, AgreeCopies, Represents}
+use Rattle.vab_device.specs.Stores.{Scanned}
+
+-- what is read of a disk with an update from this slot, with the tables of source and target
+abbrev pub installing_read : ℕ
+    → List (Option PartStatus)
+    → Control
+    → Geometry
+    → Table
+    → Table
+    → List Table
+    → List Scanned
+    → Read
+installing_read slot statuses control geometry s t others scanned = record {
+  mark = record { phase = marks.Installing; slot = slot };
+  statuses = statuses;
+  control = control;
+  geometry = geometry;
+  tables = s ∷ t ∷ others;
+  scanned = scanned;
+}
+
+-- the device is read so
+pub record Installs (d : Device) (size : ℕ) (image : Image) : Type 0 where
+  pub slot : ℕ
+  pub statuses : List (Option PartStatus)
+  pub seen : Control
+  pub geometry : Geometry
+  pub source : Table
+  pub target : Table
+  pub others : List Table
+  pub scanned : List Scanned
+  pub reads : Reads size (installing_read slot statuses seen geometry source target others scanned)
+      image
+  pub is : d
+      ≡ record (kept (installing_read slot statuses seen geometry source target others scanned)) {
+        control = d.control;
+      }
+  pub control : control_of (image 4) ≡ Ok d.control
+  pub copies : AgreeCopies geometry (slot ∷ (1 - slot) ∷ []) (source ∷ target ∷ others) image
+
+pub installs_represents : (d : Device) (size : ℕ) (image : Image)
+    → Installs d size image
+    → Represents d size image
+installs_represents d size image i = record {
+  read = installing_read i.slot i.statuses i.seen i.geometry i.source i.target i.others i.scanned;
+  reads = i.reads;
+  is = i.is;
+  control = i.control;
+  copies = i.copies;
+}
+
+-- the tables of a phase with a plan, and that phase
+record Planning (m : MarkPhase) (ts : List Table) : Type 0 where
+  installing : m ≡ marks.Installing
+  source : Table
+  target : Table
+  others : List Table
+  tables : ts ≡ source ∷ target ∷ others
+
+planning : (m : MarkPhase) (slot : ℕ) (ts : List Table) (ss : List Scanned) (plan : List Planned)
+    → (phase_at m).plan slot ts ss ≡ Some plan
+    → Planning m ts
+planning marks.Idle slot ts ss plan h = absurd cc
+planning marks.Installing slot [] ss plan h = absurd cc
+planning marks.Installing slot (s ∷ []) ss plan h = absurd cc
+planning marks.Installing slot (s ∷ t ∷ ts) ss plan h =
+    record { installing = refl; source = s; target = t; others = ts; tables = refl }
+planning marks.Staged slot ts ss plan h = absurd cc
+planning marks.Merging slot ts ss plan h = absurd cc
+planning marks.Completed slot ts ss plan h = absurd cc
+
+-- a device with a plan
+pub installs_of : (d : Device) (size : ℕ) (image : Image) (plan : List Planned)
+    → Represents d size image
+    → d.plan ≡ Some plan
+    → Installs d size image
+installs_of d size image plan is planned =
+    let r : Read = is.read in
+    let p : Planning r.mark.phase r.tables =
+    planning r.mark.phase r.mark.slot r.tables r.scanned plan
+    (sym (ap (λ (k : Device). k.plan) is.is) ∙ planned) in
+    let form : Read =
+    installing_read r.mark.slot r.statuses r.control r.geometry p.source p.target p.others
+    r.scanned in
+    let e : r ≡ form =
+    (λ i. record {
+      mark = record { phase = p.installing i; slot = r.mark.slot };
+      statuses = r.statuses;
+      control = r.control;
+      geometry = r.geometry;
+      tables = p.tables i;
+      scanned = r.scanned;
+    }) in
+    record {
+      slot = r.mark.slot;
+      statuses = r.statuses;
+      seen = r.control;
+      geometry = r.geometry;
+      source = p.source;
+      target = p.target;
+      others = p.others;
+      scanned = r.scanned;
+      reads = subst (λ (x : Read). Reads size x image) e is.reads;
+      is = subst (λ (x : Read). d ≡ record (kept x) { control = d.control }) e is.is;
+      control = is.control;
+      copies =
+          subst
+          (λ (x : Read).
+          AgreeCopies x.geometry ((phase_at x.mark.phase).tables x.mark.slot) x.tables image)
+          e is.copies;
+    }

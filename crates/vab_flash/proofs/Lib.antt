@@ -1,0 +1,14 @@
+pub mod DifferencesLaws
+pub mod FilledLaws
+pub mod JoinLaws
+pub mod InstallingLaws
+pub mod ApartLaws
+pub mod DeadLaws
+pub mod GateLaws
+pub mod ChosenLaws
+pub mod DoesLaws
+pub mod PlacedLaws
+pub mod SourceLaws
+pub mod ReadyLaws
+pub mod FlashLaws
+pub mod GatedLaws

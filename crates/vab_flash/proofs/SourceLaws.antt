@@ -1,0 +1,177 @@
+-- The source's partition beside the planned one and its store.
+use Rattle.std.proofs.Common.{◌≡◌, ◌≢◌, ◌∙◌, inl, inr, ℕ, ◌≤◌, ◌<◌, true}
+use Rattle.std.proofs.Common.{false, List, [], ◌∷◌, ◌++◌, length, get_or, take, refl, sym, ap}
+use Rattle.std.proofs.Common.{subst, arith}
+use Rattle.std.specs.Prelude.{None, map, Contains, AllPairs, nat_lt}
+use Rattle.std.specs.Str.{bytes_eq}
+use Rattle.std.proofs.lemmas.Bool.{cases_Bool, cases_lt, ltb-true}
+use Rattle.std.proofs.lemmas.List.{get_or-map, length-map, get_or-take}
+use Rattle.std.proofs.lemmas.List.Elements.{Contains-get_or}
+use Rattle.vab_disk.specs.Disk.{Image}
+use Rattle.vab_names.specs.Names.{is_of_slot, base_of, in_slot, suffix_of}
+use Rattle.vab_names.specs.NameLaws.{of_slot, base_of-append}
+use Rattle.vab_exceptions.specs.declared.area.Exception.{Exception}
+use Rattle.vab_store.specs.Layout.{IsApart, AreDisjoint}
+use Rattle.vab_store.specs.View.{view_of, exception_at}
+use Rattle.vab_store.specs.Writing.{planned_of, planned_at}
+use Rattle.vab_store.proofs.ViewLaws.{view_out}
+use Rattle.vab_store.proofs.WrittenLaws.{planned_of-at}
+use Rattle.vab_install.specs.Differing.{differing_of}
+use Rattle.vab_install.proofs.DifferingLaws.{StandsIn, differing_has}
+use Rattle.vab_exceptions.proofs.EntryLaws.{length-firsts}
+use Rattle.vab_layout.specs.declared.layout.Part.{Part as PartOfLayout}
+use Rattle.vab_layout.specs.Slots.{own_parts, blocks_named}
+use Rattle.vab_builder.proofs.Counting.{Apart, first as first_of, later}
+use Rattle.vab_builder.proofs.NameCases.{same_name, ne_name, eq_name, other_name, in_slot_is}
+use Rattle.vab_device.specs.Kept.{block_sector, sectors_of, part_on}
+use Rattle.vab_flash.specs.Chosen.{blocks_or, part_named}
+
+-- ---- where blocks stand
+
+pub sector_at : (at : ℕ) (blocks : List ℕ) (i : ℕ)
+    → i < length blocks
+    → get_or (sectors_of at blocks) i 0 ≡ block_sector at (get_or blocks i 0)
+unfolding sectors_of
+sector_at at blocks i below = get_or-map (block_sector at) blocks i 0 0 below
+
+pub sectors_long : (at : ℕ) (blocks : List ℕ) → length (sectors_of at blocks) ≡ length blocks
+unfolding sectors_of
+sectors_long at blocks = length-map blocks (block_sector at)
+
+-- blocks of which none stands twice have no sector in common
+pub sectors_once : (at : ℕ) (blocks : List ℕ)
+    → AllPairs (λ a b. a ≢ b) (sectors_of at blocks)
+    → IsApart (sectors_of at blocks)
+sectors_once at blocks once i j order below =
+    let long = sectors_long at blocks in
+    let a = sector_at at blocks i (omega (arith, order, below, long)) in
+    let b = sector_at at blocks j (omega (arith, below, long)) in
+    let differ : get_or (sectors_of at blocks) i 0 ≢ get_or (sectors_of at blocks) j 0 =
+    once i j 0 order below in
+    elim (cases_lt (get_or blocks i 0) (get_or blocks j 0)) [
+      | inl lt ↦ inl (omega (arith, a, b, lt))
+      | inr ge ↦ inr (omega (arith, a, b, ge, differ))
+    ]
+
+pub sectors_disjoint : (at : ℕ) (xs ys : List ℕ)
+    → Apart xs ys
+    → AreDisjoint (sectors_of at xs) (sectors_of at ys)
+sectors_disjoint at xs ys apart i j in_xs in_ys =
+    let x_below : i < length xs = omega (arith, in_xs, sectors_long at xs) in
+    let y_below : j < length ys = omega (arith, in_ys, sectors_long at ys) in
+    let a = sector_at at xs i x_below in
+    let b = sector_at at ys j y_below in
+    let differ : get_or xs i 0 ≢ get_or ys j 0 =
+    λ e.
+    apart (get_or xs i 0) (Contains-get_or xs i 0 x_below)
+    (subst (λ (y : ℕ). Contains ys y) (sym e) (Contains-get_or ys j 0 y_below)) in
+    elim (cases_lt (get_or xs i 0) (get_or ys j 0)) [
+      | inl lt ↦ inl (omega (arith, a, b, lt))
+      | inr ge ↦ inr (omega (arith, a, b, ge, differ))
+    ]
+
+-- ---- the source's partition of a base name
+
+full_or : (slot : ℕ) (name : List ℕ) (p : PartOfLayout)
+    → is_of_slot slot p.name ≡ true
+    → bytes_eq (base_of p.name) (base_of name) ≡ bytes_eq p.name (in_slot slot name)
+unfolding in_slot
+full_or slot name p of = elim (cases_Bool (bytes_eq (base_of p.name) (base_of name))) [
+  | inl same ↦
+      let base : base_of p.name ≡ base_of name = same_name (base_of p.name) (base_of name) same in
+      same
+      ∙ sym (eq_name p.name (in_slot slot name)
+      (of_slot slot p.name of ∙ ap (λ (b : List ℕ). b ++ suffix_of slot) base))
+  | inr other ↦
+      other
+      ∙ sym (ne_name p.name (in_slot slot name)
+      (λ e.
+      other_name (base_of p.name) (base_of name) other
+      (ap base_of e ∙ base_of-append slot (base_of name))))
+]
+
+no_sectors : (at : ℕ) → sectors_of at [] ≡ []
+unfolding sectors_of
+no_sectors at = refl
+
+-- its blocks are those of the table's partition of the whole name
+pub source_blocks : (at slot : ℕ) (name : List ℕ) (ps : List PartOfLayout)
+    → blocks_or (part_named (base_of name) (map (part_on at) (own_parts slot ps)))
+    ≡ sectors_of at (blocks_named (in_slot slot name) ps)
+source_blocks at slot name [] = sym (no_sectors at)
+source_blocks at slot name (p ∷ ps) = elim (cases_Bool (is_of_slot slot p.name)) [
+  | inl of ↦
+      let tests = full_or slot name p of in
+      elim (cases_Bool (bytes_eq p.name (in_slot slot name))) [
+        | inl here ↦ let base = tests ∙ here in rw of (rw (base, here) refl)
+        | inr other ↦
+            let base = tests ∙ other in rw of (rw (base, other) (source_blocks at slot name ps))
+      ]
+  | inr not_own ↦
+      let other : bytes_eq p.name (in_slot slot name) ≡ false =
+      ne_name p.name (in_slot slot name)
+      (λ e.
+      let of : is_of_slot slot p.name ≡ true = ap (is_of_slot slot) e ∙ in_slot_is slot name in
+      absurd (let bad : false ≡ true = sym not_own ∙ of in cc)) in
+      rw (not_own, other) (source_blocks at slot name ps)
+]
+
+-- they are blocks of one of the slot's own partitions
+pub source_apart : (slot : ℕ) (name : List ℕ) (ps : List PartOfLayout) (ys : List ℕ)
+    → ((p : PartOfLayout) → Contains (own_parts slot ps) p → Apart p.blocks ys)
+    → Apart (blocks_named (in_slot slot name) ps) ys
+source_apart slot name [] ys each = λ b in_none in_ys. absurd (omega (arith, in_none.1))
+source_apart slot name (p ∷ ps) ys each = elim (cases_Bool (bytes_eq p.name (in_slot slot name))) [
+  | inl here ↦
+      let of : is_of_slot slot p.name ≡ true =
+      ap (is_of_slot slot) (same_name p.name (in_slot slot name) here) ∙ in_slot_is slot name in
+      let there : Contains (own_parts slot (p ∷ ps)) p = rw of (first_of p (own_parts slot ps)) in
+      rw here (each p there)
+  | inr other ↦
+      rw other (source_apart slot name ps ys
+      (λ q c. each q (own_later slot p ps q c)))
+]
+  where
+    own_later : (slot : ℕ) (p : PartOfLayout) (ps : List PartOfLayout) (q : PartOfLayout)
+        → Contains (own_parts slot ps) q
+        → Contains (own_parts slot (p ∷ ps)) q
+    own_later slot p ps q c = elim (cases_Bool (is_of_slot slot p.name)) [
+      | inl of ↦ rw of (later p (own_parts slot ps) q c)
+      | inr other ↦ rw other c
+    ]
+
+-- ---- a partition that begins with these blocks
+
+pub begins_same : (at : ℕ) (own base : List ℕ)
+    → take (length base) own ≡ take (length own) base
+    → (i : ℕ)
+    → i < length (sectors_of at own)
+    → i < length (sectors_of at base)
+    → get_or (sectors_of at own) i 0 ≡ get_or (sectors_of at base) i 0
+begins_same at own base same i in_own in_base =
+    let own_below : i < length own = omega (arith, in_own, sectors_long at own) in
+    let base_below : i < length base = omega (arith, in_base, sectors_long at base) in
+    let one : get_or own i 0 ≡ get_or base i 0 =
+    sym (get_or-take (length base) own i 0 base_below)
+    ∙ ap (λ (l : List ℕ). get_or l i 0) same
+    ∙ get_or-take (length own) base i 0 own_below in
+    sector_at at own i own_below ∙ ap (block_sector at) one ∙ sym (sector_at at base i base_below)
+
+-- behind the end of the source's partition each block has an exception
+pub behind_end : (base staged : List ℕ) (image : Image) (blocks i : ℕ)
+    → i < blocks
+    → length base ≤ i
+    → view_of (planned_of (differing_of base image staged blocks)) i ≡ None
+    → ⊥
+behind_end base staged image blocks i below past none =
+    let olds : List ℕ = differing_of base image staged blocks in
+    let stands : StandsIn olds i = differing_has base image staged blocks i below
+    (elim (cases_Bool (nat_lt i (length base))) [
+      | inl inside ↦ absurd (omega (arith, ltb-true i (length base) inside, past))
+      | inr past ↦ rw past refl
+    ]) in
+    let is : exception_at (planned_of olds) stands.place ≡ planned_at olds stands.place =
+    planned_of-at olds stands.place stands.within in
+    view_out (planned_of olds) i none stands.place
+    (omega (arith, stands.within, length-firsts (planned_at olds) (length olds)))
+    (ap (λ (e : Exception). e.old_chunk) is ∙ stands.is)

@@ -1,0 +1,167 @@
+use Rattle.std.proofs.Common.{◌≡◌, ◌-◌, ◌++◌, List, length, Some, true, sym, ap, subst, ◌∙◌, Ok}
+use Rattle.std.proofs.Common.{Err}
+use Rattle.vab_disk.specs.Calls.{InSectors}
+use Rattle.vab_marks.specs.declared.status.PartStatus.{PartStatus}
+use Rattle.vab_store.specs.Layout.{InFirst}
+use Rattle.vab_model.specs.Commands.{Flash}
+use Rattle.vab_model.specs.declared.command.Reply.TheVariants.{Done}
+use Rattle.vab_exceptions.specs.declared.area.Exception.{Exception}
+use Rattle.vab_names.specs.Names.{suffix_of}
+use Rattle.vab_install.specs.Counts.{ReadsWithout, CountsFaults}
+use Rattle.vab_device.specs.declared.device.Device.{Device}
+use Rattle.vab_device.specs.Does.{Does}
+use Rattle.vab_device.specs.declared.device.Planned.{Planned}
+use Rattle.vab_marks.specs.Status.{status_spelling}
+use Rattle.vab_flash.specs.Chosen.{store_at, needed_at, with_written}
+use Rattle.vab_flash.specs.Touched.{IsOfFlash}
+use Rattle.vab_flash.proofs.DoesLaws.{does_nothing, fails_dead, fails_gate, does_gate}
+use Rattle.vab_flash.proofs.FlashLaws.{base_all, base_on_disk}
+use Rattle.vab_flash.proofs.ReadyLaws.{no_memory}
+use Rattle.vab_flash.proofs.GatedLaws.{apart_at, disjoint_at, dead_at, name_short, in_flash}
+use Rattle.vab_flash.proofs.GatedLaws.{both, name_is, status_in_flash, written_kept}
+use Rattle.vab_flash.proofs.flashing.store_image.Goals as goal
+
+pub write_place-requires-clause-base_on_disk : goal.write_place-requires-clause-base_on_disk
+write_place-requires-clause-base_on_disk g c =
+    base_on_disk c.args.device (g.D.Disk.size c.args.d.now) c.args.place c.requires.kept
+
+pub write_place-requires-clause-apart : goal.write_place-requires-clause-apart
+write_place-requires-clause-apart g c = λ t.
+    apart_at c.args.device (g.D.Disk.size c.args.d.now) (g.D.Disk.seen c.args.d.now) c.requires.kept
+    (c.requires.represents t) c.args.name.now (Some c.args.bytes.now) c.args.place c.args.bytes.now
+    c.requires.chosen
+
+pub write_place-requires-clause-disjoint : goal.write_place-requires-clause-disjoint
+write_place-requires-clause-disjoint g c = λ t.
+    disjoint_at c.args.device (g.D.Disk.size c.args.d.now) (g.D.Disk.seen c.args.d.now)
+    c.requires.kept (c.requires.represents t) c.args.name.now (Some c.args.bytes.now) c.args.place
+    c.args.bytes.now c.requires.chosen
+
+pub full_name-requires-clause-short : goal.full_name-requires-clause-short
+full_name-requires-clause-short g c =
+    name_short c.args.device (g.D.Disk.size c.args.d.now) c.args.place c.planned_at.result.now
+    c.requires.kept c.requires.chosen.within c.planned_at.ensures
+
+pub returns-in-Err-NoMemory : goal.returns-in-Err-NoMemory
+returns-in-Err-NoMemory g c =
+    let d = c.args.device in
+    let name = c.args.name.now in
+    let disk = c.args.d.now in
+    does_nothing g.D.Disk d (Some c.args.bytes.now) (Flash name) (IsOfFlash d name) true _ _ _
+    c.requires.kept c.requires.represents
+    (λ t.
+    no_memory d (g.D.Disk.size disk) (g.D.Disk.seen disk) c.requires.kept (c.requires.represents t)
+    name (Some c.args.bytes.now) c.args.place c.args.bytes.now c.requires.chosen
+    (λ s lt. (g.met.D.Disk.whole disk s (g.D.Disk.seen disk s) lt
+    (g.met.D.Disk.seen_held disk s)).long)
+    (base_all d (g.D.Disk.size disk) c.args.place c.requires.kept) (c.requires.room t))
+    (subst (λ f. ReadsWithout {X = List Exception} g.D.Disk disk c.write_place.new.d (Err f))
+    c.in-Err-NoMemory.field-0-is c.in-Err-NoMemory.ensures.unwritten)
+    (subst (λ f. CountsFaults {X = List Exception} g.D.Disk disk c.write_place.new.d (Err f))
+    c.in-Err-NoMemory.field-0-is c.in-Err-NoMemory.ensures.counts)
+
+pub returns-in-Err-Disk : goal.returns-in-Err-Disk
+returns-in-Err-Disk g c =
+    let d = c.args.device in
+    let name = c.args.name.now in
+    let disk = c.args.d.now in
+    let n = needed_at d c.args.place (g.D.Disk.seen disk) c.args.bytes.now in
+    fails_dead g.D.Disk d (Some c.args.bytes.now) (Flash name) (IsOfFlash d name) disk
+    c.write_place.new.d (InSectors (InFirst (store_at d c.args.place) n))
+    (λ t image but.
+    dead_at d (g.D.Disk.size disk) (g.D.Disk.seen disk) c.requires.kept (c.requires.represents t)
+    name
+    (Some c.args.bytes.now) c.args.place c.args.bytes.now c.requires.chosen n image
+    (c.requires.room t) but)
+    c.write_place.ensures.touches
+    (λ t. in_flash d name c.args.place n c.requires.chosen.has (c.requires.room t))
+    c.in-Err-Disk.fault
+    (subst (λ f. CountsFaults {X = List Exception} g.D.Disk disk c.write_place.new.d (Err f))
+    c.in-Err-Disk.field-0-is c.in-Err-Disk.ensures.counts)
+
+pub returns-in-Err : goal.returns-in-Err
+returns-in-Err g c =
+    let d = c.args.device in
+    let name = c.args.name.now in
+    let disk = c.args.d.now in
+    let mid = c.write_place.new.d in
+    let es = c.in-Ok.view in
+    let n = needed_at d c.args.place (g.D.Disk.seen disk) c.args.bytes.now in
+    let ok = c.in-Ok.ensures in
+    let same : c.planned_at.result.now.name ++ suffix_of (1 - d.mark.slot) ≡ name =
+    ap (λ (q : Planned). q.name ++ suffix_of (1 - d.mark.slot)) c.planned_at.ensures
+    ∙ name_is d name c.args.place c.requires.chosen.has in
+    let status : PartStatus = record { name = c.full_name.result; count = c.count.result } in
+    let status_is : status ≡ record { name = name; count = length es } =
+    (λ k. record { name = (c.full_name.ensures ∙ same) k; count = c.count.ensures k }) in
+    let gate = λ (t : g.D.Disk.is_modelled).
+    both d (g.D.Disk.size disk) (g.D.Disk.seen disk) c.requires.kept (c.requires.represents t) name
+    (Some c.args.bytes.now) c.args.place c.args.bytes.now c.requires.chosen
+    (λ s lt. (g.met.D.Disk.whole disk s (g.D.Disk.seen disk s) lt
+    (g.met.D.Disk.seen_held disk s)).long)
+    (base_all d (g.D.Disk.size disk) c.args.place c.requires.kept) (g.D.Disk.seen mid) es
+    c.args.free status
+    (c.requires.room t) (ok.planned t) ok.fits (c.write_place.ensures.touches.seen t) (ok.scanned t)
+    (ok.holds t) (c.requires.free t) c.requires.there status_is c.put_status.ensures.read in
+    fails_gate g.D.Disk d (Some c.args.bytes.now) (Flash name) (IsOfFlash d name) disk mid
+    (InSectors (InFirst (store_at d c.args.place) n))
+    (λ t image but.
+    dead_at d (g.D.Disk.size disk) (g.D.Disk.seen disk) c.requires.kept (c.requires.represents t)
+    name
+    (Some c.args.bytes.now) c.args.place c.args.bytes.now c.requires.chosen n image
+    (c.requires.room t) but)
+    c.write_place.ensures.touches
+    (λ t. in_flash d name c.args.place n c.requires.chosen.has (c.requires.room t))
+    c.put_status.new.d (with_written d c.args.place es) Done c.args.free
+    (status_spelling status)
+    (λ t. (gate t).0) (λ t. (gate t).1) (λ t. c.put_status.ensures.gate t (ok.settled t))
+    c.put_status.ensures.touches
+    (status_in_flash d name c.args.free (length es) status c.requires.there status_is)
+    c.in-Err.fault c.in-Err.ensures.faults.cause
+
+pub returns-in-Ok-put_status : goal.returns-in-Ok-put_status
+returns-in-Ok-put_status g c =
+    let d = c.args.device in
+    let name = c.args.name.now in
+    let disk = c.args.d.now in
+    let mid = c.write_place.new.d in
+    let es = c.in-Ok.view in
+    let n = needed_at d c.args.place (g.D.Disk.seen disk) c.args.bytes.now in
+    let ok = c.in-Ok.ensures in
+    let same : c.planned_at.result.now.name ++ suffix_of (1 - d.mark.slot) ≡ name =
+    ap (λ (q : Planned). q.name ++ suffix_of (1 - d.mark.slot)) c.planned_at.ensures
+    ∙ name_is d name c.args.place c.requires.chosen.has in
+    let status : PartStatus = record { name = c.full_name.result; count = c.count.result } in
+    let status_is : status ≡ record { name = name; count = length es } =
+    (λ k. record { name = (c.full_name.ensures ∙ same) k; count = c.count.ensures k }) in
+    let gate = λ (t : g.D.Disk.is_modelled).
+    both d (g.D.Disk.size disk) (g.D.Disk.seen disk) c.requires.kept (c.requires.represents t) name
+    (Some c.args.bytes.now) c.args.place c.args.bytes.now c.requires.chosen
+    (λ s lt. (g.met.D.Disk.whole disk s (g.D.Disk.seen disk s) lt
+    (g.met.D.Disk.seen_held disk s)).long)
+    (base_all d (g.D.Disk.size disk) c.args.place c.requires.kept) (g.D.Disk.seen mid) es
+    c.args.free status
+    (c.requires.room t) (ok.planned t) ok.fits (c.write_place.ensures.touches.seen t) (ok.scanned t)
+    (ok.holds t) (c.requires.free t) c.requires.there status_is c.put_status.ensures.read in
+    subst (λ (x : Device). Does g.D.Disk d (Some c.args.bytes.now) (Flash name) (IsOfFlash d name)
+    disk
+    c.put_status.new.d (Ok (x, Done))) (sym c.written.ensures)
+    (does_gate g.D.Disk d (Some c.args.bytes.now) (Flash name) (IsOfFlash d name) disk mid
+    (InSectors (InFirst (store_at d c.args.place) n))
+    (λ t image but.
+    dead_at d (g.D.Disk.size disk) (g.D.Disk.seen disk) c.requires.kept (c.requires.represents t)
+    name
+    (Some c.args.bytes.now) c.args.place c.args.bytes.now c.requires.chosen n image
+    (c.requires.room t) but)
+    c.write_place.ensures.touches
+    (λ t. in_flash d name c.args.place n c.requires.chosen.has (c.requires.room t))
+    c.put_status.new.d (with_written d c.args.place es) Done c.args.free
+    (status_spelling status)
+    (λ t. (gate t).0) (λ t. (gate t).1) (λ t. c.put_status.ensures.gate t (ok.settled t))
+    c.put_status.ensures.touches
+    (status_in_flash d name c.args.free (length es) status c.requires.there status_is)
+    (written_kept d (g.D.Disk.size disk) name (Some c.args.bytes.now) c.args.place c.args.bytes.now
+    es
+    c.requires.kept c.requires.chosen ok.fits)
+    (λ t. c.in-Ok-put_status.ensures.written t) (λ t. c.in-Ok-put_status.ensures.settled t)
+    (c.in-Ok-put_status.ensures.faults.steady ∙ ok.counts))

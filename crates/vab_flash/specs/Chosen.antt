@@ -1,0 +1,123 @@
+-- The planned partition that an image is for, and the bytes that are staged for it.
+use Rattle.std.specs.Prelude.{◌≡◌, ℕ, ◌*◌, ◌≤◌, true, List, [], ◌∷◌, length, slice_index_or}
+use Rattle.std.specs.Prelude.{slice_set}
+use Rattle.std.specs.Prelude.{position, Option, Some, None, if◌then◌else◌, ◌==◌, ◌<◌, nat_le}
+use Rattle.std.specs.Str.{bytes_eq}
+use Rattle.vab_disk.specs.Disk.{Image}
+use Rattle.vab_space.specs.Space.{need_of}
+use Rattle.vab_install.specs.Differing.{differing_of}
+use Rattle.vab_exceptions.specs.declared.area.Exception.{Exception}
+use Rattle.vab_names.specs.Names.{is_full, base_of}
+use Rattle.vab_layout.specs.Slots.{other_slot}
+use Rattle.vab_model.specs.declared.state.PlanEntry.{PlanEntry}
+use Rattle.vab_device.specs.declared.device.Part.{Part}
+use Rattle.vab_device.specs.declared.device.Planned.{Planned}
+use Rattle.vab_device.specs.declared.device.PlannedImage.{PlannedImage}
+use Rattle.vab_device.specs.declared.device.PlannedImage.TheVariants.{Kept, Declared, Written}
+use Rattle.vab_device.specs.declared.device.Device.{Device}
+use Rattle.vab_device.specs.Mounted.{Mounted, entry_on, blocks_there}
+use Rattle.vab_device.specs.Updates.{entry_effect, if_room, differences, source_bytes}
+
+-- the place of the first planned partition of a base name
+abbrev pub place_of : List ℕ → List Planned → Option ℕ
+place_of base plan = position (λ p. bytes_eq p.name base) plan
+
+-- while an update is installed, the target has a partition of this name at this place of the plan
+pub record HasPlace (d : Device) (name : List ℕ) (place : ℕ) : Type 0 where
+  pub plan : List Planned
+  pub plan_is : d.plan ≡ Some plan
+  pub full : is_full (other_slot d.mark.slot) name ≡ true
+  pub place_is : place_of (base_of name) plan ≡ Some place
+
+-- nothing was written to it
+abbrev pub IsUnwritten : PlannedImage → Type 0
+IsUnwritten Kept = Unit {0}
+IsUnwritten Declared = Unit {0}
+IsUnwritten (Written es) = ⊥
+
+-- It has a store, nothing was written to it, and the staged bytes are at most as long as it is.
+-- What is left to ask is whether its store has room.
+pub record IsFor (p : Planned) (staged : Option (List ℕ)) (bytes : List ℕ) : Type 0 where
+  pub store : List ℕ
+  pub store_is : p.store ≡ Some store
+  pub unwritten : IsUnwritten p.image
+  pub staged_is : staged ≡ Some bytes
+  pub small : length bytes ≤ 4096 * length p.map
+  pub effect : (m : Mounted) (source : ℕ) (plan : List PlanEntry) (image : Image)
+      → entry_effect m source plan staged (Some (entry_on image p))
+      ≡ if_room m source plan (entry_on image p) (length store) bytes
+      (differences (source_bytes m.state source p.name) bytes (length p.map))
+
+-- ---- the source's partition
+
+-- the first partition of this base name
+abbrev pub part_named : List ℕ → List Part → Option Part
+part_named base [] = None
+part_named base (p ∷ ps) = if bytes_eq p.name base then Some p else part_named base ps
+
+abbrev pub part_among : List ℕ → Option (List Part) → Option Part
+part_among base None = None
+part_among base (Some parts) = part_named base parts
+
+-- the partition of a base name in a slot, where that has images
+abbrev pub part_at : Device → ℕ → List ℕ → Option Part
+part_at d slot base = part_among base (if slot == 0 then d.a else d.b)
+
+-- its blocks, each as its first sector; none where there is no such partition
+abbrev pub blocks_or : Option Part → List ℕ
+blocks_or None = []
+blocks_or (Some p) = p.map
+
+-- ---- the plan with an image that was written
+
+abbrev pub plan_or : Option (List Planned) → List Planned
+plan_or None = []
+plan_or (Some plan) = plan
+
+abbrev pub no_planned : Planned
+no_planned = record { name = []; group = []; map = []; store = None; image = Kept }
+
+abbrev pub planned_at : Device → ℕ → Planned
+planned_at d place = slice_index_or (plan_or d.plan) place no_planned
+
+-- with these exceptions for the planned partition at this place
+abbrev pub with_written : Device → ℕ → List Exception → Device
+with_written d place es = record d {
+  plan = Some (slice_set (plan_or d.plan) place (record (planned_at d place)
+      { image = Written es }));
+}
+
+-- ---- what is asked of the disk
+
+-- the blocks of the source's partition of the base name of the planned one at this place
+abbrev pub base_of_place : Device → ℕ → List ℕ
+base_of_place d place = blocks_or (part_at d d.mark.slot (planned_at d place).name)
+
+-- the blocks of an image that differ from it
+abbrev pub differing_at : Device → ℕ → Image → List ℕ → List ℕ
+differing_at d place image bytes =
+    differing_of (base_of_place d place) image bytes (length (planned_at d place).map)
+
+-- The name is that of the planned partition at this place, and the staged bytes may become its
+-- image, where the store has room.
+pub record IsChosen (d : Device) (name : List ℕ) (staged : Option (List ℕ)) (place : ℕ)
+    (bytes : List ℕ) : Type 0 where
+  pub has : HasPlace d name place
+  pub within : place < length (plan_or d.plan)
+  pub fits : IsFor (planned_at d place) staged bytes
+
+-- what a store needs and how many blocks it has, where it has no room for so many exceptions
+abbrev pub full_of : ℕ → ℕ → Option (ℕ × ℕ)
+full_of n store = if nat_le (need_of n) store then None else Some (need_of n, store)
+
+-- the blocks of its store
+abbrev pub store_at : Device → ℕ → List ℕ
+store_at d place = blocks_there (planned_at d place).store
+
+-- how many there are
+abbrev pub store_long : Device → ℕ → ℕ
+store_long d place = length (store_at d place)
+
+-- how many blocks the store needs for an image
+abbrev pub needed_at : Device → ℕ → Image → List ℕ → ℕ
+needed_at d place image bytes = need_of (length (differing_at d place image bytes))

@@ -1,0 +1,152 @@
+//! Which planned partition the staged bytes are for.
+
+ghost use Rattle.std.specs.Prelude.{◌≡◌, ◌<◌, ◌≤◌, ◌^◌, ℕ, List, length, Option, Some, IfOk, IfErr};
+ghost use Rattle.std.specs.Prelude.{All};
+ghost use Rattle.std.specs.Prelude.{option_map};
+ghost use Rattle.std.specs.Option.{option_copied};
+ghost use Rattle.vab_disk.specs.Disk.{Image};
+ghost use Rattle.vab_model.specs.declared.state.PlanEntry.{PlanEntry};
+ghost use Rattle.vab_model.specs.Commands.{Flash};
+ghost use Rattle.vab_model.specs.Effects.{refuses};
+ghost use Rattle.vab_device.specs.Mounted.{Mounted, mounted_on, entry_on};
+ghost use Rattle.vab_device.specs.Updates.{effect_on, entry_effect, is_sparse};
+ghost use Rattle.vab_flash.specs.Chosen.{place_of, HasPlace, IsFor, part_named, part_at};
+ghost use Rattle.vab_flash.specs.Chosen.{plan_or, planned_at, IsChosen};
+
+use vab_bytes::Listing;
+use vab_device::{Device, Part, Planned, PlannedImage};
+use vab_model::Refusal;
+use vab_names::{base_of, is_full};
+
+/// Bytes of a block.
+const BLOCK: u64 = 4096;
+
+/// What an Android sparse image begins with.
+const SPARSE: [u8; 4] = [0x3a, 0xff, 0x26, 0xed];
+
+// The place of the first planned partition of a base name.
+fn place_of(plan: &Listing<Planned>, base: &[u8]) -> Option<usize>
+    ensures { result ≡ place_of base.now plan.now }
+{
+    plan.as_slice().iter().position(|p| p.name.text() == base)
+}
+
+// The place in the plan of the partition that a name names, or why there is none.
+fn find(device: &Device, name: &[u8]) -> Result<usize, Refusal>
+    requires { device.now.mark.slot < 2 }
+    ensures found { IfOk result (λ place. HasPlace device.now name.now place) }
+    ensures refused { (image : Image) (staged : Option (List ℕ)) → IfErr result
+        (λ f. effect_on (mounted_on device.now image) staged (Flash name.now) ≡ refuses f) }
+{
+    match &device.plan {
+        None => Err(Refusal::NotInstalling),
+        Some(plan) => {
+            if is_full(name, 1 - device.mark.slot) {
+                match place_of(plan, base_of(name)) {
+                    Some(place) => Ok(place),
+                    None => Err(Refusal::Unknown),
+                }
+            } else {
+                Err(Refusal::BadName)
+            }
+        }
+    }
+}
+
+// Whether this is an Android sparse image.
+fn is_sparse(bytes: &[u8]) -> bool
+    ensures { result ≡ is_sparse bytes.now }
+{
+    let count = bytes.len().min(4);
+    &bytes[..count] == SPARSE.as_slice()
+}
+
+// The bytes for this planned partition, or why they can't become its image.
+fn fit<'a>(entry: &Planned, staged: Option<&'a [u8]>) -> Result<&'a [u8], Refusal>
+    requires { length entry.now.map < 2 ^ 48 }
+    ensures fits { IfOk result
+        (λ b. IsFor entry.now (option_map (λ s. s.now) staged.entry) b.now) }
+    ensures refused { (m : Mounted) (source : ℕ) (plan : List PlanEntry) (image : Image)
+        → IfErr result
+        (λ f. entry_effect m source plan (option_map (λ s. s.now) staged.entry)
+        (Some (entry_on image entry.now))
+        ≡ refuses f) }
+{
+    if entry.store.is_none() {
+        return Err(Refusal::NoStore);
+    }
+    if matches!(entry.image, PlannedImage::Written(_)) {
+        return Err(Refusal::Written);
+    }
+    let bytes = match staged {
+        Some(bytes) => bytes,
+        None => return Err(Refusal::NothingStaged),
+    };
+    if is_sparse(bytes) {
+        return Err(Refusal::Sparse);
+    }
+    let most = BLOCK * entry.map.len();
+    if bytes.len() as u64 > most {
+        return Err(Refusal::TooLarge(bytes.len() as u64, most));
+    }
+    Ok(bytes)
+}
+
+// The first partition of a base name.
+fn part_named<'a>(parts: &'a Listing<Part>, base: &[u8]) -> Option<&'a Part>
+    ensures { option_copied result ≡ part_named base.now parts.now }
+{
+    for part in parts.as_slice() {
+        if part.name.text() == base {
+            return Some(part);
+        }
+    }
+    None
+}
+
+/// The partition of a base name in a slot, where the slot has images.
+pub fn part_at<'a>(device: &'a Device, slot: usize, base: &[u8]) -> Option<&'a Part>
+    requires { slot < 2 }
+    ensures { option_copied result ≡ part_at device.now slot base.now }
+{
+    match device.images(slot) {
+        Some(parts) => part_named(parts, base),
+        None => None,
+    }
+}
+
+/// The planned partition at a place.
+pub fn planned_at(device: &Device, place: usize) -> &Planned
+    requires { place < length (plan_or device.now.plan) }
+    ensures { result.now ≡ planned_at device.now place }
+{
+    match &device.plan {
+        Some(plan) => &plan.as_slice()[place],
+        None => unreachable!(),
+    }
+}
+
+/// The place in the plan of the partition that a name names, and the staged bytes for it; or why
+/// there are none. Whether its store has room isn't asked yet. Takes no memory.
+pub fn choose<'a>(
+    device: &Device,
+    name: &[u8],
+    staged: Option<&'a [u8]>,
+) -> Result<(usize, &'a [u8]), Refusal>
+    requires slot { device.now.mark.slot < 2 }
+    requires small { All (λ p. length p.map ≤ 2 ^ 28) (plan_or device.now.plan) }
+    ensures chosen { IfOk result
+        (λ r. IsChosen device.now name.now (option_map (λ s. s.now) staged.entry) r.0 r.1.now) }
+    ensures refused { (image : Image) → IfErr result
+        (λ f. effect_on (mounted_on device.now image) (option_map (λ s. s.now) staged.entry)
+        (Flash name.now)
+        ≡ refuses f) }
+{
+    match find(device, name) {
+        Ok(place) => match fit(planned_at(device, place), staged) {
+            Ok(bytes) => Ok((place, bytes)),
+            Err(refusal) => Err(refusal),
+        },
+        Err(refusal) => Err(refusal),
+    }
+}

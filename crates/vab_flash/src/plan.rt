@@ -1,0 +1,45 @@
+//! The plan with an image that was written.
+
+ghost use Rattle.std.specs.Prelude.{◌≡◌, ◌<◌, length};
+ghost use Rattle.vab_flash.specs.Chosen.{plan_or, with_written};
+
+use vab_bytes::Listing;
+use vab_device::{Device, PlannedImage};
+use vab_store::StoreView;
+
+/// The device with these exceptions for the planned partition at this place, whose image was
+/// written. Takes no memory.
+pub fn written(device: Device, place: usize, view: StoreView) -> Device
+    requires { place < length (plan_or device.plan) }
+    ensures { result ≡ with_written device place view }
+{
+    let Device {
+        geometry,
+        control,
+        mark,
+        cap,
+        groups,
+        a,
+        b,
+        table_a,
+        table_b,
+        plan,
+    } = device;
+    let mut items = match plan {
+        Some(plan) => plan.into_vec(),
+        None => unreachable!(),
+    };
+    items[place].image = PlannedImage::Written(view);
+    Device {
+        geometry,
+        control,
+        mark,
+        cap,
+        groups,
+        a,
+        b,
+        table_a,
+        table_b,
+        plan: Some(Listing::from_vec(items)),
+    }
+}
