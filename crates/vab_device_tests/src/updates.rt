@@ -98,15 +98,24 @@ fn an_update_is_begun_edited_flashed_and_dropped(rt: HostRuntime) -> Result<(), 
     assert_eq!(rt; flashed(alloc, &mut d, b"x_b", Some(b"abc")), none);
     assert_eq!(rt; begun(alloc, &mut d), Some(Reply::Done));
     assert_eq!(rt; planned(alloc, &mut d, 0), Some((1, 0, b'k', 0)));
-    assert_eq!(rt; begun(alloc, &mut d), Some(Reply::Refused(Refusal::NotIdle)));
+    assert_eq!(rt;
+        begun(alloc, &mut d),
+        Some(Reply::Refused(Refusal::NotIdle))
+    );
     // Each edit and its reply.
     let edits = [
         (Edit::Create(b"y_b", 8192), Reply::Done),
         (Edit::Create(b"y_b", 0), Reply::Refused(Refusal::Exists)),
         (Edit::Resize(b"z_b", 0), Reply::Refused(Refusal::Unknown)),
-        (Edit::AddStore(b"y_b", 4096), Reply::Refused(Refusal::BadSize)),
+        (
+            Edit::AddStore(b"y_b", 4096),
+            Reply::Refused(Refusal::BadSize),
+        ),
         (Edit::AddStore(b"y_b", 0), Reply::Done),
-        (Edit::Resize(b"y_b", 4096), Reply::Refused(Refusal::HasStore)),
+        (
+            Edit::Resize(b"y_b", 4096),
+            Reply::Refused(Refusal::HasStore),
+        ),
         (
             Edit::Create(b"z_b", 1 << 40),
             Reply::Refused(Refusal::NoRoom(268435463, 256)),
@@ -130,7 +139,10 @@ fn an_update_is_begun_edited_flashed_and_dropped(rt: HostRuntime) -> Result<(), 
         let told = flashed(alloc, &mut d, name, staged);
         assert_eq!(rt; told, Some(Reply::Refused(refusal)), "{refusal:?}");
     }
-    assert_eq!(rt; flashed(alloc, &mut d, b"y_b", Some(b"abc")), Some(Reply::Done));
+    assert_eq!(rt;
+        flashed(alloc, &mut d, b"y_b", Some(b"abc")),
+        Some(Reply::Done)
+    );
     assert_eq!(rt; planned(alloc, &mut d, 1), Some((2, 4, b'w', 2)));
     let again = flashed(alloc, &mut d, b"y_b", Some(b"abc"));
     assert_eq!(rt; again, Some(Reply::Refused(Refusal::Written)));
@@ -141,7 +153,10 @@ fn an_update_is_begun_edited_flashed_and_dropped(rt: HostRuntime) -> Result<(), 
     assert_eq!(rt; store, Some(Reply::Done));
     let full = flashed(alloc, &mut d, b"x_b", Some(b"abd"));
     assert_eq!(rt; full, Some(Reply::Refused(Refusal::StoreFull(3, 2))));
-    assert_eq!(rt; flashed(alloc, &mut d, b"x_b", Some(b"abc")), Some(Reply::Done));
+    assert_eq!(rt;
+        flashed(alloc, &mut d, b"x_b", Some(b"abc")),
+        Some(Reply::Done)
+    );
     assert_eq!(rt; planned(alloc, &mut d, 0), Some((1, 2, b'w', 0)));
     assert_eq!(rt; planned(alloc, &mut d, 1), Some((2, 4, b'w', 2)));
     // What is dropped is gone from the next update.
@@ -180,7 +195,7 @@ fn an_update_that_is_cut_is_the_old_one_or_the_new_one(rt: HostRuntime) -> Resul
         if !stored {
             continue;
         }
-        d.stop_after(stop / 4);
+        d.stop_after(stop.saturating_sub(45));
         let done = flashed(alloc, &mut d, b"x_b", Some(b"abd")).is_some();
         let mut d = d.next_run(Vec::new(alloc));
         let written = planned(alloc, &mut d, 0);
