@@ -17,9 +17,9 @@ write_snapshot-requires-clause-store_on_disk g c =
     (omega (arith, c.in-Ok.ensures.reads.quiet.size, c.sectors.ensures, c.if-sectors-lt64.false))
 
 pub write_snapshot-requires-clause-apart : goal.write_snapshot-requires-clause-apart
-write_snapshot-requires-clause-apart g c = run_apart c.args.store.now 24 5 c.requires.store
+write_snapshot-requires-clause-apart g c = λ _. run_apart c.args.store.now 24 5 c.requires.store
 
 pub write_snapshot-requires-clause-disjoint : goal.write_snapshot-requires-clause-disjoint
-write_snapshot-requires-clause-disjoint g c =
+write_snapshot-requires-clause-disjoint g c = λ _.
     runs_disjoint c.args.base.now c.args.store.now 0 3 24 5 c.requires.base c.requires.store
     (omega arith)

@@ -13,6 +13,6 @@ write_store-requires-clause-on_disk g c =
     run_on_disk pair.store (8 * pair.blocks) pair.chunks _ pair.store_is (omega arith)
 
 pub write_store-requires-clause-apart : goal.write_store-requires-clause-apart
-write_store-requires-clause-apart g c =
+write_store-requires-clause-apart g c = λ _.
     let pair = c.args.self.now in
     run_apart pair.store (8 * pair.blocks) pair.chunks pair.store_is
