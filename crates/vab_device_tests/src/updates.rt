@@ -174,7 +174,7 @@ fn an_update_is_begun_edited_flashed_and_dropped(rt: HostRuntime) -> Result<(), 
 #[test]
 fn an_update_that_is_cut_is_the_old_one_or_the_new_one(rt: HostRuntime) -> Result<(), Fail> {
     let alloc = rt.alloc();
-    let mut seen = [0u32; 6];
+    let mut seen = [false; 6];
     for stop in 0..80 {
         let mut d = device_of_one(alloc)?;
         d.stop_after(stop);
@@ -182,7 +182,7 @@ fn an_update_that_is_cut_is_the_old_one_or_the_new_one(rt: HostRuntime) -> Resul
         let mut d = d.next_run(Vec::new(alloc));
         let kept = planned(alloc, &mut d, 0);
         assert!(rt; kept == Some((1, 0, b'k', 0)) || (kept.is_none() && !whole));
-        seen[usize::from(whole)] += 1;
+        seen[usize::from(whole)] = true;
         if !whole {
             continue;
         }
@@ -191,7 +191,7 @@ fn an_update_that_is_cut_is_the_old_one_or_the_new_one(rt: HostRuntime) -> Resul
         let mut d = d.next_run(Vec::new(alloc));
         let declared = planned(alloc, &mut d, 0);
         assert!(rt; declared == Some((1, 3, b'd', 0)) || (declared == kept && !stored));
-        seen[2 + usize::from(stored)] += 1;
+        seen[2 + usize::from(stored)] = true;
         if !stored {
             continue;
         }
@@ -200,9 +200,9 @@ fn an_update_that_is_cut_is_the_old_one_or_the_new_one(rt: HostRuntime) -> Resul
         let mut d = d.next_run(Vec::new(alloc));
         let written = planned(alloc, &mut d, 0);
         assert!(rt; written == Some((1, 3, b'w', 1)) || (written == declared && !done));
-        seen[4 + usize::from(done)] += 1;
+        seen[4 + usize::from(done)] = true;
     }
     // Each of the three was cut at some call, and was done at others.
-    assert!(rt; seen.iter().all(|count| *count > 0), "{seen:?}");
+    assert!(rt; seen.iter().all(|came| *came), "{seen:?}");
     Ok(())
 }
