@@ -1,0 +1,4 @@
+pub mod PartitionLaws
+pub mod SumLaws
+pub mod GroupLaws
+pub mod RoomLaws
