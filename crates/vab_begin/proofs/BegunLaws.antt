@@ -46,7 +46,7 @@ use Rattle.vab_begin.specs.declared.target.Target.{Target}
 use Rattle.vab_begin.specs.Kept.{with_control, with_update}
 use Rattle.vab_begin.specs.Target.{layout_for, IsTargetOf, IsTargetFor, IsRefusedBy}
 use Rattle.vab_begin.specs.Writes.{IsOfPlaces}
-use Rattle.vab_begin.proofs.DoesLaws.{marked, IsStep}
+use Rattle.vab_begin.proofs.Steps.{marked, IsStep}
 use Rattle.vab_begin.proofs.KeptLaws.{some_of, none_of, cases_slot, update_kept}
 use Rattle.vab_begin.proofs.StayLaws.{one_of}
 use Rattle.vab_begin.proofs.CancelLaws.{installing_read, kept_with, some_same}

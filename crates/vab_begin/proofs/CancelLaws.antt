@@ -38,7 +38,7 @@ use Rattle.vab_device.proofs.OpeningLaws.{control_seen_in}
 use Rattle.vab_device.proofs.ReadingLaws.{seen_single, control_is_seen}
 use Rattle.vab_device.proofs.SameLaws.{geometry_same, tables_agree, images_same}
 use Rattle.vab_begin.specs.Kept.{with_update}
-use Rattle.vab_begin.proofs.DoesLaws.{marked, IsStep}
+use Rattle.vab_begin.proofs.Steps.{marked, IsStep}
 use Rattle.vab_begin.proofs.KeptLaws.{some_of, none_of, planned_of, cases_slot}
 use Rattle.vab_begin.proofs.StayLaws.{mark_there, copy_stays, copies_from, one_of, two_of}
 use Rattle.vab_begin.proofs.StayLaws.{state_passed}

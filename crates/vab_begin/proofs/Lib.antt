@@ -1,10 +1,10 @@
-pub mod DoesLaws
-pub mod KeptLaws
-pub mod StayLaws
-pub mod CancelLaws
-pub mod PlannedLaws
-pub mod CopiesApart
-pub mod ImportLaws
 pub mod BeginLaws
 pub mod BegunLaws
+pub mod CancelLaws
+pub mod CopiesApart
+pub mod ImportLaws
+pub mod KeptLaws
+pub mod PlannedLaws
+pub mod StayLaws
+pub mod Steps
 pub mod WriteLaws

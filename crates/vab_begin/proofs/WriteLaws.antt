@@ -35,18 +35,23 @@ module _ (d : Device) (x : Target) (for : IsTargetFor d x) (text : List ℕ)
       (subst (λ (b : List ℕ). IsTableText d.geometry.max b (as_minor_2 x.table)) (sym same)
       (for.target.spelled.stands d.geometry.max for.target.size))
 
+  spelled : text ≡ table_text (table_of for.target.gives.0)
+  spelled = same ∙ for.target.spelled.text ∙ ap table_text for.target.gives.2
+
+  short : length (table_text (table_of for.target.gives.0)) ≤ d.geometry.max
+  short = omega (arith, ap length spelled, target_short)
+
   module _ (told : Type 0) (old : List ℕ) (idle : d.mark.phase ≡ marks.Idle) where
     pub places_in : (s : ℕ) (b : List ℕ) → IsOfPlaces told d text old s b → IsOfBegun told d old s b
     places_in s b w =
         let gives = for.target.gives in
-        let spelled : text ≡ table_text (table_of gives.0) =
-        same ∙ for.target.spelled.text ∙ ap table_text gives.2 in
         record {
           idle = idle;
           source = for.source;
           is = for.is;
           layout = gives.0;
           fits = gives.1;
+          short = short;
           writes = inl (subst (λ (t : List ℕ). IsOfPlaces told d t old s b) spelled w);
         }
 
@@ -59,5 +64,6 @@ module _ (d : Device) (x : Target) (for : IsTargetFor d x) (text : List ℕ)
       is = for.is;
       layout = for.target.gives.0;
       fits = for.target.gives.1;
+      short = short;
       writes = inr w;
     }

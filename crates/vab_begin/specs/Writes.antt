@@ -1,5 +1,5 @@
 -- What the begin of an update and its cancelling write.
-use Rattle.std.specs.Prelude.{◌≡◌, ◌⊎◌, ℕ, List, Some, Ok}
+use Rattle.std.specs.Prelude.{◌≡◌, ◌⊎◌, ◌≤◌, ℕ, List, length, Some, Ok}
 use Rattle.vab_disk.specs.Disk.{IsAt}
 use Rattle.vab_marks.specs.declared.mark.MarkPhase.{MarkPhase}
 use Rattle.vab_marks.specs.declared.mark.MarkPhase.TheVariants as marks
@@ -36,6 +36,7 @@ pub record IsOfBegun (told : Type 0) (d : Device) (old : List ℕ) (s : ℕ) (b 
     pub is : table_of_slot d d.mark.slot ≡ Some source
     pub layout : Layout
     pub fits : layout_for d.geometry.max d.mark.slot source ≡ Ok layout
+    pub short : length (table_text (table_of layout)) ≤ d.geometry.max
     pub writes : IsOfPlaces told d (table_text (table_of layout)) old s b
         ⊎ IsOfMark marks.Installing d s b
 

@@ -1,35 +1,31 @@
 -- What is written where a device is made, opened and served.
-use Rattle.std.proofs.Common.{◌≡◌, ◌⊎◌, ◌∙◌, ◌≤◌, inl, inr, ⊎_elim, ℕ, ◌+◌, ◌*◌, ◌/◌, ◌==◌, List}
-use Rattle.std.proofs.Common.{zero, suc, [], ◌∷◌, length, Ok, Some, None, refl, sym, ap, subst, arith, true, false}
+use Rattle.std.proofs.Common.{◌≡◌, ◌⊎◌, ◌∙◌, ◌≤◌, inl, inr, ⊎_elim, ℕ, ◌+◌, ◌==◌, List}
+use Rattle.std.proofs.Common.{zero, suc, [], ◌∷◌, length, Some, None, refl, sym, ap, subst, arith, true, false}
 use Rattle.std.specs.Prelude.{Bool, Option, is_some, if◌then◌else◌}
 use Rattle.std.proofs.lemmas.Bool.{ne_eqb}
 use Rattle.vab_disk.specs.declared.disk.Disk.{Ghosts}
 use Rattle.vab_disk.specs.Disk.{Image}
 use Rattle.vab_disk.specs.Calls.{Changes, InSectors, IsBetween}
 use Rattle.vab_disk.proofs.CallLaws.{changes_then, changes_wider}
-use Rattle.vab_copies.specs.Copies.{IsOfText, IsOfCopy}
+use Rattle.vab_copies.specs.Copies.{IsOfCopy}
 use Rattle.vab_geometry.specs.declared.geometry.Geometry.{Geometry}
 use Rattle.vab_tables.specs.declared.table.Table.{Table}
 use Rattle.vab_tables.specs.Text.{IsTableText, text_size_of}
 use Rattle.vab_tables.specs.FrontLaws.{text_size_fits}
-use Rattle.vab_lpstore.specs.declared.loaded.Loaded.{Loaded}
 use Rattle.vab_lpstore.specs.Layout.{primary_of, backup_of, text_sectors}
 use Rattle.vab_lpstore.specs.Storing.{IsOfRepair}
-use Rattle.vab_set.specs.declared.set.SetImage.{SetImage}
-use Rattle.vab_marks.specs.declared.mark.UpdateMark.{UpdateMark}
-use Rattle.vab_bootctl.specs.declared.slots.Control.{Control}
 use Rattle.vab_layout.specs.declared.layout.Layout.{Layout}
 use Rattle.vab_layout.specs.Plain.{plain}
 use Rattle.vab_device.specs.Mounted.{Mounted, state_on, mounted_on, table_placed}
 use Rattle.vab_marks.specs.declared.mark.MarkPhase.TheVariants as marks
-use Rattle.vab_device.specs.Phases.{Phase, idle, phase_at}
+use Rattle.vab_device.specs.Phases.{Phase, phase_at}
 use Rattle.vab_device.specs.Reading.{Read, Reads, kept, table_for}
 use Rattle.vab_device.proofs.ReadingLaws.{idle_at, idle_read_of, device_of}
 use Rattle.vab_recover.specs.Repairs.{IsRepair, IsOneOf}
-use Rattle.vab_manager.specs.Controls.{IsOfCommands}
+use Rattle.vab_cli.specs.Touched.{IsOfServing, IsOfFresh}
 use Rattle.vab_make.specs.Made.{made_device_of, made_state, made_places, made_geometry, made_layout}
 use Rattle.vab_make.specs.Making.{IsMade}
-use Rattle.vab_make.specs.Touched.{IsOfMaking, IsOfContents, of_control, of_places, IsOfCopies}
+use Rattle.vab_make.specs.Touched.{IsOfMaking, of_places}
 use Rattle.vab_make.specs.Touched.{of_primary, of_backup}
 
 none_some : {R : Type 0} (l : Layout) → (let none : Option Layout = None in none ≡ Some l) → R
@@ -166,11 +162,20 @@ module _ {D : Type 0} (g : Ghosts D) (size : ℕ) where
       (changes_wider g Fresh (IsRepair size (g.seen mid)) mid new opens
       (repair_made size (g.seen mid) made))
 
-  pub made_served : (control : Control) (a b : Bool) (bytes : List ℕ) (old mid new : D)
+  pub making_fresh : (old new : D) → Changes g Fresh old new → Changes g (IsOfFresh size) old new
+  making_fresh old new makes =
+      changes_wider g (IsOfFresh size) Fresh old new makes (λ s x w. inl w)
+
+  pub made_served : (old mid new : D)
+      → IsMade [] 0 65536 size (g.seen mid)
       → Changes g Fresh old mid
-      → Changes g (IsOfCommands control a b bytes) mid new
-      → Changes g Fresh old new
-  made_served control a b bytes old mid new first serves =
-      changes_then g Fresh old mid new first
-      (changes_wider g Fresh (IsOfCommands control a b bytes) mid new serves
-      (λ s x w. inr (of_control w.writes.at)))
+      → Changes g (IsOfServing size (g.seen mid)) mid new
+      → Changes g (IsOfFresh size) old new
+  made_served old mid new made makes serves =
+      changes_then g (IsOfFresh size) old mid new (making_fresh old mid makes)
+      (changes_wider g (IsOfFresh size) (IsOfServing size (g.seen mid)) mid new serves
+      (λ s x w.
+      ⊎_elim {C = IsOfFresh size s x}
+      (λ repair. inl (repair_made size (g.seen mid) made s x repair))
+      (λ served. inr (record { made = g.seen mid; is = made; serves = served }))
+      w))

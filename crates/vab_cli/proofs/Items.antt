@@ -1,7 +1,7 @@
 -- Items that are done, by what was done and told for them.
 use Rattle.std.proofs.Common.{◌≡◌, ◌∙◌, inl, inr, ℕ, ◌<◌, List, [], ◌∷◌, ◌++◌, length, take}
 use Rattle.std.proofs.Common.{Result, Ok, Err, refl, sym, ap, subst, arith, length-append}
-use Rattle.std.specs.Prelude.{OnOk}
+use Rattle.std.specs.Prelude.{Bool, true, false, None, OnOk}
 use Rattle.std.proofs.lemmas.List.{append-nil}
 use Rattle.vab_disk.specs.declared.disk.Disk.{Ghosts}
 use Rattle.vab_disk.specs.Disk.{Image, Outcome, Adds}
@@ -10,21 +10,25 @@ use Rattle.vab_disk.specs.Written.{same_image}
 use Rattle.vab_disk.proofs.Moments.{adds_wider, adds_on}
 use Rattle.vab_gate.specs.declared.gate.DiskFault.{DiskFault}
 use Rattle.vab_model.specs.declared.command.Reply.{Reply}
-use Rattle.vab_model.specs.Commands.{Command, Print}
+use Rattle.vab_model.specs.Commands.{Command, SetActive, Boot, Mark, Print, Digest, Begin, Create}
+use Rattle.vab_model.specs.Commands.{Resize, Delete, Snapshot, Flash, Finish, Cancel, BeginMerge}
+use Rattle.vab_model.specs.Commands.{Merge}
 use Rattle.vab_model.specs.Effects.{Found, Image_is, Refused_by, found_of, effect, effect_map}
-use Rattle.vab_model.specs.Effects.{print_effect, last_of, steps_of, after_of, IsOneOf}
+use Rattle.vab_model.specs.Effects.{Effect, print_effect, last_of, steps_of, after_of, IsOneOf}
+use Rattle.vab_model.specs.Effects.{unless_refused}
 use Rattle.vab_device.specs.declared.device.Device.{Device}
 use Rattle.vab_device.specs.declared.fault.StartFault.{StartFault}
 use Rattle.vab_device.specs.Mounted.{Mounted, mounted_on, in_state, effect_in}
 use Rattle.vab_device.specs.Reading.{device, IsIn, Represents}
 use Rattle.vab_device.proofs.ReadingLaws.{device_stands}
-use Rattle.vab_manager.specs.Commands.{LeavesStep, DoesCommand}
+use Rattle.vab_device.specs.Does.{LeavesStep, Does}
+use Rattle.vab_device.specs.Updates.{effect_on}
 use Rattle.vab_exchanges.specs.Items.{Item}
 use Rattle.vab_exchanges.specs.Runs.{LeavesItem}
 use Rattle.vab_exchanges.proofs.RunLaws.{telling}
 use Rattle.vab_cli.specs.Telling.{DoesItem, Says}
 use Rattle.vab_session.specs.Served.{nothing_staged}
-use Rattle.vab_cli.specs.Verbs.{command_item, line_item}
+use Rattle.vab_cli.specs.Verbs.{command_item, line_item, IsVerb}
 
 on_ok : {A E P : Type 0} (r : Result A E) → P → OnOk r P
 on_ok (Ok x) p = p
@@ -47,6 +51,36 @@ pub mounted_is : (d : Device) (size : ℕ) (image : Image) (s : Mounted)
 mounted_is d size image s represents is =
     let same : Ok (mounted_on d image) ≡ Ok s = sym (device_stands d size image represents) ∙ is in
     cc
+
+-- a verb is a command of the model, which takes no memory and nothing that is staged
+pub verb_effect : (refused : Bool) (c : Command) (m : Mounted)
+    → IsVerb c
+    → unless_refused refused c (effect_on m None c) ≡ effect_in m c
+verb_effect true (SetActive slot) m verb = refl
+verb_effect true Boot m verb = refl
+verb_effect true Mark m verb = refl
+verb_effect true (Print name) m verb = refl
+verb_effect true (Digest name) m verb = refl
+verb_effect false (SetActive slot) m verb = refl
+verb_effect false Boot m verb = refl
+verb_effect false Mark m verb = refl
+verb_effect false (Print name) m verb = refl
+verb_effect false (Digest name) m verb = refl
+verb_effect refused Begin m verb = absurd verb
+verb_effect refused (Create name size) m verb = absurd verb
+verb_effect refused (Resize name size) m verb = absurd verb
+verb_effect refused (Delete name) m verb = absurd verb
+verb_effect refused (Snapshot name size) m verb = absurd verb
+verb_effect refused (Flash name) m verb = absurd verb
+verb_effect refused Finish m verb = absurd verb
+verb_effect refused Cancel m verb = absurd verb
+verb_effect refused BeginMerge m verb = absurd verb
+verb_effect refused (Merge blocks) m verb = absurd verb
+
+pub replied : (refused : Bool) (c : Command) (m : Mounted)
+    → IsVerb c
+    → (unless_refused refused c (effect_on m None c)).reply ≡ (effect m.state c).reply
+replied refused c m verb = ap (λ (e : Effect Mounted). e.reply) (verb_effect refused c m verb)
 
 module _ {D : Type 0} (g : Ghosts D) (size : ℕ) where
   -- what is told of an item, with the disk in its last situation and nothing pending
@@ -89,7 +123,8 @@ module _ {D : Type 0} (g : Ghosts D) (size : ℕ) where
 
   -- ---- a command
 
-  module _ (d : Device) (c : Command) (s : Mounted) (line : List ℕ) (some : 0 < length line)
+  module _ (d : Device) (c : Command) (verb : IsVerb c) (W : ℕ → List ℕ → Type 0) (s : Mounted)
+      (line : List ℕ) (some : 0 < length line)
       (old mid : D)
       (sized : g.size old ≡ size)
       (represents : Represents d size (g.seen old))
@@ -110,7 +145,7 @@ module _ {D : Type 0} (g : Ghosts D) (size : ℕ) where
     }
 
     doing : {result : Result (Device × Reply) DiskFault}
-        → DoesCommand g d c old mid result
+        → Does g d None c W old mid result
         → g.is_modelled
         → IsAtRest g old
         → Adds g.moment g.outcomes old mid (LeavesItem (IsIn size) (g.told old) (command_item s c line))
@@ -124,12 +159,18 @@ module _ {D : Type 0} (g : Ghosts D) (size : ℕ) where
         (λ (x : Mounted).
         Adds g.moment g.outcomes old mid
         (LeavesStep (g.told old) (g.size old) (steps_of x (effect_in x c))))
-        same (does.time t rest)))
+        same
+        (subst
+        (λ (e : Effect Mounted).
+        Adds g.moment g.outcomes old mid
+        (LeavesStep (g.told old) (g.size old) (steps_of (mounted_on d (g.seen old)) e)))
+        (verb_effect does.refused c (mounted_on d (g.seen old)) verb)
+        (does.time t rest))))
         leaves_item
 
     -- the disk failed
     pub command_fails : {A E : Type 0} (fault : DiskFault) (e : E)
-        → DoesCommand g d c old mid (Err fault)
+        → Does g d None c W old mid (Err fault)
         → g.is_modelled
         → DoesItem g {A = A} size (command_item s c line) old mid (Err e)
     command_fails fault e does t = record {
@@ -142,7 +183,7 @@ module _ {D : Type 0} (g : Ghosts D) (size : ℕ) where
 
     -- it is done, and its line is told, whole or in part
     pub command_does : {A E : Type 0} (d' : Device) (reply : Reply) (new : D) (r : Result A E)
-        → DoesCommand g d c old mid (Ok (d', reply))
+        → Does g d None c W old mid (Ok (d', reply))
         → g.is_modelled
         → Says g line mid new r
         → DoesItem g size (command_item s c line) old new r
@@ -167,6 +208,10 @@ module _ {D : Type 0} (g : Ghosts D) (size : ℕ) where
             device_stands d' size (g.seen mid)
             (subst (λ (n : ℕ). Represents d' n (g.seen mid)) sized (does.represents t))
             ∙ ap Ok (does.after t)
+            ∙ ap
+            (λ (e : Effect Mounted).
+            (let r : Result Mounted StartFault = Ok (after_of (mounted_on d (g.seen old)) e) in r))
+            (verb_effect does.refused c (mounted_on d (g.seen old)) verb)
             ∙ ap (λ (x : Mounted). (let r : Result Mounted StartFault = Ok (after_of x (effect_in x c)) in r)) same
 
 -- an image's bytes, or why there are none, are told as a line is: nothing changes

@@ -26,7 +26,7 @@ use Rattle.vab_cli.specs.Counts.{HearsNothing, IsSteady}
 use Rattle.vab_cli.specs.Program.{DoesVerb}
 use Rattle.vab_cli.specs.Runs.{NoFault, RunsSession, RunsItem, FailsBefore}
 use Rattle.vab_cli.specs.Runs.{RunsNone, RunsRefused, RunsMaking, FailsMaking}
-use Rattle.vab_cli.specs.Touched.{IsOfVerb, IsOfServing}
+use Rattle.vab_cli.specs.Touched.{IsOfVerb, IsOfServing, IsOfFresh}
 use Rattle.vab_cli.specs.Verbs.{command_of, none_line, verb_item, verb_status, make_line, done_making}
 use Rattle.vab_cli.proofs.Sessions.{completed}
 
@@ -156,9 +156,7 @@ module _ {D : Type 0}
       → (g.is_modelled
       → (s : Mounted)
       → IsIn (g.size old) s (g.seen old)
-      → (boot : Control)
-      → control_of (g.seen old 4) ≡ Ok boot
-      → Changes g (IsOfServing (g.size old) (g.seen old) s boot) old new)
+      → Changes g (IsOfServing (g.size old) (g.seen old)) old new)
       → DoesVerb g m old new status
   serve_verb is runs none touches = record {
     item = λ t c some. no_command m (Serve false) c is refl some;
@@ -200,7 +198,7 @@ module _ {D : Type 0}
       → g.size old < 6152
       → RunsRefused g (g.size old) [] NotADevice old new status)
       → (g.size old < 6152 → (status ≡ NotADevice) ⊎ (status ≡ NoMemory))
-      → (g.is_modelled → Changes g (InSectors (IsOfMaking [] 65536)) old new)
+      → (g.is_modelled → Changes g (IsOfFresh (g.size old)) old new)
       → DoesVerb g m old new status
   fresh_verb is runs small too_small touches = record {
     item = λ t c some. no_command m (Serve true) c is refl some;

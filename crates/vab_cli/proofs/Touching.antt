@@ -2,7 +2,7 @@
 use Rattle.std.proofs.Common.{◌≡◌, ◌⊎◌, ◌∙◌, inl, inr, ⊎_elim, ℕ, List, length, Ok, refl, sym, ap, subst}
 use Rattle.std.specs.Prelude.{Bool, is_some}
 use Rattle.vab_disk.specs.declared.disk.Disk.{Ghosts}
-use Rattle.vab_disk.specs.Disk.{Image, IsAt, set_sector}
+use Rattle.vab_disk.specs.Disk.{Image, set_sector}
 use Rattle.vab_disk.specs.Written.{set_here}
 use Rattle.vab_disk.specs.Calls.{Changes, SameBut}
 use Rattle.vab_disk.proofs.CallLaws.{set_same_but, changes_then, changes_wider}
@@ -11,13 +11,19 @@ use Rattle.vab_bootctl.specs.Control.{control_of}
 use Rattle.vab_lpstore.specs.Layout.{text_sectors}
 use Rattle.vab_lpstore.specs.Storing.{IsOfRepair}
 use Rattle.vab_lpstore.proofs.StoreLaws.{repair_elsewhere}
-use Rattle.vab_model.specs.Commands.{Command}
+use Rattle.vab_model.specs.Commands.{Command, SetActive, Boot, Mark, Print, Digest, Begin, Create}
+use Rattle.vab_model.specs.Commands.{Resize, Delete, Snapshot, Flash, Finish, Cancel, BeginMerge}
+use Rattle.vab_model.specs.Commands.{Merge}
 use Rattle.vab_device.specs.declared.device.Device.{Device}
-use Rattle.vab_device.specs.Mounted.{Mounted, state_on, mounted_on}
+use Rattle.vab_device.specs.Mounted.{Mounted, state_on}
 use Rattle.vab_device.specs.Reading.{IsIn, Represents}
 use Rattle.vab_recover.specs.Repairs.{IsRepair}
 use Rattle.vab_recover.proofs.OpenLaws.{control_stays}
-use Rattle.vab_manager.specs.Controls.{IsOfSlots, IsOfCommand, IsOfCommands}
+use Rattle.vab_manager.specs.Controls.{IsOfSlots, IsOfCommand}
+use Rattle.vab_commands.specs.Touched as commands
+use Rattle.vab_commands.specs.Writes as writes
+use Rattle.vab_cli.specs.Touched.{IsOfServing}
+use Rattle.vab_cli.specs.Verbs.{IsVerb}
 use Rattle.vab_manager.proofs.EffectLaws.{some_images}
 use Rattle.vab_cli.proofs.Items.{mounted_is}
 
@@ -86,15 +92,27 @@ pub slots_are : (d : Device) (size : ℕ) (image : Image) (m : Mounted) (boot : 
 slots_are d size image m boot c s bytes =
     said_by (λ k a b. IsOfSlots k a b (image 4) c s bytes) d size image m boot
 
-pub commands_are : (d : Device) (size : ℕ) (image : Image) (m : Mounted) (boot : Control)
-    (s : ℕ) (bytes : List ℕ)
-    → Represents d size image
-    → IsIn size m image
-    → control_of (image 4) ≡ Ok boot
-    → IsOfCommands d.control (is_some d.a) (is_some d.b) (image 4) s bytes
-    → IsOfCommands boot (is_some m.state.a) (is_some m.state.b) (image 4) s bytes
-commands_are d size image m boot s bytes =
-    said_by (λ k a b. IsOfCommands k a b (image 4) s bytes) d size image m boot
+-- a verb writes what a command on slots does
+pub verb_writes : (told : Type 0) (d : Device) (old : List ℕ) (c : Command)
+    → IsVerb c
+    → (s : ℕ) (b : List ℕ)
+    → writes.IsOfCommand told d old c s b
+    → IsOfCommand d old c s b
+verb_writes told d old (SetActive slot) verb s b w = w
+verb_writes told d old Boot verb s b w = w
+verb_writes told d old Mark verb s b w = w
+verb_writes told d old (Print name) verb s b w = w
+verb_writes told d old (Digest name) verb s b w = w
+verb_writes told d old Begin verb s b w = absurd verb
+verb_writes told d old (Create name size) verb s b w = absurd verb
+verb_writes told d old (Resize name size) verb s b w = absurd verb
+verb_writes told d old (Delete name) verb s b w = absurd verb
+verb_writes told d old (Snapshot name size) verb s b w = absurd verb
+verb_writes told d old (Flash name) verb s b w = absurd verb
+verb_writes told d old Finish verb s b w = absurd verb
+verb_writes told d old Cancel verb s b w = absurd verb
+verb_writes told d old BeginMerge verb s b w = absurd verb
+verb_writes told d old (Merge blocks) verb s b w = absurd verb
 
 -- ---- opening, and then what writes so, where the boot control's sector has these bytes
 
@@ -124,3 +142,29 @@ module _ {D : Type 0} (g : Ghosts D) (size : ℕ) (W : List ℕ → ℕ → List
       (changes_wider g (IsOfBoth (g.seen old)) (W (g.seen mid 4)) mid new
       (does (ap control_of same ∙ there))
       (λ s x w. inr (subst (λ (l : List ℕ). W l s x) same w)))
+
+-- ---- opening, and then a session
+
+module _ {D : Type 0} (g : Ghosts D) (size : ℕ) where
+  pub served_changes : (d : Device) (old mid new : D)
+      → (t : g.is_modelled)
+      → Represents d size (g.seen mid)
+      → Changes g (IsRepair size (g.seen old)) old mid
+      → commands.ChangesDevice g d mid new
+      → Changes g (IsOfServing size (g.seen old)) old new
+  served_changes d old mid new t is opens serves =
+      changes_then g (IsOfServing size (g.seen old)) old mid new
+      (changes_wider g (IsOfServing size (g.seen old)) (IsRepair size (g.seen old)) old mid opens
+      (λ s x w. inl w))
+      (changes_wider g (IsOfServing size (g.seen old)) (commands.IsOfCommands d (g.seen mid 4)) mid
+      new serves
+      (λ s x w.
+      inr (record {
+        device = d;
+        opened = g.seen mid;
+        repaired = opens.seen t;
+        represents = is;
+        writes =
+            subst (λ (l : List ℕ). commands.IsOfCommands d l s x)
+            (repair_leaves size (g.seen old) (g.seen mid) (opens.seen t)) w;
+      })))

@@ -29,7 +29,7 @@ use Rattle.vab_cli.specs.Codes.{make_status}
 use Rattle.vab_cli.specs.Counts.{HearsNothing, IsSteady}
 use Rattle.vab_cli.specs.Runs.{SaysEnd, Held, NoFault, RunsSession, RunsItem, FailsBefore, RunsNone}
 use Rattle.vab_cli.specs.Runs.{RunsRefused, RunsMaking, FailsMaking}
-use Rattle.vab_cli.specs.Touched.{IsOfVerb, IsOfServing}
+use Rattle.vab_cli.specs.Touched.{IsOfVerb, IsOfServing, IsOfFresh}
 use Rattle.vab_cli.specs.Verbs.{command_of, none_line, verb_item, verb_status}
 use Rattle.vab_cli.specs.Verbs.{make_line, done_making}
 
@@ -99,15 +99,13 @@ pub record DoesVerb {D : Type 0}
       → (fault : StartFault)
       → device (g.size old) (g.seen old) ≡ Err fault
       → RunsNone g (g.size old) [] old new status
-  -- It writes what opening repairs, and boot control's sector: a boot control that the boot rules
-  -- make of the one that is there by some commands.
+  -- It writes what opening repairs, and what its commands may write: boot control by the boot
+  -- rules, the update mark, the statuses, the target's table, and blocks of no image.
   pub touches_served : g.is_modelled
       → m ≡ Serve false
       → (s : Mounted)
       → IsIn (g.size old) s (g.seen old)
-      → (boot : Control)
-      → control_of (g.seen old 4) ≡ Ok boot
-      → Changes g (IsOfServing (g.size old) (g.seen old) s boot) old new
+      → Changes g (IsOfServing (g.size old) (g.seen old)) old new
   -- `serve --fresh` on enough sectors: the same over the made device of the empty set. Until its
   -- last gate is settled each cut leaves the disk as it was, or no device, or the made one. On too
   -- few sectors: status 5, and nothing is told or written.
@@ -128,7 +126,7 @@ pub record DoesVerb {D : Type 0}
       → (status ≡ NotADevice) ⊎ (status ≡ NoMemory)
   pub touches_fresh : g.is_modelled
       → m ≡ Serve true
-      → Changes g (InSectors (IsOfMaking [] 65536)) old new
+      → Changes g (IsOfFresh (g.size old)) old new
   -- `make` of an input that spells a set: the made device, or the first refusal with its line and
   -- nothing written; of another input status 3, with nothing told or written. Where it is made the
   -- input was heard to its end.

@@ -38,6 +38,24 @@ command_of (words.Activate slot) = Some (SetActive slot)
 command_of (words.Print name) = Some (Print name)
 command_of (words.Digest name) = Some (Digest name)
 
+-- it is one of a verb
+abbrev pub IsVerb : Command → Type 0
+IsVerb (SetActive slot) = Unit {0}
+IsVerb Boot = Unit {0}
+IsVerb Mark = Unit {0}
+IsVerb (Print name) = Unit {0}
+IsVerb (Digest name) = Unit {0}
+IsVerb Begin = ⊥
+IsVerb (Create name size) = ⊥
+IsVerb (Resize name size) = ⊥
+IsVerb (Delete name) = ⊥
+IsVerb (Snapshot name size) = ⊥
+IsVerb (Flash name) = ⊥
+IsVerb Finish = ⊥
+IsVerb Cancel = ⊥
+IsVerb BeginMerge = ⊥
+IsVerb (Merge blocks) = ⊥
+
 -- ---- lines
 
 abbrev pub line : List ℕ → List ℕ

@@ -13,6 +13,7 @@ ghost use Rattle.vab_manager.specs.Controls.{IsOfSlots};
 ghost use Rattle.vab_cli.specs.Counts.{HearsNothing, IsSteady};
 ghost use Rattle.vab_cli.specs.Telling.{DoesItem};
 ghost use Rattle.vab_cli.specs.Verbs.{none_line, command_line, command_item, verb_status};
+ghost use Rattle.vab_cli.specs.Verbs.{IsVerb};
 ghost use Rattle.vab_cli.specs.Touched.{IsOfVerb};
 ghost use Rattle.vab_cli.specs.Runs.{RunsItem, FailsBefore, RunsNone, IsFailed};
 
@@ -21,14 +22,20 @@ use crate::line::{NOT_A_DEVICE, reply_line};
 use crate::opening::open;
 use arrayvec::ArrayVec;
 use std::alloc::Global;
+use vab_commands::run_one;
 use vab_device::Device;
 use vab_disk::{Disk, Port};
 use vab_exchanges::say_all;
-use vab_manager::run_one;
 use vab_model::Command;
 
 // Carries out a command, and tells its line.
-fn do_command<P: Port>(port: &mut P, device: Device, command: &Command) -> Result<Status, Status>
+fn do_command<P: Port>(
+    alloc: Global,
+    port: &mut P,
+    device: Device,
+    command: &Command,
+) -> Result<Status, Status>
+    requires verb { IsVerb (command_of command.now) }
     requires kept { IsDevice device (P.size port.old) }
     requires represents { P.is_modelled → Represents device (P.size port.old) (P.seen port.old) }
     ensures does { P.is_modelled
@@ -60,7 +67,7 @@ fn do_command<P: Port>(port: &mut P, device: Device, command: &Command) -> Resul
         → Rose (P.faults port.old).sink (P.faults port.new).sink }
 {
     let current = device.current();
-    let (_device, reply) = match run_one(port, device, command) {
+    let (_device, reply) = match run_one(alloc, port, device, command, None) {
         Ok(done) => done,
         Err(_) => return Err(Status::Disk),
     };
@@ -74,6 +81,7 @@ fn do_command<P: Port>(port: &mut P, device: Device, command: &Command) -> Resul
 
 /// Opens the device, carries out a command, and tells its line.
 pub(crate) fn carry_out<P: Port>(alloc: Global, port: &mut P, command: &Command) -> Status
+    requires { IsVerb (command_of command.now) }
     ensures runs { P.is_modelled
         → (s : Mounted)
         → IsIn (P.size port.old) s (P.seen port.old)
@@ -104,7 +112,7 @@ pub(crate) fn carry_out<P: Port>(alloc: Global, port: &mut P, command: &Command)
         Ok(device) => device,
         Err(status) => return status,
     };
-    match do_command(port, device, command) {
+    match do_command(alloc, port, device, command) {
         Ok(status) => status,
         Err(status) => status,
     }

@@ -56,6 +56,7 @@ fn done_line(command: &Command, current: usize, out: &mut Line)
         Command::Boot
         | Command::Print(_)
         | Command::Digest(_)
+        | Command::Begin
         | Command::Create(_, _)
         | Command::Resize(_, _)
         | Command::Delete(_)

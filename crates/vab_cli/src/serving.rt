@@ -1,16 +1,13 @@
 //! A session over the device of the disk, or over one that is made first.
-ghost use Rattle.std.specs.Prelude.{◌≡◌, ◌≢◌, ◌⊎◌, ◌≤◌, ◌<◌, [], Err, IfErr, OnOk, IsErrOf, Ok};
+ghost use Rattle.std.specs.Prelude.{◌≡◌, ◌≢◌, ◌⊎◌, ◌≤◌, ◌<◌, [], Err};
 ghost use Rattle.vab_disk.specs.Disk.{Rose};
-ghost use Rattle.vab_disk.specs.Calls.{Changes, InSectors};
-ghost use Rattle.vab_bootctl.specs.declared.slots.Control.{Control};
-ghost use Rattle.vab_bootctl.specs.Control.{control_of};
+ghost use Rattle.vab_disk.specs.Calls.{Changes};
 ghost use Rattle.vab_device.specs.declared.fault.StartFault.{StartFault as Fault};
 ghost use Rattle.vab_device.specs.Mounted.{Mounted};
 ghost use Rattle.vab_device.specs.Reading.{device, IsIn};
 ghost use Rattle.vab_make.specs.Made.{made_device_of};
 ghost use Rattle.vab_make.specs.Making.{LeavesMaking};
-ghost use Rattle.vab_make.specs.Touched.{IsOfMaking};
-ghost use Rattle.vab_cli.specs.Touched.{IsOfServing};
+ghost use Rattle.vab_cli.specs.Touched.{IsOfServing, IsOfFresh};
 ghost use Rattle.vab_cli.specs.Counts.{IsSteady};
 ghost use Rattle.vab_cli.specs.Runs.{RunsSession, FailsBefore, RunsNone, RunsRefused, FailsMaking};
 
@@ -34,10 +31,7 @@ pub(crate) fn open_and_serve<P: Port>(alloc: Global, port: &mut P) -> Status
     ensures changes { P.is_modelled
         → (s : Mounted)
         → IsIn (P.size port.old) s (P.seen port.old)
-        → (boot : Control)
-        → control_of (P.seen port.old 4) ≡ Ok boot
-        → Changes P.Disk (IsOfServing (P.size port.old) (P.seen port.old) s boot)
-        port.old port.new }
+        → Changes P.Disk (IsOfServing (P.size port.old) (P.seen port.old)) port.old port.new }
     ensures none { P.is_modelled
         → (fault : Fault)
         → device (P.size port.old) (P.seen port.old) ≡ Err fault
@@ -70,7 +64,7 @@ pub(crate) fn make_and_serve<P: Port>(alloc: Global, port: &mut P) -> Status
         port.old port.new result
         ⊎ FailsMaking P.Disk (P.size port.old) [] 0 65536 port.old port.new result }
     ensures changes { P.is_modelled
-        → Changes P.Disk (InSectors (IsOfMaking [] 65536)) port.old port.new }
+        → Changes P.Disk (IsOfFresh (P.size port.old)) port.old port.new }
     ensures small { P.is_modelled
         → P.size port.old < 6152
         → RunsRefused P.Disk (P.size port.old) [] Status.NotADevice port.old port.new result }

@@ -1,8 +1,8 @@
 -- How rules and links join.
-use Rattle.std.proofs.Common.{◌≡◌, ◌∙◌, refl, sym, ap, Result, Ok, Err, Bool, true, false}
-use Rattle.std.specs.Prelude.{Option, Some, None, List, [], ◌∷◌}
+use Rattle.std.proofs.Common.{◌≡◌, refl, Result, Ok, Err, Bool, true, false}
+use Rattle.std.specs.Prelude.{Option, Some, None, List, ◌∷◌}
 use Rattle.vab_device.specs.declared.fault.StartFault.{StartFault}
-use Rattle.vab_device.specs.Checks.{Check, check, or_else, first_fault, passing, ◌>>=◌}
+use Rattle.vab_device.specs.Checks.{Check, check, first_fault, passing, ◌>>=◌}
 
 -- a link whose result is known
 pub bound : {A B : Type 0} (x : Result A StartFault) (f : A → Result B StartFault) (b : B)

@@ -1,25 +1,23 @@
 -- Another boot control in its sector: all else is read as before.
-use Rattle.std.proofs.Common.{◌≡◌, ◌≢◌, ◌∙◌, inl, inr, ⊎_elim, ℕ, ◌+◌, ◌-◌, ◌*◌, ◌≤◌, ◌<◌, List, []}
-use Rattle.std.proofs.Common.{◌∷◌, length, take, Result, Ok, refl, sym, ap, subst, arith}
-use Rattle.std.specs.Prelude.{Bool, Option, Some, None, is_some}
+use Rattle.std.proofs.Common.{◌≡◌, ◌≢◌, ◌∙◌, inl, inr, ℕ, ◌+◌, ◌≤◌, List, []}
+use Rattle.std.proofs.Common.{◌∷◌, length, take, Ok, refl, ap, subst, arith}
+use Rattle.std.specs.Prelude.{Bool, Option, None, is_some}
 use Rattle.vab_disk.specs.Disk.{Image, set_sector}
 use Rattle.vab_disk.specs.Written.{set_here, set_there}
 use Rattle.vab_gate.proofs.Blocks.{sectors_same}
 use Rattle.vab_bootctl.specs.declared.slots.Control.{Control}
-use Rattle.vab_bootctl.specs.declared.sector.ControlFault.{ControlFault}
 use Rattle.vab_bootctl.specs.Control.{control_of}
 use Rattle.vab_geometry.specs.declared.geometry.Geometry.{Geometry}
 use Rattle.vab_lpstore.specs.Layout.{copy_sectors, primary_of, backup_of, primary_bytes}
-use Rattle.vab_lpstore.specs.Layout.{backup_bytes, BothHold}
+use Rattle.vab_lpstore.specs.Layout.{backup_bytes}
 use Rattle.vab_tables.specs.declared.table.Table.{Table}
 use Rattle.vab_model.specs.State.{control_seen, with_control}
 use Rattle.vab_device.specs.declared.device.Part.{Part}
 use Rattle.vab_device.specs.declared.device.Device.{Device}
-use Rattle.vab_device.specs.Checks.{first_fault}
-use Rattle.vab_device.specs.Mounted.{Mounted, images_on, control_on, state_on, mounted_on, in_state}
+use Rattle.vab_device.specs.Mounted.{images_on, state_on, mounted_on, in_state}
 use Rattle.vab_device.specs.Phases.{phase_at}
-use Rattle.vab_device.specs.Reading.{Read, mark_in, control_read, control_in, geometry_at}
-use Rattle.vab_device.specs.Reading.{tables_in, state_fault, stores_of, kept, Reads, AgreeCopies}
+use Rattle.vab_device.specs.Reading.{Read, control_read, control_in}
+use Rattle.vab_device.specs.Reading.{state_fault, stores_of, Reads, AgreeCopies}
 use Rattle.vab_device.specs.Reading.{Represents, IsOfTables, IsOfImages, IsOfPlan}
 use Rattle.vab_device.specs.Mounted.{phase_on}
 use Rattle.vab_device.proofs.SameLaws.{mark_same, geometry_same, tables_agree, images_same}

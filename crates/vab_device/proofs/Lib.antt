@@ -2,6 +2,7 @@ pub mod Behind
 pub mod BlockLaws
 pub mod CheckLaws
 pub mod ControlLaws
+pub mod DoesLaws
 pub mod IdleLaws
 pub mod OpeningLaws
 pub mod ReadingLaws

@@ -1,6 +1,6 @@
 -- What the links of a disk answer, one after another.
-use Rattle.std.proofs.Common.{◌≡◌, ◌∙◌, ℕ, true, false, leb, List, [], ◌∷◌, Result, Ok, Err, refl}
-use Rattle.std.proofs.Common.{sym, ap, subst}
+use Rattle.std.proofs.Common.{◌≡◌, ℕ, true, false, leb, List, [], ◌∷◌, Result, Ok, Err, refl}
+use Rattle.std.proofs.Common.{ap}
 use Rattle.std.specs.Prelude.{Bool, Option, Some, None}
 use Rattle.vab_disk.specs.Disk.{Image}
 use Rattle.vab_marks.specs.declared.status.PartStatus.{PartStatus}
@@ -8,16 +8,15 @@ use Rattle.vab_bootctl.specs.declared.slots.Control.{Control}
 use Rattle.vab_bootctl.specs.Control.{control_of}
 use Rattle.vab_marks.specs.declared.mark.UpdateMark.{UpdateMark}
 use Rattle.vab_geometry.specs.declared.geometry.Geometry.{Geometry}
-use Rattle.vab_tables.specs.declared.table.Table.{Table}
 use Rattle.vab_device.specs.declared.fault.StartFault.{StartFault}
 use Rattle.vab_device.specs.declared.fault.StartFault.TheVariants.{TooSmall}
-use Rattle.vab_device.specs.Checks.{Check, first_fault, or_else, ◌>>=◌}
+use Rattle.vab_device.specs.Checks.{Check, first_fault}
 use Rattle.vab_device.specs.Phases.{phase_at}
 use Rattle.vab_device.specs.Reading.{Read, mark_in, statuses_at, control_read, control_in}
 use Rattle.vab_device.specs.Reading.{geometry_at, tables_in, frame, part_fault, state_fault, judged}
-use Rattle.vab_device.specs.Reading.{stores_of, scanned_in, stated, kept, device, Reads}
+use Rattle.vab_device.specs.Reading.{stores_of, scanned_in, stated, device, Reads}
 use Rattle.vab_device.specs.Stores.{Scanned, scans_in}
-use Rattle.vab_device.proofs.ReadingLaws.{unscanned, FrameReads, frame_is}
+use Rattle.vab_device.proofs.ReadingLaws.{FrameReads, frame_is}
 
 -- ---- a part of the frame fails
 

@@ -1,18 +1,16 @@
 -- A disk means a device exactly where it is read so.
-use Rattle.std.proofs.Common.{◌≡◌, ◌≢◌, ◌∙◌, inl, inr, ⊎_elim, ℕ, true, false, List, [], ◌∷◌, Result, Ok, Err}
-use Rattle.std.proofs.Common.{refl, sym, ap, subst, leb, eqb}
-use Rattle.std.specs.Prelude.{Bool, Option, Some, None, is_some, nat_le, ◌==◌, if◌then◌else◌}
+use Rattle.std.proofs.Common.{◌≡◌, ◌≢◌, ◌∙◌, inl, inr, ⊎_elim, ℕ, true, List, [], ◌∷◌, Result, Ok, Err}
+use Rattle.std.proofs.Common.{refl, sym, ap, subst}
+use Rattle.std.specs.Prelude.{Bool, None, is_some, nat_le, ◌==◌}
 use Rattle.std.proofs.lemmas.Bool.{cases_Bool}
 use Rattle.vab_disk.specs.Disk.{Image}
 use Rattle.vab_bootctl.specs.declared.slots.Control.{Control}
-use Rattle.vab_bootctl.specs.declared.sector.ControlFault.{ControlFault}
 use Rattle.vab_bootctl.specs.Control.{control_of}
 use Rattle.vab_marks.specs.declared.mark.UpdateMark.{UpdateMark}
 use Rattle.vab_marks.specs.declared.mark.MarkPhase.{MarkPhase}
 use Rattle.vab_marks.specs.declared.mark.MarkPhase.TheVariants as marks
 use Rattle.vab_tables.specs.declared.table.Table.{Table}
 use Rattle.vab_geometry.specs.declared.geometry.Geometry.{Geometry}
-use Rattle.vab_layout.specs.Layout.{layout_of}
 use Rattle.vab_layout.specs.Slots.{other_slot}
 use Rattle.vab_model.specs.State.{control_seen}
 use Rattle.vab_model.proofs.SeenLaws.{seen_again}
@@ -22,7 +20,7 @@ use Rattle.vab_marks.specs.declared.sector.MarkFault.{MarkFault}
 use Rattle.vab_marks.specs.Mark.{mark_of}
 use Rattle.vab_model.specs.declared.state.Phase.TheVariants as phases
 use Rattle.vab_device.specs.declared.device.Device.{Device}
-use Rattle.vab_device.specs.Checks.{Check, first_fault, passing, ◌>>=◌}
+use Rattle.vab_device.specs.Checks.{Check, first_fault, ◌>>=◌}
 use Rattle.vab_device.specs.Idle.{control_read_of}
 use Rattle.vab_device.specs.Mounted.{Mounted, control_on, state_on, mounted_on, images_on}
 use Rattle.vab_device.specs.Mounted.{phase_on}
@@ -33,7 +31,7 @@ use Rattle.vab_device.specs.Checks.{unless}
 use Rattle.vab_device.specs.Reading.{Read, mark_read, mark_in, statuses_at, control_read, control_in}
 use Rattle.vab_device.specs.Reading.{geometry_at, stores_of, scanned_in}
 use Rattle.vab_device.specs.Reading.{table_at, tables_in, framed, frame, part_fault, state_fault}
-use Rattle.vab_device.specs.Reading.{judged, stated, table_for, parts_for, read_table, kept, device}
+use Rattle.vab_device.specs.Reading.{judged, stated, table_for, parts_for, kept, device}
 use Rattle.vab_device.specs.Reading.{Reads, Represents, SameRead}
 use Rattle.vab_device.proofs.CheckLaws.{bound, passed}
 

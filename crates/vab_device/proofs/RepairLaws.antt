@@ -1,6 +1,6 @@
 -- Copies of a table that are written while the slot's table stays: all is read as before.
-use Rattle.std.proofs.Common.{◌≡◌, ◌≢◌, ◌⊎◌, ◌∙◌, inl, inr, ⊎_elim, ℕ, ◌+◌, ◌-◌, ◌*◌, ◌/◌, ◌≤◌, ◌<◌}
-use Rattle.std.proofs.Common.{List, [], ◌∷◌, Result, Ok, refl, sym, ap, subst, arith, add-mul}
+use Rattle.std.proofs.Common.{◌≡◌, ◌≢◌, ◌⊎◌, inl, inr, ⊎_elim, ℕ, ◌+◌, ◌-◌, ◌*◌, ◌/◌, ◌≤◌, ◌<◌}
+use Rattle.std.proofs.Common.{List, [], ◌∷◌, Ok, refl, sym, subst, arith, add-mul}
 use Rattle.std.proofs.lemmas.Bool.{cases_lt, cases_eq}
 use Rattle.std.proofs.Math.Nat.{mul-le-mul_right}
 use Rattle.vab_disk.specs.Disk.{Image}
@@ -14,13 +14,11 @@ use Rattle.vab_lpstore.specs.Loading.{slot_table}
 use Rattle.vab_lpstore.specs.Loading as loading
 use Rattle.vab_tables.specs.Reading.{table_of}
 use Rattle.vab_lpstore.specs.Storing.{SameElsewhere}
-use Rattle.vab_lpstore.proofs.StoreLaws.{primary_byte, backup_byte, copies_apart}
-use Rattle.vab_device.specs.declared.fault.StartFault.{StartFault}
+use Rattle.vab_lpstore.proofs.StoreLaws.{backup_byte, copies_apart}
 use Rattle.vab_device.specs.Checks.{◌>>=◌}
 use Rattle.vab_device.specs.Kept.{copies_end}
 use Rattle.vab_device.specs.Phases.{phase_at}
 use Rattle.vab_device.specs.Reading.{Read, tables_in, stores_of, kept, Reads, SameRead}
-use Rattle.vab_tables.specs.declared.table.Table.{Table}
 use Rattle.vab_device.proofs.SameLaws.{mark_same, control_same, geometry_same, table_same}
 use Rattle.vab_device.proofs.SameLaws.{images_same}
 use Rattle.vab_device.proofs.StoreLaws.{statuses_kept, stores_kept, plan_kept}

@@ -1,14 +1,11 @@
 -- What is read the same: where live sectors stay, where copies of tables are written, and where boot
 -- control is.
-use Rattle.std.proofs.Common.{◌≡◌, ◌≢◌, ◌⊎◌, ◌∙◌, inl, inr, ⊎_elim, ℕ, ◌+◌, ◌-◌, ◌*◌, ◌/◌, ◌≤◌, ◌<◌}
-use Rattle.std.proofs.Common.{true, false, List, [], ◌∷◌, ◌++◌, Result, Ok, Err, refl, sym, ap}
-use Rattle.std.proofs.Common.{subst, leb, arith}
-use Rattle.std.specs.Prelude.{Bool, Option, Some, None, map, nat_le, All, IsTrue, ◌==◌, if◌then◌else◌}
-use Rattle.std.proofs.lemmas.Bool.{cases_Bool, and_parts, leb-true}
-use Rattle.vab_disk.specs.Disk.{Image, set_sector}
-use Rattle.vab_disk.specs.Written.{set_here, set_there}
-use Rattle.vab_disk.specs.Calls.{IsBetween, InSectors, SameBut}
-use Rattle.vab_gate.specs.Gate.{sectors_at}
+use Rattle.std.proofs.Common.{◌≡◌, ◌∙◌, inl, inr, ⊎_elim, ℕ, ◌+◌}
+use Rattle.std.proofs.Common.{List, [], ◌∷◌, Ok, refl, ap}
+use Rattle.std.proofs.Common.{arith}
+use Rattle.std.specs.Prelude.{Bool, Option, Some, None, map}
+use Rattle.vab_disk.specs.Disk.{Image}
+use Rattle.vab_disk.specs.Calls.{InSectors}
 use Rattle.vab_gate.proofs.Blocks.{sectors_same}
 use Rattle.vab_bootctl.specs.Control.{control_of}
 use Rattle.vab_marks.specs.Mark.{mark_of}
@@ -18,27 +15,16 @@ use Rattle.vab_geometry.specs.Loading.{geometry_in, first_of}
 use Rattle.vab_lpstore.specs.Layout.{copy_sectors, primary_of, backup_of, primary_bytes, backup_bytes}
 use Rattle.vab_lpstore.specs.Loading.{slot_table}
 use Rattle.vab_lpstore.specs.Loading as loading
-use Rattle.vab_tables.specs.declared.table.Table.{Table}
-use Rattle.vab_tables.specs.declared.fault.TableFault.{TableFault}
 use Rattle.vab_tables.specs.Reading.{table_of}
-use Rattle.vab_layout.specs.declared.layout.Part.{Part as PartOfLayout}
-use Rattle.vab_layout.specs.Layout.{layout_of}
-use Rattle.vab_layout.specs.Slots.{own_parts}
-use Rattle.vab_device.specs.declared.fault.StartFault.{StartFault}
-use Rattle.vab_device.specs.declared.fault.StartFault.TheVariants.{BadTable}
 use Rattle.vab_device.specs.declared.device.Part.{Part}
 use Rattle.vab_device.specs.Checks.{◌>>=◌}
-use Rattle.vab_device.specs.Kept.{block_sector, sectors_of, part_on, parts_of, copies_end}
-use Rattle.vab_device.specs.Kept.{super_bytes, lies_in}
 use Rattle.vab_device.specs.Mounted.{bytes_at, sectors_read, image_on, images_on}
 use Rattle.vab_device.specs.Phases.{phase_at}
-use Rattle.vab_device.specs.Checks.{unless}
 use Rattle.vab_device.specs.Reading.{Read, mark_read, mark_in, control_read, control_in}
 use Rattle.vab_device.specs.Reading.{geometry_read, geometry_at, table_read, table_at, tables_in}
-use Rattle.vab_device.specs.Reading.{table_for, parts_for, read_table, kept, Reads, SameRead, Dead}
-use Rattle.vab_device.specs.Reading.{stores_of, IsOfTables, IsOfBlocks, IsOfParts, IsOfImages}
-use Rattle.vab_device.specs.Reading.{IsOfStores, IsOfPlan, Live, Agrees, Misses}
-use Rattle.vab_device.proofs.CheckLaws.{bound}
+use Rattle.vab_device.specs.Reading.{kept, Reads, SameRead, Dead}
+use Rattle.vab_device.specs.Reading.{stores_of, IsOfTables, IsOfParts, IsOfImages}
+use Rattle.vab_device.specs.Reading.{Live, Agrees, Misses}
 use Rattle.vab_device.proofs.BlockLaws.{bytes_same}
 use Rattle.vab_device.proofs.StoreLaws.{statuses_kept, stores_kept, plan_kept}
 

@@ -1,29 +1,26 @@
 -- Stores whose sectors stay are read the same.
-use Rattle.std.proofs.Common.{◌≡◌, ◌∙◌, inl, inr, ℕ, zero, suc, ◌+◌, ◌*◌, ◌/◌, ◌%◌, ◌≤◌, ◌<◌, List}
+use Rattle.std.proofs.Common.{◌≡◌, ◌∙◌, inl, inr, ℕ, zero, suc, ◌+◌, ◌/◌, ◌%◌, ◌<◌, List}
 use Rattle.std.proofs.Common.{[], ◌∷◌, length, take, slice_index, Result, Ok, Err, refl, sym, ap, arith}
-use Rattle.std.proofs.Common.{subst}
-use Rattle.std.specs.Prelude.{Bool, true, false, map, Option, Some, None, ◌==◌}
-use Rattle.std.proofs.lemmas.Bool.{cases_Bool}
+use Rattle.std.specs.Prelude.{Bool, true, false, map, Option, Some, None}
 use Rattle.vab_disk.specs.Disk.{Image}
 use Rattle.vab_disk.specs.Calls.{IsBetween}
 use Rattle.vab_exceptions.specs.declared.area.Exception.{Exception}
 use Rattle.vab_exceptions.specs.Entries.{area_entries, entry_at}
 use Rattle.vab_exceptions.specs.Header.{header_of}
 use Rattle.vab_store.specs.declared.fault.StoreFault.{StoreFault}
-use Rattle.vab_store.specs.Layout.{chunk_bytes, area_chunk, slot_at, slots_of, areas_of}
-use Rattle.vab_store.specs.Scan.{scan_of, IsScan}
-use Rattle.vab_store.specs.View.{exception_at}
+use Rattle.vab_store.specs.Layout.{chunk_bytes, area_chunk, slot_at, slots_of}
+use Rattle.vab_store.specs.Scan.{scan_of}
 use Rattle.vab_store.proofs.ChunkLaws.{chunk_same}
 use Rattle.vab_store.proofs.ScanLaws.{scan_of_is, scan_of_ok}
-use Rattle.vab_statuses.specs.Statuses.{statuses_in, IsOfStatuses}
+use Rattle.vab_statuses.specs.Statuses.{IsOfStatuses}
 use Rattle.vab_statuses.proofs.StatusesLaws.{statuses_same}
 use Rattle.vab_device.specs.declared.fault.StartFault.{StartFault}
 use Rattle.vab_device.specs.declared.fault.StartFault.TheVariants.{BadStore}
 use Rattle.vab_device.specs.declared.device.Planned.{Planned}
 use Rattle.vab_device.specs.declared.device.PlannedImage.{PlannedImage}
 use Rattle.vab_device.specs.declared.device.PlannedImage.TheVariants.{Kept, Declared, Written}
-use Rattle.vab_device.specs.Checks.{unless, ◌>>=◌}
-use Rattle.vab_device.specs.Mounted.{bytes_at, written_sectors, planned_on, entry_on, phase_on}
+use Rattle.vab_device.specs.Checks.{◌>>=◌}
+use Rattle.vab_device.specs.Mounted.{written_sectors, planned_on, entry_on, phase_on}
 use Rattle.vab_device.specs.Reading.{statuses_read, statuses_at, IsOfBlocks, IsOfStores}
 use Rattle.vab_device.specs.Reading.{IsOfWritten, IsOfPlanned, IsOfPlan}
 use Rattle.vab_device.specs.Stores.{Wanted, Scanned, scan_read, scan_at, scans_in}

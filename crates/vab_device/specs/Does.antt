@@ -33,6 +33,14 @@ abbrev pub effect_of : {D : Type 0}
 effect_of g d staged command refused old =
     unless_refused refused command (effect_on (mounted_on d (g.seen old)) staged command)
 
+-- What no command takes from a device, while no update is ready to be booted: where the tables
+-- stand, the slot of the update mark, and the partitions of the slots with images.
+pub record KeepsSource (d next : Device) : Type 0 where
+  pub geometry : next.geometry ≡ d.geometry
+  pub slot : next.mark.slot ≡ d.mark.slot
+  pub a : next.a ≡ d.a
+  pub b : next.b ≡ d.b
+
 -- The reply and the device after it are those of the table of effects, and where nothing was
 -- pending each outcome since is one of its steps. It touches such sectors alone. Memory may be
 -- refused to it. An error comes where the disk has failed.
@@ -46,6 +54,7 @@ pub record Does {D : Type 0}
     (result : Result (Device × Reply) DiskFault) : Type 0 where
   pub refused : Bool
   pub kept : IfOk result (λ r. IsDevice r.0 (g.size old))
+  pub source : IfOk result (λ r. KeepsSource d r.0)
   pub represents : g.is_modelled → IfOk result (λ r. Represents r.0 (g.size old) (g.seen new))
   pub after : g.is_modelled → IfOk result
       (λ r. mounted_on r.0 (g.seen new)

@@ -1,6 +1,6 @@
 -- What is kept of a device between two commands, and what holds of it over every disk.
 use Rattle.std.specs.Prelude.{◌≡◌, ◌≢◌, ◌⊎◌, ℕ, ◌+◌, ◌-◌, ◌*◌, ◌≤◌, ◌<◌, ◌==◌, ◌&&◌, ◌^◌}
-use Rattle.std.specs.Prelude.{Bool, true, false, nat_le, not, if◌then◌else◌, List, map, length}
+use Rattle.std.specs.Prelude.{Bool, true, false, nat_le, if◌then◌else◌, List, map, length}
 use Rattle.std.specs.Prelude.{Option, Some, None, is_some, All, AllPairs, IsTrue}
 use Rattle.std.specs.Str.{bytes_eq}
 use Rattle.vab_names.specs.Names.{is_base, base_of, default_name}

@@ -1,5 +1,5 @@
 -- A phase of an update: what it reads of a disk, and what it asks of that.
-use Rattle.std.specs.Prelude.{ℕ, ◌==◌, Bool, true, false, not, ◌&&◌, List, [], ◌∷◌, map, length}
+use Rattle.std.specs.Prelude.{ℕ, ◌==◌, Bool, true, false, not, ◌&&◌, List, [], ◌∷◌, map}
 use Rattle.std.specs.Prelude.{Option, Some, None, Result, option_map}
 use Rattle.vab_bootctl.specs.declared.slots.Info.{Info}
 use Rattle.vab_bootctl.specs.declared.slots.Control.{Control}

@@ -1,6 +1,6 @@
 -- What the commands of an update make of a device: its begin, the edits of the target's table, and
 -- the image of a partition.
-use Rattle.std.specs.Prelude.{ℕ, ◌+◌, ◌*◌, ◌/◌, ◌==◌, Bool, true, false, not, ◌&&◌, nat_lt, nat_le}
+use Rattle.std.specs.Prelude.{ℕ, ◌*◌, ◌/◌, ◌==◌, Bool, true, false, not, ◌&&◌, nat_lt, nat_le}
 use Rattle.std.specs.Prelude.{if◌then◌else◌, List, [], ◌∷◌, length, map, take, Option, Some, None}
 use Rattle.std.specs.Prelude.{option_map, is_some, Result, Ok, Err}
 use Rattle.std.specs.List.{filter, flat_map, range_with_len}

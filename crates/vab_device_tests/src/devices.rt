@@ -5,9 +5,9 @@ ghost use Rattle.vab_set.specs.Spelling.{IsSet};
 
 use std::alloc::Global;
 use std::test::*;
+use vab_commands::run_one;
 use vab_disk::{Disk, MemPort};
 use vab_make::{MakeFault, make_device};
-use vab_manager::run_one;
 use vab_model::{Command, Refusal, Reply};
 use vab_recover::start;
 use vab_set::{Set, read_set};
@@ -48,11 +48,21 @@ pub fn device_of_one(alloc: Global) -> Result<MemPort, Fail> {
 
 // Opens the device of a disk and carries out a command on it, where the disk doesn't fail.
 pub fn reply(alloc: Global, d: &mut MemPort, command: &Command) -> Option<Reply> {
+    reply_staged(alloc, d, command, None)
+}
+
+// The same, where these bytes are staged.
+pub fn reply_staged(
+    alloc: Global,
+    d: &mut MemPort,
+    command: &Command,
+    staged: Option<&[u8]>,
+) -> Option<Reply> {
     let device = match start(alloc, d) {
         Ok(device) => device,
         Err(_) => return None,
     };
-    let (_device, reply) = match run_one(d, device, command) {
+    let (_device, reply) = match run_one(alloc, d, device, command, staged) {
         Ok(done) => done,
         Err(_) => return None,
     };

@@ -1,66 +1,13 @@
 // An update of a made device: begun, edited, flashed and dropped, each time on the device that is
 // opened again.
 
-use crate::devices::{device_of_one, reply};
+use crate::devices::{device_of_one, reply, reply_staged};
 use std::alloc::Global;
 use std::test::*;
-use vab_begin::{begin, cancel};
-use vab_builder::Edit;
 use vab_device::PlannedImage;
 use vab_disk::MemPort;
-use vab_edit::edit;
-use vab_flash::flash;
 use vab_model::{Command, Refusal, Reply};
 use vab_recover::start;
-
-// Begins an update, where the disk doesn't fail.
-fn begun(alloc: Global, d: &mut MemPort) -> Option<Reply> {
-    let device = match start(alloc, d) {
-        Ok(device) => device,
-        Err(_) => return None,
-    };
-    let (_device, reply) = match begin(alloc, d, device) {
-        Ok(done) => done,
-        Err(_) => return None,
-    };
-    Some(reply)
-}
-
-fn cancelled(alloc: Global, d: &mut MemPort) -> Option<Reply> {
-    let device = match start(alloc, d) {
-        Ok(device) => device,
-        Err(_) => return None,
-    };
-    let (_device, reply) = match cancel(d, device) {
-        Ok(done) => done,
-        Err(_) => return None,
-    };
-    Some(reply)
-}
-
-fn edited(alloc: Global, d: &mut MemPort, what: &Edit) -> Option<Reply> {
-    let device = match start(alloc, d) {
-        Ok(device) => device,
-        Err(_) => return None,
-    };
-    let (_device, reply) = match edit(alloc, d, device, what) {
-        Ok(done) => done,
-        Err(_) => return None,
-    };
-    Some(reply)
-}
-
-fn flashed(alloc: Global, d: &mut MemPort, name: &[u8], staged: Option<&[u8]>) -> Option<Reply> {
-    let device = match start(alloc, d) {
-        Ok(device) => device,
-        Err(_) => return None,
-    };
-    let (_device, reply) = match flash(alloc, d, device, name, staged) {
-        Ok(done) => done,
-        Err(_) => return None,
-    };
-    Some(reply)
-}
 
 // What is planned in a place: the partition's blocks, its store's, `k`, `d` or `w` for kept,
 // declared or written, and how many exceptions.
@@ -94,35 +41,38 @@ fn an_update_is_begun_edited_flashed_and_dropped(rt: HostRuntime) -> Result<(), 
     let alloc = rt.alloc();
     let mut d = device_of_one(alloc)?;
     let none = Some(Reply::Refused(Refusal::NotInstalling));
-    assert_eq!(rt; edited(alloc, &mut d, &Edit::Delete(b"x_b")), none);
-    assert_eq!(rt; flashed(alloc, &mut d, b"x_b", Some(b"abc")), none);
-    assert_eq!(rt; begun(alloc, &mut d), Some(Reply::Done));
+    assert_eq!(rt; reply(alloc, &mut d, &Command::Delete(b"x_b")), none);
+    assert_eq!(rt;
+        reply_staged(alloc, &mut d, &Command::Flash(b"x_b"), Some(b"abc")),
+        none
+    );
+    assert_eq!(rt; reply(alloc, &mut d, &Command::Begin), Some(Reply::Done));
     assert_eq!(rt; planned(alloc, &mut d, 0), Some((1, 0, b'k', 0)));
     assert_eq!(rt;
-        begun(alloc, &mut d),
+        reply(alloc, &mut d, &Command::Begin),
         Some(Reply::Refused(Refusal::NotIdle))
     );
     // Each edit and its reply.
     let edits = [
-        (Edit::Create(b"y_b", 8192), Reply::Done),
-        (Edit::Create(b"y_b", 0), Reply::Refused(Refusal::Exists)),
-        (Edit::Resize(b"z_b", 0), Reply::Refused(Refusal::Unknown)),
+        (Command::Create(b"y_b", 8192), Reply::Done),
+        (Command::Create(b"y_b", 0), Reply::Refused(Refusal::Exists)),
+        (Command::Resize(b"z_b", 0), Reply::Refused(Refusal::Unknown)),
         (
-            Edit::AddStore(b"y_b", 4096),
+            Command::Snapshot(b"y_b", 4096),
             Reply::Refused(Refusal::BadSize),
         ),
-        (Edit::AddStore(b"y_b", 0), Reply::Done),
+        (Command::Snapshot(b"y_b", 0), Reply::Done),
         (
-            Edit::Resize(b"y_b", 4096),
+            Command::Resize(b"y_b", 4096),
             Reply::Refused(Refusal::HasStore),
         ),
         (
-            Edit::Create(b"z_b", 1 << 40),
+            Command::Create(b"z_b", 1 << 40),
             Reply::Refused(Refusal::NoRoom(268435463, 256)),
         ),
     ];
     for (what, told) in edits {
-        assert_eq!(rt; edited(alloc, &mut d, &what), Some(told), "{what:?}");
+        assert_eq!(rt; reply(alloc, &mut d, &what), Some(told), "{what:?}");
     }
     assert_eq!(rt; planned(alloc, &mut d, 1), Some((2, 4, b'd', 0)));
     let large = [0u8; 8193];
@@ -136,35 +86,35 @@ fn an_update_is_begun_edited_flashed_and_dropped(rt: HostRuntime) -> Result<(), 
         (b"y_b", Some(&large), Refusal::TooLarge(8193, 8192)),
     ];
     for (name, staged, refusal) in flashes {
-        let told = flashed(alloc, &mut d, name, staged);
+        let told = reply_staged(alloc, &mut d, &Command::Flash(name), staged);
         assert_eq!(rt; told, Some(Reply::Refused(refusal)), "{refusal:?}");
     }
     assert_eq!(rt;
-        flashed(alloc, &mut d, b"y_b", Some(b"abc")),
+        reply_staged(alloc, &mut d, &Command::Flash(b"y_b"), Some(b"abc")),
         Some(Reply::Done)
     );
     assert_eq!(rt; planned(alloc, &mut d, 1), Some((2, 4, b'w', 2)));
-    let again = flashed(alloc, &mut d, b"y_b", Some(b"abc"));
+    let again = reply_staged(alloc, &mut d, &Command::Flash(b"y_b"), Some(b"abc"));
     assert_eq!(rt; again, Some(Reply::Refused(Refusal::Written)));
     // The source's image stays, and a store is as full as the image differs.
     let image = reply(alloc, &mut d, &Command::Print(b"x_a"));
     assert!(rt; matches!(image, Some(Reply::Bytes(_))));
-    let store = edited(alloc, &mut d, &Edit::AddStore(b"x_b", 8192));
+    let store = reply(alloc, &mut d, &Command::Snapshot(b"x_b", 8192));
     assert_eq!(rt; store, Some(Reply::Done));
-    let full = flashed(alloc, &mut d, b"x_b", Some(b"abd"));
+    let full = reply_staged(alloc, &mut d, &Command::Flash(b"x_b"), Some(b"abd"));
     assert_eq!(rt; full, Some(Reply::Refused(Refusal::StoreFull(3, 2))));
     assert_eq!(rt;
-        flashed(alloc, &mut d, b"x_b", Some(b"abc")),
+        reply_staged(alloc, &mut d, &Command::Flash(b"x_b"), Some(b"abc")),
         Some(Reply::Done)
     );
     assert_eq!(rt; planned(alloc, &mut d, 0), Some((1, 2, b'w', 0)));
     assert_eq!(rt; planned(alloc, &mut d, 1), Some((2, 4, b'w', 2)));
     // What is dropped is gone from the next update.
-    assert_eq!(rt; cancelled(alloc, &mut d), Some(Reply::Done));
+    assert_eq!(rt; reply(alloc, &mut d, &Command::Cancel), Some(Reply::Done));
     assert_eq!(rt; planned(alloc, &mut d, 0), None);
     let nothing = Some(Reply::Refused(Refusal::NothingToCancel));
-    assert_eq!(rt; cancelled(alloc, &mut d), nothing);
-    assert_eq!(rt; begun(alloc, &mut d), Some(Reply::Done));
+    assert_eq!(rt; reply(alloc, &mut d, &Command::Cancel), nothing);
+    assert_eq!(rt; reply(alloc, &mut d, &Command::Begin), Some(Reply::Done));
     assert_eq!(rt; planned(alloc, &mut d, 0), Some((1, 0, b'k', 0)));
     assert_eq!(rt; planned(alloc, &mut d, 1), None);
     Ok(())
@@ -178,7 +128,7 @@ fn an_update_that_is_cut_is_the_old_one_or_the_new_one(rt: HostRuntime) -> Resul
     for stop in 0..80 {
         let mut d = device_of_one(alloc)?;
         d.stop_after(stop);
-        let whole = begun(alloc, &mut d).is_some();
+        let whole = reply(alloc, &mut d, &Command::Begin).is_some();
         let mut d = d.next_run(Vec::new(alloc));
         let kept = planned(alloc, &mut d, 0);
         assert!(rt; kept == Some((1, 0, b'k', 0)) || (kept.is_none() && !whole));
@@ -187,7 +137,7 @@ fn an_update_that_is_cut_is_the_old_one_or_the_new_one(rt: HostRuntime) -> Resul
             continue;
         }
         d.stop_after(stop / 4);
-        let stored = edited(alloc, &mut d, &Edit::AddStore(b"x_b", 0)).is_some();
+        let stored = reply(alloc, &mut d, &Command::Snapshot(b"x_b", 0)).is_some();
         let mut d = d.next_run(Vec::new(alloc));
         let declared = planned(alloc, &mut d, 0);
         assert!(rt; declared == Some((1, 3, b'd', 0)) || (declared == kept && !stored));
@@ -196,7 +146,7 @@ fn an_update_that_is_cut_is_the_old_one_or_the_new_one(rt: HostRuntime) -> Resul
             continue;
         }
         d.stop_after(stop.saturating_sub(45));
-        let done = flashed(alloc, &mut d, b"x_b", Some(b"abd")).is_some();
+        let done = reply_staged(alloc, &mut d, &Command::Flash(b"x_b"), Some(b"abd")).is_some();
         let mut d = d.next_run(Vec::new(alloc));
         let written = planned(alloc, &mut d, 0);
         assert!(rt; written == Some((1, 3, b'w', 1)) || (written == declared && !done));

@@ -1,12 +1,13 @@
 -- What an edit does, by what it does to the disk.
-use Rattle.std.proofs.Common.{◌≡◌, ◌∙◌, inl, inr, ⊎_elim, ℕ, ◌+◌, ◌≤◌, ◌<◌, Bool, true, false}
+use Rattle.std.proofs.Common.{◌≡◌, ◌∙◌, inl, inr, ⊎_elim, ℕ, ◌+◌, ◌≤◌, ◌<◌, true, false}
 use Rattle.std.proofs.Common.{List, length, Ok, Err, refl, sym, ap, subst, arith}
-use Rattle.std.specs.Prelude.{Option, Some, None, map, AllPairs}
+use Rattle.std.specs.Prelude.{Option, Some, Result, map, AllPairs, ◌==◌}
+use Rattle.std.proofs.lemmas.Bool.{cases_Bool}
 use Rattle.vab_disk.specs.declared.disk.Disk.{Ghosts}
 use Rattle.vab_disk.specs.Disk.{Image, Outcome, Adds, Rose}
 use Rattle.vab_disk.specs.Calls.{IsAtRest, Touches}
-use Rattle.vab_disk.proofs.CallLaws.{reads_none, touches_none, touches_wider}
-use Rattle.vab_disk.proofs.Moments.{adds_none, adds_wider}
+use Rattle.vab_disk.proofs.CallLaws.{reads_none, touches_wider}
+use Rattle.vab_disk.proofs.Moments.{adds_wider}
 use Rattle.vab_gate.specs.declared.gate.DiskFault.{DiskFault}
 use Rattle.vab_geometry.specs.declared.geometry.Geometry.{Geometry}
 use Rattle.vab_tables.specs.declared.table.Table.{Table}
@@ -17,15 +18,24 @@ use Rattle.vab_lpstore.specs.Layout.{text_sectors, BothHold}
 use Rattle.vab_lpstore.specs.Loading.{slot_table}
 use Rattle.vab_lpstore.specs.Storing.{IsOfTable, LeavesEitherTable, SameElsewhere}
 use Rattle.vab_lpstore.proofs.StoreLaws.{text_fits, begins_read, both_table, store_elsewhere}
+use Rattle.vab_layout.specs.declared.layout.Layout.{Layout}
 use Rattle.vab_layout.specs.Layout.{layout_of}
 use Rattle.vab_layout.specs.Slots.{other_slot, IsTarget}
 use Rattle.vab_builder.specs.declared.edit.Edit.{Edit}
+use Rattle.vab_builder.specs.declared.edit.Edit.TheVariants as edits
+use Rattle.vab_builder.specs.declared.fault.EditFault.{EditFault}
+use Rattle.vab_builder.specs.Edits.{edited}
 use Rattle.vab_model.specs.declared.command.Refusal.{Refusal}
 use Rattle.vab_model.specs.declared.command.Reply.TheVariants as replies
+use Rattle.vab_model.specs.declared.command.Refusal.TheVariants.{NoMemory}
+use Rattle.vab_model.specs.declared.state.PlanEntry.{PlanEntry}
+use Rattle.vab_model.specs.Commands.{Command}
 use Rattle.vab_model.specs.Effects.{Effect, refuses, does, steps_of, after_of, IsOneOf}
+use Rattle.vab_model.specs.Effects.{takes_memory, may_want, unless_refused}
 use Rattle.vab_device.specs.declared.device.Planned.{Planned}
 use Rattle.vab_device.specs.declared.device.Device.{Device}
-use Rattle.vab_device.specs.Does.{LeavesStep}
+use Rattle.vab_device.specs.Does.{LeavesStep, effect_of, KeepsSource, Does}
+use Rattle.vab_device.proofs.DoesLaws.{does_nothing}
 use Rattle.vab_device.specs.Kept.{lies_in, IsDevice}
 use Rattle.vab_device.specs.Mounted.{Mounted, entry_on, mounted_on}
 use Rattle.vab_device.specs.Phases.{plan_of}
@@ -34,8 +44,8 @@ use Rattle.vab_device.specs.Updates.{installing_with, table_effect, effect_on}
 use Rattle.vab_device.proofs.ReadingLaws.{device_same, device_stands}
 use Rattle.vab_device.proofs.RepairLaws.{repair_same}
 use Rattle.vab_edit.specs.Carried.{carried}
-use Rattle.vab_edit.specs.Does.{command_by, IsOfPhase, IsOfEdit, unless_wanting, effect_or, DoesOr}
-use Rattle.vab_edit.specs.Prepared.{IsPrepared, Refuses, with_target, carried_over}
+use Rattle.vab_edit.specs.Writes.{command_by, IsOfPhase, IsOfEdit}
+use Rattle.vab_edit.specs.Prepared.{IsPrepared, Refuses, with_target, carried_over, reply_by}
 use Rattle.vab_edit.proofs.CopiesLaws.{ends_within}
 use Rattle.vab_edit.proofs.DeviceLaws.{kept_update, new_lies, next_kept}
 use Rattle.vab_edit.proofs.EffectLaws.{not_installing, effect_edited}
@@ -66,9 +76,32 @@ prepared_differs d edit u text plan is =
 
 -- ---- want of memory
 
-not_wanting : (plan : Option (List Planned)) (e : Effect Mounted) → unless_wanting false plan e ≡ e
-not_wanting None e = refl
-not_wanting (Some plan) e = refl
+-- the reply of an edit's effect
+replied : (m : Mounted) (source : ℕ) (plan : List PlanEntry) (said : Result Layout EditFault)
+    → (table_effect m source plan said).reply ≡ reply_by said
+replied m source plan (Ok l) = refl
+replied m source plan (Err fault) = refl
+
+-- an edit takes memory
+edits_take : (edit : Edit) → takes_memory (command_by edit) ≡ true
+edits_take (edits.Create name bytes) = refl
+edits_take (edits.Resize name bytes) = refl
+edits_take (edits.Delete name) = refl
+edits_take (edits.AddStore name bytes) = refl
+
+wanting : (c : Command) (e : Effect Mounted)
+    → takes_memory c ≡ true
+    → may_want e.reply ≡ true
+    → unless_refused true c e ≡ refuses NoMemory
+wanting c e is wants = rw (is, wants) refl
+
+-- another table of the target
+target_keeps : (d : Device) (target : ℕ) (u : Table) (plan : List Planned)
+    → KeepsSource d (with_target d target u plan)
+target_keeps d target u plan = elim (cases_Bool (target == 0)) [
+  | inl a ↦ rw a (record { geometry = refl; slot = refl; a = refl; b = refl })
+  | inr b ↦ rw b (record { geometry = refl; slot = refl; a = refl; b = refl })
+]
 
 -- where both copies are of one table, the slot's table is that one or the new one
 abbrev pub StoresTable : {D : Type 0}
@@ -91,57 +124,49 @@ StoresTable g geometry slot old new text = g.is_modelled
 module _ {D : Type 0} (g : Ghosts D) (d : Device) (edit : Edit) (staged : Option (List ℕ)) where
   -- ---- a refusal
 
-  does_refused : (refused : Bool) (r : Refusal) (old : D)
-      → IsDevice d (g.size old)
-      → (g.is_modelled → Represents d (g.size old) (g.seen old))
-      → (g.is_modelled → effect_or g d staged (command_by edit) refused old ≡ refuses r)
-      → DoesOr g d staged (command_by edit) (IsOfEdit d) old old (Ok (d, replies.Refused r))
-  does_refused refused r old kept is told = record {
-    refused = refused;
-    kept = kept;
-    represents = is;
-    after = λ t.
-        ap (λ (e : Effect Mounted). after_of (mounted_on d (g.seen old)) e) (sym (told t));
-    reply = λ t. ap (λ (e : Effect Mounted). e.reply) (sym (told t));
-    rest = λ t rest. rest;
-    quiet = (reads_none g old).quiet;
-    touches = λ t. touches_none g (IsOfEdit d) old;
-    time = λ t rest. adds_none g.moment g.outcomes old _;
-    faults = record { steady = refl; cause = tt };
-  }
-
   pub refused_by : (r : Refusal) (old : D)
       → IsDevice d (g.size old)
       → (g.is_modelled → Represents d (g.size old) (g.seen old))
       → Refuses d edit r
-      → DoesOr g d staged (command_by edit) (IsOfEdit d) old old (Ok (d, replies.Refused r))
+      → Does g d staged (command_by edit) (IsOfEdit d) old old (Ok (d, replies.Refused r))
   refused_by r old kept is (inl none) =
-      does_refused false r old kept is
-      (λ t.
-      not_wanting d.plan (effect_on (mounted_on d (g.seen old)) staged (command_by edit))
-      ∙ not_installing d (g.seen old) staged edit none.0
-      ∙ ap refuses (sym none.1))
+      does_nothing g d staged (command_by edit) (IsOfEdit d) false (replies.Refused r) old old
+      kept is
+      (λ t. not_installing d (g.seen old) staged edit none.0 ∙ ap refuses (sym none.1))
+      (reads_none g old) refl
   refused_by r old kept is (inr refused) =
+      let edited_is : (t : g.is_modelled)
+      → effect_on (mounted_on d (g.seen old)) staged (command_by edit)
+      ≡ table_effect (mounted_on d (g.seen old)) d.mark.slot
+      (map (entry_on (g.seen old)) refused.tables.old_plan)
+      (edited (other_slot d.mark.slot) (layout_of refused.s) (layout_of refused.t)
+      d.geometry.max edit) = λ t.
+      effect_edited d (g.size old) refused.s refused.t kept refused.tables (g.seen old) staged edit
+      in
       ⊎_elim
       (λ wants.
-      does_refused true r old kept is
+      does_nothing g d staged (command_by edit) (IsOfEdit d) true (replies.Refused r) old old
+      kept is
       (λ t.
-      ap
-      (λ (p : Option (List Planned)).
-      unless_wanting true p (effect_on (mounted_on d (g.seen old)) staged (command_by edit)))
-      refused.tables.is_planned
-      ∙ ap refuses (sym wants)))
+      wanting (command_by edit)
+      (effect_on (mounted_on d (g.seen old)) staged (command_by edit))
+      (edits_take edit)
+      (ap (λ (e : Effect Mounted). may_want e.reply) (edited_is t)
+      ∙ ap may_want (replied (mounted_on d (g.seen old)) d.mark.slot _ _)
+      ∙ wants.1)
+      ∙ ap refuses (sym wants.0))
+      (reads_none g old) refl)
       (λ said.
-      does_refused false r old kept is
+      does_nothing g d staged (command_by edit) (IsOfEdit d) false (replies.Refused r) old old
+      kept is
       (λ t.
-      not_wanting d.plan (effect_on (mounted_on d (g.seen old)) staged (command_by edit))
-      ∙ effect_edited d (g.size old) refused.s refused.t kept refused.tables
-      (g.seen old) staged edit
+      edited_is t
       ∙ ap
       (table_effect (mounted_on d (g.seen old)) d.mark.slot
       (map (entry_on (g.seen old)) refused.tables.old_plan))
       said.1
-      ∙ ap refuses (sym said.2)))
+      ∙ ap refuses (sym said.2))
+      (reads_none g old) refl)
       refused.by
 
   -- ---- the copies are written
@@ -171,10 +196,9 @@ module _ {D : Type 0} (g : Ghosts D) (d : Device) (edit : Edit) (staged : Option
         installing_with (mounted_on d (g.seen old)) d.mark.slot
         (map (entry_on (g.seen old)) p.tables.old_plan) (layout_of u)
 
-    gives : effect_or g d staged (command_by edit) false old ≡ does replies.Done next
+    gives : effect_of g d staged (command_by edit) false old ≡ does replies.Done next
     gives =
-        not_wanting d.plan (effect_on (mounted_on d (g.seen old)) staged (command_by edit))
-        ∙ effect_edited d (g.size old) p.s p.t kept p.tables (g.seen old) staged edit
+        effect_edited d (g.size old) p.s p.t kept p.tables (g.seen old) staged edit
         ∙ ap
         (table_effect (mounted_on d (g.seen old)) d.mark.slot
         (map (entry_on (g.seen old)) p.tables.old_plan))
@@ -187,7 +211,7 @@ module _ {D : Type 0} (g : Ghosts D) (d : Device) (edit : Edit) (staged : Option
         subst
         (λ (x : Option (List Planned)). IsOfPhase x d.geometry (other_slot d.mark.slot) s b)
         (sym p.tables.is_planned)
-        (text, u, p.given.is_text, of_text)
+        (text, u, p.given.is_text, p.given.fits, of_text)
 
     -- an image with the new table
     module _
@@ -268,7 +292,7 @@ module _ {D : Type 0} (g : Ghosts D) (d : Device) (edit : Edit) (staged : Option
         (length text))
         (g.seen old) p.t u o
         → LeavesStep (g.told old) (g.size old)
-        (steps_of (mounted_on d (g.seen old)) (effect_or g d staged (command_by edit) false old)) o
+        (steps_of (mounted_on d (g.seen old)) (effect_of g d staged (command_by edit) false old)) o
     leaves t o left = ⊎_elim
         (λ same. record {
           told_so_far = left.told_so_far;
@@ -300,7 +324,7 @@ module _ {D : Type 0} (g : Ghosts D) (d : Device) (edit : Edit) (staged : Option
         → IsAtRest g old
         → Adds g.moment g.outcomes old new
         (LeavesStep (g.told old) (g.size old)
-        (steps_of (mounted_on d (g.seen old)) (effect_or g d staged (command_by edit) false old)))
+        (steps_of (mounted_on d (g.seen old)) (effect_of g d staged (command_by edit) false old)))
     steps t rest =
         let copy = (st t).copies.1.0 in
         adds_wider g.moment g.outcomes old new _ _
@@ -315,10 +339,11 @@ module _ {D : Type 0} (g : Ghosts D) (d : Device) (edit : Edit) (staged : Option
     -- the disk failed
     pub fails_edit : (fault : DiskFault)
         → Rose (g.faults old).disk (g.faults new).disk
-        → DoesOr g d staged (command_by edit) (IsOfEdit d) old new (Err fault)
+        → Does g d staged (command_by edit) (IsOfEdit d) old new (Err fault)
     fails_edit fault rose = record {
       refused = false;
       kept = tt;
+      source = tt;
       represents = λ t. tt;
       after = λ t. tt;
       reply = λ t. tt;
@@ -341,7 +366,7 @@ module _ {D : Type 0} (g : Ghosts D) (d : Device) (edit : Edit) (staged : Option
     pub does_edit : (g.is_modelled → BothHold d.geometry (other_slot d.mark.slot) text (g.seen new))
         → (g.is_modelled → IsAtRest g new)
         → g.faults new ≡ g.faults old
-        → DoesOr g d staged (command_by edit) (IsOfEdit d) old new
+        → Does g d staged (command_by edit) (IsOfEdit d) old new
         (Ok (with_target d (other_slot d.mark.slot) u (carried_over d.plan plan), replies.Done))
     does_edit held settled counts = record {
       refused = false;
@@ -350,6 +375,8 @@ module _ {D : Type 0} (g : Ghosts D) (d : Device) (edit : Edit) (staged : Option
           (carried_over d.plan plan)
           (ap (λ (x : Option (List Planned)). carried_over x plan) p.tables.is_planned
           ∙ ap (map (carried p.tables.old_plan)) p.given.is_plan);
+      source =
+          target_keeps d (other_slot d.mark.slot) u (carried_over d.plan plan);
       represents = λ t.
           subst (λ (x : Device). Represents x (g.size old) (g.seen new))
           (sym (device_is t (g.seen new) (elsewhere t)))

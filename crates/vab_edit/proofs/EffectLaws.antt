@@ -21,7 +21,7 @@ use Rattle.vab_device.specs.Mounted.{Mounted, table_placed, places_on, entry_on,
 use Rattle.vab_device.specs.Mounted.{mounted_on}
 use Rattle.vab_device.specs.Updates.{EditOf, layout_at, edited_effect, edit_effect, table_effect}
 use Rattle.vab_device.specs.Updates.{effect_on}
-use Rattle.vab_edit.specs.Does.{command_by}
+use Rattle.vab_edit.specs.Writes.{command_by}
 use Rattle.vab_edit.specs.Prepared.{HasTables}
 use Rattle.vab_edit.proofs.DeviceLaws.{slot_cases}
 use Rattle.vab_edit.proofs.PlainLaws.{changed_plain}

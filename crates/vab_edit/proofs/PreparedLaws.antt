@@ -1,6 +1,7 @@
 -- What holds of a table that an edit gives.
 use Rattle.std.proofs.Common.{◌≡◌, ◌≢◌, ◌∙◌, inl, inr, ℕ, List, [], ◌++◌, Result, Ok, Err, refl}
-use Rattle.std.proofs.Common.{sym, ap}
+use Rattle.std.proofs.Common.{sym, ap, true}
+use Rattle.std.proofs.lemmas.Bool.{cases_Bool}
 use Rattle.std.specs.Prelude.{AllPairs, nat_le}
 use Rattle.std.proofs.lemmas.List.Elements.{All-contains, Contains-append_right}
 use Rattle.std.proofs.lemmas.List.Kept.{AllPairs-filter}
@@ -24,7 +25,9 @@ use Rattle.vab_builder.proofs.Verdicts.{unless_ok}
 use Rattle.vab_device.specs.declared.device.Planned.{Planned}
 use Rattle.vab_device.specs.Phases.{planned_on, plan_of}
 use Rattle.vab_device.specs.Updates.{refusal_of}
-use Rattle.vab_edit.specs.Prepared.{RefusesBy}
+use Rattle.vab_verdict.specs.Judged.{IsGiven}
+use Rattle.vab_model.specs.Effects.{may_want}
+use Rattle.vab_edit.specs.Prepared.{reply_by, RefusesBy}
 use Rattle.vab_plan.specs.Scans.{IsTargetTable}
 
 -- ---- the table
@@ -70,19 +73,34 @@ gives_layout slot max s t u edit is layout =
 
 -- ---- refusals
 
+-- an edit that isn't refused before its text is measured may want memory
+fits_or : (max : ℕ) (l : Layout) → may_want (reply_by (fitting max l)) ≡ true
+fits_or max l = elim (cases_Bool (nat_le (table_size_of (table_of l)) max)) [
+  | inl fits ↦ rw fits refl
+  | inr long ↦ rw long refl
+]
+
+pub passed_wants : (max : ℕ) (said : Result Layout EditFault)
+    → IsGiven said
+    → may_want (reply_by (if_fitting max said)) ≡ true
+passed_wants max said passes =
+    ap (λ (r : Result Layout EditFault). may_want (reply_by (if_fitting max r))) passes.1
+    ∙ fits_or max passes.0
+
 pub gives_refusal : (said : Result Layout EditFault) (fault : EditFault)
+    → may_want (reply_by said) ≡ true
     → (let r : Result Table EditFault = Err fault in GivesTable r said)
     → RefusesBy said (refusal_of fault)
-gives_refusal said faults.NoMemory h = inl refl
-gives_refusal said faults.BadName h = inr (faults.BadName, h, refl)
-gives_refusal said faults.BadSize h = inr (faults.BadSize, h, refl)
-gives_refusal said faults.Unknown h = inr (faults.Unknown, h, refl)
-gives_refusal said faults.Exists h = inr (faults.Exists, h, refl)
-gives_refusal said faults.HasStore h = inr (faults.HasStore, h, refl)
-gives_refusal said (faults.TooMany n) h = inr (faults.TooMany n, h, refl)
-gives_refusal said (faults.GroupLimit u l) h = inr (faults.GroupLimit u l, h, refl)
-gives_refusal said (faults.NoRoom u c) h = inr (faults.NoRoom u c, h, refl)
-gives_refusal said (faults.TableFull s m) h = inr (faults.TableFull s m, h, refl)
+gives_refusal said faults.NoMemory wants h = inl (refl, wants)
+gives_refusal said faults.BadName wants h = inr (faults.BadName, h, refl)
+gives_refusal said faults.BadSize wants h = inr (faults.BadSize, h, refl)
+gives_refusal said faults.Unknown wants h = inr (faults.Unknown, h, refl)
+gives_refusal said faults.Exists wants h = inr (faults.Exists, h, refl)
+gives_refusal said faults.HasStore wants h = inr (faults.HasStore, h, refl)
+gives_refusal said (faults.TooMany n) wants h = inr (faults.TooMany n, h, refl)
+gives_refusal said (faults.GroupLimit u l) wants h = inr (faults.GroupLimit u l, h, refl)
+gives_refusal said (faults.NoRoom u c) wants h = inr (faults.NoRoom u c, h, refl)
+gives_refusal said (faults.TableFull s m) wants h = inr (faults.TableFull s m, h, refl)
 
 -- ---- the plan
 

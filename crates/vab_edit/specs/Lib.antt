@@ -1,3 +1,3 @@
 pub mod Carried
 pub mod Prepared
-pub mod Does
+pub mod Writes

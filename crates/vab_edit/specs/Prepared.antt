@@ -1,6 +1,6 @@
 -- A table that an edit gives, ready to be written.
 use Rattle.std.specs.Prelude.{◌≡◌, ◌⊎◌, ℕ, ◌≤◌, List, [], length, map, Option, Some, None, Ok, Err}
-use Rattle.std.specs.Prelude.{◌==◌, if◌then◌else◌, Result}
+use Rattle.std.specs.Prelude.{◌==◌, if◌then◌else◌, true, Result}
 use Rattle.vab_tables.specs.declared.table.Table.{Table}
 use Rattle.vab_tables.specs.Rules.{KeepsRules}
 use Rattle.vab_tables.specs.Spelling.{table_size_of}
@@ -14,6 +14,9 @@ use Rattle.vab_builder.specs.Asked.{edited_name, KeepsOthers}
 use Rattle.vab_builder.specs.Edits.{changed_by, edited}
 use Rattle.vab_model.specs.declared.command.Refusal.{Refusal}
 use Rattle.vab_model.specs.declared.command.Refusal.TheVariants.{NoMemory, NotInstalling}
+use Rattle.vab_model.specs.declared.command.Reply.{Reply}
+use Rattle.vab_model.specs.declared.command.Reply.TheVariants as replies
+use Rattle.vab_model.specs.Effects.{may_want}
 use Rattle.vab_device.specs.declared.device.Planned.{Planned}
 use Rattle.vab_device.specs.declared.device.Device.{Device}
 use Rattle.vab_device.specs.Kept.{table_of_slot}
@@ -61,9 +64,16 @@ pub record IsPrepared (d : Device) (edit : Edit) (u : Table) (text : List ℕ) (
   pub tables : HasTables d s t
   pub given : IsGiven d.geometry.max d.mark.slot edit s t u text plan
 
--- the refusal of a definition, or want of memory
+-- the reply to an edit that gives this
+abbrev pub reply_by : Result Layout EditFault → Reply
+reply_by (Ok l) = replies.Done
+reply_by (Err fault) = replies.Refused (refusal_of fault)
+
+-- the refusal of a definition, or want of memory where that may come in place of its reply
 abbrev pub RefusesBy : Result Layout EditFault → Refusal → Type 0
-RefusesBy said r = (r ≡ NoMemory) ⊎ ((f : EditFault) × (said ≡ Err f) × (r ≡ refusal_of f))
+RefusesBy said r =
+    ((r ≡ NoMemory) × (may_want (reply_by said) ≡ true))
+    ⊎ ((f : EditFault) × (said ≡ Err f) × (r ≡ refusal_of f))
 
 -- why an edit of a device's tables is refused
 pub record IsRefused (d : Device) (edit : Edit) (r : Refusal) : Type 0 where

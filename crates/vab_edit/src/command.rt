@@ -3,7 +3,8 @@
 ghost use Rattle.std.specs.Prelude.{ℕ, List, Option};
 ghost use Rattle.vab_device.specs.Kept.{IsDevice};
 ghost use Rattle.vab_device.specs.Reading.{Represents};
-ghost use Rattle.vab_edit.specs.Does.{DoesOr, IsOfEdit, command_by};
+ghost use Rattle.vab_device.specs.Does.{Does};
+ghost use Rattle.vab_edit.specs.Writes.{IsOfEdit, command_by};
 
 use crate::carry::with_table;
 use crate::prepared::prepare;
@@ -20,8 +21,8 @@ use vab_model::Reply;
 /// device after it are those of the table of effects; where nothing was pending, each outcome since
 /// is the device before the edit or the one after it. It touches the copies of the target's table
 /// alone, and a refusal touches nothing. `NotInstalling` comes where no update is installed, and
-/// there alone; else memory may be refused in place of each reply. The error comes where the disk
-/// has failed.
+/// there alone; want of memory in place of `Done` and of `TableFull` alone. The error comes where
+/// the disk has failed.
 pub fn edit<D: Disk>(
     alloc: Global,
     d: &mut D,
@@ -31,7 +32,7 @@ pub fn edit<D: Disk>(
     requires kept { IsDevice device (D.size d.old) }
     requires represents { D.is_modelled → Represents device (D.size d.old) (D.seen d.old) }
     ensures { (staged : Option (List ℕ))
-        → DoesOr D.Disk device staged (command_by edit.now) (IsOfEdit device) d.old d.new result }
+        → Does D.Disk device staged (command_by edit.now) (IsOfEdit device) d.old d.new result }
 {
     match prepare(alloc, &device, edit) {
         Err(refusal) => Ok((device, Reply::Refused(refusal))),

@@ -5,9 +5,10 @@ ghost use Rattle.vab_tables.specs.Rules.{KeepsRules};
 ghost use Rattle.vab_tables.specs.Spelling.{table_size_of};
 ghost use Rattle.vab_layout.specs.Layout.{layout_of};
 ghost use Rattle.vab_layout.specs.Slots.{other_slot, IsOwn, IsTarget};
-ghost use Rattle.vab_builder.specs.Edits.{edited};
+ghost use Rattle.vab_builder.specs.Edits.{changed_by, edited};
 ghost use Rattle.vab_device.specs.Kept.{IsDevice};
 ghost use Rattle.vab_device.specs.Updates.{refusal_of};
+ghost use Rattle.vab_verdict.specs.Judged.{IsGiven as Passes};
 ghost use Rattle.vab_edit.specs.Prepared.{HasTables, IsGiven, IsPrepared, Refuses, RefusesBy};
 
 use std::alloc::Global;
@@ -17,6 +18,7 @@ use vab_device::{Device, Planned};
 use vab_model::Refusal;
 use vab_plan::plan;
 use vab_tables::{Table, encode_table};
+use vab_verdict::verdict;
 
 /// The table that an edit gives, with its text, and its plan with nothing written.
 #[derive(Drop)]
@@ -62,6 +64,44 @@ fn tables(device: &Device) -> Option<(&Table, &Table)>
     }
 }
 
+// What an edit gives that is refused at most for the length of its table's text.
+fn applied(
+    alloc: Global,
+    source: &Table,
+    target: &Table,
+    slot: usize,
+    edit: &Edit,
+    max: u32,
+) -> Result<Prepared, Refusal>
+    requires slot { slot < 2 }
+    requires most { max ≤ 2 ^ 20 }
+    requires source_keeps { KeepsRules source.now }
+    requires target_keeps { KeepsRules target.now }
+    requires source_small { table_size_of source.now < 2 ^ 24 }
+    requires target_small { table_size_of target.now < 2 ^ 24 }
+    requires own { IsOwn slot (layout_of source.now).parts }
+    requires target { IsTarget (other_slot slot) (layout_of source.now).parts
+        (layout_of target.now).parts }
+    requires device { source.now.devices ≡ target.now.devices }
+    requires passes { Passes
+        (changed_by (other_slot slot) (layout_of source.now) (layout_of target.now) edit.now) }
+    ensures given { IfOk result (λ p. IsGiven max slot edit.now source.now target.now p.table
+        p.text.items p.plan) }
+    ensures refused { IfErr result (RefusesBy
+        (edited (other_slot slot) (layout_of source.now) (layout_of target.now) max edit.now)) }
+{
+    match apply(alloc, source, target, 1 - slot, edit, max) {
+        Err(fault) => Err(refusal(fault)),
+        Ok(table) => match encode_table(alloc, &table) {
+            Err(_) => Err(Refusal::NoMemory),
+            Ok(text) => match plan(alloc, &table, 1 - slot, Vec::new(alloc)) {
+                Err(_) => Err(Refusal::NoMemory),
+                Ok(plan) => Ok(Prepared { table, text, plan }),
+            },
+        },
+    }
+}
+
 // What an edit gives beside the source's table, or the first refusal.
 fn given(
     alloc: Global,
@@ -86,15 +126,9 @@ fn given(
     ensures refused { IfErr result (RefusesBy
         (edited (other_slot slot) (layout_of source.now) (layout_of target.now) max edit.now)) }
 {
-    match apply(alloc, source, target, 1 - slot, edit, max) {
-        Err(fault) => Err(refusal(fault)),
-        Ok(table) => match encode_table(alloc, &table) {
-            Err(_) => Err(Refusal::NoMemory),
-            Ok(text) => match plan(alloc, &table, 1 - slot, Vec::new(alloc)) {
-                Err(_) => Err(Refusal::NoMemory),
-                Ok(plan) => Ok(Prepared { table, text, plan }),
-            },
-        },
+    match verdict(source, target, 1 - slot, edit) {
+        Some(fault) => Err(refusal(fault)),
+        None => applied(alloc, source, target, slot, edit, max),
     }
 }
 

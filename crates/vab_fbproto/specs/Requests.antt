@@ -4,7 +4,7 @@ use Rattle.std.specs.Prelude.{Bool, not, ◌==◌, ◌||◌, ◌&&◌, nat_lt, n
 use Rattle.std.specs.Prelude.{Some, None, Result, Ok, Err, position}
 use Rattle.std.specs.List.{list_any}
 use Rattle.std.specs.Str.{bytes_eq}
-use Rattle.vab_model.specs.Commands.{Command, SetActive, Boot, Mark, Digest, Create, Resize}
+use Rattle.vab_model.specs.Commands.{Command, SetActive, Boot, Mark, Digest, Begin, Create, Resize}
 use Rattle.vab_model.specs.Commands.{Delete, Snapshot, Flash, Finish, Cancel, BeginMerge, Merge}
 use Rattle.vab_model.specs.Commands.{command_of}
 use Rattle.vab_fbproto.specs.declared.request.Var.{Var}
@@ -264,6 +264,7 @@ asked_oem word rest =
     if bytes_eq word (codes "oem boot") then plain rest (Do Boot)
     else if bytes_eq word (codes "oem mark-successful") then plain rest (Do Mark)
     else if bytes_eq word (codes "oem finish") then plain rest (Do Finish)
+    else if bytes_eq word (codes "oem begin") then plain rest (Do Begin)
     else if bytes_eq word (codes "oem begin-merge") then plain rest (Do BeginMerge)
     else if bytes_eq word (codes "oem merge")
     then asks (λ blocks. Do (Merge blocks)) (count_argument rest)

@@ -6,7 +6,6 @@ pub mod ApartLaws
 pub mod DeadLaws
 pub mod GateLaws
 pub mod ChosenLaws
-pub mod DoesLaws
 pub mod PlacedLaws
 pub mod SourceLaws
 pub mod ReadyLaws

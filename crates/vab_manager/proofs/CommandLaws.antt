@@ -1,35 +1,37 @@
 -- What a command does, by what it does to the disk.
-use Rattle.std.proofs.Common.{◌≡◌, ◌∙◌, inl, inr, ⊎_elim, ℕ, ◌<◌, true, eqb, [], ◌∷◌, Ok, Err, None, refl, sym, ap, subst, arith, eq-eqb}
-use Rattle.std.specs.Prelude.{◌==◌}
+use Rattle.std.proofs.Common.{◌≡◌, ◌∙◌, inl, inr, ⊎_elim, ℕ, ◌<◌, true, false, eqb, List, [], ◌∷◌, Ok}
+use Rattle.std.proofs.Common.{Err, None, refl, sym, ap, subst, arith, eq-eqb}
+use Rattle.std.specs.Prelude.{◌==◌, Option}
 use Rattle.std.proofs.lemmas.Bool.{cases_Bool, eqb-false}
 use Rattle.vab_disk.specs.declared.disk.Disk.{Ghosts}
 use Rattle.vab_disk.specs.Disk.{Image, Outcome, Adds, Rose}
-use Rattle.vab_disk.specs.Calls.{IsAtRest, IsQuiet, OnlyReads, Touches}
+use Rattle.vab_disk.specs.Calls.{IsAtRest, IsQuiet, Touches}
 use Rattle.vab_disk.proofs.Moments.{adds_wider}
-use Rattle.vab_disk.proofs.CallLaws.{touches_wider, touches_reads}
+use Rattle.vab_disk.proofs.CallLaws.{touches_wider}
 use Rattle.vab_gate.specs.declared.gate.DiskFault.{DiskFault}
 use Rattle.vab_bootctl.specs.declared.slots.Control.{Control}
 use Rattle.vab_bootctl.specs.Control.{Fits}
 use Rattle.vab_bootctl.specs.Boot.{info_at}
 use Rattle.vab_model.specs.declared.command.Reply.{Reply}
 use Rattle.vab_model.specs.Commands.{Command}
-use Rattle.vab_model.specs.State.{control_seen}
-use Rattle.vab_model.specs.Effects.{Effect, answers, steps_of, after_of, IsOneOf}
+use Rattle.vab_model.specs.Effects.{Effect, steps_of, after_of, IsOneOf}
 use Rattle.vab_device.specs.declared.device.Device.{Device}
 use Rattle.vab_device.specs.declared.fault.StartFault.TheVariants.{BadState}
 use Rattle.vab_device.specs.Checks.{first_fault, check}
 use Rattle.vab_device.specs.Idle.{control_read_of}
 use Rattle.vab_device.specs.Kept.{IsDevice}
-use Rattle.vab_device.specs.Mounted.{Mounted, mounted_on, effect_in}
+use Rattle.vab_device.specs.Does.{LeavesStep}
+use Rattle.vab_device.specs.Mounted.{Mounted, mounted_on}
 use Rattle.vab_device.specs.Phases.{slot_checks, is_good}
 use Rattle.vab_device.specs.Reading.{Read, device, Represents}
+use Rattle.vab_device.specs.Updates.{effect_on}
 use Rattle.vab_device.proofs.CheckLaws.{check_kept, first_kept}
 use Rattle.vab_device.proofs.ControlLaws.{read_with, with_boot, KeepsState, represents_gated}
 use Rattle.vab_device.proofs.ControlLaws.{mounted_gated}
 use Rattle.vab_device.proofs.ReadingLaws.{state_single, seen_single, control_is_seen}
 use Rattle.vab_device.proofs.ReadingLaws.{device_stands}
-use Rattle.vab_manager.specs.Commands.{LeavesStep, DoesCommand}
-use Rattle.vab_manager.specs.Controls.{HasControl, LeavesControl, IsControl, IsOfCommand}
+use Rattle.vab_manager.specs.Commands.{DoesCommand}
+use Rattle.vab_manager.specs.Controls.{HasControl, LeavesControl, IsControl}
 use Rattle.vab_manager.specs.Controls.{WritesControl, with_kept, GivesControl}
 use Rattle.vab_manager.proofs.BootLaws.{kept_device}
 
@@ -108,153 +110,108 @@ good_of d size old is below =
 
 -- ---- what a command does
 
-module _ {D : Type 0} (g : Ghosts D) (d : Device) (command : Command) where
-  still : (old new : D) → OnlyReads g old new → g.is_modelled → IsAtRest g old → IsAtRest g new
-  still old new reads t rest = λ s b held.
-      rest s b ((reads.crash t).no_more s b held) ∙ sym (ap (λ (i : Image). i s) (reads.seen t))
-
-  time_none : (old new : D) (P : Outcome → Type 0)
-      → OnlyReads g old new
-      → g.is_modelled
-      → Adds g.moment g.outcomes old new P
-  time_none old new P reads t =
-      adds_wider g.moment g.outcomes old new _ P (reads.time t) (λ o none. absurd none)
-
-  -- it is a question, or refused
-  pub does_nothing : (reply : Reply) (old new : D)
-      → IsDevice d (g.size old)
-      → (g.is_modelled → Represents d (g.size old) (g.seen old))
-      → (g.is_modelled → effect_in (mounted_on d (g.seen old)) command ≡ answers reply)
-      → OnlyReads g old new
-      → g.faults new ≡ g.faults old
-      → DoesCommand g d command old new (Ok (d, reply))
-  does_nothing reply old new kept is told reads counts = record {
-    kept = kept;
-    represents = λ t. subst (λ (i : Image). Represents d (g.size old) i) (sym (reads.seen t)) (is t);
-    after = λ t.
-        ap (mounted_on d) (reads.seen t)
-        ∙ ap (λ (e : Effect Mounted). after_of (mounted_on d (g.seen old)) e) (sym (told t));
-    reply = λ t. ap (λ (e : Effect Mounted). e.reply) (sym (told t));
-    rest = still old new reads;
-    quiet = reads.quiet;
-    touches = λ t. touches_reads g (IsOfCommand d (g.seen old 4) command) old new reads;
-    time = λ t rest. time_none old new _ reads t;
-    faults = record { steady = counts; cause = tt };
-  }
-
-  -- the disk failed where it only reads
-  pub fails_reading : (fault : DiskFault) (old new : D)
-      → OnlyReads g old new
-      → Rose (g.faults old).disk (g.faults new).disk
-      → DoesCommand g d command old new (Err fault)
-  fails_reading fault old new reads rose = record {
-    kept = tt;
-    represents = λ t. tt;
-    after = λ t. tt;
-    reply = λ t. tt;
-    rest = λ t rest. tt;
-    quiet = reads.quiet;
-    touches = λ t. touches_reads g (IsOfCommand d (g.seen old 4) command) old new reads;
-    time = λ t rest. time_none old new _ reads t;
-    faults = record { steady = tt; cause = rose };
-  }
-
-  -- it writes another boot control by one gate
-  module _
-      (reply : Reply) (c : Control) (old new : D)
-      (kept : IsDevice d (g.size old))
-      (is : g.is_modelled → Represents d (g.size old) (g.seen old))
-      (current : c.current ≡ d.mark.slot)
-      (good : g.is_modelled → is_good (info_at c d.mark.slot) ≡ true)
-      (gives : g.is_modelled → GivesControl d (g.seen old) command reply c)
-      (writes : WritesControl d (g.seen old 4) command c)
-      (touches : g.is_modelled → Touches g (IsControl c (g.seen old 4)) old new)
-      (quiet : IsQuiet g old new)
-      (gate : g.is_modelled
-      → IsAtRest g old
-      → Adds g.moment g.outcomes old new (LeavesControl (g.told old) c (g.seen old))) where
-    next : Mounted
-    next = with_kept d c (g.seen old)
-
-    represented : (t : g.is_modelled) (image : Image)
-        → HasControl c (g.seen old) image
-        → Represents (with_boot c d) (g.size old) image
-    represented t image has =
-        subst (λ (i : Image). Represents (with_boot c d) (g.size old) i) (sym has.3)
-        (represents_gated d (g.size old) (g.seen old) (is t) has.0 c has.1
-        (keeps_state d (g.size old) (g.seen old) c (is t) kept.slot current (good t)))
-
-    mounted : (t : g.is_modelled) (image : Image)
-        → HasControl c (g.seen old) image
-        → mounted_on (with_boot c d) image ≡ with_kept d c (g.seen old)
-    mounted t image has =
-        ap (mounted_on (with_boot c d)) has.3
-        ∙ mounted_gated d (g.size old) (g.seen old) (is t) has.0 c has.1
-
-    leaves : (t : g.is_modelled) (o : Outcome)
-        → LeavesControl (g.told old) c (g.seen old) o
-        → LeavesStep (g.told old) (g.size old)
-        (steps_of (mounted_on d (g.seen old)) (effect_in (mounted_on d (g.seen old)) command)) o
-    leaves t o left = ⊎_elim
-        (λ same. record {
-          told_so_far = left.told_so_far;
-          mounted = mounted_on d (g.seen old);
-          step = inl refl;
-          means =
-              ap (device (g.size old)) same ∙ device_stands d (g.size old) (g.seen old) (is t);
-        })
-        (λ has. record {
-          told_so_far = left.told_so_far;
-          mounted = with_kept d c (g.seen old);
-          step =
-              subst
-              (λ (e : Effect Mounted).
-              IsOneOf (steps_of (mounted_on d (g.seen old)) e) (with_kept d c (g.seen old)))
-              (sym (gives t)) (inr (inl refl));
-          means =
-              device_stands (with_boot c d) (g.size old) o.image (represented t o.image has)
-              ∙ ap Ok (mounted t o.image has);
-        })
-        left.either
-
-    steps : g.is_modelled
+module _ {D : Type 0} (g : Ghosts D) (d : Device) (staged : Option (List ℕ)) (command : Command)
+  where
+    -- it writes another boot control by one gate
+    module _
+        (reply : Reply) (c : Control) (old new : D)
+        (kept : IsDevice d (g.size old))
+        (is : g.is_modelled → Represents d (g.size old) (g.seen old))
+        (current : c.current ≡ d.mark.slot)
+        (good : g.is_modelled → is_good (info_at c d.mark.slot) ≡ true)
+        (gives : g.is_modelled → GivesControl d (g.seen old) staged command reply c)
+        (writes : WritesControl d (g.seen old 4) command c)
+        (touches : g.is_modelled → Touches g (IsControl c (g.seen old 4)) old new)
+        (quiet : IsQuiet g old new)
+        (gate : g.is_modelled
         → IsAtRest g old
-        → Adds g.moment g.outcomes old new
-        (LeavesStep (g.told old) (g.size old)
-        (steps_of (mounted_on d (g.seen old)) (effect_in (mounted_on d (g.seen old)) command)))
-    steps t rest = adds_wider g.moment g.outcomes old new _ _ (gate t rest) (leaves t)
+        → Adds g.moment g.outcomes old new (LeavesControl (g.told old) c (g.seen old))) where
+      next : Mounted
+      next = with_kept d c (g.seen old)
 
-    -- the disk failed
-    pub fails_change : (fault : DiskFault)
-        → Rose (g.faults old).disk (g.faults new).disk
-        → DoesCommand g d command old new (Err fault)
-    fails_change fault rose = record {
-      kept = tt;
-      represents = λ t. tt;
-      after = λ t. tt;
-      reply = λ t. tt;
-      rest = λ t rest. tt;
-      quiet = quiet;
-      touches = λ t. touches_wider g _ _ old new (touches t) writes;
-      time = steps;
-      faults = record { steady = tt; cause = rose };
-    }
+      represented : (t : g.is_modelled) (image : Image)
+          → HasControl c (g.seen old) image
+          → Represents (with_boot c d) (g.size old) image
+      represented t image has =
+          subst (λ (i : Image). Represents (with_boot c d) (g.size old) i) (sym has.3)
+          (represents_gated d (g.size old) (g.seen old) (is t) has.0 c has.1
+          (keeps_state d (g.size old) (g.seen old) c (is t) kept.slot current (good t)))
 
-    pub does_change : Fits c
-        → (g.is_modelled → HasControl c (g.seen old) (g.seen new))
-        → (g.is_modelled → IsAtRest g new)
-        → g.faults new ≡ g.faults old
-        → DoesCommand g d command old new (Ok (with_boot c d, reply))
-    does_change fits has settled counts = record {
-      kept = kept_device d (g.size old) c kept fits current;
-      represents = λ t. represented t (g.seen new) (has t);
-      after = λ t.
-          mounted t (g.seen new) (has t)
-          ∙ ap (λ (e : Effect Mounted). after_of (mounted_on d (g.seen old)) e) (sym (gives t));
-      reply = λ t. ap (λ (e : Effect Mounted). e.reply) (sym (gives t));
-      rest = λ t rest. settled t;
-      quiet = quiet;
-      touches = λ t. touches_wider g _ _ old new (touches t) writes;
-      time = steps;
-      faults = record { steady = counts; cause = tt };
-    }
+      mounted : (t : g.is_modelled) (image : Image)
+          → HasControl c (g.seen old) image
+          → mounted_on (with_boot c d) image ≡ with_kept d c (g.seen old)
+      mounted t image has =
+          ap (mounted_on (with_boot c d)) has.3
+          ∙ mounted_gated d (g.size old) (g.seen old) (is t) has.0 c has.1
+
+      leaves : (t : g.is_modelled) (o : Outcome)
+          → LeavesControl (g.told old) c (g.seen old) o
+          → LeavesStep (g.told old) (g.size old)
+          (steps_of (mounted_on d (g.seen old)) (effect_on (mounted_on d (g.seen old)) staged command)) o
+      leaves t o left = ⊎_elim
+          (λ same. record {
+            told_so_far = left.told_so_far;
+            mounted = mounted_on d (g.seen old);
+            step = inl refl;
+            means =
+                ap (device (g.size old)) same ∙ device_stands d (g.size old) (g.seen old) (is t);
+          })
+          (λ has. record {
+            told_so_far = left.told_so_far;
+            mounted = with_kept d c (g.seen old);
+            step =
+                subst
+                (λ (e : Effect Mounted).
+                IsOneOf (steps_of (mounted_on d (g.seen old)) e) (with_kept d c (g.seen old)))
+                (sym (gives t)) (inr (inl refl));
+            means =
+                device_stands (with_boot c d) (g.size old) o.image (represented t o.image has)
+                ∙ ap Ok (mounted t o.image has);
+          })
+          left.either
+
+      steps : g.is_modelled
+          → IsAtRest g old
+          → Adds g.moment g.outcomes old new
+          (LeavesStep (g.told old) (g.size old)
+          (steps_of (mounted_on d (g.seen old)) (effect_on (mounted_on d (g.seen old)) staged command)))
+      steps t rest = adds_wider g.moment g.outcomes old new _ _ (gate t rest) (leaves t)
+
+      -- the disk failed
+      pub fails_change : (fault : DiskFault)
+          → Rose (g.faults old).disk (g.faults new).disk
+          → DoesCommand g d staged command old new (Err fault)
+      fails_change fault rose = record {
+        refused = false;
+        kept = tt;
+        source = tt;
+        represents = λ t. tt;
+        after = λ t. tt;
+        reply = λ t. tt;
+        rest = λ t rest. tt;
+        quiet = quiet;
+        touches = λ t. touches_wider g _ _ old new (touches t) writes;
+        time = steps;
+        faults = record { steady = tt; cause = rose };
+      }
+
+      pub does_change : Fits c
+          → (g.is_modelled → HasControl c (g.seen old) (g.seen new))
+          → (g.is_modelled → IsAtRest g new)
+          → g.faults new ≡ g.faults old
+          → DoesCommand g d staged command old new (Ok (with_boot c d, reply))
+      does_change fits has settled counts = record {
+        refused = false;
+        kept = kept_device d (g.size old) c kept fits current;
+        source = record { geometry = refl; slot = refl; a = refl; b = refl };
+        represents = λ t. represented t (g.seen new) (has t);
+        after = λ t.
+            mounted t (g.seen new) (has t)
+            ∙ ap (λ (e : Effect Mounted). after_of (mounted_on d (g.seen old)) e) (sym (gives t));
+        reply = λ t. ap (λ (e : Effect Mounted). e.reply) (sym (gives t));
+        rest = λ t rest. settled t;
+        quiet = quiet;
+        touches = λ t. touches_wider g _ _ old new (touches t) writes;
+        time = steps;
+        faults = record { steady = counts; cause = tt };
+      }

@@ -15,7 +15,7 @@ use Rattle.vab_model.proofs.SeenLaws.{seen_activated, seen_marked, seen_booted}
 use Rattle.vab_device.specs.declared.device.Part.{Part}
 use Rattle.vab_device.specs.declared.device.Device.{Device}
 use Rattle.vab_device.specs.Mounted.{Mounted, images_on, control_on, state_on, mounted_on, in_state}
-use Rattle.vab_device.specs.Mounted.{effect_in}
+use Rattle.vab_device.specs.Updates.{effect_on}
 use Rattle.vab_manager.specs.Controls.{slots_with_images, GivesControl}
 
 pub some_images : (image : Image) (parts : Option (List Part))
@@ -48,11 +48,11 @@ mapped m e f same = ap (effect_map (in_state m)) same
 
 -- ---- a slot is set active
 
-pub activated_effect : (d : Device) (image : Image) (slot : ℕ)
+pub activated_effect : (d : Device) (image : Image) (staged : Option (List ℕ)) (slot : ℕ)
     → is_some (if slot == 0 then d.a else d.b) ≡ true
-    → GivesControl d image (SetActive slot) replies.Done (activated_of d.control slot)
+    → GivesControl d image staged (SetActive slot) replies.Done (activated_of d.control slot)
 unfolding effect
-activated_effect d image slot has =
+activated_effect d image staged slot has =
     let s : State = state_on d image in
     let there : is_some (images_at s slot) ≡ true = has_at d image slot ∙ has in
     let seen : activated_of (control_on d) slot
@@ -63,22 +63,22 @@ activated_effect d image slot has =
     ∙ ap (λ (c : Control). active_effect true s (activated_of c slot)) (control_is d image)
     ∙ ap (λ (c : Control). active_effect true s c) seen)
 
-pub refused_effect : (d : Device) (image : Image) (slot : ℕ)
+pub refused_effect : (d : Device) (image : Image) (staged : Option (List ℕ)) (slot : ℕ)
     → is_some (if slot == 0 then d.a else d.b) ≡ false
-    → effect_in (mounted_on d image) (SetActive slot) ≡ refuses NoImages
+    → effect_on (mounted_on d image) staged (SetActive slot) ≡ refuses NoImages
 unfolding effect
-refused_effect d image slot none =
+refused_effect d image staged slot none =
     let s : State = state_on d image in
     mapped (mounted_on d image) _ _
     (ap (λ (b : Bool). active_effect b s (activated_of s.control slot)) (has_at d image slot ∙ none))
 
 -- ---- the current slot, which has images, is marked
 
-pub marked_effect : (d : Device) (image : Image)
+pub marked_effect : (d : Device) (image : Image) (staged : Option (List ℕ))
     → (if d.control.current == 0 then is_some d.a else is_some d.b) ≡ true
-    → GivesControl d image Mark replies.Done (marked_of d.control)
+    → GivesControl d image staged Mark replies.Done (marked_of d.control)
 unfolding effect
-marked_effect d image has =
+marked_effect d image staged has =
     let s : State = state_on d image in
     mapped (mounted_on d image) _ _
     (ap (λ (c : Control). (let e : Effect State = does replies.Done (with_control (marked_of c) s) in e))
@@ -91,12 +91,12 @@ marked_effect d image has =
 abbrev booting : State → Control → Effect State
 booting s c = does (replies.Booted c.current) (with_control c s)
 
-pub booted_effect : (d : Device) (image : Image)
-    → GivesControl d image Boot
+pub booted_effect : (d : Device) (image : Image) (staged : Option (List ℕ))
+    → GivesControl d image staged Boot
     (replies.Booted (booted_of d.control (slots_with_images d)).current)
     (booted_of d.control (slots_with_images d))
 unfolding effect
-booted_effect d image =
+booted_effect d image staged =
     let s : State = state_on d image in
     mapped (mounted_on d image) _ _
     (ap (λ (c : Control). booting s (booted_of c (has_images s))) (control_is d image)

@@ -3,5 +3,4 @@ mod CommandLaws
 pub mod EffectLaws
 mod FoundLaws
 pub mod BlockLaws
-pub mod ChangeLaws
 pub mod DigestLaws

@@ -1,6 +1,6 @@
 -- Boot control written into its sector.
 use Rattle.std.specs.Prelude.{◌≡◌, ◌⊎◌, ℕ, ◌==◌, if◌then◌else◌, true, List, Ok, [], ◌∷◌, Bool}
-use Rattle.std.specs.Prelude.{is_some}
+use Rattle.std.specs.Prelude.{Option, is_some}
 use Rattle.vab_disk.specs.Disk.{Image, Outcome, set_sector}
 use Rattle.vab_bootctl.specs.declared.slots.Control.{Control}
 use Rattle.vab_bootctl.specs.Control.{control_of, KeepsRest}
@@ -12,7 +12,8 @@ use Rattle.vab_model.specs.Commands.{Merge}
 use Rattle.vab_model.specs.Effects.{does}
 use Rattle.vab_model.specs.State.{control_seen, with_control}
 use Rattle.vab_device.specs.declared.device.Device.{Device}
-use Rattle.vab_device.specs.Mounted.{Mounted, state_on, mounted_on, in_state, effect_in}
+use Rattle.vab_device.specs.Mounted.{Mounted, state_on, mounted_on, in_state}
+use Rattle.vab_device.specs.Updates.{effect_on}
 
 -- The new image is the old one with a sector of this boot control in its place; the bits of the
 -- sector that no field has stay.
@@ -39,9 +40,9 @@ pub record IsControl (c : Control) (old : List ℕ) (s : ℕ) (b : List ℕ) : T
 abbrev pub slots_with_images : Device → List Bool
 slots_with_images d = is_some d.a ∷ is_some d.b ∷ []
 
--- What a command may write, where the slots a and b have images or not: the boot control that the
--- boot rules make of the old one, of both slots. A slot without images isn't set active, and a
--- question writes nothing; nor does a command on an update, as long as there is none.
+-- What a command on slots may write, where the slots a and b have images or not: the boot control
+-- that the boot rules make of the old one, of both slots. A slot without images isn't set active,
+-- and a question writes nothing.
 abbrev pub IsOfSlots : Control → (a b : Bool) → List ℕ → Command → ℕ → List ℕ → Type 0
 IsOfSlots c a b old (SetActive slot) s bytes =
     ((if slot == 0 then a else b) ≡ true) × IsControl (activated_of c slot) old s bytes
@@ -65,43 +66,6 @@ abbrev pub IsOfCommand : Device → List ℕ → Command → ℕ → List ℕ �
 IsOfCommand d old command s bytes =
     IsOfSlots d.control (is_some d.a) (is_some d.b) old command s bytes
 
--- ---- several commands
-
--- the boot control after a command
-abbrev pub control_by : (a b : Bool) → Command → Control → Control
-control_by a b (SetActive slot) c =
-    if (if slot == 0 then a else b) then activated_of c slot else c
-control_by a b Boot c = booted_of c (a ∷ b ∷ [])
-control_by a b Mark c = marked_of c
-control_by a b (Print name) c = c
-control_by a b (Digest name) c = c
-control_by a b Begin c = c
-control_by a b (Create name size) c = c
-control_by a b (Resize name size) c = c
-control_by a b (Delete name) c = c
-control_by a b (Snapshot name size) c = c
-control_by a b (Flash name) c = c
-control_by a b Finish c = c
-control_by a b Cancel c = c
-control_by a b BeginMerge c = c
-control_by a b (Merge blocks) c = c
-
--- and after some of them, one behind the other
-abbrev pub controls_by : (a b : Bool) → List Command → Control → Control
-controls_by a b [] c = c
-controls_by a b (command ∷ commands) c = controls_by a b commands (control_by a b command c)
-
--- What commands may write, one behind the other: a boot control that the boot rules make of the
--- old one by some of them, of both slots.
-pub record IsOfCommands
-    (c : Control)
-    (a b : Bool)
-    (old : List ℕ)
-    (s : ℕ)
-    (bytes : List ℕ) : Type 0 where
-  pub commands : List Command
-  pub writes : IsControl (controls_by a b commands c) old s bytes
-
 -- A command may write this boot control.
 abbrev pub WritesControl : Device → List ℕ → Command → Control → Type 0
 WritesControl d old command c =
@@ -114,6 +78,12 @@ with_kept d c image =
     (with_control (control_seen (is_some d.a) (is_some d.b) c) (state_on d image))
 
 -- A command gives this reply, and leaves the device with this boot control.
-abbrev pub GivesControl : Device → Image → Command → Reply → Control → Type 0
-GivesControl d image command reply c =
-    effect_in (mounted_on d image) command ≡ does reply (with_kept d c image)
+abbrev pub GivesControl : Device
+    → Image
+    → Option (List ℕ)
+    → Command
+    → Reply
+    → Control
+    → Type 0
+GivesControl d image staged command reply c =
+    effect_on (mounted_on d image) staged command ≡ does reply (with_kept d c image)

@@ -1,6 +1,6 @@
 //! Another boot control for a device.
 
-ghost use Rattle.std.specs.Prelude.{◌≡◌, ℕ, List, true};
+ghost use Rattle.std.specs.Prelude.{◌≡◌, ℕ, List, Option, true};
 ghost use Rattle.vab_bootctl.specs.Control.{Fits};
 ghost use Rattle.vab_bootctl.specs.Boot.{info_at};
 ghost use Rattle.vab_device.specs.Kept.{IsDevice};
@@ -30,10 +30,11 @@ pub fn change<D: Disk>(
     requires current { control.current ≡ device.mark.slot }
     requires good { D.is_modelled → is_good (info_at control device.mark.slot) ≡ true }
     // It does each command that gives this reply and boot control, and may write it.
-    ensures { (command : CommandOf)
-        → (D.is_modelled → GivesControl device (D.seen d.old) command reply control)
+    ensures { (staged : Option (List ℕ))
+        → (command : CommandOf)
+        → (D.is_modelled → GivesControl device (D.seen d.old) staged command reply control)
         → WritesControl device (D.seen d.old 4) command control
-        → DoesCommand D.Disk device command d.old d.new result }
+        → DoesCommand D.Disk device staged command d.old d.new result }
 {
     match put_control(d, &control) {
         Ok(()) => Ok((Device { control, ..device }, reply)),

@@ -1,12 +1,12 @@
-//! One command on a device: what it writes, and its reply.
+//! The commands on slots and on images: what they write, and their replies.
 #![tactic(auto)]
 
 mod blocks;
 mod change;
-mod command;
 mod control;
 mod images;
 mod slots;
 
 pub use blocks::{kept_part, locate, read_block};
-pub use command::run_one;
+pub use images::{digest, print};
+pub use slots::{boot, mark, set_active};

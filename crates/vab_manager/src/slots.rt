@@ -1,6 +1,6 @@
 //! The commands on slots.
 
-ghost use Rattle.std.specs.Prelude.{◌≡◌, ◌==◌, is_some, if◌then◌else◌};
+ghost use Rattle.std.specs.Prelude.{◌≡◌, ◌==◌, ℕ, List, Option, is_some, if◌then◌else◌};
 ghost use Rattle.vab_bootctl.specs.Control.{Fits};
 ghost use Rattle.vab_bootctl.specs.Boot.{activated_of};
 ghost use Rattle.vab_model.specs.Commands.{SetActive, Boot, Mark};
@@ -48,7 +48,8 @@ pub fn set_active<D: Disk>(
 ) -> Result<(Device, Reply), DiskFault>
     requires kept { IsDevice device (D.size d.old) }
     requires represents { D.is_modelled → Represents device (D.size d.old) (D.seen d.old) }
-    ensures { DoesCommand D.Disk device (SetActive slot) d.old d.new result }
+    ensures { (staged : Option (List ℕ))
+        → DoesCommand D.Disk device staged (SetActive slot) d.old d.new result }
 {
     if !has_images(&device, slot) {
         return Ok((device, Reply::Refused(Refusal::NoImages)));
@@ -61,7 +62,8 @@ pub fn set_active<D: Disk>(
 pub fn boot<D: Disk>(d: &mut D, device: Device) -> Result<(Device, Reply), DiskFault>
     requires kept { IsDevice device (D.size d.old) }
     requires represents { D.is_modelled → Represents device (D.size d.old) (D.seen d.old) }
-    ensures { DoesCommand D.Disk device Boot d.old d.new result }
+    ensures { (staged : Option (List ℕ))
+        → DoesCommand D.Disk device staged Boot d.old d.new result }
 {
     let has = [has_images(&device, 0), has_images(&device, 1)];
     let control = booted(&device.control, has);
@@ -72,7 +74,8 @@ pub fn boot<D: Disk>(d: &mut D, device: Device) -> Result<(Device, Reply), DiskF
 pub fn mark<D: Disk>(d: &mut D, device: Device) -> Result<(Device, Reply), DiskFault>
     requires kept { IsDevice device (D.size d.old) }
     requires represents { D.is_modelled → Represents device (D.size d.old) (D.seen d.old) }
-    ensures { DoesCommand D.Disk device Mark d.old d.new result }
+    ensures { (staged : Option (List ℕ))
+        → DoesCommand D.Disk device staged Mark d.old d.new result }
 {
     let control = marked(&device.control);
     change(d, device, control, Reply::Done)

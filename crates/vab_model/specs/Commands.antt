@@ -1,4 +1,4 @@
--- Commands, with their names as bytes. No command of the program begins an update yet.
+-- Commands, with their names as bytes.
 use Rattle.std.specs.Prelude.{ℕ, List}
 use Rattle.vab_model.specs.declared.command.Command.{Command as CommandOfCode}
 use Rattle.vab_model.specs.declared.command.Command.TheVariants as code
@@ -26,6 +26,7 @@ command_of code.Boot = Boot
 command_of code.Mark = Mark
 command_of (code.Print name) = Print name.now
 command_of (code.Digest name) = Digest name.now
+command_of code.Begin = Begin
 command_of (code.Create name size) = Create name.now size
 command_of (code.Resize name size) = Resize name.now size
 command_of (code.Delete name) = Delete name.now

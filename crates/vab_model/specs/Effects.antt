@@ -1,13 +1,11 @@
 -- What a command makes of a state: the reply, and the states that follow one another.
 use Rattle.std.specs.Prelude.{◌≡◌, ◌⊎◌, ℕ, if◌then◌else◌, Bool, true, false, List, [], ◌∷◌}
-use Rattle.std.specs.Prelude.{◌/◌, ◌&&◌, length, map, Option, Some, None, is_some}
+use Rattle.std.specs.Prelude.{◌&&◌, map, Option, Some, None, is_some}
 use Rattle.sha2.specs.Sha256.{sha256}
 use Rattle.vab_bootctl.specs.declared.slots.Control.{Control}
 use Rattle.vab_bootctl.specs.Boot.{activated_of, booted_of, marked_of}
 use Rattle.vab_names.specs.Names.{is_full, base_of}
 use Rattle.vab_model.specs.declared.state.Image.{Image}
-use Rattle.vab_model.specs.declared.state.PlanImage.TheVariants.{Kept}
-use Rattle.vab_model.specs.declared.state.PlanEntry.{PlanEntry}
 use Rattle.vab_model.specs.declared.state.Phase.{Phase}
 use Rattle.vab_model.specs.declared.state.Phase.TheVariants.{Idle, Installing, Staged}
 use Rattle.vab_model.specs.declared.state.Phase.TheVariants.{Merging as IsMerging}
@@ -85,36 +83,16 @@ abbrev pub active_effect : Bool → State → Control → Effect State
 active_effect true s c = does replies.Done (with_control c s)
 active_effect false s c = refuses NoImages
 
--- an image that the target of an update has from the source
-abbrev pub kept_entry : Image → PlanEntry
-kept_entry image = record {
-  name = image.name;
-  group = image.group;
-  blocks = length image.bytes / 4096;
-  store = None;
-  image = Kept;
-}
-
--- the plan of an update as it begins: the images of the current slot
-abbrev pub kept_plan : Option (List Image) → List PlanEntry
-kept_plan None = []
-kept_plan (Some images) = map kept_entry images
-
-abbrev pub begun : State → State
-begun s = record s {
-  phase =
-      Installing s.control.current (kept_plan (images_at s s.control.current));
-}
-
--- why a command on an update is refused: there is none, or it can't be carried on yet
+-- why a command on an update is refused by what a state says: there is none, or there is one
 abbrev pub unless_idle : Phase → Refusal → Refusal
 unless_idle Idle refusal = refusal
 unless_idle (Installing source plan) refusal = NotIdle
 unless_idle (Staged source left) refusal = NotIdle
 unless_idle (IsMerging target left) refusal = NotIdle
 
--- Each command has a row. The program begins no update yet: the commands on one are refused where
--- there is none, and where another program has begun one.
+-- Each command has a row. A state doesn't say where its partitions stand, so an update is neither
+-- begun nor carried on here: the commands on one are refused, as there is none, or since there is
+-- one. They have their rows where the tables are known, in the effects of a device.
 unfoldable pub effect : State → Command → Effect State
 effect s (SetActive slot) =
     active_effect (is_some (images_at s slot)) s (activated_of s.control slot)
@@ -124,7 +102,7 @@ effect s Boot =
 effect s Mark = does replies.Done (with_control (marked_of s.control) s)
 effect s (Print name) = print_effect name (found_of s name)
 effect s (Digest name) = digest_effect (found_of s name)
-effect s Begin = does replies.Done (begun s)
+effect s Begin = refuses (unless_idle s.phase NotInstalling)
 effect s (Create name size) = refuses (unless_idle s.phase NotInstalling)
 effect s (Resize name size) = refuses (unless_idle s.phase NotInstalling)
 effect s (Delete name) = refuses (unless_idle s.phase NotInstalling)

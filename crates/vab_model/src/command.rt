@@ -16,6 +16,8 @@ pub enum Command<'a> {
     Print(&'a [u8]),
     /// Tells the SHA-256 of an image's bytes.
     Digest(&'a [u8]),
+    /// Begins an update from the current slot.
+    Begin,
     /// Gives the target of an update a partition of this size.
     Create(&'a [u8], u64),
     /// Gives a partition of the target another size.

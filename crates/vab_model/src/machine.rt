@@ -197,9 +197,10 @@ fn refuse_update(alloc: Global, state: &State, refusal: Refusal) -> Result<(Stat
 }
 
 /// The state after a command, and the reply; the state that is given stays. `staged` is what was
-/// downloaded last, if anything: no command takes it yet. The commands on an update are refused,
-/// since none begins one yet. `NoMemory` where memory is refused. It is slow, for tests: the
-/// program's own commands are compared with it.
+/// downloaded last, if anything: no command takes it. An update is neither begun nor carried on,
+/// since a state doesn't say where its partitions stand: the commands on one are refused.
+/// `NoMemory` where memory is refused. It is slow, for tests: the program's own commands are
+/// compared with it.
 #[tactic(auto, unfolding(crate::specs::Effects::effect))]
 pub fn step(
     alloc: Global,
@@ -217,6 +218,7 @@ pub fn step(
         Command::Mark => mark(alloc, state),
         Command::Print(name) => printed(alloc, state, name),
         Command::Digest(name) => digested(alloc, state, name),
+        Command::Begin => refuse_update(alloc, state, Refusal::NotInstalling),
         Command::Create(_, _) => refuse_update(alloc, state, Refusal::NotInstalling),
         Command::Resize(_, _) => refuse_update(alloc, state, Refusal::NotInstalling),
         Command::Delete(_) => refuse_update(alloc, state, Refusal::NotInstalling),

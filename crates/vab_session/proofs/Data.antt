@@ -1,5 +1,5 @@
 -- What answering a packet leaves of a device.
-use Rattle.std.proofs.Common.{◌≡◌, ℕ, ◌≤◌, false, List, [], ◌++◌, Ok, length}
+use Rattle.std.proofs.Common.{◌≡◌, ℕ, ◌≤◌, true, false, List, [], ◌++◌, Ok, length}
 use Rattle.std.proofs.Common.{length-append, take, sym, ◌∙◌, ap, subst, refl, arith}
 use Rattle.std.proofs.lemmas.List.{append-nil, take_at}
 use Rattle.vab_disk.specs.Disk.{Outcome, SameHoldings, Adds, Nothing}
@@ -11,19 +11,23 @@ use Rattle.vab_disk.specs.Port.{LeavesSaying}
 use Rattle.vab_disk.specs.declared.disk.Disk.{Ghosts}
 use Rattle.vab_disk.proofs.Moments.{adds_still, adds_wider}
 use Rattle.vab_model.specs.Commands.{Command}
-use Rattle.vab_model.specs.Effects.{steps_of, after_of}
-use Rattle.vab_device.specs.Mounted.{Mounted, effect_in}
+use Rattle.vab_model.specs.declared.command.Refusal.TheVariants.{NoMemory}
+use Rattle.vab_model.specs.Effects.{Effect, refuses, steps_of, after_of, takes_memory, may_want}
+use Rattle.vab_model.specs.Effects.{unless_refused as unless}
+use Rattle.vab_device.specs.Mounted.{Mounted}
+use Rattle.vab_device.specs.Does.{LeavesStep}
+use Rattle.vab_device.specs.Updates.{effect_on}
 use Rattle.vab_device.specs.Reading.{IsIn}
-use Rattle.vab_manager.specs.Commands.{LeavesStep}
 use Rattle.vab_fbproto.specs.Requests.{Asked, Do, Download, request_of}
-use Rattle.vab_fbproto.specs.Texts.{reply_text}
+use Rattle.vab_fbproto.specs.Texts.{reply_text, refusal_text}
 use Rattle.vab_fbproto.specs.declared.request.BadCommand.{BadCommand}
-use Rattle.std.specs.Prelude.{Result}
+use Rattle.std.specs.Prelude.{Bool, ◌&&◌, if◌then◌else◌, Result}
 use Rattle.vab_exchanges.specs.Session.{packet, most_data, End, IsAwaited}
 use Rattle.vab_exchanges.specs.Session as session
 use Rattle.vab_exchanges.specs.Hearing.{HearsWhere, IsHeardFor}
 use Rattle.vab_exchanges.specs.Reading.{EndsAs, IsBroken, StopsBy}
-use Rattle.vab_exchanges.specs.Items.{Response, AsksNoData, Kept, item_by, data_text}
+use Rattle.vab_exchanges.specs.Items.{Response, AsksNoData, Kept, Item, item_by, data_text}
+use Rattle.vab_exchanges.specs.Items.{no_memory, unless_refused, staged_after}
 use Rattle.vab_exchanges.specs.Runs.{LeavesItem, Answers, FailsWhole, FailsOpen, BreaksOff}
 use Rattle.vab_exchanges.specs.declared.fault.ReadFault.{ReadFault}
 use Rattle.vab_exchanges.specs.declared.fault.ReadFault.TheVariants as reads
@@ -31,7 +35,7 @@ use Rattle.vab_exchanges.proofs.Answering.{fails_before, answers_done, fails_don
 use Rattle.vab_exchanges.proofs.Answering.{fails_plain, fails_data, breaks_off}
 use Rattle.vab_exchanges.proofs.RunLaws.{packet_some}
 use Rattle.vab_session.specs.Fault.{fault_of_read}
-use Rattle.vab_session.specs.Responses.{response, still, by_effect}
+use Rattle.vab_session.specs.Responses.{response, still, by_effect, takes_staged}
 use Rattle.vab_session.specs.Served.{Fails, HasCause}
 
 take_whole : (l : List ℕ) → take (length l) l ≡ l
@@ -88,15 +92,42 @@ module _ {D : Type 0}
 
 -- ---- a command
 
+text_or : (b : Bool) (c : Command) (e : Effect Mounted)
+    → (let r : Response Mounted = if b then no_memory else by_effect c e in r.text)
+    ≡ (let f : Effect Mounted = if b then refuses NoMemory else e in reply_text f.reply)
+unfolding reply_text refusal_text
+text_or true c e = refl
+text_or false c e = refl
+
+-- the text of what a command does, where memory is refused to it or not
+text_refused : (refused : Bool) (c : Command) (e : Effect Mounted)
+    → (unless_refused refused (by_effect c e)).text ≡ reply_text (unless refused c e).reply
+text_refused refused c e = text_or (refused && (takes_memory c && may_want e.reply)) c e
+
+item_or : (k : Kept Mounted) (b : Bool) (c : Command) (e : Effect Mounted)
+    → (let r : Response Mounted = if b then no_memory else by_effect c e in item_by k r)
+    ≡ (let f : Effect Mounted = if b then refuses NoMemory else e in item_by k (by_effect c f))
+unfolding reply_text refusal_text
+item_or k true c e = refl
+item_or k false c e = refl
+
+-- and its item
+item_refused : (k : Kept Mounted) (refused : Bool) (c : Command) (e : Effect Mounted)
+    → item_by k (unless_refused refused (by_effect c e))
+    ≡ item_by k (by_effect c (unless refused c e))
+item_refused k refused c e =
+    item_or k (refused && (takes_memory c && may_want e.reply)) c e
+
 -- a step of a command, with nothing told of it
-leaves_step : (size : ℕ) (k : Kept Mounted) (c : Command) (told : List ℕ) (o : Outcome)
-    → LeavesStep told size (steps_of k.now (effect_in k.now c)) o
-    → LeavesItem (IsIn size) told (item_by k (by_effect (effect_in k.now c))) o
-leaves_step size k c told o leaves = record {
+leaves_step : (size : ℕ) (k : Kept Mounted) (c : Command) (e : Effect Mounted) (told : List ℕ)
+    (o : Outcome)
+    → LeavesStep told size (steps_of k.now e) o
+    → LeavesItem (IsIn size) told (item_by k (by_effect c e)) o
+leaves_step size k c e told o leaves = record {
   front = (0, leaves.told_so_far ∙ sym (append-nil told));
   step = (leaves.mounted, leaves.step, leaves.means);
   whole = λ all.
-      let text = reply_text (effect_in k.now c).reply in
+      let text = reply_text e.reply in
       let some = packet_some text in
       absurd (omega (
         arith,
@@ -111,6 +142,7 @@ module _ {D : Type 0}
     (g : Ghosts D)
     (k : Kept Mounted)
     (asking before beyond : List ℕ)
+    (refused : Bool)
     (asked : Result Asked BadCommand)
     (is : request_of asking ≡ asked)
     (none : AsksNoData asked)
@@ -121,52 +153,72 @@ module _ {D : Type 0}
     (deaf : g.heard mid ≡ g.heard old)
     (time : IsAtRest g old
     → Adds g.moment g.outcomes old mid
-    (LeavesStep (g.told old) size (steps_of k.now (effect_in k.now c)))) where
+    (LeavesStep (g.told old) size
+    (steps_of k.now (unless refused c (effect_on k.now k.staged c))))) where
+  abbrev done : Effect Mounted
+  done = unless refused c (effect_on k.now k.staged c)
+
+  abbrev answer : Response Mounted
+  answer = unless_refused refused (response k.now k.staged asked)
+
+  item_is : item_by k answer ≡ item_by k (by_effect c done)
+  item_is =
+      ap (λ (r : Response Mounted). item_by k (unless_refused refused r)) same
+      ∙ item_refused k refused c (effect_on k.now k.staged c)
+
+  answer_text : answer.text ≡ reply_text done.reply
+  answer_text =
+      ap (λ (r : Response Mounted). (unless_refused refused r).text) same
+      ∙ text_refused refused c (effect_on k.now k.staged c)
+
   during : IsAtRest g old
       → Adds g.moment g.outcomes old mid
-      (LeavesItem (IsIn size) (g.told old) (item_by k (response k.now k.staged asked)))
+      (LeavesItem (IsIn size) (g.told old) (item_by k answer))
   during rest =
       subst
-      (λ (r : Response Mounted).
-      Adds g.moment g.outcomes old mid (LeavesItem (IsIn size) (g.told old) (item_by k r)))
-      (sym same)
+      (λ (i : Item Mounted).
+      Adds g.moment g.outcomes old mid (LeavesItem (IsIn size) (g.told old) i))
+      (sym item_is)
       (adds_wider g.moment g.outcomes old mid
-      (LeavesStep (g.told old) size (steps_of k.now (effect_in k.now c)))
-      (LeavesItem (IsIn size) (g.told old) (item_by k (by_effect (effect_in k.now c))))
-      (time rest) (leaves_step size k c (g.told old)))
+      (LeavesStep (g.told old) size (steps_of k.now done))
+      (LeavesItem (IsIn size) (g.told old) (item_by k (by_effect c done)))
+      (time rest) (leaves_step size k c done (g.told old)))
 
   -- the disk failed
   pub command_before : FailsWhole response (IsIn size) g k asking before beyond old mid
   command_before =
-      fails_before response (IsIn size) g k asking before beyond false asked is none
-      (response k.now k.staged asked).text refl old mid quiet deaf during
+      fails_before response (IsIn size) g k asking before beyond refused asked is none
+      answer.text refl old mid quiet deaf during
 
   module _ (new : D)
       (text : List ℕ)
-      (text_is : text ≡ reply_text (effect_in k.now c).reply)
-      (stands : IsIn size (after_of k.now (effect_in k.now c)) (g.seen mid))
+      (text_is : text ≡ reply_text done.reply)
+      (stands : IsIn size (after_of k.now done) (g.seen mid))
       (settled : IsAtRest g old → IsAtRest g mid)
       (seen : g.seen new ≡ g.seen mid)
       (holds : SameHoldings (g.may_leave mid) (g.may_leave new))
       (deaf' : g.heard new ≡ g.heard mid)
       (telling : Adds g.moment g.outcomes mid new
       (LeavesSaying (g.told mid) (packet text) (g.may_leave mid))) where
-    text_there : text ≡ (response k.now k.staged asked).text
-    text_there = text_is ∙ ap (λ (r : Response Mounted). r.text) (sym same)
+    text_there : text ≡ answer.text
+    text_there = text_is ∙ sym answer_text
 
-    last_there : (item_by k (by_effect (effect_in k.now c))).last
-        ≡ (item_by k (response k.now k.staged asked)).last
-    last_there = ap (λ (r : Response Mounted). (item_by k r).last) (sym same)
+    last_there : (item_by k (by_effect c done)).last ≡ (item_by k answer).last
+    last_there = ap (λ (i : Item Mounted). i.last) (sym item_is)
 
-    there_then : IsIn size (item_by k (response k.now k.staged asked)).last.now (g.seen mid)
+    there_then : IsIn size (item_by k answer).last.now (g.seen mid)
     there_then = subst (λ (q : Kept Mounted). IsIn size q.now (g.seen mid)) last_there stands
 
     pub command_done : (k' : Kept Mounted)
-        → k' ≡ record { now = after_of k.now (effect_in k.now c); staged = k.staged }
+        → k'
+        ≡ record {
+          now = after_of k.now done;
+          staged = staged_after (takes_staged c done.reply) k.staged;
+        }
         → g.told new ≡ g.told mid ++ packet text
         → Answers response (IsIn size) g k k' asking before before beyond old new
     command_done k' kept told =
-        answers_done response (IsIn size) g k asking before beyond false asked is none
+        answers_done response (IsIn size) g k asking before beyond refused asked is none
         text text_there old mid quiet deaf during new there_then settled seen holds deaf' telling
         k' (kept ∙ last_there) told
 
@@ -174,7 +226,7 @@ module _ {D : Type 0}
     pub command_told : (n : ℕ) × (g.told new ≡ g.told mid ++ take n (packet text))
         → FailsWhole response (IsIn size) g k asking before beyond old new
     command_told front =
-        fails_done response (IsIn size) g k asking before beyond false asked is none
+        fails_done response (IsIn size) g k asking before beyond refused asked is none
         text text_there old mid quiet deaf during new there_then settled seen holds deaf' telling
         front
 

@@ -1,10 +1,16 @@
 -- What a packet makes of a device.
-use Rattle.std.specs.Prelude.{false, List, ℕ, ◌+◌, [], codes, Option, Result, Ok, Err}
+use Rattle.std.specs.Prelude.{Bool, true, false, ◌&&◌, List, ℕ, ◌+◌, [], codes, Option, Result, Ok}
+use Rattle.std.specs.Prelude.{Err}
 use Rattle.vab_model.specs.declared.state.Phase.{Phase}
 use Rattle.vab_model.specs.declared.state.Phase.TheVariants.{Idle, Installing, Staged, Merging}
-use Rattle.vab_model.specs.Commands.{Boot, Merge}
-use Rattle.vab_model.specs.Effects.{Effect}
-use Rattle.vab_device.specs.Mounted.{Mounted, effect_in}
+use Rattle.vab_model.specs.declared.command.Reply.{Reply}
+use Rattle.vab_model.specs.declared.command.Reply.TheVariants as replies
+use Rattle.vab_model.specs.Commands.{Command, SetActive, Boot, Mark, Print, Digest, Begin, Create}
+use Rattle.vab_model.specs.Commands.{Resize, Delete, Snapshot, Flash, Finish, Cancel, BeginMerge}
+use Rattle.vab_model.specs.Commands.{Merge}
+use Rattle.vab_model.specs.Effects.{Effect, takes_memory, may_want}
+use Rattle.vab_device.specs.Mounted.{Mounted}
+use Rattle.vab_device.specs.Updates.{effect_on}
 use Rattle.vab_fbproto.specs.Requests.{Asked, Getvar, Download, Do, MergeAll, BootAndEnd}
 use Rattle.vab_fbproto.specs.Texts.{reply_text, bad_text}
 use Rattle.vab_fbvars.specs.Variables.{variable_text}
@@ -15,14 +21,45 @@ use Rattle.vab_exchanges.specs.Items.{Response}
 abbrev pub still : List ℕ → Response Mounted
 still text = record { text = text; later = []; takes = false; may_want = false }
 
--- what a command of the model does
-abbrev pub by_effect : Effect Mounted → Response Mounted
-by_effect e = record {
+-- a flash takes the staged bytes
+abbrev pub is_flash : Command → Bool
+is_flash (SetActive slot) = false
+is_flash Boot = false
+is_flash Mark = false
+is_flash (Print name) = false
+is_flash (Digest name) = false
+is_flash Begin = false
+is_flash (Create name size) = false
+is_flash (Resize name size) = false
+is_flash (Delete name) = false
+is_flash (Snapshot name size) = false
+is_flash (Flash name) = true
+is_flash Finish = false
+is_flash Cancel = false
+is_flash BeginMerge = false
+is_flash (Merge blocks) = false
+
+-- the staged bytes are used up: a flash was done
+abbrev pub takes_staged : Command → Reply → Bool
+takes_staged c replies.Done = is_flash c
+takes_staged c (replies.Booted slot) = false
+takes_staged c (replies.Bytes name) = false
+takes_staged c (replies.Digest sum) = false
+takes_staged c (replies.Left blocks) = false
+takes_staged c replies.Merged = false
+takes_staged c (replies.Refused refusal) = false
+
+-- what a command does to a device
+abbrev pub by_effect : Command → Effect Mounted → Response Mounted
+by_effect c e = record {
   text = reply_text e.reply;
   later = e.later;
-  takes = false;
-  may_want = false;
+  takes = takes_staged c e.reply;
+  may_want = takes_memory c && may_want e.reply;
 }
+
+abbrev pub by_command : Mounted → Option (List ℕ) → Command → Response Mounted
+by_command m staged c = by_effect c (effect_on m staged c)
 
 -- how many blocks are left to merge
 abbrev pub left_of : Phase → ℕ
@@ -36,7 +73,7 @@ left_of (Merging target left) = left
 abbrev pub response : Mounted → Option (List ℕ) → Result Asked BadCommand → Response Mounted
 response m staged (Ok (Getvar variable)) = still (variable_text m.state variable)
 response m staged (Ok (Download size)) = still (codes "OKAY")
-response m staged (Ok (Do command)) = by_effect (effect_in m command)
-response m staged (Ok MergeAll) = by_effect (effect_in m (Merge (left_of m.state.phase + 1)))
-response m staged (Ok BootAndEnd) = by_effect (effect_in m Boot)
+response m staged (Ok (Do command)) = by_command m staged command
+response m staged (Ok MergeAll) = by_command m staged (Merge (left_of m.state.phase + 1))
+response m staged (Ok BootAndEnd) = by_command m staged Boot
 response m staged (Err bad) = still (bad_text bad)

@@ -1,30 +1,31 @@
 //! One exchange: what it changes, and then its reply.
 ghost use Rattle.std.specs.Prelude.{◌≡◌, ◌≤◌, ℕ, List, length, OnOk, IfOk, IfErr, Ok, MatchOption};
-ghost use Rattle.std.specs.Prelude.{Result};
+ghost use Rattle.std.specs.Prelude.{Result, option_map};
 ghost use Rattle.vab_fbtcp.specs.declared.event.Place.TheVariants.{Length};
 ghost use Rattle.vab_device.specs.Kept.{IsDevice};
 ghost use Rattle.vab_device.specs.Reading.{Represents};
 ghost use Rattle.vab_fbproto.specs.Requests.{Asked, Do, Download, request_of};
 ghost use Rattle.vab_fbproto.specs.declared.request.BadCommand.{BadCommand};
 ghost use Rattle.vab_model.specs.Commands.{command_of};
-ghost use Rattle.vab_manager.specs.Commands.{ChangesControl};
+ghost use Rattle.vab_device.specs.Does.{KeepsSource};
+ghost use Rattle.vab_commands.specs.Touched.{ChangesDevice};
 ghost use Rattle.vab_exchanges.specs.Session.{ends_session};
 ghost use Rattle.vab_exchanges.specs.Reading.{stands_at, rest_of, beyond_of, room_of, total_of};
 ghost use Rattle.vab_exchanges.specs.Reading.{count_of, most_of, IsFed};
-ghost use Rattle.vab_exchanges.specs.Items.{AsksNoData};
-ghost use Rattle.vab_session.specs.Responses.{response, still};
+ghost use Rattle.vab_exchanges.specs.Items.{AsksNoData, staged_after};
+ghost use Rattle.vab_session.specs.Responses.{response, still, takes_staged};
 ghost use Rattle.vab_session.specs.Served.{kept_on, AnswersOrFails, HasCause};
 
 use crate::tell::{data_text, tell_reply};
 use crate::{KeptDevice, SessionFault};
 use arrayvec::ArrayVec;
 use std::alloc::Global;
+use vab_commands::run_one;
 use vab_disk::{Disk, Port};
 use vab_exchanges::Reader;
 use vab_fbproto::{Request, bad_text, read_command, reply_text};
 use vab_fbvars::variable;
-use vab_manager::run_one;
-use vab_model::Command;
+use vab_model::{Command, Reply};
 
 /// The most bytes of a download.
 pub const MAX_DATA: u32 = 0x10000000;
@@ -37,6 +38,7 @@ fn tell_still<P: Port>(p: &mut P, kept: KeptDevice, text: &[u8]) -> Result<KeptD
     ensures size { P.size p.new ≡ P.size p.old }
     ensures left { P.is_modelled → P.input_left p.new ≡ P.input_left p.old }
     ensures device { IfOk result (λ k. IsDevice k.device (P.size p.old)) }
+    ensures source { IfOk result (λ k. KeepsSource kept.device k.device) }
     ensures stands { P.is_modelled
         → IfOk result (λ k. Represents k.device (P.size p.old) (P.seen p.new)) }
     ensures does { P.is_modelled
@@ -47,7 +49,7 @@ fn tell_still<P: Port>(p: &mut P, kept: KeptDevice, text: &[u8]) -> Result<KeptD
         → (let k = kept_on kept (P.seen p.old) in response k.now k.staged asked ≡ still text.now)
         → AnswersOrFails (P.size p.old) P.Disk (kept_on kept (P.seen p.old))
         command before before beyond count total most p.old p.new result }
-    ensures changes { P.is_modelled → ChangesControl P.Disk kept.device p.old p.new }
+    ensures changes { P.is_modelled → ChangesDevice P.Disk kept.device p.old p.new }
     ensures cause { HasCause P.Disk p.old p.new result }
 {
     match tell_reply(p, text) {
@@ -56,8 +58,43 @@ fn tell_still<P: Port>(p: &mut P, kept: KeptDevice, text: &[u8]) -> Result<KeptD
     }
 }
 
+// The staged bytes.
+fn bytes_of(staged: &Option<Vec<u8>>) -> Option<&[u8]>
+    ensures { option_map (λ s. s.now) result ≡ option_map (λ v. v.items) staged.now }
+{
+    match staged {
+        None => None,
+        Some(bytes) => Some(bytes.as_slice()),
+    }
+}
+
+// Whether a command has used up the staged bytes: a flash that is done.
+#[tactic(auto, unfolding(crate::specs::Responses::takes_staged))]
+fn takes_staged(command: &Command, reply: &Reply) -> bool
+    ensures { result ≡ takes_staged (command_of command.now) reply.now }
+{
+    match (command, reply) {
+        (Command::Flash(_), Reply::Done) => true,
+        _ => false,
+    }
+}
+
+// What is staged behind a command.
+fn left_staged(command: &Command, reply: &Reply, staged: Option<Vec<u8>>) -> Option<Vec<u8>>
+    ensures { option_map (λ v. v.items) result
+        ≡ staged_after (takes_staged (command_of command.now) reply.now)
+        (option_map (λ v. v.items) staged) }
+{
+    if takes_staged(command, reply) {
+        None
+    } else {
+        staged
+    }
+}
+
 // Carries out a command, and then tells its reply. It hears nothing.
 fn carry_out<P: Port>(
+    alloc: Global,
     p: &mut P,
     kept: KeptDevice,
     command: &Command,
@@ -67,6 +104,7 @@ fn carry_out<P: Port>(
     ensures size { P.size p.new ≡ P.size p.old }
     ensures left { P.is_modelled → P.input_left p.new ≡ P.input_left p.old }
     ensures device { IfOk result (λ k. IsDevice k.device (P.size p.old)) }
+    ensures source { IfOk result (λ k. KeepsSource kept.device k.device) }
     ensures stands { P.is_modelled
         → IfOk result (λ k. Represents k.device (P.size p.old) (P.seen p.new)) }
     ensures does { P.is_modelled
@@ -78,14 +116,15 @@ fn carry_out<P: Port>(
         response k.now k.staged asked ≡ response k.now k.staged (Ok (Do (command_of command.now))))
         → AnswersOrFails (P.size p.old) P.Disk (kept_on kept (P.seen p.old))
         packet before before beyond count total most p.old p.new result }
-    ensures changes { P.is_modelled → ChangesControl P.Disk kept.device p.old p.new }
+    ensures changes { P.is_modelled → ChangesDevice P.Disk kept.device p.old p.new }
     ensures cause { HasCause P.Disk p.old p.new result }
 {
     let KeptDevice { device, staged } = kept;
-    let (device, reply) = match run_one(p, device, command) {
+    let (device, reply) = match run_one(alloc, p, device, command, bytes_of(&staged)) {
         Ok(done) => done,
         Err(_) => return Err(SessionFault::Disk),
     };
+    let staged = left_staged(command, &reply, staged);
     let mut text = ArrayVec::new();
     reply_text(&reply, &mut text);
     match tell_reply(p, text.as_slice()) {
@@ -94,22 +133,28 @@ fn carry_out<P: Port>(
     }
 }
 
-// Answers a packet that isn't a download. It hears nothing. There is no update yet, and so none of
+// Answers a packet that isn't a download. It hears nothing. No update is merged yet, and so none of
 // its blocks are left to merge.
-fn command<P: Port>(p: &mut P, kept: KeptDevice, packet: &[u8]) -> Result<KeptDevice, SessionFault>
+fn command<P: Port>(
+    alloc: Global,
+    p: &mut P,
+    kept: KeptDevice,
+    packet: &[u8],
+) -> Result<KeptDevice, SessionFault>
     requires plain { AsksNoData (request_of packet.now) }
     requires device { IsDevice kept.device (P.size p.old) }
     requires stands { P.is_modelled → Represents kept.device (P.size p.old) (P.seen p.old) }
     ensures size { P.size p.new ≡ P.size p.old }
     ensures left { P.is_modelled → P.input_left p.new ≡ P.input_left p.old }
     ensures device { IfOk result (λ k. IsDevice k.device (P.size p.old)) }
+    ensures source { IfOk result (λ k. KeepsSource kept.device k.device) }
     ensures stands { P.is_modelled
         → IfOk result (λ k. Represents k.device (P.size p.old) (P.seen p.new)) }
     ensures does { P.is_modelled
         → (before beyond : List ℕ) (count total most : ℕ)
         → AnswersOrFails (P.size p.old) P.Disk (kept_on kept (P.seen p.old))
         packet.now before before beyond count total most p.old p.new result }
-    ensures changes { P.is_modelled → ChangesControl P.Disk kept.device p.old p.new }
+    ensures changes { P.is_modelled → ChangesDevice P.Disk kept.device p.old p.new }
     ensures cause { HasCause P.Disk p.old p.new result }
 {
     match read_command(packet) {
@@ -119,9 +164,9 @@ fn command<P: Port>(p: &mut P, kept: KeptDevice, packet: &[u8]) -> Result<KeptDe
             variable(&kept.device, &asked, &mut text);
             tell_still(p, kept, text.as_slice())
         }
-        Ok(Request::Do(command)) => carry_out(p, kept, &command),
-        Ok(Request::MergeAll) => carry_out(p, kept, &Command::Merge(1)),
-        Ok(Request::BootAndEnd) => carry_out(p, kept, &Command::Boot),
+        Ok(Request::Do(command)) => carry_out(alloc, p, kept, &command),
+        Ok(Request::MergeAll) => carry_out(alloc, p, kept, &Command::Merge(1)),
+        Ok(Request::BootAndEnd) => carry_out(alloc, p, kept, &Command::Boot),
         Err(bad) => tell_still(p, kept, bad_text(bad)),
     }
 }
@@ -148,6 +193,7 @@ fn download<P: Port>(
         (beyond_of reader.new (P.input_left p.new) ≡ beyond_of reader.old (P.input_left p.old)) }
     ensures most { most_of reader.new ≡ most_of reader.old }
     ensures device { IfOk result (λ k. IsDevice k.device (P.size p.old)) }
+    ensures source { IfOk result (λ k. KeepsSource kept.device k.device) }
     ensures stands { P.is_modelled
         → IfOk result (λ k. Represents k.device (P.size p.old) (P.seen p.new)) }
     ensures does { P.is_modelled
@@ -161,7 +207,7 @@ fn download<P: Port>(
         (count_of reader.old (P.input_left p.old))
         (total_of reader.old (P.input_left p.old))
         (most_of reader.old) p.old p.new result }
-    ensures changes { P.is_modelled → ChangesControl P.Disk kept.device p.old p.new }
+    ensures changes { P.is_modelled → ChangesDevice P.Disk kept.device p.old p.new }
     ensures cause { HasCause P.Disk p.old p.new result }
 {
     if size > MAX_DATA {
@@ -244,6 +290,7 @@ pub(crate) fn answer<P: Port>(
         (beyond_of reader.new (P.input_left p.new) ≡ beyond_of reader.old (P.input_left p.old)) }
     ensures most { most_of reader.new ≡ most_of reader.old }
     ensures device { IfOk result (λ k. IsDevice k.device (P.size p.old)) }
+    ensures source { IfOk result (λ k. KeepsSource kept.device k.device) }
     ensures stands { P.is_modelled
         → IfOk result (λ k. Represents k.device (P.size p.old) (P.seen p.new)) }
     ensures does { P.is_modelled
@@ -255,7 +302,7 @@ pub(crate) fn answer<P: Port>(
         (count_of reader.old (P.input_left p.old))
         (total_of reader.old (P.input_left p.old))
         (most_of reader.old) p.old p.new result }
-    ensures changes { P.is_modelled → ChangesControl P.Disk kept.device p.old p.new }
+    ensures changes { P.is_modelled → ChangesDevice P.Disk kept.device p.old p.new }
     ensures cause { HasCause P.Disk p.old p.new result }
 {
     match announced(packet) {
@@ -263,7 +310,7 @@ pub(crate) fn answer<P: Port>(
             Ok(kept) => Ok(kept),
             Err(fault) => Err(fault),
         },
-        None => match command(p, kept, packet) {
+        None => match command(alloc, p, kept, packet) {
             Ok(kept) => Ok(kept),
             Err(fault) => Err(fault),
         },

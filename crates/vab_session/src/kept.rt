@@ -2,7 +2,7 @@
 
 use vab_device::Device;
 
-/// The device as the disk has it, and the bytes of the last download. No command takes them yet.
+/// The device as the disk has it, and the bytes of the last download, until a flash is done.
 #[derive(Drop)]
 pub struct KeptDevice {
     pub device: Device,

@@ -1,12 +1,10 @@
 //! The session: a greeting, a hello, and then exchange after exchange.
 ghost use Rattle.std.specs.Prelude.{◌≡◌, ◌<◌, ◌++◌, ◌^◌, ℕ, List, slice_index, codes, IfOk, OnOk};
-ghost use Rattle.std.specs.Prelude.{is_some};
-ghost use Rattle.vab_disk.specs.Calls.{Changes};
 ghost use Rattle.vab_fbtcp.specs.declared.event.Place.TheVariants.{Length};
 ghost use Rattle.vab_device.specs.Kept.{IsDevice};
 ghost use Rattle.vab_device.specs.Reading.{IsIn, Represents};
-ghost use Rattle.vab_manager.specs.Controls.{IsOfCommands};
-ghost use Rattle.vab_manager.specs.Commands.{ChangesControl};
+ghost use Rattle.vab_device.specs.Does.{KeepsSource};
+ghost use Rattle.vab_commands.specs.Touched.{ChangesDevice};
 ghost use Rattle.vab_exchanges.specs.Reading.{stands_at, rest_of, beyond_of, total_of, count_of};
 ghost use Rattle.vab_exchanges.specs.Reading.{most_of, IsFed};
 ghost use Rattle.vab_exchanges.specs.Runs.{Ran};
@@ -61,7 +59,7 @@ fn answer_all<P: Port>(
         → IfOk result (λ r. Represents r.1 (P.size p.old) (P.seen p.new)) }
     ensures slot { IfOk result (λ r. SaysSlot r.0 r.1) }
     ensures size { P.size p.new ≡ P.size p.old }
-    ensures changes { P.is_modelled → ChangesControl P.Disk kept.device p.old p.new }
+    ensures changes { P.is_modelled → ChangesDevice P.Disk kept.device p.old p.new }
     ensures cause { HasCause P.Disk p.old p.new result }
 {
     let mut kept = kept;
@@ -88,9 +86,10 @@ fn answer_all<P: Port>(
 /// It tells `FB01`, reads the hello of the other side (any version from 01 on is spoken as 1), and
 /// answers packets one by one until the input ends or a packet asks for a boot and the end. It
 /// hears only where all that has come is answered. A download wants as much memory as it announces,
-/// and where that is refused `FAILout of memory` is told; nothing else wants any. However it ends,
-/// it has changed boot control's sector alone, and by commands. Source: the fastboot README,
-/// protocol 0.4, TCP version 1.
+/// and an update as much as its tables and stores; where that is refused `FAILout of memory` is
+/// told. However it ends, it has changed what its commands may write alone: boot control by the
+/// boot rules, the update mark, the statuses, the target's table, and blocks of no image. Source:
+/// the fastboot README, protocol 0.4, TCP version 1.
 pub fn serve_up_to<P: Port>(
     alloc: Global,
     p: &mut P,
@@ -106,9 +105,7 @@ pub fn serve_up_to<P: Port>(
         → IfOk result (λ r. Represents r.1 (P.size p.old) (P.seen p.new)) }
     ensures slot { IfOk result (λ r. SaysSlot r.0 r.1) }
     ensures size { P.size p.new ≡ P.size p.old }
-    ensures changes { P.is_modelled → Changes P.Disk
-        (IsOfCommands device.control (is_some device.a) (is_some device.b) (P.seen p.old 4))
-        p.old p.new }
+    ensures changes { P.is_modelled → ChangesDevice P.Disk device p.old p.new }
     ensures cause { HasCause P.Disk p.old p.new result }
 {
     if say_all(p, b"FB01").is_err() {
@@ -141,9 +138,7 @@ pub fn serve<P: Port>(
         → IfOk result (λ r. Represents r.1 (P.size p.old) (P.seen p.new)) }
     ensures slot { IfOk result (λ r. SaysSlot r.0 r.1) }
     ensures size { P.size p.new ≡ P.size p.old }
-    ensures changes { P.is_modelled → Changes P.Disk
-        (IsOfCommands device.control (is_some device.a) (is_some device.b) (P.seen p.old 4))
-        p.old p.new }
+    ensures changes { P.is_modelled → ChangesDevice P.Disk device p.old p.new }
     ensures cause { HasCause P.Disk p.old p.new result }
 {
     serve_up_to(alloc, p, device, MAX_SESSION)

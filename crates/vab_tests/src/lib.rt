@@ -7,6 +7,8 @@ mod downloads;
 #[cfg(test)]
 mod faults;
 #[cfg(test)]
+mod installing;
+#[cfg(test)]
 mod others;
 #[cfg(test)]
 mod packets;

@@ -5,14 +5,14 @@ use std::alloc::Global;
 use std::test::Fail;
 
 // One image `system` of three bytes for a partition of 409600 bytes, 100 blocks.
-const SYSTEM: [u8; 46] = [
+pub const SYSTEM: [u8; 46] = [
     b'V', b'A', b'B', b'S', b'E', b'T', b'1', b'\n', 1, 0, 0, 0, 6, b's', b'y', b's', b't', b'e',
     b'm', 0, 64, 6, 0, 0, 0, 0, 0, 0, 0, 0, 0, 0, 0, 0, 0, 3, 0, 0, 0, 0, 0, 0, 0, b'a', b'b',
     b'c',
 ];
 
 // A packet and its reply.
-type Case<'a> = (&'a [u8], &'a [u8]);
+pub type Case<'a> = (&'a [u8], &'a [u8]);
 
 // Puts a packet behind others.
 fn put_packet(packets: &mut Vec<u8>, text: &[u8]) -> Result<(), Fail> {
@@ -22,7 +22,7 @@ fn put_packet(packets: &mut Vec<u8>, text: &[u8]) -> Result<(), Fail> {
 }
 
 // The packets of a session, and its replies.
-fn session(alloc: Global, cases: &[Case<'_>]) -> Result<(Vec<u8>, Vec<u8>), Fail> {
+pub fn session(alloc: Global, cases: &[Case<'_>]) -> Result<(Vec<u8>, Vec<u8>), Fail> {
     let mut input = Vec::from_slice(alloc, b"FB01")?;
     let mut told = Vec::from_slice(alloc, b"FB01")?;
     for (packet, reply) in cases {
@@ -89,7 +89,7 @@ fn each_packet_has_its_reply(rt: HostRuntime) -> Result<(), Fail> {
         (b"oem begin-merge", b"FAILno update is staged"),
         (b"oem merge 1", b"FAILno merge is in progress"),
         (b"oem merge 4294967295", b"FAILno merge is in progress"),
-        (b"oem begin", b"FAILunknown command"),
+        (b"oem begin x", b"FAILbad argument"),
         (b"oem merge 0", b"FAILbad argument"),
         (b"oem merge 4294967296", b"FAILbad argument"),
         (b"create-logical-partition:x_b", b"FAILbad argument"),

@@ -7,7 +7,7 @@ use Rattle.vab_model.specs.Commands.{Begin}
 use Rattle.vab_model.specs.Effects.{Effect, refuses, unless_refused}
 use Rattle.vab_device.specs.Mounted.{Mounted, mounted_on}
 use Rattle.vab_begin.specs.Writes.{IsOfBegun}
-use Rattle.vab_begin.proofs.DoesLaws.{does_nothing}
+use Rattle.vab_device.proofs.DoesLaws.{does_nothing}
 use Rattle.vab_begin.proofs.KeptLaws.{unplanned, planned_of, installing_of}
 use Rattle.vab_begin.proofs.BegunLaws.{begin_refused, begin_is, is_memory, refused_is}
 use Rattle.vab_begin.proofs.beginning.begin.Goals as goal

@@ -1,6 +1,5 @@
-use Rattle.std.proofs.Common.{◌≡◌, ◌∙◌, List, Ok, sym, ap, subst, arith}
+use Rattle.std.proofs.Common.{◌≡◌, ◌∙◌, List, Ok, refl, sym, ap, subst, arith}
 use Rattle.std.specs.Prelude.{Some}
-use Rattle.vab_disk.proofs.CallLaws.{rose_then}
 use Rattle.vab_marks.specs.declared.mark.MarkPhase.TheVariants as marks
 use Rattle.vab_marks.specs.Mark.{mark_spelling}
 use Rattle.vab_layout.specs.Slots.{other_slot}
@@ -10,9 +9,9 @@ use Rattle.vab_model.specs.Commands.{Begin}
 use Rattle.vab_device.specs.declared.device.Device.{Device}
 use Rattle.vab_device.specs.declared.device.Planned.{Planned}
 use Rattle.vab_device.specs.Does.{Does}
+use Rattle.vab_device.proofs.DoesLaws.{dead_means, fails_dead, fails_gate, does_gate}
 use Rattle.vab_begin.specs.Kept.{with_control, with_update}
 use Rattle.vab_begin.specs.Writes.{IsOfPlaces, IsOfBegun}
-use Rattle.vab_begin.proofs.DoesLaws.{fails_before, fails_gate, does_gate}
 use Rattle.vab_begin.proofs.CopiesApart.{copies_on_disk}
 use Rattle.vab_begin.proofs.BeginLaws.{installing_mark}
 use Rattle.vab_begin.proofs.BegunLaws.{begun_device, begun_kept, begin_dead, begin_step}
@@ -29,18 +28,21 @@ returns-in-Err g c = λ staged.
     let d = c.args.device in
     let x = c.args.target in
     let old = c.args.d.now in
+    let mid = c.prepare_begin.new.d in
     let size = g.D.Disk.size old in
     let told = g.D.Disk.is_modelled in
     let text = c.as_slice-text.result.now in
     let bytes = g.D.Disk.seen old 4 in
     let short = target_short d x c.requires.target text c.as_slice-text.ensures in
-    fails_before g.D.Disk d staged Begin (IsOfBegun told d bytes) (IsOfPlaces told d text bytes) old
-    c.prepare_begin.new.d c.requires.represents
-    (λ t. begin_dead told text size (g.D.Disk.seen old) d c.requires.kept (c.requires.represents t)
-    c.requires.idle short)
-    c.prepare_begin.ensures.touches
-    (places_in d x c.requires.target text c.as_slice-text.ensures told bytes c.requires.idle)
-    _ c.in-Err.ensures.faults.cause
+    let V = IsOfPlaces told d text bytes in
+    let dead = λ (t : told).
+    dead_means d size (g.D.Disk.seen old) V (c.requires.represents t)
+    (begin_dead told text size (g.D.Disk.seen old) d c.requires.kept (c.requires.represents t)
+    c.requires.idle short) in
+    let within = λ (t : told).
+    places_in d x c.requires.target text c.as_slice-text.ensures told bytes c.requires.idle in
+    fails_dead g.D.Disk d staged Begin (IsOfBegun told d bytes) old mid V dead
+    c.prepare_begin.ensures.touches within _ c.in-Err.ensures.faults.cause
 
 pub returns-in-Err-put_mark : goal.returns-in-Err-put_mark
 returns-in-Err-put_mark g c = λ staged.
@@ -53,17 +55,15 @@ returns-in-Err-put_mark g c = λ staged.
     let text = c.as_slice-text.result.now in
     let bytes = g.D.Disk.seen old 4 in
     let short = target_short d x c.requires.target text c.as_slice-text.ensures in
-    fails_gate g.D.Disk d staged Begin (IsOfBegun told d bytes) (IsOfPlaces told d text bytes) old
-    mid
-    c.requires.represents
-    (λ t. begin_dead told text size (g.D.Disk.seen old) d c.requires.kept (c.requires.represents t)
-    c.requires.idle short)
-    c.prepare_begin.ensures.touches
-    (places_in d x c.requires.target text c.as_slice-text.ensures told bytes c.requires.idle)
-    (begun_device d x.table) replies.Done (mark_spelling (installing_mark d.mark.slot))
-    c.put_mark.new.d
-    (λ t rest. c.in-Ok.ensures.settled t)
-    (λ t. begin_step told text size (g.D.Disk.seen old) d c.requires.kept (c.requires.represents t)
+    let V = IsOfPlaces told d text bytes in
+    let dead = λ (t : told).
+    dead_means d size (g.D.Disk.seen old) V (c.requires.represents t)
+    (begin_dead told text size (g.D.Disk.seen old) d c.requires.kept (c.requires.represents t)
+    c.requires.idle short) in
+    let within = λ (t : told).
+    places_in d x c.requires.target text c.as_slice-text.ensures told bytes c.requires.idle in
+    let step = λ (t : told).
+    begin_step told text size (g.D.Disk.seen old) d c.requires.kept (c.requires.represents t)
     c.requires.idle short x (g.D.Disk.seen mid) c.requires.target
     (c.prepare_begin.ensures.touches.seen t)
     (record {
@@ -72,13 +72,15 @@ returns-in-Err-put_mark g c = λ staged.
       stored = c.in-Ok.ensures.stored t;
     })
     (target_stands d x c.requires.target text c.as_slice-text.ensures)
-    c.put_mark.ensures.read staged (idle_plan d size c.requires.kept c.requires.idle))
+    c.put_mark.ensures.read staged (idle_plan d size c.requires.kept c.requires.idle) in
+    fails_gate g.D.Disk d staged Begin (IsOfBegun told d bytes) old mid V dead
+    c.prepare_begin.ensures.touches within c.put_mark.new.d (begun_device d x.table) replies.Done
+    2048 (mark_spelling (installing_mark d.mark.slot))
+    (λ t. (step t).effect) (λ t. (step t).represents)
+    (λ t rest. c.put_mark.ensures.gate t (c.in-Ok.ensures.settled t))
     c.put_mark.ensures.touches
     (mark_in d x c.requires.target text c.as_slice-text.ensures told bytes c.requires.idle)
-    c.put_mark.ensures.gate
-    _
-    (rose_then (g.D.Disk.faults old) (g.D.Disk.faults mid) (g.D.Disk.faults c.put_mark.new.d)
-    c.prepare_begin.ensures.touches.quiet.counts c.in-Err-put_mark.ensures.faults.cause)
+    _ c.in-Err-put_mark.ensures.faults.cause
 
 pub returns-in-Ok-put_mark : goal.returns-in-Ok-put_mark
 returns-in-Ok-put_mark g c = λ staged.
@@ -91,6 +93,24 @@ returns-in-Ok-put_mark g c = λ staged.
     let text = c.as_slice-text.result.now in
     let bytes = g.D.Disk.seen old 4 in
     let short = target_short d x c.requires.target text c.as_slice-text.ensures in
+    let V = IsOfPlaces told d text bytes in
+    let dead = λ (t : told).
+    dead_means d size (g.D.Disk.seen old) V (c.requires.represents t)
+    (begin_dead told text size (g.D.Disk.seen old) d c.requires.kept (c.requires.represents t)
+    c.requires.idle short) in
+    let within = λ (t : told).
+    places_in d x c.requires.target text c.as_slice-text.ensures told bytes c.requires.idle in
+    let step = λ (t : told).
+    begin_step told text size (g.D.Disk.seen old) d c.requires.kept (c.requires.represents t)
+    c.requires.idle short x (g.D.Disk.seen mid) c.requires.target
+    (c.prepare_begin.ensures.touches.seen t)
+    (record {
+      control = (c.in-Ok.ensures.control t).control;
+      statuses = c.in-Ok.ensures.statuses t;
+      stored = c.in-Ok.ensures.stored t;
+    })
+    (target_stands d x c.requires.target text c.as_slice-text.ensures)
+    c.put_mark.ensures.read staged (idle_plan d size c.requires.kept c.requires.idle) in
     let next : c.begun.result ≡ begun_device d x.table =
     c.begun.ensures
     ∙ ap (λ (plan : List Planned).
@@ -100,29 +120,14 @@ returns-in-Ok-put_mark g c = λ staged.
     subst (λ (k : Device). Does g.D.Disk d staged Begin
     (IsOfBegun told d bytes) old c.put_mark.new.d
     (Ok (k, replies.Done))) (sym next)
-    (does_gate g.D.Disk d staged Begin (IsOfBegun told d bytes) (IsOfPlaces told d text bytes) old
-    mid
-    c.requires.represents
-    (λ t. begin_dead told text size (g.D.Disk.seen old) d c.requires.kept (c.requires.represents t)
-    c.requires.idle short)
-    c.prepare_begin.ensures.touches
-    (places_in d x c.requires.target text c.as_slice-text.ensures told bytes c.requires.idle)
-    (begun_device d x.table) replies.Done (mark_spelling (installing_mark d.mark.slot))
-    c.put_mark.new.d
-    (λ t rest. c.in-Ok.ensures.settled t)
-    (λ t. begin_step told text size (g.D.Disk.seen old) d c.requires.kept (c.requires.represents t)
-    c.requires.idle short x (g.D.Disk.seen mid) c.requires.target
-    (c.prepare_begin.ensures.touches.seen t)
-    (record {
-      control = (c.in-Ok.ensures.control t).control;
-      statuses = c.in-Ok.ensures.statuses t;
-      stored = c.in-Ok.ensures.stored t;
-    })
-    (target_stands d x c.requires.target text c.as_slice-text.ensures)
-    c.put_mark.ensures.read staged (idle_plan d size c.requires.kept c.requires.idle))
+    (does_gate g.D.Disk d staged Begin (IsOfBegun told d bytes) old mid V dead
+    c.prepare_begin.ensures.touches within c.put_mark.new.d (begun_device d x.table) replies.Done
+    2048 (mark_spelling (installing_mark d.mark.slot))
+    (λ t. (step t).effect) (λ t. (step t).represents)
+    (λ t rest. c.put_mark.ensures.gate t (c.in-Ok.ensures.settled t))
     c.put_mark.ensures.touches
     (mark_in d x c.requires.target text c.as_slice-text.ensures told bytes c.requires.idle)
-    c.put_mark.ensures.gate
     (begun_kept d size x c.requires.kept c.requires.target)
+    (record { geometry = refl; slot = refl; a = refl; b = refl })
     c.in-Ok-put_mark.ensures.written c.in-Ok-put_mark.ensures.settled
     (c.in-Ok-put_mark.ensures.faults.steady ∙ c.in-Ok.ensures.faults.steady))

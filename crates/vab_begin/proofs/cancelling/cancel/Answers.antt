@@ -4,7 +4,7 @@ use Rattle.vab_model.specs.declared.command.Reply.TheVariants as replies
 use Rattle.vab_model.specs.declared.command.Refusal.TheVariants as refusals
 use Rattle.vab_model.specs.Commands.{Cancel}
 use Rattle.vab_begin.specs.Writes.{IsOfCancelled}
-use Rattle.vab_begin.proofs.DoesLaws.{does_nothing}
+use Rattle.vab_device.proofs.DoesLaws.{does_nothing}
 use Rattle.vab_begin.proofs.KeptLaws.{unplanned}
 use Rattle.vab_begin.proofs.CancelLaws.{cancel_refused}
 use Rattle.vab_begin.proofs.cancelling.cancel.Goals as goal

@@ -1,4 +1,4 @@
-use Rattle.std.proofs.Common.{sym, subst, Ok}
+use Rattle.std.proofs.Common.{ℕ, List, refl, sym, subst, Ok}
 use Rattle.std.specs.Prelude.{None}
 use Rattle.vab_disk.proofs.CallLaws.{touches_none}
 use Rattle.vab_marks.specs.declared.mark.MarkPhase.TheVariants as marks
@@ -7,10 +7,10 @@ use Rattle.vab_model.specs.declared.command.Reply.TheVariants as replies
 use Rattle.vab_model.specs.Commands.{Cancel}
 use Rattle.vab_device.specs.declared.device.Device.{Device}
 use Rattle.vab_device.specs.Does.{Does}
+use Rattle.vab_device.proofs.DoesLaws.{dead_means, fails_gate, does_gate}
 use Rattle.vab_device.proofs.SameLaws.{dead_of}
 use Rattle.vab_begin.specs.Kept.{with_update}
 use Rattle.vab_begin.specs.Writes.{IsOfCancelled}
-use Rattle.vab_begin.proofs.DoesLaws.{fails_gate, does_gate}
 use Rattle.vab_begin.proofs.KeptLaws.{cancelled_kept}
 use Rattle.vab_begin.proofs.CancelLaws.{idle_mark, cancel_step}
 use Rattle.vab_begin.proofs.cancelling.end_update.Goals as goal
@@ -20,18 +20,20 @@ returns-in-Err g c = λ staged.
     let d = c.args.device in
     let old = c.args.d.now in
     let size = g.D.Disk.size old in
-    fails_gate g.D.Disk d staged Cancel (IsOfCancelled d) (λ s b. ⊥) old old c.requires.represents
-    (λ t. dead_of size _ (g.D.Disk.seen old) (λ s. ⊥) (c.requires.represents t).reads
-    (λ s live w. w))
-    (touches_none g.D.Disk (λ s b. ⊥) old) (λ s b w. absurd w)
-    (with_update d marks.Idle None None) replies.Done (mark_spelling (idle_mark d.mark.slot))
-    c.put_mark.new.d
-    (λ t rest. rest)
-    (λ t. cancel_step d size (g.D.Disk.seen old) staged c.requires.kept (c.requires.represents t)
-    c.requires.installing c.put_mark.ensures.read)
+    let V : ℕ → List ℕ → Type 0 = λ s b. ⊥ in
+    let step = λ (t : g.D.Disk.is_modelled).
+    cancel_step d size (g.D.Disk.seen old) staged c.requires.kept (c.requires.represents t)
+    c.requires.installing c.put_mark.ensures.read in
+    fails_gate g.D.Disk d staged Cancel (IsOfCancelled d) old old V
+    (λ t. dead_means d size (g.D.Disk.seen old) V (c.requires.represents t)
+    (dead_of size _ (g.D.Disk.seen old) (λ s. ⊥) (c.requires.represents t).reads
+    (λ s live w. w)))
+    (touches_none g.D.Disk V old) (λ t s b w. absurd w) c.put_mark.new.d
+    (with_update d marks.Idle None None) replies.Done 2048
+    (mark_spelling (idle_mark d.mark.slot))
+    (λ t. (step t).effect) (λ t. (step t).represents) c.put_mark.ensures.gate
     c.put_mark.ensures.touches
     (λ s b at. record { installed = c.requires.installing; mark = at })
-    c.put_mark.ensures.gate
     _ c.in-Err.ensures.faults.cause
 
 pub returns-in-Ok : goal.returns-in-Ok
@@ -39,19 +41,22 @@ returns-in-Ok g c = λ staged.
     let d = c.args.device in
     let old = c.args.d.now in
     let size = g.D.Disk.size old in
+    let V : ℕ → List ℕ → Type 0 = λ s b. ⊥ in
+    let step = λ (t : g.D.Disk.is_modelled).
+    cancel_step d size (g.D.Disk.seen old) staged c.requires.kept (c.requires.represents t)
+    c.requires.installing c.put_mark.ensures.read in
     subst (λ (next : Device). Does g.D.Disk d staged Cancel (IsOfCancelled d) old c.put_mark.new.d
     (Ok (next, replies.Done))) (sym c.ended.ensures)
-    (does_gate g.D.Disk d staged Cancel (IsOfCancelled d) (λ s b. ⊥) old old c.requires.represents
-    (λ t. dead_of size _ (g.D.Disk.seen old) (λ s. ⊥) (c.requires.represents t).reads
-    (λ s live w. w))
-    (touches_none g.D.Disk (λ s b. ⊥) old) (λ s b w. absurd w)
-    (with_update d marks.Idle None None) replies.Done (mark_spelling (idle_mark d.mark.slot))
-    c.put_mark.new.d
-    (λ t rest. rest)
-    (λ t. cancel_step d size (g.D.Disk.seen old) staged c.requires.kept (c.requires.represents t)
-    c.requires.installing c.put_mark.ensures.read)
+    (does_gate g.D.Disk d staged Cancel (IsOfCancelled d) old old V
+    (λ t. dead_means d size (g.D.Disk.seen old) V (c.requires.represents t)
+    (dead_of size _ (g.D.Disk.seen old) (λ s. ⊥) (c.requires.represents t).reads
+    (λ s live w. w)))
+    (touches_none g.D.Disk V old) (λ t s b w. absurd w) c.put_mark.new.d
+    (with_update d marks.Idle None None) replies.Done 2048
+    (mark_spelling (idle_mark d.mark.slot))
+    (λ t. (step t).effect) (λ t. (step t).represents) c.put_mark.ensures.gate
     c.put_mark.ensures.touches
     (λ s b at. record { installed = c.requires.installing; mark = at })
-    c.put_mark.ensures.gate
     (cancelled_kept d size c.requires.kept)
+    (record { geometry = refl; slot = refl; a = refl; b = refl })
     c.in-Ok.ensures.written c.in-Ok.ensures.settled c.in-Ok.ensures.faults.steady)

@@ -1,5 +1,5 @@
 use Rattle.std.proofs.Common.{◌≡◌, inl, ℕ, Ok, Err, sym, subst}
-use Rattle.std.specs.Prelude.{List, is_some}
+use Rattle.std.specs.Prelude.{is_some}
 use Rattle.vab_device.specs.Mounted.{Mounted}
 use Rattle.vab_manager.specs.Controls.{IsOfSlots}
 use Rattle.vab_device.specs.Reading.{IsIn}

@@ -1,20 +1,21 @@
 use Rattle.vab_disk.proofs.CallLaws.{changes_touches, changes_then, changes_wider, changes_telling}
-use Rattle.std.proofs.Common.{List, ℕ, Ok, Err, refl, subst}
+use Rattle.std.proofs.Common.{◌∙◌, List, ℕ, Ok, Err, refl, subst}
 use Rattle.vab_model.specs.Commands.{command_of}
 use Rattle.vab_cli.specs.declared.status.Status.{Status}
 use Rattle.vab_cli.specs.declared.status.Status.TheVariants.{Port}
 use Rattle.vab_cli.specs.Telling.{Says}
 use Rattle.vab_cli.specs.Verbs.{command_line}
-use Rattle.vab_cli.proofs.Items.{mounted_is, command_fails, command_does}
+use Rattle.vab_cli.proofs.Items.{mounted_is, command_fails, command_does, replied}
 use Rattle.vab_cli.proofs.Lines.{reply_some, told_line, said_status}
-use Rattle.vab_cli.proofs.Touching.{slots_are}
+use Rattle.vab_cli.proofs.Touching.{slots_are, verb_writes}
 use Rattle.vab_cli.proofs.commands.do_command.Goals as goal
 
 pub returns-in-Err-clause-does : goal.returns-in-Err-clause-does
 returns-in-Err-clause-does g c = λ t s stands.
     let d = c.args.device in
     let command = command_of c.args.command.now in
-    command_fails g.P.Disk (g.P.Disk.size c.args.port.now) d command s (command_line s.state command)
+    command_fails g.P.Disk (g.P.Disk.size c.args.port.now) d command c.requires.verb _ s
+    (command_line s.state command)
     (reply_some command _ _) c.args.port.now c.run_one.new.d refl (c.requires.represents t) stands
     _ _ c.in-Err.ensures t
 
@@ -27,8 +28,10 @@ returns-in-Ok-say_all-clause-does g c = λ t s stands.
     let command = command_of c.args.command.now in
     let same = mounted_is d _ (g.P.Disk.seen old) s (c.requires.represents t) stands in
     let text = told_line d (g.P.Disk.seen old) s command _ _ _ _ same c.current-current.ensures
-    (c.in-Ok.ensures.reply t) c.reply_line.ensures c.as_slice.ensures.value in
-    command_does g.P.Disk (g.P.Disk.size old) d command s (command_line s.state command)
+    (c.in-Ok.ensures.reply t ∙ replied c.in-Ok.ensures.refused command _ c.requires.verb)
+    c.reply_line.ensures c.as_slice.ensures.value in
+    command_does g.P.Disk (g.P.Disk.size old) d command c.requires.verb _ s
+    (command_line s.state command)
     (reply_some command _ _) old mid refl (c.requires.represents t) stands
     _ _ new _ c.in-Ok.ensures t
     (subst
@@ -49,7 +52,9 @@ returns-in-Ok-say_all-clause-status g c = λ t s stands.
     let old = c.args.port.now in
     let same = mounted_is d _ (g.P.Disk.seen old) s (c.requires.represents t) stands in
     said_status d (g.P.Disk.seen old) s (command_of c.args.command.now) _ _ same
-    (c.in-Ok.ensures.reply t) c.from.ensures
+    (c.in-Ok.ensures.reply t
+    ∙ replied c.in-Ok.ensures.refused (command_of c.args.command.now) _ c.requires.verb)
+    c.from.ensures
 
 pub returns-clause-does : goal.returns-clause-does
 returns-clause-does g c = λ t s stands.
@@ -60,8 +65,10 @@ returns-clause-does g c = λ t s stands.
     let command = command_of c.args.command.now in
     let same = mounted_is d _ (g.P.Disk.seen old) s (c.requires.represents t) stands in
     let text = told_line d (g.P.Disk.seen old) s command _ _ _ _ same c.current-current.ensures
-    (c.in-Ok.ensures.reply t) c.reply_line.ensures c.as_slice.ensures.value in
-    command_does g.P.Disk (g.P.Disk.size old) d command s (command_line s.state command)
+    (c.in-Ok.ensures.reply t ∙ replied c.in-Ok.ensures.refused command _ c.requires.verb)
+    c.reply_line.ensures c.as_slice.ensures.value in
+    command_does g.P.Disk (g.P.Disk.size old) d command c.requires.verb _ s
+    (command_line s.state command)
     (reply_some command _ _) old mid refl (c.requires.represents t) stands
     _ _ new _ c.in-Ok.ensures t
     (subst
@@ -81,7 +88,8 @@ returns-in-Err-clause-changes g c = λ t s stands boot there.
     (changes_touches g.P.Disk _ _ _ (c.in-Err.ensures.touches t))
     (λ n x w.
     slots_are c.args.device _ (g.P.Disk.seen c.args.port.now) s boot (command_of c.args.command.now)
-    n x (c.requires.represents t) stands there w)
+    n x (c.requires.represents t) stands there
+    (verb_writes g.P.Disk.is_modelled c.args.device _ _ c.requires.verb n x w))
 
 pub returns-in-Ok-say_all-clause-changes : goal.returns-in-Ok-say_all-clause-changes
 returns-in-Ok-say_all-clause-changes g c = λ t s stands boot there.
@@ -90,7 +98,8 @@ returns-in-Ok-say_all-clause-changes g c = λ t s stands boot there.
     (changes_touches g.P.Disk _ _ _ (c.in-Ok.ensures.touches t))
     (λ n x w.
     slots_are c.args.device _ (g.P.Disk.seen c.args.port.now) s boot (command_of c.args.command.now)
-    n x (c.requires.represents t) stands there w))
+    n x (c.requires.represents t) stands there
+    (verb_writes g.P.Disk.is_modelled c.args.device _ _ c.requires.verb n x w)))
     (changes_telling g.P.Disk _ _ c.run_one.new.d c.say_all.new.p c.say_all.ensures.size
     c.say_all.ensures.seen c.say_all.ensures.crash c.say_all.ensures.time)
 
@@ -101,6 +110,7 @@ returns-clause-changes g c = λ t s stands boot there.
     (changes_touches g.P.Disk _ _ _ (c.in-Ok.ensures.touches t))
     (λ n x w.
     slots_are c.args.device _ (g.P.Disk.seen c.args.port.now) s boot (command_of c.args.command.now)
-    n x (c.requires.represents t) stands there w))
+    n x (c.requires.represents t) stands there
+    (verb_writes g.P.Disk.is_modelled c.args.device _ _ c.requires.verb n x w)))
     (changes_telling g.P.Disk _ _ c.run_one.new.d c.say_all.new.p c.say_all.ensures.size
     c.say_all.ensures.seen c.say_all.ensures.crash c.say_all.ensures.time)

@@ -1,7 +1,6 @@
 use Rattle.std.proofs.Common.{◌≡◌, ◌≢◌, ◌<◌, ◌⊎◌, ◌∙◌, ⊎_elim, inl, inr, ℕ, List, [], Ok, Err, None, Some}
 use Rattle.std.proofs.Common.{refl, sym, ap, subst, ◌^◌, rules}
 use Rattle.vab_disk.specs.Disk.{Adds}
-use Rattle.std.specs.Prelude.{is_some}
 use Rattle.vab_disk.specs.declared.disk.Disk.{Ghosts}
 use Rattle.vab_disk.specs.Calls.{IsAtRest, OnlyReads, Touches, Changes, InSectors}
 use Rattle.vab_disk.proofs.CallLaws.{reads_none, changes_touches}
@@ -23,7 +22,11 @@ use Rattle.vab_cli.proofs.Makings.{refused_unheard}
 use Rattle.vab_cli.proofs.Running.{contents_of, early_of, is_one}
 use Rattle.vab_cli.proofs.Sessions.{fresh_enough, fresh_small, made_early, made_small, small_unwritten}
 use Rattle.vab_cli.proofs.Sessions.{making_failed, opening_failed, made_runs, opens_sized}
-use Rattle.vab_cli.proofs.FreshTouching.{made_opened, made_served}
+use Rattle.vab_device.specs.declared.device.Device.{Device}
+use Rattle.vab_commands.specs.Touched.{ChangesDevice}
+use Rattle.vab_cli.specs.Touched.{IsOfFresh}
+use Rattle.vab_cli.proofs.Touching.{served_changes}
+use Rattle.vab_cli.proofs.FreshTouching.{made_opened, making_fresh, made_served}
 use Rattle.vab_cli.proofs.serving.make_and_serve.Goals as goal
 
 pub returns-in-Err-clause-runs : goal.returns-in-Err-clause-runs
@@ -191,25 +194,43 @@ returns-clause-runs g c = λ t enough.
 pub returns-in-Err-clause-changes : goal.returns-in-Err-clause-changes
 returns-in-Err-clause-changes g c = λ t.
     let set : c.from_vec-set.result ≡ [] = search rules in
-    subst (λ (x : List SetImage). Changes g.P.Disk (InSectors (IsOfMaking x 65536))
+    making_fresh g.P.Disk (g.P.Disk.size c.args.port.now) c.args.port.now c.make_device.new.d
+    (subst (λ (x : List SetImage). Changes g.P.Disk (InSectors (IsOfMaking x 65536))
     c.args.port.now c.make_device.new.d) set
-    (changes_touches g.P.Disk _ c.args.port.now c.make_device.new.d c.make_device.ensures.touches)
+    (changes_touches g.P.Disk _ c.args.port.now c.make_device.new.d
+    c.make_device.ensures.touches))
 
 -- the device is made, and what is there is opened
-opens_made : {D : Type 0} (g : Ghosts D) (set : List SetImage) (old mid new : D)
-    → set ≡ []
-    → g.size mid ≡ g.size old
-    → IsMade set 0 65536 (g.size old) (g.seen mid)
-    → Touches g (InSectors (IsOfMaking set 65536)) old mid
-    → Touches g (IsRepair (g.size mid) (g.seen mid)) mid new
-    → Changes g (InSectors (IsOfMaking [] 65536)) old new
-opens_made g set old mid new is sized made makes opens =
-    let here = subst (λ (x : List SetImage). IsMade x 0 65536 (g.size old) (g.seen mid)) is made in
-    let writes = subst (λ (x : List SetImage). Changes g (InSectors (IsOfMaking x 65536)) old mid) is
-    (changes_touches g _ old mid makes) in
-    made_opened g (g.size old) old mid new here writes
-    (subst (λ (n : ℕ). Changes g (IsRepair n (g.seen mid)) mid new) sized
-    (changes_touches g _ mid new opens))
+module _ {D : Type 0} (g : Ghosts D) (set : List SetImage) (old mid new : D)
+    (is : set ≡ [])
+    (sized : g.size mid ≡ g.size old)
+    (made : IsMade set 0 65536 (g.size old) (g.seen mid))
+    (makes : Touches g (InSectors (IsOfMaking set 65536)) old mid)
+    (opens : Touches g (IsRepair (g.size mid) (g.seen mid)) mid new) where
+  here : IsMade [] 0 65536 (g.size old) (g.seen mid)
+  here = subst (λ (x : List SetImage). IsMade x 0 65536 (g.size old) (g.seen mid)) is made
+
+  making : Changes g (InSectors (IsOfMaking [] 65536)) old mid
+  making =
+      subst (λ (x : List SetImage). Changes g (InSectors (IsOfMaking x 65536)) old mid) is
+      (changes_touches g _ old mid makes)
+
+  opening : Changes g (IsRepair (g.size old) (g.seen mid)) mid new
+  opening =
+      subst (λ (n : ℕ). Changes g (IsRepair n (g.seen mid)) mid new) sized
+      (changes_touches g _ mid new opens)
+
+  opens_made : Changes g (IsOfFresh (g.size old)) old new
+  opens_made =
+      making_fresh g (g.size old) old new (made_opened g (g.size old) old mid new here making opening)
+
+  serves_made : (t : g.is_modelled) (d : Device) (last : D)
+      → Represents d (g.size old) (g.seen new)
+      → ChangesDevice g d new last
+      → Changes g (IsOfFresh (g.size old)) old last
+  serves_made t d last is serves =
+      made_served g (g.size old) old mid last here making
+      (served_changes g (g.size old) d mid new last t is opening serves)
 
 pub returns-in-Err-start-clause-changes : goal.returns-in-Err-start-clause-changes
 returns-in-Err-start-clause-changes g c = λ t.
@@ -219,10 +240,12 @@ returns-in-Err-start-clause-changes g c = λ t.
 
 pub returns-clause-changes : goal.returns-clause-changes
 returns-clause-changes g c = λ t.
-    let d = c.in-Ok-start.device in
-    made_served g.P.Disk (g.P.Disk.size c.args.port.now) d.control (is_some d.a) (is_some d.b)
-    (g.P.Disk.seen c.start.new.d 4) c.args.port.now c.start.new.d c.serve-answer.new.p
-    (opens_made g.P.Disk c.from_vec-set.result c.args.port.now c.make_device.new.d c.start.new.d
-    (search rules) c.make_device.ensures.touches.quiet.size (c.in-Ok.ensures.made t)
-    c.make_device.ensures.touches (c.start.ensures.touches t))
+    let sized : g.P.Disk.size c.make_device.new.d ≡ g.P.Disk.size c.args.port.now =
+    c.make_device.ensures.touches.quiet.size in
+    serves_made g.P.Disk c.from_vec-set.result c.args.port.now c.make_device.new.d c.start.new.d
+    (search rules) sized (c.in-Ok.ensures.made t) c.make_device.ensures.touches
+    (c.start.ensures.touches t) t c.in-Ok-start.device c.serve-answer.new.p
+    (subst
+    (λ (n : ℕ). Represents c.in-Ok-start.device n (g.P.Disk.seen c.start.new.d)) sized
+    (c.in-Ok-start.ensures.represents t))
     (c.serve-answer.ensures.changes t)

@@ -1,14 +1,11 @@
 use Rattle.std.proofs.Common.{inl, ℕ, sym, subst, ◌^◌}
-use Rattle.std.specs.Prelude.{List, is_some}
-use Rattle.vab_device.specs.Reading.{IsIn, Represents}
 use Rattle.vab_disk.proofs.CallLaws.{changes_wider}
-use Rattle.vab_manager.specs.Controls.{IsOfCommands}
 use Rattle.vab_session.specs.Served.{ServesDevice}
 use Rattle.vab_cli.specs.declared.status.Status.{Status}
 use Rattle.vab_cli.specs.Runs.{RunsSession}
 use Rattle.vab_cli.proofs.Sessions.{opened_runs}
-use Rattle.vab_cli.proofs.Running.{opened_in}
-use Rattle.vab_cli.proofs.Touching.{opening_changes, opened_changes, commands_are}
+use Rattle.vab_cli.specs.Touched.{IsOfServing}
+use Rattle.vab_cli.proofs.Touching.{served_changes}
 use Rattle.vab_cli.proofs.serving.open_and_serve.Goals as goal
 
 pub returns-clause-runs : goal.returns-clause-runs
@@ -28,23 +25,13 @@ returns-clause-runs g c = λ t s stands.
     (sym c.session_status.ensures) runs)
 
 pub returns-in-Err-clause-changes : goal.returns-in-Err-clause-changes
-returns-in-Err-clause-changes g c = λ t s stands boot there.
-    opening_changes g.P.Disk _ (IsOfCommands boot (is_some s.state.a) (is_some s.state.b))
-    c.args.port.now c.open.new.port (c.open.ensures.changes t)
+returns-in-Err-clause-changes g c = λ t s stands.
+    changes_wider g.P.Disk
+    (IsOfServing (g.P.Disk.size c.args.port.now) (g.P.Disk.seen c.args.port.now)) _
+    c.args.port.now c.open.new.port (c.open.ensures.changes t) (λ n x w. inl w)
 
 pub returns-clause-changes : goal.returns-clause-changes
-returns-clause-changes g c = λ t s stands boot there.
-    let old = c.args.port.now in
-    let mid = c.open.new.port in
-    let new = c.serve-answer.new.p in
-    let size = g.P.Disk.size old in
-    let d = c.in-Ok.device in
-    let here = opened_in g.P.Disk g.met.P.Disk.only_now size old mid s (c.in-Ok.ensures.opens t)
-    stands in
-    opened_changes g.P.Disk size (IsOfCommands boot (is_some s.state.a) (is_some s.state.b))
-    boot old mid new t (c.open.ensures.changes t)
-    (λ is.
-    changes_wider g.P.Disk _ _ mid new (c.serve-answer.ensures.changes t)
-    (λ n x w.
-    commands_are d size (g.P.Disk.seen mid) s boot n x (c.in-Ok.ensures.represents t) here is w))
-    there
+returns-clause-changes g c = λ t s stands.
+    served_changes g.P.Disk (g.P.Disk.size c.args.port.now) c.in-Ok.device c.args.port.now
+    c.open.new.port c.serve-answer.new.p t (c.in-Ok.ensures.represents t)
+    (c.open.ensures.changes t) (c.serve-answer.ensures.changes t)

@@ -4,7 +4,8 @@ use Rattle.vab_lpstore.specs.Layout.{BothHold}
 use Rattle.vab_lpstore.specs.Storing.{IsOfTable}
 use Rattle.vab_model.specs.declared.command.Reply.TheVariants as replies
 use Rattle.vab_device.specs.declared.device.Device.{Device}
-use Rattle.vab_edit.specs.Does.{command_by, IsOfEdit, DoesOr}
+use Rattle.vab_device.specs.Does.{Does}
+use Rattle.vab_edit.specs.Writes.{command_by, IsOfEdit}
 use Rattle.vab_edit.proofs.CommandLaws.{copies_within, prepared_differs, StoresTable, refused_by}
 use Rattle.vab_edit.proofs.CommandLaws.{fails_edit, does_edit}
 use Rattle.vab_edit.proofs.command.edit.Goals as goal
@@ -44,7 +45,7 @@ returns-in-Ok-store_table g c = λ staged.
     let target : ℕ = 1 - c.args.device.mark.slot in
     subst
     (λ (x : Device).
-    DoesOr g.D.Disk c.args.device staged (command_by c.args.edit.now) (IsOfEdit c.args.device)
+    Does g.D.Disk c.args.device staged (command_by c.args.edit.now) (IsOfEdit c.args.device)
     c.args.d.now c.store_table.new.d (Ok (x, replies.Done)))
     (sym c.with_table.ensures)
     (does_edit g.D.Disk c.args.device c.args.edit.now staged c.in-Ok.next.table

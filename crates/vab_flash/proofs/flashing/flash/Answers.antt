@@ -3,7 +3,7 @@ use Rattle.std.specs.Prelude.{option_map, Option}
 use Rattle.vab_model.specs.Commands.{Flash}
 use Rattle.vab_device.specs.Does.{Does}
 use Rattle.vab_flash.specs.Touched.{IsOfFlash}
-use Rattle.vab_flash.proofs.DoesLaws.{does_nothing, does_later, fails_reading}
+use Rattle.vab_device.proofs.DoesLaws.{does_nothing, does_later, fails_reading}
 use Rattle.vab_flash.proofs.FlashLaws.{base_all, base_on_disk}
 use Rattle.vab_flash.proofs.ReadyLaws.{full_refused}
 use Rattle.vab_flash.proofs.flashing.flash.Goals as goal

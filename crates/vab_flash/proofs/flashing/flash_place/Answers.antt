@@ -1,7 +1,7 @@
 use Rattle.std.proofs.Common.{Some, true}
 use Rattle.vab_model.specs.Commands.{Flash}
 use Rattle.vab_flash.specs.Touched.{IsOfFlash}
-use Rattle.vab_flash.proofs.DoesLaws.{does_nothing, does_later, fails_reading}
+use Rattle.vab_device.proofs.DoesLaws.{does_nothing, does_later, fails_reading}
 use Rattle.vab_flash.proofs.FlashLaws.{base_all}
 use Rattle.vab_flash.proofs.ReadyLaws.{no_memory}
 use Rattle.vab_flash.proofs.flashing.flash_place.Goals as goal

@@ -1,4 +1,4 @@
-use Rattle.std.proofs.Common.{◌≡◌, ◌-◌, ◌++◌, List, length, Some, true, sym, ap, subst, ◌∙◌, Ok}
+use Rattle.std.proofs.Common.{◌≡◌, ◌-◌, ◌++◌, List, length, Some, true, refl, sym, ap, subst, ◌∙◌, Ok}
 use Rattle.std.proofs.Common.{Err}
 use Rattle.vab_disk.specs.Calls.{InSectors}
 use Rattle.vab_marks.specs.declared.status.PartStatus.{PartStatus}
@@ -14,7 +14,7 @@ use Rattle.vab_device.specs.declared.device.Planned.{Planned}
 use Rattle.vab_marks.specs.Status.{status_spelling}
 use Rattle.vab_flash.specs.Chosen.{store_at, needed_at, with_written}
 use Rattle.vab_flash.specs.Touched.{IsOfFlash}
-use Rattle.vab_flash.proofs.DoesLaws.{does_nothing, fails_dead, fails_gate, does_gate}
+use Rattle.vab_device.proofs.DoesLaws.{does_nothing, fails_dead, fails_gate, does_gate}
 use Rattle.vab_flash.proofs.FlashLaws.{base_all, base_on_disk}
 use Rattle.vab_flash.proofs.ReadyLaws.{no_memory}
 use Rattle.vab_flash.proofs.GatedLaws.{apart_at, disjoint_at, dead_at, name_short, in_flash}
@@ -114,7 +114,7 @@ returns-in-Err g c =
     (λ t. in_flash d name c.args.place n c.requires.chosen.has (c.requires.room t))
     c.put_status.new.d (with_written d c.args.place es) Done c.args.free
     (status_spelling status)
-    (λ t. (gate t).0) (λ t. (gate t).1) (λ t. c.put_status.ensures.gate t (ok.settled t))
+    (λ t. (gate t).0) (λ t. (gate t).1) (λ t rest. c.put_status.ensures.gate t (ok.settled t))
     c.put_status.ensures.touches
     (status_in_flash d name c.args.free (length es) status c.requires.there status_is)
     c.in-Err.fault c.in-Err.ensures.faults.cause
@@ -157,11 +157,12 @@ returns-in-Ok-put_status g c =
     (λ t. in_flash d name c.args.place n c.requires.chosen.has (c.requires.room t))
     c.put_status.new.d (with_written d c.args.place es) Done c.args.free
     (status_spelling status)
-    (λ t. (gate t).0) (λ t. (gate t).1) (λ t. c.put_status.ensures.gate t (ok.settled t))
+    (λ t. (gate t).0) (λ t. (gate t).1) (λ t rest. c.put_status.ensures.gate t (ok.settled t))
     c.put_status.ensures.touches
     (status_in_flash d name c.args.free (length es) status c.requires.there status_is)
     (written_kept d (g.D.Disk.size disk) name (Some c.args.bytes.now) c.args.place c.args.bytes.now
     es
     c.requires.kept c.requires.chosen ok.fits)
+    (record { geometry = refl; slot = refl; a = refl; b = refl })
     (λ t. c.in-Ok-put_status.ensures.written t) (λ t. c.in-Ok-put_status.ensures.settled t)
     (c.in-Ok-put_status.ensures.faults.steady ∙ ok.counts))

@@ -41,12 +41,12 @@ change-requires-clause-good g c = λ t.
     (good_of d _ _ (c.requires.represents t) c.requires.kept.slot)
 
 pub returns : goal.returns
-returns g c =
+returns g c = λ staged.
     let d = c.args.device in
     let seen = g.D.Disk.seen c.args.d.now in
     let is = sym (has_is d c.booted-control.result _ _ c.booted-control.ensures.exact
     c.has_images.ensures c.has_images-2.ensures) in
-    c.change.ensures Boot
-    (λ t. subst (λ (k : Control). GivesControl d seen Boot (replies.Booted k.current) k) is
-    (booted_effect d seen))
+    c.change.ensures staged Boot
+    (λ t. subst (λ (k : Control). GivesControl d seen staged Boot (replies.Booted k.current) k) is
+    (booted_effect d seen staged))
     (subst (λ (k : Control). WritesControl d (seen 4) Boot k) is (λ s b w. w))

@@ -22,10 +22,11 @@ change-requires-clause-good g c = λ t.
     (good_of c.args.device _ _ (c.requires.represents t) c.requires.kept.slot)
 
 pub returns : goal.returns
-returns g c =
+returns g c = λ staged.
     let seen = g.D.Disk.seen c.args.d.now in
     let is = sym c.marked-control.ensures.exact in
-    c.change.ensures Mark
-    (λ t. subst (λ (k : Control). GivesControl c.args.device seen Mark replies.Done k) is
-    (marked_effect c.args.device seen (current_has c.args.device _ c.requires.kept)))
+    c.change.ensures staged Mark
+    (λ t. subst (λ (k : Control). GivesControl c.args.device seen staged Mark replies.Done
+    k) is
+    (marked_effect c.args.device seen staged (current_has c.args.device _ c.requires.kept)))
     (subst (λ (k : Control). WritesControl c.args.device (seen 4) Mark k) is (λ s b w. w))

@@ -1,12 +1,12 @@
 use Rattle.std.proofs.Common.{◌≡◌, ◌+◌, ℕ, List, Option, Some, None, Ok, Err, refl, sym, ◌∙◌, ap}
 use Rattle.vab_disk.specs.Disk.{Image}
 use Rattle.vab_model.specs.Commands.{command_of, Merge}
-use Rattle.vab_device.specs.declared.device.Device.{Device}
 use Rattle.vab_device.specs.declared.device.Planned.{Planned}
-use Rattle.vab_device.specs.Mounted.{state_on, mounted_on, phase_on, effect_in}
+use Rattle.vab_device.specs.Mounted.{state_on, mounted_on, phase_on}
 use Rattle.vab_fbproto.specs.Requests.{Getvar, Do, MergeAll, BootAndEnd, request_of, variable_of}
 use Rattle.vab_fbvars.specs.Variables.{variable_text}
-use Rattle.vab_session.specs.Responses.{still, left_of, by_effect}
+use Rattle.vab_session.specs.Responses.{still, left_of, by_command}
+use Rattle.vab_session.specs.Served.{kept_on}
 use Rattle.vab_session.proofs.answer.command.Goals as goal
 
 pub returns-in-Ok-Getvar-clause-does : goal.returns-in-Ok-Getvar-clause-does
@@ -42,7 +42,9 @@ returns-in-Ok-MergeAll-clause-does g c = λ t before beyond count total most.
     rw c.in-Ok-MergeAll.field-0-is at c.in-Ok-MergeAll.ensures in
     c.carry_out-in-Ok-MergeAll.ensures.does t packet before beyond count total most
     (Ok MergeAll) is tt
-    (ap (λ (n : ℕ). by_effect (effect_in (mounted_on d image) (Merge (n + 1))))
+    (ap
+    (λ (n : ℕ).
+    by_command (mounted_on d image) (kept_on c.args.kept image).staged (Merge (n + 1)))
     (none_left d.mark.slot image d.plan))
 
 pub returns-in-Ok-Do-clause-does : goal.returns-in-Ok-Do-clause-does

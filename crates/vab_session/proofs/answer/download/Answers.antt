@@ -7,6 +7,7 @@ use Rattle.vab_disk.proofs.Moments.{adds_still}
 use Rattle.vab_disk.proofs.CallLaws.{changes_telling, changes_then}
 use Rattle.vab_device.specs.Mounted.{Mounted}
 use Rattle.vab_device.specs.Reading.{IsIn}
+use Rattle.vab_device.proofs.DoesLaws.{keeps_all}
 use Rattle.vab_device.proofs.ReadingLaws.{device_stands}
 use Rattle.vab_exchanges.specs.Session.{packet, IsAwaited}
 use Rattle.vab_exchanges.specs.Hearing.{HearsWhere, IsHeardFor}
@@ -379,3 +380,12 @@ returns-clause-changes g c = λ t.
     (changes_listening g.P.Disk _ _ _ c.tell_reply-2.new.p c.data.new.p c.data.ensures.listens))
     (changes_telling g.P.Disk _ _ c.data.new.p c.tell_reply-3.new.p
     last.size last.seen last.crash last.time)
+
+pub returns-in-Ok-clause-source : goal.returns-in-Ok-clause-source
+returns-in-Ok-clause-source g c = keeps_all c.args.kept.device
+
+pub returns-in-Ok-tell_reply-clause-source : goal.returns-in-Ok-tell_reply-clause-source
+returns-in-Ok-tell_reply-clause-source g c = keeps_all c.args.kept.device
+
+pub returns-clause-source : goal.returns-clause-source
+returns-clause-source g c = keeps_all c.args.kept.device

@@ -2,6 +2,7 @@ use Rattle.std.proofs.Common.{inl, sym, subst}
 use Rattle.vab_disk.specs.Disk.{Image}
 use Rattle.vab_disk.proofs.CallLaws.{changes_telling}
 use Rattle.vab_device.specs.Reading.{IsIn}
+use Rattle.vab_device.proofs.DoesLaws.{keeps_all}
 use Rattle.vab_device.proofs.ReadingLaws.{device_stands}
 use Rattle.vab_exchanges.specs.Runs.{Answers}
 use Rattle.vab_session.specs.Responses.{response}
@@ -48,3 +49,6 @@ returns-in-Err-clause-changes g c = λ t.
     let said = c.tell_reply.ensures in
     changes_telling g.P.Disk _ _ c.args.p.now c.tell_reply.new.p
     said.size said.seen said.crash said.time
+
+pub returns-in-Ok-clause-source : goal.returns-in-Ok-clause-source
+returns-in-Ok-clause-source g c = keeps_all c.args.kept.device

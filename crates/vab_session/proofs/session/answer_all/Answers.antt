@@ -5,7 +5,9 @@ use Rattle.vab_device.specs.declared.device.Device.{Device}
 use Rattle.vab_device.specs.Kept.{IsDevice}
 use Rattle.vab_device.specs.Mounted.{mounted_on}
 use Rattle.vab_device.specs.Reading.{IsIn, Represents}
+use Rattle.vab_device.proofs.DoesLaws.{keeps_all}
 use Rattle.vab_device.proofs.ReadingLaws.{device_stands}
+use Rattle.vab_commands.proofs.ChangeLaws.{keeps_then}
 use Rattle.vab_exchanges.specs.Session.{ends_session, Stops, Closed}
 use Rattle.vab_exchanges.specs.Reading.{rest_of, beyond_of, total_of, most_of, EndsAs, StopsBy}
 use Rattle.vab_exchanges.specs.Runs.{Ran}
@@ -190,10 +192,13 @@ loop-packet-preserved g c =
           subst
           (λ (n : ℕ). Represents c.in-Ok.next.device n (g.P.Disk.seen c.answer.new.p))
           sizes (c.in-Ok.ensures.stands t);
+      source =
+          keeps_then c.args.kept.device c.loop-packet.kept.device c.in-Ok.next.device i.source
+          c.in-Ok.ensures.source;
       changes = λ t.
           changes_answered g.P.Disk (g.P.Disk.size c.args.p.now) c.args.kept.device
           c.loop-packet.kept.device _ _ c.args.p.now c.loop-packet.p c.packet.new.p c.answer.new.p
-          t c.requires.device i.device (c.requires.stands t) (i.stands t) (i.changes t)
+          t (c.requires.stands t) (i.stands t) i.source (i.changes t)
           c.packet.ensures.listens (c.answer.ensures.changes t);
       counts =
           fewer_then _ _ _ (fewer_then _ _ _ i.counts ok.listens.counts)
@@ -256,6 +261,7 @@ loop-packet-init g c =
       beyond = λ t. refl;
       size = refl;
       device = c.requires.device;
+      source = keeps_all c.args.kept.device;
       stands = c.requires.stands;
       changes = λ t. changes_none g.P.Disk _ old;
       counts = search rules;
@@ -283,7 +289,7 @@ returns-in-Err-answer-clause-changes g c = λ t.
     let i = c.loop-packet.invariant in
     changes_answered g.P.Disk (g.P.Disk.size c.args.p.now) c.args.kept.device
     c.loop-packet.kept.device _ _ c.args.p.now c.loop-packet.p c.packet.new.p c.answer.new.p
-    t c.requires.device i.device (c.requires.stands t) (i.stands t) (i.changes t)
+    t (c.requires.stands t) (i.stands t) i.source (i.changes t)
     c.packet.ensures.listens (c.answer.ensures.changes t)
 
 pub returns-then-is_last-clause-changes : goal.returns-then-is_last-clause-changes
@@ -291,5 +297,5 @@ returns-then-is_last-clause-changes g c = λ t.
     let i = c.loop-packet.invariant in
     changes_answered g.P.Disk (g.P.Disk.size c.args.p.now) c.args.kept.device
     c.loop-packet.kept.device _ _ c.args.p.now c.loop-packet.p c.packet.new.p c.answer.new.p
-    t c.requires.device i.device (c.requires.stands t) (i.stands t) (i.changes t)
+    t (c.requires.stands t) (i.stands t) i.source (i.changes t)
     c.packet.ensures.listens (c.answer.ensures.changes t)

@@ -1,7 +1,7 @@
 use Rattle.std.proofs.Common.{◌≡◌, ℕ, ◌+◌, ◌++◌, ◌∙◌, min, true, List, None, Err, length, take}
 use Rattle.std.proofs.Common.{drop, codes, sym, ap, subst, arith, rules, length-take, get_or}
 use Rattle.std.proofs.Common.{get_or-drop, take-append-drop, Result, Ok, false}
-use Rattle.std.specs.Prelude.{is_some, is_err, OnOk}
+use Rattle.std.specs.Prelude.{is_err, OnOk}
 use Rattle.vab_disk.specs.Disk.{Image, Adds, Nothing}
 use Rattle.vab_disk.specs.Calls.{IsAtRest}
 use Rattle.vab_disk.proofs.Moments.{adds_still}
@@ -13,7 +13,7 @@ use Rattle.vab_device.specs.declared.device.Device.{Device}
 use Rattle.vab_device.specs.Mounted.{Mounted, mounted_on}
 use Rattle.vab_device.specs.Reading.{IsIn}
 use Rattle.vab_device.proofs.ReadingLaws.{device_stands}
-use Rattle.vab_manager.specs.Controls.{IsOfCommands}
+use Rattle.vab_commands.specs.Touched.{IsOfCommands}
 use Rattle.vab_exchanges.specs.Session.{HasNoHello}
 use Rattle.vab_exchanges.specs.Hearing.{HearsWhere, IsHeardFor}
 use Rattle.vab_exchanges.specs.Reading.{rest_of, beyond_of, all_of, total_of, count_of, most_of}
@@ -263,7 +263,5 @@ returns-clause-changes g c = λ t.
     (changes_telling g.P.Disk _ _ old c.say_all.new.p said.size said.seen said.crash said.time)
     (changes_listening g.P.Disk _ _ _ c.say_all.new.p mid c.hello.ensures.listens))
     (subst
-    (λ (image : Image).
-    Changes g.P.Disk
-    (IsOfCommands d.control (is_some d.a) (is_some d.b) (image 4)) mid new)
+    (λ (image : Image). Changes g.P.Disk (IsOfCommands d (image 4)) mid new)
     seen (c.answer_all.ensures.changes t))

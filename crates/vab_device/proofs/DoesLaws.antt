@@ -15,12 +15,26 @@ use Rattle.vab_model.specs.Commands.{Command}
 use Rattle.vab_model.specs.Effects.{Effect, answers, does, steps_of, after_of, IsOneOf}
 use Rattle.vab_model.specs.Effects.{unless_refused}
 use Rattle.vab_device.specs.declared.device.Device.{Device}
-use Rattle.vab_device.specs.Does.{LeavesStep, effect_of, Does}
+use Rattle.vab_device.specs.Does.{LeavesStep, effect_of, KeepsSource, Does}
 use Rattle.vab_device.specs.Kept.{IsDevice}
 use Rattle.vab_device.specs.Mounted.{Mounted, mounted_on}
-use Rattle.vab_device.specs.Reading.{device, Represents}
+use Rattle.vab_device.specs.Reading.{device, Dead, Represents}
 use Rattle.vab_device.specs.Updates.{effect_on}
-use Rattle.vab_device.proofs.ReadingLaws.{device_stands}
+use Rattle.vab_device.proofs.ReadingLaws.{device_same, device_stands}
+
+-- the whole of a device is its source
+pub keeps_all : (d : Device) → KeepsSource d d
+keeps_all d = record { geometry = refl; slot = refl; a = refl; b = refl }
+
+-- what nothing reads leaves the device that is kept
+pub dead_means : (d : Device) (size : ℕ) (old : Image) (V : ℕ → List ℕ → Type 0)
+    (is : Represents d size old)
+    → Dead size is.read old V
+    → (image : Image)
+    → SameBut V old image
+    → device size image ≡ Ok (mounted_on d old)
+dead_means d size old V is dead image same =
+    device_same size is.read old image is.reads (dead image same) ∙ device_stands d size old is
 
 steady_then : {A E X : Type 0} (r : Result A E) (a b c : X)
     → b ≡ a
@@ -53,6 +67,7 @@ module _ {D : Type 0} (g : Ghosts D) (d : Device) (staged : Option (List ℕ)) (
   does_nothing refused reply old new kept is told reads counts = record {
     refused = refused;
     kept = kept;
+    source = keeps_all d;
     represents = λ t. subst (λ (i : Image). Represents d (g.size old) i) (sym (reads.seen t))
         (is t);
     after = λ t.
@@ -74,6 +89,7 @@ module _ {D : Type 0} (g : Ghosts D) (d : Device) (staged : Option (List ℕ)) (
   fails_reading fault old new reads rose = record {
     refused = false;
     kept = tt;
+    source = tt;
     represents = λ t. tt;
     after = λ t. tt;
     reply = λ t. tt;
@@ -102,6 +118,7 @@ module _ {D : Type 0} (g : Ghosts D) (d : Device) (staged : Option (List ℕ)) (
       record {
         refused = later.refused;
         kept = subst (λ (n : ℕ). IfOk r (λ x. IsDevice x.0 n)) size later.kept;
+        source = later.source;
         represents = λ t.
             subst (λ (n : ℕ). IfOk r (λ x. Represents x.0 n (g.seen new))) size
             (later.represents t);
@@ -190,6 +207,7 @@ module _ {D : Type 0} (g : Ghosts D) (d : Device) (staged : Option (List ℕ)) (
     fails_dead fault rose = record {
       refused = false;
       kept = tt;
+      source = tt;
       represents = λ t. tt;
       after = λ t. tt;
       reply = λ t. tt;
@@ -208,6 +226,7 @@ module _ {D : Type 0} (g : Ghosts D) (d : Device) (staged : Option (List ℕ)) (
         (represents : g.is_modelled
         → Represents next (g.size old) (set_sector (g.seen mid) at bytes))
         (gate : g.is_modelled
+        → IsAtRest g old
         → Adds g.moment g.outcomes mid new
         (LeavesEither (g.told mid) (g.seen mid) (set_sector (g.seen mid) at bytes)))
         (gated : Touches g (IsAt at bytes) mid new)
@@ -220,7 +239,7 @@ module _ {D : Type 0} (g : Ghosts D) (d : Device) (staged : Option (List ℕ)) (
           (effect_on (mounted_on d (g.seen old)) staged command)))
       steps t rest =
           adds_on g.moment g.outcomes old mid new _ _
-          (until (effect_on (mounted_on d (g.seen old)) staged command) t rest) (gate t)
+          (until (effect_on (mounted_on d (g.seen old)) staged command) t rest) (gate t rest)
           (λ o leaves.
           ⊎_elim
           (λ same.
@@ -253,6 +272,7 @@ module _ {D : Type 0} (g : Ghosts D) (d : Device) (staged : Option (List ℕ)) (
       fails_gate fault rose = record {
         refused = false;
         kept = tt;
+        source = tt;
         represents = λ t. tt;
         after = λ t. tt;
         reply = λ t. tt;
@@ -267,13 +287,15 @@ module _ {D : Type 0} (g : Ghosts D) (d : Device) (staged : Option (List ℕ)) (
       }
 
       pub does_gate : IsDevice next (g.size old)
+          → KeepsSource d next
           → (g.is_modelled → g.seen new ≡ set_sector (g.seen mid) at bytes)
           → (g.is_modelled → IsAtRest g new)
           → g.faults new ≡ g.faults old
           → Does g d staged command W old new (Ok (next, reply))
-      does_gate kept seen settled counts = record {
+      does_gate kept source seen settled counts = record {
         refused = false;
         kept = kept;
+        source = source;
         represents = λ t.
             subst (λ (i : Image). Represents next (g.size old) i) (sym (seen t)) (represents t);
         after = λ t.

@@ -7,7 +7,7 @@ use Rattle.vab_device.specs.Phases.{plan_of}
 use Rattle.vab_plan.specs.declared.planning.Scan.{Scan}
 use Rattle.vab_plan.specs.Scans.{scans_of}
 use Rattle.vab_edit.proofs.PreparedLaws.{target_table, same_minor, gives_layout}
-use Rattle.vab_edit.proofs.prepared.given.Goals as goal
+use Rattle.vab_edit.proofs.prepared.applied.Goals as goal
 
 pub plan-requires-clause-target : goal.plan-requires-clause-target
 plan-requires-clause-target c =

@@ -1,0 +1,51 @@
+-- The sectors that commands may write, one behind the other.
+use Rattle.std.specs.Prelude.{◌⊎◌, ◌≤◌, ℕ, List, length, is_some}
+use Rattle.vab_disk.specs.declared.disk.Disk.{Ghosts}
+use Rattle.vab_disk.specs.Disk.{IsAt}
+use Rattle.vab_disk.specs.Calls.{Changes}
+use Rattle.vab_marks.specs.declared.mark.MarkPhase.{MarkPhase}
+use Rattle.vab_marks.specs.Mark.{mark_spelling}
+use Rattle.vab_statuses.specs.Statuses.{IsOfStatuses}
+use Rattle.vab_geometry.specs.declared.geometry.Geometry.{Geometry}
+use Rattle.vab_lpstore.specs.Storing.{IsOfTable}
+use Rattle.vab_layout.specs.Slots.{other_slot}
+use Rattle.vab_device.specs.declared.device.Device.{Device}
+use Rattle.vab_device.specs.Reading.{IsOfImages}
+use Rattle.vab_commands.specs.Controls.{IsOfControls}
+
+-- the sector of the update mark, with this slot in some phase
+pub record IsMarkOf (slot s : ℕ) (b : List ℕ) : Type 0 where
+  pub phase : MarkPhase
+  pub is : IsAt 2048 (mark_spelling (record { phase = phase; slot = slot })) s b
+
+-- a sector of the copies of a slot's table, with its part of a text that fits there
+pub record IsTextOf (g : Geometry) (slot s : ℕ) (b : List ℕ) : Type 0 where
+  pub text : List ℕ
+  pub fits : length text ≤ g.max
+  pub is : IsOfTable g slot text s b
+
+-- a sector of `super` behind the geometries that no partition with an image has
+pub record IsFree (d : Device) (s : ℕ) : Type 0 where
+  pub behind : 4120 ≤ s
+  pub not_a : IsOfImages d.a s → ⊥
+  pub not_b : IsOfImages d.b s → ⊥
+
+-- What an update from a device's slot may write but for boot control: the update mark, the
+-- statuses, the target's table, and stores.
+abbrev pub IsOfUpdate : Device → ℕ → List ℕ → Type 0
+IsOfUpdate d s b =
+    IsMarkOf d.mark.slot s b
+    ⊎ IsOfStatuses s
+    ⊎ IsTextOf d.geometry (other_slot d.mark.slot) s b
+    ⊎ IsFree d s
+
+-- What commands may write, one behind the other, from this device on.
+abbrev pub IsOfCommands : Device → List ℕ → ℕ → List ℕ → Type 0
+IsOfCommands d old s b =
+    IsOfControls d.control (is_some d.a) (is_some d.b) old s b ⊎ IsOfUpdate d s b
+
+-- What commands do to the sectors of a device, one behind the other, whatever is heard and told:
+-- each sector reads and may be left by a crash as before, but for what they may write; the same in
+-- each outcome since.
+abbrev pub ChangesDevice : {D : Type 0} → Ghosts D → Device → D → D → Type 0
+ChangesDevice g d old new = Changes g (IsOfCommands d (g.seen old 4)) old new
