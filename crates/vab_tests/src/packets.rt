@@ -15,7 +15,7 @@ pub const SYSTEM: [u8; 46] = [
 pub type Case<'a> = (&'a [u8], &'a [u8]);
 
 // Puts a packet behind others.
-fn put_packet(packets: &mut Vec<u8>, text: &[u8]) -> Result<(), Fail> {
+pub fn put_packet(packets: &mut Vec<u8>, text: &[u8]) -> Result<(), Fail> {
     packets.extend_from_slice(&(text.len() as u64).to_be_bytes())?;
     packets.extend_from_slice(text)?;
     Ok(())

@@ -42,7 +42,7 @@ fn halves(text: &[u8]) -> ([u8; 512], [u8; 512]) {
 
 // A disk with the device of one image, where slot b has what slot a had; the table of slot a still
 // stands. Of copies of 128 sectors the fourth from sector 4120 on is the backup of slot b's table.
-fn device_of_b(rt: &impl Abort, alloc: Global) -> Result<MemPort, Fail> {
+pub(crate) fn device_of_b(rt: &impl Abort, alloc: Global) -> Result<MemPort, Fail> {
     let made: [Step; 1] = [(&["make"], &ONE, 0, b"made 1 images, 1 of 256 blocks\n")];
     let mut d = steps(rt, alloc, SECTORS, &made)?;
     let text = text_at(alloc, &mut d, 4120, 2)?;
