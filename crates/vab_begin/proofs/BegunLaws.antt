@@ -31,7 +31,6 @@ use Rattle.vab_model.specs.declared.command.Refusal.TheVariants as refusals
 use Rattle.vab_model.specs.Commands.{Begin}
 use Rattle.vab_model.specs.Effects.{does, refuses, unless_refused}
 use Rattle.vab_device.specs.declared.device.Part.{Part}
-use Rattle.vab_device.specs.declared.device.Planned.{Planned}
 use Rattle.vab_device.specs.declared.device.Device.{Device}
 use Rattle.vab_device.specs.Idle.{control_read_of}
 use Rattle.vab_device.specs.Kept.{IsDevice, IsTableOf, IsKeptTable, IsUpdate, lies_in}
@@ -145,7 +144,7 @@ begin_is d size old staged s dev plan is =
     ∙ ap (λ (l : Layout). table_effect (mounted_on d old) d.mark.slot [] (fitting d.geometry.max l))
     (imported_plain d.mark.slot (layout_of s) dev.slot)
 
-pub begin_refused : (d : Device) (old : Image) (staged : Option (List ℕ)) (plan : List Planned)
+pub begin_refused : (d : Device) (old : Image) (staged : Option (List ℕ)) (plan : List Part)
     → d.plan ≡ Some plan
     → effect_on (mounted_on d old) staged Begin ≡ refuses refusals.NotIdle
 unfolding state_on

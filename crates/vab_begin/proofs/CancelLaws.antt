@@ -19,7 +19,6 @@ use Rattle.vab_model.specs.declared.command.Refusal.TheVariants as refusals
 use Rattle.vab_model.specs.Commands.{Cancel}
 use Rattle.vab_model.specs.Effects.{does, refuses}
 use Rattle.vab_device.specs.declared.device.Part.{Part}
-use Rattle.vab_device.specs.declared.device.Planned.{Planned}
 use Rattle.vab_device.specs.declared.device.Device.{Device}
 use Rattle.vab_device.specs.Checks.{first_fault}
 use Rattle.vab_device.specs.Idle.{control_read_of, idle_read}
@@ -100,7 +99,7 @@ cancelled_b : (d : Device) (old new : Image) (b : List Part)
 unfolding state_on
 cancelled_b d old new b slot none some same = rw (slot, some, none, same) refl
 
-cancel_is : (d : Device) (old : Image) (staged : Option (List ℕ)) (plan : List Planned)
+cancel_is : (d : Device) (old : Image) (staged : Option (List ℕ)) (plan : List Part)
     → d.plan ≡ Some plan
     → effect_on (mounted_on d old) staged Cancel
     ≡ does replies.Done (cancelled (mounted_on d old) d.mark.slot)

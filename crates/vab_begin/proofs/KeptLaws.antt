@@ -11,10 +11,10 @@ use Rattle.vab_bootctl.specs.Control.{Fits}
 use Rattle.vab_geometry.specs.declared.geometry.Geometry.{Geometry}
 use Rattle.vab_tables.specs.declared.table.Table.{Table}
 use Rattle.vab_layout.specs.Slots.{other_slot}
-use Rattle.vab_device.specs.declared.device.Planned.{Planned}
+use Rattle.vab_device.specs.declared.device.Part.{Part}
 use Rattle.vab_device.specs.declared.device.PhaseKind.TheVariants as kinds
 use Rattle.vab_device.specs.declared.device.Device.{Device}
-use Rattle.vab_device.specs.Kept.{IsDevice, IsKeptTable, IsPlan, IsPhase, IsUpdate}
+use Rattle.vab_device.specs.Kept.{IsDevice, IsKeptTable, ArePresent, IsPhase, IsUpdate}
 use Rattle.vab_device.specs.Kept.{is_installing, table_of_slot, phase_kind, phase_by}
 use Rattle.vab_begin.specs.Kept.{with_control, with_update}
 
@@ -25,13 +25,13 @@ cases_slot (suc (suc n)) below = absurd (omega (arith, below))
 
 -- ---- the phase that is kept
 
-plan_none : (plan : Option (List Planned)) (slot : ℕ)
+plan_none : (plan : Option (List Part)) (slot : ℕ)
     → kinds.Idle ≡ phase_by plan slot
     → plan ≡ None
 plan_none None slot is = refl
 plan_none (Some plan) slot is = absurd (let no : kinds.Idle ≡ kinds.Installing slot = is in cc)
 
-plan_some : (plan : Option (List Planned)) (slot k : ℕ)
+plan_some : (plan : Option (List Part)) (slot k : ℕ)
     → kinds.Installing k ≡ phase_by plan slot
     → is_some plan ≡ true
 plan_some None slot k is = absurd (let no : kinds.Installing k ≡ kinds.Idle = is in cc)
@@ -72,7 +72,7 @@ none_of (Some y) is = absurd (let no : true ≡ false = is in cc)
 pub planned_of : (d : Device) (size : ℕ)
     → IsDevice d size
     → d.mark.phase ≡ marks.Installing
-    → (plan : List Planned) × (d.plan ≡ Some plan)
+    → (plan : List Part) × (d.plan ≡ Some plan)
 planned_of d size is installing =
     some_of d.plan (is.planned ∙ ap is_installing installing)
 
@@ -115,7 +115,7 @@ table_b_at (suc (suc n)) size g b t below is new = absurd (omega (arith, below))
 
 -- With another phase, table of the other slot, plan and boot control it is a device.
 pub update_kept : (d : Device) (size : ℕ) (c : Control) (phase : MarkPhase) (t : Option Table)
-    (plan : Option (List Planned))
+    (plan : Option (List Part))
     → IsDevice d size
     → Fits c
     → c.current ≡ d.mark.slot
@@ -123,7 +123,7 @@ pub update_kept : (d : Device) (size : ℕ) (c : Control) (phase : MarkPhase) (t
     → IsKeptTable size d.geometry (other_slot d.mark.slot) t
     → is_some t ≡ is_installing phase
     → is_some plan ≡ is_installing phase
-    → IsPlan size plan
+    → ArePresent size plan
     → IsUpdate d.mark.slot (table_of_slot d d.mark.slot) t
     → IsDevice (with_control c (with_update d phase t plan)) size
 update_kept d size c phase t plan is fits current known table there planned plans update =

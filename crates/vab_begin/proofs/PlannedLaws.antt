@@ -22,7 +22,7 @@ use Rattle.vab_layout.proofs.LayoutLaws.{layout_keeps}
 use Rattle.vab_layout.specs.Slots.{own_parts, store_parts, is_updated, IsOwn, IsTarget, IsDistinct}
 use Rattle.vab_builder.proofs.NameCases.{store_is_store}
 use Rattle.vab_device.specs.Kept.{super_bytes, lies_in, sectors_of, part_on, parts_of}
-use Rattle.vab_device.specs.Kept.{IsPart, AreParts, IsStore, IsStored, IsPlanned, ArePlanned}
+use Rattle.vab_device.specs.Kept.{IsPart, AreParts, IsStore, IsStored}
 use Rattle.vab_device.specs.Phases.{planned_image, planned_on, plan_of}
 use Rattle.vab_device.specs.Stores.{first_named}
 use Rattle.vab_plan.specs.Scans.{IsTargetTable}
@@ -167,7 +167,7 @@ module _
   planned_is : (p : PartOfLayout)
       → is_of_slot slot p.name ≡ true
       → IsPart size (part_on first p)
-      → IsPlanned size (planned_on l [] p)
+      → IsPart size (planned_on l [] p)
   planned_is p own part = record {
     name = part.name;
     on_disk = part.on_disk;
@@ -178,7 +178,7 @@ module _
         (is_updated p) (λ q is. store_is p.name q own is);
   }
 
-  pub plan_keeps : ArePlanned size (plan_of slot l [])
+  pub plan_keeps : AreParts size (plan_of slot l [])
   plan_keeps =
       let mine : List PartOfLayout = own_parts slot l.parts in
       let parts = parts_kept size slot g l enough layout target.own lies in
@@ -186,7 +186,7 @@ module _
       filter_passes (λ (p : PartOfLayout). is_of_slot slot p.name) l.parts in
       let long = length-map mine (part_on first) in
       record {
-        each = All-map (IsPlanned size) (planned_on l []) mine
+        each = All-map (IsPart size) (planned_on l []) mine
             (λ k d lt. planned_is (get_or mine k d) (own k d lt)
             (subst (IsPart size) (get_or-map (part_on first) mine k d (part_on first d) lt)
             (parts.each k (part_on first d) (omega (arith, lt, long)))));

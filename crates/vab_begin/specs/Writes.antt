@@ -40,8 +40,15 @@ pub record IsOfBegun (told : Type 0) (d : Device) (old : List ℕ) (s : ℕ) (b 
     pub writes : IsOfPlaces told d (table_text (table_of layout)) old s b
         ⊎ IsOfMark marks.Installing d s b
 
--- What a cancel writes: the mark that there is no update. Where none is installed nothing is
+-- An update may be dropped: it is installed, or ready and its target isn't the slot that was booted
+-- last.
+abbrev pub MayEnd : Device → Type 0
+MayEnd d =
+    (d.mark.phase ≡ marks.Installing)
+    ⊎ ((d.mark.phase ≡ marks.Staged) × (d.control.current ≡ d.mark.slot))
+
+-- What a cancel writes: the mark that there is no update. Where none may be dropped nothing is
 -- written.
 pub record IsOfCancelled (d : Device) (s : ℕ) (b : List ℕ) : Type 0 where
-  pub installed : d.mark.phase ≡ marks.Installing
+  pub ends : MayEnd d
   pub mark : IsOfMark marks.Idle d s b

@@ -88,6 +88,8 @@ pub fn begin<D: Disk>(
 {
     match device.phase() {
         PhaseKind::Installing(_) => Ok((device, Reply::Refused(Refusal::NotIdle))),
+        PhaseKind::Staged(_) => Ok((device, Reply::Refused(Refusal::NotIdle))),
+        PhaseKind::Merging(_) => Ok((device, Reply::Refused(Refusal::NotIdle))),
         PhaseKind::Idle => match target_for(alloc, &device) {
             Err(fault) => Ok((device, Reply::Refused(refusal(fault)))),
             Ok(target) => begin_to(d, device, target),

@@ -1,10 +1,10 @@
 //! What is kept of a device as an update begins or ends.
 
 ghost use Rattle.std.specs.Prelude.{◌≡◌, ◌<◌};
-ghost use Rattle.vab_begin.specs.Kept.{with_update};
+ghost use Rattle.vab_begin.specs.Kept.{with_update, without_target};
 
 use vab_bytes::Listing;
-use vab_device::{Device, Planned};
+use vab_device::{Device, Part};
 use vab_marks::{MarkPhase, UpdateMark};
 use vab_tables::Table;
 
@@ -13,7 +13,7 @@ pub fn with_update(
     device: Device,
     phase: MarkPhase,
     table: Option<Table>,
-    plan: Option<Listing<Planned>>,
+    plan: Option<Listing<Part>>,
 ) -> Device
     requires { device.mark.slot < 2 }
     ensures { result ≡ with_update device phase table plan }
@@ -36,5 +36,17 @@ pub fn with_update(
             plan,
             ..device
         }
+    }
+}
+
+/// The device without images of the slot that isn't the mark's.
+pub fn without_target(device: Device) -> Device
+    requires { device.mark.slot < 2 }
+    ensures { result ≡ without_target device }
+{
+    if device.mark.slot == 0 {
+        Device { b: None, ..device }
+    } else {
+        Device { a: None, ..device }
     }
 }

@@ -15,7 +15,7 @@ ghost use Rattle.vab_begin.specs.Target.{IsRefusedFor};
 use std::alloc::Global;
 use vab_builder::{EditFault, import};
 use vab_bytes::{Bytes, Listing};
-use vab_device::{Device, Planned};
+use vab_device::{Device, Part};
 use vab_model::Refusal;
 use vab_plan::plan;
 use vab_tables::{NoMemory, Table, encode_table};
@@ -25,7 +25,7 @@ use vab_tables::{NoMemory, Table, encode_table};
 pub struct Target {
     pub table: Table,
     pub text: Bytes,
-    pub plan: Listing<Planned>,
+    pub plan: Listing<Part>,
 }
 
 // The text of a table and its plan.

@@ -1,7 +1,7 @@
 -- What commands write, one behind the other.
 use Rattle.std.proofs.Common.{◌≡◌, ◌∙◌, inl, inr, ⊎_elim, ℕ, List, [], ◌∷◌, Ok, sym, ap}
 use Rattle.std.proofs.Common.{Result, subst, arith}
-use Rattle.std.specs.Prelude.{◌≤◌, Bool, Option, Some, None, is_some, ◌==◌, if◌then◌else◌}
+use Rattle.std.specs.Prelude.{◌-◌, ◌*◌, ◌≤◌, Bool, Option, Some, None, is_some, ◌==◌, if◌then◌else◌}
 use Rattle.vab_disk.specs.declared.disk.Disk.{Ghosts}
 use Rattle.vab_disk.specs.Calls.{Touches}
 use Rattle.vab_disk.proofs.CallLaws.{changes_touches, changes_then, changes_wider}
@@ -17,9 +17,8 @@ use Rattle.vab_model.specs.Commands.{Resize, Delete, Snapshot, Flash, Finish, Ca
 use Rattle.vab_model.specs.Commands.{Merge}
 use Rattle.vab_device.specs.declared.device.Device.{Device}
 use Rattle.vab_device.specs.declared.device.Part.{Part}
-use Rattle.vab_device.specs.declared.device.Planned.{Planned}
 use Rattle.vab_device.specs.Does.{KeepsSource}
-use Rattle.vab_device.specs.Kept.{IsDevice}
+use Rattle.vab_device.specs.Kept.{IsDevice, copies_end}
 use Rattle.vab_device.specs.Reading.{Represents, IsOfImages}
 use Rattle.vab_edit.specs.Writes.{IsOfPhase}
 use Rattle.vab_commands.specs.Controls.{controls_by, IsOfControls}
@@ -31,7 +30,7 @@ use Rattle.vab_commands.proofs.FreeLaws.{store_is_free}
 
 -- ---- one command
 
-edit_writes : (plan : Option (List Planned)) (g : Geometry) (target s : ℕ) (b : List ℕ)
+edit_writes : (plan : Option (List Part)) (g : Geometry) (target s : ℕ) (b : List ℕ)
     → IsOfPhase plan g target s b
     → IsTextOf g target s b
 edit_writes None g target s b is = absurd is
@@ -220,7 +219,8 @@ module _ {D : Type 0}
       (λ i. (keeps.geometry i, keeps.slot i)) text))))
       (λ free.
       inr (inr (inr (record {
-        behind = free.behind;
+        behind =
+            subst (λ (g : Geometry). copies_end g ≤ 512 * (s - 4096)) keeps.geometry free.behind;
         not_a = subst (λ (x : Option (List Part)). IsOfImages x s → ⊥) keeps.a free.not_a;
         not_b = subst (λ (x : Option (List Part)). IsOfImages x s → ⊥) keeps.b free.not_b;
       }))))

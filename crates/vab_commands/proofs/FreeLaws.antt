@@ -1,5 +1,5 @@
 -- The stores of an update lie where no image does.
-use Rattle.std.proofs.Common.{◌≡◌, inl, inr, ℕ, ◌*◌, ◌≤◌, List, [], ◌∷◌, refl}
+use Rattle.std.proofs.Common.{◌≡◌, inl, inr, ℕ, ◌-◌, ◌*◌, ◌≤◌, List, [], ◌∷◌, refl, sym}
 use Rattle.std.proofs.Common.{subst, arith, true}
 use Rattle.std.specs.Prelude.{Option, Some, None, map, option_map, Contains, ◌==◌}
 use Rattle.std.specs.Str.{bytes_eq}
@@ -11,7 +11,7 @@ use Rattle.vab_layout.specs.declared.layout.Layout.{Layout}
 use Rattle.vab_layout.specs.Layout.{layout_of}
 use Rattle.vab_layout.specs.Slots.{other_slot, own_parts}
 use Rattle.vab_builder.proofs.Counting.{of_filter, first, later}
-use Rattle.vab_device.specs.declared.device.Planned.{Planned}
+use Rattle.vab_device.specs.declared.device.Part.{Part}
 use Rattle.vab_device.specs.declared.device.Device.{Device}
 use Rattle.vab_device.specs.Kept.{IsDevice, copies_end, sectors_of}
 use Rattle.vab_device.specs.Mounted.{blocks_there}
@@ -25,9 +25,9 @@ use Rattle.vab_flash.proofs.InstallingLaws.{Installs, installs_of}
 use Rattle.vab_commands.specs.Touched.{IsFree}
 
 -- a planned partition with a block of its store here
-in_plan : (base : List ℕ) (o : Option (List Planned)) (s : ℕ)
+in_plan : (base : List ℕ) (o : Option (List Part)) (s : ℕ)
     → IsOfBlocks (store_in base o) s
-    → (plan : List Planned) × (o ≡ Some plan) × IsOfBlocks (store_named base plan) s
+    → (plan : List Part) × (o ≡ Some plan) × IsOfBlocks (store_named base plan) s
 in_plan base None s is = absurd is
 in_plan base (Some plan) s is = (plan, refl, is)
 
@@ -81,11 +81,12 @@ module _ (d : Device) (size : ℕ) (image : Image) (s : ℕ) (i : Installs d siz
     block_free : IsFree d s
     block_free = record {
       behind =
-          omega (
+          subst (λ (k : Device). copies_end k.geometry ≤ 512 * (s - 4096)) (sym i.is)
+          (omega (
             arith,
             block_behind (layout_of i.target).device.first_logical_sector store.blocks s here,
             low,
-          );
+          ));
       not_a = λ h. miss 0 (subst (λ (k : Device). IsOfImages k.a s) i.is h);
       not_b = λ h. miss 1 (subst (λ (k : Device). IsOfImages k.b s) i.is h);
     }

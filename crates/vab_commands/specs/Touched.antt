@@ -1,5 +1,5 @@
 -- The sectors that commands may write, one behind the other.
-use Rattle.std.specs.Prelude.{◌⊎◌, ◌≤◌, ℕ, List, length, is_some}
+use Rattle.std.specs.Prelude.{◌⊎◌, ◌≤◌, ℕ, ◌-◌, ◌*◌, List, length, is_some}
 use Rattle.vab_disk.specs.declared.disk.Disk.{Ghosts}
 use Rattle.vab_disk.specs.Disk.{IsAt}
 use Rattle.vab_disk.specs.Calls.{Changes}
@@ -10,6 +10,7 @@ use Rattle.vab_geometry.specs.declared.geometry.Geometry.{Geometry}
 use Rattle.vab_lpstore.specs.Storing.{IsOfTable}
 use Rattle.vab_layout.specs.Slots.{other_slot}
 use Rattle.vab_device.specs.declared.device.Device.{Device}
+use Rattle.vab_device.specs.Kept.{copies_end}
 use Rattle.vab_device.specs.Reading.{IsOfImages}
 use Rattle.vab_commands.specs.Controls.{IsOfControls}
 
@@ -24,9 +25,9 @@ pub record IsTextOf (g : Geometry) (slot s : ℕ) (b : List ℕ) : Type 0 where
   pub fits : length text ≤ g.max
   pub is : IsOfTable g slot text s b
 
--- a sector of `super` behind the geometries that no partition with an image has
+-- a sector of `super` behind the copies of the tables that no partition with an image has
 pub record IsFree (d : Device) (s : ℕ) : Type 0 where
-  pub behind : 4120 ≤ s
+  pub behind : copies_end d.geometry ≤ 512 * (s - 4096)
   pub not_a : IsOfImages d.a s → ⊥
   pub not_b : IsOfImages d.b s → ⊥
 

@@ -22,13 +22,14 @@ use Rattle.vab_layout.specs.Layout.{layout_of}
 use Rattle.vab_layout.specs.Slots.{other_slot, own_parts, is_updated}
 use Rattle.vab_device.specs.declared.fault.StartFault.{StartFault}
 use Rattle.vab_device.specs.declared.fault.StartFault.TheVariants.{BadTable}
-use Rattle.vab_device.specs.declared.device.PlannedImage.{PlannedImage}
-use Rattle.vab_device.specs.declared.device.PlannedImage.TheVariants.{Kept, Declared, Written}
+use Rattle.vab_device.specs.declared.device.PartImage.{PartImage}
+use Rattle.vab_device.specs.declared.device.PartImage.TheVariants.{Kept, Declared, Written}
 use Rattle.vab_device.specs.Checks.{◌>>=◌}
 use Rattle.vab_device.specs.Kept.{block_sector, sectors_of, part_on, copies_end, super_bytes, lies_in}
-use Rattle.vab_device.specs.Mounted.{blocks_there}
+use Rattle.vab_device.specs.Mounted.{blocks_there, sectors_by}
 use Rattle.vab_device.specs.Phases.{phase_at, store_on, planned_on, planned_image}
 use Rattle.vab_device.specs.Reading.{Read, table_read, table_at, tables_in, table_for, parts_for}
+use Rattle.vab_device.specs.Reading.{parts_by}
 use Rattle.vab_device.specs.Reading.{read_table, kept, stores_of, Reads, IsOfBlocks, IsOfParts}
 use Rattle.vab_device.specs.Reading.{IsOfImages, IsOfStores, IsOfWritten, IsOfPlanned, IsOfPlan}
 use Rattle.vab_device.specs.Stores.{Wanted, Scanned, first_named, wanted_by, wanted_of}
@@ -64,20 +65,6 @@ parts_from first low (p ∷ ps) s le (inr is) = parts_from first low ps s le is
 abbrev BeginBehind : ℕ → List Table → Type 0
 BeginBehind low [] = Unit {0}
 BeginBehind low (t ∷ ts) = (low ≤ 4096 + (layout_of t).device.first_logical_sector) × BeginBehind low ts
-
-for_from : (low slot : ℕ) (b : Bool) (slots : List ℕ) (ts : List Table) (s : ℕ)
-    → BeginBehind low ts
-    → IsOfImages (parts_for slot b (table_for slot slots ts)) s
-    → low ≤ s
-for_from low slot false slots ts s begin is = absurd is
-for_from low slot true [] ts s begin is = absurd is
-for_from low slot true (k ∷ ks) [] s begin is = absurd is
-for_from low slot true (k ∷ ks) (t ∷ ts) s begin is = elim (cases_Bool (k == slot)) [
-  | inl here ↦
-      parts_from (layout_of t).device.first_logical_sector low (own_parts slot (layout_of t).parts) s
-      begin.0 (rw here at is)
-  | inr other ↦ for_from low slot true ks ts s begin.1 (rw other at is)
-]
 
 -- the table that was read has a device behind the copies
 read_behind : (size : ℕ) (g : Geometry) (slot : ℕ) (x : Result Table (TableFault × TableFault)) (t : Table)
@@ -158,7 +145,10 @@ phase_stores_from low slot marks.Installing [] statuses s begin is = absurd is
 phase_stores_from low slot marks.Installing (t ∷ []) statuses s begin is = absurd is
 phase_stores_from low slot marks.Installing (t ∷ u ∷ ts) statuses s begin is =
     stores_from low (other_slot slot) (layout_of u) statuses s begin.1.0 is
-phase_stores_from low slot marks.Staged ts statuses s begin is = absurd is
+phase_stores_from low slot marks.Staged [] statuses s begin is = absurd is
+phase_stores_from low slot marks.Staged (t ∷ []) statuses s begin is = absurd is
+phase_stores_from low slot marks.Staged (t ∷ u ∷ ts) statuses s begin is =
+    stores_from low (other_slot slot) (layout_of u) statuses s begin.1.0 is
 phase_stores_from low slot marks.Merging ts statuses s begin is = absurd is
 phase_stores_from low slot marks.Completed ts statuses s begin is = absurd is
 
@@ -202,19 +192,63 @@ store_from : (first low : ℕ) (q : Option PartOfLayout) (s : ℕ)
 store_from first low None s le is = absurd is
 store_from first low (Some q) s le is = sectors_from first low q.blocks s le is
 
-written_from : (low : ℕ) (l : Layout) (ss : List Scanned) (p : PartOfLayout) (image : PlannedImage)
+-- a sector of a partition of the target, through its store
+through_from : (low : ℕ) (l : Layout) (ss : List Scanned) (p : PartOfLayout) (image : PartImage)
+    (s : ℕ)
+    → low ≤ 4096 + l.device.first_logical_sector
+    → IsOfBlocks (sectors_by (planned_on l ss p) image) s
+    → low ≤ s
+through_from low l ss p Kept s le is =
+    sectors_from l.device.first_logical_sector low p.blocks s le is
+through_from low l ss p Declared s le is =
+    sectors_from l.device.first_logical_sector low p.blocks s le is
+through_from low l ss p (Written es) s le is =
+    let first = l.device.first_logical_sector in
+    ⊎_elim
+    (λ here. store_from first low (first_named (store_of p.name) l.parts) s le here)
+    (λ there. sectors_from first low p.blocks s le there)
+    (seen_or (blocks_there (store_on l p.name)) es 0 (sectors_of first p.blocks) s is)
+
+written_from : (low : ℕ) (l : Layout) (ss : List Scanned) (p : PartOfLayout) (image : PartImage)
     (s : ℕ)
     → low ≤ 4096 + l.device.first_logical_sector
     → IsOfWritten (planned_on l ss p) image s
     → low ≤ s
 written_from low l ss p Kept s le is = absurd is
 written_from low l ss p Declared s le is = absurd is
-written_from low l ss p (Written es) s le is =
-    let first = l.device.first_logical_sector in
-    ⊎_elim
-    (λ here. store_from first low (first_named (store_of p.name) l.parts) s le here)
-    (λ there. sectors_from first low p.blocks s le there)
-    (seen_or (blocks_there (store_on l p.name)) es 0 (sectors_of first p.blocks) s is)
+written_from low l ss p (Written es) s le is = through_from low l ss p (Written es) s le is
+
+targets_from : (low : ℕ) (l : Layout) (ss : List Scanned) (parts : List PartOfLayout) (s : ℕ)
+    → low ≤ 4096 + l.device.first_logical_sector
+    → IsOfParts (map (planned_on l ss) parts) s
+    → low ≤ s
+targets_from low l ss [] s le is = absurd is
+targets_from low l ss (p ∷ ps) s le (inl is) =
+    through_from low l ss p (planned_image (is_updated p) (exceptions_of p.name ss)) s le is
+targets_from low l ss (p ∷ ps) s le (inr is) = targets_from low l ss ps s le is
+
+slot_from : (low slot : ℕ) (through : Bool) (ss : List Scanned) (t : Table) (s : ℕ)
+    → low ≤ 4096 + (layout_of t).device.first_logical_sector
+    → IsOfParts (parts_by slot through ss t) s
+    → low ≤ s
+slot_from low slot false ss t s le is =
+    parts_from (layout_of t).device.first_logical_sector low (own_parts slot (layout_of t).parts) s
+    le is
+slot_from low slot true ss t s le is =
+    targets_from low (layout_of t) ss (own_parts slot (layout_of t).parts) s le is
+
+for_from : (low slot : ℕ) (b through : Bool) (ss : List Scanned) (slots : List ℕ)
+    (ts : List Table) (s : ℕ)
+    → BeginBehind low ts
+    → IsOfImages (parts_for slot b through ss (table_for slot slots ts)) s
+    → low ≤ s
+for_from low slot false through ss slots ts s begin is = absurd is
+for_from low slot true through ss [] ts s begin is = absurd is
+for_from low slot true through ss (k ∷ ks) [] s begin is = absurd is
+for_from low slot true through ss (k ∷ ks) (t ∷ ts) s begin is = elim (cases_Bool (k == slot)) [
+  | inl here ↦ slot_from low slot through ss t s begin.0 (rw here at is)
+  | inr other ↦ for_from low slot true through ss ks ts s begin.1 (rw other at is)
+]
 
 planned_from : (low : ℕ) (l : Layout) (ss : List Scanned) (parts : List PartOfLayout) (s : ℕ)
     → low ≤ 4096 + l.device.first_logical_sector
@@ -250,13 +284,13 @@ read_begins size low r image reads le =
     reads.tables
 
 -- a sector of an image stands behind the copies
-pub images_behind : (size low slot : ℕ) (b : Bool) (r : Read) (image : Image) (s : ℕ)
+pub images_behind : (size low slot : ℕ) (b through : Bool) (r : Read) (image : Image) (s : ℕ)
     → Reads size r image
     → 512 * (low - 4096) ≤ copies_end r.geometry
-    → IsOfImages (parts_for slot b (read_table slot r)) s
+    → IsOfImages (parts_for slot b through r.scanned (read_table slot r)) s
     → low ≤ s
-images_behind size low slot b r image s reads le is =
-    for_from low slot b ((phase_at r.mark.phase).tables r.mark.slot) r.tables s
+images_behind size low slot b through r image s reads le is =
+    for_from low slot b through r.scanned ((phase_at r.mark.phase).tables r.mark.slot) r.tables s
     (read_begins size low r image reads le)
     is
 

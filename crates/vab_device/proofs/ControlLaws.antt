@@ -19,7 +19,7 @@ use Rattle.vab_device.specs.Phases.{phase_at}
 use Rattle.vab_device.specs.Reading.{Read, control_read, control_in}
 use Rattle.vab_device.specs.Reading.{state_fault, stores_of, Reads, AgreeCopies}
 use Rattle.vab_device.specs.Reading.{Represents, IsOfTables, IsOfImages, IsOfPlan}
-use Rattle.vab_device.specs.Mounted.{phase_on}
+use Rattle.vab_device.specs.Mounted.{entries_on}
 use Rattle.vab_device.proofs.SameLaws.{mark_same, geometry_same, tables_agree, images_same}
 use Rattle.vab_device.proofs.StoreLaws.{statuses_kept, stores_kept, plan_kept}
 use Rattle.vab_device.proofs.Behind.{images_behind, stores_behind, plan_behind}
@@ -156,18 +156,18 @@ module _
   images_a : images_on gated d.a ≡ images_on old d.a
   images_a =
       of_images 0 d.a (λ s there.
-      images_behind size 4096 0 _ is.read old s is.reads (omega arith)
+      images_behind size 4096 0 _ _ is.read old s is.reads (omega arith)
       (subst (λ (k : Device). IsOfImages k.a s) is.is there))
 
   images_b : images_on gated d.b ≡ images_on old d.b
   images_b =
       of_images 1 d.b (λ s there.
-      images_behind size 4096 1 _ is.read old s is.reads (omega arith)
+      images_behind size 4096 1 _ _ is.read old s is.reads (omega arith)
       (subst (λ (k : Device). IsOfImages k.b s) is.is there))
 
-  plan : phase_on d.mark.slot gated d.plan ≡ phase_on d.mark.slot old d.plan
+  plan : entries_on gated d.plan ≡ entries_on old d.plan
   plan =
-      plan_kept d.mark.slot d.plan old gated
+      plan_kept d.plan old gated
       (λ s there.
       elsewhere s (λ e. omega (
         arith,

@@ -24,7 +24,7 @@ use Rattle.vab_device.proofs.ReadingLaws.{device_same, device_stands}
 
 -- the whole of a device is its source
 pub keeps_all : (d : Device) → KeepsSource d d
-keeps_all d = record { geometry = refl; slot = refl; a = refl; b = refl }
+keeps_all d = record { geometry = refl; slot = refl; parts = refl }
 
 -- what nothing reads leaves the device that is kept
 pub dead_means : (d : Device) (size : ℕ) (old : Image) (V : ℕ → List ℕ → Type 0)

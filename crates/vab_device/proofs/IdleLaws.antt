@@ -104,7 +104,7 @@ module _
     state_is =
         of_idle m
         (λ p.
-        first_fault (p.state_checks m.slot (control_read_of m.slot c))
+        first_fault (p.state_checks m.slot (control_read_of m.slot c) (t ∷ []) [])
         ≡ first_fault (slot_checks m.slot (control_read_of m.slot c)))
         is_idle refl
 

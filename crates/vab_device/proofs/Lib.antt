@@ -4,6 +4,7 @@ pub mod CheckLaws
 pub mod ControlLaws
 pub mod DoesLaws
 pub mod IdleLaws
+pub mod MarkLaws
 pub mod OpeningLaws
 pub mod ReadingLaws
 pub mod RepairLaws

@@ -99,7 +99,7 @@ pub device_stated : (size : ℕ) (r : Read) (image : Image) (ss : List Scanned) 
     → FrameReads size image r
     → part_fault r ≡ None
     → scans_in (stores_of r) image ≡ Ok ss
-    → state_fault r ≡ Some f
+    → state_fault (record r { scanned = ss }) ≡ Some f
     → device size image ≡ Err f
 unfolding device judged scanned_in stated
 device_stated size r image ss f reads parts stores state =
@@ -110,7 +110,7 @@ pub reads_of : (size : ℕ) (r : Read) (image : Image) (ss : List Scanned)
     → FrameReads size image r
     → part_fault r ≡ None
     → scans_in (stores_of r) image ≡ Ok ss
-    → state_fault r ≡ None
+    → state_fault (record r { scanned = ss }) ≡ None
     → Reads size (record r { scanned = ss }) image
 reads_of size r image ss reads parts stores state = record {
   enough = reads.enough;

@@ -1,6 +1,6 @@
 -- A disk means a device exactly where it is read so.
-use Rattle.std.proofs.Common.{◌≡◌, ◌≢◌, ◌∙◌, inl, inr, ⊎_elim, ℕ, true, List, [], ◌∷◌, Result, Ok, Err}
-use Rattle.std.proofs.Common.{refl, sym, ap, subst}
+use Rattle.std.proofs.Common.{◌≡◌, ◌∙◌, inl, inr, ⊎_elim, ℕ, zero, suc, ◌+◌, ◌<◌, true, false, List}
+use Rattle.std.proofs.Common.{[], ◌∷◌, length, Result, Ok, Err, refl, sym, ap, subst, arith}
 use Rattle.std.specs.Prelude.{Bool, None, is_some, nat_le, ◌==◌}
 use Rattle.std.proofs.lemmas.Bool.{cases_Bool}
 use Rattle.vab_disk.specs.Disk.{Image}
@@ -20,20 +20,21 @@ use Rattle.vab_marks.specs.declared.sector.MarkFault.{MarkFault}
 use Rattle.vab_marks.specs.Mark.{mark_of}
 use Rattle.vab_model.specs.declared.state.Phase.TheVariants as phases
 use Rattle.vab_device.specs.declared.device.Device.{Device}
-use Rattle.vab_device.specs.Checks.{Check, first_fault, ◌>>=◌}
-use Rattle.vab_device.specs.Idle.{control_read_of}
+use Rattle.vab_device.specs.Checks.{first_fault, ◌>>=◌}
 use Rattle.vab_device.specs.Mounted.{Mounted, control_on, state_on, mounted_on, images_on}
-use Rattle.vab_device.specs.Mounted.{phase_on}
+use Rattle.vab_device.specs.Mounted.{entries_on, phase_by, phase_on, unplanned, count_at}
 use Rattle.vab_device.specs.Stores.{Scanned, scans_in}
-use Rattle.vab_device.specs.Kept.{IsPhase}
-use Rattle.vab_device.specs.Phases.{Phase, slot_checks, idle, installing, phase_at, is_known}
+use Rattle.vab_device.specs.Kept.{IsPhase, has_both, has_slot}
+use Rattle.vab_device.specs.Phases.{Phase, slot_checks, staged_checks, idle, installing, phase_at}
+use Rattle.vab_device.specs.Phases.{is_known}
 use Rattle.vab_device.specs.Checks.{unless}
 use Rattle.vab_device.specs.Reading.{Read, mark_read, mark_in, statuses_at, control_read, control_in}
 use Rattle.vab_device.specs.Reading.{geometry_at, stores_of, scanned_in}
 use Rattle.vab_device.specs.Reading.{table_at, tables_in, framed, frame, part_fault, state_fault}
 use Rattle.vab_device.specs.Reading.{judged, stated, table_for, parts_for, kept, device}
-use Rattle.vab_device.specs.Reading.{Reads, Represents, SameRead}
+use Rattle.vab_device.specs.Reading.{Reads, Represents, SameRead, control_kept}
 use Rattle.vab_device.proofs.CheckLaws.{bound, passed}
+use Rattle.vab_device.proofs.MarkLaws.{mark_slot}
 
 -- ---- where it is read it means so
 
@@ -239,7 +240,7 @@ reads_kept size r old new reads same = record {
 pub state_same : (d : Device) (old new : Image)
     → images_on new d.a ≡ images_on old d.a
     → images_on new d.b ≡ images_on old d.b
-    → phase_on d.mark.slot new d.plan ≡ phase_on d.mark.slot old d.plan
+    → entries_on new d.plan ≡ entries_on old d.plan
     → state_on d new ≡ state_on d old
 unfolding state_on
 state_same d old new a b plan = rw (a, b, plan) refl
@@ -247,7 +248,7 @@ state_same d old new a b plan = rw (a, b, plan) refl
 pub mounted_same : (d : Device) (old new : Image)
     → images_on new d.a ≡ images_on old d.a
     → images_on new d.b ≡ images_on old d.b
-    → phase_on d.mark.slot new d.plan ≡ phase_on d.mark.slot old d.plan
+    → entries_on new d.plan ≡ entries_on old d.plan
     → mounted_on d new ≡ mounted_on d old
 mounted_same d old new a b plan = rw (state_same d old new a b plan) refl
 
@@ -266,50 +267,68 @@ device_same size r old new reads same =
 pub idle_at : (m : MarkPhase) → m ≡ marks.Idle → phase_at m ≡ idle
 idle_at m is = ap phase_at is
 
--- In each phase the slot of the mark has images, its table is read first, and the rules of the
--- slots are the same.
-pub record IsSingle (p : Phase) : Type 0 where
-  pub has_a : p.has_a ≡ (λ slot. slot == 0)
-  pub has_b : p.has_b ≡ (λ slot. slot == 1)
-  pub state : p.state_checks ≡ slot_checks
+-- What a phase reads: which slots have images, and the table of the slot of the mark first.
+pub record IsOf (m : MarkPhase) (p : Phase) : Type 0 where
+  pub has_a : p.has_a ≡ (λ slot. has_slot m slot 0)
+  pub has_b : p.has_b ≡ (λ slot. has_slot m slot 1)
   pub others : ℕ → List ℕ
   pub tables : p.tables ≡ (λ slot. slot ∷ others slot)
 
-pub idle_single : IsSingle idle
-idle_single = record {
+pub of_phase : (m : MarkPhase) → IsOf m (phase_at m)
+of_phase marks.Idle = record { has_a = refl; has_b = refl; others = λ slot. []; tables = refl }
+of_phase marks.Installing = record {
   has_a = refl;
   has_b = refl;
-  state = refl;
+  others = λ slot. other_slot slot ∷ [];
+  tables = refl;
+}
+of_phase marks.Staged = record {
+  has_a = refl;
+  has_b = refl;
+  others = λ slot. other_slot slot ∷ [];
+  tables = refl;
+}
+of_phase marks.Merging = record { has_a = refl; has_b = refl; others = λ slot. []; tables = refl }
+of_phase marks.Completed = record {
+  has_a = refl;
+  has_b = refl;
   others = λ slot. [];
   tables = refl;
 }
 
-pub single_at : (m : MarkPhase) → IsSingle (phase_at m)
-single_at marks.Idle = idle_single
-single_at marks.Installing = record {
-  has_a = refl;
-  has_b = refl;
-  state = refl;
-  others = λ slot. other_slot slot ∷ [];
-  tables = refl;
-}
-single_at marks.Staged = idle_single
-single_at marks.Merging = idle_single
-single_at marks.Completed = idle_single
+-- where one slot has images, the rules of the slots are those of that one
+single_checks : (m : MarkPhase) (slot : ℕ) (c : Control) (ts : List Table) (ss : List Scanned)
+    → has_both m ≡ false
+    → (phase_at m).state_checks slot c ts ss ≡ slot_checks slot c
+single_checks marks.Idle slot c ts ss one = refl
+single_checks marks.Installing slot c ts ss one = refl
+single_checks marks.Staged slot c ts ss one = absurd cc
+single_checks marks.Merging slot c ts ss one = refl
+single_checks marks.Completed slot c ts ss one = refl
 
--- the rules of the slots are those of the one slot, in each phase
-pub state_single : (r : Read) → state_fault r ≡ first_fault (slot_checks r.mark.slot r.control)
-state_single r =
-    ap (λ (f : ℕ → Control → List Check). first_fault (f r.mark.slot r.control))
-    (single_at r.mark.phase).state
+pub state_single : (r : Read)
+    → has_both r.mark.phase ≡ false
+    → state_fault r ≡ first_fault (slot_checks r.mark.slot r.control)
+state_single r one =
+    ap first_fault (single_checks r.mark.phase r.mark.slot r.control r.tables r.scanned one)
 
--- of boot control its info is read
-pub seen_single : (r : Read) (c : Control)
-    → control_seen ((phase_at r.mark.phase).has_a r.mark.slot) ((phase_at r.mark.phase).has_b r.mark.slot) c
-    ≡ control_read_of r.mark.slot c
-seen_single r c =
-    let single = single_at r.mark.phase in
-    (λ i. control_seen (single.has_a i r.mark.slot) (single.has_b i r.mark.slot) c)
+pub state_staged : (r : Read)
+    → r.mark.phase ≡ marks.Staged
+    → state_fault r ≡ first_fault (staged_checks r.mark.slot r.control r.tables r.scanned)
+state_staged r is =
+    ap
+    (λ (m : MarkPhase).
+    first_fault ((phase_at m).state_checks r.mark.slot r.control r.tables r.scanned))
+    is
+
+-- of boot control the info of slots with images is read
+pub seen_slots : (r : Read) (c : Control)
+    → control_seen ((phase_at r.mark.phase).has_a r.mark.slot)
+    ((phase_at r.mark.phase).has_b r.mark.slot) c
+    ≡ control_kept r.mark c
+seen_slots r c =
+    let of = of_phase r.mark.phase in
+    (λ i. control_seen (of.has_a i r.mark.slot) (of.has_b i r.mark.slot) c)
 
 -- a mark that is read is of a phase that there is
 known_by : (phase : MarkPhase) (m r : UpdateMark)
@@ -323,8 +342,11 @@ known_by marks.Idle m r at is =
 known_by marks.Installing m r at is =
     let same : (let x : Result UpdateMark StartFault = Ok m in x ≡ Ok r) = is in
     let e : m ≡ r = cc in
-    inr (ap (λ (x : UpdateMark). x.phase) (sym e) ∙ at)
-known_by marks.Staged m r at is = absurd cc
+    inr (inl (ap (λ (x : UpdateMark). x.phase) (sym e) ∙ at))
+known_by marks.Staged m r at is =
+    let same : (let x : Result UpdateMark StartFault = Ok m in x ≡ Ok r) = is in
+    let e : m ≡ r = cc in
+    inr (inr (ap (λ (x : UpdateMark). x.phase) (sym e) ∙ at))
 known_by marks.Merging m r at is = absurd cc
 known_by marks.Completed m r at is = absurd cc
 
@@ -337,9 +359,37 @@ pub known_phase : (image : Image) (m : UpdateMark) → mark_in image ≡ Ok m �
 unfolding mark_in
 known_phase image m is = known_of (mark_of (image 2048)) m is
 
-plan_there : (slot : ℕ) (ss : List Scanned) (image : Image) (t u : Table)
-    → phase_on slot image (installing.plan slot (t ∷ u ∷ []) ss) ≢ phases.Idle
-plan_there slot ss image t u is = absurd cc
+-- its slot is a or b
+slot_known : (phase : MarkPhase) (m r : UpdateMark)
+    → m.slot < 2
+    → unless (is_known phase) (BadMark 2048) (Ok m) ≡ Ok r
+    → r.slot < 2
+slot_known marks.Idle m r below is =
+    let same : (let x : Result UpdateMark StartFault = Ok m in x ≡ Ok r) = is in
+    let e : m ≡ r = cc in
+    subst (λ (x : UpdateMark). x.slot < 2) e below
+slot_known marks.Installing m r below is =
+    let same : (let x : Result UpdateMark StartFault = Ok m in x ≡ Ok r) = is in
+    let e : m ≡ r = cc in
+    subst (λ (x : UpdateMark). x.slot < 2) e below
+slot_known marks.Staged m r below is =
+    let same : (let x : Result UpdateMark StartFault = Ok m in x ≡ Ok r) = is in
+    let e : m ≡ r = cc in
+    subst (λ (x : UpdateMark). x.slot < 2) e below
+slot_known marks.Merging m r below is = absurd cc
+slot_known marks.Completed m r below is = absurd cc
+
+slot_read : (bytes : List ℕ) (x : Result UpdateMark MarkFault) (r : UpdateMark)
+    → mark_of bytes ≡ x
+    → mark_read x ≡ Ok r
+    → r.slot < 2
+slot_read bytes (Ok m) r of is = slot_known m.phase m r (mark_slot bytes m of) is
+slot_read bytes (Err fault) r of is =
+    absurd (let bad : (let x : Result UpdateMark StartFault = Err (BadMark 2048) in x ≡ Ok r) = is in cc)
+
+pub slot_below : (image : Image) (m : UpdateMark) → mark_in image ≡ Ok m → m.slot < 2
+unfolding mark_in
+slot_below image m is = slot_read (image 2048) (mark_of (image 2048)) m refl is
 
 tables_two : (size : ℕ) (g : Geometry) (slot other : ℕ) (image : Image) (ts : List Table)
     → tables_in size g (slot ∷ other ∷ []) image ≡ Ok ts
@@ -359,26 +409,49 @@ tables_two size g slot other image ts is =
 -- where no update is said to be there, the disk was read without one
 pub idle_read_of : (size : ℕ) (r : Read) (image : Image)
     → Reads size r image
-    → phase_on r.mark.slot image (kept r).plan ≡ phases.Idle
+    → phase_on (kept r) image ≡ phases.Idle
     → r.mark.phase ≡ marks.Idle
 idle_read_of size r image reads none =
     ⊎_elim (λ idle. idle)
-    (λ installing_now.
-    let two = tables_two size r.geometry r.mark.slot (other_slot r.mark.slot) image r.tables
-    (subst (λ (p : MarkPhase). tables_in size r.geometry ((phase_at p).tables r.mark.slot) image ≡ Ok r.tables)
-    installing_now reads.tables) in
-    let there : phase_on r.mark.slot image (installing.plan r.mark.slot (two.0 ∷ two.1 ∷ []) r.scanned)
-    ≡ phases.Idle =
-    subst
-    (λ (ts : List Table).
-    phase_on r.mark.slot image (installing.plan r.mark.slot ts r.scanned) ≡ phases.Idle)
-    two.2
-    (subst
-    (λ (p : MarkPhase).
-    phase_on r.mark.slot image ((phase_at p).plan r.mark.slot r.tables r.scanned) ≡ phases.Idle)
-    installing_now none) in
-    absurd (plan_there r.mark.slot r.scanned image two.0 two.1 there))
+    (λ update. ⊎_elim {C = r.mark.phase ≡ marks.Idle} installs stages update)
     (known_phase image r.mark reads.mark)
+  where
+    left : ℕ
+    left = count_at (kept r).a + count_at (kept r).b
+
+    installs : r.mark.phase ≡ marks.Installing → r.mark.phase ≡ marks.Idle
+    installs is =
+        let two = tables_two size r.geometry r.mark.slot (other_slot r.mark.slot) image r.tables
+        (subst (λ (p : MarkPhase). tables_in size r.geometry ((phase_at p).tables r.mark.slot) image ≡ Ok r.tables)
+        is reads.tables) in
+        let there : phase_by r.mark left
+        (entries_on image (installing.plan r.mark.slot (two.0 ∷ two.1 ∷ []) r.scanned))
+        ≡ phases.Idle =
+        subst
+        (λ (ts : List Table).
+        phase_by r.mark left (entries_on image (installing.plan r.mark.slot ts r.scanned))
+        ≡ phases.Idle)
+        two.2
+        (subst
+        (λ (p : MarkPhase).
+        phase_by r.mark left
+        (entries_on image ((phase_at p).plan r.mark.slot r.tables r.scanned))
+        ≡ phases.Idle)
+        is none) in
+        absurd cc
+
+    stages : r.mark.phase ≡ marks.Staged → r.mark.phase ≡ marks.Idle
+    stages is =
+        let unplanned_is : unplanned r.mark.phase r.mark.slot left ≡ phases.Idle =
+        subst
+        (λ (p : MarkPhase).
+        phase_by r.mark left
+        (entries_on image ((phase_at p).plan r.mark.slot r.tables r.scanned))
+        ≡ phases.Idle)
+        is none in
+        let there : unplanned marks.Staged r.mark.slot left ≡ phases.Idle =
+        subst (λ (p : MarkPhase). unplanned p r.mark.slot left ≡ phases.Idle) is unplanned_is in
+        absurd cc
 
 pub tables_first : (size : ℕ) (g : Geometry) (slot : ℕ) (slots : List ℕ) (image : Image)
     (ts : List Table)
@@ -396,10 +469,10 @@ pub source_table : (size : ℕ) (r : Read) (image : Image)
     → Reads size r image
     → (t : Table) × (rest : List Table) × (r.tables ≡ t ∷ rest)
 source_table size r image reads =
-    let single = single_at r.mark.phase in
-    tables_first size r.geometry r.mark.slot (single.others r.mark.slot) image r.tables
+    let of = of_phase r.mark.phase in
+    tables_first size r.geometry r.mark.slot (of.others r.mark.slot) image r.tables
     (subst (λ (f : ℕ → List ℕ). tables_in size r.geometry (f r.mark.slot) image ≡ Ok r.tables)
-    single.tables reads.tables)
+    of.tables reads.tables)
 
 tables_one : (size : ℕ) (g : Geometry) (slot : ℕ) (image : Image) (ts : List Table)
     → tables_in size g (slot ∷ []) image ≡ Ok ts
@@ -420,42 +493,91 @@ one_table size r image is reads =
     (subst (λ (p : Phase). tables_in size r.geometry (p.tables r.mark.slot) image ≡ Ok r.tables)
     (idle_at r.mark.phase is) reads.tables)
 
-some_parts : (slot own : ℕ) (others : List ℕ) (t : Table) (ts : List Table)
-    → is_some (parts_for slot (own == slot) (table_for slot (own ∷ others) (t ∷ ts)))
-    ≡ (own == slot)
-some_parts slot own others t ts = elim (cases_Bool (own == slot)) [
+tables_long : (size : ℕ) (g : Geometry) (slots : List ℕ) (image : Image) (ts : List Table)
+    → tables_in size g slots image ≡ Ok ts
+    → length ts ≡ length slots
+tables_long size g [] image ts is =
+    let none : (let x : Result (List Table) StartFault = Ok [] in x ≡ Ok ts) = is in
+    let e : [] ≡ ts = cc in
+    ap length (sym e)
+tables_long size g (slot ∷ slots) image ts is =
+    let t = bound (table_at size g slot image)
+    (λ t. tables_in size g slots image >>= λ ts. Ok (t ∷ ts)) ts is in
+    let rest = bound (tables_in size g slots image) (λ ts. Ok (t.0 ∷ ts)) ts t.2 in
+    let whole : Ok (t.0 ∷ rest.0) ≡ Ok ts = rest.2 in
+    let e : t.0 ∷ rest.0 ≡ ts = cc in
+    ap length (sym e) ∙ ap suc (tables_long size g slots image rest.0 rest.1)
+
+some_first : (k own : ℕ) (others : List ℕ) (through : Bool) (ss : List Scanned) (t : Table)
+    (ts : List Table)
+    → is_some (parts_for k (own == k) through ss (table_for k (own ∷ others) (t ∷ ts)))
+    ≡ (own == k)
+some_first k own others through ss t ts = elim (cases_Bool (own == k)) [
   | inl same ↦ rw same refl
   | inr other ↦ rw other refl
 ]
+
+some_both : (k own : ℕ) (through : Bool) (ss : List Scanned) (t u : Table) (ts : List Table)
+    → k < 2
+    → own < 2
+    → is_some
+    (parts_for k true through ss (table_for k (own ∷ other_slot own ∷ []) (t ∷ u ∷ ts)))
+    ≡ true
+some_both zero zero through ss t u ts k_below below = refl
+some_both zero (suc zero) through ss t u ts k_below below = refl
+some_both (suc zero) zero through ss t u ts k_below below = refl
+some_both (suc zero) (suc zero) through ss t u ts k_below below = refl
+some_both zero (suc (suc n)) through ss t u ts k_below below = absurd (omega (arith, below))
+some_both (suc zero) (suc (suc n)) through ss t u ts k_below below = absurd (omega (arith, below))
+some_both (suc (suc k)) own through ss t u ts k_below below = absurd (omega (arith, k_below))
+
+-- whether the partitions of slot k are there where the phase says that it has images
+abbrev AreThere : MarkPhase → (slot : ℕ) → List Table → List Scanned → Type 0
+AreThere m slot ts ss =
+    (is_some (parts_for 0 ((phase_at m).has_a slot) ((phase_at m).through slot 0) ss
+    (table_for 0 ((phase_at m).tables slot) ts))
+    ≡ (phase_at m).has_a slot)
+    × (is_some (parts_for 1 ((phase_at m).has_b slot) ((phase_at m).through slot 1) ss
+    (table_for 1 ((phase_at m).tables slot) ts))
+    ≡ (phase_at m).has_b slot)
+
+are_there : (m : MarkPhase) (slot : ℕ) (ts : List Table) (ss : List Scanned)
+    → slot < 2
+    → length ts ≡ length ((phase_at m).tables slot)
+    → AreThere m slot ts ss
+are_there m slot [] ss below long = absurd (none_read m long)
+  where
+    none_read : (m : MarkPhase) → 0 ≡ length ((phase_at m).tables slot) → ⊥
+    none_read marks.Idle is = omega (arith, is)
+    none_read marks.Installing is = omega (arith, is)
+    none_read marks.Staged is = omega (arith, is)
+    none_read marks.Merging is = omega (arith, is)
+    none_read marks.Completed is = omega (arith, is)
+are_there marks.Idle slot (t ∷ ts) ss below long =
+    (some_first 0 slot [] false ss t ts, some_first 1 slot [] false ss t ts)
+are_there marks.Installing slot (t ∷ ts) ss below long =
+    (some_first 0 slot (other_slot slot ∷ []) false ss t ts, some_first 1 slot (other_slot slot ∷ []) false ss t ts)
+are_there marks.Staged slot (t ∷ []) ss below long = absurd (omega (arith, long))
+are_there marks.Staged slot (t ∷ u ∷ ts) ss below long = (
+  some_both 0 slot (other_slot slot == 0) ss t u ts (omega arith) below,
+  some_both 1 slot (other_slot slot == 1) ss t u ts (omega arith) below,
+)
+are_there marks.Merging slot (t ∷ ts) ss below long =
+    (some_first 0 slot [] false ss t ts, some_first 1 slot [] false ss t ts)
+are_there marks.Completed slot (t ∷ ts) ss below long =
+    (some_first 0 slot [] false ss t ts, some_first 1 slot [] false ss t ts)
 
 -- a slot has partitions where the phase says that it has images
 pub record HasImages (r : Read) : Type 0 where
   pub a : is_some (kept r).a ≡ (phase_at r.mark.phase).has_a r.mark.slot
   pub b : is_some (kept r).b ≡ (phase_at r.mark.phase).has_b r.mark.slot
 
-has_parts : (slot : ℕ) (p : Phase) (ts : List Table) (t : Table) (rest : List Table)
-    → IsSingle p
-    → ts ≡ t ∷ rest
-    → (is_some (parts_for 0 (p.has_a slot) (table_for 0 (p.tables slot) ts)) ≡ p.has_a slot)
-    × (is_some (parts_for 1 (p.has_b slot) (table_for 1 (p.tables slot) ts)) ≡ p.has_b slot)
-has_parts slot p ts t rest single one =
-    let P : (ℕ → Bool) → (ℕ → List ℕ) → List Table → ℕ → Type 0 = λ has tables ts k.
-    is_some (parts_for k (has slot) (table_for k (tables slot) ts)) ≡ has slot in
-    let whole : (k : ℕ) → P (λ slot. slot == k) p.tables ts k =
-    λ k.
-    subst (λ (f : ℕ → List ℕ). P (λ slot. slot == k) f ts k) (sym single.tables)
-    (subst (λ (l : List Table). P (λ slot. slot == k) (λ slot. slot ∷ single.others slot) l k)
-    (sym one)
-    (some_parts k slot (single.others slot) t rest)) in (
-      subst (λ (has : ℕ → Bool). P has p.tables ts 0) (sym single.has_a) (whole 0),
-      subst (λ (has : ℕ → Bool). P has p.tables ts 1) (sym single.has_b) (whole 1),
-    )
-
 pub has_images : (size : ℕ) (r : Read) (image : Image) → Reads size r image → HasImages r
 has_images size r image reads =
-    let one = source_table size r image reads in
-    let both = has_parts r.mark.slot (phase_at r.mark.phase) r.tables one.0 one.1
-    (single_at r.mark.phase) one.2 in
+    let both = are_there r.mark.phase r.mark.slot r.tables r.scanned
+    (slot_below image r.mark reads.mark)
+    (tables_long size r.geometry ((phase_at r.mark.phase).tables r.mark.slot) image r.tables
+    reads.tables) in
     record { a = both.0; b = both.1 }
 
 -- ---- a kept device

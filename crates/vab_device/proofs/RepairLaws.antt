@@ -104,7 +104,7 @@ AreSlots (j ∷ js) = (j < 2) × AreSlots js
 slots_read : (m : MarkPhase) (slot : ℕ) → slot < 2 → AreSlots ((phase_at m).tables slot)
 slots_read marks.Idle slot below = (below, tt)
 slots_read marks.Installing slot below = (below, (omega arith, tt))
-slots_read marks.Staged slot below = (below, tt)
+slots_read marks.Staged slot below = (below, (omega arith, tt))
 slots_read marks.Merging slot below = (below, tt)
 slots_read marks.Completed slot below = (below, tt)
 
@@ -158,9 +158,9 @@ repair_same size n k r old new geometry slot k_below fits reads others table =
           (λ s is. behind s (stores_behind size (end_of g k) r old s reads within is))
           reads.stores;
       images_a = images_same old new (kept r).a
-          (λ s is. behind s (images_behind size (end_of g k) 0 _ r old s reads within is));
+          (λ s is. behind s (images_behind size (end_of g k) 0 _ _ r old s reads within is));
       images_b = images_same old new (kept r).b
-          (λ s is. behind s (images_behind size (end_of g k) 1 _ r old s reads within is));
-      plan = plan_kept r.mark.slot (kept r).plan old new
+          (λ s is. behind s (images_behind size (end_of g k) 1 _ _ r old s reads within is));
+      plan = plan_kept (kept r).plan old new
           (λ s is. behind s (plan_behind size (end_of g k) r old s reads within is));
     }

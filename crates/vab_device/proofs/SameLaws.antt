@@ -123,7 +123,7 @@ agrees_same size r old new reads agrees = record {
       reads.stores;
   images_a = images_same old new (kept r).a (λ s is. agrees s (Live.of_images_a is));
   images_b = images_same old new (kept r).b (λ s is. agrees s (Live.of_images_b is));
-  plan = plan_kept r.mark.slot (kept r).plan old new (λ s is. agrees s (Live.of_plan is));
+  plan = plan_kept (kept r).plan old new (λ s is. agrees s (Live.of_plan is));
 }
 
 -- The second: writes that miss them are dead.

@@ -16,11 +16,11 @@ use Rattle.vab_statuses.specs.Statuses.{IsOfStatuses}
 use Rattle.vab_statuses.proofs.StatusesLaws.{statuses_same}
 use Rattle.vab_device.specs.declared.fault.StartFault.{StartFault}
 use Rattle.vab_device.specs.declared.fault.StartFault.TheVariants.{BadStore}
-use Rattle.vab_device.specs.declared.device.Planned.{Planned}
-use Rattle.vab_device.specs.declared.device.PlannedImage.{PlannedImage}
-use Rattle.vab_device.specs.declared.device.PlannedImage.TheVariants.{Kept, Declared, Written}
+use Rattle.vab_device.specs.declared.device.Part.{Part}
+use Rattle.vab_device.specs.declared.device.PartImage.{PartImage}
+use Rattle.vab_device.specs.declared.device.PartImage.TheVariants.{Kept, Declared, Written}
 use Rattle.vab_device.specs.Checks.{◌>>=◌}
-use Rattle.vab_device.specs.Mounted.{written_sectors, planned_on, entry_on, phase_on}
+use Rattle.vab_device.specs.Mounted.{written_sectors, planned_on, entry_on, entries_on}
 use Rattle.vab_device.specs.Reading.{statuses_read, statuses_at, IsOfBlocks, IsOfStores}
 use Rattle.vab_device.specs.Reading.{IsOfWritten, IsOfPlanned, IsOfPlan}
 use Rattle.vab_device.specs.Stores.{Wanted, Scanned, scan_read, scan_at, scans_in}
@@ -110,14 +110,14 @@ stores_kept (Ok w ∷ ws) old new ss same is =
 
 -- ---- the partitions that are planned
 
-image_kept : (p : Planned) (image : PlannedImage) (old new : Image)
+image_kept : (p : Part) (image : PartImage) (old new : Image)
     → ((s : ℕ) → IsOfWritten p image s → new s ≡ old s)
     → planned_on new p image ≡ planned_on old p image
 image_kept p Kept old new same = refl
 image_kept p Declared old new same = refl
 image_kept p (Written es) old new same = rw (bytes_same old new (written_sectors p es) same) refl
 
-planned_kept : (plan : List Planned) (old new : Image)
+planned_kept : (plan : List Part) (old new : Image)
     → ((s : ℕ) → IsOfPlanned plan s → new s ≡ old s)
     → map (entry_on new) plan ≡ map (entry_on old) plan
 planned_kept [] old new same = refl
@@ -127,8 +127,8 @@ planned_kept (p ∷ ps) old new same =
     let rest = planned_kept ps old new (λ s is. same s (inr is)) in
     (λ i. here i ∷ rest i)
 
-pub plan_kept : (source : ℕ) (plan : Option (List Planned)) (old new : Image)
+pub plan_kept : (plan : Option (List Part)) (old new : Image)
     → ((s : ℕ) → IsOfPlan plan s → new s ≡ old s)
-    → phase_on source new plan ≡ phase_on source old plan
-plan_kept source None old new same = refl
-plan_kept source (Some plan) old new same = rw (planned_kept plan old new same) refl
+    → entries_on new plan ≡ entries_on old plan
+plan_kept None old new same = refl
+plan_kept (Some plan) old new same = ap Some (planned_kept plan old new same)

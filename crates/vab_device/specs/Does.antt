@@ -8,7 +8,7 @@ use Rattle.vab_model.specs.declared.command.Reply.{Reply}
 use Rattle.vab_model.specs.Commands.{Command}
 use Rattle.vab_model.specs.Effects.{Effect, steps_of, after_of, IsOneOf, unless_refused}
 use Rattle.vab_device.specs.declared.device.Device.{Device}
-use Rattle.vab_device.specs.Kept.{IsDevice}
+use Rattle.vab_device.specs.Kept.{IsDevice, parts_at}
 use Rattle.vab_device.specs.Mounted.{Mounted, mounted_on}
 use Rattle.vab_device.specs.Reading.{device, Represents}
 use Rattle.vab_device.specs.Updates.{effect_on}
@@ -33,13 +33,12 @@ abbrev pub effect_of : {D : Type 0}
 effect_of g d staged command refused old =
     unless_refused refused command (effect_on (mounted_on d (g.seen old)) staged command)
 
--- What no command takes from a device, while no update is ready to be booted: where the tables
--- stand, the slot of the update mark, and the partitions of the slots with images.
+-- What no command takes from a device: where the tables stand, the slot of the update mark, and the
+-- partitions of that slot.
 pub record KeepsSource (d next : Device) : Type 0 where
   pub geometry : next.geometry ≡ d.geometry
   pub slot : next.mark.slot ≡ d.mark.slot
-  pub a : next.a ≡ d.a
-  pub b : next.b ≡ d.b
+  pub parts : parts_at next d.mark.slot ≡ parts_at d d.mark.slot
 
 -- The reply and the device after it are those of the table of effects, and where nothing was
 -- pending each outcome since is one of its steps. It touches such sectors alone. Memory may be

@@ -22,9 +22,8 @@ use Rattle.vab_layout.specs.Slots.{other_slot, own_parts, IsOwn, IsTarget}
 use Rattle.vab_layout.specs.Plain.{own_groups}
 use Rattle.vab_model.specs.declared.state.GroupLimit.{GroupLimit}
 use Rattle.vab_device.specs.declared.device.Part.{Part}
-use Rattle.vab_device.specs.declared.device.Planned.{Planned}
-use Rattle.vab_device.specs.declared.device.PlannedImage.{PlannedImage}
-use Rattle.vab_device.specs.declared.device.PlannedImage.TheVariants.{Kept, Declared, Written}
+use Rattle.vab_device.specs.declared.device.PartImage.{PartImage}
+use Rattle.vab_device.specs.declared.device.PartImage.TheVariants.{Kept, Declared, Written}
 use Rattle.vab_device.specs.declared.device.PhaseKind.{PhaseKind}
 use Rattle.vab_device.specs.declared.device.PhaseKind.TheVariants as kinds
 use Rattle.vab_device.specs.declared.device.Device.{Device}
@@ -39,11 +38,14 @@ block_sector first b = 4096 + first + 8 * b
 unfoldable pub sectors_of : ℕ → List ℕ → List ℕ
 sectors_of first blocks = map (block_sector first) blocks
 
+-- a partition without a store
 abbrev pub part_on : ℕ → PartOfLayout → Part
 part_on first p = record {
   name = base_of p.name;
   group = p.group;
   map = sectors_of first p.blocks;
+  store = None;
+  image = Kept;
 }
 
 -- a slot's own partitions
@@ -76,12 +78,28 @@ lies_in size g d =
 
 -- ---- what holds of a kept device over every disk
 
--- Its name, and at most 2^28 blocks on the disk, none twice.
+-- the blocks of a store lie on the disk, none twice
+pub record IsStore (size : ℕ) (store : List ℕ) : Type 0 where
+  pub on_disk : All (λ s. s + 8 ≤ size) store
+  pub once : AllPairs (λ a b. a ≢ b) store
+
+-- A partition that is written has a store, and its exceptions keep the rules of a list.
+abbrev pub IsStored : ℕ → List ℕ → Option (List ℕ) → PartImage → Type 0
+IsStored size base None Kept = Unit {0}
+IsStored size base None Declared = Unit {0}
+IsStored size base None (Written es) = ⊥
+IsStored size base (Some store) Kept = IsStore size store
+IsStored size base (Some store) Declared = IsStore size store
+IsStored size base (Some store) (Written es) =
+    IsStore size store × Fits (length base) store es
+
+-- Its name, at most 2^28 blocks on the disk, none twice, and its store.
 pub record IsPart (size : ℕ) (p : Part) : Type 0 where
   pub name : IsTrue (is_base p.name)
   pub on_disk : All (λ s. s + 8 ≤ size) p.map
   pub once : AllPairs (λ a b. a ≢ b) p.map
   pub small : length p.map ≤ 2 ^ 28
+  pub store : IsStored size p.map p.store p.image
 
 -- at most 32 partitions of a slot
 pub record AreParts (size : ℕ) (parts : List Part) : Type 0 where
@@ -104,39 +122,6 @@ abbrev pub IsKeptTable : ℕ → Geometry → ℕ → Option Table → Type 0
 IsKeptTable size g slot None = Unit {0}
 IsKeptTable size g slot (Some t) = IsTableOf size g slot t
 
--- ---- a kept plan
-
--- the blocks of a store lie on the disk, none twice
-pub record IsStore (size : ℕ) (store : List ℕ) : Type 0 where
-  pub on_disk : All (λ s. s + 8 ≤ size) store
-  pub once : AllPairs (λ a b. a ≢ b) store
-
--- A partition that is written has a store, and its exceptions keep the rules of a list.
-abbrev pub IsStored : ℕ → List ℕ → Option (List ℕ) → PlannedImage → Type 0
-IsStored size base None Kept = Unit {0}
-IsStored size base None Declared = Unit {0}
-IsStored size base None (Written es) = ⊥
-IsStored size base (Some store) Kept = IsStore size store
-IsStored size base (Some store) Declared = IsStore size store
-IsStored size base (Some store) (Written es) =
-    IsStore size store × Fits (length base) store es
-
-pub record IsPlanned (size : ℕ) (p : Planned) : Type 0 where
-  pub name : IsTrue (is_base p.name)
-  pub on_disk : All (λ s. s + 8 ≤ size) p.map
-  pub once : AllPairs (λ a b. a ≢ b) p.map
-  pub small : length p.map ≤ 2 ^ 28
-  pub store : IsStored size p.map p.store p.image
-
--- at most 32 partitions
-pub record ArePlanned (size : ℕ) (plan : List Planned) : Type 0 where
-  pub each : All (IsPlanned size) plan
-  pub few : length plan ≤ 32
-
-abbrev pub IsPlan : ℕ → Option (List Planned) → Type 0
-IsPlan size None = Unit {0}
-IsPlan size (Some plan) = ArePlanned size plan
-
 -- the table of a slot
 abbrev pub table_of_slot : Device → ℕ → Option Table
 table_of_slot d slot = if slot == 0 then d.table_a else d.table_b
@@ -151,6 +136,8 @@ IsUpdate source None t = Unit {0}
 IsUpdate source (Some s) None = Unit {0}
 IsUpdate source (Some s) (Some t) = AreOfUpdate source s t
 
+-- ---- phases
+
 abbrev pub is_installing : MarkPhase → Bool
 is_installing marks.Idle = false
 is_installing marks.Installing = true
@@ -158,39 +145,66 @@ is_installing marks.Staged = false
 is_installing marks.Merging = false
 is_installing marks.Completed = false
 
+-- both slots have images
+abbrev pub has_both : MarkPhase → Bool
+has_both marks.Idle = false
+has_both marks.Installing = false
+has_both marks.Staged = true
+has_both marks.Merging = false
+has_both marks.Completed = false
+
+-- the tables of both slots are read
+abbrev pub reads_both : MarkPhase → Bool
+reads_both marks.Idle = false
+reads_both marks.Installing = true
+reads_both marks.Staged = true
+reads_both marks.Merging = false
+reads_both marks.Completed = false
+
+-- a slot has images: that of the mark, or each of both
+abbrev pub has_slot : MarkPhase → (own slot : ℕ) → Bool
+has_slot phase own slot = if has_both phase then true else own == slot
+
 -- the phases that a device may be in
 abbrev pub IsPhase : MarkPhase → Type 0
-IsPhase phase = (phase ≡ marks.Idle) ⊎ (phase ≡ marks.Installing)
+IsPhase phase = (phase ≡ marks.Idle) ⊎ (phase ≡ marks.Installing) ⊎ (phase ≡ marks.Staged)
 
-abbrev pub phase_by : Option (List Planned) → ℕ → PhaseKind
-phase_by None slot = kinds.Idle
-phase_by (Some plan) slot = kinds.Installing slot
+abbrev pub kind_of : MarkPhase → ℕ → PhaseKind
+kind_of marks.Idle slot = kinds.Idle
+kind_of marks.Installing slot = kinds.Installing slot
+kind_of marks.Staged slot = kinds.Staged slot
+kind_of marks.Merging slot = kinds.Merging slot
+kind_of marks.Completed slot = kinds.Idle
 
 -- where an update stands
 abbrev pub phase_kind : Device → PhaseKind
-phase_kind d = phase_by d.plan d.mark.slot
+phase_kind d = kind_of d.mark.phase d.mark.slot
 
--- On a disk of so many sectors. The slot of the mark has images and a table, and the other has
--- no images. While an update is installed, the other has a table as well, and its partitions are
--- planned.
+-- the partitions of a slot, where it has images
+abbrev pub parts_at : Device → ℕ → Option (List Part)
+parts_at d slot = if slot == 0 then d.a else d.b
+
+-- On a disk of so many sectors. The slot of the mark has images and a table, and it is current, or
+-- the other is where that has images as well. While an update is installed, the other has a table,
+-- and its partitions are planned; where the update is ready to be booted, it has images.
 pub record IsDevice (d : Device) (size : ℕ) : Type 0 where
   pub enough : 4120 ≤ size
   pub geometry : IsGeometry d.geometry
   pub control : FitsControl d.control
   pub phase : IsPhase d.mark.phase
   pub slot : d.mark.slot < 2
-  pub current : d.control.current ≡ d.mark.slot
-  pub has_a : is_some d.a ≡ (d.mark.slot == 0)
-  pub has_b : is_some d.b ≡ (d.mark.slot == 1)
+  pub current : has_slot d.mark.phase d.mark.slot d.control.current ≡ true
+  pub has_a : is_some d.a ≡ has_slot d.mark.phase d.mark.slot 0
+  pub has_b : is_some d.b ≡ has_slot d.mark.phase d.mark.slot 1
   pub copies_on : copies_end d.geometry ≤ super_bytes size
   pub parts_a : ArePresent size d.a
   pub parts_b : ArePresent size d.b
   pub table_a : IsKeptTable size d.geometry 0 d.table_a
   pub table_b : IsKeptTable size d.geometry 1 d.table_b
   pub source : is_some (table_of_slot d d.mark.slot) ≡ true
-  pub target : is_some (table_of_slot d (other_slot d.mark.slot)) ≡ is_installing d.mark.phase
+  pub target : is_some (table_of_slot d (other_slot d.mark.slot)) ≡ reads_both d.mark.phase
   pub planned : is_some d.plan ≡ is_installing d.mark.phase
-  pub plan : IsPlan size d.plan
+  pub plan : ArePresent size d.plan
   pub update : IsUpdate d.mark.slot
       (table_of_slot d d.mark.slot)
       (table_of_slot d (other_slot d.mark.slot))

@@ -1,11 +1,15 @@
 -- A device with its images: the state that it is in, and where its partitions stand.
-use Rattle.std.specs.Prelude.{ℕ, List, [], map, length, Bool, if◌then◌else◌, Option, Some, None}
+use Rattle.std.specs.Prelude.{ℕ, ◌+◌, List, [], ◌∷◌, map, length, Bool, if◌then◌else◌, Option}
+use Rattle.std.specs.Prelude.{Some, None}
 use Rattle.std.specs.Prelude.{is_some}
 use Rattle.std.specs.List.{flat_map}
 use Rattle.std.specs.Option.{option_map}
 use Rattle.vab_disk.specs.Disk.{Image}
 use Rattle.vab_gate.specs.Gate.{sectors_at}
 use Rattle.vab_bootctl.specs.declared.slots.Control.{Control}
+use Rattle.vab_marks.specs.declared.mark.MarkPhase.{MarkPhase}
+use Rattle.vab_marks.specs.declared.mark.MarkPhase.TheVariants as marks
+use Rattle.vab_marks.specs.declared.mark.UpdateMark.{UpdateMark}
 use Rattle.vab_tables.specs.declared.table.Table.{Table}
 use Rattle.vab_geometry.specs.declared.geometry.Geometry.{Geometry}
 use Rattle.vab_layout.specs.declared.layout.Layout.{Layout}
@@ -18,14 +22,13 @@ use Rattle.vab_model.specs.declared.state.PlanImage.TheVariants as planned
 use Rattle.vab_model.specs.declared.state.PlanEntry.{PlanEntry}
 use Rattle.vab_model.specs.declared.state.State.{State}
 use Rattle.vab_model.specs.declared.state.Phase.{Phase}
-use Rattle.vab_model.specs.declared.state.Phase.TheVariants.{Idle, Installing}
+use Rattle.vab_model.specs.declared.state.Phase.TheVariants.{Idle, Installing, Staged, Merging}
 use Rattle.vab_model.specs.State.{control_seen}
 use Rattle.vab_model.specs.Commands.{Command}
 use Rattle.vab_model.specs.Effects.{Effect, effect, effect_map}
 use Rattle.vab_device.specs.declared.device.Part.{Part}
-use Rattle.vab_device.specs.declared.device.Planned.{Planned}
-use Rattle.vab_device.specs.declared.device.PlannedImage.{PlannedImage}
-use Rattle.vab_device.specs.declared.device.PlannedImage.TheVariants.{Kept, Declared, Written}
+use Rattle.vab_device.specs.declared.device.PartImage.{PartImage}
+use Rattle.vab_device.specs.declared.device.PartImage.TheVariants.{Kept, Declared, Written}
 use Rattle.vab_device.specs.declared.device.Device.{Device}
 use Rattle.vab_device.specs.Kept.{group_of}
 use Rattle.vab_device.specs.Stores.{sectors_seen}
@@ -47,9 +50,23 @@ pub record Mounted : Type 0 where
 unfoldable pub bytes_at : Image → List ℕ → List ℕ
 bytes_at image blocks = flat_map (λ s. sectors_at 8 image s) blocks
 
+-- where a store stands; nowhere, where there is none
+abbrev pub blocks_there : Option (List ℕ) → List ℕ
+blocks_there None = []
+blocks_there (Some store) = store
+
+-- the sectors that a read of a partition takes that is written through its store
+abbrev pub written_sectors : Part → List Exception → List ℕ
+written_sectors p es = sectors_seen (blocks_there p.store) es 0 p.map
+
+abbrev pub sectors_by : Part → PartImage → List ℕ
+sectors_by p Kept = p.map
+sectors_by p Declared = p.map
+sectors_by p (Written es) = written_sectors p es
+
 -- for each block of a partition, the first of the sectors that a read of it takes
 abbrev pub sectors_read : Part → List ℕ
-sectors_read p = p.map
+sectors_read p = sectors_by p p.image
 
 abbrev pub image_on : Image → Part → ImageOfSlot
 image_on image p = record {
@@ -64,22 +81,13 @@ images_on image (Some parts) = Some (map (image_on image) parts)
 
 -- ---- the partitions that are planned
 
--- where a store stands; nowhere, where there is none
-abbrev pub blocks_there : Option (List ℕ) → List ℕ
-blocks_there None = []
-blocks_there (Some store) = store
-
--- the sectors that a read of a written partition takes
-abbrev pub written_sectors : Planned → List Exception → List ℕ
-written_sectors p es = sectors_seen (blocks_there p.store) es 0 p.map
-
-abbrev pub planned_on : Image → Planned → PlannedImage → PlanImage
+abbrev pub planned_on : Image → Part → PartImage → PlanImage
 planned_on image p Kept = planned.Kept
 planned_on image p Declared = planned.Declared
 planned_on image p (Written es) =
     planned.Written (bytes_at image (written_sectors p es)) (length es)
 
-abbrev pub entry_on : Image → Planned → PlanEntry
+abbrev pub entry_on : Image → Part → PlanEntry
 entry_on image p = record {
   name = p.name;
   group = group_of p.group;
@@ -88,10 +96,45 @@ entry_on image p = record {
   image = planned_on image p p.image;
 }
 
--- where an update from this source stands
-abbrev pub phase_on : ℕ → Image → Option (List Planned) → Phase
-phase_on source image None = Idle
-phase_on source image (Some plan) = Installing source (map (entry_on image) plan)
+abbrev pub entries_on : Image → Option (List Part) → Option (List PlanEntry)
+entries_on image None = None
+entries_on image (Some plan) = Some (map (entry_on image) plan)
+
+-- ---- how much is left to merge
+
+-- the exceptions of a partition's store
+abbrev pub count_of : PartImage → ℕ
+count_of Kept = 0
+count_of Declared = 0
+count_of (Written es) = length es
+
+-- those of all stores
+abbrev pub count_in : List Part → ℕ
+count_in [] = 0
+count_in (p ∷ ps) = count_of p.image + count_in ps
+
+abbrev pub count_at : Option (List Part) → ℕ
+count_at None = 0
+count_at (Some parts) = count_in parts
+
+-- ---- where an update stands
+
+-- where no partitions are planned
+abbrev pub unplanned : MarkPhase → (slot left : ℕ) → Phase
+unplanned marks.Idle slot left = Idle
+unplanned marks.Installing slot left = Idle
+unplanned marks.Staged slot left = Staged slot left
+unplanned marks.Merging slot left = Merging slot left
+unplanned marks.Completed slot left = Idle
+
+-- by the update mark, with these planned partitions, and so many exceptions in the stores of slots
+-- with images
+abbrev pub phase_by : UpdateMark → (left : ℕ) → Option (List PlanEntry) → Phase
+phase_by m left None = unplanned m.phase m.slot left
+phase_by m left (Some entries) = Installing m.slot entries
+
+abbrev pub phase_on : Device → Image → Phase
+phase_on d image = phase_by d.mark (count_at d.a + count_at d.b) (entries_on image d.plan)
 
 -- ---- a kept device, where the disk has this image
 
@@ -106,7 +149,7 @@ state_on d image = record {
   control = control_on d;
   a = images_on image d.a;
   b = images_on image d.b;
-  phase = phase_on d.mark.slot image d.plan;
+  phase = phase_on d image;
 }
 
 abbrev pub table_placed : ℕ → Bool → Option Table → Option Layout

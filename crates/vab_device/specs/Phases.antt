@@ -1,6 +1,7 @@
 -- A phase of an update: what it reads of a disk, and what it asks of that.
-use Rattle.std.specs.Prelude.{ℕ, ◌==◌, Bool, true, false, not, ◌&&◌, List, [], ◌∷◌, map}
+use Rattle.std.specs.Prelude.{ℕ, ◌==◌, Bool, true, false, not, ◌&&◌, ◌||◌, List, [], ◌∷◌, map}
 use Rattle.std.specs.Prelude.{Option, Some, None, Result, option_map}
+use Rattle.std.specs.List.{list_all}
 use Rattle.vab_bootctl.specs.declared.slots.Info.{Info}
 use Rattle.vab_bootctl.specs.declared.slots.Control.{Control}
 use Rattle.vab_bootctl.specs.Boot.{info_at}
@@ -19,9 +20,9 @@ use Rattle.vab_partitions.specs.TargetRules.{bad_target_of}
 use Rattle.vab_partitions.specs.Twins.{are_twins, are_devices}
 use Rattle.vab_device.specs.declared.fault.StartFault.{StartFault}
 use Rattle.vab_device.specs.declared.fault.StartFault.TheVariants.{BadState, BadTable}
-use Rattle.vab_device.specs.declared.device.Planned.{Planned}
-use Rattle.vab_device.specs.declared.device.PlannedImage.{PlannedImage}
-use Rattle.vab_device.specs.declared.device.PlannedImage.TheVariants.{Kept, Declared, Written}
+use Rattle.vab_device.specs.declared.device.Part.{Part}
+use Rattle.vab_device.specs.declared.device.PartImage.{PartImage}
+use Rattle.vab_device.specs.declared.device.PartImage.TheVariants.{Kept, Declared, Written}
 use Rattle.vab_device.specs.Checks.{Check, check, names_none}
 use Rattle.vab_device.specs.Kept.{sectors_of}
 use Rattle.vab_device.specs.Stores.{Wanted, wanted_of, first_named, Scanned, exceptions_of}
@@ -33,15 +34,17 @@ pub record Phase : Type 0 where
   -- the slots with images
   pub has_a : ℕ → Bool
   pub has_b : ℕ → Bool
+  -- whether the images of a slot are read through stores: the slot of the mark, and that slot
+  pub through : ℕ → ℕ → Bool
   -- the statuses of partitions are read
   pub reads_statuses : Bool
   -- the rules of the tables and of their partitions, and those of the slots
   pub part_checks : ℕ → List Table → List Check
-  pub state_checks : ℕ → Control → List Check
+  pub state_checks : ℕ → Control → List Table → List Scanned → List Check
   -- the stores that are read, in the order of the statuses that name them
   pub stores : ℕ → List Table → List PartStatus → List (Result Wanted StartFault)
   -- the partitions that are planned
-  pub plan : ℕ → List Table → List Scanned → Option (List Planned)
+  pub plan : ℕ → List Table → List Scanned → Option (List Part)
 
 -- a slot may be booted as one that works
 abbrev pub is_good : Info → Bool
@@ -69,9 +72,10 @@ idle = record {
   tables = λ slot. slot ∷ [];
   has_a = λ slot. slot == 0;
   has_b = λ slot. slot == 1;
+  through = λ slot k. false;
   reads_statuses = false;
   part_checks = λ slot. of_first slot (λ t. own_check slot t ∷ []);
-  state_checks = slot_checks;
+  state_checks = λ slot c ts scanned. slot_checks slot c;
   stores = λ slot ts statuses. [];
   plan = λ slot ts scanned. None;
 }
@@ -103,7 +107,7 @@ update_checks source s t =
     ∷ []
 
 -- what is known of a partition that is updated or not, and the exceptions of its store
-abbrev pub planned_image : Bool → Option (List Exception) → PlannedImage
+abbrev pub planned_image : Bool → Option (List Exception) → PartImage
 planned_image false es = Kept
 planned_image true None = Declared
 planned_image true (Some es) = Written es
@@ -114,7 +118,7 @@ store_on l name =
     option_map (λ store. sectors_of l.device.first_logical_sector store.blocks)
     (first_named (store_of name) l.parts)
 
-abbrev pub planned_on : Layout → List Scanned → PartOfLayout → Planned
+abbrev pub planned_on : Layout → List Scanned → PartOfLayout → Part
 planned_on l scanned p = record {
   name = base_of p.name;
   group = p.group;
@@ -124,7 +128,7 @@ planned_on l scanned p = record {
 }
 
 -- the partitions of an update's target
-abbrev pub plan_of : ℕ → Layout → List Scanned → List Planned
+abbrev pub plan_of : ℕ → Layout → List Scanned → List Part
 plan_of target l scanned = map (planned_on l scanned) (own_parts target l.parts)
 
 -- An update is installed: the slot of the mark, its source, has images as without one, and the
@@ -141,18 +145,57 @@ installing = record idle {
       of_both None (λ s t. Some (plan_of (other_slot slot) (layout_of t) scanned)) ts;
 }
 
+-- ---- an update is ready to be booted
+
+-- it needs nothing more to be written
+abbrev pub is_ready : PartImage → Bool
+is_ready Kept = true
+is_ready Declared = false
+is_ready (Written es) = true
+
+abbrev pub are_ready : List Part → Bool
+are_ready parts = list_all (λ p. is_ready p.image) parts
+
+-- the slot that was booted last may be booted again: the source works, and so may the target
+abbrev pub may_run : (source : ℕ) → Control → Bool
+may_run source c =
+    is_good (info_at c source)
+    && (c.current == source || not ((info_at c (other_slot source)).priority == 0))
+
+-- each partition of the target is kept or written
+abbrev pub target_ready : (source : ℕ) → List Table → List Scanned → Bool
+target_ready source ts scanned =
+    of_both true (λ s t. are_ready (plan_of (other_slot source) (layout_of t) scanned)) ts
+
+abbrev pub staged_checks : ℕ → Control → List Table → List Scanned → List Check
+staged_checks source c ts scanned =
+    check (may_run source c) (BadState 2)
+    ∷ check (target_ready source ts scanned) (BadState 3)
+    ∷ []
+
+-- An update is ready to be booted: both slots have images, those of the target, the slot that isn't
+-- the mark's, through their stores.
+abbrev pub staged : Phase
+staged = record installing {
+  has_a = λ slot. true;
+  has_b = λ slot. true;
+  through = λ slot k. other_slot slot == k;
+  state_checks = staged_checks;
+  plan = λ slot ts scanned. None;
+}
+
 -- ---- the phases that there are
 
 abbrev pub is_known : MarkPhase → Bool
 is_known marks.Idle = true
 is_known marks.Installing = true
-is_known marks.Staged = false
+is_known marks.Staged = true
 is_known marks.Merging = false
 is_known marks.Completed = false
 
 abbrev pub phase_at : MarkPhase → Phase
 phase_at marks.Idle = idle
 phase_at marks.Installing = installing
-phase_at marks.Staged = idle
+phase_at marks.Staged = staged
 phase_at marks.Merging = idle
 phase_at marks.Completed = idle

@@ -26,15 +26,14 @@ use Rattle.vab_device.specs.declared.fault.StartFault.{StartFault}
 use Rattle.vab_device.specs.declared.fault.StartFault.TheVariants.{TooSmall, BadMark, BadControl}
 use Rattle.vab_device.specs.declared.fault.StartFault.TheVariants.{BadGeometry, BadTable}
 use Rattle.vab_device.specs.declared.device.Part.{Part}
-use Rattle.vab_device.specs.declared.device.Planned.{Planned}
-use Rattle.vab_device.specs.declared.device.PlannedImage.{PlannedImage}
-use Rattle.vab_device.specs.declared.device.PlannedImage.TheVariants.{Kept, Declared, Written}
+use Rattle.vab_device.specs.declared.device.PartImage.{PartImage}
+use Rattle.vab_device.specs.declared.device.PartImage.TheVariants.{Kept, Declared, Written}
 use Rattle.vab_device.specs.declared.device.Device.{Device}
 use Rattle.vab_device.specs.Checks.{unless, first_fault, passing, ◌>>=◌}
-use Rattle.vab_device.specs.Kept.{parts_of, limits_of, copies_end, super_bytes, lies_in}
-use Rattle.vab_device.specs.Mounted.{Mounted, mounted_on, images_on, sectors_read, phase_on}
+use Rattle.vab_device.specs.Kept.{parts_of, limits_of, copies_end, super_bytes, lies_in, has_slot}
+use Rattle.vab_device.specs.Mounted.{Mounted, mounted_on, images_on, sectors_read, entries_on}
 use Rattle.vab_device.specs.Mounted.{written_sectors}
-use Rattle.vab_device.specs.Phases.{Phase, phase_at, is_known}
+use Rattle.vab_device.specs.Phases.{Phase, phase_at, is_known, plan_of}
 use Rattle.vab_device.specs.Stores.{Wanted, Scanned, scans_in}
 
 -- What the sectors say that the phase reads. The images are left where they stand. Of boot control
@@ -74,6 +73,10 @@ control_read has_a has_b (Err fault) = Err (BadControl fault)
 -- the boot control, in sector 4, as far as slots with images go
 unfoldable pub control_in : Bool → Bool → Image → Result Control StartFault
 control_in has_a has_b image = control_read has_a has_b (control_of (image 4))
+
+-- the boot control as far as the slots with images go
+abbrev pub control_kept : UpdateMark → Control → Control
+control_kept m c = control_seen (has_slot m.phase m.slot 0) (has_slot m.phase m.slot 1) c
 
 abbrev pub geometry_read : ℕ
     → Result Geometry (GeometryFault × GeometryFault)
@@ -130,7 +133,9 @@ abbrev pub part_fault : Read → Option StartFault
 part_fault r = first_fault ((phase_at r.mark.phase).part_checks r.mark.slot r.tables)
 
 abbrev pub state_fault : Read → Option StartFault
-state_fault r = first_fault ((phase_at r.mark.phase).state_checks r.mark.slot r.control)
+state_fault r =
+    first_fault
+    ((phase_at r.mark.phase).state_checks r.mark.slot r.control r.tables r.scanned)
 
 -- the rules of the partitions
 unfoldable pub judged : Read → Result Read StartFault
@@ -156,11 +161,16 @@ table_for slot [] ts = None
 table_for slot (s ∷ ss) [] = None
 table_for slot (s ∷ ss) (t ∷ ts) = if s == slot then Some t else table_for slot ss ts
 
--- a slot's partitions, where it has images
-abbrev pub parts_for : ℕ → Bool → Option Table → Option (List Part)
-parts_for slot false t = None
-parts_for slot true None = None
-parts_for slot true (Some t) = Some (parts_of slot (layout_of t))
+-- a slot's partitions, through their stores or not
+abbrev pub parts_by : ℕ → (through : Bool) → List Scanned → Table → List Part
+parts_by slot false scanned t = parts_of slot (layout_of t)
+parts_by slot true scanned t = plan_of slot (layout_of t) scanned
+
+-- those of a slot that has images
+abbrev pub parts_for : ℕ → (has through : Bool) → List Scanned → Option Table → Option (List Part)
+parts_for slot false through scanned t = None
+parts_for slot true through scanned None = None
+parts_for slot true through scanned (Some t) = Some (parts_by slot through scanned t)
 
 abbrev pub read_table : ℕ → Read → Option Table
 read_table slot r = table_for slot ((phase_at r.mark.phase).tables r.mark.slot) r.tables
@@ -177,8 +187,16 @@ kept r = record {
   mark = r.mark;
   cap = of_first_table 0 (λ t. cap_of (layout_of t).device) r.tables;
   groups = of_first_table [] (λ t. limits_of r.mark.slot t.groups) r.tables;
-  a = parts_for 0 ((phase_at r.mark.phase).has_a r.mark.slot) (read_table 0 r);
-  b = parts_for 1 ((phase_at r.mark.phase).has_b r.mark.slot) (read_table 1 r);
+  a = parts_for 0
+      ((phase_at r.mark.phase).has_a r.mark.slot)
+      ((phase_at r.mark.phase).through r.mark.slot 0)
+      r.scanned
+      (read_table 0 r);
+  b = parts_for 1
+      ((phase_at r.mark.phase).has_b r.mark.slot)
+      ((phase_at r.mark.phase).through r.mark.slot 1)
+      r.scanned
+      (read_table 1 r);
   table_a = read_table 0 r;
   table_b = read_table 1 r;
   plan = (phase_at r.mark.phase).plan r.mark.slot r.tables r.scanned;
@@ -254,7 +272,7 @@ pub record SameRead (size : ℕ) (r : Read) (old new : Image) : Type 0 where
   pub stores : scans_in (stores_of r) new ≡ scans_in (stores_of r) old
   pub images_a : images_on new (kept r).a ≡ images_on old (kept r).a
   pub images_b : images_on new (kept r).b ≡ images_on old (kept r).b
-  pub plan : phase_on r.mark.slot new (kept r).plan ≡ phase_on r.mark.slot old (kept r).plan
+  pub plan : entries_on new (kept r).plan ≡ entries_on old (kept r).plan
 
 -- Writes of such values are dead: each image that has other bytes there alone is read the same.
 abbrev pub Dead : ℕ → Read → Image → (ℕ → List ℕ → Type 0) → Type 0
@@ -289,16 +307,16 @@ IsOfStores (Err fault ∷ ws) s = IsOfStores ws s
 IsOfStores (Ok w ∷ ws) s = IsOfBlocks w.store s ⊎ IsOfStores ws s
 
 -- a sector that a read of a written partition takes
-abbrev pub IsOfWritten : Planned → PlannedImage → ℕ → Type 0
+abbrev pub IsOfWritten : Part → PartImage → ℕ → Type 0
 IsOfWritten p Kept s = ⊥
 IsOfWritten p Declared s = ⊥
 IsOfWritten p (Written es) s = IsOfBlocks (written_sectors p es) s
 
-abbrev pub IsOfPlanned : List Planned → ℕ → Type 0
+abbrev pub IsOfPlanned : List Part → ℕ → Type 0
 IsOfPlanned [] s = ⊥
 IsOfPlanned (p ∷ ps) s = IsOfWritten p p.image s ⊎ IsOfPlanned ps s
 
-abbrev pub IsOfPlan : Option (List Planned) → ℕ → Type 0
+abbrev pub IsOfPlan : Option (List Part) → ℕ → Type 0
 IsOfPlan None s = ⊥
 IsOfPlan (Some plan) s = IsOfPlanned plan s
 

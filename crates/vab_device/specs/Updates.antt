@@ -1,16 +1,19 @@
 -- What the commands of an update make of a device: its begin, the edits of the target's table, and
 -- the image of a partition.
-use Rattle.std.specs.Prelude.{ℕ, ◌*◌, ◌/◌, ◌==◌, Bool, true, false, not, ◌&&◌, nat_lt, nat_le}
+use Rattle.std.specs.Prelude.{ℕ, ◌+◌, ◌*◌, ◌/◌, ◌==◌, Bool, true, false, not, ◌&&◌, nat_lt, nat_le}
 use Rattle.std.specs.Prelude.{if◌then◌else◌, List, [], ◌∷◌, length, map, take, Option, Some, None}
 use Rattle.std.specs.Prelude.{option_map, is_some, Result, Ok, Err}
 use Rattle.std.specs.List.{filter, flat_map, range_with_len}
 use Rattle.std.specs.Str.{bytes_eq}
+use Rattle.std.specs.Ordering.{is_lt, nat_cmp}
+use Rattle.std.specs.Cmp.Lexicographic.{slice_cmp}
 use Rattle.vab_bytes.specs.Number.{field}
 use Rattle.vab_names.specs.Names.{is_full, base_of, store_of}
 use Rattle.vab_space.specs.Space.{need_of}
 use Rattle.vab_store.specs.Writing.{block_of}
 use Rattle.vab_layout.specs.declared.layout.Part.{Part as PartOfLayout}
 use Rattle.vab_layout.specs.declared.layout.Layout.{Layout}
+use Rattle.vab_layout.specs.Plain.{plain}
 use Rattle.vab_layout.specs.Slots.{other_slot, own_parts, is_updated}
 use Rattle.vab_builder.specs.declared.fault.EditFault.{EditFault}
 use Rattle.vab_builder.specs.declared.fault.EditFault.TheVariants as faults
@@ -295,6 +298,77 @@ cancel_effect m (Staged source left) =
     else refuses refusals.RunningTarget
 cancel_effect m (Merging target left) = refuses refusals.Merging
 
+-- ---- an update that is ready to be booted
+
+-- the lesser of two names, byte by byte
+abbrev pub lesser : Option (List ℕ) → List ℕ → Option (List ℕ)
+lesser None name = Some name
+lesser (Some least) name = if is_lt (slice_cmp nat_cmp name least) then Some name else Some least
+
+abbrev pub declared_name : Option (List ℕ) → List ℕ → PlanImage → Option (List ℕ)
+declared_name least name Kept = least
+declared_name least name Declared = lesser least name
+declared_name least name (Written bytes count) = least
+
+-- the least base name of these partitions that are declared and not written, and of that one
+abbrev pub least_declared : Option (List ℕ) → List PlanEntry → Option (List ℕ)
+least_declared least [] = least
+least_declared least (e ∷ es) = least_declared (declared_name least e.name e.image) es
+
+-- how many exceptions all stores have
+abbrev pub written_count : PlanImage → ℕ
+written_count Kept = 0
+written_count Declared = 0
+written_count (Written bytes count) = count
+
+abbrev pub plan_count : List PlanEntry → ℕ
+plan_count [] = 0
+plan_count (e ∷ es) = written_count e.image + plan_count es
+
+-- the image that a partition has in the end: the source's, or what was written
+abbrev pub final_bytes : State → (source : ℕ) → List ℕ → PlanImage → List ℕ
+final_bytes s source name Kept = source_bytes s source name
+final_bytes s source name Declared = []
+final_bytes s source name (Written bytes count) = bytes
+
+abbrev pub final_image : State → (source : ℕ) → PlanEntry → ImageOfSlot
+final_image s source e = record {
+  name = e.name;
+  group = e.group;
+  bytes = final_bytes s source e.name e.image;
+}
+
+-- these images for a slot
+abbrev pub with_images : State → (slot : ℕ) → List ImageOfSlot → State
+with_images s slot images =
+    if slot == 0 then record s { a = Some images } else record s { b = Some images }
+
+-- The target has the images of its plan, and may be booted.
+abbrev pub finished : Mounted → (source : ℕ) → List PlanEntry → Mounted
+finished m source plan =
+    in_phase
+    (record m {
+      state = with_images m.state (other_slot source) (map (final_image m.state source) plan);
+    })
+    source
+    (Staged source (plan_count plan))
+    (option_map (plain (other_slot source)) (layout_at m.places (other_slot source)))
+
+abbrev pub complete_effect : Mounted
+    → (source : ℕ)
+    → List PlanEntry
+    → Option (List ℕ)
+    → Effect Mounted
+complete_effect m source plan None = does replies.Done (finished m source plan)
+complete_effect m source plan (Some name) = refuses (refusals.Incomplete name)
+
+abbrev pub finish_effect : Mounted → Phase → Effect Mounted
+finish_effect m Idle = refuses refusals.NotInstalling
+finish_effect m (Installing source plan) =
+    complete_effect m source plan (least_declared None plan)
+finish_effect m (Staged source left) = refuses refusals.NotInstalling
+finish_effect m (Merging target left) = refuses refusals.NotInstalling
+
 -- ---- the table of effects
 
 -- What a command makes of a device, where these bytes are staged: each command on an update has a
@@ -312,6 +386,6 @@ effect_on m staged Boot = effect_map (in_state m) (effect m.state Boot)
 effect_on m staged Mark = effect_map (in_state m) (effect m.state Mark)
 effect_on m staged (Print name) = effect_map (in_state m) (effect m.state (Print name))
 effect_on m staged (Digest name) = effect_map (in_state m) (effect m.state (Digest name))
-effect_on m staged Finish = effect_map (in_state m) (effect m.state Finish)
+effect_on m staged Finish = finish_effect m m.state.phase
 effect_on m staged BeginMerge = effect_map (in_state m) (effect m.state BeginMerge)
 effect_on m staged (Merge blocks) = effect_map (in_state m) (effect m.state (Merge blocks))

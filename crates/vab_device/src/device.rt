@@ -8,12 +8,23 @@ use vab_bootctl::{Control, Info};
 use vab_bytes::{Listing, Name36};
 use vab_geometry::Geometry;
 use vab_linear::Map;
-use vab_marks::UpdateMark;
+use vab_marks::{MarkPhase, UpdateMark};
 use vab_model::GroupLimit;
 use vab_store::StoreView;
 use vab_tables::Table;
 
-/// A partition of a slot.
+/// What is known of the image of a partition.
+#[derive(Drop)]
+pub enum PartImage {
+    /// What its blocks hold.
+    Kept,
+    /// Nothing yet: an update is to write it.
+    Declared,
+    /// What its blocks hold, but for those that these exceptions of its store have.
+    Written(StoreView),
+}
+
+/// A partition of a slot, or one that the target of an update is to have.
 #[derive(Drop)]
 pub struct Part {
     /// The base name, without the slot's suffix.
@@ -22,31 +33,9 @@ pub struct Part {
     pub group: Name36,
     /// Where its blocks stand on the disk.
     pub map: Map,
-}
-
-/// What is known of the image of a planned partition.
-#[derive(Drop)]
-pub enum PlannedImage {
-    /// It is the source's.
-    Kept,
-    /// There is none yet.
-    Declared,
-    /// It was written: the blocks of these exceptions stand in the store.
-    Written(StoreView),
-}
-
-/// A partition that the target of an update is to have.
-#[derive(Drop)]
-pub struct Planned {
-    /// The base name, without the slot's suffix.
-    pub name: Name36,
-    /// The full name of its group.
-    pub group: Name36,
-    /// Where its blocks stand on the disk.
-    pub map: Map,
-    /// Where the blocks of its exception store stand, if it has one.
+    /// Where the blocks of its exception store stand, while it has one.
     pub store: Option<Map>,
-    pub image: PlannedImage,
+    pub image: PartImage,
 }
 
 /// What is known of a device between two commands. Its images stay on the disk.
@@ -68,7 +57,7 @@ pub struct Device {
     /// The table of slot b, where it is read.
     pub table_b: Option<Table>,
     /// The partitions of the target, while an update is installed.
-    pub plan: Option<Listing<Planned>>,
+    pub plan: Option<Listing<Part>>,
 }
 
 /// Where an update stands.
@@ -78,6 +67,10 @@ pub enum PhaseKind {
     Idle,
     /// An update is installed beside this slot, the source.
     Installing(usize),
+    /// An update from this slot, the source, is ready to be booted.
+    Staged(usize),
+    /// The stores of this slot, the target, are merged into its partitions.
+    Merging(usize),
 }
 
 impl Device {
@@ -92,9 +85,12 @@ impl Device {
     pub fn phase(&self) -> PhaseKind
         ensures { result ≡ phase_kind self.now }
     {
-        match self.plan {
-            None => PhaseKind::Idle,
-            Some(_) => PhaseKind::Installing(self.mark.slot),
+        match self.mark.phase {
+            MarkPhase::Idle => PhaseKind::Idle,
+            MarkPhase::Installing => PhaseKind::Installing(self.mark.slot),
+            MarkPhase::Staged => PhaseKind::Staged(self.mark.slot),
+            MarkPhase::Merging => PhaseKind::Merging(self.mark.slot),
+            MarkPhase::Completed => PhaseKind::Idle,
         }
     }
 

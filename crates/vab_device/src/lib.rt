@@ -5,5 +5,5 @@
 mod device;
 mod fault;
 
-pub use device::{Device, Part, PhaseKind, Planned, PlannedImage};
+pub use device::{Device, Part, PartImage, PhaseKind};
 pub use fault::StartFault;

@@ -4,7 +4,7 @@
 use crate::devices::{device_of_one, reply, reply_staged};
 use std::alloc::Global;
 use std::test::*;
-use vab_device::PlannedImage;
+use vab_device::PartImage;
 use vab_disk::MemPort;
 use vab_model::{Command, Refusal, Reply};
 use vab_recover::start;
@@ -29,9 +29,9 @@ fn planned(alloc: Global, d: &mut MemPort, place: usize) -> Option<(u64, u64, u8
         None => 0,
     };
     let (letter, exceptions) = match &part.image {
-        PlannedImage::Kept => (b'k', 0),
-        PlannedImage::Declared => (b'd', 0),
-        PlannedImage::Written(view) => (b'w', view.count()),
+        PartImage::Kept => (b'k', 0),
+        PartImage::Declared => (b'd', 0),
+        PartImage::Written(view) => (b'w', view.count()),
     };
     Some((part.map.len(), store, letter, exceptions))
 }

@@ -5,11 +5,11 @@ use Rattle.std.specs.Prelude.{map, slice_set}
 use Rattle.std.specs.Str.{bytes_eq}
 use Rattle.std.proofs.lemmas.Bool.{cases_Bool}
 use Rattle.vab_builder.proofs.NameCases.{ne_name}
-use Rattle.vab_device.specs.declared.device.Planned.{Planned}
+use Rattle.vab_device.specs.declared.device.Part.{Part}
 use Rattle.vab_edit.specs.Carried.{planned_named}
 
 -- without one of another name the plan has the same under a name
-pub planned_without : (name : List ℕ) (plan : List Planned) (i : ℕ) (d : Planned)
+pub planned_without : (name : List ℕ) (plan : List Part) (i : ℕ) (d : Part)
     → i < length plan
     → (get_or plan i d).name ≢ name
     → planned_named name (take i plan ++ drop (suc i) plan) ≡ planned_named name plan

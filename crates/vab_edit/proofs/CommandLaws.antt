@@ -32,7 +32,7 @@ use Rattle.vab_model.specs.declared.state.PlanEntry.{PlanEntry}
 use Rattle.vab_model.specs.Commands.{Command}
 use Rattle.vab_model.specs.Effects.{Effect, refuses, does, steps_of, after_of, IsOneOf}
 use Rattle.vab_model.specs.Effects.{takes_memory, may_want, unless_refused}
-use Rattle.vab_device.specs.declared.device.Planned.{Planned}
+use Rattle.vab_device.specs.declared.device.Part.{Part}
 use Rattle.vab_device.specs.declared.device.Device.{Device}
 use Rattle.vab_device.specs.Does.{LeavesStep, effect_of, KeepsSource, Does}
 use Rattle.vab_device.proofs.DoesLaws.{does_nothing}
@@ -66,11 +66,11 @@ copies_within d size slot kept below =
     let ends = ends_within d.geometry slot kept.geometry below in
     omega (arith, ends, kept.copies_on, kept.enough)
 
-pub prepared_differs : (d : Device) (edit : Edit) (u : Table) (text : List ℕ) (plan : List Planned)
+pub prepared_differs : (d : Device) (edit : Edit) (u : Table) (text : List ℕ) (plan : List Part)
     → IsPrepared d edit u text plan
-    → AllPairs (λ (a b : Planned). a.name ≡ b.name → ⊥) plan
+    → AllPairs (λ (a b : Part). a.name ≡ b.name → ⊥) plan
 prepared_differs d edit u text plan is =
-    subst (λ (l : List Planned). AllPairs (λ (a b : Planned). a.name ≡ b.name → ⊥) l)
+    subst (λ (l : List Part). AllPairs (λ (a b : Part). a.name ≡ b.name → ⊥) l)
     (sym is.given.is_plan)
     (plan_differs (other_slot d.mark.slot) u is.given.is_edited.rules)
 
@@ -96,7 +96,7 @@ wanting : (c : Command) (e : Effect Mounted)
 wanting c e is wants = rw (is, wants) refl
 
 -- another table of the target
-target_keeps : (d : Device) (target : ℕ) (u : Table) (plan : List Planned)
+target_keeps : (d : Device) (target : ℕ) (u : Table) (plan : List Part)
     → KeepsSource d (with_target d target u plan)
 target_keeps d target u plan = elim (cases_Bool (target == 0)) [
   | inl a ↦ rw a (record { geometry = refl; slot = refl; a = refl; b = refl })
@@ -172,7 +172,7 @@ module _ {D : Type 0} (g : Ghosts D) (d : Device) (edit : Edit) (staged : Option
   -- ---- the copies are written
 
   module _
-      (u : Table) (text : List ℕ) (plan : List Planned)
+      (u : Table) (text : List ℕ) (plan : List Part)
       (p : IsPrepared d edit u text plan)
       (old new : D)
       (kept : IsDevice d (g.size old))
@@ -209,7 +209,7 @@ module _ {D : Type 0} (g : Ghosts D) (d : Device) (edit : Edit) (staged : Option
         → IsOfEdit d s b
     writes s b of_text =
         subst
-        (λ (x : Option (List Planned)). IsOfPhase x d.geometry (other_slot d.mark.slot) s b)
+        (λ (x : Option (List Part)). IsOfPhase x d.geometry (other_slot d.mark.slot) s b)
         (sym p.tables.is_planned)
         (text, u, p.given.is_text, p.given.fits, of_text)
 
@@ -258,7 +258,7 @@ module _ {D : Type 0} (g : Ghosts D) (d : Device) (edit : Edit) (staged : Option
       plan_is : carried_over d.plan plan
           ≡ plan_of (other_slot d.mark.slot) (layout_of u) (st t).scanned
       plan_is =
-          ap (λ (x : Option (List Planned)). carried_over x plan)
+          ap (λ (x : Option (List Part)). carried_over x plan)
           (p.tables.is_planned
           ∙ ap Some (planned_at d (g.size old) (g.seen old) p.s p.t p.tables.old_plan
           (st t) p.tables.is_planned))
@@ -373,7 +373,7 @@ module _ {D : Type 0} (g : Ghosts D) (d : Device) (edit : Edit) (staged : Option
       kept =
           next_kept d (g.size old) edit p.s p.t u kept p.tables p.given.is_edited
           (carried_over d.plan plan)
-          (ap (λ (x : Option (List Planned)). carried_over x plan) p.tables.is_planned
+          (ap (λ (x : Option (List Part)). carried_over x plan) p.tables.is_planned
           ∙ ap (map (carried p.tables.old_plan)) p.given.is_plan);
       source =
           target_keeps d (other_slot d.mark.slot) u (carried_over d.plan plan);

@@ -7,11 +7,11 @@ use Rattle.vab_layout.specs.Layout.{layout_of}
 use Rattle.vab_layout.specs.Slots.{other_slot}
 use Rattle.vab_layout.proofs.LayoutLaws.{layout_keeps}
 use Rattle.vab_builder.specs.declared.edit.Edit.{Edit}
-use Rattle.vab_device.specs.declared.device.Planned.{Planned}
+use Rattle.vab_device.specs.declared.device.Part.{Part}
 use Rattle.vab_device.specs.declared.device.Device.{Device}
 use Rattle.vab_device.specs.Kept.{lies_in, table_of_slot, is_installing, IsTableOf, IsKeptTable}
-use Rattle.vab_device.specs.Kept.{IsPlan}
-use Rattle.vab_device.specs.Kept.{ArePlanned, AreOfUpdate, IsUpdate, IsDevice}
+use Rattle.vab_device.specs.Kept.{ArePresent}
+use Rattle.vab_device.specs.Kept.{AreParts, AreOfUpdate, IsUpdate, IsDevice}
 use Rattle.vab_device.specs.Phases.{plan_of}
 use Rattle.vab_edit.specs.Carried.{carried}
 use Rattle.vab_edit.specs.Prepared.{IsEdited, HasTables, with_target}
@@ -66,11 +66,11 @@ module _
     lies = new_lies;
   }
 
-  new_plan : ArePlanned size
+  new_plan : AreParts size
       (map (carried has.old_plan) (plan_of (other_slot d.mark.slot) (layout_of u) []))
   new_plan =
       all_carried size has.old_plan (plan_of (other_slot d.mark.slot) (layout_of u) [])
-      (subst (IsPlan size) has.is_planned kept.plan)
+      (subst (ArePresent size) has.is_planned kept.plan)
       (fresh_planned size (other_slot d.mark.slot) d.geometry (layout_of u) (layout_of s).parts
       kept.enough (layout_keeps u edited.rules) edited.target new_lies)
 
@@ -83,8 +83,8 @@ module _
     device = (kept_update d size s t kept has).device ∙ sym edited.device;
   }
 
-  beside_a : (plan : List Planned)
-      → ArePlanned size plan
+  beside_a : (plan : List Part)
+      → AreParts size plan
       → d.mark.slot ≡ 0
       → IsDevice (record d { table_b = Some u; plan = Some plan }) size
   beside_a plan is e =
@@ -120,8 +120,8 @@ module _
             are);
       }
 
-  beside_b : (plan : List Planned)
-      → ArePlanned size plan
+  beside_b : (plan : List Part)
+      → AreParts size plan
       → d.mark.slot ≡ 1
       → IsDevice (record d { table_a = Some u; plan = Some plan }) size
   beside_b plan is e =
@@ -157,11 +157,11 @@ module _
             are);
       }
 
-  pub next_kept : (plan : List Planned)
+  pub next_kept : (plan : List Part)
       → plan ≡ map (carried has.old_plan) (plan_of (other_slot d.mark.slot) (layout_of u) [])
       → IsDevice (with_target d (other_slot d.mark.slot) u plan) size
   next_kept plan is =
-      let planned : ArePlanned size plan = subst (ArePlanned size) (sym is) new_plan in
+      let planned : AreParts size plan = subst (AreParts size) (sym is) new_plan in
       elim (slot_cases d.mark.slot kept.slot) [
         | inl e ↦
             subst (λ (x : Device). IsDevice x size)

@@ -12,7 +12,7 @@ use Rattle.vab_names.specs.Names.{is_of_slot, is_store, store_of}
 use Rattle.vab_geometry.specs.declared.geometry.Geometry.{Geometry}
 use Rattle.vab_tables.specs.declared.entries.BlockDevice.{BlockDevice}
 use Rattle.vab_tables.specs.Rules.{cap_of, IsDevice as IsBlockDevice}
-use Rattle.vab_layout.specs.declared.layout.Part.{Part}
+use Rattle.vab_layout.specs.declared.layout.Part.{Part as PartOfLayout}
 use Rattle.vab_layout.specs.declared.layout.Layout.{Layout}
 use Rattle.vab_layout.specs.Rules.{IsPart as IsPartOfLayout, IsLayout}
 use Rattle.vab_layout.specs.Slots.{own_parts, store_parts, is_updated, IsDistinct}
@@ -21,11 +21,11 @@ use Rattle.vab_builder.proofs.Counting.{pieces_once, of_filter, in_filter}
 use Rattle.vab_builder.proofs.NameCases.{store_is_store}
 use Rattle.std.proofs.lemmas.List.Elements.{Contains-append_right, Contains-append_left}
 use Rattle.std.proofs.lemmas.List.Elements.{Contains-get_or}
-use Rattle.vab_device.specs.declared.device.Planned.{Planned}
-use Rattle.vab_device.specs.declared.device.PlannedImage.{PlannedImage}
-use Rattle.vab_device.specs.declared.device.PlannedImage.TheVariants.{Kept, Declared, Written}
+use Rattle.vab_device.specs.declared.device.Part.{Part}
+use Rattle.vab_device.specs.declared.device.PartImage.{PartImage}
+use Rattle.vab_device.specs.declared.device.PartImage.TheVariants.{Kept, Declared, Written}
 use Rattle.vab_device.specs.Kept.{super_bytes, lies_in, block_sector, sectors_of, IsStore, IsStored}
-use Rattle.vab_device.specs.Kept.{IsPlanned, ArePlanned}
+use Rattle.vab_device.specs.Kept.{IsPart, AreParts}
 use Rattle.vab_device.specs.Phases.{planned_image, planned_on, plan_of}
 use Rattle.vab_device.specs.Stores.{first_named}
 use Rattle.vab_edit.specs.Carried.{planned_named, written_by, with_written, carried}
@@ -71,9 +71,9 @@ blocks_on size g d enough is lies =
 
 -- ---- a plan with nothing written
 
-nothing_stored : (size first : ℕ) (base : List ℕ) (o : Option Part) (b : Bool)
-    → ((q : Part) → o ≡ Some q → IsStore size (sectors_of first q.blocks))
-    → IsStored size base (option_map (λ (q : Part). sectors_of first q.blocks) o)
+nothing_stored : (size first : ℕ) (base : List ℕ) (o : Option PartOfLayout) (b : Bool)
+    → ((q : PartOfLayout) → o ≡ Some q → IsStore size (sectors_of first q.blocks))
+    → IsStored size base (option_map (λ (q : PartOfLayout). sectors_of first q.blocks) o)
     (planned_image b None)
 nothing_stored size first base None false is = tt
 nothing_stored size first base None true is = tt
@@ -81,7 +81,7 @@ nothing_stored size first base (Some q) false is = is q refl
 nothing_stored size first base (Some q) true is = is q refl
 
 module _
-    (size slot : ℕ) (g : Geometry) (l : Layout) (source : List Part)
+    (size slot : ℕ) (g : Geometry) (l : Layout) (source : List PartOfLayout)
     (enough : 4120 ≤ size)
     (rules : IsLayout l)
     (target : IsTarget slot source l.parts)
@@ -93,14 +93,14 @@ module _
   on = blocks_on size g l.device enough rules.device lies
 
   once : All (λ p. IsDistinct p.blocks) (own_parts slot l.parts ++ store_parts slot l.parts)
-  once = pieces_once (λ (p : Part). p.blocks) (own_parts slot l.parts ++ store_parts slot l.parts)
+  once = pieces_once (λ (p : PartOfLayout). p.blocks) (own_parts slot l.parts ++ store_parts slot l.parts)
       target.once
 
-  in_cap : (p : Part) → Contains l.parts p → All (λ b. b < cap_of l.device) p.blocks
+  in_cap : (p : PartOfLayout) → Contains l.parts p → All (λ b. b < cap_of l.device) p.blocks
   in_cap p c =
       (All-contains (IsPartOfLayout (cap_of l.device) l.groups) l.parts p rules.parts c).blocks
 
-  store_rules : (name : List ℕ) (q : Part)
+  store_rules : (name : List ℕ) (q : PartOfLayout)
       → is_of_slot slot name ≡ true
       → first_named (store_of name) l.parts ≡ Some q
       → IsStore size (sectors_of l.device.first_logical_sector q.blocks)
@@ -111,18 +111,18 @@ module _
       (store_is_store slot name own) in
       let among : Contains (own_parts slot l.parts ++ store_parts slot l.parts) q =
       Contains-append_right (own_parts slot l.parts) (store_parts slot l.parts) q
-      (in_filter (λ (p : Part). is_store slot p.name) l.parts q found.among stored) in
+      (in_filter (λ (p : PartOfLayout). is_store slot p.name) l.parts q found.among stored) in
       record {
         on_disk = sectors_on l.device.first_logical_sector (cap_of l.device) size q.blocks on
             (in_cap q found.among);
         once = sectors_distinct l.device.first_logical_sector q.blocks
-            (All-contains (λ (p : Part). IsDistinct p.blocks)
+            (All-contains (λ (p : PartOfLayout). IsDistinct p.blocks)
             (own_parts slot l.parts ++ store_parts slot l.parts) q once among);
       }
 
-  fresh_is : (p : Part) → Contains (own_parts slot l.parts) p → IsPlanned size (planned_on l [] p)
+  fresh_is : (p : PartOfLayout) → Contains (own_parts slot l.parts) p → IsPart size (planned_on l [] p)
   fresh_is p c =
-      let among = of_filter (λ (q : Part). is_of_slot slot q.name) l.parts p c in
+      let among = of_filter (λ (q : PartOfLayout). is_of_slot slot q.name) l.parts p c in
       let own = All-contains (IsOwnPart slot) (own_parts slot l.parts) p target.own.each c in
       let twice : Contains (own_parts slot l.parts ++ store_parts slot l.parts) p =
       Contains-append_left (own_parts slot l.parts) (store_parts slot l.parts) p c in
@@ -131,7 +131,7 @@ module _
         on_disk = sectors_on l.device.first_logical_sector (cap_of l.device) size p.blocks on
             (in_cap p among.0);
         once = sectors_distinct l.device.first_logical_sector p.blocks
-            (All-contains (λ (q : Part). IsDistinct q.blocks)
+            (All-contains (λ (q : PartOfLayout). IsDistinct q.blocks)
             (own_parts slot l.parts ++ store_parts slot l.parts) p once twice);
         small = omega (arith, own.size, length-sectors_of l.device.first_logical_sector p.blocks);
         store = nothing_stored size l.device.first_logical_sector
@@ -140,9 +140,9 @@ module _
             (λ q is. store_rules p.name q among.1 is);
       }
 
-  pub fresh_planned : ArePlanned size (plan_of slot l [])
+  pub fresh_planned : AreParts size (plan_of slot l [])
   fresh_planned = record {
-    each = All-map (IsPlanned size) (planned_on l []) (own_parts slot l.parts)
+    each = All-map (IsPart size) (planned_on l []) (own_parts slot l.parts)
         (λ k d lt. fresh_is (get_or (own_parts slot l.parts) k d)
         (Contains-get_or (own_parts slot l.parts) k d lt));
     few = omega (arith, target.own.few, length-map (own_parts slot l.parts) (planned_on l []));
@@ -150,25 +150,25 @@ module _
 
 -- ---- with what was written
 
-named_planned : (size : ℕ) (name : List ℕ) (olds : List Planned) (p : Planned)
-    → All (IsPlanned size) olds
+named_planned : (size : ℕ) (name : List ℕ) (olds : List Part) (p : Part)
+    → All (IsPart size) olds
     → planned_named name olds ≡ Some p
-    → IsPlanned size p
+    → IsPart size p
 named_planned size name [] p each is =
-    absurd (let bad : (let x : Option Planned = None in x ≡ Some p) = is in cc)
+    absurd (let bad : (let x : Option Part = None in x ≡ Some p) = is in cc)
 named_planned size name (q ∷ qs) p each is = elim (cases_Bool (bytes_eq q.name name)) [
   | inl t ↦
-      let found : (let x : Option Planned = Some q in x ≡ Some p) = rw t at is in
+      let found : (let x : Option Part = Some q in x ≡ Some p) = rw t at is in
       let same : q ≡ p = cc in
-      subst (IsPlanned size) same (All-head (IsPlanned size) q qs each)
-  | inr f ↦ named_planned size name qs p (All-tail (IsPlanned size) q qs each) (rw f at is)
+      subst (IsPart size) same (All-head (IsPart size) q qs each)
+  | inr f ↦ named_planned size name qs p (All-tail (IsPart size) q qs each) (rw f at is)
 ]
 
-written_is : (size : ℕ) (p o : Planned) (image : PlannedImage)
-    → IsPlanned size p
-    → IsPlanned size o
+written_is : (size : ℕ) (p o : Part) (image : PartImage)
+    → IsPart size p
+    → IsPart size o
     → o.image ≡ image
-    → IsPlanned size (written_by p o image)
+    → IsPart size (written_by p o image)
 written_is size p o Kept of_p of_o is = of_p
 written_is size p o Declared of_p of_o is = of_p
 written_is size p o (Written es) of_p of_o is = record {
@@ -176,26 +176,26 @@ written_is size p o (Written es) of_p of_o is = record {
   on_disk = of_o.on_disk;
   once = of_o.once;
   small = of_o.small;
-  store = subst (λ (i : PlannedImage). IsStored size o.map o.store i) is of_o.store;
+  store = subst (λ (i : PartImage). IsStored size o.map o.store i) is of_o.store;
 }
 
-carried_planned : (size : ℕ) (olds : List Planned) (p : Planned)
-    → All (IsPlanned size) olds
-    → IsPlanned size p
-    → IsPlanned size (carried olds p)
+carried_planned : (size : ℕ) (olds : List Part) (p : Part)
+    → All (IsPart size) olds
+    → IsPart size p
+    → IsPart size (carried olds p)
 carried_planned size olds p each of_p = go (planned_named p.name olds) refl
   where
-    go : (x : Option Planned) → planned_named p.name olds ≡ x → IsPlanned size (with_written p x)
+    go : (x : Option Part) → planned_named p.name olds ≡ x → IsPart size (with_written p x)
     go None is = of_p
     go (Some o) is =
         written_is size p o o.image of_p (named_planned size p.name olds o each is) refl
 
-pub all_carried : (size : ℕ) (olds plan : List Planned)
-    → ArePlanned size olds
-    → ArePlanned size plan
-    → ArePlanned size (map (carried olds) plan)
+pub all_carried : (size : ℕ) (olds plan : List Part)
+    → AreParts size olds
+    → AreParts size plan
+    → AreParts size (map (carried olds) plan)
 all_carried size olds plan of_olds of_plan = record {
-  each = All-map (IsPlanned size) (carried olds) plan
+  each = All-map (IsPart size) (carried olds) plan
       (λ k d lt. carried_planned size olds (get_or plan k d) of_olds.each (of_plan.each k d lt));
   few = omega (arith, of_plan.few, length-map plan (carried olds));
 }

@@ -9,7 +9,7 @@ use Rattle.vab_geometry.specs.declared.geometry.Geometry.{Geometry}
 use Rattle.vab_layout.specs.Layout.{layout_of}
 use Rattle.vab_layout.specs.Slots.{other_slot}
 use Rattle.vab_model.specs.declared.state.Phase.TheVariants.{Installing}
-use Rattle.vab_device.specs.declared.device.Planned.{Planned}
+use Rattle.vab_device.specs.declared.device.Part.{Part}
 use Rattle.vab_device.specs.declared.device.Device.{Device}
 use Rattle.vab_device.specs.Mounted.{images_on, entry_on, state_on, places_on, mounted_on}
 use Rattle.vab_device.specs.Phases.{plan_of}
@@ -33,17 +33,17 @@ device_at k statuses seen g s t scanned c =
     record (kept (read_at k statuses seen g s t scanned)) { control = c }
 
 pub target_kept : (k : ℕ) (statuses : List (Option PartStatus)) (seen : Control) (g : Geometry)
-    (s t u : Table) (scanned : List Scanned) (c : Control) (plan : List Planned)
+    (s t u : Table) (scanned : List Scanned) (c : Control) (plan : List Part)
     → k < 2
     → plan ≡ plan_of (other_slot k) (layout_of u) scanned
     → with_target (device_at k statuses seen g s t scanned c) (other_slot k) u plan
     ≡ device_at k statuses seen g s u scanned c
 target_kept zero statuses seen g s t u scanned c plan below is =
     ap
-    (λ (p : List Planned). record (device_at 0 statuses seen g s u scanned c) { plan = Some p }) is
+    (λ (p : List Part). record (device_at 0 statuses seen g s u scanned c) { plan = Some p }) is
 target_kept (suc zero) statuses seen g s t u scanned c plan below is =
     ap
-    (λ (p : List Planned). record (device_at 1 statuses seen g s u scanned c) { plan = Some p }) is
+    (λ (p : List Part). record (device_at 1 statuses seen g s u scanned c) { plan = Some p }) is
 target_kept (suc (suc n)) statuses seen g s t u scanned c plan below is =
     absurd (omega (arith, below))
 

@@ -10,7 +10,7 @@ use Rattle.vab_disk.specs.Disk.{Image}
 use Rattle.vab_names.specs.Names.{is_of_slot, store_of, base_of}
 use Rattle.vab_tables.specs.Rules.{NamesDiffer}
 use Rattle.vab_exceptions.specs.declared.area.Exception.{Exception}
-use Rattle.vab_layout.specs.declared.layout.Part.{Part}
+use Rattle.vab_layout.specs.declared.layout.Part.{Part as PartOfLayout}
 use Rattle.vab_layout.specs.declared.layout.Layout.{Layout}
 use Rattle.vab_layout.specs.Slots.{own_parts, is_updated, IsTarget, IsTargetPart}
 use Rattle.vab_builder.specs.Sizes.{has_part}
@@ -18,8 +18,8 @@ use Rattle.vab_builder.proofs.Counting.{first, later, of_filter}
 use Rattle.vab_builder.proofs.PartLaws.{named_is, named_own, part_there}
 use Rattle.vab_model.specs.declared.state.PlanImage.TheVariants as planned
 use Rattle.vab_model.specs.declared.state.PlanEntry.{PlanEntry}
-use Rattle.vab_device.specs.declared.device.Planned.{Planned}
-use Rattle.vab_device.specs.declared.device.PlannedImage.TheVariants.{Written}
+use Rattle.vab_device.specs.declared.device.Part.{Part}
+use Rattle.vab_device.specs.declared.device.PartImage.TheVariants.{Written}
 use Rattle.vab_device.specs.Kept.{block_sector, sectors_of, group_of}
 use Rattle.vab_device.specs.Mounted.{bytes_at, blocks_there, entry_on}
 use Rattle.vab_device.specs.Mounted.{planned_on as image_planned}
@@ -48,7 +48,7 @@ map_map f g (x ∷ xs) = let rest = map_map f g xs in (λ i. g (f x) ∷ rest i)
 
 -- ---- a partition with a store is updated
 
-pub store_updated : (slot : ℕ) (source parts : List Part) (p : Part)
+pub store_updated : (slot : ℕ) (source parts : List PartOfLayout) (p : PartOfLayout)
     → IsTarget slot source parts
     → Contains (own_parts slot parts) p
     → has_part (store_of p.name) parts ≡ true
@@ -58,14 +58,14 @@ store_updated slot source parts p is c there =
       | inl updated ↦ updated
       | inr none ↦
           let s = part_there (store_of p.name) parts there in
-          absurd (All-contains (λ (q : Part). q.name ≡ store_of p.name
+          absurd (All-contains (λ (q : PartOfLayout). q.name ≡ store_of p.name
           → ⊥) parts s.0 none.2 s.1 s.2)
     ]
 
 -- the lengths of stores
-store_length : (n : ℕ) (o : Option Part)
-    → option_map (λ (l : List ℕ). length l) (option_map (λ (q : Part). sectors_of n q.blocks) o)
-    ≡ option_map (λ (q : Part). length q.blocks) o
+store_length : (n : ℕ) (o : Option PartOfLayout)
+    → option_map (λ (l : List ℕ). length l) (option_map (λ (q : PartOfLayout). sectors_of n q.blocks) o)
+    ≡ option_map (λ (q : PartOfLayout). length q.blocks) o
 unfolding sectors_of
 store_length n None = refl
 store_length n (Some q) = ap Some (length-map q.blocks (block_sector n))
@@ -82,19 +82,19 @@ module _
     (leaves : LeavesBoth slot old new)
     (both : (name : List ℕ) (es : List Exception) → exceptions_of name ss ≡ Some es
     → HasBoth slot old name)
-    (was_updated : (q : Part) → Contains (own_parts slot old.parts) q
+    (was_updated : (q : PartOfLayout) → Contains (own_parts slot old.parts) q
     → has_part (store_of q.name) old.parts ≡ true → is_updated q ≡ true)
-    (now_updated : (q : Part) → Contains (own_parts slot new.parts) q
+    (now_updated : (q : PartOfLayout) → Contains (own_parts slot new.parts) q
     → has_part (store_of q.name) new.parts ≡ true → is_updated q ≡ true)
-    (differ : NamesDiffer (λ (q : Part). q.name) new.parts) where
-  f : Part → Planned
+    (differ : NamesDiffer (λ (q : PartOfLayout). q.name) new.parts) where
+  f : PartOfLayout → Part
   f q = planned_on old ss q
 
   -- ---- what was planned under a name
 
-  planned_found : (name : List ℕ) (own : List Part)
+  planned_found : (name : List ℕ) (own : List PartOfLayout)
       → is_of_slot slot name ≡ true
-      → ((q : Part) → Contains own q → is_of_slot slot q.name ≡ true)
+      → ((q : PartOfLayout) → Contains own q → is_of_slot slot q.name ≡ true)
       → planned_named (base_of name) (map (planned_on old ss) own)
       ≡ option_map (planned_on old ss) (first_named name own)
   planned_found name [] is each = refl
@@ -106,11 +106,11 @@ module _
             rw (e, other) (planned_found name qs is (λ x c. each x (later q qs x c)))
       ]
 
-  entry_found : (name : List ℕ) (own : List Part)
+  entry_found : (name : List ℕ) (own : List PartOfLayout)
       → is_of_slot slot name ≡ true
-      → ((q : Part) → Contains own q → is_of_slot slot q.name ≡ true)
+      → ((q : PartOfLayout) → Contains own q → is_of_slot slot q.name ≡ true)
       → entry_named (base_of name) (map (entry_on image) (map (planned_on old ss) own))
-      ≡ option_map (λ (q : Part). entry_on image (planned_on old ss q)) (first_named name own)
+      ≡ option_map (λ (q : PartOfLayout). entry_on image (planned_on old ss q)) (first_named name own)
   entry_found name [] is each = refl
   entry_found name (q ∷ qs) is each =
       let e = base_eq slot q.name name (each q (first q qs)) is in
@@ -120,8 +120,8 @@ module _
             rw (e, other) (entry_found name qs is (λ x c. each x (later q qs x c)))
       ]
 
-  old_each : (q : Part) → Contains (own_parts slot old.parts) q → is_of_slot slot q.name ≡ true
-  old_each q c = (of_filter (λ (x : Part). is_of_slot slot x.name) old.parts q c).1
+  old_each : (q : PartOfLayout) → Contains (own_parts slot old.parts) q → is_of_slot slot q.name ≡ true
+  old_each q c = (of_filter (λ (x : PartOfLayout). is_of_slot slot x.name) old.parts q c).1
 
   -- ---- one partition
 
@@ -129,14 +129,14 @@ module _
   first_sector = ap (λ (d : _). d.first_logical_sector) device
 
   -- a partition whose store was scanned
-  record IsWritten (p q : Part) : Type 0 where
+  record IsWritten (p q : PartOfLayout) : Type 0 where
     map : (planned_on old ss q).map ≡ (planned_on new ss p).map
     store : store_on old q.name ≡ store_on new p.name
     was : is_updated q ≡ true
     now : is_updated p ≡ true
     named : q.name ≡ p.name
 
-  is_written : (p q : Part) (es : List Exception)
+  is_written : (p q : PartOfLayout) (es : List Exception)
       → Contains (own_parts slot new.parts) p
       → exceptions_of p.name ss ≡ Some es
       → first_named p.name (own_parts slot old.parts) ≡ Some q
@@ -145,7 +145,7 @@ module _
       let b = both p.name es ex in
       let left = leaves p.name b in
       let still = has_still slot old new p.name leaves b in
-      let among = of_filter (λ (x : Part). is_of_slot slot x.name) new.parts p c in
+      let among = of_filter (λ (x : PartOfLayout). is_of_slot slot x.name) new.parts p c in
       let was = first_is p.name (own_parts slot old.parts) q fo in
       let stored_old = first_is (store_of p.name) old.parts b.store b.stored in
       let stored_new = first_is (store_of p.name) new.parts still.both.store still.both.stored in
@@ -158,9 +158,9 @@ module _
         map = λ i. sectors_of (sym first_sector i) (blocks i);
         store =
             ap (λ (n : List ℕ). store_on old n) was.named
-            ∙ ap (option_map (λ (x : Part). sectors_of os x.blocks)) b.stored
+            ∙ ap (option_map (λ (x : PartOfLayout). sectors_of os x.blocks)) b.stored
             ∙ (λ i. Some (sectors_of (sym first_sector i) (sym still.store_blocks i)))
-            ∙ sym (ap (option_map (λ (x : Part). sectors_of ns x.blocks)) still.both.stored);
+            ∙ sym (ap (option_map (λ (x : PartOfLayout). sectors_of ns x.blocks)) still.both.stored);
         was = was_updated q was.among
             (ap (λ (n : List ℕ). has_part (store_of n) old.parts) was.named ∙ stored_old.there);
         now = now_updated p c stored_new.there;
@@ -168,20 +168,20 @@ module _
       }
 
   -- what is read before the stores are
-  fresh : Part → Planned
+  fresh : PartOfLayout → Part
   fresh p = planned_on new [] p
 
-  nothing_written : (p q : Part) (b : Bool)
+  nothing_written : (p q : PartOfLayout) (b : Bool)
       → written_by (planned_on new [] p) (planned_on old ss q) (planned_image b None)
       ≡ planned_on new [] p
   nothing_written p q false = refl
   nothing_written p q true = refl
 
-  carried_is : (p : Part)
+  carried_is : (p : PartOfLayout)
       → Contains (own_parts slot new.parts) p
       → carried (plan_of slot old ss) (planned_on new [] p) ≡ planned_on new ss p
   carried_is p c =
-      let own = (of_filter (λ (x : Part). is_of_slot slot x.name) new.parts p c).1 in
+      let own = (of_filter (λ (x : PartOfLayout). is_of_slot slot x.name) new.parts p c).1 in
       ap (with_written (planned_on new [] p))
       (planned_found p.name (own_parts slot old.parts) own old_each)
       ∙ go (exceptions_of p.name ss) (first_named p.name (own_parts slot old.parts)) refl refl
@@ -195,7 +195,7 @@ module _
         image = planned_image (is_updated p) (sym ex i);
       }
 
-      go : (x : Option (List Exception)) (o : Option Part)
+      go : (x : Option (List Exception)) (o : Option PartOfLayout)
           → exceptions_of p.name ss ≡ x
           → first_named p.name (own_parts slot old.parts) ≡ o
           → with_written (planned_on new [] p) (option_map (planned_on old ss) o)
@@ -210,7 +210,7 @@ module _
           ∙ alike ex
       go (Some es) None ex fo =
           absurd (let b = both p.name es ex in
-          let bad : (let x : Option Part = None in x ≡ Some b.part) = sym fo ∙ b.named in cc)
+          let bad : (let x : Option PartOfLayout = None in x ≡ Some b.part) = sym fo ∙ b.named in cc)
       go (Some es) (Some q) ex fo =
           let w = is_written p q es c ex fo in
           let was : planned_image (is_updated q) (exceptions_of q.name ss) ≡ Written es =
@@ -229,25 +229,25 @@ module _
 
   -- ---- its entry
 
-  none_written : (p q : Part) (b : Bool)
+  none_written : (p q : PartOfLayout) (b : Bool)
       → if_written (image_planned image (planned_on old ss q) (planned_image b None)) ≡ None
   none_written p q false = refl
   none_written p q true = refl
 
-  unwritten : (p : Part) (b : Bool)
+  unwritten : (p : PartOfLayout) (b : Bool)
       → image_planned image (planned_on new ss p) (planned_image b None) ≡ image_or b None
   unwritten p false = refl
   unwritten p true = refl
 
-  image_is : (p : Part)
+  image_is : (p : PartOfLayout)
       → Contains (own_parts slot new.parts) p
-      → (x : Option (List Exception)) (o : Option Part)
+      → (x : Option (List Exception)) (o : Option PartOfLayout)
       → exceptions_of p.name ss ≡ x
       → first_named p.name (own_parts slot old.parts) ≡ o
       → image_planned image (planned_on new ss p) (planned_image (is_updated p)
       (exceptions_of p.name ss))
       ≡ image_or (is_updated p)
-      (written_of (option_map (λ (q : Part). entry_on image (planned_on old ss q)) o))
+      (written_of (option_map (λ (q : PartOfLayout). entry_on image (planned_on old ss q)) o))
   image_is p c None None ex fo =
       ap (λ (y : Option (List Exception)).
       image_planned image (planned_on new ss p) (planned_image (is_updated p) y)) ex
@@ -266,7 +266,7 @@ module _
       ∙ ap (image_or (is_updated p)) (sym none)
   image_is p c (Some es) None ex fo =
       absurd (let b = both p.name es ex in
-      let bad : (let x : Option Part = None in x ≡ Some b.part) = sym fo ∙ b.named in cc)
+      let bad : (let x : Option PartOfLayout = None in x ≡ Some b.part) = sym fo ∙ b.named in cc)
   image_is p c (Some es) (Some q) ex fo =
       let w = is_written p q es c ex fo in
       let was : planned_image (is_updated q) (exceptions_of q.name ss) ≡ Written es =
@@ -279,12 +279,12 @@ module _
       ∙ (λ i. image_or (sym w.now i) (if_written (image_planned image (planned_on old ss q)
       (sym was i))))
 
-  entry_is : (p : Part)
+  entry_is : (p : PartOfLayout)
       → Contains (own_parts slot new.parts) p
       → entry_on image (planned_on new ss p)
       ≡ entry_by new (map (entry_on image) (plan_of slot old ss)) p
   entry_is p c =
-      let own = (of_filter (λ (x : Part). is_of_slot slot x.name) new.parts p c).1 in
+      let own = (of_filter (λ (x : PartOfLayout). is_of_slot slot x.name) new.parts p c).1 in
       let found = entry_found p.name (own_parts slot old.parts) own old_each in
       let seen = image_is p c (exceptions_of p.name ss)
       (first_named p.name (own_parts slot old.parts)) refl refl

@@ -10,7 +10,7 @@ use Rattle.vab_names.specs.NameLaws.{of_slot}
 use Rattle.vab_tables.specs.declared.table.Table.{Table}
 use Rattle.vab_tables.specs.Rules.{KeepsRules}
 use Rattle.vab_tables.specs.Spelling.{table_size_of, as_minor_2}
-use Rattle.vab_layout.specs.declared.layout.Part.{Part}
+use Rattle.vab_layout.specs.declared.layout.Part.{Part as PartOfLayout}
 use Rattle.vab_layout.specs.declared.layout.Layout.{Layout}
 use Rattle.vab_layout.specs.Layout.{layout_of, table_of}
 use Rattle.vab_layout.specs.Slots.{own_parts, store_parts, IsDistinct, IsTarget}
@@ -22,7 +22,7 @@ use Rattle.vab_builder.specs.Edits.{changed_by, edited, fitting, if_fitting}
 use Rattle.vab_builder.specs.Gives.{IsTableOf, GivesTable}
 use Rattle.vab_builder.proofs.Counting.{all_from, of_filter, pairs_map, pairs_weaker, pieces_once}
 use Rattle.vab_builder.proofs.Verdicts.{unless_ok}
-use Rattle.vab_device.specs.declared.device.Planned.{Planned}
+use Rattle.vab_device.specs.declared.device.Part.{Part}
 use Rattle.vab_device.specs.Phases.{planned_on, plan_of}
 use Rattle.vab_device.specs.Updates.{refusal_of}
 use Rattle.vab_verdict.specs.Judged.{IsGiven}
@@ -32,19 +32,19 @@ use Rattle.vab_plan.specs.Scans.{IsTargetTable}
 
 -- ---- the table
 
-pub target_table : (slot : ℕ) (source : List Part) (u : Table)
+pub target_table : (slot : ℕ) (source : List PartOfLayout) (u : Table)
     → KeepsRules u
     → IsTarget slot source (layout_of u).parts
     → IsTargetTable slot u
 target_table slot source u rules target =
-    let own : List Part = own_parts slot (layout_of u).parts in
-    let stores : List Part = store_parts slot (layout_of u).parts in
-    let once = pieces_once (λ (p : Part). p.blocks) (own ++ stores) target.once in
+    let own : List PartOfLayout = own_parts slot (layout_of u).parts in
+    let stores : List PartOfLayout = store_parts slot (layout_of u).parts in
+    let once = pieces_once (λ (p : PartOfLayout). p.blocks) (own ++ stores) target.once in
     record {
       rules = rules;
       own = target.own;
-      stores = all_from (λ (p : Part). IsDistinct p.blocks) stores
-          (λ p c. All-contains (λ (q : Part). IsDistinct q.blocks) (own ++ stores) p once
+      stores = all_from (λ (p : PartOfLayout). IsDistinct p.blocks) stores
+          (λ p c. All-contains (λ (q : PartOfLayout). IsDistinct q.blocks) (own ++ stores) p once
           (Contains-append_right own stores p c));
     }
 
@@ -107,19 +107,19 @@ gives_refusal said (faults.TableFull s m) wants h = inr (faults.TableFull s m, h
 -- no two of a plan have one name
 pub plan_differs : (slot : ℕ) (u : Table)
     → KeepsRules u
-    → AllPairs (λ (a b : Planned). a.name ≢ b.name) (plan_of slot (layout_of u) [])
+    → AllPairs (λ (a b : Part). a.name ≢ b.name) (plan_of slot (layout_of u) [])
 plan_differs slot u rules =
     let l : Layout = layout_of u in
-    let own : List Part = own_parts slot l.parts in
-    let differ = AllPairs-filter (λ (a b : Part). a.name ≢ b.name)
+    let own : List PartOfLayout = own_parts slot l.parts in
+    let differ = AllPairs-filter (λ (a b : PartOfLayout). a.name ≢ b.name)
     (λ p. is_of_slot slot p.name) l.parts
     (layout_keeps u rules).part_names in
-    pairs_map (λ (a b : Planned). a.name ≢ b.name) (planned_on l []) own
-    (pairs_weaker (λ (a b : Part). a.name ≢ b.name) (λ (a b : Part). base_of a.name ≢ base_of
+    pairs_map (λ (a b : Part). a.name ≢ b.name) (planned_on l []) own
+    (pairs_weaker (λ (a b : PartOfLayout). a.name ≢ b.name) (λ (a b : PartOfLayout). base_of a.name ≢ base_of
     b.name) own
     (λ a b in_a in_b other e. other
-    (of_slot slot a.name (of_filter (λ (p : Part). is_of_slot slot p.name) l.parts a in_a).1
+    (of_slot slot a.name (of_filter (λ (p : PartOfLayout). is_of_slot slot p.name) l.parts a in_a).1
     ∙ ap (λ (n : List ℕ). n ++ suffix_of slot) e
-    ∙ sym (of_slot slot b.name (of_filter (λ (p : Part). is_of_slot slot p.name) l.parts b
+    ∙ sym (of_slot slot b.name (of_filter (λ (p : PartOfLayout). is_of_slot slot p.name) l.parts b
     in_b).1)))
     differ)

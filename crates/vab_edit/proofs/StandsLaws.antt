@@ -12,7 +12,7 @@ use Rattle.vab_tables.specs.declared.table.Table.{Table}
 use Rattle.vab_geometry.specs.declared.geometry.Geometry.{Geometry}
 use Rattle.vab_layout.specs.Layout.{layout_of}
 use Rattle.vab_layout.specs.Slots.{other_slot}
-use Rattle.vab_device.specs.declared.device.Planned.{Planned}
+use Rattle.vab_device.specs.declared.device.Part.{Part}
 use Rattle.vab_device.specs.declared.device.Device.{Device}
 use Rattle.vab_device.specs.Kept.{table_of_slot, is_installing, IsPhase, IsDevice}
 use Rattle.vab_device.specs.Phases.{plan_of}
@@ -101,7 +101,7 @@ stands_update d size image s t is has represents =
     }
 
 -- what is planned
-pub planned_at : (d : Device) (size : ℕ) (image : Image) (s t : Table) (plan : List Planned)
+pub planned_at : (d : Device) (size : ℕ) (image : Image) (s t : Table) (plan : List Part)
     → (st : StandsUpdate d size image s t)
     → d.plan ≡ Some plan
     → plan ≡ plan_of (other_slot d.mark.slot) (layout_of t) st.scanned

@@ -17,7 +17,7 @@ use Rattle.vab_model.specs.declared.command.Refusal.TheVariants.{NoMemory, NotIn
 use Rattle.vab_model.specs.declared.command.Reply.{Reply}
 use Rattle.vab_model.specs.declared.command.Reply.TheVariants as replies
 use Rattle.vab_model.specs.Effects.{may_want}
-use Rattle.vab_device.specs.declared.device.Planned.{Planned}
+use Rattle.vab_device.specs.declared.device.Part.{Part}
 use Rattle.vab_device.specs.declared.device.Device.{Device}
 use Rattle.vab_device.specs.Kept.{table_of_slot}
 use Rattle.vab_device.specs.Phases.{plan_of}
@@ -42,7 +42,7 @@ pub record IsGiven
     (edit : Edit)
     (s t u : Table)
     (text : List ℕ)
-    (plan : List Planned) : Type 0 where
+    (plan : List Part) : Type 0 where
   pub is_edited : IsEdited max source edit s t u
   pub gives : edited (other_slot source) (layout_of s) (layout_of t) max edit ≡ Ok (layout_of u)
   pub is_text : IsTableText max text u
@@ -53,11 +53,11 @@ pub record IsGiven
 pub record HasTables (d : Device) (s t : Table) : Type 0 where
   pub source : table_of_slot d d.mark.slot ≡ Some s
   pub target : table_of_slot d (other_slot d.mark.slot) ≡ Some t
-  pub old_plan : List Planned
+  pub old_plan : List Part
   pub is_planned : d.plan ≡ Some old_plan
 
 -- what an edit of a device's tables gives
-pub record IsPrepared (d : Device) (edit : Edit) (u : Table) (text : List ℕ) (plan : List Planned)
+pub record IsPrepared (d : Device) (edit : Edit) (u : Table) (text : List ℕ) (plan : List Part)
     : Type 0 where
   pub s : Table
   pub t : Table
@@ -89,13 +89,13 @@ abbrev pub Refuses : Device → Edit → Refusal → Type 0
 Refuses d edit r = ((d.plan ≡ None) × (r ≡ NotInstalling)) ⊎ IsRefused d edit r
 
 -- the device with another table and plan of the target in this slot
-abbrev pub with_target : Device → (target : ℕ) → Table → List Planned → Device
+abbrev pub with_target : Device → (target : ℕ) → Table → List Part → Device
 with_target d target t plan =
     if target == 0
     then record d { table_a = Some t; plan = Some plan }
     else record d { table_b = Some t; plan = Some plan }
 
 -- a plan with what the one before it has written
-abbrev pub carried_over : Option (List Planned) → List Planned → List Planned
+abbrev pub carried_over : Option (List Part) → List Part → List Part
 carried_over None plan = plan
 carried_over (Some olds) plan = map (carried olds) plan

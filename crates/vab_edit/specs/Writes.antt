@@ -8,7 +8,7 @@ use Rattle.vab_layout.specs.Slots.{other_slot}
 use Rattle.vab_builder.specs.declared.edit.Edit.{Edit}
 use Rattle.vab_builder.specs.declared.edit.Edit.TheVariants as edits
 use Rattle.vab_model.specs.Commands.{Command, Create, Resize, Delete, Snapshot}
-use Rattle.vab_device.specs.declared.device.Planned.{Planned}
+use Rattle.vab_device.specs.declared.device.Part.{Part}
 use Rattle.vab_device.specs.declared.device.Device.{Device}
 
 -- the command that asks for an edit
@@ -20,7 +20,7 @@ command_by (edits.AddStore name bytes) = Snapshot name.now bytes
 
 -- What an edit may write: a sector of the copies of the target's table, with its part of the text
 -- of a table; nothing where no update is installed.
-abbrev pub IsOfPhase : Option (List Planned) → Geometry → (target : ℕ) → ℕ → List ℕ → Type 0
+abbrev pub IsOfPhase : Option (List Part) → Geometry → (target : ℕ) → ℕ → List ℕ → Type 0
 IsOfPhase None g target s b = ⊥
 IsOfPhase (Some plan) g target s b =
     (text : List ℕ)

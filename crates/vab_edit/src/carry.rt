@@ -7,16 +7,16 @@ ghost use Rattle.vab_edit.specs.Carried.{carried, planned_named, with_written};
 ghost use Rattle.vab_edit.specs.Prepared.{carried_over, with_target};
 
 use vab_bytes::{Listing, Name36};
-use vab_device::{Device, Planned, PlannedImage};
+use vab_device::{Device, Part, PartImage};
 use vab_tables::Table;
 
 // Where the first that is planned under this base name stands.
-fn place(plan: &[Planned], name: &Name36) -> Option<usize>
+fn place(plan: &[Part], name: &Name36) -> Option<usize>
     ensures none { IfNone result (planned_named name.now plan.now ≡ None) }
     ensures within { IfSome result (λ i. i < length plan.now) }
-    ensures first { IfSome result (λ i. (d : Planned)
+    ensures first { IfSome result (λ i. (d : Part)
         → planned_named name.now plan.now ≡ Some (get_or plan.now i d)) }
-    ensures is { IfSome result (λ i. (d : Planned) → (get_or plan.now i d).name ≡ name.now) }
+    ensures is { IfSome result (λ i. (d : Part) → (get_or plan.now i d).name ≡ name.now) }
 {
     for i in 0..plan.len() {
         if plan[i].name.text() == name.text() {
@@ -27,7 +27,7 @@ fn place(plan: &[Planned], name: &Name36) -> Option<usize>
 }
 
 // The first that is planned under this base name, which leaves the plan.
-fn take(plan: &mut Vec<Planned>, name: &Name36) -> Option<Planned>
+fn take(plan: &mut Vec<Part>, name: &Name36) -> Option<Part>
     ensures found { result ≡ planned_named name.now plan.old.items }
     ensures others { (n : List ℕ)
         → n ≢ name.now
@@ -40,32 +40,32 @@ fn take(plan: &mut Vec<Planned>, name: &Name36) -> Option<Planned>
 }
 
 // Gives a planned partition what was written to this one.
-fn give(planned: &mut Planned, old: Option<Planned>)
+fn give(planned: &mut Part, old: Option<Part>)
     ensures { planned.new ≡ with_written planned.old old }
 {
     match old {
         None => {}
         Some(
-            Planned {
+            Part {
                 map,
                 store,
                 image,
                 ..
             },
         ) => match image {
-            PlannedImage::Kept => {}
-            PlannedImage::Declared => {}
-            PlannedImage::Written(view) => {
+            PartImage::Kept => {}
+            PartImage::Declared => {}
+            PartImage::Written(view) => {
                 planned.map = map;
                 planned.store = store;
-                planned.image = PlannedImage::Written(view);
+                planned.image = PartImage::Written(view);
             }
         },
     }
 }
 
 // Gives each partition of a plan what the one before it has written.
-fn give_all(olds: Vec<Planned>, plan: &mut Vec<Planned>)
+fn give_all(olds: Vec<Part>, plan: &mut Vec<Part>)
     requires { AllPairs (λ a b. a.name ≢ b.name) plan.old.items }
     ensures { plan.new.items ≡ map (carried olds.items) plan.old.items }
 {
@@ -78,7 +78,7 @@ fn give_all(olds: Vec<Planned>, plan: &mut Vec<Planned>)
 }
 
 /// The device with another table of the target in this slot, and this plan with what was written.
-pub fn with_table(device: Device, target: usize, table: Table, plan: Listing<Planned>) -> Device
+pub fn with_table(device: Device, target: usize, table: Table, plan: Listing<Part>) -> Device
     requires { AllPairs (λ a b. a.name ≢ b.name) plan }
     ensures { result ≡ with_target device target table (carried_over device.plan plan) }
 {
@@ -125,7 +125,7 @@ pub fn with_table(device: Device, target: usize, table: Table, plan: Listing<Pla
 }
 
 // A plan with what the one before it has written.
-fn carry(old: Option<Listing<Planned>>, plan: Listing<Planned>) -> Listing<Planned>
+fn carry(old: Option<Listing<Part>>, plan: Listing<Part>) -> Listing<Part>
     requires { AllPairs (λ a b. a.name ≢ b.name) plan }
     ensures { result ≡ carried_over old plan }
 {

@@ -14,7 +14,7 @@ ghost use Rattle.vab_edit.specs.Prepared.{HasTables, IsGiven, IsPrepared, Refuse
 use std::alloc::Global;
 use vab_builder::{Edit, EditFault, apply};
 use vab_bytes::Listing;
-use vab_device::{Device, Planned};
+use vab_device::{Device, Part};
 use vab_model::Refusal;
 use vab_plan::plan;
 use vab_tables::{Table, encode_table};
@@ -25,7 +25,7 @@ use vab_verdict::verdict;
 pub struct Prepared {
     pub table: Table,
     pub text: Vec<u8>,
-    pub plan: Listing<Planned>,
+    pub plan: Listing<Part>,
 }
 
 // Why an edit is refused.

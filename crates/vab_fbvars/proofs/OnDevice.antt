@@ -15,8 +15,7 @@ use Rattle.vab_bootctl.specs.declared.slots.Info.{Info}
 use Rattle.vab_bootctl.specs.Boot.{info_at}
 use Rattle.vab_device.specs.declared.device.Part.{Part}
 use Rattle.vab_device.specs.declared.device.Device.{Device}
-use Rattle.vab_device.specs.declared.device.Planned.{Planned}
-use Rattle.vab_device.specs.Kept.{IsPlanned, IsPlan}
+use Rattle.vab_device.specs.Kept.{IsPart, ArePresent}
 use Rattle.vab_device.specs.Mounted.{state_on, images_on, image_on, bytes_at, entry_on, phase_on}
 use Rattle.vab_names.specs.Names.{is_full, base_of}
 use Rattle.vab_layout.specs.Slots.{other_slot}
@@ -116,12 +115,12 @@ bytes_long image size blocks whole on_disk =
 -- ---- the plan
 
 -- nothing is merged while an update is installed
-pub status_none : (slot : ℕ) (image : Image) (plan : Option (List Planned))
+pub status_none : (slot : ℕ) (image : Image) (plan : Option (List Part))
     → status_text (phase_on slot image plan) ≡ codes "OKAYnone"
 status_none slot image None = refl
 status_none slot image (Some plan) = refl
 
-entry_mapped : (image : Image) (base : List ℕ) (plan : List Planned)
+entry_mapped : (image : Image) (base : List ℕ) (plan : List Part)
     → entry_named base (map (entry_on image) plan)
     ≡ option_map (entry_on image) (planned_named base plan)
 entry_mapped image base [] = refl
@@ -131,7 +130,7 @@ entry_mapped image base (p ∷ ps) = elim (cases_Bool (bytes_eq p.name base)) [
 ]
 
 -- the planned partition of a base name
-entry_kept : (slot : ℕ) (image : Image) (base : List ℕ) (plan : Option (List Planned))
+entry_kept : (slot : ℕ) (image : Image) (base : List ℕ) (plan : Option (List Part))
     → entry_named base (planned_in (phase_on slot image plan))
     ≡ option_map (entry_on image) (kept_planned base plan)
 entry_kept slot image base None = refl
@@ -145,18 +144,18 @@ planned_on d image base =
     ap is_some (entry_kept d.mark.slot image base d.plan)
     ∙ is_mapped (entry_on image) (kept_planned base d.plan)
 
-size_mapped : (image : Image) (o : Option Planned)
+size_mapped : (image : Image) (o : Option Part)
     → entry_size (option_map (entry_on image) o) ≡ bytes_planned o
 size_mapped image None = refl
 size_mapped image (Some p) = refl
 
-pub none_planned : (slot : ℕ) (image : Image) (name : List ℕ) (plan : Option (List Planned))
+pub none_planned : (slot : ℕ) (image : Image) (name : List ℕ) (plan : Option (List Part))
     → is_full (other_slot slot) name ≡ false
     → size_planned (phase_on slot image plan) name ≡ None
 none_planned slot image name None other = refl
 none_planned slot image name (Some plan) other = rw other refl
 
-pub some_planned : (slot : ℕ) (image : Image) (name : List ℕ) (plan : Option (List Planned))
+pub some_planned : (slot : ℕ) (image : Image) (name : List ℕ) (plan : Option (List Part))
     → is_full (other_slot slot) name ≡ true
     → size_planned (phase_on slot image plan) name ≡ bytes_planned (kept_planned (base_of name) plan)
 some_planned slot image name None own = refl
@@ -165,8 +164,8 @@ some_planned slot image name (Some plan) own =
     ∙ size_mapped image (planned_named (base_of name) plan))
 
 -- the rules of a planned partition that was found
-pub planned_small : (size : ℕ) (base : List ℕ) (plan : List Planned) (p : Planned)
-    → All (IsPlanned size) plan
+pub planned_small : (size : ℕ) (base : List ℕ) (plan : List Part) (p : Part)
+    → All (IsPart size) plan
     → planned_named base plan ≡ Some p
     → length p.map ≤ 2 ^ 28
 planned_small size base [] p each is = absurd cc
@@ -174,13 +173,13 @@ planned_small size base (q ∷ qs) p each is = elim (cases_Bool (bytes_eq q.name
   | inl h ↦
       let here : Some q ≡ Some p = rw h at is in
       let same : q ≡ p = cc in
-      subst (λ (x : Planned). length x.map ≤ 2 ^ 28) same (All-head (IsPlanned size) q qs each).small
+      subst (λ (x : Part). length x.map ≤ 2 ^ 28) same (All-head (IsPart size) q qs each).small
   | inr h ↦
-      planned_small size base qs p (All-tail (IsPlanned size) q qs each) (rw h at is)
+      planned_small size base qs p (All-tail (IsPart size) q qs each) (rw h at is)
 ]
 
-pub kept_small : (size : ℕ) (base : List ℕ) (plan : Option (List Planned)) (p : Planned)
-    → IsPlan size plan
+pub kept_small : (size : ℕ) (base : List ℕ) (plan : Option (List Part)) (p : Part)
+    → ArePresent size plan
     → kept_planned base plan ≡ Some p
     → length p.map ≤ 2 ^ 28
 kept_small size base None p are is = absurd cc

@@ -8,12 +8,12 @@ ghost use Rattle.vab_fbvars.specs.Planned.{planned_named, kept_planned};
 ghost use Rattle.vab_fbvars.specs.Variables.{AreSectors, has_base, size_of, size_planned};
 
 use vab_bytes::Listing;
-use vab_device::{Device, Planned};
+use vab_device::{Device, Part};
 use vab_manager::{kept_part, locate};
 use vab_names::{base_of, is_full};
 
 // The first planned partition of this base name.
-fn named<'a>(plan: &'a Listing<Planned>, base: &[u8]) -> Option<&'a Planned>
+fn named<'a>(plan: &'a Listing<Part>, base: &[u8]) -> Option<&'a Part>
     ensures { option_copied result ≡ planned_named base.now plan.now }
 {
     for part in plan.as_slice() {
@@ -25,7 +25,7 @@ fn named<'a>(plan: &'a Listing<Planned>, base: &[u8]) -> Option<&'a Planned>
 }
 
 // The same of a device.
-fn planned<'a>(device: &'a Device, base: &[u8]) -> Option<&'a Planned>
+fn planned<'a>(device: &'a Device, base: &[u8]) -> Option<&'a Part>
     ensures { option_copied result ≡ kept_planned base.now device.now.plan }
 {
     match &device.plan {

@@ -16,7 +16,7 @@ use Rattle.vab_model.specs.declared.state.Phase.TheVariants.{Installing}
 use Rattle.vab_model.specs.declared.command.Refusal.TheVariants as refusals
 use Rattle.vab_model.specs.Commands.{Flash}
 use Rattle.vab_model.specs.Effects.{refuses}
-use Rattle.vab_device.specs.declared.device.Planned.{Planned}
+use Rattle.vab_device.specs.declared.device.Part.{Part}
 use Rattle.vab_device.specs.declared.device.Device.{Device}
 use Rattle.vab_device.specs.Mounted.{state_on, mounted_on, entry_on, phase_on}
 use Rattle.vab_device.specs.Updates.{effect_on, flash_effect, entry_effect, entry_named}
@@ -25,7 +25,6 @@ use Rattle.vab_bootctl.specs.declared.slots.Control.{Control}
 use Rattle.vab_model.specs.declared.state.State.{State}
 use Rattle.vab_model.specs.declared.state.Phase.TheVariants.{Idle}
 use Rattle.vab_model.specs.State.{image_named}
-use Rattle.vab_device.specs.declared.device.Part.{Part}
 use Rattle.vab_device.specs.Mounted.{bytes_at, image_on, images_on}
 use Rattle.vab_flash.specs.Chosen.{place_of, HasPlace, IsChosen, plan_or, planned_at, no_planned}
 use Rattle.vab_flash.specs.Chosen.{blocks_or, part_named, part_among, part_at}
@@ -39,7 +38,7 @@ flash_idle d image staged name none =
 
 -- of a plan
 pub flash_planned : (d : Device) (image : Image) (staged : Option (List ℕ)) (name : List ℕ)
-    (plan : List Planned)
+    (plan : List Part)
     → d.plan ≡ Some plan
     → effect_on (mounted_on d image) staged (Flash name)
     ≡ flash_effect (mounted_on d image) staged name
@@ -49,7 +48,7 @@ flash_planned d image staged name plan is =
     (λ k. flash_effect (mounted_on d image) staged name (phase_on d.mark.slot image (is k)))
 
 pub flash_named : (d : Device) (image : Image) (staged : Option (List ℕ)) (name : List ℕ)
-    (plan : List Planned)
+    (plan : List Part)
     → d.plan ≡ Some plan
     → is_full (other_slot d.mark.slot) name ≡ true
     → effect_on (mounted_on d image) staged (Flash name)
@@ -64,7 +63,7 @@ flash_named d image staged name plan is full =
     else refuses refusals.BadName)
 
 pub flash_other : (d : Device) (image : Image) (staged : Option (List ℕ)) (name : List ℕ)
-    (plan : List Planned)
+    (plan : List Part)
     → d.plan ≡ Some plan
     → is_full (other_slot d.mark.slot) name ≡ false
     → effect_on (mounted_on d image) staged (Flash name) ≡ refuses refusals.BadName
@@ -78,7 +77,7 @@ flash_other d image staged name plan is other =
 
 -- ---- the entry of a name
 
-pub none_named : (image : Image) (base : List ℕ) (plan : List Planned)
+pub none_named : (image : Image) (base : List ℕ) (plan : List Part)
     → All (λ p. bytes_eq p.name base ≡ false) plan
     → entry_named base (map (entry_on image) plan) ≡ None
 none_named image base [] all = refl
@@ -87,7 +86,7 @@ none_named image base (p ∷ ps) all =
     All-head (λ p. bytes_eq p.name base ≡ false) p ps all in
     rw other (none_named image base ps (All-tail (λ p. bytes_eq p.name base ≡ false) p ps all))
 
-pub first_named_entry : (image : Image) (base : List ℕ) (plan : List Planned) (k : ℕ) (d : Planned)
+pub first_named_entry : (image : Image) (base : List ℕ) (plan : List Part) (k : ℕ) (d : Part)
     → k < length plan
     → bytes_eq (get_or plan k d).name base ≡ true
     → ((j : ℕ) → j < k → bytes_eq (get_or plan j d).name base ≡ false)
@@ -99,18 +98,18 @@ first_named_entry image base (p ∷ ps) (suc k) d below is before =
     rw other (first_named_entry image base ps k d (omega (arith, below)) is
     (λ j lt. before (suc j) (omega (arith, lt))))
 
-pub place_named : (image : Image) (base : List ℕ) (plan : List Planned) (k : ℕ) (d : Planned)
+pub place_named : (image : Image) (base : List ℕ) (plan : List Part) (k : ℕ) (d : Part)
     → place_of base plan ≡ Some k
     → entry_named base (map (entry_on image) plan) ≡ Some (entry_on image (get_or plan k d))
 place_named image base plan k d is =
     let at = position-Some (λ p. bytes_eq p.name base) plan k d is in
     first_named_entry image base plan k d at.0 at.1 at.2
 
-all_fail : (base : List ℕ) (plan : List Planned)
+all_fail : (base : List ℕ) (plan : List Part)
     → place_of base plan ≡ None
     → All (λ p. bytes_eq p.name base ≡ false) plan
 all_fail base plan is =
-    let test : Planned → Bool = λ p. bytes_eq p.name base in
+    let test : Part → Bool = λ p. bytes_eq p.name base in
     elim (cases_Bool (nat_lt (position_or_len test plan) (length plan))) [
       | inl below ↦
           absurd (let bad : Some (position_or_len test plan) ≡ None = rw below at is in cc)
@@ -120,14 +119,14 @@ all_fail base plan is =
           λ k d lt. fails_before_first test plan k d (omega (arith, lt, past))
     ]
 
-pub no_place : (image : Image) (base : List ℕ) (plan : List Planned)
+pub no_place : (image : Image) (base : List ℕ) (plan : List Part)
     → place_of base plan ≡ None
     → entry_named base (map (entry_on image) plan) ≡ None
 no_place image base plan is =
     none_named image base plan (all_fail base plan is)
 
 pub flash_unknown : (d : Device) (image : Image) (staged : Option (List ℕ)) (name : List ℕ)
-    (plan : List Planned)
+    (plan : List Part)
     → d.plan ≡ Some plan
     → is_full (other_slot d.mark.slot) name ≡ true
     → place_of (base_of name) plan ≡ None
@@ -144,7 +143,7 @@ pub flash_at : (d : Device) (image : Image) (staged : Option (List ℕ)) (name :
     ≡ entry_effect (mounted_on d image) d.mark.slot (map (entry_on image) (plan_or d.plan)) staged
     (Some (entry_on image (planned_at d place)))
 flash_at d image staged name place has =
-    let plan : List Planned = has.plan in
+    let plan : List Part = has.plan in
     let is : plan_or d.plan ≡ plan = ap plan_or has.plan_is in
     let at_plan : effect_on (mounted_on d image) staged (Flash name)
     ≡ entry_effect (mounted_on d image) d.mark.slot (map (entry_on image) plan) staged
@@ -153,7 +152,7 @@ flash_at d image staged name place has =
     ∙ ap (entry_effect (mounted_on d image) d.mark.slot (map (entry_on image) plan) staged)
     (place_named image (base_of name) plan place no_planned has.place_is) in
     subst
-    (λ (ps : List Planned).
+    (λ (ps : List Part).
     effect_on (mounted_on d image) staged (Flash name)
     ≡ entry_effect (mounted_on d image) d.mark.slot (map (entry_on image) ps) staged
     (Some (entry_on image (get_or ps place no_planned))))

@@ -10,7 +10,6 @@ use Rattle.vab_names.specs.Names.{base_of}
 use Rattle.vab_space.specs.Space.{need_of}
 use Rattle.vab_store.specs.Layout.{IsOnDisk}
 use Rattle.vab_device.specs.declared.device.Part.{Part}
-use Rattle.vab_device.specs.declared.device.Planned.{Planned}
 use Rattle.vab_device.specs.declared.device.Device.{Device}
 use Rattle.vab_device.specs.Kept.{IsPart, ArePresent, IsDevice}
 use Rattle.vab_flash.specs.Chosen.{plan_or, planned_at, no_planned, part_named, part_among}
@@ -76,7 +75,7 @@ le_true a b le = elim (cases_Bool (nat_le a b)) [
 
 -- ---- the store of a name
 
-first_store : (base : List ℕ) (plan : List Planned) (k : ℕ) (e : Planned)
+first_store : (base : List ℕ) (plan : List Part) (k : ℕ) (e : Part)
     → k < length plan
     → bytes_eq (get_or plan k e).name base ≡ true
     → ((j : ℕ) → j < k → bytes_eq (get_or plan j e).name base ≡ false)
@@ -96,5 +95,5 @@ store_of_name d name place has =
     has.place_is in
     ap (store_in (base_of name)) has.plan_is
     ∙ first_store (base_of name) has.plan place no_planned at.0 at.1 at.2
-    ∙ ap (λ (ps : List Planned). blocks_there (get_or ps place no_planned).store)
+    ∙ ap (λ (ps : List Part). blocks_there (get_or ps place no_planned).store)
     (sym (ap plan_or has.plan_is))

@@ -28,8 +28,8 @@ use Rattle.vab_builder.proofs.Counting.{first as first_of, later, pairs_head, pa
 use Rattle.vab_builder.proofs.Counting.{none_in_nil, of_filter, cons_cases}
 use Rattle.vab_builder.proofs.NameCases.{ne_name, eq_name}
 use Rattle.vab_device.specs.declared.fault.StartFault.{StartFault}
-use Rattle.vab_device.specs.declared.device.Planned.{Planned}
-use Rattle.vab_device.specs.declared.device.PlannedImage.TheVariants.{Written}
+use Rattle.vab_device.specs.declared.device.Part.{Part}
+use Rattle.vab_device.specs.declared.device.PartImage.TheVariants.{Written}
 use Rattle.vab_device.specs.declared.device.Device.{Device}
 use Rattle.vab_device.specs.Checks.{◌>>=◌}
 use Rattle.vab_device.specs.Kept.{sectors_of, IsDevice}
@@ -54,7 +54,7 @@ use Rattle.vab_flash.proofs.DeadLaws.{plan_sectors, images_a_stay, images_b_stay
 
 -- the list with another element at a place is that of another function, where this one differs
 -- from the first at this element alone
-pub set_one : (f g : PartOfLayout → Planned) (ps : List PartOfLayout) (k : ℕ) (q d : PartOfLayout)
+pub set_one : (f g : PartOfLayout → Part) (ps : List PartOfLayout) (k : ℕ) (q d : PartOfLayout)
     → k < length ps
     → get_or ps k d ≡ q
     → AllPairs (λ a b. a.name ≢ b.name) ps
@@ -71,7 +71,7 @@ set_one f g (p ∷ ps) zero q d below is differ others =
     let here : g q ≡ g p = ap g (sym is) in
     (λ i. here i ∷ rest i)
   where
-    same_map : (f g : PartOfLayout → Planned) (xs : List PartOfLayout)
+    same_map : (f g : PartOfLayout → Part) (xs : List PartOfLayout)
         → ((x : PartOfLayout) → Contains xs x → f x ≡ g x)
         → map f xs ≡ map g xs
     same_map f g [] same = refl
@@ -304,7 +304,7 @@ module _
       → Contains (own_parts (other_slot i.slot) layout.parts) p
       → entry_on new (planned_on layout i.scanned p) ≡ entry_on old (planned_on layout i.scanned p)
   entry_stays p c =
-      let x : Planned = planned_on layout i.scanned p in
+      let x : Part = planned_on layout i.scanned p in
       let whole : phase_on i.slot new (Some (x ∷ [])) ≡ phase_on i.slot old (Some (x ∷ [])) =
       plan_kept i.slot (Some (x ∷ [])) old new
       (λ s is.

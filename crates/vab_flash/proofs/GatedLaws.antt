@@ -8,8 +8,8 @@ use Rattle.std.proofs.lemmas.Bool.{cases_eq}
 use Rattle.std.proofs.lemmas.Grind.{get_or-set_at}
 use Rattle.std.proofs.lemmas.List.{get_or-set_other, length-set}
 use Rattle.vab_disk.specs.Disk.{IsAt}
-use Rattle.vab_device.specs.declared.device.PlannedImage.TheVariants.{Written}
-use Rattle.vab_device.specs.Kept.{IsPlan, ArePlanned, IsPlanned, IsStored}
+use Rattle.vab_device.specs.declared.device.PartImage.TheVariants.{Written}
+use Rattle.vab_device.specs.Kept.{ArePresent, AreParts, IsPart, IsStored}
 use Rattle.vab_device.specs.Reading.{IsOfBlocks}
 use Rattle.vab_flash.specs.Touched.{IsOfFlash}
 use Rattle.vab_flash.proofs.FlashLaws.{store_of_name}
@@ -34,7 +34,7 @@ use Rattle.vab_model.specs.Commands.{Flash}
 use Rattle.vab_model.specs.Effects.{does}
 use Rattle.vab_model.specs.declared.command.Reply.TheVariants.{Done}
 use Rattle.vab_device.specs.declared.device.Device.{Device}
-use Rattle.vab_device.specs.declared.device.Planned.{Planned}
+use Rattle.vab_device.specs.declared.device.Part.{Part}
 use Rattle.vab_device.specs.Kept.{IsDevice}
 use Rattle.vab_device.specs.Mounted.{mounted_on, blocks_there}
 use Rattle.vab_device.specs.Reading.{device, Represents}
@@ -125,7 +125,7 @@ module _ (d : Device) (size : ℕ) (old : Image) (device_is : IsDevice d size)
         )
 
 -- the name of a status
-pub name_short : (d : Device) (size place : ℕ) (q : Planned)
+pub name_short : (d : Device) (size place : ℕ) (q : Part)
     → IsDevice d size
     → place < length (plan_or d.plan)
     → q ≡ planned_at d place
@@ -134,7 +134,7 @@ name_short d size place q is below same =
     let planned = planned_kept d size place is below in
     omega (
       arith,
-      ap (λ (x : Planned). length x.name) same,
+      ap (λ (x : Part). length x.name) same,
       base_short (planned_at d place).name planned.name,
     )
 
@@ -146,14 +146,14 @@ name_is d name place has =
     has.place_is in
     let whole : plan_or d.plan ≡ has.plan = ap plan_or has.plan_is in
     let base : (planned_at d place).name ≡ base_of name =
-    ap (λ (ps : List Planned). (get_or ps place no_planned).name) whole
+    ap (λ (ps : List Part). (get_or ps place no_planned).name) whole
     ∙ same_name _ (base_of name) at.1 in
     ap (λ (b : List ℕ). b ++ suffix_of (other_slot d.mark.slot)) base
     ∙ sym (of_slot (other_slot d.mark.slot) name (full_slot (other_slot d.mark.slot) name has.full))
 
 -- ---- what is kept then
 
-all_set : (P : Planned → Type 0) (ps : List Planned) (k : ℕ) (x : Planned)
+all_set : (P : Part → Type 0) (ps : List Part) (k : ℕ) (x : Part)
     → All P ps
     → P x
     → All P (set ps k x)
@@ -175,13 +175,13 @@ pub written_kept : (d : Device) (size : ℕ) (name : List ℕ) (staged : Option 
 written_kept d size name staged place bytes es is chosen fits =
     let plan_is = chosen.has.plan_is in
     let whole : plan_or d.plan ≡ chosen.has.plan = ap plan_or plan_is in
-    let all : ArePlanned size (plan_or d.plan) =
-    subst (ArePlanned size) (sym whole)
-    (subst (λ (o : Option (List Planned)). IsPlan size o) plan_is is.plan) in
-    let old : IsPlanned size (planned_at d place) = planned_kept d size place is chosen.within in
+    let all : AreParts size (plan_or d.plan) =
+    subst (AreParts size) (sym whole)
+    (subst (λ (o : Option (List Part)). ArePresent size o) plan_is is.plan) in
+    let old : IsPart size (planned_at d place) = planned_kept d size place is chosen.within in
     let there : blocks_there (planned_at d place).store ≡ chosen.fits.store =
     ap blocks_there chosen.fits.store_is in
-    let one : IsPlanned size (record (planned_at d place) { image = Written es }) = record {
+    let one : IsPart size (record (planned_at d place) { image = Written es }) = record {
       name = old.name;
       on_disk = old.on_disk;
       once = old.once;
@@ -209,9 +209,9 @@ written_kept d size name staged place bytes es is chosen fits =
       table_b = is.table_b;
       source = is.source;
       target = is.target;
-      planned = ap (λ (o : Option (List Planned)). is_some o) (sym plan_is) ∙ is.planned;
+      planned = ap (λ (o : Option (List Part)). is_some o) (sym plan_is) ∙ is.planned;
       plan = record {
-        each = all_set (IsPlanned size) (plan_or d.plan) place
+        each = all_set (IsPart size) (plan_or d.plan) place
             (record (planned_at d place) { image = Written es }) all.each one;
         few = omega (
           arith,

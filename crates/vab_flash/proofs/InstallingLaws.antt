@@ -9,7 +9,7 @@ use Rattle.vab_marks.specs.declared.mark.MarkPhase.TheVariants as marks
 use Rattle.vab_marks.specs.declared.status.PartStatus.{PartStatus}
 use Rattle.vab_geometry.specs.declared.geometry.Geometry.{Geometry}
 use Rattle.vab_tables.specs.declared.table.Table.{Table}
-use Rattle.vab_device.specs.declared.device.Planned.{Planned}
+use Rattle.vab_device.specs.declared.device.Part.{Part}
 use Rattle.vab_device.specs.declared.device.Device.{Device}
 use Rattle.vab_device.specs.Phases.{phase_at}
 use Rattle.vab_device.specs.Reading.{Read, kept, Reads, AgreeCopies, Represents}
@@ -72,7 +72,7 @@ record Planning (m : MarkPhase) (ts : List Table) : Type 0 where
   others : List Table
   tables : ts ≡ source ∷ target ∷ others
 
-planning : (m : MarkPhase) (slot : ℕ) (ts : List Table) (ss : List Scanned) (plan : List Planned)
+planning : (m : MarkPhase) (slot : ℕ) (ts : List Table) (ss : List Scanned) (plan : List Part)
     → (phase_at m).plan slot ts ss ≡ Some plan
     → Planning m ts
 planning marks.Idle slot ts ss plan h = absurd cc
@@ -85,7 +85,7 @@ planning marks.Merging slot ts ss plan h = absurd cc
 planning marks.Completed slot ts ss plan h = absurd cc
 
 -- a device with a plan
-pub installs_of : (d : Device) (size : ℕ) (image : Image) (plan : List Planned)
+pub installs_of : (d : Device) (size : ℕ) (image : Image) (plan : List Part)
     → Represents d size image
     → d.plan ≡ Some plan
     → Installs d size image

@@ -19,7 +19,7 @@ use Rattle.vab_layout.proofs.LayoutLaws.{layout_keeps}
 use Rattle.vab_builder.proofs.Counting.{of_filter, cons_cases, none_in_nil}
 use Rattle.vab_builder.proofs.Counting.{pairs_head, pairs_tail}
 use Rattle.vab_builder.proofs.NameCases.{same_name, eq_name, ne_name, full_slot}
-use Rattle.vab_device.specs.declared.device.Planned.{Planned}
+use Rattle.vab_device.specs.declared.device.Part.{Part}
 use Rattle.vab_device.specs.declared.device.Device.{Device}
 use Rattle.vab_device.specs.Kept.{sectors_of, IsDevice}
 use Rattle.vab_device.specs.Phases.{planned_on, planned_image, plan_of}
@@ -142,7 +142,7 @@ module _ (d : Device) (size : ℕ) (old : Image) (i : Installs d size old) (devi
   placed =
       ap (place_of (base_of name)) (sym plan_has) ∙ has.place_is
 
-  abbrev test : Planned → Bool
+  abbrev test : Part → Bool
   test p = bytes_eq p.name (base_of name)
 
   below_owns : place < length owns
@@ -164,7 +164,7 @@ module _ (d : Device) (size : ℕ) (old : Image) (i : Installs d size old) (devi
   planned_is : planned_at d place ≡ planned_on layout i.scanned part
   unfolding part
   planned_is =
-      ap (λ (ps : List Planned). get_or ps place no_planned) plan_whole
+      ap (λ (ps : List Part). get_or ps place no_planned) plan_whole
       ∙ get_or-map (planned_on layout i.scanned) owns place no_part no_planned below_owns
 
   own_name : is_of_slot (other_slot i.slot) name ≡ true
@@ -179,7 +179,7 @@ module _ (d : Device) (size : ℕ) (old : Image) (i : Installs d size old) (devi
       in
       let e : get_or (map (planned_on layout i.scanned) owns) place no_planned
       ≡ planned_on layout i.scanned part =
-      sym (ap (λ (ps : List Planned). get_or ps place no_planned) plan_whole) ∙ planned_is in
+      sym (ap (λ (ps : List Part). get_or ps place no_planned) plan_whole) ∙ planned_is in
       let base : base_of part.name ≡ base_of name =
       same_name (base_of part.name) (base_of name) (sym (ap test e) ∙ at.1) in
       let of : is_of_slot (other_slot i.slot) part.name ≡ true =
@@ -201,7 +201,7 @@ module _ (d : Device) (size : ℕ) (old : Image) (i : Installs d size old) (devi
   placed_of =
       let found = some_store layout.device.first_logical_sector
       (first_named (store_of part.name) layout.parts) store
-      (sym (ap (λ (p : Planned). p.store) planned_is) ∙ store_of_it) in
+      (sym (ap (λ (p : Part). p.store) planned_is) ∙ store_of_it) in
       let rule : IsTargetPart (other_slot i.slot) (layout_of i.source).parts layout.parts part =
       All-contains
       (IsTargetPart (other_slot i.slot) (layout_of i.source).parts layout.parts) owns part
@@ -212,7 +212,7 @@ module _ (d : Device) (size : ℕ) (old : Image) (i : Installs d size old) (devi
       let image : IsUnwritten (planned_image true (exceptions_of part.name i.scanned)) =
       subst (λ (b : Bool). IsUnwritten (planned_image b (exceptions_of part.name i.scanned)))
       updated
-      (subst (λ (p : Planned). IsUnwritten p.image) planned_is unwritten) in
+      (subst (λ (p : Part). IsUnwritten p.image) planned_is unwritten) in
       record {
         part = part;
         keeps = found.0;

@@ -27,7 +27,7 @@ use Rattle.vab_model.specs.Commands.{Flash}
 use Rattle.vab_model.specs.Effects.{refuses}
 use Rattle.vab_model.specs.declared.command.Refusal.TheVariants.{StoreFull, NoMemory}
 use Rattle.vab_device.specs.declared.fault.StartFault.TheVariants.{BadMark}
-use Rattle.vab_device.specs.declared.device.PlannedImage.TheVariants.{Written}
+use Rattle.vab_device.specs.declared.device.PartImage.TheVariants.{Written}
 use Rattle.vab_device.specs.Phases.{plan_of}
 use Rattle.vab_device.specs.Mounted.{entry_on}
 use Rattle.vab_device.specs.Updates.{effect_on, if_room, flashed, differences}
@@ -61,10 +61,10 @@ use Rattle.vab_flash.proofs.GateLaws.{mounted_then}
 use Rattle.vab_flash.proofs.PlacedLaws.{one_of_name}
 use Rattle.vab_flash.proofs.SourceLaws.{begins_same, behind_end}
 use Rattle.std.proofs.lemmas.Bool.{leb-true}
-use Rattle.vab_device.specs.declared.device.Planned.{Planned}
+use Rattle.vab_device.specs.declared.device.Part.{Part}
 use Rattle.vab_device.specs.declared.device.Device.{Device}
 use Rattle.vab_device.specs.declared.fault.StartFault.{StartFault}
-use Rattle.vab_device.specs.Kept.{sectors_of, parts_of, part_on, IsDevice, IsPlanned, IsStored}
+use Rattle.vab_device.specs.Kept.{sectors_of, parts_of, part_on, IsDevice, IsPart, IsStored}
 use Rattle.vab_device.specs.Kept.{IsStore}
 use Rattle.vab_device.specs.Kept.{ArePresent, IsPart}
 use Rattle.vab_device.specs.Mounted.{mounted_on}
@@ -85,29 +85,29 @@ use Rattle.vab_flash.proofs.SourceLaws.{sectors_once, sectors_disjoint, source_b
 pub planned_kept : (d : Device) (size place : ℕ)
     → IsDevice d size
     → place < length (plan_or d.plan)
-    → IsPlanned size (planned_at d place)
+    → IsPart size (planned_at d place)
 planned_kept d size place is below = of_plan d.plan is.plan below
   where
-    of_plan : (o : Option (List Planned))
-        → Rattle.vab_device.specs.Kept.IsPlan size o
+    of_plan : (o : Option (List Part))
+        → Rattle.vab_device.specs.Kept.ArePresent size o
         → place < length (plan_or o)
-        → IsPlanned size (get_or (plan_or o) place no_planned)
+        → IsPart size (get_or (plan_or o) place no_planned)
     of_plan None all below = absurd (omega (arith, below))
-    of_plan (Some plan) all below = All-get_or (IsPlanned size) plan place no_planned below all.each
+    of_plan (Some plan) all below = All-get_or (IsPart size) plan place no_planned below all.each
 
-pub store_kept : (size : ℕ) (p : Planned) (store : List ℕ)
-    → IsPlanned size p
+pub store_kept : (size : ℕ) (p : Part) (store : List ℕ)
+    → IsPart size p
     → p.store ≡ Some store
     → IsStore size store
 store_kept size p store is has = by_image p.image (subst (λ o. IsStored size p.map o p.image) has
     is.store)
   where
-    by_image : (image : Rattle.vab_device.specs.declared.device.PlannedImage.PlannedImage)
+    by_image : (image : Rattle.vab_device.specs.declared.device.PartImage.PartImage)
         → IsStored size p.map (Some store) image
         → IsStore size store
-    by_image Rattle.vab_device.specs.declared.device.PlannedImage.TheVariants.Kept s = s
-    by_image Rattle.vab_device.specs.declared.device.PlannedImage.TheVariants.Declared s = s
-    by_image (Rattle.vab_device.specs.declared.device.PlannedImage.TheVariants.Written es) s = s.0
+    by_image Rattle.vab_device.specs.declared.device.PartImage.TheVariants.Kept s = s
+    by_image Rattle.vab_device.specs.declared.device.PartImage.TheVariants.Declared s = s
+    by_image (Rattle.vab_device.specs.declared.device.PartImage.TheVariants.Written es) s = s.0
 
 -- ---- a sector of the first blocks
 
@@ -171,7 +171,7 @@ module _ (d : Device) (size : ℕ) (old : Image) (device_is : IsDevice d size)
   unfolding source
   base_is =
       let base : (planned_at d place).name ≡ base_of name =
-      ap (λ (x : Planned). x.name) p.planned ∙ ap base_of p.named in
+      ap (λ (x : Part). x.name) p.planned ∙ ap base_of p.named in
       let form : part_at d d.mark.slot (base_of name)
       ≡ part_named (base_of name) (parts_of i.slot (layout_of i.source)) =
       ap (λ (k : Device). part_at k k.mark.slot (base_of name)) i.is
@@ -324,7 +324,7 @@ module _ (d : Device) (size : ℕ) (old : Image) (device_is : IsDevice d size)
           decoded
 
       part_long : length (planned_at d place).map ≡ length (sectors_of at p.part.blocks)
-      part_long = ap (λ (x : Planned). length x.map) p.planned
+      part_long = ap (λ (x : Part). length x.map) p.planned
 
       scan_then : scan_of store_sectors (length (sectors_of at p.part.blocks)) gated ≡ Ok es
       scan_then =
@@ -350,16 +350,16 @@ module _ (d : Device) (size : ℕ) (old : Image) (device_is : IsDevice d size)
       pub next_is : next ≡ with_written d place es
       unfolding next
       next_is =
-          ap (λ (plan : List Planned). record d { plan = Some plan })
+          ap (λ (plan : List Part). record d { plan = Some plan })
           (sym (plan_then d size old i device_is name p.part p.keeps p.own p.found p.unread
           p.part_is
           gated es free stay (free_is i.statuses statuses_were) joined scan_then place p.part
           p.within
           (p.at_place p.part) p.named p.updated p.differ)
-          ∙ ap (λ (x : Planned).
+          ∙ ap (λ (x : Part).
           set (plan_of (other_slot i.slot) (layout_of i.target) i.scanned) place
           (record x { image = Written es })) (sym p.planned)
-          ∙ ap (λ (plan : List Planned).
+          ∙ ap (λ (plan : List Part).
           set plan place (record (planned_at d place) { image = Written es })) (sym p.plan_is))
 
       -- ---- what it means
@@ -382,7 +382,7 @@ module _ (d : Device) (size : ℕ) (old : Image) (device_is : IsDevice d size)
           take (length bs) p.part.blocks ≡ take (length p.part.blocks) bs) same rule.begins
 
       map_is : (planned_at d place).map ≡ sectors_of at p.part.blocks
-      map_is = ap (λ (x : Planned). x.map) p.planned
+      map_is = ap (λ (x : Part). x.map) p.planned
 
       begin_there : (j : ℕ)
           → j < length (planned_at d place).map
@@ -460,11 +460,11 @@ module _ (d : Device) (size : ℕ) (old : Image) (device_is : IsDevice d size)
           (one_of_name (own_parts (other_slot i.slot) (layout_of i.target).parts) q p.part p.differ
           c
           p.there))
-          (subst (λ (x : Planned).
+          (subst (λ (x : Part).
           bytes_at gated (written_sectors x es) ≡ filled bytes (length x.map)) p.planned
           bytes_then) in
           let name_is : (planned_at d place).name ≡ base_of name =
-          ap (λ (x : Planned). x.name) p.planned ∙ ap base_of p.named in
+          ap (λ (x : Part). x.name) p.planned ∙ ap base_of p.named in
           effect_room room
           ∙ (λ k. does replies.Done (record (mounted_on d old) {
             state = record (state_on d old) {

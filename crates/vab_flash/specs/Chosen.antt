@@ -11,33 +11,32 @@ use Rattle.vab_names.specs.Names.{is_full, base_of}
 use Rattle.vab_layout.specs.Slots.{other_slot}
 use Rattle.vab_model.specs.declared.state.PlanEntry.{PlanEntry}
 use Rattle.vab_device.specs.declared.device.Part.{Part}
-use Rattle.vab_device.specs.declared.device.Planned.{Planned}
-use Rattle.vab_device.specs.declared.device.PlannedImage.{PlannedImage}
-use Rattle.vab_device.specs.declared.device.PlannedImage.TheVariants.{Kept, Declared, Written}
+use Rattle.vab_device.specs.declared.device.PartImage.{PartImage}
+use Rattle.vab_device.specs.declared.device.PartImage.TheVariants.{Kept, Declared, Written}
 use Rattle.vab_device.specs.declared.device.Device.{Device}
 use Rattle.vab_device.specs.Mounted.{Mounted, entry_on, blocks_there}
 use Rattle.vab_device.specs.Updates.{entry_effect, if_room, differences, source_bytes}
 
 -- the place of the first planned partition of a base name
-abbrev pub place_of : List ℕ → List Planned → Option ℕ
+abbrev pub place_of : List ℕ → List Part → Option ℕ
 place_of base plan = position (λ p. bytes_eq p.name base) plan
 
 -- while an update is installed, the target has a partition of this name at this place of the plan
 pub record HasPlace (d : Device) (name : List ℕ) (place : ℕ) : Type 0 where
-  pub plan : List Planned
+  pub plan : List Part
   pub plan_is : d.plan ≡ Some plan
   pub full : is_full (other_slot d.mark.slot) name ≡ true
   pub place_is : place_of (base_of name) plan ≡ Some place
 
 -- nothing was written to it
-abbrev pub IsUnwritten : PlannedImage → Type 0
+abbrev pub IsUnwritten : PartImage → Type 0
 IsUnwritten Kept = Unit {0}
 IsUnwritten Declared = Unit {0}
 IsUnwritten (Written es) = ⊥
 
 -- It has a store, nothing was written to it, and the staged bytes are at most as long as it is.
 -- What is left to ask is whether its store has room.
-pub record IsFor (p : Planned) (staged : Option (List ℕ)) (bytes : List ℕ) : Type 0 where
+pub record IsFor (p : Part) (staged : Option (List ℕ)) (bytes : List ℕ) : Type 0 where
   pub store : List ℕ
   pub store_is : p.store ≡ Some store
   pub unwritten : IsUnwritten p.image
@@ -70,14 +69,14 @@ blocks_or (Some p) = p.map
 
 -- ---- the plan with an image that was written
 
-abbrev pub plan_or : Option (List Planned) → List Planned
+abbrev pub plan_or : Option (List Part) → List Part
 plan_or None = []
 plan_or (Some plan) = plan
 
-abbrev pub no_planned : Planned
+abbrev pub no_planned : Part
 no_planned = record { name = []; group = []; map = []; store = None; image = Kept }
 
-abbrev pub planned_at : Device → ℕ → Planned
+abbrev pub planned_at : Device → ℕ → Part
 planned_at d place = slice_index_or (plan_or d.plan) place no_planned
 
 -- with these exceptions for the planned partition at this place

@@ -4,18 +4,18 @@ use Rattle.std.specs.Str.{bytes_eq}
 use Rattle.vab_names.specs.Names.{base_of}
 use Rattle.vab_marks.specs.Status.{status_spelling}
 use Rattle.vab_statuses.specs.Statuses.{IsOfStatuses}
-use Rattle.vab_device.specs.declared.device.Planned.{Planned}
+use Rattle.vab_device.specs.declared.device.Part.{Part}
 use Rattle.vab_device.specs.declared.device.Device.{Device}
 use Rattle.vab_device.specs.Mounted.{blocks_there}
 use Rattle.vab_device.specs.Reading.{IsOfBlocks}
 
 -- the blocks of the store of the first planned partition of this base name
-abbrev pub store_named : List ℕ → List Planned → List ℕ
+abbrev pub store_named : List ℕ → List Part → List ℕ
 store_named base [] = []
 store_named base (p ∷ ps) = if bytes_eq p.name base then blocks_there p.store else store_named base
     ps
 
-abbrev pub store_in : List ℕ → Option (List Planned) → List ℕ
+abbrev pub store_in : List ℕ → Option (List Part) → List ℕ
 store_in base None = []
 store_in base (Some plan) = store_named base plan
 

@@ -14,7 +14,7 @@ ghost use Rattle.vab_flash.specs.Chosen.{place_of, HasPlace, IsFor, part_named, 
 ghost use Rattle.vab_flash.specs.Chosen.{plan_or, planned_at, IsChosen};
 
 use vab_bytes::Listing;
-use vab_device::{Device, Part, Planned, PlannedImage};
+use vab_device::{Device, Part, PartImage};
 use vab_model::Refusal;
 use vab_names::{base_of, is_full};
 
@@ -25,7 +25,7 @@ const BLOCK: u64 = 4096;
 const SPARSE: [u8; 4] = [0x3a, 0xff, 0x26, 0xed];
 
 // The place of the first planned partition of a base name.
-fn place_of(plan: &Listing<Planned>, base: &[u8]) -> Option<usize>
+fn place_of(plan: &Listing<Part>, base: &[u8]) -> Option<usize>
     ensures { result ≡ place_of base.now plan.now }
 {
     plan.as_slice().iter().position(|p| p.name.text() == base)
@@ -62,7 +62,7 @@ fn is_sparse(bytes: &[u8]) -> bool
 }
 
 // The bytes for this planned partition, or why they can't become its image.
-fn fit<'a>(entry: &Planned, staged: Option<&'a [u8]>) -> Result<&'a [u8], Refusal>
+fn fit<'a>(entry: &Part, staged: Option<&'a [u8]>) -> Result<&'a [u8], Refusal>
     requires { length entry.now.map < 2 ^ 48 }
     ensures fits { IfOk result
         (λ b. IsFor entry.now (option_map (λ s. s.now) staged.entry) b.now) }
@@ -75,7 +75,7 @@ fn fit<'a>(entry: &Planned, staged: Option<&'a [u8]>) -> Result<&'a [u8], Refusa
     if entry.store.is_none() {
         return Err(Refusal::NoStore);
     }
-    if matches!(entry.image, PlannedImage::Written(_)) {
+    if matches!(entry.image, PartImage::Written(_)) {
         return Err(Refusal::Written);
     }
     let bytes = match staged {
@@ -116,7 +116,7 @@ pub fn part_at<'a>(device: &'a Device, slot: usize, base: &[u8]) -> Option<&'a P
 }
 
 /// The planned partition at a place.
-pub fn planned_at(device: &Device, place: usize) -> &Planned
+pub fn planned_at(device: &Device, place: usize) -> &Part
     requires { place < length (plan_or device.now.plan) }
     ensures { result.now ≡ planned_at device.now place }
 {

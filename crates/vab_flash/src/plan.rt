@@ -4,7 +4,7 @@ ghost use Rattle.std.specs.Prelude.{◌≡◌, ◌<◌, length};
 ghost use Rattle.vab_flash.specs.Chosen.{plan_or, with_written};
 
 use vab_bytes::Listing;
-use vab_device::{Device, PlannedImage};
+use vab_device::{Device, PartImage};
 use vab_store::StoreView;
 
 /// The device with these exceptions for the planned partition at this place, whose image was
@@ -29,7 +29,7 @@ pub fn written(device: Device, place: usize, view: StoreView) -> Device
         Some(plan) => plan.into_vec(),
         None => unreachable!(),
     };
-    items[place].image = PlannedImage::Written(view);
+    items[place].image = PartImage::Written(view);
     Device {
         geometry,
         control,

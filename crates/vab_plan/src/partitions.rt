@@ -11,7 +11,7 @@ ghost use Rattle.vab_device.specs.Kept.{limits_of, sectors_of, part_on, parts_of
 
 use std::alloc::Global;
 use vab_bytes::{Listing, Name36};
-use vab_device::{Part, StartFault};
+use vab_device::{Part, PartImage, StartFault};
 use vab_geometry::SUPER;
 use vab_linear::Map;
 use vab_model::GroupLimit;
@@ -64,6 +64,8 @@ fn part(alloc: Global, table: &Table, partition: &Partition) -> Result<Part, Sta
         name: base(&partition.name),
         group: table.groups.as_slice()[partition.group as usize].name,
         map: map(alloc, table, partition)?,
+        store: None,
+        image: PartImage::Kept,
     })
 }
 

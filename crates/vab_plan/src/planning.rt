@@ -15,7 +15,7 @@ ghost use Rattle.vab_plan.specs.Scans.{scans_of, IsTargetTable};
 use crate::partitions::{base, map};
 use std::alloc::Global;
 use vab_bytes::{Listing, Name36};
-use vab_device::{Planned, PlannedImage, StartFault};
+use vab_device::{Part, PartImage, StartFault};
 use vab_linear::Map;
 use vab_names::{is_of_slot, store_of};
 use vab_store::StoreView;
@@ -110,22 +110,22 @@ fn take(scans: &mut Vec<Scan>, name: &Name36) -> Option<StoreView>
 }
 
 // What is known of the image of a partition.
-fn image(updated: bool, view: Option<StoreView>) -> PlannedImage
+fn image(updated: bool, view: Option<StoreView>) -> PartImage
     ensures { result ≡ planned_image updated view }
 {
     match view {
         None => {
             if updated {
-                PlannedImage::Declared
+                PartImage::Declared
             } else {
-                PlannedImage::Kept
+                PartImage::Kept
             }
         }
         Some(view) => {
             if updated {
-                PlannedImage::Written(view)
+                PartImage::Written(view)
             } else {
-                PlannedImage::Kept
+                PartImage::Kept
             }
         }
     }
@@ -138,7 +138,7 @@ fn planned(
     partition: &Partition,
     slot: usize,
     scans: &mut Vec<Scan>,
-) -> Result<Planned, StartFault>
+) -> Result<Part, StartFault>
     requires target { IsTargetTable slot table.now }
     requires rules { IsPartition table.now.minor (length table.now.extents)
         (length table.now.groups) partition.now }
@@ -156,7 +156,7 @@ fn planned(
     let view = take(scans, &partition.name);
     let map = map(alloc, table, partition)?;
     let store = store_map(alloc, table, &partition.name, slot)?;
-    Ok(Planned {
+    Ok(Part {
         name: base(&partition.name),
         group: table.groups.as_slice()[partition.group as usize].name,
         map,
@@ -171,7 +171,7 @@ pub fn plan(
     table: &Table,
     slot: usize,
     scans: Vec<Scan>,
-) -> Result<Listing<Planned>, StartFault>
+) -> Result<Listing<Part>, StartFault>
     requires slot { slot < 2 }
     requires target { IsTargetTable slot table.now }
     ensures plan { IfOk result

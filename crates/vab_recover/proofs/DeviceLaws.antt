@@ -39,7 +39,7 @@ use Rattle.vab_store.specs.View.{Fits as FitsStore}
 use Rattle.vab_lpstore.specs.declared.loaded.Loaded.{Loaded}
 use Rattle.vab_builder.proofs.NameCases.{store_is_store}
 use Rattle.vab_layout.specs.Slots.{store_parts, is_updated, IsTarget}
-use Rattle.vab_device.specs.Kept.{IsStore, IsStored, IsPlanned, ArePlanned, AreOfUpdate, IsPhase}
+use Rattle.vab_device.specs.Kept.{IsStore, IsStored, IsPart, AreParts, AreOfUpdate, IsPhase}
 use Rattle.vab_device.specs.Kept.{is_installing}
 use Rattle.vab_device.specs.Phases.{store_on, planned_image, planned_on, plan_of}
 use Rattle.vab_device.specs.Reading.{kept}
@@ -222,7 +222,7 @@ module _
       → is_of_slot slot p.name ≡ true
       → first_named p.name (own_parts slot l.parts) ≡ Some p
       → IsPart size (part_on first p)
-      → IsPlanned size (planned_on l ss p)
+      → IsPart size (planned_on l ss p)
   planned_is ss p are own found part = record {
     name = part.name;
     on_disk = part.on_disk;
@@ -251,7 +251,7 @@ module _
 
   pub plan_kept : (ss : List Scanned)
       → All (IsScanned slot l) ss
-      → ArePlanned size (plan_of slot l ss)
+      → AreParts size (plan_of slot l ss)
   plan_kept ss are =
       let mine : List PartOfLayout = own_parts slot l.parts in
       let parts = parts_kept size slot g l enough layout target.own lies in
@@ -263,7 +263,7 @@ module _
       filter_passes (λ (p : PartOfLayout). is_of_slot slot p.name) l.parts in
       let long = length-map mine (part_on first) in
       record {
-        each = All-map (IsPlanned size) (planned_on l ss) mine
+        each = All-map (IsPart size) (planned_on l ss) mine
             (λ k d lt. planned_is ss (get_or mine k d) are (own k d lt) (found_at mine k d differ lt)
             (subst (IsPart size) (get_or-map (part_on first) mine k d (part_on first d) lt)
             (parts.each k (part_on first d) (omega (arith, lt, long)))));
@@ -280,7 +280,7 @@ by_case : (size : ℕ) (phase : MarkPhase) (slot : ℕ) (statuses : List (Option
     → IfSome t (λ l. IsTableOf size g (other_slot slot) l.table)
     → IfSome t (λ l. AreOfUpdate slot s l.table)
     → is_some t ≡ is_installing phase
-    → IfSome t (λ l. ArePlanned size (plan_of (other_slot slot) (layout_of l.table) ss))
+    → IfSome t (λ l. AreParts size (plan_of (other_slot slot) (layout_of l.table) ss))
     → AreParts size (parts_of slot (layout_of s))
     → (let m : UpdateMark = record { phase = phase; slot = slot } in
     IsDevice (record (kept (read_of m statuses c g (s ∷ target_tables t) ss)) { control = c }) size)
@@ -406,7 +406,7 @@ pub device_kept : (size : ℕ) (m : UpdateMark) (statuses : List (Option PartSta
     → IfSome t (λ l. IsTableOf size g (other_slot m.slot) l.table)
     → IfSome t (λ l. AreOfUpdate m.slot s l.table)
     → is_some t ≡ is_installing m.phase
-    → IfSome t (λ l. ArePlanned size (plan_of (other_slot m.slot) (layout_of l.table) ss))
+    → IfSome t (λ l. AreParts size (plan_of (other_slot m.slot) (layout_of l.table) ss))
     → IsDevice (record (kept (read_of m statuses c g (s ∷ target_tables t) ss)) { control = c }) size
 device_kept size m statuses c g s t ss heads current source target update both plan =
     by_case size m.phase m.slot statuses c g s t ss heads current source target update both plan

@@ -11,8 +11,8 @@ use Rattle.vab_lpstore.specs.declared.loaded.Loaded.{Loaded}
 use Rattle.vab_layout.specs.Layout.{layout_of}
 use Rattle.vab_layout.specs.Slots.{other_slot, IsOwn}
 use Rattle.vab_device.specs.declared.device.Device.{Device}
-use Rattle.vab_device.specs.declared.device.Planned.{Planned}
-use Rattle.vab_device.specs.Kept.{IsTableOf, ArePlanned, AreOfUpdate, IsDevice}
+use Rattle.vab_device.specs.declared.device.Part.{Part}
+use Rattle.vab_device.specs.Kept.{IsTableOf, AreParts, AreOfUpdate, IsDevice}
 use Rattle.vab_device.specs.Phases.{plan_of}
 use Rattle.vab_device.specs.Stores.{Scanned}
 use Rattle.vab_recover.specs.declared.table.Tables.{Tables}
@@ -75,12 +75,12 @@ module _ (size slot : ℕ) (g : Geometry) (s : Table) (t : Option Loaded) where
       → IfSome t (IsTableThere size g)
       → IfSome t (λ l. AreOfUpdate slot s l.table)
       → IfSome t (λ l. All (IsScanned (other_slot slot) (layout_of l.table)) scanned)
-      → IfSome t (λ l. ArePlanned size (plan_of (other_slot slot) (layout_of l.table) scanned))
+      → IfSome t (λ l. AreParts size (plan_of (other_slot slot) (layout_of l.table) scanned))
   plans_kept scanned enough there update are =
       some_both
       (λ l. IsTableThere size g l × IsTargetTable (other_slot slot) l.table)
       (λ l. All (IsScanned (other_slot slot) (layout_of l.table)) scanned)
-      (λ l. ArePlanned size (plan_of (other_slot slot) (layout_of l.table) scanned)) t
+      (λ l. AreParts size (plan_of (other_slot slot) (layout_of l.table) scanned)) t
       (λ l both are.
       plan_kept size (other_slot slot) g l.table enough both.1 both.0.lies scanned are)
       (some_both (IsTableThere size g) (λ l. IsTargetTable (other_slot slot) l.table)
@@ -90,7 +90,7 @@ module _ (size slot : ℕ) (g : Geometry) (s : Table) (t : Option Loaded) where
 
 -- the device that was put together is one on the disk
 pub assembled_kept : (size : ℕ) (d : Device) (t : Tables) (m : UpdateMark)
-    (ss : List (Option PartStatus)) (c : Control) (g : Geometry) (plan : Option (List Planned))
+    (ss : List (Option PartStatus)) (c : Control) (g : Geometry) (plan : Option (List Part))
     (scanned : List Scanned)
     → AreHeads size m c g
     → AreTablesThere size g m t

@@ -17,7 +17,7 @@ use Rattle.vab_layout.specs.Layout.{layout_of}
 use Rattle.vab_layout.specs.Slots.{other_slot}
 use Rattle.vab_device.specs.declared.fault.StartFault.{StartFault}
 use Rattle.vab_device.specs.declared.device.Device.{Device}
-use Rattle.vab_device.specs.declared.device.Planned.{Planned}
+use Rattle.vab_device.specs.declared.device.Part.{Part}
 use Rattle.vab_device.specs.Checks.{first_fault}
 use Rattle.vab_device.specs.Idle.{control_read_of}
 use Rattle.vab_device.specs.Kept.{is_installing, IsPhase, parts_of}
@@ -261,7 +261,7 @@ module _
 
 -- the device that is kept of a reading
 pub kept_is : (d : Device) (t : Tables) (m : UpdateMark) (ss : List (Option PartStatus)) (c : Control)
-    (g : Geometry) (plan : Option (List Planned)) (scanned : List Scanned)
+    (g : Geometry) (plan : Option (List Part)) (scanned : List Scanned)
     → IsPhase m.phase
     → m.slot < 2
     → is_some t.target ≡ is_installing m.phase

@@ -23,14 +23,15 @@ use Rattle.vab_device.specs.declared.device.Device.{Device}
 use Rattle.vab_statuses.specs.Statuses.{written_in}
 use Rattle.vab_tables.specs.Rules.{cap_of}
 use Rattle.vab_device.specs.declared.fault.StartFault.{StartFault}
-use Rattle.vab_device.specs.declared.device.Planned.{Planned}
-use Rattle.vab_device.specs.Checks.{first_fault}
-use Rattle.vab_device.specs.Idle.{control_read_of}
-use Rattle.vab_device.specs.Kept.{lies_in, is_installing, IsPhase, copies_end, super_bytes}
+use Rattle.vab_device.specs.declared.fault.StartFault.TheVariants.{BadState}
+use Rattle.vab_device.specs.declared.device.Part.{Part}
+use Rattle.vab_device.specs.Checks.{check, first_fault}
+use Rattle.vab_device.specs.Kept.{lies_in, has_both, reads_both, IsPhase, copies_end, super_bytes}
 use Rattle.vab_device.specs.Kept.{limits_of, parts_of}
-use Rattle.vab_device.specs.Phases.{phase_at, own_check, update_checks, plan_of}
+use Rattle.vab_device.specs.Phases.{phase_at, own_check, update_checks, plan_of, slot_checks}
+use Rattle.vab_device.specs.Phases.{are_ready, may_run}
 use Rattle.vab_device.specs.Reading.{Read, mark_in, statuses_at, geometry_at, tables_in, kept}
-use Rattle.vab_device.specs.Reading.{device}
+use Rattle.vab_device.specs.Reading.{device, control_kept}
 use Rattle.vab_device.specs.Reading.{Reads}
 use Rattle.vab_device.specs.Stores.{Wanted, Scanned, wanted_of, scans_in}
 use Rattle.vab_recover.specs.Repairs.{IsLoadedAt}
@@ -50,7 +51,7 @@ abbrev pub read_of : UpdateMark
 read_of m statuses c g ts scanned = record {
   mark = m;
   statuses = statuses;
-  control = control_read_of m.slot c;
+  control = control_kept m c;
   geometry = g;
   tables = ts;
   scanned = scanned;
@@ -96,7 +97,7 @@ tables_of t = t.source.table ∷ target_tables t.target
 
 -- the slots whose tables are read behind the source's
 abbrev pub target_slots : UpdateMark → List ℕ
-target_slots m = if is_installing m.phase then other_slot m.slot ∷ [] else []
+target_slots m = if reads_both m.phase then other_slot m.slot ∷ [] else []
 
 -- so are those of both slots
 pub record AreLoaded (g : Geometry) (slot : ℕ) (image : Image) (t : Tables) : Type 0 where
@@ -113,7 +114,7 @@ pub record IsTableThere (size : ℕ) (g : Geometry) (l : Loaded) : Type 0 where
 pub record AreTablesThere (size : ℕ) (g : Geometry) (m : UpdateMark) (t : Tables) : Type 0 where
   pub source : IsTableThere size g t.source
   pub target : IfSome t.target (IsTableThere size g)
-  pub both : is_some t.target ≡ is_installing m.phase
+  pub both : is_some t.target ≡ reads_both m.phase
 
 -- what is read of a disk in front of its stores
 pub record IsFramed (size : ℕ) (image : Image) (f : Frame) : Type 0 where
@@ -137,7 +138,7 @@ abbrev pub stores_by : ℕ → Option Loaded → List PartStatus → List (Resul
 stores_by slot None statuses = []
 stores_by slot (Some l) statuses = map (wanted_of (other_slot slot) (layout_of l.table)) statuses
 
-abbrev pub plan_by : ℕ → Option Loaded → List Scanned → Option (List Planned)
+abbrev pub plan_by : ℕ → Option Loaded → List Scanned → Option (List Part)
 plan_by slot None scanned = None
 plan_by slot (Some l) scanned = Some (plan_of (other_slot slot) (layout_of l.table) scanned)
 
@@ -148,11 +149,33 @@ pub record IsPlanRead
     (target : Option Loaded)
     (statuses : List (Option PartStatus))
     (image : Image)
-    (plan : Option (List Planned)) : Type 0 where
+    (plan : Option (List Part)) : Type 0 where
   pub scanned : List Scanned
   pub plan_is : plan ≡ plan_by slot target scanned
   pub are : IfSome target (λ l. All (IsScanned (other_slot slot) (layout_of l.table)) scanned)
   pub read : modelled → scans_in (stores_by slot target (written_in statuses)) image ≡ Ok scanned
+
+-- whether an update is ready, where its target has these partitions
+abbrev pub is_target_ready : Option (List Part) → Bool
+is_target_ready None = true
+is_target_ready (Some parts) = are_ready parts
+
+-- the rules of the slots, where an update's target has these partitions
+abbrev pub slots_fault : UpdateMark → Control → Option (List Part) → Option StartFault
+slots_fault m c target =
+    first_fault
+    (if has_both m.phase
+    then check (may_run m.slot (control_kept m c)) (BadState 2)
+    ∷ check (is_target_ready target) (BadState 3)
+    ∷ []
+    else slot_checks m.slot (control_kept m c))
+
+-- the partitions of a slot, where it has images: those of this table, and of an update's target
+-- that is ready these
+abbrev pub slot_parts : UpdateMark → ℕ → Table → Option (List Part) → Option (List Part)
+slot_parts m slot s target =
+    if m.slot == slot then Some (parts_of m.slot (layout_of s))
+    else (if has_both m.phase then target else None)
 
 -- a device of these parts, but for its tables
 pub record IsAssembled
@@ -161,15 +184,15 @@ pub record IsAssembled
     (c : Control)
     (g : Geometry)
     (s : Table)
-    (planned : Option (List Planned)) : Type 0 where
+    (target : Option (List Part)) : Type 0 where
   pub mark : d.mark ≡ m
   pub control : d.control ≡ c
   pub geometry : d.geometry ≡ g
   pub cap : d.cap ≡ cap_of (layout_of s).device
   pub groups : d.groups ≡ limits_of m.slot s.groups
-  pub a : d.a ≡ (if m.slot == 0 then Some (parts_of m.slot (layout_of s)) else None)
-  pub b : d.b ≡ (if m.slot == 1 then Some (parts_of m.slot (layout_of s)) else None)
-  pub plan : d.plan ≡ planned
+  pub a : d.a ≡ slot_parts m 0 s target
+  pub b : d.b ≡ slot_parts m 1 s target
+  pub plan : d.plan ≡ (if has_both m.phase then None else target)
 
 -- ---- what is opened
 

@@ -9,7 +9,7 @@ ghost use Rattle.vab_recover.specs.Counts.{CountsFaults};
 ghost use Rattle.vab_recover.specs.Opened.{IsMarked, IsHeaded, AreHeads, AreLoaded, AreTablesThere};
 ghost use Rattle.vab_recover.specs.Opened.{IsFramed};
 
-use crate::read::{is_installing, read_control, read_geometry, read_if, read_mark};
+use crate::read::{read_control, read_geometry, read_if, read_mark, reads_both};
 use crate::table::{Tables, read_tables};
 use std::alloc::Global;
 use vab_bootctl::Control;
@@ -26,7 +26,7 @@ pub const MIN_SECTORS: u64 = 4120;
 #[derive(Drop)]
 pub struct Heads {
     pub mark: UpdateMark,
-    /// The statuses of an update's partitions, none where no update is installed.
+    /// The statuses of an update's partitions, none where there is no update.
     pub statuses: Statuses,
     pub control: Control,
     pub geometry: Geometry,
@@ -39,7 +39,7 @@ pub struct Frame {
     pub tables: Tables,
 }
 
-// The mark, and the statuses where an update is installed.
+// The mark, and the statuses where there is an update.
 fn read_marks<D: Disk>(d: &mut D) -> Result<(UpdateMark, Statuses), StartFault>
     ensures marked { D.is_modelled → IfOk result
         (λ r. IsMarked (D.size d.old) (D.seen d.old) r.0 r.1.items) }
@@ -57,7 +57,7 @@ fn read_marks<D: Disk>(d: &mut D) -> Result<(UpdateMark, Statuses), StartFault>
     }
     match read_mark(d) {
         Err(fault) => Err(fault),
-        Ok(mark) => match read_if(d, is_installing(mark.phase)) {
+        Ok(mark) => match read_if(d, reads_both(mark.phase)) {
             Err(fault) => Err(fault),
             Ok(statuses) => Ok((mark, statuses)),
         },

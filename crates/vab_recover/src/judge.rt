@@ -1,24 +1,27 @@
 //! The rules of tables, partitions and slots, and the device that is kept.
 
 ghost use Rattle.std.specs.Prelude.{◌≡◌, ◌<◌, ℕ, IfOk, OnOk, IfErr, OnErr, Err, ◌==◌, IfSome};
-ghost use Rattle.std.specs.Prelude.{if◌then◌else◌, Some, None};
+ghost use Rattle.std.specs.Prelude.{if◌then◌else◌, Some, None, true};
 ghost use Rattle.vab_tables.specs.Rules.{KeepsRules};
 ghost use Rattle.vab_layout.specs.Layout.{layout_of};
 ghost use Rattle.vab_layout.specs.Slots.{IsOwn};
 ghost use Rattle.vab_device.specs.Checks.{first_fault};
 ghost use Rattle.vab_device.specs.Faults.{IsOfContents, IsOfDisk};
+ghost use Rattle.vab_bootctl.specs.Control.{Fits};
 ghost use Rattle.vab_device.specs.Phases.{slot_checks, own_check, update_checks, is_good};
+ghost use Rattle.vab_device.specs.Phases.{are_ready, may_run};
 ghost use Rattle.vab_device.specs.Idle.{control_read_of};
-ghost use Rattle.vab_device.specs.Kept.{AreOfUpdate};
-ghost use Rattle.vab_recover.specs.Opened.{fault_of, IsAssembled};
+ghost use Rattle.vab_device.specs.Kept.{AreOfUpdate, has_both, has_slot};
+ghost use Rattle.vab_recover.specs.Opened.{fault_of, IsAssembled, is_target_ready, slots_fault};
 
+use crate::read::has_both;
 use crate::table::Tables;
 use std::alloc::Global;
 use vab_bootctl::{Control, Info};
 use vab_bytes::Listing;
-use vab_device::{Device, Part, Planned, StartFault};
+use vab_device::{Device, Part, PartImage, StartFault};
 use vab_geometry::Geometry;
-use vab_marks::UpdateMark;
+use vab_marks::{MarkPhase, UpdateMark};
 use vab_partitions::{bad_partition, bad_target, has_twins, same_device};
 use vab_plan::{limits, parts};
 use vab_tables::Table;
@@ -30,9 +33,8 @@ fn is_good(info: &Info) -> bool
     info.priority != 0 && info.successful
 }
 
-/// Whether the boot control of the slot with images keeps its rules. `BadState` comes exactly where
-/// it says.
-pub fn judge_slot(control: &Control, slot: usize) -> Result<(), StartFault>
+// Whether the boot control of the one slot with images keeps its rules.
+fn judge_slot(control: &Control, slot: usize) -> Result<(), StartFault>
     requires slot { slot < 2 }
     ensures ok { OnOk result
         (first_fault (slot_checks slot (control_read_of slot control.now)) ≡ None) }
@@ -47,6 +49,70 @@ pub fn judge_slot(control: &Control, slot: usize) -> Result<(), StartFault>
     let info = if slot == 0 { control.a } else { control.b };
     if !is_good(&info) {
         return Err(StartFault::BadState(2));
+    }
+    Ok(())
+}
+
+// Whether the slot that was booted last may be booted again, where both have images and this one is
+// the source.
+#[tactic(auto, unfolding(vab_device::specs::Phases::may_run))]
+fn may_run(control: &Control, source: usize) -> bool
+    requires { source < 2 }
+    ensures { result ≡ may_run source control.now }
+{
+    let (info, other) = if source == 0 {
+        (control.a, control.b)
+    } else {
+        (control.b, control.a)
+    };
+    is_good(&info) && (control.current == source || other.priority != 0)
+}
+
+// Whether each of these partitions is kept or written.
+fn are_ready(target: &Option<Listing<Part>>) -> bool
+    ensures { result ≡ is_target_ready target.now }
+{
+    match target {
+        None => true,
+        Some(parts) => all_ready(parts),
+    }
+}
+
+// Whether each is kept or written.
+fn all_ready(parts: &Listing<Part>) -> bool
+    ensures { result ≡ are_ready parts.now }
+{
+    for part in parts.as_slice() {
+        if matches!(part.image, PartImage::Declared) {
+            return false;
+        }
+    }
+    true
+}
+
+/// Whether the boot control and the target of an update keep the rules of the slots. `BadState` comes
+/// exactly where it says.
+pub fn judge_slots(
+    control: &Control,
+    mark: &UpdateMark,
+    target: &Option<Listing<Part>>,
+) -> Result<(), StartFault>
+    requires slot { mark.now.slot < 2 }
+    requires fits { Fits control.now }
+    ensures ok { OnOk result (slots_fault mark.now control.now target.now ≡ None) }
+    ensures fault { IfErr result (λ f. slots_fault mark.now control.now target.now ≡ Some f) }
+    ensures kind { IfErr result (λ f. IsOfDisk f → ⊥) }
+    ensures current { OnOk result
+        (has_slot mark.now.phase mark.now.slot control.now.current ≡ true) }
+{
+    if !has_both(mark.phase) {
+        return judge_slot(control, mark.slot);
+    }
+    if !may_run(control, mark.slot) {
+        return Err(StartFault::BadState(2));
+    }
+    if !are_ready(target) {
+        return Err(StartFault::BadState(3));
     }
     Ok(())
 }
@@ -118,37 +184,58 @@ pub fn judge_parts(alloc: Global, tables: &Tables, slot: usize) -> Result<(), St
     }
 }
 
-// The partitions of each slot, where this one has images.
-fn by_slot(parts: Listing<Part>, slot: usize) -> (Option<Listing<Part>>, Option<Listing<Part>>)
+// The partitions of each slot, where this one has these, and the other those of the target.
+fn by_slot(
+    parts: Listing<Part>,
+    target: Option<Listing<Part>>,
+    slot: usize,
+) -> (Option<Listing<Part>>, Option<Listing<Part>>)
     requires { slot < 2 }
-    ensures a { result.0 ≡ (if slot == 0 then Some parts else None) }
-    ensures b { result.1 ≡ (if slot == 1 then Some parts else None) }
+    ensures a { result.0 ≡ (if slot == 0 then Some parts else target) }
+    ensures b { result.1 ≡ (if slot == 1 then Some parts else target) }
 {
     if slot == 0 {
-        (Some(parts), None)
+        (Some(parts), target)
     } else {
-        (None, Some(parts))
+        (target, Some(parts))
     }
 }
 
-/// The device whose source has this table, but for its tables.
+// The partitions of the target as images, where both slots have some, and as a plan where not.
+fn by_phase(
+    target: Option<Listing<Part>>,
+    phase: MarkPhase,
+) -> (Option<Listing<Part>>, Option<Listing<Part>>)
+    ensures images { result.0 ≡ (if has_both phase then target else None) }
+    ensures plan { result.1 ≡ (if has_both phase then None else target) }
+{
+    if has_both(phase) {
+        (target, None)
+    } else {
+        (None, target)
+    }
+}
+
+/// The device whose source has this table and whose target these partitions, but for its tables.
 pub fn assemble(
     alloc: Global,
     table: &Table,
     geometry: Geometry,
     control: Control,
     mark: UpdateMark,
-    plan: Option<Listing<Planned>>,
+    target: Option<Listing<Part>>,
 ) -> Result<Device, StartFault>
     requires slot { mark.slot < 2 }
     requires keeps { KeepsRules table.now }
     requires own { IsOwn mark.slot (layout_of table.now).parts }
-    ensures is { IfOk result (λ d. IsAssembled d mark control geometry table.now plan) }
+    ensures is { IfOk result (λ d. IsAssembled d mark control geometry table.now target) }
     ensures fault { OnErr result (result ≡ Err StartFault.NoMemory) }
 {
     let groups = limits(alloc, table, mark.slot)?;
     let cap = table.devices.as_slice()[0].cap();
-    let (a, b) = by_slot(parts(alloc, table, mark.slot)?, mark.slot);
+    let parts = parts(alloc, table, mark.slot)?;
+    let (images, plan) = by_phase(target, mark.phase);
+    let (a, b) = by_slot(parts, images, mark.slot);
     Ok(Device {
         geometry,
         control,

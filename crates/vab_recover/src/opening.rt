@@ -13,7 +13,7 @@ ghost use Rattle.vab_recover.specs.Opened.{IsOpened};
 ghost use Rattle.vab_recover.specs.Repairs.{LeavesSame, IsRepair, BothCopiesHold};
 
 use crate::frame::{Frame, read_frame};
-use crate::judge::{assemble, judge_parts, judge_slot};
+use crate::judge::{assemble, judge_parts, judge_slots};
 use crate::plan::read_plan;
 use crate::table::Tables;
 use std::alloc::Global;
@@ -45,7 +45,7 @@ fn finish<D: Disk>(alloc: Global, d: &mut D, frame: Frame) -> Result<(Device, Ta
         Err(fault) => Err(fault),
         Ok(()) => match read_plan(alloc, d, &tables.target, &heads.statuses, slot) {
             Err(fault) => Err(fault),
-            Ok(plan) => match judge_slot(&heads.control, slot) {
+            Ok(target) => match judge_slots(&heads.control, &heads.mark, &target) {
                 Err(fault) => Err(fault),
                 Ok(()) => match assemble(
                     alloc,
@@ -53,7 +53,7 @@ fn finish<D: Disk>(alloc: Global, d: &mut D, frame: Frame) -> Result<(Device, Ta
                     heads.geometry,
                     heads.control,
                     heads.mark,
-                    plan,
+                    target,
                 ) {
                     Err(fault) => Err(fault),
                     Ok(device) => Ok((device, tables)),

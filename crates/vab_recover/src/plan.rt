@@ -28,7 +28,7 @@ ghost use Rattle.vab_recover.specs.Opened.{stores_by, IsPlanRead};
 
 use std::alloc::Global;
 use vab_bytes::{Listing, Name36};
-use vab_device::{Planned, StartFault};
+use vab_device::{Part, StartFault};
 use vab_disk::Disk;
 use vab_gate::DiskFault;
 use vab_linear::Map;
@@ -182,7 +182,7 @@ pub fn read_plan<D: Disk>(
     target: &Option<Loaded>,
     statuses: &Statuses,
     slot: usize,
-) -> Result<Option<Listing<Planned>>, StartFault>
+) -> Result<Option<Listing<Part>>, StartFault>
     requires slot { slot < 2 }
     requires target { IfSome target.now (λ l. IsTargetTable (other_slot slot) l.table) }
     requires on_disk { IfSome target.now

@@ -6,7 +6,7 @@ ghost use Rattle.vab_bootctl.specs.Control.{Fits, control_of};
 ghost use Rattle.vab_marks.specs.Mark.{mark_of};
 ghost use Rattle.vab_geometry.specs.Geometry.{IsGeometry};
 ghost use Rattle.vab_device.specs.Faults.{Answers, IsOfContents, IsOfDisk};
-ghost use Rattle.vab_device.specs.Kept.{copies_end, super_bytes, is_installing, IsPhase};
+ghost use Rattle.vab_device.specs.Kept.{copies_end, super_bytes, has_both, reads_both, IsPhase};
 ghost use Rattle.vab_device.specs.Reading.{mark_read, mark_in, control_read, control_in};
 ghost use Rattle.vab_device.specs.Reading.{geometry_at, statuses_at};
 ghost use Rattle.vab_recover.specs.Counts.{CountsFaults};
@@ -40,14 +40,27 @@ fn read<D: Disk>(d: &mut D, at: u64) -> Result<[u8; 512], StartFault>
     }
 }
 
-/// Whether an update is installed in this phase.
-pub fn is_installing(phase: MarkPhase) -> bool
-    ensures { result ≡ is_installing phase }
+/// Whether the tables of both slots are read in this phase, and the statuses.
+pub fn reads_both(phase: MarkPhase) -> bool
+    ensures { result ≡ reads_both phase }
 {
     match phase {
         MarkPhase::Idle => false,
         MarkPhase::Installing => true,
-        MarkPhase::Staged => false,
+        MarkPhase::Staged => true,
+        MarkPhase::Merging => false,
+        MarkPhase::Completed => false,
+    }
+}
+
+/// Whether both slots have images in this phase.
+pub fn has_both(phase: MarkPhase) -> bool
+    ensures { result ≡ has_both phase }
+{
+    match phase {
+        MarkPhase::Idle => false,
+        MarkPhase::Installing => false,
+        MarkPhase::Staged => true,
         MarkPhase::Merging => false,
         MarkPhase::Completed => false,
     }
@@ -64,7 +77,7 @@ fn known_mark(sector: &[u8; 512]) -> Result<UpdateMark, StartFault>
         Ok(mark) => match mark.phase {
             MarkPhase::Idle => Ok(mark),
             MarkPhase::Installing => Ok(mark),
-            MarkPhase::Staged => Err(StartFault::BadMark(MARK_SECTOR)),
+            MarkPhase::Staged => Ok(mark),
             MarkPhase::Merging => Err(StartFault::BadMark(MARK_SECTOR)),
             MarkPhase::Completed => Err(StartFault::BadMark(MARK_SECTOR)),
         },
@@ -86,18 +99,18 @@ pub fn read_mark<D: Disk>(d: &mut D) -> Result<UpdateMark, StartFault>
     known_mark(&sector)
 }
 
-/// Reads the statuses where an update is installed; elsewhere there are none.
+/// Reads the statuses where both slots' tables are read; elsewhere there are none.
 #[tactic(auto, unfolding(vab_device::specs::Reading::statuses_at))]
-pub fn read_if<D: Disk>(d: &mut D, installing: bool) -> Result<Statuses, StartFault>
+pub fn read_if<D: Disk>(d: &mut D, both: bool) -> Result<Statuses, StartFault>
     requires { 2081 ≤ D.size d.old }
     ensures ok { D.is_modelled → IfOk result
-        (λ s. statuses_at installing (D.seen d.old) ≡ Ok s.items) }
+        (λ s. statuses_at both (D.seen d.old) ≡ Ok s.items) }
     ensures fault { D.is_modelled → IfErr result (λ f. IsOfContents f
-        → statuses_at installing (D.seen d.old) ≡ Err f) }
+        → statuses_at both (D.seen d.old) ≡ Err f) }
     ensures reads { OnlyReads D.Disk d.old d.new }
     ensures counts { CountsFaults D.Disk d.old d.new result }
 {
-    if !installing {
+    if !both {
         return Ok(Statuses::new());
     }
     match read_statuses(d) {

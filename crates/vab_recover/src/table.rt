@@ -13,14 +13,14 @@ ghost use Rattle.vab_device.specs.Faults.{IsOfContents, IsOfDisk};
 ghost use Rattle.vab_device.specs.Kept.{lies_in, copies_end, super_bytes};
 ghost use Rattle.vab_layout.specs.Slots.{other_slot};
 ghost use Rattle.vab_device.specs.Reading.{table_at, tables_in};
-ghost use Rattle.vab_device.specs.Kept.{is_installing};
+ghost use Rattle.vab_device.specs.Kept.{reads_both};
 ghost use Rattle.vab_device.specs.Phases.{phase_at};
 ghost use Rattle.vab_recover.specs.Opened.{IsTableThere, AreLoaded, AreTablesThere};
 ghost use Rattle.vab_recover.specs.Repairs.{IsLoadedAt};
 ghost use Rattle.vab_recover.specs.Opened.{target_slots, target_tables, tables_of};
 ghost use Rattle.vab_recover.specs.Counts.{CountsFaults};
 
-use crate::read::{copies_end, is_installing, super_bytes};
+use crate::read::{copies_end, reads_both, super_bytes};
 use std::alloc::Global;
 use vab_device::StartFault;
 use vab_disk::Disk;
@@ -34,7 +34,7 @@ use vab_tables::Table;
 pub struct Tables {
     /// That of the mark's slot.
     pub source: Loaded,
-    /// That of the other slot, while an update is installed.
+    /// That of the other slot, while an update isn't merged.
     pub target: Option<Loaded>,
 }
 
@@ -110,7 +110,7 @@ pub fn read_table<D: Disk>(
     Ok(loaded)
 }
 
-// Reads the target's table, where an update is installed.
+// Reads the target's table, where there is an update.
 fn read_target<D: Disk>(
     alloc: Global,
     d: &mut D,
@@ -128,11 +128,11 @@ fn read_target<D: Disk>(
     ensures loaded { D.is_modelled → IfOk result (λ t. IfSome t
         (IsLoadedAt geometry.now (other_slot mark.now.slot) (D.seen d.old))) }
     ensures there { IfOk result (λ t. IfSome t (IsTableThere (D.size d.old) geometry.now)) }
-    ensures both { IfOk result (λ t. is_some t ≡ is_installing mark.now.phase) }
+    ensures both { IfOk result (λ t. is_some t ≡ reads_both mark.now.phase) }
     ensures reads { OnlyReads D.Disk d.old d.new }
     ensures counts { CountsFaults D.Disk d.old d.new result }
 {
-    if !is_installing(mark.phase) {
+    if !reads_both(mark.phase) {
         return Ok(None);
     }
     match read_table(alloc, d, geometry, 1 - mark.slot) {
@@ -141,7 +141,7 @@ fn read_target<D: Disk>(
     }
 }
 
-/// Reads the table of the mark's slot, and while an update is installed that of the other.
+/// Reads the table of the mark's slot, and where there is an update that of the other.
 /// `BadTable` comes exactly where it says, the mark's slot's first.
 pub fn read_tables<D: Disk>(
     alloc: Global,

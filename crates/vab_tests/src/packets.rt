@@ -5,24 +5,24 @@ use std::alloc::Global;
 use std::test::Fail;
 
 // One image `system` of three bytes for a partition of 409600 bytes, 100 blocks.
-pub const SYSTEM: [u8; 46] = [
+pub(crate) const SYSTEM: [u8; 46] = [
     b'V', b'A', b'B', b'S', b'E', b'T', b'1', b'\n', 1, 0, 0, 0, 6, b's', b'y', b's', b't', b'e',
     b'm', 0, 64, 6, 0, 0, 0, 0, 0, 0, 0, 0, 0, 0, 0, 0, 0, 3, 0, 0, 0, 0, 0, 0, 0, b'a', b'b',
     b'c',
 ];
 
 // A packet and its reply.
-pub type Case<'a> = (&'a [u8], &'a [u8]);
+pub(crate) type Case<'a> = (&'a [u8], &'a [u8]);
 
 // Puts a packet behind others.
-pub fn put_packet(packets: &mut Vec<u8>, text: &[u8]) -> Result<(), Fail> {
+pub(crate) fn put_packet(packets: &mut Vec<u8>, text: &[u8]) -> Result<(), Fail> {
     packets.extend_from_slice(&(text.len() as u64).to_be_bytes())?;
     packets.extend_from_slice(text)?;
     Ok(())
 }
 
 // The packets of a session, and its replies.
-pub fn session(alloc: Global, cases: &[Case<'_>]) -> Result<(Vec<u8>, Vec<u8>), Fail> {
+pub(crate) fn session(alloc: Global, cases: &[Case<'_>]) -> Result<(Vec<u8>, Vec<u8>), Fail> {
     let mut input = Vec::from_slice(alloc, b"FB01")?;
     let mut told = Vec::from_slice(alloc, b"FB01")?;
     for (packet, reply) in cases {

@@ -7,7 +7,7 @@ use Rattle.vab_install.specs.Control.{cleared_of}
 use Rattle.vab_model.specs.declared.command.Reply.TheVariants as replies
 use Rattle.vab_model.specs.Commands.{Begin}
 use Rattle.vab_device.specs.declared.device.Device.{Device}
-use Rattle.vab_device.specs.declared.device.Planned.{Planned}
+use Rattle.vab_device.specs.declared.device.Part.{Part}
 use Rattle.vab_device.specs.Does.{Does}
 use Rattle.vab_device.proofs.DoesLaws.{dead_means, fails_dead, fails_gate, does_gate}
 use Rattle.vab_begin.specs.Kept.{with_control, with_update}
@@ -113,7 +113,7 @@ returns-in-Ok-put_mark g c = λ staged.
     c.put_mark.ensures.read staged (idle_plan d size c.requires.kept c.requires.idle) in
     let next : c.begun.result ≡ begun_device d x.table =
     c.begun.ensures
-    ∙ ap (λ (plan : List Planned).
+    ∙ ap (λ (plan : List Part).
     with_control (cleared_of d.control (other_slot d.mark.slot))
     (with_update d marks.Installing (Some x.table) (Some plan)))
     c.requires.target.target.spelled.plan in

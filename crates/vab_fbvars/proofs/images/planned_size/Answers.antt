@@ -3,7 +3,7 @@ use Rattle.std.proofs.Common.{arith}
 use Rattle.std.specs.Option.{option_copied}
 use Rattle.vab_names.specs.Names.{base_of}
 use Rattle.vab_model.proofs.Names.{full_long}
-use Rattle.vab_device.specs.declared.device.Planned.{Planned}
+use Rattle.vab_device.specs.declared.device.Part.{Part}
 use Rattle.vab_device.specs.Mounted.{state_on}
 use Rattle.vab_fbvars.specs.Planned.{kept_planned, bytes_planned}
 use Rattle.vab_fbvars.proofs.OnDevice.{none_planned, some_planned, kept_small}

@@ -1,7 +1,7 @@
 use Rattle.std.proofs.Common.{◌≡◌, subst, ◌∙◌}
 use Rattle.std.specs.Prelude.{Some, map, option_map}
 use Rattle.vab_model.specs.Effects.{refuses}
-use Rattle.vab_device.specs.declared.device.Planned.{Planned}
+use Rattle.vab_device.specs.declared.device.Part.{Part}
 use Rattle.vab_device.specs.Mounted.{mounted_on, entry_on}
 use Rattle.vab_device.specs.Updates.{entry_effect}
 use Rattle.vab_flash.specs.Chosen.{plan_or}
@@ -15,7 +15,7 @@ returns-in-Err-fit-clause-refused c = λ image.
     let plan = map (entry_on image) (plan_or d.plan) in
     flash_at d image staged c.args.name.now c.in-Ok.place c.in-Ok.ensures.found
     ∙ subst
-    (λ (p : Planned).
+    (λ (p : Part).
     entry_effect (mounted_on d image) d.mark.slot plan staged (Some (entry_on image p))
     ≡ refuses c.in-Err-fit.refusal)
     c.planned_at.ensures

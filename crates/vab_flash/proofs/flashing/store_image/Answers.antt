@@ -10,7 +10,7 @@ use Rattle.vab_names.specs.Names.{suffix_of}
 use Rattle.vab_install.specs.Counts.{ReadsWithout, CountsFaults}
 use Rattle.vab_device.specs.declared.device.Device.{Device}
 use Rattle.vab_device.specs.Does.{Does}
-use Rattle.vab_device.specs.declared.device.Planned.{Planned}
+use Rattle.vab_device.specs.declared.device.Part.{Part}
 use Rattle.vab_marks.specs.Status.{status_spelling}
 use Rattle.vab_flash.specs.Chosen.{store_at, needed_at, with_written}
 use Rattle.vab_flash.specs.Touched.{IsOfFlash}
@@ -89,7 +89,7 @@ returns-in-Err g c =
     let n = needed_at d c.args.place (g.D.Disk.seen disk) c.args.bytes.now in
     let ok = c.in-Ok.ensures in
     let same : c.planned_at.result.now.name ++ suffix_of (1 - d.mark.slot) ≡ name =
-    ap (λ (q : Planned). q.name ++ suffix_of (1 - d.mark.slot)) c.planned_at.ensures
+    ap (λ (q : Part). q.name ++ suffix_of (1 - d.mark.slot)) c.planned_at.ensures
     ∙ name_is d name c.args.place c.requires.chosen.has in
     let status : PartStatus = record { name = c.full_name.result; count = c.count.result } in
     let status_is : status ≡ record { name = name; count = length es } =
@@ -129,7 +129,7 @@ returns-in-Ok-put_status g c =
     let n = needed_at d c.args.place (g.D.Disk.seen disk) c.args.bytes.now in
     let ok = c.in-Ok.ensures in
     let same : c.planned_at.result.now.name ++ suffix_of (1 - d.mark.slot) ≡ name =
-    ap (λ (q : Planned). q.name ++ suffix_of (1 - d.mark.slot)) c.planned_at.ensures
+    ap (λ (q : Part). q.name ++ suffix_of (1 - d.mark.slot)) c.planned_at.ensures
     ∙ name_is d name c.args.place c.requires.chosen.has in
     let status : PartStatus = record { name = c.full_name.result; count = c.count.result } in
     let status_is : status ≡ record { name = name; count = length es } =

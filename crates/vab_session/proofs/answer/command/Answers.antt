@@ -1,7 +1,7 @@
 use Rattle.std.proofs.Common.{◌≡◌, ◌+◌, ℕ, List, Option, Some, None, Ok, Err, refl, sym, ◌∙◌, ap}
 use Rattle.vab_disk.specs.Disk.{Image}
 use Rattle.vab_model.specs.Commands.{command_of, Merge}
-use Rattle.vab_device.specs.declared.device.Planned.{Planned}
+use Rattle.vab_device.specs.declared.device.Part.{Part}
 use Rattle.vab_device.specs.Mounted.{state_on, mounted_on, phase_on}
 use Rattle.vab_fbproto.specs.Requests.{Getvar, Do, MergeAll, BootAndEnd, request_of, variable_of}
 use Rattle.vab_fbvars.specs.Variables.{variable_text}
@@ -27,7 +27,7 @@ returns-in-Ok-Getvar-clause-does g c = λ t before beyond count total most.
     (ap still (sym text))
 
 -- nothing is left to merge while an update is installed
-none_left : (slot : ℕ) (image : Image) (plan : Option (List Planned))
+none_left : (slot : ℕ) (image : Image) (plan : Option (List Part))
     → left_of (phase_on slot image plan) ≡ 0
 none_left slot image None = refl
 none_left slot image (Some plan) = refl
