@@ -8,15 +8,12 @@ use Rattle.vab_model.specs.declared.state.State.{State}
 use Rattle.vab_model.specs.State.{images_at, image_named}
 use Rattle.vab_device.specs.declared.device.Part.{Part}
 use Rattle.vab_device.specs.declared.device.Device.{Device}
+use Rattle.vab_device.specs.Kept.{parts_at}
 use Rattle.vab_manager.specs.Found.{part_named}
 
 -- the slot whose suffix a name has, where it has one
 abbrev pub slot_named : List ℕ → ℕ
 slot_named name = if is_full 0 name then 0 else 1
-
--- the partitions of a slot that a device keeps
-abbrev pub parts_at : Device → ℕ → Option (List Part)
-parts_at d slot = if slot == 0 then d.a else d.b
 
 -- the device keeps this partition under a base name of the slot
 abbrev pub KeepsPart : Device → ℕ → List ℕ → Part → Type 0

@@ -11,15 +11,16 @@ ghost use Rattle.vab_model.specs.declared.state.Image.{Image as ImageOfSlot};
 ghost use Rattle.vab_model.specs.Effects.{found_of, Image_is, Refused_by};
 ghost use Rattle.vab_device.specs.declared.device.Part.{Part};
 ghost use Rattle.vab_device.specs.Kept.{IsDevice};
-ghost use Rattle.vab_device.specs.Mounted.{bytes_at, state_on};
+ghost use Rattle.vab_device.specs.Mounted.{bytes_at, sectors_read, state_on};
 ghost use Rattle.vab_manager.specs.Found.{part_named};
-ghost use Rattle.vab_manager.specs.Blocks.{slot_named, parts_at, KeepsPart, HasBlock, IsBlockOf};
+ghost use Rattle.vab_device.specs.Kept.{parts_at};
+ghost use Rattle.vab_manager.specs.Blocks.{slot_named, KeepsPart, HasBlock, IsBlockOf};
 
 use crate::images::{find, part_named};
+use crate::reading::read_part;
 use vab_device::{Device, Part};
 use vab_disk::Disk;
 use vab_gate::DiskFault;
-use vab_linear::read_at;
 use vab_model::Refusal;
 use vab_names::is_full;
 
@@ -58,7 +59,7 @@ pub fn locate(device: &Device, name: &[u8]) -> Result<(usize, u64), Refusal>
         × (found_of (state_on device.now seen) name.now ≡ Image_is i)
         × (p : Part)
         × KeepsPart device.now r.0 (base_of name.now) p
-        × (i.bytes ≡ bytes_at seen p.map)) }
+        × (i.bytes ≡ bytes_at seen (sectors_read p))) }
     ensures refused { (seen : Image) → IfErr result
         (λ f. found_of (state_on device.now seen) name.now ≡ Refused_by f) }
 {
@@ -80,11 +81,12 @@ pub fn read_block<D: Disk>(
     requires kept { IsDevice device.now (D.size d.old) }
     requires slot { slot < 2 }
     requires block { HasBlock device.now slot name.now block }
-    // the block where the partition has it on the disk
+    // the block where a read of the partition takes it from, its store or its own blocks
     ensures sectors { D.is_modelled
         → (p : Part)
         → KeepsPart device.now slot name.now p
-        → OnOk result (out.new ≡ sectors_at 8 (D.seen d.old) (slice_index p.map block)) }
+        → OnOk result
+        (out.new ≡ sectors_at 8 (D.seen d.old) (slice_index (sectors_read p) block)) }
     // which is that block of the image
     ensures bytes { D.is_modelled
         → OnOk result (IsBlockOf (state_on device.now (D.seen d.old)) slot name.now block out.new) }
@@ -92,7 +94,7 @@ pub fn read_block<D: Disk>(
     ensures faults { FailsWithDisk D.Disk d.old d.new result }
 {
     match kept_part(device, slot, name) {
-        Some(part) => read_at(d, &part.map, block, out),
+        Some(part) => read_part(d, part, block, out),
         None => unreachable!(),
     }
 }

@@ -2,9 +2,8 @@
 
 ghost use Rattle.std.specs.Prelude.{◌≡◌, ℕ, List, Option, true};
 ghost use Rattle.vab_bootctl.specs.Control.{Fits};
-ghost use Rattle.vab_bootctl.specs.Boot.{info_at};
-ghost use Rattle.vab_device.specs.Kept.{IsDevice};
-ghost use Rattle.vab_device.specs.Phases.{is_good};
+ghost use Rattle.vab_device.specs.Kept.{IsDevice, has_slot};
+ghost use Rattle.vab_device.specs.Phases.{may_run};
 ghost use Rattle.vab_device.specs.Reading.{Represents};
 ghost use Rattle.vab_model.specs.Commands.{Command as CommandOf};
 ghost use Rattle.vab_manager.specs.Commands.{DoesCommand};
@@ -27,8 +26,8 @@ pub fn change<D: Disk>(
     requires kept { IsDevice device (D.size d.old) }
     requires represents { D.is_modelled → Represents device (D.size d.old) (D.seen d.old) }
     requires fits { Fits control }
-    requires current { control.current ≡ device.mark.slot }
-    requires good { D.is_modelled → is_good (info_at control device.mark.slot) ≡ true }
+    requires current { has_slot device.mark.phase device.mark.slot control.current ≡ true }
+    requires runs { D.is_modelled → may_run device.mark.slot control ≡ true }
     // It does each command that gives this reply and boot control, and may write it.
     ensures { (staged : Option (List ℕ))
         → (command : CommandOf)

@@ -7,16 +7,16 @@ ghost use Rattle.vab_disk.specs.Calls.{FailsWithDisk, OnlyReads};
 ghost use Rattle.vab_disk.specs.Disk.{Image};
 ghost use Rattle.vab_model.specs.Commands.{Print, Digest as DigestOf};
 ghost use Rattle.vab_model.specs.Effects.{answers};
-ghost use Rattle.vab_device.specs.Kept.{IsDevice};
-ghost use Rattle.vab_device.specs.Mounted.{bytes_at, mounted_on, effect_in};
+ghost use Rattle.vab_device.specs.Kept.{IsDevice, IsPart};
+ghost use Rattle.vab_device.specs.Mounted.{bytes_at, sectors_read, mounted_on, effect_in};
 ghost use Rattle.vab_manager.specs.Found.{part_named, part_in, found_part};
 
+use crate::reading::read_part;
 use sha2::{Digest, Sha256};
 use vab_bytes::{Listing, Name36};
 use vab_device::{Device, Part};
 use vab_disk::Disk;
 use vab_gate::DiskFault;
-use vab_linear::{Map, read_at};
 use vab_model::{Refusal, Reply};
 use vab_names::{base_of, is_full};
 
@@ -77,18 +77,18 @@ pub fn print(device: &Device, name: &[u8]) -> Reply
     }
 }
 
-// The SHA-256 of the bytes of blocks.
-fn digest_of<D: Disk>(d: &mut D, map: &Map) -> Result<[u8; 32], DiskFault>
-    requires { All (λ s. s + 8 ≤ D.size d.old) map.now }
+// The SHA-256 of a partition's bytes.
+fn digest_of<D: Disk>(d: &mut D, part: &Part) -> Result<[u8; 32], DiskFault>
+    requires { IsPart (D.size d.old) part.now }
     ensures digest { D.is_modelled
-        → IfOk result (λ h. h ≡ sha256 (bytes_at (D.seen d.old) map.now)) }
+        → IfOk result (λ h. h ≡ sha256 (bytes_at (D.seen d.old) (sectors_read part.now))) }
     ensures reads { OnlyReads D.Disk d.old d.new }
     ensures faults { FailsWithDisk D.Disk d.old d.new result }
 {
     let mut hasher = Sha256::new();
-    for block in 0..map.len() {
+    for block in 0..part.map.len() {
         let mut bytes = [0u8; 4096];
-        read_at(d, map, block, &mut bytes)?;
+        read_part(d, part, block, &mut bytes)?;
         hasher.update(&bytes);
     }
     Ok(hasher.finalize())
@@ -104,7 +104,7 @@ pub fn digest<D: Disk>(d: &mut D, device: &Device, name: &[u8]) -> Result<Reply,
 {
     match find(device, name) {
         Err(refusal) => Ok(Reply::Refused(refusal)),
-        Ok(part) => match digest_of(d, &part.map) {
+        Ok(part) => match digest_of(d, part) {
             Ok(sum) => Ok(Reply::Digest(sum)),
             Err(fault) => Err(fault),
         },

@@ -5,6 +5,7 @@ mod blocks;
 mod change;
 mod control;
 mod images;
+mod reading;
 mod slots;
 
 pub use blocks::{kept_part, locate, read_block};
