@@ -50,7 +50,7 @@ use Rattle.vab_device.proofs.StoreLaws.{statuses_kept}
 use Rattle.vab_begin.specs.Writes.{IsOfPlaces}
 use Rattle.vab_begin.proofs.Steps.{marked}
 use Rattle.vab_begin.proofs.StayLaws.{mark_there, copy_stays, copies_from, one_of}
-use Rattle.vab_begin.proofs.CancelLaws.{installing_read, kept_with}
+use Rattle.vab_begin.proofs.CancelLaws.{update_read, kept_with}
 use Rattle.vab_begin.proofs.CopiesApart.{table_in, tables_apart, ends_within, ends_behind}
 
 -- what is read without an update
@@ -174,13 +174,13 @@ module _
   images_a =
       images_same old mid (kept r).a
       (λ at is. behind at
-      (images_behind size (end_of g (other_slot slot)) 0 _ r old at reads within is))
+      (images_behind size (end_of g (other_slot slot)) 0 _ _ r old at reads within is))
 
   pub images_b : images_on mid (kept r).b ≡ images_on old (kept r).b
   images_b =
       images_same old mid (kept r).b
       (λ at is. behind at
-      (images_behind size (end_of g (other_slot slot)) 1 _ r old at reads within is))
+      (images_behind size (end_of g (other_slot slot)) 1 _ _ r old at reads within is))
 
   pub same_read : SameRead size (idle_shape slot ss seen g s scanned) old mid
   same_read = record {
@@ -212,7 +212,7 @@ module _
     new = marked mid (mark_spelling (installing_mark slot))
 
     abbrev after : Read
-    after = installing_read slot no_statuses (control_read_of slot c) g s u []
+    after = update_read marks.Installing slot no_statuses (control_read_of slot c) g s u []
 
     elsewhere : (at : ℕ) → at ≢ 2048 → new at ≡ mid at
     elsewhere at other = set_there mid 2048 (mark_spelling (installing_mark slot)) at other
@@ -336,13 +336,13 @@ module _
     pub images_new_a : images_on new (kept r).a ≡ images_on old (kept r).a
     images_new_a =
         images_same mid new (kept r).a
-        (λ at is. from_behind at (images_behind size 4096 0 _ r old at reads (omega arith) is))
+        (λ at is. from_behind at (images_behind size 4096 0 _ _ r old at reads (omega arith) is))
         ∙ images_a
 
     pub images_new_b : images_on new (kept r).b ≡ images_on old (kept r).b
     images_new_b =
         images_same mid new (kept r).b
-        (λ at is. from_behind at (images_behind size 4096 1 _ r old at reads (omega arith) is))
+        (λ at is. from_behind at (images_behind size 4096 1 _ _ r old at reads (omega arith) is))
         ∙ images_b
 
     pub copies_new : AgreeCopies g (slot ∷ other_slot slot ∷ []) (s ∷ u ∷ []) new

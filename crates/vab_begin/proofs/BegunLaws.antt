@@ -46,9 +46,11 @@ use Rattle.vab_begin.specs.Kept.{with_control, with_update}
 use Rattle.vab_begin.specs.Target.{layout_for, IsTargetOf, IsTargetFor, IsRefusedBy}
 use Rattle.vab_begin.specs.Writes.{IsOfPlaces}
 use Rattle.vab_begin.proofs.Steps.{marked, IsStep}
-use Rattle.vab_begin.proofs.KeptLaws.{some_of, none_of, cases_slot, update_kept}
+use Rattle.vab_begin.proofs.KeptLaws.{some_of, none_of, cases_slot, update_kept, unplanned_of}
+use Rattle.vab_begin.proofs.KeptLaws.{current_of, source_a, source_b, no_target_a, no_target_b}
+use Rattle.vab_device.specs.Kept.{has_both}
 use Rattle.vab_begin.proofs.StayLaws.{one_of}
-use Rattle.vab_begin.proofs.CancelLaws.{installing_read, kept_with, some_same}
+use Rattle.vab_begin.proofs.CancelLaws.{update_read, kept_with, some_same}
 use Rattle.vab_begin.proofs.ImportLaws.{imported_plain, fitting_same, plan_same}
 use Rattle.vab_begin.proofs.PlannedLaws.{plan_keeps, target_table}
 use Rattle.vab_begin.proofs.BeginLaws.{idle_shape, installing_mark, IsPrepared, same_read}
@@ -88,6 +90,7 @@ begun_b d old new b u slot none some same =
 
 begins_a : (d : Device) (old : Image) (staged : Option (List ℕ)) (a : List Part) (s : Table)
     → d.plan ≡ None
+    → d.mark.phase ≡ marks.Idle
     → d.mark.slot ≡ 0
     → d.control.current ≡ 0
     → d.a ≡ Some a
@@ -96,11 +99,12 @@ begins_a : (d : Device) (old : Image) (staged : Option (List ℕ)) (a : List Par
     ≡ table_effect (mounted_on d old) d.mark.slot []
     (fitting d.geometry.max (imported d.mark.slot (plain d.mark.slot (layout_of s))))
 unfolding state_on
-begins_a d old staged a s plan slot current some table =
-    rw (plan, slot, current, some, table) refl
+begins_a d old staged a s plan phase slot current some table =
+    rw (plan, phase, slot, current, some, table) refl
 
 begins_b : (d : Device) (old : Image) (staged : Option (List ℕ)) (b : List Part) (s : Table)
     → d.plan ≡ None
+    → d.mark.phase ≡ marks.Idle
     → d.mark.slot ≡ 1
     → d.control.current ≡ 1
     → d.b ≡ Some b
@@ -109,8 +113,8 @@ begins_b : (d : Device) (old : Image) (staged : Option (List ℕ)) (b : List Par
     ≡ table_effect (mounted_on d old) d.mark.slot []
     (fitting d.geometry.max (imported d.mark.slot (plain d.mark.slot (layout_of s))))
 unfolding state_on
-begins_b d old staged b s plan slot current some table =
-    rw (plan, slot, current, some, table) refl
+begins_b d old staged b s plan phase slot current some table =
+    rw (plan, phase, slot, current, some, table) refl
 
 -- the table of a slot, where the slot is known
 slot_at : (n k : ℕ) (a b x : Option Table)
@@ -122,22 +126,24 @@ slot_at n k a b x is same = subst (λ (m : ℕ). (if m == 0 then a else b) ≡ x
 -- The begin of an update of a device: the target's table, or the refusal.
 pub begin_is : (d : Device) (size : ℕ) (old : Image) (staged : Option (List ℕ)) (s : Table)
     → IsDevice d size
-    → d.plan ≡ None
+    → d.mark.phase ≡ marks.Idle
     → table_of_slot d d.mark.slot ≡ Some s
     → effect_on (mounted_on d old) staged Begin
     ≡ table_effect (mounted_on d old) d.mark.slot [] (layout_for d.geometry.max d.mark.slot s)
-begin_is d size old staged s dev plan is =
+begin_is d size old staged s dev idle is =
+    let plan = unplanned_of d size marks.Idle dev refl idle in
+    let current = current_of d size dev (ap has_both idle) in
     let plainly : effect_on (mounted_on d old) staged Begin
     ≡ table_effect (mounted_on d old) d.mark.slot []
     (fitting d.geometry.max (imported d.mark.slot (plain d.mark.slot (layout_of s)))) =
     elim (cases_slot d.mark.slot dev.slot) [
       | inl first ↦
-          let a = some_of d.a (dev.has_a ∙ ap (λ (n : ℕ). n == 0) first) in
-          begins_a d old staged a.0 s plan first (dev.current ∙ first) a.1
+          let a = some_of d.a (source_a d size dev first) in
+          begins_a d old staged a.0 s plan idle first (current ∙ first) a.1
           (slot_at d.mark.slot 0 d.table_a d.table_b (Some s) first is)
       | inr one ↦
-          let b = some_of d.b (dev.has_b ∙ ap (λ (n : ℕ). n == 1) one) in
-          begins_b d old staged b.0 s plan one (dev.current ∙ one) b.1
+          let b = some_of d.b (source_b d size dev one) in
+          begins_b d old staged b.0 s plan idle one (current ∙ one) b.1
           (slot_at d.mark.slot 1 d.table_a d.table_b (Some s) one is)
     ] in
     plainly
@@ -149,6 +155,13 @@ pub begin_refused : (d : Device) (old : Image) (staged : Option (List ℕ)) (pla
     → effect_on (mounted_on d old) staged Begin ≡ refuses refusals.NotIdle
 unfolding state_on
 begin_refused d old staged plan is = rw is refl
+
+pub begin_staged : (d : Device) (old : Image) (staged : Option (List ℕ))
+    → d.plan ≡ None
+    → d.mark.phase ≡ marks.Staged
+    → effect_on (mounted_on d old) staged Begin ≡ refuses refusals.NotIdle
+unfolding state_on
+begin_staged d old staged plan phase = rw (plan, phase) refl
 
 -- ---- why there is no target
 
@@ -228,9 +241,10 @@ cleared_current c slot = elim (cases_Bool (slot == 0)) [ inl h ↦ rw h refl | i
 
 pub begun_kept : (d : Device) (size : ℕ) (x : Target)
     → IsDevice d size
+    → d.mark.phase ≡ marks.Idle
     → IsTargetFor d x
     → IsDevice (begun_device d x.table) size
-begun_kept d size x dev for =
+begun_kept d size x dev idle for =
     let g = d.geometry in
     let s = for.source in
     let of = for.target in
@@ -242,8 +256,8 @@ begun_kept d size x dev for =
     update_kept d size (cleared_of d.control (other_slot d.mark.slot)) marks.Installing
     (Some x.table) (Some (plan_of (other_slot d.mark.slot) (layout_of x.table) [])) dev
     (cleared_fits d.control (other_slot d.mark.slot) dev.control)
-    (cleared_current d.control (other_slot d.mark.slot) ∙ dev.current)
-    (inr refl)
+    (cleared_current d.control (other_slot d.mark.slot) ∙ current_of d size dev (ap has_both idle))
+    (inr (inl refl)) (ap has_both idle) refl
     (record {
       rules = of.rules;
       small = omega (arith, of.size, dev.geometry.most);
@@ -259,7 +273,7 @@ kept_begun : (slot : ℕ) (c : Control) (ss : List (Option PartStatus)) (seen : 
     (s u : Table) (scanned : List Scanned)
     → slot < 2
     → begun_device (kept_with (idle_shape slot ss seen g s scanned) c) u
-    ≡ kept_with (installing_read slot no_statuses (control_read_of slot c) g s u [])
+    ≡ kept_with (update_read marks.Installing slot no_statuses (control_read_of slot c) g s u [])
     (cleared_of c (other_slot slot))
 kept_begun zero c ss seen g s u scanned below = refl
 kept_begun (suc zero) c ss seen g s u scanned below = refl
@@ -327,7 +341,7 @@ module _ (told : Type 0) (text : List ℕ) (size : ℕ) (old : Image) where
         (kept_source slot c ss seen g s scanned dev.slot) in
         record {
           represents = record {
-            read = installing_read slot no_statuses (control_read_of slot c) g s x.table [];
+            read = update_read marks.Installing slot no_statuses (control_read_of slot c) g s x.table [];
             reads = reads_new slot ss seen g s scanned c told text size old mid
                 dev.slot dev.geometry short same reads whole x.table of.target of.device
                 of.groups stands rules.lies prepared copies read;
@@ -413,19 +427,18 @@ module _ (told : Type 0) (text : List ℕ) (size : ℕ) (old : Image) where
           ≡ installing_with (mounted_on d old) d.mark.slot [] (layout_of x.table)
       means = elim (cases_slot d.mark.slot dev.slot) [
         | inl first ↦
-            let a = some_of d.a (dev.has_a ∙ ap (λ (n : ℕ). n == 0) first) in
-            let b = none_of d.b (dev.has_b ∙ ap (λ (n : ℕ). n == 1) first) in
+            let a = some_of d.a (source_a d size dev first) in
+            let b = none_of d.b (no_target_b d size dev (ap has_both idle) first) in
             begun_a d old new a.0 x.table first a.1 b (some_same a.0 old new d.a a.1 next.images_a)
         | inr last ↦
-            let a = none_of d.a (dev.has_a ∙ ap (λ (n : ℕ). n == 0) last) in
-            let b = some_of d.b (dev.has_b ∙ ap (λ (n : ℕ). n == 1) last) in
+            let a = none_of d.a (no_target_a d size dev (ap has_both idle) last) in
+            let b = some_of d.b (source_b d size dev last) in
             begun_b d old new b.0 x.table last a b.1 (some_same b.0 old new d.b b.1 next.images_b)
       ]
 
       pub begin_step : (staged : Option (List ℕ))
-          → d.plan ≡ None
           → IsStep d (begun_device d x.table) staged Begin replies.Done size old new
-      begin_step staged plan =
+      begin_step staged =
           let of = for.target in
           let gives : layout_for d.geometry.max d.mark.slot for.source ≡ Ok (layout_of x.table) =
           of.gives.1
@@ -435,7 +448,7 @@ module _ (told : Type 0) (text : List ℕ) (size : ℕ) (old : Image) where
           record {
             represents = next.represents;
             effect =
-                begin_is d size old staged for.source dev plan for.is
+                begin_is d size old staged for.source dev idle for.is
                 ∙ ap (table_effect (mounted_on d old) d.mark.slot []) gives
                 ∙ ap (λ (m : Mounted). does replies.Done m) (sym means);
           }

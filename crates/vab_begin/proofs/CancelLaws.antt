@@ -1,6 +1,6 @@
 -- With the mark that there is no update the disk is the device without it.
 use Rattle.std.proofs.Common.{◌≡◌, ◌≢◌, ◌∙◌, inl, inr, ℕ, zero, suc, ◌≤◌, ◌<◌, List, [], ◌∷◌}
-use Rattle.std.proofs.Common.{Ok, refl, sym, ap, subst, arith}
+use Rattle.std.proofs.Common.{Ok, refl, sym, ap, subst, arith, true, false, eq-eqb}
 use Rattle.std.specs.Prelude.{Option, Some, None, ◌==◌, map}
 use Rattle.vab_disk.specs.Disk.{Image}
 use Rattle.vab_disk.specs.Written.{set_here, set_there}
@@ -21,8 +21,8 @@ use Rattle.vab_model.specs.Effects.{does, refuses}
 use Rattle.vab_device.specs.declared.device.Part.{Part}
 use Rattle.vab_device.specs.declared.device.Device.{Device}
 use Rattle.vab_device.specs.Checks.{first_fault}
-use Rattle.vab_device.specs.Idle.{control_read_of, idle_read}
-use Rattle.vab_device.specs.Kept.{IsDevice}
+use Rattle.vab_device.specs.Idle.{idle_read}
+use Rattle.vab_device.specs.Kept.{IsDevice, reads_both}
 use Rattle.vab_device.specs.Mounted.{Mounted, mounted_on, state_on, images_on, image_on}
 use Rattle.vab_device.specs.Phases.{phase_at, own_check, update_checks}
 use Rattle.vab_device.specs.Phases.{twin_check, target_check}
@@ -34,21 +34,23 @@ use Rattle.vab_device.proofs.Behind.{images_behind}
 use Rattle.vab_device.proofs.CheckLaws.{first_kept}
 use Rattle.vab_device.proofs.IdleLaws.{reads_idle}
 use Rattle.vab_device.proofs.OpeningLaws.{control_seen_in}
-use Rattle.vab_device.proofs.ReadingLaws.{seen_single, control_is_seen}
 use Rattle.vab_device.proofs.SameLaws.{geometry_same, tables_agree, images_same}
-use Rattle.vab_begin.specs.Kept.{with_update}
+use Rattle.vab_begin.specs.Kept.{without_update}
+use Rattle.vab_begin.specs.Writes.{MayEnd}
 use Rattle.vab_begin.proofs.Steps.{marked, IsStep}
-use Rattle.vab_begin.proofs.KeptLaws.{some_of, none_of, planned_of, cases_slot}
+use Rattle.vab_begin.proofs.KeptLaws.{some_of, planned_of, unplanned_of, cases_slot, source_a}
+use Rattle.vab_begin.proofs.KeptLaws.{source_b}
 use Rattle.vab_begin.proofs.StayLaws.{mark_there, copy_stays, copies_from, one_of, two_of}
-use Rattle.vab_begin.proofs.StayLaws.{state_passed}
+use Rattle.vab_begin.proofs.RunsLaws.{source_runs}
 
 abbrev pub idle_mark : ℕ → UpdateMark
 idle_mark slot = record { phase = marks.Idle; slot = slot }
 
 -- ---- what is kept
 
--- what is read while an update is installed
-abbrev pub installing_read : ℕ
+-- what is read where there is an update
+abbrev pub update_read : MarkPhase
+    → ℕ
     → List (Option PartStatus)
     → Control
     → Geometry
@@ -56,8 +58,8 @@ abbrev pub installing_read : ℕ
     → Table
     → List Scanned
     → Read
-installing_read slot ss c g t u scanned = record {
-  mark = record { phase = marks.Installing; slot = slot };
+update_read phase slot ss c g t u scanned = record {
+  mark = record { phase = phase; slot = slot };
   statuses = ss;
   control = c;
   geometry = g;
@@ -68,49 +70,107 @@ installing_read slot ss c g t u scanned = record {
 abbrev pub kept_with : Read → Control → Device
 kept_with r c = record (kept r) { control = c }
 
-kept_cancelled : (slot : ℕ) (c : Control) (ss : List (Option PartStatus)) (seen : Control)
-    (g : Geometry) (t u : Table) (scanned : List Scanned)
+kept_ended : (phase : MarkPhase) (slot : ℕ) (c : Control) (ss : List (Option PartStatus))
+    (seen : Control) (g : Geometry) (t u : Table) (scanned : List Scanned)
+    → reads_both phase ≡ true
     → slot < 2
-    → with_update (kept_with (installing_read slot ss seen g t u scanned) c) marks.Idle None None
+    → without_update (kept_with (update_read phase slot ss seen g t u scanned) c)
     ≡ kept_with (idle_read (idle_mark slot) c g t) c
-kept_cancelled zero c ss seen g t u scanned below = refl
-kept_cancelled (suc zero) c ss seen g t u scanned below = refl
-kept_cancelled (suc (suc n)) c ss seen g t u scanned below = absurd (omega (arith, below))
+kept_ended marks.Installing zero c ss seen g t u scanned both below = refl
+kept_ended marks.Installing (suc zero) c ss seen g t u scanned both below = refl
+kept_ended marks.Staged zero c ss seen g t u scanned both below = refl
+kept_ended marks.Staged (suc zero) c ss seen g t u scanned both below = refl
+kept_ended phase (suc (suc n)) c ss seen g t u scanned both below = absurd (omega (arith, below))
+kept_ended marks.Idle zero c ss seen g t u scanned both below = absurd cc
+kept_ended marks.Idle (suc zero) c ss seen g t u scanned both below = absurd cc
+kept_ended marks.Merging zero c ss seen g t u scanned both below = absurd cc
+kept_ended marks.Merging (suc zero) c ss seen g t u scanned both below = absurd cc
+kept_ended marks.Completed zero c ss seen g t u scanned both below = absurd cc
+kept_ended marks.Completed (suc zero) c ss seen g t u scanned both below = absurd cc
+
+-- an update's phases read both tables
+ends_both : (d : Device) → MayEnd d → reads_both d.mark.phase ≡ true
+ends_both d (inl installing) = ap reads_both installing
+ends_both d (inr staged) = ap reads_both staged.0
+
+both_tables : (m : MarkPhase) (slot : ℕ)
+    → reads_both m ≡ true
+    → (phase_at m).tables slot ≡ slot ∷ other_slot slot ∷ []
+both_tables marks.Idle slot both = absurd cc
+both_tables marks.Installing slot both = refl
+both_tables marks.Staged slot both = refl
+both_tables marks.Merging slot both = absurd cc
+both_tables marks.Completed slot both = absurd cc
+
+both_checks : (m : MarkPhase) (slot : ℕ) (t u : Table)
+    → reads_both m ≡ true
+    → (phase_at m).part_checks slot (t ∷ u ∷ []) ≡ update_checks slot t u
+both_checks marks.Idle slot t u both = absurd cc
+both_checks marks.Installing slot t u both = refl
+both_checks marks.Staged slot t u both = refl
+both_checks marks.Merging slot t u both = absurd cc
+both_checks marks.Completed slot t u both = absurd cc
 
 -- ---- what it means
 
 cancelled_a : (d : Device) (old new : Image) (a : List Part)
     → d.mark.slot ≡ 0
     → d.a ≡ Some a
-    → d.b ≡ None
     → map (image_on new) a ≡ map (image_on old) a
-    → mounted_on (with_update d marks.Idle None None) new
-    ≡ cancelled (mounted_on d old) d.mark.slot
+    → mounted_on (without_update d) new ≡ cancelled (mounted_on d old) d.mark.slot
 unfolding state_on
-cancelled_a d old new a slot some none same = rw (slot, some, none, same) refl
+cancelled_a d old new a slot some same = rw (slot, some, same) refl
 
 cancelled_b : (d : Device) (old new : Image) (b : List Part)
     → d.mark.slot ≡ 1
-    → d.a ≡ None
     → d.b ≡ Some b
     → map (image_on new) b ≡ map (image_on old) b
-    → mounted_on (with_update d marks.Idle None None) new
-    ≡ cancelled (mounted_on d old) d.mark.slot
+    → mounted_on (without_update d) new ≡ cancelled (mounted_on d old) d.mark.slot
 unfolding state_on
-cancelled_b d old new b slot none some same = rw (slot, some, none, same) refl
+cancelled_b d old new b slot some same = rw (slot, some, same) refl
 
-cancel_is : (d : Device) (old : Image) (staged : Option (List ℕ)) (plan : List Part)
+cancel_installed : (d : Device) (old : Image) (staged : Option (List ℕ)) (plan : List Part)
     → d.plan ≡ Some plan
     → effect_on (mounted_on d old) staged Cancel
     ≡ does replies.Done (cancelled (mounted_on d old) d.mark.slot)
 unfolding state_on
-cancel_is d old staged plan is = rw is refl
+cancel_installed d old staged plan is = rw is refl
+
+cancel_staged : (d : Device) (old : Image) (staged : Option (List ℕ))
+    → d.plan ≡ None
+    → d.mark.phase ≡ marks.Staged
+    → (d.control.current == d.mark.slot) ≡ true
+    → effect_on (mounted_on d old) staged Cancel
+    ≡ does replies.Done (cancelled (mounted_on d old) d.mark.slot)
+unfolding state_on
+cancel_staged d old staged plan phase at = rw (plan, phase, at) refl
+
+pub cancel_running : (d : Device) (old : Image) (staged : Option (List ℕ))
+    → d.plan ≡ None
+    → d.mark.phase ≡ marks.Staged
+    → (d.control.current == d.mark.slot) ≡ false
+    → effect_on (mounted_on d old) staged Cancel ≡ refuses refusals.RunningTarget
+unfolding state_on
+cancel_running d old staged plan phase at = rw (plan, phase, at) refl
 
 pub cancel_refused : (d : Device) (old : Image) (staged : Option (List ℕ))
     → d.plan ≡ None
+    → d.mark.phase ≡ marks.Idle
     → effect_on (mounted_on d old) staged Cancel ≡ refuses refusals.NothingToCancel
 unfolding state_on
-cancel_refused d old staged is = rw is refl
+cancel_refused d old staged plan phase = rw (plan, phase) refl
+
+cancel_is : (d : Device) (size : ℕ) (old : Image) (staged : Option (List ℕ))
+    → IsDevice d size
+    → MayEnd d
+    → effect_on (mounted_on d old) staged Cancel
+    ≡ does replies.Done (cancelled (mounted_on d old) d.mark.slot)
+cancel_is d size old staged dev (inl installing) =
+    let plan = planned_of d size dev installing in
+    cancel_installed d old staged plan.0 plan.1
+cancel_is d size old staged dev (inr ready) =
+    cancel_staged d old staged (unplanned_of d size marks.Staged dev refl ready.0) ready.0
+    (eq-eqb d.control.current d.mark.slot ready.1)
 
 pub some_same : (x : List Part) (old new : Image) (a : Option (List Part))
     → a ≡ Some x
@@ -127,7 +187,7 @@ module _
     (d : Device) (size : ℕ) (old : Image) (staged : Option (List ℕ))
     (dev : IsDevice d size)
     (is : Represents d size old)
-    (installed : d.mark.phase ≡ marks.Installing)
+    (ends : MayEnd d)
     (read : mark_of (mark_spelling (idle_mark d.mark.slot)) ≡ Ok (idle_mark d.mark.slot)) where
   abbrev r : Read
   r = is.read
@@ -136,13 +196,16 @@ module _
   new = marked old (mark_spelling (idle_mark d.mark.slot))
 
   abbrev next : Device
-  next = with_update d marks.Idle None None
+  next = without_update d
 
   own : d.mark.slot ≡ r.mark.slot
   own = ap (λ (k : Device). k.mark.slot) is.is
 
-  phase : r.mark.phase ≡ marks.Installing
-  phase = sym (ap (λ (k : Device). k.mark.phase) is.is) ∙ installed
+  phase : r.mark.phase ≡ d.mark.phase
+  phase = sym (ap (λ (k : Device). k.mark.phase) is.is)
+
+  both : reads_both r.mark.phase ≡ true
+  both = ap reads_both phase ∙ ends_both d ends
 
   elsewhere : (s : ℕ) → s ≢ 2048 → new s ≡ old s
   elsewhere s other = set_there old 2048 (mark_spelling (idle_mark d.mark.slot)) s other
@@ -151,19 +214,19 @@ module _
       × (table_at size r.geometry r.mark.slot old ≡ Ok t)
   two =
       two_of size r.geometry r.mark.slot (other_slot r.mark.slot) old r.tables
-      (subst (λ (m : MarkPhase). tables_in size r.geometry ((phase_at m).tables r.mark.slot) old
-      ≡ Ok r.tables)
-      phase is.reads.tables)
+      (subst (λ (slots : List ℕ). tables_in size r.geometry slots old ≡ Ok r.tables)
+      (both_tables r.mark.phase r.mark.slot both) is.reads.tables)
 
   abbrev t : Table
   t = two.0
 
   abbrev shaped : Read
-  shaped = installing_read r.mark.slot r.statuses r.control r.geometry two.0 two.1 r.scanned
+  shaped =
+      update_read r.mark.phase r.mark.slot r.statuses r.control r.geometry two.0 two.1 r.scanned
 
   shape : r ≡ shaped
   shape = (λ i. record {
-    mark = record { phase = phase i; slot = r.mark.slot };
+    mark = r.mark;
     statuses = r.statuses;
     control = r.control;
     geometry = r.geometry;
@@ -180,14 +243,11 @@ module _
       let source = r.mark.slot in
       let target = other_slot r.mark.slot in
       let all : first_fault (update_checks source two.0 two.1) ≡ None =
-      subst (λ (x : Read). part_fault x ≡ None) shape is.reads.parts in
+      ap first_fault (sym (both_checks r.mark.phase r.mark.slot two.0 two.1 both))
+      ∙ subst (λ (x : Read). part_fault x ≡ None) shape is.reads.parts in
       let rest = first_kept (twin_check target two.0 two.1)
       (own_check source two.0 ∷ target_check target two.0 two.1 ∷ []) all in
       (first_kept (own_check source two.0) (target_check target two.0 two.1 ∷ []) rest.1).0
-
-  seen : r.control ≡ control_read_of r.mark.slot d.control
-  seen = control_is_seen _ _ old d.control r.control is.reads.control is.control
-      ∙ seen_single r d.control
 
   control_new : control_of (new 4) ≡ Ok d.control
   control_new = ap control_of (elsewhere 4 (λ e. omega (arith, e))) ∙ is.control
@@ -216,23 +276,24 @@ module _
       (elsewhere 4104 (λ e. omega (arith, e)))
       (elsewhere 4112 (λ e. omega (arith, e)))
       ∙ is.reads.geometry)
-      table_new own_rules (state_passed d size old is seen)
+      table_new own_rules (source_runs d size old dev is ends)
 
   kept_is : next
       ≡ kept_with (idle_read (idle_mark r.mark.slot) d.control r.geometry two.0) d.control
   kept_is =
-      ap (λ (k : Device). with_update k marks.Idle None None)
+      ap without_update
       (is.is ∙ ap (λ (x : Read). kept_with x d.control) shape)
-      ∙ kept_cancelled r.mark.slot d.control r.statuses r.control r.geometry two.0 two.1 r.scanned
-      (omega (arith, dev.slot, own))
+      ∙ kept_ended r.mark.phase r.mark.slot d.control r.statuses r.control r.geometry two.0 two.1
+      r.scanned both (omega (arith, dev.slot, own))
 
   copies : AgreeCopies r.geometry (r.mark.slot ∷ []) (two.0 ∷ []) new
   copies =
       let were : AgreeCopies r.geometry (r.mark.slot ∷ other_slot r.mark.slot ∷ [])
       (two.0 ∷ two.1 ∷ []) old =
-      subst (λ (x : Read). AgreeCopies x.geometry ((phase_at x.mark.phase).tables x.mark.slot)
-      x.tables old)
-      shape is.copies in (
+      subst (λ (slots : List ℕ). AgreeCopies r.geometry slots (two.0 ∷ two.1 ∷ []) old)
+      (both_tables r.mark.phase r.mark.slot both)
+      (subst (λ (ts : List Table). AgreeCopies r.geometry ((phase_at r.mark.phase).tables r.mark.slot)
+      ts old) two.2 is.copies) in (
         (
           were.0.0,
           were.0.1,
@@ -259,32 +320,28 @@ module _
   images_a : images_on new d.a ≡ images_on old d.a
   images_a =
       of_images 0 d.a (λ s there.
-      images_behind size 4096 0 _ is.read old s is.reads (omega arith)
+      images_behind size 4096 0 _ _ is.read old s is.reads (omega arith)
       (subst (λ (k : Device). IsOfImages k.a s) is.is there))
 
   images_b : images_on new d.b ≡ images_on old d.b
   images_b =
       of_images 1 d.b (λ s there.
-      images_behind size 4096 1 _ is.read old s is.reads (omega arith)
+      images_behind size 4096 1 _ _ is.read old s is.reads (omega arith)
       (subst (λ (k : Device). IsOfImages k.b s) is.is there))
 
   means : mounted_on next new ≡ cancelled (mounted_on d old) d.mark.slot
   means = elim (cases_slot d.mark.slot dev.slot) [
     | inl first ↦
-        let a = some_of d.a (dev.has_a ∙ ap (λ (n : ℕ). n == 0) first) in
-        let b = none_of d.b (dev.has_b ∙ ap (λ (n : ℕ). n == 1) first) in
-        cancelled_a d old new a.0 first a.1 b (some_same a.0 old new d.a a.1 images_a)
+        let a = some_of d.a (source_a d size dev first) in
+        cancelled_a d old new a.0 first a.1 (some_same a.0 old new d.a a.1 images_a)
     | inr one ↦
-        let a = none_of d.a (dev.has_a ∙ ap (λ (n : ℕ). n == 0) one) in
-        let b = some_of d.b (dev.has_b ∙ ap (λ (n : ℕ). n == 1) one) in
-        cancelled_b d old new b.0 one a b.1 (some_same b.0 old new d.b b.1 images_b)
+        let b = some_of d.b (source_b d size dev one) in
+        cancelled_b d old new b.0 one b.1 (some_same b.0 old new d.b b.1 images_b)
   ]
 
   pub cancel_step : IsStep d next staged Cancel replies.Done size old new
   cancel_step = record {
     represents = represents;
     effect =
-        cancel_is d old staged (planned_of d size dev installed).0
-        (planned_of d size dev installed).1
-        ∙ ap (λ (m : Mounted). does replies.Done m) (sym means);
+        cancel_is d size old staged dev ends ∙ ap (λ (m : Mounted). does replies.Done m) (sym means);
   }

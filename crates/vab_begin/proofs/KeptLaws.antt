@@ -1,9 +1,9 @@
 -- What is kept of a device as its phase and the other slot's table change.
-use Rattle.std.proofs.Common.{◌≡◌, ◌∙◌, ◌⊎◌, inl, inr, ⊎_elim, ℕ, zero, suc, ◌<◌, List, refl, sym}
+use Rattle.std.proofs.Common.{◌≡◌, ◌∙◌, ◌⊎◌, inl, inr, ℕ, zero, suc, ◌<◌, List, refl, sym}
 use Rattle.std.proofs.Common.{ap}
-use Rattle.std.proofs.Common.{subst, arith, true, false}
+use Rattle.std.proofs.Common.{subst, arith, true, false, eq-eqb}
 use Rattle.std.specs.Prelude.{◌==◌, if◌then◌else◌, Option, Some, None, is_some}
-use Rattle.std.proofs.lemmas.Bool.{cases_Bool}
+use Rattle.std.proofs.lemmas.Bool.{cases_Bool, eqb-true}
 use Rattle.vab_marks.specs.declared.mark.MarkPhase.{MarkPhase}
 use Rattle.vab_marks.specs.declared.mark.MarkPhase.TheVariants as marks
 use Rattle.vab_bootctl.specs.declared.slots.Control.{Control}
@@ -15,8 +15,10 @@ use Rattle.vab_device.specs.declared.device.Part.{Part}
 use Rattle.vab_device.specs.declared.device.PhaseKind.TheVariants as kinds
 use Rattle.vab_device.specs.declared.device.Device.{Device}
 use Rattle.vab_device.specs.Kept.{IsDevice, IsKeptTable, ArePresent, IsPhase, IsUpdate}
-use Rattle.vab_device.specs.Kept.{is_installing, table_of_slot, phase_kind, phase_by}
-use Rattle.vab_begin.specs.Kept.{with_control, with_update}
+use Rattle.vab_device.specs.Kept.{is_installing, has_both, has_slot, reads_both, table_of_slot}
+use Rattle.vab_device.specs.Kept.{kind_of, phase_kind}
+use Rattle.vab_begin.specs.Kept.{with_control, with_update, without_update}
+use Rattle.vab_begin.specs.Writes.{MayEnd}
 
 pub cases_slot : (n : ℕ) → n < 2 → (n ≡ 0) ⊎ (n ≡ 1)
 cases_slot zero below = inl refl
@@ -25,40 +27,69 @@ cases_slot (suc (suc n)) below = absurd (omega (arith, below))
 
 -- ---- the phase that is kept
 
-plan_none : (plan : Option (List Part)) (slot : ℕ)
-    → kinds.Idle ≡ phase_by plan slot
-    → plan ≡ None
-plan_none None slot is = refl
-plan_none (Some plan) slot is = absurd (let no : kinds.Idle ≡ kinds.Installing slot = is in cc)
+no_merging : IsPhase marks.Merging → ⊥
+no_merging (inl e) = absurd (let no : marks.Merging ≡ marks.Idle = e in cc)
+no_merging (inr (inl e)) = absurd (let no : marks.Merging ≡ marks.Installing = e in cc)
+no_merging (inr (inr e)) = absurd (let no : marks.Merging ≡ marks.Staged = e in cc)
 
-plan_some : (plan : Option (List Part)) (slot k : ℕ)
-    → kinds.Installing k ≡ phase_by plan slot
-    → is_some plan ≡ true
-plan_some None slot k is = absurd (let no : kinds.Installing k ≡ kinds.Idle = is in cc)
-plan_some (Some plan) slot k is = refl
+no_completed : IsPhase marks.Completed → ⊥
+no_completed (inl e) = absurd (let no : marks.Completed ≡ marks.Idle = e in cc)
+no_completed (inr (inl e)) = absurd (let no : marks.Completed ≡ marks.Installing = e in cc)
+no_completed (inr (inr e)) = absurd (let no : marks.Completed ≡ marks.Staged = e in cc)
 
--- without an update nothing is planned
-pub unplanned : (d : Device) → kinds.Idle ≡ phase_kind d → d.plan ≡ None
-unplanned d is = plan_none d.plan d.mark.slot is
+idle_kind : (p : MarkPhase) (slot : ℕ) → IsPhase p → kinds.Idle ≡ kind_of p slot → p ≡ marks.Idle
+idle_kind marks.Idle slot known is = refl
+idle_kind marks.Installing slot known is = absurd cc
+idle_kind marks.Staged slot known is = absurd cc
+idle_kind marks.Merging slot known is = absurd cc
+idle_kind marks.Completed slot known is = absurd (no_completed known)
 
-pub idle_of : (d : Device) (size : ℕ) → IsDevice d size → d.plan ≡ None → d.mark.phase ≡ marks.Idle
-idle_of d size is none = ⊎_elim (λ idle. idle)
-    (λ installing.
-    let no : false ≡ true = ap is_some (sym none) ∙ is.planned ∙ ap is_installing installing in
-    absurd cc)
-    is.phase
+installing_kind : (p : MarkPhase) (slot k : ℕ)
+    → kinds.Installing k ≡ kind_of p slot
+    → p ≡ marks.Installing
+installing_kind marks.Idle slot k is = absurd cc
+installing_kind marks.Installing slot k is = refl
+installing_kind marks.Staged slot k is = absurd cc
+installing_kind marks.Merging slot k is = absurd cc
+installing_kind marks.Completed slot k is = absurd cc
 
-pub installing_of : (d : Device) (size k : ℕ)
+staged_kind : (p : MarkPhase) (slot k : ℕ)
+    → kinds.Staged k ≡ kind_of p slot
+    → (p ≡ marks.Staged) × (k ≡ slot)
+staged_kind marks.Idle slot k is = absurd cc
+staged_kind marks.Installing slot k is = absurd cc
+staged_kind marks.Staged slot k is = (refl, cc)
+staged_kind marks.Merging slot k is = absurd cc
+staged_kind marks.Completed slot k is = absurd cc
+
+merging_kind : (p : MarkPhase) (slot k : ℕ) → IsPhase p → kinds.Merging k ≡ kind_of p slot → ⊥
+merging_kind marks.Idle slot k known is = absurd cc
+merging_kind marks.Installing slot k known is = absurd cc
+merging_kind marks.Staged slot k known is = absurd cc
+merging_kind marks.Merging slot k known is = no_merging known
+merging_kind marks.Completed slot k known is = absurd cc
+
+pub idle_of : (d : Device) (size : ℕ)
     → IsDevice d size
+    → kinds.Idle ≡ phase_kind d
+    → d.mark.phase ≡ marks.Idle
+idle_of d size is said = idle_kind d.mark.phase d.mark.slot is.phase said
+
+pub installing_of : (d : Device) (k : ℕ)
     → kinds.Installing k ≡ phase_kind d
     → d.mark.phase ≡ marks.Installing
-installing_of d size k is said = ⊎_elim
-    (λ idle.
-    let no : true ≡ false =
-    sym (plan_some d.plan d.mark.slot k said) ∙ is.planned ∙ ap is_installing idle in
-    absurd cc)
-    (λ installing. installing)
-    is.phase
+installing_of d k said = installing_kind d.mark.phase d.mark.slot k said
+
+pub staged_of : (d : Device) (k : ℕ)
+    → kinds.Staged k ≡ phase_kind d
+    → (d.mark.phase ≡ marks.Staged) × (k ≡ d.mark.slot)
+staged_of d k said = staged_kind d.mark.phase d.mark.slot k said
+
+pub not_merging : (d : Device) (size k : ℕ)
+    → IsDevice d size
+    → kinds.Merging k ≡ phase_kind d
+    → ⊥
+not_merging d size k is said = merging_kind d.mark.phase d.mark.slot k is.phase said
 
 pub some_of : {X : Type 0} (x : Option X) → is_some x ≡ true → (y : X) × (x ≡ Some y)
 some_of None is = absurd (let no : false ≡ true = is in cc)
@@ -75,6 +106,61 @@ pub planned_of : (d : Device) (size : ℕ)
     → (plan : List Part) × (d.plan ≡ Some plan)
 planned_of d size is installing =
     some_of d.plan (is.planned ∙ ap is_installing installing)
+
+-- in the other phases nothing is planned
+pub unplanned_of : (d : Device) (size : ℕ) (p : MarkPhase)
+    → IsDevice d size
+    → is_installing p ≡ false
+    → d.mark.phase ≡ p
+    → d.plan ≡ None
+unplanned_of d size p is none phase =
+    none_of d.plan (is.planned ∙ ap is_installing phase ∙ none)
+
+-- ---- the slots
+
+own_has : (p : MarkPhase) (own slot : ℕ) → own ≡ slot → has_slot p own slot ≡ true
+own_has p own slot same = elim (cases_Bool (has_both p)) [
+  | inl both ↦ rw both refl
+  | inr one ↦ rw one (eq-eqb own slot same)
+]
+
+-- the slot of the mark has images
+pub source_a : (d : Device) (size : ℕ) → IsDevice d size → d.mark.slot ≡ 0 → is_some d.a ≡ true
+source_a d size is own = is.has_a ∙ own_has d.mark.phase d.mark.slot 0 own
+
+pub source_b : (d : Device) (size : ℕ) → IsDevice d size → d.mark.slot ≡ 1 → is_some d.b ≡ true
+source_b d size is own = is.has_b ∙ own_has d.mark.phase d.mark.slot 1 own
+
+-- where one slot has images, the other has none
+one_has : (p : MarkPhase) (own slot : ℕ)
+    → has_both p ≡ false
+    → has_slot p own slot ≡ (own == slot)
+one_has p own slot one = rw one refl
+
+pub no_target_b : (d : Device) (size : ℕ)
+    → IsDevice d size
+    → has_both d.mark.phase ≡ false
+    → d.mark.slot ≡ 0
+    → is_some d.b ≡ false
+no_target_b d size is one own =
+    is.has_b ∙ one_has d.mark.phase d.mark.slot 1 one ∙ ap (λ (n : ℕ). n == 1) own
+
+pub no_target_a : (d : Device) (size : ℕ)
+    → IsDevice d size
+    → has_both d.mark.phase ≡ false
+    → d.mark.slot ≡ 1
+    → is_some d.a ≡ false
+no_target_a d size is one own =
+    is.has_a ∙ one_has d.mark.phase d.mark.slot 0 one ∙ ap (λ (n : ℕ). n == 0) own
+
+-- and is the one that was booted last
+pub current_of : (d : Device) (size : ℕ)
+    → IsDevice d size
+    → has_both d.mark.phase ≡ false
+    → d.control.current ≡ d.mark.slot
+current_of d size is one =
+    sym (eqb-true d.mark.slot d.control.current
+    (sym (one_has d.mark.phase d.mark.slot d.control.current one) ∙ is.current))
 
 -- ---- the tables
 
@@ -120,13 +206,15 @@ pub update_kept : (d : Device) (size : ℕ) (c : Control) (phase : MarkPhase) (t
     → Fits c
     → c.current ≡ d.mark.slot
     → IsPhase phase
+    → has_both d.mark.phase ≡ false
+    → has_both phase ≡ false
     → IsKeptTable size d.geometry (other_slot d.mark.slot) t
-    → is_some t ≡ is_installing phase
+    → is_some t ≡ reads_both phase
     → is_some plan ≡ is_installing phase
     → ArePresent size plan
     → IsUpdate d.mark.slot (table_of_slot d d.mark.slot) t
     → IsDevice (with_control c (with_update d phase t plan)) size
-update_kept d size c phase t plan is fits current known table there planned plans update =
+update_kept d size c phase t plan is fits current known was one table there planned plans update =
     let source : table_of_slot (with_update d phase t plan) d.mark.slot
     ≡ table_of_slot d d.mark.slot =
     source_at d.mark.slot d.table_a d.table_b t in
@@ -138,9 +226,11 @@ update_kept d size c phase t plan is fits current known table there planned plan
       control = fits;
       phase = known;
       slot = is.slot;
-      current = current;
-      has_a = is.has_a;
-      has_b = is.has_b;
+      current = own_has phase d.mark.slot c.current (sym current);
+      has_a =
+          is.has_a ∙ one_has d.mark.phase d.mark.slot 0 was ∙ sym (one_has phase d.mark.slot 0 one);
+      has_b =
+          is.has_b ∙ one_has d.mark.phase d.mark.slot 1 was ∙ sym (one_has phase d.mark.slot 1 one);
       copies_on = is.copies_on;
       parts_a = is.parts_a;
       parts_b = is.parts_b;
@@ -161,11 +251,79 @@ no_target : (source : ℕ) (s : Option Table) → IsUpdate source s None
 no_target source None = tt
 no_target source (Some s) = tt
 
--- without an update
-pub cancelled_kept : (d : Device) (size : ℕ)
+-- ---- without an update
+
+images_a_at : (n size : ℕ) (a : Option (List Part))
+    → ArePresent size a
+    → ArePresent size (if n == 0 then a else None)
+images_a_at n size a is = elim (cases_Bool (n == 0)) [ inl h ↦ rw h is | inr h ↦ rw h tt ]
+
+images_b_at : (n size : ℕ) (b : Option (List Part))
+    → ArePresent size b
+    → ArePresent size (if n == 0 then None else b)
+images_b_at n size b is = elim (cases_Bool (n == 0)) [ inl h ↦ rw h tt | inr h ↦ rw h is ]
+
+has_a_at : (n : ℕ) (a : Option (List Part))
+    → n < 2
+    → (n ≡ 0 → is_some a ≡ true)
+    → is_some (if n == 0 then a else None) ≡ (n == 0)
+has_a_at zero a below has = has refl
+has_a_at (suc zero) a below has = refl
+has_a_at (suc (suc n)) a below has = absurd (omega (arith, below))
+
+has_b_at : (n : ℕ) (b : Option (List Part))
+    → n < 2
+    → (n ≡ 1 → is_some b ≡ true)
+    → is_some (if n == 0 then None else b) ≡ (n == 1)
+has_b_at zero b below has = refl
+has_b_at (suc zero) b below has = has refl
+has_b_at (suc (suc n)) b below has = absurd (omega (arith, below))
+
+-- the slot that was booted last is the source
+pub ends_at_source : (d : Device) (size : ℕ)
     → IsDevice d size
-    → IsDevice (with_update d marks.Idle None None) size
-cancelled_kept d size is =
-    update_kept d size d.control marks.Idle None None is is.control is.current
-    (inl refl) tt refl refl
-    tt (no_target d.mark.slot (table_of_slot d d.mark.slot))
+    → MayEnd d
+    → d.control.current ≡ d.mark.slot
+ends_at_source d size is (inl installing) =
+    current_of d size is (ap has_both installing)
+ends_at_source d size is (inr staged) = staged.1
+
+pub ended_kept : (d : Device) (size : ℕ)
+    → IsDevice d size
+    → MayEnd d
+    → IsDevice (without_update d) size
+ended_kept d size is ends =
+    let source : table_of_slot (without_update d) d.mark.slot ≡ table_of_slot d d.mark.slot =
+    source_at d.mark.slot d.table_a d.table_b None in
+    let target : table_of_slot (without_update d) (other_slot d.mark.slot) ≡ None =
+    target_at d.mark.slot d.table_a d.table_b None is.slot in
+    record {
+      enough = is.enough;
+      geometry = is.geometry;
+      control = is.control;
+      phase = inl refl;
+      slot = is.slot;
+      current = eq-eqb d.mark.slot d.control.current (sym (ends_at_source d size is ends));
+      has_a = has_a_at d.mark.slot d.a is.slot (source_a d size is);
+      has_b = has_b_at d.mark.slot d.b is.slot (source_b d size is);
+      copies_on = is.copies_on;
+      parts_a = images_a_at d.mark.slot size d.a is.parts_a;
+      parts_b = images_b_at d.mark.slot size d.b is.parts_b;
+      table_a = table_a_at d.mark.slot size d.geometry d.table_a None is.slot is.table_a tt;
+      table_b = table_b_at d.mark.slot size d.geometry d.table_b None is.slot is.table_b tt;
+      source = ap is_some source ∙ is.source;
+      target = ap is_some target;
+      planned = refl;
+      plan = tt;
+      update = (subst (λ (x : Option Table). IsUpdate d.mark.slot x
+          (table_of_slot (without_update d) (other_slot d.mark.slot)))
+          (sym source)
+          (subst (λ (x : Option Table). IsUpdate d.mark.slot (table_of_slot d d.mark.slot) x)
+          (sym target) (no_target d.mark.slot (table_of_slot d d.mark.slot))));
+    }
+
+-- its source stays
+pub source_parts : (n : ℕ) (a b : Option (List Part))
+    → (if n == 0 then (if n == 0 then a else None) else (if n == 0 then None else b))
+    ≡ (if n == 0 then a else b)
+source_parts n a b = elim (cases_Bool (n == 0)) [ inl h ↦ rw h refl | inr h ↦ rw h refl ]

@@ -5,6 +5,7 @@ pub mod CopiesApart
 pub mod ImportLaws
 pub mod KeptLaws
 pub mod PlannedLaws
+pub mod RunsLaws
 pub mod StayLaws
 pub mod Steps
 pub mod WriteLaws

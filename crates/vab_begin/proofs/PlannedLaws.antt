@@ -87,6 +87,7 @@ part_is size first cap p base on below once small = record {
   on_disk = sectors_on first cap size p.blocks on below;
   once = sectors_distinct first p.blocks once;
   small = omega (arith, small, length-sectors_of first p.blocks);
+  store = tt;
 }
 
 -- ---- a slot's own partitions

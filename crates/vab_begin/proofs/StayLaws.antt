@@ -1,10 +1,9 @@
 -- What stays of a disk as the phase changes.
 use Rattle.std.proofs.Common.{◌≡◌, ◌∙◌, inl, inr, ℕ, ◌+◌, ◌≤◌, List, [], ◌∷◌}
 use Rattle.std.proofs.Common.{length, take, Ok, refl, sym, ap, arith}
-use Rattle.std.specs.Prelude.{true, None}
+use Rattle.std.specs.Prelude.{true}
 use Rattle.vab_disk.specs.Disk.{Image}
 use Rattle.vab_gate.proofs.Blocks.{sectors_same}
-use Rattle.vab_bootctl.specs.declared.slots.Control.{Control}
 use Rattle.vab_marks.specs.declared.mark.MarkPhase.{MarkPhase}
 use Rattle.vab_marks.specs.declared.mark.UpdateMark.{UpdateMark}
 use Rattle.vab_marks.specs.Mark.{mark_of, mark_spelling}
@@ -12,14 +11,11 @@ use Rattle.vab_geometry.specs.declared.geometry.Geometry.{Geometry}
 use Rattle.vab_lpstore.specs.Layout.{copy_sectors, primary_of, backup_of, primary_bytes}
 use Rattle.vab_lpstore.specs.Layout.{backup_bytes, BothHold}
 use Rattle.vab_tables.specs.declared.table.Table.{Table}
-use Rattle.vab_device.specs.declared.device.Device.{Device}
-use Rattle.vab_device.specs.Checks.{first_fault, ◌>>=◌}
-use Rattle.vab_device.specs.Idle.{control_read_of}
-use Rattle.vab_device.specs.Phases.{is_known, slot_checks}
-use Rattle.vab_device.specs.Reading.{Read, mark_read, mark_in, table_at, tables_in}
-use Rattle.vab_device.specs.Reading.{Represents, IsOfTables}
+use Rattle.vab_device.specs.Checks.{◌>>=◌}
+use Rattle.vab_device.specs.Phases.{is_known}
+use Rattle.vab_device.specs.Reading.{mark_read, mark_in, table_at, tables_in}
+use Rattle.vab_device.specs.Reading.{IsOfTables}
 use Rattle.vab_device.proofs.CheckLaws.{bound}
-use Rattle.vab_device.proofs.ReadingLaws.{state_single}
 
 -- ---- the mark
 
@@ -94,16 +90,3 @@ two_of size g slot other image ts is =
     let whole : Ok (t.0 ∷ u.0) ≡ Ok ts = u.2 in
     let same : t.0 ∷ u.0 ≡ ts = cc in
     (t.0, one.0, sym same ∙ ap (λ (l : List Table). t.0 ∷ l) one.1, t.1)
-
--- ---- the rules of the slots
-
--- they hold of the boot control as far as it is read
-pub state_passed : (d : Device) (size : ℕ) (old : Image) (is : Represents d size old)
-    → (is.read.control ≡ control_read_of is.read.mark.slot d.control)
-    → first_fault (slot_checks is.read.mark.slot (control_read_of is.read.mark.slot d.control))
-    ≡ None
-state_passed d size old is seen =
-    let r : Read = is.read in
-    ap (λ (k : Control). first_fault (slot_checks r.mark.slot k)) (sym seen)
-    ∙ sym (state_single r)
-    ∙ is.reads.state

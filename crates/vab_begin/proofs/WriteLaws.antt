@@ -1,6 +1,5 @@
 -- What a begin writes is the begin's, and stands for the target's table.
 use Rattle.std.proofs.Common.{◌≡◌, ◌∙◌, inl, inr, ℕ, ◌≤◌, List, length, sym, ap, subst, arith}
-use Rattle.std.specs.Prelude.{None}
 use Rattle.vab_disk.specs.Disk.{IsAt}
 use Rattle.vab_marks.specs.declared.mark.MarkPhase.TheVariants as marks
 use Rattle.vab_marks.specs.Mark.{mark_spelling}
@@ -9,17 +8,11 @@ use Rattle.vab_tables.specs.Spelling.{table_text, as_minor_2}
 use Rattle.vab_tables.specs.Text.{IsTableText}
 use Rattle.vab_layout.specs.Layout.{table_of}
 use Rattle.vab_device.specs.declared.device.Device.{Device}
-use Rattle.vab_device.specs.Kept.{IsDevice, is_installing}
 use Rattle.vab_begin.specs.declared.target.Target.{Target}
 use Rattle.vab_begin.specs.Target.{IsTargetFor}
 use Rattle.vab_begin.specs.Writes.{IsOfPlaces, IsOfBegun}
 use Rattle.vab_begin.proofs.BeginLaws.{installing_mark}
 use Rattle.vab_begin.proofs.ImportLaws.{minor_2}
-use Rattle.vab_begin.proofs.KeptLaws.{none_of}
-
-pub idle_plan : (d : Device) (size : ℕ) → IsDevice d size → d.mark.phase ≡ marks.Idle → d.plan
-    ≡ None
-idle_plan d size dev idle = none_of d.plan (dev.planned ∙ ap is_installing idle)
 
 module _ (d : Device) (x : Target) (for : IsTargetFor d x) (text : List ℕ)
     (same : text ≡ x.text) where

@@ -6,10 +6,12 @@ use Rattle.vab_model.specs.declared.command.Refusal.TheVariants as refusals
 use Rattle.vab_model.specs.Commands.{Begin}
 use Rattle.vab_model.specs.Effects.{Effect, refuses, unless_refused}
 use Rattle.vab_device.specs.Mounted.{Mounted, mounted_on}
+use Rattle.vab_marks.specs.declared.mark.MarkPhase.TheVariants as marks
 use Rattle.vab_begin.specs.Writes.{IsOfBegun}
 use Rattle.vab_device.proofs.DoesLaws.{does_nothing}
-use Rattle.vab_begin.proofs.KeptLaws.{unplanned, planned_of, installing_of}
-use Rattle.vab_begin.proofs.BegunLaws.{begin_refused, begin_is, is_memory, refused_is}
+use Rattle.vab_begin.proofs.KeptLaws.{idle_of, planned_of, unplanned_of, installing_of, staged_of}
+use Rattle.vab_begin.proofs.KeptLaws.{not_merging}
+use Rattle.vab_begin.proofs.BegunLaws.{begin_refused, begin_staged, begin_is, is_memory, refused_is}
 use Rattle.vab_begin.proofs.beginning.begin.Goals as goal
 
 pub returns-in-Installing : goal.returns-in-Installing
@@ -18,12 +20,29 @@ returns-in-Installing g c = λ staged.
     let old = c.args.d.now in
     let size = g.D.Disk.size old in
     let plan = planned_of d size c.requires.kept
-    (installing_of d size c.in-Installing.field-0 c.requires.kept c.in-Installing.ensures) in
+    (installing_of d c.in-Installing.field-0 c.in-Installing.ensures) in
     does_nothing g.D.Disk d staged Begin (IsOfBegun g.D.Disk.is_modelled d (g.D.Disk.seen old 4))
     false
     (replies.Refused refusals.NotIdle) old old c.requires.kept c.requires.represents
     (λ t. begin_refused d (g.D.Disk.seen old) staged plan.0 plan.1)
     (reads_none g.D.Disk old) refl
+
+pub returns-in-Staged : goal.returns-in-Staged
+returns-in-Staged g c = λ staged.
+    let d = c.args.device in
+    let old = c.args.d.now in
+    let size = g.D.Disk.size old in
+    let phase = staged_of d c.in-Staged.field-0 c.in-Staged.ensures in
+    does_nothing g.D.Disk d staged Begin (IsOfBegun g.D.Disk.is_modelled d (g.D.Disk.seen old 4))
+    false
+    (replies.Refused refusals.NotIdle) old old c.requires.kept c.requires.represents
+    (λ t. begin_staged d (g.D.Disk.seen old) staged
+    (unplanned_of d size marks.Staged c.requires.kept refl phase.0) phase.0)
+    (reads_none g.D.Disk old) refl
+
+pub returns-in-Merging : goal.returns-in-Merging
+returns-in-Merging g c = λ staged.
+    absurd (not_merging c.args.device _ c.in-Merging.field-0 c.requires.kept c.in-Merging.ensures)
 
 pub returns-in-Err : goal.returns-in-Err
 returns-in-Err g c = λ staged.
@@ -38,7 +57,7 @@ returns-in-Err g c = λ staged.
     (λ t.
     ap (λ (e : Effect Mounted). unless_refused (is_memory fault) Begin e)
     (begin_is d size (g.D.Disk.seen old) staged for.source c.requires.kept
-    (unplanned d c.in-Idle.ensures) for.is)
+    (idle_of d size c.requires.kept c.in-Idle.ensures) for.is)
     ∙ refused_is (mounted_on d (g.D.Disk.seen old)) d.mark.slot d.geometry.max for.source fault
     for.refused
     ∙ ap (λ (r : Refusal). refuses r) (sym c.refusal.ensures))

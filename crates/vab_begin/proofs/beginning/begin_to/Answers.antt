@@ -15,7 +15,7 @@ use Rattle.vab_begin.specs.Writes.{IsOfPlaces, IsOfBegun}
 use Rattle.vab_begin.proofs.CopiesApart.{copies_on_disk}
 use Rattle.vab_begin.proofs.BeginLaws.{installing_mark}
 use Rattle.vab_begin.proofs.BegunLaws.{begun_device, begun_kept, begin_dead, begin_step}
-use Rattle.vab_begin.proofs.WriteLaws.{idle_plan, target_short, target_stands, places_in, mark_in}
+use Rattle.vab_begin.proofs.WriteLaws.{target_short, target_stands, places_in, mark_in}
 use Rattle.vab_begin.proofs.beginning.begin_to.Goals as goal
 
 pub prepare_begin-requires-clause-table_on_disk : goal.prepare_begin-requires-clause-table_on_disk
@@ -72,7 +72,7 @@ returns-in-Err-put_mark g c = λ staged.
       stored = c.in-Ok.ensures.stored t;
     })
     (target_stands d x c.requires.target text c.as_slice-text.ensures)
-    c.put_mark.ensures.read staged (idle_plan d size c.requires.kept c.requires.idle) in
+    c.put_mark.ensures.read staged in
     fails_gate g.D.Disk d staged Begin (IsOfBegun told d bytes) old mid V dead
     c.prepare_begin.ensures.touches within c.put_mark.new.d (begun_device d x.table) replies.Done
     2048 (mark_spelling (installing_mark d.mark.slot))
@@ -110,7 +110,7 @@ returns-in-Ok-put_mark g c = λ staged.
       stored = c.in-Ok.ensures.stored t;
     })
     (target_stands d x c.requires.target text c.as_slice-text.ensures)
-    c.put_mark.ensures.read staged (idle_plan d size c.requires.kept c.requires.idle) in
+    c.put_mark.ensures.read staged in
     let next : c.begun.result ≡ begun_device d x.table =
     c.begun.ensures
     ∙ ap (λ (plan : List Part).
@@ -127,7 +127,7 @@ returns-in-Ok-put_mark g c = λ staged.
     (λ t rest. c.put_mark.ensures.gate t (c.in-Ok.ensures.settled t))
     c.put_mark.ensures.touches
     (mark_in d x c.requires.target text c.as_slice-text.ensures told bytes c.requires.idle)
-    (begun_kept d size x c.requires.kept c.requires.target)
-    (record { geometry = refl; slot = refl; a = refl; b = refl })
+    (begun_kept d size x c.requires.kept c.requires.idle c.requires.target)
+    (record { geometry = refl; slot = refl; parts = refl })
     c.in-Ok-put_mark.ensures.written c.in-Ok-put_mark.ensures.settled
     (c.in-Ok-put_mark.ensures.faults.steady ∙ c.in-Ok.ensures.faults.steady))

@@ -1,7 +1,5 @@
 use Rattle.std.proofs.Common.{ℕ, List, refl, sym, subst, Ok}
-use Rattle.std.specs.Prelude.{None}
 use Rattle.vab_disk.proofs.CallLaws.{touches_none}
-use Rattle.vab_marks.specs.declared.mark.MarkPhase.TheVariants as marks
 use Rattle.vab_marks.specs.Mark.{mark_spelling}
 use Rattle.vab_model.specs.declared.command.Reply.TheVariants as replies
 use Rattle.vab_model.specs.Commands.{Cancel}
@@ -9,9 +7,9 @@ use Rattle.vab_device.specs.declared.device.Device.{Device}
 use Rattle.vab_device.specs.Does.{Does}
 use Rattle.vab_device.proofs.DoesLaws.{dead_means, fails_gate, does_gate}
 use Rattle.vab_device.proofs.SameLaws.{dead_of}
-use Rattle.vab_begin.specs.Kept.{with_update}
+use Rattle.vab_begin.specs.Kept.{without_update}
 use Rattle.vab_begin.specs.Writes.{IsOfCancelled}
-use Rattle.vab_begin.proofs.KeptLaws.{cancelled_kept}
+use Rattle.vab_begin.proofs.KeptLaws.{ended_kept, source_parts}
 use Rattle.vab_begin.proofs.CancelLaws.{idle_mark, cancel_step}
 use Rattle.vab_begin.proofs.cancelling.end_update.Goals as goal
 
@@ -23,17 +21,17 @@ returns-in-Err g c = λ staged.
     let V : ℕ → List ℕ → Type 0 = λ s b. ⊥ in
     let step = λ (t : g.D.Disk.is_modelled).
     cancel_step d size (g.D.Disk.seen old) staged c.requires.kept (c.requires.represents t)
-    c.requires.installing c.put_mark.ensures.read in
+    c.requires.ends c.put_mark.ensures.read in
     fails_gate g.D.Disk d staged Cancel (IsOfCancelled d) old old V
     (λ t. dead_means d size (g.D.Disk.seen old) V (c.requires.represents t)
     (dead_of size _ (g.D.Disk.seen old) (λ s. ⊥) (c.requires.represents t).reads
     (λ s live w. w)))
     (touches_none g.D.Disk V old) (λ t s b w. absurd w) c.put_mark.new.d
-    (with_update d marks.Idle None None) replies.Done 2048
+    (without_update d) replies.Done 2048
     (mark_spelling (idle_mark d.mark.slot))
     (λ t. (step t).effect) (λ t. (step t).represents) c.put_mark.ensures.gate
     c.put_mark.ensures.touches
-    (λ s b at. record { installed = c.requires.installing; mark = at })
+    (λ s b at. record { ends = c.requires.ends; mark = at })
     _ c.in-Err.ensures.faults.cause
 
 pub returns-in-Ok : goal.returns-in-Ok
@@ -44,7 +42,7 @@ returns-in-Ok g c = λ staged.
     let V : ℕ → List ℕ → Type 0 = λ s b. ⊥ in
     let step = λ (t : g.D.Disk.is_modelled).
     cancel_step d size (g.D.Disk.seen old) staged c.requires.kept (c.requires.represents t)
-    c.requires.installing c.put_mark.ensures.read in
+    c.requires.ends c.put_mark.ensures.read in
     subst (λ (next : Device). Does g.D.Disk d staged Cancel (IsOfCancelled d) old c.put_mark.new.d
     (Ok (next, replies.Done))) (sym c.ended.ensures)
     (does_gate g.D.Disk d staged Cancel (IsOfCancelled d) old old V
@@ -52,11 +50,11 @@ returns-in-Ok g c = λ staged.
     (dead_of size _ (g.D.Disk.seen old) (λ s. ⊥) (c.requires.represents t).reads
     (λ s live w. w)))
     (touches_none g.D.Disk V old) (λ t s b w. absurd w) c.put_mark.new.d
-    (with_update d marks.Idle None None) replies.Done 2048
+    (without_update d) replies.Done 2048
     (mark_spelling (idle_mark d.mark.slot))
     (λ t. (step t).effect) (λ t. (step t).represents) c.put_mark.ensures.gate
     c.put_mark.ensures.touches
-    (λ s b at. record { installed = c.requires.installing; mark = at })
-    (cancelled_kept d size c.requires.kept)
-    (record { geometry = refl; slot = refl; a = refl; b = refl })
+    (λ s b at. record { ends = c.requires.ends; mark = at })
+    (ended_kept d size c.requires.kept c.requires.ends)
+    (record { geometry = refl; slot = refl; parts = source_parts d.mark.slot d.a d.b })
     c.in-Ok.ensures.written c.in-Ok.ensures.settled c.in-Ok.ensures.faults.steady)
