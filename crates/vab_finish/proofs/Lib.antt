@@ -1,0 +1,4 @@
+pub mod FinalLaws
+pub mod FinishedLaws
+pub mod KeptLaws
+pub mod ReadyLaws
