@@ -10,9 +10,9 @@ use Rattle.vab_layout.proofs.LayoutLaws.{layout_keeps}
 use Rattle.vab_builder.specs.declared.edit.Edit.{Edit}
 use Rattle.vab_device.specs.declared.device.Part.{Part}
 use Rattle.vab_device.specs.declared.device.Device.{Device}
-use Rattle.vab_device.specs.Kept.{lies_in, table_of_slot, is_installing, reads_both, IsTableOf, IsKeptTable}
-use Rattle.vab_device.specs.Kept.{ArePresent}
-use Rattle.vab_device.specs.Kept.{AreParts, AreOfUpdate, IsUpdate, IsDevice}
+use Rattle.vab_device.specs.Kept.{lies_in, table_of_slot, is_installing, reads_both, IsTableOf}
+use Rattle.vab_device.specs.Kept.{IsKeptTable, ArePresent, AreParts, AreOfUpdate, IsUpdate}
+use Rattle.vab_device.specs.Kept.{IsDevice}
 use Rattle.vab_device.specs.Phases.{plan_of}
 use Rattle.vab_edit.specs.Carried.{carried}
 use Rattle.vab_edit.specs.Prepared.{IsEdited, HasTables, with_target}

@@ -1,6 +1,6 @@
 -- What the table of effects says of a flash, by what is kept of the device.
-use Rattle.std.proofs.Common.{◌≡◌, ◌∙◌, ℕ, zero, suc, ◌+◌, ◌<◌, ◌≤◌, true, false, List, [], ◌∷◌, refl}
-use Rattle.std.proofs.Common.{sym}
+use Rattle.std.proofs.Common.{◌≡◌, ◌∙◌, ℕ, zero, suc, ◌+◌, ◌<◌, ◌≤◌, true, false, List, [], ◌∷◌}
+use Rattle.std.proofs.Common.{refl, sym}
 use Rattle.std.proofs.Common.{subst, ap, length, get_or, inl, inr, arith}
 use Rattle.std.specs.Prelude.{Bool, ◌==◌, Option, Some, None, map, All, nat_lt, if◌then◌else◌}
 use Rattle.std.specs.Str.{bytes_eq}

@@ -262,16 +262,16 @@ module _
         high s (images_behind size 4096 0 _ _ read old s i.reads (omega arith) is)
         (λ here.
         images_miss i.slot (layout_of i.source).parts (layout_of i.target).parts name store
-        tables.below tables.target own found first s here 0 i.scanned i.source i.target i.others refl
-        tables.begins is)
+        tables.below tables.target own found first s here 0 i.scanned i.source i.target i.others
+        refl tables.begins is)
 
     images_b : (s : ℕ) → IsOfImages (kept read).b s → new s ≡ old s
     images_b s is =
         high s (images_behind size 4096 1 _ _ read old s i.reads (omega arith) is)
         (λ here.
         images_miss i.slot (layout_of i.source).parts (layout_of i.target).parts name store
-        tables.below tables.target own found first s here 1 i.scanned i.source i.target i.others refl
-        tables.begins is)
+        tables.below tables.target own found first s here 1 i.scanned i.source i.target i.others
+        refl tables.begins is)
 
     pub images_a_stay : images_on new (kept read).a ≡ images_on old (kept read).a
     images_a_stay = images_same old new (kept read).a images_a
