@@ -99,8 +99,8 @@ wanting c e is wants = rw (is, wants) refl
 target_keeps : (d : Device) (target : ℕ) (u : Table) (plan : List Part)
     → KeepsSource d (with_target d target u plan)
 target_keeps d target u plan = elim (cases_Bool (target == 0)) [
-  | inl a ↦ rw a (record { geometry = refl; slot = refl; a = refl; b = refl })
-  | inr b ↦ rw b (record { geometry = refl; slot = refl; a = refl; b = refl })
+  | inl a ↦ rw a (record { geometry = refl; slot = refl; parts = refl })
+  | inr b ↦ rw b (record { geometry = refl; slot = refl; parts = refl })
 ]
 
 -- where both copies are of one table, the slot's table is that one or the new one

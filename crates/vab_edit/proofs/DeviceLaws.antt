@@ -2,6 +2,7 @@
 use Rattle.std.proofs.Common.{◌≡◌, ◌∙◌, ◌⊎◌, inl, inr, ℕ, zero, suc, ◌<◌, true, List, [], refl, sym}
 use Rattle.std.proofs.Common.{ap, subst, arith}
 use Rattle.std.specs.Prelude.{map, is_some, Option, Some, if◌then◌else◌, ◌==◌}
+use Rattle.vab_marks.specs.declared.mark.MarkPhase.TheVariants as marks
 use Rattle.vab_tables.specs.declared.table.Table.{Table}
 use Rattle.vab_layout.specs.Layout.{layout_of}
 use Rattle.vab_layout.specs.Slots.{other_slot}
@@ -9,14 +10,15 @@ use Rattle.vab_layout.proofs.LayoutLaws.{layout_keeps}
 use Rattle.vab_builder.specs.declared.edit.Edit.{Edit}
 use Rattle.vab_device.specs.declared.device.Part.{Part}
 use Rattle.vab_device.specs.declared.device.Device.{Device}
-use Rattle.vab_device.specs.Kept.{lies_in, table_of_slot, is_installing, IsTableOf, IsKeptTable}
-use Rattle.vab_device.specs.Kept.{ArePresent}
-use Rattle.vab_device.specs.Kept.{AreParts, AreOfUpdate, IsUpdate, IsDevice}
+use Rattle.vab_device.specs.Kept.{lies_in, table_of_slot, is_installing, reads_both, IsTableOf}
+use Rattle.vab_device.specs.Kept.{IsKeptTable, ArePresent, AreParts, AreOfUpdate, IsUpdate}
+use Rattle.vab_device.specs.Kept.{IsDevice}
 use Rattle.vab_device.specs.Phases.{plan_of}
 use Rattle.vab_edit.specs.Carried.{carried}
 use Rattle.vab_edit.specs.Prepared.{IsEdited, HasTables, with_target}
 use Rattle.vab_edit.proofs.GateLaws.{device_of_layout}
 use Rattle.vab_edit.proofs.KeptLaws.{fresh_planned, all_carried}
+use Rattle.vab_edit.proofs.StandsLaws.{planned_phase}
 
 -- a slot is a or b
 pub slot_cases : (k : ℕ) → k < 2 → (k ≡ 0) ⊎ (k ≡ 1)
@@ -74,8 +76,14 @@ module _
       (fresh_planned size (other_slot d.mark.slot) d.geometry (layout_of u) (layout_of s).parts
       kept.enough (layout_keeps u edited.rules) edited.target new_lies)
 
+  phase_is : d.mark.phase ≡ marks.Installing
+  phase_is = planned_phase d size has.old_plan kept has.is_planned
+
   installing : is_installing d.mark.phase ≡ true
-  installing = sym kept.planned ∙ ap is_some has.is_planned
+  installing = ap is_installing phase_is
+
+  both_read : reads_both d.mark.phase ≡ true
+  both_read = ap reads_both phase_is
 
   are : AreOfUpdate d.mark.slot s u
   are = record {
@@ -107,7 +115,7 @@ module _
             ap (λ (n : ℕ). is_some (if n == 0 then d.table_a else Some u)) e ∙ ap is_some ta;
         target =
             ap (λ (n : ℕ). is_some (if other_slot n == 0 then d.table_a else Some u)) e
-            ∙ sym installing;
+            ∙ sym both_read;
         planned = sym installing;
         plan = is;
         update =
@@ -144,7 +152,7 @@ module _
             ap (λ (n : ℕ). is_some (if n == 0 then Some u else d.table_b)) e ∙ ap is_some tb;
         target =
             ap (λ (n : ℕ). is_some (if other_slot n == 0 then Some u else d.table_b)) e
-            ∙ sym installing;
+            ∙ sym both_read;
         planned = sym installing;
         plan = is;
         update =

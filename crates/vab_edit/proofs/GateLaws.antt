@@ -214,12 +214,12 @@ module _
   images_a : images_on image (kept r).a ≡ images_on old (kept r).a
   images_a =
       images_same old image (kept r).a
-      (λ a is. behind a (images_behind size (end_of g o) 0 _ r old a reads within is))
+      (λ a is. behind a (images_behind size (end_of g o) 0 _ _ r old a reads within is))
 
   images_b : images_on image (kept r).b ≡ images_on old (kept r).b
   images_b =
       images_same old image (kept r).b
-      (λ a is. behind a (images_behind size (end_of g o) 1 _ r old a reads within is))
+      (λ a is. behind a (images_behind size (end_of g o) 1 _ _ r old a reads within is))
 
   has_both : (name : List ℕ) (es : List Exception)
       → exceptions_of name scanned ≡ Some es
@@ -251,7 +251,7 @@ module _
   old_entries : map (entry_on image) (plan_of o (layout_of t) scanned)
       ≡ map (entry_on old) (plan_of o (layout_of t) scanned)
   old_entries =
-      let same = plan_kept k (Some (plan_of o (layout_of t) scanned)) old image
+      let same = plan_kept (Some (plan_of o (layout_of t) scanned)) old image
       (λ a is. behind a (plan_behind size (end_of g o) r old a reads within is)) in
       cc
 

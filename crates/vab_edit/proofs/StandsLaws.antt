@@ -32,9 +32,19 @@ pub record StandsUpdate (d : Device) (size : ℕ) (image : Image) (s t : Table) 
   pub copies : AgreeCopies d.geometry (d.mark.slot ∷ other_slot d.mark.slot ∷ []) (s ∷ t ∷ []) image
 
 pub installing_phase : (m : MarkPhase) → IsPhase m → is_installing m ≡ true → m ≡ marks.Installing
-installing_phase m (inr is) t = is
 installing_phase m (inl is) t =
     absurd (let bad : false ≡ true = sym (ap is_installing is) ∙ t in cc)
+installing_phase m (inr (inl is)) t = is
+installing_phase m (inr (inr is)) t =
+    absurd (let bad : false ≡ true = sym (ap is_installing is) ∙ t in cc)
+
+-- where partitions are planned, an update is installed
+pub planned_phase : (d : Device) (size : ℕ) (plan : List Part)
+    → IsDevice d size
+    → d.plan ≡ Some plan
+    → d.mark.phase ≡ marks.Installing
+planned_phase d size plan is planned =
+    installing_phase d.mark.phase is.phase (sym is.planned ∙ ap is_some planned)
 
 source_at : (k : ℕ) (statuses : List (Option PartStatus)) (seen : Control) (g : Geometry)
     (s t : Table) (scanned : List Scanned) (c : Control)
@@ -61,8 +71,7 @@ pub stands_update : (d : Device) (size : ℕ) (image : Image) (s t : Table)
     → Represents d size image
     → StandsUpdate d size image s t
 stands_update d size image s t is has represents =
-    let phase = installing_phase d.mark.phase is.phase (sym is.planned
-    ∙ ap is_some has.is_planned) in
+    let phase = planned_phase d size has.old_plan is has.is_planned in
     let st = stands_installing d size image represents phase in
     let slot : d.mark.slot ≡ st.slot = ap (λ (x : Device). x.mark.slot) st.is in
     let geometry : d.geometry ≡ st.geometry = ap (λ (x : Device). x.geometry) st.is in

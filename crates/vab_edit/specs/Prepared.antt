@@ -1,13 +1,13 @@
 -- A table that an edit gives, ready to be written.
-use Rattle.std.specs.Prelude.{◌≡◌, ◌⊎◌, ℕ, ◌≤◌, List, [], length, map, Option, Some, None, Ok, Err}
-use Rattle.std.specs.Prelude.{◌==◌, if◌then◌else◌, true, Result}
+use Rattle.std.specs.Prelude.{◌≡◌, ◌⊎◌, ℕ, ◌<◌, ◌≤◌, ◌^◌, List, [], length, map, Option, Some, None}
+use Rattle.std.specs.Prelude.{Ok, Err, ◌==◌, if◌then◌else◌, true, Result}
 use Rattle.vab_tables.specs.declared.table.Table.{Table}
 use Rattle.vab_tables.specs.Rules.{KeepsRules}
 use Rattle.vab_tables.specs.Spelling.{table_size_of}
 use Rattle.vab_tables.specs.Text.{IsTableText}
 use Rattle.vab_layout.specs.declared.layout.Layout.{Layout}
 use Rattle.vab_layout.specs.Layout.{layout_of}
-use Rattle.vab_layout.specs.Slots.{other_slot, IsTarget, groups_of_slot}
+use Rattle.vab_layout.specs.Slots.{other_slot, IsOwn, IsTarget, groups_of_slot}
 use Rattle.vab_builder.specs.declared.edit.Edit.{Edit}
 use Rattle.vab_builder.specs.declared.fault.EditFault.{EditFault}
 use Rattle.vab_builder.specs.Asked.{edited_name, KeepsOthers}
@@ -23,6 +23,19 @@ use Rattle.vab_device.specs.Kept.{table_of_slot}
 use Rattle.vab_device.specs.Phases.{plan_of}
 use Rattle.vab_device.specs.Updates.{refusal_of}
 use Rattle.vab_edit.specs.Carried.{carried}
+
+-- The tables of an update that an edit is tried on: the most bytes of a table's text, the slot of
+-- the source, its table and the target's.
+pub record MayBeEdited (max source : ℕ) (s t : Table) : Type 0 where
+  pub slot : source < 2
+  pub most : max ≤ 2 ^ 20
+  pub source_keeps : KeepsRules s
+  pub target_keeps : KeepsRules t
+  pub source_small : table_size_of s < 2 ^ 24
+  pub target_small : table_size_of t < 2 ^ 24
+  pub own : IsOwn source (layout_of s).parts
+  pub target : IsTarget (other_slot source) (layout_of s).parts (layout_of t).parts
+  pub device : s.devices ≡ t.devices
 
 -- The table that an edit gives beside the source's: its layout, its rules, and what it has of the
 -- table before it.

@@ -1,15 +1,14 @@
 //! All that is decided and allocated before the first write.
 
-ghost use Rattle.std.specs.Prelude.{◌≡◌, ◌<◌, ◌≤◌, ◌^◌, ℕ, IfErr, IfOk, IfNone, IfSome, Some, None};
-ghost use Rattle.vab_tables.specs.Rules.{KeepsRules};
-ghost use Rattle.vab_tables.specs.Spelling.{table_size_of};
+ghost use Rattle.std.specs.Prelude.{◌≡◌, ℕ, IfErr, IfOk, IfNone, IfSome, Some, None};
 ghost use Rattle.vab_layout.specs.Layout.{layout_of};
-ghost use Rattle.vab_layout.specs.Slots.{other_slot, IsOwn, IsTarget};
+ghost use Rattle.vab_layout.specs.Slots.{other_slot};
 ghost use Rattle.vab_builder.specs.Edits.{changed_by, edited};
 ghost use Rattle.vab_device.specs.Kept.{IsDevice};
 ghost use Rattle.vab_device.specs.Updates.{refusal_of};
 ghost use Rattle.vab_verdict.specs.Judged.{IsGiven as Passes};
-ghost use Rattle.vab_edit.specs.Prepared.{HasTables, IsGiven, IsPrepared, Refuses, RefusesBy};
+ghost use Rattle.vab_edit.specs.Prepared.{HasTables, IsGiven, IsPrepared, MayBeEdited};
+ghost use Rattle.vab_edit.specs.Prepared.{Refuses, RefusesBy};
 
 use std::alloc::Global;
 use vab_builder::{Edit, EditFault, apply};
@@ -73,16 +72,7 @@ fn applied(
     edit: &Edit,
     max: u32,
 ) -> Result<Prepared, Refusal>
-    requires slot { slot < 2 }
-    requires most { max ≤ 2 ^ 20 }
-    requires source_keeps { KeepsRules source.now }
-    requires target_keeps { KeepsRules target.now }
-    requires source_small { table_size_of source.now < 2 ^ 24 }
-    requires target_small { table_size_of target.now < 2 ^ 24 }
-    requires own { IsOwn slot (layout_of source.now).parts }
-    requires target { IsTarget (other_slot slot) (layout_of source.now).parts
-        (layout_of target.now).parts }
-    requires device { source.now.devices ≡ target.now.devices }
+    requires tables { MayBeEdited max slot source.now target.now }
     requires passes { Passes
         (changed_by (other_slot slot) (layout_of source.now) (layout_of target.now) edit.now) }
     ensures given { IfOk result (λ p. IsGiven max slot edit.now source.now target.now p.table
@@ -111,16 +101,7 @@ fn given(
     edit: &Edit,
     max: u32,
 ) -> Result<Prepared, Refusal>
-    requires slot { slot < 2 }
-    requires most { max ≤ 2 ^ 20 }
-    requires source_keeps { KeepsRules source.now }
-    requires target_keeps { KeepsRules target.now }
-    requires source_small { table_size_of source.now < 2 ^ 24 }
-    requires target_small { table_size_of target.now < 2 ^ 24 }
-    requires own { IsOwn slot (layout_of source.now).parts }
-    requires target { IsTarget (other_slot slot) (layout_of source.now).parts
-        (layout_of target.now).parts }
-    requires device { source.now.devices ≡ target.now.devices }
+    requires tables { MayBeEdited max slot source.now target.now }
     ensures given { IfOk result (λ p. IsGiven max slot edit.now source.now target.now p.table
         p.text.items p.plan) }
     ensures refused { IfErr result (RefusesBy

@@ -288,13 +288,13 @@ module _ (slot : ℕ) (source target : List PartOfLayout) (name : List ℕ) (sto
 
     -- ---- the images of the source
 
-    pub images_miss : (k : ℕ) (t u : Table) (others : List Table)
+    pub images_miss : (k : ℕ) (ss : List Scanned) (t u : Table) (others : List Table)
         → (layout_of t).parts ≡ source
         → (layout_of t).device.first_logical_sector ≡ at
-        → IsOfImages (parts_for k (slot == k)
+        → IsOfImages (parts_for k (slot == k) false ss
         (table_for k (slot ∷ other_slot slot ∷ []) (t ∷ u ∷ others))) s
         → ⊥
-    images_miss k t u others is_source begins is = elim (cases_Bool (slot == k)) [
+    images_miss k ss t u others is_source begins is = elim (cases_Bool (slot == k)) [
       | inl here ↦
           let found : IsOfParts (parts_of k (layout_of t)) s = rw here at is in
           let same : slot ≡ k = eqb-true slot k here in

@@ -1,6 +1,6 @@
 -- What the table of effects says of a flash, by what is kept of the device.
-use Rattle.std.proofs.Common.{◌≡◌, ◌∙◌, ℕ, zero, suc, ◌<◌, ◌≤◌, true, false, List, [], ◌∷◌, refl}
-use Rattle.std.proofs.Common.{sym}
+use Rattle.std.proofs.Common.{◌≡◌, ◌∙◌, ℕ, zero, suc, ◌+◌, ◌<◌, ◌≤◌, true, false, List, [], ◌∷◌}
+use Rattle.std.proofs.Common.{refl, sym}
 use Rattle.std.proofs.Common.{subst, ap, length, get_or, inl, inr, arith}
 use Rattle.std.specs.Prelude.{Bool, ◌==◌, Option, Some, None, map, All, nat_lt, if◌then◌else◌}
 use Rattle.std.specs.Str.{bytes_eq}
@@ -18,23 +18,42 @@ use Rattle.vab_model.specs.Commands.{Flash}
 use Rattle.vab_model.specs.Effects.{refuses}
 use Rattle.vab_device.specs.declared.device.Part.{Part}
 use Rattle.vab_device.specs.declared.device.Device.{Device}
-use Rattle.vab_device.specs.Mounted.{state_on, mounted_on, entry_on, phase_on}
+use Rattle.vab_device.specs.Mounted.{Mounted, state_on, mounted_on, entry_on, entries_on}
 use Rattle.vab_device.specs.Updates.{effect_on, flash_effect, entry_effect, entry_named}
 use Rattle.vab_device.specs.Updates.{if_room, differences, source_bytes, bytes_of}
 use Rattle.vab_bootctl.specs.declared.slots.Control.{Control}
 use Rattle.vab_model.specs.declared.state.State.{State}
 use Rattle.vab_model.specs.declared.state.Phase.TheVariants.{Idle}
 use Rattle.vab_model.specs.State.{image_named}
-use Rattle.vab_device.specs.Mounted.{bytes_at, image_on, images_on}
+use Rattle.vab_device.specs.Mounted.{bytes_at, image_on, images_on, sectors_read}
+use Rattle.vab_device.specs.Mounted.{count_at, unplanned, phase_by}
+use Rattle.vab_device.specs.Kept.{part_on, parts_at}
+use Rattle.vab_marks.specs.declared.mark.MarkPhase.{MarkPhase}
+use Rattle.vab_marks.specs.declared.mark.MarkPhase.TheVariants as marks
+use Rattle.vab_layout.specs.declared.layout.Part.{Part as PartOfLayout}
 use Rattle.vab_flash.specs.Chosen.{place_of, HasPlace, IsChosen, plan_or, planned_at, no_planned}
 use Rattle.vab_flash.specs.Chosen.{blocks_or, part_named, part_among, part_at}
+
+-- where nothing is planned no update is installed
+unplanned_refuses : (m : Mounted) (staged : Option (List ℕ)) (name : List ℕ) (phase : MarkPhase)
+    (slot left : ℕ)
+    → flash_effect m staged name (unplanned phase slot left) ≡ refuses refusals.NotInstalling
+unplanned_refuses m staged name marks.Idle slot left = refl
+unplanned_refuses m staged name marks.Installing slot left = refl
+unplanned_refuses m staged name marks.Staged slot left = refl
+unplanned_refuses m staged name marks.Merging slot left = refl
+unplanned_refuses m staged name marks.Completed slot left = refl
 
 pub flash_idle : (d : Device) (image : Image) (staged : Option (List ℕ)) (name : List ℕ)
     → d.plan ≡ None
     → effect_on (mounted_on d image) staged (Flash name) ≡ refuses refusals.NotInstalling
 unfolding state_on
 flash_idle d image staged name none =
-    (λ k. flash_effect (mounted_on d image) staged name (phase_on d.mark.slot image (none k)))
+    (λ k.
+    flash_effect (mounted_on d image) staged name
+    (phase_by d.mark (count_at d.a + count_at d.b) (entries_on image (none k))))
+    ∙ unplanned_refuses (mounted_on d image) staged name d.mark.phase d.mark.slot
+    (count_at d.a + count_at d.b)
 
 -- of a plan
 pub flash_planned : (d : Device) (image : Image) (staged : Option (List ℕ)) (name : List ℕ)
@@ -45,7 +64,9 @@ pub flash_planned : (d : Device) (image : Image) (staged : Option (List ℕ)) (n
     (Installing d.mark.slot (map (entry_on image) plan))
 unfolding state_on
 flash_planned d image staged name plan is =
-    (λ k. flash_effect (mounted_on d image) staged name (phase_on d.mark.slot image (is k)))
+    (λ k.
+    flash_effect (mounted_on d image) staged name
+    (phase_by d.mark (count_at d.a + count_at d.b) (entries_on image (is k))))
 
 pub flash_named : (d : Device) (image : Image) (staged : Option (List ℕ)) (name : List ℕ)
     (plan : List Part)
@@ -173,14 +194,28 @@ flash_chosen d image staged name place bytes chosen =
 
 -- ---- the source's image
 
+-- a read of each of these partitions takes its own blocks
+abbrev pub AreDirect : List Part → Type 0
+AreDirect [] = Unit {0}
+AreDirect (p ∷ ps) = (sectors_read p ≡ p.map) × AreDirect ps
+
+abbrev pub AreAllDirect : Option (List Part) → Type 0
+AreAllDirect None = Unit {0}
+AreAllDirect (Some ps) = AreDirect ps
+
+pub parts_direct : (at : ℕ) (ps : List PartOfLayout) → AreDirect (map (part_on at) ps)
+parts_direct at [] = tt
+parts_direct at (p ∷ ps) = (refl, parts_direct at ps)
+
 named_bytes : (image : Image) (base : List ℕ) (ps : List Part)
+    → AreDirect ps
     → bytes_of (image_named base (map (image_on image) ps))
     ≡ bytes_at image (blocks_or (part_named base ps))
 unfolding bytes_at
-named_bytes image base [] = refl
-named_bytes image base (p ∷ ps) = elim (cases_Bool (bytes_eq p.name base)) [
-  | inl here ↦ rw here refl
-  | inr other ↦ rw other (named_bytes image base ps)
+named_bytes image base [] direct = refl
+named_bytes image base (p ∷ ps) direct = elim (cases_Bool (bytes_eq p.name base)) [
+  | inl here ↦ rw here (ap (bytes_at image) direct.0)
+  | inr other ↦ rw other (named_bytes image base ps direct.1)
 ]
 
 no_control : Control
@@ -194,18 +229,20 @@ no_state : State
 no_state = record { cap = 0; groups = []; control = no_control; a = None; b = None; phase = Idle }
 
 among_bytes : (image : Image) (base : List ℕ) (o : Option (List Part))
+    → AreAllDirect o
     → source_bytes (record no_state { a = images_on image o }) 0 base ≡ bytes_at image
     (blocks_or (part_among base o))
 unfolding bytes_at
-among_bytes image base None = refl
-among_bytes image base (Some ps) = named_bytes image base ps
+among_bytes image base None direct = refl
+among_bytes image base (Some ps) direct = named_bytes image base ps direct
 
 -- its bytes are those of its partition's blocks
 pub source_is : (d : Device) (image : Image) (base : List ℕ)
+    → AreAllDirect (parts_at d d.mark.slot)
     → source_bytes (state_on d image) d.mark.slot base
     ≡ bytes_at image (blocks_or (part_at d d.mark.slot base))
 unfolding state_on
-source_is d image base = elim (cases_Bool (d.mark.slot == 0)) [
-  | inl a ↦ rw a (among_bytes image base d.a)
-  | inr b ↦ rw b (among_bytes image base d.b)
+source_is d image base direct = elim (cases_Bool (d.mark.slot == 0)) [
+  | inl a ↦ rw a (among_bytes image base d.a (rw a at direct))
+  | inr b ↦ rw b (among_bytes image base d.b (rw b at direct))
 ]

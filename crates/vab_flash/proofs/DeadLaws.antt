@@ -24,7 +24,7 @@ use Rattle.vab_layout.specs.Slots.{other_slot, own_parts, IsTarget}
 use Rattle.vab_device.specs.declared.device.Device.{Device}
 use Rattle.vab_device.specs.Kept.{copies_end, sectors_of, IsDevice, IsTableOf}
 use Rattle.vab_device.specs.Kept.{IsKeptTable, IsUpdate}
-use Rattle.vab_device.specs.Mounted.{images_on, phase_on}
+use Rattle.vab_device.specs.Mounted.{images_on, entries_on}
 use Rattle.vab_device.specs.Reading.{Read, kept, AgreeCopies, Dead, IsOfTables}
 use Rattle.vab_device.specs.Reading.{IsOfBlocks, IsOfImages, IsOfPlan, mark_in, control_in}
 use Rattle.vab_device.specs.Reading.{geometry_at, tables_in, stores_of, table_for}
@@ -259,19 +259,19 @@ module _
 
     images_a : (s : ℕ) → IsOfImages (kept read).a s → new s ≡ old s
     images_a s is =
-        high s (images_behind size 4096 0 _ read old s i.reads (omega arith) is)
+        high s (images_behind size 4096 0 _ _ read old s i.reads (omega arith) is)
         (λ here.
         images_miss i.slot (layout_of i.source).parts (layout_of i.target).parts name store
-        tables.below tables.target own found first s here 0 i.source i.target i.others refl
-        tables.begins is)
+        tables.below tables.target own found first s here 0 i.scanned i.source i.target i.others
+        refl tables.begins is)
 
     images_b : (s : ℕ) → IsOfImages (kept read).b s → new s ≡ old s
     images_b s is =
-        high s (images_behind size 4096 1 _ read old s i.reads (omega arith) is)
+        high s (images_behind size 4096 1 _ _ read old s i.reads (omega arith) is)
         (λ here.
         images_miss i.slot (layout_of i.source).parts (layout_of i.target).parts name store
-        tables.below tables.target own found first s here 1 i.source i.target i.others refl
-        tables.begins is)
+        tables.below tables.target own found first s here 1 i.scanned i.source i.target i.others
+        refl tables.begins is)
 
     pub images_a_stay : images_on new (kept read).a ≡ images_on old (kept read).a
     images_a_stay = images_same old new (kept read).a images_a
@@ -287,8 +287,8 @@ module _
         tables.below tables.target own found first s here (layout_of i.target) i.scanned
         (own_parts (other_slot i.slot) (layout_of i.target).parts) refl refl (λ p c. c) unread is)
 
-    pub plan_stays : phase_on i.slot new (kept read).plan ≡ phase_on i.slot old (kept read).plan
-    plan_stays = plan_kept i.slot (kept read).plan old new plan_sectors
+    pub plan_stays : entries_on new (kept read).plan ≡ entries_on old (kept read).plan
+    plan_stays = plan_kept (kept read).plan old new plan_sectors
 
   -- Writes into the store are dead.
   pub store_dead : Dead size read old (InSectors InStore)

@@ -3,7 +3,7 @@ use Rattle.std.proofs.Common.{◌≡◌, ◌≢◌, ◌⊎◌, ◌∙◌, inl, i
 use Rattle.std.proofs.Common.{List, []}
 use Rattle.std.proofs.Common.{◌∷◌, ◌++◌, length, get_or, set, Result, Ok, refl, sym, ap, subst}
 use Rattle.std.proofs.Common.{arith, eqb, eq-eqb}
-use Rattle.std.specs.Prelude.{Some, None, map, if◌then◌else◌, Contains}
+use Rattle.std.specs.Prelude.{Some, None, map, if◌then◌else◌, ◌==◌, Contains}
 use Rattle.std.specs.Prelude.{AllPairs}
 use Rattle.std.specs.Str.{bytes_eq}
 use Rattle.std.proofs.lemmas.List.{map-append}
@@ -34,10 +34,10 @@ use Rattle.vab_device.specs.declared.device.Device.{Device}
 use Rattle.vab_device.specs.Checks.{◌>>=◌}
 use Rattle.vab_device.specs.Kept.{sectors_of, IsDevice}
 use Rattle.vab_device.specs.Phases.{planned_on, planned_image, plan_of}
-use Rattle.vab_device.specs.Mounted.{bytes_at, written_sectors, entry_on, phase_on, images_on}
+use Rattle.vab_device.specs.Mounted.{bytes_at, written_sectors, entry_on, entries_on, images_on}
 use Rattle.vab_device.specs.Mounted.{state_on, mounted_on}
 use Rattle.vab_device.specs.Updates.{filled, with_image}
-use Rattle.vab_device.specs.Reading.{IsOfWritten, IsOfPlanned}
+use Rattle.vab_device.specs.Reading.{Read, read_table, kept, IsOfWritten, IsOfPlanned}
 use Rattle.vab_device.proofs.StoreLaws.{plan_kept}
 use Rattle.vab_device.specs.Reading.{statuses_read, statuses_at, IsOfBlocks}
 use Rattle.vab_device.specs.Stores.{Wanted, Scanned, first_named, wanted_by, wanted_of, scan_read}
@@ -45,7 +45,7 @@ use Rattle.vab_device.specs.Stores.{scan_at, scans_in, exceptions_of}
 use Rattle.vab_flash.proofs.JoinLaws.{IsJoined, status_joins, ScansBoth, scans_apart}
 use Rattle.vab_flash.proofs.JoinLaws.{scans_together}
 use Rattle.vab_flash.proofs.JoinLaws.{others_kept, new_found}
-use Rattle.vab_flash.proofs.InstallingLaws.{Installs}
+use Rattle.vab_flash.proofs.InstallingLaws.{Installs, installing_read, parts_same}
 use Rattle.vab_flash.proofs.DeadLaws.{mark_stays, control_stays, control_sector, geometry_stays}
 use Rattle.vab_flash.proofs.DeadLaws.{tables_stay, copies_agree, stores_stay}
 use Rattle.vab_flash.proofs.DeadLaws.{plan_sectors, images_a_stay, images_b_stay}
@@ -119,6 +119,10 @@ module _
     (scan : scan_of (sectors_of (layout_of i.target).device.first_logical_sector store.blocks)
     (length (sectors_of (layout_of i.target).device.first_logical_sector part.blocks)) new
     ≡ Ok es) where
+  abbrev read_was : Read
+  read_was =
+      installing_read i.slot i.statuses i.seen i.geometry i.source i.target i.others i.scanned
+
   abbrev layout : Layout
   layout = layout_of i.target
 
@@ -209,6 +213,21 @@ module _
     plan = Some (plan_of (other_slot i.slot) layout scanned_then);
   }
 
+  abbrev read_with : List Scanned → Read
+  read_with ss =
+      installing_read i.slot (with_status i.statuses free status) i.seen i.geometry i.source
+      i.target i.others ss
+
+  abbrev form : Device
+  form = record (kept (read_with scanned_then)) { control = d.control }
+
+  -- the source's partitions stay
+  sources_stay : record form { a = (kept read_was).a; b = (kept read_was).b } ≡ form
+  sources_stay =
+      let a = parts_same 0 (i.slot == 0) (read_table 0 read_was) i.scanned scanned_then in
+      let b = parts_same 1 (i.slot == 1) (read_table 1 read_was) i.scanned scanned_then in
+      (λ k. record form { a = a k; b = b k })
+
   pub installs_then : Installs device_then size new
   unfolding statuses_at
   installs_then = record {
@@ -239,7 +258,8 @@ module _
     is =
         ap (λ (k : Device). record k {
           plan = Some (plan_of (other_slot i.slot) layout scanned_then);
-        }) i.is;
+        }) i.is
+        ∙ sources_stay;
     control =
         ap control_of (control_sector d size old i device name store own found unread new same)
         ∙ i.control;
@@ -305,16 +325,15 @@ module _
       → entry_on new (planned_on layout i.scanned p) ≡ entry_on old (planned_on layout i.scanned p)
   entry_stays p c =
       let x : Part = planned_on layout i.scanned p in
-      let whole : phase_on i.slot new (Some (x ∷ [])) ≡ phase_on i.slot old (Some (x ∷ [])) =
-      plan_kept i.slot (Some (x ∷ [])) old new
+      let whole : entries_on new (Some (x ∷ [])) ≡ entries_on old (Some (x ∷ [])) =
+      plan_kept (Some (x ∷ [])) old new
       (λ s is.
       ⊎_elim
       (λ here.
       plan_sectors d size old i device name store own found unread new same s
       (written_there (own_parts (other_slot i.slot) layout.parts) p s c here))
       (λ none. absurd none) is) in
-      let both : Installing i.slot (entry_on new x ∷ []) ≡ Installing i.slot (entry_on old x ∷ []) =
-      whole in
+      let both : Some (entry_on new x ∷ []) ≡ Some (entry_on old x ∷ []) = whole in
       cc
 
   module _

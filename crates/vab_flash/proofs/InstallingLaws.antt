@@ -1,6 +1,6 @@
 -- A device with an update that is installed, by what is read of its disk.
 use Rattle.std.proofs.Common.{◌≡◌, ◌∙◌, ℕ, ◌-◌, List, [], ◌∷◌, Ok, refl, sym, ap, subst}
-use Rattle.std.specs.Prelude.{Option, Some}
+use Rattle.std.specs.Prelude.{Bool, true, false, Option, Some, None}
 use Rattle.vab_disk.specs.Disk.{Image}
 use Rattle.vab_bootctl.specs.declared.slots.Control.{Control}
 use Rattle.vab_bootctl.specs.Control.{control_of}
@@ -12,7 +12,7 @@ use Rattle.vab_tables.specs.declared.table.Table.{Table}
 use Rattle.vab_device.specs.declared.device.Part.{Part}
 use Rattle.vab_device.specs.declared.device.Device.{Device}
 use Rattle.vab_device.specs.Phases.{phase_at}
-use Rattle.vab_device.specs.Reading.{Read, kept, Reads, AgreeCopies, Represents}
+use Rattle.vab_device.specs.Reading.{Read, kept, parts_for, Reads, AgreeCopies, Represents}
 use Rattle.vab_device.specs.Stores.{Scanned}
 
 -- what is read of a disk with an update from this slot, with the tables of source and target
@@ -63,6 +63,13 @@ installs_represents d size image i = record {
   control = i.control;
   copies = i.copies;
 }
+
+-- partitions that aren't read through stores are the same, whatever those hold
+pub parts_same : (k : ℕ) (has : Bool) (t : Option Table) (ss us : List Scanned)
+    → parts_for k has false ss t ≡ parts_for k has false us t
+parts_same k false t ss us = refl
+parts_same k true None ss us = refl
+parts_same k true (Some t) ss us = refl
 
 -- the tables of a phase with a plan, and that phase
 record Planning (m : MarkPhase) (ts : List Table) : Type 0 where

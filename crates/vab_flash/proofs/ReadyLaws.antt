@@ -27,13 +27,14 @@ use Rattle.vab_model.specs.Commands.{Flash}
 use Rattle.vab_model.specs.Effects.{refuses}
 use Rattle.vab_model.specs.declared.command.Refusal.TheVariants.{StoreFull, NoMemory}
 use Rattle.vab_device.specs.declared.fault.StartFault.TheVariants.{BadMark}
-use Rattle.vab_device.specs.declared.device.PartImage.TheVariants.{Written}
+use Rattle.vab_device.specs.declared.device.PartImage.{PartImage}
+use Rattle.vab_device.specs.declared.device.PartImage.TheVariants.{Kept, Declared, Written}
 use Rattle.vab_device.specs.Phases.{plan_of}
 use Rattle.vab_device.specs.Mounted.{entry_on}
 use Rattle.vab_device.specs.Updates.{effect_on, if_room, flashed, differences}
 use Rattle.vab_device.proofs.StoreLaws.{scan_kept}
 use Rattle.vab_flash.specs.Chosen.{differing_at, with_written}
-use Rattle.vab_flash.proofs.ChosenLaws.{flash_chosen, source_is}
+use Rattle.vab_flash.proofs.ChosenLaws.{flash_chosen, AreAllDirect, parts_direct, source_is}
 use Rattle.vab_flash.proofs.DifferencesLaws.{differences_are}
 use Rattle.vab_flash.proofs.InstallingLaws.{installs_represents}
 use Rattle.vab_flash.proofs.ApartLaws.{block_behind}
@@ -52,7 +53,7 @@ use Rattle.vab_model.specs.Effects.{does, unless_refused}
 use Rattle.vab_flash.specs.Chosen.{store_at, needed_at, full_of}
 use Rattle.vab_flash.proofs.FlashLaws.{le_true, full_is}
 use Rattle.vab_device.specs.Mounted.{Mounted, bytes_at, written_sectors, blocks_there, state_on}
-use Rattle.vab_device.specs.Stores.{sectors_seen}
+use Rattle.vab_device.specs.Stores.{Scanned, sectors_seen}
 use Rattle.vab_device.specs.Updates.{filled, with_image}
 use Rattle.vab_device.proofs.BlockLaws.{bytes_same}
 use Rattle.vab_device.proofs.Behind.{seen_or}
@@ -64,9 +65,8 @@ use Rattle.std.proofs.lemmas.Bool.{leb-true}
 use Rattle.vab_device.specs.declared.device.Part.{Part}
 use Rattle.vab_device.specs.declared.device.Device.{Device}
 use Rattle.vab_device.specs.declared.fault.StartFault.{StartFault}
-use Rattle.vab_device.specs.Kept.{sectors_of, parts_of, part_on, IsDevice, IsPart, IsStored}
-use Rattle.vab_device.specs.Kept.{IsStore}
-use Rattle.vab_device.specs.Kept.{ArePresent, IsPart}
+use Rattle.vab_device.specs.Kept.{sectors_of, parts_of, parts_at, IsDevice, IsPart}
+use Rattle.vab_device.specs.Kept.{IsStored, IsStore, ArePresent}
 use Rattle.vab_device.specs.Mounted.{mounted_on}
 use Rattle.vab_device.specs.Reading.{device, Represents, IsOfBlocks, parts_for, table_for}
 use Rattle.vab_device.specs.Reading.{statuses_read, statuses_at}
@@ -89,7 +89,7 @@ pub planned_kept : (d : Device) (size place : ℕ)
 planned_kept d size place is below = of_plan d.plan is.plan below
   where
     of_plan : (o : Option (List Part))
-        → Rattle.vab_device.specs.Kept.ArePresent size o
+        → ArePresent size o
         → place < length (plan_or o)
         → IsPart size (get_or (plan_or o) place no_planned)
     of_plan None all below = absurd (omega (arith, below))
@@ -102,12 +102,12 @@ pub store_kept : (size : ℕ) (p : Part) (store : List ℕ)
 store_kept size p store is has = by_image p.image (subst (λ o. IsStored size p.map o p.image) has
     is.store)
   where
-    by_image : (image : Rattle.vab_device.specs.declared.device.PartImage.PartImage)
+    by_image : (image : PartImage)
         → IsStored size p.map (Some store) image
         → IsStore size store
-    by_image Rattle.vab_device.specs.declared.device.PartImage.TheVariants.Kept s = s
-    by_image Rattle.vab_device.specs.declared.device.PartImage.TheVariants.Declared s = s
-    by_image (Rattle.vab_device.specs.declared.device.PartImage.TheVariants.Written es) s = s.0
+    by_image Kept s = s
+    by_image Declared s = s
+    by_image (Written es) s = s.0
 
 -- ---- a sector of the first blocks
 
@@ -127,16 +127,32 @@ first_in blocks n s fits is = at_block blocks is.block s (omega (arith, is.withi
 
 -- ---- where the contents are told
 
-own_table : (slot : ℕ) (base : List ℕ) (s t : Table) (others : List Table)
+own_table : (slot : ℕ) (base : List ℕ) (s t : Table) (others : List Table) (ss : List Scanned)
     → slot < 2
     → part_among base
     (if slot == 0
-    then parts_for 0 (slot == 0) (table_for 0 (slot ∷ other_slot slot ∷ []) (s ∷ t ∷ others))
-    else parts_for 1 (slot == 1) (table_for 1 (slot ∷ other_slot slot ∷ []) (s ∷ t ∷ others)))
+    then parts_for 0 (slot == 0) false ss
+    (table_for 0 (slot ∷ other_slot slot ∷ []) (s ∷ t ∷ others))
+    else parts_for 1 (slot == 1) false ss
+    (table_for 1 (slot ∷ other_slot slot ∷ []) (s ∷ t ∷ others)))
     ≡ part_named base (parts_of slot (layout_of s))
-own_table zero base s t others below = refl
-own_table (suc zero) base s t others below = refl
-own_table (suc (suc n)) base s t others below = absurd (omega (arith, below))
+own_table zero base s t others ss below = refl
+own_table (suc zero) base s t others ss below = refl
+own_table (suc (suc n)) base s t others ss below = absurd (omega (arith, below))
+
+own_direct : (slot : ℕ) (s t : Table) (others : List Table) (ss : List Scanned)
+    → slot < 2
+    → AreAllDirect
+    (if slot == 0
+    then parts_for 0 (slot == 0) false ss
+    (table_for 0 (slot ∷ other_slot slot ∷ []) (s ∷ t ∷ others))
+    else parts_for 1 (slot == 1) false ss
+    (table_for 1 (slot ∷ other_slot slot ∷ []) (s ∷ t ∷ others)))
+own_direct zero s t others ss below =
+    parts_direct (layout_of s).device.first_logical_sector (own_parts 0 (layout_of s).parts)
+own_direct (suc zero) s t others ss below =
+    parts_direct (layout_of s).device.first_logical_sector (own_parts 1 (layout_of s).parts)
+own_direct (suc (suc n)) s t others ss below = absurd (omega (arith, below))
 
 module _ (d : Device) (size : ℕ) (old : Image) (device_is : IsDevice d size)
     (is : Represents d size old) (name : List ℕ) (staged : Option (List ℕ)) (place : ℕ)
@@ -175,13 +191,19 @@ module _ (d : Device) (size : ℕ) (old : Image) (device_is : IsDevice d size)
       let form : part_at d d.mark.slot (base_of name)
       ≡ part_named (base_of name) (parts_of i.slot (layout_of i.source)) =
       ap (λ (k : Device). part_at k k.mark.slot (base_of name)) i.is
-      ∙ own_table i.slot (base_of name) i.source i.target i.others t.below in
+      ∙ own_table i.slot (base_of name) i.source i.target i.others i.scanned t.below in
       ap (λ (n : List ℕ). blocks_or (part_at d d.mark.slot n)) base
       ∙ ap blocks_or form
       ∙ source_blocks (layout_of i.source).device.first_logical_sector i.slot name
       (layout_of i.source).parts
       ∙ ap (λ (k : ℕ). sectors_of k (blocks_named (in_slot i.slot name) (layout_of i.source).parts))
       t.begins
+
+  -- while an update is installed the source isn't read through stores
+  direct : AreAllDirect (parts_at d d.mark.slot)
+  direct =
+      subst (λ (k : Device). AreAllDirect (parts_at k k.mark.slot)) (sym i.is)
+      (own_direct i.slot i.source i.target i.others i.scanned t.below)
 
   pub disjoint : AreDisjoint (base_of_place d place) chosen.fits.store
   unfolding source
@@ -228,7 +250,7 @@ module _ (d : Device) (size : ℕ) (old : Image) (device_is : IsDevice d size)
         (entry_on old (planned_at d place)) (length chosen.fits.store) bytes)
         (ap (λ (source : List ℕ).
         differences source bytes (length (planned_at d place).map))
-        (source_is d old (planned_at d place).name)
+        (source_is d old (planned_at d place).name direct)
         ∙ differences_are old size (base_of_place d place) whole on_disk bytes
         (length (planned_at d place).map))
 

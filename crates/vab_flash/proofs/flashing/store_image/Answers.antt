@@ -163,6 +163,6 @@ returns-in-Ok-put_status g c =
     (written_kept d (g.D.Disk.size disk) name (Some c.args.bytes.now) c.args.place c.args.bytes.now
     es
     c.requires.kept c.requires.chosen ok.fits)
-    (record { geometry = refl; slot = refl; a = refl; b = refl })
+    (record { geometry = refl; slot = refl; parts = refl })
     (λ t. c.in-Ok-put_status.ensures.written t) (λ t. c.in-Ok-put_status.ensures.settled t)
     (c.in-Ok-put_status.ensures.faults.steady ∙ ok.counts))
