@@ -1,7 +1,7 @@
 -- The images of a plan: those of the source, and what was written.
-use Rattle.std.proofs.Common.{◌≡◌, ◌∙◌, inl, inr, ℕ, zero, suc, ◌<◌, ◌+◌, true, false, List, []}
-use Rattle.std.proofs.Common.{◌∷◌, refl, sym, ap, subst, arith}
-use Rattle.std.specs.Prelude.{Bool, Option, Some, None, map, All, ◌&&◌}
+use Rattle.std.proofs.Common.{◌≡◌, ◌∙◌, inl, inr, ⊎_elim, ℕ, ◌<◌, ◌+◌, true, false, List, []}
+use Rattle.std.proofs.Common.{◌∷◌, refl, sym, ap, arith}
+use Rattle.std.specs.Prelude.{Bool, Option, Some, None, map, All}
 use Rattle.std.specs.Str.{bytes_eq}
 use Rattle.std.proofs.lemmas.Bool.{cases_Bool, and_parts}
 use Rattle.std.proofs.lemmas.List.Elements.{All-head, All-tail}
@@ -71,22 +71,19 @@ module _
       → is_updated p ≡ false
       → source_bytes s slot (base_of p.name)
       ≡ bytes_at image (sectors_of target.device.first_logical_sector p.blocks)
-  kept_bytes p rule same = by_rule rule.kept
-    where
-      back : other_slot (other_slot slot) ≡ slot
-      back = omega (arith, below)
-
-      by_rule : _ → source_bytes s slot (base_of p.name)
-          ≡ bytes_at image (sectors_of target.device.first_logical_sector p.blocks)
-      by_rule (inl updated) = absurd (let no : true ≡ false = sym updated ∙ same in cc)
-      by_rule (inr kept) =
-          named p.name
-          ∙ ap (λ (n : ℕ). bytes_at image (sectors_of n (blocks_named (in_slot slot p.name) source.parts)))
-          first
-          ∙ ap (λ (n : ℕ). bytes_at image (sectors_of target.device.first_logical_sector
-          (blocks_named (in_slot n p.name) source.parts))) (sym back)
-          ∙ ap (λ (bs : List ℕ). bytes_at image (sectors_of target.device.first_logical_sector bs))
-          (sym kept.1)
+  kept_bytes p rule same =
+      let back : other_slot (other_slot slot) ≡ slot = omega (arith, below) in
+      let at = target.device.first_logical_sector in
+      ⊎_elim
+      (λ updated. absurd (let no : true ≡ false = sym updated ∙ same in cc))
+      (λ kept.
+      named p.name
+      ∙ ap (λ (n : ℕ). bytes_at image (sectors_of n (blocks_named (in_slot slot p.name) source.parts)))
+      first
+      ∙ ap (λ (n : ℕ). bytes_at image (sectors_of at (blocks_named (in_slot n p.name) source.parts)))
+      (sym back)
+      ∙ ap (λ (bs : List ℕ). bytes_at image (sectors_of at bs)) (sym kept.1))
+      rule.kept
 
   abbrev Bytes : PartOfLayout → PartImage → Type 0
   Bytes p x =
@@ -132,7 +129,7 @@ module _
 
 pub count_plain : (at : ℕ) (ps : List PartOfLayout) → count_in (map (part_on at) ps) ≡ 0
 count_plain at [] = refl
-count_plain at (p ∷ ps) = count_plain at ps
+count_plain at (p ∷ ps) = omega (arith, count_plain at ps)
 
 count_one : (image : Image) (p : Part) (x : PartImage)
     → written_count (mounted.planned_on image p x) ≡ count_of x

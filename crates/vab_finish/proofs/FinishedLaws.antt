@@ -1,16 +1,13 @@
 -- With the mark that an update is ready the disk is the device whose installation has ended.
 use Rattle.std.proofs.Common.{◌≡◌, ◌≢◌, ◌∙◌, ◌⊎◌, inl, inr, ℕ, zero, suc, ◌+◌, ◌≤◌, ◌<◌, true, List}
-use Rattle.std.proofs.Common.{[], ◌∷◌, Ok, refl, sym, ap, subst, arith}
-use Rattle.std.specs.Prelude.{Option, Some, None, ◌==◌, map}
+use Rattle.std.proofs.Common.{[], ◌∷◌, Ok, refl, sym, ap, arith}
+use Rattle.std.specs.Prelude.{Option, None, ◌==◌, map}
 use Rattle.vab_disk.specs.Disk.{Image}
 use Rattle.vab_disk.specs.Calls.{SameBut}
 use Rattle.vab_disk.specs.Written.{set_here, set_there}
 use Rattle.vab_bootctl.specs.declared.slots.Control.{Control}
 use Rattle.vab_bootctl.specs.Control.{control_of}
-use Rattle.vab_bootctl.specs.Boot.{info_at}
-use Rattle.vab_marks.specs.declared.mark.MarkPhase.{MarkPhase}
 use Rattle.vab_marks.specs.declared.mark.MarkPhase.TheVariants as marks
-use Rattle.vab_marks.specs.declared.mark.UpdateMark.{UpdateMark}
 use Rattle.vab_marks.specs.declared.status.PartStatus.{PartStatus}
 use Rattle.vab_marks.specs.Mark.{mark_of, mark_spelling}
 use Rattle.vab_geometry.specs.declared.geometry.Geometry.{Geometry}
@@ -18,21 +15,18 @@ use Rattle.vab_tables.specs.declared.table.Table.{Table}
 use Rattle.vab_layout.specs.Layout.{layout_of}
 use Rattle.vab_layout.specs.Slots.{other_slot, own_parts}
 use Rattle.vab_install.specs.Control.{cleared_of, IsControl}
-use Rattle.vab_model.specs.declared.command.Reply.TheVariants as replies
-use Rattle.vab_model.specs.Commands.{Finish}
-use Rattle.vab_model.specs.Effects.{does}
 use Rattle.vab_device.specs.declared.device.Part.{Part}
 use Rattle.vab_device.specs.declared.device.Device.{Device}
 use Rattle.vab_device.specs.declared.fault.StartFault.TheVariants.{BadState}
 use Rattle.vab_device.specs.Checks.{check, first_fault}
 use Rattle.vab_device.specs.Idle.{control_read_of}
-use Rattle.vab_device.specs.Kept.{IsDevice, AreOfUpdate, parts_of, limits_of, part_on}
-use Rattle.vab_device.specs.Mounted.{Mounted, mounted_on, state_on, images_on, image_on, entry_on}
+use Rattle.vab_device.specs.Kept.{parts_of}
+use Rattle.vab_device.specs.Mounted.{mounted_on, state_on, images_on, image_on, entry_on}
 use Rattle.vab_device.specs.Mounted.{count_in}
-use Rattle.vab_device.specs.Phases.{phase_at, slot_checks, is_good, may_run, target_ready, are_ready}
+use Rattle.vab_device.specs.Phases.{slot_checks, is_good, may_run, are_ready}
 use Rattle.vab_device.specs.Phases.{plan_of}
-use Rattle.vab_device.specs.Reading.{Read, kept, Reads, Represents, AgreeCopies, SameRead, Dead}
-use Rattle.vab_device.specs.Reading.{control_in, geometry_at, tables_in, stores_of, IsOfTables}
+use Rattle.vab_device.specs.Reading.{Read, kept, Reads, AgreeCopies, SameRead}
+use Rattle.vab_device.specs.Reading.{control_in, stores_of, IsOfTables}
 use Rattle.vab_device.specs.Stores.{Scanned}
 use Rattle.vab_device.specs.Updates.{effect_on, finished, final_image}
 use Rattle.vab_device.proofs.Behind.{images_behind, stores_behind, plan_behind}
@@ -47,7 +41,7 @@ use Rattle.vab_begin.proofs.CancelLaws.{update_read, kept_with}
 use Rattle.vab_begin.proofs.StayLaws.{mark_there, copy_stays, copies_from}
 use Rattle.vab_begin.proofs.Steps.{marked}
 use Rattle.vab_finish.specs.Finished.{staged_mark, finished_device}
-use Rattle.vab_finish.proofs.FinalLaws.{source_named, final_all, count_plain, count_planned}
+use Rattle.vab_finish.proofs.FinalLaws.{count_plain, count_planned}
 
 -- the source's boot control lets it be booted, also with nothing said of the target
 runs_of : (slot : ℕ) (c : Control)
@@ -234,12 +228,12 @@ module _
     pub images_a : images_on new (kept after).a ≡ images_on old (kept after).a
     images_a =
         images_same old new (kept after).a
-        (λ s is. from_behind s (images_behind size 4096 0 _ _ after new s reads_new (omega arith) is))
+        (λ s is. from_behind s (images_behind size 4096 0 true (other_slot slot == 0) after new s reads_new (omega arith) is))
 
     pub images_b : images_on new (kept after).b ≡ images_on old (kept after).b
     images_b =
         images_same old new (kept after).b
-        (λ s is. from_behind s (images_behind size 4096 1 _ _ after new s reads_new (omega arith) is))
+        (λ s is. from_behind s (images_behind size 4096 1 true (other_slot slot == 1) after new s reads_new (omega arith) is))
 
 -- ---- what is kept
 
@@ -292,10 +286,10 @@ module _
       ≡ Rattle.vab_device.specs.Updates.plan_count (map (entry_on old) (planned 1))
   left_b = omega (arith, none_left 1, count_planned old (planned 1))
 
-  means_a : Means 0
+  pub means_a : Means 0
   unfolding state_on cleared_of
   means_a own_same final = rw (own_same, final, left_a) refl
 
-  means_b : Means 1
+  pub means_b : Means 1
   unfolding state_on cleared_of
   means_b own_same final = rw (own_same, final, left_b) refl

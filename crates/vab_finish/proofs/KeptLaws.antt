@@ -1,7 +1,7 @@
 -- What is kept of a device as its installation ends.
-use Rattle.std.proofs.Common.{◌≡◌, ◌∙◌, inl, inr, ℕ, zero, suc, ◌<◌, true, false, refl, sym, ap}
-use Rattle.std.proofs.Common.{subst, arith, eq-eqb}
-use Rattle.std.specs.Prelude.{◌==◌, if◌then◌else◌, List, Option, Some, None, is_some}
+use Rattle.std.proofs.Common.{◌≡◌, ◌∙◌, inl, inr, ℕ, zero, suc, ◌<◌, true, refl, ap}
+use Rattle.std.proofs.Common.{arith}
+use Rattle.std.specs.Prelude.{◌==◌, if◌then◌else◌, List, Option, is_some}
 use Rattle.std.proofs.lemmas.Bool.{cases_Bool}
 use Rattle.vab_bootctl.specs.declared.slots.Control.{Control}
 use Rattle.vab_bootctl.specs.Control.{Fits, FitsInfo}
@@ -11,9 +11,8 @@ use Rattle.vab_layout.specs.Slots.{other_slot}
 use Rattle.vab_device.specs.declared.device.Part.{Part}
 use Rattle.vab_device.specs.declared.device.Device.{Device}
 use Rattle.vab_device.specs.Kept.{ArePresent, IsDevice, is_installing, reads_both}
-use Rattle.vab_begin.proofs.KeptLaws.{source_a, source_b, some_of}
+use Rattle.vab_begin.proofs.KeptLaws.{source_a, source_b}
 use Rattle.vab_finish.specs.Finished.{finished_device}
-use Rattle.vab_finish.specs.Ready.{MayFinish}
 
 none_fits : FitsInfo no_info
 none_fits = record { priority = omega arith; tries = omega arith }

@@ -2,3 +2,4 @@ pub mod FinalLaws
 pub mod FinishedLaws
 pub mod KeptLaws
 pub mod ReadyLaws
+pub mod StepLaws

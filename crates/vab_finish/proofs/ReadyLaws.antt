@@ -1,5 +1,5 @@
 -- Whether an installation may end, as the partitions and as the plan of the state say.
-use Rattle.std.proofs.Common.{◌≡◌, ◌∙◌, ℕ, true, List, [], ◌∷◌, refl, sym, ap}
+use Rattle.std.proofs.Common.{◌≡◌, ◌∙◌, ℕ, ◌+◌, true, List, [], ◌∷◌, refl, sym, ap}
 use Rattle.std.specs.Prelude.{Option, Some, None, map, is_some}
 use Rattle.std.proofs.lemmas.Bool.{cases_Bool}
 use Rattle.std.specs.Ordering.{is_lt, nat_cmp}
@@ -10,16 +10,17 @@ use Rattle.vab_marks.specs.declared.mark.MarkPhase.{MarkPhase}
 use Rattle.vab_marks.specs.declared.mark.MarkPhase.TheVariants as marks
 use Rattle.vab_model.specs.declared.command.Refusal.TheVariants as refusals
 use Rattle.vab_model.specs.Commands.{Finish}
-use Rattle.vab_model.specs.Effects.{Effect, refuses}
+use Rattle.vab_model.specs.Effects.{refuses}
 use Rattle.vab_device.specs.declared.device.Part.{Part}
 use Rattle.vab_device.specs.declared.device.PartImage.{PartImage}
 use Rattle.vab_device.specs.declared.device.PartImage.TheVariants.{Kept, Declared, Written}
 use Rattle.vab_device.specs.declared.device.Device.{Device}
 use Rattle.vab_device.specs.Mounted.{Mounted, mounted_on, state_on, planned_on, entry_on, unplanned}
-use Rattle.vab_device.specs.Phases.{is_ready, are_ready}
+use Rattle.vab_device.specs.Mounted.{entries_on, phase_by, count_at}
+use Rattle.vab_device.specs.Phases.{are_ready}
 use Rattle.vab_device.specs.Updates.{effect_on, finish_effect, complete_effect, least_declared}
-use Rattle.vab_device.specs.Updates.{declared_name, lesser, finished}
-use Rattle.vab_finish.specs.Ready.{declared_by, declared_of, least_of, MayFinish}
+use Rattle.vab_device.specs.Updates.{declared_name, lesser}
+use Rattle.vab_finish.specs.Ready.{declared_by, declared_of, least_of}
 
 -- ---- the least name
 
@@ -59,23 +60,21 @@ least_there least [] there = there
 least_there least (p ∷ ps) there =
     least_there (declared_of least p) ps (kept_there least p.name p.image there)
 
+ready_step : (p : Part) (ps : List Part) (x : PartImage)
+    → (least_of None ps ≡ None → are_ready ps ≡ true)
+    → p.image ≡ x
+    → least_of (declared_by None p.name x) ps ≡ None
+    → are_ready (p ∷ ps) ≡ true
+ready_step p ps Kept rest is none = rw is (rest none)
+ready_step p ps Declared rest is none =
+    let found : is_some (least_of (Some p.name) ps) ≡ true = least_there (Some p.name) ps refl in
+    absurd (let no : true ≡ false = sym found ∙ ap is_some none in cc)
+ready_step p ps (Written es) rest is none = rw is (rest none)
+
 -- where none is found, each partition is kept or written
 pub ready_of : (ps : List Part) → least_of None ps ≡ None → are_ready ps ≡ true
 ready_of [] none = refl
-ready_of (p ∷ ps) none = by_image p.image refl
-  where
-    by_image : (x : PartImage) → p.image ≡ x → are_ready (p ∷ ps) ≡ true
-    by_image Kept is =
-        rw is (ready_of ps
-        (sym (ap (λ (x : PartImage). least_of (declared_by None p.name x) ps) is) ∙ none))
-    by_image Declared is =
-        let found : is_some (least_of (Some p.name) ps) ≡ true = least_there (Some p.name) ps refl in
-        let missing : least_of (Some p.name) ps ≡ None =
-        sym (ap (λ (x : PartImage). least_of (declared_by None p.name x) ps) is) ∙ none in
-        absurd (let no : true ≡ false = sym found ∙ ap is_some missing in cc)
-    by_image (Written es) is =
-        rw is (ready_of ps
-        (sym (ap (λ (x : PartImage). least_of (declared_by None p.name x) ps) is) ∙ none))
+ready_of (p ∷ ps) none = ready_step p ps p.image (ready_of ps) refl none
 
 -- ---- the effect
 
@@ -92,7 +91,12 @@ pub finish_nothing : (d : Device) (image : Image) (staged : Option (List ℕ))
     → effect_on (mounted_on d image) staged Finish ≡ refuses refusals.NotInstalling
 unfolding state_on
 finish_nothing d image staged none =
-    rw none (not_installing (mounted_on d image) d.mark.phase d.mark.slot _)
+    let left : ℕ = count_at d.a + count_at d.b in
+    ap
+    (λ (o : Option (List Part)).
+    finish_effect (mounted_on d image) (phase_by d.mark left (entries_on image o)))
+    none
+    ∙ not_installing (mounted_on d image) d.mark.phase d.mark.slot left
 
 finish_planned : (d : Device) (image : Image) (staged : Option (List ℕ)) (plan : List Part)
     → d.plan ≡ Some plan

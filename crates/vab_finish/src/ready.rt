@@ -8,6 +8,7 @@ ghost use Rattle.vab_device.specs.Mounted.{mounted_on};
 ghost use Rattle.vab_device.specs.Updates.{effect_on, lesser};
 ghost use Rattle.vab_finish.specs.Ready.{declared_of, least_of, MayFinish};
 
+use std::cmp::Ordering;
 use vab_bytes::{Listing, Name36};
 use vab_device::{Device, Part, PartImage};
 use vab_model::Refusal;
@@ -18,13 +19,11 @@ fn lesser(least: Option<Name36>, name: Name36) -> Option<Name36>
 {
     match least {
         None => Some(name),
-        Some(least) => {
-            if name.text() < least.text() {
-                Some(name)
-            } else {
-                Some(least)
-            }
-        }
+        Some(least) => match name.text().cmp(least.text()) {
+            Ordering::Less => Some(name),
+            Ordering::Equal => Some(least),
+            Ordering::Greater => Some(least),
+        },
     }
 }
 

@@ -72,7 +72,7 @@ sectors_disjoint at xs ys apart i j in_xs in_ys =
 
 -- ---- the source's partition of a base name
 
-full_or : (slot : ℕ) (name : List ℕ) (p : PartOfLayout)
+pub full_or : (slot : ℕ) (name : List ℕ) (p : PartOfLayout)
     → is_of_slot slot p.name ≡ true
     → bytes_eq (base_of p.name) (base_of name) ≡ bytes_eq p.name (in_slot slot name)
 unfolding in_slot
