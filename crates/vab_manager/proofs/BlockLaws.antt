@@ -6,7 +6,7 @@ use Rattle.std.specs.Option.{option_and_then, option_map}
 use Rattle.std.specs.Str.{bytes_eq}
 use Rattle.std.proofs.lemmas.Bool.{cases_Bool}
 use Rattle.std.proofs.lemmas.List.{take_at}
-use Rattle.std.proofs.lemmas.List.Elements.{All-head, All-tail, All-weaker, All-get_or}
+use Rattle.std.proofs.lemmas.List.Elements.{All-head, All-tail, All-weaker}
 use Rattle.std.proofs.Math.Seq.{drop-append-add}
 use Rattle.vab_disk.specs.Disk.{Image}
 use Rattle.vab_gate.specs.Gate.{sectors_at}
@@ -18,9 +18,10 @@ use Rattle.vab_model.specs.State.{image_named}
 use Rattle.vab_device.specs.declared.device.Part.{Part}
 use Rattle.vab_device.specs.declared.device.Device.{Device}
 use Rattle.vab_device.specs.Kept.{IsPart, ArePresent, IsDevice}
-use Rattle.vab_device.specs.Mounted.{bytes_at, image_on, images_on, state_on}
+use Rattle.vab_device.specs.Mounted.{bytes_at, sectors_read, image_on, images_on, state_on}
 use Rattle.vab_manager.specs.Found.{part_named, part_in, found_part}
 use Rattle.vab_manager.specs.Blocks.{slot_named, KeepsPart, image_at, IsBlockOf}
+use Rattle.vab_manager.proofs.SeenLaws.{read_long, read_on_disk}
 
 -- ---- the partition that was found
 
@@ -83,10 +84,6 @@ part_kept d size slot name p is h = elim (cases_Bool (eqb slot 0)) [
   | inr a ↦ let here : option_and_then (part_named name) d.b ≡ Some p = rw a at h in of_slot size name d.b p is.parts_b here
 ]
 
--- its blocks are on the disk
-pub block_on_disk : (d : Device) (size slot : ℕ) (name : List ℕ) (p : Part) (block : ℕ) → IsDevice d size → KeepsPart d slot name p → block < length p.map → get_or p.map block 0 + 8 ≤ size
-block_on_disk d size slot name p block is h lt = All-get_or (λ (s : ℕ). s + 8 ≤ size) p.map block 0 lt (part_kept d size slot name p is h).on_disk
-
 -- ---- its image
 
 -- the first image of a name is that of the first partition of it
@@ -131,7 +128,19 @@ block_bytes image size blocks i whole on_disk lt =
     sym (piece_at (λ s. sectors_at 8 image s) blocks i long lt)
 
 -- a block that was read is that of the image under the name
-pub block_is : (d : Device) (size : ℕ) (image : Image) (slot : ℕ) (name : List ℕ) (p : Part) (block : ℕ) (bytes : List ℕ) → IsDevice d size → ((s : ℕ) → s < size → length (image s) ≡ 512) → KeepsPart d slot name p → block < length p.map
-    → bytes ≡ sectors_at 8 image (get_or p.map block 0) → IsBlockOf (state_on d image) slot name block bytes
-block_is d size image slot name p block bytes is whole kept lt read =
-    (image_on image p, image_kept d image slot name p kept, read ∙ block_bytes image size p.map block whole (part_kept d size slot name p is kept).on_disk lt)
+pub block_is : (d : Device) (size : ℕ) (image : Image) (slot : ℕ) (name : List ℕ) (p : Part)
+    (block : ℕ) (bytes : List ℕ)
+    → IsDevice d size
+    → ((s : ℕ) → s < size → length (image s) ≡ 512)
+    → KeepsPart d slot name p
+    → block < length p.map
+    → bytes ≡ sectors_at 8 image (get_or (sectors_read p) block 0)
+    → IsBlockOf (state_on d image) slot name block bytes
+block_is d size image slot name p block bytes is whole kept lt read = (
+  image_on image p,
+  image_kept d image slot name p kept,
+  read
+      ∙ block_bytes image size (sectors_read p) block whole
+      (read_on_disk size p (part_kept d size slot name p is kept))
+      (omega (arith, lt, read_long p)),
+)

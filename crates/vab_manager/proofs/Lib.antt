@@ -1,3 +1,4 @@
+pub mod SeenLaws
 mod BootLaws
 mod CommandLaws
 pub mod EffectLaws

@@ -10,10 +10,9 @@ ghost use Rattle.vab_names.specs.Names.{is_full, base_of};
 ghost use Rattle.vab_model.specs.declared.state.Image.{Image as ImageOfSlot};
 ghost use Rattle.vab_model.specs.Effects.{found_of, Image_is, Refused_by};
 ghost use Rattle.vab_device.specs.declared.device.Part.{Part};
-ghost use Rattle.vab_device.specs.Kept.{IsDevice};
+ghost use Rattle.vab_device.specs.Kept.{IsDevice, parts_at};
 ghost use Rattle.vab_device.specs.Mounted.{bytes_at, sectors_read, state_on};
 ghost use Rattle.vab_manager.specs.Found.{part_named};
-ghost use Rattle.vab_device.specs.Kept.{parts_at};
 ghost use Rattle.vab_manager.specs.Blocks.{slot_named, KeepsPart, HasBlock, IsBlockOf};
 
 use crate::images::{find, part_named};

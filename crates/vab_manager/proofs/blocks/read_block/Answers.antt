@@ -3,7 +3,7 @@ use Rattle.std.specs.Prelude.{OnOk}
 use Rattle.vab_device.specs.declared.device.Part.{Part}
 use Rattle.vab_device.specs.declared.device.Device.{Device}
 use Rattle.vab_manager.specs.Blocks.{KeepsPart, HasBlock}
-use Rattle.vab_manager.proofs.BlockLaws.{kept_once, block_on_disk, block_is}
+use Rattle.vab_manager.proofs.BlockLaws.{kept_once, part_kept, block_is}
 use Rattle.vab_manager.proofs.blocks.read_block.Goals as goal
 
 on_ok_map : {A E : Type 0} (r : Result A E) (P Q : Type 0) → (P → Q) → OnOk r P → OnOk r Q
@@ -14,18 +14,24 @@ on_ok_map (Err e) P Q f is = tt
 below : (d : Device) (slot : ℕ) (name : List ℕ) (block : ℕ) (p : Part) → KeepsPart d slot name p → HasBlock d slot name block → block < length p.map
 below d slot name block p kept has = subst (λ (q : Part). block < length q.map) (kept_once d slot name has.0 p has.1 kept) has.2
 
-pub read_at-requires-clause-on_disk : goal.read_at-requires-clause-on_disk
-read_at-requires-clause-on_disk g c =
-    let kept = sym c.in-Some.ensures in
-    block_on_disk c.args.device.now (g.D.Disk.size c.args.d.now) c.args.slot c.args.name.now c.in-Some.part.now c.args.block c.requires.kept kept (below c.args.device.now c.args.slot c.args.name.now c.args.block c.in-Some.part.now kept c.requires.block)
+pub read_part-requires-clause-kept : goal.read_part-requires-clause-kept
+read_part-requires-clause-kept g c =
+    part_kept c.args.device.now (g.D.Disk.size c.args.d.now) c.args.slot c.args.name.now
+    c.in-Some.part.now c.requires.kept (sym c.in-Some.ensures)
+
+pub read_part-requires-clause-block : goal.read_part-requires-clause-block
+read_part-requires-clause-block g c =
+    below c.args.device.now c.args.slot c.args.name.now c.args.block c.in-Some.part.now
+    (sym c.in-Some.ensures) c.requires.block
 
 pub returns-clause-bytes : goal.returns-clause-bytes
 returns-clause-bytes g c = λ t.
     let d = c.args.d.now in
     let p = c.in-Some.part.now in
     let kept = sym c.in-Some.ensures in
-    on_ok_map c.read_at.result _ _
-    (block_is c.args.device.now (g.D.Disk.size d) (g.D.Disk.seen d) c.args.slot c.args.name.now p c.args.block c.read_at.new.out c.requires.kept
+    on_ok_map c.read_part.result _ _
+    (block_is c.args.device.now (g.D.Disk.size d) (g.D.Disk.seen d) c.args.slot c.args.name.now p
+    c.args.block c.read_part.new.out c.requires.kept
     (λ s lt. (g.met.D.Disk.whole d s (g.D.Disk.seen d s) lt (g.met.D.Disk.seen_held d s)).long)
     kept (below c.args.device.now c.args.slot c.args.name.now c.args.block p kept c.requires.block))
-    (c.read_at.ensures.bytes t)
+    (c.read_part.ensures.bytes t)

@@ -9,8 +9,8 @@ use Rattle.vab_manager.proofs.images.digest.Goals as goal
 
 pub digest_of-requires : goal.digest_of-requires
 digest_of-requires g c =
-    (found_kept c.args.device.now (g.D.Disk.size c.args.d.now) c.args.name.now c.in-Ok.part.now
-    c.requires.kept c.in-Ok.ensures).on_disk
+    found_kept c.args.device.now (g.D.Disk.size c.args.d.now) c.args.name.now c.in-Ok.part.now
+    c.requires.kept c.in-Ok.ensures
 
 pub returns-in-Err-clause-reply : goal.returns-in-Err-clause-reply
 returns-in-Err-clause-reply g c = λ t.

@@ -1,14 +1,15 @@
 use Rattle.std.proofs.Common.{◌≡◌, ◌∙◌, ◌∷◌, [], Bool, sym, ap, subst}
 use Rattle.std.specs.Prelude.{is_some}
 use Rattle.vab_bootctl.specs.declared.slots.Control.{Control}
-use Rattle.vab_bootctl.specs.Boot.{info_at, booted_of}
+use Rattle.vab_bootctl.specs.Boot.{booted_of}
 use Rattle.vab_model.specs.declared.command.Reply.TheVariants as replies
 use Rattle.vab_model.specs.Commands.{Boot}
 use Rattle.vab_device.specs.declared.device.Device.{Device}
-use Rattle.vab_device.specs.Phases.{is_good}
+use Rattle.vab_device.specs.Kept.{has_slot}
+use Rattle.vab_device.specs.Phases.{may_run}
 use Rattle.vab_manager.specs.Controls.{GivesControl, WritesControl, slots_with_images}
-use Rattle.vab_manager.proofs.BootLaws.{booted_current, booted_good}
-use Rattle.vab_manager.proofs.CommandLaws.{good_of}
+use Rattle.vab_manager.proofs.BootLaws.{booted_has, booted_runs}
+use Rattle.vab_manager.proofs.CommandLaws.{runs_own}
 use Rattle.vab_manager.proofs.EffectLaws.{booted_effect}
 use Rattle.vab_manager.proofs.slots.boot.Goals as goal
 
@@ -28,17 +29,17 @@ change-requires-clause-current g c =
     let d = c.args.device in
     let is = has_is d c.booted-control.result _ _ c.booted-control.ensures.exact
     c.has_images.ensures c.has_images-2.ensures in
-    ap (λ (k : Control). k.current) is
-    ∙ booted_current d (g.D.Disk.size c.args.d.now) c.requires.kept
+    ap (λ (k : Control). has_slot d.mark.phase d.mark.slot k.current) is
+    ∙ booted_has d (g.D.Disk.size c.args.d.now) c.requires.kept
 
-pub change-requires-clause-good : goal.change-requires-clause-good
-change-requires-clause-good g c = λ t.
+pub change-requires-clause-runs : goal.change-requires-clause-runs
+change-requires-clause-runs g c = λ t.
     let d = c.args.device in
     let is = has_is d c.booted-control.result _ _ c.booted-control.ensures.exact
     c.has_images.ensures c.has_images-2.ensures in
-    ap (λ (k : Control). is_good (info_at k d.mark.slot)) is
-    ∙ booted_good d (g.D.Disk.size c.args.d.now) c.requires.kept
-    (good_of d _ _ (c.requires.represents t) c.requires.kept.slot)
+    ap (λ (k : Control). may_run d.mark.slot k) is
+    ∙ booted_runs d.control (slots_with_images d) d.mark.slot c.requires.kept.slot
+    (runs_own d _ _ (c.requires.represents t) c.requires.kept.slot)
 
 pub returns : goal.returns
 returns g c = λ staged.

@@ -1,25 +1,28 @@
-use Rattle.std.proofs.Common.{◌∙◌, sym, ap, subst}
+use Rattle.std.proofs.Common.{◌∙◌, ℕ, sym, ap, subst}
 use Rattle.vab_bootctl.specs.declared.slots.Control.{Control}
-use Rattle.vab_bootctl.specs.Boot.{info_at}
 use Rattle.vab_model.specs.declared.command.Reply.TheVariants as replies
 use Rattle.vab_model.specs.Commands.{Mark}
-use Rattle.vab_device.specs.Phases.{is_good}
+use Rattle.vab_device.specs.Kept.{has_slot}
+use Rattle.vab_device.specs.Phases.{may_run}
 use Rattle.vab_manager.specs.Controls.{GivesControl, WritesControl}
-use Rattle.vab_manager.proofs.BootLaws.{marked_current, marked_good, current_has}
-use Rattle.vab_manager.proofs.CommandLaws.{good_of}
+use Rattle.vab_manager.proofs.BootLaws.{marked_current, marked_runs, current_has}
+use Rattle.vab_manager.proofs.CommandLaws.{runs_own}
 use Rattle.vab_manager.proofs.EffectLaws.{marked_effect}
 use Rattle.vab_manager.proofs.slots.mark.Goals as goal
 
 pub change-requires-clause-current : goal.change-requires-clause-current
 change-requires-clause-current g c =
-    ap (λ (k : Control). k.current) c.marked-control.ensures.exact
-    ∙ marked_current c.args.device (g.D.Disk.size c.args.d.now) c.requires.kept
+    let d = c.args.device in
+    ap (λ (n : ℕ). has_slot d.mark.phase d.mark.slot n)
+    (ap (λ (k : Control). k.current) c.marked-control.ensures.exact ∙ marked_current d.control)
+    ∙ c.requires.kept.current
 
-pub change-requires-clause-good : goal.change-requires-clause-good
-change-requires-clause-good g c = λ t.
-    ap (λ (k : Control). is_good (info_at k c.args.device.mark.slot)) c.marked-control.ensures.exact
-    ∙ marked_good c.args.device (g.D.Disk.size c.args.d.now) c.requires.kept
-    (good_of c.args.device _ _ (c.requires.represents t) c.requires.kept.slot)
+pub change-requires-clause-runs : goal.change-requires-clause-runs
+change-requires-clause-runs g c = λ t.
+    let d = c.args.device in
+    ap (λ (k : Control). may_run d.mark.slot k) c.marked-control.ensures.exact
+    ∙ marked_runs d.control d.mark.slot
+    (runs_own d _ _ (c.requires.represents t) c.requires.kept.slot)
 
 pub returns : goal.returns
 returns g c = λ staged.

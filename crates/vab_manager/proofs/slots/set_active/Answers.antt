@@ -1,16 +1,16 @@
-use Rattle.std.proofs.Common.{◌≡◌, ◌∙◌, true, false, refl, sym, ap, subst}
+use Rattle.std.proofs.Common.{◌≡◌, ◌∙◌, ℕ, true, false, refl, sym, ap, subst}
 use Rattle.std.specs.Prelude.{◌==◌, if◌then◌else◌, is_some}
 use Rattle.vab_disk.proofs.CallLaws.{reads_none}
 use Rattle.vab_bootctl.specs.declared.slots.Control.{Control}
-use Rattle.vab_bootctl.specs.Boot.{info_at}
 use Rattle.vab_model.specs.declared.command.Reply.TheVariants as replies
 use Rattle.vab_model.specs.declared.command.Refusal.TheVariants.{NoImages}
 use Rattle.vab_model.specs.Commands.{SetActive}
-use Rattle.vab_device.specs.Phases.{is_good}
+use Rattle.vab_device.specs.Kept.{has_slot}
+use Rattle.vab_device.specs.Phases.{may_run}
 use Rattle.vab_manager.specs.Controls.{IsOfCommand, GivesControl, WritesControl}
-use Rattle.vab_manager.proofs.BootLaws.{activated_current, activated_good}
+use Rattle.vab_manager.proofs.BootLaws.{activated_current, activated_runs}
 use Rattle.vab_device.proofs.DoesLaws.{does_nothing}
-use Rattle.vab_manager.proofs.CommandLaws.{good_of}
+use Rattle.vab_manager.proofs.CommandLaws.{runs_own}
 use Rattle.vab_manager.proofs.EffectLaws.{activated_effect, refused_effect, is_some_at}
 use Rattle.vab_manager.proofs.slots.set_active.Goals as goal
 
@@ -26,15 +26,18 @@ returns-then-not-has_images g c = λ staged.
 
 pub change-requires-clause-current : goal.change-requires-clause-current
 change-requires-clause-current g c =
-    ap (λ (k : Control). k.current) c.activated_at-control.ensures.value
-    ∙ activated_current c.args.device (g.D.Disk.size c.args.d.now) c.args.slot c.requires.kept
+    let d = c.args.device in
+    ap (λ (n : ℕ). has_slot d.mark.phase d.mark.slot n)
+    (ap (λ (k : Control). k.current) c.activated_at-control.ensures.value
+    ∙ activated_current d.control c.args.slot)
+    ∙ c.requires.kept.current
 
-pub change-requires-clause-good : goal.change-requires-clause-good
-change-requires-clause-good g c = λ t.
-    ap (λ (k : Control). is_good (info_at k c.args.device.mark.slot)) c.activated_at-control.ensures.value
-    ∙ activated_good c.args.device (g.D.Disk.size c.args.d.now) c.args.slot c.requires.kept
-    (sym c.has_images.ensures ∙ c.if-not-has_images.false)
-    (good_of c.args.device _ _ (c.requires.represents t) c.requires.kept.slot)
+pub change-requires-clause-runs : goal.change-requires-clause-runs
+change-requires-clause-runs g c = λ t.
+    let d = c.args.device in
+    ap (λ (k : Control). may_run d.mark.slot k) c.activated_at-control.ensures.value
+    ∙ activated_runs d.control c.args.slot d.mark.slot
+    (runs_own d _ _ (c.requires.represents t) c.requires.kept.slot)
 
 pub returns : goal.returns
 returns g c = λ staged.
