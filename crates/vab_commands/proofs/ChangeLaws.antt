@@ -11,17 +11,20 @@ use Rattle.vab_marks.specs.declared.mark.MarkPhase.TheVariants as marks
 use Rattle.vab_geometry.specs.declared.geometry.Geometry.{Geometry}
 use Rattle.vab_lpstore.specs.Layout.{primary_of, backup_of}
 use Rattle.vab_layout.specs.Slots.{other_slot}
-use Rattle.vab_install.specs.Control.{cleared_of}
+use Rattle.vab_install.specs.Control.{cleared_of, IsControl as IsClearing}
 use Rattle.vab_model.specs.Commands.{Command, SetActive, Boot, Mark, Print, Digest, Begin, Create}
 use Rattle.vab_model.specs.Commands.{Resize, Delete, Snapshot, Flash, Finish, Cancel, BeginMerge}
 use Rattle.vab_model.specs.Commands.{Merge}
 use Rattle.vab_device.specs.declared.device.Device.{Device}
 use Rattle.vab_device.specs.declared.device.Part.{Part}
 use Rattle.vab_device.specs.Does.{KeepsSource}
-use Rattle.vab_device.specs.Kept.{IsDevice, copies_end}
+use Rattle.vab_device.specs.Kept.{IsDevice, copies_end, has_both, parts_at}
 use Rattle.vab_device.specs.Reading.{Represents, IsOfImages}
 use Rattle.vab_edit.specs.Writes.{IsOfPhase}
-use Rattle.vab_commands.specs.Controls.{controls_by, IsOfControls}
+use Rattle.vab_begin.proofs.KeptLaws.{current_of}
+use Rattle.vab_finish.proofs.StepLaws.{installing_of}
+use Rattle.vab_manager.specs.Controls.{IsControl}
+use Rattle.vab_commands.specs.Controls.{Step, controls_by, IsOfControls}
 use Rattle.vab_commands.specs.Writes.{IsOfCommand}
 use Rattle.vab_commands.specs.Touched.{IsMarkOf, IsTextOf, IsOfUpdate}
 use Rattle.vab_commands.specs.Touched.{IsOfCommands, ChangesDevice}
@@ -52,12 +55,27 @@ module _ {D : Type 0}
   of_text : IsTextOf d.geometry (other_slot d.mark.slot) s b → Writes
   of_text text = inr (inr (inr (inl text)))
 
+  abbrev step : Command → Step
+  step command = record { a = is_some d.a; b = is_some d.b; command = command }
+
+  -- nothing is said of the slot that isn't the current one
+  cleared_control : d.control.current ≡ d.mark.slot
+      → IsClearing g.is_modelled (cleared_of d.control (other_slot d.mark.slot)) (g.seen old 4) s b
+      → IsControl (cleared_of d.control (other_slot d.control.current)) (g.seen old 4) s b
+  cleared_control current is = record {
+    at = is.at;
+    control =
+        is.control
+        ∙ ap (λ (slot : ℕ). Ok (cleared_of d.control (other_slot slot))) (sym current);
+    rest = is.rest t;
+  }
+
   -- what a command writes is of those that commands write
   pub one_writes : (command : Command)
       → IsOfCommand g.is_modelled d (g.seen old 4) command s b
       → Writes
   one_writes (SetActive slot) w = inl (record {
-    commands = SetActive slot ∷ [];
+    steps = step (SetActive slot) ∷ [];
     writes = record {
       at = w.1.at;
       control =
@@ -67,8 +85,8 @@ module _ {D : Type 0}
       rest = w.1.rest;
     };
   })
-  one_writes Boot w = inl (record { commands = Boot ∷ []; writes = w })
-  one_writes Mark w = inl (record { commands = Mark ∷ []; writes = w })
+  one_writes Boot w = inl (record { steps = step Boot ∷ []; writes = w })
+  one_writes Mark w = inl (record { steps = step Mark ∷ []; writes = w })
   one_writes (Print name) w = absurd w
   one_writes (Digest name) w = absurd w
   one_writes Begin w = ⊎_elim
@@ -78,15 +96,8 @@ module _ {D : Type 0}
       ⊎_elim {C = Writes}
       (λ control.
       inl (record {
-        commands = Begin ∷ [];
-        writes = record {
-          at = control.at;
-          control =
-              control.control
-              ∙ ap (λ (slot : ℕ). Ok (cleared_of d.control (other_slot slot)))
-              (sym device.current);
-          rest = control.rest t;
-        };
+        steps = step Begin ∷ [];
+        writes = cleared_control (current_of d (g.size old) device (ap has_both w.idle)) control;
       }))
       (λ statuses. inr (inr (inl statuses)))
       clearing)
@@ -108,7 +119,18 @@ module _ {D : Type 0}
       inr (inr (inr (inr (store_is_free d (g.size old) (g.seen old) _ s device is store)))))
       (λ status. inr (inr (inl status.there)))
       w
-  one_writes Finish w = absurd w
+  one_writes Finish w = ⊎_elim
+      (λ control.
+      inl (record {
+        steps = step Finish ∷ [];
+        writes =
+            cleared_control
+            (current_of d (g.size old) device
+            (ap has_both (installing_of d (g.size old) device w.ready)))
+            control;
+      }))
+      (λ mark. inr (inl (record { phase = marks.Staged; is = mark })))
+      w.writes
   one_writes Cancel w = inr (inl (record { phase = marks.Idle; is = w.mark }))
   one_writes BeginMerge w = absurd w
   one_writes (Merge blocks) w = absurd w
@@ -136,8 +158,11 @@ pub keeps_then : (a b c : Device) → KeepsSource a b → KeepsSource b c → Ke
 keeps_then a b c first second = record {
   geometry = second.geometry ∙ first.geometry;
   slot = second.slot ∙ first.slot;
-  a = second.a ∙ first.a;
-  b = second.b ∙ first.b;
+  parts =
+      sym (ap (parts_at c) first.slot)
+      ∙ second.parts
+      ∙ ap (parts_at b) first.slot
+      ∙ first.parts;
 }
 
 -- a sector of the copies of a table is behind the geometries
@@ -182,11 +207,11 @@ module _ {D : Type 0}
     (is : Represents d' size (g.seen mid))
     (keeps : KeepsSource d d')
     (first : ChangesDevice g d old mid) where
-  reached : Reached d.control (is_some d.a) (is_some d.b) (g.seen old 4) d'.control (g.seen mid 4)
+  reached : Reached d.control (g.seen old 4) d'.control (g.seen mid 4)
   reached =
       ⊎_elim
       (λ same. record {
-        commands = [];
+        steps = [];
         control =
             same_ok d'.control d.control (sym is.control ∙ ap control_of same ∙ was.control);
         rest = subst (KeepsRest (g.seen old 4)) (sym same) (rest_same (g.seen old 4));
@@ -194,10 +219,9 @@ module _ {D : Type 0}
       (λ w.
       ⊎_elim
       (λ of. record {
-        commands = of.commands;
+        steps = of.steps;
         control =
-            same_ok d'.control
-            (controls_by (is_some d.a) (is_some d.b) of.commands d.control)
+            same_ok d'.control (controls_by of.steps d.control)
             (sym is.control ∙ of.writes.control);
         rest = of.writes.rest;
       })
@@ -221,8 +245,9 @@ module _ {D : Type 0}
       inr (inr (inr (record {
         behind =
             subst (λ (g : Geometry). copies_end g ≤ 512 * (s - 4096)) keeps.geometry free.behind;
-        not_a = subst (λ (x : Option (List Part)). IsOfImages x s → ⊥) keeps.a free.not_a;
-        not_b = subst (λ (x : Option (List Part)). IsOfImages x s → ⊥) keeps.b free.not_b;
+        not_source =
+            subst (λ (x : Option (List Part)). IsOfImages x s → ⊥)
+            (ap (parts_at d') keeps.slot ∙ keeps.parts) free.not_source;
       }))))
       other)
       other)
@@ -239,10 +264,6 @@ module _ {D : Type 0}
       (λ s x w.
       ⊎_elim {C = W s x}
       (λ of.
-      inl (writes_behind d.control d'.control (is_some d.a) (is_some d.b)
-      (g.seen old 4) (g.seen mid 4) s x reached
-      (subst
-      (λ (q : Bool × Bool). IsOfControls d'.control q.0 q.1 (g.seen mid 4) s x)
-      (λ i. (is_some (keeps.a i), is_some (keeps.b i))) of)))
+      inl (writes_behind d.control d'.control (g.seen old 4) (g.seen mid 4) s x reached of))
       (λ of. inr (update_behind s x of))
       w))

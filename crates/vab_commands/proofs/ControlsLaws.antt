@@ -4,14 +4,14 @@ use Rattle.std.specs.Prelude.{Bool, true, false, if◌then◌else◌}
 use Rattle.vab_bootctl.specs.declared.slots.Control.{Control}
 use Rattle.vab_bootctl.specs.Control.{KeepsRest}
 use Rattle.vab_model.specs.Commands.{Command}
-use Rattle.vab_commands.specs.Controls.{control_by, controls_by, IsOfControls}
+use Rattle.vab_commands.specs.Controls.{Step, control_by, controls_by, IsOfControls}
 
 -- ---- lists of commands
 
-pub controls_append : (a b : Bool) (xs ys : List Command) (c : Control)
-    → controls_by a b (xs ++ ys) c ≡ controls_by a b ys (controls_by a b xs c)
-controls_append a b [] ys c = refl
-controls_append a b (x ∷ xs) ys c = controls_append a b xs ys (control_by a b x c)
+pub controls_append : (xs ys : List Step) (c : Control)
+    → controls_by (xs ++ ys) c ≡ controls_by ys (controls_by xs c)
+controls_append [] ys c = refl
+controls_append (x ∷ xs) ys c = controls_append xs ys (control_by x.a x.b x.command c)
 
 -- ---- the other bits of the sector
 
@@ -33,24 +33,22 @@ chosen false x y is = absurd (let no : false ≡ true = is in cc)
 -- ---- commands behind others
 
 -- What commands left: a boot control, and bytes that keep the rest of the first ones.
-pub record Reached (first : Control) (a b : Bool) (old : List ℕ) (c : Control) (mid : List ℕ)
-    : Type 0 where
-  pub commands : List Command
-  pub control : c ≡ controls_by a b commands first
+pub record Reached (first : Control) (old : List ℕ) (c : Control) (mid : List ℕ) : Type 0 where
+  pub steps : List Step
+  pub control : c ≡ controls_by steps first
   pub rest : KeepsRest old mid
 
 -- what commands write behind others
-pub writes_behind : (first c : Control) (a b : Bool) (old mid : List ℕ) (s : ℕ) (bytes : List ℕ)
-    → Reached first a b old c mid
-    → IsOfControls c a b mid s bytes
-    → IsOfControls first a b old s bytes
-writes_behind first c a b old mid s bytes reached is =
-    let whole : controls_by a b is.commands c
-    ≡ controls_by a b (reached.commands ++ is.commands) first =
-    ap (controls_by a b is.commands) reached.control
-    ∙ sym (controls_append a b reached.commands is.commands first) in
+pub writes_behind : (first c : Control) (old mid : List ℕ) (s : ℕ) (bytes : List ℕ)
+    → Reached first old c mid
+    → IsOfControls c mid s bytes
+    → IsOfControls first old s bytes
+writes_behind first c old mid s bytes reached is =
+    let whole : controls_by is.steps c ≡ controls_by (reached.steps ++ is.steps) first =
+    ap (controls_by is.steps) reached.control
+    ∙ sym (controls_append reached.steps is.steps first) in
     record {
-      commands = reached.commands ++ is.commands;
+      steps = reached.steps ++ is.steps;
       writes = record {
         at = is.writes.at;
         control = is.writes.control ∙ ap Ok whole;

@@ -1,7 +1,8 @@
 -- The stores of an update lie where no image does.
 use Rattle.std.proofs.Common.{◌≡◌, inl, inr, ℕ, ◌-◌, ◌*◌, ◌≤◌, List, [], ◌∷◌, refl, sym}
-use Rattle.std.proofs.Common.{subst, arith, true}
-use Rattle.std.specs.Prelude.{Option, Some, None, map, option_map, Contains, ◌==◌}
+use Rattle.std.proofs.Common.{subst, arith, true, false}
+use Rattle.std.specs.Prelude.{Bool, Option, Some, None, map, option_map, Contains, ◌==◌}
+use Rattle.std.specs.Prelude.{if◌then◌else◌}
 use Rattle.std.specs.Str.{bytes_eq}
 use Rattle.std.proofs.lemmas.Bool.{cases_Bool, and_parts, leb-true}
 use Rattle.vab_disk.specs.Disk.{Image}
@@ -13,7 +14,7 @@ use Rattle.vab_layout.specs.Slots.{other_slot, own_parts}
 use Rattle.vab_builder.proofs.Counting.{of_filter, first, later}
 use Rattle.vab_device.specs.declared.device.Part.{Part}
 use Rattle.vab_device.specs.declared.device.Device.{Device}
-use Rattle.vab_device.specs.Kept.{IsDevice, copies_end, sectors_of}
+use Rattle.vab_device.specs.Kept.{IsDevice, copies_end, parts_at, sectors_of}
 use Rattle.vab_device.specs.Mounted.{blocks_there}
 use Rattle.vab_device.specs.Phases.{planned_on, store_on}
 use Rattle.vab_device.specs.Reading.{Represents, IsOfBlocks, IsOfImages, parts_for, table_for}
@@ -59,6 +60,14 @@ some_store : (at : ℕ) (o : Option PartOfLayout) (s : ℕ)
 some_store at None s is = absurd is
 some_store at (Some store) s is = (store, refl, is)
 
+either : (b : Bool) (x y : Option (List Part)) (s : ℕ)
+    → (IsOfImages x s → ⊥)
+    → (IsOfImages y s → ⊥)
+    → IsOfImages (if b then x else y) s
+    → ⊥
+either true x y s first second is = first is
+either false x y s first second is = second is
+
 -- a block of a store of the target's table
 module _ (d : Device) (size : ℕ) (image : Image) (s : ℕ) (i : Installs d size image)
     (t : Tables d size image i) (name : List ℕ) (store : PartOfLayout)
@@ -67,13 +76,13 @@ module _ (d : Device) (size : ℕ) (image : Image) (s : ℕ) (i : Installs d siz
     (here : IsOfBlocks (sectors_of (layout_of i.target).device.first_logical_sector store.blocks) s)
   where
     miss : (k : ℕ)
-        → IsOfImages (parts_for k (i.slot == k)
+        → IsOfImages (parts_for k (i.slot == k) false i.scanned
         (table_for k (i.slot ∷ other_slot i.slot ∷ []) (i.source ∷ i.target ∷ i.others))) s
         → ⊥
     miss k =
         images_miss i.slot (layout_of i.source).parts (layout_of i.target).parts name store t.below
-        t.target own found (layout_of i.target).device.first_logical_sector s here k i.source i.target
-        i.others refl t.begins
+        t.target own found (layout_of i.target).device.first_logical_sector s here k i.scanned
+        i.source i.target i.others refl t.begins
 
     low : copies_end i.geometry ≤ 512 * (layout_of i.target).device.first_logical_sector
     low = let both = and_parts _ _ t.table.lies in leb-true _ _ both.1
@@ -87,8 +96,9 @@ module _ (d : Device) (size : ℕ) (image : Image) (s : ℕ) (i : Installs d siz
             block_behind (layout_of i.target).device.first_logical_sector store.blocks s here,
             low,
           ));
-      not_a = λ h. miss 0 (subst (λ (k : Device). IsOfImages k.a s) i.is h);
-      not_b = λ h. miss 1 (subst (λ (k : Device). IsOfImages k.b s) i.is h);
+      not_source = λ h.
+          either (i.slot == 0) _ _ s (miss 0) (miss 1)
+          (subst (λ (k : Device). IsOfImages (parts_at k k.mark.slot) s) i.is h);
     }
 
 module _ (d : Device) (size : ℕ) (image : Image) (base : List ℕ) (s : ℕ)

@@ -10,7 +10,8 @@ use Rattle.vab_model.specs.Commands.{Merge}
 use Rattle.vab_manager.specs.Controls.{IsControl}
 
 -- The boot control after a command that is done, where the slots a and b have images or not: that
--- of the boot rules, and with nothing said of the target where an update begins.
+-- of the boot rules, and with nothing said of the target where an update begins and where its
+-- installation ends.
 abbrev pub control_by : (a b : Bool) → Command → Control → Control
 control_by a b (SetActive slot) c =
     if (if slot == 0 then a else b) then activated_of c slot else c
@@ -24,23 +25,24 @@ control_by a b (Resize name size) c = c
 control_by a b (Delete name) c = c
 control_by a b (Snapshot name size) c = c
 control_by a b (Flash name) c = c
-control_by a b Finish c = c
+control_by a b Finish c = cleared_of c (other_slot c.current)
 control_by a b Cancel c = c
 control_by a b BeginMerge c = c
 control_by a b (Merge blocks) c = c
 
--- and after some of them, one behind the other
-abbrev pub controls_by : (a b : Bool) → List Command → Control → Control
-controls_by a b [] c = c
-controls_by a b (command ∷ commands) c = controls_by a b commands (control_by a b command c)
+-- a command, and whether the slots a and b have images
+pub record Step : Type 0 where
+  pub a : Bool
+  pub b : Bool
+  pub command : Command
 
--- What commands may write into boot control's sector, one behind the other: a boot control that
--- some of them make of the old one, of both slots.
-pub record IsOfControls
-    (c : Control)
-    (a b : Bool)
-    (old : List ℕ)
-    (s : ℕ)
-    (bytes : List ℕ) : Type 0 where
-  pub commands : List Command
-  pub writes : IsControl (controls_by a b commands c) old s bytes
+-- and after some of them, one behind the other
+abbrev pub controls_by : List Step → Control → Control
+controls_by [] c = c
+controls_by (s ∷ steps) c = controls_by steps (control_by s.a s.b s.command c)
+
+-- What commands may write into boot control's sector, one behind the other, whichever slots have
+-- images: a boot control that some of them make of the old one, of both slots.
+pub record IsOfControls (c : Control) (old : List ℕ) (s : ℕ) (bytes : List ℕ) : Type 0 where
+  pub steps : List Step
+  pub writes : IsControl (controls_by steps c) old s bytes

@@ -1,5 +1,5 @@
 -- The sectors that commands may write, one behind the other.
-use Rattle.std.specs.Prelude.{◌⊎◌, ◌≤◌, ℕ, ◌-◌, ◌*◌, List, length, is_some}
+use Rattle.std.specs.Prelude.{◌⊎◌, ◌≤◌, ℕ, ◌-◌, ◌*◌, List, length}
 use Rattle.vab_disk.specs.declared.disk.Disk.{Ghosts}
 use Rattle.vab_disk.specs.Disk.{IsAt}
 use Rattle.vab_disk.specs.Calls.{Changes}
@@ -10,7 +10,7 @@ use Rattle.vab_geometry.specs.declared.geometry.Geometry.{Geometry}
 use Rattle.vab_lpstore.specs.Storing.{IsOfTable}
 use Rattle.vab_layout.specs.Slots.{other_slot}
 use Rattle.vab_device.specs.declared.device.Device.{Device}
-use Rattle.vab_device.specs.Kept.{copies_end}
+use Rattle.vab_device.specs.Kept.{copies_end, parts_at}
 use Rattle.vab_device.specs.Reading.{IsOfImages}
 use Rattle.vab_commands.specs.Controls.{IsOfControls}
 
@@ -25,11 +25,10 @@ pub record IsTextOf (g : Geometry) (slot s : ℕ) (b : List ℕ) : Type 0 where
   pub fits : length text ≤ g.max
   pub is : IsOfTable g slot text s b
 
--- a sector of `super` behind the copies of the tables that no partition with an image has
+-- a sector of `super` behind the copies of the tables that no partition of the mark's slot has
 pub record IsFree (d : Device) (s : ℕ) : Type 0 where
   pub behind : copies_end d.geometry ≤ 512 * (s - 4096)
-  pub not_a : IsOfImages d.a s → ⊥
-  pub not_b : IsOfImages d.b s → ⊥
+  pub not_source : IsOfImages (parts_at d d.mark.slot) s → ⊥
 
 -- What an update from a device's slot may write but for boot control: the update mark, the
 -- statuses, the target's table, and stores.
@@ -42,8 +41,7 @@ IsOfUpdate d s b =
 
 -- What commands may write, one behind the other, from this device on.
 abbrev pub IsOfCommands : Device → List ℕ → ℕ → List ℕ → Type 0
-IsOfCommands d old s b =
-    IsOfControls d.control (is_some d.a) (is_some d.b) old s b ⊎ IsOfUpdate d s b
+IsOfCommands d old s b = IsOfControls d.control old s b ⊎ IsOfUpdate d s b
 
 -- What commands do to the sectors of a device, one behind the other, whatever is heard and told:
 -- each sector reads and may be left by a crash as before, but for what they may write; the same in

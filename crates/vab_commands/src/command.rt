@@ -1,11 +1,8 @@
 //! One command.
 
 ghost use Rattle.std.specs.Prelude.{◌≡◌, option_map};
-ghost use Rattle.vab_disk.specs.Disk.{Image};
 ghost use Rattle.vab_model.specs.Commands.{command_of};
-ghost use Rattle.vab_model.specs.Effects.{unless_idle};
 ghost use Rattle.vab_device.specs.Does.{Does};
-ghost use Rattle.vab_device.specs.Mounted.{state_on};
 ghost use Rattle.vab_device.specs.Kept.{IsDevice};
 ghost use Rattle.vab_device.specs.Reading.{Represents};
 ghost use Rattle.vab_commands.specs.Writes.{IsOfCommand};
@@ -16,29 +13,18 @@ use vab_builder::Edit;
 use vab_device::Device;
 use vab_disk::Disk;
 use vab_edit::edit;
+use vab_finish::finish;
 use vab_flash::flash;
 use vab_gate::DiskFault;
 use vab_manager::{boot, digest, mark, print, set_active};
 use vab_model::{Command, Refusal, Reply};
-
-// Why the end of an update is refused: as it is where there is none, or since there is one.
-#[tactic(auto, unfolding(vab_device::specs::Mounted::state_on))]
-fn refusal_on(device: &Device, refusal: Refusal) -> Refusal
-    ensures { (image : Image)
-        → result ≡ unless_idle (state_on device.now image).phase refusal }
-{
-    match &device.plan {
-        None => refusal,
-        Some(_) => Refusal::NotIdle,
-    }
-}
 
 /// Carries out one command on a device, where these bytes are staged. Where the device that is kept
 /// is that of the disk, the reply and the device after it are those of the table of effects; where
 /// nothing was pending, each outcome since is a step of the command. A command touches what is its
 /// own alone, and a question or a refusal nothing. Want of memory comes in place of `Done` and of
 /// `TableFull` alone, and changes nothing. The error comes where the disk has failed; then nothing
-/// is asked of the device any more. An update is installed, but not ended yet: its end is refused.
+/// is asked of the device any more. No update is merged yet: that is refused.
 pub fn run_one<D: Disk>(
     alloc: Global,
     d: &mut D,
@@ -71,10 +57,7 @@ pub fn run_one<D: Disk>(
         Command::Snapshot(name, size) => edit(alloc, d, device, &Edit::AddStore(name, size)),
         Command::Flash(name) => flash(alloc, d, device, name, staged),
         Command::Cancel => cancel(d, device),
-        Command::Finish => {
-            let refusal = refusal_on(&device, Refusal::NotInstalling);
-            Ok((device, Reply::Refused(refusal)))
-        }
+        Command::Finish => finish(d, device),
         Command::BeginMerge => Ok((device, Reply::Refused(Refusal::NotStaged))),
         Command::Merge(_) => Ok((device, Reply::Refused(Refusal::NotMerging))),
     }

@@ -1,17 +1,16 @@
-use Rattle.std.proofs.Common.{◌≡◌, ℕ, List, ap, refl, sym, subst, Ok, Err, false}
+use Rattle.std.proofs.Common.{◌≡◌, ℕ, List, refl, sym, subst, Ok, Err, false}
 use Rattle.std.specs.Prelude.{Option, Result, option_map}
 use Rattle.vab_disk.specs.declared.disk.Disk.{Ghosts}
 use Rattle.vab_disk.specs.Calls.{OnlyReads}
 use Rattle.vab_disk.proofs.CallLaws.{reads_none}
 use Rattle.vab_gate.specs.declared.gate.DiskFault.{DiskFault}
 use Rattle.vab_model.specs.declared.command.Command.{Command as CommandOfCode}
-use Rattle.vab_model.specs.declared.command.Refusal.{Refusal}
 use Rattle.vab_model.specs.declared.command.Refusal.TheVariants.{NotStaged}
 use Rattle.vab_model.specs.declared.command.Refusal.TheVariants.{NotMerging}
 use Rattle.vab_model.specs.declared.command.Reply.{Reply}
 use Rattle.vab_model.specs.declared.command.Reply.TheVariants as replies
-use Rattle.vab_model.specs.Commands.{Command, command_of, Print, Digest, Finish, BeginMerge, Merge}
-use Rattle.vab_model.specs.Effects.{effect, answers, refuses}
+use Rattle.vab_model.specs.Commands.{Command, command_of, Print, Digest, BeginMerge, Merge}
+use Rattle.vab_model.specs.Effects.{effect, answers}
 use Rattle.vab_device.specs.declared.device.Device.{Device}
 use Rattle.vab_device.specs.Does.{Does}
 use Rattle.vab_device.specs.Kept.{IsDevice}
@@ -30,6 +29,14 @@ module _ {D : Type 0} (g : Ghosts D) (d : Device) (staged : Option (List ℕ)) (
         Does g d staged (command_of command)
         (IsOfCommand g.is_modelled d (g.seen old 4) (command_of command)) old new result
 
+    -- what is promised of the command that it is
+    of : (command is : CommandOfCode) (new : D) (result : Result (Device × Reply) DiskFault)
+        → command ≡ is
+        → Promise is new result
+        → Promise command new result
+    of command is new result same does =
+        subst (λ (k : CommandOfCode). Promise k new result) (sym same) does
+
     -- a question, or a refusal
     still : (command : Command) (reply : Reply) (new : D)
         → IsDevice d (g.size old)
@@ -45,143 +52,119 @@ module _ {D : Type 0} (g : Ghosts D) (d : Device) (staged : Option (List ℕ)) (
 
 pub returns-in-SetActive : goal.returns-in-SetActive
 returns-in-SetActive g c =
-    subst (λ (k : CommandOfCode). Promise g.D.Disk c.args.device
-    (option_map (λ s. s.now) c.args.staged) c.args.d.now k c.set_active.new.d c.set_active.result)
-    (sym c.in-SetActive.is)
+    of g.D.Disk c.args.device (option_map (λ s. s.now) c.args.staged) c.args.d.now
+    c.args.command.now _ _ _ c.in-SetActive.is
     (c.set_active.ensures (option_map (λ s. s.now) c.args.staged))
 
 pub returns-in-Boot : goal.returns-in-Boot
 returns-in-Boot g c =
-    subst (λ (k : CommandOfCode). Promise g.D.Disk c.args.device
-    (option_map (λ s. s.now) c.args.staged) c.args.d.now k c.boot.new.d c.boot.result)
-    (sym c.in-Boot.is)
+    of g.D.Disk c.args.device (option_map (λ s. s.now) c.args.staged) c.args.d.now
+    c.args.command.now _ _ _ c.in-Boot.is
     (c.boot.ensures (option_map (λ s. s.now) c.args.staged))
 
 pub returns-in-Mark : goal.returns-in-Mark
 returns-in-Mark g c =
-    subst (λ (k : CommandOfCode). Promise g.D.Disk c.args.device
-    (option_map (λ s. s.now) c.args.staged) c.args.d.now k c.mark.new.d c.mark.result)
-    (sym c.in-Mark.is)
+    of g.D.Disk c.args.device (option_map (λ s. s.now) c.args.staged) c.args.d.now
+    c.args.command.now _ _ _ c.in-Mark.is
     (c.mark.ensures (option_map (λ s. s.now) c.args.staged))
 
 pub returns-in-Begin : goal.returns-in-Begin
 returns-in-Begin g c =
-    subst (λ (k : CommandOfCode). Promise g.D.Disk c.args.device
-    (option_map (λ s. s.now) c.args.staged) c.args.d.now k c.begin.new.d c.begin.result)
-    (sym c.in-Begin.is)
+    of g.D.Disk c.args.device (option_map (λ s. s.now) c.args.staged) c.args.d.now
+    c.args.command.now _ _ _ c.in-Begin.is
     (c.begin.ensures (option_map (λ s. s.now) c.args.staged))
 
 pub returns-in-Create : goal.returns-in-Create
 returns-in-Create g c =
-    subst (λ (k : CommandOfCode). Promise g.D.Disk c.args.device
-    (option_map (λ s. s.now) c.args.staged) c.args.d.now k c.edit.new.d c.edit.result)
-    (sym c.in-Create.is)
+    of g.D.Disk c.args.device (option_map (λ s. s.now) c.args.staged) c.args.d.now
+    c.args.command.now _ _ _ c.in-Create.is
     (c.edit.ensures (option_map (λ s. s.now) c.args.staged))
 
 pub returns-in-Resize : goal.returns-in-Resize
 returns-in-Resize g c =
-    subst (λ (k : CommandOfCode). Promise g.D.Disk c.args.device
-    (option_map (λ s. s.now) c.args.staged) c.args.d.now k c.edit-in-Resize.new.d c.edit-in-Resize.result)
-    (sym c.in-Resize.is)
+    of g.D.Disk c.args.device (option_map (λ s. s.now) c.args.staged) c.args.d.now
+    c.args.command.now _ _ _ c.in-Resize.is
     (c.edit-in-Resize.ensures (option_map (λ s. s.now) c.args.staged))
 
 pub returns-in-Delete : goal.returns-in-Delete
 returns-in-Delete g c =
-    subst (λ (k : CommandOfCode). Promise g.D.Disk c.args.device
-    (option_map (λ s. s.now) c.args.staged) c.args.d.now k c.edit-in-Delete.new.d c.edit-in-Delete.result)
-    (sym c.in-Delete.is)
+    of g.D.Disk c.args.device (option_map (λ s. s.now) c.args.staged) c.args.d.now
+    c.args.command.now _ _ _ c.in-Delete.is
     (c.edit-in-Delete.ensures (option_map (λ s. s.now) c.args.staged))
 
 pub returns-in-Snapshot : goal.returns-in-Snapshot
 returns-in-Snapshot g c =
-    subst (λ (k : CommandOfCode). Promise g.D.Disk c.args.device
-    (option_map (λ s. s.now) c.args.staged) c.args.d.now k c.edit-in-Snapshot.new.d c.edit-in-Snapshot.result)
-    (sym c.in-Snapshot.is)
+    of g.D.Disk c.args.device (option_map (λ s. s.now) c.args.staged) c.args.d.now
+    c.args.command.now _ _ _ c.in-Snapshot.is
     (c.edit-in-Snapshot.ensures (option_map (λ s. s.now) c.args.staged))
 
 pub returns-in-Flash : goal.returns-in-Flash
 returns-in-Flash g c =
-    subst (λ (k : CommandOfCode). Promise g.D.Disk c.args.device
-    (option_map (λ s. s.now) c.args.staged) c.args.d.now k c.flash.new.d c.flash.result)
-    (sym c.in-Flash.is)
-    (c.flash.ensures)
+    of g.D.Disk c.args.device (option_map (λ s. s.now) c.args.staged) c.args.d.now
+    c.args.command.now _ _ _ c.in-Flash.is
+    c.flash.ensures
+
+pub returns-in-Finish : goal.returns-in-Finish
+returns-in-Finish g c =
+    of g.D.Disk c.args.device (option_map (λ s. s.now) c.args.staged) c.args.d.now
+    c.args.command.now _ _ _ c.in-Finish.is
+    (c.finish.ensures (option_map (λ s. s.now) c.args.staged))
 
 pub returns-in-Cancel : goal.returns-in-Cancel
 returns-in-Cancel g c =
-    subst (λ (k : CommandOfCode). Promise g.D.Disk c.args.device
-    (option_map (λ s. s.now) c.args.staged) c.args.d.now k c.cancel.new.d c.cancel.result)
-    (sym c.in-Cancel.is)
+    of g.D.Disk c.args.device (option_map (λ s. s.now) c.args.staged) c.args.d.now
+    c.args.command.now _ _ _ c.in-Cancel.is
     (c.cancel.ensures (option_map (λ s. s.now) c.args.staged))
 
 pub returns-in-Print : goal.returns-in-Print
 returns-in-Print g c =
-    subst (λ (k : CommandOfCode). Promise g.D.Disk c.args.device
-    (option_map (λ s. s.now) c.args.staged) c.args.d.now k c.args.d.now
-    (Ok (c.args.device, c.print-reply.result)))
-    (sym c.in-Print.is)
+    of g.D.Disk c.args.device (option_map (λ s. s.now) c.args.staged) c.args.d.now
+    c.args.command.now _ _ _ c.in-Print.is
     (still g.D.Disk c.args.device (option_map (λ s. s.now) c.args.staged) c.args.d.now
-    (Print c.in-Print.name.now) c.print-reply.result c.args.d.now c.requires.kept
-    c.requires.represents
+    (Print c.in-Print.name.now) c.print-reply.result c.args.d.now
+    c.requires.kept c.requires.represents
     (λ t. c.print-reply.ensures (g.D.Disk.seen c.args.d.now))
-    (reads_none g.D.Disk c.args.d.now) refl)
-
-pub returns-in-Finish : goal.returns-in-Finish
-unfolding effect
-returns-in-Finish g c =
-    subst (λ (k : CommandOfCode). Promise g.D.Disk c.args.device
-    (option_map (λ s. s.now) c.args.staged) c.args.d.now k c.args.d.now
-    (Ok (c.args.device, replies.Refused c.refusal_on-refusal.result)))
-    (sym c.in-Finish.is)
-    (still g.D.Disk c.args.device (option_map (λ s. s.now) c.args.staged) c.args.d.now
-    Finish (replies.Refused c.refusal_on-refusal.result) c.args.d.now c.requires.kept c.requires.represents
-    (λ t. ap (λ (r : Refusal). refuses r) (sym (c.refusal_on-refusal.ensures (g.D.Disk.seen c.args.d.now))))
     (reads_none g.D.Disk c.args.d.now) refl)
 
 pub returns-in-BeginMerge : goal.returns-in-BeginMerge
 unfolding effect
 returns-in-BeginMerge g c =
-    subst (λ (k : CommandOfCode). Promise g.D.Disk c.args.device
-    (option_map (λ s. s.now) c.args.staged) c.args.d.now k c.args.d.now
-    (Ok (c.args.device, replies.Refused NotStaged)))
-    (sym c.in-BeginMerge.is)
+    of g.D.Disk c.args.device (option_map (λ s. s.now) c.args.staged) c.args.d.now
+    c.args.command.now _ _ _ c.in-BeginMerge.is
     (still g.D.Disk c.args.device (option_map (λ s. s.now) c.args.staged) c.args.d.now
-    BeginMerge (replies.Refused NotStaged) c.args.d.now c.requires.kept c.requires.represents
+    BeginMerge (replies.Refused NotStaged) c.args.d.now
+    c.requires.kept c.requires.represents
     (λ t. refl)
     (reads_none g.D.Disk c.args.d.now) refl)
 
 pub returns-in-Merge : goal.returns-in-Merge
 unfolding effect
 returns-in-Merge g c =
-    subst (λ (k : CommandOfCode). Promise g.D.Disk c.args.device
-    (option_map (λ s. s.now) c.args.staged) c.args.d.now k c.args.d.now
-    (Ok (c.args.device, replies.Refused NotMerging)))
-    (sym c.in-Merge.is)
+    of g.D.Disk c.args.device (option_map (λ s. s.now) c.args.staged) c.args.d.now
+    c.args.command.now _ _ _ c.in-Merge.is
     (still g.D.Disk c.args.device (option_map (λ s. s.now) c.args.staged) c.args.d.now
-    (Merge c.in-Merge.field-0) (replies.Refused NotMerging) c.args.d.now c.requires.kept c.requires.represents
+    (Merge c.in-Merge.field-0) (replies.Refused NotMerging) c.args.d.now
+    c.requires.kept c.requires.represents
     (λ t. refl)
     (reads_none g.D.Disk c.args.d.now) refl)
 
+pub returns-in-Ok : goal.returns-in-Ok
+returns-in-Ok g c =
+    of g.D.Disk c.args.device (option_map (λ s. s.now) c.args.staged) c.args.d.now
+    c.args.command.now _ _ _ c.in-Digest.is
+    (still g.D.Disk c.args.device (option_map (λ s. s.now) c.args.staged) c.args.d.now
+    (Digest c.in-Digest.name.now) c.in-Ok.reply c.digest.new.d
+    c.requires.kept c.requires.represents
+    (λ t. c.in-Ok.ensures.reply t)
+    c.in-Ok.ensures.reads c.in-Ok.ensures.faults.steady)
+
 pub returns-in-Err : goal.returns-in-Err
 returns-in-Err g c =
-    subst (λ (k : CommandOfCode). Promise g.D.Disk c.args.device
-    (option_map (λ s. s.now) c.args.staged) c.args.d.now k c.digest.new.d
-    (Err c.in-Err.fault))
-    (sym c.in-Digest.is)
+    of g.D.Disk c.args.device (option_map (λ s. s.now) c.args.staged) c.args.d.now
+    c.args.command.now _ _ _ c.in-Digest.is
     (fails_reading g.D.Disk c.args.device (option_map (λ s. s.now) c.args.staged)
     (Digest c.in-Digest.name.now)
     (IsOfCommand g.D.Disk.is_modelled c.args.device (g.D.Disk.seen c.args.d.now 4)
     (Digest c.in-Digest.name.now))
     c.in-Err.fault c.args.d.now c.digest.new.d c.in-Err.ensures.reads
     c.in-Err.ensures.faults.cause)
-
-pub returns-in-Ok : goal.returns-in-Ok
-returns-in-Ok g c =
-    subst (λ (k : CommandOfCode). Promise g.D.Disk c.args.device
-    (option_map (λ s. s.now) c.args.staged) c.args.d.now k c.digest.new.d
-    (Ok (c.args.device, c.in-Ok.reply)))
-    (sym c.in-Digest.is)
-    (still g.D.Disk c.args.device (option_map (λ s. s.now) c.args.staged) c.args.d.now
-    (Digest c.in-Digest.name.now) c.in-Ok.reply c.digest.new.d c.requires.kept
-    c.requires.represents
-    (λ t. c.in-Ok.ensures.reply t)
-    c.in-Ok.ensures.reads c.in-Ok.ensures.faults.steady)
