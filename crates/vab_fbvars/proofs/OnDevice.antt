@@ -15,17 +15,22 @@ use Rattle.vab_bootctl.specs.declared.slots.Info.{Info}
 use Rattle.vab_bootctl.specs.Boot.{info_at}
 use Rattle.vab_device.specs.declared.device.Part.{Part}
 use Rattle.vab_device.specs.declared.device.Device.{Device}
-use Rattle.vab_device.specs.Kept.{IsPart, ArePresent}
-use Rattle.vab_device.specs.Mounted.{state_on, images_on, image_on, bytes_at, entry_on, phase_on}
+use Rattle.vab_marks.specs.declared.mark.MarkPhase.{MarkPhase}
+use Rattle.vab_marks.specs.declared.mark.MarkPhase.TheVariants as marks
+use Rattle.vab_marks.specs.declared.mark.UpdateMark.{UpdateMark}
+use Rattle.vab_device.specs.Kept.{IsPart, ArePresent, IsDevice, is_installing, kind_of, phase_kind}
+use Rattle.vab_device.specs.Kept.{parts_at}
+use Rattle.vab_device.specs.Mounted.{state_on, images_on, image_on, bytes_at, entry_on, entries_on}
+use Rattle.vab_device.specs.Mounted.{phase_by, phase_on, unplanned, count_at}
 use Rattle.vab_names.specs.Names.{is_full, base_of}
 use Rattle.vab_layout.specs.Slots.{other_slot}
 use Rattle.vab_fbvars.specs.Planned.{planned_named, kept_planned, bytes_planned}
 use Rattle.vab_model.specs.State.{image_named, info_seen}
 use Rattle.vab_manager.specs.Found.{part_named}
-use Rattle.vab_manager.specs.Blocks.{image_at, parts_at}
+use Rattle.vab_manager.specs.Blocks.{image_at}
 use Rattle.vab_manager.proofs.BlockLaws.{image_of_part}
 use Rattle.vab_fbvars.specs.Variables.{slot_info, AreSectors, planned_in, entry_size, size_planned}
-use Rattle.vab_fbvars.specs.Variables.{status_text, entry_named}
+use Rattle.vab_fbvars.specs.Variables.{status_text, status_of, entry_named}
 
 -- ---- boot control
 
@@ -114,11 +119,52 @@ bytes_long image size blocks whole on_disk =
 
 -- ---- the plan
 
--- nothing is merged while an update is installed
-pub status_none : (slot : ℕ) (image : Image) (plan : Option (List Part))
-    → status_text (phase_on slot image plan) ≡ codes "OKAYnone"
-status_none slot image None = refl
-status_none slot image (Some plan) = refl
+-- what is told where nothing is planned
+status_unplanned : (p : MarkPhase) (slot left : ℕ)
+    → status_text (unplanned p slot left) ≡ status_of (kind_of p slot)
+status_unplanned marks.Idle slot left = refl
+status_unplanned marks.Installing slot left = refl
+status_unplanned marks.Staged slot left = refl
+status_unplanned marks.Merging slot left = refl
+status_unplanned marks.Completed slot left = refl
+
+-- and where an update is installed
+status_planned : (p : MarkPhase) (slot : ℕ)
+    → is_installing p ≡ true
+    → codes "OKAYnone" ≡ status_of (kind_of p slot)
+status_planned marks.Idle slot is = absurd cc
+status_planned marks.Installing slot is = refl
+status_planned marks.Staged slot is = absurd cc
+status_planned marks.Merging slot is = absurd cc
+status_planned marks.Completed slot is = absurd cc
+
+status_by : (m : UpdateMark) (left : ℕ) (image : Image) (plan : Option (List Part))
+    → is_some plan ≡ is_installing m.phase
+    → status_text (phase_by m left (entries_on image plan)) ≡ status_of (kind_of m.phase m.slot)
+status_by m left image None is = status_unplanned m.phase m.slot left
+status_by m left image (Some plan) is = status_planned m.phase m.slot (sym is)
+
+-- what is told of an update is what is kept of it
+pub status_on : (d : Device) (size : ℕ) (image : Image)
+    → IsDevice d size
+    → status_text (phase_on d image) ≡ status_of (phase_kind d)
+status_on d size image is =
+    status_by d.mark (count_at d.a + count_at d.b) image d.plan is.planned
+
+none_in : (p : MarkPhase) (slot left : ℕ) → planned_in (unplanned p slot left) ≡ []
+none_in marks.Idle slot left = refl
+none_in marks.Installing slot left = refl
+none_in marks.Staged slot left = refl
+none_in marks.Merging slot left = refl
+none_in marks.Completed slot left = refl
+
+no_size : (p : MarkPhase) (slot left : ℕ) (name : List ℕ)
+    → size_planned (unplanned p slot left) name ≡ None
+no_size marks.Idle slot left name = refl
+no_size marks.Installing slot left name = refl
+no_size marks.Staged slot left name = refl
+no_size marks.Merging slot left name = refl
+no_size marks.Completed slot left name = refl
 
 entry_mapped : (image : Image) (base : List ℕ) (plan : List Part)
     → entry_named base (map (entry_on image) plan)
@@ -130,18 +176,18 @@ entry_mapped image base (p ∷ ps) = elim (cases_Bool (bytes_eq p.name base)) [
 ]
 
 -- the planned partition of a base name
-entry_kept : (slot : ℕ) (image : Image) (base : List ℕ) (plan : Option (List Part))
-    → entry_named base (planned_in (phase_on slot image plan))
+entry_kept : (m : UpdateMark) (left : ℕ) (image : Image) (base : List ℕ) (plan : Option (List Part))
+    → entry_named base (planned_in (phase_by m left (entries_on image plan)))
     ≡ option_map (entry_on image) (kept_planned base plan)
-entry_kept slot image base None = refl
-entry_kept slot image base (Some plan) = entry_mapped image base plan
+entry_kept m left image base None = ap (entry_named base) (none_in m.phase m.slot left)
+entry_kept m left image base (Some plan) = entry_mapped image base plan
 
 pub planned_on : (d : Device) (image : Image) (base : List ℕ)
     → is_some (entry_named base (planned_in (state_on d image).phase))
     ≡ is_some (kept_planned base d.plan)
 unfolding state_on
 planned_on d image base =
-    ap is_some (entry_kept d.mark.slot image base d.plan)
+    ap is_some (entry_kept d.mark (count_at d.a + count_at d.b) image base d.plan)
     ∙ is_mapped (entry_on image) (kept_planned base d.plan)
 
 size_mapped : (image : Image) (o : Option Part)
@@ -149,19 +195,32 @@ size_mapped : (image : Image) (o : Option Part)
 size_mapped image None = refl
 size_mapped image (Some p) = refl
 
-pub none_planned : (slot : ℕ) (image : Image) (name : List ℕ) (plan : Option (List Part))
-    → is_full (other_slot slot) name ≡ false
-    → size_planned (phase_on slot image plan) name ≡ None
-none_planned slot image name None other = refl
-none_planned slot image name (Some plan) other = rw other refl
+none_by : (m : UpdateMark) (left : ℕ) (image : Image) (name : List ℕ) (plan : Option (List Part))
+    → is_full (other_slot m.slot) name ≡ false
+    → size_planned (phase_by m left (entries_on image plan)) name ≡ None
+none_by m left image name None other = no_size m.phase m.slot left name
+none_by m left image name (Some plan) other = rw other refl
 
-pub some_planned : (slot : ℕ) (image : Image) (name : List ℕ) (plan : Option (List Part))
-    → is_full (other_slot slot) name ≡ true
-    → size_planned (phase_on slot image plan) name ≡ bytes_planned (kept_planned (base_of name) plan)
-some_planned slot image name None own = refl
-some_planned slot image name (Some plan) own =
+pub none_planned : (d : Device) (image : Image) (name : List ℕ)
+    → is_full (other_slot d.mark.slot) name ≡ false
+    → size_planned (phase_on d image) name ≡ None
+none_planned d image name other =
+    none_by d.mark (count_at d.a + count_at d.b) image name d.plan other
+
+some_by : (m : UpdateMark) (left : ℕ) (image : Image) (name : List ℕ) (plan : Option (List Part))
+    → is_full (other_slot m.slot) name ≡ true
+    → size_planned (phase_by m left (entries_on image plan)) name
+    ≡ bytes_planned (kept_planned (base_of name) plan)
+some_by m left image name None own = no_size m.phase m.slot left name
+some_by m left image name (Some plan) own =
     rw own (ap entry_size (entry_mapped image (base_of name) plan)
     ∙ size_mapped image (planned_named (base_of name) plan))
+
+pub some_planned : (d : Device) (image : Image) (name : List ℕ)
+    → is_full (other_slot d.mark.slot) name ≡ true
+    → size_planned (phase_on d image) name ≡ bytes_planned (kept_planned (base_of name) d.plan)
+some_planned d image name own =
+    some_by d.mark (count_at d.a + count_at d.b) image name d.plan own
 
 -- the rules of a planned partition that was found
 pub planned_small : (size : ℕ) (base : List ℕ) (plan : List Part) (p : Part)

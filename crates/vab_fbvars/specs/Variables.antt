@@ -15,6 +15,8 @@ use Rattle.vab_layout.specs.Slots.{other_slot}
 use Rattle.vab_model.specs.declared.state.PlanEntry.{PlanEntry}
 use Rattle.vab_model.specs.State.{images_at, image_named}
 use Rattle.vab_model.specs.Effects.{Found, Image_is, Refused_by, found_of}
+use Rattle.vab_device.specs.declared.device.PhaseKind.{PhaseKind}
+use Rattle.vab_device.specs.declared.device.PhaseKind.TheVariants as kinds
 use Rattle.vab_fbproto.specs.Texts.{slot_letter}
 use Rattle.vab_fbproto.specs.Requests.{Variable, Version, CurrentSlot, SlotCount, MaxDownloadSize}
 use Rattle.vab_fbproto.specs.Requests.{HasSlot, SlotSuccessful, SlotUnbootable, SlotRetryCount}
@@ -109,6 +111,13 @@ status_text Idle = codes "OKAYnone"
 status_text (Installing source plan) = codes "OKAYnone"
 status_text (Staged source left) = codes "OKAYsnapshotted"
 status_text (Merging target left) = codes "OKAYmerging"
+
+-- the same by what is kept of it
+abbrev pub status_of : PhaseKind → List ℕ
+status_of kinds.Idle = codes "OKAYnone"
+status_of (kinds.Installing source) = codes "OKAYnone"
+status_of (kinds.Staged source) = codes "OKAYsnapshotted"
+status_of (kinds.Merging target) = codes "OKAYmerging"
 
 -- what is told of a variable
 unfoldable pub variable_text : State → Variable → List ℕ

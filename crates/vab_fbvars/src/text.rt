@@ -5,13 +5,13 @@ ghost use Rattle.vab_device.specs.Kept.{IsDevice};
 ghost use Rattle.vab_device.specs.Mounted.{state_on};
 ghost use Rattle.vab_fbproto.specs.Requests.{variable_of};
 ghost use Rattle.vab_fbproto.specs.Texts.{slot_letter as letter_of};
-ghost use Rattle.vab_fbvars.specs.Variables.{AreSectors, yes_or_no, size_text, variable_text};
+ghost use Rattle.vab_fbvars.specs.Variables.{AreSectors, yes_or_no, size_text, status_of, variable_text};
 
 use crate::images::{has_base, size_of};
 use crate::put_hexadecimal;
 use crate::slots::{is_successful, is_unbootable, slot_info, tries_left};
 use arrayvec::ArrayVec;
-use vab_device::Device;
+use vab_device::{Device, PhaseKind};
 use vab_fbproto::{Var, put, put_decimal, slot_letter};
 
 // `yes` or `no`.
@@ -62,6 +62,20 @@ fn put_size(size: Option<u64>, out: &mut ArrayVec<u8, 256>)
     }
 }
 
+// Whether an update is ready or merged.
+fn put_status(phase: PhaseKind, out: &mut ArrayVec<u8, 256>)
+    requires { out.old.items ≡ [] }
+    ensures text { out.new.items ≡ status_of phase }
+    ensures short { length out.new.items ≤ 256 }
+{
+    match phase {
+        PhaseKind::Idle => put(b"OKAYnone", out),
+        PhaseKind::Installing(_) => put(b"OKAYnone", out),
+        PhaseKind::Staged(_) => put(b"OKAYsnapshotted", out),
+        PhaseKind::Merging(_) => put(b"OKAYmerging", out),
+    }
+}
+
 /// What is told of a variable of a device: `OKAY` and its value, or `FAIL` where it isn't known or
 /// its partition isn't. Nothing is read from the disk.
 #[tactic(auto, unfolding(crate::specs::Variables::variable_text))]
@@ -85,8 +99,7 @@ pub fn variable(device: &Device, variable: &Var, out: &mut ArrayVec<u8, 256>)
         Var::SlotRetryCount(slot) => put_count(tries_left(slot_info(device, *slot)), out),
         Var::PartitionSize(name) => put_size(size_of(device, name), out),
         Var::IsLogical(name) => put_answer(size_of(device, name).is_some(), out),
-        // Nothing is merged yet.
-        Var::SnapshotUpdateStatus => put(b"OKAYnone", out),
+        Var::SnapshotUpdateStatus => put_status(device.phase(), out),
         Var::Unknown => put(b"FAILunknown variable", out),
     }
 }

@@ -1,9 +1,7 @@
-use Rattle.std.proofs.Common.{◌∙◌, ◌≤◌, ◌*◌, ◌^◌, ℕ, List, length, Option, Some, None, sym, ap, subst}
+use Rattle.std.proofs.Common.{◌∙◌, ◌*◌, ℕ, List, Some, sym, ap}
 use Rattle.std.proofs.Common.{arith}
 use Rattle.std.specs.Option.{option_copied}
-use Rattle.vab_names.specs.Names.{base_of}
 use Rattle.vab_model.proofs.Names.{full_long}
-use Rattle.vab_device.specs.declared.device.Part.{Part}
 use Rattle.vab_device.specs.Mounted.{state_on}
 use Rattle.vab_fbvars.specs.Planned.{kept_planned, bytes_planned}
 use Rattle.vab_fbvars.proofs.OnDevice.{none_planned, some_planned, kept_small}
@@ -13,7 +11,7 @@ pub returns-then-not-is_full : goal.returns-then-not-is_full
 unfolding state_on
 returns-then-not-is_full c = λ image.
     let d = c.args.device.now in
-    none_planned d.mark.slot image c.args.name.now d.plan
+    none_planned d image c.args.name.now
     (sym c.is_full.ensures ∙ c.if-not-is_full.true)
 
 pub base_of-requires : goal.base_of-requires
@@ -33,7 +31,7 @@ unfolding state_on
 returns-in-Some c = λ image.
     let d = c.args.device.now in
     let found = sym c.planned.ensures ∙ ap option_copied c.in-Some.is in
-    some_planned d.mark.slot image c.args.name.now d.plan
+    some_planned d image c.args.name.now
     (sym c.is_full.ensures ∙ c.if-not-is_full.false)
     ∙ ap (λ (b : List ℕ). bytes_planned (kept_planned b d.plan)) (sym c.base_of.ensures)
     ∙ ap bytes_planned found
@@ -44,7 +42,7 @@ unfolding state_on
 returns-in-None c = λ image.
     let d = c.args.device.now in
     let found = sym c.planned.ensures ∙ ap option_copied c.in-None.is in
-    some_planned d.mark.slot image c.args.name.now d.plan
+    some_planned d image c.args.name.now
     (sym c.is_full.ensures ∙ c.if-not-is_full.false)
     ∙ ap (λ (b : List ℕ). bytes_planned (kept_planned b d.plan)) (sym c.base_of.ensures)
     ∙ ap bytes_planned found

@@ -2,8 +2,9 @@ use Rattle.std.proofs.Common.{◌∙◌, ℕ, ◌*◌, Some, length, sym, ap, ar
 use Rattle.vab_names.specs.Names.{base_of}
 use Rattle.vab_device.specs.declared.device.Part.{Part}
 use Rattle.vab_manager.proofs.BlockLaws.{kept_once, part_kept}
+use Rattle.vab_manager.proofs.SeenLaws.{read_long, read_on_disk}
 use Rattle.vab_model.specs.Effects.{Found}
-use Rattle.vab_device.specs.Mounted.{state_on}
+use Rattle.vab_device.specs.Mounted.{state_on, sectors_read}
 use Rattle.vab_fbvars.specs.Variables.{size_found, size_planned, or_else}
 use Rattle.vab_fbvars.proofs.OnDevice.{bytes_long}
 use Rattle.vab_fbvars.proofs.images.size_of.Goals as goal
@@ -28,7 +29,8 @@ returns-in-Ok c = λ size image is sectors.
     found.1
     ∙ ap (λ (n : ℕ). Some n)
     (ap length found.4
-    ∙ bytes_long image size found.2.map sectors kept.on_disk
+    ∙ bytes_long image size (sectors_read found.2) sectors (read_on_disk size found.2 kept)
+    ∙ ap (λ (n : ℕ). 4096 * n) (read_long found.2)
     ∙ ap (λ (p : Part). 4096 * length p.map) same
     ∙ ap (λ (n : ℕ). 4096 * n) (sym part.4))
 
