@@ -40,7 +40,7 @@ use Rattle.vab_lpstore.specs.declared.loaded.Loaded.{Loaded}
 use Rattle.vab_builder.proofs.NameCases.{store_is_store}
 use Rattle.vab_layout.specs.Slots.{store_parts, is_updated, IsTarget}
 use Rattle.vab_device.specs.Kept.{IsStore, IsStored, IsPart, AreParts, AreOfUpdate, IsPhase}
-use Rattle.vab_device.specs.Kept.{is_installing}
+use Rattle.vab_device.specs.Kept.{has_slot, reads_both}
 use Rattle.vab_device.specs.Phases.{store_on, planned_image, planned_on, plan_of}
 use Rattle.vab_device.specs.Reading.{kept}
 use Rattle.vab_device.specs.Stores.{Scanned, first_named, exceptions_of}
@@ -94,6 +94,7 @@ part_is size first cap p base on below once small = record {
   on_disk = sectors_on first cap size p.blocks on below;
   once = sectors_distinct first p.blocks once;
   small = omega (arith, small, length-sectors_of first p.blocks);
+  store = tt;
 }
 
 -- ---- a slot's own partitions
@@ -275,16 +276,17 @@ module _
 by_case : (size : ℕ) (phase : MarkPhase) (slot : ℕ) (statuses : List (Option PartStatus)) (c : Control)
     (g : Geometry) (s : Table) (t : Option Loaded) (ss : List Scanned)
     → AreHeads size (record { phase = phase; slot = slot }) c g
-    → c.current ≡ slot
+    → has_slot phase slot c.current ≡ true
     → IsTableOf size g slot s
     → IfSome t (λ l. IsTableOf size g (other_slot slot) l.table)
     → IfSome t (λ l. AreOfUpdate slot s l.table)
-    → is_some t ≡ is_installing phase
+    → is_some t ≡ reads_both phase
     → IfSome t (λ l. AreParts size (plan_of (other_slot slot) (layout_of l.table) ss))
     → AreParts size (parts_of slot (layout_of s))
     → (let m : UpdateMark = record { phase = phase; slot = slot } in
     IsDevice (record (kept (read_of m statuses c g (s ∷ target_tables t) ss)) { control = c }) size)
-by_case size marks.Idle zero statuses c g s None ss heads current source target update both plan parts =
+by_case size marks.Idle zero statuses c g s None ss
+    heads current source target update both plan parts =
     record {
       enough = heads.enough;
       geometry = heads.geometry;
@@ -305,7 +307,8 @@ by_case size marks.Idle zero statuses c g s None ss heads current source target 
       plan = tt;
       update = tt;
     }
-by_case size marks.Idle (suc zero) statuses c g s None ss heads current source target update both plan parts =
+by_case size marks.Idle (suc zero) statuses c g s None ss
+    heads current source target update both plan parts =
     record {
       enough = heads.enough;
       geometry = heads.geometry;
@@ -326,12 +329,13 @@ by_case size marks.Idle (suc zero) statuses c g s None ss heads current source t
       plan = tt;
       update = tt;
     }
-by_case size marks.Installing zero statuses c g s (Some l) ss heads current source target update both plan parts =
+by_case size marks.Installing zero statuses c g s (Some l) ss
+    heads current source target update both plan parts =
     record {
       enough = heads.enough;
       geometry = heads.geometry;
       control = heads.control;
-      phase = inr refl;
+      phase = inr (inl refl);
       slot = heads.slot;
       current = current;
       has_a = refl;
@@ -347,12 +351,13 @@ by_case size marks.Installing zero statuses c g s (Some l) ss heads current sour
       plan = plan;
       update = update;
     }
-by_case size marks.Installing (suc zero) statuses c g s (Some l) ss heads current source target update both plan parts =
+by_case size marks.Installing (suc zero) statuses c g s (Some l) ss
+    heads current source target update both plan parts =
     record {
       enough = heads.enough;
       geometry = heads.geometry;
       control = heads.control;
-      phase = inr refl;
+      phase = inr (inl refl);
       slot = heads.slot;
       current = current;
       has_a = refl;
@@ -368,44 +373,97 @@ by_case size marks.Installing (suc zero) statuses c g s (Some l) ss heads curren
       plan = plan;
       update = update;
     }
-by_case size phase (suc (suc n)) statuses c g s t ss heads current source target update both plan parts =
+by_case size marks.Staged zero statuses c g s (Some l) ss
+    heads current source target update both plan parts =
+    record {
+      enough = heads.enough;
+      geometry = heads.geometry;
+      control = heads.control;
+      phase = inr (inr refl);
+      slot = heads.slot;
+      current = refl;
+      has_a = refl;
+      has_b = refl;
+      copies_on = heads.copies_on;
+      parts_a = parts;
+      parts_b = plan;
+      table_a = source;
+      table_b = target;
+      source = refl;
+      target = refl;
+      planned = refl;
+      plan = tt;
+      update = update;
+    }
+by_case size marks.Staged (suc zero) statuses c g s (Some l) ss
+    heads current source target update both plan parts =
+    record {
+      enough = heads.enough;
+      geometry = heads.geometry;
+      control = heads.control;
+      phase = inr (inr refl);
+      slot = heads.slot;
+      current = refl;
+      has_a = refl;
+      has_b = refl;
+      copies_on = heads.copies_on;
+      parts_a = plan;
+      parts_b = parts;
+      table_a = target;
+      table_b = source;
+      source = refl;
+      target = refl;
+      planned = refl;
+      plan = tt;
+      update = update;
+    }
+by_case size phase (suc (suc n)) statuses c g s t ss
+    heads current source target update both plan parts =
     absurd (omega (arith, heads.slot))
-by_case size marks.Idle zero statuses c g s (Some l) ss heads current source target update both plan parts =
+by_case size marks.Idle zero statuses c g s (Some l) ss
+    heads current source target update both plan parts =
     absurd (let no : true ≡ false = both in cc)
-by_case size marks.Idle (suc zero) statuses c g s (Some l) ss heads current source target update both plan parts =
+by_case size marks.Idle (suc zero) statuses c g s (Some l) ss
+    heads current source target update both plan parts =
     absurd (let no : true ≡ false = both in cc)
-by_case size marks.Installing zero statuses c g s None ss heads current source target update both plan parts =
+by_case size marks.Installing zero statuses c g s None ss
+    heads current source target update both plan parts =
     absurd (let no : false ≡ true = both in cc)
-by_case size marks.Installing (suc zero) statuses c g s None ss heads current source target update both plan parts =
+by_case size marks.Installing (suc zero) statuses c g s None ss
+    heads current source target update both plan parts =
     absurd (let no : false ≡ true = both in cc)
-by_case size marks.Staged slot statuses c g s t ss heads current source target update both plan parts =
-    absurd (no_staged heads.phase)
+by_case size marks.Staged zero statuses c g s None ss
+    heads current source target update both plan parts =
+    absurd (let no : false ≡ true = both in cc)
+by_case size marks.Staged (suc zero) statuses c g s None ss
+    heads current source target update both plan parts =
+    absurd (let no : false ≡ true = both in cc)
+by_case size marks.Merging slot statuses c g s t ss
+    heads current source target update both plan parts =
+    absurd (no_phase heads.phase)
   where
-    no_staged : IsPhase marks.Staged → ⊥
-    no_staged (inl e) = absurd (let no : marks.Staged ≡ marks.Idle = e in cc)
-    no_staged (inr e) = absurd (let no : marks.Staged ≡ marks.Installing = e in cc)
-by_case size marks.Merging slot statuses c g s t ss heads current source target update both plan parts =
-    absurd (no_merging heads.phase)
+    no_phase : IsPhase marks.Merging → ⊥
+    no_phase (inl e) = absurd (let no : marks.Merging ≡ marks.Idle = e in cc)
+    no_phase (inr (inl e)) = absurd (let no : marks.Merging ≡ marks.Installing = e in cc)
+    no_phase (inr (inr e)) = absurd (let no : marks.Merging ≡ marks.Staged = e in cc)
+by_case size marks.Completed slot statuses c g s t ss
+    heads current source target update both plan parts =
+    absurd (no_phase heads.phase)
   where
-    no_merging : IsPhase marks.Merging → ⊥
-    no_merging (inl e) = absurd (let no : marks.Merging ≡ marks.Idle = e in cc)
-    no_merging (inr e) = absurd (let no : marks.Merging ≡ marks.Installing = e in cc)
-by_case size marks.Completed slot statuses c g s t ss heads current source target update both plan parts =
-    absurd (no_completed heads.phase)
-  where
-    no_completed : IsPhase marks.Completed → ⊥
-    no_completed (inl e) = absurd (let no : marks.Completed ≡ marks.Idle = e in cc)
-    no_completed (inr e) = absurd (let no : marks.Completed ≡ marks.Installing = e in cc)
+    no_phase : IsPhase marks.Completed → ⊥
+    no_phase (inl e) = absurd (let no : marks.Completed ≡ marks.Idle = e in cc)
+    no_phase (inr (inl e)) = absurd (let no : marks.Completed ≡ marks.Installing = e in cc)
+    no_phase (inr (inr e)) = absurd (let no : marks.Completed ≡ marks.Staged = e in cc)
 
 -- What was read of a disk of so many sectors is a device there.
 pub device_kept : (size : ℕ) (m : UpdateMark) (statuses : List (Option PartStatus)) (c : Control)
     (g : Geometry) (s : Table) (t : Option Loaded) (ss : List Scanned)
     → AreHeads size m c g
-    → c.current ≡ m.slot
+    → has_slot m.phase m.slot c.current ≡ true
     → IsTableOf size g m.slot s
     → IfSome t (λ l. IsTableOf size g (other_slot m.slot) l.table)
     → IfSome t (λ l. AreOfUpdate m.slot s l.table)
-    → is_some t ≡ is_installing m.phase
+    → is_some t ≡ reads_both m.phase
     → IfSome t (λ l. AreParts size (plan_of (other_slot m.slot) (layout_of l.table) ss))
     → IsDevice (record (kept (read_of m statuses c g (s ∷ target_tables t) ss)) { control = c }) size
 device_kept size m statuses c g s t ss heads current source target update both plan =

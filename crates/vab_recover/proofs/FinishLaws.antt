@@ -1,5 +1,5 @@
 -- What is known of a device whose parts were judged.
-use Rattle.std.proofs.Common.{◌≡◌, ℕ, ◌+◌, ◌≤◌, List, sym, subst}
+use Rattle.std.proofs.Common.{◌≡◌, ℕ, ◌+◌, ◌≤◌, true, List, sym, subst}
 use Rattle.std.specs.Prelude.{Option, Some, None, IfSome, All}
 use Rattle.vab_bootctl.specs.declared.slots.Control.{Control}
 use Rattle.vab_marks.specs.declared.mark.UpdateMark.{UpdateMark}
@@ -12,7 +12,7 @@ use Rattle.vab_layout.specs.Layout.{layout_of}
 use Rattle.vab_layout.specs.Slots.{other_slot, IsOwn}
 use Rattle.vab_device.specs.declared.device.Device.{Device}
 use Rattle.vab_device.specs.declared.device.Part.{Part}
-use Rattle.vab_device.specs.Kept.{IsTableOf, AreParts, AreOfUpdate, IsDevice}
+use Rattle.vab_device.specs.Kept.{has_slot, IsTableOf, AreParts, AreOfUpdate, IsDevice}
 use Rattle.vab_device.specs.Phases.{plan_of}
 use Rattle.vab_device.specs.Stores.{Scanned}
 use Rattle.vab_recover.specs.declared.table.Tables.{Tables}
@@ -90,19 +90,19 @@ module _ (size slot : ℕ) (g : Geometry) (s : Table) (t : Option Loaded) where
 
 -- the device that was put together is one on the disk
 pub assembled_kept : (size : ℕ) (d : Device) (t : Tables) (m : UpdateMark)
-    (ss : List (Option PartStatus)) (c : Control) (g : Geometry) (plan : Option (List Part))
+    (ss : List (Option PartStatus)) (c : Control) (g : Geometry) (target : Option (List Part))
     (scanned : List Scanned)
     → AreHeads size m c g
     → AreTablesThere size g m t
-    → c.current ≡ m.slot
+    → has_slot m.phase m.slot c.current ≡ true
     → IsOwn m.slot (layout_of t.source.table).parts
     → IfSome t.target (λ l. AreOfUpdate m.slot t.source.table l.table)
-    → IsAssembled d m c g t.source.table plan
-    → plan ≡ plan_by m.slot t.target scanned
+    → IsAssembled d m c g t.source.table target
+    → target ≡ plan_by m.slot t.target scanned
     → IfSome t.target (λ l. All (IsScanned (other_slot m.slot) (layout_of l.table)) scanned)
     → IsDevice (with_tables t d) size
-assembled_kept size d t m ss c g plan scanned heads there current own update is planned are =
-    let kept = kept_is d t m ss c g plan scanned heads.phase heads.slot there.both is planned in
+assembled_kept size d t m ss c g target scanned heads there current own update is planned are =
+    let kept = kept_is d t m ss c g target scanned heads.phase heads.slot there.both is planned in
     subst (λ (x : Device). IsDevice x size) (sym kept)
     (device_kept size m ss c g t.source.table t.target scanned heads current
     (record {

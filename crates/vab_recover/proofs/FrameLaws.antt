@@ -13,33 +13,31 @@ use Rattle.vab_statuses.specs.Statuses.{written_in}
 use Rattle.vab_geometry.specs.declared.geometry.Geometry.{Geometry}
 use Rattle.vab_tables.specs.declared.table.Table.{Table}
 use Rattle.vab_lpstore.specs.declared.loaded.Loaded.{Loaded}
-use Rattle.vab_layout.specs.Layout.{layout_of}
 use Rattle.vab_layout.specs.Slots.{other_slot}
 use Rattle.vab_device.specs.declared.fault.StartFault.{StartFault}
 use Rattle.vab_device.specs.declared.device.Device.{Device}
 use Rattle.vab_device.specs.declared.device.Part.{Part}
 use Rattle.vab_device.specs.Checks.{first_fault}
-use Rattle.vab_device.specs.Idle.{control_read_of}
-use Rattle.vab_device.specs.Kept.{is_installing, IsPhase, parts_of}
-use Rattle.vab_device.specs.Phases.{phase_at, own_check, slot_checks}
-use Rattle.vab_device.specs.Reading.{Read, control_in}
-use Rattle.vab_device.specs.Reading.{geometry_at, table_at, tables_in, table_for, parts_for}
+use Rattle.vab_device.specs.Kept.{has_both, reads_both, IsPhase}
+use Rattle.vab_device.specs.Phases.{phase_at, own_check}
+use Rattle.vab_device.specs.Reading.{Read, control_in, control_kept}
+use Rattle.vab_device.specs.Reading.{geometry_at, tables_in, table_for, parts_for}
 use Rattle.vab_device.specs.Reading.{state_fault, stores_of, kept, device, Reads}
 use Rattle.vab_device.specs.Stores.{Wanted, Scanned, scans_in}
 use Rattle.vab_device.proofs.OpeningLaws.{device_no_control, device_no_geometry}
 use Rattle.vab_device.proofs.OpeningLaws.{device_no_tables, device_judged, device_scanned}
 use Rattle.vab_device.proofs.OpeningLaws.{device_stated, reads_of, control_seen_in, or_first}
-use Rattle.vab_device.proofs.ReadingLaws.{FrameReads, state_single, seen_single}
+use Rattle.vab_device.proofs.ReadingLaws.{FrameReads, seen_slots}
 use Rattle.vab_recover.specs.declared.frame.Frame.{Frame}
 use Rattle.vab_recover.specs.declared.table.Tables.{Tables}
 use Rattle.vab_recover.specs.Opened.{read_of, IsMarked, IsHeaded, IsFramed, target_tables}
-use Rattle.vab_recover.specs.Opened.{tables_of}
+use Rattle.vab_recover.specs.Opened.{tables_of, slots_fault, slot_parts}
 use Rattle.vab_recover.specs.Opened.{target_slots, fault_of, stores_by, plan_by, IsAssembled}
 use Rattle.vab_recover.specs.Opened.{with_tables, table_if, IsOpened, AreLoaded}
 
 -- ---- a phase and the tables that are read in it
 
-pub reads_if : (m : MarkPhase) → (phase_at m).reads_statuses ≡ is_installing m
+pub reads_if : (m : MarkPhase) → (phase_at m).reads_statuses ≡ reads_both m
 reads_if marks.Idle = refl
 reads_if marks.Installing = refl
 reads_if marks.Staged = refl
@@ -52,14 +50,17 @@ tables_split m = by_phase m.phase m.slot
   where
     by_phase : (phase : MarkPhase) (slot : ℕ)
         → (phase_at phase).tables slot
-        ≡ slot ∷ (if is_installing phase then other_slot slot ∷ [] else [])
+        ≡ slot ∷ (if reads_both phase then other_slot slot ∷ [] else [])
     by_phase marks.Idle slot = refl
     by_phase marks.Installing slot = refl
     by_phase marks.Staged slot = refl
     by_phase marks.Merging slot = refl
     by_phase marks.Completed slot = refl
 
--- what the phase makes of the tables that were read
+abbrev marked : MarkPhase → ℕ → UpdateMark
+marked phase slot = record { phase = phase; slot = slot }
+
+-- what the phase makes of the tables that were read, and of the stores
 pub record IsOfPhase
     (phase : MarkPhase)
     (slot : ℕ)
@@ -68,13 +69,21 @@ pub record IsOfPhase
   pub parts : first_fault ((phase_at phase).part_checks slot (s ∷ target_tables t)) ≡ fault_of slot s t
   pub stores : (sts : List PartStatus)
       → (phase_at phase).stores slot (s ∷ target_tables t) sts ≡ stores_by slot t sts
+  pub state : (c : Control) (ss : List Scanned)
+      → first_fault
+      ((phase_at phase).state_checks slot (control_kept (marked phase slot) c)
+      (s ∷ target_tables t) ss)
+      ≡ slots_fault (marked phase slot) c (plan_by slot t ss)
   pub plan : (ss : List Scanned)
-      → (phase_at phase).plan slot (s ∷ target_tables t) ss ≡ plan_by slot t ss
-  pub a : (if slot == 0 then Some (parts_of slot (layout_of s)) else None)
-      ≡ parts_for 0 ((phase_at phase).has_a slot)
+      → (if has_both phase then None else plan_by slot t ss)
+      ≡ (phase_at phase).plan slot (s ∷ target_tables t) ss
+  pub a : (ss : List Scanned)
+      → slot_parts (marked phase slot) 0 s (plan_by slot t ss)
+      ≡ parts_for 0 ((phase_at phase).has_a slot) ((phase_at phase).through slot 0) ss
       (table_for 0 ((phase_at phase).tables slot) (s ∷ target_tables t))
-  pub b : (if slot == 1 then Some (parts_of slot (layout_of s)) else None)
-      ≡ parts_for 1 ((phase_at phase).has_b slot)
+  pub b : (ss : List Scanned)
+      → slot_parts (marked phase slot) 1 s (plan_by slot t ss)
+      ≡ parts_for 1 ((phase_at phase).has_b slot) ((phase_at phase).through slot 1) ss
       (table_for 1 ((phase_at phase).tables slot) (s ∷ target_tables t))
   pub table_a : table_if (slot == 0) s t
       ≡ table_for 0 ((phase_at phase).tables slot) (s ∷ target_tables t)
@@ -84,70 +93,100 @@ pub record IsOfPhase
 of_phase : (phase : MarkPhase) (slot : ℕ) (s : Table) (t : Option Loaded)
     → IsPhase phase
     → slot < 2
-    → is_some t ≡ is_installing phase
+    → is_some t ≡ reads_both phase
     → IsOfPhase phase slot s t
 of_phase marks.Idle zero s None is below both = record {
   parts = or_first (own_check 0 s);
   stores = λ sts. refl;
+  state = λ c ss. refl;
   plan = λ ss. refl;
-  a = refl;
-  b = refl;
+  a = λ ss. refl;
+  b = λ ss. refl;
   table_a = refl;
   table_b = refl;
 }
 of_phase marks.Idle (suc zero) s None is below both = record {
   parts = or_first (own_check 1 s);
   stores = λ sts. refl;
+  state = λ c ss. refl;
   plan = λ ss. refl;
-  a = refl;
-  b = refl;
+  a = λ ss. refl;
+  b = λ ss. refl;
   table_a = refl;
   table_b = refl;
 }
 of_phase marks.Installing zero s (Some l) is below both = record {
   parts = refl;
   stores = λ sts. refl;
+  state = λ c ss. refl;
   plan = λ ss. refl;
-  a = refl;
-  b = refl;
+  a = λ ss. refl;
+  b = λ ss. refl;
   table_a = refl;
   table_b = refl;
 }
 of_phase marks.Installing (suc zero) s (Some l) is below both = record {
   parts = refl;
   stores = λ sts. refl;
+  state = λ c ss. refl;
   plan = λ ss. refl;
-  a = refl;
-  b = refl;
+  a = λ ss. refl;
+  b = λ ss. refl;
+  table_a = refl;
+  table_b = refl;
+}
+of_phase marks.Staged zero s (Some l) is below both = record {
+  parts = refl;
+  stores = λ sts. refl;
+  state = λ c ss. refl;
+  plan = λ ss. refl;
+  a = λ ss. refl;
+  b = λ ss. refl;
+  table_a = refl;
+  table_b = refl;
+}
+of_phase marks.Staged (suc zero) s (Some l) is below both = record {
+  parts = refl;
+  stores = λ sts. refl;
+  state = λ c ss. refl;
+  plan = λ ss. refl;
+  a = λ ss. refl;
+  b = λ ss. refl;
   table_a = refl;
   table_b = refl;
 }
 of_phase phase (suc (suc n)) s t is below both = absurd (omega (arith, below))
-of_phase marks.Idle zero s (Some l) is below both = absurd (let no : true ≡ false = both in cc)
+of_phase marks.Idle zero s (Some l) is below both =
+    absurd (let no : true ≡ false = both in cc)
 of_phase marks.Idle (suc zero) s (Some l) is below both =
     absurd (let no : true ≡ false = both in cc)
-of_phase marks.Installing zero s None is below both = absurd (let no : false ≡ true = both in cc)
+of_phase marks.Installing zero s None is below both =
+    absurd (let no : false ≡ true = both in cc)
 of_phase marks.Installing (suc zero) s None is below both =
     absurd (let no : false ≡ true = both in cc)
-of_phase marks.Staged slot s t (inl e) below both =
-    absurd (let no : marks.Staged ≡ marks.Idle = e in cc)
-of_phase marks.Staged slot s t (inr e) below both =
-    absurd (let no : marks.Staged ≡ marks.Installing = e in cc)
-of_phase marks.Merging slot s t (inl e) below both =
-    absurd (let no : marks.Merging ≡ marks.Idle = e in cc)
-of_phase marks.Merging slot s t (inr e) below both =
-    absurd (let no : marks.Merging ≡ marks.Installing = e in cc)
-of_phase marks.Completed slot s t (inl e) below both =
-    absurd (let no : marks.Completed ≡ marks.Idle = e in cc)
-of_phase marks.Completed slot s t (inr e) below both =
-    absurd (let no : marks.Completed ≡ marks.Installing = e in cc)
+of_phase marks.Staged zero s None is below both =
+    absurd (let no : false ≡ true = both in cc)
+of_phase marks.Staged (suc zero) s None is below both =
+    absurd (let no : false ≡ true = both in cc)
+of_phase marks.Merging slot s t is below both = absurd (no_phase is)
+  where
+    no_phase : IsPhase marks.Merging → ⊥
+    no_phase (inl e) = absurd (let no : marks.Merging ≡ marks.Idle = e in cc)
+    no_phase (inr (inl e)) = absurd (let no : marks.Merging ≡ marks.Installing = e in cc)
+    no_phase (inr (inr e)) = absurd (let no : marks.Merging ≡ marks.Staged = e in cc)
+of_phase marks.Completed slot s t is below both = absurd (no_phase is)
+  where
+    no_phase : IsPhase marks.Completed → ⊥
+    no_phase (inl e) = absurd (let no : marks.Completed ≡ marks.Idle = e in cc)
+    no_phase (inr (inl e)) = absurd (let no : marks.Completed ≡ marks.Installing = e in cc)
+    no_phase (inr (inr e)) = absurd (let no : marks.Completed ≡ marks.Staged = e in cc)
 
 -- ---- a part of the frame fails
 
 pub control_single : (m : UpdateMark) (image : Image) (c : Control)
     → control_of (image 4) ≡ Ok c
     → control_in ((phase_at m.phase).has_a m.slot) ((phase_at m.phase).has_b m.slot) image
-    ≡ Ok (control_read_of m.slot c)
+    ≡ Ok (control_kept m c)
 control_single m image c is =
     let r : Read = record {
       mark = m;
@@ -158,7 +197,7 @@ control_single m image c is =
       scanned = [];
     } in
     control_seen_in ((phase_at m.phase).has_a m.slot) ((phase_at m.phase).has_b m.slot) image c is
-    ∙ ap Ok (seen_single r c)
+    ∙ ap Ok (seen_slots r c)
 
 pub no_control : (size : ℕ) (image : Image) (m : UpdateMark) (ss : List (Option PartStatus)) (f : StartFault)
     → IsMarked size image m ss
@@ -174,7 +213,7 @@ pub no_geometry : (size : ℕ) (image : Image) (m : UpdateMark) (ss : List (Opti
     → geometry_at size image ≡ Err f
     → device size image ≡ Err f
 no_geometry size image m ss c f marked control bad =
-    device_no_geometry size image m ss (control_read_of m.slot c) f marked.enough marked.mark
+    device_no_geometry size image m ss (control_kept m c) f marked.enough marked.mark
     marked.statuses (control_single m image c control) bad
 
 pub no_tables : (size : ℕ) (image : Image) (m : UpdateMark) (ss : List (Option PartStatus)) (c : Control) (g : Geometry) (f : StartFault)
@@ -182,7 +221,7 @@ pub no_tables : (size : ℕ) (image : Image) (m : UpdateMark) (ss : List (Option
     → tables_in size g ((phase_at m.phase).tables m.slot) image ≡ Err f
     → device size image ≡ Err f
 no_tables size image m ss c g f headed bad =
-    device_no_tables size image m ss (control_read_of m.slot c) g f headed.marked.enough
+    device_no_tables size image m ss (control_kept m c) g f headed.marked.enough
     headed.marked.mark headed.marked.statuses (control_single m image c headed.control)
     headed.geometry bad
 
@@ -193,7 +232,7 @@ module _
     (framed : IsFramed size image f)
     (phase : IsPhase f.heads.mark.phase)
     (below : f.heads.mark.slot < 2)
-    (both : is_some f.tables.target ≡ is_installing f.heads.mark.phase) where
+    (both : is_some f.tables.target ≡ reads_both f.heads.mark.phase) where
   abbrev m : UpdateMark
   m = f.heads.mark
 
@@ -216,10 +255,12 @@ module _
     tables = framed.tables;
   }
 
-  state_is : (x : Option StartFault)
-      → first_fault (slot_checks f.heads.mark.slot (control_read_of f.heads.mark.slot f.heads.control)) ≡ x
-      → state_fault first ≡ x
-  state_is x is = state_single first ∙ is
+  state_is : (scanned : List Scanned) (x : Option StartFault)
+      → slots_fault f.heads.mark f.heads.control
+      (plan_by f.heads.mark.slot f.tables.target scanned)
+      ≡ x
+      → state_fault (record first { scanned = scanned }) ≡ x
+  state_is scanned x is = is_of.state f.heads.control scanned ∙ is
 
   pub frame_judged : (h : StartFault)
       → fault_of f.heads.mark.slot f.tables.source.table f.tables.target ≡ Some h
@@ -242,39 +283,57 @@ module _
   pub frame_stated : (scanned : List Scanned) (h : StartFault)
       → fault_of f.heads.mark.slot f.tables.source.table f.tables.target ≡ None
       → scans_in (stores_by f.heads.mark.slot f.tables.target (written_in f.heads.statuses.items)) image ≡ Ok scanned
-      → first_fault (slot_checks f.heads.mark.slot (control_read_of f.heads.mark.slot f.heads.control)) ≡ Some h
+      → slots_fault f.heads.mark f.heads.control
+      (plan_by f.heads.mark.slot f.tables.target scanned)
+      ≡ Some h
       → device size image ≡ Err h
   frame_stated scanned h parts stores is =
       device_stated size first image scanned h frame_reads (is_of.parts ∙ parts)
-      (stores_are (Ok scanned) stores) (state_is (Some h) is)
+      (stores_are (Ok scanned) stores) (state_is scanned (Some h) is)
 
   pub frame_read : (scanned : List Scanned)
       → fault_of f.heads.mark.slot f.tables.source.table f.tables.target ≡ None
       → scans_in (stores_by f.heads.mark.slot f.tables.target (written_in f.heads.statuses.items)) image ≡ Ok scanned
-      → first_fault (slot_checks f.heads.mark.slot (control_read_of f.heads.mark.slot f.heads.control)) ≡ None
+      → slots_fault f.heads.mark f.heads.control
+      (plan_by f.heads.mark.slot f.tables.target scanned)
+      ≡ None
       → Reads size
       (read_of f.heads.mark f.heads.statuses.items f.heads.control f.heads.geometry (tables_of f.tables) scanned)
       image
   frame_read scanned parts stores state =
       reads_of size first image scanned frame_reads (is_of.parts ∙ parts)
-      (stores_are (Ok scanned) stores) (state_is None state)
+      (stores_are (Ok scanned) stores) (state_is scanned None state)
+
+-- the rules of the slots, of the target's partitions as they were planned
+pub slots_are : (f : Frame) (target : Option (List Part)) (scanned : List Scanned)
+    (x : Option StartFault)
+    → target ≡ plan_by f.heads.mark.slot f.tables.target scanned
+    → slots_fault f.heads.mark f.heads.control target ≡ x
+    → slots_fault f.heads.mark f.heads.control
+    (plan_by f.heads.mark.slot f.tables.target scanned)
+    ≡ x
+slots_are f target scanned x planned is =
+    sym (ap (slots_fault f.heads.mark f.heads.control) planned) ∙ is
 
 -- the device that is kept of a reading
 pub kept_is : (d : Device) (t : Tables) (m : UpdateMark) (ss : List (Option PartStatus)) (c : Control)
-    (g : Geometry) (plan : Option (List Part)) (scanned : List Scanned)
+    (g : Geometry) (target : Option (List Part)) (scanned : List Scanned)
     → IsPhase m.phase
     → m.slot < 2
-    → is_some t.target ≡ is_installing m.phase
-    → IsAssembled d m c g t.source.table plan
-    → plan ≡ plan_by m.slot t.target scanned
+    → is_some t.target ≡ reads_both m.phase
+    → IsAssembled d m c g t.source.table target
+    → target ≡ plan_by m.slot t.target scanned
     → with_tables t d ≡ record (kept (read_of m ss c g (tables_of t) scanned)) { control = c }
-kept_is d t m ss c g plan scanned phase below both is planned =
+kept_is d t m ss c g target scanned phase below both is planned =
     let of = of_phase m.phase m.slot t.source.table t.target phase below both in
-    let a = is.a ∙ of.a in
-    let b = is.b ∙ of.b in
+    let a = is.a ∙ ap (slot_parts m 0 t.source.table) planned ∙ of.a scanned in
+    let b = is.b ∙ ap (slot_parts m 1 t.source.table) planned ∙ of.b scanned in
     let table_a = ap (λ (x : UpdateMark). table_if (x.slot == 0) t.source.table t.target) is.mark ∙ of.table_a in
     let table_b = ap (λ (x : UpdateMark). table_if (x.slot == 1) t.source.table t.target) is.mark ∙ of.table_b in
-    let plan_is = is.plan ∙ planned ∙ sym (of.plan scanned) in
+    let plan_is =
+    is.plan
+    ∙ ap (λ (x : Option (List Part)). if has_both m.phase then None else x) planned
+    ∙ of.plan scanned in
     (λ i. record {
       geometry = is.geometry i;
       control = is.control i;

@@ -17,7 +17,7 @@ use Rattle.vab_lpstore.specs.Storing.{IsOfRepair, SameElsewhere, LeavesTable}
 use Rattle.vab_lpstore.proofs.StoreLaws.{loaded_table, both_table, text_fits, repair_elsewhere}
 use Rattle.vab_layout.specs.Slots.{other_slot}
 use Rattle.vab_device.specs.declared.device.Device.{Device}
-use Rattle.vab_device.specs.Kept.{is_installing, IsDevice}
+use Rattle.vab_device.specs.Kept.{reads_both, IsDevice}
 use Rattle.vab_device.specs.Phases.{phase_at}
 use Rattle.vab_device.specs.Reading.{Read, device, Reads, AgreeCopies, Represents, SameRead}
 use Rattle.vab_device.proofs.ReadingLaws.{device_same, reads_kept}
@@ -139,14 +139,14 @@ by_target g other image (Some l) true is holds = ((l.text, holds.0, holds.1), tt
 by_target g other image (Some l) false is holds = absurd (let no : true ≡ false = is in cc)
 
 pub copies_agree : (g : Geometry) (m : UpdateMark) (t : Tables) (image : Image)
-    → is_some t.target ≡ is_installing m.phase
+    → is_some t.target ≡ reads_both m.phase
     → Holds g m.slot image t.source
     → IfSome t.target (Holds g (other_slot m.slot) image)
     → AgreeCopies g ((phase_at m.phase).tables m.slot) (tables_of t) image
 copies_agree g m t image is source target =
     subst (λ (slots : List ℕ). AgreeCopies g slots (tables_of t) image) (sym (tables_split m)) (
       (t.source.text, source.0, source.1),
-      by_target g (other_slot m.slot) image t.target (is_installing m.phase) is target,
+      by_target g (other_slot m.slot) image t.target (reads_both m.phase) is target,
     )
 
 -- the slots whose tables are read
@@ -154,7 +154,7 @@ pub source_read : (m : UpdateMark) → IsOneOf m.slot ((phase_at m.phase).tables
 source_read m = subst (IsOneOf m.slot) (sym (tables_split m)) (inl refl)
 
 pub target_read : (m : UpdateMark)
-    → is_installing m.phase ≡ true
+    → reads_both m.phase ≡ true
     → IsOneOf (other_slot m.slot) ((phase_at m.phase).tables m.slot)
 target_read m is =
     subst (IsOneOf (other_slot m.slot)) (sym (tables_split m)) (inr (rw is (inl refl)))
@@ -209,7 +209,7 @@ module _
       d.mark.slot t.source old kept.geometry kept.slot kept.slot there.source.fits opened.reads
       opened.loaded.source told o leaves
 
-  installing : (l : Loaded) → t.target ≡ Some l → is_installing d.mark.phase ≡ true
+  installing : (l : Loaded) → t.target ≡ Some l → reads_both d.mark.phase ≡ true
   installing l is = sym there.both ∙ ap is_some is
 
   pub target_repair : (l : Loaded)

@@ -1,9 +1,8 @@
 -- What is found by a name, and the steps of the loops over partitions, statuses and scans.
-use Rattle.std.proofs.Common.{◌≡◌, ◌≢◌, ◌∙◌, ℕ, zero, suc, ◌+◌, ◌*◌, ◌≤◌, ◌<◌, ◌^◌, Bool, true}
+use Rattle.std.proofs.Common.{◌≡◌, ◌∙◌, ℕ, zero, suc, ◌+◌, ◌*◌, ◌≤◌, ◌<◌, Bool, true}
 use Rattle.std.proofs.Common.{false}
-use Rattle.std.proofs.Common.{List, [], ◌∷◌, ◌++◌, length, get_or, take, drop, inl, inr}
+use Rattle.std.proofs.Common.{List, [], ◌∷◌, ◌++◌, length, get_or, drop, inl, inr}
 use Rattle.std.proofs.Common.{Option, Some, None, Result, Ok, Err, refl, sym, ap, subst, arith}
-use Rattle.std.proofs.Common.{drop-cons, append-nil}
 use Rattle.std.specs.Prelude.{map, All, option_map}
 use Rattle.std.specs.List.{filter}
 use Rattle.std.specs.Str.{bytes_eq}
@@ -16,45 +15,33 @@ use Rattle.vab_marks.specs.declared.status.PartStatus.{PartStatus}
 use Rattle.vab_statuses.specs.Statuses.{written_in}
 use Rattle.vab_exceptions.specs.declared.area.Exception.{Exception}
 use Rattle.vab_store.specs.Layout.{IsOnDisk}
-use Rattle.vab_tables.specs.declared.entries.Partition.{Partition}
 use Rattle.vab_tables.specs.declared.table.Table.{Table}
 use Rattle.vab_tables.specs.Rules.{cap_of, end_of}
 use Rattle.vab_layout.specs.declared.layout.Part.{Part as PartOfLayout}
 use Rattle.vab_layout.specs.declared.layout.Layout.{Layout}
-use Rattle.vab_layout.specs.Layout.{layout_of, part_of, blocks_of_partition}
+use Rattle.vab_layout.specs.Layout.{layout_of}
 use Rattle.vab_layout.specs.Rules.{IsPart as IsPartOfLayout}
 use Rattle.vab_layout.specs.Slots.{own_parts, store_parts, IsDistinct}
 use Rattle.vab_layout.proofs.LayoutLaws.{layout_keeps}
-use Rattle.vab_layout.specs.Slots.{IsOwnPart}
 use Rattle.vab_store.specs.declared.fault.StoreFault.{StoreFault}
 use Rattle.vab_store.specs.Scan.{scan_of}
 use Rattle.vab_store.specs.View.{Fits}
 use Rattle.vab_device.specs.Stores.{scan_read}
 use Rattle.std.specs.Prelude.{IfOk}
 use Rattle.std.proofs.lemmas.List.{length-map}
-use Rattle.vab_partitions.specs.Own.{own_before}
-use Rattle.vab_names.specs.Names.{is_base, base_of}
-use Rattle.vab_names.specs.NameLaws.{length-base_of}
-use Rattle.vab_blocks.specs.Blocks.{first_sector_of}
-use Rattle.std.specs.Prelude.{IsTrue}
-use Rattle.std.proofs.lemmas.Bool.{leb-true, and_parts}
-use Rattle.std.proofs.lemmas.List.{map-append, take_more, take_all}
-use Rattle.std.proofs.lemmas.List.Elements.{filter-append}
-use Rattle.vab_device.specs.Phases.{planned_on}
-use Rattle.vab_plan.proofs.PartLaws.{own_at, layout_first}
-use Rattle.vab_plan.proofs.PlanLaws.{drop_at, at_any, first_filter, first_all, own_part, store_is}
+use Rattle.std.proofs.lemmas.List.{map-append}
+use Rattle.vab_plan.proofs.PlanLaws.{drop_at, first_filter, first_all}
 use Rattle.vab_builder.proofs.Counting.{few_below}
 use Rattle.vab_builder.proofs.NameCases.{store_is_store}
 use Rattle.vab_device.specs.declared.fault.StartFault.{StartFault}
-use Rattle.vab_device.specs.declared.fault.StartFault.TheVariants.{BadStore}
 use Rattle.vab_device.specs.Checks.{◌>>=◌}
 use Rattle.vab_device.specs.Kept.{sectors_of}
 use Rattle.vab_device.specs.Phases.{store_on}
 use Rattle.vab_device.specs.Stores.{Wanted, Scanned, first_named, wanted_by, wanted_of, scan_at}
-use Rattle.vab_device.specs.Stores.{scans_in, exceptions_of}
+use Rattle.vab_device.specs.Stores.{scans_in}
 use Rattle.vab_plan.specs.declared.planning.Scan.{Scan}
 use Rattle.vab_plan.specs.Scans.{scanned_of, scans_of, IsTargetTable}
-use Rattle.vab_recover.specs.Scans.{wanted_at, AreBlocks, IsMissing, IsScanned}
+use Rattle.vab_recover.specs.Scans.{wanted_at, AreBlocks, IsScanned}
 
 -- ---- a place of a list
 

@@ -1,9 +1,9 @@
 -- What opening a device reads, and what of it is kept.
-use Rattle.std.specs.Prelude.{◌≡◌, ◌⊎◌, ℕ, ◌<◌, ◌≤◌, ◌^◌, ◌==◌, if◌then◌else◌, List, [], ◌∷◌}
+use Rattle.std.specs.Prelude.{◌≡◌, ℕ, ◌<◌, ◌≤◌, ◌^◌, ◌==◌, if◌then◌else◌, List, [], ◌∷◌}
 use Rattle.std.specs.Prelude.{length}
 use Rattle.std.specs.Prelude.{Bool, Option, Some, None, is_some, Ok, IfSome, IsTrue, nat_le, true}
 use Rattle.std.specs.Prelude.{false, map, All, Result}
-use Rattle.vab_disk.specs.Disk.{Image, Outcome}
+use Rattle.vab_disk.specs.Disk.{Image}
 use Rattle.vab_bootctl.specs.Control.{control_of, Fits}
 use Rattle.vab_bootctl.specs.declared.slots.Control.{Control}
 use Rattle.vab_marks.specs.declared.mark.UpdateMark.{UpdateMark}
@@ -14,9 +14,6 @@ use Rattle.vab_tables.specs.declared.table.Table.{Table}
 use Rattle.vab_tables.specs.Spelling.{table_size_of}
 use Rattle.vab_tables.specs.Text.{IsTableText}
 use Rattle.vab_lpstore.specs.declared.loaded.Loaded.{Loaded}
-use Rattle.vab_lpstore.specs.Layout.{primary_bytes, backup_bytes, BothHold}
-use Rattle.vab_lpstore.specs.Loading.{IsLoaded}
-use Rattle.vab_lpstore.specs.Storing.{IsOfRepair}
 use Rattle.vab_layout.specs.Layout.{layout_of}
 use Rattle.vab_layout.specs.Slots.{other_slot}
 use Rattle.vab_device.specs.declared.device.Device.{Device}
@@ -31,7 +28,7 @@ use Rattle.vab_device.specs.Kept.{limits_of, parts_of}
 use Rattle.vab_device.specs.Phases.{phase_at, own_check, update_checks, plan_of, slot_checks}
 use Rattle.vab_device.specs.Phases.{are_ready, may_run}
 use Rattle.vab_device.specs.Reading.{Read, mark_in, statuses_at, geometry_at, tables_in, kept}
-use Rattle.vab_device.specs.Reading.{device, control_kept}
+use Rattle.vab_device.specs.Reading.{control_kept}
 use Rattle.vab_device.specs.Reading.{Reads}
 use Rattle.vab_device.specs.Stores.{Wanted, Scanned, wanted_of, scans_in}
 use Rattle.vab_recover.specs.Repairs.{IsLoadedAt}

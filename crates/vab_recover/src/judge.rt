@@ -9,7 +9,7 @@ ghost use Rattle.vab_device.specs.Checks.{first_fault};
 ghost use Rattle.vab_device.specs.Faults.{IsOfContents, IsOfDisk};
 ghost use Rattle.vab_bootctl.specs.Control.{Fits};
 ghost use Rattle.vab_device.specs.Phases.{slot_checks, own_check, update_checks, is_good};
-ghost use Rattle.vab_device.specs.Phases.{are_ready, may_run};
+ghost use Rattle.vab_device.specs.Phases.{is_ready, are_ready, may_run};
 ghost use Rattle.vab_device.specs.Idle.{control_read_of};
 ghost use Rattle.vab_device.specs.Kept.{AreOfUpdate, has_both, has_slot};
 ghost use Rattle.vab_recover.specs.Opened.{fault_of, IsAssembled, is_target_ready, slots_fault};
@@ -68,26 +68,32 @@ fn may_run(control: &Control, source: usize) -> bool
     is_good(&info) && (control.current == source || other.priority != 0)
 }
 
+// Whether the image of a partition needs nothing more to be written.
+fn is_ready(image: &PartImage) -> bool
+    ensures { result ≡ is_ready image.now }
+{
+    match image {
+        PartImage::Kept => true,
+        PartImage::Declared => false,
+        PartImage::Written(_) => true,
+    }
+}
+
 // Whether each of these partitions is kept or written.
-fn are_ready(target: &Option<Listing<Part>>) -> bool
+fn are_ready(parts: &[Part]) -> bool
+    ensures { result ≡ are_ready parts.now }
+{
+    parts.iter().all(|part| is_ready(&part.image))
+}
+
+// Whether the target's partitions are, where there is a target.
+fn is_target_ready(target: &Option<Listing<Part>>) -> bool
     ensures { result ≡ is_target_ready target.now }
 {
     match target {
         None => true,
-        Some(parts) => all_ready(parts),
+        Some(parts) => are_ready(parts.as_slice()),
     }
-}
-
-// Whether each is kept or written.
-fn all_ready(parts: &Listing<Part>) -> bool
-    ensures { result ≡ are_ready parts.now }
-{
-    for part in parts.as_slice() {
-        if matches!(part.image, PartImage::Declared) {
-            return false;
-        }
-    }
-    true
 }
 
 /// Whether the boot control and the target of an update keep the rules of the slots. `BadState` comes
@@ -111,7 +117,7 @@ pub fn judge_slots(
     if !may_run(control, mark.slot) {
         return Err(StartFault::BadState(2));
     }
-    if !are_ready(target) {
+    if !is_target_ready(target) {
         return Err(StartFault::BadState(3));
     }
     Ok(())

@@ -1,7 +1,7 @@
 ghost use Rattle.std.specs.Prelude.{◌<◌, ◌≤◌};
 
 use super::*;
-use crate::texts::UNLIMITED;
+use crate::texts::{KEPT_SUMS, UNLIMITED, UPDATED_SUMS};
 use std::alloc::Global;
 use std::test::*;
 use vab_bootctl::{Control, ControlFault, Info, encode_control_into};
@@ -26,6 +26,11 @@ const TABLE: u64 = 4120;
 
 const TABLE_BACKUP: u64 = 4376;
 
+// That of slot b.
+const TARGET: u64 = 4248;
+
+const TARGET_BACKUP: u64 = 4504;
+
 // The sectors of slot a's table.
 fn table() -> ([u8; 512], [u8; 512]) {
     let mut first = [0u8; 512];
@@ -39,6 +44,17 @@ fn table() -> ([u8; 512], [u8; 512]) {
 fn bad_table() -> [u8; 512] {
     let mut first = table().0;
     first[300] = 0;
+    first
+}
+
+// The first sector of slot b's table, whose partition has these attributes. The second is slot a's.
+fn target_table(attributes: u8, sums: &[[u8; 32]; 2]) -> [u8; 512] {
+    let mut first = table().0;
+    first[12..44].copy_from_slice(&sums[0]);
+    first[48..80].copy_from_slice(&sums[1]);
+    first[263] = b'b';
+    first[292] = attributes;
+    first[304] = 2;
     first
 }
 
@@ -57,6 +73,15 @@ fn control(current: usize, priority: u8, successful: bool) -> [u8; 512]
     requires current { current < 2 }
     requires priority { priority ≤ 15 }
 {
+    control_of(current, priority, successful, 0)
+}
+
+// Boot control where slot b has this priority too.
+fn control_of(current: usize, priority: u8, successful: bool, target: u8) -> [u8; 512]
+    requires current { current < 2 }
+    requires priority { priority ≤ 15 }
+    requires target { target ≤ 15 }
+{
     let mut sector = [0u8; 512];
     let control = Control {
         current,
@@ -66,7 +91,7 @@ fn control(current: usize, priority: u8, successful: bool) -> [u8; 512]
             successful,
         },
         b: Info {
-            priority: 0,
+            priority: target,
             tries: 0,
             successful: false,
         },
@@ -94,6 +119,15 @@ fn sector(d: &mut MemPort, at: u64) -> Option<[u8; 512]> {
     Some(bytes)
 }
 
+fn put_each(d: &mut MemPort, sectors: &[(u64, [u8; 512])]) -> Result<(), Fail> {
+    for (at, bytes) in sectors {
+        if !put(d, *at, bytes) {
+            return Err("a sector is written".into());
+        }
+    }
+    Ok(())
+}
+
 // A disk with a device, whose slot a has images.
 fn device(alloc: Global) -> Result<MemPort, Fail> {
     let d = MemPort::new(alloc, SECTORS, Vec::new(alloc));
@@ -109,11 +143,23 @@ fn device(alloc: Global) -> Result<MemPort, Fail> {
         (TABLE_BACKUP, first),
         (TABLE_BACKUP + 1, second),
     ];
-    for (at, bytes) in sectors {
-        if !put(&mut d, at, &bytes) {
-            return Err("a sector is written".into());
-        }
-    }
+    put_each(&mut d, &sectors)?;
+    Ok(d)
+}
+
+// That disk with an update from slot a that is ready, whose target has this table.
+fn staged(alloc: Global, target: [u8; 512], control: [u8; 512]) -> Result<MemPort, Fail> {
+    let mut d = device(alloc)?;
+    let second = table().1;
+    let sectors = [
+        (CONTROL, control),
+        (MARK, mark(MarkPhase::Staged)),
+        (TARGET, target),
+        (TARGET + 1, second),
+        (TARGET_BACKUP, target),
+        (TARGET_BACKUP + 1, second),
+    ];
+    put_each(&mut d, &sectors)?;
     Ok(d)
 }
 
@@ -167,13 +213,18 @@ fn the_first_fault_is_told(rt: HostRuntime) -> Result<(), Fail> {
         ([MARK, MARK], zeros, Err(StartFault::BadMark(2048))),
         (
             [MARK, MARK],
-            mark(MarkPhase::Staged),
+            mark(MarkPhase::Merging),
             Err(StartFault::BadMark(2048)),
         ),
-        // While an update is installed, slot b has a table too.
+        // While an update is installed or ready, slot b has a table too.
         (
             [MARK, MARK],
             mark(MarkPhase::Installing),
+            Err(StartFault::BadTable(1)),
+        ),
+        (
+            [MARK, MARK],
+            mark(MarkPhase::Staged),
             Err(StartFault::BadTable(1)),
         ),
         (
@@ -206,6 +257,55 @@ fn the_first_fault_is_told(rt: HostRuntime) -> Result<(), Fail> {
             answer,
             "at {first}"
         );
+    }
+    Ok(())
+}
+
+#[test]
+fn an_update_that_is_ready_has_images_of_both_slots(rt: HostRuntime) -> Result<(), Fail> {
+    let alloc = rt.alloc();
+    let mut d = staged(alloc, target_table(1, &KEPT_SUMS), control(0, 15, true))?;
+    let device = start(alloc, &mut d).ok().ok_or("it is a device")?;
+    assert_eq!(rt; device.phase(), PhaseKind::Staged(0));
+    assert_eq!(rt; device.slot_info(0).map(|info| info.priority), Some(15));
+    assert_eq!(rt; device.slot_info(1).map(|info| info.priority), Some(0));
+    assert!(rt; device.plan.is_none());
+    let groups = [b"main_a".as_slice(), b"main_b".as_slice()];
+    for (slot, group) in groups.iter().enumerate() {
+        let parts = device.images(slot).ok_or("the slot has images")?.as_slice();
+        assert_eq!(rt; parts.len(), 1);
+        let part = parts.first().ok_or("there is a partition")?;
+        assert_eq!(rt; part.name.text(), b"system".as_slice());
+        assert_eq!(rt; part.group.text(), *group);
+        assert!(rt; part.map.len() > 0);
+        assert_eq!(rt; part.map.sector_of(0), 6144);
+    }
+    Ok(())
+}
+
+#[test]
+fn an_update_that_is_ready_keeps_the_rules_of_the_slots(rt: HostRuntime) -> Result<(), Fail> {
+    let alloc = rt.alloc();
+    let kept = target_table(1, &KEPT_SUMS);
+    // Its partition is to be written, and has no status.
+    let declared = target_table(5, &UPDATED_SUMS);
+    let cases = [
+        (kept, control(0, 15, true), Ok(256)),
+        (kept, control_of(1, 15, true, 15), Ok(256)),
+        // The slot that was booted last has the priority 0, or the source doesn't work.
+        (kept, control(1, 15, true), Err(StartFault::BadState(2))),
+        (kept, control(0, 0, true), Err(StartFault::BadState(2))),
+        (
+            kept,
+            control_of(1, 15, false, 15),
+            Err(StartFault::BadState(2)),
+        ),
+        (declared, control(0, 15, true), Err(StartFault::BadState(3))),
+        (declared, control(1, 15, true), Err(StartFault::BadState(2))),
+    ];
+    for (target, control, answer) in cases {
+        let mut d = staged(alloc, target, control)?;
+        assert_eq!(rt; start(alloc, &mut d).map(|device| device.cap()), answer);
     }
     Ok(())
 }

@@ -1,4 +1,4 @@
-// A table's text, made outside from the public format.
+// A table's text, and the sums of others, made outside from the public format.
 
 /// One partition of 100 blocks, `system_a` in `main_a`, on a block device of 2097152 bytes whose
 /// first logical sector is 2048, with version 10.2.
@@ -22,4 +22,29 @@ pub const UNLIMITED: [u8; 540] = [
     0, 0, 0, 0, 0, 0, 0, 0, 0, 0, 0, 0, 0, 0, 0, 0, 0, 0, 0, 0, 0, 0, 0, 0, 0, 0, 8, 0, 0, 0, 0, 0,
     0, 0, 0, 16, 0, 0, 0, 0, 0, 0, 0, 32, 0, 0, 0, 0, 0, 115, 117, 112, 101, 114, 0, 0, 0, 0, 0, 0,
     0, 0, 0, 0, 0, 0, 0, 0, 0, 0, 0, 0, 0, 0, 0, 0, 0, 0, 0, 0, 0, 0, 0, 0, 0, 0, 0, 0, 0,
+];
+
+/// The sums of the header and of the tables of that text, where its partition is `system_b` in
+/// `main_b`.
+pub const KEPT_SUMS: [[u8; 32]; 2] = [
+    [
+        46, 52, 165, 44, 219, 215, 73, 234, 138, 66, 225, 67, 215, 192, 125, 150, 253, 67, 161,
+        195, 14, 103, 201, 48, 161, 197, 161, 197, 43, 94, 103, 82,
+    ],
+    [
+        248, 212, 143, 205, 93, 237, 104, 51, 254, 131, 156, 219, 42, 227, 7, 59, 139, 140, 116,
+        102, 249, 108, 53, 28, 111, 193, 147, 255, 51, 25, 117, 58,
+    ],
+];
+
+/// Those where that is also marked as updated.
+pub const UPDATED_SUMS: [[u8; 32]; 2] = [
+    [
+        79, 249, 89, 74, 168, 79, 178, 133, 78, 152, 47, 209, 199, 78, 215, 221, 159, 126, 187, 21,
+        100, 161, 47, 137, 88, 129, 25, 128, 65, 70, 2, 192,
+    ],
+    [
+        11, 140, 103, 75, 216, 161, 125, 216, 104, 189, 126, 152, 144, 228, 131, 79, 22, 177, 87,
+        221, 191, 149, 183, 130, 74, 155, 147, 50, 89, 190, 14, 117,
+    ],
 ];

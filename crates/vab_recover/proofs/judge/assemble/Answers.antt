@@ -1,4 +1,4 @@
-use Rattle.std.proofs.Common.{◌≡◌, ◌==◌, ℕ, List, get_or, refl, Some, None, ap, sym, ◌∙◌}
+use Rattle.std.proofs.Common.{◌≡◌, ◌==◌, ℕ, List, get_or, refl, Option, Some, ap, sym, ◌∙◌}
 use Rattle.std.specs.Prelude.{if◌then◌else◌}
 use Rattle.vab_tables.specs.declared.entries.BlockDevice.{BlockDevice}
 use Rattle.vab_tables.specs.declared.table.Table.{Table}
@@ -19,7 +19,8 @@ first_of t keeps ds d same at =
 
 pub returns-clause-is : goal.returns-clause-is
 returns-clause-is c =
-    let only = λ (k : ℕ) (ps : List Part). (if c.args.mark.slot == k then Some ps else None) in
+    let of = λ (k : ℕ) (ps : List Part) (x : Option (List Part)).
+    (if c.args.mark.slot == k then Some ps else x) in
     record {
       mark = refl;
       control = refl;
@@ -29,7 +30,9 @@ returns-clause-is c =
           (first_of c.args.table.now c.requires.keeps c.as_slice.result.now c.index-as_slice-0.result
           c.as_slice.ensures c.index-as_slice-0.is);
       groups = c.in_ok-groups.ensures.limits;
-      a = c.by_slot-a.ensures.a ∙ ap (only 0) c.in_ok-parts.ensures.parts;
-      b = c.by_slot-a.ensures.b ∙ ap (only 1) c.in_ok-parts.ensures.parts;
-      plan = refl;
+      a = c.by_slot-a.ensures.a
+          ∙ (λ i. of 0 (c.in_ok-parts.ensures.parts i) (c.by_phase-images.ensures.images i));
+      b = c.by_slot-a.ensures.b
+          ∙ (λ i. of 1 (c.in_ok-parts.ensures.parts i) (c.by_phase-images.ensures.images i));
+      plan = c.by_phase-images.ensures.plan;
     }

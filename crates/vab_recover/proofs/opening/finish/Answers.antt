@@ -1,5 +1,5 @@
 use Rattle.vab_recover.proofs.FrameLaws.{frame_judged, frame_scanned, frame_stated, frame_read}
-use Rattle.vab_recover.proofs.FrameLaws.{kept_is, opened_of}
+use Rattle.vab_recover.proofs.FrameLaws.{kept_is, opened_of, slots_are}
 use Rattle.vab_recover.proofs.FinishLaws.{targets_are, targets_on_disk, assembled_kept}
 use Rattle.vab_recover.proofs.opening.finish.Goals as goal
 
@@ -27,12 +27,15 @@ returns-in-Err-read_plan-clause-fault g c = λ t kind.
     (c.requires.framed t) c.requires.are.phase c.requires.are.slot c.requires.there.both _
     c.in-Ok.ensures.kept (c.in-Err-read_plan.ensures.fault t kind)
 
-pub returns-in-Err-judge_slot-clause-fault : goal.returns-in-Err-judge_slot-clause-fault
-returns-in-Err-judge_slot-clause-fault g c = λ t kind.
+pub returns-in-Err-judge_slots-clause-fault : goal.returns-in-Err-judge_slots-clause-fault
+returns-in-Err-judge_slots-clause-fault g c = λ t kind.
+    let f = c.args.frame in
     let plan = c.in-Ok-read_plan.ensures.plan in
-    frame_stated (g.D.Disk.size c.args.d.now) (g.D.Disk.seen c.args.d.now) c.args.frame
-    (c.requires.framed t) c.requires.are.phase c.requires.are.slot c.requires.there.both
-    plan.scanned _ c.in-Ok.ensures.kept (plan.read t) c.in-Err-judge_slot.ensures.fault
+    frame_stated (g.D.Disk.size c.args.d.now) (g.D.Disk.seen c.args.d.now) f (c.requires.framed t)
+    c.requires.are.phase c.requires.are.slot c.requires.there.both plan.scanned _
+    c.in-Ok.ensures.kept (plan.read t)
+    (slots_are f c.in-Ok-read_plan.target plan.scanned _ plan.plan_is
+    c.in-Err-judge_slots.ensures.fault)
 
 pub returns-in-Ok-assemble-clause-opened : goal.returns-in-Ok-assemble-clause-opened
 returns-in-Ok-assemble-clause-opened g c = λ t.
@@ -46,9 +49,11 @@ returns-in-Ok-assemble-clause-opened g c = λ t.
     is.control is.geometry
     (frame_read (g.D.Disk.size c.args.d.now) (g.D.Disk.seen c.args.d.now) f framed
     c.requires.are.phase c.requires.are.slot c.requires.there.both plan.scanned
-    c.in-Ok.ensures.kept (plan.read t) c.in-Ok-judge_slot.ensures.ok)
+    c.in-Ok.ensures.kept (plan.read t)
+    (slots_are f c.in-Ok-read_plan.target plan.scanned _ plan.plan_is
+    c.in-Ok-judge_slots.ensures.ok))
     (kept_is c.in-Ok-assemble.device f.tables h.mark h.statuses.items h.control h.geometry
-    c.in-Ok-read_plan.plan plan.scanned c.requires.are.phase c.requires.are.slot
+    c.in-Ok-read_plan.target plan.scanned c.requires.are.phase c.requires.are.slot
     c.requires.there.both is plan.plan_is)
     framed.heads.control framed.loaded
 
@@ -58,6 +63,6 @@ returns-in-Ok-assemble-clause-kept g c =
     let h = f.heads in
     let plan = c.in-Ok-read_plan.ensures.plan in
     assembled_kept (g.D.Disk.size c.args.d.now) c.in-Ok-assemble.device f.tables h.mark
-    h.statuses.items h.control h.geometry c.in-Ok-read_plan.plan plan.scanned c.requires.are
-    c.requires.there c.in-Ok-judge_slot.ensures.current c.in-Ok.ensures.own c.in-Ok.ensures.update
+    h.statuses.items h.control h.geometry c.in-Ok-read_plan.target plan.scanned c.requires.are
+    c.requires.there c.in-Ok-judge_slots.ensures.current c.in-Ok.ensures.own c.in-Ok.ensures.update
     c.in-Ok-assemble.ensures.is plan.plan_is plan.are
