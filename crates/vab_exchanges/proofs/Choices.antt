@@ -93,7 +93,7 @@ module _ {S : Type 0} (effect : S → Option (List ℕ) → Result Asked BadComm
   -- what a command is told with memory and without
   with_or_not : (e : Response S) (b : Bool) (x y : List ℕ)
       → e.may_want ≡ b
-      → length e.text ≤ 256
+      → (e.may_want ≡ true → length e.text ≤ 256)
       → (e.may_want ≡ true → e.text ≢ codes "FAILout of memory")
       → packet (cond b no_memory e).text ++ x ≡ packet e.text ++ y
       → cond b no_memory e ≡ e
@@ -102,10 +102,11 @@ module _ {S : Type 0} (effect : S → Option (List ℕ) → Result Asked BadComm
       absurd
       (other may
       (sym
-      (first_text (codes "FAILout of memory") e.text x y (omega arith) (omega (arith, short)) is)))
+      (first_text (codes "FAILout of memory") e.text x y (omega arith)
+      (let fits = short may in omega (arith, fits)) is)))
 
   told_effect : (e : Response S) (a b : Bool) (x y : List ℕ)
-      → length e.text ≤ 256
+      → (e.may_want ≡ true → length e.text ≤ 256)
       → (e.may_want ≡ true → e.text ≢ codes "FAILout of memory")
       → packet (unless_refused a e).text ++ x ≡ packet (unless_refused b e).text ++ y
       → unless_refused a e ≡ unless_refused b e

@@ -145,10 +145,10 @@ module _ {S : Type 0} (effect : S → Option (List ℕ) → Result Asked BadComm
   abbrev pub output_of : Kept S → List Exchange → Option (List ℕ) → List ℕ
   output_of k exchanges unfinished = codes "FB01" ++ joined (items_of k exchanges unfinished)
 
-  -- Replies are short, and none that stands for want of memory is one that the command gives if it
-  -- has its memory.
+  -- A reply in whose place want of memory may be told is short, and isn't what is told then.
   pub record IsPlain : Type 0 where
     pub short : (s : S) (staged : Option (List ℕ)) (asked : Result Asked BadCommand)
+        → (effect s staged asked).may_want ≡ true
         → length (effect s staged asked).text ≤ 256
     pub other : (s : S) (staged : Option (List ℕ)) (asked : Result Asked BadCommand)
         → (effect s staged asked).may_want ≡ true

@@ -1,6 +1,7 @@
 use Rattle.std.proofs.Common.{◌≡◌, ◌+◌, ℕ, List, Option, Some, None, Ok, Err, refl, sym, ◌∙◌, ap}
 use Rattle.vab_disk.specs.Disk.{Image}
-use Rattle.vab_model.specs.Commands.{command_of, Merge}
+use Rattle.vab_model.specs.Commands.{command_of}
+use Rattle.vab_model.specs.Effects.{effect}
 use Rattle.vab_device.specs.declared.device.Part.{Part}
 use Rattle.vab_device.specs.Mounted.{state_on, mounted_on, phase_on}
 use Rattle.vab_fbproto.specs.Requests.{Getvar, Do, MergeAll, BootAndEnd, request_of, variable_of}
@@ -26,26 +27,14 @@ returns-in-Ok-Getvar-clause-does g c = λ t before beyond count total most.
     c.tell_still.ensures.does t packet before beyond count total most (Ok (Getvar asked)) is tt
     (ap still (sym text))
 
--- nothing is left to merge while an update is installed
-none_left : (slot : ℕ) (image : Image) (plan : Option (List Part))
-    → left_of (phase_on slot image plan) ≡ 0
-none_left slot image None = refl
-none_left slot image (Some plan) = refl
-
 pub returns-in-Ok-MergeAll-clause-does : goal.returns-in-Ok-MergeAll-clause-does
-unfolding state_on
+unfolding effect
 returns-in-Ok-MergeAll-clause-does g c = λ t before beyond count total most.
     let packet = c.args.packet.now in
-    let d = c.args.kept.device in
-    let image = g.P.Disk.seen c.args.p.now in
     let is : request_of packet ≡ Ok MergeAll =
     rw c.in-Ok-MergeAll.field-0-is at c.in-Ok-MergeAll.ensures in
     c.carry_out-in-Ok-MergeAll.ensures.does t packet before beyond count total most
-    (Ok MergeAll) is tt
-    (ap
-    (λ (n : ℕ).
-    by_command (mounted_on d image) (kept_on c.args.kept image).staged (Merge (n + 1)))
-    (none_left d.mark.slot image d.plan))
+    (Ok MergeAll) is tt refl
 
 pub returns-in-Ok-Do-clause-does : goal.returns-in-Ok-Do-clause-does
 returns-in-Ok-Do-clause-does g c = λ t before beyond count total most.
