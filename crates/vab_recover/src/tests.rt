@@ -47,11 +47,17 @@ fn bad_table() -> [u8; 512] {
     first
 }
 
+// That sector with this sum at that byte.
+fn with_sum(mut sector: [u8; 512], at: usize, sum: &[u8; 32]) -> [u8; 512]
+    requires { at < 256 }
+{
+    sector[at..at + 32].copy_from_slice(sum);
+    sector
+}
+
 // The first sector of slot b's table, whose partition has these attributes. The second is slot a's.
 fn target_table(attributes: u8, sums: &[[u8; 32]; 2]) -> [u8; 512] {
-    let mut first = table().0;
-    first[12..44].copy_from_slice(&sums[0]);
-    first[48..80].copy_from_slice(&sums[1]);
+    let mut first = with_sum(with_sum(table().0, 12, &sums[0]), 48, &sums[1]);
     first[263] = b'b';
     first[292] = attributes;
     first[304] = 2;
