@@ -10,7 +10,7 @@ ghost use Rattle.vab_model.specs.Effects.{found_of};
 ghost use Rattle.vab_device.specs.declared.fault.StartFault.{StartFault as Fault};
 ghost use Rattle.vab_device.specs.declared.device.Part.{Part};
 ghost use Rattle.vab_device.specs.Kept.{IsDevice};
-ghost use Rattle.vab_device.specs.Mounted.{Mounted, bytes_at};
+ghost use Rattle.vab_device.specs.Mounted.{Mounted, bytes_at, sectors_read};
 ghost use Rattle.vab_device.specs.Reading.{device, IsIn, Represents};
 ghost use Rattle.vab_manager.specs.Blocks.{KeepsPart};
 ghost use Rattle.vab_cli.specs.Counts.{HearsNothing, IsSteady};
@@ -60,7 +60,8 @@ fn read_piece<P: Port>(
         → (p : Part)
         → KeepsPart device.now slot name.now p
         → OnOk result
-        (piece.new.items ≡ bytes_at (P.seen port.old) (take count (drop first p.map))) }
+        (piece.new.items
+        ≡ bytes_at (P.seen port.old) (take count (drop first (sectors_read p)))) }
     ensures reads { OnlyReads P.Disk port.old port.new }
     ensures faults { FailsWithDisk P.Disk port.old port.new result }
 {
@@ -90,7 +91,7 @@ fn tell_piece<P: Port>(
     ensures says { P.is_modelled
         → (p : Part)
         → KeepsPart device.now slot name.now p
-        → Says P.Disk (bytes_at (P.seen port.old) (take count (drop first p.map)))
+        → Says P.Disk (bytes_at (P.seen port.old) (take count (drop first (sectors_read p))))
         port.old port.new result }
     ensures size { P.size port.new ≡ P.size port.old }
     ensures steady { OnOk result (P.faults port.new ≡ P.faults port.old) }
@@ -134,7 +135,7 @@ fn tell_blocks<P: Port>(
     ensures says { P.is_modelled
         → (p : Part)
         → KeepsPart device.now slot name.now p
-        → Says P.Disk (bytes_at (P.seen port.old) p.map) port.old port.new result }
+        → Says P.Disk (bytes_at (P.seen port.old) (sectors_read p)) port.old port.new result }
     ensures size { P.size port.new ≡ P.size port.old }
     ensures steady { OnOk result (P.faults port.new ≡ P.faults port.old) }
     ensures failed { IfErr result IsFailed }

@@ -1,7 +1,7 @@
 use Rattle.std.proofs.Common.{◌≡◌, ◌∙◌, List, ℕ, Ok, Err, sym, ap, subst}
 use Rattle.std.specs.Prelude.{IfOk}
 use Rattle.vab_disk.proofs.CallLaws.{changes_telling}
-use Rattle.vab_device.specs.Mounted.{Mounted, state_on, bytes_at}
+use Rattle.vab_device.specs.Mounted.{Mounted, state_on, bytes_at, sectors_read}
 use Rattle.vab_exchanges.specs.Items.{Item}
 use Rattle.vab_manager.specs.Blocks.{KeepsPart}
 use Rattle.vab_cli.specs.declared.status.Status.{Status}
@@ -25,10 +25,10 @@ returns-in-Ok-tell_blocks-clause-does g c = λ t s stands.
     let kept = subst (λ (name : List ℕ). KeepsPart c.args.device.now c.in-Ok.slot name p)
     (sym c.base_of.ensures) found.3 in
     let text = image_told (state_on c.args.device.now image) s.state c.args.name.now found.0
-    (bytes_at image p.map) same found.1 found.4 in
+    (bytes_at image (sectors_read p)) same found.1 found.4 in
     subst (λ (i : Item Mounted). DoesItem g.P.Disk {A = Status} {E = Status} size i old new (Ok Done))
     (ap (line_item s) text ∙ sym (print_item s c.args.name.now _))
-    (does_line g.P.Disk size s (bytes_at image p.map) old new _ stands
+    (does_line g.P.Disk size s (bytes_at image (sectors_read p)) old new _ stands
     (let says = c.in-Ok-tell_blocks.ensures.says t p kept in record {
       told = says.told;
       front = says.front;
@@ -60,12 +60,12 @@ returns-in-Err-tell_blocks-clause-does g c = λ t s stands.
     let kept = subst (λ (name : List ℕ). KeepsPart c.args.device.now c.in-Ok.slot name p)
     (sym c.base_of.ensures) found.3 in
     let text = image_told (state_on c.args.device.now image) s.state c.args.name.now found.0
-    (bytes_at image p.map) same found.1 found.4 in
+    (bytes_at image (sectors_read p)) same found.1 found.4 in
     subst
     (λ (i : Item Mounted).
     DoesItem g.P.Disk {A = Status} {E = Status} size i old new (Err c.in-Err-tell_blocks.status))
     (ap (line_item s) text ∙ sym (print_item s c.args.name.now _))
-    (does_line g.P.Disk size s (bytes_at image p.map) old new _ stands
+    (does_line g.P.Disk size s (bytes_at image (sectors_read p)) old new _ stands
     (let says = c.in-Err-tell_blocks.ensures.says t p kept in record {
       told = tt;
       front = says.front;
@@ -125,7 +125,7 @@ returns-in-Ok-tell_blocks-clause-changes g c = λ t.
     let kept = subst (λ (name : List ℕ). KeepsPart c.args.device.now c.in-Ok.slot name found.2)
     (sym c.base_of.ensures) found.3 in
     let says = c.in-Ok-tell_blocks.ensures.says t found.2 kept in
-    changes_telling g.P.Disk _ (bytes_at (g.P.Disk.seen old) found.2.map) old new
+    changes_telling g.P.Disk _ (bytes_at (g.P.Disk.seen old) (sectors_read found.2)) old new
     c.tell_blocks.ensures.size (λ t. says.seen) (λ t. says.crash) (λ t. says.time)
 
 pub returns-in-Err-tell_blocks-clause-changes : goal.returns-in-Err-tell_blocks-clause-changes
@@ -136,7 +136,7 @@ returns-in-Err-tell_blocks-clause-changes g c = λ t.
     let kept = subst (λ (name : List ℕ). KeepsPart c.args.device.now c.in-Ok.slot name found.2)
     (sym c.base_of.ensures) found.3 in
     let says = c.in-Err-tell_blocks.ensures.says t found.2 kept in
-    changes_telling g.P.Disk _ (bytes_at (g.P.Disk.seen old) found.2.map) old new
+    changes_telling g.P.Disk _ (bytes_at (g.P.Disk.seen old) (sectors_read found.2)) old new
     c.tell_blocks.ensures.size (λ t. says.seen) (λ t. says.crash) (λ t. says.time)
 
 pub returns-in-Err-clause-changes : goal.returns-in-Err-clause-changes

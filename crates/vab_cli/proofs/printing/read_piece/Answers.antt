@@ -1,7 +1,9 @@
 use Rattle.std.proofs.Common.{◌≡◌, ◌∙◌, ◌+◌, ◌*◌, ◌++◌, ◌≤◌, length, refl, sym, ap, arith, rules}
 use Rattle.std.proofs.Common.{length-append}
 use Rattle.vab_disk.proofs.CallLaws.{reads_none, reads_then}
+use Rattle.vab_device.specs.Mounted.{sectors_read}
 use Rattle.vab_manager.proofs.BlockLaws.{part_kept}
+use Rattle.vab_manager.proofs.SeenLaws.{read_long}
 use Rattle.vab_manager.proofs.DigestLaws.{bytes_none}
 use Rattle.vab_cli.proofs.Blocks.{piece_more, within_kept}
 use Rattle.vab_cli.proofs.printing.read_piece.Goals as goal
@@ -32,10 +34,10 @@ loop-block-preserved g c =
       bytes = λ t p kept.
           let end = within_kept c.args.device.now c.args.slot c.args.name.now p
           (c.args.first + c.args.count) kept c.requires.part in
-          piece_more (g.P.Disk.seen c.args.port.now) (g.P.Disk.seen c.loop-block.port) p.map
+          piece_more (g.P.Disk.seen c.args.port.now) (g.P.Disk.seen c.loop-block.port) (sectors_read p)
           c.loop-block.piece.items c.read_block.new.out c.try_extend_from_slice.new.self.items
           c.args.first c.loop-block.block
-          (omega (arith, end, c.loop-block-test.true)) (i.reads.seen t) (i.bytes t p kept)
+          (omega (arith, end, c.loop-block-test.true, read_long p)) (i.reads.seen t) (i.bytes t p kept)
           (c.in_ok-read_block.ensures.sectors t p kept) more;
       long = (let both = ap length more in
           omega (

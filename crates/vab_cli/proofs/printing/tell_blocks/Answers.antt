@@ -1,8 +1,9 @@
 use Rattle.std.proofs.Common.{◌≡◌, ◌∙◌, ◌+◌, ◌++◌, ℕ, List, Ok, Err, take, drop, sym, subst, arith, refl}
 use Rattle.std.proofs.lemmas.List.{take_all}
 use Rattle.vab_disk.specs.Disk.{Image}
-use Rattle.vab_device.specs.Mounted.{bytes_at}
+use Rattle.vab_device.specs.Mounted.{bytes_at, sectors_read}
 use Rattle.vab_manager.proofs.DigestLaws.{bytes_none}
+use Rattle.vab_manager.proofs.SeenLaws.{read_long}
 use Rattle.vab_cli.specs.declared.status.Status.{Status}
 use Rattle.vab_cli.specs.Telling.{Says}
 use Rattle.vab_cli.proofs.Blocks.{bytes_piece, bytes_rest, count_kept}
@@ -33,16 +34,16 @@ returns-in-Err-clause-says g c = λ t p kept.
     let status = c.in-Err.status in
     let piece = subst
     (λ (x : Image).
-    Says g.P.Disk {A = Unit {0}} {E = Status} (bytes_at x (take count (drop done p.map))) mid new
+    Says g.P.Disk {A = Unit {0}} {E = Status} (bytes_at x (take count (drop done (sectors_read p)))) mid new
     (Err status))
     before.seen (c.in-Err.ensures.says t p kept) in
-    let both = says_on g.P.Disk (bytes_at image (take done p.map))
-    (bytes_at image (take count (drop done p.map))) old mid new tt (Err status) before piece in
+    let both = says_on g.P.Disk (bytes_at image (take done (sectors_read p)))
+    (bytes_at image (take count (drop done (sectors_read p)))) old mid new tt (Err status) before piece in
     subst (λ (l : List ℕ). Says g.P.Disk {A = Unit {0}} {E = Status} l old new (Err status))
-    (bytes_rest image p.map done count)
+    (bytes_rest image (sectors_read p) done count)
     (says_front g.P.Disk
-    (bytes_at image (take done p.map) ++ bytes_at image (take count (drop done p.map)))
-    (bytes_at image (drop (done + count) p.map)) old new status both)
+    (bytes_at image (take done (sectors_read p)) ++ bytes_at image (take count (drop done (sectors_read p))))
+    (bytes_at image (drop (done + count) (sectors_read p))) old new status both)
 
 pub loop-done-preserved : goal.loop-done-preserved
 loop-done-preserved g c =
@@ -61,13 +62,13 @@ loop-done-preserved g c =
           let before = i.says t p kept in
           let piece = subst
           (λ (x : Image).
-          Says g.P.Disk {A = Unit {0}} {E = Status} (bytes_at x (take count (drop done p.map)))
+          Says g.P.Disk {A = Unit {0}} {E = Status} (bytes_at x (take count (drop done (sectors_read p))))
           mid new (Ok tt))
           before.seen (c.in-Ok.ensures.says t p kept) in
           subst (λ (l : List ℕ). Says g.P.Disk {A = Unit {0}} {E = Status} l old new (Ok tt))
-          (bytes_piece image p.map done count)
-          (says_on g.P.Disk (bytes_at image (take done p.map))
-          (bytes_at image (take count (drop done p.map))) old mid new tt (Ok tt) before piece);
+          (bytes_piece image (sectors_read p) done count)
+          (says_on g.P.Disk (bytes_at image (take done (sectors_read p)))
+          (bytes_at image (take count (drop done (sectors_read p)))) old mid new tt (Ok tt) before piece);
     }
 
 pub returns-clause-says : goal.returns-clause-says
@@ -75,8 +76,9 @@ returns-clause-says g c = λ t p kept.
     let i = c.loop-done.invariant in
     let count = count_kept c.args.device.now c.args.slot c.args.name.now p c.args.blocks kept
     c.requires.part in
-    let all : take c.loop-done.done p.map ≡ p.map =
-    take_all c.loop-done.done p.map (omega (arith, c.loop-done-test.false, count)) in
+    let all : take c.loop-done.done (sectors_read p) ≡ (sectors_read p) =
+    take_all c.loop-done.done (sectors_read p)
+    (omega (arith, c.loop-done-test.false, count, read_long p)) in
     subst
     (λ (l : List ℕ).
     Says g.P.Disk {A = Unit {0}} {E = Status} (bytes_at (g.P.Disk.seen c.args.port.now) l)

@@ -1,6 +1,6 @@
 use Rattle.std.proofs.Common.{◌≡◌, ◌-◌, ◌≤◌, take, Ok}
 use Rattle.vab_device.specs.declared.device.Part.{Part}
-use Rattle.vab_device.specs.Mounted.{bytes_at}
+use Rattle.vab_device.specs.Mounted.{bytes_at, sectors_read}
 use Rattle.vab_manager.specs.Blocks.{KeepsPart}
 use Rattle.vab_cli.specs.declared.status.Status.{Status}
 use Rattle.vab_cli.specs.Telling.{Says}
@@ -15,7 +15,7 @@ invariant-loop-done g l = record {
       → (p : Part)
       → KeepsPart l.device l.slot l.name p
       → Says g.P.Disk {A = Unit {0}} {E = Status}
-      (bytes_at (g.P.Disk.seen l.fn.port) (take l.done p.map)) l.fn.port l.port (Ok tt);
+      (bytes_at (g.P.Disk.seen l.fn.port) (take l.done (sectors_read p))) l.fn.port l.port (Ok tt);
 }
 
 abbrev pub decreases-loop-done : goal.decreases-loop-done
