@@ -4,8 +4,8 @@
 use crate::devices::{device_of_one, reply, reply_staged};
 use std::alloc::Global;
 use std::test::*;
-use vab_device::PartImage;
-use vab_disk::MemPort;
+use vab_device::{PartImage, PhaseKind};
+use vab_disk::{Disk, MemPort};
 use vab_model::{Command, Refusal, Reply};
 use vab_recover::start;
 
@@ -117,6 +117,88 @@ fn an_update_is_begun_edited_flashed_and_dropped(rt: HostRuntime) -> Result<(), 
     assert_eq!(rt; reply(alloc, &mut d, &Command::Begin), Some(Reply::Done));
     assert_eq!(rt; planned(alloc, &mut d, 0), Some((1, 0, b'k', 0)));
     assert_eq!(rt; planned(alloc, &mut d, 1), None);
+    Ok(())
+}
+
+// Where an update stands, and of the first image of slot b `k` or `w` for its own blocks or through
+// its store, and how many exceptions that has.
+fn ready(alloc: Global, d: &mut MemPort) -> Option<(PhaseKind, u8, u64)> {
+    let device = match start(alloc, d) {
+        Ok(device) => device,
+        Err(_) => return None,
+    };
+    let parts = match device.images(1) {
+        Some(parts) => parts.as_slice(),
+        None => return Some((device.phase(), b'-', 0)),
+    };
+    let part = match parts.get(0) {
+        Some(part) => part,
+        None => return None,
+    };
+    let (letter, exceptions) = match &part.image {
+        PartImage::Kept => (b'k', 0),
+        PartImage::Declared => (b'd', 0),
+        PartImage::Written(view) => (b'w', view.count()),
+    };
+    Some((device.phase(), letter, exceptions))
+}
+
+// A store that holds a block which the source has as well counts as it is, and the image is what it
+// holds.
+#[test]
+fn a_store_counts_all_its_exceptions(rt: HostRuntime) -> Result<(), Fail> {
+    let alloc = rt.alloc();
+    let mut d = device_of_one(alloc)?;
+    for command in [Command::Begin, Command::Snapshot(b"x_b", 0)] {
+        assert_eq!(rt; reply(alloc, &mut d, &command), Some(Reply::Done));
+    }
+    let flashed = reply_staged(alloc, &mut d, &Command::Flash(b"x_b"), Some(b"abd"));
+    assert_eq!(rt; flashed, Some(Reply::Done));
+    assert_eq!(rt;
+        ready(alloc, &mut d),
+        Some((PhaseKind::Installing(0), b'-', 0))
+    );
+    // Somebody else writes that image into the source's block.
+    let mut bytes = [0u8; 512];
+    bytes[..3].copy_from_slice(b"abd");
+    assert!(rt; d.sectors() > 6144 && d.write_sector(6144, &bytes).is_ok() && d.sync().is_ok());
+    assert_eq!(rt; reply(alloc, &mut d, &Command::Finish), Some(Reply::Done));
+    assert_eq!(rt; ready(alloc, &mut d), Some((PhaseKind::Staged(0), b'w', 1)));
+    let a = reply(alloc, &mut d, &Command::Digest(b"x_a"));
+    assert!(rt; a == reply(alloc, &mut d, &Command::Digest(b"x_b")));
+    assert!(rt; matches!(a, Some(Reply::Digest(_))));
+    Ok(())
+}
+
+// Wherever it is cut, a finish leaves the update installed or ready, and a cancel of a ready one
+// ready or dropped. What is acknowledged stands.
+#[test]
+fn the_end_of_an_installation_is_cut(rt: HostRuntime) -> Result<(), Fail> {
+    let alloc = rt.alloc();
+    let mut seen = [false; 4];
+    // A finish makes four writes and syncs, a cancel two.
+    for stop in 0..7u64 {
+        let mut d = device_of_one(alloc)?;
+        assert_eq!(rt; reply(alloc, &mut d, &Command::Begin), Some(Reply::Done));
+        let mut d = d.next_run(Vec::new(alloc));
+        d.stop_after(stop);
+        let done = reply(alloc, &mut d, &Command::Finish).is_some();
+        let mut d = d.next_run(Vec::new(alloc));
+        let kept = ready(alloc, &mut d);
+        let installed = kept == Some((PhaseKind::Installing(0), b'-', 0));
+        assert!(rt; kept == Some((PhaseKind::Staged(0), b'k', 0)) || (installed && !done));
+        seen[usize::from(done)] = true;
+        if !done {
+            continue;
+        }
+        d.stop_after(stop.saturating_sub(4));
+        let dropped = reply(alloc, &mut d, &Command::Cancel).is_some();
+        let mut d = d.next_run(Vec::new(alloc));
+        let left = ready(alloc, &mut d);
+        assert!(rt; left == Some((PhaseKind::Idle, b'-', 0)) || (left == kept && !dropped));
+        seen[2 + usize::from(dropped)] = true;
+    }
+    assert!(rt; seen.iter().all(|came| *came), "{seen:?}");
     Ok(())
 }
 

@@ -25,6 +25,8 @@ mod slots;
 #[cfg(test)]
 mod sources;
 #[cfg(test)]
+mod staged;
+#[cfg(test)]
 mod tables;
 #[cfg(test)]
 mod texts;
