@@ -96,8 +96,8 @@ fn is_target_ready(target: &Option<Listing<Part>>) -> bool
     }
 }
 
-/// Whether the boot control and the target of an update keep the rules of the slots. `BadState` comes
-/// exactly where it says.
+/// Whether the boot control and the target of an update keep the rules of the slots. `BadState`
+/// comes exactly where it says.
 pub fn judge_slots(
     control: &Control,
     mark: &UpdateMark,

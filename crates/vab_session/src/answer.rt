@@ -133,8 +133,8 @@ fn carry_out<P: Port>(
     }
 }
 
-// Answers a packet that isn't a download. It hears nothing. No update is merged yet: that is refused,
-// however many blocks are left.
+// Answers a packet that isn't a download. It hears nothing. No update is merged yet: that is
+// refused, however many blocks are left.
 fn command<P: Port>(
     alloc: Global,
     p: &mut P,

@@ -1,4 +1,4 @@
-// An update that is ready: both slots have images, are booted and marked, and the target is dropped.
+// An update that is ready: both slots have images, are booted and marked; the target is dropped.
 
 use crate::packets::{Case, SYSTEM, session};
 use crate::runs::{ONE, SECTORS, Step, port, steps, steps_on, words};
