@@ -5,7 +5,8 @@ ghost use Rattle.vab_device.specs.Kept.{IsDevice};
 ghost use Rattle.vab_device.specs.Mounted.{state_on};
 ghost use Rattle.vab_fbproto.specs.Requests.{variable_of};
 ghost use Rattle.vab_fbproto.specs.Texts.{slot_letter as letter_of};
-ghost use Rattle.vab_fbvars.specs.Variables.{AreSectors, yes_or_no, size_text, status_of, variable_text};
+ghost use Rattle.vab_fbvars.specs.Variables.{AreSectors, yes_or_no, size_text, status_of};
+ghost use Rattle.vab_fbvars.specs.Variables.{variable_text};
 
 use crate::images::{has_base, size_of};
 use crate::put_hexadecimal;
