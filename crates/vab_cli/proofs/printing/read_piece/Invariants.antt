@@ -10,8 +10,8 @@ invariant-loop-block g l = record {
   bytes : g.P.Disk.is_modelled
       → (p : Part)
       → KeepsPart l.device l.slot l.name p
-      → l.piece.items ≡ bytes_at (g.P.Disk.seen l.fn.port) 
-          (take l.block (drop l.first (sectors_read p)));
+      → l.piece.items ≡ bytes_at (g.P.Disk.seen l.fn.port)
+      (take l.block (drop l.first (sectors_read p)));
   long : length l.piece.items ≡ 4096 * l.block;
   reads : OnlyReads g.P.Disk l.fn.port l.port;
   steady : g.P.Disk.faults l.port ≡ g.P.Disk.faults l.fn.port;
