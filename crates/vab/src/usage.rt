@@ -11,6 +11,7 @@ pub const USAGE: &str = "usage: vab DEVICE VERB\n\
     \u{20}   --fresh               make a device without images first\n\
     \u{20} boot             boot the slot of the highest priority\n\
     \u{20} mark             mark the current slot as one that works\n\
+    \u{20} cancel           drop the update that is installed or ready\n\
     \u{20} activate SLOT    make slot a or b the one to boot next\n\
     \u{20} print NAME       the bytes of a partition, as system_a\n\
     \u{20} digest NAME      their SHA-256\n\

@@ -14,7 +14,7 @@ use Rattle.vab_model.specs.Effects.{Effect, Found, Image_is, Refused_by, found_o
 use Rattle.vab_model.specs.Effects.{effect}
 use Rattle.vab_device.specs.declared.device.Device.{Device}
 use Rattle.vab_device.specs.declared.device.Part.{Part}
-use Rattle.vab_device.specs.Mounted.{bytes_at}
+use Rattle.vab_device.specs.Mounted.{Mounted, bytes_at}
 use Rattle.vab_manager.specs.Blocks.{KeepsPart}
 use Rattle.vab_manager.proofs.BlockLaws.{kept_once}
 use Rattle.vab_manager.proofs.DigestLaws.{bytes_append, bytes_more}
@@ -91,8 +91,8 @@ image_told state s name i bytes same found is =
     sym is ∙ sym (ap print_told found) ∙ ap (λ (x : State). print_told (found_of x name)) same
 
 -- and it ends as done
-pub image_done : (state s : State) (name : List ℕ) (i : ImageOfSlot)
-    → state ≡ s
+pub image_done : (state : State) (s : Mounted) (name : List ℕ) (i : ImageOfSlot)
+    → state ≡ s.state
     → found_of state name ≡ Image_is i
     → Done ≡ verb_status s (Print name)
 unfolding effect
@@ -108,8 +108,8 @@ pub refusal_told : (state s : State) (name : List ℕ) (f : Refusal)
 refusal_told state s name f same found =
     sym (ap print_told found) ∙ ap (λ (x : State). print_told (found_of x name)) same
 
-pub refusal_done : (state s : State) (name : List ℕ) (f : Refusal)
-    → state ≡ s
+pub refusal_done : (state : State) (s : Mounted) (name : List ℕ) (f : Refusal)
+    → state ≡ s.state
     → found_of state name ≡ Refused_by f
     → Refused ≡ verb_status s (Print name)
 unfolding effect

@@ -18,7 +18,7 @@ use Rattle.vab_model.specs.Effects.{Effect, print_effect, last_of, steps_of, aft
 use Rattle.vab_model.specs.Effects.{unless_refused}
 use Rattle.vab_device.specs.declared.device.Device.{Device}
 use Rattle.vab_device.specs.declared.fault.StartFault.{StartFault}
-use Rattle.vab_device.specs.Mounted.{Mounted, mounted_on, in_state, effect_in}
+use Rattle.vab_device.specs.Mounted.{Mounted, mounted_on, in_state}
 use Rattle.vab_device.specs.Reading.{device, IsIn, Represents}
 use Rattle.vab_device.proofs.ReadingLaws.{device_stands}
 use Rattle.vab_device.specs.Does.{LeavesStep, Does}
@@ -52,20 +52,22 @@ mounted_is d size image s represents is =
     let same : Ok (mounted_on d image) ≡ Ok s = sym (device_stands d size image represents) ∙ is in
     cc
 
--- a verb is a command of the model, which takes no memory and nothing that is staged
+-- a verb takes no memory
 pub verb_effect : (refused : Bool) (c : Command) (m : Mounted)
     → IsVerb c
-    → unless_refused refused c (effect_on m None c) ≡ effect_in m c
+    → unless_refused refused c (effect_on m None c) ≡ effect_on m None c
 verb_effect true (SetActive slot) m verb = refl
 verb_effect true Boot m verb = refl
 verb_effect true Mark m verb = refl
 verb_effect true (Print name) m verb = refl
 verb_effect true (Digest name) m verb = refl
+verb_effect true Cancel m verb = refl
 verb_effect false (SetActive slot) m verb = refl
 verb_effect false Boot m verb = refl
 verb_effect false Mark m verb = refl
 verb_effect false (Print name) m verb = refl
 verb_effect false (Digest name) m verb = refl
+verb_effect false Cancel m verb = refl
 verb_effect refused Begin m verb = absurd verb
 verb_effect refused (Create name size) m verb = absurd verb
 verb_effect refused (Resize name size) m verb = absurd verb
@@ -73,13 +75,12 @@ verb_effect refused (Delete name) m verb = absurd verb
 verb_effect refused (Snapshot name size) m verb = absurd verb
 verb_effect refused (Flash name) m verb = absurd verb
 verb_effect refused Finish m verb = absurd verb
-verb_effect refused Cancel m verb = absurd verb
 verb_effect refused BeginMerge m verb = absurd verb
 verb_effect refused (Merge blocks) m verb = absurd verb
 
 pub replied : (refused : Bool) (c : Command) (m : Mounted)
     → IsVerb c
-    → (unless_refused refused c (effect_on m None c)).reply ≡ (effect m.state c).reply
+    → (unless_refused refused c (effect_on m None c)).reply ≡ (effect_on m None c).reply
 replied refused c m verb = ap (λ (e : Effect Mounted). e.reply) (verb_effect refused c m verb)
 
 module _ {D : Type 0} (g : Ghosts D) (size : ℕ) where
@@ -134,7 +135,7 @@ module _ {D : Type 0} (g : Ghosts D) (size : ℕ) where
 
     -- before anything is told of it
     leaves_item : (o : Outcome)
-        → LeavesStep (g.told old) size (steps_of s (effect_in s c)) o
+        → LeavesStep (g.told old) size (steps_of s (effect_on s None c)) o
         → LeavesItem (IsIn size) (g.told old) (command_item s c line) o
     leaves_item o left = record {
       front = (0, left.told_so_far ∙ sym (append-nil (g.told old)));
@@ -153,12 +154,12 @@ module _ {D : Type 0} (g : Ghosts D) (size : ℕ) where
         adds_wider g.moment g.outcomes old mid _ _
         (subst
         (λ (n : ℕ).
-        Adds g.moment g.outcomes old mid (LeavesStep (g.told old) n (steps_of s (effect_in s c))))
+        Adds g.moment g.outcomes old mid (LeavesStep (g.told old) n (steps_of s (effect_on s None c))))
         sized
         (subst
         (λ (x : Mounted).
         Adds g.moment g.outcomes old mid
-        (LeavesStep (g.told old) (g.size old) (steps_of x (effect_in x c))))
+        (LeavesStep (g.told old) (g.size old) (steps_of x (effect_on x None c))))
         same
         (subst
         (λ (e : Effect Mounted).
@@ -199,11 +200,11 @@ module _ {D : Type 0} (g : Ghosts D) (size : ℕ) where
       time = λ rest.
           adds_on g.moment g.outcomes old mid new _ _ (doing does t rest)
           (saying (command_item s c line) (g.told old) mid new r says (does.quiet.told t) there
-          (last_step s (effect_in s c).later) (does.rest t rest))
+          (last_step s (effect_on s None c).later) (does.rest t rest))
           (λ o leaves. leaves);
     }
       where
-        there : IsIn size (after_of s (effect_in s c)) (g.seen mid)
+        there : IsIn size (after_of s (effect_on s None c)) (g.seen mid)
         there =
             device_stands d' size (g.seen mid)
             (subst (λ (n : ℕ). Represents d' n (g.seen mid)) sized (does.represents t))
@@ -212,7 +213,7 @@ module _ {D : Type 0} (g : Ghosts D) (size : ℕ) where
             (λ (e : Effect Mounted).
             (let r : Result Mounted StartFault = Ok (after_of (mounted_on d (g.seen old)) e) in r))
             (verb_effect does.refused c (mounted_on d (g.seen old)) verb)
-            ∙ ap (λ (x : Mounted). (let r : Result Mounted StartFault = Ok (after_of x (effect_in x c)) in r)) same
+            ∙ ap (λ (x : Mounted). (let r : Result Mounted StartFault = Ok (after_of x (effect_on x None c)) in r)) same
 
 -- an image's bytes, or why there are none, are told as a line is: nothing changes
 pub print_item : (s : Mounted) (name told : List ℕ)

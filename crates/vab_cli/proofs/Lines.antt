@@ -1,17 +1,16 @@
 -- Lines of commands.
 use Rattle.std.proofs.Common.{◌≡◌, ◌∙◌, ◌⊎◌, inl, inr, ◌<◌, ℕ, List, [], ◌∷◌, ◌++◌, length, codes, decimal}
-use Rattle.std.proofs.Common.{refl, sym, ap, arith, length-append}
+use Rattle.std.proofs.Common.{refl, sym, ap, arith, length-append, None}
 use Rattle.hex.specs.Hex.{encode_lower}
 use Rattle.vab_disk.specs.Disk.{Image}
-use Rattle.vab_model.specs.declared.state.State.{State}
 use Rattle.vab_model.specs.declared.command.Reply.{Reply}
 use Rattle.vab_model.specs.declared.command.Reply.TheVariants as replies
 use Rattle.vab_model.specs.Commands.{Command, SetActive, Boot, Mark, Print, Digest, Begin, Create}
 use Rattle.vab_model.specs.Commands.{Resize, Delete, Snapshot, Flash, Finish, Cancel, BeginMerge}
 use Rattle.vab_model.specs.Commands.{Merge}
-use Rattle.vab_model.specs.Effects.{effect}
 use Rattle.vab_device.specs.declared.device.Device.{Device}
 use Rattle.vab_device.specs.Mounted.{Mounted, state_on, mounted_on}
+use Rattle.vab_device.specs.Updates.{effect_on}
 use Rattle.vab_fbproto.specs.Texts.{slot_letter, refusal_text}
 use Rattle.vab_cli.specs.Codes.{reply_status}
 use Rattle.vab_cli.specs.Verbs.{line, done_line, reply_line, command_line, verb_status}
@@ -34,7 +33,7 @@ done_some (Delete name) current = line_some []
 done_some (Snapshot name size) current = line_some []
 done_some (Flash name) current = line_some []
 done_some Finish current = line_some []
-done_some Cancel current = line_some []
+done_some Cancel current = line_some (codes "cancelled")
 done_some BeginMerge current = line_some []
 done_some (Merge blocks) current = line_some []
 
@@ -59,8 +58,8 @@ reply_kind (replies.Left blocks) = inl refl
 reply_kind replies.Merged = inl refl
 reply_kind (replies.Refused refusal) = inr refl
 
-pub verb_kind : (s : State) (c : Command) → (verb_status s c ≡ Done) ⊎ (verb_status s c ≡ Refused)
-verb_kind s c = reply_kind (effect s c).reply
+pub verb_kind : (m : Mounted) (c : Command) → (verb_status m c ≡ Done) ⊎ (verb_status m c ≡ Refused)
+verb_kind m c = reply_kind (effect_on m None c).reply
 
 current_is : (d : Device) (image : Image) → (state_on d image).control.current ≡ d.control.current
 unfolding state_on
@@ -71,21 +70,21 @@ pub told_line : (d : Device) (image : Image) (s : Mounted) (c : Command) (curren
     (out text : List ℕ)
     → mounted_on d image ≡ s
     → current ≡ d.control.current
-    → reply ≡ (effect (state_on d image) c).reply
+    → reply ≡ (effect_on (mounted_on d image) None c).reply
     → out ≡ reply_line c current reply
     → text ≡ out
-    → text ≡ command_line s.state c
+    → text ≡ command_line s c
 told_line d image s c current reply out text same here replied written is =
     is ∙ written
     ∙ ap (λ (n : ℕ). reply_line c n reply) (here ∙ sym (current_is d image))
     ∙ ap (reply_line c (state_on d image).control.current) replied
-    ∙ ap (λ (m : Mounted). command_line m.state c) same
+    ∙ ap (λ (m : Mounted). command_line m c) same
 
 pub said_status : (d : Device) (image : Image) (s : Mounted) (c : Command) (reply : Reply)
     (status : Status)
     → mounted_on d image ≡ s
-    → reply ≡ (effect (state_on d image) c).reply
+    → reply ≡ (effect_on (mounted_on d image) None c).reply
     → status ≡ reply_status reply
-    → status ≡ verb_status s.state c
+    → status ≡ verb_status s c
 said_status d image s c reply status same replied is =
-    is ∙ ap reply_status replied ∙ ap (λ (m : Mounted). verb_status m.state c) same
+    is ∙ ap reply_status replied ∙ ap (λ (m : Mounted). verb_status m c) same

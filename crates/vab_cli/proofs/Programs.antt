@@ -65,9 +65,9 @@ module _ {D : Type 0}
   -- an item is done whole
   item_whole : (c : Command) (s : Mounted)
       → NoFault (g.faults old) (g.faults new)
-      → RunsItem g (g.size old) s (verb_item s c) (verb_status s.state c) old new status
+      → RunsItem g (g.size old) s (verb_item s c) (verb_status s c) old new status
       ⊎ FailsBefore g (g.size old) s old new status
-      → ((status ≡ verb_status s.state c) × (g.told new ≡ g.told old ++ (verb_item s c).reply))
+      → ((status ≡ verb_status s c) × (g.told new ≡ g.told old ++ (verb_item s c).reply))
       ⊎ (status ≡ NoMemory)
   item_whole c s none (inl runs) =
       ⊎_elim
@@ -83,7 +83,7 @@ module _ {D : Type 0}
       → (g.is_modelled
       → (s : Mounted)
       → IsIn (g.size old) s (g.seen old)
-      → RunsItem g (g.size old) s (verb_item s c) (verb_status s.state c) old new status
+      → RunsItem g (g.size old) s (verb_item s c) (verb_status s c) old new status
       ⊎ FailsBefore g (g.size old) s old new status)
       → (g.is_modelled
       → (fault : StartFault)
@@ -103,7 +103,7 @@ module _ {D : Type 0}
         let one : c ≡ c' = cc in
         subst
         (λ (x : Command).
-        RunsItem g (g.size old) s (verb_item s x) (verb_status s.state x) old new status
+        RunsItem g (g.size old) s (verb_item s x) (verb_status s x) old new status
         ⊎ FailsBefore g (g.size old) s old new status)
         one (runs t s stands);
     none = λ t c' is. none t;
@@ -135,7 +135,7 @@ module _ {D : Type 0}
         let one : c ≡ c' = cc in
         subst
         (λ (x : Command).
-        ((status ≡ verb_status s.state x) × (g.told new ≡ g.told old ++ (verb_item s x).reply))
+        ((status ≡ verb_status s x) × (g.told new ≡ g.told old ++ (verb_item s x).reply))
         ⊎ (status ≡ NoMemory))
         one (item_whole c s held (runs t s stands));
     complete_serve = λ t held is. is_command m (Serve false) c some is refl;

@@ -1,11 +1,12 @@
 -- What verbs touch, by what their functions touch.
 use Rattle.std.proofs.Common.{◌≡◌, ◌⊎◌, ◌∙◌, inl, inr, ⊎_elim, ℕ, List, length, Ok, refl, sym, ap, subst}
-use Rattle.std.specs.Prelude.{Bool, is_some}
+use Rattle.std.specs.Prelude.{◌==◌, Bool, true, Some, None, is_some}
+use Rattle.std.proofs.lemmas.Bool.{eq-eqb}
 use Rattle.vab_disk.specs.declared.disk.Disk.{Ghosts}
 use Rattle.vab_disk.specs.Disk.{Image, set_sector}
 use Rattle.vab_disk.specs.Written.{set_here}
-use Rattle.vab_disk.specs.Calls.{Changes, SameBut}
-use Rattle.vab_disk.proofs.CallLaws.{set_same_but, changes_then, changes_wider}
+use Rattle.vab_disk.specs.Calls.{Changes, SameBut, Touches}
+use Rattle.vab_disk.proofs.CallLaws.{set_same_but, changes_then, changes_wider, changes_touches}
 use Rattle.vab_bootctl.specs.declared.slots.Control.{Control}
 use Rattle.vab_bootctl.specs.Control.{control_of}
 use Rattle.vab_lpstore.specs.Layout.{text_sectors}
@@ -14,15 +15,20 @@ use Rattle.vab_lpstore.proofs.StoreLaws.{repair_elsewhere}
 use Rattle.vab_model.specs.Commands.{Command, SetActive, Boot, Mark, Print, Digest, Begin, Create}
 use Rattle.vab_model.specs.Commands.{Resize, Delete, Snapshot, Flash, Finish, Cancel, BeginMerge}
 use Rattle.vab_model.specs.Commands.{Merge}
+use Rattle.vab_marks.specs.declared.mark.MarkPhase.TheVariants as marks
+use Rattle.vab_device.specs.declared.device.Part.{Part}
 use Rattle.vab_device.specs.declared.device.Device.{Device}
-use Rattle.vab_device.specs.Mounted.{Mounted, state_on}
+use Rattle.vab_device.specs.Kept.{IsDevice}
+use Rattle.vab_device.specs.Mounted.{Mounted, state_on, mounted_on}
 use Rattle.vab_device.specs.Reading.{IsIn, Represents}
 use Rattle.vab_recover.specs.Repairs.{IsRepair}
 use Rattle.vab_recover.proofs.OpenLaws.{control_stays}
 use Rattle.vab_manager.specs.Controls.{IsOfSlots, IsOfCommand}
+use Rattle.vab_begin.specs.Writes.{MayEnd, IsOfCancelled}
+use Rattle.vab_begin.proofs.KeptLaws.{planned_of, unplanned_of}
 use Rattle.vab_commands.specs.Touched as commands
 use Rattle.vab_commands.specs.Writes as writes
-use Rattle.vab_cli.specs.Touched.{IsOfServing}
+use Rattle.vab_cli.specs.Touched.{IsOfServing, IsOfItem, IsDropped, dropped_from}
 use Rattle.vab_cli.specs.Verbs.{IsVerb}
 use Rattle.vab_manager.proofs.EffectLaws.{some_images}
 use Rattle.vab_cli.proofs.Items.{mounted_is}
@@ -82,7 +88,7 @@ said_by W d size image m boot represents is there w =
     (subst (λ (x : Bool). W d.control x (is_some m.state.b)) a
     (subst (λ (x : Bool). W d.control (is_some d.a) x) b w))
 
-pub slots_are : (d : Device) (size : ℕ) (image : Image) (m : Mounted) (boot : Control) (c : Command)
+slots_are : (d : Device) (size : ℕ) (image : Image) (m : Mounted) (boot : Control) (c : Command)
     (s : ℕ) (bytes : List ℕ)
     → Represents d size image
     → IsIn size m image
@@ -92,17 +98,78 @@ pub slots_are : (d : Device) (size : ℕ) (image : Image) (m : Mounted) (boot : 
 slots_are d size image m boot c s bytes =
     said_by (λ k a b. IsOfSlots k a b (image 4) c s bytes) d size image m boot
 
--- a verb writes what a command on slots does
-pub verb_writes : (told : Type 0) (d : Device) (old : List ℕ) (c : Command)
+-- ---- an update that is dropped
+
+dropped_installed : (d : Device) (image : Image) (plan : List Part)
+    → d.plan ≡ Some plan
+    → dropped_from (state_on d image).control.current (state_on d image).phase ≡ Some d.mark.slot
+unfolding state_on
+dropped_installed d image plan is = rw is refl
+
+dropped_ready : (d : Device) (image : Image)
+    → d.plan ≡ None
+    → d.mark.phase ≡ marks.Staged
+    → (d.control.current == d.mark.slot) ≡ true
+    → dropped_from (state_on d image).control.current (state_on d image).phase ≡ Some d.mark.slot
+unfolding state_on
+dropped_ready d image plan phase at = rw (plan, phase, at) refl
+
+source_is : (d : Device) (size : ℕ) (image : Image)
+    → IsDevice d size
+    → MayEnd d
+    → dropped_from (state_on d image).control.current (state_on d image).phase ≡ Some d.mark.slot
+source_is d size image kept (inl installing) =
+    let plan = planned_of d size kept installing in
+    dropped_installed d image plan.0 plan.1
+source_is d size image kept (inr ready) =
+    dropped_ready d image (unplanned_of d size marks.Staged kept refl ready.0) ready.0
+    (eq-eqb d.control.current d.mark.slot ready.1)
+
+dropped_is : (d : Device) (size : ℕ) (image : Image) (m : Mounted) (s : ℕ) (bytes : List ℕ)
+    → IsDevice d size
+    → mounted_on d image ≡ m
+    → IsOfCancelled d s bytes
+    → IsDropped m s bytes
+dropped_is d size image m s bytes kept same w = record {
+  source = d.mark.slot;
+  is =
+      ap (λ (x : Mounted). dropped_from x.state.control.current x.state.phase) (sym same)
+      ∙ source_is d size image kept w.ends;
+  mark = w.mark;
+}
+
+-- ---- a verb writes what a command on slots does, or a cancel
+
+abbrev pub IsOfEither : Device → List ℕ → Command → ℕ → List ℕ → Type 0
+IsOfEither d old c s b = IsOfCommand d old c s b ⊎ ((c ≡ Cancel) × IsOfCancelled d s b)
+
+pub item_is : (d : Device) (size : ℕ) (image : Image) (m : Mounted) (boot : Control) (c : Command)
+    (s : ℕ) (bytes : List ℕ)
+    → IsDevice d size
+    → Represents d size image
+    → IsIn size m image
+    → control_of (image 4) ≡ Ok boot
+    → IsOfEither d (image 4) c s bytes
+    → IsOfItem m boot c (image 4) s bytes
+item_is d size image m boot c s bytes kept represents is there (inl w) =
+    inl (slots_are d size image m boot c s bytes represents is there w)
+item_is d size image m boot c s bytes kept represents is there (inr w) =
+    inr (
+      w.0,
+      dropped_is d size image m s bytes kept (mounted_is d size image m represents is) w.1,
+    )
+
+verb_writes : (told : Type 0) (d : Device) (old : List ℕ) (c : Command)
     → IsVerb c
     → (s : ℕ) (b : List ℕ)
     → writes.IsOfCommand told d old c s b
-    → IsOfCommand d old c s b
-verb_writes told d old (SetActive slot) verb s b w = w
-verb_writes told d old Boot verb s b w = w
-verb_writes told d old Mark verb s b w = w
-verb_writes told d old (Print name) verb s b w = w
-verb_writes told d old (Digest name) verb s b w = w
+    → IsOfEither d old c s b
+verb_writes told d old (SetActive slot) verb s b w = inl w
+verb_writes told d old Boot verb s b w = inl w
+verb_writes told d old Mark verb s b w = inl w
+verb_writes told d old (Print name) verb s b w = absurd w
+verb_writes told d old (Digest name) verb s b w = absurd w
+verb_writes told d old Cancel verb s b w = inr (refl, w)
 verb_writes told d old Begin verb s b w = absurd verb
 verb_writes told d old (Create name size) verb s b w = absurd verb
 verb_writes told d old (Resize name size) verb s b w = absurd verb
@@ -110,9 +177,25 @@ verb_writes told d old (Delete name) verb s b w = absurd verb
 verb_writes told d old (Snapshot name size) verb s b w = absurd verb
 verb_writes told d old (Flash name) verb s b w = absurd verb
 verb_writes told d old Finish verb s b w = absurd verb
-verb_writes told d old Cancel verb s b w = absurd verb
 verb_writes told d old BeginMerge verb s b w = absurd verb
 verb_writes told d old (Merge blocks) verb s b w = absurd verb
+
+-- what a verb's command touches
+pub verb_changes : {D : Type 0}
+    (g : Ghosts D)
+    (d : Device) (size : ℕ) (old new : D) (m : Mounted) (boot : Control) (c : Command)
+    → IsVerb c
+    → IsDevice d size
+    → Represents d size (g.seen old)
+    → IsIn size m (g.seen old)
+    → control_of (g.seen old 4) ≡ Ok boot
+    → Touches g (writes.IsOfCommand g.is_modelled d (g.seen old 4) c) old new
+    → Changes g (IsOfItem m boot c (g.seen old 4)) old new
+verb_changes g d size old new m boot c verb kept represents is there touches =
+    changes_wider g _ _ old new (changes_touches g _ _ _ touches)
+    (λ n x w.
+    item_is d size (g.seen old) m boot c n x kept represents is there
+    (verb_writes g.is_modelled d (g.seen old 4) c verb n x w))
 
 -- ---- opening, and then what writes so, where the boot control's sector has these bytes
 

@@ -54,16 +54,16 @@ pub record DoesVerb {D : Type 0}
     (m : Meaning)
     (old new : D)
     (status : Status) : Type 0 where
-  -- `boot`, `mark`, `activate S`, `print NAME`, `digest NAME` over a disk that is a device: one
-  -- item, done or refused as the table of effects says, with its line or bytes told. Each cut of
-  -- power leaves a front of what is told and one of its steps, and where all is told the last. Or
-  -- the disk failed or memory was refused while it was opened.
+  -- `boot`, `mark`, `cancel`, `activate S`, `print NAME`, `digest NAME` over a disk that is a
+  -- device: one item, done or refused as the table of effects says, with its line or bytes told.
+  -- Each cut of power leaves a front of what is told and one of its steps, and where all is told
+  -- the last. Or the disk failed or memory was refused while it was opened.
   pub item : g.is_modelled
       → (c : Command)
       → command_of m ≡ Some c
       → (s : Mounted)
       → IsIn (g.size old) s (g.seen old)
-      → RunsItem g (g.size old) s (verb_item s c) (verb_status s.state c) old new status
+      → RunsItem g (g.size old) s (verb_item s c) (verb_status s c) old new status
       ⊎ FailsBefore g (g.size old) s old new status
   -- Over a disk that is none: `not a device`, status 5, and nothing is written.
   pub none : g.is_modelled
@@ -73,8 +73,8 @@ pub record DoesVerb {D : Type 0}
       → device (g.size old) (g.seen old) ≡ Err fault
       → RunsNone g (g.size old) none_line old new status
   -- They write what opening repairs, and boot control's sector where the command is one on slots:
-  -- the boot control that the boot rules make of the one that is there, of both slots; all else
-  -- stays, as it reads and in each outcome.
+  -- the boot control that the boot rules make of the one that is there, of both slots. `cancel`
+  -- writes the mark. All else stays, as it reads and in each outcome.
   pub touches : g.is_modelled
       → (c : Command)
       → command_of m ≡ Some c
@@ -179,7 +179,7 @@ pub record DoesVerb {D : Type 0}
       → command_of m ≡ Some c
       → (s : Mounted)
       → IsIn (g.size old) s (g.seen old)
-      → ((status ≡ verb_status s.state c) × (g.told new ≡ g.told old ++ (verb_item s c).reply))
+      → ((status ≡ verb_status s c) × (g.told new ≡ g.told old ++ (verb_item s c).reply))
       ⊎ (status ≡ NoMemory)
   pub complete_serve : g.is_modelled
       → NoFault (g.faults old) (g.faults new)

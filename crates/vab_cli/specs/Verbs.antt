@@ -3,18 +3,17 @@
 use Rattle.std.specs.Prelude.{ℕ, Bool, true, false, List, length, [], ◌∷◌, ◌++◌, codes, decimal}
 use Rattle.std.specs.Prelude.{Option, Some, None}
 use Rattle.hex.specs.Hex.{encode_lower}
-use Rattle.vab_model.specs.declared.state.State.{State}
 use Rattle.vab_model.specs.declared.command.Reply.{Reply}
 use Rattle.vab_model.specs.declared.command.Reply.TheVariants as replies
 use Rattle.vab_model.specs.declared.command.Refusal.{Refusal}
 use Rattle.vab_model.specs.Commands.{Command, SetActive, Boot, Mark, Print, Digest, Begin, Create}
 use Rattle.vab_model.specs.Commands.{Resize, Delete, Snapshot, Flash, Finish, Cancel, BeginMerge}
 use Rattle.vab_model.specs.Commands.{Merge}
-use Rattle.vab_model.specs.Effects.{Found, Image_is, Refused_by, found_of, effect, steps_of}
-use Rattle.vab_model.specs.Effects.{after_of}
+use Rattle.vab_model.specs.Effects.{Found, Image_is, Refused_by, found_of, steps_of, after_of}
 use Rattle.vab_tables.specs.Rules.{cap_of}
 use Rattle.vab_set.specs.declared.set.SetImage.{SetImage}
-use Rattle.vab_device.specs.Mounted.{Mounted, effect_in}
+use Rattle.vab_device.specs.Mounted.{Mounted}
+use Rattle.vab_device.specs.Updates.{effect_on}
 use Rattle.vab_make.specs.declared.fault.MakeFault.{MakeFault}
 use Rattle.vab_make.specs.declared.fault.MakeFault.TheVariants as make
 use Rattle.vab_make.specs.Made.{set_blocks, made_device}
@@ -34,6 +33,7 @@ command_of (words.Make limit metadata_max) = None
 command_of (words.Serve fresh) = None
 command_of words.Boot = Some Boot
 command_of words.Mark = Some Mark
+command_of words.Cancel = Some Cancel
 command_of (words.Activate slot) = Some (SetActive slot)
 command_of (words.Print name) = Some (Print name)
 command_of (words.Digest name) = Some (Digest name)
@@ -52,7 +52,7 @@ IsVerb (Delete name) = ⊥
 IsVerb (Snapshot name size) = ⊥
 IsVerb (Flash name) = ⊥
 IsVerb Finish = ⊥
-IsVerb Cancel = ⊥
+IsVerb Cancel = Unit {0}
 IsVerb BeginMerge = ⊥
 IsVerb (Merge blocks) = ⊥
 
@@ -83,7 +83,7 @@ done_line (Delete name) current = line []
 done_line (Snapshot name size) current = line []
 done_line (Flash name) current = line []
 done_line Finish current = line []
-done_line Cancel current = line []
+done_line Cancel current = line (codes "cancelled")
 done_line BeginMerge current = line []
 done_line (Merge blocks) current = line []
 
@@ -97,9 +97,9 @@ reply_line c current (replies.Left blocks) = line (codes "left " ++ decimal bloc
 reply_line c current replies.Merged = line (codes "merged")
 reply_line c current (replies.Refused refusal) = refused_line refusal
 
--- the line of a command on a device in this state
-abbrev pub command_line : State → Command → List ℕ
-command_line s c = reply_line c s.control.current (effect s c).reply
+-- the line of a command on a device
+abbrev pub command_line : Mounted → Command → List ℕ
+command_line m c = reply_line c m.state.control.current (effect_on m None c).reply
 
 -- an image's bytes, or why there are none
 abbrev pub print_told : Found → List ℕ
@@ -107,22 +107,22 @@ print_told (Image_is image) = image.bytes
 print_told (Refused_by refusal) = refused_line refusal
 
 -- what is told of a command: the bytes of an image, or its line
-abbrev pub told_of : State → Command → List ℕ
-told_of s (Print name) = print_told (found_of s name)
-told_of s (SetActive slot) = command_line s (SetActive slot)
-told_of s Boot = command_line s Boot
-told_of s Mark = command_line s Mark
-told_of s (Digest name) = command_line s (Digest name)
-told_of s Begin = command_line s Begin
-told_of s (Create name size) = command_line s (Create name size)
-told_of s (Resize name size) = command_line s (Resize name size)
-told_of s (Delete name) = command_line s (Delete name)
-told_of s (Snapshot name size) = command_line s (Snapshot name size)
-told_of s (Flash name) = command_line s (Flash name)
-told_of s Finish = command_line s Finish
-told_of s Cancel = command_line s Cancel
-told_of s BeginMerge = command_line s BeginMerge
-told_of s (Merge blocks) = command_line s (Merge blocks)
+abbrev pub told_of : Mounted → Command → List ℕ
+told_of m (Print name) = print_told (found_of m.state name)
+told_of m (SetActive slot) = command_line m (SetActive slot)
+told_of m Boot = command_line m Boot
+told_of m Mark = command_line m Mark
+told_of m (Digest name) = command_line m (Digest name)
+told_of m Begin = command_line m Begin
+told_of m (Create name size) = command_line m (Create name size)
+told_of m (Resize name size) = command_line m (Resize name size)
+told_of m (Delete name) = command_line m (Delete name)
+told_of m (Snapshot name size) = command_line m (Snapshot name size)
+told_of m (Flash name) = command_line m (Flash name)
+told_of m Finish = command_line m Finish
+told_of m Cancel = command_line m Cancel
+told_of m BeginMerge = command_line m BeginMerge
+told_of m (Merge blocks) = command_line m (Merge blocks)
 
 -- ---- items
 
@@ -130,8 +130,8 @@ told_of s (Merge blocks) = command_line s (Merge blocks)
 abbrev pub command_item : Mounted → Command → List ℕ → Item Mounted
 command_item m c told = record {
   reply = told;
-  steps = steps_of m (effect_in m c);
-  last = nothing_staged (after_of m (effect_in m c));
+  steps = steps_of m (effect_on m None c);
+  last = nothing_staged (after_of m (effect_on m None c));
 }
 
 -- this is told, and nothing changes
@@ -140,11 +140,11 @@ line_item m told = record { reply = told; steps = m ∷ []; last = nothing_stage
 
 -- the one item of a verb on a device
 abbrev pub verb_item : Mounted → Command → Item Mounted
-verb_item m c = command_item m c (told_of m.state c)
+verb_item m c = command_item m c (told_of m c)
 
 -- and how it ends
-abbrev pub verb_status : State → Command → Status
-verb_status s c = reply_status (effect s c).reply
+abbrev pub verb_status : Mounted → Command → Status
+verb_status m c = reply_status (effect_on m None c).reply
 
 -- ---- making a device
 

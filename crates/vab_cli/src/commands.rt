@@ -1,5 +1,5 @@
 //! The verbs that are one command.
-ghost use Rattle.std.specs.Prelude.{◌≡◌, ◌≢◌, ◌⊎◌, is_some, IfOk, IfErr, OnOk, IsErrOf, Ok, Err};
+ghost use Rattle.std.specs.Prelude.{◌≡◌, ◌≢◌, ◌⊎◌, IfOk, IfErr, OnOk, IsErrOf, Ok, Err};
 ghost use Rattle.vab_disk.specs.Disk.{Rose};
 ghost use Rattle.vab_disk.specs.Calls.{Changes};
 ghost use Rattle.vab_bootctl.specs.declared.slots.Control.{Control};
@@ -9,12 +9,11 @@ ghost use Rattle.vab_device.specs.declared.fault.StartFault.{StartFault as Fault
 ghost use Rattle.vab_device.specs.Kept.{IsDevice};
 ghost use Rattle.vab_device.specs.Mounted.{Mounted};
 ghost use Rattle.vab_device.specs.Reading.{device, IsIn, Represents};
-ghost use Rattle.vab_manager.specs.Controls.{IsOfSlots};
 ghost use Rattle.vab_cli.specs.Counts.{HearsNothing, IsSteady};
 ghost use Rattle.vab_cli.specs.Telling.{DoesItem};
 ghost use Rattle.vab_cli.specs.Verbs.{none_line, command_line, command_item, verb_status};
 ghost use Rattle.vab_cli.specs.Verbs.{IsVerb};
-ghost use Rattle.vab_cli.specs.Touched.{IsOfVerb};
+ghost use Rattle.vab_cli.specs.Touched.{IsOfItem, IsOfVerb};
 ghost use Rattle.vab_cli.specs.Runs.{RunsItem, FailsBefore, RunsNone, IsFailed};
 
 use crate::Status;
@@ -42,20 +41,19 @@ fn do_command<P: Port>(
         → (s : Mounted)
         → IsIn (P.size port.old) s (P.seen port.old)
         → DoesItem P.Disk (P.size port.old)
-        (command_item s (command_of command.now) (command_line s.state (command_of command.now)))
+        (command_item s (command_of command.now) (command_line s (command_of command.now)))
         port.old port.new result }
     ensures status { P.is_modelled
         → (s : Mounted)
         → IsIn (P.size port.old) s (P.seen port.old)
-        → IfOk result (λ status. status ≡ verb_status s.state (command_of command.now)) }
+        → IfOk result (λ status. status ≡ verb_status s (command_of command.now)) }
     ensures changes { P.is_modelled
         → (s : Mounted)
         → IsIn (P.size port.old) s (P.seen port.old)
         → (boot : Control)
         → control_of (P.seen port.old 4) ≡ Ok boot
         → Changes P.Disk
-        (IsOfSlots boot (is_some s.state.a) (is_some s.state.b) (P.seen port.old 4)
-        (command_of command.now))
+        (IsOfItem s boot (command_of command.now) (P.seen port.old 4))
         port.old port.new }
     ensures quiet { P.is_modelled → HearsNothing P.Disk port.old port.new }
     ensures steady { OnOk result (P.faults port.new ≡ P.faults port.old) }
@@ -86,8 +84,8 @@ pub(crate) fn carry_out<P: Port>(alloc: Global, port: &mut P, command: &Command)
         → (s : Mounted)
         → IsIn (P.size port.old) s (P.seen port.old)
         → RunsItem P.Disk (P.size port.old) s
-        (command_item s (command_of command.now) (command_line s.state (command_of command.now)))
-        (verb_status s.state (command_of command.now))
+        (command_item s (command_of command.now) (command_line s (command_of command.now)))
+        (verb_status s (command_of command.now))
         port.old port.new result
         ⊎ FailsBefore P.Disk (P.size port.old) s port.old port.new result }
     ensures none { P.is_modelled

@@ -53,6 +53,7 @@ fn done_line(command: &Command, current: usize, out: &mut Line)
     match command {
         Command::SetActive(slot) => put_line(out, b"active ", slot_letter(*slot)),
         Command::Mark => put_line(out, b"marked ", slot_letter(current)),
+        Command::Cancel => put_line(out, b"cancelled", b""),
         Command::Boot
         | Command::Print(_)
         | Command::Digest(_)
@@ -63,7 +64,6 @@ fn done_line(command: &Command, current: usize, out: &mut Line)
         | Command::Snapshot(_, _)
         | Command::Flash(_)
         | Command::Finish
-        | Command::Cancel
         | Command::BeginMerge
         | Command::Merge(_) => put_line(out, b"", b""),
     }

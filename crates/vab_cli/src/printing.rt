@@ -187,7 +187,7 @@ fn print_image<P: Port>(port: &mut P, device: &Device, name: &[u8]) -> Result<St
     ensures status { P.is_modelled
         → (s : Mounted)
         → IsIn (P.size port.old) s (P.seen port.old)
-        → IfOk result (λ status. status ≡ verb_status s.state (PrintOf name.now)) }
+        → IfOk result (λ status. status ≡ verb_status s (PrintOf name.now)) }
     ensures changes { P.is_modelled → Changes P.Disk (λ s b. ⊥) port.old port.new }
     ensures quiet { P.is_modelled → HearsNothing P.Disk port.old port.new }
     ensures steady { OnOk result (P.faults port.new ≡ P.faults port.old) }
@@ -214,7 +214,7 @@ pub(crate) fn print<P: Port>(alloc: Global, port: &mut P, name: &[u8]) -> Status
         → IsIn (P.size port.old) s (P.seen port.old)
         → RunsItem P.Disk (P.size port.old) s
         (command_item s (PrintOf name.now) (print_told (found_of s.state name.now)))
-        (verb_status s.state (PrintOf name.now))
+        (verb_status s (PrintOf name.now))
         port.old port.new result
         ⊎ FailsBefore P.Disk (P.size port.old) s port.old port.new result }
     ensures none { P.is_modelled

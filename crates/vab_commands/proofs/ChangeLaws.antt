@@ -1,11 +1,11 @@
 -- What commands write, one behind the other.
 use Rattle.std.proofs.Common.{◌≡◌, ◌∙◌, inl, inr, ⊎_elim, ℕ, List, [], ◌∷◌, Ok, sym, ap}
 use Rattle.std.proofs.Common.{Result, subst, arith}
-use Rattle.std.specs.Prelude.{◌-◌, ◌*◌, ◌≤◌, Bool, Option, Some, None, is_some, ◌==◌, if◌then◌else◌}
+use Rattle.std.specs.Prelude.{◌-◌, ◌*◌, ◌≤◌, Bool, true, Option, Some, None, is_some, ◌==◌, if◌then◌else◌}
 use Rattle.vab_disk.specs.declared.disk.Disk.{Ghosts}
 use Rattle.vab_disk.specs.Calls.{Touches}
 use Rattle.vab_disk.proofs.CallLaws.{changes_touches, changes_then, changes_wider}
-use Rattle.vab_bootctl.specs.Boot.{activated_of}
+use Rattle.vab_bootctl.specs.Boot.{activated_of, booted_of}
 use Rattle.vab_bootctl.specs.Control.{control_of, KeepsRest}
 use Rattle.vab_marks.specs.declared.mark.MarkPhase.TheVariants as marks
 use Rattle.vab_geometry.specs.declared.geometry.Geometry.{Geometry}
@@ -18,11 +18,9 @@ use Rattle.vab_model.specs.Commands.{Merge}
 use Rattle.vab_device.specs.declared.device.Device.{Device}
 use Rattle.vab_device.specs.declared.device.Part.{Part}
 use Rattle.vab_device.specs.Does.{KeepsSource}
-use Rattle.vab_device.specs.Kept.{IsDevice, copies_end, has_both, parts_at}
+use Rattle.vab_device.specs.Kept.{IsDevice, copies_end, has_both, has_slot, parts_at}
 use Rattle.vab_device.specs.Reading.{Represents, IsOfImages}
 use Rattle.vab_edit.specs.Writes.{IsOfPhase}
-use Rattle.vab_begin.proofs.KeptLaws.{current_of}
-use Rattle.vab_finish.proofs.StepLaws.{installing_of}
 use Rattle.vab_manager.specs.Controls.{IsControl}
 use Rattle.vab_commands.specs.Controls.{Step, controls_by, IsOfControls}
 use Rattle.vab_commands.specs.Writes.{IsOfCommand}
@@ -56,19 +54,21 @@ module _ {D : Type 0}
   of_text text = inr (inr (inr (inl text)))
 
   abbrev step : Command → Step
-  step command = record { a = is_some d.a; b = is_some d.b; command = command }
+  step command = record { both = has_both d.mark.phase; command = command }
 
-  -- nothing is said of the slot that isn't the current one
-  cleared_control : d.control.current ≡ d.mark.slot
-      → IsClearing g.is_modelled (cleared_of d.control (other_slot d.mark.slot)) (g.seen old 4) s b
-      → IsControl (cleared_of d.control (other_slot d.control.current)) (g.seen old 4) s b
-  cleared_control current is = record {
-    at = is.at;
-    control =
-        is.control
-        ∙ ap (λ (slot : ℕ). Ok (cleared_of d.control (other_slot slot))) (sym current);
-    rest = is.rest t;
-  }
+  -- what is said of which slots have images
+  by_phase : (W : Bool → Bool → Type 0)
+      → W (is_some d.a) (is_some d.b)
+      → W (has_slot d.mark.phase d.mark.slot 0) (has_slot d.mark.phase d.mark.slot 1)
+  by_phase W w =
+      subst (λ (x : Bool). W x (has_slot d.mark.phase d.mark.slot 1)) device.has_a
+      (subst (W (is_some d.a)) device.has_b w)
+
+  -- nothing is said of the slot that isn't the mark's
+  cleared_control : IsClearing g.is_modelled (cleared_of d.control (other_slot d.mark.slot))
+      (g.seen old 4) s b
+      → IsControl (cleared_of d.control (other_slot d.mark.slot)) (g.seen old 4) s b
+  cleared_control is = record { at = is.at; control = is.control; rest = is.rest t }
 
   -- what a command writes is of those that commands write
   pub one_writes : (command : Command)
@@ -80,12 +80,20 @@ module _ {D : Type 0}
       at = w.1.at;
       control =
           w.1.control
-          ∙ ap Ok (sym (chosen (if slot == 0 then is_some d.a else is_some d.b)
-          (activated_of d.control slot) d.control w.0));
+          ∙ ap Ok (sym (chosen
+          (if slot == 0
+          then has_slot d.mark.phase d.mark.slot 0
+          else has_slot d.mark.phase d.mark.slot 1)
+          (activated_of d.control slot) d.control
+          (by_phase (λ a b. (if slot == 0 then a else b) ≡ true) w.0)));
       rest = w.1.rest;
     };
   })
-  one_writes Boot w = inl (record { steps = step Boot ∷ []; writes = w })
+  one_writes Boot w = inl (record {
+    steps = step Boot ∷ [];
+    writes =
+        by_phase (λ x y. IsControl (booted_of d.control (x ∷ y ∷ [])) (g.seen old 4) s b) w;
+  })
   one_writes Mark w = inl (record { steps = step Mark ∷ []; writes = w })
   one_writes (Print name) w = absurd w
   one_writes (Digest name) w = absurd w
@@ -97,7 +105,7 @@ module _ {D : Type 0}
       (λ control.
       inl (record {
         steps = step Begin ∷ [];
-        writes = cleared_control (current_of d (g.size old) device (ap has_both w.idle)) control;
+        writes = cleared_control control;
       }))
       (λ statuses. inr (inr (inl statuses)))
       clearing)
@@ -123,11 +131,7 @@ module _ {D : Type 0}
       (λ control.
       inl (record {
         steps = step Finish ∷ [];
-        writes =
-            cleared_control
-            (current_of d (g.size old) device
-            (ap has_both (installing_of d (g.size old) device w.ready)))
-            control;
+        writes = cleared_control control;
       }))
       (λ mark. inr (inl (record { phase = marks.Staged; is = mark })))
       w.writes
@@ -207,7 +211,7 @@ module _ {D : Type 0}
     (is : Represents d' size (g.seen mid))
     (keeps : KeepsSource d d')
     (first : ChangesDevice g d old mid) where
-  reached : Reached d.control (g.seen old 4) d'.control (g.seen mid 4)
+  reached : Reached d.mark.slot d.control (g.seen old 4) d'.control (g.seen mid 4)
   reached =
       ⊎_elim
       (λ same. record {
@@ -221,7 +225,7 @@ module _ {D : Type 0}
       (λ of. record {
         steps = of.steps;
         control =
-            same_ok d'.control (controls_by of.steps d.control)
+            same_ok d'.control (controls_by d.mark.slot of.steps d.control)
             (sym is.control ∙ of.writes.control);
         rest = of.writes.rest;
       })
@@ -264,6 +268,7 @@ module _ {D : Type 0}
       (λ s x w.
       ⊎_elim {C = W s x}
       (λ of.
-      inl (writes_behind d.control d'.control (g.seen old 4) (g.seen mid 4) s x reached of))
+      inl (writes_behind d.mark.slot d.control d'.control (g.seen old 4) (g.seen mid 4) s x reached
+      (subst (λ (slot : ℕ). IsOfControls slot d'.control (g.seen mid 4) s x) keeps.slot of)))
       (λ of. inr (update_behind s x of))
       w))

@@ -3,15 +3,14 @@ use Rattle.std.proofs.Common.{◌≡◌, ◌∙◌, ℕ, List, [], ◌∷◌, �
 use Rattle.std.specs.Prelude.{Bool, true, false, if◌then◌else◌}
 use Rattle.vab_bootctl.specs.declared.slots.Control.{Control}
 use Rattle.vab_bootctl.specs.Control.{KeepsRest}
-use Rattle.vab_model.specs.Commands.{Command}
-use Rattle.vab_commands.specs.Controls.{Step, control_by, controls_by, IsOfControls}
+use Rattle.vab_commands.specs.Controls.{Step, control_at, controls_by, IsOfControls}
 
 -- ---- lists of commands
 
-pub controls_append : (xs ys : List Step) (c : Control)
-    → controls_by (xs ++ ys) c ≡ controls_by ys (controls_by xs c)
-controls_append [] ys c = refl
-controls_append (x ∷ xs) ys c = controls_append xs ys (control_by x.a x.b x.command c)
+pub controls_append : (source : ℕ) (xs ys : List Step) (c : Control)
+    → controls_by source (xs ++ ys) c ≡ controls_by source ys (controls_by source xs c)
+controls_append source [] ys c = refl
+controls_append source (x ∷ xs) ys c = controls_append source xs ys (control_at source x c)
 
 -- ---- the other bits of the sector
 
@@ -33,20 +32,26 @@ chosen false x y is = absurd (let no : false ≡ true = is in cc)
 -- ---- commands behind others
 
 -- What commands left: a boot control, and bytes that keep the rest of the first ones.
-pub record Reached (first : Control) (old : List ℕ) (c : Control) (mid : List ℕ) : Type 0 where
+pub record Reached
+    (source : ℕ)
+    (first : Control)
+    (old : List ℕ)
+    (c : Control)
+    (mid : List ℕ) : Type 0 where
   pub steps : List Step
-  pub control : c ≡ controls_by steps first
+  pub control : c ≡ controls_by source steps first
   pub rest : KeepsRest old mid
 
 -- what commands write behind others
-pub writes_behind : (first c : Control) (old mid : List ℕ) (s : ℕ) (bytes : List ℕ)
-    → Reached first old c mid
-    → IsOfControls c mid s bytes
-    → IsOfControls first old s bytes
-writes_behind first c old mid s bytes reached is =
-    let whole : controls_by is.steps c ≡ controls_by (reached.steps ++ is.steps) first =
-    ap (controls_by is.steps) reached.control
-    ∙ sym (controls_append reached.steps is.steps first) in
+pub writes_behind : (source : ℕ) (first c : Control) (old mid : List ℕ) (s : ℕ) (bytes : List ℕ)
+    → Reached source first old c mid
+    → IsOfControls source c mid s bytes
+    → IsOfControls source first old s bytes
+writes_behind source first c old mid s bytes reached is =
+    let whole : controls_by source is.steps c
+    ≡ controls_by source (reached.steps ++ is.steps) first =
+    ap (controls_by source is.steps) reached.control
+    ∙ sym (controls_append source reached.steps is.steps first) in
     record {
       steps = reached.steps ++ is.steps;
       writes = record {

@@ -41,7 +41,7 @@ IsOfUpdate d s b =
 
 -- What commands may write, one behind the other, from this device on.
 abbrev pub IsOfCommands : Device → List ℕ → ℕ → List ℕ → Type 0
-IsOfCommands d old s b = IsOfControls d.control old s b ⊎ IsOfUpdate d s b
+IsOfCommands d old s b = IsOfControls d.mark.slot d.control old s b ⊎ IsOfUpdate d s b
 
 -- What commands do to the sectors of a device, one behind the other, whatever is heard and told:
 -- each sector reads and may be left by a crash as before, but for what they may write; the same in

@@ -9,7 +9,7 @@ use Rattle.vab_finish.specs.Finished.{staged_mark}
 use Rattle.vab_finish.specs.Ready.{MayFinish}
 
 -- Where boot control's sector had these bytes: boot control with nothing said of the target, and
--- then the mark that it may be booted. Where the installation may not end, nothing is written.
+-- then the mark that it has images. Where the installation may not end, nothing is written.
 pub record IsOfFinished (told : Type 0) (d : Device) (old : List ℕ) (s : ℕ) (b : List ℕ) : Type 0
   where
     pub ready : MayFinish d

@@ -62,8 +62,8 @@ fn end_installation<D: Disk>(d: &mut D, device: Device) -> Result<(Device, Reply
     }
 }
 
-/// Ends an installation: the target has the images of its plan, and nothing is said of it in boot
-/// control, before one gate of the update mark says that it may be booted. Refused with
+/// Ends an installation: boot control says nothing of the target any more, and then one gate of the
+/// update mark gives the target the images of its plan, so that it may be set active. Refused with
 /// `NotInstalling` where no update is installed, and with `Incomplete` where a partition isn't
 /// written, the first by its base name. No image is copied, and no memory is taken.
 pub fn finish<D: Disk>(d: &mut D, device: Device) -> Result<(Device, Reply), DiskFault>

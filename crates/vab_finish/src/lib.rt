@@ -1,4 +1,4 @@
-//! The end of an update's installation: its target may be booted.
+//! The end of an update's installation: its target has images, and may be set active.
 #![tactic(auto)]
 
 mod finishing;

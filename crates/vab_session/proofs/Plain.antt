@@ -2,7 +2,6 @@
 use Rattle.std.proofs.Common.{◌≡◌, ◌≢◌, ℕ, ◌≤◌, Bool, true, false, List, length, codes, decimal}
 use Rattle.std.proofs.Common.{Option, Result, Ok, Err, arith, length-append, ap, get_or, ◌++◌}
 use Rattle.std.specs.Prelude.{◌+◌, ◌&&◌}
-use Rattle.vab_model.specs.declared.command.Refusal.{Refusal}
 use Rattle.vab_model.specs.declared.command.Refusal.TheVariants as refusals
 use Rattle.vab_model.specs.declared.command.Reply.{Reply}
 use Rattle.vab_model.specs.declared.command.Reply.TheVariants as replies

@@ -2,7 +2,7 @@
 
 use crate::packets::{Case, SYSTEM, session};
 use crate::runs::{ONE, SECTORS, Step, port, steps, steps_on, words};
-use crate::sessions::{put, sector};
+use crate::sessions::{damage, put, sector};
 use crate::sets::filled;
 use crate::slots::device_of_b;
 use std::alloc::Global;
@@ -131,7 +131,7 @@ fn images_of_a_target_are_read_through_their_stores(rt: HostRuntime) -> Result<(
         assert!(rt; put(&mut d, at, &[255; 512]));
     }
     let short = [b'A'; 5000];
-    let cases: [Case; 12] = [
+    let cases: [Case; 13] = [
         (b"oem begin".as_slice(), b"OKAY".as_slice()),
         (b"create-logical-partition:t_b:12288", b"OKAY"),
         (b"create-logical-partition:empty_b:0", b"OKAY"),
@@ -144,6 +144,10 @@ fn images_of_a_target_are_read_through_their_stores(rt: HostRuntime) -> Result<(
         (b"flash:empty_b", b"OKAY"),
         (b"oem finish", b"OKAY"),
         (b"getvar:partition-size:t_b", b"OKAY0x3000"),
+        (
+            b"oem digest empty_b",
+            b"OKAYe3b0c44298fc1c149afbf4c8996fb92427ae41e4649b934ca495991b7852b855",
+        ),
     ];
     let (input, told) = session(alloc, &cases)?;
     // The download of no bytes has both its replies at once.
@@ -156,12 +160,13 @@ fn images_of_a_target_are_read_through_their_stores(rt: HostRuntime) -> Result<(
     }
     let image = filled(alloc, &short, 12288)?;
     let none = b"e3b0c44298fc1c149afbf4c8996fb92427ae41e4649b934ca495991b7852b855\n";
-    let runs: [Step; 5] = [
+    let runs: [Step; 6] = [
         (&["serve", "--fresh"], &input, 0, &both),
         (&["print", "t_b"], b"", 0, &image),
         (&["digest", "empty_b"], b"", 0, none),
         (&["print", "t_a"], b"", 4, b"refused: unknown partition\n"),
         (&["activate", "b"], b"", 0, b"active b\n"),
+        (&["cancel"], b"", 0, b"cancelled\n"),
     ];
     steps_on(&rt, alloc, d, &runs)?;
     Ok(())
@@ -196,6 +201,142 @@ fn an_update_of_slot_b_is_booted_and_dropped(rt: HostRuntime) -> Result<(), Fail
         (b"oem digest x_a", b"FAILslot has no images"),
     ];
     serve(&rt, alloc, d, &dropped, [0x5e, 0, 0xef, 0])?;
+    Ok(())
+}
+
+// A target of the higher priority that wasn't booted is dropped, and the source is booted.
+#[test]
+fn a_target_that_was_not_booted_is_dropped(rt: HostRuntime) -> Result<(), Fail> {
+    let alloc = rt.alloc();
+    let d = staged(&rt, alloc)?;
+    let runs: [Step; 5] = [
+        (&["cancel"], b"", 0, b"cancelled\n".as_slice()),
+        (&["cancel"], b"", 4, b"refused: no update to cancel\n"),
+        (&["boot"], b"", 0, b"booted a\n"),
+        (
+            &["digest", "system_b"],
+            b"",
+            4,
+            b"refused: slot has no images\n",
+        ),
+        (&["activate", "b"], b"", 4, b"refused: slot has no images\n"),
+    ];
+    let d = steps_on(&rt, alloc, d, &runs)?;
+    serve(&rt, alloc, d, &[(b"oem begin", b"OKAY")], [0x8e, 0, 0, 0])?;
+    Ok(())
+}
+
+// An update without partitions is one, and isn't dropped by a verb once it was booted.
+#[test]
+fn an_update_without_partitions_is_booted(rt: HostRuntime) -> Result<(), Fail> {
+    let alloc = rt.alloc();
+    let cases: [Case; 3] = [
+        (b"oem begin".as_slice(), b"OKAY".as_slice()),
+        (b"oem finish", b"OKAY"),
+        (b"set_active:b", b"OKAY"),
+    ];
+    let (input, told) = session(alloc, &cases)?;
+    let runs: [Step; 5] = [
+        (&["serve", "--fresh"], &input, 0, &told),
+        (&["boot"], b"", 0, b"booted b\n"),
+        (&["mark"], b"", 0, b"marked b\n"),
+        (
+            &["cancel"],
+            b"",
+            4,
+            b"refused: the target slot is running\n",
+        ),
+        (&["activate", "a"], b"", 0, b"active a\n"),
+    ];
+    steps(&rt, alloc, SECTORS, &runs)?;
+    Ok(())
+}
+
+// Whatever boot control said of the target, a finish says that it has no priority.
+#[test]
+fn a_finish_says_nothing_of_its_target(rt: HostRuntime) -> Result<(), Fail> {
+    let alloc = rt.alloc();
+    let mut ready = staged(&rt, alloc)?;
+    let control = sector(&mut ready, 4).ok_or("the sector is read")?;
+    let d = steps(&rt, alloc, SECTORS, &[(&["make"], &SYSTEM, 0, MADE)])?;
+    let mut d = serve(&rt, alloc, d, &[(b"oem begin", b"OKAY")], [0x8f, 0, 0, 0])?;
+    assert!(rt; put(&mut d, 4, &control));
+    let cases: [Case; 4] = [
+        (
+            b"set_active:b".as_slice(),
+            b"FAILslot has no images".as_slice(),
+        ),
+        (b"getvar:slot-retry-count:b", b"OKAY0"),
+        (b"oem finish", b"OKAY"),
+        (b"oem boot", b"OKAYa"),
+    ];
+    serve(&rt, alloc, d, &cases, [0x8e, 0, 0, 0])?;
+    Ok(())
+}
+
+// One good copy of the target's table suffices, and the bad one is repaired; without one there is
+// no device.
+#[test]
+fn a_table_of_a_ready_target_is_repaired(rt: HostRuntime) -> Result<(), Fail> {
+    let alloc = rt.alloc();
+    for (primary, backup, status, told) in [
+        (true, false, 0, b"booted b\n".as_slice()),
+        (false, true, 0, b"booted b\n".as_slice()),
+        (true, true, 5, b"not a device\n".as_slice()),
+    ] {
+        let mut d = staged(&rt, alloc)?;
+        let good = sector(&mut d, 4248).ok_or("the sector is read")?;
+        assert!(rt; !primary || damage(&mut d, 4248, 300, 0xff));
+        assert!(rt; !backup || damage(&mut d, 4504, 300, 0xff));
+        let mut d = steps_on(&rt, alloc, d, &[(&["boot"], b"", status, told)])?;
+        for at in [4248, 4504u64] {
+            let is_good = matches!(sector(&mut d, at), Some(bytes) if bytes == good);
+            assert_eq!(rt; is_good, status == 0);
+        }
+    }
+    Ok(())
+}
+
+// The store of an image that differs in 256 blocks needs a second area, which is zeroed.
+#[test]
+fn a_full_area_has_a_zeroed_one_behind_it(rt: HostRuntime) -> Result<(), Fail> {
+    let alloc = rt.alloc();
+    let mut d = port(alloc, 10264, b"")?;
+    for at in 10256..10264u64 {
+        assert!(rt; put(&mut d, at, &[255; 512]));
+    }
+    let mut big = Vec::new(alloc);
+    for _ in 0..1_048_576u64 {
+        big.push(1u8)?;
+    }
+    let cases: [Case; 13] = [
+        (b"oem begin".as_slice(), b"OKAY".as_slice()),
+        (b"create-logical-partition:big_b:1048576", b"OKAY"),
+        (b"oem snapshot big_b 1056768", b"OKAY"),
+        (b"download:00100000", b"DATA00100000"),
+        (&big, b"OKAY"),
+        (b"flash:big_b", b"FAILstore full: 259 of 258 blocks"),
+        (b"snapshot-update:cancel", b"OKAY"),
+        (b"oem begin", b"OKAY"),
+        (b"create-logical-partition:big_b:1048576", b"OKAY"),
+        (b"oem snapshot big_b 1060864", b"OKAY"),
+        (
+            b"create-logical-partition:x_b:4096",
+            b"FAILno room: 516 of 515 blocks",
+        ),
+        (b"flash:big_b", b"OKAY"),
+        (b"oem finish", b"OKAY"),
+    ];
+    let (input, told) = session(alloc, &cases)?;
+    let runs: [Step; 2] = [
+        (&["serve", "--fresh"], &input, 0, &told),
+        (&["print", "big_b"], b"", 0, &big),
+    ];
+    let mut d = steps_on(&rt, alloc, d, &runs)?;
+    for at in 10256..10264u64 {
+        let bytes = sector(&mut d, at).ok_or("the sector is read")?;
+        assert_eq!(rt; bytes.as_slice(), [0; 512].as_slice());
+    }
     Ok(())
 }
 

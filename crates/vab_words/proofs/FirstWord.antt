@@ -147,6 +147,10 @@ enters_mark : Enters (codes "mark")
 unfolding clap_on_literals vab_app
 enters_mark = (refl, λ behind. (_, refl))
 
+enters_cancel : Enters (codes "cancel")
+unfolding clap_on_literals vab_app
+enters_cancel = (refl, λ behind. (_, refl))
+
 enters_activate : Enters (codes "activate")
 unfolding clap_on_literals vab_app
 enters_activate = (refl, λ behind. (_, refl))
@@ -188,6 +192,10 @@ mark_in : (rows : List Row) → IsNamed (codes "mark") (verb_in (codes "mark") r
 unfolding verb_in
 mark_in rows = refl
 
+cancel_in : (rows : List Row) → IsNamed (codes "cancel") (verb_in (codes "cancel") rows)
+unfolding verb_in
+cancel_in rows = refl
+
 activate_in : (rows : List Row) → IsNamed (codes "activate") (verb_in (codes "activate") rows)
 unfolding verb_in
 activate_in rows = mapped (codes "activate") Activate (λ _. refl) (option_and_then slot_of (first_of (codes "slot") rows))
@@ -223,12 +231,15 @@ each_named rest = (
       (
         named_verb (codes "mark") rest enters_mark mark_in,
         (
-          named_verb (codes "activate") rest enters_activate activate_in,
+          named_verb (codes "cancel") rest enters_cancel cancel_in,
           (
-            named_verb (codes "print") rest enters_print print_in,
+            named_verb (codes "activate") rest enters_activate activate_in,
             (
-              named_verb (codes "digest") rest enters_digest digest_in,
-              tt,
+              named_verb (codes "print") rest enters_print print_in,
+              (
+                named_verb (codes "digest") rest enters_digest digest_in,
+                tt,
+              ),
             ),
           ),
         ),

@@ -8,7 +8,8 @@ use Rattle.clap.specs.Words.{Text}
 use Rattle.clap.proofs.OnLiterals.{clap_on_literals}
 use Rattle.vab_words.specs.Command.{found_in, is_taken, vab_app}
 use Rattle.vab_words.specs.Values.{limit_of, metadata_max_of, slot_of}
-use Rattle.vab_words.specs.Verbs.{Activate, Boot, Digest, Make, Mark, Print, Serve, is_set, make_of, verb_in, verb_of}
+use Rattle.vab_words.specs.Verbs.{Activate, Boot, Cancel, Digest, Make, Mark, Print, Serve, is_set}
+use Rattle.vab_words.specs.Verbs.{make_of, verb_in, verb_of}
 use Rattle.vab_words.specs.Spelled.{AsksBy, IsPlain, MakesBy}
 
 pub serve : verb_of (codes "serve" ∷ []) ≡ Some (Serve false)
@@ -26,6 +27,10 @@ boot = refl
 pub mark : verb_of (codes "mark" ∷ []) ≡ Some Mark
 unfolding clap_on_literals vab_app is_taken found_in verb_of verb_in
 mark = refl
+
+pub cancel : verb_of (codes "cancel" ∷ []) ≡ Some Cancel
+unfolding clap_on_literals vab_app is_taken found_in verb_of verb_in
+cancel = refl
 
 pub make : verb_of (codes "make" ∷ []) ≡ Some (Make 0 65536)
 unfolding clap_on_literals vab_app is_taken found_in verb_of verb_in make_of limit_of metadata_max_of

@@ -19,6 +19,7 @@ pub data Meaning : Type 0 where
   Serve : Bool → Meaning
   Boot : Meaning
   Mark : Meaning
+  Cancel : Meaning
   Activate : ℕ → Meaning
   Print : Text → Meaning
   Digest : Text → Meaning
@@ -28,6 +29,7 @@ meaning_of (code.Make limit metadata_max) = Make limit metadata_max
 meaning_of (code.Serve fresh) = Serve fresh
 meaning_of code.Boot = Boot
 meaning_of code.Mark = Mark
+meaning_of code.Cancel = Cancel
 meaning_of (code.Activate slot) = Activate slot
 meaning_of (code.Print name) = Print name.now
 meaning_of (code.Digest name) = Digest name.now
@@ -38,6 +40,7 @@ IsInRange (code.Make limit metadata_max) = (limit ≤ 2 ^ 44) × IsMetadataMax m
 IsInRange (code.Serve fresh) = Unit {0}
 IsInRange code.Boot = Unit {0}
 IsInRange code.Mark = Unit {0}
+IsInRange code.Cancel = Unit {0}
 IsInRange (code.Activate slot) = Unit {0}
 IsInRange (code.Print name) = Unit {0}
 IsInRange (code.Digest name) = Unit {0}
@@ -60,6 +63,7 @@ verb_in name rows =
     else if bytes_eq name (codes "serve") then Some (Serve (is_set (first_of (codes "fresh") rows)))
     else if bytes_eq name (codes "boot") then Some Boot
     else if bytes_eq name (codes "mark") then Some Mark
+    else if bytes_eq name (codes "cancel") then Some Cancel
     else if bytes_eq name (codes "activate") then option_map Activate
     (option_and_then slot_of (first_of (codes "slot") rows))
     else if bytes_eq name (codes "print") then option_map Print (first_of (codes "name") rows)

@@ -72,6 +72,7 @@ pub(crate) fn vab<'a>(alloc: Global) -> Result<Command<'a>, AllocError>
         .subcommand(serve(alloc)?)?
         .subcommand(Command::new(alloc, "boot"))?
         .subcommand(Command::new(alloc, "mark"))?
+        .subcommand(Command::new(alloc, "cancel"))?
         .subcommand(with_operand(alloc, "activate", "slot")?)?
         .subcommand(with_operand(alloc, "print", "name")?)?
         .subcommand(with_operand(alloc, "digest", "name")?)

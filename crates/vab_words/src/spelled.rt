@@ -3,8 +3,8 @@ ghost use Rattle.std.specs.Prelude.{◌≡◌, true, false, List, ℕ, [], ◌�
 ghost use Rattle.std.specs.Prelude.{option_map};
 ghost use Rattle.vab_words.specs.Spelled.{AsksBy, IsPlain, MakesBy, is_verb_name, name_of};
 ghost use Rattle.vab_words.specs.Values.{slot_of};
-ghost use Rattle.vab_words.specs.Verbs.{Activate, Boot, Digest, Make, Mark, Print, Serve, make_of};
-ghost use Rattle.vab_words.specs.Verbs.{verb_of};
+ghost use Rattle.vab_words.specs.Verbs.{Activate, Boot, Cancel, Digest, Make, Mark, Print, Serve};
+ghost use Rattle.vab_words.specs.Verbs.{make_of, verb_of};
 
 /// What the definition says of words that are written out. It does nothing.
 pub fn spelled_out()
@@ -20,6 +20,7 @@ pub fn spelled_out()
     ensures serve_fresh { verb_of (codes "serve" ∷ codes "--fresh" ∷ []) ≡ Some (Serve true) }
     ensures boot { verb_of (codes "boot" ∷ []) ≡ Some Boot }
     ensures mark { verb_of (codes "mark" ∷ []) ≡ Some Mark }
+    ensures cancel { verb_of (codes "cancel" ∷ []) ≡ Some Cancel }
     ensures activate { AsksBy (codes "activate") (λ text. option_map Activate (slot_of text)) }
     ensures print { AsksBy (codes "print") (λ text. Some (Print text)) }
     ensures digest { AsksBy (codes "digest") (λ text. Some (Digest text)) }

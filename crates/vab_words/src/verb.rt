@@ -29,6 +29,8 @@ pub enum Verb<'a> {
     Boot,
     /// The current slot is marked successful.
     Mark,
+    /// An update is dropped.
+    Cancel,
     /// The slot is made the active one, 0 for a and 1 for b.
     Activate(usize),
     /// The bytes of the partition of this name.
@@ -132,6 +134,7 @@ fn verb_in<'a>(name: &str, values: &ArgMatches<'a>) -> Option<Verb<'a>>
         }),
         "boot" => Some(Verb::Boot),
         "mark" => Some(Verb::Mark),
+        "cancel" => Some(Verb::Cancel),
         "activate" => Some(Verb::Activate(parse_slot(text_of(values, "slot")?)?)),
         "print" => Some(Verb::Print(text_of(values, "name")?)),
         "digest" => Some(Verb::Digest(text_of(values, "name")?)),
@@ -150,8 +153,7 @@ fn found_verb<'a>(matches: &ArgMatches<'a>) -> Option<Verb<'a>>
 }
 
 /// What the words behind the device's ask for: `make [--limit BYTES] [--metadata-max BYTES]`,
-/// `serve [--fresh]`, `boot`, `mark`,
-/// `activate SLOT`, `print NAME` or `digest NAME`.
+/// `serve [--fresh]`, `boot`, `mark`, `cancel`, `activate SLOT`, `print NAME` or `digest NAME`.
 pub fn parse_words<'a>(alloc: Global, words: &'a [String]) -> Result<Verb<'a>, WordsFault>
     // A verb comes only where the words ask for it, and a refusal only where they ask for none.
     ensures verb { IfOk result

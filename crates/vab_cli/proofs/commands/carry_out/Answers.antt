@@ -1,7 +1,6 @@
 use Rattle.std.proofs.Common.{◌≡◌, inl, ℕ, Ok, Err, sym, subst}
-use Rattle.std.specs.Prelude.{is_some}
 use Rattle.vab_device.specs.Mounted.{Mounted}
-use Rattle.vab_manager.specs.Controls.{IsOfSlots}
+use Rattle.vab_cli.specs.Touched.{IsOfItem}
 use Rattle.vab_device.specs.Reading.{IsIn}
 use Rattle.vab_model.specs.Commands.{command_of}
 use Rattle.vab_cli.specs.Verbs.{command_line, command_item, verb_status}
@@ -17,7 +16,7 @@ returns-in-Ok-do_command-clause-runs g c = λ t s stands.
     let new = c.do_command.new.port in
     let size = g.P.Disk.size old in
     let command = command_of c.args.command.now in
-    let line = λ (x : Mounted). command_line x.state command in
+    let line = λ (x : Mounted). command_line x command in
     let status = c.in-Ok-do_command.status in
     let opens = c.in-Ok.ensures.opens t in
     let here = opened_in g.P.Disk g.met.P.Disk.only_now size old mid s opens stands in
@@ -27,7 +26,7 @@ returns-in-Ok-do_command-clause-runs g c = λ t s stands.
     let is = c.in-Ok-do_command.ensures.status t s
     (subst (λ (n : ℕ). IsIn n s (g.P.Disk.seen mid)) (sym sized) here) in
     inl (runs_done g.P.Disk g.met.P.Disk.only_now size s command (line s)
-    (inl (reply_some command _ _)) (verb_status s.state command) old mid new opens stands status is does)
+    (inl (reply_some command _ _)) (verb_status s command) old mid new opens stands status is does)
 
 pub returns-in-Err-do_command-clause-runs : goal.returns-in-Err-do_command-clause-runs
 returns-in-Err-do_command-clause-runs g c = λ t s stands.
@@ -36,7 +35,7 @@ returns-in-Err-do_command-clause-runs g c = λ t s stands.
     let new = c.do_command.new.port in
     let size = g.P.Disk.size old in
     let command = command_of c.args.command.now in
-    let line = λ (x : Mounted). command_line x.state command in
+    let line = λ (x : Mounted). command_line x command in
     let status = c.in-Err-do_command.status in
     let opens = c.in-Ok.ensures.opens t in
     let here = opened_in g.P.Disk g.met.P.Disk.only_now size old mid s opens stands in
@@ -44,13 +43,13 @@ returns-in-Err-do_command-clause-runs g c = λ t s stands.
     let does = does_sized g.P.Disk (g.P.Disk.size mid) size (λ x. command_item x command (line x))
     mid new (Err status) sized (c.in-Err-do_command.ensures.does t) s here in
     inl (runs_failed g.P.Disk g.met.P.Disk.only_now size s command (line s)
-    (inl (reply_some command _ _)) (verb_status s.state command) old mid new opens stands status
-    c.in-Err-do_command.ensures.failed (verb_kind s.state command) does)
+    (inl (reply_some command _ _)) (verb_status s command) old mid new opens stands status
+    c.in-Err-do_command.ensures.failed (verb_kind s command) does)
 
 pub returns-in-Err-clause-changes : goal.returns-in-Err-clause-changes
 returns-in-Err-clause-changes g c = λ t s stands boot there.
     opening_changes g.P.Disk _
-    (λ l. IsOfSlots boot (is_some s.state.a) (is_some s.state.b) l (command_of c.args.command.now))
+    (IsOfItem s boot (command_of c.args.command.now))
     c.args.port.now c.open.new.port (c.open.ensures.changes t)
 
 pub returns-in-Ok-do_command-clause-changes : goal.returns-in-Ok-do_command-clause-changes
@@ -60,7 +59,7 @@ returns-in-Ok-do_command-clause-changes g c = λ t s stands boot there.
     let size = g.P.Disk.size old in
     let here = opened_in g.P.Disk g.met.P.Disk.only_now size old mid s (c.in-Ok.ensures.opens t) stands in
     opened_changes g.P.Disk size
-    (λ l. IsOfSlots boot (is_some s.state.a) (is_some s.state.b) l (command_of c.args.command.now))
+    (IsOfItem s boot (command_of c.args.command.now))
     boot old mid c.do_command.new.port t
     (c.open.ensures.changes t)
     (c.do_command.ensures.changes t s
@@ -74,7 +73,7 @@ returns-in-Err-do_command-clause-changes g c = λ t s stands boot there.
     let size = g.P.Disk.size old in
     let here = opened_in g.P.Disk g.met.P.Disk.only_now size old mid s (c.in-Ok.ensures.opens t) stands in
     opened_changes g.P.Disk size
-    (λ l. IsOfSlots boot (is_some s.state.a) (is_some s.state.b) l (command_of c.args.command.now))
+    (IsOfItem s boot (command_of c.args.command.now))
     boot old mid c.do_command.new.port t
     (c.open.ensures.changes t)
     (c.do_command.ensures.changes t s

@@ -1,4 +1,4 @@
-use Rattle.vab_disk.proofs.CallLaws.{changes_touches, changes_then, changes_wider, changes_telling}
+use Rattle.vab_disk.proofs.CallLaws.{changes_then, changes_telling}
 use Rattle.std.proofs.Common.{◌∙◌, List, ℕ, Ok, Err, refl, subst}
 use Rattle.vab_model.specs.Commands.{command_of}
 use Rattle.vab_cli.specs.declared.status.Status.{Status}
@@ -7,7 +7,7 @@ use Rattle.vab_cli.specs.Telling.{Says}
 use Rattle.vab_cli.specs.Verbs.{command_line}
 use Rattle.vab_cli.proofs.Items.{mounted_is, command_fails, command_does, replied}
 use Rattle.vab_cli.proofs.Lines.{reply_some, told_line, said_status}
-use Rattle.vab_cli.proofs.Touching.{slots_are, verb_writes}
+use Rattle.vab_cli.proofs.Touching.{verb_changes}
 use Rattle.vab_cli.proofs.commands.do_command.Goals as goal
 
 pub returns-in-Err-clause-does : goal.returns-in-Err-clause-does
@@ -15,7 +15,7 @@ returns-in-Err-clause-does g c = λ t s stands.
     let d = c.args.device in
     let command = command_of c.args.command.now in
     command_fails g.P.Disk (g.P.Disk.size c.args.port.now) d command c.requires.verb _ s
-    (command_line s.state command)
+    (command_line s command)
     (reply_some command _ _) c.args.port.now c.run_one.new.d refl (c.requires.represents t) stands
     _ _ c.in-Err.ensures t
 
@@ -31,7 +31,7 @@ returns-in-Ok-say_all-clause-does g c = λ t s stands.
     (c.in-Ok.ensures.reply t ∙ replied c.in-Ok.ensures.refused command _ c.requires.verb)
     c.reply_line.ensures c.as_slice.ensures.value in
     command_does g.P.Disk (g.P.Disk.size old) d command c.requires.verb _ s
-    (command_line s.state command)
+    (command_line s command)
     (reply_some command _ _) old mid refl (c.requires.represents t) stands
     _ _ new _ c.in-Ok.ensures t
     (subst
@@ -68,7 +68,7 @@ returns-clause-does g c = λ t s stands.
     (c.in-Ok.ensures.reply t ∙ replied c.in-Ok.ensures.refused command _ c.requires.verb)
     c.reply_line.ensures c.as_slice.ensures.value in
     command_does g.P.Disk (g.P.Disk.size old) d command c.requires.verb _ s
-    (command_line s.state command)
+    (command_line s command)
     (reply_some command _ _) old mid refl (c.requires.represents t) stands
     _ _ new _ c.in-Ok.ensures t
     (subst
@@ -84,33 +84,24 @@ returns-clause-does g c = λ t s stands.
 
 pub returns-in-Err-clause-changes : goal.returns-in-Err-clause-changes
 returns-in-Err-clause-changes g c = λ t s stands boot there.
-    changes_wider g.P.Disk _ _ c.args.port.now c.run_one.new.d
-    (changes_touches g.P.Disk _ _ _ (c.in-Err.ensures.touches t))
-    (λ n x w.
-    slots_are c.args.device _ (g.P.Disk.seen c.args.port.now) s boot (command_of c.args.command.now)
-    n x (c.requires.represents t) stands there
-    (verb_writes g.P.Disk.is_modelled c.args.device _ _ c.requires.verb n x w))
+    verb_changes g.P.Disk c.args.device (g.P.Disk.size c.args.port.now) c.args.port.now
+    c.run_one.new.d s boot (command_of c.args.command.now) c.requires.verb c.requires.kept
+    (c.requires.represents t) stands there (c.in-Err.ensures.touches t)
 
 pub returns-in-Ok-say_all-clause-changes : goal.returns-in-Ok-say_all-clause-changes
 returns-in-Ok-say_all-clause-changes g c = λ t s stands boot there.
     changes_then g.P.Disk _ c.args.port.now c.run_one.new.d c.say_all.new.p
-    (changes_wider g.P.Disk _ _ c.args.port.now c.run_one.new.d
-    (changes_touches g.P.Disk _ _ _ (c.in-Ok.ensures.touches t))
-    (λ n x w.
-    slots_are c.args.device _ (g.P.Disk.seen c.args.port.now) s boot (command_of c.args.command.now)
-    n x (c.requires.represents t) stands there
-    (verb_writes g.P.Disk.is_modelled c.args.device _ _ c.requires.verb n x w)))
+    (verb_changes g.P.Disk c.args.device (g.P.Disk.size c.args.port.now) c.args.port.now
+    c.run_one.new.d s boot (command_of c.args.command.now) c.requires.verb c.requires.kept
+    (c.requires.represents t) stands there (c.in-Ok.ensures.touches t))
     (changes_telling g.P.Disk _ _ c.run_one.new.d c.say_all.new.p c.say_all.ensures.size
     c.say_all.ensures.seen c.say_all.ensures.crash c.say_all.ensures.time)
 
 pub returns-clause-changes : goal.returns-clause-changes
 returns-clause-changes g c = λ t s stands boot there.
     changes_then g.P.Disk _ c.args.port.now c.run_one.new.d c.say_all.new.p
-    (changes_wider g.P.Disk _ _ c.args.port.now c.run_one.new.d
-    (changes_touches g.P.Disk _ _ _ (c.in-Ok.ensures.touches t))
-    (λ n x w.
-    slots_are c.args.device _ (g.P.Disk.seen c.args.port.now) s boot (command_of c.args.command.now)
-    n x (c.requires.represents t) stands there
-    (verb_writes g.P.Disk.is_modelled c.args.device _ _ c.requires.verb n x w)))
+    (verb_changes g.P.Disk c.args.device (g.P.Disk.size c.args.port.now) c.args.port.now
+    c.run_one.new.d s boot (command_of c.args.command.now) c.requires.verb c.requires.kept
+    (c.requires.represents t) stands there (c.in-Ok.ensures.touches t))
     (changes_telling g.P.Disk _ _ c.run_one.new.d c.say_all.new.p c.say_all.ensures.size
     c.say_all.ensures.seen c.say_all.ensures.crash c.say_all.ensures.time)

@@ -1,8 +1,8 @@
 use Rattle.std.proofs.Common.{◌≡◌, inl, inr, ℕ, Ok, Err, sym, subst}
-use Rattle.std.specs.Prelude.{is_some}
 use Rattle.vab_device.specs.Mounted.{Mounted}
-use Rattle.vab_manager.specs.Controls.{IsOfSlots}
+use Rattle.vab_cli.specs.Touched.{IsOfItem}
 use Rattle.vab_device.specs.Reading.{IsIn}
+use Rattle.vab_disk.proofs.CallLaws.{changes_wider}
 use Rattle.vab_model.specs.Commands.{Print}
 use Rattle.vab_model.specs.Effects.{found_of}
 use Rattle.vab_cli.specs.Verbs.{print_told, command_item, verb_status}
@@ -29,7 +29,7 @@ returns-in-Ok-print_image-clause-runs g c = λ t s stands.
     let is = c.in-Ok-print_image.ensures.status t s
     (subst (λ (n : ℕ). IsIn n s (g.P.Disk.seen mid)) (sym sized) here) in
     inl (runs_done g.P.Disk g.met.P.Disk.only_now size s command (line s)
-    (inr (print_last size s c.args.name.now (line s))) (verb_status s.state command) old mid new opens
+    (inr (print_last size s c.args.name.now (line s))) (verb_status s command) old mid new opens
     stands status is does)
 
 pub returns-clause-runs : goal.returns-clause-runs
@@ -47,25 +47,27 @@ returns-clause-runs g c = λ t s stands.
     let does = does_sized g.P.Disk (g.P.Disk.size mid) size (λ x. command_item x command (line x))
     mid new (Err status) sized (c.in-Err-print_image.ensures.does t) s here in
     inl (runs_failed g.P.Disk g.met.P.Disk.only_now size s command (line s)
-    (inr (print_last size s c.args.name.now (line s))) (verb_status s.state command) old mid new opens
-    stands status c.in-Err-print_image.ensures.failed (verb_kind s.state command) does)
+    (inr (print_last size s c.args.name.now (line s))) (verb_status s command) old mid new opens
+    stands status c.in-Err-print_image.ensures.failed (verb_kind s command) does)
 
 pub returns-in-Err-clause-changes : goal.returns-in-Err-clause-changes
 returns-in-Err-clause-changes g c = λ t s stands boot there.
     opening_changes g.P.Disk _
-    (λ l. IsOfSlots boot (is_some s.state.a) (is_some s.state.b) l (Print c.args.name.now))
+    (IsOfItem s boot (Print c.args.name.now))
     c.args.port.now c.open.new.port (c.open.ensures.changes t)
 
 pub returns-in-Ok-print_image-clause-changes : goal.returns-in-Ok-print_image-clause-changes
 returns-in-Ok-print_image-clause-changes g c = λ t s stands boot there.
     opened_changes g.P.Disk _
-    (λ l. IsOfSlots boot (is_some s.state.a) (is_some s.state.b) l (Print c.args.name.now))
+    (IsOfItem s boot (Print c.args.name.now))
     boot c.args.port.now c.open.new.port c.print_image.new.port t (c.open.ensures.changes t)
-    (λ is. c.print_image.ensures.changes t) there
+    (λ is. changes_wider g.P.Disk _ _ c.open.new.port c.print_image.new.port
+    (c.print_image.ensures.changes t) (λ n x w. absurd w)) there
 
 pub returns-clause-changes : goal.returns-clause-changes
 returns-clause-changes g c = λ t s stands boot there.
     opened_changes g.P.Disk _
-    (λ l. IsOfSlots boot (is_some s.state.a) (is_some s.state.b) l (Print c.args.name.now))
+    (IsOfItem s boot (Print c.args.name.now))
     boot c.args.port.now c.open.new.port c.print_image.new.port t (c.open.ensures.changes t)
-    (λ is. c.print_image.ensures.changes t) there
+    (λ is. changes_wider g.P.Disk _ _ c.open.new.port c.print_image.new.port
+    (c.print_image.ensures.changes t) (λ n x w. absurd w)) there

@@ -45,7 +45,7 @@ returns-in-Ok-tell_blocks-clause-status g c = λ t s stands.
     let same = ap (λ (m : Mounted). m.state)
     (mounted_is c.args.device.now _ image s (c.requires.represents t) stands) in
     let found = c.in-Ok.ensures.image image in
-    image_done (state_on c.args.device.now image) s.state c.args.name.now found.0 same found.1
+    image_done (state_on c.args.device.now image) s c.args.name.now found.0 same found.1
 
 pub returns-in-Err-tell_blocks-clause-does : goal.returns-in-Err-tell_blocks-clause-does
 returns-in-Err-tell_blocks-clause-does g c = λ t s stands.
@@ -113,7 +113,7 @@ returns-in-Err-clause-status g c = λ t s stands.
     let same = ap (λ (m : Mounted). m.state)
     (mounted_is c.args.device.now _ image s (c.requires.represents t) stands) in
     subst (λ (x : Status). IfOk c.refuse.result (λ (status : Status). status ≡ x))
-    (refusal_done (state_on c.args.device.now image) s.state c.args.name.now c.in-Err.refusal same
+    (refusal_done (state_on c.args.device.now image) s c.args.name.now c.in-Err.refusal same
     (c.in-Err.ensures.refused image))
     c.refuse.ensures.status
 

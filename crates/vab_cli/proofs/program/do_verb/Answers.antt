@@ -1,5 +1,5 @@
 use Rattle.std.proofs.Common.{◌≡◌, inr, ap, true, false, rules}
-use Rattle.vab_model.specs.Commands.{SetActive, Boot, Mark, Print, Digest}
+use Rattle.vab_model.specs.Commands.{SetActive, Boot, Mark, Print, Digest, Cancel}
 use Rattle.vab_words.specs.Verbs.{Serve, meaning_of}
 use Rattle.vab_words.specs.Verbs as words
 use Rattle.vab_cli.specs.Verbs.{command_of}
@@ -41,6 +41,15 @@ returns-in-Mark g c =
     (λ port. inr (c.carry_out-in-Mark.ensures.port port)) Mark (ap command_of is)
     c.carry_out-in-Mark.ensures.runs c.carry_out-in-Mark.ensures.none c.carry_out-in-Mark.ensures.changes
     c.carry_out-in-Mark.ensures.quiet
+
+pub returns-in-Cancel : goal.returns-in-Cancel
+returns-in-Cancel g c =
+    let is : meaning_of c.args.verb ≡ words.Cancel = search rules in
+    command_verb g.P.Disk (meaning_of c.args.verb) c.args.port.now c.carry_out-in-Cancel.new.port
+    c.carry_out-in-Cancel.result c.carry_out-in-Cancel.ensures.words c.carry_out-in-Cancel.ensures.steady c.carry_out-in-Cancel.ensures.disk
+    (λ port. inr (c.carry_out-in-Cancel.ensures.port port)) Cancel (ap command_of is)
+    c.carry_out-in-Cancel.ensures.runs c.carry_out-in-Cancel.ensures.none c.carry_out-in-Cancel.ensures.changes
+    c.carry_out-in-Cancel.ensures.quiet
 
 pub returns-in-Activate : goal.returns-in-Activate
 returns-in-Activate g c =

@@ -1,4 +1,4 @@
-use Rattle.std.proofs.Common.{◌≡◌, ℕ, List, refl, sym, subst, Ok, Err, false}
+use Rattle.std.proofs.Common.{◌≡◌, ℕ, List, refl, sym, subst, Ok, false}
 use Rattle.std.specs.Prelude.{Option, Result, option_map}
 use Rattle.vab_disk.specs.declared.disk.Disk.{Ghosts}
 use Rattle.vab_disk.specs.Calls.{OnlyReads}

@@ -1,13 +1,10 @@
-use Rattle.std.proofs.Common.{◌≡◌, ◌+◌, ℕ, List, Option, Some, None, Ok, Err, refl, sym, ◌∙◌, ap}
-use Rattle.vab_disk.specs.Disk.{Image}
+use Rattle.std.proofs.Common.{◌≡◌, Ok, Err, refl, sym, ◌∙◌, ap}
 use Rattle.vab_model.specs.Commands.{command_of}
 use Rattle.vab_model.specs.Effects.{effect}
-use Rattle.vab_device.specs.declared.device.Part.{Part}
-use Rattle.vab_device.specs.Mounted.{state_on, mounted_on, phase_on}
+use Rattle.vab_device.specs.Mounted.{state_on}
 use Rattle.vab_fbproto.specs.Requests.{Getvar, Do, MergeAll, BootAndEnd, request_of, variable_of}
 use Rattle.vab_fbvars.specs.Variables.{variable_text}
-use Rattle.vab_session.specs.Responses.{still, left_of, by_command}
-use Rattle.vab_session.specs.Served.{kept_on}
+use Rattle.vab_session.specs.Responses.{still}
 use Rattle.vab_session.proofs.answer.command.Goals as goal
 
 pub returns-in-Ok-Getvar-clause-does : goal.returns-in-Ok-Getvar-clause-does

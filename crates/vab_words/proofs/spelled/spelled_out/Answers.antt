@@ -12,6 +12,7 @@ returns c = record {
   serve_fresh = spelled.serve_fresh;
   boot = spelled.boot;
   mark = spelled.mark;
+  cancel = spelled.cancel;
   activate = spelled.activate;
   print = spelled.print;
   digest = spelled.digest;
