@@ -20,6 +20,7 @@ use Rattle.vab_device.specs.declared.device.Device.{Device}
 use Rattle.vab_device.specs.declared.fault.StartFault.{StartFault}
 use Rattle.vab_device.specs.Mounted.{Mounted, mounted_on, in_state}
 use Rattle.vab_device.specs.Reading.{device, IsIn, Represents}
+use Rattle.vab_device.proofs.DoesLaws.{on_ok_map}
 use Rattle.vab_device.proofs.ReadingLaws.{device_stands}
 use Rattle.vab_device.specs.Does.{LeavesStep, Does}
 use Rattle.vab_device.specs.Updates.{effect_on}
@@ -33,10 +34,6 @@ use Rattle.vab_cli.specs.Verbs.{command_item, line_item, IsVerb}
 on_ok : {A E P : Type 0} (r : Result A E) → P → OnOk r P
 on_ok (Ok x) p = p
 on_ok (Err e) p = tt
-
-on_ok_map : {A E : Type 0} (r : Result A E) (P Q : Type 0) → (P → Q) → OnOk r P → OnOk r Q
-on_ok_map (Ok x) P Q f is = f is
-on_ok_map (Err e) P Q f is = tt
 
 -- the last of some steps is one of them
 last_step : {S : Type 0} (s : S) (later : List S) → IsOneOf (s ∷ later) (last_of s later)

@@ -126,7 +126,7 @@ module _ {D : Type 0}
       (λ store.
       inr (inr (inr (inr (store_is_free d (g.size old) (g.seen old) _ s device is store)))))
       (λ status. inr (inr (inl status.there)))
-      w
+      w.writes
   one_writes Finish w = ⊎_elim
       (λ control.
       inl (record {

@@ -23,8 +23,8 @@ use vab_model::{Command, Refusal, Reply};
 /// is that of the disk, the reply and the device after it are those of the table of effects; where
 /// nothing was pending, each outcome since is a step of the command. A command touches what is its
 /// own alone, and a question or a refusal nothing. Want of memory comes in place of `Done` and of
-/// `TableFull` alone, and changes nothing. The error comes where the disk has failed; then nothing
-/// is asked of the device any more. No update is merged yet: that is refused.
+/// `TableFull` alone, and then nothing is written. An error comes where the disk has failed. No
+/// update is merged yet: `BeginMerge` is refused with `NotStaged` also where one is ready.
 pub fn run_one<D: Disk>(
     alloc: Global,
     d: &mut D,

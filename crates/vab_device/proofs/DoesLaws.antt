@@ -1,5 +1,5 @@
 -- What a command does that writes what nothing reads, and then one sector by a gate.
-use Rattle.std.proofs.Common.{◌≡◌, ◌∙◌, inl, inr, ⊎_elim, ℕ, List, Result, Ok, Err, refl}
+use Rattle.std.proofs.Common.{◌≡◌, ◌∙◌, inl, inr, ⊎_elim, ℕ, List, [], ◌∷◌, Result, Ok, Err, refl}
 use Rattle.std.proofs.Common.{sym, ap, subst}
 use Rattle.std.specs.Prelude.{Bool, false, Option, IfOk, OnOk, OnErr}
 use Rattle.vab_disk.specs.declared.disk.Disk.{Ghosts}
@@ -8,6 +8,7 @@ use Rattle.vab_disk.specs.Disk.{set_sector, NoFewer}
 use Rattle.vab_disk.specs.Calls.{IsAtRest, IsQuiet, OnlyReads, SameBut, Touches}
 use Rattle.vab_disk.proofs.Moments.{adds_wider, adds_on}
 use Rattle.vab_disk.proofs.CallLaws.{touches_wider, touches_reads, touches_then, touches_on}
+use Rattle.vab_disk.proofs.CallLaws.{reads_then}
 use Rattle.vab_disk.proofs.CallLaws.{quiet_then, rose_then}
 use Rattle.vab_gate.specs.declared.gate.DiskFault.{DiskFault}
 use Rattle.vab_model.specs.declared.command.Reply.{Reply}
@@ -43,10 +44,22 @@ steady_then : {A E X : Type 0} (r : Result A E) (a b c : X)
 steady_then (Ok x) a b c ab bc = bc ∙ ab
 steady_then (Err e) a b c ab bc = tt
 
+pub on_ok_map : {A E : Type 0} (r : Result A E) (P Q : Type 0) → (P → Q) → OnOk r P → OnOk r Q
+on_ok_map (Ok x) P Q f is = f is
+on_ok_map (Err e) P Q f is = tt
+
+-- what is done has a device behind it
+pub step_follows : {e : Effect Mounted} {reply : Reply} {next : Mounted}
+    → e ≡ does reply next
+    → e.later ≡ []
+    → ⊥
+step_follows {e} {reply} {next} is none =
+    let both : next ∷ [] ≡ [] = sym (ap (λ (x : Effect Mounted). x.later) is) ∙ none in cc
+
 module _ {D : Type 0} (g : Ghosts D) (d : Device) (staged : Option (List ℕ)) (command : Command)
     (W : ℕ → List ℕ → Type 0) where
-  still : (old new : D) → OnlyReads g old new → g.is_modelled → IsAtRest g old → IsAtRest g new
-  still old new reads t rest = λ s b held.
+  rests : (old new : D) → OnlyReads g old new → g.is_modelled → IsAtRest g old → IsAtRest g new
+  rests old new reads t rest = λ s b held.
       rest s b ((reads.crash t).no_more s b held) ∙ sym (ap (λ (i : Image). i s) (reads.seen t))
 
   time_none : (old new : D) (P : Outcome → Type 0)
@@ -74,8 +87,9 @@ module _ {D : Type 0} (g : Ghosts D) (d : Device) (staged : Option (List ℕ)) (
         ap (mounted_on d) (reads.seen t)
         ∙ ap (λ (e : Effect Mounted). after_of (mounted_on d (g.seen old)) e) (sym (told t));
     reply = λ t. ap (λ (e : Effect Mounted). e.reply) (sym (told t));
-    rest = still old new reads;
+    rest = rests old new reads;
     quiet = reads.quiet;
+    still = λ t none. reads;
     touches = λ t. touches_reads g W old new reads;
     time = λ t rest. time_none old new _ reads t;
     faults = record { steady = counts; cause = tt };
@@ -95,6 +109,7 @@ module _ {D : Type 0} (g : Ghosts D) (d : Device) (staged : Option (List ℕ)) (
     reply = λ t. tt;
     rest = λ t rest. tt;
     quiet = reads.quiet;
+    still = λ t none. tt;
     touches = λ t. touches_reads g W old new reads;
     time = λ t rest. time_none old new _ reads t;
     faults = record { steady = tt; cause = rose };
@@ -138,13 +153,23 @@ module _ {D : Type 0} (g : Ghosts D) (d : Device) (staged : Option (List ℕ)) (
             ≡ (unless_refused later.refused command
             (effect_on (mounted_on d i) staged command)).reply))
             (reads.seen t) (later.reply t);
-        rest = λ t rest. later.rest t (still old mid reads t rest);
+        rest = λ t rest. later.rest t (rests old mid reads t rest);
         quiet = quiet_then g old mid new reads.quiet later.quiet;
+        still = λ t none.
+            on_ok_map r (OnlyReads g mid new) (OnlyReads g old new)
+            (reads_then g old mid new reads)
+            (later.still t
+            (subst
+            (λ (i : Image).
+            (unless_refused later.refused command
+            (effect_on (mounted_on d i) staged command)).later
+            ≡ [])
+            (sym (reads.seen t)) none));
         touches = λ t.
             touches_then g W old mid new (touches_reads g W old mid reads) (later.touches t);
         time = λ t rest.
             adds_on g.moment g.outcomes old mid new _ _ (time_none old mid _ reads t)
-            (later.time t (still old mid reads t rest))
+            (later.time t (rests old mid reads t rest))
             (λ o leaves. record {
               told_so_far = leaves.told_so_far ∙ reads.quiet.told t;
               mounted = leaves.mounted;
@@ -213,6 +238,7 @@ module _ {D : Type 0} (g : Ghosts D) (d : Device) (staged : Option (List ℕ)) (
       reply = λ t. tt;
       rest = λ t rest. tt;
       quiet = writes.quiet;
+      still = λ t none. tt;
       touches = λ t. touches_wider g W V old mid writes (within t);
       time = until (effect_on (mounted_on d (g.seen old)) staged command);
       faults = record { steady = tt; cause = rose };
@@ -278,6 +304,7 @@ module _ {D : Type 0} (g : Ghosts D) (d : Device) (staged : Option (List ℕ)) (
         reply = λ t. tt;
         rest = λ t rest. tt;
         quiet = quiet_both;
+        still = λ t none. tt;
         touches = both;
         time = steps;
         faults = record {
@@ -304,6 +331,7 @@ module _ {D : Type 0} (g : Ghosts D) (d : Device) (staged : Option (List ℕ)) (
         reply = λ t. ap (λ (e : Effect Mounted). e.reply) (sym (effect t));
         rest = λ t rest. settled t;
         quiet = quiet_both;
+        still = λ t none. absurd (step_follows (effect t) none);
         touches = both;
         time = steps;
         faults = record { steady = counts; cause = tt };

@@ -1,8 +1,8 @@
 -- What is promised of a command on a device.
-use Rattle.std.specs.Prelude.{◌≡◌, ℕ, Bool, List, Option, Result, Ok, IfOk, OnOk}
+use Rattle.std.specs.Prelude.{◌≡◌, ℕ, Bool, List, [], Option, Result, Ok, IfOk, OnOk}
 use Rattle.vab_disk.specs.declared.disk.Disk.{Ghosts}
 use Rattle.vab_disk.specs.Disk.{Outcome, Adds}
-use Rattle.vab_disk.specs.Calls.{FailsWithDisk, IsAtRest, IsQuiet, Touches}
+use Rattle.vab_disk.specs.Calls.{FailsWithDisk, IsAtRest, IsQuiet, OnlyReads, Touches}
 use Rattle.vab_gate.specs.declared.gate.DiskFault.{DiskFault}
 use Rattle.vab_model.specs.declared.command.Reply.{Reply}
 use Rattle.vab_model.specs.Commands.{Command}
@@ -41,8 +41,9 @@ pub record KeepsSource (d next : Device) : Type 0 where
   pub parts : parts_at next d.mark.slot ≡ parts_at d d.mark.slot
 
 -- The reply and the device after it are those of the table of effects, and where nothing was
--- pending each outcome since is one of its steps. It touches such sectors alone. Memory may be
--- refused to it. An error comes where the disk has failed.
+-- pending each outcome since is one of its steps. It touches such sectors alone, and a refusal or
+-- an answer to a question, which no device follows, writes nothing. Memory may be refused to it. An
+-- error comes where the disk has failed.
 pub record Does {D : Type 0}
     (g : Ghosts D)
     (d : Device)
@@ -62,6 +63,9 @@ pub record Does {D : Type 0}
       (λ r. r.1 ≡ (effect_of g d staged command refused old).reply)
   pub rest : g.is_modelled → IsAtRest g old → OnOk result (IsAtRest g new)
   pub quiet : IsQuiet g old new
+  pub still : g.is_modelled
+      → (effect_of g d staged command refused old).later ≡ []
+      → OnOk result (OnlyReads g old new)
   pub touches : g.is_modelled → Touches g W old new
   pub time : g.is_modelled
       → IsAtRest g old

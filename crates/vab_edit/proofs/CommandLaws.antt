@@ -35,7 +35,7 @@ use Rattle.vab_model.specs.Effects.{takes_memory, may_want, unless_refused}
 use Rattle.vab_device.specs.declared.device.Part.{Part}
 use Rattle.vab_device.specs.declared.device.Device.{Device}
 use Rattle.vab_device.specs.Does.{LeavesStep, effect_of, KeepsSource, Does}
-use Rattle.vab_device.proofs.DoesLaws.{does_nothing}
+use Rattle.vab_device.proofs.DoesLaws.{does_nothing, step_follows}
 use Rattle.vab_device.specs.Kept.{lies_in, IsDevice}
 use Rattle.vab_device.specs.Mounted.{Mounted, entry_on, mounted_on}
 use Rattle.vab_device.specs.Phases.{plan_of}
@@ -349,6 +349,7 @@ module _ {D : Type 0} (g : Ghosts D) (d : Device) (edit : Edit) (staged : Option
       reply = λ t. tt;
       rest = λ t rest. tt;
       quiet = touches.quiet;
+      still = λ t none. tt;
       touches = λ t.
           touches_wider g (IsOfEdit d) (IsOfTable d.geometry (other_slot d.mark.slot) text) old new
           touches writes;
@@ -388,6 +389,7 @@ module _ {D : Type 0} (g : Ghosts D) (d : Device) (edit : Edit) (staged : Option
       reply = λ t. ap (λ (e : Effect Mounted). e.reply) (sym gives);
       rest = λ t rest. settled t;
       quiet = touches.quiet;
+      still = λ t none. absurd (step_follows gives none);
       touches = λ t.
           touches_wider g (IsOfEdit d) (IsOfTable d.geometry (other_slot d.mark.slot) text) old new
           touches writes;

@@ -230,19 +230,27 @@ pub in_flash : (d : Device) (name : List ℕ) (place n : ℕ)
     → (s : ℕ) (b : List ℕ)
     → InSectors (InFirst (store_at d place) n) s b
     → IsOfFlash d name s b
-in_flash d name place n has room s b w =
-    inl (subst (λ (ss : List ℕ). IsOfBlocks ss s) (sym (store_of_name d name place has))
-    (first_in (store_at d place) n s room w))
+in_flash d name place n has room s b w = record {
+  place = place;
+  has = has;
+  writes =
+      inl (subst (λ (ss : List ℕ). IsOfBlocks ss s) (sym (store_of_name d name place has))
+      (first_in (store_at d place) n s room w));
+}
 
-pub status_in_flash : (d : Device) (name : List ℕ) (free count : ℕ) (status : PartStatus)
+pub status_in_flash : (d : Device) (name : List ℕ) (place free count : ℕ) (status : PartStatus)
+    → HasPlace d name place
     → IsOfStatuses free
     → status ≡ record { name = name; count = count }
     → (s : ℕ) (b : List ℕ)
     → IsAt free (status_spelling status) s b
     → IsOfFlash d name s b
-status_in_flash d name free count status there is s b at =
-    inr (record {
-      there = subst IsOfStatuses (sym at.0) there;
-      count = count;
-      is = at.1 ∙ ap status_spelling is;
-    })
+status_in_flash d name place free count status has there is s b at = record {
+  place = place;
+  has = has;
+  writes = inr (record {
+    there = subst IsOfStatuses (sym at.0) there;
+    count = count;
+    is = at.1 ∙ ap status_spelling is;
+  });
+}

@@ -8,6 +8,7 @@ use Rattle.vab_device.specs.declared.device.Part.{Part}
 use Rattle.vab_device.specs.declared.device.Device.{Device}
 use Rattle.vab_device.specs.Mounted.{blocks_there}
 use Rattle.vab_device.specs.Reading.{IsOfBlocks}
+use Rattle.vab_flash.specs.Chosen.{HasPlace}
 
 -- the blocks of the store of the first planned partition of this base name
 abbrev pub store_named : List ℕ → List Part → List ℕ
@@ -26,5 +27,8 @@ pub record IsStatusOf (name : List ℕ) (s : ℕ) (bytes : List ℕ) : Type 0 wh
   pub is : bytes ≡ status_spelling (record { name = name; count = count })
 
 -- A sector of the blocks of that partition's store, or one of the statuses with a status of it.
-abbrev pub IsOfFlash : Device → List ℕ → ℕ → List ℕ → Type 0
-IsOfFlash d name s bytes = IsOfBlocks (store_in (base_of name) d.plan) s ⊎ IsStatusOf name s bytes
+-- Where no partition of this name is planned, nothing is written.
+pub record IsOfFlash (d : Device) (name : List ℕ) (s : ℕ) (bytes : List ℕ) : Type 0 where
+  pub place : ℕ
+  pub has : HasPlace d name place
+  pub writes : IsOfBlocks (store_in (base_of name) d.plan) s ⊎ IsStatusOf name s bytes

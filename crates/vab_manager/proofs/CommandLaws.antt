@@ -24,6 +24,7 @@ use Rattle.vab_device.specs.declared.device.Device.{Device}
 use Rattle.vab_device.specs.declared.fault.StartFault.TheVariants.{BadState}
 use Rattle.vab_device.specs.Checks.{first_fault, check}
 use Rattle.vab_device.specs.Kept.{IsDevice, has_both, has_slot}
+use Rattle.vab_device.proofs.DoesLaws.{step_follows}
 use Rattle.vab_device.specs.Does.{LeavesStep}
 use Rattle.vab_device.specs.Mounted.{Mounted, mounted_on}
 use Rattle.vab_device.specs.Phases.{slot_checks, staged_checks, target_ready, is_good, may_run}
@@ -296,6 +297,7 @@ module _ {D : Type 0} (g : Ghosts D) (d : Device) (staged : Option (List ℕ)) (
         reply = λ t. tt;
         rest = λ t rest. tt;
         quiet = quiet;
+        still = λ t none. tt;
         touches = λ t. touches_wider g _ _ old new (touches t) writes;
         time = steps;
         faults = record { steady = tt; cause = rose };
@@ -317,6 +319,7 @@ module _ {D : Type 0} (g : Ghosts D) (d : Device) (staged : Option (List ℕ)) (
         reply = λ t. ap (λ (e : Effect Mounted). e.reply) (sym (gives t));
         rest = λ t rest. settled t;
         quiet = quiet;
+        still = λ t none. absurd (step_follows (gives t) none);
         touches = λ t. touches_wider g _ _ old new (touches t) writes;
         time = steps;
         faults = record { steady = counts; cause = tt };

@@ -1,11 +1,12 @@
 //! What the sectors with places of their own say.
 
-ghost use Rattle.std.specs.Prelude.{◌≡◌, ◌<◌, ◌≤◌, IfOk, IfErr, Err};
+ghost use Rattle.std.specs.Prelude.{◌≡◌, ◌⊎◌, ◌<◌, ◌≤◌, IfOk, IfErr, Err};
 ghost use Rattle.vab_disk.specs.Calls.{OnlyReads};
 ghost use Rattle.vab_device.specs.Faults.{IsOfContents};
 ghost use Rattle.vab_device.specs.Kept.{IsPhase};
 ghost use Rattle.vab_device.specs.Reading.{device};
 ghost use Rattle.vab_recover.specs.Counts.{CountsFaults};
+ghost use Rattle.vab_recover.specs.Memory.{IsNamed, HasHeads};
 ghost use Rattle.vab_recover.specs.Opened.{IsMarked, IsHeaded, AreHeads, AreLoaded, AreTablesThere};
 ghost use Rattle.vab_recover.specs.Opened.{IsFramed};
 
@@ -45,6 +46,7 @@ fn read_marks<D: Disk>(d: &mut D) -> Result<(UpdateMark, Statuses), StartFault>
         (λ r. IsMarked (D.size d.old) (D.seen d.old) r.0 r.1.items) }
     ensures fault { D.is_modelled → IfErr result
         (λ f. IsOfContents f → device (D.size d.old) (D.seen d.old) ≡ Err f) }
+    ensures named { IfErr result IsNamed }
     ensures enough { IfOk result (λ r. 4120 ≤ D.size d.old) }
     ensures phase { IfOk result (λ r. IsPhase r.0.phase) }
     ensures slot { IfOk result (λ r. r.0.slot < 2) }
@@ -70,6 +72,7 @@ fn read_heads<D: Disk>(d: &mut D) -> Result<Heads, StartFault>
         h.mark h.statuses.items h.control h.geometry) }
     ensures fault { D.is_modelled → IfErr result
         (λ f. IsOfContents f → device (D.size d.old) (D.seen d.old) ≡ Err f) }
+    ensures named { IfErr result IsNamed }
     ensures are { IfOk result (λ h. AreHeads (D.size d.old) h.mark h.control h.geometry) }
     ensures reads { OnlyReads D.Disk d.old d.new }
     ensures counts { CountsFaults D.Disk d.old d.new result }
@@ -98,6 +101,8 @@ pub fn read_frame<D: Disk>(alloc: Global, d: &mut D) -> Result<Frame, StartFault
         (λ f. IsFramed (D.size d.old) (D.seen d.old) f) }
     ensures fault { D.is_modelled → IfErr result
         (λ f. IsOfContents f → device (D.size d.old) (D.seen d.old) ≡ Err f) }
+    ensures memory { D.is_modelled → IfErr result
+        (λ f. IsNamed f ⊎ HasHeads (D.size d.old) (D.seen d.old)) }
     ensures are { IfOk result
         (λ f. AreHeads (D.size d.old) f.heads.mark f.heads.control f.heads.geometry) }
     ensures there { IfOk result

@@ -1,6 +1,6 @@
 //! Opening a device.
 
-ghost use Rattle.std.specs.Prelude.{◌≡◌, ◌<◌, ◌≤◌, IfOk, OnOk, IfErr, Ok, Err};
+ghost use Rattle.std.specs.Prelude.{◌≡◌, ◌⊎◌, ◌<◌, ◌≤◌, IfOk, OnOk, IfErr, Ok, Err};
 ghost use Rattle.vab_disk.specs.Disk.{Adds};
 ghost use Rattle.vab_disk.specs.Calls.{OnlyReads, Touches, IsAtRest, IsQuiet, FailsWithDisk};
 ghost use Rattle.vab_device.specs.Faults.{IsOfContents, IsOfDisk};
@@ -8,6 +8,7 @@ ghost use Rattle.vab_device.specs.Kept.{IsDevice};
 ghost use Rattle.vab_device.specs.Mounted.{mounted_on};
 ghost use Rattle.vab_device.specs.Reading.{device, Represents};
 ghost use Rattle.vab_recover.specs.Counts.{CountsFaults};
+ghost use Rattle.vab_recover.specs.Memory.{IsNamed, HasHeads};
 ghost use Rattle.vab_recover.specs.Opened.{IsFramed, AreHeads, AreTablesThere, with_tables};
 ghost use Rattle.vab_recover.specs.Opened.{IsOpened};
 ghost use Rattle.vab_recover.specs.Repairs.{LeavesSame, IsRepair, BothCopiesHold};
@@ -69,6 +70,8 @@ pub fn open<D: Disk>(alloc: Global, d: &mut D) -> Result<(Device, Tables), Start
         → IfOk result (λ r. IsOpened r.0 r.1 (D.size d.old) (D.seen d.old)) }
     ensures fault { D.is_modelled → IfErr result
         (λ f. IsOfContents f → device (D.size d.old) (D.seen d.old) ≡ Err f) }
+    ensures memory { D.is_modelled → IfErr result
+        (λ f. IsNamed f ⊎ HasHeads (D.size d.old) (D.seen d.old)) }
     ensures kept { IfOk result (λ r. IsDevice (with_tables r.1 r.0) (D.size d.old)) }
     ensures there { IfOk result
         (λ r. AreTablesThere (D.size d.old) r.0.geometry r.0.mark r.1) }
@@ -152,6 +155,9 @@ pub fn start<D: Disk>(alloc: Global, d: &mut D) -> Result<Device, StartFault>
     ensures kept { IfOk result (λ r. IsDevice r (D.size d.old)) }
     ensures fault { D.is_modelled → IfErr result
         (λ f. IsOfContents f → device (D.size d.old) (D.seen d.old) ≡ Err f) }
+    // Memory is refused only where size, mark, boot control and geometry are those of a device.
+    ensures memory { D.is_modelled → IfErr result
+        (λ f. IsNamed f ⊎ HasHeads (D.size d.old) (D.seen d.old)) }
     ensures unwritten { IfErr result (λ f. (IsOfDisk f → ⊥) → OnlyReads D.Disk d.old d.new) }
     // What it touches, it repairs: of each table the one copy that doesn't hold its text.
     ensures touches { D.is_modelled

@@ -10,6 +10,7 @@ ghost use Rattle.vab_device.specs.Kept.{copies_end, super_bytes, has_both, reads
 ghost use Rattle.vab_device.specs.Reading.{mark_read, mark_in, control_read, control_in};
 ghost use Rattle.vab_device.specs.Reading.{geometry_at, statuses_at};
 ghost use Rattle.vab_recover.specs.Counts.{CountsFaults};
+ghost use Rattle.vab_recover.specs.Memory.{IsNamed};
 
 use vab_bootctl::{Control, decode_control};
 use vab_device::StartFault;
@@ -90,6 +91,7 @@ fn known_mark(sector: &[u8; 512]) -> Result<UpdateMark, StartFault>
 pub fn read_mark<D: Disk>(d: &mut D) -> Result<UpdateMark, StartFault>
     requires { 2048 < D.size d.old }
     ensures answers { D.is_modelled → Answers result (mark_in (D.seen d.old)) }
+    ensures named { IfErr result IsNamed }
     ensures phase { IfOk result (λ m. IsPhase m.phase) }
     ensures slot { IfOk result (λ m. m.slot < 2) }
     ensures reads { OnlyReads D.Disk d.old d.new }
@@ -107,6 +109,7 @@ pub fn read_if<D: Disk>(d: &mut D, both: bool) -> Result<Statuses, StartFault>
         (λ s. statuses_at both (D.seen d.old) ≡ Ok s.items) }
     ensures fault { D.is_modelled → IfErr result (λ f. IsOfContents f
         → statuses_at both (D.seen d.old) ≡ Err f) }
+    ensures named { IfErr result IsNamed }
     ensures reads { OnlyReads D.Disk d.old d.new }
     ensures counts { CountsFaults D.Disk d.old d.new result }
 {
@@ -142,6 +145,7 @@ pub fn read_control<D: Disk>(d: &mut D) -> Result<Control, StartFault>
     ensures ok { D.is_modelled → IfOk result (λ c. control_of (D.seen d.old 4) ≡ Ok c) }
     ensures fault { D.is_modelled → IfErr result
         (λ f. IsOfContents f → (a b : Bool) → control_in a b (D.seen d.old) ≡ Err f) }
+    ensures named { IfErr result IsNamed }
     ensures fits { IfOk result Fits }
     ensures reads { OnlyReads D.Disk d.old d.new }
     ensures counts { CountsFaults D.Disk d.old d.new result }
@@ -172,6 +176,7 @@ pub fn copies_end(geometry: &Geometry) -> u64
 pub fn read_geometry<D: Disk>(d: &mut D) -> Result<Geometry, StartFault>
     requires { 4120 ≤ D.size d.old }
     ensures answers { D.is_modelled → Answers result (geometry_at (D.size d.old) (D.seen d.old)) }
+    ensures named { IfErr result IsNamed }
     ensures rules { IfOk result IsGeometry }
     ensures copies_on { IfOk result (λ g. copies_end g ≤ super_bytes (D.size d.old)) }
     ensures reads { OnlyReads D.Disk d.old d.new }

@@ -297,6 +297,78 @@ fn a_table_of_a_ready_target_is_repaired(rt: HostRuntime) -> Result<(), Fail> {
     Ok(())
 }
 
+// A session of refusals and questions makes no sync, and no sector of the tables changes.
+fn only_tells(
+    rt: &impl Abort,
+    alloc: Global,
+    d: MemPort,
+    cases: &[Case<'_>],
+) -> Result<MemPort, Fail> {
+    let mut d = d;
+    let before = sector(&mut d, 4248).ok_or("the sector is read")?;
+    let (input, told) = session(alloc, cases)?;
+    let mut d = steps_on(rt, alloc, d, &[(&["serve"], &input, 0, &told)])?;
+    assert_eq!(rt; d.syncs(), 0);
+    let after = sector(&mut d, 4248).ok_or("the sector is read")?;
+    assert!(rt; before == after);
+    Ok(d)
+}
+
+#[test]
+fn a_refused_command_writes_nothing(rt: HostRuntime) -> Result<(), Fail> {
+    let alloc = rt.alloc();
+    let d = steps(&rt, alloc, SECTORS, &[(&["make"], &SYSTEM, 0, MADE)])?;
+    let idle: [Case; 7] = [
+        (
+            b"set_active:b".as_slice(),
+            b"FAILslot has no images".as_slice(),
+        ),
+        (b"snapshot-update:cancel", b"FAILno update to cancel"),
+        (b"oem finish", b"FAILno update is being installed"),
+        (
+            b"create-logical-partition:x_b:0",
+            b"FAILno update is being installed",
+        ),
+        (b"flash:system_b", b"FAILno update is being installed"),
+        (b"oem merge 1", b"FAILno merge is in progress"),
+        (b"getvar:current-slot", b"OKAYa"),
+    ];
+    let d = only_tells(&rt, alloc, d, &idle)?;
+    let d = serve(&rt, alloc, d, &[(b"oem begin", b"OKAY")], [0x8f, 0, 0, 0])?;
+    let installing: [Case; 6] = [
+        (
+            b"oem begin".as_slice(),
+            b"FAILan update is in progress".as_slice(),
+        ),
+        (
+            b"create-logical-partition:system_b:0",
+            b"FAILpartition exists",
+        ),
+        (b"resize-logical-partition:x_b:0", b"FAILunknown partition"),
+        (
+            b"oem snapshot system_b 8388608",
+            b"FAILno room: 2148 of 256 blocks",
+        ),
+        (b"delete-logical-partition:x_b", b"FAILunknown partition"),
+        (b"flash:system_b", b"FAILpartition has no store"),
+    ];
+    only_tells(&rt, alloc, d, &installing)?;
+    let ready: [Case; 4] = [
+        (
+            b"oem begin".as_slice(),
+            b"FAILan update is in progress".as_slice(),
+        ),
+        (b"oem finish", b"FAILno update is being installed"),
+        (
+            b"delete-logical-partition:system_b",
+            b"FAILno update is being installed",
+        ),
+        (b"set_active:c", b"FAILbad argument"),
+    ];
+    only_tells(&rt, alloc, staged(&rt, alloc)?, &ready)?;
+    Ok(())
+}
+
 // The store of an image that differs in 256 blocks needs a second area, which is zeroed.
 #[test]
 fn a_full_area_has_a_zeroed_one_behind_it(rt: HostRuntime) -> Result<(), Fail> {

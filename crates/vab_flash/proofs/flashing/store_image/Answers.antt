@@ -116,7 +116,8 @@ returns-in-Err g c =
     (status_spelling status)
     (λ t. (gate t).0) (λ t. (gate t).1) (λ t rest. c.put_status.ensures.gate t (ok.settled t))
     c.put_status.ensures.touches
-    (status_in_flash d name c.args.free (length es) status c.requires.there status_is)
+    (status_in_flash d name c.args.place c.args.free (length es) status c.requires.chosen.has
+    c.requires.there status_is)
     c.in-Err.fault c.in-Err.ensures.faults.cause
 
 pub returns-in-Ok-put_status : goal.returns-in-Ok-put_status
@@ -159,7 +160,8 @@ returns-in-Ok-put_status g c =
     (status_spelling status)
     (λ t. (gate t).0) (λ t. (gate t).1) (λ t rest. c.put_status.ensures.gate t (ok.settled t))
     c.put_status.ensures.touches
-    (status_in_flash d name c.args.free (length es) status c.requires.there status_is)
+    (status_in_flash d name c.args.place c.args.free (length es) status c.requires.chosen.has
+    c.requires.there status_is)
     (written_kept d (g.D.Disk.size disk) name (Some c.args.bytes.now) c.args.place c.args.bytes.now
     es
     c.requires.kept c.requires.chosen ok.fits)
