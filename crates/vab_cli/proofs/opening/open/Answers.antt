@@ -22,6 +22,10 @@ pub returns-in-Ok-clause-changes : goal.returns-in-Ok-clause-changes
 returns-in-Ok-clause-changes g c = λ t.
     changes_touches g.P.Disk _ _ _ (c.start.ensures.touches t)
 
+pub returns-then-ne-clause-changes : goal.returns-then-ne-clause-changes
+returns-then-ne-clause-changes g c = λ t.
+    changes_touches g.P.Disk _ _ _ (c.start.ensures.touches t)
+
 pub returns-then-ne-clause-early : goal.returns-then-ne-clause-early
 returns-then-ne-clause-early g c = λ t s stands.
     let other : c.from-status.result ≢ NotADevice = search rules in
