@@ -15,7 +15,8 @@ slot_of : (slot : ℕ) (o : Option MarkPhase) (m : UpdateMark)
     → ok_or (option_map (with_phase slot) o) BadField ≡ Ok m
     → m.slot ≡ slot
 slot_of slot None m is = absurd cc
-slot_of slot (Some p) m is = ap (λ (x : UpdateMark). x.slot) (let e : m ≡ with_phase slot p = cc in e)
+slot_of slot (Some p) m is =
+    ap (λ (x : UpdateMark). x.slot) (let e : m ≡ with_phase slot p = cc in e)
 
 fields_slot : (bytes : List ℕ) (m : UpdateMark) → mark_fields bytes ≡ Ok m → m.slot < 2
 fields_slot bytes m is =
@@ -29,7 +30,8 @@ fields_slot bytes m is =
           (sym (slot_of (slice_index bytes 6) (phase_of (slice_index bytes 5)) m taken))
           (ltb-true (slice_index bytes 6) 2 parts.0)
       | inr not ↦
-          let bad : (let x : Result UpdateMark MarkFault = Err BadField in x ≡ Ok m) = rw not at is in
+          let bad : (let x : Result UpdateMark MarkFault = Err BadField in x ≡ Ok m) =
+          rw not at is in
           absurd cc
     ]
 

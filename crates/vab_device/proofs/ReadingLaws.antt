@@ -353,7 +353,8 @@ known_by marks.Completed m r at is = absurd cc
 known_of : (x : Result UpdateMark MarkFault) (r : UpdateMark) → mark_read x ≡ Ok r → IsPhase r.phase
 known_of (Ok m) r is = known_by m.phase m r refl is
 known_of (Err fault) r is =
-    absurd (let bad : (let x : Result UpdateMark StartFault = Err (BadMark 2048) in x ≡ Ok r) = is in cc)
+    absurd (let bad : (let x : Result UpdateMark StartFault = Err (BadMark 2048) in x ≡ Ok r) =
+    is in cc)
 
 pub known_phase : (image : Image) (m : UpdateMark) → mark_in image ≡ Ok m → IsPhase m.phase
 unfolding mark_in
@@ -385,7 +386,8 @@ slot_read : (bytes : List ℕ) (x : Result UpdateMark MarkFault) (r : UpdateMark
     → r.slot < 2
 slot_read bytes (Ok m) r of is = slot_known m.phase m r (mark_slot bytes m of) is
 slot_read bytes (Err fault) r of is =
-    absurd (let bad : (let x : Result UpdateMark StartFault = Err (BadMark 2048) in x ≡ Ok r) = is in cc)
+    absurd (let bad : (let x : Result UpdateMark StartFault = Err (BadMark 2048) in x ≡ Ok r) =
+    is in cc)
 
 pub slot_below : (image : Image) (m : UpdateMark) → mark_in image ≡ Ok m → m.slot < 2
 unfolding mark_in
@@ -422,7 +424,8 @@ idle_read_of size r image reads none =
     installs : r.mark.phase ≡ marks.Installing → r.mark.phase ≡ marks.Idle
     installs is =
         let two = tables_two size r.geometry r.mark.slot (other_slot r.mark.slot) image r.tables
-        (subst (λ (p : MarkPhase). tables_in size r.geometry ((phase_at p).tables r.mark.slot) image ≡ Ok r.tables)
+        (subst (λ (p : MarkPhase). tables_in size r.geometry ((phase_at p).tables r.mark.slot)
+        image ≡ Ok r.tables)
         is reads.tables) in
         let there : phase_by r.mark left
         (entries_on image (installing.plan r.mark.slot (two.0 ∷ two.1 ∷ []) r.scanned))
@@ -555,8 +558,10 @@ are_there m slot [] ss below long = absurd (none_read m long)
     none_read marks.Completed is = omega (arith, is)
 are_there marks.Idle slot (t ∷ ts) ss below long =
     (some_first 0 slot [] false ss t ts, some_first 1 slot [] false ss t ts)
-are_there marks.Installing slot (t ∷ ts) ss below long =
-    (some_first 0 slot (other_slot slot ∷ []) false ss t ts, some_first 1 slot (other_slot slot ∷ []) false ss t ts)
+are_there marks.Installing slot (t ∷ ts) ss below long = (
+  some_first 0 slot (other_slot slot ∷ []) false ss t ts,
+  some_first 1 slot (other_slot slot ∷ []) false ss t ts,
+)
 are_there marks.Staged slot (t ∷ []) ss below long = absurd (omega (arith, long))
 are_there marks.Staged slot (t ∷ u ∷ ts) ss below long = (
   some_both 0 slot (other_slot slot == 0) ss t u ts (omega arith) below,

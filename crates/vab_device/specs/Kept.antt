@@ -186,7 +186,7 @@ parts_at d slot = if slot == 0 then d.a else d.b
 
 -- On a disk of so many sectors. The slot of the mark has images and a table, and it is current, or
 -- the other is where that has images as well. While an update is installed, the other has a table,
--- and its partitions are planned; where the update is ready to be booted, it has images.
+-- and its partitions are planned; where the update is ready, it has images.
 pub record IsDevice (d : Device) (size : ℕ) : Type 0 where
   pub enough : 4120 ≤ size
   pub geometry : IsGeometry d.geometry

@@ -145,7 +145,7 @@ installing = record idle {
       of_both None (λ s t. Some (plan_of (other_slot slot) (layout_of t) scanned)) ts;
 }
 
--- ---- an update is ready to be booted
+-- ---- an update is ready
 
 -- it needs nothing more to be written
 abbrev pub is_ready : PartImage → Bool
@@ -156,7 +156,7 @@ is_ready (Written es) = true
 abbrev pub are_ready : List Part → Bool
 are_ready parts = list_all (λ p. is_ready p.image) parts
 
--- the slot that was booted last may be booted again: the source works, and so may the target
+-- the source works, and a target that was booted last has a priority
 abbrev pub may_run : (source : ℕ) → Control → Bool
 may_run source c =
     is_good (info_at c source)
@@ -173,8 +173,8 @@ staged_checks source c ts scanned =
     ∷ check (target_ready source ts scanned) (BadState 3)
     ∷ []
 
--- An update is ready to be booted: both slots have images, those of the target, the slot that isn't
--- the mark's, through their stores.
+-- An update is ready: both slots have images, those of the target, the slot that isn't the mark's,
+-- through their stores.
 abbrev pub staged : Phase
 staged = record installing {
   has_a = λ slot. true;

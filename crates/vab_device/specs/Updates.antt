@@ -1,5 +1,5 @@
--- What the commands of an update make of a device: its begin, the edits of the target's table, and
--- the image of a partition.
+-- What the commands of an update make of a device: its begin, the edits of the target's table, the
+-- image of a partition, the end of its installation, and its cancelling.
 use Rattle.std.specs.Prelude.{ℕ, ◌+◌, ◌*◌, ◌/◌, ◌==◌, Bool, true, false, not, ◌&&◌, nat_lt, nat_le}
 use Rattle.std.specs.Prelude.{if◌then◌else◌, List, [], ◌∷◌, length, map, take, Option, Some, None}
 use Rattle.std.specs.Prelude.{option_map, is_some, Result, Ok, Err}
@@ -298,7 +298,7 @@ cancel_effect m (Staged source left) =
     else refuses refusals.RunningTarget
 cancel_effect m (Merging target left) = refuses refusals.Merging
 
--- ---- an update that is ready to be booted
+-- ---- an update that is ready
 
 -- the lesser of two names, byte by byte
 abbrev pub lesser : Option (List ℕ) → List ℕ → Option (List ℕ)
@@ -343,7 +343,7 @@ abbrev pub with_images : State → (slot : ℕ) → List ImageOfSlot → State
 with_images s slot images =
     if slot == 0 then record s { a = Some images } else record s { b = Some images }
 
--- The target has the images of its plan, and may be booted.
+-- The target has the images of its plan, and may be set active.
 abbrev pub finished : Mounted → (source : ℕ) → List PlanEntry → Mounted
 finished m source plan =
     in_phase

@@ -67,7 +67,7 @@ pub enum PhaseKind {
     Idle,
     /// An update is installed beside this slot, the source.
     Installing(usize),
-    /// An update from this slot, the source, is ready to be booted.
+    /// An update from this slot, the source, is ready: both slots have images.
     Staged(usize),
     /// The stores of this slot, the target, are merged into its partitions.
     Merging(usize),

@@ -15,7 +15,7 @@ pub enum MarkPhase {
     Idle,
     /// The other slot's partitions are being written.
     Installing,
-    /// The other slot is written, and may be booted.
+    /// The other slot has images too, and may be set active.
     Staged,
     /// The target's snapshots are being merged.
     Merging,

@@ -29,7 +29,7 @@ pub enum Command<'a> {
     Snapshot(&'a [u8], u64),
     /// Makes the staged bytes the image of a partition of the target.
     Flash(&'a [u8]),
-    /// Ends the installing of an update: its target is ready to be booted.
+    /// Ends the installing of an update: its target has images, and may be set active.
     Finish,
     /// Drops an update.
     Cancel,

@@ -94,8 +94,8 @@ fn read_heads<D: Disk>(d: &mut D) -> Result<Heads, StartFault>
     }
 }
 
-/// What is read of a disk in front of its stores. Each fault of its contents comes exactly where
-/// that is the first thing wrong.
+/// What is read of a disk in front of its stores. Each fault of its contents comes only where that
+/// is the first thing wrong; behind the geometry want of memory may come in its place.
 pub fn read_frame<D: Disk>(alloc: Global, d: &mut D) -> Result<Frame, StartFault>
     ensures framed { D.is_modelled → IfOk result
         (λ f. IsFramed (D.size d.old) (D.seen d.old) f) }

@@ -53,8 +53,8 @@ fn judge_slot(control: &Control, slot: usize) -> Result<(), StartFault>
     Ok(())
 }
 
-// Whether the slot that was booted last may be booted again, where both have images and this one is
-// the source.
+// Whether the source works, and a target that was booted last has a priority, where both slots have
+// images.
 #[tactic(auto, unfolding(vab_device::specs::Phases::may_run))]
 fn may_run(control: &Control, source: usize) -> bool
     requires { source < 2 }
