@@ -144,9 +144,9 @@ fn repair_tables<D: Disk>(d: &mut D, kept: &Device, tables: &Tables) -> Result<(
 
 /// Opens the device of a disk: it reads it, and repairs the copies of its tables that a cut of
 /// power has left behind. Each fault of the disk's contents comes only where the disk is no device
-/// and that is the first thing wrong; behind the geometry want of memory may come in its place. Then
-/// nothing is written.
-/// Where both copies of each table hold its text, nothing is written and nothing is synced.
+/// and that is the first thing wrong; behind the geometry want of memory may come in its place.
+/// Nothing is written then. Where both copies of each table hold its text, nothing is written and
+/// nothing is synced.
 pub fn start<D: Disk>(alloc: Global, d: &mut D) -> Result<Device, StartFault>
     // It answers the device that the disk was, which it still is.
     ensures device { D.is_modelled → IfOk result
