@@ -341,7 +341,8 @@ module _ (told : Type 0) (text : List ℕ) (size : ℕ) (old : Image) where
         (kept_source slot c ss seen g s scanned dev.slot) in
         record {
           represents = record {
-            read = update_read marks.Installing slot no_statuses (control_read_of slot c) g s x.table [];
+            read = update_read marks.Installing slot no_statuses (control_read_of slot c)
+                g s x.table [];
             reads = reads_new slot ss seen g s scanned c told text size old mid
                 dev.slot dev.geometry short same reads whole x.table of.target of.device
                 of.groups stands rules.lies prepared copies read;

@@ -292,7 +292,8 @@ module _
       (two.0 ∷ two.1 ∷ []) old =
       subst (λ (slots : List ℕ). AgreeCopies r.geometry slots (two.0 ∷ two.1 ∷ []) old)
       (both_tables r.mark.phase r.mark.slot both)
-      (subst (λ (ts : List Table). AgreeCopies r.geometry ((phase_at r.mark.phase).tables r.mark.slot)
+      (subst (λ (ts : List Table). AgreeCopies r.geometry
+      ((phase_at r.mark.phase).tables r.mark.slot)
       ts old) two.2 is.copies) in (
         (
           were.0.0,
@@ -343,5 +344,6 @@ module _
   cancel_step = record {
     represents = represents;
     effect =
-        cancel_is d size old staged dev ends ∙ ap (λ (m : Mounted). does replies.Done m) (sym means);
+        cancel_is d size old staged dev ends ∙ ap (λ (m : Mounted). does replies.Done m)
+        (sym means);
   }

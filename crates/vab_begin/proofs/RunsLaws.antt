@@ -67,7 +67,8 @@ module _ (d : Device) (size : ℕ) (old : Image) (dev : IsDevice d size) (is : R
     installed : r.mark.phase ≡ marks.Installing
         → first_fault (slot_checks r.mark.slot (control_read_of r.mark.slot d.control)) ≡ None
     installed phase =
-        ap (λ (k : Control). first_fault (slot_checks r.mark.slot k)) (sym (seen_in marks.Installing phase))
+        ap (λ (k : Control). first_fault (slot_checks r.mark.slot k))
+        (sym (seen_in marks.Installing phase))
         ∙ sym (state_single r (ap has_both phase))
         ∙ is.reads.state
 

@@ -93,7 +93,9 @@ module _
   on = blocks_on size g l.device enough rules.device lies
 
   once : All (λ p. IsDistinct p.blocks) (own_parts slot l.parts ++ store_parts slot l.parts)
-  once = pieces_once (λ (p : PartOfLayout). p.blocks) (own_parts slot l.parts ++ store_parts slot l.parts)
+  once =
+      pieces_once (λ (p : PartOfLayout). p.blocks)
+      (own_parts slot l.parts ++ store_parts slot l.parts)
       target.once
 
   in_cap : (p : PartOfLayout) → Contains l.parts p → All (λ b. b < cap_of l.device) p.blocks
@@ -120,7 +122,9 @@ module _
             (own_parts slot l.parts ++ store_parts slot l.parts) q once among);
       }
 
-  fresh_is : (p : PartOfLayout) → Contains (own_parts slot l.parts) p → IsPart size (planned_on l [] p)
+  fresh_is : (p : PartOfLayout)
+      → Contains (own_parts slot l.parts) p
+      → IsPart size (planned_on l [] p)
   fresh_is p c =
       let among = of_filter (λ (q : PartOfLayout). is_of_slot slot q.name) l.parts p c in
       let own = All-contains (IsOwnPart slot) (own_parts slot l.parts) p target.own.each c in

@@ -64,7 +64,8 @@ store_updated slot source parts p is c there =
 
 -- the lengths of stores
 store_length : (n : ℕ) (o : Option PartOfLayout)
-    → option_map (λ (l : List ℕ). length l) (option_map (λ (q : PartOfLayout). sectors_of n q.blocks) o)
+    → option_map (λ (l : List ℕ). length l)
+    (option_map (λ (q : PartOfLayout). sectors_of n q.blocks) o)
     ≡ option_map (λ (q : PartOfLayout). length q.blocks) o
 unfolding sectors_of
 store_length n None = refl
@@ -110,7 +111,8 @@ module _
       → is_of_slot slot name ≡ true
       → ((q : PartOfLayout) → Contains own q → is_of_slot slot q.name ≡ true)
       → entry_named (base_of name) (map (entry_on image) (map (planned_on old ss) own))
-      ≡ option_map (λ (q : PartOfLayout). entry_on image (planned_on old ss q)) (first_named name own)
+      ≡ option_map (λ (q : PartOfLayout). entry_on image (planned_on old ss q))
+      (first_named name own)
   entry_found name [] is each = refl
   entry_found name (q ∷ qs) is each =
       let e = base_eq slot q.name name (each q (first q qs)) is in
@@ -120,7 +122,9 @@ module _
             rw (e, other) (entry_found name qs is (λ x c. each x (later q qs x c)))
       ]
 
-  old_each : (q : PartOfLayout) → Contains (own_parts slot old.parts) q → is_of_slot slot q.name ≡ true
+  old_each : (q : PartOfLayout)
+      → Contains (own_parts slot old.parts) q
+      → is_of_slot slot q.name ≡ true
   old_each q c = (of_filter (λ (x : PartOfLayout). is_of_slot slot x.name) old.parts q c).1
 
   -- ---- one partition
@@ -160,7 +164,8 @@ module _
             ap (λ (n : List ℕ). store_on old n) was.named
             ∙ ap (option_map (λ (x : PartOfLayout). sectors_of os x.blocks)) b.stored
             ∙ (λ i. Some (sectors_of (sym first_sector i) (sym still.store_blocks i)))
-            ∙ sym (ap (option_map (λ (x : PartOfLayout). sectors_of ns x.blocks)) still.both.stored);
+            ∙ sym (ap (option_map (λ (x : PartOfLayout). sectors_of ns x.blocks))
+            still.both.stored);
         was = was_updated q was.among
             (ap (λ (n : List ℕ). has_part (store_of n) old.parts) was.named ∙ stored_old.there);
         now = now_updated p c stored_new.there;
@@ -210,7 +215,8 @@ module _
           ∙ alike ex
       go (Some es) None ex fo =
           absurd (let b = both p.name es ex in
-          let bad : (let x : Option PartOfLayout = None in x ≡ Some b.part) = sym fo ∙ b.named in cc)
+          let bad : (let x : Option PartOfLayout = None in x ≡ Some b.part) =
+          sym fo ∙ b.named in cc)
       go (Some es) (Some q) ex fo =
           let w = is_written p q es c ex fo in
           let was : planned_image (is_updated q) (exceptions_of q.name ss) ≡ Written es =

@@ -115,7 +115,8 @@ plan_differs slot u rules =
     (λ p. is_of_slot slot p.name) l.parts
     (layout_keeps u rules).part_names in
     pairs_map (λ (a b : Part). a.name ≢ b.name) (planned_on l []) own
-    (pairs_weaker (λ (a b : PartOfLayout). a.name ≢ b.name) (λ (a b : PartOfLayout). base_of a.name ≢ base_of
+    (pairs_weaker (λ (a b : PartOfLayout). a.name ≢ b.name)
+    (λ (a b : PartOfLayout). base_of a.name ≢ base_of
     b.name) own
     (λ a b in_a in_b other e. other
     (of_slot slot a.name (of_filter (λ (p : PartOfLayout). is_of_slot slot p.name) l.parts a in_a).1
