@@ -78,9 +78,11 @@ module _
       (λ updated. absurd (let no : true ≡ false = sym updated ∙ same in cc))
       (λ kept.
       named p.name
-      ∙ ap (λ (n : ℕ). bytes_at image (sectors_of n (blocks_named (in_slot slot p.name) source.parts)))
+      ∙ ap (λ (n : ℕ). bytes_at image
+      (sectors_of n (blocks_named (in_slot slot p.name) source.parts)))
       first
-      ∙ ap (λ (n : ℕ). bytes_at image (sectors_of at (blocks_named (in_slot n p.name) source.parts)))
+      ∙ ap (λ (n : ℕ). bytes_at image
+      (sectors_of at (blocks_named (in_slot n p.name) source.parts)))
       (sym back)
       ∙ ap (λ (bs : List ℕ). bytes_at image (sectors_of at bs)) (sym kept.1))
       rule.kept

@@ -114,16 +114,31 @@ module _
     stores =
         stores_kept (stores_of before) old mid scanned
         (λ s is.
-        stays s (λ e. omega (arith, e, stores_behind size 4096 before old s reads (omega arith) is)))
+        stays s (λ e. omega (
+          arith,
+          e,
+          stores_behind size 4096 before old s reads (omega arith)
+              is,
+        )))
         reads.stores;
     images_a =
         images_same old mid (kept before).a
         (λ s is.
-        stays s (λ e. omega (arith, e, images_behind size 4096 0 _ _ before old s reads (omega arith) is)));
+        stays s (λ e. omega (
+          arith,
+          e,
+          images_behind size 4096 0 _ _ before old s reads
+              (omega arith) is,
+        )));
     images_b =
         images_same old mid (kept before).b
         (λ s is.
-        stays s (λ e. omega (arith, e, images_behind size 4096 1 _ _ before old s reads (omega arith) is)));
+        stays s (λ e. omega (
+          arith,
+          e,
+          images_behind size 4096 1 _ _ before old s reads
+              (omega arith) is,
+        )));
     plan =
         plan_kept (kept before).plan old mid
         (λ s is.
@@ -228,12 +243,16 @@ module _
     pub images_a : images_on new (kept after).a ≡ images_on old (kept after).a
     images_a =
         images_same old new (kept after).a
-        (λ s is. from_behind s (images_behind size 4096 0 true (other_slot slot == 0) after new s reads_new (omega arith) is))
+        (λ s is. from_behind s
+        (images_behind size 4096 0 true (other_slot slot == 0) after new s reads_new (omega arith)
+        is))
 
     pub images_b : images_on new (kept after).b ≡ images_on old (kept after).b
     images_b =
         images_same old new (kept after).b
-        (λ s is. from_behind s (images_behind size 4096 1 true (other_slot slot == 1) after new s reads_new (omega arith) is))
+        (λ s is. from_behind s
+        (images_behind size 4096 1 true (other_slot slot == 1) after new s reads_new (omega arith)
+        is))
 
 -- ---- what is kept
 

@@ -24,7 +24,8 @@ use Rattle.vab_device.specs.declared.device.Device.{Device}
 use Rattle.vab_device.specs.Kept.{IsDevice, AreOfUpdate, is_installing, sectors_of}
 use Rattle.vab_device.specs.Mounted.{Mounted, mounted_on, state_on, bytes_at, image_on, entry_on}
 use Rattle.vab_device.specs.Phases.{phase_at, are_ready, plan_of}
-use Rattle.vab_device.specs.Reading.{Read, Reads, Represents, AgreeCopies, Dead, tables_in, table_at}
+use Rattle.vab_device.specs.Reading.{Read, Reads, Represents}
+use Rattle.vab_device.specs.Reading.{AgreeCopies, Dead, tables_in, table_at}
 use Rattle.vab_device.specs.Stores.{Scanned}
 use Rattle.vab_device.specs.Updates.{source_bytes, finished, final_image}
 use Rattle.vab_begin.proofs.BegunLaws.{device_same}
@@ -45,7 +46,10 @@ installing_only marks.Staged is = absurd cc
 installing_only marks.Merging is = absurd cc
 installing_only marks.Completed is = absurd cc
 
-pub installing_of : (d : Device) (size : ℕ) → IsDevice d size → MayFinish d → d.mark.phase ≡ marks.Installing
+pub installing_of : (d : Device) (size : ℕ)
+    → IsDevice d size
+    → MayFinish d
+    → d.mark.phase ≡ marks.Installing
 installing_of d size dev ready =
     installing_only d.mark.phase (sym dev.planned ∙ ap is_some ready.plan_is)
 
@@ -173,25 +177,32 @@ module _ (told : Type 0) (size : ℕ) (old : Image) where
   means_shape zero ss seen g t u scanned c mid dev reads whole copies same prepared read ready =
       let new = marked mid (mark_spelling (staged_mark 0)) in
       let a = some_same 0 ss seen g t u scanned c _ new
-      (images_a 0 ss seen g t u scanned c told size old mid dev.slot reads whole same prepared copies
+      (images_a 0 ss seen g t u scanned c told size old mid dev.slot reads whole same prepared
+      copies
       read ready) in
       let b = some_same 0 ss seen g t u scanned c _ new
-      (images_b 0 ss seen g t u scanned c told size old mid dev.slot reads whole same prepared copies
+      (images_b 0 ss seen g t u scanned c told size old mid dev.slot reads whole same prepared
+      copies
       read ready) in
       ap (λ (k : Device). mounted_on k new) (kept_finished 0 ss seen g t u scanned c dev.slot)
       ∙ means_a ss seen g t u scanned c old new a
-      (b ∙ sym (final_same 0 ss seen g t u scanned c mid dev reads whole copies same prepared read ready))
-  means_shape (suc zero) ss seen g t u scanned c mid dev reads whole copies same prepared read ready =
+      (b ∙ sym
+      (final_same 0 ss seen g t u scanned c mid dev reads whole copies same prepared read ready))
+  means_shape (suc zero) ss seen g t u scanned c mid dev reads whole copies same prepared read
+      ready =
       let new = marked mid (mark_spelling (staged_mark 1)) in
       let a = some_same 1 ss seen g t u scanned c _ new
-      (images_a 1 ss seen g t u scanned c told size old mid dev.slot reads whole same prepared copies
+      (images_a 1 ss seen g t u scanned c told size old mid dev.slot reads whole same prepared
+      copies
       read ready) in
       let b = some_same 1 ss seen g t u scanned c _ new
-      (images_b 1 ss seen g t u scanned c told size old mid dev.slot reads whole same prepared copies
+      (images_b 1 ss seen g t u scanned c told size old mid dev.slot reads whole same prepared
+      copies
       read ready) in
       ap (λ (k : Device). mounted_on k new) (kept_finished 1 ss seen g t u scanned c dev.slot)
       ∙ means_b ss seen g t u scanned c old new b
-      (a ∙ sym (final_same 1 ss seen g t u scanned c mid dev reads whole copies same prepared read ready))
+      (a ∙ sym
+      (final_same 1 ss seen g t u scanned c mid dev reads whole copies same prepared read ready))
   means_shape (suc (suc n)) ss seen g t u scanned c mid dev reads whole copies same prepared read
       ready = absurd (omega (arith, dev.slot))
 
@@ -205,13 +216,16 @@ module _ (told : Type 0) (size : ℕ) (old : Image) where
       let are : are_ready (planned slot ss seen g t u scanned c) ≡ true =
       ap are_ready e ∙ ready_of ready.plan ready.none in
       record {
-        represents = represents slot ss seen g t u scanned c mid dev reads whole copies same prepared
+        represents =
+            represents slot ss seen g t u scanned c mid dev reads whole copies same prepared
             read are;
         means =
-            means_shape slot ss seen g t u scanned c mid dev reads whole copies same prepared read are
+            means_shape slot ss seen g t u scanned c mid dev reads whole copies same prepared read
+            are
             ∙ ap
             (λ (ps : List Part).
-            finished (mounted_on (was slot ss seen g t u scanned c) old) slot (map (entry_on old) ps))
+            finished (mounted_on (was slot ss seen g t u scanned c) old) slot
+            (map (entry_on old) ps))
             e;
       }
 
@@ -269,7 +283,8 @@ module _ (told : Type 0) (size : ℕ) (old : Image) where
           next =
               subst (λ (y : Read). NextOf mid d y) (sym shape)
               (subst (λ (k : Device). NextOf mid k shaped) (sym form)
-              (next_shape r.mark.slot r.statuses r.control r.geometry two.0 two.1 r.scanned d.control
+              (next_shape r.mark.slot r.statuses r.control r.geometry two.0 two.1 r.scanned
+              d.control
               mid))
               dev is.reads is.control is.copies same prepared read ready
 

@@ -32,7 +32,8 @@ module _ {D : Type 0} (g : Ghosts D) (d : Device) (old mid : D) (c : Control)
   touches_as : Touches g (IsControl g.is_modelled c (g.seen old 4)) old mid
       → Touches g (Writes g.is_modelled (g.size old) (g.seen old) d) old mid
   touches_as touches =
-      subst (λ (k : Control). Touches g (IsControl g.is_modelled k (g.seen old 4)) old mid) is touches
+      subst (λ (k : Control). Touches g (IsControl g.is_modelled k (g.seen old 4)) old mid)
+      is touches
 
   control_as : HasControl c (g.seen old) (g.seen mid)
       → control_of (g.seen mid 4) ≡ Ok (cleared_of d.control (other_slot d.mark.slot))
