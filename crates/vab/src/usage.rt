@@ -11,6 +11,8 @@ pub const USAGE: &str = "usage: vab DEVICE VERB\n\
     \u{20}   --fresh               make a device without images first\n\
     \u{20} boot             boot the slot of the highest priority\n\
     \u{20} mark             mark the current slot as one that works\n\
+    \u{20} begin-merge      begin to merge the update that runs\n\
+    \u{20} merge N          take N turns of the merge, a block or its end each, 1 to 2^32 - 1\n\
     \u{20} cancel           drop the update that is installed or ready\n\
     \u{20} activate SLOT    make slot a or b the one to boot next\n\
     \u{20} print NAME       the bytes of a partition, as system_a\n\

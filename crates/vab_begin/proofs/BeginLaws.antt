@@ -48,9 +48,9 @@ use Rattle.vab_device.proofs.SameLaws.{mark_same, control_same, geometry_same, t
 use Rattle.vab_device.proofs.SameLaws.{images_same}
 use Rattle.vab_device.proofs.StoreLaws.{statuses_kept}
 use Rattle.vab_begin.specs.Writes.{IsOfPlaces}
-use Rattle.vab_begin.proofs.Steps.{marked}
-use Rattle.vab_begin.proofs.StayLaws.{mark_there, copy_stays, copies_from, one_of}
-use Rattle.vab_begin.proofs.CancelLaws.{update_read, kept_with}
+use Rattle.vab_device.proofs.Steps.{marked}
+use Rattle.vab_device.proofs.StayLaws.{mark_there, copy_stays, copies_from, one_of}
+use Rattle.vab_device.proofs.UpdateLaws.{update_read, kept_with}
 use Rattle.vab_begin.proofs.CopiesApart.{table_in, tables_apart, ends_within, ends_behind}
 
 -- what is read without an update

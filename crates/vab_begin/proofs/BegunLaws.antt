@@ -45,12 +45,13 @@ use Rattle.vab_begin.specs.declared.target.Target.{Target}
 use Rattle.vab_begin.specs.Kept.{with_control, with_update}
 use Rattle.vab_begin.specs.Target.{layout_for, IsTargetOf, IsTargetFor, IsRefusedBy}
 use Rattle.vab_begin.specs.Writes.{IsOfPlaces}
-use Rattle.vab_begin.proofs.Steps.{marked, IsStep}
+use Rattle.vab_device.proofs.Steps.{marked, IsStep}
 use Rattle.vab_begin.proofs.KeptLaws.{some_of, none_of, cases_slot, update_kept, unplanned_of}
 use Rattle.vab_begin.proofs.KeptLaws.{current_of, source_a, source_b, no_target_a, no_target_b}
 use Rattle.vab_device.specs.Kept.{has_both}
-use Rattle.vab_begin.proofs.StayLaws.{one_of}
-use Rattle.vab_begin.proofs.CancelLaws.{update_read, kept_with, some_same}
+use Rattle.vab_device.proofs.StayLaws.{one_of}
+use Rattle.vab_device.proofs.UpdateLaws.{update_read, kept_with}
+use Rattle.vab_begin.proofs.CancelLaws.{some_same}
 use Rattle.vab_begin.proofs.ImportLaws.{imported_plain, fitting_same, plan_same}
 use Rattle.vab_begin.proofs.PlannedLaws.{plan_keeps, target_table}
 use Rattle.vab_begin.proofs.BeginLaws.{idle_shape, installing_mark, IsPrepared, same_read}
@@ -162,6 +163,13 @@ pub begin_staged : (d : Device) (old : Image) (staged : Option (List ℕ))
     → effect_on (mounted_on d old) staged Begin ≡ refuses refusals.NotIdle
 unfolding state_on
 begin_staged d old staged plan phase = rw (plan, phase) refl
+
+pub begin_merging : (d : Device) (old : Image) (staged : Option (List ℕ))
+    → d.plan ≡ None
+    → d.mark.phase ≡ marks.Merging
+    → effect_on (mounted_on d old) staged Begin ≡ refuses refusals.NotIdle
+unfolding state_on
+begin_merging d old staged plan phase = rw (plan, phase) refl
 
 -- ---- why there is no target
 

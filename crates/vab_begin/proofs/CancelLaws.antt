@@ -37,38 +37,17 @@ use Rattle.vab_device.proofs.OpeningLaws.{control_seen_in}
 use Rattle.vab_device.proofs.SameLaws.{geometry_same, tables_agree, images_same}
 use Rattle.vab_begin.specs.Kept.{without_update}
 use Rattle.vab_begin.specs.Writes.{MayEnd}
-use Rattle.vab_begin.proofs.Steps.{marked, IsStep}
+use Rattle.vab_device.proofs.Steps.{marked, IsStep}
 use Rattle.vab_begin.proofs.KeptLaws.{some_of, planned_of, unplanned_of, cases_slot, source_a}
 use Rattle.vab_begin.proofs.KeptLaws.{source_b}
-use Rattle.vab_begin.proofs.StayLaws.{mark_there, copy_stays, copies_from, one_of, two_of}
+use Rattle.vab_device.proofs.UpdateLaws.{update_read, kept_with}
+use Rattle.vab_device.proofs.StayLaws.{mark_there, copy_stays, copies_from, one_of, two_of}
 use Rattle.vab_begin.proofs.RunsLaws.{source_runs}
 
 abbrev pub idle_mark : ℕ → UpdateMark
 idle_mark slot = record { phase = marks.Idle; slot = slot }
 
 -- ---- what is kept
-
--- what is read where there is an update
-abbrev pub update_read : MarkPhase
-    → ℕ
-    → List (Option PartStatus)
-    → Control
-    → Geometry
-    → Table
-    → Table
-    → List Scanned
-    → Read
-update_read phase slot ss c g t u scanned = record {
-  mark = record { phase = phase; slot = slot };
-  statuses = ss;
-  control = c;
-  geometry = g;
-  tables = t ∷ u ∷ [];
-  scanned = scanned;
-}
-
-abbrev pub kept_with : Read → Control → Device
-kept_with r c = record (kept r) { control = c }
 
 kept_ended : (phase : MarkPhase) (slot : ℕ) (c : Control) (ss : List (Option PartStatus))
     (seen : Control) (g : Geometry) (t u : Table) (scanned : List Scanned)
@@ -159,6 +138,13 @@ pub cancel_refused : (d : Device) (old : Image) (staged : Option (List ℕ))
     → effect_on (mounted_on d old) staged Cancel ≡ refuses refusals.NothingToCancel
 unfolding state_on
 cancel_refused d old staged plan phase = rw (plan, phase) refl
+
+pub cancel_merging : (d : Device) (old : Image) (staged : Option (List ℕ))
+    → d.plan ≡ None
+    → d.mark.phase ≡ marks.Merging
+    → effect_on (mounted_on d old) staged Cancel ≡ refuses refusals.Merging
+unfolding state_on
+cancel_merging d old staged plan phase = rw (plan, phase) refl
 
 cancel_is : (d : Device) (size : ℕ) (old : Image) (staged : Option (List ℕ))
     → IsDevice d size

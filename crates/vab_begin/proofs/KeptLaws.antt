@@ -27,15 +27,11 @@ cases_slot (suc (suc n)) below = absurd (omega (arith, below))
 
 -- ---- the phase that is kept
 
-no_merging : IsPhase marks.Merging → ⊥
-no_merging (inl e) = absurd (let no : marks.Merging ≡ marks.Idle = e in cc)
-no_merging (inr (inl e)) = absurd (let no : marks.Merging ≡ marks.Installing = e in cc)
-no_merging (inr (inr e)) = absurd (let no : marks.Merging ≡ marks.Staged = e in cc)
-
 no_completed : IsPhase marks.Completed → ⊥
 no_completed (inl e) = absurd (let no : marks.Completed ≡ marks.Idle = e in cc)
 no_completed (inr (inl e)) = absurd (let no : marks.Completed ≡ marks.Installing = e in cc)
-no_completed (inr (inr e)) = absurd (let no : marks.Completed ≡ marks.Staged = e in cc)
+no_completed (inr (inr (inl e))) = absurd (let no : marks.Completed ≡ marks.Staged = e in cc)
+no_completed (inr (inr (inr e))) = absurd (let no : marks.Completed ≡ marks.Merging = e in cc)
 
 idle_kind : (p : MarkPhase) (slot : ℕ) → IsPhase p → kinds.Idle ≡ kind_of p slot → p ≡ marks.Idle
 idle_kind marks.Idle slot known is = refl
@@ -62,12 +58,14 @@ staged_kind marks.Staged slot k is = (refl, cc)
 staged_kind marks.Merging slot k is = absurd cc
 staged_kind marks.Completed slot k is = absurd cc
 
-merging_kind : (p : MarkPhase) (slot k : ℕ) → IsPhase p → kinds.Merging k ≡ kind_of p slot → ⊥
-merging_kind marks.Idle slot k known is = absurd cc
-merging_kind marks.Installing slot k known is = absurd cc
-merging_kind marks.Staged slot k known is = absurd cc
-merging_kind marks.Merging slot k known is = no_merging known
-merging_kind marks.Completed slot k known is = absurd cc
+merging_kind : (p : MarkPhase) (slot k : ℕ)
+    → kinds.Merging k ≡ kind_of p slot
+    → p ≡ marks.Merging
+merging_kind marks.Idle slot k is = absurd cc
+merging_kind marks.Installing slot k is = absurd cc
+merging_kind marks.Staged slot k is = absurd cc
+merging_kind marks.Merging slot k is = refl
+merging_kind marks.Completed slot k is = absurd cc
 
 pub idle_of : (d : Device) (size : ℕ)
     → IsDevice d size
@@ -85,11 +83,10 @@ pub staged_of : (d : Device) (k : ℕ)
     → (d.mark.phase ≡ marks.Staged) × (k ≡ d.mark.slot)
 staged_of d k said = staged_kind d.mark.phase d.mark.slot k said
 
-pub not_merging : (d : Device) (size k : ℕ)
-    → IsDevice d size
+pub merging_of : (d : Device) (k : ℕ)
     → kinds.Merging k ≡ phase_kind d
-    → ⊥
-not_merging d size k is said = merging_kind d.mark.phase d.mark.slot k is.phase said
+    → d.mark.phase ≡ marks.Merging
+merging_of d k said = merging_kind d.mark.phase d.mark.slot k said
 
 pub some_of : {X : Type 0} (x : Option X) → is_some x ≡ true → (y : X) × (x ≡ Some y)
 some_of None is = absurd (let no : false ≡ true = is in cc)

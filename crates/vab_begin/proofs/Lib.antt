@@ -6,6 +6,4 @@ pub mod ImportLaws
 pub mod KeptLaws
 pub mod PlannedLaws
 pub mod RunsLaws
-pub mod StayLaws
-pub mod Steps
 pub mod WriteLaws

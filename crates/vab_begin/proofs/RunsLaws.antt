@@ -17,7 +17,7 @@ use Rattle.vab_device.specs.Kept.{IsDevice, has_both}
 use Rattle.vab_device.specs.Phases.{is_good, may_run, slot_checks, target_ready}
 use Rattle.vab_device.specs.Reading.{Read, Represents, control_kept}
 use Rattle.vab_device.proofs.CheckLaws.{check_kept, first_kept}
-use Rattle.vab_device.proofs.ReadingLaws.{state_single, state_staged, seen_slots, control_is_seen}
+use Rattle.vab_device.proofs.ReadingLaws.{single_works, state_staged, seen_slots, control_is_seen}
 use Rattle.vab_begin.specs.Writes.{MayEnd}
 
 -- of one slot's images the boot control of that slot is read
@@ -69,8 +69,7 @@ module _ (d : Device) (size : ℕ) (old : Image) (dev : IsDevice d size) (is : R
     installed phase =
         ap (λ (k : Control). first_fault (slot_checks r.mark.slot k))
         (sym (seen_in marks.Installing phase))
-        ∙ sym (state_single r (ap has_both phase))
-        ∙ is.reads.state
+        ∙ single_works r (ap has_both phase) is.reads.state
 
     works : r.mark.phase ≡ marks.Staged → is_good (info_at d.control r.mark.slot) ≡ true
     works phase =

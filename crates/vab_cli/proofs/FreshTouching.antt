@@ -16,6 +16,7 @@ use Rattle.vab_lpstore.specs.Layout.{primary_of, backup_of, text_sectors}
 use Rattle.vab_lpstore.specs.Storing.{IsOfRepair}
 use Rattle.vab_layout.specs.declared.layout.Layout.{Layout}
 use Rattle.vab_layout.specs.Plain.{plain}
+use Rattle.vab_device.specs.declared.device.Device.{Device}
 use Rattle.vab_device.specs.Mounted.{Mounted, state_on, mounted_on, table_placed}
 use Rattle.vab_marks.specs.declared.mark.MarkPhase.TheVariants as marks
 use Rattle.vab_device.specs.Phases.{Phase, phase_at}
@@ -162,20 +163,21 @@ module _ {D : Type 0} (g : Ghosts D) (size : ℕ) where
       (changes_wider g Fresh (IsRepair size (g.seen mid)) mid new opens
       (repair_made size (g.seen mid) made))
 
-  pub making_fresh : (old new : D) → Changes g Fresh old new → Changes g (IsOfFresh size) old new
-  making_fresh old new makes =
-      changes_wider g (IsOfFresh size) Fresh old new makes (λ s x w. inl w)
+  module _ (W : Device → List ℕ → ℕ → List ℕ → Type 0) where
+    pub making_fresh : (old new : D) → Changes g Fresh old new → Changes g (IsOfFresh W size) old new
+    making_fresh old new makes =
+        changes_wider g (IsOfFresh W size) Fresh old new makes (λ s x w. inl w)
 
-  pub made_served : (old mid new : D)
-      → IsMade [] 0 65536 size (g.seen mid)
-      → Changes g Fresh old mid
-      → Changes g (IsOfServing size (g.seen mid)) mid new
-      → Changes g (IsOfFresh size) old new
-  made_served old mid new made makes serves =
-      changes_then g (IsOfFresh size) old mid new (making_fresh old mid makes)
-      (changes_wider g (IsOfFresh size) (IsOfServing size (g.seen mid)) mid new serves
-      (λ s x w.
-      ⊎_elim {C = IsOfFresh size s x}
-      (λ repair. inl (repair_made size (g.seen mid) made s x repair))
-      (λ served. inr (record { made = g.seen mid; is = made; serves = served }))
-      w))
+    pub made_served : (old mid new : D)
+        → IsMade [] 0 65536 size (g.seen mid)
+        → Changes g Fresh old mid
+        → Changes g (IsOfServing W size (g.seen mid)) mid new
+        → Changes g (IsOfFresh W size) old new
+    made_served old mid new made makes serves =
+        changes_then g (IsOfFresh W size) old mid new (making_fresh old mid makes)
+        (changes_wider g (IsOfFresh W size) (IsOfServing W size (g.seen mid)) mid new serves
+        (λ s x w.
+        ⊎_elim {C = IsOfFresh W size s x}
+        (λ repair. inl (repair_made size (g.seen mid) made s x repair))
+        (λ served. inr (record { made = g.seen mid; is = made; serves = served }))
+        w))

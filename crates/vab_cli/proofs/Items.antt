@@ -59,12 +59,16 @@ verb_effect true Mark m verb = refl
 verb_effect true (Print name) m verb = refl
 verb_effect true (Digest name) m verb = refl
 verb_effect true Cancel m verb = refl
+verb_effect true BeginMerge m verb = refl
+verb_effect true (Merge blocks) m verb = refl
 verb_effect false (SetActive slot) m verb = refl
 verb_effect false Boot m verb = refl
 verb_effect false Mark m verb = refl
 verb_effect false (Print name) m verb = refl
 verb_effect false (Digest name) m verb = refl
 verb_effect false Cancel m verb = refl
+verb_effect false BeginMerge m verb = refl
+verb_effect false (Merge blocks) m verb = refl
 verb_effect refused Begin m verb = absurd verb
 verb_effect refused (Create name size) m verb = absurd verb
 verb_effect refused (Resize name size) m verb = absurd verb
@@ -72,8 +76,6 @@ verb_effect refused (Delete name) m verb = absurd verb
 verb_effect refused (Snapshot name size) m verb = absurd verb
 verb_effect refused (Flash name) m verb = absurd verb
 verb_effect refused Finish m verb = absurd verb
-verb_effect refused BeginMerge m verb = absurd verb
-verb_effect refused (Merge blocks) m verb = absurd verb
 
 pub replied : (refused : Bool) (c : Command) (m : Mounted)
     → IsVerb c

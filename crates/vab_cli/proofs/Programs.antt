@@ -1,23 +1,33 @@
 -- What the verbs do, by what their functions do.
 use Rattle.std.proofs.Common.{◌≡◌, ◌≢◌, ◌⊎◌, ◌∙◌, inl, inr, ⊎_elim, ◌≤◌, ◌<◌, ◌^◌, ◌++◌, ℕ, List, [], length}
-use Rattle.std.proofs.Common.{true, false, None, Some, Ok, Err, refl, sym, ap, subst}
+use Rattle.std.proofs.Common.{◌∷◌, zero, suc, Bool, Option, drop, true, false, None, Some, Ok, Err}
+use Rattle.std.proofs.Common.{refl, sym, ap, subst}
 use Rattle.vab_disk.specs.declared.disk.Disk.{Ghosts}
-use Rattle.vab_disk.specs.Disk.{Rose}
-use Rattle.vab_disk.specs.Calls.{Changes, InSectors}
+use Rattle.vab_disk.specs.Disk.{Outcome, Rose}
+use Rattle.vab_disk.specs.Calls.{IsAtRest, Changes, InSectors}
 use Rattle.vab_bootctl.specs.declared.slots.Control.{Control}
 use Rattle.vab_bootctl.specs.Control.{control_of}
 use Rattle.vab_set.specs.Reading.{set_of}
 use Rattle.vab_set.specs.declared.set.SetImage.{SetImage}
 use Rattle.vab_set.specs.declared.fault.SetFault.{SetFault}
+use Rattle.vab_model.specs.declared.state.Image.{Image as ImageOfSlot}
 use Rattle.vab_model.specs.Commands.{Command}
 use Rattle.vab_device.specs.declared.fault.StartFault.{StartFault}
 use Rattle.vab_device.specs.Mounted.{Mounted}
 use Rattle.vab_device.specs.Reading.{device, IsIn}
+use Rattle.vab_device.specs.Updates.{effect_on}
 use Rattle.vab_make.specs.declared.fault.MakeFault.{MakeFault}
 use Rattle.vab_make.specs.Made.{refusal_of, made_device_of}
 use Rattle.vab_make.specs.Making.{LeavesMaking}
 use Rattle.vab_make.specs.Touched.{IsOfMaking}
 use Rattle.vab_words.specs.Verbs.{Meaning, Make, Serve}
+use Rattle.vab_words.specs.Verbs as verbs
+use Rattle.vab_exchanges.specs.Runs.{acknowledged, steps_at}
+use Rattle.vab_commands.specs.Touched.{IsOfAll, IsOfCommands}
+use Rattle.vab_session.specs.Alone.{IsAlone, StandsAlone, is_finish}
+use Rattle.vab_session.specs.Merges.{MergesNothing}
+use Rattle.vab_session.proofs.AloneLaws.{AreAlone, one, more, last_alone, stands_alone}
+use Rattle.vab_session.proofs.AloneLaws.{alone_effect}
 use Rattle.vab_cli.specs.declared.status.Status.{Status}
 use Rattle.vab_cli.specs.declared.status.Status.TheVariants.{Done, Usage, Malformed, NotADevice}
 use Rattle.vab_cli.specs.declared.status.Status.TheVariants.{Disk, Port, NoMemory}
@@ -44,6 +54,44 @@ no_command : {R : Type 0} (m n : Meaning) (c : Command)
     → command_of m ≡ Some c
     → R
 no_command m n c is none some = is_command m n c some is none
+
+-- ---- one slot alone with images
+
+-- no verb ends an installation
+is_end : Option Command → Bool
+is_end None = false
+is_end (Some c) = is_finish c
+
+none_ends : (m : Meaning) → is_end (command_of m) ≡ false
+unfolding is_end
+none_ends (Make limit max) = refl
+none_ends (Serve fresh) = refl
+none_ends verbs.Boot = refl
+none_ends verbs.Mark = refl
+none_ends verbs.BeginMerge = refl
+none_ends (verbs.Merge turns) = refl
+none_ends verbs.Cancel = refl
+none_ends (verbs.Activate slot) = refl
+none_ends (verbs.Print name) = refl
+none_ends (verbs.Digest name) = refl
+
+ends_none : (m : Meaning) (c : Command) → command_of m ≡ Some c → is_finish c ≡ false
+unfolding is_end
+ends_none m c some = ap is_end (sym some) ∙ none_ends m
+
+-- the steps of a verb
+steps_alone : (s : Mounted) (c : Command) (slot : ℕ) (images : List ImageOfSlot)
+    → is_finish c ≡ false
+    → IsAlone slot images s
+    → (n : ℕ)
+    → AreAlone slot images (steps_at s (verb_item s c ∷ []) n)
+steps_alone s c slot images other is zero =
+    more slot images s (effect_on s None c).later is
+    (alone_effect slot images s None c other is)
+steps_alone s c slot images other is (suc n) =
+    one slot images (verb_item s c).last.now
+    (last_alone slot images s (effect_on s None c).later is
+    (alone_effect slot images s None c other is))
 
 module _ {D : Type 0}
     (g : Ghosts D)
@@ -76,6 +124,24 @@ module _ {D : Type 0}
       runs.status_is
   item_whole c s none (inr fails) =
       ⊎_elim (λ is. absurd (no_disk none is)) (λ memory. inr memory) fails.early
+
+  -- each cut of power in an item, or in a run that failed before it
+  cut_alone : (c : Command) (s : Mounted) (slot : ℕ) (images : List ImageOfSlot) (o : Outcome)
+      → RunsItem g (g.size old) s (verb_item s c) (verb_status s c) old new status
+      ⊎ FailsBefore g (g.size old) s old new status
+      → is_finish c ≡ false
+      → IsAlone slot images s
+      → IsAtRest g old
+      → g.outcomes new (g.moment old) o
+      → StandsAlone (g.size old) slot images o.image
+  cut_alone c s slot images o (inl runs) other is rest at =
+      let crash = runs.every_cut rest o at in
+      stands_alone slot images (g.size old) o.image crash.step.0 crash.step.2
+      (steps_alone s c slot images other is
+      (acknowledged (verb_item s c ∷ []) (drop 0 crash.since))
+      crash.step.0 crash.step.1)
+  cut_alone c s slot images o (inr fails) other is rest at =
+      stands_alone slot images (g.size old) o.image s (fails.every_cut rest o at).stands is
 
   -- a verb that is a command on a device
   pub command_verb : (c : Command)
@@ -113,11 +179,15 @@ module _ {D : Type 0}
         subst
         (λ (x : Command). Changes g (IsOfVerb (g.size old) (g.seen old) s boot x) old new)
         one (touches t s stands boot there);
+    alone = λ t c' is s stands rest slot images alone o at.
+        cut_alone c s slot images o (runs t s stands) (ends_none m c some) alone rest at;
     quiet = λ t c' is. quiet t;
     serve = λ t is. is_command m (Serve false) c some is refl;
     none_served = λ t is. is_command m (Serve false) c some is refl;
     touches_served = λ t is. is_command m (Serve false) c some is refl;
+    touches_unmerged = λ t is. is_command m (Serve false) c some is refl;
     touches_fresh = λ t is. is_command m (Serve true) c some is refl;
+    touches_fresh_unmerged = λ t is. is_command m (Serve true) c some is refl;
     fresh = λ t is. is_command m (Serve true) c some is refl;
     small = λ t is. is_command m (Serve true) c some is refl;
     too_small = λ is. is_command m (Serve true) c some is refl;
@@ -156,17 +226,25 @@ module _ {D : Type 0}
       → (g.is_modelled
       → (s : Mounted)
       → IsIn (g.size old) s (g.seen old)
-      → Changes g (IsOfServing (g.size old) (g.seen old)) old new)
+      → Changes g (IsOfServing IsOfAll (g.size old) (g.seen old)) old new)
+      → (g.is_modelled
+      → (s : Mounted)
+      → IsIn (g.size old) s (g.seen old)
+      → MergesNothing (2 ^ 44) (g.input_left old)
+      → Changes g (IsOfServing IsOfCommands (g.size old) (g.seen old)) old new)
       → DoesVerb g m old new status
-  serve_verb is runs none touches = record {
+  serve_verb is runs none touches unmerged = record {
     item = λ t c some. no_command m (Serve false) c is refl some;
     none = λ t c some. no_command m (Serve false) c is refl some;
     touches = λ t c some. no_command m (Serve false) c is refl some;
+    alone = λ t c some. no_command m (Serve false) c is refl some;
     quiet = λ t c some. no_command m (Serve false) c is refl some;
     serve = λ t same. runs t;
     none_served = λ t same. none t;
     touches_served = λ t same. touches t;
+    touches_unmerged = λ t same. unmerged t;
     touches_fresh = λ t other. let both = sym is ∙ other in cc;
+    touches_fresh_unmerged = λ t other. let both = sym is ∙ other in cc;
     fresh = λ t other. let both = sym is ∙ other in cc;
     small = λ t other. let both = sym is ∙ other in cc;
     too_small = λ other. let both = sym is ∙ other in cc;
@@ -198,17 +276,23 @@ module _ {D : Type 0}
       → g.size old < 6152
       → RunsRefused g (g.size old) [] NotADevice old new status)
       → (g.size old < 6152 → (status ≡ NotADevice) ⊎ (status ≡ NoMemory))
-      → (g.is_modelled → Changes g (IsOfFresh (g.size old)) old new)
+      → (g.is_modelled → Changes g (IsOfFresh IsOfAll (g.size old)) old new)
+      → (g.is_modelled
+      → MergesNothing (2 ^ 44) (g.input_left old)
+      → Changes g (IsOfFresh IsOfCommands (g.size old)) old new)
       → DoesVerb g m old new status
-  fresh_verb is runs small too_small touches = record {
+  fresh_verb is runs small too_small touches unmerged = record {
     item = λ t c some. no_command m (Serve true) c is refl some;
     none = λ t c some. no_command m (Serve true) c is refl some;
     touches = λ t c some. no_command m (Serve true) c is refl some;
+    alone = λ t c some. no_command m (Serve true) c is refl some;
     quiet = λ t c some. no_command m (Serve true) c is refl some;
     serve = λ t other. let both = sym is ∙ other in cc;
     none_served = λ t other. let both = sym is ∙ other in cc;
     touches_served = λ t other. let both = sym is ∙ other in cc;
+    touches_unmerged = λ t other. let both = sym is ∙ other in cc;
     touches_fresh = λ t same. touches t;
+    touches_fresh_unmerged = λ t same. unmerged t;
     fresh = λ t same. runs t;
     small = λ t same. small t;
     too_small = λ same. too_small;
@@ -258,11 +342,14 @@ module _ {D : Type 0}
     item = λ t c some. no_command m (Make limit max) c is refl some;
     none = λ t c some. no_command m (Make limit max) c is refl some;
     touches = λ t c some. no_command m (Make limit max) c is refl some;
+    alone = λ t c some. no_command m (Make limit max) c is refl some;
     quiet = λ t c some. no_command m (Make limit max) c is refl some;
     serve = λ t other. let both = sym is ∙ other in cc;
     none_served = λ t other. let both = sym is ∙ other in cc;
     touches_served = λ t other. let both = sym is ∙ other in cc;
+    touches_unmerged = λ t other. let both = sym is ∙ other in cc;
     touches_fresh = λ t other. let both = sym is ∙ other in cc;
+    touches_fresh_unmerged = λ t other. let both = sym is ∙ other in cc;
     fresh = λ t other. let both = sym is ∙ other in cc;
     small = λ t other. let both = sym is ∙ other in cc;
     too_small = λ other. let both = sym is ∙ other in cc;

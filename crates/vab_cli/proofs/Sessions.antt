@@ -23,6 +23,7 @@ use Rattle.vab_exchanges.specs.Hearing.{HearsWhere}
 use Rattle.vab_exchanges.specs.Items.{items_of, output_of}
 use Rattle.vab_exchanges.specs.Runs.{CrashesWithin, IsTold, Serves}
 use Rattle.vab_exchanges.proofs.RunLaws.{items_chain, within_greeting}
+use Rattle.vab_session.proofs.AloneLaws.{alone_cut}
 use Rattle.vab_session.specs.Responses.{response}
 use Rattle.vab_session.specs.Served.{Answer, Says, Held as HeldBySession, reached}
 use Rattle.vab_session.specs.Served.{ServesDevice, nothing_staged}
@@ -210,8 +211,14 @@ module _ {D : Type 0}
             (IsTold response (nothing_staged first) serves.exchanges l (g.told mid))
             (g.heard mid) (g.heard new))
             behind.left serves.heard));
-        every_cut = λ rest.
-            behind.cuts rest serves.exchanges serves.unfinished (serves.time (behind.settled rest));
+        every_cut = every_cut;
+        alone = λ rest done later is other slot images alone o at since told_is whole.
+            ⊎_elim
+            (λ within.
+            inl (alone_cut slot images size (nothing_staged first) serves.exchanges done later
+            serves.unfinished (g.told old) o within is other alone since told_is whole))
+            (λ before. inr before)
+            (every_cut rest o at);
       }
     where
       same : mounted_on d (g.seen mid) ≡ first
@@ -225,6 +232,13 @@ module _ {D : Type 0}
           Serves response (IsIn size) g (HeldBySession r) (Says r) (reached r (g.seen new))
           (2 ^ 44) (nothing_staged m) mid new)
           same serves'
+
+      every_cut : IsAtRest g old
+          → (o : Outcome)
+          → g.outcomes new (g.moment old) o
+          → Within first serves.exchanges serves.unfinished (g.told old) o ⊎ Else o
+      every_cut rest =
+          behind.cuts rest serves.exchanges serves.unfinished (serves.time (behind.settled rest))
 
   -- a session over the device of the disk
   pub opened_runs : (d : Device) (first : Mounted) (old mid new : D) (r : Answer)

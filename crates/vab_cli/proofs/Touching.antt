@@ -26,9 +26,9 @@ use Rattle.vab_recover.proofs.OpenLaws.{control_stays}
 use Rattle.vab_manager.specs.Controls.{IsOfSlots, IsOfCommand}
 use Rattle.vab_begin.specs.Writes.{MayEnd, IsOfCancelled}
 use Rattle.vab_begin.proofs.KeptLaws.{planned_of, unplanned_of}
-use Rattle.vab_commands.specs.Touched as commands
 use Rattle.vab_commands.specs.Writes as writes
-use Rattle.vab_cli.specs.Touched.{IsOfServing, IsOfItem, IsDropped, dropped_from}
+use Rattle.vab_cli.specs.Touched.{IsOfServing, IsOfItem, IsOfMerging, IsOfDone, IsMergedThere}
+use Rattle.vab_cli.specs.Touched.{IsOfVerb, IsDropped, dropped_from}
 use Rattle.vab_cli.specs.Verbs.{IsVerb}
 use Rattle.vab_manager.proofs.EffectLaws.{some_images}
 use Rattle.vab_cli.proofs.Items.{mounted_is}
@@ -138,10 +138,11 @@ dropped_is d size image m s bytes kept same w = record {
   mark = w.mark;
 }
 
--- ---- a verb writes what a command on slots does, or a cancel
+-- ---- a verb writes what a command on slots does, or a cancel, or one of a merge
 
 abbrev pub IsOfEither : Device → List ℕ → Command → ℕ → List ℕ → Type 0
-IsOfEither d old c s b = IsOfCommand d old c s b ⊎ ((c ≡ Cancel) × IsOfCancelled d s b)
+IsOfEither d old c s b =
+    IsOfCommand d old c s b ⊎ ((c ≡ Cancel) × IsOfCancelled d s b) ⊎ IsOfMerging d c s b
 
 pub item_is : (d : Device) (size : ℕ) (image : Image) (m : Mounted) (boot : Control) (c : Command)
     (s : ℕ) (bytes : List ℕ)
@@ -150,14 +151,15 @@ pub item_is : (d : Device) (size : ℕ) (image : Image) (m : Mounted) (boot : Co
     → IsIn size m image
     → control_of (image 4) ≡ Ok boot
     → IsOfEither d (image 4) c s bytes
-    → IsOfItem m boot c (image 4) s bytes
+    → IsOfDone d m boot c (image 4) s bytes
 item_is d size image m boot c s bytes kept represents is there (inl w) =
-    inl (slots_are d size image m boot c s bytes represents is there w)
-item_is d size image m boot c s bytes kept represents is there (inr w) =
-    inr (
+    inl (inl (slots_are d size image m boot c s bytes represents is there w))
+item_is d size image m boot c s bytes kept represents is there (inr (inl w)) =
+    inl (inr (
       w.0,
       dropped_is d size image m s bytes kept (mounted_is d size image m represents is) w.1,
-    )
+    ))
+item_is d size image m boot c s bytes kept represents is there (inr (inr w)) = inr w
 
 verb_writes : (told : Type 0) (d : Device) (old : List ℕ) (c : Command)
     → IsVerb c
@@ -169,7 +171,7 @@ verb_writes told d old Boot verb s b w = inl w
 verb_writes told d old Mark verb s b w = inl w
 verb_writes told d old (Print name) verb s b w = absurd w
 verb_writes told d old (Digest name) verb s b w = absurd w
-verb_writes told d old Cancel verb s b w = inr (refl, w)
+verb_writes told d old Cancel verb s b w = inr (inl (refl, w))
 verb_writes told d old Begin verb s b w = absurd verb
 verb_writes told d old (Create name size) verb s b w = absurd verb
 verb_writes told d old (Resize name size) verb s b w = absurd verb
@@ -177,8 +179,8 @@ verb_writes told d old (Delete name) verb s b w = absurd verb
 verb_writes told d old (Snapshot name size) verb s b w = absurd verb
 verb_writes told d old (Flash name) verb s b w = absurd verb
 verb_writes told d old Finish verb s b w = absurd verb
-verb_writes told d old BeginMerge verb s b w = absurd verb
-verb_writes told d old (Merge blocks) verb s b w = absurd verb
+verb_writes told d old BeginMerge verb s b w = inr (inr w)
+verb_writes told d old (Merge blocks) verb s b w = inr (inr w)
 
 -- what a verb's command touches
 pub verb_changes : {D : Type 0}
@@ -190,7 +192,7 @@ pub verb_changes : {D : Type 0}
     → IsIn size m (g.seen old)
     → control_of (g.seen old 4) ≡ Ok boot
     → Touches g (writes.IsOfCommand g.is_modelled d (g.seen old 4) c) old new
-    → Changes g (IsOfItem m boot c (g.seen old 4)) old new
+    → Changes g (IsOfDone d m boot c (g.seen old 4)) old new
 verb_changes g d size old new m boot c verb kept represents is there touches =
     changes_wider g _ _ old new (changes_touches g _ _ _ touches)
     (λ n x w.
@@ -226,21 +228,57 @@ module _ {D : Type 0} (g : Ghosts D) (size : ℕ) (W : List ℕ → ℕ → List
       (does (ap control_of same ∙ there))
       (λ s x w. inr (subst (λ (l : List ℕ). W l s x) same w)))
 
--- ---- opening, and then a session
+-- ---- opening, and then the command of a verb
 
 module _ {D : Type 0} (g : Ghosts D) (size : ℕ) where
+  -- what a verb writes behind its opening, where the disk was this one before it
+  abbrev pub Behind : Image → Mounted → Control → Command → List ℕ → ℕ → List ℕ → Type 0
+  Behind image m boot c old s bytes =
+      IsOfItem m boot c old s bytes ⊎ IsMergedThere size image c s bytes
+
+  pub verb_opened : (d : Device) (m : Mounted) (boot : Control) (c : Command) (old mid new : D)
+      → (t : g.is_modelled)
+      → Represents d size (g.seen mid)
+      → Changes g (IsRepair size (g.seen old)) old mid
+      → (control_of (g.seen mid 4) ≡ Ok boot
+      → Changes g (IsOfDone d m boot c (g.seen mid 4)) mid new)
+      → control_of (g.seen old 4) ≡ Ok boot
+      → Changes g (IsOfVerb size (g.seen old) m boot c) old new
+  verb_opened d m boot c old mid new t is opens does there =
+      opened_changes g size (Behind (g.seen old) m boot c) boot old mid new t opens
+      (λ here.
+      changes_wider g
+      (Behind (g.seen old) m boot c (g.seen mid 4))
+      (IsOfDone d m boot c (g.seen mid 4))
+      mid new (does here)
+      (λ s x w.
+      ⊎_elim {C = Behind (g.seen old) m boot c (g.seen mid 4) s x}
+      (λ item. inl item)
+      (λ merging.
+      inr (record {
+        device = d;
+        opened = g.seen mid;
+        repaired = opens.seen t;
+        represents = is;
+        writes = merging;
+      }))
+      w))
+      there
+
+-- ---- opening, and then a session
+
+module _ {D : Type 0} (g : Ghosts D) (size : ℕ) (W : Device → List ℕ → ℕ → List ℕ → Type 0) where
   pub served_changes : (d : Device) (old mid new : D)
       → (t : g.is_modelled)
       → Represents d size (g.seen mid)
       → Changes g (IsRepair size (g.seen old)) old mid
-      → commands.ChangesDevice g d mid new
-      → Changes g (IsOfServing size (g.seen old)) old new
+      → Changes g (W d (g.seen mid 4)) mid new
+      → Changes g (IsOfServing W size (g.seen old)) old new
   served_changes d old mid new t is opens serves =
-      changes_then g (IsOfServing size (g.seen old)) old mid new
-      (changes_wider g (IsOfServing size (g.seen old)) (IsRepair size (g.seen old)) old mid opens
+      changes_then g (IsOfServing W size (g.seen old)) old mid new
+      (changes_wider g (IsOfServing W size (g.seen old)) (IsRepair size (g.seen old)) old mid opens
       (λ s x w. inl w))
-      (changes_wider g (IsOfServing size (g.seen old)) (commands.IsOfCommands d (g.seen mid 4)) mid
-      new serves
+      (changes_wider g (IsOfServing W size (g.seen old)) (W d (g.seen mid 4)) mid new serves
       (λ s x w.
       inr (record {
         device = d;
@@ -248,6 +286,6 @@ module _ {D : Type 0} (g : Ghosts D) (size : ℕ) where
         repaired = opens.seen t;
         represents = is;
         writes =
-            subst (λ (l : List ℕ). commands.IsOfCommands d l s x)
+            subst (λ (l : List ℕ). W d l s x)
             (repair_leaves size (g.seen old) (g.seen mid) (opens.seen t)) w;
       })))

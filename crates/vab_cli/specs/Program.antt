@@ -2,13 +2,14 @@
 use Rattle.std.specs.Prelude.{◌≡◌, ◌≢◌, ◌⊎◌, ◌≤◌, ◌<◌, ◌^◌, ◌++◌, ℕ, List, [], length, true, false}
 use Rattle.std.specs.Prelude.{Some, None, Ok, Err, Bool, Option}
 use Rattle.vab_disk.specs.declared.disk.Disk.{Ghosts}
-use Rattle.vab_disk.specs.Disk.{Rose}
-use Rattle.vab_disk.specs.Calls.{Changes, InSectors}
+use Rattle.vab_disk.specs.Disk.{Outcome, Rose}
+use Rattle.vab_disk.specs.Calls.{IsAtRest, Changes, InSectors}
 use Rattle.vab_bootctl.specs.declared.slots.Control.{Control}
 use Rattle.vab_bootctl.specs.Control.{control_of}
 use Rattle.vab_set.specs.Reading.{set_of}
 use Rattle.vab_set.specs.declared.set.SetImage.{SetImage}
 use Rattle.vab_set.specs.declared.fault.SetFault.{SetFault}
+use Rattle.vab_model.specs.declared.state.Image.{Image as ImageOfSlot}
 use Rattle.vab_model.specs.Commands.{Command}
 use Rattle.vab_device.specs.declared.fault.StartFault.{StartFault}
 use Rattle.vab_device.specs.Mounted.{Mounted}
@@ -20,6 +21,9 @@ use Rattle.vab_make.specs.Touched.{IsOfMaking}
 use Rattle.vab_words.specs.Verbs.{Meaning, Make, Serve}
 use Rattle.vab_exchanges.specs.Session.{Exchange, End, IsSession}
 use Rattle.vab_exchanges.specs.Items.{output_of}
+use Rattle.vab_commands.specs.Touched.{IsOfAll, IsOfCommands}
+use Rattle.vab_session.specs.Alone.{IsAlone, StandsAlone}
+use Rattle.vab_session.specs.Merges.{MergesNothing}
 use Rattle.vab_session.specs.Responses.{response}
 use Rattle.vab_session.specs.Served.{nothing_staged}
 use Rattle.vab_cli.specs.declared.status.Status.{Status}
@@ -54,8 +58,9 @@ pub record DoesVerb {D : Type 0}
     (m : Meaning)
     (old new : D)
     (status : Status) : Type 0 where
-  -- `boot`, `mark`, `cancel`, `activate S`, `print NAME`, `digest NAME` over a disk that is a
-  -- device: one item, done or refused as the table of effects says, with its line or bytes told.
+  -- `boot`, `mark`, `begin-merge`, `merge N`, `cancel`, `activate S`, `print NAME`, `digest NAME`
+  -- over a disk that is a device: one item, done or refused as the table of effects says, with its
+  -- line or bytes told.
   -- Each cut of power leaves a front of what is told and one of its steps, and where all is told
   -- the last. Or the disk failed or memory was refused while it was opened.
   pub item : g.is_modelled
@@ -73,8 +78,9 @@ pub record DoesVerb {D : Type 0}
       → device (g.size old) (g.seen old) ≡ Err fault
       → RunsNone g (g.size old) none_line old new status
   -- They write what opening repairs, and boot control's sector where the command is one on slots:
-  -- the boot control that the boot rules make of the one that is there, of both slots. `cancel`
-  -- writes the mark. All else stays, as it reads and in each outcome.
+  -- the boot control that the boot rules make of the one that is there, of both slots. `cancel` and
+  -- `begin-merge` write the mark. `merge` writes blocks of the slot's partitions, entries of its
+  -- stores, and the mark at its end. All else stays, as it reads and in each outcome.
   pub touches : g.is_modelled
       → (c : Command)
       → command_of m ≡ Some c
@@ -83,6 +89,20 @@ pub record DoesVerb {D : Type 0}
       → (boot : Control)
       → control_of (g.seen old 4) ≡ Ok boot
       → Changes g (IsOfVerb (g.size old) (g.seen old) s boot c) old new
+  -- Where one slot alone has images and no update is ready, as from the begin of a merge on, it
+  -- alone has images in every outcome, the same ones, and a boot goes to it.
+  pub alone : g.is_modelled
+      → (c : Command)
+      → command_of m ≡ Some c
+      → (s : Mounted)
+      → IsIn (g.size old) s (g.seen old)
+      → IsAtRest g old
+      → (slot : ℕ)
+      → (images : List ImageOfSlot)
+      → IsAlone slot images s
+      → (o : Outcome)
+      → g.outcomes new (g.moment old) o
+      → StandsAlone (g.size old) slot images o.image
   -- They hear nothing.
   pub quiet : g.is_modelled → (c : Command) → command_of m ≡ Some c → HearsNothing g old new
   -- `serve` over a disk that is a device: the session of the input, with its bytes told, and so is
@@ -100,12 +120,19 @@ pub record DoesVerb {D : Type 0}
       → device (g.size old) (g.seen old) ≡ Err fault
       → RunsNone g (g.size old) [] old new status
   -- It writes what opening repairs, and what its commands may write: boot control by the boot
-  -- rules, the update mark, the statuses, the target's table, and blocks of no image.
+  -- rules, the update mark, the statuses, tables, and blocks behind them. Where no packet asks for
+  -- a merge, those are the target's table, and blocks of no image.
   pub touches_served : g.is_modelled
       → m ≡ Serve false
       → (s : Mounted)
       → IsIn (g.size old) s (g.seen old)
-      → Changes g (IsOfServing (g.size old) (g.seen old)) old new
+      → Changes g (IsOfServing IsOfAll (g.size old) (g.seen old)) old new
+  pub touches_unmerged : g.is_modelled
+      → m ≡ Serve false
+      → (s : Mounted)
+      → IsIn (g.size old) s (g.seen old)
+      → MergesNothing (2 ^ 44) (g.input_left old)
+      → Changes g (IsOfServing IsOfCommands (g.size old) (g.seen old)) old new
   -- `serve --fresh` on enough sectors: the same over the made device of the empty set. Until its
   -- last gate is settled each cut leaves the disk as it was, or no device, or the made one. On too
   -- few sectors: status 5, and nothing is told or written.
@@ -126,7 +153,11 @@ pub record DoesVerb {D : Type 0}
       → (status ≡ NotADevice) ⊎ (status ≡ NoMemory)
   pub touches_fresh : g.is_modelled
       → m ≡ Serve true
-      → Changes g (IsOfFresh (g.size old)) old new
+      → Changes g (IsOfFresh IsOfAll (g.size old)) old new
+  pub touches_fresh_unmerged : g.is_modelled
+      → m ≡ Serve true
+      → MergesNothing (2 ^ 44) (g.input_left old)
+      → Changes g (IsOfFresh IsOfCommands (g.size old)) old new
   -- `make` of an input that spells a set: the made device, or the first refusal with its line and
   -- nothing written; of another input status 3, with nothing told or written. Where it is made the
   -- input was heard to its end.

@@ -1,9 +1,11 @@
 -- What a run of the program promises.
-use Rattle.std.specs.Prelude.{◌≡◌, ◌⊎◌, ◌^◌, ℕ, List, [], ◌∷◌, ◌++◌, take, codes, Bool, Option}
+use Rattle.std.specs.Prelude.{◌≡◌, ◌⊎◌, ◌^◌, ◌≤◌, ℕ, List, [], ◌∷◌, ◌++◌, length, take, drop}
+use Rattle.std.specs.Prelude.{codes, Bool, Option}
 use Rattle.vab_disk.specs.declared.disk.Disk.{Ghosts}
 use Rattle.vab_disk.specs.Disk.{Image, Outcome, Adds, Faults, Rose}
 use Rattle.vab_disk.specs.Calls.{IsAtRest}
 use Rattle.vab_set.specs.declared.set.SetImage.{SetImage}
+use Rattle.vab_model.specs.declared.state.Image.{Image as ImageOfSlot}
 use Rattle.vab_device.specs.Mounted.{Mounted}
 use Rattle.vab_device.specs.Reading.{device, IsIn}
 use Rattle.vab_make.specs.Made.{made_device_of}
@@ -11,8 +13,9 @@ use Rattle.vab_make.specs.Making.{LeavesMaking}
 use Rattle.vab_exchanges.specs.Session.{Exchange, End, IsSession}
 use Rattle.vab_exchanges.specs.Session as session
 use Rattle.vab_exchanges.specs.Items.{Item, items_of, kept_after, output_of}
-use Rattle.vab_exchanges.specs.Runs.{CrashesWithin, IsTold}
+use Rattle.vab_exchanges.specs.Runs.{acknowledged, CrashesWithin, IsTold}
 use Rattle.vab_exchanges.specs.Hearing.{HearsWhere}
+use Rattle.vab_session.specs.Alone.{IsAlone, StandsAlone, FinishesNothing}
 use Rattle.vab_session.specs.Responses.{response}
 use Rattle.vab_cli.specs.declared.status.Status.{Status}
 use Rattle.vab_cli.specs.declared.status.Status.TheVariants.{Done, Usage, Malformed, Refused}
@@ -140,6 +143,24 @@ module _ {D : Type 0} (g : Ghosts D) (size : ℕ) where
         → CrashesWithin (IsIn size) (codes "FB01") first
         (items_of response (nothing_staged first) exchanges unfinished) (g.told old) o
         ⊎ Else o
+    -- From where one slot alone has images and no update is ready, as from the reply of the begin
+    -- of a merge on, until an installation is finished: in every outcome it alone has images, the
+    -- same ones, and a boot goes to it.
+    pub alone : IsAtRest g old
+        → (done later : List Exchange)
+        → exchanges ≡ done ++ later
+        → FinishesNothing later
+        → (slot : ℕ)
+        → (images : List ImageOfSlot)
+        → IsAlone slot images (kept_after response (nothing_staged first) done).now
+        → (o : Outcome)
+        → g.outcomes new (g.moment old) o
+        → (since : List ℕ)
+        → o.told ≡ g.told old ++ since
+        → length done
+        ≤ acknowledged (items_of response (nothing_staged first) exchanges unfinished)
+        (drop 4 since)
+        → StandsAlone size slot images o.image ⊎ Else o
 
   -- One item alone: what was told is a front of its line or bytes, and all of it where the run ends
   -- as the item does; then the disk is in its last step. However power is cut, the disk is in one

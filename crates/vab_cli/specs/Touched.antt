@@ -8,7 +8,9 @@ use Rattle.vab_marks.specs.declared.mark.MarkPhase.TheVariants as marks
 use Rattle.vab_marks.specs.Mark.{mark_spelling}
 use Rattle.vab_model.specs.declared.state.Phase.{Phase}
 use Rattle.vab_model.specs.declared.state.Phase.TheVariants.{Idle, Installing, Staged, Merging}
-use Rattle.vab_model.specs.Commands.{Command, Cancel}
+use Rattle.vab_model.specs.Commands.{Command, SetActive, Boot, Mark, Print, Digest, Begin, Create}
+use Rattle.vab_model.specs.Commands.{Resize, Delete, Snapshot, Flash, Finish, Cancel, BeginMerge}
+use Rattle.vab_model.specs.Commands.{Merge}
 use Rattle.vab_device.specs.declared.device.Device.{Device}
 use Rattle.vab_device.specs.Mounted.{Mounted}
 use Rattle.vab_device.specs.Reading.{Represents}
@@ -16,7 +18,8 @@ use Rattle.vab_recover.specs.Repairs.{IsRepair}
 use Rattle.vab_make.specs.Making.{IsMade}
 use Rattle.vab_make.specs.Touched.{IsOfMaking}
 use Rattle.vab_manager.specs.Controls.{IsOfSlots}
-use Rattle.vab_commands.specs.Touched.{IsOfCommands}
+use Rattle.vab_merge_gates.specs.Writes.{IsOfMergeBegun}
+use Rattle.vab_merging.specs.Writes.{IsOfMerge}
 
 -- the source of an update that may be dropped, where this slot was booted last
 abbrev pub dropped_from : (current : ℕ) → Phase → Option ℕ
@@ -32,36 +35,81 @@ pub record IsDropped (m : Mounted) (s : ℕ) (bytes : List ℕ) : Type 0 where
   pub is : dropped_from m.state.control.current m.state.phase ≡ Some source
   pub mark : IsAt 2048 (mark_spelling (record { phase = marks.Idle; slot = source })) s bytes
 
--- What the command of a verb writes on a device whose boot control is this one, in a sector with
--- these bytes: the boot control that the boot rules make of it, of both slots; a cancel the mark.
+-- What the command of a verb that isn't of a merge writes on a device whose boot control is this
+-- one, in a sector with these bytes: the boot control that the boot rules make of it, of both
+-- slots; a cancel the mark.
 abbrev pub IsOfItem : Mounted → Control → Command → List ℕ → ℕ → List ℕ → Type 0
 IsOfItem m boot c old s bytes =
     IsOfSlots boot (is_some m.state.a) (is_some m.state.b) old c s bytes
     ⊎ ((c ≡ Cancel) × IsDropped m s bytes)
 
--- What a verb that is a command writes: the copy of its table that opening repairs, and that.
-abbrev pub IsOfVerb : ℕ → Image → Mounted → Control → Command → ℕ → List ℕ → Type 0
-IsOfVerb size image m boot c s bytes =
-    IsRepair size image s bytes ⊎ IsOfItem m boot c (image 4) s bytes
+-- What a command of a merge writes: the begin its mark; some turns the blocks of exceptions and
+-- their entries, and the mark that all are merged. The others aren't of a merge.
+abbrev pub IsOfMerging : Device → Command → ℕ → List ℕ → Type 0
+IsOfMerging d BeginMerge s bytes = IsOfMergeBegun d s bytes
+IsOfMerging d (Merge blocks) s bytes = IsOfMerge d blocks s bytes
+IsOfMerging d (SetActive slot) s bytes = ⊥
+IsOfMerging d Boot s bytes = ⊥
+IsOfMerging d Mark s bytes = ⊥
+IsOfMerging d (Print name) s bytes = ⊥
+IsOfMerging d (Digest name) s bytes = ⊥
+IsOfMerging d Begin s bytes = ⊥
+IsOfMerging d (Create name size) s bytes = ⊥
+IsOfMerging d (Resize name size) s bytes = ⊥
+IsOfMerging d (Delete name) s bytes = ⊥
+IsOfMerging d (Snapshot name size) s bytes = ⊥
+IsOfMerging d (Flash name) s bytes = ⊥
+IsOfMerging d Finish s bytes = ⊥
+IsOfMerging d Cancel s bytes = ⊥
 
--- What the commands of a session write on the device of a disk, once opening has repaired it.
-pub record IsServed (size : ℕ) (image : Image) (s : ℕ) (bytes : List ℕ) : Type 0 where
+-- either, where this device is kept
+abbrev pub IsOfDone : Device → Mounted → Control → Command → List ℕ → ℕ → List ℕ → Type 0
+IsOfDone d m boot c old s bytes = IsOfItem m boot c old s bytes ⊎ IsOfMerging d c s bytes
+
+-- What is written so on the device of a disk, once opening has repaired it.
+pub record IsServed
+    (W : Device → List ℕ → ℕ → List ℕ → Type 0)
+    (size : ℕ)
+    (image : Image)
+    (s : ℕ)
+    (bytes : List ℕ) : Type 0 where
   pub device : Device
   pub opened : Image
   pub repaired : SameBut (IsRepair size image) image opened
   pub represents : Represents device size opened
-  pub writes : IsOfCommands device (image 4) s bytes
+  pub writes : W device (image 4) s bytes
 
--- What a session writes: that, and what opening repairs.
-abbrev pub IsOfServing : ℕ → Image → ℕ → List ℕ → Type 0
-IsOfServing size image s bytes = IsRepair size image s bytes ⊎ IsServed size image s bytes
+-- what a command of a merge writes there
+abbrev pub IsMergedThere : ℕ → Image → Command → ℕ → List ℕ → Type 0
+IsMergedThere size image c = IsServed (λ d old. IsOfMerging d c) size image
+
+-- What a verb that is a command writes: the copy of its table that opening repairs, and what its
+-- command does.
+abbrev pub IsOfVerb : ℕ → Image → Mounted → Control → Command → ℕ → List ℕ → Type 0
+IsOfVerb size image m boot c s bytes =
+    IsRepair size image s bytes
+    ⊎ IsOfItem m boot c (image 4) s bytes
+    ⊎ IsMergedThere size image c s bytes
+
+-- What a session writes, whose commands write so: that, and what opening repairs.
+abbrev pub IsOfServing : (Device → List ℕ → ℕ → List ℕ → Type 0)
+    → ℕ
+    → Image
+    → ℕ
+    → List ℕ
+    → Type 0
+IsOfServing W size image s bytes = IsRepair size image s bytes ⊎ IsServed W size image s bytes
 
 -- What a session writes on the device of the empty set, which was made on the disk.
-pub record IsServedFresh (size : ℕ) (s : ℕ) (bytes : List ℕ) : Type 0 where
+pub record IsServedFresh
+    (W : Device → List ℕ → ℕ → List ℕ → Type 0)
+    (size : ℕ)
+    (s : ℕ)
+    (bytes : List ℕ) : Type 0 where
   pub made : Image
   pub is : IsMade [] 0 65536 size made
-  pub serves : IsServed size made s bytes
+  pub serves : IsServed W size made s bytes
 
 -- What a session over a fresh device writes: what its making does, and that.
-abbrev pub IsOfFresh : ℕ → ℕ → List ℕ → Type 0
-IsOfFresh size s bytes = IsOfMaking [] 65536 s ⊎ IsServedFresh size s bytes
+abbrev pub IsOfFresh : (Device → List ℕ → ℕ → List ℕ → Type 0) → ℕ → ℕ → List ℕ → Type 0
+IsOfFresh W size s bytes = IsOfMaking [] 65536 s ⊎ IsServedFresh W size s bytes

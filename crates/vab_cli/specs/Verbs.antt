@@ -23,6 +23,7 @@ use Rattle.vab_words.specs.Verbs.{Meaning}
 use Rattle.vab_words.specs.Verbs as words
 use Rattle.vab_fbproto.specs.Texts.{slot_letter, refusal_text}
 use Rattle.vab_exchanges.specs.Items.{Item}
+use Rattle.vab_session.specs.Responses.{left_of}
 use Rattle.vab_session.specs.Served.{nothing_staged}
 use Rattle.vab_cli.specs.declared.status.Status.{Status}
 use Rattle.vab_cli.specs.Codes.{reply_status}
@@ -33,6 +34,8 @@ command_of (words.Make limit metadata_max) = None
 command_of (words.Serve fresh) = None
 command_of words.Boot = Some Boot
 command_of words.Mark = Some Mark
+command_of words.BeginMerge = Some BeginMerge
+command_of (words.Merge blocks) = Some (Merge blocks)
 command_of words.Cancel = Some Cancel
 command_of (words.Activate slot) = Some (SetActive slot)
 command_of (words.Print name) = Some (Print name)
@@ -53,8 +56,8 @@ IsVerb (Snapshot name size) = ⊥
 IsVerb (Flash name) = ⊥
 IsVerb Finish = ⊥
 IsVerb Cancel = Unit {0}
-IsVerb BeginMerge = ⊥
-IsVerb (Merge blocks) = ⊥
+IsVerb BeginMerge = Unit {0}
+IsVerb (Merge blocks) = Unit {0}
 
 -- ---- lines
 
@@ -68,38 +71,39 @@ none_line = line (codes "not a device")
 abbrev pub refused_line : Refusal → List ℕ
 refused_line refusal = line (codes "refused: " ++ refusal_text refusal)
 
--- a command that is done and has no more to tell, where this slot is the current one; the others
--- have, or are no verbs
-abbrev pub done_line : Command → ℕ → List ℕ
-done_line (SetActive slot) current = line (codes "active " ++ slot_letter slot)
-done_line Mark current = line (codes "marked " ++ slot_letter current)
-done_line Boot current = line []
-done_line (Print name) current = line []
-done_line (Digest name) current = line []
-done_line Begin current = line []
-done_line (Create name size) current = line []
-done_line (Resize name size) current = line []
-done_line (Delete name) current = line []
-done_line (Snapshot name size) current = line []
-done_line (Flash name) current = line []
-done_line Finish current = line []
-done_line Cancel current = line (codes "cancelled")
-done_line BeginMerge current = line []
-done_line (Merge blocks) current = line []
+-- a command that is done and has no more to tell, where this slot is the current one and so many
+-- blocks are left to merge; the others have, or are no verbs
+abbrev pub done_line : Command → (current left : ℕ) → List ℕ
+done_line (SetActive slot) current left = line (codes "active " ++ slot_letter slot)
+done_line Mark current left = line (codes "marked " ++ slot_letter current)
+done_line Boot current left = line []
+done_line (Print name) current left = line []
+done_line (Digest name) current left = line []
+done_line Begin current left = line []
+done_line (Create name size) current left = line []
+done_line (Resize name size) current left = line []
+done_line (Delete name) current left = line []
+done_line (Snapshot name size) current left = line []
+done_line (Flash name) current left = line []
+done_line Finish current left = line []
+done_line Cancel current left = line (codes "cancelled")
+done_line BeginMerge current left = line (codes "merging, left " ++ decimal left)
+done_line (Merge blocks) current left = line []
 
 -- the line of a reply
-unfoldable pub reply_line : Command → ℕ → Reply → List ℕ
-reply_line c current replies.Done = done_line c current
-reply_line c current (replies.Booted slot) = line (codes "booted " ++ slot_letter slot)
-reply_line c current (replies.Bytes name) = line []
-reply_line c current (replies.Digest sum) = line (encode_lower sum)
-reply_line c current (replies.Left blocks) = line (codes "left " ++ decimal blocks)
-reply_line c current replies.Merged = line (codes "merged")
-reply_line c current (replies.Refused refusal) = refused_line refusal
+unfoldable pub reply_line : Command → (current left : ℕ) → Reply → List ℕ
+reply_line c current left replies.Done = done_line c current left
+reply_line c current left (replies.Booted slot) = line (codes "booted " ++ slot_letter slot)
+reply_line c current left (replies.Bytes name) = line []
+reply_line c current left (replies.Digest sum) = line (encode_lower sum)
+reply_line c current left (replies.Left blocks) = line (codes "left " ++ decimal blocks)
+reply_line c current left replies.Merged = line (codes "merged")
+reply_line c current left (replies.Refused refusal) = refused_line refusal
 
 -- the line of a command on a device
 abbrev pub command_line : Mounted → Command → List ℕ
-command_line m c = reply_line c m.state.control.current (effect_on m None c).reply
+command_line m c =
+    reply_line c m.state.control.current (left_of m.state.phase) (effect_on m None c).reply
 
 -- an image's bytes, or why there are none
 abbrev pub print_told : Found → List ℕ

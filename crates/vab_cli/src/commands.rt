@@ -13,7 +13,7 @@ ghost use Rattle.vab_cli.specs.Counts.{HearsNothing, IsSteady};
 ghost use Rattle.vab_cli.specs.Telling.{DoesItem};
 ghost use Rattle.vab_cli.specs.Verbs.{none_line, command_line, command_item, verb_status};
 ghost use Rattle.vab_cli.specs.Verbs.{IsVerb};
-ghost use Rattle.vab_cli.specs.Touched.{IsOfItem, IsOfVerb};
+ghost use Rattle.vab_cli.specs.Touched.{IsOfDone, IsOfVerb};
 ghost use Rattle.vab_cli.specs.Runs.{RunsItem, FailsBefore, RunsNone, IsFailed};
 
 use crate::Status;
@@ -25,6 +25,7 @@ use vab_commands::run_one;
 use vab_device::Device;
 use vab_disk::{Disk, Port};
 use vab_exchanges::say_all;
+use vab_merging::left;
 use vab_model::Command;
 
 // Carries out a command, and tells its line.
@@ -53,7 +54,7 @@ fn do_command<P: Port>(
         → (boot : Control)
         → control_of (P.seen port.old 4) ≡ Ok boot
         → Changes P.Disk
-        (IsOfItem s boot (command_of command.now) (P.seen port.old 4))
+        (IsOfDone device s boot (command_of command.now) (P.seen port.old 4))
         port.old port.new }
     ensures quiet { P.is_modelled → HearsNothing P.Disk port.old port.new }
     ensures steady { OnOk result (P.faults port.new ≡ P.faults port.old) }
@@ -65,12 +66,13 @@ fn do_command<P: Port>(
         → Rose (P.faults port.old).sink (P.faults port.new).sink }
 {
     let current = device.current();
+    let blocks = left(&device);
     let (_device, reply) = match run_one(alloc, port, device, command, None) {
         Ok(done) => done,
         Err(_) => return Err(Status::Disk),
     };
     let mut line = ArrayVec::new();
-    reply_line(command, current, &reply, &mut line);
+    reply_line(command, current, blocks, &reply, &mut line);
     match say_all(port, line.as_slice()) {
         Ok(()) => Ok(Status::from(&reply)),
         Err(_) => Err(Status::Port),

@@ -1,5 +1,5 @@
 //! The lines that verbs tell.
-ghost use Rattle.std.specs.Prelude.{◌≡◌, ◌≤◌, ◌∷◌, ◌++◌, [], length, codes, decimal};
+ghost use Rattle.std.specs.Prelude.{◌≡◌, ◌≤◌, ◌∷◌, ◌++◌, [], length, decimal};
 ghost use Rattle.vab_model.specs.Commands.{command_of};
 ghost use Rattle.vab_cli.specs.Verbs as verbs;
 
@@ -36,24 +36,26 @@ pub(crate) fn refused_line(refusal: Refusal, out: &mut Line)
 }
 
 // The line of how many blocks are left to merge.
-fn left_line(blocks: u64, out: &mut Line)
-    requires { out.old.items ≡ [] }
-    ensures { out.new.items ≡ verbs.line (codes "left " ++ decimal blocks) }
+fn put_left(out: &mut Line, head: &[u8], blocks: u64)
+    requires empty { out.old.items ≡ [] }
+    requires short { length head.now ≤ 32 }
+    ensures { out.new.items ≡ (head.now ++ decimal blocks) ++ 10 ∷ [] }
 {
-    put(b"left ", out);
+    put(head, out);
     put_decimal(blocks, out);
     put(b"\n", out);
 }
 
 // The line of a command that is done.
-fn done_line(command: &Command, current: usize, out: &mut Line)
+fn done_line(command: &Command, current: usize, left: u64, out: &mut Line)
     requires { out.old.items ≡ [] }
-    ensures { out.new.items ≡ verbs.done_line (command_of command.now) current }
+    ensures { out.new.items ≡ verbs.done_line (command_of command.now) current left }
 {
     match command {
         Command::SetActive(slot) => put_line(out, b"active ", slot_letter(*slot)),
         Command::Mark => put_line(out, b"marked ", slot_letter(current)),
         Command::Cancel => put_line(out, b"cancelled", b""),
+        Command::BeginMerge => put_left(out, b"merging, left ", left),
         Command::Boot
         | Command::Print(_)
         | Command::Digest(_)
@@ -64,23 +66,29 @@ fn done_line(command: &Command, current: usize, out: &mut Line)
         | Command::Snapshot(_, _)
         | Command::Flash(_)
         | Command::Finish
-        | Command::BeginMerge
         | Command::Merge(_) => put_line(out, b"", b""),
     }
 }
 
-/// The line of the reply to a command, where this slot was the current one.
+/// The line of the reply to a command, where this slot was the current one and so many blocks were
+/// left to merge.
 #[tactic(auto, unfolding(crate::specs::Verbs::reply_line))]
-pub(crate) fn reply_line(command: &Command, current: usize, reply: &Reply, out: &mut Line)
+pub(crate) fn reply_line(
+    command: &Command,
+    current: usize,
+    left: u64,
+    reply: &Reply,
+    out: &mut Line,
+)
     requires { out.old.items ≡ [] }
-    ensures { out.new.items ≡ verbs.reply_line (command_of command.now) current reply.now }
+    ensures { out.new.items ≡ verbs.reply_line (command_of command.now) current left reply.now }
 {
     match reply {
-        Reply::Done => done_line(command, current, out),
+        Reply::Done => done_line(command, current, left, out),
         Reply::Booted(slot) => put_line(out, b"booted ", slot_letter(*slot)),
         Reply::Bytes(_) => put_line(out, b"", b""),
         Reply::Digest(sum) => put_line(out, b"", &digits_of(sum)),
-        Reply::Left(blocks) => left_line(*blocks, out),
+        Reply::Left(blocks) => put_left(out, b"left ", *blocks),
         Reply::Merged => put_line(out, b"merged", b""),
         Reply::Refused(refusal) => refused_line(*refusal, out),
     }

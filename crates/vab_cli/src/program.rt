@@ -27,6 +27,8 @@ fn do_verb<P: Port>(alloc: Global, verb: Verb, port: &mut P) -> Status
         Verb::Serve { fresh: false } => open_and_serve(alloc, port),
         Verb::Boot => carry_out(alloc, port, &Command::Boot),
         Verb::Mark => carry_out(alloc, port, &Command::Mark),
+        Verb::BeginMerge => carry_out(alloc, port, &Command::BeginMerge),
+        Verb::Merge(turns) => carry_out(alloc, port, &Command::Merge(turns)),
         Verb::Cancel => carry_out(alloc, port, &Command::Cancel),
         Verb::Activate(slot) => carry_out(alloc, port, &Command::SetActive(slot)),
         Verb::Print(name) => print(alloc, port, name.as_bytes()),

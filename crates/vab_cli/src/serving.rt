@@ -1,5 +1,5 @@
 //! A session over the device of the disk, or over one that is made first.
-ghost use Rattle.std.specs.Prelude.{◌≡◌, ◌≢◌, ◌⊎◌, ◌≤◌, ◌<◌, [], Err};
+ghost use Rattle.std.specs.Prelude.{◌≡◌, ◌≢◌, ◌⊎◌, ◌≤◌, ◌<◌, ◌^◌, [], Err};
 ghost use Rattle.vab_disk.specs.Disk.{Rose};
 ghost use Rattle.vab_disk.specs.Calls.{Changes};
 ghost use Rattle.vab_device.specs.declared.fault.StartFault.{StartFault as Fault};
@@ -7,6 +7,8 @@ ghost use Rattle.vab_device.specs.Mounted.{Mounted};
 ghost use Rattle.vab_device.specs.Reading.{device, IsIn};
 ghost use Rattle.vab_make.specs.Made.{made_device_of};
 ghost use Rattle.vab_make.specs.Making.{LeavesMaking};
+ghost use Rattle.vab_commands.specs.Touched.{IsOfAll, IsOfCommands};
+ghost use Rattle.vab_session.specs.Merges.{MergesNothing};
 ghost use Rattle.vab_cli.specs.Touched.{IsOfServing, IsOfFresh};
 ghost use Rattle.vab_cli.specs.Counts.{IsSteady};
 ghost use Rattle.vab_cli.specs.Runs.{RunsSession, FailsBefore, RunsNone, RunsRefused, FailsMaking};
@@ -31,7 +33,16 @@ pub(crate) fn open_and_serve<P: Port>(alloc: Global, port: &mut P) -> Status
     ensures changes { P.is_modelled
         → (s : Mounted)
         → IsIn (P.size port.old) s (P.seen port.old)
-        → Changes P.Disk (IsOfServing (P.size port.old) (P.seen port.old)) port.old port.new }
+        → Changes P.Disk
+        (IsOfServing IsOfAll (P.size port.old) (P.seen port.old))
+        port.old port.new }
+    ensures unmerged { P.is_modelled
+        → (s : Mounted)
+        → IsIn (P.size port.old) s (P.seen port.old)
+        → MergesNothing (2 ^ 44) (P.input_left port.old)
+        → Changes P.Disk
+        (IsOfServing IsOfCommands (P.size port.old) (P.seen port.old))
+        port.old port.new }
     ensures none { P.is_modelled
         → (fault : Fault)
         → device (P.size port.old) (P.seen port.old) ≡ Err fault
@@ -64,7 +75,10 @@ pub(crate) fn make_and_serve<P: Port>(alloc: Global, port: &mut P) -> Status
         port.old port.new result
         ⊎ FailsMaking P.Disk (P.size port.old) [] 0 65536 port.old port.new result }
     ensures changes { P.is_modelled
-        → Changes P.Disk (IsOfFresh (P.size port.old)) port.old port.new }
+        → Changes P.Disk (IsOfFresh IsOfAll (P.size port.old)) port.old port.new }
+    ensures unmerged { P.is_modelled
+        → MergesNothing (2 ^ 44) (P.input_left port.old)
+        → Changes P.Disk (IsOfFresh IsOfCommands (P.size port.old)) port.old port.new }
     ensures small { P.is_modelled
         → P.size port.old < 6152
         → RunsRefused P.Disk (P.size port.old) [] Status.NotADevice port.old port.new result }

@@ -34,24 +34,30 @@ control_by source a b Cancel c = c
 control_by source a b BeginMerge c = c
 control_by source a b (Merge blocks) c = c
 
--- a command, and whether both slots have images before it
+-- a command, the slot of the mark before it, and whether both slots have images then
 pub record Step : Type 0 where
+  pub source : ℕ
   pub both : Bool
   pub command : Command
 
 -- the boot control after one of them, and after some, one behind the other
-abbrev pub control_at : (source : ℕ) → Step → Control → Control
-control_at source s c =
-    control_by source (has_images s.both source 0) (has_images s.both source 1) s.command c
+abbrev pub control_at : Step → Control → Control
+control_at s c =
+    control_by s.source (has_images s.both s.source 0) (has_images s.both s.source 1) s.command c
 
-abbrev pub controls_by : (source : ℕ) → List Step → Control → Control
-controls_by source [] c = c
-controls_by source (s ∷ steps) c = controls_by source steps (control_at source s c)
+abbrev pub controls_by : List Step → Control → Control
+controls_by [] c = c
+controls_by (s ∷ steps) c = controls_by steps (control_at s c)
+
+-- each of them is of such a slot
+abbrev pub AreOf : (ℕ → Type 0) → List Step → Type 0
+AreOf Of [] = Unit {0}
+AreOf Of (s ∷ steps) = Of s.source × AreOf Of steps
 
 -- What commands may write into boot control's sector, one behind the other: a boot control that
--- some of them make of the old one, of both slots. The source, the mark's slot, has images; the
--- other slot has or not.
-pub record IsOfControls (source : ℕ) (c : Control) (old : List ℕ) (s : ℕ) (bytes : List ℕ) : Type 0
-  where
-    pub steps : List Step
-    pub writes : IsControl (controls_by source steps c) old s bytes
+-- some of them make of the old one, of both slots, where the mark's slot is such a one before each.
+pub record IsOfControls (Of : ℕ → Type 0) (c : Control) (old : List ℕ) (s : ℕ) (bytes : List ℕ)
+    : Type 0 where
+  pub steps : List Step
+  pub of : AreOf Of steps
+  pub writes : IsControl (controls_by steps c) old s bytes

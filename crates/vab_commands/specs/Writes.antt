@@ -9,11 +9,14 @@ use Rattle.vab_begin.specs.Writes.{IsOfBegun, IsOfCancelled}
 use Rattle.vab_edit.specs.Writes.{IsOfEdit}
 use Rattle.vab_finish.specs.Writes.{IsOfFinished}
 use Rattle.vab_flash.specs.Touched.{IsOfFlash}
+use Rattle.vab_merge_gates.specs.Writes.{IsOfMergeBegun}
+use Rattle.vab_merging.specs.Writes.{IsOfMerge}
 
 -- What a command may write on a device, where boot control's sector has these bytes: a command on
 -- slots boot control, by the boot rules; a begin its target's table and the mark, an edit that
 -- table, a flash the partition's store and a status, a finish boot control without the target and
--- the mark, a cancel the mark. The others write nothing.
+-- the mark, a cancel and the begin of a merge the mark, and a merge blocks of the partitions,
+-- entries of their stores, and the mark at its end. The others write nothing.
 abbrev pub IsOfCommand : Type 0 → Device → List ℕ → Command → ℕ → List ℕ → Type 0
 IsOfCommand told d old (SetActive slot) s b = slots.IsOfCommand d old (SetActive slot) s b
 IsOfCommand told d old Boot s b = slots.IsOfCommand d old Boot s b
@@ -28,5 +31,5 @@ IsOfCommand told d old (Snapshot name size) s b = IsOfEdit d s b
 IsOfCommand told d old (Flash name) s b = IsOfFlash d name s b
 IsOfCommand told d old Finish s b = IsOfFinished told d old s b
 IsOfCommand told d old Cancel s b = IsOfCancelled d s b
-IsOfCommand told d old BeginMerge s b = ⊥
-IsOfCommand told d old (Merge blocks) s b = ⊥
+IsOfCommand told d old BeginMerge s b = IsOfMergeBegun d s b
+IsOfCommand told d old (Merge blocks) s b = IsOfMerge d blocks s b

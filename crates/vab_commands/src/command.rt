@@ -17,14 +17,15 @@ use vab_finish::finish;
 use vab_flash::flash;
 use vab_gate::DiskFault;
 use vab_manager::{boot, digest, mark, print, set_active};
-use vab_model::{Command, Refusal, Reply};
+use vab_merge_gates::begin_merge;
+use vab_merging::merge;
+use vab_model::{Command, Reply};
 
 /// Carries out one command on a device, where these bytes are staged. Where the device that is kept
 /// is that of the disk, the reply and the device after it are those of the table of effects; where
 /// nothing was pending, each outcome since is a step of the command. A command touches what is its
 /// own alone, and a question or a refusal nothing. Want of memory comes in place of `Done` and of
-/// `TableFull` alone, and then nothing is written. An error comes where the disk has failed. No
-/// update is merged yet: `BeginMerge` is refused with `NotStaged` also where one is ready.
+/// `TableFull` alone, and then nothing is written. An error comes where the disk has failed.
 pub fn run_one<D: Disk>(
     alloc: Global,
     d: &mut D,
@@ -58,7 +59,7 @@ pub fn run_one<D: Disk>(
         Command::Flash(name) => flash(alloc, d, device, name, staged),
         Command::Cancel => cancel(d, device),
         Command::Finish => finish(d, device),
-        Command::BeginMerge => Ok((device, Reply::Refused(Refusal::NotStaged))),
-        Command::Merge(_) => Ok((device, Reply::Refused(Refusal::NotMerging))),
+        Command::BeginMerge => begin_merge(d, device),
+        Command::Merge(blocks) => merge(d, device, blocks),
     }
 }

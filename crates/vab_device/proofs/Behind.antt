@@ -32,7 +32,7 @@ use Rattle.vab_device.specs.Reading.{Read, table_read, table_at, tables_in, tabl
 use Rattle.vab_device.specs.Reading.{parts_by}
 use Rattle.vab_device.specs.Reading.{read_table, kept, stores_of, Reads, IsOfBlocks, IsOfParts}
 use Rattle.vab_device.specs.Reading.{IsOfImages, IsOfStores, IsOfWritten, IsOfPlanned, IsOfPlan}
-use Rattle.vab_device.specs.Stores.{Wanted, Scanned, first_named, wanted_by, wanted_of}
+use Rattle.vab_device.specs.Stores.{Wanted, Scanned, first_named, wanted_by, wanted_of, or_fewer}
 use Rattle.vab_device.specs.Stores.{exceptions_of, sector_seen, sectors_seen}
 use Rattle.vab_device.proofs.CheckLaws.{bound}
 
@@ -135,6 +135,25 @@ stores_from low slot l (st ∷ sts) s le is =
     (first_named st.name (own_parts slot l.parts)) (first_named (store_of st.name) l.parts)
     (map (wanted_of slot l) sts) s le is)
 
+-- whether there may be fewer exceptions or not
+one_from : (w : Result Wanted StartFault) (ws : List (Result Wanted StartFault)) (s : ℕ)
+    → IsOfStores (or_fewer w ∷ ws) s
+    → IsOfStores (w ∷ []) s ⊎ IsOfStores ws s
+one_from (Ok w) ws s (inl is) = inl (inl is)
+one_from (Ok w) ws s (inr is) = inr is
+one_from (Err fault) ws s is = inr is
+
+fewer_from : (low slot : ℕ) (l : Layout) (statuses : List PartStatus) (s : ℕ)
+    → low ≤ 4096 + l.device.first_logical_sector
+    → IsOfStores (map (λ (st : PartStatus). or_fewer (wanted_of slot l st)) statuses) s
+    → low ≤ s
+fewer_from low slot l [] s le is = absurd is
+fewer_from low slot l (st ∷ sts) s le is =
+    ⊎_elim (λ here. stores_from low slot l (st ∷ []) s le here)
+    (λ there. fewer_from low slot l sts s le there)
+    (one_from (wanted_of slot l st)
+    (map (λ (st : PartStatus). or_fewer (wanted_of slot l st)) sts) s is)
+
 phase_stores_from : (low slot : ℕ) (m : MarkPhase) (ts : List Table) (statuses : List PartStatus)
     (s : ℕ)
     → BeginBehind low ts
@@ -149,7 +168,9 @@ phase_stores_from low slot marks.Staged [] statuses s begin is = absurd is
 phase_stores_from low slot marks.Staged (t ∷ []) statuses s begin is = absurd is
 phase_stores_from low slot marks.Staged (t ∷ u ∷ ts) statuses s begin is =
     stores_from low (other_slot slot) (layout_of u) statuses s begin.1.0 is
-phase_stores_from low slot marks.Merging ts statuses s begin is = absurd is
+phase_stores_from low slot marks.Merging [] statuses s begin is = absurd is
+phase_stores_from low slot marks.Merging (t ∷ ts) statuses s begin is =
+    fewer_from low slot (layout_of t) statuses s begin.0 is
 phase_stores_from low slot marks.Completed ts statuses s begin is = absurd is
 
 -- ---- the partitions that are planned

@@ -16,7 +16,7 @@ use Rattle.vab_model.specs.Commands.{Command}
 use Rattle.vab_model.specs.Effects.{Effect, answers, does, steps_of, after_of, IsOneOf}
 use Rattle.vab_model.specs.Effects.{unless_refused}
 use Rattle.vab_device.specs.declared.device.Device.{Device}
-use Rattle.vab_device.specs.Does.{LeavesStep, effect_of, KeepsSource, Does}
+use Rattle.vab_device.specs.Does.{LeavesStep, effect_of, KeepsSource, Follows, Does}
 use Rattle.vab_device.specs.Kept.{IsDevice}
 use Rattle.vab_device.specs.Mounted.{Mounted, mounted_on}
 use Rattle.vab_device.specs.Reading.{device, Dead, Represents}
@@ -26,6 +26,15 @@ use Rattle.vab_device.proofs.ReadingLaws.{device_same, device_stands}
 -- the whole of a device is its source
 pub keeps_all : (d : Device) → KeepsSource d d
 keeps_all d = record { geometry = refl; slot = refl; parts = refl }
+
+-- what keeps the source follows on any command
+pub follows_kept : (d : Device) (command : Command) (next : Device)
+    → KeepsSource d next
+    → Follows d command next
+follows_kept d command next keeps = record {
+  geometry = keeps.geometry;
+  source = λ _. keeps;
+}
 
 -- what nothing reads leaves the device that is kept
 pub dead_means : (d : Device) (size : ℕ) (old : Image) (V : ℕ → List ℕ → Type 0)
@@ -80,7 +89,7 @@ module _ {D : Type 0} (g : Ghosts D) (d : Device) (staged : Option (List ℕ)) (
   does_nothing refused reply old new kept is told reads counts = record {
     refused = refused;
     kept = kept;
-    source = keeps_all d;
+    follows = follows_kept d command d (keeps_all d);
     represents = λ t. subst (λ (i : Image). Represents d (g.size old) i) (sym (reads.seen t))
         (is t);
     after = λ t.
@@ -103,7 +112,7 @@ module _ {D : Type 0} (g : Ghosts D) (d : Device) (staged : Option (List ℕ)) (
   fails_reading fault old new reads rose = record {
     refused = false;
     kept = tt;
-    source = tt;
+    follows = tt;
     represents = λ t. tt;
     after = λ t. tt;
     reply = λ t. tt;
@@ -133,7 +142,7 @@ module _ {D : Type 0} (g : Ghosts D) (d : Device) (staged : Option (List ℕ)) (
       record {
         refused = later.refused;
         kept = subst (λ (n : ℕ). IfOk r (λ x. IsDevice x.0 n)) size later.kept;
-        source = later.source;
+        follows = later.follows;
         represents = λ t.
             subst (λ (n : ℕ). IfOk r (λ x. Represents x.0 n (g.seen new))) size
             (later.represents t);
@@ -232,7 +241,7 @@ module _ {D : Type 0} (g : Ghosts D) (d : Device) (staged : Option (List ℕ)) (
     fails_dead fault rose = record {
       refused = false;
       kept = tt;
-      source = tt;
+      follows = tt;
       represents = λ t. tt;
       after = λ t. tt;
       reply = λ t. tt;
@@ -298,7 +307,7 @@ module _ {D : Type 0} (g : Ghosts D) (d : Device) (staged : Option (List ℕ)) (
       fails_gate fault rose = record {
         refused = false;
         kept = tt;
-        source = tt;
+        follows = tt;
         represents = λ t. tt;
         after = λ t. tt;
         reply = λ t. tt;
@@ -313,16 +322,17 @@ module _ {D : Type 0} (g : Ghosts D) (d : Device) (staged : Option (List ℕ)) (
         };
       }
 
-      pub does_gate : IsDevice next (g.size old)
-          → KeepsSource d next
+      -- what follows is said of the next device
+      pub does_follow : IsDevice next (g.size old)
+          → Follows d command next
           → (g.is_modelled → g.seen new ≡ set_sector (g.seen mid) at bytes)
           → (g.is_modelled → IsAtRest g new)
           → g.faults new ≡ g.faults old
           → Does g d staged command W old new (Ok (next, reply))
-      does_gate kept source seen settled counts = record {
+      does_follow kept follows seen settled counts = record {
         refused = false;
         kept = kept;
-        source = source;
+        follows = follows;
         represents = λ t.
             subst (λ (i : Image). Represents next (g.size old) i) (sym (seen t)) (represents t);
         after = λ t.
@@ -336,3 +346,12 @@ module _ {D : Type 0} (g : Ghosts D) (d : Device) (staged : Option (List ℕ)) (
         time = steps;
         faults = record { steady = counts; cause = tt };
       }
+
+      -- and it keeps the source
+      pub does_gate : IsDevice next (g.size old)
+          → KeepsSource d next
+          → (g.is_modelled → g.seen new ≡ set_sector (g.seen mid) at bytes)
+          → (g.is_modelled → IsAtRest g new)
+          → g.faults new ≡ g.faults old
+          → Does g d staged command W old new (Ok (next, reply))
+      does_gate kept source = does_follow kept (follows_kept d command next source)

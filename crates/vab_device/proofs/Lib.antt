@@ -9,4 +9,7 @@ pub mod OpeningLaws
 pub mod ReadingLaws
 pub mod RepairLaws
 pub mod SameLaws
+pub mod StayLaws
+pub mod Steps
 pub mod StoreLaws
+pub mod UpdateLaws

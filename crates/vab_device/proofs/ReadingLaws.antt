@@ -1,11 +1,12 @@
 -- A disk means a device exactly where it is read so.
-use Rattle.std.proofs.Common.{◌≡◌, ◌∙◌, inl, inr, ⊎_elim, ℕ, zero, suc, ◌+◌, ◌<◌, true, false, List}
+use Rattle.std.proofs.Common.{◌≡◌, ◌∙◌, ◌⊎◌, inl, inr, ⊎_elim, ℕ, zero, suc, ◌+◌, ◌<◌, true, false, List}
 use Rattle.std.proofs.Common.{[], ◌∷◌, length, Result, Ok, Err, refl, sym, ap, subst, arith}
-use Rattle.std.specs.Prelude.{Bool, None, is_some, nat_le, ◌==◌}
+use Rattle.std.specs.Prelude.{Bool, Some, None, is_some, nat_le, ◌==◌}
 use Rattle.std.proofs.lemmas.Bool.{cases_Bool}
 use Rattle.vab_disk.specs.Disk.{Image}
 use Rattle.vab_bootctl.specs.declared.slots.Control.{Control}
 use Rattle.vab_bootctl.specs.Control.{control_of}
+use Rattle.vab_bootctl.specs.Boot.{info_at}
 use Rattle.vab_marks.specs.declared.mark.UpdateMark.{UpdateMark}
 use Rattle.vab_marks.specs.declared.mark.MarkPhase.{MarkPhase}
 use Rattle.vab_marks.specs.declared.mark.MarkPhase.TheVariants as marks
@@ -15,20 +16,19 @@ use Rattle.vab_layout.specs.Slots.{other_slot}
 use Rattle.vab_model.specs.State.{control_seen}
 use Rattle.vab_model.proofs.SeenLaws.{seen_again}
 use Rattle.vab_device.specs.declared.fault.StartFault.{StartFault}
-use Rattle.vab_device.specs.declared.fault.StartFault.TheVariants.{TooSmall, BadMark}
+use Rattle.vab_device.specs.declared.fault.StartFault.TheVariants.{TooSmall, BadMark, BadState}
 use Rattle.vab_marks.specs.declared.sector.MarkFault.{MarkFault}
 use Rattle.vab_marks.specs.Mark.{mark_of}
 use Rattle.vab_model.specs.declared.state.Phase.TheVariants as phases
 use Rattle.vab_device.specs.declared.device.Device.{Device}
-use Rattle.vab_device.specs.Checks.{first_fault, ◌>>=◌}
+use Rattle.vab_device.specs.Checks.{Check, check, or_else, first_fault, ◌>>=◌}
 use Rattle.vab_device.specs.Mounted.{Mounted, control_on, state_on, mounted_on, images_on}
 use Rattle.vab_device.specs.Mounted.{entries_on, phase_by, phase_on, unplanned, count_at}
 use Rattle.vab_device.specs.Stores.{Scanned, scans_in}
 use Rattle.vab_device.specs.Kept.{IsPhase, has_both, has_slot}
 use Rattle.vab_device.specs.Phases.{Phase, slot_checks, staged_checks, idle, installing, phase_at}
-use Rattle.vab_device.specs.Phases.{is_known}
-use Rattle.vab_device.specs.Checks.{unless}
-use Rattle.vab_device.specs.Reading.{Read, mark_read, mark_in, statuses_at, control_read, control_in}
+use Rattle.vab_device.specs.Phases.{is_good, slot_ready}
+use Rattle.vab_device.specs.Reading.{Read, settled, mark_read, mark_in, statuses_at, control_read, control_in}
 use Rattle.vab_device.specs.Reading.{geometry_at, stores_of, scanned_in}
 use Rattle.vab_device.specs.Reading.{table_at, tables_in, framed, frame, part_fault, state_fault}
 use Rattle.vab_device.specs.Reading.{judged, stated, table_for, parts_for, kept, device}
@@ -296,21 +296,62 @@ of_phase marks.Completed = record {
   tables = refl;
 }
 
--- where one slot has images, the rules of the slots are those of that one
+-- what is asked beside boot control, where one slot has images
+unfoldable ready_check : MarkPhase → (slot : ℕ) → List Table → List Scanned → Check
+ready_check marks.Idle slot ts ss = None
+ready_check marks.Installing slot ts ss = None
+ready_check marks.Staged slot ts ss = None
+ready_check marks.Merging slot ts ss = check (slot_ready slot ts ss) (BadState 3)
+ready_check marks.Completed slot ts ss = None
+
+or_none : (x : Check) → or_else x None ≡ x
+or_none None = refl
+or_none (Some fault) = refl
+
+or_again : (x y z : Check) → or_else x (or_else y (or_else z None)) ≡ or_else (or_else x (or_else y None)) z
+or_again None None z = or_none z
+or_again None (Some fault) z = refl
+or_again (Some fault) y z = refl
+
+or_parts : (x y : Check) → or_else x y ≡ None → (x ≡ None) × (y ≡ None)
+or_parts None y is = (refl, is)
+or_parts (Some fault) y is = absurd (let same : Some fault ≡ None = is in cc)
+
+-- where one slot has images, the rules of the slots are those of that one, and that
 single_checks : (m : MarkPhase) (slot : ℕ) (c : Control) (ts : List Table) (ss : List Scanned)
     → has_both m ≡ false
-    → (phase_at m).state_checks slot c ts ss ≡ slot_checks slot c
-single_checks marks.Idle slot c ts ss one = refl
-single_checks marks.Installing slot c ts ss one = refl
+    → first_fault ((phase_at m).state_checks slot c ts ss)
+    ≡ or_else (first_fault (slot_checks slot c)) (ready_check m slot ts ss)
+unfolding ready_check
+single_checks marks.Idle slot c ts ss one = sym (or_none (first_fault (slot_checks slot c)))
+single_checks marks.Installing slot c ts ss one = sym (or_none (first_fault (slot_checks slot c)))
 single_checks marks.Staged slot c ts ss one = absurd cc
-single_checks marks.Merging slot c ts ss one = refl
-single_checks marks.Completed slot c ts ss one = refl
+single_checks marks.Merging slot c ts ss one =
+    or_again (check (c.current == slot) (BadState 1)) (check (is_good (info_at c slot)) (BadState 2))
+    (check (slot_ready slot ts ss) (BadState 3))
+single_checks marks.Completed slot c ts ss one = sym (or_none (first_fault (slot_checks slot c)))
 
-pub state_single : (r : Read)
+pub single_works : (r : Read)
     → has_both r.mark.phase ≡ false
-    → state_fault r ≡ first_fault (slot_checks r.mark.slot r.control)
-state_single r one =
-    ap first_fault (single_checks r.mark.phase r.mark.slot r.control r.tables r.scanned one)
+    → state_fault r ≡ None
+    → first_fault (slot_checks r.mark.slot r.control) ≡ None
+single_works r one none =
+    (or_parts (first_fault (slot_checks r.mark.slot r.control))
+    (ready_check r.mark.phase r.mark.slot r.tables r.scanned)
+    (sym (single_checks r.mark.phase r.mark.slot r.control r.tables r.scanned one) ∙ none)).0
+
+-- so they are with another boot control
+pub single_again : (r : Read) (c : Control)
+    → has_both r.mark.phase ≡ false
+    → state_fault r ≡ None
+    → first_fault (slot_checks r.mark.slot c) ≡ None
+    → state_fault (record r { control = c }) ≡ None
+single_again r c one none keeps =
+    let ready = (or_parts (first_fault (slot_checks r.mark.slot r.control))
+    (ready_check r.mark.phase r.mark.slot r.tables r.scanned)
+    (sym (single_checks r.mark.phase r.mark.slot r.control r.tables r.scanned one) ∙ none)).1 in
+    single_checks r.mark.phase r.mark.slot c r.tables r.scanned one
+    ∙ (λ i. or_else (keeps i) (ready i))
 
 pub state_staged : (r : Read)
     → r.mark.phase ≡ marks.Staged
@@ -330,28 +371,18 @@ seen_slots r c =
     let of = of_phase r.mark.phase in
     (λ i. control_seen (of.has_a i r.mark.slot) (of.has_b i r.mark.slot) c)
 
--- a mark that is read is of a phase that there is
-known_by : (phase : MarkPhase) (m r : UpdateMark)
-    → m.phase ≡ phase
-    → unless (is_known phase) (BadMark 2048) (Ok m) ≡ Ok r
-    → IsPhase r.phase
-known_by marks.Idle m r at is =
-    let same : (let x : Result UpdateMark StartFault = Ok m in x ≡ Ok r) = is in
-    let e : m ≡ r = cc in
-    inl (ap (λ (x : UpdateMark). x.phase) (sym e) ∙ at)
-known_by marks.Installing m r at is =
-    let same : (let x : Result UpdateMark StartFault = Ok m in x ≡ Ok r) = is in
-    let e : m ≡ r = cc in
-    inr (inl (ap (λ (x : UpdateMark). x.phase) (sym e) ∙ at))
-known_by marks.Staged m r at is =
-    let same : (let x : Result UpdateMark StartFault = Ok m in x ≡ Ok r) = is in
-    let e : m ≡ r = cc in
-    inr (inr (ap (λ (x : UpdateMark). x.phase) (sym e) ∙ at))
-known_by marks.Merging m r at is = absurd cc
-known_by marks.Completed m r at is = absurd cc
+-- a mark that is read is of a phase that a device may be in
+known_by : (phase : MarkPhase) → IsPhase (settled phase)
+known_by marks.Idle = inl refl
+known_by marks.Installing = inr (inl refl)
+known_by marks.Staged = inr (inr (inl refl))
+known_by marks.Merging = inr (inr (inr refl))
+known_by marks.Completed = inl refl
 
 known_of : (x : Result UpdateMark MarkFault) (r : UpdateMark) → mark_read x ≡ Ok r → IsPhase r.phase
-known_of (Ok m) r is = known_by m.phase m r refl is
+known_of (Ok m) r is =
+    let e : record m { phase = settled m.phase } ≡ r = cc in
+    subst (λ (x : UpdateMark). IsPhase x.phase) e (known_by m.phase)
 known_of (Err fault) r is =
     absurd (let bad : (let x : Result UpdateMark StartFault = Err (BadMark 2048) in x ≡ Ok r) =
     is in cc)
@@ -360,31 +391,14 @@ pub known_phase : (image : Image) (m : UpdateMark) → mark_in image ≡ Ok m �
 unfolding mark_in
 known_phase image m is = known_of (mark_of (image 2048)) m is
 
--- its slot is a or b
-slot_known : (phase : MarkPhase) (m r : UpdateMark)
-    → m.slot < 2
-    → unless (is_known phase) (BadMark 2048) (Ok m) ≡ Ok r
-    → r.slot < 2
-slot_known marks.Idle m r below is =
-    let same : (let x : Result UpdateMark StartFault = Ok m in x ≡ Ok r) = is in
-    let e : m ≡ r = cc in
-    subst (λ (x : UpdateMark). x.slot < 2) e below
-slot_known marks.Installing m r below is =
-    let same : (let x : Result UpdateMark StartFault = Ok m in x ≡ Ok r) = is in
-    let e : m ≡ r = cc in
-    subst (λ (x : UpdateMark). x.slot < 2) e below
-slot_known marks.Staged m r below is =
-    let same : (let x : Result UpdateMark StartFault = Ok m in x ≡ Ok r) = is in
-    let e : m ≡ r = cc in
-    subst (λ (x : UpdateMark). x.slot < 2) e below
-slot_known marks.Merging m r below is = absurd cc
-slot_known marks.Completed m r below is = absurd cc
-
+-- the slot of a mark that is read is a or b
 slot_read : (bytes : List ℕ) (x : Result UpdateMark MarkFault) (r : UpdateMark)
     → mark_of bytes ≡ x
     → mark_read x ≡ Ok r
     → r.slot < 2
-slot_read bytes (Ok m) r of is = slot_known m.phase m r (mark_slot bytes m of) is
+slot_read bytes (Ok m) r of is =
+    let e : record m { phase = settled m.phase } ≡ r = cc in
+    subst (λ (x : UpdateMark). x.slot < 2) e (mark_slot bytes m of)
 slot_read bytes (Err fault) r of is =
     absurd (let bad : (let x : Result UpdateMark StartFault = Err (BadMark 2048) in x ≡ Ok r) =
     is in cc)
@@ -415,46 +429,42 @@ pub idle_read_of : (size : ℕ) (r : Read) (image : Image)
     → r.mark.phase ≡ marks.Idle
 idle_read_of size r image reads none =
     ⊎_elim (λ idle. idle)
-    (λ update. ⊎_elim {C = r.mark.phase ≡ marks.Idle} installs stages update)
+    (λ update. absurd (by_phase r.mark.phase update r.tables reads.tables none))
     (known_phase image r.mark reads.mark)
   where
     left : ℕ
     left = count_at (kept r).a + count_at (kept r).b
 
-    installs : r.mark.phase ≡ marks.Installing → r.mark.phase ≡ marks.Idle
-    installs is =
-        let two = tables_two size r.geometry r.mark.slot (other_slot r.mark.slot) image r.tables
-        (subst (λ (p : MarkPhase). tables_in size r.geometry ((phase_at p).tables r.mark.slot)
-        image ≡ Ok r.tables)
-        is reads.tables) in
-        let there : phase_by r.mark left
+    by_phase : (p : MarkPhase)
+        → (p ≡ marks.Installing) ⊎ (p ≡ marks.Staged) ⊎ (p ≡ marks.Merging)
+        → (ts : List Table)
+        → tables_in size r.geometry ((phase_at p).tables r.mark.slot) image ≡ Ok ts
+        → phase_by (record { phase = p; slot = r.mark.slot }) left
+        (entries_on image ((phase_at p).plan r.mark.slot ts r.scanned))
+        ≡ phases.Idle
+        → ⊥
+    by_phase marks.Idle (inl e) ts read is = cc
+    by_phase marks.Idle (inr (inl e)) ts read is = cc
+    by_phase marks.Idle (inr (inr e)) ts read is = cc
+    by_phase marks.Installing e ts read is =
+        let two = tables_two size r.geometry r.mark.slot (other_slot r.mark.slot) image ts read in
+        let there : phase_by (record { phase = marks.Installing; slot = r.mark.slot }) left
         (entries_on image (installing.plan r.mark.slot (two.0 ∷ two.1 ∷ []) r.scanned))
         ≡ phases.Idle =
         subst
         (λ (ts : List Table).
-        phase_by r.mark left (entries_on image (installing.plan r.mark.slot ts r.scanned))
+        phase_by (record { phase = marks.Installing; slot = r.mark.slot }) left
+        (entries_on image (installing.plan r.mark.slot ts r.scanned))
         ≡ phases.Idle)
-        two.2
-        (subst
-        (λ (p : MarkPhase).
-        phase_by r.mark left
-        (entries_on image ((phase_at p).plan r.mark.slot r.tables r.scanned))
-        ≡ phases.Idle)
-        is none) in
-        absurd cc
-
-    stages : r.mark.phase ≡ marks.Staged → r.mark.phase ≡ marks.Idle
-    stages is =
-        let unplanned_is : unplanned r.mark.phase r.mark.slot left ≡ phases.Idle =
-        subst
-        (λ (p : MarkPhase).
-        phase_by r.mark left
-        (entries_on image ((phase_at p).plan r.mark.slot r.tables r.scanned))
-        ≡ phases.Idle)
-        is none in
-        let there : unplanned marks.Staged r.mark.slot left ≡ phases.Idle =
-        subst (λ (p : MarkPhase). unplanned p r.mark.slot left ≡ phases.Idle) is unplanned_is in
-        absurd cc
+        two.2 is in
+        cc
+    by_phase marks.Staged e ts read is =
+        let no : phases.Staged r.mark.slot left ≡ phases.Idle = is in cc
+    by_phase marks.Merging e ts read is =
+        let no : phases.Merging r.mark.slot left ≡ phases.Idle = is in cc
+    by_phase marks.Completed (inl e) ts read is = cc
+    by_phase marks.Completed (inr (inl e)) ts read is = cc
+    by_phase marks.Completed (inr (inr e)) ts read is = cc
 
 pub tables_first : (size : ℕ) (g : Geometry) (slot : ℕ) (slots : List ℕ) (image : Image)
     (ts : List Table)
@@ -568,7 +578,7 @@ are_there marks.Staged slot (t ∷ u ∷ ts) ss below long = (
   some_both 1 slot (other_slot slot == 1) ss t u ts (omega arith) below,
 )
 are_there marks.Merging slot (t ∷ ts) ss below long =
-    (some_first 0 slot [] false ss t ts, some_first 1 slot [] false ss t ts)
+    (some_first 0 slot [] (slot == 0) ss t ts, some_first 1 slot [] (slot == 1) ss t ts)
 are_there marks.Completed slot (t ∷ ts) ss below long =
     (some_first 0 slot [] false ss t ts, some_first 1 slot [] false ss t ts)
 

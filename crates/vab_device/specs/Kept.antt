@@ -165,9 +165,11 @@ reads_both marks.Completed = false
 abbrev pub has_slot : MarkPhase → (own slot : ℕ) → Bool
 has_slot phase own slot = if has_both phase then true else own == slot
 
--- the phases that a device may be in
+-- The phases that a device may be in: where all stores are merged it has no update any more.
 abbrev pub IsPhase : MarkPhase → Type 0
-IsPhase phase = (phase ≡ marks.Idle) ⊎ (phase ≡ marks.Installing) ⊎ (phase ≡ marks.Staged)
+IsPhase phase =
+    (phase ≡ marks.Idle) ⊎ (phase ≡ marks.Installing) ⊎ (phase ≡ marks.Staged)
+    ⊎ (phase ≡ marks.Merging)
 
 abbrev pub kind_of : MarkPhase → ℕ → PhaseKind
 kind_of marks.Idle slot = kinds.Idle

@@ -17,6 +17,7 @@ use Rattle.vab_layout.specs.Layout.{layout_of}
 use Rattle.vab_layout.specs.Slots.{other_slot, own_parts, is_updated}
 use Rattle.vab_partitions.specs.Rules.{bad_part}
 use Rattle.vab_partitions.specs.TargetRules.{bad_target_of}
+use Rattle.vab_partitions.specs.MergingRules.{bad_merging_of}
 use Rattle.vab_partitions.specs.Twins.{are_twins, are_devices}
 use Rattle.vab_device.specs.declared.fault.StartFault.{StartFault}
 use Rattle.vab_device.specs.declared.fault.StartFault.TheVariants.{BadState, BadTable}
@@ -25,7 +26,8 @@ use Rattle.vab_device.specs.declared.device.PartImage.{PartImage}
 use Rattle.vab_device.specs.declared.device.PartImage.TheVariants.{Kept, Declared, Written}
 use Rattle.vab_device.specs.Checks.{Check, check, names_none}
 use Rattle.vab_device.specs.Kept.{sectors_of}
-use Rattle.vab_device.specs.Stores.{Wanted, wanted_of, first_named, Scanned, exceptions_of}
+use Rattle.vab_device.specs.Stores.{Wanted, wanted_of, or_fewer, first_named, Scanned}
+use Rattle.vab_device.specs.Stores.{exceptions_of}
 
 -- No field sees more than it may depend on. A slot is that of the update mark.
 pub record Phase : Type 0 where
@@ -55,9 +57,12 @@ abbrev pub own_check : ℕ → Table → Check
 own_check slot t = names_none (bad_part slot [] (own_parts slot (layout_of t).parts))
 
 -- of the first table, where there is one
+abbrev pub of_first_table : {A : Type 0} → A → (Table → A) → List Table → A
+of_first_table none f [] = none
+of_first_table none f (t ∷ ts) = f t
+
 abbrev pub of_first : ℕ → (Table → List Check) → List Table → List Check
-of_first slot f [] = check false (BadTable slot) ∷ []
-of_first slot f (t ∷ ts) = f t
+of_first slot f = of_first_table (check false (BadTable slot) ∷ []) f
 
 -- the slot of the mark is current, and works
 abbrev pub slot_checks : ℕ → Control → List Check
@@ -184,18 +189,43 @@ staged = record installing {
   plan = λ slot ts scanned. None;
 }
 
--- ---- the phases that there are
+-- ---- the stores of an update are merged
 
-abbrev pub is_known : MarkPhase → Bool
-is_known marks.Idle = true
-is_known marks.Installing = true
-is_known marks.Staged = true
-is_known marks.Merging = false
-is_known marks.Completed = false
+-- the slot's partitions and stores keep their rules, with no source beside them
+abbrev pub merging_check : ℕ → Table → Check
+merging_check slot t = names_none (bad_merging_of slot (layout_of t).parts)
+
+-- each partition of the slot is kept or written
+abbrev pub slot_ready : ℕ → List Table → List Scanned → Bool
+slot_ready slot ts scanned =
+    of_first_table true (λ t. are_ready (plan_of slot (layout_of t) scanned)) ts
+
+abbrev pub merging_checks : ℕ → Control → List Table → List Scanned → List Check
+merging_checks slot c ts scanned =
+    check (c.current == slot) (BadState 1)
+    ∷ check (is_good (info_at c slot)) (BadState 2)
+    ∷ check (slot_ready slot ts scanned) (BadState 3)
+    ∷ []
+
+-- The slot of the mark, the target of the update, alone has images, and they are read through the
+-- stores that are merged. A store may have fewer exceptions than its status says.
+abbrev pub merging : Phase
+merging = record idle {
+  through = λ slot k. slot == k;
+  reads_statuses = true;
+  part_checks = λ slot. of_first slot (λ t. merging_check slot t ∷ []);
+  state_checks = merging_checks;
+  stores = λ slot ts statuses.
+      of_first_table []
+      (λ t. map (λ (s : PartStatus). or_fewer (wanted_of slot (layout_of t) s)) statuses)
+      ts;
+}
+
+-- ---- the phases that there are
 
 abbrev pub phase_at : MarkPhase → Phase
 phase_at marks.Idle = idle
 phase_at marks.Installing = installing
 phase_at marks.Staged = staged
-phase_at marks.Merging = idle
+phase_at marks.Merging = merging
 phase_at marks.Completed = idle

@@ -6,6 +6,8 @@ use Rattle.vab_disk.specs.Calls.{IsBetween, SameBut}
 use Rattle.vab_bootctl.specs.declared.slots.Control.{Control}
 use Rattle.vab_bootctl.specs.declared.sector.ControlFault.{ControlFault}
 use Rattle.vab_bootctl.specs.Control.{control_of}
+use Rattle.vab_marks.specs.declared.mark.MarkPhase.{MarkPhase}
+use Rattle.vab_marks.specs.declared.mark.MarkPhase.TheVariants as marks
 use Rattle.vab_marks.specs.declared.mark.UpdateMark.{UpdateMark}
 use Rattle.vab_marks.specs.declared.sector.MarkFault.{MarkFault}
 use Rattle.vab_marks.specs.declared.status.PartStatus.{PartStatus}
@@ -33,7 +35,7 @@ use Rattle.vab_device.specs.Checks.{unless, first_fault, passing, ◌>>=◌}
 use Rattle.vab_device.specs.Kept.{parts_of, limits_of, copies_end, super_bytes, lies_in, has_slot}
 use Rattle.vab_device.specs.Mounted.{Mounted, mounted_on, images_on, sectors_read, entries_on}
 use Rattle.vab_device.specs.Mounted.{written_sectors}
-use Rattle.vab_device.specs.Phases.{Phase, phase_at, is_known, plan_of}
+use Rattle.vab_device.specs.Phases.{Phase, phase_at, plan_of, of_first_table}
 use Rattle.vab_device.specs.Stores.{Wanted, Scanned, scans_in}
 
 -- What the sectors say that the phase reads. The images are left where they stand. Of boot control
@@ -48,8 +50,16 @@ pub record Read : Type 0 where
 
 -- ---- the parts of a disk
 
+-- where all stores are merged there is no update any more
+abbrev pub settled : MarkPhase → MarkPhase
+settled marks.Idle = marks.Idle
+settled marks.Installing = marks.Installing
+settled marks.Staged = marks.Staged
+settled marks.Merging = marks.Merging
+settled marks.Completed = marks.Idle
+
 abbrev pub mark_read : Result UpdateMark MarkFault → Result UpdateMark StartFault
-mark_read (Ok m) = unless (is_known m.phase) (BadMark 2048) (Ok m)
+mark_read (Ok m) = Ok (record m { phase = settled m.phase })
 mark_read (Err fault) = Err (BadMark 2048)
 
 -- the update mark, in sector 2048
@@ -175,11 +185,7 @@ parts_for slot true through scanned (Some t) = Some (parts_by slot through scann
 abbrev pub read_table : ℕ → Read → Option Table
 read_table slot r = table_for slot ((phase_at r.mark.phase).tables r.mark.slot) r.tables
 
--- the table whose blocks and groups are the device's
-abbrev pub of_first_table : {A : Type 0} → A → (Table → A) → List Table → A
-of_first_table none f [] = none
-of_first_table none f (t ∷ ts) = f t
-
+-- The blocks and the groups of the device are those of the first table.
 abbrev pub kept : Read → Device
 kept r = record {
   geometry = r.geometry;

@@ -1,6 +1,6 @@
 -- The stores that statuses name, and what is read of them.
-use Rattle.std.specs.Prelude.{ℕ, ◌+◌, ◌==◌, if◌then◌else◌, List, [], ◌∷◌, length}
-use Rattle.std.specs.Prelude.{slice_index_or, Option, Some, None, Result, Ok, Err}
+use Rattle.std.specs.Prelude.{ℕ, ◌+◌, ◌==◌, nat_le, Bool, true, false, if◌then◌else◌, List, []}
+use Rattle.std.specs.Prelude.{◌∷◌, length, slice_index_or, Option, Some, None, Result, Ok, Err}
 use Rattle.std.specs.Str.{bytes_eq}
 use Rattle.vab_disk.specs.Disk.{Image}
 use Rattle.vab_names.specs.Names.{store_of}
@@ -18,12 +18,14 @@ use Rattle.vab_device.specs.Checks.{unless, ◌>>=◌}
 use Rattle.vab_device.specs.Kept.{sectors_of}
 
 -- A store that a status names: the partition's whole name, its blocks and those of its store, each
--- as its first sector, and how many exceptions the status says.
+-- as its first sector, how many exceptions the status says, and whether there may be fewer: while
+-- a store is merged, exceptions leave its list.
 pub record Wanted : Type 0 where
   pub name : List ℕ
   pub base : List ℕ
   pub store : List ℕ
   pub count : ℕ
+  pub fewer : Bool
 
 -- the exceptions of the store of a partition
 pub record Scanned : Type 0 where
@@ -47,6 +49,7 @@ wanted_by first s (Some p) (Some store) = Ok (record {
   base = sectors_of first p.blocks;
   store = sectors_of first store.blocks;
   count = s.count;
+  fewer = false;
 })
 
 -- the store of the slot's partition of that name, or the fault that there is none
@@ -56,12 +59,22 @@ wanted_of slot l s =
     (first_named s.name (own_parts slot l.parts))
     (first_named (store_of s.name) l.parts)
 
+-- the same, of which there may be fewer exceptions
+abbrev pub or_fewer : Result Wanted StartFault → Result Wanted StartFault
+or_fewer (Ok w) = Ok (record w { fewer = true })
+or_fewer (Err fault) = Err fault
+
 -- ---- what is read of them
 
--- a list of exceptions as long as the status says
+-- so many exceptions are as many as the status says, or no more where there may be fewer
+abbrev pub is_long : (fewer : Bool) → (count n : ℕ) → Bool
+is_long fewer count n = if fewer then nat_le n count else n == count
+
+-- a list of exceptions as long as that
 abbrev pub scan_read : Wanted → Result (List Exception) StoreFault → Result Scanned StartFault
 scan_read w (Ok es) =
-    unless (length es == w.count) (BadStore w.name) (Ok (record { name = w.name; exceptions = es }))
+    unless (is_long w.fewer w.count (length es)) (BadStore w.name)
+    (Ok (record { name = w.name; exceptions = es }))
 scan_read w (Err fault) = Err (BadStore w.name)
 
 unfoldable pub scan_at : Wanted → Image → Result Scanned StartFault

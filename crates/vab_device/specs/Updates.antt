@@ -1,6 +1,7 @@
 -- What the commands of an update make of a device: its begin, the edits of the target's table, the
--- image of a partition, the end of its installation, and its cancelling.
-use Rattle.std.specs.Prelude.{ℕ, ◌+◌, ◌*◌, ◌/◌, ◌==◌, Bool, true, false, not, ◌&&◌, nat_lt, nat_le}
+-- image of a partition, the end of its installation, its cancelling, and its merge.
+use Rattle.std.specs.Prelude.{ℕ, zero, suc, ◌+◌, ◌-◌, ◌*◌, ◌/◌, ◌==◌, Bool, true, false, not, ◌&&◌}
+use Rattle.std.specs.Prelude.{nat_lt, nat_le}
 use Rattle.std.specs.Prelude.{if◌then◌else◌, List, [], ◌∷◌, length, map, take, Option, Some, None}
 use Rattle.std.specs.Prelude.{option_map, is_some, Result, Ok, Err}
 use Rattle.std.specs.List.{filter, flat_map, range_with_len}
@@ -8,6 +9,7 @@ use Rattle.std.specs.Str.{bytes_eq}
 use Rattle.std.specs.Ordering.{is_lt, nat_cmp}
 use Rattle.std.specs.Cmp.Lexicographic.{slice_cmp}
 use Rattle.vab_bytes.specs.Number.{field}
+use Rattle.vab_bootctl.specs.Boot.{info_at}
 use Rattle.vab_names.specs.Names.{is_full, base_of, store_of}
 use Rattle.vab_space.specs.Space.{need_of}
 use Rattle.vab_store.specs.Writing.{block_of}
@@ -28,6 +30,7 @@ use Rattle.vab_model.specs.declared.state.Phase.TheVariants.{Idle, Installing, S
 use Rattle.vab_model.specs.declared.state.State.{State}
 use Rattle.vab_model.specs.declared.command.Refusal.{Refusal}
 use Rattle.vab_model.specs.declared.command.Refusal.TheVariants as refusals
+use Rattle.vab_model.specs.declared.command.Reply.{Reply}
 use Rattle.vab_model.specs.declared.command.Reply.TheVariants as replies
 use Rattle.vab_model.specs.Commands.{Command, SetActive, Boot, Mark, Print, Digest, Begin, Create}
 use Rattle.vab_model.specs.Commands.{Resize, Delete, Snapshot, Flash, Finish, Cancel, BeginMerge}
@@ -369,6 +372,58 @@ finish_effect m (Installing source plan) =
 finish_effect m (Staged source left) = refuses refusals.NotInstalling
 finish_effect m (Merging target left) = refuses refusals.NotInstalling
 
+-- ---- a merge that begins
+
+-- The images of the source are given up, and so many exceptions of the target's stores are left to
+-- merge.
+abbrev pub merging_from : Mounted → (source left : ℕ) → Mounted
+merging_from m source left = record {
+  state = record (without_images m.state source) { phase = Merging (other_slot source) left };
+  places = with_layout m.places source None;
+}
+
+abbrev pub begin_merge_effect : Mounted → Phase → Effect Mounted
+begin_merge_effect m Idle = refuses refusals.NotStaged
+begin_merge_effect m (Installing source plan) = refuses refusals.NotStaged
+begin_merge_effect m (Staged source left) =
+    if m.state.control.current == source
+    then refuses refusals.NotRunningTarget
+    else if (info_at m.state.control (other_slot source)).successful
+    then does replies.Done (merging_from m source left)
+    else refuses refusals.NotSuccessful
+begin_merge_effect m (Merging target left) = refuses refusals.NotStaged
+
+-- ---- its turns
+
+-- an exception less is left
+abbrev pub merged_to : Mounted → (target left : ℕ) → Mounted
+merged_to m target left = in_state m (record m.state { phase = Merging target left })
+
+-- none was left: there is no update any more
+abbrev pub merge_ended : Mounted → Mounted
+merge_ended m = in_state m (record m.state { phase = Idle })
+
+-- The devices after each of so many turns, where so many exceptions are left: fewer only where
+-- there is no update any more.
+unfoldable pub turns : (blocks : ℕ) → Mounted → (target left : ℕ) → List Mounted
+turns zero m target left = []
+turns (suc n) m target zero = merge_ended m ∷ []
+turns (suc n) m target (suc left) = merged_to m target left ∷ turns n m target left
+
+-- how many are left after so many turns, or that the update is merged
+abbrev pub merge_reply : (blocks left : ℕ) → Reply
+merge_reply blocks left =
+    if nat_le blocks left then replies.Left (left - blocks) else replies.Merged
+
+abbrev pub merge_effect : Mounted → (blocks : ℕ) → Phase → Effect Mounted
+merge_effect m blocks Idle = refuses refusals.NotMerging
+merge_effect m blocks (Installing source plan) = refuses refusals.NotMerging
+merge_effect m blocks (Staged source left) = refuses refusals.NotMerging
+merge_effect m blocks (Merging target left) = record {
+  reply = merge_reply blocks left;
+  later = turns blocks m target left;
+}
+
 -- ---- the table of effects
 
 -- What a command makes of a device, where these bytes are staged: each command on an update has a
@@ -387,5 +442,5 @@ effect_on m staged Mark = effect_map (in_state m) (effect m.state Mark)
 effect_on m staged (Print name) = effect_map (in_state m) (effect m.state (Print name))
 effect_on m staged (Digest name) = effect_map (in_state m) (effect m.state (Digest name))
 effect_on m staged Finish = finish_effect m m.state.phase
-effect_on m staged BeginMerge = effect_map (in_state m) (effect m.state BeginMerge)
-effect_on m staged (Merge blocks) = effect_map (in_state m) (effect m.state (Merge blocks))
+effect_on m staged BeginMerge = begin_merge_effect m m.state.phase
+effect_on m staged (Merge blocks) = merge_effect m blocks m.state.phase

@@ -10,23 +10,28 @@ use vab_gate::DiskFault;
 pub enum StartFault {
     /// So many sectors are needed, and there are fewer.
     TooSmall(u64, u64),
-    /// This sector is no update mark, or no status of a partition.
+    /// Sector 2048 is no update mark of any phase; or, while an update is installed, ready or being
+    /// merged, this sector is no status of a partition, or one of a partition that has one before.
     BadMark(u64),
     /// Sector 4 is no boot control.
     BadControl(ControlFault),
     /// Neither copy of the geometry passes, or the copies of the tables pass the end of `super`.
     BadGeometry,
     /// Neither copy of this slot's table is a table's text, or its block device doesn't lie in
-    /// `super` behind the copies, or the target's block device or groups aren't the source's.
+    /// `super` behind the copies, or the target's block device or groups aren't the source's. The
+    /// table of the slot that isn't the mark's is read while an update is installed or ready.
     BadTable(usize),
     /// The first partition, in the order of the table, that breaks a rule of a slot's own
-    /// partitions or of an update's target.
+    /// partitions, of an update's target or of a slot whose stores are merged.
     BadPartition(Name36),
     /// A status has this name, and there is no such partition with a store, or the store holds no
-    /// list of exceptions as long as the status says.
+    /// list of exceptions as long as the status says. While the store is merged the list may
+    /// be shorter.
     BadStore(Name36),
-    /// 1: the current slot has no images. 2: the slot with images has priority 0 or isn't
-    /// successful.
+    /// 1: the current slot has no images, which can't be while an update is ready. 2: the mark's
+    /// slot has priority 0 or isn't successful, or an update is ready and its target is current and
+    /// has priority 0. 3: an update is ready or being merged, and a partition that it writes has no
+    /// status.
     BadState(u8),
     /// Memory was refused.
     NoMemory,

@@ -35,7 +35,7 @@ use Rattle.vab_model.specs.Effects.{takes_memory, may_want, unless_refused}
 use Rattle.vab_device.specs.declared.device.Part.{Part}
 use Rattle.vab_device.specs.declared.device.Device.{Device}
 use Rattle.vab_device.specs.Does.{LeavesStep, effect_of, KeepsSource, Does}
-use Rattle.vab_device.proofs.DoesLaws.{does_nothing, step_follows}
+use Rattle.vab_device.proofs.DoesLaws.{does_nothing, follows_kept, step_follows}
 use Rattle.vab_device.specs.Kept.{lies_in, IsDevice}
 use Rattle.vab_device.specs.Mounted.{Mounted, entry_on, mounted_on}
 use Rattle.vab_device.specs.Phases.{plan_of}
@@ -343,7 +343,7 @@ module _ {D : Type 0} (g : Ghosts D) (d : Device) (edit : Edit) (staged : Option
     fails_edit fault rose = record {
       refused = false;
       kept = tt;
-      source = tt;
+      follows = tt;
       represents = λ t. tt;
       after = λ t. tt;
       reply = λ t. tt;
@@ -376,8 +376,10 @@ module _ {D : Type 0} (g : Ghosts D) (d : Device) (edit : Edit) (staged : Option
           (carried_over d.plan plan)
           (ap (λ (x : Option (List Part)). carried_over x plan) p.tables.is_planned
           ∙ ap (map (carried p.tables.old_plan)) p.given.is_plan);
-      source =
-          target_keeps d (other_slot d.mark.slot) u (carried_over d.plan plan);
+      follows =
+          follows_kept d (command_by edit)
+          (with_target d (other_slot d.mark.slot) u (carried_over d.plan plan))
+          (target_keeps d (other_slot d.mark.slot) u (carried_over d.plan plan));
       represents = λ t.
           subst (λ (x : Device). Represents x (g.size old) (g.seen new))
           (sym (device_is t (g.seen new) (elsewhere t)))

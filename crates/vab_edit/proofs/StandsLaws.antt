@@ -35,7 +35,9 @@ pub installing_phase : (m : MarkPhase) → IsPhase m → is_installing m ≡ tru
 installing_phase m (inl is) t =
     absurd (let bad : false ≡ true = sym (ap is_installing is) ∙ t in cc)
 installing_phase m (inr (inl is)) t = is
-installing_phase m (inr (inr is)) t =
+installing_phase m (inr (inr (inl is))) t =
+    absurd (let bad : false ≡ true = sym (ap is_installing is) ∙ t in cc)
+installing_phase m (inr (inr (inr is))) t =
     absurd (let bad : false ≡ true = sym (ap is_installing is) ∙ t in cc)
 
 -- where partitions are planned, an update is installed

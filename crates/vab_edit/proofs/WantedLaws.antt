@@ -1,5 +1,6 @@
 -- The stores that statuses name are the same after an edit.
 use Rattle.std.proofs.Common.{◌≡◌, ◌∙◌, inl, inr, ℕ, List, [], ◌∷◌, Result, Ok, Err}
+use Rattle.std.proofs.Common.{false}
 use Rattle.std.proofs.Common.{refl, sym, ap, subst, length, eqb}
 use Rattle.std.specs.Prelude.{Option, Some, None, map}
 use Rattle.std.specs.Str.{bytes_eq}
@@ -18,7 +19,8 @@ use Rattle.vab_device.specs.declared.fault.StartFault.{StartFault}
 use Rattle.vab_device.specs.declared.fault.StartFault.TheVariants.{BadStore}
 use Rattle.vab_device.specs.Checks.{◌>>=◌}
 use Rattle.vab_device.specs.Kept.{sectors_of}
-use Rattle.vab_device.specs.Stores.{Wanted, Scanned, first_named, wanted_by, wanted_of, scan_read}
+use Rattle.vab_device.specs.Stores.{Wanted, Scanned, first_named, wanted_by, wanted_of, is_long}
+use Rattle.vab_device.specs.Stores.{scan_read}
 use Rattle.vab_device.specs.Stores.{scan_at, scans_in, exceptions_of}
 use Rattle.vab_device.proofs.CheckLaws.{bound}
 use Rattle.vab_edit.proofs.NamedLaws.{HasBoth, LeavesBoth, has_still}
@@ -30,7 +32,7 @@ read_name : (w : Wanted) (x : Result (List Exception) StoreFault) (s : Scanned)
 read_name w (Err fault) s is =
     absurd (let bad : (let r : Result Scanned StartFault = Err (BadStore w.name) in r
     ≡ Ok s) = is in cc)
-read_name w (Ok es) s is = elim (cases_Bool (eqb (length es) w.count)) [
+read_name w (Ok es) s is = elim (cases_Bool (is_long w.fewer w.count (length es))) [
   | inl t ↦
       let read : Scanned = record { name = w.name; exceptions = es } in
       let taken : (let r : Result Scanned StartFault = Ok read in r ≡ Ok s) = rw t at is in
@@ -75,6 +77,7 @@ scans_first first st (Some p) (Some q) ws image ss h =
       base = sectors_of first p.blocks;
       store = sectors_of first q.blocks;
       count = st.count;
+      fewer = false;
     } in
     let s = bound (scan_at w image) (λ s. scans_in ws image >>= λ rest. Ok (s ∷ rest)) ss h in
     let rest = bound (scans_in ws image) (λ rest. Ok (s.0 ∷ rest)) ss s.2 in
@@ -146,6 +149,7 @@ want_still slot old new st device leaves b =
       base = sectors_of (first i) (still.part_blocks i);
       store = sectors_of (first i) (still.store_blocks i);
       count = st.count;
+      fewer = false;
     })) in
     left ∙ mid ∙ sym right
 

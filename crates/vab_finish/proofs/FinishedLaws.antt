@@ -37,9 +37,9 @@ use Rattle.vab_device.proofs.SameLaws.{mark_same, control_same, geometry_same, t
 use Rattle.vab_device.proofs.SameLaws.{images_same}
 use Rattle.vab_device.proofs.StoreLaws.{statuses_kept, stores_kept, plan_kept}
 use Rattle.vab_begin.proofs.BeginLaws.{cleared_seen}
-use Rattle.vab_begin.proofs.CancelLaws.{update_read, kept_with}
-use Rattle.vab_begin.proofs.StayLaws.{mark_there, copy_stays, copies_from}
-use Rattle.vab_begin.proofs.Steps.{marked}
+use Rattle.vab_device.proofs.UpdateLaws.{update_read, kept_with}
+use Rattle.vab_device.proofs.StayLaws.{mark_there, copy_stays, copies_from}
+use Rattle.vab_device.proofs.Steps.{marked}
 use Rattle.vab_finish.specs.Finished.{staged_mark, finished_device}
 use Rattle.vab_finish.proofs.FinalLaws.{count_plain, count_planned}
 

@@ -29,9 +29,9 @@ use Rattle.vab_device.specs.Reading.{AgreeCopies, Dead, tables_in, table_at}
 use Rattle.vab_device.specs.Stores.{Scanned}
 use Rattle.vab_device.specs.Updates.{source_bytes, finished, final_image}
 use Rattle.vab_begin.proofs.BegunLaws.{device_same}
-use Rattle.vab_begin.proofs.CancelLaws.{update_read, kept_with}
-use Rattle.vab_begin.proofs.StayLaws.{two_of}
-use Rattle.vab_begin.proofs.Steps.{marked, IsStep}
+use Rattle.vab_device.proofs.UpdateLaws.{update_read, kept_with}
+use Rattle.vab_device.proofs.StayLaws.{two_of}
+use Rattle.vab_device.proofs.Steps.{marked, IsStep}
 use Rattle.vab_finish.specs.Finished.{staged_mark, finished_device}
 use Rattle.vab_finish.specs.Ready.{MayFinish}
 use Rattle.vab_finish.proofs.FinalLaws.{source_named, final_all}

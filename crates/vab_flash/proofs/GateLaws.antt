@@ -143,6 +143,7 @@ module _
     base = sectors_of at part.blocks;
     store = sectors_of at store.blocks;
     count = length es;
+    fewer = false;
   }) new ≡ Ok one
   unfolding scan_at
   scan_one =
@@ -152,6 +153,7 @@ module _
         base = sectors_of at part.blocks;
         store = sectors_of at store.blocks;
         count = length es;
+        fewer = false;
       })) scan
       ∙ rw enough refl
 
@@ -160,6 +162,7 @@ module _
     base = sectors_of at part.blocks;
     store = sectors_of at store.blocks;
     count = length es;
+    fewer = false;
   })
   wanted_one = (λ k. wanted_by at status (part_is k) (found k))
 

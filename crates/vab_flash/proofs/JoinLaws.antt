@@ -19,7 +19,8 @@ use Rattle.vab_layout.specs.Slots.{own_parts}
 use Rattle.vab_device.specs.declared.fault.StartFault.{StartFault}
 use Rattle.vab_device.specs.declared.fault.StartFault.TheVariants.{BadStore}
 use Rattle.vab_device.specs.Checks.{◌>>=◌}
-use Rattle.vab_device.specs.Stores.{Wanted, Scanned, first_named, wanted_by, wanted_of, scan_read}
+use Rattle.vab_device.specs.Stores.{Wanted, Scanned, first_named, wanted_by, wanted_of, is_long}
+use Rattle.vab_device.specs.Stores.{scan_read}
 use Rattle.vab_device.specs.Stores.{scan_at, scans_in, exceptions_of}
 use Rattle.vab_device.proofs.CheckLaws.{bound}
 
@@ -178,7 +179,7 @@ new_found name (x ∷ xs) behind s is none =
 taken_name : (w : Wanted) (x : Result (List Exception) StoreFault) (s : Scanned)
     → scan_read w x ≡ Ok s
     → s.name ≡ w.name
-taken_name w (Ok es) s is = elim (cases_Bool (length es == w.count)) [
+taken_name w (Ok es) s is = elim (cases_Bool (is_long w.fewer w.count (length es))) [
   | inl enough ↦
       let same : (let r : Result Scanned StartFault = Ok
       (record { name = w.name; exceptions = es }) in r ≡ Ok s) =

@@ -24,7 +24,7 @@ use Rattle.vab_device.specs.declared.device.Device.{Device}
 use Rattle.vab_device.specs.declared.fault.StartFault.TheVariants.{BadState}
 use Rattle.vab_device.specs.Checks.{first_fault, check}
 use Rattle.vab_device.specs.Kept.{IsDevice, has_both, has_slot}
-use Rattle.vab_device.proofs.DoesLaws.{step_follows}
+use Rattle.vab_device.proofs.DoesLaws.{follows_kept, step_follows}
 use Rattle.vab_device.specs.Does.{LeavesStep}
 use Rattle.vab_device.specs.Mounted.{Mounted, mounted_on}
 use Rattle.vab_device.specs.Phases.{slot_checks, staged_checks, target_ready, is_good, may_run}
@@ -34,7 +34,7 @@ use Rattle.vab_device.specs.Updates.{effect_on}
 use Rattle.vab_device.proofs.CheckLaws.{check_kept, first_kept}
 use Rattle.vab_device.proofs.ControlLaws.{read_with, with_boot, KeepsState, represents_gated}
 use Rattle.vab_device.proofs.ControlLaws.{mounted_gated}
-use Rattle.vab_device.proofs.ReadingLaws.{state_single, state_staged, seen_slots}
+use Rattle.vab_device.proofs.ReadingLaws.{single_works, single_again, state_staged, seen_slots}
 use Rattle.vab_device.proofs.ReadingLaws.{control_is_seen}
 use Rattle.vab_device.proofs.ReadingLaws.{device_stands}
 use Rattle.vab_manager.specs.Commands.{DoesCommand}
@@ -166,8 +166,7 @@ module _ (r : Read) (c : Control) (below : r.mark.slot < 2) where
     | inr one ↦
         single_runs r.mark c below one
         (ap (λ (k : Control). first_fault (slot_checks r.mark.slot k)) (sym seen)
-        ∙ sym (state_single r one)
-        ∙ state)
+        ∙ single_works r one state)
   ]
 
   state_of : state_fault r ≡ None
@@ -184,9 +183,9 @@ module _ (r : Read) (c : Control) (below : r.mark.slot < 2) where
         (seen_slots r c ∙ both_kept r.mark c both)
         ∙ staged_pass r.mark.slot c r.tables r.scanned runs was.1
     | inr one ↦
-        state_single (read_with r c) one
-        ∙ ap (λ (k : Control). first_fault (slot_checks r.mark.slot k)) (seen_slots r c)
-        ∙ single_pass r.mark c below one current runs
+        single_again r (read_with r c).control one state
+        (ap (λ (k : Control). first_fault (slot_checks r.mark.slot k)) (seen_slots r c)
+        ∙ single_pass r.mark c below one current runs)
   ]
 
 -- a boot control in which a slot with images is current, and the slots keep their rules
@@ -291,7 +290,7 @@ module _ {D : Type 0} (g : Ghosts D) (d : Device) (staged : Option (List ℕ)) (
       fails_change fault rose = record {
         refused = false;
         kept = tt;
-        source = tt;
+        follows = tt;
         represents = λ t. tt;
         after = λ t. tt;
         reply = λ t. tt;
@@ -311,7 +310,8 @@ module _ {D : Type 0} (g : Ghosts D) (d : Device) (staged : Option (List ℕ)) (
       does_change fits has settled counts = record {
         refused = false;
         kept = kept_device d (g.size old) c kept fits current;
-        source = record { geometry = refl; slot = refl; parts = refl };
+        follows = follows_kept d command (with_boot c d)
+            (record { geometry = refl; slot = refl; parts = refl });
         represents = λ t. represented t (g.seen new) (has t);
         after = λ t.
             mounted t (g.seen new) (has t)

@@ -5,3 +5,4 @@ pub mod PairLaws
 mod RunLaws
 mod RunSteps
 pub mod SlotLaws
+pub mod TurnLaws

@@ -25,7 +25,7 @@ pub may_copy : (base store : List ℕ) (es : List Exception) (size : ℕ)
     → CanMerge base store es size
     → MayCopy base store es
 may_copy base store es size can = record {
-  fits = can.fits;
+  fits = can.may.fits;
   apart = can.base_apart;
   disjoint = can.disjoint;
 }

@@ -4,7 +4,7 @@ use Rattle.vab_exceptions.specs.declared.area.Exception.{Exception}
 use Rattle.vab_linear.specs.Map.{run_of}
 use Rattle.vab_store.proofs.PartLaws.{run_long, run_on_disk, run_apart, runs_disjoint}
 use Rattle.vab_store.specs.View.{Fits}
-use Rattle.vab_merge.specs.Merged.{CanMerge}
+use Rattle.vab_merge.specs.Merged.{MayMerge, CanMerge}
 
 -- a scan's exceptions are those of the partition
 pub fits_base : (base store : List ℕ) (es : List Exception) (blocks : ℕ)
@@ -14,6 +14,18 @@ pub fits_base : (base store : List ℕ) (es : List Exception) (blocks : ℕ)
 fits_base base store es blocks is fits =
     subst (λ (n : ℕ). Fits n store es) (sym (run_long base 0 blocks is)) fits
 
+pub may_merge : (base store : List ℕ) (es : List Exception) (size blocks chunks : ℕ)
+    → base ≡ run_of 0 blocks
+    → store ≡ run_of (8 * blocks) chunks
+    → 8 * (blocks + chunks) ≤ size
+    → Fits blocks store es
+    → MayMerge base store es size
+may_merge base store es size blocks chunks base_is store_is on_disk fits = record {
+  fits = fits_base base store es blocks base_is fits;
+  base_on_disk = run_on_disk base 0 blocks size base_is (omega (arith, on_disk));
+  store_on_disk = run_on_disk store (8 * blocks) chunks size store_is (omega (arith, on_disk));
+}
+
 pub can_merge : (base store : List ℕ) (es : List Exception) (size blocks chunks : ℕ)
     → base ≡ run_of 0 blocks
     → store ≡ run_of (8 * blocks) chunks
@@ -21,9 +33,7 @@ pub can_merge : (base store : List ℕ) (es : List Exception) (size blocks chunk
     → Fits blocks store es
     → CanMerge base store es size
 can_merge base store es size blocks chunks base_is store_is on_disk fits = record {
-  fits = fits_base base store es blocks base_is fits;
-  base_on_disk = run_on_disk base 0 blocks size base_is (omega (arith, on_disk));
-  store_on_disk = run_on_disk store (8 * blocks) chunks size store_is (omega (arith, on_disk));
+  may = may_merge base store es size blocks chunks base_is store_is on_disk fits;
   base_apart = run_apart base 0 blocks base_is;
   store_apart = run_apart store (8 * blocks) chunks store_is;
   disjoint = runs_disjoint base store 0 blocks (8 * blocks) chunks base_is store_is (omega arith);

@@ -54,7 +54,7 @@ pub area_there : (bound : ℕ) (store : List ℕ) (es : List Exception) (first :
     → area_chunk area_entries (first / 256) < length store
 area_there bound store es first fits below = omega (arith, below, fits.room)
 
-may_none : (es : List Exception) (n : ℕ) → MayRun es n 0
+pub may_none : (es : List Exception) (n : ℕ) → MayRun es n 0
 may_none es n = record {
   run = record {
     within = omega arith;
@@ -179,9 +179,9 @@ module _ {D : Type 0} (g : Ghosts D) (base store : List ℕ) (es : List Exceptio
   ready_of old mid t some can scanned touches copied whole =
       let first : ℕ = length es - n in
       let below : first < length es = omega (arith, some, run.within) in
-      let there = area_there (length base) store es first can.fits below in
+      let there = area_there (length base) store es first can.may.fits below in
       let on_disk : area_sector store first + 8 ≤ g.size old =
-      can.store_on_disk (area_chunk area_entries (first / 256)) there in
+      can.may.store_on_disk (area_chunk area_entries (first / 256)) there in
       record {
         can = can;
         scan = scan_of_ok store (length base) (g.seen old) es scanned;

@@ -13,12 +13,15 @@ use Rattle.vab_merge.specs.Cleared.{area_sector, begin_of, sector_entries}
 use Rattle.vab_merge.specs.declared.merge.Ran.{Ran}
 use Rattle.vab_merge.specs.declared.merge.Ran.TheVariants.{Merged, Empty}
 
--- The partition and its store lie on the disk, no block stands twice or in both, and the exceptions
--- keep the rules of the store.
-pub record CanMerge (base store : List ℕ) (es : List Exception) (size : ℕ) : Type 0 where
+-- The partition and its store lie on the disk, and the exceptions keep the rules of the store.
+pub record MayMerge (base store : List ℕ) (es : List Exception) (size : ℕ) : Type 0 where
   pub fits : Fits (length base) store es
   pub base_on_disk : IsOnDisk base size
   pub store_on_disk : IsOnDisk store size
+
+-- so they do, and no block stands twice or in both
+pub record CanMerge (base store : List ℕ) (es : List Exception) (size : ℕ) : Type 0 where
+  pub may : MayMerge base store es size
   pub base_apart : IsApart base
   pub store_apart : IsApart store
   pub disjoint : AreDisjoint base store

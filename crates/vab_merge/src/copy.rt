@@ -23,8 +23,8 @@ pub(crate) fn copy_blocks<D: Disk>(
     requires fits { Fits (length base.now) store.now view.now }
     requires base_on_disk { IsOnDisk base.now (D.size d.old) }
     requires store_on_disk { IsOnDisk store.now (D.size d.old) }
-    requires base_apart { IsApart base.now }
-    requires disjoint { AreDisjoint base.now store.now }
+    requires base_apart { D.is_modelled → IsApart base.now }
+    requires disjoint { D.is_modelled → AreDisjoint base.now store.now }
     requires first { first ≤ length view.now }
     ensures copied { D.is_modelled → OnOk result
         (AreCopied base.now store.now view.now first (length view.now)

@@ -9,8 +9,8 @@ ghost use Rattle.vab_store.specs.Scan.{scan_of};
 ghost use Rattle.vab_merge.specs.Run.{IsRun};
 ghost use Rattle.vab_merge.specs.Copied.{InCopied, AreCopied};
 ghost use Rattle.vab_merge.specs.Cleared.{IsClearing, AreCleared};
-ghost use Rattle.vab_merge.specs.Merged.{CanMerge, WithoutLast, LeavesMerged, IsMergedSector};
-ghost use Rattle.vab_merge.specs.Merged.{IsRan, dropped_by};
+ghost use Rattle.vab_merge.specs.Merged.{MayMerge, CanMerge, WithoutLast, LeavesMerged};
+ghost use Rattle.vab_merge.specs.Merged.{IsMergedSector, IsRan, dropped_by};
 
 use crate::clear::clear_entries;
 use crate::copy::copy_blocks;
@@ -37,7 +37,8 @@ fn copy_run<D: Disk>(
     view: &StoreView,
     first: u64,
 ) -> Result<(), DiskFault>
-    requires can { CanMerge base.now store.now view.now (D.size d.old) }
+    requires may { MayMerge base.now store.now view.now (D.size d.old) }
+    requires can { D.is_modelled → CanMerge base.now store.now view.now (D.size d.old) }
     requires first { first ≤ length view.now }
     ensures copied { D.is_modelled → OnOk result
         (AreCopied base.now store.now view.now first (length view.now)
@@ -74,11 +75,11 @@ fn merge_last<D: Disk>(
     view: &StoreView,
     n: u64,
 ) -> Result<(), DiskFault>
-    requires can { CanMerge base.now store.now view.now (D.size d.old) }
+    requires may { MayMerge base.now store.now view.now (D.size d.old) }
+    requires can { D.is_modelled → CanMerge base.now store.now view.now (D.size d.old) }
     requires some { 0 < n }
     requires run { IsRun area_entries view.now n }
     ensures merged { D.is_modelled
-        → IsAtRest D.Disk d.old
         → scan_of store.now (length base.now) (D.seen d.old) ≡ Ok view.now
         → OnOk result (WithoutLast base.now store.now view.now n (D.seen d.old) (D.seen d.new)) }
     ensures rest { D.is_modelled → OnOk result (IsAtRest D.Disk d.new) }
@@ -118,7 +119,8 @@ pub fn run_turn<D: Disk>(
     view: &mut StoreView,
     most: u64,
 ) -> Result<Ran, DiskFault>
-    requires can { CanMerge base.now store.now view.old (D.size d.old) }
+    requires may { MayMerge base.now store.now view.old (D.size d.old) }
+    requires can { D.is_modelled → CanMerge base.now store.now view.old (D.size d.old) }
     requires some { 0 < most }
     ensures ran { IfOk result (IsRan view.old most) }
     ensures kept { IfOk result
@@ -126,7 +128,6 @@ pub fn run_turn<D: Disk>(
     ensures failed { OnErr result (view.new ≡ view.old) }
     // The kept view is the store's scan, and each block reads as before.
     ensures merged { D.is_modelled
-        → IsAtRest D.Disk d.old
         → scan_of store.now (length base.now) (D.seen d.old) ≡ Ok view.old
         → IfOk result (λ ran.
         WithoutLast base.now store.now view.old (dropped_by ran) (D.seen d.old) (D.seen d.new)) }
@@ -161,13 +162,13 @@ pub fn turn<D: Disk>(
     store: &Map,
     view: &mut StoreView,
 ) -> Result<Ran, DiskFault>
-    requires { CanMerge base.now store.now view.old (D.size d.old) }
+    requires may { MayMerge base.now store.now view.old (D.size d.old) }
+    requires can { D.is_modelled → CanMerge base.now store.now view.old (D.size d.old) }
     ensures ran { IfOk result (IsRan view.old 1) }
     ensures kept { IfOk result
         (λ ran. view.new ≡ take (length view.old - dropped_by ran) view.old) }
     ensures failed { OnErr result (view.new ≡ view.old) }
     ensures merged { D.is_modelled
-        → IsAtRest D.Disk d.old
         → scan_of store.now (length base.now) (D.seen d.old) ≡ Ok view.old
         → IfOk result (λ ran.
         WithoutLast base.now store.now view.old (dropped_by ran) (D.seen d.old) (D.seen d.new)) }

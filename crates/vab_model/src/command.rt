@@ -35,7 +35,7 @@ pub enum Command<'a> {
     Cancel,
     /// Begins to merge an update into its target's partitions.
     BeginMerge,
-    /// Merges at most so many blocks.
+    /// Takes so many turns of a merge, fewer only where it ends.
     Merge(u64),
 }
 

@@ -1,38 +1,31 @@
 -- The fault that the words are said to have is what is wrong with them.
-use Rattle.std.proofs.Common.{◌≡◌, ◌≢◌, ℕ, suc, ◌+◌, ◌<◌, ◌≤◌, Bool, true, false, List, [], ◌∷◌, ◌++◌, length, get_or, map, take, drop, Option, Some, None, Result, Ok, Err, refl, sym, ap, subst, ◌∙◌, inl, inr, append_assoc, append-nil, add-one, drop-cons, arith, ltb}
+use Rattle.std.proofs.Common.{◌≡◌, ℕ, suc, ◌+◌, ◌<◌, ◌≤◌, Bool, true, false, List, [], ◌∷◌, ◌++◌, length, get_or, take, drop, Option, Some, None, Result, Ok, Err, refl, sym, ap, subst, ◌∙◌, inl, inr, append_assoc, append-nil, add-one, drop-cons, arith, ltb}
 use Rattle.std.specs.Prelude.{◌⊎◌, All, AllPairs}
 use Rattle.std.specs.Str.{bytes_eq}
 use Rattle.std.specs.List.{position_or_len}
-use Rattle.std.proofs.lemmas.List.{length-map, length-take-le, take-append-drop}
-use Rattle.std.proofs.lemmas.List.Elements.{All-nil, All-cons, All-weaker}
+use Rattle.std.proofs.lemmas.List.{length-take-le, take-append-drop}
+use Rattle.std.proofs.lemmas.List.Elements.{All-nil, All-cons}
 use Rattle.std.proofs.lemmas.List.Quantifiers.{all_pairs_push, position-Some}
 use Rattle.std.proofs.lemmas.List.Sums.{position_or_len_is}
-use Rattle.std.proofs.lemmas.Bool.{cases_Bool, ltb-false, ltb-true, le-ltb, lt-ltb, both_ways, false_from_ne_true, eqb-true}
+use Rattle.std.proofs.lemmas.Bool.{cases_Bool, ltb-false, ltb-true, le-ltb, lt-ltb, both_ways, false_from_ne_true}
 use Rattle.std.proofs.lemmas.Slice.Eq.{bytes_eq-Decides}
 use Rattle.vab_names.specs.Names.{is_base}
 use Rattle.vab_pack.specs.declared.fault.WordFault.{WordFault}
 use Rattle.vab_pack.specs.declared.fault.WordFault.TheVariants as faults
-use Rattle.vab_pack.specs.Asked.{Asked, word_of, IsAsked, Ask}
-use Rattle.vab_pack.specs.Faults.{HasParts, IsFaultOf}
-use Rattle.vab_pack.specs.Words.{◌>>=◌, is_equals, parts_of, first_named, unless_first, judged, asked_by, asked_behind, asked_of}
-use Rattle.vab_pack.proofs.WordLaws.{Apart, parts_found, parts_are, parts_first, asked_found, behind_more}
+use Rattle.vab_pack.specs.Front.{Front, front_of, size_of, store_of}
+use Rattle.vab_pack.specs.Asked.{Asked, Parts, HasParts, IsWord, AreWordsOf, IsAsked, Ask}
+use Rattle.vab_pack.specs.Faults.{IsNew, IsFaultOf}
+use Rattle.vab_pack.specs.Words.{◌>>=◌, or_fault, parts_of, first_named, unless_first, new_name, asked_with, judged, asked_by, asked_behind, asked_of}
+use Rattle.vab_pack.proofs.WordLaws.{Apart, parts_have, have_parts, word_found, asked_read, asked_found, name_found, name_again, length_words, behind_more}
 
 -- ---- the parts of a word
 
-pub parts_have : (word : List ℕ) (a : Asked) → parts_of word ≡ Some a → HasParts word a
-parts_have word a h = let p = parts_found word a h in record { whole = p.0; first = parts_first word a h; path = p.1 }
-
-pub have_parts : (word : List ℕ) (a : Asked) → HasParts word a → parts_of word ≡ Some a
-have_parts word a is =
-    let no : All (λ b. is_equals b ≡ false) a.name = All-weaker (λ (b : ℕ). b ≢ 61) (λ (b : ℕ). is_equals b ≡ false) (λ b ne. false_from_ne_true (is_equals b) (λ t. ne (eqb-true b 61 t))) a.name is.first in
-    ap parts_of is.whole ∙ parts_are a no is.path
-
-no_parts : (word : List ℕ) → ((a : Asked) → ¬ HasParts word a) → parts_of word ≡ None
+no_parts : (word : List ℕ) → ((p : Parts) → ¬ HasParts word p) → parts_of word ≡ None
 no_parts word none = at (parts_of word) refl
   where
-    at : (o : Option Asked) → parts_of word ≡ o → parts_of word ≡ None
+    at : (o : Option Parts) → parts_of word ≡ o → parts_of word ≡ None
     at None e = e
-    at (Some a) e = absurd (none a (parts_have word a e))
+    at (Some p) e = absurd (none p (parts_have word p e))
 
 abbrev err : WordFault → Result (List Asked) WordFault
 err fault = Err fault
@@ -42,53 +35,90 @@ err_by fault = Err fault
 
 -- ---- where it holds, it comes
 
-split_at : (words : List (List ℕ)) (i : ℕ) → i < length words → words ≡ take i words ++ get_or words i [] ∷ drop (i + 1) words
+split_at : (words : List (List ℕ)) (i : ℕ)
+    → i < length words
+    → words ≡ take i words ++ get_or words i [] ∷ drop (i + 1) words
 split_at words i lt =
     let first : drop i words ≡ get_or words i [] ∷ drop (i + 1) words = rw add-one (drop-cons words i [] lt) in
     sym (take-append-drop i words) ∙ ap (λ (l : List (List ℕ)). take i words ++ l) first
 
-count_of : (words : List (List ℕ)) (i : ℕ) (before : List Asked) → i < length words → Ask (take i words) before → length before ≡ i
+count_of : (words : List (List ℕ)) (i : ℕ) (before : List Asked)
+    → i < length words
+    → Ask (take i words) before
+    → length before ≡ i
 count_of words i before lt asks =
-    let mapped : length (map word_of before) ≡ length before = length-map before word_of in
-    sym mapped ∙ sym (ap length asks.spelled) ∙ length-take-le i words (omega (arith, lt))
+    sym (length_words (take i words) before asks.spelled)
+    ∙ length-take-le i words (omega (arith, lt))
 
-comes : (words : List (List ℕ)) (i : ℕ) (fault : WordFault) (before : List Asked) → length words ≤ 32 → i < length words → Ask (take i words) before
-    → asked_by before (get_or words i []) ≡ err_by fault → asked_of words ≡ err fault
+comes : (words : List (List ℕ)) (i : ℕ) (fault : WordFault) (before : List Asked)
+    → length words ≤ 32
+    → i < length words
+    → Ask (take i words) before
+    → asked_by before (get_or words i []) ≡ err_by fault
+    → asked_of words ≡ err fault
 unfolding asked_of asked_behind
 comes words i fault before few inside asks h =
     let no : ltb 32 (length words) ≡ false = le-ltb _ _ few in
     let word : List ℕ = get_or words i [] in
     let rest : List (List ℕ) = drop (i + 1) words in
-    let spelled : words ≡ map word_of before ++ word ∷ rest = split_at words i inside ∙ ap (λ (l : List (List ℕ)). l ++ word ∷ rest) asks.spelled in
-    let there : asked_behind [] words ≡ asked_behind before (word ∷ rest) = ap (asked_behind []) spelled ∙ behind_more [] before (word ∷ rest) asks.each asks.names in
+    let there : asked_behind [] words ≡ asked_behind before (word ∷ rest) =
+    ap (asked_behind []) (split_at words i inside)
+    ∙ behind_more [] before (take i words) (word ∷ rest) asks.spelled asks.each asks.names in
     let stop : asked_behind before (word ∷ rest) ≡ err fault = rw h refl in
     rw no (there ∙ stop)
 
-none_by : (before : List Asked) (word : List ℕ) → parts_of word ≡ None → asked_by before word ≡ err_by (faults.BadWord (length before))
+none_by : (before : List Asked) (word : List ℕ)
+    → parts_of word ≡ None
+    → asked_by before word ≡ err_by (faults.BadWord (length before))
 unfolding asked_by
 none_by before word h = rw h refl
 
-bad_by : (before : List Asked) (word : List ℕ) (a : Asked) → parts_of word ≡ Some a → is_base a.name ≡ false → asked_by before word ≡ err_by (faults.BadName (length before))
-unfolding asked_by
-bad_by before word a h other = rw (h, other) refl
+bad_with : (before : List Asked) (f : Front) (path : List ℕ)
+    → is_base f.name ≡ false
+    → asked_with before f path ≡ err_by (faults.BadName (length before))
+unfolding asked_with new_name
+bad_with before f path other = rw other refl
 
-first_by : (before : List Asked) (word : List ℕ) (a : Asked) (i : ℕ) → parts_of word ≡ Some a → is_base a.name ≡ true → first_named before a.name ≡ Some i
-    → asked_by before word ≡ err_by (faults.Repeated i (length before))
-unfolding asked_by
-first_by before word a i h base first = rw (h, base, first) refl
+first_with : (before : List Asked) (f : Front) (path : List ℕ) (i : ℕ)
+    → is_base f.name ≡ true
+    → first_named before f.name ≡ Some i
+    → asked_with before f path ≡ err_by (faults.Repeated i (length before))
+unfolding asked_with new_name
+first_with before f path i base first = rw (base, first) refl
 
-first_at : (before : List Asked) (name : List ℕ) (i : ℕ) → AllPairs Apart before → i < length before → ((d : Asked) → (get_or before i d).name ≡ name) → first_named before name ≡ Some i
+size_with : (before : List Asked) (f : Front) (path : List ℕ)
+    → new_name before f.name ≡ Ok f.name
+    → size_of f ≡ None
+    → asked_with before f path ≡ err_by (faults.BadSize (length before))
+unfolding asked_with
+size_with before f path name none = rw (name, none) refl
+
+store_with : (before : List Asked) (f : Front) (path : List ℕ) (size : Option ℕ)
+    → new_name before f.name ≡ Ok f.name
+    → size_of f ≡ Some size
+    → store_of f ≡ None
+    → asked_with before f path ≡ err_by (faults.BadStore (length before))
+unfolding asked_with
+store_with before f path size name some none = rw (name, some, none) refl
+
+first_at : (before : List Asked) (name : List ℕ) (i : ℕ)
+    → AllPairs Apart before
+    → i < length before
+    → ((d : Asked) → (get_or before i d).name ≡ name)
+    → first_named before name ≡ Some i
 unfolding first_named
 first_at before name i apart inside named =
     let p : Asked → Bool = λ a. bytes_eq a.name name in
-    let d : Asked = record { name = []; path = [] } in
+    let d : Asked = record { name = []; size = None; store = 0; path = [] } in
     let at : position_or_len p before ≡ i = position_or_len_is p before i d (omega (arith, inside))
     (λ k lt. false_from_ne_true _ (λ t. apart k i d lt inside ((bytes_eq-Decides (get_or before k d).name name).0 t ∙ sym (named d))))
     (λ lt. (bytes_eq-Decides (get_or before i d).name name).1 (named d)) in
     let some : ltb i (length before) ≡ true = lt-ltb _ _ inside in
     rw (at, some) refl
 
-pub fault_comes : (words : List (List ℕ)) (fault : WordFault) → IsFaultOf words fault → asked_of words ≡ err fault
+pub fault_comes : (words : List (List ℕ)) (fault : WordFault)
+    → IsFaultOf words fault
+    → asked_of words ≡ err fault
 unfolding asked_of
 fault_comes words (faults.TooMany count) (is, many) =
     let yes : ltb 32 (length words) ≡ true = lt-ltb _ _ (omega (arith, is, many)) in
@@ -96,37 +126,77 @@ fault_comes words (faults.TooMany count) (is, many) =
 fault_comes words (faults.BadWord i) is =
     let long = count_of words i is.before is.inside is.asks in
     let word : List ℕ = get_or words i [] in
-    comes words i (faults.BadWord i) is.before is.few is.inside is.asks (none_by is.before word (no_parts word is.bad) ∙ ap (λ (k : ℕ). err_by (faults.BadWord k)) long)
+    comes words i (faults.BadWord i) is.before is.few is.inside is.asks
+    (none_by is.before word (no_parts word is.bad) ∙ ap (λ (k : ℕ). err_by (faults.BadWord k)) long)
 fault_comes words (faults.BadName i) is =
     let long = count_of words i is.before is.inside is.asks in
     let word : List ℕ = get_or words i [] in
-    let bad = is.bad in
-    let no : is_base bad.0.name ≡ false = false_from_ne_true (is_base bad.0.name) (λ t. bad.2 t) in
-    comes words i (faults.BadName i) is.before is.few is.inside is.asks (bad_by is.before word bad.0 (have_parts word bad.0 bad.1) no ∙ ap (λ (k : ℕ). err_by (faults.BadName k)) long)
+    let (f, path, at, bad) = is.bad in
+    let no : is_base f.name ≡ false = false_from_ne_true (is_base f.name) (λ t. bad t) in
+    comes words i (faults.BadName i) is.before is.few is.inside is.asks
+    (asked_read is.before word f path at
+    ∙ bad_with is.before f path no
+    ∙ ap (λ (k : ℕ). err_by (faults.BadName k)) long)
 fault_comes words (faults.Repeated i j) is =
     let long = count_of words j is.before is.inside is.asks in
     let word : List ℕ = get_or words j [] in
-    let bad = is.bad in
-    let first = first_at is.before bad.0.name i is.asks.names bad.3 bad.4 in
-    comes words j (faults.Repeated i j) is.before is.few is.inside is.asks (first_by is.before word bad.0 i (have_parts word bad.0 bad.1) bad.2 first ∙ ap (λ (k : ℕ). err_by (faults.Repeated i k)) long)
+    let (f, path, at, bad) = is.bad in
+    let first = first_at is.before f.name i is.asks.names bad.1.0 bad.1.1 in
+    comes words j (faults.Repeated i j) is.before is.few is.inside is.asks
+    (asked_read is.before word f path at
+    ∙ first_with is.before f path i bad.0 first
+    ∙ ap (λ (k : ℕ). err_by (faults.Repeated i k)) long)
+fault_comes words (faults.BadSize i) is =
+    let long = count_of words i is.before is.inside is.asks in
+    let word : List ℕ = get_or words i [] in
+    let (f, path, at, bad) = is.bad in
+    comes words i (faults.BadSize i) is.before is.few is.inside is.asks
+    (asked_read is.before word f path at
+    ∙ size_with is.before f path (name_again is.before f.name bad.0.base bad.0.first) bad.1
+    ∙ ap (λ (k : ℕ). err_by (faults.BadSize k)) long)
+fault_comes words (faults.BadStore i) is =
+    let long = count_of words i is.before is.inside is.asks in
+    let word : List ℕ = get_or words i [] in
+    let (f, path, at, bad) = is.bad in
+    comes words i (faults.BadStore i) is.before is.few is.inside is.asks
+    (asked_read is.before word f path at
+    ∙ store_with is.before f path bad.1.0 (name_again is.before f.name bad.0.base bad.0.first) bad.1.1 bad.2
+    ∙ ap (λ (k : ℕ). err_by (faults.BadStore k)) long)
 fault_comes words faults.NoMemory is = absurd is
 
 -- ---- and it comes only there
 
-bind_err : {A B : Type 0} (r : Result A WordFault) (f : A → Result B WordFault) (e : WordFault) → (r >>= f) ≡ Err e → (r ≡ Err e) ⊎ ((x : A) × (r ≡ Ok x) × (f x ≡ Err e))
+bind_err : {A B : Type 0} (r : Result A WordFault) (f : A → Result B WordFault) (e : WordFault)
+    → (r >>= f) ≡ Err e
+    → (r ≡ Err e) ⊎ ((x : A) × (r ≡ Ok x) × (f x ≡ Err e))
 bind_err (Ok x) f e h = inr (x, refl, h)
 bind_err (Err d) f e h = inl (let same : d ≡ e = cc in ap (λ (x : WordFault). Err x) same)
+
+or_err : {A : Type 0} (fault e : WordFault) (o : Option A)
+    → or_fault fault o ≡ Err e
+    → (o ≡ None) × (fault ≡ e)
+or_err fault e None h = (refl, cc)
+or_err fault e (Some x) h = absurd cc
+
+or_some : {A : Type 0} (fault : WordFault) (o : Option A) (x : A)
+    → or_fault fault o ≡ Ok x
+    → o ≡ Some x
+or_some fault None x h = absurd cc
+or_some fault (Some y) x h = let same : y ≡ x = cc in ap (λ z. Some z) same
 
 pub record Stop (asked : List Asked) (words : List (List ℕ)) (fault : WordFault) : Type 0 where
   pub at : ℕ
   pub more : List Asked
   pub inside : at < length words
-  pub spelled : take at words ≡ map word_of more
+  pub spelled : AreWordsOf (take at words) more
   pub fits : All IsAsked more
   pub apart : AllPairs Apart (asked ++ more)
   pub fault_is : asked_by (asked ++ more) (get_or words at []) ≡ err_by fault
 
-stops : (asked : List Asked) (words : List (List ℕ)) (fault : WordFault) → asked_behind asked words ≡ err fault → AllPairs Apart asked → Stop asked words fault
+stops : (asked : List Asked) (words : List (List ℕ)) (fault : WordFault)
+    → asked_behind asked words ≡ err fault
+    → AllPairs Apart asked
+    → Stop asked words fault
 unfolding asked_behind
 stops asked [] fault h apart = absurd cc
 stops asked (word ∷ words) fault h apart = elim (bind_err (asked_by asked word) (λ (a : Asked). asked_behind (asked ++ a ∷ []) words) fault h) [
@@ -135,7 +205,7 @@ stops asked (word ∷ words) fault h apart = elim (bind_err (asked_by asked word
         at = 0;
         more = [];
         inside = omega arith;
-        spelled = refl;
+        spelled = tt;
         fits = All-nil IsAsked;
         apart = subst (AllPairs Apart) (sym (append-nil asked)) apart;
         fault_is = ap (λ (l : List Asked). asked_by l word) (append-nil asked) ∙ e;
@@ -148,7 +218,7 @@ stops asked (word ∷ words) fault h apart = elim (bind_err (asked_by asked word
         at = suc s.at;
         more = x.0 ∷ s.more;
         inside = omega (arith, s.inside);
-        spelled = ap (λ (w : List ℕ). w ∷ take s.at words) f.whole ∙ ap (λ (l : List (List ℕ)). word_of x.0 ∷ l) s.spelled;
+        spelled = (f.is_word, s.spelled);
         fits = All-cons IsAsked x.0 s.more f.fits s.fits;
         apart = subst (AllPairs Apart) regrouped s.apart;
         fault_is = ap (λ (l : List Asked). asked_by l (get_or words s.at [])) (sym regrouped) ∙ s.fault_is;
@@ -162,30 +232,90 @@ module _ (words : List (List ℕ)) (i : ℕ) (before : List Asked) (few : length
   abbrev word : List ℕ
   word = get_or words i []
 
-  repeated : (a : Asked) (o : Option ℕ) → parts_of word ≡ Some a → is_base a.name ≡ true → first_named before a.name ≡ o → unless_first (length before) a o ≡ err_by fault → IsFaultOf words fault
+  repeated : (f : Front) (path : List ℕ) (o : Option ℕ)
+      → IsWord word f path
+      → is_base f.name ≡ true
+      → first_named before f.name ≡ o
+      → unless_first (length before) f.name o ≡ Err fault
+      → IsFaultOf words fault
   unfolding first_named
-  repeated a None parts base first h = absurd cc
-  repeated a (Some k) parts base first h =
-      let same : faults.Repeated k i ≡ fault = ap (λ (n : ℕ). faults.Repeated k n) (sym long) ∙ (let e : err_by (faults.Repeated k (length before)) ≡ err_by fault = h in cc) in
-      let at : (d : Asked) → (k < length before) × (bytes_eq (get_or before k d).name a.name ≡ true) = λ d. let q = position-Some (λ b. bytes_eq b.name a.name) before k d first in (q.0, q.1) in
+  repeated f path None is base first h = absurd cc
+  repeated f path (Some k) is base first h =
+      let same : faults.Repeated k i ≡ fault = ap (λ (n : ℕ). faults.Repeated k n) (sym long) ∙ (let e : err_by (faults.Repeated k (length before)) ≡ err_by fault = again k h in cc) in
+      let at : (d : Asked) → (k < length before) × (bytes_eq (get_or before k d).name f.name ≡ true) = λ d. let q = position-Some (λ b. bytes_eq b.name f.name) before k d first in (q.0, q.1) in
       subst (IsFaultOf words) same (record {
         few = few;
         inside = inside;
         before = before;
         asks = asks;
-        bad = (a, parts_have word a parts, base, (at a).0, λ d. (bytes_eq-Decides (get_or before k d).name a.name).0 (at d).1);
+        bad = (f, path, is, (base, ((at (record { name = []; size = None; store = 0; path = [] })).0, λ d. (bytes_eq-Decides (get_or before k d).name f.name).0 (at d).1)));
       })
+    where
+      again : (k : ℕ)
+          → unless_first (length before) f.name (Some k) ≡ Err fault
+          → err_by (faults.Repeated k (length before)) ≡ err_by fault
+      again k h = let same : faults.Repeated k (length before) ≡ fault = cc in ap err_by same
 
-  named : (a : Asked) → parts_of word ≡ Some a → judged before (Some a) ≡ err_by fault → IsFaultOf words fault
-  named a parts h = elim (cases_Bool (is_base a.name)) [
-    | inl base ↦ repeated a (first_named before a.name) parts base refl (let e : judged before (Some a) ≡ unless_first (length before) a (first_named before a.name) = rw base refl in sym e ∙ h)
+  named : (f : Front) (path : List ℕ)
+      → IsWord word f path
+      → new_name before f.name ≡ Err fault
+      → IsFaultOf words fault
+  unfolding new_name
+  named f path is h = elim (cases_Bool (is_base f.name)) [
+    | inl base ↦ repeated f path (first_named before f.name) is base refl (let e : new_name before f.name ≡ unless_first (length before) f.name (first_named before f.name) = rw base refl in sym e ∙ h)
     | inr other ↦
-        let e : err_by (faults.BadName (length before)) ≡ err_by fault = (let f : judged before (Some a) ≡ err_by (faults.BadName (length before)) = rw other refl in sym f ∙ h) in
+        let r : Result (List ℕ) WordFault = Err (faults.BadName (length before)) in
+        let e : r ≡ Err fault = (let g : new_name before f.name ≡ r = rw other refl in sym g ∙ h) in
         let same : faults.BadName i ≡ fault = ap faults.BadName (sym long) ∙ cc in
-        subst (IsFaultOf words) same (record { few = few; inside = inside; before = before; asks = asks; bad = (a, parts_have word a parts, λ t. both_ways (is_base a.name) other t) })
+        subst (IsFaultOf words) same (record { few = few; inside = inside; before = before; asks = asks; bad = (f, path, is, λ t. both_ways (is_base f.name) other t) })
   ]
 
-  of_parts : (o : Option Asked) → parts_of word ≡ o → judged before o ≡ err_by fault → IsFaultOf words fault
+  sized : (f : Front) (path : List ℕ)
+      → IsWord word f path
+      → IsNew before f.name
+      → or_fault (faults.BadSize (length before)) (size_of f) ≡ Err fault
+      → IsFaultOf words fault
+  sized f path is new h =
+      let e = or_err (faults.BadSize (length before)) fault (size_of f) h in
+      let same : faults.BadSize i ≡ fault = ap faults.BadSize (sym long) ∙ e.1 in
+      subst (IsFaultOf words) same (record { few = few; inside = inside; before = before; asks = asks; bad = (f, path, is, (new, e.0)) })
+
+  stored : (f : Front) (path : List ℕ) (size : Option ℕ)
+      → IsWord word f path
+      → IsNew before f.name
+      → size_of f ≡ Some size
+      → or_fault (faults.BadStore (length before)) (store_of f) ≡ Err fault
+      → IsFaultOf words fault
+  stored f path size is new some h =
+      let e = or_err (faults.BadStore (length before)) fault (store_of f) h in
+      let same : faults.BadStore i ≡ fault = ap faults.BadStore (sym long) ∙ e.1 in
+      subst (IsFaultOf words) same (record { few = few; inside = inside; before = before; asks = asks; bad = (f, path, is, (new, (size, some), e.0)) })
+
+  of_front : (f : Front) (path : List ℕ)
+      → IsWord word f path
+      → asked_with before f path ≡ err_by fault
+      → IsFaultOf words fault
+  unfolding asked_with
+  of_front f path is h = elim (bind_err (new_name before f.name) _ fault h) [
+    | inl e ↦ named f path is e
+    | inr n ↦
+        let found = name_found before f.name n.0 n.1 in
+        let new : IsNew before f.name = record { base = found.base; first = found.differs } in
+        elim (bind_err (or_fault (faults.BadSize (length before)) (size_of f)) _ fault n.2) [
+          | inl e ↦ sized f path is new e
+          | inr s ↦
+              let some : size_of f ≡ Some s.0 = or_some (faults.BadSize (length before)) (size_of f) s.0 s.1 in
+              elim (bind_err (or_fault (faults.BadStore (length before)) (store_of f)) _ fault s.2) [
+                | inl e ↦ stored f path s.0 is new some e
+                | inr t ↦ absurd (let e : Ok (record { name = n.0; size = s.0; store = t.0; path = path }) ≡ err_by fault = t.2 in cc)
+              ]
+        ]
+  ]
+
+  of_parts : (o : Option Parts)
+      → parts_of word ≡ o
+      → judged before o ≡ err_by fault
+      → IsFaultOf words fault
   of_parts None parts h =
       let e : err_by (faults.BadWord (length before)) ≡ err_by fault = h in
       let same : faults.BadWord i ≡ fault = ap faults.BadWord (sym long) ∙ cc in
@@ -194,9 +324,10 @@ module _ (words : List (List ℕ)) (i : ℕ) (before : List Asked) (few : length
         inside = inside;
         before = before;
         asks = asks;
-        bad = λ a is. let both : None ≡ Some a = sym parts ∙ have_parts word a is in absurd cc;
+        bad = λ p is. let both : None ≡ Some p = sym parts ∙ have_parts word p is in absurd cc;
       })
-  of_parts (Some a) parts h = named a parts h
+  of_parts (Some p) parts h =
+      of_front (front_of p.front) p.path (word_found word p parts) h
 
   pub is_fault : asked_by before word ≡ err_by fault → IsFaultOf words fault
   unfolding asked_by

@@ -1,3 +1,5 @@
 pub mod FaultLaws
+pub mod FrontLaws
 mod Loop
+pub mod Numbers
 pub mod WordLaws

@@ -13,10 +13,17 @@ pub enum WordFault {
     TooMany(usize),
     /// The word has no `=`, or nothing behind its first one.
     BadWord(usize),
-    /// What stands before the word's first `=` is not 1 to 30 bytes of `A-Z a-z 0-9 _ .`.
+    /// What stands before the word's first `=` and first `:` is not 1 to 30 bytes of
+    /// `A-Z a-z 0-9 _ .`.
     BadName(usize),
     /// The first word and the second have one name.
     Repeated(usize, usize),
+    /// The size is not 1 to 20 decimal digits, with K, M or G behind them or not, or above 2^40;
+    /// nor is it left out before a store.
+    BadSize(usize),
+    /// The store is not 1 to 20 decimal digits, with K, M or G behind them or not, or not below
+    /// 2^64.
+    BadStore(usize),
     /// Memory was refused.
     NoMemory,
 }

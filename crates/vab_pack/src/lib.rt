@@ -1,8 +1,10 @@
 //! Words that ask for a set of images, and the images that are made for them.
 #![tactic(auto)]
 
+mod amount;
 mod entry;
 mod fault;
+mod front;
 mod image;
 mod words;
 

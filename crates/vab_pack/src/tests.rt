@@ -1,9 +1,11 @@
 //! What words ask for, and the images that are made.
 
+ghost use Rattle.std.specs.Prelude.{All};
+ghost use Rattle.vab_pack.specs.Asked.{IsAsked};
+
 use super::*;
 use std::alloc::Global;
 use std::test::*;
-use vab_bytes::Name36;
 
 fn words_of(alloc: Global, texts: &[&str]) -> Result<Vec<String>, Fail> {
     let mut words = Vec::new(alloc);
@@ -53,6 +55,66 @@ fn words_ask_for_images_in_their_order(rt: HostRuntime) -> Result<(), Fail> {
 }
 
 #[test]
+fn sizes_and_stores_stand_behind_the_name(rt: HostRuntime) -> Result<(), Fail> {
+    let cases = [
+        ("x=f", None, 0),
+        ("x:4096=f", Some(4096), 0),
+        ("x:0=f:1", Some(0), 0),
+        ("x:1K=f", Some(1024), 0),
+        ("x:3M:64K=f", Some(3_145_728), 65536),
+        ("x::5=f", None, 5),
+        ("x:2G:0=f", Some(2_147_483_648), 0),
+        ("x:1024G=f", Some(1_099_511_627_776u64), 0),
+        ("x:00000000000000000007=f", Some(7), 0),
+        (
+            "x::18446744073709551615=f",
+            None,
+            18_446_744_073_709_551_615u64,
+        ),
+    ];
+    for (text, size, store) in cases {
+        let words = words_of(rt.alloc(), &[text])?;
+        let entries = parse_words(rt.alloc(), &words).ok().ok_or("an image")?;
+        assert_eq!(rt; entries.len(), 1);
+        for entry in &entries {
+            assert!(rt; entry.name().text() == b"x".as_slice());
+            assert_eq!(rt; entry.size(), size, "of {text}");
+            assert_eq!(rt; entry.store(), store, "of {text}");
+        }
+    }
+    Ok(())
+}
+
+#[test]
+fn bad_sizes_and_stores_are_told(rt: HostRuntime) -> Result<(), Fail> {
+    let cases = [
+        ("x:=f", WordFault::BadSize(0)),
+        ("x:K=f", WordFault::BadSize(0)),
+        ("x:1T=f", WordFault::BadSize(0)),
+        ("x:1k=f", WordFault::BadSize(0)),
+        ("x:+1=f", WordFault::BadSize(0)),
+        ("x:1025G=f", WordFault::BadSize(0)),
+        ("x:000000000000000000001=f", WordFault::BadSize(0)),
+        ("x:q:q=f", WordFault::BadSize(0)),
+        ("x::=f", WordFault::BadStore(0)),
+        ("x:4K:=f", WordFault::BadStore(0)),
+        ("x:1:2:3=f", WordFault::BadStore(0)),
+        ("x::18446744073709551616=f", WordFault::BadStore(0)),
+        ("x::18014398509481984K=f", WordFault::BadStore(0)),
+        (":1=f", WordFault::BadName(0)),
+        ("x:1=", WordFault::BadWord(0)),
+    ];
+    for (text, want) in cases {
+        assert_eq!(rt; fault_of(rt.alloc(), &[text])?, Some(want), "of {text}");
+    }
+    assert_eq!(rt;
+        fault_of(rt.alloc(), &["x=f", "x:q=f"])?,
+        Some(WordFault::Repeated(0, 1))
+    );
+    Ok(())
+}
+
+#[test]
 fn the_first_fault_is_told(rt: HostRuntime) -> Result<(), Fail> {
     let alloc = rt.alloc();
     let cases = [
@@ -76,21 +138,51 @@ fn the_first_fault_is_told(rt: HostRuntime) -> Result<(), Fail> {
     Ok(())
 }
 
+fn sevens(alloc: Global, len: usize) -> Result<Vec<u8>, Fail> {
+    let mut bytes = Vec::new(alloc);
+    for _ in 0..len {
+        bytes.push(7)?;
+    }
+    Ok(bytes)
+}
+
+// The sizes and stores of the entries' images with so many bytes, where they hold them.
+fn spaces_of(
+    alloc: Global,
+    entries: &[Entry<'_>],
+    len: usize,
+) -> Result<Vec<Option<(u64, u64)>>, Fail>
+    requires { All IsAsked entries.now }
+{
+    let mut spaces = Vec::new(alloc);
+    for entry in entries {
+        let bytes = sevens(alloc, len)?;
+        if bytes.len() > 1 << 40 {
+            return Err("a short file")?;
+        }
+        spaces.push(set_image(entry, bytes).map(|image| (image.size, image.store)))?;
+    }
+    Ok(spaces)
+}
+
 #[test]
 fn an_image_takes_whole_blocks(rt: HostRuntime) -> Result<(), Fail> {
-    let name = Name36::parse(b"x").ok().ok_or("a name")?;
-    for (len, size) in [(0usize, 0u64), (1, 4096), (4096, 4096), (4097, 8192)] {
-        let mut bytes = Vec::new(rt.alloc());
-        for _ in 0..len {
-            bytes.push(7)?;
-        }
-        let short = bytes.len() <= 1 << 40;
-        assert!(rt; short);
-        let image = set_image(&name, bytes);
-        assert_eq!(rt; image.size, size);
-        assert_eq!(rt; image.store, 0);
-        assert_eq!(rt; image.bytes.len(), len);
-        assert!(rt; image.name == name);
+    let cases = [
+        ("x=f", 0usize, Some((0u64, 0u64))),
+        ("x=f", 1, Some((4096, 0))),
+        ("x=f", 4096, Some((4096, 0))),
+        ("x=f", 4097, Some((8192, 0))),
+        ("x:5K:9=f", 1, Some((8192, 9))),
+        ("x:5=f", 6, Some((4096, 0))),
+        ("x:4096=f", 4097, None),
+        ("x:0=f", 1, None),
+        ("x:0=f", 0, Some((0, 0))),
+    ];
+    for (text, len, want) in cases {
+        let words = words_of(rt.alloc(), &[text])?;
+        let entries = parse_words(rt.alloc(), &words).ok().ok_or("an image")?;
+        let spaces = spaces_of(rt.alloc(), &entries, len)?;
+        assert_eq!(rt; spaces.as_slice(), [want].as_slice(), "of {text}");
     }
     Ok(())
 }

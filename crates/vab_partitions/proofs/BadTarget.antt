@@ -1,8 +1,9 @@
--- No partition of a target is bad exactly where the target keeps its rules, and the bad one is the
--- first.
-use Rattle.std.proofs.Common.{◌≡◌, ℕ, true, false, List, [], ◌∷◌, ◌++◌, Some}
+-- No partition is bad exactly where all of them keep their rules together, and the bad one is the
+-- first; so it is of a target, and of a slot that is merged.
+use Rattle.std.proofs.Common.{◌≡◌, ℕ, Bool, true, false, List, [], ◌∷◌, ◌++◌, Some}
 use Rattle.std.proofs.Common.{None, refl, sym, ◌∙◌, ap, subst, inl, inr, arith, append_assoc}
 use Rattle.std.specs.Prelude.{◌↔◌}
+use Rattle.std.specs.Bool.{Decides}
 use Rattle.std.proofs.lemmas.Bool.{cases_Bool}
 use Rattle.std.proofs.lemmas.Bool.Decides.{not_from_Decides}
 use Rattle.std.proofs.lemmas.List.{append-nil}
@@ -10,150 +11,188 @@ use Rattle.std.proofs.lemmas.List.Elements.{All-nil}
 use Rattle.std.proofs.lemmas.Option.{same_Some}
 use Rattle.vab_layout.specs.declared.layout.Part.{Part}
 use Rattle.vab_layout.specs.Slots.{IsTarget}
-use Rattle.vab_partitions.specs.Target.{target_parts, KeepsAlone, KeepTogether, IsFirstBad}
-use Rattle.vab_partitions.specs.TargetRules.{pass_together, bad_behind, bad_target_of}
+use Rattle.vab_partitions.specs.Together.{target_parts, Together, FirstBad}
+use Rattle.vab_partitions.specs.Together.{pass_together, bad_behind}
+use Rattle.vab_partitions.specs.Target.{KeepsAlone, IsFirstBad}
+use Rattle.vab_partitions.specs.Merging.{IsMerging, KeepsMerging}
+use Rattle.vab_partitions.specs.TargetRules.{passes_alone, bad_target_of}
+use Rattle.vab_partitions.specs.MergingRules.{passes_merging, bad_merging_of}
 use Rattle.vab_partitions.proofs.TargetLaws.{front_keeps, together_target, target_together}
-use Rattle.vab_partitions.proofs.TargetTests.{together_decides}
+use Rattle.vab_partitions.proofs.TargetLaws.{together_merging, merging_together}
+use Rattle.vab_partitions.proofs.TargetTests.{together_decides, alone, merging_alone}
 
 -- ---- behind those before it
 
-next_passes : (slot : ℕ) (source target earlier : List Part) (p : Part) (ps : List Part)
-    → pass_together slot source target (earlier ++ p ∷ []) ≡ true
-    → bad_behind slot source target earlier (p ∷ ps)
-    ≡ bad_behind slot source target (earlier ++ p ∷ []) ps
+next_passes : (slot : ℕ) (passes : Part → Bool) (earlier : List Part) (p : Part) (ps : List Part)
+    → pass_together slot passes (earlier ++ p ∷ []) ≡ true
+    → bad_behind slot passes earlier (p ∷ ps) ≡ bad_behind slot passes (earlier ++ p ∷ []) ps
 unfolding bad_behind
-next_passes slot source target earlier p ps t = rw t refl
+next_passes slot passes earlier p ps t = rw t refl
 
-next_bad : (slot : ℕ) (source target earlier : List Part) (p : Part) (ps : List Part)
-    → pass_together slot source target (earlier ++ p ∷ []) ≡ false
-    → bad_behind slot source target earlier (p ∷ ps) ≡ Some p.name
+next_bad : (slot : ℕ) (passes : Part → Bool) (earlier : List Part) (p : Part) (ps : List Part)
+    → pass_together slot passes (earlier ++ p ∷ []) ≡ false
+    → bad_behind slot passes earlier (p ∷ ps) ≡ Some p.name
 unfolding bad_behind
-next_bad slot source target earlier p ps f = rw f refl
+next_bad slot passes earlier p ps f = rw f refl
 
-none_behind : (slot : ℕ) (source target earlier : List Part)
-    → bad_behind slot source target earlier [] ≡ None
+none_behind : (slot : ℕ) (passes : Part → Bool) (earlier : List Part)
+    → bad_behind slot passes earlier [] ≡ None
 unfolding bad_behind
-none_behind slot source target earlier = refl
+none_behind slot passes earlier = refl
 
 joined : (earlier : List Part) (p : Part) (ps : List Part)
     → earlier ++ p ∷ ps ≡ (earlier ++ p ∷ []) ++ ps
 joined earlier p ps = sym (append_assoc earlier (p ∷ []) ps)
 
-keep_then_none : (slot : ℕ) (source target earlier rest : List Part)
-    → KeepTogether slot source target (earlier ++ rest)
-    → bad_behind slot source target earlier rest ≡ None
-keep_then_none slot source target earlier [] k = none_behind slot source target earlier
-keep_then_none slot source target earlier (p ∷ ps) k =
-    let more : List Part = earlier ++ p ∷ [] in
-    let all = subst (KeepTogether slot source target) (joined earlier p ps) k in
-    let front = front_keeps slot source target more ps all in
-    next_passes slot source target earlier p ps ((together_decides slot source target more).1 front)
-    ∙ keep_then_none slot source target more ps all
-
-none_then_keep : (slot : ℕ) (source target earlier rest : List Part)
-    → KeepTogether slot source target earlier
-    → bad_behind slot source target earlier rest ≡ None
-    → KeepTogether slot source target (earlier ++ rest)
-none_then_keep slot source target earlier [] k none =
-    subst (KeepTogether slot source target) (sym (append-nil earlier)) k
-none_then_keep slot source target earlier (p ∷ ps) k none =
-    let more : List Part = earlier ++ p ∷ [] in
-    elim (cases_Bool (pass_together slot source target more)) [
-      | inl t ↦
-          subst (KeepTogether slot source target) (sym (joined earlier p ps))
-          (none_then_keep slot source target more ps
-          ((together_decides slot source target more).0 t)
-          (sym (next_passes slot source target earlier p ps t) ∙ none))
-      | inr f ↦
-          absurd (let wrong : Some p.name ≡ None =
-          sym (next_bad slot source target earlier p ps f) ∙ none in cc)
-    ]
-
 -- the first that is bad behind these
-record IsBad (slot : ℕ) (source target earlier rest : List Part) (name : List ℕ) : Type 0 where
-  before : List Part
-  bad : Part
-  behind : List Part
-  split : rest ≡ before ++ bad ∷ behind
-  named : bad.name ≡ name
-  kept : KeepTogether slot source target (earlier ++ before)
-  broken : KeepTogether slot source target ((earlier ++ before) ++ bad ∷ []) → ⊥
+record IsBad (slot : ℕ) (Keeps : Part → Type 0) (earlier rest : List Part) (name : List ℕ) : Type 0
+  where
+    before : List Part
+    bad : Part
+    behind : List Part
+    split : rest ≡ before ++ bad ∷ behind
+    named : bad.name ≡ name
+    kept : Together slot Keeps (earlier ++ before)
+    broken : Together slot Keeps ((earlier ++ before) ++ bad ∷ []) → ⊥
 
-some_then_bad : (slot : ℕ) (source target earlier rest : List Part) (name : List ℕ)
-    → KeepTogether slot source target earlier
-    → bad_behind slot source target earlier rest ≡ Some name
-    → IsBad slot source target earlier rest name
-some_then_bad slot source target earlier [] name k some =
-    absurd (let wrong : None ≡ Some name =
-    sym (none_behind slot source target earlier) ∙ some in cc)
-some_then_bad slot source target earlier (p ∷ ps) name k some =
-    let more : List Part = earlier ++ p ∷ [] in
-    elim (cases_Bool (pass_together slot source target more)) [
-      | inl t ↦
-          let b = some_then_bad slot source target more ps name
-          ((together_decides slot source target more).0 t)
-          (sym (next_passes slot source target earlier p ps t) ∙ some) in
-          let same : more ++ b.before ≡ earlier ++ p ∷ b.before =
-          sym (joined earlier p b.before) in
-          record {
-            before = p ∷ b.before;
-            bad = b.bad;
-            behind = b.behind;
-            split = ap (λ (l : List Part). p ∷ l) b.split;
-            named = b.named;
-            kept = subst (KeepTogether slot source target) same b.kept;
-            broken = λ all. b.broken
-                (subst (λ (l : List Part). KeepTogether slot source target (l ++ b.bad ∷ []))
-                (sym same) all);
-          }
-      | inr f ↦ record {
-        before = [];
-        bad = p;
-        behind = ps;
-        split = refl;
-        named = same_Some p.name name
-            (sym (next_bad slot source target earlier p ps f) ∙ some);
-        kept = subst (KeepTogether slot source target) (sym (append-nil earlier)) k;
-        broken = λ all.
-            not_from_Decides (pass_together slot source target more)
-            (together_decides slot source target more) f
-            (subst (λ (l : List Part). KeepTogether slot source target (l ++ p ∷ []))
-            (append-nil earlier) all);
-      }
-    ]
-
-bad_then_some : (slot : ℕ) (source target earlier before : List Part) (bad : Part)
-    → (behind : List Part)
-    → KeepTogether slot source target (earlier ++ before)
-    → (KeepTogether slot source target ((earlier ++ before) ++ bad ∷ []) → ⊥)
-    → bad_behind slot source target earlier (before ++ bad ∷ behind) ≡ Some bad.name
-bad_then_some slot source target earlier [] bad behind kept broken =
-    let more : List Part = earlier ++ bad ∷ [] in
-    elim (cases_Bool (pass_together slot source target more)) [
-      | inl t ↦ absurd (broken
-          (subst (λ (l : List Part). KeepTogether slot source target (l ++ bad ∷ []))
-          (sym (append-nil earlier)) ((together_decides slot source target more).0 t)))
-      | inr f ↦ next_bad slot source target earlier bad behind f
-    ]
-bad_then_some slot source target earlier (p ∷ ps) bad behind kept broken =
-    let more : List Part = earlier ++ p ∷ [] in
-    let all = subst (KeepTogether slot source target) (joined earlier p ps) kept in
-    let front = front_keeps slot source target more ps all in
-    next_passes slot source target earlier p (ps ++ bad ∷ behind)
-    ((together_decides slot source target more).1 front)
-    ∙ bad_then_some slot source target more ps bad behind all
-    (λ k. broken
-    (subst (λ (l : List Part). KeepTogether slot source target (l ++ bad ∷ []))
-    (sym (joined earlier p ps)) k))
-
--- ---- the target
-
-none_keep : (slot : ℕ) (source target : List Part) → KeepTogether slot source target []
-none_keep slot source target = record {
-  each = All-nil (KeepsAlone slot source target);
+none_keep : (slot : ℕ) (Keeps : Part → Type 0) → Together slot Keeps []
+none_keep slot Keeps = record {
+  each = All-nil Keeps;
   few = omega arith;
   once = λ i j d lt below. absurd (omega arith);
 }
+
+module _ (slot : ℕ) (passes : Part → Bool) (Keeps : Part → Type 0)
+    (each : (p : Part) → Decides (passes p) (Keeps p)) where
+  decides : (these : List Part)
+      → Decides (pass_together slot passes these) (Together slot Keeps these)
+  decides these = together_decides slot passes Keeps each these
+
+  keep_then_none : (earlier rest : List Part)
+      → Together slot Keeps (earlier ++ rest)
+      → bad_behind slot passes earlier rest ≡ None
+  keep_then_none earlier [] k = none_behind slot passes earlier
+  keep_then_none earlier (p ∷ ps) k =
+      let more : List Part = earlier ++ p ∷ [] in
+      let all = subst (Together slot Keeps) (joined earlier p ps) k in
+      let front = front_keeps slot Keeps more ps all in
+      next_passes slot passes earlier p ps ((decides more).1 front) ∙ keep_then_none more ps all
+
+  none_then_keep : (earlier rest : List Part)
+      → Together slot Keeps earlier
+      → bad_behind slot passes earlier rest ≡ None
+      → Together slot Keeps (earlier ++ rest)
+  none_then_keep earlier [] k none =
+      subst (Together slot Keeps) (sym (append-nil earlier)) k
+  none_then_keep earlier (p ∷ ps) k none =
+      let more : List Part = earlier ++ p ∷ [] in
+      elim (cases_Bool (pass_together slot passes more)) [
+        | inl t ↦
+            subst (Together slot Keeps) (sym (joined earlier p ps))
+            (none_then_keep more ps ((decides more).0 t)
+            (sym (next_passes slot passes earlier p ps t) ∙ none))
+        | inr f ↦
+            absurd (let wrong : Some p.name ≡ None =
+            sym (next_bad slot passes earlier p ps f) ∙ none in cc)
+      ]
+
+  some_then_bad : (earlier rest : List Part) (name : List ℕ)
+      → Together slot Keeps earlier
+      → bad_behind slot passes earlier rest ≡ Some name
+      → IsBad slot Keeps earlier rest name
+  some_then_bad earlier [] name k some =
+      absurd (let wrong : None ≡ Some name = sym (none_behind slot passes earlier) ∙ some in cc)
+  some_then_bad earlier (p ∷ ps) name k some =
+      let more : List Part = earlier ++ p ∷ [] in
+      elim (cases_Bool (pass_together slot passes more)) [
+        | inl t ↦
+            let b = some_then_bad more ps name ((decides more).0 t)
+            (sym (next_passes slot passes earlier p ps t) ∙ some) in
+            let same : more ++ b.before ≡ earlier ++ p ∷ b.before =
+            sym (joined earlier p b.before) in
+            record {
+              before = p ∷ b.before;
+              bad = b.bad;
+              behind = b.behind;
+              split = ap (λ (l : List Part). p ∷ l) b.split;
+              named = b.named;
+              kept = subst (Together slot Keeps) same b.kept;
+              broken = λ all. b.broken
+                  (subst (λ (l : List Part). Together slot Keeps (l ++ b.bad ∷ []))
+                  (sym same) all);
+            }
+        | inr f ↦ record {
+          before = [];
+          bad = p;
+          behind = ps;
+          split = refl;
+          named = same_Some p.name name (sym (next_bad slot passes earlier p ps f) ∙ some);
+          kept = subst (Together slot Keeps) (sym (append-nil earlier)) k;
+          broken = λ all.
+              not_from_Decides (pass_together slot passes more) (decides more) f
+              (subst (λ (l : List Part). Together slot Keeps (l ++ p ∷ []))
+              (append-nil earlier) all);
+        }
+      ]
+
+  bad_then_some : (earlier before : List Part) (bad : Part) (behind : List Part)
+      → Together slot Keeps (earlier ++ before)
+      → (Together slot Keeps ((earlier ++ before) ++ bad ∷ []) → ⊥)
+      → bad_behind slot passes earlier (before ++ bad ∷ behind) ≡ Some bad.name
+  bad_then_some earlier [] bad behind kept broken =
+      let more : List Part = earlier ++ bad ∷ [] in
+      elim (cases_Bool (pass_together slot passes more)) [
+        | inl t ↦ absurd (broken
+            (subst (λ (l : List Part). Together slot Keeps (l ++ bad ∷ []))
+            (sym (append-nil earlier)) ((decides more).0 t)))
+        | inr f ↦ next_bad slot passes earlier bad behind f
+      ]
+  bad_then_some earlier (p ∷ ps) bad behind kept broken =
+      let more : List Part = earlier ++ p ∷ [] in
+      let all = subst (Together slot Keeps) (joined earlier p ps) kept in
+      let front = front_keeps slot Keeps more ps all in
+      next_passes slot passes earlier p (ps ++ bad ∷ behind) ((decides more).1 front)
+      ∙ bad_then_some more ps bad behind all
+      (λ k. broken
+      (subst (λ (l : List Part). Together slot Keeps (l ++ bad ∷ []))
+      (sym (joined earlier p ps)) k))
+
+  -- ---- all of them
+
+  no_bad : (parts : List Part)
+      → bad_behind slot passes [] (target_parts slot parts) ≡ None
+      → Together slot Keeps (target_parts slot parts)
+  no_bad parts none = none_then_keep [] (target_parts slot parts) (none_keep slot Keeps) none
+
+  then_no_bad : (parts : List Part)
+      → Together slot Keeps (target_parts slot parts)
+      → bad_behind slot passes [] (target_parts slot parts) ≡ None
+  then_no_bad parts k = keep_then_none [] (target_parts slot parts) k
+
+  bad_then_first : (parts : List Part) (name : List ℕ)
+      → bad_behind slot passes [] (target_parts slot parts) ≡ Some name
+      → FirstBad slot Keeps parts name
+  bad_then_first parts name some =
+      let b = some_then_bad [] (target_parts slot parts) name (none_keep slot Keeps) some in
+      record {
+        before = b.before;
+        bad = b.bad;
+        behind = b.behind;
+        split = b.split;
+        named = b.named;
+        kept = b.kept;
+        broken = b.broken;
+      }
+
+  first_then_bad : (parts : List Part) (name : List ℕ)
+      → FirstBad slot Keeps parts name
+      → bad_behind slot passes [] (target_parts slot parts) ≡ Some name
+  first_then_bad parts name f =
+      ap (bad_behind slot passes []) f.split
+      ∙ bad_then_some [] f.before f.bad f.behind f.kept f.broken
+      ∙ ap (λ (n : List ℕ). Some n) f.named
+
+-- ---- a target
 
 -- where none is bad, the target keeps its rules
 pub no_bad_target : (slot : ℕ) (source target : List Part)
@@ -162,8 +201,8 @@ pub no_bad_target : (slot : ℕ) (source target : List Part)
 unfolding bad_target_of
 no_bad_target slot source target none =
     together_target slot source target
-    (none_then_keep slot source target [] (target_parts slot target) (none_keep slot source target)
-    none)
+    (no_bad slot (passes_alone slot source target) (KeepsAlone slot source target)
+    (alone slot source target) target none)
 
 -- and where it does, none is bad
 pub target_not_bad : (slot : ℕ) (source target : List Part)
@@ -171,8 +210,8 @@ pub target_not_bad : (slot : ℕ) (source target : List Part)
     → bad_target_of slot source target ≡ None
 unfolding bad_target_of
 target_not_bad slot source target is =
-    keep_then_none slot source target [] (target_parts slot target)
-    (target_together slot source target is)
+    then_no_bad slot (passes_alone slot source target) (KeepsAlone slot source target)
+    (alone slot source target) target (target_together slot source target is)
 
 pub target_is : (slot : ℕ) (source target : List Part)
     → (bad_target_of slot source target ≡ None) ↔ IsTarget slot source target
@@ -184,17 +223,8 @@ pub bad_is_first : (slot : ℕ) (source target : List Part) (name : List ℕ)
     → IsFirstBad slot source target name
 unfolding bad_target_of
 bad_is_first slot source target name some =
-    let b = some_then_bad slot source target [] (target_parts slot target) name
-    (none_keep slot source target) some in
-    record {
-      before = b.before;
-      bad = b.bad;
-      behind = b.behind;
-      split = b.split;
-      named = b.named;
-      kept = b.kept;
-      broken = b.broken;
-    }
+    bad_then_first slot (passes_alone slot source target) (KeepsAlone slot source target)
+    (alone slot source target) target name some
 
 -- and the first is the bad one
 pub first_is_bad : (slot : ℕ) (source target : List Part) (name : List ℕ)
@@ -202,6 +232,35 @@ pub first_is_bad : (slot : ℕ) (source target : List Part) (name : List ℕ)
     → bad_target_of slot source target ≡ Some name
 unfolding bad_target_of
 first_is_bad slot source target name f =
-    ap (bad_behind slot source target []) f.split
-    ∙ bad_then_some slot source target [] f.before f.bad f.behind f.kept f.broken
-    ∙ ap (λ (n : List ℕ). Some n) f.named
+    first_then_bad slot (passes_alone slot source target) (KeepsAlone slot source target)
+    (alone slot source target) target name f
+
+-- ---- a slot that is merged
+
+-- where none is bad, the slot keeps its rules
+pub no_bad_merging : (slot : ℕ) (target : List Part)
+    → bad_merging_of slot target ≡ None
+    → IsMerging slot target
+unfolding bad_merging_of
+no_bad_merging slot target none =
+    together_merging slot target
+    (no_bad slot (passes_merging slot target) (KeepsMerging slot target) (merging_alone slot target)
+    target none)
+
+-- and where it does, none is bad
+pub merging_not_bad : (slot : ℕ) (target : List Part)
+    → IsMerging slot target
+    → bad_merging_of slot target ≡ None
+unfolding bad_merging_of
+merging_not_bad slot target is =
+    then_no_bad slot (passes_merging slot target) (KeepsMerging slot target)
+    (merging_alone slot target) target (merging_together slot target is)
+
+-- the first that is bad is the one that is named
+pub first_bad_merging : (slot : ℕ) (target : List Part) (name : List ℕ)
+    → FirstBad slot (KeepsMerging slot target) target name
+    → bad_merging_of slot target ≡ Some name
+unfolding bad_merging_of
+first_bad_merging slot target name f =
+    first_then_bad slot (passes_merging slot target) (KeepsMerging slot target)
+    (merging_alone slot target) target name f

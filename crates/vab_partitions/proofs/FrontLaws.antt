@@ -1,4 +1,4 @@
--- The steps of a loop over the partitions and stores of a target.
+-- The steps of a loop over the partitions and stores of a slot.
 use Rattle.std.proofs.Common.{◌≡◌, ℕ, ◌+◌, ◌≤◌, ◌<◌, true, false, ◌||◌, List, [], ◌∷◌, ◌++◌, length}
 use Rattle.std.proofs.Common.{get_or, take, drop, refl, sym, ◌∙◌, ap, subst, arith, append_assoc}
 use Rattle.std.proofs.lemmas.Bool.{or_parts}
@@ -8,34 +8,33 @@ use Rattle.std.proofs.lemmas.List.Elements.{filter-append, Contains-append_right
 use Rattle.vab_names.specs.Names.{is_of_slot, is_store}
 use Rattle.vab_layout.specs.declared.layout.Part.{Part}
 use Rattle.vab_layout.specs.Layout.{blocks_of_parts}
-use Rattle.vab_layout.specs.Slots.{own_parts, IsDistinct, IsTarget}
+use Rattle.vab_layout.specs.Slots.{own_parts, IsDistinct}
 use Rattle.vab_partitions.specs.declared.target.Front.{Front}
-use Rattle.vab_partitions.specs.Target.{target_parts, KeepsAlone, KeepTogether, IsFirstBad}
-use Rattle.vab_partitions.specs.Front.{Joins, IsJoined}
+use Rattle.vab_partitions.specs.Together.{target_parts, Together, FirstBad}
+use Rattle.vab_partitions.specs.Front.{IsStart, Joins, IsJoined}
 use Rattle.vab_blocks.specs.Blocks.{is_distinct}
 use Rattle.vab_blocks.proofs.Distinct.{distinct_left}
 use Rattle.vab_partitions.proofs.OwnLaws.{blocks_append}
 use Rattle.vab_partitions.proofs.OwnRules.{with_one}
-use Rattle.vab_partitions.proofs.TargetLaws.{in_target, own_of_target, together_target}
+use Rattle.vab_partitions.proofs.TargetLaws.{in_target, own_of_target}
 
 -- What was seen are the partitions and stores in front of a place, and these keep their rules.
-pub record Stands (slot : ℕ) (source target : List Part) (i : ℕ) (front : Front) : Type 0 where
+pub record Stands (slot : ℕ) (Keeps : Part → Type 0) (target : List Part) (i : ℕ) (front : Front)
+    : Type 0 where
   pub seen : front.seen ≡ blocks_of_parts (target_parts slot (take i target))
   pub own : front.own ≡ length (own_parts slot (take i target))
-  pub kept : KeepTogether slot source target (target_parts slot (take i target))
+  pub kept : Together slot Keeps (target_parts slot (take i target))
   pub apart : front.apart ≡ is_distinct (blocks_of_parts (target_parts slot target))
 
-pub stands_first : (slot : ℕ) (source target : List Part) (front : Front)
-    → front.seen ≡ []
-    → front.own ≡ 0
-    → front.apart ≡ is_distinct (blocks_of_parts (target_parts slot target))
-    → Stands slot source target 0 front
-stands_first slot source target front none zero apart = record {
-  apart = apart;
-  seen = none;
-  own = zero;
+pub stands_first : (slot : ℕ) (Keeps : Part → Type 0) (target : List Part) (front : Front)
+    → IsStart slot target front
+    → Stands slot Keeps target 0 front
+stands_first slot Keeps target front start = record {
+  apart = start.apart;
+  seen = start.seen;
+  own = start.own;
   kept = record {
-    each = All-nil (KeepsAlone slot source target);
+    each = All-nil Keeps;
     few = omega arith;
     once = λ i j d lt below. absurd (omega arith);
   };
@@ -65,13 +64,14 @@ next_own slot parts i p lt at =
     ∙ length-append (own_parts slot (take i parts)) (own_parts slot (p ∷ []))
 
 -- a partition that is no part of the target is passed over
-pub stands_skip : (slot : ℕ) (source target : List Part) (i : ℕ) (front : Front) (p : Part)
-    → Stands slot source target i front
+pub stands_skip : (slot : ℕ) (Keeps : Part → Type 0) (target : List Part) (i : ℕ)
+    (front : Front) (p : Part)
+    → Stands slot Keeps target i front
     → i < length target
     → p ≡ get_or target i p
     → (is_of_slot slot p.name || is_store slot p.name) ≡ false
-    → Stands slot source target (i + 1) front
-stands_skip slot source target i front p s lt at other =
+    → Stands slot Keeps target (i + 1) front
+stands_skip slot Keeps target i front p s lt at other =
     let parts = or_parts (is_of_slot slot p.name) (is_store slot p.name) other in
     let none : target_parts slot (p ∷ []) ≡ [] = rw (parts.0, parts.1) refl in
     let no_own : own_parts slot (p ∷ []) ≡ [] = rw parts.0 refl in
@@ -83,51 +83,55 @@ stands_skip slot source target i front p s lt at other =
       apart = s.apart;
       seen = s.seen ∙ ap blocks_of_parts (sym same);
       own = omega (arith, s.own, next_own slot target i p lt at, ap length no_own);
-      kept = subst (KeepTogether slot source target) (sym same) s.kept;
+      kept = subst (Together slot Keeps) (sym same) s.kept;
     }
 
 -- ---- one more of them
 
-joined_keeps : (slot : ℕ) (source target : List Part) (i : ℕ) (front : Front) (p : Part)
-    → Stands slot source target i front
-    → Joins slot source target front p
-    → KeepTogether slot source target (target_parts slot (take i target) ++ p ∷ [])
-joined_keeps slot source target i front p s j =
+joined_keeps : (slot : ℕ) (Keeps : Part → Type 0) (target : List Part) (i : ℕ)
+    (front : Front) (p : Part)
+    → Stands slot Keeps target i front
+    → Joins slot Keeps front p
+    → Together slot Keeps (target_parts slot (take i target) ++ p ∷ [])
+joined_keeps slot Keeps target i front p s j =
     let xs : List Part = target_parts slot (take i target) in
     record {
-      each = All-append (KeepsAlone slot source target) xs (p ∷ []) s.kept.each
-          (All-cons (KeepsAlone slot source target) p [] j.alone
-          (All-nil (KeepsAlone slot source target)));
+      each = All-append Keeps xs (p ∷ []) s.kept.each
+          (All-cons Keeps p [] j.alone
+          (All-nil Keeps));
       few = omega (
         arith,
-        j.few,
+        j.room.few,
         s.own,
         ap length (own_of_target slot (take i target)),
         ap length (filter-append (λ (q : Part). is_of_slot slot q.name) xs (p ∷ [])),
         length-append (own_parts slot xs) (own_parts slot (p ∷ [])),
       );
       once = subst IsDistinct (sym (with_one xs p))
-          (subst (λ (l : List ℕ). IsDistinct (l ++ p.blocks)) s.seen j.once);
+          (subst (λ (l : List ℕ). IsDistinct (l ++ p.blocks)) s.seen j.room.once);
     }
 
-keeps_joined : (slot : ℕ) (source target : List Part) (i : ℕ) (front : Front) (p : Part)
-    → Stands slot source target i front
-    → KeepTogether slot source target (target_parts slot (take i target) ++ p ∷ [])
-    → Joins slot source target front p
-keeps_joined slot source target i front p s k =
+keeps_joined : (slot : ℕ) (Keeps : Part → Type 0) (target : List Part) (i : ℕ)
+    (front : Front) (p : Part)
+    → Stands slot Keeps target i front
+    → Together slot Keeps (target_parts slot (take i target) ++ p ∷ [])
+    → Joins slot Keeps front p
+keeps_joined slot Keeps target i front p s k =
     let xs : List Part = target_parts slot (take i target) in
     record {
-      once = subst (λ (l : List ℕ). IsDistinct (l ++ p.blocks)) (sym s.seen)
-          (subst IsDistinct (with_one xs p) k.once);
-      few = omega (
-        arith,
-        k.few,
-        s.own,
-        ap length (own_of_target slot (take i target)),
-        ap length (filter-append (λ (q : Part). is_of_slot slot q.name) xs (p ∷ [])),
-        length-append (own_parts slot xs) (own_parts slot (p ∷ [])),
-      );
-      alone = All-contains (KeepsAlone slot source target) (xs ++ p ∷ []) p k.each
+      room = record {
+        once = subst (λ (l : List ℕ). IsDistinct (l ++ p.blocks)) (sym s.seen)
+            (subst IsDistinct (with_one xs p) k.once);
+        few = omega (
+          arith,
+          k.few,
+          s.own,
+          ap length (own_of_target slot (take i target)),
+          ap length (filter-append (λ (q : Part). is_of_slot slot q.name) xs (p ∷ [])),
+          length-append (own_parts slot xs) (own_parts slot (p ∷ [])),
+        );
+      };
+      alone = All-contains Keeps (xs ++ p ∷ []) p k.each
           (Contains-append_right xs (p ∷ []) p (0, omega arith, refl));
     }
 
@@ -141,15 +145,16 @@ one_more slot target i p lt at is =
     next_target slot target i p lt at
     ∙ ap (λ (l : List Part). target_parts slot (take i target) ++ l) one
 
-pub stands_take : (slot : ℕ) (source target : List Part) (i : ℕ) (front new : Front) (p : Part)
-    → Stands slot source target i front
+pub stands_take : (slot : ℕ) (Keeps : Part → Type 0) (target : List Part) (i : ℕ)
+    (front new : Front) (p : Part)
+    → Stands slot Keeps target i front
     → i < length target
     → p ≡ get_or target i p
     → (is_of_slot slot p.name || is_store slot p.name) ≡ true
-    → Joins slot source target front p
+    → Joins slot Keeps front p
     → IsJoined slot front new p
-    → Stands slot source target (i + 1) new
-stands_take slot source target i front new p s lt at is j joined =
+    → Stands slot Keeps target (i + 1) new
+stands_take slot Keeps target i front new p s lt at is j joined =
     let more = one_more slot target i p lt at is in
     record {
       apart = joined.apart ∙ s.apart;
@@ -157,20 +162,21 @@ stands_take slot source target i front new p s lt at is j joined =
           ∙ sym (with_one (target_parts slot (take i target)) p)
           ∙ ap blocks_of_parts (sym more);
       own = omega (arith, joined.own, s.own, next_own slot target i p lt at);
-      kept = subst (KeepTogether slot source target) (sym more)
-          (joined_keeps slot source target i front p s j);
+      kept = subst (Together slot Keeps) (sym more)
+          (joined_keeps slot Keeps target i front p s j);
     }
 
 -- ---- what is answered
 
-pub bad_first : (slot : ℕ) (source target : List Part) (i : ℕ) (front : Front) (p : Part)
-    → Stands slot source target i front
+pub bad_first : (slot : ℕ) (Keeps : Part → Type 0) (target : List Part) (i : ℕ)
+    (front : Front) (p : Part)
+    → Stands slot Keeps target i front
     → i < length target
     → p ≡ get_or target i p
     → (is_of_slot slot p.name || is_store slot p.name) ≡ true
-    → (Joins slot source target front p → ⊥)
-    → IsFirstBad slot source target p.name
-bad_first slot source target i front p s lt at is refused =
+    → (Joins slot Keeps front p → ⊥)
+    → FirstBad slot Keeps target p.name
+bad_first slot Keeps target i front p s lt at is refused =
     let xs : List Part = target_parts slot (take i target) in
     let rest : List Part = target_parts slot (drop (i + 1) target) in
     record {
@@ -183,34 +189,34 @@ bad_first slot source target i front p s lt at is refused =
           ∙ append_assoc xs (p ∷ []) rest;
       named = refl;
       kept = s.kept;
-      broken = λ k. refused (keeps_joined slot source target i front p s k);
+      broken = λ k. refused (keeps_joined slot Keeps target i front p s k);
     }
 
-pub stands_last : (slot : ℕ) (source target : List Part) (i : ℕ) (front : Front)
-    → Stands slot source target i front
+pub stands_last : (slot : ℕ) (Keeps : Part → Type 0) (target : List Part) (i : ℕ) (front : Front)
+    → Stands slot Keeps target i front
     → length target ≤ i
-    → IsTarget slot source target
-stands_last slot source target i front s done =
-    together_target slot source target
-    (subst (λ (l : List Part). KeepTogether slot source target (target_parts slot l))
-    (take_all i target done) s.kept)
+    → Together slot Keeps (target_parts slot target)
+stands_last slot Keeps target i front s done =
+    subst (λ (l : List Part). Together slot Keeps (target_parts slot l)) (take_all i target done)
+    s.kept
 
 -- at most 32 partitions were seen
-pub own_few : (slot : ℕ) (source target : List Part) (i : ℕ) (front : Front)
-    → Stands slot source target i front
+pub own_few : (slot : ℕ) (Keeps : Part → Type 0) (target : List Part) (i : ℕ) (front : Front)
+    → Stands slot Keeps target i front
     → front.own ≤ 32
-own_few slot source target i front s =
+own_few slot Keeps target i front s =
     omega (arith, s.own, s.kept.few, ap length (own_of_target slot (take i target)))
 
 -- where no block stands twice in all, none does in the front and the next
-pub apart_next : (slot : ℕ) (source target : List Part) (i : ℕ) (front : Front) (p : Part)
-    → Stands slot source target i front
+pub apart_next : (slot : ℕ) (Keeps : Part → Type 0) (target : List Part) (i : ℕ)
+    (front : Front) (p : Part)
+    → Stands slot Keeps target i front
     → i < length target
     → p ≡ get_or target i p
     → (is_of_slot slot p.name || is_store slot p.name) ≡ true
     → front.apart ≡ true
     → is_distinct (front.seen ++ p.blocks) ≡ true
-apart_next slot source target i front p s lt at is apart =
+apart_next slot Keeps target i front p s lt at is apart =
     let xs : List Part = target_parts slot (take i target) in
     let rest : List Part = target_parts slot (drop (i + 1) target) in
     let split : target_parts slot target ≡ (xs ++ p ∷ []) ++ rest =

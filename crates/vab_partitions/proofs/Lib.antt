@@ -6,4 +6,5 @@ pub mod TargetLaws
 pub mod FrontLaws
 pub mod TargetTests
 pub mod BadTarget
+pub mod MergingLaws
 pub mod TwinLaws

@@ -1,4 +1,4 @@
--- Where the partitions and stores of a target keep their rules together, the whole target does, and
+-- Where the partitions and stores of a slot keep their rules together, the whole slot does, and
 -- back.
 use Rattle.std.proofs.Common.{◌≡◌, ℕ, zero, suc, ◌+◌, ◌≤◌, ◌<◌, Bool, true, false, cond, ◌||◌, eqb}
 use Rattle.std.proofs.Common.{List, [], ◌∷◌, ◌++◌, length, get_or, refl, sym, ◌∙◌, ap}
@@ -19,7 +19,9 @@ use Rattle.vab_layout.specs.Slots.{own_parts, store_parts, IsDistinct, IsOwnPart
 use Rattle.vab_layout.specs.Slots.{IsTargetPart, IsStorePart, IsTarget}
 use Rattle.vab_blocks.proofs.Distinct.{distinct_left, distinct_pairs, pairs_distinct, times}
 use Rattle.vab_blocks.proofs.Distinct.{at_most_once, once_each}
-use Rattle.vab_partitions.specs.Target.{target_parts, KeepsAlone, KeepTogether, IsFirstBad}
+use Rattle.vab_partitions.specs.Together.{target_parts, KeepsEither, Together, FirstBad}
+use Rattle.vab_partitions.specs.Target.{KeepsAlone}
+use Rattle.vab_partitions.specs.Merging.{IsMerging, IsStoreAlone, KeepsMerging}
 use Rattle.vab_partitions.proofs.NameCases.{own_or_store}
 use Rattle.vab_partitions.proofs.OwnLaws.{blocks_append}
 
@@ -125,108 +127,185 @@ times_both slot b parts =
       ap (times b) (blocks_append own stores),
     )
 
--- ---- the whole target
-
-abbrev OwnRules : ℕ → List Part → List Part → Part → Type 0
-OwnRules slot source target p = IsOwnPart slot p × IsTargetPart slot source target p
-
-own_alone : (slot : ℕ) (source target : List Part) (p : Part)
-    → All (KeepsAlone slot source target) (target_parts slot target)
-    → Contains (own_parts slot target) p
-    → OwnRules slot source target p
-own_alone slot source target p each c =
-    let f = of_filter (λ q. is_of_slot slot q.name) target p c in
-    let there : Contains (target_parts slot target) p =
-    in_filter (in_target slot) target p f.0 (ap (λ b. b || is_store slot p.name) f.1) in
-    let alone = All-contains (KeepsAlone slot source target) (target_parts slot target) p each there
-    in
-    subst (λ (b : Bool). MatchBool b (OwnRules slot source target p)
-    (IsStorePart slot source target p)) f.1 alone
-
-store_alone : (slot : ℕ) (source target : List Part) (s : Part)
-    → All (KeepsAlone slot source target) (target_parts slot target)
-    → Contains (store_parts slot target) s
-    → IsStorePart slot source target s
-store_alone slot source target s each c =
-    let f = of_filter (λ q. is_store slot q.name) target s c in
-    let other : is_of_slot slot s.name ≡ false =
-    false_from_ne_true (is_of_slot slot s.name) (λ own. own_or_store slot s.name own f.1) in
-    let either : in_target slot s ≡ true = rw (other, f.1) refl in
-    let there : Contains (target_parts slot target) s =
-    in_filter (in_target slot) target s f.0 either in
-    let alone = All-contains (KeepsAlone slot source target) (target_parts slot target) s each there
-    in
-    subst (λ (b : Bool). MatchBool b (OwnRules slot source target s)
-    (IsStorePart slot source target s)) other alone
-
-pub together_target : (slot : ℕ) (source target : List Part)
-    → KeepTogether slot source target (target_parts slot target)
-    → IsTarget slot source target
-together_target slot source target k =
-    let own : List Part = own_parts slot target in
-    let stores : List Part = store_parts slot target in
-    let once : IsDistinct (blocks_of_parts (own ++ stores)) =
-    as_often (blocks_of_parts (target_parts slot target)) (blocks_of_parts (own ++ stores))
-    (λ b. times_both slot b target) k.once in
-    record {
-      own = record {
-        each = all_from (IsOwnPart slot) own
-            (λ p c. (own_alone slot source target p k.each c).0);
-        few = subst (λ (l : List Part). length l ≤ 32) (own_of_target slot target) k.few;
-        once = distinct_pairs (blocks_of_parts own)
-            (distinct_left (blocks_of_parts own) (blocks_of_parts stores)
-            (pairs_distinct (blocks_of_parts own ++ blocks_of_parts stores)
-            (subst IsDistinct (blocks_append own stores) once)));
-      };
-      each = all_from (IsTargetPart slot source target) own
-          (λ p c. (own_alone slot source target p k.each c).1);
-      stores = all_from (IsStorePart slot source target) stores
-          (λ s c. store_alone slot source target s k.each c);
-      once = once;
-    }
-
 store_true : (a b : Bool) → a ≡ false → a || b ≡ true → b ≡ true
 store_true a b off either = elim (or_cases a b either) [
   | inl on ↦ absurd (let wrong : true ≡ false = sym on ∙ off in cc)
   | inr store ↦ store
 ]
 
-pub target_together : (slot : ℕ) (source target : List Part)
+-- ---- the whole slot
+
+-- what the partitions and the stores keep, said of each list
+record Kept (slot : ℕ) (Own Store : Part → Type 0) (parts : List Part) : Type 0 where
+  own : All Own (own_parts slot parts)
+  stores : All Store (store_parts slot parts)
+  few : length (own_parts slot parts) ≤ 32
+  once : IsDistinct (blocks_of_parts (own_parts slot parts ++ store_parts slot parts))
+
+module _ (slot : ℕ) (Own Store : Part → Type 0) (parts : List Part) where
+  own_alone : (p : Part)
+      → All (KeepsEither slot Own Store) (target_parts slot parts)
+      → Contains (own_parts slot parts) p
+      → Own p
+  own_alone p each c =
+      let f = of_filter (λ q. is_of_slot slot q.name) parts p c in
+      let there : Contains (target_parts slot parts) p =
+      in_filter (in_target slot) parts p f.0 (ap (λ b. b || is_store slot p.name) f.1) in
+      let alone = All-contains (KeepsEither slot Own Store) (target_parts slot parts) p each there
+      in
+      subst (λ (b : Bool). MatchBool b (Own p) (Store p)) f.1 alone
+
+  store_alone : (s : Part)
+      → All (KeepsEither slot Own Store) (target_parts slot parts)
+      → Contains (store_parts slot parts) s
+      → Store s
+  store_alone s each c =
+      let f = of_filter (λ q. is_store slot q.name) parts s c in
+      let other : is_of_slot slot s.name ≡ false =
+      false_from_ne_true (is_of_slot slot s.name) (λ own. own_or_store slot s.name own f.1) in
+      let either : in_target slot s ≡ true = rw (other, f.1) refl in
+      let there : Contains (target_parts slot parts) s =
+      in_filter (in_target slot) parts s f.0 either in
+      let alone = All-contains (KeepsEither slot Own Store) (target_parts slot parts) s each there
+      in
+      subst (λ (b : Bool). MatchBool b (Own s) (Store s)) other alone
+
+  together_kept : Together slot (KeepsEither slot Own Store) (target_parts slot parts)
+      → Kept slot Own Store parts
+  together_kept k =
+      let own : List Part = own_parts slot parts in
+      let stores : List Part = store_parts slot parts in
+      record {
+        own = all_from Own own (λ p c. own_alone p k.each c);
+        stores = all_from Store stores (λ s c. store_alone s k.each c);
+        few = subst (λ (l : List Part). length l ≤ 32) (own_of_target slot parts) k.few;
+        once = as_often (blocks_of_parts (target_parts slot parts))
+            (blocks_of_parts (own ++ stores)) (λ b. times_both slot b parts) k.once;
+      }
+
+  kept_together : Kept slot Own Store parts
+      → Together slot (KeepsEither slot Own Store) (target_parts slot parts)
+  kept_together k =
+      let own : List Part = own_parts slot parts in
+      let stores : List Part = store_parts slot parts in
+      record {
+        each = all_from (KeepsEither slot Own Store) (target_parts slot parts) (λ p c.
+            let f = of_filter (in_target slot) parts p c in
+            let Told : Bool → Type 0 = λ b. MatchBool b (Own p) (Store p) in
+            elim (cases_Bool (is_of_slot slot p.name)) [
+              | inl own_is ↦
+                  let there = in_filter (λ q. is_of_slot slot q.name) parts p f.0 own_is in
+                  subst Told (sym own_is) (All-contains Own own p k.own there)
+              | inr other ↦
+                  let store =
+                  store_true (is_of_slot slot p.name) (is_store slot p.name) other f.1 in
+                  let there = in_filter (λ q. is_store slot q.name) parts p f.0 store in
+                  subst Told (sym other) (All-contains Store stores p k.stores there)
+            ]);
+        few = subst (λ (l : List Part). length l ≤ 32) (sym (own_of_target slot parts)) k.few;
+        once = as_often (blocks_of_parts (own ++ stores))
+            (blocks_of_parts (target_parts slot parts)) (λ b. sym (times_both slot b parts)) k.once;
+      }
+
+  own_once : Kept slot Own Store parts → IsDistinct (blocks_of_parts (own_parts slot parts))
+  own_once k =
+      let own : List Part = own_parts slot parts in
+      let stores : List Part = store_parts slot parts in
+      distinct_pairs (blocks_of_parts own)
+      (distinct_left (blocks_of_parts own) (blocks_of_parts stores)
+      (pairs_distinct (blocks_of_parts own ++ blocks_of_parts stores)
+      (subst IsDistinct (blocks_append own stores) k.once)))
+
+-- ---- a target beside its source
+
+abbrev OwnRules : ℕ → List Part → List Part → Part → Type 0
+OwnRules slot source target p = IsOwnPart slot p × IsTargetPart slot source target p
+
+pub together_target : (slot : ℕ) (source target : List Part)
+    → Together slot (KeepsAlone slot source target) (target_parts slot target)
     → IsTarget slot source target
-    → KeepTogether slot source target (target_parts slot target)
-target_together slot source target is =
+together_target slot source target together =
+    let Own : Part → Type 0 = OwnRules slot source target in
     let own : List Part = own_parts slot target in
-    let stores : List Part = store_parts slot target in
+    let k = together_kept slot Own (IsStorePart slot source target) target together in
     record {
-      each = all_from (KeepsAlone slot source target) (target_parts slot target) (λ p c.
-          let f = of_filter (in_target slot) target p c in
-          let Told : Bool → Type 0 = λ b. MatchBool b (OwnRules slot source target p)
-          (IsStorePart slot source target p) in
-          elim (cases_Bool (is_of_slot slot p.name)) [
-            | inl own_is ↦
-                let there = in_filter (λ q. is_of_slot slot q.name) target p f.0 own_is in
-                subst Told (sym own_is) (
-                  All-contains (IsOwnPart slot) own p is.own.each there,
-                  All-contains (IsTargetPart slot source target) own p is.each there,
-                )
-            | inr other ↦
-                let store = store_true (is_of_slot slot p.name) (is_store slot p.name) other f.1 in
-                let there = in_filter (λ q. is_store slot q.name) target p f.0 store in
-                subst Told (sym other)
-                (All-contains (IsStorePart slot source target) stores p is.stores there)
-          ]);
-      few = subst (λ (l : List Part). length l ≤ 32) (sym (own_of_target slot target)) is.own.few;
-      once = as_often (blocks_of_parts (own ++ stores)) (blocks_of_parts (target_parts slot target))
-          (λ b. sym (times_both slot b target)) is.once;
+      own = record {
+        each = all_from (IsOwnPart slot) own (λ p c. (All-contains Own own p k.own c).0);
+        few = k.few;
+        once = own_once slot Own (IsStorePart slot source target) target k;
+      };
+      each = all_from (IsTargetPart slot source target) own
+          (λ p c. (All-contains Own own p k.own c).1);
+      stores = k.stores;
+      once = k.once;
     }
 
-pub front_keeps : (slot : ℕ) (source target xs ys : List Part)
-    → KeepTogether slot source target (xs ++ ys)
-    → KeepTogether slot source target xs
-front_keeps slot source target xs ys k = record {
-  each = all_from (KeepsAlone slot source target) xs (λ p c.
-      All-contains (KeepsAlone slot source target) (xs ++ ys) p k.each
-      (Contains-append_left xs ys p c));
+pub target_together : (slot : ℕ) (source target : List Part)
+    → IsTarget slot source target
+    → Together slot (KeepsAlone slot source target) (target_parts slot target)
+target_together slot source target is =
+    let own : List Part = own_parts slot target in
+    kept_together slot (OwnRules slot source target) (IsStorePart slot source target) target
+    (record {
+      own = all_from (OwnRules slot source target) own (λ p c. (
+        All-contains (IsOwnPart slot) own p is.own.each c,
+        All-contains (IsTargetPart slot source target) own p is.each c,
+      ));
+      stores = is.stores;
+      few = is.own.few;
+      once = is.once;
+    })
+
+-- ---- a slot that is merged
+
+pub together_merging : (slot : ℕ) (target : List Part)
+    → Together slot (KeepsMerging slot target) (target_parts slot target)
+    → IsMerging slot target
+together_merging slot target together =
+    let k = together_kept slot (IsOwnPart slot) (IsStoreAlone slot target) target together in
+    record {
+      own = record {
+        each = k.own;
+        few = k.few;
+        once = own_once slot (IsOwnPart slot) (IsStoreAlone slot target) target k;
+      };
+      stores = k.stores;
+      once = k.once;
+    }
+
+pub merging_together : (slot : ℕ) (target : List Part)
+    → IsMerging slot target
+    → Together slot (KeepsMerging slot target) (target_parts slot target)
+merging_together slot target is =
+    kept_together slot (IsOwnPart slot) (IsStoreAlone slot target) target
+    (record {
+      own = is.own.each;
+      stores = is.stores;
+      few = is.own.few;
+      once = is.once;
+    })
+
+-- a target that keeps its rules beside a source keeps those of a slot that is merged
+pub target_merging : (slot : ℕ) (source target : List Part)
+    → IsTarget slot source target
+    → IsMerging slot target
+target_merging slot source target is = record {
+  own = is.own;
+  stores = all_from (IsStoreAlone slot target) (store_parts slot target) (λ s c.
+      let stores : List Part = store_parts slot target in
+      let store = All-contains (IsStorePart slot source target) stores s is.stores c in
+      record { group = store.group; of_part = store.of_part });
+  once = is.once;
+}
+
+-- ---- a front of them
+
+pub front_keeps : (slot : ℕ) (Keeps : Part → Type 0) (xs ys : List Part)
+    → Together slot Keeps (xs ++ ys)
+    → Together slot Keeps xs
+front_keeps slot Keeps xs ys k = record {
+  each = all_from Keeps xs (λ p c.
+      All-contains Keeps (xs ++ ys) p k.each (Contains-append_left xs ys p c));
   few = omega (
     arith,
     k.few,
@@ -239,13 +318,13 @@ front_keeps slot source target xs ys k = record {
       (subst IsDistinct (blocks_append xs ys) k.once)));
 }
 
--- a target with a bad partition keeps not all of its rules
-pub bad_no_target : (slot : ℕ) (source target : List Part) (name : List ℕ)
-    → IsFirstBad slot source target name
-    → IsTarget slot source target
+-- where one is bad, they don't keep the rules together
+pub bad_not_together : (slot : ℕ) (Keeps : Part → Type 0) (parts : List Part) (name : List ℕ)
+    → FirstBad slot Keeps parts name
+    → Together slot Keeps (target_parts slot parts)
     → ⊥
-bad_no_target slot source target name f is =
+bad_not_together slot Keeps parts name f k =
     let joined = f.split ∙ sym (append_assoc f.before (f.bad ∷ []) f.behind) in
     f.broken
-    (front_keeps slot source target (f.before ++ f.bad ∷ []) f.behind
-    (subst (KeepTogether slot source target) joined (target_together slot source target is)))
+    (front_keeps slot Keeps (f.before ++ f.bad ∷ []) f.behind
+    (subst (Together slot Keeps) joined k))

@@ -19,10 +19,13 @@ use Rattle.vab_layout.specs.declared.layout.Part.{Part}
 use Rattle.vab_layout.specs.Layout.{blocks_of_parts}
 use Rattle.vab_layout.specs.Slots.{other_slot, own_parts, before_of, is_updated}
 use Rattle.vab_layout.specs.Slots.{IsOwnPart, IsTargetPart, IsStorePart}
-use Rattle.vab_partitions.specs.Target.{KeepsAlone, KeepTogether}
+use Rattle.vab_partitions.specs.Together.{Together, pass_together}
+use Rattle.vab_partitions.specs.Target.{KeepsAlone}
+use Rattle.vab_partitions.specs.Merging.{IsStoreAlone, KeepsMerging}
 use Rattle.vab_partitions.specs.TargetRules.{is_named, are_apart, source_blocks, own_passes}
-use Rattle.vab_partitions.specs.TargetRules.{is_unchanged, target_passes, store_passes}
-use Rattle.vab_partitions.specs.TargetRules.{passes_alone, pass_together}
+use Rattle.vab_partitions.specs.TargetRules.{is_unchanged, target_passes, store_stands, store_passes}
+use Rattle.vab_partitions.specs.TargetRules.{passes_alone}
+use Rattle.vab_partitions.specs.MergingRules.{passes_merging}
 use Rattle.vab_partitions.proofs.PartCases.{part_then, then_part, none_named, named_none}
 
 -- ---- lists
@@ -107,24 +110,32 @@ target_part slot source target p =
     (Decides-or (is_updated p) (is_unchanged slot source target p) (itself (is_updated p))
     (unchanged slot source target p)))
 
-store_part : (slot : ℕ) (source target : List Part) (s : Part)
-    → Decides (store_passes slot source target s) (IsStorePart slot source target s)
-store_part slot source target s =
+store_alone : (slot : ℕ) (target : List Part) (s : Part)
+    → Decides (store_stands slot target s) (IsStoreAlone slot target s)
+store_alone slot target s =
     let group : Bool = bytes_eq s.group store_group_name in
     let its : Part → Bool = λ p. bytes_eq s.name (store_of p.name) && is_updated p in
     let own : List Part = own_parts slot target in
-    let taken : List ℕ = source_blocks slot source in
-    Decides-like (group && list_any its own && are_apart taken s.blocks)
-    (λ k. record { group = k.0.0; of_part = k.0.1; apart = k.1 })
-    (λ k. ((k.group, k.of_part), k.apart))
-    (Decides-and (group && list_any its own) (are_apart taken s.blocks)
+    Decides-like (group && list_any its own)
+    (λ k. record { group = k.0; of_part = k.1 })
+    (λ k. (k.group, k.of_part))
     (Decides-and group (list_any its own) (bytes_eq-Decides s.group store_group_name)
     (any_decides its (λ p. (s.name ≡ store_of p.name) × IsTrue (is_updated p))
     (λ p. Decides-and (bytes_eq s.name (store_of p.name)) (is_updated p)
     (bytes_eq-Decides s.name (store_of p.name)) (itself (is_updated p))) own))
+
+store_part : (slot : ℕ) (source target : List Part) (s : Part)
+    → Decides (store_passes slot source target s) (IsStorePart slot source target s)
+store_part slot source target s =
+    let stands : Bool = store_stands slot target s in
+    let taken : List ℕ = source_blocks slot source in
+    Decides-like (stands && are_apart taken s.blocks)
+    (λ k. record { group = k.0.group; of_part = k.0.of_part; apart = k.1 })
+    (λ k. (record { group = k.group; of_part = k.of_part }, k.apart))
+    (Decides-and stands (are_apart taken s.blocks) (store_alone slot target s)
     (apart taken s.blocks))
 
-alone : (slot : ℕ) (source target : List Part) (p : Part)
+pub alone : (slot : ℕ) (source target : List Part) (p : Part)
     → Decides (passes_alone slot source target p) (KeepsAlone slot source target p)
 alone slot source target p = elim (cases_Bool (is_of_slot slot p.name)) [
   | inl own ↦
@@ -134,13 +145,22 @@ alone slot source target p = elim (cases_Bool (is_of_slot slot p.name)) [
   | inr store ↦ rw store (store_part slot source target p)
 ]
 
+pub merging_alone : (slot : ℕ) (target : List Part) (p : Part)
+    → Decides (passes_merging slot target p) (KeepsMerging slot target p)
+merging_alone slot target p = elim (cases_Bool (is_of_slot slot p.name)) [
+  | inl own ↦ rw own (own_part slot p)
+  | inr store ↦ rw store (store_alone slot target p)
+]
+
 -- ---- several
 
-pub together_decides : (slot : ℕ) (source target these : List Part)
-    → Decides (pass_together slot source target these) (KeepTogether slot source target these)
+pub together_decides : (slot : ℕ) (passes : Part → Bool) (Keeps : Part → Type 0)
+    → ((p : Part) → Decides (passes p) (Keeps p))
+    → (these : List Part)
+    → Decides (pass_together slot passes these) (Together slot Keeps these)
 unfolding pass_together
-together_decides slot source target these =
-    let each : Bool = list_all (passes_alone slot source target) these in
+together_decides slot passes Keeps decides these =
+    let each : Bool = list_all passes these in
     let few : Bool = leb (length (own_parts slot these)) 32 in
     let once : Bool = is_distinct (blocks_of_parts these) in
     Decides-like (each && few && once)
@@ -148,8 +168,6 @@ together_decides slot source target these =
     (λ k. ((k.each, k.few), k.once))
     (Decides-and (each && few) once
     (Decides-and each few
-    (Decides-by_and (passes_alone slot source target) (KeepsAlone slot source target)
-    (list_all (passes_alone slot source target)) (alone slot source target) refl (λ _ _. refl)
-    these)
+    (Decides-by_and passes Keeps (list_all passes) decides refl (λ _ _. refl) these)
     (at_most (length (own_parts slot these)) 32))
     (distinct_pairs (blocks_of_parts these), pairs_distinct (blocks_of_parts these)))

@@ -1,15 +1,27 @@
 -- What is seen of a target in front of one of its partitions.
 use Rattle.std.specs.Prelude.{◌≡◌, ℕ, ◌+◌, ◌≤◌, List, [], ◌∷◌, ◌++◌, length}
+use Rattle.vab_blocks.specs.Blocks.{is_distinct}
 use Rattle.vab_layout.specs.declared.layout.Part.{Part}
+use Rattle.vab_layout.specs.Layout.{blocks_of_parts}
 use Rattle.vab_layout.specs.Slots.{own_parts, IsDistinct}
 use Rattle.vab_partitions.specs.declared.target.Front.{Front}
-use Rattle.vab_partitions.specs.Target.{KeepsAlone}
+use Rattle.vab_partitions.specs.Together.{target_parts}
 
--- a partition or a store may stand behind them
-pub record Joins (slot : ℕ) (source target : List Part) (front : Front) (p : Part) : Type 0 where
+-- nothing yet
+pub record IsStart (slot : ℕ) (target : List Part) (front : Front) : Type 0 where
+  pub seen : front.seen ≡ []
+  pub own : front.own ≡ 0
+  pub apart : front.apart ≡ is_distinct (blocks_of_parts (target_parts slot target))
+
+-- there is room for a partition or a store behind them
+pub record HasRoom (slot : ℕ) (front : Front) (p : Part) : Type 0 where
   pub once : IsDistinct (front.seen ++ p.blocks)
   pub few : front.own + length (own_parts slot (p ∷ [])) ≤ 32
-  pub alone : KeepsAlone slot source target p
+
+-- it may stand there
+pub record Joins (slot : ℕ) (Keeps : Part → Type 0) (front : Front) (p : Part) : Type 0 where
+  pub room : HasRoom slot front p
+  pub alone : Keeps p
 
 -- it does
 pub record IsJoined (slot : ℕ) (old new : Front) (p : Part) : Type 0 where

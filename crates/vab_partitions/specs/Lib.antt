@@ -1,6 +1,9 @@
 pub mod Rules
 pub mod Own
+pub mod Together
 pub mod Target
+pub mod Merging
 pub mod Front
 pub mod TargetRules
+pub mod MergingRules
 pub mod Twins

@@ -1,16 +1,15 @@
 -- The rules of an update's target as tests on lists, and the first of its partitions and stores
 -- with which one is broken.
 use Rattle.std.specs.Prelude.{ℕ, ◌^◌, Bool, ◌&&◌, ◌||◌, not, ◌==◌, nat_le, if◌then◌else◌, List, []}
-use Rattle.std.specs.Prelude.{◌∷◌, ◌++◌, length, take, drop, Option, Some, None}
+use Rattle.std.specs.Prelude.{length, take, drop, Option}
 use Rattle.std.specs.List.{list_all, list_any}
 use Rattle.std.specs.Str.{bytes_eq}
 use Rattle.vab_names.specs.Names.{is_base, base_of, is_of_slot, in_slot, store_of}
 use Rattle.vab_names.specs.Names.{default_name, store_group_name}
-use Rattle.vab_blocks.specs.Blocks.{is_distinct}
 use Rattle.vab_layout.specs.declared.layout.Part.{Part}
 use Rattle.vab_layout.specs.Layout.{blocks_of_parts}
 use Rattle.vab_layout.specs.Slots.{other_slot, own_parts, before_of, is_updated}
-use Rattle.vab_partitions.specs.Target.{target_parts}
+use Rattle.vab_partitions.specs.Together.{target_parts, bad_behind}
 
 -- whether a partition has this name
 abbrev pub is_named : List ℕ → List Part → Bool
@@ -47,13 +46,17 @@ target_passes slot source target p =
     (drop (length (before_of slot source p.name)) p.blocks)
     && (is_updated p || is_unchanged slot source target p)
 
--- a store: it stands in the stores' group, a partition of the target that is marked as updated has
--- it, and it has no block of the source
-abbrev pub store_passes : ℕ → List Part → List Part → Part → Bool
-store_passes slot source target s =
+-- a store: it stands in the stores' group, and a partition of the target that is marked as updated
+-- has it
+abbrev pub store_stands : ℕ → List Part → Part → Bool
+store_stands slot target s =
     bytes_eq s.group store_group_name
     && list_any (λ p. bytes_eq s.name (store_of p.name) && is_updated p) (own_parts slot target)
-    && are_apart (source_blocks slot source) s.blocks
+
+-- so it does, and it has no block of the source
+abbrev pub store_passes : ℕ → List Part → List Part → Part → Bool
+store_passes slot source target s =
+    store_stands slot target s && are_apart (source_blocks slot source) s.blocks
 
 -- the rules of one partition or store
 abbrev pub passes_alone : ℕ → List Part → List Part → Part → Bool
@@ -62,20 +65,7 @@ passes_alone slot source target p =
     then own_passes slot p && target_passes slot source target p
     else store_passes slot source target p
 
--- the rules of these: those of each, at most 32 partitions, and no block twice
-unfoldable pub pass_together : ℕ → List Part → List Part → List Part → Bool
-pass_together slot source target these =
-    list_all (passes_alone slot source target) these
-    && nat_le (length (own_parts slot these)) 32 && is_distinct (blocks_of_parts these)
-
--- the first with which those before it don't keep the rules together
-unfoldable pub bad_behind : ℕ → List Part → List Part → List Part → List Part → Option (List ℕ)
-bad_behind slot source target earlier [] = None
-bad_behind slot source target earlier (p ∷ ps) =
-    if pass_together slot source target (earlier ++ p ∷ [])
-    then bad_behind slot source target (earlier ++ p ∷ []) ps
-    else Some p.name
-
 -- the name of the first of the target's partitions and stores with which a rule is broken
 unfoldable pub bad_target_of : (slot : ℕ) → (source target : List Part) → Option (List ℕ)
-bad_target_of slot source target = bad_behind slot source target [] (target_parts slot target)
+bad_target_of slot source target =
+    bad_behind slot (passes_alone slot source target) [] (target_parts slot target)

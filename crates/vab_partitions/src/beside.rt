@@ -10,6 +10,7 @@ ghost use Rattle.vab_layout.specs.Layout.{blocks_of_parts};
 ghost use Rattle.vab_layout.specs.Slots.{blocks_named, is_updated, other_slot, own_parts};
 ghost use Rattle.vab_layout.specs.Slots.{IsDistinct, IsOwn, IsOwnPart, IsStorePart, IsTargetPart};
 ghost use Rattle.vab_partitions.specs.Target.{KeepsAlone};
+ghost use Rattle.vab_partitions.specs.Merging.{IsStoreAlone};
 
 use crate::own::{has_base, is_group_of};
 use std::alloc::Global;
@@ -114,8 +115,8 @@ fn is_fresh(alloc: Global, taken: &Blocks, blocks: &Blocks, skip: u64) -> Result
     is_apart(alloc, taken, &fresh)
 }
 
-// Whether the partition keeps the rules of a slot's own.
-fn is_own_part(part: &Part, slot: usize) -> bool
+/// Whether the partition keeps the rules of a slot's own.
+pub(crate) fn is_own_part(part: &Part, slot: usize) -> bool
     requires slot { slot < 2 }
     requires of_slot { is_of_slot slot part.now.name ≡ true }
     ensures { IsTrue result ↔ IsOwnPart slot part.now }
@@ -206,6 +207,16 @@ fn is_in_store_group(part: &Part) -> bool
     part.group == store_group()
 }
 
+/// Whether the store stands in the stores' group, and is one of a partition of the slot that is
+/// marked as updated.
+pub(crate) fn is_store_alone(target: &[Part], part: &Part, slot: usize) -> bool
+    requires slot { slot < 2 }
+    requires store { is_store slot part.now.name ≡ true }
+    ensures { IsTrue result ↔ IsStoreAlone slot target.now part.now }
+{
+    is_in_store_group(part) && has_updated(target, &part.name, slot)
+}
+
 // Whether the store keeps the rules of a store.
 fn is_store_part(
     alloc: Global,
@@ -222,7 +233,7 @@ fn is_store_part(
     requires store { is_store slot part.now.name ≡ true }
     ensures { IfOk result (λ ok. IsTrue ok ↔ IsStorePart slot source.now target.now part.now) }
 {
-    if !is_in_store_group(part) || !has_updated(target, &part.name, slot) {
+    if !is_store_alone(target, part, slot) {
         return Ok(false);
     }
     is_apart(alloc, taken, &part.blocks)

@@ -7,7 +7,8 @@ ghost use Rattle.vab_tables.specs.Rules.{KeepsRules};
 ghost use Rattle.vab_layout.specs.Layout.{layout_of, blocks_of_parts};
 ghost use Rattle.vab_layout.specs.Slots.{other_slot, own_parts, IsOwn, IsTarget};
 ghost use Rattle.vab_blocks.specs.Blocks.{is_distinct};
-ghost use Rattle.vab_partitions.specs.Target.{target_parts, IsFirstBad};
+ghost use Rattle.vab_partitions.specs.Together.{target_parts};
+ghost use Rattle.vab_partitions.specs.Target.{KeepsAlone, IsFirstBad};
 ghost use Rattle.vab_partitions.specs.TargetRules.{bad_target_of};
 
 use crate::beside::keeps_alone;
@@ -70,8 +71,8 @@ fn is_once(alloc: Global, blocks: &Blocks, apart: bool) -> Result<bool, NoMemory
     blocks.is_distinct(alloc)
 }
 
-// Whether this is a partition of the slot or a store.
-fn is_of_target(part: &Part, slot: usize) -> bool
+/// Whether this is a partition of the slot or a store.
+pub(crate) fn is_of_target(part: &Part, slot: usize) -> bool
     requires { slot < 2 }
     ensures { result ≡ (is_of_slot slot part.now.name || is_store slot part.now.name) }
 {
@@ -79,7 +80,43 @@ fn is_of_target(part: &Part, slot: usize) -> bool
 }
 
 impl Front {
-    ghost use Rattle.vab_partitions.specs.Front.{Joins, IsJoined};
+    ghost use Rattle.vab_partitions.specs.Front.{IsStart, HasRoom, Joins, IsJoined};
+
+    /// In front of all of them.
+    pub(crate) fn start(alloc: Global, target: &[Part], slot: usize) -> Result<Front, NoMemory>
+        requires { slot < 2 }
+        ensures { IfOk result (λ front. IsStart slot target.now front) }
+    {
+        let all = blocks_of_target(alloc, target, slot)?;
+        Ok(Front {
+            seen: Blocks::new(alloc),
+            own: 0,
+            apart: all.is_distinct(alloc)?,
+        })
+    }
+
+    /// Whether there is room for a partition or a store behind those that were seen: no block
+    /// stands twice, and at most 32 are partitions. Where there is, it is one of them.
+    pub(crate) fn push(&mut self, alloc: Global, part: &Part, slot: usize) -> Result<bool, NoMemory>
+        requires slot { slot < 2 }
+        requires few { self.old.own ≤ 32 }
+        requires apart { self.old.apart ≡ true
+            → is_distinct (self.old.seen ++ part.now.blocks) ≡ true }
+        ensures room { IfOk result (λ ok. IsTrue ok ↔ HasRoom slot self.old part.now) }
+        ensures joined { IfOk result (λ ok. IsTrue ok → IsJoined slot self.old self.new part.now) }
+    {
+        self.seen.append(&part.blocks)?;
+        if !is_once(alloc, &self.seen, self.apart)? {
+            return Ok(false);
+        }
+        if is_of_slot(part.name.text(), slot) {
+            if self.own >= MAX_PARTITIONS {
+                return Ok(false);
+            }
+            self.own += 1;
+        }
+        Ok(true)
+    }
 
     // Whether a partition or a store may stand behind those that were seen. Where it may, it is one
     // of them.
@@ -99,19 +136,12 @@ impl Front {
         requires few { self.old.own ≤ 32 }
         requires apart { self.old.apart ≡ true
             → is_distinct (self.old.seen ++ part.now.blocks) ≡ true }
-        ensures joins { IfOk result
-            (λ ok. IsTrue ok ↔ Joins slot source.now target.now self.old part.now) }
+        ensures joins { IfOk result (λ ok. IsTrue ok
+            ↔ Joins slot (KeepsAlone slot source.now target.now) self.old part.now) }
         ensures joined { IfOk result (λ ok. IsTrue ok → IsJoined slot self.old self.new part.now) }
     {
-        self.seen.append(&part.blocks)?;
-        if !is_once(alloc, &self.seen, self.apart)? {
+        if !self.push(alloc, part, slot)? {
             return Ok(false);
-        }
-        if is_of_slot(part.name.text(), slot) {
-            if self.own >= MAX_PARTITIONS {
-                return Ok(false);
-            }
-            self.own += 1;
         }
         keeps_alone(alloc, source, target, taken, part, slot)
     }
@@ -131,12 +161,7 @@ fn first_bad(
     ensures is { IfOk result (λ bad. bad ≡ bad_target_of slot source.now target.now) }
 {
     let taken = taken_by(alloc, source, 1 - slot)?;
-    let all = blocks_of_target(alloc, target, slot)?;
-    let mut front = Front {
-        seen: Blocks::new(alloc),
-        own: 0,
-        apart: all.is_distinct(alloc)?,
-    };
+    let mut front = Front::start(alloc, target, slot)?;
     for part in target {
         if is_of_target(part, slot) && !front.join(alloc, source, target, &taken, part, slot)? {
             return Ok(Some(part.name));

@@ -382,6 +382,26 @@ fn the_first_bad_one_of_a_target_is_named(rt: HostRuntime) -> Result<(), Fail> {
     Ok(())
 }
 
+// The same tables with no source: a block of the source and an unmarked partition are no matter.
+#[test]
+fn the_first_bad_one_of_a_merged_slot_is_named(rt: HostRuntime) -> Result<(), Fail> {
+    for (sample, bad) in [
+        (&TARGET, b"".as_slice()),
+        (&SOURCE_BLOCK, b""),
+        (&UNMARKED, b""),
+        (&STORE_GROUP, b"vendor_b-cow"),
+        (&ORPHAN, b"other_b-cow"),
+        (&STORE_FIRST, b"vendor_b"),
+    ] {
+        let table = table(rt.alloc(), sample)?;
+        match bad_merging(rt.alloc(), &table, 1)? {
+            Some(name) => assert_eq!(rt; name.text(), bad),
+            None => assert!(rt; bad.is_empty()),
+        }
+    }
+    Ok(())
+}
+
 // A table of these groups, each with its limit, and a block device of so many bytes.
 fn with_groups(alloc: Global, groups: &[(&[u8], u64)], size: u64) -> Result<Table, Fail> {
     let mut all = Vec::new(alloc);

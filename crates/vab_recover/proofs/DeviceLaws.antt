@@ -44,6 +44,7 @@ use Rattle.vab_device.specs.Kept.{has_slot, reads_both}
 use Rattle.vab_device.specs.Phases.{store_on, planned_image, planned_on, plan_of}
 use Rattle.vab_device.specs.Reading.{kept}
 use Rattle.vab_device.specs.Stores.{Scanned, first_named, exceptions_of}
+use Rattle.vab_partitions.specs.Merging.{IsMerging}
 use Rattle.vab_plan.specs.Scans.{IsTargetTable}
 use Rattle.vab_recover.specs.Scans.{IsScanned}
 use Rattle.vab_recover.specs.Opened.{read_of, target_tables, AreHeads}
@@ -282,11 +283,12 @@ by_case : (size : ℕ) (phase : MarkPhase) (slot : ℕ) (statuses : List (Option
     → IfSome t (λ l. AreOfUpdate slot s l.table)
     → is_some t ≡ reads_both phase
     → IfSome t (λ l. AreParts size (plan_of (other_slot slot) (layout_of l.table) ss))
+    → (phase ≡ marks.Merging → AreParts size (plan_of slot (layout_of s) ss))
     → AreParts size (parts_of slot (layout_of s))
     → (let m : UpdateMark = record { phase = phase; slot = slot } in
     IsDevice (record (kept (read_of m statuses c g (s ∷ target_tables t) ss)) { control = c }) size)
 by_case size marks.Idle zero statuses c g s None ss
-    heads current source target update both plan parts =
+    heads current source target update both plan own parts =
     record {
       enough = heads.enough;
       geometry = heads.geometry;
@@ -308,7 +310,7 @@ by_case size marks.Idle zero statuses c g s None ss
       update = tt;
     }
 by_case size marks.Idle (suc zero) statuses c g s None ss
-    heads current source target update both plan parts =
+    heads current source target update both plan own parts =
     record {
       enough = heads.enough;
       geometry = heads.geometry;
@@ -330,7 +332,7 @@ by_case size marks.Idle (suc zero) statuses c g s None ss
       update = tt;
     }
 by_case size marks.Installing zero statuses c g s (Some l) ss
-    heads current source target update both plan parts =
+    heads current source target update both plan own parts =
     record {
       enough = heads.enough;
       geometry = heads.geometry;
@@ -352,7 +354,7 @@ by_case size marks.Installing zero statuses c g s (Some l) ss
       update = update;
     }
 by_case size marks.Installing (suc zero) statuses c g s (Some l) ss
-    heads current source target update both plan parts =
+    heads current source target update both plan own parts =
     record {
       enough = heads.enough;
       geometry = heads.geometry;
@@ -374,12 +376,12 @@ by_case size marks.Installing (suc zero) statuses c g s (Some l) ss
       update = update;
     }
 by_case size marks.Staged zero statuses c g s (Some l) ss
-    heads current source target update both plan parts =
+    heads current source target update both plan own parts =
     record {
       enough = heads.enough;
       geometry = heads.geometry;
       control = heads.control;
-      phase = inr (inr refl);
+      phase = inr (inr (inl refl));
       slot = heads.slot;
       current = refl;
       has_a = refl;
@@ -396,12 +398,12 @@ by_case size marks.Staged zero statuses c g s (Some l) ss
       update = update;
     }
 by_case size marks.Staged (suc zero) statuses c g s (Some l) ss
-    heads current source target update both plan parts =
+    heads current source target update both plan own parts =
     record {
       enough = heads.enough;
       geometry = heads.geometry;
       control = heads.control;
-      phase = inr (inr refl);
+      phase = inr (inr (inl refl));
       slot = heads.slot;
       current = refl;
       has_a = refl;
@@ -418,42 +420,85 @@ by_case size marks.Staged (suc zero) statuses c g s (Some l) ss
       update = update;
     }
 by_case size phase (suc (suc n)) statuses c g s t ss
-    heads current source target update both plan parts =
+    heads current source target update both plan own parts =
     absurd (omega (arith, heads.slot))
 by_case size marks.Idle zero statuses c g s (Some l) ss
-    heads current source target update both plan parts =
+    heads current source target update both plan own parts =
     absurd (let no : true ≡ false = both in cc)
 by_case size marks.Idle (suc zero) statuses c g s (Some l) ss
-    heads current source target update both plan parts =
+    heads current source target update both plan own parts =
     absurd (let no : true ≡ false = both in cc)
 by_case size marks.Installing zero statuses c g s None ss
-    heads current source target update both plan parts =
+    heads current source target update both plan own parts =
     absurd (let no : false ≡ true = both in cc)
 by_case size marks.Installing (suc zero) statuses c g s None ss
-    heads current source target update both plan parts =
+    heads current source target update both plan own parts =
     absurd (let no : false ≡ true = both in cc)
 by_case size marks.Staged zero statuses c g s None ss
-    heads current source target update both plan parts =
+    heads current source target update both plan own parts =
     absurd (let no : false ≡ true = both in cc)
 by_case size marks.Staged (suc zero) statuses c g s None ss
-    heads current source target update both plan parts =
+    heads current source target update both plan own parts =
     absurd (let no : false ≡ true = both in cc)
-by_case size marks.Merging slot statuses c g s t ss
-    heads current source target update both plan parts =
-    absurd (no_phase heads.phase)
-  where
-    no_phase : IsPhase marks.Merging → ⊥
-    no_phase (inl e) = absurd (let no : marks.Merging ≡ marks.Idle = e in cc)
-    no_phase (inr (inl e)) = absurd (let no : marks.Merging ≡ marks.Installing = e in cc)
-    no_phase (inr (inr e)) = absurd (let no : marks.Merging ≡ marks.Staged = e in cc)
+by_case size marks.Merging zero statuses c g s None ss
+    heads current source target update both plan own parts =
+    record {
+      enough = heads.enough;
+      geometry = heads.geometry;
+      control = heads.control;
+      phase = inr (inr (inr refl));
+      slot = heads.slot;
+      current = current;
+      has_a = refl;
+      has_b = refl;
+      copies_on = heads.copies_on;
+      parts_a = own refl;
+      parts_b = tt;
+      table_a = source;
+      table_b = tt;
+      source = refl;
+      target = refl;
+      planned = refl;
+      plan = tt;
+      update = tt;
+    }
+by_case size marks.Merging (suc zero) statuses c g s None ss
+    heads current source target update both plan own parts =
+    record {
+      enough = heads.enough;
+      geometry = heads.geometry;
+      control = heads.control;
+      phase = inr (inr (inr refl));
+      slot = heads.slot;
+      current = current;
+      has_a = refl;
+      has_b = refl;
+      copies_on = heads.copies_on;
+      parts_a = tt;
+      parts_b = own refl;
+      table_a = tt;
+      table_b = source;
+      source = refl;
+      target = refl;
+      planned = refl;
+      plan = tt;
+      update = tt;
+    }
+by_case size marks.Merging zero statuses c g s (Some l) ss
+    heads current source target update both plan own parts =
+    absurd (let no : true ≡ false = both in cc)
+by_case size marks.Merging (suc zero) statuses c g s (Some l) ss
+    heads current source target update both plan own parts =
+    absurd (let no : true ≡ false = both in cc)
 by_case size marks.Completed slot statuses c g s t ss
-    heads current source target update both plan parts =
+    heads current source target update both plan own parts =
     absurd (no_phase heads.phase)
   where
     no_phase : IsPhase marks.Completed → ⊥
     no_phase (inl e) = absurd (let no : marks.Completed ≡ marks.Idle = e in cc)
     no_phase (inr (inl e)) = absurd (let no : marks.Completed ≡ marks.Installing = e in cc)
-    no_phase (inr (inr e)) = absurd (let no : marks.Completed ≡ marks.Staged = e in cc)
+    no_phase (inr (inr (inl e))) = absurd (let no : marks.Completed ≡ marks.Staged = e in cc)
+    no_phase (inr (inr (inr e))) = absurd (let no : marks.Completed ≡ marks.Merging = e in cc)
 
 -- What was read of a disk of so many sectors is a device there.
 pub device_kept : (size : ℕ) (m : UpdateMark) (statuses : List (Option PartStatus)) (c : Control)
@@ -465,22 +510,26 @@ pub device_kept : (size : ℕ) (m : UpdateMark) (statuses : List (Option PartSta
     → IfSome t (λ l. AreOfUpdate m.slot s l.table)
     → is_some t ≡ reads_both m.phase
     → IfSome t (λ l. AreParts size (plan_of (other_slot m.slot) (layout_of l.table) ss))
+    → (m.phase ≡ marks.Merging → AreParts size (plan_of m.slot (layout_of s) ss))
     → IsDevice (record (kept (read_of m statuses c g (s ∷ target_tables t) ss)) { control = c }) size
-device_kept size m statuses c g s t ss heads current source target update both plan =
-    by_case size m.phase m.slot statuses c g s t ss heads current source target update both plan
+device_kept size m statuses c g s t ss heads current source target update both plan own =
+    by_case size m.phase m.slot statuses c g s t ss heads current source target update both plan own
     (parts_kept size m.slot g (layout_of s) heads.enough (layout_keeps s source.rules) source.own
     source.lies)
 
--- the stores of a target whose blocks stand once
-pub target_table : (slot : ℕ) (source : List PartOfLayout) (t : Table)
+-- the stores of a slot whose blocks stand once
+once_table : (slot : ℕ) (t : Table)
     → KeepsRules t
-    → IsTarget slot source (layout_of t).parts
+    → IsOwn slot (layout_of t).parts
+    → IsDistinct
+    (blocks_of_parts
+    (own_parts slot (layout_of t).parts ++ store_parts slot (layout_of t).parts))
     → IsTargetTable slot t
-target_table slot source t keeps target = record {
+once_table slot t keeps own once = record {
   rules = keeps;
-  own = target.own;
+  own = own;
   stores = stores_once (own_parts slot (layout_of t).parts) (store_parts slot (layout_of t).parts)
-      target.once;
+      once;
 }
   where
     rest_once : (ps qs : List PartOfLayout)
@@ -493,6 +542,18 @@ target_table slot source t keeps target = record {
         → IsDistinct (blocks_of_parts (ps ++ qs))
         → All (λ p. IsDistinct p.blocks) qs
     stores_once ps qs once = each_distinct qs (rest_once ps qs once)
+
+pub target_table : (slot : ℕ) (source : List PartOfLayout) (t : Table)
+    → KeepsRules t
+    → IsTarget slot source (layout_of t).parts
+    → IsTargetTable slot t
+target_table slot source t keeps target = once_table slot t keeps target.own target.once
+
+pub merging_table : (slot : ℕ) (t : Table)
+    → KeepsRules t
+    → IsMerging slot (layout_of t).parts
+    → IsTargetTable slot t
+merging_table slot t keeps merging = once_table slot t keeps merging.own merging.once
 
 pub target_on_disk : (size : ℕ) (g : Geometry) (t : Table)
     → 4120 ≤ size

@@ -18,8 +18,8 @@ use Rattle.vab_device.specs.declared.fault.StartFault.{StartFault}
 use Rattle.vab_device.specs.declared.device.Device.{Device}
 use Rattle.vab_device.specs.declared.device.Part.{Part}
 use Rattle.vab_device.specs.Checks.{first_fault}
-use Rattle.vab_device.specs.Kept.{has_both, reads_both, IsPhase}
-use Rattle.vab_device.specs.Phases.{phase_at, own_check}
+use Rattle.vab_device.specs.Kept.{reads_both, IsPhase}
+use Rattle.vab_device.specs.Phases.{phase_at, own_check, merging_check}
 use Rattle.vab_device.specs.Reading.{Read, control_in, control_kept}
 use Rattle.vab_device.specs.Reading.{geometry_at, tables_in, table_for, parts_for}
 use Rattle.vab_device.specs.Reading.{state_fault, stores_of, kept, device, Reads}
@@ -31,13 +31,14 @@ use Rattle.vab_device.proofs.ReadingLaws.{FrameReads, seen_slots}
 use Rattle.vab_recover.specs.declared.frame.Frame.{Frame}
 use Rattle.vab_recover.specs.declared.table.Tables.{Tables}
 use Rattle.vab_recover.specs.Opened.{read_of, IsMarked, IsHeaded, IsFramed, target_tables}
-use Rattle.vab_recover.specs.Opened.{tables_of, slots_fault, slot_parts}
+use Rattle.vab_recover.specs.Opened.{tables_of, slots_fault, slot_parts, planned_by, is_merging}
+use Rattle.vab_recover.specs.Opened.{reads_statuses, through_of, through_slot}
 use Rattle.vab_recover.specs.Opened.{target_slots, fault_of, stores_by, plan_by, IsAssembled}
 use Rattle.vab_recover.specs.Opened.{with_tables, table_if, IsOpened, AreLoaded}
 
 -- ---- a phase and the tables that are read in it
 
-pub reads_if : (m : MarkPhase) → (phase_at m).reads_statuses ≡ reads_both m
+pub reads_if : (m : MarkPhase) → (phase_at m).reads_statuses ≡ reads_statuses m
 reads_if marks.Idle = refl
 reads_if marks.Installing = refl
 reads_if marks.Staged = refl
@@ -60,43 +61,50 @@ tables_split m = by_phase m.phase m.slot
 abbrev marked : MarkPhase → ℕ → UpdateMark
 marked phase slot = record { phase = phase; slot = slot }
 
+-- what is read through stores
+abbrev pub through_parts : MarkPhase → ℕ → Loaded → Option Loaded → List Scanned
+    → Option (List Part)
+through_parts phase slot s t ss = plan_by (through_slot phase slot) (through_of phase s t) ss
+
 -- what the phase makes of the tables that were read, and of the stores
 pub record IsOfPhase
     (phase : MarkPhase)
     (slot : ℕ)
-    (s : Table)
+    (s : Loaded)
     (t : Option Loaded) : Type 0 where
-  pub parts : first_fault ((phase_at phase).part_checks slot (s ∷ target_tables t)) ≡ fault_of slot s t
+  pub parts : first_fault ((phase_at phase).part_checks slot (s.table ∷ target_tables t))
+      ≡ fault_of phase slot s.table t
   pub stores : (sts : List PartStatus)
-      → (phase_at phase).stores slot (s ∷ target_tables t) sts ≡ stores_by slot t sts
+      → (phase_at phase).stores slot (s.table ∷ target_tables t) sts
+      ≡ stores_by (is_merging phase) (through_slot phase slot) (through_of phase s t) sts
   pub state : (c : Control) (ss : List Scanned)
       → first_fault
       ((phase_at phase).state_checks slot (control_kept (marked phase slot) c)
-      (s ∷ target_tables t) ss)
-      ≡ slots_fault (marked phase slot) c (plan_by slot t ss)
+      (s.table ∷ target_tables t) ss)
+      ≡ slots_fault (marked phase slot) c (through_parts phase slot s t ss)
   pub plan : (ss : List Scanned)
-      → (if has_both phase then None else plan_by slot t ss)
-      ≡ (phase_at phase).plan slot (s ∷ target_tables t) ss
+      → planned_by phase (through_parts phase slot s t ss)
+      ≡ (phase_at phase).plan slot (s.table ∷ target_tables t) ss
   pub a : (ss : List Scanned)
-      → slot_parts (marked phase slot) 0 s (plan_by slot t ss)
+      → slot_parts (marked phase slot) 0 s.table (through_parts phase slot s t ss)
       ≡ parts_for 0 ((phase_at phase).has_a slot) ((phase_at phase).through slot 0) ss
-      (table_for 0 ((phase_at phase).tables slot) (s ∷ target_tables t))
+      (table_for 0 ((phase_at phase).tables slot) (s.table ∷ target_tables t))
   pub b : (ss : List Scanned)
-      → slot_parts (marked phase slot) 1 s (plan_by slot t ss)
+      → slot_parts (marked phase slot) 1 s.table (through_parts phase slot s t ss)
       ≡ parts_for 1 ((phase_at phase).has_b slot) ((phase_at phase).through slot 1) ss
-      (table_for 1 ((phase_at phase).tables slot) (s ∷ target_tables t))
-  pub table_a : table_if (slot == 0) s t
-      ≡ table_for 0 ((phase_at phase).tables slot) (s ∷ target_tables t)
-  pub table_b : table_if (slot == 1) s t
-      ≡ table_for 1 ((phase_at phase).tables slot) (s ∷ target_tables t)
+      (table_for 1 ((phase_at phase).tables slot) (s.table ∷ target_tables t))
+  pub table_a : table_if (slot == 0) s.table t
+      ≡ table_for 0 ((phase_at phase).tables slot) (s.table ∷ target_tables t)
+  pub table_b : table_if (slot == 1) s.table t
+      ≡ table_for 1 ((phase_at phase).tables slot) (s.table ∷ target_tables t)
 
-of_phase : (phase : MarkPhase) (slot : ℕ) (s : Table) (t : Option Loaded)
+of_phase : (phase : MarkPhase) (slot : ℕ) (s : Loaded) (t : Option Loaded)
     → IsPhase phase
     → slot < 2
     → is_some t ≡ reads_both phase
     → IsOfPhase phase slot s t
 of_phase marks.Idle zero s None is below both = record {
-  parts = or_first (own_check 0 s);
+  parts = or_first (own_check 0 s.table);
   stores = λ sts. refl;
   state = λ c ss. refl;
   plan = λ ss. refl;
@@ -106,7 +114,7 @@ of_phase marks.Idle zero s None is below both = record {
   table_b = refl;
 }
 of_phase marks.Idle (suc zero) s None is below both = record {
-  parts = or_first (own_check 1 s);
+  parts = or_first (own_check 1 s.table);
   stores = λ sts. refl;
   state = λ c ss. refl;
   plan = λ ss. refl;
@@ -155,6 +163,26 @@ of_phase marks.Staged (suc zero) s (Some l) is below both = record {
   table_a = refl;
   table_b = refl;
 }
+of_phase marks.Merging zero s None is below both = record {
+  parts = or_first (merging_check 0 s.table);
+  stores = λ sts. refl;
+  state = λ c ss. refl;
+  plan = λ ss. refl;
+  a = λ ss. refl;
+  b = λ ss. refl;
+  table_a = refl;
+  table_b = refl;
+}
+of_phase marks.Merging (suc zero) s None is below both = record {
+  parts = or_first (merging_check 1 s.table);
+  stores = λ sts. refl;
+  state = λ c ss. refl;
+  plan = λ ss. refl;
+  a = λ ss. refl;
+  b = λ ss. refl;
+  table_a = refl;
+  table_b = refl;
+}
 of_phase phase (suc (suc n)) s t is below both = absurd (omega (arith, below))
 of_phase marks.Idle zero s (Some l) is below both =
     absurd (let no : true ≡ false = both in cc)
@@ -168,18 +196,17 @@ of_phase marks.Staged zero s None is below both =
     absurd (let no : false ≡ true = both in cc)
 of_phase marks.Staged (suc zero) s None is below both =
     absurd (let no : false ≡ true = both in cc)
-of_phase marks.Merging slot s t is below both = absurd (no_phase is)
-  where
-    no_phase : IsPhase marks.Merging → ⊥
-    no_phase (inl e) = absurd (let no : marks.Merging ≡ marks.Idle = e in cc)
-    no_phase (inr (inl e)) = absurd (let no : marks.Merging ≡ marks.Installing = e in cc)
-    no_phase (inr (inr e)) = absurd (let no : marks.Merging ≡ marks.Staged = e in cc)
+of_phase marks.Merging zero s (Some l) is below both =
+    absurd (let no : true ≡ false = both in cc)
+of_phase marks.Merging (suc zero) s (Some l) is below both =
+    absurd (let no : true ≡ false = both in cc)
 of_phase marks.Completed slot s t is below both = absurd (no_phase is)
   where
     no_phase : IsPhase marks.Completed → ⊥
     no_phase (inl e) = absurd (let no : marks.Completed ≡ marks.Idle = e in cc)
     no_phase (inr (inl e)) = absurd (let no : marks.Completed ≡ marks.Installing = e in cc)
-    no_phase (inr (inr e)) = absurd (let no : marks.Completed ≡ marks.Staged = e in cc)
+    no_phase (inr (inr (inl e))) = absurd (let no : marks.Completed ≡ marks.Staged = e in cc)
+    no_phase (inr (inr (inr e))) = absurd (let no : marks.Completed ≡ marks.Merging = e in cc)
 
 -- ---- a part of the frame fails
 
@@ -227,6 +254,12 @@ no_tables size image m ss c g f headed bad =
 
 -- ---- behind the frame
 
+-- the stores that are read
+abbrev pub stores_for : Frame → List PartStatus → List (Result Wanted StartFault)
+stores_for f sts =
+    stores_by (is_merging f.heads.mark.phase) (through_slot f.heads.mark.phase f.heads.mark.slot)
+    (through_of f.heads.mark.phase f.tables.source f.tables.target) sts
+
 module _
     (size : ℕ) (image : Image) (f : Frame)
     (framed : IsFramed size image f)
@@ -242,8 +275,8 @@ module _
   abbrev first : Read
   first = read_of f.heads.mark f.heads.statuses.items f.heads.control f.heads.geometry (tables_of f.tables) []
 
-  pub is_of : IsOfPhase f.heads.mark.phase f.heads.mark.slot f.tables.source.table f.tables.target
-  is_of = of_phase f.heads.mark.phase f.heads.mark.slot f.tables.source.table f.tables.target phase below both
+  pub is_of : IsOfPhase f.heads.mark.phase f.heads.mark.slot f.tables.source f.tables.target
+  is_of = of_phase f.heads.mark.phase f.heads.mark.slot f.tables.source f.tables.target phase below both
 
   frame_reads : FrameReads size image first
   frame_reads = record {
@@ -257,34 +290,34 @@ module _
 
   state_is : (scanned : List Scanned) (x : Option StartFault)
       → slots_fault f.heads.mark f.heads.control
-      (plan_by f.heads.mark.slot f.tables.target scanned)
+      (through_parts f.heads.mark.phase f.heads.mark.slot f.tables.source f.tables.target scanned)
       ≡ x
       → state_fault (record first { scanned = scanned }) ≡ x
   state_is scanned x is = is_of.state f.heads.control scanned ∙ is
 
   pub frame_judged : (h : StartFault)
-      → fault_of f.heads.mark.slot f.tables.source.table f.tables.target ≡ Some h
+      → fault_of f.heads.mark.phase f.heads.mark.slot f.tables.source.table f.tables.target ≡ Some h
       → device size image ≡ Err h
   frame_judged h is = device_judged size first image h frame_reads (is_of.parts ∙ is)
 
   stores_are : (x : Result (List Scanned) StartFault)
-      → scans_in (stores_by f.heads.mark.slot f.tables.target (written_in f.heads.statuses.items)) image ≡ x
+      → scans_in (stores_for f (written_in f.heads.statuses.items)) image ≡ x
       → scans_in (stores_of first) image ≡ x
   stores_are x is =
       ap (λ (ws : List (Result Wanted StartFault)). scans_in ws image) (is_of.stores (written_in ss)) ∙ is
 
   pub frame_scanned : (h : StartFault)
-      → fault_of f.heads.mark.slot f.tables.source.table f.tables.target ≡ None
-      → scans_in (stores_by f.heads.mark.slot f.tables.target (written_in f.heads.statuses.items)) image ≡ Err h
+      → fault_of f.heads.mark.phase f.heads.mark.slot f.tables.source.table f.tables.target ≡ None
+      → scans_in (stores_for f (written_in f.heads.statuses.items)) image ≡ Err h
       → device size image ≡ Err h
   frame_scanned h parts is =
       device_scanned size first image h frame_reads (is_of.parts ∙ parts) (stores_are (Err h) is)
 
   pub frame_stated : (scanned : List Scanned) (h : StartFault)
-      → fault_of f.heads.mark.slot f.tables.source.table f.tables.target ≡ None
-      → scans_in (stores_by f.heads.mark.slot f.tables.target (written_in f.heads.statuses.items)) image ≡ Ok scanned
+      → fault_of f.heads.mark.phase f.heads.mark.slot f.tables.source.table f.tables.target ≡ None
+      → scans_in (stores_for f (written_in f.heads.statuses.items)) image ≡ Ok scanned
       → slots_fault f.heads.mark f.heads.control
-      (plan_by f.heads.mark.slot f.tables.target scanned)
+      (through_parts f.heads.mark.phase f.heads.mark.slot f.tables.source f.tables.target scanned)
       ≡ Some h
       → device size image ≡ Err h
   frame_stated scanned h parts stores is =
@@ -292,10 +325,10 @@ module _
       (stores_are (Ok scanned) stores) (state_is scanned (Some h) is)
 
   pub frame_read : (scanned : List Scanned)
-      → fault_of f.heads.mark.slot f.tables.source.table f.tables.target ≡ None
-      → scans_in (stores_by f.heads.mark.slot f.tables.target (written_in f.heads.statuses.items)) image ≡ Ok scanned
+      → fault_of f.heads.mark.phase f.heads.mark.slot f.tables.source.table f.tables.target ≡ None
+      → scans_in (stores_for f (written_in f.heads.statuses.items)) image ≡ Ok scanned
       → slots_fault f.heads.mark f.heads.control
-      (plan_by f.heads.mark.slot f.tables.target scanned)
+      (through_parts f.heads.mark.phase f.heads.mark.slot f.tables.source f.tables.target scanned)
       ≡ None
       → Reads size
       (read_of f.heads.mark f.heads.statuses.items f.heads.control f.heads.geometry (tables_of f.tables) scanned)
@@ -307,10 +340,11 @@ module _
 -- the rules of the slots, of the target's partitions as they were planned
 pub slots_are : (f : Frame) (target : Option (List Part)) (scanned : List Scanned)
     (x : Option StartFault)
-    → target ≡ plan_by f.heads.mark.slot f.tables.target scanned
+    → target
+    ≡ through_parts f.heads.mark.phase f.heads.mark.slot f.tables.source f.tables.target scanned
     → slots_fault f.heads.mark f.heads.control target ≡ x
     → slots_fault f.heads.mark f.heads.control
-    (plan_by f.heads.mark.slot f.tables.target scanned)
+    (through_parts f.heads.mark.phase f.heads.mark.slot f.tables.source f.tables.target scanned)
     ≡ x
 slots_are f target scanned x planned is =
     sym (ap (slots_fault f.heads.mark f.heads.control) planned) ∙ is
@@ -322,17 +356,17 @@ pub kept_is : (d : Device) (t : Tables) (m : UpdateMark) (ss : List (Option Part
     → m.slot < 2
     → is_some t.target ≡ reads_both m.phase
     → IsAssembled d m c g t.source.table target
-    → target ≡ plan_by m.slot t.target scanned
+    → target ≡ through_parts m.phase m.slot t.source t.target scanned
     → with_tables t d ≡ record (kept (read_of m ss c g (tables_of t) scanned)) { control = c }
 kept_is d t m ss c g target scanned phase below both is planned =
-    let of = of_phase m.phase m.slot t.source.table t.target phase below both in
+    let of = of_phase m.phase m.slot t.source t.target phase below both in
     let a = is.a ∙ ap (slot_parts m 0 t.source.table) planned ∙ of.a scanned in
     let b = is.b ∙ ap (slot_parts m 1 t.source.table) planned ∙ of.b scanned in
     let table_a = ap (λ (x : UpdateMark). table_if (x.slot == 0) t.source.table t.target) is.mark ∙ of.table_a in
     let table_b = ap (λ (x : UpdateMark). table_if (x.slot == 1) t.source.table t.target) is.mark ∙ of.table_b in
     let plan_is =
     is.plan
-    ∙ ap (λ (x : Option (List Part)). if has_both m.phase then None else x) planned
+    ∙ ap (planned_by m.phase) planned
     ∙ of.plan scanned in
     (λ i. record {
       geometry = is.geometry i;

@@ -38,9 +38,10 @@ use Rattle.vab_device.specs.Checks.{◌>>=◌}
 use Rattle.vab_device.specs.Kept.{sectors_of}
 use Rattle.vab_device.specs.Phases.{store_on}
 use Rattle.vab_device.specs.Stores.{Wanted, Scanned, first_named, wanted_by, wanted_of, scan_at}
-use Rattle.vab_device.specs.Stores.{scans_in}
+use Rattle.vab_device.specs.Stores.{scans_in, or_fewer}
 use Rattle.vab_plan.specs.declared.planning.Scan.{Scan}
 use Rattle.vab_plan.specs.Scans.{scanned_of, scans_of, IsTargetTable}
+use Rattle.vab_recover.specs.Opened.{wanted_for}
 use Rattle.vab_recover.specs.Scans.{wanted_at, AreBlocks, IsScanned}
 
 -- ---- a place of a list
@@ -90,7 +91,7 @@ by_store : (first : ℕ) (s : PartStatus) (part : PartOfLayout) (base store : Li
     → option_map (λ q. sectors_of first q.blocks) y ≡ Some store
     → base ≡ sectors_of first part.blocks
     → wanted_by first s x y
-    ≡ Ok (record { name = s.name; base = base; store = store; count = s.count })
+    ≡ Ok (record { name = s.name; base = base; store = store; count = s.count; fewer = false })
 by_store first s part base store x None named stored is =
     absurd (let no : None ≡ Some store = stored in cc)
 by_store first s part base store x (Some q) named stored is =
@@ -101,12 +102,13 @@ by_store first s part base store x (Some q) named stored is =
       base = sym is i;
       store = same i;
       count = s.count;
+      fewer = false;
     }))
 
 pub wanted_there : (slot : ℕ) (l : Layout) (s : PartStatus) (base store : List ℕ)
     → AreBlocks slot l s.name base store
     → wanted_of slot l s
-    ≡ Ok (record { name = s.name; base = base; store = store; count = s.count })
+    ≡ Ok (record { name = s.name; base = base; store = store; count = s.count; fewer = false })
 wanted_there slot l s base store are =
     by_store l.device.first_logical_sector s are.part base store
     (first_named s.name (own_parts slot l.parts)) (first_named (store_of s.name) l.parts)
@@ -183,17 +185,28 @@ scans_ok (Err f) ws image done x is = absurd (let no : (let r : Result Scanned S
 
 -- ---- a scan of the store that a status names
 
-pub wanted_is : (slot : ℕ) (l : Layout) (s : PartStatus) (base store : List ℕ) (n : ℕ) (image : Image)
+abbrev pub wanted_store : (fewer : Bool) → PartStatus → (base store : List ℕ) → Wanted
+wanted_store fewer s base store =
+    record { name = s.name; base = base; store = store; count = s.count; fewer = fewer }
+
+wanted_found : (fewer : Bool) (slot : ℕ) (l : Layout) (s : PartStatus) (base store : List ℕ)
+    → AreBlocks slot l s.name base store
+    → wanted_for fewer slot l s ≡ Ok (wanted_store fewer s base store)
+wanted_found false slot l s base store are = wanted_there slot l s base store are
+wanted_found true slot l s base store are = ap or_fewer (wanted_there slot l s base store are)
+
+pub wanted_is : (fewer : Bool) (slot : ℕ) (l : Layout) (s : PartStatus) (base store : List ℕ)
+    (n : ℕ) (image : Image)
     → AreBlocks slot l s.name base store
     → n ≡ length base
-    → wanted_at (wanted_of slot l s) image
-    ≡ scan_read (record { name = s.name; base = base; store = store; count = s.count })
-    (scan_of store n image)
+    → wanted_at (wanted_for fewer slot l s) image
+    ≡ scan_read (wanted_store fewer s base store) (scan_of store n image)
 unfolding scan_at
-wanted_is slot l s base store n image are long =
-    let w : Wanted = record { name = s.name; base = base; store = store; count = s.count } in
-    ap (λ (r : Result Wanted StartFault). wanted_at r image) (wanted_there slot l s base store are)
-    ∙ ap (λ (k : ℕ). scan_read w (scan_of store k image)) (sym long)
+wanted_is fewer slot l s base store n image are long =
+    ap (λ (r : Result Wanted StartFault). wanted_at r image)
+    (wanted_found fewer slot l s base store are)
+    ∙ ap (λ (k : ℕ). scan_read (wanted_store fewer s base store) (scan_of store k image))
+    (sym long)
 
 pub is_scanned : (slot : ℕ) (l : Layout) (name base store : List ℕ) (n : ℕ)
     (scanned : Result (List Exception) StoreFault) (r : Result Scan StartFault)

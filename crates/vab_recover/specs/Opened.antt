@@ -6,6 +6,9 @@ use Rattle.std.specs.Prelude.{false, map, All, Result}
 use Rattle.vab_disk.specs.Disk.{Image}
 use Rattle.vab_bootctl.specs.Control.{control_of, Fits}
 use Rattle.vab_bootctl.specs.declared.slots.Control.{Control}
+use Rattle.vab_bootctl.specs.Boot.{info_at}
+use Rattle.vab_marks.specs.declared.mark.MarkPhase.{MarkPhase}
+use Rattle.vab_marks.specs.declared.mark.MarkPhase.TheVariants as marks
 use Rattle.vab_marks.specs.declared.mark.UpdateMark.{UpdateMark}
 use Rattle.vab_marks.specs.declared.status.PartStatus.{PartStatus}
 use Rattle.vab_geometry.specs.declared.geometry.Geometry.{Geometry}
@@ -14,6 +17,7 @@ use Rattle.vab_tables.specs.declared.table.Table.{Table}
 use Rattle.vab_tables.specs.Spelling.{table_size_of}
 use Rattle.vab_tables.specs.Text.{IsTableText}
 use Rattle.vab_lpstore.specs.declared.loaded.Loaded.{Loaded}
+use Rattle.vab_layout.specs.declared.layout.Layout.{Layout}
 use Rattle.vab_layout.specs.Layout.{layout_of}
 use Rattle.vab_layout.specs.Slots.{other_slot}
 use Rattle.vab_device.specs.declared.device.Device.{Device}
@@ -26,15 +30,33 @@ use Rattle.vab_device.specs.Checks.{check, first_fault}
 use Rattle.vab_device.specs.Kept.{lies_in, has_both, reads_both, IsPhase, copies_end, super_bytes}
 use Rattle.vab_device.specs.Kept.{limits_of, parts_of}
 use Rattle.vab_device.specs.Phases.{phase_at, own_check, update_checks, plan_of, slot_checks}
-use Rattle.vab_device.specs.Phases.{are_ready, may_run}
+use Rattle.vab_device.specs.Phases.{are_ready, is_good, may_run, merging_check}
 use Rattle.vab_device.specs.Reading.{Read, mark_in, statuses_at, geometry_at, tables_in, kept}
 use Rattle.vab_device.specs.Reading.{control_kept}
 use Rattle.vab_device.specs.Reading.{Reads}
-use Rattle.vab_device.specs.Stores.{Wanted, Scanned, wanted_of, scans_in}
+use Rattle.vab_device.specs.Stores.{Wanted, Scanned, wanted_of, or_fewer, scans_in}
 use Rattle.vab_recover.specs.Repairs.{IsLoadedAt}
 use Rattle.vab_recover.specs.Scans.{IsScanned}
 use Rattle.vab_recover.specs.declared.table.Tables.{Tables}
 use Rattle.vab_recover.specs.declared.frame.Frame.{Frame}
+
+-- ---- the phases
+
+-- the stores of an update are merged
+abbrev pub is_merging : MarkPhase → Bool
+is_merging marks.Idle = false
+is_merging marks.Installing = false
+is_merging marks.Staged = false
+is_merging marks.Merging = true
+is_merging marks.Completed = false
+
+-- the statuses of partitions are read
+abbrev pub reads_statuses : MarkPhase → Bool
+reads_statuses marks.Idle = false
+reads_statuses marks.Installing = true
+reads_statuses marks.Staged = true
+reads_statuses marks.Merging = true
+reads_statuses marks.Completed = false
 
 -- ---- what is read in front of the stores
 
@@ -126,53 +148,100 @@ pub record IsFramed (size : ℕ) (image : Image) (f : Frame) : Type 0 where
 -- ---- rules and plan
 
 -- the first fault of the tables and of their partitions
-abbrev pub fault_of : ℕ → Table → Option Loaded → Option StartFault
-fault_of slot s None = own_check slot s
-fault_of slot s (Some l) = first_fault (update_checks slot s l.table)
+abbrev pub fault_of : MarkPhase → ℕ → Table → Option Loaded → Option StartFault
+fault_of phase slot s None = if is_merging phase then merging_check slot s else own_check slot s
+fault_of phase slot s (Some l) = first_fault (update_checks slot s l.table)
+
+-- The table whose partitions are read through stores: that of an update's target, and while it is
+-- merged that of the mark's slot.
+abbrev pub through_of : MarkPhase → Loaded → Option Loaded → Option Loaded
+through_of phase s t = if is_merging phase then Some s else t
+
+-- the slot of that table
+abbrev pub through_slot : MarkPhase → ℕ → ℕ
+through_slot phase slot = if is_merging phase then slot else other_slot slot
+
+-- the store that a status names, of which there may be fewer exceptions or not
+abbrev pub wanted_for : (fewer : Bool) → ℕ → Layout → PartStatus → Result Wanted StartFault
+wanted_for false slot l s = wanted_of slot l s
+wanted_for true slot l s = or_fewer (wanted_of slot l s)
 
 -- the stores that are read
-abbrev pub stores_by : ℕ → Option Loaded → List PartStatus → List (Result Wanted StartFault)
-stores_by slot None statuses = []
-stores_by slot (Some l) statuses = map (wanted_of (other_slot slot) (layout_of l.table)) statuses
+abbrev pub stores_by : (fewer : Bool)
+    → ℕ
+    → Option Loaded
+    → List PartStatus
+    → List (Result Wanted StartFault)
+stores_by fewer slot None statuses = []
+stores_by fewer slot (Some l) statuses = map (wanted_for fewer slot (layout_of l.table)) statuses
 
 abbrev pub plan_by : ℕ → Option Loaded → List Scanned → Option (List Part)
 plan_by slot None scanned = None
-plan_by slot (Some l) scanned = Some (plan_of (other_slot slot) (layout_of l.table) scanned)
+plan_by slot (Some l) scanned = Some (plan_of slot (layout_of l.table) scanned)
 
--- the plan with what the stores hold
+-- the partitions of a table, with what their stores hold
+pub record AreRead
+    (modelled : Type 0)
+    (fewer : Bool)
+    (slot : ℕ)
+    (t : Table)
+    (statuses : List (Option PartStatus))
+    (image : Image)
+    (parts : List Part) : Type 0 where
+  pub scanned : List Scanned
+  pub parts_are : parts ≡ plan_of slot (layout_of t) scanned
+  pub are : All (IsScanned slot (layout_of t)) scanned
+  pub read : modelled
+      → scans_in (map (wanted_for fewer slot (layout_of t)) (written_in statuses)) image
+      ≡ Ok scanned
+
+-- those of the table that is read through stores, where there is one
 pub record IsPlanRead
     (modelled : Type 0)
+    (fewer : Bool)
     (slot : ℕ)
-    (target : Option Loaded)
+    (through : Option Loaded)
     (statuses : List (Option PartStatus))
     (image : Image)
     (plan : Option (List Part)) : Type 0 where
   pub scanned : List Scanned
-  pub plan_is : plan ≡ plan_by slot target scanned
-  pub are : IfSome target (λ l. All (IsScanned (other_slot slot) (layout_of l.table)) scanned)
-  pub read : modelled → scans_in (stores_by slot target (written_in statuses)) image ≡ Ok scanned
+  pub plan_is : plan ≡ plan_by slot through scanned
+  pub are : IfSome through (λ l. All (IsScanned slot (layout_of l.table)) scanned)
+  pub read : modelled
+      → scans_in (stores_by fewer slot through (written_in statuses)) image ≡ Ok scanned
 
--- whether an update is ready, where its target has these partitions
+-- whether nothing more needs to be written, where these partitions are read through stores
 abbrev pub is_target_ready : Option (List Part) → Bool
 is_target_ready None = true
 is_target_ready (Some parts) = are_ready parts
 
--- the rules of the slots, where an update's target has these partitions
+-- the rules of the slots, where these partitions are read through stores
 abbrev pub slots_fault : UpdateMark → Control → Option (List Part) → Option StartFault
-slots_fault m c target =
+slots_fault m c through =
     first_fault
     (if has_both m.phase
     then check (may_run m.slot (control_kept m c)) (BadState 2)
-    ∷ check (is_target_ready target) (BadState 3)
+    ∷ check (is_target_ready through) (BadState 3)
     ∷ []
-    else slot_checks m.slot (control_kept m c))
+    else (if is_merging m.phase
+    then check ((control_kept m c).current == m.slot) (BadState 1)
+    ∷ check (is_good (info_at (control_kept m c) m.slot)) (BadState 2)
+    ∷ check (is_target_ready through) (BadState 3)
+    ∷ []
+    else slot_checks m.slot (control_kept m c)))
 
--- the partitions of a slot, where it has images: those of this table, and of an update's target
--- that is ready these
+-- The partitions of a slot, where it has images: those of this table, and of a slot that is read
+-- through stores these.
 abbrev pub slot_parts : UpdateMark → ℕ → Table → Option (List Part) → Option (List Part)
-slot_parts m slot s target =
-    if m.slot == slot then Some (parts_of m.slot (layout_of s))
-    else (if has_both m.phase then target else None)
+slot_parts m slot s through =
+    if m.slot == slot
+    then (if is_merging m.phase then through else Some (parts_of m.slot (layout_of s)))
+    else (if has_both m.phase then through else None)
+
+-- those that are planned
+abbrev pub planned_by : MarkPhase → Option (List Part) → Option (List Part)
+planned_by phase through =
+    if is_merging phase then None else (if has_both phase then None else through)
 
 -- a device of these parts, but for its tables
 pub record IsAssembled
@@ -181,15 +250,15 @@ pub record IsAssembled
     (c : Control)
     (g : Geometry)
     (s : Table)
-    (target : Option (List Part)) : Type 0 where
+    (through : Option (List Part)) : Type 0 where
   pub mark : d.mark ≡ m
   pub control : d.control ≡ c
   pub geometry : d.geometry ≡ g
   pub cap : d.cap ≡ cap_of (layout_of s).device
   pub groups : d.groups ≡ limits_of m.slot s.groups
-  pub a : d.a ≡ slot_parts m 0 s target
-  pub b : d.b ≡ slot_parts m 1 s target
-  pub plan : d.plan ≡ (if has_both m.phase then None else target)
+  pub a : d.a ≡ slot_parts m 0 s through
+  pub b : d.b ≡ slot_parts m 1 s through
+  pub plan : d.plan ≡ planned_by m.phase through
 
 -- ---- what is opened
 

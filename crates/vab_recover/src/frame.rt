@@ -10,7 +10,7 @@ ghost use Rattle.vab_recover.specs.Memory.{IsNamed, HasHeads};
 ghost use Rattle.vab_recover.specs.Opened.{IsMarked, IsHeaded, AreHeads, AreLoaded, AreTablesThere};
 ghost use Rattle.vab_recover.specs.Opened.{IsFramed};
 
-use crate::read::{read_control, read_geometry, read_if, read_mark, reads_both};
+use crate::read::{read_control, read_geometry, read_if, read_mark, reads_statuses};
 use crate::table::{Tables, read_tables};
 use std::alloc::Global;
 use vab_bootctl::Control;
@@ -59,7 +59,7 @@ fn read_marks<D: Disk>(d: &mut D) -> Result<(UpdateMark, Statuses), StartFault>
     }
     match read_mark(d) {
         Err(fault) => Err(fault),
-        Ok(mark) => match read_if(d, reads_both(mark.phase)) {
+        Ok(mark) => match read_if(d, reads_statuses(mark.phase)) {
             Err(fault) => Err(fault),
             Ok(statuses) => Ok((mark, statuses)),
         },

@@ -1,20 +1,23 @@
 //! The rules of tables, partitions and slots, and the device that is kept.
 
 ghost use Rattle.std.specs.Prelude.{◌≡◌, ◌<◌, ℕ, IfOk, OnOk, IfErr, OnErr, Err, ◌==◌, IfSome};
-ghost use Rattle.std.specs.Prelude.{if◌then◌else◌, Some, None, true};
+ghost use Rattle.std.specs.Prelude.{if◌then◌else◌, Some, None, IsNone, true, [], ◌∷◌};
 ghost use Rattle.vab_tables.specs.Rules.{KeepsRules};
 ghost use Rattle.vab_layout.specs.Layout.{layout_of};
 ghost use Rattle.vab_layout.specs.Slots.{IsOwn};
-ghost use Rattle.vab_device.specs.Checks.{first_fault};
+ghost use Rattle.vab_partitions.specs.Merging.{IsMerging};
+ghost use Rattle.vab_device.specs.declared.fault.StartFault.TheVariants.{BadState};
+ghost use Rattle.vab_device.specs.Checks.{check, first_fault};
 ghost use Rattle.vab_device.specs.Faults.{IsOfContents, IsOfDisk};
 ghost use Rattle.vab_bootctl.specs.Control.{Fits};
 ghost use Rattle.vab_device.specs.Phases.{slot_checks, own_check, update_checks, is_good};
-ghost use Rattle.vab_device.specs.Phases.{is_ready, are_ready, may_run};
+ghost use Rattle.vab_device.specs.Phases.{is_ready, are_ready, may_run, merging_check};
 ghost use Rattle.vab_device.specs.Idle.{control_read_of};
-ghost use Rattle.vab_device.specs.Kept.{AreOfUpdate, has_both, has_slot};
-ghost use Rattle.vab_recover.specs.Opened.{fault_of, IsAssembled, is_target_ready, slots_fault};
+ghost use Rattle.vab_device.specs.Kept.{AreOfUpdate, has_both, has_slot, parts_of};
+ghost use Rattle.vab_recover.specs.Opened.{fault_of, IsAssembled, is_merging, is_target_ready};
+ghost use Rattle.vab_recover.specs.Opened.{planned_by, slots_fault};
 
-use crate::read::has_both;
+use crate::read::{has_both, is_merging};
 use crate::table::Tables;
 use std::alloc::Global;
 use vab_bootctl::{Control, Info};
@@ -22,7 +25,7 @@ use vab_bytes::Listing;
 use vab_device::{Device, Part, PartImage, StartFault};
 use vab_geometry::Geometry;
 use vab_marks::{MarkPhase, UpdateMark};
-use vab_partitions::{bad_partition, bad_target, has_twins, same_device};
+use vab_partitions::{bad_merging, bad_partition, bad_target, has_twins, same_device};
 use vab_plan::{limits, parts};
 use vab_tables::Table;
 
@@ -86,7 +89,7 @@ fn are_ready(parts: &[Part]) -> bool
     parts.iter().all(|part| is_ready(&part.image))
 }
 
-// Whether the target's partitions are, where there is a target.
+// Whether those that are read through stores are, where there are some.
 fn is_target_ready(target: &Option<Listing<Part>>) -> bool
     ensures { result ≡ is_target_ready target.now }
 {
@@ -96,8 +99,35 @@ fn is_target_ready(target: &Option<Listing<Part>>) -> bool
     }
 }
 
-/// Whether the boot control and the target of an update keep the rules of the slots. `BadState`
-/// comes exactly where it says.
+// Whether the boot control of both slots and the target of an update that is ready keep their
+// rules.
+fn judge_both(
+    control: &Control,
+    slot: usize,
+    target: &Option<Listing<Part>>,
+) -> Result<(), StartFault>
+    requires { slot < 2 }
+    ensures ok { OnOk result
+        (first_fault (check (may_run slot control.now) (BadState 2)
+        ∷ check (is_target_ready target.now) (BadState 3)
+        ∷ []) ≡ None) }
+    ensures fault { IfErr result
+        (λ f. first_fault (check (may_run slot control.now) (BadState 2)
+        ∷ check (is_target_ready target.now) (BadState 3)
+        ∷ []) ≡ Some f) }
+    ensures kind { IfErr result (λ f. IsOfDisk f → ⊥) }
+{
+    if !may_run(control, slot) {
+        return Err(StartFault::BadState(2));
+    }
+    if !is_target_ready(target) {
+        return Err(StartFault::BadState(3));
+    }
+    Ok(())
+}
+
+/// Whether the boot control, and the partitions that are read through stores, keep the rules of the
+/// slots. `BadState` comes exactly where it says.
 pub fn judge_slots(
     control: &Control,
     mark: &UpdateMark,
@@ -111,16 +141,18 @@ pub fn judge_slots(
     ensures current { OnOk result
         (has_slot mark.now.phase mark.now.slot control.now.current ≡ true) }
 {
-    if !has_both(mark.phase) {
-        return judge_slot(control, mark.slot);
+    if has_both(mark.phase) {
+        return judge_both(control, mark.slot, target);
     }
-    if !may_run(control, mark.slot) {
-        return Err(StartFault::BadState(2));
+    match judge_slot(control, mark.slot) {
+        Err(fault) => Err(fault),
+        Ok(()) => {
+            if is_merging(mark.phase) && !is_target_ready(target) {
+                return Err(StartFault::BadState(3));
+            }
+            Ok(())
+        }
     }
-    if !is_target_ready(target) {
-        return Err(StartFault::BadState(3));
-    }
-    Ok(())
 }
 
 // Whether a slot's own partitions keep their rules.
@@ -169,41 +201,80 @@ fn judge_update(
     }
 }
 
-/// Whether the tables and the partitions keep the rules of a device, where the mark has this slot.
-/// `BadTable` and `BadPartition` come exactly where they say.
-pub fn judge_parts(alloc: Global, tables: &Tables, slot: usize) -> Result<(), StartFault>
+// Whether a slot whose stores are merged keeps its rules.
+fn judge_merging(alloc: Global, table: &Table, slot: usize) -> Result<(), StartFault>
     requires slot { slot < 2 }
-    requires source { KeepsRules tables.now.source.table }
-    requires target { IfSome tables.now.target (λ l. KeepsRules l.table) }
-    ensures kept { OnOk result
-        (fault_of slot tables.now.source.table tables.now.target ≡ None) }
-    ensures fault { IfErr result (λ f. IsOfContents f
-        → fault_of slot tables.now.source.table tables.now.target ≡ Some f) }
-    ensures own { OnOk result (IsOwn slot (layout_of tables.now.source.table).parts) }
-    ensures update { OnOk result (IfSome tables.now.target
-        (λ l. AreOfUpdate slot tables.now.source.table l.table)) }
+    requires keeps { KeepsRules table.now }
+    ensures kept { OnOk result (merging_check slot table.now ≡ None) }
+    ensures fault { IfErr result (λ f. IsOfContents f → merging_check slot table.now ≡ Some f) }
+    ensures merging { OnOk result (IsMerging slot (layout_of table.now).parts) }
     ensures kind { IfErr result (λ f. IsOfDisk f → ⊥) }
 {
-    match &tables.target {
-        None => judge_own(alloc, &tables.source.table, slot),
-        Some(target) => judge_update(alloc, &tables.source.table, &target.table, slot),
+    match bad_merging(alloc, table, slot) {
+        Ok(None) => Ok(()),
+        Ok(Some(name)) => Err(StartFault::BadPartition(name)),
+        Err(_) => Err(StartFault::NoMemory),
     }
 }
 
-// The partitions of each slot, where this one has these, and the other those of the target.
+// Whether the one table that is read keeps its rules.
+fn judge_one(alloc: Global, table: &Table, mark: &UpdateMark) -> Result<(), StartFault>
+    requires slot { mark.now.slot < 2 }
+    requires keeps { KeepsRules table.now }
+    ensures kept { OnOk result (fault_of mark.now.phase mark.now.slot table.now None ≡ None) }
+    ensures fault { IfErr result (λ f. IsOfContents f
+        → fault_of mark.now.phase mark.now.slot table.now None ≡ Some f) }
+    ensures own { OnOk result (IsOwn mark.now.slot (layout_of table.now).parts) }
+    ensures merging { OnOk result (is_merging mark.now.phase ≡ true
+        → IsMerging mark.now.slot (layout_of table.now).parts) }
+    ensures kind { IfErr result (λ f. IsOfDisk f → ⊥) }
+{
+    if is_merging(mark.phase) {
+        judge_merging(alloc, table, mark.slot)
+    } else {
+        judge_own(alloc, table, mark.slot)
+    }
+}
+
+/// Whether the tables and the partitions keep the rules of a device with this mark. `BadTable` and
+/// `BadPartition` come exactly where they say.
+pub fn judge_parts(alloc: Global, tables: &Tables, mark: &UpdateMark) -> Result<(), StartFault>
+    requires slot { mark.now.slot < 2 }
+    requires source { KeepsRules tables.now.source.table }
+    requires target { IfSome tables.now.target (λ l. KeepsRules l.table) }
+    ensures kept { OnOk result (fault_of mark.now.phase mark.now.slot
+        tables.now.source.table tables.now.target ≡ None) }
+    ensures fault { IfErr result (λ f. IsOfContents f
+        → fault_of mark.now.phase mark.now.slot tables.now.source.table tables.now.target
+        ≡ Some f) }
+    ensures own { OnOk result (IsOwn mark.now.slot (layout_of tables.now.source.table).parts) }
+    ensures update { OnOk result (IfSome tables.now.target
+        (λ l. AreOfUpdate mark.now.slot tables.now.source.table l.table)) }
+    ensures merging { OnOk result (IsNone tables.now.target
+        → is_merging mark.now.phase ≡ true
+        → IsMerging mark.now.slot (layout_of tables.now.source.table).parts) }
+    ensures kind { IfErr result (λ f. IsOfDisk f → ⊥) }
+{
+    match &tables.target {
+        None => judge_one(alloc, &tables.source.table, mark),
+        Some(target) => judge_update(alloc, &tables.source.table, &target.table, mark.slot),
+    }
+}
+
+// The partitions of the slots a and b, where this slot has these and the other those.
 fn by_slot(
-    parts: Listing<Part>,
-    target: Option<Listing<Part>>,
+    own: Option<Listing<Part>>,
+    other: Option<Listing<Part>>,
     slot: usize,
 ) -> (Option<Listing<Part>>, Option<Listing<Part>>)
     requires { slot < 2 }
-    ensures a { result.0 ≡ (if slot == 0 then Some parts else target) }
-    ensures b { result.1 ≡ (if slot == 1 then Some parts else target) }
+    ensures a { result.0 ≡ (if slot == 0 then own else other) }
+    ensures b { result.1 ≡ (if slot == 1 then own else other) }
 {
     if slot == 0 {
-        (Some(parts), target)
+        (own, other)
     } else {
-        (target, Some(parts))
+        (other, own)
     }
 }
 
@@ -222,26 +293,73 @@ fn by_phase(
     }
 }
 
-/// The device whose source has this table and whose target these partitions, but for its tables.
+/// The partitions of a device: those of the mark's slot, those of the other, and those that are
+/// planned.
+#[derive(Drop)]
+struct Divided {
+    own: Option<Listing<Part>>,
+    other: Option<Listing<Part>>,
+    plan: Option<Listing<Part>>,
+}
+
+// The partitions of a device whose slot has this table, where these are read through stores.
+fn divide(
+    alloc: Global,
+    table: &Table,
+    mark: &UpdateMark,
+    through: Option<Listing<Part>>,
+) -> Result<Divided, StartFault>
+    requires slot { mark.now.slot < 2 }
+    requires keeps { KeepsRules table.now }
+    requires own { IsOwn mark.now.slot (layout_of table.now).parts }
+    ensures own { IfOk result (λ x. x.own
+        ≡ (if is_merging mark.now.phase
+        then through
+        else Some (parts_of mark.now.slot (layout_of table.now)))) }
+    ensures other { IfOk result (λ x. x.other
+        ≡ (if is_merging mark.now.phase
+        then None
+        else (if has_both mark.now.phase then through else None))) }
+    ensures plan { IfOk result (λ x. x.plan ≡ planned_by mark.now.phase through) }
+    ensures fault { OnErr result (result ≡ Err StartFault.NoMemory) }
+{
+    if is_merging(mark.phase) {
+        return Ok(Divided {
+            own: through,
+            other: None,
+            plan: None,
+        });
+    }
+    let parts = parts(alloc, table, mark.slot)?;
+    let (other, plan) = by_phase(through, mark.phase);
+    Ok(Divided {
+        own: Some(parts),
+        other,
+        plan,
+    })
+}
+
+/// The device whose mark's slot has this table, where these partitions are read through stores, but
+/// for its tables.
 pub fn assemble(
     alloc: Global,
     table: &Table,
     geometry: Geometry,
     control: Control,
     mark: UpdateMark,
-    target: Option<Listing<Part>>,
+    through: Option<Listing<Part>>,
 ) -> Result<Device, StartFault>
     requires slot { mark.slot < 2 }
     requires keeps { KeepsRules table.now }
     requires own { IsOwn mark.slot (layout_of table.now).parts }
-    ensures is { IfOk result (λ d. IsAssembled d mark control geometry table.now target) }
+    ensures is { IfOk result (λ d. IsAssembled d mark control geometry table.now through) }
     ensures fault { OnErr result (result ≡ Err StartFault.NoMemory) }
 {
     let groups = limits(alloc, table, mark.slot)?;
     let cap = table.devices.as_slice()[0].cap();
-    let parts = parts(alloc, table, mark.slot)?;
-    let (images, plan) = by_phase(target, mark.phase);
-    let (a, b) = by_slot(parts, images, mark.slot);
+    let divided = divide(alloc, table, &mark, through)?;
+    let Divided { own, other, plan } = divided;
+    let (a, b) = by_slot(own, other, mark.slot);
     Ok(Device {
         geometry,
         control,

@@ -41,12 +41,11 @@ fn finish<D: Disk>(alloc: Global, d: &mut D, frame: Frame) -> Result<(Device, Ta
     ensures counts { CountsFaults D.Disk d.old d.new result }
 {
     let Frame { heads, tables } = frame;
-    let slot = heads.mark.slot;
-    match judge_parts(alloc, &tables, slot) {
+    match judge_parts(alloc, &tables, &heads.mark) {
         Err(fault) => Err(fault),
-        Ok(()) => match read_plan(alloc, d, &tables.target, &heads.statuses, slot) {
+        Ok(()) => match read_plan(alloc, d, &tables, &heads.statuses, &heads.mark) {
             Err(fault) => Err(fault),
-            Ok(target) => match judge_slots(&heads.control, &heads.mark, &target) {
+            Ok(through) => match judge_slots(&heads.control, &heads.mark, &through) {
                 Err(fault) => Err(fault),
                 Ok(()) => match assemble(
                     alloc,
@@ -54,7 +53,7 @@ fn finish<D: Disk>(alloc: Global, d: &mut D, frame: Frame) -> Result<(Device, Ta
                     heads.geometry,
                     heads.control,
                     heads.mark,
-                    target,
+                    through,
                 ) {
                     Err(fault) => Err(fault),
                     Ok(device) => Ok((device, tables)),

@@ -20,20 +20,22 @@ ghost use Rattle.vab_layout.specs.Slots.{IsOwnPart, other_slot};
 ghost use Rattle.vab_device.specs.Faults.{IsOfContents, IsOfDisk};
 ghost use Rattle.vab_device.specs.Phases.{store_on, planned_image, planned_on, plan_of};
 ghost use Rattle.vab_device.specs.Stores.{Wanted, first_named, wanted_of, scan_read, scans_in};
-ghost use Rattle.vab_device.specs.Stores.{exceptions_of};
+ghost use Rattle.vab_device.specs.Stores.{exceptions_of, is_long};
 ghost use Rattle.vab_recover.specs.Counts.{CountsFaults};
 ghost use Rattle.vab_plan.specs.Scans.{scanned_of, scans_of, IsTargetTable};
 ghost use Rattle.vab_recover.specs.Scans.{wanted_at, AreBlocks, IsMissing, IsScanned};
-ghost use Rattle.vab_recover.specs.Opened.{stores_by, IsPlanRead};
+ghost use Rattle.vab_recover.specs.Opened.{is_merging, through_of, through_slot, wanted_for};
+ghost use Rattle.vab_recover.specs.Opened.{stores_by, AreRead, IsPlanRead};
 
+use crate::read::is_merging;
+use crate::table::Tables;
 use std::alloc::Global;
 use vab_bytes::{Listing, Name36};
 use vab_device::{Part, StartFault};
 use vab_disk::Disk;
 use vab_gate::DiskFault;
 use vab_linear::Map;
-use vab_lpstore::Loaded;
-use vab_marks::PartStatus;
+use vab_marks::{PartStatus, UpdateMark};
 use vab_names::is_of_slot;
 use vab_plan::{Scan, map, named, plan, store_map};
 use vab_scan::scan;
@@ -68,19 +70,29 @@ fn wanted(
     }
 }
 
-// What a scan of the store of a status says.
+// Whether a list is as long as its status says, or no longer where there may be fewer exceptions.
+fn is_long(fewer: bool, count: u64, n: u64) -> bool
+    ensures { result ≡ is_long fewer count n }
+{
+    if fewer { n <= count } else { n == count }
+}
+
+// What a scan of the store of a status says, where there may be fewer exceptions or not.
 fn judge_scan(
     status: &PartStatus,
     scanned: Result<StoreView, StoreFault>,
+    fewer: bool,
 ) -> Result<Scan, StartFault>
     ensures ok { (w : Wanted) (x : Result (List Exception) StoreFault)
         → w.name ≡ status.now.name
         → w.count ≡ status.now.count
+        → w.fewer ≡ fewer
         → Answers scanned x
         → IfOk result (λ s. scan_read w x ≡ Ok (scanned_of s)) }
     ensures fault { (w : Wanted) (x : Result (List Exception) StoreFault)
         → w.name ≡ status.now.name
         → w.count ≡ status.now.count
+        → w.fewer ≡ fewer
         → Answers scanned x
         → IfErr result (λ f. IsOfContents f → scan_read w x ≡ Err f) }
     ensures name { IfOk result (λ s. s.name ≡ status.now.name) }
@@ -90,7 +102,7 @@ fn judge_scan(
 {
     match scanned {
         Ok(view) => {
-            if view.count() == status.count {
+            if is_long(fewer, status.count, view.count()) {
                 Ok(Scan {
                     name: status.name,
                     view,
@@ -115,15 +127,17 @@ fn scan_store<D: Disk>(
     table: &Table,
     status: &PartStatus,
     slot: usize,
+    fewer: bool,
 ) -> Result<Scan, StartFault>
     requires slot { slot < 2 }
     requires target { IsTargetTable slot table.now }
     requires on_disk { 4096 + end_of (layout_of table.now).device ≤ D.size d.old }
     ensures ok { D.is_modelled → IfOk result
-        (λ s. wanted_at (wanted_of slot (layout_of table.now) status.now) (D.seen d.old)
+        (λ s. wanted_at (wanted_for fewer slot (layout_of table.now) status.now) (D.seen d.old)
         ≡ Ok (scanned_of s)) }
     ensures fault { D.is_modelled → IfErr result (λ f. IsOfContents f
-        → wanted_at (wanted_of slot (layout_of table.now) status.now) (D.seen d.old) ≡ Err f) }
+        → wanted_at (wanted_for fewer slot (layout_of table.now) status.now) (D.seen d.old)
+        ≡ Err f) }
     ensures is { IfOk result (λ s. IsScanned slot (layout_of table.now) (scanned_of s)) }
     ensures reads { OnlyReads D.Disk d.old d.new }
     ensures counts { CountsFaults D.Disk d.old d.new result }
@@ -133,30 +147,31 @@ fn scan_store<D: Disk>(
         Ok(None) => Err(StartFault::BadStore(status.name)),
         Ok(Some((base, store))) => {
             let scanned = scan(alloc, d, &store, base.len());
-            judge_scan(status, scanned)
+            judge_scan(status, scanned, fewer)
         }
     }
 }
 
 /// Scans the stores that these statuses name, in their order. `BadStore` comes exactly where a
 /// status names no partition of the slot with a store, or the store holds no list of exceptions as
-/// long as the status says, with the first such name.
+/// long as the status says, or no longer where there may be fewer, with the first such name.
 pub fn scan_stores<D: Disk>(
     alloc: Global,
     d: &mut D,
     table: &Table,
     statuses: &Statuses,
     slot: usize,
+    fewer: bool,
 ) -> Result<Vec<Scan>, StartFault>
     requires slot { slot < 2 }
     requires target { IsTargetTable slot table.now }
     requires on_disk { 4096 + end_of (layout_of table.now).device ≤ D.size d.old }
     ensures ok { D.is_modelled → IfOk result
-        (λ scans. scans_in (map (wanted_of slot (layout_of table.now))
+        (λ scans. scans_in (map (wanted_for fewer slot (layout_of table.now))
         (written_in statuses.now.items)) (D.seen d.old)
         ≡ Ok (scans_of scans.items)) }
     ensures fault { D.is_modelled → IfErr result (λ f. IsOfContents f
-        → scans_in (map (wanted_of slot (layout_of table.now))
+        → scans_in (map (wanted_for fewer slot (layout_of table.now))
         (written_in statuses.now.items)) (D.seen d.old)
         ≡ Err f) }
     ensures are { IfOk result
@@ -168,41 +183,80 @@ pub fn scan_stores<D: Disk>(
     for entry in statuses.as_slice() {
         match entry {
             None => {}
-            Some(status) => scans.push(scan_store(alloc, d, table, status, slot)?)?,
+            Some(status) => scans.push(scan_store(alloc, d, table, status, slot, fewer)?)?,
         }
     }
     Ok(scans)
 }
 
-/// The plan of the target, while an update is installed from this slot, with what the stores hold
-/// that the statuses name.
-pub fn read_plan<D: Disk>(
+// The partitions of a slot with this table, and what the stores hold that the statuses name.
+fn read_parts<D: Disk>(
     alloc: Global,
     d: &mut D,
-    target: &Option<Loaded>,
+    table: &Table,
     statuses: &Statuses,
     slot: usize,
-) -> Result<Option<Listing<Part>>, StartFault>
+    fewer: bool,
+) -> Result<Listing<Part>, StartFault>
     requires slot { slot < 2 }
-    requires target { IfSome target.now (λ l. IsTargetTable (other_slot slot) l.table) }
-    requires on_disk { IfSome target.now
-        (λ l. 4096 + end_of (layout_of l.table).device ≤ D.size d.old) }
-    ensures plan { IfOk result
-        (IsPlanRead D.is_modelled slot target.now statuses.now.items (D.seen d.old)) }
+    requires target { IsTargetTable slot table.now }
+    requires on_disk { 4096 + end_of (layout_of table.now).device ≤ D.size d.old }
+    ensures parts { IfOk result
+        (AreRead D.is_modelled fewer slot table.now statuses.now.items (D.seen d.old)) }
     ensures fault { D.is_modelled → IfErr result (λ f. IsOfContents f
-        → scans_in (stores_by slot target.now (written_in statuses.now.items)) (D.seen d.old)
+        → scans_in (map (wanted_for fewer slot (layout_of table.now))
+        (written_in statuses.now.items)) (D.seen d.old)
         ≡ Err f) }
     ensures reads { OnlyReads D.Disk d.old d.new }
     ensures counts { CountsFaults D.Disk d.old d.new result }
 {
-    match target {
-        None => Ok(None),
-        Some(loaded) => match scan_stores(alloc, d, &loaded.table, statuses, 1 - slot) {
+    match scan_stores(alloc, d, table, statuses, slot, fewer) {
+        Err(fault) => Err(fault),
+        Ok(scans) => plan(alloc, table, slot, scans),
+    }
+}
+
+/// The partitions that are read through stores, with what these hold: those of an update's target,
+/// and while it is merged those of the mark's slot.
+pub fn read_plan<D: Disk>(
+    alloc: Global,
+    d: &mut D,
+    tables: &Tables,
+    statuses: &Statuses,
+    mark: &UpdateMark,
+) -> Result<Option<Listing<Part>>, StartFault>
+    requires slot { mark.now.slot < 2 }
+    requires target { IfSome (through_of mark.now.phase tables.now.source tables.now.target)
+        (λ l. IsTargetTable (through_slot mark.now.phase mark.now.slot) l.table) }
+    requires on_disk { IfSome (through_of mark.now.phase tables.now.source tables.now.target)
+        (λ l. 4096 + end_of (layout_of l.table).device ≤ D.size d.old) }
+    ensures plan { IfOk result
+        (IsPlanRead D.is_modelled (is_merging mark.now.phase)
+        (through_slot mark.now.phase mark.now.slot)
+        (through_of mark.now.phase tables.now.source tables.now.target)
+        statuses.now.items (D.seen d.old)) }
+    ensures fault { D.is_modelled → IfErr result (λ f. IsOfContents f
+        → scans_in
+        (stores_by (is_merging mark.now.phase)
+        (through_slot mark.now.phase mark.now.slot)
+        (through_of mark.now.phase tables.now.source tables.now.target)
+        (written_in statuses.now.items))
+        (D.seen d.old)
+        ≡ Err f) }
+    ensures reads { OnlyReads D.Disk d.old d.new }
+    ensures counts { CountsFaults D.Disk d.old d.new result }
+{
+    if is_merging(mark.phase) {
+        return match read_parts(alloc, d, &tables.source.table, statuses, mark.slot, true) {
             Err(fault) => Err(fault),
-            Ok(scans) => match plan(alloc, &loaded.table, 1 - slot, scans) {
-                Err(fault) => Err(fault),
-                Ok(plan) => Ok(Some(plan)),
-            },
+            Ok(parts) => Ok(Some(parts)),
+        };
+    }
+    match &tables.target {
+        None => Ok(None),
+        Some(target) => match read_parts(alloc, d, &target.table, statuses, 1 - mark.slot, false) {
+            Err(fault) => Err(fault),
+            Ok(parts) => Ok(Some(parts)),
         },
     }
 }

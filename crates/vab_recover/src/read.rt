@@ -7,10 +7,11 @@ ghost use Rattle.vab_marks.specs.Mark.{mark_of};
 ghost use Rattle.vab_geometry.specs.Geometry.{IsGeometry};
 ghost use Rattle.vab_device.specs.Faults.{Answers, IsOfContents, IsOfDisk};
 ghost use Rattle.vab_device.specs.Kept.{copies_end, super_bytes, has_both, reads_both, IsPhase};
-ghost use Rattle.vab_device.specs.Reading.{mark_read, mark_in, control_read, control_in};
+ghost use Rattle.vab_device.specs.Reading.{settled, mark_read, mark_in, control_read, control_in};
 ghost use Rattle.vab_device.specs.Reading.{geometry_at, statuses_at};
 ghost use Rattle.vab_recover.specs.Counts.{CountsFaults};
 ghost use Rattle.vab_recover.specs.Memory.{IsNamed};
+ghost use Rattle.vab_recover.specs.Opened.{is_merging, reads_statuses};
 
 use vab_bootctl::{Control, decode_control};
 use vab_device::StartFault;
@@ -41,7 +42,7 @@ fn read<D: Disk>(d: &mut D, at: u64) -> Result<[u8; 512], StartFault>
     }
 }
 
-/// Whether the tables of both slots are read in this phase, and the statuses.
+/// Whether the tables of both slots are read in this phase.
 pub fn reads_both(phase: MarkPhase) -> bool
     ensures { result ≡ reads_both phase }
 {
@@ -67,6 +68,46 @@ pub fn has_both(phase: MarkPhase) -> bool
     }
 }
 
+/// Whether the statuses of partitions are read in this phase.
+pub fn reads_statuses(phase: MarkPhase) -> bool
+    ensures { result ≡ reads_statuses phase }
+{
+    match phase {
+        MarkPhase::Idle => false,
+        MarkPhase::Installing => true,
+        MarkPhase::Staged => true,
+        MarkPhase::Merging => true,
+        MarkPhase::Completed => false,
+    }
+}
+
+/// Whether the stores of an update are merged in this phase.
+pub fn is_merging(phase: MarkPhase) -> bool
+    ensures { result ≡ is_merging phase }
+{
+    match phase {
+        MarkPhase::Idle => false,
+        MarkPhase::Installing => false,
+        MarkPhase::Staged => false,
+        MarkPhase::Merging => true,
+        MarkPhase::Completed => false,
+    }
+}
+
+// The phase of a device with this mark: where all stores are merged there is no update any more.
+fn settled(phase: MarkPhase) -> MarkPhase
+    ensures is { result ≡ settled phase }
+    ensures phase { IsPhase result }
+{
+    match phase {
+        MarkPhase::Idle => MarkPhase::Idle,
+        MarkPhase::Installing => MarkPhase::Installing,
+        MarkPhase::Staged => MarkPhase::Staged,
+        MarkPhase::Merging => MarkPhase::Merging,
+        MarkPhase::Completed => MarkPhase::Idle,
+    }
+}
+
 // The mark of these bytes, of a phase that a device may be in.
 fn known_mark(sector: &[u8; 512]) -> Result<UpdateMark, StartFault>
     ensures answers { Answers result (mark_read (mark_of sector.now)) }
@@ -75,13 +116,10 @@ fn known_mark(sector: &[u8; 512]) -> Result<UpdateMark, StartFault>
     ensures slot { IfOk result (λ m. m.slot < 2) }
 {
     match decode_mark(sector) {
-        Ok(mark) => match mark.phase {
-            MarkPhase::Idle => Ok(mark),
-            MarkPhase::Installing => Ok(mark),
-            MarkPhase::Staged => Ok(mark),
-            MarkPhase::Merging => Err(StartFault::BadMark(MARK_SECTOR)),
-            MarkPhase::Completed => Err(StartFault::BadMark(MARK_SECTOR)),
-        },
+        Ok(mark) => Ok(UpdateMark {
+            phase: settled(mark.phase),
+            slot: mark.slot,
+        }),
         Err(_) => Err(StartFault::BadMark(MARK_SECTOR)),
     }
 }
@@ -101,19 +139,19 @@ pub fn read_mark<D: Disk>(d: &mut D) -> Result<UpdateMark, StartFault>
     known_mark(&sector)
 }
 
-/// Reads the statuses where both slots' tables are read; elsewhere there are none.
+/// Reads the statuses where they are read; elsewhere there are none.
 #[tactic(auto, unfolding(vab_device::specs::Reading::statuses_at))]
-pub fn read_if<D: Disk>(d: &mut D, both: bool) -> Result<Statuses, StartFault>
+pub fn read_if<D: Disk>(d: &mut D, reads: bool) -> Result<Statuses, StartFault>
     requires { 2081 ≤ D.size d.old }
     ensures ok { D.is_modelled → IfOk result
-        (λ s. statuses_at both (D.seen d.old) ≡ Ok s.items) }
+        (λ s. statuses_at reads (D.seen d.old) ≡ Ok s.items) }
     ensures fault { D.is_modelled → IfErr result (λ f. IsOfContents f
-        → statuses_at both (D.seen d.old) ≡ Err f) }
+        → statuses_at reads (D.seen d.old) ≡ Err f) }
     ensures named { IfErr result IsNamed }
     ensures reads { OnlyReads D.Disk d.old d.new }
     ensures counts { CountsFaults D.Disk d.old d.new result }
 {
-    if !both {
+    if !reads {
         return Ok(Statuses::new());
     }
     match read_statuses(d) {

@@ -34,7 +34,7 @@ use vab_tables::Table;
 pub struct Tables {
     /// That of the mark's slot.
     pub source: Loaded,
-    /// That of the other slot, while an update isn't merged.
+    /// That of the other slot, while an update is installed or ready.
     pub target: Option<Loaded>,
 }
 
@@ -110,7 +110,7 @@ pub fn read_table<D: Disk>(
     Ok(loaded)
 }
 
-// Reads the target's table, where there is an update.
+// Reads the target's table, while an update is installed or ready.
 fn read_target<D: Disk>(
     alloc: Global,
     d: &mut D,
@@ -141,7 +141,7 @@ fn read_target<D: Disk>(
     }
 }
 
-/// Reads the table of the mark's slot, and where there is an update that of the other.
+/// Reads the table of the mark's slot, and while an update is installed or ready that of the other.
 /// `BadTable` comes exactly where it says, the mark's slot's first.
 pub fn read_tables<D: Disk>(
     alloc: Global,

@@ -1,21 +1,26 @@
 ghost use Rattle.std.specs.Prelude.{◌<◌, ◌≤◌};
 
 use super::*;
-use crate::texts::{KEPT_SUMS, UNLIMITED, UPDATED_SUMS};
+use crate::texts::{KEPT_SUMS, UNLIMITED, UPDATED_SUMS, WITH_STORE};
 use std::alloc::Global;
 use std::test::*;
 use vab_bootctl::{Control, ControlFault, Info, encode_control_into};
-use vab_device::{PhaseKind, StartFault};
+use vab_bytes::Name36;
+use vab_device::{Device, PartImage, PhaseKind, StartFault};
 use vab_disk::{CallKind, Disk, MemPort};
+use vab_exceptions::encode_store_header;
 use vab_gate::DiskFault;
 use vab_geometry::{Geometry, encode_geometry};
-use vab_marks::{MarkPhase, UpdateMark, encode_mark};
+use vab_marks::{MarkPhase, PartStatus, UpdateMark, encode_mark, encode_status};
 
 const SECTORS: u64 = 8192;
 
 const CONTROL: u64 = 4;
 
 const MARK: u64 = 2048;
+
+// The first status of a partition.
+const STATUS: u64 = 2049;
 
 const GEOMETRY: u64 = 4104;
 
@@ -30,6 +35,11 @@ const TABLE_BACKUP: u64 = 4376;
 const TARGET: u64 = 4248;
 
 const TARGET_BACKUP: u64 = 4504;
+
+// The store of slot a's partition, and its area.
+const STORE: u64 = 6944;
+
+const AREA: u64 = 6952;
 
 // The sectors of slot a's table.
 fn table() -> ([u8; 512], [u8; 512]) {
@@ -169,6 +179,73 @@ fn staged(alloc: Global, target: [u8; 512], control: [u8; 512]) -> Result<MemPor
     Ok(d)
 }
 
+// The sectors of slot a's table, whose partition is marked as updated and has a store.
+fn table_with_store() -> ([u8; 512], [u8; 512]) {
+    let mut first = [0u8; 512];
+    first.copy_from_slice(&WITH_STORE[..512]);
+    let mut second = [0u8; 512];
+    second[..152].copy_from_slice(&WITH_STORE[512..]);
+    (first, second)
+}
+
+// A sector of an area, with the exception at that byte of this block, in this chunk.
+fn with_exception(mut sector: [u8; 512], at: usize, block: u8, chunk: u8) -> [u8; 512]
+    requires { at < 256 }
+{
+    sector[at] = block;
+    sector[at + 8] = chunk;
+    sector
+}
+
+// An area with no exceptions, and with the first, the first two or all of three.
+fn areas() -> [[u8; 512]; 4] {
+    let none = [0u8; 512];
+    let one = with_exception(none, 0, 7, 2);
+    let two = with_exception(one, 16, 30, 3);
+    [none, one, two, with_exception(two, 32, 41, 4)]
+}
+
+fn full_name() -> Result<Name36, Fail> {
+    Ok(Name36::parse(b"system_a").ok().ok_or("it is a name")?)
+}
+
+// The status of slot a's partition, with two exceptions.
+fn status() -> Result<[u8; 512], Fail> {
+    let status = PartStatus {
+        name: full_name()?,
+        count: 2,
+    };
+    Ok(encode_status(&status))
+}
+
+// A disk in this phase whose slot a has a partition with a store of that area.
+fn with_store(alloc: Global, phase: MarkPhase, area: [u8; 512]) -> Result<MemPort, Fail> {
+    let mut d = device(alloc)?;
+    let (first, second) = table_with_store();
+    let sectors = [
+        (MARK, mark(phase)),
+        (STATUS, status()?),
+        (TABLE, first),
+        (TABLE + 1, second),
+        (TABLE_BACKUP, first),
+        (TABLE_BACKUP + 1, second),
+        (STORE, encode_store_header()),
+        (AREA, area),
+    ];
+    put_each(&mut d, &sectors)?;
+    Ok(d)
+}
+
+// How many exceptions the store of slot a's partition has, where it is read through one.
+fn left(device: &Device) -> Option<u64> {
+    let part = device.images(0)?.as_slice().first()?;
+    match &part.image {
+        PartImage::Kept => None,
+        PartImage::Declared => None,
+        PartImage::Written(view) => Some(view.count()),
+    }
+}
+
 #[test]
 fn a_disk_is_its_device(rt: HostRuntime) -> Result<(), Fail> {
     let alloc = rt.alloc();
@@ -217,11 +294,9 @@ fn the_first_fault_is_told(rt: HostRuntime) -> Result<(), Fail> {
             Err(StartFault::BadGeometry),
         ),
         ([MARK, MARK], zeros, Err(StartFault::BadMark(2048))),
-        (
-            [MARK, MARK],
-            mark(MarkPhase::Merging),
-            Err(StartFault::BadMark(2048)),
-        ),
+        // Nothing is left to be merged, or all is.
+        ([MARK, MARK], mark(MarkPhase::Merging), Ok(256)),
+        ([MARK, MARK], mark(MarkPhase::Completed), Ok(256)),
         // While an update is installed or ready, slot b has a table too.
         (
             [MARK, MARK],
@@ -313,6 +388,86 @@ fn an_update_that_is_ready_keeps_the_rules_of_the_slots(rt: HostRuntime) -> Resu
         let mut d = staged(alloc, target, control)?;
         assert_eq!(rt; start(alloc, &mut d).map(|device| device.cap()), answer);
     }
+    Ok(())
+}
+
+#[test]
+fn a_slot_that_is_merged_is_read_through_its_store(rt: HostRuntime) -> Result<(), Fail> {
+    let alloc = rt.alloc();
+    let mut d = with_store(alloc, MarkPhase::Merging, areas()[1])?;
+    let device = start(alloc, &mut d).ok().ok_or("it is a device")?;
+    assert_eq!(rt; device.phase(), PhaseKind::Merging(0));
+    assert_eq!(rt; device.current(), 0);
+    assert_eq!(rt; device.slot_info(0).map(|info| info.priority), Some(15));
+    assert!(rt; device.images(1).is_none());
+    assert!(rt; device.plan.is_none());
+    assert_eq!(rt; left(&device), Some(1));
+    let parts = device.images(0).ok_or("slot a has images")?.as_slice();
+    assert_eq!(rt; parts.len(), 1);
+    let part = parts.first().ok_or("there is a partition")?;
+    assert_eq!(rt; part.name.text(), b"system".as_slice());
+    assert_eq!(rt; part.map.len(), 100);
+    assert_eq!(rt; part.store.as_ref().map(|store| store.len()), Some(5));
+    if let PartImage::Written(view) = &part.image {
+        assert_eq!(rt; view.chunk_of(7), Some(2));
+        assert_eq!(rt; view.chunk_of(30), None);
+    }
+    Ok(())
+}
+
+#[test]
+fn a_merge_keeps_the_rules_of_its_slot(rt: HostRuntime) -> Result<(), Fail> {
+    let alloc = rt.alloc();
+    let [none, one, two, three] = areas();
+    let zeros = [0u8; 512];
+    let good = control(0, 15, true);
+    let bad_store = StartFault::BadStore(full_name()?);
+    // The area, the status and the boot control, and how many exceptions are left or the fault.
+    let cases = [
+        (none, status()?, good, Ok(Some(0))),
+        (one, status()?, good, Ok(Some(1))),
+        (two, status()?, good, Ok(Some(2))),
+        (three, status()?, good, Err(bad_store)),
+        (two, zeros, good, Err(StartFault::BadState(3))),
+        (
+            two,
+            status()?,
+            control(1, 15, true),
+            Err(StartFault::BadState(1)),
+        ),
+        (
+            two,
+            status()?,
+            control(0, 15, false),
+            Err(StartFault::BadState(2)),
+        ),
+    ];
+    for (area, status, control, answer) in cases {
+        let mut d = with_store(alloc, MarkPhase::Merging, area)?;
+        assert!(rt; put(&mut d, STATUS, &status));
+        assert!(rt; put(&mut d, CONTROL, &control));
+        assert_eq!(rt; start(alloc, &mut d).map(|device| left(&device)), answer);
+    }
+    Ok(())
+}
+
+#[test]
+fn a_slot_whose_stores_are_all_merged_has_no_update(rt: HostRuntime) -> Result<(), Fail> {
+    let alloc = rt.alloc();
+    let mut d = with_store(alloc, MarkPhase::Completed, areas()[2])?;
+    let device = start(alloc, &mut d).ok().ok_or("it is a device")?;
+    assert_eq!(rt; device.phase(), PhaseKind::Idle);
+    assert_eq!(rt; device.current(), 0);
+    assert!(rt; device.images(1).is_none());
+    assert!(rt; device.plan.is_none());
+    // Its partition is what its own blocks hold.
+    assert_eq!(rt; left(&device), None);
+    let parts = device.images(0).ok_or("slot a has images")?.as_slice();
+    assert_eq!(rt; parts.len(), 1);
+    let part = parts.first().ok_or("there is a partition")?;
+    assert_eq!(rt; part.name.text(), b"system".as_slice());
+    assert_eq!(rt; part.map.len(), 100);
+    assert!(rt; matches!(&part.image, PartImage::Kept));
     Ok(())
 }
 

@@ -1,3 +1,4 @@
+pub mod AloneLaws
 mod Changing
 mod Data
 mod Endings

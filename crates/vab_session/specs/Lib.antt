@@ -1,3 +1,5 @@
+pub mod Alone
 pub mod Fault
+pub mod Merges
 pub mod Responses
 pub mod Served

@@ -1,18 +1,19 @@
 //! One exchange: what it changes, and then its reply.
 ghost use Rattle.std.specs.Prelude.{◌≡◌, ◌≤◌, ℕ, List, length, OnOk, IfOk, IfErr, Ok, MatchOption};
-ghost use Rattle.std.specs.Prelude.{Result, option_map};
+ghost use Rattle.std.specs.Prelude.{Result, option_map, false};
 ghost use Rattle.vab_fbtcp.specs.declared.event.Place.TheVariants.{Length};
 ghost use Rattle.vab_device.specs.Kept.{IsDevice};
 ghost use Rattle.vab_device.specs.Reading.{Represents};
 ghost use Rattle.vab_fbproto.specs.Requests.{Asked, Do, Download, request_of};
 ghost use Rattle.vab_fbproto.specs.declared.request.BadCommand.{BadCommand};
 ghost use Rattle.vab_model.specs.Commands.{command_of};
-ghost use Rattle.vab_device.specs.Does.{KeepsSource};
-ghost use Rattle.vab_commands.specs.Touched.{ChangesDevice};
+ghost use Rattle.vab_device.specs.Does.{KeepsSource, is_of_merge};
+ghost use Rattle.vab_commands.specs.Touched.{ChangesDevice, ChangesBy, FollowsBy};
 ghost use Rattle.vab_exchanges.specs.Session.{ends_session};
 ghost use Rattle.vab_exchanges.specs.Reading.{stands_at, rest_of, beyond_of, room_of, total_of};
 ghost use Rattle.vab_exchanges.specs.Reading.{count_of, most_of, IsFed};
 ghost use Rattle.vab_exchanges.specs.Items.{AsksNoData, staged_after};
+ghost use Rattle.vab_session.specs.Merges.{asks_merge};
 ghost use Rattle.vab_session.specs.Responses.{response, still, takes_staged};
 ghost use Rattle.vab_session.specs.Served.{kept_on, AnswersOrFails, HasCause};
 
@@ -25,6 +26,7 @@ use vab_disk::{Disk, Port};
 use vab_exchanges::Reader;
 use vab_fbproto::{Request, bad_text, read_command, reply_text};
 use vab_fbvars::variable;
+use vab_merging::left;
 use vab_model::{Command, Reply};
 
 /// The most bytes of a download.
@@ -104,7 +106,8 @@ fn carry_out<P: Port>(
     ensures size { P.size p.new ≡ P.size p.old }
     ensures left { P.is_modelled → P.input_left p.new ≡ P.input_left p.old }
     ensures device { IfOk result (λ k. IsDevice k.device (P.size p.old)) }
-    ensures source { IfOk result (λ k. KeepsSource kept.device k.device) }
+    ensures follows { IfOk result
+        (λ k. FollowsBy kept.device (is_of_merge (command_of command.now) ≡ false) k.device) }
     ensures stands { P.is_modelled
         → IfOk result (λ k. Represents k.device (P.size p.old) (P.seen p.new)) }
     ensures does { P.is_modelled
@@ -116,7 +119,8 @@ fn carry_out<P: Port>(
         response k.now k.staged asked ≡ response k.now k.staged (Ok (Do (command_of command.now))))
         → AnswersOrFails (P.size p.old) P.Disk (kept_on kept (P.seen p.old))
         packet before before beyond count total most p.old p.new result }
-    ensures changes { P.is_modelled → ChangesDevice P.Disk kept.device p.old p.new }
+    ensures changes { P.is_modelled
+        → ChangesBy P.Disk kept.device (is_of_merge (command_of command.now) ≡ false) p.old p.new }
     ensures cause { HasCause P.Disk p.old p.new result }
 {
     let KeptDevice { device, staged } = kept;
@@ -133,8 +137,7 @@ fn carry_out<P: Port>(
     }
 }
 
-// Answers a packet that isn't a download. It hears nothing. No update is merged yet: that is
-// refused, however many blocks are left.
+// Answers a packet that isn't a download. It hears nothing.
 fn command<P: Port>(
     alloc: Global,
     p: &mut P,
@@ -147,14 +150,16 @@ fn command<P: Port>(
     ensures size { P.size p.new ≡ P.size p.old }
     ensures left { P.is_modelled → P.input_left p.new ≡ P.input_left p.old }
     ensures device { IfOk result (λ k. IsDevice k.device (P.size p.old)) }
-    ensures source { IfOk result (λ k. KeepsSource kept.device k.device) }
+    ensures follows { IfOk result
+        (λ k. FollowsBy kept.device (asks_merge (request_of packet.now) ≡ false) k.device) }
     ensures stands { P.is_modelled
         → IfOk result (λ k. Represents k.device (P.size p.old) (P.seen p.new)) }
     ensures does { P.is_modelled
         → (before beyond : List ℕ) (count total most : ℕ)
         → AnswersOrFails (P.size p.old) P.Disk (kept_on kept (P.seen p.old))
         packet.now before before beyond count total most p.old p.new result }
-    ensures changes { P.is_modelled → ChangesDevice P.Disk kept.device p.old p.new }
+    ensures changes { P.is_modelled
+        → ChangesBy P.Disk kept.device (asks_merge (request_of packet.now) ≡ false) p.old p.new }
     ensures cause { HasCause P.Disk p.old p.new result }
 {
     match read_command(packet) {
@@ -165,7 +170,10 @@ fn command<P: Port>(
             tell_still(p, kept, text.as_slice())
         }
         Ok(Request::Do(command)) => carry_out(alloc, p, kept, &command),
-        Ok(Request::MergeAll) => carry_out(alloc, p, kept, &Command::Merge(1)),
+        Ok(Request::MergeAll) => {
+            let command = Command::Merge(left(&kept.device) + 1);
+            carry_out(alloc, p, kept, &command)
+        }
         Ok(Request::BootAndEnd) => carry_out(alloc, p, kept, &Command::Boot),
         Err(bad) => tell_still(p, kept, bad_text(bad)),
     }
@@ -290,7 +298,8 @@ pub(crate) fn answer<P: Port>(
         (beyond_of reader.new (P.input_left p.new) ≡ beyond_of reader.old (P.input_left p.old)) }
     ensures most { most_of reader.new ≡ most_of reader.old }
     ensures device { IfOk result (λ k. IsDevice k.device (P.size p.old)) }
-    ensures source { IfOk result (λ k. KeepsSource kept.device k.device) }
+    ensures follows { IfOk result
+        (λ k. FollowsBy kept.device (asks_merge (request_of packet.now) ≡ false) k.device) }
     ensures stands { P.is_modelled
         → IfOk result (λ k. Represents k.device (P.size p.old) (P.seen p.new)) }
     ensures does { P.is_modelled
@@ -302,7 +311,8 @@ pub(crate) fn answer<P: Port>(
         (count_of reader.old (P.input_left p.old))
         (total_of reader.old (P.input_left p.old))
         (most_of reader.old) p.old p.new result }
-    ensures changes { P.is_modelled → ChangesDevice P.Disk kept.device p.old p.new }
+    ensures changes { P.is_modelled
+        → ChangesBy P.Disk kept.device (asks_merge (request_of packet.now) ≡ false) p.old p.new }
     ensures cause { HasCause P.Disk p.old p.new result }
 {
     match announced(packet) {

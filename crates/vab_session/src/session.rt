@@ -3,11 +3,11 @@ ghost use Rattle.std.specs.Prelude.{◌≡◌, ◌<◌, ◌++◌, ◌^◌, ℕ, 
 ghost use Rattle.vab_fbtcp.specs.declared.event.Place.TheVariants.{Length};
 ghost use Rattle.vab_device.specs.Kept.{IsDevice};
 ghost use Rattle.vab_device.specs.Reading.{IsIn, Represents};
-ghost use Rattle.vab_device.specs.Does.{KeepsSource};
-ghost use Rattle.vab_commands.specs.Touched.{ChangesDevice};
+ghost use Rattle.vab_commands.specs.Touched.{ChangesBy};
 ghost use Rattle.vab_exchanges.specs.Reading.{stands_at, rest_of, beyond_of, total_of, count_of};
 ghost use Rattle.vab_exchanges.specs.Reading.{most_of, IsFed};
 ghost use Rattle.vab_exchanges.specs.Runs.{Ran};
+ghost use Rattle.vab_session.specs.Merges.{IsPlain, MergesNothing};
 ghost use Rattle.vab_session.specs.Responses.{response};
 ghost use Rattle.vab_session.specs.Served.{kept_on, Held, Says, reached, SaysSlot};
 ghost use Rattle.vab_session.specs.Served.{ServesDevice, HasCause};
@@ -59,7 +59,10 @@ fn answer_all<P: Port>(
         → IfOk result (λ r. Represents r.1 (P.size p.old) (P.seen p.new)) }
     ensures slot { IfOk result (λ r. SaysSlot r.0 r.1) }
     ensures size { P.size p.new ≡ P.size p.old }
-    ensures changes { P.is_modelled → ChangesDevice P.Disk kept.device p.old p.new }
+    ensures changes { P.is_modelled
+        → ChangesBy P.Disk kept.device
+        (IsPlain (P.told p.old) (rest_of reader.old (P.input_left p.old)))
+        p.old p.new }
     ensures cause { HasCause P.Disk p.old p.new result }
 {
     let mut kept = kept;
@@ -88,8 +91,9 @@ fn answer_all<P: Port>(
 /// hears only where all that has come is answered. A download wants as much memory as it announces,
 /// and an update as much as its tables and stores; where that is refused `FAILout of memory` is
 /// told. However it ends, it has changed what its commands may write alone: boot control by the
-/// boot rules, the update mark, the statuses, the target's table, and blocks of no image. Source:
-/// the fastboot README, protocol 0.4, TCP version 1.
+/// boot rules, the update mark, the statuses, tables, and blocks behind them. Where no packet asks
+/// for a merge, those are the target's table, and blocks of no image. Source: the fastboot README,
+/// protocol 0.4, TCP version 1.
 pub fn serve_up_to<P: Port>(
     alloc: Global,
     p: &mut P,
@@ -105,7 +109,8 @@ pub fn serve_up_to<P: Port>(
         → IfOk result (λ r. Represents r.1 (P.size p.old) (P.seen p.new)) }
     ensures slot { IfOk result (λ r. SaysSlot r.0 r.1) }
     ensures size { P.size p.new ≡ P.size p.old }
-    ensures changes { P.is_modelled → ChangesDevice P.Disk device p.old p.new }
+    ensures changes { P.is_modelled
+        → ChangesBy P.Disk device (MergesNothing most (P.input_left p.old)) p.old p.new }
     ensures cause { HasCause P.Disk p.old p.new result }
 {
     if say_all(p, b"FB01").is_err() {
@@ -138,7 +143,8 @@ pub fn serve<P: Port>(
         → IfOk result (λ r. Represents r.1 (P.size p.old) (P.seen p.new)) }
     ensures slot { IfOk result (λ r. SaysSlot r.0 r.1) }
     ensures size { P.size p.new ≡ P.size p.old }
-    ensures changes { P.is_modelled → ChangesDevice P.Disk device p.old p.new }
+    ensures changes { P.is_modelled
+        → ChangesBy P.Disk device (MergesNothing (2 ^ 44) (P.input_left p.old)) p.old p.new }
     ensures cause { HasCause P.Disk p.old p.new result }
 {
     serve_up_to(alloc, p, device, MAX_SESSION)

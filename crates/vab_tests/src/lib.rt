@@ -9,6 +9,8 @@ mod faults;
 #[cfg(test)]
 mod installing;
 #[cfg(test)]
+mod merging;
+#[cfg(test)]
 mod others;
 #[cfg(test)]
 mod packets;

@@ -86,7 +86,7 @@ fn each_packet_has_its_reply(rt: HostRuntime) -> Result<(), Fail> {
         (b"flash:system_b", b"FAILno update is being installed"),
         (b"snapshot-update:cancel", b"FAILno update to cancel"),
         (b"snapshot-update:merge", b"FAILno merge is in progress"),
-        (b"oem begin-merge", b"FAILunknown command"),
+        (b"oem begin-merge", b"FAILno update is staged"),
         (b"oem merge 1", b"FAILno merge is in progress"),
         (b"oem merge 4294967295", b"FAILno merge is in progress"),
         (b"oem begin x", b"FAILbad argument"),

@@ -11,10 +11,10 @@ use std::test::Fail;
 use vab_cli::run;
 use vab_disk::{CallKind, MemPort};
 
-const MADE: &[u8] = b"made 1 images, 100 of 256 blocks\n";
+pub(crate) const MADE: &[u8] = b"made 1 images, 100 of 256 blocks\n";
 
 // Runs a session of these packets, and asks for the first bytes that boot control has of the slots.
-fn serve(
+pub(crate) fn serve(
     rt: &impl Abort,
     alloc: Global,
     d: MemPort,
@@ -30,7 +30,7 @@ fn serve(
 }
 
 // A device of slot a with an update of the same image, which is to be booted next.
-fn staged(rt: &impl Abort, alloc: Global) -> Result<MemPort, Fail> {
+pub(crate) fn staged(rt: &impl Abort, alloc: Global) -> Result<MemPort, Fail> {
     let d = steps(rt, alloc, SECTORS, &[(&["make"], &SYSTEM, 0, MADE)])?;
     let cases: [Case; 9] = [
         (b"oem begin".as_slice(), b"OKAY".as_slice()),

@@ -11,8 +11,8 @@ use Rattle.clap.specs.Simple.{App, Shape, built, entered, is_simple, names_of}
 use Rattle.clap.specs.Takes.{built_takes, bundle_passes, bundle_step_passes, flag_word_passes, flags_pass, step_passes, turn_passes, walk_passes}
 use Rattle.clap.proofs.OnLiterals.{clap_on_literals}
 use Rattle.vab_words.specs.Command.{found_in, is_taken, vab_app}
-use Rattle.vab_words.specs.Values.{limit_of, metadata_max_of, slot_of}
-use Rattle.vab_words.specs.Verbs.{Activate, Digest, Make, Meaning, Print, make_of, verb_in, verb_of}
+use Rattle.vab_words.specs.Values.{blocks_of, limit_of, metadata_max_of, slot_of}
+use Rattle.vab_words.specs.Verbs.{Activate, Digest, Make, Meaning, Merge, Print, make_of, verb_in, verb_of}
 use Rattle.vab_words.specs.Spelled.{is_verb_name, name_of, verb_names}
 use Rattle.vab_words.proofs.Asked.{untaken}
 
@@ -147,6 +147,14 @@ enters_mark : Enters (codes "mark")
 unfolding clap_on_literals vab_app
 enters_mark = (refl, λ behind. (_, refl))
 
+enters_begin_merge : Enters (codes "begin-merge")
+unfolding clap_on_literals vab_app
+enters_begin_merge = (refl, λ behind. (_, refl))
+
+enters_merge : Enters (codes "merge")
+unfolding clap_on_literals vab_app
+enters_merge = (refl, λ behind. (_, refl))
+
 enters_cancel : Enters (codes "cancel")
 unfolding clap_on_literals vab_app
 enters_cancel = (refl, λ behind. (_, refl))
@@ -192,6 +200,14 @@ mark_in : (rows : List Row) → IsNamed (codes "mark") (verb_in (codes "mark") r
 unfolding verb_in
 mark_in rows = refl
 
+begin_merge_in : (rows : List Row) → IsNamed (codes "begin-merge") (verb_in (codes "begin-merge") rows)
+unfolding verb_in
+begin_merge_in rows = refl
+
+merge_in : (rows : List Row) → IsNamed (codes "merge") (verb_in (codes "merge") rows)
+unfolding verb_in
+merge_in rows = mapped (codes "merge") Merge (λ _. refl) (option_and_then blocks_of (first_of (codes "blocks") rows))
+
 cancel_in : (rows : List Row) → IsNamed (codes "cancel") (verb_in (codes "cancel") rows)
 unfolding verb_in
 cancel_in rows = refl
@@ -231,14 +247,20 @@ each_named rest = (
       (
         named_verb (codes "mark") rest enters_mark mark_in,
         (
-          named_verb (codes "cancel") rest enters_cancel cancel_in,
+          named_verb (codes "begin-merge") rest enters_begin_merge begin_merge_in,
           (
-            named_verb (codes "activate") rest enters_activate activate_in,
+            named_verb (codes "merge") rest enters_merge merge_in,
             (
-              named_verb (codes "print") rest enters_print print_in,
+              named_verb (codes "cancel") rest enters_cancel cancel_in,
               (
-                named_verb (codes "digest") rest enters_digest digest_in,
-                tt,
+                named_verb (codes "activate") rest enters_activate activate_in,
+                (
+                  named_verb (codes "print") rest enters_print print_in,
+                  (
+                    named_verb (codes "digest") rest enters_digest digest_in,
+                    tt,
+                  ),
+                ),
               ),
             ),
           ),

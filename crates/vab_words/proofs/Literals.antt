@@ -1,5 +1,5 @@
 -- What words that are written out ask for.
-use Rattle.std.proofs.Common.{◌≡◌, true, false, [], ◌∷◌, Some, None, codes, option_map, refl, arith}
+use Rattle.std.proofs.Common.{◌≡◌, ◌∙◌, ap, true, false, [], ◌∷◌, Some, None, codes, option_map, refl, arith}
 use Rattle.std.specs.Prelude.{◌==◌}
 use Rattle.std.proofs.lemmas.Bool.Decides.{nat_tests}
 use Rattle.std.specs.Str.{bytes_eq}
@@ -7,9 +7,10 @@ use Rattle.clap.specs.Lexer.{long_of, short_of, strip_byte}
 use Rattle.clap.specs.Words.{Text}
 use Rattle.clap.proofs.OnLiterals.{clap_on_literals}
 use Rattle.vab_words.specs.Command.{found_in, is_taken, vab_app}
-use Rattle.vab_words.specs.Values.{limit_of, metadata_max_of, slot_of}
-use Rattle.vab_words.specs.Verbs.{Activate, Boot, Cancel, Digest, Make, Mark, Print, Serve, is_set}
-use Rattle.vab_words.specs.Verbs.{make_of, verb_in, verb_of}
+use Rattle.vab_words.specs.Values.{blocks_of, is_number, limit_of, metadata_max_of}
+use Rattle.vab_words.specs.Values.{number_up_to, slot_of}
+use Rattle.vab_words.specs.Verbs.{Activate, BeginMerge, Boot, Cancel, Digest, Make, Mark, Merge}
+use Rattle.vab_words.specs.Verbs.{Print, Serve, is_set, make_of, verb_in, verb_of}
 use Rattle.vab_words.specs.Spelled.{AsksBy, IsPlain, MakesBy}
 
 pub serve : verb_of (codes "serve" ∷ []) ≡ Some (Serve false)
@@ -27,6 +28,10 @@ boot = refl
 pub mark : verb_of (codes "mark" ∷ []) ≡ Some Mark
 unfolding clap_on_literals vab_app is_taken found_in verb_of verb_in
 mark = refl
+
+pub begin_merge : verb_of (codes "begin-merge" ∷ []) ≡ Some BeginMerge
+unfolding clap_on_literals vab_app is_taken found_in verb_of verb_in
+begin_merge = refl
 
 pub cancel : verb_of (codes "cancel" ∷ []) ≡ Some Cancel
 unfolding clap_on_literals vab_app is_taken found_in verb_of verb_in
@@ -67,6 +72,17 @@ no_long text plain = rw (no_hyphen text plain) refl
 
 no_short : (text : Text) → IsPlain text → short_of text ≡ None
 no_short text plain = rw (no_hyphen text plain) refl
+
+pub merge : AsksBy (codes "merge") (λ text. option_map Merge (blocks_of text))
+unfolding clap_on_literals vab_app is_taken found_in verb_of verb_in
+merge text plain = rw (no_dashes text plain, no_long text plain, no_short text plain) refl
+
+five : blocks_of (codes "5") ≡ Some 5
+unfolding blocks_of number_up_to is_number
+five = refl
+
+pub merge_five : verb_of (codes "merge" ∷ codes "5" ∷ []) ≡ Some (Merge 5)
+merge_five = merge (codes "5") (grind (arith, nat_tests)) ∙ ap (option_map Merge) five
 
 pub activate : AsksBy (codes "activate") (λ text. option_map Activate (slot_of text))
 unfolding clap_on_literals vab_app is_taken found_in verb_of verb_in

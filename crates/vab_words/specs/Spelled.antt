@@ -3,8 +3,8 @@ use Rattle.std.specs.Prelude.{◌≡◌, ◌≢◌, Bool, List, [], ◌∷◌, O
 use Rattle.std.specs.List.{list_any}
 use Rattle.std.specs.Str.{bytes_eq}
 use Rattle.clap.specs.Words.{Text}
-use Rattle.vab_words.specs.Verbs.{Activate, Boot, Cancel, Digest, Make, Mark, Meaning, Print, Serve}
-use Rattle.vab_words.specs.Verbs.{verb_of}
+use Rattle.vab_words.specs.Verbs.{Activate, BeginMerge, Boot, Cancel, Digest, Make, Mark}
+use Rattle.vab_words.specs.Verbs.{Meaning, Merge, Print, Serve, verb_of}
 
 -- the word is no option: it doesn't begin with a hyphen
 abbrev pub IsPlain : Text → Type 0
@@ -21,8 +21,8 @@ MakesBy option meaning =
 
 abbrev pub verb_names : List Text
 verb_names =
-    codes "make" ∷ codes "serve" ∷ codes "boot" ∷ codes "mark" ∷ codes "cancel" ∷ codes "activate" ∷
-    codes "print" ∷ codes "digest" ∷ []
+    codes "make" ∷ codes "serve" ∷ codes "boot" ∷ codes "mark" ∷ codes "begin-merge" ∷
+    codes "merge" ∷ codes "cancel" ∷ codes "activate" ∷ codes "print" ∷ codes "digest" ∷ []
 
 -- the word is the name of a verb
 abbrev pub is_verb_name : Text → Bool
@@ -34,6 +34,8 @@ name_of (Make limit metadata_max) = codes "make"
 name_of (Serve fresh) = codes "serve"
 name_of Boot = codes "boot"
 name_of Mark = codes "mark"
+name_of BeginMerge = codes "begin-merge"
+name_of (Merge blocks) = codes "merge"
 name_of Cancel = codes "cancel"
 name_of (Activate slot) = codes "activate"
 name_of (Print name) = codes "print"

@@ -1,6 +1,7 @@
 -- The values of options and operands.
-use Rattle.std.specs.Prelude.{◌≡◌, ◌≤◌, ℕ, Bool, ◌&&◌, ◌==◌, ◌%◌, ◌^◌, List, length, Option, Some}
-use Rattle.std.specs.Prelude.{None, codes, if◌then◌else◌, nat_lt, nat_le, option_and_then}
+use Rattle.std.specs.Prelude.{◌≡◌, ◌≤◌, ◌<◌, ℕ, Bool, ◌&&◌, ◌==◌, ◌-◌, ◌%◌, ◌^◌, List, length}
+use Rattle.std.specs.Prelude.{Option, Some, None, codes, if◌then◌else◌, nat_lt, nat_le}
+use Rattle.std.specs.Prelude.{option_and_then}
 use Rattle.std.specs.Char.{is_ascii_digit}
 use Rattle.std.specs.List.{list_all}
 use Rattle.std.specs.Str.{bytes_eq}
@@ -33,6 +34,17 @@ metadata_max_of (Some text) = option_and_then whole_sectors (number_up_to 65536 
 -- a multiple of 512 from 512 to 65536
 abbrev pub IsMetadataMax : ℕ → Type 0
 IsMetadataMax bytes = (bytes % 512 ≡ 0) × (512 ≤ bytes) × (bytes ≤ 65536)
+
+-- the operand of `merge`: from 1 to 2^32 - 1
+abbrev pub some_blocks : ℕ → Option ℕ
+some_blocks blocks = if nat_le 1 blocks then Some blocks else None
+
+unfoldable pub blocks_of : List ℕ → Option ℕ
+blocks_of text = option_and_then some_blocks (number_up_to (2 ^ 32 - 1) text)
+
+-- from 1 to 2^32 - 1
+abbrev pub IsBlocks : ℕ → Type 0
+IsBlocks blocks = (1 ≤ blocks) × (blocks < 2 ^ 32)
 
 -- the slot of a letter: 0 for a and 1 for b
 unfoldable pub slot_of : List ℕ → Option ℕ

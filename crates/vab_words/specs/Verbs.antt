@@ -5,7 +5,8 @@ use Rattle.std.specs.Option.{option_map_or}
 use Rattle.std.specs.Str.{bytes_eq}
 use Rattle.clap.specs.Words.{Row, Text, first_of}
 use Rattle.vab_words.specs.Command.{found_in, is_taken}
-use Rattle.vab_words.specs.Values.{limit_of, metadata_max_of, slot_of, IsMetadataMax}
+use Rattle.vab_words.specs.Values.{blocks_of, limit_of, metadata_max_of, slot_of, IsBlocks}
+use Rattle.vab_words.specs.Values.{IsMetadataMax}
 use Rattle.clap.specs.declared.error.kind.ErrorKind.{ErrorKind}
 use Rattle.clap.specs.declared.error.kind.ErrorKind.TheVariants as kind
 use Rattle.vab_words.specs.declared.verb.WordsFault.{WordsFault}
@@ -19,6 +20,8 @@ pub data Meaning : Type 0 where
   Serve : Bool → Meaning
   Boot : Meaning
   Mark : Meaning
+  BeginMerge : Meaning
+  Merge : ℕ → Meaning
   Cancel : Meaning
   Activate : ℕ → Meaning
   Print : Text → Meaning
@@ -29,17 +32,21 @@ meaning_of (code.Make limit metadata_max) = Make limit metadata_max
 meaning_of (code.Serve fresh) = Serve fresh
 meaning_of code.Boot = Boot
 meaning_of code.Mark = Mark
+meaning_of code.BeginMerge = BeginMerge
+meaning_of (code.Merge blocks) = Merge blocks
 meaning_of code.Cancel = Cancel
 meaning_of (code.Activate slot) = Activate slot
 meaning_of (code.Print name) = Print name.now
 meaning_of (code.Digest name) = Digest name.now
 
--- the values of `make` are in their ranges
+-- the values of `make` and of `merge` are in their ranges
 abbrev pub IsInRange : Verb → Type 0
 IsInRange (code.Make limit metadata_max) = (limit ≤ 2 ^ 44) × IsMetadataMax metadata_max
 IsInRange (code.Serve fresh) = Unit {0}
 IsInRange code.Boot = Unit {0}
 IsInRange code.Mark = Unit {0}
+IsInRange code.BeginMerge = Unit {0}
+IsInRange (code.Merge blocks) = IsBlocks blocks
 IsInRange code.Cancel = Unit {0}
 IsInRange (code.Activate slot) = Unit {0}
 IsInRange (code.Print name) = Unit {0}
@@ -63,6 +70,9 @@ verb_in name rows =
     else if bytes_eq name (codes "serve") then Some (Serve (is_set (first_of (codes "fresh") rows)))
     else if bytes_eq name (codes "boot") then Some Boot
     else if bytes_eq name (codes "mark") then Some Mark
+    else if bytes_eq name (codes "begin-merge") then Some BeginMerge
+    else if bytes_eq name (codes "merge") then option_map Merge
+    (option_and_then blocks_of (first_of (codes "blocks") rows))
     else if bytes_eq name (codes "cancel") then Some Cancel
     else if bytes_eq name (codes "activate") then option_map Activate
     (option_and_then slot_of (first_of (codes "slot") rows))

@@ -72,6 +72,8 @@ pub(crate) fn vab<'a>(alloc: Global) -> Result<Command<'a>, AllocError>
         .subcommand(serve(alloc)?)?
         .subcommand(Command::new(alloc, "boot"))?
         .subcommand(Command::new(alloc, "mark"))?
+        .subcommand(Command::new(alloc, "begin-merge"))?
+        .subcommand(with_operand(alloc, "merge", "blocks")?)?
         .subcommand(Command::new(alloc, "cancel"))?
         .subcommand(with_operand(alloc, "activate", "slot")?)?
         .subcommand(with_operand(alloc, "print", "name")?)?

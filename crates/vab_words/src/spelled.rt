@@ -2,9 +2,9 @@
 ghost use Rattle.std.specs.Prelude.{◌≡◌, true, false, List, ℕ, [], ◌∷◌, Some, None, IfSome, codes};
 ghost use Rattle.std.specs.Prelude.{option_map};
 ghost use Rattle.vab_words.specs.Spelled.{AsksBy, IsPlain, MakesBy, is_verb_name, name_of};
-ghost use Rattle.vab_words.specs.Values.{slot_of};
-ghost use Rattle.vab_words.specs.Verbs.{Activate, Boot, Cancel, Digest, Make, Mark, Print, Serve};
-ghost use Rattle.vab_words.specs.Verbs.{make_of, verb_of};
+ghost use Rattle.vab_words.specs.Values.{blocks_of, slot_of};
+ghost use Rattle.vab_words.specs.Verbs.{Activate, BeginMerge, Boot, Cancel, Digest, Make, Mark};
+ghost use Rattle.vab_words.specs.Verbs.{Merge, Print, Serve, make_of, verb_of};
 
 /// What the definition says of words that are written out. It does nothing.
 pub fn spelled_out()
@@ -20,6 +20,9 @@ pub fn spelled_out()
     ensures serve_fresh { verb_of (codes "serve" ∷ codes "--fresh" ∷ []) ≡ Some (Serve true) }
     ensures boot { verb_of (codes "boot" ∷ []) ≡ Some Boot }
     ensures mark { verb_of (codes "mark" ∷ []) ≡ Some Mark }
+    ensures begin_merge { verb_of (codes "begin-merge" ∷ []) ≡ Some BeginMerge }
+    ensures merge { AsksBy (codes "merge") (λ text. option_map Merge (blocks_of text)) }
+    ensures merge_five { verb_of (codes "merge" ∷ codes "5" ∷ []) ≡ Some (Merge 5) }
     ensures cancel { verb_of (codes "cancel" ∷ []) ≡ Some Cancel }
     ensures activate { AsksBy (codes "activate") (λ text. option_map Activate (slot_of text)) }
     ensures print { AsksBy (codes "print") (λ text. Some (Print text)) }

@@ -3,13 +3,15 @@ ghost use Rattle.std.specs.Prelude.{◌≡◌, ◌≤◌, ◌^◌, IfSome, optio
 ghost use Rattle.std.specs.Char.{is_ascii_digit};
 ghost use Rattle.std.specs.List.{list_all};
 ghost use Rattle.vab_words.specs.Values.{is_number, number_up_to, limit_of, metadata_max_of};
-ghost use Rattle.vab_words.specs.Values.{slot_of, IsMetadataMax};
+ghost use Rattle.vab_words.specs.Values.{blocks_of, slot_of, IsBlocks, IsMetadataMax};
 
 const LIMIT_MAX: u64 = 1 << 44;
 
 const METADATA_MAX: u64 = 65536;
 
 const SECTOR: u64 = 512;
+
+const BLOCKS_MAX: u64 = (1 << 32) - 1;
 
 const DIGITS_MAX: usize = 20;
 
@@ -66,6 +68,18 @@ pub(crate) fn parse_metadata_max(text: Option<&str>) -> Option<u32>
     };
     match parse_number(text, METADATA_MAX) {
         Some(bytes) if bytes >= SECTOR && bytes % SECTOR == 0 => Some(bytes as u32),
+        _ => None,
+    }
+}
+
+/// The operand of `merge`: a number from 1 to 2^32 - 1.
+#[tactic(auto, unfolding(crate::specs::Values::blocks_of))]
+pub(crate) fn parse_blocks(text: &str) -> Option<u64>
+    ensures value { result ≡ blocks_of text.now }
+    ensures range { IfSome result IsBlocks }
+{
+    match parse_number(text, BLOCKS_MAX) {
+        Some(blocks) if blocks >= 1 => Some(blocks),
         _ => None,
     }
 }

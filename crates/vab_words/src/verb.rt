@@ -5,7 +5,7 @@ ghost use Rattle.clap.specs.Words.{first_of, found_of, kind_of, rows_of, subcomm
 ghost use Rattle.clap.specs.declared.error.kind.ErrorKind.TheVariants.{OutOfMemory};
 
 use crate::command::vab;
-use crate::values::{parse_limit, parse_metadata_max, parse_slot};
+use crate::values::{parse_blocks, parse_limit, parse_metadata_max, parse_slot};
 use clap::ArgMatches;
 use clap::error::ErrorKind;
 use std::alloc::{AllocError, Global};
@@ -29,6 +29,11 @@ pub enum Verb<'a> {
     Boot,
     /// The current slot is marked successful.
     Mark,
+    /// An update begins to be merged.
+    BeginMerge,
+    /// At most so many turns of a merge, from 1 to 2^32 - 1: each merges a block, and one more ends
+    /// the merge.
+    Merge(u64),
     /// An update is dropped.
     Cancel,
     /// The slot is made the active one, 0 for a and 1 for b.
@@ -134,6 +139,8 @@ fn verb_in<'a>(name: &str, values: &ArgMatches<'a>) -> Option<Verb<'a>>
         }),
         "boot" => Some(Verb::Boot),
         "mark" => Some(Verb::Mark),
+        "begin-merge" => Some(Verb::BeginMerge),
+        "merge" => Some(Verb::Merge(parse_blocks(text_of(values, "blocks")?)?)),
         "cancel" => Some(Verb::Cancel),
         "activate" => Some(Verb::Activate(parse_slot(text_of(values, "slot")?)?)),
         "print" => Some(Verb::Print(text_of(values, "name")?)),
@@ -153,7 +160,8 @@ fn found_verb<'a>(matches: &ArgMatches<'a>) -> Option<Verb<'a>>
 }
 
 /// What the words behind the device's ask for: `make [--limit BYTES] [--metadata-max BYTES]`,
-/// `serve [--fresh]`, `boot`, `mark`, `cancel`, `activate SLOT`, `print NAME` or `digest NAME`.
+/// `serve [--fresh]`, `boot`, `mark`, `begin-merge`, `merge N`, `cancel`, `activate SLOT`,
+/// `print NAME` or `digest NAME`.
 pub fn parse_words<'a>(alloc: Global, words: &'a [String]) -> Result<Verb<'a>, WordsFault>
     // A verb comes only where the words ask for it, and a refusal only where they ask for none.
     ensures verb { IfOk result

@@ -27,6 +27,7 @@ use Rattle.std.proofs.Common.{
   add-one,
   drop-cons,
   arith,
+  leb,
   inl,
   inr,
 }
@@ -37,7 +38,8 @@ use Rattle.std.proofs.lemmas.List.Elements.{All-nil, All-cons}
 use Rattle.vab_set.specs.declared.set.SetImage.{SetImage}
 use Rattle.vab_set.specs.Spelling.{IsImage}
 use Rattle.vab_pack.specs.Asked.{Asked}
-use Rattle.vab_pack.specs.Images.{image_of}
+use Rattle.std.proofs.lemmas.Bool.{cases_Bool}
+use Rattle.vab_pack.specs.Images.{image_of, size_for}
 use Rattle.vabpack.specs.Packed.{
   Contents,
   Failing,
@@ -122,6 +124,27 @@ stops files fails asked i images a refusal lt at are is =
 
 -- ---- what the images are
 
+some_of : {X : Type 0} (x y : X) → Some x ≡ Some y → x ≡ y
+some_of x y e = cc
+
+-- an image has the bytes of its file, and the name that is asked for
+made : (a : Asked) (bytes : List ℕ) (i : SetImage)
+    → image_of a bytes ≡ Some i
+    → (i.bytes ≡ bytes) × (i.name ≡ a.name)
+unfolding image_of
+made a bytes i e = elim (cases_Bool (leb (length bytes) (size_for a (length bytes)))) [
+  | inl holds ↦
+      let image : SetImage = record {
+        name = a.name;
+        size = size_for a (length bytes);
+        store = a.store;
+        bytes = bytes;
+      } in
+      let same : image ≡ i = some_of image i (sym (rw holds refl) ∙ e) in
+      (ap (λ (j : SetImage). j.bytes) (sym same), ap (λ (j : SetImage). j.name) (sym same))
+  | inr lacks ↦ absurd (let f : None ≡ Some i = sym (rw lacks refl) ∙ e in cc)
+]
+
 pub names : (files : Contents) (asked : List Asked) (images : List SetImage)
     → AreImagesOf files asked images
     → map (λ i. i.name) images ≡ map (λ a. a.name) asked
@@ -129,7 +152,7 @@ names files [] [] are = refl
 names files [] (i ∷ images) are = absurd are
 names files (a ∷ asked) [] are = absurd are
 names files (a ∷ asked) (i ∷ images) are =
-    let name : i.name ≡ a.name = ap (λ (i : SetImage). i.name) are.0.whole in
+    let name : i.name ≡ a.name = (made a i.bytes i are.0.whole).1 in
     ap (λ (n : List ℕ). n ∷ map (λ i. i.name) images) name
     ∙ ap (λ (l : List (List ℕ)). a.name ∷ l) (names files asked images are.1)
 
@@ -149,10 +172,15 @@ pub none_long : (files : Contents) (asked : List Asked) (images : List SetImage)
     → ¬ HasLong files asked
 none_long files [] images are long = long
 none_long files (a ∷ asked) [] are long = are
-none_long files (a ∷ asked) (i ∷ images) are (inl (bytes, known, long)) =
+none_long files (a ∷ asked) (i ∷ images) are (inl (bytes, known, inl long)) =
     let P : Option (List ℕ) → Type 0 = λ o. IfSome o (λ b. i.bytes ≡ b) in
     let same : i.bytes ≡ bytes = subst P known are.0.bytes in
     absurd (omega (arith, ap length same, long, are.0.short))
+none_long files (a ∷ asked) (i ∷ images) are (inl (bytes, known, inr none)) =
+    let P : Option (List ℕ) → Type 0 = λ o. IfSome o (λ b. i.bytes ≡ b) in
+    let same : i.bytes ≡ bytes = subst P known are.0.bytes in
+    let both : None ≡ Some i = sym none ∙ ap (image_of a) (sym same) ∙ are.0.whole in
+    absurd cc
 none_long files (a ∷ asked) (i ∷ images) are (inr later) = none_long files asked images are.1 later
 
 pub known_same : (files : Contents) (asked : List Asked) (images others : List SetImage)
@@ -167,35 +195,50 @@ known_same files (a ∷ asked) (i ∷ images) [] known are = absurd are
 known_same files (a ∷ asked) (i ∷ images) (j ∷ others) known are =
     let P : Option (List ℕ) → Type 0 = λ o. IfSome o (λ b. j.bytes ≡ b) in
     let bytes : j.bytes ≡ i.bytes = subst P known.0 are.0.bytes in
-    let same : j ≡ i = are.0.whole ∙ ap (image_of a.name) bytes ∙ sym known.1 in
+    let same : j ≡ i =
+    some_of j i (sym are.0.whole ∙ ap (image_of a) bytes ∙ known.1) in
     ap (λ (x : SetImage). x ∷ others) same
     ∙ ap (λ (l : List SetImage). i ∷ l) (known_same files asked images others known.3 are.1)
 
 pub known_at : (files : Contents) (before behind : List Asked) (a : Asked) (images : List SetImage)
     → AreKnownAs files (before ++ a ∷ behind) images
-    → (bytes : List ℕ) × (files a.path ≡ Some bytes) × (length bytes ≤ 2 ^ 32)
+    → (image : SetImage)
+    × (files a.path ≡ Some image.bytes)
+    × (length image.bytes ≤ 2 ^ 32)
+    × (image_of a image.bytes ≡ Some image)
 known_at files [] behind a [] known = absurd known
-known_at files [] behind a (i ∷ images) known = (i.bytes, known.0, known.2)
+known_at files [] behind a (i ∷ images) known = (i, known.0, known.2, known.1)
 known_at files (b ∷ before) behind a [] known = absurd known
 known_at files (b ∷ before) behind a (i ∷ images) known =
     known_at files before behind a images known.3
 
 -- ---- what one file gives
 
-pub image : (files : Contents) (a : Asked) (path name read : List ℕ) (i : SetImage)
+pub image : (files : Contents) (a : Asked) (path read : List ℕ) (i : SetImage)
     → path ≡ a.path
-    → name ≡ a.name
-    → i ≡ image_of name read
+    → Some i ≡ image_of a read
     → IfSome (files path) (λ bytes. read ≡ take (2 ^ 32 + 1) bytes)
     → length read ≤ 2 ^ 32
     → IsImage i
     → IsImageOf files a i
-image files a path name read i at named is known short fits =
-    let same : i ≡ image_of a.name read = is ∙ ap (λ (n : List ℕ). image_of n read) named in
+image files a path read i at is known short fits =
+    let bytes : i.bytes ≡ read = (made a read i (sym is)).0 in
     let P : List ℕ → Type 0 = λ p. IfSome (files p) (λ bytes. read ≡ bytes) in
-    subst (IsImageOf files a) (sym same) (record {
-      whole = refl;
-      bytes = subst P at (whole_file (files path) read known short);
-      short = short;
-      fits = subst IsImage same fits;
-    })
+    let Q : List ℕ → Type 0 = λ l. IfSome (files a.path) (λ bytes. l ≡ bytes) in
+    record {
+      whole = ap (image_of a) bytes ∙ sym is;
+      bytes = subst Q (sym bytes) (subst P at (whole_file (files path) read known short));
+      short = omega (arith, short, ap length bytes);
+      fits = fits;
+    }
+
+-- a file that was read whole, and that its partition doesn't hold
+pub overfull : (known : Option (List ℕ)) (a : Asked) (read : List ℕ)
+    → IfSome known (λ bytes. read ≡ take (2 ^ 32 + 1) bytes)
+    → length read ≤ 2 ^ 32
+    → None ≡ image_of a read
+    → IfSome known (λ bytes. (length bytes ≤ 2 ^ 32) × (image_of a bytes ≡ None))
+overfull None a read h short none = tt
+overfull (Some bytes) a read h short none =
+    let same : read ≡ bytes = whole_file (Some bytes) read h short in
+    (omega (arith, short, ap length same), ap (image_of a) (sym same) ∙ sym none)

@@ -1,39 +1,17 @@
 -- What a refusal of the entries says of the words.
-use Rattle.std.proofs.Common.{
-  ◌≡◌,
-  ℕ,
-  ◌<◌,
-  ◌≤◌,
-  ◌^◌,
-  ◌∙◌,
-  map,
-  List,
-  [],
-  ◌∷◌,
-  ◌++◌,
-  length,
-  Option,
-  IfSome,
-  Result,
-  Ok,
-  Err,
-  IfOk,
-  IfErr,
-  sym,
-  ap,
-  subst,
-  arith,
-}
+use Rattle.std.proofs.Common.{◌≡◌, ℕ, ◌<◌, ◌≤◌, ◌^◌, ◌∙◌, List, [], ◌∷◌, ◌++◌, length, Option, Some, None, IfSome, Result, Ok, Err, IfOk, IfErr, sym, ap, subst, arith}
 use Rattle.std.specs.Prelude.{IsErrAnd}
 use Rattle.vab_set.specs.declared.set.SetImage.{SetImage}
 use Rattle.vab_set.specs.Spelling.{IsSet, set_text, images_text}
-use Rattle.vab_pack.specs.Asked.{Asked, Ask, word_of}
+use Rattle.vab_pack.specs.Asked.{Asked, Ask, AreWordsOf}
+use Rattle.vab_pack.specs.Images.{image_of}
 use Rattle.vabpack.specs.Packed.{
   Contents,
   Failing,
   AreImagesOf,
   IsSetOf,
   IsLong,
+  IsOverfull,
   IsOfSet,
   AreKnownAs,
   HasLong,
@@ -53,6 +31,7 @@ about_files files fails asked refusals.SetTooLarge long h = absurd (none_long fi
 about_files files fails asked refusals.NoWords long h = absurd h.reason
 about_files files fails asked (refusals.Words fault) long h = absurd h.reason
 about_files files fails asked (refusals.TooLarge path) long h = tt
+about_files files fails asked (refusals.TooSmall path) long h = tt
 about_files files fails asked (refusals.File path fault) long h = tt
 
 pub long_is_refused : {V : Type 0} (view : V → List ℕ) (files : Contents) (fails : Failing)
@@ -79,8 +58,24 @@ not_long files asked images path s known long =
     (subst (λ (l : List Asked). AreKnownAs files l images) s.3 known) in
     let P : Option (List ℕ) → Type 0 = λ o. IfSome o (λ b. 2 ^ 32 < length b) in
     let Q : List ℕ → Type 0 = λ p. IfSome (files p) (λ b. 2 ^ 32 < length b) in
-    let over : 2 ^ 32 < length there.0 = subst P there.1 (subst Q (sym s.4) long) in
+    let over : 2 ^ 32 < length there.0.bytes = subst P there.1 (subst Q (sym s.4) long) in
     absurd (omega (arith, over, there.2))
+
+not_overfull : (files : Contents) (asked : List Asked) (images : List SetImage) (path : List ℕ) (a : Asked)
+    (before behind : List Asked)
+    → asked ≡ before ++ a ∷ behind
+    → a.path ≡ path
+    → AreKnownAs files asked images
+    → ¬ IsOverfull files a path
+not_overfull files asked images path a before behind whole at known over =
+    let there =
+    known_at files before behind a images
+    (subst (λ (l : List Asked). AreKnownAs files l images) whole known) in
+    let P : Option (List ℕ) → Type 0 = λ o. IfSome o (λ b. (length b ≤ 2 ^ 32) × (image_of a b ≡ None)) in
+    let Q : List ℕ → Type 0 = λ p. IsOverfull files a p in
+    let none = subst P there.1 (subst Q (sym at) over) in
+    let both : None ≡ Some there.0 = sym none.1 ∙ there.3 in
+    absurd cc
 
 about_set : (files : Contents) (fails : Failing) (asked : List Asked) (images : List SetImage)
     (e : Refusal)
@@ -94,6 +89,9 @@ about_set files fails asked images (refusals.Words fault) known h = absurd h.rea
 about_set files fails asked images (refusals.TooLarge path) known h =
     absurd (not_long files asked images path.now (h.before, h.behind, h.at, h.whole, h.reason.0)
     known h.reason.1)
+about_set files fails asked images (refusals.TooSmall path) known h =
+    absurd (not_overfull files asked images path.now h.at h.before h.behind h.whole h.reason.0 known
+    h.reason.1)
 about_set files fails asked images (refusals.File path fault) known h = tt
 
 pub large_is_refused : {V : Type 0} (view : V → List ℕ) (files : Contents) (fails : Failing)
@@ -135,5 +133,4 @@ unfolding set_text images_text
 none_large files words [] [] none asks known long = absurd (omega (arith, long))
 none_large files words [] (i ∷ images) none asks known long = absurd known
 none_large files words (a ∷ asked) images none asks known long =
-    let e : [] ≡ word_of a ∷ map word_of asked = sym none ∙ asks.spelled in
-    absurd cc
+    absurd (subst (λ (l : List (List ℕ)). AreWordsOf l (a ∷ asked)) none asks.spelled)

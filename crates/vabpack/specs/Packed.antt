@@ -1,6 +1,6 @@
 -- What the program's answer is, of its words and of what is known of the files that they name.
 use Rattle.std.specs.Prelude.{◌≡◌, ◌≢◌, ◌⊎◌, ℕ, ◌<◌, ◌≤◌, ◌^◌, List, [], ◌∷◌, ◌++◌, length, Option}
-use Rattle.std.specs.Prelude.{Some, IfSome, IsErrAnd, IsTrue, Bool, Result}
+use Rattle.std.specs.Prelude.{Some, None, IfSome, IsErrAnd, IsTrue, Bool, Result}
 use Rattle.vab_set.specs.declared.set.SetImage.{SetImage}
 use Rattle.vab_set.specs.Spelling.{IsImage, IsSet, set_text}
 use Rattle.vab_pack.specs.Asked.{Asked, Ask}
@@ -28,9 +28,9 @@ IsUnread fails (unread.File fault) = IsTrue fails
 
 -- ---- the set
 
--- an image of this name with all bytes of its file, which can stand in a set
+-- the image that is asked for, with all bytes of its file, which can stand in a set
 pub record IsImageOf (files : Contents) (asked : Asked) (image : SetImage) : Type 0 where
-  pub whole : image ≡ image_of asked.name image.bytes
+  pub whole : image_of asked image.bytes ≡ Some image
   pub bytes : IfSome (files asked.path) (λ bytes. image.bytes ≡ bytes)
   pub short : length image.bytes ≤ 2 ^ 32
   pub fits : IsImage image
@@ -68,10 +68,18 @@ refusal_of fault = refusals.Words fault
 abbrev pub IsLong : Contents → List ℕ → Type 0
 IsLong files path = IfSome (files path) (λ bytes. 2 ^ 32 < length bytes)
 
--- why there is no image of this one: its file is too long or failed, or want of memory
+-- the partition that is asked for doesn't hold the file at a path, where its bytes are known
+abbrev pub IsOverfull : Contents → Asked → List ℕ → Type 0
+IsOverfull files asked path =
+    IfSome (files path) (λ bytes. (length bytes ≤ 2 ^ 32) × (image_of asked bytes ≡ None))
+
+-- why there is no image of this one: its file is too long, also for its partition, or failed, or
+-- want of memory
 abbrev pub IsOfFile : Contents → Failing → Asked → Refusal → Type 0
 IsOfFile files fails asked (refusals.TooLarge path) =
     (asked.path ≡ path.now) × IsLong files path.now
+IsOfFile files fails asked (refusals.TooSmall path) =
+    (asked.path ≡ path.now) × IsOverfull files asked path.now
 IsOfFile files fails asked (refusals.File path fault) =
     (asked.path ≡ path.now) × IsTrue (fails path.now)
 IsOfFile files fails asked refusals.NoMemory = Unit {0}
@@ -110,9 +118,10 @@ IsCause files fails words refusal =
 abbrev pub RefusesWith : {V : Type 0} → Result V Refusal → Refusal → Type 0
 RefusesWith result refusal = IsErrAnd result (λ e. (e ≡ refusals.NoMemory) ⊎ (e ≡ refusal))
 
--- a file is too long or can't be read, or memory was refused
+-- a file is too long, also for its partition, or can't be read, or memory was refused
 abbrev pub IsAboutFiles : Refusal → Type 0
 IsAboutFiles (refusals.TooLarge path) = Unit {0}
+IsAboutFiles (refusals.TooSmall path) = Unit {0}
 IsAboutFiles (refusals.File path fault) = Unit {0}
 IsAboutFiles refusals.NoMemory = Unit {0}
 IsAboutFiles _ = ⊥
@@ -129,16 +138,18 @@ abbrev pub AreKnownAs : Contents → List Asked → List SetImage → Type 0
 AreKnownAs files [] [] = Unit {0}
 AreKnownAs files (asked ∷ rest) (image ∷ images) =
     (files asked.path ≡ Some image.bytes)
-    × (image ≡ image_of asked.name image.bytes)
+    × (image_of asked image.bytes ≡ Some image)
     × (length image.bytes ≤ 2 ^ 32)
     × AreKnownAs files rest images
 AreKnownAs files _ _ = ⊥
 
--- one of these has a file that is known to be longer than a set may be
+-- one of these has a file that is known to be longer than a set may be, or than its partition
 abbrev pub HasLong : Contents → List Asked → Type 0
 HasLong files [] = ⊥
 HasLong files (asked ∷ rest) =
-    ((bytes : List ℕ) × (files asked.path ≡ Some bytes) × (2 ^ 32 < length bytes))
+    ((bytes : List ℕ)
+    × (files asked.path ≡ Some bytes)
+    × ((2 ^ 32 < length bytes) ⊎ (image_of asked bytes ≡ None)))
     ⊎ HasLong files rest
 
 -- the program's status: the words aren't taken, a file can't be read, or memory was refused

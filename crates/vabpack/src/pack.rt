@@ -38,7 +38,10 @@ fn read_image<'a, S: Source>(
     if bytes.len() as u64 > MAX_BYTES {
         return Err(Refusal::TooLarge(path));
     }
-    Ok(set_image(entry.name(), bytes))
+    match set_image(entry, bytes) {
+        Some(image) => Ok(image),
+        None => Err(Refusal::TooSmall(path)),
+    }
 }
 
 // The images that the entries ask for.
@@ -110,7 +113,8 @@ pub fn pack<'a, S: Source>(
     ensures faulty { (fault : Fault)
         → IsFaultOf (map string_bytes words.entry.now) fault
         → RefusesWith result (Refusal.Words fault) }
-    // Where a file is too long, a file is refused, unless memory is refused.
+    // Where a file is too long, also for its partition, a file is refused, unless memory is
+    // refused.
     ensures long { (asked : List Asked)
         → Ask (map string_bytes words.entry.now) asked
         → HasLong (S.bytes_at source.now) asked

@@ -8,15 +8,20 @@ use std::io;
 use vab_pack::WordFault;
 use vab_set::NoMemory;
 
-const USAGE: &str = "usage: vabpack NAME=FILE..\n\
+const USAGE: &str = "usage: vabpack NAME[:SIZE[:STORE]]=FILE..\n\
     A set of images on the output, as `vab DEVICE make` takes it, one for each of 1 to 32 words.\n\
     \u{20} NAME             the partition's name without its slot, 1 to 30 of A-Z a-z 0-9 _ .\n\
+    \u{20} SIZE             bytes of the partition, at most 2^40, in whole blocks of 4096;\n\
+    \u{20}                  those of the file where it is left out, also in NAME::STORE\n\
+    \u{20} STORE            bytes of its store; 0, or left out, for as many as it needs\n\
     \u{20} FILE             the file with its bytes\n\
-    statuses: 0 done, 2 the words aren't taken, or a set would be longer than 2^32 bytes,\n\
-    \u{20} 7 the output failed, 8 memory was refused, 9 a file can't be read\n\
+    SIZE and STORE are 1 to 20 digits, with K, M or G behind them for 2^10, 2^20 or 2^30 times.\n\
+    statuses: 0 done, 2 the words aren't taken, a file is longer than its partition, or a set\n\
+    \u{20} would be longer than 2^32 bytes, 7 the output failed, 8 memory was refused,\n\
+    \u{20} 9 a file can't be read\n\
     examples:\n\
     \u{20} vabpack system=system.img >images.set\n\
-    \u{20} vabpack system=system.img vendor=vendor.img | vab dev.img make";
+    \u{20} vabpack system:1G=system.img vendor:512M:64M=vendor.img | vab dev.img make";
 
 /// Why there is no set.
 #[derive(Debug, Drop)]
@@ -27,6 +32,8 @@ pub enum Refusal<'a> {
     Words(WordFault),
     /// The file at this path is longer than a set may be.
     TooLarge(&'a str),
+    /// The file at this path is longer than the partition that is asked for.
+    TooSmall(&'a str),
     /// The set is longer than a set may be.
     SetTooLarge,
     /// The file at this path can't be opened or read.
@@ -82,7 +89,10 @@ fn explain_words<R: Eprint>(rt: &R, words: &[String], fault: WordFault) {
         WordFault::TooMany(count) => eprintln!(rt;
             "vabpack: {count} words, and a set has at most 32 images"
         ),
-        WordFault::BadWord(index) => eprintln!(rt; "vabpack: {}: not NAME=FILE", word_at(index)),
+        WordFault::BadWord(index) => eprintln!(rt;
+            "vabpack: {}: not NAME[:SIZE[:STORE]]=FILE",
+            word_at(index)
+        ),
         WordFault::BadName(index) => eprintln!(rt;
             "vabpack: {}: the name isn't 1 to 30 of A-Z a-z 0-9 _ .",
             word_at(index)
@@ -94,6 +104,14 @@ fn explain_words<R: Eprint>(rt: &R, words: &[String], fault: WordFault) {
                 word_at(first)
             )
         }
+        WordFault::BadSize(index) => eprintln!(rt;
+            "vabpack: {}: the size isn't 1 to 20 digits, with K, M or G or not, of at most 2^40",
+            word_at(index)
+        ),
+        WordFault::BadStore(index) => eprintln!(rt;
+            "vabpack: {}: the store isn't 1 to 20 digits, with K, M or G or not, below 2^64",
+            word_at(index)
+        ),
         WordFault::NoMemory => eprintln!(rt; "vabpack: out of memory"),
     };
 }
@@ -106,7 +124,8 @@ impl<'a> Refusal<'a> {
         ensures { result ≡ status_of self.now }
     {
         match self {
-            Refusal::NoWords | Refusal::Words(_) | Refusal::TooLarge(_) | Refusal::SetTooLarge => 2,
+            Refusal::NoWords | Refusal::Words(_) => 2,
+            Refusal::TooLarge(_) | Refusal::TooSmall(_) | Refusal::SetTooLarge => 2,
             Refusal::NoMemory => 8,
             Refusal::File(_, _) => 9,
         }
@@ -123,6 +142,9 @@ impl<'a> Refusal<'a> {
             }
             Refusal::TooLarge(path) => eprintln!(rt;
                 "vabpack: {path}: longer than 2^32 bytes, the most that a set may have"
+            ),
+            Refusal::TooSmall(path) => eprintln!(rt;
+                "vabpack: {path}: longer than the partition that is asked for"
             ),
             Refusal::SetTooLarge => eprintln!(rt;
                 "vabpack: the set would be longer than 2^32 bytes"

@@ -49,6 +49,45 @@ fn word(alloc: Global, text: &str) -> Result<Vec<String>, Fail> {
     Ok(words)
 }
 
+// The set with the size of the partition, a block or two, and the size of its store, below 256.
+fn with_sizes(blocks: u8, store: u8) -> [u8; 41] {
+    let mut bytes = SET;
+    bytes[15] = blocks.saturating_mul(16);
+    bytes[22] = store;
+    bytes
+}
+
+#[test]
+fn a_size_and_a_store_stand_in_the_set(rt: HostRuntime) -> Result<(), Fail> {
+    let alloc = rt.alloc();
+    let source = OneFile {
+        alloc,
+        path: "x.img",
+        bytes: b"abc",
+    };
+    for (text, blocks, store) in [
+        ("x:4097=x.img", 2, 0),
+        ("x:8K:7=x.img", 2, 7),
+        ("x::9=x.img", 1, 9),
+    ] {
+        let words = word(alloc, text)?;
+        match pack(alloc, &source, &words) {
+            Ok(set) => assert_eq!(rt;
+                set.as_slice(),
+                with_sizes(blocks, store).as_slice(),
+                "of {text}"
+            ),
+            Err(_) => return Err("the file is packed")?,
+        }
+    }
+    let words = word(alloc, "x:0=x.img")?;
+    match pack(alloc, &source, &words) {
+        Err(Refusal::TooSmall(path)) => assert_eq!(rt; path, "x.img"),
+        _ => return Err("the partition is too small")?,
+    }
+    Ok(())
+}
+
 #[test]
 fn a_file_in_memory_is_packed_and_no_other(rt: HostRuntime) -> Result<(), Fail> {
     let alloc = rt.alloc();

@@ -10,8 +10,8 @@ use Rattle.vab_marks.specs.declared.mark.MarkPhase.TheVariants as marks
 use Rattle.vab_begin.specs.Writes.{IsOfBegun}
 use Rattle.vab_device.proofs.DoesLaws.{does_nothing}
 use Rattle.vab_begin.proofs.KeptLaws.{idle_of, planned_of, unplanned_of, installing_of, staged_of}
-use Rattle.vab_begin.proofs.KeptLaws.{not_merging}
-use Rattle.vab_begin.proofs.BegunLaws.{begin_refused, begin_staged, begin_is, is_memory, refused_is}
+use Rattle.vab_begin.proofs.KeptLaws.{merging_of}
+use Rattle.vab_begin.proofs.BegunLaws.{begin_refused, begin_staged, begin_merging, begin_is, is_memory, refused_is}
 use Rattle.vab_begin.proofs.beginning.begin.Goals as goal
 
 pub returns-in-Installing : goal.returns-in-Installing
@@ -42,7 +42,16 @@ returns-in-Staged g c = λ staged.
 
 pub returns-in-Merging : goal.returns-in-Merging
 returns-in-Merging g c = λ staged.
-    absurd (not_merging c.args.device _ c.in-Merging.field-0 c.requires.kept c.in-Merging.ensures)
+    let d = c.args.device in
+    let old = c.args.d.now in
+    let size = g.D.Disk.size old in
+    let phase = merging_of d c.in-Merging.field-0 c.in-Merging.ensures in
+    does_nothing g.D.Disk d staged Begin (IsOfBegun g.D.Disk.is_modelled d (g.D.Disk.seen old 4))
+    false
+    (replies.Refused refusals.NotIdle) old old c.requires.kept c.requires.represents
+    (λ t. begin_merging d (g.D.Disk.seen old) staged
+    (unplanned_of d size marks.Merging c.requires.kept refl phase) phase)
+    (reads_none g.D.Disk old) refl
 
 pub returns-in-Err : goal.returns-in-Err
 returns-in-Err g c = λ staged.

@@ -8,8 +8,8 @@ use Rattle.vab_model.specs.declared.command.Refusal.TheVariants as refusals
 use Rattle.vab_model.specs.Commands.{Cancel}
 use Rattle.vab_begin.specs.Writes.{IsOfCancelled}
 use Rattle.vab_device.proofs.DoesLaws.{does_nothing}
-use Rattle.vab_begin.proofs.KeptLaws.{idle_of, staged_of, unplanned_of}
-use Rattle.vab_begin.proofs.CancelLaws.{cancel_refused, cancel_running}
+use Rattle.vab_begin.proofs.KeptLaws.{idle_of, staged_of, merging_of, unplanned_of}
+use Rattle.vab_begin.proofs.CancelLaws.{cancel_refused, cancel_running, cancel_merging}
 use Rattle.vab_begin.proofs.cancelling.cancel.Goals as goal
 
 pub returns-in-Idle : goal.returns-in-Idle
@@ -47,4 +47,16 @@ returns-else-current-source g c = λ staged.
     (unplanned_of d size marks.Staged c.requires.kept refl phase.0) phase.0
     (other_current d.control.current c.in-Staged.source c.current.result d.mark.slot
     c.current.ensures phase.1 c.if-current-source.false))
+    (reads_none g.D.Disk old) refl
+
+pub returns-in-Merging : goal.returns-in-Merging
+returns-in-Merging g c = λ staged.
+    let d = c.args.device in
+    let old = c.args.d.now in
+    let size = g.D.Disk.size old in
+    let phase = merging_of d c.in-Merging.field-0 c.in-Merging.ensures in
+    does_nothing g.D.Disk d staged Cancel (IsOfCancelled d) false
+    (replies.Refused refusals.Merging) old old c.requires.kept c.requires.represents
+    (λ t. cancel_merging d (g.D.Disk.seen old) staged
+    (unplanned_of d size marks.Merging c.requires.kept refl phase) phase)
     (reads_none g.D.Disk old) refl

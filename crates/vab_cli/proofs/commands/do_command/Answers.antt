@@ -16,7 +16,7 @@ returns-in-Err-clause-does g c = λ t s stands.
     let command = command_of c.args.command.now in
     command_fails g.P.Disk (g.P.Disk.size c.args.port.now) d command c.requires.verb _ s
     (command_line s command)
-    (reply_some command _ _) c.args.port.now c.run_one.new.d refl (c.requires.represents t) stands
+    (reply_some command _ _ _) c.args.port.now c.run_one.new.d refl (c.requires.represents t) stands
     _ _ c.in-Err.ensures t
 
 pub returns-in-Ok-say_all-clause-does : goal.returns-in-Ok-say_all-clause-does
@@ -27,12 +27,13 @@ returns-in-Ok-say_all-clause-does g c = λ t s stands.
     let new = c.say_all.new.p in
     let command = command_of c.args.command.now in
     let same = mounted_is d _ (g.P.Disk.seen old) s (c.requires.represents t) stands in
-    let text = told_line d (g.P.Disk.seen old) s command _ _ _ _ same c.current-current.ensures
+    let text = told_line d (g.P.Disk.seen old) s command _ _ _ _ _ same c.current-current.ensures
+    c.left-blocks.ensures.is
     (c.in-Ok.ensures.reply t ∙ replied c.in-Ok.ensures.refused command _ c.requires.verb)
     c.reply_line.ensures c.as_slice.ensures.value in
     command_does g.P.Disk (g.P.Disk.size old) d command c.requires.verb _ s
     (command_line s command)
-    (reply_some command _ _) old mid refl (c.requires.represents t) stands
+    (reply_some command _ _ _) old mid refl (c.requires.represents t) stands
     _ _ new _ c.in-Ok.ensures t
     (subst
     (λ (l : List ℕ).
@@ -64,12 +65,13 @@ returns-clause-does g c = λ t s stands.
     let new = c.say_all.new.p in
     let command = command_of c.args.command.now in
     let same = mounted_is d _ (g.P.Disk.seen old) s (c.requires.represents t) stands in
-    let text = told_line d (g.P.Disk.seen old) s command _ _ _ _ same c.current-current.ensures
+    let text = told_line d (g.P.Disk.seen old) s command _ _ _ _ _ same c.current-current.ensures
+    c.left-blocks.ensures.is
     (c.in-Ok.ensures.reply t ∙ replied c.in-Ok.ensures.refused command _ c.requires.verb)
     c.reply_line.ensures c.as_slice.ensures.value in
     command_does g.P.Disk (g.P.Disk.size old) d command c.requires.verb _ s
     (command_line s command)
-    (reply_some command _ _) old mid refl (c.requires.represents t) stands
+    (reply_some command _ _ _) old mid refl (c.requires.represents t) stands
     _ _ new _ c.in-Ok.ensures t
     (subst
     (λ (l : List ℕ). Says g.P.Disk {A = Status} {E = Status} l mid new (Err Port)) text (record {

@@ -1,6 +1,5 @@
 use Rattle.std.proofs.Common.{◌≡◌, inl, inr, ℕ, Ok, Err, sym, subst}
 use Rattle.vab_device.specs.Mounted.{Mounted}
-use Rattle.vab_cli.specs.Touched.{IsOfItem}
 use Rattle.vab_device.specs.Reading.{IsIn}
 use Rattle.vab_disk.proofs.CallLaws.{changes_wider}
 use Rattle.vab_model.specs.Commands.{Print}
@@ -9,7 +8,7 @@ use Rattle.vab_cli.specs.Verbs.{print_told, command_item, verb_status}
 use Rattle.vab_cli.proofs.Items.{print_last}
 use Rattle.vab_cli.proofs.Lines.{verb_kind}
 use Rattle.vab_cli.proofs.Running.{opened_in, runs_done, runs_failed, does_sized}
-use Rattle.vab_cli.proofs.Touching.{opening_changes, opened_changes}
+use Rattle.vab_cli.proofs.Touching.{opening_changes, opened_changes, Behind}
 use Rattle.vab_cli.proofs.printing.print.Goals as goal
 
 pub returns-in-Ok-print_image-clause-runs : goal.returns-in-Ok-print_image-clause-runs
@@ -52,22 +51,25 @@ returns-clause-runs g c = λ t s stands.
 
 pub returns-in-Err-clause-changes : goal.returns-in-Err-clause-changes
 returns-in-Err-clause-changes g c = λ t s stands boot there.
-    opening_changes g.P.Disk _
-    (IsOfItem s boot (Print c.args.name.now))
+    let size = g.P.Disk.size c.args.port.now in
+    opening_changes g.P.Disk size
+    (Behind g.P.Disk size (g.P.Disk.seen c.args.port.now) s boot (Print c.args.name.now))
     c.args.port.now c.open.new.port (c.open.ensures.changes t)
 
 pub returns-in-Ok-print_image-clause-changes : goal.returns-in-Ok-print_image-clause-changes
 returns-in-Ok-print_image-clause-changes g c = λ t s stands boot there.
-    opened_changes g.P.Disk _
-    (IsOfItem s boot (Print c.args.name.now))
+    let size = g.P.Disk.size c.args.port.now in
+    opened_changes g.P.Disk size
+    (Behind g.P.Disk size (g.P.Disk.seen c.args.port.now) s boot (Print c.args.name.now))
     boot c.args.port.now c.open.new.port c.print_image.new.port t (c.open.ensures.changes t)
     (λ is. changes_wider g.P.Disk _ _ c.open.new.port c.print_image.new.port
     (c.print_image.ensures.changes t) (λ n x w. absurd w)) there
 
 pub returns-clause-changes : goal.returns-clause-changes
 returns-clause-changes g c = λ t s stands boot there.
-    opened_changes g.P.Disk _
-    (IsOfItem s boot (Print c.args.name.now))
+    let size = g.P.Disk.size c.args.port.now in
+    opened_changes g.P.Disk size
+    (Behind g.P.Disk size (g.P.Disk.seen c.args.port.now) s boot (Print c.args.name.now))
     boot c.args.port.now c.open.new.port c.print_image.new.port t (c.open.ensures.changes t)
     (λ is. changes_wider g.P.Disk _ _ c.open.new.port c.print_image.new.port
     (c.print_image.ensures.changes t) (λ n x w. absurd w)) there

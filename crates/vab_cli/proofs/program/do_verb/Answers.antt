@@ -1,5 +1,6 @@
 use Rattle.std.proofs.Common.{◌≡◌, inr, ap, true, false, rules}
-use Rattle.vab_model.specs.Commands.{SetActive, Boot, Mark, Print, Digest, Cancel}
+use Rattle.vab_model.specs.Commands.{SetActive, Boot, Mark, Print, Digest, Cancel, BeginMerge}
+use Rattle.vab_model.specs.Commands.{Merge}
 use Rattle.vab_words.specs.Verbs.{Serve, meaning_of}
 use Rattle.vab_words.specs.Verbs as words
 use Rattle.vab_cli.specs.Verbs.{command_of}
@@ -14,6 +15,7 @@ returns-in-Serve-true g c =
     c.make_and_serve.ensures.disk c.make_and_serve.ensures.port
     is c.make_and_serve.ensures.runs c.make_and_serve.ensures.small
     c.make_and_serve.ensures.too_small c.make_and_serve.ensures.changes
+    c.make_and_serve.ensures.unmerged
 
 pub returns-in-Serve-false : goal.returns-in-Serve-false
 returns-in-Serve-false g c =
@@ -22,7 +24,7 @@ returns-in-Serve-false g c =
     c.open_and_serve.result c.open_and_serve.ensures.words c.open_and_serve.ensures.steady
     c.open_and_serve.ensures.disk c.open_and_serve.ensures.port
     is c.open_and_serve.ensures.runs c.open_and_serve.ensures.none
-    c.open_and_serve.ensures.changes
+    c.open_and_serve.ensures.changes c.open_and_serve.ensures.unmerged
 
 pub returns-in-Boot : goal.returns-in-Boot
 returns-in-Boot g c =
@@ -41,6 +43,25 @@ returns-in-Mark g c =
     (λ port. inr (c.carry_out-in-Mark.ensures.port port)) Mark (ap command_of is)
     c.carry_out-in-Mark.ensures.runs c.carry_out-in-Mark.ensures.none c.carry_out-in-Mark.ensures.changes
     c.carry_out-in-Mark.ensures.quiet
+
+pub returns-in-BeginMerge : goal.returns-in-BeginMerge
+returns-in-BeginMerge g c =
+    let is : meaning_of c.args.verb ≡ words.BeginMerge = search rules in
+    let done = c.carry_out-in-BeginMerge.ensures in
+    command_verb g.P.Disk (meaning_of c.args.verb) c.args.port.now
+    c.carry_out-in-BeginMerge.new.port
+    c.carry_out-in-BeginMerge.result done.words done.steady done.disk
+    (λ port. inr (done.port port)) BeginMerge (ap command_of is)
+    done.runs done.none done.changes done.quiet
+
+pub returns-in-Merge : goal.returns-in-Merge
+returns-in-Merge g c =
+    let is : meaning_of c.args.verb ≡ words.Merge c.in-Merge.turns = search rules in
+    let done = c.carry_out-in-Merge.ensures in
+    command_verb g.P.Disk (meaning_of c.args.verb) c.args.port.now c.carry_out-in-Merge.new.port
+    c.carry_out-in-Merge.result done.words done.steady done.disk
+    (λ port. inr (done.port port)) (Merge c.in-Merge.turns) (ap command_of is)
+    done.runs done.none done.changes done.quiet
 
 pub returns-in-Cancel : goal.returns-in-Cancel
 returns-in-Cancel g c =

@@ -23,7 +23,8 @@ use Rattle.vab_cli.proofs.Running.{contents_of, early_of, is_one}
 use Rattle.vab_cli.proofs.Sessions.{fresh_enough, fresh_small, made_early, made_small, small_unwritten}
 use Rattle.vab_cli.proofs.Sessions.{making_failed, opening_failed, made_runs, opens_sized}
 use Rattle.vab_device.specs.declared.device.Device.{Device}
-use Rattle.vab_commands.specs.Touched.{ChangesDevice}
+use Rattle.vab_commands.specs.Touched.{IsOfAll, IsOfCommands}
+use Rattle.vab_session.specs.Merges.{MergesNothing}
 use Rattle.vab_cli.specs.Touched.{IsOfFresh}
 use Rattle.vab_cli.proofs.Touching.{served_changes}
 use Rattle.vab_cli.proofs.FreshTouching.{made_opened, making_fresh, made_served}
@@ -191,14 +192,28 @@ returns-clause-runs g c = λ t enough.
     (LeavesMaking (g.P.Disk.told old) [] 0 65536 size (g.P.Disk.seen old)) first old new x)
     (sym c.session_status.ensures) runs)
 
+-- no device is made
+unmade : {D : Type 0} (g : Ghosts D) (set : List SetImage) (old mid : D)
+    → set ≡ []
+    → (W : Device → List ℕ → ℕ → List ℕ → Type 0)
+    → Touches g (InSectors (IsOfMaking set 65536)) old mid
+    → Changes g (IsOfFresh W (g.size old)) old mid
+unmade g set old mid is W makes =
+    making_fresh g (g.size old) W old mid
+    (subst (λ (x : List SetImage). Changes g (InSectors (IsOfMaking x 65536)) old mid) is
+    (changes_touches g _ old mid makes))
+
 pub returns-in-Err-clause-changes : goal.returns-in-Err-clause-changes
 returns-in-Err-clause-changes g c = λ t.
     let set : c.from_vec-set.result ≡ [] = search rules in
-    making_fresh g.P.Disk (g.P.Disk.size c.args.port.now) c.args.port.now c.make_device.new.d
-    (subst (λ (x : List SetImage). Changes g.P.Disk (InSectors (IsOfMaking x 65536))
-    c.args.port.now c.make_device.new.d) set
-    (changes_touches g.P.Disk _ c.args.port.now c.make_device.new.d
-    c.make_device.ensures.touches))
+    unmade g.P.Disk c.from_vec-set.result c.args.port.now c.make_device.new.d set IsOfAll
+    c.make_device.ensures.touches
+
+pub returns-in-Err-clause-unmerged : goal.returns-in-Err-clause-unmerged
+returns-in-Err-clause-unmerged g c = λ t none.
+    let set : c.from_vec-set.result ≡ [] = search rules in
+    unmade g.P.Disk c.from_vec-set.result c.args.port.now c.make_device.new.d set IsOfCommands
+    c.make_device.ensures.touches
 
 -- the device is made, and what is there is opened
 module _ {D : Type 0} (g : Ghosts D) (set : List SetImage) (old mid new : D)
@@ -206,7 +221,8 @@ module _ {D : Type 0} (g : Ghosts D) (set : List SetImage) (old mid new : D)
     (sized : g.size mid ≡ g.size old)
     (made : IsMade set 0 65536 (g.size old) (g.seen mid))
     (makes : Touches g (InSectors (IsOfMaking set 65536)) old mid)
-    (opens : Touches g (IsRepair (g.size mid) (g.seen mid)) mid new) where
+    (opens : Touches g (IsRepair (g.size mid) (g.seen mid)) mid new)
+    (W : Device → List ℕ → ℕ → List ℕ → Type 0) where
   here : IsMade [] 0 65536 (g.size old) (g.seen mid)
   here = subst (λ (x : List SetImage). IsMade x 0 65536 (g.size old) (g.seen mid)) is made
 
@@ -220,32 +236,55 @@ module _ {D : Type 0} (g : Ghosts D) (set : List SetImage) (old mid new : D)
       subst (λ (n : ℕ). Changes g (IsRepair n (g.seen mid)) mid new) sized
       (changes_touches g _ mid new opens)
 
-  opens_made : Changes g (IsOfFresh (g.size old)) old new
+  opens_made : Changes g (IsOfFresh W (g.size old)) old new
   opens_made =
-      making_fresh g (g.size old) old new (made_opened g (g.size old) old mid new here making opening)
+      making_fresh g (g.size old) W old new
+      (made_opened g (g.size old) old mid new here making opening)
 
   serves_made : (t : g.is_modelled) (d : Device) (last : D)
       → Represents d (g.size old) (g.seen new)
-      → ChangesDevice g d new last
-      → Changes g (IsOfFresh (g.size old)) old last
+      → Changes g (W d (g.seen new 4)) new last
+      → Changes g (IsOfFresh W (g.size old)) old last
   serves_made t d last is serves =
-      made_served g (g.size old) old mid last here making
-      (served_changes g (g.size old) d mid new last t is opening serves)
+      made_served g (g.size old) W old mid last here making
+      (served_changes g (g.size old) W d mid new last t is opening serves)
 
 pub returns-in-Err-start-clause-changes : goal.returns-in-Err-start-clause-changes
 returns-in-Err-start-clause-changes g c = λ t.
     opens_made g.P.Disk c.from_vec-set.result c.args.port.now c.make_device.new.d c.start.new.d
     (search rules) c.make_device.ensures.touches.quiet.size (c.in-Ok.ensures.made t)
-    c.make_device.ensures.touches (c.start.ensures.touches t)
+    c.make_device.ensures.touches (c.start.ensures.touches t) IsOfAll
+
+pub returns-in-Err-start-clause-unmerged : goal.returns-in-Err-start-clause-unmerged
+returns-in-Err-start-clause-unmerged g c = λ t none.
+    opens_made g.P.Disk c.from_vec-set.result c.args.port.now c.make_device.new.d c.start.new.d
+    (search rules) c.make_device.ensures.touches.quiet.size (c.in-Ok.ensures.made t)
+    c.make_device.ensures.touches (c.start.ensures.touches t) IsOfCommands
 
 pub returns-clause-changes : goal.returns-clause-changes
 returns-clause-changes g c = λ t.
     let sized : g.P.Disk.size c.make_device.new.d ≡ g.P.Disk.size c.args.port.now =
     c.make_device.ensures.touches.quiet.size in
+    let by = c.serve-answer.ensures.changes t in
     serves_made g.P.Disk c.from_vec-set.result c.args.port.now c.make_device.new.d c.start.new.d
     (search rules) sized (c.in-Ok.ensures.made t) c.make_device.ensures.touches
-    (c.start.ensures.touches t) t c.in-Ok-start.device c.serve-answer.new.p
+    (c.start.ensures.touches t) IsOfAll t c.in-Ok-start.device c.serve-answer.new.p
     (subst
     (λ (n : ℕ). Represents c.in-Ok-start.device n (g.P.Disk.seen c.start.new.d)) sized
     (c.in-Ok-start.ensures.represents t))
-    (c.serve-answer.ensures.changes t)
+    by.all
+
+pub returns-clause-unmerged : goal.returns-clause-unmerged
+returns-clause-unmerged g c = λ t none.
+    let sized : g.P.Disk.size c.make_device.new.d ≡ g.P.Disk.size c.args.port.now =
+    c.make_device.ensures.touches.quiet.size in
+    let by = c.serve-answer.ensures.changes t in
+    let left : g.P.Disk.input_left c.start.new.d ≡ g.P.Disk.input_left c.args.port.now =
+    c.start.ensures.quiet.left t ∙ c.make_device.ensures.touches.quiet.left t in
+    serves_made g.P.Disk c.from_vec-set.result c.args.port.now c.make_device.new.d c.start.new.d
+    (search rules) sized (c.in-Ok.ensures.made t) c.make_device.ensures.touches
+    (c.start.ensures.touches t) IsOfCommands t c.in-Ok-start.device c.serve-answer.new.p
+    (subst
+    (λ (n : ℕ). Represents c.in-Ok-start.device n (g.P.Disk.seen c.start.new.d)) sized
+    (c.in-Ok-start.ensures.represents t))
+    (by.plain (subst (MergesNothing (2 ^ 44)) (sym left) none))

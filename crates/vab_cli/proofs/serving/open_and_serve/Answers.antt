@@ -1,5 +1,7 @@
 use Rattle.std.proofs.Common.{inl, ℕ, sym, subst, ◌^◌}
 use Rattle.vab_disk.proofs.CallLaws.{changes_wider}
+use Rattle.vab_commands.specs.Touched.{IsOfAll, IsOfCommands}
+use Rattle.vab_session.specs.Merges.{MergesNothing}
 use Rattle.vab_session.specs.Served.{ServesDevice}
 use Rattle.vab_cli.specs.declared.status.Status.{Status}
 use Rattle.vab_cli.specs.Runs.{RunsSession}
@@ -27,11 +29,27 @@ returns-clause-runs g c = λ t s stands.
 pub returns-in-Err-clause-changes : goal.returns-in-Err-clause-changes
 returns-in-Err-clause-changes g c = λ t s stands.
     changes_wider g.P.Disk
-    (IsOfServing (g.P.Disk.size c.args.port.now) (g.P.Disk.seen c.args.port.now)) _
+    (IsOfServing IsOfAll (g.P.Disk.size c.args.port.now) (g.P.Disk.seen c.args.port.now)) _
+    c.args.port.now c.open.new.port (c.open.ensures.changes t) (λ n x w. inl w)
+
+pub returns-in-Err-clause-unmerged : goal.returns-in-Err-clause-unmerged
+returns-in-Err-clause-unmerged g c = λ t s stands none.
+    changes_wider g.P.Disk
+    (IsOfServing IsOfCommands (g.P.Disk.size c.args.port.now) (g.P.Disk.seen c.args.port.now)) _
     c.args.port.now c.open.new.port (c.open.ensures.changes t) (λ n x w. inl w)
 
 pub returns-clause-changes : goal.returns-clause-changes
 returns-clause-changes g c = λ t s stands.
-    served_changes g.P.Disk (g.P.Disk.size c.args.port.now) c.in-Ok.device c.args.port.now
-    c.open.new.port c.serve-answer.new.p t (c.in-Ok.ensures.represents t)
-    (c.open.ensures.changes t) (c.serve-answer.ensures.changes t)
+    let by = c.serve-answer.ensures.changes t in
+    served_changes g.P.Disk (g.P.Disk.size c.args.port.now) IsOfAll c.in-Ok.device
+    c.args.port.now c.open.new.port c.serve-answer.new.p t (c.in-Ok.ensures.represents t)
+    (c.open.ensures.changes t) by.all
+
+pub returns-clause-unmerged : goal.returns-clause-unmerged
+returns-clause-unmerged g c = λ t s stands none.
+    let by = c.serve-answer.ensures.changes t in
+    let opens = c.in-Ok.ensures.opens t in
+    served_changes g.P.Disk (g.P.Disk.size c.args.port.now) IsOfCommands c.in-Ok.device
+    c.args.port.now c.open.new.port c.serve-answer.new.p t (c.in-Ok.ensures.represents t)
+    (c.open.ensures.changes t)
+    (by.plain (subst (MergesNothing (2 ^ 44)) (sym opens.left) none))

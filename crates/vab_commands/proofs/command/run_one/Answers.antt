@@ -5,12 +5,9 @@ use Rattle.vab_disk.specs.Calls.{OnlyReads}
 use Rattle.vab_disk.proofs.CallLaws.{reads_none}
 use Rattle.vab_gate.specs.declared.gate.DiskFault.{DiskFault}
 use Rattle.vab_model.specs.declared.command.Command.{Command as CommandOfCode}
-use Rattle.vab_model.specs.declared.command.Refusal.TheVariants.{NotStaged}
-use Rattle.vab_model.specs.declared.command.Refusal.TheVariants.{NotMerging}
 use Rattle.vab_model.specs.declared.command.Reply.{Reply}
-use Rattle.vab_model.specs.declared.command.Reply.TheVariants as replies
-use Rattle.vab_model.specs.Commands.{Command, command_of, Print, Digest, BeginMerge, Merge}
-use Rattle.vab_model.specs.Effects.{effect, answers}
+use Rattle.vab_model.specs.Commands.{Command, command_of, Print, Digest}
+use Rattle.vab_model.specs.Effects.{answers}
 use Rattle.vab_device.specs.declared.device.Device.{Device}
 use Rattle.vab_device.specs.Does.{Does}
 use Rattle.vab_device.specs.Kept.{IsDevice}
@@ -127,26 +124,16 @@ returns-in-Print g c =
     (reads_none g.D.Disk c.args.d.now) refl)
 
 pub returns-in-BeginMerge : goal.returns-in-BeginMerge
-unfolding effect
 returns-in-BeginMerge g c =
     of g.D.Disk c.args.device (option_map (λ s. s.now) c.args.staged) c.args.d.now
     c.args.command.now _ _ _ c.in-BeginMerge.is
-    (still g.D.Disk c.args.device (option_map (λ s. s.now) c.args.staged) c.args.d.now
-    BeginMerge (replies.Refused NotStaged) c.args.d.now
-    c.requires.kept c.requires.represents
-    (λ t. refl)
-    (reads_none g.D.Disk c.args.d.now) refl)
+    (c.begin_merge.ensures (option_map (λ s. s.now) c.args.staged))
 
 pub returns-in-Merge : goal.returns-in-Merge
-unfolding effect
 returns-in-Merge g c =
     of g.D.Disk c.args.device (option_map (λ s. s.now) c.args.staged) c.args.d.now
     c.args.command.now _ _ _ c.in-Merge.is
-    (still g.D.Disk c.args.device (option_map (λ s. s.now) c.args.staged) c.args.d.now
-    (Merge c.in-Merge.field-0) (replies.Refused NotMerging) c.args.d.now
-    c.requires.kept c.requires.represents
-    (λ t. refl)
-    (reads_none g.D.Disk c.args.d.now) refl)
+    (c.merge.ensures (option_map (λ s. s.now) c.args.staged))
 
 pub returns-in-Ok : goal.returns-in-Ok
 returns-in-Ok g c =

@@ -27,11 +27,6 @@ loop-j-preserved g c =
     let n : ℕ = c.loop-j.j in
     let within : n < length es = omega (arith, c.loop-j-test.true, c.count-j-end.ensures) in
     let behind : first ≤ n = omega arith in
-    let may : MayCopy base store es = record {
-      fits = c.requires.fits;
-      apart = c.requires.base_apart;
-      disjoint = c.requires.disjoint;
-    } in
     let long : length c.read_at.new.out ≡ 4096 = search rules in
     let bytes : List ℕ = c.read_at.new.out in
     let read_touches : Touches g.D.Disk
@@ -41,6 +36,11 @@ loop-j-preserved g c =
     record {
       copied = λ t.
           let mid : Image = g.D.Disk.seen c.loop-j.d in
+          let may : MayCopy base store es = record {
+            fits = c.requires.fits;
+            apart = c.requires.base_apart t;
+            disjoint = c.requires.disjoint t;
+          } in
           copied_more base store es first n (g.D.Disk.seen c.args.d.now) mid
           (g.D.Disk.seen c.write_at.new.d) bytes may behind within
           (i.touches.seen t) (i.copied t)

@@ -18,7 +18,7 @@ clear_run-requires g c =
     omega (arith, c.requires.some, c.requires.run.within) in
     let one = one_area es n c.requires.run c.requires.some in
     let there = area_there (length c.args.base.now) c.args.store.now es
-    (length es - n) c.requires.can.fits first_below in
+    (length es - n) c.requires.may.fits first_below in
     record {
       order = omega (arith, end_is, first_below);
       one_area = omega (arith, end_is, one);
@@ -26,7 +26,7 @@ clear_run-requires g c =
       on_disk = λ i below.
           omega (
             arith,
-            c.requires.can.store_on_disk i below,
+            c.requires.may.store_on_disk i below,
             c.copy_run.ensures.touches.quiet.size,
           );
     }
@@ -46,7 +46,7 @@ returns-in_err-copy_run-clause-time g c = λ t rest scanned.
     let es : List Exception = c.args.view.now in
     let n : ℕ = c.args.n in
     time_copied g.D.Disk c.args.base.now c.args.store.now es n c.requires.run c.args.d.now
-    c.copy_run.new.d t c.requires.can rest scanned
+    c.copy_run.new.d t (c.requires.can t) rest scanned
     (subst (λ (k : ℕ). Touches g.D.Disk
     (InSectors (InCopied c.args.base.now es (k - n))) c.args.d.now c.copy_run.new.d)
     c.count-end.ensures c.copy_run.ensures.touches)
@@ -71,7 +71,7 @@ returns-clause-time g c = λ t rest scanned.
     let n : ℕ = c.args.n in
     let mid = c.copy_run.new.d in
     time_merged g.D.Disk c.args.base.now c.args.store.now es n c.requires.run c.args.d.now
-    mid c.clear_run.new.d t c.requires.some c.requires.can rest scanned
+    mid c.clear_run.new.d t c.requires.some (c.requires.can t) rest scanned
     (subst (λ (k : ℕ). Touches g.D.Disk
     (InSectors (InCopied c.args.base.now es (k - n))) c.args.d.now mid)
     c.count-end.ensures c.copy_run.ensures.touches)
@@ -86,7 +86,7 @@ returns-clause-time g c = λ t rest scanned.
     c.count-end.ensures c.clear_run.ensures.touches)
 
 pub returns-clause-merged : goal.returns-clause-merged
-returns-clause-merged g c = λ t rest scanned.
+returns-clause-merged g c = λ t scanned.
     let es : List Exception = c.args.view.now in
     let n : ℕ = c.args.n in
     let mid = c.copy_run.new.d in
@@ -97,7 +97,7 @@ returns-clause-merged g c = λ t rest scanned.
     (g.D.Disk.seen c.clear_run.new.d))
     (λ u all.
     merged g.D.Disk c.args.base.now c.args.store.now es n c.requires.run c.args.d.now
-    mid c.clear_run.new.d t c.requires.some c.requires.can scanned
+    mid c.clear_run.new.d t c.requires.some (c.requires.can t) scanned
     (subst (λ (k : ℕ). Touches g.D.Disk
     (InSectors (InCopied c.args.base.now es (k - n))) c.args.d.now mid)
     c.count-end.ensures c.copy_run.ensures.touches)

@@ -17,7 +17,7 @@ returns-then-n-eq0-clause-kept g c =
     sym (take_all (length c.args.view.now - 0) c.args.view.now (omega arith))
 
 pub returns-then-n-eq0-clause-merged : goal.returns-then-n-eq0-clause-merged
-returns-then-n-eq0-clause-merged g c = λ t rest scanned.
+returns-then-n-eq0-clause-merged g c = λ t scanned.
     without_none c.args.base.now c.args.store.now c.args.view.now
     (g.D.Disk.seen c.args.d.now) scanned
 

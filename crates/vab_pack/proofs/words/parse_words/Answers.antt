@@ -32,6 +32,8 @@ fault view words (Err (faults.TooMany n)) h = inr (fault_holds words (faults.Too
 fault view words (Err (faults.BadWord i)) h = inr (fault_holds words (faults.BadWord i) h)
 fault view words (Err (faults.BadName i)) h = inr (fault_holds words (faults.BadName i) h)
 fault view words (Err (faults.Repeated i j)) h = inr (fault_holds words (faults.Repeated i j) h)
+fault view words (Err (faults.BadSize i)) h = inr (fault_holds words (faults.BadSize i) h)
+fault view words (Err (faults.BadStore i)) h = inr (fault_holds words (faults.BadStore i) h)
 
 pub returns-clause-fault : goal.returns-clause-fault
 returns-clause-fault c = fault (λ v. v.items) (map string_bytes c.args.words.now) c.parse_all.result c.parse_all.ensures

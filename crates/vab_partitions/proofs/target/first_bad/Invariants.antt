@@ -1,5 +1,7 @@
+use Rattle.vab_partitions.specs.Target.{KeepsAlone}
 use Rattle.vab_partitions.proofs.FrontLaws.{Stands}
 use Rattle.vab_partitions.proofs.target.first_bad.Given as goal
 
 abbrev pub invariant-loop-part : goal.invariant-loop-part
-invariant-loop-part l = Stands l.slot l.source l.target l.part-index l.front
+invariant-loop-part l =
+    Stands l.slot (KeepsAlone l.slot l.source l.target) l.target l.part-index l.front

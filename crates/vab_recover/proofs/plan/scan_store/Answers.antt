@@ -7,7 +7,7 @@ use Rattle.vab_device.specs.Stores.{Scanned, Wanted}
 use Rattle.vab_store.specs.Scan.{scan_of}
 use Rattle.vab_plan.specs.Scans.{scanned_of}
 use Rattle.vab_recover.specs.Scans.{AreBlocks}
-use Rattle.vab_recover.proofs.PlanLaws.{wanted_is, is_scanned, store_on_disk}
+use Rattle.vab_recover.proofs.PlanLaws.{wanted_store, wanted_is, is_scanned, store_on_disk}
 use Rattle.vab_recover.proofs.plan.scan_store.Goals as goal
 
 pub scan-scanned-requires : goal.scan-scanned-requires
@@ -22,40 +22,30 @@ pub returns-in-Ok-Some-clause-ok : goal.returns-in-Ok-Some-clause-ok
 returns-in-Ok-Some-clause-ok g c = λ t.
     let s = c.args.status.now in
     let image = g.D.Disk.seen c.args.d.now in
-    let w : Wanted = record {
-      name = s.name;
-      base = c.in-Ok-Some.base;
-      store = c.in-Ok-Some.store;
-      count = s.count;
-    } in
+    let w : Wanted = wanted_store c.args.fewer s c.in-Ok-Some.base c.in-Ok-Some.store in
     subst (λ (y : Result Scanned StartFault). IfOk c.judge_scan.result (λ s. y ≡ Ok (scanned_of s)))
-    (sym (wanted_is c.args.slot (layout_of c.args.table.now) s c.in-Ok-Some.base c.in-Ok-Some.store
+    (sym (wanted_is c.args.fewer c.args.slot (layout_of c.args.table.now) s c.in-Ok-Some.base c.in-Ok-Some.store
     c.len.result image (subst
     (λ (w : Option (List ℕ × List ℕ)). IfSome w
     (λ m. AreBlocks c.args.slot (layout_of c.args.table.now) c.args.status.now.name m.0 m.1))
     c.in-Ok-Some.field-0-is c.in-Ok-Some.ensures.there) c.len.ensures.count))
-    (c.judge_scan.ensures.ok w (scan_of c.in-Ok-Some.store c.len.result image) refl refl
+    (c.judge_scan.ensures.ok w (scan_of c.in-Ok-Some.store c.len.result image) refl refl refl
     (c.scan-scanned.ensures.answers t))
 
 pub returns-in-Ok-Some-clause-fault : goal.returns-in-Ok-Some-clause-fault
 returns-in-Ok-Some-clause-fault g c = λ t.
     let s = c.args.status.now in
     let image = g.D.Disk.seen c.args.d.now in
-    let w : Wanted = record {
-      name = s.name;
-      base = c.in-Ok-Some.base;
-      store = c.in-Ok-Some.store;
-      count = s.count;
-    } in
+    let w : Wanted = wanted_store c.args.fewer s c.in-Ok-Some.base c.in-Ok-Some.store in
     subst
     (λ (y : Result Scanned StartFault).
     IfErr c.judge_scan.result (λ f. IsOfContents f → y ≡ Err f))
-    (sym (wanted_is c.args.slot (layout_of c.args.table.now) s c.in-Ok-Some.base c.in-Ok-Some.store
+    (sym (wanted_is c.args.fewer c.args.slot (layout_of c.args.table.now) s c.in-Ok-Some.base c.in-Ok-Some.store
     c.len.result image (subst
     (λ (w : Option (List ℕ × List ℕ)). IfSome w
     (λ m. AreBlocks c.args.slot (layout_of c.args.table.now) c.args.status.now.name m.0 m.1))
     c.in-Ok-Some.field-0-is c.in-Ok-Some.ensures.there) c.len.ensures.count))
-    (c.judge_scan.ensures.fault w (scan_of c.in-Ok-Some.store c.len.result image) refl refl
+    (c.judge_scan.ensures.fault w (scan_of c.in-Ok-Some.store c.len.result image) refl refl refl
     (c.scan-scanned.ensures.answers t))
 
 pub returns-in-Ok-Some-clause-is : goal.returns-in-Ok-Some-clause-is

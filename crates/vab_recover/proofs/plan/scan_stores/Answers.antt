@@ -10,10 +10,11 @@ use Rattle.vab_disk.proofs.CallLaws.{reads_then}
 use Rattle.vab_marks.specs.declared.status.PartStatus.{PartStatus}
 use Rattle.vab_layout.specs.Layout.{layout_of}
 use Rattle.vab_device.specs.Checks.{◌>>=◌}
-use Rattle.vab_device.specs.Stores.{Scanned, wanted_of, scans_in}
+use Rattle.vab_device.specs.Stores.{Scanned, scans_in}
 use Rattle.vab_statuses.specs.Statuses.{written_in}
 use Rattle.vab_plan.specs.declared.planning.Scan.{Scan}
 use Rattle.vab_plan.specs.Scans.{scanned_of, scans_of}
+use Rattle.vab_recover.specs.Opened.{wanted_for}
 use Rattle.vab_recover.specs.Scans.{wanted_at, IsScanned}
 use Rattle.vab_recover.proofs.PlanLaws.{scans_step, scans_skip}
 use Rattle.vab_recover.proofs.plan.scan_stores.Goals as goal
@@ -25,7 +26,7 @@ pub loop-entry-preserved : goal.loop-entry-preserved
 loop-entry-preserved g c =
     let image : Image = g.D.Disk.seen c.args.d.now in
     let l = layout_of c.args.table.now in
-    let W = wanted_of c.args.slot l in
+    let W = wanted_for c.args.fewer c.args.slot l in
     let i : ℕ = c.loop-entry.entry-index in
     let all : List (Option PartStatus) = c.args.statuses.now.items in
     let inv = c.loop-entry.invariant in

@@ -1,6 +1,8 @@
 use Rattle.std.proofs.Common.{List, ℕ, Ok, sym, subst}
+use Rattle.vab_commands.proofs.ChangeLaws.{changes_by}
 use Rattle.vab_exchanges.specs.Reading.{rest_of, beyond_of, total_of, count_of, most_of}
 use Rattle.vab_session.specs.Served.{kept_on, AnswersOrFails}
+use Rattle.vab_session.proofs.Changing.{follows_kept}
 use Rattle.vab_session.proofs.answer.answer.Goals as goal
 
 pub returns-in-Ok-command-clause-does : goal.returns-in-Ok-command-clause-does
@@ -24,3 +26,18 @@ returns-in-Err-command-clause-does g c = λ t.
     let left = g.P.Disk.input_left c.args.p.now in
     c.in-Err-command.ensures.does t
     (rest_of r left) (beyond_of r left) (count_of r left) (total_of r left) (most_of r)
+
+-- a download asks for no merge
+pub returns-in-Ok-clause-changes : goal.returns-in-Ok-clause-changes
+returns-in-Ok-clause-changes g c = λ t.
+    changes_by g.P.Disk c.args.kept.device _ c.args.p.now c.download.new.p
+    c.requires.device.slot (c.download.ensures.changes t)
+
+pub returns-in-Err-clause-changes : goal.returns-in-Err-clause-changes
+returns-in-Err-clause-changes g c = λ t.
+    changes_by g.P.Disk c.args.kept.device _ c.args.p.now c.download.new.p
+    c.requires.device.slot (c.download.ensures.changes t)
+
+pub returns-in-Ok-clause-follows : goal.returns-in-Ok-clause-follows
+returns-in-Ok-clause-follows g c =
+    follows_kept c.args.kept.device _ c.in-Ok.kept.device c.in-Ok.ensures.source

@@ -1,19 +1,20 @@
-use Rattle.std.proofs.Common.{◌≡◌, inl, ◌∙◌, ℕ, List, Ok, ap, subst}
+use Rattle.std.proofs.Common.{◌≡◌, inl, ◌∙◌, ℕ, List, Ok, ap, subst, false}
 use Rattle.std.specs.Prelude.{Option}
-use Rattle.vab_disk.proofs.CallLaws.{changes_telling, changes_then}
+use Rattle.vab_disk.proofs.CallLaws.{changes_telling}
 use Rattle.vab_model.specs.Commands.{command_of}
 use Rattle.vab_model.specs.Effects.{after_of}
-use Rattle.vab_device.specs.Does.{Does, effect_of}
+use Rattle.vab_device.specs.Does.{Does, effect_of, is_of_merge}
 use Rattle.vab_device.specs.Mounted.{Mounted, mounted_on}
 use Rattle.vab_device.specs.Reading.{IsIn}
 use Rattle.vab_device.proofs.ReadingLaws.{device_stands}
 use Rattle.vab_commands.specs.Writes.{IsOfCommand}
-use Rattle.vab_commands.proofs.ChangeLaws.{command_changes}
+use Rattle.vab_commands.proofs.ChangeLaws.{command_changes_by}
 use Rattle.vab_fbproto.specs.Texts.{reply_text}
 use Rattle.vab_exchanges.specs.Items.{staged_after}
 use Rattle.vab_session.specs.Responses.{takes_staged}
 use Rattle.vab_session.specs.declared.kept.KeptDevice.{KeptDevice}
 use Rattle.vab_session.specs.Served.{kept_on}
+use Rattle.vab_session.proofs.Changing.{changes_told, follows_done}
 use Rattle.vab_session.proofs.Data.{command_before, command_done, command_told}
 use Rattle.vab_session.proofs.answer.carry_out.Goals as goal
 
@@ -96,26 +97,37 @@ returns-in-Err-tell_reply-clause-does g c =
 
 pub returns-in-Err-clause-changes : goal.returns-in-Err-clause-changes
 returns-in-Err-clause-changes g c = λ t.
-    command_changes g.P.Disk c.args.kept.device (command_of c.args.command.now)
+    command_changes_by g.P.Disk c.args.kept.device (command_of c.args.command.now)
     c.args.p.now c.run_one.new.d t c.requires.device (c.requires.stands t)
     (c.run_one.ensures.touches t)
 
 pub returns-in-Ok-tell_reply-clause-changes : goal.returns-in-Ok-tell_reply-clause-changes
 returns-in-Ok-tell_reply-clause-changes g c = λ t.
     let said = c.tell_reply.ensures in
-    changes_then g.P.Disk _ c.args.p.now c.run_one.new.d c.tell_reply.new.p
-    (command_changes g.P.Disk c.args.kept.device (command_of c.args.command.now)
-    c.args.p.now c.run_one.new.d t c.requires.device (c.requires.stands t)
-    (c.run_one.ensures.touches t))
-    (changes_telling g.P.Disk _ _ c.run_one.new.d c.tell_reply.new.p
+    let d = c.args.kept.device in
+    let cmd = command_of c.args.command.now in
+    changes_told g.P.Disk d (is_of_merge cmd ≡ false) c.args.p.now c.run_one.new.d
+    c.tell_reply.new.p
+    (command_changes_by g.P.Disk d cmd c.args.p.now c.run_one.new.d t c.requires.device
+    (c.requires.stands t) (c.run_one.ensures.touches t))
+    (λ W.
+    changes_telling g.P.Disk W _ c.run_one.new.d c.tell_reply.new.p
     said.size said.seen said.crash said.time)
 
 pub returns-in-Err-tell_reply-clause-changes : goal.returns-in-Err-tell_reply-clause-changes
 returns-in-Err-tell_reply-clause-changes g c = λ t.
     let said = c.tell_reply.ensures in
-    changes_then g.P.Disk _ c.args.p.now c.run_one.new.d c.tell_reply.new.p
-    (command_changes g.P.Disk c.args.kept.device (command_of c.args.command.now)
-    c.args.p.now c.run_one.new.d t c.requires.device (c.requires.stands t)
-    (c.run_one.ensures.touches t))
-    (changes_telling g.P.Disk _ _ c.run_one.new.d c.tell_reply.new.p
+    let d = c.args.kept.device in
+    let cmd = command_of c.args.command.now in
+    changes_told g.P.Disk d (is_of_merge cmd ≡ false) c.args.p.now c.run_one.new.d
+    c.tell_reply.new.p
+    (command_changes_by g.P.Disk d cmd c.args.p.now c.run_one.new.d t c.requires.device
+    (c.requires.stands t) (c.run_one.ensures.touches t))
+    (λ W.
+    changes_telling g.P.Disk W _ c.run_one.new.d c.tell_reply.new.p
     said.size said.seen said.crash said.time)
+
+pub returns-in-Ok-tell_reply-clause-follows : goal.returns-in-Ok-tell_reply-clause-follows
+returns-in-Ok-tell_reply-clause-follows g c =
+    follows_done c.args.kept.device (command_of c.args.command.now) c.in-Ok.done.0
+    c.in-Ok.ensures.follows

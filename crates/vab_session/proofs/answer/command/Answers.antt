@@ -1,10 +1,25 @@
-use Rattle.std.proofs.Common.{◌≡◌, Ok, Err, refl, sym, ◌∙◌, ap}
+use Rattle.std.proofs.Common.{◌≡◌, ◌∙◌, ℕ, ◌+◌, List, Ok, Err, refl, sym, ap, false}
+use Rattle.std.specs.Prelude.{Option, Some, None, Result}
+use Rattle.vab_model.specs.declared.state.Phase.{Phase}
+use Rattle.vab_model.specs.declared.state.Phase.TheVariants.{Idle, Installing, Staged, Merging}
+use Rattle.vab_model.specs.Commands.{Merge}
 use Rattle.vab_model.specs.Commands.{command_of}
-use Rattle.vab_model.specs.Effects.{effect}
-use Rattle.vab_device.specs.Mounted.{state_on}
-use Rattle.vab_fbproto.specs.Requests.{Getvar, Do, MergeAll, BootAndEnd, request_of, variable_of}
+use Rattle.vab_disk.specs.Disk.{Image}
+use Rattle.vab_marks.specs.declared.mark.MarkPhase.{MarkPhase}
+use Rattle.vab_marks.specs.declared.mark.MarkPhase.TheVariants as marks
+use Rattle.vab_marks.specs.declared.mark.UpdateMark.{UpdateMark}
+use Rattle.vab_model.specs.declared.state.PlanEntry.{PlanEntry}
+use Rattle.vab_device.specs.declared.device.Device.{Device}
+use Rattle.vab_device.specs.Mounted.{Mounted, state_on, count_at, phase_by, unplanned, entries_on}
+use Rattle.vab_fbproto.specs.Requests.{Asked, Getvar, Do, MergeAll, BootAndEnd, request_of}
+use Rattle.vab_fbproto.specs.Requests.{variable_of}
+use Rattle.vab_fbproto.specs.declared.request.BadCommand.{BadCommand}
 use Rattle.vab_fbvars.specs.Variables.{variable_text}
-use Rattle.vab_session.specs.Responses.{still}
+use Rattle.vab_commands.proofs.ChangeLaws.{changes_by, changes_under, follows_under}
+use Rattle.vab_session.specs.Merges.{asks_merge}
+use Rattle.vab_session.specs.Responses.{still, by_command, left_of}
+use Rattle.vab_session.specs.Served.{kept_on}
+use Rattle.vab_session.proofs.Changing.{if_ok, follows_kept}
 use Rattle.vab_session.proofs.answer.command.Goals as goal
 
 pub returns-in-Ok-Getvar-clause-does : goal.returns-in-Ok-Getvar-clause-does
@@ -24,14 +39,51 @@ returns-in-Ok-Getvar-clause-does g c = λ t before beyond count total most.
     c.tell_still.ensures.does t packet before beyond count total most (Ok (Getvar asked)) is tt
     (ap still (sym text))
 
+-- a merge of one turn more than are left, where some are merged, and where none is any number
+merge_all : (m : Mounted) (staged : Option (List ℕ)) (n : ℕ) (phase : Phase)
+    → m.state.phase ≡ phase
+    → ((target left : ℕ) → phase ≡ Merging target left → n ≡ left)
+    → by_command m staged (Merge (left_of m.state.phase + 1)) ≡ by_command m staged (Merge (n + 1))
+merge_all m staged n Idle is same = rw is refl
+merge_all m staged n (Installing source plan) is same = rw is refl
+merge_all m staged n (Staged source left) is same = rw is refl
+merge_all m staged n (Merging target left) is same =
+    ap (λ (k : ℕ). by_command m staged (Merge (k + 1)))
+    (ap left_of is ∙ sym (same target left refl))
+
+-- where some are merged, those are the exceptions of the slots with images
+left_by : (m : UpdateMark) (count target left : ℕ) (entries : Option (List PlanEntry))
+    → phase_by m count entries ≡ Merging target left
+    → count ≡ left
+left_by m count target left (Some entries) is = absurd cc
+left_by m count target left None is = by_phase m.phase is
+  where
+    by_phase : (phase : MarkPhase) → unplanned phase m.slot count ≡ Merging target left → count ≡ left
+    by_phase marks.Idle is = absurd cc
+    by_phase marks.Installing is = absurd cc
+    by_phase marks.Staged is = absurd cc
+    by_phase marks.Merging is = ap left_of is
+    by_phase marks.Completed is = absurd cc
+
+left_here : (d : Device) (image : Image) (target left : ℕ)
+    → (state_on d image).phase ≡ Merging target left
+    → count_at d.a + count_at d.b ≡ left
+unfolding state_on
+left_here d image target left is =
+    left_by d.mark (count_at d.a + count_at d.b) target left (entries_on image d.plan) is
+
 pub returns-in-Ok-MergeAll-clause-does : goal.returns-in-Ok-MergeAll-clause-does
-unfolding effect
 returns-in-Ok-MergeAll-clause-does g c = λ t before beyond count total most.
     let packet = c.args.packet.now in
     let is : request_of packet ≡ Ok MergeAll =
     rw c.in-Ok-MergeAll.field-0-is at c.in-Ok-MergeAll.ensures in
+    let k = kept_on c.args.kept (g.P.Disk.seen c.args.p.now) in
     c.carry_out-in-Ok-MergeAll.ensures.does t packet before beyond count total most
-    (Ok MergeAll) is tt refl
+    (Ok MergeAll) is tt
+    (merge_all k.now k.staged c.left.result k.now.state.phase refl
+    (λ target left merging.
+    c.left.ensures.is
+    ∙ left_here c.args.kept.device (g.P.Disk.seen c.args.p.now) target left merging))
 
 pub returns-in-Ok-Do-clause-does : goal.returns-in-Ok-Do-clause-does
 returns-in-Ok-Do-clause-does g c = λ t before beyond count total most.
@@ -53,3 +105,85 @@ pub returns-in-Err-clause-does : goal.returns-in-Err-clause-does
 returns-in-Err-clause-does g c = λ t before beyond count total most.
     c.tell_still-in-Err.ensures.does t c.args.packet.now before beyond count total most
     (Err c.in-Err.bad) c.in-Err.ensures tt (ap still (sym c.bad_text.ensures.text))
+
+-- ---- what is changed, and what is kept
+
+-- a packet that asks for this asks for no more merges than it does
+asks_for : (packet : List ℕ) (asked : Result Asked BadCommand)
+    → request_of packet ≡ asked
+    → asks_merge (request_of packet) ≡ false
+    → asks_merge asked ≡ false
+asks_for packet asked is not = sym (ap asks_merge is) ∙ not
+
+pub returns-in-Ok-Getvar-clause-changes : goal.returns-in-Ok-Getvar-clause-changes
+returns-in-Ok-Getvar-clause-changes g c = λ t.
+    changes_by g.P.Disk c.args.kept.device _ c.args.p.now c.tell_still.new.p
+    c.requires.device.slot (c.tell_still.ensures.changes t)
+
+pub returns-in-Err-clause-changes : goal.returns-in-Err-clause-changes
+returns-in-Err-clause-changes g c = λ t.
+    changes_by g.P.Disk c.args.kept.device _ c.args.p.now c.tell_still-in-Err.new.p
+    c.requires.device.slot (c.tell_still-in-Err.ensures.changes t)
+
+pub returns-in-Ok-Do-clause-changes : goal.returns-in-Ok-Do-clause-changes
+returns-in-Ok-Do-clause-changes g c = λ t.
+    let packet = c.args.packet.now in
+    let is : request_of packet ≡ Ok (Do (command_of c.in-Ok-Do.command)) =
+    rw c.in-Ok-Do.field-0-is at c.in-Ok-Do.ensures in
+    changes_under g.P.Disk c.args.kept.device _ _ c.args.p.now c.carry_out.new.p
+    (asks_for packet (Ok (Do (command_of c.in-Ok-Do.command))) is)
+    (c.carry_out.ensures.changes t)
+
+pub returns-in-Ok-MergeAll-clause-changes : goal.returns-in-Ok-MergeAll-clause-changes
+returns-in-Ok-MergeAll-clause-changes g c = λ t.
+    let packet = c.args.packet.now in
+    let is : request_of packet ≡ Ok MergeAll =
+    rw c.in-Ok-MergeAll.field-0-is at c.in-Ok-MergeAll.ensures in
+    changes_under g.P.Disk c.args.kept.device _ _ c.args.p.now c.carry_out-in-Ok-MergeAll.new.p
+    (asks_for packet (Ok MergeAll) is)
+    (c.carry_out-in-Ok-MergeAll.ensures.changes t)
+
+pub returns-in-Ok-BootAndEnd-clause-changes : goal.returns-in-Ok-BootAndEnd-clause-changes
+returns-in-Ok-BootAndEnd-clause-changes g c = λ t.
+    changes_under g.P.Disk c.args.kept.device _ _ c.args.p.now c.carry_out-in-Ok-BootAndEnd.new.p
+    (λ not. refl)
+    (c.carry_out-in-Ok-BootAndEnd.ensures.changes t)
+
+pub returns-in-Ok-Getvar-clause-follows : goal.returns-in-Ok-Getvar-clause-follows
+returns-in-Ok-Getvar-clause-follows g c =
+    if_ok _ _ c.tell_still.result
+    (λ k keeps. follows_kept c.args.kept.device _ k.device keeps)
+    c.tell_still.ensures.source
+
+pub returns-in-Err-clause-follows : goal.returns-in-Err-clause-follows
+returns-in-Err-clause-follows g c =
+    if_ok _ _ c.tell_still-in-Err.result
+    (λ k keeps. follows_kept c.args.kept.device _ k.device keeps)
+    c.tell_still-in-Err.ensures.source
+
+pub returns-in-Ok-Do-clause-follows : goal.returns-in-Ok-Do-clause-follows
+returns-in-Ok-Do-clause-follows g c =
+    let packet = c.args.packet.now in
+    let is : request_of packet ≡ Ok (Do (command_of c.in-Ok-Do.command)) =
+    rw c.in-Ok-Do.field-0-is at c.in-Ok-Do.ensures in
+    if_ok _ _ c.carry_out.result
+    (λ k follows.
+    follows_under c.args.kept.device _ _ k.device
+    (asks_for packet (Ok (Do (command_of c.in-Ok-Do.command))) is) follows)
+    c.carry_out.ensures.follows
+
+pub returns-in-Ok-MergeAll-clause-follows : goal.returns-in-Ok-MergeAll-clause-follows
+returns-in-Ok-MergeAll-clause-follows g c =
+    let packet = c.args.packet.now in
+    let is : request_of packet ≡ Ok MergeAll =
+    rw c.in-Ok-MergeAll.field-0-is at c.in-Ok-MergeAll.ensures in
+    if_ok _ _ c.carry_out-in-Ok-MergeAll.result
+    (λ k follows.
+    follows_under c.args.kept.device _ _ k.device (asks_for packet (Ok MergeAll) is) follows)
+    c.carry_out-in-Ok-MergeAll.ensures.follows
+
+pub returns-in-Ok-BootAndEnd-clause-follows : goal.returns-in-Ok-BootAndEnd-clause-follows
+returns-in-Ok-BootAndEnd-clause-follows g c =
+    if_ok _ _ c.carry_out-in-Ok-BootAndEnd.result
+    (λ k follows. follows_under c.args.kept.device _ _ k.device (λ not. refl) follows)
+    c.carry_out-in-Ok-BootAndEnd.ensures.follows

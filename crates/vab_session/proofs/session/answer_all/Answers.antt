@@ -1,23 +1,26 @@
 use Rattle.std.proofs.Common.{◌≡◌, ℕ, ◌∙◌, min, true, false, List, Some, None, Ok, Err, refl, sym}
 use Rattle.std.proofs.Common.{ap, subst, rules}
-use Rattle.vab_disk.proofs.CallLaws.{fewer_then, changes_none, changes_then}
+use Rattle.vab_disk.proofs.CallLaws.{fewer_then, changes_none}
 use Rattle.vab_device.specs.declared.device.Device.{Device}
 use Rattle.vab_device.specs.Kept.{IsDevice}
 use Rattle.vab_device.specs.Mounted.{mounted_on}
 use Rattle.vab_device.specs.Reading.{IsIn, Represents}
 use Rattle.vab_device.proofs.DoesLaws.{keeps_all}
 use Rattle.vab_device.proofs.ReadingLaws.{device_stands}
-use Rattle.vab_commands.proofs.ChangeLaws.{keeps_then}
+use Rattle.vab_commands.proofs.ChangeLaws.{follows_then}
+use Rattle.vab_fbproto.specs.Requests.{request_of}
 use Rattle.vab_exchanges.specs.Session.{ends_session, Stops, Closed}
 use Rattle.vab_exchanges.specs.Reading.{rest_of, beyond_of, total_of, most_of, EndsAs, StopsBy}
 use Rattle.vab_exchanges.specs.Runs.{Ran}
 use Rattle.vab_exchanges.proofs.Progress.{begun, stopped, answered, rebooted}
 use Rattle.vab_session.specs.declared.fault.SessionFault.{SessionFault}
+use Rattle.vab_session.specs.Merges.{asks_merge}
 use Rattle.vab_session.specs.Responses.{response}
 use Rattle.vab_session.specs.Served.{kept_on, HeldBy, Says}
 use Rattle.vab_session.proofs.Endings.{moved, some_is, heard_on, does_moved, read_fails}
 use Rattle.vab_session.proofs.Endings.{answer_fails}
-use Rattle.vab_session.proofs.Changing.{changes_listening, changes_answered}
+use Rattle.vab_session.proofs.Changing.{changes_heard, changes_still, changes_answered}
+use Rattle.vab_session.proofs.Changing.{asks_none, follows_kept}
 use Rattle.vab_session.proofs.session.answer_all.Goals as goal
 
 pub returns-in-Ok-false-clause-ran : goal.returns-in-Ok-false-clause-ran
@@ -192,14 +195,24 @@ loop-packet-preserved g c =
           subst
           (λ (n : ℕ). Represents c.in-Ok.next.device n (g.P.Disk.seen c.answer.new.p))
           sizes (c.in-Ok.ensures.stands t);
-      source =
-          keeps_then c.args.kept.device c.loop-packet.kept.device c.in-Ok.next.device i.source
-          c.in-Ok.ensures.source;
+      follows = λ t.
+          follows_then c.args.kept.device c.loop-packet.kept.device c.in-Ok.next.device
+          _ _ (λ p.
+          subst (λ (l : List ℕ). asks_merge (request_of l) ≡ false)
+          (sym c.as_slice.ensures.value)
+          (asks_none N g.P.Disk _ _ _ p.0.0 _ _ _ _ (i.progress t p.0.0 p.0.1) p.1 _ _
+          (rw c.in-Ok-true.field-0-test at ok.packet t)))
+          (i.follows t) c.in-Ok.ensures.follows;
       changes = λ t.
           changes_answered g.P.Disk (g.P.Disk.size c.args.p.now) c.args.kept.device
-          c.loop-packet.kept.device _ _ c.args.p.now c.loop-packet.p c.packet.new.p c.answer.new.p
-          t (c.requires.stands t) (i.stands t) i.source (i.changes t)
-          c.packet.ensures.listens (c.answer.ensures.changes t);
+          c.loop-packet.kept.device _ _ _ _ c.args.p.now c.loop-packet.p c.packet.new.p
+          c.answer.new.p t (c.requires.stands t) (i.stands t)
+          (λ p.
+          subst (λ (l : List ℕ). asks_merge (request_of l) ≡ false)
+          (sym c.as_slice.ensures.value)
+          (asks_none N g.P.Disk _ _ _ p.0.0 _ _ _ _ (i.progress t p.0.0 p.0.1) p.1 _ _
+          (rw c.in-Ok-true.field-0-test at ok.packet t)))
+          (i.follows t) (i.changes t) c.packet.ensures.listens (c.answer.ensures.changes t);
       counts =
           fewer_then _ _ _ (fewer_then _ _ _ i.counts ok.listens.counts)
           c.answer.ensures.cause.counts;
@@ -261,9 +274,9 @@ loop-packet-init g c =
       beyond = λ t. refl;
       size = refl;
       device = c.requires.device;
-      source = keeps_all c.args.kept.device;
+      follows = λ t. follows_kept c.args.kept.device _ c.args.kept.device (keeps_all c.args.kept.device);
       stands = c.requires.stands;
-      changes = λ t. changes_none g.P.Disk _ old;
+      changes = λ t. changes_still g.P.Disk _ _ old old (λ W. changes_none g.P.Disk W old);
       counts = search rules;
       steady = refl;
       progress = λ t told greeted.
@@ -274,28 +287,38 @@ loop-packet-init g c =
 
 pub returns-in-Ok-false-clause-changes : goal.returns-in-Ok-false-clause-changes
 returns-in-Ok-false-clause-changes g c = λ t.
-    changes_then g.P.Disk _ c.args.p.now c.loop-packet.p c.packet.new.p
-    (c.loop-packet.invariant.changes t)
-    (changes_listening g.P.Disk _ _ _ c.loop-packet.p c.packet.new.p c.packet.ensures.listens)
+    changes_heard g.P.Disk c.args.kept.device _ _ _ c.args.p.now c.loop-packet.p c.packet.new.p
+    (c.loop-packet.invariant.changes t) c.packet.ensures.listens
 
 pub returns-in-Err-clause-changes : goal.returns-in-Err-clause-changes
 returns-in-Err-clause-changes g c = λ t.
-    changes_then g.P.Disk _ c.args.p.now c.loop-packet.p c.packet.new.p
-    (c.loop-packet.invariant.changes t)
-    (changes_listening g.P.Disk _ _ _ c.loop-packet.p c.packet.new.p c.packet.ensures.listens)
+    changes_heard g.P.Disk c.args.kept.device _ _ _ c.args.p.now c.loop-packet.p c.packet.new.p
+    (c.loop-packet.invariant.changes t) c.packet.ensures.listens
 
 pub returns-in-Err-answer-clause-changes : goal.returns-in-Err-answer-clause-changes
 returns-in-Err-answer-clause-changes g c = λ t.
     let i = c.loop-packet.invariant in
     changes_answered g.P.Disk (g.P.Disk.size c.args.p.now) c.args.kept.device
-    c.loop-packet.kept.device _ _ c.args.p.now c.loop-packet.p c.packet.new.p c.answer.new.p
-    t (c.requires.stands t) (i.stands t) i.source (i.changes t)
-    c.packet.ensures.listens (c.answer.ensures.changes t)
+    c.loop-packet.kept.device _ _ _ _ c.args.p.now c.loop-packet.p c.packet.new.p c.answer.new.p
+    t (c.requires.stands t) (i.stands t)
+    (λ p.
+    subst (λ (l : List ℕ). asks_merge (request_of l) ≡ false)
+    (sym c.as_slice.ensures.value)
+    (asks_none (g.P.Disk.size c.args.p.now) g.P.Disk _ _ _ p.0.0 _ _ _ _
+    (i.progress t p.0.0 p.0.1) p.1 _ _
+    (rw c.in-Ok-true.field-0-test at c.in-Ok-true.ensures.packet t)))
+    (i.follows t) (i.changes t) c.packet.ensures.listens (c.answer.ensures.changes t)
 
 pub returns-then-is_last-clause-changes : goal.returns-then-is_last-clause-changes
 returns-then-is_last-clause-changes g c = λ t.
     let i = c.loop-packet.invariant in
     changes_answered g.P.Disk (g.P.Disk.size c.args.p.now) c.args.kept.device
-    c.loop-packet.kept.device _ _ c.args.p.now c.loop-packet.p c.packet.new.p c.answer.new.p
-    t (c.requires.stands t) (i.stands t) i.source (i.changes t)
-    c.packet.ensures.listens (c.answer.ensures.changes t)
+    c.loop-packet.kept.device _ _ _ _ c.args.p.now c.loop-packet.p c.packet.new.p c.answer.new.p
+    t (c.requires.stands t) (i.stands t)
+    (λ p.
+    subst (λ (l : List ℕ). asks_merge (request_of l) ≡ false)
+    (sym c.as_slice.ensures.value)
+    (asks_none (g.P.Disk.size c.args.p.now) g.P.Disk _ _ _ p.0.0 _ _ _ _
+    (i.progress t p.0.0 p.0.1) p.1 _ _
+    (rw c.in-Ok-true.field-0-test at c.in-Ok-true.ensures.packet t)))
+    (i.follows t) (i.changes t) c.packet.ensures.listens (c.answer.ensures.changes t)

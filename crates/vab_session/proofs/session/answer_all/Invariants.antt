@@ -3,11 +3,11 @@ use Rattle.vab_disk.specs.Disk.{NoFewer}
 use Rattle.vab_fbtcp.specs.declared.event.Place.TheVariants.{Length}
 use Rattle.vab_device.specs.Kept.{IsDevice}
 use Rattle.vab_device.specs.Reading.{IsIn, Represents}
-use Rattle.vab_device.specs.Does.{KeepsSource}
-use Rattle.vab_commands.specs.Touched.{ChangesDevice}
+use Rattle.vab_commands.specs.Touched.{ChangesBy, FollowsBy}
 use Rattle.vab_exchanges.specs.Reading.{stands_at, rest_of, beyond_of, room_of, total_of, most_of}
 use Rattle.vab_exchanges.specs.Reading.{IsFed}
 use Rattle.vab_exchanges.proofs.Progress.{Progress}
+use Rattle.vab_session.specs.Merges.{IsPlain}
 use Rattle.vab_session.specs.Responses.{response}
 use Rattle.vab_session.specs.Served.{kept_on}
 use Rattle.vab_session.proofs.session.answer_all.Given as goal
@@ -25,10 +25,16 @@ invariant-loop-packet g l = record {
       ≡ beyond_of l.fn.reader (g.P.Disk.input_left l.fn.p);
   size : g.P.Disk.size l.p ≡ g.P.Disk.size l.fn.p;
   device : IsDevice l.kept.device (g.P.Disk.size l.fn.p);
-  source : KeepsSource l.fn.kept.device l.kept.device;
+  follows : g.P.Disk.is_modelled
+      → FollowsBy l.fn.kept.device
+      (IsPlain (g.P.Disk.told l.fn.p) (rest_of l.fn.reader (g.P.Disk.input_left l.fn.p)))
+      l.kept.device;
   stands : g.P.Disk.is_modelled
       → Represents l.kept.device (g.P.Disk.size l.fn.p) (g.P.Disk.seen l.p);
-  changes : g.P.Disk.is_modelled → ChangesDevice g.P.Disk l.fn.kept.device l.fn.p l.p;
+  changes : g.P.Disk.is_modelled
+      → ChangesBy g.P.Disk l.fn.kept.device
+      (IsPlain (g.P.Disk.told l.fn.p) (rest_of l.fn.reader (g.P.Disk.input_left l.fn.p)))
+      l.fn.p l.p;
   counts : NoFewer (g.P.Disk.faults l.fn.p) (g.P.Disk.faults l.p);
   steady : g.P.Disk.faults l.p ≡ g.P.Disk.faults l.fn.p;
   progress : g.P.Disk.is_modelled

@@ -6,14 +6,12 @@ use Rattle.vab_disk.specs.Disk.{Image, Adds, Nothing}
 use Rattle.vab_disk.specs.Calls.{IsAtRest}
 use Rattle.vab_disk.proofs.Moments.{adds_still}
 use Rattle.vab_disk.specs.declared.disk.Disk.{Ghosts}
-use Rattle.vab_disk.specs.Calls.{Changes}
 use Rattle.vab_disk.proofs.CallLaws.{changes_telling, changes_then}
 use Rattle.vab_fbtcp.specs.Hello.{is_hello}
 use Rattle.vab_device.specs.declared.device.Device.{Device}
 use Rattle.vab_device.specs.Mounted.{Mounted, mounted_on}
 use Rattle.vab_device.specs.Reading.{IsIn}
 use Rattle.vab_device.proofs.ReadingLaws.{device_stands}
-use Rattle.vab_commands.specs.Touched.{IsOfCommands}
 use Rattle.vab_exchanges.specs.Session.{HasNoHello}
 use Rattle.vab_exchanges.specs.Hearing.{HearsWhere, IsHeardFor}
 use Rattle.vab_exchanges.specs.Reading.{rest_of, beyond_of, all_of, total_of, count_of, most_of}
@@ -27,11 +25,12 @@ use Rattle.vab_exchanges.proofs.Listening.{hears_at, hears_same}
 use Rattle.vab_exchanges.proofs.Serving.{served, failed_early, greeting}
 use Rattle.vab_session.specs.declared.fault.Ended.{Ended}
 use Rattle.vab_session.specs.declared.fault.SessionFault.{SessionFault}
+use Rattle.vab_session.specs.Merges.{HasNoMerge, MergesNothing}
 use Rattle.vab_session.specs.Responses.{response}
 use Rattle.vab_session.specs.Served.{nothing_staged, Held, HeldBy, Says, HasCause, reached}
 use Rattle.vab_session.proofs.Data.{read_cause}
 use Rattle.vab_session.proofs.Endings.{moved, hello_fails}
-use Rattle.vab_session.proofs.Changing.{changes_listening}
+use Rattle.vab_session.proofs.Changing.{changes_listening, changes_still, changes_behind}
 use Rattle.vab_session.proofs.session.serve_up_to.Goals as goal
 
 pub returns-then-is_err-clause-serves : goal.returns-then-is_err-clause-serves
@@ -238,30 +237,45 @@ returns-clause-serves g c = λ t.
 pub returns-then-is_err-clause-changes : goal.returns-then-is_err-clause-changes
 returns-then-is_err-clause-changes g c = λ t.
     let said = c.say_all.ensures in
-    changes_telling g.P.Disk _ _ c.args.p.now c.say_all.new.p
-    said.size said.seen said.crash said.time
+    changes_still g.P.Disk c.args.device _ c.args.p.now c.say_all.new.p
+    (λ W.
+    changes_telling g.P.Disk W _ c.args.p.now c.say_all.new.p
+    said.size said.seen said.crash said.time)
 
 pub returns-in-Err-clause-changes : goal.returns-in-Err-clause-changes
 returns-in-Err-clause-changes g c = λ t.
     let said = c.say_all.ensures in
-    changes_then g.P.Disk _ c.args.p.now c.say_all.new.p c.hello.new.p
-    (changes_telling g.P.Disk _ _ c.args.p.now c.say_all.new.p
+    changes_still g.P.Disk c.args.device _ c.args.p.now c.hello.new.p
+    (λ W.
+    changes_then g.P.Disk W c.args.p.now c.say_all.new.p c.hello.new.p
+    (changes_telling g.P.Disk W _ c.args.p.now c.say_all.new.p
     said.size said.seen said.crash said.time)
-    (changes_listening g.P.Disk _ _ _ c.say_all.new.p c.hello.new.p c.hello.ensures.listens)
+    (changes_listening g.P.Disk W _ _ c.say_all.new.p c.hello.new.p c.hello.ensures.listens))
 
 pub returns-clause-changes : goal.returns-clause-changes
 returns-clause-changes g c = λ t.
     let said = c.say_all.ensures in
+    let listens = c.hello.ensures.listens in
+    let ok = c.in-Ok.ensures in
     let d = c.args.device in
     let old = c.args.p.now in
+    let said_to = c.say_all.new.p in
     let mid = c.hello.new.p in
     let new = c.answer_all.new.p in
-    let seen : g.P.Disk.seen mid ≡ g.P.Disk.seen old =
-    c.hello.ensures.listens.seen t ∙ c.say_all.ensures.seen t in
-    changes_then g.P.Disk _ old mid new
-    (changes_then g.P.Disk _ old c.say_all.new.p mid
-    (changes_telling g.P.Disk _ _ old c.say_all.new.p said.size said.seen said.crash said.time)
-    (changes_listening g.P.Disk _ _ _ c.say_all.new.p mid c.hello.ensures.listens))
-    (subst
-    (λ (image : Image). Changes g.P.Disk (IsOfCommands d (image 4)) mid new)
-    seen (c.answer_all.ensures.changes t))
+    let most = c.args.most in
+    let input = g.P.Disk.input_left old in
+    let seen : g.P.Disk.seen mid ≡ g.P.Disk.seen old = listens.seen t ∙ said.seen t in
+    let told : g.P.Disk.told said_to ≡ g.P.Disk.told old ++ codes "FB01" =
+    where_ok c.say_all.result (g.P.Disk.told said_to ≡ g.P.Disk.told old ++ codes "FB01")
+    (sym c.is_err.ensures.value ∙ c.if-is_err.false) (said.told t) in
+    let rest : rest_of c.hello.new.self (g.P.Disk.input_left mid) ≡ drop 4 (take most input) =
+    ok.rest t
+    ∙ ap (λ (l : List ℕ). drop 4 l)
+    (c.new-reader.ensures.rest (g.P.Disk.input_left said_to) ∙ ap (take most) (said.left t)) in
+    changes_behind g.P.Disk d _ (MergesNothing most input) old mid new seen
+    (λ W.
+    changes_then g.P.Disk W old said_to mid
+    (changes_telling g.P.Disk W _ old said_to said.size said.seen said.crash said.time)
+    (changes_listening g.P.Disk W _ _ said_to mid listens))
+    (λ none. ((g.P.Disk.told old, listens.told t ∙ told), subst HasNoMerge (sym rest) none))
+    (c.answer_all.ensures.changes t)

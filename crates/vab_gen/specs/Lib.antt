@@ -1,0 +1,4 @@
+pub mod Draws
+pub mod Blocks
+pub mod Images
+pub mod Sets

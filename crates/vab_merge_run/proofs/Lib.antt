@@ -1,0 +1,11 @@
+pub mod PlaceLaws
+pub mod OwnLaws
+pub mod TurnLaws
+pub mod MergesLaws
+pub mod ApartLaws
+pub mod ScansLaws
+pub mod SeenLaws
+pub mod CutLaws
+pub mod RunLaws
+pub mod BehindLaws
+pub mod LeftLaws

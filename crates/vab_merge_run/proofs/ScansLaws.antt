@@ -1,0 +1,359 @@
+-- What is read of the stores where one of them has fewer exceptions.
+use Rattle.std.proofs.Common.{◌≡◌, ◌≢◌, ◌∙◌, inl, inr, ℕ, ◌-◌, true, false, List, [], ◌∷◌}
+use Rattle.std.proofs.Common.{length, take, cond, leb, Result, Ok, Err, refl, sym, ap, subst}
+use Rattle.std.proofs.Common.{arith, length-take-le}
+use Rattle.std.specs.Prelude.{Option, Some, None, is_some, map, option_map, Contains}
+use Rattle.std.specs.Prelude.{if◌then◌else◌}
+use Rattle.std.specs.Str.{bytes_eq}
+use Rattle.std.proofs.lemmas.Bool.{cases_Bool, leb-true, le-leb}
+use Rattle.vab_disk.specs.Disk.{Image}
+use Rattle.vab_names.specs.Names.{is_of_slot, store_of}
+use Rattle.vab_marks.specs.declared.status.PartStatus.{PartStatus}
+use Rattle.vab_exceptions.specs.declared.area.Exception.{Exception}
+use Rattle.vab_store.specs.declared.fault.StoreFault.{StoreFault}
+use Rattle.vab_store.specs.Scan.{scan_of}
+use Rattle.vab_layout.specs.declared.layout.Part.{Part as PartOfLayout}
+use Rattle.vab_layout.specs.declared.layout.Layout.{Layout}
+use Rattle.vab_layout.specs.Slots.{own_parts}
+use Rattle.vab_partitions.specs.Merging.{IsMerging}
+use Rattle.vab_builder.proofs.Counting.{of_filter}
+use Rattle.vab_builder.proofs.NameCases.{same_name, eq_name, ne_name, other_name}
+use Rattle.vab_device.specs.declared.fault.StartFault.{StartFault}
+use Rattle.vab_device.specs.declared.fault.StartFault.TheVariants.{BadStore}
+use Rattle.vab_device.specs.Checks.{◌>>=◌}
+use Rattle.vab_device.specs.Kept.{sectors_of}
+use Rattle.vab_device.specs.Stores.{Wanted, Scanned, first_named, wanted_by, wanted_of, or_fewer}
+use Rattle.vab_device.specs.Stores.{is_long, scan_read, scan_at, scans_in, exceptions_of}
+use Rattle.vab_device.proofs.CheckLaws.{bound}
+use Rattle.vab_device.proofs.StoreLaws.{scan_kept}
+use Rattle.vab_merge_run.proofs.ApartLaws.{named_in, InEither, store_miss}
+
+-- ---- fewer exceptions
+
+abbrev pub cut_list : ℕ → List Exception → List Exception
+cut_list k es = take (length es - k) es
+
+-- the store of this name without its last exceptions
+abbrev pub cut_scan : List ℕ → ℕ → Scanned → Scanned
+cut_scan name k s =
+    if bytes_eq s.name name then record s { exceptions = cut_list k s.exceptions } else s
+
+pub exceptions_own : (name : List ℕ) (k : ℕ) (ss : List Scanned)
+    → exceptions_of name (map (cut_scan name k) ss)
+    ≡ option_map (cut_list k) (exceptions_of name ss)
+exceptions_own name k [] = refl
+exceptions_own name k (s ∷ ss) = elim (cases_Bool (bytes_eq s.name name)) [
+  | inl here ↦ rw here (rw here refl)
+  | inr other ↦ rw other (rw other (exceptions_own name k ss))
+]
+
+pub exceptions_other : (name other : List ℕ) (k : ℕ) (ss : List Scanned)
+    → other ≢ name
+    → exceptions_of other (map (cut_scan name k) ss) ≡ exceptions_of other ss
+exceptions_other name other k [] differs = refl
+exceptions_other name other k (s ∷ ss) differs =
+    let rest = exceptions_other name other k ss differs in
+    elim (cases_Bool (bytes_eq s.name name)) [
+      | inl here ↦
+          let no : bytes_eq s.name other ≡ false =
+          ne_name s.name other (λ e. differs (sym e ∙ same_name s.name name here)) in
+          rw here (rw no rest)
+      | inr not_it ↦ rw not_it (ap (cond (bytes_eq s.name other) (Some s.exceptions)) rest)
+    ]
+
+some_map : (k : ℕ) (o : Option (List Exception)) → is_some (option_map (cut_list k) o) ≡ is_some o
+some_map k None = refl
+some_map k (Some es) = refl
+
+pub exceptions_some : (name other : List ℕ) (k : ℕ) (ss : List Scanned)
+    → is_some (exceptions_of other (map (cut_scan name k) ss)) ≡ is_some (exceptions_of other ss)
+exceptions_some name other k ss = elim (cases_Bool (bytes_eq other name)) [
+  | inl here ↦
+      subst
+      (λ (n : List ℕ).
+      is_some (exceptions_of n (map (cut_scan name k) ss)) ≡ is_some (exceptions_of n ss))
+      (sym (same_name other name here))
+      (ap (λ (o : Option (List Exception)). is_some o) (exceptions_own name k ss)
+      ∙ some_map k (exceptions_of name ss))
+  | inr not_it ↦
+      ap (λ (o : Option (List Exception)). is_some o)
+      (exceptions_other name other k ss (other_name other name not_it))
+]
+
+-- ---- a store
+
+-- its scan, which is long enough
+pub record IsRead (w : Wanted) (image : Image) (s : Scanned) : Type 0 where
+  pub scan : scan_of w.store (length w.base) image ≡ Ok s.exceptions
+  pub name : s.name ≡ w.name
+  pub long : is_long w.fewer w.count (length s.exceptions) ≡ true
+
+read_of : (w : Wanted) (x : Result (List Exception) StoreFault) (s : Scanned)
+    → scan_read w x ≡ Ok s
+    → (x ≡ Ok s.exceptions)
+    × (s.name ≡ w.name)
+    × (is_long w.fewer w.count (length s.exceptions) ≡ true)
+read_of w (Ok es) s is = elim (cases_Bool (is_long w.fewer w.count (length es))) [
+  | inl enough ↦
+      let same : (let r : Result Scanned StartFault = Ok
+      (record { name = w.name; exceptions = es }) in r ≡ Ok s) =
+      rw enough at is in
+      let e : (record { name = w.name; exceptions = es }) ≡ s = cc in (
+        ap (λ (x : Scanned). Ok x.exceptions) e,
+        sym (ap (λ (x : Scanned). x.name) e),
+        subst (λ (x : Scanned). is_long w.fewer w.count (length x.exceptions) ≡ true) e enough,
+      )
+  | inr few ↦
+      let bad : (let r : Result Scanned StartFault = Err (BadStore w.name) in r ≡ Ok s) = rw few at
+      is in
+      absurd cc
+]
+read_of w (Err fault) s is =
+    absurd (let bad : (let r : Result Scanned StartFault = Err (BadStore w.name) in r ≡ Ok s) = is
+    in cc)
+
+is_read : (w : Wanted) (image : Image) (s : Scanned) → scan_at w image ≡ Ok s → IsRead w image s
+unfolding scan_at
+is_read w image s is =
+    let three = read_of w (scan_of w.store (length w.base) image) s is in
+    record { scan = three.0; name = three.1; long = three.2 }
+
+scan_made : (w : Wanted) (image : Image) (es : List Exception)
+    → scan_of w.store (length w.base) image ≡ Ok es
+    → is_long w.fewer w.count (length es) ≡ true
+    → scan_at w image ≡ Ok (record { name = w.name; exceptions = es })
+unfolding scan_at
+scan_made w image es scan long = ap (scan_read w) scan ∙ rw long refl
+
+-- ---- the store of one partition, and the others
+
+module _ (slot : ℕ) (l : Layout) (part keeps : PartOfLayout)
+    (is : IsMerging slot l.parts)
+    (in_own : Contains (own_parts slot l.parts) part)
+    (own : is_of_slot slot part.name ≡ true)
+    (part_is : first_named part.name (own_parts slot l.parts) ≡ Some part)
+    (found : first_named (store_of part.name) l.parts ≡ Some keeps) where
+  abbrev at : ℕ
+  at = l.device.first_logical_sector
+
+  abbrev owns : List PartOfLayout
+  owns = own_parts slot l.parts
+
+  abbrev base : List ℕ
+  base = sectors_of at part.blocks
+
+  abbrev store : List ℕ
+  store = sectors_of at keeps.blocks
+
+  abbrev pub wants : PartStatus → Result Wanted StartFault
+  wants st = or_fewer (wanted_of slot l st)
+
+  abbrev wanted : PartStatus → PartOfLayout → PartOfLayout → Wanted
+  wanted st p q = record {
+    name = st.name;
+    base = sectors_of at p.blocks;
+    store = sectors_of at q.blocks;
+    count = st.count;
+    fewer = true;
+  }
+
+  -- the status of that name is of that partition and its store
+  both_named : (st : PartStatus) (p q : PartOfLayout)
+      → first_named st.name owns ≡ Some p
+      → first_named (store_of st.name) l.parts ≡ Some q
+      → st.name ≡ part.name
+      → (p ≡ part) × (q ≡ keeps)
+  both_named st p q p_is q_is named =
+      let ps : Some p ≡ Some part =
+      sym p_is ∙ ap (λ (n : List ℕ). first_named n owns) named ∙ part_is in
+      let qs : Some q ≡ Some keeps =
+      sym q_is ∙ ap (λ (n : List ℕ). first_named (store_of n) l.parts) named ∙ found in
+      (cc, cc)
+
+  -- ---- what was read of it
+
+  named_here : (st : PartStatus) (p q : PartOfLayout) (image : Image) (s : Scanned)
+      → first_named st.name owns ≡ Some p
+      → first_named (store_of st.name) l.parts ≡ Some q
+      → scan_at (wanted st p q) image ≡ Ok s
+      → s.name ≡ part.name
+      → scan_of store (length base) image ≡ Ok s.exceptions
+  named_here st p q image s p_is q_is scan named =
+      let read = is_read (wanted st p q) image s scan in
+      let these = both_named st p q p_is q_is (sym read.name ∙ named) in
+      (λ i. scan_of (sectors_of at (sym these.1 i).blocks)
+      (length (sectors_of at (sym these.0 i).blocks)) image)
+      ∙ read.scan
+
+  named_step : (image : Image) (es : List Exception) (st : PartStatus) (p q : Option PartOfLayout)
+      (ws : List (Result Wanted StartFault)) (ss : List Scanned)
+      → first_named st.name owns ≡ p
+      → first_named (store_of st.name) l.parts ≡ q
+      → scans_in (or_fewer (wanted_by at st p q) ∷ ws) image ≡ Ok ss
+      → exceptions_of part.name ss ≡ Some es
+      → ((us : List Scanned)
+      → scans_in ws image ≡ Ok us
+      → exceptions_of part.name us ≡ Some es
+      → scan_of store (length base) image ≡ Ok es)
+      → scan_of store (length base) image ≡ Ok es
+  named_step image es st None q ws ss p_is q_is is there later =
+      absurd (let bad : (let r : Result (List Scanned) StartFault = Err (BadStore st.name) in r
+      ≡ Ok ss) = is in cc)
+  named_step image es st (Some p) None ws ss p_is q_is is there later =
+      absurd (let bad : (let r : Result (List Scanned) StartFault = Err (BadStore st.name) in r
+      ≡ Ok ss) = is in cc)
+  named_step image es st (Some p) (Some q) ws ss p_is q_is is there later =
+      let one = bound (scan_at (wanted st p q) image)
+      (λ s. scans_in ws image >>= λ rest. Ok (s ∷ rest)) ss is in
+      let more = bound (scans_in ws image) (λ rest. Ok (one.0 ∷ rest)) ss one.2 in
+      let whole : Ok (one.0 ∷ more.0) ≡ Ok ss = more.2 in
+      let same : one.0 ∷ more.0 ≡ ss = cc in
+      let here : exceptions_of part.name (one.0 ∷ more.0) ≡ Some es =
+      ap (exceptions_of part.name) same ∙ there in
+      elim (cases_Bool (bytes_eq one.0.name part.name)) [
+        | inl named ↦
+            let taken : Some one.0.exceptions ≡ Some es = rw named at here in
+            named_here st p q image one.0 p_is q_is one.1 (same_name one.0.name part.name named)
+            ∙ ap Ok (let e : one.0.exceptions ≡ es = cc in e)
+        | inr other ↦ later more.0 more.1 (rw other at here)
+      ]
+
+  -- the exceptions that were read are those of a scan of the store
+  pub scan_named : (image : Image) (es : List Exception) (sts : List PartStatus) (ss : List Scanned)
+      → scans_in (map wants sts) image ≡ Ok ss
+      → exceptions_of part.name ss ≡ Some es
+      → scan_of store (length base) image ≡ Ok es
+  scan_named image es [] ss is there =
+      let none : (let r : Result (List Scanned) StartFault = Ok [] in r ≡ Ok ss) = is in
+      let e : [] ≡ ss = cc in
+      absurd (let bad : None ≡ Some es = ap (exceptions_of part.name) e ∙ there in cc)
+  scan_named image es (st ∷ sts) ss is there =
+      named_step image es st (first_named st.name owns) (first_named (store_of st.name) l.parts)
+      (map wants sts) ss refl refl is there (λ us. scan_named image es sts us)
+
+  -- ---- what is read of it then
+
+  module _ (es : List Exception) (k : ℕ) (old new : Image)
+      (scan : scan_of store (length base) old ≡ Ok es)
+      (now : scan_of store (length base) new ≡ Ok (cut_list k es))
+      (stay : (s : ℕ) → (InEither slot l.parts part keeps is in_own own found at s → ⊥)
+      → new s ≡ old s) where
+    cut_here : (s : Scanned) → s.name ≡ part.name
+        → cut_scan part.name k s
+        ≡ record { name = s.name; exceptions = cut_list k s.exceptions }
+    cut_here s named =
+        let here : bytes_eq s.name part.name ≡ true = eq_name s.name part.name named in
+        rw here refl
+
+    cut_there : (s : Scanned) → s.name ≢ part.name → cut_scan part.name k s ≡ s
+    cut_there s differs =
+        let other : bytes_eq s.name part.name ≡ false = ne_name s.name part.name differs in
+        rw other refl
+
+    fewer_long : (count n : ℕ) → leb n count ≡ true → leb (n - k) count ≡ true
+    fewer_long count n long = le-leb (n - k) count (omega (arith, leb-true n count long))
+
+    scan_own : (st : PartStatus) (p q : PartOfLayout) (s : Scanned)
+        → first_named st.name owns ≡ Some p
+        → first_named (store_of st.name) l.parts ≡ Some q
+        → IsRead (wanted st p q) old s
+        → st.name ≡ part.name
+        → scan_at (wanted st p q) new ≡ Ok (cut_scan part.name k s)
+    scan_own st p q s p_is q_is read named =
+        let these = both_named st p q p_is q_is named in
+        let was : Ok es ≡ Ok s.exceptions =
+        sym scan
+        ∙ (λ i. scan_of (sectors_of at (sym these.1 i).blocks)
+        (length (sectors_of at (sym these.0 i).blocks)) old)
+        ∙ read.scan in
+        let same : es ≡ s.exceptions = cc in
+        let found_now : scan_of (sectors_of at q.blocks) (length (sectors_of at p.blocks)) new
+        ≡ Ok (cut_list k s.exceptions) =
+        (λ i. scan_of (sectors_of at (these.1 i).blocks)
+        (length (sectors_of at (these.0 i).blocks)) new)
+        ∙ now
+        ∙ ap (λ (x : List Exception). Ok (cut_list k x)) same in
+        let long : leb (length (cut_list k s.exceptions)) st.count ≡ true =
+        subst (λ (n : ℕ). leb n st.count ≡ true)
+        (sym (length-take-le (length s.exceptions - k) s.exceptions (omega arith)))
+        (fewer_long st.count (length s.exceptions) read.long) in
+        scan_made (wanted st p q) new (cut_list k s.exceptions) found_now long
+        ∙ (λ i. Ok (record { name = sym read.name i; exceptions = cut_list k s.exceptions }))
+        ∙ ap Ok (sym (cut_here s (read.name ∙ named)))
+
+    scan_other : (st : PartStatus) (p q : PartOfLayout) (s : Scanned)
+        → first_named st.name owns ≡ Some p
+        → first_named (store_of st.name) l.parts ≡ Some q
+        → IsRead (wanted st p q) old s
+        → st.name ≢ part.name
+        → scan_at (wanted st p q) new ≡ Ok (cut_scan part.name k s)
+    scan_other st p q s p_is q_is read differs =
+        let there = named_in st.name owns p p_is in
+        let of : is_of_slot slot st.name ≡ true =
+        ap (is_of_slot slot) (sym there.1)
+        ∙ (of_filter (λ r. is_of_slot slot r.name) l.parts p there.0).1 in
+        let found_now : scan_of (sectors_of at q.blocks) (length (sectors_of at p.blocks)) new
+        ≡ Ok s.exceptions =
+        scan_kept (sectors_of at q.blocks) old new
+        (λ sector in_q.
+        stay sector
+        (λ either.
+        store_miss slot l.parts part keeps is in_own own found at st.name q sector of q_is differs
+        in_q either))
+        (length (sectors_of at p.blocks)) s.exceptions read.scan in
+        scan_made (wanted st p q) new s.exceptions found_now read.long
+        ∙ (λ i. Ok (record { name = sym read.name i; exceptions = s.exceptions }))
+        ∙ ap Ok (sym (cut_there s (λ e. differs (sym read.name ∙ e))))
+
+    scan_then : (st : PartStatus) (p q : PartOfLayout) (s : Scanned)
+        → first_named st.name owns ≡ Some p
+        → first_named (store_of st.name) l.parts ≡ Some q
+        → scan_at (wanted st p q) old ≡ Ok s
+        → scan_at (wanted st p q) new ≡ Ok (cut_scan part.name k s)
+    scan_then st p q s p_is q_is was =
+        let read = is_read (wanted st p q) old s was in
+        elim (cases_Bool (bytes_eq st.name part.name)) [
+          | inl named ↦
+              scan_own st p q s p_is q_is read (same_name st.name part.name named)
+          | inr other ↦
+              scan_other st p q s p_is q_is read (other_name st.name part.name other)
+        ]
+
+    step : (st : PartStatus) (p q : Option PartOfLayout) (ws : List (Result Wanted StartFault))
+        (ss : List Scanned)
+        → first_named st.name owns ≡ p
+        → first_named (store_of st.name) l.parts ≡ q
+        → scans_in (or_fewer (wanted_by at st p q) ∷ ws) old ≡ Ok ss
+        → ((us : List Scanned)
+        → scans_in ws old ≡ Ok us
+        → scans_in ws new ≡ Ok (map (cut_scan part.name k) us))
+        → scans_in (or_fewer (wanted_by at st p q) ∷ ws) new
+        ≡ Ok (map (cut_scan part.name k) ss)
+    step st None q ws ss p_is q_is was later =
+        absurd (let bad : (let r : Result (List Scanned) StartFault = Err (BadStore st.name) in r
+        ≡ Ok ss) = was in cc)
+    step st (Some p) None ws ss p_is q_is was later =
+        absurd (let bad : (let r : Result (List Scanned) StartFault = Err (BadStore st.name) in r
+        ≡ Ok ss) = was in cc)
+    step st (Some p) (Some q) ws ss p_is q_is was later =
+        let one = bound (scan_at (wanted st p q) old)
+        (λ s. scans_in ws old >>= λ rest. Ok (s ∷ rest)) ss was in
+        let more = bound (scans_in ws old) (λ rest. Ok (one.0 ∷ rest)) ss one.2 in
+        let whole : Ok (one.0 ∷ more.0) ≡ Ok ss = more.2 in
+        let same : one.0 ∷ more.0 ≡ ss = cc in
+        let here = scan_then st p q one.0 p_is q_is one.1 in
+        let rest = later more.0 more.1 in
+        (λ i. here i >>= λ s. rest i >>= λ r. Ok (s ∷ r))
+        ∙ ap (λ (x : List Scanned). Ok (map (cut_scan part.name k) x)) same
+
+    -- each store is read the same, but for that one
+    pub scans_then : (sts : List PartStatus) (ss : List Scanned)
+        → scans_in (map wants sts) old ≡ Ok ss
+        → scans_in (map wants sts) new ≡ Ok (map (cut_scan part.name k) ss)
+    scans_then [] ss was =
+        let none : (let r : Result (List Scanned) StartFault = Ok [] in r ≡ Ok ss) = was in
+        let e : [] ≡ ss = cc in
+        ap (λ (x : List Scanned). Ok (map (cut_scan part.name k) x)) e
+    scans_then (st ∷ sts) ss was =
+        step st (first_named st.name owns) (first_named (store_of st.name) l.parts)
+        (map wants sts) ss refl refl was (λ us. scans_then sts us)

@@ -1,0 +1,54 @@
+-- What is promised of a run in the store of one partition.
+use Rattle.std.specs.Prelude.{◌≡◌, ℕ, ◌<◌, List, [], length, Result, Ok, IfOk, OnOk}
+use Rattle.vab_disk.specs.declared.disk.Disk.{Ghosts}
+use Rattle.vab_disk.specs.Disk.{Adds}
+use Rattle.vab_disk.specs.Calls.{FailsWithDisk, InSectors, IsAtRest, Touches}
+use Rattle.vab_gate.specs.declared.gate.DiskFault.{DiskFault}
+use Rattle.vab_exceptions.specs.declared.area.Exception.{Exception}
+use Rattle.vab_exceptions.specs.Entries.{area_entries}
+use Rattle.vab_store.specs.Scan.{scan_of}
+use Rattle.vab_merge.specs.Run.{IsLongest}
+use Rattle.vab_merge.specs.Merged.{WithoutLast, LeavesMerged, IsMergedSector}
+use Rattle.vab_device.specs.declared.device.Part.{Part}
+use Rattle.vab_device.specs.declared.device.PartImage.{PartImage}
+use Rattle.vab_device.specs.declared.device.PartImage.TheVariants.{Kept, Declared, Written}
+use Rattle.vab_device.specs.Mounted.{blocks_there}
+
+-- the exceptions of the store of a partition
+abbrev pub exceptions_in : PartImage → List Exception
+exceptions_in Kept = []
+exceptions_in Declared = []
+exceptions_in (Written es) = es
+
+-- the blocks of its store
+abbrev pub store_in : Part → List ℕ
+store_in p = blocks_there p.store
+
+-- a scan of the store gives the exceptions that are kept
+abbrev pub IsScanned : Part → (ℕ → List ℕ) → Type 0
+IsScanned p image = scan_of (store_in p) (length p.map) image ≡ Ok (exceptions_in p.image)
+
+-- As many of the last exceptions as are a run, at most so many, are merged; the answer counts them.
+pub record RunsPart {D A : Type 0}
+    (g : Ghosts D)
+    (p : Part)
+    (count : A → ℕ)
+    (most : ℕ)
+    (old new : D)
+    (result : Result A DiskFault) : Type 0 where
+  pub some : IfOk result (λ r. 0 < count r)
+  pub longest : IfOk result (λ r. IsLongest area_entries (exceptions_in p.image) most (count r))
+  pub merged : g.is_modelled
+      → IsScanned p (g.seen old)
+      → IfOk result
+      (λ r. WithoutLast p.map (store_in p) (exceptions_in p.image) (count r) (g.seen old)
+      (g.seen new))
+  pub rest : g.is_modelled → IsAtRest g old → OnOk result (IsAtRest g new)
+  pub time : g.is_modelled
+      → IsAtRest g old
+      → IsScanned p (g.seen old)
+      → Adds g.moment g.outcomes old new
+      (LeavesMerged p.map (store_in p) (exceptions_in p.image) most (g.told old) (g.seen old))
+  pub touches : Touches g
+      (InSectors (IsMergedSector p.map (store_in p) (exceptions_in p.image) most)) old new
+  pub faults : FailsWithDisk g old new result

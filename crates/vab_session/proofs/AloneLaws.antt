@@ -1,0 +1,619 @@
+-- Where one slot alone has images and no update is ready, it stays so until an installation is
+-- finished.
+use Rattle.std.proofs.Common.{◌≡◌, ◌∙◌, ℕ, zero, suc, ◌<◌, ◌≤◌, inl, inr, Bool, true, false, cond}
+use Rattle.std.proofs.Common.{List, [], ◌∷◌, ◌++◌, length, drop, codes, Option, Some, None, Result}
+use Rattle.std.proofs.Common.{Ok, Err, refl, sym, ap, subst, arith, eqb}
+use Rattle.std.proofs.lemmas.Bool.{and_parts, cases_Bool, cases_eq}
+use Rattle.std.proofs.lemmas.List.{append_cancel_left}
+use Rattle.std.specs.Prelude.{◌+◌, ◌*◌, is_some, ◌&&◌, nat_lt, nat_le, ◌||◌, slice_index_or}
+use Rattle.vab_disk.specs.Disk.{Image, Outcome}
+use Rattle.vab_bootctl.specs.declared.slots.Control.{Control}
+use Rattle.vab_bootctl.specs.Boot.{info_at, IsBootable, chosen_of, booted_of}
+use Rattle.vab_bootctl.specs.Boot.{activated_of, marked_of}
+use Rattle.vab_bootctl.proofs.BootLaws.{chosen_is, booted_current, booted_none}
+use Rattle.vab_names.specs.Names.{is_full, base_of}
+use Rattle.vab_space.specs.Space.{need_of}
+use Rattle.vab_layout.specs.declared.layout.Layout.{Layout}
+use Rattle.vab_layout.specs.Slots.{other_slot}
+use Rattle.vab_builder.specs.declared.fault.EditFault.{EditFault}
+use Rattle.vab_model.specs.declared.state.Image.{Image as ImageOfSlot}
+use Rattle.vab_model.specs.declared.state.PlanImage.{PlanImage}
+use Rattle.vab_model.specs.declared.state.PlanImage.TheVariants.{Kept as IsKept, Declared, Written}
+use Rattle.vab_model.specs.declared.state.PlanEntry.{PlanEntry}
+use Rattle.vab_model.specs.declared.state.Phase.{Phase}
+use Rattle.vab_model.specs.declared.state.Phase.TheVariants.{Idle, Installing, Staged, Merging}
+use Rattle.vab_model.specs.declared.state.State.{State}
+use Rattle.vab_model.specs.declared.command.Refusal.{Refusal}
+use Rattle.vab_model.specs.declared.command.Refusal.TheVariants as refusals
+use Rattle.vab_model.specs.declared.command.Reply.TheVariants as replies
+use Rattle.vab_model.specs.Commands.{Command, SetActive, Boot, Mark, Print, Digest, Begin, Create}
+use Rattle.vab_model.specs.Commands.{Resize, Delete, Snapshot, Flash, Finish, Cancel, BeginMerge}
+use Rattle.vab_model.specs.Commands.{Merge}
+use Rattle.vab_model.specs.State.{images_at, has_images, with_control}
+use Rattle.vab_model.specs.Effects.{Effect, Found, Image_is, Refused_by, found_of, print_effect}
+use Rattle.vab_model.specs.Effects.{digest_effect, active_effect, effect, effect_map, IsOneOf}
+use Rattle.vab_model.specs.Effects.{last_of, refuses}
+use Rattle.vab_device.specs.Mounted.{Mounted, Places, in_state}
+use Rattle.vab_device.specs.Updates.{effect_on, table_effect, begun_effect, begin_effect, layout_at}
+use Rattle.vab_device.specs.Updates.{EditOf, edited_effect, edit_effect, create_edit, resize_edit}
+use Rattle.vab_device.specs.Updates.{delete_edit, snapshot_edit, staged_effect, stored_effect}
+use Rattle.vab_device.specs.Updates.{entry_effect, entry_named, flash_effect, without_images}
+use Rattle.vab_device.specs.Updates.{cancelled, cancel_effect, begin_merge_effect, merge_effect}
+use Rattle.vab_device.specs.Updates.{turns, if_room, flashed, with_image, filled, differences}
+use Rattle.vab_device.specs.Updates.{source_bytes, is_sparse}
+use Rattle.vab_fbproto.specs.Requests.{Asked, Getvar, Download, Do, MergeAll, BootAndEnd}
+use Rattle.vab_fbproto.specs.Requests.{request_of}
+use Rattle.vab_fbproto.specs.declared.request.BadCommand.{BadCommand}
+use Rattle.vab_exchanges.specs.Session.{Exchange, packet, most_data}
+use Rattle.vab_exchanges.specs.Items.{Response, Kept, Item, item_by, item_still, item_asked}
+use Rattle.vab_exchanges.specs.Items.{item_download, item_of, item_open, items_of, kept_after}
+use Rattle.vab_exchanges.specs.Items.{unless_refused, item_done, item_staged, no_memory}
+use Rattle.vab_exchanges.specs.Runs.{acknowledged, steps_at, CrashesWithin}
+use Rattle.vab_device.specs.Reading.{IsIn}
+use Rattle.vab_session.specs.Alone.{IsUnready, IsAlone, BootsTo, StandsAlone, is_finish}
+use Rattle.vab_session.specs.Alone.{asks_finish, FinishesNothing}
+use Rattle.vab_session.specs.Responses.{response, left_of}
+
+-- ---- a boot
+
+-- Where the current slot alone has images, a boot stays there.
+module _ (s : State) (slot : ℕ)
+    (below : slot < 2)
+    (current : s.control.current ≡ slot)
+    (other : images_at s (other_slot slot) ≡ None) where
+  has_at : (n : ℕ) → n < 2 → slice_index_or (has_images s) n false ≡ is_some (images_at s n)
+  has_at zero lt = refl
+  has_at (suc zero) lt = refl
+  has_at (suc (suc n)) lt = absurd (omega (arith, lt))
+
+  -- the other slot has no images
+  other_none : (n : ℕ) → n ≡ other_slot slot → is_some (images_at s n) ≡ false
+  other_none n at = ap (λ (k : ℕ). is_some (images_at s k)) at ∙ ap is_some other
+
+  -- a bootable slot has images
+  only_bootable : (n : ℕ) → IsBootable s.control (has_images s) n → n ≡ slot
+  only_bootable n bootable = elim (cases_eq n slot) [
+    | inl same ↦ same
+    | inr apart ↦
+        let there = (and_parts
+        (slice_index_or (has_images s) n false && nat_lt 0 (info_at s.control n).priority)
+        ((info_at s.control n).successful || nat_lt 0 (info_at s.control n).tries)
+        bootable.1).0 in
+        let has = (and_parts
+        (slice_index_or (has_images s) n false)
+        (nat_lt 0 (info_at s.control n).priority)
+        there).0 in
+        let at : n ≡ other_slot slot = omega (arith, apart, below, bootable.0) in
+        let none = other_none n at in
+        let is : is_some (images_at s n) ≡ true = sym (has_at n bootable.0) ∙ has in
+        absurd cc
+  ]
+
+  boots_at : (o : Option ℕ)
+      → chosen_of s.control (has_images s) ≡ o
+      → (booted_of s.control (has_images s)).current ≡ slot
+  boots_at None none =
+      ap (λ (c : Control). c.current) (booted_none s.control (has_images s) none) ∙ current
+  boots_at (Some n) is =
+      booted_current s.control (has_images s) n is
+      ∙ only_bootable n (chosen_is s.control (has_images s) n is).bootable
+
+-- A boot goes to it.
+pub alone_boots : (slot : ℕ) (images : List ImageOfSlot) (m : Mounted)
+    → IsAlone slot images m
+    → BootsTo slot m
+unfolding effect
+alone_boots slot images m is =
+    ap (λ (n : ℕ). replies.Booted n)
+    (boots_at m.state slot is.below is.current is.other
+    (chosen_of m.state.control (has_images m.state)) refl)
+
+-- ---- the current slot
+
+-- these two leave it
+activated_current : (c : Control) (slot : ℕ) → (activated_of c slot).current ≡ c.current
+unfolding activated_of
+activated_current c slot = elim (cases_Bool (eqb slot 0)) [
+  | inl h ↦ rw h refl
+  | inr h ↦ rw h refl
+]
+
+marked_current : (c : Control) → (marked_of c).current ≡ c.current
+unfolding marked_of
+marked_current c = elim (cases_Bool (eqb c.current 0)) [ inl h ↦ rw h refl | inr h ↦ rw h refl ]
+
+-- ---- commands
+
+module _ (slot : ℕ) (images : List ImageOfSlot) where
+  -- each of these
+  abbrev pub AreAlone : List Mounted → Type 0
+  AreAlone ms = (x : Mounted) → IsOneOf ms x → IsAlone slot images x
+
+  none : AreAlone []
+  none x is = absurd is
+
+  pub one : (m : Mounted) → IsAlone slot images m → AreAlone (m ∷ [])
+  one m is x (inl same) = subst (IsAlone slot images) (sym same) is
+  one m is x (inr later) = absurd later
+
+  pub more : (m : Mounted) (ms : List Mounted)
+      → IsAlone slot images m
+      → AreAlone ms
+      → AreAlone (m ∷ ms)
+  more m ms is are x (inl same) = subst (IsAlone slot images) (sym same) is
+  more m ms is are x (inr later) = are x later
+
+  either : (b : Bool) (e f : Effect Mounted)
+      → AreAlone e.later
+      → AreAlone f.later
+      → AreAlone (cond b e f).later
+  either true e f is other = is
+  either false e f is other = other
+
+  -- ---- what changes
+
+  with_boot : (m : Mounted) (c : Control)
+      → c.current ≡ m.state.control.current
+      → IsAlone slot images m
+      → IsAlone slot images (in_state m (with_control c m.state))
+  with_boot m c same is = record {
+    below = is.below;
+    current = same ∙ is.current;
+    has = is.has;
+    other = is.other;
+    unready = is.unready;
+  }
+
+  with_phase : (m : Mounted) (phase : Phase) (places : Places)
+      → IsUnready slot phase
+      → IsAlone slot images m
+      → IsAlone slot images
+      (record { state = record m.state { phase = phase }; places = places })
+  with_phase m phase places unready is = record {
+    below = is.below;
+    current = is.current;
+    has = is.has;
+    other = is.other;
+    unready = unready;
+  }
+
+  tabled : (m : Mounted) (source : ℕ) (plan : List PlanEntry) (r : Result Layout EditFault)
+      → source ≡ slot
+      → IsAlone slot images m
+      → AreAlone (table_effect m source plan r).later
+  tabled m source plan (Ok l) at is = one _ (with_phase m _ _ at is)
+  tabled m source plan (Err fault) at is = none
+
+  -- ---- the begin and the edits
+
+  begun : (m : Mounted) (source : ℕ) (l : Option Layout)
+      → source ≡ slot
+      → IsAlone slot images m
+      → AreAlone (begun_effect m source l).later
+  begun m source None at is = none
+  begun m source (Some l) at is = tabled m source [] _ at is
+
+  begins : (m : Mounted) (phase : Phase)
+      → IsAlone slot images m
+      → AreAlone (begin_effect m phase).later
+  begins m Idle is =
+      begun m m.state.control.current (layout_at m.places m.state.control.current) is.current is
+  begins m (Installing source plan) is = none
+  begins m (Staged source left) is = none
+  begins m (Merging target left) is = none
+
+  edited : (m : Mounted) (source : ℕ) (plan : List PlanEntry) (edit : EditOf)
+      (s t : Option Layout)
+      → source ≡ slot
+      → IsAlone slot images m
+      → AreAlone (edited_effect m source plan edit s t).later
+  edited m source plan edit None t at is = none
+  edited m source plan edit (Some s) None at is = none
+  edited m source plan edit (Some s) (Some t) at is = tabled m source plan _ at is
+
+  edits : (m : Mounted) (edit : EditOf) (phase : Phase)
+      → IsUnready slot phase
+      → IsAlone slot images m
+      → AreAlone (edit_effect m edit phase).later
+  edits m edit Idle unready is = none
+  edits m edit (Installing source plan) unready is =
+      edited m source plan edit
+      (layout_at m.places source)
+      (layout_at m.places (other_slot source))
+      unready is
+  edits m edit (Staged source left) unready is = none
+  edits m edit (Merging target left) unready is = none
+
+  -- ---- an image
+
+  roomed : (m : Mounted) (source : ℕ) (plan : List PlanEntry) (e : PlanEntry) (store : ℕ)
+      (staged : List ℕ) (n : ℕ)
+      → source ≡ slot
+      → IsAlone slot images m
+      → AreAlone (if_room m source plan e store staged n).later
+  roomed m source plan e store staged n at is =
+      either (nat_le (need_of n) store)
+      (flashed m source plan e staged n)
+      (refuses (refusals.StoreFull (need_of n) store))
+      (one _
+      (with_phase m
+      (Installing source (with_image e.name (Written (filled staged e.blocks) n) plan))
+      m.places at is))
+      none
+
+  written : (m : Mounted) (source : ℕ) (plan : List PlanEntry) (e : PlanEntry) (store : ℕ)
+      (staged : Option (List ℕ))
+      → source ≡ slot
+      → IsAlone slot images m
+      → AreAlone (staged_effect m source plan e store staged).later
+  written m source plan e store None at is = none
+  written m source plan e store (Some staged) at is =
+      let n : ℕ = differences (source_bytes m.state source e.name) staged e.blocks in
+      let large : Refusal = refusals.TooLarge (length staged) (4096 * e.blocks) in
+      let room : Effect Mounted = if_room m source plan e store staged n in
+      let is_large : Bool = nat_lt (4096 * e.blocks) (length staged) in
+      either (is_sparse staged) (refuses refusals.Sparse) (cond is_large (refuses large) room) none
+      (either is_large (refuses large) room none (roomed m source plan e store staged n at is))
+
+  stored : (m : Mounted) (source : ℕ) (plan : List PlanEntry) (name : List ℕ)
+      (group : Option (List ℕ)) (blocks : ℕ) (own store : Option ℕ) (staged : Option (List ℕ))
+      (image : PlanImage)
+      → source ≡ slot
+      → IsAlone slot images m
+      → AreAlone (stored_effect m source plan
+      (record { name = name; group = group; blocks = blocks; store = own; image = image })
+      staged store).later
+  stored m source plan name group blocks own None staged image at is = none
+  stored m source plan name group blocks own (Some store) staged IsKept at is =
+      written m source plan
+      (record { name = name; group = group; blocks = blocks; store = own; image = IsKept })
+      store staged at is
+  stored m source plan name group blocks own (Some store) staged Declared at is =
+      written m source plan
+      (record { name = name; group = group; blocks = blocks; store = own; image = Declared })
+      store staged at is
+  stored m source plan name group blocks own (Some store) staged (Written bytes count) at is = none
+
+  found : (m : Mounted) (source : ℕ) (plan : List PlanEntry) (staged : Option (List ℕ))
+      (e : Option PlanEntry)
+      → source ≡ slot
+      → IsAlone slot images m
+      → AreAlone (entry_effect m source plan staged e).later
+  found m source plan staged None at is = none
+  found m source plan staged (Some e) at is =
+      stored m source plan e.name e.group e.blocks e.store e.store staged e.image at is
+
+  flashes : (m : Mounted) (staged : Option (List ℕ)) (name : List ℕ) (phase : Phase)
+      → IsUnready slot phase
+      → IsAlone slot images m
+      → AreAlone (flash_effect m staged name phase).later
+  flashes m staged name Idle unready is = none
+  flashes m staged name (Installing source plan) unready is =
+      let e : Option PlanEntry = entry_named (base_of name) plan in
+      either (is_full (other_slot source) name)
+      (entry_effect m source plan staged e)
+      (refuses refusals.BadName)
+      (found m source plan staged e unready is)
+      none
+  flashes m staged name (Staged source left) unready is = none
+  flashes m staged name (Merging target left) unready is = none
+
+  -- ---- an update that is dropped
+
+  -- the other slot has no images that could be dropped
+  still_has : (s : State) (own : ℕ)
+      → own < 2
+      → images_at (without_images s (other_slot own)) own ≡ images_at s own
+  still_has s zero below = refl
+  still_has s (suc zero) below = refl
+  still_has s (suc (suc n)) below = absurd (omega (arith, below))
+
+  still_none : (s : State) (own : ℕ)
+      → own < 2
+      → images_at (without_images s (other_slot own)) (other_slot own) ≡ None
+  still_none s zero below = refl
+  still_none s (suc zero) below = refl
+  still_none s (suc (suc n)) below = absurd (omega (arith, below))
+
+  dropped : (m : Mounted) (source : ℕ)
+      → source ≡ slot
+      → IsAlone slot images m
+      → IsAlone slot images (cancelled m source)
+  dropped m source at is =
+      subst (λ (n : ℕ). IsAlone slot images (cancelled m n)) (sym at) (record {
+        below = is.below;
+        current = is.current;
+        has = still_has m.state slot is.below ∙ is.has;
+        other = still_none m.state slot is.below;
+        unready = tt;
+      })
+
+  cancels : (m : Mounted) (phase : Phase)
+      → IsUnready slot phase
+      → IsAlone slot images m
+      → AreAlone (cancel_effect m phase).later
+  cancels m Idle unready is = none
+  cancels m (Installing source plan) unready is = one _ (dropped m source unready is)
+  cancels m (Staged source left) unready is = absurd unready
+  cancels m (Merging target left) unready is = none
+
+  -- ---- a merge
+
+  merge_begins : (m : Mounted) (phase : Phase)
+      → IsUnready slot phase
+      → AreAlone (begin_merge_effect m phase).later
+  merge_begins m Idle unready = none
+  merge_begins m (Installing source plan) unready = none
+  merge_begins m (Staged source left) unready = absurd unready
+  merge_begins m (Merging target left) unready = none
+
+  turned : (blocks : ℕ) (m : Mounted) (target left : ℕ)
+      → target ≡ slot
+      → IsAlone slot images m
+      → AreAlone (turns blocks m target left)
+  unfolding turns
+  turned zero m target left at is = none
+  turned (suc n) m target zero at is = one _ (with_phase m _ _ tt is)
+  turned (suc n) m target (suc left) at is =
+      more _ _ (with_phase m _ _ at is) (turned n m target left at is)
+
+  merges : (m : Mounted) (blocks : ℕ) (phase : Phase)
+      → IsUnready slot phase
+      → IsAlone slot images m
+      → AreAlone (merge_effect m blocks phase).later
+  merges m blocks Idle unready is = none
+  merges m blocks (Installing source plan) unready is = none
+  merges m blocks (Staged source left) unready is = none
+  merges m blocks (Merging target left) unready is = turned blocks m target left unready is
+
+  -- ---- boot control and questions
+
+  activates : (m : Mounted) (has : Bool) (n : ℕ)
+      → IsAlone slot images m
+      → AreAlone
+      (effect_map (in_state m) (active_effect has m.state (activated_of m.state.control n))).later
+  activates m true n is =
+      one _ (with_boot m _ (activated_current m.state.control n) is)
+  activates m false n is = none
+
+  prints : (m : Mounted) (name : List ℕ) (f : Found)
+      → AreAlone (effect_map (in_state m) (print_effect name f)).later
+  prints m name (Image_is image) = none
+  prints m name (Refused_by refusal) = none
+
+  digests : (m : Mounted) (f : Found)
+      → AreAlone (effect_map (in_state m) (digest_effect f)).later
+  digests m (Image_is image) = none
+  digests m (Refused_by refusal) = none
+
+  boots : (m : Mounted)
+      → IsAlone slot images m
+      → IsAlone slot images
+      (in_state m (with_control (booted_of m.state.control (has_images m.state)) m.state))
+  boots m is =
+      with_boot m _
+      (boots_at m.state slot is.below is.current is.other
+      (chosen_of m.state.control (has_images m.state)) refl ∙ sym is.current)
+      is
+
+  -- What each command but the end of an installation makes of it.
+  pub alone_effect : (m : Mounted) (staged : Option (List ℕ)) (c : Command)
+      → is_finish c ≡ false
+      → IsAlone slot images m
+      → (x : Mounted)
+      → IsOneOf (effect_on m staged c).later x
+      → IsAlone slot images x
+  unfolding effect
+  alone_effect m staged (SetActive n) other is = activates m (is_some (images_at m.state n)) n is
+  alone_effect m staged Boot other is = one _ (boots m is)
+  alone_effect m staged Mark other is = one _ (with_boot m _ (marked_current m.state.control) is)
+  alone_effect m staged (Print name) other is = prints m name (found_of m.state name)
+  alone_effect m staged (Digest name) other is = digests m (found_of m.state name)
+  alone_effect m staged Begin other is = begins m m.state.phase is
+  alone_effect m staged (Create name size) other is =
+      edits m (create_edit name size) m.state.phase is.unready is
+  alone_effect m staged (Resize name size) other is =
+      edits m (resize_edit name size) m.state.phase is.unready is
+  alone_effect m staged (Delete name) other is =
+      edits m (delete_edit name) m.state.phase is.unready is
+  alone_effect m staged (Snapshot name size) other is =
+      edits m (snapshot_edit name size) m.state.phase is.unready is
+  alone_effect m staged (Flash name) other is =
+      flashes m staged name m.state.phase is.unready is
+  alone_effect m staged Finish other is = absurd cc
+  alone_effect m staged Cancel other is = cancels m m.state.phase is.unready is
+  alone_effect m staged BeginMerge other is = merge_begins m m.state.phase is.unready
+  alone_effect m staged (Merge blocks) other is = merges m blocks m.state.phase is.unready is
+
+  -- ---- packets
+
+  pub alone_response : (m : Mounted) (staged : Option (List ℕ)) (asked : Result Asked BadCommand)
+      → asks_finish asked ≡ false
+      → IsAlone slot images m
+      → (x : Mounted)
+      → IsOneOf (response m staged asked).later x
+      → IsAlone slot images x
+  alone_response m staged (Ok (Getvar variable)) other is = none
+  alone_response m staged (Ok (Download size)) other is = none
+  alone_response m staged (Ok (Do c)) other is = alone_effect m staged c other is
+  alone_response m staged (Ok MergeAll) other is =
+      alone_effect m staged (Merge (left_of m.state.phase + 1)) refl is
+  alone_response m staged (Ok BootAndEnd) other is = alone_effect m staged Boot refl is
+  alone_response m staged (Err bad) other is = none
+
+  -- memory may be refused to it
+  pub unless_alone : (refused : Bool) (e : Response Mounted)
+      → AreAlone e.later
+      → AreAlone (unless_refused refused e).later
+  unless_alone false e are = are
+  unless_alone true e are = by_want e.may_want
+    where
+      by_want : (b : Bool) → AreAlone (cond b no_memory e).later
+      by_want true = none
+      by_want false = are
+
+  -- ---- items
+
+  -- each step of an item, and what is kept then
+  pub record IsAloneIn (item : Item Mounted) : Type 0 where
+    pub steps : AreAlone item.steps
+    pub last : IsAlone slot images item.last.now
+
+  -- the last of them
+  pub last_alone : (m : Mounted) (ms : List Mounted)
+      → IsAlone slot images m
+      → AreAlone ms
+      → IsAlone slot images (last_of m ms)
+  last_alone m [] is are = is
+  last_alone m (x ∷ xs) is are = last_alone x xs (are x (inl refl)) (λ y later. are y (inr later))
+
+  by_alone : (k : Kept Mounted) (e : Response Mounted)
+      → IsAlone slot images k.now
+      → AreAlone e.later
+      → IsAloneIn (item_by k e)
+  by_alone k e is are = record {
+    steps = more k.now e.later is are;
+    last = last_alone k.now e.later is are;
+  }
+
+  still_alone : (k : Kept Mounted) (told : List ℕ)
+      → IsAlone slot images k.now
+      → IsAloneIn (item_still k told)
+  still_alone k told is = record { steps = one k.now is; last = is }
+
+  either_item : (b : Bool) (i j : Item Mounted) → IsAloneIn i → IsAloneIn j → IsAloneIn (cond b i j)
+  either_item true i j is other = is
+  either_item false i j is other = other
+
+  downloaded : (k : Kept Mounted) (size : ℕ) (refused : Bool) (parts : List (List ℕ))
+      → IsAlone slot images k.now
+      → IsAloneIn (item_download k size refused parts)
+  downloaded k size refused parts is =
+      let large : List ℕ = packet (codes "FAILtoo large") in
+      let wanting : List ℕ = packet (codes "FAILout of memory") in
+      let is_refused : Bool = refused && nat_lt 0 size in
+      let whole : Item Mounted = item_staged k size parts in
+      either_item (nat_lt most_data size)
+      (item_still k large)
+      (cond is_refused (item_still k wanting) whole)
+      (still_alone k large is)
+      (either_item is_refused (item_still k wanting) whole
+      (still_alone k wanting is)
+      (record { steps = one k.now is; last = is }))
+
+  done_alone : (k : Kept Mounted) (refused : Bool) (asked : Result Asked BadCommand)
+      → asks_finish asked ≡ false
+      → IsAlone slot images k.now
+      → IsAloneIn (item_done response k refused asked)
+  done_alone k refused asked other is =
+      by_alone k (unless_refused refused (response k.now k.staged asked)) is
+      (unless_alone refused (response k.now k.staged asked)
+      (alone_response k.now k.staged asked other is))
+
+  asked_alone : (k : Kept Mounted) (refused : Bool) (parts : List (List ℕ))
+      (asked : Result Asked BadCommand)
+      → asks_finish asked ≡ false
+      → IsAlone slot images k.now
+      → IsAloneIn (item_asked response k refused parts asked)
+  asked_alone k refused parts (Ok (Download size)) other is = downloaded k size refused parts is
+  asked_alone k refused parts (Ok BootAndEnd) other is =
+      done_alone k refused (Ok BootAndEnd) other is
+  asked_alone k refused parts (Ok MergeAll) other is = done_alone k refused (Ok MergeAll) other is
+  asked_alone k refused parts (Ok (Getvar variable)) other is =
+      done_alone k refused (Ok (Getvar variable)) other is
+  asked_alone k refused parts (Ok (Do command)) other is =
+      done_alone k refused (Ok (Do command)) other is
+  asked_alone k refused parts (Err bad) other is = done_alone k refused (Err bad) other is
+
+  pub item_alone : (k : Kept Mounted) (s : Exchange)
+      → asks_finish (request_of s.command) ≡ false
+      → IsAlone slot images k.now
+      → IsAloneIn (item_of response k s)
+  unfolding item_of
+  item_alone k s other is = asked_alone k s.refused s.parts (request_of s.command) other is
+
+  pub open_alone : (k : Kept Mounted) (command : List ℕ)
+      → IsAlone slot images k.now
+      → IsAloneIn (item_open response k command)
+  unfolding item_open
+  open_alone k command is = still_alone k _ is
+
+  -- ---- sessions
+
+  later_steps : (k : Kept Mounted) (later : List Exchange) (unfinished : Option (List ℕ)) (n : ℕ)
+      → FinishesNothing later
+      → IsAlone slot images k.now
+      → AreAlone (steps_at k.now (items_of response k later unfinished) n)
+  later_steps k [] None n other is = one k.now is
+  later_steps k [] (Some command) zero other is = (open_alone k command is).steps
+  later_steps k [] (Some command) (suc n) other is = one _ (open_alone k command is).last
+  later_steps k (s ∷ ss) unfinished zero other is = (item_alone k s other.0 is).steps
+  later_steps k (s ∷ ss) unfinished (suc n) other is =
+      later_steps (item_of response k s).last ss unfinished n other.1
+      (item_alone k s other.0 is).last
+
+  -- From after these exchanges on, until an installation is finished.
+  pub alone_steps : (first : Kept Mounted) (done later : List Exchange)
+      (unfinished : Option (List ℕ))
+      → FinishesNothing later
+      → IsAlone slot images (kept_after response first done).now
+      → (n : ℕ)
+      → length done ≤ n
+      → (x : Mounted)
+      → IsOneOf (steps_at first.now (items_of response first (done ++ later) unfinished) n) x
+      → IsAlone slot images x
+  alone_steps first [] later unfinished other is n behind =
+      later_steps first later unfinished n other is
+  alone_steps first (s ∷ done) later unfinished other is zero behind =
+      absurd (omega (arith, behind))
+  alone_steps first (s ∷ done) later unfinished other is (suc n) behind =
+      alone_steps (item_of response first s).last done later unfinished other is n
+      (omega (arith, behind))
+
+  -- ---- a cut of power
+
+  pub stands_alone : (size : ℕ) (image : Image) (m : Mounted)
+      → IsIn size m image
+      → IsAlone slot images m
+      → StandsAlone size slot images image
+  stands_alone size image m is alone = record {
+    mounted = m;
+    is = is;
+    alone = alone;
+    boots = alone_boots slot images m alone;
+  }
+
+  -- Where that much was told, each cut of power leaves it so.
+  pub alone_cut : (size : ℕ) (first : Kept Mounted) (exchanges done later : List Exchange)
+      (unfinished : Option (List ℕ)) (told : List ℕ) (o : Outcome)
+      → CrashesWithin (IsIn size) (codes "FB01") first.now
+      (items_of response first exchanges unfinished) told o
+      → exchanges ≡ done ++ later
+      → FinishesNothing later
+      → IsAlone slot images (kept_after response first done).now
+      → (since : List ℕ)
+      → o.told ≡ told ++ since
+      → length done
+      ≤ acknowledged (items_of response first exchanges unfinished) (drop 4 since)
+      → StandsAlone size slot images o.image
+  alone_cut size first exchanges done later unfinished told o crash is other alone since told_is
+      behind =
+      let same : crash.since ≡ since =
+      append_cancel_left told crash.since since (sym crash.told_since ∙ told_is) in
+      let whole : length done
+      ≤ acknowledged (items_of response first exchanges unfinished) (drop 4 crash.since) =
+      subst (λ (l : List ℕ). length done
+      ≤ acknowledged (items_of response first exchanges unfinished) (drop 4 l)) (sym same) behind in
+      let x : Mounted = crash.step.0 in
+      let step : IsOneOf
+      (steps_at first.now (items_of response first exchanges unfinished)
+      (acknowledged (items_of response first exchanges unfinished) (drop 4 crash.since))) x =
+      crash.step.1 in
+      stands_alone size o.image x crash.step.2
+      (alone_steps first done later unfinished other alone
+      (acknowledged (items_of response first exchanges unfinished) (drop 4 crash.since))
+      whole x
+      (subst (λ (l : List Exchange). IsOneOf
+      (steps_at first.now (items_of response first l unfinished)
+      (acknowledged (items_of response first exchanges unfinished) (drop 4 crash.since))) x)
+      is step))

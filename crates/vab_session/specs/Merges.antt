@@ -1,0 +1,38 @@
+-- Which packets ask for a merge.
+use Rattle.std.specs.Prelude.{◌≡◌, ◌++◌, ℕ, Bool, true, false, List, [], ◌∷◌, Result, Ok, Err, take}
+use Rattle.std.specs.Prelude.{drop, codes}
+use Rattle.std.specs.List.{flat_map}
+use Rattle.vab_device.specs.Does.{is_of_merge}
+use Rattle.vab_fbproto.specs.Requests.{Asked, Getvar, Download, Do, MergeAll, BootAndEnd}
+use Rattle.vab_fbproto.specs.Requests.{request_of}
+use Rattle.vab_fbproto.specs.declared.request.BadCommand.{BadCommand}
+use Rattle.vab_exchanges.specs.Session.{Exchange, IsExchange, packet, spelled}
+
+-- to begin a merge, to merge some blocks, or to merge all
+abbrev pub asks_merge : Result Asked BadCommand → Bool
+asks_merge (Ok (Getvar variable)) = false
+asks_merge (Ok (Download size)) = false
+asks_merge (Ok (Do command)) = is_of_merge command
+asks_merge (Ok MergeAll) = true
+asks_merge (Ok BootAndEnd) = false
+asks_merge (Err bad) = false
+
+abbrev pub AreExchanges : List Exchange → Type 0
+AreExchanges [] = Unit {0}
+AreExchanges (s ∷ ss) = IsExchange s × AreExchanges ss
+
+-- No packet behind whole exchanges asks for a merge.
+abbrev pub HasNoMerge : List ℕ → Type 0
+HasNoMerge bytes = (done : List Exchange)
+    → (command after : List ℕ)
+    → AreExchanges done
+    → bytes ≡ flat_map spelled done ++ (packet command ++ after)
+    → asks_merge (request_of command) ≡ false
+
+-- the same of a session of at most so many bytes, behind the hello
+abbrev pub MergesNothing : (most : ℕ) → List ℕ → Type 0
+MergesNothing most input = HasNoMerge (drop 4 (take most input))
+
+-- the greeting is told, and none of these bytes' packets asks for a merge
+abbrev pub IsPlain : (told bytes : List ℕ) → Type 0
+IsPlain told bytes = ((before : List ℕ) × (told ≡ before ++ codes "FB01")) × HasNoMerge bytes
