@@ -11,6 +11,3 @@ mod runs;
 
 pub use blocks::Blocks;
 pub use runs::Runs;
-
-#[cfg(test)]
-mod tests;

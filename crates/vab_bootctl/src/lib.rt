@@ -9,6 +9,3 @@ mod slots;
 pub use boot::{activated, booted, choose, marked};
 pub use sector::{ControlFault, decode_control, encode_control_into};
 pub use slots::{Control, Info};
-
-#[cfg(test)]
-mod tests;

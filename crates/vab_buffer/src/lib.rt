@@ -10,6 +10,3 @@ mod store;
 pub use buffered::Buffered;
 pub use sectorwise::Sectorwise;
 pub use store::RunStore;
-
-#[cfg(test)]
-mod tests;

@@ -12,6 +12,3 @@ pub use crc::crc32;
 pub use listing::Listing;
 pub use name::{BadName, Name36};
 pub use number::{le16_at, le32_at, le64_at, put_le16, put_le32, put_le64};
-
-#[cfg(test)]
-mod tests;

@@ -164,7 +164,8 @@ module _ {D : Type 0} (g : Ghosts D) (size : ℕ) where
       (repair_made size (g.seen mid) made))
 
   module _ (W : Device → List ℕ → ℕ → List ℕ → Type 0) where
-    pub making_fresh : (old new : D) → Changes g Fresh old new → Changes g (IsOfFresh W size) old new
+    pub making_fresh : (old new : D) → Changes g Fresh old new
+        → Changes g (IsOfFresh W size) old new
     making_fresh old new makes =
         changes_wider g (IsOfFresh W size) Fresh old new makes (λ s x w. inl w)
 

@@ -56,7 +56,8 @@ reply_some c current left (replies.Bytes name) = line_some []
 reply_some c current left (replies.Digest sum) = line_some (encode_lower sum)
 reply_some c current left (replies.Left blocks) = line_some (codes "left " ++ decimal blocks)
 reply_some c current left replies.Merged = line_some (codes "merged")
-reply_some c current left (replies.Refused refusal) = line_some (codes "refused: " ++ refusal_text refusal)
+reply_some c current left (replies.Refused refusal) =
+    line_some (codes "refused: " ++ refusal_text refusal)
 
 -- a command ends as done or as refused
 reply_kind : (r : Reply) → (reply_status r ≡ Done) ⊎ (reply_status r ≡ Refused)
@@ -132,7 +133,8 @@ left_by : (m : UpdateMark) (count source left : ℕ) (entries : Option (List Pla
 left_by m count source left (Some entries) is = absurd cc
 left_by m count source left None is = by_phase m.phase is
   where
-    by_phase : (phase : MarkPhase) → unplanned phase m.slot count ≡ Staged source left → count ≡ left
+    by_phase : (phase : MarkPhase) → unplanned phase m.slot count ≡ Staged source left
+        → count ≡ left
     by_phase marks.Idle is = absurd cc
     by_phase marks.Installing is = absurd cc
     by_phase marks.Staged is = ap left_of is

@@ -314,7 +314,8 @@ not_control_all g b (inr (inr (inl text))) =
 not_control_all g b (inr (inr (inr free))) = omega (arith, free)
 
 -- what was reached behind what commands have written
-reached_of : {D : Type 0} (g : Ghosts D) (t : g.is_modelled) (size : ℕ) (d d' : Device) (old mid : D)
+reached_of : {D : Type 0} (g : Ghosts D) (t : g.is_modelled) (size : ℕ) (d d' : Device)
+    (old mid : D)
     (Of : ℕ → Type 0) (U : ℕ → List ℕ → Type 0)
     → ((b : List ℕ) → U 4 b → ⊥)
     → Represents d size (g.seen old)

@@ -9,6 +9,3 @@ mod text;
 pub use copies::store_copies;
 pub use copy::{rewrite_copy, write_copy};
 pub use read::{ReadFault, read_text};
-
-#[cfg(test)]
-mod tests;

@@ -1,5 +1,6 @@
 -- A disk means a device exactly where it is read so.
-use Rattle.std.proofs.Common.{◌≡◌, ◌∙◌, ◌⊎◌, inl, inr, ⊎_elim, ℕ, zero, suc, ◌+◌, ◌<◌, true, false, List}
+use Rattle.std.proofs.Common.{◌≡◌, ◌∙◌, ◌⊎◌, inl, inr, ⊎_elim, ℕ, zero, suc, ◌+◌, ◌<◌, true, false}
+use Rattle.std.proofs.Common.{List}
 use Rattle.std.proofs.Common.{[], ◌∷◌, length, Result, Ok, Err, refl, sym, ap, subst, arith}
 use Rattle.std.specs.Prelude.{Bool, Some, None, is_some, nat_le, ◌==◌}
 use Rattle.std.proofs.lemmas.Bool.{cases_Bool}
@@ -28,7 +29,8 @@ use Rattle.vab_device.specs.Stores.{Scanned, scans_in}
 use Rattle.vab_device.specs.Kept.{IsPhase, has_both, has_slot}
 use Rattle.vab_device.specs.Phases.{Phase, slot_checks, staged_checks, idle, installing, phase_at}
 use Rattle.vab_device.specs.Phases.{is_good, slot_ready}
-use Rattle.vab_device.specs.Reading.{Read, settled, mark_read, mark_in, statuses_at, control_read, control_in}
+use Rattle.vab_device.specs.Reading.{Read, settled, mark_read, mark_in, statuses_at, control_read}
+use Rattle.vab_device.specs.Reading.{control_in}
 use Rattle.vab_device.specs.Reading.{geometry_at, stores_of, scanned_in}
 use Rattle.vab_device.specs.Reading.{table_at, tables_in, framed, frame, part_fault, state_fault}
 use Rattle.vab_device.specs.Reading.{judged, stated, table_for, parts_for, kept, device}
@@ -308,7 +310,8 @@ or_none : (x : Check) → or_else x None ≡ x
 or_none None = refl
 or_none (Some fault) = refl
 
-or_again : (x y z : Check) → or_else x (or_else y (or_else z None)) ≡ or_else (or_else x (or_else y None)) z
+or_again : (x y z : Check) → or_else x (or_else y (or_else z None))
+    ≡ or_else (or_else x (or_else y None)) z
 or_again None None z = or_none z
 or_again None (Some fault) z = refl
 or_again (Some fault) y z = refl
@@ -327,7 +330,8 @@ single_checks marks.Idle slot c ts ss one = sym (or_none (first_fault (slot_chec
 single_checks marks.Installing slot c ts ss one = sym (or_none (first_fault (slot_checks slot c)))
 single_checks marks.Staged slot c ts ss one = absurd cc
 single_checks marks.Merging slot c ts ss one =
-    or_again (check (c.current == slot) (BadState 1)) (check (is_good (info_at c slot)) (BadState 2))
+    or_again (check (c.current == slot) (BadState 1))
+    (check (is_good (info_at c slot)) (BadState 2))
     (check (slot_ready slot ts ss) (BadState 3))
 single_checks marks.Completed slot c ts ss one = sym (or_none (first_fault (slot_checks slot c)))
 

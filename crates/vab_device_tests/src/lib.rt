@@ -4,6 +4,16 @@
 #[cfg(test)]
 mod devices;
 #[cfg(test)]
+mod making;
+#[cfg(test)]
+mod model;
+#[cfg(test)]
+mod opening;
+#[cfg(test)]
 mod others;
+#[cfg(test)]
+mod snapshots;
+#[cfg(test)]
+mod texts;
 #[cfg(test)]
 mod updates;

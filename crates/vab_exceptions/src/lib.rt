@@ -7,6 +7,3 @@ mod header;
 
 pub use area::{AREA_ENTRIES, Area, Exception, decode_area, encode_area};
 pub use header::{HeaderFault, decode_store_header, encode_store_header};
-
-#[cfg(test)]
-mod tests;

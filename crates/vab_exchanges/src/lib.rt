@@ -12,6 +12,3 @@ pub use fault::ReadFault;
 pub use law::one_session;
 pub use reader::Reader;
 pub use tell::say_all;
-
-#[cfg(test)]
-mod tests;

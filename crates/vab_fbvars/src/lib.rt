@@ -9,6 +9,3 @@ mod text;
 
 pub use hexadecimal::put_hexadecimal;
 pub use text::variable;
-
-#[cfg(test)]
-mod tests;

@@ -1,6 +1,7 @@
 -- Blocks and numbers one after another.
 use Rattle.std.proofs.Common.{◌≡◌, ◌∙◌, ℕ, zero, suc, ◌+◌, ◌*◌, min, List, [], ◌∷◌, ◌++◌}
-use Rattle.std.proofs.Common.{length, take, drop, replicate, refl, sym, ap, append-nil, append_assoc, add-one, arith}
+use Rattle.std.proofs.Common.{length, take, drop, replicate, refl, sym, ap, append-nil}
+use Rattle.std.proofs.Common.{append_assoc, add-one, arith}
 use Rattle.std.specs.List.{flat_map, range_with_len}
 use Rattle.std.proofs.lemmas.Grind.{flat_map-append}
 use Rattle.std.proofs.lemmas.List.{take_min, drop_min, drop-replicate}
@@ -22,7 +23,10 @@ pub joined_more : (f : ℕ → List ℕ) (n : ℕ) → joined f (n + 1) ≡ join
 unfolding joined
 joined_more f n =
     let last : range_with_len 0 (n + 1) ≡ range_with_len 0 n ++ n ∷ [] =
-    rw add-one (range_more 0 n ∙ (let e : 0 + n ≡ n = omega arith in ap (λ (k : ℕ). range_with_len 0 n ++ k ∷ []) e)) in
+    rw add-one
+    (range_more 0 n
+    ∙ (let e : 0 + n ≡ n = omega arith in
+    ap (λ (k : ℕ). range_with_len 0 n ++ k ∷ []) e)) in
     ap (flat_map f) last
     ∙ flat_map-append f (range_with_len 0 n) (n ∷ [])
     ∙ ap (λ (l : List ℕ). joined f n ++ l) (append-nil (f n))

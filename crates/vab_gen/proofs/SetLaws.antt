@@ -170,14 +170,19 @@ next_fits scale seed old low room is =
     let blocks : ℕ = next_blocks scale first old in
     let f : ℕ → List ℕ = λ k. next_block old k (drawn (k + 1) first) in
     let below : picked 4 first < 4 = picked_below 4 first (omega arith) in
-    let most : scale * picked 4 first ≤ 64 * 3 = few scale (picked 4 first) 3 low (omega (arith, below)) in
+    let most : scale * picked 4 first ≤ 64 * 3 =
+    few scale (picked 4 first) 3 low (omega (arith, below)) in
     record {
       name = is.name;
       size = omega (arith, most, room);
       store = omega arith;
       bytes = IsBytes-joined f (λ k. next_bytes old k (drawn (k + 1) first) is.bytes) blocks;
       short =
-          omega (arith, length-joined 4096 f (λ k. length-next_block old k (drawn (k + 1) first)) blocks);
+          omega (
+            arith,
+            length-joined 4096 f (λ k. length-next_block old k (drawn (k + 1) first))
+                blocks,
+          );
     }
 
 next_name : (scale seed : ℕ) (old : SetImage) → (next_image scale seed old).name ≡ old.name
@@ -250,9 +255,12 @@ apart : (images : List SetImage) (names : List (List ℕ))
 apart images names same differ i j d lt below e =
     let long : length names ≡ length images =
     ap length (sym same) ∙ length-map images name_of in
-    let at : (k : ℕ) → k < length images → (get_or images k d).name ≡ get_or names k [] = λ k inside.
-    sym (get_or-map name_of images k d [] inside) ∙ ap (λ (l : List (List ℕ)). get_or l k []) same in
-    differ i j [] lt (omega (arith, long, below)) (sym (at i (omega (arith, lt, below))) ∙ e ∙ at j below)
+    let at : (k : ℕ) → k < length images → (get_or images k d).name ≡ get_or names k [] =
+    λ k inside.
+    sym (get_or-map name_of images k d [] inside)
+    ∙ ap (λ (l : List (List ℕ)). get_or l k []) same in
+    differ i j [] lt (omega (arith, long, below)) (sym (at i (omega (arith, lt, below))) ∙ e
+    ∙ at j below)
 
 names_apart : (images : List SetImage)
     → AllPairs (λ a b. a.name ≢ b.name) images
@@ -260,7 +268,8 @@ names_apart : (images : List SetImage)
 names_apart images differ i j d lt below e =
     let long : length (map name_of images) ≡ length images = length-map images name_of in
     let none : SetImage = record { name = []; size = 0; store = 0; bytes = [] } in
-    let at : (k : ℕ) → k < length images → (get_or images k none).name ≡ get_or (map name_of images) k d = λ k inside.
+    let at : (k : ℕ) → k < length images → (get_or images k none).name
+    ≡ get_or (map name_of images) k d = λ k inside.
     sym (get_or-map name_of images k none d inside) in
     differ i j none lt (omega (arith, long, below))
     (at i (omega (arith, lt, below, long)) ∙ e ∙ sym (at j (omega (arith, below, long))))
@@ -318,7 +327,12 @@ next_is_set scale seed set low room is =
     let images : List SetImage = next_set scale seed set in
     let names = next_names scale seed set in
     record {
-      count = omega (arith, is.count, sym (length-map images name_of) ∙ ap length names ∙ length-map set name_of);
+      count = omega (
+        arith,
+        is.count,
+        sym (length-map images name_of) ∙ ap length names
+            ∙ length-map set name_of,
+      );
       each = next_each scale seed set low room is.each;
       names = apart images (map name_of set) names (names_apart set is.names);
     }

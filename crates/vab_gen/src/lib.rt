@@ -7,6 +7,3 @@ mod image;
 mod set;
 
 pub use set::{next_scaled, next_set, set_from, set_scaled};
-
-#[cfg(test)]
-mod tests;

@@ -10,6 +10,3 @@ pub use decode::decode_geometry;
 pub use encode::encode_geometry;
 pub use geometry::{Geometry, GeometryFault};
 pub use load::{BACKUP, LoadFault, PRIMARY, SUPER, load_geometry};
-
-#[cfg(test)]
-mod tests;

@@ -4,6 +4,3 @@
 mod input;
 
 pub use input::{InputFault, hear_all};
-
-#[cfg(test)]
-mod tests;

@@ -15,6 +15,3 @@ pub use control::{cleared, put_info};
 pub use fault::PartFault;
 pub use mark::put_mark;
 pub use snapshot::write_snapshot;
-
-#[cfg(test)]
-mod tests;

@@ -8,6 +8,3 @@ mod of_table;
 mod to_table;
 
 pub use layout::{Layout, Part};
-
-#[cfg(test)]
-mod tests;

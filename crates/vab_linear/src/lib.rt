@@ -6,6 +6,3 @@ mod map;
 
 pub use access::{read_at, write_at};
 pub use map::Map;
-
-#[cfg(test)]
-mod tests;

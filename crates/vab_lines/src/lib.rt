@@ -4,6 +4,3 @@
 mod lines;
 
 pub use lines::{made_line, make_refused_line};
-
-#[cfg(test)]
-mod tests;

@@ -13,8 +13,3 @@ pub use load::load_table;
 pub use loaded::{LoadFault, Loaded};
 pub use repair::repair_table;
 pub use store::store_table;
-
-#[cfg(test)]
-mod tests;
-#[cfg(test)]
-mod texts;

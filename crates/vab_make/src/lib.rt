@@ -13,6 +13,3 @@ mod tables;
 pub use checks::{capacity, set_blocks};
 pub use fault::MakeFault;
 pub use making::make_device;
-
-#[cfg(test)]
-mod tests;

@@ -9,6 +9,3 @@ mod status;
 pub use mark::{MarkPhase, UpdateMark, decode_mark, encode_mark};
 pub use sector::MarkFault;
 pub use status::{PartStatus, decode_status, encode_status};
-
-#[cfg(test)]
-mod tests;

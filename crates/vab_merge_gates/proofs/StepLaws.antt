@@ -1,5 +1,6 @@
 -- The step of a merge that begins, of a device.
-use Rattle.std.proofs.Common.{◌≡◌, ◌∙◌, ℕ, zero, suc, ◌+◌, ◌<◌, true, false, List, [], ◌∷◌, Ok, refl}
+use Rattle.std.proofs.Common.{◌≡◌, ◌∙◌, ℕ, zero, suc, ◌+◌, ◌<◌, true, false, List, [], ◌∷◌, Ok}
+use Rattle.std.proofs.Common.{refl}
 use Rattle.std.proofs.Common.{sym, ap, subst, arith, inl, inr}
 use Rattle.std.specs.Prelude.{◌==◌, Option, Some, None, map}
 use Rattle.std.proofs.lemmas.Bool.{cases_Bool, eqb-true}
@@ -73,7 +74,8 @@ module _
   Means slot =
       map (image_on new) (planned slot) ≡ map (image_on old) (planned slot)
       → mounted_on (merging_device (was slot)) new
-      ≡ merging_from (mounted_on (was slot) old) slot (count_at (was slot).a + count_at (was slot).b)
+      ≡ merging_from (mounted_on (was slot) old) slot
+      (count_at (was slot).a + count_at (was slot).b)
 
   means_a : Means 0
   unfolding state_on
@@ -181,28 +183,29 @@ module _ (size : ℕ) (old : Image) where
       (t u : Table) (scanned : List Scanned) (c : Control)
       → NextOf (kept_with (update_read marks.Staged slot ss seen g t u scanned) c)
       (update_read marks.Staged slot ss seen g t u scanned)
-  next_shape slot ss seen g t u scanned c below reads whole copies read running successful = record {
-    represents = record {
-      read = merging_read (other_slot slot) ss (control_read_of (other_slot slot) c) g u scanned;
-      reads = reads_new slot ss seen g t u scanned c size old below reads whole copies read running
-          successful;
-      is = kept_begun slot ss seen g t u scanned c below
-          (device_same slot ss seen g t u scanned c size old below reads whole copies read running
-          successful)
-          (limits_same slot ss seen g t u scanned c size old below reads whole copies read running
-          successful);
-      control = control_new slot ss seen g t u scanned c size old below reads whole copies read
-          running successful;
-      copies = copies_new slot ss seen g t u scanned c size old below reads whole copies read
-          running successful;
-    };
-    means = means_shape slot ss seen g t u scanned c
-        (marked old (mark_spelling (merging_mark (other_slot slot)))) below
-        (images_a slot ss seen g t u scanned c size old below reads whole copies read running
-        successful)
-        (images_b slot ss seen g t u scanned c size old below reads whole copies read running
-        successful);
-  }
+  next_shape slot ss seen g t u scanned c below reads whole copies read running successful =
+      record {
+        represents = record {
+          read = merging_read (other_slot slot) ss (control_read_of (other_slot slot) c) g u scanned;
+          reads = reads_new slot ss seen g t u scanned c size old below reads whole copies read running
+              successful;
+          is = kept_begun slot ss seen g t u scanned c below
+              (device_same slot ss seen g t u scanned c size old below reads whole copies read running
+              successful)
+              (limits_same slot ss seen g t u scanned c size old below reads whole copies read running
+              successful);
+          control = control_new slot ss seen g t u scanned c size old below reads whole copies read
+              running successful;
+          copies = copies_new slot ss seen g t u scanned c size old below reads whole copies read
+              running successful;
+        };
+        means = means_shape slot ss seen g t u scanned c
+            (marked old (mark_spelling (merging_mark (other_slot slot)))) below
+            (images_a slot ss seen g t u scanned c size old below reads whole copies read running
+            successful)
+            (images_b slot ss seen g t u scanned c size old below reads whole copies read running
+            successful);
+      }
 
   -- ---- a device
 

@@ -20,7 +20,9 @@ limit_of : List ℕ × ℕ → GroupLimit
 limit_of p = record { name = p.0; limit = p.1 }
 
 limits_map : (gs : List Group)
-    → map (λ g. (let l : GroupLimit = record { name = base_of g.name; limit = g.maximum_size } in l))
+    → map
+    (λ g.
+    (let l : GroupLimit = record { name = base_of g.name; limit = g.maximum_size } in l))
     gs
     ≡ map limit_of (map (λ g. (base_of g.name, g.maximum_size)) gs)
 unfolding limit_of

@@ -1,6 +1,7 @@
 -- A disk on which the last exceptions of a store are merged: what is read of it then, and what that
 -- means.
-use Rattle.std.proofs.Common.{◌≡◌, ◌≢◌, ◌⊎◌, ◌∙◌, inl, inr, ⊎_elim, ℕ, zero, suc, ◌+◌, ◌-◌, ◌*◌, ◌/◌}
+use Rattle.std.proofs.Common.{◌≡◌, ◌≢◌, ◌⊎◌, ◌∙◌, inl, inr, ⊎_elim, ℕ, zero, suc, ◌+◌, ◌-◌, ◌*◌}
+use Rattle.std.proofs.Common.{◌/◌}
 use Rattle.std.proofs.Common.{◌≤◌, ◌<◌, true, false, List, [], ◌∷◌, length, get_or, set, Ok}
 use Rattle.std.proofs.Common.{refl, sym, ap, subst, arith}
 use Rattle.std.specs.Prelude.{Bool, Option, Some, None, is_some, map, option_map, AllPairs}
@@ -32,9 +33,11 @@ use Rattle.vab_device.specs.declared.device.PartImage.TheVariants.{Kept, Declare
 use Rattle.vab_device.specs.declared.device.Device.{Device}
 use Rattle.vab_device.specs.Checks.{check, first_fault}
 use Rattle.vab_device.specs.Kept.{copies_end, sectors_of}
-use Rattle.vab_device.specs.Mounted.{blocks_there, bytes_at, image_on, mounted_on, count_in, count_of}
+use Rattle.vab_device.specs.Mounted.{blocks_there, bytes_at, image_on, mounted_on, count_in}
+use Rattle.vab_device.specs.Mounted.{count_of}
 use Rattle.vab_device.specs.Mounted.{sectors_by, sectors_read}
-use Rattle.vab_device.specs.Phases.{planned_on, planned_image, plan_of, store_on, is_ready, are_ready}
+use Rattle.vab_device.specs.Phases.{planned_on, planned_image, plan_of, store_on, is_ready}
+use Rattle.vab_device.specs.Phases.{are_ready}
 use Rattle.vab_device.specs.Phases.{is_good}
 use Rattle.vab_device.specs.declared.fault.StartFault.TheVariants.{BadState}
 use Rattle.vab_bootctl.specs.Boot.{info_at}
@@ -49,7 +52,8 @@ use Rattle.vab_device.proofs.SameLaws.{mark_same, control_same, geometry_same, t
 use Rattle.vab_device.proofs.StayLaws.{copy_stays}
 use Rattle.vab_device.proofs.StoreLaws.{statuses_kept}
 use Rattle.vab_merge_run.specs.Part.{exceptions_in, store_in}
-use Rattle.vab_merge_run.specs.Turns.{own_of, with_own, part_at, cut_image, cut_part, cut_at, left_in}
+use Rattle.vab_merge_run.specs.Turns.{own_of, with_own, part_at, cut_image, cut_part, cut_at}
+use Rattle.vab_merge_run.specs.Turns.{left_in}
 use Rattle.vab_merge_run.proofs.OwnLaws.{Single, mounted_with}
 use Rattle.vab_merge_run.proofs.TurnLaws.{count_set}
 use Rattle.vab_merge_run.proofs.MergesLaws.{merging_read, Merges, merges_represents, with_form}

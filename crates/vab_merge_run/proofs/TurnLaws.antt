@@ -114,7 +114,8 @@ count_set n (p ∷ ps) (suc k) few =
 -- ---- a cut
 
 module _ (d : Device) (place : ℕ) where
-  pub own_cut : (n : ℕ) → own_of (cut_at place n d) ≡ set (own_of d) place (cut_part n (part_at d place))
+  pub own_cut : (n : ℕ) → own_of (cut_at place n d)
+      ≡ set (own_of d) place (cut_part n (part_at d place))
   own_cut n = own_with d (set (own_of d) place (cut_part n (part_at d place)))
 
   pub part_cut_at : (n : ℕ)
@@ -139,7 +140,8 @@ module _ (d : Device) (place : ℕ) where
   again_cut n below =
       let ps : List Part = own_of d in
       let p : Part = part_at d place in
-      let whole : set (own_of (cut_at place 1 d)) place (cut_part n (part_at (cut_at place 1 d) place))
+      let whole : set (own_of (cut_at place 1 d)) place
+      (cut_part n (part_at (cut_at place 1 d) place))
       ≡ set ps place (cut_part (suc n) p) =
       (λ i. set (own_cut 1 i) place (cut_part n (part_cut_at 1 below i)))
       ∙ set_again ps place (cut_part 1 p) (cut_part n (cut_part 1 p))

@@ -1,5 +1,6 @@
 -- A merge of some blocks, by its turns and its end.
-use Rattle.std.proofs.Common.{◌≡◌, ◌∙◌, inl, inr, ⊎_elim, ℕ, ◌+◌, ◌-◌, ◌≤◌, ◌<◌, List, [], ◌∷◌, Result}
+use Rattle.std.proofs.Common.{◌≡◌, ◌∙◌, inl, inr, ⊎_elim, ℕ, ◌+◌, ◌-◌, ◌≤◌, ◌<◌, List, [], ◌∷◌}
+use Rattle.std.proofs.Common.{Result}
 use Rattle.std.proofs.Common.{Ok, Err, sym, ap, subst, arith, false}
 use Rattle.std.specs.Prelude.{Option}
 use Rattle.vab_disk.specs.declared.disk.Disk.{Ghosts}

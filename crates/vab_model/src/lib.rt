@@ -12,6 +12,3 @@ pub use command::{Command, Refusal, Reply};
 pub use fault::NoMemory;
 pub use machine::step;
 pub use state::{GroupLimit, Image, Phase, PlanEntry, PlanImage, State};
-
-#[cfg(test)]
-mod tests;

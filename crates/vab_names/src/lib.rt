@@ -140,6 +140,3 @@ fn joined(front: &[u8], back: &[u8]) -> Name36
         Err(_) => unreachable!(),
     }
 }
-
-#[cfg(test)]
-mod tests;

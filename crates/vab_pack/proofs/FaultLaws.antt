@@ -1,5 +1,8 @@
 -- The fault that the words are said to have is what is wrong with them.
-use Rattle.std.proofs.Common.{◌≡◌, ℕ, suc, ◌+◌, ◌<◌, ◌≤◌, Bool, true, false, List, [], ◌∷◌, ◌++◌, length, get_or, take, drop, Option, Some, None, Result, Ok, Err, refl, sym, ap, subst, ◌∙◌, inl, inr, append_assoc, append-nil, add-one, drop-cons, arith, ltb}
+use Rattle.std.proofs.Common.{◌≡◌, ℕ, suc, ◌+◌, ◌<◌, ◌≤◌, Bool, true, false, List, [], ◌∷◌, ◌++◌}
+use Rattle.std.proofs.Common.{length, get_or, take, drop, Option, Some, None, Result, Ok, Err, refl}
+use Rattle.std.proofs.Common.{sym, ap, subst, ◌∙◌, inl, inr, append_assoc, append-nil, add-one}
+use Rattle.std.proofs.Common.{drop-cons, arith, ltb}
 use Rattle.std.specs.Prelude.{◌⊎◌, All, AllPairs}
 use Rattle.std.specs.Str.{bytes_eq}
 use Rattle.std.specs.List.{position_or_len}
@@ -7,7 +10,8 @@ use Rattle.std.proofs.lemmas.List.{length-take-le, take-append-drop}
 use Rattle.std.proofs.lemmas.List.Elements.{All-nil, All-cons}
 use Rattle.std.proofs.lemmas.List.Quantifiers.{all_pairs_push, position-Some}
 use Rattle.std.proofs.lemmas.List.Sums.{position_or_len_is}
-use Rattle.std.proofs.lemmas.Bool.{cases_Bool, ltb-false, ltb-true, le-ltb, lt-ltb, both_ways, false_from_ne_true}
+use Rattle.std.proofs.lemmas.Bool.{cases_Bool, ltb-false, ltb-true, le-ltb, lt-ltb, both_ways}
+use Rattle.std.proofs.lemmas.Bool.{false_from_ne_true}
 use Rattle.std.proofs.lemmas.Slice.Eq.{bytes_eq-Decides}
 use Rattle.vab_names.specs.Names.{is_base}
 use Rattle.vab_pack.specs.declared.fault.WordFault.{WordFault}
@@ -15,8 +19,10 @@ use Rattle.vab_pack.specs.declared.fault.WordFault.TheVariants as faults
 use Rattle.vab_pack.specs.Front.{Front, front_of, size_of, store_of}
 use Rattle.vab_pack.specs.Asked.{Asked, Parts, HasParts, IsWord, AreWordsOf, IsAsked, Ask}
 use Rattle.vab_pack.specs.Faults.{IsNew, IsFaultOf}
-use Rattle.vab_pack.specs.Words.{◌>>=◌, or_fault, parts_of, first_named, unless_first, new_name, asked_with, judged, asked_by, asked_behind, asked_of}
-use Rattle.vab_pack.proofs.WordLaws.{Apart, parts_have, have_parts, word_found, asked_read, asked_found, name_found, name_again, length_words, behind_more}
+use Rattle.vab_pack.specs.Words.{◌>>=◌, or_fault, parts_of, first_named, unless_first, new_name}
+use Rattle.vab_pack.specs.Words.{asked_with, judged, asked_by, asked_behind, asked_of}
+use Rattle.vab_pack.proofs.WordLaws.{Apart, parts_have, have_parts, word_found, asked_read}
+use Rattle.vab_pack.proofs.WordLaws.{asked_found, name_found, name_again, length_words, behind_more}
 
 -- ---- the parts of a word
 
@@ -160,7 +166,8 @@ fault_comes words (faults.BadStore i) is =
     let (f, path, at, bad) = is.bad in
     comes words i (faults.BadStore i) is.before is.few is.inside is.asks
     (asked_read is.before word f path at
-    ∙ store_with is.before f path bad.1.0 (name_again is.before f.name bad.0.base bad.0.first) bad.1.1 bad.2
+    ∙ store_with is.before f path bad.1.0 (name_again is.before f.name bad.0.base bad.0.first)
+    bad.1.1 bad.2
     ∙ ap (λ (k : ℕ). err_by (faults.BadStore k)) long)
 fault_comes words faults.NoMemory is = absurd is
 
@@ -241,14 +248,29 @@ module _ (words : List (List ℕ)) (i : ℕ) (before : List Asked) (few : length
   unfolding first_named
   repeated f path None is base first h = absurd cc
   repeated f path (Some k) is base first h =
-      let same : faults.Repeated k i ≡ fault = ap (λ (n : ℕ). faults.Repeated k n) (sym long) ∙ (let e : err_by (faults.Repeated k (length before)) ≡ err_by fault = again k h in cc) in
-      let at : (d : Asked) → (k < length before) × (bytes_eq (get_or before k d).name f.name ≡ true) = λ d. let q = position-Some (λ b. bytes_eq b.name f.name) before k d first in (q.0, q.1) in
+      let same : faults.Repeated k i ≡ fault =
+      ap (λ (n : ℕ). faults.Repeated k n) (sym long)
+      ∙ (let e : err_by (faults.Repeated k (length before)) ≡ err_by fault = again k h in cc) in
+      let at : (d : Asked)
+      → (k < length before) × (bytes_eq (get_or before k d).name f.name ≡ true) =
+      λ d. let q = position-Some (λ b. bytes_eq b.name f.name) before k d first in (q.0, q.1) in
       subst (IsFaultOf words) same (record {
         few = few;
         inside = inside;
         before = before;
         asks = asks;
-        bad = (f, path, is, (base, ((at (record { name = []; size = None; store = 0; path = [] })).0, λ d. (bytes_eq-Decides (get_or before k d).name f.name).0 (at d).1)));
+        bad = (
+          f,
+          path,
+          is,
+          (
+            base,
+            (
+              (at (record { name = []; size = None; store = 0; path = [] })).0,
+              λ d. (bytes_eq-Decides (get_or before k d).name f.name).0 (at d).1,
+            ),
+          ),
+        );
       })
     where
       again : (k : ℕ)
@@ -262,12 +284,20 @@ module _ (words : List (List ℕ)) (i : ℕ) (before : List Asked) (few : length
       → IsFaultOf words fault
   unfolding new_name
   named f path is h = elim (cases_Bool (is_base f.name)) [
-    | inl base ↦ repeated f path (first_named before f.name) is base refl (let e : new_name before f.name ≡ unless_first (length before) f.name (first_named before f.name) = rw base refl in sym e ∙ h)
+    | inl base ↦ repeated f path (first_named before f.name) is base refl
+        (let e : new_name before f.name ≡ unless_first (length before) f.name
+        (first_named before f.name) = rw base refl in sym e ∙ h)
     | inr other ↦
         let r : Result (List ℕ) WordFault = Err (faults.BadName (length before)) in
         let e : r ≡ Err fault = (let g : new_name before f.name ≡ r = rw other refl in sym g ∙ h) in
         let same : faults.BadName i ≡ fault = ap faults.BadName (sym long) ∙ cc in
-        subst (IsFaultOf words) same (record { few = few; inside = inside; before = before; asks = asks; bad = (f, path, is, λ t. both_ways (is_base f.name) other t) })
+        subst (IsFaultOf words) same (record {
+          few = few;
+          inside = inside;
+          before = before;
+          asks = asks;
+          bad = (f, path, is, λ t. both_ways (is_base f.name) other t);
+        })
   ]
 
   sized : (f : Front) (path : List ℕ)
@@ -278,7 +308,13 @@ module _ (words : List (List ℕ)) (i : ℕ) (before : List Asked) (few : length
   sized f path is new h =
       let e = or_err (faults.BadSize (length before)) fault (size_of f) h in
       let same : faults.BadSize i ≡ fault = ap faults.BadSize (sym long) ∙ e.1 in
-      subst (IsFaultOf words) same (record { few = few; inside = inside; before = before; asks = asks; bad = (f, path, is, (new, e.0)) })
+      subst (IsFaultOf words) same (record {
+        few = few;
+        inside = inside;
+        before = before;
+        asks = asks;
+        bad = (f, path, is, (new, e.0));
+      })
 
   stored : (f : Front) (path : List ℕ) (size : Option ℕ)
       → IsWord word f path
@@ -289,7 +325,13 @@ module _ (words : List (List ℕ)) (i : ℕ) (before : List Asked) (few : length
   stored f path size is new some h =
       let e = or_err (faults.BadStore (length before)) fault (store_of f) h in
       let same : faults.BadStore i ≡ fault = ap faults.BadStore (sym long) ∙ e.1 in
-      subst (IsFaultOf words) same (record { few = few; inside = inside; before = before; asks = asks; bad = (f, path, is, (new, (size, some), e.0)) })
+      subst (IsFaultOf words) same (record {
+        few = few;
+        inside = inside;
+        before = before;
+        asks = asks;
+        bad = (f, path, is, (new, (size, some), e.0));
+      })
 
   of_front : (f : Front) (path : List ℕ)
       → IsWord word f path
@@ -304,10 +346,15 @@ module _ (words : List (List ℕ)) (i : ℕ) (before : List Asked) (few : length
         elim (bind_err (or_fault (faults.BadSize (length before)) (size_of f)) _ fault n.2) [
           | inl e ↦ sized f path is new e
           | inr s ↦
-              let some : size_of f ≡ Some s.0 = or_some (faults.BadSize (length before)) (size_of f) s.0 s.1 in
-              elim (bind_err (or_fault (faults.BadStore (length before)) (store_of f)) _ fault s.2) [
+              let some : size_of f ≡ Some s.0 =
+              or_some (faults.BadSize (length before)) (size_of f) s.0 s.1 in
+              elim
+              (bind_err (or_fault (faults.BadStore (length before)) (store_of f)) _ fault s.2) [
                 | inl e ↦ stored f path s.0 is new some e
-                | inr t ↦ absurd (let e : Ok (record { name = n.0; size = s.0; store = t.0; path = path }) ≡ err_by fault = t.2 in cc)
+                | inr t ↦ absurd
+                    (let e : Ok (record { name = n.0; size = s.0; store = t.0; path = path })
+                    ≡ err_by fault = t.2 in
+                    cc)
               ]
         ]
   ]

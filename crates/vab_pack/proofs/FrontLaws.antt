@@ -1,6 +1,7 @@
 -- What stands before the first byte of a kind, and the texts that stand before a word's `=`.
 use Rattle.std.proofs.Common.{◌≡◌, ◌≢◌, ◌∙◌, ℕ, ◌+◌, ◌<◌, ◌≤◌, Bool, true, false, List, []}
-use Rattle.std.proofs.Common.{◌∷◌, ◌++◌, length, get_or, take, drop, Option, Some, None, refl, sym, ap}
+use Rattle.std.proofs.Common.{◌∷◌, ◌++◌, length, get_or, take, drop, Option, Some, None, refl, sym}
+use Rattle.std.proofs.Common.{ap}
 use Rattle.std.proofs.Common.{inl, inr, append_assoc, append-nil, length-append, arith}
 use Rattle.std.specs.Prelude.{All}
 use Rattle.std.specs.List.{position_or_len, before_first, after_first}
@@ -102,10 +103,12 @@ module _ (front back : List ℕ) (none : NoColon front) where
 
   pub after_is : after_first is_colon joined ≡ back
   after_is =
-      let regrouped : joined ≡ (front ++ 58 ∷ []) ++ back = sym (append_assoc front (58 ∷ []) back) in
+      let regrouped : joined ≡ (front ++ 58 ∷ []) ++ back =
+      sym (append_assoc front (58 ∷ []) back) in
       rw at_front
       (ap (drop (length front + 1)) regrouped
-      ∙ drop_at (front ++ 58 ∷ []) back (length front + 1) (omega (arith, length-append front (58 ∷ []))))
+      ∙ drop_at (front ++ 58 ∷ []) back (length front + 1)
+      (omega (arith, length-append front (58 ∷ []))))
 
 -- ---- what is found is what the text spells
 

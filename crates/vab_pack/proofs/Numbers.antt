@@ -8,7 +8,8 @@ use Rattle.std.specs.Prelude.{nat_lt, nat_le, option_and_then}
 use Rattle.std.specs.Char.{is_ascii_digit}
 use Rattle.std.specs.List.{list_all}
 use Rattle.std.specs.Str.Parse.{ParsesUnsigned, digits_value}
-use Rattle.std.proofs.lemmas.Bool.{and_parts, cases_Bool, cases_lt, leb-true, eqb-true, false_from_ne_true}
+use Rattle.std.proofs.lemmas.Bool.{and_parts, cases_Bool, cases_lt, leb-true, eqb-true}
+use Rattle.std.proofs.lemmas.Bool.{false_from_ne_true}
 use Rattle.std.proofs.lemmas.Bool.Decides.{nat_tests}
 use Rattle.std.proofs.lemmas.Str.Parse.{IsDigitsTest, IsNumeralModel, numerals_by_value}
 use Rattle.std.proofs.lemmas.Str.Parse.{parse_digits}
@@ -60,7 +61,8 @@ high_number text e above =
     rw (e, test) refl
 
 module _ (text : List ℕ) (is : is_number text ≡ true) where
-  pub read : (n : ℕ) → n < 2 ^ 64 → ParsesUnsigned {E = ℕ} 64 10 text (Ok n) → Some n ≡ number_of text
+  pub read : (n : ℕ) → n < 2 ^ 64 → ParsesUnsigned {E = ℕ} 64 10 text (Ok n)
+      → Some n ≡ number_of text
   read n fits h =
       let value : n ≡ digits_value 10 text =
       (parse_digits own {E = ℕ} 64 text (Ok n) h (all_digits text is)).1 in
@@ -78,7 +80,8 @@ module _ (text : List ℕ) (is : is_number text ≡ true) where
 scaled_fits : (most factor n amount : ℕ) → scaled_up_to most factor n ≡ Some amount → amount ≤ most
 scaled_fits most factor n amount e = elim (cases_Bool (nat_le (n * factor) most)) [
   | inl low ↦
-      let same : Some (n * factor) ≡ Some amount = (let f : scaled_up_to most factor n ≡ Some (n * factor) = rw low refl in sym f ∙ e) in
+      let same : Some (n * factor) ≡ Some amount =
+      (let f : scaled_up_to most factor n ≡ Some (n * factor) = rw low refl in sym f ∙ e) in
       let is : n * factor ≡ amount = cc in
       omega (arith, leb-true (n * factor) most low, is)
   | inr high ↦ absurd (let f : None ≡ Some amount = sym (rw high refl) ∙ e in cc)
@@ -131,9 +134,17 @@ pub record HasNoLetter (text : List ℕ) : Type 0 where
 pub all_digits_of : (text : List ℕ) → HasNoLetter text → text ≡ digits_of text
 unfolding digits_of
 all_digits_of text is =
-    rw (not_last 75 text (omega arith) is.kilo, not_last 77 text (omega arith) is.mega, not_last 71 text (omega arith) is.giga) refl
+    rw (
+      not_last 75 text (omega arith) is.kilo,
+      not_last 77 text (omega arith) is.mega,
+      not_last 71 text (omega arith) is.giga,
+    ) refl
 
 pub no_factor : (text : List ℕ) → HasNoLetter text → 1 ≡ factor_of text
 unfolding factor_of
 no_factor text is =
-    rw (not_last 75 text (omega arith) is.kilo, not_last 77 text (omega arith) is.mega, not_last 71 text (omega arith) is.giga) refl
+    rw (
+      not_last 75 text (omega arith) is.kilo,
+      not_last 77 text (omega arith) is.mega,
+      not_last 71 text (omega arith) is.giga,
+    ) refl

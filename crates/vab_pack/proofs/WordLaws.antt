@@ -1,13 +1,18 @@
 -- What the words say is what they spell, and images of the names that they say are a set.
-use Rattle.std.proofs.Common.{◌≡◌, ◌≢◌, ℕ, ◌+◌, ◌<◌, ◌≤◌, ◌^◌, Bool, true, false, cond, List, [], ◌∷◌, ◌++◌, length, get_or, map, take, drop, Option, Some, None, Result, Ok, Err, refl, sym, ap, subst, ◌∙◌, inl, inr, append_assoc, append-nil, length-append, length-drop, arith, eqb, ltb}
+use Rattle.std.proofs.Common.{◌≡◌, ◌≢◌, ℕ, ◌+◌, ◌<◌, ◌≤◌, ◌^◌, Bool, true, false, cond, List, []}
+use Rattle.std.proofs.Common.{◌∷◌, ◌++◌, length, get_or, map, take, drop, Option, Some, None}
+use Rattle.std.proofs.Common.{Result, Ok, Err, refl, sym, ap, subst, ◌∙◌, inl, inr, append_assoc}
+use Rattle.std.proofs.Common.{append-nil, length-append, length-drop, arith, eqb, ltb}
 use Rattle.std.specs.Prelude.{All, AllPairs, IsTrue, IfSome, option_map, suc}
 use Rattle.std.specs.Str.{bytes_eq}
 use Rattle.std.specs.List.{position_or_len, before_first, after_first}
 use Rattle.std.proofs.lemmas.List.{take_at, drop_at, get_or-take, length-take, get_or-map, length-map}
 use Rattle.std.proofs.lemmas.List.Elements.{All-nil, All-cons, All-head, All-tail, All-weaker}
 use Rattle.std.proofs.lemmas.List.Quantifiers.{all_pairs_push}
-use Rattle.std.proofs.lemmas.List.Sums.{split_at_first, passes_at_first, fails_before_first, position_or_len_is}
-use Rattle.std.proofs.lemmas.Bool.{cases_Bool, ltb-false, le-ltb, both_ways, false_from_ne_true, eqb-true}
+use Rattle.std.proofs.lemmas.List.Sums.{split_at_first, passes_at_first, fails_before_first}
+use Rattle.std.proofs.lemmas.List.Sums.{position_or_len_is}
+use Rattle.std.proofs.lemmas.Bool.{cases_Bool, ltb-false, le-ltb, both_ways, false_from_ne_true}
+use Rattle.std.proofs.lemmas.Bool.{eqb-true}
 use Rattle.std.proofs.lemmas.Slice.Eq.{bytes_eq-Decides}
 use Rattle.std.proofs.Math.ListN.{get_or-append}
 use Rattle.std.proofs.Math.Seq.{get_or-append_seam}
@@ -16,20 +21,25 @@ use Rattle.vab_set.specs.declared.set.SetImage.{SetImage}
 use Rattle.vab_pack.specs.declared.fault.WordFault.{WordFault}
 use Rattle.vab_pack.specs.declared.fault.WordFault.TheVariants as faults
 use Rattle.vab_pack.specs.Amounts.{amount_up_to}
-use Rattle.vab_pack.specs.Front.{Front, front_of, is_left_out, size_meant, size_of, store_meant, store_of}
-use Rattle.vab_pack.specs.Asked.{Asked, Parts, word_of, HasParts, IsWord, IsWordOf, AreWordsOf, IsAsked, Ask}
+use Rattle.vab_pack.specs.Front.{Front, front_of, is_left_out, size_meant, size_of, store_meant}
+use Rattle.vab_pack.specs.Front.{store_of}
+use Rattle.vab_pack.specs.Asked.{Asked, Parts, word_of, HasParts, IsWord, IsWordOf, AreWordsOf}
+use Rattle.vab_pack.specs.Asked.{IsAsked, Ask}
 use Rattle.vab_pack.specs.Images.{NamesOfSet}
-use Rattle.vab_pack.specs.Words.{◌>>=◌, or_fault, is_equals, parts_of, first_named, unless_first, new_name, asked_with, judged, asked_by, asked_behind, asked_of}
+use Rattle.vab_pack.specs.Words.{◌>>=◌, or_fault, is_equals, parts_of, first_named, unless_first}
+use Rattle.vab_pack.specs.Words.{new_name, asked_with, judged, asked_by, asked_behind, asked_of}
 use Rattle.vab_pack.proofs.FrontLaws.{passes_none, none_passes, front_has, has_front}
 use Rattle.vab_pack.proofs.Numbers.{amount_fits}
 
 -- ---- a word
 
-pub parts_found : (word : List ℕ) (a : Parts) → parts_of word ≡ Some a → (word ≡ word_of a) × (0 < length a.path)
+pub parts_found : (word : List ℕ) (a : Parts) → parts_of word ≡ Some a
+    → (word ≡ word_of a) × (0 < length a.path)
 unfolding parts_of
 parts_found word a h =
     let none : Bool = eqb (length (after_first is_equals word)) 0 in
-    let parts : Parts = record { front = before_first is_equals word; path = after_first is_equals word } in
+    let parts : Parts =
+    record { front = before_first is_equals word; path = after_first is_equals word } in
     elim (cases_Bool none) [
       | inl empty ↦ absurd (let e : None ≡ Some a = sym (rw empty refl) ∙ h in cc)
       | inr some ↦
@@ -50,7 +60,8 @@ parts_found word a h =
 pub parts_first : (word : List ℕ) (a : Parts) → parts_of word ≡ Some a → All (λ b. b ≢ 61) a.front
 unfolding parts_of
 parts_first word a h =
-    let parts : Parts = record { front = before_first is_equals word; path = after_first is_equals word } in
+    let parts : Parts =
+    record { front = before_first is_equals word; path = after_first is_equals word } in
     elim (cases_Bool (eqb (length (after_first is_equals word)) 0)) [
       | inl empty ↦ absurd (let e : None ≡ Some a = sym (rw empty refl) ∙ h in cc)
       | inr some ↦
@@ -63,7 +74,8 @@ parts_first word a h =
           subst (λ (x : Parts). All (λ b. b ≢ 61) x.front) same none
     ]
 
-pub parts_are : (a : Parts) → All (λ b. is_equals b ≡ false) a.front → 0 < length a.path → parts_of (word_of a) ≡ Some a
+pub parts_are : (a : Parts) → All (λ b. is_equals b ≡ false) a.front → 0 < length a.path
+    → parts_of (word_of a) ≡ Some a
 unfolding parts_of
 parts_are a none some =
     let word : List ℕ = word_of a in
@@ -72,9 +84,14 @@ parts_are a none some =
     let first : position_or_len is_equals word ≡ at = position_or_len_is is_equals word at 0 (omega (arith, long))
     (λ k lt. ap is_equals (get_or-append a.front (61 ∷ a.path) 0 k lt) ∙ none k 0 lt)
     (λ lt. ap is_equals (get_or-append_seam a.front 61 a.path 0)) in
-    let front : before_first is_equals word ≡ a.front = rw first (take_at a.front (61 ∷ a.path) at refl) in
-    let regrouped : word ≡ (a.front ++ 61 ∷ []) ++ a.path = sym (append_assoc a.front (61 ∷ []) a.path) in
-    let back : after_first is_equals word ≡ a.path = rw first (ap (drop (at + 1)) regrouped ∙ drop_at (a.front ++ 61 ∷ []) a.path (at + 1) (omega (arith, length-append a.front (61 ∷ [])))) in
+    let front : before_first is_equals word ≡ a.front =
+    rw first (take_at a.front (61 ∷ a.path) at refl) in
+    let regrouped : word ≡ (a.front ++ 61 ∷ []) ++ a.path =
+    sym (append_assoc a.front (61 ∷ []) a.path) in
+    let back : after_first is_equals word ≡ a.path =
+    rw first (ap (drop (at + 1)) regrouped
+    ∙ drop_at (a.front ++ 61 ∷ []) a.path (at + 1)
+    (omega (arith, length-append a.front (61 ∷ [])))) in
     let filled : eqb (length a.path) 0 ≡ false = false_from_ne_true _ (λ t. let z : length a.path ≡ 0 = eqb-true _ 0 t in omega (arith, z, some)) in
     rw (front, back, filled) refl
 
@@ -341,7 +358,8 @@ behind_more asked (x ∷ more) (word ∷ words) rest are fits apart =
     let differs : All (λ a. a.name ≢ x.name) asked = λ (k : ℕ) (d : Asked) lt. subst (λ (b : Asked). (get_or asked k d).name ≢ b.name) (seam d)
     (subst (λ (a : Asked). a.name ≢ (get_or (asked ++ x ∷ more) (length asked) d).name) (get_or-append asked (x ∷ more) d k lt) (apart k (length asked) d lt (omega (arith, length-append asked (x ∷ more))))) in
     let later : AllPairs Apart ((asked ++ x ∷ []) ++ more) = subst (AllPairs Apart) (sym (append_assoc asked (x ∷ []) more)) apart in
-    then_is (asked_by asked word) (λ (a : Asked). asked_behind (asked ++ a ∷ []) (words ++ rest)) x (asked_again asked word x are.0 (All-head IsAsked x more fits) differs)
+    then_is (asked_by asked word) (λ (a : Asked). asked_behind (asked ++ a ∷ []) (words ++ rest)) x
+    (asked_again asked word x are.0 (All-head IsAsked x more fits) differs)
     ∙ behind_more (asked ++ x ∷ []) more words rest are.1 (All-tail IsAsked x more fits) later
     ∙ ap (λ (l : List Asked). asked_behind l rest) (append_assoc asked (x ∷ []) more)
 

@@ -12,6 +12,3 @@ pub use entry::Entry;
 pub use fault::WordFault;
 pub use image::set_image;
 pub use words::{parse_word, parse_words};
-
-#[cfg(test)]
-mod tests;

@@ -23,7 +23,8 @@ use Rattle.vab_partitions.specs.Together.{Together, pass_together}
 use Rattle.vab_partitions.specs.Target.{KeepsAlone}
 use Rattle.vab_partitions.specs.Merging.{IsStoreAlone, KeepsMerging}
 use Rattle.vab_partitions.specs.TargetRules.{is_named, are_apart, source_blocks, own_passes}
-use Rattle.vab_partitions.specs.TargetRules.{is_unchanged, target_passes, store_stands, store_passes}
+use Rattle.vab_partitions.specs.TargetRules.{is_unchanged, target_passes, store_stands}
+use Rattle.vab_partitions.specs.TargetRules.{store_passes}
 use Rattle.vab_partitions.specs.TargetRules.{passes_alone}
 use Rattle.vab_partitions.specs.MergingRules.{passes_merging}
 use Rattle.vab_partitions.proofs.PartCases.{part_then, then_part, none_named, named_none}

@@ -14,6 +14,3 @@ pub use merging::bad_merging;
 pub use own::bad_partition;
 pub use target::bad_target;
 pub use twins::{has_twins, same_device};
-
-#[cfg(test)]
-mod tests;

@@ -8,6 +8,3 @@ mod pages;
 mod port;
 
 pub use port::{FilePort, OpenFault};
-
-#[cfg(test)]
-mod tests;

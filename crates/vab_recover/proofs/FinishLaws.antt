@@ -153,7 +153,8 @@ module _
       (λ l. All (IsScanned (through_slot m.phase m.slot) (layout_of l.table)) scanned)
       → IsDevice (with_tables t d) size
   assembled_kept d ss c through scanned heads current own is planned are =
-      let kept = kept_is d t m ss c g through scanned heads.phase heads.slot there.both is planned in
+      let kept =
+      kept_is d t m ss c g through scanned heads.phase heads.slot there.both is planned in
       let parts = plans_kept size (through_slot m.phase m.slot) g
       (through_of m.phase t.source t.target) scanned heads.enough through_there through_are are in
       subst (λ (x : Device). IsDevice x size) (sym kept)
@@ -178,7 +179,8 @@ module _
       of_target parts = elim (cases_Bool (is_merging m.phase)) [
         | inl is ↦
             none_all
-            (λ (l : Loaded). AreParts size (plan_of (other_slot m.slot) (layout_of l.table) scanned))
+            (λ (l : Loaded). AreParts size (plan_of (other_slot m.slot) (layout_of l.table)
+            scanned))
             t.target (alone is)
         | inr not ↦ rw not at parts
       ]

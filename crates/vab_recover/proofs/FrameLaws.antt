@@ -276,7 +276,8 @@ module _
   first = read_of f.heads.mark f.heads.statuses.items f.heads.control f.heads.geometry (tables_of f.tables) []
 
   pub is_of : IsOfPhase f.heads.mark.phase f.heads.mark.slot f.tables.source f.tables.target
-  is_of = of_phase f.heads.mark.phase f.heads.mark.slot f.tables.source f.tables.target phase below both
+  is_of =
+      of_phase f.heads.mark.phase f.heads.mark.slot f.tables.source f.tables.target phase below both
 
   frame_reads : FrameReads size image first
   frame_reads = record {

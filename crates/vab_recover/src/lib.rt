@@ -9,8 +9,3 @@ mod read;
 mod table;
 
 pub use opening::start;
-
-#[cfg(test)]
-mod tests;
-#[cfg(test)]
-mod texts;

@@ -82,7 +82,8 @@ are_exchanges [] are = tt
 are_exchanges (s ∷ ss) are = (are.0, are_exchanges ss are.2)
 
 -- where no packet asks for a merge, that behind the exchanges that are done doesn't
-pub asks_none : {D : Type 0} (size : ℕ) (g : Ghosts D) (bytes beyond : List ℕ) (first : Kept Mounted)
+pub asks_none : {D : Type 0} (size : ℕ) (g : Ghosts D) (bytes beyond : List ℕ)
+    (first : Kept Mounted)
     (told : List ℕ) (old now : D) (left : List ℕ) (kept : Kept Mounted)
     → Progress response (IsIn size) g bytes beyond first told old now left kept
     → HasNoMerge bytes

@@ -12,6 +12,3 @@ pub use fault::{NoMemory, SetFault};
 pub use reading::read_set;
 pub use set::{Set, SetImage};
 pub use writing::write_set;
-
-#[cfg(test)]
-mod tests;

@@ -8,6 +8,3 @@ mod writing;
 pub use fault::StatusFault;
 pub use reading::{FIRST_STATUS, STATUS_SECTORS, Statuses, first_free, read_statuses};
 pub use writing::{clear_statuses, put_status};
-
-#[cfg(test)]
-mod tests;

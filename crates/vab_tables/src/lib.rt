@@ -20,6 +20,3 @@ pub use entries::{BlockDevice, Extent, Group, Partition};
 pub use fault::{EntryKind, NoMemory, TableFault};
 pub use header::{needed_size, text_size};
 pub use table::{Table, table_size};
-
-#[cfg(test)]
-mod tests;

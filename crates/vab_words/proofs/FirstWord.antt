@@ -12,7 +12,8 @@ use Rattle.clap.specs.Takes.{built_takes, bundle_passes, bundle_step_passes, fla
 use Rattle.clap.proofs.OnLiterals.{clap_on_literals}
 use Rattle.vab_words.specs.Command.{found_in, is_taken, vab_app}
 use Rattle.vab_words.specs.Values.{blocks_of, limit_of, metadata_max_of, slot_of}
-use Rattle.vab_words.specs.Verbs.{Activate, Digest, Make, Meaning, Merge, Print, make_of, verb_in, verb_of}
+use Rattle.vab_words.specs.Verbs.{Activate, Digest, Make, Meaning, Merge, Print, make_of, verb_in}
+use Rattle.vab_words.specs.Verbs.{verb_of}
 use Rattle.vab_words.specs.Spelled.{is_verb_name, name_of, verb_names}
 use Rattle.vab_words.proofs.Asked.{untaken}
 
@@ -200,13 +201,15 @@ mark_in : (rows : List Row) → IsNamed (codes "mark") (verb_in (codes "mark") r
 unfolding verb_in
 mark_in rows = refl
 
-begin_merge_in : (rows : List Row) → IsNamed (codes "begin-merge") (verb_in (codes "begin-merge") rows)
+begin_merge_in : (rows : List Row) → IsNamed (codes "begin-merge")
+    (verb_in (codes "begin-merge") rows)
 unfolding verb_in
 begin_merge_in rows = refl
 
 merge_in : (rows : List Row) → IsNamed (codes "merge") (verb_in (codes "merge") rows)
 unfolding verb_in
-merge_in rows = mapped (codes "merge") Merge (λ _. refl) (option_and_then blocks_of (first_of (codes "blocks") rows))
+merge_in rows = mapped (codes "merge") Merge (λ _. refl)
+    (option_and_then blocks_of (first_of (codes "blocks") rows))
 
 cancel_in : (rows : List Row) → IsNamed (codes "cancel") (verb_in (codes "cancel") rows)
 unfolding verb_in

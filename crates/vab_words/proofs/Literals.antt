@@ -1,5 +1,6 @@
 -- What words that are written out ask for.
-use Rattle.std.proofs.Common.{◌≡◌, ◌∙◌, ap, true, false, [], ◌∷◌, Some, None, codes, option_map, refl, arith}
+use Rattle.std.proofs.Common.{◌≡◌, ◌∙◌, ap, true, false, [], ◌∷◌, Some, None, codes, option_map}
+use Rattle.std.proofs.Common.{refl, arith}
 use Rattle.std.specs.Prelude.{◌==◌}
 use Rattle.std.proofs.lemmas.Bool.Decides.{nat_tests}
 use Rattle.std.specs.Str.{bytes_eq}

@@ -9,6 +9,3 @@ mod verb;
 
 pub use spelled::spelled_out;
 pub use verb::{Verb, WordsFault, parse_words};
-
-#[cfg(test)]
-mod tests;

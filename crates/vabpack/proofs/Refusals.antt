@@ -1,5 +1,6 @@
 -- What a refusal of the entries says of the words.
-use Rattle.std.proofs.Common.{◌≡◌, ℕ, ◌<◌, ◌≤◌, ◌^◌, ◌∙◌, List, [], ◌∷◌, ◌++◌, length, Option, Some, None, IfSome, Result, Ok, Err, IfOk, IfErr, sym, ap, subst, arith}
+use Rattle.std.proofs.Common.{◌≡◌, ℕ, ◌<◌, ◌≤◌, ◌^◌, ◌∙◌, List, [], ◌∷◌, ◌++◌, length, Option, Some}
+use Rattle.std.proofs.Common.{None, IfSome, Result, Ok, Err, IfOk, IfErr, sym, ap, subst, arith}
 use Rattle.std.specs.Prelude.{IsErrAnd}
 use Rattle.vab_set.specs.declared.set.SetImage.{SetImage}
 use Rattle.vab_set.specs.Spelling.{IsSet, set_text, images_text}
@@ -61,7 +62,8 @@ not_long files asked images path s known long =
     let over : 2 ^ 32 < length there.0.bytes = subst P there.1 (subst Q (sym s.4) long) in
     absurd (omega (arith, over, there.2))
 
-not_overfull : (files : Contents) (asked : List Asked) (images : List SetImage) (path : List ℕ) (a : Asked)
+not_overfull : (files : Contents) (asked : List Asked) (images : List SetImage) (path : List ℕ)
+    (a : Asked)
     (before behind : List Asked)
     → asked ≡ before ++ a ∷ behind
     → a.path ≡ path
@@ -71,7 +73,8 @@ not_overfull files asked images path a before behind whole at known over =
     let there =
     known_at files before behind a images
     (subst (λ (l : List Asked). AreKnownAs files l images) whole known) in
-    let P : Option (List ℕ) → Type 0 = λ o. IfSome o (λ b. (length b ≤ 2 ^ 32) × (image_of a b ≡ None)) in
+    let P : Option (List ℕ) → Type 0 = λ o. IfSome o
+    (λ b. (length b ≤ 2 ^ 32) × (image_of a b ≡ None)) in
     let Q : List ℕ → Type 0 = λ p. IsOverfull files a p in
     let none = subst P there.1 (subst Q (sym at) over) in
     let both : None ≡ Some there.0 = sym none.1 ∙ there.3 in

@@ -11,7 +11,8 @@ use Rattle.vab_begin.specs.Writes.{IsOfBegun}
 use Rattle.vab_device.proofs.DoesLaws.{does_nothing}
 use Rattle.vab_begin.proofs.KeptLaws.{idle_of, planned_of, unplanned_of, installing_of, staged_of}
 use Rattle.vab_begin.proofs.KeptLaws.{merging_of}
-use Rattle.vab_begin.proofs.BegunLaws.{begin_refused, begin_staged, begin_merging, begin_is, is_memory, refused_is}
+use Rattle.vab_begin.proofs.BegunLaws.{begin_refused, begin_staged, begin_merging, begin_is}
+use Rattle.vab_begin.proofs.BegunLaws.{is_memory, refused_is}
 use Rattle.vab_begin.proofs.beginning.begin.Goals as goal
 
 pub returns-in-Installing : goal.returns-in-Installing

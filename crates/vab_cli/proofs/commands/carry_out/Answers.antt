@@ -25,7 +25,8 @@ returns-in-Ok-do_command-clause-runs g c = λ t s stands.
     let is = c.in-Ok-do_command.ensures.status t s
     (subst (λ (n : ℕ). IsIn n s (g.P.Disk.seen mid)) (sym sized) here) in
     inl (runs_done g.P.Disk g.met.P.Disk.only_now size s command (line s)
-    (inl (reply_some command _ _ _)) (verb_status s command) old mid new opens stands status is does)
+    (inl (reply_some command _ _ _)) (verb_status s command)
+    old mid new opens stands status is does)
 
 pub returns-in-Err-do_command-clause-runs : goal.returns-in-Err-do_command-clause-runs
 returns-in-Err-do_command-clause-runs g c = λ t s stands.

@@ -98,7 +98,8 @@ returns-in-Ok-clause-runs g c =
     RunsPart g.D.Disk p (λ (r : Device × ℕ). r.1) c.args.most c.args.d.now c.run_part.new.d
     (Ok (c.give_own.result, c.in-Ok.n)))
     here
-    (counted g.D.Disk c.index_mut.result.now (λ (n : ℕ). n) (λ (r : Device × ℕ). r.1) c.args.most c.args.d.now
+    (counted g.D.Disk c.index_mut.result.now (λ (n : ℕ). n) (λ (r : Device × ℕ). r.1) c.args.most
+    c.args.d.now
     c.run_part.new.d c.in-Ok.n (c.give_own.result, c.in-Ok.n) refl c.in-Ok.ensures.runs)
 
 pub returns-in-Err-clause-runs : goal.returns-in-Err-clause-runs
@@ -114,5 +115,6 @@ returns-in-Err-clause-runs g c =
     RunsPart g.D.Disk p (λ (r : Device × ℕ). r.1) c.args.most c.args.d.now c.run_part.new.d
     (Err c.in-Err.fault))
     here
-    (failed g.D.Disk c.index_mut.result.now (λ (n : ℕ). n) (λ (r : Device × ℕ). r.1) c.args.most c.args.d.now
+    (failed g.D.Disk c.index_mut.result.now (λ (n : ℕ). n) (λ (r : Device × ℕ). r.1) c.args.most
+    c.args.d.now
     c.run_part.new.d c.in-Err.fault c.in-Err.ensures.runs)

@@ -24,7 +24,8 @@ returns-in-Ok-Some-clause-ok g c = λ t.
     let image = g.D.Disk.seen c.args.d.now in
     let w : Wanted = wanted_store c.args.fewer s c.in-Ok-Some.base c.in-Ok-Some.store in
     subst (λ (y : Result Scanned StartFault). IfOk c.judge_scan.result (λ s. y ≡ Ok (scanned_of s)))
-    (sym (wanted_is c.args.fewer c.args.slot (layout_of c.args.table.now) s c.in-Ok-Some.base c.in-Ok-Some.store
+    (sym (wanted_is c.args.fewer c.args.slot (layout_of c.args.table.now) s c.in-Ok-Some.base
+    c.in-Ok-Some.store
     c.len.result image (subst
     (λ (w : Option (List ℕ × List ℕ)). IfSome w
     (λ m. AreBlocks c.args.slot (layout_of c.args.table.now) c.args.status.now.name m.0 m.1))
@@ -40,7 +41,8 @@ returns-in-Ok-Some-clause-fault g c = λ t.
     subst
     (λ (y : Result Scanned StartFault).
     IfErr c.judge_scan.result (λ f. IsOfContents f → y ≡ Err f))
-    (sym (wanted_is c.args.fewer c.args.slot (layout_of c.args.table.now) s c.in-Ok-Some.base c.in-Ok-Some.store
+    (sym (wanted_is c.args.fewer c.args.slot (layout_of c.args.table.now) s c.in-Ok-Some.base
+    c.in-Ok-Some.store
     c.len.result image (subst
     (λ (w : Option (List ℕ × List ℕ)). IfSome w
     (λ m. AreBlocks c.args.slot (layout_of c.args.table.now) c.args.status.now.name m.0 m.1))

@@ -16,7 +16,8 @@ invariant-loop-entry g l = record {
       → scans_in (map (wanted_for l.fewer l.slot (layout_of l.table)) (written_in l.statuses.items))
       (g.D.Disk.seen l.fn.d)
       ≡ (scans_in
-      (map (wanted_for l.fewer l.slot (layout_of l.table)) (written_in (drop l.entry-index l.statuses.items)))
+      (map (wanted_for l.fewer l.slot (layout_of l.table))
+      (written_in (drop l.entry-index l.statuses.items)))
       (g.D.Disk.seen l.fn.d)
       >>= λ rest. Ok (scans_of l.scans.items ++ rest));
   are : All (IsScanned l.slot (layout_of l.table)) (scans_of l.scans.items);

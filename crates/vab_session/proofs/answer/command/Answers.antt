@@ -58,7 +58,8 @@ left_by : (m : UpdateMark) (count target left : ℕ) (entries : Option (List Pla
 left_by m count target left (Some entries) is = absurd cc
 left_by m count target left None is = by_phase m.phase is
   where
-    by_phase : (phase : MarkPhase) → unplanned phase m.slot count ≡ Merging target left → count ≡ left
+    by_phase : (phase : MarkPhase) → unplanned phase m.slot count ≡ Merging target left
+        → count ≡ left
     by_phase marks.Idle is = absurd cc
     by_phase marks.Installing is = absurd cc
     by_phase marks.Staged is = absurd cc

@@ -274,7 +274,8 @@ loop-packet-init g c =
       beyond = λ t. refl;
       size = refl;
       device = c.requires.device;
-      follows = λ t. follows_kept c.args.kept.device _ c.args.kept.device (keeps_all c.args.kept.device);
+      follows = λ t. follows_kept c.args.kept.device _ c.args.kept.device
+          (keeps_all c.args.kept.device);
       stands = c.requires.stands;
       changes = λ t. changes_still g.P.Disk _ _ old old (λ W. changes_none g.P.Disk W old);
       counts = search rules;

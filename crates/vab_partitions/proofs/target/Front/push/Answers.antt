@@ -28,7 +28,8 @@ once : (seen more : List ℕ) (blocks : List ℕ) (told : Bool)
 once seen more blocks told is same t =
     distinct_pairs (seen ++ blocks) (ap is_distinct (sym is) ∙ sym same ∙ t)
 
-pub returns-else-self-ge-MAX_PARTITIONS-clause-room : goal.returns-else-self-ge-MAX_PARTITIONS-clause-room
+pub returns-else-self-ge-MAX_PARTITIONS-clause-room
+    : goal.returns-else-self-ge-MAX_PARTITIONS-clause-room
 returns-else-self-ge-MAX_PARTITIONS-clause-room c =
     let p : Part = c.args.part.now in
     let slot = c.args.slot in

@@ -1,0 +1,71 @@
+// A set that is read and written, and what is wrong with others.
+
+use std::alloc::Global;
+use std::test::*;
+use vab_set::{SetFault, read_set, write_set};
+
+// One image `x` of three bytes for a partition of 4096 bytes.
+const ONE: [u8; 41] = [
+    b'V', b'A', b'B', b'S', b'E', b'T', b'1', b'\n', 1, 0, 0, 0, 1, b'x', 0, 16, 0, 0, 0, 0, 0, 0,
+    0, 0, 0, 0, 0, 0, 0, 0, 3, 0, 0, 0, 0, 0, 0, 0, b'a', b'b', b'c',
+];
+
+fn fault_of(alloc: Global, bytes: &[u8]) -> Option<SetFault> {
+    read_set(alloc, bytes).err()
+}
+
+// The bytes with one changed.
+fn changed(at: usize, byte: u8) -> [u8; 41] {
+    let mut bytes = ONE;
+    if at < 41 {
+        bytes[at] = byte;
+    }
+    bytes
+}
+
+#[test]
+fn one_image_is_read_and_written_again(rt: HostRuntime) -> Result<(), Fail> {
+    let set = read_set(rt.alloc(), &ONE)
+        .ok()
+        .ok_or("the bytes are a set")?;
+    assert_eq!(rt; set.len(), 1);
+    for image in set.as_slice() {
+        assert!(rt; image.name.text() == b"x".as_slice());
+        assert_eq!(rt; image.size, 4096);
+        assert_eq!(rt; image.store, 0);
+        assert!(rt; image.bytes.as_slice() == b"abc".as_slice());
+    }
+    let bytes = write_set(rt.alloc(), &set).ok().ok_or("there is memory")?;
+    assert!(rt; bytes.as_slice() == ONE.as_slice());
+    Ok(())
+}
+
+#[test]
+fn each_fault_is_the_first_from_the_left(rt: HostRuntime) -> Result<(), Fail> {
+    let alloc = rt.alloc();
+    let cuts = [
+        (6usize, SetFault::BadMagic),
+        (8, SetFault::Cut(0)),
+        (11, SetFault::Cut(0)),
+        (12, SetFault::Cut(0)),
+        (40, SetFault::Cut(0)),
+    ];
+    for (len, want) in cuts {
+        assert_eq!(rt; fault_of(alloc, &ONE[..len]), Some(want), "of {len} bytes");
+    }
+    let changes = [
+        (0usize, b'W', SetFault::BadMagic),
+        (8, 33, SetFault::TooMany(33)),
+        (8, 2, SetFault::Cut(1)),
+        (8, 0, SetFault::Trailing),
+        (12, 0, SetFault::BadName(0)),
+        (12, 31, SetFault::Cut(0)),
+        (13, b'-', SetFault::BadName(0)),
+        (15, 0, SetFault::TooBig(0)),
+        (19, 2, SetFault::TooBig(0)),
+    ];
+    for (at, byte, want) in changes {
+        assert_eq!(rt; fault_of(alloc, &changed(at, byte)), Some(want), "at {at}");
+    }
+    Ok(())
+}

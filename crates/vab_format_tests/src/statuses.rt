@@ -1,0 +1,69 @@
+// Statuses on a disk in memory.
+
+use std::test::*;
+use vab_bytes::Name36;
+use vab_disk::{Disk, MemPort};
+use vab_marks::PartStatus;
+use vab_statuses::{StatusFault, Statuses, clear_statuses, first_free, put_status, read_statuses};
+
+fn status(name: &[u8], count: u64) -> Result<PartStatus, Fail> {
+    let name = Name36::parse(name).ok().ok_or("a name is parsed")?;
+    Ok(PartStatus { name, count })
+}
+
+// Puts a status into the first free sector, and answers that sector.
+fn put<D: Disk>(d: &mut D, status: &PartStatus) -> Option<u64> {
+    if d.sectors() < 2081 {
+        return None;
+    }
+    let at = match first_free(d) {
+        Ok(Some(at)) => at,
+        _ => return None,
+    };
+    match put_status(d, at, status) {
+        Ok(()) => Some(at),
+        Err(_) => None,
+    }
+}
+
+// What the sectors hold, where the disk has them.
+fn read<D: Disk>(d: &mut D) -> Option<Result<Statuses, StatusFault>> {
+    if d.sectors() < 2081 {
+        return None;
+    }
+    Some(read_statuses(d))
+}
+
+// The statuses that stand in the first two sectors, or the bad sector.
+fn first_two<D: Disk>(d: &mut D) -> Option<Result<[Option<PartStatus>; 2], StatusFault>> {
+    match read(d)? {
+        Ok(statuses) => {
+            let all = statuses.as_slice();
+            if all.len() < 2 {
+                return None;
+            }
+            Some(Ok([all[0], all[1]]))
+        }
+        Err(fault) => Some(Err(fault)),
+    }
+}
+
+#[test]
+fn statuses_are_put_into_free_sectors(rt: HostRuntime) -> Result<(), Fail> {
+    let port = MemPort::new(rt.alloc(), 2081, Vec::new(rt.alloc()));
+    let mut d = port.ok().ok_or("there is memory for a disk")?;
+    let system = status(b"system_b", 3)?;
+    let vendor = status(b"vendor_b", 0)?;
+    assert_eq!(rt; first_two(&mut d), Some(Ok([None, None])));
+    assert_eq!(rt; put(&mut d, &system), Some(2049));
+    assert_eq!(rt; first_two(&mut d), Some(Ok([Some(system), None])));
+    assert_eq!(rt; put(&mut d, &vendor), Some(2050));
+    assert_eq!(rt; first_two(&mut d), Some(Ok([Some(system), Some(vendor)])));
+    // A second status of one name is in the third sector.
+    assert_eq!(rt; put(&mut d, &system), Some(2051));
+    assert_eq!(rt; first_two(&mut d), Some(Err(StatusFault::Bad(2051))));
+    assert_eq!(rt; d.sectors(), 2081);
+    assert!(rt; clear_statuses(&mut d).is_ok());
+    assert_eq!(rt; first_two(&mut d), Some(Ok([None, None])));
+    Ok(())
+}
