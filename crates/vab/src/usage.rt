@@ -9,6 +9,7 @@ pub const USAGE: &str = "usage: vab DEVICE VERB\n\
     \u{20}   --metadata-max BYTES  most bytes of a copy of a table, 512 to 65536, by 512\n\
     \u{20} serve            a fastboot session over TCP framing on the input and the output\n\
     \u{20}   --fresh               make a device without images first\n\
+    \u{20} install          install the set of images on the input in the slot that isn't running\n\
     \u{20} boot             boot the slot of the highest priority\n\
     \u{20} mark             mark the current slot as one that works\n\
     \u{20} begin-merge      begin to merge the update that runs\n\
@@ -17,6 +18,7 @@ pub const USAGE: &str = "usage: vab DEVICE VERB\n\
     \u{20} activate SLOT    make slot a or b the one to boot next\n\
     \u{20} print NAME       the bytes of a partition, as system_a\n\
     \u{20} digest NAME      their SHA-256\n\
+    \u{20} status           its slots, their images, and where an update stands\n\
     statuses: 0 done, 2 the words aren't taken, 3 the input is malformed, 4 refused,\n\
     \u{20} 5 no device, 6 the disk failed, 7 the input or the output failed,\n\
     \u{20} 8 memory was refused, 9 the file can't be opened or is in use\n\

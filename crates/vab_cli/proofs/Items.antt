@@ -36,7 +36,7 @@ on_ok (Ok x) p = p
 on_ok (Err e) p = tt
 
 -- the last of some steps is one of them
-last_step : {S : Type 0} (s : S) (later : List S) → IsOneOf (s ∷ later) (last_of s later)
+pub last_step : {S : Type 0} (s : S) (later : List S) → IsOneOf (s ∷ later) (last_of s later)
 last_step s [] = inl refl
 last_step s (x ∷ xs) = inr (last_step x xs)
 
@@ -82,6 +82,20 @@ pub replied : (refused : Bool) (c : Command) (m : Mounted)
     → (unless_refused refused c (effect_on m None c)).reply ≡ (effect_on m None c).reply
 replied refused c m verb = ap (λ (e : Effect Mounted). e.reply) (verb_effect refused c m verb)
 
+-- before anything is told of an item
+step_leaves : (size : ℕ) (told : List ℕ) (item : Item Mounted)
+    → 0 < length item.reply
+    → (o : Outcome)
+    → LeavesStep told size item.steps o
+    → LeavesItem (IsIn size) told item o
+step_leaves size told item some o left = record {
+  front = (0, left.told_so_far ∙ sym (append-nil told));
+  step = (left.mounted, left.step, left.means);
+  whole = λ all.
+      absurd
+      (omega (arith, some, ap length (sym left.told_so_far ∙ all), length-append told item.reply));
+}
+
 module _ {D : Type 0} (g : Ghosts D) (size : ℕ) where
   -- what is told of an item, with the disk in its last situation and nothing pending
   saying : {A E : Type 0} (item : Item Mounted) (told : List ℕ) (mid new : D) (r : Result A E)
@@ -121,6 +135,78 @@ module _ {D : Type 0} (g : Ghosts D) (size : ℕ) where
     time = λ rest. saying (line_item s line) (g.told old) old new r says refl is (inl refl) rest;
   }
 
+  -- nothing is done, and nothing told
+  pub none_done : {A E : Type 0} (item : Item Mounted) (d : D) (e : E)
+      → DoesItem g {A = A} size item d d (Err e)
+  none_done item d e = record {
+    told = tt;
+    front = (0, sym (append-nil (g.told d)));
+    stands = tt;
+    settled = λ rest. tt;
+    time = λ rest. record {
+      later = omega arith;
+      keeps = λ t o before there. there;
+      adds = λ t o before there. inl there;
+    };
+  }
+
+  -- nothing is to be told
+  pub none_told : {A E : Type 0} (s : Mounted) (d : D) (x : A)
+      → IsIn size s (g.seen d)
+      → DoesItem g {E = E} size (line_item s []) d d (Ok x)
+  none_told s d x is = record {
+    told = sym (append-nil (g.told d));
+    front = (0, sym (append-nil (g.told d)));
+    stands = is;
+    settled = λ rest. rest;
+    time = λ rest. record {
+      later = omega arith;
+      keeps = λ t o before there. there;
+      adds = λ t o before there. inl there;
+    };
+  }
+
+  -- ---- what is done, and then told
+
+  module _ (item : Item Mounted) (some : 0 < length item.reply) (old mid : D)
+      (told : g.told mid ≡ g.told old)
+      (time : IsAtRest g old
+      → Adds g.moment g.outcomes old mid (LeavesStep (g.told old) size item.steps)) where
+    doing : IsAtRest g old
+        → Adds g.moment g.outcomes old mid (LeavesItem (IsIn size) (g.told old) item)
+    doing rest =
+        adds_wider g.moment g.outcomes old mid _ _ (time rest)
+        (step_leaves size (g.told old) item some)
+
+    -- the disk failed, or memory was refused
+    pub item_fails : {A E : Type 0} (e : E) → DoesItem g {A = A} size item old mid (Err e)
+    item_fails e = record {
+      told = tt;
+      front = (0, told ∙ sym (append-nil (g.told old)));
+      stands = tt;
+      settled = λ rest. tt;
+      time = doing;
+    }
+
+    -- it is done, and its line is told, whole or in part
+    pub item_does : {A E : Type 0} (new : D) (r : Result A E)
+        → IsIn size item.last.now (g.seen mid)
+        → IsOneOf item.steps item.last.now
+        → (IsAtRest g old → IsAtRest g mid)
+        → Says g item.reply mid new r
+        → DoesItem g size item old new r
+    item_does new r there one rests says = record {
+      told = on_ok_map r _ _ (λ is. is ∙ ap (λ (l : List ℕ). l ++ item.reply) told) says.told;
+      front = (let front = says.front in
+          (front.0, front.1 ∙ ap (λ (l : List ℕ). l ++ take front.0 item.reply) told));
+      stands = on_ok r (ap (device size) says.seen ∙ there);
+      settled = λ rest. on_ok r (still_rest item.reply mid new r says (rests rest));
+      time = λ rest.
+          adds_on g.moment g.outcomes old mid new _ _ (doing rest)
+          (saying item (g.told old) mid new r says told there one (rests rest))
+          (λ o leaves. leaves);
+    }
+
   -- ---- a command
 
   module _ (d : Device) (c : Command) (verb : IsVerb c) (W : ℕ → List ℕ → Type 0) (s : Mounted)
@@ -132,28 +218,17 @@ module _ {D : Type 0} (g : Ghosts D) (size : ℕ) where
     same : mounted_on d (g.seen old) ≡ s
     same = mounted_is d size (g.seen old) s represents is
 
-    -- before anything is told of it
-    leaves_item : (o : Outcome)
-        → LeavesStep (g.told old) size (steps_of s (effect_on s None c)) o
-        → LeavesItem (IsIn size) (g.told old) (command_item s c line) o
-    leaves_item o left = record {
-      front = (0, left.told_so_far ∙ sym (append-nil (g.told old)));
-      step = (left.mounted, left.step, left.means);
-      whole = λ all.
-          absurd
-          (omega (arith, some, ap length (sym left.told_so_far ∙ all), length-append (g.told old) line));
-    }
-
-    doing : {result : Result (Device × Reply) DiskFault}
+    command_time : {result : Result (Device × Reply) DiskFault}
         → Does g d None c W old mid result
         → g.is_modelled
         → IsAtRest g old
-        → Adds g.moment g.outcomes old mid (LeavesItem (IsIn size) (g.told old) (command_item s c line))
-    doing does t rest =
-        adds_wider g.moment g.outcomes old mid _ _
-        (subst
+        → Adds g.moment g.outcomes old mid
+        (LeavesStep (g.told old) size (command_item s c line).steps)
+    command_time does t rest =
+        subst
         (λ (n : ℕ).
-        Adds g.moment g.outcomes old mid (LeavesStep (g.told old) n (steps_of s (effect_on s None c))))
+        Adds g.moment g.outcomes old mid
+        (LeavesStep (g.told old) n (steps_of s (effect_on s None c))))
         sized
         (subst
         (λ (x : Mounted).
@@ -165,21 +240,15 @@ module _ {D : Type 0} (g : Ghosts D) (size : ℕ) where
         Adds g.moment g.outcomes old mid
         (LeavesStep (g.told old) (g.size old) (steps_of (mounted_on d (g.seen old)) e)))
         (verb_effect does.refused c (mounted_on d (g.seen old)) verb)
-        (does.time t rest))))
-        leaves_item
+        (does.time t rest)))
 
     -- the disk failed
     pub command_fails : {A E : Type 0} (fault : DiskFault) (e : E)
         → Does g d None c W old mid (Err fault)
         → g.is_modelled
         → DoesItem g {A = A} size (command_item s c line) old mid (Err e)
-    command_fails fault e does t = record {
-      told = tt;
-      front = (0, does.quiet.told t ∙ sym (append-nil (g.told old)));
-      stands = tt;
-      settled = λ rest. tt;
-      time = doing does t;
-    }
+    command_fails fault e does t =
+        item_fails (command_item s c line) some old mid (does.quiet.told t) (command_time does t) e
 
     -- it is done, and its line is told, whole or in part
     pub command_does : {A E : Type 0} (d' : Device) (reply : Reply) (new : D) (r : Result A E)
@@ -187,21 +256,9 @@ module _ {D : Type 0} (g : Ghosts D) (size : ℕ) where
         → g.is_modelled
         → Says g line mid new r
         → DoesItem g size (command_item s c line) old new r
-    command_does d' reply new r does t says = record {
-      told = on_ok_map r _ _
-          (λ is'. is' ∙ ap (λ (l : List ℕ). l ++ line) (does.quiet.told t)) says.told;
-      front = (let front = says.front in (
-        front.0,
-        front.1 ∙ ap (λ (l : List ℕ). l ++ take front.0 line) (does.quiet.told t),
-      ));
-      stands = on_ok r (ap (device size) says.seen ∙ there);
-      settled = λ rest. on_ok r (still_rest line mid new r says (does.rest t rest));
-      time = λ rest.
-          adds_on g.moment g.outcomes old mid new _ _ (doing does t rest)
-          (saying (command_item s c line) (g.told old) mid new r says (does.quiet.told t) there
-          (last_step s (effect_on s None c).later) (does.rest t rest))
-          (λ o leaves. leaves);
-    }
+    command_does d' reply new r does t says =
+        item_does (command_item s c line) some old mid (does.quiet.told t) (command_time does t)
+        new r there (last_step s (effect_on s None c).later) (does.rest t) says
       where
         there : IsIn size (after_of s (effect_on s None c)) (g.seen mid)
         there =
@@ -212,7 +269,10 @@ module _ {D : Type 0} (g : Ghosts D) (size : ℕ) where
             (λ (e : Effect Mounted).
             (let r : Result Mounted StartFault = Ok (after_of (mounted_on d (g.seen old)) e) in r))
             (verb_effect does.refused c (mounted_on d (g.seen old)) verb)
-            ∙ ap (λ (x : Mounted). (let r : Result Mounted StartFault = Ok (after_of x (effect_on x None c)) in r)) same
+            ∙ ap
+            (λ (x : Mounted).
+            (let r : Result Mounted StartFault = Ok (after_of x (effect_on x None c)) in r))
+            same
 
 -- an image's bytes, or why there are none, are told as a line is: nothing changes
 pub print_item : (s : Mounted) (name told : List ℕ)

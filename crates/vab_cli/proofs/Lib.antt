@@ -1,5 +1,7 @@
 mod Blocks
 mod FreshTouching
+mod InputFaults
+mod Installs
 mod Items
 mod Lines
 mod Makings

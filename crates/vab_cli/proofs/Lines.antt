@@ -1,6 +1,6 @@
 -- Lines of commands.
 use Rattle.std.proofs.Common.{◌≡◌, ◌∙◌, ◌⊎◌, inl, inr, ◌<◌, ℕ, List, [], ◌∷◌, ◌++◌, length, codes, decimal}
-use Rattle.std.proofs.Common.{refl, sym, ap, arith, length-append, Some, None, ◌+◌}
+use Rattle.std.proofs.Common.{refl, sym, ap, subst, arith, length-append, Some, None, ◌+◌}
 use Rattle.std.specs.Prelude.{Option}
 use Rattle.hex.specs.Hex.{encode_lower}
 use Rattle.vab_disk.specs.Disk.{Image}
@@ -24,9 +24,9 @@ use Rattle.vab_session.specs.Responses.{left_of}
 use Rattle.vab_cli.specs.Codes.{reply_status}
 use Rattle.vab_cli.specs.Verbs.{line, done_line, reply_line, command_line, verb_status}
 use Rattle.vab_cli.specs.declared.status.Status.{Status}
-use Rattle.vab_cli.specs.declared.status.Status.TheVariants.{Done, Refused}
+use Rattle.vab_cli.specs.Runs.{Held, IsFailed}
 
-line_some : (text : List ℕ) → 0 < length (line text)
+pub line_some : (text : List ℕ) → 0 < length (line text)
 line_some text = omega (arith, length-append text (10 ∷ []))
 
 done_some : (c : Command) (current left : ℕ) → 0 < length (done_line c current left)
@@ -59,20 +59,24 @@ reply_some c current left replies.Merged = line_some (codes "merged")
 reply_some c current left (replies.Refused refusal) =
     line_some (codes "refused: " ++ refusal_text refusal)
 
--- a command ends as done or as refused
-reply_kind : (r : Reply) → (reply_status r ≡ Done) ⊎ (reply_status r ≡ Refused)
-reply_kind replies.Done = inl refl
-reply_kind (replies.Booted slot) = inl refl
-reply_kind (replies.Bytes name) = inl refl
-reply_kind (replies.Digest sum) = inl refl
-reply_kind (replies.Left blocks) = inl refl
-reply_kind replies.Merged = inl refl
-reply_kind (replies.Refused refusal) = inr refl
+-- where a command was replied to, neither the disk nor the port failed
+pub held_reply : (r : Reply) → Held (reply_status r)
+held_reply replies.Done = tt
+held_reply (replies.Booted slot) = tt
+held_reply (replies.Bytes name) = tt
+held_reply (replies.Digest sum) = tt
+held_reply (replies.Left blocks) = tt
+held_reply replies.Merged = tt
+held_reply (replies.Refused refusal) = tt
 
-pub verb_kind : (m : Mounted) (c : Command) → (verb_status m c ≡ Done) ⊎ (verb_status m c ≡ Refused)
-verb_kind m c = reply_kind (effect_on m None c).reply
+pub not_failed : (status : Status) → Held status → IsFailed status → ⊥
+not_failed status held (inl disk) = subst Held disk held
+not_failed status held (inr port) = subst Held port held
 
-current_is : (d : Device) (image : Image) → (state_on d image).control.current ≡ d.control.current
+pub verb_kind : (m : Mounted) (c : Command) → IsFailed (verb_status m c) → ⊥
+verb_kind m c = not_failed (verb_status m c) (held_reply (effect_on m None c).reply)
+
+pub current_is : (d : Device) (image : Image) → (state_on d image).control.current ≡ d.control.current
 unfolding state_on
 current_is d image = refl
 
@@ -141,7 +145,7 @@ left_by m count source left None is = by_phase m.phase is
     by_phase marks.Merging is = absurd cc
     by_phase marks.Completed is = absurd cc
 
-left_here : (d : Device) (image : Image) (source left : ℕ)
+pub left_here : (d : Device) (image : Image) (source left : ℕ)
     → (state_on d image).phase ≡ Staged source left
     → count_at d.a + count_at d.b ≡ left
 unfolding state_on

@@ -33,6 +33,9 @@ use Rattle.vab_cli.specs.declared.status.Status.TheVariants.{Done, Usage, Malfor
 use Rattle.vab_cli.specs.declared.status.Status.TheVariants.{Disk, Port, NoMemory}
 use Rattle.vab_cli.specs.Codes.{make_status}
 use Rattle.vab_cli.specs.Counts.{HearsNothing, IsSteady}
+use Rattle.vab_exchanges.specs.Items.{Item}
+use Rattle.vab_cli.specs.Installing.{Installs, RunsOrFails, install_item, install_status}
+use Rattle.vab_cli.specs.Paging.{TellsPage, page_item}
 use Rattle.vab_cli.specs.Program.{DoesVerb}
 use Rattle.vab_cli.specs.Runs.{NoFault, RunsSession, RunsItem, FailsBefore}
 use Rattle.vab_cli.specs.Runs.{RunsNone, RunsRefused, RunsMaking, FailsMaking}
@@ -66,6 +69,7 @@ none_ends : (m : Meaning) → is_end (command_of m) ≡ false
 unfolding is_end
 none_ends (Make limit max) = refl
 none_ends (Serve fresh) = refl
+none_ends verbs.Install = refl
 none_ends verbs.Boot = refl
 none_ends verbs.Mark = refl
 none_ends verbs.BeginMerge = refl
@@ -74,6 +78,7 @@ none_ends verbs.Cancel = refl
 none_ends (verbs.Activate slot) = refl
 none_ends (verbs.Print name) = refl
 none_ends (verbs.Digest name) = refl
+none_ends verbs.Status = refl
 
 ends_none : (m : Meaning) (c : Command) → command_of m ≡ Some c → is_finish c ≡ false
 unfolding is_end
@@ -196,6 +201,8 @@ module _ {D : Type 0}
     malformed = λ t limit max is. is_command m (Make limit max) c some is refl;
     touches_made = λ t limit max is. is_command m (Make limit max) c some is refl;
     end = λ t limit max is. is_command m (Make limit max) c some is refl;
+    install = λ is. is_command m verbs.Install c some is refl;
+    tells = λ is. is_command m verbs.Status c some is refl;
     disk = disk;
     port = port;
     steady = steady;
@@ -210,6 +217,8 @@ module _ {D : Type 0}
         one (item_whole c s held (runs t s stands));
     complete_serve = λ t held is. is_command m (Serve false) c some is refl;
     complete_fresh = λ t held is. is_command m (Serve true) c some is refl;
+    complete_install = λ t held is. is_command m verbs.Install c some is refl;
+    complete_page = λ t held is. is_command m verbs.Status c some is refl;
   }
 
   -- a session over the device of the disk
@@ -253,6 +262,8 @@ module _ {D : Type 0}
     malformed = λ t limit max other. let both = sym is ∙ other in cc;
     touches_made = λ t limit max other. let both = sym is ∙ other in cc;
     end = λ t limit max other. let both = sym is ∙ other in cc;
+    install = λ other. let both = sym is ∙ other in cc;
+    tells = λ other. let both = sym is ∙ other in cc;
     disk = disk;
     port = port;
     steady = steady;
@@ -262,6 +273,8 @@ module _ {D : Type 0}
         completed g (g.size old) (λ o. ⊥) s old new status (runs t s stands) (λ fails. fails.early)
         (no_disk held) (no_port held);
     complete_fresh = λ t held other. let both = sym is ∙ other in cc;
+    complete_install = λ t held other. let both = sym is ∙ other in cc;
+    complete_page = λ t held other. let both = sym is ∙ other in cc;
   }
 
   -- a session over a device that is made first
@@ -301,6 +314,8 @@ module _ {D : Type 0}
     malformed = λ t limit max other. let both = sym is ∙ other in cc;
     touches_made = λ t limit max other. let both = sym is ∙ other in cc;
     end = λ t limit max other. let both = sym is ∙ other in cc;
+    install = λ other. let both = sym is ∙ other in cc;
+    tells = λ other. let both = sym is ∙ other in cc;
     disk = disk;
     port = port;
     steady = steady;
@@ -310,6 +325,8 @@ module _ {D : Type 0}
     complete_fresh = λ t held same enough.
         completed g (g.size old) _ _ old new status (runs t enough) (λ fails. fails.early)
         (no_disk held) (no_port held);
+    complete_install = λ t held other. let both = sym is ∙ other in cc;
+    complete_page = λ t held other. let both = sym is ∙ other in cc;
   }
 
   -- a device is made
@@ -381,6 +398,8 @@ module _ {D : Type 0}
         subst (λ (x : ℕ). Changes g (InSectors (IsOfMaking set x)) old new) most
         (touches t set spelled);
     end = λ t l x same. end t;
+    install = λ other. let both = sym is ∙ other in cc;
+    tells = λ other. let both = sym is ∙ other in cc;
     disk = disk;
     port = port;
     steady = steady;
@@ -388,4 +407,65 @@ module _ {D : Type 0}
     complete = λ t held c some. no_command m (Make limit max) c is refl some;
     complete_serve = λ t held other. let both = sym is ∙ other in cc;
     complete_fresh = λ t held other. let both = sym is ∙ other in cc;
+    complete_install = λ t held other. let both = sym is ∙ other in cc;
+    complete_page = λ t held other. let both = sym is ∙ other in cc;
+  }
+
+  -- one item is done whole, or memory is refused
+  told_whole : (s : Mounted) (item : Item Mounted) (ends : Status)
+      → NoFault (g.faults old) (g.faults new)
+      → RunsOrFails g old new status s item ends
+      → ((status ≡ ends) × (g.told new ≡ g.told old ++ item.reply)) ⊎ (status ≡ NoMemory)
+  told_whole s item ends held (inl runs) =
+      ⊎_elim
+      (λ is. inl (is, runs.whole is))
+      (λ failed. absurd (⊎_elim (no_disk held) (no_port held) failed))
+      runs.status_is
+  told_whole s item ends held (inr (inl short)) = inr short.memory
+  told_whole s item ends held (inr (inr fails)) =
+      ⊎_elim (λ is. absurd (no_disk held is)) (λ memory. inr memory) fails.early
+
+  -- a verb that is none of these
+  pub other_verb : (n : Meaning)
+      → m ≡ n
+      → command_of n ≡ None
+      → ((fresh : Bool) → n ≡ Serve fresh → ⊥)
+      → ((limit max : ℕ) → n ≡ Make limit max → ⊥)
+      → (n ≡ verbs.Install → Installs g old new status)
+      → (n ≡ verbs.Status → TellsPage g old new status)
+      → DoesVerb g m old new status
+  other_verb n is none not_serve not_make install tells = record {
+    item = λ t c some. no_command m n c is none some;
+    none = λ t c some. no_command m n c is none some;
+    touches = λ t c some. no_command m n c is none some;
+    alone = λ t c some. no_command m n c is none some;
+    quiet = λ t c some. no_command m n c is none some;
+    serve = λ t other. absurd (not_serve false (sym is ∙ other));
+    none_served = λ t other. absurd (not_serve false (sym is ∙ other));
+    touches_served = λ t other. absurd (not_serve false (sym is ∙ other));
+    touches_unmerged = λ t other. absurd (not_serve false (sym is ∙ other));
+    touches_fresh = λ t other. absurd (not_serve true (sym is ∙ other));
+    touches_fresh_unmerged = λ t other. absurd (not_serve true (sym is ∙ other));
+    fresh = λ t other. absurd (not_serve true (sym is ∙ other));
+    small = λ t other. absurd (not_serve true (sym is ∙ other));
+    too_small = λ other. absurd (not_serve true (sym is ∙ other));
+    made = λ t limit max other. absurd (not_make limit max (sym is ∙ other));
+    refused = λ t limit max other. absurd (not_make limit max (sym is ∙ other));
+    malformed = λ t limit max other. absurd (not_make limit max (sym is ∙ other));
+    touches_made = λ t limit max other. absurd (not_make limit max (sym is ∙ other));
+    end = λ t limit max other. absurd (not_make limit max (sym is ∙ other));
+    install = λ other. install (sym is ∙ other);
+    tells = λ other. tells (sym is ∙ other);
+    disk = disk;
+    port = port;
+    steady = steady;
+    words = words;
+    complete = λ t held c some. no_command m n c is none some;
+    complete_serve = λ t held other. absurd (not_serve false (sym is ∙ other));
+    complete_fresh = λ t held other. absurd (not_serve true (sym is ∙ other));
+    complete_install = λ t held other set fits spelled s stands.
+        told_whole s (install_item s set) (install_status s set) held
+        ((install (sym is ∙ other)).item t set fits spelled s stands);
+    complete_page = λ t held other s stands.
+        told_whole s (page_item s) Done held ((tells (sym is ∙ other)).item t s stands);
   }

@@ -5,7 +5,7 @@ use Rattle.std.proofs.Common.{arith, length-append}
 use Rattle.std.proofs.lemmas.List.{append-nil}
 use Rattle.std.specs.Result.{is_err}
 use Rattle.vab_disk.specs.declared.disk.Disk.{Ghosts}
-use Rattle.vab_disk.specs.Disk.{Image, Outcome, Leaves, SameHoldings, Adds}
+use Rattle.vab_disk.specs.Disk.{Image, Outcome, Leaves, SameHoldings, Adds, Nothing}
 use Rattle.vab_disk.specs.Calls.{IsAtRest}
 use Rattle.vab_disk.specs.Port.{LeavesSaying}
 use Rattle.vab_disk.specs.Written.{same_image}
@@ -16,7 +16,7 @@ use Rattle.vab_device.specs.Faults.{IsOfContents, IsOfDisk}
 use Rattle.vab_device.specs.Mounted.{Mounted}
 use Rattle.vab_device.specs.Reading.{device, IsIn}
 use Rattle.vab_recover.specs.Repairs.{LeavesSame}
-use Rattle.vab_model.specs.Commands.{Command}
+use Rattle.vab_model.specs.Effects.{IsOneOf}
 use Rattle.vab_exchanges.specs.Items.{Item}
 use Rattle.vab_exchanges.specs.Runs.{CrashesWithin, LeavesItem}
 use Rattle.vab_exchanges.proofs.RunLaws.{within_item}
@@ -26,9 +26,45 @@ use Rattle.vab_cli.specs.declared.status.Status.TheVariants.{NoMemory}
 use Rattle.vab_cli.specs.Codes.{start_status}
 use Rattle.vab_cli.specs.Opening.{Opens}
 use Rattle.vab_cli.specs.Runs.{IsEarly, IsFailed, LeavesTelling, MeansAs, RunsItem, FailsBefore}
-use Rattle.vab_cli.specs.Runs.{RunsNone}
-use Rattle.vab_cli.specs.Telling.{DoesItem}
-use Rattle.vab_cli.specs.Verbs.{command_item}
+use Rattle.vab_cli.specs.Runs.{RunsNone, RunsShort}
+use Rattle.vab_cli.specs.Telling.{DoesItem, LeavesShort}
+
+-- Nothing is told, and the disk means the same in every outcome.
+pub record MeansSame {D : Type 0} (g : Ghosts D) (size : ℕ) (old new : D) : Type 0 where
+  pub told : g.told new ≡ g.told old
+  pub device : device size (g.seen new) ≡ device size (g.seen old)
+  pub settled : IsAtRest g old → IsAtRest g new
+  pub time : IsAtRest g old
+      → Adds g.moment g.outcomes old new (LeavesSame (g.told old) size (g.seen old))
+
+-- as where a device is opened
+pub same_opened : {D : Type 0} (g : Ghosts D) (size : ℕ) (old new : D)
+    → Opens g size old new
+    → MeansSame g size old new
+same_opened g size old new opens = record {
+  told = opens.told;
+  device = opens.device;
+  settled = opens.settled;
+  time = opens.time;
+}
+
+-- and where input is heard behind that
+pub same_heard : {D : Type 0} (g : Ghosts D) (size : ℕ) (old mid new : D)
+    → MeansSame g size old mid
+    → g.told new ≡ g.told mid
+    → g.seen new ≡ g.seen mid
+    → SameHoldings (g.may_leave mid) (g.may_leave new)
+    → Adds g.moment g.outcomes mid new Nothing
+    → MeansSame g size old new
+same_heard g size old mid new same told seen crash time = record {
+  told = told ∙ same.told;
+  device = ap (device size) seen ∙ same.device;
+  settled = λ rest s b held.
+      same.settled rest s b (crash.no_more s b held) ∙ ap (λ (x : Image). x s) (sym seen);
+  time = λ rest.
+      adds_on g.moment g.outcomes old mid new (LeavesSame (g.told old) size (g.seen old)) Nothing
+      (same.time rest) time (λ o none. absurd none);
+}
 
 -- ---- why a device isn't opened
 
@@ -234,54 +270,53 @@ module _ {D : Type 0}
 
   -- ---- one item
 
-  module _ (s : Mounted) (c : Command) (t : List ℕ)
-      (some : (0 < length t)
-      ⊎ ((image : Image) → IsIn size s image → IsIn size (command_item s c t).last.now image)) where
-    item : Item Mounted
-    item = command_item s c t
-
+  module _ (s : Mounted) (item : Item Mounted)
+      (first : IsOneOf item.steps s)
+      (some : (0 < length item.reply)
+      ⊎ ((image : Image) → IsIn size s image → IsIn size item.last.now image)) where
     -- before anything of it is done
     before_item : (told : List ℕ) (o : Outcome)
         → o.told ≡ told
         → IsIn size s o.image
-        → LeavesItem (IsIn size) told (command_item s c t) o
+        → LeavesItem (IsIn size) told item o
     before_item told o same is = record {
       front = (0, same ∙ sym (append-nil told));
-      step = (s, inl refl, is);
+      step = (s, first, is);
       whole = λ all.
           ⊎_elim
-          (λ long. absurd (omega (arith, long, ap length (sym same ∙ all), length-append told t)))
+          (λ long.
+          absurd (omega (arith, long, ap length (sym same ∙ all), length-append told item.reply)))
           (λ last. last o.image is)
           some;
     }
 
     -- what an item leaves is within the run of it alone
     within_one : (told : List ℕ) (o : Outcome)
-        → LeavesItem (IsIn size) told (command_item s c t) o
-        → CrashesWithin (IsIn size) [] s (command_item s c t ∷ []) told o
+        → LeavesItem (IsIn size) told item o
+        → CrashesWithin (IsIn size) [] s (item ∷ []) told o
     within_one told o leaves =
-        within_item (IsIn size) [] s [] [] (command_item s c t) told told tt (sym (append-nil told)) o leaves
+        within_item (IsIn size) [] s [] [] item told told tt (sym (append-nil told)) o leaves
 
     -- every outcome of an item that is done on a device that is opened
     item_cuts : (old mid new : D)
-        → Opens g size old mid
+        → MeansSame g size old mid
         → IsIn size s (g.seen old)
-        → Adds g.moment g.outcomes mid new (LeavesItem (IsIn size) (g.told mid) (command_item s c t))
+        → Adds g.moment g.outcomes mid new (LeavesItem (IsIn size) (g.told mid) item)
         → IsAtRest g old
         → (o : Outcome)
         → g.outcomes new (g.moment old) o
-        → CrashesWithin (IsIn size) [] s (command_item s c t ∷ []) (g.told old) o
+        → CrashesWithin (IsIn size) [] s (item ∷ []) (g.told old) o
     item_cuts old mid new opens is does rest o at =
         within_one (g.told old) o
         (all_since g.moment g.outcomes old new P (Leaves (g.told old) (g.may_leave old))
         (adds_on g.moment g.outcomes old mid new P
-        (LeavesItem (IsIn size) (g.told mid) (command_item s c t))
+        (LeavesItem (IsIn size) (g.told mid) item)
         (adds_wider g.moment g.outcomes old mid (LeavesSame (g.told old) size (g.seen old)) P
         (opens.time rest)
         (λ o' same. before_item (g.told old) o' same.told_so_far (same.same ∙ is)))
         does
         (λ o' leaves.
-        subst (λ (l : List ℕ). LeavesItem (IsIn size) l (command_item s c t) o') opens.told leaves))
+        subst (λ (l : List ℕ). LeavesItem (IsIn size) l item o') opens.told leaves))
         (only_now old)
         (λ o' leaves.
         before_item (g.told old) o' leaves.told_so_far
@@ -289,21 +324,21 @@ module _ {D : Type 0}
         o at)
       where
         P : Outcome → Type 0
-        P = LeavesItem (IsIn size) (g.told old) (command_item s c t)
+        P = LeavesItem (IsIn size) (g.told old) item
 
     -- it is done, and ends so
     pub runs_done : (ends : Status) (old mid new : D)
-        → Opens g size old mid
+        → MeansSame g size old mid
         → IsIn size s (g.seen old)
         → (status : Status)
         → status ≡ ends
-        → DoesItem g {A = Status} {E = Status} size (command_item s c t) mid new (Ok status)
-        → RunsItem g size s (command_item s c t) ends old new status
+        → DoesItem g {A = Status} {E = Status} size item mid new (Ok status)
+        → RunsItem g size s item ends old new status
     runs_done ends old mid new opens stands status is does = record {
       status_is = inl is;
       front = (let front = does.front in
-          (front.0, front.1 ∙ ap (λ (l : List ℕ). l ++ take front.0 t) opens.told));
-      whole = λ same. does.told ∙ ap (λ (l : List ℕ). l ++ t) opens.told;
+          (front.0, front.1 ∙ ap (λ (l : List ℕ). l ++ take front.0 item.reply) opens.told));
+      whole = λ same. does.told ∙ ap (λ (l : List ℕ). l ++ item.reply) opens.told;
       stands = λ same. does.stands;
       settled = λ rest same. does.settled (opens.settled rest);
       every_cut = λ rest o at.
@@ -312,29 +347,44 @@ module _ {D : Type 0}
 
     -- the disk or the port failed
     pub runs_failed : (ends : Status) (old mid new : D)
-        → Opens g size old mid
+        → MeansSame g size old mid
         → IsIn size s (g.seen old)
         → (status : Status)
         → IsFailed status
-        → (ends ≡ Done) ⊎ (ends ≡ Refused)
-        → DoesItem g {A = Status} {E = Status} size (command_item s c t) mid new (Err status)
-        → RunsItem g size s (command_item s c t) ends old new status
+        → (IsFailed ends → ⊥)
+        → DoesItem g {A = Status} {E = Status} size item mid new (Err status)
+        → RunsItem g size s item ends old new status
     runs_failed ends old mid new opens stands status failed kind does = record {
       status_is = inr failed;
       front = (let front = does.front in
-          (front.0, front.1 ∙ ap (λ (l : List ℕ). l ++ take front.0 t) opens.told));
-      whole = λ same. absurd (never same failed kind);
-      stands = λ same. absurd (never same failed kind);
-      settled = λ rest same. absurd (never same failed kind);
+          (front.0, front.1 ∙ ap (λ (l : List ℕ). l ++ take front.0 item.reply) opens.told));
+      whole = λ same. absurd (never same);
+      stands = λ same. absurd (never same);
+      settled = λ rest same. absurd (never same);
       every_cut = λ rest o at.
           item_cuts old mid new opens stands (does.time (opens.settled rest)) rest o at;
     }
       where
-        never : status ≡ ends → IsFailed status → (ends ≡ Done) ⊎ (ends ≡ Refused) → ⊥
-        never same (inl disk) (inl done) = cc
-        never same (inl disk) (inr refused) = cc
-        never same (inr port) (inl done) = cc
-        never same (inr port) (inr refused) = cc
+        never : status ≡ ends → ⊥
+        never same = kind (subst IsFailed same failed)
+
+    -- Memory was refused in one of its steps.
+    pub runs_short : (old mid new : D)
+        → MeansSame g size old mid
+        → IsIn size s (g.seen old)
+        → LeavesShort g size item mid new
+        → (status : Status)
+        → status ≡ NoMemory
+        → DoesItem g {A = Status} {E = Status} size item mid new (Err status)
+        → RunsShort g size s item old new status
+    runs_short old mid new opens stands short status is does = record {
+      memory = is;
+      told = short.told ∙ opens.told;
+      step = short.step;
+      settled = λ rest. short.settled (opens.settled rest);
+      every_cut = λ rest o at.
+          item_cuts old mid new opens stands (does.time (opens.settled rest)) rest o at;
+    }
 
 -- what was said of an item with the size of a disk, of the same size
 pub does_sized : {D A E : Type 0}

@@ -1,6 +1,8 @@
 pub mod Codes
 pub mod Counts
+pub mod Installing
 pub mod Opening
+pub mod Paging
 pub mod Program
 pub mod Runs
 pub mod Telling

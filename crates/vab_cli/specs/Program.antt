@@ -18,10 +18,12 @@ use Rattle.vab_make.specs.declared.fault.MakeFault.{MakeFault}
 use Rattle.vab_make.specs.Made.{refusal_of, made_device_of}
 use Rattle.vab_make.specs.Making.{LeavesMaking}
 use Rattle.vab_make.specs.Touched.{IsOfMaking}
-use Rattle.vab_words.specs.Verbs.{Meaning, Make, Serve}
+use Rattle.vab_words.specs.Verbs.{Meaning, Make, Serve, Install}
+use Rattle.vab_words.specs.Verbs as verbs
 use Rattle.vab_exchanges.specs.Session.{Exchange, End, IsSession}
 use Rattle.vab_exchanges.specs.Items.{output_of}
 use Rattle.vab_commands.specs.Touched.{IsOfAll, IsOfCommands}
+use Rattle.vab_status.specs.Page.{page}
 use Rattle.vab_session.specs.Alone.{IsAlone, StandsAlone}
 use Rattle.vab_session.specs.Merges.{MergesNothing}
 use Rattle.vab_session.specs.Responses.{response}
@@ -31,6 +33,8 @@ use Rattle.vab_cli.specs.declared.status.Status.TheVariants.{Done, Usage, Malfor
 use Rattle.vab_cli.specs.declared.status.Status.TheVariants.{Disk, Port, NoMemory}
 use Rattle.vab_cli.specs.Codes.{make_status}
 use Rattle.vab_cli.specs.Counts.{HearsNothing, IsSteady}
+use Rattle.vab_cli.specs.Installing.{Installs, install_told, install_status}
+use Rattle.vab_cli.specs.Paging.{TellsPage}
 use Rattle.vab_cli.specs.Runs.{SaysEnd, Held, NoFault, RunsSession, RunsItem, FailsBefore, RunsNone}
 use Rattle.vab_cli.specs.Runs.{RunsRefused, RunsMaking, FailsMaking}
 use Rattle.vab_cli.specs.Touched.{IsOfVerb, IsOfServing, IsOfFresh}
@@ -195,6 +199,9 @@ pub record DoesVerb {D : Type 0}
       → m ≡ Make limit max
       → status ≡ Done
       → g.input_left new ≡ []
+  -- `install` and `status`.
+  pub install : m ≡ Install → Installs g old new status
+  pub tells : m ≡ verbs.Status → TellsPage g old new status
   -- Status 6 comes only where the count of the disk's faults rose, and 7 only where that of the
   -- source or the sink did. With any other the counts are as they were.
   pub disk : status ≡ Disk → Rose (g.faults old).disk (g.faults new).disk
@@ -223,3 +230,19 @@ pub record DoesVerb {D : Type 0}
       → m ≡ Serve true
       → 6152 ≤ g.size old
       → AnswersAll g (made_device_of [] 0 65536 (g.size old)) old new status ⊎ (status ≡ NoMemory)
+  pub complete_install : g.is_modelled
+      → NoFault (g.faults old) (g.faults new)
+      → m ≡ Install
+      → (set : List SetImage)
+      → length (g.input_left old) ≤ 2 ^ 32
+      → set_of (g.input_left old) ≡ Ok set
+      → (s : Mounted)
+      → IsIn (g.size old) s (g.seen old)
+      → ((status ≡ install_status s set) × (g.told new ≡ g.told old ++ install_told s set))
+      ⊎ (status ≡ NoMemory)
+  pub complete_page : g.is_modelled
+      → NoFault (g.faults old) (g.faults new)
+      → m ≡ verbs.Status
+      → (s : Mounted)
+      → IsIn (g.size old) s (g.seen old)
+      → ((status ≡ Done) × (g.told new ≡ g.told old ++ page s.state)) ⊎ (status ≡ NoMemory)

@@ -6,6 +6,7 @@ use Rattle.vab_disk.specs.Disk.{Image, Outcome, Adds, Faults, Rose}
 use Rattle.vab_disk.specs.Calls.{IsAtRest}
 use Rattle.vab_set.specs.declared.set.SetImage.{SetImage}
 use Rattle.vab_model.specs.declared.state.Image.{Image as ImageOfSlot}
+use Rattle.vab_model.specs.Effects.{IsOneOf}
 use Rattle.vab_device.specs.Mounted.{Mounted}
 use Rattle.vab_device.specs.Reading.{device, IsIn}
 use Rattle.vab_make.specs.Made.{made_device_of}
@@ -176,6 +177,22 @@ module _ {D : Type 0} (g : Ghosts D) (size : ℕ) where
     pub whole : status ≡ ends → g.told new ≡ g.told old ++ item.reply
     pub stands : status ≡ ends → IsIn size item.last.now (g.seen new)
     pub settled : IsAtRest g old → status ≡ ends → IsAtRest g new
+    pub every_cut : IsAtRest g old
+        → (o : Outcome)
+        → g.outcomes new (g.moment old) o
+        → CrashesWithin (IsIn size) [] first (item ∷ []) (g.told old) o
+
+  -- Memory was refused behind the opening: nothing is told, and the disk is in one of the item's
+  -- steps, however power is cut.
+  pub record RunsShort
+      (first : Mounted)
+      (item : Item Mounted)
+      (old new : D)
+      (status : Status) : Type 0 where
+    pub memory : status ≡ NoMemory
+    pub told : g.told new ≡ g.told old
+    pub step : (s : Mounted) × IsOneOf item.steps s × IsIn size s (g.seen new)
+    pub settled : IsAtRest g old → IsAtRest g new
     pub every_cut : IsAtRest g old
         → (o : Outcome)
         → g.outcomes new (g.moment old) o

@@ -4,6 +4,7 @@ use Rattle.vab_disk.specs.declared.disk.Disk.{Ghosts}
 use Rattle.vab_disk.specs.Disk.{SameHoldings, Adds}
 use Rattle.vab_disk.specs.Calls.{IsAtRest}
 use Rattle.vab_disk.specs.Port.{LeavesSaying}
+use Rattle.vab_model.specs.Effects.{IsOneOf}
 use Rattle.vab_device.specs.Mounted.{Mounted}
 use Rattle.vab_device.specs.Reading.{IsIn}
 use Rattle.vab_exchanges.specs.Items.{Item}
@@ -36,6 +37,12 @@ module _ {D : Type 0} (g : Ghosts D) where
     pub settled : IsAtRest g old → OnOk result (IsAtRest g new)
     pub time : IsAtRest g old
         → Adds g.moment g.outcomes old new (LeavesItem (IsIn size) (g.told old) item)
+
+  -- Nothing is told, and the disk is in one of the item's steps.
+  pub record LeavesShort (size : ℕ) (item : Item Mounted) (old new : D) : Type 0 where
+    pub told : g.told new ≡ g.told old
+    pub step : (s : Mounted) × IsOneOf item.steps s × IsIn size s (g.seen new)
+    pub settled : IsAtRest g old → IsAtRest g new
 
   -- A front of the line is told, and all of it where the run ends so; the disk stays.
   pub record Tells (line : List ℕ) (status : Status) (old new : D) (result : Status) : Type 0 where

@@ -32,6 +32,7 @@ use Rattle.vab_cli.specs.Codes.{reply_status}
 abbrev pub command_of : Meaning → Option Command
 command_of (words.Make limit metadata_max) = None
 command_of (words.Serve fresh) = None
+command_of words.Install = None
 command_of words.Boot = Some Boot
 command_of words.Mark = Some Mark
 command_of words.BeginMerge = Some BeginMerge
@@ -40,6 +41,7 @@ command_of words.Cancel = Some Cancel
 command_of (words.Activate slot) = Some (SetActive slot)
 command_of (words.Print name) = Some (Print name)
 command_of (words.Digest name) = Some (Digest name)
+command_of words.Status = None
 
 -- it is one of a verb
 abbrev pub IsVerb : Command → Type 0

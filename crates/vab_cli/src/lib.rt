@@ -3,9 +3,11 @@
 #![tactic(auto)]
 
 mod commands;
+mod installing;
 mod line;
 mod making;
 mod opening;
+mod paging;
 mod printing;
 mod program;
 mod serving;

@@ -1,6 +1,7 @@
 //! The lines that verbs tell.
 ghost use Rattle.std.specs.Prelude.{◌≡◌, ◌≤◌, ◌∷◌, ◌++◌, [], length, decimal};
 ghost use Rattle.vab_model.specs.Commands.{command_of};
+ghost use Rattle.vab_cli.specs.Installing.{installed_line};
 ghost use Rattle.vab_cli.specs.Verbs as verbs;
 
 use arrayvec::ArrayVec;
@@ -43,6 +44,18 @@ fn put_left(out: &mut Line, head: &[u8], blocks: u64)
 {
     put(head, out);
     put_decimal(blocks, out);
+    put(b"\n", out);
+}
+
+/// The line of so many images that are installed, with so many blocks left to merge.
+pub(crate) fn installed_line(images: u64, left: u64, out: &mut Line)
+    requires { out.old.items ≡ [] }
+    ensures { out.new.items ≡ installed_line images left }
+{
+    put(b"installed ", out);
+    put_decimal(images, out);
+    put(b" images, left ", out);
+    put_decimal(left, out);
     put(b"\n", out);
 }
 

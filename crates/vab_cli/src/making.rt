@@ -27,8 +27,8 @@ use vab_lines::{made_line, make_refused_line};
 use vab_make::{MakeFault, capacity, make_device, set_blocks};
 use vab_set::{Set, read_set};
 
-// The most bytes of a set.
-const MAX_SET: u64 = 1 << 32;
+/// The most bytes of a set.
+pub(crate) const MAX_SET: u64 = 1 << 32;
 
 // Tells a line, and ends with the status.
 fn tell<P: Port>(port: &mut P, line: &[u8], status: Status) -> Status

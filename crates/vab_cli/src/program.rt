@@ -5,7 +5,9 @@ ghost use Rattle.vab_cli.specs.Program.{DoesVerb};
 
 use crate::Status;
 use crate::commands::carry_out;
+use crate::installing::install;
 use crate::making::make;
+use crate::paging::tell_page;
 use crate::printing::print;
 use crate::serving::{make_and_serve, open_and_serve};
 use std::alloc::Global;
@@ -25,6 +27,7 @@ fn do_verb<P: Port>(alloc: Global, verb: Verb, port: &mut P) -> Status
         } => make(alloc, port, limit, metadata_max),
         Verb::Serve { fresh: true } => make_and_serve(alloc, port),
         Verb::Serve { fresh: false } => open_and_serve(alloc, port),
+        Verb::Install => install(alloc, port),
         Verb::Boot => carry_out(alloc, port, &Command::Boot),
         Verb::Mark => carry_out(alloc, port, &Command::Mark),
         Verb::BeginMerge => carry_out(alloc, port, &Command::BeginMerge),
@@ -33,6 +36,7 @@ fn do_verb<P: Port>(alloc: Global, verb: Verb, port: &mut P) -> Status
         Verb::Activate(slot) => carry_out(alloc, port, &Command::SetActive(slot)),
         Verb::Print(name) => print(alloc, port, name.as_bytes()),
         Verb::Digest(name) => carry_out(alloc, port, &Command::Digest(name.as_bytes())),
+        Verb::Status => tell_page(alloc, port),
     }
 }
 

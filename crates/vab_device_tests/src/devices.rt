@@ -26,7 +26,7 @@ const SUM: [u8; 32] = [
     36, 189, 81, 35, 95, 49, 31, 50, 170, 245, 252, 66,
 ];
 
-pub fn set_of_one(alloc: Global) -> Result<Set<'static>, Fail>
+pub(crate) fn set_of_one(alloc: Global) -> Result<Set<'static>, Fail>
     ensures { IfOk result (λ set. IsSet set) }
 {
     match read_set(alloc, &ONE) {
@@ -36,7 +36,7 @@ pub fn set_of_one(alloc: Global) -> Result<Set<'static>, Fail>
 }
 
 // A disk with the device of one image.
-pub fn device_of_one(alloc: Global) -> Result<MemPort, Fail> {
+pub(crate) fn device_of_one(alloc: Global) -> Result<MemPort, Fail> {
     let d = MemPort::new(alloc, SECTORS, Vec::new(alloc));
     let mut d = d.ok().ok_or("there is memory for a disk")?;
     let set = set_of_one(alloc)?;
@@ -47,12 +47,12 @@ pub fn device_of_one(alloc: Global) -> Result<MemPort, Fail> {
 }
 
 // Opens the device of a disk and carries out a command on it, where the disk doesn't fail.
-pub fn reply(alloc: Global, d: &mut MemPort, command: &Command) -> Option<Reply> {
+pub(crate) fn reply(alloc: Global, d: &mut MemPort, command: &Command) -> Option<Reply> {
     reply_staged(alloc, d, command, None)
 }
 
 // The same, where these bytes are staged.
-pub fn reply_staged(
+pub(crate) fn reply_staged(
     alloc: Global,
     d: &mut MemPort,
     command: &Command,

@@ -1,3 +1,3 @@
 pub mod Decimals
 mod Digits
-mod OnDevice
+pub mod OnDevice

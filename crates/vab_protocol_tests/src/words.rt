@@ -18,6 +18,7 @@ fn words_that_are_taken(rt: HostRuntime) -> Result<(), Fail> {
     for (texts, verb) in [
         (["serve"].as_slice(), Verb::Serve { fresh: false }),
         (&["serve", "--fresh"], Verb::Serve { fresh: true }),
+        (&["install"], Verb::Install),
         (&["boot"], Verb::Boot),
         (&["mark"], Verb::Mark),
         (&["begin-merge"], Verb::BeginMerge),
@@ -32,6 +33,7 @@ fn words_that_are_taken(rt: HostRuntime) -> Result<(), Fail> {
         (&["print", "--", "--help"], Verb::Print("--help")),
         (&["digest", "system_a"], Verb::Digest("system_a")),
         (&["digest", "help"], Verb::Digest("help")),
+        (&["status"], Verb::Status),
     ] {
         let words = words_of(alloc, texts)?;
         assert!(rt;
@@ -90,6 +92,8 @@ fn words_that_ask_for_nothing(rt: HostRuntime) -> Result<(), Fail> {
         &["Boot"],
         &["boo"],
         &["boot", "mark"],
+        &["install", "system_a"],
+        &["status", "a"],
         &["boot", "--help"],
         &["begin-merge", "x"],
         &["begin"],

@@ -9,6 +9,8 @@ mod faults;
 #[cfg(test)]
 mod installing;
 #[cfg(test)]
+mod installs;
+#[cfg(test)]
 mod merging;
 #[cfg(test)]
 mod others;

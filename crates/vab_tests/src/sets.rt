@@ -7,8 +7,8 @@ use std::process::Abort;
 use std::test::Fail;
 use vab_disk::MemPort;
 
-// An image: its name, the size of its partition, and its bytes.
-type Image<'a> = (&'a [u8], u64, &'a [u8]);
+/// An image: its name, the size of its partition, and its bytes.
+pub(crate) type Image<'a> = (&'a [u8], u64, &'a [u8]);
 
 fn put_image(set: &mut Vec<u8>, image: &Image<'_>) -> Result<(), Fail> {
     let (name, size, bytes) = *image;
@@ -28,16 +28,27 @@ fn front(alloc: Global, count: u8) -> Result<Vec<u8>, Fail> {
     Ok(set)
 }
 
-// The set of two images.
-fn set_of(alloc: Global, first: &Image<'_>, second: &Image<'_>) -> Result<Vec<u8>, Fail> {
+/// The set of one image.
+pub(crate) fn set_of_one(alloc: Global, image: &Image<'_>) -> Result<Vec<u8>, Fail> {
+    let mut set = front(alloc, 1)?;
+    put_image(&mut set, image)?;
+    Ok(set)
+}
+
+/// The set of two images.
+pub(crate) fn set_of(
+    alloc: Global,
+    first: &Image<'_>,
+    second: &Image<'_>,
+) -> Result<Vec<u8>, Fail> {
     let mut set = front(alloc, 2)?;
     put_image(&mut set, first)?;
     put_image(&mut set, second)?;
     Ok(set)
 }
 
-// The set of so many images `p00`, `p01` and so on, of one byte, the number in the name.
-fn many(alloc: Global, count: u8) -> Result<Vec<u8>, Fail> {
+/// The set of so many images `p00`, `p01` and so on, of one byte, the number in the name.
+pub(crate) fn set_of_many(alloc: Global, count: u8) -> Result<Vec<u8>, Fail> {
     let mut set = front(alloc, count)?;
     for index in 0..count {
         let name = [b'p', b'0' + index / 10, b'0' + index % 10];
@@ -57,7 +68,7 @@ pub(crate) fn filled(alloc: Global, bytes: &[u8], count: usize) -> Result<Vec<u8
 
 // A disk with a device of 32 partitions.
 fn device_of_many(rt: &impl Abort, alloc: Global) -> Result<MemPort, Fail> {
-    let set = many(alloc, 32)?;
+    let set = set_of_many(alloc, 32)?;
     let told = b"made 32 images, 32 of 256 blocks\n";
     steps(rt, alloc, SECTORS, &[(&["make"], set.as_slice(), 0, told)])
 }
@@ -71,7 +82,7 @@ pub(crate) fn text_of_many(rt: &impl Abort, alloc: Global) -> Result<Vec<u8>, Fa
 #[test]
 fn a_slot_has_at_most_32_partitions(rt: HostRuntime) -> Result<(), Fail> {
     let alloc = rt.alloc();
-    let set = many(alloc, 33)?;
+    let set = set_of_many(alloc, 33)?;
     let last = filled(alloc, &[31], 4096)?;
     let cases: [Step; 5] = [
         (&["print", "p31_a"], b"", 0, last.as_slice()),

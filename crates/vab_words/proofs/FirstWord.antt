@@ -140,6 +140,10 @@ enters_serve : Enters (codes "serve")
 unfolding clap_on_literals vab_app
 enters_serve = (refl, λ behind. (_, refl))
 
+enters_install : Enters (codes "install")
+unfolding clap_on_literals vab_app
+enters_install = (refl, λ behind. (_, refl))
+
 enters_boot : Enters (codes "boot")
 unfolding clap_on_literals vab_app
 enters_boot = (refl, λ behind. (_, refl))
@@ -172,6 +176,10 @@ enters_digest : Enters (codes "digest")
 unfolding clap_on_literals vab_app
 enters_digest = (refl, λ behind. (_, refl))
 
+enters_status : Enters (codes "status")
+unfolding clap_on_literals vab_app
+enters_status = (refl, λ behind. (_, refl))
+
 mapped : {X : Type 0} (name : Text) (f : X → Meaning) → ((x : X) → name ≡ name_of (f x)) → (o : Option X) → IsNamed name (option_map f o)
 mapped name f is None = tt
 mapped name f is (Some x) = is x
@@ -192,6 +200,10 @@ make_in rows = make_named (first_of (codes "limit") rows) (first_of (codes "meta
 serve_in : (rows : List Row) → IsNamed (codes "serve") (verb_in (codes "serve") rows)
 unfolding verb_in
 serve_in rows = refl
+
+install_in : (rows : List Row) → IsNamed (codes "install") (verb_in (codes "install") rows)
+unfolding verb_in
+install_in rows = refl
 
 boot_in : (rows : List Row) → IsNamed (codes "boot") (verb_in (codes "boot") rows)
 unfolding verb_in
@@ -227,6 +239,10 @@ digest_in : (rows : List Row) → IsNamed (codes "digest") (verb_in (codes "dige
 unfolding verb_in
 digest_in rows = mapped (codes "digest") Digest (λ _. refl) (first_of (codes "name") rows)
 
+status_in : (rows : List Row) → IsNamed (codes "status") (verb_in (codes "status") rows)
+unfolding verb_in
+status_in rows = refl
+
 abbrev Each : (Text → Type 0) → List Text → Type 0
 Each P [] = Unit {0}
 Each P (name ∷ rest) = P name × Each P rest
@@ -246,22 +262,28 @@ each_named rest = (
   (
     named_verb (codes "serve") rest enters_serve serve_in,
     (
-      named_verb (codes "boot") rest enters_boot boot_in,
+      named_verb (codes "install") rest enters_install install_in,
       (
-        named_verb (codes "mark") rest enters_mark mark_in,
+        named_verb (codes "boot") rest enters_boot boot_in,
         (
-          named_verb (codes "begin-merge") rest enters_begin_merge begin_merge_in,
+          named_verb (codes "mark") rest enters_mark mark_in,
           (
-            named_verb (codes "merge") rest enters_merge merge_in,
+            named_verb (codes "begin-merge") rest enters_begin_merge begin_merge_in,
             (
-              named_verb (codes "cancel") rest enters_cancel cancel_in,
+              named_verb (codes "merge") rest enters_merge merge_in,
               (
-                named_verb (codes "activate") rest enters_activate activate_in,
+                named_verb (codes "cancel") rest enters_cancel cancel_in,
                 (
-                  named_verb (codes "print") rest enters_print print_in,
+                  named_verb (codes "activate") rest enters_activate activate_in,
                   (
-                    named_verb (codes "digest") rest enters_digest digest_in,
-                    tt,
+                    named_verb (codes "print") rest enters_print print_in,
+                    (
+                      named_verb (codes "digest") rest enters_digest digest_in,
+                      (
+                        named_verb (codes "status") rest enters_status status_in,
+                        tt,
+                      ),
+                    ),
                   ),
                 ),
               ),

@@ -10,8 +10,8 @@ use Rattle.clap.proofs.OnLiterals.{clap_on_literals}
 use Rattle.vab_words.specs.Command.{found_in, is_taken, vab_app}
 use Rattle.vab_words.specs.Values.{blocks_of, is_number, limit_of, metadata_max_of}
 use Rattle.vab_words.specs.Values.{number_up_to, slot_of}
-use Rattle.vab_words.specs.Verbs.{Activate, BeginMerge, Boot, Cancel, Digest, Make, Mark, Merge}
-use Rattle.vab_words.specs.Verbs.{Print, Serve, is_set, make_of, verb_in, verb_of}
+use Rattle.vab_words.specs.Verbs.{Activate, BeginMerge, Boot, Cancel, Digest, Install, Make, Mark}
+use Rattle.vab_words.specs.Verbs.{Merge, Print, Serve, Status, is_set, make_of, verb_in, verb_of}
 use Rattle.vab_words.specs.Spelled.{AsksBy, IsPlain, MakesBy}
 
 pub serve : verb_of (codes "serve" ∷ []) ≡ Some (Serve false)
@@ -21,6 +21,10 @@ serve = refl
 pub serve_fresh : verb_of (codes "serve" ∷ codes "--fresh" ∷ []) ≡ Some (Serve true)
 unfolding clap_on_literals vab_app is_taken found_in verb_of verb_in is_set
 serve_fresh = refl
+
+pub install : verb_of (codes "install" ∷ []) ≡ Some Install
+unfolding clap_on_literals vab_app is_taken found_in verb_of verb_in
+install = refl
 
 pub boot : verb_of (codes "boot" ∷ []) ≡ Some Boot
 unfolding clap_on_literals vab_app is_taken found_in verb_of verb_in
@@ -37,6 +41,10 @@ begin_merge = refl
 pub cancel : verb_of (codes "cancel" ∷ []) ≡ Some Cancel
 unfolding clap_on_literals vab_app is_taken found_in verb_of verb_in
 cancel = refl
+
+pub status : verb_of (codes "status" ∷ []) ≡ Some Status
+unfolding clap_on_literals vab_app is_taken found_in verb_of verb_in
+status = refl
 
 pub make : verb_of (codes "make" ∷ []) ≡ Some (Make 0 65536)
 unfolding clap_on_literals vab_app is_taken found_in verb_of verb_in make_of limit_of metadata_max_of

@@ -51,11 +51,12 @@ with_verb command verb = with_subcommand command verb.top
 unfoldable pub vab_app : App
 vab_app =
     with_verb (with_verb (with_verb (with_verb (with_verb (with_verb (with_verb (with_verb
-    (with_verb (with_verb no_verbs make_app) serve_app) (new_app (codes "boot")))
+    (with_verb (with_verb (with_verb (with_verb no_verbs make_app) serve_app)
+    (new_app (codes "install"))) (new_app (codes "boot")))
     (new_app (codes "mark"))) (new_app (codes "begin-merge")))
     (operand_app (codes "merge") (codes "blocks"))) (new_app (codes "cancel")))
     (operand_app (codes "activate") (codes "slot"))) (operand_app (codes "print")
-    (codes "name"))) (operand_app (codes "digest") (codes "name"))
+    (codes "name"))) (operand_app (codes "digest") (codes "name"))) (new_app (codes "status"))
 
 -- the words are such as `clap` takes for this command
 unfoldable pub is_taken : List Text → Bool

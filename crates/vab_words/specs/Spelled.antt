@@ -3,8 +3,8 @@ use Rattle.std.specs.Prelude.{◌≡◌, ◌≢◌, Bool, List, [], ◌∷◌, O
 use Rattle.std.specs.List.{list_any}
 use Rattle.std.specs.Str.{bytes_eq}
 use Rattle.clap.specs.Words.{Text}
-use Rattle.vab_words.specs.Verbs.{Activate, BeginMerge, Boot, Cancel, Digest, Make, Mark}
-use Rattle.vab_words.specs.Verbs.{Meaning, Merge, Print, Serve, verb_of}
+use Rattle.vab_words.specs.Verbs.{Activate, BeginMerge, Boot, Cancel, Digest, Install, Make}
+use Rattle.vab_words.specs.Verbs.{Mark, Meaning, Merge, Print, Serve, Status, verb_of}
 
 -- the word is no option: it doesn't begin with a hyphen
 abbrev pub IsPlain : Text → Type 0
@@ -21,8 +21,9 @@ MakesBy option meaning =
 
 abbrev pub verb_names : List Text
 verb_names =
-    codes "make" ∷ codes "serve" ∷ codes "boot" ∷ codes "mark" ∷ codes "begin-merge" ∷
-    codes "merge" ∷ codes "cancel" ∷ codes "activate" ∷ codes "print" ∷ codes "digest" ∷ []
+    codes "make" ∷ codes "serve" ∷ codes "install" ∷ codes "boot" ∷ codes "mark" ∷
+    codes "begin-merge" ∷ codes "merge" ∷ codes "cancel" ∷ codes "activate" ∷ codes "print" ∷
+    codes "digest" ∷ codes "status" ∷ []
 
 -- the word is the name of a verb
 abbrev pub is_verb_name : Text → Bool
@@ -32,6 +33,7 @@ is_verb_name word = list_any (λ name. bytes_eq name word) verb_names
 abbrev pub name_of : Meaning → Text
 name_of (Make limit metadata_max) = codes "make"
 name_of (Serve fresh) = codes "serve"
+name_of Install = codes "install"
 name_of Boot = codes "boot"
 name_of Mark = codes "mark"
 name_of BeginMerge = codes "begin-merge"
@@ -40,3 +42,4 @@ name_of Cancel = codes "cancel"
 name_of (Activate slot) = codes "activate"
 name_of (Print name) = codes "print"
 name_of (Digest name) = codes "digest"
+name_of Status = codes "status"

@@ -18,6 +18,7 @@ use Rattle.vab_words.specs.declared.verb.Verb.TheVariants as code
 pub data Meaning : Type 0 where
   Make : ℕ → ℕ → Meaning
   Serve : Bool → Meaning
+  Install : Meaning
   Boot : Meaning
   Mark : Meaning
   BeginMerge : Meaning
@@ -26,10 +27,12 @@ pub data Meaning : Type 0 where
   Activate : ℕ → Meaning
   Print : Text → Meaning
   Digest : Text → Meaning
+  Status : Meaning
 
 abbrev pub meaning_of : Verb → Meaning
 meaning_of (code.Make limit metadata_max) = Make limit metadata_max
 meaning_of (code.Serve fresh) = Serve fresh
+meaning_of code.Install = Install
 meaning_of code.Boot = Boot
 meaning_of code.Mark = Mark
 meaning_of code.BeginMerge = BeginMerge
@@ -38,11 +41,13 @@ meaning_of code.Cancel = Cancel
 meaning_of (code.Activate slot) = Activate slot
 meaning_of (code.Print name) = Print name.now
 meaning_of (code.Digest name) = Digest name.now
+meaning_of code.Status = Status
 
 -- the values of `make` and of `merge` are in their ranges
 abbrev pub IsInRange : Verb → Type 0
 IsInRange (code.Make limit metadata_max) = (limit ≤ 2 ^ 44) × IsMetadataMax metadata_max
 IsInRange (code.Serve fresh) = Unit {0}
+IsInRange code.Install = Unit {0}
 IsInRange code.Boot = Unit {0}
 IsInRange code.Mark = Unit {0}
 IsInRange code.BeginMerge = Unit {0}
@@ -51,6 +56,7 @@ IsInRange code.Cancel = Unit {0}
 IsInRange (code.Activate slot) = Unit {0}
 IsInRange (code.Print name) = Unit {0}
 IsInRange (code.Digest name) = Unit {0}
+IsInRange code.Status = Unit {0}
 
 -- `make` with the texts of its options
 unfoldable pub make_of : Option Text → Option Text → Option Meaning
@@ -68,6 +74,7 @@ verb_in name rows =
     if bytes_eq name (codes "make") then make_of (first_of (codes "limit") rows)
     (first_of (codes "metadata-max") rows)
     else if bytes_eq name (codes "serve") then Some (Serve (is_set (first_of (codes "fresh") rows)))
+    else if bytes_eq name (codes "install") then Some Install
     else if bytes_eq name (codes "boot") then Some Boot
     else if bytes_eq name (codes "mark") then Some Mark
     else if bytes_eq name (codes "begin-merge") then Some BeginMerge
@@ -78,6 +85,7 @@ verb_in name rows =
     (option_and_then slot_of (first_of (codes "slot") rows))
     else if bytes_eq name (codes "print") then option_map Print (first_of (codes "name") rows)
     else if bytes_eq name (codes "digest") then option_map Digest (first_of (codes "name") rows)
+    else if bytes_eq name (codes "status") then Some Status
     else None
 
 -- what the words ask for, where they are taken and the values are in form and range

@@ -70,6 +70,7 @@ pub(crate) fn vab<'a>(alloc: Global) -> Result<Command<'a>, AllocError>
     without_verbs(alloc)
         .subcommand(make(alloc)?)?
         .subcommand(serve(alloc)?)?
+        .subcommand(Command::new(alloc, "install"))?
         .subcommand(Command::new(alloc, "boot"))?
         .subcommand(Command::new(alloc, "mark"))?
         .subcommand(Command::new(alloc, "begin-merge"))?
@@ -77,5 +78,6 @@ pub(crate) fn vab<'a>(alloc: Global) -> Result<Command<'a>, AllocError>
         .subcommand(Command::new(alloc, "cancel"))?
         .subcommand(with_operand(alloc, "activate", "slot")?)?
         .subcommand(with_operand(alloc, "print", "name")?)?
-        .subcommand(with_operand(alloc, "digest", "name")?)
+        .subcommand(with_operand(alloc, "digest", "name")?)?
+        .subcommand(Command::new(alloc, "status"))
 }

@@ -3,8 +3,8 @@ ghost use Rattle.std.specs.Prelude.{◌≡◌, true, false, List, ℕ, [], ◌�
 ghost use Rattle.std.specs.Prelude.{option_map};
 ghost use Rattle.vab_words.specs.Spelled.{AsksBy, IsPlain, MakesBy, is_verb_name, name_of};
 ghost use Rattle.vab_words.specs.Values.{blocks_of, slot_of};
-ghost use Rattle.vab_words.specs.Verbs.{Activate, BeginMerge, Boot, Cancel, Digest, Make, Mark};
-ghost use Rattle.vab_words.specs.Verbs.{Merge, Print, Serve, make_of, verb_of};
+ghost use Rattle.vab_words.specs.Verbs.{Activate, BeginMerge, Boot, Cancel, Digest, Install, Make};
+ghost use Rattle.vab_words.specs.Verbs.{Mark, Merge, Print, Serve, Status, make_of, verb_of};
 
 /// What the definition says of words that are written out. It does nothing.
 pub fn spelled_out()
@@ -18,6 +18,7 @@ pub fn spelled_out()
         ≡ make_of (Some limit) (Some metadata_max) }
     ensures serve { verb_of (codes "serve" ∷ []) ≡ Some (Serve false) }
     ensures serve_fresh { verb_of (codes "serve" ∷ codes "--fresh" ∷ []) ≡ Some (Serve true) }
+    ensures install { verb_of (codes "install" ∷ []) ≡ Some Install }
     ensures boot { verb_of (codes "boot" ∷ []) ≡ Some Boot }
     ensures mark { verb_of (codes "mark" ∷ []) ≡ Some Mark }
     ensures begin_merge { verb_of (codes "begin-merge" ∷ []) ≡ Some BeginMerge }
@@ -27,6 +28,7 @@ pub fn spelled_out()
     ensures activate { AsksBy (codes "activate") (λ text. option_map Activate (slot_of text)) }
     ensures print { AsksBy (codes "print") (λ text. Some (Print text)) }
     ensures digest { AsksBy (codes "digest") (λ text. Some (Digest text)) }
+    ensures status { verb_of (codes "status" ∷ []) ≡ Some Status }
     ensures print_any { (text : List ℕ)
         → verb_of (codes "print" ∷ codes "--" ∷ text ∷ []) ≡ Some (Print text) }
     ensures digest_any { (text : List ℕ)

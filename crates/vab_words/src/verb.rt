@@ -25,6 +25,8 @@ pub enum Verb<'a> {
         /// The device is made first.
         fresh: bool,
     },
+    /// Installs the set of images on standard input into the slot that isn't running.
+    Install,
     /// A boot of the device.
     Boot,
     /// The current slot is marked successful.
@@ -42,6 +44,8 @@ pub enum Verb<'a> {
     Print(&'a str),
     /// The SHA-256 of the bytes of the partition of this name.
     Digest(&'a str),
+    /// Tells the page of the device.
+    Status,
 }
 
 /// Why the words ask for nothing.
@@ -137,6 +141,7 @@ fn verb_in<'a>(name: &str, values: &ArgMatches<'a>) -> Option<Verb<'a>>
         "serve" => Some(Verb::Serve {
             fresh: is_set(values, "fresh"),
         }),
+        "install" => Some(Verb::Install),
         "boot" => Some(Verb::Boot),
         "mark" => Some(Verb::Mark),
         "begin-merge" => Some(Verb::BeginMerge),
@@ -145,6 +150,7 @@ fn verb_in<'a>(name: &str, values: &ArgMatches<'a>) -> Option<Verb<'a>>
         "activate" => Some(Verb::Activate(parse_slot(text_of(values, "slot")?)?)),
         "print" => Some(Verb::Print(text_of(values, "name")?)),
         "digest" => Some(Verb::Digest(text_of(values, "name")?)),
+        "status" => Some(Verb::Status),
         _ => None,
     }
 }
@@ -160,8 +166,8 @@ fn found_verb<'a>(matches: &ArgMatches<'a>) -> Option<Verb<'a>>
 }
 
 /// What the words behind the device's ask for: `make [--limit BYTES] [--metadata-max BYTES]`,
-/// `serve [--fresh]`, `boot`, `mark`, `begin-merge`, `merge N`, `cancel`, `activate SLOT`,
-/// `print NAME` or `digest NAME`.
+/// `serve [--fresh]`, `install`, `boot`, `mark`, `begin-merge`, `merge N`, `cancel`,
+/// `activate SLOT`, `print NAME`, `digest NAME` or `status`.
 pub fn parse_words<'a>(alloc: Global, words: &'a [String]) -> Result<Verb<'a>, WordsFault>
     // A verb comes only where the words ask for it, and a refusal only where they ask for none.
     ensures verb { IfOk result

@@ -1,10 +1,11 @@
-use Rattle.std.proofs.Common.{◌≡◌, inl, ℕ, Ok, Err, sym, subst}
+use Rattle.std.proofs.Common.{◌≡◌, inl, ℕ, Ok, Err, refl, sym, subst}
 use Rattle.vab_device.specs.Mounted.{Mounted}
 use Rattle.vab_device.specs.Reading.{IsIn}
 use Rattle.vab_model.specs.Commands.{command_of}
 use Rattle.vab_cli.specs.Verbs.{command_line, command_item, verb_status}
 use Rattle.vab_cli.proofs.Lines.{reply_some, verb_kind}
 use Rattle.vab_cli.proofs.Running.{opened_in, runs_done, runs_failed, does_sized}
+use Rattle.vab_cli.proofs.Running.{same_opened}
 use Rattle.vab_cli.proofs.Touching.{opening_changes, Behind, verb_opened}
 use Rattle.vab_cli.proofs.commands.carry_out.Goals as goal
 
@@ -18,15 +19,16 @@ returns-in-Ok-do_command-clause-runs g c = λ t s stands.
     let line = λ (x : Mounted). command_line x command in
     let status = c.in-Ok-do_command.status in
     let opens = c.in-Ok.ensures.opens t in
+    let opened = same_opened g.P.Disk size old mid opens in
     let here = opened_in g.P.Disk g.met.P.Disk.only_now size old mid s opens stands in
     let sized : g.P.Disk.size mid ≡ size = c.open.ensures.size in
     let does = does_sized g.P.Disk (g.P.Disk.size mid) size (λ x. command_item x command (line x))
     mid new (Ok status) sized (c.in-Ok-do_command.ensures.does t) s here in
     let is = c.in-Ok-do_command.ensures.status t s
     (subst (λ (n : ℕ). IsIn n s (g.P.Disk.seen mid)) (sym sized) here) in
-    inl (runs_done g.P.Disk g.met.P.Disk.only_now size s command (line s)
-    (inl (reply_some command _ _ _)) (verb_status s command)
-    old mid new opens stands status is does)
+    inl (runs_done g.P.Disk g.met.P.Disk.only_now size s (command_item s command (line s))
+    (inl refl) (inl (reply_some command _ _ _)) (verb_status s command)
+    old mid new opened stands status is does)
 
 pub returns-in-Err-do_command-clause-runs : goal.returns-in-Err-do_command-clause-runs
 returns-in-Err-do_command-clause-runs g c = λ t s stands.
@@ -38,12 +40,13 @@ returns-in-Err-do_command-clause-runs g c = λ t s stands.
     let line = λ (x : Mounted). command_line x command in
     let status = c.in-Err-do_command.status in
     let opens = c.in-Ok.ensures.opens t in
+    let opened = same_opened g.P.Disk size old mid opens in
     let here = opened_in g.P.Disk g.met.P.Disk.only_now size old mid s opens stands in
     let sized : g.P.Disk.size mid ≡ size = c.open.ensures.size in
     let does = does_sized g.P.Disk (g.P.Disk.size mid) size (λ x. command_item x command (line x))
     mid new (Err status) sized (c.in-Err-do_command.ensures.does t) s here in
-    inl (runs_failed g.P.Disk g.met.P.Disk.only_now size s command (line s)
-    (inl (reply_some command _ _ _)) (verb_status s command) old mid new opens stands status
+    inl (runs_failed g.P.Disk g.met.P.Disk.only_now size s (command_item s command (line s))
+    (inl refl) (inl (reply_some command _ _ _)) (verb_status s command) old mid new opened stands status
     c.in-Err-do_command.ensures.failed (verb_kind s command) does)
 
 pub returns-in-Err-clause-changes : goal.returns-in-Err-clause-changes

@@ -1,6 +1,5 @@
 use Rattle.std.proofs.Common.{◌≡◌, ◌∙◌, ℕ, List, Ok, Some, None, ap, subst}
 use Rattle.vab_set.specs.declared.set.SetImage.{SetImage}
-use Rattle.vab_set.specs.Reading.{set_of}
 use Rattle.vab_disk.specs.Calls.{Changes, InSectors}
 use Rattle.vab_disk.proofs.CallLaws.{changes_hearing, changes_then}
 use Rattle.vab_make.specs.Made.{refusal_of}
@@ -8,17 +7,9 @@ use Rattle.vab_make.specs.Touched.{IsOfMaking}
 use Rattle.vab_cli.specs.Codes.{make_status}
 use Rattle.vab_cli.specs.Verbs.{make_line, done_making}
 use Rattle.vab_cli.specs.Runs.{RunsRefused, RunsMaking}
+use Rattle.vab_cli.proofs.InputFaults.{same_set}
 use Rattle.vab_cli.proofs.Makings.{refused_after, making_after}
 use Rattle.vab_cli.proofs.making.make.Goals as goal
-
--- the set that is read is that of the input
-same_set : (heard text left : List ℕ) (set set' : List SetImage)
-    → heard ≡ left
-    → text ≡ heard
-    → set_of text ≡ Ok set'
-    → set_of left ≡ Ok set
-    → set' ≡ set
-same_set heard text left set set' a b c d = let same = ap set_of (b ∙ a) in cc
 
 pub returns-clause-made : goal.returns-clause-made
 returns-clause-made g c = λ t set fits is none.
@@ -28,8 +19,8 @@ returns-clause-made g c = λ t set fits is none.
     let size = g.P.Disk.size old in
     let limit = c.args.limit in
     let max = c.args.max in
-    let found : c.in-Ok-read_set.set ≡ set = same_set _ _ _ set c.in-Ok-read_set.set
-    (c.in-Ok.ensures.bytes t) c.deref.ensures.value c.in-Ok-read_set.ensures.exact is in
+    let found : c.in-Ok-read_set.set ≡ set = same_set _ _ set c.in-Ok-read_set.set
+    (c.deref.ensures.value ∙ c.in-Ok.ensures.bytes t) c.in-Ok-read_set.ensures.exact is in
     making_after g.P.Disk g.met.P.Disk.only_now size set limit max (done_making set size)
     old mid new c.make_of.result
     (c.hear_all.ensures.told t) (c.hear_all.ensures.seen t) (c.hear_all.ensures.crash t)
@@ -54,8 +45,8 @@ returns-clause-refused g c = λ t set fits is fault refused.
     let size = g.P.Disk.size old in
     let limit = c.args.limit in
     let max = c.args.max in
-    let found : c.in-Ok-read_set.set ≡ set = same_set _ _ _ set c.in-Ok-read_set.set
-    (c.in-Ok.ensures.bytes t) c.deref.ensures.value c.in-Ok-read_set.ensures.exact is in
+    let found : c.in-Ok-read_set.set ≡ set = same_set _ _ set c.in-Ok-read_set.set
+    (c.deref.ensures.value ∙ c.in-Ok.ensures.bytes t) c.in-Ok-read_set.ensures.exact is in
     refused_after g.P.Disk g.met.P.Disk.only_now size (make_line fault) (make_status fault)
     old mid new c.make_of.result
     (c.hear_all.ensures.told t) (c.hear_all.ensures.seen t) (c.hear_all.ensures.crash t)
@@ -78,8 +69,8 @@ returns-clause-changes g c = λ t set is.
     let mid = c.hear_all.new.p in
     let new = c.make_of.new.port in
     let W = InSectors (IsOfMaking set c.args.max) in
-    let found : c.in-Ok-read_set.set ≡ set = same_set _ _ _ set c.in-Ok-read_set.set
-    (c.in-Ok.ensures.bytes t) c.deref.ensures.value c.in-Ok-read_set.ensures.exact is in
+    let found : c.in-Ok-read_set.set ≡ set = same_set _ _ set c.in-Ok-read_set.set
+    (c.deref.ensures.value ∙ c.in-Ok.ensures.bytes t) c.in-Ok-read_set.ensures.exact is in
     changes_then g.P.Disk W old mid new
     (changes_hearing g.P.Disk W old mid c.hear_all.ensures.size c.hear_all.ensures.seen
     c.hear_all.ensures.crash c.hear_all.ensures.time)

@@ -1,4 +1,4 @@
-use Rattle.std.proofs.Common.{◌≡◌, inl, inr, ℕ, Ok, Err, sym, subst}
+use Rattle.std.proofs.Common.{◌≡◌, inl, inr, ℕ, Ok, Err, refl, sym, subst}
 use Rattle.vab_device.specs.Mounted.{Mounted}
 use Rattle.vab_device.specs.Reading.{IsIn}
 use Rattle.vab_disk.proofs.CallLaws.{changes_wider}
@@ -8,6 +8,7 @@ use Rattle.vab_cli.specs.Verbs.{print_told, command_item, verb_status}
 use Rattle.vab_cli.proofs.Items.{print_last}
 use Rattle.vab_cli.proofs.Lines.{verb_kind}
 use Rattle.vab_cli.proofs.Running.{opened_in, runs_done, runs_failed, does_sized}
+use Rattle.vab_cli.proofs.Running.{same_opened}
 use Rattle.vab_cli.proofs.Touching.{opening_changes, opened_changes, Behind}
 use Rattle.vab_cli.proofs.printing.print.Goals as goal
 
@@ -21,14 +22,16 @@ returns-in-Ok-print_image-clause-runs g c = λ t s stands.
     let line = λ (x : Mounted). print_told (found_of x.state c.args.name.now) in
     let status = c.in-Ok-print_image.status in
     let opens = c.in-Ok.ensures.opens t in
+    let opened = same_opened g.P.Disk size old mid opens in
     let here = opened_in g.P.Disk g.met.P.Disk.only_now size old mid s opens stands in
     let sized : g.P.Disk.size mid ≡ size = c.open.ensures.size in
     let does = does_sized g.P.Disk (g.P.Disk.size mid) size (λ x. command_item x command (line x))
     mid new (Ok status) sized (c.in-Ok-print_image.ensures.does t) s here in
     let is = c.in-Ok-print_image.ensures.status t s
     (subst (λ (n : ℕ). IsIn n s (g.P.Disk.seen mid)) (sym sized) here) in
-    inl (runs_done g.P.Disk g.met.P.Disk.only_now size s command (line s)
-    (inr (print_last size s c.args.name.now (line s))) (verb_status s command) old mid new opens
+    inl (runs_done g.P.Disk g.met.P.Disk.only_now size s (command_item s command (line s))
+    (inl refl) (inr (print_last size s c.args.name.now (line s))) (verb_status s command)
+    old mid new opened
     stands status is does)
 
 pub returns-clause-runs : goal.returns-clause-runs
@@ -41,12 +44,14 @@ returns-clause-runs g c = λ t s stands.
     let line = λ (x : Mounted). print_told (found_of x.state c.args.name.now) in
     let status = c.in-Err-print_image.status in
     let opens = c.in-Ok.ensures.opens t in
+    let opened = same_opened g.P.Disk size old mid opens in
     let here = opened_in g.P.Disk g.met.P.Disk.only_now size old mid s opens stands in
     let sized : g.P.Disk.size mid ≡ size = c.open.ensures.size in
     let does = does_sized g.P.Disk (g.P.Disk.size mid) size (λ x. command_item x command (line x))
     mid new (Err status) sized (c.in-Err-print_image.ensures.does t) s here in
-    inl (runs_failed g.P.Disk g.met.P.Disk.only_now size s command (line s)
-    (inr (print_last size s c.args.name.now (line s))) (verb_status s command) old mid new opens
+    inl (runs_failed g.P.Disk g.met.P.Disk.only_now size s (command_item s command (line s))
+    (inl refl) (inr (print_last size s c.args.name.now (line s))) (verb_status s command)
+    old mid new opened
     stands status c.in-Err-print_image.ensures.failed (verb_kind s command) does)
 
 pub returns-in-Err-clause-changes : goal.returns-in-Err-clause-changes

@@ -1,10 +1,10 @@
-use Rattle.std.proofs.Common.{◌≡◌, inr, ap, true, false, rules}
+use Rattle.std.proofs.Common.{◌≡◌, inr, ap, refl, true, false, rules}
 use Rattle.vab_model.specs.Commands.{SetActive, Boot, Mark, Print, Digest, Cancel, BeginMerge}
 use Rattle.vab_model.specs.Commands.{Merge}
 use Rattle.vab_words.specs.Verbs.{Serve, meaning_of}
 use Rattle.vab_words.specs.Verbs as words
 use Rattle.vab_cli.specs.Verbs.{command_of}
-use Rattle.vab_cli.proofs.Programs.{command_verb, serve_verb, fresh_verb}
+use Rattle.vab_cli.proofs.Programs.{command_verb, serve_verb, fresh_verb, other_verb}
 use Rattle.vab_cli.proofs.program.do_verb.Goals as goal
 
 pub returns-in-Serve-true : goal.returns-in-Serve-true
@@ -98,3 +98,20 @@ returns-in-Digest g c =
     (λ port. inr (c.carry_out-in-Digest.ensures.port port)) (Digest c.as_bytes-in-Digest.result.now) (ap command_of is)
     c.carry_out-in-Digest.ensures.runs c.carry_out-in-Digest.ensures.none c.carry_out-in-Digest.ensures.changes
     c.carry_out-in-Digest.ensures.quiet
+
+pub returns-in-Install : goal.returns-in-Install
+returns-in-Install g c =
+    let is : meaning_of c.args.verb ≡ words.Install = search rules in
+    other_verb g.P.Disk (meaning_of c.args.verb) c.args.port.now c.install.new.port
+    c.install.result c.install.ensures.words c.install.ensures.steady c.install.ensures.disk
+    c.install.ensures.port words.Install is refl (λ fresh other. cc) (λ limit max other. cc)
+    (λ same. c.install.ensures.runs) (λ other. cc)
+
+pub returns-in-Status : goal.returns-in-Status
+returns-in-Status g c =
+    let is : meaning_of c.args.verb ≡ words.Status = search rules in
+    other_verb g.P.Disk (meaning_of c.args.verb) c.args.port.now c.tell_page.new.port
+    c.tell_page.result c.tell_page.ensures.words c.tell_page.ensures.steady
+    c.tell_page.ensures.disk (λ port. inr (c.tell_page.ensures.port port))
+    words.Status is refl (λ fresh other. cc) (λ limit max other. cc)
+    (λ other. cc) (λ same. c.tell_page.ensures.tells)

@@ -1,0 +1,9 @@
+use Rattle.std.proofs.Common.{◌≤◌, ◌^◌, length}
+use Rattle.vab_device.specs.declared.device.Part.{Part}
+use Rattle.vab_status.proofs.OrderLaws.{all_there}
+use Rattle.vab_status.proofs.plan.push_planned.Goals as goal
+
+pub plan_line-requires : goal.plan_line-requires
+plan_line-requires c =
+    all_there (λ (p : Part). length p.map ≤ 2 ^ 28) c.args.parts.now c.loop-part.part-index
+    c.part-item.result c.loop-part-test.true c.part-item.is c.requires

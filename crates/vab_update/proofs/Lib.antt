@@ -1,0 +1,3 @@
+pub mod CarriesLaws
+pub mod InstallLaws
+pub mod OrderLaws
