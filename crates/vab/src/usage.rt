@@ -19,6 +19,8 @@ pub const USAGE: &str = "usage: vab DEVICE VERB\n\
     \u{20} print NAME       the bytes of a partition, as system_a\n\
     \u{20} digest NAME      their SHA-256\n\
     \u{20} status           its slots, their images, and where an update stands\n\
+    \u{20} demo SEED        make a device of images drawn from a number, and update it\n\
+    \u{20}   --scale K             K times as many blocks, 1 to 64\n\
     statuses: 0 done, 2 the words aren't taken, 3 the input is malformed, 4 refused,\n\
     \u{20} 5 no device, 6 the disk failed, 7 the input or the output failed,\n\
     \u{20} 8 memory was refused, 9 the file can't be opened or is in use\n\

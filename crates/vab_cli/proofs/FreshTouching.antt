@@ -1,6 +1,7 @@
 -- What is written where a device is made, opened and served.
 use Rattle.std.proofs.Common.{◌≡◌, ◌⊎◌, ◌∙◌, ◌≤◌, inl, inr, ⊎_elim, ℕ, ◌+◌, ◌==◌, List}
-use Rattle.std.proofs.Common.{zero, suc, [], ◌∷◌, length, Some, None, refl, sym, ap, subst, arith, true, false}
+use Rattle.std.proofs.Common.{zero, suc, [], ◌∷◌, length, Some, None, refl, sym, ap, subst, arith}
+use Rattle.std.proofs.Common.{true, false}
 use Rattle.std.specs.Prelude.{Bool, Option, is_some, if◌then◌else◌}
 use Rattle.std.proofs.lemmas.Bool.{ne_eqb}
 use Rattle.vab_disk.specs.declared.disk.Disk.{Ghosts}
@@ -22,8 +23,10 @@ use Rattle.vab_marks.specs.declared.mark.MarkPhase.TheVariants as marks
 use Rattle.vab_device.specs.Phases.{Phase, phase_at}
 use Rattle.vab_device.specs.Reading.{Read, Reads, kept, table_for}
 use Rattle.vab_device.proofs.ReadingLaws.{idle_at, idle_read_of, device_of}
+use Rattle.vab_recover.specs.Opening.{IsOfOpening}
 use Rattle.vab_recover.specs.Repairs.{IsRepair, IsOneOf}
-use Rattle.vab_cli.specs.Touched.{IsOfServing, IsOfFresh}
+use Rattle.vab_cli.specs.Touched.{IsOfServing, IsOfMade}
+use Rattle.vab_set.specs.declared.set.SetImage.{SetImage}
 use Rattle.vab_make.specs.Made.{made_device_of, made_state, made_places, made_geometry, made_layout}
 use Rattle.vab_make.specs.Making.{IsMade}
 use Rattle.vab_make.specs.Touched.{IsOfMaking, of_places}
@@ -66,9 +69,10 @@ of_flags false b g slot text s bytes w = inl w
 of_flags true false g slot text s bytes w = inr (inl w)
 of_flags true true g slot text s bytes w = absurd w
 
-module _ (size : ℕ) (image : Image) (made : IsMade [] 0 65536 size image) where
+module _ (set : List SetImage) (size : ℕ) (image : Image)
+    (made : IsMade set 0 65536 size image) where
   module _ (r : Read) (reads : Reads size r image) where
-    is : mounted_on (kept r) image ≡ made_device_of [] 0 65536 size
+    is : mounted_on (kept r) image ≡ made_device_of set 0 65536 size
     is = let both = sym (device_of size r image reads) ∙ made in cc
 
     geometry : r.geometry ≡ made_geometry 65536
@@ -81,19 +85,19 @@ module _ (size : ℕ) (image : Image) (made : IsMade [] 0 65536 size image) wher
     phase = idle_read_of size r image reads (ap (λ (m : Mounted). m.state.phase) is)
 
     placed : table_placed 0 (is_some (kept r).a) (table_for 0 (r.mark.slot ∷ []) r.tables)
-        ≡ Some (plain 0 (made_layout [] 0 size))
+        ≡ Some (plain 0 (made_layout set 0 size))
     unfolding made_places
     placed =
         subst
         (λ (p : Phase).
         table_placed 0 (is_some (kept r).a) (table_for 0 (p.tables r.mark.slot) r.tables)
-        ≡ Some (plain 0 (made_layout [] 0 size)))
+        ≡ Some (plain 0 (made_layout set 0 size)))
         (idle_at r.mark.phase phase)
         (ap (λ (m : Mounted). m.places.a) is)
 
     slot : r.mark.slot ≡ 0
     slot =
-        first_slot r.mark.slot (is_some (kept r).a) r.tables (plain 0 (made_layout [] 0 size)) placed
+        first_slot r.mark.slot (is_some (kept r).a) r.tables (plain 0 (made_layout set 0 size)) placed
 
     -- the one table that is read is slot a's
     one_slot : (k : ℕ) → IsOneOf k ((phase_at r.mark.phase).tables r.mark.slot) → k ≡ 0
@@ -124,7 +128,7 @@ module _ (size : ℕ) (image : Image) (made : IsMade [] 0 65536 size image) wher
       → length text ≤ 65536
       → IsOfCopy (text_sectors (length text)) (primary_of g slot) text s bytes
       ⊎ IsOfCopy (text_sectors (length text)) (backup_of g slot) text s bytes
-      → IsOfMaking [] 65536 s
+      → IsOfMaking set 65536 s
   unfolding primary_of backup_of text_sectors
   of_copy g slot text s bytes is first_one fits w =
       let first : primary_of g slot ≡ 4120 = λ i. primary_of (is i) (first_one i) in
@@ -138,7 +142,7 @@ module _ (size : ℕ) (image : Image) (made : IsMade [] 0 65536 size image) wher
       (within (backup_of g slot) text s bytes 4376 fits second backup)))))
       w
 
-  repair_made : (s : ℕ) (bytes : List ℕ) → IsRepair size image s bytes → IsOfMaking [] 65536 s
+  repair_made : (s : ℕ) (bytes : List ℕ) → IsRepair size image s bytes → IsOfMaking set 65536 s
   repair_made s bytes w =
       let l = w.table in
       of_copy w.read.geometry w.slot l.text s bytes (geometry w.read w.reads)
@@ -147,38 +151,51 @@ module _ (size : ℕ) (image : Image) (made : IsMade [] 0 65536 size image) wher
       w.loaded.whole)
       (of_flags l.primary l.backup w.read.geometry w.slot l.text s bytes w.writes)
 
+  -- what opening may write is of them, or of the mark
+  opening_made : (s : ℕ) (bytes : List ℕ) → IsOfOpening size image s bytes → IsOfMaking set 65536 s
+  opening_made s bytes (inl w) = repair_made s bytes w
+  opening_made s bytes (inr w) =
+      let of = geometry w.read w.reads in
+      ⊎_elim
+      (λ table.
+      of_copy w.read.geometry w.read.mark.slot _ s bytes of (slot w.read w.reads)
+      (omega (arith, ap (λ (x : Geometry). x.max) of, table.short))
+      table.writes)
+      (λ mark. inl mark.0)
+      w.writes
+
 -- ---- made, opened and served
 
-module _ {D : Type 0} (g : Ghosts D) (size : ℕ) where
+module _ {D : Type 0} (g : Ghosts D) (set : List SetImage) (size : ℕ) where
   abbrev Fresh : ℕ → List ℕ → Type 0
-  Fresh = InSectors (IsOfMaking [] 65536)
+  Fresh = InSectors (IsOfMaking set 65536)
 
   pub made_opened : (old mid new : D)
-      → IsMade [] 0 65536 size (g.seen mid)
+      → IsMade set 0 65536 size (g.seen mid)
       → Changes g Fresh old mid
-      → Changes g (IsRepair size (g.seen mid)) mid new
+      → Changes g (IsOfOpening size (g.seen mid)) mid new
       → Changes g Fresh old new
   made_opened old mid new made makes opens =
       changes_then g Fresh old mid new makes
-      (changes_wider g Fresh (IsRepair size (g.seen mid)) mid new opens
-      (repair_made size (g.seen mid) made))
+      (changes_wider g Fresh (IsOfOpening size (g.seen mid)) mid new opens
+      (opening_made set size (g.seen mid) made))
 
   module _ (W : Device → List ℕ → ℕ → List ℕ → Type 0) where
     pub making_fresh : (old new : D) → Changes g Fresh old new
-        → Changes g (IsOfFresh W size) old new
+        → Changes g (IsOfMade set W size) old new
     making_fresh old new makes =
-        changes_wider g (IsOfFresh W size) Fresh old new makes (λ s x w. inl w)
+        changes_wider g (IsOfMade set W size) Fresh old new makes (λ s x w. inl w)
 
     pub made_served : (old mid new : D)
-        → IsMade [] 0 65536 size (g.seen mid)
+        → IsMade set 0 65536 size (g.seen mid)
         → Changes g Fresh old mid
         → Changes g (IsOfServing W size (g.seen mid)) mid new
-        → Changes g (IsOfFresh W size) old new
+        → Changes g (IsOfMade set W size) old new
     made_served old mid new made makes serves =
-        changes_then g (IsOfFresh W size) old mid new (making_fresh old mid makes)
-        (changes_wider g (IsOfFresh W size) (IsOfServing W size (g.seen mid)) mid new serves
+        changes_then g (IsOfMade set W size) old mid new (making_fresh old mid makes)
+        (changes_wider g (IsOfMade set W size) (IsOfServing W size (g.seen mid)) mid new serves
         (λ s x w.
-        ⊎_elim {C = IsOfFresh W size s x}
-        (λ repair. inl (repair_made size (g.seen mid) made s x repair))
+        ⊎_elim {C = IsOfMade set W size s x}
+        (λ opens. inl (opening_made set size (g.seen mid) made s x opens))
         (λ served. inr (record { made = g.seen mid; is = made; serves = served }))
         w))

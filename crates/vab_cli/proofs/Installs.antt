@@ -1,23 +1,20 @@
 -- The verb `install`, by what its commands do.
-use Rattle.std.proofs.Common.{◌≡◌, ◌∙◌, ◌⊎◌, inl, inr, ◌<◌, ◌+◌, ℕ, List, ◌++◌, length, codes}
+use Rattle.std.proofs.Common.{◌≡◌, ◌∙◌, ◌<◌, ◌+◌, ℕ, List, ◌++◌, length, codes}
 use Rattle.std.proofs.Common.{decimal, Result, Ok, Err, refl, sym, ap, subst}
-use Rattle.std.specs.Prelude.{OnOk}
 use Rattle.vab_disk.specs.declared.disk.Disk.{Ghosts}
-use Rattle.vab_disk.specs.Disk.{Adds, Image}
+use Rattle.vab_disk.specs.Disk.{Adds}
 use Rattle.vab_disk.specs.Calls.{IsAtRest}
 use Rattle.vab_set.specs.declared.set.SetImage.{SetImage}
-use Rattle.vab_gate.specs.declared.gate.DiskFault.{DiskFault}
 use Rattle.vab_model.specs.declared.command.Refusal.{Refusal}
 use Rattle.vab_model.specs.declared.command.Refusal.TheVariants.{NoMemory}
 use Rattle.vab_model.specs.declared.command.Reply.{Reply}
 use Rattle.vab_model.specs.declared.command.Reply.TheVariants as replies
-use Rattle.vab_model.specs.declared.state.Phase.TheVariants.{Staged}
 use Rattle.vab_model.specs.Effects.{Effect, steps_of, after_of}
 use Rattle.vab_device.specs.declared.device.Device.{Device}
 use Rattle.vab_device.specs.declared.fault.StartFault.{StartFault}
 use Rattle.vab_device.specs.Does.{LeavesStep}
 use Rattle.vab_device.specs.Mounted.{Mounted, mounted_on, count_at}
-use Rattle.vab_device.specs.Reading.{device, IsIn, Represents}
+use Rattle.vab_device.specs.Reading.{IsIn, Represents}
 use Rattle.vab_device.proofs.ReadingLaws.{device_stands}
 use Rattle.vab_fbproto.specs.Texts.{refusal_text}
 use Rattle.vab_session.specs.Responses.{left_of}
@@ -27,7 +24,6 @@ use Rattle.vab_update.specs.Carries.{Carries, CarriesOut, IsAmong}
 use Rattle.vab_update.specs.Install.{install_orders}
 use Rattle.vab_update.specs.Orders.{effect_all}
 use Rattle.vab_update.proofs.InstallLaws.{installed_staged}
-use Rattle.vab_cli.specs.declared.status.Status.{Status}
 use Rattle.vab_cli.specs.Codes.{reply_status}
 use Rattle.vab_cli.specs.Installing.{install_effect, install_item, install_told, install_line}
 use Rattle.vab_cli.specs.Installing.{installed_line, install_status}
@@ -169,8 +165,8 @@ module _ {D : Type 0} (g : Ghosts D) (t : g.is_modelled) (size : ℕ) (d : Devic
     done = carried (Ok next) carries
 
     -- the update is ready, with so many blocks left
-    left : count_at next.a + count_at next.b ≡ left_of (after_of s e).state.phase
-    left =
+    pub left_is : count_at next.a + count_at next.b ≡ left_of (after_of s e).state.phase
+    left_is =
         let ready = installed_staged s.state.control.current set s (done.whole t) in
         left_here next (g.seen mid) ready.0 ready.1
         (ap (λ (x : Mounted). x.state.phase) (done.after t) ∙ ready.2)
@@ -179,7 +175,7 @@ module _ {D : Type 0} (g : Ghosts D) (t : g.is_modelled) (size : ℕ) (d : Devic
     pub done_told : installed_line (length set) (count_at next.a + count_at next.b)
         ≡ install_told s set
     done_told =
-        ap (installed_line (length set)) left
+        ap (installed_line (length set)) left_is
         ∙ sym
         (done_is (length set) (left_of (after_of s e).state.phase) e.reply (done.whole t))
 

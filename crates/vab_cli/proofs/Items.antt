@@ -35,6 +35,33 @@ on_ok : {A E P : Type 0} (r : Result A E) → P → OnOk r P
 on_ok (Ok x) p = p
 on_ok (Err e) p = tt
 
+-- what was said, whatever is answered then
+pub says_ok : {D A B E F : Type 0} (g : Ghosts D) (bytes : List ℕ) (old new : D) (x : A) (y : B)
+    → Says g {A = A} {E = E} bytes old new (Ok x)
+    → Says g {A = B} {E = F} bytes old new (Ok y)
+says_ok g bytes old new x y says = record {
+  told = says.told;
+  front = says.front;
+  seen = says.seen;
+  crash = says.crash;
+  left = says.left;
+  heard = says.heard;
+  time = says.time;
+}
+
+pub says_err : {D A B E F : Type 0} (g : Ghosts D) (bytes : List ℕ) (old new : D) (x : E) (y : F)
+    → Says g {A = A} {E = E} bytes old new (Err x)
+    → Says g {A = B} {E = F} bytes old new (Err y)
+says_err g bytes old new x y says = record {
+  told = tt;
+  front = says.front;
+  seen = says.seen;
+  crash = says.crash;
+  left = says.left;
+  heard = says.heard;
+  time = says.time;
+}
+
 -- the last of some steps is one of them
 pub last_step : {S : Type 0} (s : S) (later : List S) → IsOneOf (s ∷ later) (last_of s later)
 last_step s [] = inl refl

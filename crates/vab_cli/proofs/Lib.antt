@@ -1,9 +1,14 @@
+mod Acting
 mod Blocks
+mod Courses
+mod Demos
 mod FreshTouching
 mod InputFaults
+mod InstallActs
 mod Installs
 mod Items
 mod Lines
+mod Lives
 mod Makings
 mod Programs
 mod Running

@@ -1,5 +1,6 @@
 -- Lines of commands.
-use Rattle.std.proofs.Common.{◌≡◌, ◌∙◌, ◌⊎◌, inl, inr, ◌<◌, ℕ, List, [], ◌∷◌, ◌++◌, length, codes, decimal}
+use Rattle.std.proofs.Common.{◌≡◌, ◌∙◌, inl, inr, ◌<◌, ℕ, List, [], ◌∷◌, ◌++◌, length, codes}
+use Rattle.std.proofs.Common.{decimal}
 use Rattle.std.proofs.Common.{refl, sym, ap, subst, arith, length-append, Some, None, ◌+◌}
 use Rattle.std.specs.Prelude.{Option}
 use Rattle.hex.specs.Hex.{encode_lower}

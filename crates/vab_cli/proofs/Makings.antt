@@ -121,6 +121,34 @@ heard_fault input.TooLong other = absurd (other refl)
 heard_fault input.Source other = inl refl
 heard_fault input.NoMemory other = inr refl
 
+-- where nothing is told of a fault
+silent_none : (f : MakeFault) → is_silent f ≡ true → make_line f ≡ []
+silent_none (make.TooSmall need have) is = cc
+silent_none (make.GroupLimit used limit) is = cc
+silent_none (make.NoRoom used blocks) is = cc
+silent_none (make.TableFull size max) is = cc
+silent_none make.NoMemory is = refl
+silent_none (make.Disk d) is = refl
+
+pub tells_nothing : {D : Type 0} (g : Ghosts D) (f : MakeFault) (old : D) (status : Status)
+    → is_silent f ≡ true
+    → Tells g (make_line f) (make_status f) old old status
+tells_nothing g f old status is = record {
+  front = (0, sym (append-nil (g.told old)));
+  whole = λ same.
+      sym
+      (ap (λ (l : List ℕ). g.told old ++ l) (silent_none f is) ∙ append-nil (g.told old));
+  seen = refl;
+  crash = record { keeps = λ s b held. held; no_more = λ s b held. held };
+  left = refl;
+  heard = refl;
+  time = record {
+    later = omega arith;
+    keeps = λ t o before there. there;
+    adds = λ t o before there. inl there;
+  };
+}
+
 module _ {D : Type 0}
     (g : Ghosts D)
     (only_now : (d : D) (o : Outcome)

@@ -20,7 +20,7 @@ use Rattle.vab_make.specs.declared.fault.MakeFault.{MakeFault}
 use Rattle.vab_make.specs.Made.{refusal_of, made_device_of}
 use Rattle.vab_make.specs.Making.{LeavesMaking}
 use Rattle.vab_make.specs.Touched.{IsOfMaking}
-use Rattle.vab_words.specs.Verbs.{Meaning, Make, Serve}
+use Rattle.vab_words.specs.Verbs.{Meaning, Make, Serve, Demo}
 use Rattle.vab_words.specs.Verbs as verbs
 use Rattle.vab_exchanges.specs.Runs.{acknowledged, steps_at}
 use Rattle.vab_commands.specs.Touched.{IsOfAll, IsOfCommands}
@@ -32,8 +32,10 @@ use Rattle.vab_cli.specs.declared.status.Status.{Status}
 use Rattle.vab_cli.specs.declared.status.Status.TheVariants.{Done, Usage, Malformed, NotADevice}
 use Rattle.vab_cli.specs.declared.status.Status.TheVariants.{Disk, Port, NoMemory}
 use Rattle.vab_cli.specs.Codes.{make_status}
+use Rattle.vab_cli.specs.Acts.{Course, RunsActs}
+use Rattle.vab_cli.specs.Demo.{DemonstratesOf}
 use Rattle.vab_cli.specs.Counts.{HearsNothing, IsSteady}
-use Rattle.vab_exchanges.specs.Items.{Item}
+use Rattle.vab_exchanges.specs.Items.{Item, joined}
 use Rattle.vab_cli.specs.Installing.{Installs, RunsOrFails, install_item, install_status}
 use Rattle.vab_cli.specs.Paging.{TellsPage, page_item}
 use Rattle.vab_cli.specs.Program.{DoesVerb}
@@ -41,6 +43,7 @@ use Rattle.vab_cli.specs.Runs.{NoFault, RunsSession, RunsItem, FailsBefore}
 use Rattle.vab_cli.specs.Runs.{RunsNone, RunsRefused, RunsMaking, FailsMaking}
 use Rattle.vab_cli.specs.Touched.{IsOfVerb, IsOfServing, IsOfFresh}
 use Rattle.vab_cli.specs.Verbs.{command_of, none_line, verb_item, verb_status, make_line, done_making}
+use Rattle.vab_cli.proofs.Running.{item_told}
 use Rattle.vab_cli.proofs.Sessions.{completed}
 
 -- the verbs that are no command
@@ -79,6 +82,7 @@ none_ends (verbs.Activate slot) = refl
 none_ends (verbs.Print name) = refl
 none_ends (verbs.Digest name) = refl
 none_ends verbs.Status = refl
+none_ends (Demo seed scale) = refl
 
 ends_none : (m : Meaning) (c : Command) → command_of m ≡ Some c → is_finish c ≡ false
 unfolding is_end
@@ -124,7 +128,11 @@ module _ {D : Type 0}
       ⊎ (status ≡ NoMemory)
   item_whole c s none (inl runs) =
       ⊎_elim
-      (λ is. inl (is, runs.whole is))
+      (λ is. inl (
+        is,
+        item_told g (g.size old) s (verb_item s c) (verb_status s c) old new status
+            runs is,
+      ))
       (λ failed. absurd (⊎_elim (no_disk none) (no_port none) failed))
       runs.status_is
   item_whole c s none (inr fails) =
@@ -140,7 +148,8 @@ module _ {D : Type 0}
       → g.outcomes new (g.moment old) o
       → StandsAlone (g.size old) slot images o.image
   cut_alone c s slot images o (inl runs) other is rest at =
-      let crash = runs.every_cut rest o at in
+      let crash = ⊎_elim (λ within. within) (λ none. absurd none)
+      ((let items = runs.items in items.every_cut) rest o at) in
       stands_alone slot images (g.size old) o.image crash.step.0 crash.step.2
       (steps_alone s c slot images other is
       (acknowledged (verb_item s c ∷ []) (drop 0 crash.since))
@@ -203,6 +212,7 @@ module _ {D : Type 0}
     end = λ t limit max is. is_command m (Make limit max) c some is refl;
     install = λ is. is_command m verbs.Install c some is refl;
     tells = λ is. is_command m verbs.Status c some is refl;
+    demo = λ seed scale is. is_command m (Demo seed scale) c some is refl;
     disk = disk;
     port = port;
     steady = steady;
@@ -219,6 +229,8 @@ module _ {D : Type 0}
     complete_fresh = λ t held is. is_command m (Serve true) c some is refl;
     complete_install = λ t held is. is_command m verbs.Install c some is refl;
     complete_page = λ t held is. is_command m verbs.Status c some is refl;
+    complete_demo = λ t held seed scale is.
+        is_command m (Demo seed scale) c some is refl;
   }
 
   -- a session over the device of the disk
@@ -264,6 +276,7 @@ module _ {D : Type 0}
     end = λ t limit max other. let both = sym is ∙ other in cc;
     install = λ other. let both = sym is ∙ other in cc;
     tells = λ other. let both = sym is ∙ other in cc;
+    demo = λ seed scale other. let both = sym is ∙ other in cc;
     disk = disk;
     port = port;
     steady = steady;
@@ -275,6 +288,7 @@ module _ {D : Type 0}
     complete_fresh = λ t held other. let both = sym is ∙ other in cc;
     complete_install = λ t held other. let both = sym is ∙ other in cc;
     complete_page = λ t held other. let both = sym is ∙ other in cc;
+    complete_demo = λ t held seed scale other. let both = sym is ∙ other in cc;
   }
 
   -- a session over a device that is made first
@@ -316,6 +330,7 @@ module _ {D : Type 0}
     end = λ t limit max other. let both = sym is ∙ other in cc;
     install = λ other. let both = sym is ∙ other in cc;
     tells = λ other. let both = sym is ∙ other in cc;
+    demo = λ seed scale other. let both = sym is ∙ other in cc;
     disk = disk;
     port = port;
     steady = steady;
@@ -327,6 +342,7 @@ module _ {D : Type 0}
         (no_disk held) (no_port held);
     complete_install = λ t held other. let both = sym is ∙ other in cc;
     complete_page = λ t held other. let both = sym is ∙ other in cc;
+    complete_demo = λ t held seed scale other. let both = sym is ∙ other in cc;
   }
 
   -- a device is made
@@ -400,6 +416,7 @@ module _ {D : Type 0}
     end = λ t l x same. end t;
     install = λ other. let both = sym is ∙ other in cc;
     tells = λ other. let both = sym is ∙ other in cc;
+    demo = λ seed scale other. let both = sym is ∙ other in cc;
     disk = disk;
     port = port;
     steady = steady;
@@ -409,6 +426,7 @@ module _ {D : Type 0}
     complete_fresh = λ t held other. let both = sym is ∙ other in cc;
     complete_install = λ t held other. let both = sym is ∙ other in cc;
     complete_page = λ t held other. let both = sym is ∙ other in cc;
+    complete_demo = λ t held seed scale other. let both = sym is ∙ other in cc;
   }
 
   -- one item is done whole, or memory is refused
@@ -418,11 +436,28 @@ module _ {D : Type 0}
       → ((status ≡ ends) × (g.told new ≡ g.told old ++ item.reply)) ⊎ (status ≡ NoMemory)
   told_whole s item ends held (inl runs) =
       ⊎_elim
-      (λ is. inl (is, runs.whole is))
+      (λ is. inl (is, item_told g (g.size old) s item ends old new status runs is))
       (λ failed. absurd (⊎_elim (no_disk held) (no_port held) failed))
       runs.status_is
   told_whole s item ends held (inr (inl short)) = inr short.memory
   told_whole s item ends held (inr (inr fails)) =
+      ⊎_elim (λ is. absurd (no_disk held is)) (λ memory. inr memory) fails.early
+
+  -- all is done and told, or memory is refused
+  acts_whole : {Else : Outcome → Type 0} {set : List SetImage} {limit max : ℕ} {first : Mounted}
+      {c : Course}
+      → NoFault (g.faults old) (g.faults new)
+      → RunsActs g (g.size old) Else first c old new status
+      ⊎ FailsMaking g (g.size old) set limit max old new status
+      → ((status ≡ c.ends) × (g.told new ≡ g.told old ++ joined c.items)) ⊎ (status ≡ NoMemory)
+  acts_whole held (inl runs) =
+      ⊎_elim
+      (λ is. inl (is, (let items = runs.items in items.whole) is))
+      (λ others.
+      ⊎_elim (λ failed. absurd (⊎_elim (no_disk held) (no_port held) failed))
+      (λ memory. inr memory) others)
+      runs.status_is
+  acts_whole held (inr fails) =
       ⊎_elim (λ is. absurd (no_disk held is)) (λ memory. inr memory) fails.early
 
   -- a verb that is none of these
@@ -433,8 +468,11 @@ module _ {D : Type 0}
       → ((limit max : ℕ) → n ≡ Make limit max → ⊥)
       → (n ≡ verbs.Install → Installs g old new status)
       → (n ≡ verbs.Status → TellsPage g old new status)
+      → ((seed scale : ℕ)
+      → n ≡ Demo seed scale
+      → DemonstratesOf g seed scale old new status)
       → DoesVerb g m old new status
-  other_verb n is none not_serve not_make install tells = record {
+  other_verb n is none not_serve not_make install tells demo = record {
     item = λ t c some. no_command m n c is none some;
     none = λ t c some. no_command m n c is none some;
     touches = λ t c some. no_command m n c is none some;
@@ -456,6 +494,7 @@ module _ {D : Type 0}
     end = λ t limit max other. absurd (not_make limit max (sym is ∙ other));
     install = λ other. install (sym is ∙ other);
     tells = λ other. tells (sym is ∙ other);
+    demo = λ seed scale other. demo seed scale (sym is ∙ other);
     disk = disk;
     port = port;
     steady = steady;
@@ -468,4 +507,6 @@ module _ {D : Type 0}
         ((install (sym is ∙ other)).item t set fits spelled s stands);
     complete_page = λ t held other s stands.
         told_whole s (page_item s) Done held ((tells (sym is ∙ other)).item t s stands);
+    complete_demo = λ t held seed scale other none.
+        acts_whole held ((demo seed scale (sym is ∙ other)).runs t none);
   }

@@ -15,18 +15,18 @@ use Rattle.vab_device.specs.declared.fault.StartFault.TheVariants as start
 use Rattle.vab_device.specs.Faults.{IsOfContents, IsOfDisk}
 use Rattle.vab_device.specs.Mounted.{Mounted}
 use Rattle.vab_device.specs.Reading.{device, IsIn}
-use Rattle.vab_recover.specs.Repairs.{LeavesSame}
+use Rattle.vab_recover.specs.Opening.{LeavesSame}
 use Rattle.vab_model.specs.Effects.{IsOneOf}
 use Rattle.vab_exchanges.specs.Items.{Item}
 use Rattle.vab_exchanges.specs.Runs.{CrashesWithin, LeavesItem}
 use Rattle.vab_exchanges.proofs.RunLaws.{within_item}
 use Rattle.vab_cli.specs.declared.status.Status.{Status}
-use Rattle.vab_cli.specs.declared.status.Status.TheVariants.{Done, Refused, NotADevice, Disk, Port}
+use Rattle.vab_cli.specs.declared.status.Status.TheVariants.{NotADevice, Disk, Port}
 use Rattle.vab_cli.specs.declared.status.Status.TheVariants.{NoMemory}
 use Rattle.vab_cli.specs.Codes.{start_status}
 use Rattle.vab_cli.specs.Opening.{Opens}
-use Rattle.vab_cli.specs.Runs.{IsEarly, IsFailed, LeavesTelling, MeansAs, RunsItem, FailsBefore}
-use Rattle.vab_cli.specs.Runs.{RunsNone, RunsShort}
+use Rattle.vab_cli.specs.Runs.{IsEarly, IsFailed, LeavesTelling, MeansAs, RunsItem, RunsItems}
+use Rattle.vab_cli.specs.Runs.{FailsBefore, RunsNone, RunsShort}
 use Rattle.vab_cli.specs.Telling.{DoesItem, LeavesShort}
 
 -- Nothing is told, and the disk means the same in every outcome.
@@ -326,6 +326,30 @@ module _ {D : Type 0}
         P : Outcome → Type 0
         P = LeavesItem (IsIn size) (g.told old) item
 
+    -- items of which there is one
+    one_item : (Whole : Type 0) (old new : D)
+        → ((n : ℕ) × (g.told new ≡ g.told old ++ take n item.reply))
+        → (Whole → g.told new ≡ g.told old ++ item.reply)
+        → (Whole → IsIn size item.last.now (g.seen new))
+        → (IsAtRest g old → Whole → IsAtRest g new)
+        → (IsAtRest g old
+        → (o : Outcome)
+        → g.outcomes new (g.moment old) o
+        → CrashesWithin (IsIn size) [] s (item ∷ []) (g.told old) o)
+        → RunsItems g size (λ o. ⊥) [] s (item ∷ []) item.last.now Whole old new
+    one_item Whole old new front whole stands settled cuts =
+        let same = sym (append-nil item.reply) in
+        record {
+          front = (
+            front.0,
+            subst (λ (l : List ℕ). g.told new ≡ g.told old ++ take front.0 l) same front.1,
+          );
+          whole = λ is. subst (λ (l : List ℕ). g.told new ≡ g.told old ++ l) same (whole is);
+          stands = stands;
+          settled = settled;
+          every_cut = λ rest o at. inl (cuts rest o at);
+        }
+
     -- it is done, and ends so
     pub runs_done : (ends : Status) (old mid new : D)
         → MeansSame g size old mid
@@ -336,13 +360,13 @@ module _ {D : Type 0}
         → RunsItem g size s item ends old new status
     runs_done ends old mid new opens stands status is does = record {
       status_is = inl is;
-      front = (let front = does.front in
-          (front.0, front.1 ∙ ap (λ (l : List ℕ). l ++ take front.0 item.reply) opens.told));
-      whole = λ same. does.told ∙ ap (λ (l : List ℕ). l ++ item.reply) opens.told;
-      stands = λ same. does.stands;
-      settled = λ rest same. does.settled (opens.settled rest);
-      every_cut = λ rest o at.
-          item_cuts old mid new opens stands (does.time (opens.settled rest)) rest o at;
+      items = one_item (status ≡ ends) old new
+          (let front = does.front in
+          (front.0, front.1 ∙ ap (λ (l : List ℕ). l ++ take front.0 item.reply) opens.told))
+          (λ same. does.told ∙ ap (λ (l : List ℕ). l ++ item.reply) opens.told)
+          (λ same. does.stands)
+          (λ rest same. does.settled (opens.settled rest))
+          (λ rest. item_cuts old mid new opens stands (does.time (opens.settled rest)) rest);
     }
 
     -- the disk or the port failed
@@ -356,13 +380,13 @@ module _ {D : Type 0}
         → RunsItem g size s item ends old new status
     runs_failed ends old mid new opens stands status failed kind does = record {
       status_is = inr failed;
-      front = (let front = does.front in
-          (front.0, front.1 ∙ ap (λ (l : List ℕ). l ++ take front.0 item.reply) opens.told));
-      whole = λ same. absurd (never same);
-      stands = λ same. absurd (never same);
-      settled = λ rest same. absurd (never same);
-      every_cut = λ rest o at.
-          item_cuts old mid new opens stands (does.time (opens.settled rest)) rest o at;
+      items = one_item (status ≡ ends) old new
+          (let front = does.front in
+          (front.0, front.1 ∙ ap (λ (l : List ℕ). l ++ take front.0 item.reply) opens.told))
+          (λ same. absurd (never same))
+          (λ same. absurd (never same))
+          (λ rest same. absurd (never same))
+          (λ rest. item_cuts old mid new opens stands (does.time (opens.settled rest)) rest);
     }
       where
         never : status ≡ ends → ⊥
@@ -385,6 +409,18 @@ module _ {D : Type 0}
       every_cut = λ rest o at.
           item_cuts old mid new opens stands (does.time (opens.settled rest)) rest o at;
     }
+
+-- what is told of an item that is whole
+pub item_told : {D : Type 0} (g : Ghosts D) (size : ℕ) (first : Mounted) (item : Item Mounted)
+    (ends : Status) (old new : D) (status : Status)
+    → RunsItem g size first item ends old new status
+    → status ≡ ends
+    → g.told new ≡ g.told old ++ item.reply
+item_told g size first item ends old new status runs is =
+    subst
+    (λ (l : List ℕ). g.told new ≡ g.told old ++ l)
+    (append-nil item.reply)
+    (let items = runs.items in items.whole is)
 
 -- what was said of an item with the size of a disk, of the same size
 pub does_sized : {D A E : Type 0}

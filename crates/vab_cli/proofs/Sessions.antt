@@ -11,7 +11,7 @@ use Rattle.vab_disk.proofs.Moments.{adds_wider, adds_on, all_since}
 use Rattle.vab_device.specs.declared.device.Device.{Device}
 use Rattle.vab_device.specs.Mounted.{Mounted, mounted_on}
 use Rattle.vab_device.specs.Reading.{device, IsIn, Represents}
-use Rattle.vab_recover.specs.Repairs.{LeavesSame}
+use Rattle.vab_recover.specs.Opening.{LeavesSame}
 use Rattle.vab_set.specs.declared.set.SetImage.{SetImage}
 use Rattle.vab_layout.specs.Layout.{table_of}
 use Rattle.vab_make.specs.declared.fault.MakeFault.{MakeFault}
@@ -20,7 +20,7 @@ use Rattle.vab_make.specs.Made.{made_layout, refusal_of, made_device_of}
 use Rattle.vab_make.specs.Making.{Gives, IsOfDisk, IsMade, LeavesMaking}
 use Rattle.vab_exchanges.specs.Session.{Exchange, End, IsSession}
 use Rattle.vab_exchanges.specs.Hearing.{HearsWhere}
-use Rattle.vab_exchanges.specs.Items.{items_of, output_of}
+use Rattle.vab_exchanges.specs.Items.{items_of, kept_after, output_of}
 use Rattle.vab_exchanges.specs.Runs.{CrashesWithin, IsTold, Serves}
 use Rattle.vab_exchanges.proofs.RunLaws.{items_chain, within_greeting}
 use Rattle.vab_session.proofs.AloneLaws.{alone_cut}
@@ -37,7 +37,7 @@ use Rattle.vab_cli.specs.declared.status.Status.TheVariants.{NotADevice, Disk, P
 use Rattle.vab_cli.specs.Codes.{session_status, make_status}
 use Rattle.vab_cli.specs.Opening.{Opens}
 use Rattle.vab_cli.specs.Program.{AnswersAll}
-use Rattle.vab_cli.specs.Runs.{SaysEnd, Held, IsEarly, RunsSession, FailsMaking}
+use Rattle.vab_cli.specs.Runs.{SaysEnd, Held, IsEarly, RunsItems, RunsSession, FailsMaking}
 use Rattle.vab_cli.proofs.Items.{mounted_is}
 use Rattle.vab_cli.proofs.Running.{settled_image}
 
@@ -175,23 +175,7 @@ module _ {D : Type 0}
             (subst (λ (l : List ℕ). IsSession (2 ^ 44) serves.refused l others v other)
             (sym behind.left) is);
         status_is = says r serves.end serves.ends;
-        front = (let front = serves.front in (
-          front.0,
-          front.1
-              ∙ ap
-              (λ (l : List ℕ).
-              l ++ take front.0
-              (output_of response (nothing_staged first) serves.exchanges serves.unfinished))
-              behind.told,
-        ));
-        whole = λ held.
-            serves.whole (port_held r held)
-            ∙ ap
-            (λ (l : List ℕ).
-            l ++ output_of response (nothing_staged first) serves.exchanges serves.unfinished)
-            behind.told;
-        stands = λ held. serves.stands (port_held r held);
-        settled = λ rest held. serves.settled (port_held r held) (behind.settled rest);
+        items = items;
         heard =
             subst
             (λ (h : List Hearing).
@@ -211,7 +195,6 @@ module _ {D : Type 0}
             (IsTold response (nothing_staged first) serves.exchanges l (g.told mid))
             (g.heard mid) (g.heard new))
             behind.left serves.heard));
-        every_cut = every_cut;
         alone = λ rest done later is other slot images alone o at since told_is whole.
             ⊎_elim
             (λ within.
@@ -239,6 +222,25 @@ module _ {D : Type 0}
           → Within first serves.exchanges serves.unfinished (g.told old) o ⊎ Else o
       every_cut rest =
           behind.cuts rest serves.exchanges serves.unfinished (serves.time (behind.settled rest))
+
+      output : List ℕ
+      output = output_of response (nothing_staged first) serves.exchanges serves.unfinished
+
+      items : RunsItems g size Else (codes "FB01") first
+          (items_of response (nothing_staged first) serves.exchanges serves.unfinished)
+          (kept_after response (nothing_staged first) serves.exchanges).now
+          (Held (session_status r)) old new
+      items = record {
+        front = (
+          serves.front.0,
+          serves.front.1 ∙ ap (λ (l : List ℕ). l ++ take serves.front.0 output) behind.told,
+        );
+        whole = λ held.
+            serves.whole (port_held r held) ∙ ap (λ (l : List ℕ). l ++ output) behind.told;
+        stands = λ held. serves.stands (port_held r held);
+        settled = λ rest held. serves.settled (port_held r held) (behind.settled rest);
+        every_cut = every_cut;
+      }
 
   -- a session over the device of the disk
   pub opened_runs : (d : Device) (first : Mounted) (old mid new : D) (r : Answer)
@@ -278,7 +280,7 @@ module _ {D : Type 0}
 
   module _ (set : List SetImage) (limit max : ℕ) where
     -- every outcome of making
-    making_cuts : (old new : D)
+    pub making_cuts : (old new : D)
         → Adds g.moment g.outcomes old new
         (LeavesMaking (g.told old) set limit max size (g.seen old))
         → IsAtRest g old
@@ -295,7 +297,7 @@ module _ {D : Type 0}
         })
 
     -- the outcomes up to where the made device is opened
-    prepared : (old mid now : D)
+    pub prepared : (old mid now : D)
         → g.told mid ≡ g.told old
         → IsMade set limit max size (g.seen mid)
         → Adds g.moment g.outcomes old mid
@@ -411,7 +413,7 @@ module _ {D : Type 0} (g : Ghosts D) (size : ℕ) where
         session = runs.session;
         status_is = runs.status_is;
         held = held;
-        told = runs.whole held;
+        told = runs.items.whole held;
       })
   completed Else first old new status (inr fails) early disk port =
       ⊎_elim (λ failed. absurd (disk failed)) (λ memory. inr memory) (early fails)

@@ -1,17 +1,14 @@
 -- What verbs touch, by what their functions touch.
-use Rattle.std.proofs.Common.{◌≡◌, ◌⊎◌, ◌∙◌, inl, inr, ⊎_elim, ℕ, List, length, Ok, refl, sym, ap, subst}
+use Rattle.std.proofs.Common.{◌≡◌, ◌⊎◌, ◌∙◌, inl, inr, ⊎_elim, ℕ, List, Ok, refl, sym, ap, subst}
+use Rattle.std.proofs.Common.{arith}
 use Rattle.std.specs.Prelude.{◌==◌, Bool, true, Some, None, is_some}
 use Rattle.std.proofs.lemmas.Bool.{eq-eqb}
 use Rattle.vab_disk.specs.declared.disk.Disk.{Ghosts}
-use Rattle.vab_disk.specs.Disk.{Image, set_sector}
-use Rattle.vab_disk.specs.Written.{set_here}
+use Rattle.vab_disk.specs.Disk.{Image}
 use Rattle.vab_disk.specs.Calls.{Changes, SameBut, Touches}
-use Rattle.vab_disk.proofs.CallLaws.{set_same_but, changes_then, changes_wider, changes_touches}
+use Rattle.vab_disk.proofs.CallLaws.{changes_then, changes_wider, changes_touches}
 use Rattle.vab_bootctl.specs.declared.slots.Control.{Control}
 use Rattle.vab_bootctl.specs.Control.{control_of}
-use Rattle.vab_lpstore.specs.Layout.{text_sectors}
-use Rattle.vab_lpstore.specs.Storing.{IsOfRepair}
-use Rattle.vab_lpstore.proofs.StoreLaws.{repair_elsewhere}
 use Rattle.vab_model.specs.Commands.{Command, SetActive, Boot, Mark, Print, Digest, Begin, Create}
 use Rattle.vab_model.specs.Commands.{Resize, Delete, Snapshot, Flash, Finish, Cancel, BeginMerge}
 use Rattle.vab_model.specs.Commands.{Merge}
@@ -21,8 +18,8 @@ use Rattle.vab_device.specs.declared.device.Device.{Device}
 use Rattle.vab_device.specs.Kept.{IsDevice}
 use Rattle.vab_device.specs.Mounted.{Mounted, state_on, mounted_on}
 use Rattle.vab_device.specs.Reading.{IsIn, Represents}
-use Rattle.vab_recover.specs.Repairs.{IsRepair}
-use Rattle.vab_recover.proofs.OpenLaws.{control_stays}
+use Rattle.vab_recover.specs.Opening.{IsOfOpening}
+use Rattle.vab_recover.proofs.MendLaws.{opening_misses}
 use Rattle.vab_manager.specs.Controls.{IsOfSlots, IsOfCommand}
 use Rattle.vab_begin.specs.Writes.{MayEnd, IsOfCancelled}
 use Rattle.vab_begin.proofs.KeptLaws.{planned_of, unplanned_of}
@@ -33,30 +30,15 @@ use Rattle.vab_cli.specs.Verbs.{IsVerb}
 use Rattle.vab_manager.proofs.EffectLaws.{some_images}
 use Rattle.vab_cli.proofs.Items.{mounted_is}
 
--- ---- the repair leaves the boot control
+-- ---- opening leaves the boot control
 
--- what a repair would write there is what is there
-not_there : (size : ℕ) (old : Image) (bytes : List ℕ) → IsRepair size old 4 bytes → bytes ≡ old 4
-not_there size old bytes w =
-    let mid : Image = set_sector old 4 bytes in
-    let g = w.read.geometry in
-    let slot = w.slot in
-    let text = w.table.text in
-    let W : ℕ → List ℕ → Type 0 = IsOfRepair w.table.primary w.table.backup g slot text in
-    let but : SameBut W old mid = λ s.
-    ⊎_elim
-    (λ same. inl same)
-    (λ is.
-    inr (subst (λ (n : ℕ). W n (mid s)) (sym is.0)
-    (subst (λ (l : List ℕ). W 4 l) (sym is.1) w.writes)))
-    (set_same_but old mid 4 bytes (inr refl) s) in
-    let stays = control_stays g slot (text_sectors (length text)) old mid
-    (repair_elsewhere w.table.primary w.table.backup g slot text old mid but) in
-    sym (set_here old 4 bytes 4 refl) ∙ stays
-
-pub repair_leaves : (size : ℕ) (old new : Image) → SameBut (IsRepair size old) old new → new 4 ≡ old 4
-repair_leaves size old new but =
-    ⊎_elim (λ same. same) (λ w. not_there size old (new 4) w) (but 4)
+pub opening_leaves : (size : ℕ) (old new : Image)
+    → SameBut (IsOfOpening size old) old new
+    → new 4 ≡ old 4
+opening_leaves size old new but =
+    ⊎_elim (λ same. same)
+    (λ w. opening_misses size 4 old (new 4) (omega arith) (λ e. omega (arith, e)) w)
+    (but 4)
 
 -- ---- a command on the device of a disk
 
@@ -204,24 +186,24 @@ verb_changes g d size old new m boot c verb kept represents is there touches =
 module _ {D : Type 0} (g : Ghosts D) (size : ℕ) (W : List ℕ → ℕ → List ℕ → Type 0) where
   -- both
   abbrev pub IsOfBoth : Image → ℕ → List ℕ → Type 0
-  IsOfBoth image s bytes = IsRepair size image s bytes ⊎ W (image 4) s bytes
+  IsOfBoth image s bytes = IsOfOpening size image s bytes ⊎ W (image 4) s bytes
 
   -- opening alone
   pub opening_changes : (old new : D)
-      → Changes g (IsRepair size (g.seen old)) old new
+      → Changes g (IsOfOpening size (g.seen old)) old new
       → Changes g (IsOfBoth (g.seen old)) old new
   opening_changes old new opens =
-      changes_wider g (IsOfBoth (g.seen old)) (IsRepair size (g.seen old)) old new opens
+      changes_wider g (IsOfBoth (g.seen old)) (IsOfOpening size (g.seen old)) old new opens
       (λ s x w. inl w)
 
   pub opened_changes : (boot : Control) (old mid new : D)
       → (t : g.is_modelled)
-      → Changes g (IsRepair size (g.seen old)) old mid
+      → Changes g (IsOfOpening size (g.seen old)) old mid
       → (control_of (g.seen mid 4) ≡ Ok boot → Changes g (W (g.seen mid 4)) mid new)
       → control_of (g.seen old 4) ≡ Ok boot
       → Changes g (IsOfBoth (g.seen old)) old new
   opened_changes boot old mid new t opens does there =
-      let same = repair_leaves size (g.seen old) (g.seen mid) (opens.seen t) in
+      let same = opening_leaves size (g.seen old) (g.seen mid) (opens.seen t) in
       changes_then g (IsOfBoth (g.seen old)) old mid new
       (opening_changes old mid opens)
       (changes_wider g (IsOfBoth (g.seen old)) (W (g.seen mid 4)) mid new
@@ -239,7 +221,7 @@ module _ {D : Type 0} (g : Ghosts D) (size : ℕ) where
   pub verb_opened : (d : Device) (m : Mounted) (boot : Control) (c : Command) (old mid new : D)
       → (t : g.is_modelled)
       → Represents d size (g.seen mid)
-      → Changes g (IsRepair size (g.seen old)) old mid
+      → Changes g (IsOfOpening size (g.seen old)) old mid
       → (control_of (g.seen mid 4) ≡ Ok boot
       → Changes g (IsOfDone d m boot c (g.seen mid 4)) mid new)
       → control_of (g.seen old 4) ≡ Ok boot
@@ -258,7 +240,7 @@ module _ {D : Type 0} (g : Ghosts D) (size : ℕ) where
       inr (record {
         device = d;
         opened = g.seen mid;
-        repaired = opens.seen t;
+        opens = opens.seen t;
         represents = is;
         writes = merging;
       }))
@@ -271,21 +253,21 @@ module _ {D : Type 0} (g : Ghosts D) (size : ℕ) (W : Device → List ℕ → �
   pub served_changes : (d : Device) (old mid new : D)
       → (t : g.is_modelled)
       → Represents d size (g.seen mid)
-      → Changes g (IsRepair size (g.seen old)) old mid
+      → Changes g (IsOfOpening size (g.seen old)) old mid
       → Changes g (W d (g.seen mid 4)) mid new
       → Changes g (IsOfServing W size (g.seen old)) old new
   served_changes d old mid new t is opens serves =
       changes_then g (IsOfServing W size (g.seen old)) old mid new
-      (changes_wider g (IsOfServing W size (g.seen old)) (IsRepair size (g.seen old)) old mid opens
+      (changes_wider g (IsOfServing W size (g.seen old)) (IsOfOpening size (g.seen old)) old mid opens
       (λ s x w. inl w))
       (changes_wider g (IsOfServing W size (g.seen old)) (W d (g.seen mid 4)) mid new serves
       (λ s x w.
       inr (record {
         device = d;
         opened = g.seen mid;
-        repaired = opens.seen t;
+        opens = opens.seen t;
         represents = is;
         writes =
             subst (λ (l : List ℕ). W d l s x)
-            (repair_leaves size (g.seen old) (g.seen mid) (opens.seen t)) w;
+            (opening_leaves size (g.seen old) (g.seen mid) (opens.seen t)) w;
       })))

@@ -44,10 +44,13 @@ install_line images left (replies.Left blocks) = installed_line images left
 install_line images left replies.Merged = installed_line images left
 install_line images left (replies.Refused refusal) = refused_line refusal
 
+-- how many blocks are left to merge behind it
+abbrev pub left_behind : Mounted → List SetImage → ℕ
+left_behind m set = left_of (after_of m (install_effect m set)).state.phase
+
 abbrev pub install_told : Mounted → List SetImage → List ℕ
 install_told m set =
-    install_line (length set) (left_of (after_of m (install_effect m set)).state.phase)
-    (install_effect m set).reply
+    install_line (length set) (left_behind m set) (install_effect m set).reply
 
 -- its one item, whose steps are the devices between its commands
 abbrev pub install_item : Mounted → List SetImage → Item Mounted
@@ -97,7 +100,7 @@ module _ {D : Type 0} (g : Ghosts D) (old new : D) (status : Status) where
         → (fault : StartFault)
         → device (g.size old) (g.seen old) ≡ Err fault
         → g.input_left new ≡ g.input_left old
-    -- It writes what opening repairs, and what the commands of a session may that merge nothing.
+    -- It writes what opening may, and what the commands of a session may that merge nothing.
     pub touches : g.is_modelled
         → (s : Mounted)
         → IsIn (g.size old) s (g.seen old)

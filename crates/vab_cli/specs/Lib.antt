@@ -1,5 +1,7 @@
+pub mod Acts
 pub mod Codes
 pub mod Counts
+pub mod Demo
 pub mod Installing
 pub mod Opening
 pub mod Paging

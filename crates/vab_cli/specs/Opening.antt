@@ -4,7 +4,7 @@ use Rattle.vab_disk.specs.declared.disk.Disk.{Ghosts}
 use Rattle.vab_disk.specs.Disk.{Adds}
 use Rattle.vab_disk.specs.Calls.{IsAtRest}
 use Rattle.vab_device.specs.Reading.{device}
-use Rattle.vab_recover.specs.Repairs.{LeavesSame}
+use Rattle.vab_recover.specs.Opening.{LeavesSame}
 
 -- nothing is heard or told, and the disk means the same in every outcome
 pub record Opens {D : Type 0} (g : Ghosts D) (size : ℕ) (old new : D) : Type 0 where

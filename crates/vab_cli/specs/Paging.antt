@@ -5,7 +5,7 @@ use Rattle.vab_disk.specs.Calls.{Changes}
 use Rattle.vab_device.specs.declared.fault.StartFault.{StartFault}
 use Rattle.vab_device.specs.Mounted.{Mounted}
 use Rattle.vab_device.specs.Reading.{device, IsIn}
-use Rattle.vab_recover.specs.Repairs.{IsRepair}
+use Rattle.vab_recover.specs.Opening.{IsOfOpening}
 use Rattle.vab_status.specs.Page.{page}
 use Rattle.vab_exchanges.specs.Items.{Item}
 use Rattle.vab_cli.specs.declared.status.Status.{Status}
@@ -31,6 +31,6 @@ module _ {D : Type 0} (g : Ghosts D) (old new : D) (status : Status) where
         → (fault : StartFault)
         → device (g.size old) (g.seen old) ≡ Err fault
         → RunsNone g (g.size old) none_line old new status
-    -- It hears nothing, and writes what opening repairs.
+    -- It hears nothing, and writes what opening may.
     pub quiet : g.is_modelled → HearsNothing g old new
-    pub touches : g.is_modelled → Changes g (IsRepair (g.size old) (g.seen old)) old new
+    pub touches : g.is_modelled → Changes g (IsOfOpening (g.size old) (g.seen old)) old new

@@ -9,6 +9,7 @@ use Rattle.vab_bootctl.specs.Control.{control_of}
 use Rattle.vab_set.specs.Reading.{set_of}
 use Rattle.vab_set.specs.declared.set.SetImage.{SetImage}
 use Rattle.vab_set.specs.declared.fault.SetFault.{SetFault}
+use Rattle.vab_gen.specs.Sets.{fresh_set, next_set}
 use Rattle.vab_model.specs.declared.state.Image.{Image as ImageOfSlot}
 use Rattle.vab_model.specs.Commands.{Command}
 use Rattle.vab_device.specs.declared.fault.StartFault.{StartFault}
@@ -18,10 +19,10 @@ use Rattle.vab_make.specs.declared.fault.MakeFault.{MakeFault}
 use Rattle.vab_make.specs.Made.{refusal_of, made_device_of}
 use Rattle.vab_make.specs.Making.{LeavesMaking}
 use Rattle.vab_make.specs.Touched.{IsOfMaking}
-use Rattle.vab_words.specs.Verbs.{Meaning, Make, Serve, Install}
+use Rattle.vab_words.specs.Verbs.{Meaning, Make, Serve, Install, Demo}
 use Rattle.vab_words.specs.Verbs as verbs
 use Rattle.vab_exchanges.specs.Session.{Exchange, End, IsSession}
-use Rattle.vab_exchanges.specs.Items.{output_of}
+use Rattle.vab_exchanges.specs.Items.{joined, output_of}
 use Rattle.vab_commands.specs.Touched.{IsOfAll, IsOfCommands}
 use Rattle.vab_status.specs.Page.{page}
 use Rattle.vab_session.specs.Alone.{IsAlone, StandsAlone}
@@ -33,6 +34,7 @@ use Rattle.vab_cli.specs.declared.status.Status.TheVariants.{Done, Usage, Malfor
 use Rattle.vab_cli.specs.declared.status.Status.TheVariants.{Disk, Port, NoMemory}
 use Rattle.vab_cli.specs.Codes.{make_status}
 use Rattle.vab_cli.specs.Counts.{HearsNothing, IsSteady}
+use Rattle.vab_cli.specs.Demo.{DemonstratesOf, life_of}
 use Rattle.vab_cli.specs.Installing.{Installs, install_told, install_status}
 use Rattle.vab_cli.specs.Paging.{TellsPage}
 use Rattle.vab_cli.specs.Runs.{SaysEnd, Held, NoFault, RunsSession, RunsItem, FailsBefore, RunsNone}
@@ -81,7 +83,7 @@ pub record DoesVerb {D : Type 0}
       → (fault : StartFault)
       → device (g.size old) (g.seen old) ≡ Err fault
       → RunsNone g (g.size old) none_line old new status
-  -- They write what opening repairs, and boot control's sector where the command is one on slots:
+  -- They write what opening may, and boot control's sector where the command is one on slots:
   -- the boot control that the boot rules make of the one that is there, of both slots. `cancel` and
   -- `begin-merge` write the mark. `merge` writes blocks of the slot's partitions, entries of its
   -- stores, and the mark at its end. All else stays, as it reads and in each outcome.
@@ -123,7 +125,7 @@ pub record DoesVerb {D : Type 0}
       → (fault : StartFault)
       → device (g.size old) (g.seen old) ≡ Err fault
       → RunsNone g (g.size old) [] old new status
-  -- It writes what opening repairs, and what its commands may write: boot control by the boot
+  -- It writes what opening may, and what its commands may write: boot control by the boot
   -- rules, the update mark, the statuses, tables, and blocks behind them. Where no packet asks for
   -- a merge, those are the target's table, and blocks of no image.
   pub touches_served : g.is_modelled
@@ -202,6 +204,10 @@ pub record DoesVerb {D : Type 0}
   -- `install` and `status`.
   pub install : m ≡ Install → Installs g old new status
   pub tells : m ≡ verbs.Status → TellsPage g old new status
+  -- `demo SEED --scale K`.
+  pub demo : (seed scale : ℕ)
+      → m ≡ Demo seed scale
+      → DemonstratesOf g seed scale old new status
   -- Status 6 comes only where the count of the disk's faults rose, and 7 only where that of the
   -- source or the sink did. With any other the counts are as they were.
   pub disk : status ≡ Disk → Rose (g.faults old).disk (g.faults new).disk
@@ -246,3 +252,11 @@ pub record DoesVerb {D : Type 0}
       → (s : Mounted)
       → IsIn (g.size old) s (g.seen old)
       → ((status ≡ Done) × (g.told new ≡ g.told old ++ page s.state)) ⊎ (status ≡ NoMemory)
+  pub complete_demo : g.is_modelled
+      → NoFault (g.faults old) (g.faults new)
+      → (seed scale : ℕ)
+      → m ≡ Demo seed scale
+      → refusal_of (fresh_set scale seed) 0 65536 (g.size old) ≡ None
+      → (let c = life_of (fresh_set scale seed)
+      (next_set scale seed (fresh_set scale seed)) (g.size old) in
+      ((status ≡ c.ends) × (g.told new ≡ g.told old ++ joined c.items)) ⊎ (status ≡ NoMemory))

@@ -13,7 +13,7 @@ use Rattle.vab_make.specs.Made.{made_device_of}
 use Rattle.vab_make.specs.Making.{LeavesMaking}
 use Rattle.vab_exchanges.specs.Session.{Exchange, End, IsSession}
 use Rattle.vab_exchanges.specs.Session as session
-use Rattle.vab_exchanges.specs.Items.{Item, items_of, kept_after, output_of}
+use Rattle.vab_exchanges.specs.Items.{Item, items_of, joined, kept_after}
 use Rattle.vab_exchanges.specs.Runs.{acknowledged, CrashesWithin, IsTold}
 use Rattle.vab_exchanges.specs.Hearing.{HearsWhere}
 use Rattle.vab_session.specs.Alone.{IsAlone, StandsAlone, FinishesNothing}
@@ -106,11 +106,32 @@ MeansAs size old image = device size image ≡ device size old
 -- ---- runs
 
 module _ {D : Type 0} (g : Ghosts D) (size : ℕ) where
+  -- Items one behind another, from this device to that one. What was told is a front of the
+  -- greeting and of what is told of them, and all of it where the run is `Whole`; then the disk is
+  -- the last device. However power is cut, a front is told, and the disk is in a step of the first
+  -- item that doesn't stand whole, after all the acknowledged ones. `Else` are the outcomes from
+  -- before them.
+  pub record RunsItems
+      (Else : Outcome → Type 0)
+      (greeting : List ℕ)
+      (first : Mounted)
+      (items : List (Item Mounted))
+      (last : Mounted)
+      (Whole : Type 0)
+      (old new : D) : Type 0 where
+    pub front : (n : ℕ) × (g.told new ≡ g.told old ++ take n (greeting ++ joined items))
+    pub whole : Whole → g.told new ≡ g.told old ++ (greeting ++ joined items)
+    pub stands : Whole → IsIn size last (g.seen new)
+    pub settled : IsAtRest g old → Whole → IsAtRest g new
+    pub every_cut : IsAtRest g old
+        → (o : Outcome)
+        → g.outcomes new (g.moment old) o
+        → CrashesWithin (IsIn size) greeting first items (g.told old) o ⊎ Else o
+
   -- The input is a session of at most 2^44 bytes, for some choice of the commands to which memory
-  -- is refused. What was told is a front of what the session tells, and all of it unless the disk
-  -- or the port failed. However power is cut, a front is told, and the disk is in a step of the
-  -- first item that doesn't stand whole, after all the acknowledged ones. It hears only where all
-  -- that had come is answered. `Else` are the outcomes from before the session.
+  -- is refused. Its items run one behind another, all of them unless the disk or the port failed.
+  -- It hears only where all that had come is answered. `Else` are the outcomes from before the
+  -- session.
   pub record RunsSession
       (Else : Outcome → Type 0)
       (first : Mounted)
@@ -126,24 +147,14 @@ module _ {D : Type 0} (g : Ghosts D) (size : ℕ) where
         → IsSession (2 ^ 44) refused (g.input_left old) others v other
         → (others ≡ exchanges) × (v ≡ unfinished) × (other ≡ end)
     pub status_is : SaysEnd status end
-    pub front : (n : ℕ)
-        × (g.told new
-        ≡ g.told old ++ take n (output_of response (nothing_staged first) exchanges unfinished))
-    pub whole : Held status
-        → g.told new ≡ g.told old ++ output_of response (nothing_staged first) exchanges unfinished
-    pub stands : Held status
-        → IsIn size (kept_after response (nothing_staged first) exchanges).now (g.seen new)
-    pub settled : IsAtRest g old → Held status → IsAtRest g new
+    pub items : RunsItems Else (codes "FB01") first
+        (items_of response (nothing_staged first) exchanges unfinished)
+        (kept_after response (nothing_staged first) exchanges).now
+        (Held status) old new
     pub heard : HearsWhere
         (IsTold response (nothing_staged first) exchanges (g.input_left old) (g.told old))
         (g.heard old)
         (g.heard new)
-    pub every_cut : IsAtRest g old
-        → (o : Outcome)
-        → g.outcomes new (g.moment old) o
-        → CrashesWithin (IsIn size) (codes "FB01") first
-        (items_of response (nothing_staged first) exchanges unfinished) (g.told old) o
-        ⊎ Else o
     -- From where one slot alone has images and no update is ready, as from the reply of the begin
     -- of a merge on, until an installation is finished: in every outcome it alone has images, the
     -- same ones, and a boot goes to it.
@@ -163,9 +174,7 @@ module _ {D : Type 0} (g : Ghosts D) (size : ℕ) where
         (drop 4 since)
         → StandsAlone size slot images o.image ⊎ Else o
 
-  -- One item alone: what was told is a front of its line or bytes, and all of it where the run ends
-  -- as the item does; then the disk is in its last step. However power is cut, the disk is in one
-  -- of its steps, and where all is told, in the last.
+  -- One item alone, all of it where the run ends as the item does.
   pub record RunsItem
       (first : Mounted)
       (item : Item Mounted)
@@ -173,14 +182,7 @@ module _ {D : Type 0} (g : Ghosts D) (size : ℕ) where
       (old new : D)
       (status : Status) : Type 0 where
     pub status_is : (status ≡ ends) ⊎ IsFailed status
-    pub front : (n : ℕ) × (g.told new ≡ g.told old ++ take n item.reply)
-    pub whole : status ≡ ends → g.told new ≡ g.told old ++ item.reply
-    pub stands : status ≡ ends → IsIn size item.last.now (g.seen new)
-    pub settled : IsAtRest g old → status ≡ ends → IsAtRest g new
-    pub every_cut : IsAtRest g old
-        → (o : Outcome)
-        → g.outcomes new (g.moment old) o
-        → CrashesWithin (IsIn size) [] first (item ∷ []) (g.told old) o
+    pub items : RunsItems (λ o. ⊥) [] first (item ∷ []) item.last.now (status ≡ ends) old new
 
   -- Memory was refused behind the opening: nothing is told, and the disk is in one of the item's
   -- steps, however power is cut.

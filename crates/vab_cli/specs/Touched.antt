@@ -14,9 +14,10 @@ use Rattle.vab_model.specs.Commands.{Merge}
 use Rattle.vab_device.specs.declared.device.Device.{Device}
 use Rattle.vab_device.specs.Mounted.{Mounted}
 use Rattle.vab_device.specs.Reading.{Represents}
-use Rattle.vab_recover.specs.Repairs.{IsRepair}
+use Rattle.vab_recover.specs.Opening.{IsOfOpening}
 use Rattle.vab_make.specs.Making.{IsMade}
 use Rattle.vab_make.specs.Touched.{IsOfMaking}
+use Rattle.vab_set.specs.declared.set.SetImage.{SetImage}
 use Rattle.vab_manager.specs.Controls.{IsOfSlots}
 use Rattle.vab_merge_gates.specs.Writes.{IsOfMergeBegun}
 use Rattle.vab_merging.specs.Writes.{IsOfMerge}
@@ -66,7 +67,7 @@ IsOfMerging d Cancel s bytes = ⊥
 abbrev pub IsOfDone : Device → Mounted → Control → Command → List ℕ → ℕ → List ℕ → Type 0
 IsOfDone d m boot c old s bytes = IsOfItem m boot c old s bytes ⊎ IsOfMerging d c s bytes
 
--- What is written so on the device of a disk, once opening has repaired it.
+-- What is written so on the device of a disk, once it is opened.
 pub record IsServed
     (W : Device → List ℕ → ℕ → List ℕ → Type 0)
     (size : ℕ)
@@ -75,7 +76,7 @@ pub record IsServed
     (bytes : List ℕ) : Type 0 where
   pub device : Device
   pub opened : Image
-  pub repaired : SameBut (IsRepair size image) image opened
+  pub opens : SameBut (IsOfOpening size image) image opened
   pub represents : Represents device size opened
   pub writes : W device (image 4) s bytes
 
@@ -83,33 +84,42 @@ pub record IsServed
 abbrev pub IsMergedThere : ℕ → Image → Command → ℕ → List ℕ → Type 0
 IsMergedThere size image c = IsServed (λ d old. IsOfMerging d c) size image
 
--- What a verb that is a command writes: the copy of its table that opening repairs, and what its
--- command does.
+-- What a verb that is a command writes: what opening may write, and what its command does.
 abbrev pub IsOfVerb : ℕ → Image → Mounted → Control → Command → ℕ → List ℕ → Type 0
 IsOfVerb size image m boot c s bytes =
-    IsRepair size image s bytes
+    IsOfOpening size image s bytes
     ⊎ IsOfItem m boot c (image 4) s bytes
     ⊎ IsMergedThere size image c s bytes
 
--- What a session writes, whose commands write so: that, and what opening repairs.
+-- What a session writes, whose commands write so: that, and what opening may write.
 abbrev pub IsOfServing : (Device → List ℕ → ℕ → List ℕ → Type 0)
     → ℕ
     → Image
     → ℕ
     → List ℕ
     → Type 0
-IsOfServing W size image s bytes = IsRepair size image s bytes ⊎ IsServed W size image s bytes
+IsOfServing W size image s bytes = IsOfOpening size image s bytes ⊎ IsServed W size image s bytes
 
--- What a session writes on the device of the empty set, which was made on the disk.
-pub record IsServedFresh
+-- What commands write on the device of a set, which was made on the disk.
+pub record IsServedMade
+    (set : List SetImage)
     (W : Device → List ℕ → ℕ → List ℕ → Type 0)
     (size : ℕ)
     (s : ℕ)
     (bytes : List ℕ) : Type 0 where
   pub made : Image
-  pub is : IsMade [] 0 65536 size made
+  pub is : IsMade set 0 65536 size made
   pub serves : IsServed W size made s bytes
 
--- What a session over a fresh device writes: what its making does, and that.
+-- What commands on a device that is made first write: what its making does, and that.
+abbrev pub IsOfMade : List SetImage
+    → (Device → List ℕ → ℕ → List ℕ → Type 0)
+    → ℕ
+    → ℕ
+    → List ℕ
+    → Type 0
+IsOfMade set W size s bytes = IsOfMaking set 65536 s ⊎ IsServedMade set W size s bytes
+
+-- what a session over a fresh device writes, which is that of the empty set
 abbrev pub IsOfFresh : (Device → List ℕ → ℕ → List ℕ → Type 0) → ℕ → ℕ → List ℕ → Type 0
-IsOfFresh W size s bytes = IsOfMaking [] 65536 s ⊎ IsServedFresh W size s bytes
+IsOfFresh = IsOfMade []

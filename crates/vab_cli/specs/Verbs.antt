@@ -42,6 +42,7 @@ command_of (words.Activate slot) = Some (SetActive slot)
 command_of (words.Print name) = Some (Print name)
 command_of (words.Digest name) = Some (Digest name)
 command_of words.Status = None
+command_of (words.Demo seed scale) = None
 
 -- it is one of a verb
 abbrev pub IsVerb : Command → Type 0
@@ -106,6 +107,20 @@ reply_line c current left (replies.Refused refusal) = refused_line refusal
 abbrev pub command_line : Mounted → Command → List ℕ
 command_line m c =
     reply_line c m.state.control.current (left_of m.state.phase) (effect_on m None c).reply
+
+-- a text, where no command is refused
+abbrev pub unless_refused : Reply → List ℕ → List ℕ
+unless_refused replies.Done text = text
+unless_refused (replies.Booted slot) text = text
+unless_refused (replies.Bytes name) text = text
+unless_refused (replies.Digest sum) text = text
+unless_refused (replies.Left blocks) text = text
+unless_refused replies.Merged text = text
+unless_refused (replies.Refused refusal) text = []
+
+-- the same behind a text, which isn't told of a refusal
+abbrev pub line_behind : (front : List ℕ) → Mounted → Command → List ℕ
+line_behind front m c = unless_refused (effect_on m None c).reply front ++ command_line m c
 
 -- an image's bytes, or why there are none
 abbrev pub print_told : Found → List ℕ

@@ -2,7 +2,9 @@
 //! ends with.
 #![tactic(auto)]
 
+mod acts;
 mod commands;
+mod demo;
 mod installing;
 mod line;
 mod making;
@@ -12,6 +14,7 @@ mod printing;
 mod program;
 mod serving;
 mod status;
+mod telling;
 
 pub use program::run;
 pub use status::Status;

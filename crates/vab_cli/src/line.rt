@@ -14,33 +14,33 @@ pub(crate) const NOT_A_DEVICE: &[u8] = b"not a device\n";
 /// A line: at most 256 bytes, with its newline.
 pub(crate) type Line = ArrayVec<u8, 256>;
 
-// Two texts as a line.
+// Puts two texts as a line.
 fn put_line(out: &mut Line, head: &[u8], tail: &[u8])
-    requires empty { out.old.items ≡ [] }
+    requires room { length out.old.items ≤ 80 }
     requires short { length head.now ≤ 32 }
     requires fits { length tail.now ≤ 64 }
-    ensures { out.new.items ≡ (head.now ++ tail.now) ++ 10 ∷ [] }
+    ensures { out.new.items ≡ out.old.items ++ ((head.now ++ tail.now) ++ 10 ∷ []) }
 {
     put(head, out);
     put(tail, out);
     put(b"\n", out);
 }
 
-/// The line of a refusal.
+/// Puts the line of a refusal.
 pub(crate) fn refused_line(refusal: Refusal, out: &mut Line)
-    requires { out.old.items ≡ [] }
-    ensures { out.new.items ≡ verbs.refused_line refusal }
+    requires { length out.old.items ≤ 80 }
+    ensures { out.new.items ≡ out.old.items ++ verbs.refused_line refusal }
 {
     put(b"refused: ", out);
     put_refusal(&refusal, out);
     put(b"\n", out);
 }
 
-// The line of how many blocks are left to merge.
+// Puts the line of how many blocks are left to merge.
 fn put_left(out: &mut Line, head: &[u8], blocks: u64)
-    requires empty { out.old.items ≡ [] }
+    requires room { length out.old.items ≤ 80 }
     requires short { length head.now ≤ 32 }
-    ensures { out.new.items ≡ (head.now ++ decimal blocks) ++ 10 ∷ [] }
+    ensures { out.new.items ≡ out.old.items ++ ((head.now ++ decimal blocks) ++ 10 ∷ []) }
 {
     put(head, out);
     put_decimal(blocks, out);
@@ -59,10 +59,11 @@ pub(crate) fn installed_line(images: u64, left: u64, out: &mut Line)
     put(b"\n", out);
 }
 
-// The line of a command that is done.
+// Puts the line of a command that is done.
 fn done_line(command: &Command, current: usize, left: u64, out: &mut Line)
-    requires { out.old.items ≡ [] }
-    ensures { out.new.items ≡ verbs.done_line (command_of command.now) current left }
+    requires { length out.old.items ≤ 80 }
+    ensures { out.new.items
+        ≡ out.old.items ++ verbs.done_line (command_of command.now) current left }
 {
     match command {
         Command::SetActive(slot) => put_line(out, b"active ", slot_letter(*slot)),
@@ -83,8 +84,25 @@ fn done_line(command: &Command, current: usize, left: u64, out: &mut Line)
     }
 }
 
-/// The line of the reply to a command, where this slot was the current one and so many blocks were
-/// left to merge.
+/// Puts a text, where a command isn't refused.
+pub(crate) fn put_front(front: &[u8], reply: &Reply, out: &mut Line)
+    requires empty { out.old.items ≡ [] }
+    requires short { length front.now ≤ 80 }
+    ensures { out.new.items ≡ verbs.unless_refused reply.now front.now }
+{
+    match reply {
+        Reply::Refused(_) => {}
+        Reply::Done
+        | Reply::Booted(_)
+        | Reply::Bytes(_)
+        | Reply::Digest(_)
+        | Reply::Left(_)
+        | Reply::Merged => put(front, out),
+    }
+}
+
+/// Puts the line of the reply to a command, where this slot was the current one and so many blocks
+/// were left to merge.
 #[tactic(auto, unfolding(crate::specs::Verbs::reply_line))]
 pub(crate) fn reply_line(
     command: &Command,
@@ -93,8 +111,9 @@ pub(crate) fn reply_line(
     reply: &Reply,
     out: &mut Line,
 )
-    requires { out.old.items ≡ [] }
-    ensures { out.new.items ≡ verbs.reply_line (command_of command.now) current left reply.now }
+    requires { length out.old.items ≤ 80 }
+    ensures { out.new.items
+        ≡ out.old.items ++ verbs.reply_line (command_of command.now) current left reply.now }
 {
     match reply {
         Reply::Done => done_line(command, current, left, out),

@@ -1,6 +1,6 @@
 //! Making a device of the set of images that the input spells.
 ghost use Rattle.std.specs.Prelude.{◌≡◌, ◌≢◌, ◌⊎◌, ◌≤◌, ◌<◌, ◌%◌, ◌^◌, [], List, length};
-ghost use Rattle.std.specs.Prelude.{Some, None, Ok, Err};
+ghost use Rattle.std.specs.Prelude.{Some, None, Ok, Err, true};
 ghost use Rattle.vab_disk.specs.Disk.{Rose};
 ghost use Rattle.vab_disk.specs.Calls.{Changes, InSectors};
 ghost use Rattle.vab_set.specs.Spelling.{IsSet};
@@ -45,8 +45,8 @@ fn tell<P: Port>(port: &mut P, line: &[u8], status: Status) -> Status
     }
 }
 
-// Tells that a device is made.
-fn tell_made<P: Port>(port: &mut P, set: &Set) -> Status
+/// Tells that a device is made.
+pub(crate) fn tell_made<P: Port>(port: &mut P, set: &Set) -> Status
     requires set { IsSet set.now }
     requires size { 6152 ≤ P.size port.old }
     ensures tells { P.is_modelled
@@ -99,6 +99,24 @@ fn tell_fault<P: Port>(port: &mut P, fault: MakeFault) -> Status
         }
     }
     tell(port, line.as_slice(), Status::from(fault))
+}
+
+/// Tells why no device is made. Of want of memory and of a disk that failed nothing is told.
+pub(crate) fn tell_unmade<P: Port>(port: &mut P, fault: MakeFault) -> Status
+    ensures tells { P.is_modelled
+        → Tells P.Disk (make_line fault) (make_status fault) port.old port.new result }
+    ensures size { P.size port.new ≡ P.size port.old }
+    ensures silent { is_silent fault ≡ true
+        → (port.new ≡ port.old) × (result ≡ make_status fault) }
+    ensures either { (result ≡ make_status fault) ⊎ (result ≡ Status.Port) }
+    ensures steady { IsSteady P.Disk port.old port.new result }
+    ensures port { result ≢ make_status fault
+        → Rose (P.faults port.old).sink (P.faults port.new).sink }
+{
+    if is_silent(&fault) {
+        return Status::from(fault);
+    }
+    tell_fault(port, fault)
 }
 
 // Makes a device of a set, and tells that it is made, or why not.

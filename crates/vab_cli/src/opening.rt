@@ -6,7 +6,7 @@ ghost use Rattle.vab_device.specs.declared.fault.StartFault.{StartFault as Fault
 ghost use Rattle.vab_device.specs.Kept.{IsDevice};
 ghost use Rattle.vab_device.specs.Mounted.{Mounted};
 ghost use Rattle.vab_device.specs.Reading.{device, IsIn, Represents};
-ghost use Rattle.vab_recover.specs.Repairs.{IsRepair};
+ghost use Rattle.vab_recover.specs.Opening.{IsOfOpening};
 ghost use Rattle.vab_cli.specs.Counts.{HearsNothing, IsSteady};
 ghost use Rattle.vab_cli.specs.Opening.{Opens};
 ghost use Rattle.vab_cli.specs.Runs.{FailsBefore, RunsNone};
@@ -43,7 +43,7 @@ pub(crate) fn open<P: Port>(alloc: Global, port: &mut P, line: &[u8]) -> Result<
     ensures size { P.size port.new ≡ P.size port.old }
     ensures quiet { P.is_modelled → HearsNothing P.Disk port.old port.new }
     ensures changes { P.is_modelled
-        → Changes P.Disk (IsRepair (P.size port.old) (P.seen port.old)) port.old port.new }
+        → Changes P.Disk (IsOfOpening (P.size port.old) (P.seen port.old)) port.old port.new }
     ensures steady { OnOk result (P.faults port.new ≡ P.faults port.old) }
     ensures held { IfErr result (IsSteady P.Disk port.old port.new) }
     ensures words { IfErr result (λ status. status ≢ Status.Usage) }

@@ -5,6 +5,7 @@ ghost use Rattle.vab_cli.specs.Program.{DoesVerb};
 
 use crate::Status;
 use crate::commands::carry_out;
+use crate::demo::demo;
 use crate::installing::install;
 use crate::making::make;
 use crate::paging::tell_page;
@@ -37,6 +38,7 @@ fn do_verb<P: Port>(alloc: Global, verb: Verb, port: &mut P) -> Status
         Verb::Print(name) => print(alloc, port, name.as_bytes()),
         Verb::Digest(name) => carry_out(alloc, port, &Command::Digest(name.as_bytes())),
         Verb::Status => tell_page(alloc, port),
+        Verb::Demo { seed, scale } => demo(alloc, port, seed, scale),
     }
 }
 

@@ -16,4 +16,6 @@ mod snapshots;
 #[cfg(test)]
 mod texts;
 #[cfg(test)]
+mod tidying;
+#[cfg(test)]
 mod updates;

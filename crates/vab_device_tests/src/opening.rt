@@ -87,7 +87,7 @@ fn mark(phase: MarkPhase) -> [u8; 512] {
     encode_mark(&UpdateMark { phase, slot: 0 })
 }
 
-fn control(current: usize, priority: u8, successful: bool) -> [u8; 512]
+pub(crate) fn control(current: usize, priority: u8, successful: bool) -> [u8; 512]
     requires current { current < 2 }
     requires priority { priority ≤ 15 }
 {
@@ -124,11 +124,11 @@ fn bad_control() -> [u8; 512] {
     sector
 }
 
-fn put(d: &mut MemPort, at: u64, bytes: &[u8; 512]) -> bool {
+pub(crate) fn put(d: &mut MemPort, at: u64, bytes: &[u8; 512]) -> bool {
     at < d.sectors() && d.write_sector(at, bytes).is_ok()
 }
 
-fn sector(d: &mut MemPort, at: u64) -> Option<[u8; 512]> {
+pub(crate) fn sector(d: &mut MemPort, at: u64) -> Option<[u8; 512]> {
     let mut bytes = [0u8; 512];
     if at >= d.sectors() {
         return None;
@@ -137,7 +137,7 @@ fn sector(d: &mut MemPort, at: u64) -> Option<[u8; 512]> {
     Some(bytes)
 }
 
-fn put_each(d: &mut MemPort, sectors: &[(u64, [u8; 512])]) -> Result<(), Fail> {
+pub(crate) fn put_each(d: &mut MemPort, sectors: &[(u64, [u8; 512])]) -> Result<(), Fail> {
     for (at, bytes) in sectors {
         if !put(d, *at, bytes) {
             return Err("a sector is written".into());
@@ -200,7 +200,7 @@ fn with_exception(mut sector: [u8; 512], at: usize, block: u8, chunk: u8) -> [u8
 }
 
 // An area with no exceptions, and with the first, the first two or all of three.
-fn areas() -> [[u8; 512]; 4] {
+pub(crate) fn areas() -> [[u8; 512]; 4] {
     let none = [0u8; 512];
     let one = with_exception(none, 0, 7, 2);
     let two = with_exception(one, 16, 30, 3);
@@ -221,7 +221,11 @@ fn status() -> Result<[u8; 512], Fail> {
 }
 
 // A disk in this phase whose slot a has a partition with a store of that area.
-fn with_store(alloc: Global, phase: MarkPhase, area: [u8; 512]) -> Result<MemPort, Fail> {
+pub(crate) fn with_store(
+    alloc: Global,
+    phase: MarkPhase,
+    area: [u8; 512],
+) -> Result<MemPort, Fail> {
     let mut d = device(alloc)?;
     let (first, second) = table_with_store();
     let sectors = [

@@ -34,6 +34,14 @@ fn words_that_are_taken(rt: HostRuntime) -> Result<(), Fail> {
         (&["digest", "system_a"], Verb::Digest("system_a")),
         (&["digest", "help"], Verb::Digest("help")),
         (&["status"], Verb::Status),
+        (&["demo", "7"], Verb::Demo { seed: 7, scale: 1 }),
+        (
+            &["demo", "18446744073709551615", "--scale", "64"],
+            Verb::Demo {
+                seed: u64::MAX,
+                scale: 64,
+            },
+        ),
     ] {
         let words = words_of(alloc, texts)?;
         assert!(rt;
@@ -94,6 +102,8 @@ fn words_that_ask_for_nothing(rt: HostRuntime) -> Result<(), Fail> {
         &["boot", "mark"],
         &["install", "system_a"],
         &["status", "a"],
+        &["demo", "18446744073709551616"],
+        &["demo", "7", "--scale", "65"],
         &["boot", "--help"],
         &["begin-merge", "x"],
         &["begin"],

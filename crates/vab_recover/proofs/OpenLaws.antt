@@ -26,7 +26,8 @@ use Rattle.vab_recover.specs.declared.table.Tables.{Tables}
 use Rattle.vab_recover.specs.Opened.{read_of, target_tables}
 use Rattle.vab_recover.specs.Repairs.{IsLoadedAt}
 use Rattle.vab_recover.specs.Opened.{tables_of, with_tables, IsOpened}
-use Rattle.vab_recover.specs.Repairs.{LeavesSame, IsOneOf}
+use Rattle.vab_tidy.specs.Stays.{LeavesSame}
+use Rattle.vab_recover.specs.Repairs.{IsOneOf}
 use Rattle.vab_recover.specs.Repairs.{IsRepair}
 use Rattle.vab_recover.specs.Opened.{IsTableThere, AreTablesThere}
 use Rattle.vab_recover.specs.Repairs.{BothCopiesHold}

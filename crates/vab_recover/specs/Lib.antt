@@ -1,5 +1,5 @@
-pub mod Counts
 pub mod Memory
 pub mod Opened
+pub mod Opening
 pub mod Repairs
 pub mod Scans

@@ -1,30 +1,25 @@
--- What opening a device may write, and what each outcome of it means.
+-- What a repair of a device's tables may write.
 use Rattle.std.specs.Prelude.{◌≡◌, ◌⊎◌, ℕ, List, [], ◌∷◌}
-use Rattle.vab_disk.specs.Disk.{Image, Outcome}
+use Rattle.vab_disk.specs.Disk.{Image}
 use Rattle.vab_geometry.specs.declared.geometry.Geometry.{Geometry}
 use Rattle.vab_lpstore.specs.declared.loaded.Loaded.{Loaded}
 use Rattle.vab_lpstore.specs.Layout.{primary_bytes, backup_bytes, BothHold}
 use Rattle.vab_lpstore.specs.Loading.{IsLoaded}
 use Rattle.vab_lpstore.specs.Storing.{IsOfRepair}
 use Rattle.vab_device.specs.Phases.{phase_at}
-use Rattle.vab_device.specs.Reading.{Read, Reads, device}
+use Rattle.vab_device.specs.Reading.{Read, Reads}
 
 -- the copies of the slot's table are loaded so
 abbrev pub IsLoadedAt : Geometry → ℕ → Image → Loaded → Type 0
 IsLoadedAt g slot image l =
     IsLoaded g.max (primary_bytes g slot image) (backup_bytes g slot image) l
 
--- with nothing more told, a disk that means the same
-pub record LeavesSame (told : List ℕ) (size : ℕ) (old : Image) (o : Outcome) : Type 0 where
-  pub told_so_far : o.told ≡ told
-  pub same : device size o.image ≡ device size old
-
 -- one of these slots
 abbrev pub IsOneOf : ℕ → List ℕ → Type 0
 IsOneOf slot [] = ⊥
 IsOneOf slot (s ∷ ss) = (slot ≡ s) ⊎ IsOneOf slot ss
 
--- What opening may write: of a table that is read, the one copy which doesn't hold its text.
+-- What a repair may write: of a table that is read, the one copy which doesn't hold its text.
 pub record IsRepair (size : ℕ) (image : Image) (s : ℕ) (b : List ℕ) : Type 0 where
   pub read : Read
   pub reads : Reads size read image

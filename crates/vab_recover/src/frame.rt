@@ -5,7 +5,7 @@ ghost use Rattle.vab_disk.specs.Calls.{OnlyReads};
 ghost use Rattle.vab_device.specs.Faults.{IsOfContents};
 ghost use Rattle.vab_device.specs.Kept.{IsPhase};
 ghost use Rattle.vab_device.specs.Reading.{device};
-ghost use Rattle.vab_recover.specs.Counts.{CountsFaults};
+ghost use Rattle.vab_tidy.specs.Counts.{CountsFaults};
 ghost use Rattle.vab_recover.specs.Memory.{IsNamed, HasHeads};
 ghost use Rattle.vab_recover.specs.Opened.{IsMarked, IsHeaded, AreHeads, AreLoaded, AreTablesThere};
 ghost use Rattle.vab_recover.specs.Opened.{IsFramed};

@@ -6,6 +6,7 @@ mod judge;
 mod opening;
 mod plan;
 mod read;
+mod repairs;
 mod table;
 
 pub use opening::start;

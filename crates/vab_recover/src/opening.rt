@@ -1,27 +1,30 @@
 //! Opening a device.
 
-ghost use Rattle.std.specs.Prelude.{◌≡◌, ◌⊎◌, ◌<◌, ◌≤◌, IfOk, OnOk, IfErr, Ok, Err};
+ghost use Rattle.std.specs.Prelude.{◌≡◌, ◌⊎◌, ◌<◌, ◌≤◌, IfOk, OnOk, IfErr, IfSome, Ok, Err};
 ghost use Rattle.vab_disk.specs.Disk.{Adds};
-ghost use Rattle.vab_disk.specs.Calls.{OnlyReads, Touches, IsAtRest, IsQuiet, FailsWithDisk};
+ghost use Rattle.vab_disk.specs.Calls.{OnlyReads, Touches, IsAtRest, IsQuiet};
 ghost use Rattle.vab_device.specs.Faults.{IsOfContents, IsOfDisk};
 ghost use Rattle.vab_device.specs.Kept.{IsDevice};
 ghost use Rattle.vab_device.specs.Mounted.{mounted_on};
 ghost use Rattle.vab_device.specs.Reading.{device, Represents};
-ghost use Rattle.vab_recover.specs.Counts.{CountsFaults};
+ghost use Rattle.vab_tidy.specs.Counts.{CountsFaults};
 ghost use Rattle.vab_recover.specs.Memory.{IsNamed, HasHeads};
 ghost use Rattle.vab_recover.specs.Opened.{IsFramed, AreHeads, AreTablesThere, with_tables};
 ghost use Rattle.vab_recover.specs.Opened.{IsOpened};
-ghost use Rattle.vab_recover.specs.Repairs.{LeavesSame, IsRepair, BothCopiesHold};
+ghost use Rattle.vab_recover.specs.Opening.{IsOfOpening, HasNoneCompleted, IsTidied, GoesOn};
+ghost use Rattle.vab_recover.specs.Repairs.{BothCopiesHold};
+ghost use Rattle.vab_tidy.specs.Planned.{IsDue, IsTidying};
+ghost use Rattle.vab_tidy.specs.Stays.{LeavesSame};
 
 use crate::frame::{Frame, read_frame};
 use crate::judge::{assemble, judge_parts, judge_slots};
 use crate::plan::read_plan;
+use crate::repairs::mend;
 use crate::table::Tables;
 use std::alloc::Global;
 use vab_device::{Device, StartFault};
 use vab_disk::Disk;
-use vab_gate::DiskFault;
-use vab_lpstore::repair_table;
+use vab_tidy::{Tidying, prepare};
 
 // The device of what was read in front of the stores, but for its tables, and these.
 fn finish<D: Disk>(alloc: Global, d: &mut D, frame: Frame) -> Result<(Device, Tables), StartFault>
@@ -83,69 +86,43 @@ pub fn open<D: Disk>(alloc: Global, d: &mut D) -> Result<(Device, Tables), Start
     }
 }
 
-// The device with the tables that were loaded.
-fn with_tables(device: Device, tables: Tables) -> Device
-    requires { device.mark.slot < 2 }
-    ensures { result ≡ with_tables tables device }
+// Reads the device of a disk, but for its tables, the tables that it was read from, and what is to
+// be done behind a merge that has ended.
+fn look<D: Disk>(alloc: Global, d: &mut D) -> Result<(Device, Tables, Option<Tidying>), StartFault>
+    ensures opened { D.is_modelled
+        → IfOk result (λ r. IsOpened r.0 r.1 (D.size d.old) (D.seen d.old)) }
+    ensures due { D.is_modelled → IfOk result (λ r. IsDue r.0.mark (D.seen d.old) r.2) }
+    ensures tidying { IfOk result
+        (λ r. IfSome r.2 (IsTidying r.0.geometry.max r.0.mark r.1.source.table)) }
+    ensures fault { D.is_modelled → IfErr result
+        (λ f. IsOfContents f → device (D.size d.old) (D.seen d.old) ≡ Err f) }
+    ensures memory { D.is_modelled → IfErr result
+        (λ f. IsNamed f ⊎ HasHeads (D.size d.old) (D.seen d.old)) }
+    ensures kept { IfOk result (λ r. IsDevice (with_tables r.1 r.0) (D.size d.old)) }
+    ensures there { IfOk result
+        (λ r. AreTablesThere (D.size d.old) r.0.geometry r.0.mark r.1) }
+    ensures reads { OnlyReads D.Disk d.old d.new }
+    ensures counts { CountsFaults D.Disk d.old d.new result }
 {
-    let Tables { source, target } = tables;
-    let target = match target {
-        None => None,
-        Some(loaded) => Some(loaded.table),
-    };
-    if device.mark.slot == 0 {
-        Device {
-            table_a: Some(source.table),
-            table_b: target,
-            ..device
-        }
-    } else {
-        Device {
-            table_a: target,
-            table_b: Some(source.table),
-            ..device
-        }
-    }
-}
-
-// Repairs the tables that were read, the source's first.
-fn repair_tables<D: Disk>(d: &mut D, kept: &Device, tables: &Tables) -> Result<(), DiskFault>
-    requires is { IsDevice (with_tables tables.now kept.now) (D.size d.old) }
-    requires there { AreTablesThere (D.size d.old) kept.now.geometry kept.now.mark tables.now }
-    requires read { D.is_modelled
-        → IsOpened kept.now tables.now (D.size d.old) (D.seen d.old) }
-    ensures represents { D.is_modelled → OnOk result
-        (Represents (with_tables tables.now kept.now) (D.size d.old) (D.seen d.new)) }
-    ensures same { D.is_modelled → OnOk result
-        (device (D.size d.old) (D.seen d.new) ≡ device (D.size d.old) (D.seen d.old)) }
-    ensures touches { D.is_modelled
-        → Touches D.Disk (IsRepair (D.size d.old) (D.seen d.old)) d.old d.new }
-    ensures healthy { D.is_modelled
-        → BothCopiesHold (D.size d.old) (D.seen d.old)
-        → d.new ≡ d.old }
-    ensures settled { D.is_modelled → IsAtRest D.Disk d.old → OnOk result (IsAtRest D.Disk d.new) }
-    ensures quiet { IsQuiet D.Disk d.old d.new }
-    ensures time { D.is_modelled
-        → IsAtRest D.Disk d.old
-        → Adds D.moment D.outcomes d.old d.new
-        (LeavesSame (D.told d.old) (D.size d.old) (D.seen d.old)) }
-    ensures faults { FailsWithDisk D.Disk d.old d.new result }
-{
-    let slot = kept.mark.slot;
-    match repair_table(d, &kept.geometry, slot, &tables.source) {
+    match open(alloc, d) {
         Err(fault) => Err(fault),
-        Ok(()) => match &tables.target {
-            None => Ok(()),
-            Some(target) => repair_table(d, &kept.geometry, 1 - slot, target),
-        },
+        Ok((device, tables)) => {
+            let max = device.geometry.max;
+            match prepare(alloc, d, &device.mark, max, &tables.source.table) {
+                Err(fault) => Err(fault),
+                Ok(tidying) => Ok((device, tables, tidying)),
+            }
+        }
     }
 }
 
-/// Opens the device of a disk: it reads it, and repairs the copies of its tables that a cut of
-/// power has left behind. Each fault of the disk's contents comes only where the disk is no device
-/// and that is the first thing wrong; behind the geometry want of memory may come in its place.
-/// Nothing is written then. Where both copies of each table hold its text, nothing is written and
-/// nothing is synced.
+/// Opens the device of a disk: it reads it, repairs the copies of its tables that a cut of power
+/// has left behind, and tidies a merge that has ended: the table of its slot loses the stores and
+/// what belongs to the other slot, and then the mark says that there is no update. A table whose
+/// text would be longer than a copy may be is left as it is. Each fault of the disk's contents
+/// comes only where the disk is no device and that is the first thing wrong; behind the geometry
+/// want of memory may come in its place. Nothing is written then. Where both copies of each table
+/// hold its text and no merge has ended, nothing is written and nothing is synced.
 pub fn start<D: Disk>(alloc: Global, d: &mut D) -> Result<Device, StartFault>
     // It answers the device that the disk was, which it still is.
     ensures device { D.is_modelled → IfOk result
@@ -159,24 +136,34 @@ pub fn start<D: Disk>(alloc: Global, d: &mut D) -> Result<Device, StartFault>
     ensures memory { D.is_modelled → IfErr result
         (λ f. IsNamed f ⊎ HasHeads (D.size d.old) (D.seen d.old)) }
     ensures unwritten { IfErr result (λ f. (IsOfDisk f → ⊥) → OnlyReads D.Disk d.old d.new) }
-    // What it touches, it repairs: of each table the one copy that doesn't hold its text.
+    // What it touches, it repairs, of each table the one copy that doesn't hold its text, or it
+    // tidies.
     ensures touches { D.is_modelled
-        → Touches D.Disk (IsRepair (D.size d.old) (D.seen d.old)) d.old d.new }
+        → Touches D.Disk (IsOfOpening (D.size d.old) (D.seen d.old)) d.old d.new }
     ensures healthy { D.is_modelled
         → BothCopiesHold (D.size d.old) (D.seen d.old)
+        → HasNoneCompleted (D.seen d.old)
         → OnlyReads D.Disk d.old d.new }
+    // A merge that has ended is tidied.
+    ensures tidied { D.is_modelled → IfOk result
+        (λ r. IsTidied r (D.seen d.old) (D.seen d.new)) }
     ensures settled { D.is_modelled → IsAtRest D.Disk d.old → OnOk result (IsAtRest D.Disk d.new) }
     ensures quiet { IsQuiet D.Disk d.old d.new }
-    // Where nothing was pending, each outcome of the repair is a disk that means the same.
+    // Where nothing was pending, each outcome is a disk that means the same, and of which a merge
+    // that has ended is tidied to the same end.
     ensures time { D.is_modelled
         → IsAtRest D.Disk d.old
         → Adds D.moment D.outcomes d.old d.new
         (LeavesSame (D.told d.old) (D.size d.old) (D.seen d.old)) }
+    ensures order { D.is_modelled
+        → IsAtRest D.Disk d.old
+        → Adds D.moment D.outcomes d.old d.new
+        (λ o. GoesOn (D.size d.old) (D.seen d.old) o.image) }
     ensures counts { CountsFaults D.Disk d.old d.new result }
 {
-    let (device, tables) = open(alloc, d)?;
-    match repair_tables(d, &device, &tables) {
-        Ok(()) => Ok(with_tables(device, tables)),
+    let (device, tables, tidying) = look(alloc, d)?;
+    match mend(d, device, tables, tidying) {
+        Ok(device) => Ok(device),
         Err(fault) => Err(StartFault::Disk(fault)),
     }
 }

@@ -21,7 +21,7 @@ ghost use Rattle.vab_device.specs.Faults.{IsOfContents, IsOfDisk};
 ghost use Rattle.vab_device.specs.Phases.{store_on, planned_image, planned_on, plan_of};
 ghost use Rattle.vab_device.specs.Stores.{Wanted, first_named, wanted_of, scan_read, scans_in};
 ghost use Rattle.vab_device.specs.Stores.{exceptions_of, is_long};
-ghost use Rattle.vab_recover.specs.Counts.{CountsFaults};
+ghost use Rattle.vab_tidy.specs.Counts.{CountsFaults};
 ghost use Rattle.vab_plan.specs.Scans.{scanned_of, scans_of, IsTargetTable};
 ghost use Rattle.vab_recover.specs.Scans.{wanted_at, AreBlocks, IsMissing, IsScanned};
 ghost use Rattle.vab_recover.specs.Opened.{is_merging, through_of, through_slot, wanted_for};

@@ -9,7 +9,7 @@ ghost use Rattle.vab_device.specs.Faults.{Answers, IsOfContents, IsOfDisk};
 ghost use Rattle.vab_device.specs.Kept.{copies_end, super_bytes, has_both, reads_both, IsPhase};
 ghost use Rattle.vab_device.specs.Reading.{settled, mark_read, mark_in, control_read, control_in};
 ghost use Rattle.vab_device.specs.Reading.{geometry_at, statuses_at};
-ghost use Rattle.vab_recover.specs.Counts.{CountsFaults};
+ghost use Rattle.vab_tidy.specs.Counts.{CountsFaults};
 ghost use Rattle.vab_recover.specs.Memory.{IsNamed};
 ghost use Rattle.vab_recover.specs.Opened.{is_merging, reads_statuses};
 

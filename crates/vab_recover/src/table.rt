@@ -18,7 +18,7 @@ ghost use Rattle.vab_device.specs.Phases.{phase_at};
 ghost use Rattle.vab_recover.specs.Opened.{IsTableThere, AreLoaded, AreTablesThere};
 ghost use Rattle.vab_recover.specs.Repairs.{IsLoadedAt};
 ghost use Rattle.vab_recover.specs.Opened.{target_slots, target_tables, tables_of};
-ghost use Rattle.vab_recover.specs.Counts.{CountsFaults};
+ghost use Rattle.vab_tidy.specs.Counts.{CountsFaults};
 
 use crate::read::{copies_end, reads_both, super_bytes};
 use std::alloc::Global;

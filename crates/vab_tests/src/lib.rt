@@ -3,9 +3,13 @@
 #![tactic(auto)]
 
 #[cfg(test)]
+mod demos;
+#[cfg(test)]
 mod downloads;
 #[cfg(test)]
 mod faults;
+#[cfg(test)]
+mod held;
 #[cfg(test)]
 mod installing;
 #[cfg(test)]
@@ -36,3 +40,5 @@ mod tables;
 mod texts;
 #[cfg(test)]
 mod updates;
+#[cfg(test)]
+mod worked;

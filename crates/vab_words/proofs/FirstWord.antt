@@ -11,8 +11,9 @@ use Rattle.clap.specs.Simple.{App, Shape, built, entered, is_simple, names_of}
 use Rattle.clap.specs.Takes.{built_takes, bundle_passes, bundle_step_passes, flag_word_passes, flags_pass, step_passes, turn_passes, walk_passes}
 use Rattle.clap.proofs.OnLiterals.{clap_on_literals}
 use Rattle.vab_words.specs.Command.{found_in, is_taken, vab_app}
-use Rattle.vab_words.specs.Values.{blocks_of, limit_of, metadata_max_of, slot_of}
-use Rattle.vab_words.specs.Verbs.{Activate, Digest, Make, Meaning, Merge, Print, make_of, verb_in}
+use Rattle.vab_words.specs.Values.{blocks_of, limit_of, metadata_max_of, slot_of, seed_of, scale_of}
+use Rattle.vab_words.specs.Verbs.{Activate, Demo, Digest, Make, Meaning, Merge, Print, demo_of}
+use Rattle.vab_words.specs.Verbs.{make_of, verb_in}
 use Rattle.vab_words.specs.Verbs.{verb_of}
 use Rattle.vab_words.specs.Spelled.{is_verb_name, name_of, verb_names}
 use Rattle.vab_words.proofs.Asked.{untaken}
@@ -180,6 +181,10 @@ enters_status : Enters (codes "status")
 unfolding clap_on_literals vab_app
 enters_status = (refl, λ behind. (_, refl))
 
+enters_demo : Enters (codes "demo")
+unfolding clap_on_literals vab_app
+enters_demo = (refl, λ behind. (_, refl))
+
 mapped : {X : Type 0} (name : Text) (f : X → Meaning) → ((x : X) → name ≡ name_of (f x)) → (o : Option X) → IsNamed name (option_map f o)
 mapped name f is None = tt
 mapped name f is (Some x) = is x
@@ -243,6 +248,22 @@ status_in : (rows : List Row) → IsNamed (codes "status") (verb_in (codes "stat
 unfolding verb_in
 status_in rows = refl
 
+demo_named : (a b : Option Text)
+    → IsNamed (codes "demo") (option_and_then (λ seed. demo_of seed b) a)
+unfolding demo_of
+demo_named None b = tt
+demo_named (Some seed) b = go (seed_of seed) (scale_of b)
+  where
+    go : (x y : Option ℕ)
+        → IsNamed (codes "demo") (option_and_then (λ number. option_map (Demo number) y) x)
+    go None y = tt
+    go (Some number) None = tt
+    go (Some number) (Some scale) = refl
+
+demo_in : (rows : List Row) → IsNamed (codes "demo") (verb_in (codes "demo") rows)
+unfolding verb_in
+demo_in rows = demo_named (first_of (codes "seed") rows) (first_of (codes "scale") rows)
+
 abbrev Each : (Text → Type 0) → List Text → Type 0
 Each P [] = Unit {0}
 Each P (name ∷ rest) = P name × Each P rest
@@ -281,7 +302,7 @@ each_named rest = (
                       named_verb (codes "digest") rest enters_digest digest_in,
                       (
                         named_verb (codes "status") rest enters_status status_in,
-                        tt,
+                        (named_verb (codes "demo") rest enters_demo demo_in, tt),
                       ),
                     ),
                   ),

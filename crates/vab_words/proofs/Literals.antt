@@ -11,7 +11,8 @@ use Rattle.vab_words.specs.Command.{found_in, is_taken, vab_app}
 use Rattle.vab_words.specs.Values.{blocks_of, is_number, limit_of, metadata_max_of}
 use Rattle.vab_words.specs.Values.{number_up_to, slot_of}
 use Rattle.vab_words.specs.Verbs.{Activate, BeginMerge, Boot, Cancel, Digest, Install, Make, Mark}
-use Rattle.vab_words.specs.Verbs.{Merge, Print, Serve, Status, is_set, make_of, verb_in, verb_of}
+use Rattle.vab_words.specs.Verbs.{Merge, Print, Serve, Status, demo_of, is_set, make_of}
+use Rattle.vab_words.specs.Verbs.{verb_in, verb_of}
 use Rattle.vab_words.specs.Spelled.{AsksBy, IsPlain, MakesBy}
 
 pub serve : verb_of (codes "serve" ∷ []) ≡ Some (Serve false)
@@ -104,6 +105,25 @@ print text plain = rw (no_dashes text plain, no_long text plain, no_short text p
 pub digest : AsksBy (codes "digest") (λ text. Some (Digest text))
 unfolding clap_on_literals vab_app is_taken found_in verb_of verb_in
 digest text plain = rw (no_dashes text plain, no_long text plain, no_short text plain) refl
+
+pub demo : AsksBy (codes "demo") (λ text. demo_of text None)
+unfolding clap_on_literals vab_app is_taken found_in verb_of verb_in
+demo text plain = rw (no_dashes text plain, no_long text plain, no_short text plain) refl
+
+pub demo_scale : (seed scale : Text)
+    → IsPlain seed
+    → IsPlain scale
+    → verb_of (codes "demo" ∷ seed ∷ codes "--scale" ∷ scale ∷ []) ≡ demo_of seed (Some scale)
+unfolding clap_on_literals vab_app is_taken found_in verb_of verb_in
+demo_scale seed scale a b =
+    rw (
+      no_dashes seed a,
+      no_long seed a,
+      no_short seed a,
+      no_dashes scale b,
+      no_long scale b,
+      no_short scale b,
+    ) refl
 
 pub make_limit : MakesBy (codes "--limit") (λ text. make_of (Some text) None)
 unfolding clap_on_literals vab_app is_taken found_in verb_of verb_in

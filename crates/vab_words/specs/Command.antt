@@ -31,6 +31,11 @@ serve_app = with_rule (new_app (codes "serve")) (flag_rule (codes "fresh"))
 abbrev pub operand_app : Text → Text → App
 operand_app verb operand = with_rule (new_app verb) (operand_rule operand)
 
+-- `demo SEED [--scale K]`
+abbrev pub demo_app : App
+demo_app =
+    with_rule (operand_app (codes "demo") (codes "seed")) (option_rule (codes "scale"))
+
 -- the command before its verbs: one has to be named, no program's name stands before it, and there
 -- is no help
 abbrev pub no_verbs : App
@@ -51,12 +56,13 @@ with_verb command verb = with_subcommand command verb.top
 unfoldable pub vab_app : App
 vab_app =
     with_verb (with_verb (with_verb (with_verb (with_verb (with_verb (with_verb (with_verb
-    (with_verb (with_verb (with_verb (with_verb no_verbs make_app) serve_app)
+    (with_verb (with_verb (with_verb (with_verb (with_verb no_verbs make_app) serve_app)
     (new_app (codes "install"))) (new_app (codes "boot")))
     (new_app (codes "mark"))) (new_app (codes "begin-merge")))
     (operand_app (codes "merge") (codes "blocks"))) (new_app (codes "cancel")))
     (operand_app (codes "activate") (codes "slot"))) (operand_app (codes "print")
-    (codes "name"))) (operand_app (codes "digest") (codes "name"))) (new_app (codes "status"))
+    (codes "name"))) (operand_app (codes "digest") (codes "name"))) (new_app (codes "status")))
+    demo_app
 
 -- the words are such as `clap` takes for this command
 unfoldable pub is_taken : List Text → Bool

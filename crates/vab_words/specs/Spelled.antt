@@ -3,8 +3,8 @@ use Rattle.std.specs.Prelude.{◌≡◌, ◌≢◌, Bool, List, [], ◌∷◌, O
 use Rattle.std.specs.List.{list_any}
 use Rattle.std.specs.Str.{bytes_eq}
 use Rattle.clap.specs.Words.{Text}
-use Rattle.vab_words.specs.Verbs.{Activate, BeginMerge, Boot, Cancel, Digest, Install, Make}
-use Rattle.vab_words.specs.Verbs.{Mark, Meaning, Merge, Print, Serve, Status, verb_of}
+use Rattle.vab_words.specs.Verbs.{Activate, BeginMerge, Boot, Cancel, Demo, Digest, Install}
+use Rattle.vab_words.specs.Verbs.{Make, Mark, Meaning, Merge, Print, Serve, Status, verb_of}
 
 -- the word is no option: it doesn't begin with a hyphen
 abbrev pub IsPlain : Text → Type 0
@@ -23,7 +23,7 @@ abbrev pub verb_names : List Text
 verb_names =
     codes "make" ∷ codes "serve" ∷ codes "install" ∷ codes "boot" ∷ codes "mark" ∷
     codes "begin-merge" ∷ codes "merge" ∷ codes "cancel" ∷ codes "activate" ∷ codes "print" ∷
-    codes "digest" ∷ codes "status" ∷ []
+    codes "digest" ∷ codes "status" ∷ codes "demo" ∷ []
 
 -- the word is the name of a verb
 abbrev pub is_verb_name : Text → Bool
@@ -43,3 +43,4 @@ name_of (Activate slot) = codes "activate"
 name_of (Print name) = codes "print"
 name_of (Digest name) = codes "digest"
 name_of Status = codes "status"
+name_of (Demo seed scale) = codes "demo"

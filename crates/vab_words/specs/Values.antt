@@ -35,16 +35,30 @@ metadata_max_of (Some text) = option_and_then whole_sectors (number_up_to 65536 
 abbrev pub IsMetadataMax : ℕ → Type 0
 IsMetadataMax bytes = (bytes % 512 ≡ 0) × (512 ≤ bytes) × (bytes ≤ 65536)
 
--- the operand of `merge`: from 1 to 2^32 - 1
-abbrev pub some_blocks : ℕ → Option ℕ
-some_blocks blocks = if nat_le 1 blocks then Some blocks else None
+-- a number from 1 on
+abbrev pub from_one : ℕ → Option ℕ
+from_one number = if nat_le 1 number then Some number else None
 
+-- the operand of `merge`: from 1 to 2^32 - 1
 unfoldable pub blocks_of : List ℕ → Option ℕ
-blocks_of text = option_and_then some_blocks (number_up_to (2 ^ 32 - 1) text)
+blocks_of text = option_and_then from_one (number_up_to (2 ^ 32 - 1) text)
 
 -- from 1 to 2^32 - 1
 abbrev pub IsBlocks : ℕ → Type 0
 IsBlocks blocks = (1 ≤ blocks) × (blocks < 2 ^ 32)
+
+-- the operand of `demo`: below 2^64
+unfoldable pub seed_of : List ℕ → Option ℕ
+seed_of text = number_up_to (2 ^ 64 - 1) text
+
+-- the number of `--scale`: from 1 to 64, and 1 where the option isn't given
+unfoldable pub scale_of : Option (List ℕ) → Option ℕ
+scale_of None = Some 1
+scale_of (Some text) = option_and_then from_one (number_up_to 64 text)
+
+-- from 1 to 64
+abbrev pub IsScale : ℕ → Type 0
+IsScale scale = (1 ≤ scale) × (scale ≤ 64)
 
 -- the slot of a letter: 0 for a and 1 for b
 unfoldable pub slot_of : List ℕ → Option ℕ

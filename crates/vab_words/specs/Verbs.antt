@@ -1,12 +1,12 @@
 -- What the words ask for.
-use Rattle.std.specs.Prelude.{◌≤◌, ◌^◌, ℕ, Bool, false, List, Option, Some, None, codes}
+use Rattle.std.specs.Prelude.{◌≤◌, ◌<◌, ◌^◌, ℕ, Bool, false, List, Option, Some, None, codes}
 use Rattle.std.specs.Prelude.{if◌then◌else◌, option_and_then, option_map}
 use Rattle.std.specs.Option.{option_map_or}
 use Rattle.std.specs.Str.{bytes_eq}
 use Rattle.clap.specs.Words.{Row, Text, first_of}
 use Rattle.vab_words.specs.Command.{found_in, is_taken}
 use Rattle.vab_words.specs.Values.{blocks_of, limit_of, metadata_max_of, slot_of, IsBlocks}
-use Rattle.vab_words.specs.Values.{IsMetadataMax}
+use Rattle.vab_words.specs.Values.{IsMetadataMax, seed_of, scale_of, IsScale}
 use Rattle.clap.specs.declared.error.kind.ErrorKind.{ErrorKind}
 use Rattle.clap.specs.declared.error.kind.ErrorKind.TheVariants as kind
 use Rattle.vab_words.specs.declared.verb.WordsFault.{WordsFault}
@@ -28,6 +28,7 @@ pub data Meaning : Type 0 where
   Print : Text → Meaning
   Digest : Text → Meaning
   Status : Meaning
+  Demo : ℕ → ℕ → Meaning
 
 abbrev pub meaning_of : Verb → Meaning
 meaning_of (code.Make limit metadata_max) = Make limit metadata_max
@@ -42,8 +43,9 @@ meaning_of (code.Activate slot) = Activate slot
 meaning_of (code.Print name) = Print name.now
 meaning_of (code.Digest name) = Digest name.now
 meaning_of code.Status = Status
+meaning_of (code.Demo seed scale) = Demo seed scale
 
--- the values of `make` and of `merge` are in their ranges
+-- the values of `make`, of `merge` and of `demo` are in their ranges
 abbrev pub IsInRange : Verb → Type 0
 IsInRange (code.Make limit metadata_max) = (limit ≤ 2 ^ 44) × IsMetadataMax metadata_max
 IsInRange (code.Serve fresh) = Unit {0}
@@ -57,12 +59,23 @@ IsInRange (code.Activate slot) = Unit {0}
 IsInRange (code.Print name) = Unit {0}
 IsInRange (code.Digest name) = Unit {0}
 IsInRange code.Status = Unit {0}
+IsInRange (code.Demo seed scale) = (seed < 2 ^ 64) × IsScale scale
 
 -- `make` with the texts of its options
 unfoldable pub make_of : Option Text → Option Text → Option Meaning
 make_of limit metadata_max =
     option_and_then (λ bytes. option_map (Make bytes) (metadata_max_of metadata_max))
     (limit_of limit)
+
+-- `demo` with its operand and the text of its option
+unfoldable pub demo_of : Text → Option Text → Option Meaning
+demo_of seed scale =
+    option_and_then (λ number. option_map (Demo number) (scale_of scale)) (seed_of seed)
+
+abbrev pub demo_in : List Row → Option Meaning
+demo_in rows =
+    option_and_then (λ seed. demo_of seed (first_of (codes "scale") rows))
+    (first_of (codes "seed") rows)
 
 -- a flag is given where its value is `true`
 unfoldable pub is_set : Option Text → Bool
@@ -86,6 +99,7 @@ verb_in name rows =
     else if bytes_eq name (codes "print") then option_map Print (first_of (codes "name") rows)
     else if bytes_eq name (codes "digest") then option_map Digest (first_of (codes "name") rows)
     else if bytes_eq name (codes "status") then Some Status
+    else if bytes_eq name (codes "demo") then demo_in rows
     else None
 
 -- what the words ask for, where they are taken and the values are in form and range

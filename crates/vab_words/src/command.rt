@@ -3,7 +3,7 @@ ghost use Rattle.std.specs.Prelude.{◌≡◌, IfOk, true, false, codes};
 ghost use Rattle.clap.specs.Words.{app_of, new_app, rule_of};
 ghost use Rattle.clap.specs.declared.builder.command.Command.TheViews.{out-Command as fields_of};
 ghost use Rattle.vab_words.specs.Command.{flag_rule, option_rule, operand_rule, make_app};
-ghost use Rattle.vab_words.specs.Command.{serve_app, operand_app, no_verbs, vab_app};
+ghost use Rattle.vab_words.specs.Command.{serve_app, operand_app, demo_app, no_verbs, vab_app};
 
 use clap::{Arg, ArgAction, Command};
 use std::alloc::{AllocError, Global};
@@ -52,6 +52,13 @@ fn with_operand<'a>(alloc: Global, verb: &'a str, name: &'a str) -> Result<Comma
     Command::new(alloc, verb).arg(operand(alloc, name))
 }
 
+fn demo<'a>(alloc: Global) -> Result<Command<'a>, AllocError>
+    ensures app { IfOk result (λ c. app_of c ≡ demo_app) }
+    ensures local { IfOk result (λ c. (fields_of c).has_globals ≡ false) }
+{
+    with_operand(alloc, "demo", "seed")?.arg(option(alloc, "scale"))
+}
+
 // The command of `vab` without its verbs.
 fn without_verbs<'a>(alloc: Global) -> Command<'a>
     ensures { app_of result ≡ no_verbs }
@@ -79,5 +86,6 @@ pub(crate) fn vab<'a>(alloc: Global) -> Result<Command<'a>, AllocError>
         .subcommand(with_operand(alloc, "activate", "slot")?)?
         .subcommand(with_operand(alloc, "print", "name")?)?
         .subcommand(with_operand(alloc, "digest", "name")?)?
-        .subcommand(Command::new(alloc, "status"))
+        .subcommand(Command::new(alloc, "status"))?
+        .subcommand(demo(alloc)?)
 }

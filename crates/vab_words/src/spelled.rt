@@ -4,7 +4,8 @@ ghost use Rattle.std.specs.Prelude.{option_map};
 ghost use Rattle.vab_words.specs.Spelled.{AsksBy, IsPlain, MakesBy, is_verb_name, name_of};
 ghost use Rattle.vab_words.specs.Values.{blocks_of, slot_of};
 ghost use Rattle.vab_words.specs.Verbs.{Activate, BeginMerge, Boot, Cancel, Digest, Install, Make};
-ghost use Rattle.vab_words.specs.Verbs.{Mark, Merge, Print, Serve, Status, make_of, verb_of};
+ghost use Rattle.vab_words.specs.Verbs.{Mark, Merge, Print, Serve, Status, demo_of, make_of};
+ghost use Rattle.vab_words.specs.Verbs.{verb_of};
 
 /// What the definition says of words that are written out. It does nothing.
 pub fn spelled_out()
@@ -29,6 +30,9 @@ pub fn spelled_out()
     ensures print { AsksBy (codes "print") (λ text. Some (Print text)) }
     ensures digest { AsksBy (codes "digest") (λ text. Some (Digest text)) }
     ensures status { verb_of (codes "status" ∷ []) ≡ Some Status }
+    ensures demo { AsksBy (codes "demo") (λ text. demo_of text None) }
+    ensures demo_scale { (seed scale : List ℕ) → IsPlain seed → IsPlain scale
+        → verb_of (codes "demo" ∷ seed ∷ codes "--scale" ∷ scale ∷ []) ≡ demo_of seed (Some scale) }
     ensures print_any { (text : List ℕ)
         → verb_of (codes "print" ∷ codes "--" ∷ text ∷ []) ≡ Some (Print text) }
     ensures digest_any { (text : List ℕ)

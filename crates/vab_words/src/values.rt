@@ -1,9 +1,10 @@
 // The values of options and operands.
-ghost use Rattle.std.specs.Prelude.{◌≡◌, ◌≤◌, ◌^◌, IfSome, option_map};
+ghost use Rattle.std.specs.Prelude.{◌≡◌, ◌≤◌, ◌<◌, ◌^◌, IfSome, option_map};
 ghost use Rattle.std.specs.Char.{is_ascii_digit};
 ghost use Rattle.std.specs.List.{list_all};
 ghost use Rattle.vab_words.specs.Values.{is_number, number_up_to, limit_of, metadata_max_of};
-ghost use Rattle.vab_words.specs.Values.{blocks_of, slot_of, IsBlocks, IsMetadataMax};
+ghost use Rattle.vab_words.specs.Values.{blocks_of, slot_of, seed_of, scale_of};
+ghost use Rattle.vab_words.specs.Values.{IsBlocks, IsMetadataMax, IsScale};
 
 const LIMIT_MAX: u64 = 1 << 44;
 
@@ -12,6 +13,8 @@ const METADATA_MAX: u64 = 65536;
 const SECTOR: u64 = 512;
 
 const BLOCKS_MAX: u64 = (1 << 32) - 1;
+
+const SCALE_MAX: u64 = 64;
 
 const DIGITS_MAX: usize = 20;
 
@@ -80,6 +83,30 @@ pub(crate) fn parse_blocks(text: &str) -> Option<u64>
 {
     match parse_number(text, BLOCKS_MAX) {
         Some(blocks) if blocks >= 1 => Some(blocks),
+        _ => None,
+    }
+}
+
+/// The operand of `demo`: a number below 2^64.
+#[tactic(auto, unfolding(crate::specs::Values::seed_of))]
+pub(crate) fn parse_seed(text: &str) -> Option<u64>
+    ensures value { result ≡ seed_of text.now }
+    ensures range { IfSome result (λ n. n < 2 ^ 64) }
+{
+    parse_number(text, u64::MAX)
+}
+
+/// The number of `--scale`: from 1 to 64, and 1 where the option isn't given.
+#[tactic(auto, unfolding(crate::specs::Values::scale_of))]
+pub(crate) fn parse_scale(text: Option<&str>) -> Option<u64>
+    ensures value { result ≡ scale_of (option_map (λ t. t.now) text.entry) }
+    ensures range { IfSome result IsScale }
+{
+    let Some(text) = text else {
+        return Some(1);
+    };
+    match parse_number(text, SCALE_MAX) {
+        Some(scale) if scale >= 1 => Some(scale),
         _ => None,
     }
 }

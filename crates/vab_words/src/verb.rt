@@ -5,7 +5,9 @@ ghost use Rattle.clap.specs.Words.{first_of, found_of, kind_of, rows_of, subcomm
 ghost use Rattle.clap.specs.declared.error.kind.ErrorKind.TheVariants.{OutOfMemory};
 
 use crate::command::vab;
-use crate::values::{parse_blocks, parse_limit, parse_metadata_max, parse_slot};
+use crate::values::{
+    parse_blocks, parse_limit, parse_metadata_max, parse_scale, parse_seed, parse_slot,
+};
 use clap::ArgMatches;
 use clap::error::ErrorKind;
 use std::alloc::{AllocError, Global};
@@ -46,6 +48,13 @@ pub enum Verb<'a> {
     Digest(&'a str),
     /// Tells the page of the device.
     Status,
+    /// Makes a device, updates it and merges the update.
+    Demo {
+        /// What the images are drawn from.
+        seed: u64,
+        /// How many times as many blocks as without the option: from 1 to 64.
+        scale: u64,
+    },
 }
 
 /// Why the words ask for nothing.
@@ -81,7 +90,8 @@ impl From<clap::Error> for WordsFault {
 }
 
 ghost use Rattle.vab_words.specs.Command.{found_in, is_taken};
-ghost use Rattle.vab_words.specs.Verbs.{IsInRange, is_set, make_of, meaning_of, verb_in, verb_of};
+ghost use Rattle.vab_words.specs.Verbs.{IsInRange, demo_in, is_set, make_of, meaning_of};
+ghost use Rattle.vab_words.specs.Verbs.{verb_in, verb_of};
 
 // What clap finds in the words.
 fn parse_matches<'a>(alloc: Global, words: &'a [String]) -> Result<ArgMatches<'a>, WordsFault>
@@ -118,6 +128,17 @@ fn make_in<'a>(values: &ArgMatches<'a>) -> Option<Verb<'a>>
     })
 }
 
+// `demo` with what was found for its operand and its option.
+#[tactic(auto, unfolding(crate::specs::Verbs::demo_of))]
+fn demo_in<'a>(values: &ArgMatches<'a>) -> Option<Verb<'a>>
+    ensures range { IfSome result IsInRange }
+    ensures value { option_map meaning_of result ≡ demo_in (rows_of (found_of values.now)) }
+{
+    let seed = parse_seed(text_of(values, "seed")?)?;
+    let scale = parse_scale(text_of(values, "scale"))?;
+    Some(Verb::Demo { seed, scale })
+}
+
 // Whether the flag is given.
 #[tactic(auto, unfolding(crate::specs::Verbs::is_set))]
 fn is_set(values: &ArgMatches<'_>, id: &str) -> bool
@@ -151,6 +172,7 @@ fn verb_in<'a>(name: &str, values: &ArgMatches<'a>) -> Option<Verb<'a>>
         "print" => Some(Verb::Print(text_of(values, "name")?)),
         "digest" => Some(Verb::Digest(text_of(values, "name")?)),
         "status" => Some(Verb::Status),
+        "demo" => demo_in(values),
         _ => None,
     }
 }
@@ -167,7 +189,7 @@ fn found_verb<'a>(matches: &ArgMatches<'a>) -> Option<Verb<'a>>
 
 /// What the words behind the device's ask for: `make [--limit BYTES] [--metadata-max BYTES]`,
 /// `serve [--fresh]`, `install`, `boot`, `mark`, `begin-merge`, `merge N`, `cancel`,
-/// `activate SLOT`, `print NAME`, `digest NAME` or `status`.
+/// `activate SLOT`, `print NAME`, `digest NAME`, `status` or `demo SEED [--scale K]`.
 pub fn parse_words<'a>(alloc: Global, words: &'a [String]) -> Result<Verb<'a>, WordsFault>
     // A verb comes only where the words ask for it, and a refusal only where they ask for none.
     ensures verb { IfOk result

@@ -1,53 +1,72 @@
-use Rattle.std.proofs.Common.{◌≡◌, inl, ℕ, Ok, Err, refl, sym, subst}
-use Rattle.vab_device.specs.Mounted.{Mounted}
-use Rattle.vab_device.specs.Reading.{IsIn}
+use Rattle.std.proofs.Common.{◌∙◌, ⊎_elim, inl, [], ℕ, List, sym, subst}
+use Rattle.vab_disk.specs.Disk.{Faults, Rose}
+use Rattle.vab_device.specs.Reading.{IsIn, Represents}
 use Rattle.vab_model.specs.Commands.{command_of}
+use Rattle.vab_cli.specs.declared.status.Status.{Status}
+use Rattle.vab_cli.specs.Acts.{command_act, status_in}
+use Rattle.vab_cli.specs.Runs.{Held, RunsItem}
 use Rattle.vab_cli.specs.Verbs.{command_line, command_item, verb_status}
-use Rattle.vab_cli.proofs.Lines.{reply_some, verb_kind}
-use Rattle.vab_cli.proofs.Running.{opened_in, runs_done, runs_failed, does_sized}
-use Rattle.vab_cli.proofs.Running.{same_opened}
+use Rattle.vab_cli.proofs.Acting.{acted_disk, acted_port, acted_words, command_is_act, front_none}
+use Rattle.vab_cli.proofs.Acting.{runs_act, wanted}
+use Rattle.vab_cli.proofs.Running.{opened_in, same_opened}
 use Rattle.vab_cli.proofs.Touching.{opening_changes, Behind, verb_opened}
 use Rattle.vab_cli.proofs.commands.carry_out.Goals as goal
 
-pub returns-in-Ok-do_command-clause-runs : goal.returns-in-Ok-do_command-clause-runs
-returns-in-Ok-do_command-clause-runs g c = λ t s stands.
+pub returns-clause-runs : goal.returns-clause-runs
+returns-clause-runs g c = λ t s stands.
     let old = c.args.port.now in
     let mid = c.open.new.port in
-    let new = c.do_command.new.port in
+    let new = c.perform.new.port in
     let size = g.P.Disk.size old in
     let command = command_of c.args.command.now in
-    let line = λ (x : Mounted). command_line x command in
-    let status = c.in-Ok-do_command.status in
-    let opens = c.in-Ok.ensures.opens t in
-    let opened = same_opened g.P.Disk size old mid opens in
-    let here = opened_in g.P.Disk g.met.P.Disk.only_now size old mid s opens stands in
-    let sized : g.P.Disk.size mid ≡ size = c.open.ensures.size in
-    let does = does_sized g.P.Disk (g.P.Disk.size mid) size (λ x. command_item x command (line x))
-    mid new (Ok status) sized (c.in-Ok-do_command.ensures.does t) s here in
-    let is = c.in-Ok-do_command.ensures.status t s
-    (subst (λ (n : ℕ). IsIn n s (g.P.Disk.seen mid)) (sym sized) here) in
-    inl (runs_done g.P.Disk g.met.P.Disk.only_now size s (command_item s command (line s))
-    (inl refl) (inl (reply_some command _ _ _)) (verb_status s command)
-    old mid new opened stands status is does)
+    let runs = runs_act g.P.Disk g.met.P.Disk.only_now (command_act [] command)
+    (command_is_act [] command) c.in-Ok.device s old mid new c.perform.result
+    (same_opened g.P.Disk size old mid (c.in-Ok.ensures.opens t)) c.open.ensures.size stands
+    (subst (λ (n : ℕ). Represents c.in-Ok.device n (g.P.Disk.seen mid)) (sym c.open.ensures.size)
+    (c.in-Ok.ensures.represents t))
+    t c.perform.ensures.performs in
+    inl (subst (λ (x : Status).
+    RunsItem g.P.Disk size s (command_item s command (command_line s command))
+    (verb_status s command) old new x)
+    (sym c.ended.ensures)
+    (subst (λ (l : List ℕ).
+    RunsItem g.P.Disk size s (command_item s command l) (verb_status s command) old new
+    (status_in c.perform.result))
+    (front_none s command)
+    (⊎_elim (λ item. item)
+    (λ short. absurd (c.perform.ensures.memory (wanted c.perform.result short.memory)))
+    runs)))
 
-pub returns-in-Err-do_command-clause-runs : goal.returns-in-Err-do_command-clause-runs
-returns-in-Err-do_command-clause-runs g c = λ t s stands.
-    let old = c.args.port.now in
-    let mid = c.open.new.port in
-    let new = c.do_command.new.port in
-    let size = g.P.Disk.size old in
-    let command = command_of c.args.command.now in
-    let line = λ (x : Mounted). command_line x command in
-    let status = c.in-Err-do_command.status in
-    let opens = c.in-Ok.ensures.opens t in
-    let opened = same_opened g.P.Disk size old mid opens in
-    let here = opened_in g.P.Disk g.met.P.Disk.only_now size old mid s opens stands in
-    let sized : g.P.Disk.size mid ≡ size = c.open.ensures.size in
-    let does = does_sized g.P.Disk (g.P.Disk.size mid) size (λ x. command_item x command (line x))
-    mid new (Err status) sized (c.in-Err-do_command.ensures.does t) s here in
-    inl (runs_failed g.P.Disk g.met.P.Disk.only_now size s (command_item s command (line s))
-    (inl refl) (inl (reply_some command _ _ _)) (verb_status s command) old mid new opened stands status
-    c.in-Err-do_command.ensures.failed (verb_kind s command) does)
+pub returns-clause-quiet : goal.returns-clause-quiet
+returns-clause-quiet g c = λ t.
+    let opens = c.open.ensures.quiet t in
+    let p = c.perform.ensures.performs in
+    let does = p.quiet t in
+    record { left = does.left ∙ opens.left; heard = does.heard ∙ opens.heard }
+
+pub returns-clause-steady : goal.returns-clause-steady
+returns-clause-steady g c = λ held.
+    let p = c.perform.ensures.performs in
+    p.steady (subst Held c.ended.ensures held) ∙ c.in-Ok.ensures.steady
+
+pub returns-clause-words : goal.returns-clause-words
+returns-clause-words g c = λ is.
+    acted_words g.P.Disk c.in-Ok.device _ c.open.new.port c.perform.new.port c.perform.result
+    c.perform.ensures.performs (sym c.ended.ensures ∙ is)
+
+pub returns-clause-disk : goal.returns-clause-disk
+returns-clause-disk g c = λ is.
+    subst (λ (f : Faults). Rose f.disk (g.P.Disk.faults c.perform.new.port).disk)
+    c.in-Ok.ensures.steady
+    (acted_disk g.P.Disk c.in-Ok.device _ c.open.new.port c.perform.new.port c.perform.result
+    c.perform.ensures.performs (sym c.ended.ensures ∙ is))
+
+pub returns-clause-port : goal.returns-clause-port
+returns-clause-port g c = λ is.
+    subst (λ (f : Faults). Rose f.sink (g.P.Disk.faults c.perform.new.port).sink)
+    c.in-Ok.ensures.steady
+    (acted_port g.P.Disk c.in-Ok.device _ c.open.new.port c.perform.new.port c.perform.result
+    c.perform.ensures.performs (sym c.ended.ensures ∙ is))
 
 pub returns-in-Err-clause-changes : goal.returns-in-Err-clause-changes
 returns-in-Err-clause-changes g c = λ t s stands boot there.
@@ -56,32 +75,17 @@ returns-in-Err-clause-changes g c = λ t s stands boot there.
     (Behind g.P.Disk size (g.P.Disk.seen c.args.port.now) s boot (command_of c.args.command.now))
     c.args.port.now c.open.new.port (c.open.ensures.changes t)
 
-pub returns-in-Ok-do_command-clause-changes : goal.returns-in-Ok-do_command-clause-changes
-returns-in-Ok-do_command-clause-changes g c = λ t s stands boot there.
+pub returns-clause-changes : goal.returns-clause-changes
+returns-clause-changes g c = λ t s stands boot there.
     let old = c.args.port.now in
     let mid = c.open.new.port in
     let size = g.P.Disk.size old in
     let here = opened_in g.P.Disk g.met.P.Disk.only_now size old mid s (c.in-Ok.ensures.opens t)
     stands in
     verb_opened g.P.Disk size c.in-Ok.device s boot (command_of c.args.command.now)
-    old mid c.do_command.new.port t
+    old mid c.perform.new.port t
     (c.in-Ok.ensures.represents t)
     (c.open.ensures.changes t)
-    (c.do_command.ensures.changes t s
-    (subst (λ (n : ℕ). IsIn n s (g.P.Disk.seen mid)) (sym c.open.ensures.size) here) boot)
-    there
-
-pub returns-in-Err-do_command-clause-changes : goal.returns-in-Err-do_command-clause-changes
-returns-in-Err-do_command-clause-changes g c = λ t s stands boot there.
-    let old = c.args.port.now in
-    let mid = c.open.new.port in
-    let size = g.P.Disk.size old in
-    let here = opened_in g.P.Disk g.met.P.Disk.only_now size old mid s (c.in-Ok.ensures.opens t)
-    stands in
-    verb_opened g.P.Disk size c.in-Ok.device s boot (command_of c.args.command.now)
-    old mid c.do_command.new.port t
-    (c.in-Ok.ensures.represents t)
-    (c.open.ensures.changes t)
-    (c.do_command.ensures.changes t s
+    (c.perform.ensures.changes t s
     (subst (λ (n : ℕ). IsIn n s (g.P.Disk.seen mid)) (sym c.open.ensures.size) here) boot)
     there

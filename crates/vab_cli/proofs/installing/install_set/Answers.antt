@@ -1,137 +1,194 @@
-use Rattle.std.proofs.Common.{◌≡◌, ◌≢◌, ◌∙◌, ℕ, List, Err, refl, ap, subst, rules}
-use Rattle.std.proofs.lemmas.Result.{IfOk-weaker}
+use Rattle.std.proofs.Common.{◌≡◌, ◌≢◌, ◌∙◌, [], ◌∷◌, ◌++◌, List, ℕ, Ok, Err, refl, sym, ap}
+use Rattle.std.proofs.Common.{subst, rules}
 use Rattle.vab_disk.proofs.CallLaws.{changes_then, changes_telling}
 use Rattle.vab_model.specs.declared.command.Refusal.{Refusal}
 use Rattle.vab_model.specs.declared.command.Refusal.TheVariants.{NoMemory}
-use Rattle.vab_device.specs.Mounted.{Mounted}
+use Rattle.vab_device.specs.Mounted.{Mounted, mounted_on}
+use Rattle.vab_device.proofs.ReadingLaws.{device_stands}
 use Rattle.vab_update.specs.declared.stop.Stop.{Stop}
 use Rattle.vab_update.specs.declared.stop.Stop.TheVariants as stops
-use Rattle.vab_update.specs.Carries.{CarriesOut}
-use Rattle.vab_update.specs.Install.{install_orders}
-use Rattle.vab_cli.specs.declared.status.Status.TheVariants as status
-use Rattle.vab_cli.specs.Installing.{install_told, installed_line, install_status}
+use Rattle.vab_cli.specs.declared.status.Status.{Status}
+use Rattle.vab_cli.specs.declared.status.Status.TheVariants.{Done, Refused, Port}
+use Rattle.vab_cli.specs.Acts.{PerformsActs, install_act}
+use Rattle.vab_cli.specs.Installing.{install_told, installed_line}
 use Rattle.vab_cli.specs.Telling.{Says}
-use Rattle.vab_cli.proofs.Installs.{install_fails, install_short, install_refused, install_does}
-use Rattle.vab_cli.proofs.Installs.{refused_told, refused_status, done_told, done_status}
+use Rattle.vab_cli.specs.Verbs.{refused_line}
+use Rattle.vab_cli.proofs.InstallActs.{Carried, install_closed, install_done, install_done_broken}
+use Rattle.vab_cli.proofs.InstallActs.{install_failed, install_refused_broken, install_wanted}
+use Rattle.vab_cli.proofs.Installs.{done_told, left_is, refused_told}
+use Rattle.vab_cli.proofs.Items.{says_err, says_ok}
 use Rattle.vab_cli.proofs.installing.install_set.Goals as goal
 
-pub returns-in-Ok-clause-does : goal.returns-in-Ok-clause-does
-returns-in-Ok-clause-does g c = λ t s stands.
+pub returns-in-Ok-say_line-clause-performs : goal.returns-in-Ok-say_line-clause-performs
+returns-in-Ok-say_line-clause-performs g c =
     let old = c.args.port.now in
     let mid = c.install.new.d in
-    let new = c.tell_line.new.port in
+    let new = c.say_line.new.port in
     let size = g.P.Disk.size old in
     let d = c.args.device in
     let set = c.args.set.now in
-    let is : c.installed_line.new.out.items ≡ install_told s set =
-    c.installed_line.ensures
+    let m : Mounted = mounted_on d (g.P.Disk.seen old) in
+    let is : g.P.Disk.is_modelled → c.as_slice.result.now ≡ install_told m set = λ t.
+    c.as_slice.ensures.value
+    ∙ c.installed_line.ensures
     ∙ (λ i. installed_line (c.len.ensures i) (c.left.ensures.is i))
-    ∙ done_told g.P.Disk t size d set old mid refl s (c.requires.represents t) stands
+    ∙ done_told g.P.Disk t size d set old mid refl m (c.requires.represents t)
+    (device_stands d size (g.P.Disk.seen old) (c.requires.represents t))
     c.in-Ok.device c.in-Ok.ensures in
-    install_does g.P.Disk t size d set old mid refl s (c.requires.represents t) stands
-    c.in-Ok.device c.in-Ok.ensures new c.tell_line.result
-    (subst (λ (l : List ℕ). Says g.P.Disk l mid new c.tell_line.result) is
-    (c.tell_line.ensures.says t))
+    install_done g.P.Disk d set old mid c.requires.kept c.requires.represents new
+    c.say_line.ensures.size c.in-Ok.device c.in-Ok.ensures
+    (λ t.
+    subst
+    (λ (l : List ℕ). Says g.P.Disk {A = Status} {E = Status} l mid new (Ok Done)) (is t)
+    (says_ok g.P.Disk _ mid new _ Done (c.in-Ok-say_line.ensures.says t)))
+    c.in-Ok-say_line.ensures.steady
+    (λ t. (let says = c.in-Ok-say_line.ensures.says t in says.seen))
 
-pub returns-in-Ok-clause-status : goal.returns-in-Ok-clause-status
-returns-in-Ok-clause-status g c = λ t s stands.
-    let old = c.args.port.now in
-    let size = g.P.Disk.size old in
-    IfOk-weaker c.tell_line.result (λ x. x ≡ status.Done)
-    (λ x. x ≡ install_status s c.args.set.now)
-    (λ x is.
-    is
-    ∙ done_status g.P.Disk t size c.args.device c.args.set.now old c.install.new.d refl s
-    (c.requires.represents t) stands c.in-Ok.device c.in-Ok.ensures)
-    c.tell_line.ensures.ends
-
-pub returns-in-Ok-clause-changes : goal.returns-in-Ok-clause-changes
-returns-in-Ok-clause-changes g c = λ t.
-    changes_then g.P.Disk _ c.args.port.now c.install.new.d c.tell_line.new.port
+pub returns-in-Ok-say_line-clause-changes : goal.returns-in-Ok-say_line-clause-changes
+returns-in-Ok-say_line-clause-changes g c = λ t.
+    let says = c.say_line.ensures.says t in
+    changes_then g.P.Disk _ c.args.port.now c.install.new.d c.say_line.new.port
     (c.install.ensures.changes t)
-    (changes_telling g.P.Disk _ _ c.install.new.d c.tell_line.new.port c.tell_line.ensures.size
-    (λ t. (c.tell_line.ensures.says t).seen)
-    (λ t. (c.tell_line.ensures.says t).crash)
-    (λ t. (c.tell_line.ensures.says t).time))
+    (changes_telling g.P.Disk _ _ c.install.new.d c.say_line.new.port c.say_line.ensures.size
+    (λ t. says.seen) (λ t. says.crash) (λ t. says.time))
 
-pub returns-in-Err-Disk-clause-does : goal.returns-in-Err-Disk-clause-does
-returns-in-Err-Disk-clause-does g c = λ t s stands.
-    let old = c.args.port.now in
-    install_fails g.P.Disk t (g.P.Disk.size old) c.args.device c.args.set.now old c.install.new.d
-    refl s (c.requires.represents t) stands c.in-Err-Disk.field-0 status.Disk
-    c.in-Err-Disk.ensures
+pub returns-in-Ok-say_line-clause-left : goal.returns-in-Ok-say_line-clause-left
+returns-in-Ok-say_line-clause-left g c = λ t s stands.
+    left_is g.P.Disk t (g.P.Disk.size c.args.port.now) c.args.device c.args.set.now
+    c.args.port.now c.install.new.d refl s (c.requires.represents t) stands c.in-Ok.device
+    c.in-Ok.ensures
 
-pub returns-then-eq-clause-does : goal.returns-then-eq-clause-does
-returns-then-eq-clause-does g c = λ t s stands.
+pub returns-in-Err-clause-performs : goal.returns-in-Err-clause-performs
+returns-in-Err-clause-performs g c =
     let old = c.args.port.now in
-    install_fails g.P.Disk t (g.P.Disk.size old) c.args.device c.args.set.now old c.install.new.d
-    refl s (c.requires.represents t) stands c.in-Err-Refused.field-0 status.NoMemory
-    c.in-Err-Refused.ensures
-
-pub returns-then-eq-clause-short : goal.returns-then-eq-clause-short
-returns-then-eq-clause-short g c = λ t s stands same.
-    let old = c.args.port.now in
+    let mid = c.install.new.d in
+    let new = c.say_line.new.port in
+    let size = g.P.Disk.size old in
     let d = c.args.device in
     let set = c.args.set.now in
-    let want : c.in-Err-Refused.refusal ≡ NoMemory = search rules in
-    install_short g.P.Disk t (g.P.Disk.size old) d set old c.install.new.d
-    refl s (c.requires.represents t) stands
+    let m : Mounted = mounted_on d (g.P.Disk.seen old) in
+    let is : g.P.Disk.is_modelled → c.as_slice.result.now ≡ install_told m set = λ t.
+    c.as_slice.ensures.value
+    ∙ c.installed_line.ensures
+    ∙ (λ i. installed_line (c.len.ensures i) (c.left.ensures.is i))
+    ∙ done_told g.P.Disk t size d set old mid refl m (c.requires.represents t)
+    (device_stands d size (g.P.Disk.seen old) (c.requires.represents t))
+    c.in-Ok.device c.in-Ok.ensures in
+    subst
+    (λ (s : Status). PerformsActs g.P.Disk d (install_act set ∷ []) old new (Err s))
+    (sym c.in-Err.ensures.failed)
+    (install_done_broken g.P.Disk d set old mid c.requires.kept c.requires.represents new
+    c.say_line.ensures.size c.in-Ok.device c.in-Ok.ensures
+    (λ t.
+    subst
+    (λ (l : List ℕ). Says g.P.Disk {A = Status} {E = Status} l mid new (Err Port)) (is t)
+    (says_err g.P.Disk _ mid new _ Port (c.in-Err.ensures.says t)))
+    c.in-Err.ensures.port)
+
+pub returns-in-Err-clause-changes : goal.returns-in-Err-clause-changes
+returns-in-Err-clause-changes g c = λ t.
+    let says = c.say_line.ensures.says t in
+    changes_then g.P.Disk _ c.args.port.now c.install.new.d c.say_line.new.port
+    (c.install.ensures.changes t)
+    (changes_telling g.P.Disk _ _ c.install.new.d c.say_line.new.port c.say_line.ensures.size
+    (λ t. says.seen) (λ t. says.crash) (λ t. says.time))
+
+pub returns-in-Err-Disk-clause-performs : goal.returns-in-Err-Disk-clause-performs
+returns-in-Err-Disk-clause-performs g c =
+    install_failed g.P.Disk c.args.device c.args.set.now c.args.port.now c.install.new.d
+    c.requires.kept c.requires.represents _
     (subst
     (λ (x : Stop).
-    CarriesOut g.P.Disk d (install_orders d.control.current set) old c.install.new.d (Err x))
+    Carried g.P.Disk c.args.device c.args.set.now c.args.port.now c.install.new.d
+    c.requires.kept c.requires.represents (Err x))
+    c.in-Err-Disk.field-0-is c.in-Err-Disk.ensures)
+
+pub returns-then-eq-clause-performs : goal.returns-then-eq-clause-performs
+returns-then-eq-clause-performs g c =
+    let want : c.in-Err-Refused.refusal ≡ NoMemory = search rules in
+    install_wanted g.P.Disk c.args.device c.args.set.now c.args.port.now c.install.new.d
+    c.requires.kept c.requires.represents
+    (subst
+    (λ (x : Stop).
+    Carried g.P.Disk c.args.device c.args.set.now c.args.port.now c.install.new.d
+    c.requires.kept c.requires.represents (Err x))
     (c.in-Err-Refused.field-0-is ∙ ap stops.Refused want) c.in-Err-Refused.ensures)
 
-pub returns-clause-does : goal.returns-clause-does
-returns-clause-does g c = λ t s stands.
+pub returns-in-Ok-say_line-2-clause-performs : goal.returns-in-Ok-say_line-2-clause-performs
+returns-in-Ok-say_line-2-clause-performs g c =
     let old = c.args.port.now in
     let mid = c.install.new.d in
-    let new = c.tell_line-2.new.port in
+    let new = c.say_line-2.new.port in
     let size = g.P.Disk.size old in
     let d = c.args.device in
     let set = c.args.set.now in
+    let m : Mounted = mounted_on d (g.P.Disk.seen old) in
     let refusal : Refusal = c.in-Err-Refused.refusal in
     let other : c.in-Err-Refused.refusal ≢ NoMemory = search rules in
-    let carries : CarriesOut g.P.Disk d (install_orders d.control.current set) old mid
-    (Err (stops.Refused refusal)) =
-    subst
+    let none : c.new-line.result.items ≡ [] = search rules in
+    let carries = subst
     (λ (x : Stop).
-    CarriesOut g.P.Disk d (install_orders d.control.current set) old mid (Err x))
+    Carried g.P.Disk d set old mid c.requires.kept c.requires.represents (Err x))
     c.in-Err-Refused.field-0-is c.in-Err-Refused.ensures in
-    let is : c.refused_line.new.out.items ≡ install_told s set =
-    c.refused_line.ensures
-    ∙ refused_told g.P.Disk t size d set old mid refl s (c.requires.represents t) stands
-    refusal other carries in
-    install_refused g.P.Disk t size d set old mid refl s (c.requires.represents t) stands
-    refusal other carries new c.tell_line-2.result
-    (subst (λ (l : List ℕ). Says g.P.Disk l mid new c.tell_line-2.result) is
-    (c.tell_line-2.ensures.says t))
+    let is : g.P.Disk.is_modelled → c.as_slice-2.result.now ≡ install_told m set = λ t.
+    c.as_slice-2.ensures.value
+    ∙ c.refused_line.ensures
+    ∙ ap (λ (l : List ℕ). l ++ refused_line refusal) none
+    ∙ refused_told g.P.Disk t size d set old mid refl m (c.requires.represents t)
+    (device_stands d size (g.P.Disk.seen old) (c.requires.represents t)) refusal other carries in
+    install_closed g.P.Disk d set old mid c.requires.kept c.requires.represents new
+    c.say_line-2.ensures.size refusal other carries
+    (λ t.
+    subst
+    (λ (l : List ℕ). Says g.P.Disk {A = Status} {E = Status} l mid new (Ok Refused)) (is t)
+    (says_ok g.P.Disk _ mid new _ Refused (c.in-Ok-say_line-2.ensures.says t)))
+    c.in-Ok-say_line-2.ensures.steady
 
-pub returns-clause-status : goal.returns-clause-status
-returns-clause-status g c = λ t s stands.
+pub returns-in-Ok-say_line-2-clause-changes : goal.returns-in-Ok-say_line-2-clause-changes
+returns-in-Ok-say_line-2-clause-changes g c = λ t.
+    let says = c.say_line-2.ensures.says t in
+    changes_then g.P.Disk _ c.args.port.now c.install.new.d c.say_line-2.new.port
+    (c.install.ensures.changes t)
+    (changes_telling g.P.Disk _ _ c.install.new.d c.say_line-2.new.port c.say_line-2.ensures.size
+    (λ t. says.seen) (λ t. says.crash) (λ t. says.time))
+
+pub returns-in-Err-say_line-clause-performs : goal.returns-in-Err-say_line-clause-performs
+returns-in-Err-say_line-clause-performs g c =
     let old = c.args.port.now in
+    let mid = c.install.new.d in
+    let new = c.say_line-2.new.port in
     let size = g.P.Disk.size old in
     let d = c.args.device in
     let set = c.args.set.now in
+    let m : Mounted = mounted_on d (g.P.Disk.seen old) in
+    let refusal : Refusal = c.in-Err-Refused.refusal in
     let other : c.in-Err-Refused.refusal ≢ NoMemory = search rules in
-    let carries : CarriesOut g.P.Disk d (install_orders d.control.current set) old
-    c.install.new.d (Err (stops.Refused c.in-Err-Refused.refusal)) =
-    subst
+    let none : c.new-line.result.items ≡ [] = search rules in
+    let carries = subst
     (λ (x : Stop).
-    CarriesOut g.P.Disk d (install_orders d.control.current set) old c.install.new.d (Err x))
+    Carried g.P.Disk d set old mid c.requires.kept c.requires.represents (Err x))
     c.in-Err-Refused.field-0-is c.in-Err-Refused.ensures in
-    IfOk-weaker c.tell_line-2.result (λ x. x ≡ status.Refused) (λ x. x ≡ install_status s set)
-    (λ x is.
-    is
-    ∙ refused_status g.P.Disk t size d set old c.install.new.d refl s
-    (c.requires.represents t) stands c.in-Err-Refused.refusal other carries)
-    c.tell_line-2.ensures.ends
+    let is : g.P.Disk.is_modelled → c.as_slice-2.result.now ≡ install_told m set = λ t.
+    c.as_slice-2.ensures.value
+    ∙ c.refused_line.ensures
+    ∙ ap (λ (l : List ℕ). l ++ refused_line refusal) none
+    ∙ refused_told g.P.Disk t size d set old mid refl m (c.requires.represents t)
+    (device_stands d size (g.P.Disk.seen old) (c.requires.represents t)) refusal other carries in
+    subst
+    (λ (s : Status). PerformsActs g.P.Disk d (install_act set ∷ []) old new (Err s))
+    (sym c.in-Err-say_line.ensures.failed)
+    (install_refused_broken g.P.Disk d set old mid c.requires.kept c.requires.represents new
+    c.say_line-2.ensures.size refusal other carries
+    (λ t.
+    subst
+    (λ (l : List ℕ). Says g.P.Disk {A = Status} {E = Status} l mid new (Err Port)) (is t)
+    (says_err g.P.Disk _ mid new _ Port (c.in-Err-say_line.ensures.says t)))
+    c.in-Err-say_line.ensures.port)
 
-pub returns-clause-changes : goal.returns-clause-changes
-returns-clause-changes g c = λ t.
-    changes_then g.P.Disk _ c.args.port.now c.install.new.d c.tell_line-2.new.port
+pub returns-in-Err-say_line-clause-changes : goal.returns-in-Err-say_line-clause-changes
+returns-in-Err-say_line-clause-changes g c = λ t.
+    let says = c.say_line-2.ensures.says t in
+    changes_then g.P.Disk _ c.args.port.now c.install.new.d c.say_line-2.new.port
     (c.install.ensures.changes t)
-    (changes_telling g.P.Disk _ _ c.install.new.d c.tell_line-2.new.port
-    c.tell_line-2.ensures.size
-    (λ t. (c.tell_line-2.ensures.says t).seen)
-    (λ t. (c.tell_line-2.ensures.says t).crash)
-    (λ t. (c.tell_line-2.ensures.says t).time))
+    (changes_telling g.P.Disk _ _ c.install.new.d c.say_line-2.new.port c.say_line-2.ensures.size
+    (λ t. says.seen) (λ t. says.crash) (λ t. says.time))

@@ -1,4 +1,4 @@
-use Rattle.std.proofs.Common.{◌≡◌, ◌∙◌, ℕ, List, Ok, Some, None, ap, subst}
+use Rattle.std.proofs.Common.{◌≡◌, ◌∙◌, ℕ, List, Some, None, subst}
 use Rattle.vab_set.specs.declared.set.SetImage.{SetImage}
 use Rattle.vab_disk.specs.Calls.{Changes, InSectors}
 use Rattle.vab_disk.proofs.CallLaws.{changes_hearing, changes_then}

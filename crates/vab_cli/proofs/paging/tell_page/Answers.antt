@@ -2,7 +2,7 @@ use Rattle.std.proofs.Common.{◌≡◌, ◌∙◌, inl, inr, ℕ, List, Ok, Err
 use Rattle.vab_disk.proofs.CallLaws.{changes_then, changes_telling}
 use Rattle.vab_device.specs.Mounted.{Mounted, state_on}
 use Rattle.vab_status.specs.Page.{page}
-use Rattle.vab_recover.specs.Repairs.{IsRepair}
+use Rattle.vab_recover.specs.Opening.{IsOfOpening}
 use Rattle.vab_cli.specs.declared.status.Status.{Status}
 use Rattle.vab_cli.specs.declared.status.Status.TheVariants.{Done, Port, NoMemory}
 use Rattle.vab_cli.specs.Paging.{page_item}
@@ -71,7 +71,7 @@ returns-in-Ok-say_all-clause-tells g c =
         heard = c.say_all.ensures.heard t ∙ (c.open.ensures.quiet t).heard;
       };
       touches = λ t.
-          changes_then g.P.Disk (IsRepair size (g.P.Disk.seen old)) old mid new
+          changes_then g.P.Disk (IsOfOpening size (g.P.Disk.seen old)) old mid new
           (c.open.ensures.changes t)
           (changes_telling g.P.Disk _ _ mid new c.say_all.ensures.size
           c.say_all.ensures.seen c.say_all.ensures.crash c.say_all.ensures.time);
@@ -121,7 +121,7 @@ returns-clause-tells g c =
         heard = c.say_all.ensures.heard t ∙ (c.open.ensures.quiet t).heard;
       };
       touches = λ t.
-          changes_then g.P.Disk (IsRepair size (g.P.Disk.seen old)) old mid new
+          changes_then g.P.Disk (IsOfOpening size (g.P.Disk.seen old)) old mid new
           (c.open.ensures.changes t)
           (changes_telling g.P.Disk _ _ mid new c.say_all.ensures.size
           c.say_all.ensures.seen c.say_all.ensures.crash c.say_all.ensures.time);

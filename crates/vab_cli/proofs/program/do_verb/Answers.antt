@@ -1,8 +1,9 @@
-use Rattle.std.proofs.Common.{◌≡◌, inr, ap, refl, true, false, rules}
+use Rattle.std.proofs.Common.{◌≡◌, ℕ, inr, ap, refl, subst, true, false, rules}
 use Rattle.vab_model.specs.Commands.{SetActive, Boot, Mark, Print, Digest, Cancel, BeginMerge}
 use Rattle.vab_model.specs.Commands.{Merge}
 use Rattle.vab_words.specs.Verbs.{Serve, meaning_of}
 use Rattle.vab_words.specs.Verbs as words
+use Rattle.vab_cli.specs.Demo.{DemonstratesOf}
 use Rattle.vab_cli.specs.Verbs.{command_of}
 use Rattle.vab_cli.proofs.Programs.{command_verb, serve_verb, fresh_verb, other_verb}
 use Rattle.vab_cli.proofs.program.do_verb.Goals as goal
@@ -105,7 +106,7 @@ returns-in-Install g c =
     other_verb g.P.Disk (meaning_of c.args.verb) c.args.port.now c.install.new.port
     c.install.result c.install.ensures.words c.install.ensures.steady c.install.ensures.disk
     c.install.ensures.port words.Install is refl (λ fresh other. cc) (λ limit max other. cc)
-    (λ same. c.install.ensures.runs) (λ other. cc)
+    (λ same. c.install.ensures.runs) (λ other. cc) (λ seed scale other. cc)
 
 pub returns-in-Status : goal.returns-in-Status
 returns-in-Status g c =
@@ -114,4 +115,22 @@ returns-in-Status g c =
     c.tell_page.result c.tell_page.ensures.words c.tell_page.ensures.steady
     c.tell_page.ensures.disk (λ port. inr (c.tell_page.ensures.port port))
     words.Status is refl (λ fresh other. cc) (λ limit max other. cc)
-    (λ other. cc) (λ same. c.tell_page.ensures.tells)
+    (λ other. cc) (λ same. c.tell_page.ensures.tells) (λ seed scale other. cc)
+
+pub returns-in-Demo : goal.returns-in-Demo
+returns-in-Demo g c =
+    let is : meaning_of c.args.verb ≡ words.Demo c.in-Demo.seed c.in-Demo.scale = search rules in
+    other_verb g.P.Disk (meaning_of c.args.verb) c.args.port.now c.demo.new.port
+    c.demo.result c.demo.ensures.words c.demo.ensures.steady
+    c.demo.ensures.disk (λ port. inr (c.demo.ensures.port port))
+    (words.Demo c.in-Demo.seed c.in-Demo.scale) is refl (λ fresh other. cc)
+    (λ limit max other. cc) (λ other. cc) (λ other. cc)
+    (λ seed scale same.
+    let one : c.in-Demo.seed ≡ seed = cc in
+    let two : c.in-Demo.scale ≡ scale = cc in
+    subst
+    (λ (n : ℕ). DemonstratesOf g.P.Disk seed n c.args.port.now c.demo.new.port c.demo.result) two
+    (subst
+    (λ (n : ℕ).
+    DemonstratesOf g.P.Disk n c.in-Demo.scale c.args.port.now c.demo.new.port c.demo.result) one
+    c.demo.ensures.does))

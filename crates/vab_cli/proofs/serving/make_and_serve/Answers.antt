@@ -6,7 +6,7 @@ use Rattle.vab_disk.specs.Calls.{IsAtRest, OnlyReads, Touches, Changes, InSector
 use Rattle.vab_disk.proofs.CallLaws.{reads_none, changes_touches}
 use Rattle.vab_device.specs.Reading.{device, Represents}
 use Rattle.vab_device.proofs.ReadingLaws.{device_stands}
-use Rattle.vab_recover.specs.Repairs.{LeavesSame, IsRepair}
+use Rattle.vab_recover.specs.Opening.{LeavesSame, IsOfOpening}
 use Rattle.vab_make.specs.Touched.{IsOfMaking}
 use Rattle.vab_set.specs.declared.set.SetImage.{SetImage}
 use Rattle.vab_make.specs.declared.fault.MakeFault.TheVariants as make
@@ -199,7 +199,7 @@ unmade : {D : Type 0} (g : Ghosts D) (set : List SetImage) (old mid : D)
     → Touches g (InSectors (IsOfMaking set 65536)) old mid
     → Changes g (IsOfFresh W (g.size old)) old mid
 unmade g set old mid is W makes =
-    making_fresh g (g.size old) W old mid
+    making_fresh g [] (g.size old) W old mid
     (subst (λ (x : List SetImage). Changes g (InSectors (IsOfMaking x 65536)) old mid) is
     (changes_touches g _ old mid makes))
 
@@ -221,7 +221,7 @@ module _ {D : Type 0} (g : Ghosts D) (set : List SetImage) (old mid new : D)
     (sized : g.size mid ≡ g.size old)
     (made : IsMade set 0 65536 (g.size old) (g.seen mid))
     (makes : Touches g (InSectors (IsOfMaking set 65536)) old mid)
-    (opens : Touches g (IsRepair (g.size mid) (g.seen mid)) mid new)
+    (opens : Touches g (IsOfOpening (g.size mid) (g.seen mid)) mid new)
     (W : Device → List ℕ → ℕ → List ℕ → Type 0) where
   here : IsMade [] 0 65536 (g.size old) (g.seen mid)
   here = subst (λ (x : List SetImage). IsMade x 0 65536 (g.size old) (g.seen mid)) is made
@@ -231,22 +231,22 @@ module _ {D : Type 0} (g : Ghosts D) (set : List SetImage) (old mid new : D)
       subst (λ (x : List SetImage). Changes g (InSectors (IsOfMaking x 65536)) old mid) is
       (changes_touches g _ old mid makes)
 
-  opening : Changes g (IsRepair (g.size old) (g.seen mid)) mid new
+  opening : Changes g (IsOfOpening (g.size old) (g.seen mid)) mid new
   opening =
-      subst (λ (n : ℕ). Changes g (IsRepair n (g.seen mid)) mid new) sized
+      subst (λ (n : ℕ). Changes g (IsOfOpening n (g.seen mid)) mid new) sized
       (changes_touches g _ mid new opens)
 
   opens_made : Changes g (IsOfFresh W (g.size old)) old new
   opens_made =
-      making_fresh g (g.size old) W old new
-      (made_opened g (g.size old) old mid new here making opening)
+      making_fresh g [] (g.size old) W old new
+      (made_opened g [] (g.size old) old mid new here making opening)
 
   serves_made : (t : g.is_modelled) (d : Device) (last : D)
       → Represents d (g.size old) (g.seen new)
       → Changes g (W d (g.seen new 4)) new last
       → Changes g (IsOfFresh W (g.size old)) old last
   serves_made t d last is serves =
-      made_served g (g.size old) W old mid last here making
+      made_served g [] (g.size old) W old mid last here making
       (served_changes g (g.size old) W d mid new last t is opening serves)
 
 pub returns-in-Err-start-clause-changes : goal.returns-in-Err-start-clause-changes

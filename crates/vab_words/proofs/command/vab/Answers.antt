@@ -1,7 +1,8 @@
 use Rattle.std.proofs.Common.{codes}
 use Rattle.std.proofs.lemmas.Result.{IfOk-weaker}
 use Rattle.clap.specs.Words.{new_app}
-use Rattle.vab_words.specs.Command.{make_app, serve_app, operand_app, no_verbs, vab_app}
+use Rattle.vab_words.specs.Command.{make_app, serve_app, operand_app, demo_app, no_verbs}
+use Rattle.vab_words.specs.Command.{vab_app}
 use Rattle.vab_words.proofs.Growing.{grown}
 use Rattle.vab_words.proofs.command.vab.Goals as goal
 
@@ -32,7 +33,9 @@ returns c =
     let digest = grown _ _ _ _ (operand_app (codes "digest") (codes "name"))
     c.in_ok-subcommand-11.ensures print c.in_ok-with_operand-4.ensures.local
     c.in_ok-with_operand-4.ensures.app in
-    IfOk-weaker c.subcommand-12.result _ _
-    (λ m h. grown _ _ m _ (new_app (codes "status"))
-    h digest c.new-6.ensures.local c.new-6.ensures.app)
-    c.subcommand-12.ensures
+    let status = grown _ _ _ _ (new_app (codes "status"))
+    c.in_ok-subcommand-12.ensures digest c.new-6.ensures.local c.new-6.ensures.app in
+    IfOk-weaker c.subcommand-13.result _ _
+    (λ m h. grown _ _ m _ demo_app
+    h status c.in_ok-demo.ensures.local c.in_ok-demo.ensures.app)
+    c.subcommand-13.ensures

@@ -1,0 +1,360 @@
+-- The images of a slot: the end of an installation gives them, and other commands leave them.
+use Rattle.std.proofs.Common.{◌≡◌, ◌∙◌, ℕ, zero, suc, ◌-◌, ◌*◌, ◌⊎◌, inl, inr, Bool, true, false}
+use Rattle.std.proofs.Common.{cond, eqb}
+use Rattle.std.proofs.Common.{List, [], ◌∷◌, length, Option, Some, None, Result, Ok, Err, refl, sym}
+use Rattle.std.proofs.Common.{ap}
+use Rattle.std.proofs.Common.{subst, arith}
+use Rattle.std.proofs.lemmas.Bool.{cases_Bool, eqb-true, eqb-false, eq-eqb, ne_eqb}
+use Rattle.std.proofs.lemmas.List.Elements.{All-cons}
+use Rattle.std.specs.Prelude.{All, map, is_some, nat_lt, nat_le}
+use Rattle.vab_bootctl.specs.declared.slots.Control.{Control}
+use Rattle.vab_bootctl.specs.Boot.{activated_of}
+use Rattle.vab_names.specs.Names.{is_full, base_of}
+use Rattle.vab_space.specs.Space.{need_of}
+use Rattle.vab_layout.specs.declared.layout.Layout.{Layout}
+use Rattle.vab_layout.specs.Slots.{other_slot}
+use Rattle.vab_builder.specs.declared.fault.EditFault.{EditFault}
+use Rattle.vab_model.specs.declared.state.Image.{Image as ImageOfSlot}
+use Rattle.vab_model.specs.declared.state.PlanImage.{PlanImage}
+use Rattle.vab_model.specs.declared.state.PlanImage.TheVariants.{Kept, Declared, Written}
+use Rattle.vab_model.specs.declared.state.PlanEntry.{PlanEntry}
+use Rattle.vab_model.specs.declared.state.Phase.{Phase}
+use Rattle.vab_model.specs.declared.state.Phase.TheVariants.{Idle, Installing, Staged, Merging}
+use Rattle.vab_model.specs.declared.state.State.{State}
+use Rattle.vab_model.specs.declared.command.Refusal.{Refusal}
+use Rattle.vab_model.specs.declared.command.Refusal.TheVariants as refusals
+use Rattle.vab_model.specs.declared.command.Reply.TheVariants as replies
+use Rattle.vab_model.specs.Commands.{Command, SetActive, Boot, Mark, Print, Digest, Begin, Create}
+use Rattle.vab_model.specs.Commands.{Resize, Delete, Snapshot, Flash, Finish, Cancel, BeginMerge}
+use Rattle.vab_model.specs.Commands.{Merge}
+use Rattle.vab_model.specs.State.{images_at}
+use Rattle.vab_model.specs.Effects.{Effect, Found, Image_is, Refused_by, found_of, print_effect}
+use Rattle.vab_model.specs.Effects.{digest_effect, active_effect, effect, effect_map, IsOneOf}
+use Rattle.vab_model.specs.Effects.{after_of, refuses, does}
+use Rattle.vab_device.specs.Mounted.{Mounted, in_state}
+use Rattle.vab_device.specs.Updates.{effect_on, table_effect, begun_effect, begin_effect, layout_at}
+use Rattle.vab_device.specs.Updates.{EditOf, edited_effect, edit_effect, create_edit, resize_edit}
+use Rattle.vab_device.specs.Updates.{delete_edit, snapshot_edit, staged_effect, stored_effect}
+use Rattle.vab_device.specs.Updates.{entry_effect, entry_named, flash_effect, merge_effect, turns}
+use Rattle.vab_device.specs.Updates.{if_room, flashed, differences, source_bytes, is_sparse}
+use Rattle.vab_device.specs.Updates.{with_images, without_images, complete_effect}
+use Rattle.vab_device.specs.Updates.{finish_effect, cancelled, cancel_effect, final_image}
+use Rattle.vab_device.specs.Updates.{declared_name, least_declared, plan_count}
+use Rattle.vab_boots.specs.Images.{IsReady, Finishes, Cancels, changes_images, SameImages}
+use Rattle.vab_boots.proofs.Begins.{refused_not, done_then}
+
+-- ---- two slots
+
+other_is_b : (slot : ℕ) → eqb slot 0 ≡ true → eqb (other_slot slot) 0 ≡ false
+other_is_b slot is =
+    let at : slot ≡ 0 = eqb-true slot 0 is in
+    ne_eqb (1 - slot) 0 (λ none. absurd (omega (arith, at, none)))
+
+other_is_a : (slot : ℕ) → eqb slot 0 ≡ false → eqb (other_slot slot) 0 ≡ true
+other_is_a slot is =
+    let apart = eqb-false slot 0 is in
+    eq-eqb (1 - slot) 0 (omega (arith, apart))
+
+-- ---- the end of an installation
+
+still_some : (name other : List ℕ) (image : PlanImage)
+    → (least : List ℕ) × (declared_name (Some name) other image ≡ Some least)
+still_some name other Kept = (name, refl)
+still_some name other Declared = by_test _
+  where
+    by_test : (b : Bool)
+        → (least : List ℕ) × (cond b (Some other) (Some name) ≡ Some least)
+    by_test true = (other, refl)
+    by_test false = (name, refl)
+still_some name other (Written bytes count) = (name, refl)
+
+never_none : (name : List ℕ) (es : List PlanEntry) → least_declared (Some name) es ≡ None → ⊥
+never_none name [] none = cc
+never_none name (e ∷ es) none =
+    let some = still_some name e.name e.image in
+    never_none some.0 es
+    (sym (ap (λ (o : Option (List ℕ)). least_declared o es) some.1) ∙ none)
+
+first_ready : (name : List ℕ) (image : PlanImage) (es : List PlanEntry)
+    → least_declared (declared_name None name image) es ≡ None
+    → IsReady image × (least_declared None es ≡ None)
+first_ready name Kept es none = (tt, none)
+first_ready name Declared es none = absurd (never_none name es none)
+first_ready name (Written bytes count) es none = (tt, none)
+
+are_ready : (es : List PlanEntry)
+    → least_declared None es ≡ None
+    → All (λ (e : PlanEntry). IsReady e.image) es
+are_ready [] none = λ k d lt. absurd (omega (arith, lt))
+are_ready (e ∷ es) none =
+    let first = first_ready e.name e.image es none in
+    All-cons (λ (e : PlanEntry). IsReady e.image) e es first.0 (are_ready es first.1)
+
+given : (s : State) (slot : ℕ) (images : List ImageOfSlot) (phase : Phase)
+    → images_at (record (with_images s slot images) { phase = phase }) slot ≡ Some images
+given s slot images phase = elim (cases_Bool (eqb slot 0)) [
+  | inl is ↦ rw is refl
+  | inr not ↦ rw not refl
+]
+
+kept_beside : (s : State) (source : ℕ) (images : List ImageOfSlot) (phase : Phase)
+    → images_at (record (with_images s (other_slot source) images) { phase = phase }) source
+    ≡ images_at s source
+kept_beside s source images phase = elim (cases_Bool (eqb source 0)) [
+  | inl is ↦ rw (is, other_is_b source is) refl
+  | inr not ↦ rw (not, other_is_a source not) refl
+]
+
+finishes_by : (m : Mounted) (source : ℕ) (plan : List PlanEntry) (o : Option (List ℕ))
+    → m.state.phase ≡ Installing source plan
+    → least_declared None plan ≡ o
+    → (complete_effect m source plan o).reply ≡ replies.Done
+    → Finishes m (after_of m (complete_effect m source plan o))
+finishes_by m source plan None was none done =
+    let images : List ImageOfSlot = map (final_image m.state source) plan in
+    let phase : Phase = Staged source (plan_count plan) in
+    record {
+      source = source;
+      plan = plan;
+      was = was;
+      ready = are_ready plan none;
+      staged = refl;
+      target = given m.state (other_slot source) images phase;
+      kept = kept_beside m.state source images phase;
+    }
+finishes_by m source plan (Some name) was least done =
+    refused_not (refusals.Incomplete name) done
+
+finish_by : (m : Mounted) (phase : Phase)
+    → m.state.phase ≡ phase
+    → (finish_effect m phase).reply ≡ replies.Done
+    → Finishes m (after_of m (finish_effect m phase))
+finish_by m Idle was done = refused_not refusals.NotInstalling done
+finish_by m (Installing source plan) was done =
+    finishes_by m source plan (least_declared None plan) was refl done
+finish_by m (Staged source left) was done = refused_not refusals.NotInstalling done
+finish_by m (Merging target left) was done = refused_not refusals.NotInstalling done
+
+pub finishes : (m : Mounted) (staged : Option (List ℕ))
+    → (effect_on m staged Finish).reply ≡ replies.Done
+    → Finishes m (after_of m (effect_on m staged Finish))
+finishes m staged done = finish_by m m.state.phase refl done
+
+-- ---- an update that is cancelled
+
+dropped : (m : Mounted) (source : ℕ)
+    → images_at (without_images m.state (other_slot source)) (other_slot source) ≡ None
+dropped m source = elim (cases_Bool (eqb (other_slot source) 0)) [
+  | inl is ↦ rw is refl
+  | inr not ↦ rw not refl
+]
+
+left_beside : (m : Mounted) (source : ℕ)
+    → images_at (without_images m.state (other_slot source)) source ≡ images_at m.state source
+left_beside m source = elim (cases_Bool (eqb source 0)) [
+  | inl is ↦ rw (is, other_is_b source is) refl
+  | inr not ↦ rw (not, other_is_a source not) refl
+]
+
+cancels_from : (m : Mounted) (source : ℕ) → Cancels source m (cancelled m source)
+cancels_from m source = record {
+  idle = refl;
+  target = dropped m source;
+  kept = left_beside m source;
+}
+
+cancel_by : (m : Mounted) (source left : ℕ)
+    → (cancel_effect m (Staged source left)).reply ≡ replies.Done
+    → Cancels source m (after_of m (cancel_effect m (Staged source left)))
+cancel_by m source left done =
+    let drops : Effect Mounted = does replies.Done (cancelled m source) in
+    let runs : Bool = eqb m.state.control.current source in
+    let current = done_then runs refusals.RunningTarget drops done in
+    let same : cancel_effect m (Staged source left) ≡ drops = rw current.0 refl in
+    subst (λ (e : Effect Mounted). Cancels source m (after_of m e)) (sym same)
+    (cancels_from m source)
+
+pub cancels : (m : Mounted) (staged : Option (List ℕ)) (source : ℕ)
+    → ((plan : List PlanEntry) × (m.state.phase ≡ Installing source plan))
+    ⊎ ((left : ℕ) × (m.state.phase ≡ Staged source left))
+    → (effect_on m staged Cancel).reply ≡ replies.Done
+    → Cancels source m (after_of m (effect_on m staged Cancel))
+cancels m staged source (inl installing) done =
+    subst (λ (p : Phase). Cancels source m (after_of m (cancel_effect m p)))
+    (sym installing.1)
+    (cancels_from m source)
+cancels m staged source (inr ready) done =
+    subst (λ (p : Phase). Cancels source m (after_of m (cancel_effect m p)))
+    (sym ready.1)
+    (cancel_by m source ready.0
+    (sym (ap (λ (p : Phase). (cancel_effect m p).reply) ready.1) ∙ done))
+
+-- ---- the other commands
+
+module _ (m : Mounted) where
+  -- each of these
+  abbrev AreSame : List Mounted → Type 0
+  AreSame ms = (x : Mounted) → IsOneOf ms x → SameImages m x
+
+  none : AreSame []
+  none x is = absurd is
+
+  more : (y : Mounted) (ms : List Mounted) → SameImages m y → AreSame ms → AreSame (y ∷ ms)
+  more y ms same are x (inl is) = subst (SameImages m) (sym is) same
+  more y ms same are x (inr later) = are x later
+
+  one : (y : Mounted) → SameImages m y → AreSame (y ∷ [])
+  one y same = more y [] same none
+
+  either : (b : Bool) (e f : Effect Mounted)
+      → AreSame e.later
+      → AreSame f.later
+      → AreSame (cond b e f).later
+  either true e f same other = same
+  either false e f same other = other
+
+  tabled : (source : ℕ) (plan : List PlanEntry) (r : Result Layout EditFault)
+      → AreSame (table_effect m source plan r).later
+  tabled source plan (Ok l) = one _ (record { a = refl; b = refl })
+  tabled source plan (Err fault) = none
+
+  begun : (source : ℕ) (l : Option Layout) → AreSame (begun_effect m source l).later
+  begun source None = none
+  begun source (Some l) = tabled source [] _
+
+  begins : (phase : Phase) → AreSame (begin_effect m phase).later
+  begins Idle =
+      begun m.state.control.current (layout_at m.places m.state.control.current)
+  begins (Installing source plan) = none
+  begins (Staged source left) = none
+  begins (Merging target left) = none
+
+  edited : (source : ℕ) (plan : List PlanEntry) (edit : EditOf) (s t : Option Layout)
+      → AreSame (edited_effect m source plan edit s t).later
+  edited source plan edit None t = none
+  edited source plan edit (Some s) None = none
+  edited source plan edit (Some s) (Some t) = tabled source plan _
+
+  edits : (edit : EditOf) (phase : Phase) → AreSame (edit_effect m edit phase).later
+  edits edit Idle = none
+  edits edit (Installing source plan) =
+      edited source plan edit
+      (layout_at m.places source)
+      (layout_at m.places (other_slot source))
+  edits edit (Staged source left) = none
+  edits edit (Merging target left) = none
+
+  -- ---- an image
+
+  roomed : (source : ℕ) (plan : List PlanEntry) (e : PlanEntry) (store : ℕ) (staged : List ℕ)
+      (n : ℕ)
+      → AreSame (if_room m source plan e store staged n).later
+  roomed source plan e store staged n =
+      either (nat_le (need_of n) store)
+      (flashed m source plan e staged n)
+      (refuses (refusals.StoreFull (need_of n) store))
+      (one _ (record { a = refl; b = refl }))
+      none
+
+  written : (source : ℕ) (plan : List PlanEntry) (e : PlanEntry) (store : ℕ)
+      (staged : Option (List ℕ))
+      → AreSame (staged_effect m source plan e store staged).later
+  written source plan e store None = none
+  written source plan e store (Some staged) =
+      let n : ℕ = differences (source_bytes m.state source e.name) staged e.blocks in
+      let large : Refusal = refusals.TooLarge (length staged) (4096 * e.blocks) in
+      let room : Effect Mounted = if_room m source plan e store staged n in
+      let is_large : Bool = nat_lt (4096 * e.blocks) (length staged) in
+      either (is_sparse staged) (refuses refusals.Sparse) (cond is_large (refuses large) room) none
+      (either is_large (refuses large) room none (roomed source plan e store staged n))
+
+  stored : (source : ℕ) (plan : List PlanEntry) (name : List ℕ) (group : Option (List ℕ))
+      (blocks : ℕ) (own store : Option ℕ) (staged : Option (List ℕ)) (image : PlanImage)
+      → AreSame (stored_effect m source plan
+      (record { name = name; group = group; blocks = blocks; store = own; image = image })
+      staged store).later
+  stored source plan name group blocks own None staged image = none
+  stored source plan name group blocks own (Some store) staged Kept =
+      written source plan
+      (record { name = name; group = group; blocks = blocks; store = own; image = Kept })
+      store staged
+  stored source plan name group blocks own (Some store) staged Declared =
+      written source plan
+      (record { name = name; group = group; blocks = blocks; store = own; image = Declared })
+      store staged
+  stored source plan name group blocks own (Some store) staged (Written bytes count) = none
+
+  found : (source : ℕ) (plan : List PlanEntry) (staged : Option (List ℕ)) (e : Option PlanEntry)
+      → AreSame (entry_effect m source plan staged e).later
+  found source plan staged None = none
+  found source plan staged (Some e) =
+      stored source plan e.name e.group e.blocks e.store e.store staged e.image
+
+  flashes : (staged : Option (List ℕ)) (name : List ℕ) (phase : Phase)
+      → AreSame (flash_effect m staged name phase).later
+  flashes staged name Idle = none
+  flashes staged name (Installing source plan) =
+      let e : Option PlanEntry = entry_named (base_of name) plan in
+      either (is_full (other_slot source) name)
+      (entry_effect m source plan staged e)
+      (refuses refusals.BadName)
+      (found source plan staged e)
+      none
+  flashes staged name (Staged source left) = none
+  flashes staged name (Merging target left) = none
+
+  -- ---- turns, boot control and questions
+
+  turned : (blocks target left : ℕ) → AreSame (turns blocks m target left)
+  unfolding turns
+  turned zero target left = none
+  turned (suc n) target zero = one _ (record { a = refl; b = refl })
+  turned (suc n) target (suc left) =
+      more _ _ (record { a = refl; b = refl }) (turned n target left)
+
+  merges : (blocks : ℕ) (phase : Phase) → AreSame (merge_effect m blocks phase).later
+  merges blocks Idle = none
+  merges blocks (Installing source plan) = none
+  merges blocks (Staged source left) = none
+  merges blocks (Merging target left) = turned blocks target left
+
+  activates : (has : Bool) (c : Control)
+      → AreSame (effect_map (in_state m) (active_effect has m.state c)).later
+  activates true c = one _ (record { a = refl; b = refl })
+  activates false c = none
+
+  prints : (name : List ℕ) (f : Found)
+      → AreSame (effect_map (in_state m) (print_effect name f)).later
+  prints name (Image_is image) = none
+  prints name (Refused_by refusal) = none
+
+  digests : (f : Found) → AreSame (effect_map (in_state m) (digest_effect f)).later
+  digests (Image_is image) = none
+  digests (Refused_by refusal) = none
+
+  same_by : (staged : Option (List ℕ)) (c : Command)
+      → changes_images c ≡ false
+      → AreSame (effect_on m staged c).later
+  unfolding effect
+  same_by staged (SetActive n) other =
+      activates (is_some (images_at m.state n)) (activated_of m.state.control n)
+  same_by staged Boot other = one _ (record { a = refl; b = refl })
+  same_by staged Mark other = one _ (record { a = refl; b = refl })
+  same_by staged (Print name) other = prints name (found_of m.state name)
+  same_by staged (Digest name) other = digests (found_of m.state name)
+  same_by staged Begin other = begins m.state.phase
+  same_by staged (Create name size) other = edits (create_edit name size) m.state.phase
+  same_by staged (Resize name size) other = edits (resize_edit name size) m.state.phase
+  same_by staged (Delete name) other = edits (delete_edit name) m.state.phase
+  same_by staged (Snapshot name size) other = edits (snapshot_edit name size) m.state.phase
+  same_by staged (Flash name) other = flashes staged name m.state.phase
+  same_by staged Finish other = absurd cc
+  same_by staged Cancel other = absurd cc
+  same_by staged BeginMerge other = absurd cc
+  same_by staged (Merge blocks) other = merges blocks m.state.phase
+
+pub same_images : (m next : Mounted) (staged : Option (List ℕ)) (c : Command)
+    → changes_images c ≡ false
+    → IsOneOf (effect_on m staged c).later next
+    → SameImages m next
+same_images m next staged c other is = same_by m staged c other next is

@@ -1,0 +1,4 @@
+mod Begins
+pub mod Booting
+mod Facts
+mod Keeping

@@ -1,0 +1,89 @@
+-- Which images a slot has after a command: those of its plan from the end of an installation on,
+-- and the same ones else.
+use Rattle.std.specs.Prelude.{◌≡◌, ◌⊎◌, ℕ, Bool, true, false, List, map, Some, None}
+use Rattle.std.specs.Prelude.{Option, All}
+use Rattle.vab_layout.specs.Slots.{other_slot}
+use Rattle.vab_model.specs.declared.state.Phase.TheVariants.{Idle, Installing, Staged}
+use Rattle.vab_model.specs.declared.state.PlanEntry.{PlanEntry}
+use Rattle.vab_model.specs.declared.state.PlanImage.{PlanImage}
+use Rattle.vab_model.specs.declared.state.PlanImage.TheVariants.{Kept, Declared, Written}
+use Rattle.vab_model.specs.declared.command.Reply.TheVariants as replies
+use Rattle.vab_model.specs.Commands.{Command, SetActive, Boot, Mark, Print, Digest, Begin, Create}
+use Rattle.vab_model.specs.Commands.{Resize, Delete, Snapshot, Flash, Finish, Cancel, BeginMerge}
+use Rattle.vab_model.specs.Commands.{Merge}
+use Rattle.vab_model.specs.Effects.{after_of, IsOneOf}
+use Rattle.vab_model.specs.State.{images_at}
+use Rattle.vab_device.specs.Mounted.{Mounted}
+use Rattle.vab_device.specs.Updates.{effect_on, final_image, plan_count}
+
+-- ---- the end of an installation
+
+-- it is kept or written
+abbrev pub IsReady : PlanImage → Type 0
+IsReady Kept = Unit {0}
+IsReady Declared = ⊥
+IsReady (Written bytes count) = Unit {0}
+
+-- An installation has ended: each partition of the plan is the source's image or what was written,
+-- these are the target's images, and the source has its own.
+pub record Finishes (m next : Mounted) : Type 0 where
+  pub source : ℕ
+  pub plan : List PlanEntry
+  pub was : m.state.phase ≡ Installing source plan
+  pub ready : All (λ (e : PlanEntry). IsReady e.image) plan
+  pub staged : next.state.phase ≡ Staged source (plan_count plan)
+  pub target : images_at next.state (other_slot source)
+      ≡ Some (map (final_image m.state source) plan)
+  pub kept : images_at next.state source ≡ images_at m.state source
+
+abbrev pub FinishedIsPlan : Type 0
+FinishedIsPlan = (m : Mounted) (staged : Option (List ℕ))
+    → (effect_on m staged Finish).reply ≡ replies.Done
+    → Finishes m (after_of m (effect_on m staged Finish))
+
+-- ---- an update that is cancelled
+
+-- There is no update from this source any more: the target has no images, and the source its own.
+pub record Cancels (source : ℕ) (m next : Mounted) : Type 0 where
+  pub idle : next.state.phase ≡ Idle
+  pub target : images_at next.state (other_slot source) ≡ None
+  pub kept : images_at next.state source ≡ images_at m.state source
+
+abbrev pub CancelDropsTarget : Type 0
+CancelDropsTarget = (m : Mounted) (staged : Option (List ℕ)) (source : ℕ)
+    → ((plan : List PlanEntry) × (m.state.phase ≡ Installing source plan))
+    ⊎ ((left : ℕ) × (m.state.phase ≡ Staged source left))
+    → (effect_on m staged Cancel).reply ≡ replies.Done
+    → Cancels source m (after_of m (effect_on m staged Cancel))
+
+-- ---- the other commands
+
+-- it gives images to a slot, or takes them from it
+abbrev pub changes_images : Command → Bool
+changes_images (SetActive slot) = false
+changes_images Boot = false
+changes_images Mark = false
+changes_images (Print name) = false
+changes_images (Digest name) = false
+changes_images Begin = false
+changes_images (Create name size) = false
+changes_images (Resize name size) = false
+changes_images (Delete name) = false
+changes_images (Snapshot name size) = false
+changes_images (Flash name) = false
+changes_images Finish = true
+changes_images Cancel = true
+changes_images BeginMerge = true
+changes_images (Merge blocks) = false
+
+-- Each slot has the images that it had.
+pub record SameImages (m next : Mounted) : Type 0 where
+  pub a : next.state.a ≡ m.state.a
+  pub b : next.state.b ≡ m.state.b
+
+-- All commands but three leave the images of both slots, at each step.
+abbrev pub OthersKeepImages : Type 0
+OthersKeepImages = (m next : Mounted) (staged : Option (List ℕ)) (c : Command)
+    → changes_images c ≡ false
+    → IsOneOf (effect_on m staged c).later next
+    → SameImages m next

@@ -1,0 +1,28 @@
+use Rattle.std.proofs.Common.{◌∙◌, List, ap, subst}
+use Rattle.vab_gen.specs.Sets.{fresh_set, next_set}
+use Rattle.vab_set.specs.declared.set.SetImage.{SetImage}
+use Rattle.vab_cli.specs.Demo.{Demonstrates}
+use Rattle.vab_cli.proofs.Demos.{demo_short}
+use Rattle.vab_cli.proofs.demo.demo.Goals as goal
+
+pub returns-in-Err-clause-does : goal.returns-in-Err-clause-does
+returns-in-Err-clause-does g c =
+    demo_short g.P.Disk g.met.P.Disk.only_now _ _ c.args.port.now
+
+pub returns-in-Err-next_scaled-clause-does : goal.returns-in-Err-next_scaled-clause-does
+returns-in-Err-next_scaled-clause-does g c =
+    demo_short g.P.Disk g.met.P.Disk.only_now _ _ c.args.port.now
+
+pub returns-clause-does : goal.returns-clause-does
+returns-clause-does g c =
+    let old = c.args.port.now in
+    let new = c.demonstrate.new.port in
+    let first = fresh_set c.args.scale c.args.seed in
+    subst
+    (λ (x : List SetImage). Demonstrates g.P.Disk first x old new c.demonstrate.result)
+    (c.in-Ok-next_scaled.ensures.exact
+    ∙ ap (next_set c.args.scale c.args.seed) c.in-Ok.ensures.exact)
+    (subst
+    (λ (x : List SetImage).
+    Demonstrates g.P.Disk x c.in-Ok-next_scaled.next old new c.demonstrate.result)
+    c.in-Ok.ensures.exact c.demonstrate.ensures.does)

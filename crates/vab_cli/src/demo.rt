@@ -1,0 +1,213 @@
+//! The whole life of a device whose images are drawn from a number: it is made, updated, booted,
+//! marked, merged, and its digests are told.
+ghost use Rattle.std.specs.Prelude.{◌≡◌, ◌≢◌, ◌⊎◌, ◌≤◌, ◌<◌, ◌+◌, ◌/◌, ◌^◌, [], ◌∷◌, ◌++◌, map};
+ghost use Rattle.std.specs.Prelude.{replicate, take, codes};
+ghost use Rattle.vab_disk.specs.Disk.{Rose};
+ghost use Rattle.vab_set.specs.Spelling.{IsImage, IsSet};
+ghost use Rattle.vab_model.specs.Commands.{Merge as MergeOf};
+ghost use Rattle.vab_device.specs.Kept.{IsDevice};
+ghost use Rattle.vab_device.specs.Mounted.{mounted_on};
+ghost use Rattle.vab_device.specs.Reading.{Represents};
+ghost use Rattle.vab_words.specs.Values.{IsScale};
+ghost use Rattle.vab_cli.specs.Acts.{PerformsActs, command_act, line_act};
+ghost use Rattle.vab_cli.specs.Counts.{IsSteady};
+ghost use Rattle.vab_cli.specs.Demo.{Demonstrates, DemonstratesOf, digest_act, digest_front};
+ghost use Rattle.vab_cli.specs.Demo.{life, sevens, take_over, update_acts};
+ghost use Rattle.vab_cli.specs.Installing.{left_behind};
+ghost use Rattle.vab_cli.specs.Verbs.{done_making};
+
+use crate::Status;
+use crate::acts::{ended, perform};
+use crate::installing::install_set;
+use crate::line::Line;
+use crate::making::{tell_made, tell_unmade};
+use arrayvec::ArrayVec;
+use std::alloc::Global;
+use vab_device::Device;
+use vab_disk::{Disk, Port};
+use vab_fbproto::put;
+use vab_gen::{next_scaled, set_scaled};
+use vab_make::make_device;
+use vab_merging::left;
+use vab_model::Command;
+use vab_names::full_name;
+use vab_recover::start;
+use vab_set::{Set, SetImage};
+
+/// The most bytes of a copy of a table.
+const METADATA_MAX: u32 = 65536;
+
+/// How many turns of a merge are taken by one command.
+const TURNS: u64 = 7;
+
+// Tells that the device is made.
+fn begin_life<P: Port>(port: &mut P, device: Device, set: &Set) -> Result<Device, Status>
+    requires set { IsSet set.now }
+    requires size { 6152 ≤ P.size port.old }
+    requires kept { IsDevice device (P.size port.old) }
+    requires represents { P.is_modelled → Represents device (P.size port.old) (P.seen port.old) }
+    ensures { PerformsActs P.Disk device
+        (line_act (done_making set.now (P.size port.old)) ∷ [])
+        port.old port.new result }
+{
+    match tell_made(port, set) {
+        Status::Done => Ok(device),
+        status => Err(status),
+    }
+}
+
+// The slot that isn't running takes over: it is booted and marked, and the merge is begun.
+fn take_over<P: Port>(alloc: Global, port: &mut P, device: Device) -> Result<Device, Status>
+    requires kept { IsDevice device (P.size port.old) }
+    requires represents { P.is_modelled → Represents device (P.size port.old) (P.seen port.old) }
+    ensures { PerformsActs P.Disk device take_over port.old port.new result }
+{
+    let next = perform(alloc, port, device, &Command::Boot, b"")?;
+    let next = perform(alloc, port, next, &Command::Mark, b"")?;
+    perform(alloc, port, next, &Command::BeginMerge, b"")
+}
+
+// Takes seven turns of a merge, so many times.
+fn merge_by_sevens<P: Port>(
+    alloc: Global,
+    port: &mut P,
+    device: Device,
+    times: u64,
+) -> Result<Device, Status>
+    requires kept { IsDevice device (P.size port.old) }
+    requires represents { P.is_modelled → Represents device (P.size port.old) (P.seen port.old) }
+    ensures { PerformsActs P.Disk device (replicate times (command_act [] (MergeOf 7)))
+        port.old port.new result }
+{
+    let mut next = device;
+    for _time in 0..times {
+        next = perform(alloc, port, next, &Command::Merge(TURNS), b"")?;
+    }
+    Ok(next)
+}
+
+// Tells the digest of an image in slot b, behind its name.
+fn tell_digest<P: Port>(
+    alloc: Global,
+    port: &mut P,
+    device: Device,
+    image: &SetImage,
+) -> Result<Device, Status>
+    requires image { IsImage image.now }
+    requires kept { IsDevice device (P.size port.old) }
+    requires represents { P.is_modelled → Represents device (P.size port.old) (P.seen port.old) }
+    ensures { PerformsActs P.Disk device (digest_act image.now ∷ []) port.old port.new result }
+{
+    let full = full_name(&image.name, 1);
+    let name = full.text();
+    let mut front: Line = ArrayVec::new();
+    put(b"digest ", &mut front);
+    put(name, &mut front);
+    put(b" ", &mut front);
+    perform(
+        alloc,
+        port,
+        device,
+        &Command::Digest(name),
+        front.as_slice(),
+    )
+}
+
+// Tells the digest of each image of a set in slot b.
+fn tell_digests<P: Port>(
+    alloc: Global,
+    port: &mut P,
+    device: Device,
+    set: &Set,
+) -> Result<Device, Status>
+    requires set { IsSet set.now }
+    requires kept { IsDevice device (P.size port.old) }
+    requires represents { P.is_modelled → Represents device (P.size port.old) (P.seen port.old) }
+    ensures { PerformsActs P.Disk device (map digest_act set.now) port.old port.new result }
+{
+    let mut next = device;
+    for image in set.as_slice() {
+        next = tell_digest(alloc, port, next, image)?;
+    }
+    Ok(next)
+}
+
+// Installs a set, boots and marks its slot, merges it, and tells its digests.
+fn update<P: Port>(alloc: Global, port: &mut P, device: Device, set: &Set) -> Result<Device, Status>
+    requires set { IsSet set.now }
+    requires kept { IsDevice device (P.size port.old) }
+    requires represents { P.is_modelled → Represents device (P.size port.old) (P.seen port.old) }
+    ensures { PerformsActs P.Disk device
+        (update_acts set.now (left_behind (mounted_on device (P.seen port.old)) set.now))
+        port.old port.new result }
+{
+    let next = install_set(alloc, port, device, set)?;
+    let blocks = left(&next);
+    let next = take_over(alloc, port, next)?;
+    let next = merge_by_sevens(alloc, port, next, blocks / TURNS + 1)?;
+    tell_digests(alloc, port, next, set)
+}
+
+// Tells that the device is made, and updates it.
+fn live<P: Port>(
+    alloc: Global,
+    port: &mut P,
+    device: Device,
+    set: &Set,
+    next: &Set,
+) -> Result<Device, Status>
+    requires set { IsSet set.now }
+    requires next { IsSet next.now }
+    requires size { 6152 ≤ P.size port.old }
+    requires kept { IsDevice device (P.size port.old) }
+    requires represents { P.is_modelled → Represents device (P.size port.old) (P.seen port.old) }
+    ensures { PerformsActs P.Disk device
+        (life (done_making set.now (P.size port.old)) next.now
+        (left_behind (mounted_on device (P.seen port.old)) next.now))
+        port.old port.new result }
+{
+    let made = begin_life(port, device, set)?;
+    update(alloc, port, made, next)
+}
+
+// Makes a device of a set, opens it, and updates it by the next one.
+fn demonstrate<P: Port>(alloc: Global, port: &mut P, set: &Set, next: &Set) -> Status
+    requires set { IsSet set.now }
+    requires next { IsSet next.now }
+    ensures does { Demonstrates P.Disk set.now next.now port.old port.new result }
+    ensures steady { IsSteady P.Disk port.old port.new result }
+    ensures words { result ≢ Status.Usage }
+    ensures disk { result ≡ Status.Disk → Rose (P.faults port.old).disk (P.faults port.new).disk }
+    ensures port { result ≡ Status.Port → Rose (P.faults port.old).sink (P.faults port.new).sink }
+{
+    match make_device(alloc, port, set, 0, METADATA_MAX) {
+        Ok(()) => {}
+        Err(fault) => return tell_unmade(port, fault),
+    }
+    let device = match start(alloc, port) {
+        Ok(device) => device,
+        Err(fault) => return Status::from(fault),
+    };
+    ended(live(alloc, port, device, set, next))
+}
+
+/// Makes a device of the set that is drawn from a number, and updates it by the one that is drawn
+/// after it, with so many times as many blocks.
+pub(crate) fn demo<P: Port>(alloc: Global, port: &mut P, seed: u64, scale: u64) -> Status
+    requires { IsScale scale }
+    ensures does { DemonstratesOf P.Disk seed scale port.old port.new result }
+    ensures steady { IsSteady P.Disk port.old port.new result }
+    ensures words { result ≢ Status.Usage }
+    ensures disk { result ≡ Status.Disk → Rose (P.faults port.old).disk (P.faults port.new).disk }
+    ensures port { result ≡ Status.Port → Rose (P.faults port.old).sink (P.faults port.new).sink }
+{
+    let set = match set_scaled(alloc, seed, scale) {
+        Ok(set) => set,
+        Err(_) => return Status::NoMemory,
+    };
+    let next = match next_scaled(alloc, seed, scale, &set) {
+        Ok(next) => next,
+        Err(_) => return Status::NoMemory,
+    };
+    demonstrate(alloc, port, &set, &next)
+}

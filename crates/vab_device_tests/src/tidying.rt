@@ -1,0 +1,189 @@
+// A merge that has ended is tidied when its device is opened: the table without stores, and then
+// the mark.
+
+use crate::devices::{SECTORS, device_of_one, reply_staged};
+use crate::opening::{areas, control, put, put_each, sector, with_store};
+use crate::texts::FULL;
+use std::alloc::Global;
+use std::test::*;
+use vab_bytes::Name36;
+use vab_device::{Device, PhaseKind};
+use vab_disk::{Disk, MemPort};
+use vab_geometry::{Geometry, encode_geometry};
+use vab_marks::{MarkPhase, UpdateMark, decode_mark, encode_mark};
+use vab_model::{Command, Reply};
+use vab_recover::start;
+
+const MARK: u64 = 2048;
+
+// The sectors that a tidying writes: the text in both copies of slot a's table, and the mark.
+const WRITTEN: [u64; 5] = [4120, 4121, 4376, 4377, MARK];
+
+// What the mark of a disk says.
+fn mark_of(d: &mut MemPort) -> Option<UpdateMark> {
+    decode_mark(&sector(d, MARK)?).ok()
+}
+
+fn idle(slot: usize) -> Option<UpdateMark> {
+    Some(UpdateMark {
+        phase: MarkPhase::Idle,
+        slot,
+    })
+}
+
+// A disk on which a merge of slot b has ended, and nothing is pending.
+fn merged(alloc: Global) -> Result<MemPort, Fail> {
+    let mut d = device_of_one(alloc)?;
+    let commands = [
+        (Command::Begin, Reply::Done),
+        (Command::Create(b"y_b", 8192), Reply::Done),
+        (Command::Snapshot(b"x_b", 0), Reply::Done),
+        (Command::Snapshot(b"y_b", 0), Reply::Done),
+        (Command::Flash(b"x_b"), Reply::Done),
+        (Command::Flash(b"y_b"), Reply::Done),
+        (Command::Finish, Reply::Done),
+        (Command::SetActive(1), Reply::Done),
+        (Command::Boot, Reply::Booted(1)),
+        (Command::Mark, Reply::Done),
+        (Command::BeginMerge, Reply::Done),
+        (Command::Merge(9), Reply::Merged),
+    ];
+    for (command, told) in commands {
+        if reply_staged(alloc, &mut d, &command, Some(b"abd")) != Some(told) {
+            return Err("a merge is made".into());
+        }
+    }
+    Ok(d.next_run(Vec::new(alloc)))
+}
+
+// How many partitions and groups the kept table of a slot has, and the name of its last partition.
+fn kept(device: &Device, slot: usize) -> Option<(usize, usize, Name36)> {
+    let table = if slot == 0 {
+        device.table_a.as_ref()?
+    } else {
+        device.table_b.as_ref()?
+    };
+    let partitions = table.partitions.as_slice();
+    let last = partitions.last()?;
+    Some((partitions.len(), table.groups.as_slice().len(), last.name))
+}
+
+fn name(text: &[u8]) -> Result<Name36, Fail> {
+    Ok(Name36::parse(text).ok().ok_or("it is a name")?)
+}
+
+// Gives each sector that was pending when a run was cut its settled bytes.
+fn lose(d: &mut MemPort) -> Result<(), Fail> {
+    for at in WRITTEN {
+        if at < d.sectors() {
+            let settled = d.settled_sector(at);
+            if !put(d, at, &settled) {
+                return Err("the sector is written".into());
+            }
+        }
+    }
+    Ok(())
+}
+
+#[test]
+fn a_merge_that_has_ended_is_tidied_once(rt: HostRuntime) -> Result<(), Fail> {
+    let alloc = rt.alloc();
+    let mut d = merged(alloc)?;
+    let was = mark_of(&mut d).ok_or("there is a mark")?;
+    assert_eq!(rt; was.phase, MarkPhase::Completed);
+    assert_eq!(rt; was.slot, 1);
+    let device = start(alloc, &mut d).ok().ok_or("it is a device")?;
+    assert_eq!(rt; device.phase(), PhaseKind::Idle);
+    assert_eq!(rt; kept(&device, 1), Some((2, 2, name(b"y_b")?)));
+    assert_eq!(rt; mark_of(&mut d), idle(1));
+    // The table is stored, each copy with its syncs, and the mark by one gate.
+    assert!(rt; d.syncs() > 1);
+    // Once more nothing is written, and nothing is synced.
+    let mut d = d.next_run(Vec::new(alloc));
+    d.stop_after(1);
+    let device = start(alloc, &mut d).ok().ok_or("it is a device")?;
+    assert_eq!(rt; kept(&device, 1), Some((2, 2, name(b"y_b")?)));
+    assert_eq!(rt; mark_of(&mut d), idle(1));
+    assert_eq!(rt; d.syncs(), 0);
+    Ok(())
+}
+
+// A disk on which a merge of slot a has ended, and nothing is pending.
+fn ended(alloc: Global) -> Result<MemPort, Fail> {
+    let mut d = with_store(alloc, MarkPhase::Completed, areas()[0])?;
+    if d.sync().is_err() {
+        return Err("the disk is synced".into());
+    }
+    Ok(d.next_run(Vec::new(alloc)))
+}
+
+// The blocks of a device, how many a partition of slot a has, and the sector of its first.
+fn image_of(device: &Device) -> Option<(u64, u64, u64)> {
+    let part = device.images(0)?.as_slice().first()?;
+    if part.map.len() == 0 {
+        return None;
+    }
+    Some((device.cap(), part.map.len(), part.map.sector_of(0)))
+}
+
+// Wherever it is cut, and whether what was pending then has landed or not, the device is the same,
+// and it is tidied when it is opened next.
+#[test]
+fn a_tidying_that_is_cut_goes_on(rt: HostRuntime) -> Result<(), Fail> {
+    let alloc = rt.alloc();
+    let mut cut = 0u64;
+    let mut done = false;
+    for stop in 0..20 {
+        if done {
+            break;
+        }
+        for landed in [false, true] {
+            let mut d = ended(alloc)?;
+            d.stop_after(stop);
+            done = start(alloc, &mut d).is_ok();
+            let mut d = d.next_run(Vec::new(alloc));
+            if !landed {
+                lose(&mut d)?;
+            }
+            let device = start(alloc, &mut d).ok().ok_or("it is a device")?;
+            assert_eq!(rt; device.phase(), PhaseKind::Idle, "after {stop} calls");
+            assert_eq!(rt; image_of(&device), Some((256, 100, 6144)));
+            assert_eq!(rt; kept(&device, 0), Some((1, 2, name(b"system_a")?)));
+            assert_eq!(rt; mark_of(&mut d), idle(0));
+        }
+        cut = stop;
+    }
+    // It made more calls than that.
+    assert!(rt; done && cut > 6, "after {cut} calls");
+    Ok(())
+}
+
+#[test]
+fn a_table_that_would_not_fit_is_left(rt: HostRuntime) -> Result<(), Fail> {
+    let alloc = rt.alloc();
+    let d = MemPort::new(alloc, SECTORS, Vec::new(alloc));
+    let mut d = d.ok().ok_or("there is memory for a disk")?;
+    let geometry = encode_geometry(&Geometry { max: 512, slots: 2 });
+    let completed = encode_mark(&UpdateMark {
+        phase: MarkPhase::Completed,
+        slot: 0,
+    });
+    let sectors = [
+        (4, control(0, 15, true)),
+        (MARK, completed),
+        (4104, geometry),
+        (4112, geometry),
+        (4120, FULL),
+        (4122, FULL),
+    ];
+    put_each(&mut d, &sectors)?;
+    assert!(rt; d.sync().is_ok());
+    let mut d = d.next_run(Vec::new(alloc));
+    let device = start(alloc, &mut d).ok().ok_or("it is a device")?;
+    assert_eq!(rt; kept(&device, 0), Some((2, 3, name(b"system_a-cow")?)));
+    assert!(rt; sector(&mut d, 4120) == Some(FULL) && sector(&mut d, 4122) == Some(FULL));
+    // The mark alone is written.
+    assert_eq!(rt; mark_of(&mut d), idle(0));
+    assert_eq!(rt; d.syncs(), 1);
+    Ok(())
+}

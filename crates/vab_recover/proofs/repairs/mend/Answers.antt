@@ -1,0 +1,116 @@
+use Rattle.std.proofs.Common.{◌≡◌, ◌∙◌, inl, inr, Ok, refl, ap, subst, arith}
+use Rattle.std.specs.Prelude.{IfSome, OnOk}
+use Rattle.vab_disk.proofs.Moments.{adds_wider}
+use Rattle.vab_disk.proofs.CallLaws.{touches_wider}
+use Rattle.vab_marks.specs.Mark.{mark_of}
+use Rattle.vab_device.specs.declared.device.Device.{Device}
+use Rattle.vab_tidy.specs.Kept.{device_after}
+use Rattle.vab_tidy.specs.Stays.{Stays}
+use Rattle.vab_tidy.specs.Tidied.{idle_mark}
+use Rattle.vab_tidy.specs.Writes.{IsOfTidyings}
+use Rattle.vab_tidy.proofs.StaysLaws.{stays_then, touches_if}
+use Rattle.vab_recover.specs.Opened.{with_tables}
+use Rattle.vab_recover.specs.Opening.{IsOfOpening, IsTidied}
+use Rattle.vab_recover.specs.Repairs.{IsRepair}
+use Rattle.vab_recover.proofs.MendLaws.{mark_stays, repair_keeps, of_tidyings}
+use Rattle.vab_recover.proofs.MendLaws.{tidied_of, none_due}
+use Rattle.vab_recover.proofs.OpenLaws.{on_ok}
+use Rattle.vab_recover.proofs.repairs.mend.Goals as goal
+
+pub returns-in-Err-clause-stays : goal.returns-in-Err-clause-stays
+returns-in-Err-clause-stays g c = record {
+  is = tt;
+  kept = tt;
+  represents = λ t. tt;
+  same = λ t. tt;
+  settled = λ t rest. tt;
+  quiet = c.repair_tables.ensures.quiet;
+  touches =
+      touches_if g.D.Disk
+      (IsOfOpening (g.D.Disk.size c.args.d.now) (g.D.Disk.seen c.args.d.now))
+      c.args.d.now c.repair_tables.new.d c.repair_tables.ensures.quiet
+      (λ t.
+      touches_wider g.D.Disk _ _ _ _ (c.repair_tables.ensures.touches t) (λ s b w. inl w));
+  time = c.repair_tables.ensures.time;
+  order = λ t rest has.
+      adds_wider g.D.Disk.moment g.D.Disk.outcomes c.args.d.now c.repair_tables.new.d _ _
+      (mark_stays g.D.Disk c.args.d.now c.repair_tables.new.d (c.repair_tables.ensures.touches t) t
+      rest)
+      (λ o e. inl (ap mark_of e ∙ has));
+  faults = record { steady = tt; cause = c.in-Err.ensures.faults.cause };
+}
+
+pub returns-in-Err-clause-healthy : goal.returns-in-Err-clause-healthy
+returns-in-Err-clause-healthy g c = λ t hold none. c.repair_tables.ensures.healthy t hold
+
+pub returns-in-Ok-clause-stays : goal.returns-in-Ok-clause-stays
+returns-in-Ok-clause-stays g c =
+    let size = g.D.Disk.size c.args.d.now in
+    let seen = g.D.Disk.seen c.args.d.now in
+    let kept = c.args.kept in
+    let x = c.args.tidying in
+    let dev = with_tables c.args.tables kept in
+    let old = c.args.d.now in
+    let mid = c.repair_tables.new.d in
+    let new = c.carry_out.new.d in
+    let all = c.repair_tables.ensures in
+    let is = c.in-Ok.ensures in
+    let first : Stays g.D.Disk (IsRepair size seen) dev old mid (Ok dev) = record {
+      is = refl;
+      kept = c.requires.is;
+      represents = is.represents;
+      same = is.same;
+      settled = is.settled;
+      quiet = all.quiet;
+      touches = touches_if g.D.Disk (IsRepair size seen) old mid all.quiet all.touches;
+      time = all.time;
+      order = λ t rest has.
+          adds_wider g.D.Disk.moment g.D.Disk.outcomes old mid _ _ (mark_stays g.D.Disk old mid (all.touches t) t rest)
+          (λ o e. inl (ap mark_of e ∙ has));
+      faults = record { steady = is.faults.steady; cause = tt };
+    } in
+    let later : Stays g.D.Disk (IsOfTidyings dev x) (device_after x dev) mid new c.carry_out.result =
+    subst
+    (λ (k : Device).
+    Stays g.D.Disk (IsOfTidyings k x) (device_after x k) mid new c.carry_out.result)
+    c.with_tables.ensures c.carry_out.ensures.stays in
+    stays_then g.D.Disk (IsRepair size seen) (IsOfTidyings dev x) (IsOfOpening size seen) dev dev
+    (device_after x dev) old mid new c.carry_out.result first later
+    (λ t s b w. inl w)
+    (λ t s b w.
+    inr (of_tidyings kept c.args.tables size seen c.requires.is.slot (c.requires.read t) x
+    (c.requires.due t) c.requires.tidying s b w))
+    (λ t has. ap mark_of (repair_keeps size 2048 seen _ (omega arith) ((all.touches t).seen t)) ∙ has)
+    (λ t rest has.
+    adds_wider g.D.Disk.moment g.D.Disk.outcomes old mid _ _ (mark_stays g.D.Disk old mid (all.touches t) t rest)
+    (λ o e. inl (ap mark_of e ∙ has)))
+
+pub returns-in-Ok-clause-tidied : goal.returns-in-Ok-clause-tidied
+returns-in-Ok-clause-tidied g c = λ t.
+    let size = g.D.Disk.size c.args.d.now in
+    let seen = g.D.Disk.seen c.args.d.now in
+    let kept = c.args.kept in
+    let x = c.args.tidying in
+    let mid = g.D.Disk.seen c.repair_tables.new.d in
+    let new = g.D.Disk.seen c.carry_out.new.d in
+    let r = c.carry_out.result in
+    on_ok (IfSome x (λ k. mark_of (new 2048) ≡ Ok (idle_mark kept.mark.slot)))
+    (IsTidied (device_after x (with_tables c.args.tables kept)) seen new) r
+    (λ mark.
+    tidied_of kept c.args.tables size seen c.requires.is.slot (c.requires.read t) x mid new
+    (c.requires.due t) c.requires.tidying
+    (repair_keeps size 2048 seen mid (omega arith)
+    ((c.repair_tables.ensures.touches t).seen t))
+    mark
+    (λ none. ap g.D.Disk.seen (c.carry_out.ensures.still none)))
+    (subst
+    (λ (k : Device).
+    OnOk r (IfSome x (λ y. mark_of (new 2048) ≡ Ok (idle_mark k.mark.slot))))
+    c.with_tables.ensures (c.carry_out.ensures.mark t))
+
+pub returns-in-Ok-clause-healthy : goal.returns-in-Ok-clause-healthy
+returns-in-Ok-clause-healthy g c = λ t hold none.
+    c.carry_out.ensures.still
+    (none_due c.args.kept.mark c.args.tidying (g.D.Disk.seen c.args.d.now) (c.requires.due t)
+    none)
+    ∙ c.in-Ok.ensures.healthy t hold

@@ -1,0 +1,108 @@
+//! Repairs of what was read, and what is written behind a merge that has ended.
+
+ghost use Rattle.std.specs.Prelude.{◌≡◌, ◌<◌, IfSome, Ok, OnOk};
+ghost use Rattle.vab_marks.specs.Mark.{mark_of};
+ghost use Rattle.vab_disk.specs.Disk.{Adds};
+ghost use Rattle.vab_disk.specs.Calls.{OnlyReads, Touches, IsAtRest, IsQuiet, FailsWithDisk};
+ghost use Rattle.vab_device.specs.Kept.{IsDevice};
+ghost use Rattle.vab_device.specs.Reading.{device, Represents};
+ghost use Rattle.vab_tidy.specs.Kept.{device_after};
+ghost use Rattle.vab_tidy.specs.Planned.{IsDue, IsTidying};
+ghost use Rattle.vab_tidy.specs.Stays.{LeavesSame, Stays};
+ghost use Rattle.vab_recover.specs.Opened.{AreTablesThere, IsOpened, with_tables};
+ghost use Rattle.vab_recover.specs.Opening.{IsOfOpening, HasNoneCompleted, IsTidied};
+ghost use Rattle.vab_recover.specs.Repairs.{IsRepair, BothCopiesHold};
+
+use crate::table::Tables;
+use vab_device::Device;
+use vab_disk::Disk;
+use vab_gate::DiskFault;
+use vab_lpstore::repair_table;
+use vab_tidy::{Tidying, carry_out};
+
+// The device with the tables that were loaded.
+fn with_tables(device: Device, tables: Tables) -> Device
+    requires { device.mark.slot < 2 }
+    ensures { result ≡ with_tables tables device }
+{
+    let Tables { source, target } = tables;
+    let target = match target {
+        None => None,
+        Some(loaded) => Some(loaded.table),
+    };
+    if device.mark.slot == 0 {
+        Device {
+            table_a: Some(source.table),
+            table_b: target,
+            ..device
+        }
+    } else {
+        Device {
+            table_a: target,
+            table_b: Some(source.table),
+            ..device
+        }
+    }
+}
+
+// Repairs the tables that were read, the source's first.
+fn repair_tables<D: Disk>(d: &mut D, kept: &Device, tables: &Tables) -> Result<(), DiskFault>
+    requires is { IsDevice (with_tables tables.now kept.now) (D.size d.old) }
+    requires there { AreTablesThere (D.size d.old) kept.now.geometry kept.now.mark tables.now }
+    requires read { D.is_modelled
+        → IsOpened kept.now tables.now (D.size d.old) (D.seen d.old) }
+    ensures represents { D.is_modelled → OnOk result
+        (Represents (with_tables tables.now kept.now) (D.size d.old) (D.seen d.new)) }
+    ensures same { D.is_modelled → OnOk result
+        (device (D.size d.old) (D.seen d.new) ≡ device (D.size d.old) (D.seen d.old)) }
+    ensures touches { D.is_modelled
+        → Touches D.Disk (IsRepair (D.size d.old) (D.seen d.old)) d.old d.new }
+    ensures healthy { D.is_modelled
+        → BothCopiesHold (D.size d.old) (D.seen d.old)
+        → d.new ≡ d.old }
+    ensures settled { D.is_modelled → IsAtRest D.Disk d.old → OnOk result (IsAtRest D.Disk d.new) }
+    ensures quiet { IsQuiet D.Disk d.old d.new }
+    ensures time { D.is_modelled
+        → IsAtRest D.Disk d.old
+        → Adds D.moment D.outcomes d.old d.new
+        (LeavesSame (D.told d.old) (D.size d.old) (D.seen d.old)) }
+    ensures faults { FailsWithDisk D.Disk d.old d.new result }
+{
+    let slot = kept.mark.slot;
+    match repair_table(d, &kept.geometry, slot, &tables.source) {
+        Err(fault) => Err(fault),
+        Ok(()) => match &tables.target {
+            None => Ok(()),
+            Some(target) => repair_table(d, &kept.geometry, 1 - slot, target),
+        },
+    }
+}
+
+/// Repairs the tables that were read, and then does what is to be done behind a merge that has
+/// ended.
+pub fn mend<D: Disk>(
+    d: &mut D,
+    kept: Device,
+    tables: Tables,
+    tidying: Option<Tidying>,
+) -> Result<Device, DiskFault>
+    requires is { IsDevice (with_tables tables kept) (D.size d.old) }
+    requires there { AreTablesThere (D.size d.old) kept.geometry kept.mark tables }
+    requires read { D.is_modelled → IsOpened kept tables (D.size d.old) (D.seen d.old) }
+    requires due { D.is_modelled → IsDue kept.mark (D.seen d.old) tidying }
+    requires tidying { IfSome tidying
+        (IsTidying kept.geometry.max kept.mark tables.source.table) }
+    ensures stays { Stays D.Disk (IsOfOpening (D.size d.old) (D.seen d.old))
+        (device_after tidying (with_tables tables kept)) d.old d.new result }
+    ensures tidied { D.is_modelled → OnOk result
+        (IsTidied (device_after tidying (with_tables tables kept)) (D.seen d.old) (D.seen d.new)) }
+    ensures healthy { D.is_modelled
+        → BothCopiesHold (D.size d.old) (D.seen d.old)
+        → HasNoneCompleted (D.seen d.old)
+        → d.new ≡ d.old }
+{
+    match repair_tables(d, &kept, &tables) {
+        Err(fault) => Err(fault),
+        Ok(()) => carry_out(d, with_tables(kept, tables), tidying),
+    }
+}

@@ -1,0 +1,284 @@
+-- Rounds are a fold of their items.
+use Rattle.std.proofs.Common.{◌≡◌, ◌∙◌, inl, inr, ℕ, zero, suc, ◌≤◌, Bool, true, false, cond}
+use Rattle.std.proofs.Common.{List, []}
+use Rattle.std.proofs.Common.{◌∷◌, ◌++◌, length, take, drop, map, replicate, codes, Option, Some}
+use Rattle.std.proofs.Common.{None, Result, Ok, Err, if◌then◌else◌}
+use Rattle.std.proofs.Common.{refl, sym, ap, subst, arith}
+use Rattle.std.proofs.lemmas.List.{drop_at}
+use Rattle.std.specs.Prelude.{◌&&◌, nat_lt}
+use Rattle.vab_disk.specs.Disk.{Image}
+use Rattle.vab_model.specs.Effects.{IsOneOf, last_of}
+use Rattle.vab_device.specs.Mounted.{Mounted}
+use Rattle.vab_device.specs.Reading.{IsIn}
+use Rattle.vab_fbproto.specs.Requests.{Asked, Getvar, Download, Do, MergeAll, BootAndEnd}
+use Rattle.vab_fbproto.specs.Requests.{request_of}
+use Rattle.vab_fbproto.specs.declared.request.BadCommand.{BadCommand}
+use Rattle.vab_exchanges.specs.Session.{Exchange, packet, most_data}
+use Rattle.vab_exchanges.specs.Items.{Kept, Item, item_still, item_staged}
+use Rattle.vab_exchanges.specs.Items.{item_download, item_done, item_asked, item_of, item_open}
+use Rattle.vab_exchanges.specs.Items.{items_of, kept_after}
+use Rattle.vab_exchanges.specs.Runs.{acknowledged, steps_at}
+use Rattle.vab_session.specs.Responses.{response}
+use Rattle.vab_session.specs.Served.{nothing_staged}
+use Rattle.vab_set.specs.declared.set.SetImage.{SetImage}
+use Rattle.vab_model.specs.Commands.{Merge}
+use Rattle.vab_cli.specs.declared.status.Status.{Status}
+use Rattle.vab_cli.specs.Acts.{Act, Course, command_act, course, followed, is_done}
+use Rattle.vab_cli.specs.Demo.{digest_act, life, sevens, take_over}
+use Rattle.vab_cli.specs.Installing.{left_behind}
+use Rattle.vab_boots.specs.Boots.{Boots}
+use Rattle.vab_boots.proofs.Booting.{boots}
+use Rattle.vab_rounds.specs.Rounds.{Run, Serves, Carries, Installs, Tells, Lives, items_in}
+use Rattle.vab_rounds.specs.Rounds.{greeting_of, Round, IsRound, AreRounds}
+use Rattle.vab_rounds.specs.Folds.{after_items, later_of, Cut, done_by, further, after_cut, folded}
+use Rattle.vab_rounds.specs.Folds.{whole_in, IsCut, AreCuts}
+
+-- ---- items begin where the ones before them end
+
+abbrev BeginsAt : {S : Type 0} → S → Item S → Type 0
+BeginsAt s i = i.steps ≡ s ∷ later_of i.steps
+
+abbrev AreLinked : {S : Type 0} → S → List (Item S) → Type 0
+AreLinked s [] = Unit {0}
+AreLinked s (i ∷ is) = BeginsAt s i × AreLinked i.last.now is
+
+-- the steps behind n items begin with what they have left
+steps_begin : {S : Type 0} (s : S) (is : List (Item S)) (n : ℕ)
+    → AreLinked s is
+    → steps_at s is n ≡ after_items s is n ∷ later_of (steps_at s is n)
+steps_begin s [] n linked = refl
+steps_begin s (i ∷ is) zero linked = linked.0
+steps_begin s (i ∷ is) (suc n) linked = steps_begin i.last.now is n linked.1
+
+either_begins : {S : Type 0} (s : S) (b : Bool) (i j : Item S)
+    → BeginsAt s i
+    → BeginsAt s j
+    → BeginsAt s (cond b i j)
+either_begins s true i j is other = is
+either_begins s false i j is other = other
+
+module _ (k : Kept Mounted) where
+  done_begins : (refused : Bool) (asked : Result Asked BadCommand)
+      → BeginsAt k.now (item_done response k refused asked)
+  done_begins refused asked = refl
+
+  download_begins : (size : ℕ) (refused : Bool) (parts : List (List ℕ))
+      → BeginsAt k.now (item_download k size refused parts)
+  download_begins size refused parts =
+      let large : Item Mounted = item_still k (packet (codes "FAILtoo large")) in
+      let wanting : Item Mounted = item_still k (packet (codes "FAILout of memory")) in
+      let whole : Item Mounted = item_staged k size parts in
+      let is_refused : Bool = refused && nat_lt 0 size in
+      either_begins k.now (nat_lt most_data size) large (cond is_refused wanting whole) refl
+      (either_begins k.now is_refused wanting whole refl refl)
+
+  asked_begins : (refused : Bool) (parts : List (List ℕ)) (asked : Result Asked BadCommand)
+      → BeginsAt k.now (item_asked response k refused parts asked)
+  asked_begins refused parts (Ok (Download size)) = download_begins size refused parts
+  asked_begins refused parts (Ok BootAndEnd) = done_begins refused (Ok BootAndEnd)
+  asked_begins refused parts (Ok MergeAll) = done_begins refused (Ok MergeAll)
+  asked_begins refused parts (Ok (Getvar variable)) = done_begins refused (Ok (Getvar variable))
+  asked_begins refused parts (Ok (Do command)) = done_begins refused (Ok (Do command))
+  asked_begins refused parts (Err bad) = done_begins refused (Err bad)
+
+  exchange_begins : (s : Exchange) → BeginsAt k.now (item_of response k s)
+  unfolding item_of
+  exchange_begins s = asked_begins s.refused s.parts (request_of s.command)
+
+  open_begins : (command : List ℕ) → BeginsAt k.now (item_open response k command)
+  unfolding item_open
+  open_begins command = refl
+
+session_linked : (k : Kept Mounted) (exchanges : List Exchange) (unfinished : Option (List ℕ))
+    → AreLinked k.now (items_of response k exchanges unfinished)
+session_linked k [] None = tt
+session_linked k [] (Some command) = (open_begins k command, tt)
+session_linked k (s ∷ ss) unfinished =
+    (exchange_begins k s, session_linked (item_of response k s).last ss unfinished)
+
+-- ---- what is done one behind another
+
+abbrev EachBegins : List Act → Type 0
+EachBegins [] = Unit {0}
+EachBegins (a ∷ xs) = ((m : Mounted) → BeginsAt m (a.item m)) × EachBegins xs
+
+each_begins : (xs ys : List Act) → EachBegins xs → EachBegins ys → EachBegins (xs ++ ys)
+each_begins [] ys are others = others
+each_begins (a ∷ xs) ys are others = (are.0, each_begins xs ys are.1 others)
+
+repeats_begin : (n : ℕ) (a : Act)
+    → ((m : Mounted) → BeginsAt m (a.item m))
+    → EachBegins (replicate n a)
+repeats_begin zero a begins = tt
+repeats_begin (suc n) a begins = (begins, repeats_begin n a begins)
+
+digests_begin : (set : List SetImage) → EachBegins (map digest_act set)
+digests_begin [] = tt
+digests_begin (image ∷ set) = ((λ m. refl), digests_begin set)
+
+life_begins : (made : List ℕ) (next : List SetImage) (left : ℕ) → EachBegins (life made next left)
+life_begins made next left =
+    let merges : List Act = replicate (sevens left) (command_act [] (Merge 7)) in
+    let digests : List Act = map digest_act next in (
+      (λ m. refl),
+      (
+        (λ m. refl),
+        each_begins take_over (merges ++ digests)
+            ((λ m. refl), ((λ m. refl), ((λ m. refl), tt)))
+            (each_begins merges digests
+            (repeats_begin (sevens left) (command_act [] (Merge 7)) (λ m. refl))
+            (digests_begin next)),
+      ),
+    )
+
+either_linked : (m : Mounted) (done : Bool) (b c : Course)
+    → AreLinked m b.items
+    → AreLinked m c.items
+    → AreLinked m (if done then b else c).items
+either_linked m true b c are others = are
+either_linked m false b c are others = others
+
+followed_linked : (m : Mounted) (i : Item Mounted) (ends : Status) (rest : Course)
+    → BeginsAt m i
+    → AreLinked i.last.now rest.items
+    → AreLinked m (followed i ends rest).items
+followed_linked m i ends rest begins others =
+    either_linked m (is_done ends)
+    (record { items = i ∷ rest.items; last = rest.last; ends = rest.ends })
+    (record { items = i ∷ []; last = i.last.now; ends = ends })
+    (begins, others)
+    (begins, tt)
+
+course_linked : (m : Mounted) (xs : List Act)
+    → EachBegins xs
+    → AreLinked m (course xs m).items
+unfolding course
+course_linked m [] are = tt
+course_linked m (a ∷ xs) are =
+    followed_linked m (a.item m) (a.ends m) (course xs (a.item m).last.now)
+    (are.0 m) (course_linked (a.item m).last.now xs are.1)
+
+run_linked : (m : Mounted) (run : Run) → AreLinked m (items_in m run)
+run_linked m (Serves exchanges unfinished) =
+    session_linked (nothing_staged m) exchanges unfinished
+run_linked m (Carries command) = (refl, tt)
+run_linked m (Installs set) = (refl, tt)
+run_linked m (Tells text) = (refl, tt)
+run_linked m (Lives made next) =
+    let left : ℕ = left_behind m next in
+    course_linked m (life made next left) (life_begins made next left)
+
+-- ---- a step is some steps
+
+pub some_steps : {S : Type 0} (s : S) (ss : List S) (x : S)
+    → IsOneOf (s ∷ ss) x
+    → (n : ℕ) × (n ≤ length ss) × (x ≡ last_of s (take n ss))
+some_steps s ss x (inl same) = (0, omega arith, same)
+some_steps s [] x (inr later) = absurd later
+some_steps s (y ∷ ys) x (inr later) =
+    let more = some_steps y ys x later in
+    (suc more.0, omega (arith, more.1), more.2)
+
+-- some steps are one of them
+pub last_taken : {S : Type 0} (s : S) (ss : List S) (n : ℕ)
+    → IsOneOf (s ∷ ss) (last_of s (take n ss))
+last_taken s ss zero = inl refl
+last_taken s [] (suc n) = inl refl
+last_taken s (y ∷ ys) (suc n) = inr (last_taken y ys n)
+
+pub cut_steps : (m : Mounted) (c : Cut)
+    → IsOneOf (steps_at m (items_in m c.run) c.whole) (after_cut m c)
+cut_steps m c =
+    subst (λ (l : List Mounted). IsOneOf l (after_cut m c))
+    (sym (steps_begin m (items_in m c.run) c.whole (run_linked m c.run)))
+    (last_taken (done_by m c) (further m c) c.steps)
+
+-- ---- one round
+
+same_device : (size : ℕ) (image : Image) (m n : Mounted)
+    → IsIn size m image
+    → IsIn size n image
+    → m ≡ n
+same_device size image m n is other =
+    let both : Ok m ≡ Ok n = sym is ∙ other in
+    cc
+
+since_is : (told since all : List ℕ) → all ≡ told ++ since → drop (length told) all ≡ since
+since_is told since all is =
+    ap (λ (l : List ℕ). drop (length told) l) is ∙ drop_at told since (length told) refl
+
+-- what was told and left of it is that of a cut
+round_cut : (size : ℕ) (first : Mounted) (round : Round) (next : Mounted)
+    → IsRound size first round next
+    → (c : Cut) × IsCut first round c × (next ≡ after_cut first c)
+round_cut size first round next is =
+    let items : List (Item Mounted) = items_in first round.run in
+    let whole : ℕ = whole_in first round in
+    let since : drop (length round.told) round.outcome.told ≡ is.crashes.since =
+    since_is round.told is.crashes.since round.outcome.told is.crashes.told_since in
+    let x : Mounted = is.crashes.step.0 in
+    let same : x ≡ next =
+    same_device size round.outcome.image x next is.crashes.step.2 is.leaves in
+    let there : IsOneOf (steps_at first items whole) x =
+    subst
+    (λ (l : List ℕ). IsOneOf
+    (steps_at first items (acknowledged items (drop (length (greeting_of round.run)) l))) x)
+    (sym since) is.crashes.step.1 in
+    let begun = steps_begin first items whole (run_linked first round.run) in
+    let step = some_steps (after_items first items whole) (later_of (steps_at first items whole)) x
+    (subst (λ (l : List Mounted). IsOneOf l x) begun there) in (
+      record { run = round.run; whole = whole; steps = step.0 },
+      record { run = refl; whole = refl; steps = step.1 },
+      sym same ∙ step.2,
+    )
+
+-- ---- many
+
+pub rounds_fold : (size : ℕ) (first last : Mounted) (rounds : List Round)
+    → AreRounds size first rounds last
+    → (cuts : List Cut) × AreCuts first rounds cuts × (last ≡ folded first cuts)
+rounds_fold size first last [] are = ([], tt, are)
+rounds_fold size first last (round ∷ rounds) are =
+    let next : Mounted = are.0 in
+    let cut = round_cut size first round next are.1 in
+    let c : Cut = cut.0 in
+    let more = rounds_fold size next last rounds are.2 in (
+      c ∷ more.0,
+      (cut.1, subst (λ (m : Mounted). AreCuts m rounds more.0) cut.2 more.1),
+      more.2 ∙ ap (λ (m : Mounted). folded m more.0) cut.2,
+    )
+
+-- ---- sessions
+
+open_fold : (k : Kept Mounted) (command : List ℕ) (n : ℕ)
+    → after_items k.now (item_open response k command ∷ []) n ≡ k.now
+unfolding item_open
+open_fold k command zero = refl
+open_fold k command (suc n) = refl
+
+kept_fold : (k : Kept Mounted) (exchanges : List Exchange) (unfinished : Option (List ℕ)) (n : ℕ)
+    → after_items k.now (items_of response k exchanges unfinished) n
+    ≡ (kept_after response k (take n exchanges)).now
+kept_fold k [] None zero = refl
+kept_fold k [] None (suc n) = refl
+kept_fold k [] (Some command) zero = refl
+kept_fold k [] (Some command) (suc n) = open_fold k command (suc n)
+kept_fold k (s ∷ ss) unfinished zero = refl
+kept_fold k (s ∷ ss) unfinished (suc n) = kept_fold (item_of response k s).last ss unfinished n
+
+pub sessions_fold :
+    (m : Mounted) (exchanges : List Exchange) (unfinished : Option (List ℕ)) (n : ℕ)
+    → after_items m (items_of response (nothing_staged m) exchanges unfinished) n
+    ≡ (kept_after response (nothing_staged m) (take n exchanges)).now
+sessions_fold m exchanges unfinished n = kept_fold (nothing_staged m) exchanges unfinished n
+
+-- ---- what boots
+
+pub rounds_boot : (size : ℕ) (first last : Mounted) (round : Round) (rounds : List Round)
+    → AreRounds size first (round ∷ rounds) last
+    → Boots last
+rounds_boot size first last round [] are =
+    boots size round.outcome.image last
+    (subst (λ (m : Mounted). IsIn size m round.outcome.image) (sym are.2) are.1.leaves)
+rounds_boot size first last round (second ∷ rounds) are =
+    rounds_boot size are.0 last second rounds are.2

@@ -1,0 +1,3 @@
+mod Folding
+mod Merging
+mod Running

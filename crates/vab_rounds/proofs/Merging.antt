@@ -1,0 +1,583 @@
+-- A merge goes on, however often it is cut.
+use Rattle.std.proofs.Common.{◌≡◌, inl, inr, ℕ, zero, suc, ◌+◌, ◌<◌, ◌≤◌, Bool, true}
+use Rattle.std.proofs.Common.{false, cond}
+use Rattle.std.proofs.Common.{List, [], ◌∷◌, take, codes, Option, Some, None, Result}
+use Rattle.std.proofs.Common.{Ok, Err}
+use Rattle.std.proofs.Common.{refl, sym, subst, arith, add-zero}
+use Rattle.std.specs.Prelude.{◌&&◌, nat_lt, is_some}
+use Rattle.vab_bootctl.specs.declared.slots.Control.{Control}
+use Rattle.vab_bootctl.specs.Boot.{activated_of}
+use Rattle.vab_model.specs.declared.state.Image.{Image as ImageOfSlot}
+use Rattle.vab_model.specs.declared.state.Phase.{Phase}
+use Rattle.vab_model.specs.declared.state.Phase.TheVariants.{Idle, Installing, Staged, Merging}
+use Rattle.vab_model.specs.declared.command.Reply.{Reply}
+use Rattle.vab_model.specs.Commands.{Command, SetActive, Boot, Mark, Print, Digest, Begin, Create}
+use Rattle.vab_model.specs.Commands.{Resize, Delete, Snapshot, Flash, Finish, Cancel, BeginMerge}
+use Rattle.vab_model.specs.Commands.{Merge}
+use Rattle.vab_model.specs.State.{images_at}
+use Rattle.vab_model.specs.Effects.{Found, Image_is, Refused_by, found_of, print_effect}
+use Rattle.vab_model.specs.Effects.{digest_effect, active_effect, effect, effect_map, IsOneOf}
+use Rattle.vab_model.specs.Effects.{last_of}
+use Rattle.vab_model.specs.Effects.{takes_memory, may_want}
+use Rattle.vab_device.specs.Mounted.{Mounted, in_state}
+use Rattle.vab_device.specs.Updates.{effect_on, EditOf, edit_effect, create_edit, resize_edit}
+use Rattle.vab_device.specs.Updates.{delete_edit, snapshot_edit, flash_effect, cancel_effect}
+use Rattle.vab_device.specs.Updates.{begin_merge_effect, merge_effect, turns, merged_to}
+use Rattle.vab_fbproto.specs.Requests.{Asked, Getvar, Download, Do, MergeAll, BootAndEnd}
+use Rattle.vab_fbproto.specs.Requests.{request_of}
+use Rattle.vab_fbproto.specs.declared.request.BadCommand.{BadCommand}
+use Rattle.vab_exchanges.specs.Session.{Exchange, packet, most_data}
+use Rattle.vab_exchanges.specs.Items.{Response, Kept, Item, item_still, item_staged}
+use Rattle.vab_exchanges.specs.Items.{item_download, item_done, item_asked, item_of, item_open}
+use Rattle.vab_exchanges.specs.Items.{items_of, unless_refused, no_memory}
+use Rattle.vab_exchanges.specs.Runs.{steps_at}
+use Rattle.vab_session.specs.Alone.{IsAlone, is_finish, asks_finish, FinishesNothing}
+use Rattle.vab_session.specs.Responses.{response, left_of}
+use Rattle.vab_session.specs.Served.{nothing_staged}
+use Rattle.vab_session.proofs.AloneLaws.{AreAlone, alone_effect, alone_steps, last_alone}
+use Rattle.vab_session.proofs.AloneLaws as alone
+use Rattle.vab_cli.specs.Verbs.{verb_item}
+use Rattle.vab_rounds.specs.Rounds.{Run, Serves, Carries, Installs, Tells, Lives, items_in}
+use Rattle.vab_rounds.specs.Folds.{Cut, after_cut, folded}
+use Rattle.vab_rounds.specs.Merges.{is_of_installation, asks_update, AskNoUpdate, BeginsNone}
+use Rattle.vab_rounds.specs.Merges.{BeginNone, turns_of, turns_asked, turns_in, turns_by}
+use Rattle.vab_rounds.specs.Merges.{turns_by_all, IsMerged}
+use Rattle.vab_rounds.proofs.Folding.{cut_steps}
+
+-- A merge has ended, or so many are left that those that were asked for fit beside them.
+abbrev IsDue : (left asked : ℕ) → Phase → Type 0
+IsDue left asked Idle = Unit {0}
+IsDue left asked (Installing source plan) = ⊥
+IsDue left asked (Staged source still) = ⊥
+IsDue left asked (Merging target still) = still + asked ≤ left
+
+module _ (left : ℕ) where
+  abbrev Due : ℕ → Mounted → Type 0
+  Due asked m = IsDue left asked m.state.phase
+
+  abbrev AreDue : ℕ → List Mounted → Type 0
+  AreDue asked ms = (x : Mounted) → IsOneOf ms x → Due asked x
+
+  none : (asked : ℕ) → AreDue asked []
+  none asked x is = absurd is
+
+  more : (asked : ℕ) (m : Mounted) (ms : List Mounted)
+      → Due asked m
+      → AreDue asked ms
+      → AreDue asked (m ∷ ms)
+  more asked m ms is are x (inl same) = subst (Due asked) (sym same) is
+  more asked m ms is are x (inr later) = are x later
+
+  one : (asked : ℕ) (m : Mounted) → Due asked m → AreDue asked (m ∷ [])
+  one asked m is = more asked m [] is (none asked)
+
+  last_due : (asked : ℕ) (m : Mounted) (ms : List Mounted)
+      → Due asked m
+      → AreDue asked ms
+      → Due asked (last_of m ms)
+  last_due asked m [] is are = is
+  last_due asked m (x ∷ xs) is are =
+      last_due asked x xs (are x (inl refl)) (λ y later. are y (inr later))
+
+  -- as many were asked for
+  counted : (n k : ℕ) (m : Mounted) → n ≡ k → Due n m → Due k m
+  counted n k m same is = subst (λ (j : ℕ). Due j m) same is
+
+  all_counted : (n k : ℕ) (ms : List Mounted) → n ≡ k → AreDue n ms → AreDue k ms
+  all_counted n k ms same are = subst (λ (j : ℕ). AreDue j ms) same are
+
+  -- ---- turns
+
+  turned : (asked blocks : ℕ) (m : Mounted) (target still : ℕ)
+      → still + asked ≤ left
+      → AreDue asked (turns blocks m target still)
+  unfolding turns
+  turned asked zero m target still is = none asked
+  turned asked (suc n) m target zero is = one asked _ tt
+  turned asked (suc n) m target (suc still) is =
+      more asked _ _ (omega (arith, is)) (turned asked n m target still (omega (arith, is)))
+
+  turned_last : (asked blocks : ℕ) (m y : Mounted) (target still : ℕ)
+      → y.state.phase ≡ Merging target still
+      → still + asked ≤ left
+      → Due (asked + blocks) (last_of y (turns blocks m target still))
+  unfolding turns
+  turned_last asked zero m y target still phase is =
+      counted asked (asked + 0) y (sym (add-zero asked))
+      (subst (IsDue left asked) (sym phase) is)
+  turned_last asked (suc n) m y target zero phase is = tt
+  turned_last asked (suc n) m y target (suc still) phase is =
+      let next : Mounted = merged_to m target still in
+      let same : asked + 1 + n ≡ asked + suc n = omega arith in
+      counted (asked + 1 + n) (asked + suc n) (last_of next (turns n m target still)) same
+      (turned_last (asked + 1) n m next target still refl (omega (arith, is)))
+
+  merges : (asked : ℕ) (m : Mounted) (blocks : ℕ) (phase : Phase)
+      → IsDue left asked phase
+      → AreDue asked (merge_effect m blocks phase).later
+  merges asked m blocks Idle is = none asked
+  merges asked m blocks (Installing source plan) is = absurd is
+  merges asked m blocks (Staged source still) is = absurd is
+  merges asked m blocks (Merging target still) is = turned asked blocks m target still is
+
+  merges_last : (asked : ℕ) (m : Mounted) (blocks : ℕ) (phase : Phase)
+      → m.state.phase ≡ phase
+      → IsDue left asked phase
+      → Due (asked + blocks) (last_of m (merge_effect m blocks phase).later)
+  merges_last asked m blocks Idle at is =
+      subst (IsDue left (asked + blocks)) (sym at) tt
+  merges_last asked m blocks (Installing source plan) at is = absurd is
+  merges_last asked m blocks (Staged source still) at is = absurd is
+  merges_last asked m blocks (Merging target still) at is =
+      turned_last asked blocks m m target still at is
+
+  -- ---- other commands
+
+  edits : (asked : ℕ) (m : Mounted) (edit : EditOf) (phase : Phase)
+      → IsDue left asked phase
+      → AreDue asked (edit_effect m edit phase).later
+  edits asked m edit Idle is = none asked
+  edits asked m edit (Installing source plan) is = absurd is
+  edits asked m edit (Staged source still) is = absurd is
+  edits asked m edit (Merging target still) is = none asked
+
+  flashes : (asked : ℕ) (m : Mounted) (staged : Option (List ℕ)) (name : List ℕ) (phase : Phase)
+      → IsDue left asked phase
+      → AreDue asked (flash_effect m staged name phase).later
+  flashes asked m staged name Idle is = none asked
+  flashes asked m staged name (Installing source plan) is = absurd is
+  flashes asked m staged name (Staged source still) is = absurd is
+  flashes asked m staged name (Merging target still) is = none asked
+
+  cancels : (asked : ℕ) (m : Mounted) (phase : Phase)
+      → IsDue left asked phase
+      → AreDue asked (cancel_effect m phase).later
+  cancels asked m Idle is = none asked
+  cancels asked m (Installing source plan) is = absurd is
+  cancels asked m (Staged source still) is = absurd is
+  cancels asked m (Merging target still) is = none asked
+
+  merge_begins : (asked : ℕ) (m : Mounted) (phase : Phase)
+      → IsDue left asked phase
+      → AreDue asked (begin_merge_effect m phase).later
+  merge_begins asked m Idle is = none asked
+  merge_begins asked m (Installing source plan) is = absurd is
+  merge_begins asked m (Staged source still) is = absurd is
+  merge_begins asked m (Merging target still) is = none asked
+
+  activates : (asked : ℕ) (m : Mounted) (has : Bool) (c : Control)
+      → Due asked m
+      → AreDue asked (effect_map (in_state m) (active_effect has m.state c)).later
+  activates asked m true c is = one asked _ is
+  activates asked m false c is = none asked
+
+  prints : (asked : ℕ) (m : Mounted) (name : List ℕ) (f : Found)
+      → AreDue asked (effect_map (in_state m) (print_effect name f)).later
+  prints asked m name (Image_is image) = none asked
+  prints asked m name (Refused_by refusal) = none asked
+
+  digests : (asked : ℕ) (m : Mounted) (f : Found)
+      → AreDue asked (effect_map (in_state m) (digest_effect f)).later
+  digests asked m (Image_is image) = none asked
+  digests asked m (Refused_by refusal) = none asked
+
+  command_steps : (asked : ℕ) (m : Mounted) (staged : Option (List ℕ)) (c : Command)
+      → is_of_installation c ≡ false
+      → Due asked m
+      → AreDue asked (effect_on m staged c).later
+  unfolding effect
+  command_steps asked m staged (SetActive n) other is =
+      activates asked m (is_some (images_at m.state n)) (activated_of m.state.control n) is
+  command_steps asked m staged Boot other is = one asked _ is
+  command_steps asked m staged Mark other is = one asked _ is
+  command_steps asked m staged (Print name) other is =
+      prints asked m name (found_of m.state name)
+  command_steps asked m staged (Digest name) other is = digests asked m (found_of m.state name)
+  command_steps asked m staged Begin other is = absurd cc
+  command_steps asked m staged (Create name size) other is =
+      edits asked m (create_edit name size) m.state.phase is
+  command_steps asked m staged (Resize name size) other is =
+      edits asked m (resize_edit name size) m.state.phase is
+  command_steps asked m staged (Delete name) other is =
+      edits asked m (delete_edit name) m.state.phase is
+  command_steps asked m staged (Snapshot name size) other is =
+      edits asked m (snapshot_edit name size) m.state.phase is
+  command_steps asked m staged (Flash name) other is =
+      flashes asked m staged name m.state.phase is
+  command_steps asked m staged Finish other is = absurd cc
+  command_steps asked m staged Cancel other is = cancels asked m m.state.phase is
+  command_steps asked m staged BeginMerge other is = merge_begins asked m m.state.phase is
+  command_steps asked m staged (Merge blocks) other is = merges asked m blocks m.state.phase is
+
+  -- a command that asks for no turn
+  asks_none : (asked n : ℕ) (m : Mounted) (staged : Option (List ℕ)) (c : Command)
+      → n ≡ 0
+      → is_of_installation c ≡ false
+      → Due asked m
+      → Due (asked + n) (last_of m (effect_on m staged c).later)
+  asks_none asked n m staged c zeroed other is =
+      let later : List Mounted = (effect_on m staged c).later in
+      counted asked (asked + n) (last_of m later) (omega (arith, zeroed))
+      (last_due asked m later is (command_steps asked m staged c other is))
+
+  command_last : (asked : ℕ) (m : Mounted) (staged : Option (List ℕ)) (c : Command)
+      → is_of_installation c ≡ false
+      → Due asked m
+      → Due (asked + turns_of c) (last_of m (effect_on m staged c).later)
+  command_last asked m staged (SetActive n) other is =
+      asks_none asked 0 m staged (SetActive n) refl other is
+  command_last asked m staged Boot other is = asks_none asked 0 m staged Boot refl other is
+  command_last asked m staged Mark other is = asks_none asked 0 m staged Mark refl other is
+  command_last asked m staged (Print name) other is =
+      asks_none asked 0 m staged (Print name) refl other is
+  command_last asked m staged (Digest name) other is =
+      asks_none asked 0 m staged (Digest name) refl other is
+  command_last asked m staged Begin other is = absurd cc
+  command_last asked m staged (Create name size) other is =
+      asks_none asked 0 m staged (Create name size) refl other is
+  command_last asked m staged (Resize name size) other is =
+      asks_none asked 0 m staged (Resize name size) refl other is
+  command_last asked m staged (Delete name) other is =
+      asks_none asked 0 m staged (Delete name) refl other is
+  command_last asked m staged (Snapshot name size) other is =
+      asks_none asked 0 m staged (Snapshot name size) refl other is
+  command_last asked m staged (Flash name) other is =
+      asks_none asked 0 m staged (Flash name) refl other is
+  command_last asked m staged Finish other is = absurd cc
+  command_last asked m staged Cancel other is = asks_none asked 0 m staged Cancel refl other is
+  command_last asked m staged BeginMerge other is =
+      asks_none asked 0 m staged BeginMerge refl other is
+  command_last asked m staged (Merge blocks) other is =
+      merges_last asked m blocks m.state.phase refl is
+
+  -- ---- packets
+
+  response_steps : (asked : ℕ) (m : Mounted) (staged : Option (List ℕ))
+      (packet : Result Asked BadCommand)
+      → asks_update packet ≡ false
+      → Due asked m
+      → AreDue asked (response m staged packet).later
+  response_steps asked m staged (Ok (Getvar variable)) other is = none asked
+  response_steps asked m staged (Ok (Download size)) other is = none asked
+  response_steps asked m staged (Ok (Do c)) other is = command_steps asked m staged c other is
+  response_steps asked m staged (Ok MergeAll) other is =
+      command_steps asked m staged (Merge (left_of m.state.phase + 1)) refl is
+  response_steps asked m staged (Ok BootAndEnd) other is =
+      command_steps asked m staged Boot refl is
+  response_steps asked m staged (Err bad) other is = none asked
+
+  response_last : (asked : ℕ) (m : Mounted) (staged : Option (List ℕ))
+      (packet : Result Asked BadCommand)
+      → asks_update packet ≡ false
+      → Due asked m
+      → Due (asked + turns_asked m.state.phase packet)
+      (last_of m (response m staged packet).later)
+  response_last asked m staged (Ok (Getvar variable)) other is =
+      counted asked (asked + 0) m (sym (add-zero asked)) is
+  response_last asked m staged (Ok (Download size)) other is =
+      counted asked (asked + 0) m (sym (add-zero asked)) is
+  response_last asked m staged (Ok (Do c)) other is = command_last asked m staged c other is
+  response_last asked m staged (Ok MergeAll) other is =
+      command_last asked m staged (Merge (left_of m.state.phase + 1)) refl is
+  response_last asked m staged (Ok BootAndEnd) other is =
+      command_last asked m staged Boot refl is
+  response_last asked m staged (Err bad) other is =
+      counted asked (asked + 0) m (sym (add-zero asked)) is
+
+  -- what takes memory asks for no turn
+  takes_none : (c : Command) (reply : Reply)
+      → (takes_memory c && may_want reply) ≡ true
+      → turns_of c ≡ 0
+  takes_none (SetActive n) reply wants = refl
+  takes_none Boot reply wants = refl
+  takes_none Mark reply wants = refl
+  takes_none (Print name) reply wants = refl
+  takes_none (Digest name) reply wants = refl
+  takes_none Begin reply wants = refl
+  takes_none (Create name size) reply wants = refl
+  takes_none (Resize name size) reply wants = refl
+  takes_none (Delete name) reply wants = refl
+  takes_none (Snapshot name size) reply wants = refl
+  takes_none (Flash name) reply wants = refl
+  takes_none Finish reply wants = refl
+  takes_none Cancel reply wants = refl
+  takes_none BeginMerge reply wants = refl
+  takes_none (Merge blocks) reply wants = absurd cc
+
+  wants_none : (m : Mounted) (staged : Option (List ℕ)) (packet : Result Asked BadCommand)
+      → (response m staged packet).may_want ≡ true
+      → turns_asked m.state.phase packet ≡ 0
+  wants_none m staged (Ok (Getvar variable)) wants = refl
+  wants_none m staged (Ok (Download size)) wants = refl
+  wants_none m staged (Ok (Do c)) wants = takes_none c (effect_on m staged c).reply wants
+  wants_none m staged (Ok MergeAll) wants = absurd cc
+  wants_none m staged (Ok BootAndEnd) wants = refl
+  wants_none m staged (Err bad) wants = refl
+
+  unless_steps : (asked : ℕ) (refused : Bool) (e : Response Mounted)
+      → AreDue asked e.later
+      → AreDue asked (unless_refused refused e).later
+  unless_steps asked false e are = are
+  unless_steps asked true e are = by_want e.may_want
+    where
+      by_want : (b : Bool) → AreDue asked (cond b no_memory e).later
+      by_want true = none asked
+      by_want false = are
+
+  unless_last : (asked n : ℕ) (m : Mounted) (refused : Bool) (e : Response Mounted)
+      → (e.may_want ≡ true → n ≡ 0)
+      → Due asked m
+      → Due (asked + n) (last_of m e.later)
+      → Due (asked + n) (last_of m (unless_refused refused e).later)
+  unless_last asked n m false e free is last = last
+  unless_last asked n m true e free is last = by_want e.may_want free
+    where
+      by_want : (b : Bool)
+          → (b ≡ true → n ≡ 0)
+          → Due (asked + n) (last_of m (cond b no_memory e).later)
+      by_want true free =
+          let zeroed : n ≡ 0 = free refl in
+          counted asked (asked + n) m (omega (arith, zeroed)) is
+      by_want false free = last
+
+  -- ---- items
+
+  -- each step of an item, and what is kept after it, by which so many more were asked for
+  record IsDueIn (asked n : ℕ) (item : Item Mounted) : Type 0 where
+    steps : AreDue asked item.steps
+    last : Due (asked + n) item.last.now
+
+  still_due : (asked : ℕ) (k : Kept Mounted) (told : List ℕ)
+      → Due asked k.now
+      → IsDueIn asked 0 (item_still k told)
+  still_due asked k told is = record {
+    steps = one asked k.now is;
+    last = counted asked (asked + 0) k.now (sym (add-zero asked)) is;
+  }
+
+  either_due : (asked n : ℕ) (b : Bool) (i j : Item Mounted)
+      → IsDueIn asked n i
+      → IsDueIn asked n j
+      → IsDueIn asked n (cond b i j)
+  either_due asked n true i j is other = is
+  either_due asked n false i j is other = other
+
+  downloaded : (asked : ℕ) (k : Kept Mounted) (size : ℕ) (refused : Bool) (parts : List (List ℕ))
+      → Due asked k.now
+      → IsDueIn asked 0 (item_download k size refused parts)
+  downloaded asked k size refused parts is =
+      let large : List ℕ = packet (codes "FAILtoo large") in
+      let wanting : List ℕ = packet (codes "FAILout of memory") in
+      let is_refused : Bool = refused && nat_lt 0 size in
+      let whole : Item Mounted = item_staged k size parts in
+      either_due asked 0 (nat_lt most_data size)
+      (item_still k large)
+      (cond is_refused (item_still k wanting) whole)
+      (still_due asked k large is)
+      (either_due asked 0 is_refused (item_still k wanting) whole
+      (still_due asked k wanting is)
+      (record {
+        steps = one asked k.now is;
+        last = counted asked (asked + 0) k.now (sym (add-zero asked)) is;
+      }))
+
+  done_due : (asked : ℕ) (k : Kept Mounted) (refused : Bool) (asks : Result Asked BadCommand)
+      → asks_update asks ≡ false
+      → Due asked k.now
+      → IsDueIn asked (turns_asked k.now.state.phase asks) (item_done response k refused asks)
+  done_due asked k refused asks other is =
+      let e : Response Mounted = response k.now k.staged asks in
+      let later : List Mounted = (unless_refused refused e).later in
+      record {
+        steps = more asked k.now later is
+            (unless_steps asked refused e (response_steps asked k.now k.staged asks other is));
+        last = unless_last asked (turns_asked k.now.state.phase asks) k.now refused e
+            (wants_none k.now k.staged asks) is
+            (response_last asked k.now k.staged asks other is);
+      }
+
+  asked_due : (asked : ℕ) (k : Kept Mounted) (refused : Bool) (parts : List (List ℕ))
+      (asks : Result Asked BadCommand)
+      → asks_update asks ≡ false
+      → Due asked k.now
+      → IsDueIn asked (turns_asked k.now.state.phase asks)
+      (item_asked response k refused parts asks)
+  asked_due asked k refused parts (Ok (Download size)) other is =
+      downloaded asked k size refused parts is
+  asked_due asked k refused parts (Ok BootAndEnd) other is =
+      done_due asked k refused (Ok BootAndEnd) other is
+  asked_due asked k refused parts (Ok MergeAll) other is =
+      done_due asked k refused (Ok MergeAll) other is
+  asked_due asked k refused parts (Ok (Getvar variable)) other is =
+      done_due asked k refused (Ok (Getvar variable)) other is
+  asked_due asked k refused parts (Ok (Do command)) other is =
+      done_due asked k refused (Ok (Do command)) other is
+  asked_due asked k refused parts (Err bad) other is =
+      done_due asked k refused (Err bad) other is
+
+  exchange_due : (asked : ℕ) (k : Kept Mounted) (s : Exchange)
+      → asks_update (request_of s.command) ≡ false
+      → Due asked k.now
+      → IsDueIn asked (turns_asked k.now.state.phase (request_of s.command))
+      (item_of response k s)
+  unfolding item_of
+  exchange_due asked k s other is =
+      asked_due asked k s.refused s.parts (request_of s.command) other is
+
+  open_due : (asked : ℕ) (k : Kept Mounted) (command : List ℕ)
+      → Due asked k.now
+      → IsDueIn asked 0 (item_open response k command)
+  unfolding item_open
+  open_due asked k command is = still_due asked k _ is
+
+  -- ---- sessions
+
+  session_due : (asked : ℕ) (k : Kept Mounted) (exchanges : List Exchange)
+      (unfinished : Option (List ℕ)) (n : ℕ)
+      → AskNoUpdate exchanges
+      → Due asked k.now
+      → AreDue (asked + turns_in k (take n exchanges))
+      (steps_at k.now (items_of response k exchanges unfinished) n)
+  session_due asked k [] None zero other is =
+      all_counted asked (asked + 0) (k.now ∷ []) (sym (add-zero asked)) (one asked k.now is)
+  session_due asked k [] None (suc n) other is =
+      all_counted asked (asked + 0) (k.now ∷ []) (sym (add-zero asked)) (one asked k.now is)
+  session_due asked k [] (Some command) zero other is =
+      all_counted asked (asked + 0) (item_open response k command).steps (sym (add-zero asked))
+      (open_due asked k command is).steps
+  session_due asked k [] (Some command) (suc n) other is =
+      one (asked + 0) (item_open response k command).last.now (open_due asked k command is).last
+  session_due asked k (s ∷ ss) unfinished zero other is =
+      all_counted asked (asked + 0) (item_of response k s).steps (sym (add-zero asked))
+      (exchange_due asked k s other.0 is).steps
+  session_due asked k (s ∷ ss) unfinished (suc n) other is =
+      let i : Item Mounted = item_of response k s in
+      let t : ℕ = turns_asked k.now.state.phase (request_of s.command) in
+      let u : ℕ = turns_in i.last (take n ss) in
+      let same : asked + t + u ≡ asked + (t + u) = omega arith in
+      all_counted (asked + t + u) (asked + (t + u))
+      (steps_at i.last.now (items_of response i.last ss unfinished) n) same
+      (session_due (asked + t) i.last ss unfinished n other.1
+      (exchange_due asked k s other.0 is).last)
+
+  -- ---- runs
+
+  run_due : (asked : ℕ) (m : Mounted) (run : Run) (whole : ℕ)
+      → BeginsNone run
+      → Due asked m
+      → AreDue (asked + turns_by m whole run) (steps_at m (items_in m run) whole)
+  run_due asked m (Serves exchanges unfinished) whole other is =
+      session_due asked (nothing_staged m) exchanges unfinished whole other is
+  run_due asked m (Carries c) zero other is =
+      let later : List Mounted = (effect_on m None c).later in
+      all_counted asked (asked + 0) (m ∷ later) (sym (add-zero asked))
+      (more asked m later is (command_steps asked m None c other is))
+  run_due asked m (Carries c) (suc n) other is =
+      one (asked + turns_of c) (last_of m (effect_on m None c).later)
+      (command_last asked m None c other is)
+  run_due asked m (Installs set) whole other is = absurd other
+  run_due asked m (Lives made next) whole other is = absurd other
+  run_due asked m (Tells text) zero other is =
+      all_counted asked (asked + 0) (m ∷ []) (sym (add-zero asked)) (one asked m is)
+  run_due asked m (Tells text) (suc n) other is =
+      all_counted asked (asked + 0) (m ∷ []) (sym (add-zero asked)) (one asked m is)
+
+  runs_due : (asked : ℕ) (m : Mounted) (cuts : List Cut)
+      → BeginNone cuts
+      → Due asked m
+      → Due (asked + turns_by_all m cuts) (folded m cuts)
+  runs_due asked m [] other is = counted asked (asked + 0) m (sym (add-zero asked)) is
+  runs_due asked m (c ∷ cs) other is =
+      let t : ℕ = turns_by m c.whole c.run in
+      let next : Mounted = after_cut m c in
+      let u : ℕ = turns_by_all next cs in
+      let same : asked + t + u ≡ asked + (t + u) = omega arith in
+      counted (asked + t + u) (asked + (t + u)) (folded next cs) same
+      (runs_due (asked + t) next cs other.1
+      (run_due asked m c.run c.whole other.0 is next (cut_steps m c)))
+
+  ended : (asked : ℕ) (phase : Phase) → IsDue left asked phase → left < asked → phase ≡ Idle
+  ended asked Idle is many = refl
+  ended asked (Installing source plan) is many = absurd is
+  ended asked (Staged source still) is many = absurd is
+  ended asked (Merging target still) is many = absurd (omega (arith, is, many))
+
+-- ---- the target stays alone
+
+ends_nothing : (c : Command) → is_of_installation c ≡ false → is_finish c ≡ false
+ends_nothing (SetActive n) other = refl
+ends_nothing Boot other = refl
+ends_nothing Mark other = refl
+ends_nothing (Print name) other = refl
+ends_nothing (Digest name) other = refl
+ends_nothing Begin other = refl
+ends_nothing (Create name size) other = refl
+ends_nothing (Resize name size) other = refl
+ends_nothing (Delete name) other = refl
+ends_nothing (Snapshot name size) other = refl
+ends_nothing (Flash name) other = refl
+ends_nothing Finish other = other
+ends_nothing Cancel other = refl
+ends_nothing BeginMerge other = refl
+ends_nothing (Merge blocks) other = refl
+
+asks_no_end : (asks : Result Asked BadCommand) → asks_update asks ≡ false → asks_finish asks ≡ false
+asks_no_end (Ok (Getvar variable)) other = refl
+asks_no_end (Ok (Download size)) other = refl
+asks_no_end (Ok (Do c)) other = ends_nothing c other
+asks_no_end (Ok MergeAll) other = refl
+asks_no_end (Ok BootAndEnd) other = refl
+asks_no_end (Err bad) other = refl
+
+finish_none : (exchanges : List Exchange) → AskNoUpdate exchanges → FinishesNothing exchanges
+finish_none [] other = tt
+finish_none (s ∷ ss) other = (asks_no_end (request_of s.command) other.0, finish_none ss other.1)
+
+module _ (slot : ℕ) (images : List ImageOfSlot) where
+  run_alone : (m : Mounted) (run : Run) (whole : ℕ)
+      → BeginsNone run
+      → IsAlone slot images m
+      → AreAlone slot images (steps_at m (items_in m run) whole)
+  run_alone m (Serves exchanges unfinished) whole other is =
+      alone_steps slot images (nothing_staged m) [] exchanges unfinished
+      (finish_none exchanges other) is whole (omega arith)
+  run_alone m (Carries c) zero other is =
+      alone.more slot images m (effect_on m None c).later is
+      (alone_effect slot images m None c (ends_nothing c other) is)
+  run_alone m (Carries c) (suc n) other is =
+      alone.one slot images (verb_item m c).last.now
+      (last_alone slot images m (effect_on m None c).later is
+      (alone_effect slot images m None c (ends_nothing c other) is))
+  run_alone m (Installs set) whole other is = absurd other
+  run_alone m (Lives made next) whole other is = absurd other
+  run_alone m (Tells text) zero other is = alone.one slot images m is
+  run_alone m (Tells text) (suc n) other is = alone.one slot images m is
+
+  runs_alone : (m : Mounted) (cuts : List Cut)
+      → BeginNone cuts
+      → IsAlone slot images m
+      → IsAlone slot images (folded m cuts)
+  runs_alone m [] other is = is
+  runs_alone m (c ∷ cs) other is =
+      runs_alone (after_cut m c) cs other.1
+      (run_alone m c.run c.whole other.0 is (after_cut m c) (cut_steps m c))
+
+pub merges_end : (first : Mounted) (cuts : List Cut)
+    → BeginNone cuts
+    → (target left : ℕ)
+    → (images : List ImageOfSlot)
+    → first.state.phase ≡ Merging target left
+    → IsAlone target images first
+    → left < turns_by_all first cuts
+    → IsMerged target images (folded first cuts)
+merges_end first cuts other target left images phase is many =
+    let asked : ℕ = turns_by_all first cuts in
+    let whole : left + 0 ≤ left = omega arith in
+    let begun : IsDue left 0 first.state.phase =
+    subst (IsDue left 0) (sym phase) whole in
+    let due : IsDue left (0 + asked) (folded first cuts).state.phase =
+    runs_due left 0 first cuts other begun in
+    record {
+      idle = ended left (0 + asked) (folded first cuts).state.phase due (omega (arith, many));
+      alone = runs_alone target images first cuts other is;
+    }

@@ -1,0 +1,342 @@
+-- A run that is cut is a round.
+use Rattle.std.proofs.Common.{◌≡◌, ◌∙◌, ◌⊎◌, inl, inr, ⊎_elim, ℕ, ◌≤◌, ◌<◌, ◌^◌, Bool}
+use Rattle.std.proofs.Common.{true}
+use Rattle.std.proofs.Common.{false, List, [], ◌∷◌, length, Some, None}
+use Rattle.std.proofs.Common.{Result}
+use Rattle.std.proofs.Common.{Ok, Err, refl, sym, ap, subst}
+use Rattle.std.proofs.lemmas.Bool.{cases_lt}
+use Rattle.std.proofs.lemmas.List.{append-nil}
+use Rattle.vab_disk.specs.declared.disk.Disk.{Ghosts}
+use Rattle.vab_disk.specs.Disk.{Image, Outcome, Leaves}
+use Rattle.vab_disk.specs.Calls.{IsAtRest}
+use Rattle.vab_gen.specs.Sets.{fresh_set, next_set}
+use Rattle.vab_set.specs.Reading.{set_of}
+use Rattle.vab_set.specs.declared.set.SetImage.{SetImage}
+use Rattle.vab_set.specs.declared.fault.SetFault.{SetFault}
+use Rattle.vab_model.specs.Commands.{Command}
+use Rattle.vab_model.specs.Commands as commands
+use Rattle.vab_device.specs.Mounted.{Mounted}
+use Rattle.vab_device.specs.Reading.{IsIn}
+use Rattle.vab_make.specs.Made.{refusal_of, made_device_of}
+use Rattle.vab_make.specs.Making.{LeavesMaking}
+use Rattle.vab_words.specs.Verbs.{Meaning, Make, Serve, Install, Boot, Mark, BeginMerge, Merge}
+use Rattle.vab_words.specs.Verbs.{Cancel, Activate, Print, Digest, Demo, Status as Page}
+use Rattle.vab_exchanges.specs.Items.{Item}
+use Rattle.vab_exchanges.specs.Runs.{CrashesWithin}
+use Rattle.vab_status.specs.Page.{page}
+use Rattle.vab_cli.specs.declared.status.Status.{Status}
+use Rattle.vab_cli.specs.declared.status.Status.TheVariants.{Done, Malformed}
+use Rattle.vab_cli.specs.Installing.{install_item, install_status, RunsOrFails}
+use Rattle.vab_cli.specs.Paging.{page_item}
+use Rattle.vab_cli.specs.Program.{DoesVerb}
+use Rattle.vab_cli.specs.Runs.{RunsSession, FailsBefore, LeavesFirst}
+use Rattle.vab_cli.specs.Verbs.{command_of, done_making, line_item}
+use Rattle.vab_rounds.specs.Rounds.{Run, Serves, Carries, Installs, Tells, Lives, items_in}
+use Rattle.vab_rounds.specs.Rounds.{greeting_of}
+use Rattle.vab_rounds.specs.Runs.{IsMaking, MakesNone, IsRunOf, LeavesRound, IsRun}
+
+-- where nothing else may be
+certain : {P : Type 0} → P ⊎ ⊥ → P
+certain (inl p) = p
+certain (inr none) = absurd none
+
+-- what was left is the next device
+leaves_round : (m : Meaning) (size : ℕ) (input : List ℕ) (first : Mounted) (told : List ℕ)
+    (o : Outcome) (run : Run)
+    → IsRunOf m size input first run
+    → CrashesWithin (IsIn size) (greeting_of run) first (items_in first run) told o
+    → LeavesRound m size input first told o
+leaves_round m size input first told o run is crash = record {
+  run = run;
+  is = is;
+  next = crash.step.0;
+  round = record { crashes = crash; leaves = crash.step.2 };
+}
+
+-- nothing is told, and the disk is the device that it was
+untold : (m : Meaning) (size : ℕ) (input : List ℕ) (first : Mounted) (told : List ℕ) (o : Outcome)
+    → LeavesFirst told size first o
+    → LeavesRound m size input first told o
+untold m size input first told o leaves =
+    leaves_round m size input first told o (Tells []) (inl refl) (record {
+      since = [];
+      told_since = leaves.told_so_far ∙ sym (append-nil told);
+      front = (0, refl);
+      step = (first, inl refl, leaves.stands);
+    })
+
+module _ {D : Type 0}
+    (g : Ghosts D)
+    (only_now : (d : D) (o : Outcome)
+    → g.outcomes d (g.moment d) o
+    → Leaves (g.told d) (g.may_leave d) o)
+    (modelled : g.is_modelled)
+    (m : Meaning)
+    (old new : D)
+    (status : Status)
+    (rest : IsAtRest g old)
+    (o : Outcome)
+    (at : g.outcomes new (g.moment old) o) where
+  -- where nothing is done at all the disk is as it was
+  same_image : new ≡ old → (o.told ≡ g.told old) × (o.image ≡ g.seen old)
+  same_image same =
+      let leaves = only_now old o (subst (λ (d : D). g.outcomes d (g.moment old) o) same at) in
+      (leaves.told_so_far, λ i s. rest s (o.image s) (leaves.each_sector s) i)
+
+  unchanged : (first : Mounted)
+      → IsIn (g.size old) first (g.seen old)
+      → new ≡ old
+      → LeavesFirst (g.told old) (g.size old) first o
+  unchanged first is same =
+      let left = same_image same in
+      record {
+        told_so_far = left.0;
+        stands = subst (λ (i : Image). IsIn (g.size old) first i) (sym left.1) is;
+      }
+
+  abbrev Round : Mounted → Type 0
+  Round first = LeavesRound m (g.size old) (g.input_left old) first (g.told old) o
+
+  round_of : (first : Mounted) (run : Run)
+      → IsRunOf m (g.size old) (g.input_left old) first run
+      → CrashesWithin (IsIn (g.size old)) (greeting_of run) first (items_in first run)
+      (g.told old) o
+      → Round first
+  round_of first run is crash =
+      leaves_round m (g.size old) (g.input_left old) first (g.told old) o run is crash
+
+  failed : (first : Mounted) → FailsBefore g (g.size old) first old new status → Round first
+  failed first fails =
+      untold m (g.size old) (g.input_left old) first (g.told old) o (fails.every_cut rest o at)
+
+  session : (fresh : Bool) (Else : Outcome → Type 0) (first : Mounted)
+      → m ≡ Serve fresh
+      → RunsSession g (g.size old) Else first old new status
+      → Round first ⊎ Else o
+  session fresh Else first words runs =
+      ⊎_elim
+      (λ crash. inl (round_of first (Serves runs.exchanges runs.unfinished)
+      ((fresh, words), (runs.refused, runs.end, runs.session))
+      crash))
+      (λ other. inr other)
+      (runs.items.every_cut rest o at)
+
+  command : (c : Command) (first : Mounted)
+      → command_of m ≡ Some c
+      → IsIn (g.size old) first (g.seen old)
+      → DoesVerb g m old new status
+      → Round first
+  command c first some is does =
+      ⊎_elim
+      (λ runs. round_of first (Carries c) some (certain (runs.items.every_cut rest o at)))
+      (λ fails. failed first fails)
+      (does.item modelled c some first is)
+
+  -- one item, where it is that of a run
+  same_crash : (first : Mounted) (run : Run) (i : Item Mounted)
+      → items_in first run ≡ i ∷ []
+      → greeting_of run ≡ []
+      → CrashesWithin (IsIn (g.size old)) [] first (i ∷ []) (g.told old) o
+      → CrashesWithin (IsIn (g.size old)) (greeting_of run) first (items_in first run)
+      (g.told old) o
+  same_crash first run i items greeting crash =
+      subst
+      (λ (l : List (Item Mounted)). CrashesWithin (IsIn (g.size old))
+      (greeting_of run) first l (g.told old) o)
+      (sym items)
+      (subst
+      (λ (l : List ℕ). CrashesWithin (IsIn (g.size old)) l first (i ∷ []) (g.told old) o)
+      (sym greeting)
+      crash)
+
+  item : (first : Mounted) (run : Run) (ends : Status)
+      → IsRunOf m (g.size old) (g.input_left old) first run
+      → ((i : Item Mounted)
+      → items_in first run ≡ i ∷ []
+      → greeting_of run ≡ []
+      → RunsOrFails g old new status first i ends
+      → Round first)
+  item first run ends is i items greeting (inl runs) =
+      round_of first run is
+      (same_crash first run i items greeting (certain (runs.items.every_cut rest o at)))
+  item first run ends is i items greeting (inr (inl short)) =
+      round_of first run is (same_crash first run i items greeting (short.every_cut rest o at))
+  item first run ends is i items greeting (inr (inr fails)) = failed first fails
+
+  -- an input that is no set, and one that is
+  not_a_set : (first : Mounted)
+      → m ≡ Install
+      → IsIn (g.size old) first (g.seen old)
+      → (2 ^ 32 < length (g.input_left old))
+      ⊎ ((fault : SetFault) × (set_of (g.input_left old) ≡ Err fault))
+      → DoesVerb g m old new status
+      → Round first
+  not_a_set first words is bad does =
+      item first (Tells []) Malformed (inl refl) (line_item first []) refl refl
+      ((does.install words).malformed modelled bad first is)
+
+  by_set : (first : Mounted)
+      → m ≡ Install
+      → IsIn (g.size old) first (g.seen old)
+      → DoesVerb g m old new status
+      → length (g.input_left old) ≤ 2 ^ 32
+      → (set : Result (List SetImage) SetFault)
+      → set_of (g.input_left old) ≡ set
+      → Round first
+  by_set first words is does fits (Ok set) spelled =
+      item first (Installs set) (install_status first set)
+      (words, spelled) (install_item first set) refl refl
+      ((does.install words).item modelled set fits spelled first is)
+  by_set first words is does fits (Err fault) spelled =
+      not_a_set first words is (inr (fault, spelled)) does
+
+  installed : (first : Mounted)
+      → m ≡ Install
+      → IsIn (g.size old) first (g.seen old)
+      → DoesVerb g m old new status
+      → Round first
+  installed first words is does =
+      ⊎_elim
+      (λ long. not_a_set first words is (inl long) does)
+      (λ fits. by_set first words is does fits (set_of (g.input_left old)) refl)
+      (cases_lt (2 ^ 32) (length (g.input_left old)))
+
+  paged : (first : Mounted)
+      → m ≡ Page
+      → IsIn (g.size old) first (g.seen old)
+      → DoesVerb g m old new status
+      → Round first
+  paged first words is does =
+      item first (Tells (page first.state)) Done (inr (inl (words, refl))) (page_item first)
+      refl refl
+      ((does.tells words).item modelled first is)
+
+  served : (fresh : Bool) (first : Mounted)
+      → m ≡ Serve fresh
+      → fresh ≡ false
+      → IsIn (g.size old) first (g.seen old)
+      → DoesVerb g m old new status
+      → Round first
+  served fresh first words not_fresh is does =
+      let serves : m ≡ Serve false = words ∙ ap Serve not_fresh in
+      ⊎_elim
+      (λ runs. certain (session false (λ o. ⊥) first serves runs))
+      (λ fails. failed first fails)
+      (does.serve modelled serves first is)
+
+  -- by the words
+  by_words : (first : Mounted)
+      → IsIn (g.size old) first (g.seen old)
+      → DoesVerb g m old new status
+      → (n : Meaning)
+      → m ≡ n
+      → MakesNone n
+      → Round first
+  by_words first is does (Make limit max) words none = absurd none
+  by_words first is does (Serve fresh) words none = served fresh first words none is does
+  by_words first is does Install words none = installed first words is does
+  by_words first is does Boot words none =
+      command commands.Boot first (ap command_of words) is does
+  by_words first is does Mark words none =
+      command commands.Mark first (ap command_of words) is does
+  by_words first is does BeginMerge words none =
+      command commands.BeginMerge first (ap command_of words) is does
+  by_words first is does (Merge blocks) words none =
+      command (commands.Merge blocks) first (ap command_of words) is does
+  by_words first is does Cancel words none =
+      command commands.Cancel first (ap command_of words) is does
+  by_words first is does (Activate slot) words none =
+      command (commands.SetActive slot) first (ap command_of words) is does
+  by_words first is does (Print name) words none =
+      command (commands.Print name) first (ap command_of words) is does
+  by_words first is does (Digest name) words none =
+      command (commands.Digest name) first (ap command_of words) is does
+  by_words first is does Page words none = paged first words is does
+  by_words first is does (Demo seed scale) words none = absurd none
+
+  pub run_is_round : IsRun g m old new status
+      → MakesNone m
+      → (first : Mounted)
+      → IsIn (g.size old) first (g.seen old)
+      → Round first
+  run_is_round (inl wants) none first is =
+      untold m (g.size old) (g.input_left old) first (g.told old) o
+      (unchanged first is wants.1)
+  run_is_round (inr does) none first is = by_words first is does m refl none
+
+  -- ---- a device that is made
+
+  abbrev Making : List SetImage → (limit max : ℕ) → Type 0
+  Making set limit max =
+      Round (made_device_of set limit max (g.size old))
+      ⊎ LeavesMaking (g.told old) set limit max (g.size old) (g.seen old) o
+
+  made : (set : List SetImage) (limit max : ℕ)
+      → m ≡ Make limit max
+      → length (g.input_left old) ≤ 2 ^ 32
+      → set_of (g.input_left old) ≡ Ok set
+      → refusal_of set limit max (g.size old) ≡ None
+      → DoesVerb g m old new status
+      → Making set limit max
+  made set limit max words fits spelled none does =
+      ⊎_elim
+      (λ crash. inl (round_of (made_device_of set limit max (g.size old))
+      (Tells (done_making set (g.size old)))
+      (inr (inr (set, (limit, max, inl (words, fits, spelled, none)), refl)))
+      crash))
+      (λ early. inr early)
+      ((does.made modelled limit max words set fits spelled none).every_cut rest o at)
+
+  of_these : (is set : List SetImage) (limit max : ℕ)
+      → set ≡ is
+      → limit ≡ 0
+      → max ≡ 65536
+      → Making is 0 65536
+      → Making set limit max
+  of_these is set limit max same none most making =
+      subst (λ (s : List SetImage). Making s limit max) (sym same)
+      (subst (λ (n : ℕ). Making is n max) (sym none)
+      (subst (λ (n : ℕ). Making is 0 n) (sym most) making))
+
+  fresh : m ≡ Serve true → 6152 ≤ g.size old → DoesVerb g m old new status → Making [] 0 65536
+  fresh words enough does =
+      ⊎_elim
+      (λ runs. session true
+      (LeavesMaking (g.told old) [] 0 65536 (g.size old) (g.seen old))
+      (made_device_of [] 0 65536 (g.size old))
+      words runs)
+      (λ fails. inr (fails.every_cut rest o at))
+      (does.fresh modelled words enough)
+
+  demonstrated : (seed scale : ℕ)
+      → m ≡ Demo seed scale
+      → refusal_of (fresh_set scale seed) 0 65536 (g.size old) ≡ None
+      → DoesVerb g m old new status
+      → Making (fresh_set scale seed) 0 65536
+  demonstrated seed scale words none does =
+      let set : List SetImage = fresh_set scale seed in
+      let next : List SetImage = next_set scale seed set in
+      let made : List ℕ = done_making set (g.size old) in
+      let first : Mounted = made_device_of set 0 65536 (g.size old) in
+      ⊎_elim
+      (λ runs. ⊎_elim
+      (λ crash. inl (round_of first (Lives made next) (seed, scale, words, refl, refl) crash))
+      (λ early. inr early)
+      (runs.items.every_cut rest o at))
+      (λ fails. inr (fails.every_cut rest o at))
+      ((does.demo seed scale words).runs modelled none)
+
+  pub making_is_round : IsRun g m old new status
+      → (set : List SetImage) (limit max : ℕ)
+      → IsMaking m (g.size old) (g.input_left old) set limit max
+      → Making set limit max
+  making_is_round (inl wants) set limit max is =
+      let left = same_image wants.1 in
+      inr (record { told_so_far = left.0; either = inl left.1 })
+  making_is_round (inr does) set limit max (inl makes) =
+      made set limit max makes.0 makes.1 makes.2 makes.3 does
+  making_is_round (inr does) set limit max (inr (inl serves)) =
+      of_these [] set limit max serves.2 serves.3 serves.4 (fresh serves.0 serves.1 does)
+  making_is_round (inr does) set limit max (inr (inr lives)) =
+      of_these (fresh_set lives.1 lives.0) set limit max lives.4 lives.5 lives.6
+      (demonstrated lives.0 lives.1 lives.2 lives.3 does)

@@ -1,0 +1,4 @@
+pub mod Folds
+pub mod Merges
+pub mod Rounds
+pub mod Runs

@@ -1,0 +1,134 @@
+-- A merge that is cut again and again, and goes on.
+use Rattle.std.specs.Prelude.{◌≡◌, ◌<◌, ◌+◌, ℕ, zero, suc, Bool, true, false, List, [], ◌∷◌, take}
+use Rattle.std.specs.Prelude.{Result, Ok, Err}
+use Rattle.vab_model.specs.declared.state.Image.{Image as ImageOfSlot}
+use Rattle.vab_model.specs.declared.state.Phase.{Phase}
+use Rattle.vab_model.specs.declared.state.Phase.TheVariants.{Idle, Merging}
+use Rattle.vab_model.specs.Commands.{Command, SetActive, Boot, Mark, Print, Digest, Begin, Create}
+use Rattle.vab_model.specs.Commands.{Resize, Delete, Snapshot, Flash, Finish, Cancel, BeginMerge}
+use Rattle.vab_model.specs.Commands.{Merge}
+use Rattle.vab_device.specs.Mounted.{Mounted}
+use Rattle.vab_fbproto.specs.Requests.{Asked, Getvar, Download, Do, MergeAll, BootAndEnd}
+use Rattle.vab_fbproto.specs.Requests.{request_of}
+use Rattle.vab_fbproto.specs.declared.request.BadCommand.{BadCommand}
+use Rattle.vab_exchanges.specs.Session.{Exchange}
+use Rattle.vab_exchanges.specs.Items.{Kept, item_of}
+use Rattle.vab_session.specs.Alone.{IsAlone}
+use Rattle.vab_session.specs.Responses.{response, left_of}
+use Rattle.vab_session.specs.Served.{nothing_staged}
+use Rattle.vab_rounds.specs.Rounds.{Run, Serves, Carries, Installs, Tells, Lives}
+use Rattle.vab_rounds.specs.Folds.{Cut, after_cut, folded}
+
+-- ---- no other update is begun
+
+-- it begins an update, or ends its installation
+abbrev pub is_of_installation : Command → Bool
+is_of_installation (SetActive slot) = false
+is_of_installation Boot = false
+is_of_installation Mark = false
+is_of_installation (Print name) = false
+is_of_installation (Digest name) = false
+is_of_installation Begin = true
+is_of_installation (Create name size) = false
+is_of_installation (Resize name size) = false
+is_of_installation (Delete name) = false
+is_of_installation (Snapshot name size) = false
+is_of_installation (Flash name) = false
+is_of_installation Finish = true
+is_of_installation Cancel = false
+is_of_installation BeginMerge = false
+is_of_installation (Merge blocks) = false
+
+abbrev pub asks_update : Result Asked BadCommand → Bool
+asks_update (Ok (Getvar variable)) = false
+asks_update (Ok (Download size)) = false
+asks_update (Ok (Do command)) = is_of_installation command
+asks_update (Ok MergeAll) = false
+asks_update (Ok BootAndEnd) = false
+asks_update (Err bad) = false
+
+abbrev pub AskNoUpdate : List Exchange → Type 0
+AskNoUpdate [] = Unit {0}
+AskNoUpdate (s ∷ ss) = (asks_update (request_of s.command) ≡ false) × AskNoUpdate ss
+
+abbrev pub BeginsNone : Run → Type 0
+BeginsNone (Serves exchanges unfinished) = AskNoUpdate exchanges
+BeginsNone (Carries command) = is_of_installation command ≡ false
+BeginsNone (Installs set) = ⊥
+BeginsNone (Tells text) = Unit {0}
+BeginsNone (Lives made next) = ⊥
+
+abbrev pub BeginNone : List Cut → Type 0
+BeginNone [] = Unit {0}
+BeginNone (c ∷ cs) = BeginsNone c.run × BeginNone cs
+
+-- ---- how many turns are asked for
+
+abbrev pub turns_of : Command → ℕ
+turns_of (SetActive slot) = 0
+turns_of Boot = 0
+turns_of Mark = 0
+turns_of (Print name) = 0
+turns_of (Digest name) = 0
+turns_of Begin = 0
+turns_of (Create name size) = 0
+turns_of (Resize name size) = 0
+turns_of (Delete name) = 0
+turns_of (Snapshot name size) = 0
+turns_of (Flash name) = 0
+turns_of Finish = 0
+turns_of Cancel = 0
+turns_of BeginMerge = 0
+turns_of (Merge blocks) = blocks
+
+-- by a packet; to merge all is one turn more than blocks are left
+abbrev pub turns_asked : Phase → Result Asked BadCommand → ℕ
+turns_asked phase (Ok (Getvar variable)) = 0
+turns_asked phase (Ok (Download size)) = 0
+turns_asked phase (Ok (Do command)) = turns_of command
+turns_asked phase (Ok MergeAll) = left_of phase + 1
+turns_asked phase (Ok BootAndEnd) = 0
+turns_asked phase (Err bad) = 0
+
+-- by exchanges, one after another
+abbrev pub turns_in : Kept Mounted → List Exchange → ℕ
+turns_in k [] = 0
+turns_in k (s ∷ ss) =
+    turns_asked k.now.state.phase (request_of s.command) + turns_in (item_of response k s).last ss
+
+-- by a verb, where it is done
+abbrev pub turns_done : ℕ → Command → ℕ
+turns_done zero command = 0
+turns_done (suc whole) command = turns_of command
+
+-- by those items of a run that are done, where it begins no update
+abbrev pub turns_by : Mounted → (whole : ℕ) → Run → ℕ
+turns_by first whole (Serves exchanges unfinished) =
+    turns_in (nothing_staged first) (take whole exchanges)
+turns_by first whole (Carries command) = turns_done whole command
+turns_by first whole (Installs set) = 0
+turns_by first whole (Tells text) = 0
+turns_by first whole (Lives made next) = 0
+
+abbrev pub turns_by_all : Mounted → List Cut → ℕ
+turns_by_all first [] = 0
+turns_by_all first (c ∷ cs) = turns_by first c.whole c.run + turns_by_all (after_cut first c) cs
+
+-- ---- the end of a merge
+
+-- No update is left, and this slot alone has images, these ones.
+pub record IsMerged (target : ℕ) (images : List ImageOfSlot) (m : Mounted) : Type 0 where
+  pub idle : m.state.phase ≡ Idle
+  pub alone : IsAlone target images m
+
+-- However often a merge is cut: once those that are acknowledged have asked for one turn more than
+-- blocks were left, it has ended, and the target has its images byte for byte.
+abbrev pub MergesEnd : Type 0
+MergesEnd = (first : Mounted) (cuts : List Cut)
+    → BeginNone cuts
+    → (target left : ℕ)
+    → (images : List ImageOfSlot)
+    → first.state.phase ≡ Merging target left
+    → IsAlone target images first
+    → left < turns_by_all first cuts
+    → IsMerged target images (folded first cuts)

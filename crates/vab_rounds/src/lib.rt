@@ -1,0 +1,7 @@
+//! Many runs of the program, one after another, each begun on what a cut of power left of the one
+//! before.
+#![tactic(auto)]
+
+mod rounds;
+
+pub use rounds::{ends_a_merge, many_rounds, runs_are_rounds};

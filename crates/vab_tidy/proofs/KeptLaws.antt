@@ -1,0 +1,139 @@
+-- What is kept of a device with the table of its slot alone.
+use Rattle.std.proofs.Common.{◌≡◌, ◌∙◌, ℕ, zero, suc, ◌<◌, true, false, refl, ap, arith}
+use Rattle.std.proofs.Common.{subst}
+use Rattle.std.specs.Prelude.{◌==◌, if◌then◌else◌, Option, Some, None, is_some}
+use Rattle.vab_geometry.specs.declared.geometry.Geometry.{Geometry}
+use Rattle.vab_geometry.specs.Geometry.{IsGeometry}
+use Rattle.vab_tables.specs.declared.table.Table.{Table}
+use Rattle.vab_marks.specs.declared.mark.MarkPhase.TheVariants as marks
+use Rattle.vab_layout.specs.Slots.{other_slot}
+use Rattle.vab_device.specs.declared.device.Device.{Device}
+use Rattle.vab_device.specs.Kept.{IsDevice, IsTableOf, IsKeptTable, IsUpdate, table_of_slot}
+use Rattle.vab_device.specs.Kept.{lies_in, reads_both}
+use Rattle.vab_tidy.specs.declared.prepared.Alone.{Alone}
+use Rattle.vab_tidy.specs.Kept.{with_table}
+use Rattle.vab_tidy.specs.Planned.{IsAlone}
+use Rattle.vab_tidy.proofs.AloneLaws.{device_is}
+
+-- the kept table of a slot
+kept_at : (size : ℕ) (g : Geometry) (n : ℕ) (a b : Option Table) (t : Table)
+    → n < 2
+    → IsKeptTable size g 0 a
+    → IsKeptTable size g 1 b
+    → (if n == 0 then a else b) ≡ Some t
+    → IsTableOf size g n t
+kept_at size g zero a b t below of_a of_b is = subst (IsKeptTable size g 0) is of_a
+kept_at size g (suc zero) a b t below of_a of_b is = subst (IsKeptTable size g 1) is of_b
+kept_at size g (suc (suc n)) a b t below of_a of_b is = absurd (omega (arith, below))
+
+pub kept_table : (d : Device) (size : ℕ) (t : Table)
+    → IsDevice d size
+    → table_of_slot d d.mark.slot ≡ Some t
+    → IsTableOf size d.geometry d.mark.slot t
+kept_table d size t dev is =
+    kept_at size d.geometry d.mark.slot d.table_a d.table_b t dev.slot dev.table_a dev.table_b is
+
+some_at : (x : Option Table) → is_some x ≡ true → (t : Table) × (x ≡ Some t)
+some_at None is = absurd (let no : false ≡ true = is in cc)
+some_at (Some t) is = (t, refl)
+
+-- there is one of the slot of the mark
+pub has_table : (d : Device) (size : ℕ)
+    → IsDevice d size
+    → (t : Table) × (table_of_slot d d.mark.slot ≡ Some t)
+has_table d size dev = some_at (table_of_slot d d.mark.slot) dev.source
+
+-- the table of the slot alone keeps the rules of a kept table
+pub alone_of : (size slot : ℕ) (g : Geometry) (t : Table) (x : Alone)
+    → IsGeometry g
+    → IsTableOf size g slot t
+    → IsAlone g.max slot t x
+    → IsTableOf size g slot x.table
+alone_of size slot g t x geometry of is = record {
+  rules = is.rules;
+  small = omega (arith, is.size, geometry.most);
+  own = is.own;
+  lies = ap (lies_in size g) (device_is slot t x.table is.layout) ∙ of.lies;
+}
+
+-- ---- the device with it
+
+with_a : (size : ℕ) (g : Geometry) (n : ℕ) (x : Option Table) (u : Table)
+    → n < 2
+    → IsTableOf size g n u
+    → IsKeptTable size g 0 x
+    → IsKeptTable size g 0 (if n == 0 then Some u else x)
+with_a size g zero x u below of was = of
+with_a size g (suc zero) x u below of was = was
+with_a size g (suc (suc n)) x u below of was = absurd (omega (arith, below))
+
+with_b : (size : ℕ) (g : Geometry) (n : ℕ) (x : Option Table) (u : Table)
+    → n < 2
+    → IsTableOf size g n u
+    → IsKeptTable size g 1 x
+    → IsKeptTable size g 1 (if n == 0 then x else Some u)
+with_b size g zero x u below of was = was
+with_b size g (suc zero) x u below of was = of
+with_b size g (suc (suc n)) x u below of was = absurd (omega (arith, below))
+
+own_at : (n : ℕ) (a b : Option Table) (u : Table)
+    → n < 2
+    → (if n == 0 then (if n == 0 then Some u else a) else (if n == 0 then b else Some u)) ≡ Some u
+own_at zero a b u below = refl
+own_at (suc zero) a b u below = refl
+own_at (suc (suc n)) a b u below = absurd (omega (arith, below))
+
+other_at : (n : ℕ) (a b : Option Table) (u : Table)
+    → n < 2
+    → (if other_slot n == 0
+    then (if n == 0 then Some u else a)
+    else (if n == 0 then b else Some u))
+    ≡ (if other_slot n == 0 then a else b)
+other_at zero a b u below = refl
+other_at (suc zero) a b u below = refl
+other_at (suc (suc n)) a b u below = absurd (omega (arith, below))
+
+no_update : (source : ℕ) (s t : Option Table) → is_some t ≡ false → IsUpdate source s t
+no_update source None t none = tt
+no_update source (Some s) None none = tt
+no_update source (Some s) (Some t) none = absurd (let no : true ≡ false = none in cc)
+
+-- the table that is kept of the slot
+pub table_now : (d : Device) (u : Table)
+    → d.mark.slot < 2
+    → table_of_slot (with_table u d) d.mark.slot ≡ Some u
+table_now d u below = own_at d.mark.slot d.table_a d.table_b u below
+
+pub table_kept : (d : Device) (size : ℕ) (u : Table)
+    → IsDevice d size
+    → d.mark.phase ≡ marks.Idle
+    → IsTableOf size d.geometry d.mark.slot u
+    → IsDevice (with_table u d) size
+table_kept d size u dev idle of =
+    let other : table_of_slot (with_table u d) (other_slot d.mark.slot)
+    ≡ table_of_slot d (other_slot d.mark.slot) =
+    other_at d.mark.slot d.table_a d.table_b u dev.slot in
+    record {
+      enough = dev.enough;
+      geometry = dev.geometry;
+      control = dev.control;
+      phase = dev.phase;
+      slot = dev.slot;
+      current = dev.current;
+      has_a = dev.has_a;
+      has_b = dev.has_b;
+      copies_on = dev.copies_on;
+      parts_a = dev.parts_a;
+      parts_b = dev.parts_b;
+      table_a = with_a size d.geometry d.mark.slot d.table_a u dev.slot of dev.table_a;
+      table_b = with_b size d.geometry d.mark.slot d.table_b u dev.slot of dev.table_b;
+      source = ap is_some (table_now d u dev.slot);
+      target = ap is_some other ∙ dev.target;
+      planned = dev.planned;
+      plan = dev.plan;
+      update =
+          no_update d.mark.slot
+          (table_of_slot (with_table u d) d.mark.slot)
+          (table_of_slot (with_table u d) (other_slot d.mark.slot))
+          (ap is_some other ∙ dev.target ∙ ap reads_both idle);
+    }

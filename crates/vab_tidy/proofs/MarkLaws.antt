@@ -1,0 +1,147 @@
+-- The mark of no update in place of that of a merge that has ended: all is read as before.
+use Rattle.std.proofs.Common.{◌≡◌, ◌≢◌, ◌∙◌, ℕ, ◌≤◌, [], ◌∷◌, Result, Ok, Err, refl}
+use Rattle.std.proofs.Common.{inl, sym, ap, arith, true, false}
+use Rattle.vab_disk.specs.Disk.{Image}
+use Rattle.vab_bootctl.specs.Control.{control_of}
+use Rattle.vab_marks.specs.declared.mark.MarkPhase.{MarkPhase}
+use Rattle.vab_marks.specs.declared.mark.MarkPhase.TheVariants as marks
+use Rattle.vab_marks.specs.declared.mark.UpdateMark.{UpdateMark}
+use Rattle.vab_marks.specs.declared.sector.MarkFault.{MarkFault}
+use Rattle.vab_marks.specs.Mark.{mark_of}
+use Rattle.vab_geometry.specs.declared.geometry.Geometry.{Geometry}
+use Rattle.vab_lpstore.specs.Layout.{primary_of, backup_of}
+use Rattle.vab_lpstore.specs.Storing.{SameElsewhere}
+use Rattle.vab_tables.specs.declared.table.Table.{Table}
+use Rattle.vab_device.specs.declared.device.Device.{Device}
+use Rattle.vab_device.specs.Reading.{Read, kept, device, SameRead, Represents, mark_read, mark_in}
+use Rattle.vab_device.specs.Reading.{IsOfTables, settled}
+use Rattle.vab_device.proofs.Behind.{images_behind}
+use Rattle.vab_device.proofs.ReadingLaws.{reads_kept, device_same}
+use Rattle.vab_device.proofs.SameLaws.{control_same, geometry_same, tables_agree, images_same}
+use Rattle.vab_device.proofs.StayLaws.{copy_stays, copies_from}
+use Rattle.vab_device.proofs.StoreLaws.{statuses_kept}
+use Rattle.vab_tidy.specs.Tidied.{idle_mark, completed_mark, HasCompleted, is_completed}
+use Rattle.vab_tidy.specs.Tidied.{says_completed}
+use Rattle.vab_tidy.proofs.StandsLaws.{StandsIdle, read_at}
+
+-- a merge that has ended is read as no update
+pub completed_idle : (slot : ℕ) (image : Image)
+    → HasCompleted slot image
+    → mark_in image ≡ Ok (idle_mark slot)
+unfolding mark_in
+completed_idle slot image is = ap mark_read is
+
+-- what the disk was read with where a merge has ended
+pub completed_is : (slot : ℕ) (m : UpdateMark) (image : Image)
+    → mark_in image ≡ Ok m
+    → HasCompleted slot image
+    → m ≡ idle_mark slot
+completed_is slot m image read is =
+    let both : Ok m ≡ Ok (idle_mark slot) = sym read ∙ completed_idle slot image is in
+    cc
+
+completed_phase : (p : MarkPhase) → is_completed p ≡ true → p ≡ marks.Completed
+completed_phase marks.Idle is = absurd cc
+completed_phase marks.Installing is = absurd cc
+completed_phase marks.Staged is = absurd cc
+completed_phase marks.Merging is = absurd cc
+completed_phase marks.Completed is = refl
+
+says_slot : (x : Result UpdateMark MarkFault) (m : UpdateMark)
+    → mark_read x ≡ Ok m
+    → says_completed x ≡ true
+    → x ≡ Ok (completed_mark m.slot)
+says_slot (Ok k) m read is =
+    let same : record k { phase = settled k.phase } ≡ m = cc in
+    let slot : k.slot ≡ m.slot = ap (λ (x : UpdateMark). x.slot) same in
+    let phase = completed_phase k.phase is in
+    (λ i. Ok (record { phase = phase i; slot = slot i }))
+says_slot (Err f) m read is = absurd cc
+
+-- the merge that has ended is that of the slot of the mark
+pub says_of : (m : UpdateMark) (image : Image)
+    → mark_in image ≡ Ok m
+    → says_completed (mark_of (image 2048)) ≡ true
+    → HasCompleted m.slot image
+unfolding mark_in
+says_of m image read is = says_slot (mark_of (image 2048)) m read is
+
+pub says_none : (slot : ℕ) (image : Image)
+    → says_completed (mark_of (image 2048)) ≡ false
+    → HasCompleted slot image
+    → ⊥
+says_none slot image not is =
+    let said : true ≡ false = sym (ap says_completed is) ∙ not in
+    cc
+
+-- so is the mark of no update
+pub idle_there : (slot : ℕ) (image : Image)
+    → mark_of (image 2048) ≡ Ok (idle_mark slot)
+    → mark_in image ≡ Ok (idle_mark slot)
+unfolding mark_in
+idle_there slot image is = ap mark_read is
+
+-- the mark stays where copies of a table are written
+pub completed_stays : (g : Geometry) (slot k n : ℕ) (old new : Image)
+    → SameElsewhere g slot n old new
+    → HasCompleted k old
+    → HasCompleted k new
+unfolding primary_of backup_of
+completed_stays g slot k n old new others has =
+    let same : new 2048 ≡ old 2048 = others 2048 (inl (omega arith)) (inl (omega arith)) in
+    ap mark_of same ∙ has
+
+module _
+    (d : Device) (size : ℕ) (old : Image) (t : Table)
+    (st : StandsIdle d size old t)
+    (image : Image)
+    (elsewhere : (s : ℕ) → s ≢ 2048 → image s ≡ old s)
+    (mark : mark_in image ≡ Ok (idle_mark d.mark.slot)) where
+  abbrev r : Read
+  r = read_at d.mark.slot d.control d.geometry t
+
+  behind : (s : ℕ) → 4096 ≤ s → image s ≡ old s
+  behind s le = elsewhere s (λ e. omega (arith, e, le))
+
+  of_tables : (s : ℕ) → IsOfTables d.geometry (d.mark.slot ∷ []) s → image s ≡ old s
+  of_tables s there =
+      elsewhere s (λ e. omega (arith, e, copies_from d.geometry (d.mark.slot ∷ []) s there))
+
+  same_read : SameRead size (read_at d.mark.slot d.control d.geometry t) old image
+  same_read = record {
+    mark = mark ∙ sym st.reads.mark;
+    statuses = statuses_kept false old image
+        (λ read s is. elsewhere s (λ e. omega (arith, e, is.from)));
+    control = control_same _ _ old image (elsewhere 4 (λ e. omega (arith, e)));
+    geometry = geometry_same size old image
+        (elsewhere 4104 (λ e. omega (arith, e)))
+        (elsewhere 4112 (λ e. omega (arith, e)));
+    tables = tables_agree size d.geometry (d.mark.slot ∷ []) old image of_tables;
+    stores = refl;
+    images_a = images_same old image (kept r).a
+        (λ s is. behind s (images_behind size 4096 0 _ _ r old s st.reads (omega arith) is));
+    images_b = images_same old image (kept r).b
+        (λ s is. behind s (images_behind size 4096 1 _ _ r old s st.reads (omega arith) is));
+    plan = refl;
+  }
+
+  pub marked_means : device size image ≡ device size old
+  marked_means =
+      device_same size (read_at d.mark.slot d.control d.geometry t) old image st.reads same_read
+
+  pub marked_represents : Represents d size image
+  marked_represents = record {
+    read = read_at d.mark.slot d.control d.geometry t;
+    reads =
+        reads_kept size (read_at d.mark.slot d.control d.geometry t) old image st.reads same_read;
+    is = st.is;
+    control = ap control_of (elsewhere 4 (λ e. omega (arith, e))) ∙ st.control;
+    copies = (
+      (
+        st.copies.0.0,
+        st.copies.0.1,
+        copy_stays d.geometry d.mark.slot st.copies.0.0 old image of_tables st.copies.0.2,
+      ),
+      tt,
+    );
+  }

@@ -1,0 +1,136 @@
+-- A device without an update, as it is read of its disk.
+use Rattle.std.proofs.Common.{◌≡◌, ◌∙◌, ℕ, zero, suc, ◌<◌, List, [], ◌∷◌, Result, Ok, refl, sym, ap}
+use Rattle.std.proofs.Common.{subst, arith, false}
+use Rattle.std.specs.Prelude.{Option, Some, ◌==◌}
+use Rattle.vab_disk.specs.Disk.{Image}
+use Rattle.vab_bootctl.specs.declared.slots.Control.{Control}
+use Rattle.vab_bootctl.specs.Control.{control_of}
+use Rattle.vab_marks.specs.declared.mark.MarkPhase.{MarkPhase}
+use Rattle.vab_marks.specs.declared.mark.MarkPhase.TheVariants as marks
+use Rattle.vab_marks.specs.declared.status.PartStatus.{PartStatus}
+use Rattle.vab_statuses.specs.Statuses.{written_in}
+use Rattle.vab_geometry.specs.declared.geometry.Geometry.{Geometry}
+use Rattle.vab_tables.specs.declared.table.Table.{Table}
+use Rattle.vab_device.specs.declared.device.Device.{Device}
+use Rattle.vab_device.specs.Idle.{idle_read, control_read_of}
+use Rattle.vab_device.specs.Kept.{table_of_slot}
+use Rattle.vab_device.specs.Phases.{phase_at}
+use Rattle.vab_device.specs.Reading.{Read, Reads, Represents, AgreeCopies, statuses_at, control_in}
+use Rattle.vab_device.specs.Stores.{scans_in}
+use Rattle.vab_device.proofs.ReadingLaws.{one_table, control_is_seen}
+use Rattle.vab_device.proofs.UpdateLaws.{kept_with}
+use Rattle.vab_tidy.specs.Tidied.{idle_mark}
+
+-- the reading of a device without an update
+abbrev pub read_at : ℕ → Control → Geometry → Table → Read
+read_at slot c g t = idle_read (idle_mark slot) c g t
+
+-- The disk is read so, and is the kept device, whose slot has this table.
+pub record StandsIdle (d : Device) (size : ℕ) (image : Image) (t : Table) : Type 0 where
+  pub reads : Reads size (read_at d.mark.slot d.control d.geometry t) image
+  pub is : d ≡ kept_with (read_at d.mark.slot d.control d.geometry t) d.control
+  pub control : control_of (image 4) ≡ Ok d.control
+  pub copies : AgreeCopies d.geometry (d.mark.slot ∷ []) (t ∷ []) image
+
+no_statuses : (image : Image) (ss : List (Option PartStatus)) → statuses_at false image ≡ Ok ss → ss ≡ []
+unfolding statuses_at
+no_statuses image ss is =
+    let both : Result.Ok [] ≡ Ok ss = is in
+    cc
+
+-- the table that is kept of the slot
+kept_table : (slot : ℕ) (c seen : Control) (g : Geometry) (t : Table)
+    → slot < 2
+    → table_of_slot (kept_with (read_at slot seen g t) c) slot ≡ Some t
+kept_table zero c seen g t below = refl
+kept_table (suc zero) c seen g t below = refl
+kept_table (suc (suc n)) c seen g t below = absurd (omega (arith, below))
+
+module _
+    (d : Device) (size : ℕ) (image : Image) (t : Table)
+    (below : d.mark.slot < 2)
+    (idle : d.mark.phase ≡ marks.Idle)
+    (has : table_of_slot d d.mark.slot ≡ Some t)
+    (is : Represents d size image) where
+  abbrev r : Read
+  r = is.read
+
+  own : d.mark.slot ≡ r.mark.slot
+  own = ap (λ (k : Device). k.mark.slot) is.is
+
+  geometry : d.geometry ≡ r.geometry
+  geometry = ap (λ (k : Device). k.geometry) is.is
+
+  phase : r.mark.phase ≡ marks.Idle
+  phase = sym (ap (λ (k : Device). k.mark.phase) is.is) ∙ idle
+
+  one : (u : Table) × (r.tables ≡ u ∷ [])
+  one = one_table size r image phase is.reads
+
+  statuses : r.statuses ≡ []
+  statuses =
+      no_statuses image r.statuses
+      (subst (λ (p : MarkPhase). statuses_at (phase_at p).reads_statuses image ≡ Ok r.statuses)
+      phase is.reads.statuses)
+
+  scanned : r.scanned ≡ []
+  scanned =
+      let none : Result.Ok [] ≡ Ok r.scanned =
+      subst
+      (λ (p : MarkPhase).
+      scans_in ((phase_at p).stores r.mark.slot r.tables (written_in r.statuses)) image
+      ≡ Ok r.scanned)
+      phase is.reads.stores in
+      cc
+
+  seen : r.control ≡ control_read_of r.mark.slot d.control
+  seen =
+      control_is_seen (r.mark.slot == 0) (r.mark.slot == 1) image d.control r.control
+      (subst
+      (λ (p : MarkPhase).
+      control_in ((phase_at p).has_a r.mark.slot) ((phase_at p).has_b r.mark.slot) image
+      ≡ Ok r.control)
+      phase is.reads.control)
+      is.control
+
+  shape : r ≡ read_at r.mark.slot d.control r.geometry one.0
+  shape = (λ i. record {
+    mark = record { phase = phase i; slot = r.mark.slot };
+    statuses = statuses i;
+    control = seen i;
+    geometry = r.geometry;
+    tables = one.1 i;
+    scanned = scanned i;
+  })
+
+  same : one.0 ≡ t
+  same =
+      let there : table_of_slot d d.mark.slot ≡ Some one.0 =
+      ap (λ (k : Device). table_of_slot k d.mark.slot)
+      (is.is ∙ ap (λ (x : Read). kept_with x d.control) shape)
+      ∙ subst
+      (λ (n : ℕ).
+      table_of_slot
+      (kept_with (read_at r.mark.slot d.control r.geometry one.0) d.control)
+      n
+      ≡ Some one.0)
+      (sym own)
+      (kept_table r.mark.slot d.control d.control r.geometry one.0
+      (subst (λ (n : ℕ). n < 2) own below)) in
+      let both : Some one.0 ≡ Some t = sym there ∙ has in
+      cc
+
+  whole : r ≡ read_at d.mark.slot d.control d.geometry t
+  whole = shape ∙ (λ i. read_at (sym own i) d.control (sym geometry i) (same i))
+
+  pub stands_idle : StandsIdle d size image t
+  stands_idle = record {
+    reads = subst (λ (x : Read). Reads size x image) whole is.reads;
+    is = is.is ∙ ap (λ (x : Read). kept_with x d.control) whole;
+    control = is.control;
+    copies =
+        subst
+        (λ (x : Read).
+        AgreeCopies x.geometry ((phase_at x.mark.phase).tables x.mark.slot) x.tables image)
+        whole is.copies;
+  }

@@ -1,0 +1,6 @@
+pub mod Counts
+pub mod Kept
+pub mod Planned
+pub mod Stays
+pub mod Tidied
+pub mod Writes
