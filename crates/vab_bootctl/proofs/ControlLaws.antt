@@ -7,7 +7,7 @@ use Rattle.std.proofs.lemmas.Bool.{not-false, eqb-true, eq-eqb, not_from_true, c
 use Rattle.std.proofs.lemmas.Slice.Eq.{bytes_eq-Decides}
 use Rattle.std.proofs.lemmas.List.{places}
 use Rattle.vab_bytes.specs.Number.{IsBytes, field, le_at, put_at}
-use Rattle.vab_bytes.specs.NumberLaws.{IsBytes-field, le_at_is_32, le_at_spelled_32, get_or-put_at_below, get_or-put_at_above, length-put_at, field-put_at_same, field-put_at_below, same_field}
+use Rattle.vab_bytes.proofs.NumberLaws.{IsBytes-field, le_at_is_32, le_at_spelled_32, get_or-put_at_below, get_or-put_at_above, length-put_at, field-put_at_same, field-put_at_below, same_field}
 use Rattle.vab_bytes.specs.Crc.{crc_of}
 use Rattle.vab_bytes.proofs.CrcLaws.{crc_fits}
 use Rattle.vab_bootctl.specs.declared.slots.Info.{Info}

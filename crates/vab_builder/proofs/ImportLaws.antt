@@ -20,10 +20,10 @@ use Rattle.std.proofs.lemmas.Slice.Eq.{bytes_eq-Decides}
 use Rattle.vab_bytes.specs.Name.{is_name}
 use Rattle.vab_names.specs.Names.{is_of_slot, base_of, in_slot, is_store, store_of, default_name}
 use Rattle.vab_names.specs.Names.{store_group_name}
-use Rattle.vab_names.specs.NameLaws.{of_slot_long, length-base_of, in_slot_is_name}
+use Rattle.vab_names.proofs.NameLaws.{of_slot_long, length-base_of, in_slot_is_name}
 use Rattle.vab_tables.specs.declared.entries.Group.{Group}
 use Rattle.vab_tables.specs.Rules.{cap_of, is_shared, has_slot, IsGroup, NamesDiffer}
-use Rattle.vab_tables.specs.RuleLaws.{has_slot-suffix}
+use Rattle.vab_tables.proofs.RuleLaws.{has_slot-suffix}
 use Rattle.vab_layout.specs.declared.layout.Part.{Part}
 use Rattle.vab_layout.specs.declared.layout.Layout.{Layout}
 use Rattle.vab_blocks.specs.Runs.{runs_of}

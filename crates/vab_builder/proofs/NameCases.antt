@@ -7,11 +7,11 @@ use Rattle.std.proofs.lemmas.Bool.Decides.{Decides-eqb}
 use Rattle.std.proofs.lemmas.Slice.Eq.{bytes_eq-Decides, ends_is}
 use Rattle.std.proofs.lemmas.List.{append_cancel_right, same_from_push}
 use Rattle.vab_bytes.specs.Name.{is_name, IsName}
-use Rattle.vab_bytes.specs.NameLaws.{name_bytes}
+use Rattle.vab_bytes.proofs.NameLaws.{name_bytes}
 use Rattle.vab_names.specs.Names.{is_base, is_short, suffix_of, is_of_slot, base_of, in_slot}
 use Rattle.vab_names.specs.Names.{is_full, is_store, store_of, store_suffix, default_name}
 use Rattle.vab_names.specs.Names.{store_group_name}
-use Rattle.vab_names.specs.NameLaws.{of_slot, of_slot_long, is_slot, full_is_name, length-base_of}
+use Rattle.vab_names.proofs.NameLaws.{of_slot, of_slot_long, is_slot, full_is_name, length-base_of}
 
 -- ---- texts
 

@@ -3,7 +3,7 @@ use Rattle.std.proofs.Common.{◌^◌, arith, ◌≡◌, ℕ, ◌<◌, ◌≤◌
 use Rattle.std.specs.Prelude.{All, Contains}
 use Rattle.std.proofs.lemmas.List.Elements.{All-contains}
 use Rattle.vab_names.specs.Names.{is_of_slot}
-use Rattle.vab_names.specs.NameLaws.{of_slot_long}
+use Rattle.vab_names.proofs.NameLaws.{of_slot_long}
 use Rattle.vab_layout.specs.declared.layout.Part.{Part}
 use Rattle.vab_layout.specs.Slots.{own_parts, IsOwn, IsOwnPart}
 use Rattle.vab_builder.proofs.Counting.{in_filter}

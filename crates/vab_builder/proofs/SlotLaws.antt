@@ -10,7 +10,7 @@ use Rattle.std.proofs.lemmas.Slice.Eq.{ends_is}
 use Rattle.std.proofs.lemmas.List.{same_from_push}
 use Rattle.vab_names.specs.Names.{suffix_of, is_of_slot, base_of, in_slot, store_suffix, is_store}
 use Rattle.vab_names.specs.Names.{store_of, default_name, store_group_name}
-use Rattle.vab_names.specs.NameLaws.{of_slot, is_slot, base_of-append}
+use Rattle.vab_names.proofs.NameLaws.{of_slot, is_slot, base_of-append}
 use Rattle.vab_layout.specs.Slots.{other_slot}
 
 -- ---- the slots

@@ -13,7 +13,7 @@ use Rattle.std.proofs.lemmas.List.Quantifiers.{all_pairs_push}
 use Rattle.std.proofs.lemmas.List.Sums.{sum_by_push, sum_by-cons}
 use Rattle.vab_bytes.specs.Name.{is_name}
 use Rattle.vab_names.specs.Names.{is_of_slot, is_store, store_of}
-use Rattle.vab_names.specs.NameLaws.{store_is_name}
+use Rattle.vab_names.proofs.NameLaws.{store_is_name}
 use Rattle.vab_tables.specs.declared.entries.Group.{Group}
 use Rattle.vab_tables.specs.Rules.{cap_of, IsGroup, is_shared, has_slot}
 use Rattle.vab_layout.specs.declared.layout.Part.{Part}

@@ -1,5 +1,4 @@
 pub mod Number
-pub mod NumberLaws
 pub mod Name
-pub mod NameLaws
+pub mod NameView
 pub mod Crc

@@ -33,7 +33,7 @@ impl Model for Name36 {
 
     ghost inverse = { λ text. record { bytes = name_field text; len = length text } };
 
-    ghost use Rattle.vab_bytes.specs.NameLaws.{held_again};
+    ghost use Rattle.vab_bytes.specs.NameView.{held_again};
 
     ghost inverse_ok = { held_again };
 }
@@ -119,7 +119,7 @@ fn name_in(field: &[u8; 36]) -> Option<Name36>
 
 impl Name36 {
     /// The name with this text; `BadName` where the text is no name.
-    #[tactic(auto, using(crate::specs::NameLaws::name_fits))]
+    #[tactic(auto, using(crate::proofs::NameLaws::name_fits))]
     pub fn parse(text: &[u8]) -> Result<Name36, BadName>
         ensures ok { IfOk result (λ n. n ≡ text.now) }
         ensures exact { IsOk result ↔ IsName text.now }

@@ -12,7 +12,7 @@ use Rattle.vab_copies.specs.Copies.{IsOfCopy}
 use Rattle.vab_geometry.specs.declared.geometry.Geometry.{Geometry}
 use Rattle.vab_tables.specs.declared.table.Table.{Table}
 use Rattle.vab_tables.specs.Text.{IsTableText, text_size_of}
-use Rattle.vab_tables.specs.FrontLaws.{text_size_fits}
+use Rattle.vab_tables.proofs.FrontLaws.{text_size_fits}
 use Rattle.vab_lpstore.specs.Layout.{primary_of, backup_of, text_sectors}
 use Rattle.vab_lpstore.specs.Storing.{IsOfRepair}
 use Rattle.vab_layout.specs.declared.layout.Layout.{Layout}

@@ -5,7 +5,7 @@ use Rattle.std.specs.Prelude.{Option, Some, None, Contains, if◌then◌else◌}
 use Rattle.std.specs.Str.{bytes_eq}
 use Rattle.std.proofs.lemmas.Bool.{cases_Bool, both_ways}
 use Rattle.vab_names.specs.Names.{is_of_slot, store_of, base_of, suffix_of}
-use Rattle.vab_names.specs.NameLaws.{of_slot}
+use Rattle.vab_names.proofs.NameLaws.{of_slot}
 use Rattle.vab_layout.specs.declared.layout.Part.{Part}
 use Rattle.vab_layout.specs.declared.layout.Layout.{Layout}
 use Rattle.vab_layout.specs.Slots.{own_parts, blocks_named}

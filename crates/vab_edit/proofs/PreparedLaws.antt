@@ -6,7 +6,7 @@ use Rattle.std.specs.Prelude.{AllPairs, nat_le}
 use Rattle.std.proofs.lemmas.List.Elements.{All-contains, Contains-append_right}
 use Rattle.std.proofs.lemmas.List.Kept.{AllPairs-filter}
 use Rattle.vab_names.specs.Names.{base_of, is_of_slot, suffix_of}
-use Rattle.vab_names.specs.NameLaws.{of_slot}
+use Rattle.vab_names.proofs.NameLaws.{of_slot}
 use Rattle.vab_tables.specs.declared.table.Table.{Table}
 use Rattle.vab_tables.specs.Rules.{KeepsRules}
 use Rattle.vab_tables.specs.Spelling.{table_size_of, as_minor_2}

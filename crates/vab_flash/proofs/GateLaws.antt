@@ -11,7 +11,7 @@ use Rattle.std.proofs.lemmas.List.Elements.{All-contains}
 use Rattle.vab_disk.specs.Disk.{Image}
 use Rattle.vab_bootctl.specs.Control.{control_of}
 use Rattle.vab_names.specs.Names.{is_of_slot, base_of, store_of, suffix_of}
-use Rattle.vab_names.specs.NameLaws.{of_slot}
+use Rattle.vab_names.proofs.NameLaws.{of_slot}
 use Rattle.vab_model.specs.declared.state.PlanImage.{PlanImage}
 use Rattle.vab_model.specs.declared.state.PlanImage.TheVariants as models
 use Rattle.vab_model.specs.declared.state.PlanEntry.{PlanEntry}

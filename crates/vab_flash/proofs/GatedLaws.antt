@@ -18,7 +18,7 @@ use Rattle.vab_disk.specs.Disk.{Image, set_sector}
 use Rattle.vab_disk.specs.Calls.{InSectors, SameBut}
 use Rattle.vab_exceptions.specs.declared.area.Exception.{Exception}
 use Rattle.vab_names.specs.Names.{base_of, suffix_of}
-use Rattle.vab_names.specs.NameLaws.{of_slot}
+use Rattle.vab_names.proofs.NameLaws.{of_slot}
 use Rattle.vab_builder.proofs.NameCases.{base_short, full_slot, same_name}
 use Rattle.vab_layout.specs.Slots.{other_slot}
 use Rattle.vab_marks.specs.declared.status.PartStatus.{PartStatus}

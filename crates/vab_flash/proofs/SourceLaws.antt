@@ -9,7 +9,7 @@ use Rattle.std.proofs.lemmas.List.{get_or-map, length-map, get_or-take}
 use Rattle.std.proofs.lemmas.List.Elements.{Contains-get_or}
 use Rattle.vab_disk.specs.Disk.{Image}
 use Rattle.vab_names.specs.Names.{is_of_slot, base_of, in_slot, suffix_of}
-use Rattle.vab_names.specs.NameLaws.{of_slot, base_of-append}
+use Rattle.vab_names.proofs.NameLaws.{of_slot, base_of-append}
 use Rattle.vab_exceptions.specs.declared.area.Exception.{Exception}
 use Rattle.vab_store.specs.Layout.{IsApart, AreDisjoint}
 use Rattle.vab_store.specs.View.{view_of, exception_at}

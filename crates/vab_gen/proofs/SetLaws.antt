@@ -12,7 +12,7 @@ use Rattle.std.proofs.lemmas.List.{get_or_append_left, get_or-replicate, get_or_
 use Rattle.std.proofs.lemmas.List.{length-take, length-map, length-replicate}
 use Rattle.std.proofs.lemmas.List.Elements.{All-nil, All-cons, All-head, All-tail}
 use Rattle.vab_bytes.specs.Number.{IsBytes}
-use Rattle.vab_bytes.specs.NumberLaws.{IsBytes-field}
+use Rattle.vab_bytes.proofs.NumberLaws.{IsBytes-field}
 use Rattle.vab_bytes.specs.Name.{is_name}
 use Rattle.vab_names.specs.Names.{is_base}
 use Rattle.vab_space.specs.Space.{blocks_of}

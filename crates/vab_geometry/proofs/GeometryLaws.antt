@@ -9,7 +9,7 @@ use Rattle.std.proofs.lemmas.Slice.Eq.{bytes_eq-Decides}
 use Rattle.std.proofs.Math.Seq.{take-add}
 use Rattle.sha2.specs.Sha256.{sha256, digest_bytes}
 use Rattle.vab_bytes.specs.Number.{IsBytes, field, le_at}
-use Rattle.vab_bytes.specs.NumberLaws.{le_at_spelled_32, le_at_is_32, field-field}
+use Rattle.vab_bytes.proofs.NumberLaws.{le_at_spelled_32, le_at_is_32, field-field}
 use Rattle.vab_geometry.specs.declared.geometry.Geometry.{Geometry}
 use Rattle.vab_geometry.specs.declared.geometry.GeometryFault.{GeometryFault}
 use Rattle.vab_geometry.specs.declared.geometry.GeometryFault.TheVariants.{BadMagic, BadSize, BadSum, BadField}

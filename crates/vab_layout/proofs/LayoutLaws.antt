@@ -21,7 +21,7 @@ use Rattle.vab_tables.specs.declared.entries.BlockDevice.{BlockDevice}
 use Rattle.vab_tables.specs.declared.table.Table.{Table}
 use Rattle.vab_tables.specs.Rules.{cap_of, IsDevice, IsExtent, IsPartition, KeepsRules}
 use Rattle.vab_tables.specs.Spelling.{table_size_of}
-use Rattle.vab_tables.specs.SpellingLaws.{keeps_as_minor_2}
+use Rattle.vab_tables.proofs.SpellingLaws.{keeps_as_minor_2}
 use Rattle.vab_blocks.specs.Blocks.{first_sector_of_devices, first_sector_of, extents_of}
 use Rattle.vab_blocks.specs.Blocks.{blocks_of_extent}
 use Rattle.vab_layout.specs.declared.layout.Part.{Part}

@@ -9,7 +9,7 @@ use Rattle.vab_copies.proofs.CopyLaws.{sectors_split}
 use Rattle.vab_tables.specs.declared.table.Table.{Table}
 use Rattle.vab_tables.specs.Text.{IsTableText, text_size_of}
 use Rattle.vab_tables.specs.Reading.{table_of}
-use Rattle.vab_tables.specs.FrontLaws.{text_size_fits}
+use Rattle.vab_tables.proofs.FrontLaws.{text_size_fits}
 use Rattle.vab_tables.specs.Needs.{need_of}
 use Rattle.vab_tables.proofs.NeedLaws.{need_reads, need_front, need_text, text_size_same}
 use Rattle.vab_lpstore.specs.declared.loaded.Loaded.{Loaded}

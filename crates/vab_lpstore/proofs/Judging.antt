@@ -6,12 +6,12 @@ use Rattle.std.proofs.lemmas.List.{length-take-le, take-take}
 use Rattle.vab_tables.specs.declared.table.Table.{Table}
 use Rattle.std.specs.Int.{w32, from_le_bytes}
 use Rattle.vab_bytes.specs.Number.{field}
-use Rattle.vab_bytes.specs.NumberLaws.{field-field}
+use Rattle.vab_bytes.proofs.NumberLaws.{field-field}
 use Rattle.vab_tables.specs.Text.{IsTableText, text_size_of, header_size_at, tables_size_at}
 use Rattle.vab_tables.specs.declared.fault.TableFault.{TableFault}
 use Rattle.vab_tables.specs.declared.fault.TableFault.TheVariants as faults
 use Rattle.vab_tables.specs.Reading.{table_of, Fails}
-use Rattle.vab_tables.specs.FrontLaws.{text_same_front, text_size_fits}
+use Rattle.vab_tables.proofs.FrontLaws.{text_same_front, text_size_fits}
 use Rattle.vab_lpstore.specs.Layout.{Begins}
 use Rattle.vab_lpstore.specs.Loading.{IsLoaded, IsNoTable}
 use Rattle.vab_lpstore.proofs.StoreLaws.{begins_read}

@@ -13,8 +13,8 @@ use Rattle.vab_tables.specs.declared.table.Table.{Table}
 use Rattle.vab_tables.specs.declared.fault.TableFault.TheVariants as faults
 use Rattle.vab_tables.specs.Text.{IsTableText, text_size_of}
 use Rattle.vab_tables.specs.Reading.{table_of}
-use Rattle.vab_tables.specs.TextLaws.{text_only, zeros_text}
-use Rattle.vab_tables.specs.FrontLaws.{text_same_front, text_size_fits}
+use Rattle.vab_tables.proofs.TextLaws.{text_only, zeros_text}
+use Rattle.vab_tables.proofs.FrontLaws.{text_same_front, text_size_fits}
 use Rattle.vab_lpstore.specs.declared.loaded.Loaded.{Loaded}
 use Rattle.vab_lpstore.specs.Layout.{copy_sectors, primary_of, backup_of, primary_bytes, backup_bytes, text_sectors, Begins, BothHold}
 use Rattle.vab_lpstore.specs.Storing.{SameElsewhere, IsOfRepair, IsOfTable}

@@ -11,9 +11,9 @@ use Rattle.std.proofs.lemmas.List.Elements.{Contains-append_cases}
 use Rattle.std.proofs.lemmas.List.Sums.{sum_by-cons}
 use Rattle.std.proofs.lemmas.List.FromFn.{length-range_with_len, get_or-range_with_len}
 use Rattle.vab_bytes.specs.Name.{is_name, IsName}
-use Rattle.vab_bytes.specs.NameLaws.{name_bytes}
+use Rattle.vab_bytes.proofs.NameLaws.{name_bytes}
 use Rattle.vab_names.specs.Names.{is_base, is_short, suffix_of, is_of_slot, base_of}
-use Rattle.vab_names.specs.NameLaws.{full_is_name, is_slot, base_of-append}
+use Rattle.vab_names.proofs.NameLaws.{full_is_name, is_slot, base_of-append}
 use Rattle.vab_space.specs.Space.{blocks_of}
 use Rattle.vab_tables.specs.declared.entries.Group.{Group}
 use Rattle.vab_tables.specs.Rules.{cap_of, is_shared, has_slot, IsDevice, IsGroup}

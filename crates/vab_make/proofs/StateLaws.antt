@@ -8,7 +8,7 @@ use Rattle.std.proofs.lemmas.List.Elements.{All-head, All-tail}
 use Rattle.std.proofs.lemmas.List.Sums.{sum_by-cons}
 use Rattle.vab_disk.specs.Disk.{Image}
 use Rattle.vab_names.specs.Names.{is_of_slot, base_of}
-use Rattle.vab_names.specs.NameLaws.{base_of-append}
+use Rattle.vab_names.proofs.NameLaws.{base_of-append}
 use Rattle.vab_space.specs.Space.{blocks_of}
 use Rattle.vab_marks.specs.declared.mark.UpdateMark.{UpdateMark}
 use Rattle.vab_marks.specs.declared.mark.MarkPhase.TheVariants as marks

@@ -4,7 +4,7 @@ use Rattle.std.specs.Prelude.{option_map, ok_or}
 use Rattle.std.proofs.lemmas.Bool.{ltb-true, lt-ltb, and_parts, and_from, cond-true}
 use Rattle.std.proofs.lemmas.List.{drop-drop}
 use Rattle.vab_bytes.specs.Number.{IsBytes, field, put_at}
-use Rattle.vab_bytes.specs.NumberLaws.{length-field}
+use Rattle.vab_bytes.proofs.NumberLaws.{length-field}
 use Rattle.vab_bytes.specs.Crc.{crc_of}
 use Rattle.vab_marks.specs.declared.sector.MarkFault.{MarkFault}
 use Rattle.vab_marks.specs.declared.sector.MarkFault.TheVariants.{BadField, BadMagic}

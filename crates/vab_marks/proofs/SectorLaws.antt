@@ -6,7 +6,7 @@ use Rattle.std.proofs.lemmas.Bool.{not-false, eqb-true, eq-eqb, not_from_true, c
 use Rattle.std.proofs.lemmas.Slice.Eq.{bytes_eq-Decides}
 use Rattle.std.proofs.lemmas.List.{drop-replicate, take-replicate, length-replicate, take_all, drop_at, take-append-drop, length-drop, length-append, drop-drop, get_or_append_left, drop-append-le, take-append-le, drop_more, drop-take, take-take, get_or-take}
 use Rattle.vab_bytes.specs.Number.{IsBytes, field, le_at}
-use Rattle.vab_bytes.specs.NumberLaws.{IsBytes-field, le_at_spelled_32, le_at_is_32}
+use Rattle.vab_bytes.proofs.NumberLaws.{IsBytes-field, le_at_spelled_32, le_at_is_32}
 use Rattle.vab_bytes.specs.Crc.{crc_of}
 use Rattle.vab_bytes.proofs.CrcLaws.{crc_fits}
 use Rattle.vab_marks.specs.declared.sector.MarkFault.{MarkFault}

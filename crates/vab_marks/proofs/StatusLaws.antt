@@ -5,9 +5,9 @@ use Rattle.std.specs.Int.{w16, w64, to_le_bytes}
 use Rattle.std.proofs.lemmas.Bool.{eqb-true, eq-eqb, and_parts, and_from, cond-true}
 use Rattle.std.proofs.lemmas.List.{length-replicate, drop-drop, take_at, drop_at, length-append}
 use Rattle.vab_bytes.specs.Number.{IsBytes, field, le_at, put_at}
-use Rattle.vab_bytes.specs.NumberLaws.{length-field, length-put_at, field-put_at_same, field-put_at_below, field-put_at_above, get_or-put_at_below, le_at_fits_64, le_at_spelled_16, le_at_spelled_64, le_at_is_16, le_at_is_64}
+use Rattle.vab_bytes.proofs.NumberLaws.{length-field, length-put_at, field-put_at_same, field-put_at_below, field-put_at_above, get_or-put_at_below, le_at_fits_64, le_at_spelled_16, le_at_spelled_64, le_at_is_16, le_at_is_64}
 use Rattle.vab_bytes.specs.Name.{IsName, name_field, name_of_field}
-use Rattle.vab_bytes.specs.NameLaws.{name_fits, found_name, only_name}
+use Rattle.vab_bytes.proofs.NameLaws.{name_fits, found_name, only_name}
 use Rattle.vab_bytes.specs.Crc.{crc_of}
 use Rattle.vab_marks.specs.declared.sector.MarkFault.{MarkFault}
 use Rattle.vab_marks.specs.declared.sector.MarkFault.TheVariants.{BadField, BadMagic}

@@ -62,7 +62,7 @@ pub fn decode_status(bytes: &[u8; 512]) -> Result<PartStatus, MarkFault>
 }
 
 /// The sector with this status.
-#[tactic(auto, using(vab_bytes::specs::NameLaws::name_fits))]
+#[tactic(auto, using(vab_bytes::proofs::NameLaws::name_fits))]
 pub fn encode_status(status: &PartStatus) -> [u8; 512]
     ensures spelled { result ≡ status_spelling status.now }
     ensures decoded { status_of result ≡ Ok status.now }

@@ -4,8 +4,8 @@ use Rattle.std.specs.Int.{w64, to_le_bytes, from_le_bytes}
 use Rattle.std.proofs.lemmas.Bool.{cases_lt, cases_eq}
 use Rattle.std.proofs.lemmas.Nat.{from_le_bytes-to_le_bytes_8}
 use Rattle.vab_bytes.specs.Number.{field, le_at, put_at}
-use Rattle.vab_bytes.specs.NumberLaws.{length-put_at, field-put_at_same, field-put_at_below}
-use Rattle.vab_bytes.specs.NumberLaws.{field-put_at_above}
+use Rattle.vab_bytes.proofs.NumberLaws.{length-put_at, field-put_at_same, field-put_at_below}
+use Rattle.vab_bytes.proofs.NumberLaws.{field-put_at_above}
 use Rattle.vab_disk.specs.Disk.{Image}
 use Rattle.vab_exceptions.specs.declared.area.Exception.{Exception}
 use Rattle.vab_exceptions.specs.Entries.{entry_at, put_entry}

@@ -7,7 +7,7 @@ use Rattle.vab_disk.specs.Disk.{Image}
 use Rattle.vab_bootctl.specs.declared.slots.Control.{Control}
 use Rattle.vab_names.specs.Names.{suffix_of, store_suffix, is_of_slot, base_of}
 use Rattle.vab_names.specs.Names.{is_store, store_of}
-use Rattle.vab_names.specs.NameLaws.{of_slot}
+use Rattle.vab_names.proofs.NameLaws.{of_slot}
 use Rattle.vab_marks.specs.declared.mark.MarkPhase.TheVariants as marks
 use Rattle.vab_marks.specs.declared.status.PartStatus.{PartStatus}
 use Rattle.vab_geometry.specs.declared.geometry.Geometry.{Geometry}

@@ -13,7 +13,7 @@ use Rattle.std.proofs.lemmas.List.{length-set, append_cancel_right}
 use Rattle.std.proofs.lemmas.List.Folds.{position_or_len-set}
 use Rattle.std.proofs.lemmas.List.Quantifiers.{position-Some}
 use Rattle.vab_names.specs.Names.{suffix_of, store_suffix, is_store}
-use Rattle.vab_names.specs.NameLaws.{length-suffix_of}
+use Rattle.vab_names.proofs.NameLaws.{length-suffix_of}
 use Rattle.vab_tables.specs.declared.table.Table.{Table}
 use Rattle.vab_tables.specs.declared.entries.Partition.{Partition}
 use Rattle.vab_layout.specs.declared.layout.Part.{Part as PartOfLayout}

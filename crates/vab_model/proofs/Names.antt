@@ -2,9 +2,9 @@
 use Rattle.std.proofs.Common.{◌≡◌, ℕ, ◌≤◌, true, List, length, subst, sym, arith}
 use Rattle.std.proofs.lemmas.Bool.{and_parts, leb-true}
 use Rattle.vab_bytes.specs.Name.{is_name, IsName}
-use Rattle.vab_bytes.specs.NameLaws.{name_bytes}
+use Rattle.vab_bytes.proofs.NameLaws.{name_bytes}
 use Rattle.vab_names.specs.Names.{is_base, is_short, is_of_slot, base_of, is_full}
-use Rattle.vab_names.specs.NameLaws.{of_slot, of_slot_long, full_is_name}
+use Rattle.vab_names.proofs.NameLaws.{of_slot, of_slot_long, full_is_name}
 
 -- a full name has a suffix, and a base name before it
 full_parts : (slot : ℕ) (name : List ℕ) → is_full slot name ≡ true → (is_of_slot slot name ≡ true) × (is_base (base_of name) ≡ true)

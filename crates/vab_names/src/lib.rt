@@ -53,7 +53,7 @@ pub fn base_of(name: &[u8]) -> &[u8]
 }
 
 /// The name with the suffix of this slot in place of its own.
-#[tactic(auto, unfolding(crate::specs::Names::in_slot), using(crate::specs::NameLaws::in_slot_is_name))]
+#[tactic(auto, unfolding(crate::specs::Names::in_slot), using(crate::proofs::NameLaws::in_slot_is_name))]
 pub fn in_slot(name: &Name36, slot: usize) -> Name36
     requires slot { slot < 2 }
     requires long { 2 ≤ length name.now }

@@ -9,7 +9,7 @@ use Rattle.std.proofs.lemmas.List.{same_from_push}
 use Rattle.vab_names.specs.Names.{suffix_of, is_of_slot, base_of, is_base, is_short}
 use Rattle.vab_names.specs.Names.{is_store, store_suffix, in_slot}
 use Rattle.vab_bytes.specs.Name.{is_name}
-use Rattle.vab_names.specs.NameLaws.{of_slot, of_slot_long, is_slot, length-base_of}
+use Rattle.vab_names.proofs.NameLaws.{of_slot, of_slot_long, is_slot, length-base_of}
 
 pub same_name : (a b : List ℕ) → bytes_eq a b ≡ true → a ≡ b
 same_name a b h = (bytes_eq-Decides a b).0 h

@@ -10,9 +10,9 @@ use Rattle.std.proofs.lemmas.List.FromFn.{length-range_with_len}
 use Rattle.std.proofs.lemmas.List.Elements.{All-head, All-tail, All-take, All-drop, All-map, All-weaker, filter-append}
 use Rattle.std.proofs.lemmas.List.Sums.{sum_by-cons}
 use Rattle.vab_bytes.specs.Name.{IsName}
-use Rattle.vab_bytes.specs.NameLaws.{name_fits}
+use Rattle.vab_bytes.proofs.NameLaws.{name_fits}
 use Rattle.vab_names.specs.Names.{is_of_slot, base_of}
-use Rattle.vab_names.specs.NameLaws.{joined_name, base_name, length-base_of}
+use Rattle.vab_names.proofs.NameLaws.{joined_name, base_name, length-base_of}
 use Rattle.vab_tables.specs.declared.entries.Extent.{Extent}
 use Rattle.vab_tables.specs.declared.entries.BlockDevice.{BlockDevice}
 use Rattle.vab_tables.specs.declared.entries.Partition.{Partition}

@@ -22,7 +22,7 @@ use Rattle.vab_layout.proofs.LayoutLaws.{layout_keeps}
 use Rattle.vab_layout.specs.Slots.{IsOwnPart}
 use Rattle.vab_partitions.specs.Own.{own_before}
 use Rattle.vab_names.specs.Names.{is_base, base_of}
-use Rattle.vab_names.specs.NameLaws.{length-base_of}
+use Rattle.vab_names.proofs.NameLaws.{length-base_of}
 use Rattle.vab_blocks.specs.Blocks.{first_sector_of}
 use Rattle.std.specs.Prelude.{IsTrue}
 use Rattle.std.proofs.lemmas.Bool.{leb-true, and_parts}

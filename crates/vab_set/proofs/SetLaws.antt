@@ -15,7 +15,7 @@ use Rattle.std.proofs.lemmas.List.{drop-drop}
 use Rattle.std.proofs.lemmas.List.Elements.{All-nil}
 use Rattle.std.proofs.lemmas.List.Quantifiers.{all_pairs_push}
 use Rattle.vab_bytes.specs.Number.{IsBytes, le_at}
-use Rattle.vab_bytes.specs.NumberLaws.{IsBytes-field, le_at_spelled_64, le_at_fits_64, le_at_is_64, le_at_spelled_32, le_at_is_32}
+use Rattle.vab_bytes.proofs.NumberLaws.{IsBytes-field, le_at_spelled_64, le_at_fits_64, le_at_is_64, le_at_spelled_32, le_at_is_32}
 use Rattle.vab_set.specs.declared.set.SetImage.{SetImage}
 use Rattle.vab_set.specs.declared.fault.SetFault.{SetFault}
 use Rattle.vab_set.specs.declared.fault.SetFault.TheVariants as faults

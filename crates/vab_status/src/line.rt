@@ -114,7 +114,7 @@ fn bytes_of(part: &Part) -> u64
 }
 
 /// The line of an image of a slot.
-#[tactic(auto, using(vab_bytes::specs::NameLaws::name_fits))]
+#[tactic(auto, using(vab_bytes::proofs::NameLaws::name_fits))]
 pub(crate) fn image_line(slot: usize, part: &Part) -> Line
     requires { length part.now.map ≤ 2 ^ 28 }
     ensures { result.items ≡ kept.image_line slot part.now }
@@ -143,7 +143,7 @@ fn plan_word(image: &PartImage) -> &'static [u8]
 }
 
 /// The line of a planned partition.
-#[tactic(auto, using(vab_bytes::specs::NameLaws::name_fits))]
+#[tactic(auto, using(vab_bytes::proofs::NameLaws::name_fits))]
 pub(crate) fn plan_line(part: &Part) -> Line
     requires { length part.now.map ≤ 2 ^ 28 }
     ensures { result.items ≡ kept.plan_line part.now }

@@ -1,3 +1,9 @@
+pub mod EntryLaws
+pub mod RuleLaws
+pub mod ListLaws
+pub mod TextLaws
+pub mod FrontLaws
+pub mod SpellingLaws
 pub mod Loop
 pub mod NameSets
 pub mod NeedLaws

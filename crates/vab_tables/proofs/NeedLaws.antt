@@ -14,9 +14,9 @@ use Rattle.vab_tables.specs.Reading.{has_header, has_version, has_header_sum, ha
 use Rattle.vab_tables.specs.Reading.{has_tables_sum, is_bounded, has_bounds, frame_of, table_of}
 use Rattle.vab_tables.specs.Spelling.{table_size_of}
 use Rattle.vab_tables.specs.Needs.{has_whole_header, need_of}
-use Rattle.vab_tables.specs.TextLaws.{text_only}
-use Rattle.vab_tables.specs.FrontLaws.{SameParts, same_parts, flags_same, blank_same, tables_same}
-use Rattle.vab_tables.specs.FrontLaws.{header_size_long}
+use Rattle.vab_tables.proofs.TextLaws.{text_only}
+use Rattle.vab_tables.proofs.FrontLaws.{SameParts, same_parts, flags_same, blank_same, tables_same}
+use Rattle.vab_tables.proofs.FrontLaws.{header_size_long}
 
 -- ---- texts with the same front, both at least as long
 

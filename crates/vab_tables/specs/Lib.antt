@@ -4,10 +4,4 @@ pub mod Extents
 pub mod Text
 pub mod Spelling
 pub mod Reading
-pub mod EntryLaws
-pub mod RuleLaws
-pub mod ListLaws
-pub mod TextLaws
-pub mod FrontLaws
-pub mod SpellingLaws
 pub mod Needs

@@ -1,7 +1,5 @@
-use Rattle.std.proofs.Common.{◌++◌, List, ℕ, subst, sym}
-use Rattle.vab_bytes.specs.Name.{IsName}
-use Rattle.vab_bytes.specs.NameLaws.{name_bytes}
-use Rattle.vab_names.specs.NameLaws.{full_is_name}
+use Rattle.vab_bytes.proofs.NameLaws.{name_bytes}
+use Rattle.vab_names.proofs.NameLaws.{full_is_name}
 use Rattle.vab_names.proofs.full_name.Goals as goal
 
 pub joined-requires-clause-name : goal.joined-requires-clause-name

@@ -1,6 +1,6 @@
 use Rattle.std.proofs.Common.{ap, arith, length}
-use Rattle.vab_bytes.specs.NameLaws.{name_fits}
-use Rattle.vab_names.specs.NameLaws.{length-base_of, length-suffix_of}
+use Rattle.vab_bytes.proofs.NameLaws.{name_fits}
+use Rattle.vab_names.proofs.NameLaws.{length-base_of, length-suffix_of}
 use Rattle.vab_names.proofs.in_slot.Goals as goal
 
 pub joined-requires-clause-short : goal.joined-requires-clause-short

@@ -1,7 +1,7 @@
 use Rattle.std.proofs.Common.{◌++◌, List, ℕ, subst, sym}
 use Rattle.vab_bytes.specs.Name.{IsName}
 use Rattle.vab_names.specs.Names.{store_of, store_suffix}
-use Rattle.vab_names.specs.NameLaws.{store_is_name}
+use Rattle.vab_names.proofs.NameLaws.{store_is_name}
 use Rattle.vab_names.proofs.store_of.Goals as goal
 
 pub joined-requires-clause-name : goal.joined-requires-clause-name

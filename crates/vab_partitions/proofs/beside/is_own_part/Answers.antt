@@ -1,5 +1,5 @@
 use Rattle.std.proofs.Common.{arith}
-use Rattle.vab_names.specs.NameLaws.{of_slot_long}
+use Rattle.vab_names.proofs.NameLaws.{of_slot_long}
 use Rattle.vab_partitions.proofs.beside.is_own_part.Goals as goal
 
 pub has_base-requires : goal.has_base-requires

@@ -3,7 +3,7 @@ use Rattle.std.proofs.Common.{subst, ◌∙◌, inl, inr, arith}
 use Rattle.std.specs.Prelude.{bit_and, not, IsTrue}
 use Rattle.std.proofs.lemmas.Bool.{ne_eqb, eq-eqb}
 use Rattle.vab_names.specs.Names.{in_slot}
-use Rattle.vab_names.specs.NameLaws.{of_slot_long}
+use Rattle.vab_names.proofs.NameLaws.{of_slot_long}
 use Rattle.vab_layout.specs.declared.layout.Part.{Part}
 use Rattle.vab_layout.specs.Layout.{blocks_of_parts}
 use Rattle.vab_layout.specs.Slots.{before_of, blocks_named, is_updated, other_slot, own_parts, IsOwn}

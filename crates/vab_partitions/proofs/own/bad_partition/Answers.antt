@@ -1,7 +1,7 @@
 use Rattle.std.proofs.Common.{◌≡◌, ◌+◌, ◌<◌, ℕ, true, false, List, length, get_or, subst, sym}
 use Rattle.std.proofs.Common.{ap, ◌∙◌, arith}
 use Rattle.vab_names.specs.Names.{is_of_slot}
-use Rattle.vab_names.specs.NameLaws.{of_slot_long}
+use Rattle.vab_names.proofs.NameLaws.{of_slot_long}
 use Rattle.vab_tables.specs.declared.entries.Partition.{Partition}
 use Rattle.vab_layout.specs.Layout.{layout_of}
 use Rattle.vab_partitions.specs.Rules.{is_distinct}

@@ -1,6 +1,6 @@
 use Rattle.std.proofs.Common.{◌-◌, ap, ◌∙◌}
 use Rattle.vab_names.specs.Names.{is_of_slot}
-use Rattle.vab_names.specs.NameLaws.{of_slot_long}
+use Rattle.vab_names.proofs.NameLaws.{of_slot_long}
 use Rattle.vab_tables.specs.declared.entries.Group.{Group}
 use Rattle.vab_partitions.proofs.twins.behind_twin.Goals as goal
 

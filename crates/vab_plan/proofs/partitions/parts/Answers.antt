@@ -2,7 +2,7 @@ use Rattle.std.proofs.Common.{◌≡◌, ◌<◌, ◌≤◌, ℕ, true, List, le
 use Rattle.std.specs.Prelude.{map}
 use Rattle.std.proofs.lemmas.List.{take_all}
 use Rattle.vab_names.specs.Names.{is_of_slot}
-use Rattle.vab_names.specs.NameLaws.{of_slot_long}
+use Rattle.vab_names.proofs.NameLaws.{of_slot_long}
 use Rattle.vab_tables.specs.declared.entries.Partition.{Partition}
 use Rattle.vab_tables.specs.declared.table.Table.{Table}
 use Rattle.vab_blocks.specs.Blocks.{first_sector_of}

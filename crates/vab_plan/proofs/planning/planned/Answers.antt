@@ -1,5 +1,5 @@
 use Rattle.std.proofs.Common.{◌≡◌, ◌∙◌, ℕ, List, get_or, ap, sym}
-use Rattle.vab_names.specs.NameLaws.{of_slot_long}
+use Rattle.vab_names.proofs.NameLaws.{of_slot_long}
 use Rattle.vab_tables.specs.declared.entries.Group.{Group}
 use Rattle.vab_layout.specs.Layout.{part_of}
 use Rattle.vab_layout.proofs.LayoutLaws.{group_at_is}

@@ -4,7 +4,7 @@ use Rattle.vab_bytes.specs.Number.{IsBytes}
 use Rattle.vab_tables.specs.declared.table.Table.{Table}
 use Rattle.vab_tables.specs.declared.fault.TableFault.{TableFault}
 use Rattle.vab_tables.specs.Text.{IsTableText}
-use Rattle.vab_tables.specs.TextLaws.{text_found, text_only}
+use Rattle.vab_tables.proofs.TextLaws.{text_found, text_only}
 use Rattle.vab_tables.specs.Reading.{Gives, table_of}
 use Rattle.vab_tables.proofs.decode.decode_table.Goals as goal
 

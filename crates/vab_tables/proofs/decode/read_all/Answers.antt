@@ -1,4 +1,4 @@
-use Rattle.std.proofs.Common.{◌≡◌, length, Result, arith, ap, refl, sym, subst, ◌∙◌}
+use Rattle.std.proofs.Common.{◌≡◌, length, Result, arith, refl, sym, subst, ◌∙◌}
 use Rattle.std.proofs.lemmas.List.{length_push}
 use Rattle.std.proofs.lemmas.Result.{err_from_is_err_and}
 use Rattle.vab_tables.specs.declared.fault.TableFault.{TableFault}

@@ -1,18 +1,16 @@
-use Rattle.std.proofs.Common.{◌≡◌, ◌*◌, ◌&&◌, ◌||◌, not, true, false, ℕ, List, length, Result}
+use Rattle.std.proofs.Common.{◌≡◌, ◌&&◌, ◌||◌, not, ℕ, List, length, Result}
 use Rattle.std.proofs.Common.{arith, ap, refl, sym, subst, ◌∙◌}
-use Rattle.std.proofs.lemmas.Bool.{not-true, not_from_false}
 use Rattle.std.proofs.lemmas.List.{length_push}
 use Rattle.std.proofs.lemmas.Result.{err_from_is_err_and}
 use Rattle.std.specs.List.{list_any}
 use Rattle.std.specs.Str.{bytes_eq}
 use Rattle.vab_bytes.specs.Name.{name_field, IsName}
-use Rattle.vab_bytes.specs.Number.{field}
 use Rattle.vab_tables.specs.declared.fault.TableFault.{TableFault}
 use Rattle.vab_tables.specs.declared.fault.TableFault.TheVariants as faults
-use Rattle.vab_tables.specs.Reading.{Fails, entry_or}
+use Rattle.vab_tables.specs.Reading.{Fails}
 use Rattle.vab_tables.specs.Rules.{is_named}
 use Rattle.vab_tables.proofs.Loop.{steps, ends, is_done, next_is, piece_is}
-use Rattle.vab_tables.proofs.NameSets.{knows_more, knows_name, knows_none, narrower_bad}
+use Rattle.vab_tables.proofs.NameSets.{knows_more, knows_name, narrower_bad}
 use Rattle.vab_tables.proofs.NameSets.{narrower_fails, narrower_ok}
 use Rattle.vab_tables.proofs.decode.read_named.Goals as goal
 

@@ -5,7 +5,7 @@ use Rattle.vab_tables.specs.declared.table.Table.{Table}
 use Rattle.vab_tables.specs.Rules.{KeepsRules}
 use Rattle.vab_tables.specs.Text.{IsTableText}
 use Rattle.vab_tables.specs.Spelling.{table_size_of, as_minor_2, table_text}
-use Rattle.vab_tables.specs.SpellingLaws.{length-table_text, text_stands, text_read}
+use Rattle.vab_tables.proofs.SpellingLaws.{length-table_text, text_stands, text_read}
 use Rattle.vab_tables.specs.Reading.{table_of}
 use Rattle.vab_tables.proofs.encode.encode_table.Goals as goal
 

@@ -3,7 +3,7 @@ use Rattle.vab_tables.specs.declared.table.Table.{Table}
 use Rattle.vab_tables.specs.Text.{sum_of, no_sum}
 use Rattle.vab_tables.specs.Spelling.{tables_text, header_front, header_back, header_sum_of}
 use Rattle.vab_tables.specs.Spelling.{table_text}
-use Rattle.vab_tables.specs.SpellingLaws.{length-tables_text}
+use Rattle.vab_tables.proofs.SpellingLaws.{length-tables_text}
 use Rattle.vab_tables.proofs.encode.text.Goals as goal
 
 pub back-requires-clause-len : goal.back-requires-clause-len

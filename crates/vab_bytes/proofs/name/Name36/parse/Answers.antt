@@ -1,5 +1,5 @@
 use Rattle.std.proofs.Common.{◌∙◌, sym}
-use Rattle.vab_bytes.specs.NameLaws.{holds_name}
+use Rattle.vab_bytes.proofs.NameLaws.{holds_name}
 use Rattle.vab_bytes.proofs.name.Name36.parse.Goals as goal
 
 pub invariant_of-result : goal.invariant_of-result

@@ -11,12 +11,12 @@ use Rattle.std.proofs.lemmas.List.{drop-drop, get_or_at, get_or_append_left, dro
 use Rattle.std.proofs.lemmas.List.Elements.{All-push}
 use Rattle.std.proofs.lemmas.List.Quantifiers.{all_pairs_push}
 use Rattle.vab_bytes.specs.Number.{IsBytes, field}
-use Rattle.vab_bytes.specs.NumberLaws.{length-field, IsBytes-field}
+use Rattle.vab_bytes.proofs.NumberLaws.{length-field, IsBytes-field}
 use Rattle.vab_tables.specs.declared.fault.EntryKind.{EntryKind}
 use Rattle.vab_tables.specs.declared.fault.TableFault.{TableFault}
 use Rattle.vab_tables.specs.declared.fault.TableFault.TheVariants as faults
-use Rattle.vab_tables.specs.EntryLaws.{IsSpelled, cut}
-use Rattle.vab_tables.specs.RuleLaws.{IsJudged}
+use Rattle.vab_tables.proofs.EntryLaws.{IsSpelled, cut}
+use Rattle.vab_tables.proofs.RuleLaws.{IsJudged}
 use Rattle.vab_tables.specs.Reading.{◌>>=◌, entry_or, entries_in}
 
 -- the value of a step that did not fail

@@ -13,7 +13,7 @@ use Rattle.vab_tables.specs.Text.{header_sum_at, tables_size_at, tables_sum_at, 
 use Rattle.vab_tables.specs.Text.{entry_size_at, flags_at, header_size_of, blank_header, tables_at}
 use Rattle.vab_tables.specs.Text.{area_at, text_size_of, Lists, IsTableText}
 use Rattle.vab_tables.specs.Reading.{table_of}
-use Rattle.vab_tables.specs.TextLaws.{text_found, text_only}
+use Rattle.vab_tables.proofs.TextLaws.{text_found, text_only}
 
 -- a field within the same front
 field_same : (a b : List ℕ) (n at m : ℕ) → take n a ≡ take n b → at + m ≤ n

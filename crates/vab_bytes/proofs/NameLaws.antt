@@ -8,7 +8,6 @@ use Rattle.std.proofs.lemmas.Bool.{leb-true, eqb-true, ne_eqb, and_parts, and_fr
 use Rattle.std.proofs.lemmas.List.{take_at, length-drop, take-append-drop, drop_at}
 use Rattle.std.proofs.lemmas.List.Folds.{length-prefix_len}
 use Rattle.std.proofs.lemmas.Option.{cond_some}
-use Rattle.vab_bytes.specs.declared.name.Name36.TheInside.{Inside}
 use Rattle.vab_bytes.specs.Name.{is_name_byte, is_name, IsName, name_field, name_of_field}
 use Rattle.vab_bytes.specs.Name.{HoldsName}
 
@@ -26,19 +25,6 @@ pub name_bytes : (text : List ℕ) → is_name text ≡ true → list_all is_nam
 unfolding is_name
 name_bytes text h =
     (and_parts (leb 1 (length text) && leb (length text) 36) (list_all is_name_byte text) h).1
-
--- the fields of a name come back from its text
-pub held_again : (n : Inside)
-    → HoldsName n.bytes n.len
-    → (let again : Inside =
-    record { bytes = name_field (take n.len n.bytes); len = length (take n.len n.bytes) } in
-    again
-    ≡ n)
-held_again n h =
-    let with_bytes : List ℕ → Inside =
-    λ b. record { bytes = b; len = length (take n.len n.bytes) } in
-    let with_len : ℕ → Inside = λ k. record { bytes = n.bytes; len = k } in
-    ap with_bytes (sym h.spelled) ∙ ap with_len h.text_len
 
 -- the text stands in front in the field
 pub take-name_field : (text : List ℕ) → take (length text) (name_field text) ≡ text

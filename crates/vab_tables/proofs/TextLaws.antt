@@ -10,7 +10,7 @@ use Rattle.std.proofs.lemmas.Bool.{lt-leb, eq-eqb, and_left, and_right}
 use Rattle.std.proofs.lemmas.List.{append-nil, take_at, take_all}
 use Rattle.std.proofs.lemmas.Slice.Eq.{bytes_eq-Decides}
 use Rattle.vab_bytes.specs.Number.{IsBytes, field, le_at}
-use Rattle.vab_bytes.specs.NumberLaws.{length-field, IsBytes-field, le_at_fits_32}
+use Rattle.vab_bytes.proofs.NumberLaws.{length-field, IsBytes-field, le_at_fits_32}
 use Rattle.vab_tables.specs.declared.entries.Partition.{Partition}
 use Rattle.vab_tables.specs.declared.entries.Extent.{Extent}
 use Rattle.vab_tables.specs.declared.entries.Group.{Group}
@@ -32,11 +32,11 @@ use Rattle.vab_tables.specs.Reading.{has_tables_sum, is_bounded, has_bounds, unl
 use Rattle.vab_tables.specs.Reading.{entry_or, device_in, group_joins, extent_joins}
 use Rattle.vab_tables.specs.Reading.{partition_joins, groups_in, extents_in, partitions_in}
 use Rattle.vab_tables.specs.Reading.{table_of}
-use Rattle.vab_tables.specs.EntryLaws.{partitions_spelled, extents_spelled, groups_spelled}
-use Rattle.vab_tables.specs.EntryLaws.{devices_spelled}
-use Rattle.vab_tables.specs.RuleLaws.{device_found, device_only, groups_judged, extents_judged}
-use Rattle.vab_tables.specs.RuleLaws.{partitions_judged}
-use Rattle.vab_tables.specs.ListLaws.{bind_ok, ok_is, entry_is, entry_ok, all_found, all_only}
+use Rattle.vab_tables.proofs.EntryLaws.{partitions_spelled, extents_spelled, groups_spelled}
+use Rattle.vab_tables.proofs.EntryLaws.{devices_spelled}
+use Rattle.vab_tables.proofs.RuleLaws.{device_found, device_only, groups_judged, extents_judged}
+use Rattle.vab_tables.proofs.RuleLaws.{partitions_judged}
+use Rattle.vab_tables.proofs.ListLaws.{bind_ok, ok_is, entry_is, entry_ok, all_found, all_only}
 
 -- ---- the frame
 

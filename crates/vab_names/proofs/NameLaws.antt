@@ -1,18 +1,17 @@
 -- What callers need of the names of a slot.
-use Rattle.std.proofs.Common.{◌≡◌, ℕ, inl, inr, ◌-◌, ◌+◌, [], ◌∷◌, ◌++◌, ◌≤◌, Bool, true, false}
-use Rattle.std.proofs.Common.{◌&&◌, not, cond, eqb, leb, List, length, take, drop, codes, refl, sym}
-use Rattle.std.proofs.Common.{ap, subst, ◌∙◌, arith, length-append}
-use Rattle.std.specs.Prelude.{IsTrue}
-use Rattle.std.specs.List.{list_all, list_any, ends_with}
-use Rattle.std.proofs.lemmas.Bool.{leb-true, le-leb, and_parts, and_from, cases_Bool}
+use Rattle.std.proofs.Common.{◌≡◌, ℕ, inl, inr, ◌-◌, ◌+◌, ◌++◌, ◌≤◌, true}
+use Rattle.std.proofs.Common.{◌&&◌, eqb, leb, List, length, take, drop, refl, sym}
+use Rattle.std.proofs.Common.{ap, ◌∙◌, arith, length-append}
+use Rattle.std.specs.List.{list_all}
+use Rattle.std.proofs.lemmas.Bool.{le-leb, and_parts, and_from, cases_Bool}
 use Rattle.std.proofs.lemmas.Bool.Decides.{Decides-eqb}
 use Rattle.std.proofs.lemmas.Slice.Eq.{ends_is}
 use Rattle.std.proofs.lemmas.List.{length-take, take_at, take-append-drop}
 use Rattle.std.proofs.lemmas.List.Folds.{list_all-append}
 use Rattle.vab_bytes.specs.Name.{is_name_byte, is_name, IsName}
-use Rattle.vab_bytes.specs.NameLaws.{name_fits, name_bytes}
-use Rattle.vab_names.specs.Names.{is_short, is_base, suffix_of, is_of_slot, base_of, in_slot}
-use Rattle.vab_names.specs.Names.{is_full, store_suffix, is_store, store_of}
+use Rattle.vab_bytes.proofs.NameLaws.{name_fits, name_bytes}
+use Rattle.vab_names.specs.Names.{suffix_of, is_of_slot, base_of, in_slot}
+use Rattle.vab_names.specs.Names.{store_suffix, store_of}
 
 -- two texts of such bytes make a name, where it is not too long
 pub joined_name : (a b : List ℕ)

@@ -26,9 +26,9 @@ use Rattle.vab_tables.specs.Spelling.{table_size_of, as_minor_2, tables_text, de
 use Rattle.vab_tables.specs.Spelling.{header_front, descriptors_text, header_back, header_sum_of}
 use Rattle.vab_tables.specs.Spelling.{table_text}
 use Rattle.vab_tables.specs.Reading.{table_of}
-use Rattle.vab_tables.specs.TextLaws.{text_only}
-use Rattle.vab_tables.specs.EntryLaws.{IsSpelled, partitions_spelled, extents_spelled}
-use Rattle.vab_tables.specs.EntryLaws.{groups_spelled, devices_spelled}
+use Rattle.vab_tables.proofs.TextLaws.{text_only}
+use Rattle.vab_tables.proofs.EntryLaws.{IsSpelled, partitions_spelled, extents_spelled}
+use Rattle.vab_tables.proofs.EntryLaws.{groups_spelled, devices_spelled}
 
 -- ---- lengths
 
