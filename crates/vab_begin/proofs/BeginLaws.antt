@@ -51,7 +51,8 @@ use Rattle.vab_begin.specs.Writes.{IsOfPlaces}
 use Rattle.vab_device.proofs.Steps.{marked}
 use Rattle.vab_device.proofs.StayLaws.{mark_there, copy_stays, copies_from, one_of}
 use Rattle.vab_device.proofs.UpdateLaws.{update_read, kept_with}
-use Rattle.vab_begin.proofs.CopiesApart.{table_in, tables_apart, ends_within, ends_behind}
+use Rattle.vab_begin.proofs.CopiesApart.{table_in, tables_apart, ends_behind}
+use Rattle.vab_device.proofs.RepairLaws.{ends_within}
 
 -- what is read without an update
 abbrev pub idle_shape : ℕ

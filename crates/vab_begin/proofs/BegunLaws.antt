@@ -46,7 +46,8 @@ use Rattle.vab_begin.specs.Kept.{with_control, with_update}
 use Rattle.vab_begin.specs.Target.{layout_for, IsTargetOf, IsTargetFor, IsRefusedBy}
 use Rattle.vab_begin.specs.Writes.{IsOfPlaces}
 use Rattle.vab_device.proofs.Steps.{marked, IsStep}
-use Rattle.vab_begin.proofs.KeptLaws.{some_of, none_of, cases_slot, update_kept, unplanned_of}
+use Rattle.vab_begin.proofs.KeptLaws.{update_kept}
+use Rattle.vab_device.proofs.PhaseCases.{some_of, none_of, cases_slot, unplanned_of}
 use Rattle.vab_begin.proofs.KeptLaws.{current_of, source_a, source_b, no_target_a, no_target_b}
 use Rattle.vab_device.specs.Kept.{has_both}
 use Rattle.vab_device.proofs.StayLaws.{one_of}
@@ -233,10 +234,10 @@ pub device_same : (s u : Table)
 unfolding layout_of
 device_same s u is = ap first_device is
 
-none_fits : FitsInfo no_info
+pub none_fits : FitsInfo no_info
 none_fits = record { priority = omega arith; tries = omega arith }
 
-cleared_fits : (c : Control) (slot : ℕ) → Fits c → Fits (cleared_of c slot)
+pub cleared_fits : (c : Control) (slot : ℕ) → Fits c → Fits (cleared_of c slot)
 unfolding cleared_of
 cleared_fits c slot is = elim (cases_Bool (slot == 0)) [
   | inl h ↦ rw h (record { current = is.current; a = none_fits; b = is.b })

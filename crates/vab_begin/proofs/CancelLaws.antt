@@ -26,7 +26,7 @@ use Rattle.vab_device.specs.Kept.{IsDevice, reads_both}
 use Rattle.vab_device.specs.Mounted.{Mounted, mounted_on, state_on, images_on, image_on}
 use Rattle.vab_device.specs.Phases.{phase_at, own_check, update_checks}
 use Rattle.vab_device.specs.Phases.{twin_check, target_check}
-use Rattle.vab_device.specs.Reading.{Read, mark_in, part_fault, tables_in, table_at, kept, Reads}
+use Rattle.vab_device.specs.Reading.{Read, mark_in, part_fault, tables_in, table_at, Reads}
 use Rattle.vab_device.specs.Reading.{Represents, AgreeCopies, IsOfImages, IsOfTables}
 use Rattle.vab_device.specs.Stores.{Scanned}
 use Rattle.vab_device.specs.Updates.{effect_on, cancelled}
@@ -38,7 +38,8 @@ use Rattle.vab_device.proofs.SameLaws.{geometry_same, tables_agree, images_same}
 use Rattle.vab_begin.specs.Kept.{without_update}
 use Rattle.vab_begin.specs.Writes.{MayEnd}
 use Rattle.vab_device.proofs.Steps.{marked, IsStep}
-use Rattle.vab_begin.proofs.KeptLaws.{some_of, planned_of, unplanned_of, cases_slot, source_a}
+use Rattle.vab_begin.proofs.KeptLaws.{source_a}
+use Rattle.vab_device.proofs.PhaseCases.{some_of, planned_of, unplanned_of, cases_slot}
 use Rattle.vab_begin.proofs.KeptLaws.{source_b}
 use Rattle.vab_device.proofs.UpdateLaws.{update_read, kept_with}
 use Rattle.vab_device.proofs.StayLaws.{mark_there, copy_stays, copies_from, one_of, two_of}

@@ -1,5 +1,5 @@
 -- The copies of one slot's table stand apart from the other's.
-use Rattle.std.proofs.Common.{◌≡◌, ◌≢◌, ◌⊎◌, inl, inr, ⊎_elim, ℕ, ◌+◌, ◌-◌, ◌*◌, ◌/◌, ◌≤◌, ◌<◌}
+use Rattle.std.proofs.Common.{◌≡◌, ◌≢◌, ◌⊎◌, inl, inr, ⊎_elim, ℕ, ◌+◌, ◌-◌, ◌*◌, ◌≤◌, ◌<◌}
 use Rattle.std.proofs.Common.{List, [], ◌∷◌}
 use Rattle.std.proofs.Common.{length, arith, add-mul}
 use Rattle.std.proofs.lemmas.Bool.{cases_lt}
@@ -10,10 +10,11 @@ use Rattle.vab_geometry.specs.declared.geometry.Geometry.{Geometry}
 use Rattle.vab_geometry.specs.Geometry.{IsGeometry}
 use Rattle.vab_lpstore.specs.Layout.{copy_sectors, primary_of, backup_of, text_sectors}
 use Rattle.vab_lpstore.specs.Storing.{IsOfTable}
-use Rattle.vab_lpstore.proofs.StoreLaws.{text_fits, text_some, backup_byte, copies_apart}
+use Rattle.vab_lpstore.proofs.StoreLaws.{text_fits, text_some, copies_apart}
 use Rattle.vab_device.specs.Kept.{copies_end, super_bytes}
 use Rattle.vab_device.specs.Reading.{IsOfTables}
 use Rattle.vab_device.proofs.RepairLaws.{end_of}
+use Rattle.vab_device.proofs.RepairLaws.{ends_within}
 
 -- ---- a text in the copies
 
@@ -104,17 +105,6 @@ module _
   tables_apart s (inr (inr a)) b = absurd a
 
 -- ---- where both copies end
-
-pub ends_within : (g : Geometry) (slot : ℕ)
-    → IsGeometry g
-    → slot < 2
-    → 512 * (end_of g slot - 4096) ≤ copies_end g
-ends_within g slot is below =
-    let whole : 512 * (g.max / 512) ≡ g.max = omega (arith, is.sectors) in
-    let second = backup_byte g slot is in
-    let most : (g.slots + slot + 1) * g.max ≤ (2 * g.slots) * g.max =
-    mul-le-mul_right g.max (omega (arith, is.two, below)) in
-    omega (arith, second, most, whole)
 
 pub ends_behind : (g : Geometry) (slot s : ℕ)
     → IsGeometry g

@@ -1,7 +1,7 @@
 -- Laws of lists of blocks.
-use Rattle.std.proofs.Common.{leb, ltb, ◌≡◌, ℕ, zero, suc, ◌+◌, ◌-◌, ◌*◌, ◌<◌, ◌≤◌, Bool, true}
+use Rattle.std.proofs.Common.{leb, ltb, ◌≡◌, ℕ, suc, ◌+◌, ◌-◌, ◌*◌, ◌<◌, ◌≤◌, Bool, true}
 use Rattle.std.proofs.Common.{false, cond, not, eqb, List, [], ◌∷◌, ◌++◌, length, get_or, take}
-use Rattle.std.proofs.Common.{drop, refl, sym, ap, subst, ◌∙◌, ◌⊎◌, inl, inr, add-zero, arith}
+use Rattle.std.proofs.Common.{drop, refl, sym, ap, subst, ◌∙◌, inl, inr, arith}
 use Rattle.std.specs.Prelude.{◌↔◌, All, Any, Contains}
 use Rattle.std.specs.List.{flat_map, filter, list_any, range_with_len}
 use Rattle.std.specs.List.Sorted.{IsStrictlyIncreasing}
@@ -11,7 +11,6 @@ use Rattle.std.proofs.lemmas.Bool.{eqb-true, eq-eqb, both_ways, not-true, not_fr
 use Rattle.std.proofs.lemmas.List.{append-nil, length-take, get_or-take, get_or_default}
 use Rattle.std.proofs.lemmas.List.Elements.{All-contains, All-filter, All-contains_itself, All-take}
 use Rattle.std.proofs.lemmas.List.Elements.{All-drop, filter_passes, filter-append}
-use Rattle.std.proofs.lemmas.List.Elements.{Contains-append_left, Contains-append_right}
 use Rattle.std.proofs.lemmas.List.Elements.{Contains-append_cases}
 use Rattle.std.proofs.lemmas.List.Folds.{list_any_at, Any-from_list_any}
 use Rattle.std.proofs.lemmas.List.FromFn.{length-range_with_len, get_or-range_with_len}
@@ -27,6 +26,7 @@ use Rattle.vab_blocks.proofs.RunLaws.{range_push}
 use Rattle.vab_blocks.specs.Blocks.{first_sector_of_devices, first_sector_of, Covers, extents_of}
 use Rattle.vab_blocks.specs.Blocks.{HasBlock, is_among, blocks_of_extent, blocks_of_named}
 use Rattle.vab_blocks.specs.Blocks.{blocks_of, free_below}
+use Rattle.vab_blocks.proofs.Contained.{in_filter, in_piece}
 
 -- ---- lists that ascend
 
@@ -48,17 +48,6 @@ listed_once xs b h =
 pub listed_then : (xs : List ℕ) (b : ℕ) → Contains xs b → list_any (λ x. eqb x b) xs ≡ true
 listed_then xs b c = list_any_at (λ x. eqb x b) xs c.0 b c.1 (eq-eqb _ _ c.2)
 
-cons_cases : {X : Type 0} (x : X) (xs : List X) (y : X) (k : ℕ) → k < length (x ∷ xs)
-    → get_or (x ∷ xs) k y ≡ y → (x ≡ y) ⊎ Contains xs y
-cons_cases x xs y zero l e = inl e
-cons_cases x xs y (suc k) l e = inr (k, omega arith, e)
-
-later : {X : Type 0} (x : X) (xs : List X) (y : X) → Contains xs y → Contains (x ∷ xs) y
-later x xs y c = (suc c.0, omega (arith, c.1), c.2)
-
-first : {X : Type 0} (x : X) (xs : List X) (y : X) → x ≡ y → Contains (x ∷ xs) y
-first x xs y e = (0, omega arith, e)
-
 pub in_range : (a n b : ℕ) → Contains (range_with_len a n) b → (a ≤ b) × (b < a + n)
 in_range a n b c =
     let lt : c.0 < n = omega (arith, c.1, length-range_with_len a n) in
@@ -72,17 +61,6 @@ of_range a n b low high =
     let len = length-range_with_len a n in
     let is = get_or-range_with_len a n (b - a) b lt in
     (b - a, omega (arith, len, lt), omega (arith, is, low))
-
-kept : {X : Type 0} (p : X → Bool) (xs : List X) (y : X) → Contains xs y → p y ≡ true
-    → Contains (filter p xs) y
-kept p [] y c t = absurd (omega (arith, c.1))
-kept p (x ∷ xs) y c t = elim (cons_cases x xs y c.0 c.1 c.2) [
-  | inl e ↦ let px : p x ≡ true = ap p e ∙ t in rw px (first x (filter p xs) y e)
-  | inr d ↦ elim (cases_Bool (p x)) [
-    | inl px ↦ rw px (later x (filter p xs) y (kept p xs y d t))
-    | inr px ↦ rw px (kept p xs y d t)
-  ]
-]
 
 -- ---- the lowest
 
@@ -130,7 +108,7 @@ is_free cap taken b =
             λ t. both_ways (list_any (λ x. eqb x b) taken) (not-true _ passes)
                 (listed_then taken b t),
           ),
-      λ h. kept p all b (of_range 0 cap b (omega arith) (omega (arith, h.0)))
+      λ h. in_filter p all b (of_range 0 cap b (omega arith) (omega (arith, h.0)))
           (elim (cases_Bool (list_any (λ x. eqb x b) taken)) [
             | inl t ↦ absurd (h.1 (listed_once taken b t))
             | inr f ↦ not_from_false _ f
@@ -168,15 +146,6 @@ free_taken cap taken h =
     ∙ append-nil (free_below cap taken)
 
 -- ---- blocks of a table
-
-pub in_piece : {X A : Type 0} (f : X → List A) (xs : List X) (x : X) (y : A) → Contains xs x
-    → Contains (f x) y → Contains (flat_map f xs) y
-in_piece f [] x y c d = absurd (omega (arith, c.1))
-in_piece f (z ∷ xs) x y c d = elim (cons_cases z xs x c.0 c.1 c.2) [
-  | inl e ↦
-      Contains-append_left (f z) (flat_map f xs) y (subst (λ (w : _). Contains (f w) y) (sym e) d)
-  | inr t ↦ Contains-append_right (f z) (flat_map f xs) y (in_piece f xs x y t d)
-]
 
 pub some_piece : {X A : Type 0} (f : X → List A) (xs : List X) (y : A) → Contains (flat_map f xs) y
     → Any (λ x. Contains (f x) y) xs

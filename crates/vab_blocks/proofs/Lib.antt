@@ -5,3 +5,4 @@ pub mod Ascending
 mod Merging
 mod Gaps
 pub mod Distinct
+pub mod Contained

@@ -1,10 +1,15 @@
 -- What callers need of boots.
-use Rattle.std.proofs.Common.{ap, ◌∙◌, ◌≡◌, ℕ, zero, suc, ◌-◌, ◌<◌, ◌≤◌, ◌⊎◌, Bool, true, false, not, ◌&&◌, ◌||◌, cond, eqb, leb, List, get_or, Option, Some, None, refl, subst, arith, lit<, lit≤, inl, inr}
-use Rattle.std.proofs.lemmas.Bool.{eqb-false, leb-true, leb-false, le-leb, lt-leb, cases_Bool, or_right, and_from, cond-true}
+use Rattle.std.proofs.Common.{ap, ◌∙◌, ◌≡◌, ℕ, zero, suc, ◌-◌, ◌<◌, ◌≤◌, ◌⊎◌, Bool, true, false}
+use Rattle.std.proofs.Common.{not, ◌&&◌, ◌||◌, cond, eqb, leb, List, get_or, Option, Some, None}
+use Rattle.std.proofs.Common.{refl, subst, arith, lit<, lit≤, inl, inr}
+use Rattle.std.proofs.lemmas.Bool.{eqb-false, leb-true, leb-false, le-leb, lt-leb, cases_Bool}
+use Rattle.std.proofs.lemmas.Bool.{or_right, and_from, cond-true}
 use Rattle.vab_bootctl.specs.declared.slots.Info.{Info}
 use Rattle.vab_bootctl.specs.declared.slots.Control.{Control}
 use Rattle.vab_bootctl.specs.Control.{FitsInfo, Fits}
-use Rattle.vab_bootctl.specs.Boot.{info_at, is_bootable, IsBootable, IsChosen, chosen_of, after_try, booted_at, booted_of, active, demoted, activated_of, proven, marked_of}
+use Rattle.vab_bootctl.specs.Boot.{info_at, is_bootable, IsBootable, IsChosen, chosen_of, after_try}
+use Rattle.vab_bootctl.specs.Boot.{booted_at, booted_of, active, demoted, activated_of, proven}
+use Rattle.vab_bootctl.specs.Boot.{marked_of}
 
 -- ---- the slot that is chosen
 
@@ -169,3 +174,14 @@ activated_chosen c has (suc zero) h lt images =
     let below : leb 15 (demoted c.a).priority ≡ false = lt-leb 15 _ (yields c.a h.a) in
     rw (here, below) (elim a as (λ t. cond {A = Option ℕ} (t && false) (Some 0) (Some 1) ≡ Some 1) [ true ↦ refl | false ↦ refl ])
 activated_chosen c has (suc (suc slot)) h lt images = absurd (omega (arith, lt))
+
+pub activated_current : (c : Control) (slot : ℕ) → (activated_of c slot).current ≡ c.current
+unfolding activated_of
+activated_current c slot = elim (cases_Bool (eqb slot 0)) [
+  | inl h ↦ rw h refl
+  | inr h ↦ rw h refl
+]
+
+pub marked_current : (c : Control) → (marked_of c).current ≡ c.current
+unfolding marked_of
+marked_current c = elim (cases_Bool (eqb c.current 0)) [ inl h ↦ rw h refl | inr h ↦ rw h refl ]

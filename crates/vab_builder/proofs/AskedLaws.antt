@@ -21,10 +21,10 @@ use Rattle.vab_builder.specs.Passes.{IsCreated, IsResized, IsStored}
 use Rattle.vab_builder.specs.Sizes.{has_part}
 use Rattle.vab_builder.specs.Update.{IsUpdate}
 use Rattle.vab_builder.proofs.ChangedTarget.{KeepsNames, either, either_name, changed_differ}
-use Rattle.vab_builder.proofs.Counting.{in_map, of_filter}
+use Rattle.vab_blocks.proofs.Contained.{in_map, of_filter}
 use Rattle.vab_builder.proofs.DeleteVerdicts.{deleted_passes}
 use Rattle.vab_builder.proofs.EditLaws.{same_size, other_size, own_there}
-use Rattle.vab_builder.proofs.NameCases.{same_name, eq_name, ne_name}
+use Rattle.vab_names.proofs.NameCases.{same_name, eq_name, ne_name}
 use Rattle.vab_builder.proofs.PartLaws.{named_is}
 use Rattle.vab_builder.proofs.ResizeVerdicts.{resized_passes}
 use Rattle.vab_builder.proofs.RoomLaws.{created_size, resized_size, stored_size}

@@ -20,9 +20,10 @@ use Rattle.vab_layout.specs.Slots.{other_slot, own_parts, store_parts, before_of
 use Rattle.vab_layout.specs.Slots.{IsDistinct, IsOwn, IsOwnPart}
 use Rattle.vab_builder.specs.Sizes.{WantFits, source_sizes, want_of, wants_of, wants_resized}
 use Rattle.vab_builder.specs.Sizes.{wants_stored, used_by, sizes_in}
-use Rattle.vab_builder.proofs.Counting.{all_from, of_filter, in_filter, few_below, pieces_once}
+use Rattle.vab_builder.proofs.Counting.{few_below, pieces_once}
+use Rattle.vab_blocks.proofs.Contained.{all_from, of_filter, in_filter}
 use Rattle.std.proofs.lemmas.List.Elements.{Contains-append_right}
-use Rattle.vab_builder.proofs.NameCases.{in_slot_is, store_is_store}
+use Rattle.vab_names.proofs.NameCases.{in_slot_is, store_is_store}
 use Rattle.vab_builder.proofs.OwnLaws.{own_rules}
 use Rattle.vab_builder.proofs.PartLaws.{named_cases}
 use Rattle.vab_builder.specs.Update.{IsUpdate}
@@ -41,7 +42,7 @@ own_small slot parts own =
     (All-weaker (IsOwnPart slot) (λ p. length p.blocks ≤ 2 ^ 28) (λ p h. h.size)
     (own_parts slot parts) own.each) own.few
 
-either_small : (b : Bool) (m n k : ℕ) → m ≤ k → n ≤ k → cond b m n ≤ k
+pub either_small : (b : Bool) (m n k : ℕ) → m ≤ k → n ≤ k → cond b m n ≤ k
 either_small true m n k hm hn = hm
 either_small false m n k hm hn = hn
 

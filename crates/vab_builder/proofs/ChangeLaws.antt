@@ -17,7 +17,7 @@ use Rattle.std.proofs.lemmas.List.Sums.{fails_before_first}
 use Rattle.vab_tables.specs.Rules.{NamesDiffer}
 use Rattle.vab_layout.specs.declared.layout.Part.{Part}
 use Rattle.vab_builder.specs.Edits.{changed}
-use Rattle.vab_builder.proofs.NameCases.{same_name, ne_name}
+use Rattle.vab_names.proofs.NameCases.{same_name, ne_name}
 
 pub changed_at : (name : List ℕ) (f : Part → Part) (parts : List Part) (i : ℕ) (p : Part)
     → NamesDiffer (λ q. q.name) parts → position (λ q. bytes_eq q.name name) parts ≡ Some i

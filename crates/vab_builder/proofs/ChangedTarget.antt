@@ -17,12 +17,13 @@ use Rattle.vab_layout.specs.Layout.{blocks_of_parts}
 use Rattle.vab_layout.specs.Slots.{own_parts, store_parts, is_updated, IsDistinct, IsOwnPart}
 use Rattle.vab_layout.specs.Slots.{IsTarget, IsTargetPart, IsStorePart}
 use Rattle.vab_builder.specs.Edits.{changed}
-use Rattle.vab_builder.proofs.Counting.{all_from, first, later, cons_cases, none_in_nil, of_filter}
-use Rattle.vab_builder.proofs.Counting.{in_map, of_map, in_piece, pairs_head, pairs_tail}
+use Rattle.vab_blocks.proofs.Contained.{all_from, first, later, cons_cases, none_in_nil, of_filter}
+use Rattle.vab_builder.proofs.Counting.{pairs_head, pairs_tail}
+use Rattle.vab_blocks.proofs.Contained.{in_map, of_map, in_piece}
 use Rattle.vab_builder.proofs.Counting.{pairs_right, pairs_across, pairs_append, pairs_map}
 use Rattle.vab_builder.proofs.Counting.{pairs_weaker, Apart, apart_parts, once_pieces, pieces_once}
 use Rattle.vab_builder.proofs.Counting.{pieces_apart}
-use Rattle.vab_builder.proofs.NameCases.{same_name, eq_name, ne_name, own_or_store}
+use Rattle.vab_names.proofs.NameCases.{same_name, eq_name, ne_name, own_or_store}
 use Rattle.vab_builder.proofs.KeepLaws.{target_made, target_part_among, store_part_among}
 
 -- a change that leaves names alone

@@ -27,15 +27,18 @@ use Rattle.vab_layout.specs.Plain.{default_group, own_groups}
 use Rattle.vab_builder.specs.Sizes.{has_part}
 use Rattle.vab_builder.specs.Edits.{free_of, created_blocks, created_part, first_group}
 use Rattle.vab_builder.specs.Edits.{with_created, with_group}
-use Rattle.vab_builder.proofs.Counting.{all_from, first, cons_cases, none_in_nil, of_take, of_filter}
-use Rattle.vab_builder.proofs.Counting.{in_map, pairs_append, pairs_left, pairs_right, pairs_across}
+use Rattle.vab_blocks.proofs.Contained.{all_from, first, cons_cases, none_in_nil, of_take}
+use Rattle.vab_blocks.proofs.Contained.{of_filter}
+use Rattle.vab_builder.proofs.Counting.{pairs_append, pairs_left, pairs_right, pairs_across}
+use Rattle.vab_blocks.proofs.Contained.{in_map}
 use Rattle.vab_builder.proofs.Counting.{Apart, once_append, once_take, once_pieces, pieces_once}
 use Rattle.vab_builder.proofs.Counting.{pieces_apart}
-use Rattle.vab_builder.proofs.NameCases.{same_name, full_slot, full_base, full_named, own_or_store}
-use Rattle.vab_builder.proofs.NameCases.{store_not_own, default_not_own}
+use Rattle.vab_names.proofs.NameCases.{same_name, full_slot, full_base, full_named, own_or_store}
+use Rattle.vab_names.proofs.NameCases.{store_not_own, default_not_own}
 use Rattle.vab_builder.proofs.PartLaws.{part_absent}
 use Rattle.vab_builder.proofs.RoomLaws.{before_listed}
-use Rattle.vab_builder.proofs.KeepLaws.{runs_few, KeepsGroups, same_groups, more_groups, group_there}
+use Rattle.vab_builder.proofs.KeepLaws.{runs_few, KeepsGroups, same_groups, more_groups}
+use Rattle.vab_builder.proofs.KeepLaws.{group_there}
 use Rattle.vab_builder.proofs.KeepLaws.{part_in, before_once, before_below, before_not_own}
 use Rattle.vab_builder.proofs.KeepLaws.{before_not_store, free_below_cap, free_not_source}
 use Rattle.vab_builder.proofs.KeepLaws.{free_not_target, free_once, target_made, target_part_among}

@@ -19,9 +19,10 @@ use Rattle.vab_layout.specs.Slots.{IsTargetPart, IsStorePart}
 use Rattle.vab_builder.specs.Sizes.{has_part}
 use Rattle.vab_builder.specs.Edits.{with_deleted}
 use Rattle.vab_builder.proofs.Bounds.{few_kept}
-use Rattle.vab_builder.proofs.Counting.{all_from, of_filter, in_filter, Apart, once_pieces}
+use Rattle.vab_builder.proofs.Counting.{Apart, once_pieces}
+use Rattle.vab_blocks.proofs.Contained.{all_from, of_filter, in_filter}
 use Rattle.vab_builder.proofs.Counting.{pieces_once, pieces_apart}
-use Rattle.vab_builder.proofs.NameCases.{ne_name}
+use Rattle.vab_names.proofs.NameCases.{ne_name}
 use Rattle.vab_builder.proofs.PartLaws.{part_absent}
 use Rattle.vab_builder.proofs.KeepLaws.{target_made, target_part_among, store_part_among}
 use Rattle.vab_builder.proofs.Keeps.{Keeps}

@@ -7,7 +7,7 @@ use Rattle.vab_layout.specs.Slots.{own_parts}
 use Rattle.vab_builder.specs.declared.fault.EditFault.TheVariants.{BadName, Unknown, HasStore}
 use Rattle.vab_builder.specs.Sizes.{has_part}
 use Rattle.vab_builder.specs.Edits.{with_deleted, deleted}
-use Rattle.vab_builder.proofs.NameCases.{full_slot}
+use Rattle.vab_names.proofs.NameCases.{full_slot}
 use Rattle.vab_builder.proofs.PartLaws.{has_own}
 use Rattle.vab_builder.proofs.Verdicts.{unless_ok, ok_same}
 use Rattle.vab_builder.specs.Passes.{IsDeleted}

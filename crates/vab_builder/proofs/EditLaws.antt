@@ -1,5 +1,5 @@
 -- The layouts that the edits give, by what the code makes of the target.
-use Rattle.std.proofs.Common.{◌≡◌, ℕ, ◌-◌, ◌^◌, ◌≤◌, Bool, true, false, cond, eqb, List, [], ◌∷◌}
+use Rattle.std.proofs.Common.{◌≡◌, ℕ, ◌-◌, ◌^◌, ◌≤◌, true, false, eqb, List, [], ◌∷◌}
 use Rattle.std.proofs.Common.{length, refl, ap, ◌∙◌, inl, inr, arith}
 use Rattle.std.specs.Prelude.{Contains}
 use Rattle.std.specs.Str.{bytes_eq}
@@ -12,8 +12,8 @@ use Rattle.vab_layout.specs.declared.layout.Layout.{Layout}
 use Rattle.vab_layout.specs.Slots.{blocks_named, before_of, own_parts, IsOwn}
 use Rattle.vab_builder.specs.Edits.{free_of, kept_blocks, resized_blocks, resized_part, updated}
 use Rattle.vab_builder.specs.Edits.{changed, store_blocks, with_resized}
-use Rattle.vab_builder.proofs.Counting.{first, later, of_filter}
-use Rattle.vab_builder.proofs.NameCases.{same_name, full_slot}
+use Rattle.vab_blocks.proofs.Contained.{first, later, of_filter}
+use Rattle.vab_names.proofs.NameCases.{same_name, full_slot}
 use Rattle.vab_builder.proofs.OwnLaws.{own_rules}
 use Rattle.vab_builder.proofs.PartLaws.{named_cases, named_is, part_there, has_own}
 use Rattle.vab_builder.proofs.RoomLaws.{resize_room, store_room}
@@ -21,6 +21,7 @@ use Rattle.vab_builder.specs.Sizes.{has_part, used_by, wants_resized, wants_stor
 use Rattle.vab_builder.specs.Update.{IsUpdate}
 use Rattle.vab_builder.specs.Passes.{store_size}
 use Rattle.vab_builder.specs.Edits.{resized_to}
+use Rattle.vab_builder.proofs.Bounds.{either_small}
 
 pub changed_same : (name : List ℕ) (f g : Part → Part) (parts : List Part)
     → ((p : Part) → Contains parts p → p.name ≡ name → f p ≡ g p)
@@ -58,10 +59,6 @@ named_small slot name parts own of = elim (named_cases name parts) [
   | inr r ↦ let is = own_rules slot parts r.0 own r.1 (ap (is_of_slot slot) r.2 ∙ of) in
       omega (arith, ap length r.3, is.size)
 ]
-
-either_small : (b : Bool) (m n k : ℕ) → m ≤ k → n ≤ k → cond b m n ≤ k
-either_small true m n k hm hn = hm
-either_small false m n k hm hn = hn
 
 -- a store has few blocks
 pub store_few : (slot : ℕ) (target : Layout) (name : List ℕ) (bytes : ℕ) → IsOwn slot target.parts

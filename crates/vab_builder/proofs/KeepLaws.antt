@@ -25,9 +25,9 @@ use Rattle.vab_layout.specs.Slots.{other_slot, own_parts, store_parts, before_of
 use Rattle.vab_layout.specs.Slots.{is_updated, IsDistinct, IsOwn, IsOwnPart, IsTarget, IsTargetPart}
 use Rattle.vab_layout.specs.Slots.{IsStorePart}
 use Rattle.vab_builder.specs.Edits.{free_of, with_group}
-use Rattle.vab_builder.proofs.Counting.{first, in_map, of_map, in_piece, none_in_nil, of_filter}
+use Rattle.vab_blocks.proofs.Contained.{first, in_map, of_map, in_piece, none_in_nil, of_filter}
 use Rattle.vab_builder.proofs.Counting.{pairs_left, pieces_once, once_ascending}
-use Rattle.vab_builder.proofs.NameCases.{same_name, eq_name, in_slot_is, in_slot_same}
+use Rattle.vab_names.proofs.NameCases.{same_name, eq_name, in_slot_is, in_slot_same}
 use Rattle.vab_builder.proofs.PartLaws.{named_cases, named_own, names_apart}
 use Rattle.vab_builder.proofs.RoomLaws.{before_listed, begun_or_fresh}
 use Rattle.vab_builder.specs.Update.{IsUpdate}

@@ -3,7 +3,6 @@ pub mod SlotLaws
 pub mod ImportLaws
 pub mod TableLaws
 pub mod Counting
-pub mod NameCases
 pub mod PartLaws
 pub mod OwnLaws
 pub mod ChangeLaws

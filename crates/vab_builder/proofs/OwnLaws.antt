@@ -6,8 +6,8 @@ use Rattle.vab_names.specs.Names.{is_of_slot}
 use Rattle.vab_names.proofs.NameLaws.{of_slot_long}
 use Rattle.vab_layout.specs.declared.layout.Part.{Part}
 use Rattle.vab_layout.specs.Slots.{own_parts, IsOwn, IsOwnPart}
-use Rattle.vab_builder.proofs.Counting.{in_filter}
-use Rattle.vab_builder.proofs.NameCases.{full_short}
+use Rattle.vab_blocks.proofs.Contained.{in_filter}
+use Rattle.vab_names.proofs.NameCases.{full_short}
 
 pub own_rules : (slot : ℕ) (parts : List Part) (p : Part) → IsOwn slot parts → Contains parts p
     → is_of_slot slot p.name ≡ true → IsOwnPart slot p

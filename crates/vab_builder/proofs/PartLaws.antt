@@ -11,9 +11,11 @@ use Rattle.vab_layout.specs.declared.layout.Part.{Part}
 use Rattle.vab_layout.specs.Layout.{blocks_of_parts}
 use Rattle.vab_layout.specs.Slots.{own_parts, blocks_named, IsDistinct}
 use Rattle.vab_builder.specs.Sizes.{has_part}
-use Rattle.vab_builder.proofs.Counting.{cons_cases, later, first, none_in_nil, pairs_head}
-use Rattle.vab_builder.proofs.Counting.{pairs_tail, pairs_right, in_piece, Apart, apart_parts}
-use Rattle.vab_builder.proofs.NameCases.{same_name, eq_name, ne_name, other_name}
+use Rattle.vab_builder.proofs.Counting.{pairs_head}
+use Rattle.vab_blocks.proofs.Contained.{cons_cases, later, first, none_in_nil}
+use Rattle.vab_builder.proofs.Counting.{pairs_tail, pairs_right, Apart, apart_parts}
+use Rattle.vab_blocks.proofs.Contained.{in_piece}
+use Rattle.vab_names.proofs.NameCases.{same_name, eq_name, ne_name, other_name}
 
 pub same_entry : {E : Type 0} (name : E → List ℕ) (xs : List E) (x y : E) → NamesDiffer name xs
     → Contains xs x → Contains xs y → name x ≡ name y → x ≡ y

@@ -16,15 +16,15 @@ use Rattle.vab_tables.specs.Rules.{cap_of}
 use Rattle.vab_layout.specs.declared.layout.Part.{Part}
 use Rattle.vab_layout.specs.declared.layout.Layout.{Layout}
 use Rattle.vab_blocks.specs.Runs.{runs_of}
-use Rattle.vab_layout.specs.Layout.{blocks_of_parts}
 use Rattle.vab_layout.specs.Rules.{IsPart}
-use Rattle.vab_layout.specs.Slots.{other_slot, own_parts, store_parts, before_of, blocks_named}
+use Rattle.vab_layout.specs.Slots.{own_parts, store_parts, before_of, blocks_named}
 use Rattle.vab_layout.specs.Slots.{IsDistinct, IsOwnPart, IsTargetPart}
 use Rattle.vab_builder.specs.Edits.{free_of, kept_blocks, resized_blocks, resized_part, changed}
 use Rattle.vab_builder.specs.Edits.{with_resized}
-use Rattle.vab_builder.proofs.Counting.{all_from, of_take, of_drop, Apart, once_append, once_take}
+use Rattle.vab_builder.proofs.Counting.{Apart, once_append, once_take}
+use Rattle.vab_blocks.proofs.Contained.{all_from, of_take, of_drop}
 use Rattle.vab_builder.proofs.Counting.{once_drop, pieces_once}
-use Rattle.vab_builder.proofs.NameCases.{full_slot}
+use Rattle.vab_names.proofs.NameCases.{full_slot}
 use Rattle.vab_builder.proofs.RoomLaws.{before_listed, length-kept_blocks}
 use Rattle.vab_builder.proofs.EditLaws.{same_size, other_size}
 use Rattle.vab_builder.proofs.KeepLaws.{runs_few, before_once, before_below, before_not_own}
@@ -36,6 +36,7 @@ use Rattle.vab_builder.proofs.ChangedTarget.{changed_differ, changed_sum, apart_
 use Rattle.vab_builder.proofs.Keeps.{Keeps}
 use Rattle.vab_builder.specs.Update.{IsUpdate}
 use Rattle.vab_builder.specs.Passes.{IsResized}
+use Rattle.vab_builder.proofs.RoomLaws.{source_blocks}
 
 -- ---- the attribute of an updated partition
 
@@ -125,9 +126,6 @@ rest_none slot source target p n le =
     none_taken (n - length (kept_blocks before p.blocks n)) (free_of slot source target)
     (omega (arith, le, length-kept_blocks before p.blocks n)) in
     rw (back, front) refl
-
-abbrev source_blocks : ℕ → Layout → List ℕ
-source_blocks slot source = blocks_of_parts (own_parts (other_slot slot) source.parts)
 
 rest_fresh : (slot : ℕ) (source target : Layout) (p : Part) (n : ℕ)
     → All (λ b. Contains (source_blocks slot source) b

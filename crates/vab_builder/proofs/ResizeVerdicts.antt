@@ -13,7 +13,7 @@ use Rattle.vab_builder.specs.declared.fault.EditFault.TheVariants.{BadName, BadS
 use Rattle.vab_builder.specs.declared.fault.EditFault.TheVariants.{HasStore, GroupLimit, NoRoom}
 use Rattle.vab_builder.specs.Sizes.{has_part, is_within}
 use Rattle.vab_builder.specs.Edits.{group_named, with_resized, resized}
-use Rattle.vab_builder.proofs.NameCases.{full_slot, ne_name}
+use Rattle.vab_names.proofs.NameCases.{full_slot, ne_name}
 use Rattle.vab_builder.proofs.PartLaws.{has_own}
 use Rattle.vab_builder.proofs.Verdicts.{unless_ok, ok_same}
 use Rattle.vab_builder.specs.Passes.{resized_group_sum, resized_group_limit, resized_in_use}

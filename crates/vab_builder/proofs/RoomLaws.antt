@@ -24,16 +24,17 @@ use Rattle.vab_layout.specs.Slots.{IsTargetPart, IsStorePart}
 use Rattle.vab_builder.specs.Sizes.{has_part, want_of, wants_of, wants_resized, wants_stored}
 use Rattle.vab_builder.specs.Sizes.{used_by}
 use Rattle.vab_builder.specs.Edits.{created_blocks, free_of, kept_blocks, resized_blocks}
-use Rattle.vab_builder.proofs.Counting.{cons_cases, first, later, none_in_nil, of_take, of_drop}
-use Rattle.vab_builder.proofs.Counting.{of_filter, in_filter, in_piece, some_piece, pairs_head}
+use Rattle.vab_blocks.proofs.Contained.{cons_cases, first, later, none_in_nil, of_take, of_drop}
+use Rattle.vab_builder.proofs.Counting.{pairs_head}
+use Rattle.vab_blocks.proofs.Contained.{of_filter, in_filter, in_piece, some_piece}
 use Rattle.vab_builder.proofs.Counting.{pairs_tail, enough_free, free_same}
-use Rattle.vab_builder.proofs.NameCases.{eq_name, ne_name, store_is_store, in_slot_is}
+use Rattle.vab_names.proofs.NameCases.{eq_name, ne_name, store_is_store, in_slot_is}
 use Rattle.vab_builder.proofs.PartLaws.{named_cases, named_is, named_own, named_none, named_listed}
 use Rattle.vab_builder.specs.Update.{IsUpdate}
 
 -- ---- the same blocks, counted once
 
-abbrev source_blocks : ℕ → Layout → List ℕ
+abbrev pub source_blocks : ℕ → Layout → List ℕ
 source_blocks slot source = blocks_of_parts (own_parts (other_slot slot) source.parts)
 
 abbrev target_blocks : ℕ → Layout → List ℕ

@@ -26,11 +26,11 @@ use Rattle.vab_layout.specs.Slots.{IsOwnPart, IsTarget, IsTargetPart, IsStorePar
 use Rattle.vab_builder.specs.Import.{stores_group}
 use Rattle.vab_builder.specs.Edits.{free_of, changed, updated, store_part, store_blocks, with_group}
 use Rattle.vab_builder.specs.Edits.{with_store}
-use Rattle.vab_builder.proofs.Counting.{all_from, cons_cases, none_in_nil, of_take, in_map, of_map}
+use Rattle.vab_blocks.proofs.Contained.{all_from, cons_cases, none_in_nil, of_take, in_map, of_map}
 use Rattle.vab_builder.proofs.Counting.{pairs_append, Apart, once_take, once_pieces, pieces_once}
 use Rattle.vab_builder.proofs.Counting.{pieces_apart}
-use Rattle.vab_builder.proofs.NameCases.{full_slot, full_named, full_few, store_not_own}
-use Rattle.vab_builder.proofs.NameCases.{store_is_store, store_of_same, cow_not_own, eq_name}
+use Rattle.vab_names.proofs.NameCases.{full_slot, full_named, full_few, store_not_own}
+use Rattle.vab_names.proofs.NameCases.{store_is_store, store_of_same, cow_not_own, eq_name}
 use Rattle.vab_builder.proofs.PartLaws.{part_absent}
 use Rattle.vab_builder.proofs.EditLaws.{own_there, store_few}
 use Rattle.vab_builder.proofs.KeepLaws.{runs_few, more_groups, group_there, part_in, free_below_cap}

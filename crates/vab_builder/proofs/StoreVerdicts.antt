@@ -10,7 +10,7 @@ use Rattle.vab_builder.specs.declared.fault.EditFault.TheVariants.{BadName, BadS
 use Rattle.vab_builder.specs.declared.fault.EditFault.TheVariants.{HasStore, NoRoom}
 use Rattle.vab_builder.specs.Sizes.{has_part}
 use Rattle.vab_builder.specs.Edits.{store_blocks, with_store, stored}
-use Rattle.vab_builder.proofs.NameCases.{full_slot}
+use Rattle.vab_names.proofs.NameCases.{full_slot}
 use Rattle.vab_builder.proofs.PartLaws.{has_own}
 use Rattle.vab_builder.proofs.Verdicts.{unless_ok, ok_same}
 use Rattle.vab_builder.specs.Passes.{store_size, stored_in_use, IsStored}

@@ -18,7 +18,7 @@ use Rattle.vab_builder.specs.Sizes.{has_part, is_within}
 use Rattle.vab_builder.specs.Edits.{unless, with_created, created}
 use Rattle.vab_builder.specs.Gives.{GivesLayout}
 use Rattle.vab_builder.specs.Update.{Refuses}
-use Rattle.vab_builder.proofs.NameCases.{full_slot}
+use Rattle.vab_names.proofs.NameCases.{full_slot}
 use Rattle.vab_builder.proofs.PartLaws.{has_own}
 use Rattle.vab_builder.specs.Passes.{created_group_sum, created_group_limit}
 use Rattle.vab_builder.specs.Passes.{created_in_use, IsCreated}

@@ -33,7 +33,7 @@ pub(crate) fn is_within(sum: u64, limit: u64) -> bool
 }
 
 /// The name, if it is a base name and the slot's suffix.
-#[tactic(auto, using(crate::proofs::NameCases::full_named))]
+#[tactic(auto, using(vab_names::proofs::NameCases::full_named))]
 pub(crate) fn full_name(name: &[u8], slot: usize) -> Option<Name36>
     requires { slot < 2 }
     ensures value { IfSome result (λ n. n ≡ name.now) }

@@ -404,7 +404,8 @@ module _ {D : Type 0}
         refused = λ t fault is. not_refused fault is;
         touches = λ t.
             made_served g set size IsOfAll old mid new (made t) (changes_touches g _ old mid makes)
-            (served_changes g size IsOfAll d mid now new t (represents t) (opens_there now (opens t))
+            (served_changes g size IsOfAll d mid now new t (represents t)
+            (opens_there now (opens t))
             (lived.changes t));
         quiet = λ t.
             let lives = lived.quiet t in

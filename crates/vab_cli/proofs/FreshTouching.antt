@@ -97,13 +97,15 @@ module _ (set : List SetImage) (size : ℕ) (image : Image)
 
     slot : r.mark.slot ≡ 0
     slot =
-        first_slot r.mark.slot (is_some (kept r).a) r.tables (plain 0 (made_layout set 0 size)) placed
+        first_slot r.mark.slot (is_some (kept r).a) r.tables (plain 0 (made_layout set 0 size))
+        placed
 
     -- the one table that is read is slot a's
     one_slot : (k : ℕ) → IsOneOf k ((phase_at r.mark.phase).tables r.mark.slot) → k ≡ 0
     one_slot k is_read =
         of_one k r.mark.slot slot
-        (subst (λ (p : Phase). IsOneOf k (p.tables r.mark.slot)) (idle_at r.mark.phase phase) is_read)
+        (subst (λ (p : Phase). IsOneOf k (p.tables r.mark.slot)) (idle_at r.mark.phase phase)
+        is_read)
 
   -- a copy's text takes no more than its place
   within : (at : ℕ) (text : List ℕ) (s : ℕ) (bytes : List ℕ) (first : ℕ)

@@ -2,7 +2,7 @@
 use Rattle.std.proofs.Common.{◌≡◌, ◌∙◌, ◌⊎◌, inl, inr, ◌<◌, ℕ, List, [], length, refl, sym, ap}
 use Rattle.std.proofs.Common.{Result, Ok, Err}
 use Rattle.vab_disk.specs.declared.disk.Disk.{Ghosts}
-use Rattle.vab_disk.specs.Disk.{Image, Outcome, Leaves}
+use Rattle.vab_disk.specs.Disk.{Image, Outcome, Leaves, Hearing}
 use Rattle.vab_set.specs.declared.set.SetImage.{SetImage}
 use Rattle.vab_set.specs.declared.fault.SetFault.{SetFault}
 use Rattle.vab_set.specs.declared.fault.SetFault.TheVariants as faults
@@ -18,12 +18,21 @@ use Rattle.vab_cli.specs.declared.status.Status.{Status}
 use Rattle.vab_cli.specs.declared.status.Status.TheVariants.{Done, Malformed, NotADevice, Port}
 use Rattle.vab_cli.specs.declared.status.Status.TheVariants.{NoMemory}
 use Rattle.vab_cli.specs.Codes.{input_status, set_status}
+use Rattle.vab_cli.specs.Counts.{HearsWhole}
 use Rattle.vab_cli.specs.Installing.{RunsOrFails}
 use Rattle.vab_cli.specs.Runs.{Held, IsEarly, IsFailed, FailsBefore, RunsNone}
 use Rattle.vab_cli.specs.Verbs.{line_item}
 use Rattle.vab_cli.proofs.Items.{none_done, none_told as nothing_told}
 use Rattle.vab_cli.proofs.Lines.{not_failed}
 use Rattle.vab_cli.proofs.Running.{MeansSame, runs_done, runs_failed, runs_short}
+
+-- where the input is not too long, and isn't had, nothing is owed of how it was heard
+pub unheard_whole : (f : InputFault) (old new : List Hearing)
+    → ((f ≡ input.TooLong) → ⊥)
+    → HearsWhole old new (input_status f)
+unheard_whole input.TooLong old new other = absurd (other refl)
+unheard_whole input.Source old new other = λ port memory. absurd (port refl)
+unheard_whole input.NoMemory old new other = λ port memory. absurd (memory refl)
 
 -- a set that isn't read is malformed, or memory was refused
 pub set_kind : (f : SetFault) → (set_status f ≡ Malformed) ⊎ (set_status f ≡ NoMemory)

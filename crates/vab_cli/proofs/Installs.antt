@@ -29,7 +29,8 @@ use Rattle.vab_cli.specs.Installing.{install_effect, install_item, install_told,
 use Rattle.vab_cli.specs.Installing.{installed_line, install_status}
 use Rattle.vab_cli.specs.Telling.{DoesItem, LeavesShort, Says}
 use Rattle.vab_cli.specs.Verbs.{refused_line}
-use Rattle.vab_cli.proofs.Items.{mounted_is, item_fails, item_does, last_step}
+use Rattle.vab_cli.proofs.Items.{mounted_is, item_fails, item_does}
+use Rattle.vab_update.proofs.OrderLaws.{last_step}
 use Rattle.vab_cli.proofs.Lines.{line_some, current_is, left_here}
 
 -- each reply has a line

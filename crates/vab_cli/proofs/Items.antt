@@ -1,5 +1,5 @@
 -- Items that are done, by what was done and told for them.
-use Rattle.std.proofs.Common.{◌≡◌, ◌∙◌, inl, inr, ℕ, ◌<◌, List, [], ◌∷◌, ◌++◌, length, take}
+use Rattle.std.proofs.Common.{◌≡◌, ◌∙◌, inl, ℕ, ◌<◌, List, [], ◌++◌, length, take}
 use Rattle.std.proofs.Common.{Result, Ok, Err, refl, sym, ap, subst, arith, length-append}
 use Rattle.std.specs.Prelude.{Bool, true, false, None, OnOk}
 use Rattle.std.proofs.lemmas.List.{append-nil}
@@ -14,7 +14,7 @@ use Rattle.vab_model.specs.Commands.{Command, SetActive, Boot, Mark, Print, Dige
 use Rattle.vab_model.specs.Commands.{Resize, Delete, Snapshot, Flash, Finish, Cancel, BeginMerge}
 use Rattle.vab_model.specs.Commands.{Merge}
 use Rattle.vab_model.specs.Effects.{Found, Image_is, Refused_by, found_of, effect, effect_map}
-use Rattle.vab_model.specs.Effects.{Effect, print_effect, last_of, steps_of, after_of, IsOneOf}
+use Rattle.vab_model.specs.Effects.{Effect, print_effect, steps_of, after_of, IsOneOf}
 use Rattle.vab_model.specs.Effects.{unless_refused}
 use Rattle.vab_device.specs.declared.device.Device.{Device}
 use Rattle.vab_device.specs.declared.fault.StartFault.{StartFault}
@@ -30,6 +30,7 @@ use Rattle.vab_exchanges.proofs.RunLaws.{telling}
 use Rattle.vab_cli.specs.Telling.{DoesItem, Says}
 use Rattle.vab_session.specs.Served.{nothing_staged}
 use Rattle.vab_cli.specs.Verbs.{command_item, line_item, IsVerb}
+use Rattle.vab_update.proofs.OrderLaws.{last_step}
 
 on_ok : {A E P : Type 0} (r : Result A E) → P → OnOk r P
 on_ok (Ok x) p = p
@@ -61,11 +62,6 @@ says_err g bytes old new x y says = record {
   heard = says.heard;
   time = says.time;
 }
-
--- the last of some steps is one of them
-pub last_step : {S : Type 0} (s : S) (later : List S) → IsOneOf (s ∷ later) (last_of s later)
-last_step s [] = inl refl
-last_step s (x ∷ xs) = inr (last_step x xs)
 
 -- where the disk is this device, the one that is kept is it
 pub mounted_is : (d : Device) (size : ℕ) (image : Image) (s : Mounted)

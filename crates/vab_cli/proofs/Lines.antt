@@ -77,7 +77,8 @@ not_failed status held (inr port) = subst Held port held
 pub verb_kind : (m : Mounted) (c : Command) → IsFailed (verb_status m c) → ⊥
 verb_kind m c = not_failed (verb_status m c) (held_reply (effect_on m None c).reply)
 
-pub current_is : (d : Device) (image : Image) → (state_on d image).control.current ≡ d.control.current
+pub current_is : (d : Device) (image : Image)
+    → (state_on d image).control.current ≡ d.control.current
 unfolding state_on
 current_is d image = refl
 

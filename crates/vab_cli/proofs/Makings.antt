@@ -28,6 +28,7 @@ use Rattle.vab_input.specs.declared.input.InputFault.TheVariants as input
 use Rattle.vab_cli.specs.Telling.{Tells}
 use Rattle.vab_cli.specs.Verbs.{is_silent, make_line, line_item}
 use Rattle.vab_cli.specs.Runs.{IsFailed, LeavesTelling, RunsRefused, RunsMaking, MakesWithin}
+use Rattle.vab_cli.specs.MadeDisk.{HoldsMade}
 use Rattle.vab_cli.proofs.Running.{settled_image}
 
 -- ---- faults of making
@@ -41,7 +42,9 @@ not_of_disk (make.TableFull size max) fault gives disk = disk
 not_of_disk make.NoMemory fault gives disk = disk
 not_of_disk (make.Disk d) fault gives disk = let same = gives in cc
 
-pub silent_early : (f : MakeFault) → is_silent f ≡ true → (make_status f ≡ Disk) ⊎ (f ≡ make.NoMemory)
+pub silent_early : (f : MakeFault)
+    → is_silent f ≡ true
+    → (make_status f ≡ Disk) ⊎ (f ≡ make.NoMemory)
 silent_early (make.TooSmall need have) is = cc
 silent_early (make.GroupLimit used limit) is = cc
 silent_early (make.NoRoom used blocks) is = cc
@@ -59,7 +62,10 @@ memory_of_none make.NoMemory is disk = disk
 memory_of_none (make.Disk d) is disk = cc
 
 -- where there is a refusal and nothing is told, memory was refused
-pub silent_memory : (f fault : MakeFault) → Gives {A = Unit {0}} (Err f) (Some fault) → is_silent f ≡ true → make_status f ≡ NoMemory
+pub silent_memory : (f fault : MakeFault)
+    → Gives {A = Unit {0}} (Err f) (Some fault)
+    → is_silent f ≡ true
+    → make_status f ≡ NoMemory
 silent_memory (make.TooSmall need have) fault gives is = cc
 silent_memory (make.GroupLimit used limit) fault gives is = cc
 silent_memory (make.NoRoom used blocks) fault gives is = cc
@@ -68,7 +74,10 @@ silent_memory make.NoMemory fault gives is = refl
 silent_memory (make.Disk d) fault gives is = let same = gives in cc
 
 -- and what is told is the refusal
-pub loud_refusal : (f fault : MakeFault) → Gives {A = Unit {0}} (Err f) (Some fault) → is_silent f ≡ false → f ≡ fault
+pub loud_refusal : (f fault : MakeFault)
+    → Gives {A = Unit {0}} (Err f) (Some fault)
+    → is_silent f ≡ false
+    → f ≡ fault
 loud_refusal (make.TooSmall need have) fault gives is = let same = gives in cc
 loud_refusal (make.GroupLimit used limit) fault gives is = let same = gives in cc
 loud_refusal (make.NoRoom used blocks) fault gives is = let same = gives in cc
@@ -95,11 +104,15 @@ silent_line make.NoMemory is = refl
 silent_line (make.Disk d) is = cc
 
 -- too few sectors are refused
-small_refused : (set : List SetImage) (limit max size : ℕ) → size < 6152 → refusal_of set limit max size ≡ Some (make.TooSmall 6152 size)
+small_refused : (set : List SetImage) (limit max size : ℕ)
+    → size < 6152
+    → refusal_of set limit max size ≡ Some (make.TooSmall 6152 size)
 unfolding refusal_of
 small_refused set limit max size small = grind (arith, nat_tests)
 
-pub enough_sectors : (set : List SetImage) (limit max size : ℕ) → refusal_of set limit max size ≡ None → 6152 ≤ size
+pub enough_sectors : (set : List SetImage) (limit max size : ℕ)
+    → refusal_of set limit max size ≡ None
+    → 6152 ≤ size
 enough_sectors set limit max size none = elim (cases_eq (6152 - size) 0) [
   | inl enough ↦ omega (arith, enough)
   | inr few ↦ let refused = small_refused set limit max size (omega (arith, few)) in cc
@@ -116,7 +129,9 @@ status_not_port (make.Disk d) is = cc
 -- ---- faults of the input
 
 -- a longer input ends as malformed
-pub heard_fault : (f : InputFault) → ((f ≡ input.TooLong) → ⊥) → (input_status f ≡ Port) ⊎ (input_status f ≡ NoMemory)
+pub heard_fault : (f : InputFault)
+    → ((f ≡ input.TooLong) → ⊥)
+    → (input_status f ≡ Port) ⊎ (input_status f ≡ NoMemory)
 heard_fault input.TooLong other = absurd (other refl)
 heard_fault input.Source other = inl refl
 heard_fault input.NoMemory other = inr refl
@@ -338,6 +353,7 @@ module _ {D : Type 0}
     pub making_told : (old mid new : D) (status : Status)
         → g.told mid ≡ g.told old
         → IsMade set limit max size (g.seen mid)
+        → HoldsMade max (g.seen old) (g.seen mid)
         → IsAtRest g mid
         → (IsAtRest g old
         → Adds g.moment g.outcomes old mid
@@ -345,13 +361,15 @@ module _ {D : Type 0}
         → (status ≡ Done) ⊎ (status ≡ Port)
         → Tells g line Done mid new status
         → RunsMaking g size set limit max line old new status
-    making_told old mid new status told is rest making either tells = record {
+    making_told old mid new status told is holds rest making either tells = record {
       status_is = ⊎_elim (λ done. inl done) (λ port. inr (inl (inr port))) either;
       front = (let front = tells.front in
           (front.0, front.1 ∙ ap (λ (l : List ℕ). l ++ take front.0 line) told));
       whole = λ done. tells.whole done ∙ ap (λ (l : List ℕ). l ++ line) told;
       untold = λ memory. ⊎_elim (λ done. cc) (λ port. cc) either;
       stands = λ done. ap (device size) tells.seen ∙ is;
+      holds = λ done.
+          subst (λ (x : Image). HoldsMade max (g.seen old) x) (sym tells.seen) holds;
       settled = λ done s b held.
           rest s b ((let crash = tells.crash in crash.no_more) s b held)
           ∙ ap (λ (x : Image). x s) (sym tells.seen);
@@ -384,6 +402,7 @@ module _ {D : Type 0}
       whole = λ done. absurd (never done either);
       untold = λ memory. (told, seen memory);
       stands = λ done. absurd (never done either);
+      holds = λ done. absurd (never done either);
       settled = λ done. absurd (never done either);
       time = λ rest. making_left old new (making rest);
       every_cut = λ rest. making_cuts old new (making_left old new (making rest)) rest;
@@ -409,6 +428,8 @@ module _ {D : Type 0}
       whole = λ done. runs.whole done ∙ ap (λ (l : List ℕ). l ++ line) told;
       untold = λ memory. (let untold = runs.untold memory in (untold.0 ∙ told, untold.1 ∙ seen));
       stands = runs.stands;
+      holds = λ done.
+          subst (λ (x : Image). HoldsMade max x (g.seen new)) seen (runs.holds done);
       settled = runs.settled;
       time = on;
       every_cut = λ rest. making_cuts old new (on rest) rest;

@@ -1,5 +1,6 @@
 -- What the verbs do, by what their functions do.
-use Rattle.std.proofs.Common.{◌≡◌, ◌≢◌, ◌⊎◌, ◌∙◌, inl, inr, ⊎_elim, ◌≤◌, ◌<◌, ◌^◌, ◌++◌, ℕ, List, [], length}
+use Rattle.std.proofs.Common.{◌≡◌, ◌≢◌, ◌⊎◌, ◌∙◌, inl, inr, ⊎_elim, ◌≤◌, ◌<◌, ◌^◌, ◌++◌, ℕ, List}
+use Rattle.std.proofs.Common.{[], length}
 use Rattle.std.proofs.Common.{◌∷◌, zero, suc, Bool, Option, drop, true, false, None, Some, Ok, Err}
 use Rattle.std.proofs.Common.{refl, sym, ap, subst}
 use Rattle.vab_disk.specs.declared.disk.Disk.{Ghosts}
@@ -34,7 +35,7 @@ use Rattle.vab_cli.specs.declared.status.Status.TheVariants.{Disk, Port, NoMemor
 use Rattle.vab_cli.specs.Codes.{make_status}
 use Rattle.vab_cli.specs.Acts.{Course, RunsActs}
 use Rattle.vab_cli.specs.Demo.{DemonstratesOf}
-use Rattle.vab_cli.specs.Counts.{HearsNothing, IsSteady}
+use Rattle.vab_cli.specs.Counts.{HearsNothing, HearsWhole, IsSteady}
 use Rattle.vab_exchanges.specs.Items.{Item, joined}
 use Rattle.vab_cli.specs.Installing.{Installs, RunsOrFails, install_item, install_status}
 use Rattle.vab_cli.specs.Paging.{TellsPage, page_item}
@@ -42,7 +43,8 @@ use Rattle.vab_cli.specs.Program.{DoesVerb}
 use Rattle.vab_cli.specs.Runs.{NoFault, RunsSession, RunsItem, FailsBefore}
 use Rattle.vab_cli.specs.Runs.{RunsNone, RunsRefused, RunsMaking, FailsMaking}
 use Rattle.vab_cli.specs.Touched.{IsOfVerb, IsOfServing, IsOfFresh}
-use Rattle.vab_cli.specs.Verbs.{command_of, none_line, verb_item, verb_status, make_line, done_making}
+use Rattle.vab_cli.specs.Verbs.{command_of, none_line, verb_item, verb_status, make_line}
+use Rattle.vab_cli.specs.Verbs.{done_making}
 use Rattle.vab_cli.proofs.Running.{item_told}
 use Rattle.vab_cli.proofs.Sessions.{completed}
 
@@ -210,6 +212,7 @@ module _ {D : Type 0}
     malformed = λ t limit max is. is_command m (Make limit max) c some is refl;
     touches_made = λ t limit max is. is_command m (Make limit max) c some is refl;
     end = λ t limit max is. is_command m (Make limit max) c some is refl;
+    heard = λ t limit max is. is_command m (Make limit max) c some is refl;
     install = λ is. is_command m verbs.Install c some is refl;
     tells = λ is. is_command m verbs.Status c some is refl;
     demo = λ seed scale is. is_command m (Demo seed scale) c some is refl;
@@ -274,6 +277,7 @@ module _ {D : Type 0}
     malformed = λ t limit max other. let both = sym is ∙ other in cc;
     touches_made = λ t limit max other. let both = sym is ∙ other in cc;
     end = λ t limit max other. let both = sym is ∙ other in cc;
+    heard = λ t limit max other. let both = sym is ∙ other in cc;
     install = λ other. let both = sym is ∙ other in cc;
     tells = λ other. let both = sym is ∙ other in cc;
     demo = λ seed scale other. let both = sym is ∙ other in cc;
@@ -328,6 +332,7 @@ module _ {D : Type 0}
     malformed = λ t limit max other. let both = sym is ∙ other in cc;
     touches_made = λ t limit max other. let both = sym is ∙ other in cc;
     end = λ t limit max other. let both = sym is ∙ other in cc;
+    heard = λ t limit max other. let both = sym is ∙ other in cc;
     install = λ other. let both = sym is ∙ other in cc;
     tells = λ other. let both = sym is ∙ other in cc;
     demo = λ seed scale other. let both = sym is ∙ other in cc;
@@ -370,8 +375,11 @@ module _ {D : Type 0}
       → set_of (g.input_left old) ≡ Ok set
       → Changes g (InSectors (IsOfMaking set max)) old new)
       → (g.is_modelled → status ≡ Done → g.input_left new ≡ [])
+      → (g.is_modelled
+      → length (g.input_left old) ≤ 2 ^ 32
+      → HearsWhole (g.heard old) (g.heard new) status)
       → DoesVerb g m old new status
-  make_verb limit max is made refused malformed touches end = record {
+  make_verb limit max is made refused malformed touches end heard = record {
     item = λ t c some. no_command m (Make limit max) c is refl some;
     none = λ t c some. no_command m (Make limit max) c is refl some;
     touches = λ t c some. no_command m (Make limit max) c is refl some;
@@ -414,6 +422,7 @@ module _ {D : Type 0}
         subst (λ (x : ℕ). Changes g (InSectors (IsOfMaking set x)) old new) most
         (touches t set spelled);
     end = λ t l x same. end t;
+    heard = λ t l x same. heard t;
     install = λ other. let both = sym is ∙ other in cc;
     tells = λ other. let both = sym is ∙ other in cc;
     demo = λ seed scale other. let both = sym is ∙ other in cc;
@@ -492,6 +501,7 @@ module _ {D : Type 0}
     malformed = λ t limit max other. absurd (not_make limit max (sym is ∙ other));
     touches_made = λ t limit max other. absurd (not_make limit max (sym is ∙ other));
     end = λ t limit max other. absurd (not_make limit max (sym is ∙ other));
+    heard = λ t limit max other. absurd (not_make limit max (sym is ∙ other));
     install = λ other. install (sym is ∙ other);
     tells = λ other. tells (sym is ∙ other);
     demo = λ seed scale other. demo seed scale (sym is ∙ other);

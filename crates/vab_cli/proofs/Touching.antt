@@ -22,7 +22,7 @@ use Rattle.vab_recover.specs.Opening.{IsOfOpening}
 use Rattle.vab_recover.proofs.MendLaws.{opening_misses}
 use Rattle.vab_manager.specs.Controls.{IsOfSlots, IsOfCommand}
 use Rattle.vab_begin.specs.Writes.{MayEnd, IsOfCancelled}
-use Rattle.vab_begin.proofs.KeptLaws.{planned_of, unplanned_of}
+use Rattle.vab_device.proofs.PhaseCases.{planned_of, unplanned_of}
 use Rattle.vab_commands.specs.Writes as writes
 use Rattle.vab_cli.specs.Touched.{IsOfServing, IsOfItem, IsOfMerging, IsOfDone, IsMergedThere}
 use Rattle.vab_cli.specs.Touched.{IsOfVerb, IsDropped, dropped_from}
@@ -258,7 +258,8 @@ module _ {D : Type 0} (g : Ghosts D) (size : ℕ) (W : Device → List ℕ → �
       → Changes g (IsOfServing W size (g.seen old)) old new
   served_changes d old mid new t is opens serves =
       changes_then g (IsOfServing W size (g.seen old)) old mid new
-      (changes_wider g (IsOfServing W size (g.seen old)) (IsOfOpening size (g.seen old)) old mid opens
+      (changes_wider g (IsOfServing W size (g.seen old)) (IsOfOpening size (g.seen old)) old mid
+      opens
       (λ s x w. inl w))
       (changes_wider g (IsOfServing W size (g.seen old)) (W d (g.seen mid 4)) mid new serves
       (λ s x w.

@@ -1,13 +1,20 @@
 -- What a run leaves of the input and of the counts of faults.
-use Rattle.std.specs.Prelude.{◌≡◌}
+use Rattle.std.specs.Prelude.{◌≡◌, ◌≢◌, List}
+use Rattle.vab_disk.specs.Disk.{Hearing}
 use Rattle.vab_disk.specs.declared.disk.Disk.{Ghosts}
 use Rattle.vab_cli.specs.declared.status.Status.{Status}
+use Rattle.vab_cli.specs.declared.status.Status.TheVariants.{Port, NoMemory}
 use Rattle.vab_cli.specs.Runs.{Held}
+use Rattle.vab_input.specs.HearsToEnd.{HearsToEnd}
 
 -- the input is as it was
 pub record HearsNothing {D : Type 0} (g : Ghosts D) (old new : D) : Type 0 where
   pub left : g.input_left new ≡ g.input_left old
   pub heard : g.heard new ≡ g.heard old
+
+-- The input is heard to its end and not beyond it, unless the port failed or memory was refused.
+abbrev pub HearsWhole : (old new : List Hearing) → Status → Type 0
+HearsWhole old new status = status ≢ Port → status ≢ NoMemory → HearsToEnd old new
 
 -- No fault is passed over: unless the run ends by one, the counts are as they were.
 abbrev pub IsSteady : {D : Type 0} → Ghosts D → (old new : D) → Status → Type 0

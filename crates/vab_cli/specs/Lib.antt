@@ -3,6 +3,7 @@ pub mod Codes
 pub mod Counts
 pub mod Demo
 pub mod Installing
+pub mod MadeDisk
 pub mod Opening
 pub mod Paging
 pub mod Program

@@ -33,7 +33,7 @@ use Rattle.vab_cli.specs.declared.status.Status.{Status}
 use Rattle.vab_cli.specs.declared.status.Status.TheVariants.{Done, Usage, Malformed, NotADevice}
 use Rattle.vab_cli.specs.declared.status.Status.TheVariants.{Disk, Port, NoMemory}
 use Rattle.vab_cli.specs.Codes.{make_status}
-use Rattle.vab_cli.specs.Counts.{HearsNothing, IsSteady}
+use Rattle.vab_cli.specs.Counts.{HearsNothing, HearsWhole, IsSteady}
 use Rattle.vab_cli.specs.Demo.{DemonstratesOf, life_of}
 use Rattle.vab_cli.specs.Installing.{Installs, install_told, install_status}
 use Rattle.vab_cli.specs.Paging.{TellsPage}
@@ -166,7 +166,7 @@ pub record DoesVerb {D : Type 0}
       → Changes g (IsOfFresh IsOfCommands (g.size old)) old new
   -- `make` of an input that spells a set: the made device, or the first refusal with its line and
   -- nothing written; of another input status 3, with nothing told or written. Where it is made the
-  -- input was heard to its end.
+  -- input was heard to its end, and whatever comes of it not beyond that.
   pub made : g.is_modelled
       → (limit max : ℕ)
       → m ≡ Make limit max
@@ -201,6 +201,11 @@ pub record DoesVerb {D : Type 0}
       → m ≡ Make limit max
       → status ≡ Done
       → g.input_left new ≡ []
+  pub heard : g.is_modelled
+      → (limit max : ℕ)
+      → m ≡ Make limit max
+      → length (g.input_left old) ≤ 2 ^ 32
+      → HearsWhole (g.heard old) (g.heard new) status
   -- `install` and `status`.
   pub install : m ≡ Install → Installs g old new status
   pub tells : m ≡ verbs.Status → TellsPage g old new status

@@ -23,6 +23,7 @@ use Rattle.vab_cli.specs.declared.status.Status.TheVariants.{Done, Usage, Malfor
 use Rattle.vab_cli.specs.declared.status.Status.TheVariants.{NotADevice, Disk, Port, NoMemory}
 use Rattle.vab_session.specs.Served.{nothing_staged}
 use Rattle.vab_cli.specs.Verbs.{line_item}
+use Rattle.vab_cli.specs.MadeDisk.{HoldsMade}
 
 -- ---- how a run ends
 
@@ -254,8 +255,8 @@ module _ {D : Type 0} (g : Ghosts D) (size : ℕ) where
       ⊎ LeavesMaking told set limit max size old o
 
   -- A device is made of a set, and this line is told. Until its last gate is settled, every cut of
-  -- power leaves the disk as it was, or no device, or the made one; from then on the made one.
-  -- Where memory is refused nothing is told or written.
+  -- power leaves the disk as it was, or no device, or the made one; from then on the made one, with
+  -- both copies of all there are two of. Where memory is refused nothing is told or written.
   pub record RunsMaking
       (set : List SetImage)
       (limit max : ℕ)
@@ -267,6 +268,7 @@ module _ {D : Type 0} (g : Ghosts D) (size : ℕ) where
     pub whole : status ≡ Done → g.told new ≡ g.told old ++ line
     pub untold : status ≡ NoMemory → (g.told new ≡ g.told old) × (g.seen new ≡ g.seen old)
     pub stands : status ≡ Done → IsIn size (made_device_of set limit max size) (g.seen new)
+    pub holds : status ≡ Done → HoldsMade max (g.seen old) (g.seen new)
     pub settled : status ≡ Done → IsAtRest g new
     pub time : IsAtRest g old
         → Adds g.moment g.outcomes old new

@@ -15,6 +15,7 @@ ghost use Rattle.vab_cli.specs.Counts.{IsSteady};
 ghost use Rattle.vab_cli.specs.Verbs.{is_silent, make_line, done_making};
 ghost use Rattle.vab_cli.specs.Runs.{RunsRefused, RunsMaking};
 ghost use Rattle.vab_cli.specs.Telling.{Tells};
+ghost use Rattle.vab_cli.specs.Counts.{HearsWhole};
 
 use crate::Status;
 use crate::line::NOT_A_DEVICE;
@@ -139,6 +140,7 @@ fn make_of<P: Port>(alloc: Global, port: &mut P, set: &Set, limit: u64, max: u32
     ensures changes { P.is_modelled
         → Changes P.Disk (InSectors (IsOfMaking set.now max)) port.old port.new }
     ensures left { P.is_modelled → P.input_left port.new ≡ P.input_left port.old }
+    ensures heard { P.is_modelled → P.heard port.new ≡ P.heard port.old }
     ensures steady { IsSteady P.Disk port.old port.new result }
     ensures words { result ≢ Status.Usage }
     ensures disk { result ≡ Status.Disk → Rose (P.faults port.old).disk (P.faults port.new).disk }
@@ -186,6 +188,10 @@ pub(crate) fn make<P: Port>(alloc: Global, port: &mut P, limit: u64, max: u32) -
         → Changes P.Disk (InSectors (IsOfMaking set max)) port.old port.new }
     // Once it is done the whole input was heard.
     ensures end { P.is_modelled → result ≡ Status.Done → P.input_left port.new ≡ [] }
+    // And not beyond its end, whatever comes of it.
+    ensures heard { P.is_modelled
+        → length (P.input_left port.old) ≤ 2 ^ 32
+        → HearsWhole (P.heard port.old) (P.heard port.new) result }
     ensures steady { IsSteady P.Disk port.old port.new result }
     ensures words { result ≢ Status.Usage }
     ensures disk { result ≡ Status.Disk → Rose (P.faults port.old).disk (P.faults port.new).disk }

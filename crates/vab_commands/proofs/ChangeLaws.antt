@@ -2,7 +2,8 @@
 use Rattle.std.proofs.Common.{◌≡◌, ◌∙◌, ◌⊎◌, inl, inr, ⊎_elim, ℕ, ◌<◌, List, [], ◌∷◌, Ok, refl}
 use Rattle.std.proofs.Common.{sym, ap, false}
 use Rattle.std.proofs.Common.{Result, subst, arith}
-use Rattle.std.specs.Prelude.{◌-◌, ◌*◌, ◌≤◌, Bool, true, Option, Some, None, is_some, ◌==◌, if◌then◌else◌}
+use Rattle.std.specs.Prelude.{◌-◌, ◌*◌, ◌≤◌, Bool, true, Option, Some, None, is_some, ◌==◌}
+use Rattle.std.specs.Prelude.{if◌then◌else◌}
 use Rattle.vab_disk.specs.declared.disk.Disk.{Ghosts}
 use Rattle.std.proofs.lemmas.Bool.{cases_Bool}
 use Rattle.vab_disk.specs.Disk.{Image}

@@ -11,7 +11,7 @@ use Rattle.vab_layout.specs.declared.layout.Part.{Part as PartOfLayout}
 use Rattle.vab_layout.specs.declared.layout.Layout.{Layout}
 use Rattle.vab_layout.specs.Layout.{layout_of}
 use Rattle.vab_layout.specs.Slots.{other_slot, own_parts}
-use Rattle.vab_builder.proofs.Counting.{of_filter, first, later}
+use Rattle.vab_blocks.proofs.Contained.{of_filter, first, later}
 use Rattle.vab_device.specs.declared.device.Part.{Part}
 use Rattle.vab_device.specs.declared.device.Device.{Device}
 use Rattle.vab_device.specs.Kept.{IsDevice, copies_end, parts_at, sectors_of}
@@ -20,7 +20,8 @@ use Rattle.vab_device.specs.Phases.{planned_on, store_on}
 use Rattle.vab_device.specs.Reading.{Represents, IsOfBlocks, IsOfImages, parts_for, table_for}
 use Rattle.vab_device.specs.Stores.{Scanned, first_named}
 use Rattle.vab_flash.specs.Touched.{store_in, store_named}
-use Rattle.vab_flash.proofs.ApartLaws.{block_behind, images_miss}
+use Rattle.vab_flash.proofs.ApartLaws.{images_miss}
+use Rattle.vab_device.proofs.PartBlocks.{block_behind}
 use Rattle.vab_flash.proofs.DeadLaws.{Tables, tables_kept}
 use Rattle.vab_flash.proofs.InstallingLaws.{Installs, installs_of}
 use Rattle.vab_commands.specs.Touched.{IsFree}

@@ -13,3 +13,7 @@ pub mod StayLaws
 pub mod Steps
 pub mod StoreLaws
 pub mod UpdateLaws
+pub mod PhaseCases
+pub mod PartBlocks
+pub mod NamedParts
+pub mod OwnParts

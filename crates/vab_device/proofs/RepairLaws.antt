@@ -9,7 +9,8 @@ use Rattle.vab_geometry.specs.Geometry.{IsGeometry}
 use Rattle.vab_gate.proofs.Blocks.{sectors_same}
 use Rattle.vab_marks.specs.declared.mark.MarkPhase.{MarkPhase}
 use Rattle.vab_marks.specs.declared.mark.MarkPhase.TheVariants as marks
-use Rattle.vab_lpstore.specs.Layout.{copy_sectors, primary_of, backup_of, primary_bytes, backup_bytes}
+use Rattle.vab_lpstore.specs.Layout.{copy_sectors, primary_of, backup_of, primary_bytes}
+use Rattle.vab_lpstore.specs.Layout.{backup_bytes}
 use Rattle.vab_lpstore.specs.Loading.{slot_table}
 use Rattle.vab_lpstore.specs.Loading as loading
 use Rattle.vab_tables.specs.Reading.{table_of}
@@ -28,7 +29,7 @@ use Rattle.vab_device.proofs.Behind.{images_behind, stores_behind, plan_behind}
 abbrev pub end_of : Geometry → ℕ → ℕ
 end_of g slot = backup_of g slot + copy_sectors g
 
-ends_within : (g : Geometry) (slot : ℕ) → IsGeometry g → slot < 2 → 512 * (end_of g slot - 4096) ≤ copies_end g
+pub ends_within : (g : Geometry) (slot : ℕ) → IsGeometry g → slot < 2 → 512 * (end_of g slot - 4096) ≤ copies_end g
 ends_within g slot is below =
     let whole : 512 * (g.max / 512) ≡ g.max = omega (arith, is.sectors) in
     let second = backup_byte g slot is in

@@ -4,7 +4,7 @@ use Rattle.std.proofs.Common.{◌∷◌, ◌++◌, length, get_or, take, drop, r
 use Rattle.std.specs.Prelude.{map, slice_set}
 use Rattle.std.specs.Str.{bytes_eq}
 use Rattle.std.proofs.lemmas.Bool.{cases_Bool}
-use Rattle.vab_builder.proofs.NameCases.{ne_name}
+use Rattle.vab_names.proofs.NameCases.{ne_name}
 use Rattle.vab_device.specs.declared.device.Part.{Part}
 use Rattle.vab_edit.specs.Carried.{planned_named}
 

@@ -1,73 +1,38 @@
 -- What holds of a kept device with another table and plan of the target.
-use Rattle.std.proofs.Common.{◌≡◌, ◌≢◌, ◌∙◌, inl, inr, ℕ, ◌+◌, ◌*◌, ◌≤◌, ◌<◌}
-use Rattle.std.proofs.Common.{Bool, true, false, List, [], ◌∷◌, ◌++◌, length, get_or, refl, sym}
+use Rattle.std.proofs.Common.{◌≡◌, inl, inr, ℕ, ◌+◌, ◌*◌, ◌≤◌, ◌<◌}
+use Rattle.std.proofs.Common.{Bool, true, false, List, [], ◌∷◌, ◌++◌, get_or, refl, sym}
 use Rattle.std.proofs.Common.{subst, arith}
-use Rattle.std.specs.Prelude.{map, All, AllPairs, Contains, Option, Some, None}
+use Rattle.std.specs.Prelude.{map, All, Contains, Option, Some, None}
 use Rattle.std.specs.Prelude.{option_map}
 use Rattle.std.specs.Str.{bytes_eq}
-use Rattle.std.proofs.lemmas.Bool.{cases_Bool, leb-true, and_parts}
-use Rattle.std.proofs.lemmas.List.{length-map, get_or-map}
+use Rattle.std.proofs.lemmas.Bool.{cases_Bool}
+use Rattle.std.proofs.lemmas.List.{length-map}
 use Rattle.std.proofs.lemmas.List.Elements.{All-map, All-head, All-tail, All-contains}
 use Rattle.vab_names.specs.Names.{is_of_slot, is_store, store_of}
 use Rattle.vab_geometry.specs.declared.geometry.Geometry.{Geometry}
-use Rattle.vab_tables.specs.declared.entries.BlockDevice.{BlockDevice}
-use Rattle.vab_tables.specs.Rules.{cap_of, IsDevice as IsBlockDevice}
+use Rattle.vab_tables.specs.Rules.{cap_of}
 use Rattle.vab_layout.specs.declared.layout.Part.{Part as PartOfLayout}
 use Rattle.vab_layout.specs.declared.layout.Layout.{Layout}
 use Rattle.vab_layout.specs.Rules.{IsPart as IsPartOfLayout, IsLayout}
 use Rattle.vab_layout.specs.Slots.{own_parts, store_parts, is_updated, IsDistinct}
 use Rattle.vab_layout.specs.Slots.{IsTarget, IsOwnPart}
-use Rattle.vab_builder.proofs.Counting.{pieces_once, of_filter, in_filter}
-use Rattle.vab_builder.proofs.NameCases.{store_is_store}
+use Rattle.vab_builder.proofs.Counting.{pieces_once}
+use Rattle.vab_blocks.proofs.Contained.{of_filter, in_filter}
+use Rattle.vab_names.proofs.NameCases.{store_is_store}
 use Rattle.std.proofs.lemmas.List.Elements.{Contains-append_right, Contains-append_left}
 use Rattle.std.proofs.lemmas.List.Elements.{Contains-get_or}
 use Rattle.vab_device.specs.declared.device.Part.{Part}
 use Rattle.vab_device.specs.declared.device.PartImage.{PartImage}
 use Rattle.vab_device.specs.declared.device.PartImage.TheVariants.{Kept, Declared, Written}
-use Rattle.vab_device.specs.Kept.{super_bytes, lies_in, block_sector, sectors_of, IsStore, IsStored}
+use Rattle.vab_device.specs.Kept.{lies_in, sectors_of, IsStore, IsStored}
 use Rattle.vab_device.specs.Kept.{IsPart, AreParts}
 use Rattle.vab_device.specs.Phases.{planned_image, planned_on, plan_of}
 use Rattle.vab_device.specs.Stores.{first_named}
 use Rattle.vab_edit.specs.Carried.{planned_named, written_by, with_written, carried}
 use Rattle.vab_edit.proofs.NamedLaws.{first_is}
+use Rattle.vab_device.proofs.OwnParts.{length-sectors_of, sectors_distinct, sectors_on, blocks_on}
 
 -- ---- blocks as sectors
-
-length-sectors_of : (first : ℕ) (blocks : List ℕ) → length (sectors_of first blocks) ≡ length blocks
-unfolding sectors_of
-length-sectors_of first blocks = length-map blocks (block_sector first)
-
-sectors_distinct : (first : ℕ) (blocks : List ℕ)
-    → IsDistinct blocks
-    → AllPairs (λ a b. a ≢ b) (sectors_of first blocks)
-unfolding sectors_of
-sectors_distinct first blocks h = λ i j d low lt.
-    let place : ℕ → ℕ = block_sector first in
-    let long = length-map blocks place in
-    let ei : get_or (map place blocks) i d ≡ place (get_or blocks i 0) =
-    get_or-map place blocks i 0 d (omega (arith, low, lt, long)) in
-    let ej : get_or (map place blocks) j d ≡ place (get_or blocks j 0) =
-    get_or-map place blocks j 0 d (omega (arith, lt, long)) in
-    λ e. h i j 0 low (omega (arith, lt, long)) (omega (arith, sym ei ∙ e ∙ ej))
-
-sectors_on : (first cap size : ℕ) (blocks : List ℕ)
-    → 4096 + first + 8 * cap ≤ size
-    → All (λ b. b < cap) blocks
-    → All (λ s. s + 8 ≤ size) (sectors_of first blocks)
-unfolding sectors_of
-sectors_on first cap size blocks on below =
-    All-map (λ (s : ℕ). s + 8 ≤ size) (block_sector first) blocks
-    (λ k d lt. omega (arith, below k d lt, on))
-
--- the blocks of the device end by the end of the disk
-blocks_on : (size : ℕ) (g : Geometry) (d : BlockDevice)
-    → 4120 ≤ size
-    → IsBlockDevice d
-    → lies_in size g d ≡ true
-    → 4096 + d.first_logical_sector + 8 * cap_of d ≤ size
-blocks_on size g d enough is lies =
-    let inside = leb-true d.size (super_bytes size) (and_parts _ _ lies).0 in
-    omega (arith, enough, inside, is.within)
 
 -- ---- a plan with nothing written
 

@@ -11,8 +11,8 @@ use Rattle.vab_layout.specs.declared.layout.Layout.{Layout}
 use Rattle.vab_layout.specs.Slots.{own_parts, blocks_named}
 use Rattle.vab_builder.specs.Asked.{IsAsBefore}
 use Rattle.vab_builder.specs.Sizes.{has_part}
-use Rattle.vab_builder.proofs.Counting.{first, later, of_filter}
-use Rattle.vab_builder.proofs.NameCases.{same_name, eq_name, ne_name, other_name}
+use Rattle.vab_blocks.proofs.Contained.{first, later, of_filter}
+use Rattle.vab_names.proofs.NameCases.{same_name, eq_name, ne_name, other_name}
 use Rattle.vab_device.specs.Stores.{first_named}
 
 -- ---- the first of a name

@@ -28,7 +28,7 @@ use Rattle.vab_builder.specs.Import.{stores_group}
 use Rattle.vab_builder.specs.Sizes.{want_of, wants_of, wants_resized, wants_stored, used_by}
 use Rattle.vab_builder.specs.Sizes.{limit_of, sizes_in, is_within}
 use Rattle.vab_builder.proofs.ListLaws.{filter_all}
-use Rattle.vab_builder.proofs.NameCases.{in_slot_is}
+use Rattle.vab_names.proofs.NameCases.{in_slot_is}
 use Rattle.vab_builder.proofs.PartLaws.{named_own}
 
 -- two sources with the same partitions of their slot

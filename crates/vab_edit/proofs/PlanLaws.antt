@@ -14,7 +14,7 @@ use Rattle.vab_layout.specs.declared.layout.Part.{Part as PartOfLayout}
 use Rattle.vab_layout.specs.declared.layout.Layout.{Layout}
 use Rattle.vab_layout.specs.Slots.{own_parts, is_updated, IsTarget, IsTargetPart}
 use Rattle.vab_builder.specs.Sizes.{has_part}
-use Rattle.vab_builder.proofs.Counting.{first, later, of_filter}
+use Rattle.vab_blocks.proofs.Contained.{first, later, of_filter}
 use Rattle.vab_builder.proofs.PartLaws.{named_is, named_own, part_there}
 use Rattle.vab_model.specs.declared.state.PlanImage.TheVariants as planned
 use Rattle.vab_model.specs.declared.state.PlanEntry.{PlanEntry}

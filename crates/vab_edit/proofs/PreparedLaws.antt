@@ -20,7 +20,8 @@ use Rattle.vab_builder.specs.declared.fault.EditFault.{EditFault}
 use Rattle.vab_builder.specs.declared.fault.EditFault.TheVariants as faults
 use Rattle.vab_builder.specs.Edits.{changed_by, edited, fitting, if_fitting}
 use Rattle.vab_builder.specs.Gives.{IsTableOf, GivesTable}
-use Rattle.vab_builder.proofs.Counting.{all_from, of_filter, pairs_map, pairs_weaker, pieces_once}
+use Rattle.vab_builder.proofs.Counting.{pairs_map, pairs_weaker, pieces_once}
+use Rattle.vab_blocks.proofs.Contained.{all_from, of_filter}
 use Rattle.vab_builder.proofs.Verdicts.{unless_ok}
 use Rattle.vab_device.specs.declared.device.Part.{Part}
 use Rattle.vab_device.specs.Phases.{planned_on, plan_of}

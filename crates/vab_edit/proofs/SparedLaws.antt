@@ -9,7 +9,7 @@ use Rattle.vab_builder.specs.Asked.{edited_name}
 use Rattle.vab_builder.specs.Edits.{changed_by}
 use Rattle.vab_builder.specs.Sizes.{has_part}
 use Rattle.vab_builder.proofs.DeleteVerdicts.{deleted_passes}
-use Rattle.vab_builder.proofs.NameCases.{full_slot, store_not_own, store_of_same}
+use Rattle.vab_names.proofs.NameCases.{full_slot, store_not_own, store_of_same}
 use Rattle.vab_builder.proofs.ResizeVerdicts.{resized_passes}
 use Rattle.vab_builder.proofs.StoreVerdicts.{stored_passes}
 use Rattle.vab_builder.proofs.Verdicts.{created_passes}

@@ -1,7 +1,7 @@
 -- The stores that statuses name are the same after an edit.
 use Rattle.std.proofs.Common.{◌≡◌, ◌∙◌, inl, inr, ℕ, List, [], ◌∷◌, Result, Ok, Err}
 use Rattle.std.proofs.Common.{false}
-use Rattle.std.proofs.Common.{refl, sym, ap, subst, length, eqb}
+use Rattle.std.proofs.Common.{refl, sym, ap, subst, length}
 use Rattle.std.specs.Prelude.{Option, Some, None, map}
 use Rattle.std.specs.Str.{bytes_eq}
 use Rattle.std.proofs.lemmas.Bool.{cases_Bool}
@@ -14,7 +14,7 @@ use Rattle.vab_store.specs.Scan.{scan_of}
 use Rattle.vab_layout.specs.declared.layout.Part.{Part}
 use Rattle.vab_layout.specs.declared.layout.Layout.{Layout}
 use Rattle.vab_layout.specs.Slots.{own_parts}
-use Rattle.vab_builder.proofs.NameCases.{same_name}
+use Rattle.vab_names.proofs.NameCases.{same_name}
 use Rattle.vab_device.specs.declared.fault.StartFault.{StartFault}
 use Rattle.vab_device.specs.declared.fault.StartFault.TheVariants.{BadStore}
 use Rattle.vab_device.specs.Checks.{◌>>=◌}

@@ -11,7 +11,7 @@ use Rattle.vab_exceptions.specs.declared.area.Exception.{Exception}
 use Rattle.vab_layout.specs.declared.layout.Part.{Part as PartOfLayout}
 use Rattle.vab_layout.specs.declared.layout.Layout.{Layout}
 use Rattle.vab_layout.specs.Slots.{other_slot, own_parts, blocks_named, is_updated, IsTargetPart}
-use Rattle.vab_builder.proofs.NameCases.{ne_name, in_slot_is}
+use Rattle.vab_names.proofs.NameCases.{ne_name, in_slot_is}
 use Rattle.vab_model.specs.declared.state.State.{State}
 use Rattle.vab_model.specs.State.{image_named}
 use Rattle.vab_device.specs.declared.device.PartImage.{PartImage}

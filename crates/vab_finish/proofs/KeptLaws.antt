@@ -3,26 +3,14 @@ use Rattle.std.proofs.Common.{◌≡◌, ◌∙◌, inl, inr, ℕ, zero, suc, �
 use Rattle.std.proofs.Common.{arith}
 use Rattle.std.specs.Prelude.{◌==◌, if◌then◌else◌, List, Option, is_some}
 use Rattle.std.proofs.lemmas.Bool.{cases_Bool}
-use Rattle.vab_bootctl.specs.declared.slots.Control.{Control}
-use Rattle.vab_bootctl.specs.Control.{Fits, FitsInfo}
 use Rattle.vab_marks.specs.declared.mark.MarkPhase.TheVariants as marks
-use Rattle.vab_install.specs.Control.{cleared_of, no_info}
 use Rattle.vab_layout.specs.Slots.{other_slot}
 use Rattle.vab_device.specs.declared.device.Part.{Part}
 use Rattle.vab_device.specs.declared.device.Device.{Device}
 use Rattle.vab_device.specs.Kept.{ArePresent, IsDevice, is_installing, reads_both}
 use Rattle.vab_begin.proofs.KeptLaws.{source_a, source_b}
 use Rattle.vab_finish.specs.Finished.{finished_device}
-
-none_fits : FitsInfo no_info
-none_fits = record { priority = omega arith; tries = omega arith }
-
-pub cleared_fits : (c : Control) (slot : ℕ) → Fits c → Fits (cleared_of c slot)
-unfolding cleared_of
-cleared_fits c slot is = elim (cases_Bool (slot == 0)) [
-  | inl h ↦ rw h (record { current = is.current; a = none_fits; b = is.b })
-  | inr h ↦ rw h (record { current = is.current; a = is.a; b = none_fits })
-]
+use Rattle.vab_begin.proofs.BegunLaws.{cleared_fits}
 
 either_present : (n size : ℕ) (x y : Option (List Part))
     → ArePresent size x

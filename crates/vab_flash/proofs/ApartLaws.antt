@@ -1,5 +1,5 @@
 -- The blocks of a partition's exception store are those of no other partition and store.
-use Rattle.std.proofs.Common.{◌≡◌, ◌≢◌, ◌∙◌, inl, inr, ⊎_elim, ℕ, ◌+◌, ◌≤◌, ◌<◌}
+use Rattle.std.proofs.Common.{◌≡◌, ◌≢◌, ◌∙◌, inl, inr, ⊎_elim, ℕ, ◌+◌, ◌<◌}
 use Rattle.std.proofs.Common.{true, false, List, [], ◌∷◌, ◌++◌, cond, Result, refl, sym}
 use Rattle.std.proofs.Common.{ap, subst, arith}
 use Rattle.std.specs.Prelude.{Bool, Option, Some, None, map, ◌==◌, Contains}
@@ -8,7 +8,6 @@ use Rattle.std.specs.Str.{bytes_eq}
 use Rattle.std.proofs.lemmas.Bool.{cases_Bool, eqb-true}
 use Rattle.std.proofs.lemmas.List.Elements.{All-contains, Contains-append_left}
 use Rattle.std.proofs.lemmas.List.Elements.{Contains-append_right}
-use Rattle.vab_disk.specs.Calls.{IsBetween}
 use Rattle.vab_marks.specs.declared.status.PartStatus.{PartStatus}
 use Rattle.vab_names.specs.Names.{is_of_slot, is_store, store_of}
 use Rattle.vab_statuses.specs.Statuses.{status_named}
@@ -19,12 +18,13 @@ use Rattle.vab_layout.specs.declared.layout.Layout.{Layout}
 use Rattle.vab_layout.specs.Layout.{layout_of, blocks_of_parts}
 use Rattle.vab_layout.specs.Slots.{other_slot, own_parts, store_parts, is_updated, IsTarget}
 use Rattle.vab_layout.specs.Slots.{IsStorePart}
-use Rattle.vab_builder.proofs.Counting.{Apart, in_piece, of_filter, in_filter, first, later}
+use Rattle.vab_builder.proofs.Counting.{Apart}
+use Rattle.vab_blocks.proofs.Contained.{in_piece, of_filter, in_filter, first, later}
 use Rattle.vab_builder.proofs.ChangedTarget.{apart_pair}
-use Rattle.vab_builder.proofs.NameCases.{same_name, other_name, own_or_store, store_is_store}
-use Rattle.vab_builder.proofs.NameCases.{store_of_same}
+use Rattle.vab_names.proofs.NameCases.{other_name, own_or_store, store_is_store}
+use Rattle.vab_names.proofs.NameCases.{store_of_same}
 use Rattle.vab_device.specs.declared.fault.StartFault.{StartFault}
-use Rattle.vab_device.specs.Kept.{block_sector, sectors_of, part_on, parts_of}
+use Rattle.vab_device.specs.Kept.{sectors_of, part_on, parts_of}
 use Rattle.vab_device.specs.Mounted.{blocks_there}
 use Rattle.vab_device.specs.Phases.{store_on, planned_on, planned_image}
 use Rattle.vab_device.specs.Reading.{IsOfBlocks, IsOfParts, IsOfImages, IsOfStores, IsOfWritten}
@@ -32,67 +32,12 @@ use Rattle.vab_device.specs.Reading.{IsOfPlanned, table_for, parts_for}
 use Rattle.vab_device.specs.Stores.{Wanted, Scanned, first_named, wanted_by, wanted_of}
 use Rattle.vab_device.specs.Stores.{exceptions_of}
 use Rattle.vab_device.proofs.Behind.{seen_or}
+use Rattle.vab_device.proofs.PartBlocks.{sectors_apart}
+use Rattle.vab_device.proofs.NamedParts.{named_in}
 
 -- ---- sectors and blocks
 
--- a sector of one of these blocks
-pub record OfBlock (first : ℕ) (blocks : List ℕ) (s : ℕ) : Type 0 where
-  pub block : ℕ
-  pub there : Contains blocks block
-  pub here : IsBetween (block_sector first block) (block_sector first block + 8) s
-
-mapped_block : (at : ℕ) (blocks : List ℕ) (s : ℕ)
-    → IsOfBlocks (map (block_sector at) blocks) s
-    → OfBlock at blocks s
-mapped_block at [] s is = absurd is
-mapped_block at (b ∷ bs) s (inl is) = record { block = b; there = first b bs; here = is }
-mapped_block at (b ∷ bs) s (inr is) =
-    let rest : OfBlock at bs s = mapped_block at bs s is in
-    record { block = rest.block; there = later b bs rest.block rest.there; here = rest.here }
-
-pub of_block : (at : ℕ) (blocks : List ℕ) (s : ℕ)
-    → IsOfBlocks (sectors_of at blocks) s
-    → OfBlock at blocks s
-unfolding sectors_of
-of_block at blocks s is = mapped_block at blocks s is
-
--- it stands behind the first logical sector
-pub block_behind : (at : ℕ) (blocks : List ℕ) (s : ℕ)
-    → IsOfBlocks (sectors_of at blocks) s
-    → 4096 + at ≤ s
-block_behind at blocks s is =
-    let o : OfBlock at blocks s = of_block at blocks s is in omega (arith, o.here.from)
-
--- blocks that have no block in common have no sector in common
-pub sectors_apart : (at : ℕ) (xs ys : List ℕ) (s : ℕ)
-    → Apart xs ys
-    → IsOfBlocks (sectors_of at xs) s
-    → IsOfBlocks (sectors_of at ys) s
-    → ⊥
-sectors_apart at xs ys s apart in_xs in_ys =
-    let x : OfBlock at xs s = of_block at xs s in_xs in
-    let y : OfBlock at ys s = of_block at ys s in_ys in
-    let same : y.block ≡ x.block =
-    omega (arith, x.here.from, x.here.below, y.here.from, y.here.below) in
-    apart x.block x.there (subst (λ (b : ℕ). Contains ys b) same y.there)
-
 -- ---- partitions by their name
-
-pub named_in : (name : List ℕ) (parts : List PartOfLayout) (p : PartOfLayout)
-    → first_named name parts ≡ Some p
-    → Contains parts p × (p.name ≡ name)
-named_in name [] p h = absurd cc
-named_in name (q ∷ qs) p h = elim (cases_Bool (bytes_eq q.name name)) [
-  | inl here ↦
-      let found : (let o : Option PartOfLayout = Some q in o ≡ Some p) = rw here at h in
-      let same : q ≡ p = cc in (
-        subst (λ (x : PartOfLayout). Contains (q ∷ qs) x) same (first q qs),
-        ap (λ (x : PartOfLayout). x.name) (sym same) ∙ same_name q.name name here,
-      )
-  | inr other ↦
-      let rest = named_in name qs p (rw other at h) in
-      (later q qs p rest.0, rest.1)
-]
 
 some_none : {A : Type 0} (x : A) (o : Option A) → o ≡ Some x → o ≡ None → ⊥
 some_none x o is none = let bad : Some x ≡ None = sym is ∙ none in absurd cc

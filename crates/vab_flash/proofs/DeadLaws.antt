@@ -1,11 +1,10 @@
 -- What is written into a store that no status names is read by nothing.
-use Rattle.std.proofs.Common.{◌≡◌, ◌⊎◌, ◌∙◌, inl, inr, ⊎_elim, ℕ, zero, suc, ◌+◌, ◌-◌, ◌*◌, ◌/◌}
+use Rattle.std.proofs.Common.{◌≡◌, ◌⊎◌, ◌∙◌, inl, inr, ⊎_elim, ℕ, zero, suc, ◌+◌, ◌-◌, ◌*◌}
 use Rattle.std.proofs.Common.{◌≤◌, ◌<◌}
 use Rattle.std.proofs.Common.{true, List, [], ◌∷◌, length, take, refl, ap, subst}
 use Rattle.std.proofs.Common.{arith}
 use Rattle.std.specs.Prelude.{Bool, Option, Some, None, ◌==◌, if◌then◌else◌}
 use Rattle.std.proofs.lemmas.Bool.{and_parts, leb-true}
-use Rattle.std.proofs.Math.Nat.{mul-le-mul_right}
 use Rattle.vab_disk.specs.Disk.{Image}
 use Rattle.vab_disk.specs.Calls.{IsBetween, InSectors}
 use Rattle.vab_gate.proofs.Blocks.{sectors_same}
@@ -15,7 +14,7 @@ use Rattle.vab_geometry.specs.declared.geometry.Geometry.{Geometry}
 use Rattle.vab_geometry.specs.Geometry.{IsGeometry}
 use Rattle.vab_lpstore.specs.Layout.{copy_sectors, primary_of, backup_of, primary_bytes}
 use Rattle.vab_lpstore.specs.Layout.{backup_bytes}
-use Rattle.vab_lpstore.proofs.StoreLaws.{backup_byte, copies_apart}
+use Rattle.vab_lpstore.proofs.StoreLaws.{copies_apart}
 use Rattle.vab_tables.specs.declared.table.Table.{Table}
 use Rattle.vab_tables.specs.declared.entries.BlockDevice.{BlockDevice}
 use Rattle.vab_layout.specs.declared.layout.Part.{Part as PartOfLayout}
@@ -35,7 +34,9 @@ use Rattle.vab_device.proofs.StoreLaws.{statuses_kept, stores_kept, plan_kept}
 use Rattle.vab_device.proofs.Behind.{images_behind, stores_behind, plan_behind}
 use Rattle.vab_flash.proofs.JoinLaws.{unread_unnamed}
 use Rattle.vab_flash.proofs.InstallingLaws.{installing_read, Installs}
-use Rattle.vab_flash.proofs.ApartLaws.{block_behind, stores_miss, planned_miss, images_miss}
+use Rattle.vab_flash.proofs.ApartLaws.{stores_miss, planned_miss, images_miss}
+use Rattle.vab_device.proofs.PartBlocks.{block_behind}
+use Rattle.vab_device.proofs.RepairLaws.{ends_within}
 
 -- ---- the tables of a device
 
@@ -90,16 +91,6 @@ tables_kept d size image i is =
     }
 
 -- ---- copies of tables
-
--- where the copies of a slot's table end
-ends_within : (g : Geometry) (slot : ℕ) → IsGeometry g → slot < 2
-    → 512 * (backup_of g slot + copy_sectors g - 4096) ≤ copies_end g
-ends_within g slot is below =
-    let whole : 512 * (g.max / 512) ≡ g.max = omega (arith, is.sectors) in
-    let second = backup_byte g slot is in
-    let most : (g.slots + slot + 1) * g.max ≤ (2 * g.slots) * g.max =
-    mul-le-mul_right g.max (omega (arith, is.two, below)) in
-    omega (arith, second, most, whole)
 
 -- a sector of a copy of the two tables
 pub record InCopies (g : Geometry) (s : ℕ) : Type 0 where

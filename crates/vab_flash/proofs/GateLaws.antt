@@ -1,13 +1,12 @@
 -- Behind the gate of its status a partition is written: what is read then, and what that means.
-use Rattle.std.proofs.Common.{◌≡◌, ◌≢◌, ◌⊎◌, ◌∙◌, inl, inr, ⊎_elim, ℕ, zero, suc, ◌<◌, true, false}
+use Rattle.std.proofs.Common.{◌≡◌, ◌≢◌, ◌⊎◌, ◌∙◌, inl, inr, ⊎_elim, ℕ, ◌<◌, true, false}
 use Rattle.std.proofs.Common.{List, []}
 use Rattle.std.proofs.Common.{◌∷◌, ◌++◌, length, get_or, set, Result, Ok, refl, sym, ap, subst}
-use Rattle.std.proofs.Common.{arith, eqb, eq-eqb}
+use Rattle.std.proofs.Common.{eqb, eq-eqb}
 use Rattle.std.specs.Prelude.{Some, None, map, if◌then◌else◌, ◌==◌, Contains}
 use Rattle.std.specs.Prelude.{AllPairs}
 use Rattle.std.specs.Str.{bytes_eq}
 use Rattle.std.proofs.lemmas.List.{map-append}
-use Rattle.std.proofs.lemmas.List.Elements.{All-contains}
 use Rattle.vab_disk.specs.Disk.{Image}
 use Rattle.vab_bootctl.specs.Control.{control_of}
 use Rattle.vab_names.specs.Names.{is_of_slot, base_of, store_of, suffix_of}
@@ -24,9 +23,9 @@ use Rattle.vab_layout.specs.declared.layout.Part.{Part as PartOfLayout}
 use Rattle.vab_layout.specs.declared.layout.Layout.{Layout}
 use Rattle.vab_layout.specs.Layout.{layout_of}
 use Rattle.vab_layout.specs.Slots.{other_slot, own_parts, is_updated}
-use Rattle.vab_builder.proofs.Counting.{first as first_of, later, pairs_head, pairs_tail}
-use Rattle.vab_builder.proofs.Counting.{none_in_nil, of_filter, cons_cases}
-use Rattle.vab_builder.proofs.NameCases.{ne_name, eq_name}
+use Rattle.vab_blocks.proofs.Contained.{first as first_of, later}
+use Rattle.vab_blocks.proofs.Contained.{none_in_nil, of_filter, cons_cases}
+use Rattle.vab_names.proofs.NameCases.{ne_name, eq_name}
 use Rattle.vab_device.specs.declared.fault.StartFault.{StartFault}
 use Rattle.vab_device.specs.declared.device.Part.{Part}
 use Rattle.vab_device.specs.declared.device.PartImage.TheVariants.{Written}
@@ -49,53 +48,9 @@ use Rattle.vab_flash.proofs.InstallingLaws.{Installs, installing_read, parts_sam
 use Rattle.vab_flash.proofs.DeadLaws.{mark_stays, control_stays, control_sector, geometry_stays}
 use Rattle.vab_flash.proofs.DeadLaws.{tables_stay, copies_agree, stores_stay}
 use Rattle.vab_flash.proofs.DeadLaws.{plan_sectors, images_a_stay, images_b_stay}
+use Rattle.vab_device.proofs.NamedParts.{set_one}
 
 -- ---- one entry of a list
-
--- the list with another element at a place is that of another function, where this one differs
--- from the first at this element alone
-pub set_one : (f g : PartOfLayout → Part) (ps : List PartOfLayout) (k : ℕ) (q d : PartOfLayout)
-    → k < length ps
-    → get_or ps k d ≡ q
-    → AllPairs (λ a b. a.name ≢ b.name) ps
-    → ((p : PartOfLayout) → Contains ps p → p.name ≢ q.name → g p ≡ f p)
-    → set (map f ps) k (g q) ≡ map g ps
-set_one f g [] k q d below is differ others = absurd (omega (arith, below))
-set_one f g (p ∷ ps) zero q d below is differ others =
-    let rest : map f ps ≡ map g ps =
-    same_map f g ps (λ x c.
-    sym (others x (later p ps x c)
-    (λ e.
-    All-contains (λ y. p.name ≢ y.name) ps x (pairs_head (λ a b. a.name ≢ b.name) p ps differ) c
-    (ap (λ (y : PartOfLayout). y.name) is ∙ sym e)))) in
-    let here : g q ≡ g p = ap g (sym is) in
-    (λ i. here i ∷ rest i)
-  where
-    same_map : (f g : PartOfLayout → Part) (xs : List PartOfLayout)
-        → ((x : PartOfLayout) → Contains xs x → f x ≡ g x)
-        → map f xs ≡ map g xs
-    same_map f g [] same = refl
-    same_map f g (x ∷ xs) same =
-        (λ i. same x (first_of x xs) i ∷ same_map f g xs (λ y c. same y (later x xs y c)) i)
-set_one f g (p ∷ ps) (suc k) q d below is differ others =
-    let within : k < length ps = omega (arith, below) in
-    let there : Contains ps q = (k, within, at_place ps k q d within is) in
-    let here : g p ≡ f p =
-    others p (first_of p ps)
-    (All-contains (λ y. p.name ≢ y.name) ps q (pairs_head (λ a b. a.name ≢ b.name) p ps differ)
-    there) in
-    let rest = set_one f g ps k q d within is (pairs_tail (λ a b. a.name ≢ b.name) p ps differ)
-    (λ x c. others x (later p ps x c)) in
-    let back = sym here in
-    (λ i. back i ∷ rest i)
-  where
-    at_place : (xs : List PartOfLayout) (k : ℕ) (q d : PartOfLayout)
-        → k < length xs
-        → get_or xs k d ≡ q
-        → get_or xs k q ≡ q
-    at_place [] k q d below is = refl
-    at_place (x ∷ xs) zero q d below is = is
-    at_place (x ∷ xs) (suc k) q d below is = at_place xs k q d (omega (arith, below)) is
 
 -- ---- behind the gate
 

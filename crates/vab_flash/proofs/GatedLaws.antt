@@ -3,10 +3,7 @@ use Rattle.std.proofs.Common.{◌≡◌, ◌∙◌, inl, inr, ℕ, ◌+◌, ◌�
 use Rattle.std.proofs.Common.{ap, subst, Ok}
 use Rattle.std.proofs.Common.{arith}
 use Rattle.std.specs.Prelude.{Option, Some, All, is_some}
-use Rattle.std.proofs.Common.{set}
-use Rattle.std.proofs.lemmas.Bool.{cases_eq}
-use Rattle.std.proofs.lemmas.Grind.{get_or-set_at}
-use Rattle.std.proofs.lemmas.List.{get_or-set_other, length-set}
+use Rattle.std.proofs.lemmas.List.{length-set}
 use Rattle.vab_disk.specs.Disk.{IsAt}
 use Rattle.vab_device.specs.declared.device.PartImage.TheVariants.{Written}
 use Rattle.vab_device.specs.Kept.{ArePresent, AreParts, IsPart, IsStored}
@@ -19,7 +16,7 @@ use Rattle.vab_disk.specs.Calls.{InSectors, SameBut}
 use Rattle.vab_exceptions.specs.declared.area.Exception.{Exception}
 use Rattle.vab_names.specs.Names.{base_of, suffix_of}
 use Rattle.vab_names.proofs.NameLaws.{of_slot}
-use Rattle.vab_builder.proofs.NameCases.{base_short, full_slot, same_name}
+use Rattle.vab_names.proofs.NameCases.{base_short, full_slot, same_name}
 use Rattle.vab_layout.specs.Slots.{other_slot}
 use Rattle.vab_marks.specs.declared.status.PartStatus.{PartStatus}
 use Rattle.vab_marks.specs.Status.{status_of, status_spelling}
@@ -46,6 +43,7 @@ use Rattle.vab_flash.specs.Chosen.{base_of_place}
 use Rattle.vab_flash.specs.Chosen.{differing_at, store_at, store_long, needed_at, with_written}
 use Rattle.vab_flash.proofs.ReadyLaws.{planned_kept, apart, disjoint, first_dead, room_true}
 use Rattle.vab_flash.proofs.ReadyLaws.{next_is, represents_next, effect_next}
+use Rattle.vab_device.proofs.NamedParts.{all_set}
 
 module _ (d : Device) (size : ℕ) (old : Image) (device_is : IsDevice d size)
     (is : Represents d size old) (name : List ℕ) (staged : Option (List ℕ)) (place : ℕ)
@@ -152,19 +150,6 @@ name_is d name place has =
     ∙ sym (of_slot (other_slot d.mark.slot) name (full_slot (other_slot d.mark.slot) name has.full))
 
 -- ---- what is kept then
-
-all_set : (P : Part → Type 0) (ps : List Part) (k : ℕ) (x : Part)
-    → All P ps
-    → P x
-    → All P (set ps k x)
-all_set P ps k x all px j e below =
-    let long : length (set ps k x) ≡ length ps = length-set ps k x in
-    elim (cases_eq j k) [
-      | inl here ↦
-          subst P (sym (get_or-set_at ps k j x e here (omega (arith, below, long, here)))) px
-      | inr other ↦
-          subst P (sym (get_or-set_other ps k j x e other)) (all j e (omega (arith, below, long)))
-    ]
 
 pub written_kept : (d : Device) (size : ℕ) (name : List ℕ) (staged : Option (List ℕ)) (place : ℕ)
     (bytes : List ℕ) (es : List Exception)

@@ -2,13 +2,12 @@
 use Rattle.std.proofs.Common.{◌≡◌, ◌∙◌, inl, inr, ℕ, zero, suc, ◌+◌, ◌-◌, ◌<◌, List, [], ◌∷◌, ◌++◌}
 use Rattle.std.proofs.Common.{length, get_or, set, cond, Result, Ok, Err, refl, sym, ap, subst}
 use Rattle.std.proofs.Common.{arith}
-use Rattle.std.specs.Prelude.{Bool, true, false, Option, Some, None, map, ◌==◌}
+use Rattle.std.specs.Prelude.{Bool, true, false, Option, Some, None, map}
 use Rattle.std.specs.Str.{bytes_eq}
 use Rattle.std.proofs.lemmas.Bool.{cases_Bool}
 use Rattle.vab_disk.specs.Disk.{Image}
 use Rattle.vab_marks.specs.declared.status.PartStatus.{PartStatus}
 use Rattle.vab_statuses.specs.Statuses.{written_in, status_named, with_status, free_in}
-use Rattle.vab_statuses.specs.Statuses.{free_from}
 use Rattle.vab_exceptions.specs.declared.area.Exception.{Exception}
 use Rattle.vab_store.specs.declared.fault.StoreFault.{StoreFault}
 use Rattle.vab_store.specs.Scan.{scan_of}
@@ -23,6 +22,8 @@ use Rattle.vab_device.specs.Stores.{Wanted, Scanned, first_named, wanted_by, wan
 use Rattle.vab_device.specs.Stores.{scan_read}
 use Rattle.vab_device.specs.Stores.{scan_at, scans_in, exceptions_of}
 use Rattle.vab_device.proofs.CheckLaws.{bound}
+use Rattle.vab_statuses.proofs.StatusesLaws.{IsFreeAt}
+use Rattle.vab_statuses.proofs.StatusesLaws.{free_is}
 
 -- ---- the statuses
 
@@ -50,29 +51,6 @@ set_joins (Some x ∷ rest) (suc k) s below free =
       behind = later.behind;
       others = ap (λ (l : List PartStatus). x ∷ l) later.others;
       all = ap (λ (l : List PartStatus). x ∷ l) later.all;
-    }
-
--- a place without a status
-record IsFreeAt (at : ℕ) (l : List (Option PartStatus)) (found : ℕ) : Type 0 where
-  place : ℕ
-  within : place < length l
-  is : found ≡ at + place
-  free : get_or l place None ≡ None
-
-free_is : (at : ℕ) (l : List (Option PartStatus)) (found : ℕ)
-    → free_from at l ≡ Some found
-    → IsFreeAt at l found
-free_is at [] found h = absurd cc
-free_is at (None ∷ rest) found h =
-    let same : at ≡ found = cc in
-    record { place = 0; within = omega arith; is = omega (arith, same); free = refl }
-free_is at (Some s ∷ rest) found h =
-    let later : IsFreeAt (at + 1) rest found = free_is (at + 1) rest found h in
-    record {
-      place = suc later.place;
-      within = omega (arith, later.within);
-      is = omega (arith, later.is);
-      free = later.free;
     }
 
 -- in the first free sector a status joins the others

@@ -1,6 +1,6 @@
 -- The partition of the target's table that a planned partition is, and its store.
-use Rattle.std.proofs.Common.{◌≡◌, ◌≢◌, ◌⊎◌, ◌∙◌, inl, inr, ⊎_elim, ℕ, ◌<◌, true, false, List}
-use Rattle.std.proofs.Common.{[], ◌∷◌, ◌++◌, length, get_or, refl, sym, ap, subst, arith}
+use Rattle.std.proofs.Common.{◌≡◌, ◌≢◌, ◌⊎◌, ◌∙◌, ⊎_elim, ℕ, ◌<◌, true, List}
+use Rattle.std.proofs.Common.{[], ◌++◌, length, get_or, refl, sym, ap, subst, arith}
 use Rattle.std.specs.Prelude.{Bool, Option, Some, None, map, option_map, Contains, AllPairs}
 use Rattle.std.specs.Str.{bytes_eq}
 use Rattle.std.proofs.lemmas.List.{get_or-map, get_or_default, length-map}
@@ -16,9 +16,8 @@ use Rattle.vab_layout.specs.declared.layout.Layout.{Layout}
 use Rattle.vab_layout.specs.Layout.{layout_of}
 use Rattle.vab_layout.specs.Slots.{other_slot, own_parts, is_updated, IsTargetPart}
 use Rattle.vab_layout.proofs.LayoutLaws.{layout_keeps}
-use Rattle.vab_builder.proofs.Counting.{of_filter, cons_cases, none_in_nil}
-use Rattle.vab_builder.proofs.Counting.{pairs_head, pairs_tail}
-use Rattle.vab_builder.proofs.NameCases.{same_name, eq_name, ne_name, full_slot}
+use Rattle.vab_blocks.proofs.Contained.{of_filter}
+use Rattle.vab_names.proofs.NameCases.{same_name, full_slot}
 use Rattle.vab_device.specs.declared.device.Part.{Part}
 use Rattle.vab_device.specs.declared.device.Device.{Device}
 use Rattle.vab_device.specs.Kept.{sectors_of, IsDevice}
@@ -26,53 +25,11 @@ use Rattle.vab_device.specs.Phases.{planned_on, planned_image, plan_of}
 use Rattle.vab_device.specs.Stores.{first_named, exceptions_of}
 use Rattle.vab_flash.specs.Chosen.{place_of, HasPlace, IsUnwritten, plan_or, no_planned, planned_at}
 use Rattle.vab_flash.proofs.InstallingLaws.{Installs}
-use Rattle.vab_flash.proofs.ApartLaws.{named_in}
+use Rattle.vab_device.proofs.NamedParts.{named_in}
 use Rattle.vab_flash.proofs.DeadLaws.{Tables, tables_kept}
+use Rattle.vab_device.proofs.NamedParts.{Named, first_is}
 
 -- ---- by names that differ
-
-abbrev pub Named : PartOfLayout → PartOfLayout → Type 0
-Named a b = a.name ≢ b.name
-
-pub first_is : (ps : List PartOfLayout) (p : PartOfLayout)
-    → AllPairs Named ps
-    → Contains ps p
-    → first_named p.name ps ≡ Some p
-first_is [] p differ c = absurd (none_in_nil p c)
-first_is (x ∷ xs) p differ c = elim (cons_cases x xs p c) [
-  | inl here ↦
-      let is : bytes_eq x.name p.name ≡ true =
-      eq_name x.name p.name (ap (λ (y : PartOfLayout). y.name) here) in
-      rw is (ap (λ (y : PartOfLayout). Some y) here)
-  | inr there ↦
-      let other : bytes_eq x.name p.name ≡ false =
-      ne_name x.name p.name
-      (All-contains (λ y. x.name ≢ y.name) xs p (pairs_head Named x xs differ) there) in
-      rw other (first_is xs p (pairs_tail Named x xs differ) there)
-]
-
-pub one_of_name : (ps : List PartOfLayout) (p q : PartOfLayout)
-    → AllPairs Named ps
-    → Contains ps p
-    → Contains ps q
-    → (p ≡ q) ⊎ (p.name ≢ q.name)
-one_of_name [] p q differ c d = absurd (none_in_nil p c)
-one_of_name (x ∷ xs) p q differ c d = elim (cons_cases x xs p c) [
-  | inl xp ↦ elim (cons_cases x xs q d) [
-    | inl xq ↦ inl (sym xp ∙ xq)
-    | inr in_q ↦
-        inr (λ e.
-        All-contains (λ y. x.name ≢ y.name) xs q (pairs_head Named x xs differ) in_q
-        (ap (λ (y : PartOfLayout). y.name) xp ∙ e))
-  ]
-  | inr in_p ↦ elim (cons_cases x xs q d) [
-    | inl xq ↦
-        inr (λ e.
-        All-contains (λ y. x.name ≢ y.name) xs p (pairs_head Named x xs differ) in_p
-        (ap (λ (y : PartOfLayout). y.name) xq ∙ sym e))
-    | inr in_q ↦ one_of_name xs p q (pairs_tail Named x xs differ) in_p in_q
-  ]
-]
 
 -- ---- what was written and what wasn't
 

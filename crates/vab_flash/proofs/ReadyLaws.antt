@@ -37,7 +37,7 @@ use Rattle.vab_flash.specs.Chosen.{differing_at, with_written}
 use Rattle.vab_flash.proofs.ChosenLaws.{flash_chosen, AreAllDirect, parts_direct, source_is}
 use Rattle.vab_flash.proofs.DifferencesLaws.{differences_are}
 use Rattle.vab_flash.proofs.InstallingLaws.{installs_represents}
-use Rattle.vab_flash.proofs.ApartLaws.{block_behind}
+use Rattle.vab_device.proofs.PartBlocks.{block_behind}
 use Rattle.vab_flash.proofs.DeadLaws.{not_low, unnamed}
 use Rattle.vab_flash.proofs.GateLaws.{device_then, installs_then, plan_then}
 use Rattle.std.proofs.Common.{set, take}
@@ -59,7 +59,7 @@ use Rattle.vab_device.proofs.BlockLaws.{bytes_same}
 use Rattle.vab_device.proofs.Behind.{seen_or}
 use Rattle.vab_flash.proofs.FilledLaws.{bytes_filled}
 use Rattle.vab_flash.proofs.GateLaws.{mounted_then}
-use Rattle.vab_flash.proofs.PlacedLaws.{one_of_name}
+use Rattle.vab_device.proofs.NamedParts.{one_of_name}
 use Rattle.vab_flash.proofs.SourceLaws.{begins_same, behind_end}
 use Rattle.std.proofs.lemmas.Bool.{leb-true}
 use Rattle.vab_device.specs.declared.device.Part.{Part}
@@ -77,7 +77,8 @@ use Rattle.vab_flash.proofs.InstallingLaws.{Installs, installs_of, installing_re
 use Rattle.vab_flash.proofs.ApartLaws.{from_source}
 use Rattle.vab_flash.proofs.DeadLaws.{Tables, tables_kept, store_dead}
 use Rattle.vab_flash.proofs.PlacedLaws.{Placed, placed_of}
-use Rattle.vab_flash.proofs.SourceLaws.{sectors_once, sectors_disjoint, source_blocks, source_apart}
+use Rattle.vab_flash.proofs.SourceLaws.{sectors_once, source_blocks, source_apart}
+use Rattle.vab_device.proofs.PartBlocks.{sectors_disjoint}
 
 -- ---- over every disk
 

@@ -1,17 +1,16 @@
 -- The source's partition beside the planned one and its store.
 use Rattle.std.proofs.Common.{◌≡◌, ◌≢◌, ◌∙◌, inl, inr, ℕ, ◌≤◌, ◌<◌, true}
 use Rattle.std.proofs.Common.{false, List, [], ◌∷◌, ◌++◌, length, get_or, take, refl, sym, ap}
-use Rattle.std.proofs.Common.{subst, arith}
+use Rattle.std.proofs.Common.{arith}
 use Rattle.std.specs.Prelude.{None, map, Contains, AllPairs, nat_lt}
 use Rattle.std.specs.Str.{bytes_eq}
 use Rattle.std.proofs.lemmas.Bool.{cases_Bool, cases_lt, ltb-true}
-use Rattle.std.proofs.lemmas.List.{get_or-map, length-map, get_or-take}
-use Rattle.std.proofs.lemmas.List.Elements.{Contains-get_or}
+use Rattle.std.proofs.lemmas.List.{get_or-take}
 use Rattle.vab_disk.specs.Disk.{Image}
 use Rattle.vab_names.specs.Names.{is_of_slot, base_of, in_slot, suffix_of}
 use Rattle.vab_names.proofs.NameLaws.{of_slot, base_of-append}
 use Rattle.vab_exceptions.specs.declared.area.Exception.{Exception}
-use Rattle.vab_store.specs.Layout.{IsApart, AreDisjoint}
+use Rattle.vab_store.specs.Layout.{IsApart}
 use Rattle.vab_store.specs.View.{view_of, exception_at}
 use Rattle.vab_store.specs.Writing.{planned_of, planned_at}
 use Rattle.vab_store.proofs.ViewLaws.{view_out}
@@ -21,22 +20,14 @@ use Rattle.vab_install.proofs.DifferingLaws.{StandsIn, differing_has}
 use Rattle.vab_exceptions.proofs.EntryLaws.{length-firsts}
 use Rattle.vab_layout.specs.declared.layout.Part.{Part as PartOfLayout}
 use Rattle.vab_layout.specs.Slots.{own_parts, blocks_named}
-use Rattle.vab_builder.proofs.Counting.{Apart, first as first_of, later}
-use Rattle.vab_builder.proofs.NameCases.{same_name, ne_name, eq_name, other_name, in_slot_is}
+use Rattle.vab_builder.proofs.Counting.{Apart}
+use Rattle.vab_blocks.proofs.Contained.{first as first_of, later}
+use Rattle.vab_names.proofs.NameCases.{same_name, ne_name, eq_name, other_name, in_slot_is}
 use Rattle.vab_device.specs.Kept.{block_sector, sectors_of, part_on}
 use Rattle.vab_flash.specs.Chosen.{blocks_or, part_named}
+use Rattle.vab_device.proofs.PartBlocks.{sector_at, sectors_long}
 
 -- ---- where blocks stand
-
-pub sector_at : (at : ℕ) (blocks : List ℕ) (i : ℕ)
-    → i < length blocks
-    → get_or (sectors_of at blocks) i 0 ≡ block_sector at (get_or blocks i 0)
-unfolding sectors_of
-sector_at at blocks i below = get_or-map (block_sector at) blocks i 0 0 below
-
-pub sectors_long : (at : ℕ) (blocks : List ℕ) → length (sectors_of at blocks) ≡ length blocks
-unfolding sectors_of
-sectors_long at blocks = length-map blocks (block_sector at)
 
 -- blocks of which none stands twice have no sector in common
 pub sectors_once : (at : ℕ) (blocks : List ℕ)
@@ -49,23 +40,6 @@ sectors_once at blocks once i j order below =
     let differ : get_or (sectors_of at blocks) i 0 ≢ get_or (sectors_of at blocks) j 0 =
     once i j 0 order below in
     elim (cases_lt (get_or blocks i 0) (get_or blocks j 0)) [
-      | inl lt ↦ inl (omega (arith, a, b, lt))
-      | inr ge ↦ inr (omega (arith, a, b, ge, differ))
-    ]
-
-pub sectors_disjoint : (at : ℕ) (xs ys : List ℕ)
-    → Apart xs ys
-    → AreDisjoint (sectors_of at xs) (sectors_of at ys)
-sectors_disjoint at xs ys apart i j in_xs in_ys =
-    let x_below : i < length xs = omega (arith, in_xs, sectors_long at xs) in
-    let y_below : j < length ys = omega (arith, in_ys, sectors_long at ys) in
-    let a = sector_at at xs i x_below in
-    let b = sector_at at ys j y_below in
-    let differ : get_or xs i 0 ≢ get_or ys j 0 =
-    λ e.
-    apart (get_or xs i 0) (Contains-get_or xs i 0 x_below)
-    (subst (λ (y : ℕ). Contains ys y) (sym e) (Contains-get_or ys j 0 y_below)) in
-    elim (cases_lt (get_or xs i 0) (get_or ys j 0)) [
       | inl lt ↦ inl (omega (arith, a, b, lt))
       | inr ge ↦ inr (omega (arith, a, b, ge, differ))
     ]

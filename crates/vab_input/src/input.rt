@@ -1,7 +1,9 @@
-// Hears the whole input, in pieces of at most 4096 bytes.
+// Hears the whole input, in pieces of at most 65536 bytes.
 ghost use Rattle.std.specs.Prelude.{◌≡◌, ◌<◌, ◌≤◌, ◌++◌, [], length, IfOk, OnOk, OnErr, IsErrOf};
 ghost use Rattle.std.specs.Bool.{OnTrue, OnFalse};
 ghost use Rattle.vab_disk.specs.Disk.{Adds, Nothing, Rose, SameHoldings};
+ghost use Rattle.vab_exchanges.specs.Hearing.{HearsWhere};
+ghost use Rattle.vab_input.specs.HearsToEnd.{FindsSome, HearsToEnd};
 
 use std::alloc::{AllocError, Global};
 use vab_disk::{Disk, Port, PortFault};
@@ -57,11 +59,16 @@ fn hear_piece<P: Port>(p: &mut P, heard: &mut Vec<u8>) -> Result<bool, InputFaul
     ensures steady { (IsErrOf result InputFault.Source → ⊥) → P.faults p.new ≡ P.faults p.old }
     ensures last { P.is_modelled
         → IfOk result (λ some. OnFalse some (P.input_left p.new ≡ [])) }
+    ensures heard { P.is_modelled
+        → IfOk result
+        (λ some. OnTrue some (HearsWhere FindsSome (P.heard p.old) (P.heard p.new))) }
+    ensures heard_end { P.is_modelled
+        → IfOk result (λ some. OnFalse some (HearsToEnd (P.heard p.old) (P.heard p.new))) }
     ensures kind { IsErrOf result InputFault.TooLong → ⊥ }
     ensures cause { IsErrOf result InputFault.Source
         → Rose (P.faults p.old).source (P.faults p.new).source }
 {
-    let mut piece = [0u8; 4096];
+    let mut piece = [0u8; 65536];
     let count = p.hear(&mut piece)?;
     heard.extend_from_slice(&piece[..count])?;
     Ok(count > 0)
@@ -81,6 +88,8 @@ pub fn hear_all<P: Port>(alloc: Global, p: &mut P, most: u64) -> Result<Vec<u8>,
     ensures told { P.is_modelled → P.told p.new ≡ P.told p.old }
     ensures time { P.is_modelled → Adds P.moment P.outcomes p.old p.new Nothing }
     ensures end { P.is_modelled → OnOk result (P.input_left p.new ≡ []) }
+    // It is heard while something is left, and once more for the end.
+    ensures heard { P.is_modelled → OnOk result (HearsToEnd (P.heard p.old) (P.heard p.new)) }
     // Unless hearing fails the counts of faults stay.
     ensures steady { (IsErrOf result InputFault.Source → ⊥) → P.faults p.new ≡ P.faults p.old }
     ensures cause { IsErrOf result InputFault.Source

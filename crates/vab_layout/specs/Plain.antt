@@ -1,5 +1,5 @@
 -- A slot's table without stores and without what belongs to the other slot.
-use Rattle.std.specs.Prelude.{List, [], ◌∷◌, ℕ}
+use Rattle.std.specs.Prelude.{List, ◌∷◌, ℕ}
 use Rattle.std.specs.List.{filter}
 use Rattle.vab_names.specs.Names.{is_of_slot, default_name}
 use Rattle.vab_tables.specs.declared.entries.Group.{Group}

@@ -1,5 +1,5 @@
 -- The rules of a slot's own partitions, of the target of an update and of its exception stores.
-use Rattle.std.specs.Prelude.{◌≡◌, ◌≢◌, ◌⊎◌, ℕ, ◌-◌, ◌<◌, ◌≤◌, ◌^◌, min, bit_and, Bool, not, ◌||◌}
+use Rattle.std.specs.Prelude.{◌≡◌, ◌≢◌, ◌⊎◌, ℕ, ◌-◌, ◌≤◌, ◌^◌, bit_and, Bool, not, ◌||◌}
 use Rattle.std.specs.Prelude.{◌==◌, if◌then◌else◌, List, [], ◌∷◌, ◌++◌, length, map, take, drop}
 use Rattle.std.specs.Prelude.{All, Any, AllPairs, Contains, IsTrue}
 use Rattle.std.specs.List.{filter}
@@ -8,7 +8,6 @@ use Rattle.vab_names.specs.Names.{is_base, is_of_slot, is_store, base_of, in_slo
 use Rattle.vab_names.specs.Names.{default_name, store_group_name}
 use Rattle.vab_tables.specs.declared.entries.Group.{Group}
 use Rattle.vab_layout.specs.declared.layout.Part.{Part}
-use Rattle.vab_layout.specs.declared.layout.Layout.{Layout}
 use Rattle.vab_layout.specs.Layout.{blocks_of_parts}
 
 -- the other slot

@@ -16,6 +16,7 @@ use Rattle.vab_device.specs.Kept.{IsDevice, has_slot}
 use Rattle.vab_device.specs.Phases.{is_good, may_run}
 use Rattle.vab_device.proofs.ControlLaws.{with_boot}
 use Rattle.vab_manager.specs.Controls.{slots_with_images}
+use Rattle.vab_bootctl.proofs.BootLaws.{activated_current, marked_current}
 
 pub kept_device : (d : Device) (size : ℕ) (c : Control)
     → IsDevice d size
@@ -187,13 +188,6 @@ same_current own c next same more is =
     ap (λ (n : ℕ). n == own || is_ranked (info_at next (other_slot own))) same
     ∙ or_more (c.current == own) _ _ more is
 
-pub activated_current : (c : Control) (slot : ℕ) → (activated_of c slot).current ≡ c.current
-unfolding activated_of
-activated_current c slot = elim (cases_Bool (eqb slot 0)) [
-  | inl h ↦ rw h refl
-  | inr h ↦ rw h refl
-]
-
 pub activated_runs : (c : Control) (slot own : ℕ)
     → may_run own c ≡ true
     → may_run own (activated_of c slot) ≡ true
@@ -204,10 +198,6 @@ activated_runs c slot own runs =
     (λ ranked.
     activated_keeps is_ranked c (other_slot own) ranked slot (λ i was. refl) demoted_ranked))
     runs
-
-pub marked_current : (c : Control) → (marked_of c).current ≡ c.current
-unfolding marked_of
-marked_current c = elim (cases_Bool (eqb c.current 0)) [ inl h ↦ rw h refl | inr h ↦ rw h refl ]
 
 pub marked_runs : (c : Control) (own : ℕ)
     → may_run own c ≡ true

@@ -47,7 +47,7 @@ use Rattle.vab_device.proofs.UpdateLaws.{kept_with}
 use Rattle.vab_merge_gates.specs.Kept.{completed_mark, plain_part, plain_parts, ended_device}
 use Rattle.vab_merge_gates.proofs.BegunLaws.{merging_read, none_named}
 use Rattle.vab_merge_gates.proofs.KeptLaws.{plain_there}
-use Rattle.vab_merge_gates.proofs.SlotLaws.{unplanned_of}
+use Rattle.vab_device.proofs.PhaseCases.{unplanned_of}
 
 abbrev pub idle_mark : ℕ → UpdateMark
 idle_mark slot = record { phase = marks.Idle; slot = slot }

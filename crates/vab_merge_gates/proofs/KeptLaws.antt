@@ -15,6 +15,7 @@ use Rattle.vab_device.specs.Kept.{is_installing, has_both, has_slot, reads_both,
 use Rattle.vab_merge_gates.specs.Kept.{merging_device, plain_part, plain_parts, ended_device}
 use Rattle.vab_merge_gates.specs.Writes.{MayMerge}
 use Rattle.vab_merge_gates.proofs.SlotLaws.{both_of}
+use Rattle.vab_device.proofs.PhaseCases.{no_target}
 
 -- ---- without the source
 
@@ -65,10 +66,6 @@ source_at : (n : ℕ) (a b : Option Table)
 source_at zero a b below = refl
 source_at (suc zero) a b below = refl
 source_at (suc (suc n)) a b below = absurd (omega (arith, below))
-
-no_target : (source : ℕ) (s : Option Table) → IsUpdate source s None
-no_target source None = tt
-no_target source (Some s) = tt
 
 pub merging_kept : (d : Device) (size : ℕ)
     → IsDevice d size

@@ -39,7 +39,8 @@ use Rattle.vab_merge_gates.specs.Writes.{MayMerge}
 use Rattle.vab_merge_gates.proofs.BegunLaws.{merging_read, reads_new, control_new, copies_new}
 use Rattle.vab_merge_gates.proofs.BegunLaws.{images_a, images_b, device_same, limits_same}
 use Rattle.vab_merge_gates.proofs.BegunLaws.{kept_begun}
-use Rattle.vab_merge_gates.proofs.SlotLaws.{both_of, unplanned_of}
+use Rattle.vab_merge_gates.proofs.SlotLaws.{both_of}
+use Rattle.vab_device.proofs.PhaseCases.{unplanned_of}
 
 -- ---- what it means
 
@@ -186,13 +187,17 @@ module _ (size : ℕ) (old : Image) where
   next_shape slot ss seen g t u scanned c below reads whole copies read running successful =
       record {
         represents = record {
-          read = merging_read (other_slot slot) ss (control_read_of (other_slot slot) c) g u scanned;
-          reads = reads_new slot ss seen g t u scanned c size old below reads whole copies read running
+          read = merging_read (other_slot slot) ss (control_read_of (other_slot slot) c) g u
+              scanned;
+          reads = reads_new slot ss seen g t u scanned c size old below reads whole copies read
+              running
               successful;
           is = kept_begun slot ss seen g t u scanned c below
-              (device_same slot ss seen g t u scanned c size old below reads whole copies read running
+              (device_same slot ss seen g t u scanned c size old below reads whole copies read
+              running
               successful)
-              (limits_same slot ss seen g t u scanned c size old below reads whole copies read running
+              (limits_same slot ss seen g t u scanned c size old below reads whole copies read
+              running
               successful);
           control = control_new slot ss seen g t u scanned c size old below reads whole copies read
               running successful;

@@ -27,11 +27,12 @@ use Rattle.vab_device.specs.Stores.{Scanned, first_named}
 use Rattle.vab_merge_run.specs.Turns.{own_of, part_at, no_part, next_of, turned, turn_at}
 use Rattle.vab_merge_run.specs.Turns.{cut_part}
 use Rattle.vab_merge_run.specs.Writes.{IsOfTurn, IsOfTurns}
-use Rattle.vab_merge_run.proofs.ApartLaws.{block_behind}
+use Rattle.vab_device.proofs.PartBlocks.{block_behind}
 use Rattle.vab_merge_run.proofs.MergesLaws.{Merges, merges_of, own_is, Rules, rules_of}
 use Rattle.vab_merge_run.proofs.OwnLaws.{single_of, own_kept}
 use Rattle.vab_merge_run.proofs.SeenLaws.{merged_in}
-use Rattle.vab_merge_run.proofs.TurnLaws.{all_set, own_cut, cut_kept, next_has, turned_zero}
+use Rattle.vab_merge_run.proofs.TurnLaws.{own_cut, cut_kept, next_has, turned_zero}
+use Rattle.vab_device.proofs.NamedParts.{all_set}
 use Rattle.vab_merge_run.proofs.TurnLaws.{turned_suc, turned_mark}
 
 -- ---- turns keep what holds of a device

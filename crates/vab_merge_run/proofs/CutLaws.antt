@@ -1,14 +1,11 @@
 -- A disk on which the last exceptions of a store are merged: what is read of it then, and what that
 -- means.
-use Rattle.std.proofs.Common.{◌≡◌, ◌≢◌, ◌⊎◌, ◌∙◌, inl, inr, ⊎_elim, ℕ, zero, suc, ◌+◌, ◌-◌, ◌*◌}
-use Rattle.std.proofs.Common.{◌/◌}
-use Rattle.std.proofs.Common.{◌≤◌, ◌<◌, true, false, List, [], ◌∷◌, length, get_or, set, Ok}
+use Rattle.std.proofs.Common.{◌≡◌, ◌≢◌, ◌⊎◌, ◌∙◌, inl, inr, ⊎_elim, ℕ, ◌+◌, ◌-◌, ◌*◌}
+use Rattle.std.proofs.Common.{◌≤◌, ◌<◌, true, false, List, [], ◌∷◌, length, set, Ok}
 use Rattle.std.proofs.Common.{refl, sym, ap, subst, arith}
-use Rattle.std.specs.Prelude.{Bool, Option, Some, None, is_some, map, option_map, AllPairs}
+use Rattle.std.specs.Prelude.{Bool, Option, Some, None, is_some, map, option_map}
 use Rattle.std.specs.Prelude.{Contains, ◌&&◌, ◌==◌}
 use Rattle.std.proofs.lemmas.Bool.{and_parts, leb-true}
-use Rattle.std.proofs.lemmas.List.Elements.{All-contains}
-use Rattle.std.proofs.Math.Nat.{mul-le-mul_right}
 use Rattle.vab_disk.specs.Disk.{Image}
 use Rattle.vab_bootctl.specs.Control.{control_of}
 use Rattle.vab_names.specs.Names.{is_of_slot, store_of}
@@ -16,7 +13,7 @@ use Rattle.vab_statuses.specs.Statuses.{written_in}
 use Rattle.vab_geometry.specs.declared.geometry.Geometry.{Geometry}
 use Rattle.vab_geometry.specs.Geometry.{IsGeometry}
 use Rattle.vab_lpstore.specs.Layout.{copy_sectors, primary_of, backup_of}
-use Rattle.vab_lpstore.proofs.StoreLaws.{backup_byte, copies_apart}
+use Rattle.vab_lpstore.proofs.StoreLaws.{copies_apart}
 use Rattle.vab_exceptions.specs.declared.area.Exception.{Exception}
 use Rattle.vab_store.specs.Layout.{IsApart, AreDisjoint}
 use Rattle.vab_store.specs.Scan.{scan_of}
@@ -25,7 +22,7 @@ use Rattle.vab_layout.specs.declared.layout.Part.{Part as PartOfLayout}
 use Rattle.vab_layout.specs.declared.layout.Layout.{Layout}
 use Rattle.vab_layout.specs.Layout.{layout_of}
 use Rattle.vab_layout.specs.Slots.{own_parts, is_updated}
-use Rattle.vab_builder.proofs.Counting.{first, later, of_filter, pairs_head, pairs_tail}
+use Rattle.vab_blocks.proofs.Contained.{first, later, of_filter}
 use Rattle.vab_merge.specs.Merged.{WithoutLast}
 use Rattle.vab_device.specs.declared.device.Part.{Part}
 use Rattle.vab_device.specs.declared.device.PartImage.{PartImage}
@@ -57,25 +54,18 @@ use Rattle.vab_merge_run.specs.Turns.{left_in}
 use Rattle.vab_merge_run.proofs.OwnLaws.{Single, mounted_with}
 use Rattle.vab_merge_run.proofs.TurnLaws.{count_set}
 use Rattle.vab_merge_run.proofs.MergesLaws.{merging_read, Merges, merges_represents, with_form}
-use Rattle.vab_merge_run.proofs.MergesLaws.{own_is, Rules, Named, one_of_name, written_on, Placed}
+use Rattle.vab_merge_run.proofs.MergesLaws.{own_is, Rules, written_on, Placed}
+use Rattle.vab_device.proofs.NamedParts.{one_of_name}
 use Rattle.vab_merge_run.proofs.ApartLaws.{InEither, either_behind, own_miss, store_miss}
 use Rattle.vab_merge_run.proofs.ApartLaws.{part_once, keeps_once, part_keeps, sectors_once}
-use Rattle.vab_merge_run.proofs.ApartLaws.{sectors_disjoint}
+use Rattle.vab_device.proofs.PartBlocks.{sectors_disjoint}
 use Rattle.vab_merge_run.proofs.ScansLaws.{cut_list, cut_scan, exceptions_own, exceptions_other}
 use Rattle.vab_merge_run.proofs.ScansLaws.{exceptions_some, wants, scan_named, scans_then}
 use Rattle.vab_merge_run.proofs.SeenLaws.{seen_same}
+use Rattle.vab_device.proofs.NamedParts.{set_one}
+use Rattle.vab_device.proofs.RepairLaws.{ends_within}
 
 -- ---- the copies of a table
-
--- where the copies of a slot's table end
-ends_within : (g : Geometry) (slot : ℕ) → IsGeometry g → slot < 2
-    → 512 * (backup_of g slot + copy_sectors g - 4096) ≤ copies_end g
-ends_within g slot is below =
-    let whole : 512 * (g.max / 512) ≡ g.max = omega (arith, is.sectors) in
-    let second = backup_byte g slot is in
-    let most : (g.slots + slot + 1) * g.max ≤ (2 * g.slots) * g.max =
-    mul-le-mul_right g.max (omega (arith, is.two, below)) in
-    omega (arith, second, most, whole)
 
 -- a sector of a copy stands in front of where the copies end
 copies_below : (g : Geometry) (slot s : ℕ) → IsGeometry g → slot < 2
@@ -124,50 +114,6 @@ all_ready l name k ss (p ∷ ps) =
     (λ i. here i && rest i)
 
 -- ---- one entry of a list
-
--- the list with another element at a place is that of another function, where this one differs
--- from the first at this element alone
-set_one : (f g : PartOfLayout → Part) (ps : List PartOfLayout) (k : ℕ) (q d : PartOfLayout)
-    → k < length ps
-    → get_or ps k d ≡ q
-    → AllPairs Named ps
-    → ((p : PartOfLayout) → Contains ps p → p.name ≢ q.name → g p ≡ f p)
-    → set (map f ps) k (g q) ≡ map g ps
-set_one f g [] k q d below is differ others = absurd (omega (arith, below))
-set_one f g (p ∷ ps) zero q d below is differ others =
-    let rest : map f ps ≡ map g ps =
-    same_map f g ps (λ x c.
-    sym (others x (later p ps x c)
-    (λ e.
-    All-contains (λ y. p.name ≢ y.name) ps x (pairs_head Named p ps differ) c
-    (ap (λ (y : PartOfLayout). y.name) is ∙ sym e)))) in
-    let here : g q ≡ g p = ap g (sym is) in
-    (λ i. here i ∷ rest i)
-  where
-    same_map : (f g : PartOfLayout → Part) (xs : List PartOfLayout)
-        → ((x : PartOfLayout) → Contains xs x → f x ≡ g x)
-        → map f xs ≡ map g xs
-    same_map f g [] same = refl
-    same_map f g (x ∷ xs) same =
-        (λ i. same x (first x xs) i ∷ same_map f g xs (λ y c. same y (later x xs y c)) i)
-set_one f g (p ∷ ps) (suc k) q d below is differ others =
-    let within : k < length ps = omega (arith, below) in
-    let there : Contains ps q = (k, within, at_place ps k q d within is) in
-    let here : g p ≡ f p =
-    others p (first p ps)
-    (All-contains (λ y. p.name ≢ y.name) ps q (pairs_head Named p ps differ) there) in
-    let rest = set_one f g ps k q d within is (pairs_tail Named p ps differ)
-    (λ x c. others x (later p ps x c)) in
-    let back = sym here in
-    (λ i. back i ∷ rest i)
-  where
-    at_place : (xs : List PartOfLayout) (k : ℕ) (q d : PartOfLayout)
-        → k < length xs
-        → get_or xs k d ≡ q
-        → get_or xs k q ≡ q
-    at_place [] k q d below is = refl
-    at_place (x ∷ xs) zero q d below is = is
-    at_place (x ∷ xs) (suc k) q d below is = at_place xs k q d (omega (arith, below)) is
 
 -- ---- a written partition of the device
 

@@ -16,8 +16,8 @@ use Rattle.vab_layout.specs.declared.layout.Part.{Part as PartOfLayout}
 use Rattle.vab_layout.specs.declared.layout.Layout.{Layout}
 use Rattle.vab_layout.specs.Layout.{layout_of}
 use Rattle.vab_layout.specs.Slots.{store_parts}
-use Rattle.vab_builder.proofs.Counting.{in_filter, in_map}
-use Rattle.vab_builder.proofs.NameCases.{eq_name, store_is_store}
+use Rattle.vab_blocks.proofs.Contained.{in_filter, in_map}
+use Rattle.vab_names.proofs.NameCases.{eq_name, store_is_store}
 use Rattle.vab_device.specs.declared.device.Part.{Part}
 use Rattle.vab_device.specs.declared.device.Device.{Device}
 use Rattle.vab_device.specs.Kept.{IsDevice, table_of_slot}
@@ -30,7 +30,7 @@ use Rattle.vab_merge_run.proofs.PlaceLaws.{none_takes}
 use Rattle.vab_merge_run.proofs.OwnLaws.{single_of}
 use Rattle.vab_merge_run.proofs.MergesLaws.{merging_read, Merges, merges_of, slot_is}
 use Rattle.vab_merge_run.proofs.MergesLaws.{rules_of, Placed, placed_of}
-use Rattle.vab_merge_run.proofs.ApartLaws.{named_in}
+use Rattle.vab_device.proofs.NamedParts.{named_in}
 
 none_in : (ps : List Part)
     → ((k : ℕ) → k < length ps → 0 < count_of (get_or ps k no_part).image → ⊥)

@@ -1,11 +1,10 @@
 -- A device whose slot's stores are merged, by what is read of its disk.
-use Rattle.std.proofs.Common.{◌≡◌, ◌≢◌, ◌⊎◌, ◌∙◌, inl, inr, ℕ, zero, suc, ◌<◌, true, false, List}
+use Rattle.std.proofs.Common.{◌≡◌, ◌∙◌, ℕ, zero, suc, ◌<◌, true, false, List}
 use Rattle.std.proofs.Common.{[]}
 use Rattle.std.proofs.Common.{◌∷◌, length, get_or, Ok, refl, sym, ap, subst, arith}
 use Rattle.std.specs.Prelude.{Bool, Option, Some, None, option_map, AllPairs, Contains}
-use Rattle.std.specs.Str.{bytes_eq}
 use Rattle.std.proofs.lemmas.List.{get_or-map, get_or_default, length-map}
-use Rattle.std.proofs.lemmas.List.Elements.{All-contains, All-get_or, Contains-get_or}
+use Rattle.std.proofs.lemmas.List.Elements.{All-get_or, Contains-get_or}
 use Rattle.std.proofs.lemmas.List.Kept.{AllPairs-filter}
 use Rattle.vab_disk.specs.Disk.{Image}
 use Rattle.vab_bootctl.specs.declared.slots.Control.{Control}
@@ -26,9 +25,7 @@ use Rattle.vab_layout.proofs.LayoutLaws.{layout_keeps}
 use Rattle.vab_partitions.specs.Merging.{IsMerging}
 use Rattle.vab_partitions.specs.MergingRules.{bad_merging_of}
 use Rattle.vab_partitions.proofs.MergingLaws.{is_merging}
-use Rattle.vab_builder.proofs.Counting.{of_filter, cons_cases, none_in_nil}
-use Rattle.vab_builder.proofs.Counting.{pairs_head, pairs_tail}
-use Rattle.vab_builder.proofs.NameCases.{eq_name, ne_name}
+use Rattle.vab_blocks.proofs.Contained.{of_filter}
 use Rattle.vab_device.specs.declared.device.Part.{Part}
 use Rattle.vab_device.specs.declared.device.PartImage.{PartImage}
 use Rattle.vab_device.specs.declared.device.PartImage.TheVariants.{Written}
@@ -46,6 +43,7 @@ use Rattle.vab_device.proofs.ReadingLaws.{slot_below}
 use Rattle.vab_device.proofs.StayLaws.{one_of}
 use Rattle.vab_merge_run.specs.Turns.{own_of, with_own, part_at, no_part}
 use Rattle.vab_merge_run.proofs.OwnLaws.{Single, own_kept}
+use Rattle.vab_device.proofs.NamedParts.{Named, first_is}
 
 -- ---- what is read
 
@@ -205,49 +203,6 @@ rules_of d size image i is =
     }
 
 -- ---- partitions by their names
-
-abbrev pub Named : PartOfLayout → PartOfLayout → Type 0
-Named a b = a.name ≢ b.name
-
-pub first_is : (ps : List PartOfLayout) (p : PartOfLayout)
-    → AllPairs Named ps
-    → Contains ps p
-    → first_named p.name ps ≡ Some p
-first_is [] p differ c = absurd (none_in_nil p c)
-first_is (x ∷ xs) p differ c = elim (cons_cases x xs p c) [
-  | inl here ↦
-      let is : bytes_eq x.name p.name ≡ true =
-      eq_name x.name p.name (ap (λ (y : PartOfLayout). y.name) here) in
-      rw is (ap (λ (y : PartOfLayout). Some y) here)
-  | inr there ↦
-      let other : bytes_eq x.name p.name ≡ false =
-      ne_name x.name p.name
-      (All-contains (λ y. x.name ≢ y.name) xs p (pairs_head Named x xs differ) there) in
-      rw other (first_is xs p (pairs_tail Named x xs differ) there)
-]
-
-pub one_of_name : (ps : List PartOfLayout) (p q : PartOfLayout)
-    → AllPairs Named ps
-    → Contains ps p
-    → Contains ps q
-    → (p ≡ q) ⊎ (p.name ≢ q.name)
-one_of_name [] p q differ c d = absurd (none_in_nil p c)
-one_of_name (x ∷ xs) p q differ c d = elim (cons_cases x xs p c) [
-  | inl xp ↦ elim (cons_cases x xs q d) [
-    | inl xq ↦ inl (sym xp ∙ xq)
-    | inr in_q ↦
-        inr (λ e.
-        All-contains (λ y. x.name ≢ y.name) xs q (pairs_head Named x xs differ) in_q
-        (ap (λ (y : PartOfLayout). y.name) xp ∙ e))
-  ]
-  | inr in_p ↦ elim (cons_cases x xs q d) [
-    | inl xq ↦
-        inr (λ e.
-        All-contains (λ y. x.name ≢ y.name) xs p (pairs_head Named x xs differ) in_p
-        (ap (λ (y : PartOfLayout). y.name) xq ∙ sym e))
-    | inr in_q ↦ one_of_name xs p q (pairs_tail Named x xs differ) in_p in_q
-  ]
-]
 
 -- ---- a partition that is written
 

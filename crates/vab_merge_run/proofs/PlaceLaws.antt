@@ -18,8 +18,8 @@ use Rattle.vab_tables.specs.declared.table.Table.{Table}
 use Rattle.vab_tables.specs.declared.entries.Partition.{Partition}
 use Rattle.vab_layout.specs.declared.layout.Part.{Part as PartOfLayout}
 use Rattle.vab_layout.specs.Layout.{layout_of, part_of}
-use Rattle.vab_builder.proofs.Counting.{cons_cases, none_in_nil}
-use Rattle.vab_builder.proofs.NameCases.{same_name, eq_name, ne_name, other_name}
+use Rattle.vab_blocks.proofs.Contained.{cons_cases, none_in_nil}
+use Rattle.vab_names.proofs.NameCases.{same_name, eq_name, ne_name, other_name}
 use Rattle.vab_device.specs.declared.device.Part.{Part}
 use Rattle.vab_merge_run.specs.Turns.{stores_in, has_store, has_exceptions, place_of, or_place}
 use Rattle.vab_merge_run.specs.Turns.{first_place, no_part}

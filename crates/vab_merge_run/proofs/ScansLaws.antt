@@ -16,8 +16,8 @@ use Rattle.vab_layout.specs.declared.layout.Part.{Part as PartOfLayout}
 use Rattle.vab_layout.specs.declared.layout.Layout.{Layout}
 use Rattle.vab_layout.specs.Slots.{own_parts}
 use Rattle.vab_partitions.specs.Merging.{IsMerging}
-use Rattle.vab_builder.proofs.Counting.{of_filter}
-use Rattle.vab_builder.proofs.NameCases.{same_name, eq_name, ne_name, other_name}
+use Rattle.vab_blocks.proofs.Contained.{of_filter}
+use Rattle.vab_names.proofs.NameCases.{same_name, eq_name, ne_name, other_name}
 use Rattle.vab_device.specs.declared.fault.StartFault.{StartFault}
 use Rattle.vab_device.specs.declared.fault.StartFault.TheVariants.{BadStore}
 use Rattle.vab_device.specs.Checks.{◌>>=◌}
@@ -26,7 +26,8 @@ use Rattle.vab_device.specs.Stores.{Wanted, Scanned, first_named, wanted_by, wan
 use Rattle.vab_device.specs.Stores.{is_long, scan_read, scan_at, scans_in, exceptions_of}
 use Rattle.vab_device.proofs.CheckLaws.{bound}
 use Rattle.vab_device.proofs.StoreLaws.{scan_kept}
-use Rattle.vab_merge_run.proofs.ApartLaws.{named_in, InEither, store_miss}
+use Rattle.vab_merge_run.proofs.ApartLaws.{InEither, store_miss}
+use Rattle.vab_device.proofs.NamedParts.{named_in}
 
 -- ---- fewer exceptions
 

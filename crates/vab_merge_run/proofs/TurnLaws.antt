@@ -1,13 +1,12 @@
 -- Turns, one after another, and as many at once.
-use Rattle.std.proofs.Common.{◌≡◌, ◌∙◌, inl, inr, ℕ, zero, suc, ◌+◌, ◌-◌, ◌≤◌, ◌<◌, true}
-use Rattle.std.proofs.Common.{List, [], ◌∷◌, length, get_or, set, take, refl, sym, ap, subst, arith}
+use Rattle.std.proofs.Common.{◌≡◌, ◌∙◌, ℕ, zero, suc, ◌+◌, ◌-◌, ◌≤◌, ◌<◌, true}
+use Rattle.std.proofs.Common.{List, [], ◌∷◌, length, get_or, set, take, refl, sym, ap, arith}
 use Rattle.std.proofs.Common.{length-take-le}
-use Rattle.std.specs.Prelude.{Bool, Option, Some, None, All, ◌&&◌}
-use Rattle.std.proofs.lemmas.Bool.{cases_eq, ltb-true, lt-ltb}
-use Rattle.std.proofs.lemmas.List.{take_all, take-take, get_or-set_same, get_or-set_other}
+use Rattle.std.specs.Prelude.{Bool, Option, Some, None, ◌&&◌}
+use Rattle.std.proofs.lemmas.Bool.{ltb-true, lt-ltb}
+use Rattle.std.proofs.lemmas.List.{take_all, take-take, get_or-set_same}
 use Rattle.std.proofs.lemmas.List.{set-get_or, length-set}
 use Rattle.std.proofs.lemmas.List.Elements.{All-get_or}
-use Rattle.std.proofs.lemmas.Grind.{get_or-set_at}
 use Rattle.vab_marks.specs.declared.mark.MarkPhase.TheVariants as marks
 use Rattle.vab_store.proofs.ViewLaws.{take_fits}
 use Rattle.vab_device.specs.declared.device.Part.{Part}
@@ -22,6 +21,7 @@ use Rattle.vab_merge_run.specs.Turns.{has_exceptions, first_place, stores_in}
 use Rattle.vab_merge_run.proofs.PlaceLaws.{takes, first_set, IsFound, found_of}
 use Rattle.vab_merge_run.proofs.OwnLaws.{Single, single_of, own_with, with_again, with_same}
 use Rattle.vab_merge_run.proofs.OwnLaws.{own_kept, with_kept}
+use Rattle.vab_device.proofs.NamedParts.{all_set}
 
 -- ---- one partition
 
@@ -83,19 +83,6 @@ pub set_again : (ps : List Part) (k : ℕ) (x y : Part) → set (set ps k x) k y
 set_again [] k x y = refl
 set_again (p ∷ ps) zero x y = refl
 set_again (p ∷ ps) (suc k) x y = ap (λ (l : List Part). p ∷ l) (set_again ps k x y)
-
-pub all_set : (P : Part → Type 0) (ps : List Part) (k : ℕ) (x : Part)
-    → All P ps
-    → P x
-    → All P (set ps k x)
-all_set P ps k x all px j e below =
-    let long : length (set ps k x) ≡ length ps = length-set ps k x in
-    elim (cases_eq j k) [
-      | inl here ↦
-          subst P (sym (get_or-set_at ps k j x e here (omega (arith, below, long, here)))) px
-      | inr other ↦
-          subst P (sym (get_or-set_other ps k j x e other)) (all j e (omega (arith, below, long)))
-    ]
 
 pub count_here : (ps : List Part) (k : ℕ)
     → count_of (get_or ps k no_part).image ≤ count_in ps

@@ -14,7 +14,7 @@ use Rattle.vab_device.specs.Mounted.{mounted_on, state_on, count_at}
 use Rattle.vab_device.specs.Updates.{effect_on, merge_effect}
 use Rattle.vab_merge_run.specs.Turns.{left_in}
 use Rattle.vab_merge_run.proofs.OwnLaws.{left_both}
-use Rattle.vab_merge_gates.proofs.SlotLaws.{unplanned_of}
+use Rattle.vab_device.proofs.PhaseCases.{unplanned_of}
 
 module _ (d : Device) (old : Image) (staged : Option (List ℕ)) (blocks : ℕ) where
   pub refused_idle : d.plan ≡ None

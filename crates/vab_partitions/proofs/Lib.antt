@@ -1,4 +1,3 @@
-pub mod NameCases
 pub mod PartCases
 pub mod OwnLaws
 pub mod OwnRules

@@ -1,7 +1,8 @@
 -- Whether a partition of a name is there, and blocks that are in two lists.
 use Rattle.std.proofs.Common.{◌≡◌, ◌≢◌, ℕ, zero, suc, ◌+◌, ◌≤◌, ◌<◌, ◌^◌, Bool, true, false}
 use Rattle.std.proofs.Common.{◌&&◌, ◌||◌, List, []}
-use Rattle.std.proofs.Common.{◌∷◌, ◌++◌, length, get_or, take, drop, refl, sym, ◌∙◌, ap, subst, ◌⊎◌, inl, inr}
+use Rattle.std.proofs.Common.{◌∷◌, ◌++◌, length, get_or, take, drop, refl, sym, ◌∙◌, ap, subst, ◌⊎◌}
+use Rattle.std.proofs.Common.{inl, inr}
 use Rattle.std.proofs.Common.{arith}
 use Rattle.std.specs.Prelude.{All, Any, Contains, IsTrue}
 use Rattle.std.specs.List.{list_any, range_with_len}
@@ -21,8 +22,9 @@ use Rattle.vab_blocks.proofs.Distinct.{distinct_append, distinct_apart, pairs_di
 use Rattle.vab_blocks.proofs.Distinct.{distinct_pairs, at_most_once, once_each}
 use Rattle.vab_names.specs.Names.{is_of_slot, store_of, store_suffix}
 use Rattle.vab_layout.specs.Slots.{own_parts, blocks_named, is_updated, IsOwn, IsOwnPart}
-use Rattle.vab_partitions.proofs.NameCases.{same_name, eq_name}
-use Rattle.vab_partitions.proofs.TargetLaws.{in_filter, times_append}
+use Rattle.vab_names.proofs.NameCases.{same_name, eq_name}
+use Rattle.vab_partitions.proofs.TargetLaws.{times_append}
+use Rattle.vab_blocks.proofs.Contained.{in_filter}
 
 -- ---- a partition of a name
 

@@ -1,17 +1,15 @@
 -- Where the partitions and stores of a slot keep their rules together, the whole slot does, and
 -- back.
-use Rattle.std.proofs.Common.{◌≡◌, ℕ, zero, suc, ◌+◌, ◌≤◌, ◌<◌, Bool, true, false, cond, ◌||◌, eqb}
-use Rattle.std.proofs.Common.{List, [], ◌∷◌, ◌++◌, length, get_or, refl, sym, ◌∙◌, ap}
-use Rattle.std.proofs.Common.{subst, ◌⊎◌, inl, inr, arith, append_assoc}
+use Rattle.std.proofs.Common.{◌≡◌, ℕ, ◌+◌, ◌≤◌, Bool, true, false, cond, ◌||◌, eqb}
+use Rattle.std.proofs.Common.{List, [], ◌∷◌, ◌++◌, length, refl, sym, ◌∙◌, ap}
+use Rattle.std.proofs.Common.{subst, inl, inr, arith, append_assoc}
 use Rattle.std.specs.Prelude.{All, Contains, MatchBool}
-use Rattle.std.specs.List.{filter}
 use Rattle.std.proofs.lemmas.Bool.{cases_Bool, false_from_ne_true, or_cases}
 use Rattle.std.proofs.lemmas.List.{length-append}
 use Rattle.std.proofs.lemmas.List.Sums.{sum_by-append}
-use Rattle.std.proofs.lemmas.List.Elements.{All-filter, All-contains}
-use Rattle.std.proofs.lemmas.List.Elements.{All-contains_itself, filter-append, filter_passes}
+use Rattle.std.proofs.lemmas.List.Elements.{All-contains}
+use Rattle.std.proofs.lemmas.List.Elements.{filter-append}
 use Rattle.std.proofs.lemmas.List.Elements.{Contains-append_left}
-use Rattle.std.proofs.lemmas.List.Elements.{Contains-get_or}
 use Rattle.vab_names.specs.Names.{is_of_slot, is_store}
 use Rattle.vab_layout.specs.declared.layout.Part.{Part}
 use Rattle.vab_layout.specs.Layout.{blocks_of_parts}
@@ -22,47 +20,11 @@ use Rattle.vab_blocks.proofs.Distinct.{at_most_once, once_each}
 use Rattle.vab_partitions.specs.Together.{target_parts, KeepsEither, Together, FirstBad}
 use Rattle.vab_partitions.specs.Target.{KeepsAlone}
 use Rattle.vab_partitions.specs.Merging.{IsMerging, IsStoreAlone, KeepsMerging}
-use Rattle.vab_partitions.proofs.NameCases.{own_or_store}
+use Rattle.vab_names.proofs.NameCases.{own_or_store}
 use Rattle.vab_partitions.proofs.OwnLaws.{blocks_append}
+use Rattle.vab_blocks.proofs.Contained.{all_from, of_filter, in_filter}
 
 -- ---- lists
-
-all_from : {X : Type 0} (P : X → Type 0) (xs : List X) → ((x : X) → Contains xs x → P x) → All P xs
-all_from P xs h = λ k d lt. h (get_or xs k d) (Contains-get_or xs k d lt)
-
-of_filter : {X : Type 0} (p : X → Bool) (xs : List X) (y : X)
-    → Contains (filter p xs) y
-    → Contains xs y × (p y ≡ true)
-of_filter p xs y c = (
-  All-contains (Contains xs) (filter p xs) y
-      (All-filter p (Contains xs) xs (All-contains_itself xs)) c,
-  All-contains (λ x. p x ≡ true) (filter p xs) y (filter_passes p xs) c,
-)
-
-cons_cases : {X : Type 0} (x : X) (xs : List X) (y : X) (k : ℕ)
-    → k < length (x ∷ xs)
-    → get_or (x ∷ xs) k y ≡ y
-    → (x ≡ y) ⊎ Contains xs y
-cons_cases x xs y zero l e = inl e
-cons_cases x xs y (suc k) l e = inr (k, omega arith, e)
-
-pub in_filter : {X : Type 0} (p : X → Bool) (xs : List X) (y : X)
-    → Contains xs y
-    → p y ≡ true
-    → Contains (filter p xs) y
-in_filter p [] y c t = absurd (omega (arith, c.1))
-in_filter p (x ∷ xs) y c t = elim (cons_cases x xs y c.0 c.1 c.2) [
-  | inl e ↦
-      let px : p x ≡ true = ap p e ∙ t in
-      let here : Contains (x ∷ filter p xs) x = (0, omega arith, refl) in
-      rw px (subst (λ (z : _). Contains (x ∷ filter p xs) z) e here)
-  | inr d ↦
-      let rest = in_filter p xs y d t in
-      elim (cases_Bool (p x)) [
-        | inl px ↦ rw px (suc rest.0, omega (arith, rest.1), rest.2)
-        | inr px ↦ rw px rest
-      ]
-]
 
 -- ---- the partitions and the stores among them
 
@@ -70,7 +32,7 @@ abbrev pub in_target : ℕ → Part → Bool
 in_target slot p = is_of_slot slot p.name || is_store slot p.name
 
 no_store : (slot : ℕ) (p : Part) → is_of_slot slot p.name ≡ true → is_store slot p.name ≡ false
-no_store slot p own = false_from_ne_true (is_store slot p.name) (own_or_store slot p.name own)
+no_store slot p own = false_from_ne_true (is_store slot p.name) (own_or_store slot slot p.name own)
 
 pub own_of_target : (slot : ℕ) (parts : List Part)
     → own_parts slot (target_parts slot parts) ≡ own_parts slot parts
@@ -162,7 +124,7 @@ module _ (slot : ℕ) (Own Store : Part → Type 0) (parts : List Part) where
   store_alone s each c =
       let f = of_filter (λ q. is_store slot q.name) parts s c in
       let other : is_of_slot slot s.name ≡ false =
-      false_from_ne_true (is_of_slot slot s.name) (λ own. own_or_store slot s.name own f.1) in
+      false_from_ne_true (is_of_slot slot s.name) (λ own. own_or_store slot slot s.name own f.1) in
       let either : in_target slot s ≡ true = rw (other, f.1) refl in
       let there : Contains (target_parts slot parts) s =
       in_filter (in_target slot) parts s f.0 either in

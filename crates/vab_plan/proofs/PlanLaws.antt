@@ -31,7 +31,7 @@ use Rattle.std.proofs.lemmas.List.Elements.{filter-append}
 use Rattle.vab_device.specs.Phases.{planned_on}
 use Rattle.vab_plan.proofs.PartLaws.{own_at, layout_first}
 use Rattle.vab_builder.proofs.Counting.{few_below}
-use Rattle.vab_builder.proofs.NameCases.{store_is_store}
+use Rattle.vab_names.proofs.NameCases.{store_is_store}
 use Rattle.vab_device.specs.Kept.{sectors_of}
 use Rattle.vab_device.specs.Phases.{store_on}
 use Rattle.vab_device.specs.Stores.{Scanned, first_named}
@@ -119,7 +119,7 @@ first_all P name (x ∷ xs) p all is = elim (cases_Bool (bytes_eq x.name name)) 
 
 -- ---- the blocks of a store
 
-store_cap : (slot : ℕ) (t : Table) (name : List ℕ) (q : PartOfLayout)
+pub store_cap : (slot : ℕ) (t : Table) (name : List ℕ) (q : PartOfLayout)
     → IsTargetTable slot t
     → is_of_slot slot name ≡ true
     → first_named (store_of name) (layout_of t).parts ≡ Some q

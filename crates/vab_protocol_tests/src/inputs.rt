@@ -20,11 +20,17 @@ fn port(alloc: Global, length: usize) -> Result<MemPort, Fail> {
 
 #[test]
 fn inputs_come_whole_up_to_the_bound(rt: HostRuntime) -> Result<(), Fail> {
-    for (length, most) in [(0, 0), (1, 1), (4096, 4096), (5000, 5000), (5000, u64::MAX)] {
+    for (length, most) in [
+        (0, 0),
+        (1, 1),
+        (65536, 65536),
+        (70000, 70000),
+        (70000, u64::MAX),
+    ] {
         let heard = hear_all(rt.alloc(), &mut port(rt.alloc(), length)?, most);
         assert_eq!(rt; heard.map(|v| v.len()), Ok(length));
     }
-    for (length, most) in [(1, 0), (4097, 4096), (9000, 5000)] {
+    for (length, most) in [(1, 0), (65537, 65536), (140000, 70000)] {
         let heard = hear_all(rt.alloc(), &mut port(rt.alloc(), length)?, most);
         assert_eq!(rt; heard.map(|v| v.len()), Err(InputFault::TooLong));
     }
@@ -33,9 +39,9 @@ fn inputs_come_whole_up_to_the_bound(rt: HostRuntime) -> Result<(), Fail> {
 
 #[test]
 fn a_call_that_fails_is_told(rt: HostRuntime) -> Result<(), Fail> {
-    let mut p = port(rt.alloc(), 5000)?;
+    let mut p = port(rt.alloc(), 70000)?;
     p.fail_at(CallKind::Hear, 1).ok().ok_or("there is memory")?;
-    let heard = hear_all(rt.alloc(), &mut p, 5000);
+    let heard = hear_all(rt.alloc(), &mut p, 70000);
     assert_eq!(rt; heard.map(|v| v.len()), Err(InputFault::Source));
     Ok(())
 }

@@ -240,7 +240,8 @@ module _
       let tables : source ≡ u = one_table slot u same said in
       subst
       (λ (n : ℕ). table_of_slot (with_tables t d) n ≡ Some (tidy_table d.geometry.max n u)) same
-      (alone_kept None is ∙ ap (λ (v : Table). Some (tidy_table d.geometry.max d.mark.slot v)) tables)
+      (alone_kept None is ∙ ap (λ (v : Table). Some (tidy_table d.geometry.max d.mark.slot v))
+      tables)
     where
       one_table : (slot : ℕ) (u : Table)
           → d.mark.slot ≡ slot

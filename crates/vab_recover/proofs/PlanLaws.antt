@@ -10,7 +10,7 @@ use Rattle.std.proofs.lemmas.Bool.{cases_Bool}
 use Rattle.std.proofs.lemmas.Slice.Eq.{bytes_eq-Decides}
 use Rattle.std.proofs.lemmas.List.Elements.{All-head, All-tail, All-map}
 use Rattle.vab_disk.specs.Disk.{Image}
-use Rattle.vab_names.specs.Names.{is_of_slot, is_store, store_of}
+use Rattle.vab_names.specs.Names.{store_of}
 use Rattle.vab_marks.specs.declared.status.PartStatus.{PartStatus}
 use Rattle.vab_statuses.specs.Statuses.{written_in}
 use Rattle.vab_exceptions.specs.declared.area.Exception.{Exception}
@@ -21,7 +21,7 @@ use Rattle.vab_layout.specs.declared.layout.Part.{Part as PartOfLayout}
 use Rattle.vab_layout.specs.declared.layout.Layout.{Layout}
 use Rattle.vab_layout.specs.Layout.{layout_of}
 use Rattle.vab_layout.specs.Rules.{IsPart as IsPartOfLayout}
-use Rattle.vab_layout.specs.Slots.{own_parts, store_parts, IsDistinct}
+use Rattle.vab_layout.specs.Slots.{own_parts}
 use Rattle.vab_layout.proofs.LayoutLaws.{layout_keeps}
 use Rattle.vab_store.specs.declared.fault.StoreFault.{StoreFault}
 use Rattle.vab_store.specs.Scan.{scan_of}
@@ -30,9 +30,7 @@ use Rattle.vab_device.specs.Stores.{scan_read}
 use Rattle.std.specs.Prelude.{IfOk}
 use Rattle.std.proofs.lemmas.List.{length-map}
 use Rattle.std.proofs.lemmas.List.{map-append}
-use Rattle.vab_plan.proofs.PlanLaws.{drop_at, first_filter, first_all}
-use Rattle.vab_builder.proofs.Counting.{few_below}
-use Rattle.vab_builder.proofs.NameCases.{store_is_store}
+use Rattle.vab_plan.proofs.PlanLaws.{drop_at, first_all}
 use Rattle.vab_device.specs.declared.fault.StartFault.{StartFault}
 use Rattle.vab_device.specs.Checks.{◌>>=◌}
 use Rattle.vab_device.specs.Kept.{sectors_of}
@@ -66,22 +64,6 @@ first_none q name (p ∷ ps) is =
     ]
 
 -- ---- the blocks of a store
-
-store_cap : (slot : ℕ) (t : Table) (name : List ℕ) (q : PartOfLayout)
-    → IsTargetTable slot t
-    → is_of_slot slot name ≡ true
-    → first_named (store_of name) (layout_of t).parts ≡ Some q
-    → length q.blocks ≤ cap_of (layout_of t).device
-store_cap slot t name q target own is =
-    let l = layout_of t in
-    let rules = layout_keeps t target.rules in
-    let named : first_named (store_of name) (store_parts slot l.parts) ≡ Some q =
-    first_filter (is_store slot) (store_of name) l.parts (store_is_store slot name own) ∙ is in
-    let once = (first_all (λ p. IsDistinct p.blocks) (store_of name) (store_parts slot l.parts) q
-    target.stores named).0 in
-    let part = (first_all (IsPartOfLayout (cap_of l.device) l.groups) (store_of name) l.parts q
-    rules.parts is).0 in
-    few_below (cap_of l.device) q.blocks once part.blocks
 
 -- ---- a store that a status names
 

@@ -2,14 +2,14 @@
 -- finished.
 use Rattle.std.proofs.Common.{◌≡◌, ◌∙◌, ℕ, zero, suc, ◌<◌, ◌≤◌, inl, inr, Bool, true, false, cond}
 use Rattle.std.proofs.Common.{List, [], ◌∷◌, ◌++◌, length, drop, codes, Option, Some, None, Result}
-use Rattle.std.proofs.Common.{Ok, Err, refl, sym, ap, subst, arith, eqb}
-use Rattle.std.proofs.lemmas.Bool.{and_parts, cases_Bool, cases_eq}
+use Rattle.std.proofs.Common.{Ok, Err, refl, sym, ap, subst, arith}
+use Rattle.std.proofs.lemmas.Bool.{and_parts, cases_eq}
 use Rattle.std.proofs.lemmas.List.{append_cancel_left}
 use Rattle.std.specs.Prelude.{◌+◌, ◌*◌, is_some, ◌&&◌, nat_lt, nat_le, ◌||◌, slice_index_or}
 use Rattle.vab_disk.specs.Disk.{Image, Outcome}
 use Rattle.vab_bootctl.specs.declared.slots.Control.{Control}
 use Rattle.vab_bootctl.specs.Boot.{info_at, IsBootable, chosen_of, booted_of}
-use Rattle.vab_bootctl.specs.Boot.{activated_of, marked_of}
+use Rattle.vab_bootctl.specs.Boot.{activated_of}
 use Rattle.vab_bootctl.proofs.BootLaws.{chosen_is, booted_current, booted_none}
 use Rattle.vab_names.specs.Names.{is_full, base_of}
 use Rattle.vab_space.specs.Space.{need_of}
@@ -53,6 +53,7 @@ use Rattle.vab_device.specs.Reading.{IsIn}
 use Rattle.vab_session.specs.Alone.{IsUnready, IsAlone, BootsTo, StandsAlone, is_finish}
 use Rattle.vab_session.specs.Alone.{asks_finish, FinishesNothing}
 use Rattle.vab_session.specs.Responses.{response, left_of}
+use Rattle.vab_bootctl.proofs.BootLaws.{activated_current, marked_current}
 
 -- ---- a boot
 
@@ -109,18 +110,6 @@ alone_boots slot images m is =
     (chosen_of m.state.control (has_images m.state)) refl)
 
 -- ---- the current slot
-
--- these two leave it
-activated_current : (c : Control) (slot : ℕ) → (activated_of c slot).current ≡ c.current
-unfolding activated_of
-activated_current c slot = elim (cases_Bool (eqb slot 0)) [
-  | inl h ↦ rw h refl
-  | inr h ↦ rw h refl
-]
-
-marked_current : (c : Control) → (marked_of c).current ≡ c.current
-unfolding marked_of
-marked_current c = elim (cases_Bool (eqb c.current 0)) [ inl h ↦ rw h refl | inr h ↦ rw h refl ]
 
 -- ---- commands
 

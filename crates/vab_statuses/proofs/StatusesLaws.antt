@@ -218,7 +218,7 @@ pub record IsFreeAt (at : ℕ) (l : List (Option PartStatus)) (found : ℕ) : Ty
   pub free : get_or l place None ≡ None
 
 -- a free sector has no status
-free_is : (at : ℕ) (l : List (Option PartStatus)) (found : ℕ)
+pub free_is : (at : ℕ) (l : List (Option PartStatus)) (found : ℕ)
     → free_from at l ≡ Some found
     → IsFreeAt at l found
 free_is at [] found h = absurd cc

@@ -73,6 +73,19 @@ fn first_changed(d: &mut MemPort, is_device: bool) -> Option<u64> {
     None
 }
 
+// The sectors of which the device has two, both with a part of the geometry or of the table.
+const COPIES: [(u64, u64); 3] = [(4104, 4112), (4120, 4376), (4121, 4377)];
+
+// The first of these that the second isn't.
+fn first_other(d: &mut MemPort) -> Option<u64> {
+    for (first, second) in COPIES {
+        if sector(d, first) != sector(d, second) {
+            return Some(first);
+        }
+    }
+    None
+}
+
 const SESSION: &[u8] = b"FB01\0\0\0\0\0\0\0\x0cset_active:a\0\0\0\0\0\0\0\x08oem boot\
     \0\0\0\0\0\0\0\x13oem mark-successful\0\0\0\0\0\0\0\x0adownload:5\0\0\0\0\0\0\0\x05hello";
 
@@ -119,6 +132,7 @@ fn verbs_write_the_devices_sectors_alone(rt: HostRuntime) -> Result<(), Fail> {
     assert_eq!(rt; first_changed(&mut d, false), None);
     let mut d = steps_on(&rt, alloc, d, &after)?;
     assert_eq!(rt; first_changed(&mut d, true), None);
+    assert_eq!(rt; first_other(&mut d), None);
     Ok(())
 }
 

@@ -11,19 +11,6 @@ use Rattle.vab_lpstore.proofs.StoreLaws.{backup_byte}
 use Rattle.vab_layout.specs.Layout.{layout_of}
 use Rattle.vab_device.specs.Kept.{copies_end, super_bytes, lies_in}
 use Rattle.vab_device.specs.Reading.{table_read, table_at}
-use Rattle.vab_device.proofs.RepairLaws.{end_of}
-
--- the copies of a slot's table end where those of all slots have ended
-pub ends_within : (g : Geometry) (slot : ℕ)
-    → IsGeometry g
-    → slot < 2
-    → 512 * (end_of g slot - 4096) ≤ copies_end g
-ends_within g slot is below =
-    let whole : 512 * (g.max / 512) ≡ g.max = omega (arith, is.sectors) in
-    let second = backup_byte g slot is in
-    let most : (g.slots + slot + 1) * g.max ≤ (2 * g.slots) * g.max =
-    mul-le-mul_right g.max (omega (arith, is.two, below)) in
-    omega (arith, second, most, whole)
 
 -- both copies of a slot's table are on the disk where all copies are
 pub copies_on_disk : (g : Geometry) (slot size : ℕ)

@@ -32,7 +32,9 @@ pub record StandsIdle (d : Device) (size : ℕ) (image : Image) (t : Table) : Ty
   pub control : control_of (image 4) ≡ Ok d.control
   pub copies : AgreeCopies d.geometry (d.mark.slot ∷ []) (t ∷ []) image
 
-no_statuses : (image : Image) (ss : List (Option PartStatus)) → statuses_at false image ≡ Ok ss → ss ≡ []
+no_statuses : (image : Image) (ss : List (Option PartStatus))
+    → statuses_at false image ≡ Ok ss
+    → ss ≡ []
 unfolding statuses_at
 no_statuses image ss is =
     let both : Result.Ok [] ≡ Ok ss = is in

@@ -34,7 +34,8 @@ use Rattle.vab_tidy.specs.Kept.{with_table}
 use Rattle.vab_tidy.specs.Stays.{LeavesSame}
 use Rattle.vab_tidy.specs.Tidied.{idle_mark}
 use Rattle.vab_tidy.proofs.AloneLaws.{device_is, own_is, parts_are, cap_is, limits_are, place_is}
-use Rattle.vab_tidy.proofs.PlaceLaws.{ends_within, table_is}
+use Rattle.vab_tidy.proofs.PlaceLaws.{table_is}
+use Rattle.vab_device.proofs.RepairLaws.{ends_within}
 use Rattle.vab_tidy.proofs.StandsLaws.{StandsIdle, read_at}
 
 -- ---- what is kept
@@ -180,7 +181,8 @@ module _
   }
 
 -- each outcome of storing it is a disk that means the same
-pub leaves_alone : (d : Device) (size n : ℕ) (old : Image) (t u : Table) (told : List ℕ) (o : Outcome)
+pub leaves_alone : (d : Device) (size n : ℕ) (old : Image) (t u : Table) (told : List ℕ)
+    (o : Outcome)
     → StandsIdle d size old t
     → d.mark.slot < 2
     → IsGeometry d.geometry

@@ -233,7 +233,8 @@ module _ {D : Type 0} (g : Ghosts D) (d next : Device) (m n : Mounted) (e f : Ef
         });
     steady = held_map r _ _ (λ same. same ∙ first.steady) second.steady;
     cause =
-        failed_map r _ _ (λ rose. rose_then (g.faults old) (g.faults mid) (g.faults new) first.quiet.counts rose) second.cause;
+        failed_map r _ _ (λ rose. rose_then (g.faults old) (g.faults mid) (g.faults new)
+        first.quiet.counts rose) second.cause;
   }
 
 -- the same of another effect, where it is that one
@@ -296,7 +297,8 @@ pub carries_short : {D : Type 0} (g : Ghosts D) (d : Device) (xs ys : List Order
 carries_short g d xs ys old new s is =
     let m : Mounted = mounted_on d (g.seen old) in
     subst (λ (x : Effect Mounted). Carries g d m x old new (Err s)) (sym (effect_append xs ys m))
-    (carries_stop g d m (effect_all xs m) (effect_all ys (after_of m (effect_all xs m))) old new s is)
+    (carries_stop g d m (effect_all xs m) (effect_all ys (after_of m (effect_all xs m))) old new s
+    is)
 
 -- ---- one command
 

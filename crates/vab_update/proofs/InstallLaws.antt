@@ -25,7 +25,8 @@ use Rattle.vab_fbvars.specs.Variables.{has_image}
 use Rattle.vab_update.specs.Install.{order, target_name, size_command, image_orders}
 use Rattle.vab_update.specs.Install.{install_orders}
 use Rattle.vab_update.specs.Orders.{Order, is_refused, effect_one, followed, effect_all}
-use Rattle.vab_update.proofs.OrderLaws.{followed_refused, followed_done, after_second, effect_append}
+use Rattle.vab_update.proofs.OrderLaws.{followed_refused, followed_done, after_second}
+use Rattle.vab_update.proofs.OrderLaws.{effect_append}
 
 -- an update is ready
 abbrev pub IsReady : Phase → Type 0

@@ -14,7 +14,7 @@ use Rattle.vab_tables.specs.Rules.{IsPartition, KeepsRules}
 use Rattle.vab_layout.specs.declared.layout.Part.{Part}
 use Rattle.vab_layout.specs.Layout.{blocks_of_partition, part_of, layout_of}
 use Rattle.vab_layout.specs.Slots.{own_parts, IsOwn}
-use Rattle.vab_builder.proofs.Counting.{in_map}
+use Rattle.vab_blocks.proofs.Contained.{in_map}
 use Rattle.vab_builder.proofs.OwnLaws.{own_rules}
 use Rattle.vab_builder.proofs.Bounds.{own_small}
 use Rattle.vab_verdict.specs.Sums.{own_size}

@@ -16,7 +16,7 @@ use vab_tables::Table;
 pub(crate) const MAX_BYTES: u64 = 1 << 40;
 
 /// The name, if it is a base name and the slot's suffix.
-#[tactic(auto, using(vab_builder::proofs::NameCases::full_named))]
+#[tactic(auto, using(vab_names::proofs::NameCases::full_named))]
 pub(crate) fn full_name(name: &[u8], slot: usize) -> Option<Name36>
     requires { slot < 2 }
     ensures value { IfSome result (λ n. n ≡ name.now) }

@@ -9,8 +9,9 @@ use Rattle.vab_device.specs.Mounted.{Mounted, mounted_on}
 use Rattle.vab_marks.specs.declared.mark.MarkPhase.TheVariants as marks
 use Rattle.vab_begin.specs.Writes.{IsOfBegun}
 use Rattle.vab_device.proofs.DoesLaws.{does_nothing}
-use Rattle.vab_begin.proofs.KeptLaws.{idle_of, planned_of, unplanned_of, installing_of, staged_of}
-use Rattle.vab_begin.proofs.KeptLaws.{merging_of}
+use Rattle.vab_device.proofs.PhaseCases.{idle_of, planned_of, unplanned_of, installing_of}
+use Rattle.vab_device.proofs.PhaseCases.{staged_of}
+use Rattle.vab_device.proofs.PhaseCases.{merging_of}
 use Rattle.vab_begin.proofs.BegunLaws.{begin_refused, begin_staged, begin_merging, begin_is}
 use Rattle.vab_begin.proofs.BegunLaws.{is_memory, refused_is}
 use Rattle.vab_begin.proofs.beginning.begin.Goals as goal

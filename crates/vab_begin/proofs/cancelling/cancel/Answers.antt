@@ -8,7 +8,7 @@ use Rattle.vab_model.specs.declared.command.Refusal.TheVariants as refusals
 use Rattle.vab_model.specs.Commands.{Cancel}
 use Rattle.vab_begin.specs.Writes.{IsOfCancelled}
 use Rattle.vab_device.proofs.DoesLaws.{does_nothing}
-use Rattle.vab_begin.proofs.KeptLaws.{idle_of, staged_of, merging_of, unplanned_of}
+use Rattle.vab_device.proofs.PhaseCases.{idle_of, staged_of, merging_of, unplanned_of}
 use Rattle.vab_begin.proofs.CancelLaws.{cancel_refused, cancel_running, cancel_merging}
 use Rattle.vab_begin.proofs.cancelling.cancel.Goals as goal
 

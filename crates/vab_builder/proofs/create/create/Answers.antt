@@ -1,6 +1,6 @@
 use Rattle.std.proofs.Common.{◌∙◌, sym, ap, Ok}
 use Rattle.vab_layout.specs.declared.layout.Layout.{Layout}
-use Rattle.vab_builder.proofs.NameCases.{full_slot}
+use Rattle.vab_names.proofs.NameCases.{full_slot}
 use Rattle.vab_builder.proofs.OwnLaws.{own_long}
 use Rattle.vab_builder.proofs.Verdicts.{created-ok}
 use Rattle.vab_builder.proofs.RoomLaws.{create_room}

@@ -3,7 +3,7 @@ use Rattle.std.proofs.lemmas.Bool.{false_from_ne_true}
 use Rattle.vab_names.specs.Names.{is_full, store_of}
 use Rattle.vab_builder.specs.Sizes.{has_part}
 use Rattle.vab_builder.proofs.DeleteVerdicts.{deleted-bad_name, deleted-unknown, deleted-has_store}
-use Rattle.vab_builder.proofs.NameCases.{full_few}
+use Rattle.vab_names.proofs.NameCases.{full_few}
 use Rattle.vab_builder.proofs.delete.judged.Goals as goal
 
 pub returns-in_default : goal.returns-in_default

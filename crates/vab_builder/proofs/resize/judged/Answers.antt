@@ -7,7 +7,7 @@ use Rattle.vab_builder.proofs.ResizeVerdicts.{resized-bad_name, resized-bad_size
 use Rattle.vab_builder.proofs.ResizeVerdicts.{resized-has_store, resized-group_limit}
 use Rattle.vab_builder.proofs.ResizeVerdicts.{resized-no_room}
 use Rattle.vab_builder.proofs.PartLaws.{store_told}
-use Rattle.vab_builder.proofs.NameCases.{full_few}
+use Rattle.vab_names.proofs.NameCases.{full_few}
 use Rattle.vab_builder.specs.Sizes.{is_within}
 use Rattle.vab_builder.proofs.resize.judged.Goals as goal
 

@@ -2,7 +2,7 @@ use Rattle.std.proofs.Common.{◌∙◌, List, sym, ap, arith, Ok}
 use Rattle.vab_layout.specs.declared.layout.Layout.{Layout}
 use Rattle.vab_layout.specs.declared.layout.Part.{Part}
 use Rattle.vab_space.specs.Space.{blocks_of}
-use Rattle.vab_builder.proofs.NameCases.{full_slot}
+use Rattle.vab_names.proofs.NameCases.{full_slot}
 use Rattle.vab_builder.proofs.OwnLaws.{own_long}
 use Rattle.vab_builder.proofs.EditLaws.{named_small, resized_alike, same_size, other_size}
 use Rattle.vab_builder.proofs.EditLaws.{named_room}

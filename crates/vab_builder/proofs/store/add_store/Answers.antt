@@ -1,7 +1,7 @@
 use Rattle.std.proofs.Common.{◌∙◌, sym, ap, Ok}
 use Rattle.vab_layout.specs.declared.layout.Layout.{Layout}
 use Rattle.vab_builder.specs.Edits.{store_blocks}
-use Rattle.vab_builder.proofs.NameCases.{full_few}
+use Rattle.vab_names.proofs.NameCases.{full_few}
 use Rattle.vab_builder.proofs.EditLaws.{stored_room}
 use Rattle.vab_builder.proofs.StoreVerdicts.{stored-ok}
 use Rattle.vab_builder.proofs.store.add_store.Goals as goal

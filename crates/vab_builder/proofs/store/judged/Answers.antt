@@ -7,7 +7,7 @@ use Rattle.vab_builder.proofs.StoreVerdicts.{stored-bad_name, stored-bad_size}
 use Rattle.vab_builder.specs.Passes.{store_size}
 use Rattle.vab_builder.proofs.StoreVerdicts.{stored-unknown, stored-has_store, stored-no_room}
 use Rattle.vab_builder.proofs.PartLaws.{store_told}
-use Rattle.vab_builder.proofs.NameCases.{full_slot, full_few}
+use Rattle.vab_names.proofs.NameCases.{full_slot, full_few}
 use Rattle.vab_builder.proofs.EditLaws.{named_small, store_few}
 use Rattle.vab_builder.proofs.store.judged.Goals as goal
 

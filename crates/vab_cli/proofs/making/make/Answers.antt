@@ -1,6 +1,8 @@
-use Rattle.std.proofs.Common.{◌≡◌, ◌∙◌, ℕ, List, Some, None, subst}
+use Rattle.std.proofs.Common.{◌≡◌, ◌∙◌, ℕ, List, Some, None, sym, subst}
 use Rattle.vab_set.specs.declared.set.SetImage.{SetImage}
+use Rattle.vab_disk.specs.Disk.{Hearing}
 use Rattle.vab_disk.specs.Calls.{Changes, InSectors}
+use Rattle.vab_input.specs.HearsToEnd.{HearsToEnd}
 use Rattle.vab_disk.proofs.CallLaws.{changes_hearing, changes_then}
 use Rattle.vab_make.specs.Made.{refusal_of}
 use Rattle.vab_make.specs.Touched.{IsOfMaking}
@@ -76,3 +78,8 @@ returns-clause-changes g c = λ t set is.
     c.hear_all.ensures.crash c.hear_all.ensures.time)
     (subst (λ (x : List SetImage). Changes g.P.Disk (InSectors (IsOfMaking x c.args.max)) mid new)
     found (c.make_of.ensures.changes t))
+
+pub returns-clause-heard : goal.returns-clause-heard
+returns-clause-heard g c = λ t few port memory.
+    subst (λ (l : List Hearing). HearsToEnd (g.P.Disk.heard c.args.port.now) l)
+    (sym (c.make_of.ensures.heard t)) (c.in-Ok.ensures.heard t)

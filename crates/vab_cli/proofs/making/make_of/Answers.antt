@@ -1,5 +1,6 @@
 use Rattle.vab_disk.proofs.CallLaws.{changes_touches, changes_then, changes_telling}
-use Rattle.std.proofs.Common.{◌≡◌, ◌⊎◌, ◌∙◌, inl, inr, ⊎_elim, ℕ, true, false, Err, Some, sym, ap, subst, arith}
+use Rattle.std.proofs.Common.{◌≡◌, ◌⊎◌, ◌∙◌, inl, inr, ⊎_elim, ℕ, true, false, Err, Some, sym, ap}
+use Rattle.std.proofs.Common.{subst, arith}
 use Rattle.vab_disk.specs.Calls.{OnlyReads}
 use Rattle.vab_disk.proofs.CallLaws.{reads_none}
 use Rattle.vab_make.specs.declared.fault.MakeFault.{MakeFault}
@@ -9,6 +10,7 @@ use Rattle.vab_cli.specs.Codes.{make_status}
 use Rattle.vab_cli.specs.Telling.{Tells}
 use Rattle.vab_cli.specs.Verbs.{make_line, done_making, is_silent}
 use Rattle.vab_cli.specs.Runs.{IsFailed}
+use Rattle.vab_cli.specs.MadeDisk.{HoldsMade}
 use Rattle.vab_cli.proofs.Makings.{not_of_disk, silent_early, memory_of_none, silent_memory}
 use Rattle.vab_cli.proofs.Makings.{loud_refusal, silent_line, enough_sectors, status_not_port}
 use Rattle.vab_cli.proofs.Makings.{refused_told, refused_unheard, making_told, making_untold}
@@ -16,7 +18,8 @@ use Rattle.vab_cli.proofs.making.make_of.Goals as goal
 
 pub tell_made-requires-clause-size : goal.tell_made-requires-clause-size
 tell_made-requires-clause-size g c =
-    let enough = enough_sectors c.args.set.now c.args.limit c.args.max (g.P.Disk.size c.args.port.now)
+    let enough = enough_sectors c.args.set.now c.args.limit c.args.max
+    (g.P.Disk.size c.args.port.now)
     c.in-Ok.ensures.exact in
     omega (arith, enough, c.make_device.ensures.touches.quiet.size)
 
@@ -29,10 +32,17 @@ returns-in-Ok-clause-made g c = λ t none.
     let tells = subst
     (λ (n : ℕ). Tells g.P.Disk (done_making c.args.set.now n) Done mid new c.tell_made.result)
     c.make_device.ensures.touches.quiet.size (c.tell_made.ensures.tells t) in
+    let copies = c.in-Ok.ensures.copies t in
+    let holds : HoldsMade c.args.max (g.P.Disk.seen old) (g.P.Disk.seen mid) = record {
+      text = copies.0;
+      copies = copies.1;
+      control = c.in-Ok.ensures.control t;
+      rest = c.in-Ok.ensures.rest t;
+    } in
     making_told g.P.Disk g.met.P.Disk.only_now size c.args.set.now c.args.limit c.args.max
     (done_making c.args.set.now size) old mid new c.tell_made.result
-    (c.make_device.ensures.touches.quiet.told t) (c.in-Ok.ensures.made t) (c.in-Ok.ensures.settled t)
-    (c.make_device.ensures.time t) c.tell_made.ensures.either tells
+    (c.make_device.ensures.touches.quiet.told t) (c.in-Ok.ensures.made t) holds
+    (c.in-Ok.ensures.settled t) (c.make_device.ensures.time t) c.tell_made.ensures.either tells
 
 pub returns-then-is_silent-clause-made : goal.returns-then-is_silent-clause-made
 returns-then-is_silent-clause-made g c = λ t none.
@@ -66,7 +76,8 @@ returns-then-is_silent-clause-refused g c = λ t fault refused.
     let no_disk = not_of_disk c.in-Err.fault fault gives in
     let reads = subst (λ (x : g.row.P.Denot). OnlyReads g.P.Disk old x)
     (sym (c.in-Err.ensures.untouched no_disk)) (reads_none g.P.Disk old) in
-    refused_unheard g.P.Disk g.met.P.Disk.only_now size (make_line fault) (make_status fault) old new
+    refused_unheard g.P.Disk g.met.P.Disk.only_now size (make_line fault) (make_status fault) old
+    new
     c.from.result (c.make_device.ensures.touches.quiet.told t) (reads.seen t) (reads.time t)
     (silent_line fault) (status_not_port fault) (inr (inr memory))
 
@@ -90,7 +101,8 @@ returns-clause-refused g c = λ t fault refused.
     let either = subst
     (λ (f : MakeFault). (c.tell_fault.result ≡ make_status f) ⊎ (c.tell_fault.result ≡ Port))
     same c.tell_fault.ensures.either in
-    refused_told g.P.Disk g.met.P.Disk.only_now size (make_line fault) (make_status fault) old mid new
+    refused_told g.P.Disk g.met.P.Disk.only_now size (make_line fault) (make_status fault) old mid
+    new
     c.tell_fault.result (c.make_device.ensures.touches.quiet.told t) (reads.seen t) (reads.crash t)
     (reads.time t) (silent_line fault) either tells
 
@@ -111,5 +123,6 @@ returns-clause-changes g c = λ t.
     let tells = c.tell_fault.ensures.tells t in
     changes_then g.P.Disk _ c.args.port.now c.make_device.new.d c.tell_fault.new.port
     (changes_touches g.P.Disk _ _ _ c.make_device.ensures.touches)
-    (changes_telling g.P.Disk _ _ c.make_device.new.d c.tell_fault.new.port c.tell_fault.ensures.size
+    (changes_telling g.P.Disk _ _ c.make_device.new.d c.tell_fault.new.port
+    c.tell_fault.ensures.size
     (λ t. tells.seen) (λ t. tells.crash) (λ t. tells.time))

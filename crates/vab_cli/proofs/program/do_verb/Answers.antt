@@ -40,9 +40,11 @@ pub returns-in-Mark : goal.returns-in-Mark
 returns-in-Mark g c =
     let is : meaning_of c.args.verb ≡ words.Mark = search rules in
     command_verb g.P.Disk (meaning_of c.args.verb) c.args.port.now c.carry_out-in-Mark.new.port
-    c.carry_out-in-Mark.result c.carry_out-in-Mark.ensures.words c.carry_out-in-Mark.ensures.steady c.carry_out-in-Mark.ensures.disk
+    c.carry_out-in-Mark.result c.carry_out-in-Mark.ensures.words c.carry_out-in-Mark.ensures.steady
+    c.carry_out-in-Mark.ensures.disk
     (λ port. inr (c.carry_out-in-Mark.ensures.port port)) Mark (ap command_of is)
-    c.carry_out-in-Mark.ensures.runs c.carry_out-in-Mark.ensures.none c.carry_out-in-Mark.ensures.changes
+    c.carry_out-in-Mark.ensures.runs c.carry_out-in-Mark.ensures.none
+    c.carry_out-in-Mark.ensures.changes
     c.carry_out-in-Mark.ensures.quiet
 
 pub returns-in-BeginMerge : goal.returns-in-BeginMerge
@@ -68,18 +70,23 @@ pub returns-in-Cancel : goal.returns-in-Cancel
 returns-in-Cancel g c =
     let is : meaning_of c.args.verb ≡ words.Cancel = search rules in
     command_verb g.P.Disk (meaning_of c.args.verb) c.args.port.now c.carry_out-in-Cancel.new.port
-    c.carry_out-in-Cancel.result c.carry_out-in-Cancel.ensures.words c.carry_out-in-Cancel.ensures.steady c.carry_out-in-Cancel.ensures.disk
+    c.carry_out-in-Cancel.result c.carry_out-in-Cancel.ensures.words
+    c.carry_out-in-Cancel.ensures.steady c.carry_out-in-Cancel.ensures.disk
     (λ port. inr (c.carry_out-in-Cancel.ensures.port port)) Cancel (ap command_of is)
-    c.carry_out-in-Cancel.ensures.runs c.carry_out-in-Cancel.ensures.none c.carry_out-in-Cancel.ensures.changes
+    c.carry_out-in-Cancel.ensures.runs c.carry_out-in-Cancel.ensures.none
+    c.carry_out-in-Cancel.ensures.changes
     c.carry_out-in-Cancel.ensures.quiet
 
 pub returns-in-Activate : goal.returns-in-Activate
 returns-in-Activate g c =
     let is : meaning_of c.args.verb ≡ words.Activate c.in-Activate.slot = search rules in
     command_verb g.P.Disk (meaning_of c.args.verb) c.args.port.now c.carry_out-in-Activate.new.port
-    c.carry_out-in-Activate.result c.carry_out-in-Activate.ensures.words c.carry_out-in-Activate.ensures.steady c.carry_out-in-Activate.ensures.disk
-    (λ port. inr (c.carry_out-in-Activate.ensures.port port)) (SetActive c.in-Activate.slot) (ap command_of is)
-    c.carry_out-in-Activate.ensures.runs c.carry_out-in-Activate.ensures.none c.carry_out-in-Activate.ensures.changes
+    c.carry_out-in-Activate.result c.carry_out-in-Activate.ensures.words
+    c.carry_out-in-Activate.ensures.steady c.carry_out-in-Activate.ensures.disk
+    (λ port. inr (c.carry_out-in-Activate.ensures.port port)) (SetActive c.in-Activate.slot)
+    (ap command_of is)
+    c.carry_out-in-Activate.ensures.runs c.carry_out-in-Activate.ensures.none
+    c.carry_out-in-Activate.ensures.changes
     c.carry_out-in-Activate.ensures.quiet
 
 pub returns-in-Print : goal.returns-in-Print
@@ -95,9 +102,12 @@ pub returns-in-Digest : goal.returns-in-Digest
 returns-in-Digest g c =
     let is : meaning_of c.args.verb ≡ words.Digest c.as_bytes-in-Digest.result.now = search rules in
     command_verb g.P.Disk (meaning_of c.args.verb) c.args.port.now c.carry_out-in-Digest.new.port
-    c.carry_out-in-Digest.result c.carry_out-in-Digest.ensures.words c.carry_out-in-Digest.ensures.steady c.carry_out-in-Digest.ensures.disk
-    (λ port. inr (c.carry_out-in-Digest.ensures.port port)) (Digest c.as_bytes-in-Digest.result.now) (ap command_of is)
-    c.carry_out-in-Digest.ensures.runs c.carry_out-in-Digest.ensures.none c.carry_out-in-Digest.ensures.changes
+    c.carry_out-in-Digest.result c.carry_out-in-Digest.ensures.words
+    c.carry_out-in-Digest.ensures.steady c.carry_out-in-Digest.ensures.disk
+    (λ port. inr (c.carry_out-in-Digest.ensures.port port)) (Digest c.as_bytes-in-Digest.result.now)
+    (ap command_of is)
+    c.carry_out-in-Digest.ensures.runs c.carry_out-in-Digest.ensures.none
+    c.carry_out-in-Digest.ensures.changes
     c.carry_out-in-Digest.ensures.quiet
 
 pub returns-in-Install : goal.returns-in-Install

@@ -1,4 +1,5 @@
-use Rattle.std.proofs.Common.{◌≡◌, ◌-◌, ◌++◌, List, length, Some, true, refl, sym, ap, subst, ◌∙◌, Ok}
+use Rattle.std.proofs.Common.{◌≡◌, ◌-◌, ◌++◌, List, length, Some, true, refl, sym, ap, subst, ◌∙◌}
+use Rattle.std.proofs.Common.{Ok}
 use Rattle.std.proofs.Common.{Err}
 use Rattle.vab_disk.specs.Calls.{InSectors}
 use Rattle.vab_marks.specs.declared.status.PartStatus.{PartStatus}

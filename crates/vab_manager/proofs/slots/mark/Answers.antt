@@ -5,7 +5,8 @@ use Rattle.vab_model.specs.Commands.{Mark}
 use Rattle.vab_device.specs.Kept.{has_slot}
 use Rattle.vab_device.specs.Phases.{may_run}
 use Rattle.vab_manager.specs.Controls.{GivesControl, WritesControl}
-use Rattle.vab_manager.proofs.BootLaws.{marked_current, marked_runs, current_has}
+use Rattle.vab_manager.proofs.BootLaws.{marked_runs, current_has}
+use Rattle.vab_bootctl.proofs.BootLaws.{marked_current}
 use Rattle.vab_manager.proofs.CommandLaws.{runs_own}
 use Rattle.vab_manager.proofs.EffectLaws.{marked_effect}
 use Rattle.vab_manager.proofs.slots.mark.Goals as goal

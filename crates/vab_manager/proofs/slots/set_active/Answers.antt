@@ -8,7 +8,8 @@ use Rattle.vab_model.specs.Commands.{SetActive}
 use Rattle.vab_device.specs.Kept.{has_slot}
 use Rattle.vab_device.specs.Phases.{may_run}
 use Rattle.vab_manager.specs.Controls.{IsOfCommand, GivesControl, WritesControl}
-use Rattle.vab_manager.proofs.BootLaws.{activated_current, activated_runs}
+use Rattle.vab_manager.proofs.BootLaws.{activated_runs}
+use Rattle.vab_bootctl.proofs.BootLaws.{activated_current}
 use Rattle.vab_device.proofs.DoesLaws.{does_nothing}
 use Rattle.vab_manager.proofs.CommandLaws.{runs_own}
 use Rattle.vab_manager.proofs.EffectLaws.{activated_effect, refused_effect, is_some_at}

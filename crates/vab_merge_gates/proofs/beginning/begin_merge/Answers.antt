@@ -11,8 +11,9 @@ use Rattle.vab_layout.specs.Slots.{other_slot}
 use Rattle.vab_device.specs.Kept.{has_both}
 use Rattle.vab_device.proofs.DoesLaws.{does_nothing}
 use Rattle.vab_merge_gates.specs.Writes.{IsOfMergeBegun}
-use Rattle.vab_merge_gates.proofs.SlotLaws.{idle_of, installing_of, staged_of, merging_of}
-use Rattle.vab_merge_gates.proofs.SlotLaws.{planned_of, unplanned_of, both_of}
+use Rattle.vab_device.proofs.PhaseCases.{idle_of, installing_of, staged_of, merging_of}
+use Rattle.vab_merge_gates.proofs.SlotLaws.{both_of}
+use Rattle.vab_device.proofs.PhaseCases.{planned_of, unplanned_of}
 use Rattle.vab_merge_gates.proofs.StepLaws.{refused_idle, refused_installing, refused_merging}
 use Rattle.vab_merge_gates.proofs.StepLaws.{refused_running, refused_successful}
 use Rattle.vab_merge_gates.proofs.beginning.begin_merge.Goals as goal

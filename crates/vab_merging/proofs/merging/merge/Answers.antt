@@ -5,8 +5,8 @@ use Rattle.vab_model.specs.declared.command.Reply.TheVariants as replies
 use Rattle.vab_model.specs.declared.command.Refusal.TheVariants as refusals
 use Rattle.vab_model.specs.Commands.{Merge}
 use Rattle.vab_device.proofs.DoesLaws.{does_nothing}
-use Rattle.vab_merge_gates.proofs.SlotLaws.{idle_of, installing_of, staged_of}
-use Rattle.vab_merge_gates.proofs.SlotLaws.{planned_of, unplanned_of}
+use Rattle.vab_device.proofs.PhaseCases.{idle_of, installing_of, staged_of}
+use Rattle.vab_device.proofs.PhaseCases.{planned_of, unplanned_of}
 use Rattle.vab_merging.specs.Writes.{IsOfMerge}
 use Rattle.vab_merging.proofs.EffectLaws.{refused_idle, refused_installing, refused_staged}
 use Rattle.vab_merging.proofs.merging.merge.Goals as goal

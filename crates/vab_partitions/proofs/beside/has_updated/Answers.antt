@@ -1,10 +1,11 @@
-use Rattle.std.proofs.Common.{◌≡◌, ◌-◌, ◌++◌, ℕ, List, length, take, ap, arith, sym, subst, ◌∙◌, length-append}
+use Rattle.std.proofs.Common.{◌≡◌, ◌-◌, ◌++◌, ℕ, List, length, take, ap, arith, sym, subst, ◌∙◌}
+use Rattle.std.proofs.Common.{length-append}
 use Rattle.std.specs.Prelude.{Any, IsTrue}
 use Rattle.std.specs.List.{list_any}
 use Rattle.std.proofs.lemmas.List.{take_at}
 use Rattle.vab_names.specs.Names.{store_suffix, store_of}
 use Rattle.vab_layout.specs.Slots.{is_updated, own_parts}
-use Rattle.vab_partitions.proofs.NameCases.{store_ends}
+use Rattle.vab_names.proofs.NameCases.{store_ends}
 use Rattle.vab_partitions.proofs.PartCases.{is_its, its_then, then_its}
 use Rattle.vab_partitions.proofs.beside.has_updated.Goals as goal
 

@@ -6,8 +6,9 @@ use Rattle.vab_names.specs.Names.{in_slot}
 use Rattle.vab_names.proofs.NameLaws.{of_slot_long}
 use Rattle.vab_layout.specs.declared.layout.Part.{Part}
 use Rattle.vab_layout.specs.Layout.{blocks_of_parts}
-use Rattle.vab_layout.specs.Slots.{before_of, blocks_named, is_updated, other_slot, own_parts, IsOwn}
-use Rattle.vab_partitions.proofs.NameCases.{in_slot_is, own_short}
+use Rattle.vab_layout.specs.Slots.{before_of, blocks_named, is_updated, other_slot, own_parts}
+use Rattle.vab_layout.specs.Slots.{IsOwn}
+use Rattle.vab_names.proofs.NameCases.{in_slot_is, full_short}
 use Rattle.vab_partitions.proofs.PartCases.{named_small, fresh_as}
 use Rattle.vab_partitions.proofs.beside.is_target_part.Goals as goal
 use Rattle.vab_partitions.proofs.beside.is_target_part.Goals.{then-part-ne0, else-part-ne0}
@@ -67,7 +68,7 @@ is_unchanged-requires-clause-long c =
 
 pub is_unchanged-requires-clause-short : goal.is_unchanged-requires-clause-short
 is_unchanged-requires-clause-short c =
-    own_short c.args.slot c.args.part.now.name c.requires.of_slot c.requires.own.base
+    full_short c.args.slot c.args.part.now.name c.requires.of_slot c.requires.own.base
 
 pub returns : goal.returns
 returns c =

@@ -103,7 +103,8 @@ returns-in-Ok-clause-time g c = λ t rest.
     adds_on g.D.Disk.moment g.D.Disk.outcomes c.args.d.now mid c.mend.new.d
     (LeavesSame told size old)
     (LeavesSame (g.D.Disk.told mid) (g.D.Disk.size mid) (g.D.Disk.seen mid))
-    (adds_wider g.D.Disk.moment g.D.Disk.outcomes c.args.d.now mid Nothing (LeavesSame told size old)
+    (adds_wider g.D.Disk.moment g.D.Disk.outcomes c.args.d.now mid Nothing
+    (LeavesSame told size old)
     (reads.time t) (λ o none. absurd none))
     (c.mend.ensures.stays.time t (rests g.D.Disk c.args.d.now mid reads t rest))
     (λ o. leaves_before told (g.D.Disk.told mid) size (g.D.Disk.size mid) old (g.D.Disk.seen mid) o
@@ -120,7 +121,8 @@ returns-in-Err-clause-time g c = λ t rest.
     adds_on g.D.Disk.moment g.D.Disk.outcomes c.args.d.now mid c.mend.new.d
     (LeavesSame told size old)
     (LeavesSame (g.D.Disk.told mid) (g.D.Disk.size mid) (g.D.Disk.seen mid))
-    (adds_wider g.D.Disk.moment g.D.Disk.outcomes c.args.d.now mid Nothing (LeavesSame told size old)
+    (adds_wider g.D.Disk.moment g.D.Disk.outcomes c.args.d.now mid Nothing
+    (LeavesSame told size old)
     (reads.time t) (λ o none. absurd none))
     (c.mend.ensures.stays.time t (rests g.D.Disk c.args.d.now mid reads t rest))
     (λ o. leaves_before told (g.D.Disk.told mid) size (g.D.Disk.size mid) old (g.D.Disk.seen mid) o

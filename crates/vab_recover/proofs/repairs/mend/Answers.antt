@@ -65,11 +65,13 @@ returns-in-Ok-clause-stays g c =
       touches = touches_if g.D.Disk (IsRepair size seen) old mid all.quiet all.touches;
       time = all.time;
       order = λ t rest has.
-          adds_wider g.D.Disk.moment g.D.Disk.outcomes old mid _ _ (mark_stays g.D.Disk old mid (all.touches t) t rest)
+          adds_wider g.D.Disk.moment g.D.Disk.outcomes old mid _ _
+          (mark_stays g.D.Disk old mid (all.touches t) t rest)
           (λ o e. inl (ap mark_of e ∙ has));
       faults = record { steady = is.faults.steady; cause = tt };
     } in
-    let later : Stays g.D.Disk (IsOfTidyings dev x) (device_after x dev) mid new c.carry_out.result =
+    let later : Stays g.D.Disk (IsOfTidyings dev x) (device_after x dev) mid new
+    c.carry_out.result =
     subst
     (λ (k : Device).
     Stays g.D.Disk (IsOfTidyings k x) (device_after x k) mid new c.carry_out.result)
@@ -80,9 +82,11 @@ returns-in-Ok-clause-stays g c =
     (λ t s b w.
     inr (of_tidyings kept c.args.tables size seen c.requires.is.slot (c.requires.read t) x
     (c.requires.due t) c.requires.tidying s b w))
-    (λ t has. ap mark_of (repair_keeps size 2048 seen _ (omega arith) ((all.touches t).seen t)) ∙ has)
+    (λ t has. ap mark_of (repair_keeps size 2048 seen _ (omega arith) ((all.touches t).seen t))
+    ∙ has)
     (λ t rest has.
-    adds_wider g.D.Disk.moment g.D.Disk.outcomes old mid _ _ (mark_stays g.D.Disk old mid (all.touches t) t rest)
+    adds_wider g.D.Disk.moment g.D.Disk.outcomes old mid _ _
+    (mark_stays g.D.Disk old mid (all.touches t) t rest)
     (λ o e. inl (ap mark_of e ∙ has)))
 
 pub returns-in-Ok-clause-tidied : goal.returns-in-Ok-clause-tidied

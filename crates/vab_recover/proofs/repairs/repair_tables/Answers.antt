@@ -40,7 +40,8 @@ repair_table-requires-in-Some-clause-loaded g c = λ t.
 
 pub returns-in-Err-clause-touches : goal.returns-in-Err-clause-touches
 returns-in-Err-clause-touches g c = λ t.
-    touches_wider g.D.Disk (IsRepair (g.D.Disk.size c.args.d.now) (g.D.Disk.seen c.args.d.now)) _ _ _
+    touches_wider g.D.Disk
+    (IsRepair (g.D.Disk.size c.args.d.now) (g.D.Disk.seen c.args.d.now)) _ _ _
     c.repair_table.ensures.touches
     (source_repair c.args.kept.now c.args.tables.now (g.D.Disk.size c.args.d.now)
     (g.D.Disk.seen c.args.d.now) c.requires.is c.requires.there (c.requires.read t))
@@ -77,7 +78,8 @@ returns-in-None-clause-same g c = λ t.
 
 pub returns-in-None-clause-touches : goal.returns-in-None-clause-touches
 returns-in-None-clause-touches g c = λ t.
-    touches_wider g.D.Disk (IsRepair (g.D.Disk.size c.args.d.now) (g.D.Disk.seen c.args.d.now)) _ _ _
+    touches_wider g.D.Disk
+    (IsRepair (g.D.Disk.size c.args.d.now) (g.D.Disk.seen c.args.d.now)) _ _ _
     c.repair_table.ensures.touches
     (source_repair c.args.kept.now c.args.tables.now (g.D.Disk.size c.args.d.now)
     (g.D.Disk.seen c.args.d.now) c.requires.is c.requires.there (c.requires.read t))

@@ -89,7 +89,8 @@ returns-in-Err-tell_reply-clause-does g c =
     let stands : IsIn size after (g.P.Disk.seen mid) =
     subst (λ (m : Mounted). IsIn size m (g.P.Disk.seen mid)) (did.after t)
     (device_stands c.in-Ok.done.0 size (g.P.Disk.seen mid) (did.represents t)) in
-    inl (command_told size g.P.Disk k packet before beyond did.refused asked is none cmd same old mid
+    inl (command_told size g.P.Disk k packet before beyond did.refused asked is none cmd same old
+    mid
     (did.quiet.told t) (did.quiet.heard t) (did.time t)
     c.tell_reply.new.p c.as_slice.result.now text_is stands (λ rest. did.rest t rest)
     (c.tell_reply.ensures.seen t) (c.tell_reply.ensures.crash t) (c.tell_reply.ensures.heard t)

@@ -34,7 +34,8 @@ returns-in-Ok-Getvar-clause-does g c = λ t before beyond count total most.
     let text : c.as_slice.result.now ≡ variable_text (state_on device image) asked =
     c.as_slice.ensures.value
     ∙ c.variable.ensures.text (g.P.Disk.size old) image c.requires.device
-    (λ s lt. (g.met.P.Disk.whole old s (g.P.Disk.seen old s) lt (g.met.P.Disk.seen_held old s)).long)
+    (λ s lt. (g.met.P.Disk.whole old s (g.P.Disk.seen old s) lt
+    (g.met.P.Disk.seen_held old s)).long)
     in
     c.tell_still.ensures.does t packet before beyond count total most (Ok (Getvar asked)) is tt
     (ap still (sym text))

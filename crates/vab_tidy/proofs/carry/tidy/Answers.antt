@@ -30,7 +30,8 @@ returns-in-None-clause-stays g c =
     let x = c.args.tidying in
     let next : tidied_device x d ≡ d = ap (λ (y : Option Alone). with_alone y d) c.in-None.is in
     subst
-    (λ (k : Device). Stays g.D.Disk (IsOfTidied d x) k c.args.d.now c.put_idle.new.d c.put_idle.result)
+    (λ (k : Device). Stays g.D.Disk (IsOfTidied d x) k c.args.d.now c.put_idle.new.d
+    c.put_idle.result)
     (sym next)
     (stays_wider g.D.Disk (IsOfTidied d x) _ d c.args.d.now c.put_idle.new.d c.put_idle.result
     c.put_idle.ensures.stays (λ s b at. inr at))

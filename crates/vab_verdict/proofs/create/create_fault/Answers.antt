@@ -8,7 +8,7 @@ use Rattle.vab_builder.specs.Sizes.{has_part, is_within}
 use Rattle.vab_builder.proofs.Verdicts.{created-bad_name, created-bad_size, created-exists}
 use Rattle.vab_builder.proofs.Verdicts.{created-too_many, created-group_limit, created-no_room}
 use Rattle.vab_builder.proofs.Verdicts.{created-ok}
-use Rattle.vab_builder.proofs.NameCases.{full_slot}
+use Rattle.vab_names.proofs.NameCases.{full_slot}
 use Rattle.vab_builder.proofs.OwnLaws.{own_long}
 use Rattle.vab_verdict.proofs.create.create_fault.Goals as goal
 

@@ -6,7 +6,7 @@ use Rattle.vab_builder.specs.Edits.{with_deleted}
 use Rattle.vab_builder.specs.Sizes.{has_part}
 use Rattle.vab_builder.proofs.DeleteVerdicts.{deleted-bad_name, deleted-unknown, deleted-has_store}
 use Rattle.vab_builder.proofs.DeleteVerdicts.{deleted-ok}
-use Rattle.vab_builder.proofs.NameCases.{full_few}
+use Rattle.vab_names.proofs.NameCases.{full_few}
 use Rattle.vab_verdict.proofs.delete.delete_fault.Goals as goal
 
 pub returns-in_default : goal.returns-in_default

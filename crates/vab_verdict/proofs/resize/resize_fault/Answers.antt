@@ -8,7 +8,7 @@ use Rattle.vab_builder.specs.Sizes.{has_part, is_within}
 use Rattle.vab_builder.proofs.ResizeVerdicts.{resized-bad_name, resized-bad_size, resized-unknown}
 use Rattle.vab_builder.proofs.ResizeVerdicts.{resized-has_store, resized-group_limit}
 use Rattle.vab_builder.proofs.ResizeVerdicts.{resized-no_room, resized-ok}
-use Rattle.vab_builder.proofs.NameCases.{full_few}
+use Rattle.vab_names.proofs.NameCases.{full_few}
 use Rattle.vab_verdict.proofs.resize.resize_fault.Goals as goal
 
 pub returns-in_default : goal.returns-in_default

@@ -1,6 +1,6 @@
 use Rattle.std.proofs.Common.{arith}
 use Rattle.vab_layout.specs.Layout.{layout_of, part_of}
-use Rattle.vab_builder.proofs.NameCases.{full_short}
+use Rattle.vab_names.proofs.NameCases.{full_short}
 use Rattle.vab_builder.proofs.OwnLaws.{own_long, own_rules}
 use Rattle.vab_builder.proofs.Bounds.{before_small, store_small}
 use Rattle.vab_verdict.proofs.SumLaws.{listed_part, listed_rules, listed_small}

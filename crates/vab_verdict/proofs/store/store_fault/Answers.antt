@@ -7,7 +7,7 @@ use Rattle.vab_builder.specs.Passes.{store_size}
 use Rattle.vab_builder.specs.Sizes.{has_part}
 use Rattle.vab_builder.proofs.StoreVerdicts.{stored-bad_name, stored-bad_size, stored-unknown}
 use Rattle.vab_builder.proofs.StoreVerdicts.{stored-has_store, stored-no_room, stored-ok}
-use Rattle.vab_builder.proofs.NameCases.{full_slot, full_few}
+use Rattle.vab_names.proofs.NameCases.{full_slot, full_few}
 use Rattle.vab_builder.proofs.EditLaws.{named_small, store_few}
 use Rattle.vab_verdict.proofs.store.store_fault.Goals as goal
 
