@@ -1,0 +1,2 @@
+mod FewNames
+mod FreeStatus

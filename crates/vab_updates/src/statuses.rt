@@ -1,0 +1,8 @@
+//! Where the status of a flashed partition goes.
+ghost use Rattle.vab_updates.specs.Statuses.{FlashFindsFree};
+
+/// On each device a flash that is done finds a sector for its status that is all zeros: each status
+/// is of another partition of the target, and a target has at most 32.
+pub fn finds_free_status()
+    ensures free { FlashFindsFree }
+{}
