@@ -1,2 +1,8 @@
 mod FewNames
 mod FreeStatus
+mod Sectors
+mod Installed
+mod Entries
+mod Edits
+mod Updates
+mod Begun

@@ -1,0 +1,378 @@
+-- A begin that is done: the source's images are kept.
+use Rattle.std.proofs.Common.{◌≡◌, ◌∙◌, inl, inr, ℕ, zero, suc, ◌/◌, ◌≤◌, ◌<◌, Bool}
+use Rattle.std.proofs.Common.{true, false, not, eqb, List, [], ◌∷◌, ◌++◌, length, Ok, refl, sym}
+use Rattle.std.proofs.Common.{ap, subst, arith}
+use Rattle.std.specs.Prelude.{Option, Some, None, Contains, map, bit_and}
+use Rattle.std.specs.List.{filter}
+use Rattle.std.specs.Str.{bytes_eq}
+use Rattle.std.proofs.lemmas.Bool.{cases_Bool, leb-true, eqb-true}
+use Rattle.std.proofs.lemmas.Nat.{and_assoc, and_le_r}
+use Rattle.std.proofs.lemmas.List.Elements.{All-contains, filter-append, filter_passes}
+use Rattle.std.proofs.lemmas.List.Elements.{Contains-append_cases}
+use Rattle.vab_disk.specs.Disk.{Image}
+use Rattle.vab_bootctl.specs.declared.slots.Control.{Control}
+use Rattle.vab_bootctl.specs.Boot.{info_at}
+use Rattle.vab_marks.specs.declared.mark.MarkPhase.TheVariants as marks
+use Rattle.vab_marks.specs.declared.status.PartStatus.{PartStatus}
+use Rattle.vab_tables.specs.declared.table.Table.{Table}
+use Rattle.vab_geometry.specs.declared.geometry.Geometry.{Geometry}
+use Rattle.vab_names.specs.Names.{is_of_slot, in_slot, store_of, default_name}
+use Rattle.vab_names.proofs.NameCases.{ne_name, default_not_own}
+use Rattle.vab_layout.specs.declared.layout.Part.{Part}
+use Rattle.vab_layout.specs.declared.layout.Layout.{Layout}
+use Rattle.vab_layout.specs.Layout.{layout_of}
+use Rattle.vab_layout.specs.Plain.{plain}
+use Rattle.vab_layout.specs.Slots.{other_slot, own_parts, IsOwn}
+use Rattle.vab_layout.proofs.LayoutLaws.{layout_keeps}
+use Rattle.vab_partitions.proofs.OwnRules.{own_kept}
+use Rattle.vab_blocks.proofs.Contained.{all_from, in_map, of_map}
+use Rattle.vab_builder.specs.Edits.{fitting}
+use Rattle.vab_builder.specs.Import.{imported, twin_part, twin_group_name}
+use Rattle.vab_builder.specs.Sizes.{has_part}
+use Rattle.vab_builder.proofs.ListLaws.{filter_all, filter_none}
+use Rattle.vab_builder.proofs.PartLaws.{part_there}
+use Rattle.vab_builder.proofs.SlotLaws.{of_other_slot, in_slot_of_slot, base_of-in_slot}
+use Rattle.vab_builder.proofs.SlotLaws.{of_slot_not}
+use Rattle.vab_model.specs.declared.state.Image.{Image as ImageOfSlot}
+use Rattle.vab_model.specs.declared.state.PlanEntry.{PlanEntry}
+use Rattle.vab_model.specs.declared.state.Phase.{Phase}
+use Rattle.vab_model.specs.declared.state.Phase.TheVariants.{Idle, Installing, Staged, Merging}
+use Rattle.vab_model.specs.declared.command.Refusal.TheVariants as refusals
+use Rattle.vab_model.specs.declared.command.Reply.TheVariants as replies
+use Rattle.vab_model.specs.Commands.{Begin}
+use Rattle.vab_model.specs.Effects.{Effect, after_of}
+use Rattle.vab_model.specs.State.{images_at}
+use Rattle.vab_device.specs.declared.fault.StartFault.TheVariants.{BadState}
+use Rattle.vab_device.specs.Checks.{Check, check}
+use Rattle.vab_device.specs.Kept.{group_of, sectors_of, part_on, parts_of, IsPart, AreParts}
+use Rattle.vab_device.specs.Mounted.{Mounted, mounted_on, state_on, image_on, bytes_at, phase_on}
+use Rattle.vab_device.specs.Phases.{is_good, own_check}
+use Rattle.vab_device.specs.Reading.{Read, kept, IsIn, Reads, table_at}
+use Rattle.vab_device.specs.Stores.{Scanned}
+use Rattle.vab_device.specs.Updates.{effect_on, begin_effect, begun_effect, table_effect, layout_at}
+use Rattle.vab_device.specs.Updates.{image_or, entry_by, plan_by}
+use Rattle.vab_device.proofs.CheckLaws.{first_kept, check_kept}
+use Rattle.vab_device.proofs.OwnParts.{parts_kept, length-sectors_of}
+use Rattle.vab_device.proofs.ReadingLaws.{device_was, idle_read_of, slot_below}
+use Rattle.vab_device.proofs.StayLaws.{one_of}
+use Rattle.vab_edit.proofs.PlanLaws.{map_among, map_map}
+use Rattle.vab_updates.specs.Plans.{HasWholeSectors, kept_entry, begun_plan, with_plan}
+use Rattle.vab_updates.proofs.Sectors.{blocks_long, table_rules, IsRead}
+use Rattle.vab_updates.proofs.Entries.{size_absent, own_is, no_store}
+use Rattle.vab_updates.proofs.Installed.{IsReadAs, none_named}
+use Rattle.vab_updates.proofs.Updates.{refused_not, table_done, fitting_is}
+
+-- ---- twins
+
+-- a twin isn't updated
+twin_kept : (a : ℕ) → not (eqb (bit_and (bit_and a 9) 4) 0) ≡ false
+twin_kept a =
+    let none : bit_and (bit_and a 9) 4 ≡ 0 =
+    omega (arith, and_assoc 4 a 9, and_le_r a (bit_and 9 4)) in
+    rw none refl
+
+twin_group : (slot : ℕ) (name : List ℕ) → group_of (twin_group_name slot name) ≡ group_of name
+twin_group slot name = elim (cases_Bool (bytes_eq name default_name)) [
+  | inl is ↦ rw is (rw is refl)
+  | inr other ↦
+      let mine : bytes_eq (in_slot slot name) default_name ≡ false =
+      ne_name (in_slot slot name) default_name
+      (of_slot_not slot (in_slot slot name) default_name (in_slot_of_slot slot name)
+      (default_not_own slot)) in
+      rw (other, mine) (ap (λ (n : List ℕ). Some n) (base_of-in_slot slot name))
+]
+
+-- ---- what is imported of a source
+
+module _ (slot : ℕ) (l : Layout) (below : slot < 2) where
+  abbrev o : ℕ
+  o = other_slot slot
+
+  abbrev own : List Part
+  own = own_parts slot l.parts
+
+  parts_are : (imported slot (plain slot l)).parts ≡ own ++ map (twin_part o) own
+  unfolding imported plain
+  parts_are =
+      ap (λ (ps : List Part). ps ++ map (twin_part o) ps)
+      (filter_all (λ (p : Part). is_of_slot slot p.name) own
+      (filter_passes (λ (p : Part). is_of_slot slot p.name) l.parts))
+
+  twins_own : (q : Part)
+      → Contains (map (twin_part o) own) q
+      → is_of_slot o q.name ≡ true
+  twins_own q c =
+      let r = of_map (twin_part o) own q c in
+      subst (λ (x : Part). is_of_slot o x.name ≡ true) r.2 (in_slot_of_slot o r.0.name)
+
+  -- the target's partitions are the twins
+  pub twins_are : own_parts o (imported slot (plain slot l)).parts ≡ map (twin_part o) own
+  twins_are =
+      let test : Part → Bool = λ p. is_of_slot o p.name in
+      let none : filter test own ≡ [] =
+      filter_none test own
+      (all_from (λ (p : Part). is_of_slot o p.name ≡ false) own
+      (λ p c. of_other_slot slot p.name below (own_is slot l.parts p c))) in
+      let all : filter test (map (twin_part o) own) ≡ map (twin_part o) own =
+      filter_all test (map (twin_part o) own)
+      (all_from (λ (p : Part). is_of_slot o p.name ≡ true) (map (twin_part o) own) twins_own) in
+      ap (own_parts o) parts_are
+      ∙ filter-append test own (map (twin_part o) own)
+      ∙ (λ i. none i ++ all i)
+
+  -- and none has a store
+  no_stores : (name : List ℕ)
+      → has_part (store_of name) (imported slot (plain slot l)).parts ≡ false
+  no_stores name =
+      ap (has_part (store_of name)) parts_are
+      ∙ elim (cases_Bool (has_part (store_of name) (own ++ map (twin_part o) own))) [
+        | inl there ↦
+            let q = part_there (store_of name) (own ++ map (twin_part o) own) there in
+            elim (Contains-append_cases own (map (twin_part o) own) q.0 q.1) [
+              | inl mine ↦
+                  absurd (no_store slot q.0.name name (own_is slot l.parts q.0 mine) (sym q.2))
+              | inr twin ↦ absurd (no_store o q.0.name name (twins_own q.0 twin) (sym q.2))
+            ]
+        | inr none ↦ none
+      ]
+
+-- ---- the plan that it gives
+
+module _
+    (size : ℕ) (image : Image) (slot : ℕ) (l : Layout)
+    (below : slot < 2)
+    (whole : HasWholeSectors size image)
+    (parts : AreParts size (parts_of slot l)) where
+  entry_kept : (p : Part)
+      → Contains (own_parts slot l.parts) p
+      → entry_by (imported slot (plain slot l)) [] (twin_part (other_slot slot) p)
+      ≡ kept_entry (image_on image (part_on l.device.first_logical_sector p))
+  entry_kept p c =
+      let at : ℕ = l.device.first_logical_sector in
+      let o : ℕ = other_slot slot in
+      let new : Layout = imported slot (plain slot l) in
+      let on = (All-contains (IsPart size) (parts_of slot l) (part_on at p) parts.each
+      (in_map (part_on at) (own_parts slot l.parts) p c)).on_disk in
+      let long = blocks_long size image (sectors_of at p.blocks) whole on in
+      let blocks : length p.blocks ≡ length (bytes_at image (sectors_of at p.blocks)) / 4096 =
+      omega (arith, long, length-sectors_of at p.blocks) in
+      let name = base_of-in_slot o p.name in
+      let group = twin_group o p.group in
+      let store = size_absent (store_of (in_slot o p.name)) new.parts
+      (no_stores slot l below (in_slot o p.name)) in
+      let kept = twin_kept p.attributes in
+      (λ i. record {
+        name = name i;
+        group = group i;
+        blocks = blocks i;
+        store = store i;
+        image = image_or (kept i) None;
+      })
+
+  pub plan_begun : plan_by (other_slot slot) (imported slot (plain slot l)) []
+      ≡ begun_plan (map (image_on image) (parts_of slot l))
+  plan_begun =
+      let at : ℕ = l.device.first_logical_sector in
+      let own : List Part = own_parts slot l.parts in
+      let twin : Part → Part = twin_part (other_slot slot) in
+      let entry : Part → PlanEntry = entry_by (imported slot (plain slot l)) [] in
+      ap (map entry) (twins_are slot l below)
+      ∙ map_map twin entry own
+      ∙ map_among (λ p. entry (twin p)) (λ p. kept_entry (image_on image (part_on at p))) own
+      entry_kept
+      ∙ sym (ap (map kept_entry) (map_map (part_on at) (image_on image) own)
+      ∙ map_map (λ p. image_on image (part_on at p)) kept_entry own)
+
+-- ---- what is read without an update
+
+abbrev idle_at : ℕ
+    → List (Option PartStatus)
+    → Control
+    → Geometry
+    → Table
+    → List Scanned
+    → Read
+idle_at slot statuses c g t scanned = record {
+  mark = record { phase = marks.Idle; slot = slot };
+  statuses = statuses;
+  control = c;
+  geometry = g;
+  tables = t ∷ [];
+  scanned = scanned;
+}
+
+record HasIdle (size : ℕ) (image : Image) (m : Mounted) : Type 0 where
+  slot : ℕ
+  statuses : List (Option PartStatus)
+  c : Control
+  g : Geometry
+  t : Table
+  scanned : List Scanned
+  table : table_at size g slot image ≡ Ok t
+  read : IsReadAs size image m (idle_at slot statuses c g t scanned)
+
+phase_said : (r : Read) (image : Image)
+    → (mounted_on (kept r) image).state.phase ≡ phase_on (kept r) image
+unfolding state_on
+phase_said r image = refl
+
+has_idle : (size : ℕ) (image : Image) (m : Mounted)
+    → IsIn size m image
+    → m.state.phase ≡ Idle
+    → HasIdle size image m
+has_idle size image m is phase =
+    let was = device_was size image m is in
+    let r : Read = was.read in
+    let idle : r.mark.phase ≡ marks.Idle =
+    idle_read_of size r image was.reads
+    (sym (phase_said r image) ∙ sym (ap (λ (x : Mounted). x.state.phase) was.is) ∙ phase) in
+    let marked : r ≡ record r { mark = record { phase = marks.Idle; slot = r.mark.slot } } =
+    (λ i. record r { mark = record { phase = idle i; slot = r.mark.slot } }) in
+    let now = subst (IsReadAs size image m) marked (record { reads = was.reads; is = was.is }) in
+    let one = one_of size r.geometry r.mark.slot image r.tables now.reads.tables in
+    let form : record r { mark = record { phase = marks.Idle; slot = r.mark.slot } }
+    ≡ idle_at r.mark.slot r.statuses r.control r.geometry one.0 r.scanned =
+    (λ i. record {
+      mark = record { phase = marks.Idle; slot = r.mark.slot };
+      statuses = r.statuses;
+      control = r.control;
+      geometry = r.geometry;
+      tables = one.1 i;
+      scanned = r.scanned;
+    }) in
+    record {
+      slot = r.mark.slot;
+      statuses = r.statuses;
+      c = r.control;
+      g = r.geometry;
+      t = one.0;
+      scanned = r.scanned;
+      table = one.2;
+      read = subst (IsReadAs size image m) form now;
+    }
+
+-- ---- a begin from a slot
+
+-- what is said of a begin from this slot
+abbrev Begins : Mounted → ℕ → Type 0
+Begins m n =
+    (begun_effect m n (layout_at m.places n)).reply ≡ replies.Done
+    → (images : List ImageOfSlot)
+    × (images_at m.state n ≡ Some images)
+    × ((after_of m (begun_effect m n (layout_at m.places n))).state
+    ≡ with_plan m.state n (begun_plan images))
+
+module _
+    (size : ℕ) (image : Image) (slot : ℕ) (statuses : List (Option PartStatus)) (c : Control)
+    (g : Geometry) (t : Table) (ss : List Scanned)
+    (whole : HasWholeSectors size image)
+    (reads : Reads size (idle_at slot statuses c g t ss) image)
+    (table : table_at size g slot image ≡ Ok t) where
+  abbrev r : Read
+  r = idle_at slot statuses c g t ss
+
+  lower : slot < 2
+  lower = slot_below image r.mark reads.mark
+
+  enough : 4120 ≤ size
+  enough = leb-true 4120 size reads.enough
+
+  from_at : (k : ℕ)
+      → k < 2
+      → layout_at (mounted_on (kept (idle_at k statuses c g t ss)) image).places k
+      ≡ Some (plain k (layout_of t))
+  from_at zero lt = refl
+  from_at (suc zero) lt = refl
+  from_at (suc (suc n)) lt = absurd (omega (arith, lt))
+
+  images_are : (k : ℕ)
+      → k < 2
+      → images_at (mounted_on (kept (idle_at k statuses c g t ss)) image).state k
+      ≡ Some (map (image_on image) (parts_of k (layout_of t)))
+  unfolding state_on
+  images_are zero lt = refl
+  images_are (suc zero) lt = refl
+  images_are (suc (suc n)) lt = absurd (omega (arith, lt))
+
+  -- the slot of the mark is current
+  current : c.current ≡ slot
+  current =
+      let at : Check = check (eqb c.current slot) (BadState 1) in
+      let good : Check = check (is_good (info_at c slot)) (BadState 2) in
+      eqb-true c.current slot
+      (check_kept (eqb c.current slot) (BadState 1) (first_kept at (good ∷ []) reads.state).0)
+
+  current_on : (mounted_on (kept r) image).state.control.current ≡ slot
+  unfolding state_on
+  current_on = current
+
+  parts : AreParts size (parts_of slot (layout_of t))
+  parts =
+      let own : IsOwn slot (layout_of t).parts =
+      own_kept slot (layout_of t).parts
+      (none_named _ (first_kept (own_check slot t) [] reads.parts).0) in
+      let read : IsRead size g t =
+      table_rules size image g slot t whole enough lower reads.geometry table in
+      parts_kept size slot g (layout_of t) enough (layout_keeps t read.rules) own read.lies
+
+  begins_at : Begins (mounted_on (kept r) image) slot
+  begins_at done =
+      let m : Mounted = mounted_on (kept r) image in
+      let l : Layout = layout_of t in
+      let given : Layout = imported slot (plain slot l) in
+      let is : begun_effect m slot (layout_at m.places slot)
+      ≡ table_effect m slot [] (fitting g.max given) =
+      ap (begun_effect m slot) (from_at slot lower) in
+      let made = table_done m slot [] (fitting g.max given)
+      (sym (ap (λ (e : Effect Mounted). e.reply) is) ∙ done) in
+      let plan : plan_by (other_slot slot) made.0 []
+      ≡ begun_plan (map (image_on image) (parts_of slot l)) =
+      ap (λ (x : Layout). plan_by (other_slot slot) x [])
+      (sym (fitting_is g.max given made.0 made.1))
+      ∙ plan_begun size image slot l lower whole parts in (
+        map (image_on image) (parts_of slot l),
+        images_are slot lower,
+        ap (λ (e : Effect Mounted). (after_of m e).state) (is ∙ ap (table_effect m slot []) made.1)
+            ∙ ap (with_plan m.state slot) plan,
+      )
+
+  pub begins_current : Begins (mounted_on (kept r) image)
+      (mounted_on (kept r) image).state.control.current
+  begins_current = subst (Begins (mounted_on (kept r) image)) (sym current_on) begins_at
+
+-- ---- a disk that is a device
+
+idle_by : (m : Mounted) (phase : Phase)
+    → (begin_effect m phase).reply ≡ replies.Done
+    → phase ≡ Idle
+idle_by m Idle done = refl
+idle_by m (Installing source plan) done = refused_not refusals.NotIdle done
+idle_by m (Staged source left) done = refused_not refusals.NotIdle done
+idle_by m (Merging target left) done = refused_not refusals.NotIdle done
+
+-- what is said of a begin, by the phase
+abbrev BeginsFrom : Mounted → Phase → Type 0
+BeginsFrom m phase =
+    (begin_effect m phase).reply ≡ replies.Done
+    → (images : List ImageOfSlot)
+    × (images_at m.state m.state.control.current ≡ Some images)
+    × ((after_of m (begin_effect m phase)).state
+    ≡ with_plan m.state m.state.control.current (begun_plan images))
+
+pub begin_keeps : (size : ℕ) (image : Image) (m : Mounted) (staged : Option (List ℕ))
+    → HasWholeSectors size image
+    → IsIn size m image
+    → (effect_on m staged Begin).reply ≡ replies.Done
+    → (images : List ImageOfSlot)
+    × (images_at m.state m.state.control.current ≡ Some images)
+    × ((after_of m (effect_on m staged Begin)).state
+    ≡ with_plan m.state m.state.control.current (begun_plan images))
+begin_keeps size image m staged whole is done =
+    let idle = idle_by m m.state.phase done in
+    let h = has_idle size image m is idle in
+    let begins : Begins m m.state.control.current =
+    subst (λ (x : Mounted). Begins x x.state.control.current) (sym h.read.is)
+    (begins_current size image h.slot h.statuses h.c h.g h.t h.scanned whole h.read.reads
+    h.table) in
+    let from : BeginsFrom m Idle = begins in
+    subst (BeginsFrom m) (sym idle) from done
