@@ -185,6 +185,33 @@ seen_at a b c zero lt has = ap (λ (x : Bool). info_seen x c.a) has
 seen_at a b c (suc zero) lt has = ap (λ (x : Bool). info_seen x c.b) has
 seen_at a b c (suc (suc n)) lt has = absurd (omega (arith, lt))
 
+-- Of one without images nothing is read: its priority is 0.
+low_on : (d : Device) (image : Image) (slot : ℕ)
+    → slot < 2
+    → is_some (images_at (state_on d image) slot) ≡ false
+    → (info_at (state_on d image).control slot).priority ≡ 0
+unfolding state_on
+low_on d image zero lt none =
+    ap (λ (x : Bool). (info_seen x d.control.a).priority) (sym (some_images image d.a) ∙ none)
+low_on d image (suc zero) lt none =
+    ap (λ (x : Bool). (info_seen x d.control.b).priority) (sym (some_images image d.b) ∙ none)
+low_on d image (suc (suc n)) lt none = absurd (omega (arith, lt))
+
+pub unread_low : (size : ℕ) (image : Image) (m : Mounted)
+    → IsIn size m image
+    → (slot : ℕ)
+    → slot < 2
+    → is_some (images_at m.state slot) ≡ false
+    → (info_at m.state.control slot).priority ≡ 0
+unread_low size image m is slot lt =
+    let was = device_was size image m is in
+    subst
+    (λ (x : Mounted).
+    is_some (images_at x.state slot) ≡ false
+    → (info_at x.state.control slot).priority ≡ 0)
+    (sym was.is)
+    (low_on (kept was.read) image slot lt)
+
 slot_good : (slot : ℕ) (c : Control)
     → first_fault (slot_checks slot c) ≡ None
     → (c.current ≡ slot) × (is_good (info_at c slot) ≡ true)

@@ -1,19 +1,15 @@
 -- The images of a slot: the end of an installation gives them, and other commands leave them.
-use Rattle.std.proofs.Common.{◌≡◌, ◌∙◌, ℕ, zero, suc, ◌-◌, ◌*◌, ◌⊎◌, inl, inr, Bool, true, false}
+use Rattle.std.proofs.Common.{◌≡◌, ◌∙◌, ℕ, zero, suc, ◌-◌, ◌⊎◌, inl, inr, Bool, true, false}
 use Rattle.std.proofs.Common.{cond, eqb}
-use Rattle.std.proofs.Common.{List, [], ◌∷◌, length, Option, Some, None, Result, Ok, Err, refl, sym}
+use Rattle.std.proofs.Common.{List, [], ◌∷◌, Option, Some, None, refl, sym}
 use Rattle.std.proofs.Common.{ap}
 use Rattle.std.proofs.Common.{subst, arith}
 use Rattle.std.proofs.lemmas.Bool.{cases_Bool, eqb-true, eqb-false, eq-eqb, ne_eqb}
 use Rattle.std.proofs.lemmas.List.Elements.{All-cons}
-use Rattle.std.specs.Prelude.{All, map, is_some, nat_lt, nat_le}
+use Rattle.std.specs.Prelude.{All, map, is_some}
 use Rattle.vab_bootctl.specs.declared.slots.Control.{Control}
 use Rattle.vab_bootctl.specs.Boot.{activated_of}
-use Rattle.vab_names.specs.Names.{is_full, base_of}
-use Rattle.vab_space.specs.Space.{need_of}
-use Rattle.vab_layout.specs.declared.layout.Layout.{Layout}
 use Rattle.vab_layout.specs.Slots.{other_slot}
-use Rattle.vab_builder.specs.declared.fault.EditFault.{EditFault}
 use Rattle.vab_model.specs.declared.state.Image.{Image as ImageOfSlot}
 use Rattle.vab_model.specs.declared.state.PlanImage.{PlanImage}
 use Rattle.vab_model.specs.declared.state.PlanImage.TheVariants.{Kept, Declared, Written}
@@ -21,7 +17,6 @@ use Rattle.vab_model.specs.declared.state.PlanEntry.{PlanEntry}
 use Rattle.vab_model.specs.declared.state.Phase.{Phase}
 use Rattle.vab_model.specs.declared.state.Phase.TheVariants.{Idle, Installing, Staged, Merging}
 use Rattle.vab_model.specs.declared.state.State.{State}
-use Rattle.vab_model.specs.declared.command.Refusal.{Refusal}
 use Rattle.vab_model.specs.declared.command.Refusal.TheVariants as refusals
 use Rattle.vab_model.specs.declared.command.Reply.TheVariants as replies
 use Rattle.vab_model.specs.Commands.{Command, SetActive, Boot, Mark, Print, Digest, Begin, Create}
@@ -30,18 +25,18 @@ use Rattle.vab_model.specs.Commands.{Merge}
 use Rattle.vab_model.specs.State.{images_at}
 use Rattle.vab_model.specs.Effects.{Effect, Found, Image_is, Refused_by, found_of, print_effect}
 use Rattle.vab_model.specs.Effects.{digest_effect, active_effect, effect, effect_map, IsOneOf}
-use Rattle.vab_model.specs.Effects.{after_of, refuses, does}
+use Rattle.vab_model.specs.Effects.{after_of, does}
 use Rattle.vab_device.specs.Mounted.{Mounted, in_state}
-use Rattle.vab_device.specs.Updates.{effect_on, table_effect, begun_effect, begin_effect, layout_at}
-use Rattle.vab_device.specs.Updates.{EditOf, edited_effect, edit_effect, create_edit, resize_edit}
-use Rattle.vab_device.specs.Updates.{delete_edit, snapshot_edit, staged_effect, stored_effect}
-use Rattle.vab_device.specs.Updates.{entry_effect, entry_named, flash_effect, merge_effect, turns}
-use Rattle.vab_device.specs.Updates.{if_room, flashed, differences, source_bytes, is_sparse}
+use Rattle.vab_device.specs.Updates.{effect_on}
+use Rattle.vab_device.specs.Updates.{EditOf, edit_effect, create_edit, resize_edit}
+use Rattle.vab_device.specs.Updates.{delete_edit, snapshot_edit}
+use Rattle.vab_device.specs.Updates.{merge_effect, turns}
 use Rattle.vab_device.specs.Updates.{with_images, without_images, complete_effect}
 use Rattle.vab_device.specs.Updates.{finish_effect, cancelled, cancel_effect, final_image}
 use Rattle.vab_device.specs.Updates.{declared_name, least_declared, plan_count}
 use Rattle.vab_boots.specs.Images.{IsReady, Finishes, Cancels, changes_images, SameImages}
 use Rattle.vab_boots.proofs.Begins.{refused_not, done_then}
+use Rattle.vab_boots.proofs.Planned.{IsPlanned, begin_planned, edit_planned, flash_planned}
 
 -- ---- two slots
 
@@ -97,7 +92,7 @@ given s slot images phase = elim (cases_Bool (eqb slot 0)) [
   | inr not ↦ rw not refl
 ]
 
-kept_beside : (s : State) (source : ℕ) (images : List ImageOfSlot) (phase : Phase)
+pub kept_beside : (s : State) (source : ℕ) (images : List ImageOfSlot) (phase : Phase)
     → images_at (record (with_images s (other_slot source) images) { phase = phase }) source
     ≡ images_at s source
 kept_beside s source images phase = elim (cases_Bool (eqb source 0)) [
@@ -206,102 +201,15 @@ module _ (m : Mounted) where
   one : (y : Mounted) → SameImages m y → AreSame (y ∷ [])
   one y same = more y [] same none
 
-  either : (b : Bool) (e f : Effect Mounted)
-      → AreSame e.later
-      → AreSame f.later
-      → AreSame (cond b e f).later
-  either true e f same other = same
-  either false e f same other = other
+  -- what changes the plan alone
+  planned : (x : Mounted) (source : ℕ) → IsPlanned source m x → SameImages m x
+  planned x source by = record {
+    a = ap (λ (s : State). s.a) by.state;
+    b = ap (λ (s : State). s.b) by.state;
+  }
 
-  tabled : (source : ℕ) (plan : List PlanEntry) (r : Result Layout EditFault)
-      → AreSame (table_effect m source plan r).later
-  tabled source plan (Ok l) = one _ (record { a = refl; b = refl })
-  tabled source plan (Err fault) = none
-
-  begun : (source : ℕ) (l : Option Layout) → AreSame (begun_effect m source l).later
-  begun source None = none
-  begun source (Some l) = tabled source [] _
-
-  begins : (phase : Phase) → AreSame (begin_effect m phase).later
-  begins Idle =
-      begun m.state.control.current (layout_at m.places m.state.control.current)
-  begins (Installing source plan) = none
-  begins (Staged source left) = none
-  begins (Merging target left) = none
-
-  edited : (source : ℕ) (plan : List PlanEntry) (edit : EditOf) (s t : Option Layout)
-      → AreSame (edited_effect m source plan edit s t).later
-  edited source plan edit None t = none
-  edited source plan edit (Some s) None = none
-  edited source plan edit (Some s) (Some t) = tabled source plan _
-
-  edits : (edit : EditOf) (phase : Phase) → AreSame (edit_effect m edit phase).later
-  edits edit Idle = none
-  edits edit (Installing source plan) =
-      edited source plan edit
-      (layout_at m.places source)
-      (layout_at m.places (other_slot source))
-  edits edit (Staged source left) = none
-  edits edit (Merging target left) = none
-
-  -- ---- an image
-
-  roomed : (source : ℕ) (plan : List PlanEntry) (e : PlanEntry) (store : ℕ) (staged : List ℕ)
-      (n : ℕ)
-      → AreSame (if_room m source plan e store staged n).later
-  roomed source plan e store staged n =
-      either (nat_le (need_of n) store)
-      (flashed m source plan e staged n)
-      (refuses (refusals.StoreFull (need_of n) store))
-      (one _ (record { a = refl; b = refl }))
-      none
-
-  written : (source : ℕ) (plan : List PlanEntry) (e : PlanEntry) (store : ℕ)
-      (staged : Option (List ℕ))
-      → AreSame (staged_effect m source plan e store staged).later
-  written source plan e store None = none
-  written source plan e store (Some staged) =
-      let n : ℕ = differences (source_bytes m.state source e.name) staged e.blocks in
-      let large : Refusal = refusals.TooLarge (length staged) (4096 * e.blocks) in
-      let room : Effect Mounted = if_room m source plan e store staged n in
-      let is_large : Bool = nat_lt (4096 * e.blocks) (length staged) in
-      either (is_sparse staged) (refuses refusals.Sparse) (cond is_large (refuses large) room) none
-      (either is_large (refuses large) room none (roomed source plan e store staged n))
-
-  stored : (source : ℕ) (plan : List PlanEntry) (name : List ℕ) (group : Option (List ℕ))
-      (blocks : ℕ) (own store : Option ℕ) (staged : Option (List ℕ)) (image : PlanImage)
-      → AreSame (stored_effect m source plan
-      (record { name = name; group = group; blocks = blocks; store = own; image = image })
-      staged store).later
-  stored source plan name group blocks own None staged image = none
-  stored source plan name group blocks own (Some store) staged Kept =
-      written source plan
-      (record { name = name; group = group; blocks = blocks; store = own; image = Kept })
-      store staged
-  stored source plan name group blocks own (Some store) staged Declared =
-      written source plan
-      (record { name = name; group = group; blocks = blocks; store = own; image = Declared })
-      store staged
-  stored source plan name group blocks own (Some store) staged (Written bytes count) = none
-
-  found : (source : ℕ) (plan : List PlanEntry) (staged : Option (List ℕ)) (e : Option PlanEntry)
-      → AreSame (entry_effect m source plan staged e).later
-  found source plan staged None = none
-  found source plan staged (Some e) =
-      stored source plan e.name e.group e.blocks e.store e.store staged e.image
-
-  flashes : (staged : Option (List ℕ)) (name : List ℕ) (phase : Phase)
-      → AreSame (flash_effect m staged name phase).later
-  flashes staged name Idle = none
-  flashes staged name (Installing source plan) =
-      let e : Option PlanEntry = entry_named (base_of name) plan in
-      either (is_full (other_slot source) name)
-      (entry_effect m source plan staged e)
-      (refuses refusals.BadName)
-      (found source plan staged e)
-      none
-  flashes staged name (Staged source left) = none
-  flashes staged name (Merging target left) = none
+  edits : (edit : EditOf) → AreSame (edit_effect m edit m.state.phase).later
+  edits edit x is = planned x _ (edit_planned m edit m.state.phase x is)
 
   -- ---- turns, boot control and questions
 
@@ -342,12 +250,13 @@ module _ (m : Mounted) where
   same_by staged Mark other = one _ (record { a = refl; b = refl })
   same_by staged (Print name) other = prints name (found_of m.state name)
   same_by staged (Digest name) other = digests (found_of m.state name)
-  same_by staged Begin other = begins m.state.phase
-  same_by staged (Create name size) other = edits (create_edit name size) m.state.phase
-  same_by staged (Resize name size) other = edits (resize_edit name size) m.state.phase
-  same_by staged (Delete name) other = edits (delete_edit name) m.state.phase
-  same_by staged (Snapshot name size) other = edits (snapshot_edit name size) m.state.phase
-  same_by staged (Flash name) other = flashes staged name m.state.phase
+  same_by staged Begin other = λ x is. planned x _ (begin_planned m m.state.phase x is)
+  same_by staged (Create name size) other = edits (create_edit name size)
+  same_by staged (Resize name size) other = edits (resize_edit name size)
+  same_by staged (Delete name) other = edits (delete_edit name)
+  same_by staged (Snapshot name size) other = edits (snapshot_edit name size)
+  same_by staged (Flash name) other =
+      λ x is. planned x _ (flash_planned m staged name m.state.phase x is)
   same_by staged Finish other = absurd cc
   same_by staged Cancel other = absurd cc
   same_by staged BeginMerge other = absurd cc

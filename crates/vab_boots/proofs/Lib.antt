@@ -1,4 +1,6 @@
 mod Begins
 pub mod Booting
 mod Facts
+mod Installing
 mod Keeping
+mod Planned

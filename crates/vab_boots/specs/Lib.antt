@@ -1,3 +1,4 @@
 pub mod Begun
 pub mod Boots
 pub mod Images
+pub mod Installed

@@ -1,8 +1,11 @@
-//! Laws on what boots: on each device a slot does, and once a merge has begun the new images alone.
+//! Laws on what boots: on each device a slot does, while a set is installed the running one, and
+//! once a merge has begun the new images alone.
 #![tactic(auto)]
 
 mod boots;
 mod images;
+mod installs;
 
 pub use boots::{always_boots, begun_merge_stands_alone};
 pub use images::finished_images;
+pub use installs::running_slot_stays;

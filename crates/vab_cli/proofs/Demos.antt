@@ -44,7 +44,8 @@ use Rattle.vab_cli.proofs.Courses.{AreActs, IsEnd, acts_chain, acts_end, are_bot
 use Rattle.vab_cli.proofs.Courses.{are_same, performs_as}
 use Rattle.vab_cli.proofs.FreshTouching.{made_opened, made_served, making_fresh}
 use Rattle.vab_cli.proofs.Items.{mounted_is}
-use Rattle.vab_cli.proofs.Makings.{early_silent, loud_refusal, not_of_disk, refused_told}
+use Rattle.vab_cli.proofs.Makings.{early_silent, loud_refusal, memory_of_none, not_of_disk}
+use Rattle.vab_cli.proofs.Makings.{refused_told}
 use Rattle.vab_cli.proofs.Makings.{refused_unheard, silent_line, silent_memory, status_not_port}
 use Rattle.vab_cli.proofs.Sessions.{made_early, making_cuts, making_failed, opening_failed}
 use Rattle.vab_cli.proofs.Sessions.{prepared}
@@ -172,6 +173,7 @@ module _ {D : Type 0}
   demo_short = record {
     runs = λ t none.
         inr (making_failed g only_now size set 0 65536 old old NoMemory (inr refl) refl
+        (λ memory. inl refl)
         (λ rest. record {
           later = omega arith;
           keeps = λ t o before there. there;
@@ -204,6 +206,7 @@ module _ {D : Type 0}
         let early : IsEarly status = subst IsEarly (sym same.1) (made_early f free) in
         inr (subst (λ (x : D). FailsMaking g size set 0 65536 old x status) (sym same.0)
         (making_failed g only_now size set 0 65536 old mid status early (makes.quiet.told t)
+        (λ memory. inl (ap g.seen (untouched (memory_of_none f (sym same.1 ∙ memory)))))
         (making t)));
     refused = λ t fault is.
         let by : Gives {A = Unit {0}} (Err f) (Some fault) =
@@ -277,15 +280,17 @@ module _ {D : Type 0}
     -- but can't be opened
     pub demo_unopened : (now : D) (status : Status)
         → (g.is_modelled → IsEarly status)
+        → (g.is_modelled → status ≡ NoMemory → g.seen now ≡ g.seen mid)
         → (g.is_modelled → Touches g (IsOfOpening (g.size mid) (g.seen mid)) mid now)
         → (g.is_modelled
         → IsAtRest g mid
         → Adds g.moment g.outcomes mid now (LeavesSame (g.told mid) (g.size mid) (g.seen mid)))
         → Demonstrates g set next old now status
-    demo_unopened now status early opens time = record {
+    demo_unopened now status early unwritten opens time = record {
       runs = λ t none.
           inr (opening_failed g only_now size set 0 65536 old mid now status (early t)
-          (makes.quiet.told t) (quiet_there t now (opens t)).told (made t) (rest t) (making t)
+          (makes.quiet.told t) (quiet_there t now (opens t)).told (unwritten t)
+          (made t) (rest t) (making t)
           (subst
           (λ (n : ℕ).
           IsAtRest g mid

@@ -1,6 +1,6 @@
 -- Runs that end by their input, or by want of memory for it, behind the opening of a device.
-use Rattle.std.proofs.Common.{◌≡◌, ◌∙◌, ◌⊎◌, inl, inr, ◌<◌, ℕ, List, [], length, refl, sym, ap}
-use Rattle.std.proofs.Common.{Result, Ok, Err}
+use Rattle.std.proofs.Common.{◌≡◌, ◌∙◌, ◌⊎◌, inl, inr, ◌<◌, ◌≤◌, ◌^◌, ℕ, List, [], length, refl, sym}
+use Rattle.std.proofs.Common.{ap, subst, arith, Result, Ok, Err}
 use Rattle.vab_disk.specs.declared.disk.Disk.{Ghosts}
 use Rattle.vab_disk.specs.Disk.{Image, Outcome, Leaves, Hearing}
 use Rattle.vab_set.specs.declared.set.SetImage.{SetImage}
@@ -18,7 +18,9 @@ use Rattle.vab_cli.specs.declared.status.Status.{Status}
 use Rattle.vab_cli.specs.declared.status.Status.TheVariants.{Done, Malformed, NotADevice, Port}
 use Rattle.vab_cli.specs.declared.status.Status.TheVariants.{NoMemory}
 use Rattle.vab_cli.specs.Codes.{input_status, set_status}
-use Rattle.vab_cli.specs.Counts.{HearsWhole}
+use Rattle.vab_exchanges.specs.Hearing.{HearsWhere}
+use Rattle.vab_input.specs.HearsToEnd.{FindsSome, HearsToEnd}
+use Rattle.vab_cli.specs.Counts.{HearsUnless, HearsWhole}
 use Rattle.vab_cli.specs.Installing.{RunsOrFails}
 use Rattle.vab_cli.specs.Runs.{Held, IsEarly, IsFailed, FailsBefore, RunsNone}
 use Rattle.vab_cli.specs.Verbs.{line_item}
@@ -26,13 +28,51 @@ use Rattle.vab_cli.proofs.Items.{none_done, none_told as nothing_told}
 use Rattle.vab_cli.proofs.Lines.{not_failed}
 use Rattle.vab_cli.proofs.Running.{MeansSame, runs_done, runs_failed, runs_short}
 
--- where the input is not too long, and isn't had, nothing is owed of how it was heard
-pub unheard_whole : (f : InputFault) (old new : List Hearing)
-    → ((f ≡ input.TooLong) → ⊥)
-    → HearsWhole old new (input_status f)
-unheard_whole input.TooLong old new other = absurd (other refl)
-unheard_whole input.Source old new other = λ port memory. absurd (port refl)
-unheard_whole input.NoMemory old new other = λ port memory. absurd (memory refl)
+-- ---- how it is heard
+
+-- an input that isn't had was too long, or nothing is owed
+pub unheard_whole : (f : InputFault) (left : List ℕ) (old new : List Hearing) (status : Status)
+    → status ≡ input_status f
+    → (f ≡ input.TooLong → 2 ^ 32 < length left)
+    → (f ≡ input.TooLong → HearsWhere FindsSome old new)
+    → HearsUnless left old new status
+unheard_whole input.TooLong left old new status is long over = λ port memory. record {
+  whole = λ fits. absurd (omega (arith, fits, long refl));
+  over = λ more. over refl;
+}
+unheard_whole input.Source left old new status is long over = λ port memory. absurd (port is)
+unheard_whole input.NoMemory left old new status is long over = λ port memory. absurd (memory is)
+
+-- one that is had was heard to its end
+pub heard_whole : (left : List ℕ) (old new : List Hearing)
+    → length left ≤ 2 ^ 32
+    → HearsToEnd old new
+    → HearsWhole left old new
+heard_whole left old new fits end = record {
+  whole = λ few. end;
+  over = λ more. absurd (omega (arith, more, fits));
+}
+
+-- a call before it heard nothing
+pub heard_from : (left mid : List ℕ) (old between new : List Hearing) (status : Status)
+    → mid ≡ left
+    → between ≡ old
+    → HearsUnless mid between new status
+    → HearsUnless left old new status
+heard_from left mid old between new status same none unless =
+    subst (λ (l : List ℕ). HearsUnless l old new status) same
+    (subst (λ (h : List Hearing). HearsUnless mid h new status) none unless)
+
+-- where a device isn't opened, the disk failed or memory was refused
+pub early_unheld : {R : Type 0} {status : Status}
+    → IsEarly status
+    → Held status
+    → (status ≡ NoMemory → ⊥)
+    → R
+early_unheld (inl disk) held memory = absurd (subst Held disk held)
+early_unheld (inr none) held memory = absurd (memory none)
+
+-- ---- why it isn't read
 
 -- a set that isn't read is malformed, or memory was refused
 pub set_kind : (f : SetFault) → (set_status f ≡ Malformed) ⊎ (set_status f ≡ NoMemory)

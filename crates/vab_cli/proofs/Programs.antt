@@ -35,7 +35,8 @@ use Rattle.vab_cli.specs.declared.status.Status.TheVariants.{Disk, Port, NoMemor
 use Rattle.vab_cli.specs.Codes.{make_status}
 use Rattle.vab_cli.specs.Acts.{Course, RunsActs}
 use Rattle.vab_cli.specs.Demo.{DemonstratesOf}
-use Rattle.vab_cli.specs.Counts.{HearsNothing, HearsWhole, IsSteady}
+use Rattle.vab_input.specs.HearsToEnd.{HearsWithin}
+use Rattle.vab_cli.specs.Counts.{HearsNothing, HearsUnless, IsSteady}
 use Rattle.vab_exchanges.specs.Items.{Item, joined}
 use Rattle.vab_cli.specs.Installing.{Installs, RunsOrFails, install_item, install_status}
 use Rattle.vab_cli.specs.Paging.{TellsPage, page_item}
@@ -213,6 +214,7 @@ module _ {D : Type 0}
     touches_made = λ t limit max is. is_command m (Make limit max) c some is refl;
     end = λ t limit max is. is_command m (Make limit max) c some is refl;
     heard = λ t limit max is. is_command m (Make limit max) c some is refl;
+    within = λ t limit max is. is_command m (Make limit max) c some is refl;
     install = λ is. is_command m verbs.Install c some is refl;
     tells = λ is. is_command m verbs.Status c some is refl;
     demo = λ seed scale is. is_command m (Demo seed scale) c some is refl;
@@ -278,6 +280,7 @@ module _ {D : Type 0}
     touches_made = λ t limit max other. let both = sym is ∙ other in cc;
     end = λ t limit max other. let both = sym is ∙ other in cc;
     heard = λ t limit max other. let both = sym is ∙ other in cc;
+    within = λ t limit max other. let both = sym is ∙ other in cc;
     install = λ other. let both = sym is ∙ other in cc;
     tells = λ other. let both = sym is ∙ other in cc;
     demo = λ seed scale other. let both = sym is ∙ other in cc;
@@ -333,6 +336,7 @@ module _ {D : Type 0}
     touches_made = λ t limit max other. let both = sym is ∙ other in cc;
     end = λ t limit max other. let both = sym is ∙ other in cc;
     heard = λ t limit max other. let both = sym is ∙ other in cc;
+    within = λ t limit max other. let both = sym is ∙ other in cc;
     install = λ other. let both = sym is ∙ other in cc;
     tells = λ other. let both = sym is ∙ other in cc;
     demo = λ seed scale other. let both = sym is ∙ other in cc;
@@ -375,11 +379,10 @@ module _ {D : Type 0}
       → set_of (g.input_left old) ≡ Ok set
       → Changes g (InSectors (IsOfMaking set max)) old new)
       → (g.is_modelled → status ≡ Done → g.input_left new ≡ [])
-      → (g.is_modelled
-      → length (g.input_left old) ≤ 2 ^ 32
-      → HearsWhole (g.heard old) (g.heard new) status)
+      → (g.is_modelled → HearsUnless (g.input_left old) (g.heard old) (g.heard new) status)
+      → (g.is_modelled → HearsWithin (g.heard old) (g.heard new))
       → DoesVerb g m old new status
-  make_verb limit max is made refused malformed touches end heard = record {
+  make_verb limit max is made refused malformed touches end heard within = record {
     item = λ t c some. no_command m (Make limit max) c is refl some;
     none = λ t c some. no_command m (Make limit max) c is refl some;
     touches = λ t c some. no_command m (Make limit max) c is refl some;
@@ -423,6 +426,7 @@ module _ {D : Type 0}
         (touches t set spelled);
     end = λ t l x same. end t;
     heard = λ t l x same. heard t;
+    within = λ t l x same. within t;
     install = λ other. let both = sym is ∙ other in cc;
     tells = λ other. let both = sym is ∙ other in cc;
     demo = λ seed scale other. let both = sym is ∙ other in cc;
@@ -502,6 +506,7 @@ module _ {D : Type 0}
     touches_made = λ t limit max other. absurd (not_make limit max (sym is ∙ other));
     end = λ t limit max other. absurd (not_make limit max (sym is ∙ other));
     heard = λ t limit max other. absurd (not_make limit max (sym is ∙ other));
+    within = λ t limit max other. absurd (not_make limit max (sym is ∙ other));
     install = λ other. install (sym is ∙ other);
     tells = λ other. tells (sym is ∙ other);
     demo = λ seed scale other. demo seed scale (sym is ∙ other);

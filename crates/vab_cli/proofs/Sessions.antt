@@ -318,13 +318,16 @@ module _ {D : Type 0}
     pub making_failed : (old new : D) (status : Status)
         → IsEarly status
         → g.told new ≡ g.told old
+        → (status ≡ NoMemory
+        → (g.seen new ≡ g.seen old) ⊎ IsMade set limit max size (g.seen new))
         → (IsAtRest g old
         → Adds g.moment g.outcomes old new
         (LeavesMaking (g.told old) set limit max size (g.seen old)))
         → FailsMaking g size set limit max old new status
-    making_failed old new status early told making = record {
+    making_failed old new status early told memory making = record {
       early = early;
       told = told;
+      memory = memory;
       every_cut = λ rest. making_cuts old new (making rest) rest;
     }
 
@@ -333,6 +336,7 @@ module _ {D : Type 0}
         → IsEarly status
         → g.told mid ≡ g.told old
         → g.told new ≡ g.told mid
+        → (status ≡ NoMemory → g.seen new ≡ g.seen mid)
         → IsMade set limit max size (g.seen mid)
         → IsAtRest g mid
         → (IsAtRest g old
@@ -341,8 +345,9 @@ module _ {D : Type 0}
         → (IsAtRest g mid
         → Adds g.moment g.outcomes mid new (LeavesSame (g.told mid) size (g.seen mid)))
         → FailsMaking g size set limit max old new status
-    opening_failed old mid new status early told told' made rest making opening =
+    opening_failed old mid new status early told told' seen made rest making opening =
         making_failed old new status early (told' ∙ told)
+        (λ memory. inr (subst (IsMade set limit max size) (sym (seen memory)) made))
         (λ before. prepared old mid new told made (making before) (opening rest))
 
     -- a session over the made device

@@ -20,8 +20,10 @@ use Rattle.vab_session.specs.Responses.{left_of}
 use Rattle.vab_session.specs.Served.{nothing_staged}
 use Rattle.vab_cli.specs.declared.status.Status.{Status}
 use Rattle.vab_cli.specs.declared.status.Status.TheVariants.{Done, Malformed}
+use Rattle.vab_input.specs.HearsToEnd.{HearsWithin}
 use Rattle.vab_cli.specs.Codes.{reply_status}
-use Rattle.vab_cli.specs.Runs.{RunsItem, RunsShort, RunsNone, FailsBefore}
+use Rattle.vab_cli.specs.Counts.{HearsNothing, HearsUnless}
+use Rattle.vab_cli.specs.Runs.{Held, RunsItem, RunsShort, RunsNone, FailsBefore}
 use Rattle.vab_cli.specs.Touched.{IsOfServing}
 use Rattle.vab_cli.specs.Verbs.{line, line_item, none_line, refused_line}
 
@@ -99,7 +101,15 @@ module _ {D : Type 0} (g : Ghosts D) (old new : D) (status : Status) where
     pub unheard : g.is_modelled
         → (fault : StartFault)
         → device (g.size old) (g.seen old) ≡ Err fault
-        → g.input_left new ≡ g.input_left old
+        → HearsNothing g old new
+    -- Over a device the input is heard to its end, where it isn't too long, and whatever comes of
+    -- it not beyond that.
+    pub heard : g.is_modelled
+        → (s : Mounted)
+        → IsIn (g.size old) s (g.seen old)
+        → Held status
+        → HearsUnless (g.input_left old) (g.heard old) (g.heard new) status
+    pub within : g.is_modelled → HearsWithin (g.heard old) (g.heard new)
     -- It writes what opening may, and what the commands of a session may that merge nothing.
     pub touches : g.is_modelled
         → (s : Mounted)

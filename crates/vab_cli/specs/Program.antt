@@ -33,7 +33,8 @@ use Rattle.vab_cli.specs.declared.status.Status.{Status}
 use Rattle.vab_cli.specs.declared.status.Status.TheVariants.{Done, Usage, Malformed, NotADevice}
 use Rattle.vab_cli.specs.declared.status.Status.TheVariants.{Disk, Port, NoMemory}
 use Rattle.vab_cli.specs.Codes.{make_status}
-use Rattle.vab_cli.specs.Counts.{HearsNothing, HearsWhole, IsSteady}
+use Rattle.vab_input.specs.HearsToEnd.{HearsWithin}
+use Rattle.vab_cli.specs.Counts.{HearsNothing, HearsUnless, IsSteady}
 use Rattle.vab_cli.specs.Demo.{DemonstratesOf, life_of}
 use Rattle.vab_cli.specs.Installing.{Installs, install_told, install_status}
 use Rattle.vab_cli.specs.Paging.{TellsPage}
@@ -165,8 +166,8 @@ pub record DoesVerb {D : Type 0}
       → MergesNothing (2 ^ 44) (g.input_left old)
       → Changes g (IsOfFresh IsOfCommands (g.size old)) old new
   -- `make` of an input that spells a set: the made device, or the first refusal with its line and
-  -- nothing written; of another input status 3, with nothing told or written. Where it is made the
-  -- input was heard to its end, and whatever comes of it not beyond that.
+  -- nothing written; of another input status 3, with nothing told or written. The input is heard
+  -- to its end, where it isn't too long, and whatever comes of it not beyond that.
   pub made : g.is_modelled
       → (limit max : ℕ)
       → m ≡ Make limit max
@@ -204,8 +205,11 @@ pub record DoesVerb {D : Type 0}
   pub heard : g.is_modelled
       → (limit max : ℕ)
       → m ≡ Make limit max
-      → length (g.input_left old) ≤ 2 ^ 32
-      → HearsWhole (g.heard old) (g.heard new) status
+      → HearsUnless (g.input_left old) (g.heard old) (g.heard new) status
+  pub within : g.is_modelled
+      → (limit max : ℕ)
+      → m ≡ Make limit max
+      → HearsWithin (g.heard old) (g.heard new)
   -- `install` and `status`.
   pub install : m ≡ Install → Installs g old new status
   pub tells : m ≡ verbs.Status → TellsPage g old new status

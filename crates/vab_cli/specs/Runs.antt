@@ -280,7 +280,7 @@ module _ {D : Type 0} (g : Ghosts D) (size : ℕ) where
 
   -- The disk failed, or memory was refused, while a device was made or the made one was opened:
   -- nothing is told, and every cut of power leaves the disk as it was, or no device, or the made
-  -- one.
+  -- one. Where memory was refused it reads as before, or as the made device.
   pub record FailsMaking
       (set : List SetImage)
       (limit max : ℕ)
@@ -288,6 +288,9 @@ module _ {D : Type 0} (g : Ghosts D) (size : ℕ) where
       (status : Status) : Type 0 where
     pub early : IsEarly status
     pub told : g.told new ≡ g.told old
+    pub memory : status ≡ NoMemory
+        → (g.seen new ≡ g.seen old)
+        ⊎ IsIn size (made_device_of set limit max size) (g.seen new)
     pub every_cut : IsAtRest g old
         → (o : Outcome)
         → g.outcomes new (g.moment old) o

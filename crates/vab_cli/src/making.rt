@@ -15,7 +15,8 @@ ghost use Rattle.vab_cli.specs.Counts.{IsSteady};
 ghost use Rattle.vab_cli.specs.Verbs.{is_silent, make_line, done_making};
 ghost use Rattle.vab_cli.specs.Runs.{RunsRefused, RunsMaking};
 ghost use Rattle.vab_cli.specs.Telling.{Tells};
-ghost use Rattle.vab_cli.specs.Counts.{HearsWhole};
+ghost use Rattle.vab_cli.specs.Counts.{HearsUnless};
+ghost use Rattle.vab_input.specs.HearsToEnd.{HearsWithin};
 
 use crate::Status;
 use crate::line::NOT_A_DEVICE;
@@ -188,10 +189,11 @@ pub(crate) fn make<P: Port>(alloc: Global, port: &mut P, limit: u64, max: u32) -
         → Changes P.Disk (InSectors (IsOfMaking set max)) port.old port.new }
     // Once it is done the whole input was heard.
     ensures end { P.is_modelled → result ≡ Status.Done → P.input_left port.new ≡ [] }
-    // And not beyond its end, whatever comes of it.
+    // It is heard to its end, where it isn't too long.
     ensures heard { P.is_modelled
-        → length (P.input_left port.old) ≤ 2 ^ 32
-        → HearsWhole (P.heard port.old) (P.heard port.new) result }
+        → HearsUnless (P.input_left port.old) (P.heard port.old) (P.heard port.new) result }
+    // And not beyond it, whatever comes of it.
+    ensures within { P.is_modelled → HearsWithin (P.heard port.old) (P.heard port.new) }
     ensures steady { IsSteady P.Disk port.old port.new result }
     ensures words { result ≢ Status.Usage }
     ensures disk { result ≡ Status.Disk → Rose (P.faults port.old).disk (P.faults port.new).disk }

@@ -1,5 +1,5 @@
 -- The input is heard to its end, and not beyond it.
-use Rattle.std.specs.Prelude.{◌≡◌, ◌≢◌, ◌++◌, [], ◌∷◌, List}
+use Rattle.std.specs.Prelude.{◌≡◌, ◌≢◌, ◌⊎◌, ◌++◌, [], ◌∷◌, List}
 use Rattle.vab_disk.specs.Disk.{Hearing}
 use Rattle.vab_exchanges.specs.Hearing.{HearsWhere}
 
@@ -15,3 +15,7 @@ pub record HearsToEnd (old new : List Hearing) : Type 0 where
   pub last : Hearing
   pub behind : new ≡ before ++ last ∷ []
   pub end : last.input_left ≡ []
+
+-- not beyond its end: all hearings but a last one found something
+abbrev pub HearsWithin : (old new : List Hearing) → Type 0
+HearsWithin old new = HearsWhere FindsSome old new ⊎ HearsToEnd old new

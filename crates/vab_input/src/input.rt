@@ -3,7 +3,7 @@ ghost use Rattle.std.specs.Prelude.{◌≡◌, ◌<◌, ◌≤◌, ◌++◌, [],
 ghost use Rattle.std.specs.Bool.{OnTrue, OnFalse};
 ghost use Rattle.vab_disk.specs.Disk.{Adds, Nothing, Rose, SameHoldings};
 ghost use Rattle.vab_exchanges.specs.Hearing.{HearsWhere};
-ghost use Rattle.vab_input.specs.HearsToEnd.{FindsSome, HearsToEnd};
+ghost use Rattle.vab_input.specs.HearsToEnd.{FindsSome, HearsToEnd, HearsWithin};
 
 use std::alloc::{AllocError, Global};
 use vab_disk::{Disk, Port, PortFault};
@@ -64,6 +64,7 @@ fn hear_piece<P: Port>(p: &mut P, heard: &mut Vec<u8>) -> Result<bool, InputFaul
         (λ some. OnTrue some (HearsWhere FindsSome (P.heard p.old) (P.heard p.new))) }
     ensures heard_end { P.is_modelled
         → IfOk result (λ some. OnFalse some (HearsToEnd (P.heard p.old) (P.heard p.new))) }
+    ensures within { P.is_modelled → HearsWithin (P.heard p.old) (P.heard p.new) }
     ensures kind { IsErrOf result InputFault.TooLong → ⊥ }
     ensures cause { IsErrOf result InputFault.Source
         → Rose (P.faults p.old).source (P.faults p.new).source }
@@ -90,6 +91,12 @@ pub fn hear_all<P: Port>(alloc: Global, p: &mut P, most: u64) -> Result<Vec<u8>,
     ensures end { P.is_modelled → OnOk result (P.input_left p.new ≡ []) }
     // It is heard while something is left, and once more for the end.
     ensures heard { P.is_modelled → OnOk result (HearsToEnd (P.heard p.old) (P.heard p.new)) }
+    // Where it is too long something was left at each hearing.
+    ensures over { P.is_modelled
+        → IsErrOf result InputFault.TooLong
+        → HearsWhere FindsSome (P.heard p.old) (P.heard p.new) }
+    // Whatever comes of it, it isn't heard beyond its end.
+    ensures within { P.is_modelled → HearsWithin (P.heard p.old) (P.heard p.new) }
     // Unless hearing fails the counts of faults stay.
     ensures steady { (IsErrOf result InputFault.Source → ⊥) → P.faults p.new ≡ P.faults p.old }
     ensures cause { IsErrOf result InputFault.Source

@@ -9,7 +9,7 @@ use Rattle.vab_cli.specs.Demo.{Demonstrates}
 use Rattle.vab_cli.specs.Runs.{IsEarly}
 use Rattle.vab_cli.proofs.Demos.{demo_lives, demo_unmade, demo_unopened}
 use Rattle.vab_cli.proofs.Makings.{enough_sectors}
-use Rattle.vab_cli.proofs.Running.{contents_of, early_of, is_one}
+use Rattle.vab_cli.proofs.Running.{contents_of, early_of, is_one, memory_other, not_of_disk_by}
 use Rattle.vab_cli.proofs.Sessions.{opens_sized}
 use Rattle.vab_cli.proofs.demo.demonstrate.Goals as goal
 
@@ -36,6 +36,9 @@ returns-in-Err-start-clause-does g c =
     (subst (λ (n : ℕ). device n (g.P.Disk.seen mid) ≡ Err c.in-Err-start.fault) sized
     (c.in-Err-start.ensures.fault t (contents_of c.in-Err-start.fault is))) in
     subst IsEarly (sym c.from.ensures) (early_of c.in-Err-start.fault other))
+    (λ t memory.
+    (c.in-Err-start.ensures.unwritten
+    (not_of_disk_by c.in-Err-start.fault (memory_other (sym c.from.ensures ∙ memory)))).seen t)
     c.start.ensures.touches c.start.ensures.time
 
 pub live-requires-clause-size : goal.live-requires-clause-size

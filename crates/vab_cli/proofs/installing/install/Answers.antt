@@ -1,7 +1,7 @@
-use Rattle.std.proofs.Common.{◌≡◌, ◌∙◌, inl, inr, ⊎_elim, ℕ, List, length, Err, refl, sym, ap}
-use Rattle.std.proofs.Common.{subst, arith}
+use Rattle.std.proofs.Common.{◌≡◌, ◌≤◌, ◌^◌, ◌∙◌, inl, inr, ⊎_elim, ℕ, List, length, Err, refl, sym}
+use Rattle.std.proofs.Common.{ap, subst, arith}
 use Rattle.vab_disk.specs.declared.disk.Disk.{Ghosts}
-use Rattle.vab_disk.specs.Disk.{Faults, Image, Rose}
+use Rattle.vab_disk.specs.Disk.{Faults, Hearing, Image, Rose}
 use Rattle.vab_disk.proofs.CallLaws.{changes_hearing, changes_then, changes_wider}
 use Rattle.vab_set.specs.declared.set.SetImage.{SetImage}
 use Rattle.vab_set.specs.declared.fault.SetFault.{SetFault}
@@ -18,6 +18,9 @@ use Rattle.vab_cli.specs.Verbs.{none_line}
 use Rattle.vab_cli.proofs.InputFaults.{short_before, unheard_before, unheard_malformed}
 use Rattle.vab_cli.proofs.InputFaults.{unread_before, set_memory, same_set, not_both}
 use Rattle.vab_cli.proofs.InputFaults.{input_undone, set_undone, opening_undone}
+use Rattle.vab_cli.proofs.InputFaults.{early_unheld, heard_from, heard_whole, unheard_whole}
+use Rattle.vab_input.specs.HearsToEnd.{HearsToEnd, HearsWithin}
+use Rattle.vab_input.proofs.HearingLaws.{within_none}
 use Rattle.vab_cli.specs.Runs.{Held}
 use Rattle.vab_cli.proofs.Acting.{acted_disk, acted_port, acted_words, install_is_act, runs_act}
 use Rattle.vab_cli.proofs.Installs.{install_long}
@@ -36,7 +39,13 @@ returns-in-Err-clause-runs g c =
       item = λ t set fits is s stands. inr (inr (c.in-Err.ensures.early t s stands));
       malformed = λ t bad s stands. inr (inr (c.in-Err.ensures.early t s stands));
       none = λ t fault none. c.in-Err.ensures.none t fault none;
-      unheard = λ t fault none. (c.open.ensures.quiet t).left;
+      unheard = λ t fault none. c.open.ensures.quiet t;
+      heard = λ t s stands held port memory.
+          (let early = c.in-Err.ensures.early t s stands in
+          early_unheld early.early held memory);
+      within = λ t.
+          (let quiet = c.open.ensures.quiet t in
+          within_none (g.P.Disk.heard old) (g.P.Disk.heard mid) quiet.heard);
       touches = λ t s stands.
           changes_wider g.P.Disk (IsOfServing IsOfCommands size (g.P.Disk.seen old))
           (IsOfOpening size (g.P.Disk.seen old)) old mid (c.open.ensures.changes t)
@@ -75,6 +84,18 @@ returns-in-Err-hear_all-clause-runs g c =
           fault status c.from.ensures;
       none = λ t fault none. absurd (c.in-Ok.ensures.found t fault none);
       unheard = λ t fault none. absurd (c.in-Ok.ensures.found t fault none);
+      heard = λ t s stands held.
+          (let opens = c.in-Ok.ensures.opens t in
+          heard_from (g.P.Disk.input_left old) (g.P.Disk.input_left mid) (g.P.Disk.heard old)
+          (g.P.Disk.heard mid) (g.P.Disk.heard now) status opens.left opens.heard
+          (unheard_whole fault (g.P.Disk.input_left mid) (g.P.Disk.heard mid)
+          (g.P.Disk.heard now) status c.from.ensures
+          (λ long. c.in-Err-hear_all.ensures.long t (ap Err long))
+          (λ long. c.in-Err-hear_all.ensures.over t (ap Err long))));
+      within = λ t.
+          (let opens = c.in-Ok.ensures.opens t in
+          subst (λ (l : List Hearing). HearsWithin l (g.P.Disk.heard now)) opens.heard
+          (c.hear_all.ensures.within t));
       touches = λ t s stands.
           changes_then g.P.Disk (IsOfServing IsOfCommands size (g.P.Disk.seen old)) old mid now
           (changes_wider g.P.Disk (IsOfServing IsOfCommands size (g.P.Disk.seen old))
@@ -117,6 +138,19 @@ returns-in-Err-read_set-clause-runs g c =
           fault status c.from-in-Err-read_set.ensures;
       none = λ t fault none. absurd (c.in-Ok.ensures.found t fault none);
       unheard = λ t fault none. absurd (c.in-Ok.ensures.found t fault none);
+      heard = λ t s stands held.
+          (let opens = c.in-Ok.ensures.opens t in
+          heard_from (g.P.Disk.input_left old) (g.P.Disk.input_left mid) (g.P.Disk.heard old)
+          (g.P.Disk.heard mid) (g.P.Disk.heard now) status opens.left opens.heard
+          (λ port memory.
+          heard_whole (g.P.Disk.input_left mid) (g.P.Disk.heard mid) (g.P.Disk.heard now)
+          (subst (λ (l : List ℕ). length l ≤ 2 ^ 32) (c.in-Ok-hear_all.ensures.bytes t)
+          c.in-Ok-hear_all.ensures.fits)
+          (c.in-Ok-hear_all.ensures.heard t)));
+      within = λ t.
+          (let opens = c.in-Ok.ensures.opens t in
+          subst (λ (l : List Hearing). HearsWithin l (g.P.Disk.heard now)) opens.heard
+          (c.hear_all.ensures.within t));
       touches = λ t s stands.
           changes_then g.P.Disk (IsOfServing IsOfCommands size (g.P.Disk.seen old)) old mid now
           (changes_wider g.P.Disk (IsOfServing IsOfCommands size (g.P.Disk.seen old))
@@ -183,6 +217,23 @@ returns-clause-runs g c =
           bad;
       none = λ t fault none. absurd (c.in-Ok.ensures.found t fault none);
       unheard = λ t fault none. absurd (c.in-Ok.ensures.found t fault none);
+      heard = λ t s stands held.
+          (let opens = c.in-Ok.ensures.opens t in
+          let quiet = p.quiet t in
+          heard_from (g.P.Disk.input_left old) (g.P.Disk.input_left mid) (g.P.Disk.heard old)
+          (g.P.Disk.heard mid) (g.P.Disk.heard new) status opens.left opens.heard
+          (λ port memory.
+          heard_whole (g.P.Disk.input_left mid) (g.P.Disk.heard mid) (g.P.Disk.heard new)
+          (subst (λ (l : List ℕ). length l ≤ 2 ^ 32) (c.in-Ok-hear_all.ensures.bytes t)
+          c.in-Ok-hear_all.ensures.fits)
+          (subst (λ (l : List Hearing). HearsToEnd (g.P.Disk.heard mid) l) (sym quiet.heard)
+          (c.in-Ok-hear_all.ensures.heard t))));
+      within = λ t.
+          (let opens = c.in-Ok.ensures.opens t in
+          let quiet = p.quiet t in
+          subst (λ (l : List Hearing). HearsWithin (g.P.Disk.heard old) l) (sym quiet.heard)
+          (subst (λ (l : List Hearing). HearsWithin l (g.P.Disk.heard now)) opens.heard
+          (c.hear_all.ensures.within t)));
       touches = λ t s stands.
           served_changes g.P.Disk size IsOfCommands c.in-Ok.device old now new t (represents t)
           (changes_then g.P.Disk (IsOfOpening size (g.P.Disk.seen old)) old mid now

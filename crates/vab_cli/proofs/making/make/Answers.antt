@@ -1,15 +1,15 @@
-use Rattle.std.proofs.Common.{◌≡◌, ◌∙◌, ℕ, List, Some, None, sym, subst}
+use Rattle.std.proofs.Common.{◌≡◌, ◌≤◌, ◌^◌, ◌∙◌, ℕ, List, length, Err, Some, None, sym, ap, subst}
 use Rattle.vab_set.specs.declared.set.SetImage.{SetImage}
 use Rattle.vab_disk.specs.Disk.{Hearing}
 use Rattle.vab_disk.specs.Calls.{Changes, InSectors}
-use Rattle.vab_input.specs.HearsToEnd.{HearsToEnd}
+use Rattle.vab_input.specs.HearsToEnd.{HearsToEnd, HearsWithin}
 use Rattle.vab_disk.proofs.CallLaws.{changes_hearing, changes_then}
 use Rattle.vab_make.specs.Made.{refusal_of}
 use Rattle.vab_make.specs.Touched.{IsOfMaking}
 use Rattle.vab_cli.specs.Codes.{make_status}
 use Rattle.vab_cli.specs.Verbs.{make_line, done_making}
 use Rattle.vab_cli.specs.Runs.{RunsRefused, RunsMaking}
-use Rattle.vab_cli.proofs.InputFaults.{same_set}
+use Rattle.vab_cli.proofs.InputFaults.{heard_whole, same_set, unheard_whole}
 use Rattle.vab_cli.proofs.Makings.{refused_after, making_after}
 use Rattle.vab_cli.proofs.making.make.Goals as goal
 
@@ -79,7 +79,29 @@ returns-clause-changes g c = λ t set is.
     (subst (λ (x : List SetImage). Changes g.P.Disk (InSectors (IsOfMaking x c.args.max)) mid new)
     found (c.make_of.ensures.changes t))
 
+pub returns-in-Err-clause-heard : goal.returns-in-Err-clause-heard
+returns-in-Err-clause-heard g c = λ t.
+    unheard_whole c.in-Err.fault (g.P.Disk.input_left c.args.port.now)
+    (g.P.Disk.heard c.args.port.now) (g.P.Disk.heard c.hear_all.new.p) c.from.result c.from.ensures
+    (λ long. c.in-Err.ensures.long t (ap Err long))
+    (λ long. c.in-Err.ensures.over t (ap Err long))
+
+pub returns-in-Err-read_set-clause-heard : goal.returns-in-Err-read_set-clause-heard
+returns-in-Err-read_set-clause-heard g c = λ t port memory.
+    heard_whole (g.P.Disk.input_left c.args.port.now) (g.P.Disk.heard c.args.port.now)
+    (g.P.Disk.heard c.hear_all.new.p)
+    (subst (λ (l : List ℕ). length l ≤ 2 ^ 32) (c.in-Ok.ensures.bytes t) c.in-Ok.ensures.fits)
+    (c.in-Ok.ensures.heard t)
+
 pub returns-clause-heard : goal.returns-clause-heard
-returns-clause-heard g c = λ t few port memory.
-    subst (λ (l : List Hearing). HearsToEnd (g.P.Disk.heard c.args.port.now) l)
-    (sym (c.make_of.ensures.heard t)) (c.in-Ok.ensures.heard t)
+returns-clause-heard g c = λ t port memory.
+    heard_whole (g.P.Disk.input_left c.args.port.now) (g.P.Disk.heard c.args.port.now)
+    (g.P.Disk.heard c.make_of.new.port)
+    (subst (λ (l : List ℕ). length l ≤ 2 ^ 32) (c.in-Ok.ensures.bytes t) c.in-Ok.ensures.fits)
+    (subst (λ (l : List Hearing). HearsToEnd (g.P.Disk.heard c.args.port.now) l)
+    (sym (c.make_of.ensures.heard t)) (c.in-Ok.ensures.heard t))
+
+pub returns-clause-within : goal.returns-clause-within
+returns-clause-within g c = λ t.
+    subst (λ (l : List Hearing). HearsWithin (g.P.Disk.heard c.args.port.now) l)
+    (sym (c.make_of.ensures.heard t)) (c.hear_all.ensures.within t)

@@ -18,8 +18,8 @@ use Rattle.vab_cli.specs.declared.status.Status.TheVariants.{NotADevice, NoMemor
 use Rattle.vab_cli.specs.Codes.{start_status}
 use Rattle.vab_cli.specs.Opening.{Opens}
 use Rattle.vab_cli.specs.Runs.{IsEarly, RunsSession}
-use Rattle.vab_cli.proofs.Makings.{refused_unheard}
-use Rattle.vab_cli.proofs.Running.{contents_of, early_of, is_one}
+use Rattle.vab_cli.proofs.Makings.{memory_of_none, refused_unheard}
+use Rattle.vab_cli.proofs.Running.{contents_of, early_of, is_one, memory_other, not_of_disk_by}
 use Rattle.vab_cli.proofs.Sessions.{fresh_enough, fresh_small, made_early, made_small, small_unwritten}
 use Rattle.vab_cli.proofs.Sessions.{making_failed, opening_failed, made_runs, opens_sized}
 use Rattle.vab_device.specs.declared.device.Device.{Device}
@@ -43,6 +43,8 @@ returns-in-Err-clause-runs g c = λ t enough.
     subst IsEarly (sym c.from.ensures) (made_early c.in-Err.fault gives) in
     inr (making_failed g.P.Disk g.met.P.Disk.only_now size [] 0 65536 old c.make_device.new.d
     c.from.result early (c.make_device.ensures.touches.quiet.told t)
+    (λ memory. inl (ap g.P.Disk.seen (c.in-Err.ensures.untouched
+    (memory_of_none c.in-Err.fault (sym c.from.ensures ∙ memory)))))
     (subst
     (λ (x : List SetImage).
     IsAtRest g.P.Disk old
@@ -130,7 +132,12 @@ returns-in-Err-start-clause-runs g c = λ t enough.
     subst IsEarly (sym c.from-in-Err-start.ensures) (early_of c.in-Err-start.fault other) in
     inr (opening_failed g.P.Disk g.met.P.Disk.only_now size [] 0 65536 old mid c.start.new.d
     c.from-in-Err-start.result early (c.make_device.ensures.touches.quiet.told t)
-    (c.start.ensures.quiet.told t) made (c.in-Ok.ensures.settled t)
+    (c.start.ensures.quiet.told t)
+    (λ memory.
+    (c.in-Err-start.ensures.unwritten
+    (not_of_disk_by c.in-Err-start.fault
+    (memory_other (sym c.from-in-Err-start.ensures ∙ memory)))).seen t)
+    made (c.in-Ok.ensures.settled t)
     (subst
     (λ (x : List SetImage).
     IsAtRest g.P.Disk old
