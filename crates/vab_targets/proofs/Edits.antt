@@ -44,13 +44,13 @@ use Rattle.vab_device.specs.Kept.{group_of, limits_of}
 use Rattle.vab_device.specs.Updates.{image_or, entry_named, written_of, entry_by, plan_by}
 use Rattle.vab_edit.proofs.NamedLaws.{base_eq}
 use Rattle.vab_edit.proofs.PlanLaws.{map_among, map_map}
-use Rattle.vab_updates.specs.Plans.{first_group, created_entry, resized_entry, stored_entry}
-use Rattle.vab_updates.specs.Plans.{at_entry}
-use Rattle.vab_updates.specs.Plans.{without_entry}
-use Rattle.vab_updates.proofs.Entries.{map_changed, map_fewer, filter_swap, store_size, size_there}
-use Rattle.vab_updates.proofs.Entries.{size_absent, size_same, no_store, other_store, own_of}
-use Rattle.vab_updates.proofs.Entries.{own_is}
-use Rattle.vab_updates.proofs.Entries.{entry_same}
+use Rattle.vab_targets.specs.Plans.{first_group, created_entry, resized_entry, stored_entry}
+use Rattle.vab_targets.specs.Plans.{at_entry}
+use Rattle.vab_targets.specs.Plans.{without_entry}
+use Rattle.vab_targets.proofs.Entries.{map_changed, map_fewer, filter_swap, store_size, size_there}
+use Rattle.vab_targets.proofs.Entries.{size_absent, size_same, no_store, other_store, own_of}
+use Rattle.vab_targets.proofs.Entries.{own_is}
+use Rattle.vab_targets.proofs.Entries.{entry_same}
 
 -- ---- edits, by their values
 

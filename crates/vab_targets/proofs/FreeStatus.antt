@@ -55,9 +55,9 @@ use Rattle.vab_device.specs.Updates.{stored_effect}
 use Rattle.vab_device.proofs.CheckLaws.{bound, first_kept}
 use Rattle.vab_device.proofs.NamedParts.{named_in}
 use Rattle.vab_device.proofs.ReadingLaws.{device_was}
-use Rattle.vab_updates.specs.Statuses.{FlashFindsFree}
-use Rattle.vab_updates.proofs.FewNames.{IsNamed, named_in_list, few_names}
-use Rattle.vab_updates.proofs.FewNames.{NoneFree, free_or_none, first_free, none_first, all_written}
+use Rattle.vab_targets.specs.Statuses.{FlashFindsFree}
+use Rattle.vab_targets.proofs.FewNames.{IsNamed, named_in_list, few_names}
+use Rattle.vab_targets.proofs.FewNames.{NoneFree, free_or_none, first_free, none_first, all_written}
 
 -- ---- what a flash that is done says of its partition
 

@@ -27,11 +27,11 @@ use Rattle.vab_device.specs.Reading.{IsIn}
 use Rattle.vab_device.specs.Updates.{EditOf, effect_on, edit_effect, edited_effect, table_effect}
 use Rattle.vab_device.specs.Updates.{plan_by, refusal_of}
 use Rattle.vab_edit.proofs.PlainLaws.{changed_plain}
-use Rattle.vab_updates.specs.Plans.{HasWholeSectors, first_group, is_edit, edited_plan}
-use Rattle.vab_updates.specs.Plans.{with_plan}
-use Rattle.vab_updates.proofs.Edits.{create_of, resize_of, delete_of, store_edit_of, group_is}
-use Rattle.vab_updates.proofs.Edits.{created_plan, resized_plan, deleted_plan, stored_plan}
-use Rattle.vab_updates.proofs.Installed.{IsInstalled, is_installed}
+use Rattle.vab_targets.specs.Plans.{HasWholeSectors, first_group, is_edit, edited_plan}
+use Rattle.vab_targets.specs.Plans.{with_plan}
+use Rattle.vab_targets.proofs.Edits.{create_of, resize_of, delete_of, store_edit_of, group_is}
+use Rattle.vab_targets.proofs.Edits.{created_plan, resized_plan, deleted_plan, stored_plan}
+use Rattle.vab_targets.proofs.Installed.{IsInstalled, is_installed}
 
 -- ---- a table that is given
 

@@ -1,6 +1,6 @@
-use Rattle.vab_updates.proofs.Begun.{begin_keeps}
-use Rattle.vab_updates.proofs.Updates.{edits_follow}
-use Rattle.vab_updates.proofs.plans.plans_by_sizes.Goals as goal
+use Rattle.vab_targets.proofs.Begun.{begin_keeps}
+use Rattle.vab_targets.proofs.Updates.{edits_follow}
+use Rattle.vab_targets.proofs.plans.plans_by_sizes.Goals as goal
 
 pub returns-clause-begun : goal.returns-clause-begun
 returns-clause-begun c = begin_keeps

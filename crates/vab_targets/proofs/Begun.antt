@@ -56,11 +56,11 @@ use Rattle.vab_device.proofs.OwnParts.{parts_kept, length-sectors_of}
 use Rattle.vab_device.proofs.ReadingLaws.{device_was, idle_read_of, slot_below}
 use Rattle.vab_device.proofs.StayLaws.{one_of}
 use Rattle.vab_edit.proofs.PlanLaws.{map_among, map_map}
-use Rattle.vab_updates.specs.Plans.{HasWholeSectors, kept_entry, begun_plan, with_plan}
-use Rattle.vab_updates.proofs.Sectors.{blocks_long, table_rules, IsRead}
-use Rattle.vab_updates.proofs.Entries.{size_absent, own_is, no_store}
-use Rattle.vab_updates.proofs.Installed.{IsReadAs, none_named}
-use Rattle.vab_updates.proofs.Updates.{refused_not, table_done, fitting_is}
+use Rattle.vab_targets.specs.Plans.{HasWholeSectors, kept_entry, begun_plan, with_plan}
+use Rattle.vab_targets.proofs.Sectors.{blocks_long, table_rules, IsRead}
+use Rattle.vab_targets.proofs.Entries.{size_absent, own_is, no_store}
+use Rattle.vab_targets.proofs.Installed.{IsReadAs, none_named}
+use Rattle.vab_targets.proofs.Updates.{refused_not, table_done, fitting_is}
 
 -- ---- twins
 

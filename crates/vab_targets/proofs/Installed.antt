@@ -49,8 +49,8 @@ use Rattle.vab_edit.proofs.InstallingLaws.{read_at, two_tables}
 use Rattle.vab_edit.proofs.NamedLaws.{first_is, base_eq, HasBoth, LeavesBoth}
 use Rattle.vab_edit.proofs.PlanLaws.{plan_means, store_updated}
 use Rattle.vab_edit.proofs.WantedLaws.{scanned_both}
-use Rattle.vab_updates.specs.Plans.{HasWholeSectors}
-use Rattle.vab_updates.proofs.Sectors.{table_rules}
+use Rattle.vab_targets.specs.Plans.{HasWholeSectors}
+use Rattle.vab_targets.proofs.Sectors.{table_rules}
 
 -- ---- the phase
 

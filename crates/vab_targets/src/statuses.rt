@@ -1,5 +1,5 @@
 //! Where the status of a flashed partition goes.
-ghost use Rattle.vab_updates.specs.Statuses.{FlashFindsFree};
+ghost use Rattle.vab_targets.specs.Statuses.{FlashFindsFree};
 
 /// On each device a flash that is done finds a sector for its status that is all zeros: each status
 /// is of another partition of the target, and a target has at most 32.

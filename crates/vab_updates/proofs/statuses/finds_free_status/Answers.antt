@@ -1,5 +1,0 @@
-use Rattle.vab_updates.proofs.FreeStatus.{flash_finds_free}
-use Rattle.vab_updates.proofs.statuses.finds_free_status.Goals as goal
-
-pub returns : goal.returns
-returns c = record { free = flash_finds_free }
