@@ -1,6 +1,6 @@
 -- Runs that end by their input, or by want of memory for it, behind the opening of a device.
-use Rattle.std.proofs.Common.{◌≡◌, ◌∙◌, ◌⊎◌, inl, inr, ◌<◌, ◌≤◌, ◌^◌, ℕ, List, [], length, refl, sym}
-use Rattle.std.proofs.Common.{ap, subst, arith, Result, Ok, Err}
+use Rattle.std.proofs.Common.{◌≡◌, ◌∙◌, ◌⊎◌, inl, inr, ◌<◌, ◌≤◌, ◌^◌, ℕ, List, [], length, refl}
+use Rattle.std.proofs.Common.{sym, ap, subst, arith, Result, Ok, Err}
 use Rattle.vab_disk.specs.declared.disk.Disk.{Ghosts}
 use Rattle.vab_disk.specs.Disk.{Image, Outcome, Leaves, Hearing}
 use Rattle.vab_set.specs.declared.set.SetImage.{SetImage}
@@ -44,13 +44,14 @@ unheard_whole input.Source left old new status is long over = λ port memory. ab
 unheard_whole input.NoMemory left old new status is long over = λ port memory. absurd (memory is)
 
 -- one that is had was heard to its end
-pub heard_whole : (left : List ℕ) (old new : List Hearing)
-    → length left ≤ 2 ^ 32
+pub heard_whole : (left bytes : List ℕ) (old new : List Hearing)
+    → bytes ≡ left
+    → length bytes ≤ 2 ^ 32
     → HearsToEnd old new
     → HearsWhole left old new
-heard_whole left old new fits end = record {
+heard_whole left bytes old new same fits end = record {
   whole = λ few. end;
-  over = λ more. absurd (omega (arith, more, fits));
+  over = λ more. absurd (omega (arith, more, fits, ap length same));
 }
 
 -- a call before it heard nothing

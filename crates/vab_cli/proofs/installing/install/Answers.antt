@@ -1,4 +1,4 @@
-use Rattle.std.proofs.Common.{◌≡◌, ◌≤◌, ◌^◌, ◌∙◌, inl, inr, ⊎_elim, ℕ, List, length, Err, refl, sym}
+use Rattle.std.proofs.Common.{◌≡◌, ◌∙◌, inl, inr, ⊎_elim, ℕ, List, length, Err, refl, sym}
 use Rattle.std.proofs.Common.{ap, subst, arith}
 use Rattle.vab_disk.specs.declared.disk.Disk.{Ghosts}
 use Rattle.vab_disk.specs.Disk.{Faults, Hearing, Image, Rose}
@@ -143,9 +143,8 @@ returns-in-Err-read_set-clause-runs g c =
           heard_from (g.P.Disk.input_left old) (g.P.Disk.input_left mid) (g.P.Disk.heard old)
           (g.P.Disk.heard mid) (g.P.Disk.heard now) status opens.left opens.heard
           (λ port memory.
-          heard_whole (g.P.Disk.input_left mid) (g.P.Disk.heard mid) (g.P.Disk.heard now)
-          (subst (λ (l : List ℕ). length l ≤ 2 ^ 32) (c.in-Ok-hear_all.ensures.bytes t)
-          c.in-Ok-hear_all.ensures.fits)
+          heard_whole (g.P.Disk.input_left mid) _ (g.P.Disk.heard mid) (g.P.Disk.heard now)
+          (c.in-Ok-hear_all.ensures.bytes t) c.in-Ok-hear_all.ensures.fits
           (c.in-Ok-hear_all.ensures.heard t)));
       within = λ t.
           (let opens = c.in-Ok.ensures.opens t in
@@ -223,9 +222,8 @@ returns-clause-runs g c =
           heard_from (g.P.Disk.input_left old) (g.P.Disk.input_left mid) (g.P.Disk.heard old)
           (g.P.Disk.heard mid) (g.P.Disk.heard new) status opens.left opens.heard
           (λ port memory.
-          heard_whole (g.P.Disk.input_left mid) (g.P.Disk.heard mid) (g.P.Disk.heard new)
-          (subst (λ (l : List ℕ). length l ≤ 2 ^ 32) (c.in-Ok-hear_all.ensures.bytes t)
-          c.in-Ok-hear_all.ensures.fits)
+          heard_whole (g.P.Disk.input_left mid) _ (g.P.Disk.heard mid) (g.P.Disk.heard new)
+          (c.in-Ok-hear_all.ensures.bytes t) c.in-Ok-hear_all.ensures.fits
           (subst (λ (l : List Hearing). HearsToEnd (g.P.Disk.heard mid) l) (sym quiet.heard)
           (c.in-Ok-hear_all.ensures.heard t))));
       within = λ t.

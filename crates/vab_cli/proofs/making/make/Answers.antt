@@ -1,4 +1,4 @@
-use Rattle.std.proofs.Common.{◌≡◌, ◌≤◌, ◌^◌, ◌∙◌, ℕ, List, length, Err, Some, None, sym, ap, subst}
+use Rattle.std.proofs.Common.{◌≡◌, ◌∙◌, ℕ, List, Err, Some, None, sym, ap, subst}
 use Rattle.vab_set.specs.declared.set.SetImage.{SetImage}
 use Rattle.vab_disk.specs.Disk.{Hearing}
 use Rattle.vab_disk.specs.Calls.{Changes, InSectors}
@@ -88,16 +88,14 @@ returns-in-Err-clause-heard g c = λ t.
 
 pub returns-in-Err-read_set-clause-heard : goal.returns-in-Err-read_set-clause-heard
 returns-in-Err-read_set-clause-heard g c = λ t port memory.
-    heard_whole (g.P.Disk.input_left c.args.port.now) (g.P.Disk.heard c.args.port.now)
-    (g.P.Disk.heard c.hear_all.new.p)
-    (subst (λ (l : List ℕ). length l ≤ 2 ^ 32) (c.in-Ok.ensures.bytes t) c.in-Ok.ensures.fits)
+    heard_whole (g.P.Disk.input_left c.args.port.now) _ (g.P.Disk.heard c.args.port.now)
+    (g.P.Disk.heard c.hear_all.new.p) (c.in-Ok.ensures.bytes t) c.in-Ok.ensures.fits
     (c.in-Ok.ensures.heard t)
 
 pub returns-clause-heard : goal.returns-clause-heard
 returns-clause-heard g c = λ t port memory.
-    heard_whole (g.P.Disk.input_left c.args.port.now) (g.P.Disk.heard c.args.port.now)
-    (g.P.Disk.heard c.make_of.new.port)
-    (subst (λ (l : List ℕ). length l ≤ 2 ^ 32) (c.in-Ok.ensures.bytes t) c.in-Ok.ensures.fits)
+    heard_whole (g.P.Disk.input_left c.args.port.now) _ (g.P.Disk.heard c.args.port.now)
+    (g.P.Disk.heard c.make_of.new.port) (c.in-Ok.ensures.bytes t) c.in-Ok.ensures.fits
     (subst (λ (l : List Hearing). HearsToEnd (g.P.Disk.heard c.args.port.now) l)
     (sym (c.make_of.ensures.heard t)) (c.in-Ok.ensures.heard t))
 
