@@ -3,6 +3,7 @@
 ghost use Rattle.std.specs.Prelude.{◌≡◌, ◌+◌, ◌*◌, ◌<◌, ◌≤◌, ◌^◌, length, IfOk, IfSome, IsTrue};
 ghost use Rattle.std.specs.List.Sorted.{IsStrictlyIncreasing};
 ghost use Rattle.vab_linear.specs.Map.{run_of};
+ghost use Rattle.vab_space.specs.declared.Chunk.TheVariants.{One};
 ghost use Rattle.vab_store.specs.View.{Fits};
 
 use std::alloc::Global;
@@ -11,7 +12,7 @@ use vab_gate::settle;
 use vab_linear::Map;
 use vab_merge::{Ran, run_turn};
 use vab_scan::scan;
-use vab_space::need;
+use vab_space::{Chunk, need};
 use vab_store::{StoreView, write_store};
 
 /// The partition stands from sector 0 on, and its store right behind it.
@@ -63,17 +64,17 @@ impl Pair {
         if !self.lies_on(d) || need(olds.len() as u64) > self.chunks {
             return false;
         }
-        write_store(d, &self.store, olds, image).is_ok() && settle(d).is_ok()
+        write_store(d, &self.store, olds, image, Chunk::One).is_ok() && settle(d).is_ok()
     }
 
     /// The exceptions of the store.
     pub(crate) fn scan<D: Disk>(&self, alloc: Global, d: &mut D) -> Option<StoreView>
-        ensures { IfSome result (Fits self.now.blocks self.now.store) }
+        ensures { IfSome result (Fits One self.now.blocks self.now.store) }
     {
         if !self.lies_on(d) {
             return None;
         }
-        scan(alloc, d, &self.store, self.blocks).ok()
+        scan(alloc, d, &self.store, self.blocks, Chunk::One).ok()
     }
 
     /// Merges runs of at most so many exceptions until none is left, and answers how many there

@@ -10,11 +10,11 @@ ghost use Rattle.vab.specs.Word.{AsksMemory};
 mod usage;
 mod word;
 
-use std::env::{self, Env};
 use std::io::{Stdin, Stdout};
 use std::process::ExitCode;
 use usage::USAGE;
 use vab_cli::{Status, run};
+use vab_process::{WordsFault, open_standard, words_of};
 use vab_real::{FilePort, OpenFault};
 use word::{Device, parse_device};
 
@@ -24,19 +24,6 @@ const HELP: &str = "--help";
 const NO_MEMORY: u8 = 8;
 
 const NOT_OPENED: u8 = 9;
-
-// The words behind the program's name, or nothing where they can't be had.
-fn words_of<R: Env + AllocGlobal>(rt: &R) -> Option<Vec<String>> {
-    let mut words = Vec::new(rt.alloc());
-    let mut args = env::args(rt).ok()?;
-    let _program = args.next();
-    for word in args {
-        if words.push(word).is_err() {
-            return None;
-        }
-    }
-    Some(words)
-}
 
 // The port of the device that the first word names, or the status to end with.
 fn open_port(rt: &HostRuntime, word: &str) -> Result<FilePort<Stdin, Stdout>, u8>
@@ -63,25 +50,43 @@ fn open_port(rt: &HostRuntime, word: &str) -> Result<FilePort<Stdin, Stdout>, u8
     }
 }
 
-fn main(rt: HostRuntime) -> ExitCode {
-    let words = match words_of(&rt) {
-        Some(words) => words,
-        None => return ExitCode::from(NO_MEMORY),
-    };
-    let (first, rest) = match words.as_slice() {
+// Does what the words ask for, and answers the status.
+fn run_words(rt: &HostRuntime, words: &[String]) -> u8 {
+    let (first, rest) = match words {
         [first, rest @ ..] if first.as_str() != HELP => (first, rest),
         _ => {
             let _ = rt.eprintln(USAGE);
-            return ExitCode::from(Status::Usage.code());
+            return Status::Usage.code();
         }
     };
-    let mut port = match open_port(&rt, first.as_str()) {
+    let mut port = match open_port(rt, first.as_str()) {
         Ok(port) => port,
-        Err(status) => return ExitCode::from(status),
+        Err(status) => return status,
     };
     let status = run(rt.alloc(), rest, &mut port);
     if status == Status::Usage {
         let _ = rt.eprintln(USAGE);
     }
-    ExitCode::from(status.code())
+    if status == Status::Disk && port.is_read_only() {
+        let _ = eprintln!(rt; "vab: {first}: opened for reading alone, since it can't be written");
+    }
+    status.code()
+}
+
+fn main(rt: HostRuntime) -> ExitCode {
+    let _standard = match open_standard(&rt) {
+        Ok(standard) => standard,
+        Err(fault) => {
+            let _ = eprintln!(&rt; "vab: /dev/null: {fault}");
+            return ExitCode::from(NOT_OPENED);
+        }
+    };
+    ExitCode::from(match words_of(&rt) {
+        Ok(words) => run_words(&rt, words.as_slice()),
+        Err(WordsFault::NoMemory) => NO_MEMORY,
+        Err(WordsFault::NotText) => {
+            let _ = eprintln!(&rt; "vab: a word isn't UTF-8\n{USAGE}");
+            Status::Usage.code()
+        }
+    })
 }

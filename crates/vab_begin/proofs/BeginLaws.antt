@@ -9,9 +9,8 @@ use Rattle.vab_disk.specs.Calls.{SameBut}
 use Rattle.vab_bootctl.specs.declared.slots.Control.{Control}
 use Rattle.vab_bootctl.specs.Control.{control_of}
 use Rattle.vab_marks.specs.declared.mark.MarkPhase.TheVariants as marks
-use Rattle.vab_marks.specs.declared.mark.UpdateMark.{UpdateMark}
 use Rattle.vab_marks.specs.declared.status.PartStatus.{PartStatus}
-use Rattle.vab_marks.specs.Mark.{mark_of, mark_spelling}
+use Rattle.vab_marks.specs.Mark.{mark_of, mark_spelling, installing_mark, mark_at}
 use Rattle.vab_statuses.specs.Statuses.{statuses_in, no_statuses, IsOfStatuses}
 use Rattle.vab_statuses.proofs.StatusesLaws.{statuses_same}
 use Rattle.vab_geometry.specs.declared.geometry.Geometry.{Geometry}
@@ -63,16 +62,13 @@ abbrev pub idle_shape : ℕ
     → List Scanned
     → Read
 idle_shape slot ss c g t scanned = record {
-  mark = record { phase = marks.Idle; slot = slot };
+  mark = mark_at marks.Idle slot;
   statuses = ss;
   control = c;
   geometry = g;
   tables = t ∷ [];
   scanned = scanned;
 }
-
-abbrev pub installing_mark : ℕ → UpdateMark
-installing_mark slot = record { phase = marks.Installing; slot = slot }
 
 -- of a slot without images nothing is read of boot control
 pub cleared_seen : (slot : ℕ) (c : Control)

@@ -11,7 +11,7 @@ use Rattle.vab_bootctl.specs.Control.{control_of, Fits, FitsInfo}
 use Rattle.vab_marks.specs.declared.mark.MarkPhase.{MarkPhase}
 use Rattle.vab_marks.specs.declared.mark.MarkPhase.TheVariants as marks
 use Rattle.vab_marks.specs.declared.status.PartStatus.{PartStatus}
-use Rattle.vab_marks.specs.Mark.{mark_of, mark_spelling}
+use Rattle.vab_marks.specs.Mark.{mark_of, mark_spelling, installing_mark}
 use Rattle.vab_statuses.specs.Statuses.{no_statuses}
 use Rattle.vab_geometry.specs.declared.geometry.Geometry.{Geometry}
 use Rattle.vab_tables.specs.declared.table.Table.{Table}
@@ -29,7 +29,7 @@ use Rattle.vab_install.specs.Control.{cleared_of, no_info}
 use Rattle.vab_model.specs.declared.command.Reply.TheVariants as replies
 use Rattle.vab_model.specs.declared.command.Refusal.TheVariants as refusals
 use Rattle.vab_model.specs.Commands.{Begin}
-use Rattle.vab_model.specs.Effects.{does, refuses, unless_refused}
+use Rattle.vab_model.specs.Effects.{does, refuses, wanting, unless_refused}
 use Rattle.vab_device.specs.declared.device.Part.{Part}
 use Rattle.vab_device.specs.declared.device.Device.{Device}
 use Rattle.vab_device.specs.Idle.{control_read_of}
@@ -41,6 +41,7 @@ use Rattle.vab_device.specs.Reading.{Read, tables_in, table_at, Reads, AgreeCopi
 use Rattle.vab_device.specs.Reading.{Represents, Dead}
 use Rattle.vab_device.specs.Stores.{Scanned}
 use Rattle.vab_device.specs.Updates.{effect_on, table_effect, installing_with, refusal_of}
+use Rattle.vab_device.specs.Updates.{is_full_table}
 use Rattle.vab_begin.specs.declared.target.Target.{Target}
 use Rattle.vab_begin.specs.Kept.{with_control, with_update}
 use Rattle.vab_begin.specs.Target.{layout_for, IsTargetOf, IsTargetFor, IsRefusedBy}
@@ -55,7 +56,7 @@ use Rattle.vab_device.proofs.UpdateLaws.{update_read, kept_with}
 use Rattle.vab_begin.proofs.CancelLaws.{some_same}
 use Rattle.vab_begin.proofs.ImportLaws.{imported_plain, fitting_same, plan_same}
 use Rattle.vab_begin.proofs.PlannedLaws.{plan_keeps, target_table}
-use Rattle.vab_begin.proofs.BeginLaws.{idle_shape, installing_mark, IsPrepared, same_read}
+use Rattle.vab_begin.proofs.BeginLaws.{idle_shape, IsPrepared, same_read}
 use Rattle.vab_begin.proofs.BeginLaws.{reads_new}
 use Rattle.vab_begin.proofs.BeginLaws.{copies_new, control_new, images_new_a, images_new_b}
 
@@ -188,7 +189,7 @@ is_memory faults.NoMemory = true
 
 -- memory may be refused in place of each answer of a table
 may_refuse : (m : Mounted) (slot max : ℕ) (l : Layout)
-    → unless_refused true Begin (table_effect m slot [] (fitting max l)) ≡ refuses refusals.NoMemory
+    → unless_refused true (table_effect m slot [] (fitting max l)) ≡ refuses refusals.NoMemory
 may_refuse m slot max l = elim (cases_Bool (nat_le (table_size_of (table_of l)) max)) [
   | inl fits ↦ rw fits refl
   | inr long ↦ rw long refl
@@ -196,8 +197,8 @@ may_refuse m slot max l = elim (cases_Bool (nat_le (table_size_of (table_of l)) 
 
 pub refused_is : (m : Mounted) (slot max : ℕ) (s : Table) (fault : EditFault)
     → IsRefusedBy max slot s fault
-    → unless_refused (is_memory fault) Begin (table_effect m slot [] (layout_for max slot s))
-    ≡ refuses (refusal_of fault)
+    → unless_refused (is_memory fault) (table_effect m slot [] (layout_for max slot s))
+    ≡ wanting (is_full_table fault) (refuses (refusal_of fault))
 refused_is m slot max s faults.BadName is = ap (table_effect m slot []) is
 refused_is m slot max s faults.BadSize is = ap (table_effect m slot []) is
 refused_is m slot max s faults.Unknown is = ap (table_effect m slot []) is
@@ -397,7 +398,7 @@ module _ (told : Type 0) (text : List ℕ) (size : ℕ) (old : Image) where
 
     shape : r ≡ shaped
     shape = (λ i. record {
-      mark = record { phase = phase i; slot = r.mark.slot };
+      mark = record r.mark { phase = phase i };
       statuses = r.statuses;
       control = r.control;
       geometry = r.geometry;
@@ -447,7 +448,7 @@ module _ (told : Type 0) (text : List ℕ) (size : ℕ) (old : Image) where
       ]
 
       pub begin_step : (staged : Option (List ℕ))
-          → IsStep d (begun_device d x.table) staged Begin replies.Done size old new
+          → IsStep d (begun_device d x.table) staged Begin replies.Done true size old new
       begin_step staged =
           let of = for.target in
           let gives : layout_for d.geometry.max d.mark.slot for.source ≡ Ok (layout_of x.table) =
@@ -460,5 +461,5 @@ module _ (told : Type 0) (text : List ℕ) (size : ℕ) (old : Image) where
             effect =
                 begin_is d size old staged for.source dev idle for.is
                 ∙ ap (table_effect (mounted_on d old) d.mark.slot []) gives
-                ∙ ap (λ (m : Mounted). does replies.Done m) (sym means);
+                ∙ ap (λ (m : Mounted). wanting true (does replies.Done m)) (sym means);
           }

@@ -8,9 +8,8 @@ use Rattle.vab_bootctl.specs.declared.slots.Control.{Control}
 use Rattle.vab_bootctl.specs.Control.{control_of}
 use Rattle.vab_marks.specs.declared.mark.MarkPhase.{MarkPhase}
 use Rattle.vab_marks.specs.declared.mark.MarkPhase.TheVariants as marks
-use Rattle.vab_marks.specs.declared.mark.UpdateMark.{UpdateMark}
 use Rattle.vab_marks.specs.declared.status.PartStatus.{PartStatus}
-use Rattle.vab_marks.specs.Mark.{mark_of, mark_spelling}
+use Rattle.vab_marks.specs.Mark.{mark_of, mark_spelling, idle_mark}
 use Rattle.vab_geometry.specs.declared.geometry.Geometry.{Geometry}
 use Rattle.vab_tables.specs.declared.table.Table.{Table}
 use Rattle.vab_layout.specs.Slots.{other_slot}
@@ -44,9 +43,6 @@ use Rattle.vab_begin.proofs.KeptLaws.{source_b}
 use Rattle.vab_device.proofs.UpdateLaws.{update_read, kept_with}
 use Rattle.vab_device.proofs.StayLaws.{mark_there, copy_stays, copies_from, one_of, two_of}
 use Rattle.vab_begin.proofs.RunsLaws.{source_runs}
-
-abbrev pub idle_mark : ℕ → UpdateMark
-idle_mark slot = record { phase = marks.Idle; slot = slot }
 
 -- ---- what is kept
 
@@ -327,7 +323,7 @@ module _
         cancelled_b d old new b.0 one b.1 (some_same b.0 old new d.b b.1 images_b)
   ]
 
-  pub cancel_step : IsStep d next staged Cancel replies.Done size old new
+  pub cancel_step : IsStep d next staged Cancel replies.Done false size old new
   cancel_step = record {
     represents = represents;
     effect =

@@ -58,10 +58,10 @@ module _ (d : Device) (size : ℕ) (old : Image) (dev : IsDevice d size) (is : R
     -- what is read of boot control in a phase
     seen_in : (p : MarkPhase)
         → r.mark.phase ≡ p
-        → r.control ≡ control_kept (record { phase = p; slot = r.mark.slot }) d.control
+        → r.control ≡ control_kept (record r.mark { phase = p }) d.control
     seen_in p phase =
         seen
-        ∙ ap (λ (m : MarkPhase). control_kept (record { phase = m; slot = r.mark.slot }) d.control)
+        ∙ ap (λ (m : MarkPhase). control_kept (record r.mark { phase = m }) d.control)
         phase
 
     installed : r.mark.phase ≡ marks.Installing

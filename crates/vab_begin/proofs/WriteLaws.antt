@@ -2,7 +2,7 @@
 use Rattle.std.proofs.Common.{◌≡◌, ◌∙◌, inl, inr, ℕ, ◌≤◌, List, length, sym, ap, subst, arith}
 use Rattle.vab_disk.specs.Disk.{IsAt}
 use Rattle.vab_marks.specs.declared.mark.MarkPhase.TheVariants as marks
-use Rattle.vab_marks.specs.Mark.{mark_spelling}
+use Rattle.vab_marks.specs.Mark.{mark_spelling, installing_mark}
 use Rattle.vab_tables.specs.declared.table.Table.{Table}
 use Rattle.vab_tables.specs.Spelling.{table_text, as_minor_2}
 use Rattle.vab_tables.specs.Text.{IsTableText}
@@ -11,7 +11,6 @@ use Rattle.vab_device.specs.declared.device.Device.{Device}
 use Rattle.vab_begin.specs.declared.target.Target.{Target}
 use Rattle.vab_begin.specs.Target.{IsTargetFor}
 use Rattle.vab_begin.specs.Writes.{IsOfPlaces, IsOfBegun}
-use Rattle.vab_begin.proofs.BeginLaws.{installing_mark}
 use Rattle.vab_begin.proofs.ImportLaws.{minor_2}
 
 module _ (d : Device) (x : Target) (for : IsTargetFor d x) (text : List ℕ)

@@ -10,7 +10,7 @@ use Rattle.vab_device.specs.declared.device.Device.{Device}
 -- the device in this phase from the same slot, with this table of the other slot, and this plan
 abbrev pub with_update : Device → MarkPhase → Option Table → Option (List Part) → Device
 with_update d phase t plan = record d {
-  mark = record { phase = phase; slot = d.mark.slot };
+  mark = record d.mark { phase = phase };
   table_a = if d.mark.slot == 0 then d.table_a else t;
   table_b = if d.mark.slot == 0 then t else d.table_b;
   plan = plan;

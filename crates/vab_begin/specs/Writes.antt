@@ -17,7 +17,7 @@ use Rattle.vab_begin.specs.Target.{layout_for}
 
 -- the sector of the update mark, with the device's slot and this phase
 abbrev pub IsOfMark : MarkPhase → Device → ℕ → List ℕ → Type 0
-IsOfMark phase d = IsAt 2048 (mark_spelling (record { phase = phase; slot = d.mark.slot }))
+IsOfMark phase d = IsAt 2048 (mark_spelling (record d.mark { phase = phase }))
 
 -- before the mark: boot control's sector without the target, the sectors of the statuses, and the
 -- copies of the target's table with this text

@@ -60,7 +60,7 @@ fn begin_to<D: Disk>(
         Ok(()) => {
             let mark = UpdateMark {
                 phase: MarkPhase::Installing,
-                slot,
+                ..device.mark
             };
             match put_mark(d, &mark) {
                 Err(fault) => Err(fault),

@@ -34,7 +34,7 @@ fn end_update<D: Disk>(d: &mut D, device: Device) -> Result<(Device, Reply), Dis
 {
     let mark = UpdateMark {
         phase: MarkPhase::Idle,
-        slot: device.mark.slot,
+        ..device.mark
     };
     match put_mark(d, &mark) {
         Err(fault) => Err(fault),

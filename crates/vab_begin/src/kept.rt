@@ -20,7 +20,7 @@ pub fn with_update(
 {
     let mark = UpdateMark {
         phase,
-        slot: device.mark.slot,
+        ..device.mark
     };
     if device.mark.slot == 0 {
         Device {

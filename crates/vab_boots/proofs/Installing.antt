@@ -30,7 +30,8 @@ use Rattle.vab_update.specs.Orders.{Order, is_refused, effect_one, followed, eff
 use Rattle.vab_update.proofs.OrderLaws.{followed_refused, followed_done, joined, last_append}
 use Rattle.vab_session.specs.Alone.{BootsTo}
 use Rattle.vab_boots.specs.Boots.{worked_of, worked_slot, is_ready}
-use Rattle.vab_boots.specs.Installed.{installed_by, StaysRunning}
+use Rattle.vab_update.specs.Install.{install_effect}
+use Rattle.vab_boots.specs.Installed.{StaysRunning}
 use Rattle.vab_boots.proofs.Facts.{Facts, facts_of, unread_low}
 use Rattle.vab_boots.proofs.Keeping.{kept_beside}
 use Rattle.vab_boots.proofs.Planned.{IsPlanned, begin_planned, edit_planned, flash_planned}
@@ -273,7 +274,7 @@ module _ (m : Mounted) where
   last_leads slot x runs = activates x slot (is_some (images_at x.state slot)) runs
 
   -- all that install a set
-  install_leads : (set : List SetImage) → StillRuns m m → Leads m (installed_by m set)
+  install_leads : (set : List SetImage) → StillRuns m m → Leads m (install_effect m set)
   install_leads set runs =
       let slot : ℕ = m.state.control.current in
       let last : List Order = order (SetActive (other_slot slot)) ∷ [] in
@@ -343,7 +344,7 @@ first_runs m idle = record {
 pub stays_running : (size : ℕ) (image : Image) (m next : Mounted) (set : List SetImage)
     → IsIn size m image
     → m.state.phase ≡ Idle
-    → IsOneOf (steps_of m (installed_by m set)) next
+    → IsOneOf (steps_of m (install_effect m set)) next
     → StaysRunning m set next
 stays_running size image m next set is idle (inl same) =
     subst (λ (x : Mounted). StaysRunning m set x) (sym same)
@@ -371,7 +372,7 @@ not_begun m (Merging target left) rest other = refl
 
 pub needs_no_update : (m : Mounted) (set : List SetImage)
     → m.state.phase ≢ Idle
-    → (installed_by m set).later ≡ []
+    → (install_effect m set).later ≡ []
 unfolding effect_all
 needs_no_update m set other =
     let slot : ℕ = m.state.control.current in

@@ -20,7 +20,7 @@ use Rattle.vab_model.specs.declared.state.State.{State}
 use Rattle.vab_model.specs.declared.command.Refusal.TheVariants as refusals
 use Rattle.vab_model.specs.declared.command.Reply.TheVariants as replies
 use Rattle.vab_model.specs.Commands.{Command, SetActive, Boot, Mark, Print, Digest, Begin, Create}
-use Rattle.vab_model.specs.Commands.{Resize, Delete, Snapshot, Flash, Finish, Cancel, BeginMerge}
+use Rattle.vab_model.specs.Commands.{Resize, Delete, Snapshot, Flash, Finish, Cancel}
 use Rattle.vab_model.specs.Commands.{Merge}
 use Rattle.vab_model.specs.State.{images_at}
 use Rattle.vab_model.specs.Effects.{Effect, Found, Image_is, Refused_by, found_of, print_effect}
@@ -34,7 +34,8 @@ use Rattle.vab_device.specs.Updates.{merge_effect, turns}
 use Rattle.vab_device.specs.Updates.{with_images, without_images, complete_effect}
 use Rattle.vab_device.specs.Updates.{finish_effect, cancelled, cancel_effect, final_image}
 use Rattle.vab_device.specs.Updates.{declared_name, least_declared, plan_count}
-use Rattle.vab_boots.specs.Images.{IsReady, Finishes, Cancels, changes_images, SameImages}
+use Rattle.vab_model.specs.Kinds.{changes_images}
+use Rattle.vab_boots.specs.Images.{IsReady, Finishes, Cancels, SameImages}
 use Rattle.vab_boots.proofs.Begins.{refused_not, done_then}
 use Rattle.vab_boots.proofs.Planned.{IsPlanned, begin_planned, edit_planned, flash_planned}
 
@@ -257,10 +258,8 @@ module _ (m : Mounted) where
   same_by staged (Snapshot name size) other = edits (snapshot_edit name size)
   same_by staged (Flash name) other =
       λ x is. planned x _ (flash_planned m staged name m.state.phase x is)
-  same_by staged Finish other = absurd cc
-  same_by staged Cancel other = absurd cc
-  same_by staged BeginMerge other = absurd cc
   same_by staged (Merge blocks) other = merges blocks m.state.phase
+  same_by staged _ other = absurd cc
 
 pub same_images : (m next : Mounted) (staged : Option (List ℕ)) (c : Command)
     → changes_images c ≡ false

@@ -11,7 +11,8 @@ use Rattle.vab_model.specs.State.{images_at}
 use Rattle.vab_device.specs.Mounted.{Mounted}
 use Rattle.vab_device.specs.Reading.{IsIn}
 use Rattle.vab_device.specs.Updates.{effect_on}
-use Rattle.vab_session.specs.Alone.{IsAlone, BootsTo, is_finish}
+use Rattle.vab_model.specs.Kinds.{is_finish}
+use Rattle.vab_session.specs.Alone.{IsAlone, BootsTo}
 
 -- The merge of an update that was ready has begun: its target alone has images, those that it had,
 -- and a boot goes to it.

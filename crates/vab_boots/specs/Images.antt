@@ -1,6 +1,6 @@
 -- Which images a slot has after a command: those of its plan from the end of an installation on,
 -- and the same ones else.
-use Rattle.std.specs.Prelude.{◌≡◌, ◌⊎◌, ℕ, Bool, true, false, List, map, Some, None}
+use Rattle.std.specs.Prelude.{◌≡◌, ◌⊎◌, ℕ, false, List, map, Some, None}
 use Rattle.std.specs.Prelude.{Option, All}
 use Rattle.vab_layout.specs.Slots.{other_slot}
 use Rattle.vab_model.specs.declared.state.Phase.TheVariants.{Idle, Installing, Staged}
@@ -8,9 +8,8 @@ use Rattle.vab_model.specs.declared.state.PlanEntry.{PlanEntry}
 use Rattle.vab_model.specs.declared.state.PlanImage.{PlanImage}
 use Rattle.vab_model.specs.declared.state.PlanImage.TheVariants.{Kept, Declared, Written}
 use Rattle.vab_model.specs.declared.command.Reply.TheVariants as replies
-use Rattle.vab_model.specs.Commands.{Command, SetActive, Boot, Mark, Print, Digest, Begin, Create}
-use Rattle.vab_model.specs.Commands.{Resize, Delete, Snapshot, Flash, Finish, Cancel, BeginMerge}
-use Rattle.vab_model.specs.Commands.{Merge}
+use Rattle.vab_model.specs.Commands.{Command, Finish, Cancel}
+use Rattle.vab_model.specs.Kinds.{changes_images}
 use Rattle.vab_model.specs.Effects.{after_of, IsOneOf}
 use Rattle.vab_model.specs.State.{images_at}
 use Rattle.vab_device.specs.Mounted.{Mounted}
@@ -57,24 +56,6 @@ CancelDropsTarget = (m : Mounted) (staged : Option (List ℕ)) (source : ℕ)
     → Cancels source m (after_of m (effect_on m staged Cancel))
 
 -- ---- the other commands
-
--- it gives images to a slot, or takes them from it
-abbrev pub changes_images : Command → Bool
-changes_images (SetActive slot) = false
-changes_images Boot = false
-changes_images Mark = false
-changes_images (Print name) = false
-changes_images (Digest name) = false
-changes_images Begin = false
-changes_images (Create name size) = false
-changes_images (Resize name size) = false
-changes_images (Delete name) = false
-changes_images (Snapshot name size) = false
-changes_images (Flash name) = false
-changes_images Finish = true
-changes_images Cancel = true
-changes_images BeginMerge = true
-changes_images (Merge blocks) = false
 
 -- Each slot has the images that it had.
 pub record SameImages (m next : Mounted) : Type 0 where

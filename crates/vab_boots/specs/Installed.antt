@@ -5,22 +5,17 @@ use Rattle.vab_disk.specs.Disk.{Image}
 use Rattle.vab_set.specs.declared.set.SetImage.{SetImage}
 use Rattle.vab_model.specs.declared.state.Phase.TheVariants.{Idle}
 use Rattle.vab_model.specs.declared.command.Reply.TheVariants as replies
-use Rattle.vab_model.specs.Effects.{Effect, IsOneOf, steps_of, after_of}
+use Rattle.vab_model.specs.Effects.{IsOneOf, steps_of, after_of}
 use Rattle.vab_model.specs.State.{images_at}
 use Rattle.vab_device.specs.Mounted.{Mounted}
 use Rattle.vab_device.specs.Reading.{IsIn}
-use Rattle.vab_update.specs.Install.{install_orders}
-use Rattle.vab_update.specs.Orders.{effect_all}
+use Rattle.vab_update.specs.Install.{install_effect}
 use Rattle.vab_session.specs.Alone.{BootsTo}
-
--- what the commands that install a set make of a device
-abbrev pub installed_by : Mounted → List SetImage → Effect Mounted
-installed_by m set = effect_all (install_orders m.state.control.current set) m
 
 -- all of them are done, and this is the device behind the last
 abbrev pub IsActivated : Mounted → List SetImage → Mounted → Type 0
 IsActivated m set next =
-    ((installed_by m set).reply ≡ replies.Done) × (next ≡ after_of m (installed_by m set))
+    ((install_effect m set).reply ≡ replies.Done) × (next ≡ after_of m (install_effect m set))
 
 -- The slot that was current is, and has its images. A boot goes to it, but behind the last command.
 pub record StaysRunning (m : Mounted) (set : List SetImage) (next : Mounted) : Type 0 where
@@ -35,7 +30,7 @@ InstallKeepsRunning =
     (size : ℕ) (image : Image) (m next : Mounted) (set : List SetImage)
     → IsIn size m image
     → m.state.phase ≡ Idle
-    → IsOneOf (steps_of m (installed_by m set)) next
+    → IsOneOf (steps_of m (install_effect m set)) next
     → StaysRunning m set next
 
 -- On a device with one nothing is done.
@@ -43,4 +38,4 @@ abbrev pub InstallNeedsNoUpdate : Type 0
 InstallNeedsNoUpdate =
     (m : Mounted) (set : List SetImage)
     → m.state.phase ≢ Idle
-    → (installed_by m set).later ≡ []
+    → (install_effect m set).later ≡ []

@@ -73,7 +73,8 @@ has_changed name f other (p ∷ ps) names =
     (either_name name f p names)
     ∙ ap (λ (b : Bool). bytes_eq p.name other || b) (has_changed name f other ps names)
 
--- the blocks of another name stay, and those of each name where the change leaves blocks as they are
+-- the blocks of another name stay, and those of each name where the change leaves blocks as they
+-- are
 others_changed : (name : List ℕ) (f : Part → Part) (other : List ℕ) (parts : List Part)
     → KeepsNames f
     → ((p : Part) → p.name ≡ name → bytes_eq p.name other ≡ true → (f p).blocks ≡ p.blocks)
@@ -101,7 +102,8 @@ named_changed : (name : List ℕ) (f : Part → Part) (parts : List Part) (p : P
     → blocks_named name (changed name f parts) ≡ (f p).blocks
 named_changed name f parts p names differ c e =
     let is : either name f p ≡ f p = rw (eq_name p.name name e) refl in
-    named_is name (changed name f parts) (either name f p) (changed_differ name f parts names differ)
+    named_is name (changed name f parts) (either name f p)
+    (changed_differ name f parts names differ)
     (in_map (either name f) parts p c) (either_name name f p names ∙ e)
     ∙ ap (λ (q : Part). q.blocks) is
 

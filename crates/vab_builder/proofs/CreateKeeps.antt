@@ -295,7 +295,8 @@ created_apart : (slot : ℕ) (source target : Layout) (name : List ℕ) (n : ℕ
 created_apart slot source target name n q update of absent inside =
     λ b hq hc. elim (created_cases slot source target name n b hc) [
       | inl before ↦
-          elim (Contains-append_cases (own_parts slot target.parts) (store_parts slot target.parts) q
+          elim (Contains-append_cases (own_parts slot target.parts) (store_parts slot target.parts)
+          q
           inside) [
             | inl mine ↦
                 let there = (of_filter (λ p. is_of_slot slot p.name) target.parts q mine).0 in

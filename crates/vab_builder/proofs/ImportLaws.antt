@@ -39,7 +39,8 @@ use Rattle.vab_builder.proofs.ListLaws.{map_keeps, flat_map-map, sum_by-map, pai
 use Rattle.vab_builder.proofs.ListLaws.{pairs_append, pairs_map, pairs_weaker, cons_cases}
 use Rattle.vab_builder.proofs.ListLaws.{contains_later, contains_filter, contains_map, mapped_from}
 use Rattle.vab_builder.proofs.SlotLaws.{letter_of, other_slot_again, suffix_letter, of_other_slot}
-use Rattle.vab_builder.proofs.SlotLaws.{default_of_no_slot, store_group_of_no_slot, store_of_no_slot}
+use Rattle.vab_builder.proofs.SlotLaws.{default_of_no_slot, store_group_of_no_slot}
+use Rattle.vab_builder.proofs.SlotLaws.{store_of_no_slot}
 use Rattle.vab_builder.proofs.SlotLaws.{of_slot_no_store, in_slot_of_slot, base_of-in_slot}
 use Rattle.vab_builder.proofs.SlotLaws.{in_slot_again, in_slot_one, slots_apart, of_slot_not}
 
@@ -282,13 +283,15 @@ twin_group_stays slot other groups all p own c stays =
     elim (cases_Bool (bytes_eq p.group default_name)) [
       | inl d ↦ rw d (0, omega arith, sym ((bytes_eq-Decides p.group default_name).0 d))
       | inr n ↦
-          rw n (elim (or_cases (bytes_eq p.group default_name) (is_of_slot slot p.group) own.group) [
+          rw n
+          (elim (or_cases (bytes_eq p.group default_name) (is_of_slot slot p.group) own.group) [
             | inl d ↦ absurd (both_ways _ n d)
             | inr s ↦
                 let a = slot_group_named slot groups p.group s c in
                 let named =
                 contains_map (λ (g : Group). g.name) (default_group ∷ all) (twin_group other a.1)
-                (contains_later default_group all (twin_group other a.1) (stays a.1 (a.0, a.2, a.3))) in
+                (contains_later default_group all (twin_group other a.1)
+                (stays a.1 (a.0, a.2, a.3))) in
                 subst (λ (n : List ℕ). Contains (names_of_groups (default_group ∷ all)) n)
                 (ap (in_slot other) a.4) named
           ])

@@ -1,5 +1,6 @@
 -- What callers need of sums.
-use Rattle.std.proofs.Common.{ℕ, zero, suc, ◌/◌, ◌%◌, ◌^◌, ◌<◌, true, false, cond, eqb, List, [], ◌∷◌, arith, lit<}
+use Rattle.std.proofs.Common.{ℕ, zero, suc, ◌/◌, ◌%◌, ◌^◌, ◌<◌, true, false, cond, eqb, List, []}
+use Rattle.std.proofs.Common.{◌∷◌, arith, lit<}
 use Rattle.std.specs.Prelude.{fold, bit_xor}
 use Rattle.std.proofs.lemmas.Nat.{xor_lt}
 use Rattle.vab_bytes.specs.Number.{IsBytes}
@@ -9,7 +10,8 @@ step_fits : (c : ℕ) → c < 2 ^ 32 → crc_step c < 2 ^ 32
 step_fits c h =
     let half : c / 2 < 2 ^ 32 = omega arith in
     let added : bit_xor (c / 2) 0xEDB88320 < 2 ^ 32 = xor_lt 32 (c / 2) 0xEDB88320 half (lit< tt) in
-    elim (eqb (c % 2) 1) as (λ t. cond t (bit_xor (c / 2) 0xEDB88320) (c / 2) < 2 ^ 32) [ true ↦ added | false ↦ half ]
+    elim (eqb (c % 2) 1) as (λ t. cond t (bit_xor (c / 2) 0xEDB88320) (c / 2) < 2 ^ 32)
+    [ true ↦ added | false ↦ half ]
 
 steps_fit : (n c : ℕ) → c < 2 ^ 32 → crc_steps n c < 2 ^ 32
 unfolding crc_steps
@@ -26,4 +28,5 @@ fold_fits (x ∷ xs) c b h =
 pub crc_fits : (bytes : List ℕ) → IsBytes bytes → crc_of bytes < 2 ^ 32
 unfolding crc_of
 crc_fits bytes b =
-    xor_lt 32 (fold crc_byte 0xFFFF_FFFF bytes) 0xFFFF_FFFF (fold_fits bytes 0xFFFF_FFFF b (lit< tt)) (lit< tt)
+    xor_lt 32 (fold crc_byte 0xFFFF_FFFF bytes) 0xFFFF_FFFF
+    (fold_fits bytes 0xFFFF_FFFF b (lit< tt)) (lit< tt)

@@ -34,10 +34,11 @@ use Rattle.vab_cli.specs.Acts.{StopsAmong, course}
 use Rattle.vab_cli.specs.Acts.{closed_by, command_act, install_act, line_act, status_in, told_by}
 use Rattle.vab_cli.specs.Codes.{reply_status}
 use Rattle.vab_cli.specs.Counts.{HearsNothing, IsSteady}
-use Rattle.vab_cli.specs.Installing.{install_effect}
+use Rattle.vab_update.specs.Install.{install_effect}
 use Rattle.vab_cli.specs.Runs.{Held, IsFailed, RunsItem, RunsShort}
 use Rattle.vab_cli.specs.Telling.{DoesItem, LeavesShort, Says}
-use Rattle.vab_cli.specs.Verbs.{IsVerb, command_line, line_behind, reply_line}
+use Rattle.vab_model.specs.Kinds.{IsVerb}
+use Rattle.vab_cli.specs.Verbs.{command_line, line_behind, reply_line}
 use Rattle.vab_cli.specs.Verbs.{unless_refused}
 use Rattle.vab_cli.proofs.Courses.{IsAct, of_item, one_act, performs_as, told_map}
 use Rattle.vab_cli.proofs.Installs.{install_long}

@@ -55,7 +55,8 @@ pub bytes_rest : (image : Image) (map : List ℕ) (done count : ℕ)
     ++ bytes_at image (drop (done + count) map)
     ≡ bytes_at image map
 bytes_rest image map done count =
-    ap (λ (l : List ℕ). l ++ bytes_at image (drop (done + count) map)) (bytes_piece image map done count)
+    ap (λ (l : List ℕ). l ++ bytes_at image (drop (done + count) map))
+    (bytes_piece image map done count)
     ∙ sym (bytes_append image (take (done + count) map) (drop (done + count) map))
     ∙ ap (bytes_at image) (take-append-drop (done + count) map)
 

@@ -25,7 +25,8 @@ use Rattle.vab_update.specs.Install.{install_orders}
 use Rattle.vab_update.specs.Orders.{effect_all}
 use Rattle.vab_update.proofs.InstallLaws.{installed_staged}
 use Rattle.vab_cli.specs.Codes.{reply_status}
-use Rattle.vab_cli.specs.Installing.{install_effect, install_item, install_told, install_line}
+use Rattle.vab_update.specs.Install.{install_effect}
+use Rattle.vab_cli.specs.Installing.{install_item, install_told, install_line}
 use Rattle.vab_cli.specs.Installing.{installed_line, install_status}
 use Rattle.vab_cli.specs.Telling.{DoesItem, LeavesShort, Says}
 use Rattle.vab_cli.specs.Verbs.{refused_line}

@@ -10,9 +10,7 @@ use Rattle.vab_disk.specs.Written.{same_image}
 use Rattle.vab_disk.proofs.Moments.{adds_wider, adds_on}
 use Rattle.vab_gate.specs.declared.gate.DiskFault.{DiskFault}
 use Rattle.vab_model.specs.declared.command.Reply.{Reply}
-use Rattle.vab_model.specs.Commands.{Command, SetActive, Boot, Mark, Print, Digest, Begin, Create}
-use Rattle.vab_model.specs.Commands.{Resize, Delete, Snapshot, Flash, Finish, Cancel, BeginMerge}
-use Rattle.vab_model.specs.Commands.{Merge}
+use Rattle.vab_model.specs.Commands.{Command, Print}
 use Rattle.vab_model.specs.Effects.{Found, Image_is, Refused_by, found_of, effect, effect_map}
 use Rattle.vab_model.specs.Effects.{Effect, print_effect, steps_of, after_of, IsOneOf}
 use Rattle.vab_model.specs.Effects.{unless_refused}
@@ -29,7 +27,9 @@ use Rattle.vab_exchanges.specs.Runs.{LeavesItem}
 use Rattle.vab_exchanges.proofs.RunLaws.{telling}
 use Rattle.vab_cli.specs.Telling.{DoesItem, Says}
 use Rattle.vab_session.specs.Served.{nothing_staged}
-use Rattle.vab_cli.specs.Verbs.{command_item, line_item, IsVerb}
+use Rattle.vab_cli.specs.Verbs.{command_item, line_item}
+use Rattle.vab_model.specs.Kinds.{IsVerb}
+use Rattle.vab_device.proofs.WantLaws.{verb_wants}
 use Rattle.vab_update.proofs.OrderLaws.{last_step}
 
 on_ok : {A E P : Type 0} (r : Result A E) → P → OnOk r P
@@ -75,34 +75,13 @@ mounted_is d size image s represents is =
 -- a verb takes no memory
 pub verb_effect : (refused : Bool) (c : Command) (m : Mounted)
     → IsVerb c
-    → unless_refused refused c (effect_on m None c) ≡ effect_on m None c
-verb_effect true (SetActive slot) m verb = refl
-verb_effect true Boot m verb = refl
-verb_effect true Mark m verb = refl
-verb_effect true (Print name) m verb = refl
-verb_effect true (Digest name) m verb = refl
-verb_effect true Cancel m verb = refl
-verb_effect true BeginMerge m verb = refl
-verb_effect true (Merge blocks) m verb = refl
-verb_effect false (SetActive slot) m verb = refl
-verb_effect false Boot m verb = refl
-verb_effect false Mark m verb = refl
-verb_effect false (Print name) m verb = refl
-verb_effect false (Digest name) m verb = refl
-verb_effect false Cancel m verb = refl
-verb_effect false BeginMerge m verb = refl
-verb_effect false (Merge blocks) m verb = refl
-verb_effect refused Begin m verb = absurd verb
-verb_effect refused (Create name size) m verb = absurd verb
-verb_effect refused (Resize name size) m verb = absurd verb
-verb_effect refused (Delete name) m verb = absurd verb
-verb_effect refused (Snapshot name size) m verb = absurd verb
-verb_effect refused (Flash name) m verb = absurd verb
-verb_effect refused Finish m verb = absurd verb
+    → unless_refused refused (effect_on m None c) ≡ effect_on m None c
+verb_effect false c m verb = refl
+verb_effect true c m verb = rw (verb_wants m None c verb) refl
 
 pub replied : (refused : Bool) (c : Command) (m : Mounted)
     → IsVerb c
-    → (unless_refused refused c (effect_on m None c)).reply ≡ (effect_on m None c).reply
+    → (unless_refused refused (effect_on m None c)).reply ≡ (effect_on m None c).reply
 replied refused c m verb = ap (λ (e : Effect Mounted). e.reply) (verb_effect refused c m verb)
 
 -- before anything is told of an item

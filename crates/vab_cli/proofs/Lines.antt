@@ -7,9 +7,8 @@ use Rattle.hex.specs.Hex.{encode_lower}
 use Rattle.vab_disk.specs.Disk.{Image}
 use Rattle.vab_model.specs.declared.command.Reply.{Reply}
 use Rattle.vab_model.specs.declared.command.Reply.TheVariants as replies
-use Rattle.vab_model.specs.Commands.{Command, SetActive, Boot, Mark, Print, Digest, Begin, Create}
-use Rattle.vab_model.specs.Commands.{Resize, Delete, Snapshot, Flash, Finish, Cancel, BeginMerge}
-use Rattle.vab_model.specs.Commands.{Merge}
+use Rattle.vab_model.specs.Commands.{Command, SetActive, Mark}
+use Rattle.vab_model.specs.Commands.{Cancel, BeginMerge}
 use Rattle.vab_marks.specs.declared.mark.MarkPhase.{MarkPhase}
 use Rattle.vab_marks.specs.declared.mark.MarkPhase.TheVariants as marks
 use Rattle.vab_marks.specs.declared.mark.UpdateMark.{UpdateMark}
@@ -33,19 +32,9 @@ line_some text = omega (arith, length-append text (10 ∷ []))
 done_some : (c : Command) (current left : ℕ) → 0 < length (done_line c current left)
 done_some (SetActive slot) current left = line_some (codes "active " ++ slot_letter slot)
 done_some Mark current left = line_some (codes "marked " ++ slot_letter current)
-done_some Boot current left = line_some []
-done_some (Print name) current left = line_some []
-done_some (Digest name) current left = line_some []
-done_some Begin current left = line_some []
-done_some (Create name size) current left = line_some []
-done_some (Resize name size) current left = line_some []
-done_some (Delete name) current left = line_some []
-done_some (Snapshot name size) current left = line_some []
-done_some (Flash name) current left = line_some []
-done_some Finish current left = line_some []
 done_some Cancel current left = line_some (codes "cancelled")
 done_some BeginMerge current left = line_some (codes "merging, left " ++ decimal left)
-done_some (Merge blocks) current left = line_some []
+done_some _ current left = line_some []
 
 -- each reply has a line
 pub reply_some : (c : Command) (current left : ℕ) (r : Reply)
@@ -117,20 +106,7 @@ left_line : (m : Mounted) (current n : ℕ) (c : Command)
     → reply_line c current n (effect_on m None c).reply
     ≡ reply_line c current (left_of m.state.phase) (effect_on m None c).reply
 left_line m current n BeginMerge same = begun_line m current n m.state.phase refl same
-left_line m current n (SetActive slot) same = same_line (SetActive slot) current n _ _ refl
-left_line m current n Boot same = same_line Boot current n _ _ refl
-left_line m current n Mark same = same_line Mark current n _ _ refl
-left_line m current n (Print name) same = same_line (Print name) current n _ _ refl
-left_line m current n (Digest name) same = same_line (Digest name) current n _ _ refl
-left_line m current n Begin same = same_line Begin current n _ _ refl
-left_line m current n (Create name size) same = same_line (Create name size) current n _ _ refl
-left_line m current n (Resize name size) same = same_line (Resize name size) current n _ _ refl
-left_line m current n (Delete name) same = same_line (Delete name) current n _ _ refl
-left_line m current n (Snapshot name size) same = same_line (Snapshot name size) current n _ _ refl
-left_line m current n (Flash name) same = same_line (Flash name) current n _ _ refl
-left_line m current n Finish same = same_line Finish current n _ _ refl
-left_line m current n Cancel same = same_line Cancel current n _ _ refl
-left_line m current n (Merge blocks) same = same_line (Merge blocks) current n _ _ refl
+left_line m current n c same = same_line c current n _ _ refl
 
 -- those are the exceptions of the slots with images
 left_by : (m : UpdateMark) (count source left : ℕ) (entries : Option (List PlanEntry))

@@ -25,7 +25,8 @@ use Rattle.vab_words.specs.Verbs.{Meaning, Make, Serve, Demo}
 use Rattle.vab_words.specs.Verbs as verbs
 use Rattle.vab_exchanges.specs.Runs.{acknowledged, steps_at}
 use Rattle.vab_commands.specs.Touched.{IsOfAll, IsOfCommands}
-use Rattle.vab_session.specs.Alone.{IsAlone, StandsAlone, is_finish}
+use Rattle.vab_model.specs.Kinds.{is_finish}
+use Rattle.vab_session.specs.Alone.{IsAlone, StandsAlone}
 use Rattle.vab_session.specs.Merges.{MergesNothing}
 use Rattle.vab_session.proofs.AloneLaws.{AreAlone, one, more, last_alone, stands_alone}
 use Rattle.vab_session.proofs.AloneLaws.{alone_effect}

@@ -232,38 +232,40 @@ module _ {D : Type 0}
       → g.seen new ≡ g.seen mid
       → Adds g.moment g.outcomes mid new (LeavesSaying (g.told mid) line (g.may_leave mid))
       → RunsNone g size line old new status
-  none_told line old mid new status status_is told seen holds time front whole seen' saying = record {
-    status_is = ⊎_elim (λ none. inl none) (λ port. inr (inl (inr port))) status_is;
-    front = (front.0, front.1 ∙ ap (λ (l : List ℕ). l ++ take front.0 line) told);
-    whole = λ is. whole is ∙ ap (λ (l : List ℕ). l ++ line) told;
-    untold = λ is. ⊎_elim (λ none. cc) (λ port. cc) status_is;
-    same = λ is. seen' ∙ seen;
-    every_cut = λ rest o at.
-        all_since g.moment g.outcomes old new P (Leaves (g.told old) (g.may_leave old))
-        (adds_on g.moment g.outcomes old mid new P
-        (LeavesSaying (g.told mid) line (g.may_leave mid))
-        (adds_wider g.moment g.outcomes old mid (LeavesSame (g.told old) size (g.seen old)) P (time rest)
-        (λ o' same. record {
-          front = (0, same.told_so_far ∙ sym (append-nil (g.told old)));
-          kind = same.same;
-        }))
-        saying
-        (λ o' leaves. record {
-          front = (
-            leaves.front.0,
-            leaves.front.1 ∙ ap (λ (l : List ℕ). l ++ take leaves.front.0 line) told,
-          );
-          kind = ap (device size)
-              (same_image o'.image (g.seen old)
-              (λ s. rest s (o'.image s) (holds.no_more s (o'.image s) (leaves.each_sector s))));
-        }))
-        (only_now old)
-        (λ o' leaves. record {
-          front = (0, leaves.told_so_far ∙ sym (append-nil (g.told old)));
-          kind = ap (device size) (settled_image old o' rest leaves);
-        })
-        o at;
-  }
+  none_told line old mid new status status_is told seen holds time front whole seen' saying =
+      record {
+        status_is = ⊎_elim (λ none. inl none) (λ port. inr (inl (inr port))) status_is;
+        front = (front.0, front.1 ∙ ap (λ (l : List ℕ). l ++ take front.0 line) told);
+        whole = λ is. whole is ∙ ap (λ (l : List ℕ). l ++ line) told;
+        untold = λ is. ⊎_elim (λ none. cc) (λ port. cc) status_is;
+        same = λ is. seen' ∙ seen;
+        every_cut = λ rest o at.
+            all_since g.moment g.outcomes old new P (Leaves (g.told old) (g.may_leave old))
+            (adds_on g.moment g.outcomes old mid new P
+            (LeavesSaying (g.told mid) line (g.may_leave mid))
+            (adds_wider g.moment g.outcomes old mid (LeavesSame (g.told old) size (g.seen old)) P
+            (time rest)
+            (λ o' same. record {
+              front = (0, same.told_so_far ∙ sym (append-nil (g.told old)));
+              kind = same.same;
+            }))
+            saying
+            (λ o' leaves. record {
+              front = (
+                leaves.front.0,
+                leaves.front.1 ∙ ap (λ (l : List ℕ). l ++ take leaves.front.0 line) told,
+              );
+              kind = ap (device size)
+                  (same_image o'.image (g.seen old)
+                  (λ s. rest s (o'.image s) (holds.no_more s (o'.image s) (leaves.each_sector s))));
+            }))
+            (only_now old)
+            (λ o' leaves. record {
+              front = (0, leaves.told_so_far ∙ sym (append-nil (g.told old)));
+              kind = ap (device size) (settled_image old o' rest leaves);
+            })
+            o at;
+      }
     where
       P : Outcome → Type 0
       P = LeavesTelling (g.told old) line (MeansAs size (g.seen old))

@@ -144,7 +144,8 @@ module _ {D : Type 0} (g : Ghosts D) where
     seen = says.seen ∙ reads.seen t;
     crash = record {
       keeps = λ s x h. (let crash = says.crash in crash.keeps) s x ((reads.crash t).keeps s x h);
-      no_more = λ s x h. (reads.crash t).no_more s x ((let crash = says.crash in crash.no_more) s x h);
+      no_more = λ s x h. (reads.crash t).no_more s x
+          ((let crash = says.crash in crash.no_more) s x h);
     };
     left = says.left ∙ reads.quiet.left t;
     heard = says.heard ∙ reads.quiet.heard t;

@@ -1,5 +1,6 @@
 -- A session as a run of the program.
-use Rattle.std.proofs.Common.{◌≡◌, ◌⊎◌, ◌∙◌, inl, inr, ⊎_elim, ◌^◌, ◌<◌, ◌≤◌, ℕ, List, [], ◌++◌, take}
+use Rattle.std.proofs.Common.{◌≡◌, ◌⊎◌, ◌∙◌, inl, inr, ⊎_elim, ◌^◌, ◌<◌, ◌≤◌, ℕ, List, [], ◌++◌}
+use Rattle.std.proofs.Common.{take}
 use Rattle.std.proofs.Common.{codes, Some, None, Ok, Err, refl, sym, ap, subst, arith}
 use Rattle.std.specs.Prelude.{Option}
 use Rattle.std.proofs.lemmas.Bool.Decides.{nat_tests}
@@ -23,12 +24,13 @@ use Rattle.vab_exchanges.specs.Hearing.{HearsWhere}
 use Rattle.vab_exchanges.specs.Items.{items_of, kept_after, output_of}
 use Rattle.vab_exchanges.specs.Runs.{CrashesWithin, IsTold, Serves}
 use Rattle.vab_exchanges.proofs.RunLaws.{items_chain, within_greeting}
-use Rattle.vab_session.proofs.AloneLaws.{alone_cut}
+use Rattle.vab_session.proofs.StandLaws.{stands_at_cut}
 use Rattle.vab_session.specs.Responses.{response}
 use Rattle.vab_session.specs.Served.{Answer, Says, Held as HeldBySession, reached}
 use Rattle.vab_session.specs.Served.{ServesDevice, nothing_staged}
 use Rattle.vab_session.specs.declared.fault.Ended.TheVariants as ended
-use Rattle.vab_session.specs.declared.fault.SessionFault.TheVariants.{BadHello, TooLong, Overrun, Cut}
+use Rattle.vab_session.specs.declared.fault.SessionFault.TheVariants.{BadHello, TooLong, Overrun}
+use Rattle.vab_session.specs.declared.fault.SessionFault.TheVariants.{Cut}
 use Rattle.vab_session.specs.declared.fault.SessionFault.TheVariants.{Spent, Source, Sink}
 use Rattle.vab_session.specs.declared.fault.SessionFault.TheVariants as faults
 use Rattle.vab_cli.specs.declared.status.Status.{Status}
@@ -154,7 +156,8 @@ module _ {D : Type 0}
         → g.outcomes new (g.moment old) o
         → Within first exchanges unfinished (g.told old) o ⊎ Else o
 
-  runs_behind : (Else : Outcome → Type 0) (d : Device) (first : Mounted) (old mid new : D) (r : Answer)
+  runs_behind : (Else : Outcome → Type 0) (d : Device) (first : Mounted) (old mid new : D)
+      (r : Answer)
       → Behind Else first old mid new
       → Represents d size (g.seen mid)
       → ServesDevice size g d (2 ^ 44) mid new r
@@ -180,7 +183,8 @@ module _ {D : Type 0}
             subst
             (λ (h : List Hearing).
             HearsWhere
-            (IsTold response (nothing_staged first) serves.exchanges (g.input_left old) (g.told old))
+            (IsTold response (nothing_staged first) serves.exchanges (g.input_left old)
+            (g.told old))
             h (g.heard new))
             behind.heard
             (subst
@@ -195,11 +199,11 @@ module _ {D : Type 0}
             (IsTold response (nothing_staged first) serves.exchanges l (g.told mid))
             (g.heard mid) (g.heard new))
             behind.left serves.heard));
-        alone = λ rest done later is other slot images alone o at since told_is whole.
+        alone = λ rest done later is slot images alone o at since told_is whole.
             ⊎_elim
             (λ within.
-            inl (alone_cut slot images size (nothing_staged first) serves.exchanges done later
-            serves.unfinished (g.told old) o within is other alone since told_is whole))
+            inl (stands_at_cut slot images size (nothing_staged first) serves.exchanges done later
+            serves.unfinished (g.told old) o within is alone since told_is whole))
             (λ before. inr before)
             (every_cut rest o at);
       }
@@ -260,11 +264,13 @@ module _ {D : Type 0}
         cuts = λ rest exchanges unfinished time o at.
             let P = Within first exchanges unfinished (g.told old) in
             inl (all_since g.moment g.outcomes old new P (Leaves (g.told old) (g.may_leave old))
-            (adds_on g.moment g.outcomes old mid new P (Within first exchanges unfinished (g.told mid))
+            (adds_on g.moment g.outcomes old mid new P
+            (Within first exchanges unfinished (g.told mid))
             (adds_wider g.moment g.outcomes old mid
             (LeavesSame (g.told old) size (g.seen old)) P (opens.time rest)
             (λ o' same.
-            before_all first exchanges unfinished (g.told old) o' same.told_so_far (same.same ∙ is)))
+            before_all first exchanges unfinished (g.told old) o' same.told_so_far
+            (same.same ∙ is)))
             time
             (λ o' within.
             subst (λ (l : List ℕ). Within first exchanges unfinished l o') opens.told within))

@@ -9,8 +9,8 @@ use Rattle.vab_disk.specs.Calls.{Changes, SameBut, Touches}
 use Rattle.vab_disk.proofs.CallLaws.{changes_then, changes_wider, changes_touches}
 use Rattle.vab_bootctl.specs.declared.slots.Control.{Control}
 use Rattle.vab_bootctl.specs.Control.{control_of}
-use Rattle.vab_model.specs.Commands.{Command, SetActive, Boot, Mark, Print, Digest, Begin, Create}
-use Rattle.vab_model.specs.Commands.{Resize, Delete, Snapshot, Flash, Finish, Cancel, BeginMerge}
+use Rattle.vab_model.specs.Commands.{Command, SetActive, Boot, Mark, Print, Digest}
+use Rattle.vab_model.specs.Commands.{Cancel, BeginMerge}
 use Rattle.vab_model.specs.Commands.{Merge}
 use Rattle.vab_marks.specs.declared.mark.MarkPhase.TheVariants as marks
 use Rattle.vab_device.specs.declared.device.Part.{Part}
@@ -26,7 +26,7 @@ use Rattle.vab_device.proofs.PhaseCases.{planned_of, unplanned_of}
 use Rattle.vab_commands.specs.Writes as writes
 use Rattle.vab_cli.specs.Touched.{IsOfServing, IsOfItem, IsOfMerging, IsOfDone, IsMergedThere}
 use Rattle.vab_cli.specs.Touched.{IsOfVerb, IsDropped, dropped_from}
-use Rattle.vab_cli.specs.Verbs.{IsVerb}
+use Rattle.vab_model.specs.Kinds.{IsVerb}
 use Rattle.vab_manager.proofs.EffectLaws.{some_images}
 use Rattle.vab_cli.proofs.Items.{mounted_is}
 
@@ -154,15 +154,9 @@ verb_writes told d old Mark verb s b w = inl w
 verb_writes told d old (Print name) verb s b w = absurd w
 verb_writes told d old (Digest name) verb s b w = absurd w
 verb_writes told d old Cancel verb s b w = inr (inl (refl, w))
-verb_writes told d old Begin verb s b w = absurd verb
-verb_writes told d old (Create name size) verb s b w = absurd verb
-verb_writes told d old (Resize name size) verb s b w = absurd verb
-verb_writes told d old (Delete name) verb s b w = absurd verb
-verb_writes told d old (Snapshot name size) verb s b w = absurd verb
-verb_writes told d old (Flash name) verb s b w = absurd verb
-verb_writes told d old Finish verb s b w = absurd verb
 verb_writes told d old BeginMerge verb s b w = inr (inr w)
 verb_writes told d old (Merge blocks) verb s b w = inr (inr w)
+verb_writes told d old _ verb s b w = absurd cc
 
 -- what a verb's command touches
 pub verb_changes : {D : Type 0}

@@ -8,13 +8,12 @@ use Rattle.vab_set.specs.declared.set.SetImage.{SetImage}
 use Rattle.vab_set.specs.declared.fault.SetFault.{SetFault}
 use Rattle.vab_model.specs.declared.command.Reply.{Reply}
 use Rattle.vab_model.specs.declared.command.Reply.TheVariants as replies
-use Rattle.vab_model.specs.Effects.{Effect, steps_of, after_of}
+use Rattle.vab_model.specs.Effects.{steps_of, after_of}
 use Rattle.vab_device.specs.declared.fault.StartFault.{StartFault}
 use Rattle.vab_device.specs.Mounted.{Mounted}
 use Rattle.vab_device.specs.Reading.{device, IsIn}
 use Rattle.vab_commands.specs.Touched.{IsOfCommands}
-use Rattle.vab_update.specs.Install.{install_orders}
-use Rattle.vab_update.specs.Orders.{effect_all}
+use Rattle.vab_update.specs.Install.{install_effect}
 use Rattle.vab_exchanges.specs.Items.{Item}
 use Rattle.vab_session.specs.Responses.{left_of}
 use Rattle.vab_session.specs.Served.{nothing_staged}
@@ -26,10 +25,6 @@ use Rattle.vab_cli.specs.Counts.{HearsNothing, HearsUnless}
 use Rattle.vab_cli.specs.Runs.{Held, RunsItem, RunsShort, RunsNone, FailsBefore}
 use Rattle.vab_cli.specs.Touched.{IsOfServing}
 use Rattle.vab_cli.specs.Verbs.{line, line_item, none_line, refused_line}
-
--- what its commands make of a device, one after another until one is refused
-abbrev pub install_effect : Mounted → List SetImage → Effect Mounted
-install_effect m set = effect_all (install_orders m.state.control.current set) m
 
 -- so many images are installed, and so many blocks left to merge
 abbrev pub installed_line : (images left : ℕ) → List ℕ

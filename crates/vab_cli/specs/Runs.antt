@@ -1,5 +1,5 @@
 -- What a run of the program promises.
-use Rattle.std.specs.Prelude.{◌≡◌, ◌⊎◌, ◌^◌, ◌≤◌, ℕ, List, [], ◌∷◌, ◌++◌, length, take, drop}
+use Rattle.std.specs.Prelude.{◌≡◌, ◌⊎◌, ◌^◌, ◌≤◌, ◌-◌, ℕ, List, [], ◌∷◌, ◌++◌, length, take, drop}
 use Rattle.std.specs.Prelude.{codes, Bool, Option}
 use Rattle.vab_disk.specs.declared.disk.Disk.{Ghosts}
 use Rattle.vab_disk.specs.Disk.{Image, Outcome, Adds, Faults, Rose}
@@ -16,7 +16,7 @@ use Rattle.vab_exchanges.specs.Session as session
 use Rattle.vab_exchanges.specs.Items.{Item, items_of, joined, kept_after}
 use Rattle.vab_exchanges.specs.Runs.{acknowledged, CrashesWithin, IsTold}
 use Rattle.vab_exchanges.specs.Hearing.{HearsWhere}
-use Rattle.vab_session.specs.Alone.{IsAlone, StandsAlone, FinishesNothing}
+use Rattle.vab_session.specs.Alone.{IsAlone, StandsAlone, FindsReady, reached_in}
 use Rattle.vab_session.specs.Responses.{response}
 use Rattle.vab_cli.specs.declared.status.Status.{Status}
 use Rattle.vab_cli.specs.declared.status.Status.TheVariants.{Done, Usage, Malformed, Refused}
@@ -157,12 +157,12 @@ module _ {D : Type 0} (g : Ghosts D) (size : ℕ) where
         (g.heard old)
         (g.heard new)
     -- From where one slot alone has images and no update is ready, as from the reply of the begin
-    -- of a merge on, until an installation is finished: in every outcome it alone has images, the
-    -- same ones, and a boot goes to it.
+    -- of a merge on: in every outcome it alone has images, the same ones, and a boot goes to it;
+    -- or by then an update was ready. An installation that isn't ended, since that is refused, is
+    -- none.
     pub alone : IsAtRest g old
         → (done later : List Exchange)
         → exchanges ≡ done ++ later
-        → FinishesNothing later
         → (slot : ℕ)
         → (images : List ImageOfSlot)
         → IsAlone slot images (kept_after response (nothing_staged first) done).now
@@ -173,7 +173,13 @@ module _ {D : Type 0} (g : Ghosts D) (size : ℕ) where
         → length done
         ≤ acknowledged (items_of response (nothing_staged first) exchanges unfinished)
         (drop 4 since)
-        → StandsAlone size slot images o.image ⊎ Else o
+        → (StandsAlone size slot images o.image
+        ⊎ FindsReady
+        (reached_in (kept_after response (nothing_staged first) done) later unfinished
+        (acknowledged (items_of response (nothing_staged first) exchanges unfinished)
+        (drop 4 since)
+        - length done)))
+        ⊎ Else o
 
   -- One item alone, all of it where the run ends as the item does.
   pub record RunsItem

@@ -5,11 +5,11 @@ use Rattle.vab_disk.specs.Disk.{Image, IsAt}
 use Rattle.vab_disk.specs.Calls.{SameBut}
 use Rattle.vab_bootctl.specs.declared.slots.Control.{Control}
 use Rattle.vab_marks.specs.declared.mark.MarkPhase.TheVariants as marks
-use Rattle.vab_marks.specs.Mark.{mark_spelling}
+use Rattle.vab_marks.specs.Mark.{mark_spelling, mark_at}
 use Rattle.vab_model.specs.declared.state.Phase.{Phase}
 use Rattle.vab_model.specs.declared.state.Phase.TheVariants.{Idle, Installing, Staged, Merging}
-use Rattle.vab_model.specs.Commands.{Command, SetActive, Boot, Mark, Print, Digest, Begin, Create}
-use Rattle.vab_model.specs.Commands.{Resize, Delete, Snapshot, Flash, Finish, Cancel, BeginMerge}
+use Rattle.vab_model.specs.Commands.{Command}
+use Rattle.vab_model.specs.Commands.{Cancel, BeginMerge}
 use Rattle.vab_model.specs.Commands.{Merge}
 use Rattle.vab_device.specs.declared.device.Device.{Device}
 use Rattle.vab_device.specs.Mounted.{Mounted}
@@ -34,7 +34,7 @@ dropped_from current (Merging target left) = None
 pub record IsDropped (m : Mounted) (s : ℕ) (bytes : List ℕ) : Type 0 where
   pub source : ℕ
   pub is : dropped_from m.state.control.current m.state.phase ≡ Some source
-  pub mark : IsAt 2048 (mark_spelling (record { phase = marks.Idle; slot = source })) s bytes
+  pub mark : IsAt 2048 (mark_spelling (mark_at marks.Idle source)) s bytes
 
 -- What the command of a verb that isn't of a merge writes on a device whose boot control is this
 -- one, in a sector with these bytes: the boot control that the boot rules make of it, of both
@@ -49,19 +49,7 @@ IsOfItem m boot c old s bytes =
 abbrev pub IsOfMerging : Device → Command → ℕ → List ℕ → Type 0
 IsOfMerging d BeginMerge s bytes = IsOfMergeBegun d s bytes
 IsOfMerging d (Merge blocks) s bytes = IsOfMerge d blocks s bytes
-IsOfMerging d (SetActive slot) s bytes = ⊥
-IsOfMerging d Boot s bytes = ⊥
-IsOfMerging d Mark s bytes = ⊥
-IsOfMerging d (Print name) s bytes = ⊥
-IsOfMerging d (Digest name) s bytes = ⊥
-IsOfMerging d Begin s bytes = ⊥
-IsOfMerging d (Create name size) s bytes = ⊥
-IsOfMerging d (Resize name size) s bytes = ⊥
-IsOfMerging d (Delete name) s bytes = ⊥
-IsOfMerging d (Snapshot name size) s bytes = ⊥
-IsOfMerging d (Flash name) s bytes = ⊥
-IsOfMerging d Finish s bytes = ⊥
-IsOfMerging d Cancel s bytes = ⊥
+IsOfMerging d _ s bytes = ⊥
 
 -- either, where this device is kept
 abbrev pub IsOfDone : Device → Mounted → Control → Command → List ℕ → ℕ → List ℕ → Type 0

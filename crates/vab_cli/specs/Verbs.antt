@@ -6,9 +6,8 @@ use Rattle.hex.specs.Hex.{encode_lower}
 use Rattle.vab_model.specs.declared.command.Reply.{Reply}
 use Rattle.vab_model.specs.declared.command.Reply.TheVariants as replies
 use Rattle.vab_model.specs.declared.command.Refusal.{Refusal}
-use Rattle.vab_model.specs.Commands.{Command, SetActive, Boot, Mark, Print, Digest, Begin, Create}
-use Rattle.vab_model.specs.Commands.{Resize, Delete, Snapshot, Flash, Finish, Cancel, BeginMerge}
-use Rattle.vab_model.specs.Commands.{Merge}
+use Rattle.vab_model.specs.Commands.{Command, SetActive, Boot, Mark, Print, Digest, Cancel}
+use Rattle.vab_model.specs.Commands.{BeginMerge, Merge}
 use Rattle.vab_model.specs.Effects.{Found, Image_is, Refused_by, found_of, steps_of, after_of}
 use Rattle.vab_tables.specs.Rules.{cap_of}
 use Rattle.vab_set.specs.declared.set.SetImage.{SetImage}
@@ -44,24 +43,6 @@ command_of (words.Digest name) = Some (Digest name)
 command_of words.Status = None
 command_of (words.Demo seed scale) = None
 
--- it is one of a verb
-abbrev pub IsVerb : Command → Type 0
-IsVerb (SetActive slot) = Unit {0}
-IsVerb Boot = Unit {0}
-IsVerb Mark = Unit {0}
-IsVerb (Print name) = Unit {0}
-IsVerb (Digest name) = Unit {0}
-IsVerb Begin = ⊥
-IsVerb (Create name size) = ⊥
-IsVerb (Resize name size) = ⊥
-IsVerb (Delete name) = ⊥
-IsVerb (Snapshot name size) = ⊥
-IsVerb (Flash name) = ⊥
-IsVerb Finish = ⊥
-IsVerb Cancel = Unit {0}
-IsVerb BeginMerge = Unit {0}
-IsVerb (Merge blocks) = Unit {0}
-
 -- ---- lines
 
 abbrev pub line : List ℕ → List ℕ
@@ -79,19 +60,9 @@ refused_line refusal = line (codes "refused: " ++ refusal_text refusal)
 abbrev pub done_line : Command → (current left : ℕ) → List ℕ
 done_line (SetActive slot) current left = line (codes "active " ++ slot_letter slot)
 done_line Mark current left = line (codes "marked " ++ slot_letter current)
-done_line Boot current left = line []
-done_line (Print name) current left = line []
-done_line (Digest name) current left = line []
-done_line Begin current left = line []
-done_line (Create name size) current left = line []
-done_line (Resize name size) current left = line []
-done_line (Delete name) current left = line []
-done_line (Snapshot name size) current left = line []
-done_line (Flash name) current left = line []
-done_line Finish current left = line []
 done_line Cancel current left = line (codes "cancelled")
 done_line BeginMerge current left = line (codes "merging, left " ++ decimal left)
-done_line (Merge blocks) current left = line []
+done_line _ current left = line []
 
 -- the line of a reply
 unfoldable pub reply_line : Command → (current left : ℕ) → Reply → List ℕ
@@ -110,13 +81,8 @@ command_line m c =
 
 -- a text, where no command is refused
 abbrev pub unless_refused : Reply → List ℕ → List ℕ
-unless_refused replies.Done text = text
-unless_refused (replies.Booted slot) text = text
-unless_refused (replies.Bytes name) text = text
-unless_refused (replies.Digest sum) text = text
-unless_refused (replies.Left blocks) text = text
-unless_refused replies.Merged text = text
 unless_refused (replies.Refused refusal) text = []
+unless_refused _ text = text
 
 -- the same behind a text, which isn't told of a refusal
 abbrev pub line_behind : (front : List ℕ) → Mounted → Command → List ℕ
@@ -130,20 +96,7 @@ print_told (Refused_by refusal) = refused_line refusal
 -- what is told of a command: the bytes of an image, or its line
 abbrev pub told_of : Mounted → Command → List ℕ
 told_of m (Print name) = print_told (found_of m.state name)
-told_of m (SetActive slot) = command_line m (SetActive slot)
-told_of m Boot = command_line m Boot
-told_of m Mark = command_line m Mark
-told_of m (Digest name) = command_line m (Digest name)
-told_of m Begin = command_line m Begin
-told_of m (Create name size) = command_line m (Create name size)
-told_of m (Resize name size) = command_line m (Resize name size)
-told_of m (Delete name) = command_line m (Delete name)
-told_of m (Snapshot name size) = command_line m (Snapshot name size)
-told_of m (Flash name) = command_line m (Flash name)
-told_of m Finish = command_line m Finish
-told_of m Cancel = command_line m Cancel
-told_of m BeginMerge = command_line m BeginMerge
-told_of m (Merge blocks) = command_line m (Merge blocks)
+told_of m c = command_line m c
 
 -- ---- items
 

@@ -9,7 +9,7 @@ ghost use Rattle.vab_device.specs.Mounted.{Mounted};
 ghost use Rattle.vab_device.specs.Reading.{IsIn, Represents};
 ghost use Rattle.vab_cli.specs.Acts.{PerformsActs, closed_by, command_act, status_in};
 ghost use Rattle.vab_cli.specs.Touched.{IsOfDone};
-ghost use Rattle.vab_cli.specs.Verbs.{IsVerb};
+ghost use Rattle.vab_model.specs.Kinds.{IsVerb};
 
 use crate::Status;
 use crate::line::{put_front, reply_line};

@@ -10,7 +10,7 @@ ghost use Rattle.vab_device.specs.Mounted.{Mounted};
 ghost use Rattle.vab_device.specs.Reading.{device, IsIn};
 ghost use Rattle.vab_cli.specs.Counts.{HearsNothing, IsSteady};
 ghost use Rattle.vab_cli.specs.Verbs.{none_line, command_line, command_item, verb_status};
-ghost use Rattle.vab_cli.specs.Verbs.{IsVerb};
+ghost use Rattle.vab_model.specs.Kinds.{IsVerb};
 ghost use Rattle.vab_cli.specs.Touched.{IsOfVerb};
 ghost use Rattle.vab_cli.specs.Runs.{RunsItem, FailsBefore, RunsNone};
 

@@ -21,7 +21,8 @@ use Rattle.vab_model.specs.Commands.{Resize, Delete, Snapshot, Flash, Finish, Ca
 use Rattle.vab_model.specs.Commands.{Merge}
 use Rattle.vab_device.specs.declared.device.Device.{Device}
 use Rattle.vab_device.specs.declared.device.Part.{Part}
-use Rattle.vab_device.specs.Does.{is_of_merge, KeepsSource}
+use Rattle.vab_device.specs.Does.{KeepsSource}
+use Rattle.vab_model.specs.Kinds.{is_of_merge}
 use Rattle.vab_device.specs.Kept.{IsDevice, copies_end, has_both, has_slot, parts_at}
 use Rattle.vab_device.specs.Reading.{Represents, IsOfImages}
 use Rattle.vab_edit.specs.Writes.{IsOfPhase}
@@ -209,25 +210,13 @@ any_writes g d old s b command t device is w =
         → is_of_merge command ≡ true
         → IsOfCommand g.is_modelled d (g.seen old 4) command s b
         → IsOfUpdates d.geometry s b
-    of_merge (SetActive slot) merge w = absurd cc
-    of_merge Boot merge w = absurd cc
-    of_merge Mark merge w = absurd cc
-    of_merge (Print name) merge w = absurd cc
-    of_merge (Digest name) merge w = absurd cc
-    of_merge Begin merge w = absurd cc
-    of_merge (Create name size) merge w = absurd cc
-    of_merge (Resize name size) merge w = absurd cc
-    of_merge (Delete name) merge w = absurd cc
-    of_merge (Snapshot name size) merge w = absurd cc
-    of_merge (Flash name) merge w = absurd cc
-    of_merge Finish merge w = absurd cc
-    of_merge Cancel merge w = absurd cc
     of_merge BeginMerge merge w = inl (record {
       slot = other_slot d.mark.slot;
       mark = record { phase = marks.Merging; is = w.mark };
     })
     of_merge (Merge blocks) merge w =
         merge_writes d (g.size old) (g.seen old) blocks s b device is w
+    of_merge _ merge w = absurd cc
 
 pub command_changes : {D : Type 0} (g : Ghosts D) (d : Device) (command : Command) (old new : D)
     → g.is_modelled

@@ -4,9 +4,8 @@ use Rattle.vab_bootctl.specs.declared.slots.Control.{Control}
 use Rattle.vab_bootctl.specs.Boot.{activated_of, booted_of, marked_of}
 use Rattle.vab_layout.specs.Slots.{other_slot}
 use Rattle.vab_install.specs.Control.{cleared_of}
-use Rattle.vab_model.specs.Commands.{Command, SetActive, Boot, Mark, Print, Digest, Begin, Create}
-use Rattle.vab_model.specs.Commands.{Resize, Delete, Snapshot, Flash, Finish, Cancel, BeginMerge}
-use Rattle.vab_model.specs.Commands.{Merge}
+use Rattle.vab_model.specs.Commands.{Command, SetActive, Boot, Mark, Begin}
+use Rattle.vab_model.specs.Commands.{Finish}
 use Rattle.vab_manager.specs.Controls.{IsControl}
 
 -- A slot has images where both have, or where it is the source, the mark's slot.
@@ -21,18 +20,9 @@ control_by source a b (SetActive slot) c =
     if (if slot == 0 then a else b) then activated_of c slot else c
 control_by source a b Boot c = booted_of c (a ∷ b ∷ [])
 control_by source a b Mark c = marked_of c
-control_by source a b (Print name) c = c
-control_by source a b (Digest name) c = c
 control_by source a b Begin c = cleared_of c (other_slot source)
-control_by source a b (Create name size) c = c
-control_by source a b (Resize name size) c = c
-control_by source a b (Delete name) c = c
-control_by source a b (Snapshot name size) c = c
-control_by source a b (Flash name) c = c
 control_by source a b Finish c = cleared_of c (other_slot source)
-control_by source a b Cancel c = c
-control_by source a b BeginMerge c = c
-control_by source a b (Merge blocks) c = c
+control_by source a b _ c = c
 
 -- a command, the slot of the mark before it, and whether both slots have images then
 pub record Step : Type 0 where

@@ -4,7 +4,7 @@ use Rattle.vab_disk.specs.declared.disk.Disk.{Ghosts}
 use Rattle.vab_disk.specs.Disk.{IsAt}
 use Rattle.vab_disk.specs.Calls.{Changes}
 use Rattle.vab_marks.specs.declared.mark.MarkPhase.{MarkPhase}
-use Rattle.vab_marks.specs.Mark.{mark_spelling}
+use Rattle.vab_marks.specs.Mark.{mark_spelling, mark_at}
 use Rattle.vab_statuses.specs.Statuses.{IsOfStatuses}
 use Rattle.vab_geometry.specs.declared.geometry.Geometry.{Geometry}
 use Rattle.vab_lpstore.specs.Storing.{IsOfTable}
@@ -18,7 +18,7 @@ use Rattle.vab_commands.specs.Controls.{IsOfControls}
 -- the sector of the update mark, with this slot in some phase
 pub record IsMarkOf (slot s : ℕ) (b : List ℕ) : Type 0 where
   pub phase : MarkPhase
-  pub is : IsAt 2048 (mark_spelling (record { phase = phase; slot = slot })) s b
+  pub is : IsAt 2048 (mark_spelling (mark_at phase slot)) s b
 
 -- a sector of the copies of a slot's table, with its part of a text that fits there
 pub record IsTextOf (g : Geometry) (slot s : ℕ) (b : List ℕ) : Type 0 where

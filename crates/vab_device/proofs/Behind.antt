@@ -25,7 +25,8 @@ use Rattle.vab_device.specs.declared.fault.StartFault.TheVariants.{BadTable}
 use Rattle.vab_device.specs.declared.device.PartImage.{PartImage}
 use Rattle.vab_device.specs.declared.device.PartImage.TheVariants.{Kept, Declared, Written}
 use Rattle.vab_device.specs.Checks.{◌>>=◌}
-use Rattle.vab_device.specs.Kept.{block_sector, sectors_of, part_on, copies_end, super_bytes, lies_in}
+use Rattle.vab_device.specs.Kept.{block_sector, sectors_of, part_on, copies_end, super_bytes}
+use Rattle.vab_device.specs.Kept.{lies_in}
 use Rattle.vab_device.specs.Mounted.{blocks_there, sectors_by}
 use Rattle.vab_device.specs.Phases.{phase_at, store_on, planned_on, planned_image}
 use Rattle.vab_device.specs.Reading.{Read, table_read, table_at, tables_in, table_for, parts_for}
@@ -64,14 +65,17 @@ parts_from first low (p ∷ ps) s le (inr is) = parts_from first low ps s le is
 -- each of these tables' devices begins behind this sector
 abbrev BeginBehind : ℕ → List Table → Type 0
 BeginBehind low [] = Unit {0}
-BeginBehind low (t ∷ ts) = (low ≤ 4096 + (layout_of t).device.first_logical_sector) × BeginBehind low ts
+BeginBehind low (t ∷ ts) = (low ≤ 4096 + (layout_of t).device.first_logical_sector)
+    × BeginBehind low ts
 
 -- the table that was read has a device behind the copies
-read_behind : (size : ℕ) (g : Geometry) (slot : ℕ) (x : Result Table (TableFault × TableFault)) (t : Table)
+read_behind : (size : ℕ) (g : Geometry) (slot : ℕ) (x : Result Table (TableFault × TableFault))
+    (t : Table)
     → table_read size g slot x ≡ Ok t
     → copies_end g ≤ 512 * (layout_of t).device.first_logical_sector
 read_behind size g slot (Err faults) t is =
-    absurd (let bad : (let r : Result Table StartFault = Err (BadTable slot) in r ≡ Ok t) = is in cc)
+    absurd (let bad : (let r : Result Table StartFault = Err (BadTable slot) in r ≡ Ok t) = is in
+    cc)
 read_behind size g slot (Ok u) t is = elim (cases_Bool (lies_in size g (layout_of u).device)) [
   | inl lies ↦
       let same : (let r : Result Table StartFault = Ok u in r ≡ Ok t) = rw lies at is in
@@ -82,7 +86,8 @@ read_behind size g slot (Ok u) t is = elim (cases_Bool (lies_in size g (layout_o
       subst (λ (x : Table). copies_end g ≤ 512 * (layout_of x).device.first_logical_sector) e
       (leb-true (copies_end g) (512 * (layout_of u).device.first_logical_sector) both.1)
   | inr fails ↦
-      let bad : (let r : Result Table StartFault = Err (BadTable slot) in r ≡ Ok t) = rw fails at is in
+      let bad : (let r : Result Table StartFault = Err (BadTable slot) in r ≡ Ok t) =
+      rw fails at is in
       absurd cc
 ]
 
@@ -288,7 +293,8 @@ phase_plan_from low slot marks.Idle ts ss s begin is = absurd is
 phase_plan_from low slot marks.Installing [] ss s begin is = absurd is
 phase_plan_from low slot marks.Installing (t ∷ []) ss s begin is = absurd is
 phase_plan_from low slot marks.Installing (t ∷ u ∷ ts) ss s begin is =
-    planned_from low (layout_of u) ss (own_parts (other_slot slot) (layout_of u).parts) s begin.1.0 is
+    planned_from low (layout_of u) ss (own_parts (other_slot slot) (layout_of u).parts) s begin.1.0
+    is
 phase_plan_from low slot marks.Staged ts ss s begin is = absurd is
 phase_plan_from low slot marks.Merging ts ss s begin is = absurd is
 phase_plan_from low slot marks.Completed ts ss s begin is = absurd is

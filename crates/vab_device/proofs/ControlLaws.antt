@@ -95,7 +95,8 @@ module _
       elsewhere s (λ e. omega (
         arith,
         e,
-        tables_from is.read.geometry ((phase_at is.read.mark.phase).tables is.read.mark.slot) s there,
+        tables_from is.read.geometry ((phase_at is.read.mark.phase).tables is.read.mark.slot) s
+            there,
       ))
 
   of_images : (slot : ℕ) (parts : Option (List Part))
@@ -125,7 +126,8 @@ module _
         (elsewhere 4112 (λ e. omega (arith, e)))
         ∙ is.reads.geometry;
     tables =
-        tables_agree size is.read.geometry ((phase_at is.read.mark.phase).tables is.read.mark.slot) old gated
+        tables_agree size is.read.geometry ((phase_at is.read.mark.phase).tables is.read.mark.slot)
+        old gated
         of_tables
         ∙ is.reads.tables;
     parts = is.reads.parts;

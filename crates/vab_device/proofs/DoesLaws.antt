@@ -14,7 +14,7 @@ use Rattle.vab_gate.specs.declared.gate.DiskFault.{DiskFault}
 use Rattle.vab_model.specs.declared.command.Reply.{Reply}
 use Rattle.vab_model.specs.Commands.{Command}
 use Rattle.vab_model.specs.Effects.{Effect, answers, does, steps_of, after_of, IsOneOf}
-use Rattle.vab_model.specs.Effects.{unless_refused}
+use Rattle.vab_model.specs.Effects.{wanting, unless_refused}
 use Rattle.vab_device.specs.declared.device.Device.{Device}
 use Rattle.vab_device.specs.Does.{LeavesStep, effect_of, KeepsSource, Follows, Does}
 use Rattle.vab_device.specs.Kept.{IsDevice}
@@ -58,11 +58,11 @@ on_ok_map (Ok x) P Q f is = f is
 on_ok_map (Err e) P Q f is = tt
 
 -- what is done has a device behind it
-pub step_follows : {e : Effect Mounted} {reply : Reply} {next : Mounted}
-    → e ≡ does reply next
+pub step_follows : {e : Effect Mounted} {wants : Bool} {reply : Reply} {next : Mounted}
+    → e ≡ wanting wants (does reply next)
     → e.later ≡ []
     → ⊥
-step_follows {e} {reply} {next} is none =
+step_follows {e} {wants} {reply} {next} is none =
     let both : next ∷ [] ≡ [] = sym (ap (λ (x : Effect Mounted). x.later) is) ∙ none in cc
 
 module _ {D : Type 0} (g : Ghosts D) (d : Device) (staged : Option (List ℕ)) (command : Command)
@@ -79,14 +79,14 @@ module _ {D : Type 0} (g : Ghosts D) (d : Device) (staged : Option (List ℕ)) (
       adds_wider g.moment g.outcomes old new _ P (reads.time t) (λ o none. absurd none)
 
   -- it is refused
-  pub does_nothing : (refused : Bool) (reply : Reply) (old new : D)
+  pub does_nothing : (refused : Bool) (reply : Reply) (old new : D) {wants : Bool}
       → IsDevice d (g.size old)
       → (g.is_modelled → Represents d (g.size old) (g.seen old))
-      → (g.is_modelled → effect_of g d staged command refused old ≡ answers reply)
+      → (g.is_modelled → effect_of g d staged command refused old ≡ wanting wants (answers reply))
       → OnlyReads g old new
       → g.faults new ≡ g.faults old
       → Does g d staged command W old new (Ok (d, reply))
-  does_nothing refused reply old new kept is told reads counts = record {
+  does_nothing refused reply old new {wants} kept is told reads counts = record {
     refused = refused;
     kept = kept;
     follows = follows_kept d command d (keeps_all d);
@@ -152,14 +152,14 @@ module _ {D : Type 0} (g : Ghosts D) (d : Device) (staged : Option (List ℕ)) (
             IfOk r
             (λ x. mounted_on x.0 (g.seen new)
             ≡ after_of (mounted_on d i)
-            (unless_refused later.refused command (effect_on (mounted_on d i) staged command))))
+            (unless_refused later.refused (effect_on (mounted_on d i) staged command))))
             (reads.seen t) (later.after t);
         reply = λ t.
             subst
             (λ (i : Image).
             IfOk r
             (λ x. x.1
-            ≡ (unless_refused later.refused command
+            ≡ (unless_refused later.refused
             (effect_on (mounted_on d i) staged command)).reply))
             (reads.seen t) (later.reply t);
         rest = λ t rest. later.rest t (rests old mid reads t rest);
@@ -170,7 +170,7 @@ module _ {D : Type 0} (g : Ghosts D) (d : Device) (staged : Option (List ℕ)) (
             (later.still t
             (subst
             (λ (i : Image).
-            (unless_refused later.refused command
+            (unless_refused later.refused
             (effect_on (mounted_on d i) staged command)).later
             ≡ [])
             (sym (reads.seen t)) none));
@@ -187,7 +187,7 @@ module _ {D : Type 0} (g : Ghosts D) (d : Device) (staged : Option (List ℕ)) (
                   (λ (i : Image).
                   IsOneOf
                   (steps_of (mounted_on d i)
-                  (unless_refused later.refused command
+                  (unless_refused later.refused
                   (effect_on (mounted_on d i) staged command)))
                   leaves.mounted)
                   (reads.seen t) leaves.step;
@@ -254,10 +254,10 @@ module _ {D : Type 0} (g : Ghosts D) (d : Device) (staged : Option (List ℕ)) (
     }
 
     -- then it writes one sector by a gate
-    module _ (new : D) (next : Device) (reply : Reply) (at : ℕ) (bytes : List ℕ)
+    module _ (new : D) (next : Device) (reply : Reply) (at : ℕ) (bytes : List ℕ) {wants : Bool}
         (effect : g.is_modelled
         → effect_on (mounted_on d (g.seen old)) staged command
-        ≡ does reply (mounted_on next (set_sector (g.seen mid) at bytes)))
+        ≡ wanting wants (does reply (mounted_on next (set_sector (g.seen mid) at bytes))))
         (represents : g.is_modelled
         → Represents next (g.size old) (set_sector (g.seen mid) at bytes))
         (gate : g.is_modelled

@@ -56,7 +56,8 @@ module _
       → geometry_at size image ≡ Err f
       → device size image ≡ Err f
   idle_no_geometry c f control geometry =
-      device_no_geometry size image m [] c f enough mark statuses (control_is (Ok c) control) geometry
+      device_no_geometry size image m [] c f enough mark statuses (control_is (Ok c) control)
+      geometry
 
   tables_are : (g : Geometry) (x : Result (List Table) StartFault)
       → tables_in size g (m.slot ∷ []) image ≡ x
@@ -69,7 +70,8 @@ module _
       → table_at size g m.slot image ≡ Err f
       → device size image ≡ Err f
   idle_no_table c g f control geometry table =
-      device_no_tables size image m [] c g f enough mark statuses (control_is (Ok c) control) geometry
+      device_no_tables size image m [] c g f enough mark statuses (control_is (Ok c) control)
+      geometry
       (tables_are g (Err f)
       (ap (λ x. x >>= λ t. tables_in size g [] image >>= λ ts. Ok (t ∷ ts)) table))
 

@@ -13,6 +13,7 @@ pub mod StayLaws
 pub mod Steps
 pub mod StoreLaws
 pub mod UpdateLaws
+pub mod WantLaws
 pub mod PhaseCases
 pub mod PartBlocks
 pub mod NamedParts

@@ -128,7 +128,8 @@ reads_of size r image ss reads parts stores state = record {
 
 pub control_seen_in : (a b : Bool) (image : Image) (c : Control)
     → control_of (image 4) ≡ Ok c
-    → (let seen : Result Control StartFault = control_read a b (Ok c) in control_in a b image ≡ seen)
+    → (let seen : Result Control StartFault = control_read a b (Ok c) in control_in a b image
+    ≡ seen)
 unfolding control_in
 control_seen_in a b image c is = ap (control_read a b) is
 

@@ -45,7 +45,8 @@ each_distinct (p ∷ ps) h = All-cons (λ (q : PartOfLayout). IsDistinct q.block
     (pairs_left p.blocks (blocks_of_parts ps) h)
     (each_distinct ps (pairs_right p.blocks (blocks_of_parts ps) h))
 
-pub length-sectors_of : (first : ℕ) (blocks : List ℕ) → length (sectors_of first blocks) ≡ length blocks
+pub length-sectors_of : (first : ℕ) (blocks : List ℕ)
+    → length (sectors_of first blocks) ≡ length blocks
 unfolding sectors_of
 length-sectors_of first blocks = length-map blocks (λ b. 4096 + first + 8 * b)
 

@@ -112,11 +112,27 @@ framed_was size m image r enough mark is =
     r ss.2 in
     let g = bound (geometry_at size image)
     (λ g. tables_in size g (p.tables m.slot) image >>= λ ts.
-    Ok (record { mark = m; statuses = ss.0; control = c.0; geometry = g; tables = ts; scanned = [] }))
+    Ok (record {
+      mark = m;
+      statuses = ss.0;
+      control = c.0;
+      geometry = g;
+      tables = ts;
+      scanned =
+          [];
+    }))
     r c.2 in
     let ts = bound (tables_in size g.0 (p.tables m.slot) image)
     (λ ts.
-    Ok (record { mark = m; statuses = ss.0; control = c.0; geometry = g.0; tables = ts; scanned = [] }))
+    Ok (record {
+      mark = m;
+      statuses = ss.0;
+      control = c.0;
+      geometry = g.0;
+      tables = ts;
+      scanned =
+          [];
+    }))
     r g.2 in
     let read : Read = record {
       mark = m;
@@ -138,7 +154,9 @@ framed_was size m image r enough mark is =
       tables = ts.1;
     })
 
-frame_was : (size : ℕ) (image : Image) (r : Read) → frame size image ≡ Ok r → FrameReads size image r
+frame_was : (size : ℕ) (image : Image) (r : Read)
+    → frame size image ≡ Ok r
+    → FrameReads size image r
 unfolding frame
 frame_was size image r is = elim (cases_Bool (nat_le 4120 size)) [
   | inl enough ↦
@@ -216,7 +234,8 @@ device_was size image m is =
     let same : mounted_on (kept last.0) image ≡ m = cc in
     record {
       read = mid.0;
-      reads = read_was size image first.0 mid.0 (frame_was size image first.0 first.1) parts.0 scanned
+      reads = read_was size image first.0 mid.0 (frame_was size image first.0 first.1) parts.0
+          scanned
           state.0;
       is = sym same ∙ ap (λ (x : Read). mounted_on (kept x) image) (sym state.1);
     }
@@ -443,7 +462,7 @@ idle_read_of size r image reads none =
         → (p ≡ marks.Installing) ⊎ (p ≡ marks.Staged) ⊎ (p ≡ marks.Merging)
         → (ts : List Table)
         → tables_in size r.geometry ((phase_at p).tables r.mark.slot) image ≡ Ok ts
-        → phase_by (record { phase = p; slot = r.mark.slot }) left
+        → phase_by (record r.mark { phase = p }) left
         (entries_on image ((phase_at p).plan r.mark.slot ts r.scanned))
         ≡ phases.Idle
         → ⊥
@@ -452,12 +471,12 @@ idle_read_of size r image reads none =
     by_phase marks.Idle (inr (inr e)) ts read is = cc
     by_phase marks.Installing e ts read is =
         let two = tables_two size r.geometry r.mark.slot (other_slot r.mark.slot) image ts read in
-        let there : phase_by (record { phase = marks.Installing; slot = r.mark.slot }) left
+        let there : phase_by (record r.mark { phase = marks.Installing }) left
         (entries_on image (installing.plan r.mark.slot (two.0 ∷ two.1 ∷ []) r.scanned))
         ≡ phases.Idle =
         subst
         (λ (ts : List Table).
-        phase_by (record { phase = marks.Installing; slot = r.mark.slot }) left
+        phase_by (record r.mark { phase = marks.Installing }) left
         (entries_on image (installing.plan r.mark.slot ts r.scanned))
         ≡ phases.Idle)
         two.2 is in

@@ -29,7 +29,10 @@ use Rattle.vab_device.proofs.Behind.{images_behind, stores_behind, plan_behind}
 abbrev pub end_of : Geometry → ℕ → ℕ
 end_of g slot = backup_of g slot + copy_sectors g
 
-pub ends_within : (g : Geometry) (slot : ℕ) → IsGeometry g → slot < 2 → 512 * (end_of g slot - 4096) ≤ copies_end g
+pub ends_within : (g : Geometry) (slot : ℕ)
+    → IsGeometry g
+    → slot < 2
+    → 512 * (end_of g slot - 4096) ≤ copies_end g
 ends_within g slot is below =
     let whole : 512 * (g.max / 512) ≡ g.max = omega (arith, is.sectors) in
     let second = backup_byte g slot is in
@@ -62,12 +65,14 @@ module _
   -- the backups stand behind both primaries
   backups : k * c + c ≤ (g.slots + j) * c
   backups =
-      let more : (k + 1) * c ≤ (g.slots + j) * c = mul-le-mul_right c (omega (arith, k_below, two)) in
+      let more : (k + 1) * c ≤ (g.slots + j) * c =
+      mul-le-mul_right c (omega (arith, k_below, two)) in
       omega (arith, more)
 
   backups_too : j * c + c ≤ (g.slots + k) * c
   backups_too =
-      let more : (j + 1) * c ≤ (g.slots + k) * c = mul-le-mul_right c (omega (arith, j_below, two)) in
+      let more : (j + 1) * c ≤ (g.slots + k) * c =
+      mul-le-mul_right c (omega (arith, j_below, two)) in
       omega (arith, more)
 
   pub primary_kept : primary_bytes g j new ≡ primary_bytes g j old

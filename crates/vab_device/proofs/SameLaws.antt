@@ -1,4 +1,5 @@
--- What is read the same: where live sectors stay, where copies of tables are written, and where boot
+-- What is read the same: where live sectors stay, where copies of tables are written, and where
+-- boot
 -- control is.
 use Rattle.std.proofs.Common.{◌≡◌, ◌∙◌, inl, inr, ⊎_elim, ℕ, ◌+◌}
 use Rattle.std.proofs.Common.{List, [], ◌∷◌, Ok, refl, ap}
@@ -12,7 +13,8 @@ use Rattle.vab_marks.specs.Mark.{mark_of}
 use Rattle.vab_geometry.specs.declared.geometry.Geometry.{Geometry}
 use Rattle.vab_geometry.specs.Reading.{geometry_of}
 use Rattle.vab_geometry.specs.Loading.{geometry_in, first_of}
-use Rattle.vab_lpstore.specs.Layout.{copy_sectors, primary_of, backup_of, primary_bytes, backup_bytes}
+use Rattle.vab_lpstore.specs.Layout.{copy_sectors, primary_of, backup_of, primary_bytes}
+use Rattle.vab_lpstore.specs.Layout.{backup_bytes}
 use Rattle.vab_lpstore.specs.Loading.{slot_table}
 use Rattle.vab_lpstore.specs.Loading as loading
 use Rattle.vab_tables.specs.Reading.{table_of}
@@ -34,7 +36,9 @@ pub mark_same : (old new : Image) → new 2048 ≡ old 2048 → mark_in new ≡ 
 unfolding mark_in
 mark_same old new same = ap (λ b. mark_read (mark_of b)) same
 
-pub control_same : (a b : Bool) (old new : Image) → new 4 ≡ old 4 → control_in a b new ≡ control_in a b old
+pub control_same : (a b : Bool) (old new : Image)
+    → new 4 ≡ old 4
+    → control_in a b new ≡ control_in a b old
 unfolding control_in
 control_same a b old new same = ap (λ x. control_read a b (control_of x)) same
 

@@ -1,14 +1,17 @@
 -- Stores whose sectors stay are read the same.
 use Rattle.std.proofs.Common.{◌≡◌, ◌∙◌, inl, inr, ℕ, zero, suc, ◌+◌, ◌/◌, ◌%◌, ◌<◌, List}
-use Rattle.std.proofs.Common.{[], ◌∷◌, length, take, slice_index, Result, Ok, Err, refl, sym, ap, arith}
+use Rattle.std.proofs.Common.{[], ◌∷◌, length, take, slice_index, Result, Ok, Err, refl, sym, ap}
+use Rattle.std.proofs.Common.{arith}
 use Rattle.std.specs.Prelude.{Bool, true, false, map, Option, Some, None}
 use Rattle.vab_disk.specs.Disk.{Image}
 use Rattle.vab_disk.specs.Calls.{IsBetween}
 use Rattle.vab_exceptions.specs.declared.area.Exception.{Exception}
 use Rattle.vab_exceptions.specs.Entries.{area_entries, entry_at}
 use Rattle.vab_exceptions.specs.Header.{header_of}
+use Rattle.vab_space.specs.declared.Chunk.TheVariants.{One}
 use Rattle.vab_store.specs.declared.fault.StoreFault.{StoreFault}
-use Rattle.vab_store.specs.Layout.{chunk_bytes, area_chunk, slot_at, slots_of}
+use Rattle.vab_space.specs.Chunks.{area_chunk}
+use Rattle.vab_store.specs.Layout.{chunk_bytes, slot_at, slots_of}
 use Rattle.vab_store.specs.Scan.{scan_of}
 use Rattle.vab_store.proofs.ChunkLaws.{chunk_same}
 use Rattle.vab_store.proofs.ScanLaws.{scan_of_is, scan_of_ok}
@@ -53,17 +56,17 @@ module _
   chunk_kept c below = chunk_same store old new c (λ s is. same s (in_blocks store c s below is))
 
   slot_kept : (t : ℕ)
-      → t < slots_of area_entries store
-      → slot_at area_entries store new t ≡ slot_at area_entries store old t
+      → t < slots_of One store
+      → slot_at One store new t ≡ slot_at One store old t
   unfolding slot_at
   slot_kept t below =
-      let within : area_chunk area_entries (t / area_entries) < length store = omega (arith, below) in
+      let within : area_chunk One (t / area_entries) < length store = omega (arith, below) in
       ap (λ bytes. entry_at bytes (t % area_entries))
-      (chunk_kept (area_chunk area_entries (t / area_entries)) within)
+      (chunk_kept (area_chunk One (t / area_entries)) within)
 
   pub scan_kept : (bound : ℕ) (es : List Exception)
-      → scan_of store bound old ≡ Ok es
-      → scan_of store bound new ≡ Ok es
+      → scan_of One store bound old ≡ Ok es
+      → scan_of One store bound new ≡ Ok es
   scan_kept bound es is =
       let was = scan_of_ok store bound old es is in
       scan_of_is store bound new es (record {
@@ -83,7 +86,8 @@ scan_taken : (w : Wanted) (x : Result (List Exception) StoreFault) (s : Scanned)
     → (es : List Exception) × (x ≡ Ok es)
 scan_taken w (Ok es) s is = (es, refl)
 scan_taken w (Err fault) s is =
-    absurd (let bad : (let r : Result Scanned StartFault = Err (BadStore w.name) in r ≡ Ok s) = is in cc)
+    absurd (let bad : (let r : Result Scanned StartFault = Err (BadStore w.name) in r ≡ Ok s) =
+    is in cc)
 
 store_kept : (w : Wanted) (old new : Image) (s : Scanned)
     → ((s : ℕ) → IsOfBlocks w.store s → new s ≡ old s)
@@ -91,7 +95,7 @@ store_kept : (w : Wanted) (old new : Image) (s : Scanned)
     → scan_at w new ≡ scan_at w old
 unfolding scan_at
 store_kept w old new s same is =
-    let taken = scan_taken w (scan_of w.store (length w.base) old) s is in
+    let taken = scan_taken w (scan_of One w.store (length w.base) old) s is in
     let new_is = scan_kept w.store old new same (length w.base) taken.0 taken.1 in
     ap (scan_read w) (new_is ∙ sym taken.1)
 

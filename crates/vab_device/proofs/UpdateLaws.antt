@@ -9,6 +9,7 @@ use Rattle.vab_tables.specs.declared.table.Table.{Table}
 use Rattle.vab_device.specs.declared.device.Device.{Device}
 use Rattle.vab_device.specs.Reading.{Read, kept}
 use Rattle.vab_device.specs.Stores.{Scanned}
+use Rattle.vab_marks.specs.Mark.{mark_at}
 
 -- what is read where there is an update
 abbrev pub update_read : MarkPhase
@@ -21,7 +22,7 @@ abbrev pub update_read : MarkPhase
     → List Scanned
     → Read
 update_read phase slot ss c g t u scanned = record {
-  mark = record { phase = phase; slot = slot };
+  mark = mark_at phase slot;
   statuses = ss;
   control = c;
   geometry = g;

@@ -1,14 +1,13 @@
 -- What is promised of a command on a device.
-use Rattle.std.specs.Prelude.{◌≡◌, ℕ, Bool, true, false, List, [], Option, Result, Ok, IfOk, OnOk}
+use Rattle.std.specs.Prelude.{◌≡◌, ℕ, Bool, false, List, [], Option, Result, Ok, IfOk, OnOk}
 use Rattle.vab_disk.specs.declared.disk.Disk.{Ghosts}
 use Rattle.vab_disk.specs.Disk.{Outcome, Adds}
 use Rattle.vab_disk.specs.Calls.{FailsWithDisk, IsAtRest, IsQuiet, OnlyReads, Touches}
 use Rattle.vab_gate.specs.declared.gate.DiskFault.{DiskFault}
 use Rattle.vab_model.specs.declared.command.Reply.{Reply}
-use Rattle.vab_model.specs.Commands.{Command, SetActive, Boot, Mark, Print, Digest, Begin, Create}
-use Rattle.vab_model.specs.Commands.{Resize, Delete, Snapshot, Flash, Finish, Cancel, BeginMerge}
-use Rattle.vab_model.specs.Commands.{Merge}
+use Rattle.vab_model.specs.Commands.{Command}
 use Rattle.vab_model.specs.Effects.{Effect, steps_of, after_of, IsOneOf, unless_refused}
+use Rattle.vab_model.specs.Kinds.{is_of_merge}
 use Rattle.vab_device.specs.declared.device.Device.{Device}
 use Rattle.vab_device.specs.Kept.{IsDevice, parts_at}
 use Rattle.vab_device.specs.Mounted.{Mounted, mounted_on}
@@ -33,7 +32,7 @@ abbrev pub effect_of : {D : Type 0}
     → D
     → Effect Mounted
 effect_of g d staged command refused old =
-    unless_refused refused command (effect_on (mounted_on d (g.seen old)) staged command)
+    unless_refused refused (effect_on (mounted_on d (g.seen old)) staged command)
 
 -- What no command but a merge takes from a device: where the tables stand, the slot of the update
 -- mark, and the partitions of that slot.
@@ -41,24 +40,6 @@ pub record KeepsSource (d next : Device) : Type 0 where
   pub geometry : next.geometry ≡ d.geometry
   pub slot : next.mark.slot ≡ d.mark.slot
   pub parts : parts_at next d.mark.slot ≡ parts_at d d.mark.slot
-
--- a command that gives up the images of a source, or changes where those of the target are read
-abbrev pub is_of_merge : Command → Bool
-is_of_merge (SetActive slot) = false
-is_of_merge Boot = false
-is_of_merge Mark = false
-is_of_merge (Print name) = false
-is_of_merge (Digest name) = false
-is_of_merge Begin = false
-is_of_merge (Create name size) = false
-is_of_merge (Resize name size) = false
-is_of_merge (Delete name) = false
-is_of_merge (Snapshot name size) = false
-is_of_merge (Flash name) = false
-is_of_merge Finish = false
-is_of_merge Cancel = false
-is_of_merge BeginMerge = true
-is_of_merge (Merge blocks) = true
 
 -- What a command keeps of a device: where the tables stand, and unless it is one of a merge the
 -- rest of the source.

@@ -6,9 +6,10 @@ use Rattle.vab_disk.specs.Disk.{Image}
 use Rattle.vab_names.specs.Names.{store_of}
 use Rattle.vab_marks.specs.declared.status.PartStatus.{PartStatus}
 use Rattle.vab_exceptions.specs.declared.area.Exception.{Exception}
+use Rattle.vab_space.specs.declared.Chunk.TheVariants.{One}
 use Rattle.vab_store.specs.declared.fault.StoreFault.{StoreFault}
 use Rattle.vab_store.specs.Scan.{scan_of}
-use Rattle.vab_store.specs.View.{view_of}
+use Rattle.vab_store.specs.View.{stored_at}
 use Rattle.vab_layout.specs.declared.layout.Part.{Part as PartOfLayout}
 use Rattle.vab_layout.specs.declared.layout.Layout.{Layout}
 use Rattle.vab_layout.specs.Slots.{own_parts}
@@ -78,7 +79,7 @@ scan_read w (Ok es) =
 scan_read w (Err fault) = Err (BadStore w.name)
 
 unfoldable pub scan_at : Wanted → Image → Result Scanned StartFault
-scan_at w image = scan_read w (scan_of w.store (length w.base) image)
+scan_at w image = scan_read w (scan_of One w.store (length w.base) image)
 
 -- those of all stores, or the first fault
 abbrev pub scans_in : List (Result Wanted StartFault) → Image → Result (List Scanned) StartFault
@@ -107,4 +108,4 @@ sector_seen store own None = own
 abbrev pub sectors_seen : List ℕ → List Exception → ℕ → List ℕ → List ℕ
 sectors_seen store es n [] = []
 sectors_seen store es n (own ∷ owns) =
-    sector_seen store own (view_of es n) ∷ sectors_seen store es (n + 1) owns
+    sector_seen store own (stored_at One es n) ∷ sectors_seen store es (n + 1) owns

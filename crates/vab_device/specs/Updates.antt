@@ -35,7 +35,7 @@ use Rattle.vab_model.specs.declared.command.Reply.TheVariants as replies
 use Rattle.vab_model.specs.Commands.{Command, SetActive, Boot, Mark, Print, Digest, Begin, Create}
 use Rattle.vab_model.specs.Commands.{Resize, Delete, Snapshot, Flash, Finish, Cancel, BeginMerge}
 use Rattle.vab_model.specs.Commands.{Merge}
-use Rattle.vab_model.specs.Effects.{Effect, refuses, does, effect, effect_map}
+use Rattle.vab_model.specs.Effects.{Effect, refuses, does, wanting, effect, effect_map}
 use Rattle.vab_model.specs.State.{images_at, image_named, control_seen}
 use Rattle.vab_device.specs.Kept.{group_of}
 use Rattle.vab_device.specs.Mounted.{Mounted, Places, in_state}
@@ -51,9 +51,8 @@ image_or true (Some image) = image
 
 -- what was written to a partition, where something was
 abbrev pub if_written : PlanImage → Option PlanImage
-if_written Kept = None
-if_written Declared = None
 if_written (Written bytes count) = Some (Written bytes count)
+if_written _ = None
 
 -- the entry of this base name
 abbrev pub entry_named : List ℕ → List PlanEntry → Option PlanEntry
@@ -114,14 +113,26 @@ refusal_of (faults.NoRoom used cap) = refusals.NoRoom used cap
 refusal_of (faults.TableFull size most) = refusals.TableFull size most
 refusal_of faults.NoMemory = refusals.NoMemory
 
+-- the text of a table is too long
+abbrev pub is_full_table : EditFault → Bool
+is_full_table (faults.TableFull size most) = true
+is_full_table _ = false
+
+-- In place of a new table, or of one that is full, memory may be refused.
+abbrev pub wants_for : Result Layout EditFault → Bool
+wants_for (Ok l) = true
+wants_for (Err fault) = is_full_table fault
+
 -- the target's new table, or why there is none
 abbrev pub table_effect : Mounted
     → (source : ℕ)
     → List PlanEntry
     → Result Layout EditFault
     → Effect Mounted
-table_effect m source plan (Ok l) = does replies.Done (installing_with m source plan l)
-table_effect m source plan (Err fault) = refuses (refusal_of fault)
+table_effect m source plan (Ok l) =
+    wanting true (does replies.Done (installing_with m source plan l))
+table_effect m source plan (Err fault) =
+    wanting (is_full_table fault) (refuses (refusal_of fault))
 
 -- ---- the begin of an update
 
@@ -134,9 +145,7 @@ begun_effect m source (Some l) =
 abbrev pub begin_effect : Mounted → Phase → Effect Mounted
 begin_effect m Idle =
     begun_effect m m.state.control.current (layout_at m.places m.state.control.current)
-begin_effect m (Installing source plan) = refuses refusals.NotIdle
-begin_effect m (Staged source left) = refuses refusals.NotIdle
-begin_effect m (Merging target left) = refuses refusals.NotIdle
+begin_effect m _ = refuses refusals.NotIdle
 
 -- ---- edits
 
@@ -158,13 +167,11 @@ edited_effect m source plan edit (Some s) (Some t) =
     table_effect m source plan (if_fitting m.places.geometry.max (edit (other_slot source) s t))
 
 abbrev pub edit_effect : Mounted → EditOf → Phase → Effect Mounted
-edit_effect m edit Idle = refuses refusals.NotInstalling
 edit_effect m edit (Installing source plan) =
     edited_effect m source plan edit
     (layout_at m.places source)
     (layout_at m.places (other_slot source))
-edit_effect m edit (Staged source left) = refuses refusals.NotInstalling
-edit_effect m edit (Merging target left) = refuses refusals.NotInstalling
+edit_effect m edit _ = refuses refusals.NotInstalling
 
 -- the edits
 abbrev pub create_edit : List ℕ → ℕ → EditOf
@@ -220,12 +227,12 @@ with_image name image plan =
 
 abbrev pub flashed : Mounted → (source : ℕ) → List PlanEntry → PlanEntry → List ℕ → ℕ
     → Effect Mounted
-flashed m source plan e staged n = does replies.Done (record m {
+flashed m source plan e staged n = wanting true (does replies.Done (record m {
   state = record m.state {
     phase =
         Installing source (with_image e.name (Written (filled staged e.blocks) n) plan);
   };
-})
+}))
 
 -- a store of so many blocks takes that many exceptions, or is full
 abbrev pub if_room : Mounted → (source : ℕ) → List PlanEntry → PlanEntry → (store : ℕ) → List ℕ
@@ -266,13 +273,11 @@ entry_effect m source plan staged (Some e) = stored_effect m source plan e stage
 
 -- the staged bytes become the image of a partition
 abbrev pub flash_effect : Mounted → Option (List ℕ) → List ℕ → Phase → Effect Mounted
-flash_effect m staged name Idle = refuses refusals.NotInstalling
 flash_effect m staged name (Installing source plan) =
     if is_full (other_slot source) name
     then entry_effect m source plan staged (entry_named (base_of name) plan)
     else refuses refusals.BadName
-flash_effect m staged name (Staged source left) = refuses refusals.NotInstalling
-flash_effect m staged name (Merging target left) = refuses refusals.NotInstalling
+flash_effect m staged name _ = refuses refusals.NotInstalling
 
 -- ---- an update that is dropped
 
@@ -309,9 +314,8 @@ lesser None name = Some name
 lesser (Some least) name = if is_lt (slice_cmp nat_cmp name least) then Some name else Some least
 
 abbrev pub declared_name : Option (List ℕ) → List ℕ → PlanImage → Option (List ℕ)
-declared_name least name Kept = least
 declared_name least name Declared = lesser least name
-declared_name least name (Written bytes count) = least
+declared_name least name _ = least
 
 -- the least base name of these partitions that are declared and not written, and of that one
 abbrev pub least_declared : Option (List ℕ) → List PlanEntry → Option (List ℕ)
@@ -320,9 +324,8 @@ least_declared least (e ∷ es) = least_declared (declared_name least e.name e.i
 
 -- how many exceptions all stores have
 abbrev pub written_count : PlanImage → ℕ
-written_count Kept = 0
-written_count Declared = 0
 written_count (Written bytes count) = count
+written_count _ = 0
 
 abbrev pub plan_count : List PlanEntry → ℕ
 plan_count [] = 0
@@ -366,11 +369,9 @@ complete_effect m source plan None = does replies.Done (finished m source plan)
 complete_effect m source plan (Some name) = refuses (refusals.Incomplete name)
 
 abbrev pub finish_effect : Mounted → Phase → Effect Mounted
-finish_effect m Idle = refuses refusals.NotInstalling
 finish_effect m (Installing source plan) =
     complete_effect m source plan (least_declared None plan)
-finish_effect m (Staged source left) = refuses refusals.NotInstalling
-finish_effect m (Merging target left) = refuses refusals.NotInstalling
+finish_effect m _ = refuses refusals.NotInstalling
 
 -- ---- a merge that begins
 
@@ -383,15 +384,13 @@ merging_from m source left = record {
 }
 
 abbrev pub begin_merge_effect : Mounted → Phase → Effect Mounted
-begin_merge_effect m Idle = refuses refusals.NotStaged
-begin_merge_effect m (Installing source plan) = refuses refusals.NotStaged
 begin_merge_effect m (Staged source left) =
     if m.state.control.current == source
     then refuses refusals.NotRunningTarget
     else if (info_at m.state.control (other_slot source)).successful
     then does replies.Done (merging_from m source left)
     else refuses refusals.NotSuccessful
-begin_merge_effect m (Merging target left) = refuses refusals.NotStaged
+begin_merge_effect m _ = refuses refusals.NotStaged
 
 -- ---- its turns
 
@@ -416,13 +415,12 @@ merge_reply blocks left =
     if nat_le blocks left then replies.Left (left - blocks) else replies.Merged
 
 abbrev pub merge_effect : Mounted → (blocks : ℕ) → Phase → Effect Mounted
-merge_effect m blocks Idle = refuses refusals.NotMerging
-merge_effect m blocks (Installing source plan) = refuses refusals.NotMerging
-merge_effect m blocks (Staged source left) = refuses refusals.NotMerging
 merge_effect m blocks (Merging target left) = record {
   reply = merge_reply blocks left;
   later = turns blocks m target left;
+  wants = false;
 }
+merge_effect m blocks _ = refuses refusals.NotMerging
 
 -- ---- the table of effects
 

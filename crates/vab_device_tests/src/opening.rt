@@ -14,6 +14,7 @@ use vab_gate::DiskFault;
 use vab_geometry::{Geometry, encode_geometry};
 use vab_marks::{MarkPhase, PartStatus, UpdateMark, encode_mark, encode_status};
 use vab_recover::start;
+use vab_space::Chunk;
 
 const SECTORS: u64 = 8192;
 
@@ -235,7 +236,7 @@ pub(crate) fn with_store(
         (TABLE + 1, second),
         (TABLE_BACKUP, first),
         (TABLE_BACKUP + 1, second),
-        (STORE, encode_store_header()),
+        (STORE, encode_store_header(Chunk::One)),
         (AREA, area),
     ];
     put_each(&mut d, &sectors)?;

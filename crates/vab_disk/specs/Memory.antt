@@ -1,6 +1,9 @@
 -- What a port in memory holds, by the calls that took effect, the newest first.
-use Rattle.std.specs.Prelude.{◌≡◌, ◌⊎◌, ℕ, ◌+◌, ◌≤◌, ◌<◌, List, [], ◌∷◌, ◌++◌, length, take, drop}
+use Rattle.std.specs.Prelude.{◌≡◌, ◌⊎◌, ℕ, ◌+◌, ◌≤◌, List, [], ◌∷◌, ◌++◌, length, take, drop}
 use Rattle.std.specs.Prelude.{reverse, replicate, nat_lt, if◌then◌else◌, Option, Some, None}
+use Rattle.std.specs.Prelude.{Bool, true, false, ◌%◌, ◌==◌}
+use Rattle.vab_disk.specs.declared.memory.Blend.{Blend}
+use Rattle.vab_disk.specs.declared.memory.Blend.TheVariants.{Old, New, Even, Odd}
 use Rattle.vab_disk.specs.Disk.{Image, set_sector, Outcome, Hearing, Leaves, IsAt}
 use Rattle.vab_disk.specs.Port.{heard_then}
 use Rattle.vab_disk.specs.declared.record.Call.{Call}
@@ -48,6 +51,16 @@ settled_of count (Wrote at sector ∷ older) = settled_of count older
 settled_of count (Read at ∷ older) = settled_of count older
 settled_of count (Heard n ∷ older) = settled_of count older
 settled_of count (Said bytes ∷ older) = settled_of count older
+
+-- a sector has the last bytes that were written to it, and not the settled ones
+abbrev pub takes_new : Blend → ℕ → Bool
+takes_new Old s = false
+takes_new New s = true
+takes_new Even s = s % 2 == 0
+takes_new Odd s = s % 2 == 1
+
+abbrev pub blended : Blend → (new old : Image) → Image
+blended blend new old = λ s. if takes_new blend s then new s else old s
 
 -- the bytes told
 abbrev pub told_of : List Call → List ℕ

@@ -1,13 +1,15 @@
 -- What a port in memory holds is whole sectors, and what a crash may leave is among them.
-use Rattle.std.proofs.Common.{◌≡◌, ◌⊎◌, inl, inr, ℕ, zero, suc, ◌+◌, ◌≤◌, ◌<◌, List, [], ◌∷◌, ◌++◌}
-use Rattle.std.proofs.Common.{length, take, drop, reverse, replicate, refl, arith, sym, subst, ◌∙◌}
-use Rattle.std.proofs.Common.{get_or, get_or-drop}
+use Rattle.std.proofs.Common.{◌≡◌, inl, inr, ℕ, zero, suc, ◌+◌, ◌<◌, List, [], ◌∷◌}
+use Rattle.std.proofs.Common.{length, drop, replicate, refl, arith, sym, subst, ◌∙◌}
+use Rattle.std.proofs.Common.{get_or, get_or-drop, true, false, cond}
 use Rattle.std.proofs.lemmas.List.{length-replicate}
 use Rattle.std.proofs.lemmas.Bool.Decides.{nat_tests}
 use Rattle.std.proofs.lemmas.Bool.{cases_eq}
-use Rattle.vab_disk.specs.Disk.{Image, IsSector, set_sector, Outcome, Leaves, IsAt}
-use Rattle.vab_disk.specs.Memory.{blank, seen_of, Holds, settled_of, told_of, LeavesNow, LeftSince}
-use Rattle.vab_disk.specs.Memory.{IsWrittenSince, LeavesSettledOrWritten, LeavesEachOfThem}
+use Rattle.vab_disk.specs.Disk.{IsSector, Outcome}
+use Rattle.vab_disk.specs.Memory.{blank, seen_of, Holds, settled_of, LeavesNow, LeftSince}
+use Rattle.vab_disk.specs.Memory.{LeavesSettledOrWritten, LeavesEachOfThem}
+use Rattle.vab_disk.specs.Memory.{takes_new, blended}
+use Rattle.vab_disk.specs.declared.memory.Blend.{Blend}
 use Rattle.vab_disk.specs.Written.{set_here, set_there}
 use Rattle.vab_disk.specs.declared.record.Call.{Call}
 use Rattle.vab_disk.specs.declared.record.Call.TheVariants.{Read, Wrote, Synced, Heard, Said}
@@ -46,6 +48,16 @@ settled_holds count (Read at ∷ older) s = settled_holds count older s
 settled_holds count (Synced ∷ older) s = refl
 settled_holds count (Heard n ∷ older) s = settled_holds count older s
 settled_holds count (Said bytes ∷ older) s = settled_holds count older s
+
+-- each blend of what a read gives and the settled sectors may be left
+pub blend_holds : (blend : Blend) (count : ℕ) (calls : List Call) (s : ℕ)
+    → Holds count calls s (blended blend (seen_of count calls) (settled_of count calls) s)
+blend_holds blend count calls s =
+    elim (takes_new blend s)
+    as (λ b. Holds count calls s (cond b (seen_of count calls s) (settled_of count calls s))) [
+      | true ↦ seen_holds count calls s
+      | false ↦ settled_holds count calls s
+    ]
 
 blank_at : (count s : ℕ) → s < count → blank count s ≡ replicate 512 0
 blank_at count s below = grind (arith, nat_tests)

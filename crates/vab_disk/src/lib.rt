@@ -10,5 +10,5 @@ mod record;
 
 pub use disk::{Disk, Failed, Port, PortFault};
 pub use failing::Failing;
-pub use memory::{CallKind, MemPort, NoMemory, laws_of_memory};
+pub use memory::{Blend, CallKind, MemPort, NoMemory, laws_of_memory};
 pub use record::{Call, Sector};

@@ -1,14 +1,15 @@
 // A port in memory. Each call is done at once. It keeps each call that took effect, and so what
 // each moment left.
 ghost use Rattle.std.specs.Prelude.{◌≡◌, ◌⊎◌, ◌≤◌, ◌<◌, ◌^◌, ℕ, List, [], ◌∷◌, ◌+◌, ◌++◌, length};
-ghost use Rattle.std.specs.Prelude.{drop, reverse, slice_index_or, replicate, IfOk, OnOk, OnErr};
-ghost use Rattle.std.specs.Prelude.{IsTrue, ◌↔◌, Contains};
+ghost use Rattle.std.specs.Prelude.{drop, take, reverse, slice_index_or, replicate, IfOk, OnOk};
+ghost use Rattle.std.specs.Prelude.{OnErr, IsTrue, ◌↔◌, Contains};
 ghost use Rattle.std.specs.Bool.{OnTrue, OnFalse};
 ghost use Rattle.vab_disk.specs.Disk.{IsSettled, SameHoldings, Rose};
 ghost use Rattle.vab_disk.specs.Numbered.{Numbered};
 ghost use Rattle.vab_disk.specs.Port.{Hears};
 ghost use Rattle.vab_disk.specs.declared.record.Call.{Call as CallOf};
 ghost use Rattle.vab_disk.specs.Memory.{seen_of, settled_of, told_of, taken_of, calls_of};
+ghost use Rattle.vab_disk.specs.Memory.{takes_new, blended};
 ghost use Rattle.vab_disk.specs.Memory.{earlier_of, IsStopped, LeavesSettledOrWritten};
 ghost use Rattle.vab_disk.specs.Memory.{LeavesEachOfThem};
 
@@ -68,6 +69,86 @@ pub enum CallKind {
     Say,
 }
 
+/// Which of the values that a crash may leave each sector has.
+#[derive(Clone, Copy, Debug, PartialEq, Eq)]
+pub enum Blend {
+    /// The settled ones.
+    Old,
+    /// Those that were written last.
+    New,
+    /// Those written last in sectors of even number, the settled ones in the others.
+    Even,
+    /// The contrary.
+    Odd,
+}
+
+// Whether a sector has what was written last.
+fn takes_new(blend: Blend, at: u64) -> bool
+    ensures { result ≡ takes_new blend at }
+{
+    match blend {
+        Blend::Old => false,
+        Blend::New => true,
+        Blend::Even => at % 2 == 0,
+        Blend::Odd => at % 2 == 1,
+    }
+}
+
+// Whether the call is a sync.
+fn is_sync(call: &Call) -> bool
+    ensures synced { OnTrue result ((count : ℕ) (older : List CallOf)
+        → settled_of count (call.now ∷ older) ≡ seen_of count older) }
+    ensures other { OnFalse result ((count : ℕ) (older : List CallOf)
+        → settled_of count (call.now ∷ older) ≡ settled_of count older) }
+{
+    match call {
+        Call::Synced => true,
+        Call::Wrote(_, _) => false,
+        Call::Read(_) => false,
+        Call::Heard(_) => false,
+        Call::Said(_) => false,
+    }
+}
+
+// How many calls stand in front of the last sync; none, where there is none.
+fn before_sync(calls: &[Call]) -> usize
+    ensures within { result ≤ length calls.now }
+    ensures settled { (count : ℕ)
+        → settled_of count (reverse calls.now) ≡ seen_of count (reverse (take result calls.now)) }
+{
+    let mut last = 0;
+    for i in 0..calls.len() {
+        if is_sync(&calls[i]) {
+            last = i;
+        }
+    }
+    last
+}
+
+// Does a write once more.
+fn replay(cells: &mut Vec<[u8; 512]>, call: &Call)
+    ensures long { length cells.new.items ≡ length cells.old.items }
+    ensures cells { (older : List CallOf)
+        → ((s : ℕ) → s < length cells.old.items
+        → slice_index_or cells.old.items s [] ≡ seen_of (length cells.old.items) older s)
+        → (s : ℕ)
+        → s < length cells.old.items
+        → slice_index_or cells.new.items s []
+        ≡ seen_of (length cells.old.items) (call.now ∷ older) s }
+{
+    match call {
+        Call::Wrote(at, sector) => {
+            if *at < cells.len() as u64 {
+                cells[*at as usize] = sector.bytes;
+            }
+        }
+        Call::Synced => {}
+        Call::Read(_) => {}
+        Call::Heard(_) => {}
+        Call::Said(_) => {}
+    }
+}
+
 /// What a crash may leave of a port in memory, by the calls that took effect.
 pub fn laws_of_memory()
     ensures written { LeavesSettledOrWritten }
@@ -125,7 +206,7 @@ impl MemPort {
     /// Lists a call that is to fail.
     pub fn fail_at(&mut self, kind: CallKind, nth: u64) -> Result<(), NoMemory>
         ensures listed { OnOk result (ListsOne kind nth self.old self.new) }
-        // Where memory is refused, nothing is listed.
+        // Where memory is refused, the port is as it was.
         ensures same { OnErr result (SameListed self.old self.new) }
         ensures size { ⟦<MemPort as Disk>⟧.size self.new ≡ ⟦<MemPort as Disk>⟧.size self.old }
         ensures seen { ⟦<MemPort as Disk>⟧.seen self.new ≡ ⟦<MemPort as Disk>⟧.seen self.old }
@@ -221,6 +302,73 @@ impl MemPort {
             (now, settled) = after_call(call, at, now, settled);
         }
         settled
+    }
+
+    // The settled bytes of all sectors.
+    fn settled_cells(&self) -> Result<Vec<[u8; 512]>, NoMemory>
+        ensures long { IfOk result (λ v. length v.items ≡ self.now.count) }
+        ensures cells { IfOk result (λ v. (s : ℕ) → s < self.now.count
+            → slice_index_or v.items s []
+            ≡ settled_of self.now.count (calls_of self.now.begun self.now.calls.items
+            ++ earlier_of self.now.begun self.now.calls.items) s) }
+    {
+        let mut cells = zeros(self.alloc, self.count as usize)?;
+        for i in 0..before_sync(&self.calls) {
+            replay(&mut cells, &self.calls[i]);
+        }
+        Ok(cells)
+    }
+
+    // A sector of a blend with the settled bytes.
+    fn blended_sector(&self, settled: &[[u8; 512]], blend: Blend, at: u64) -> [u8; 512]
+        requires below { at < self.now.count }
+        requires long { length settled.now ≡ self.now.count }
+        ensures { result ≡ blended blend (λ s. slice_index_or self.now.cells.items s [])
+            (λ s. slice_index_or settled.now s []) at }
+    {
+        if takes_new(blend, at) {
+            self.cells[at as usize]
+        } else {
+            settled[at as usize]
+        }
+    }
+
+    /// A port on what a crash may leave of the disk: nothing is pending, and no call is listed or
+    /// stopped. Nothing is told, and there is no input.
+    pub fn outcome(&self, blend: Blend) -> Result<MemPort, NoMemory>
+        ensures size { IfOk result
+            (λ p. ⟦<MemPort as Disk>⟧.size p ≡ ⟦<MemPort as Disk>⟧.size self.now) }
+        ensures sectors { IfOk result (λ p. (s : ℕ)
+            → s < ⟦<MemPort as Disk>⟧.size self.now
+            → ⟦<MemPort as Disk>⟧.seen p s
+            ≡ blended blend (⟦<MemPort as Disk>⟧.seen self.now)
+            (settled_of self.now.count (calls_of self.now.begun self.now.calls.items
+            ++ earlier_of self.now.begun self.now.calls.items)) s) }
+        ensures settled { IfOk result
+            (λ p. IsSettled (⟦<MemPort as Disk>⟧.seen p) (⟦<MemPort as Disk>⟧.may_leave p)) }
+        // Each blend is an outcome: a crash at this moment may leave it.
+        ensures left_by { IfOk result (λ p. (s : ℕ)
+            → s < ⟦<MemPort as Disk>⟧.size self.now
+            → ⟦<MemPort as Disk>⟧.may_leave self.now s (⟦<MemPort as Disk>⟧.seen p s)) }
+        ensures told { IfOk result (λ p. ⟦<MemPort as Disk>⟧.told p ≡ []) }
+        ensures left { IfOk result (λ p. ⟦<MemPort as Disk>⟧.input_left p ≡ []) }
+        ensures unheard { IfOk result (λ p. ⟦<MemPort as Disk>⟧.heard p ≡ []) }
+        // No call is numbered, listed, stopped or counted yet.
+        ensures fresh { IfOk result IsNewPort }
+    {
+        let settled = self.settled_cells()?;
+        let mut port = MemPort::new(self.alloc, self.count, Vec::new(self.alloc))?;
+        for at in 0..self.count {
+            match port.write_sector(at, &self.blended_sector(&settled, blend, at)) {
+                Ok(()) => {}
+                Err(Failed) => return Err(NoMemory),
+            }
+        }
+        match port.sync() {
+            Ok(()) => {}
+            Err(Failed) => return Err(NoMemory),
+        }
+        Ok(port.next_run(Vec::new(self.alloc)))
     }
 
     /// How many syncs of this run succeeded.
@@ -403,6 +551,7 @@ impl Disk for MemPort {
             (⟦<MemPort as Disk>⟧.faults self.new).disk) }
         // It fails exactly where it is listed, or stopped, or memory was refused.
         ensures fed { self.old.starved ≤ self.new.starved }
+        ensures enough { OnOk result (self.new.starved ≡ self.old.starved) }
         ensures only { OnErr result
             (IsDiskListed self.old ⊎ Rose self.old.starved self.new.starved) }
         ensures fails { IsDiskListed self.old → IsErr result }
@@ -447,6 +596,7 @@ impl Disk for MemPort {
             (⟦<MemPort as Disk>⟧.faults self.new).disk) }
         // It fails exactly where it is listed, or stopped, or memory was refused.
         ensures fed { self.old.starved ≤ self.new.starved }
+        ensures enough { OnOk result (self.new.starved ≡ self.old.starved) }
         ensures only { OnErr result
             (IsDiskListed self.old ⊎ Rose self.old.starved self.new.starved) }
         ensures fails { IsDiskListed self.old → IsErr result }
@@ -494,6 +644,7 @@ impl Disk for MemPort {
             (⟦<MemPort as Disk>⟧.faults self.new).disk) }
         // It fails exactly where it is listed, or stopped, or memory was refused.
         ensures fed { self.old.starved ≤ self.new.starved }
+        ensures enough { OnOk result (self.new.starved ≡ self.old.starved) }
         ensures only { OnErr result
             (IsDiskListed self.old ⊎ Rose self.old.starved self.new.starved) }
         ensures fails { IsDiskListed self.old → IsErr result }
@@ -558,6 +709,7 @@ impl Port for MemPort {
             → OnErr result
             (⟦<MemPort as Disk>⟧.input_left self.new ≡ ⟦<MemPort as Disk>⟧.input_left self.old) }
         ensures fed { self.old.starved ≤ self.new.starved }
+        ensures enough { OnOk result (self.new.starved ≡ self.old.starved) }
         ensures only { OnErr result
             (IsHearListed self.old ⊎ Rose self.old.starved self.new.starved) }
         ensures fails { IsHearListed self.old → IsErr result }
@@ -616,6 +768,7 @@ impl Port for MemPort {
             (⟦<MemPort as Disk>⟧.faults self.new).sink) }
         // It fails exactly where it is listed, or memory was refused.
         ensures fed { self.old.starved ≤ self.new.starved }
+        ensures enough { OnOk result (self.new.starved ≡ self.old.starved) }
         ensures only { OnErr result
             (IsSayListed self.old ⊎ Rose self.old.starved self.new.starved) }
         ensures fails { IsSayListed self.old → IsErr result }

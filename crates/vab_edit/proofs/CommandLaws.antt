@@ -22,16 +22,14 @@ use Rattle.vab_layout.specs.declared.layout.Layout.{Layout}
 use Rattle.vab_layout.specs.Layout.{layout_of}
 use Rattle.vab_layout.specs.Slots.{other_slot, IsTarget}
 use Rattle.vab_builder.specs.declared.edit.Edit.{Edit}
-use Rattle.vab_builder.specs.declared.edit.Edit.TheVariants as edits
 use Rattle.vab_builder.specs.declared.fault.EditFault.{EditFault}
 use Rattle.vab_builder.specs.Edits.{edited}
 use Rattle.vab_model.specs.declared.command.Refusal.{Refusal}
 use Rattle.vab_model.specs.declared.command.Reply.TheVariants as replies
 use Rattle.vab_model.specs.declared.command.Refusal.TheVariants.{NoMemory}
 use Rattle.vab_model.specs.declared.state.PlanEntry.{PlanEntry}
-use Rattle.vab_model.specs.Commands.{Command}
 use Rattle.vab_model.specs.Effects.{Effect, refuses, does, steps_of, after_of, IsOneOf}
-use Rattle.vab_model.specs.Effects.{takes_memory, may_want, unless_refused}
+use Rattle.vab_model.specs.Effects.{wanting, unless_refused}
 use Rattle.vab_device.specs.declared.device.Part.{Part}
 use Rattle.vab_device.specs.declared.device.Device.{Device}
 use Rattle.vab_device.specs.Does.{LeavesStep, effect_of, KeepsSource, Does}
@@ -40,12 +38,13 @@ use Rattle.vab_device.specs.Kept.{lies_in, IsDevice}
 use Rattle.vab_device.specs.Mounted.{Mounted, entry_on, mounted_on}
 use Rattle.vab_device.specs.Phases.{plan_of}
 use Rattle.vab_device.specs.Reading.{device, Represents}
-use Rattle.vab_device.specs.Updates.{installing_with, table_effect, effect_on}
+use Rattle.vab_device.specs.Updates.{installing_with, table_effect, wants_for, effect_on}
+use Rattle.vab_device.specs.Updates.{is_full_table}
 use Rattle.vab_device.proofs.ReadingLaws.{device_same, device_stands}
 use Rattle.vab_device.proofs.RepairLaws.{repair_same}
 use Rattle.vab_edit.specs.Carried.{carried}
 use Rattle.vab_edit.specs.Writes.{command_by, IsOfPhase, IsOfEdit}
-use Rattle.vab_edit.specs.Prepared.{IsPrepared, Refuses, with_target, carried_over, reply_by}
+use Rattle.vab_edit.specs.Prepared.{IsPrepared, Refuses, with_target, carried_over}
 use Rattle.vab_edit.proofs.CopiesLaws.{ends_within}
 use Rattle.vab_edit.proofs.DeviceLaws.{kept_update, new_lies, next_kept}
 use Rattle.vab_edit.proofs.EffectLaws.{not_installing, effect_edited}
@@ -76,24 +75,14 @@ prepared_differs d edit u text plan is =
 
 -- ---- want of memory
 
--- the reply of an edit's effect
-replied : (m : Mounted) (source : ℕ) (plan : List PlanEntry) (said : Result Layout EditFault)
-    → (table_effect m source plan said).reply ≡ reply_by said
-replied m source plan (Ok l) = refl
-replied m source plan (Err fault) = refl
+-- where an edit's effect wants memory
+wants_is : (m : Mounted) (source : ℕ) (plan : List PlanEntry) (said : Result Layout EditFault)
+    → (table_effect m source plan said).wants ≡ wants_for said
+wants_is m source plan (Ok l) = refl
+wants_is m source plan (Err fault) = refl
 
--- an edit takes memory
-edits_take : (edit : Edit) → takes_memory (command_by edit) ≡ true
-edits_take (edits.Create name bytes) = refl
-edits_take (edits.Resize name bytes) = refl
-edits_take (edits.Delete name) = refl
-edits_take (edits.AddStore name bytes) = refl
-
-wanting : (c : Command) (e : Effect Mounted)
-    → takes_memory c ≡ true
-    → may_want e.reply ≡ true
-    → unless_refused true c e ≡ refuses NoMemory
-wanting c e is wants = rw (is, wants) refl
+refused_to : (e : Effect Mounted) → e.wants ≡ true → unless_refused true e ≡ refuses NoMemory
+refused_to e wants = rw wants refl
 
 -- another table of the target
 target_keeps : (d : Device) (target : ℕ) (u : Table) (plan : List Part)
@@ -148,11 +137,10 @@ module _ {D : Type 0} (g : Ghosts D) (d : Device) (edit : Edit) (staged : Option
       does_nothing g d staged (command_by edit) (IsOfEdit d) true (replies.Refused r) old old
       kept is
       (λ t.
-      wanting (command_by edit)
+      refused_to
       (effect_on (mounted_on d (g.seen old)) staged (command_by edit))
-      (edits_take edit)
-      (ap (λ (e : Effect Mounted). may_want e.reply) (edited_is t)
-      ∙ ap may_want (replied (mounted_on d (g.seen old)) d.mark.slot _ _)
+      (ap (λ (e : Effect Mounted). e.wants) (edited_is t)
+      ∙ wants_is (mounted_on d (g.seen old)) d.mark.slot _ _
       ∙ wants.1)
       ∙ ap refuses (sym wants.0))
       (reads_none g old) refl)
@@ -165,7 +153,7 @@ module _ {D : Type 0} (g : Ghosts D) (d : Device) (edit : Edit) (staged : Option
       (table_effect (mounted_on d (g.seen old)) d.mark.slot
       (map (entry_on (g.seen old)) refused.tables.old_plan))
       said.1
-      ∙ ap refuses (sym said.2))
+      ∙ ap (λ (x : Refusal). wanting (is_full_table said.0) (refuses x)) (sym said.2))
       (reads_none g old) refl)
       refused.by
 
@@ -196,7 +184,7 @@ module _ {D : Type 0} (g : Ghosts D) (d : Device) (edit : Edit) (staged : Option
         installing_with (mounted_on d (g.seen old)) d.mark.slot
         (map (entry_on (g.seen old)) p.tables.old_plan) (layout_of u)
 
-    gives : effect_of g d staged (command_by edit) false old ≡ does replies.Done next
+    gives : effect_of g d staged (command_by edit) false old ≡ wanting true (does replies.Done next)
     gives =
         effect_edited d (g.size old) p.s p.t kept p.tables (g.seen old) staged edit
         ∙ ap

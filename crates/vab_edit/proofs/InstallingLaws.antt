@@ -21,6 +21,7 @@ use Rattle.vab_device.specs.Reading.{AgreeCopies}
 use Rattle.vab_device.specs.Stores.{Scanned}
 use Rattle.vab_device.proofs.CheckLaws.{bound}
 use Rattle.vab_device.proofs.ReadingLaws.{device_of, has_images, control_is_seen}
+use Rattle.vab_marks.specs.Mark.{mark_at}
 
 -- what is read: the source's slot, its table and the target's
 abbrev pub read_at : ℕ
@@ -32,7 +33,7 @@ abbrev pub read_at : ℕ
     → List Scanned
     → Read
 read_at k statuses c g s t scanned = record {
-  mark = record { phase = marks.Installing; slot = k };
+  mark = mark_at marks.Installing k;
   statuses = statuses;
   control = c;
   geometry = g;
@@ -101,16 +102,16 @@ stands_installing d size image is installing =
     let r : Read = is.read in
     let phase : r.mark.phase ≡ marks.Installing =
     sym (ap (λ (k : Device). k.mark.phase) is.is) ∙ installing in
-    let marked : r ≡ record r { mark = record { phase = marks.Installing; slot = r.mark.slot } } =
-    (λ i. record r { mark = record { phase = phase i; slot = r.mark.slot } }) in
+    let marked : r ≡ record r { mark = record r.mark { phase = marks.Installing } } =
+    (λ i. record r { mark = record r.mark { phase = phase i } }) in
     let now = subst (StandsFor d size image) marked
     (record { reads = is.reads; is = is.is; copies = is.copies }) in
     let two = two_tables size r.geometry r.mark.slot (other_slot r.mark.slot) image r.tables
     now.reads.tables in
-    let form : record r { mark = record { phase = marks.Installing; slot = r.mark.slot } }
+    let form : record r { mark = record r.mark { phase = marks.Installing } }
     ≡ read_at r.mark.slot r.statuses r.control r.geometry two.source two.target r.scanned =
     (λ i. record {
-      mark = record { phase = marks.Installing; slot = r.mark.slot };
+      mark = record r.mark { phase = marks.Installing };
       statuses = r.statuses;
       control = r.control;
       geometry = r.geometry;

@@ -25,10 +25,9 @@ use Rattle.vab_blocks.proofs.Contained.{all_from, of_filter}
 use Rattle.vab_builder.proofs.Verdicts.{unless_ok}
 use Rattle.vab_device.specs.declared.device.Part.{Part}
 use Rattle.vab_device.specs.Phases.{planned_on, plan_of}
-use Rattle.vab_device.specs.Updates.{refusal_of}
+use Rattle.vab_device.specs.Updates.{refusal_of, wants_for}
 use Rattle.vab_verdict.specs.Judged.{IsGiven}
-use Rattle.vab_model.specs.Effects.{may_want}
-use Rattle.vab_edit.specs.Prepared.{reply_by, RefusesBy}
+use Rattle.vab_edit.specs.Prepared.{RefusesBy}
 use Rattle.vab_plan.specs.Scans.{IsTargetTable}
 
 -- ---- the table
@@ -75,7 +74,7 @@ gives_layout slot max s t u edit is layout =
 -- ---- refusals
 
 -- an edit that isn't refused before its text is measured may want memory
-fits_or : (max : ℕ) (l : Layout) → may_want (reply_by (fitting max l)) ≡ true
+fits_or : (max : ℕ) (l : Layout) → wants_for (fitting max l) ≡ true
 fits_or max l = elim (cases_Bool (nat_le (table_size_of (table_of l)) max)) [
   | inl fits ↦ rw fits refl
   | inr long ↦ rw long refl
@@ -83,13 +82,13 @@ fits_or max l = elim (cases_Bool (nat_le (table_size_of (table_of l)) max)) [
 
 pub passed_wants : (max : ℕ) (said : Result Layout EditFault)
     → IsGiven said
-    → may_want (reply_by (if_fitting max said)) ≡ true
+    → wants_for (if_fitting max said) ≡ true
 passed_wants max said passes =
-    ap (λ (r : Result Layout EditFault). may_want (reply_by (if_fitting max r))) passes.1
+    ap (λ (r : Result Layout EditFault). wants_for (if_fitting max r)) passes.1
     ∙ fits_or max passes.0
 
 pub gives_refusal : (said : Result Layout EditFault) (fault : EditFault)
-    → may_want (reply_by said) ≡ true
+    → wants_for said ≡ true
     → (let r : Result Table EditFault = Err fault in GivesTable r said)
     → RefusesBy said (refusal_of fault)
 gives_refusal said faults.NoMemory wants h = inl (refl, wants)

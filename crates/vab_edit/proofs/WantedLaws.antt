@@ -9,6 +9,7 @@ use Rattle.vab_disk.specs.Disk.{Image}
 use Rattle.vab_names.specs.Names.{store_of}
 use Rattle.vab_marks.specs.declared.status.PartStatus.{PartStatus}
 use Rattle.vab_exceptions.specs.declared.area.Exception.{Exception}
+use Rattle.vab_space.specs.declared.Chunk.TheVariants.{One}
 use Rattle.vab_store.specs.declared.fault.StoreFault.{StoreFault}
 use Rattle.vab_store.specs.Scan.{scan_of}
 use Rattle.vab_layout.specs.declared.layout.Part.{Part}
@@ -46,7 +47,7 @@ read_name w (Ok es) s is = elim (cases_Bool (is_long w.fewer w.count (length es)
 
 scan_name : (w : Wanted) (image : Image) (s : Scanned) → scan_at w image ≡ Ok s → s.name ≡ w.name
 unfolding scan_at
-scan_name w image s is = read_name w (scan_of w.store (length w.base) image) s is
+scan_name w image s is = read_name w (scan_of One w.store (length w.base) image) s is
 
 -- the first store that is scanned, and the others
 record ScansFirst (st : PartStatus) (a b : Option Part) (ws : List (Result Wanted StartFault))

@@ -14,14 +14,11 @@ use Rattle.vab_builder.specs.Asked.{edited_name, KeepsOthers}
 use Rattle.vab_builder.specs.Edits.{changed_by, edited}
 use Rattle.vab_model.specs.declared.command.Refusal.{Refusal}
 use Rattle.vab_model.specs.declared.command.Refusal.TheVariants.{NoMemory, NotInstalling}
-use Rattle.vab_model.specs.declared.command.Reply.{Reply}
-use Rattle.vab_model.specs.declared.command.Reply.TheVariants as replies
-use Rattle.vab_model.specs.Effects.{may_want}
 use Rattle.vab_device.specs.declared.device.Part.{Part}
 use Rattle.vab_device.specs.declared.device.Device.{Device}
 use Rattle.vab_device.specs.Kept.{table_of_slot}
 use Rattle.vab_device.specs.Phases.{plan_of}
-use Rattle.vab_device.specs.Updates.{refusal_of}
+use Rattle.vab_device.specs.Updates.{refusal_of, wants_for}
 use Rattle.vab_edit.specs.Carried.{carried}
 
 -- The tables of an update that an edit is tried on: the most bytes of a table's text, the slot of
@@ -77,15 +74,10 @@ pub record IsPrepared (d : Device) (edit : Edit) (u : Table) (text : List ℕ) (
   pub tables : HasTables d s t
   pub given : IsGiven d.geometry.max d.mark.slot edit s t u text plan
 
--- the reply to an edit that gives this
-abbrev pub reply_by : Result Layout EditFault → Reply
-reply_by (Ok l) = replies.Done
-reply_by (Err fault) = replies.Refused (refusal_of fault)
-
--- the refusal of a definition, or want of memory where that may come in place of its reply
+-- the refusal of a definition, or want of memory where that may come in its place
 abbrev pub RefusesBy : Result Layout EditFault → Refusal → Type 0
 RefusesBy said r =
-    ((r ≡ NoMemory) × (may_want (reply_by said) ≡ true))
+    ((r ≡ NoMemory) × (wants_for said ≡ true))
     ⊎ ((f : EditFault) × (said ≡ Err f) × (r ≡ refusal_of f))
 
 -- why an edit of a device's tables is refused

@@ -1,13 +1,18 @@
 -- Lists of entries, read from bytes and written.
-use Rattle.std.proofs.Common.{◌≡◌, ◌≢◌, inl, inr, ℕ, zero, suc, ◌+◌, ◌-◌, ◌*◌, ◌≤◌, ◌<◌, List, [], ◌∷◌, ◌++◌, ◌==◌, length, take, drop, get_or, replicate, refl, sym, ◌∙◌, ap, subst, arith, true, false, All, add-one, append_assoc, append-nil, length-append}
+use Rattle.std.proofs.Common.{◌≡◌, ◌≢◌, inl, inr, ℕ, zero, suc, ◌+◌, ◌-◌, ◌*◌, ◌≤◌, ◌<◌, List, []}
+use Rattle.std.proofs.Common.{◌∷◌, ◌++◌, ◌==◌, length, take, drop, get_or, replicate, refl, sym}
+use Rattle.std.proofs.Common.{◌∙◌, ap, subst, arith, true, false, All, add-one, append_assoc}
+use Rattle.std.proofs.Common.{append-nil, length-append}
 use Rattle.std.specs.Int.{w64, to_le_bytes, from_le_bytes}
 use Rattle.std.proofs.lemmas.Bool.{cases_eq, cases_lt, eq-eqb, ne_eqb}
-use Rattle.std.proofs.lemmas.List.{ext_get_or, take_at, drop_at, drop-drop, drop-replicate, take-replicate, get_or_append_left, get_or-append_right}
+use Rattle.std.proofs.lemmas.List.{ext_get_or, take_at, drop_at, drop-drop, drop-replicate}
+use Rattle.std.proofs.lemmas.List.{take-replicate, get_or_append_left, get_or-append_right}
 use Rattle.std.proofs.lemmas.List.Elements.{All-head, All-tail}
 use Rattle.std.proofs.lemmas.Nat.{from_le_bytes-to_le_bytes_8}
 use Rattle.vab_bytes.specs.Number.{field, put_at}
 use Rattle.vab_exceptions.specs.declared.area.Exception.{Exception}
-use Rattle.vab_exceptions.specs.Entries.{firsts, entry_at, IsListed, AllListed, FitsEntry, listed, area_of, entry_bytes, bytes_of, area_bytes, put_entry}
+use Rattle.vab_exceptions.specs.Entries.{firsts, entry_at, IsListed, AllListed, FitsEntry, listed}
+use Rattle.vab_exceptions.specs.Entries.{area_of, entry_bytes, bytes_of, area_bytes, put_entry}
 
 -- ---- the values of a function
 

@@ -1,14 +1,14 @@
 //! Areas: lists of exceptions, one block long.
 
-ghost use Rattle.std.specs.Prelude.{◌≡◌, ◌+◌, ◌*◌, ◌≤◌, ◌<◌, length};
-ghost use Rattle.vab_exceptions.specs.Entries.{AllListed, FitsEntry, area_entries, entry_at};
+ghost use Rattle.std.specs.Prelude.{◌≡◌, ◌+◌, ◌*◌, ◌/◌, ◌≤◌, ◌<◌, length};
+ghost use Rattle.vab_exceptions.specs.Entries.{AllListed, FitsEntry, entry_at};
 ghost use Rattle.vab_exceptions.specs.Entries.{area_of, put_entry, area_bytes};
 
 use arrayvec::ArrayVec;
 use vab_bytes::{le64_at, put_le64};
 
-/// How many exceptions an area holds.
-pub const AREA_ENTRIES: usize = 256;
+/// The most exceptions that an area holds.
+pub const AREA_ENTRIES: usize = 1024;
 
 /// Bytes of an entry.
 const ENTRY: usize = 16;
@@ -24,12 +24,12 @@ pub struct Exception {
 }
 
 /// The exceptions of one area, in their order.
-pub type Area = ArrayVec<Exception, 256>;
+pub type Area = ArrayVec<Exception, 1024>;
 
 // The entry at a place of an area.
 #[tactic(auto, unfolding(crate::specs::Entries::entry_at))]
-fn entry_at(bytes: &[u8; 4096], i: usize) -> Exception
-    requires { i < AREA_ENTRIES }
+fn entry_at(bytes: &[u8], i: usize) -> Exception
+    requires { 16 * i + 16 ≤ length bytes.now }
     ensures { result ≡ entry_at bytes.now i }
 {
     Exception {
@@ -40,11 +40,12 @@ fn entry_at(bytes: &[u8; 4096], i: usize) -> Exception
 
 /// The entries of an area up to the first whose new chunk is 0, which ends the list. An entry is
 /// its old chunk and its new chunk, in eight bytes each, the low byte first.
-pub fn decode_area(bytes: &[u8; 4096]) -> Area
-    ensures { result.items ≡ area_of area_entries bytes.now }
+pub fn decode_area(bytes: &[u8]) -> Area
+    requires { length bytes.now ≤ 16384 }
+    ensures { result.items ≡ area_of (length bytes.now / 16) bytes.now }
 {
     let mut area = ArrayVec::new();
-    for i in 0..AREA_ENTRIES {
+    for i in 0..bytes.len() / ENTRY {
         let entry = entry_at(bytes, i);
         if entry.new_chunk == 0 {
             return area;
@@ -55,8 +56,8 @@ pub fn decode_area(bytes: &[u8; 4096]) -> Area
 }
 
 // Writes the entry at a place of an area.
-fn put_entry(bytes: &mut [u8; 4096], i: usize, entry: &Exception)
-    requires { i < AREA_ENTRIES }
+fn put_entry(bytes: &mut [u8], i: usize, entry: &Exception)
+    requires { 16 * i + 16 ≤ length bytes.old }
     ensures bytes { bytes.new ≡ put_entry bytes.old i entry.now }
     ensures fits { FitsEntry entry.now }
 {
@@ -64,15 +65,16 @@ fn put_entry(bytes: &mut [u8; 4096], i: usize, entry: &Exception)
     put_le64(bytes, ENTRY * i + 8, entry.new_chunk);
 }
 
-/// The bytes of an area with these exceptions: their entries, and zeros behind them.
-pub fn encode_area(area: &Area) -> [u8; 4096]
-    ensures bytes { result ≡ area_bytes 4096 area.now.items }
+/// Writes an area with these exceptions: their entries, and zeros behind them.
+pub fn encode_area(area: &Area, bytes: &mut [u8])
+    requires room { 16 * length area.now.items ≤ length bytes.old }
+    ensures bytes { bytes.new ≡ area_bytes (length bytes.old) area.now.items }
     // Where no entry ends the list, what is written is read back.
-    ensures read { AllListed area.now.items → area_of area_entries result ≡ area.now.items }
+    ensures read { AllListed area.now.items
+        → area_of (length bytes.old / 16) bytes.new ≡ area.now.items }
 {
-    let mut bytes = [0; 4096];
+    bytes.fill(0);
     for (i, entry) in area.as_slice().iter().enumerate() {
-        put_entry(&mut bytes, i, entry);
+        put_entry(bytes, i, entry);
     }
-    bytes
 }

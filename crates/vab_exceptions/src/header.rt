@@ -1,16 +1,15 @@
 //! The header of a store.
 
 ghost use Rattle.std.specs.Prelude.{◌≡◌, Ok};
-ghost use Rattle.vab_exceptions.specs.Header.{header_of, header_bytes};
+ghost use Rattle.vab_exceptions.specs.Header.{header_of, header_bytes, chunk_of};
 
 use vab_bytes::{le32_at, put_le32};
+use vab_space::Chunk;
 
 /// The bytes `SnAp`.
 const MAGIC: u32 = 0x7041_6E53;
 
 const VERSION: u32 = 1;
-/// The size of a chunk, in sectors of 512 bytes.
-const CHUNK: u32 = 8;
 
 /// Why a store's header is refused.
 #[derive(Clone, Copy, Debug, PartialEq, Eq)]
@@ -21,14 +20,26 @@ pub enum HeaderFault {
     Invalid,
     /// The version is not 1.
     BadVersion,
-    /// The chunk size is not 8 sectors.
+    /// The chunk size is not 8, 16 or 32 sectors.
     BadChunk,
 }
 
-/// Whether this sector begins an exception store: four numbers of four bytes, the low byte first.
-/// They are the magic, whether the store is valid, the version 1, and the chunk size in sectors, 8.
+fn chunk_of(sectors: u32) -> Result<Chunk, HeaderFault>
+    ensures { result ≡ chunk_of sectors }
+{
+    match sectors {
+        8 => Ok(Chunk::One),
+        16 => Ok(Chunk::Two),
+        32 => Ok(Chunk::Four),
+        _ => Err(HeaderFault::BadChunk),
+    }
+}
+
+/// The size of the chunks of the exception store that this sector begins: four numbers of four
+/// bytes, the low byte first. They are the magic, whether the store is valid, the version 1, and
+/// the chunk size in sectors, 8, 16 or 32.
 /// The first fault in this order is told. Bytes behind them are not looked at.
-pub fn decode_store_header(bytes: &[u8; 512]) -> Result<(), HeaderFault>
+pub fn decode_store_header(bytes: &[u8; 512]) -> Result<Chunk, HeaderFault>
     ensures { result ≡ header_of bytes.now }
 {
     if le32_at(bytes, 0) != MAGIC {
@@ -40,21 +51,18 @@ pub fn decode_store_header(bytes: &[u8; 512]) -> Result<(), HeaderFault>
     if le32_at(bytes, 8) != VERSION {
         return Err(HeaderFault::BadVersion);
     }
-    if le32_at(bytes, 12) != CHUNK {
-        return Err(HeaderFault::BadChunk);
-    }
-    Ok(())
+    chunk_of(le32_at(bytes, 12))
 }
 
 /// The header of a valid store, and zeros behind it.
-pub fn encode_store_header() -> [u8; 512]
-    ensures bytes { result ≡ header_bytes }
-    ensures read { header_of result ≡ Ok tt }
+pub fn encode_store_header(chunk: Chunk) -> [u8; 512]
+    ensures bytes { result ≡ header_bytes chunk }
+    ensures read { header_of result ≡ Ok chunk }
 {
     let mut bytes = [0; 512];
     put_le32(&mut bytes, 0, MAGIC);
     put_le32(&mut bytes, 4, 1);
     put_le32(&mut bytes, 8, VERSION);
-    put_le32(&mut bytes, 12, CHUNK);
+    put_le32(&mut bytes, 12, 8 * chunk.blocks() as u32);
     bytes
 }

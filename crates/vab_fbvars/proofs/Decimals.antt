@@ -1,5 +1,6 @@
 -- Numbers that are written out are short.
-use Rattle.std.proofs.Common.{ℕ, zero, suc, ◌+◌, ◌≤◌, ◌/◌, ◌%◌, Bool, true, false, eqb, inl, inr, List, [], ◌∷◌}
+use Rattle.std.proofs.Common.{ℕ, zero, suc, ◌+◌, ◌≤◌, ◌/◌, ◌%◌, Bool, true, false, eqb, inl, inr}
+use Rattle.std.proofs.Common.{List, [], ◌∷◌}
 use Rattle.std.proofs.Common.{length, decimal, arith}
 use Rattle.std.proofs.lemmas.Bool.{cases_Bool}
 use Rattle.vab_fbvars.specs.Hexadecimal.{hexadecimal}

@@ -1,5 +1,6 @@
 -- Hexadecimal digits, one at a time.
-use Rattle.std.proofs.Common.{◌≡◌, ℕ, suc, ◌<◌, ◌≤◌, ◌/◌, ◌%◌, true, eqb, inl, inr, List, ◌∷◌, refl, ap, arith, eq-eqb, eqb-true}
+use Rattle.std.proofs.Common.{◌≡◌, ℕ, suc, ◌<◌, ◌≤◌, ◌/◌, ◌%◌, true, eqb, inl, inr, List, ◌∷◌, refl}
+use Rattle.std.proofs.Common.{ap, arith, eq-eqb, eqb-true}
 use Rattle.std.proofs.lemmas.Bool.{cases_Bool}
 use Rattle.std.specs.Fmt.{digits_onto, digit_glyph}
 

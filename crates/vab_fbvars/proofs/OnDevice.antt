@@ -1,6 +1,8 @@
 -- The variables of a kept device.
-use Rattle.std.proofs.Common.{◌≡◌, ◌∙◌, ℕ, ◌+◌, ◌*◌, ◌≤◌, ◌^◌, inl, inr, Bool, true, false, eqb, List, [], ◌∷◌}
-use Rattle.std.proofs.Common.{length, Option, Some, None, refl, sym, ap, subst, arith, length-append}
+use Rattle.std.proofs.Common.{◌≡◌, ◌∙◌, ℕ, ◌+◌, ◌*◌, ◌≤◌, ◌^◌, inl, inr, Bool, true, false, eqb}
+use Rattle.std.proofs.Common.{List, [], ◌∷◌}
+use Rattle.std.proofs.Common.{length, Option, Some, None, refl, sym, ap, subst, arith}
+use Rattle.std.proofs.Common.{length-append}
 use Rattle.std.proofs.Common.{Bor}
 use Rattle.std.specs.Prelude.{◌==◌, ◌||◌, if◌then◌else◌, is_some, All, map, codes}
 use Rattle.std.specs.Str.{bytes_eq}
@@ -30,7 +32,8 @@ use Rattle.vab_manager.specs.Found.{part_named}
 use Rattle.vab_manager.specs.Blocks.{image_at}
 use Rattle.vab_manager.proofs.BlockLaws.{image_of_part}
 use Rattle.vab_fbvars.specs.Variables.{slot_info, AreSectors, planned_in, entry_size, size_planned}
-use Rattle.vab_fbvars.specs.Variables.{status_text, status_of, entry_named}
+use Rattle.vab_fbvars.specs.Variables.{status_text, status_of}
+use Rattle.vab_device.specs.Updates.{entry_named}
 
 -- ---- boot control
 
@@ -78,7 +81,8 @@ copied_some None = refl
 copied_some (Some x) = refl
 
 -- the same by the reference to it
-pub base_kept : (d : Device) (image : Image) (slot : ℕ) (base : List ℕ) (o : Option (Bor Part)) (b : Bool)
+pub base_kept : (d : Device) (image : Image) (slot : ℕ) (base : List ℕ) (o : Option (Bor Part))
+    (b : Bool)
     → option_copied o ≡ option_and_then (part_named base) (parts_at d slot)
     → b ≡ is_some o
     → is_some (image_at (state_on d image) slot base) ≡ b

@@ -1,9 +1,8 @@
 -- The variables of a device, and what is told of them.
-use Rattle.std.specs.Prelude.{◌≡◌, ℕ, ◌*◌, ◌<◌, Bool, true, false, not, ◌||◌, List, [], ◌∷◌}
+use Rattle.std.specs.Prelude.{◌≡◌, ℕ, ◌*◌, ◌<◌, Bool, true, false, not, ◌||◌, List, []}
 use Rattle.std.specs.Prelude.{◌++◌, length, codes}
 use Rattle.std.specs.Prelude.{decimal, if◌then◌else◌, Option, Some, None, is_some}
 use Rattle.std.specs.Option.{option_map, option_and_then}
-use Rattle.std.specs.Str.{bytes_eq}
 use Rattle.vab_disk.specs.Disk.{Image}
 use Rattle.vab_bootctl.specs.declared.slots.Info.{Info}
 use Rattle.vab_bootctl.specs.Boot.{info_at, is_bootable}
@@ -17,6 +16,7 @@ use Rattle.vab_model.specs.State.{images_at, image_named}
 use Rattle.vab_model.specs.Effects.{Found, Image_is, Refused_by, found_of}
 use Rattle.vab_device.specs.declared.device.PhaseKind.{PhaseKind}
 use Rattle.vab_device.specs.declared.device.PhaseKind.TheVariants as kinds
+use Rattle.vab_device.specs.Updates.{entry_named}
 use Rattle.vab_fbproto.specs.Texts.{slot_letter}
 use Rattle.vab_fbproto.specs.Requests.{Variable, Version, CurrentSlot, SlotCount, MaxDownloadSize}
 use Rattle.vab_fbproto.specs.Requests.{HasSlot, SlotSuccessful, SlotUnbootable, SlotRetryCount}
@@ -52,15 +52,8 @@ tries_left None = 0
 
 -- the partitions that are planned, while an update is installed
 abbrev pub planned_in : Phase → List PlanEntry
-planned_in Idle = []
 planned_in (Installing source plan) = plan
-planned_in (Staged source left) = []
-planned_in (Merging target left) = []
-
--- the first of this base name
-abbrev pub entry_named : List ℕ → List PlanEntry → Option PlanEntry
-entry_named base [] = None
-entry_named base (e ∷ es) = if bytes_eq e.name base then Some e else entry_named base es
+planned_in _ = []
 
 -- a slot has an image of this base name
 abbrev pub has_image : State → ℕ → List ℕ → Bool

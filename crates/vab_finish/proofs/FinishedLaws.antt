@@ -9,7 +9,7 @@ use Rattle.vab_bootctl.specs.declared.slots.Control.{Control}
 use Rattle.vab_bootctl.specs.Control.{control_of}
 use Rattle.vab_marks.specs.declared.mark.MarkPhase.TheVariants as marks
 use Rattle.vab_marks.specs.declared.status.PartStatus.{PartStatus}
-use Rattle.vab_marks.specs.Mark.{mark_of, mark_spelling}
+use Rattle.vab_marks.specs.Mark.{mark_of, mark_spelling, staged_mark}
 use Rattle.vab_geometry.specs.declared.geometry.Geometry.{Geometry}
 use Rattle.vab_tables.specs.declared.table.Table.{Table}
 use Rattle.vab_layout.specs.Layout.{layout_of}
@@ -28,7 +28,7 @@ use Rattle.vab_device.specs.Phases.{plan_of}
 use Rattle.vab_device.specs.Reading.{Read, kept, Reads, AgreeCopies, SameRead}
 use Rattle.vab_device.specs.Reading.{control_in, stores_of, IsOfTables}
 use Rattle.vab_device.specs.Stores.{Scanned}
-use Rattle.vab_device.specs.Updates.{effect_on, finished, final_image}
+use Rattle.vab_device.specs.Updates.{finished, final_image}
 use Rattle.vab_device.proofs.Behind.{images_behind, stores_behind, plan_behind}
 use Rattle.vab_device.proofs.CheckLaws.{first_kept, check_kept}
 use Rattle.vab_device.proofs.OpeningLaws.{control_seen_in}
@@ -40,7 +40,7 @@ use Rattle.vab_begin.proofs.BeginLaws.{cleared_seen}
 use Rattle.vab_device.proofs.UpdateLaws.{update_read, kept_with}
 use Rattle.vab_device.proofs.StayLaws.{mark_there, copy_stays, copies_from}
 use Rattle.vab_device.proofs.Steps.{marked}
-use Rattle.vab_finish.specs.Finished.{staged_mark, finished_device}
+use Rattle.vab_finish.specs.Finished.{finished_device}
 use Rattle.vab_finish.proofs.FinalLaws.{count_plain, count_planned}
 
 -- the source's boot control lets it be booted, also with nothing said of the target

@@ -1,6 +1,6 @@
 -- The step of a finish, of a device.
 use Rattle.std.proofs.Common.{◌≡◌, ◌∙◌, ℕ, zero, suc, ◌<◌, true, List, [], ◌∷◌, Ok, refl, sym, ap}
-use Rattle.std.proofs.Common.{subst, arith}
+use Rattle.std.proofs.Common.{subst, arith, false}
 use Rattle.std.specs.Prelude.{Option, Some, None, is_some, map}
 use Rattle.vab_disk.specs.Disk.{Image}
 use Rattle.vab_disk.specs.Calls.{SameBut}
@@ -10,7 +10,7 @@ use Rattle.vab_bootctl.specs.Control.{control_of}
 use Rattle.vab_marks.specs.declared.mark.MarkPhase.{MarkPhase}
 use Rattle.vab_marks.specs.declared.mark.MarkPhase.TheVariants as marks
 use Rattle.vab_marks.specs.declared.status.PartStatus.{PartStatus}
-use Rattle.vab_marks.specs.Mark.{mark_of, mark_spelling}
+use Rattle.vab_marks.specs.Mark.{mark_of, mark_spelling, staged_mark}
 use Rattle.vab_geometry.specs.declared.geometry.Geometry.{Geometry}
 use Rattle.vab_tables.specs.declared.table.Table.{Table}
 use Rattle.vab_layout.specs.Layout.{layout_of}
@@ -32,7 +32,7 @@ use Rattle.vab_begin.proofs.BegunLaws.{device_same}
 use Rattle.vab_device.proofs.UpdateLaws.{update_read, kept_with}
 use Rattle.vab_device.proofs.StayLaws.{two_of}
 use Rattle.vab_device.proofs.Steps.{marked, IsStep}
-use Rattle.vab_finish.specs.Finished.{staged_mark, finished_device}
+use Rattle.vab_finish.specs.Finished.{finished_device}
 use Rattle.vab_finish.specs.Ready.{MayFinish}
 use Rattle.vab_finish.proofs.FinalLaws.{source_named, final_all}
 use Rattle.vab_finish.proofs.FinishedLaws.{same_read, reads_new, control_new, copies_new, images_a}
@@ -255,7 +255,7 @@ module _ (told : Type 0) (size : ℕ) (old : Image) where
 
       shape : r ≡ shaped
       shape = (λ i. record {
-        mark = record { phase = phase i; slot = r.mark.slot };
+        mark = record r.mark { phase = phase i };
         statuses = r.statuses;
         control = r.control;
         geometry = r.geometry;
@@ -289,7 +289,7 @@ module _ (told : Type 0) (size : ℕ) (old : Image) where
               dev is.reads is.control is.copies same prepared read ready
 
           pub finish_step : (staged : Option (List ℕ))
-              → IsStep d (finished_device d) staged Finish replies.Done size old
+              → IsStep d (finished_device d) staged Finish replies.Done false size old
               (marked mid (mark_spelling (staged_mark d.mark.slot)))
           finish_step staged = record {
             represents = next.represents;

@@ -1,13 +1,10 @@
 -- The device as its installation ends.
-use Rattle.std.specs.Prelude.{ℕ, ◌==◌, if◌then◌else◌, None}
+use Rattle.std.specs.Prelude.{◌==◌, if◌then◌else◌, None}
 use Rattle.vab_marks.specs.declared.mark.MarkPhase.TheVariants as marks
-use Rattle.vab_marks.specs.declared.mark.UpdateMark.{UpdateMark}
 use Rattle.vab_layout.specs.Slots.{other_slot}
 use Rattle.vab_install.specs.Control.{cleared_of}
 use Rattle.vab_device.specs.declared.device.Device.{Device}
-
-abbrev pub staged_mark : ℕ → UpdateMark
-staged_mark slot = record { phase = marks.Staged; slot = slot }
+use Rattle.vab_marks.specs.Mark.{staged_mark}
 
 -- its plan has become the images of the target, and boot control says nothing of that
 abbrev pub finished_device : Device → Device

@@ -1,11 +1,10 @@
 -- What the end of an installation writes.
 use Rattle.std.specs.Prelude.{◌⊎◌, ℕ, List}
 use Rattle.vab_disk.specs.Disk.{IsAt}
-use Rattle.vab_marks.specs.Mark.{mark_spelling}
+use Rattle.vab_marks.specs.Mark.{mark_spelling, staged_mark}
 use Rattle.vab_layout.specs.Slots.{other_slot}
 use Rattle.vab_install.specs.Control.{cleared_of, IsControl}
 use Rattle.vab_device.specs.declared.device.Device.{Device}
-use Rattle.vab_finish.specs.Finished.{staged_mark}
 use Rattle.vab_finish.specs.Ready.{MayFinish}
 
 -- Where boot control's sector had these bytes: boot control with nothing said of the target, and

@@ -16,7 +16,7 @@ pub fn finished(device: Device) -> Device
     let control = cleared(&device.control, 1 - slot);
     let mark = UpdateMark {
         phase: MarkPhase::Staged,
-        slot,
+        ..device.mark
     };
     let Device {
         geometry,

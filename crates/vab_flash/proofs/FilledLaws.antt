@@ -8,6 +8,7 @@ use Rattle.std.proofs.lemmas.List.{get_or_default}
 use Rattle.vab_disk.specs.Disk.{Image}
 use Rattle.vab_gate.specs.Gate.{sectors_at}
 use Rattle.vab_exceptions.specs.declared.area.Exception.{Exception}
+use Rattle.vab_space.specs.declared.Chunk.TheVariants.{One}
 use Rattle.vab_store.specs.Seen.{chosen_bytes}
 use Rattle.vab_store.specs.View.{view_of, Fits}
 use Rattle.vab_store.specs.Writing.{block_of}
@@ -43,7 +44,7 @@ seen_filled store es n (own ∷ owns) image staged each =
 -- A partition of which the first blocks are those that the store was made for: of the others each
 -- is in the store.
 module _ (base own store staged : List ℕ) (es : List Exception) (image : Image)
-    (fits : Fits (length own) store es)
+    (fits : Fits One (length own) store es)
     (begins : (i : ℕ) → i < length own → i < length base → get_or own i 0 ≡ get_or base i 0)
     (behind : (i : ℕ) → i < length own → length base ≤ i → view_of es i ≡ None → ⊥)
     (holds : HoldsBlocks base store es image staged (length own)) where

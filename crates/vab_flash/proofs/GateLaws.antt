@@ -18,6 +18,7 @@ use Rattle.vab_model.specs.declared.state.Phase.TheVariants.{Installing}
 use Rattle.vab_marks.specs.declared.status.PartStatus.{PartStatus}
 use Rattle.vab_statuses.specs.Statuses.{IsOfStatuses, statuses_in, written_in, with_status, free_in}
 use Rattle.vab_exceptions.specs.declared.area.Exception.{Exception}
+use Rattle.vab_space.specs.declared.Chunk.TheVariants.{One}
 use Rattle.vab_store.specs.Scan.{scan_of}
 use Rattle.vab_layout.specs.declared.layout.Part.{Part as PartOfLayout}
 use Rattle.vab_layout.specs.declared.layout.Layout.{Layout}
@@ -71,7 +72,7 @@ module _
     (free_is : free_in i.statuses ≡ Some free)
     (joined : statuses_in new
     ≡ Ok (with_status i.statuses free (record { name = name; count = length es })))
-    (scan : scan_of (sectors_of (layout_of i.target).device.first_logical_sector store.blocks)
+    (scan : scan_of One (sectors_of (layout_of i.target).device.first_logical_sector store.blocks)
     (length (sectors_of (layout_of i.target).device.first_logical_sector part.blocks)) new
     ≡ Ok es) where
   abbrev read_was : Read

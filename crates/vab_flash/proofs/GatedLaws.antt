@@ -1,7 +1,7 @@
 -- The gate of a status, by what the calls before it say.
 use Rattle.std.proofs.Common.{◌≡◌, ◌∙◌, inl, inr, ℕ, ◌+◌, ◌≤◌, ◌<◌, List, ◌++◌, length, get_or, sym}
 use Rattle.std.proofs.Common.{ap, subst, Ok}
-use Rattle.std.proofs.Common.{arith}
+use Rattle.std.proofs.Common.{arith, true}
 use Rattle.std.specs.Prelude.{Option, Some, All, is_some}
 use Rattle.std.proofs.lemmas.List.{length-set}
 use Rattle.vab_disk.specs.Disk.{IsAt}
@@ -22,13 +22,14 @@ use Rattle.vab_marks.specs.declared.status.PartStatus.{PartStatus}
 use Rattle.vab_marks.specs.Status.{status_of, status_spelling}
 use Rattle.vab_statuses.specs.Statuses.{IsOfStatuses, IsFirstFree}
 use Rattle.vab_statuses.proofs.StatusesLaws.{first_is_free}
+use Rattle.vab_space.specs.declared.Chunk.TheVariants.{One}
 use Rattle.vab_store.specs.Layout.{InFirst, IsApart, AreDisjoint}
 use Rattle.vab_store.specs.Scan.{scan_of}
 use Rattle.vab_store.specs.View.{Fits}
 use Rattle.vab_store.specs.Writing.{planned_of}
 use Rattle.vab_install.specs.Snapshot.{HoldsBlocks}
 use Rattle.vab_model.specs.Commands.{Flash}
-use Rattle.vab_model.specs.Effects.{does}
+use Rattle.vab_model.specs.Effects.{does, wanting}
 use Rattle.vab_model.specs.declared.command.Reply.TheVariants.{Done}
 use Rattle.vab_device.specs.declared.device.Device.{Device}
 use Rattle.vab_device.specs.declared.device.Part.{Part}
@@ -73,10 +74,10 @@ module _ (d : Device) (size : ℕ) (old : Image) (device_is : IsDevice d size)
       (on_disk : All (λ s. s + 8 ≤ size) (base_of_place d place))
       (mid : Image) (es : List Exception) (free : ℕ) (status : PartStatus)
       (room : needed_at d place old bytes ≤ store_long d place)
-      (es_is : es ≡ planned_of (differing_at d place old bytes))
-      (fits : Fits (length (planned_at d place).map) (store_at d place) es)
+      (es_is : es ≡ planned_of One (differing_at d place old bytes))
+      (fits : Fits One (length (planned_at d place).map) (store_at d place) es)
       (but : SameBut (InSectors (InFirst (store_at d place) (needed_at d place old bytes))) old mid)
-      (scan : scan_of (store_at d place) (length (planned_at d place).map) mid ≡ Ok es)
+      (scan : scan_of One (store_at d place) (length (planned_at d place).map) mid ≡ Ok es)
       (holds : HoldsBlocks (base_of_place d place) (store_at d place) es mid bytes
       (length (planned_at d place).map))
       (first : IsFirstFree old (Some free))
@@ -87,19 +88,20 @@ module _ (d : Device) (size : ℕ) (old : Image) (device_is : IsDevice d size)
     gated = set_sector mid free (status_spelling status)
 
     pub both : (effect_on (mounted_on d old) staged (Flash name)
-        ≡ does Done (mounted_on (with_written d place es) gated))
+        ≡ wanting true (does Done (mounted_on (with_written d place es) gated)))
         × Represents (with_written d place es) size gated
     both =
         let ready = room_true d size old device_is is name staged place bytes chosen whole on_disk
         room in
-        let fits_store = subst (λ (ss : List ℕ). Fits (length (planned_at d place).map) ss es)
+        let fits_store = subst (λ (ss : List ℕ). Fits One (length (planned_at d place).map) ss es)
         store_is
         fits in
         let but_store = subst
         (λ (ss : List ℕ). SameBut (InSectors (InFirst ss (needed_at d place old bytes))) old mid)
         store_is but in
         let scan_store = subst
-        (λ (ss : List ℕ). scan_of ss (length (planned_at d place).map) mid ≡ Ok es) store_is scan in
+        (λ (ss : List ℕ). scan_of One ss (length (planned_at d place).map) mid ≡ Ok es) store_is
+        scan in
         let holds_store = subst
         (λ (ss : List ℕ).
         HoldsBlocks (base_of_place d place) ss es mid bytes (length (planned_at d place).map))
@@ -155,7 +157,7 @@ pub written_kept : (d : Device) (size : ℕ) (name : List ℕ) (staged : Option 
     (bytes : List ℕ) (es : List Exception)
     → IsDevice d size
     → IsChosen d name staged place bytes
-    → Fits (length (planned_at d place).map) (store_at d place) es
+    → Fits One (length (planned_at d place).map) (store_at d place) es
     → IsDevice (with_written d place es) size
 written_kept d size name staged place bytes es is chosen fits =
     let plan_is = chosen.has.plan_is in
@@ -175,7 +177,7 @@ written_kept d size name staged place bytes es is chosen fits =
           subst (λ (o : Option (List ℕ)). IsStored size (planned_at d place).map o (Written es))
           (sym chosen.fits.store_is) (
             store_kept size (planned_at d place) chosen.fits.store old chosen.fits.store_is,
-            subst (λ (ss : List ℕ). Fits (length (planned_at d place).map) ss es) there fits,
+            subst (λ (ss : List ℕ). Fits One (length (planned_at d place).map) ss es) there fits,
           );
     } in
     record {

@@ -14,6 +14,7 @@ use Rattle.vab_device.specs.declared.device.Device.{Device}
 use Rattle.vab_device.specs.Phases.{phase_at}
 use Rattle.vab_device.specs.Reading.{Read, kept, parts_for, Reads, AgreeCopies, Represents}
 use Rattle.vab_device.specs.Stores.{Scanned}
+use Rattle.vab_marks.specs.Mark.{mark_at}
 
 -- what is read of a disk with an update from this slot, with the tables of source and target
 abbrev pub installing_read : ℕ
@@ -26,7 +27,7 @@ abbrev pub installing_read : ℕ
     → List Scanned
     → Read
 installing_read slot statuses control geometry s t others scanned = record {
-  mark = record { phase = marks.Installing; slot = slot };
+  mark = mark_at marks.Installing slot;
   statuses = statuses;
   control = control;
   geometry = geometry;
@@ -106,7 +107,7 @@ installs_of d size image plan is planned =
     r.scanned in
     let e : r ≡ form =
     (λ i. record {
-      mark = record { phase = p.installing i; slot = r.mark.slot };
+      mark = record r.mark { phase = p.installing i };
       statuses = r.statuses;
       control = r.control;
       geometry = r.geometry;

@@ -9,6 +9,7 @@ use Rattle.vab_disk.specs.Disk.{Image}
 use Rattle.vab_marks.specs.declared.status.PartStatus.{PartStatus}
 use Rattle.vab_statuses.specs.Statuses.{written_in, status_named, with_status, free_in}
 use Rattle.vab_exceptions.specs.declared.area.Exception.{Exception}
+use Rattle.vab_space.specs.declared.Chunk.TheVariants.{One}
 use Rattle.vab_store.specs.declared.fault.StoreFault.{StoreFault}
 use Rattle.vab_store.specs.Scan.{scan_of}
 use Rattle.vab_names.specs.Names.{store_of}
@@ -175,7 +176,7 @@ taken_name w (Err fault) s is =
 
 scan_name : (w : Wanted) (image : Image) (s : Scanned) → scan_at w image ≡ Ok s → s.name ≡ w.name
 unfolding scan_at
-scan_name w image s is = taken_name w (scan_of w.store (length w.base) image) s is
+scan_name w image s is = taken_name w (scan_of One w.store (length w.base) image) s is
 
 -- a status whose store was read is of a partition with a store
 pub record IsStoredBy (slot : ℕ) (l : Layout) (st : PartStatus) : Type 0 where

@@ -10,6 +10,7 @@ use Rattle.vab_disk.specs.Calls.{IsBetween, InSectors, SameBut}
 use Rattle.std.proofs.lemmas.List.Elements.{All-get_or}
 use Rattle.vab_names.specs.Names.{base_of, in_slot}
 use Rattle.vab_space.specs.Space.{need_of}
+use Rattle.vab_space.specs.declared.Chunk.TheVariants.{One}
 use Rattle.vab_store.specs.Layout.{IsApart, AreDisjoint, InFirst}
 use Rattle.vab_layout.specs.Layout.{layout_of}
 use Rattle.vab_layout.specs.Slots.{other_slot, own_parts, blocks_named}
@@ -49,7 +50,7 @@ use Rattle.vab_layout.specs.Slots.{IsTargetPart, before_of}
 use Rattle.vab_model.specs.declared.state.PlanImage.TheVariants as models
 use Rattle.vab_model.specs.declared.state.Phase.TheVariants.{Installing}
 use Rattle.vab_model.specs.declared.command.Reply.TheVariants as replies
-use Rattle.vab_model.specs.Effects.{does, unless_refused}
+use Rattle.vab_model.specs.Effects.{does, wanting, unless_refused}
 use Rattle.vab_flash.specs.Chosen.{store_at, needed_at, full_of}
 use Rattle.vab_flash.proofs.FlashLaws.{le_true, full_is}
 use Rattle.vab_device.specs.Mounted.{Mounted, bytes_at, written_sectors, blocks_there, state_on}
@@ -282,10 +283,10 @@ module _ (d : Device) (size : ℕ) (old : Image) (device_is : IsDevice d size)
 
     module _ (mid : Image) (es : List Exception) (free : ℕ) (spelled : List ℕ)
         (room : nat_le (need_of n) (length chosen.fits.store) ≡ true)
-        (es_is : es ≡ planned_of (differing_at d place old bytes))
-        (fits : Fits (length (planned_at d place).map) chosen.fits.store es)
+        (es_is : es ≡ planned_of One (differing_at d place old bytes))
+        (fits : Fits One (length (planned_at d place).map) chosen.fits.store es)
         (but : SameBut (InSectors (InFirst chosen.fits.store (need_of n))) old mid)
-        (scan : scan_of chosen.fits.store (length (planned_at d place).map) mid ≡ Ok es)
+        (scan : scan_of One chosen.fits.store (length (planned_at d place).map) mid ≡ Ok es)
         (holds : HoldsBlocks (base_of_place d place) chosen.fits.store es mid bytes
         (length (planned_at d place).map))
         (free_is : (statuses : List (Option PartStatus))
@@ -349,13 +350,14 @@ module _ (d : Device) (size : ℕ) (old : Image) (device_is : IsDevice d size)
       part_long : length (planned_at d place).map ≡ length (sectors_of at p.part.blocks)
       part_long = ap (λ (x : Part). length x.map) p.planned
 
-      scan_then : scan_of store_sectors (length (sectors_of at p.part.blocks)) gated ≡ Ok es
+      scan_then : scan_of One store_sectors (length (sectors_of at p.part.blocks)) gated ≡ Ok es
       scan_then =
           scan_kept store_sectors mid gated
           (λ s here. high_stays s (omega (arith, block_behind at p.keeps.blocks s here)))
           (length (sectors_of at p.part.blocks)) es
-          (ap (λ (ss : List ℕ). scan_of ss (length (sectors_of at p.part.blocks)) mid) p.store_is
-          ∙ ap (λ (k : ℕ). scan_of chosen.fits.store k mid) (sym part_long)
+          (ap (λ (ss : List ℕ). scan_of One ss (length (sectors_of at p.part.blocks)) mid)
+          p.store_is
+          ∙ ap (λ (k : ℕ). scan_of One chosen.fits.store k mid) (sym part_long)
           ∙ scan)
 
       pub next : Device
@@ -468,11 +470,11 @@ module _ (d : Device) (size : ℕ) (old : Image) (device_is : IsDevice d size)
       count_is : length es ≡ n
       count_is =
           ap length es_is
-          ∙ length-firsts (planned_exception (differing_at d place old bytes))
+          ∙ length-firsts (planned_exception One (differing_at d place old bytes))
           (length (differing_at d place old bytes))
 
       pub effect_next : effect_on (mounted_on d old) staged (Flash name)
-          ≡ does replies.Done (mounted_on (with_written d place es) gated)
+          ≡ wanting true (does replies.Done (mounted_on (with_written d place es) gated))
       unfolding next
       effect_next =
           let means = mounted_then d size old i device_is name p.part p.keeps p.own p.found p.unread
@@ -489,7 +491,7 @@ module _ (d : Device) (size : ℕ) (old : Image) (device_is : IsDevice d size)
           let name_is : (planned_at d place).name ≡ base_of name =
           ap (λ (x : Part). x.name) p.planned ∙ ap base_of p.named in
           effect_room room
-          ∙ (λ k. does replies.Done (record (mounted_on d old) {
+          ∙ (λ k. wanting true (does replies.Done (record (mounted_on d old) {
             state = record (state_on d old) {
               phase =
                   Installing d.mark.slot
@@ -497,8 +499,8 @@ module _ (d : Device) (size : ℕ) (old : Image) (device_is : IsDevice d size)
                   (models.Written (filled bytes (part_long k)) (sym count_is k))
                   (map (entry_on old) (p.plan_is k)));
             };
-          }))
-          ∙ ap (λ (m : Mounted). does replies.Done m)
+          })))
+          ∙ ap (λ (m : Mounted). wanting true (does replies.Done m))
           (sym means ∙ ap (λ (k : Device). mounted_on k gated) next_is)
 
     store_is : store_at d place ≡ chosen.fits.store
@@ -512,9 +514,9 @@ module _ (d : Device) (size : ℕ) (old : Image) (device_is : IsDevice d size)
 
     -- where memory is refused to it
     pub no_memory : needed_at d place old bytes ≤ store_long d place
-        → unless_refused true (Flash name) (effect_on (mounted_on d old) staged (Flash name))
+        → unless_refused true (effect_on (mounted_on d old) staged (Flash name))
         ≡ refuses NoMemory
-    no_memory room = ap (unless_refused true (Flash name)) (effect_room (room_true room))
+    no_memory room = ap (unless_refused true) (effect_room (room_true room))
 
     -- where the store has no room
     pub full_refused : (needed have : ℕ)

@@ -10,6 +10,7 @@ use Rattle.vab_disk.specs.Disk.{Image}
 use Rattle.vab_names.specs.Names.{is_of_slot, base_of, in_slot, suffix_of}
 use Rattle.vab_names.proofs.NameLaws.{of_slot, base_of-append}
 use Rattle.vab_exceptions.specs.declared.area.Exception.{Exception}
+use Rattle.vab_space.specs.declared.Chunk.TheVariants.{One}
 use Rattle.vab_store.specs.Layout.{IsApart}
 use Rattle.vab_store.specs.View.{view_of, exception_at}
 use Rattle.vab_store.specs.Writing.{planned_of, planned_at}
@@ -135,7 +136,7 @@ begins_same at own base same i in_own in_base =
 pub behind_end : (base staged : List ℕ) (image : Image) (blocks i : ℕ)
     → i < blocks
     → length base ≤ i
-    → view_of (planned_of (differing_of base image staged blocks)) i ≡ None
+    → view_of (planned_of One (differing_of base image staged blocks)) i ≡ None
     → ⊥
 behind_end base staged image blocks i below past none =
     let olds : List ℕ = differing_of base image staged blocks in
@@ -144,8 +145,8 @@ behind_end base staged image blocks i below past none =
       | inl inside ↦ absurd (omega (arith, ltb-true i (length base) inside, past))
       | inr past ↦ rw past refl
     ]) in
-    let is : exception_at (planned_of olds) stands.place ≡ planned_at olds stands.place =
-    planned_of-at olds stands.place stands.within in
-    view_out (planned_of olds) i none stands.place
-    (omega (arith, stands.within, length-firsts (planned_at olds) (length olds)))
+    let is : exception_at (planned_of One olds) stands.place ≡ planned_at One olds stands.place =
+    planned_of-at One olds stands.place stands.within in
+    view_out (planned_of One olds) i none stands.place
+    (omega (arith, stands.within, length-firsts (planned_at One olds) (length olds)))
     (ap (λ (e : Exception). e.old_chunk) is ∙ stands.is)

@@ -3,6 +3,7 @@
 ghost use Rattle.std.specs.Prelude.{◌≡◌, ◌≤◌, ◌<◌, ◌^◌, Some, None, length, Ok, IfOk, OnOk, IsSome};
 ghost use Rattle.std.specs.Prelude.{option_map};
 ghost use Rattle.vab_disk.specs.Calls.{IsAtRest, InSectors, Touches};
+ghost use Rattle.vab_space.specs.declared.Chunk.TheVariants.{One};
 ghost use Rattle.vab_store.specs.Layout.{IsOnDisk, IsApart, AreDisjoint, InFirst};
 ghost use Rattle.vab_store.specs.Scan.{scan_of};
 ghost use Rattle.vab_store.specs.View.{Fits};
@@ -54,9 +55,9 @@ fn write_place<D: Disk>(
     requires room { D.is_modelled
         → needed_at device.now place (D.seen d.old) bytes.now ≤ store_long device.now place }
     ensures planned { D.is_modelled → IfOk result
-        (λ v. v ≡ planned_of (differing_at device.now place (D.seen d.old) bytes.now)) }
+        (λ v. v ≡ planned_of One (differing_at device.now place (D.seen d.old) bytes.now)) }
     ensures scanned { D.is_modelled → IfOk result
-        (λ v. scan_of (store_at device.now place) (length (planned_at device.now place).map)
+        (λ v. scan_of One (store_at device.now place) (length (planned_at device.now place).map)
         (D.seen d.new)
         ≡ Ok v) }
     ensures holds { D.is_modelled → IfOk result
@@ -64,7 +65,7 @@ fn write_place<D: Disk>(
         (D.seen d.new) bytes.now (length (planned_at device.now place).map)) }
     ensures settled { D.is_modelled → OnOk result (IsAtRest D.Disk d.new) }
     ensures fits { IfOk result
-        (λ v. Fits (length (planned_at device.now place).map) (store_at device.now place) v) }
+        (λ v. Fits One (length (planned_at device.now place).map) (store_at device.now place) v) }
     ensures touches { Touches D.Disk
         (InSectors (InFirst (store_at device.now place)
         (needed_at device.now place (D.seen d.old) bytes.now))) d.old d.new }

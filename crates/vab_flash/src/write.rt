@@ -4,6 +4,7 @@ ghost use Rattle.std.specs.Prelude.{◌≡◌, ◌≤◌, ◌^◌, [], length, O
 ghost use Rattle.std.specs.Option.{option_copied};
 ghost use Rattle.vab_disk.specs.Calls.{IsAtRest, InSectors, Touches};
 ghost use Rattle.vab_space.specs.Space.{need_of};
+ghost use Rattle.vab_space.specs.declared.Chunk.TheVariants.{One};
 ghost use Rattle.vab_store.specs.Layout.{IsOnDisk, IsApart, AreDisjoint, InFirst};
 ghost use Rattle.vab_store.specs.Scan.{scan_of};
 ghost use Rattle.vab_store.specs.View.{Fits};
@@ -47,15 +48,15 @@ pub fn write_image<D: Disk>(
         (differing_of (blocks_or (option_copied base)) (D.seen d.old) staged.now blocks))
         ≤ length store.now }
     ensures planned { D.is_modelled → IfOk result
-        (λ v. v ≡ planned_of
+        (λ v. v ≡ planned_of One
         (differing_of (blocks_or (option_copied base.entry)) (D.seen d.old) staged.now blocks)) }
     ensures scanned { D.is_modelled
-        → IfOk result (λ v. scan_of store.now blocks (D.seen d.new) ≡ Ok v) }
+        → IfOk result (λ v. scan_of One store.now blocks (D.seen d.new) ≡ Ok v) }
     ensures holds { D.is_modelled → IfOk result
         (λ v. HoldsBlocks (blocks_or (option_copied base.entry)) store.now v (D.seen d.new)
         staged.now blocks) }
     ensures settled { D.is_modelled → OnOk result (IsAtRest D.Disk d.new) }
-    ensures fits { IfOk result (λ v. Fits blocks store.now v) }
+    ensures fits { IfOk result (λ v. Fits One blocks store.now v) }
     // It touches the first chunks of the store alone, as many as it needs.
     ensures touches { Touches D.Disk
         (InSectors (InFirst store.now

@@ -4,14 +4,15 @@ use std::test::*;
 use vab_exceptions::{
     Area, Exception, decode_area, decode_store_header, encode_area, encode_store_header,
 };
+use vab_space::Chunk;
 
 #[test]
 fn header_begins_with_snap_and_three_numbers(rt: HostRuntime) {
-    let bytes = encode_store_header();
+    let bytes = encode_store_header(Chunk::One);
     let front = [0x53, 0x6e, 0x41, 0x70, 1, 0, 0, 0, 1, 0, 0, 0, 8, 0, 0, 0];
     assert!(rt; bytes[..16] == front[..]);
     assert_eq!(rt; bytes[16], 0);
-    assert_eq!(rt; decode_store_header(&bytes), Ok(()));
+    assert_eq!(rt; decode_store_header(&bytes), Ok(Chunk::One));
 }
 
 #[test]
@@ -25,7 +26,8 @@ fn entries_are_two_numbers_of_eight_bytes(rt: HostRuntime) {
         old_chunk: 258,
         new_chunk: 3,
     });
-    let bytes = encode_area(&area);
+    let mut bytes = [0; 4096];
+    encode_area(&area, &mut bytes);
     for (entry, wanted) in [
         (&bytes[..16], b"\x05\0\0\0\0\0\0\0\x02\0\0\0\0\0\0\0"),
         (&bytes[16..32], b"\x02\x01\0\0\0\0\0\0\x03\0\0\0\0\0\0\0"),

@@ -32,6 +32,8 @@ mod sets;
 #[cfg(test)]
 mod space;
 #[cfg(test)]
+mod sparse;
+#[cfg(test)]
 mod statuses;
 #[cfg(test)]
 mod stored_tables;

@@ -69,3 +69,16 @@ fn each_fault_is_the_first_from_the_left(rt: HostRuntime) -> Result<(), Fail> {
     }
     Ok(())
 }
+
+// A name of 31 bytes `x` that is there as a whole, and one of nine bytes that ends behind four.
+#[test]
+fn names_that_are_too_long_or_cut_off_are_refused(rt: HostRuntime) -> Result<(), Fail> {
+    let mut set = b"VABSET1\n\x01\0\0\0\x1f".to_vec(rt.alloc())?;
+    for _i in 0..31u8 {
+        set.push(b'x')?;
+    }
+    let cut = b"VABSET1\n\x01\0\0\0\x09syst";
+    assert_eq!(rt; fault_of(rt.alloc(), &set), Some(SetFault::BadName(0)));
+    assert_eq!(rt; fault_of(rt.alloc(), cut), Some(SetFault::Cut(0)));
+    Ok(())
+}

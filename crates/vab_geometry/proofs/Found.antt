@@ -8,6 +8,10 @@ use Rattle.vab_geometry.specs.Geometry.{IsGeometry, Represents}
 use Rattle.vab_geometry.specs.Reading.{geometry_of}
 use Rattle.vab_geometry.proofs.GeometryLaws.{found_is}
 
-pub is_found : (bytes : List ℕ) (r : Result Geometry GeometryFault) → length bytes ≡ 512 → IsBytes bytes → r ≡ geometry_of bytes → IfOk r (λ g. IsGeometry g × Represents bytes g)
+pub is_found : (bytes : List ℕ) (r : Result Geometry GeometryFault)
+    → length bytes ≡ 512
+    → IsBytes bytes
+    → r ≡ geometry_of bytes
+    → IfOk r (λ g. IsGeometry g × Represents bytes g)
 is_found bytes (Ok g) long small is = found_is bytes g long small (sym is)
 is_found bytes (Err f) long small is = tt

@@ -8,8 +8,9 @@ use Rattle.std.proofs.lemmas.Slice.Eq.{bytes_eq-Decides}
 use Rattle.vab_disk.specs.Disk.{Image}
 use Rattle.vab_exceptions.specs.declared.area.Exception.{Exception}
 use Rattle.vab_disk.specs.Calls.{InSectors, SameBut}
-use Rattle.vab_exceptions.specs.Entries.{area_entries}
-use Rattle.vab_store.specs.Layout.{chunk_bytes, new_chunk_of, AreDisjoint, InFirst}
+use Rattle.vab_space.specs.Chunks.{new_chunk_of}
+use Rattle.vab_space.specs.declared.Chunk.TheVariants.{One}
+use Rattle.vab_store.specs.Layout.{chunk_bytes, AreDisjoint, InFirst}
 use Rattle.vab_store.specs.Seen.{chosen_bytes}
 use Rattle.vab_store.specs.View.{view_of, exception_at}
 use Rattle.vab_store.specs.Writing.{planned_of, planned_at, block_of}
@@ -43,8 +44,8 @@ base_stays base store n old new i disjoint fits same below =
 
 -- ---- what is read through the store
 
-length_planned : (olds : List ℕ) → length (planned_of olds) ≡ length olds
-length_planned olds = length-firsts (planned_at olds) (length olds)
+length_planned : (olds : List ℕ) → length (planned_of One olds) ≡ length olds
+length_planned olds = length-firsts (planned_at One olds) (length olds)
 
 same_block : (base : List ℕ) (image : Image) (staged : List ℕ) (i : ℕ)
     → differs_at base image staged i ≡ false
@@ -61,16 +62,16 @@ module _ (base store olds staged : List ℕ) (old new : Image) (blocks : ℕ)
     (holds : HoldsNew store olds staged new)
     (kept : (i : ℕ) → i < length base → chunk_bytes base new i ≡ chunk_bytes base old i) where
   read_new : (i chunk : ℕ)
-      → view_of (planned_of olds) i ≡ Some chunk
+      → view_of (planned_of One olds) i ≡ Some chunk
       → chunk_bytes store new chunk ≡ block_of staged i
   read_new i chunk h =
-      let at : IsIn (planned_of olds) i chunk = view_in (planned_of olds) i chunk h in
+      let at : IsIn (planned_of One olds) i chunk = view_in (planned_of One olds) i chunk h in
       let below : at.place < length olds = omega (arith, at.within, length_planned olds) in
-      let is : exception_at (planned_of olds) at.place ≡ planned_at olds at.place =
-      planned_of-at olds at.place below in
+      let is : exception_at (planned_of One olds) at.place ≡ planned_at One olds at.place =
+      planned_of-at One olds at.place below in
       let old_is : get_or olds at.place 0 ≡ i =
       sym (ap (λ (e : Exception). e.old_chunk) is) ∙ at.old_is in
-      let new_is : new_chunk_of area_entries at.place ≡ chunk =
+      let new_is : new_chunk_of One at.place ≡ chunk =
       sym (ap (λ (e : Exception). e.new_chunk) is) ∙ at.new_is in
       ap (chunk_bytes store new) (sym new_is)
       ∙ holds at.place below
@@ -78,7 +79,7 @@ module _ (base store olds staged : List ℕ) (old new : Image) (blocks : ℕ)
 
   same_at : (i : ℕ)
       → i < blocks
-      → view_of (planned_of olds) i ≡ None
+      → view_of (planned_of One olds) i ≡ None
       → differs_at base old staged i ≡ false
   same_at i below h =
       false_from_ne_true (differs_at base old staged i)
@@ -86,20 +87,20 @@ module _ (base store olds staged : List ℕ) (old new : Image) (blocks : ℕ)
       let stands : StandsIn olds i =
       subst (λ (l : List ℕ). StandsIn l i) (sym listed)
       (differing_has base old staged blocks i below differs) in
-      let is : exception_at (planned_of olds) stands.place ≡ planned_at olds stands.place =
-      planned_of-at olds stands.place stands.within in
-      view_out (planned_of olds) i h stands.place
+      let is : exception_at (planned_of One olds) stands.place ≡ planned_at One olds stands.place =
+      planned_of-at One olds stands.place stands.within in
+      view_out (planned_of One olds) i h stands.place
       (omega (arith, stands.within, length_planned olds))
       (ap (λ (e : Exception). e.old_chunk) is ∙ stands.is))
 
   chosen : (i : ℕ) (o : Option ℕ)
       → i < blocks
-      → view_of (planned_of olds) i ≡ o
+      → view_of (planned_of One olds) i ≡ o
       → chosen_bytes base store new i o ≡ block_of staged i
   chosen i (Some chunk) below h = read_new i chunk h
   chosen i None below h =
       let same = same_block base old staged i (same_at i below h) in
       kept i same.0 ∙ same.1
 
-  pub holds_blocks : HoldsBlocks base store (planned_of olds) new staged blocks
-  holds_blocks i below = chosen i (view_of (planned_of olds) i) below refl
+  pub holds_blocks : HoldsBlocks base store (planned_of One olds) new staged blocks
+  holds_blocks i below = chosen i (view_of (planned_of One olds) i) below refl

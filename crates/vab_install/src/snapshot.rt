@@ -4,6 +4,7 @@ ghost use Rattle.std.specs.Prelude.{◌≡◌, ℕ, ◌<◌, ◌≤◌, length, 
 ghost use Rattle.std.specs.List.Sorted.{IsStrictlyIncreasing};
 ghost use Rattle.vab_disk.specs.Calls.{IsAtRest, InSectors, OnlyReads, Touches, FailsWithDisk};
 ghost use Rattle.vab_space.specs.Space.{need_of};
+ghost use Rattle.vab_space.specs.declared.Chunk.TheVariants.{One};
 ghost use Rattle.vab_store.specs.Layout.{IsOnDisk, IsApart, AreDisjoint, InFirst};
 ghost use Rattle.vab_store.specs.Scan.{scan_of};
 ghost use Rattle.vab_store.specs.View.{Fits};
@@ -18,7 +19,7 @@ use std::alloc::Global;
 use vab_disk::{Disk, NoMemory};
 use vab_gate::{DiskFault, settle};
 use vab_linear::Map;
-use vab_space::need;
+use vab_space::{Chunk, need};
 use vab_store::{StoreView, write_store};
 
 // What is to be written: the blocks that differ, and the view of a store with them.
@@ -44,7 +45,7 @@ fn make_plan<D: Disk>(
     ensures ascend { IfOk result (λ p. IsStrictlyIncreasing p.olds.items) }
     ensures below { IfOk result (λ p. All (λ old. old < blocks) p.olds.items) }
     ensures room { IfOk result (λ p. need_of (length p.olds.items) ≤ length store.now) }
-    ensures view { IfOk result (λ p. p.view ≡ planned_of p.olds.items) }
+    ensures view { IfOk result (λ p. p.view ≡ planned_of One p.olds.items) }
     ensures reads { OnlyReads D.Disk d.old d.new }
     ensures counts { CountsFaults D.Disk d.old d.new result }
 {
@@ -55,7 +56,7 @@ fn make_plan<D: Disk>(
     if need(olds.len() as u64) > store.len() {
         return Err(PartFault::NoMemory);
     }
-    match StoreView::planned(alloc, olds.as_slice()) {
+    match StoreView::planned(alloc, olds.as_slice(), Chunk::One) {
         Ok(view) => Ok(Plan { olds, view }),
         Err(NoMemory) => Err(PartFault::NoMemory),
     }
@@ -75,7 +76,7 @@ fn write_planned<D: Disk>(
     ensures scanned { D.is_modelled → OnOk result
         ((bound : ℕ)
         → All (λ old. old < bound) olds.now
-        → scan_of store.now bound (D.seen d.new) ≡ Ok (planned_of olds.now)) }
+        → scan_of One store.now bound (D.seen d.new) ≡ Ok (planned_of One olds.now)) }
     ensures blocks { D.is_modelled
         → OnOk result (HoldsNew store.now olds.now image.now (D.seen d.new)) }
     ensures settled { D.is_modelled → OnOk result (IsAtRest D.Disk d.new) }
@@ -83,7 +84,7 @@ fn write_planned<D: Disk>(
         (InSectors (InFirst store.now (need_of (length olds.now)))) d.old d.new }
     ensures faults { FailsWithDisk D.Disk d.old d.new result }
 {
-    match write_store(d, store, olds, image) {
+    match write_store(d, store, olds, image, Chunk::One) {
         Ok(()) => settle(d),
         Err(fault) => Err(fault),
     }
@@ -108,15 +109,15 @@ pub fn write_snapshot<D: Disk>(
         → need_of (length (differing_of base.now (D.seen d.old) image.now blocks))
         ≤ length store.now }
     ensures planned { D.is_modelled → IfOk result
-        (λ v. v ≡ planned_of (differing_of base.now (D.seen d.old) image.now blocks)) }
+        (λ v. v ≡ planned_of One (differing_of base.now (D.seen d.old) image.now blocks)) }
     // A scan of the store gives these exceptions.
     ensures scanned { D.is_modelled
-        → IfOk result (λ v. scan_of store.now blocks (D.seen d.new) ≡ Ok v) }
+        → IfOk result (λ v. scan_of One store.now blocks (D.seen d.new) ≡ Ok v) }
     // Read through the store, the partition is the image.
     ensures holds { D.is_modelled → IfOk result
         (λ v. HoldsBlocks base.now store.now v (D.seen d.new) image.now blocks) }
     ensures settled { D.is_modelled → OnOk result (IsAtRest D.Disk d.new) }
-    ensures fits { IfOk result (λ v. Fits blocks store.now v) }
+    ensures fits { IfOk result (λ v. Fits One blocks store.now v) }
     // It touches the first chunks of the store alone, as many as it needs.
     ensures touches { Touches D.Disk
         (InSectors (InFirst store.now

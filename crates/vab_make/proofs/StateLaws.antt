@@ -13,7 +13,7 @@ use Rattle.vab_space.specs.Space.{blocks_of}
 use Rattle.vab_marks.specs.declared.mark.UpdateMark.{UpdateMark}
 use Rattle.vab_marks.specs.declared.mark.MarkPhase.TheVariants as marks
 use Rattle.vab_marks.specs.declared.sector.MarkFault.{MarkFault}
-use Rattle.vab_marks.specs.Mark.{mark_of}
+use Rattle.vab_marks.specs.Mark.{mark_of, mark_at}
 use Rattle.vab_geometry.specs.declared.geometry.Geometry.{Geometry}
 use Rattle.vab_geometry.specs.Geometry.{IsGeometry}
 use Rattle.vab_geometry.specs.Reading.{geometry_of}
@@ -116,7 +116,7 @@ most_geometry max most = record {
 
 -- the mark of a device without an update, with images in slot a
 abbrev pub idle_one : UpdateMark
-idle_one = record { phase = marks.Idle; slot = 0 }
+idle_one = mark_at marks.Idle 0
 
 -- the bytes are those of this mark
 abbrev pub IsIdle : List ℕ → Type 0

@@ -1,5 +1,6 @@
 -- What a command does, by what it does to the disk.
-use Rattle.std.proofs.Common.{◌≡◌, ◌∙◌, inl, inr, ⊎_elim, ℕ, ◌<◌, true, false, eqb, List, [], ◌∷◌, Ok}
+use Rattle.std.proofs.Common.{◌≡◌, ◌∙◌, inl, inr, ⊎_elim, ℕ, ◌<◌, true, false, eqb, List, [], ◌∷◌}
+use Rattle.std.proofs.Common.{Ok}
 use Rattle.std.proofs.Common.{Err, None, refl, sym, ap, subst, arith, eq-eqb}
 use Rattle.std.specs.Prelude.{◌==◌, Option, Bool, if◌then◌else◌}
 use Rattle.std.proofs.lemmas.Bool.{cases_Bool, and_parts, and_from, or_left, eqb-true, eqb-false}
@@ -253,7 +254,8 @@ module _ {D : Type 0} (g : Ghosts D) (d : Device) (staged : Option (List ℕ)) (
       leaves : (t : g.is_modelled) (o : Outcome)
           → LeavesControl (g.told old) c (g.seen old) o
           → LeavesStep (g.told old) (g.size old)
-          (steps_of (mounted_on d (g.seen old)) (effect_on (mounted_on d (g.seen old)) staged command)) o
+          (steps_of (mounted_on d (g.seen old))
+          (effect_on (mounted_on d (g.seen old)) staged command)) o
       leaves t o left = ⊎_elim
           (λ same. record {
             told_so_far = left.told_so_far;
@@ -280,7 +282,8 @@ module _ {D : Type 0} (g : Ghosts D) (d : Device) (staged : Option (List ℕ)) (
           → IsAtRest g old
           → Adds g.moment g.outcomes old new
           (LeavesStep (g.told old) (g.size old)
-          (steps_of (mounted_on d (g.seen old)) (effect_on (mounted_on d (g.seen old)) staged command)))
+          (steps_of (mounted_on d (g.seen old))
+          (effect_on (mounted_on d (g.seen old)) staged command)))
       steps t rest = adds_wider g.moment g.outcomes old new _ _ (gate t rest) (leaves t)
 
       -- the disk failed

@@ -1,5 +1,6 @@
 -- What the table of effects says of commands on slots, by the boot control that is kept.
-use Rattle.std.proofs.Common.{◌≡◌, ◌∙◌, ℕ, inl, inr, Bool, true, false, eqb, List, Option, Some, None, refl, sym, ap}
+use Rattle.std.proofs.Common.{◌≡◌, ◌∙◌, ℕ, inl, inr, Bool, true, false, eqb, List, Option, Some}
+use Rattle.std.proofs.Common.{None, refl, sym, ap}
 use Rattle.std.specs.Prelude.{◌==◌, if◌then◌else◌, is_some}
 use Rattle.std.proofs.lemmas.Bool.{cases_Bool}
 use Rattle.vab_disk.specs.Disk.{Image}
@@ -43,7 +44,9 @@ control_is : (d : Device) (image : Image) → (state_on d image).control ≡ con
 unfolding state_on
 control_is d image = refl
 
-mapped : (m : Mounted) (e f : Effect State) → e ≡ f → effect_map (in_state m) e ≡ effect_map (in_state m) f
+mapped : (m : Mounted) (e f : Effect State)
+    → e ≡ f
+    → effect_map (in_state m) e ≡ effect_map (in_state m) f
 mapped m e f same = ap (effect_map (in_state m)) same
 
 -- ---- a slot is set active
@@ -57,7 +60,8 @@ activated_effect d image staged slot has =
     let there : is_some (images_at s slot) ≡ true = has_at d image slot ∙ has in
     let seen : activated_of (control_on d) slot
     ≡ control_seen (is_some d.a) (is_some d.b) (activated_of d.control slot) =
-    seen_activated (is_some d.a) (is_some d.b) d.control slot (sym (is_some_at d.a d.b slot) ∙ has) in
+    seen_activated (is_some d.a) (is_some d.b) d.control slot
+    (sym (is_some_at d.a d.b slot) ∙ has) in
     mapped (mounted_on d image) _ _
     (ap (λ (b : Bool). active_effect b s (activated_of s.control slot)) there
     ∙ ap (λ (c : Control). active_effect true s (activated_of c slot)) (control_is d image)
@@ -70,7 +74,8 @@ unfolding effect
 refused_effect d image staged slot none =
     let s : State = state_on d image in
     mapped (mounted_on d image) _ _
-    (ap (λ (b : Bool). active_effect b s (activated_of s.control slot)) (has_at d image slot ∙ none))
+    (ap (λ (b : Bool). active_effect b s (activated_of s.control slot))
+    (has_at d image slot ∙ none))
 
 -- ---- the current slot, which has images, is marked
 
@@ -81,7 +86,8 @@ unfolding effect
 marked_effect d image staged has =
     let s : State = state_on d image in
     mapped (mounted_on d image) _ _
-    (ap (λ (c : Control). (let e : Effect State = does replies.Done (with_control (marked_of c) s) in e))
+    (ap (λ (c : Control). (let e : Effect State =
+    does replies.Done (with_control (marked_of c) s) in e))
     (control_is d image)
     ∙ ap (λ (c : Control). (let e : Effect State = does replies.Done (with_control c s) in e))
     (seen_marked (is_some d.a) (is_some d.b) d.control has))

@@ -1,5 +1,6 @@
 -- The partition under a name has the image under it.
-use Rattle.std.proofs.Common.{◌≡◌, ℕ, inl, inr, List, Option, Some, None, Result, Ok, Err, refl, ap, ◌∙◌}
+use Rattle.std.proofs.Common.{◌≡◌, ℕ, inl, inr, List, Option, Some, None, Result, Ok, Err, refl, ap}
+use Rattle.std.proofs.Common.{◌∙◌}
 use Rattle.std.specs.Prelude.{ok_or}
 use Rattle.std.specs.Option.{option_map}
 use Rattle.std.proofs.lemmas.Bool.{cases_Bool}
@@ -25,27 +26,35 @@ abbrev pub found_by : Image → Result Part Refusal → Found
 found_by image (Ok p) = Image_is (image_on image p)
 found_by image (Err refusal) = Refused_by refusal
 
-as_found : (image : Image) (o : Option Part) → found_image (option_map (image_on image) o) ≡ found_by image (ok_or o Unknown)
+as_found : (image : Image) (o : Option Part)
+    → found_image (option_map (image_on image) o) ≡ found_by image (ok_or o Unknown)
 as_found image None = refl
 as_found image (Some p) = refl
 
 in_slot : (image : Image) (name : List ℕ) (o : Option (List Part))
     → found_in (images_on image o) name ≡ found_by image (part_in name o)
 in_slot image name None = refl
-in_slot image name (Some ps) = ap found_image (image_of_part image (base_of name) ps) ∙ as_found image (part_named (base_of name) ps)
+in_slot image name (Some ps) = ap found_image (image_of_part image (base_of name) ps)
+    ∙ as_found image (part_named (base_of name) ps)
 
 -- the image under a name is that of the partition under it
-pub found_is : (d : Device) (image : Image) (name : List ℕ) → found_of (state_on d image) name ≡ found_by image (found_part d name)
+pub found_is : (d : Device) (image : Image) (name : List ℕ)
+    → found_of (state_on d image) name ≡ found_by image (found_part d name)
 unfolding state_on
 found_is d image name = elim (cases_Bool (is_full 0 name)) [
   | inl h ↦ rw h (in_slot image name d.a)
-  | inr h ↦ elim (cases_Bool (is_full 1 name)) [ inl k ↦ rw (h, k) (in_slot image name d.b) | inr k ↦ rw (h, k) refl ]
+  | inr h ↦ elim (cases_Bool (is_full 1 name))
+      [ inl k ↦ rw (h, k) (in_slot image name d.b) | inr k ↦ rw (h, k) refl ]
 ]
 
 -- ---- what is known of it
 
-pub found_kept : (d : Device) (size : ℕ) (name : List ℕ) (p : Part) → IsDevice d size → found_part d name ≡ Ok p → IsPart size p
-found_kept d size name p is h = part_kept d size (slot_named name) (base_of name) p is (found_keeps d name p h)
+pub found_kept : (d : Device) (size : ℕ) (name : List ℕ) (p : Part)
+    → IsDevice d size
+    → found_part d name ≡ Ok p
+    → IsPart size p
+found_kept d size name p is h = part_kept d size (slot_named name) (base_of name) p is
+    (found_keeps d name p h)
 
 pub found_name : (d : Device) (name : List ℕ) (p : Part) → found_part d name ≡ Ok p → IsName name
 found_name d name p h = full_is (slot_named name) name (found_full d name p h)

@@ -9,6 +9,7 @@ use Rattle.std.proofs.lemmas.List.Elements.{All-get_or, All-from_get_or}
 use Rattle.vab_disk.specs.Disk.{Image}
 use Rattle.vab_gate.specs.Gate.{sectors_at}
 use Rattle.vab_exceptions.specs.declared.area.Exception.{Exception}
+use Rattle.vab_space.specs.declared.Chunk.TheVariants.{One}
 use Rattle.vab_store.specs.Seen.{chosen_bytes, view_block}
 use Rattle.vab_store.specs.View.{view_of}
 use Rattle.vab_store.proofs.ViewLaws.{view_chunk}
@@ -123,7 +124,7 @@ module _ (size : ℕ) (p : Part) (store : List ℕ) (es : List Exception)
   -- a block that is read through the store is that which a read of the partition takes
   pub seen_block : (image : Image) (block : ℕ)
       → block < length p.map
-      → view_block p.map store es image block
+      → view_block One p.map store es image block
       ≡ sectors_at 8 image (get_or (sectors_read p) block 0)
   seen_block image block below =
       chosen_block image block (view_of es block) refl

@@ -6,9 +6,7 @@ use Rattle.vab_bootctl.specs.declared.slots.Control.{Control}
 use Rattle.vab_bootctl.specs.Control.{control_of, KeepsRest}
 use Rattle.vab_bootctl.specs.Boot.{activated_of, booted_of, marked_of}
 use Rattle.vab_model.specs.declared.command.Reply.{Reply}
-use Rattle.vab_model.specs.Commands.{Command, SetActive, Boot, Mark, Print, Digest, Begin, Create}
-use Rattle.vab_model.specs.Commands.{Resize, Delete, Snapshot, Flash, Finish, Cancel, BeginMerge}
-use Rattle.vab_model.specs.Commands.{Merge}
+use Rattle.vab_model.specs.Commands.{Command, SetActive, Boot, Mark}
 use Rattle.vab_model.specs.Effects.{does}
 use Rattle.vab_model.specs.State.{control_seen, with_control}
 use Rattle.vab_device.specs.declared.device.Device.{Device}
@@ -48,18 +46,7 @@ IsOfSlots c a b old (SetActive slot) s bytes =
     ((if slot == 0 then a else b) ≡ true) × IsControl (activated_of c slot) old s bytes
 IsOfSlots c a b old Boot s bytes = IsControl (booted_of c (a ∷ b ∷ [])) old s bytes
 IsOfSlots c a b old Mark s bytes = IsControl (marked_of c) old s bytes
-IsOfSlots c a b old (Print name) s bytes = ⊥
-IsOfSlots c a b old (Digest name) s bytes = ⊥
-IsOfSlots c a b old Begin s bytes = ⊥
-IsOfSlots c a b old (Create name size) s bytes = ⊥
-IsOfSlots c a b old (Resize name size) s bytes = ⊥
-IsOfSlots c a b old (Delete name) s bytes = ⊥
-IsOfSlots c a b old (Snapshot name size) s bytes = ⊥
-IsOfSlots c a b old (Flash name) s bytes = ⊥
-IsOfSlots c a b old Finish s bytes = ⊥
-IsOfSlots c a b old Cancel s bytes = ⊥
-IsOfSlots c a b old BeginMerge s bytes = ⊥
-IsOfSlots c a b old (Merge blocks) s bytes = ⊥
+IsOfSlots c a b old _ s bytes = ⊥
 
 -- the same on a device
 abbrev pub IsOfCommand : Device → List ℕ → Command → ℕ → List ℕ → Type 0

@@ -1,5 +1,7 @@
 -- What callers need of the update mark.
-use Rattle.std.proofs.Common.{◌≡◌, ℕ, zero, suc, ◌^◌, ◌<◌, ◌&&◌, Bool, true, false, cond, ltb, List, [], ◌∷◌, length, take, get_or, Option, Some, None, Result, Ok, Err, refl, ap, subst, ◌∙◌, arith, lit≤}
+use Rattle.std.proofs.Common.{◌≡◌, ℕ, zero, suc, ◌^◌, ◌<◌, ◌&&◌, Bool, true, false, cond, ltb, List}
+use Rattle.std.proofs.Common.{[], ◌∷◌, length, take, get_or, Option, Some, None, Result, Ok, Err}
+use Rattle.std.proofs.Common.{refl, ap, subst, ◌∙◌, arith, lit≤}
 use Rattle.std.specs.Prelude.{option_map, ok_or}
 use Rattle.std.proofs.lemmas.Bool.{ltb-true, lt-ltb, and_parts, and_from, cond-true}
 use Rattle.std.proofs.lemmas.List.{drop-drop}
@@ -9,11 +11,16 @@ use Rattle.vab_bytes.specs.Crc.{crc_of}
 use Rattle.vab_marks.specs.declared.sector.MarkFault.{MarkFault}
 use Rattle.vab_marks.specs.declared.sector.MarkFault.TheVariants.{BadField, BadMagic}
 use Rattle.vab_marks.specs.declared.mark.MarkPhase.{MarkPhase}
-use Rattle.vab_marks.specs.declared.mark.MarkPhase.TheVariants.{Idle, Installing, Staged, Merging, Completed}
+use Rattle.vab_marks.specs.declared.mark.MarkPhase.TheVariants.{Idle, Installing, Staged, Merging}
+use Rattle.vab_marks.specs.declared.mark.MarkPhase.TheVariants.{Completed}
 use Rattle.vab_marks.specs.declared.mark.UpdateMark.{UpdateMark}
 use Rattle.vab_marks.specs.Sector.{zeros, are_zeros, sealed, head_fault, unless}
-use Rattle.vab_marks.proofs.SectorLaws.{length-zeros, field-zeros, are_zeros-zeros, zeros_from, field-add, field-one, length-sealed, field-sealed, get_or-sealed, unless_ok, front_sum, head_is, head_again, zero_head}
-use Rattle.vab_marks.specs.Mark.{FitsMark, phase_byte, mark_magic, mark_front, mark_spelling, phase_of, with_phase, mark_fields, mark_of}
+use Rattle.vab_marks.proofs.SectorLaws.{length-zeros, field-zeros, are_zeros-zeros, zeros_from}
+use Rattle.vab_marks.proofs.SectorLaws.{field-add, field-one, length-sealed, field-sealed}
+use Rattle.vab_marks.proofs.SectorLaws.{get_or-sealed, unless_ok, front_sum, head_is, head_again}
+use Rattle.vab_marks.proofs.SectorLaws.{zero_head}
+use Rattle.vab_marks.specs.Mark.{FitsMark, phase_byte, mark_magic, mark_front, mark_spelling}
+use Rattle.vab_marks.specs.Mark.{phase_of, with_phase, mark_fields, mark_of}
 
 -- ---- phases
 
@@ -38,14 +45,27 @@ phase_is (suc (suc (suc (suc (suc n))))) p h = absurd cc
 -- ---- the front of the sector
 
 -- the parts make the front
-front_is : (bytes : List ℕ) (m : UpdateMark) → length bytes ≡ 512 → take 4 bytes ≡ mark_magic → get_or bytes 4 0 ≡ 1 → get_or bytes 5 0 ≡ phase_byte m.phase → get_or bytes 6 0 ≡ m.slot → field bytes 7 501 ≡ zeros 501 → take 508 bytes ≡ mark_front m
+front_is : (bytes : List ℕ) (m : UpdateMark)
+    → length bytes ≡ 512
+    → take 4 bytes ≡ mark_magic
+    → get_or bytes 4 0 ≡ 1
+    → get_or bytes 5 0 ≡ phase_byte m.phase
+    → get_or bytes 6 0 ≡ m.slot
+    → field bytes 7 501 ≡ zeros 501
+    → take 508 bytes ≡ mark_front m
 front_is bytes m len magic version phase slot rest =
-    let e4 : field bytes 4 1 ≡ 1 ∷ [] = field-one bytes 4 (omega (arith, len)) ∙ ap (λ (k : ℕ). k ∷ []) version in
-    let e5 : field bytes 5 1 ≡ phase_byte m.phase ∷ [] = field-one bytes 5 (omega (arith, len)) ∙ ap (λ (k : ℕ). k ∷ []) phase in
-    let e6 : field bytes 6 1 ≡ m.slot ∷ [] = field-one bytes 6 (omega (arith, len)) ∙ ap (λ (k : ℕ). k ∷ []) slot in
-    let from6 : field bytes 6 502 ≡ m.slot ∷ zeros 501 = field-add bytes 6 1 501 ∙ rw (e6, rest) refl in
-    let from5 : field bytes 5 503 ≡ phase_byte m.phase ∷ m.slot ∷ zeros 501 = field-add bytes 5 1 502 ∙ rw (e5, from6) refl in
-    let from4 : field bytes 4 504 ≡ 1 ∷ phase_byte m.phase ∷ m.slot ∷ zeros 501 = field-add bytes 4 1 503 ∙ rw (e4, from5) refl in
+    let e4 : field bytes 4 1 ≡ 1 ∷ [] = field-one bytes 4 (omega (arith, len))
+    ∙ ap (λ (k : ℕ). k ∷ []) version in
+    let e5 : field bytes 5 1 ≡ phase_byte m.phase ∷ [] = field-one bytes 5 (omega (arith, len))
+    ∙ ap (λ (k : ℕ). k ∷ []) phase in
+    let e6 : field bytes 6 1 ≡ m.slot ∷ [] = field-one bytes 6 (omega (arith, len))
+    ∙ ap (λ (k : ℕ). k ∷ []) slot in
+    let from6 : field bytes 6 502 ≡ m.slot ∷ zeros 501 = field-add bytes 6 1 501
+    ∙ rw (e6, rest) refl in
+    let from5 : field bytes 5 503 ≡ phase_byte m.phase ∷ m.slot ∷ zeros 501 =
+    field-add bytes 5 1 502 ∙ rw (e5, from6) refl in
+    let from4 : field bytes 4 504 ≡ 1 ∷ phase_byte m.phase ∷ m.slot ∷ zeros 501 =
+    field-add bytes 4 1 503 ∙ rw (e4, from5) refl in
     field-add bytes 0 4 504 ∙ rw (magic, from4) refl
 
 length-front : (m : UpdateMark) → length (mark_front m) ≡ 508
@@ -53,16 +73,24 @@ length-front m = omega (arith, length-zeros 501)
 
 -- ---- reading
 
-with_phase_ok : (slot : ℕ) (o : Option MarkPhase) (m : UpdateMark) → ok_or (option_map (with_phase slot) o) BadField ≡ Ok m → (p : MarkPhase) × (o ≡ Some p) × (with_phase slot p ≡ m)
+with_phase_ok : (slot : ℕ) (o : Option MarkPhase) (m : UpdateMark)
+    → ok_or (option_map (with_phase slot) o) BadField ≡ Ok m
+    → (p : MarkPhase) × (o ≡ Some p) × (with_phase slot p ≡ m)
 with_phase_ok slot None m h = absurd cc
 with_phase_ok slot (Some p) m h = (p, refl, cc)
 
-fields_ok : (t : Bool) (r : Result UpdateMark MarkFault) (m : UpdateMark) → cond t r (Err BadField) ≡ Ok m → (t ≡ true) × (r ≡ Ok m)
+fields_ok : (t : Bool) (r : Result UpdateMark MarkFault) (m : UpdateMark)
+    → cond t r (Err BadField) ≡ Ok m
+    → (t ≡ true) × (r ≡ Ok m)
 fields_ok true r m h = (refl, h)
 fields_ok false r m h = absurd cc
 
 -- what is read is spelled so
-pub found_mark : (bytes : List ℕ) (m : UpdateMark) → length bytes ≡ 512 → IsBytes bytes → mark_of bytes ≡ Ok m → FitsMark m × (bytes ≡ mark_spelling m)
+pub found_mark : (bytes : List ℕ) (m : UpdateMark)
+    → length bytes ≡ 512
+    → IsBytes bytes
+    → mark_of bytes ≡ Ok m
+    → FitsMark m × (bytes ≡ mark_spelling m)
 unfolding mark_of mark_spelling
 found_mark bytes m len are h =
     let u = unless_ok (head_fault mark_magic bytes) (mark_fields bytes) m h in
@@ -71,32 +99,49 @@ found_mark bytes m len are h =
     let tests = and_parts (ltb (get_or bytes 6 0) 2) (are_zeros (field bytes 7 501)) f.0 in
     let p = with_phase_ok (get_or bytes 6 0) (phase_of (get_or bytes 5 0)) m f.1 in
     let read : UpdateMark = with_phase (get_or bytes 6 0) p.0 in
-    let rest : field bytes 7 501 ≡ zeros 501 = zeros_from (field bytes 7 501) 501 (length-field bytes 7 501 (omega (arith, len))) tests.1 in
-    let front : take 508 bytes ≡ mark_front read = front_is bytes read len head.first head.version (phase_is (get_or bytes 5 0) p.0 p.1) refl rest in
+    let rest : field bytes 7 501 ≡ zeros 501 =
+    zeros_from (field bytes 7 501) 501 (length-field bytes 7 501 (omega (arith, len)))
+    tests.1 in
+    let front : take 508 bytes ≡ mark_front read =
+    front_is bytes read len head.first head.version (phase_is (get_or bytes 5 0) p.0 p.1) refl
+    rest in
     let P : UpdateMark → Type 0 = λ k. FitsMark k × (bytes ≡ sealed (mark_front k)) in
     subst P p.2 (ltb-true _ _ tests.0, head.whole ∙ ap sealed front)
 
 -- what is spelled so is read
-pub only_mark : (m : UpdateMark) → crc_of (mark_front m) < 2 ^ 32 → FitsMark m → mark_of (mark_spelling m) ≡ Ok m
+pub only_mark : (m : UpdateMark)
+    → crc_of (mark_front m) < 2 ^ 32
+    → FitsMark m
+    → mark_of (mark_spelling m) ≡ Ok m
 unfolding mark_of mark_spelling
 only_mark m sum fits =
     let front : List ℕ = mark_front m in
     let whole : List ℕ = sealed front in
     let len = length-front m in
     let head : head_fault mark_magic whole ≡ None = head_again mark_magic front len sum refl refl in
-    let phase : get_or whole 5 0 ≡ phase_byte m.phase = get_or-sealed front 5 (omega (arith, len)) in
+    let phase : get_or whole 5 0 ≡ phase_byte m.phase =
+    get_or-sealed front 5 (omega (arith, len)) in
     let slot : get_or whole 6 0 ≡ m.slot = get_or-sealed front 6 (omega (arith, len)) in
-    let rest : field whole 7 501 ≡ zeros 501 = field-sealed front 7 501 (omega (arith, len)) ∙ field-zeros 501 0 501 (lit≤ tt) in
+    let rest : field whole 7 501 ≡ zeros 501 = field-sealed front 7 501 (omega (arith, len))
+    ∙ field-zeros 501 0 501 (lit≤ tt) in
     let below : ltb (get_or whole 6 0) 2 ≡ true = lt-ltb _ 2 (omega (arith, slot, fits)) in
     let clean : are_zeros (field whole 7 501) ≡ true = ap are_zeros rest ∙ are_zeros-zeros 501 in
-    let of_head : Option MarkFault → Result UpdateMark MarkFault = λ o. unless o (mark_fields whole) in
-    let of_phase : Option MarkPhase → Result UpdateMark MarkFault = λ o. ok_or (option_map (with_phase (get_or whole 6 0)) o) BadField in
+    let of_head : Option MarkFault → Result UpdateMark MarkFault = λ o.
+    unless o (mark_fields whole) in
+    let of_phase : Option MarkPhase → Result UpdateMark MarkFault = λ o.
+    ok_or (option_map (with_phase (get_or whole 6 0)) o) BadField in
     let of_slot : ℕ → Result UpdateMark MarkFault = λ k. Ok (with_phase k m.phase) in
-    ap of_head head ∙ cond-true _ _ (Err BadField) (and_from _ _ below clean) ∙ ap of_phase (ap phase_of phase ∙ phase_again m.phase) ∙ ap of_slot slot
+    ap of_head head ∙ cond-true _ _ (Err BadField) (and_from _ _ below clean)
+    ∙ ap of_phase (ap phase_of phase ∙ phase_again m.phase) ∙ ap of_slot slot
 
-pub read_mark : (bytes : List ℕ) (m : UpdateMark) → IsBytes bytes → FitsMark m → bytes ≡ mark_spelling m → mark_of bytes ≡ Ok m
+pub read_mark : (bytes : List ℕ) (m : UpdateMark)
+    → IsBytes bytes
+    → FitsMark m
+    → bytes ≡ mark_spelling m
+    → mark_of bytes ≡ Ok m
 unfolding mark_spelling
-read_mark bytes m are fits h = ap mark_of h ∙ only_mark m (front_sum bytes (mark_front m) (length-front m) are h) fits
+read_mark bytes m are fits h = ap mark_of h
+    ∙ only_mark m (front_sum bytes (mark_front m) (length-front m) are h) fits
 
 -- ---- writing
 
@@ -107,13 +152,15 @@ mark_drawn m = put_at (put_at (zeros 512) 0 mark_magic) 4 (1 ∷ phase_byte m.ph
 pub drawn_mark : (m : UpdateMark) → take 508 (mark_drawn m) ≡ mark_front m
 drawn_mark m =
     let head : List ℕ → List ℕ = λ t. 86 ∷ 65 ∷ 66 ∷ 85 ∷ 1 ∷ phase_byte m.phase ∷ m.slot ∷ t in
-    ap (λ (t : List ℕ). head (take 501 t)) (drop-drop 3 4 (zeros 512)) ∙ ap head (field-zeros 512 7 501 (lit≤ tt))
+    ap (λ (t : List ℕ). head (take 501 t)) (drop-drop 3 4 (zeros 512))
+    ∙ ap head (field-zeros 512 7 501 (lit≤ tt))
 
 -- a sector whose first byte is zero is no mark
 pub zero_is_no_mark : (bytes : List ℕ) → get_or bytes 0 0 ≡ 0 → mark_of bytes ≡ Err BadMagic
 unfolding mark_of
 zero_is_no_mark bytes h =
-    let of_head : Option MarkFault → Result UpdateMark MarkFault = λ o. unless o (mark_fields bytes) in
+    let of_head : Option MarkFault → Result UpdateMark MarkFault = λ o.
+    unless o (mark_fields bytes) in
     ap of_head (zero_head 85 (65 ∷ 66 ∷ 85 ∷ []) bytes h)
 
 pub length-mark_spelling : (m : UpdateMark) → length (mark_spelling m) ≡ 512

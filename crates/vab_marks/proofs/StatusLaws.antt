@@ -1,11 +1,17 @@
 -- What callers need of the statuses of partitions.
-use Rattle.std.proofs.Common.{◌≡◌, ℕ, ◌+◌, ◌-◌, ◌^◌, ◌<◌, ◌≤◌, ◌&&◌, Bool, true, false, cond, eqb, List, [], ◌∷◌, ◌++◌, length, take, drop, replicate, get_or, Option, Some, None, Result, Ok, Err, refl, sym, ap, subst, ◌∙◌, arith, lit<, lit≤}
+use Rattle.std.proofs.Common.{◌≡◌, ℕ, ◌+◌, ◌-◌, ◌^◌, ◌<◌, ◌≤◌, ◌&&◌, Bool, true, false, cond, eqb}
+use Rattle.std.proofs.Common.{List, [], ◌∷◌, ◌++◌, length, take, drop, replicate, get_or, Option}
+use Rattle.std.proofs.Common.{Some, None, Result, Ok, Err, refl, sym, ap, subst, ◌∙◌, arith, lit<}
+use Rattle.std.proofs.Common.{lit≤}
 use Rattle.std.specs.Prelude.{option_map, ok_or}
 use Rattle.std.specs.Int.{w16, w64, to_le_bytes}
 use Rattle.std.proofs.lemmas.Bool.{eqb-true, eq-eqb, and_parts, and_from, cond-true}
 use Rattle.std.proofs.lemmas.List.{length-replicate, drop-drop, take_at, drop_at, length-append}
 use Rattle.vab_bytes.specs.Number.{IsBytes, field, le_at, put_at}
-use Rattle.vab_bytes.proofs.NumberLaws.{length-field, length-put_at, field-put_at_same, field-put_at_below, field-put_at_above, get_or-put_at_below, le_at_fits_64, le_at_spelled_16, le_at_spelled_64, le_at_is_16, le_at_is_64}
+use Rattle.vab_bytes.proofs.NumberLaws.{length-field, length-put_at, field-put_at_same}
+use Rattle.vab_bytes.proofs.NumberLaws.{field-put_at_below, field-put_at_above, get_or-put_at_below}
+use Rattle.vab_bytes.proofs.NumberLaws.{le_at_fits_64, le_at_spelled_16, le_at_spelled_64}
+use Rattle.vab_bytes.proofs.NumberLaws.{le_at_is_16, le_at_is_64}
 use Rattle.vab_bytes.specs.Name.{IsName, name_field, name_of_field}
 use Rattle.vab_bytes.proofs.NameLaws.{name_fits, found_name, only_name}
 use Rattle.vab_bytes.specs.Crc.{crc_of}
@@ -13,69 +19,125 @@ use Rattle.vab_marks.specs.declared.sector.MarkFault.{MarkFault}
 use Rattle.vab_marks.specs.declared.sector.MarkFault.TheVariants.{BadField, BadMagic}
 use Rattle.vab_marks.specs.declared.status.PartStatus.{PartStatus}
 use Rattle.vab_marks.specs.Sector.{zeros, are_zeros, sealed, head_fault, unless}
-use Rattle.vab_marks.proofs.SectorLaws.{zeros_are, length-zeros, field-zeros, are_zeros-zeros, zeros_from, field-add, field-one, length-sealed, field-sealed, get_or-sealed, unless_ok, front_sum, head_is, head_again, zero_head}
-use Rattle.vab_marks.specs.Status.{FitsStatus, status_magic, status_front, status_spelling, with_name, status_fields, status_of}
+use Rattle.vab_marks.proofs.SectorLaws.{zeros_are, length-zeros, field-zeros, are_zeros-zeros}
+use Rattle.vab_marks.proofs.SectorLaws.{zeros_from, field-add, field-one, length-sealed}
+use Rattle.vab_marks.proofs.SectorLaws.{field-sealed, get_or-sealed, unless_ok, front_sum, head_is}
+use Rattle.vab_marks.proofs.SectorLaws.{head_again, zero_head}
+use Rattle.vab_marks.specs.Status.{FitsStatus, status_magic, status_front, status_spelling}
+use Rattle.vab_marks.specs.Status.{with_name, status_fields, status_of}
 
 -- ---- the front of the sector
 
 -- the parts make the front
-front_is : (bytes : List ℕ) (s : PartStatus) → length bytes ≡ 512 → take 4 bytes ≡ status_magic → get_or bytes 4 0 ≡ 1 → get_or bytes 5 0 ≡ 1 → field bytes 6 2 ≡ to_le_bytes w16 8 → field bytes 8 36 ≡ name_field s.name → field bytes 44 8 ≡ to_le_bytes w64 s.count → field bytes 52 456 ≡ zeros 456 → take 508 bytes ≡ status_front s
+front_is : (bytes : List ℕ) (s : PartStatus)
+    → length bytes ≡ 512
+    → take 4 bytes ≡ status_magic
+    → get_or bytes 4 0 ≡ 1
+    → get_or bytes 5 0 ≡ 1
+    → field bytes 6 2 ≡ to_le_bytes w16 8
+    → field bytes 8 36 ≡ name_field s.name
+    → field bytes 44 8 ≡ to_le_bytes w64 s.count
+    → field bytes 52 456 ≡ zeros 456
+    → take 508 bytes ≡ status_front s
 front_is bytes s len magic version state chunk name count rest =
-    let e4 : field bytes 4 1 ≡ 1 ∷ [] = field-one bytes 4 (omega (arith, len)) ∙ ap (λ (k : ℕ). k ∷ []) version in
-    let e5 : field bytes 5 1 ≡ 1 ∷ [] = field-one bytes 5 (omega (arith, len)) ∙ ap (λ (k : ℕ). k ∷ []) state in
-    let from44 : field bytes 44 464 ≡ to_le_bytes w64 s.count ++ zeros 456 = field-add bytes 44 8 456 ∙ ap (λ (t : List ℕ). t ++ field bytes 52 456) count ∙ ap (λ (t : List ℕ). to_le_bytes w64 s.count ++ t) rest in
-    let from8 : field bytes 8 500 ≡ name_field s.name ++ (to_le_bytes w64 s.count ++ zeros 456) = field-add bytes 8 36 464 ∙ ap (λ (t : List ℕ). t ++ field bytes 44 464) name ∙ ap (λ (t : List ℕ). name_field s.name ++ t) from44 in
+    let e4 : field bytes 4 1 ≡ 1 ∷ [] = field-one bytes 4 (omega (arith, len))
+    ∙ ap (λ (k : ℕ). k ∷ []) version in
+    let e5 : field bytes 5 1 ≡ 1 ∷ [] = field-one bytes 5 (omega (arith, len))
+    ∙ ap (λ (k : ℕ). k ∷ []) state in
+    let from44 : field bytes 44 464 ≡ to_le_bytes w64 s.count ++ zeros 456 =
+    field-add bytes 44 8 456 ∙ ap (λ (t : List ℕ). t ++ field bytes 52 456) count
+    ∙ ap (λ (t : List ℕ). to_le_bytes w64 s.count ++ t) rest in
+    let from8 : field bytes 8 500 ≡ name_field s.name ++ (to_le_bytes w64 s.count ++ zeros 456) =
+    field-add bytes 8 36 464 ∙ ap (λ (t : List ℕ). t ++ field bytes 44 464) name
+    ∙ ap (λ (t : List ℕ). name_field s.name ++ t) from44 in
     let tail : List ℕ = name_field s.name ++ (to_le_bytes w64 s.count ++ zeros 456) in
-    let from6 : field bytes 6 502 ≡ 8 ∷ 0 ∷ tail = field-add bytes 6 2 500 ∙ ap (λ (t : List ℕ). t ++ field bytes 8 500) chunk ∙ ap (λ (t : List ℕ). 8 ∷ 0 ∷ t) from8 in
-    let from5 : field bytes 5 503 ≡ 1 ∷ 8 ∷ 0 ∷ tail = field-add bytes 5 1 502 ∙ ap (λ (t : List ℕ). t ++ field bytes 6 502) e5 ∙ ap (λ (t : List ℕ). 1 ∷ t) from6 in
-    let from4 : field bytes 4 504 ≡ 1 ∷ 1 ∷ 8 ∷ 0 ∷ tail = field-add bytes 4 1 503 ∙ ap (λ (t : List ℕ). t ++ field bytes 5 503) e4 ∙ ap (λ (t : List ℕ). 1 ∷ t) from5 in
-    field-add bytes 0 4 504 ∙ ap (λ (t : List ℕ). t ++ field bytes 4 504) magic ∙ ap (λ (t : List ℕ). status_magic ++ t) from4
+    let from6 : field bytes 6 502 ≡ 8 ∷ 0 ∷ tail = field-add bytes 6 2 500
+    ∙ ap (λ (t : List ℕ). t ++ field bytes 8 500) chunk
+    ∙ ap (λ (t : List ℕ). 8 ∷ 0 ∷ t) from8 in
+    let from5 : field bytes 5 503 ≡ 1 ∷ 8 ∷ 0 ∷ tail = field-add bytes 5 1 502
+    ∙ ap (λ (t : List ℕ). t ++ field bytes 6 502) e5 ∙ ap (λ (t : List ℕ). 1 ∷ t) from6 in
+    let from4 : field bytes 4 504 ≡ 1 ∷ 1 ∷ 8 ∷ 0 ∷ tail = field-add bytes 4 1 503
+    ∙ ap (λ (t : List ℕ). t ++ field bytes 5 503) e4 ∙ ap (λ (t : List ℕ). 1 ∷ t) from5 in
+    field-add bytes 0 4 504 ∙ ap (λ (t : List ℕ). t ++ field bytes 4 504) magic
+    ∙ ap (λ (t : List ℕ). status_magic ++ t) from4
 
 length-name_field : (text : List ℕ) → IsName text → length (name_field text) ≡ 36
 length-name_field text h =
     let fits = name_fits text h in
     let most : length text ≤ 36 = fits.1 in
-    omega (arith, most, length-append text (replicate (36 - length text) 0), length-replicate {A = ℕ} (36 - length text) 0)
+    omega (
+      arith,
+      most,
+      length-append text (replicate (36 - length text) 0),
+      length-replicate
+          {A = ℕ} (36 - length text) 0,
+    )
 
 length-front : (s : PartStatus) → IsName s.name → length (status_front s) ≡ 508
 length-front s h =
     let name : List ℕ = name_field s.name in
     let rest : List ℕ = to_le_bytes w64 s.count ++ zeros 456 in
     let many : length rest ≡ 464 = omega (arith, length-zeros 456) in
-    let both : length (name ++ rest) ≡ 500 = length-append name rest ∙ omega (arith, length-name_field s.name h, many) in
+    let both : length (name ++ rest) ≡ 500 = length-append name rest
+    ∙ omega (arith, length-name_field s.name h, many) in
     omega (arith, both)
 
 -- ---- reading
 
-with_name_ok : (count : ℕ) (o : Option (List ℕ)) (s : PartStatus) → ok_or (option_map (with_name count) o) BadField ≡ Ok s → (name : List ℕ) × (o ≡ Some name) × (with_name count name ≡ s)
+with_name_ok : (count : ℕ) (o : Option (List ℕ)) (s : PartStatus)
+    → ok_or (option_map (with_name count) o) BadField ≡ Ok s
+    → (name : List ℕ) × (o ≡ Some name) × (with_name count name ≡ s)
 with_name_ok count None s h = absurd cc
 with_name_ok count (Some name) s h = (name, refl, cc)
 
-fields_ok : (t : Bool) (r : Result PartStatus MarkFault) (s : PartStatus) → cond t r (Err BadField) ≡ Ok s → (t ≡ true) × (r ≡ Ok s)
+fields_ok : (t : Bool) (r : Result PartStatus MarkFault) (s : PartStatus)
+    → cond t r (Err BadField) ≡ Ok s
+    → (t ≡ true) × (r ≡ Ok s)
 fields_ok true r s h = (refl, h)
 fields_ok false r s h = absurd cc
 
 -- what is read is spelled so
-pub found_status : (bytes : List ℕ) (s : PartStatus) → length bytes ≡ 512 → IsBytes bytes → status_of bytes ≡ Ok s → FitsStatus s × (bytes ≡ status_spelling s)
+pub found_status : (bytes : List ℕ) (s : PartStatus)
+    → length bytes ≡ 512
+    → IsBytes bytes
+    → status_of bytes ≡ Ok s
+    → FitsStatus s × (bytes ≡ status_spelling s)
 unfolding status_of status_spelling
 found_status bytes s len are h =
     let u = unless_ok (head_fault status_magic bytes) (status_fields bytes) s h in
     let head = head_is status_magic bytes len are u.0 in
-    let f = fields_ok (eqb (get_or bytes 5 0) 1 && eqb (le_at w16 bytes 6) 8 && are_zeros (field bytes 52 456)) _ s u.1 in
-    let tests = and_parts (eqb (get_or bytes 5 0) 1 && eqb (le_at w16 bytes 6) 8) (are_zeros (field bytes 52 456)) f.0 in
+    let f = fields_ok (eqb (get_or bytes 5 0) 1 && eqb (le_at w16 bytes 6) 8 && are_zeros
+    (field bytes 52 456)) _ s u.1 in
+    let tests = and_parts (eqb (get_or bytes 5 0) 1 && eqb (le_at w16 bytes 6) 8)
+    (are_zeros (field bytes 52 456)) f.0 in
     let numbers = and_parts (eqb (get_or bytes 5 0) 1) (eqb (le_at w16 bytes 6) 8) tests.0 in
-    let chunk : field bytes 6 2 ≡ to_le_bytes w16 8 = sym (le_at_spelled_16 bytes 6 (omega (arith, len)) are) ∙ ap (to_le_bytes w16) (eqb-true _ _ numbers.1) in
+    let chunk : field bytes 6 2 ≡ to_le_bytes w16 8 =
+    sym (le_at_spelled_16 bytes 6 (omega (arith, len)) are)
+    ∙ ap (to_le_bytes w16) (eqb-true _ _ numbers.1) in
     let n = with_name_ok (le_at w64 bytes 44) (name_of_field (field bytes 8 36)) s f.1 in
-    let name = found_name (field bytes 8 36) n.0 (length-field bytes 8 36 (omega (arith, len))) n.1 in
+    let name = found_name (field bytes 8 36) n.0 (length-field bytes 8 36 (omega (arith, len)))
+    n.1 in
     let read : PartStatus = with_name (le_at w64 bytes 44) n.0 in
-    let count : field bytes 44 8 ≡ to_le_bytes w64 (le_at w64 bytes 44) = sym (le_at_spelled_64 bytes 44 (omega (arith, len)) are) in
-    let rest : field bytes 52 456 ≡ zeros 456 = zeros_from (field bytes 52 456) 456 (length-field bytes 52 456 (omega (arith, len))) tests.1 in
-    let front : take 508 bytes ≡ status_front read = front_is bytes read len head.first head.version (eqb-true _ _ numbers.0) chunk name.1 count rest in
+    let count : field bytes 44 8 ≡ to_le_bytes w64 (le_at w64 bytes 44) =
+    sym (le_at_spelled_64 bytes 44 (omega (arith, len)) are) in
+    let rest : field bytes 52 456 ≡ zeros 456 =
+    zeros_from (field bytes 52 456) 456 (length-field bytes 52 456 (omega (arith, len)))
+    tests.1 in
+    let front : take 508 bytes ≡ status_front read =
+    front_is bytes read len head.first head.version (eqb-true _ _ numbers.0) chunk name.1 count
+    rest in
     let P : PartStatus → Type 0 = λ k. FitsStatus k × (bytes ≡ sealed (status_front k)) in
-    subst P n.2 (record { name = name.0; count = le_at_fits_64 bytes 44 are }, head.whole ∙ ap sealed front)
+    subst P n.2 (
+      record { name = name.0; count = le_at_fits_64 bytes 44 are },
+      head.whole
+          ∙ ap sealed front,
+    )
 
 -- what is spelled so is read
-pub only_status : (s : PartStatus) → crc_of (status_front s) < 2 ^ 32 → FitsStatus s → status_of (status_spelling s) ≡ Ok s
+pub only_status : (s : PartStatus)
+    → crc_of (status_front s) < 2 ^ 32
+    → FitsStatus s
+    → status_of (status_spelling s) ≡ Ok s
 unfolding status_of status_spelling
 only_status s sum fits =
     let front : List ℕ = status_front s in
@@ -84,31 +146,52 @@ only_status s sum fits =
     let name : List ℕ = name_field s.name in
     let rest : List ℕ = to_le_bytes w64 s.count ++ zeros 456 in
     let long : length name ≡ 36 = length-name_field s.name fits.name in
-    let head : head_fault status_magic whole ≡ None = head_again status_magic front len sum refl refl in
+    let head : head_fault status_magic whole ≡ None =
+    head_again status_magic front len sum refl refl in
     let state : get_or whole 5 0 ≡ 1 = get_or-sealed front 5 (omega (arith, len)) in
-    let chunk : le_at w16 whole 6 ≡ 8 = le_at_is_16 whole 6 8 (lit< tt) (field-sealed front 6 2 (omega (arith, len))) in
-    let named : field whole 8 36 ≡ name = field-sealed front 8 36 (omega (arith, len)) ∙ take_at name rest 36 long in
-    let counted : le_at w64 whole 44 ≡ s.count = le_at_is_64 whole 44 s.count fits.count (field-sealed front 44 8 (omega (arith, len)) ∙ ap (λ (t : List ℕ). take 8 t) (drop_at name rest 36 long)) in
-    let back : field front 52 456 ≡ zeros 456 = ap (λ (t : List ℕ). take 456 t) (sym (drop-drop 8 36 (name ++ rest)) ∙ ap (λ (t : List ℕ). drop 8 t) (drop_at name rest 36 long)) ∙ field-zeros 456 0 456 (lit≤ tt) in
-    let clean : are_zeros (field whole 52 456) ≡ true = ap are_zeros (field-sealed front 52 456 (omega (arith, len)) ∙ back) ∙ are_zeros-zeros 456 in
-    let read : name_of_field (field whole 8 36) ≡ Some s.name = only_name (field whole 8 36) s.name fits.name named in
-    let numbers : (eqb (get_or whole 5 0) 1 && eqb (le_at w16 whole 6) 8) ≡ true = and_from _ _ (eq-eqb _ 1 state) (eq-eqb _ 8 chunk) in
-    let of_head : Option MarkFault → Result PartStatus MarkFault = λ o. unless o (status_fields whole) in
-    let of_name : Option (List ℕ) → Result PartStatus MarkFault = λ o. ok_or (option_map (with_name (le_at w64 whole 44)) o) BadField in
+    let chunk : le_at w16 whole 6 ≡ 8 = le_at_is_16 whole 6 8 (lit< tt)
+    (field-sealed front 6 2 (omega (arith, len))) in
+    let named : field whole 8 36 ≡ name = field-sealed front 8 36 (omega (arith, len))
+    ∙ take_at name rest 36 long in
+    let counted : le_at w64 whole 44 ≡ s.count =
+    le_at_is_64 whole 44 s.count fits.count (field-sealed front 44 8 (omega (arith, len))
+    ∙ ap (λ (t : List ℕ). take 8 t) (drop_at name rest 36 long)) in
+    let back : field front 52 456 ≡ zeros 456 =
+    ap (λ (t : List ℕ). take 456 t) (sym (drop-drop 8 36 (name ++ rest))
+    ∙ ap (λ (t : List ℕ). drop 8 t) (drop_at name rest 36 long))
+    ∙ field-zeros 456 0 456 (lit≤ tt) in
+    let clean : are_zeros (field whole 52 456) ≡ true =
+    ap are_zeros (field-sealed front 52 456 (omega (arith, len)) ∙ back)
+    ∙ are_zeros-zeros 456 in
+    let read : name_of_field (field whole 8 36) ≡ Some s.name =
+    only_name (field whole 8 36) s.name fits.name named in
+    let numbers : (eqb (get_or whole 5 0) 1 && eqb (le_at w16 whole 6) 8) ≡ true =
+    and_from _ _ (eq-eqb _ 1 state) (eq-eqb _ 8 chunk) in
+    let of_head : Option MarkFault → Result PartStatus MarkFault = λ o.
+    unless o (status_fields whole) in
+    let of_name : Option (List ℕ) → Result PartStatus MarkFault = λ o.
+    ok_or (option_map (with_name (le_at w64 whole 44)) o) BadField in
     let of_count : ℕ → Result PartStatus MarkFault = λ k. Ok (with_name k s.name) in
-    ap of_head head ∙ cond-true _ _ (Err BadField) (and_from _ _ numbers clean) ∙ ap of_name read ∙ ap of_count counted
+    ap of_head head ∙ cond-true _ _ (Err BadField) (and_from _ _ numbers clean) ∙ ap of_name read
+    ∙ ap of_count counted
 
-pub read_status : (bytes : List ℕ) (s : PartStatus) → IsBytes bytes → FitsStatus s → bytes ≡ status_spelling s → status_of bytes ≡ Ok s
+pub read_status : (bytes : List ℕ) (s : PartStatus)
+    → IsBytes bytes
+    → FitsStatus s
+    → bytes ≡ status_spelling s
+    → status_of bytes ≡ Ok s
 unfolding status_spelling
 read_status bytes s are fits h =
-    ap status_of h ∙ only_status s (front_sum bytes (status_front s) (length-front s fits.name) are h) fits
+    ap status_of h ∙ only_status s (front_sum bytes (status_front s) (length-front s fits.name) are
+    h) fits
 
 -- ---- writing
 
 -- the sector before its sum
 abbrev pub status_drawn : PartStatus → List ℕ
 status_drawn s =
-    put_at (put_at (put_at (put_at (put_at (zeros 512) 0 status_magic) 4 (1 ∷ 1 ∷ [])) 6 (to_le_bytes w16 8)) 8 s.name) 44 (to_le_bytes w64 s.count)
+    put_at (put_at (put_at (put_at (put_at (zeros 512) 0 status_magic) 4 (1 ∷ 1 ∷ [])) 6
+    (to_le_bytes w16 8)) 8 s.name) 44 (to_le_bytes w64 s.count)
 
 pub drawn_status : (s : PartStatus) → IsName s.name → take 508 (status_drawn s) ≡ status_front s
 drawn_status s h =
@@ -127,27 +210,40 @@ drawn_status s h =
     let l4 : length b4 ≡ 512 = length-put_at b3 8 s.name (omega (arith, l3, most)) ∙ l3 in
     let l5 : length (status_drawn s) ≡ 512 = length-put_at b4 44 count (omega (arith, l4)) ∙ l4 in
     let blank : (at m : ℕ) → 8 ≤ at → at + m ≤ 512 → field b3 at m ≡ zeros m =
-    λ at m from to. field-put_at_above b2 6 (to_le_bytes w16 8) at m (omega (arith, l2)) (omega (arith, from)) ∙ field-put_at_above b1 4 (1 ∷ 1 ∷ []) at m (omega (arith, l1)) (omega (arith, from)) ∙ field-put_at_above z 0 status_magic at m (omega (arith, l0)) (omega (arith, from)) ∙ field-zeros 512 at m to in
+    λ at m from to. field-put_at_above b2 6 (to_le_bytes w16 8) at m (omega (arith, l2))
+    (omega (arith, from)) ∙ field-put_at_above b1 4 (1 ∷ 1 ∷ []) at m (omega (arith, l1))
+    (omega (arith, from)) ∙ field-put_at_above z 0 status_magic at m (omega (arith, l0))
+    (omega (arith, from)) ∙ field-zeros 512 at m to in
     let fits3 : 8 + n ≤ length b3 = omega (arith, l3, most) in
     let fits4 : 44 + length count ≤ length b4 = omega (arith, l4) in
     let low : (at m : ℕ) → at + m ≤ 8 → field (status_drawn s) at m ≡ field b3 at m =
-    λ at m le. field-put_at_below b4 44 count at m fits4 (omega (arith, le)) ∙ field-put_at_below b3 8 s.name at m fits3 le in
+    λ at m le. field-put_at_below b4 44 count at m fits4 (omega (arith, le))
+    ∙ field-put_at_below b3 8 s.name at m fits3 le in
     let low_byte : (k : ℕ) → k < 8 → get_or (status_drawn s) k 0 ≡ get_or b3 k 0 =
-    λ k lt. get_or-put_at_below b4 44 count k fits4 (omega (arith, lt)) ∙ get_or-put_at_below b3 8 s.name k fits3 lt in
+    λ k lt. get_or-put_at_below b4 44 count k fits4 (omega (arith, lt))
+    ∙ get_or-put_at_below b3 8 s.name k fits3 lt in
     let padded : field b4 8 (n + (36 - n)) ≡ name_field s.name =
-    field-add b4 8 n (36 - n) ∙ ap (λ (t : List ℕ). t ++ field b4 (8 + n) (36 - n)) (field-put_at_same b3 8 n s.name fits3 refl) ∙ ap (λ (t : List ℕ). s.name ++ t) (field-put_at_above b3 8 s.name (8 + n) (36 - n) fits3 (omega arith) ∙ blank (8 + n) (36 - n) (omega arith) (omega (arith, most)) ∙ zeros_are (36 - n)) in
+    field-add b4 8 n (36 - n) ∙ ap (λ (t : List ℕ). t ++ field b4 (8 + n) (36 - n))
+    (field-put_at_same b3 8 n s.name fits3 refl)
+    ∙ ap (λ (t : List ℕ). s.name ++ t)
+    (field-put_at_above b3 8 s.name (8 + n) (36 - n) fits3 (omega arith)
+    ∙ blank (8 + n) (36 - n) (omega arith) (omega (arith, most)) ∙ zeros_are (36 - n)) in
     let size : n + (36 - n) ≡ 36 = omega (arith, most) in
     let name : field (status_drawn s) 8 36 ≡ name_field s.name =
-    field-put_at_below b4 44 count 8 36 fits4 (lit≤ tt) ∙ ap (λ (k : ℕ). field b4 8 k) (sym size) ∙ padded in
+    field-put_at_below b4 44 count 8 36 fits4 (lit≤ tt) ∙ ap (λ (k : ℕ). field b4 8 k) (sym size)
+    ∙ padded in
     let rest : field (status_drawn s) 52 456 ≡ zeros 456 =
-    field-put_at_above b4 44 count 52 456 fits4 (lit≤ tt) ∙ field-put_at_above b3 8 s.name 52 456 fits3 (omega (arith, most)) ∙ blank 52 456 (lit≤ tt) (lit≤ tt) in
-    front_is (status_drawn s) s l5 (low 0 4 (lit≤ tt)) (low_byte 4 (lit< tt)) (low_byte 5 (lit< tt)) (low 6 2 (lit≤ tt)) name (field-put_at_same b4 44 8 count fits4 refl) rest
+    field-put_at_above b4 44 count 52 456 fits4 (lit≤ tt) ∙ field-put_at_above b3 8 s.name 52 456
+    fits3 (omega (arith, most)) ∙ blank 52 456 (lit≤ tt) (lit≤ tt) in
+    front_is (status_drawn s) s l5 (low 0 4 (lit≤ tt)) (low_byte 4 (lit< tt)) (low_byte 5 (lit< tt))
+    (low 6 2 (lit≤ tt)) name (field-put_at_same b4 44 8 count fits4 refl) rest
 
 -- a sector whose first byte is zero is no status
 pub zero_is_no_status : (bytes : List ℕ) → get_or bytes 0 0 ≡ 0 → status_of bytes ≡ Err BadMagic
 unfolding status_of
 zero_is_no_status bytes h =
-    let of_head : Option MarkFault → Result PartStatus MarkFault = λ o. unless o (status_fields bytes) in
+    let of_head : Option MarkFault → Result PartStatus MarkFault = λ o.
+    unless o (status_fields bytes) in
     ap of_head (zero_head 85 (65 ∷ 66 ∷ 83 ∷ []) bytes h)
 
 pub length-status_spelling : (s : PartStatus) → IsName s.name → length (status_spelling s) ≡ 512

@@ -41,8 +41,29 @@ phase_of (suc (suc (suc zero))) = Some Merging
 phase_of (suc (suc (suc (suc zero)))) = Some Completed
 phase_of (suc (suc (suc (suc (suc n))))) = None
 
+-- the mark of this phase and slot: each mark that is made out of nothing is one of these
+abbrev pub mark_at : MarkPhase → ℕ → UpdateMark
+mark_at phase slot = record { phase = phase; slot = slot }
+
+-- no update of the device of this slot; one that is installed from it, or is ready; the stores of
+-- this slot are merged, or all of them have been
+abbrev pub idle_mark : ℕ → UpdateMark
+idle_mark slot = mark_at Idle slot
+
+abbrev pub installing_mark : ℕ → UpdateMark
+installing_mark slot = mark_at Installing slot
+
+abbrev pub staged_mark : ℕ → UpdateMark
+staged_mark slot = mark_at Staged slot
+
+abbrev pub merging_mark : ℕ → UpdateMark
+merging_mark slot = mark_at Merging slot
+
+abbrev pub completed_mark : ℕ → UpdateMark
+completed_mark slot = mark_at Completed slot
+
 abbrev pub with_phase : ℕ → MarkPhase → UpdateMark
-with_phase slot phase = record { phase = phase; slot = slot }
+with_phase slot phase = mark_at phase slot
 
 -- a field is bad where it has a value that is not named, or a byte is not zero where no field
 -- stands

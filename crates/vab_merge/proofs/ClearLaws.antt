@@ -1,5 +1,6 @@
 -- Entries that are zeroed.
-use Rattle.std.proofs.Common.{◌≡◌, ◌≢◌, ◌⊎◌, inl, inr, ⊎_elim, ℕ, ◌+◌, ◌-◌, ◌*◌, ◌≤◌, ◌<◌, min, List, length, refl, sym, ◌∙◌, ap, subst, arith}
+use Rattle.std.proofs.Common.{◌≡◌, ◌≢◌, ◌⊎◌, inl, inr, ⊎_elim, ℕ, ◌+◌, ◌-◌, ◌*◌, ◌/◌, ◌≤◌, ◌<◌, min}
+use Rattle.std.proofs.Common.{List, length, refl, sym, ◌∙◌, ap, subst, arith}
 use Rattle.std.specs.Int.{w64, to_le_bytes, from_le_bytes}
 use Rattle.std.proofs.lemmas.Bool.{cases_lt, cases_eq}
 use Rattle.std.proofs.lemmas.Nat.{from_le_bytes-to_le_bytes_8}
@@ -15,8 +16,14 @@ use Rattle.vab_disk.specs.Disk.{set_sector, IsAt}
 use Rattle.vab_disk.specs.Calls.{Touches}
 use Rattle.vab_disk.proofs.CallLaws.{wrote_here, wrote_there, quiet_then, same_then, touches_wider}
 use Rattle.vab_disk.proofs.CallLaws.{touches_then}
-use Rattle.vab_merge.specs.Cleared.{sector_entries, IsCleared, begin_of, end_of, IsClearedAt}
-use Rattle.vab_merge.specs.Cleared.{IsOfThem, IsClearing, area_sector}
+use Rattle.std.specs.Prelude.{slice_index}
+use Rattle.vab_space.specs.declared.Chunk.{Chunk}
+use Rattle.vab_space.specs.Chunks.{page_block}
+use Rattle.vab_space.proofs.ChunkLaws.{pages_ascend, page_inside}
+use Rattle.vab_store.specs.Layout.{pages_of, IsApart}
+use Rattle.vab_store.proofs.ChunkLaws.{apart_of}
+use Rattle.vab_merge.specs.Cleared.{sector_entries, IsCleared, IsClearedAt, IsOfThem, IsClearing}
+use Rattle.vab_merge.specs.Cleared.{page_sector}
 
 -- ---- one entry that is put
 
@@ -128,45 +135,70 @@ cleared_more from i old mid new long below over is written =
           ];
     }
 
+-- ---- the sectors of the pages
+
+-- pages stand in blocks of their own
+pages_other : (k : Chunk) (p q : ℕ) → p ≢ q → page_block k p ≢ page_block k q
+pages_other k p q other same =
+    elim (cases_lt p q) [
+      | inl less ↦ omega (arith, same, pages_ascend k p q less)
+      | inr more ↦ omega (arith, same, pages_ascend k q p (omega (arith, more, other)))
+    ]
+
+pub sector_other : (k : Chunk) (store : List ℕ) (i n : ℕ)
+    → IsApart store
+    → i / 8 < pages_of k store
+    → n / 8 < pages_of k store
+    → i ≢ n
+    → page_sector k store i ≢ page_sector k store n
+sector_other k store i n apart i_in n_in other same =
+    elim (cases_eq (i / 8) (n / 8)) [
+      | inl one ↦
+          omega (arith, one, other, same, ap (λ (p : ℕ). slice_index store (page_block k p)) one)
+      | inr two ↦
+          ⊎_elim (λ before. omega (arith, before, same)) (λ behind. omega (arith, behind, same))
+          (apart_of store (page_block k (i / 8)) (page_block k (n / 8)) apart
+          (page_inside k (length store) (i / 8) i_in)
+          (page_inside k (length store) (n / 8) n_in)
+          (pages_other k (i / 8) (n / 8) two))
+    ]
+
 -- ---- one sector more
 
 pub cleared_at : (first end n from to : ℕ) (old new : List ℕ)
-    → from ≡ begin_of first - sector_entries * n
-    → to ≡ min (end_of first end - sector_entries * n) sector_entries
+    → from ≡ first - sector_entries * n
+    → to ≡ min (end - sector_entries * n) sector_entries
     → IsCleared from to old new
     → IsClearedAt first end n old new
 cleared_at first end n from to old new from_is to_is is =
-    subst (λ (k : ℕ). IsCleared k
-    (min (end_of first end - sector_entries * n) sector_entries) old new) from_is
+    subst (λ (k : ℕ). IsCleared k (min (end - sector_entries * n) sector_entries) old new) from_is
     (subst (λ (k : ℕ). IsCleared from k old new) to_is is)
 
-pub here_is : (old new : Image) (at n : ℕ) (bytes : List ℕ) (begin : ℕ)
-    → at ≡ begin
-    → new ≡ set_sector old (at + n) bytes
-    → new (begin + n) ≡ bytes
-here_is old new at n bytes begin is written =
-    wrote_here old new (at + n) bytes written (begin + n) (omega (arith, is))
+pub here_is : (old new : Image) (at s : ℕ) (bytes : List ℕ)
+    → at ≡ s
+    → new ≡ set_sector old at bytes
+    → new s ≡ bytes
+here_is old new at s bytes is written = wrote_here old new at bytes written s (sym is)
 
-pub there_is : (old new : Image) (at n i : ℕ) (bytes : List ℕ) (begin : ℕ)
-    → at ≡ begin
-    → i ≢ n
-    → new ≡ set_sector old (at + n) bytes
-    → new (begin + i) ≡ old (begin + i)
-there_is old new at n i bytes begin is other written =
-    wrote_there old new (at + n) bytes written (begin + i) (λ same. other (omega (arith, same, is)))
+pub there_is : (old new : Image) (at s : ℕ) (bytes : List ℕ)
+    → s ≢ at
+    → new ≡ set_sector old at bytes
+    → new s ≡ old s
+there_is old new at s bytes other written = wrote_there old new at bytes written s other
 
-pub touches_clearing : {D : Type 0} (g : Ghosts D) (store : List ℕ) (first end n at : ℕ)
-    (was bytes : List ℕ) (start before mid new : D)
-    → Touches g (IsClearing store first end (g.seen start)) start mid
-    → (g.is_modelled → was ≡ g.seen before (at + n))
+pub touches_clearing : {D : Type 0} (g : Ghosts D) (k : Chunk) (store : List ℕ)
+    (first end n at : ℕ) (was bytes : List ℕ) (start before mid new : D)
+    → Touches g (IsClearing k store first end (g.seen start)) start mid
+    → (g.is_modelled → was ≡ g.seen before at)
     → (g.is_modelled
-    → g.seen before (area_sector store first + n) ≡ g.seen start (area_sector store first + n))
-    → Touches g (IsAt (at + n) bytes) mid new
-    → at ≡ area_sector store first
+    → g.seen before (page_sector k store n) ≡ g.seen start (page_sector k store n))
+    → Touches g (IsAt at bytes) mid new
+    → at ≡ page_sector k store n
     → IsOfThem first end n
     → IsClearedAt first end n was bytes
-    → Touches g (IsClearing store first end (g.seen start)) start new
-touches_clearing {D} g store first end n at was bytes start before mid new so_far read same more at_is them cleared =
+    → Touches g (IsClearing k store first end (g.seen start)) start new
+touches_clearing {D} g k store first end n at was bytes start before mid new so_far read same more
+    at_is them cleared =
     record {
       quiet = quiet_then g start mid new so_far.quiet more.quiet;
       seen = λ t. same_then W (g.seen start) (g.seen mid) (g.seen new) (so_far.seen t)
@@ -176,15 +208,14 @@ touches_clearing {D} g store first end n at was bytes start before mid new so_fa
     }
   where
     W : ℕ → List ℕ → Type 0
-    W = IsClearing store first end (g.seen start)
+    W = IsClearing k store first end (g.seen start)
 
-    one : g.is_modelled → (s : ℕ) (b : List ℕ) → IsAt (at + n) bytes s b
-        → IsClearing store first end (g.seen start) s b
+    one : g.is_modelled → (s : ℕ) (b : List ℕ) → IsAt at bytes s b
+        → IsClearing k store first end (g.seen start) s b
     one t s b is =
-        let here : s ≡ area_sector store first + n = omega (arith, is.0, at_is) in
+        let here : s ≡ page_sector k store n = is.0 ∙ at_is in
         let old : was ≡ g.seen start s =
-        read t ∙ ap (λ (k : ℕ). g.seen before (k + n)) at_is ∙ same t
-        ∙ ap (g.seen start) (sym here) in
+        read t ∙ ap (g.seen before) at_is ∙ same t ∙ ap (g.seen start) (sym here) in
         record {
           sector = n;
           within = them;
@@ -194,10 +225,10 @@ touches_clearing {D} g store first end n at was bytes start before mid new so_fa
               (subst (IsClearedAt first end n was) (sym is.1) cleared);
         }
 
-    wide : g.is_modelled → Touches g (IsClearing store first end (g.seen start)) mid new
-    wide t = touches_wider g (IsClearing store first end (g.seen start))
-        (IsAt (at + n) bytes) mid new more (one t)
+    wide : g.is_modelled → Touches g (IsClearing k store first end (g.seen start)) mid new
+    wide t = touches_wider g (IsClearing k store first end (g.seen start))
+        (IsAt at bytes) mid new more (one t)
 
-    joined : g.is_modelled → Touches g (IsClearing store first end (g.seen start)) start new
-    joined t = touches_then g (IsClearing store first end (g.seen start)) start mid new so_far
+    joined : g.is_modelled → Touches g (IsClearing k store first end (g.seen start)) start new
+    joined t = touches_then g (IsClearing k store first end (g.seen start)) start mid new so_far
         (wide t)

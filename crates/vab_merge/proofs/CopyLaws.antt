@@ -1,7 +1,9 @@
 -- Blocks that are copied, one after another.
-use Rattle.std.proofs.Common.{◌≡◌, ◌≢◌, inl, inr, ⊎_elim, ℕ, ◌+◌, ◌≤◌, ◌<◌, List, length, ◌∙◌, subst, arith}
+use Rattle.std.proofs.Common.{◌≡◌, ◌≢◌, inl, inr, ⊎_elim, ℕ, ◌+◌, ◌≤◌, ◌<◌, List, length, ◌∙◌}
+use Rattle.std.proofs.Common.{subst, arith}
 use Rattle.std.specs.Prelude.{slice_index}
 use Rattle.std.proofs.lemmas.Bool.{cases_lt}
+use Rattle.vab_space.specs.declared.Chunk.TheVariants.{One}
 use Rattle.vab_disk.specs.Disk.{Image}
 use Rattle.vab_disk.specs.Calls.{InSectors, SameBut, IsBetween}
 use Rattle.vab_gate.specs.Gate.{set_block, IsAmong}
@@ -13,7 +15,7 @@ use Rattle.vab_merge.specs.Copied.{InCopied, AreCopied}
 
 -- what a copy keeps, and where it may write
 pub record MayCopy (base store : List ℕ) (es : List Exception) : Type 0 where
-  pub fits : Fits (length base) store es
+  pub fits : Fits One (length base) store es
   pub apart : IsApart base
   pub disjoint : AreDisjoint base store
 
@@ -92,7 +94,8 @@ pub copied_more : (base store : List ℕ) (es : List Exception) (first n : ℕ) 
     → length bytes ≡ 4096
     → new ≡ set_block mid (slice_index base (exception_at es n).old_chunk) bytes
     → AreCopied base store es first (n + 1) old new
-copied_more base store es first n old mid new bytes may behind within but copied is long written j from below =
+copied_more base store es first n old mid new bytes may behind within but copied is long written j
+    from below =
     let b : ℕ = (exception_at es n).old_chunk in
     let b_below : b < length base = old_below base store es n may within in
     elim (cases_lt j n) [

@@ -1,24 +1,31 @@
 -- What each step of a merge leaves.
-use Rattle.std.proofs.Common.{◌≡◌, ◌≢◌, ◌⊎◌, inl, inr, ⊎_elim, ℕ, zero, suc, ◌+◌, ◌-◌, ◌/◌, ◌%◌, ◌≤◌, ◌<◌, List, length, take, refl, sym, ◌∙◌, ap, subst, arith, Bool, true, not, ◌==◌, length-take-le}
+use Rattle.std.proofs.Common.{◌≡◌, ◌≢◌, ◌⊎◌, inl, inr, ⊎_elim, ℕ, zero, suc, ◌+◌, ◌-◌, ◌*◌, ◌/◌}
+use Rattle.std.proofs.Common.{◌%◌, ◌≤◌, ◌<◌, List, length, take, refl, sym, ◌∙◌, ap, subst, arith}
+use Rattle.std.proofs.Common.{true, length-take-le}
 use Rattle.std.specs.Prelude.{slice_index, Option, Some, None, Ok}
-use Rattle.std.proofs.lemmas.Bool.{cases_lt, cases_eq, eq-eqb, and_parts}
+use Rattle.std.proofs.lemmas.Bool.{cases_lt, cases_eq}
 use Rattle.std.proofs.lemmas.List.{take_all}
+use Rattle.vab_space.specs.declared.Chunk.TheVariants.{One}
+use Rattle.vab_space.specs.Chunks.{page_block, is_data}
+use Rattle.vab_space.proofs.ChunkLaws.{page_apart, page_inside, page_positive, data_other}
 use Rattle.vab_disk.specs.Disk.{Image}
 use Rattle.vab_disk.specs.Calls.{InSectors, SameBut, IsBetween}
 use Rattle.vab_exceptions.specs.declared.area.Exception.{Exception}
-use Rattle.vab_exceptions.specs.Entries.{area_entries, entry_at}
+use Rattle.vab_exceptions.specs.Entries.{entry_at}
 use Rattle.vab_exceptions.specs.Header.{header_of}
-use Rattle.vab_store.specs.Layout.{chunk_bytes, area_chunk, is_data, slot_at, slots_of}
+use Rattle.vab_store.specs.Layout.{chunk_bytes, pages_of, slot_at, slots_of}
 use Rattle.vab_store.specs.Scan.{IsScan}
 use Rattle.vab_store.specs.Seen.{chosen_bytes, view_block}
 use Rattle.vab_store.specs.View.{no_exception, view_of}
 use Rattle.vab_store.proofs.ChunkLaws.{apart_of, apart_sector, chunk_same}
 use Rattle.vab_store.proofs.ScanLaws.{scan_of_is}
-use Rattle.vab_store.proofs.ViewLaws.{view_in, view_out, view_chunk, take-at, take_fits, view_kept, view_dropped, view_other}
+use Rattle.vab_store.proofs.ViewLaws.{view_in, view_out, view_chunk, take-at, take_fits, view_kept}
+use Rattle.vab_store.proofs.ViewLaws.{view_dropped, view_other}
 use Rattle.vab_merge.specs.Copied.{InCopied, AreCopied}
-use Rattle.vab_merge.specs.Cleared.{IsClearedAt, IsClearing, AreCleared, area_sector}
+use Rattle.vab_merge.specs.Cleared.{IsClearedAt, IsClearing, AreCleared, page_sector}
 use Rattle.vab_merge.specs.Merged.{CanMerge, WithoutLast}
 use Rattle.vab_merge.proofs.CopyLaws.{MayCopy, store_kept, base_kept}
+use Rattle.vab_merge.proofs.ClearLaws.{sector_other}
 use Rattle.vab_merge.proofs.SlotLaws.{AreWhole, slot_in_sector, slot_same}
 
 pub may_copy : (base store : List ℕ) (es : List Exception) (size : ℕ)
@@ -30,33 +37,32 @@ may_copy base store es size can = record {
   disjoint = can.disjoint;
 }
 
--- the area of an entry lies in the store
-area_below : (store : List ℕ) (t : ℕ)
-    → t < slots_of area_entries store
-    → area_chunk area_entries (t / 256) < length store
-area_below store t below = omega (arith, below)
+-- the page of an entry lies in the store
+page_below : (store : List ℕ) (t : ℕ)
+    → t < slots_of One store
+    → page_block One (t / 256) < length store
+page_below store t below = page_inside One (length store) (t / 256) (omega (arith, below))
 
 -- ---- a store whose chunks read the same
 
 scan_kept : (store : List ℕ) (bound : ℕ) (old new : Image) (es : List Exception)
     → ((c : ℕ) → c < length store → chunk_bytes store new c ≡ chunk_bytes store old c)
-    → IsScan store bound old es
-    → IsScan store bound new es
+    → IsScan One store bound old es
+    → IsScan One store bound new es
 scan_kept store bound old new es same is = record {
   fits = is.fits;
   header =
       ap (λ (b : List ℕ). header_of (take 512 b)) (same 0 (omega (arith, is.fits.chunks)))
       ∙ is.header;
   reads = λ t below.
-      slot_same store old new t
-      (same (area_chunk area_entries (t / 256))
-      (area_below store t (omega (arith, below, is.fits.room))))
+      slot_same One store old new t
+      (same (page_block One (t / 256))
+      (page_below store t (omega (arith, below, is.fits.room))))
       ∙ is.reads t below;
   stops =
       ap (λ (e : Exception). e.new_chunk)
-      (slot_same store old new (length es)
-      (same (area_chunk area_entries (length es / 256))
-      (area_below store (length es) (omega (arith, is.fits.room)))))
+      (slot_same One store old new (length es)
+      (same (page_block One (length es / 256)) (page_below store (length es) is.fits.room)))
       ∙ is.stops;
 }
 
@@ -78,85 +84,86 @@ copied_block base store es first block old new None may but below is =
 
 pub copy_keeps : (base store : List ℕ) (es : List Exception) (size first : ℕ) (old new : Image)
     → CanMerge base store es size
-    → IsScan store (length base) old es
+    → IsScan One store (length base) old es
     → SameBut (InSectors (InCopied base es first)) old new
     → WithoutLast base store es 0 old new
 copy_keeps base store es size first old new can scan but =
     let may = may_copy base store es size can in
     let whole : take (length es - 0) es ≡ es = take_all (length es - 0) es (omega arith) in
-    let still : IsScan store (length base) new es =
+    let still : IsScan One store (length base) new es =
     scan_kept store (length base) old new es
     (λ c below. store_kept base store es first c old new may but below) scan in
     record {
       scanned = scan_of_is store (length base) new es still ∙ ap (λ l. Ok l) (sym whole);
       same = λ block below.
-          ap (λ (l : List Exception). view_block base store l new block) whole
+          ap (λ (l : List Exception). view_block One base store l new block) whole
           ∙ copied_block base store es first block old new (view_of es block) may but below refl;
     }
 
 -- ---- while entries are zeroed
 
--- a data chunk is no area
-data_not_area : (c k : ℕ) → is_data area_entries c ≡ true → c ≡ area_chunk area_entries k → ⊥
-data_not_area c k is same =
-    let head : (c % 257 == 1) ≡ true = eq-eqb (c % 257) 1 (omega (arith, same)) in
-    let both = and_parts (not (c == 0)) (not (c % 257 == 1)) is in
-    let failed : not true ≡ true = subst (λ (b : Bool). not b ≡ true) head both.1 in
-    absurd (cc)
+-- a data chunk is no page
+data_not_page : (c p : ℕ) → is_data One c ≡ true → c ≢ page_block One p
+data_not_page c p is same =
+    page_apart One p c 0 (data_other One c is) (omega arith) (sym same)
 
 -- Before the entries from the first on are zeroed, their blocks are copied.
 pub record Ready (base store : List ℕ) (es : List Exception) (size first : ℕ) (old mid : Image)
     : Type 0 where
   pub can : CanMerge base store es size
-  pub scan : IsScan store (length base) old es
+  pub scan : IsScan One store (length base) old es
   pub some : first < length es
-  pub one_area : first / 256 ≡ (length es - 1) / 256
   pub but : SameBut (InSectors (InCopied base es first)) old mid
   pub copied : AreCopied base store es first (length es) old mid
-  pub whole : AreWhole mid (area_sector store first) 8
+  pub whole : (p : ℕ)
+      → p < pages_of One store
+      → AreWhole mid (slice_index store (page_block One p)) 8
 
 -- each sector reads as before, or with its entries zeroed
 abbrev pub IsClearedBlend : List ℕ → ℕ → ℕ → Image → Image → Type 0
-IsClearedBlend store first end mid new = SameBut (IsClearing store first end mid) mid new
+IsClearedBlend store first end mid new = SameBut (IsClearing One store first end mid) mid new
 
--- the zeroed sectors are some of the area's
+-- a zeroed sector is one of its page
 clearing_between : (store : List ℕ) (first end : ℕ) (image : Image) (s : ℕ) (b : List ℕ)
-    → first < end
-    → first / 256 ≡ (end - 1) / 256
-    → IsClearing store first end image s b
-    → IsBetween (area_sector store first) (area_sector store first + 8) s
-clearing_between store first end image s b some one is = record {
+    (is : IsClearing One store first end image s b)
+    → IsBetween (slice_index store (page_block One (is.sector / 8)))
+    (slice_index store (page_block One (is.sector / 8)) + 8) s
+clearing_between store first end image s b is = record {
   from = omega (arith, is.here);
-  below = omega (arith, is.here, is.within.below, some, one);
+  below = omega (arith, is.here);
 }
 
 module _ (base store : List ℕ) (es : List Exception) (size first : ℕ) (old mid new : Image)
     (ready : Ready base store es size first old mid)
     (blend : IsClearedBlend store first (length es) mid new) where
-  k_below : area_chunk area_entries (first / 256) < length store
-  k_below = area_below store first (omega (arith, ready.some, ready.scan.fits.room))
+  -- the pages of the sectors lie in the store
+  page_in : (i : ℕ) → 32 * i < length es → i / 8 < pages_of One store
+  page_in i below = omega (arith, below, ready.scan.fits.room)
+
+  page_there : (i : ℕ) → 32 * i < length es → page_block One (i / 8) < length store
+  page_there i below = page_inside One (length store) (i / 8) (page_in i below)
 
   may : MayCopy base store es
   may = may_copy base store es size ready.can
 
-  -- another chunk of the store
+  -- a block of the store that is no page
   chunk_kept : (c : ℕ)
       → c < length store
-      → c ≢ area_chunk area_entries (first / 256)
+      → ((p : ℕ) → c ≢ page_block One p)
       → chunk_bytes store new c ≡ chunk_bytes store mid c
   chunk_kept c below other =
       chunk_same store mid new c
       (λ s here.
       ⊎_elim (λ same. same)
       (λ cleared.
-      let k : ℕ = area_chunk area_entries (first / 256) in
-      let at = clearing_between store first (length es) mid s
-      (new s) ready.some ready.one_area cleared in
+      let p : ℕ = cleared.sector / 8 in
+      let at = clearing_between store first (length es) mid s (new s) cleared in
       ⊎_elim
       (λ before. absurd (omega (arith, before, at.from)))
       (λ behind. absurd (omega (arith, behind, at.below)))
-      (apart_sector (slice_index store c) (slice_index store k) s
-      (apart_of store c k ready.can.store_apart below k_below other) here))
+      (apart_sector (slice_index store c) (slice_index store (page_block One p)) s
+      (apart_of store c (page_block One p) ready.can.store_apart below
+      (page_there cleared.sector cleared.within.below) (other p)) here))
       (blend s))
 
   -- the partition's blocks
@@ -166,78 +173,67 @@ module _ (base store : List ℕ) (es : List Exception) (size first : ℕ) (old m
       (λ s here.
       ⊎_elim (λ same. same)
       (λ cleared.
-      let k : ℕ = area_chunk area_entries (first / 256) in
-      let at = clearing_between store first (length es) mid s
-      (new s) ready.some ready.one_area cleared in
+      let p : ℕ = cleared.sector / 8 in
+      let at = clearing_between store first (length es) mid s (new s) cleared in
       ⊎_elim
       (λ before. absurd (omega (arith, before, at.from)))
       (λ behind. absurd (omega (arith, behind, at.below)))
-      (apart_sector (slice_index base b) (slice_index store k) s
-      (ready.can.disjoint b k below k_below) here))
+      (apart_sector (slice_index base b) (slice_index store (page_block One p)) s
+      (ready.can.disjoint b (page_block One p) below
+      (page_there cleared.sector cleared.within.below)) here))
       (blend s))
 
-  whole_new : AreWhole new (area_sector store first) 8
-  whole_new i below =
+  whole_new : (p : ℕ)
+      → p < pages_of One store
+      → AreWhole new (slice_index store (page_block One p)) 8
+  whole_new p inside i below =
       ⊎_elim
-      (λ same. ap length same ∙ ready.whole i below)
-      (λ cleared. cleared.cleared.long ∙ ready.whole i below)
-      (blend (area_sector store first + i))
+      (λ same. ap length same ∙ ready.whole p inside i below)
+      (λ cleared. cleared.cleared.long ∙ ready.whole p inside i below)
+      (blend (slice_index store (page_block One p) + i))
 
-  -- an entry of the area: as before, or zeroed
-  entry_either : (t : ℕ)
-      → t / 256 ≡ first / 256
-      → (slot_at area_entries store new t ≡ slot_at area_entries store mid t)
-      ⊎ ((first ≤ t) × (t < length es) × (slot_at area_entries store new t ≡ no_exception))
-  entry_either t one =
-      let at : ℕ = area_sector store first in
-      let i : ℕ = (t % 256) / 32 in
-      let j : ℕ = (t % 256) % 32 in
-      let at_is : area_sector store t ≡ at =
-      ap (λ (n : ℕ). slice_index store (area_chunk area_entries n)) one in
-      let now : slot_at area_entries store new t ≡ entry_at (new (at + i)) j =
-      slot_in_sector store new t (subst (λ (a : ℕ). AreWhole new a 8) (sym at_is) whole_new)
-      ∙ ap (λ (a : ℕ). entry_at (new (a + i)) j) at_is in
-      let was : slot_at area_entries store mid t ≡ entry_at (mid (at + i)) j =
-      slot_in_sector store mid t (subst (λ (a : ℕ). AreWhole mid a 8) (sym at_is) ready.whole)
-      ∙ ap (λ (a : ℕ). entry_at (mid (a + i)) j) at_is in
+  -- an entry: as before, or zeroed
+  slot_either : (t : ℕ)
+      → t < slots_of One store
+      → (slot_at One store new t ≡ slot_at One store mid t)
+      ⊎ ((first ≤ t) × (t < length es) × (slot_at One store new t ≡ no_exception))
+  slot_either t below =
+      let i : ℕ = t / 32 in
+      let j : ℕ = t % 32 in
+      let s : ℕ = page_sector One store i in
+      let inside : t / 256 < pages_of One store = omega (arith, below) in
+      let now : slot_at One store new t ≡ entry_at (new s) j =
+      slot_in_sector One store new t (whole_new (t / 256) inside) in
+      let was : slot_at One store mid t ≡ entry_at (mid s) j =
+      slot_in_sector One store mid t (ready.whole (t / 256) inside) in
       ⊎_elim
       (λ same. inl (now ∙ ap (λ (b : List ℕ). entry_at b j) same ∙ sym was))
       (λ cleared.
-      let same_sector : cleared.sector ≡ i = omega (arith, cleared.here) in
-      let done : IsClearedAt first (length es) i (mid (at + i)) (new (at + i)) =
-      subst (λ (n : ℕ). IsClearedAt first (length es) n (mid (at + i))
-      (new (at + i))) same_sector cleared.cleared in
+      let same_sector : cleared.sector ≡ i = elim (cases_eq cleared.sector i) [
+        | inl one ↦ one
+        | inr two ↦
+            absurd (sector_other One store cleared.sector i ready.can.store_apart
+            (page_in cleared.sector cleared.within.below) (omega (arith, below)) two
+            (sym cleared.here))
+      ] in
+      let done : IsClearedAt first (length es) i (mid s) (new s) =
+      subst (λ (n : ℕ). IsClearedAt first (length es) n (mid s) (new s)) same_sector
+      cleared.cleared in
       elim (cases_lt t first) [
-        | inl before ↦
-            inl (now ∙ done.kept j (omega arith) (inl (omega (arith, before, one))) ∙ sym was)
+        | inl before ↦ inl (now ∙ done.kept j (omega arith) (inl (omega (arith, before))) ∙ sym was)
         | inr behind ↦ elim (cases_lt t (length es)) [
           | inl inside ↦
               inr (
                 behind,
                 inside,
-                now ∙ done.gone j (omega (arith, behind, one, ready.some))
-                    (omega (arith, inside, behind, one, ready.some)),
+                now ∙ done.gone j (omega (arith, behind)) (omega (arith, inside)),
               )
-          | inr past ↦
-              inl (now ∙ done.kept j (omega arith) (inr (omega (arith, past, one, ready.some)))
-              ∙ sym was)
+          | inr past ↦ inl (now ∙ done.kept j (omega arith) (inr (omega (arith, past))) ∙ sym was)
         ]
       ])
-      (blend (at + i))
+      (blend s)
 
-  slot_either : (t : ℕ)
-      → t < slots_of area_entries store
-      → (slot_at area_entries store new t ≡ slot_at area_entries store mid t)
-      ⊎ ((first ≤ t) × (t < length es) × (slot_at area_entries store new t ≡ no_exception))
-  slot_either t below = elim (cases_eq (t / 256) (first / 256)) [
-    | inl one ↦ entry_either t one
-    | inr other ↦
-        inl (slot_same store mid new t
-        (chunk_kept (area_chunk area_entries (t / 256)) (area_below store t below)
-        (λ same. other (omega (arith, same)))))
-  ]
-
-  mid_scan : IsScan store (length base) mid es
+  mid_scan : IsScan One store (length base) mid es
   mid_scan =
       scan_kept store (length base) old mid es
       (λ c below. store_kept base store es first c old mid may ready.but below) ready.scan
@@ -246,12 +242,12 @@ module _ (base store : List ℕ) (es : List Exception) (size first : ℕ) (old m
   record EndsNow (f : ℕ) : Type 0 where
     from : first ≤ f
     within : f ≤ length es
-    before : (t : ℕ) → t < f → slot_at area_entries store new t ≡ slot_at area_entries store mid t
-    stops : (slot_at area_entries store new f).new_chunk ≡ 0
+    before : (t : ℕ) → t < f → slot_at One store new t ≡ slot_at One store mid t
+    stops : (slot_at One store new f).new_chunk ≡ 0
 
   before_first : (t : ℕ)
       → t < first
-      → slot_at area_entries store new t ≡ slot_at area_entries store mid t
+      → slot_at One store new t ≡ slot_at One store mid t
   before_first t below =
       ⊎_elim (λ same. same) (λ zeroed. absurd (omega (arith, zeroed.0, below)))
       (slot_either t (omega (arith, below, ready.some, ready.scan.fits.room)))
@@ -259,11 +255,11 @@ module _ (base store : List ℕ) (es : List Exception) (size first : ℕ) (old m
   find_end : (left t : ℕ)
       → t + left ≡ length es
       → first ≤ t
-      → ((u : ℕ) → u < t → slot_at area_entries store new u ≡ slot_at area_entries store mid u)
+      → ((u : ℕ) → u < t → slot_at One store new u ≡ slot_at One store mid u)
       → (f : ℕ) × EndsNow f
   find_end zero t sum from so_far =
       let last : t ≡ length es = omega (arith, sum) in
-      let same : slot_at area_entries store new (length es) ≡ slot_at area_entries store mid
+      let same : slot_at One store new (length es) ≡ slot_at One store mid
       (length es) =
       ⊎_elim (λ same. same) (λ zeroed. absurd (omega (arith, zeroed.1)))
       (slot_either (length es) ready.scan.fits.room) in (
@@ -282,7 +278,7 @@ module _ (base store : List ℕ) (es : List Exception) (size first : ℕ) (old m
         | inl before ↦ so_far u before
         | inr last ↦
             let is : t ≡ u = omega (arith, last, below) in
-            subst (λ (n : ℕ). slot_at area_entries store new n ≡ slot_at area_entries store mid n) is same
+            subst (λ (n : ℕ). slot_at One store new n ≡ slot_at One store mid n) is same
       ]))
       (λ zeroed. (
         t,
@@ -303,7 +299,7 @@ module _ (base store : List ℕ) (es : List Exception) (size first : ℕ) (old m
       → EndsNow f
       → block < length base
       → view_of es block ≡ o
-      → view_block base store (take f es) new block ≡ chosen_bytes base store old block o
+      → view_block One base store (take f es) new block ≡ chosen_bytes base store old block o
   kept_block f block (Some c) ends below is =
       let found = view_in es block c is in
       let j : ℕ = found.place in
@@ -314,10 +310,9 @@ module _ (base store : List ℕ) (es : List Exception) (size first : ℕ) (old m
             ap (view_of (take f es)) (sym found.old_is)
             ∙ view_kept (length base) store es f j may.fits ends.within kept
             ∙ ap (λ (n : ℕ). Some n) found.new_is in
-            let not_area : c ≢ area_chunk area_entries (first / 256) =
-            λ same. data_not_area c (first / 256) lies.is_data same in
+            let not_page : (p : ℕ) → c ≢ page_block One p = λ p. data_not_page c p lies.is_data in
             ap (chosen_bytes base store new block) still
-            ∙ chunk_kept c lies.new_chunk not_area
+            ∙ chunk_kept c lies.new_chunk not_page
             ∙ store_kept base store es first c old mid may ready.but lies.new_chunk
         | inr dropped ↦
             let gone : view_of (take f es) block ≡ None =
@@ -339,24 +334,25 @@ module _ (base store : List ℕ) (es : List Exception) (size first : ℕ) (old m
   without_at f ends =
       let left : length es - (length es - f) ≡ f = omega (arith, ends.within) in
       let long : length (take f es) ≡ f = length-take-le f es ends.within in
-      let now : IsScan store (length base) new (take f es) = record {
+      let now : IsScan One store (length base) new (take f es) = record {
         fits = take_fits (length base) store es f ends.within ready.scan.fits;
         header =
             ap (λ (b : List ℕ). header_of (take 512 b))
-            (chunk_kept 0 (omega (arith, ready.scan.fits.chunks)) (λ is. omega (arith, is)))
+            (chunk_kept 0 (omega (arith, ready.scan.fits.chunks))
+            (λ p is. omega (arith, is, page_positive One p)))
             ∙ mid_scan.header;
         reads = λ t below.
             let lt : t < f = omega (arith, below, long) in
             ends.before t lt ∙ mid_scan.reads t (omega (arith, lt, ends.within))
             ∙ sym (take-at es f t lt);
-        stops = ap (λ (n : ℕ). (slot_at area_entries store new n).new_chunk) long ∙ ends.stops;
+        stops = ap (λ (n : ℕ). (slot_at One store new n).new_chunk) long ∙ ends.stops;
       } in
       record {
         scanned =
             scan_of_is store (length base) new (take f es) now
             ∙ ap (λ (n : ℕ). Ok (take n es)) (sym left);
         same = λ block below.
-            ap (λ (n : ℕ). view_block base store (take n es) new block) left
+            ap (λ (n : ℕ). view_block One base store (take n es) new block) left
             ∙ kept_block f block (view_of es block) ends below refl;
       }
 
@@ -367,16 +363,18 @@ module _ (base store : List ℕ) (es : List Exception) (size first : ℕ) (old m
       (length es - some.0, omega (arith, some.1.from), without_at some.0 some.1)
 
   -- all of them, where each sector is done
-  pub clear_drops : AreCleared store first (length es) mid new
+  pub clear_drops : AreCleared One store first (length es) mid new
       → WithoutLast base store es (length es - first) old new
   clear_drops all =
-      let at : ℕ = area_sector store first in
-      let i : ℕ = (first % 256) / 32 in
-      let j : ℕ = (first % 256) % 32 in
-      let done : IsClearedAt first (length es) i (mid (at + i)) (new (at + i)) =
+      let i : ℕ = first / 32 in
+      let j : ℕ = first % 32 in
+      let s : ℕ = page_sector One store i in
+      let inside : first / 256 < pages_of One store =
+      omega (arith, ready.some, ready.scan.fits.room) in
+      let done : IsClearedAt first (length es) i (mid s) (new s) =
       all i (record { from = omega arith; below = omega (arith, ready.some) }) in
-      let zeroed : slot_at area_entries store new first ≡ no_exception =
-      slot_in_sector store new first whole_new
+      let zeroed : slot_at One store new first ≡ no_exception =
+      slot_in_sector One store new first (whole_new (first / 256) inside)
       ∙ done.gone j (omega arith) (omega (arith, ready.some)) in
       without_at first (record {
         from = omega arith;

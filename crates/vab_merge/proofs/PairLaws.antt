@@ -1,5 +1,6 @@
 -- A partition of blocks that follow one another, and its store behind it.
 use Rattle.std.proofs.Common.{◌≡◌, ℕ, ◌+◌, ◌*◌, ◌≤◌, List, length, subst, sym, arith}
+use Rattle.vab_space.specs.declared.Chunk.TheVariants.{One}
 use Rattle.vab_exceptions.specs.declared.area.Exception.{Exception}
 use Rattle.vab_linear.specs.Map.{run_of}
 use Rattle.vab_store.proofs.PartLaws.{run_long, run_on_disk, run_apart, runs_disjoint}
@@ -9,16 +10,16 @@ use Rattle.vab_merge.specs.Merged.{MayMerge, CanMerge}
 -- a scan's exceptions are those of the partition
 pub fits_base : (base store : List ℕ) (es : List Exception) (blocks : ℕ)
     → base ≡ run_of 0 blocks
-    → Fits blocks store es
-    → Fits (length base) store es
+    → Fits One blocks store es
+    → Fits One (length base) store es
 fits_base base store es blocks is fits =
-    subst (λ (n : ℕ). Fits n store es) (sym (run_long base 0 blocks is)) fits
+    subst (λ (n : ℕ). Fits One n store es) (sym (run_long base 0 blocks is)) fits
 
 pub may_merge : (base store : List ℕ) (es : List Exception) (size blocks chunks : ℕ)
     → base ≡ run_of 0 blocks
     → store ≡ run_of (8 * blocks) chunks
     → 8 * (blocks + chunks) ≤ size
-    → Fits blocks store es
+    → Fits One blocks store es
     → MayMerge base store es size
 may_merge base store es size blocks chunks base_is store_is on_disk fits = record {
   fits = fits_base base store es blocks base_is fits;
@@ -30,7 +31,7 @@ pub can_merge : (base store : List ℕ) (es : List Exception) (size blocks chunk
     → base ≡ run_of 0 blocks
     → store ≡ run_of (8 * blocks) chunks
     → 8 * (blocks + chunks) ≤ size
-    → Fits blocks store es
+    → Fits One blocks store es
     → CanMerge base store es size
 can_merge base store es size blocks chunks base_is store_is on_disk fits = record {
   may = may_merge base store es size blocks chunks base_is store_is on_disk fits;

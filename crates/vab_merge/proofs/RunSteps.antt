@@ -1,7 +1,9 @@
 -- The steps of a run that is merged, on a disk.
-use Rattle.std.proofs.Common.{◌≡◌, inl, inr, ⊎_elim, ℕ, zero, suc, ◌+◌, ◌-◌, ◌*◌, ◌/◌, ◌%◌, ◌≤◌, ◌<◌, List, length, take, sym, ◌∙◌, ap, subst, arith}
+use Rattle.std.proofs.Common.{◌≡◌, inl, inr, ⊎_elim, ℕ, ◌+◌, ◌-◌, ◌*◌, ◌/◌, ◌≤◌, ◌<◌, List, length}
+use Rattle.std.proofs.Common.{take, sym, ◌∙◌, ap, subst, arith}
 use Rattle.std.specs.Prelude.{slice_index, Ok}
 use Rattle.std.proofs.lemmas.Bool.{cases_lt}
+use Rattle.vab_space.specs.declared.Chunk.TheVariants.{One}
 use Rattle.vab_disk.specs.Disk.{Image, Adds}
 use Rattle.vab_disk.specs.declared.disk.Disk.{Ghosts}
 use Rattle.vab_disk.specs.Calls.{InSectors, Touches, IsAtRest}
@@ -9,50 +11,20 @@ use Rattle.vab_disk.proofs.Moments.{adds_wider, adds_on}
 use Rattle.vab_disk.proofs.CallLaws.{touches_on, touches_wider}
 use Rattle.vab_exceptions.specs.declared.area.Exception.{Exception}
 use Rattle.vab_exceptions.specs.Entries.{area_entries}
-use Rattle.vab_store.specs.Layout.{area_chunk}
+use Rattle.vab_space.specs.Chunks.{page_block}
+use Rattle.vab_space.proofs.ChunkLaws.{page_inside}
 use Rattle.vab_store.specs.Scan.{scan_of}
 use Rattle.std.proofs.lemmas.List.{take_all}
 use Rattle.vab_store.specs.Seen.{view_block}
-use Rattle.vab_store.specs.View.{Fits}
 use Rattle.vab_store.proofs.ScanLaws.{scan_of_ok}
 use Rattle.vab_merge.specs.Run.{IsRun, IsLongest}
 use Rattle.vab_merge.specs.Copied.{InCopied, AreCopied}
-use Rattle.vab_merge.specs.Cleared.{IsClearing, AreCleared, area_sector}
+use Rattle.vab_merge.specs.Cleared.{IsClearing, AreCleared, page_sector}
 use Rattle.vab_merge.specs.Merged.{CanMerge, WithoutLast, MayRun, LeavesMerged, IsMergedSector}
 use Rattle.vab_merge.proofs.RunLaws.{run_fewer, run_one}
 use Rattle.vab_merge.proofs.MergeLaws.{copy_keeps, Ready, clear_keeps, clear_drops}
 
--- ---- a run stands in one area
-
-area_chain : (es : List Exception) (n first more : ℕ)
-    → IsRun area_entries es n
-    → length es ≤ first + n
-    → first + more < length es
-    → first / 256 ≡ (first + more) / 256
-area_chain es n first zero run from below =
-    let same : first ≡ first + zero = omega arith in
-    ap (λ (k : ℕ). k / 256) same
-area_chain es n first (suc more) run from below =
-    let next : first + more + 1 ≡ first + suc more = omega arith in
-    area_chain es n first more run from (omega (arith, below))
-    ∙ (run.joined (first + more) (omega (arith, from)) (omega (arith, below))).same_area
-    ∙ ap (λ (k : ℕ). k / 256) next
-
-pub one_area : (es : List Exception) (n : ℕ)
-    → IsRun area_entries es n
-    → 0 < n
-    → (length es - n) / 256 ≡ (length es - 1) / 256
-one_area es n run some =
-    let last : length es - n + (n - 1) ≡ length es - 1 = omega (arith, some, run.within) in
-    area_chain es n (length es - n) (n - 1) run (omega (arith, run.within))
-    (omega (arith, some, run.within))
-    ∙ ap (λ (k : ℕ). k / 256) last
-
-pub area_there : (bound : ℕ) (store : List ℕ) (es : List Exception) (first : ℕ)
-    → Fits bound store es
-    → first < length es
-    → area_chunk area_entries (first / 256) < length store
-area_there bound store es first fits below = omega (arith, below, fits.room)
+-- ---- runs
 
 pub may_none : (es : List Exception) (n : ℕ) → MayRun es n 0
 may_none es n = record {
@@ -82,36 +54,28 @@ copied_sector base store es n s run is = record {
 cleared_sector : (base store : List ℕ) (es : List Exception) (n s : ℕ) (image : Image) (b : List ℕ)
     → IsRun area_entries es n
     → 0 < n
-    → IsClearing store (length es - n) (length es) image s b
+    → IsClearing One store (length es - n) (length es) image s b
     → IsMergedSector base store es n s
 cleared_sector base store es n s image b run some is =
     let first : ℕ = length es - n in
-    let k : ℕ = first / 256 in
-    let one = one_area es n run some in
     let i : ℕ = is.sector in
     let within_run = run.within in
-    elim (cases_lt (first % 256) (32 * i)) [
+    elim (cases_lt first (32 * i)) [
       | inl before ↦
-          let j : ℕ = 256 * k + 32 * i in
-          let small : 32 * i < 256 = omega (arith, is.within.below, one, some, within_run) in
-          let inside : j < length es = omega (arith, is.within.below, before, some, within_run) in
-          let which : j / 256 ≡ k = omega (arith, small) in
-          let place : (j % 256) / 32 ≡ i = omega (arith, small) in
-          let behind : first ≤ j = omega (arith, before) in
+          let j : ℕ = 32 * i in
+          let place : j / 32 ≡ i = omega arith in
           record {
             place = j;
-            within = inside;
+            within = is.within.below;
             may_run = record {
               run = run_fewer area_entries es n (length es - j) run
-                  (omega (arith, behind, within_run));
-              at_most = omega (arith, behind, within_run);
+                  (omega (arith, before, within_run));
+              at_most = omega (arith, before, within_run);
             };
-            here = inr (is.here
-                ∙ ap (λ (a : ℕ). slice_index store (area_chunk area_entries a) + i) (sym which)
-                ∙ ap (λ (a : ℕ). area_sector store j + a) (sym place));
+            here = inr (is.here ∙ ap (page_sector One store) (sym place));
           }
       | inr at_begin ↦
-          let place : (first % 256) / 32 ≡ i = omega (arith, at_begin, is.within.from) in
+          let place : first / 32 ≡ i = omega (arith, at_begin, is.within.from) in
           record {
             place = first;
             within = omega (arith, some, within_run);
@@ -119,7 +83,7 @@ cleared_sector base store es n s image b run some is =
               run = run_fewer area_entries es n (length es - first) run (omega (arith, within_run));
               at_most = omega (arith, within_run);
             };
-            here = inr (is.here ∙ ap (λ (a : ℕ). area_sector store first + a) (sym place));
+            here = inr (is.here ∙ ap (page_sector One store) (sym place));
           }
     ]
 
@@ -136,11 +100,11 @@ module _ {D : Type 0} (g : Ghosts D) (base store : List ℕ) (es : List Exceptio
   pub touches_merged : (old mid new : D)
       → 0 < n
       → Touches g (InSectors (InCopied base es (length es - n))) old mid
-      → Touches g (IsClearing store (length es - n) (length es) (g.seen mid)) mid new
+      → Touches g (IsClearing One store (length es - n) (length es) (g.seen mid)) mid new
       → Touches g (InSectors (IsMergedSector base store es n)) old new
   touches_merged old mid new some copied cleared =
       touches_on g (InSectors (InCopied base es (length es - n)))
-      (IsClearing store (length es - n) (length es) (g.seen mid))
+      (IsClearing One store (length es - n) (length es) (g.seen mid))
       (InSectors (IsMergedSector base store es n)) old mid new copied cleared
       (λ s b is. copied_sector base store es n s run is)
       (λ s b is. cleared_sector base store es n s (g.seen mid) b run some is)
@@ -151,7 +115,7 @@ module _ {D : Type 0} (g : Ghosts D) (base store : List ℕ) (es : List Exceptio
       → g.is_modelled
       → CanMerge base store es (g.size old)
       → IsAtRest g old
-      → scan_of store (length base) (g.seen old) ≡ Ok es
+      → scan_of One store (length base) (g.seen old) ≡ Ok es
       → Touches g (InSectors (InCopied base es (length es - n))) old mid
       → Adds g.moment g.outcomes old mid (LeavesMerged base store es n (g.told old) (g.seen old))
   time_copied old mid t can rest scanned touches =
@@ -171,7 +135,7 @@ module _ {D : Type 0} (g : Ghosts D) (base store : List ℕ) (es : List Exceptio
       → g.is_modelled
       → 0 < n
       → CanMerge base store es (g.size old)
-      → scan_of store (length base) (g.seen old) ≡ Ok es
+      → scan_of One store (length base) (g.seen old) ≡ Ok es
       → Touches g (InSectors (InCopied base es (length es - n))) old mid
       → AreCopied base store es (length es - n) (length es) (g.seen old) (g.seen mid)
       → ((s : ℕ) → s < g.size mid → length (g.seen mid s) ≡ 512)
@@ -179,18 +143,17 @@ module _ {D : Type 0} (g : Ghosts D) (base store : List ℕ) (es : List Exceptio
   ready_of old mid t some can scanned touches copied whole =
       let first : ℕ = length es - n in
       let below : first < length es = omega (arith, some, run.within) in
-      let there = area_there (length base) store es first can.may.fits below in
-      let on_disk : area_sector store first + 8 ≤ g.size old =
-      can.may.store_on_disk (area_chunk area_entries (first / 256)) there in
       record {
         can = can;
         scan = scan_of_ok store (length base) (g.seen old) es scanned;
         some = below;
-        one_area = one_area es n run some;
         but = touches.seen t;
         copied = copied;
-        whole = λ i lt.
-            whole (area_sector store first + i) (omega (arith, lt, on_disk, touches.quiet.size));
+        whole = λ p inside i lt.
+            let on_disk =
+            can.may.store_on_disk (page_block One p) (page_inside One (length store) p inside) in
+            whole (slice_index store (page_block One p) + i)
+            (omega (arith, lt, on_disk, touches.quiet.size));
       }
 
   pub time_merged : (old mid new : D)
@@ -198,12 +161,12 @@ module _ {D : Type 0} (g : Ghosts D) (base store : List ℕ) (es : List Exceptio
       → 0 < n
       → CanMerge base store es (g.size old)
       → IsAtRest g old
-      → scan_of store (length base) (g.seen old) ≡ Ok es
+      → scan_of One store (length base) (g.seen old) ≡ Ok es
       → Touches g (InSectors (InCopied base es (length es - n))) old mid
       → AreCopied base store es (length es - n) (length es) (g.seen old) (g.seen mid)
       → ((s : ℕ) → s < g.size mid → length (g.seen mid s) ≡ 512)
       → IsAtRest g mid
-      → Touches g (IsClearing store (length es - n) (length es) (g.seen mid)) mid new
+      → Touches g (IsClearing One store (length es - n) (length es) (g.seen mid)) mid new
       → Adds g.moment g.outcomes old new (LeavesMerged base store es n (g.told old) (g.seen old))
   time_merged old mid new t some can rest scanned touches copied whole mid_rest cleared =
       let ready = ready_of old mid t some can scanned touches copied whole in
@@ -231,12 +194,12 @@ module _ {D : Type 0} (g : Ghosts D) (base store : List ℕ) (es : List Exceptio
       → g.is_modelled
       → 0 < n
       → CanMerge base store es (g.size old)
-      → scan_of store (length base) (g.seen old) ≡ Ok es
+      → scan_of One store (length base) (g.seen old) ≡ Ok es
       → Touches g (InSectors (InCopied base es (length es - n))) old mid
       → AreCopied base store es (length es - n) (length es) (g.seen old) (g.seen mid)
       → ((s : ℕ) → s < g.size mid → length (g.seen mid s) ≡ 512)
-      → Touches g (IsClearing store (length es - n) (length es) (g.seen mid)) mid new
-      → AreCleared store (length es - n) (length es) (g.seen mid) (g.seen new)
+      → Touches g (IsClearing One store (length es - n) (length es) (g.seen mid)) mid new
+      → AreCleared One store (length es - n) (length es) (g.seen mid) (g.seen new)
       → WithoutLast base store es n (g.seen old) (g.seen new)
   merged old mid new t some can scanned touches copied whole cleared all =
       let ready = ready_of old mid t some can scanned touches copied whole in
@@ -282,13 +245,14 @@ sectors_more g base store es n most old new le touches =
 
 -- nothing is merged where no exception is left
 pub without_none : (base store : List ℕ) (es : List Exception) (old : Image)
-    → scan_of store (length base) old ≡ Ok es
+    → scan_of One store (length base) old ≡ Ok es
     → WithoutLast base store es 0 old old
 without_none base store es old scanned =
     let whole : take (length es - 0) es ≡ es = take_all (length es - 0) es (omega arith) in
     record {
       scanned = scanned ∙ ap (λ l. Ok l) (sym whole);
-      same = λ block below. ap (λ (l : List Exception). view_block base store l old block) whole;
+      same = λ block below. ap (λ (l : List Exception). view_block One base store l old block)
+          whole;
     }
 
 pub empty_run : (es : List Exception) (most : ℕ)

@@ -1,14 +1,19 @@
--- Entries of an area, sector by sector.
-use Rattle.std.proofs.Common.{◌≡◌, inl, inr, ℕ, zero, suc, ◌+◌, ◌*◌, ◌/◌, ◌%◌, ◌≤◌, ◌<◌, List, [], ◌++◌, length, take, drop, refl, sym, ◌∙◌, ap, arith, append_assoc, append-nil, length-append, length-drop}
+-- Entries of a page, sector by sector.
+use Rattle.std.proofs.Common.{◌≡◌, inl, inr, ℕ, zero, suc, ◌+◌, ◌*◌, ◌/◌, ◌%◌, ◌≤◌, ◌<◌, List, []}
+use Rattle.std.proofs.Common.{◌++◌, length, take, drop, refl, sym, ◌∙◌, ap, arith, append_assoc}
+use Rattle.std.proofs.Common.{append-nil, length-append, length-drop}
+use Rattle.std.specs.Prelude.{slice_index}
 use Rattle.std.specs.Int.{w64, from_le_bytes}
 use Rattle.std.proofs.lemmas.Bool.{cases_lt}
 use Rattle.std.proofs.lemmas.List.{drop-drop, drop-append-le, take-append-le, drop_at}
 use Rattle.vab_bytes.specs.Number.{field}
 use Rattle.vab_disk.specs.Disk.{Image}
 use Rattle.vab_gate.specs.Gate.{sectors_at}
-use Rattle.vab_exceptions.specs.Entries.{area_entries, entry_at}
-use Rattle.vab_store.specs.Layout.{chunk_bytes, area_chunk, slot_at}
-use Rattle.vab_merge.specs.Cleared.{area_sector}
+use Rattle.vab_exceptions.specs.Entries.{entry_at}
+use Rattle.vab_space.specs.declared.Chunk.{Chunk}
+use Rattle.vab_space.specs.Chunks.{page_block}
+use Rattle.vab_store.specs.Layout.{chunk_bytes, slot_at}
+use Rattle.vab_merge.specs.Cleared.{page_sector}
 
 -- each of these sectors is whole
 abbrev pub AreWhole : Image → ℕ → ℕ → Type 0
@@ -93,21 +98,23 @@ entry_in n image at k j all below inside =
     (λ i. record { old_chunk = old i; new_chunk = new i })
 
 -- the t-th entry of a store, in its sector
-pub slot_in_sector : (store : List ℕ) (image : Image) (t : ℕ)
-    → AreWhole image (area_sector store t) 8
-    → slot_at area_entries store image t
-    ≡ entry_at (image (area_sector store t + (t % 256) / 32)) ((t % 256) % 32)
+pub slot_in_sector : (k : Chunk) (store : List ℕ) (image : Image) (t : ℕ)
+    → AreWhole image (slice_index store (page_block k (t / 256))) 8
+    → slot_at k store image t ≡ entry_at (image (page_sector k store (t / 32))) (t % 32)
 unfolding slot_at
-slot_in_sector store image t all =
-    let p : ℕ = t % 256 in
-    let split : p ≡ 32 * (p / 32) + p % 32 = omega arith in
-    ap (entry_at (sectors_at 8 image (area_sector store t))) split
-    ∙ entry_in 8 image (area_sector store t) (p / 32) (p % 32) all (omega arith) (omega arith)
+slot_in_sector k store image t all =
+    let at : ℕ = slice_index store (page_block k (t / 256)) in
+    let r : ℕ = (t / 32) % 8 in
+    let split : t % 256 ≡ 32 * r + t % 32 = omega arith in
+    let page : (t / 32) / 8 ≡ t / 256 = omega arith in
+    ap (entry_at (sectors_at 8 image at)) split
+    ∙ entry_in 8 image at r (t % 32) all (omega arith) (omega arith)
+    ∙ ap (λ (p : ℕ). entry_at (image (slice_index store (page_block k p) + r)) (t % 32)) (sym page)
 
--- entries of a chunk that reads the same
-pub slot_same : (store : List ℕ) (old new : Image) (t : ℕ)
-    → chunk_bytes store new (area_chunk area_entries (t / 256))
-    ≡ chunk_bytes store old (area_chunk area_entries (t / 256))
-    → slot_at area_entries store new t ≡ slot_at area_entries store old t
+-- entries of a page that reads the same
+pub slot_same : (k : Chunk) (store : List ℕ) (old new : Image) (t : ℕ)
+    → chunk_bytes store new (page_block k (t / 256))
+    ≡ chunk_bytes store old (page_block k (t / 256))
+    → slot_at k store new t ≡ slot_at k store old t
 unfolding slot_at
-slot_same store old new t same = ap (λ (b : List ℕ). entry_at b (t % 256)) same
+slot_same k store old new t same = ap (λ (b : List ℕ). entry_at b (t % 256)) same

@@ -1,5 +1,6 @@
 -- What a merge leaves, and that the next may follow.
 use Rattle.std.proofs.Common.{◌≡◌, ℕ, ◌-◌, ◌≤◌, List, length, take, arith, length-take-le}
+use Rattle.vab_space.specs.declared.Chunk.TheVariants.{One}
 use Rattle.vab_exceptions.specs.declared.area.Exception.{Exception}
 use Rattle.vab_store.specs.View.{Fits}
 use Rattle.vab_store.proofs.ViewLaws.{take_fits}
@@ -11,8 +12,8 @@ use Rattle.vab_merge.proofs.RunSteps.{may_none}
 -- ---- the exceptions without the last n
 
 pub fits_left : (bound : ℕ) (store : List ℕ) (es : List Exception) (n : ℕ)
-    → Fits bound store es
-    → Fits bound store (take (length es - n) es)
+    → Fits One bound store es
+    → Fits One bound store (take (length es - n) es)
 fits_left bound store es n fits = take_fits bound store es (length es - n) (omega arith) fits
 
 pub length_left : (es : List Exception) (n : ℕ)

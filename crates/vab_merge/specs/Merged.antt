@@ -1,5 +1,6 @@
 -- What a merge leaves of a partition that is read through its store.
-use Rattle.std.specs.Prelude.{◌≡◌, ◌⊎◌, ℕ, ◌+◌, ◌-◌, ◌/◌, ◌≤◌, ◌<◌, List, length, take, Ok}
+use Rattle.std.specs.Prelude.{◌≡◌, ◌⊎◌, ℕ, ◌-◌, ◌/◌, ◌≤◌, ◌<◌, List, length, take, Ok}
+use Rattle.vab_space.specs.declared.Chunk.TheVariants.{One}
 use Rattle.vab_disk.specs.Disk.{Image, Outcome}
 use Rattle.vab_exceptions.specs.declared.area.Exception.{Exception}
 use Rattle.vab_exceptions.specs.Entries.{area_entries}
@@ -9,13 +10,13 @@ use Rattle.vab_store.specs.Seen.{view_block}
 use Rattle.vab_store.specs.View.{Fits}
 use Rattle.vab_merge.specs.Run.{IsRun, IsLongest}
 use Rattle.vab_merge.specs.Copied.{InBlockOf}
-use Rattle.vab_merge.specs.Cleared.{area_sector, begin_of, sector_entries}
+use Rattle.vab_merge.specs.Cleared.{page_sector, sector_entries}
 use Rattle.vab_merge.specs.declared.merge.Ran.{Ran}
 use Rattle.vab_merge.specs.declared.merge.Ran.TheVariants.{Merged, Empty}
 
 -- The partition and its store lie on the disk, and the exceptions keep the rules of the store.
 pub record MayMerge (base store : List ℕ) (es : List Exception) (size : ℕ) : Type 0 where
-  pub fits : Fits (length base) store es
+  pub fits : Fits One (length base) store es
   pub base_on_disk : IsOnDisk base size
   pub store_on_disk : IsOnDisk store size
 
@@ -29,11 +30,11 @@ pub record CanMerge (base store : List ℕ) (es : List Exception) (size : ℕ) :
 -- A scan gives the exceptions without the last n, and each block reads as before.
 pub record WithoutLast (base store : List ℕ) (es : List Exception) (n : ℕ) (old new : Image)
     : Type 0 where
-  pub scanned : scan_of store (length base) new ≡ Ok (take (length es - n) es)
+  pub scanned : scan_of One store (length base) new ≡ Ok (take (length es - n) es)
   pub same : (block : ℕ)
       → block < length base
-      → view_block base store
-      (take (length es - n) es) new block ≡ view_block base store es old block
+      → view_block One base store
+      (take (length es - n) es) new block ≡ view_block One base store es old block
 
 -- So many of the last exceptions may be merged together.
 pub record MayRun (es : List Exception) (most n : ℕ) : Type 0 where
@@ -55,7 +56,7 @@ pub record LeavesMerged
 
 -- the sector of the j-th entry
 abbrev pub entry_sector : List ℕ → ℕ → ℕ
-entry_sector store j = area_sector store j + begin_of j / sector_entries
+entry_sector store j = page_sector One store (j / sector_entries)
 
 -- a sector of the block, or of the entry, of an exception that is merged
 pub record IsMergedSector (base store : List ℕ) (es : List Exception) (most s : ℕ) : Type 0 where

@@ -1,6 +1,7 @@
 //! Blocks that are copied from the store to the partition.
 
 ghost use Rattle.std.specs.Prelude.{◌≡◌, ℕ, ◌<◌, ◌≤◌, length, OnOk};
+ghost use Rattle.vab_space.specs.declared.Chunk.TheVariants.{One};
 ghost use Rattle.vab_disk.specs.Calls.{InSectors, Touches, FailsWithDisk};
 ghost use Rattle.vab_store.specs.Layout.{IsOnDisk, IsApart, AreDisjoint};
 ghost use Rattle.vab_store.specs.View.{Fits};
@@ -20,7 +21,7 @@ pub(crate) fn copy_blocks<D: Disk>(
     view: &StoreView,
     first: u64,
 ) -> Result<(), DiskFault>
-    requires fits { Fits (length base.now) store.now view.now }
+    requires fits { Fits One (length base.now) store.now view.now }
     requires base_on_disk { IsOnDisk base.now (D.size d.old) }
     requires store_on_disk { IsOnDisk store.now (D.size d.old) }
     requires base_apart { D.is_modelled → IsApart base.now }

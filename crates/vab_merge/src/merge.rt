@@ -1,10 +1,11 @@
 //! The merge of a run.
 
-ghost use Rattle.std.specs.Prelude.{◌≡◌, ◌-◌, ◌/◌, ◌<◌, ◌≤◌, length, take, Ok, IfOk, OnErr, OnOk};
+ghost use Rattle.std.specs.Prelude.{◌≡◌, ◌-◌, ◌<◌, ◌≤◌, length, take, Ok, IfOk, OnErr, OnOk};
+ghost use Rattle.vab_space.specs.declared.Chunk.TheVariants.{One};
 ghost use Rattle.vab_disk.specs.Disk.{Adds};
 ghost use Rattle.vab_disk.specs.Calls.{InSectors, Touches, IsAtRest, FailsWithDisk};
 ghost use Rattle.vab_exceptions.specs.Entries.{area_entries};
-ghost use Rattle.vab_store.specs.Layout.{area_chunk, IsOnDisk};
+ghost use Rattle.vab_store.specs.Layout.{slots_of, IsOnDisk, IsApart};
 ghost use Rattle.vab_store.specs.Scan.{scan_of};
 ghost use Rattle.vab_merge.specs.Run.{IsRun};
 ghost use Rattle.vab_merge.specs.Copied.{InCopied, AreCopied};
@@ -18,6 +19,7 @@ use crate::run::run_length;
 use vab_disk::Disk;
 use vab_gate::{DiskFault, settle};
 use vab_linear::Map;
+use vab_space::Chunk;
 use vab_store::StoreView;
 
 /// What a merge did.
@@ -51,19 +53,20 @@ fn copy_run<D: Disk>(
     settle(d)
 }
 
-// Zeroes the entries from `first` up to `end` of one area, and syncs.
+// Zeroes the entries from `first` up to `end`, and syncs.
 fn clear_run<D: Disk>(d: &mut D, store: &Map, first: u64, end: u64) -> Result<(), DiskFault>
     requires order { first < end }
-    requires one_area { first / area_entries ≡ (end - 1) / area_entries }
-    requires there { area_chunk area_entries (first / area_entries) < length store.now }
+    requires there { end ≤ slots_of One store.now }
     requires on_disk { IsOnDisk store.now (D.size d.old) }
+    requires apart { D.is_modelled → IsApart store.now }
     ensures cleared { D.is_modelled → OnOk result
-        (AreCleared store.now first end (D.seen d.old) (D.seen d.new)) }
+        (AreCleared One store.now first end (D.seen d.old) (D.seen d.new)) }
     ensures rest { D.is_modelled → OnOk result (IsAtRest D.Disk d.new) }
-    ensures touches { Touches D.Disk (IsClearing store.now first end (D.seen d.old)) d.old d.new }
+    ensures touches { Touches D.Disk
+        (IsClearing One store.now first end (D.seen d.old)) d.old d.new }
     ensures faults { FailsWithDisk D.Disk d.old d.new result }
 {
-    clear_entries(d, store, first, end)?;
+    clear_entries(d, store, Chunk::One, first, end)?;
     settle(d)
 }
 
@@ -80,12 +83,12 @@ fn merge_last<D: Disk>(
     requires some { 0 < n }
     requires run { IsRun area_entries view.now n }
     ensures merged { D.is_modelled
-        → scan_of store.now (length base.now) (D.seen d.old) ≡ Ok view.now
+        → scan_of One store.now (length base.now) (D.seen d.old) ≡ Ok view.now
         → OnOk result (WithoutLast base.now store.now view.now n (D.seen d.old) (D.seen d.new)) }
     ensures rest { D.is_modelled → OnOk result (IsAtRest D.Disk d.new) }
     ensures time { D.is_modelled
         → IsAtRest D.Disk d.old
-        → scan_of store.now (length base.now) (D.seen d.old) ≡ Ok view.now
+        → scan_of One store.now (length base.now) (D.seen d.old) ≡ Ok view.now
         → Adds D.moment D.outcomes d.old d.new
         (LeavesMerged base.now store.now view.now n (D.told d.old) (D.seen d.old)) }
     ensures touches { Touches D.Disk
@@ -128,14 +131,14 @@ pub fn run_turn<D: Disk>(
     ensures failed { OnErr result (view.new ≡ view.old) }
     // The kept view is the store's scan, and each block reads as before.
     ensures merged { D.is_modelled
-        → scan_of store.now (length base.now) (D.seen d.old) ≡ Ok view.old
+        → scan_of One store.now (length base.now) (D.seen d.old) ≡ Ok view.old
         → IfOk result (λ ran.
         WithoutLast base.now store.now view.old (dropped_by ran) (D.seen d.old) (D.seen d.new)) }
     ensures rest { D.is_modelled → IsAtRest D.Disk d.old → OnOk result (IsAtRest D.Disk d.new) }
     // So it is in each outcome, but that fewer of the exceptions may be gone.
     ensures time { D.is_modelled
         → IsAtRest D.Disk d.old
-        → scan_of store.now (length base.now) (D.seen d.old) ≡ Ok view.old
+        → scan_of One store.now (length base.now) (D.seen d.old) ≡ Ok view.old
         → Adds D.moment D.outcomes d.old d.new
         (LeavesMerged base.now store.now view.old most (D.told d.old) (D.seen d.old)) }
     ensures touches { Touches D.Disk
@@ -169,13 +172,13 @@ pub fn turn<D: Disk>(
         (λ ran. view.new ≡ take (length view.old - dropped_by ran) view.old) }
     ensures failed { OnErr result (view.new ≡ view.old) }
     ensures merged { D.is_modelled
-        → scan_of store.now (length base.now) (D.seen d.old) ≡ Ok view.old
+        → scan_of One store.now (length base.now) (D.seen d.old) ≡ Ok view.old
         → IfOk result (λ ran.
         WithoutLast base.now store.now view.old (dropped_by ran) (D.seen d.old) (D.seen d.new)) }
     ensures rest { D.is_modelled → IsAtRest D.Disk d.old → OnOk result (IsAtRest D.Disk d.new) }
     ensures time { D.is_modelled
         → IsAtRest D.Disk d.old
-        → scan_of store.now (length base.now) (D.seen d.old) ≡ Ok view.old
+        → scan_of One store.now (length base.now) (D.seen d.old) ≡ Ok view.old
         → Adds D.moment D.outcomes d.old d.new
         (LeavesMerged base.now store.now view.old 1 (D.told d.old) (D.seen d.old)) }
     ensures touches { Touches D.Disk

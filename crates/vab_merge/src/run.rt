@@ -4,8 +4,10 @@ ghost use Rattle.std.specs.Prelude.{◌≡◌, ◌↔◌, ◌-◌, ◌<◌, ◌�
 ghost use Rattle.vab_exceptions.specs.Entries.{area_entries};
 ghost use Rattle.vab_merge.specs.Run.{IsJoined, IsLongest};
 
-use vab_exceptions::AREA_ENTRIES;
 use vab_store::StoreView;
+
+/// The entries of an area of one block.
+pub(crate) const AREA_ENTRIES: u64 = 256;
 
 // Whether the exception before this one stands in its area, with the old chunk before its.
 fn is_joined(view: &StoreView, next: u64) -> bool
@@ -13,7 +15,7 @@ fn is_joined(view: &StoreView, next: u64) -> bool
     requires within { next < length view.now }
     ensures { IsTrue result ↔ IsJoined area_entries view.now (next - 1) }
 {
-    let area = AREA_ENTRIES as u64;
+    let area = AREA_ENTRIES;
     let before = view.at(next - 1).old_chunk;
     let here = view.at(next).old_chunk;
     (next - 1) / area == next / area && before < here && here - before == 1

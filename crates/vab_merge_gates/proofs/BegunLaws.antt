@@ -10,7 +10,7 @@ use Rattle.vab_bootctl.specs.Boot.{info_at}
 use Rattle.vab_bootctl.specs.Control.{control_of}
 use Rattle.vab_marks.specs.declared.mark.MarkPhase.TheVariants as marks
 use Rattle.vab_marks.specs.declared.status.PartStatus.{PartStatus}
-use Rattle.vab_marks.specs.Mark.{mark_of, mark_spelling}
+use Rattle.vab_marks.specs.Mark.{mark_of, mark_spelling, merging_mark}
 use Rattle.vab_statuses.specs.Statuses.{written_in}
 use Rattle.vab_geometry.specs.declared.geometry.Geometry.{Geometry}
 use Rattle.vab_tables.specs.declared.table.Table.{Table}
@@ -38,7 +38,7 @@ use Rattle.vab_device.proofs.StayLaws.{mark_there, copy_stays, copies_from}
 use Rattle.vab_device.proofs.Steps.{marked}
 use Rattle.vab_device.proofs.StoreLaws.{statuses_kept, stores_kept}
 use Rattle.vab_device.proofs.UpdateLaws.{update_read, kept_with}
-use Rattle.vab_merge_gates.specs.Kept.{merging_mark, merging_device}
+use Rattle.vab_merge_gates.specs.Kept.{merging_device}
 use Rattle.vab_merge_gates.proofs.FewerLaws.{scans_fewer}
 use Rattle.vab_merge_gates.proofs.TwinLaws.{same_device, same_limits}
 

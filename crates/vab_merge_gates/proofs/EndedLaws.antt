@@ -8,9 +8,8 @@ use Rattle.vab_bootctl.specs.declared.slots.Control.{Control}
 use Rattle.vab_bootctl.specs.Control.{control_of}
 use Rattle.vab_marks.specs.declared.mark.MarkPhase.{MarkPhase}
 use Rattle.vab_marks.specs.declared.mark.MarkPhase.TheVariants as marks
-use Rattle.vab_marks.specs.declared.mark.UpdateMark.{UpdateMark}
 use Rattle.vab_marks.specs.declared.status.PartStatus.{PartStatus}
-use Rattle.vab_marks.specs.Mark.{mark_of, mark_spelling}
+use Rattle.vab_marks.specs.Mark.{mark_of, mark_spelling, idle_mark, completed_mark}
 use Rattle.vab_geometry.specs.declared.geometry.Geometry.{Geometry}
 use Rattle.vab_tables.specs.declared.table.Table.{Table}
 use Rattle.vab_layout.specs.declared.layout.Part.{Part as PartOfLayout}
@@ -44,13 +43,10 @@ use Rattle.vab_device.proofs.SameLaws.{geometry_same, tables_agree, images_same}
 use Rattle.vab_device.proofs.StayLaws.{copy_stays, copies_from, one_of}
 use Rattle.vab_device.proofs.Steps.{marked}
 use Rattle.vab_device.proofs.UpdateLaws.{kept_with}
-use Rattle.vab_merge_gates.specs.Kept.{completed_mark, plain_part, plain_parts, ended_device}
+use Rattle.vab_merge_gates.specs.Kept.{plain_part, plain_parts, ended_device}
 use Rattle.vab_merge_gates.proofs.BegunLaws.{merging_read, none_named}
 use Rattle.vab_merge_gates.proofs.KeptLaws.{plain_there}
 use Rattle.vab_device.proofs.PhaseCases.{unplanned_of}
-
-abbrev pub idle_mark : ℕ → UpdateMark
-idle_mark slot = record { phase = marks.Idle; slot = slot }
 
 -- the mark is read as that of no update
 completed_there : (slot : ℕ) (image : Image)
@@ -175,7 +171,7 @@ module _
 
   shape : r ≡ shaped
   shape = (λ i. record {
-    mark = record { phase = phase i; slot = r.mark.slot };
+    mark = record r.mark { phase = phase i };
     statuses = r.statuses;
     control = r.control;
     geometry = r.geometry;

@@ -11,7 +11,7 @@ use Rattle.vab_bootctl.specs.Control.{control_of}
 use Rattle.vab_marks.specs.declared.mark.MarkPhase.{MarkPhase}
 use Rattle.vab_marks.specs.declared.mark.MarkPhase.TheVariants as marks
 use Rattle.vab_marks.specs.declared.status.PartStatus.{PartStatus}
-use Rattle.vab_marks.specs.Mark.{mark_of, mark_spelling}
+use Rattle.vab_marks.specs.Mark.{mark_of, mark_spelling, merging_mark}
 use Rattle.vab_geometry.specs.declared.geometry.Geometry.{Geometry}
 use Rattle.vab_tables.specs.declared.table.Table.{Table}
 use Rattle.vab_layout.specs.declared.layout.Part.{Part as PartOfLayout}
@@ -34,7 +34,7 @@ use Rattle.vab_device.specs.Updates.{effect_on, merging_from}
 use Rattle.vab_device.proofs.StayLaws.{two_of}
 use Rattle.vab_device.proofs.Steps.{marked, IsStep}
 use Rattle.vab_device.proofs.UpdateLaws.{update_read, kept_with}
-use Rattle.vab_merge_gates.specs.Kept.{merging_mark, merging_device}
+use Rattle.vab_merge_gates.specs.Kept.{merging_device}
 use Rattle.vab_merge_gates.specs.Writes.{MayMerge}
 use Rattle.vab_merge_gates.proofs.BegunLaws.{merging_read, reads_new, control_new, copies_new}
 use Rattle.vab_merge_gates.proofs.BegunLaws.{images_a, images_b, device_same, limits_same}
@@ -241,7 +241,7 @@ module _ (size : ℕ) (old : Image) where
 
     shape : r ≡ shaped
     shape = (λ i. record {
-      mark = record { phase = phase i; slot = r.mark.slot };
+      mark = record r.mark { phase = phase i };
       statuses = r.statuses;
       control = r.control;
       geometry = r.geometry;
@@ -269,7 +269,7 @@ module _ (size : ℕ) (old : Image) where
     ]
 
     pub begin_step : (staged : Option (List ℕ))
-        → IsStep d (merging_device d) staged BeginMerge replies.Done size old
+        → IsStep d (merging_device d) staged BeginMerge replies.Done false size old
         (marked old (mark_spelling (merging_mark (other_slot d.mark.slot))))
     begin_step staged =
         let both = both_of d size dev (ap has_both may.staged) in

@@ -1,15 +1,11 @@
 -- What is kept of a device as a merge begins, and as it ends.
-use Rattle.std.specs.Prelude.{ℕ, ◌==◌, if◌then◌else◌, List, map, Option, Some, None}
+use Rattle.std.specs.Prelude.{◌==◌, if◌then◌else◌, List, map, Option, Some, None}
 use Rattle.vab_marks.specs.declared.mark.MarkPhase.TheVariants as marks
-use Rattle.vab_marks.specs.declared.mark.UpdateMark.{UpdateMark}
 use Rattle.vab_layout.specs.Slots.{other_slot}
 use Rattle.vab_device.specs.declared.device.Part.{Part}
 use Rattle.vab_device.specs.declared.device.PartImage.TheVariants.{Kept}
 use Rattle.vab_device.specs.declared.device.Device.{Device}
-
--- the mark of a merge of this slot
-abbrev pub merging_mark : ℕ → UpdateMark
-merging_mark slot = record { phase = marks.Merging; slot = slot }
+use Rattle.vab_marks.specs.Mark.{merging_mark}
 
 -- the source's images and its table are given up
 abbrev pub merging_device : Device → Device
@@ -20,10 +16,6 @@ merging_device d = record d {
   table_a = if d.mark.slot == 0 then None else d.table_a;
   table_b = if d.mark.slot == 0 then d.table_b else None;
 }
-
--- the mark of a slot whose stores are merged
-abbrev pub completed_mark : ℕ → UpdateMark
-completed_mark slot = record { phase = marks.Completed; slot = slot }
 
 -- a partition is its blocks
 abbrev pub plain_part : Part → Part
@@ -37,7 +29,7 @@ plain_parts (Some parts) = Some (map plain_part parts)
 -- that all stores are merged, which is read so.
 abbrev pub ended_device : Device → Device
 ended_device d = record d {
-  mark = record { phase = marks.Idle; slot = d.mark.slot };
+  mark = record d.mark { phase = marks.Idle };
   a = plain_parts d.a;
   b = plain_parts d.b;
 }

@@ -3,10 +3,9 @@ use Rattle.std.specs.Prelude.{◌≡◌, ℕ, List, true}
 use Rattle.vab_disk.specs.Disk.{IsAt}
 use Rattle.vab_bootctl.specs.Boot.{info_at}
 use Rattle.vab_marks.specs.declared.mark.MarkPhase.TheVariants as marks
-use Rattle.vab_marks.specs.Mark.{mark_spelling}
+use Rattle.vab_marks.specs.Mark.{mark_spelling, completed_mark, merging_mark}
 use Rattle.vab_layout.specs.Slots.{other_slot}
 use Rattle.vab_device.specs.declared.device.Device.{Device}
-use Rattle.vab_merge_gates.specs.Kept.{merging_mark, completed_mark}
 
 -- An update may be merged: it is ready, its target was booted last, and is marked as one that
 -- works.

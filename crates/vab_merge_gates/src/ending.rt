@@ -25,7 +25,7 @@ pub fn end_merge<D: Disk>(d: &mut D, device: Device) -> Result<Device, DiskFault
 {
     let mark = UpdateMark {
         phase: MarkPhase::Completed,
-        slot: device.mark.slot,
+        ..device.mark
     };
     match put_mark(d, &mark) {
         Err(fault) => Err(fault),

@@ -63,7 +63,7 @@ pub fn ended(device: Device) -> Device
 {
     let mark = UpdateMark {
         phase: MarkPhase::Idle,
-        slot: device.mark.slot,
+        ..device.mark
     };
     let Device {
         geometry,

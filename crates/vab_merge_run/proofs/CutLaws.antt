@@ -15,6 +15,7 @@ use Rattle.vab_geometry.specs.Geometry.{IsGeometry}
 use Rattle.vab_lpstore.specs.Layout.{copy_sectors, primary_of, backup_of}
 use Rattle.vab_lpstore.proofs.StoreLaws.{copies_apart}
 use Rattle.vab_exceptions.specs.declared.area.Exception.{Exception}
+use Rattle.vab_space.specs.declared.Chunk.TheVariants.{One}
 use Rattle.vab_store.specs.Layout.{IsApart, AreDisjoint}
 use Rattle.vab_store.specs.Scan.{scan_of}
 use Rattle.vab_store.specs.View.{Fits}
@@ -119,7 +120,7 @@ all_ready l name k ss (p ∷ ps) =
 
 module _ (d : Device) (size : ℕ) (old : Image) (i : Merges d size old) (single : Single d)
     (rules : Rules d size old i) (place : ℕ) (p : Placed d size old i place)
-    (fits : Fits (length (part_at d place).map) (store_in (part_at d place))
+    (fits : Fits One (length (part_at d place).map) (store_in (part_at d place))
     (exceptions_in (part_at d place).image)) where
   abbrev l : Layout
   l = layout_of i.table
@@ -147,9 +148,10 @@ module _ (d : Device) (size : ℕ) (old : Image) (i : Merges d size old) (single
   touched_of s is =
       subst (λ (x : Part). IsOfBlocks x.map s ⊎ IsOfBlocks (store_in x) s) p.written is
 
-  fits_here : Fits (length base) store p.exceptions
+  fits_here : Fits One (length base) store p.exceptions
   fits_here =
-      subst (λ (x : Part). Fits (length x.map) (store_in x) (exceptions_in x.image)) p.written fits
+      subst (λ (x : Part). Fits One (length x.map) (store_in x) (exceptions_in x.image)) p.written
+      fits
 
   -- ---- it may be merged
 
@@ -171,18 +173,18 @@ module _ (d : Device) (size : ℕ) (old : Image) (i : Merges d size old) (single
       (sectors_disjoint at p.part.blocks p.keeps.blocks
       (part_keeps i.slot l.parts p.part p.keeps rules.merging p.there p.own p.found))
 
-  scan_here : scan_of store (length base) old ≡ Ok p.exceptions
+  scan_here : scan_of One store (length base) old ≡ Ok p.exceptions
   scan_here =
       scan_named i.slot l p.part p.keeps rules.merging p.there p.own p.part_is p.found old
       p.exceptions (written_in i.statuses) i.scanned i.reads.stores p.read
 
   -- a scan gives the exceptions that are kept
-  pub scan_kept_is : scan_of (store_in (part_at d place)) (length (part_at d place).map) old
+  pub scan_kept_is : scan_of One (store_in (part_at d place)) (length (part_at d place).map) old
       ≡ Ok (exceptions_in (part_at d place).image)
   scan_kept_is =
       subst
       (λ (x : Part).
-      scan_of (store_in x) (length x.map) old ≡ Ok (exceptions_in x.image))
+      scan_of One (store_in x) (length x.map) old ≡ Ok (exceptions_in x.image))
       (sym p.written) scan_here
 
   behind_copies : copies_end i.geometry ≤ 512 * at

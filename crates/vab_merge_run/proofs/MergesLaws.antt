@@ -44,6 +44,7 @@ use Rattle.vab_device.proofs.StayLaws.{one_of}
 use Rattle.vab_merge_run.specs.Turns.{own_of, with_own, part_at, no_part}
 use Rattle.vab_merge_run.proofs.OwnLaws.{Single, own_kept}
 use Rattle.vab_device.proofs.NamedParts.{Named, first_is}
+use Rattle.vab_marks.specs.Mark.{mark_at}
 
 -- ---- what is read
 
@@ -56,7 +57,7 @@ abbrev pub merging_read : ℕ
     → List Scanned
     → Read
 merging_read slot statuses control geometry t scanned = record {
-  mark = record { phase = marks.Merging; slot = slot };
+  mark = mark_at marks.Merging slot;
   statuses = statuses;
   control = control;
   geometry = geometry;
@@ -109,7 +110,7 @@ merges_of d size image is merging =
     merging_read r.mark.slot r.statuses r.control r.geometry one.0 r.scanned in
     let e : r ≡ form =
     (λ i. record {
-      mark = record { phase = phase i; slot = r.mark.slot };
+      mark = record r.mark { phase = phase i };
       statuses = r.statuses;
       control = r.control;
       geometry = r.geometry;

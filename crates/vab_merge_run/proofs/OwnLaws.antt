@@ -12,6 +12,7 @@ use Rattle.vab_device.specs.declared.device.Device.{Device}
 use Rattle.vab_device.specs.Kept.{IsDevice, AreParts, has_slot, is_installing}
 use Rattle.vab_device.specs.Mounted.{count_in, count_at, image_on, state_on, mounted_on}
 use Rattle.vab_device.specs.Updates.{merged_to}
+use Rattle.vab_marks.specs.Mark.{mark_at}
 use Rattle.vab_merge_run.specs.Turns.{own_of, with_own, left_in}
 
 -- ---- the two forms
@@ -19,7 +20,7 @@ use Rattle.vab_merge_run.specs.Turns.{own_of, with_own, left_in}
 -- slot a alone has images, and they are these
 abbrev pub in_a : Device → List Part → Device
 in_a d parts = record d {
-  mark = record { phase = marks.Merging; slot = 0 };
+  mark = mark_at marks.Merging 0;
   a = Some parts;
   b = None;
   plan = None;
@@ -27,7 +28,7 @@ in_a d parts = record d {
 
 abbrev pub in_b : Device → List Part → Device
 in_b d parts = record d {
-  mark = record { phase = marks.Merging; slot = 1 };
+  mark = mark_at marks.Merging 1;
   a = None;
   b = Some parts;
   plan = None;
@@ -72,7 +73,7 @@ single_of d size is phase =
           parts = a.0;
           either =
               inl (λ i. record d {
-                mark = record { phase = phase i; slot = slot i };
+                mark = mark_at (phase i) (slot i);
                 a = a.1 i;
                 b = b i;
                 plan = plan i;
@@ -85,7 +86,7 @@ single_of d size is phase =
           parts = b.0;
           either =
               inr (λ i. record d {
-                mark = record { phase = phase i; slot = slot i };
+                mark = mark_at (phase i) (slot i);
                 a = a i;
                 b = b.1 i;
                 plan = plan i;

@@ -14,6 +14,7 @@ use Rattle.vab_gate.specs.declared.gate.DiskFault.{DiskFault}
 use Rattle.vab_marks.specs.declared.mark.MarkPhase.TheVariants as marks
 use Rattle.vab_exceptions.specs.declared.area.Exception.{Exception}
 use Rattle.vab_exceptions.specs.Entries.{area_entries}
+use Rattle.vab_space.specs.declared.Chunk.TheVariants.{One}
 use Rattle.vab_store.specs.Layout.{IsOnDisk}
 use Rattle.vab_store.specs.Scan.{scan_of}
 use Rattle.vab_store.specs.View.{exception_at}
@@ -263,7 +264,7 @@ module _ (d : Device) (size place : ℕ)
       disjoint = disjoint d size old i single rules place p runs_here.may.fits;
     }
 
-    pub scanned : scan_of (store_in part) (length part.map) old ≡ Ok es
+    pub scanned : scan_of One (store_in part) (length part.map) old ≡ Ok es
     scanned = scan_kept_is d size old i single rules place p runs_here.may.fits
 
     -- an image on which its last exceptions are gone

@@ -10,6 +10,7 @@ use Rattle.vab_disk.specs.Disk.{Image}
 use Rattle.vab_names.specs.Names.{is_of_slot, store_of}
 use Rattle.vab_marks.specs.declared.status.PartStatus.{PartStatus}
 use Rattle.vab_exceptions.specs.declared.area.Exception.{Exception}
+use Rattle.vab_space.specs.declared.Chunk.TheVariants.{One}
 use Rattle.vab_store.specs.declared.fault.StoreFault.{StoreFault}
 use Rattle.vab_store.specs.Scan.{scan_of}
 use Rattle.vab_layout.specs.declared.layout.Part.{Part as PartOfLayout}
@@ -85,7 +86,7 @@ exceptions_some name other k ss = elim (cases_Bool (bytes_eq other name)) [
 
 -- its scan, which is long enough
 pub record IsRead (w : Wanted) (image : Image) (s : Scanned) : Type 0 where
-  pub scan : scan_of w.store (length w.base) image ≡ Ok s.exceptions
+  pub scan : scan_of One w.store (length w.base) image ≡ Ok s.exceptions
   pub name : s.name ≡ w.name
   pub long : is_long w.fewer w.count (length s.exceptions) ≡ true
 
@@ -116,11 +117,11 @@ read_of w (Err fault) s is =
 is_read : (w : Wanted) (image : Image) (s : Scanned) → scan_at w image ≡ Ok s → IsRead w image s
 unfolding scan_at
 is_read w image s is =
-    let three = read_of w (scan_of w.store (length w.base) image) s is in
+    let three = read_of w (scan_of One w.store (length w.base) image) s is in
     record { scan = three.0; name = three.1; long = three.2 }
 
 scan_made : (w : Wanted) (image : Image) (es : List Exception)
-    → scan_of w.store (length w.base) image ≡ Ok es
+    → scan_of One w.store (length w.base) image ≡ Ok es
     → is_long w.fewer w.count (length es) ≡ true
     → scan_at w image ≡ Ok (record { name = w.name; exceptions = es })
 unfolding scan_at
@@ -178,11 +179,11 @@ module _ (slot : ℕ) (l : Layout) (part keeps : PartOfLayout)
       → first_named (store_of st.name) l.parts ≡ Some q
       → scan_at (wanted st p q) image ≡ Ok s
       → s.name ≡ part.name
-      → scan_of store (length base) image ≡ Ok s.exceptions
+      → scan_of One store (length base) image ≡ Ok s.exceptions
   named_here st p q image s p_is q_is scan named =
       let read = is_read (wanted st p q) image s scan in
       let these = both_named st p q p_is q_is (sym read.name ∙ named) in
-      (λ i. scan_of (sectors_of at (sym these.1 i).blocks)
+      (λ i. scan_of One (sectors_of at (sym these.1 i).blocks)
       (length (sectors_of at (sym these.0 i).blocks)) image)
       ∙ read.scan
 
@@ -195,8 +196,8 @@ module _ (slot : ℕ) (l : Layout) (part keeps : PartOfLayout)
       → ((us : List Scanned)
       → scans_in ws image ≡ Ok us
       → exceptions_of part.name us ≡ Some es
-      → scan_of store (length base) image ≡ Ok es)
-      → scan_of store (length base) image ≡ Ok es
+      → scan_of One store (length base) image ≡ Ok es)
+      → scan_of One store (length base) image ≡ Ok es
   named_step image es st None q ws ss p_is q_is is there later =
       absurd (let bad : (let r : Result (List Scanned) StartFault = Err (BadStore st.name) in r
       ≡ Ok ss) = is in cc)
@@ -223,7 +224,7 @@ module _ (slot : ℕ) (l : Layout) (part keeps : PartOfLayout)
   pub scan_named : (image : Image) (es : List Exception) (sts : List PartStatus) (ss : List Scanned)
       → scans_in (map wants sts) image ≡ Ok ss
       → exceptions_of part.name ss ≡ Some es
-      → scan_of store (length base) image ≡ Ok es
+      → scan_of One store (length base) image ≡ Ok es
   scan_named image es [] ss is there =
       let none : (let r : Result (List Scanned) StartFault = Ok [] in r ≡ Ok ss) = is in
       let e : [] ≡ ss = cc in
@@ -235,8 +236,8 @@ module _ (slot : ℕ) (l : Layout) (part keeps : PartOfLayout)
   -- ---- what is read of it then
 
   module _ (es : List Exception) (k : ℕ) (old new : Image)
-      (scan : scan_of store (length base) old ≡ Ok es)
-      (now : scan_of store (length base) new ≡ Ok (cut_list k es))
+      (scan : scan_of One store (length base) old ≡ Ok es)
+      (now : scan_of One store (length base) new ≡ Ok (cut_list k es))
       (stay : (s : ℕ) → (InEither slot l.parts part keeps is in_own own found at s → ⊥)
       → new s ≡ old s) where
     cut_here : (s : Scanned) → s.name ≡ part.name
@@ -264,13 +265,13 @@ module _ (slot : ℕ) (l : Layout) (part keeps : PartOfLayout)
         let these = both_named st p q p_is q_is named in
         let was : Ok es ≡ Ok s.exceptions =
         sym scan
-        ∙ (λ i. scan_of (sectors_of at (sym these.1 i).blocks)
+        ∙ (λ i. scan_of One (sectors_of at (sym these.1 i).blocks)
         (length (sectors_of at (sym these.0 i).blocks)) old)
         ∙ read.scan in
         let same : es ≡ s.exceptions = cc in
-        let found_now : scan_of (sectors_of at q.blocks) (length (sectors_of at p.blocks)) new
+        let found_now : scan_of One (sectors_of at q.blocks) (length (sectors_of at p.blocks)) new
         ≡ Ok (cut_list k s.exceptions) =
-        (λ i. scan_of (sectors_of at (these.1 i).blocks)
+        (λ i. scan_of One (sectors_of at (these.1 i).blocks)
         (length (sectors_of at (these.0 i).blocks)) new)
         ∙ now
         ∙ ap (λ (x : List Exception). Ok (cut_list k x)) same in
@@ -293,7 +294,7 @@ module _ (slot : ℕ) (l : Layout) (part keeps : PartOfLayout)
         let of : is_of_slot slot st.name ≡ true =
         ap (is_of_slot slot) (sym there.1)
         ∙ (of_filter (λ r. is_of_slot slot r.name) l.parts p there.0).1 in
-        let found_now : scan_of (sectors_of at q.blocks) (length (sectors_of at p.blocks)) new
+        let found_now : scan_of One (sectors_of at q.blocks) (length (sectors_of at p.blocks)) new
         ≡ Ok s.exceptions =
         scan_kept (sectors_of at q.blocks) old new
         (λ sector in_q.

@@ -7,8 +7,8 @@ use Rattle.std.proofs.lemmas.List.{get_or_default}
 use Rattle.vab_disk.specs.Disk.{Image}
 use Rattle.vab_gate.specs.Gate.{sectors_at}
 use Rattle.vab_exceptions.specs.declared.area.Exception.{Exception}
-use Rattle.vab_exceptions.specs.Entries.{area_entries}
-use Rattle.vab_store.specs.Layout.{area_chunk}
+use Rattle.vab_space.specs.Chunks.{page_block}
+use Rattle.vab_space.specs.declared.Chunk.TheVariants.{One}
 use Rattle.vab_store.specs.Seen.{chosen_bytes, view_block}
 use Rattle.vab_store.specs.View.{view_of, Fits}
 use Rattle.vab_store.proofs.ViewLaws.{view_chunk}
@@ -23,9 +23,9 @@ use Rattle.vab_merge_run.proofs.ApartLaws.{in_blocks}
 
 -- the sectors that a read of a block takes hold what is seen of it
 block_seen : (base store : List ℕ) (es : List Exception) (image : Image) (n : ℕ)
-    → Fits (length base) store es
+    → Fits One (length base) store es
     → sectors_at 8 image (sector_seen store (get_or base n 0) (view_of es n))
-    ≡ view_block base store es image n
+    ≡ view_block One base store es image n
 block_seen base store es image n fits = by_chunk (view_of es n) refl
   where
     by_chunk : (o : Option ℕ)
@@ -39,11 +39,11 @@ block_seen base store es image n fits = by_chunk (view_of es n) refl
         (view_chunk (length base) store es n chunk fits h).new_chunk)
 
 module _ (base store : List ℕ) (es fewer : List Exception) (old new : Image)
-    (fits : Fits (length base) store es)
-    (fits_fewer : Fits (length base) store fewer)
+    (fits : Fits One (length base) store es)
+    (fits_fewer : Fits One (length base) store fewer)
     (same : (block : ℕ)
     → block < length base
-    → view_block base store fewer new block ≡ view_block base store es old block) where
+    → view_block One base store fewer new block ≡ view_block One base store es old block) where
   seen_from : (n : ℕ) (owns : List ℕ)
       → ((j : ℕ) → j < length owns → get_or owns j 0 ≡ get_or base (n + j) 0)
       → n + length owns ≤ length base
@@ -81,7 +81,7 @@ module _ (base store : List ℕ) (es fewer : List Exception) (old new : Image)
 
 -- a sector of a merge is one of the partition's blocks, or one of the store's
 pub merged_in : (base store : List ℕ) (es : List Exception) (most s : ℕ)
-    → Fits (length base) store es
+    → Fits One (length base) store es
     → IsMergedSector base store es most s
     → IsOfBlocks base s ⊎ IsOfBlocks store s
 merged_in base store es most s fits is = by_place is.here
@@ -91,9 +91,9 @@ merged_in base store es most s fits is = by_place is.here
     by_place (inl here) =
         inl (in_blocks base _ s (fits.lie is.place is.within).old_chunk here)
     by_place (inr entry) =
-        let chunk : ℕ = area_chunk area_entries (is.place / area_entries) in
-        let below : chunk < length store = omega (arith, is.within, fits.room) in
-        inr (in_blocks store chunk s below (record {
+        let block : ℕ = page_block One ((is.place / 32) / 8) in
+        let below : block < length store = omega (arith, is.within, fits.room) in
+        inr (in_blocks store block s below (record {
           from = omega (arith, entry);
           below = omega (arith, entry);
         }))

@@ -6,6 +6,7 @@ use Rattle.vab_disk.specs.Calls.{FailsWithDisk, InSectors, IsAtRest, Touches}
 use Rattle.vab_gate.specs.declared.gate.DiskFault.{DiskFault}
 use Rattle.vab_exceptions.specs.declared.area.Exception.{Exception}
 use Rattle.vab_exceptions.specs.Entries.{area_entries}
+use Rattle.vab_space.specs.declared.Chunk.TheVariants.{One}
 use Rattle.vab_store.specs.Scan.{scan_of}
 use Rattle.vab_merge.specs.Run.{IsLongest}
 use Rattle.vab_merge.specs.Merged.{WithoutLast, LeavesMerged, IsMergedSector}
@@ -26,7 +27,7 @@ store_in p = blocks_there p.store
 
 -- a scan of the store gives the exceptions that are kept
 abbrev pub IsScanned : Part → (ℕ → List ℕ) → Type 0
-IsScanned p image = scan_of (store_in p) (length p.map) image ≡ Ok (exceptions_in p.image)
+IsScanned p image = scan_of One (store_in p) (length p.map) image ≡ Ok (exceptions_in p.image)
 
 -- As many of the last exceptions as are a run, at most so many, are merged; the answer counts them.
 pub record RunsPart {D A : Type 0}

@@ -4,6 +4,7 @@ use Rattle.std.proofs.Common.{take, get_or, ap, subst, arith}
 use Rattle.std.specs.Prelude.{Option, Some, None, All}
 use Rattle.std.proofs.lemmas.List.Elements.{All-head, All-tail}
 use Rattle.vab_exceptions.specs.declared.area.Exception.{Exception}
+use Rattle.vab_space.specs.declared.Chunk.TheVariants.{One}
 use Rattle.vab_store.specs.View.{Fits, exception_at}
 use Rattle.vab_device.specs.declared.device.Part.{Part}
 use Rattle.vab_device.specs.declared.device.PartImage.{PartImage}
@@ -15,7 +16,7 @@ use Rattle.vab_merging.proofs.BelowLaws.{few_below}
 -- ---- exceptions
 
 few_exceptions : (bound : ℕ) (map : List ℕ) (es : List Exception)
-    → Fits bound map es
+    → Fits One bound map es
     → length es ≤ bound
 few_exceptions bound map es fits =
     few_below bound (length es) (λ j. (exception_at es j).old_chunk)

@@ -11,7 +11,7 @@ use Rattle.vab_disk.proofs.Moments.{adds_on, adds_wider}
 use Rattle.vab_gate.specs.declared.gate.DiskFault.{DiskFault}
 use Rattle.vab_marks.specs.declared.mark.MarkPhase.TheVariants as marks
 use Rattle.vab_marks.specs.declared.mark.UpdateMark.{UpdateMark}
-use Rattle.vab_marks.specs.Mark.{mark_spelling}
+use Rattle.vab_marks.specs.Mark.{mark_spelling, completed_mark}
 use Rattle.vab_model.specs.declared.command.Reply.{Reply}
 use Rattle.vab_model.specs.declared.command.Reply.TheVariants as replies
 use Rattle.vab_model.specs.declared.state.Phase.TheVariants.{Merging}
@@ -24,7 +24,6 @@ use Rattle.vab_device.specs.Mounted.{Mounted, mounted_on, count_at}
 use Rattle.vab_device.specs.Reading.{device, Represents}
 use Rattle.vab_device.specs.Updates.{merged_to, merge_ended, merge_effect}
 use Rattle.vab_merge_gates.specs.Ends.{EndsMerge}
-use Rattle.vab_merge_gates.specs.Kept.{completed_mark}
 use Rattle.vab_merge_gates.specs.Writes.{IsOfMergeEnd}
 use Rattle.vab_merge_run.specs.Run.{LeavesTurns}
 use Rattle.vab_merge_run.specs.Turns.{left_in}

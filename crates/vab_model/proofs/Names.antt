@@ -7,7 +7,9 @@ use Rattle.vab_names.specs.Names.{is_base, is_short, is_of_slot, base_of, is_ful
 use Rattle.vab_names.proofs.NameLaws.{of_slot, of_slot_long, full_is_name}
 
 -- a full name has a suffix, and a base name before it
-full_parts : (slot : ℕ) (name : List ℕ) → is_full slot name ≡ true → (is_of_slot slot name ≡ true) × (is_base (base_of name) ≡ true)
+full_parts : (slot : ℕ) (name : List ℕ)
+    → is_full slot name ≡ true
+    → (is_of_slot slot name ≡ true) × (is_base (base_of name) ≡ true)
 unfolding is_full
 full_parts slot name h = and_parts (is_of_slot slot name) (is_base (base_of name)) h
 
@@ -23,4 +25,5 @@ full_is slot name h =
     let parts = full_parts slot name h in
     let base = base_parts (base_of name) parts.1 in
     let short : length (base_of name) ≤ 30 = leb-true _ _ (and_parts _ _ base.1).0 in
-    subst IsName (sym (of_slot slot name parts.0)) (full_is_name slot (base_of name) (name_bytes (base_of name) base.0) (omega arith))
+    subst IsName (sym (of_slot slot name parts.0))
+    (full_is_name slot (base_of name) (name_bytes (base_of name) base.0) (omega arith))

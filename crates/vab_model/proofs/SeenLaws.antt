@@ -7,7 +7,8 @@ use Rattle.vab_bootctl.specs.declared.slots.Control.{Control}
 use Rattle.vab_bootctl.specs.Boot.{is_bootable, chosen_of, booted_of, activated_of, marked_of}
 use Rattle.vab_model.specs.State.{control_seen}
 
-pub seen_again : (a b : Bool) (c : Control) → control_seen a b (control_seen a b c) ≡ control_seen a b c
+pub seen_again : (a b : Bool) (c : Control)
+    → control_seen a b (control_seen a b c) ≡ control_seen a b c
 seen_again true true c = refl
 seen_again true false c = refl
 seen_again false true c = refl

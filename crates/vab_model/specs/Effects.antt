@@ -7,21 +7,13 @@ use Rattle.vab_bootctl.specs.Boot.{activated_of, booted_of, marked_of}
 use Rattle.vab_names.specs.Names.{is_full, base_of}
 use Rattle.vab_model.specs.declared.state.Image.{Image}
 use Rattle.vab_model.specs.declared.state.Phase.{Phase}
-use Rattle.vab_model.specs.declared.state.Phase.TheVariants.{Idle, Installing, Staged}
-use Rattle.vab_model.specs.declared.state.Phase.TheVariants.{Merging as IsMerging}
+use Rattle.vab_model.specs.declared.state.Phase.TheVariants.{Idle}
 use Rattle.vab_model.specs.declared.state.State.{State}
 use Rattle.vab_model.specs.declared.command.Refusal.{Refusal}
 use Rattle.vab_model.specs.declared.command.Refusal.TheVariants.{NotIdle, NotInstalling}
 use Rattle.vab_model.specs.declared.command.Refusal.TheVariants.{NotStaged, NotMerging}
-use Rattle.vab_model.specs.declared.command.Refusal.TheVariants.{NothingToCancel, Merging}
-use Rattle.vab_model.specs.declared.command.Refusal.TheVariants.{RunningTarget, NotRunningTarget}
-use Rattle.vab_model.specs.declared.command.Refusal.TheVariants.{NotSuccessful, BadName, BadSize}
-use Rattle.vab_model.specs.declared.command.Refusal.TheVariants.{Unknown, Exists, HasStore}
-use Rattle.vab_model.specs.declared.command.Refusal.TheVariants.{NoStore, Written, NothingStaged}
-use Rattle.vab_model.specs.declared.command.Refusal.TheVariants.{Sparse, TooLarge, TooMany}
-use Rattle.vab_model.specs.declared.command.Refusal.TheVariants.{GroupLimit, NoRoom, StoreFull}
-use Rattle.vab_model.specs.declared.command.Refusal.TheVariants.{TableFull, Incomplete, NoImages}
-use Rattle.vab_model.specs.declared.command.Refusal.TheVariants.{NoMemory}
+use Rattle.vab_model.specs.declared.command.Refusal.TheVariants.{NothingToCancel, BadName}
+use Rattle.vab_model.specs.declared.command.Refusal.TheVariants.{Unknown, NoImages, NoMemory}
 use Rattle.vab_model.specs.declared.command.Reply.{Reply}
 use Rattle.vab_model.specs.declared.command.Reply.TheVariants as replies
 use Rattle.vab_model.specs.Commands.{Command, SetActive, Boot, Mark, Print, Digest, Begin, Create}
@@ -29,23 +21,29 @@ use Rattle.vab_model.specs.Commands.{Resize, Delete, Snapshot, Flash, Finish, Ca
 use Rattle.vab_model.specs.Commands.{Merge}
 use Rattle.vab_model.specs.State.{images_at, has_images, with_control, image_named}
 
--- A reply, and the states that follow one another; none for a refusal or a question.
+-- A reply; the states that follow one another, none for a refusal or a question; and whether memory
+-- may be refused in its place.
 pub record Effect (S : Type 0) : Type 0 where
   pub reply : Reply
   pub later : List S
+  pub wants : Bool
 
 abbrev pub answers : {S : Type 0} → Reply → Effect S
-answers reply = record { reply = reply; later = [] }
+answers reply = record { reply = reply; later = []; wants = false }
 
 abbrev pub refuses : {S : Type 0} → Refusal → Effect S
 refuses refusal = answers (replies.Refused refusal)
 
 abbrev pub does : {S : Type 0} → Reply → S → Effect S
-does reply next = record { reply = reply; later = next ∷ [] }
+does reply next = record { reply = reply; later = next ∷ []; wants = false }
+
+-- the same, where memory may be refused in its place, or not
+abbrev pub wanting : {S : Type 0} → Bool → Effect S → Effect S
+wanting wants e = record e { wants = wants }
 
 -- the same of what has a state in it
 abbrev pub effect_map : {S T : Type 0} → (S → T) → Effect S → Effect T
-effect_map f e = record { reply = e.reply; later = map f e.later }
+effect_map f e = record { reply = e.reply; later = map f e.later; wants = e.wants }
 
 -- ---- the image that is asked for
 
@@ -86,9 +84,7 @@ active_effect false s c = refuses NoImages
 -- why a command on an update is refused by what a state says: there is none, or there is one
 abbrev pub unless_idle : Phase → Refusal → Refusal
 unless_idle Idle refusal = refusal
-unless_idle (Installing source plan) refusal = NotIdle
-unless_idle (Staged source left) refusal = NotIdle
-unless_idle (IsMerging target left) refusal = NotIdle
+unless_idle _ refusal = NotIdle
 
 -- Each command has a row. A state doesn't say where its partitions stand, so an update is neither
 -- begun nor carried on here: the commands on one are refused, as there is none, or since there is
@@ -115,67 +111,9 @@ effect s (Merge blocks) = refuses NotMerging
 
 -- ---- want of memory
 
--- a command that takes memory
-abbrev pub takes_memory : Command → Bool
-takes_memory (SetActive slot) = false
-takes_memory Boot = false
-takes_memory Mark = false
-takes_memory (Print name) = false
-takes_memory (Digest name) = false
-takes_memory Begin = true
-takes_memory (Create name size) = true
-takes_memory (Resize name size) = true
-takes_memory (Delete name) = true
-takes_memory (Snapshot name size) = true
-takes_memory (Flash name) = true
-takes_memory Finish = false
-takes_memory Cancel = false
-takes_memory BeginMerge = false
-takes_memory (Merge blocks) = false
-
--- a reply in whose place it may be told that there is no memory
-abbrev pub may_want : Reply → Bool
-may_want replies.Done = true
-may_want (replies.Booted slot) = false
-may_want (replies.Bytes name) = false
-may_want (replies.Digest sum) = false
-may_want (replies.Left blocks) = false
-may_want replies.Merged = false
-may_want (replies.Refused refusal) = is_table_full refusal
-  where
-    is_table_full : Refusal → Bool
-    is_table_full (TableFull size most) = true
-    is_table_full NotIdle = false
-    is_table_full NotInstalling = false
-    is_table_full NotStaged = false
-    is_table_full NotMerging = false
-    is_table_full NothingToCancel = false
-    is_table_full Merging = false
-    is_table_full RunningTarget = false
-    is_table_full NotRunningTarget = false
-    is_table_full NotSuccessful = false
-    is_table_full BadName = false
-    is_table_full BadSize = false
-    is_table_full Unknown = false
-    is_table_full Exists = false
-    is_table_full HasStore = false
-    is_table_full NoStore = false
-    is_table_full Written = false
-    is_table_full NothingStaged = false
-    is_table_full Sparse = false
-    is_table_full (TooLarge bytes most) = false
-    is_table_full TooMany = false
-    is_table_full (GroupLimit used limit) = false
-    is_table_full (NoRoom used cap) = false
-    is_table_full (StoreFull needed have) = false
-    is_table_full (Incomplete name) = false
-    is_table_full NoImages = false
-    is_table_full NoMemory = false
-
 -- what a command does, where memory is refused to it or not
-abbrev pub unless_refused : {S : Type 0} → Bool → Command → Effect S → Effect S
-unless_refused refused command e =
-    if refused && (takes_memory command && may_want e.reply) then refuses NoMemory else e
+abbrev pub unless_refused : {S : Type 0} → Bool → Effect S → Effect S
+unless_refused refused e = if refused && e.wants then refuses NoMemory else e
 
 -- ---- what follows from an effect, whatever the command is
 

@@ -1,3 +1,4 @@
 pub mod Commands
 pub mod Effects
+pub mod Kinds
 pub mod State

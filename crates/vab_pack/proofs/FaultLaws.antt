@@ -45,7 +45,8 @@ split_at : (words : List (List ℕ)) (i : ℕ)
     → i < length words
     → words ≡ take i words ++ get_or words i [] ∷ drop (i + 1) words
 split_at words i lt =
-    let first : drop i words ≡ get_or words i [] ∷ drop (i + 1) words = rw add-one (drop-cons words i [] lt) in
+    let first : drop i words ≡ get_or words i [] ∷ drop (i + 1) words =
+    rw add-one (drop-cons words i [] lt) in
     sym (take-append-drop i words) ∙ ap (λ (l : List (List ℕ)). take i words ++ l) first
 
 count_of : (words : List (List ℕ)) (i : ℕ) (before : List Asked)
@@ -117,7 +118,8 @@ first_at before name i apart inside named =
     let p : Asked → Bool = λ a. bytes_eq a.name name in
     let d : Asked = record { name = []; size = None; store = 0; path = [] } in
     let at : position_or_len p before ≡ i = position_or_len_is p before i d (omega (arith, inside))
-    (λ k lt. false_from_ne_true _ (λ t. apart k i d lt inside ((bytes_eq-Decides (get_or before k d).name name).0 t ∙ sym (named d))))
+    (λ k lt. false_from_ne_true _ (λ t. apart k i d lt inside
+    ((bytes_eq-Decides (get_or before k d).name name).0 t ∙ sym (named d))))
     (λ lt. (bytes_eq-Decides (get_or before i d).name name).1 (named d)) in
     let some : ltb i (length before) ≡ true = lt-ltb _ _ inside in
     rw (at, some) refl
@@ -206,33 +208,39 @@ stops : (asked : List Asked) (words : List (List ℕ)) (fault : WordFault)
     → Stop asked words fault
 unfolding asked_behind
 stops asked [] fault h apart = absurd cc
-stops asked (word ∷ words) fault h apart = elim (bind_err (asked_by asked word) (λ (a : Asked). asked_behind (asked ++ a ∷ []) words) fault h) [
-  | inl e ↦
-      record {
-        at = 0;
-        more = [];
-        inside = omega arith;
-        spelled = tt;
-        fits = All-nil IsAsked;
-        apart = subst (AllPairs Apart) (sym (append-nil asked)) apart;
-        fault_is = ap (λ (l : List Asked). asked_by l word) (append-nil asked) ∙ e;
-      }
-  | inr x ↦
-      let f = asked_found asked word x.0 x.1 in
-      let s = stops (asked ++ x.0 ∷ []) words fault x.2 (all_pairs_push Apart asked x.0 apart f.differs) in
-      let regrouped : (asked ++ x.0 ∷ []) ++ s.more ≡ asked ++ x.0 ∷ s.more = append_assoc asked (x.0 ∷ []) s.more in
-      record {
-        at = suc s.at;
-        more = x.0 ∷ s.more;
-        inside = omega (arith, s.inside);
-        spelled = (f.is_word, s.spelled);
-        fits = All-cons IsAsked x.0 s.more f.fits s.fits;
-        apart = subst (AllPairs Apart) regrouped s.apart;
-        fault_is = ap (λ (l : List Asked). asked_by l (get_or words s.at [])) (sym regrouped) ∙ s.fault_is;
-      }
-]
+stops asked (word ∷ words) fault h apart =
+    elim (bind_err (asked_by asked word) (λ (a : Asked). asked_behind (asked ++ a ∷ []) words) fault
+    h) [
+      | inl e ↦
+          record {
+            at = 0;
+            more = [];
+            inside = omega arith;
+            spelled = tt;
+            fits = All-nil IsAsked;
+            apart = subst (AllPairs Apart) (sym (append-nil asked)) apart;
+            fault_is = ap (λ (l : List Asked). asked_by l word) (append-nil asked) ∙ e;
+          }
+      | inr x ↦
+          let f = asked_found asked word x.0 x.1 in
+          let s = stops (asked ++ x.0 ∷ []) words fault x.2
+          (all_pairs_push Apart asked x.0 apart f.differs) in
+          let regrouped : (asked ++ x.0 ∷ []) ++ s.more ≡ asked ++ x.0 ∷ s.more =
+          append_assoc asked (x.0 ∷ []) s.more in
+          record {
+            at = suc s.at;
+            more = x.0 ∷ s.more;
+            inside = omega (arith, s.inside);
+            spelled = (f.is_word, s.spelled);
+            fits = All-cons IsAsked x.0 s.more f.fits s.fits;
+            apart = subst (AllPairs Apart) regrouped s.apart;
+            fault_is = ap (λ (l : List Asked). asked_by l (get_or words s.at [])) (sym regrouped)
+                ∙ s.fault_is;
+          }
+    ]
 
-module _ (words : List (List ℕ)) (i : ℕ) (before : List Asked) (few : length words ≤ 32) (inside : i < length words) (asks : Ask (take i words) before) (fault : WordFault) where
+module _ (words : List (List ℕ)) (i : ℕ) (before : List Asked) (few : length words ≤ 32)
+    (inside : i < length words) (asks : Ask (take i words) before) (fault : WordFault) where
   long : length before ≡ i
   long = count_of words i before inside asks
 
@@ -380,7 +388,9 @@ module _ (words : List (List ℕ)) (i : ℕ) (before : List Asked) (few : length
   unfolding asked_by
   is_fault h = of_parts (parts_of word) refl h
 
-pub fault_holds : (words : List (List ℕ)) (fault : WordFault) → asked_of words ≡ err fault → IsFaultOf words fault
+pub fault_holds : (words : List (List ℕ)) (fault : WordFault)
+    → asked_of words ≡ err fault
+    → IsFaultOf words fault
 unfolding asked_of
 fault_holds words fault h = elim (cases_Bool (ltb 32 (length words))) [
   | inl many ↦
@@ -389,8 +399,17 @@ fault_holds words fault h = elim (cases_Bool (ltb 32 (length words))) [
       subst (IsFaultOf words) same (refl, ltb-true 32 (length words) many)
   | inr within ↦
       let few : length words ≤ 32 = ltb-false 32 (length words) within in
-      let s = stops [] words fault (sym (rw within refl) ∙ h) (λ (i j : ℕ) (d : Asked) lt below. absurd (omega arith)) in
-      let taken : length (take s.at words) ≡ s.at = length-take-le s.at words (omega (arith, s.inside)) in
-      let asks : Ask (take s.at words) s.more = record { count = omega (arith, taken, s.inside, few); spelled = s.spelled; each = s.fits; names = s.apart } in
+      let s = stops [] words fault (sym (rw within refl) ∙ h) (λ (i j : ℕ) (d : Asked) lt below.
+      absurd (omega arith)) in
+      let taken : length (take s.at words) ≡ s.at =
+      length-take-le s.at words (omega (arith, s.inside)) in
+      let asks : Ask (take s.at words) s.more =
+      record {
+        count = omega (arith, taken, s.inside, few);
+        spelled = s.spelled;
+        each =
+            s.fits;
+        names = s.apart;
+      } in
       is_fault words s.at s.more few s.inside asks fault s.fault_is
 ]

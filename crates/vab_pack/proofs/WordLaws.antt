@@ -6,7 +6,8 @@ use Rattle.std.proofs.Common.{append-nil, length-append, length-drop, arith, eqb
 use Rattle.std.specs.Prelude.{All, AllPairs, IsTrue, IfSome, option_map, suc}
 use Rattle.std.specs.Str.{bytes_eq}
 use Rattle.std.specs.List.{position_or_len, before_first, after_first}
-use Rattle.std.proofs.lemmas.List.{take_at, drop_at, get_or-take, length-take, get_or-map, length-map}
+use Rattle.std.proofs.lemmas.List.{take_at, drop_at, get_or-take, length-take, get_or-map}
+use Rattle.std.proofs.lemmas.List.{length-map}
 use Rattle.std.proofs.lemmas.List.Elements.{All-nil, All-cons, All-head, All-tail, All-weaker}
 use Rattle.std.proofs.lemmas.List.Quantifiers.{all_pairs_push}
 use Rattle.std.proofs.lemmas.List.Sums.{split_at_first, passes_at_first, fails_before_first}
@@ -44,10 +45,15 @@ parts_found word a h =
       | inl empty ↦ absurd (let e : None ≡ Some a = sym (rw empty refl) ∙ h in cc)
       | inr some ↦
           let same : parts ≡ a = (let e : Some parts ≡ Some a = sym (rw some refl) ∙ h in cc) in
-          let long : 0 < length (after_first is_equals word) = not_empty (after_first is_equals word) some in
-          let inside : position_or_len is_equals word < length word = omega (arith, long, length-drop (position_or_len is_equals word + 1) word) in
-          let byte : get_or word (position_or_len is_equals word) 0 ≡ 61 = eqb-true _ 61 (passes_at_first is_equals word 0 inside) in
-          let whole : word ≡ word_of parts = split_at_first is_equals word 0 inside ∙ ap (λ (b : ℕ). before_first is_equals word ++ b ∷ after_first is_equals word) byte in
+          let long : 0 < length (after_first is_equals word) =
+          not_empty (after_first is_equals word) some in
+          let inside : position_or_len is_equals word < length word =
+          omega (arith, long, length-drop (position_or_len is_equals word + 1) word) in
+          let byte : get_or word (position_or_len is_equals word) 0 ≡ 61 =
+          eqb-true _ 61 (passes_at_first is_equals word 0 inside) in
+          let whole : word ≡ word_of parts = split_at_first is_equals word 0 inside
+          ∙ ap (λ (b : ℕ). before_first is_equals word ++ b ∷ after_first is_equals word)
+          byte in
           let P : Parts → Type 0 = λ x. (word ≡ word_of x) × (0 < length x.path) in
           subst P same (whole, long)
     ]
@@ -70,7 +76,8 @@ parts_first word a h =
           let none : All (λ b. b ≢ 61) (take at word) = λ (k : ℕ) (d : ℕ) lt e.
           let below : k < at = omega (arith, lt, length-take at word) in
           let here : get_or (take at word) k d ≡ get_or word k d = get_or-take at word k d below in
-          both_ways (is_equals (get_or word k d)) (fails_before_first is_equals word k d below) (ap is_equals (sym here ∙ e)) in
+          both_ways (is_equals (get_or word k d)) (fails_before_first is_equals word k d below)
+          (ap is_equals (sym here ∙ e)) in
           subst (λ (x : Parts). All (λ b. b ≢ 61) x.front) same none
     ]
 
@@ -81,7 +88,8 @@ parts_are a none some =
     let word : List ℕ = word_of a in
     let at = length a.front in
     let long = length-append a.front (61 ∷ a.path) in
-    let first : position_or_len is_equals word ≡ at = position_or_len_is is_equals word at 0 (omega (arith, long))
+    let first : position_or_len is_equals word ≡ at =
+    position_or_len_is is_equals word at 0 (omega (arith, long))
     (λ k lt. ap is_equals (get_or-append a.front (61 ∷ a.path) 0 k lt) ∙ none k 0 lt)
     (λ lt. ap is_equals (get_or-append_seam a.front 61 a.path 0)) in
     let front : before_first is_equals word ≡ a.front =
@@ -92,7 +100,9 @@ parts_are a none some =
     rw first (ap (drop (at + 1)) regrouped
     ∙ drop_at (a.front ++ 61 ∷ []) a.path (at + 1)
     (omega (arith, length-append a.front (61 ∷ [])))) in
-    let filled : eqb (length a.path) 0 ≡ false = false_from_ne_true _ (λ t. let z : length a.path ≡ 0 = eqb-true _ 0 t in omega (arith, z, some)) in
+    let filled : eqb (length a.path) 0 ≡ false =
+    false_from_ne_true _ (λ t. let z : length a.path ≡ 0 = eqb-true _ 0 t in
+    omega (arith, z, some)) in
     rw (front, back, filled) refl
 
 pub parts_have : (word : List ℕ) (p : Parts) → parts_of word ≡ Some p → HasParts word p
@@ -126,23 +136,33 @@ asked_read asked word f path is =
 
 -- ---- a name that is new
 
-pub first_none : (asked : List Asked) (name : List ℕ) → first_named asked name ≡ None → All (λ a. a.name ≢ name) asked
+pub first_none : (asked : List Asked) (name : List ℕ)
+    → first_named asked name ≡ None
+    → All (λ a. a.name ≢ name) asked
 unfolding first_named
 first_none asked name h =
     let p : Asked → Bool = λ a. bytes_eq a.name name in
     elim (cases_Bool (ltb (position_or_len p asked) (length asked))) [
-      | inl some ↦ absurd (let e : Some (position_or_len p asked) ≡ None = sym (rw some refl) ∙ h in cc)
+      | inl some ↦ absurd (let e : Some (position_or_len p asked) ≡ None = sym (rw some refl) ∙ h in
+          cc)
       | inr none ↦
-          All-weaker (λ (a : Asked). p a ≡ false) (λ (a : Asked). a.name ≢ name) (λ a no e. both_ways (p a) no ((bytes_eq-Decides a.name name).1 e)) asked
+          All-weaker (λ (a : Asked). p a ≡ false) (λ (a : Asked). a.name ≢ name)
+          (λ a no e. both_ways (p a) no ((bytes_eq-Decides a.name name).1 e)) asked
           (passes_none p asked (ltb-false (position_or_len p asked) (length asked) none))
     ]
 
-none_first : (asked : List Asked) (name : List ℕ) → All (λ a. a.name ≢ name) asked → first_named asked name ≡ None
+none_first : (asked : List Asked) (name : List ℕ)
+    → All (λ a. a.name ≢ name) asked
+    → first_named asked name ≡ None
 unfolding first_named
 none_first asked name differ =
     let p : Asked → Bool = λ a. bytes_eq a.name name in
-    let no : All (λ a. p a ≡ false) asked = All-weaker (λ (a : Asked). a.name ≢ name) (λ (a : Asked). p a ≡ false) (λ a ne. false_from_ne_true _ (λ t. ne ((bytes_eq-Decides a.name name).0 t))) asked differ in
-    let past : ltb (position_or_len p asked) (length asked) ≡ false = le-ltb _ _ (none_passes p asked no) in
+    let no : All (λ a. p a ≡ false) asked =
+    All-weaker (λ (a : Asked). a.name ≢ name) (λ (a : Asked). p a ≡ false)
+    (λ a ne. false_from_ne_true _ (λ t. ne ((bytes_eq-Decides a.name name).0 t))) asked
+    differ in
+    let past : ltb (position_or_len p asked) (length asked) ≡ false =
+    le-ltb _ _ (none_passes p asked no) in
     rw past refl
 
 first_is : (word : ℕ) (name found : List ℕ) (o : Option ℕ)
@@ -331,9 +351,11 @@ behind_found asked [] all h apart =
       apart = subst (AllPairs Apart) same apart;
     }
 behind_found asked (word ∷ words) all h apart =
-    let x = bind_ok (asked_by asked word) (λ (a : Asked). asked_behind (asked ++ a ∷ []) words) all h in
+    let x = bind_ok (asked_by asked word) (λ (a : Asked). asked_behind (asked ++ a ∷ []) words) all
+    h in
     let f = asked_found asked word x.0 x.1 in
-    let b = behind_found (asked ++ x.0 ∷ []) words all x.2 (all_pairs_push Apart asked x.0 apart f.differs) in
+    let b = behind_found (asked ++ x.0 ∷ []) words all x.2
+    (all_pairs_push Apart asked x.0 apart f.differs) in
     record {
       more = x.0 ∷ b.more;
       whole = b.whole ∙ append_assoc asked (x.0 ∷ []) b.more;
@@ -354,10 +376,15 @@ behind_more asked [] [] rest are fits apart =
 behind_more asked [] (word ∷ words) rest are fits apart = absurd are
 behind_more asked (x ∷ more) [] rest are fits apart = absurd are
 behind_more asked (x ∷ more) (word ∷ words) rest are fits apart =
-    let seam : (d : Asked) → get_or (asked ++ x ∷ more) (length asked) d ≡ x = λ (d : Asked). get_or-append_seam asked x more d in
-    let differs : All (λ a. a.name ≢ x.name) asked = λ (k : ℕ) (d : Asked) lt. subst (λ (b : Asked). (get_or asked k d).name ≢ b.name) (seam d)
-    (subst (λ (a : Asked). a.name ≢ (get_or (asked ++ x ∷ more) (length asked) d).name) (get_or-append asked (x ∷ more) d k lt) (apart k (length asked) d lt (omega (arith, length-append asked (x ∷ more))))) in
-    let later : AllPairs Apart ((asked ++ x ∷ []) ++ more) = subst (AllPairs Apart) (sym (append_assoc asked (x ∷ []) more)) apart in
+    let seam : (d : Asked) → get_or (asked ++ x ∷ more) (length asked) d ≡ x = λ (d : Asked).
+    get_or-append_seam asked x more d in
+    let differs : All (λ a. a.name ≢ x.name) asked = λ (k : ℕ) (d : Asked) lt.
+    subst (λ (b : Asked). (get_or asked k d).name ≢ b.name) (seam d)
+    (subst (λ (a : Asked). a.name ≢ (get_or (asked ++ x ∷ more) (length asked) d).name)
+    (get_or-append asked (x ∷ more) d k lt)
+    (apart k (length asked) d lt (omega (arith, length-append asked (x ∷ more))))) in
+    let later : AllPairs Apart ((asked ++ x ∷ []) ++ more) =
+    subst (AllPairs Apart) (sym (append_assoc asked (x ∷ []) more)) apart in
     then_is (asked_by asked word) (λ (a : Asked). asked_behind (asked ++ a ∷ []) (words ++ rest)) x
     (asked_again asked word x are.0 (All-head IsAsked x more fits) differs)
     ∙ behind_more (asked ++ x ∷ []) more words rest are.1 (All-tail IsAsked x more fits) later
@@ -383,8 +410,10 @@ pub words_found : (words : List (List ℕ)) (asked : List Asked)
     → Ask words asked
 unfolding asked_of
 words_found words asked h =
-    let few = passed (ltb 32 (length words)) (faults.TooMany (length words)) (asked_behind [] words) asked h in
-    let b = behind_found [] words asked few.1 (λ (i j : ℕ) (d : Asked) lt below. absurd (omega arith)) in
+    let few = passed (ltb 32 (length words)) (faults.TooMany (length words)) (asked_behind [] words)
+    asked h in
+    let b = behind_found [] words asked few.1 (λ (i j : ℕ) (d : Asked) lt below.
+    absurd (omega arith)) in
     let more : b.more ≡ asked = sym b.whole in
     record {
       count = ltb-false 32 (length words) few.0;
@@ -403,18 +432,28 @@ words_again words asked is =
 
 -- ---- the set
 
-name_at : (images : List SetImage) (asked : List Asked) → map (λ i. i.name) images ≡ map (λ a. a.name) asked → (k : ℕ) (d : SetImage) (e : Asked) → k < length images → length images ≡ length asked → (get_or images k d).name ≡ (get_or asked k e).name
+name_at : (images : List SetImage) (asked : List Asked)
+    → map (λ i. i.name) images ≡ map (λ a. a.name) asked
+    → (k : ℕ) (d : SetImage) (e : Asked)
+    → k < length images
+    → length images ≡ length asked
+    → (get_or images k d).name ≡ (get_or asked k e).name
 name_at images asked same k d e lt long =
-    sym (get_or-map (λ (i : SetImage). i.name) images k d [] lt) ∙ ap (λ (l : List (List ℕ)). get_or l k []) same ∙ get_or-map (λ (a : Asked). a.name) asked k e [] (omega (arith, long))
+    sym (get_or-map (λ (i : SetImage). i.name) images k d [] lt)
+    ∙ ap (λ (l : List (List ℕ)). get_or l k []) same ∙ get_or-map (λ (a : Asked). a.name) asked
+    k e [] (omega (arith, long))
 
 pub set_of_names : (words : List (List ℕ)) (asked : List Asked) → Ask words asked → NamesOfSet asked
 set_of_names words asked is images same each =
-    let long : length images ≡ length asked = sym (length-map images (λ (i : SetImage). i.name)) ∙ ap length same ∙ length-map asked (λ (a : Asked). a.name) in
+    let long : length images ≡ length asked = sym (length-map images (λ (i : SetImage). i.name))
+    ∙ ap length same ∙ length-map asked (λ (a : Asked). a.name) in
     let all : length words ≡ length asked = length_words words asked is.spelled in
     record {
       count = omega (arith, long, all, is.count);
       each = each;
       names = λ (i j : ℕ) (d : SetImage) lt below e.
           let none : Asked = record { name = []; size = None; store = 0; path = [] } in
-          is.names i j none lt (omega (arith, long)) (sym (name_at images asked same i d none (omega arith) long) ∙ e ∙ name_at images asked same j d none below long);
+          is.names i j none lt (omega (arith, long))
+          (sym (name_at images asked same i d none (omega arith) long) ∙ e
+          ∙ name_at images asked same j d none below long);
     }

@@ -120,7 +120,8 @@ pub runs_front : (runs : List (ℕ × ℕ)) (n : ℕ)
 runs_front runs n =
     let f : ℕ × ℕ → List ℕ = λ run. range_with_len run.0 run.1 in
     let whole =
-    ap blocks_of_runs (sym (take-append-drop n runs)) ∙ flat_map-append f (take n runs) (drop n runs)
+    ap blocks_of_runs (sym (take-append-drop n runs))
+    ∙ flat_map-append f (take n runs) (drop n runs)
     in
     omega (
       arith,

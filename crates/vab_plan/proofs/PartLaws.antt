@@ -1,5 +1,7 @@
 -- Where the blocks of a slot's own partitions stand.
-use Rattle.std.proofs.Common.{◌≡◌, ℕ, zero, suc, ◌+◌, ◌-◌, ◌*◌, ◌/◌, ◌^◌, ◌≤◌, ◌<◌, inl, inr, Bool, true, false, List, [], ◌∷◌, ◌++◌, length, get_or, take, drop, leb, codes, refl, sym, ◌∙◌, ap, subst, arith, append-nil}
+use Rattle.std.proofs.Common.{◌≡◌, ℕ, zero, suc, ◌+◌, ◌-◌, ◌*◌, ◌/◌, ◌^◌, ◌≤◌, ◌<◌, inl, inr, Bool}
+use Rattle.std.proofs.Common.{true, false, List, [], ◌∷◌, ◌++◌, length, get_or, take, drop, leb}
+use Rattle.std.proofs.Common.{codes, refl, sym, ◌∙◌, ap, subst, arith, append-nil}
 use Rattle.std.specs.Prelude.{map, All, sum_by}
 use Rattle.std.specs.List.{flat_map, filter, range_with_len}
 use Rattle.std.specs.Str.{bytes_eq}
@@ -7,7 +9,8 @@ use Rattle.std.proofs.lemmas.Bool.{cases_Bool, leb-true, and_parts}
 use Rattle.std.proofs.lemmas.Slice.Eq.{bytes_eq-Decides}
 use Rattle.std.proofs.lemmas.List.{map-append, length-map, length-append, get_or-map, take_more}
 use Rattle.std.proofs.lemmas.List.FromFn.{length-range_with_len}
-use Rattle.std.proofs.lemmas.List.Elements.{All-head, All-tail, All-take, All-drop, All-map, All-weaker, filter-append}
+use Rattle.std.proofs.lemmas.List.Elements.{All-head, All-tail, All-take, All-drop, All-map}
+use Rattle.std.proofs.lemmas.List.Elements.{All-weaker, filter-append}
 use Rattle.std.proofs.lemmas.List.Sums.{sum_by-cons}
 use Rattle.vab_bytes.specs.Name.{IsName}
 use Rattle.vab_bytes.proofs.NameLaws.{name_fits}
@@ -19,7 +22,8 @@ use Rattle.vab_tables.specs.declared.entries.Partition.{Partition}
 use Rattle.vab_tables.specs.declared.table.Table.{Table}
 use Rattle.vab_tables.specs.declared.entries.Group.{Group}
 use Rattle.vab_tables.specs.Rules.{is_shared, has_slot, IsDevice, IsExtent, IsGroup, KeepsRules}
-use Rattle.vab_blocks.specs.Blocks.{blocks_of_extent, extents_of, first_sector_of, first_sector_of_devices}
+use Rattle.vab_blocks.specs.Blocks.{blocks_of_extent, extents_of, first_sector_of}
+use Rattle.vab_blocks.specs.Blocks.{first_sector_of_devices}
 use Rattle.vab_linear.specs.Map.{run_of, blocks_of}
 use Rattle.vab_linear.proofs.MapLaws.{blocks_of-nil, blocks_of-cons}
 use Rattle.vab_layout.specs.declared.layout.Part.{Part as PartOfLayout}
@@ -32,24 +36,36 @@ use Rattle.vab_model.specs.declared.state.GroupLimit.{GroupLimit}
 -- ---- blocks as sectors
 
 -- a run of sectors is that of its blocks
-run_is : (first a n : ℕ) → run_of (4096 + first + 8 * a) n ≡ map (λ b. 4096 + first + 8 * b) (range_with_len a n)
+run_is : (first a n : ℕ)
+    → run_of (4096 + first + 8 * a) n ≡ map (λ b. 4096 + first + 8 * b) (range_with_len a n)
 unfolding run_of
 run_is first a zero = refl
 run_is first a (suc n) =
     let next : 4096 + first + 8 * a + 8 ≡ 4096 + first + 8 * (a + 1) = omega arith in
-    ap (λ (k : ℕ). (4096 + first + 8 * a) ∷ run_of k n) next ∙ ap (λ (l : List ℕ). (4096 + first + 8 * a) ∷ l) (run_is first (a + 1) n)
+    ap (λ (k : ℕ). (4096 + first + 8 * a) ∷ run_of k n) next
+    ∙ ap (λ (l : List ℕ). (4096 + first + 8 * a) ∷ l) (run_is first (a + 1) n)
 
 -- an extent as a run on the disk
 abbrev pub run_on : Extent → ℕ × ℕ
 run_on e = (4096 + e.first_sector, e.sectors)
 
-extent_is : (d : BlockDevice) (e : Extent) → IsDevice d → IsExtent d e → run_of (run_on e).0 ((run_on e).1 / 8) ≡ map (λ b. 4096 + d.first_logical_sector + 8 * b) (blocks_of_extent d.first_logical_sector e)
+extent_is : (d : BlockDevice) (e : Extent)
+    → IsDevice d
+    → IsExtent d e
+    → run_of (run_on e).0 ((run_on e).1 / 8) ≡ map (λ b. 4096 + d.first_logical_sector + 8 * b)
+    (blocks_of_extent d.first_logical_sector e)
 extent_is d e device is =
     let first = d.first_logical_sector in
-    let at : 4096 + e.first_sector ≡ 4096 + first + 8 * ((e.first_sector - first) / 8) = omega (arith, device.aligned, is.aligned, is.above) in
-    ap (λ (k : ℕ). run_of k (e.sectors / 8)) at ∙ run_is first ((e.first_sector - first) / 8) (e.sectors / 8)
+    let at : 4096 + e.first_sector ≡ 4096 + first + 8 * ((e.first_sector - first) / 8) =
+    omega (arith, device.aligned, is.aligned, is.above) in
+    ap (λ (k : ℕ). run_of k (e.sectors / 8)) at ∙ run_is first ((e.first_sector - first) / 8)
+    (e.sectors / 8)
 
-pub runs_are : (d : BlockDevice) (es : List Extent) → IsDevice d → All (IsExtent d) es → blocks_of (map run_on es) ≡ sectors_of d.first_logical_sector (flat_map (blocks_of_extent d.first_logical_sector) es)
+pub runs_are : (d : BlockDevice) (es : List Extent)
+    → IsDevice d
+    → All (IsExtent d) es
+    → blocks_of (map run_on es) ≡ sectors_of d.first_logical_sector
+    (flat_map (blocks_of_extent d.first_logical_sector) es)
 unfolding sectors_of
 runs_are d [] device is = blocks_of-nil
 runs_are d (e ∷ es) device is =
@@ -64,61 +80,104 @@ runs_are d (e ∷ es) device is =
 
 -- ---- bounds
 
-end_is : (d : BlockDevice) (e : Extent) → IsDevice d → IsExtent d e → (run_on e).0 + (run_on e).1 < 2 ^ 63
+end_is : (d : BlockDevice) (e : Extent)
+    → IsDevice d
+    → IsExtent d e
+    → (run_on e).0 + (run_on e).1 < 2 ^ 63
 end_is d e device is = omega (arith, device.fits.size, is.below, device.within)
 
-pub runs_end : (d : BlockDevice) (es : List Extent) → IsDevice d → All (IsExtent d) es → All (λ r. r.0 + r.1 < 2 ^ 63) (map run_on es)
-runs_end d es device is = All-map (λ (r : ℕ × ℕ). r.0 + r.1 < 2 ^ 63) run_on es (All-weaker (IsExtent d) (λ e. (run_on e).0 + (run_on e).1 < 2 ^ 63) (λ e k. end_is d e device k) es is)
+pub runs_end : (d : BlockDevice) (es : List Extent)
+    → IsDevice d
+    → All (IsExtent d) es
+    → All (λ r. r.0 + r.1 < 2 ^ 63) (map run_on es)
+runs_end d es device is = All-map (λ (r : ℕ × ℕ). r.0 + r.1 < 2 ^ 63) run_on es
+    (All-weaker (IsExtent d) (λ e. (run_on e).0 + (run_on e).1 < 2 ^ 63)
+    (λ e k. end_is d e device k) es is)
 
-pub runs_sum : (d : BlockDevice) (es : List Extent) → All (IsExtent d) es → sum_by (λ r. r.1) (map run_on es) ≡ 8 * length (flat_map (blocks_of_extent d.first_logical_sector) es)
+pub runs_sum : (d : BlockDevice) (es : List Extent)
+    → All (IsExtent d) es
+    → sum_by (λ r. r.1) (map run_on es) ≡ 8 * length
+    (flat_map (blocks_of_extent d.first_logical_sector) es)
 runs_sum d [] is = refl
 runs_sum d (e ∷ es) is =
     let first = d.first_logical_sector in
     let here = All-head (IsExtent d) e es is in
-    omega (arith, sum_by-cons (λ (r : ℕ × ℕ). r.1) (run_on e) (map run_on es), runs_sum d es (All-tail (IsExtent d) e es is), length-append (blocks_of_extent first e) (flat_map (blocks_of_extent first) es), length-range_with_len ((e.first_sector - first) / 8) (e.sectors / 8), here.whole)
+    omega (
+      arith,
+      sum_by-cons (λ (r : ℕ × ℕ). r.1) (run_on e) (map run_on es),
+      runs_sum d es
+          (All-tail (IsExtent d) e es is),
+      length-append (blocks_of_extent first e)
+          (flat_map (blocks_of_extent first) es),
+      length-range_with_len ((e.first_sector - first) / 8)
+          (e.sectors / 8),
+      here.whole,
+    )
 
 -- ---- one of the partitions that pass a test
 
-all_first : {X : Type 0} (P : X → Type 0) (q : X → Bool) (x : X) (xs : List X) → All P (filter q (x ∷ xs)) → q x ≡ true → P x
+all_first : {X : Type 0} (P : X → Type 0) (q : X → Bool) (x : X) (xs : List X)
+    → All P (filter q (x ∷ xs))
+    → q x ≡ true
+    → P x
 all_first P q x xs all h =
     let both : All P (x ∷ filter q xs) = rw h at all in
     All-head P x (filter q xs) both
 
-all_rest : {X : Type 0} (P : X → Type 0) (q : X → Bool) (x : X) (xs : List X) → All P (filter q (x ∷ xs)) → All P (filter q xs)
+all_rest : {X : Type 0} (P : X → Type 0) (q : X → Bool) (x : X) (xs : List X)
+    → All P (filter q (x ∷ xs))
+    → All P (filter q xs)
 all_rest P q x xs all = elim (cases_Bool (q x)) [
   | inl t ↦ let both : All P (x ∷ filter q xs) = rw t at all in All-tail P x (filter q xs) both
   | inr f ↦ rw f at all
 ]
 
-pub filtered_at : {X : Type 0} (P : X → Type 0) (q : X → Bool) (xs : List X) (i : ℕ) (d : X) → All P (filter q xs) → i < length xs → q (get_or xs i d) ≡ true → P (get_or xs i d)
+pub filtered_at : {X : Type 0} (P : X → Type 0) (q : X → Bool) (xs : List X) (i : ℕ) (d : X)
+    → All P (filter q xs)
+    → i < length xs
+    → q (get_or xs i d) ≡ true
+    → P (get_or xs i d)
 filtered_at P q [] i d all lt h = absurd (omega arith)
 filtered_at P q (x ∷ xs) zero d all lt h = all_first P q x xs all h
-filtered_at P q (x ∷ xs) (suc i) d all lt h = filtered_at P q xs i d (all_rest P q x xs all) (omega arith) h
+filtered_at P q (x ∷ xs) (suc i) d all lt h =
+    filtered_at P q xs i d (all_rest P q x xs all) (omega arith) h
 
 -- ---- a partition of a table
 
-extents_rules : (t : Table) (keeps : KeepsRules t) (p : Partition) → All (IsExtent keeps.device) (extents_of t p)
-extents_rules t keeps p = All-take (IsExtent keeps.device) p.extent_count (drop p.first_extent t.extents) (All-drop (IsExtent keeps.device) p.first_extent t.extents keeps.extents)
+extents_rules : (t : Table) (keeps : KeepsRules t) (p : Partition)
+    → All (IsExtent keeps.device) (extents_of t p)
+extents_rules t keeps p = All-take (IsExtent keeps.device) p.extent_count
+    (drop p.first_extent t.extents) (All-drop (IsExtent keeps.device) p.first_extent t.extents
+    keeps.extents)
 
-first_is : (t : Table) (keeps : KeepsRules t) → first_sector_of t ≡ keeps.device.first_logical_sector
+first_is : (t : Table) (keeps : KeepsRules t)
+    → first_sector_of t ≡ keeps.device.first_logical_sector
 first_is t keeps = ap first_sector_of_devices keeps.one_device
 
-pub partition_runs : (t : Table) (keeps : KeepsRules t) (p : Partition) → blocks_of (map run_on (extents_of t p)) ≡ sectors_of (first_sector_of t) (blocks_of_partition t p)
+pub partition_runs : (t : Table) (keeps : KeepsRules t) (p : Partition)
+    → blocks_of (map run_on (extents_of t p))
+    ≡ sectors_of (first_sector_of t) (blocks_of_partition t p)
 unfolding blocks_of_partition
 partition_runs t keeps p =
     runs_are keeps.device (extents_of t p) keeps.device_rule (extents_rules t keeps p)
-    ∙ ap (λ (n : ℕ). sectors_of n (flat_map (blocks_of_extent n) (extents_of t p))) (sym (first_is t keeps))
+    ∙ ap (λ (n : ℕ). sectors_of n (flat_map (blocks_of_extent n) (extents_of t p)))
+    (sym (first_is t keeps))
 
-pub partition_ends : (t : Table) (keeps : KeepsRules t) (p : Partition) → All (λ r. r.0 + r.1 < 2 ^ 63) (map run_on (extents_of t p))
-partition_ends t keeps p = runs_end keeps.device (extents_of t p) keeps.device_rule (extents_rules t keeps p)
+pub partition_ends : (t : Table) (keeps : KeepsRules t) (p : Partition)
+    → All (λ r. r.0 + r.1 < 2 ^ 63) (map run_on (extents_of t p))
+partition_ends t keeps p = runs_end keeps.device (extents_of t p) keeps.device_rule
+    (extents_rules t keeps p)
 
-pub partition_sum : (t : Table) (keeps : KeepsRules t) (p : Partition) → sum_by (λ r. r.1) (map run_on (extents_of t p)) ≡ 8 * length (blocks_of_partition t p)
+pub partition_sum : (t : Table) (keeps : KeepsRules t) (p : Partition)
+    → sum_by (λ r. r.1) (map run_on (extents_of t p)) ≡ 8 * length (blocks_of_partition t p)
 unfolding blocks_of_partition
 partition_sum t keeps p =
     runs_sum keeps.device (extents_of t p) (extents_rules t keeps p)
-    ∙ ap (λ (n : ℕ). 8 * length (flat_map (blocks_of_extent n) (extents_of t p))) (sym (first_is t keeps))
+    ∙ ap (λ (n : ℕ). 8 * length (flat_map (blocks_of_extent n) (extents_of t p)))
+    (sym (first_is t keeps))
 
-devices_first : (ds : List BlockDevice) → (first_device ds).first_logical_sector ≡ first_sector_of_devices ds
+devices_first : (ds : List BlockDevice)
+    → (first_device ds).first_logical_sector ≡ first_sector_of_devices ds
 devices_first [] = refl
 devices_first (d ∷ ds) = refl
 
@@ -127,12 +186,20 @@ unfolding layout_of
 layout_first t = devices_first t.devices
 
 -- a partition of the slot keeps the rules of its own
-pub own_at : (slot : ℕ) (t : Table) (i : ℕ) (d : Partition) → IsOwn slot (layout_of t).parts → i < length t.partitions → is_of_slot slot (get_or t.partitions i d).name ≡ true → IsOwnPart slot (part_of t (get_or t.partitions i d))
+pub own_at : (slot : ℕ) (t : Table) (i : ℕ) (d : Partition)
+    → IsOwn slot (layout_of t).parts
+    → i < length t.partitions
+    → is_of_slot slot (get_or t.partitions i d).name ≡ true
+    → IsOwnPart slot (part_of t (get_or t.partitions i d))
 unfolding layout_of
 own_at slot t i d own lt h =
-    let is : get_or (map (part_of t) t.partitions) i (part_of t d) ≡ part_of t (get_or t.partitions i d) = get_or-map (part_of t) t.partitions i d (part_of t d) lt in
+    let is : get_or (map (part_of t) t.partitions) i (part_of t d)
+    ≡ part_of t (get_or t.partitions i d) =
+    get_or-map (part_of t) t.partitions i d (part_of t d) lt in
     subst (IsOwnPart slot) is
-    (filtered_at (IsOwnPart slot) (λ (p : PartOfLayout). is_of_slot slot p.name) (map (part_of t) t.partitions) i (part_of t d) own.each (omega (arith, lt, length-map t.partitions (part_of t)))
+    (filtered_at (IsOwnPart slot) (λ (p : PartOfLayout). is_of_slot slot p.name)
+    (map (part_of t) t.partitions) i (part_of t d) own.each
+    (omega (arith, lt, length-map t.partitions (part_of t)))
     (ap (λ (p : PartOfLayout). is_of_slot slot p.name) is ∙ h))
 
 -- ---- groups
@@ -148,7 +215,8 @@ shared_long name h = elim (cases_Bool (bytes_eq name (codes "default"))) [
 
 slot_long : (name : List ℕ) → has_slot name ≡ true → 3 ≤ length name
 unfolding has_slot
-slot_long name h = leb-true 3 (length name) (and_parts (leb 3 (length name)) _ (and_parts _ _ h).0).0
+slot_long name h = leb-true 3 (length name)
+    (and_parts (leb 3 (length name)) _ (and_parts _ _ h).0).0
 
 pub group_long : (g : Group) → IsGroup g → 3 ≤ length g.name
 group_long g is = elim (cases_Bool (is_shared g.name)) [
@@ -159,18 +227,33 @@ group_long g is = elim (cases_Bool (is_shared g.name)) [
 pub base_is_name : (name : List ℕ) → IsName name → 3 ≤ length name → IsName (base_of name)
 base_is_name name is long =
     subst IsName (append-nil (base_of name))
-    (joined_name (base_of name) [] (base_name name is) refl (omega (arith, length-base_of name, long)) (omega (arith, length-base_of name, name_fits name is)))
+    (joined_name (base_of name) [] (base_name name is) refl
+    (omega (arith, length-base_of name, long))
+    (omega (arith, length-base_of name, name_fits name is)))
 
 abbrev pub limit_of : Group → GroupLimit
 limit_of g = record { name = base_of g.name; limit = g.maximum_size }
 
-pub limits_skip : (slot : ℕ) (groups : List Group) (i : ℕ) (d : Group) → i < length groups → is_of_slot slot (get_or groups i d).name ≡ false → limits_of slot (take (i + 1) groups) ≡ limits_of slot (take i groups)
+pub limits_skip : (slot : ℕ) (groups : List Group) (i : ℕ) (d : Group)
+    → i < length groups
+    → is_of_slot slot (get_or groups i d).name ≡ false
+    → limits_of slot (take (i + 1) groups) ≡ limits_of slot (take i groups)
 limits_skip slot groups i d lt other =
     let none : own_groups slot (get_or groups i d ∷ []) ≡ [] = rw other refl in
-    ap (map limit_of) (ap (own_groups slot) (take_more groups i d lt) ∙ filter-append (λ (g : Group). is_of_slot slot g.name) (take i groups) (get_or groups i d ∷ []) ∙ ap (λ (l : List Group). own_groups slot (take i groups) ++ l) none ∙ append-nil (own_groups slot (take i groups)))
+    ap (map limit_of) (ap (own_groups slot) (take_more groups i d lt)
+    ∙ filter-append (λ (g : Group). is_of_slot slot g.name) (take i groups)
+    (get_or groups i d ∷ []) ∙ ap (λ (l : List Group). own_groups slot (take i groups) ++ l)
+    none ∙ append-nil (own_groups slot (take i groups)))
 
-pub limits_take : (slot : ℕ) (groups : List Group) (i : ℕ) (d : Group) → i < length groups → is_of_slot slot (get_or groups i d).name ≡ true → limits_of slot (take (i + 1) groups) ≡ limits_of slot (take i groups) ++ limit_of (get_or groups i d) ∷ []
+pub limits_take : (slot : ℕ) (groups : List Group) (i : ℕ) (d : Group)
+    → i < length groups
+    → is_of_slot slot (get_or groups i d).name ≡ true
+    → limits_of slot (take (i + 1) groups) ≡ limits_of slot (take i groups)
+    ++ limit_of (get_or groups i d) ∷ []
 limits_take slot groups i d lt own =
     let one : own_groups slot (get_or groups i d ∷ []) ≡ get_or groups i d ∷ [] = rw own refl in
-    ap (map limit_of) (ap (own_groups slot) (take_more groups i d lt) ∙ filter-append (λ (g : Group). is_of_slot slot g.name) (take i groups) (get_or groups i d ∷ []) ∙ ap (λ (l : List Group). own_groups slot (take i groups) ++ l) one)
+    ap (map limit_of) (ap (own_groups slot) (take_more groups i d lt)
+    ∙ filter-append (λ (g : Group). is_of_slot slot g.name) (take i groups)
+    (get_or groups i d ∷ []) ∙ ap (λ (l : List Group). own_groups slot (take i groups) ++ l)
+    one)
     ∙ map-append limit_of (own_groups slot (take i groups)) (get_or groups i d ∷ [])

@@ -66,7 +66,8 @@ pub named_here : (name : List ℕ) (t : Table) (i : ℕ) (p : Partition)
     → bytes_eq p.name name ≡ true
     → first_named name (map (part_of t) (drop i t.partitions)) ≡ Some (part_of t p)
 named_here name t i p lt at here =
-    ap (λ (l : List Partition). first_named name (map (part_of t) l)) (drop_at t.partitions i p lt at)
+    ap (λ (l : List Partition). first_named name (map (part_of t) l))
+    (drop_at t.partitions i p lt at)
     ∙ rw here refl
 
 pub named_skip : (name : List ℕ) (t : Table) (i : ℕ) (p : Partition)
@@ -76,7 +77,8 @@ pub named_skip : (name : List ℕ) (t : Table) (i : ℕ) (p : Partition)
     → first_named name (map (part_of t) (drop i t.partitions))
     ≡ first_named name (map (part_of t) (drop (i + 1) t.partitions))
 named_skip name t i p lt at other =
-    ap (λ (l : List Partition). first_named name (map (part_of t) l)) (drop_at t.partitions i p lt at)
+    ap (λ (l : List Partition). first_named name (map (part_of t) l))
+    (drop_at t.partitions i p lt at)
     ∙ rw other refl
 
 -- of those whose names pass a test
@@ -100,7 +102,8 @@ first_filter q name (p ∷ ps) is =
       ]
     ]
 
-pub first_all : (P : PartOfLayout → Type 0) (name : List ℕ) (ps : List PartOfLayout) (p : PartOfLayout)
+pub first_all : (P : PartOfLayout → Type 0) (name : List ℕ) (ps : List PartOfLayout)
+    (p : PartOfLayout)
     → All P ps
     → first_named name ps ≡ Some p
     → P p × (p.name ≡ name)
@@ -158,9 +161,11 @@ pub exceptions_skip : (name : List ℕ) (scans : List Scan) (i : ℕ) (s : Scan)
     → i < length scans
     → s ≡ get_or scans i s
     → bytes_eq s.name name ≡ false
-    → exceptions_of name (scans_of (drop i scans)) ≡ exceptions_of name (scans_of (drop (i + 1) scans))
+    → exceptions_of name (scans_of (drop i scans))
+    ≡ exceptions_of name (scans_of (drop (i + 1) scans))
 exceptions_skip name scans i s lt at other =
-    ap (λ (l : List Scan). exceptions_of name (scans_of l)) (drop_at scans i s lt at) ∙ rw other refl
+    ap (λ (l : List Scan). exceptions_of name (scans_of l)) (drop_at scans i s lt at)
+    ∙ rw other refl
 
 not_name : (a b : List ℕ) → a ≢ b → bytes_eq a b ≡ false
 not_name a b differ = elim (cases_Bool (bytes_eq a b)) [
@@ -236,7 +241,8 @@ more_before : (slot : ℕ) (t : Table) (i : ℕ) (p : Partition)
     → own_before slot t (i + 1) ≡ own_before slot t i ++ own_parts slot (part_of t p ∷ [])
 more_before slot t i p lt at =
     ap (λ (l : List Partition). own_parts slot (map (part_of t) l)) (take_more t.partitions i p lt)
-    ∙ ap (λ (q : Partition). own_parts slot (map (part_of t) (take i t.partitions ++ q ∷ []))) (sym at)
+    ∙ ap (λ (q : Partition). own_parts slot (map (part_of t) (take i t.partitions ++ q ∷ [])))
+    (sym at)
     ∙ ap (own_parts slot) (map-append (part_of t) (take i t.partitions) (p ∷ []))
     ∙ filter-append (λ (q : PartOfLayout). is_of_slot slot q.name)
     (map (part_of t) (take i t.partitions)) (part_of t p ∷ [])
@@ -249,7 +255,8 @@ pub plan_skip : {X : Type 0} (f : PartOfLayout → X) (slot : ℕ) (t : Table) (
 plan_skip f slot t i p lt at other =
     let none : own_parts slot (part_of t p ∷ []) ≡ [] = rw other refl in
     ap (map f)
-    (sym (more_before slot t i p lt at ∙ ap (λ (l : List PartOfLayout). own_before slot t i ++ l) none
+    (sym (more_before slot t i p lt at ∙ ap (λ (l : List PartOfLayout). own_before slot t i ++ l)
+    none
     ∙ append-nil (own_before slot t i)))
 
 pub plan_more : {X : Type 0} (f : PartOfLayout → X) (slot : ℕ) (t : Table) (i : ℕ) (p : Partition)

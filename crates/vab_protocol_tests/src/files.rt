@@ -99,3 +99,45 @@ fn a_file_in_use_is_refused_and_stays(rt: HostRuntime) -> Result<(), Fail> {
     );
     Ok(())
 }
+
+// A file may end in front of sectors that it had when it was opened: those before its end are
+// read, though sectors behind it are read ahead, and those behind it are faults.
+#[test]
+fn sectors_in_front_of_bad_ones_are_read(rt: HostRuntime) -> Result<(), Fail> {
+    let alloc = rt.alloc();
+    let ones = vec![in alloc; 1u8; 512 * 300]?;
+    fs::write(&rt, "shorter.img", ones.as_slice())?;
+    let opened = FilePort::open(&rt, "shorter.img", rt.stdin(), Vec::new(alloc));
+    let mut d = opened.map_err(|_| Fail::from("open"))?;
+    let shorter = vec![in alloc; 1u8; 512 * 100]?;
+    fs::write(&rt, "shorter.img", shorter.as_slice())?;
+    for at in 0..300u64 {
+        let wanted = if at < 100 { Some(1) } else { None };
+        assert_eq!(rt; read(&mut d, at), wanted, "sector {at}");
+    }
+    Ok(())
+}
+
+// A file's sectors are its whole pieces of 512 bytes.
+#[test]
+fn a_rest_of_a_file_is_no_sector(rt: HostRuntime) -> Result<(), Fail> {
+    let alloc = rt.alloc();
+    for (length, sectors) in [(0usize, 0u64), (511, 0), (512, 1), (1535, 2), (1536, 3)] {
+        let bytes = vec![in alloc; 7u8; length]?;
+        fs::write(&rt, "rest.img", bytes.as_slice())?;
+        {
+            let opened = FilePort::open(&rt, "rest.img", rt.stdin(), Vec::new(alloc));
+            let mut d = opened.map_err(|_| Fail::from("open"))?;
+            assert_eq!(rt; d.sectors(), sectors, "{length} bytes");
+            for at in 0..sectors {
+                assert!(rt; write(&mut d, at, 8));
+            }
+            assert!(rt; d.sync().is_ok());
+        }
+        let image = fs::read(&rt, "rest.img")?;
+        assert_eq!(rt; image.len(), length);
+        let rest = image.iter().filter(|byte| **byte == 7).count();
+        assert_eq!(rt; rest, length % 512, "{length} bytes");
+    }
+    Ok(())
+}

@@ -1,5 +1,5 @@
 // The port over the outside world.
-ghost use Rattle.std.specs.Prelude.{◌≡◌, ◌<◌, ◌≤◌, ◌^◌, IfOk, IsOk, OnOk, OnErr, replicate};
+ghost use Rattle.std.specs.Prelude.{◌≡◌, ◌<◌, ◌≤◌, ◌^◌, IfOk, IsOk, OnOk, OnErr, replicate, false};
 ghost use Rattle.vab_disk.specs.Disk.{Image, NoFewer, Rose, set_sector};
 
 use crate::cells::Cells;
@@ -16,7 +16,7 @@ use vab_disk::{Disk, Failed, NoMemory, Port, PortFault};
 /// Why a file can't be the disk.
 #[derive(Debug, Drop, Error)]
 pub enum OpenFault {
-    /// It can't be opened for reading and writing.
+    /// It can't be opened, or only for writing.
     #[error("the file can't be opened: {0}")]
     Open(io::Error),
     /// Another run has it.
@@ -42,13 +42,15 @@ pub struct FilePort<R: Read + Drop, W: Write + Drop> {
     disk_faults: u64,
     source_faults: u64,
     sink_faults: u64,
+    read_only: bool,
 }
 
 impl<R: Read + Drop, W: Write + Drop> FilePort<R, W> {
     ghost use Rattle.vab_real.specs.Cells.{size_of, HasImage, no_faults};
 
-    fn new(cells: Cells, input: R, output: W) -> Self
+    fn new(cells: Cells, read_only: bool, input: R, output: W) -> Self
         ensures cells { result.cells ≡ cells }
+        ensures read_only { result.read_only ≡ read_only }
         ensures faults { ⟦<FilePort<R, W> as Disk>⟧.faults result ≡ no_faults }
     {
         FilePort {
@@ -58,6 +60,7 @@ impl<R: Read + Drop, W: Write + Drop> FilePort<R, W> {
             disk_faults: 0,
             source_faults: 0,
             sink_faults: 0,
+            read_only,
         }
     }
 
@@ -66,15 +69,22 @@ impl<R: Read + Drop, W: Write + Drop> FilePort<R, W> {
         requires { sectors < 2 ^ 55 }
         ensures size { size_of result.cells ≡ sectors }
         ensures zeros { HasImage result.cells (λ s. replicate 512 0) }
+        ensures read_only { result.read_only ≡ false }
         ensures faults { ⟦<FilePort<R, W> as Disk>⟧.faults result ≡ no_faults }
     {
-        FilePort::new(Cells::Memory(Pages::new(alloc, sectors)), input, output)
+        FilePort::new(
+            Cells::Memory(Pages::new(alloc, sectors)),
+            false,
+            input,
+            output,
+        )
     }
 
     /// A port over a file that exists, whose whole pieces of 512 bytes are its sectors. A rest
     /// isn't read. Its size is where its end is, for a block device too. The file is locked for
     /// this port alone, as `flock` does, until the port is dropped; where another run has it,
-    /// nothing is read or written.
+    /// nothing is read or written. A file that can't be written is opened for reading alone, and
+    /// shares its lock with others that only read; a write to it is a fault of the disk.
     pub fn open<F: Files<File = File> + AllocGlobal>(
         files: &F,
         path: &str,
@@ -83,26 +93,67 @@ impl<R: Read + Drop, W: Write + Drop> FilePort<R, W> {
     ) -> Result<Self, OpenFault>
         ensures { IfOk result (λ p. ⟦<FilePort<R, W> as Disk>⟧.faults p ≡ no_faults) }
     {
-        let file = open_alone(files, path)?;
+        let Opened { file, read_only } = open_file(files, path)?;
+        lock(&file, read_only)?;
         let store = match FileStore::new(file) {
             Ok(store) => store,
             Err(fault) => return Err(OpenFault::Length(fault)),
         };
         match Buffered::new(files.alloc(), store) {
-            Ok(disk) => Ok(FilePort::new(Cells::File(disk), input, output)),
+            Ok(disk) => Ok(FilePort::new(Cells::File(disk), read_only, input, output)),
             Err(NoMemory) => Err(OpenFault::Memory),
         }
     }
+
+    /// Whether its file can't be written, so that it was opened for reading alone.
+    pub fn is_read_only(&self) -> bool
+        ensures { result ≡ self.now.read_only }
+    {
+        self.read_only
+    }
 }
 
-// Opens a file for reading and writing, and locks it.
-fn open_alone<F: Files<File = File>>(files: &F, path: &str) -> Result<File, OpenFault> {
-    let file = match OpenOptions::new().read(true).write(true).open(files, path) {
-        Ok(file) => file,
-        Err(fault) => return Err(OpenFault::Open(fault)),
+// A file, and whether it can only be read.
+struct Opened {
+    file: File,
+    read_only: bool,
+}
+
+// Whether a file couldn't be opened since it may not be written.
+fn is_write_refused(fault: &io::Error) -> bool {
+    match fault.kind() {
+        io::ErrorKind::PermissionDenied | io::ErrorKind::ReadOnlyFilesystem => true,
+        _ => false,
+    }
+}
+
+// Opens a file for reading and writing, or where it can't be written for reading alone.
+fn open_file<F: Files<File = File>>(files: &F, path: &str) -> Result<Opened, OpenFault> {
+    match OpenOptions::new().read(true).write(true).open(files, path) {
+        Ok(file) => Ok(Opened {
+            file,
+            read_only: false,
+        }),
+        Err(fault) if is_write_refused(&fault) => match File::open(files, path) {
+            Ok(file) => Ok(Opened {
+                file,
+                read_only: true,
+            }),
+            Err(fault) => Err(OpenFault::Open(fault)),
+        },
+        Err(fault) => Err(OpenFault::Open(fault)),
+    }
+}
+
+// Locks a file: one that is only read together with others that only read it.
+fn lock(file: &File, read_only: bool) -> Result<(), OpenFault> {
+    let locked = if read_only {
+        file.try_lock_shared()
+    } else {
+        file.try_lock()
     };
-    match file.try_lock() {
-        Ok(()) => Ok(file),
+    match locked {
+        Ok(()) => Ok(()),
         Err(TryLockError::WouldBlock) => Err(OpenFault::InUse),
         Err(TryLockError::Error(fault)) => Err(OpenFault::Lock(fault)),
     }

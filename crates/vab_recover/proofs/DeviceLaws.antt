@@ -32,6 +32,7 @@ use Rattle.vab_names.specs.Names.{is_store, store_of}
 use Rattle.vab_marks.specs.declared.mark.MarkPhase.{MarkPhase}
 use Rattle.vab_marks.specs.declared.status.PartStatus.{PartStatus}
 use Rattle.vab_exceptions.specs.declared.area.Exception.{Exception}
+use Rattle.vab_space.specs.declared.Chunk.TheVariants.{One}
 use Rattle.vab_store.specs.View.{Fits as FitsStore}
 use Rattle.vab_lpstore.specs.declared.loaded.Loaded.{Loaded}
 use Rattle.vab_names.proofs.NameCases.{store_is_store}
@@ -48,6 +49,7 @@ use Rattle.vab_recover.specs.Opened.{read_of, target_tables, AreHeads}
 use Rattle.vab_plan.proofs.PlanLaws.{first_filter, first_all}
 use Rattle.vab_device.proofs.OwnParts.{pairs_right, each_distinct, length-sectors_of}
 use Rattle.vab_device.proofs.OwnParts.{sectors_distinct, sectors_on, blocks_on, parts_kept}
+use Rattle.vab_marks.specs.Mark.{mark_at}
 
 -- ---- lists without repetition
 
@@ -65,7 +67,7 @@ stored : (size first : ℕ) (base : List ℕ) (x : Option PartOfLayout) (updated
     → es ≡ Some e
     → (store : List ℕ)
     × (option_map (λ q. sectors_of first q.blocks) x ≡ Some store)
-    × FitsStore (length base) store e)
+    × FitsStore One (length base) store e)
     → IsStored size base (option_map (λ q. sectors_of first q.blocks) x) (planned_image updated es)
 stored size first base None false es store fits = tt
 stored size first base None true None store fits = tt
@@ -79,7 +81,7 @@ stored size first base (Some q) true (Some e) store fits =
     let whole : Some (sectors_of first q.blocks) ≡ Some f.0 = f.1 in
     let same : sectors_of first q.blocks ≡ f.0 = cc in (
       store q refl,
-      subst (λ (s : List ℕ). FitsStore (length base) s e) (sym same) f.2,
+      subst (λ (s : List ℕ). FitsStore One (length base) s e) (sym same) f.2,
     )
 
 -- the exceptions of a name are of one of the scans
@@ -142,7 +144,8 @@ module _
       → first_named (store_of name) l.parts ≡ Some q
       → IsStore size (sectors_of first q.blocks)
   store_is name q own is =
-      let part = (first_all (IsPartOfLayout cap l.groups) (store_of name) l.parts q layout.parts is).0 in
+      let part = (first_all (IsPartOfLayout cap l.groups) (store_of name) l.parts q layout.parts
+      is).0 in
       let named : first_named (store_of name) (store_parts slot l.parts) ≡ Some q =
       first_filter (is_store slot) (store_of name) l.parts (store_is_store slot name own) ∙ is in
       let once = (first_all (λ p. IsDistinct p.blocks) (store_of name) (store_parts slot l.parts) q
@@ -176,11 +179,15 @@ module _
         ∙ found in
         let part_is : x.part ≡ p = cc in
         let long : length x.part.blocks ≡ length (sectors_of first p.blocks) =
-        ap (λ (q : PartOfLayout). length q.blocks) part_is ∙ sym (length-sectors_of first p.blocks) in (
+        ap (λ (q : PartOfLayout). length q.blocks) part_is
+        ∙ sym (length-sectors_of first p.blocks) in (
           x.store,
           sym (ap (store_on l) s.2) ∙ x.stored,
-          subst (λ (es : List Exception). FitsStore (length (sectors_of first p.blocks)) x.store es) s.3
-              (subst (λ (k : ℕ). FitsStore k x.store s.0.exceptions) long x.fits),
+          subst
+              (λ (es : List Exception).
+              FitsStore One (length (sectors_of first p.blocks)) x.store es)
+              s.3
+              (subst (λ (k : ℕ). FitsStore One k x.store s.0.exceptions) long x.fits),
         ));
   }
 
@@ -199,7 +206,8 @@ module _
       let long = length-map mine (part_on first) in
       record {
         each = All-map (IsPart size) (planned_on l ss) mine
-            (λ k d lt. planned_is ss (get_or mine k d) are (own k d lt) (found_at mine k d differ lt)
+            (λ k d lt. planned_is ss (get_or mine k d) are (own k d lt)
+            (found_at mine k d differ lt)
             (subst (IsPart size) (get_or-map (part_on first) mine k d (part_on first d) lt)
             (parts.each k (part_on first d) (omega (arith, lt, long)))));
         few = omega (arith, target.own.few, length-map mine (planned_on l ss));
@@ -207,9 +215,10 @@ module _
 
 -- ---- the device
 
-by_case : (size : ℕ) (phase : MarkPhase) (slot : ℕ) (statuses : List (Option PartStatus)) (c : Control)
+by_case : (size : ℕ) (phase : MarkPhase) (slot : ℕ) (statuses : List (Option PartStatus))
+    (c : Control)
     (g : Geometry) (s : Table) (t : Option Loaded) (ss : List Scanned)
-    → AreHeads size (record { phase = phase; slot = slot }) c g
+    → AreHeads size (mark_at phase slot) c g
     → has_slot phase slot c.current ≡ true
     → IsTableOf size g slot s
     → IfSome t (λ l. IsTableOf size g (other_slot slot) l.table)
@@ -218,7 +227,7 @@ by_case : (size : ℕ) (phase : MarkPhase) (slot : ℕ) (statuses : List (Option
     → IfSome t (λ l. AreParts size (plan_of (other_slot slot) (layout_of l.table) ss))
     → (phase ≡ marks.Merging → AreParts size (plan_of slot (layout_of s) ss))
     → AreParts size (parts_of slot (layout_of s))
-    → (let m : UpdateMark = record { phase = phase; slot = slot } in
+    → (let m : UpdateMark = mark_at phase slot in
     IsDevice (record (kept (read_of m statuses c g (s ∷ target_tables t) ss)) { control = c }) size)
 by_case size marks.Idle zero statuses c g s None ss
     heads current source target update both plan own parts =
@@ -444,7 +453,8 @@ pub device_kept : (size : ℕ) (m : UpdateMark) (statuses : List (Option PartSta
     → is_some t ≡ reads_both m.phase
     → IfSome t (λ l. AreParts size (plan_of (other_slot m.slot) (layout_of l.table) ss))
     → (m.phase ≡ marks.Merging → AreParts size (plan_of m.slot (layout_of s) ss))
-    → IsDevice (record (kept (read_of m statuses c g (s ∷ target_tables t) ss)) { control = c }) size
+    → IsDevice (record (kept (read_of m statuses c g (s ∷ target_tables t) ss)) { control = c })
+    size
 device_kept size m statuses c g s t ss heads current source target update both plan own =
     by_case size m.phase m.slot statuses c g s t ss heads current source target update both plan own
     (parts_kept size m.slot g (layout_of s) heads.enough (layout_keeps s source.rules) source.own
@@ -469,7 +479,8 @@ once_table slot t keeps own once = record {
         → IsDistinct (blocks_of_parts (ps ++ qs))
         → IsDistinct (blocks_of_parts qs)
     rest_once [] qs once = once
-    rest_once (p ∷ ps) qs once = rest_once ps qs (pairs_right p.blocks (blocks_of_parts (ps ++ qs)) once)
+    rest_once (p ∷ ps) qs once = rest_once ps qs
+        (pairs_right p.blocks (blocks_of_parts (ps ++ qs)) once)
 
     stores_once : (ps qs : List PartOfLayout)
         → IsDistinct (blocks_of_parts (ps ++ qs))

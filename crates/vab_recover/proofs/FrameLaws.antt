@@ -27,6 +27,7 @@ use Rattle.vab_device.proofs.OpeningLaws.{device_no_control, device_no_geometry}
 use Rattle.vab_device.proofs.OpeningLaws.{device_no_tables, device_judged, device_scanned}
 use Rattle.vab_device.proofs.OpeningLaws.{device_stated, reads_of, control_seen_in, or_first}
 use Rattle.vab_device.proofs.ReadingLaws.{FrameReads, seen_slots}
+use Rattle.vab_marks.specs.Mark.{mark_at}
 use Rattle.vab_recover.specs.declared.frame.Frame.{Frame}
 use Rattle.vab_recover.specs.declared.table.Tables.{Tables}
 use Rattle.vab_recover.specs.Opened.{read_of, IsMarked, IsHeaded, IsFramed, target_tables}
@@ -57,9 +58,6 @@ tables_split m = by_phase m.phase m.slot
     by_phase marks.Merging slot = refl
     by_phase marks.Completed slot = refl
 
-abbrev marked : MarkPhase → ℕ → UpdateMark
-marked phase slot = record { phase = phase; slot = slot }
-
 -- what is read through stores
 abbrev pub through_parts : MarkPhase → ℕ → Loaded → Option Loaded → List Scanned
     → Option (List Part)
@@ -78,18 +76,18 @@ pub record IsOfPhase
       ≡ stores_by (is_merging phase) (through_slot phase slot) (through_of phase s t) sts
   pub state : (c : Control) (ss : List Scanned)
       → first_fault
-      ((phase_at phase).state_checks slot (control_kept (marked phase slot) c)
+      ((phase_at phase).state_checks slot (control_kept (mark_at phase slot) c)
       (s.table ∷ target_tables t) ss)
-      ≡ slots_fault (marked phase slot) c (through_parts phase slot s t ss)
+      ≡ slots_fault (mark_at phase slot) c (through_parts phase slot s t ss)
   pub plan : (ss : List Scanned)
       → planned_by phase (through_parts phase slot s t ss)
       ≡ (phase_at phase).plan slot (s.table ∷ target_tables t) ss
   pub a : (ss : List Scanned)
-      → slot_parts (marked phase slot) 0 s.table (through_parts phase slot s t ss)
+      → slot_parts (mark_at phase slot) 0 s.table (through_parts phase slot s t ss)
       ≡ parts_for 0 ((phase_at phase).has_a slot) ((phase_at phase).through slot 0) ss
       (table_for 0 ((phase_at phase).tables slot) (s.table ∷ target_tables t))
   pub b : (ss : List Scanned)
-      → slot_parts (marked phase slot) 1 s.table (through_parts phase slot s t ss)
+      → slot_parts (mark_at phase slot) 1 s.table (through_parts phase slot s t ss)
       ≡ parts_for 1 ((phase_at phase).has_b slot) ((phase_at phase).through slot 1) ss
       (table_for 1 ((phase_at phase).tables slot) (s.table ∷ target_tables t))
   pub table_a : table_if (slot == 0) s.table t
@@ -225,7 +223,8 @@ control_single m image c is =
     control_seen_in ((phase_at m.phase).has_a m.slot) ((phase_at m.phase).has_b m.slot) image c is
     ∙ ap Ok (seen_slots r c)
 
-pub no_control : (size : ℕ) (image : Image) (m : UpdateMark) (ss : List (Option PartStatus)) (f : StartFault)
+pub no_control : (size : ℕ) (image : Image) (m : UpdateMark) (ss : List (Option PartStatus))
+    (f : StartFault)
     → IsMarked size image m ss
     → ((a b : Bool) → control_in a b image ≡ Err f)
     → device size image ≡ Err f
@@ -233,7 +232,8 @@ no_control size image m ss f marked bad =
     device_no_control size image m ss f marked.enough marked.mark marked.statuses
     (bad ((phase_at m.phase).has_a m.slot) ((phase_at m.phase).has_b m.slot))
 
-pub no_geometry : (size : ℕ) (image : Image) (m : UpdateMark) (ss : List (Option PartStatus)) (c : Control) (f : StartFault)
+pub no_geometry : (size : ℕ) (image : Image) (m : UpdateMark) (ss : List (Option PartStatus))
+    (c : Control) (f : StartFault)
     → IsMarked size image m ss
     → control_of (image 4) ≡ Ok c
     → geometry_at size image ≡ Err f
@@ -242,7 +242,8 @@ no_geometry size image m ss c f marked control bad =
     device_no_geometry size image m ss (control_kept m c) f marked.enough marked.mark
     marked.statuses (control_single m image c control) bad
 
-pub no_tables : (size : ℕ) (image : Image) (m : UpdateMark) (ss : List (Option PartStatus)) (c : Control) (g : Geometry) (f : StartFault)
+pub no_tables : (size : ℕ) (image : Image) (m : UpdateMark) (ss : List (Option PartStatus))
+    (c : Control) (g : Geometry) (f : StartFault)
     → IsHeaded size image m ss c g
     → tables_in size g ((phase_at m.phase).tables m.slot) image ≡ Err f
     → device size image ≡ Err f
@@ -272,7 +273,8 @@ module _
   ss = f.heads.statuses.items
 
   abbrev first : Read
-  first = read_of f.heads.mark f.heads.statuses.items f.heads.control f.heads.geometry (tables_of f.tables) []
+  first = read_of f.heads.mark f.heads.statuses.items f.heads.control f.heads.geometry
+      (tables_of f.tables) []
 
   pub is_of : IsOfPhase f.heads.mark.phase f.heads.mark.slot f.tables.source f.tables.target
   is_of =
@@ -304,7 +306,8 @@ module _
       → scans_in (stores_for f (written_in f.heads.statuses.items)) image ≡ x
       → scans_in (stores_of first) image ≡ x
   stores_are x is =
-      ap (λ (ws : List (Result Wanted StartFault)). scans_in ws image) (is_of.stores (written_in ss)) ∙ is
+      ap (λ (ws : List (Result Wanted StartFault)). scans_in ws image)
+      (is_of.stores (written_in ss)) ∙ is
 
   pub frame_scanned : (h : StartFault)
       → fault_of f.heads.mark.phase f.heads.mark.slot f.tables.source.table f.tables.target ≡ None
@@ -331,7 +334,8 @@ module _
       (through_parts f.heads.mark.phase f.heads.mark.slot f.tables.source f.tables.target scanned)
       ≡ None
       → Reads size
-      (read_of f.heads.mark f.heads.statuses.items f.heads.control f.heads.geometry (tables_of f.tables) scanned)
+      (read_of f.heads.mark f.heads.statuses.items f.heads.control f.heads.geometry
+      (tables_of f.tables) scanned)
       image
   frame_read scanned parts stores state =
       reads_of size first image scanned frame_reads (is_of.parts ∙ parts)
@@ -350,7 +354,8 @@ slots_are f target scanned x planned is =
     sym (ap (slots_fault f.heads.mark f.heads.control) planned) ∙ is
 
 -- the device that is kept of a reading
-pub kept_is : (d : Device) (t : Tables) (m : UpdateMark) (ss : List (Option PartStatus)) (c : Control)
+pub kept_is : (d : Device) (t : Tables) (m : UpdateMark) (ss : List (Option PartStatus))
+    (c : Control)
     (g : Geometry) (target : Option (List Part)) (scanned : List Scanned)
     → IsPhase m.phase
     → m.slot < 2
@@ -362,8 +367,10 @@ kept_is d t m ss c g target scanned phase below both is planned =
     let of = of_phase m.phase m.slot t.source t.target phase below both in
     let a = is.a ∙ ap (slot_parts m 0 t.source.table) planned ∙ of.a scanned in
     let b = is.b ∙ ap (slot_parts m 1 t.source.table) planned ∙ of.b scanned in
-    let table_a = ap (λ (x : UpdateMark). table_if (x.slot == 0) t.source.table t.target) is.mark ∙ of.table_a in
-    let table_b = ap (λ (x : UpdateMark). table_if (x.slot == 1) t.source.table t.target) is.mark ∙ of.table_b in
+    let table_a = ap (λ (x : UpdateMark). table_if (x.slot == 0) t.source.table t.target) is.mark
+    ∙ of.table_a in
+    let table_b = ap (λ (x : UpdateMark). table_if (x.slot == 1) t.source.table t.target) is.mark
+    ∙ of.table_b in
     let plan_is =
     is.plan
     ∙ ap (planned_by m.phase) planned

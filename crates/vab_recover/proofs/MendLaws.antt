@@ -10,7 +10,7 @@ use Rattle.vab_disk.proofs.CallLaws.{set_same_but}
 use Rattle.vab_disk.proofs.Moments.{adds_wider}
 use Rattle.vab_marks.specs.declared.mark.MarkPhase.TheVariants as marks
 use Rattle.vab_marks.specs.declared.mark.UpdateMark.{UpdateMark}
-use Rattle.vab_marks.specs.Mark.{mark_of}
+use Rattle.vab_marks.specs.Mark.{mark_of, idle_mark, completed_mark}
 use Rattle.vab_geometry.specs.declared.geometry.Geometry.{Geometry}
 use Rattle.vab_tables.specs.declared.table.Table.{Table}
 use Rattle.vab_tables.specs.Spelling.{table_text}
@@ -26,7 +26,7 @@ use Rattle.vab_tidy.specs.declared.prepared.Tidying.{Tidying}
 use Rattle.vab_tidy.specs.Kept.{with_alone, device_after}
 use Rattle.vab_tidy.specs.Planned.{IsAloneIf, IsDue, IsTidying, IsTidyingFor}
 use Rattle.vab_tidy.specs.Stays.{IsInOrder}
-use Rattle.vab_tidy.specs.Tidied.{HasCompleted, idle_mark, completed_mark, alone, may_be_alone}
+use Rattle.vab_tidy.specs.Tidied.{HasCompleted, alone, may_be_alone}
 use Rattle.vab_tidy.specs.Tidied.{tidy_table}
 use Rattle.vab_tidy.specs.Writes.{IsOfAlone, IsOfTidyings, IsOfTidyTable, IsOfTidying}
 use Rattle.vab_tidy.proofs.KeptLaws.{kept_table, table_now}

@@ -223,7 +223,8 @@ module _
       (read_of d.mark opened.statuses d.control d.geometry (tables_of t) opened.scanned)
       (other_slot d.mark.slot) l old kept.geometry kept.slot (omega arith)
       (some_at t.target l (IsTableThere size d.geometry) is there.target).fits opened.reads
-      (some_at t.target l (IsLoadedAt d.geometry (other_slot d.mark.slot) old) is opened.loaded.target)
+      (some_at t.target l (IsLoadedAt d.geometry (other_slot d.mark.slot) old) is
+      opened.loaded.target)
       (target_read d.mark (installing l is)) s b writes
 
   pub target_flags : (l : Loaded)
@@ -235,18 +236,21 @@ module _
       (read_of d.mark opened.statuses d.control d.geometry (tables_of t) opened.scanned)
       (other_slot d.mark.slot) l old kept.geometry kept.slot (omega arith)
       (some_at t.target l (IsTableThere size d.geometry) is there.target).fits opened.reads
-      (some_at t.target l (IsLoadedAt d.geometry (other_slot d.mark.slot) old) is opened.loaded.target)
+      (some_at t.target l (IsLoadedAt d.geometry (other_slot d.mark.slot) old) is
+      opened.loaded.target)
       (target_read d.mark (installing l is)) hold
 
   -- ---- the source's table is repaired
 
   module _
       (mid : Image)
-      (but : SameBut (IsOfRepair t.source.primary t.source.backup d.geometry d.mark.slot t.source.text) old mid)
+      (but : SameBut (IsOfRepair t.source.primary t.source.backup d.geometry d.mark.slot
+      t.source.text) old mid)
       (held : BothHold d.geometry d.mark.slot t.source.text mid) where
     others : SameElsewhere d.geometry d.mark.slot (sectors_in t.source) old mid
     others =
-        repair_elsewhere t.source.primary t.source.backup d.geometry d.mark.slot t.source.text old mid but
+        repair_elsewhere t.source.primary t.source.backup d.geometry d.mark.slot t.source.text old
+        mid but
 
     mid_same : SameRead size
         (read_of d.mark opened.statuses d.control d.geometry (tables_of t) opened.scanned) old mid
@@ -311,13 +315,15 @@ module _
       target_leaves told o leaves =
           let same = leaves_same size
           (read_of d.mark opened.statuses d.control d.geometry (tables_of t) opened.scanned)
-          (other_slot d.mark.slot) l mid kept.geometry kept.slot (omega arith) l_there.fits mid_reads
+          (other_slot d.mark.slot) l mid kept.geometry kept.slot (omega arith) l_there.fits
+          mid_reads
           mid_loaded told o leaves in
           record { told_so_far = same.told_so_far; same = same.same ∙ mid_means }
 
       module _
           (new : Image)
-          (but_too : SameBut (IsOfRepair l.primary l.backup d.geometry (other_slot d.mark.slot) l.text) mid new)
+          (but_too : SameBut (IsOfRepair l.primary l.backup d.geometry (other_slot d.mark.slot)
+          l.text) mid new)
           (held_too : BothHold d.geometry (other_slot d.mark.slot) l.text new) where
         others_too : SameElsewhere d.geometry (other_slot d.mark.slot) (sectors_in l) mid new
         others_too =
@@ -325,7 +331,8 @@ module _
             but_too
 
         new_same : SameRead size
-            (read_of d.mark opened.statuses d.control d.geometry (tables_of t) opened.scanned) mid new
+            (read_of d.mark opened.statuses d.control d.geometry (tables_of t) opened.scanned) mid
+            new
         new_same =
             repaired_same size
             (read_of d.mark opened.statuses d.control d.geometry (tables_of t) opened.scanned)
@@ -335,7 +342,8 @@ module _
         pub new_means : device size new ≡ device size old
         new_means =
             device_same size
-            (read_of d.mark opened.statuses d.control d.geometry (tables_of t) opened.scanned) mid new
+            (read_of d.mark opened.statuses d.control d.geometry (tables_of t) opened.scanned) mid
+            new
             mid_reads new_same
             ∙ mid_means
 
@@ -359,6 +367,7 @@ module _
               ∙ mid_control;
           copies =
               copies_agree d.geometry d.mark t new there.both (there.source.text, source_holds)
-              (subst (λ (y : Option Loaded). IfSome y (Holds d.geometry (other_slot d.mark.slot) new))
+              (subst (λ (y : Option Loaded).
+              IfSome y (Holds d.geometry (other_slot d.mark.slot) new))
               (sym is) (l_there.text, held_too));
         }

@@ -14,6 +14,7 @@ use Rattle.vab_names.specs.Names.{store_of}
 use Rattle.vab_marks.specs.declared.status.PartStatus.{PartStatus}
 use Rattle.vab_statuses.specs.Statuses.{written_in}
 use Rattle.vab_exceptions.specs.declared.area.Exception.{Exception}
+use Rattle.vab_space.specs.declared.Chunk.TheVariants.{One}
 use Rattle.vab_store.specs.Layout.{IsOnDisk}
 use Rattle.vab_tables.specs.declared.table.Table.{Table}
 use Rattle.vab_tables.specs.Rules.{cap_of, end_of}
@@ -159,7 +160,8 @@ pub scans_ok : (w : Result Wanted StartFault) (ws : List (Result Wanted StartFau
     → (scans_in (w ∷ ws) image >>= λ rest. Ok (done ++ rest))
     ≡ (scans_in ws image >>= λ rest. Ok ((done ++ x ∷ []) ++ rest))
 scans_ok (Ok w) ws image done x is = rw is (by_rest done x (scans_in ws image))
-scans_ok (Err f) ws image done x is = absurd (let no : (let r : Result Scanned StartFault = Err f in r ≡ Ok x) = is in cc)
+scans_ok (Err f) ws image done x is = absurd
+    (let no : (let r : Result Scanned StartFault = Err f in r ≡ Ok x) = is in cc)
 
 -- ---- the exceptions of a name
 
@@ -182,19 +184,19 @@ pub wanted_is : (fewer : Bool) (slot : ℕ) (l : Layout) (s : PartStatus) (base 
     → AreBlocks slot l s.name base store
     → n ≡ length base
     → wanted_at (wanted_for fewer slot l s) image
-    ≡ scan_read (wanted_store fewer s base store) (scan_of store n image)
+    ≡ scan_read (wanted_store fewer s base store) (scan_of One store n image)
 unfolding scan_at
 wanted_is fewer slot l s base store n image are long =
     ap (λ (r : Result Wanted StartFault). wanted_at r image)
     (wanted_found fewer slot l s base store are)
-    ∙ ap (λ (k : ℕ). scan_read (wanted_store fewer s base store) (scan_of store k image))
+    ∙ ap (λ (k : ℕ). scan_read (wanted_store fewer s base store) (scan_of One store k image))
     (sym long)
 
 pub is_scanned : (slot : ℕ) (l : Layout) (name base store : List ℕ) (n : ℕ)
     (scanned : Result (List Exception) StoreFault) (r : Result Scan StartFault)
     → AreBlocks slot l name base store
     → n ≡ length base
-    → IfOk scanned (λ es. Fits n store es)
+    → IfOk scanned (λ es. Fits One n store es)
     → IfOk r (λ s. s.name ≡ name)
     → IfOk r (λ s. scanned ≡ Ok s.view)
     → IfOk r (λ s. IsScanned slot l (scanned_of s))
@@ -204,20 +206,22 @@ is_scanned slot l name base store n scanned (Ok s) are long fits named view =
     let first = l.device.first_logical_sector in
     let same : n ≡ length are.part.blocks =
     long ∙ ap length are.base_is ∙ count first are.part.blocks in
-    let read : Fits n store s.view =
-    subst (λ (x : Result (List Exception) StoreFault). IfOk x (λ es. Fits n store es)) view fits in
+    let read : Fits One n store s.view =
+    subst (λ (x : Result (List Exception) StoreFault). IfOk x (λ es. Fits One n store es)) view
+    fits in
     record {
       part = are.part;
       store = store;
       named = ap (λ (m : List ℕ). first_named m (own_parts slot l.parts)) named ∙ are.named;
       stored = ap (store_on l) named ∙ are.stored;
-      fits = subst (λ (k : ℕ). Fits k store s.view) same read;
+      fits = subst (λ (k : ℕ). Fits One k store s.view) same read;
     }
   where
     count : (first : ℕ) (blocks : List ℕ) → length (sectors_of first blocks) ≡ length blocks
     count first blocks = length-map blocks (λ b. 4096 + first + 8 * b)
 
-pub scans_step : (W : PartStatus → Result Wanted StartFault) (all : List (Option PartStatus)) (i : ℕ)
+pub scans_step : (W : PartStatus → Result Wanted StartFault) (all : List (Option PartStatus))
+    (i : ℕ)
     (s : PartStatus) (image : Image) (done : List Scan) (x : Scan)
     → i < length all
     → Some s ≡ get_or all i (Some s)
@@ -236,12 +240,14 @@ scans_step W all i s image done x lt at is =
     scans_in (map W (written_in (drop (i + 1) all))) image >>= λ rest. Ok (l ++ rest))
     (sym (map-append scanned_of done (x ∷ [])))
 
-pub scans_skip : (W : PartStatus → Result Wanted StartFault) (all : List (Option PartStatus)) (i : ℕ)
+pub scans_skip : (W : PartStatus → Result Wanted StartFault) (all : List (Option PartStatus))
+    (i : ℕ)
     (image : Image) (done : List Scan)
     → i < length all
     → None ≡ get_or all i None
     → (scans_in (map W (written_in (drop i all))) image >>= λ rest. Ok (scans_of done ++ rest))
-    ≡ (scans_in (map W (written_in (drop (i + 1) all))) image >>= λ rest. Ok (scans_of done ++ rest))
+    ≡ (scans_in (map W (written_in (drop (i + 1) all))) image >>= λ rest.
+    Ok (scans_of done ++ rest))
 scans_skip W all i image done lt at =
     ap
     (λ (l : List (Option PartStatus)).

@@ -1,7 +1,7 @@
 -- What opening a device may write, and what it leaves behind a merge that has ended.
 use Rattle.std.specs.Prelude.{◌≡◌, ◌⊎◌, ℕ, List, Some, Ok}
 use Rattle.vab_disk.specs.Disk.{Image}
-use Rattle.vab_marks.specs.Mark.{mark_of}
+use Rattle.vab_marks.specs.Mark.{mark_of, idle_mark}
 use Rattle.vab_tables.specs.declared.table.Table.{Table}
 use Rattle.vab_geometry.specs.declared.geometry.Geometry.{Geometry}
 use Rattle.vab_lpstore.specs.Loading.{slot_table}
@@ -9,7 +9,7 @@ use Rattle.vab_device.specs.declared.device.Device.{Device}
 use Rattle.vab_device.specs.Kept.{table_of_slot}
 use Rattle.vab_device.specs.Reading.{geometry_at}
 pub use Rattle.vab_tidy.specs.Stays.{LeavesSame}
-use Rattle.vab_tidy.specs.Tidied.{HasCompleted, idle_mark, tidy_table}
+use Rattle.vab_tidy.specs.Tidied.{HasCompleted, tidy_table}
 use Rattle.vab_tidy.specs.Writes.{IsOfTidying}
 use Rattle.vab_recover.specs.Repairs.{IsRepair}
 

@@ -39,6 +39,7 @@ use vab_marks::{PartStatus, UpdateMark};
 use vab_names::is_of_slot;
 use vab_plan::{Scan, map, named, plan, store_map};
 use vab_scan::scan;
+use vab_space::Chunk;
 use vab_statuses::Statuses;
 use vab_store::{StoreFault, StoreView};
 use vab_tables::Table;
@@ -146,7 +147,7 @@ fn scan_store<D: Disk>(
         Err(fault) => Err(fault),
         Ok(None) => Err(StartFault::BadStore(status.name)),
         Ok(Some((base, store))) => {
-            let scanned = scan(alloc, d, &store, base.len());
+            let scanned = scan(alloc, d, &store, base.len(), Chunk::One);
             judge_scan(status, scanned, fewer)
         }
     }

@@ -35,10 +35,10 @@ use Rattle.vab_rounds.specs.Folds.{whole_in, IsCut, AreCuts}
 
 -- ---- items begin where the ones before them end
 
-abbrev BeginsAt : {S : Type 0} → S → Item S → Type 0
+abbrev pub BeginsAt : {S : Type 0} → S → Item S → Type 0
 BeginsAt s i = i.steps ≡ s ∷ later_of i.steps
 
-abbrev AreLinked : {S : Type 0} → S → List (Item S) → Type 0
+abbrev pub AreLinked : {S : Type 0} → S → List (Item S) → Type 0
 AreLinked s [] = Unit {0}
 AreLinked s (i ∷ is) = BeginsAt s i × AreLinked i.last.now is
 
@@ -158,7 +158,7 @@ course_linked m (a ∷ xs) are =
     followed_linked m (a.item m) (a.ends m) (course xs (a.item m).last.now)
     (are.0 m) (course_linked (a.item m).last.now xs are.1)
 
-run_linked : (m : Mounted) (run : Run) → AreLinked m (items_in m run)
+pub run_linked : (m : Mounted) (run : Run) → AreLinked m (items_in m run)
 run_linked m (Serves exchanges unfinished) =
     session_linked (nothing_staged m) exchanges unfinished
 run_linked m (Carries command) = (refl, tt)

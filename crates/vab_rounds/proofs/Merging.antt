@@ -1,5 +1,5 @@
 -- A merge goes on, however often it is cut.
-use Rattle.std.proofs.Common.{◌≡◌, inl, inr, ℕ, zero, suc, ◌+◌, ◌<◌, ◌≤◌, Bool, true}
+use Rattle.std.proofs.Common.{◌≡◌, ◌∙◌, inl, inr, ℕ, zero, suc, ◌+◌, ◌<◌, ◌≤◌, Bool, true}
 use Rattle.std.proofs.Common.{false, cond}
 use Rattle.std.proofs.Common.{List, [], ◌∷◌, take, codes, Option, Some, None, Result}
 use Rattle.std.proofs.Common.{Ok, Err}
@@ -10,15 +10,15 @@ use Rattle.vab_bootctl.specs.Boot.{activated_of}
 use Rattle.vab_model.specs.declared.state.Image.{Image as ImageOfSlot}
 use Rattle.vab_model.specs.declared.state.Phase.{Phase}
 use Rattle.vab_model.specs.declared.state.Phase.TheVariants.{Idle, Installing, Staged, Merging}
-use Rattle.vab_model.specs.declared.command.Reply.{Reply}
-use Rattle.vab_model.specs.Commands.{Command, SetActive, Boot, Mark, Print, Digest, Begin, Create}
+use Rattle.vab_model.specs.Commands.{Command, SetActive, Boot, Mark, Print, Digest, Create}
 use Rattle.vab_model.specs.Commands.{Resize, Delete, Snapshot, Flash, Finish, Cancel, BeginMerge}
 use Rattle.vab_model.specs.Commands.{Merge}
 use Rattle.vab_model.specs.State.{images_at}
 use Rattle.vab_model.specs.Effects.{Found, Image_is, Refused_by, found_of, print_effect}
 use Rattle.vab_model.specs.Effects.{digest_effect, active_effect, effect, effect_map, IsOneOf}
 use Rattle.vab_model.specs.Effects.{last_of}
-use Rattle.vab_model.specs.Effects.{takes_memory, may_want}
+use Rattle.vab_model.specs.Kinds.{is_of_installation, is_finish, turns_of}
+use Rattle.vab_device.proofs.WantLaws.{verb_wants}
 use Rattle.vab_device.specs.Mounted.{Mounted, in_state}
 use Rattle.vab_device.specs.Updates.{effect_on, EditOf, edit_effect, create_edit, resize_edit}
 use Rattle.vab_device.specs.Updates.{delete_edit, snapshot_edit, flash_effect, cancel_effect}
@@ -31,31 +31,31 @@ use Rattle.vab_exchanges.specs.Items.{Response, Kept, Item, item_still, item_sta
 use Rattle.vab_exchanges.specs.Items.{item_download, item_done, item_asked, item_of, item_open}
 use Rattle.vab_exchanges.specs.Items.{items_of, unless_refused, no_memory}
 use Rattle.vab_exchanges.specs.Runs.{steps_at}
-use Rattle.vab_session.specs.Alone.{IsAlone, is_finish, asks_finish, FinishesNothing}
+use Rattle.vab_session.specs.Alone.{IsAlone}
 use Rattle.vab_session.specs.Responses.{response, left_of}
 use Rattle.vab_session.specs.Served.{nothing_staged}
-use Rattle.vab_session.proofs.AloneLaws.{AreAlone, alone_effect, alone_steps, last_alone}
+use Rattle.vab_session.proofs.AloneLaws.{asks_finish, AreAlone, alone_effect, last_alone}
 use Rattle.vab_session.proofs.AloneLaws as alone
 use Rattle.vab_cli.specs.Verbs.{verb_item}
 use Rattle.vab_rounds.specs.Rounds.{Run, Serves, Carries, Installs, Tells, Lives, items_in}
 use Rattle.vab_rounds.specs.Folds.{Cut, after_cut, folded}
-use Rattle.vab_rounds.specs.Merges.{is_of_installation, asks_update, AskNoUpdate, BeginsNone}
-use Rattle.vab_rounds.specs.Merges.{BeginNone, turns_of, turns_asked, turns_in, turns_by}
+use Rattle.vab_rounds.specs.Merges.{asks_update, AskNoUpdate, BeginsNone}
+use Rattle.vab_rounds.specs.Merges.{BeginNone, turns_asked, turns_in, turns_by}
 use Rattle.vab_rounds.specs.Merges.{turns_by_all, IsMerged}
 use Rattle.vab_rounds.proofs.Folding.{cut_steps}
 
 -- A merge has ended, or so many are left that those that were asked for fit beside them.
-abbrev IsDue : (left asked : ℕ) → Phase → Type 0
+abbrev pub IsDue : (left asked : ℕ) → Phase → Type 0
 IsDue left asked Idle = Unit {0}
 IsDue left asked (Installing source plan) = ⊥
 IsDue left asked (Staged source still) = ⊥
 IsDue left asked (Merging target still) = still + asked ≤ left
 
 module _ (left : ℕ) where
-  abbrev Due : ℕ → Mounted → Type 0
+  abbrev pub Due : ℕ → Mounted → Type 0
   Due asked m = IsDue left asked m.state.phase
 
-  abbrev AreDue : ℕ → List Mounted → Type 0
+  abbrev pub AreDue : ℕ → List Mounted → Type 0
   AreDue asked ms = (x : Mounted) → IsOneOf ms x → Due asked x
 
   none : (asked : ℕ) → AreDue asked []
@@ -181,7 +181,7 @@ module _ (left : ℕ) where
   digests asked m (Image_is image) = none asked
   digests asked m (Refused_by refusal) = none asked
 
-  command_steps : (asked : ℕ) (m : Mounted) (staged : Option (List ℕ)) (c : Command)
+  pub command_steps : (asked : ℕ) (m : Mounted) (staged : Option (List ℕ)) (c : Command)
       → is_of_installation c ≡ false
       → Due asked m
       → AreDue asked (effect_on m staged c).later
@@ -193,7 +193,6 @@ module _ (left : ℕ) where
   command_steps asked m staged (Print name) other is =
       prints asked m name (found_of m.state name)
   command_steps asked m staged (Digest name) other is = digests asked m (found_of m.state name)
-  command_steps asked m staged Begin other is = absurd cc
   command_steps asked m staged (Create name size) other is =
       edits asked m (create_edit name size) m.state.phase is
   command_steps asked m staged (Resize name size) other is =
@@ -204,10 +203,10 @@ module _ (left : ℕ) where
       edits asked m (snapshot_edit name size) m.state.phase is
   command_steps asked m staged (Flash name) other is =
       flashes asked m staged name m.state.phase is
-  command_steps asked m staged Finish other is = absurd cc
   command_steps asked m staged Cancel other is = cancels asked m m.state.phase is
   command_steps asked m staged BeginMerge other is = merge_begins asked m m.state.phase is
   command_steps asked m staged (Merge blocks) other is = merges asked m blocks m.state.phase is
+  command_steps asked m staged _ other is = absurd cc
 
   -- a command that asks for no turn
   asks_none : (asked n : ℕ) (m : Mounted) (staged : Option (List ℕ)) (c : Command)
@@ -220,35 +219,13 @@ module _ (left : ℕ) where
       counted asked (asked + n) (last_of m later) (omega (arith, zeroed))
       (last_due asked m later is (command_steps asked m staged c other is))
 
-  command_last : (asked : ℕ) (m : Mounted) (staged : Option (List ℕ)) (c : Command)
+  pub command_last : (asked : ℕ) (m : Mounted) (staged : Option (List ℕ)) (c : Command)
       → is_of_installation c ≡ false
       → Due asked m
       → Due (asked + turns_of c) (last_of m (effect_on m staged c).later)
-  command_last asked m staged (SetActive n) other is =
-      asks_none asked 0 m staged (SetActive n) refl other is
-  command_last asked m staged Boot other is = asks_none asked 0 m staged Boot refl other is
-  command_last asked m staged Mark other is = asks_none asked 0 m staged Mark refl other is
-  command_last asked m staged (Print name) other is =
-      asks_none asked 0 m staged (Print name) refl other is
-  command_last asked m staged (Digest name) other is =
-      asks_none asked 0 m staged (Digest name) refl other is
-  command_last asked m staged Begin other is = absurd cc
-  command_last asked m staged (Create name size) other is =
-      asks_none asked 0 m staged (Create name size) refl other is
-  command_last asked m staged (Resize name size) other is =
-      asks_none asked 0 m staged (Resize name size) refl other is
-  command_last asked m staged (Delete name) other is =
-      asks_none asked 0 m staged (Delete name) refl other is
-  command_last asked m staged (Snapshot name size) other is =
-      asks_none asked 0 m staged (Snapshot name size) refl other is
-  command_last asked m staged (Flash name) other is =
-      asks_none asked 0 m staged (Flash name) refl other is
-  command_last asked m staged Finish other is = absurd cc
-  command_last asked m staged Cancel other is = asks_none asked 0 m staged Cancel refl other is
-  command_last asked m staged BeginMerge other is =
-      asks_none asked 0 m staged BeginMerge refl other is
   command_last asked m staged (Merge blocks) other is =
       merges_last asked m blocks m.state.phase refl is
+  command_last asked m staged c other is = asks_none asked (turns_of c) m staged c refl other is
 
   -- ---- packets
 
@@ -284,33 +261,23 @@ module _ (left : ℕ) where
   response_last asked m staged (Err bad) other is =
       counted asked (asked + 0) m (sym (add-zero asked)) is
 
-  -- what takes memory asks for no turn
-  takes_none : (c : Command) (reply : Reply)
-      → (takes_memory c && may_want reply) ≡ true
+  -- what may want memory asks for no turn
+  takes_none : (m : Mounted) (staged : Option (List ℕ)) (c : Command)
+      → (effect_on m staged c).wants ≡ true
       → turns_of c ≡ 0
-  takes_none (SetActive n) reply wants = refl
-  takes_none Boot reply wants = refl
-  takes_none Mark reply wants = refl
-  takes_none (Print name) reply wants = refl
-  takes_none (Digest name) reply wants = refl
-  takes_none Begin reply wants = refl
-  takes_none (Create name size) reply wants = refl
-  takes_none (Resize name size) reply wants = refl
-  takes_none (Delete name) reply wants = refl
-  takes_none (Snapshot name size) reply wants = refl
-  takes_none (Flash name) reply wants = refl
-  takes_none Finish reply wants = refl
-  takes_none Cancel reply wants = refl
-  takes_none BeginMerge reply wants = refl
-  takes_none (Merge blocks) reply wants = absurd cc
+  takes_none m staged (Merge blocks) wants =
+      absurd (let no : false ≡ true = sym (verb_wants m staged (Merge blocks) refl) ∙ wants in cc)
+  takes_none m staged _ wants = refl
 
   wants_none : (m : Mounted) (staged : Option (List ℕ)) (packet : Result Asked BadCommand)
       → (response m staged packet).may_want ≡ true
       → turns_asked m.state.phase packet ≡ 0
   wants_none m staged (Ok (Getvar variable)) wants = refl
   wants_none m staged (Ok (Download size)) wants = refl
-  wants_none m staged (Ok (Do c)) wants = takes_none c (effect_on m staged c).reply wants
-  wants_none m staged (Ok MergeAll) wants = absurd cc
+  wants_none m staged (Ok (Do c)) wants = takes_none m staged c wants
+  wants_none m staged (Ok MergeAll) wants =
+      let all : Command = Merge (left_of m.state.phase + 1) in
+      absurd (let no : false ≡ true = sym (verb_wants m staged all refl) ∙ wants in cc)
   wants_none m staged (Ok BootAndEnd) wants = refl
   wants_none m staged (Err bad) wants = refl
 
@@ -343,9 +310,9 @@ module _ (left : ℕ) where
   -- ---- items
 
   -- each step of an item, and what is kept after it, by which so many more were asked for
-  record IsDueIn (asked n : ℕ) (item : Item Mounted) : Type 0 where
-    steps : AreDue asked item.steps
-    last : Due (asked + n) item.last.now
+  pub record IsDueIn (asked n : ℕ) (item : Item Mounted) : Type 0 where
+    pub steps : AreDue asked item.steps
+    pub last : Due (asked + n) item.last.now
 
   still_due : (asked : ℕ) (k : Kept Mounted) (told : List ℕ)
       → Due asked k.now
@@ -415,7 +382,7 @@ module _ (left : ℕ) where
   asked_due asked k refused parts (Err bad) other is =
       done_due asked k refused (Err bad) other is
 
-  exchange_due : (asked : ℕ) (k : Kept Mounted) (s : Exchange)
+  pub exchange_due : (asked : ℕ) (k : Kept Mounted) (s : Exchange)
       → asks_update (request_of s.command) ≡ false
       → Due asked k.now
       → IsDueIn asked (turns_asked k.now.state.phase (request_of s.command))
@@ -504,24 +471,13 @@ module _ (left : ℕ) where
 
 -- ---- the target stays alone
 
-ends_nothing : (c : Command) → is_of_installation c ≡ false → is_finish c ≡ false
-ends_nothing (SetActive n) other = refl
-ends_nothing Boot other = refl
-ends_nothing Mark other = refl
-ends_nothing (Print name) other = refl
-ends_nothing (Digest name) other = refl
-ends_nothing Begin other = refl
-ends_nothing (Create name size) other = refl
-ends_nothing (Resize name size) other = refl
-ends_nothing (Delete name) other = refl
-ends_nothing (Snapshot name size) other = refl
-ends_nothing (Flash name) other = refl
+pub ends_nothing : (c : Command) → is_of_installation c ≡ false → is_finish c ≡ false
 ends_nothing Finish other = other
-ends_nothing Cancel other = refl
-ends_nothing BeginMerge other = refl
-ends_nothing (Merge blocks) other = refl
+ends_nothing _ other = refl
 
-asks_no_end : (asks : Result Asked BadCommand) → asks_update asks ≡ false → asks_finish asks ≡ false
+pub asks_no_end : (asks : Result Asked BadCommand)
+    → asks_update asks ≡ false
+    → asks_finish asks ≡ false
 asks_no_end (Ok (Getvar variable)) other = refl
 asks_no_end (Ok (Download size)) other = refl
 asks_no_end (Ok (Do c)) other = ends_nothing c other
@@ -529,18 +485,30 @@ asks_no_end (Ok MergeAll) other = refl
 asks_no_end (Ok BootAndEnd) other = refl
 asks_no_end (Err bad) other = refl
 
-finish_none : (exchanges : List Exchange) → AskNoUpdate exchanges → FinishesNothing exchanges
-finish_none [] other = tt
-finish_none (s ∷ ss) other = (asks_no_end (request_of s.command) other.0, finish_none ss other.1)
-
 module _ (slot : ℕ) (images : List ImageOfSlot) where
+  session_alone : (k : Kept Mounted) (exchanges : List Exchange) (unfinished : Option (List ℕ))
+      (n : ℕ)
+      → AskNoUpdate exchanges
+      → IsAlone slot images k.now
+      → AreAlone slot images (steps_at k.now (items_of response k exchanges unfinished) n)
+  session_alone k [] None n other is = alone.one slot images k.now is
+  session_alone k [] (Some command) zero other is =
+      (alone.open_alone slot images k command is).steps
+  session_alone k [] (Some command) (suc n) other is =
+      alone.one slot images (item_open response k command).last.now
+      (alone.open_alone slot images k command is).last
+  session_alone k (s ∷ ss) unfinished zero other is =
+      (alone.item_alone slot images k s (asks_no_end (request_of s.command) other.0) is).steps
+  session_alone k (s ∷ ss) unfinished (suc n) other is =
+      session_alone (item_of response k s).last ss unfinished n other.1
+      (alone.item_alone slot images k s (asks_no_end (request_of s.command) other.0) is).last
+
   run_alone : (m : Mounted) (run : Run) (whole : ℕ)
       → BeginsNone run
       → IsAlone slot images m
       → AreAlone slot images (steps_at m (items_in m run) whole)
   run_alone m (Serves exchanges unfinished) whole other is =
-      alone_steps slot images (nothing_staged m) [] exchanges unfinished
-      (finish_none exchanges other) is whole (omega arith)
+      session_alone (nothing_staged m) exchanges unfinished whole other is
   run_alone m (Carries c) zero other is =
       alone.more slot images m (effect_on m None c).later is
       (alone_effect slot images m None c (ends_nothing c other) is)

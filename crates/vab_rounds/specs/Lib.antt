@@ -2,3 +2,6 @@ pub mod Folds
 pub mod Merges
 pub mod Rounds
 pub mod Runs
+pub mod Ended
+pub mod Chains
+pub mod Alone

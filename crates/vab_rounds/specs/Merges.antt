@@ -1,14 +1,13 @@
 -- A merge that is cut again and again, and goes on.
-use Rattle.std.specs.Prelude.{◌≡◌, ◌<◌, ◌+◌, ℕ, zero, suc, Bool, true, false, List, [], ◌∷◌, take}
-use Rattle.std.specs.Prelude.{Result, Ok, Err}
+use Rattle.std.specs.Prelude.{◌≡◌, ◌<◌, ◌+◌, ℕ, zero, suc, Bool, false, List, [], ◌∷◌, take}
+use Rattle.std.specs.Prelude.{Result, Ok}
 use Rattle.vab_model.specs.declared.state.Image.{Image as ImageOfSlot}
 use Rattle.vab_model.specs.declared.state.Phase.{Phase}
 use Rattle.vab_model.specs.declared.state.Phase.TheVariants.{Idle, Merging}
-use Rattle.vab_model.specs.Commands.{Command, SetActive, Boot, Mark, Print, Digest, Begin, Create}
-use Rattle.vab_model.specs.Commands.{Resize, Delete, Snapshot, Flash, Finish, Cancel, BeginMerge}
-use Rattle.vab_model.specs.Commands.{Merge}
+use Rattle.vab_model.specs.Commands.{Command}
+use Rattle.vab_model.specs.Kinds.{is_of_installation, turns_of}
 use Rattle.vab_device.specs.Mounted.{Mounted}
-use Rattle.vab_fbproto.specs.Requests.{Asked, Getvar, Download, Do, MergeAll, BootAndEnd}
+use Rattle.vab_fbproto.specs.Requests.{Asked, Do, MergeAll}
 use Rattle.vab_fbproto.specs.Requests.{request_of}
 use Rattle.vab_fbproto.specs.declared.request.BadCommand.{BadCommand}
 use Rattle.vab_exchanges.specs.Session.{Exchange}
@@ -21,31 +20,9 @@ use Rattle.vab_rounds.specs.Folds.{Cut, after_cut, folded}
 
 -- ---- no other update is begun
 
--- it begins an update, or ends its installation
-abbrev pub is_of_installation : Command → Bool
-is_of_installation (SetActive slot) = false
-is_of_installation Boot = false
-is_of_installation Mark = false
-is_of_installation (Print name) = false
-is_of_installation (Digest name) = false
-is_of_installation Begin = true
-is_of_installation (Create name size) = false
-is_of_installation (Resize name size) = false
-is_of_installation (Delete name) = false
-is_of_installation (Snapshot name size) = false
-is_of_installation (Flash name) = false
-is_of_installation Finish = true
-is_of_installation Cancel = false
-is_of_installation BeginMerge = false
-is_of_installation (Merge blocks) = false
-
 abbrev pub asks_update : Result Asked BadCommand → Bool
-asks_update (Ok (Getvar variable)) = false
-asks_update (Ok (Download size)) = false
 asks_update (Ok (Do command)) = is_of_installation command
-asks_update (Ok MergeAll) = false
-asks_update (Ok BootAndEnd) = false
-asks_update (Err bad) = false
+asks_update _ = false
 
 abbrev pub AskNoUpdate : List Exchange → Type 0
 AskNoUpdate [] = Unit {0}
@@ -64,31 +41,11 @@ BeginNone (c ∷ cs) = BeginsNone c.run × BeginNone cs
 
 -- ---- how many turns are asked for
 
-abbrev pub turns_of : Command → ℕ
-turns_of (SetActive slot) = 0
-turns_of Boot = 0
-turns_of Mark = 0
-turns_of (Print name) = 0
-turns_of (Digest name) = 0
-turns_of Begin = 0
-turns_of (Create name size) = 0
-turns_of (Resize name size) = 0
-turns_of (Delete name) = 0
-turns_of (Snapshot name size) = 0
-turns_of (Flash name) = 0
-turns_of Finish = 0
-turns_of Cancel = 0
-turns_of BeginMerge = 0
-turns_of (Merge blocks) = blocks
-
 -- by a packet; to merge all is one turn more than blocks are left
 abbrev pub turns_asked : Phase → Result Asked BadCommand → ℕ
-turns_asked phase (Ok (Getvar variable)) = 0
-turns_asked phase (Ok (Download size)) = 0
 turns_asked phase (Ok (Do command)) = turns_of command
 turns_asked phase (Ok MergeAll) = left_of phase + 1
-turns_asked phase (Ok BootAndEnd) = 0
-turns_asked phase (Err bad) = 0
+turns_asked phase _ = 0
 
 -- by exchanges, one after another
 abbrev pub turns_in : Kept Mounted → List Exchange → ℕ
@@ -106,9 +63,7 @@ abbrev pub turns_by : Mounted → (whole : ℕ) → Run → ℕ
 turns_by first whole (Serves exchanges unfinished) =
     turns_in (nothing_staged first) (take whole exchanges)
 turns_by first whole (Carries command) = turns_done whole command
-turns_by first whole (Installs set) = 0
-turns_by first whole (Tells text) = 0
-turns_by first whole (Lives made next) = 0
+turns_by first whole _ = 0
 
 abbrev pub turns_by_all : Mounted → List Cut → ℕ
 turns_by_all first [] = 0

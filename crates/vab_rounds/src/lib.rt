@@ -4,4 +4,4 @@
 
 mod rounds;
 
-pub use rounds::{ends_a_merge, many_rounds, runs_are_rounds};
+pub use rounds::{chains_are_rounds, ends_a_merge, many_rounds, runs_are_rounds, stays_alone};

@@ -1,4 +1,7 @@
 //! Laws of rounds.
+ghost use Rattle.vab_rounds.specs.Alone.{RunsStayAlone};
+ghost use Rattle.vab_rounds.specs.Chains.{ChainsAreRounds, MakingBeginsRounds};
+ghost use Rattle.vab_rounds.specs.Ended.{MergesHaveEnded};
 ghost use Rattle.vab_rounds.specs.Folds.{RoundsBoot, RoundsFold, SessionsFold};
 ghost use Rattle.vab_rounds.specs.Merges.{MergesEnd};
 ghost use Rattle.vab_rounds.specs.Runs.{MakingIsRound, RunsAreRounds};
@@ -14,10 +17,19 @@ pub fn many_rounds()
     ensures boots { RoundsBoot }
 {}
 
+/// Where a slot alone has images and no update is ready, as from the begin of a merge on, it keeps
+/// them behind many rounds, or an update was ready on the way.
+pub fn stays_alone()
+    ensures { RunsStayAlone }
+{}
+
 /// However often a merge is cut, it ends once its acknowledged commands have asked for one turn
 /// more than blocks were left; the target has its images byte for byte.
 pub fn ends_a_merge()
-    ensures { MergesEnd }
+    // At some moment, counted from any moment of the merge on, whatever the runs do behind it.
+    ensures ended { MergesHaveEnded }
+    // In the end, where no run begins an update or ends its installation.
+    ensures last { MergesEnd }
 {}
 
 /// What `run` promises, for any words, of a run that is cut: it is a round. Where a device is made
@@ -25,4 +37,12 @@ pub fn ends_a_merge()
 pub fn runs_are_rounds<P: Port>()
     ensures runs { RunsAreRounds P.Disk }
     ensures making { MakingIsRound P.Disk }
+{}
+
+/// Runs of the program, for any words and each begun on what a cut of power left of the one before,
+/// are rounds, so that all that is said of rounds holds of them. Where the first one makes a device
+/// they are rounds of that device, or it was cut before its last gate.
+pub fn chains_are_rounds<P: Port>()
+    ensures runs { ChainsAreRounds P.Disk }
+    ensures making { MakingBeginsRounds P.Disk }
 {}

@@ -1,132 +1,162 @@
--- What is read of a store's list, area after area.
-use Rattle.std.proofs.Common.{◌≡◌, inl, inr, ℕ, ◌+◌, ◌-◌, ◌*◌, ◌/◌, ◌%◌, ◌≤◌, ◌<◌, List, ◌++◌, length, take, get_or, refl, sym, ◌∙◌, ap, subst, arith, false, cond, length-append, length-take-le}
-use Rattle.std.specs.Prelude.{nat_lt, Some, Result, Ok, Err, IfOk, IsErrOf}
-use Rattle.std.proofs.lemmas.Bool.{cases_lt, lt-ltb, le-ltb}
+-- What is read of a store's list, page after page.
+use Rattle.std.proofs.Common.{◌≡◌, ◌≢◌, inl, inr, ℕ, ◌+◌, ◌-◌, ◌*◌, ◌/◌, ◌%◌, ◌≤◌, ◌<◌, List, ◌++◌}
+use Rattle.std.proofs.Common.{length, take, get_or, refl, sym, ◌∙◌, ap, subst, arith, false, cond}
+use Rattle.std.proofs.Common.{length-append, length-take-le}
+use Rattle.std.specs.Prelude.{nat_lt, Option, Some, Result, Ok, Err, IfOk, IsErrOf}
+use Rattle.std.proofs.lemmas.Bool.{cases_lt, lt-ltb, le-ltb, ne_eqb}
 use Rattle.std.proofs.lemmas.List.{get_or_append_left, get_or-append_right, get_or-take}
 use Rattle.vab_disk.specs.Disk.{Image}
 use Rattle.vab_disk.specs.declared.disk.Disk.{Ghosts}
+use Rattle.vab_space.specs.declared.Chunk.{Chunk}
+use Rattle.vab_space.specs.Chunks.{blocks_in, chunks_for, page_block}
+use Rattle.vab_space.proofs.ChunkLaws.{pages_enough, same_size}
 use Rattle.vab_exceptions.specs.declared.area.Exception.{Exception}
 use Rattle.vab_exceptions.specs.declared.header.HeaderFault.{HeaderFault}
-use Rattle.vab_exceptions.specs.Entries.{area_entries, firsts, entry_at, area_of, listed, IsListed}
+use Rattle.vab_exceptions.specs.declared.header.HeaderFault.TheVariants.{BadChunk}
+use Rattle.vab_exceptions.specs.Entries.{firsts, entry_at, area_of, listed, IsListed}
 use Rattle.vab_exceptions.specs.Header.{header_of}
 use Rattle.vab_exceptions.proofs.EntryLaws.{length-firsts, get_or-firsts, firsts_same, firsts-add}
 use Rattle.vab_exceptions.proofs.EntryLaws.{take-firsts, EndsAt, listed_is, ends_at}
 use Rattle.vab_store.specs.declared.fault.StoreFault.{StoreFault}
 use Rattle.vab_store.specs.declared.fault.StoreFault.TheVariants as faults
 use Rattle.vab_store.specs.Answers.{ReadsStore}
-use Rattle.vab_store.specs.Layout.{chunks_of, chunk_bytes, area_chunk, areas_of, slot_at, slots_of}
+use Rattle.vab_store.specs.Layout.{chunks_of, chunk_bytes, pages_of, slot_at, slots_of}
 use Rattle.vab_store.specs.View.{no_exception, exception_at, Lies, Fits}
 use Rattle.vab_store.specs.Scan.{lies, list_of, good_of, repeat_of, unless_repeated, after_header}
 use Rattle.vab_store.specs.Scan.{judged, scan_of}
-use Rattle.vab_store.proofs.ScanLaws.{good_is, good_all, good_full, lies_listed, repeated_none}
+use Rattle.vab_store.proofs.ScanLaws.{header_passed, good_is, good_all, good_full, lies_listed}
+use Rattle.vab_store.proofs.ScanLaws.{repeated_none}
 use Rattle.vab_scan.specs.declared.list.End.{End}
 use Rattle.vab_scan.specs.declared.list.End.TheVariants.{Ended, Unended, Bad}
-use Rattle.vab_scan.specs.List.{AllLie, TakesTo, StepSo, EndsSo, IsFound, IsKept, HasRoom, answer_of, finished_of, IsFinished}
+use Rattle.vab_scan.specs.List.{AllLie, TakesTo, StepSo, StepsOver, EndsSo, IsFound, IsKept}
+use Rattle.vab_scan.specs.List.{HasRoom, answer_of, finished_of, IsFinished}
 
 -- ---- exceptions that are added
 
-pub lie_more : (chunks bound : ℕ) (area old new : List Exception) (n : ℕ)
-    → AllLie chunks bound old
-    → TakesTo chunks bound area old new n
-    → AllLie chunks bound new
-lie_more chunks bound area old new n lie is j below =
-    let front : length (take n area) ≡ n = length-take-le n area is.within in
+pub lie_more : (size : Chunk) (chunks bound : ℕ) (page old new : List Exception) (n : ℕ)
+    → AllLie size chunks bound old
+    → TakesTo size chunks bound page old new n
+    → AllLie size chunks bound new
+lie_more size chunks bound page old new n lie is j below =
+    let front : length (take n page) ≡ n = length-take-le n page is.within in
     let long : length new ≡ length old + n =
-    omega (arith, ap length is.new_is, length-append old (take n area), front) in
-    let read : exception_at new j ≡ get_or (old ++ take n area) j no_exception =
+    omega (arith, ap length is.new_is, length-append old (take n page), front) in
+    let read : exception_at new j ≡ get_or (old ++ take n page) j no_exception =
     ap (λ (l : List Exception). exception_at l j) is.new_is in
     elim (cases_lt j (length old)) [
       | inl before ↦
-          subst (Lies area_entries chunks bound)
-          (sym (read ∙ get_or_append_left old (take n area) no_exception j before))
+          subst (Lies size chunks bound)
+          (sym (read ∙ get_or_append_left old (take n page) no_exception j before))
           (lie j before)
       | inr behind ↦
           let i : ℕ = j - length old in
           let lt : i < n = omega (arith, below, long, behind) in
-          subst (Lies area_entries chunks bound)
+          subst (Lies size chunks bound)
           (sym (read
-          ∙ get_or-append_right old (take n area) (length old) j no_exception refl behind
-          ∙ get_or-take n area i no_exception lt))
+          ∙ get_or-append_right old (take n page) (length old) j no_exception refl behind
+          ∙ get_or-take n page i no_exception lt))
           (is.lie i lt)
     ]
 
-pub length_more : (chunks bound : ℕ) (area old new : List Exception) (n : ℕ)
-    → TakesTo chunks bound area old new n
+pub length_more : (size : Chunk) (chunks bound : ℕ) (page old new : List Exception) (n : ℕ)
+    → TakesTo size chunks bound page old new n
     → length new ≡ length old + n
-length_more chunks bound area old new n is =
+length_more size chunks bound page old new n is =
     omega (
       arith,
       ap length is.new_is,
-      length-append old (take n area),
-      length-take-le n area is.within,
+      length-append old (take n page),
+      length-take-le n page is.within,
     )
 
--- ---- the entries of an area
+-- a page has at most so many exceptions
+pub area_few : (count : ℕ) (bytes : List ℕ) → length (area_of count bytes) ≤ count
+area_few count bytes = (ends_at (entry_at bytes) count).within
 
--- the entries of a store, as those of an area
-slot_in : (map : List ℕ) (image : Image) (k i : ℕ)
+-- by the numbers that the code has
+pub steps_over : (M : Type 0) (size : Chunk) (map : List ℕ) (bound : ℕ) (image : Image) (p : ℕ)
+    (old new page : List Exception) (chunks most : ℕ) (end : Option End)
+    → (M → page ≡ area_of 256 (chunk_bytes map image (page_block size p)))
+    → length page ≤ 256
+    → chunks ≡ chunks_of size map
+    → most ≡ chunks_for size bound
+    → StepSo size chunks most page old new end
+    → StepsOver M size map bound image p old new end
+steps_over M size map bound image p old new page chunks most end is few count limit step = record {
+  page = page;
+  page_is = is;
+  few = few;
+  step =
+      subst (λ (n : ℕ). StepSo size n (chunks_for size bound) page old new end) count
+      (subst (λ (n : ℕ). StepSo size chunks n page old new end) limit step);
+}
+
+-- ---- the entries of an page
+
+-- the entries of a store, as those of an page
+slot_in : (size : Chunk) (map : List ℕ) (image : Image) (p i : ℕ)
     → i < 256
-    → slot_at area_entries map image (256 * k + i)
-    ≡ entry_at (chunk_bytes map image (area_chunk area_entries k)) i
+    → slot_at size map image (256 * p + i)
+    ≡ entry_at (chunk_bytes map image (page_block size p)) i
 unfolding slot_at
-slot_in map image k i below =
-    let which : (256 * k + i) / 256 ≡ k = omega (arith, below) in
-    let place : (256 * k + i) % 256 ≡ i = omega (arith, below) in
-    ap (λ (n : ℕ). entry_at (chunk_bytes map image (area_chunk area_entries n))
-    ((256 * k + i) % 256)) which
-    ∙ ap (λ (n : ℕ). entry_at (chunk_bytes map image (area_chunk area_entries k)) n) place
+slot_in size map image p i below =
+    let which : (256 * p + i) / 256 ≡ p = omega (arith, below) in
+    let place : (256 * p + i) % 256 ≡ i = omega (arith, below) in
+    ap (λ (n : ℕ). entry_at (chunk_bytes map image (page_block size n))
+    ((256 * p + i) % 256)) which
+    ∙ ap (λ (n : ℕ). entry_at (chunk_bytes map image (page_block size p)) n) place
 
--- as many entries as an area has exceptions
-pub area_slots : (map : List ℕ) (image : Image) (k n : ℕ) (area : List Exception)
-    → area ≡ area_of area_entries (chunk_bytes map image (area_chunk area_entries k))
-    → n ≤ length area
-    → length area ≤ 256
-    → firsts (slot_at area_entries map image) (256 * k) ++ take n area
-    ≡ firsts (slot_at area_entries map image) (256 * k + n)
-area_slots map image k n area is within few =
-    let bytes : List ℕ = chunk_bytes map image (area_chunk area_entries k) in
+-- as many entries as an page has exceptions
+pub page_slots : (size : Chunk) (map : List ℕ) (image : Image) (p n : ℕ) (page : List Exception)
+    → page ≡ area_of 256 (chunk_bytes map image (page_block size p))
+    → n ≤ length page
+    → length page ≤ 256
+    → firsts (slot_at size map image) (256 * p) ++ take n page
+    ≡ firsts (slot_at size map image) (256 * p + n)
+page_slots size map image p n page is within few =
+    let bytes : List ℕ = chunk_bytes map image (page_block size p) in
     let f : ℕ → Exception = entry_at bytes in
     let count : ℕ = length (listed (firsts f 256)) in
     let ends : EndsAt f count 256 = ends_at f 256 in
-    let whole : area ≡ firsts f count = is ∙ listed_is f count 256 ends in
-    let long : length area ≡ count = ap length is in
-    let front : take n area ≡ firsts f n =
+    let whole : page ≡ firsts f count = is ∙ listed_is f count 256 ends in
+    let long : length page ≡ count = ap length is in
+    let front : take n page ≡ firsts f n =
     ap (take n) whole ∙ take-firsts f n count (omega (arith, within, long)) in
-    let same : firsts f n ≡ firsts (λ i. slot_at area_entries map image (256 * k + i)) n =
-    firsts_same f (λ i. slot_at area_entries map image (256 * k + i)) n
-    (λ i below. sym (slot_in map image k i (omega (arith, below, within, few)))) in
-    ap (λ l. firsts (slot_at area_entries map image) (256 * k) ++ l) (front ∙ same)
-    ∙ sym (firsts-add (slot_at area_entries map image) (256 * k) n)
+    let same : firsts f n ≡ firsts (λ i. slot_at size map image (256 * p + i)) n =
+    firsts_same f (λ i. slot_at size map image (256 * p + i)) n
+    (λ i below. sym (slot_in size map image p i (omega (arith, below, within, few)))) in
+    ap (λ l. firsts (slot_at size map image) (256 * p) ++ l) (front ∙ same)
+    ∙ sym (firsts-add (slot_at size map image) (256 * p) n)
 
--- the next entry ends the list, where the area has fewer exceptions than entries
-area_ends : (map : List ℕ) (image : Image) (k : ℕ) (area : List Exception)
-    → area ≡ area_of area_entries (chunk_bytes map image (area_chunk area_entries k))
-    → length area < 256
-    → (slot_at area_entries map image (256 * k + length area)).new_chunk ≡ 0
-area_ends map image k area is few =
-    let f : ℕ → Exception = entry_at (chunk_bytes map image (area_chunk area_entries k)) in
+-- the next entry ends the list, where the page has fewer exceptions than entries
+page_ends : (size : Chunk) (map : List ℕ) (image : Image) (p : ℕ) (page : List Exception)
+    → page ≡ area_of 256 (chunk_bytes map image (page_block size p))
+    → length page < 256
+    → (slot_at size map image (256 * p + length page)).new_chunk ≡ 0
+page_ends size map image p page is few =
+    let f : ℕ → Exception = entry_at (chunk_bytes map image (page_block size p)) in
     let count : ℕ = length (listed (firsts f 256)) in
     let ends : EndsAt f count 256 = ends_at f 256 in
-    let long : length area ≡ count = ap length is in
-    ap (λ (e : Exception). e.new_chunk) (slot_in map image k (length area) few)
+    let long : length page ≡ count = ap length is in
+    ap (λ (e : Exception). e.new_chunk) (slot_in size map image p (length page) few)
     ∙ ap (λ (n : ℕ). (f n).new_chunk) long
     ∙ ends.here (omega (arith, long, few))
 
--- the next entry is the area's next exception
-area_next : (map : List ℕ) (image : Image) (k n : ℕ) (area : List Exception)
-    → area ≡ area_of area_entries (chunk_bytes map image (area_chunk area_entries k))
-    → n < length area
-    → length area ≤ 256
-    → (slot_at area_entries map image (256 * k + n) ≡ exception_at area n)
-    × IsListed (slot_at area_entries map image (256 * k + n))
-area_next map image k n area is below few =
-    let f : ℕ → Exception = entry_at (chunk_bytes map image (area_chunk area_entries k)) in
+-- the next entry is the page's next exception
+page_next : (size : Chunk) (map : List ℕ) (image : Image) (p n : ℕ) (page : List Exception)
+    → page ≡ area_of 256 (chunk_bytes map image (page_block size p))
+    → n < length page
+    → length page ≤ 256
+    → (slot_at size map image (256 * p + n) ≡ exception_at page n)
+    × IsListed (slot_at size map image (256 * p + n))
+page_next size map image p n page is below few =
+    let f : ℕ → Exception = entry_at (chunk_bytes map image (page_block size p)) in
     let count : ℕ = length (listed (firsts f 256)) in
     let ends : EndsAt f count 256 = ends_at f 256 in
-    let whole : area ≡ firsts f count = is ∙ listed_is f count 256 ends in
+    let whole : page ≡ firsts f count = is ∙ listed_is f count 256 ends in
     let lt : n < count = omega (arith, below, ap length is) in
-    let slot : slot_at area_entries map image (256 * k + n) ≡ f n =
-    slot_in map image k n (omega (arith, below, few)) in (
+    let slot : slot_at size map image (256 * p + n) ≡ f n =
+    slot_in size map image p n (omega (arith, below, few)) in (
       slot
           ∙ sym (ap (λ (l : List Exception). exception_at l n) whole
           ∙ get_or-firsts f count n no_exception lt),
@@ -135,82 +165,89 @@ area_next map image k n area is below few =
 
 -- ---- what is found
 
-record IsRead (map : List ℕ) (bound : ℕ) (image : Image) (es : List Exception)
+record IsRead (size : Chunk) (map : List ℕ) (bound : ℕ) (image : Image) (es : List Exception)
     (n : ℕ) : Type 0 where
-  read : es ≡ firsts (slot_at area_entries map image) n
-  lie : AllLie (chunks_of map) bound es
+  read : es ≡ firsts (slot_at size map image) n
+  lie : AllLie size (chunks_of size map) (chunks_for size bound) es
 
-slots_listed : (map : List ℕ) (bound : ℕ) (image : Image) (es : List Exception) (n : ℕ)
-    → IsRead map bound image es n
+slots_listed : (size : Chunk) (map : List ℕ) (bound : ℕ) (image : Image) (es : List Exception)
+    (n : ℕ)
+    → IsRead size map bound image es n
     → (t : ℕ)
     → t < n
-    → IsListed (slot_at area_entries map image t)
-slots_listed map bound image es n is t below =
-    let f : ℕ → Exception = slot_at area_entries map image in
+    → IsListed (slot_at size map image t)
+slots_listed size map bound image es n is t below =
+    let f : ℕ → Exception = slot_at size map image in
     let long : length es ≡ n = ap length is.read ∙ length-firsts f n in
     let read : exception_at es t ≡ f t =
     ap (λ (l : List Exception). exception_at l t) is.read
     ∙ get_or-firsts f n t no_exception below in
     subst IsListed read
-    (lies_listed (chunks_of map) bound (exception_at es t) (is.lie t (omega (arith, below, long))))
+    (lies_listed size (chunks_of size map) (chunks_for size bound) (exception_at es t)
+    (is.lie t (omega (arith, below, long))))
 
 -- the list ends behind these
-list_ended : (map : List ℕ) (bound : ℕ) (image : Image) (es : List Exception) (n : ℕ)
-    → IsRead map bound image es n
-    → n ≤ slots_of area_entries map
-    → (n < slots_of area_entries map → (slot_at area_entries map image n).new_chunk ≡ 0)
-    → list_of map image ≡ es
+list_ended : (size : Chunk) (map : List ℕ) (bound : ℕ) (image : Image) (es : List Exception) (n : ℕ)
+    → IsRead size map bound image es n
+    → n ≤ slots_of size map
+    → (n < slots_of size map → (slot_at size map image n).new_chunk ≡ 0)
+    → list_of size map image ≡ es
 unfolding list_of
-list_ended map bound image es n is within stops =
-    listed_is (slot_at area_entries map image) n (slots_of area_entries map)
-    (record { within = within; before = slots_listed map bound image es n is; here = stops })
+list_ended size map bound image es n is within stops =
+    listed_is (slot_at size map image) n (slots_of size map)
+    (record { within = within; before = slots_listed size map bound image es n is; here = stops })
     ∙ sym is.read
 
-pub found_ended : (map : List ℕ) (bound : ℕ) (image : Image) (es : List Exception) (n : ℕ)
-    → es ≡ firsts (slot_at area_entries map image) n
-    → AllLie (chunks_of map) bound es
-    → n < slots_of area_entries map
-    → (slot_at area_entries map image n).new_chunk ≡ 0
-    → IsFound map bound image es Ended
-found_ended map bound image es n read lie within stops =
-    let is : IsRead map bound image es n = record { read = read; lie = lie } in
-    let list : list_of map image ≡ es =
-    list_ended map bound image es n is (omega (arith, within)) (λ below. stops) in
-    let long : length es ≡ n = ap length read ∙ length-firsts (slot_at area_entries map image) n in
-    let same : length (list_of map image) ≡ length es = ap length list in
+pub found_ended : (size : Chunk) (map : List ℕ) (bound : ℕ) (image : Image) (es : List Exception)
+    (n : ℕ)
+    → es ≡ firsts (slot_at size map image) n
+    → AllLie size (chunks_of size map) (chunks_for size bound) es
+    → n < slots_of size map
+    → (slot_at size map image n).new_chunk ≡ 0
+    → IsFound size map bound image es Ended
+found_ended size map bound image es n read lie within stops =
+    let is : IsRead size map bound image es n = record { read = read; lie = lie } in
+    let list : list_of size map image ≡ es =
+    list_ended size map bound image es n is (omega (arith, within)) (λ below. stops) in
+    let long : length es ≡ n = ap length read ∙ length-firsts (slot_at size map image) n in
+    let same : length (list_of size map image) ≡ length es = ap length list in
     record {
-      good = sym (ap (good_of (chunks_of map) bound) list ∙ good_all (chunks_of map) bound es lie);
+      good = sym (ap (good_of size (chunks_of size map) (chunks_for size bound)) list
+          ∙ good_all size (chunks_of size map) (chunks_for size bound) es lie);
       ending = (omega (arith, same), omega (arith, same, long, within));
     }
 
-pub found_unended : (map : List ℕ) (bound : ℕ) (image : Image) (es : List Exception)
-    → es ≡ firsts (slot_at area_entries map image) (slots_of area_entries map)
-    → AllLie (chunks_of map) bound es
-    → IsFound map bound image es Unended
-found_unended map bound image es read lie =
-    let n : ℕ = slots_of area_entries map in
-    let is : IsRead map bound image es n = record { read = read; lie = lie } in
-    let list : list_of map image ≡ es =
-    list_ended map bound image es n is (omega arith) (λ below. absurd (omega (arith, below))) in
-    let long : length es ≡ n = ap length read ∙ length-firsts (slot_at area_entries map image) n in
-    let same : length (list_of map image) ≡ length es = ap length list in
+pub found_unended : (size : Chunk) (map : List ℕ) (bound : ℕ) (image : Image) (es : List Exception)
+    → es ≡ firsts (slot_at size map image) (slots_of size map)
+    → AllLie size (chunks_of size map) (chunks_for size bound) es
+    → IsFound size map bound image es Unended
+found_unended size map bound image es read lie =
+    let n : ℕ = slots_of size map in
+    let is : IsRead size map bound image es n = record { read = read; lie = lie } in
+    let list : list_of size map image ≡ es =
+    list_ended size map bound image es n is (omega arith)
+    (λ below. absurd (omega (arith, below))) in
+    let long : length es ≡ n = ap length read ∙ length-firsts (slot_at size map image) n in
+    let same : length (list_of size map image) ≡ length es = ap length list in
     record {
-      good = sym (ap (good_of (chunks_of map) bound) list ∙ good_all (chunks_of map) bound es lie);
+      good = sym (ap (good_of size (chunks_of size map) (chunks_for size bound)) list
+          ∙ good_all size (chunks_of size map) (chunks_for size bound) es lie);
       ending = (omega (arith, same), omega (arith, same, long));
     }
 
-pub found_bad : (map : List ℕ) (bound : ℕ) (image : Image) (es : List Exception) (n : ℕ)
-    → es ≡ firsts (slot_at area_entries map image) n
-    → AllLie (chunks_of map) bound es
-    → n < slots_of area_entries map
-    → IsListed (slot_at area_entries map image n)
-    → lies (chunks_of map) bound (slot_at area_entries map image n) ≡ false
-    → IsFound map bound image es Bad
+pub found_bad : (size : Chunk) (map : List ℕ) (bound : ℕ) (image : Image) (es : List Exception)
+    (n : ℕ)
+    → es ≡ firsts (slot_at size map image) n
+    → AllLie size (chunks_of size map) (chunks_for size bound) es
+    → n < slots_of size map
+    → IsListed (slot_at size map image n)
+    → lies size (chunks_of size map) (chunks_for size bound) (slot_at size map image n) ≡ false
+    → IsFound size map bound image es Bad
 unfolding list_of
-found_bad map bound image es n read lie within on bad =
-    let f : ℕ → Exception = slot_at area_entries map image in
-    let slots : ℕ = slots_of area_entries map in
-    let is : IsRead map bound image es n = record { read = read; lie = lie } in
+found_bad size map bound image es n read lie within on bad =
+    let f : ℕ → Exception = slot_at size map image in
+    let slots : ℕ = slots_of size map in
+    let is : IsRead size map bound image es n = record { read = read; lie = lie } in
     let l : List Exception = listed (firsts f slots) in
     let ends : EndsAt f (length l) slots = ends_at f slots in
     let whole : l ≡ firsts f (length l) = listed_is f (length l) slots ends in
@@ -219,7 +256,7 @@ found_bad map bound image es n read lie within on bad =
       | inl lt ↦ lt
       | inr le ↦ elim (cases_lt (length l) n) [
         | inl lt ↦
-            absurd (slots_listed map bound image es n is (length l) lt
+            absurd (slots_listed size map bound image es n is (length l) lt
             (ends.here (omega (arith, lt, within))))
         | inr other ↦
             let same : n ≡ length l = omega (arith, le, other) in
@@ -239,116 +276,124 @@ found_bad map bound image es n read lie within on bad =
           read
           ∙ sym (take-firsts f n (length l) (omega (arith, more)))
           ∙ ap (take n) (sym whole)
-          ∙ sym (good_is (chunks_of map) bound l n (omega (arith, more))
+          ∙ sym (good_is size (chunks_of size map) (chunks_for size bound) l n (omega (arith, more))
           (λ j below.
-          subst (Lies area_entries (chunks_of map) bound)
+          subst (Lies size (chunks_of size map) (chunks_for size bound))
           (es_at j below ∙ sym (at j (omega (arith, below, more))))
           (lie j (omega (arith, below, long))))
-          (λ below. ap (lies (chunks_of map) bound) (at n more) ∙ bad));
+          (λ below. ap (lies size (chunks_of size map) (chunks_for size bound)) (at n more) ∙ bad));
       ending = omega (arith, long, more);
     }
 
--- ---- one area more
+-- ---- one page more
 
--- what is found where an area is the last
-pub found_so : (map : List ℕ) (bound : ℕ) (image : Image) (k : ℕ) (area old new : List Exception)
+-- what is found where an page is the last
+pub found_so : (size : Chunk) (map : List ℕ) (bound : ℕ) (image : Image) (p : ℕ)
+    (page old new : List Exception)
     (end : End)
-    → old ≡ firsts (slot_at area_entries map image) (256 * k)
-    → AllLie (chunks_of map) bound old
-    → k < areas_of area_entries (chunks_of map)
-    → area ≡ area_of area_entries (chunk_bytes map image (area_chunk area_entries k))
-    → length area ≤ 256
-    → StepSo (chunks_of map) bound area old new (Some end)
-    → IsFound map bound image new end
-found_so map bound image k area old new Ended read lie below is few step =
-    let n : ℕ = length area in
+    → old ≡ firsts (slot_at size map image) (256 * p)
+    → AllLie size (chunks_of size map) (chunks_for size bound) old
+    → p < pages_of size map
+    → page ≡ area_of 256 (chunk_bytes map image (page_block size p))
+    → length page ≤ 256
+    → StepSo size (chunks_of size map) (chunks_for size bound) page old new (Some end)
+    → IsFound size map bound image new end
+found_so size map bound image p page old new Ended read lie below is few step =
+    let n : ℕ = length page in
     let taken = step.0 in
-    let now : new ≡ firsts (slot_at area_entries map image) (256 * k + n) =
+    let now : new ≡ firsts (slot_at size map image) (256 * p + n) =
     taken.new_is
-    ∙ ap (λ l. l ++ take n area) read
-    ∙ area_slots map image k n area is (omega arith) few in
-    found_ended map bound image new (256 * k + n) now
-    (lie_more (chunks_of map) bound area old new n lie taken)
+    ∙ ap (λ l. l ++ take n page) read
+    ∙ page_slots size map image p n page is (omega arith) few in
+    found_ended size map bound image new (256 * p + n) now
+    (lie_more size (chunks_of size map) (chunks_for size bound) page old new n lie taken)
     (omega (arith, below, step.1))
-    (area_ends map image k area is step.1)
-found_so map bound image k area old new Unended read lie below is few step = absurd step
-found_so map bound image k area old new Bad read lie below is few step =
+    (page_ends size map image p page is step.1)
+found_so size map bound image p page old new Unended read lie below is few step = absurd step
+found_so size map bound image p page old new Bad read lie below is few step =
     let n : ℕ = step.0 in
     let taken = step.1 in
-    let next = area_next map image k n area is step.2 few in
-    let now : new ≡ firsts (slot_at area_entries map image) (256 * k + n) =
+    let next = page_next size map image p n page is step.2 few in
+    let now : new ≡ firsts (slot_at size map image) (256 * p + n) =
     taken.new_is
-    ∙ ap (λ l. l ++ take n area) read
-    ∙ area_slots map image k n area is taken.within few in
-    found_bad map bound image new (256 * k + n) now
-    (lie_more (chunks_of map) bound area old new n lie taken)
+    ∙ ap (λ l. l ++ take n page) read
+    ∙ page_slots size map image p n page is taken.within few in
+    found_bad size map bound image new (256 * p + n) now
+    (lie_more size (chunks_of size map) (chunks_for size bound) page old new n lie taken)
     (omega (arith, below, step.2, few))
     next.1
-    (ap (lies (chunks_of map) bound) next.0 ∙ step.3)
+    (ap (lies size (chunks_of size map) (chunks_for size bound)) next.0 ∙ step.3)
 
-pub kept_so : (map : List ℕ) (bound k : ℕ) (area old new : List Exception) (end : End)
-    → length old ≡ 256 * k
-    → AllLie (chunks_of map) bound old
-    → k < areas_of area_entries (chunks_of map)
-    → StepSo (chunks_of map) bound area old new (Some end)
-    → IsKept map bound new end
-kept_so map bound k area old new Ended long lie below step = record {
-  lie = lie_more (chunks_of map) bound area old new (length area) lie step.0;
+pub kept_so : (size : Chunk) (map : List ℕ) (bound p : ℕ) (page old new : List Exception)
+    (end : End)
+    → length old ≡ 256 * p
+    → AllLie size (chunks_of size map) (chunks_for size bound) old
+    → p < pages_of size map
+    → StepSo size (chunks_of size map) (chunks_for size bound) page old new (Some end)
+    → IsKept size map bound new end
+kept_so size map bound p page old new Ended long lie below step = record {
+  lie = lie_more size (chunks_of size map) (chunks_for size bound) page old new (length page) lie
+      step.0;
   room = omega (
     arith,
-    length_more (chunks_of map) bound area old new (length area) step.0,
+    length_more size (chunks_of size map) (chunks_for size bound) page old new (length page) step.0,
     long,
     below,
     step.1,
   );
 }
-kept_so map bound k area old new Unended long lie below step = absurd step
-kept_so map bound k area old new Bad long lie below step = record {
-  lie = lie_more (chunks_of map) bound area old new step.0 lie step.1;
+kept_so size map bound p page old new Unended long lie below step = absurd step
+kept_so size map bound p page old new Bad long lie below step = record {
+  lie = lie_more size (chunks_of size map) (chunks_for size bound) page old new step.0 lie step.1;
   room = tt;
 }
 
 -- ---- the answer
 
-pub scan_short : (map : List ℕ) (bound : ℕ) (image : Image)
+pub scan_short : (size : Chunk) (map : List ℕ) (bound : ℕ) (image : Image)
     → length map < 2
-    → scan_of map bound image ≡ Err faults.Unended
+    → scan_of size map bound image ≡ Err faults.Unended
 unfolding scan_of
-scan_short map bound image few =
+scan_short size map bound image few =
     let rest : Result (List Exception) StoreFault =
-    after_header (header_of (take 512 (chunk_bytes map image 0)))
-    (judged (chunks_of map) bound (slots_of area_entries map) (list_of map image)) in
+    after_header size (header_of (take 512 (chunk_bytes map image 0)))
+    (judged size (chunks_of size map) (chunks_for size bound) (slots_of size map)
+    (list_of size map image)) in
     ap (λ b. cond b (Err faults.Unended) rest) (lt-ltb (length map) 2 few)
 
-scan_long : (map : List ℕ) (bound : ℕ) (image : Image)
+scan_long : (size : Chunk) (map : List ℕ) (bound : ℕ) (image : Image)
     → 2 ≤ length map
-    → scan_of map bound image
-    ≡ after_header (header_of (take 512 (chunk_bytes map image 0)))
-    (judged (chunks_of map) bound (slots_of area_entries map) (list_of map image))
+    → scan_of size map bound image
+    ≡ after_header size (header_of (take 512 (chunk_bytes map image 0)))
+    (judged size (chunks_of size map) (chunks_for size bound) (slots_of size map)
+    (list_of size map image))
 unfolding scan_of
-scan_long map bound image enough =
+scan_long size map bound image enough =
     let rest : Result (List Exception) StoreFault =
-    after_header (header_of (take 512 (chunk_bytes map image 0)))
-    (judged (chunks_of map) bound (slots_of area_entries map) (list_of map image)) in
+    after_header size (header_of (take 512 (chunk_bytes map image 0)))
+    (judged size (chunks_of size map) (chunks_for size bound) (slots_of size map)
+    (list_of size map image)) in
     ap (λ b. cond b (Err faults.Unended) rest) (le-ltb (length map) 2 enough)
 
-pub scan_header : (map : List ℕ) (bound : ℕ) (image : Image) (bytes : List ℕ) (fault : HeaderFault)
+pub scan_header : (size : Chunk) (map : List ℕ) (bound : ℕ) (image : Image) (bytes : List ℕ)
+    (fault : HeaderFault)
     → 2 ≤ length map
     → bytes ≡ take 512 (chunk_bytes map image 0)
     → Err fault ≡ header_of bytes
-    → scan_of map bound image ≡ Err (faults.Header fault)
-scan_header map bound image bytes fault enough is header =
+    → scan_of size map bound image ≡ Err (faults.Header fault)
+scan_header size map bound image bytes fault enough is header =
     let rest : Result (List Exception) StoreFault =
-    judged (chunks_of map) bound (slots_of area_entries map) (list_of map image) in
-    scan_long map bound image enough
-    ∙ ap (λ h. after_header h rest) (ap header_of (sym is) ∙ sym header)
+    judged size (chunks_of size map) (chunks_for size bound) (slots_of size map)
+    (list_of size map image) in
+    scan_long size map bound image enough
+    ∙ ap (λ h. after_header size h rest) (ap header_of (sym is) ∙ sym header)
 
-judged_so : (chunks bound slots : ℕ) (good l : List Exception) (end : End)
-    → good ≡ good_of chunks bound l
+judged_so : (size : Chunk) (chunks bound slots : ℕ) (good l : List Exception) (end : End)
+    → good ≡ good_of size chunks bound l
     → EndsSo slots good l end
-    → judged chunks bound slots l ≡ finished_of good end
+    → judged size chunks bound slots l ≡ finished_of good end
 unfolding judged
-judged_so chunks bound slots good l end is ending =
+judged_so size chunks bound slots good l end is ending =
     ap
     (λ g. unless_repeated (repeat_of g)
     (cond (nat_lt (length g) (length l)) (Err (faults.BadChunk (length g)))
@@ -358,8 +403,8 @@ judged_so chunks bound slots good l end is ending =
   where
     whole : length l ≤ length good → l ≡ good
     whole all =
-        let fits : good_of chunks bound l ≡ l =
-        good_full chunks bound l (omega (arith, all, ap length is)) in
+        let fits : good_of size chunks bound l ≡ l =
+        good_full size chunks bound l (omega (arith, all, ap length is)) in
         sym (is ∙ fits)
 
     answered : (end : End)
@@ -375,36 +420,63 @@ judged_so chunks bound slots good l end is ending =
         rw (le-ltb (length good) (length l) both.0)
         (rw (le-ltb (length l) slots both.1) refl)
 
-pub scan_finished : (map : List ℕ) (bound : ℕ) (image : Image) (bytes : List ℕ)
+-- a header of another size
+pub scan_other : (size told : Chunk) (map : List ℕ) (bound : ℕ) (image : Image) (bytes : List ℕ)
+    → 2 ≤ length map
+    → bytes ≡ take 512 (chunk_bytes map image 0)
+    → Ok told ≡ header_of bytes
+    → blocks_in told ≢ blocks_in size
+    → scan_of size map bound image ≡ Err (faults.Header BadChunk)
+scan_other size told map bound image bytes enough is header other =
+    let rest : Result (List Exception) StoreFault =
+    judged size (chunks_of size map) (chunks_for size bound) (slots_of size map)
+    (list_of size map image) in
+    scan_long size map bound image enough
+    ∙ ap (λ h. after_header size h rest) (ap header_of (sym is) ∙ sym header)
+    ∙ ap (λ b. cond b rest (Err (faults.Header BadChunk)))
+    (ne_eqb (blocks_in told) (blocks_in size) other)
+
+-- one of the same size
+pub scan_passed : (size told : Chunk) (bytes : List ℕ)
+    → Ok told ≡ header_of bytes
+    → blocks_in told ≡ blocks_in size
+    → Ok size ≡ header_of bytes
+scan_passed size told bytes header same =
+    ap (λ (k : Chunk). Ok k) (sym (same_size told size same)) ∙ header
+
+pub scan_finished : (size : Chunk) (map : List ℕ) (bound : ℕ) (image : Image) (bytes : List ℕ)
     (es : List Exception) (end : End)
     → 2 ≤ length map
     → bytes ≡ take 512 (chunk_bytes map image 0)
-    → Ok tt ≡ header_of bytes
-    → IsFound map bound image es end
-    → scan_of map bound image ≡ finished_of es end
-scan_finished map bound image bytes es end enough is header found =
+    → Ok size ≡ header_of bytes
+    → IsFound size map bound image es end
+    → scan_of size map bound image ≡ finished_of es end
+scan_finished size map bound image bytes es end enough is header found =
     let rest : Result (List Exception) StoreFault =
-    judged (chunks_of map) bound (slots_of area_entries map) (list_of map image) in
-    scan_long map bound image enough
-    ∙ ap (λ h. after_header h rest) (ap header_of (sym is) ∙ sym header)
-    ∙ judged_so (chunks_of map) bound (slots_of area_entries map) es (list_of map image) end
+    judged size (chunks_of size map) (chunks_for size bound) (slots_of size map)
+    (list_of size map image) in
+    scan_long size map bound image enough
+    ∙ ap (λ h. after_header size h rest) (ap header_of (sym is) ∙ sym header)
+    ∙ header_passed size rest
+    ∙ judged_so size (chunks_of size map) (chunks_for size bound) (slots_of size map) es
+    (list_of size map image) end
     found.good found.ending
 
 -- over every disk
-pub finished_fits : (map : List ℕ) (bound : ℕ) (es view : List Exception) (end : End)
+pub finished_fits : (size : Chunk) (map : List ℕ) (bound : ℕ) (es view : List Exception) (end : End)
     → 2 ≤ length map
-    → IsKept map bound es end
+    → IsKept size map bound es end
     → IsFinished es end view
-    → Fits bound map view
-finished_fits map bound es view end enough kept is =
-    let room : HasRoom map es Ended = subst (HasRoom map es) is.ended kept.room in
-    let of_list : Fits bound map es = record {
-      chunks = enough;
+    → Fits size bound map view
+finished_fits size map bound es view end enough kept is =
+    let room : HasRoom size map es Ended = subst (HasRoom size map es) is.ended kept.room in
+    let of_list : Fits size bound map es = record {
+      chunks = pages_enough size (length map) (omega (arith, room));
       room = room;
       lie = kept.lie;
       once = repeated_none es is.once;
     } in
-    subst (Fits bound map) (sym is.same) of_list
+    subst (Fits size bound map) (sym is.same) of_list
 
 pub reads_steady : {D X : Type 0} (g : Ghosts D) (old new : D) (r : Result X StoreFault)
     → (IsErrOf r faults.DiskFault → ⊥)
@@ -418,12 +490,12 @@ reads_steady g old new (Err (faults.BadChunk j)) never same = same
 reads_steady g old new (Err (faults.Repeated j k)) never same = same
 reads_steady g old new (Err faults.Unended) never same = same
 
-pub answer_fits : (map : List ℕ) (bound : ℕ) (es : List Exception) (end : End)
+pub answer_fits : (size : Chunk) (map : List ℕ) (bound : ℕ) (es : List Exception) (end : End)
     (r : Result (List Exception) StoreFault)
     → 2 ≤ length map
-    → IsKept map bound es end
+    → IsKept size map bound es end
     → IfOk r (IsFinished es end)
-    → IfOk r (Fits bound map)
-answer_fits map bound es end (Ok view) enough kept is =
-    finished_fits map bound es view end enough kept is
-answer_fits map bound es end (Err fault) enough kept is = tt
+    → IfOk r (Fits size bound map)
+answer_fits size map bound es end (Ok view) enough kept is =
+    finished_fits size map bound es view end enough kept is
+answer_fits size map bound es end (Err fault) enough kept is = tt

@@ -11,9 +11,10 @@ ghost use Rattle.vab_scan.specs.List.{finished_of, IsFinished};
 use crate::list::{End, Found, read_list};
 use std::alloc::Global;
 use vab_disk::Disk;
-use vab_exceptions::decode_store_header;
+use vab_exceptions::{HeaderFault, decode_store_header};
 use vab_gate::{DiskFault, SECTOR};
 use vab_linear::{Map, read_at};
+use vab_space::Chunk;
 use vab_store::{StoreFault, StoreView};
 
 fn first_sector(block: &[u8; 4096]) -> [u8; 512]
@@ -55,17 +56,20 @@ fn finish(alloc: Global, found: Found) -> Result<StoreView, StoreFault>
     }
 }
 
-/// The exceptions of the store on these blocks, or where it has none the first fault. An old chunk
-/// has to be below `blocks`, the length of the partition that the store is for.
+/// The exceptions of the store on these blocks, whose chunks have this size, or where it has none
+/// the first fault. An old chunk has to be one of those in which the first `blocks` blocks stand:
+/// so long is the partition that the store is for.
 pub fn scan<D: Disk>(
     alloc: Global,
     d: &mut D,
     map: &Map,
     blocks: u64,
+    chunk: Chunk,
 ) -> Result<StoreView, StoreFault>
     requires { IsOnDisk map.now (D.size d.old) }
-    ensures answers { D.is_modelled → Answers result (scan_of map.now blocks (D.seen d.old)) }
-    ensures fits { IfOk result (Fits blocks map.now) }
+    ensures answers { D.is_modelled → Answers result
+        (scan_of chunk map.now blocks (D.seen d.old)) }
+    ensures fits { IfOk result (Fits chunk blocks map.now) }
     ensures reads { OnlyReads D.Disk d.old d.new }
     ensures faults { ReadsStore D.Disk d.old d.new result }
 {
@@ -76,10 +80,15 @@ pub fn scan<D: Disk>(
         Err(DiskFault) => Err(StoreFault::DiskFault),
         Ok(header) => match decode_store_header(&header) {
             Err(fault) => Err(StoreFault::Header(fault)),
-            Ok(()) => match read_list(alloc, d, map, blocks) {
-                Err(fault) => Err(fault),
-                Ok(found) => finish(alloc, found),
-            },
+            Ok(told) => {
+                if told.blocks() != chunk.blocks() {
+                    return Err(StoreFault::Header(HeaderFault::BadChunk));
+                }
+                match read_list(alloc, d, map, chunk, blocks) {
+                    Err(fault) => Err(fault),
+                    Ok(found) => finish(alloc, found),
+                }
+            }
         },
     }
 }

@@ -1,12 +1,11 @@
 -- Where one slot alone has images and no update is ready, it stays so until an installation is
 -- finished.
-use Rattle.std.proofs.Common.{◌≡◌, ◌∙◌, ℕ, zero, suc, ◌<◌, ◌≤◌, inl, inr, Bool, true, false, cond}
-use Rattle.std.proofs.Common.{List, [], ◌∷◌, ◌++◌, length, drop, codes, Option, Some, None, Result}
+use Rattle.std.proofs.Common.{◌≡◌, ◌∙◌, ℕ, zero, suc, ◌<◌, inl, inr, Bool, true, false, cond}
+use Rattle.std.proofs.Common.{List, [], ◌∷◌, length, codes, Option, Some, None, Result}
 use Rattle.std.proofs.Common.{Ok, Err, refl, sym, ap, subst, arith}
 use Rattle.std.proofs.lemmas.Bool.{and_parts, cases_eq}
-use Rattle.std.proofs.lemmas.List.{append_cancel_left}
 use Rattle.std.specs.Prelude.{◌+◌, ◌*◌, is_some, ◌&&◌, nat_lt, nat_le, ◌||◌, slice_index_or}
-use Rattle.vab_disk.specs.Disk.{Image, Outcome}
+use Rattle.vab_disk.specs.Disk.{Image}
 use Rattle.vab_bootctl.specs.declared.slots.Control.{Control}
 use Rattle.vab_bootctl.specs.Boot.{info_at, IsBootable, chosen_of, booted_of}
 use Rattle.vab_bootctl.specs.Boot.{activated_of}
@@ -46,14 +45,18 @@ use Rattle.vab_fbproto.specs.Requests.{request_of}
 use Rattle.vab_fbproto.specs.declared.request.BadCommand.{BadCommand}
 use Rattle.vab_exchanges.specs.Session.{Exchange, packet, most_data}
 use Rattle.vab_exchanges.specs.Items.{Response, Kept, Item, item_by, item_still, item_asked}
-use Rattle.vab_exchanges.specs.Items.{item_download, item_of, item_open, items_of, kept_after}
+use Rattle.vab_exchanges.specs.Items.{item_download, item_of, item_open}
 use Rattle.vab_exchanges.specs.Items.{unless_refused, item_done, item_staged, no_memory}
-use Rattle.vab_exchanges.specs.Runs.{acknowledged, steps_at, CrashesWithin}
 use Rattle.vab_device.specs.Reading.{IsIn}
-use Rattle.vab_session.specs.Alone.{IsUnready, IsAlone, BootsTo, StandsAlone, is_finish}
-use Rattle.vab_session.specs.Alone.{asks_finish, FinishesNothing}
+use Rattle.vab_model.specs.Kinds.{is_finish}
+use Rattle.vab_session.specs.Alone.{IsUnready, IsAlone, BootsTo, StandsAlone}
 use Rattle.vab_session.specs.Responses.{response, left_of}
 use Rattle.vab_bootctl.proofs.BootLaws.{activated_current, marked_current}
+
+-- a packet that ends an installation
+abbrev pub asks_finish : Result Asked BadCommand → Bool
+asks_finish (Ok (Do command)) = is_finish command
+asks_finish _ = false
 
 -- ---- a boot
 
@@ -527,38 +530,6 @@ module _ (slot : ℕ) (images : List ImageOfSlot) where
   unfolding item_open
   open_alone k command is = still_alone k _ is
 
-  -- ---- sessions
-
-  later_steps : (k : Kept Mounted) (later : List Exchange) (unfinished : Option (List ℕ)) (n : ℕ)
-      → FinishesNothing later
-      → IsAlone slot images k.now
-      → AreAlone (steps_at k.now (items_of response k later unfinished) n)
-  later_steps k [] None n other is = one k.now is
-  later_steps k [] (Some command) zero other is = (open_alone k command is).steps
-  later_steps k [] (Some command) (suc n) other is = one _ (open_alone k command is).last
-  later_steps k (s ∷ ss) unfinished zero other is = (item_alone k s other.0 is).steps
-  later_steps k (s ∷ ss) unfinished (suc n) other is =
-      later_steps (item_of response k s).last ss unfinished n other.1
-      (item_alone k s other.0 is).last
-
-  -- From after these exchanges on, until an installation is finished.
-  pub alone_steps : (first : Kept Mounted) (done later : List Exchange)
-      (unfinished : Option (List ℕ))
-      → FinishesNothing later
-      → IsAlone slot images (kept_after response first done).now
-      → (n : ℕ)
-      → length done ≤ n
-      → (x : Mounted)
-      → IsOneOf (steps_at first.now (items_of response first (done ++ later) unfinished) n) x
-      → IsAlone slot images x
-  alone_steps first [] later unfinished other is n behind =
-      later_steps first later unfinished n other is
-  alone_steps first (s ∷ done) later unfinished other is zero behind =
-      absurd (omega (arith, behind))
-  alone_steps first (s ∷ done) later unfinished other is (suc n) behind =
-      alone_steps (item_of response first s).last done later unfinished other is n
-      (omega (arith, behind))
-
   -- ---- a cut of power
 
   pub stands_alone : (size : ℕ) (image : Image) (m : Mounted)
@@ -571,38 +542,3 @@ module _ (slot : ℕ) (images : List ImageOfSlot) where
     alone = alone;
     boots = alone_boots slot images m alone;
   }
-
-  -- Where that much was told, each cut of power leaves it so.
-  pub alone_cut : (size : ℕ) (first : Kept Mounted) (exchanges done later : List Exchange)
-      (unfinished : Option (List ℕ)) (told : List ℕ) (o : Outcome)
-      → CrashesWithin (IsIn size) (codes "FB01") first.now
-      (items_of response first exchanges unfinished) told o
-      → exchanges ≡ done ++ later
-      → FinishesNothing later
-      → IsAlone slot images (kept_after response first done).now
-      → (since : List ℕ)
-      → o.told ≡ told ++ since
-      → length done
-      ≤ acknowledged (items_of response first exchanges unfinished) (drop 4 since)
-      → StandsAlone size slot images o.image
-  alone_cut size first exchanges done later unfinished told o crash is other alone since told_is
-      behind =
-      let same : crash.since ≡ since =
-      append_cancel_left told crash.since since (sym crash.told_since ∙ told_is) in
-      let whole : length done
-      ≤ acknowledged (items_of response first exchanges unfinished) (drop 4 crash.since) =
-      subst (λ (l : List ℕ). length done
-      ≤ acknowledged (items_of response first exchanges unfinished) (drop 4 l)) (sym same) behind in
-      let x : Mounted = crash.step.0 in
-      let step : IsOneOf
-      (steps_at first.now (items_of response first exchanges unfinished)
-      (acknowledged (items_of response first exchanges unfinished) (drop 4 crash.since))) x =
-      crash.step.1 in
-      stands_alone size o.image x crash.step.2
-      (alone_steps first done later unfinished other alone
-      (acknowledged (items_of response first exchanges unfinished) (drop 4 crash.since))
-      whole x
-      (subst (λ (l : List Exchange). IsOneOf
-      (steps_at first.now (items_of response first l unfinished)
-      (acknowledged (items_of response first exchanges unfinished) (drop 4 crash.since))) x)
-      is step))

@@ -8,7 +8,8 @@ use Rattle.vab_disk.specs.declared.disk.Disk.{Ghosts}
 use Rattle.vab_disk.proofs.CallLaws.{changes_hearing, changes_then}
 use Rattle.vab_device.specs.declared.device.Device.{Device}
 use Rattle.vab_model.specs.Commands.{Command}
-use Rattle.vab_device.specs.Does.{Follows, KeepsSource, is_of_merge}
+use Rattle.vab_device.specs.Does.{Follows, KeepsSource}
+use Rattle.vab_model.specs.Kinds.{is_of_merge}
 use Rattle.vab_device.specs.Mounted.{Mounted}
 use Rattle.vab_device.specs.Reading.{IsIn, Represents}
 use Rattle.vab_commands.specs.Touched.{IsOfCommands, IsOfAll, ChangesBy, FollowsBy}

@@ -12,7 +12,7 @@ use Rattle.vab_disk.specs.declared.disk.Disk.{Ghosts}
 use Rattle.vab_disk.proofs.Moments.{adds_still, adds_wider}
 use Rattle.vab_model.specs.Commands.{Command}
 use Rattle.vab_model.specs.declared.command.Refusal.TheVariants.{NoMemory}
-use Rattle.vab_model.specs.Effects.{Effect, refuses, steps_of, after_of, takes_memory, may_want}
+use Rattle.vab_model.specs.Effects.{Effect, refuses, steps_of, after_of}
 use Rattle.vab_model.specs.Effects.{unless_refused as unless}
 use Rattle.vab_device.specs.Mounted.{Mounted}
 use Rattle.vab_device.specs.Does.{LeavesStep}
@@ -101,8 +101,8 @@ text_or false c e = refl
 
 -- the text of what a command does, where memory is refused to it or not
 text_refused : (refused : Bool) (c : Command) (e : Effect Mounted)
-    → (unless_refused refused (by_effect c e)).text ≡ reply_text (unless refused c e).reply
-text_refused refused c e = text_or (refused && (takes_memory c && may_want e.reply)) c e
+    → (unless_refused refused (by_effect c e)).text ≡ reply_text (unless refused e).reply
+text_refused refused c e = text_or (refused && e.wants) c e
 
 item_or : (k : Kept Mounted) (b : Bool) (c : Command) (e : Effect Mounted)
     → (let r : Response Mounted = if b then no_memory else by_effect c e in item_by k r)
@@ -114,9 +114,8 @@ item_or k false c e = refl
 -- and its item
 item_refused : (k : Kept Mounted) (refused : Bool) (c : Command) (e : Effect Mounted)
     → item_by k (unless_refused refused (by_effect c e))
-    ≡ item_by k (by_effect c (unless refused c e))
-item_refused k refused c e =
-    item_or k (refused && (takes_memory c && may_want e.reply)) c e
+    ≡ item_by k (by_effect c (unless refused e))
+item_refused k refused c e = item_or k (refused && e.wants) c e
 
 -- a step of a command, with nothing told of it
 leaves_step : (size : ℕ) (k : Kept Mounted) (c : Command) (e : Effect Mounted) (told : List ℕ)
@@ -154,9 +153,9 @@ module _ {D : Type 0}
     (time : IsAtRest g old
     → Adds g.moment g.outcomes old mid
     (LeavesStep (g.told old) size
-    (steps_of k.now (unless refused c (effect_on k.now k.staged c))))) where
+    (steps_of k.now (unless refused (effect_on k.now k.staged c))))) where
   abbrev done : Effect Mounted
-  done = unless refused c (effect_on k.now k.staged c)
+  done = unless refused (effect_on k.now k.staged c)
 
   abbrev answer : Response Mounted
   answer = unless_refused refused (response k.now k.staged asked)

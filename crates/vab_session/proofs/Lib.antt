@@ -1,4 +1,5 @@
 pub mod AloneLaws
+pub mod StandLaws
 mod Changing
 mod Data
 mod Endings

@@ -1,14 +1,14 @@
 -- In whose place want of memory may be told: short replies, and none that is told as that.
-use Rattle.std.proofs.Common.{◌≡◌, ◌≢◌, ℕ, ◌≤◌, Bool, true, false, List, length, codes, decimal}
+use Rattle.std.proofs.Common.{◌≡◌, ◌≢◌, ℕ, ◌≤◌, true, List, length, codes, decimal}
 use Rattle.std.proofs.Common.{Option, Result, Ok, Err, arith, length-append, ap, get_or, ◌++◌}
-use Rattle.std.specs.Prelude.{◌+◌, ◌&&◌}
+use Rattle.std.specs.Prelude.{◌+◌}
 use Rattle.vab_model.specs.declared.command.Refusal.TheVariants as refusals
 use Rattle.vab_model.specs.declared.command.Reply.{Reply}
 use Rattle.vab_model.specs.declared.command.Reply.TheVariants as replies
 use Rattle.vab_model.specs.Commands.{Command, Boot, Merge}
-use Rattle.vab_model.specs.Effects.{takes_memory, may_want}
 use Rattle.vab_device.specs.Mounted.{Mounted}
 use Rattle.vab_device.specs.Updates.{effect_on}
+use Rattle.vab_device.proofs.WantLaws.{is_wanted, wants_told}
 use Rattle.vab_fbproto.specs.Requests.{Asked, Getvar, Download, Do, MergeAll, BootAndEnd}
 use Rattle.vab_fbproto.specs.Texts.{share, refusal_text, reply_text}
 use Rattle.vab_fbproto.specs.declared.request.BadCommand.{BadCommand}
@@ -41,40 +41,9 @@ short_share head between unit one other =
       decimal_short other,
     )
 
-short_reply : (reply : Reply) → may_want reply ≡ true → length (reply_text reply) ≤ 256
+short_reply : (reply : Reply) → is_wanted reply ≡ true → length (reply_text reply) ≤ 256
 unfolding reply_text refusal_text
 short_reply replies.Done may = omega arith
-short_reply (replies.Booted slot) may = absurd cc
-short_reply (replies.Bytes name) may = absurd cc
-short_reply (replies.Digest sum) may = absurd cc
-short_reply (replies.Left blocks) may = absurd cc
-short_reply replies.Merged may = absurd cc
-short_reply (replies.Refused refusals.NotIdle) may = absurd cc
-short_reply (replies.Refused refusals.NotInstalling) may = absurd cc
-short_reply (replies.Refused refusals.NotStaged) may = absurd cc
-short_reply (replies.Refused refusals.NotMerging) may = absurd cc
-short_reply (replies.Refused refusals.NothingToCancel) may = absurd cc
-short_reply (replies.Refused refusals.Merging) may = absurd cc
-short_reply (replies.Refused refusals.RunningTarget) may = absurd cc
-short_reply (replies.Refused refusals.NotRunningTarget) may = absurd cc
-short_reply (replies.Refused refusals.NotSuccessful) may = absurd cc
-short_reply (replies.Refused refusals.BadName) may = absurd cc
-short_reply (replies.Refused refusals.BadSize) may = absurd cc
-short_reply (replies.Refused refusals.Unknown) may = absurd cc
-short_reply (replies.Refused refusals.Exists) may = absurd cc
-short_reply (replies.Refused refusals.HasStore) may = absurd cc
-short_reply (replies.Refused refusals.NoStore) may = absurd cc
-short_reply (replies.Refused refusals.Written) may = absurd cc
-short_reply (replies.Refused refusals.NothingStaged) may = absurd cc
-short_reply (replies.Refused refusals.Sparse) may = absurd cc
-short_reply (replies.Refused refusals.TooMany) may = absurd cc
-short_reply (replies.Refused refusals.NoImages) may = absurd cc
-short_reply (replies.Refused refusals.NoMemory) may = absurd cc
-short_reply (replies.Refused (refusals.Incomplete name)) may = absurd cc
-short_reply (replies.Refused (refusals.TooLarge one other)) may = absurd cc
-short_reply (replies.Refused (refusals.GroupLimit one other)) may = absurd cc
-short_reply (replies.Refused (refusals.NoRoom one other)) may = absurd cc
-short_reply (replies.Refused (refusals.StoreFull one other)) may = absurd cc
 short_reply (replies.Refused (refusals.TableFull one other)) may =
     let text = share (codes "table full: ") one (codes " of ") other (codes " bytes") in
     omega (
@@ -82,58 +51,26 @@ short_reply (replies.Refused (refusals.TableFull one other)) may =
       length-append (codes "FAIL") text,
       short_share (codes "table full: ") (codes " of ") (codes " bytes") one other,
     )
+short_reply (replies.Refused _) may = absurd cc
+short_reply _ may = absurd cc
 
 -- ---- none is told as want of memory
 
 wanted_text : (reply : Reply)
-    → may_want reply ≡ true
+    → is_wanted reply ≡ true
     → reply_text reply ≢ codes "FAILout of memory"
 unfolding reply_text refusal_text
 wanted_text replies.Done may = λ same. absurd cc
-wanted_text (replies.Booted slot) may = absurd cc
-wanted_text (replies.Bytes name) may = absurd cc
-wanted_text (replies.Digest sum) may = absurd cc
-wanted_text (replies.Left blocks) may = absurd cc
-wanted_text replies.Merged may = absurd cc
-wanted_text (replies.Refused refusals.NotIdle) may = absurd cc
-wanted_text (replies.Refused refusals.NotInstalling) may = absurd cc
-wanted_text (replies.Refused refusals.NotStaged) may = absurd cc
-wanted_text (replies.Refused refusals.NotMerging) may = absurd cc
-wanted_text (replies.Refused refusals.NothingToCancel) may = absurd cc
-wanted_text (replies.Refused refusals.Merging) may = absurd cc
-wanted_text (replies.Refused refusals.RunningTarget) may = absurd cc
-wanted_text (replies.Refused refusals.NotRunningTarget) may = absurd cc
-wanted_text (replies.Refused refusals.NotSuccessful) may = absurd cc
-wanted_text (replies.Refused refusals.BadName) may = absurd cc
-wanted_text (replies.Refused refusals.BadSize) may = absurd cc
-wanted_text (replies.Refused refusals.Unknown) may = absurd cc
-wanted_text (replies.Refused refusals.Exists) may = absurd cc
-wanted_text (replies.Refused refusals.HasStore) may = absurd cc
-wanted_text (replies.Refused refusals.NoStore) may = absurd cc
-wanted_text (replies.Refused refusals.Written) may = absurd cc
-wanted_text (replies.Refused refusals.NothingStaged) may = absurd cc
-wanted_text (replies.Refused refusals.Sparse) may = absurd cc
-wanted_text (replies.Refused refusals.TooMany) may = absurd cc
-wanted_text (replies.Refused refusals.NoImages) may = absurd cc
-wanted_text (replies.Refused refusals.NoMemory) may = absurd cc
-wanted_text (replies.Refused (refusals.Incomplete name)) may = absurd cc
-wanted_text (replies.Refused (refusals.TooLarge one other)) may = absurd cc
-wanted_text (replies.Refused (refusals.GroupLimit one other)) may = absurd cc
-wanted_text (replies.Refused (refusals.NoRoom one other)) may = absurd cc
-wanted_text (replies.Refused (refusals.StoreFull one other)) may = absurd cc
 wanted_text (replies.Refused (refusals.TableFull one other)) may = λ same.
     let bad : 116 ≡ 111 = ap (λ (l : List ℕ). get_or l 4 0) same in absurd (omega (arith, bad))
-
-both_true : (a b : Bool) → (a && b) ≡ true → b ≡ true
-both_true true b is = is
-both_true false b is = absurd cc
+wanted_text (replies.Refused _) may = absurd cc
+wanted_text _ may = absurd cc
 
 command_short : (m : Mounted) (staged : Option (List ℕ)) (c : Command)
     → (by_command m staged c).may_want ≡ true
     → length (by_command m staged c).text ≤ 256
 command_short m staged c may =
-    short_reply (effect_on m staged c).reply
-    (both_true (takes_memory c) (may_want (effect_on m staged c).reply) may)
+    short_reply (effect_on m staged c).reply (wants_told m staged c may)
 
 short : (m : Mounted) (staged : Option (List ℕ)) (asked : Result Asked BadCommand)
     → (response m staged asked).may_want ≡ true
@@ -149,8 +86,7 @@ command_wanted : (m : Mounted) (staged : Option (List ℕ)) (c : Command)
     → (by_command m staged c).may_want ≡ true
     → (by_command m staged c).text ≢ codes "FAILout of memory"
 command_wanted m staged c may =
-    wanted_text (effect_on m staged c).reply
-    (both_true (takes_memory c) (may_want (effect_on m staged c).reply) may)
+    wanted_text (effect_on m staged c).reply (wants_told m staged c may)
 
 no_memory_wanted : (m : Mounted) (staged : Option (List ℕ)) (asked : Result Asked BadCommand)
     → (response m staged asked).may_want ≡ true

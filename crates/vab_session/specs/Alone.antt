@@ -1,24 +1,23 @@
 -- One slot alone has images, and no update is ready: from the begin of a merge on, until an
 -- installation is finished.
-use Rattle.std.specs.Prelude.{◌≡◌, ℕ, ◌<◌, Bool, true, false, List, [], ◌∷◌, Some, None}
-use Rattle.std.specs.Prelude.{Result, Ok, Err}
+use Rattle.std.specs.Prelude.{◌≡◌, ◌++◌, ℕ, ◌<◌, List, take, Option, Some, None}
+use Rattle.std.specs.List.{flat_map}
 use Rattle.vab_disk.specs.Disk.{Image}
 use Rattle.vab_layout.specs.Slots.{other_slot}
 use Rattle.vab_model.specs.declared.state.Image.{Image as ImageOfSlot}
 use Rattle.vab_model.specs.declared.state.Phase.{Phase}
 use Rattle.vab_model.specs.declared.state.Phase.TheVariants.{Idle, Installing, Staged, Merging}
 use Rattle.vab_model.specs.declared.command.Reply.TheVariants as replies
-use Rattle.vab_model.specs.Commands.{Command, SetActive, Boot, Mark, Print, Digest, Begin, Create}
-use Rattle.vab_model.specs.Commands.{Resize, Delete, Snapshot, Flash, Finish, Cancel, BeginMerge}
-use Rattle.vab_model.specs.Commands.{Merge}
+use Rattle.vab_model.specs.Commands.{Boot}
+use Rattle.vab_model.specs.Effects.{IsOneOf}
 use Rattle.vab_model.specs.State.{images_at}
 use Rattle.vab_device.specs.Mounted.{Mounted}
 use Rattle.vab_device.specs.Reading.{IsIn}
 use Rattle.vab_device.specs.Updates.{effect_on}
-use Rattle.vab_fbproto.specs.Requests.{Asked, Getvar, Download, Do, MergeAll, BootAndEnd}
-use Rattle.vab_fbproto.specs.Requests.{request_of}
-use Rattle.vab_fbproto.specs.declared.request.BadCommand.{BadCommand}
 use Rattle.vab_exchanges.specs.Session.{Exchange}
+use Rattle.vab_exchanges.specs.Items.{Kept, items_of}
+use Rattle.vab_exchanges.specs.Runs.{steps_at}
+use Rattle.vab_session.specs.Responses.{response}
 
 -- An update is none, or is installed from this slot, or is merged into it.
 abbrev pub IsUnready : (slot : ℕ) → Phase → Type 0
@@ -51,33 +50,24 @@ pub record StandsAlone
 
 -- ---- the end of an installation
 
--- by it another slot has images
-abbrev pub is_finish : Command → Bool
-is_finish (SetActive slot) = false
-is_finish Boot = false
-is_finish Mark = false
-is_finish (Print name) = false
-is_finish (Digest name) = false
-is_finish Begin = false
-is_finish (Create name size) = false
-is_finish (Resize name size) = false
-is_finish (Delete name) = false
-is_finish (Snapshot name size) = false
-is_finish (Flash name) = false
-is_finish Finish = true
-is_finish Cancel = false
-is_finish BeginMerge = false
-is_finish (Merge blocks) = false
+-- an update is ready: an installation is finished
+abbrev pub IsReady : Phase → Type 0
+IsReady (Staged source left) = Unit {0}
+IsReady _ = ⊥
 
-abbrev pub asks_finish : Result Asked BadCommand → Bool
-asks_finish (Ok (Getvar variable)) = false
-asks_finish (Ok (Download size)) = false
-asks_finish (Ok (Do command)) = is_finish command
-asks_finish (Ok MergeAll) = false
-asks_finish (Ok BootAndEnd) = false
-asks_finish (Err bad) = false
+-- On one of these devices an update is ready.
+pub record FindsReady (ms : List Mounted) : Type 0 where
+  pub mounted : Mounted
+  pub reached : IsOneOf ms mounted
+  pub ready : IsReady mounted.state.phase
 
--- none of these exchanges asks for it
-abbrev pub FinishesNothing : List Exchange → Type 0
-FinishesNothing [] = Unit {0}
-FinishesNothing (s ∷ ss) = (asks_finish (request_of s.command) ≡ false) × FinishesNothing ss
+-- The devices that these exchanges come to: in the steps of the first n of them, and in those of
+-- the one behind them.
+abbrev pub reached_in : Kept Mounted
+    → List Exchange
+    → (unfinished : Option (List ℕ))
+    → (n : ℕ)
+    → List Mounted
+reached_in k exchanges unfinished n =
+    flat_map (λ i. i.steps) (take n (items_of response k exchanges unfinished))
+    ++ steps_at k.now (items_of response k exchanges unfinished) n

@@ -1,21 +1,18 @@
 -- Which packets ask for a merge.
-use Rattle.std.specs.Prelude.{◌≡◌, ◌++◌, ℕ, Bool, true, false, List, [], ◌∷◌, Result, Ok, Err, take}
+use Rattle.std.specs.Prelude.{◌≡◌, ◌++◌, ℕ, Bool, true, false, List, [], ◌∷◌, Result, Ok, take}
 use Rattle.std.specs.Prelude.{drop, codes}
 use Rattle.std.specs.List.{flat_map}
-use Rattle.vab_device.specs.Does.{is_of_merge}
-use Rattle.vab_fbproto.specs.Requests.{Asked, Getvar, Download, Do, MergeAll, BootAndEnd}
+use Rattle.vab_model.specs.Kinds.{is_of_merge}
+use Rattle.vab_fbproto.specs.Requests.{Asked, Do, MergeAll}
 use Rattle.vab_fbproto.specs.Requests.{request_of}
 use Rattle.vab_fbproto.specs.declared.request.BadCommand.{BadCommand}
 use Rattle.vab_exchanges.specs.Session.{Exchange, IsExchange, packet, spelled}
 
 -- to begin a merge, to merge some blocks, or to merge all
 abbrev pub asks_merge : Result Asked BadCommand → Bool
-asks_merge (Ok (Getvar variable)) = false
-asks_merge (Ok (Download size)) = false
 asks_merge (Ok (Do command)) = is_of_merge command
 asks_merge (Ok MergeAll) = true
-asks_merge (Ok BootAndEnd) = false
-asks_merge (Err bad) = false
+asks_merge _ = false
 
 abbrev pub AreExchanges : List Exchange → Type 0
 AreExchanges [] = Unit {0}

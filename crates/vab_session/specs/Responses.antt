@@ -1,14 +1,13 @@
 -- What a packet makes of a device.
-use Rattle.std.specs.Prelude.{Bool, true, false, ◌&&◌, List, ℕ, ◌+◌, [], codes, Option, Result, Ok}
+use Rattle.std.specs.Prelude.{Bool, false, List, ℕ, ◌+◌, [], codes, Option, Result, Ok}
 use Rattle.std.specs.Prelude.{Err}
 use Rattle.vab_model.specs.declared.state.Phase.{Phase}
-use Rattle.vab_model.specs.declared.state.Phase.TheVariants.{Idle, Installing, Staged, Merging}
+use Rattle.vab_model.specs.declared.state.Phase.TheVariants.{Staged, Merging}
 use Rattle.vab_model.specs.declared.command.Reply.{Reply}
 use Rattle.vab_model.specs.declared.command.Reply.TheVariants as replies
-use Rattle.vab_model.specs.Commands.{Command, SetActive, Boot, Mark, Print, Digest, Begin, Create}
-use Rattle.vab_model.specs.Commands.{Resize, Delete, Snapshot, Flash, Finish, Cancel, BeginMerge}
-use Rattle.vab_model.specs.Commands.{Merge}
-use Rattle.vab_model.specs.Effects.{Effect, takes_memory, may_want}
+use Rattle.vab_model.specs.Commands.{Command, Boot, Merge}
+use Rattle.vab_model.specs.Effects.{Effect}
+use Rattle.vab_model.specs.Kinds.{uses_staged}
 use Rattle.vab_device.specs.Mounted.{Mounted}
 use Rattle.vab_device.specs.Updates.{effect_on}
 use Rattle.vab_fbproto.specs.Requests.{Asked, Getvar, Download, Do, MergeAll, BootAndEnd}
@@ -21,33 +20,10 @@ use Rattle.vab_exchanges.specs.Items.{Response}
 abbrev pub still : List ℕ → Response Mounted
 still text = record { text = text; later = []; takes = false; may_want = false }
 
--- a flash takes the staged bytes
-abbrev pub is_flash : Command → Bool
-is_flash (SetActive slot) = false
-is_flash Boot = false
-is_flash Mark = false
-is_flash (Print name) = false
-is_flash (Digest name) = false
-is_flash Begin = false
-is_flash (Create name size) = false
-is_flash (Resize name size) = false
-is_flash (Delete name) = false
-is_flash (Snapshot name size) = false
-is_flash (Flash name) = true
-is_flash Finish = false
-is_flash Cancel = false
-is_flash BeginMerge = false
-is_flash (Merge blocks) = false
-
 -- the staged bytes are used up: a flash was done
 abbrev pub takes_staged : Command → Reply → Bool
-takes_staged c replies.Done = is_flash c
-takes_staged c (replies.Booted slot) = false
-takes_staged c (replies.Bytes name) = false
-takes_staged c (replies.Digest sum) = false
-takes_staged c (replies.Left blocks) = false
-takes_staged c replies.Merged = false
-takes_staged c (replies.Refused refusal) = false
+takes_staged c replies.Done = uses_staged c
+takes_staged c _ = false
 
 -- what a command does to a device
 abbrev pub by_effect : Command → Effect Mounted → Response Mounted
@@ -55,7 +31,7 @@ by_effect c e = record {
   text = reply_text e.reply;
   later = e.later;
   takes = takes_staged c e.reply;
-  may_want = takes_memory c && may_want e.reply;
+  may_want = e.wants;
 }
 
 abbrev pub by_command : Mounted → Option (List ℕ) → Command → Response Mounted
@@ -63,10 +39,9 @@ by_command m staged c = by_effect c (effect_on m staged c)
 
 -- how many blocks are left to merge
 abbrev pub left_of : Phase → ℕ
-left_of Idle = 0
-left_of (Installing source plan) = 0
 left_of (Staged source left) = left
 left_of (Merging target left) = left
+left_of _ = 0
 
 -- The response to a packet. To merge all is a merge of one turn more than blocks are left, which
 -- ends it. A download is none of these: what is told of it doesn't depend on the device.

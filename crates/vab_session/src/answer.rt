@@ -1,5 +1,5 @@
 //! One exchange: what it changes, and then its reply.
-ghost use Rattle.std.specs.Prelude.{◌≡◌, ◌≤◌, ℕ, List, length, OnOk, IfOk, IfErr, Ok, MatchOption};
+ghost use Rattle.std.specs.Prelude.{◌≡◌, ◌≤◌, ℕ, List, length, OnOk, IfOk, Ok, MatchOption};
 ghost use Rattle.std.specs.Prelude.{Result, option_map, false};
 ghost use Rattle.vab_fbtcp.specs.declared.event.Place.TheVariants.{Length};
 ghost use Rattle.vab_device.specs.Kept.{IsDevice};
@@ -7,7 +7,8 @@ ghost use Rattle.vab_device.specs.Reading.{Represents};
 ghost use Rattle.vab_fbproto.specs.Requests.{Asked, Do, Download, request_of};
 ghost use Rattle.vab_fbproto.specs.declared.request.BadCommand.{BadCommand};
 ghost use Rattle.vab_model.specs.Commands.{command_of};
-ghost use Rattle.vab_device.specs.Does.{KeepsSource, is_of_merge};
+ghost use Rattle.vab_device.specs.Does.{KeepsSource};
+ghost use Rattle.vab_model.specs.Kinds.{is_of_merge};
 ghost use Rattle.vab_commands.specs.Touched.{ChangesDevice, ChangesBy, FollowsBy};
 ghost use Rattle.vab_exchanges.specs.Session.{ends_session};
 ghost use Rattle.vab_exchanges.specs.Reading.{stands_at, rest_of, beyond_of, room_of, total_of};

@@ -1,20 +1,22 @@
--- The chunks that a writer makes.
-use Rattle.std.proofs.Common.{◌≡◌, ℕ, ◌-◌, ◌*◌, ◌≤◌, min, List, [], ◌++◌, length, take, drop, replicate, inl, inr, sym, ◌∙◌, ap, arith}
+-- The blocks that a writer makes.
+use Rattle.std.proofs.Common.{◌≡◌, ℕ, ◌-◌, ◌*◌, ◌≤◌, min, List, [], ◌++◌, length, take, drop}
+use Rattle.std.proofs.Common.{replicate, inl, inr, sym, ◌∙◌, ap, arith}
 use Rattle.std.proofs.lemmas.Bool.{cases_lt}
 use Rattle.std.proofs.lemmas.List.{drop-replicate, length-take-le, take_all, drop_all}
 use Rattle.vab_bytes.specs.Number.{field}
+use Rattle.vab_space.specs.declared.Chunk.{Chunk}
 use Rattle.vab_exceptions.specs.Header.{header_bytes}
-use Rattle.vab_store.specs.Writing.{block_of, header_chunk}
+use Rattle.vab_store.specs.Writing.{block_of, header_block}
 
-pub header_whole : (size : ℕ) (front : List ℕ)
-    → front ≡ header_bytes
+pub header_whole : (k : Chunk) (size : ℕ) (front : List ℕ)
+    → front ≡ header_bytes k
     → size ≡ 4096
-    → front ++ drop 512 (replicate size 0) ≡ header_chunk
-unfolding header_chunk
-header_whole size front is all =
+    → front ++ drop 512 (replicate size 0) ≡ header_block k
+unfolding header_block
+header_whole k size front is all =
     let left : size - 512 ≡ 3584 = omega (arith, all) in
     ap (λ l. l ++ drop 512 (replicate size 0)) is
-    ∙ ap (λ l. header_bytes ++ l) (drop-replicate 512 size 0 ∙ ap (λ (n : ℕ). replicate n 0) left)
+    ∙ ap (λ l. header_bytes k ++ l) (drop-replicate 512 size 0 ∙ ap (λ (n : ℕ). replicate n 0) left)
 
 -- as much of a block as an image has, and zeros
 pub block_whole : (size : ℕ) (image rest : List ℕ) (b count : ℕ)

@@ -1,9 +1,12 @@
 -- Searches of an index.
-use Rattle.std.proofs.Common.{◌≡◌, ◌≢◌, ◌⊎◌, inl, inr, ⊎_elim, ℕ, zero, suc, ◌+◌, ◌-◌, ◌*◌, ◌^◌, ◌≤◌, ◌<◌, List, [], ◌∷◌, length, take, refl, sym, ◌∙◌, ap, subst, arith, true, false, ◌==◌, add-one, length-take-le}
+use Rattle.std.proofs.Common.{◌≡◌, ◌≢◌, ◌⊎◌, inl, inr, ⊎_elim, ℕ, zero, suc, ◌+◌, ◌-◌, ◌*◌, ◌^◌}
+use Rattle.std.proofs.Common.{◌≤◌, ◌<◌, List, [], ◌∷◌, length, take, refl, sym, ◌∙◌, ap, subst}
+use Rattle.std.proofs.Common.{arith, true, false, ◌==◌, add-one, length-take-le}
 use Rattle.std.specs.Prelude.{Some, None, nat_lt}
 use Rattle.std.specs.Ordering.{nat_cmp}
 use Rattle.std.specs.declared.cmp.Ordering.TheVariants.{Less, Equal, Greater}
-use Rattle.std.proofs.lemmas.Bool.{cases_Bool, cases_lt, ltb-true, ltb-false, eqb-false, ne_eqb, eq-eqb}
+use Rattle.std.proofs.lemmas.Bool.{cases_Bool, cases_lt, ltb-true, ltb-false, eqb-false, ne_eqb}
+use Rattle.std.proofs.lemmas.Bool.{eq-eqb}
 use Rattle.std.proofs.lemmas.List.{get_or-take}
 use Rattle.std.specs.List.{remove}
 use Rattle.std.proofs.lemmas.List.Edits.{get_or-remove_below, get_or-remove_above, length-remove}
@@ -13,6 +16,7 @@ use Rattle.vab_store.specs.View.{no_exception, exception_at, view_of}
 use Rattle.std.specs.Prelude.{slice_index}
 use Rattle.std.specs.List.Sorted.{IsStrictlyIncreasing}
 use Rattle.std.proofs.lemmas.List.Kept.{AllPairs-from_increasing}
+use Rattle.vab_space.specs.declared.Chunk.{Chunk}
 use Rattle.vab_exceptions.specs.Entries.{firsts}
 use Rattle.vab_exceptions.proofs.EntryLaws.{length-firsts, get_or-firsts}
 use Rattle.vab_store.specs.Writing.{planned_at}
@@ -298,20 +302,20 @@ cost_more s t m n is so_far some =
 abbrev pub place_for : List ℕ → ℕ → Place
 place_for olds j = record { key = slice_index olds j; at = j }
 
-pub planned_indexed : (olds : List ℕ) (es : List Exception) (ps : List Place) (n : ℕ)
+pub planned_indexed : (size : Chunk) (olds : List ℕ) (es : List Exception) (ps : List Place) (n : ℕ)
     → IsStrictlyIncreasing olds
     → n ≡ length olds
-    → es ≡ firsts (planned_at olds) n
+    → es ≡ firsts (planned_at size olds) n
     → ps ≡ firsts (place_for olds) n
     → IsIndexed Old es ps
-planned_indexed olds es ps n ascend all es_is ps_is =
+planned_indexed size olds es ps n ascend all es_is ps_is =
     let none : Place = record { key = 0; at = 0 } in
-    let e_long : length es ≡ n = ap length es_is ∙ length-firsts (planned_at olds) n in
+    let e_long : length es ≡ n = ap length es_is ∙ length-firsts (planned_at size olds) n in
     let p_long : length ps ≡ n = ap length ps_is ∙ length-firsts (place_for olds) n in
-    let e_at : (k : ℕ) → k < n → exception_at es k ≡ planned_at olds k =
+    let e_at : (k : ℕ) → k < n → exception_at es k ≡ planned_at size olds k =
     λ k below.
     ap (λ (l : List Exception). exception_at l k) es_is
-    ∙ get_or-firsts (planned_at olds) n k no_exception below in
+    ∙ get_or-firsts (planned_at size olds) n k no_exception below in
     let p_at : (k : ℕ) → k < n → place_at ps k ≡ place_for olds k =
     λ k below.
     ap (λ (l : List Place). place_at l k) ps_is ∙ get_or-firsts (place_for olds) n k none below in

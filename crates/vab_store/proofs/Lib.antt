@@ -5,4 +5,5 @@ pub mod PartLaws
 pub mod ScanLaws
 pub mod ViewLaws
 pub mod SortLaws
+pub mod StoredLaws
 pub mod WrittenLaws

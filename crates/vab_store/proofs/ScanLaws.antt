@@ -1,19 +1,26 @@
 -- What a scan gives, and what it is that a scan gives it.
-use Rattle.std.proofs.Common.{◌≡◌, inl, inr, ℕ, zero, suc, ◌≤◌, ◌<◌, List, length, take, refl, sym, ◌∙◌, ap, subst, arith, Bool, true, false, cond, ◌==◌, ◌||◌, ◌&&◌, length-take-le}
+use Rattle.std.proofs.Common.{◌≡◌, inl, inr, ℕ, zero, suc, ◌≤◌, ◌<◌, List, length, take, refl, sym}
+use Rattle.std.proofs.Common.{◌∙◌, ap, subst, arith, Bool, true, false, cond, ◌==◌, ◌||◌, ◌&&◌}
+use Rattle.std.proofs.Common.{length-take-le}
 use Rattle.std.specs.Prelude.{nat_lt, Option, Some, None, Result, Ok, Err}
-use Rattle.std.proofs.lemmas.Bool.{cases_lt, and_parts, and_from, ltb-true, ltb-false, lt-ltb, le-ltb, eqb-false, ne_eqb}
+use Rattle.std.proofs.lemmas.Bool.{cases_lt, cases_Bool, eqb-true, eq-eqb, and_parts, and_from}
+use Rattle.std.proofs.lemmas.Bool.{ltb-true, ltb-false, lt-ltb, le-ltb, eqb-false, ne_eqb}
 use Rattle.std.proofs.lemmas.List.{take_all}
 use Rattle.std.proofs.lemmas.List.Sums.{prefix_len_is, prefix_len_passes, prefix_len-le-length}
 use Rattle.std.specs.List.{prefix_len}
 use Rattle.vab_disk.specs.Disk.{Image}
+use Rattle.vab_space.specs.declared.Chunk.{Chunk}
+use Rattle.vab_space.specs.Chunks.{blocks_in, chunks_for, is_data}
+use Rattle.vab_space.proofs.ChunkLaws.{chunks_fewer, pages_enough, same_size, data_some}
 use Rattle.vab_exceptions.specs.declared.area.Exception.{Exception}
 use Rattle.vab_exceptions.specs.declared.header.HeaderFault.{HeaderFault}
-use Rattle.vab_exceptions.specs.Entries.{area_entries, firsts, listed, IsListed}
+use Rattle.vab_exceptions.specs.declared.header.HeaderFault.TheVariants.{BadChunk}
+use Rattle.vab_exceptions.specs.Entries.{firsts, listed, IsListed}
 use Rattle.vab_exceptions.specs.Header.{header_of}
 use Rattle.vab_exceptions.proofs.EntryLaws.{get_or-firsts, firsts_is, EndsAt, listed_is, ends_at}
 use Rattle.vab_store.specs.declared.fault.StoreFault.{StoreFault}
 use Rattle.vab_store.specs.declared.fault.StoreFault.TheVariants as faults
-use Rattle.vab_store.specs.Layout.{chunks_of, chunk_bytes, is_data, slot_at, slots_of}
+use Rattle.vab_store.specs.Layout.{chunks_of, chunk_bytes, slot_at, slots_of}
 use Rattle.vab_store.specs.View.{no_exception, exception_at, Lies, AreOther}
 use Rattle.vab_store.specs.Scan.{or_else, first_some, share, repeat_at, repeat_of, lies, list_of}
 use Rattle.vab_store.specs.Scan.{good_of, unless_repeated, after_header, judged, scan_of, IsScan}
@@ -146,23 +153,23 @@ repeat_is es j k is =
 
 -- ---- exceptions that lie in the store
 
-pub lies_of : (chunks bound : ℕ) (e : Exception)
-    → Lies area_entries chunks bound e
-    → lies chunks bound e ≡ true
-lies_of chunks bound e is =
+pub lies_of : (size : Chunk) (chunks bound : ℕ) (e : Exception)
+    → Lies size chunks bound e
+    → lies size chunks bound e ≡ true
+lies_of size chunks bound e is =
     and_from (nat_lt e.old_chunk bound)
-    (nat_lt e.new_chunk chunks && is_data area_entries e.new_chunk)
+    (nat_lt e.new_chunk chunks && is_data size e.new_chunk)
     (lt-ltb e.old_chunk bound is.old_chunk)
-    (and_from (nat_lt e.new_chunk chunks) (is_data area_entries e.new_chunk)
+    (and_from (nat_lt e.new_chunk chunks) (is_data size e.new_chunk)
     (lt-ltb e.new_chunk chunks is.new_chunk) is.is_data)
 
-pub of_lies : (chunks bound : ℕ) (e : Exception)
-    → lies chunks bound e ≡ true
-    → Lies area_entries chunks bound e
-of_lies chunks bound e is =
+pub of_lies : (size : Chunk) (chunks bound : ℕ) (e : Exception)
+    → lies size chunks bound e ≡ true
+    → Lies size chunks bound e
+of_lies size chunks bound e is =
     let both = and_parts (nat_lt e.old_chunk bound)
-    (nat_lt e.new_chunk chunks && is_data area_entries e.new_chunk) is in
-    let rest = and_parts (nat_lt e.new_chunk chunks) (is_data area_entries e.new_chunk) both.1 in
+    (nat_lt e.new_chunk chunks && is_data size e.new_chunk) is in
+    let rest = and_parts (nat_lt e.new_chunk chunks) (is_data size e.new_chunk) both.1 in
     record {
       old_chunk = ltb-true e.old_chunk bound both.0;
       new_chunk = ltb-true e.new_chunk chunks rest.0;
@@ -170,76 +177,73 @@ of_lies chunks bound e is =
     }
 
 -- a data chunk isn't 0, so that the exception doesn't end a list
-pub lies_listed : (chunks bound : ℕ) (e : Exception)
-    → Lies area_entries chunks bound e
+pub lies_listed : (size : Chunk) (chunks bound : ℕ) (e : Exception)
+    → Lies size chunks bound e
     → IsListed e
-lies_listed chunks bound e is zero_chunk =
-    let no : is_data area_entries 0 ≡ true =
-    subst (λ (c : ℕ). is_data area_entries c ≡ true) zero_chunk is.is_data in
-    let failed : false ≡ true = no in
-    absurd (cc)
+lies_listed size chunks bound e is zero_chunk = data_some size e.new_chunk is.is_data zero_chunk
 
 -- the exceptions before the first that doesn't lie there
-pub good_is : (chunks bound : ℕ) (es : List Exception) (k : ℕ)
+pub good_is : (size : Chunk) (chunks bound : ℕ) (es : List Exception) (k : ℕ)
     → k ≤ length es
-    → ((j : ℕ) → j < k → Lies area_entries chunks bound (exception_at es j))
-    → (k < length es → lies chunks bound (exception_at es k) ≡ false)
-    → good_of chunks bound es ≡ take k es
+    → ((j : ℕ) → j < k → Lies size chunks bound (exception_at es j))
+    → (k < length es → lies size chunks bound (exception_at es k) ≡ false)
+    → good_of size chunks bound es ≡ take k es
 unfolding good_of
-good_is chunks bound es k within before here =
+good_is size chunks bound es k within before here =
     ap (λ (n : ℕ). take n es)
-    (prefix_len_is (lies chunks bound) es k no_exception within
-    (λ j lt. lies_of chunks bound (exception_at es j) (before j lt)) here)
+    (prefix_len_is (lies size chunks bound) es k no_exception within
+    (λ j lt. lies_of size chunks bound (exception_at es j) (before j lt)) here)
 
-pub good_all : (chunks bound : ℕ) (es : List Exception)
-    → ((j : ℕ) → j < length es → Lies area_entries chunks bound (exception_at es j))
-    → good_of chunks bound es ≡ es
-good_all chunks bound es all =
-    good_is chunks bound es (length es) (omega arith) all (λ below. absurd (omega (arith, below)))
+pub good_all : (size : Chunk) (chunks bound : ℕ) (es : List Exception)
+    → ((j : ℕ) → j < length es → Lies size chunks bound (exception_at es j))
+    → good_of size chunks bound es ≡ es
+good_all size chunks bound es all =
+    good_is size chunks bound es (length es) (omega arith) all
+    (λ below. absurd (omega (arith, below)))
     ∙ take_all (length es) es (omega arith)
 
-length-good_of : (chunks bound : ℕ) (es : List Exception)
-    → length (good_of chunks bound es) ≡ prefix_len (lies chunks bound) es
+length-good_of : (size : Chunk) (chunks bound : ℕ) (es : List Exception)
+    → length (good_of size chunks bound es) ≡ prefix_len (lies size chunks bound) es
 unfolding good_of
-length-good_of chunks bound es =
-    length-take-le (prefix_len (lies chunks bound) es) es
-    (prefix_len-le-length (lies chunks bound) es)
+length-good_of size chunks bound es =
+    length-take-le (prefix_len (lies size chunks bound) es) es
+    (prefix_len-le-length (lies size chunks bound) es)
 
-good_lies : (chunks bound : ℕ) (es : List Exception)
-    → length es ≤ length (good_of chunks bound es)
+good_lies : (size : Chunk) (chunks bound : ℕ) (es : List Exception)
+    → length es ≤ length (good_of size chunks bound es)
     → (j : ℕ)
     → j < length es
-    → Lies area_entries chunks bound (exception_at es j)
-good_lies chunks bound es all j below =
-    of_lies chunks bound (exception_at es j)
-    (prefix_len_passes (lies chunks bound) es j no_exception
-    (omega (arith, all, below, length-good_of chunks bound es)))
+    → Lies size chunks bound (exception_at es j)
+good_lies size chunks bound es all j below =
+    of_lies size chunks bound (exception_at es j)
+    (prefix_len_passes (lies size chunks bound) es j no_exception
+    (omega (arith, all, below, length-good_of size chunks bound es)))
 
 -- ---- a list that is a scan
 
 -- the entries' list
-pub list_is : (map : List ℕ) (image : Image) (es : List Exception)
-    → EndsAt (slot_at area_entries map image) (length es) (slots_of area_entries map)
-    → ((t : ℕ) → t < length es → slot_at area_entries map image t ≡ exception_at es t)
-    → list_of map image ≡ es
+pub list_is : (size : Chunk) (map : List ℕ) (image : Image) (es : List Exception)
+    → EndsAt (slot_at size map image) (length es) (slots_of size map)
+    → ((t : ℕ) → t < length es → slot_at size map image t ≡ exception_at es t)
+    → list_of size map image ≡ es
 unfolding list_of
-list_is map image es ends reads =
-    listed_is (slot_at area_entries map image) (length es) (slots_of area_entries map) ends
-    ∙ firsts_is (slot_at area_entries map image) es no_exception reads
+list_is size map image es ends reads =
+    listed_is (slot_at size map image) (length es) (slots_of size map) ends
+    ∙ firsts_is (slot_at size map image) es no_exception reads
 
-judged_ok : (chunks bound slots : ℕ) (es : List Exception)
-    → ((j : ℕ) → j < length es → Lies area_entries chunks bound (exception_at es j))
+judged_ok : (size : Chunk) (chunks bound slots : ℕ) (es : List Exception)
+    → ((j : ℕ) → j < length es → Lies size chunks bound (exception_at es j))
     → ((j k : ℕ) → j < k → k < length es → AreOther (exception_at es j) (exception_at es k))
     → length es < slots
-    → judged chunks bound slots es ≡ Ok es
+    → judged size chunks bound slots es ≡ Ok es
 unfolding judged
-judged_ok chunks bound slots es lie once room =
+judged_ok size chunks bound slots es lie once room =
     let ended : Result (List Exception) StoreFault =
     cond (nat_lt (length es) slots) (Ok es) (Err faults.Unended) in
     ap
     (λ g. unless_repeated (repeat_of g)
     (cond (nat_lt (length g) (length es)) (Err (faults.BadChunk (length g))) ended))
-    (good_all chunks bound es lie)
+    (good_all size chunks bound es lie)
     ∙ ap
     (λ r. unless_repeated r
     (cond (nat_lt (length es) (length es)) (Err (faults.BadChunk (length es))) ended))
@@ -248,28 +252,38 @@ judged_ok chunks bound slots es lie once room =
     (le-ltb (length es) (length es) (omega arith))
     ∙ ap (λ b. cond b (Ok es) (Err faults.Unended)) (lt-ltb (length es) slots room)
 
-pub scan_of_is : (map : List ℕ) (bound : ℕ) (image : Image) (es : List Exception)
-    → IsScan map bound image es
-    → scan_of map bound image ≡ Ok es
+-- a header of the size
+pub header_passed : {X : Type 0} (size : Chunk) (means : Result X StoreFault)
+    → after_header size (Ok size) means ≡ means
+header_passed size means =
+    ap (λ b. cond b means (Err (faults.Header BadChunk)))
+    (eq-eqb (blocks_in size) (blocks_in size) refl)
+
+pub scan_of_is : {size : Chunk} (map : List ℕ) (bound : ℕ) (image : Image) (es : List Exception)
+    → IsScan size map bound image es
+    → scan_of size map bound image ≡ Ok es
 unfolding scan_of
-scan_of_is map bound image es is =
+scan_of_is {size} map bound image es is =
     let fits = is.fits in
-    let ends : EndsAt (slot_at area_entries map image) (length es) (slots_of area_entries map) =
+    let ends : EndsAt (slot_at size map image) (length es) (slots_of size map) =
     record {
       within = omega (arith, fits.room);
       before = λ i below.
           subst IsListed (sym (is.reads i below))
-          (lies_listed (chunks_of map) bound (exception_at es i) (fits.lie i below));
+          (lies_listed size (chunks_of size map) (chunks_for size bound) (exception_at es i)
+          (fits.lie i below));
       here = λ below. is.stops;
     } in
-    let header : Result (Unit {0}) HeaderFault = header_of (take 512 (chunk_bytes map image 0)) in
+    let header : Result Chunk HeaderFault = header_of (take 512 (chunk_bytes map image 0)) in
     let all : List Exception → Result (List Exception) StoreFault =
-    λ l. judged (chunks_of map) bound (slots_of area_entries map) l in
-    ap (λ b. cond b (Err faults.Unended) (after_header header (all (list_of map image))))
-    (le-ltb (chunks_of map) 2 fits.chunks)
-    ∙ ap (λ h. after_header h (all (list_of map image))) is.header
-    ∙ ap all (list_is map image es ends is.reads)
-    ∙ judged_ok (chunks_of map) bound (slots_of area_entries map) es fits.lie fits.once fits.room
+    λ l. judged size (chunks_of size map) (chunks_for size bound) (slots_of size map) l in
+    ap (λ b. cond b (Err faults.Unended) (after_header size header (all (list_of size map image))))
+    (le-ltb (length map) 2 (chunks_fewer size (length map) 2 fits.chunks))
+    ∙ ap (λ h. after_header size h (all (list_of size map image))) is.header
+    ∙ header_passed size (all (list_of size map image))
+    ∙ ap all (list_is size map image es ends is.reads)
+    ∙ judged_ok size (chunks_of size map) (chunks_for size bound) (slots_of size map) es fits.lie
+    fits.once fits.room
 
 -- ---- what it says that a scan gives a list
 
@@ -280,12 +294,22 @@ ok_tested : (b : Bool) (fault : StoreFault) (r : Result (List Exception) StoreFa
 ok_tested true fault r es is = absurd (cc)
 ok_tested false fault r es is = (refl, is)
 
-ok_header : (h : Result (Unit {0}) HeaderFault) (r : Result (List Exception) StoreFault)
-    (es : List Exception)
-    → after_header h r ≡ Ok es
-    → (h ≡ Ok tt) × (r ≡ Ok es)
-ok_header (Ok u) r es is = (refl, is)
-ok_header (Err fault) r es is = absurd (cc)
+ok_header : (size : Chunk) (h : Result Chunk HeaderFault)
+    (r : Result (List Exception) StoreFault) (es : List Exception)
+    → after_header size h r ≡ Ok es
+    → (h ≡ Ok size) × (r ≡ Ok es)
+ok_header size (Ok other) r es is =
+    elim (cases_Bool (blocks_in other == blocks_in size)) [
+      | inl one ↦ (
+        ap (λ (k : Chunk). Ok k) (same_size other size
+            (eqb-true (blocks_in other) (blocks_in size) one)),
+        rw one at is,
+      )
+      | inr two ↦
+          let failed : Err (faults.Header BadChunk) ≡ Ok es = rw two at is in
+          absurd (cc)
+    ]
+ok_header size (Err fault) r es is = absurd (cc)
 
 ok_unrepeated : (o : Option (ℕ × ℕ)) (r : Result (List Exception) StoreFault)
     (es : List Exception)
@@ -300,18 +324,18 @@ ok_ended : (b : Bool) (fault : StoreFault) (l es : List Exception)
 ok_ended true fault l es is = (refl, cc)
 ok_ended false fault l es is = absurd (cc)
 
-record IsJudged (chunks bound slots : ℕ) (l es : List Exception) : Type 0 where
+record IsJudged (size : Chunk) (chunks bound slots : ℕ) (l es : List Exception) : Type 0 where
   same : l ≡ es
   room : length l < slots
-  lie : (j : ℕ) → j < length l → Lies area_entries chunks bound (exception_at l j)
+  lie : (j : ℕ) → j < length l → Lies size chunks bound (exception_at l j)
   once : (j k : ℕ) → j < k → k < length l → AreOther (exception_at l j) (exception_at l k)
 
-of_judged : (chunks bound slots : ℕ) (l es : List Exception)
-    → judged chunks bound slots l ≡ Ok es
-    → IsJudged chunks bound slots l es
+of_judged : (size : Chunk) (chunks bound slots : ℕ) (l es : List Exception)
+    → judged size chunks bound slots l ≡ Ok es
+    → IsJudged size chunks bound slots l es
 unfolding judged
-of_judged chunks bound slots l es is =
-    let good : List Exception = good_of chunks bound l in
+of_judged size chunks bound slots l es is =
+    let good : List Exception = good_of size chunks bound l in
     let ended : Result (List Exception) StoreFault =
     cond (nat_lt (length l) slots) (Ok l) (Err faults.Unended) in
     let unrepeated = ok_unrepeated (repeat_of good)
@@ -321,9 +345,9 @@ of_judged chunks bound slots l es is =
     unrepeated.1 in
     let whole : length l ≤ length good = ltb-false (length good) (length l) tested.0 in
     let last = ok_ended (nat_lt (length l) slots) faults.Unended l es tested.1 in
-    let lie = good_lies chunks bound l whole in
+    let lie = good_lies size chunks bound l whole in
     let none : repeat_of l ≡ None =
-    ap repeat_of (sym (good_all chunks bound l lie)) ∙ unrepeated.0 in
+    ap repeat_of (sym (good_all size chunks bound l lie)) ∙ unrepeated.0 in
     record {
       same = last.1;
       room = ltb-true (length l) slots last.0;
@@ -331,25 +355,27 @@ of_judged chunks bound slots l es is =
       once = repeated_none l none;
     }
 
-pub scan_of_ok : (map : List ℕ) (bound : ℕ) (image : Image) (es : List Exception)
-    → scan_of map bound image ≡ Ok es
-    → IsScan map bound image es
+pub scan_of_ok : {size : Chunk} (map : List ℕ) (bound : ℕ) (image : Image) (es : List Exception)
+    → scan_of size map bound image ≡ Ok es
+    → IsScan size map bound image es
 unfolding scan_of list_of
-scan_of_ok map bound image es is =
-    let f : ℕ → Exception = slot_at area_entries map image in
-    let slots : ℕ = slots_of area_entries map in
+scan_of_ok {size} map bound image es is =
+    let f : ℕ → Exception = slot_at size map image in
+    let slots : ℕ = slots_of size map in
     let l : List Exception = listed (firsts f slots) in
-    let header : Result (Unit {0}) HeaderFault = header_of (take 512 (chunk_bytes map image 0)) in
-    let all : Result (List Exception) StoreFault = judged (chunks_of map) bound slots l in
-    let enough = ok_tested (nat_lt (chunks_of map) 2) faults.Unended
-    (after_header header all) es is in
-    let headed = ok_header header all es enough.1 in
-    let judged_so = of_judged (chunks_of map) bound slots l es headed.1 in
+    let header : Result Chunk HeaderFault = header_of (take 512 (chunk_bytes map image 0)) in
+    let all : Result (List Exception) StoreFault =
+    judged size (chunks_of size map) (chunks_for size bound) slots l in
+    let enough = ok_tested (nat_lt (length map) 2) faults.Unended
+    (after_header size header all) es is in
+    let headed = ok_header size header all es enough.1 in
+    let judged_so =
+    of_judged size (chunks_of size map) (chunks_for size bound) slots l es headed.1 in
     let ends : EndsAt f (length l) slots = ends_at f slots in
     let whole : l ≡ firsts f (length l) = listed_is f (length l) slots ends in
-    let of_list : IsScan map bound image l = record {
+    let of_list : IsScan size map bound image l = record {
       fits = record {
-        chunks = ltb-false (chunks_of map) 2 enough.0;
+        chunks = pages_enough size (length map) (omega (arith, judged_so.room));
         room = judged_so.room;
         lie = judged_so.lie;
         once = judged_so.once;
@@ -360,10 +386,11 @@ scan_of_ok map bound image es is =
           ∙ get_or-firsts f (length l) t no_exception below);
       stops = ends.here judged_so.room;
     } in
-    subst (IsScan map bound image) judged_so.same of_list
+    subst (IsScan size map bound image) judged_so.same of_list
 
 -- where as many lie there as there are
-pub good_full : (chunks bound : ℕ) (es : List Exception)
-    → length es ≤ length (good_of chunks bound es)
-    → good_of chunks bound es ≡ es
-good_full chunks bound es all = good_all chunks bound es (good_lies chunks bound es all)
+pub good_full : (size : Chunk) (chunks bound : ℕ) (es : List Exception)
+    → length es ≤ length (good_of size chunks bound es)
+    → good_of size chunks bound es ≡ es
+good_full size chunks bound es all =
+    good_all size chunks bound es (good_lies size chunks bound es all)

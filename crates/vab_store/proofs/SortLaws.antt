@@ -1,9 +1,12 @@
 -- Exceptions sorted by a key.
-use Rattle.std.proofs.Common.{◌≡◌, ◌≢◌, ◌⊎◌, inl, inr, ⊎_elim, ℕ, zero, suc, ◌+◌, ◌-◌, ◌≤◌, ◌<◌, List, [], ◌∷◌, length, get_or, refl, sym, ◌∙◌, ap, subst, arith, Bool, true, false, ◌==◌, ◌||◌, ◌&&◌}
+use Rattle.std.proofs.Common.{◌≡◌, ◌≢◌, ◌⊎◌, inl, inr, ⊎_elim, ℕ, zero, suc, ◌+◌, ◌-◌, ◌≤◌, ◌<◌}
+use Rattle.std.proofs.Common.{List, [], ◌∷◌, length, get_or, refl, sym, ◌∙◌, ap, subst, arith, Bool}
+use Rattle.std.proofs.Common.{true, false, ◌==◌, ◌||◌, ◌&&◌}
 use Rattle.std.specs.Prelude.{nat_lt, All, Contains, IsPermutation, Option, Some, None}
 use Rattle.std.specs.Ordering.{is_lt, ordering_then, nat_cmp}
 use Rattle.std.specs.List.{IsDistinct}
-use Rattle.std.proofs.lemmas.Bool.{cases_lt, cases_eq, lt-ltb, le-ltb, eq-eqb, ne_eqb, eqb-false, eqb-true, ltb-true, cases_Bool, and_parts}
+use Rattle.std.proofs.lemmas.Bool.{cases_lt, cases_eq, lt-ltb, le-ltb, eq-eqb, ne_eqb, eqb-false}
+use Rattle.std.proofs.lemmas.Bool.{eqb-true, ltb-true, cases_Bool, and_parts}
 use Rattle.std.proofs.lemmas.List.{get_or_read, get_or_default}
 use Rattle.std.proofs.lemmas.List.Elements.{recursion_from_All, All-from_recursion}
 use Rattle.std.proofs.lemmas.List.Sorted.{length_permutation, All-permutation, Contains-permutation}
@@ -14,7 +17,9 @@ use Rattle.vab_exceptions.proofs.EntryLaws.{length-firsts, get_or-firsts}
 use Rattle.vab_store.specs.declared.index.Key.{Key}
 use Rattle.vab_store.specs.declared.index.Place.{Place}
 use Rattle.vab_store.specs.View.{exception_at}
-use Rattle.vab_store.specs.Index.{place_at, Points, key_of, IsBefore, IsSortedBy, IsOnceBy, IsRepeatBy, IsIndexed, HasNoTie, IsFirstTie, TellsTie, TellsRepeat, earlier_of}
+use Rattle.vab_store.specs.Index.{place_at, Points, key_of, IsBefore, IsSortedBy, IsOnceBy}
+use Rattle.vab_store.specs.Index.{IsRepeatBy, IsIndexed, HasNoTie, IsFirstTie, TellsTie}
+use Rattle.vab_store.specs.Index.{TellsRepeat, earlier_of}
 use Rattle.vab_store.specs.declared.index.Key.TheVariants.{Old, New}
 use Rattle.vab_store.specs.Scan.{share, repeat_of}
 use Rattle.vab_store.proofs.ScanLaws.{others_share, none_repeated, repeat_is}
@@ -412,7 +417,8 @@ pub repeat_is_earlier : (es : List Exception) (a b : Option (ℕ × ℕ))
     → TellsRepeat New es b
     → repeat_of es ≡ earlier_of a b
 repeat_is_earlier es None None old new =
-    none_repeated es (λ j k order below. record { old_chunk = old j k order below; new_chunk = new j k order below })
+    none_repeated es (λ j k order below.
+    record { old_chunk = old j k order below; new_chunk = new j k order below })
 repeat_is_earlier es (Some (j, k)) None old new =
     first_of es j k old.order old.within
     (share_old (exception_at es j) (exception_at es k) old.same)

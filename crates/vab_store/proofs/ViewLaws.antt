@@ -1,11 +1,13 @@
 -- What is read through a store whose list loses its last exceptions.
-use Rattle.std.proofs.Common.{◌≡◌, ◌≢◌, inl, inr, ℕ, zero, suc, ◌≤◌, ◌<◌, List, [], ◌∷◌, length, take, sym, ◌∙◌, ap, subst, arith, true, ◌==◌, length-take-le}
+use Rattle.std.proofs.Common.{◌≡◌, ◌≢◌, inl, inr, ℕ, zero, suc, ◌≤◌, ◌<◌, List, [], ◌∷◌, length}
+use Rattle.std.proofs.Common.{take, sym, ◌∙◌, ap, subst, arith, true, ◌==◌, length-take-le}
 use Rattle.std.specs.Prelude.{Some, None}
 use Rattle.std.proofs.lemmas.Bool.{cases_Bool, eqb-true, eq-eqb}
 use Rattle.std.proofs.lemmas.List.{get_or-take}
 use Rattle.vab_exceptions.specs.declared.area.Exception.{Exception}
-use Rattle.vab_exceptions.specs.Entries.{area_entries}
-use Rattle.vab_store.specs.Layout.{chunks_of, is_data}
+use Rattle.vab_space.specs.declared.Chunk.{Chunk}
+use Rattle.vab_space.specs.Chunks.{chunks_for, is_data}
+use Rattle.vab_store.specs.Layout.{chunks_of}
 use Rattle.vab_store.specs.View.{no_exception, exception_at, view_of, Lies, AreOther, Fits}
 use Rattle.vab_store.proofs.IndexLaws.{view_found, view_lacks}
 
@@ -60,17 +62,18 @@ view_out (e ∷ es) old is (suc j) below same =
     ]
 
 -- the chunk of a block lies in the store
-pub view_chunk : (bound : ℕ) (map : List ℕ) (es : List Exception) (block chunk : ℕ)
-    → Fits bound map es
+pub view_chunk : {size : Chunk} (bound : ℕ) (map : List ℕ) (es : List Exception) (block chunk : ℕ)
+    → Fits size bound map es
     → view_of es block ≡ Some chunk
-    → Lies area_entries (chunks_of map) bound (record { old_chunk = block; new_chunk = chunk })
-view_chunk bound map es block chunk fits is =
+    → Lies size (chunks_of size map) (chunks_for size bound)
+    (record { old_chunk = block; new_chunk = chunk })
+view_chunk {size} bound map es block chunk fits is =
     let found = view_in es block chunk is in
     let lie = fits.lie found.place found.within in
     record {
       old_chunk = omega (arith, lie.old_chunk, found.old_is);
       new_chunk = omega (arith, lie.new_chunk, found.new_is);
-      is_data = subst (λ (c : ℕ). is_data area_entries c ≡ true) found.new_is lie.is_data;
+      is_data = subst (λ (c : ℕ). is_data size c ≡ true) found.new_is lie.is_data;
     }
 
 -- ---- without the last exceptions
@@ -80,18 +83,18 @@ pub take-at : (es : List Exception) (n j : ℕ)
     → exception_at (take n es) j ≡ exception_at es j
 take-at es n j below = get_or-take n es j no_exception below
 
-pub take_fits : (bound : ℕ) (map : List ℕ) (es : List Exception) (n : ℕ)
+pub take_fits : {size : Chunk} (bound : ℕ) (map : List ℕ) (es : List Exception) (n : ℕ)
     → n ≤ length es
-    → Fits bound map es
-    → Fits bound map (take n es)
-take_fits bound map es n within fits =
+    → Fits size bound map es
+    → Fits size bound map (take n es)
+take_fits {size} bound map es n within fits =
     let long : length (take n es) ≡ n = length-take-le n es within in
     record {
       chunks = fits.chunks;
       room = omega (arith, long, within, fits.room);
       lie = λ j below.
           let lt : j < n = omega (arith, below, long) in
-          subst (Lies area_entries (chunks_of map) bound) (sym (take-at es n j lt))
+          subst (Lies size (chunks_of size map) (chunks_for size bound)) (sym (take-at es n j lt))
           (fits.lie j (omega (arith, lt, within)));
       once = λ j k order below.
           let lt : k < n = omega (arith, below, long) in
@@ -101,8 +104,8 @@ take_fits bound map es n within fits =
           (fits.once j k order (omega (arith, lt, within))));
     }
 
-once_olds : (bound : ℕ) (map : List ℕ) (es : List Exception)
-    → Fits bound map es
+once_olds : {size : Chunk} (bound : ℕ) (map : List ℕ) (es : List Exception)
+    → Fits size bound map es
     → (i j : ℕ)
     → i < j
     → j < length es
@@ -110,15 +113,15 @@ once_olds : (bound : ℕ) (map : List ℕ) (es : List Exception)
 once_olds bound map es fits i j order below = (fits.once i j order below).old_chunk
 
 -- an exception's block
-pub view_at : (bound : ℕ) (map : List ℕ) (es : List Exception) (j : ℕ)
-    → Fits bound map es
+pub view_at : {size : Chunk} (bound : ℕ) (map : List ℕ) (es : List Exception) (j : ℕ)
+    → Fits size bound map es
     → j < length es
     → view_of es (exception_at es j).old_chunk ≡ Some (exception_at es j).new_chunk
 view_at bound map es j fits below = view_found es j (once_olds bound map es fits) below
 
 -- it is kept
-pub view_kept : (bound : ℕ) (map : List ℕ) (es : List Exception) (n j : ℕ)
-    → Fits bound map es
+pub view_kept : {size : Chunk} (bound : ℕ) (map : List ℕ) (es : List Exception) (n j : ℕ)
+    → Fits size bound map es
     → n ≤ length es
     → j < n
     → view_of (take n es) (exception_at es j).old_chunk ≡ Some (exception_at es j).new_chunk
@@ -131,8 +134,8 @@ view_kept bound map es n j fits within below =
     ∙ ap (λ (e : Exception). Some e.new_chunk) at_j
 
 -- it is dropped
-pub view_dropped : (bound : ℕ) (map : List ℕ) (es : List Exception) (n j : ℕ)
-    → Fits bound map es
+pub view_dropped : {size : Chunk} (bound : ℕ) (map : List ℕ) (es : List Exception) (n j : ℕ)
+    → Fits size bound map es
     → n ≤ j
     → j < length es
     → view_of (take n es) (exception_at es j).old_chunk ≡ None

@@ -1,43 +1,33 @@
--- Where things stand in an exception store. An area holds `per` entries, and a chunk is one block.
-use Rattle.std.specs.Prelude.{◌⊎◌, ℕ, ◌+◌, ◌-◌, ◌*◌, ◌/◌, ◌%◌, ◌<◌, ◌≤◌, Bool, ◌&&◌, ◌==◌, not}
-use Rattle.std.specs.Prelude.{List, length, slice_index}
+-- Where things stand in an exception store, whose chunks are of one, two or four blocks. Each block
+-- of an area is a page of 256 entries.
+use Rattle.std.specs.Prelude.{◌⊎◌, ℕ, ◌+◌, ◌*◌, ◌/◌, ◌%◌, ◌<◌, ◌≤◌, List, length, slice_index}
 use Rattle.vab_disk.specs.Disk.{Image}
 use Rattle.vab_disk.specs.Calls.{IsBetween}
 use Rattle.vab_gate.specs.Gate.{sectors_at}
+use Rattle.vab_space.specs.declared.Chunk.{Chunk}
+use Rattle.vab_space.specs.Chunks.{chunks_in, page_entries, page_block, pages_in}
 use Rattle.vab_exceptions.specs.declared.area.Exception.{Exception}
 use Rattle.vab_exceptions.specs.Entries.{entry_at}
 
--- how many chunks there are on these blocks
-abbrev pub chunks_of : List ℕ → ℕ
-chunks_of map = length map
+-- how many chunks there are on these blocks, and how many pages
+abbrev pub chunks_of : Chunk → List ℕ → ℕ
+chunks_of k map = chunks_in k (length map)
 
--- the bytes of a chunk
+abbrev pub pages_of : Chunk → List ℕ → ℕ
+pages_of k map = pages_in k (length map)
+
+-- the bytes of a block
 abbrev pub chunk_bytes : List ℕ → Image → ℕ → List ℕ
-chunk_bytes map image c = sectors_at 8 image (slice_index map c)
+chunk_bytes map image b = sectors_at 8 image (slice_index map b)
 
--- the chunk of area k
-abbrev pub area_chunk : ℕ → ℕ → ℕ
-area_chunk per k = 1 + (per + 1) * k
+-- the t-th entry of a store, counted through its pages
+unfoldable pub slot_at : Chunk → List ℕ → Image → ℕ → Exception
+slot_at k map image t =
+    entry_at (chunk_bytes map image (page_block k (t / page_entries))) (t % page_entries)
 
--- how many areas so many chunks have
-abbrev pub areas_of : ℕ → ℕ → ℕ
-areas_of per chunks = (chunks + (per - 1)) / (per + 1)
-
--- a chunk that is neither the header nor an area
-abbrev pub is_data : ℕ → ℕ → Bool
-is_data per c = not (c == 0) && not (c % (per + 1) == 1)
-
--- the chunk that a writer gives exception j
-abbrev pub new_chunk_of : ℕ → ℕ → ℕ
-new_chunk_of per j = 2 + j + j / per
-
--- the t-th entry of a store, counted through its areas
-unfoldable pub slot_at : ℕ → List ℕ → Image → ℕ → Exception
-slot_at per map image t = entry_at (chunk_bytes map image (area_chunk per (t / per))) (t % per)
-
--- how many entries its areas have
-abbrev pub slots_of : ℕ → List ℕ → ℕ
-slots_of per map = per * areas_of per (chunks_of map)
+-- how many entries its pages have
+abbrev pub slots_of : Chunk → List ℕ → ℕ
+slots_of k map = page_entries * pages_of k map
 
 -- each block of a partition lies within so many sectors
 abbrev pub IsOnDisk : List ℕ → ℕ → Type 0

@@ -5,11 +5,14 @@ use Rattle.std.specs.Prelude.{if◌then◌else◌}
 use Rattle.vab_disk.specs.Disk.{Image}
 use Rattle.vab_exceptions.specs.declared.area.Exception.{Exception}
 use Rattle.vab_exceptions.specs.declared.header.HeaderFault.{HeaderFault}
-use Rattle.vab_exceptions.specs.Entries.{area_entries, firsts, listed}
+use Rattle.vab_exceptions.specs.declared.header.HeaderFault.TheVariants.{BadChunk}
+use Rattle.vab_space.specs.declared.Chunk.{Chunk}
+use Rattle.vab_space.specs.Chunks.{blocks_in, chunks_for, is_data}
+use Rattle.vab_exceptions.specs.Entries.{firsts, listed}
 use Rattle.vab_exceptions.specs.Header.{header_of}
 use Rattle.vab_store.specs.declared.fault.StoreFault.{StoreFault}
 use Rattle.vab_store.specs.declared.fault.StoreFault.TheVariants as faults
-use Rattle.vab_store.specs.Layout.{chunks_of, chunk_bytes, is_data, slot_at, slots_of}
+use Rattle.vab_store.specs.Layout.{chunks_of, chunk_bytes, slot_at, slots_of}
 use Rattle.vab_store.specs.View.{exception_at, Fits}
 
 -- the one, or else the other
@@ -36,17 +39,17 @@ unfoldable pub repeat_of : List Exception → Option (ℕ × ℕ)
 repeat_of es = first_some (repeat_at es) (length es)
 
 -- its old chunk is below the bound, and its new chunk is a data chunk inside the store
-abbrev pub lies : ℕ → ℕ → Exception → Bool
-lies chunks bound e =
-    nat_lt e.old_chunk bound && (nat_lt e.new_chunk chunks && is_data area_entries e.new_chunk)
+abbrev pub lies : Chunk → ℕ → ℕ → Exception → Bool
+lies k chunks bound e =
+    nat_lt e.old_chunk bound && (nat_lt e.new_chunk chunks && is_data k e.new_chunk)
 
--- the exceptions of a store's areas, up to the entry that ends them
-unfoldable pub list_of : List ℕ → Image → List Exception
-list_of map image = listed (firsts (slot_at area_entries map image) (slots_of area_entries map))
+-- the exceptions of a store's pages, up to the entry that ends them
+unfoldable pub list_of : Chunk → List ℕ → Image → List Exception
+list_of k map image = listed (firsts (slot_at k map image) (slots_of k map))
 
 -- those before the first that doesn't lie there
-unfoldable pub good_of : ℕ → ℕ → List Exception → List Exception
-good_of chunks bound es = take_while (lies chunks bound) es
+unfoldable pub good_of : Chunk → ℕ → ℕ → List Exception → List Exception
+good_of k chunks bound es = take_while (lies k chunks bound) es
 
 abbrev pub unless_repeated : {X : Type 0}
     → Option (ℕ × ℕ)
@@ -55,34 +58,42 @@ abbrev pub unless_repeated : {X : Type 0}
 unless_repeated None means = means
 unless_repeated (Some (j, k)) means = Err (faults.Repeated j k)
 
+-- a header has to say that the chunks are of this size
 abbrev pub after_header : {X : Type 0}
-    → Result (Unit {0}) HeaderFault
+    → Chunk
+    → Result Chunk HeaderFault
     → Result X StoreFault
     → Result X StoreFault
-after_header (Ok u) means = means
-after_header (Err fault) means = Err (faults.Header fault)
+after_header k (Ok other) means =
+    if blocks_in other == blocks_in k then means else Err (faults.Header BadChunk)
+after_header k (Err fault) means = Err (faults.Header fault)
 
 -- The first exception at fault decides, where it is bad before it is a repeated one. A list that
--- goes on to the last entry of the last area has no end.
-unfoldable pub judged : ℕ → ℕ → ℕ → List Exception → Result (List Exception) StoreFault
-judged chunks bound slots es =
-    unless_repeated (repeat_of (good_of chunks bound es))
-    (if nat_lt (length (good_of chunks bound es)) (length es)
-    then Err (faults.BadChunk (length (good_of chunks bound es)))
+-- goes on to the last entry of the last page has no end.
+unfoldable pub judged : Chunk → ℕ → ℕ → ℕ → List Exception → Result (List Exception) StoreFault
+judged k chunks bound slots es =
+    unless_repeated (repeat_of (good_of k chunks bound es))
+    (if nat_lt (length (good_of k chunks bound es)) (length es)
+    then Err (faults.BadChunk (length (good_of k chunks bound es)))
     else (if nat_lt (length es) slots then Ok es else Err faults.Unended))
 
--- the exceptions of the store on these blocks, whose old chunks are below the bound, or the fault
-unfoldable pub scan_of : List ℕ → ℕ → Image → Result (List Exception) StoreFault
-scan_of map bound image =
-    if nat_lt (chunks_of map) 2
+-- the exceptions of the store on these blocks, for a partition of so many blocks, or the fault
+unfoldable pub scan_of : Chunk → List ℕ → ℕ → Image → Result (List Exception) StoreFault
+scan_of k map bound image =
+    if nat_lt (length map) 2
     then Err faults.Unended
     else
-    after_header (header_of (take 512 (chunk_bytes map image 0)))
-    (judged (chunks_of map) bound (slots_of area_entries map) (list_of map image))
+    after_header k (header_of (take 512 (chunk_bytes map image 0)))
+    (judged k (chunks_of k map) (chunks_for k bound) (slots_of k map) (list_of k map image))
 
 -- These exceptions are the store's: the same said of each entry.
-pub record IsScan (map : List ℕ) (bound : ℕ) (image : Image) (es : List Exception) : Type 0 where
-  pub fits : Fits bound map es
-  pub header : header_of (take 512 (chunk_bytes map image 0)) ≡ Ok tt
-  pub reads : (t : ℕ) → t < length es → slot_at area_entries map image t ≡ exception_at es t
-  pub stops : (slot_at area_entries map image (length es)).new_chunk ≡ 0
+pub record IsScan
+    (k : Chunk)
+    (map : List ℕ)
+    (bound : ℕ)
+    (image : Image)
+    (es : List Exception) : Type 0 where
+  pub fits : Fits k bound map es
+  pub header : header_of (take 512 (chunk_bytes map image 0)) ≡ Ok k
+  pub reads : (t : ℕ) → t < length es → slot_at k map image t ≡ exception_at es t
+  pub stops : (slot_at k map image (length es)).new_chunk ≡ 0

@@ -1,8 +1,8 @@
 //! Exception stores on the blocks of a partition: the kernel's dm-snapshot persistent store,
-//! version 1, with chunks of one block of 4096 bytes.
+//! version 1, with chunks of one, two or four blocks of 4096 bytes.
 //!
-//! Chunk 0 is the header, chunks 1, 258, 515 and so on are areas of 256 entries, and all others
-//! are data.
+//! Chunk 0 is the header, chunk 1 is an area of entries, the chunks of data of those entries
+//! follow, and so on. Each block of an area is a page of 256 entries.
 #![tactic(auto)]
 
 mod fault;

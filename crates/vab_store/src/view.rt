@@ -15,6 +15,7 @@ use std::marker::{Brand, Model};
 use std::sync::ledger::{Blank, Ledger};
 use vab_disk::NoMemory;
 use vab_exceptions::Exception;
+use vab_space::Chunk;
 
 /// The exceptions of a store in the order of its entries, with an index by their old chunks. Each
 /// takes 32 bytes. Contracts see the list.
@@ -41,15 +42,15 @@ impl Model for StoreView {
 impl StoreView {
     ghost use Rattle.vab_store.specs.Answers.{Answers};
 
-    /// What a scan gives of a store that is written for these blocks, which ascend.
-    pub fn planned(alloc: Global, olds: &[u64]) -> Result<StoreView, NoMemory>
+    /// What a scan gives of a store that is written for these chunks, which ascend.
+    pub fn planned(alloc: Global, olds: &[u64], chunk: Chunk) -> Result<StoreView, NoMemory>
         requires { IsStrictlyIncreasing olds.now }
-        ensures { IfOk result (λ v. v ≡ planned_of olds.now) }
+        ensures { IfOk result (λ v. v ≡ planned_of chunk olds.now) }
     {
         let mut items = Vec::with_capacity(alloc, olds.len())?;
         let mut index = Vec::with_capacity(alloc, olds.len())?;
         for j in 0..olds.len() {
-            items.push(planned(olds, j))?;
+            items.push(planned(chunk, olds, j))?;
             index.push(Place {
                 key: olds[j],
                 at: j as u64,

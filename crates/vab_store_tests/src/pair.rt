@@ -2,6 +2,7 @@
 ghost use Rattle.std.specs.Prelude.{◌≡◌, ◌+◌, ◌*◌, ◌<◌, ◌≤◌, ◌^◌, length, IfOk, IfSome, IsTrue};
 ghost use Rattle.std.specs.List.Sorted.{IsStrictlyIncreasing};
 ghost use Rattle.vab_linear.specs.Map.{run_of};
+ghost use Rattle.vab_space.specs.declared.Chunk.TheVariants.{One};
 ghost use Rattle.vab_store.specs.View.{Fits};
 
 use std::alloc::Global;
@@ -12,8 +13,8 @@ use vab_linear::Map;
 use vab_merge::{Ran, run_turn};
 use vab_scan::scan;
 use vab_snapread::read_block;
-use vab_space::need;
-use vab_store::{StoreView, write_store};
+use vab_space::{Chunk, need};
+use vab_store::{StoreFault, StoreView, write_store};
 
 /// The partition stands from sector 0 on, and its store right behind it.
 #[derive(Drop)]
@@ -98,28 +99,45 @@ impl Pair {
         if !self.lies_on(d) || need(olds.len() as u64) > self.chunks {
             return false;
         }
-        write_store(d, &self.store, olds, image).is_ok() && settle(d).is_ok()
+        write_store(d, &self.store, olds, image, Chunk::One).is_ok() && settle(d).is_ok()
     }
 
     /// The exceptions of the store.
     pub(crate) fn scan(&self, alloc: Global, d: &mut MemPort) -> Option<StoreView>
-        ensures { IfSome result (Fits self.now.blocks self.now.store) }
+        ensures { IfSome result (Fits One self.now.blocks self.now.store) }
     {
         if !self.lies_on(d) {
             return None;
         }
-        scan(alloc, d, &self.store, self.blocks).ok()
+        scan(alloc, d, &self.store, self.blocks, Chunk::One).ok()
+    }
+
+    /// What is wrong with the store, where it lies on the disk.
+    pub(crate) fn fault(&self, alloc: Global, d: &mut MemPort) -> Option<StoreFault> {
+        if !self.lies_on(d) {
+            return None;
+        }
+        scan(alloc, d, &self.store, self.blocks, Chunk::One).err()
     }
 
     // Whether a block that is read through the store holds this byte throughout.
     fn reads(&self, d: &mut MemPort, view: &StoreView, block: u64, byte: u8) -> bool
-        requires { Fits self.now.blocks self.now.store view.now }
+        requires { Fits One self.now.blocks self.now.store view.now }
     {
         if !self.lies_on(d) || block >= self.blocks {
             return false;
         }
         let mut bytes = [1; 4096];
-        read_block(d, &self.base, &self.store, view, block, &mut bytes).is_ok()
+        read_block(
+            d,
+            &self.base,
+            &self.store,
+            view,
+            block,
+            &mut bytes,
+            Chunk::One,
+        )
+        .is_ok()
             && bytes == [byte; 4096]
     }
 

@@ -9,6 +9,7 @@ use vab_disk::{Disk, MemPort};
 use vab_exceptions::HeaderFault;
 use vab_merge::Ran;
 use vab_scan::scan;
+use vab_space::Chunk;
 use vab_store::{Steps, StoreFault, StoreView};
 
 fn put(d: &mut MemPort, at: u64, from: &[u8; 512]) -> bool {
@@ -55,7 +56,7 @@ fn a_cut_while_entries_are_zeroed_changes_no_block(rt: HostRuntime) -> Result<()
 #[test]
 fn exceptions_get_their_chunks_in_order(rt: HostRuntime) -> Result<(), Fail> {
     let olds = ascending(rt.alloc(), 0, 257)?;
-    let view = StoreView::planned(rt.alloc(), &olds);
+    let view = StoreView::planned(rt.alloc(), &olds, Chunk::One);
     let view = view.ok().ok_or("there is memory for a view")?;
     assert_eq!(rt; view.count(), 257);
     assert!(rt; view.count() > 256 && view.at(256).new_chunk == 259);
@@ -78,7 +79,7 @@ fn found<L: Ledger>(view: &StoreView, old: u64, blank: Blank) -> (Option<u64>, u
 
 #[test]
 fn one_of_three_is_found_in_at_most_two_comparisons(rt: HostRuntime) -> Result<(), Fail> {
-    let view = StoreView::planned(rt.alloc(), &[1, 5, 9]);
+    let view = StoreView::planned(rt.alloc(), &[1, 5, 9], Chunk::One);
     let view = view.ok().ok_or("there is memory for a view")?;
     for (old, wanted) in [
         (5, (Some(3), 1)),
@@ -108,7 +109,7 @@ fn scanned(
     if first + 8 * blocks > d.sectors() {
         return Err("the partition is on the disk")?;
     }
-    match scan(alloc, d, &store, 1000) {
+    match scan(alloc, d, &store, 1000, Chunk::One) {
         Ok(view) => Ok(Ok(view.count())),
         Err(fault) => Ok(Err(fault)),
     }
@@ -129,5 +130,39 @@ fn a_full_area_wants_another_behind_it(rt: HostRuntime) -> Result<(), Fail> {
     assert!(rt; short == Err(StoreFault::Unended));
     let one_chunk = scanned(alloc, &mut d, 8, 1)?;
     assert!(rt; one_chunk == Err(StoreFault::Unended));
+    Ok(())
+}
+
+// Two entries, of an old chunk and a new chunk each, in an area's first sector.
+fn sector_of(entries: [(u64, u64); 2]) -> [u8; 512] {
+    let mut bytes = [0; 512];
+    let [(first_old, first_new), (second_old, second_new)] = entries;
+    bytes[..8].copy_from_slice(&first_old.to_le_bytes());
+    bytes[8..16].copy_from_slice(&first_new.to_le_bytes());
+    bytes[16..24].copy_from_slice(&second_old.to_le_bytes());
+    bytes[24..32].copy_from_slice(&second_new.to_le_bytes());
+    bytes
+}
+
+// The store of a partition of four blocks has six chunks, so that 2 to 5 hold data. Its area is in
+// the sectors from 40 on.
+#[test]
+fn entries_that_are_none_are_refused(rt: HostRuntime) -> Result<(), Fail> {
+    let alloc = rt.alloc();
+    let pair = Pair::new(alloc, 4, 6)?;
+    let mut d = pair.disk(alloc)?;
+    let olds = ascending(alloc, 0, 2)?;
+    assert!(rt; pair.write(&mut d, &olds, &image(alloc, 4)?));
+    for (entries, fault) in [
+        ([(4, 2), (1, 3)], StoreFault::BadChunk(0)),
+        ([(0, 1), (1, 3)], StoreFault::BadChunk(0)),
+        ([(0, 6), (1, 3)], StoreFault::BadChunk(0)),
+        ([(0, 2), (1, 6)], StoreFault::BadChunk(1)),
+        ([(0, 2), (1, 2)], StoreFault::Repeated(0, 1)),
+        ([(3, 2), (3, 3)], StoreFault::Repeated(0, 1)),
+    ] {
+        assert!(rt; put(&mut d, 40, &sector_of(entries)));
+        assert_eq!(rt; pair.fault(alloc, &mut d), Some(fault), "{entries:?}");
+    }
     Ok(())
 }

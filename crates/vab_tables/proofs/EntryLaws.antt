@@ -7,7 +7,8 @@ use Rattle.std.proofs.lemmas.List.{take_at, drop_at, take_all, take-append-drop,
 use Rattle.std.proofs.lemmas.List.{drop_all, length-append, length-replicate, append-nil}
 use Rattle.std.proofs.lemmas.Option.{none-some, same_Some}
 use Rattle.vab_bytes.specs.Number.{IsBytes, field, le_at}
-use Rattle.vab_bytes.proofs.NumberLaws.{length-field, le_at_fits_32, le_at_fits_64, le_at_spelled_32}
+use Rattle.vab_bytes.proofs.NumberLaws.{length-field, le_at_fits_32, le_at_fits_64}
+use Rattle.vab_bytes.proofs.NumberLaws.{le_at_spelled_32}
 use Rattle.vab_bytes.proofs.NumberLaws.{le_at_spelled_64, le_at_is_32, le_at_is_64}
 use Rattle.vab_bytes.specs.Name.{IsName, name_field, name_of_field}
 use Rattle.vab_bytes.proofs.NameLaws.{name_fits, found_name, only_name}

@@ -56,6 +56,7 @@ use Rattle.vab_device.proofs.OwnParts.{parts_kept, length-sectors_of}
 use Rattle.vab_device.proofs.ReadingLaws.{device_was, idle_read_of, slot_below}
 use Rattle.vab_device.proofs.StayLaws.{one_of}
 use Rattle.vab_edit.proofs.PlanLaws.{map_among, map_map}
+use Rattle.vab_marks.specs.Mark.{mark_at}
 use Rattle.vab_targets.specs.Plans.{HasWholeSectors, kept_entry, begun_plan, with_plan}
 use Rattle.vab_targets.proofs.Sectors.{blocks_long, table_rules, IsRead}
 use Rattle.vab_targets.proofs.Entries.{size_absent, own_is, no_store}
@@ -193,7 +194,7 @@ abbrev idle_at : ℕ
     → List Scanned
     → Read
 idle_at slot statuses c g t scanned = record {
-  mark = record { phase = marks.Idle; slot = slot };
+  mark = mark_at marks.Idle slot;
   statuses = statuses;
   control = c;
   geometry = g;
@@ -226,14 +227,14 @@ has_idle size image m is phase =
     let idle : r.mark.phase ≡ marks.Idle =
     idle_read_of size r image was.reads
     (sym (phase_said r image) ∙ sym (ap (λ (x : Mounted). x.state.phase) was.is) ∙ phase) in
-    let marked : r ≡ record r { mark = record { phase = marks.Idle; slot = r.mark.slot } } =
-    (λ i. record r { mark = record { phase = idle i; slot = r.mark.slot } }) in
+    let marked : r ≡ record r { mark = record r.mark { phase = marks.Idle } } =
+    (λ i. record r { mark = record r.mark { phase = idle i } }) in
     let now = subst (IsReadAs size image m) marked (record { reads = was.reads; is = was.is }) in
     let one = one_of size r.geometry r.mark.slot image r.tables now.reads.tables in
-    let form : record r { mark = record { phase = marks.Idle; slot = r.mark.slot } }
+    let form : record r { mark = record r.mark { phase = marks.Idle } }
     ≡ idle_at r.mark.slot r.statuses r.control r.geometry one.0 r.scanned =
     (λ i. record {
-      mark = record { phase = marks.Idle; slot = r.mark.slot };
+      mark = record r.mark { phase = marks.Idle };
       statuses = r.statuses;
       control = r.control;
       geometry = r.geometry;

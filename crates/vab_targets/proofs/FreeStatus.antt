@@ -24,6 +24,7 @@ use Rattle.vab_layout.specs.declared.layout.Layout.{Layout}
 use Rattle.vab_layout.specs.Layout.{layout_of}
 use Rattle.vab_layout.specs.Slots.{other_slot, own_parts, is_updated, IsTargetPart, IsTarget}
 use Rattle.vab_exceptions.specs.declared.area.Exception.{Exception}
+use Rattle.vab_space.specs.declared.Chunk.TheVariants.{One}
 use Rattle.vab_store.specs.declared.fault.StoreFault.{StoreFault}
 use Rattle.vab_store.specs.Scan.{scan_of}
 use Rattle.vab_builder.proofs.Counting.{pairs_map}
@@ -55,6 +56,7 @@ use Rattle.vab_device.specs.Updates.{stored_effect}
 use Rattle.vab_device.proofs.CheckLaws.{bound, first_kept}
 use Rattle.vab_device.proofs.NamedParts.{named_in}
 use Rattle.vab_device.proofs.ReadingLaws.{device_was}
+use Rattle.vab_marks.specs.Mark.{mark_at}
 use Rattle.vab_targets.specs.Statuses.{FlashFindsFree}
 use Rattle.vab_targets.proofs.FewNames.{IsNamed, named_in_list, few_names}
 use Rattle.vab_targets.proofs.FewNames.{NoneFree, free_or_none, first_free, none_first, all_written}
@@ -228,7 +230,7 @@ scan_name w (Err fault) s h =
 
 read_name : (w : Wanted) (image : Image) (s : Scanned) → scan_at w image ≡ Ok s → w.name ≡ s.name
 unfolding scan_at
-read_name w image s h = scan_name w (scan_of w.store (length w.base) image) s h
+read_name w image s h = scan_name w (scan_of One w.store (length w.base) image) s h
 
 -- the partition that a status names, and its store
 record IsWanted (s : PartStatus) (x : Option PartOfLayout) (w : Wanted) : Type 0 where
@@ -406,7 +408,7 @@ module _ (slot : ℕ) (statuses : List (Option PartStatus)) (scanned : List Scan
       → statuses_at (phase_at phase).reads_statuses image ≡ Ok statuses
       → scans_in ((phase_at phase).stores slot ts (written_in statuses)) image ≡ Ok scanned
       → (flash_effect m staged name
-      (phase_by (record { phase = phase; slot = slot }) left
+      (phase_by (mark_at phase slot) left
       (entries_on image ((phase_at phase).plan slot ts scanned)))).reply
       ≡ replies.Done
       → (at : ℕ) × IsFirstFree image (Some at)

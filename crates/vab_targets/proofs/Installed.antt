@@ -49,6 +49,7 @@ use Rattle.vab_edit.proofs.InstallingLaws.{read_at, two_tables}
 use Rattle.vab_edit.proofs.NamedLaws.{first_is, base_eq, HasBoth, LeavesBoth}
 use Rattle.vab_edit.proofs.PlanLaws.{plan_means, store_updated}
 use Rattle.vab_edit.proofs.WantedLaws.{scanned_both}
+use Rattle.vab_marks.specs.Mark.{mark_at}
 use Rattle.vab_targets.specs.Plans.{HasWholeSectors}
 use Rattle.vab_targets.proofs.Sectors.{table_rules}
 
@@ -56,7 +57,7 @@ use Rattle.vab_targets.proofs.Sectors.{table_rules}
 
 installing_by : (p : MarkPhase) (slot left source : ℕ) (plan : List PlanEntry)
     (ts : List Table) (ss : List Scanned) (image : Image)
-    → phase_by (record { phase = p; slot = slot }) left
+    → phase_by (mark_at p slot) left
     (entries_on image ((phase_at p).plan slot ts ss))
     ≡ Installing source plan
     → p ≡ marks.Installing
@@ -106,15 +107,15 @@ has_read size image m source plan is phase =
     let installing : r.mark.phase ≡ marks.Installing =
     installing_of r image source plan
     (sym (ap (λ (x : Mounted). x.state.phase) was.is) ∙ phase) in
-    let marked : r ≡ record r { mark = record { phase = marks.Installing; slot = r.mark.slot } } =
-    (λ i. record r { mark = record { phase = installing i; slot = r.mark.slot } }) in
+    let marked : r ≡ record r { mark = record r.mark { phase = marks.Installing } } =
+    (λ i. record r { mark = record r.mark { phase = installing i } }) in
     let now = subst (IsReadAs size image m) marked (record { reads = was.reads; is = was.is }) in
     let two = two_tables size r.geometry r.mark.slot (other_slot r.mark.slot) image r.tables
     now.reads.tables in
-    let form : record r { mark = record { phase = marks.Installing; slot = r.mark.slot } }
+    let form : record r { mark = record r.mark { phase = marks.Installing } }
     ≡ read_at r.mark.slot r.statuses r.control r.geometry two.source two.target r.scanned =
     (λ i. record {
-      mark = record { phase = marks.Installing; slot = r.mark.slot };
+      mark = record r.mark { phase = marks.Installing };
       statuses = r.statuses;
       control = r.control;
       geometry = r.geometry;

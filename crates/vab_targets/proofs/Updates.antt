@@ -18,16 +18,16 @@ use Rattle.vab_model.specs.declared.state.PlanEntry.{PlanEntry}
 use Rattle.vab_model.specs.declared.state.Phase.TheVariants.{Installing}
 use Rattle.vab_model.specs.declared.command.Refusal.{Refusal}
 use Rattle.vab_model.specs.declared.command.Reply.TheVariants as replies
-use Rattle.vab_model.specs.Commands.{Command, SetActive, Boot, Mark, Print, Digest, Begin, Create}
-use Rattle.vab_model.specs.Commands.{Resize, Delete, Snapshot, Flash, Finish, Cancel, BeginMerge}
-use Rattle.vab_model.specs.Commands.{Merge}
+use Rattle.vab_model.specs.Commands.{Command, Create}
+use Rattle.vab_model.specs.Commands.{Resize, Delete, Snapshot}
 use Rattle.vab_model.specs.Effects.{Effect, after_of}
 use Rattle.vab_device.specs.Mounted.{Mounted}
 use Rattle.vab_device.specs.Reading.{IsIn}
 use Rattle.vab_device.specs.Updates.{EditOf, effect_on, edit_effect, edited_effect, table_effect}
 use Rattle.vab_device.specs.Updates.{plan_by, refusal_of}
 use Rattle.vab_edit.proofs.PlainLaws.{changed_plain}
-use Rattle.vab_targets.specs.Plans.{HasWholeSectors, first_group, is_edit, edited_plan}
+use Rattle.vab_model.specs.Kinds.{is_edit}
+use Rattle.vab_targets.specs.Plans.{HasWholeSectors, first_group, edited_plan}
 use Rattle.vab_targets.specs.Plans.{with_plan}
 use Rattle.vab_targets.proofs.Edits.{create_of, resize_of, delete_of, store_edit_of, group_is}
 use Rattle.vab_targets.proofs.Edits.{created_plan, resized_plan, deleted_plan, stored_plan}
@@ -103,12 +103,6 @@ follows : (m : Mounted) (staged : Option (List ℕ)) (c : Command) (source : ℕ
     → (effect_on m staged c).reply ≡ replies.Done
     → (after_of m (effect_on m staged c)).state
     ≡ with_plan m.state source (edited_plan m.state.groups c plan)
-follows m staged (SetActive slot) source plan i phase edits done = absurd cc
-follows m staged Boot source plan i phase edits done = absurd cc
-follows m staged Mark source plan i phase edits done = absurd cc
-follows m staged (Print name) source plan i phase edits done = absurd cc
-follows m staged (Digest name) source plan i phase edits done = absurd cc
-follows m staged Begin source plan i phase edits done = absurd cc
 follows m staged (Create name bytes) source plan i phase edits done =
     let group = group_is (other_slot source) source i.s.groups i.t.groups i.groups
     ∙ sym (ap first_group i.limits) in
@@ -132,11 +126,7 @@ follows m staged (Snapshot name bytes) source plan i phase edits done =
     (store_edit_of name bytes) i phase
     (stored_plan (other_slot source) i.s i.t plan i.update i.again i.unwritten name bytes)
     done
-follows m staged (Flash name) source plan i phase edits done = absurd cc
-follows m staged Finish source plan i phase edits done = absurd cc
-follows m staged Cancel source plan i phase edits done = absurd cc
-follows m staged BeginMerge source plan i phase edits done = absurd cc
-follows m staged (Merge blocks) source plan i phase edits done = absurd cc
+follows m staged _ source plan i phase edits done = absurd cc
 
 pub edits_follow : (size : ℕ) (image : Image) (m : Mounted) (staged : Option (List ℕ))
     (c : Command) (source : ℕ) (plan : List PlanEntry)

@@ -1,6 +1,6 @@
 -- What a begin and the edits make of a plan: names, groups and numbers alone.
 use Rattle.std.specs.Prelude.{◌≡◌, ℕ, ◌<◌, ◌/◌, ◌==◌, not, if◌then◌else◌, List, [], ◌∷◌, ◌++◌}
-use Rattle.std.specs.Prelude.{length, map, Option, Some, None, Bool, true, false}
+use Rattle.std.specs.Prelude.{length, map, Option, Some, None, true}
 use Rattle.std.specs.List.{filter}
 use Rattle.std.specs.Str.{bytes_eq}
 use Rattle.vab_disk.specs.Disk.{Image, IsSector}
@@ -13,10 +13,10 @@ use Rattle.vab_model.specs.declared.state.PlanEntry.{PlanEntry}
 use Rattle.vab_model.specs.declared.state.Phase.TheVariants.{Installing}
 use Rattle.vab_model.specs.declared.state.State.{State}
 use Rattle.vab_model.specs.declared.command.Reply.TheVariants as replies
-use Rattle.vab_model.specs.Commands.{Command, SetActive, Boot, Mark, Print, Digest, Begin, Create}
-use Rattle.vab_model.specs.Commands.{Resize, Delete, Snapshot, Flash, Finish, Cancel, BeginMerge}
-use Rattle.vab_model.specs.Commands.{Merge}
+use Rattle.vab_model.specs.Commands.{Command, Begin, Create}
+use Rattle.vab_model.specs.Commands.{Resize, Delete, Snapshot}
 use Rattle.vab_model.specs.Effects.{after_of}
+use Rattle.vab_model.specs.Kinds.{is_edit}
 use Rattle.vab_model.specs.State.{images_at}
 use Rattle.vab_device.specs.Mounted.{Mounted}
 use Rattle.vab_device.specs.Reading.{IsIn}
@@ -76,40 +76,13 @@ without_entry base plan = filter {X = PlanEntry} (λ e. not (bytes_eq e.name bas
 
 -- what an edit makes of a plan, where the update has these groups
 abbrev pub edited_plan : List GroupLimit → Command → List PlanEntry → List PlanEntry
-edited_plan groups (SetActive slot) plan = plan
-edited_plan groups Boot plan = plan
-edited_plan groups Mark plan = plan
-edited_plan groups (Print name) plan = plan
-edited_plan groups (Digest name) plan = plan
-edited_plan groups Begin plan = plan
 edited_plan groups (Create name bytes) plan =
     plan ++ created_entry groups (base_of name) bytes ∷ []
 edited_plan groups (Resize name bytes) plan =
     at_entry (base_of name) (resized_entry (blocks_of bytes)) plan
 edited_plan groups (Delete name) plan = without_entry (base_of name) plan
 edited_plan groups (Snapshot name bytes) plan = at_entry (base_of name) (stored_entry bytes) plan
-edited_plan groups (Flash name) plan = plan
-edited_plan groups Finish plan = plan
-edited_plan groups Cancel plan = plan
-edited_plan groups BeginMerge plan = plan
-edited_plan groups (Merge blocks) plan = plan
-
-abbrev pub is_edit : Command → Bool
-is_edit (SetActive slot) = false
-is_edit Boot = false
-is_edit Mark = false
-is_edit (Print name) = false
-is_edit (Digest name) = false
-is_edit Begin = false
-is_edit (Create name bytes) = true
-is_edit (Resize name bytes) = true
-is_edit (Delete name) = true
-is_edit (Snapshot name bytes) = true
-is_edit (Flash name) = false
-is_edit Finish = false
-is_edit Cancel = false
-is_edit BeginMerge = false
-is_edit (Merge blocks) = false
+edited_plan groups _ plan = plan
 
 -- ---- laws
 

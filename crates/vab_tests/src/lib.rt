@@ -35,6 +35,8 @@ mod sources;
 #[cfg(test)]
 mod staged;
 #[cfg(test)]
+mod stops;
+#[cfg(test)]
 mod tables;
 #[cfg(test)]
 mod texts;

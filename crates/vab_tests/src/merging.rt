@@ -5,11 +5,12 @@ use crate::runs::{SECTORS, Step, port, steps, steps_on, words};
 use crate::sessions::{put, sector};
 use crate::sets::filled;
 use crate::staged::{MADE, serve, staged};
+use crate::stops::left_by;
 use std::alloc::Global;
 use std::process::Abort;
 use std::test::Fail;
 use vab_cli::run;
-use vab_disk::{Disk, MemPort};
+use vab_disk::{Blend, Disk, MemPort};
 
 // Slot b is marked as one that works, and was booted last.
 const B_WORKS: [u8; 4] = [0x8e, 0, 0x8f, 0];
@@ -183,8 +184,7 @@ fn blocks_that_follow_one_another_are_merged_at_once(rt: HostRuntime) -> Result<
     // Cut at the clear, where the one sector of entries has landed and the other hasn't.
     let mut first = merging(&rt, alloc, b"212992", &image, left)?;
     for (landed, told) in [(0usize, b"left 9\n".as_slice()), (1, b"left 31\n")] {
-        let d = copy_of(alloc, &mut first)?;
-        let mut d = d.next_run(Vec::new(alloc));
+        let mut d = left_by(&first, Blend::New)?;
         d.stop_after(323);
         let forty = words(alloc, &["merge", "40"])?;
         assert_eq!(rt; run(alloc, &forty, &mut d).code(), 6);
@@ -229,20 +229,6 @@ fn pending_sectors(
     Ok(found)
 }
 
-// A port of the same disk, on which nothing is pending.
-fn copy_of(alloc: Global, d: &mut MemPort) -> Result<MemPort, Fail> {
-    let sectors = d.sectors();
-    let mut copy = port(alloc, sectors, b"")?;
-    for at in 0..sectors {
-        let bytes = sector(d, at).ok_or("the sector is read")?;
-        if bytes != [0; 512] && (at >= copy.sectors() || copy.write_sector(at, &bytes).is_err()) {
-            return Err("the sector is written".into());
-        }
-    }
-    copy.sync().map_err(|_| Fail::from("the disk is synced"))?;
-    Ok(copy)
-}
-
 // A small device of slot b whose partitions, of two blocks and of one, are to be merged.
 fn small(rt: &impl Abort, alloc: Global) -> Result<MemPort, Fail> {
     let cases: [Case; 15] = [
@@ -282,27 +268,22 @@ fn a_merge_that_is_cut_off_goes_on(rt: HostRuntime) -> Result<(), Fail> {
         (&["print", "y_b"], b"", 0, &y),
     ];
     let all = words(alloc, &["merge", "4"])?;
-    let mut first = small(&rt, alloc)?;
+    let first = small(&rt, alloc)?;
     // Two runs, of 19 and 11 writes and syncs, and the end, of two: in each copy, before and behind
     // its sync, in each clear, and in the end.
     for stop in [0, 5, 16, 17, 18, 19, 28, 29, 30, 31, 32u64] {
-        for landed in [false, true] {
-            let d = copy_of(alloc, &mut first)?;
-            let mut d = d.next_run(Vec::new(alloc));
-            d.stop_after(stop);
-            let status = run(alloc, &all, &mut d).code();
-            assert_eq!(rt; status, if stop < 32 { 6 } else { 0 });
-            let mut d = d.next_run(Vec::new(alloc));
-            let pending = pending_sectors(alloc, &mut first, &mut d)?;
-            for (at, settled) in &pending {
-                assert!(rt; landed || put(&mut d, *at, settled));
-            }
-            let d = steps_on(&rt, alloc, d, &prints)?;
-            let mut d = d.next_run(Vec::new(alloc));
-            let code = run(alloc, &all, &mut d).code();
+        let mut d = left_by(&first, Blend::New)?;
+        d.stop_after(stop);
+        let status = run(alloc, &all, &mut d).code();
+        assert_eq!(rt; status, if stop < 32 { 6 } else { 0 });
+        for blend in [Blend::Old, Blend::New] {
+            let left = left_by(&d, blend)?;
+            let left = steps_on(&rt, alloc, left, &prints)?;
+            let mut left = left.next_run(Vec::new(alloc));
+            let code = run(alloc, &all, &mut left).code();
             assert!(rt; code == 0 || (code == 4 && stop > 30), "after {stop} calls");
-            let d = steps_on(&rt, alloc, d, &prints)?;
-            steps_on(&rt, alloc, d, &[(&["boot"], b"", 0, b"booted b\n")])?;
+            let left = steps_on(&rt, alloc, left, &prints)?;
+            steps_on(&rt, alloc, left, &[(&["boot"], b"", 0, b"booted b\n")])?;
         }
     }
     Ok(())

@@ -7,7 +7,7 @@ use Rattle.vab_marks.specs.declared.mark.MarkPhase.{MarkPhase}
 use Rattle.vab_marks.specs.declared.mark.MarkPhase.TheVariants as marks
 use Rattle.vab_marks.specs.declared.mark.UpdateMark.{UpdateMark}
 use Rattle.vab_marks.specs.declared.sector.MarkFault.{MarkFault}
-use Rattle.vab_marks.specs.Mark.{mark_of}
+use Rattle.vab_marks.specs.Mark.{mark_of, idle_mark, completed_mark, mark_at}
 use Rattle.vab_geometry.specs.declared.geometry.Geometry.{Geometry}
 use Rattle.vab_lpstore.specs.Layout.{primary_of, backup_of}
 use Rattle.vab_lpstore.specs.Storing.{SameElsewhere}
@@ -20,7 +20,7 @@ use Rattle.vab_device.proofs.ReadingLaws.{reads_kept, device_same}
 use Rattle.vab_device.proofs.SameLaws.{control_same, geometry_same, tables_agree, images_same}
 use Rattle.vab_device.proofs.StayLaws.{copy_stays, copies_from}
 use Rattle.vab_device.proofs.StoreLaws.{statuses_kept}
-use Rattle.vab_tidy.specs.Tidied.{idle_mark, completed_mark, HasCompleted, is_completed}
+use Rattle.vab_tidy.specs.Tidied.{HasCompleted, is_completed}
 use Rattle.vab_tidy.specs.Tidied.{says_completed}
 use Rattle.vab_tidy.proofs.StandsLaws.{StandsIdle, read_at}
 
@@ -55,7 +55,7 @@ says_slot (Ok k) m read is =
     let same : record k { phase = settled k.phase } ≡ m = cc in
     let slot : k.slot ≡ m.slot = ap (λ (x : UpdateMark). x.slot) same in
     let phase = completed_phase k.phase is in
-    (λ i. Ok (record { phase = phase i; slot = slot i }))
+    (λ i. Ok (mark_at (phase i) (slot i)))
 says_slot (Err f) m read is = absurd cc
 
 -- the merge that has ended is that of the slot of the mark

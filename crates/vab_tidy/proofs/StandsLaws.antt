@@ -19,7 +19,7 @@ use Rattle.vab_device.specs.Reading.{Read, Reads, Represents, AgreeCopies, statu
 use Rattle.vab_device.specs.Stores.{scans_in}
 use Rattle.vab_device.proofs.ReadingLaws.{one_table, control_is_seen}
 use Rattle.vab_device.proofs.UpdateLaws.{kept_with}
-use Rattle.vab_tidy.specs.Tidied.{idle_mark}
+use Rattle.vab_marks.specs.Mark.{idle_mark}
 
 -- the reading of a device without an update
 abbrev pub read_at : ℕ → Control → Geometry → Table → Read
@@ -97,7 +97,7 @@ module _
 
   shape : r ≡ read_at r.mark.slot d.control r.geometry one.0
   shape = (λ i. record {
-    mark = record { phase = phase i; slot = r.mark.slot };
+    mark = record r.mark { phase = phase i };
     statuses = statuses i;
     control = seen i;
     geometry = r.geometry;

@@ -32,10 +32,10 @@ use Rattle.vab_device.proofs.SameLaws.{mark_same, geometry_same, images_same}
 use Rattle.vab_device.proofs.UpdateLaws.{kept_with}
 use Rattle.vab_tidy.specs.Kept.{with_table}
 use Rattle.vab_tidy.specs.Stays.{LeavesSame}
-use Rattle.vab_tidy.specs.Tidied.{idle_mark}
 use Rattle.vab_tidy.proofs.AloneLaws.{device_is, own_is, parts_are, cap_is, limits_are, place_is}
 use Rattle.vab_tidy.proofs.PlaceLaws.{table_is}
 use Rattle.vab_device.proofs.RepairLaws.{ends_within}
+use Rattle.vab_marks.specs.Mark.{idle_mark}
 use Rattle.vab_tidy.proofs.StandsLaws.{StandsIdle, read_at}
 
 -- ---- what is kept

@@ -9,7 +9,7 @@ use Rattle.vab_marks.specs.declared.mark.MarkPhase.{MarkPhase}
 use Rattle.vab_marks.specs.declared.mark.MarkPhase.TheVariants as marks
 use Rattle.vab_marks.specs.declared.mark.UpdateMark.{UpdateMark}
 use Rattle.vab_marks.specs.declared.sector.MarkFault.{MarkFault}
-use Rattle.vab_marks.specs.Mark.{mark_of}
+use Rattle.vab_marks.specs.Mark.{mark_of, completed_mark}
 use Rattle.vab_tables.specs.declared.entries.Group.{Group}
 use Rattle.vab_tables.specs.declared.entries.Partition.{Partition}
 use Rattle.vab_tables.specs.declared.table.Table.{Table}
@@ -18,14 +18,6 @@ use Rattle.vab_layout.specs.Layout.{layout_of, table_of}
 use Rattle.vab_layout.specs.Plain.{plain}
 
 -- ---- the mark
-
--- no update of the device of this slot
-abbrev pub idle_mark : ℕ → UpdateMark
-idle_mark slot = record { phase = marks.Idle; slot = slot }
-
--- all stores of this slot are merged
-abbrev pub completed_mark : ℕ → UpdateMark
-completed_mark slot = record { phase = marks.Completed; slot = slot }
 
 -- the disk says so
 abbrev pub HasCompleted : ℕ → Image → Type 0

@@ -1,7 +1,7 @@
 -- What is written behind a merge that has ended.
 use Rattle.std.specs.Prelude.{◌≡◌, ◌⊎◌, ◌≤◌, ℕ, true, List, length, Option, Some, None, Ok}
 use Rattle.vab_disk.specs.Disk.{Image, IsAt}
-use Rattle.vab_marks.specs.Mark.{mark_spelling}
+use Rattle.vab_marks.specs.Mark.{mark_spelling, idle_mark}
 use Rattle.vab_tables.specs.declared.table.Table.{Table}
 use Rattle.vab_tables.specs.Spelling.{table_text}
 use Rattle.vab_geometry.specs.declared.geometry.Geometry.{Geometry}
@@ -11,7 +11,7 @@ use Rattle.vab_device.specs.declared.device.Device.{Device}
 use Rattle.vab_device.specs.Reading.{Read, Reads}
 use Rattle.vab_tidy.specs.declared.prepared.Alone.{Alone}
 use Rattle.vab_tidy.specs.declared.prepared.Tidying.{Tidying}
-use Rattle.vab_tidy.specs.Tidied.{HasCompleted, idle_mark, alone, may_be_alone}
+use Rattle.vab_tidy.specs.Tidied.{HasCompleted, alone, may_be_alone}
 
 -- ---- of a device that is kept
 

@@ -2,7 +2,7 @@
 
 ghost use Rattle.std.specs.Prelude.{◌≡◌, ◌<◌, ◌≤◌, ◌+◌, IfSome, IsNone, Ok, OnOk};
 ghost use Rattle.vab_marks.specs.declared.mark.MarkPhase.TheVariants as marks;
-ghost use Rattle.vab_marks.specs.Mark.{mark_of, mark_spelling};
+ghost use Rattle.vab_marks.specs.Mark.{mark_of, mark_spelling, idle_mark};
 ghost use Rattle.vab_disk.specs.Disk.{IsAt};
 ghost use Rattle.vab_lpstore.specs.Storing.{IsOfTable};
 ghost use Rattle.vab_device.specs.Kept.{IsDevice};
@@ -10,7 +10,6 @@ ghost use Rattle.vab_device.specs.Reading.{Represents};
 ghost use Rattle.vab_tidy.specs.Kept.{with_table, tidied_device, device_after};
 ghost use Rattle.vab_tidy.specs.Planned.{IsAloneFor, IsTidyingFor};
 ghost use Rattle.vab_tidy.specs.Stays.{Stays};
-ghost use Rattle.vab_tidy.specs.Tidied.{idle_mark};
 ghost use Rattle.vab_tidy.specs.Writes.{IsOfTidied, IsOfTidyings};
 
 use crate::prepared::{Alone, MARK_SECTOR, Tidying};
@@ -67,7 +66,7 @@ fn put_idle<D: Disk>(d: &mut D, device: Device) -> Result<Device, DiskFault>
 {
     let mark = UpdateMark {
         phase: MarkPhase::Idle,
-        slot: device.mark.slot,
+        ..device.mark
     };
     match put_gate(d, MARK_SECTOR, &encode_mark(&mark)) {
         Err(fault) => Err(fault),

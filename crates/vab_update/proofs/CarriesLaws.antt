@@ -1,11 +1,11 @@
 -- Commands that are carried out, one behind the other.
 use Rattle.std.proofs.Common.{◌≡◌, ◌⊎◌, ◌∙◌, inl, inr, ⊎_elim, ℕ, List, [], ◌∷◌, ◌++◌, Result}
-use Rattle.std.proofs.Common.{Ok, Err, refl, sym, ap, subst, append-nil}
+use Rattle.std.proofs.Common.{Ok, Err, refl, sym, ap, subst}
 use Rattle.std.specs.Prelude.{Bool, true, false, Option, IfOk, IfErr, OnOk, ◌&&◌}
 use Rattle.std.proofs.lemmas.Bool.{cases_Bool}
 use Rattle.vab_disk.specs.declared.disk.Disk.{Ghosts}
-use Rattle.vab_disk.specs.Disk.{Image, Outcome, Adds, Rose}
-use Rattle.vab_disk.specs.Calls.{IsAtRest, IsQuiet, Touches}
+use Rattle.vab_disk.specs.Disk.{Image, Outcome, Adds}
+use Rattle.vab_disk.specs.Calls.{IsAtRest}
 use Rattle.vab_disk.proofs.CallLaws.{quiet_then, rose_then}
 use Rattle.vab_disk.proofs.Moments.{adds_on, adds_wider}
 use Rattle.vab_gate.specs.declared.gate.DiskFault.{DiskFault}
@@ -14,11 +14,12 @@ use Rattle.vab_model.specs.declared.command.Refusal.TheVariants.{NoMemory}
 use Rattle.vab_model.specs.declared.command.Reply.{Reply}
 use Rattle.vab_model.specs.declared.command.Reply.TheVariants as replies
 use Rattle.vab_model.specs.Commands.{Command}
-use Rattle.vab_model.specs.Effects.{Effect, answers, refuses, last_of, steps_of, after_of}
-use Rattle.vab_model.specs.Effects.{IsOneOf, unless_refused, takes_memory, may_want}
+use Rattle.vab_model.specs.Effects.{Effect, answers, refuses, steps_of, after_of}
+use Rattle.vab_model.specs.Effects.{IsOneOf, unless_refused}
 use Rattle.vab_device.specs.declared.device.Device.{Device}
 use Rattle.vab_device.specs.declared.fault.StartFault.{StartFault}
-use Rattle.vab_device.specs.Does.{Does, LeavesStep, KeepsSource, is_of_merge, effect_of}
+use Rattle.vab_device.specs.Does.{Does, LeavesStep, KeepsSource}
+use Rattle.vab_model.specs.Kinds.{is_of_merge}
 use Rattle.vab_device.specs.Kept.{IsDevice}
 use Rattle.vab_device.specs.Mounted.{Mounted, mounted_on}
 use Rattle.vab_device.specs.Reading.{device, Represents}
@@ -30,8 +31,8 @@ use Rattle.vab_commands.proofs.ChangeLaws.{command_changes, commands_then, keeps
 use Rattle.vab_update.specs.declared.stop.Stop.{Stop}
 use Rattle.vab_update.specs.declared.stop.Stop.TheVariants as stops
 use Rattle.vab_update.specs.Carries.{Carries, CarriesOut, IsAmong, IsStop, IsRefusedBy}
-use Rattle.vab_update.specs.Carries.{UnlessFailed, UnlessWant, IfFailed}
-use Rattle.vab_update.specs.Orders.{Order, is_refused, effect_one, followed, effect_all}
+use Rattle.vab_update.specs.Carries.{UnlessFailed, IfFailed}
+use Rattle.vab_update.specs.Orders.{Order, is_refused, followed, effect_all}
 use Rattle.vab_update.proofs.OrderLaws.{followed_refused, followed_done, step_first, step_second}
 use Rattle.vab_update.proofs.OrderLaws.{after_second, last_step, effect_append, effect_single}
 
@@ -303,38 +304,38 @@ carries_short g d xs ys old new s is =
 -- ---- one command
 
 -- want of memory, or the effect
-unless_either : (refused : Bool) (command : Command) (e : Effect Mounted)
-    → (unless_refused refused command e ≡ e) ⊎ (unless_refused refused command e ≡ refuses NoMemory)
-unless_either refused command e =
-    elim (cases_Bool (refused && (takes_memory command && may_want e.reply))) [
+unless_either : (refused : Bool) (e : Effect Mounted)
+    → (unless_refused refused e ≡ e) ⊎ (unless_refused refused e ≡ refuses NoMemory)
+unless_either refused e =
+    elim (cases_Bool (refused && e.wants)) [
       | inl want ↦ inr (rw want refl)
       | inr none ↦ inl (rw none refl)
     ]
 
 -- a step of either is one of the effect
-step_unless : (refused : Bool) (command : Command) (m : Mounted) (e : Effect Mounted) (x : Mounted)
-    → IsOneOf (steps_of m (unless_refused refused command e)) x
+step_unless : (refused : Bool) (m : Mounted) (e : Effect Mounted) (x : Mounted)
+    → IsOneOf (steps_of m (unless_refused refused e)) x
     → IsOneOf (steps_of m e) x
-step_unless refused command m e x is =
+step_unless refused m e x is =
     ⊎_elim
     (λ same. subst (λ (f : Effect Mounted). IsOneOf (steps_of m f) x) same is)
     (λ want. first (subst (λ (f : Effect Mounted). IsOneOf (steps_of m f) x) want is))
-    (unless_either refused command e)
+    (unless_either refused e)
   where
     first : IsOneOf (m ∷ []) x → IsOneOf (steps_of m e) x
     first (inl here) = inl here
     first (inr there) = absurd there
 
 -- The reply that isn't want of memory is the effect's.
-reply_unless : (refused : Bool) (command : Command) (e : Effect Mounted) (reply : Reply)
+reply_unless : (refused : Bool) (e : Effect Mounted) (reply : Reply)
     → (reply ≡ replies.Refused NoMemory → ⊥)
-    → reply ≡ (unless_refused refused command e).reply
-    → unless_refused refused command e ≡ e
-reply_unless refused command e reply other is =
+    → reply ≡ (unless_refused refused e).reply
+    → unless_refused refused e ≡ e
+reply_unless refused e reply other is =
     ⊎_elim
     (λ same. same)
     (λ want. absurd (other (is ∙ ap (λ (f : Effect Mounted). f.reply) want)))
-    (unless_either refused command e)
+    (unless_either refused e)
 
 done_refused : (reply : Reply) → reply ≡ replies.Refused NoMemory → is_refused reply ≡ false → ⊥
 done_refused reply is done = let no : true ≡ false = ap is_refused (sym is) ∙ done in cc
@@ -368,10 +369,10 @@ module _ {D : Type 0} (g : Ghosts D) (d : Device) (staged : Option (List ℕ)) (
 
   -- a step of what the command does, with memory refused to it or not
   step_one : (refused : Bool) (x : Mounted)
-      → IsOneOf (steps_of m (unless_refused refused command e)) x
+      → IsOneOf (steps_of m (unless_refused refused e)) x
       → IsOneOf (steps_of m all) x
   step_one refused x is =
-      step_first m e (answers replies.Done) x (step_unless refused command m e x is)
+      step_first m e (answers replies.Done) x (step_unless refused m e x is)
 
   time_one : (r : Result (Device × Reply) DiskFault)
       → Doing r
@@ -380,7 +381,7 @@ module _ {D : Type 0} (g : Ghosts D) (d : Device) (staged : Option (List ℕ)) (
       → Adds g.moment g.outcomes old new (LeavesStep (g.told old) (g.size old) (steps_of m all))
   time_one r does t rest =
       adds_wider g.moment g.outcomes old new _ _ (does.time t rest)
-      (leaves_wider (g.told old) (g.size old) (steps_of m (unless_refused does.refused command e))
+      (leaves_wider (g.told old) (g.size old) (steps_of m (unless_refused does.refused e))
       (steps_of m all) (step_one does.refused))
 
   pub carries_failed : (fault : DiskFault)
@@ -413,17 +414,17 @@ module _ {D : Type 0} (g : Ghosts D) (d : Device) (staged : Option (List ℕ)) (
       step =
           step_one does.refused (mounted_on next (g.seen new))
           (subst
-          (λ (x : Mounted). IsOneOf (steps_of m (unless_refused does.refused command e)) x)
+          (λ (x : Mounted). IsOneOf (steps_of m (unless_refused does.refused e)) x)
           (sym (does.after t))
-          (last_step m (unless_refused does.refused command e).later));
+          (last_step m (unless_refused does.refused e).later));
       means = stands t;
     }
 
     -- where it isn't want of memory, the effect is that of the table
     effect_is : g.is_modelled
         → (reply ≡ replies.Refused NoMemory → ⊥)
-        → unless_refused does.refused command e ≡ e
-    effect_is t other = reply_unless does.refused command e reply other (does.reply t)
+        → unless_refused does.refused e ≡ e
+    effect_is t other = reply_unless does.refused e reply other (does.reply t)
 
     pub carries_done : is_refused reply ≡ false → Carries g d m all old new (Ok next)
     carries_done done = record {
@@ -446,7 +447,7 @@ module _ {D : Type 0} (g : Ghosts D) (d : Device) (staged : Option (List ℕ)) (
       cause = tt;
     }
       where
-        same : g.is_modelled → unless_refused does.refused command e ≡ e
+        same : g.is_modelled → unless_refused does.refused e ≡ e
         same t = effect_is t (λ is. done_refused reply is done)
 
         well : g.is_modelled → is_refused e.reply ≡ false
@@ -478,7 +479,7 @@ module _ {D : Type 0} (g : Ghosts D) (d : Device) (staged : Option (List ℕ)) (
             → (refusal ≡ NoMemory → ⊥)
             → IsRefusedBy m all (g.size old) (g.seen new) refusal
         by t other =
-            let same : unless_refused does.refused command e ≡ e =
+            let same : unless_refused does.refused e ≡ e =
             effect_is t (λ want. other (refused_same refusal NoMemory (sym is ∙ want))) in
             let told : e.reply ≡ replies.Refused refusal =
             sym (does.reply t ∙ ap (λ (x : Effect Mounted). x.reply) same) ∙ is in

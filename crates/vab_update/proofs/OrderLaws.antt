@@ -35,7 +35,8 @@ last_step s (x ∷ xs) = inr (last_step x xs)
 
 -- what follows a command that isn't refused
 abbrev pub joined : Effect Mounted → Effect Mounted → Effect Mounted
-joined e rest = record { reply = rest.reply; later = e.later ++ rest.later }
+joined e rest =
+    record { reply = rest.reply; later = e.later ++ rest.later; wants = rest.wants }
 
 pub followed_refused : (e rest : Effect Mounted) → is_refused e.reply ≡ true → followed e rest ≡ e
 followed_refused e rest is = rw is refl
@@ -103,7 +104,8 @@ followed_twice e f rest = elim (cases_Bool (is_refused e.reply)) [
             ∙ followed_done e (joined f rest) done
             ∙ ap
             (λ (l : List Mounted).
-            (let x : Effect Mounted = record { reply = rest.reply; later = l } in x))
+            (let x : Effect Mounted =
+            record { reply = rest.reply; later = l; wants = rest.wants } in x))
             (sym (append_assoc e.later f.later rest.later))
             ∙ sym (followed_done (joined e f) rest well)
             ∙ ap (λ (x : Effect Mounted). followed x rest) (sym (followed_done e f done))

@@ -1,14 +1,15 @@
 -- The commands that install a set of images.
-use Rattle.std.specs.Prelude.{ℕ, Bool, if◌then◌else◌, List, [], ◌∷◌, ◌++◌, Option, Some, None}
+use Rattle.std.specs.Prelude.{ℕ, if◌then◌else◌, List, [], ◌∷◌, ◌++◌, Some, None}
 use Rattle.std.specs.List.{flat_map}
 use Rattle.vab_names.specs.Names.{suffix_of}
 use Rattle.vab_layout.specs.Slots.{other_slot}
 use Rattle.vab_set.specs.declared.set.SetImage.{SetImage}
 use Rattle.vab_model.specs.Commands.{Command, SetActive, Begin, Create, Resize, Snapshot, Flash}
 use Rattle.vab_model.specs.Commands.{Finish}
+use Rattle.vab_model.specs.Effects.{Effect}
 use Rattle.vab_device.specs.Mounted.{Mounted}
 use Rattle.vab_fbvars.specs.Variables.{has_image}
-use Rattle.vab_update.specs.Orders.{Order}
+use Rattle.vab_update.specs.Orders.{Order, effect_all}
 
 -- one that is the same on every device, with nothing staged
 abbrev pub order : Command → Order
@@ -48,3 +49,7 @@ install_orders source set =
     ++ order Finish
     ∷ order (SetActive (other_slot source))
     ∷ []
+
+-- what they make of a device, from its current slot, one after another until one is refused
+abbrev pub install_effect : Mounted → List SetImage → Effect Mounted
+install_effect m set = effect_all (install_orders m.state.control.current set) m

@@ -28,7 +28,9 @@ effect_one o m = effect_on m o.staged (o.command m)
 -- Unless it is refused, the others follow.
 abbrev pub followed : Effect Mounted → Effect Mounted → Effect Mounted
 followed e rest =
-    if is_refused e.reply then e else record { reply = rest.reply; later = e.later ++ rest.later }
+    if is_refused e.reply
+    then e
+    else record { reply = rest.reply; later = e.later ++ rest.later; wants = rest.wants }
 
 -- What all of them make of it: the devices after each, and the reply of the one that is refused.
 unfoldable pub effect_all : List Order → Mounted → Effect Mounted

@@ -1,7 +1,7 @@
 //! One of the commands.
 ghost use Rattle.std.specs.Prelude.{◌≡◌, ◌∷◌, [], false, IfSome, None, option_map};
 ghost use Rattle.vab_model.specs.Commands.{command_of};
-ghost use Rattle.vab_device.specs.Does.{is_of_merge};
+ghost use Rattle.vab_model.specs.Kinds.{is_of_merge};
 ghost use Rattle.vab_device.specs.Kept.{IsDevice};
 ghost use Rattle.vab_device.specs.Mounted.{mounted_on};
 ghost use Rattle.vab_device.specs.Reading.{Represents};

@@ -1,8 +1,8 @@
 //! The images of a set, installed into the slot that isn't running.
-ghost use Rattle.std.specs.Prelude.{◌≡◌, ◌<◌, ℕ, false};
+ghost use Rattle.std.specs.Prelude.{◌≡◌, ◌<◌, false};
 ghost use Rattle.vab_disk.specs.Disk.{Image};
 ghost use Rattle.vab_set.specs.Spelling.{IsImage, IsSet};
-ghost use Rattle.vab_device.specs.Does.{is_of_merge};
+ghost use Rattle.vab_model.specs.Kinds.{is_of_merge};
 ghost use Rattle.vab_device.specs.Kept.{IsDevice};
 ghost use Rattle.vab_model.specs.Commands.{command_of};
 ghost use Rattle.vab_device.specs.Mounted.{mounted_on, state_on};

@@ -48,7 +48,8 @@ unfolding clap_on_literals vab_app is_taken found_in verb_of verb_in
 status = refl
 
 pub make : verb_of (codes "make" ∷ []) ≡ Some (Make 0 65536)
-unfolding clap_on_literals vab_app is_taken found_in verb_of verb_in make_of limit_of metadata_max_of
+unfolding clap_on_literals vab_app is_taken found_in verb_of verb_in make_of limit_of
+    metadata_max_of
 make = refl
 
 pub nothing : verb_of [] ≡ None
@@ -59,7 +60,8 @@ pub print_any : (text : Text) → verb_of (codes "print" ∷ codes "--" ∷ text
 unfolding clap_on_literals vab_app is_taken found_in verb_of verb_in
 print_any text = refl
 
-pub digest_any : (text : Text) → verb_of (codes "digest" ∷ codes "--" ∷ text ∷ []) ≡ Some (Digest text)
+pub digest_any : (text : Text)
+    → verb_of (codes "digest" ∷ codes "--" ∷ text ∷ []) ≡ Some (Digest text)
 unfolding clap_on_literals vab_app is_taken found_in verb_of verb_in
 digest_any text = refl
 
@@ -131,10 +133,20 @@ make_limit text plain = rw (no_dashes text plain, no_long text plain, no_short t
 
 pub make_metadata_max : MakesBy (codes "--metadata-max") (λ text. make_of None (Some text))
 unfolding clap_on_literals vab_app is_taken found_in verb_of verb_in
-make_metadata_max text plain = rw (no_dashes text plain, no_long text plain, no_short text plain) refl
+make_metadata_max text plain = rw (no_dashes text plain, no_long text plain, no_short text plain)
+    refl
 
 pub make_both : (limit metadata_max : Text) → IsPlain limit → IsPlain metadata_max
-    → verb_of (codes "make" ∷ codes "--limit" ∷ limit ∷ codes "--metadata-max" ∷ metadata_max ∷ []) ≡ make_of (Some limit) (Some metadata_max)
+    → verb_of (codes "make" ∷ codes "--limit" ∷ limit ∷ codes "--metadata-max" ∷ metadata_max ∷ [])
+    ≡ make_of (Some limit) (Some metadata_max)
 unfolding clap_on_literals vab_app is_taken found_in verb_of verb_in
 make_both limit metadata_max a b =
-    rw (no_dashes limit a, no_long limit a, no_short limit a, no_dashes metadata_max b, no_long metadata_max b, no_short metadata_max b) refl
+    rw (
+      no_dashes limit a,
+      no_long limit a,
+      no_short limit a,
+      no_dashes metadata_max b,
+      no_long
+          metadata_max b,
+      no_short metadata_max b,
+    ) refl

@@ -1,4 +1,5 @@
--- The command of `vab` is one of which `clap` says all, and what an `Ok` and an `Err` say of the words.
+-- The command of `vab` is one of which `clap` says all, and what an `Ok` and an `Err` say of the
+-- words.
 use Rattle.std.proofs.Common.{◌≡◌, List, [], Bool, true, false, refl}
 use Rattle.std.specs.List.{list_all}
 use Rattle.clap.specs.Simple.{built}

@@ -19,6 +19,9 @@ use Rattle.std.proofs.Common.{
   Some,
   None,
   IfSome,
+  Result,
+  Ok,
+  Err,
   refl,
   sym,
   ap,
@@ -40,6 +43,7 @@ use Rattle.vab_set.specs.Spelling.{IsImage}
 use Rattle.vab_pack.specs.Asked.{Asked}
 use Rattle.std.proofs.lemmas.Bool.{cases_Bool}
 use Rattle.vab_pack.specs.Images.{image_of, size_for}
+use Rattle.vab_sparse.specs.declared.fault.SparseFault.{SparseFault}
 use Rattle.vabpack.specs.Packed.{
   Contents,
   Failing,
@@ -49,8 +53,16 @@ use Rattle.vabpack.specs.Packed.{
   StopsAt,
   AreKnownAs,
   HasLong,
+  meant,
+  Stands,
+  IsMalformed,
 }
 use Rattle.vabpack.specs.declared.refusal.Refusal.{Refusal}
+use Rattle.vabpack.specs.declared.refusal.Refusal.TheVariants as refusals
+
+-- it stands for these bytes
+abbrev pub meant_as : List ℕ → Result (List ℕ) SparseFault
+meant_as bytes = Ok bytes
 
 -- ---- a file that was read up to a limit
 
@@ -167,18 +179,35 @@ fit files (a ∷ asked) (i ∷ images) are =
 
 -- ---- files whose bytes are known
 
+-- equal results have equal values, and none is both
+pub ok_of : (x y : List ℕ) → meant_as x ≡ meant_as y → x ≡ y
+ok_of x y e = cc
+
+pub ok_or_err : (x : List ℕ) (fault : SparseFault) → ¬ (meant_as x ≡ Err fault)
+ok_or_err x fault e = absurd cc
+
+stands_at : (files : Contents) (a : Asked) (i : SetImage) (file : List ℕ)
+    → files a.path ≡ Some file
+    → IsImageOf files a i
+    → Stands file i.bytes
+stands_at files a i file known is =
+    let P : Option (List ℕ) → Type 0 = λ o. IfSome o (λ f. Stands f i.bytes) in
+    subst P known is.bytes
+
 pub none_long : (files : Contents) (asked : List Asked) (images : List SetImage)
     → AreImagesOf files asked images
     → ¬ HasLong files asked
 none_long files [] images are long = long
 none_long files (a ∷ asked) [] are long = are
-none_long files (a ∷ asked) (i ∷ images) are (inl (bytes, known, inl long)) =
-    let P : Option (List ℕ) → Type 0 = λ o. IfSome o (λ b. i.bytes ≡ b) in
-    let same : i.bytes ≡ bytes = subst P known are.0.bytes in
-    absurd (omega (arith, ap length same, long, are.0.short))
-none_long files (a ∷ asked) (i ∷ images) are (inl (bytes, known, inr none)) =
-    let P : Option (List ℕ) → Type 0 = λ o. IfSome o (λ b. i.bytes ≡ b) in
-    let same : i.bytes ≡ bytes = subst P known are.0.bytes in
+none_long files (a ∷ asked) (i ∷ images) are (inl (file, known, inl long)) =
+    let stands = stands_at files a i file known are.0 in
+    absurd (omega (arith, long, stands.short))
+none_long files (a ∷ asked) (i ∷ images) are (inl (file, known, inr (inl (fault, bad)))) =
+    let stands = stands_at files a i file known are.0 in
+    absurd (ok_or_err i.bytes fault (sym stands.means ∙ bad))
+none_long files (a ∷ asked) (i ∷ images) are (inl (file, known, inr (inr (image, means, none)))) =
+    let stands = stands_at files a i file known are.0 in
+    let same : i.bytes ≡ image = ok_of i.bytes image (sym stands.means ∙ means) in
     let both : None ≡ Some i = sym none ∙ ap (image_of a) (sym same) ∙ are.0.whole in
     absurd cc
 none_long files (a ∷ asked) (i ∷ images) are (inr later) = none_long files asked images are.1 later
@@ -193,52 +222,105 @@ known_same files [] (i ∷ images) others known are = absurd known
 known_same files (a ∷ asked) [] others known are = absurd known
 known_same files (a ∷ asked) (i ∷ images) [] known are = absurd are
 known_same files (a ∷ asked) (i ∷ images) (j ∷ others) known are =
-    let P : Option (List ℕ) → Type 0 = λ o. IfSome o (λ b. j.bytes ≡ b) in
-    let bytes : j.bytes ≡ i.bytes = subst P known.0 are.0.bytes in
+    let there = stands_at files a j known.0.0 known.0.1 are.0 in
+    let bytes : j.bytes ≡ i.bytes =
+    ok_of j.bytes i.bytes (sym there.means ∙ known.0.2.means) in
     let same : j ≡ i =
     some_of j i (sym are.0.whole ∙ ap (image_of a) bytes ∙ known.1) in
     ap (λ (x : SetImage). x ∷ others) same
-    ∙ ap (λ (l : List SetImage). i ∷ l) (known_same files asked images others known.3 are.1)
+    ∙ ap (λ (l : List SetImage). i ∷ l) (known_same files asked images others known.2 are.1)
 
 pub known_at : (files : Contents) (before behind : List Asked) (a : Asked) (images : List SetImage)
     → AreKnownAs files (before ++ a ∷ behind) images
     → (image : SetImage)
-    × (files a.path ≡ Some image.bytes)
-    × (length image.bytes ≤ 2 ^ 32)
+    × (file : List ℕ)
+    × (files a.path ≡ Some file)
+    × Stands file image.bytes
     × (image_of a image.bytes ≡ Some image)
 known_at files [] behind a [] known = absurd known
-known_at files [] behind a (i ∷ images) known = (i, known.0, known.2, known.1)
+known_at files [] behind a (i ∷ images) known =
+    (i, known.0.0, known.0.1, known.0.2, known.1)
 known_at files (b ∷ before) behind a [] known = absurd known
 known_at files (b ∷ before) behind a (i ∷ images) known =
-    known_at files before behind a images known.3
+    known_at files before behind a images known.2
 
 -- ---- what one file gives
 
-pub image : (files : Contents) (a : Asked) (path read : List ℕ) (i : SetImage)
+pub image : (files : Contents) (a : Asked) (path read bytes : List ℕ) (i : SetImage)
     → path ≡ a.path
-    → Some i ≡ image_of a read
-    → IfSome (files path) (λ bytes. read ≡ take (2 ^ 32 + 1) bytes)
+    → Some i ≡ image_of a bytes
+    → IfSome (files path) (λ file. read ≡ take (2 ^ 32 + 1) file)
     → length read ≤ 2 ^ 32
+    → meant read ≡ meant_as bytes
     → IsImage i
     → IsImageOf files a i
-image files a path read i at is known short fits =
-    let bytes : i.bytes ≡ read = (made a read i (sym is)).0 in
-    let P : List ℕ → Type 0 = λ p. IfSome (files p) (λ bytes. read ≡ bytes) in
-    let Q : List ℕ → Type 0 = λ l. IfSome (files a.path) (λ bytes. l ≡ bytes) in
+image files a path read bytes i at is known short means fits =
+    let same : i.bytes ≡ bytes = (made a bytes i (sym is)).0 in
+    let P : List ℕ → Type 0 = λ p. IfSome (files p) (λ file. read ≡ file) in
+    let there : IfSome (files a.path) (λ file. read ≡ file) =
+    subst P at (whole_file (files path) read known short) in
     record {
-      whole = ap (image_of a) bytes ∙ sym is;
-      bytes = subst Q (sym bytes) (subst P at (whole_file (files path) read known short));
-      short = omega (arith, short, ap length bytes);
+      whole = ap (image_of a) same ∙ sym is;
+      bytes = stands (files a.path) read i.bytes there short (means ∙ ap meant_as (sym same));
       fits = fits;
     }
+  where
+    stands : (known : Option (List ℕ)) (read bytes : List ℕ)
+        → IfSome known (λ file. read ≡ file)
+        → length read ≤ 2 ^ 32
+        → meant read ≡ meant_as bytes
+        → IfSome known (λ file. Stands file bytes)
+    stands None read bytes is short means = tt
+    stands (Some file) read bytes is short means = record {
+      short = omega (arith, short, ap length is);
+      means = ap meant (sym is) ∙ means;
+    }
 
--- a file that was read whole, and that its partition doesn't hold
-pub overfull : (known : Option (List ℕ)) (a : Asked) (read : List ℕ)
-    → IfSome known (λ bytes. read ≡ take (2 ^ 32 + 1) bytes)
+-- a file that was read whole, and whose image its partition doesn't hold
+pub overfull : (known : Option (List ℕ)) (a : Asked) (read bytes : List ℕ)
+    → IfSome known (λ file. read ≡ take (2 ^ 32 + 1) file)
     → length read ≤ 2 ^ 32
-    → None ≡ image_of a read
-    → IfSome known (λ bytes. (length bytes ≤ 2 ^ 32) × (image_of a bytes ≡ None))
-overfull None a read h short none = tt
-overfull (Some bytes) a read h short none =
-    let same : read ≡ bytes = whole_file (Some bytes) read h short in
-    (omega (arith, short, ap length same), ap (image_of a) (sym same) ∙ sym none)
+    → meant read ≡ meant_as bytes
+    → None ≡ image_of a bytes
+    → IfSome known (λ file.
+    (image : List ℕ) × Stands file image × (image_of a image ≡ None))
+overfull None a read bytes h short means none = tt
+overfull (Some file) a read bytes h short means none =
+    let same : read ≡ file = whole_file (Some file) read h short in
+    let stands : Stands file bytes = record {
+      short = omega (arith, short, ap length same);
+      means = ap meant (sym same) ∙ means;
+    } in
+    (bytes, stands, sym none)
+
+-- a file that was read whole, and is a malformed sparse image
+pub faulty : (known : Option (List ℕ)) (read : List ℕ) (fault : SparseFault)
+    → IfSome known (λ file. read ≡ take (2 ^ 32 + 1) file)
+    → length read ≤ 2 ^ 32
+    → meant read ≡ Err fault
+    → IfSome known (λ file. (length file ≤ 2 ^ 32) × (meant file ≡ Err fault))
+faulty None read fault h short bad = tt
+faulty (Some file) read fault h short bad =
+    let same : read ≡ file = whole_file (Some file) read h short in
+    (omega (arith, short, ap length same), ap meant (sym same) ∙ bad)
+
+-- why such a file stands for nothing is why there is no image of it
+pub malformed : (files : Contents) (fails : Failing) (a : Asked) (at read : List ℕ) (e : Refusal)
+    → at ≡ a.path
+    → IfSome (files at) (λ file. read ≡ take (2 ^ 32 + 1) file)
+    → length read ≤ 2 ^ 32
+    → IsMalformed at read e
+    → IsOfFile files fails a e
+malformed files fails a at read (refusals.Sparse path fault) is known short bad =
+    let faults : IfSome (files at) (λ file. (length file ≤ 2 ^ 32) × (meant file ≡ Err fault)) =
+    faulty (files at) read fault known short bad.1 in
+    let P : List ℕ → Type 0 = λ p. IfSome (files p)
+    (λ file. (length file ≤ 2 ^ 32) × (meant file ≡ Err fault)) in
+    (sym is ∙ bad.0, subst P bad.0 faults)
+malformed files fails a at read refusals.NoMemory is known short bad = tt
+malformed files fails a at read refusals.SetTooLarge is known short bad = absurd bad
+malformed files fails a at read refusals.NoWords is known short bad = absurd bad
+malformed files fails a at read (refusals.Words fault) is known short bad = absurd bad
+malformed files fails a at read (refusals.TooLarge path) is known short bad = absurd bad
+malformed files fails a at read (refusals.TooSmall path) is known short bad = absurd bad
+malformed files fails a at read (refusals.File path fault) is known short bad = absurd bad

@@ -13,13 +13,17 @@ use Rattle.vabpack.specs.Packed.{
   IsSetOf,
   IsLong,
   IsOverfull,
+  IsFaulty,
+  Stands,
+  meant,
   IsOfSet,
   AreKnownAs,
   HasLong,
   IsAboutFiles,
   IsAboutSet,
 }
-use Rattle.vabpack.proofs.Images.{none_long, known_same, known_at}
+use Rattle.vab_sparse.specs.declared.fault.SparseFault.{SparseFault}
+use Rattle.vabpack.proofs.Images.{none_long, known_same, known_at, ok_of, ok_or_err}
 use Rattle.vabpack.specs.declared.refusal.Refusal.{Refusal}
 use Rattle.vabpack.specs.declared.refusal.Refusal.TheVariants as refusals
 
@@ -28,10 +32,12 @@ about_files : (files : Contents) (fails : Failing) (asked : List Asked) (e : Ref
     → IsOfSet files fails asked e
     → IsAboutFiles e
 about_files files fails asked refusals.NoMemory long h = tt
-about_files files fails asked refusals.SetTooLarge long h = absurd (none_long files asked h.0 h.1 long)
+about_files files fails asked refusals.SetTooLarge long h =
+    absurd (none_long files asked h.0 h.1 long)
 about_files files fails asked refusals.NoWords long h = absurd h.reason
 about_files files fails asked (refusals.Words fault) long h = absurd h.reason
 about_files files fails asked (refusals.TooLarge path) long h = tt
+about_files files fails asked (refusals.Sparse path fault) long h = tt
 about_files files fails asked (refusals.TooSmall path) long h = tt
 about_files files fails asked (refusals.File path fault) long h = tt
 
@@ -43,7 +49,8 @@ pub long_is_refused : {V : Type 0} (view : V → List ℕ) (files : Contents) (f
     → IsErrAnd r IsAboutFiles
 long_is_refused view files fails asked (Ok v) is refused long =
     absurd (none_long files asked is.images is.each long)
-long_is_refused view files fails asked (Err e) is refused long = about_files files fails asked e long refused
+long_is_refused view files fails asked (Err e) is refused long =
+    about_files files fails asked e long refused
 
 not_long : (files : Contents) (asked : List Asked) (images : List SetImage) (path : List ℕ) (s :
     (before : List Asked)
@@ -59,8 +66,8 @@ not_long files asked images path s known long =
     (subst (λ (l : List Asked). AreKnownAs files l images) s.3 known) in
     let P : Option (List ℕ) → Type 0 = λ o. IfSome o (λ b. 2 ^ 32 < length b) in
     let Q : List ℕ → Type 0 = λ p. IfSome (files p) (λ b. 2 ^ 32 < length b) in
-    let over : 2 ^ 32 < length there.0.bytes = subst P there.1 (subst Q (sym s.4) long) in
-    absurd (omega (arith, over, there.2))
+    let over : 2 ^ 32 < length there.1 = subst P there.2 (subst Q (sym s.4) long) in
+    absurd (omega (arith, over, there.3.short))
 
 not_overfull : (files : Contents) (asked : List Asked) (images : List SetImage) (path : List ℕ)
     (a : Asked)
@@ -74,11 +81,30 @@ not_overfull files asked images path a before behind whole at known over =
     known_at files before behind a images
     (subst (λ (l : List Asked). AreKnownAs files l images) whole known) in
     let P : Option (List ℕ) → Type 0 = λ o. IfSome o
-    (λ b. (length b ≤ 2 ^ 32) × (image_of a b ≡ None)) in
+    (λ file. (image : List ℕ) × Stands file image × (image_of a image ≡ None)) in
     let Q : List ℕ → Type 0 = λ p. IsOverfull files a p in
-    let none = subst P there.1 (subst Q (sym at) over) in
-    let both : None ≡ Some there.0 = sym none.1 ∙ there.3 in
+    let none = subst P there.2 (subst Q (sym at) over) in
+    let same : none.0 ≡ there.0.bytes =
+    ok_of none.0 there.0.bytes (sym none.1.means ∙ there.3.means) in
+    let both : None ≡ Some there.0 = sym none.2 ∙ ap (image_of a) same ∙ there.4 in
     absurd cc
+
+not_faulty : (files : Contents) (asked : List Asked) (images : List SetImage) (path : List ℕ)
+    (fault : SparseFault) (a : Asked)
+    (before behind : List Asked)
+    → asked ≡ before ++ a ∷ behind
+    → a.path ≡ path
+    → AreKnownAs files asked images
+    → ¬ IsFaulty files path fault
+not_faulty files asked images path fault a before behind whole at known bad =
+    let there =
+    known_at files before behind a images
+    (subst (λ (l : List Asked). AreKnownAs files l images) whole known) in
+    let P : Option (List ℕ) → Type 0 = λ o. IfSome o
+    (λ file. (length file ≤ 2 ^ 32) × (meant file ≡ Err fault)) in
+    let Q : List ℕ → Type 0 = λ p. IsFaulty files p fault in
+    let is = subst P there.2 (subst Q (sym at) bad) in
+    absurd (ok_or_err there.0.bytes fault (sym there.3.means ∙ is.1))
 
 about_set : (files : Contents) (fails : Failing) (asked : List Asked) (images : List SetImage)
     (e : Refusal)
@@ -91,6 +117,9 @@ about_set files fails asked images refusals.NoWords known h = absurd h.reason
 about_set files fails asked images (refusals.Words fault) known h = absurd h.reason
 about_set files fails asked images (refusals.TooLarge path) known h =
     absurd (not_long files asked images path.now (h.before, h.behind, h.at, h.whole, h.reason.0)
+    known h.reason.1)
+about_set files fails asked images (refusals.Sparse path fault) known h =
+    absurd (not_faulty files asked images path.now fault h.at h.before h.behind h.whole h.reason.0
     known h.reason.1)
 about_set files fails asked images (refusals.TooSmall path) known h =
     absurd (not_overfull files asked images path.now h.at h.before h.behind h.whole h.reason.0 known

@@ -1,6 +1,7 @@
 -- What the program's answer is, of its words and of what is known of the files that they name.
 use Rattle.std.specs.Prelude.{◌≡◌, ◌≢◌, ◌⊎◌, ℕ, ◌<◌, ◌≤◌, ◌^◌, List, [], ◌∷◌, ◌++◌, length, Option}
-use Rattle.std.specs.Prelude.{Some, None, IfSome, IsErrAnd, IsTrue, Bool, Result}
+use Rattle.std.specs.Prelude.{Some, None, IfSome, IsErrAnd, IsTrue, Bool, Result, Ok, Err}
+use Rattle.std.specs.Prelude.{if◌then◌else◌}
 use Rattle.vab_set.specs.declared.set.SetImage.{SetImage}
 use Rattle.vab_set.specs.Spelling.{IsImage, IsSet, set_text}
 use Rattle.vab_pack.specs.Asked.{Asked, Ask}
@@ -8,6 +9,9 @@ use Rattle.vab_pack.specs.Images.{image_of}
 use Rattle.vab_pack.specs.declared.fault.WordFault.{WordFault}
 use Rattle.vab_pack.specs.declared.fault.WordFault.TheVariants as faults
 use Rattle.vab_pack.specs.Faults.{IsFaultOf}
+use Rattle.vab_sparse.specs.declared.fault.SparseFault.{SparseFault}
+use Rattle.vab_sparse.specs.Reading.{is_sparse}
+use Rattle.vab_sparse.specs.Reading.{image_of as sparse_image}
 use Rattle.vabpack.specs.declared.source.Unread.{Unread}
 use Rattle.vabpack.specs.declared.source.Unread.TheVariants as unread
 use Rattle.vabpack.specs.declared.refusal.Refusal.{Refusal}
@@ -26,13 +30,29 @@ abbrev pub IsUnread : Bool → Unread → Type 0
 IsUnread fails unread.NoMemory = Unit {0}
 IsUnread fails (unread.File fault) = IsTrue fails
 
+-- ---- what a file stands for
+
+-- the image of a file, where it is a sparse one, of at most 2^32 bytes, or else its bytes
+abbrev pub meant : List ℕ → Result (List ℕ) SparseFault
+meant file = if is_sparse file then sparse_image (2 ^ 32) file else Ok file
+
+-- a file of no more bytes than a set may have, with what it stands for
+pub record Stands (file image : List ℕ) : Type 0 where
+  pub short : length file ≤ 2 ^ 32
+  pub means : meant file ≡ Ok image
+
+-- why a file at a path stands for nothing: the first fault of a sparse image, or want of memory
+abbrev pub IsMalformed : List ℕ → List ℕ → Refusal → Type 0
+IsMalformed at file (refusals.Sparse path fault) = (at ≡ path.now) × (meant file ≡ Err fault)
+IsMalformed at file refusals.NoMemory = Unit {0}
+IsMalformed at file _ = ⊥
+
 -- ---- the set
 
--- the image that is asked for, with all bytes of its file, which can stand in a set
+-- the image that is asked for, with all bytes that its file stands for, which can stand in a set
 pub record IsImageOf (files : Contents) (asked : Asked) (image : SetImage) : Type 0 where
   pub whole : image_of asked image.bytes ≡ Some image
-  pub bytes : IfSome (files asked.path) (λ bytes. image.bytes ≡ bytes)
-  pub short : length image.bytes ≤ 2 ^ 32
+  pub bytes : IfSome (files asked.path) (λ file. Stands file image.bytes)
   pub fits : IsImage image
 
 -- an image for each, in their order
@@ -68,16 +88,25 @@ refusal_of fault = refusals.Words fault
 abbrev pub IsLong : Contents → List ℕ → Type 0
 IsLong files path = IfSome (files path) (λ bytes. 2 ^ 32 < length bytes)
 
--- the partition that is asked for doesn't hold the file at a path, where its bytes are known
+-- the file at a path is a malformed sparse image with this fault, where its bytes are known
+abbrev pub IsFaulty : Contents → List ℕ → SparseFault → Type 0
+IsFaulty files path fault =
+    IfSome (files path) (λ file. (length file ≤ 2 ^ 32) × (meant file ≡ Err fault))
+
+-- the partition that is asked for doesn't hold what the file at a path stands for, where its bytes
+-- are known
 abbrev pub IsOverfull : Contents → Asked → List ℕ → Type 0
 IsOverfull files asked path =
-    IfSome (files path) (λ bytes. (length bytes ≤ 2 ^ 32) × (image_of asked bytes ≡ None))
+    IfSome (files path) (λ file.
+    (image : List ℕ) × Stands file image × (image_of asked image ≡ None))
 
--- why there is no image of this one: its file is too long, also for its partition, or failed, or
--- want of memory
+-- why there is no image of this one: its file is too long, also for its partition, or a malformed
+-- sparse image, or failed, or want of memory
 abbrev pub IsOfFile : Contents → Failing → Asked → Refusal → Type 0
 IsOfFile files fails asked (refusals.TooLarge path) =
     (asked.path ≡ path.now) × IsLong files path.now
+IsOfFile files fails asked (refusals.Sparse path fault) =
+    (asked.path ≡ path.now) × IsFaulty files path.now fault
 IsOfFile files fails asked (refusals.TooSmall path) =
     (asked.path ≡ path.now) × IsOverfull files asked path.now
 IsOfFile files fails asked (refusals.File path fault) =
@@ -118,9 +147,11 @@ IsCause files fails words refusal =
 abbrev pub RefusesWith : {V : Type 0} → Result V Refusal → Refusal → Type 0
 RefusesWith result refusal = IsErrAnd result (λ e. (e ≡ refusals.NoMemory) ⊎ (e ≡ refusal))
 
--- a file is too long, also for its partition, or can't be read, or memory was refused
+-- a file is too long, also for its partition, or a malformed sparse image, or can't be read, or
+-- memory was refused
 abbrev pub IsAboutFiles : Refusal → Type 0
 IsAboutFiles (refusals.TooLarge path) = Unit {0}
+IsAboutFiles (refusals.Sparse path fault) = Unit {0}
 IsAboutFiles (refusals.TooSmall path) = Unit {0}
 IsAboutFiles (refusals.File path fault) = Unit {0}
 IsAboutFiles refusals.NoMemory = Unit {0}
@@ -133,23 +164,28 @@ IsAboutSet (refusals.File path fault) = Unit {0}
 IsAboutSet refusals.NoMemory = Unit {0}
 IsAboutSet _ = ⊥
 
--- images of files of these bytes
+-- images of files whose bytes are known
 abbrev pub AreKnownAs : Contents → List Asked → List SetImage → Type 0
 AreKnownAs files [] [] = Unit {0}
 AreKnownAs files (asked ∷ rest) (image ∷ images) =
-    (files asked.path ≡ Some image.bytes)
+    ((file : List ℕ) × (files asked.path ≡ Some file) × Stands file image.bytes)
     × (image_of asked image.bytes ≡ Some image)
-    × (length image.bytes ≤ 2 ^ 32)
     × AreKnownAs files rest images
 AreKnownAs files _ _ = ⊥
 
--- one of these has a file that is known to be longer than a set may be, or than its partition
+-- a file is longer than a set may be, or a malformed sparse image, or its image is longer than the
+-- partition that is asked for
+abbrev pub IsUnfit : Asked → List ℕ → Type 0
+IsUnfit asked file =
+    (2 ^ 32 < length file)
+    ⊎ (((fault : SparseFault) × (meant file ≡ Err fault))
+    ⊎ ((image : List ℕ) × (meant file ≡ Ok image) × (image_of asked image ≡ None)))
+
+-- one of these has a file that is known to be so
 abbrev pub HasLong : Contents → List Asked → Type 0
 HasLong files [] = ⊥
 HasLong files (asked ∷ rest) =
-    ((bytes : List ℕ)
-    × (files asked.path ≡ Some bytes)
-    × ((2 ^ 32 < length bytes) ⊎ (image_of asked bytes ≡ None)))
+    ((file : List ℕ) × (files asked.path ≡ Some file) × IsUnfit asked file)
     ⊎ HasLong files rest
 
 -- the program's status: the words aren't taken, a file can't be read, or memory was refused

@@ -4,33 +4,24 @@
 ghost use Rattle.std.specs.Prelude.{◌≡◌, ◌⊎◌};
 ghost use Rattle.std.specs.Io.KnownBytes.{Appends};
 
+mod folder;
 mod pack;
 mod refusal;
 mod source;
 
+use folder::{warn_of_slots, with_folders};
 use pack::pack;
-use refusal::Refusal;
-use std::env::{self, Env};
+use refusal::{Refusal, USAGE};
 use std::io::Write;
 use std::process::ExitCode;
+use vab_process::{WordsFault, open_standard, words_of};
 
 // Alone it asks for the usage; it is no image.
 const HELP: &str = "--help";
 
 const NOT_WRITTEN: u8 = 7;
 
-// The words behind the program's name, or nothing where they can't be had.
-fn words_of<R: Env + AllocGlobal>(rt: &R) -> Option<Vec<String>> {
-    let mut words = Vec::new(rt.alloc());
-    let mut args = env::args(rt).ok()?;
-    let _program = args.next();
-    for word in args {
-        if words.push(word).is_err() {
-            return None;
-        }
-    }
-    Some(words)
-}
+const NOT_OPENED: u8 = 9;
 
 // Writes all of the bytes, and answers the status.
 fn write_out<W: Write>(out: &mut W, bytes: &[u8]) -> u8
@@ -46,22 +37,51 @@ fn write_out<W: Write>(out: &mut W, bytes: &[u8]) -> u8
     }
 }
 
-fn main(rt: HostRuntime) -> ExitCode {
-    let words = match words_of(&rt) {
-        Some(words) => words,
-        None => return ExitCode::from(Refusal::NoMemory.status()),
-    };
-    let words = match words.as_slice() {
+// Writes the set that the words of images ask for, and answers the status.
+fn run_images(rt: &HostRuntime, words: &[String]) -> u8 {
+    match pack(rt.alloc(), rt, words) {
+        Ok(bytes) => {
+            warn_of_slots(rt, words);
+            write_out(&mut rt.stdout(), &bytes)
+        }
+        Err(refusal) => {
+            refusal.explain(rt, words);
+            refusal.status()
+        }
+    }
+}
+
+// Writes the set that the words ask for, also by folders, and answers the status.
+fn run_words(rt: &HostRuntime, words: &[String]) -> u8 {
+    let words = match words {
         [first, rest @ ..] if first.as_str() == HELP && rest.is_empty() => rest,
         all => all,
     };
-    match pack(rt.alloc(), &rt, words) {
-        Ok(bytes) => ExitCode::from(write_out(&mut rt.stdout(), &bytes)),
-        Err(refusal) => {
-            refusal.explain(&rt, words);
-            ExitCode::from(refusal.status())
+    match with_folders(rt, words) {
+        Ok(all) => run_images(rt, &all),
+        Err(fault) => {
+            fault.explain(rt, words);
+            fault.status()
         }
     }
+}
+
+fn main(rt: HostRuntime) -> ExitCode {
+    let _standard = match open_standard(&rt) {
+        Ok(standard) => standard,
+        Err(fault) => {
+            let _ = eprintln!(&rt; "vabpack: /dev/null: {fault}");
+            return ExitCode::from(NOT_OPENED);
+        }
+    };
+    ExitCode::from(match words_of(&rt) {
+        Ok(words) => run_words(&rt, words.as_slice()),
+        Err(WordsFault::NoMemory) => Refusal::NoMemory.status(),
+        Err(WordsFault::NotText) => {
+            let _ = eprintln!(&rt; "vabpack: a word isn't UTF-8\n{USAGE}");
+            Refusal::NoWords.status()
+        }
+    })
 }
 
 #[cfg(test)]

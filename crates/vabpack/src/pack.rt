@@ -1,6 +1,6 @@
 //! The bytes of the set that words ask for.
 
-ghost use Rattle.std.specs.Prelude.{◌≡◌, ◌⊎◌, ◌<◌, ◌≤◌, ◌^◌, List, [], length, map, All, IfOk};
+ghost use Rattle.std.specs.Prelude.{◌≡◌, ◌⊎◌, ◌<◌, ◌≤◌, ◌^◌, List, [], length, map, All, IfOk, Ok};
 ghost use Rattle.std.specs.Prelude.{IfErr, IsErrAnd, string_bytes};
 ghost use Rattle.vab_set.specs.declared.set.SetImage.{SetImage as Image};
 ghost use Rattle.vab_set.specs.Spelling.{IsSet, set_text};
@@ -11,6 +11,7 @@ ghost use Rattle.vab_pack.specs.declared.fault.WordFault.{WordFault as Fault};
 ghost use Rattle.vabpack.specs.Packed.{IsImageOf, AreImagesOf, IsSetOf, IsPacked, IsOfFile};
 ghost use Rattle.vabpack.specs.Packed.{StopsAt, IsOfSet, IsCause, RefusesWith, HasLong};
 ghost use Rattle.vabpack.specs.Packed.{IsAboutFiles, IsAboutSet, AreKnownAs};
+ghost use Rattle.vabpack.specs.Packed.{meant, IsMalformed};
 
 use crate::Refusal;
 use crate::source::{MAX_BYTES, Source, Unread};
@@ -18,9 +19,28 @@ use std::alloc::Global;
 use vab_bytes::Listing;
 use vab_pack::{Entry, parse_words, set_image};
 use vab_set::{Set, SetImage, write_set};
+use vab_sparse::{SparseFault, expand, is_sparse};
+
+// What a file at a path stands for: the image, where it is a sparse one, or else its bytes.
+fn expanded<'a>(alloc: Global, path: &'a str, file: Vec<u8>) -> Result<Vec<u8>, Refusal<'a>>
+    requires { length file.items ≤ 2 ^ 32 }
+    ensures image { IfOk result (λ v. meant file.items ≡ Ok v.items) }
+    ensures short { IfOk result (λ v. length v.items ≤ 2 ^ 32) }
+    ensures refused { IfErr result (IsMalformed path.now file.items) }
+{
+    if !is_sparse(&file) {
+        return Ok(file);
+    }
+    match expand(alloc, &file, MAX_BYTES) {
+        Ok(image) => Ok(image),
+        Err(SparseFault::NoMemory) => Err(Refusal::NoMemory),
+        Err(fault) => Err(Refusal::Sparse(path, fault)),
+    }
+}
 
 // The image that an entry asks for.
 fn read_image<'a, S: Source>(
+    alloc: Global,
     source: &S,
     entry: &Entry<'a>,
 ) -> Result<SetImage<'static>, Refusal<'a>>
@@ -30,14 +50,15 @@ fn read_image<'a, S: Source>(
         (IsOfFile (S.bytes_at source.now) (S.fails source.now) entry.now) }
 {
     let path = entry.path();
-    let bytes = match source.read_file(path) {
-        Ok(bytes) => bytes,
+    let file = match source.read_file(path) {
+        Ok(file) => file,
         Err(Unread::NoMemory) => return Err(Refusal::NoMemory),
         Err(Unread::File(fault)) => return Err(Refusal::File(path, fault)),
     };
-    if bytes.len() as u64 > MAX_BYTES {
+    if file.len() as u64 > MAX_BYTES {
         return Err(Refusal::TooLarge(path));
     }
+    let bytes = expanded(alloc, path, file)?;
     match set_image(entry, bytes) {
         Some(image) => Ok(image),
         None => Err(Refusal::TooSmall(path)),
@@ -57,7 +78,7 @@ fn read_images<'a, S: Source>(
 {
     let mut images = Vec::new(alloc);
     for entry in entries {
-        let image = read_image(source, entry)?;
+        let image = read_image(alloc, source, entry)?;
         images.push(image)?;
     }
     Ok(images)
@@ -113,8 +134,8 @@ pub fn pack<'a, S: Source>(
     ensures faulty { (fault : Fault)
         → IsFaultOf (map string_bytes words.entry.now) fault
         → RefusesWith result (Refusal.Words fault) }
-    // Where a file is too long, also for its partition, a file is refused, unless memory is
-    // refused.
+    // Where a file is too long, also for its partition, or a malformed sparse image, a file is
+    // refused, unless memory is refused.
     ensures long { (asked : List Asked)
         → Ask (map string_bytes words.entry.now) asked
         → HasLong (S.bytes_at source.now) asked

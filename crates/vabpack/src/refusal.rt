@@ -7,20 +7,24 @@ use std::alloc::{AllocError, AllocFailed};
 use std::io;
 use vab_pack::WordFault;
 use vab_set::NoMemory;
+use vab_sparse::SparseFault;
 
-const USAGE: &str = "usage: vabpack NAME[:SIZE[:STORE]]=FILE..\n\
-    A set of images on the output, as `vab DEVICE make` takes it, one for each of 1 to 32 words.\n\
+/// What the program says where its words aren't taken.
+pub const USAGE: &str = "usage: vabpack NAME[:SIZE[:STORE]]=FILE.. FOLDER/..\n\
+    A set of 1 to 32 images on the output, as `vab DEVICE make` takes it, one for each word.\n\
     \u{20} NAME             the partition's name without its slot, 1 to 30 of A-Z a-z 0-9 _ .\n\
     \u{20} SIZE             bytes of the partition, at most 2^40, in whole blocks of 4096;\n\
     \u{20}                  those of the file where it is left out, also in NAME::STORE\n\
     \u{20} STORE            bytes of its store; 0, or left out, for as many as it needs\n\
-    \u{20} FILE             the file with its bytes\n\
+    \u{20} FILE             the file with its bytes, or a sparse image of them\n\
+    \u{20} FOLDER/          stands for NAME=FOLDER/NAME.img of each such file in it, by name\n\
     SIZE and STORE are 1 to 20 digits, with K, M or G behind them for 2^10, 2^20 or 2^30 times.\n\
-    statuses: 0 done, 2 the words aren't taken, a file is longer than its partition, or a set\n\
-    \u{20} would be longer than 2^32 bytes, 7 the output failed, 8 memory was refused,\n\
-    \u{20} 9 a file can't be read\n\
+    statuses: 0 done, 2 the words aren't taken, a file is longer than its partition or a\n\
+    \u{20} malformed sparse image, or a set would be longer than 2^32 bytes, 7 the output failed,\n\
+    \u{20} 8 memory was refused, 9 a file or a folder can't be read\n\
     examples:\n\
     \u{20} vabpack system=system.img >images.set\n\
+    \u{20} vabpack out/ >images.set\n\
     \u{20} vabpack system:1G=system.img vendor:512M:64M=vendor.img | vab dev.img make";
 
 /// Why there is no set.
@@ -32,7 +36,9 @@ pub enum Refusal<'a> {
     Words(WordFault),
     /// The file at this path is longer than a set may be.
     TooLarge(&'a str),
-    /// The file at this path is longer than the partition that is asked for.
+    /// The file at this path begins as a sparse image, and isn't one, or of a larger image.
+    Sparse(&'a str, SparseFault),
+    /// The image in the file at this path is longer than the partition that is asked for.
     TooSmall(&'a str),
     /// The set is longer than a set may be.
     SetTooLarge,
@@ -125,7 +131,8 @@ impl<'a> Refusal<'a> {
     {
         match self {
             Refusal::NoWords | Refusal::Words(_) => 2,
-            Refusal::TooLarge(_) | Refusal::TooSmall(_) | Refusal::SetTooLarge => 2,
+            Refusal::TooLarge(_) | Refusal::Sparse(_, _) => 2,
+            Refusal::TooSmall(_) | Refusal::SetTooLarge => 2,
             Refusal::NoMemory => 8,
             Refusal::File(_, _) => 9,
         }
@@ -143,6 +150,7 @@ impl<'a> Refusal<'a> {
             Refusal::TooLarge(path) => eprintln!(rt;
                 "vabpack: {path}: longer than 2^32 bytes, the most that a set may have"
             ),
+            Refusal::Sparse(path, fault) => eprintln!(rt; "vabpack: {path}: sparse image: {fault}"),
             Refusal::TooSmall(path) => eprintln!(rt;
                 "vabpack: {path}: longer than the partition that is asked for"
             ),

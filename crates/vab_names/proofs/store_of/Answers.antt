@@ -8,4 +8,5 @@ pub joined-requires-clause-name : goal.joined-requires-clause-name
 unfolding store_of
 joined-requires-clause-name c =
     let P : List ℕ → Type 0 = λ text. IsName (text ++ store_suffix) in
-    subst P (sym c.text.ensures.value) (store_is_name c.args.name.now c.text.ensures.name c.requires)
+    subst P (sym c.text.ensures.value) (store_is_name c.args.name.now c.text.ensures.name
+    c.requires)

@@ -4,7 +4,8 @@ use Rattle.vab_model.specs.declared.command.Refusal.{Refusal}
 use Rattle.vab_model.specs.declared.command.Reply.TheVariants as replies
 use Rattle.vab_model.specs.declared.command.Refusal.TheVariants as refusals
 use Rattle.vab_model.specs.Commands.{Begin}
-use Rattle.vab_model.specs.Effects.{Effect, refuses, unless_refused}
+use Rattle.vab_model.specs.Effects.{Effect, refuses, wanting, unless_refused}
+use Rattle.vab_device.specs.Updates.{is_full_table}
 use Rattle.vab_device.specs.Mounted.{Mounted, mounted_on}
 use Rattle.vab_marks.specs.declared.mark.MarkPhase.TheVariants as marks
 use Rattle.vab_begin.specs.Writes.{IsOfBegun}
@@ -66,10 +67,10 @@ returns-in-Err g c = λ staged.
     (is_memory fault) (replies.Refused c.refusal.result) old old c.requires.kept
     c.requires.represents
     (λ t.
-    ap (λ (e : Effect Mounted). unless_refused (is_memory fault) Begin e)
+    ap (λ (e : Effect Mounted). unless_refused (is_memory fault) e)
     (begin_is d size (g.D.Disk.seen old) staged for.source c.requires.kept
     (idle_of d size c.requires.kept c.in-Idle.ensures) for.is)
     ∙ refused_is (mounted_on d (g.D.Disk.seen old)) d.mark.slot d.geometry.max for.source fault
     for.refused
-    ∙ ap (λ (r : Refusal). refuses r) (sym c.refusal.ensures))
+    ∙ ap (λ (r : Refusal). wanting (is_full_table fault) (refuses r)) (sym c.refusal.ensures))
     (reads_none g.D.Disk old) refl

@@ -1,7 +1,7 @@
 use Rattle.std.proofs.Common.{◌≡◌, ◌∙◌, List, Ok, refl, sym, ap, subst, arith}
 use Rattle.std.specs.Prelude.{Some}
 use Rattle.vab_marks.specs.declared.mark.MarkPhase.TheVariants as marks
-use Rattle.vab_marks.specs.Mark.{mark_spelling}
+use Rattle.vab_marks.specs.Mark.{mark_spelling, installing_mark}
 use Rattle.vab_layout.specs.Slots.{other_slot}
 use Rattle.vab_install.specs.Control.{cleared_of}
 use Rattle.vab_model.specs.declared.command.Reply.TheVariants as replies
@@ -13,7 +13,6 @@ use Rattle.vab_device.proofs.DoesLaws.{dead_means, fails_dead, fails_gate, does_
 use Rattle.vab_begin.specs.Kept.{with_control, with_update}
 use Rattle.vab_begin.specs.Writes.{IsOfPlaces, IsOfBegun}
 use Rattle.vab_begin.proofs.CopiesApart.{copies_on_disk}
-use Rattle.vab_begin.proofs.BeginLaws.{installing_mark}
 use Rattle.vab_begin.proofs.BegunLaws.{begun_device, begun_kept, begin_dead, begin_step}
 use Rattle.vab_begin.proofs.WriteLaws.{target_short, target_stands, places_in, mark_in}
 use Rattle.vab_begin.proofs.beginning.begin_to.Goals as goal

@@ -1,6 +1,6 @@
 use Rattle.std.proofs.Common.{ℕ, List, refl, sym, subst, Ok}
 use Rattle.vab_disk.proofs.CallLaws.{touches_none}
-use Rattle.vab_marks.specs.Mark.{mark_spelling}
+use Rattle.vab_marks.specs.Mark.{mark_spelling, idle_mark}
 use Rattle.vab_model.specs.declared.command.Reply.TheVariants as replies
 use Rattle.vab_model.specs.Commands.{Cancel}
 use Rattle.vab_device.specs.declared.device.Device.{Device}
@@ -10,7 +10,7 @@ use Rattle.vab_device.proofs.SameLaws.{dead_of}
 use Rattle.vab_begin.specs.Kept.{without_update}
 use Rattle.vab_begin.specs.Writes.{IsOfCancelled}
 use Rattle.vab_begin.proofs.KeptLaws.{ended_kept, source_parts}
-use Rattle.vab_begin.proofs.CancelLaws.{idle_mark, cancel_step}
+use Rattle.vab_begin.proofs.CancelLaws.{cancel_step}
 use Rattle.vab_begin.proofs.cancelling.end_update.Goals as goal
 
 pub returns-in-Err : goal.returns-in-Err

@@ -5,11 +5,15 @@ use Rattle.vab_bootctl.specs.Boot.{IsBootable, IsChosen, chosen_of}
 use Rattle.vab_bootctl.proofs.BootLaws.{chosen_is, chosen_none}
 use Rattle.vab_bootctl.proofs.boot.choose.Goals as goal
 
-some : (c : Control) (has : List Bool) (o : Option ℕ) → o ≡ chosen_of c has → IfSome o (λ slot. IsChosen c has slot)
+some : (c : Control) (has : List Bool) (o : Option ℕ)
+    → o ≡ chosen_of c has
+    → IfSome o (λ slot. IsChosen c has slot)
 some c has None h = tt
 some c has (Some slot) h = chosen_is c has slot (sym h)
 
-none : (c : Control) (has : List Bool) (o : Option ℕ) → o ≡ chosen_of c has → IfNone o ((slot : ℕ) → IsBootable c has slot → ⊥)
+none : (c : Control) (has : List Bool) (o : Option ℕ)
+    → o ≡ chosen_of c has
+    → IfNone o ((slot : ℕ) → IsBootable c has slot → ⊥)
 none c has None h = chosen_none c has (sym h)
 none c has (Some slot) h = tt
 

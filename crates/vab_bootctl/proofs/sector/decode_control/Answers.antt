@@ -7,7 +7,11 @@ use Rattle.vab_bootctl.specs.Control.{Fits, Represents, control_of}
 use Rattle.vab_bootctl.proofs.ControlLaws.{found_control, only_control}
 use Rattle.vab_bootctl.proofs.sector.decode_control.Goals as goal
 
-found : (bytes : List ℕ) (r : Result Control ControlFault) → length bytes ≡ 512 → IsBytes bytes → r ≡ control_of bytes → IfOk r (λ c. Fits c × Represents bytes c)
+found : (bytes : List ℕ) (r : Result Control ControlFault)
+    → length bytes ≡ 512
+    → IsBytes bytes
+    → r ≡ control_of bytes
+    → IfOk r (λ c. Fits c × Represents bytes c)
 found bytes (Ok c) len are h = found_control bytes c len are (sym h)
 found bytes (Err e) len are h = tt
 

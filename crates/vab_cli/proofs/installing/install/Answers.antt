@@ -12,7 +12,8 @@ use Rattle.vab_recover.specs.Opening.{IsOfOpening}
 use Rattle.vab_commands.specs.Touched.{IsOfCommands}
 use Rattle.vab_cli.specs.declared.status.Status.{Status}
 use Rattle.vab_cli.specs.Acts.{install_act, status_in}
-use Rattle.vab_cli.specs.Installing.{RunsOrFails, install_item, install_effect, install_status}
+use Rattle.vab_update.specs.Install.{install_effect}
+use Rattle.vab_cli.specs.Installing.{RunsOrFails, install_item, install_status}
 use Rattle.vab_cli.specs.Touched.{IsOfServing}
 use Rattle.vab_cli.specs.Verbs.{none_line}
 use Rattle.vab_cli.proofs.InputFaults.{short_before, unheard_before, unheard_malformed}

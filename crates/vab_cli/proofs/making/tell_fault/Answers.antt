@@ -7,7 +7,8 @@ use Rattle.vab_cli.proofs.making.tell_fault.Goals as goal
 
 pub returns-in-TooSmall-clause-tells : goal.returns-in-TooSmall-clause-tells
 returns-in-TooSmall-clause-tells g c = λ t.
-    let is : c.args.fault ≡ make.TooSmall c.in-TooSmall.field-0 c.in-TooSmall.field-1 = search rules in
+    let is : c.args.fault ≡ make.TooSmall c.in-TooSmall.field-0 c.in-TooSmall.field-1 =
+    search rules in
     let line : none_line ≡ make_line c.args.fault = sym (ap make_line is) in
     subst
     (λ (x : Status).

@@ -32,7 +32,8 @@ returns-then-ne-clause-early g c = λ t s stands.
     let early : IsEarly c.from-status.result =
     subst IsEarly (sym c.from-status.ensures)
     (early_of c.in-Err.fault (λ is. other (c.from-status.ensures ∙ is))) in
-    fails_before g.P.Disk g.met.P.Disk.only_now _ s c.args.port.now c.start.new.d c.from-status.result
+    fails_before g.P.Disk g.met.P.Disk.only_now _ s c.args.port.now c.start.new.d
+    c.from-status.result
     stands early (c.start.ensures.quiet.told t)
     (λ memory.
     (c.in-Err.ensures.unwritten
@@ -56,9 +57,11 @@ pub returns-in-Ok-say_all-clause-none : goal.returns-in-Ok-say_all-clause-none
 returns-in-Ok-say_all-clause-none g c = λ t fault none.
     let is : c.from-status.result ≡ NotADevice = search rules in
     let reads = c.in-Err.ensures.unwritten
-    (contents_no_disk c.in-Err.fault (contents_of c.in-Err.fault (sym c.from-status.ensures ∙ is))) in
+    (contents_no_disk c.in-Err.fault (contents_of c.in-Err.fault (sym c.from-status.ensures ∙ is)))
+    in
     none_told g.P.Disk g.met.P.Disk.only_now _ c.args.line.now c.args.port.now c.start.new.d
-    c.say_all.new.p NotADevice (inl refl) (c.start.ensures.quiet.told t) (reads.seen t) (reads.crash t)
+    c.say_all.new.p NotADevice (inl refl) (c.start.ensures.quiet.told t) (reads.seen t)
+    (reads.crash t)
     (c.start.ensures.time t) (c.say_all.ensures.front t) (λ same. c.in-Ok-say_all.ensures.told t)
     (c.say_all.ensures.seen t) (c.say_all.ensures.time t)
 
@@ -66,7 +69,8 @@ pub returns-in-Err-say_all-clause-none : goal.returns-in-Err-say_all-clause-none
 returns-in-Err-say_all-clause-none g c = λ t fault none.
     let is : c.from-status.result ≡ NotADevice = search rules in
     let reads = c.in-Err.ensures.unwritten
-    (contents_no_disk c.in-Err.fault (contents_of c.in-Err.fault (sym c.from-status.ensures ∙ is))) in
+    (contents_no_disk c.in-Err.fault (contents_of c.in-Err.fault (sym c.from-status.ensures ∙ is)))
+    in
     none_told g.P.Disk g.met.P.Disk.only_now _ c.args.line.now c.args.port.now c.start.new.d
     c.say_all.new.p Port (inr refl) (c.start.ensures.quiet.told t) (reads.seen t) (reads.crash t)
     (c.start.ensures.time t) (c.say_all.ensures.front t) (λ same. cc)

@@ -26,7 +26,8 @@ returns-in-Ok-tell_blocks-clause-does g c = λ t s stands.
     (sym c.base_of.ensures) found.3 in
     let text = image_told (state_on c.args.device.now image) s.state c.args.name.now found.0
     (bytes_at image (sectors_read p)) same found.1 found.4 in
-    subst (λ (i : Item Mounted). DoesItem g.P.Disk {A = Status} {E = Status} size i old new (Ok Done))
+    subst (λ (i : Item Mounted). DoesItem g.P.Disk {A = Status} {E = Status} size i old new
+    (Ok Done))
     (ap (line_item s) text ∙ sym (print_item s c.args.name.now _))
     (does_line g.P.Disk size s (bytes_at image (sectors_read p)) old new _ stands
     (let says = c.in-Ok-tell_blocks.ensures.says t p kept in record {
@@ -86,7 +87,8 @@ returns-in-Err-clause-does g c = λ t s stands.
     (mounted_is c.args.device.now size image s (c.requires.represents t) stands) in
     let text = refusal_told (state_on c.args.device.now image) s.state c.args.name.now
     c.in-Err.refusal same (c.in-Err.ensures.refused image) in
-    subst (λ (i : Item Mounted). DoesItem g.P.Disk {A = Status} {E = Status} size i old new c.refuse.result)
+    subst (λ (i : Item Mounted). DoesItem g.P.Disk {A = Status} {E = Status} size i old new
+    c.refuse.result)
     (ap (line_item s) text ∙ sym (print_item s c.args.name.now _))
     (does_line g.P.Disk size s (refused_line c.in-Err.refusal) old new c.refuse.result stands
     (c.refuse.ensures.says t))

@@ -34,10 +34,12 @@ loop-block-preserved g c =
       bytes = λ t p kept.
           let end = within_kept c.args.device.now c.args.slot c.args.name.now p
           (c.args.first + c.args.count) kept c.requires.part in
-          piece_more (g.P.Disk.seen c.args.port.now) (g.P.Disk.seen c.loop-block.port) (sectors_read p)
+          piece_more (g.P.Disk.seen c.args.port.now) (g.P.Disk.seen c.loop-block.port)
+          (sectors_read p)
           c.loop-block.piece.items c.read_block.new.out c.try_extend_from_slice.new.self.items
           c.args.first c.loop-block.block
-          (omega (arith, end, c.loop-block-test.true, read_long p)) (i.reads.seen t) (i.bytes t p kept)
+          (omega (arith, end, c.loop-block-test.true, read_long p)) (i.reads.seen t)
+          (i.bytes t p kept)
           (c.in_ok-read_block.ensures.sectors t p kept) more;
       long = (let both = ap length more in
           omega (

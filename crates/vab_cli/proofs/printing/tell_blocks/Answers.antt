@@ -1,4 +1,5 @@
-use Rattle.std.proofs.Common.{◌≡◌, ◌∙◌, ◌+◌, ◌++◌, ℕ, List, Ok, Err, take, drop, sym, subst, arith, refl}
+use Rattle.std.proofs.Common.{◌≡◌, ◌∙◌, ◌+◌, ◌++◌, ℕ, List, Ok, Err, take, drop, sym, subst, arith}
+use Rattle.std.proofs.Common.{refl}
 use Rattle.std.proofs.lemmas.List.{take_all}
 use Rattle.vab_disk.specs.Disk.{Image}
 use Rattle.vab_device.specs.Mounted.{bytes_at, sectors_read}
@@ -16,7 +17,8 @@ loop-done-init g c = record {
   size = refl;
   steady = refl;
   says = λ t p kept.
-      subst (λ (l : List ℕ). Says g.P.Disk {A = Unit {0}} {E = Status} l c.args.port.now c.args.port.now (Ok tt))
+      subst (λ (l : List ℕ). Says g.P.Disk {A = Unit {0}} {E = Status} l c.args.port.now
+      c.args.port.now (Ok tt))
       (sym (bytes_none (g.P.Disk.seen c.args.port.now)))
       (says_none g.P.Disk tt c.args.port.now);
 }
@@ -34,15 +36,18 @@ returns-in-Err-clause-says g c = λ t p kept.
     let status = c.in-Err.status in
     let piece = subst
     (λ (x : Image).
-    Says g.P.Disk {A = Unit {0}} {E = Status} (bytes_at x (take count (drop done (sectors_read p)))) mid new
+    Says g.P.Disk {A = Unit {0}} {E = Status} (bytes_at x (take count (drop done (sectors_read p))))
+    mid new
     (Err status))
     before.seen (c.in-Err.ensures.says t p kept) in
     let both = says_on g.P.Disk (bytes_at image (take done (sectors_read p)))
-    (bytes_at image (take count (drop done (sectors_read p)))) old mid new tt (Err status) before piece in
+    (bytes_at image (take count (drop done (sectors_read p)))) old mid new tt (Err status) before
+    piece in
     subst (λ (l : List ℕ). Says g.P.Disk {A = Unit {0}} {E = Status} l old new (Err status))
     (bytes_rest image (sectors_read p) done count)
     (says_front g.P.Disk
-    (bytes_at image (take done (sectors_read p)) ++ bytes_at image (take count (drop done (sectors_read p))))
+    (bytes_at image (take done (sectors_read p))
+    ++ bytes_at image (take count (drop done (sectors_read p))))
     (bytes_at image (drop (done + count) (sectors_read p))) old new status both)
 
 pub loop-done-preserved : goal.loop-done-preserved
@@ -62,13 +67,15 @@ loop-done-preserved g c =
           let before = i.says t p kept in
           let piece = subst
           (λ (x : Image).
-          Says g.P.Disk {A = Unit {0}} {E = Status} (bytes_at x (take count (drop done (sectors_read p))))
+          Says g.P.Disk {A = Unit {0}} {E = Status}
+          (bytes_at x (take count (drop done (sectors_read p))))
           mid new (Ok tt))
           before.seen (c.in-Ok.ensures.says t p kept) in
           subst (λ (l : List ℕ). Says g.P.Disk {A = Unit {0}} {E = Status} l old new (Ok tt))
           (bytes_piece image (sectors_read p) done count)
           (says_on g.P.Disk (bytes_at image (take done (sectors_read p)))
-          (bytes_at image (take count (drop done (sectors_read p)))) old mid new tt (Ok tt) before piece);
+          (bytes_at image (take count (drop done (sectors_read p)))) old mid new tt (Ok tt) before
+          piece);
     }
 
 pub returns-clause-says : goal.returns-clause-says

@@ -1,4 +1,5 @@
-use Rattle.std.proofs.Common.{◌≡◌, ◌≢◌, ◌<◌, ◌⊎◌, ◌∙◌, ⊎_elim, inl, inr, ℕ, List, [], Ok, Err, None, Some}
+use Rattle.std.proofs.Common.{◌≡◌, ◌≢◌, ◌<◌, ◌⊎◌, ◌∙◌, ⊎_elim, inl, inr, ℕ, List, [], Ok, Err, None}
+use Rattle.std.proofs.Common.{Some}
 use Rattle.std.proofs.Common.{refl, sym, ap, subst, ◌^◌, rules}
 use Rattle.vab_disk.specs.Disk.{Adds}
 use Rattle.vab_disk.specs.declared.disk.Disk.{Ghosts}
@@ -20,7 +21,8 @@ use Rattle.vab_cli.specs.Opening.{Opens}
 use Rattle.vab_cli.specs.Runs.{IsEarly, RunsSession}
 use Rattle.vab_cli.proofs.Makings.{memory_of_none, refused_unheard}
 use Rattle.vab_cli.proofs.Running.{contents_of, early_of, is_one, memory_other, not_of_disk_by}
-use Rattle.vab_cli.proofs.Sessions.{fresh_enough, fresh_small, made_early, made_small, small_unwritten}
+use Rattle.vab_cli.proofs.Sessions.{fresh_enough, fresh_small, made_early, made_small}
+use Rattle.vab_cli.proofs.Sessions.{small_unwritten}
 use Rattle.vab_cli.proofs.Sessions.{making_failed, opening_failed, made_runs, opens_sized}
 use Rattle.vab_device.specs.declared.device.Device.{Device}
 use Rattle.vab_commands.specs.Touched.{IsOfAll, IsOfCommands}
@@ -91,7 +93,8 @@ not_small : {R : Type 0} (size : ℕ) (set : List SetImage)
     → size < 6152
     → R
 not_small size set is gives small =
-    let refused = ap (λ (x : List SetImage). refusal_of x 0 65536 size) is ∙ fresh_small size small in
+    let refused = ap (λ (x : List SetImage). refusal_of x 0 65536 size) is
+    ∙ fresh_small size small in
     cc
 
 pub returns-in-Err-start-clause-small : goal.returns-in-Err-start-clause-small
@@ -166,7 +169,8 @@ returns-clause-runs g c = λ t enough.
     let made : IsMade [] 0 65536 size (g.P.Disk.seen mid) =
     subst (λ (x : List SetImage). IsMade x 0 65536 size (g.P.Disk.seen mid)) set
     (c.in-Ok.ensures.made t) in
-    let opens : Opens g.P.Disk size mid now = opens_sized g.P.Disk (g.P.Disk.size mid) size mid now sized
+    let opens : Opens g.P.Disk size mid now = opens_sized g.P.Disk (g.P.Disk.size mid) size mid now
+    sized
     (record {
       told = c.start.ensures.quiet.told t;
       left = c.start.ensures.quiet.left t;

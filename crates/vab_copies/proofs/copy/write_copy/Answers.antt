@@ -84,5 +84,6 @@ returns-clause-written g c = λ t.
     ≡ with_text c.args.count c.args.text.now old c.args.at =
     (λ j. set_sector (mid j) c.args.at (c.sector_of.ensures j))
     ∙ torn_done c.args.text.now c.args.at c.args.count c.requires.some old in
-    subst (λ (image : Image). OnOk c.put_gate-2.result (g.D.Disk.seen c.put_gate-2.new.d ≡ image)) done
+    subst (λ (image : Image). OnOk c.put_gate-2.result (g.D.Disk.seen c.put_gate-2.new.d ≡ image))
+    done
     (c.put_gate-2.ensures.written t)

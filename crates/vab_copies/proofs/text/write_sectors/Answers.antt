@@ -46,5 +46,6 @@ returns-in_err-put_sector-clause-touches g c =
     let below : c.loop-i.i < c.args.count = omega arith in
     touches_then g.D.Disk _ _ _ _ c.loop-i.invariant.touches
     (touches_wider g.D.Disk _ _ _ _ c.put_sector.ensures.touches
-    (λ s b is. is_new c.args.from c.args.text.now (g.D.Disk.seen c.args.d.now) c.args.at c.args.count
+    (λ s b is. is_new c.args.from c.args.text.now (g.D.Disk.seen c.args.d.now) c.args.at
+    c.args.count
     c.loop-i.i some below s b (is.0, is.1 ∙ c.sector_of.ensures)))

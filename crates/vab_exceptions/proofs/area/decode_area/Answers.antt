@@ -1,4 +1,5 @@
-use Rattle.std.proofs.Common.{◌≡◌, ℕ, ◌∷◌, ◌++◌, [], length, sym, ap, ◌∙◌, subst, arith, inl, inr}
+use Rattle.std.proofs.Common.{◌≡◌, ◌/◌, ℕ, ◌∷◌, ◌++◌, [], length, sym, ap, ◌∙◌, subst, arith, inl}
+use Rattle.std.proofs.Common.{inr}
 use Rattle.std.proofs.lemmas.Bool.{cases_lt}
 use Rattle.vab_exceptions.specs.Entries.{firsts, entry_at, IsListed}
 use Rattle.vab_exceptions.proofs.EntryLaws.{EndsAt, listed_is, length-firsts, firsts-more}
@@ -41,20 +42,20 @@ pub returns-then-entry-eq0 : goal.returns-then-entry-eq0
 returns-then-entry-eq0 c =
     let i = c.loop-i.invariant in
     let f = entry_at c.args.bytes.now in
-    let ends : EndsAt f c.loop-i.i 256 = record {
+    let ends : EndsAt f c.loop-i.i (length c.args.bytes.now / 16) = record {
       within = omega arith;
       before = i.listed;
       here = λ below. ap (λ e. e.new_chunk) (sym c.entry_at-entry.ensures) ∙ c.if-entry-eq0.true;
     } in
-    i.read ∙ sym (listed_is f c.loop-i.i 256 ends)
+    i.read ∙ sym (listed_is f c.loop-i.i (length c.args.bytes.now / 16) ends)
 
 pub returns : goal.returns
 returns c =
     let i = c.loop-i.invariant in
     let f = entry_at c.args.bytes.now in
-    let ends : EndsAt f c.loop-i.i 256 = record {
+    let ends : EndsAt f c.loop-i.i (length c.args.bytes.now / 16) = record {
       within = omega arith;
       before = i.listed;
       here = λ below. absurd (omega (arith, below, c.loop-i-test.false));
     } in
-    i.read ∙ sym (listed_is f c.loop-i.i 256 ends)
+    i.read ∙ sym (listed_is f c.loop-i.i (length c.args.bytes.now / 16) ends)

@@ -13,7 +13,11 @@ eight i small = pow-le-pow_right {n = 16} (omega arith) {i = i} {j = 8} (omega a
 pub with_digit-requires-clause-small : goal.with_digit-requires-clause-small
 with_digit-requires-clause-small c =
     let l = c.loop-byte in
-    omega (arith, few l.byte-index (omega (arith, c.requires.few, c.loop-byte-test.true)), l.invariant.small)
+    omega (
+      arith,
+      few l.byte-index (omega (arith, c.requires.few, c.loop-byte-test.true)),
+      l.invariant.small,
+    )
 
 behind_none : (base : ℕ) (cs : List ℕ) → digits_behind base None cs ≡ None
 behind_none base [] = refl
@@ -41,4 +45,8 @@ returns-in-None-clause-value c =
 pub returns-clause-small : goal.returns-clause-small
 returns-clause-small c = λ short.
     let l = c.loop-byte in
-    omega (arith, eight l.byte-index (omega (arith, short, l.auto.byte-index-end)), l.invariant.small)
+    omega (
+      arith,
+      eight l.byte-index (omega (arith, short, l.auto.byte-index-end)),
+      l.invariant.small,
+    )

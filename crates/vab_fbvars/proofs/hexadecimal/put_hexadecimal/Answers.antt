@@ -1,4 +1,5 @@
-use Rattle.std.proofs.Common.{◌≡◌, ◌∙◌, ℕ, suc, ◌+◌, ◌-◌, ◌/◌, ◌%◌, ◌<◌, ◌^◌, true, ◌∷◌, drop, set, refl, sym, ap, arith, rules}
+use Rattle.std.proofs.Common.{◌≡◌, ◌∙◌, ℕ, suc, ◌+◌, ◌-◌, ◌/◌, ◌%◌, ◌<◌, ◌^◌, true, ◌∷◌, drop, set}
+use Rattle.std.proofs.Common.{refl, sym, ap, arith, rules}
 use Rattle.std.proofs.lemmas.List.{drop-set}
 use Rattle.std.proofs.Math.Nat.{pow-suc}
 use Rattle.std.specs.Fmt.{digits, digits_onto, digit_glyph}
@@ -36,6 +37,7 @@ loop-left-preserved c =
       rest =
           l.invariant.rest
           ∙ one_more (l.at + 48) l.left (drop (l.at + 1) l.digits) c.loop-left-test.true
-          ∙ ap (λ (k : ℕ). digits_onto k 16 true (l.left / 16) (digit_glyph true (l.left % 16) ∷ drop (l.at + 1) l.digits)) one
+          ∙ ap (λ (k : ℕ). digits_onto k 16 true (l.left / 16)
+          (digit_glyph true (l.left % 16) ∷ drop (l.at + 1) l.digits)) one
           ∙ ap (digits_onto (suc (l.at - 1 + 48)) 16 true (l.left / 16)) placed;
     }

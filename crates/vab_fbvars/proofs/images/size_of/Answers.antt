@@ -25,7 +25,8 @@ returns-in-Ok c = λ size image is sectors.
     let found = c.in-Ok.ensures.image image in
     let kept = part_kept d size slot base found.2 is found.3 in
     let same = kept_once d slot base found.2 part.2 found.3 part.3 in
-    ap (λ (f : Found). or_else (size_found f) (size_planned (state_on d image).phase c.args.name.now))
+    ap (λ (f : Found). or_else (size_found f)
+    (size_planned (state_on d image).phase c.args.name.now))
     found.1
     ∙ ap (λ (n : ℕ). Some n)
     (ap length found.4
@@ -37,6 +38,7 @@ returns-in-Ok c = λ size image is sectors.
 pub returns-in-Err : goal.returns-in-Err
 returns-in-Err c = λ size image is sectors.
     let d = c.args.device.now in
-    ap (λ (f : Found). or_else (size_found f) (size_planned (state_on d image).phase c.args.name.now))
+    ap (λ (f : Found). or_else (size_found f)
+    (size_planned (state_on d image).phase c.args.name.now))
     (c.in-Err.ensures.refused image)
     ∙ c.planned_size.ensures image

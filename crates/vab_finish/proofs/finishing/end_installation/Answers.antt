@@ -5,7 +5,7 @@ use Rattle.vab_disk.specs.Calls.{Touches}
 use Rattle.vab_disk.specs.Written.{set_here}
 use Rattle.vab_bootctl.specs.declared.slots.Control.{Control}
 use Rattle.vab_bootctl.specs.Control.{control_of}
-use Rattle.vab_marks.specs.Mark.{mark_spelling}
+use Rattle.vab_marks.specs.Mark.{mark_spelling, staged_mark}
 use Rattle.vab_layout.specs.Slots.{other_slot}
 use Rattle.vab_install.specs.Control.{cleared_of, HasControl, IsControl}
 use Rattle.vab_model.specs.declared.command.Reply.TheVariants as replies
@@ -13,7 +13,7 @@ use Rattle.vab_model.specs.Commands.{Finish}
 use Rattle.vab_device.specs.declared.device.Device.{Device}
 use Rattle.vab_device.specs.Does.{Does}
 use Rattle.vab_device.proofs.DoesLaws.{dead_means, fails_dead, fails_gate, does_gate}
-use Rattle.vab_finish.specs.Finished.{staged_mark, finished_device}
+use Rattle.vab_finish.specs.Finished.{finished_device}
 use Rattle.vab_finish.specs.Writes.{IsOfFinished}
 use Rattle.vab_finish.proofs.KeptLaws.{finished_kept, source_stays}
 use Rattle.vab_finish.proofs.StepLaws.{installing_of, Writes, finish_dead, finish_step}

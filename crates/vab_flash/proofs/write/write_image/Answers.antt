@@ -4,6 +4,7 @@ use Rattle.std.specs.Option.{option_copied}
 use Rattle.vab_disk.specs.Calls.{InSectors, Touches}
 use Rattle.vab_device.specs.declared.device.Part.{Part}
 use Rattle.vab_space.specs.Space.{need_of}
+use Rattle.vab_space.specs.declared.Chunk.TheVariants.{One}
 use Rattle.vab_store.specs.Layout.{IsOnDisk, AreDisjoint, InFirst}
 use Rattle.vab_store.specs.Writing.{planned_of}
 use Rattle.vab_install.specs.Differing.{differing_of}
@@ -42,7 +43,7 @@ returns-in-Ok-clause-planned g c = λ t.
     subst
     (λ (b : List ℕ).
     IfOk c.write_snapshot-in-Ok.result
-    (λ v. v ≡ planned_of
+    (λ v. v ≡ planned_of One
     (differing_of b (g.D.Disk.seen c.args.d.now) c.args.staged.now c.args.blocks)))
     (sym same) (c.write_snapshot-in-Ok.ensures.planned t)
 

@@ -1,7 +1,8 @@
 use Rattle.std.proofs.Common.{◌≡◌, ◌+◌, ◌<◌, ℕ, inl, inr, refl, ◌∙◌, arith, rules}
 use Rattle.std.proofs.lemmas.Bool.{cases_eq}
 use Rattle.vab_disk.specs.Calls.{IsBetween}
-use Rattle.vab_disk.proofs.CallLaws.{touches_none, touches_then, touches_wider, wrote_here, wrote_there}
+use Rattle.vab_disk.proofs.CallLaws.{touches_none, touches_then, touches_wider, wrote_here}
+use Rattle.vab_disk.proofs.CallLaws.{wrote_there}
 use Rattle.vab_gate.proofs.gate.zero_sectors.Goals as goal
 
 pub loop-i-init : goal.loop-i-init
@@ -30,7 +31,8 @@ loop-i-preserved g c =
         | inl here ↦ wrote_here old new at _ (c.in_ok-put_sector.ensures.written t) s here
         | inr other ↦
             wrote_there old new at _ (c.in_ok-put_sector.ensures.written t) s other
-            ∙ c.loop-i.invariant.zeros t s (record { from = is.from; below = omega (arith, is.below, is.from) })
+            ∙ c.loop-i.invariant.zeros t s
+            (record { from = is.from; below = omega (arith, is.below, is.from) })
       ];
       steady = c.in_ok-put_sector.ensures.faults.steady ∙ c.loop-i.invariant.steady;
     }

@@ -10,5 +10,7 @@ returns-clause-read c =
     let front = c.front-front.ensures in
     let back = c.back-back.ensures in
     let spelled : c.joined.result ≡ geometry_sector c.args.geometry.now =
-    c.joined.ensures ∙ (λ i. (front i ++ ((c.sum_of.ensures ∙ (λ j. sum_around (front j) (back j))) i ++ back i)) ++ replicate 460 0) in
+    c.joined.ensures ∙ (λ i. (front i ++
+    ((c.sum_of.ensures ∙ (λ j. sum_around (front j) (back j))) i ++ back i))
+    ++ replicate 460 0) in
     ap geometry_of spelled ∙ sector_read c.args.geometry.now c.requires

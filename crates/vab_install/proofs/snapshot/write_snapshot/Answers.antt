@@ -3,6 +3,7 @@ use Rattle.vab_disk.specs.Disk.{Image}
 use Rattle.vab_disk.specs.Calls.{SameBut, InSectors}
 use Rattle.vab_exceptions.specs.declared.area.Exception.{Exception}
 use Rattle.vab_space.specs.Space.{need_of}
+use Rattle.vab_space.specs.declared.Chunk.TheVariants.{One}
 use Rattle.vab_store.specs.Layout.{InFirst}
 use Rattle.vab_store.specs.View.{Fits}
 use Rattle.vab_store.proofs.WrittenLaws.{planned_fits}
@@ -14,8 +15,8 @@ pub returns-in-Ok-write_planned-clause-fits : goal.returns-in-Ok-write_planned-c
 returns-in-Ok-write_planned-clause-fits g c =
     let olds : List ℕ = c.in-Ok.plan.olds.items in
     let ok = c.in-Ok.ensures in
-    subst (Fits c.args.blocks c.args.store.now) (sym ok.view)
-    (planned_fits olds c.args.store.now c.args.blocks ok.room ok.ascend ok.below)
+    subst (Fits One c.args.blocks c.args.store.now) (sym ok.view)
+    (planned_fits One olds c.args.store.now c.args.blocks ok.room ok.ascend ok.below)
 
 pub returns-in-Ok-write_planned-clause-holds : goal.returns-in-Ok-write_planned-clause-holds
 returns-in-Ok-write_planned-clause-holds g c = λ t.

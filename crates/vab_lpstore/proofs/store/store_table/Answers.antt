@@ -8,17 +8,20 @@ use Rattle.vab_lpstore.proofs.Outcomes.{stored_table, stored_both, places, on_ok
 use Rattle.vab_lpstore.proofs.store.store_table.Goals as goal
 
 pub store_copies-requires-clause-some : goal.store_copies-requires-clause-some
-store_copies-requires-clause-some g c = omega (arith, text_some (length c.args.text.now), c.sectors-count.ensures)
+store_copies-requires-clause-some g c = omega
+    (arith, text_some (length c.args.text.now), c.sectors-count.ensures)
 
 pub store_copies-requires-clause-apart : goal.store_copies-requires-clause-apart
 store_copies-requires-clause-apart g c =
     let apart = copies_apart c.args.geometry.now c.args.slot c.requires.slot in
-    let fits = text_fits c.args.geometry.now (length c.args.text.now) c.requires.rules c.requires.fits in
+    let fits = text_fits c.args.geometry.now (length c.args.text.now) c.requires.rules
+    c.requires.fits in
     omega (arith, apart, fits, c.sectors-count.ensures, c.primary.ensures, c.backup.ensures)
 
 pub store_copies-requires-clause-on_disk : goal.store_copies-requires-clause-on_disk
 store_copies-requires-clause-on_disk g c =
-    let fits = text_fits c.args.geometry.now (length c.args.text.now) c.requires.rules c.requires.fits in
+    let fits = text_fits c.args.geometry.now (length c.args.text.now) c.requires.rules
+    c.requires.fits in
     omega (arith, fits, c.requires.on_disk, c.sectors-count.ensures, c.backup.ensures)
 
 pub returns-clause-stored : goal.returns-clause-stored
@@ -27,8 +30,12 @@ returns-clause-stored g c = λ t.
     let old = g.D.Disk.seen c.args.d.now in
     let image = g.D.Disk.seen c.store_copies.new.d in
     on_ok_map c.store_copies.result _ _
-    (λ is. stored_both c.args.geometry.now c.args.slot (text_sectors (length text)) text old c.requires.slot (text_some (length text)) (text_fits c.args.geometry.now (length text) c.requires.rules c.requires.fits) (text_room (length text)) image
-    (places (λ n p b l. image ≡ with_text n l (with_text n l old p) b) _ _ _ _ _ _ text text c.sectors-count.ensures c.primary.ensures c.backup.ensures refl is))
+    (λ is. stored_both c.args.geometry.now c.args.slot (text_sectors (length text)) text old
+    c.requires.slot (text_some (length text))
+    (text_fits c.args.geometry.now (length text) c.requires.rules c.requires.fits)
+    (text_room (length text)) image
+    (places (λ n p b l. image ≡ with_text n l (with_text n l old p) b) _ _ _ _ _ _ text text
+    c.sectors-count.ensures c.primary.ensures c.backup.ensures refl is))
     (c.store_copies.ensures.written t)
 
 pub returns-clause-touches : goal.returns-clause-touches
@@ -44,5 +51,9 @@ returns-clause-table g c = λ t settled a b is_primary is_backup is_text.
     let old = g.D.Disk.seen c.args.d.now in
     let told = g.D.Disk.told c.args.d.now in
     adds_wider g.D.Disk.moment g.D.Disk.outcomes _ _ _ _ (c.store_copies.ensures.copies t settled)
-    (λ o leaves. stored_table c.args.geometry.now c.args.slot (text_sectors (length text)) text old c.requires.slot (text_some (length text)) (text_fits c.args.geometry.now (length text) c.requires.rules c.requires.fits) (text_room (length text)) told a b is_primary is_backup is_text o
-    (places (λ n p b l. LeavesCopies told old n p b l o) _ _ _ _ _ _ text text c.sectors-count.ensures c.primary.ensures c.backup.ensures refl leaves))
+    (λ o leaves. stored_table c.args.geometry.now c.args.slot (text_sectors (length text)) text old
+    c.requires.slot (text_some (length text))
+    (text_fits c.args.geometry.now (length text) c.requires.rules c.requires.fits)
+    (text_room (length text)) told a b is_primary is_backup is_text o
+    (places (λ n p b l. LeavesCopies told old n p b l o) _ _ _ _ _ _ text text
+    c.sectors-count.ensures c.primary.ensures c.backup.ensures refl leaves))

@@ -11,8 +11,12 @@ on_ok_map (Ok x) P Q f is = f is
 on_ok_map (Err e) P Q f is = tt
 
 -- the block is one of the partition that is kept
-below : (d : Device) (slot : ℕ) (name : List ℕ) (block : ℕ) (p : Part) → KeepsPart d slot name p → HasBlock d slot name block → block < length p.map
-below d slot name block p kept has = subst (λ (q : Part). block < length q.map) (kept_once d slot name has.0 p has.1 kept) has.2
+below : (d : Device) (slot : ℕ) (name : List ℕ) (block : ℕ) (p : Part)
+    → KeepsPart d slot name p
+    → HasBlock d slot name block
+    → block < length p.map
+below d slot name block p kept has = subst (λ (q : Part). block < length q.map)
+    (kept_once d slot name has.0 p has.1 kept) has.2
 
 pub read_part-requires-clause-kept : goal.read_part-requires-clause-kept
 read_part-requires-clause-kept g c =

@@ -10,7 +10,8 @@ use Rattle.vab_manager.specs.Controls.{HasControl, LeavesControl}
 use Rattle.vab_manager.proofs.control.put_control.Goals as goal
 
 module _ {D : Type 0} (moment : D → ℕ) (outcomes : D → ℕ → Outcome → Type 0) where
-  gated : (old mid new : D) (state : Control) (seen seen' : Image) (hold hold' : ℕ → List ℕ → Type 0)
+  gated : (old mid new : D) (state : Control) (seen seen' : Image) (hold hold' : ℕ → List ℕ
+      → Type 0)
       (told told' sector : List ℕ)
       → seen' ≡ seen
       → told' ≡ told
@@ -22,24 +23,34 @@ module _ {D : Type 0} (moment : D → ℕ) (outcomes : D → ℕ → Outcome →
       → Adds moment outcomes mid new (LeavesEither told' seen' (set_sector seen' 4 sector)))
       → IsSettled seen hold
       → Adds moment outcomes old new (LeavesControl told state seen)
-  gated old mid new state seen seen' hold hold' told told' sector same same_told holds decoded keeps read gate
+  gated old mid new state seen seen' hold hold' told told' sector same same_told holds decoded keeps
+      read gate
       settled =
       adds_on moment outcomes old mid new (LeavesControl told state seen)
       (LeavesEither told' seen' (set_sector seen' 4 sector))
-      (adds_wider moment outcomes old mid Nothing (LeavesControl told state seen) read (λ o none. absurd none))
+      (adds_wider moment outcomes old mid Nothing (LeavesControl told state seen) read
+      (λ o none. absurd none))
       (gate
-      (λ s b held. settled s b (holds.no_more s b held) ∙ ap (λ (image : Image). image s) (sym same)))
+      (λ s b held. settled s b (holds.no_more s b held)
+      ∙ ap (λ (image : Image). image s) (sym same)))
       (λ o leaves. record {
         told_so_far = leaves.told_so_far ∙ same_told;
         either =
             ⊎_elim (λ was. inl (was ∙ same))
             (λ now.
-            inr (sector, decoded, keeps, now ∙ ap (λ (image : Image). set_sector image 4 sector) same))
+            inr (
+              sector,
+              decoded,
+              keeps,
+              now ∙ ap (λ (image : Image). set_sector image 4 sector)
+                  same,
+            ))
             leaves.either;
       })
 
 -- the sector is written over what was read
-written : {A E : Type 0} (r : Result A E) (control : Control) (old mid new : Image) (sector : List ℕ)
+written : {A E : Type 0} (r : Result A E) (control : Control) (old mid new : Image)
+    (sector : List ℕ)
     → control_of sector ≡ Ok control
     → KeepsRest (old 4) sector
     → mid ≡ old
@@ -50,7 +61,8 @@ written (Ok x) control old mid new sector decoded keeps same is =
 written (Err e) control old mid new sector decoded keeps same is = tt
 
 pub returns-in_err-get_sector-clause-touches : goal.returns-in_err-get_sector-clause-touches
-returns-in_err-get_sector-clause-touches g c = λ t. touches_reads g.D.Disk _ _ _ c.get_sector.ensures.reads
+returns-in_err-get_sector-clause-touches g c = λ t.
+    touches_reads g.D.Disk _ _ _ c.get_sector.ensures.reads
 
 pub returns-in_err-get_sector-clause-gate : goal.returns-in_err-get_sector-clause-gate
 returns-in_err-get_sector-clause-gate g c = λ t rest.

@@ -7,12 +7,18 @@ use Rattle.vab_marks.specs.Mark.{FitsMark, mark_spelling, mark_of}
 use Rattle.vab_marks.proofs.MarkLaws.{found_mark, read_mark}
 use Rattle.vab_marks.proofs.mark.decode_mark.Goals as goal
 
-found : (bytes : List ℕ) (r : Result UpdateMark MarkFault) → length bytes ≡ 512 → IsBytes bytes → r ≡ mark_of bytes → IfOk r (λ m. FitsMark m × (bytes ≡ mark_spelling m))
+found : (bytes : List ℕ) (r : Result UpdateMark MarkFault)
+    → length bytes ≡ 512
+    → IsBytes bytes
+    → r ≡ mark_of bytes
+    → IfOk r (λ m. FitsMark m × (bytes ≡ mark_spelling m))
 found bytes (Ok m) len are h = found_mark bytes m len are (sym h)
 found bytes (Err e) len are h = tt
 
 pub returns-clause-found : goal.returns-clause-found
-returns-clause-found c = found c.args.bytes.now c.mark_in.result c.told-bytes c.fits-bytes c.mark_in.ensures
+returns-clause-found c = found c.args.bytes.now c.mark_in.result c.told-bytes c.fits-bytes
+    c.mark_in.ensures
 
 pub returns-clause-only : goal.returns-clause-only
-returns-clause-only c m fits spelled = c.mark_in.ensures ∙ read_mark c.args.bytes.now m c.fits-bytes fits spelled
+returns-clause-only c m fits spelled = c.mark_in.ensures ∙ read_mark c.args.bytes.now m c.fits-bytes
+    fits spelled

@@ -1,6 +1,6 @@
-use Rattle.std.proofs.Common.{◌≡◌, ◌+◌, ℕ, ◌<◌, ◌≤◌}
+use Rattle.std.proofs.Common.{◌≡◌, ◌*◌, ℕ, ◌<◌, ◌≤◌}
 use Rattle.vab_disk.specs.Calls.{Touches}
-use Rattle.vab_merge.specs.Cleared.{IsClearing, IsClearedAt, IsOfThem, area_sector}
+use Rattle.vab_merge.specs.Cleared.{IsClearing, IsClearedAt, IsOfThem, page_sector}
 use Rattle.vab_merge.proofs.clear.clear_entries.Given as goal
 
 abbrev pub invariant-loop-i : goal.invariant-loop-i
@@ -10,13 +10,15 @@ invariant-loop-i g l = record {
       → IsOfThem l.first l.end i
       → i < l.i
       → IsClearedAt l.first l.end i
-      (g.D.Disk.seen l.fn.d (area_sector l.store l.first + i))
-      (g.D.Disk.seen l.d (area_sector l.store l.first + i));
+      (g.D.Disk.seen l.fn.d (page_sector l.chunk l.store i))
+      (g.D.Disk.seen l.d (page_sector l.chunk l.store i));
   left : g.D.Disk.is_modelled
       → (i : ℕ)
       → l.i ≤ i
-      → g.D.Disk.seen l.d (area_sector l.store l.first + i)
-      ≡ g.D.Disk.seen l.fn.d (area_sector l.store l.first + i);
-  touches : Touches g.D.Disk (IsClearing l.store l.first l.end (g.D.Disk.seen l.fn.d)) l.fn.d l.d;
+      → 32 * i < l.end
+      → g.D.Disk.seen l.d (page_sector l.chunk l.store i)
+      ≡ g.D.Disk.seen l.fn.d (page_sector l.chunk l.store i);
+  touches : Touches g.D.Disk
+      (IsClearing l.chunk l.store l.first l.end (g.D.Disk.seen l.fn.d)) l.fn.d l.d;
   steady : g.D.Disk.faults l.d ≡ g.D.Disk.faults l.fn.d;
 }

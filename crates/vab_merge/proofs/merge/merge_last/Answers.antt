@@ -1,11 +1,12 @@
 use Rattle.std.proofs.Common.{◌≡◌, ◌-◌, ◌<◌, ℕ, List, length, subst, arith}
 use Rattle.std.proofs.lemmas.Result.{IfOk-weaker}
 use Rattle.vab_disk.specs.Calls.{InSectors, Touches}
+use Rattle.vab_space.specs.declared.Chunk.TheVariants.{One}
 use Rattle.vab_exceptions.specs.declared.area.Exception.{Exception}
 use Rattle.vab_merge.specs.Copied.{InCopied, AreCopied}
 use Rattle.vab_merge.specs.Cleared.{IsClearing, AreCleared}
 use Rattle.vab_merge.specs.Merged.{WithoutLast}
-use Rattle.vab_merge.proofs.RunSteps.{one_area, area_there, touches_copied, touches_merged}
+use Rattle.vab_merge.proofs.RunSteps.{touches_copied, touches_merged}
 use Rattle.vab_merge.proofs.RunSteps.{time_copied, time_merged, merged}
 use Rattle.vab_merge.proofs.merge.merge_last.Goals as goal
 
@@ -16,19 +17,16 @@ clear_run-requires g c =
     let end_is : c.count-end.result ≡ length es = c.count-end.ensures in
     let first_below : length es - n < length es =
     omega (arith, c.requires.some, c.requires.run.within) in
-    let one = one_area es n c.requires.run c.requires.some in
-    let there = area_there (length c.args.base.now) c.args.store.now es
-    (length es - n) c.requires.may.fits first_below in
     record {
       order = omega (arith, end_is, first_below);
-      one_area = omega (arith, end_is, one);
-      there = omega (arith, end_is, there);
+      there = omega (arith, end_is, c.requires.may.fits.room);
       on_disk = λ i below.
           omega (
             arith,
             c.requires.may.store_on_disk i below,
             c.copy_run.ensures.touches.quiet.size,
           );
+      apart = λ t. (c.requires.can t).store_apart;
     }
 
 pub returns-in_err-copy_run-clause-touches : goal.returns-in_err-copy_run-clause-touches
@@ -61,7 +59,7 @@ returns-clause-touches g c =
     (InSectors (InCopied c.args.base.now es (k - n))) c.args.d.now c.copy_run.new.d)
     c.count-end.ensures c.copy_run.ensures.touches)
     (subst (λ (k : ℕ). Touches g.D.Disk
-    (IsClearing c.args.store.now (k - n) k
+    (IsClearing One c.args.store.now (k - n) k
     (g.D.Disk.seen c.copy_run.new.d)) c.copy_run.new.d c.clear_run.new.d)
     c.count-end.ensures c.clear_run.ensures.touches)
 
@@ -82,7 +80,7 @@ returns-clause-time g c = λ t rest scanned.
     (g.met.D.Disk.seen_held mid s)).long)
     (c.in_ok-copy_run.ensures.rest t)
     (subst (λ (k : ℕ). Touches g.D.Disk
-    (IsClearing c.args.store.now (k - n) k (g.D.Disk.seen mid)) mid c.clear_run.new.d)
+    (IsClearing One c.args.store.now (k - n) k (g.D.Disk.seen mid)) mid c.clear_run.new.d)
     c.count-end.ensures c.clear_run.ensures.touches)
 
 pub returns-clause-merged : goal.returns-clause-merged
@@ -91,7 +89,7 @@ returns-clause-merged g c = λ t scanned.
     let n : ℕ = c.args.n in
     let mid = c.copy_run.new.d in
     IfOk-weaker c.clear_run.result
-    (λ u. AreCleared c.args.store.now (c.count-end.result - n) c.count-end.result
+    (λ u. AreCleared One c.args.store.now (c.count-end.result - n) c.count-end.result
     (g.D.Disk.seen mid) (g.D.Disk.seen c.clear_run.new.d))
     (λ u. WithoutLast c.args.base.now c.args.store.now es n (g.D.Disk.seen c.args.d.now)
     (g.D.Disk.seen c.clear_run.new.d))
@@ -107,9 +105,9 @@ returns-clause-merged g c = λ t scanned.
     (λ s below. (g.met.D.Disk.whole mid s (g.D.Disk.seen mid s) below
     (g.met.D.Disk.seen_held mid s)).long)
     (subst (λ (k : ℕ). Touches g.D.Disk
-    (IsClearing c.args.store.now (k - n) k (g.D.Disk.seen mid)) mid c.clear_run.new.d)
+    (IsClearing One c.args.store.now (k - n) k (g.D.Disk.seen mid)) mid c.clear_run.new.d)
     c.count-end.ensures c.clear_run.ensures.touches)
-    (subst (λ (k : ℕ). AreCleared c.args.store.now (k - n) k (g.D.Disk.seen mid)
+    (subst (λ (k : ℕ). AreCleared One c.args.store.now (k - n) k (g.D.Disk.seen mid)
     (g.D.Disk.seen c.clear_run.new.d))
     c.count-end.ensures all))
     (c.clear_run.ensures.cleared t)

@@ -10,7 +10,8 @@ use Rattle.vab_merge.proofs.merge.run_turn.Goals as goal
 pub returns-then-n-eq0-clause-ran : goal.returns-then-n-eq0-clause-ran
 returns-then-n-eq0-clause-ran g c =
     empty_run c.args.view.now c.args.most c.requires.some
-    (subst (IsLongest area_entries c.args.view.now c.args.most) c.if-n-eq0.true c.run_length-n.ensures)
+    (subst (IsLongest area_entries c.args.view.now c.args.most) c.if-n-eq0.true
+    c.run_length-n.ensures)
 
 pub returns-then-n-eq0-clause-kept : goal.returns-then-n-eq0-clause-kept
 returns-then-n-eq0-clause-kept g c =

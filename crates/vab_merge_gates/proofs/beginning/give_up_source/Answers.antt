@@ -1,6 +1,6 @@
 use Rattle.std.proofs.Common.{ℕ, List, refl, sym, subst, Ok}
 use Rattle.vab_disk.proofs.CallLaws.{touches_none}
-use Rattle.vab_marks.specs.Mark.{mark_spelling}
+use Rattle.vab_marks.specs.Mark.{mark_spelling, merging_mark}
 use Rattle.vab_layout.specs.Slots.{other_slot}
 use Rattle.vab_model.specs.declared.command.Reply.TheVariants as replies
 use Rattle.vab_model.specs.Commands.{BeginMerge}
@@ -8,7 +8,7 @@ use Rattle.vab_device.specs.declared.device.Device.{Device}
 use Rattle.vab_device.specs.Does.{Does}
 use Rattle.vab_device.proofs.DoesLaws.{dead_means, fails_gate, does_follow}
 use Rattle.vab_device.proofs.SameLaws.{dead_of}
-use Rattle.vab_merge_gates.specs.Kept.{merging_mark, merging_device}
+use Rattle.vab_merge_gates.specs.Kept.{merging_device}
 use Rattle.vab_merge_gates.specs.Writes.{IsOfMergeBegun}
 use Rattle.vab_merge_gates.proofs.KeptLaws.{merging_kept}
 use Rattle.vab_merge_gates.proofs.StepLaws.{begin_step}

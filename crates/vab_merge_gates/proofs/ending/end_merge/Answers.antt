@@ -5,7 +5,7 @@ use Rattle.vab_disk.specs.Disk.{Adds, LeavesEither, Image}
 use Rattle.vab_disk.specs.Calls.{IsAtRest}
 use Rattle.vab_disk.proofs.Moments.{adds_wider}
 use Rattle.vab_marks.specs.declared.mark.MarkPhase.TheVariants as marks
-use Rattle.vab_marks.specs.Mark.{mark_of, mark_spelling}
+use Rattle.vab_marks.specs.Mark.{mark_of, mark_spelling, completed_mark}
 use Rattle.vab_device.specs.declared.device.Device.{Device}
 use Rattle.vab_device.specs.Does.{LeavesStep}
 use Rattle.vab_device.specs.Kept.{IsDevice}
@@ -15,7 +15,7 @@ use Rattle.vab_device.specs.Updates.{merge_ended}
 use Rattle.vab_device.proofs.ReadingLaws.{device_stands}
 use Rattle.vab_device.proofs.Steps.{marked}
 use Rattle.vab_merge_gates.specs.Ends.{EndsMerge}
-use Rattle.vab_merge_gates.specs.Kept.{completed_mark, ended_device}
+use Rattle.vab_merge_gates.specs.Kept.{ended_device}
 use Rattle.vab_merge_gates.proofs.EndedLaws.{ended_represents, ended_means}
 use Rattle.vab_merge_gates.proofs.KeptLaws.{ended_kept}
 use Rattle.vab_merge_gates.proofs.ending.end_merge.Goals as goal

@@ -1,4 +1,5 @@
-use Rattle.std.proofs.Common.{◌≡◌, List, ℕ, Result, Ok, Err, map, string_bytes, IfOk, IfErr, subst, refl, inl, inr}
+use Rattle.std.proofs.Common.{◌≡◌, List, ℕ, Result, Ok, Err, map, string_bytes, IfOk, IfErr, subst}
+use Rattle.std.proofs.Common.{refl, inl, inr}
 use Rattle.std.specs.Prelude.{◌⊎◌}
 use Rattle.std.proofs.lemmas.Result.{IfOk-weaker}
 use Rattle.vab_pack.specs.declared.fault.WordFault.{WordFault}
@@ -10,22 +11,30 @@ use Rattle.vab_pack.specs.Words.{Gives, asked_of}
 use Rattle.vab_pack.proofs.WordLaws.{words_found, words_again, set_of_names}
 use Rattle.vab_pack.proofs.words.parse_words.Goals as goal
 
-found : {V : Type 0} (view : V → List Asked) (words : List (List ℕ)) (r : Result V WordFault) → Gives view r (asked_of words) → IfOk r (λ v. Ask words (view v))
+found : {V : Type 0} (view : V → List Asked) (words : List (List ℕ)) (r : Result V WordFault)
+    → Gives view r (asked_of words)
+    → IfOk r (λ v. Ask words (view v))
 found view words (Ok v) h = words_found words (view v) h
 found view words (Err e) h = tt
 
 pub returns-clause-found : goal.returns-clause-found
-returns-clause-found c = found (λ v. v.items) (map string_bytes c.args.words.now) c.parse_all.result c.parse_all.ensures
+returns-clause-found c = found (λ v. v.items) (map string_bytes c.args.words.now) c.parse_all.result
+    c.parse_all.ensures
 
 pub returns-clause-only : goal.returns-clause-only
-returns-clause-only c = λ asked is. subst (λ (said : Result (List Asked) WordFault). Gives (λ v. v.items) c.parse_all.result said) (words_again (map string_bytes c.args.words.now) asked is) c.parse_all.ensures
+returns-clause-only c = λ asked is. subst (λ (said : Result (List Asked) WordFault).
+    Gives (λ v. v.items) c.parse_all.result said)
+    (words_again (map string_bytes c.args.words.now) asked is) c.parse_all.ensures
 
 pub returns-clause-set : goal.returns-clause-set
 returns-clause-set c =
     let words : List (List ℕ) = map string_bytes c.args.words.now in
-    IfOk-weaker c.parse_all.result _ _ (λ v is. set_of_names words v.items is) (found (λ v. v.items) words c.parse_all.result c.parse_all.ensures)
+    IfOk-weaker c.parse_all.result _ _ (λ v is. set_of_names words v.items is)
+    (found (λ v. v.items) words c.parse_all.result c.parse_all.ensures)
 
-fault : {V : Type 0} (view : V → List Asked) (words : List (List ℕ)) (r : Result V WordFault) → Gives view r (asked_of words) → IfErr r (λ e. (e ≡ faults.NoMemory) ⊎ IsFaultOf words e)
+fault : {V : Type 0} (view : V → List Asked) (words : List (List ℕ)) (r : Result V WordFault)
+    → Gives view r (asked_of words)
+    → IfErr r (λ e. (e ≡ faults.NoMemory) ⊎ IsFaultOf words e)
 fault view words (Ok v) h = tt
 fault view words (Err faults.NoMemory) h = inl refl
 fault view words (Err (faults.TooMany n)) h = inr (fault_holds words (faults.TooMany n) h)
@@ -36,7 +45,10 @@ fault view words (Err (faults.BadSize i)) h = inr (fault_holds words (faults.Bad
 fault view words (Err (faults.BadStore i)) h = inr (fault_holds words (faults.BadStore i) h)
 
 pub returns-clause-fault : goal.returns-clause-fault
-returns-clause-fault c = fault (λ v. v.items) (map string_bytes c.args.words.now) c.parse_all.result c.parse_all.ensures
+returns-clause-fault c = fault (λ v. v.items) (map string_bytes c.args.words.now) c.parse_all.result
+    c.parse_all.ensures
 
 pub returns-clause-faulty : goal.returns-clause-faulty
-returns-clause-faulty c = λ e is. subst (λ (said : Result (List Asked) WordFault). Gives (λ v. v.items) c.parse_all.result said) (fault_comes (map string_bytes c.args.words.now) e is) c.parse_all.ensures
+returns-clause-faulty c = λ e is. subst (λ (said : Result (List Asked) WordFault).
+    Gives (λ v. v.items) c.parse_all.result said)
+    (fault_comes (map string_bytes c.args.words.now) e is) c.parse_all.ensures

@@ -28,7 +28,13 @@ front_is text name front same is =
 pub slice_bounds-has_its-count : goal.slice_bounds-has_its-count
 slice_bounds-has_its-count c =
     let e = store_ends c.args.slot c.args.name.now c.requires.store in
-    omega (arith, ap length c.text-text.ensures.value, ap length e.1, length-append e.0 store_suffix)
+    omega (
+      arith,
+      ap length c.text-text.ensures.value,
+      ap length e.1,
+      length-append e.0
+          store_suffix,
+    )
 
 pub returns : goal.returns
 returns c =

@@ -5,10 +5,18 @@ use Rattle.vab_plan.proofs.PartLaws.{group_long, base_is_name}
 use Rattle.vab_plan.proofs.partitions.limit.Goals as goal
 
 pub base_of-requires : goal.base_of-requires
-base_of-requires c = omega (arith, ap length c.text.ensures.value, group_long c.args.group.now c.requires.rules)
+base_of-requires c = omega (
+  arith,
+  ap length c.text.ensures.value,
+  group_long c.args.group.now
+      c.requires.rules,
+)
 
 pub unreachable-requires : goal.unreachable-requires
 unreachable-requires c =
-    let is : IsName (base_of c.args.group.now.name) = base_is_name c.args.group.now.name c.text.ensures.name (group_long c.args.group.now c.requires.rules) in
-    let same : c.base_of.result.now ≡ base_of c.args.group.now.name = c.base_of.ensures ∙ ap base_of c.text.ensures.value in
+    let is : IsName (base_of c.args.group.now.name) =
+    base_is_name c.args.group.now.name c.text.ensures.name
+    (group_long c.args.group.now c.requires.rules) in
+    let same : c.base_of.result.now ≡ base_of c.args.group.now.name = c.base_of.ensures
+    ∙ ap base_of c.text.ensures.value in
     absurd (cc ((c.in-Err.ensures).exact.1 (subst IsName (sym same) is)))

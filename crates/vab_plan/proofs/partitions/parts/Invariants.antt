@@ -6,4 +6,5 @@ use Rattle.vab_device.specs.Kept.{part_on}
 use Rattle.vab_plan.proofs.partitions.parts.Given as goal
 
 abbrev pub invariant-loop-partition : goal.invariant-loop-partition
-invariant-loop-partition l = l.parts.items ≡ map (part_on (first_sector_of l.table)) (own_before l.slot l.table l.partition-index)
+invariant-loop-partition l = l.parts.items ≡ map (part_on (first_sector_of l.table))
+    (own_before l.slot l.table l.partition-index)

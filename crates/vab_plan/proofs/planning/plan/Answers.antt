@@ -1,4 +1,5 @@
-use Rattle.std.proofs.Common.{◌≡◌, ◌≢◌, ◌∙◌, ℕ, ◌<◌, true, false, List, [], ◌∷◌, ◌++◌, length, get_or}
+use Rattle.std.proofs.Common.{◌≡◌, ◌≢◌, ◌∙◌, ℕ, ◌<◌, true, false, List, [], ◌∷◌, ◌++◌, length}
+use Rattle.std.proofs.Common.{get_or}
 use Rattle.std.proofs.Common.{ap, sym, subst, arith}
 use Rattle.std.specs.Prelude.{map}
 use Rattle.vab_names.specs.Names.{is_of_slot}
@@ -7,7 +8,8 @@ use Rattle.vab_layout.specs.Layout.{layout_of, part_of}
 use Rattle.vab_device.specs.Phases.{planned_on}
 use Rattle.vab_plan.specs.Scans.{scans_of}
 use Rattle.vab_device.specs.Stores.{exceptions_of}
-use Rattle.vab_plan.proofs.PlanLaws.{own_rules, all_before, plan_skip, plan_more, planned_same, at_any}
+use Rattle.vab_plan.proofs.PlanLaws.{own_rules, all_before, plan_skip, plan_more, planned_same}
+use Rattle.vab_plan.proofs.PlanLaws.{at_any}
 use Rattle.vab_plan.proofs.planning.plan.Goals as goal
 use Rattle.vab_plan.proofs.planning.plan.Goals.{then-is_of_slot+in_ok-planned+in_ok-push}
 use Rattle.vab_plan.proofs.planning.plan.Goals.{else-is_of_slot}

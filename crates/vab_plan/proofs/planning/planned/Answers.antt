@@ -26,7 +26,8 @@ returns-clause-entry c =
     ≡ group_at t.groups p.group =
     ap (λ (l : List Group). (get_or l p.group c.index-as_slice-partition.result).name)
     c.as_slice.ensures
-    ∙ sym (group_at_is t.groups p.group c.index-as_slice-partition.result c.requires.rules.group_exists)
+    ∙ sym (group_at_is t.groups p.group c.index-as_slice-partition.result
+    c.requires.rules.group_exists)
     in
     let map = c.in_ok-map.ensures.blocks
     ∙ ap (λ (n : ℕ). sectors_of n (blocks_of_partition t p)) (sym (layout_first t)) in

@@ -6,7 +6,8 @@ use Rattle.vab_device.proofs.OpeningLaws.{device_small, device_no_mark, device_n
 use Rattle.vab_recover.proofs.FrameLaws.{reads_if}
 use Rattle.vab_recover.proofs.frame.read_marks.Goals as goal
 
-pub returns-then-sectors-lt-MIN_SECTORS-clause-fault : goal.returns-then-sectors-lt-MIN_SECTORS-clause-fault
+pub returns-then-sectors-lt-MIN_SECTORS-clause-fault :
+    goal.returns-then-sectors-lt-MIN_SECTORS-clause-fault
 returns-then-sectors-lt-MIN_SECTORS-clause-fault g c = λ t kind.
     let size : ℕ = g.D.Disk.size c.args.d.now in
     let few =
@@ -18,14 +19,16 @@ pub returns-in-Err-clause-fault : goal.returns-in-Err-clause-fault
 returns-in-Err-clause-fault g c = λ t kind.
     let size : ℕ = g.D.Disk.size c.args.d.now in
     let enough =
-    le-leb 4120 size (omega (arith, c.sectors-sectors.ensures, c.if-sectors-lt-MIN_SECTORS.false)) in
+    le-leb 4120 size (omega (arith, c.sectors-sectors.ensures, c.if-sectors-lt-MIN_SECTORS.false))
+    in
     device_no_mark size (g.D.Disk.seen c.args.d.now) _ enough (c.in-Err.ensures.answers t kind)
 
 pub returns-in-Err-read_if-clause-fault : goal.returns-in-Err-read_if-clause-fault
 returns-in-Err-read_if-clause-fault g c = λ t kind.
     let size : ℕ = g.D.Disk.size c.args.d.now in
     let enough =
-    le-leb 4120 size (omega (arith, c.sectors-sectors.ensures, c.if-sectors-lt-MIN_SECTORS.false)) in
+    le-leb 4120 size (omega (arith, c.sectors-sectors.ensures, c.if-sectors-lt-MIN_SECTORS.false))
+    in
     let m = c.in-Ok.mark in
     let reads = reads_if m.phase ∙ sym c.reads_statuses.ensures in
     let seen = sym (c.read_mark.ensures.reads.seen t) in

@@ -61,7 +61,8 @@ returns-clause-is c =
       geometry = refl;
       cap = c.cap-cap.ensures
           ∙ ap cap_of
-          (first_of c.args.table.now c.requires.keeps c.as_slice.result.now c.index-as_slice-0.result
+          (first_of c.args.table.now c.requires.keeps c.as_slice.result.now
+          c.index-as_slice-0.result
           c.as_slice.ensures c.index-as_slice-0.is);
       groups = c.in_ok-groups.ensures.limits;
       a = c.by_slot-a.ensures.a

@@ -4,6 +4,7 @@ use Rattle.vab_layout.specs.Layout.{layout_of}
 use Rattle.vab_device.specs.declared.fault.StartFault.{StartFault}
 use Rattle.vab_device.specs.Faults.{IsOfContents}
 use Rattle.vab_device.specs.Stores.{Scanned, Wanted}
+use Rattle.vab_space.specs.declared.Chunk.TheVariants.{One}
 use Rattle.vab_store.specs.Scan.{scan_of}
 use Rattle.vab_plan.specs.Scans.{scanned_of}
 use Rattle.vab_recover.specs.Scans.{AreBlocks}
@@ -30,7 +31,7 @@ returns-in-Ok-Some-clause-ok g c = λ t.
     (λ (w : Option (List ℕ × List ℕ)). IfSome w
     (λ m. AreBlocks c.args.slot (layout_of c.args.table.now) c.args.status.now.name m.0 m.1))
     c.in-Ok-Some.field-0-is c.in-Ok-Some.ensures.there) c.len.ensures.count))
-    (c.judge_scan.ensures.ok w (scan_of c.in-Ok-Some.store c.len.result image) refl refl refl
+    (c.judge_scan.ensures.ok w (scan_of One c.in-Ok-Some.store c.len.result image) refl refl refl
     (c.scan-scanned.ensures.answers t))
 
 pub returns-in-Ok-Some-clause-fault : goal.returns-in-Ok-Some-clause-fault
@@ -47,7 +48,7 @@ returns-in-Ok-Some-clause-fault g c = λ t.
     (λ (w : Option (List ℕ × List ℕ)). IfSome w
     (λ m. AreBlocks c.args.slot (layout_of c.args.table.now) c.args.status.now.name m.0 m.1))
     c.in-Ok-Some.field-0-is c.in-Ok-Some.ensures.there) c.len.ensures.count))
-    (c.judge_scan.ensures.fault w (scan_of c.in-Ok-Some.store c.len.result image) refl refl refl
+    (c.judge_scan.ensures.fault w (scan_of One c.in-Ok-Some.store c.len.result image) refl refl refl
     (c.scan-scanned.ensures.answers t))
 
 pub returns-in-Ok-Some-clause-is : goal.returns-in-Ok-Some-clause-is
@@ -57,5 +58,6 @@ returns-in-Ok-Some-clause-is g c =
     (subst
     (λ (w : Option (List ℕ × List ℕ)). IfSome w
     (λ m. AreBlocks c.args.slot (layout_of c.args.table.now) c.args.status.now.name m.0 m.1))
-    c.in-Ok-Some.field-0-is c.in-Ok-Some.ensures.there) c.len.ensures.count c.scan-scanned.ensures.fits
+    c.in-Ok-Some.field-0-is c.in-Ok-Some.ensures.there) c.len.ensures.count
+    c.scan-scanned.ensures.fits
     c.judge_scan.ensures.name c.judge_scan.ensures.view

@@ -55,10 +55,13 @@ loop-entry-preserved g c =
                 >>= λ rest. Ok (scans_of l ++ rest))
                 (sym more);
             are =
-                subst (λ (l : List Scan). All (IsScanned c.args.slot (layout_of c.args.table.now)) (scans_of l)) (sym more)
-                (subst (λ (l : List Scanned). All (IsScanned c.args.slot (layout_of c.args.table.now)) l)
+                subst (λ (l : List Scan). All (IsScanned c.args.slot (layout_of c.args.table.now))
+                (scans_of l)) (sym more)
+                (subst (λ (l : List Scanned).
+                All (IsScanned c.args.slot (layout_of c.args.table.now)) l)
                 (sym (map-append scanned_of done (x ∷ [])))
-                (All-push (IsScanned c.args.slot (layout_of c.args.table.now)) (scans_of done) (scanned_of x) inv.are
+                (All-push (IsScanned c.args.slot (layout_of c.args.table.now)) (scans_of done)
+                (scanned_of x) inv.are
                 w.in_ok-scan_store-in-Some.ensures.is));
             reads =
                 subst (λ (e : g.row.D.Denot). OnlyReads g.D.Disk c.args.d.now e) (sym w.d-is)
@@ -83,9 +86,11 @@ loop-entry-preserved g c =
                 >>= λ rest. Ok (scans_of v.items ++ rest))
                 (sym w.scans-is);
             are =
-                subst (λ v. All (IsScanned c.args.slot (layout_of c.args.table.now)) (scans_of v.items)) (sym w.scans-is) inv.are;
+                subst (λ v. All (IsScanned c.args.slot (layout_of c.args.table.now))
+                (scans_of v.items)) (sym w.scans-is) inv.are;
             reads =
-                subst (λ (e : g.row.D.Denot). OnlyReads g.D.Disk c.args.d.now e) (sym w.d-is) inv.reads;
+                subst (λ (e : g.row.D.Denot). OnlyReads g.D.Disk c.args.d.now e) (sym w.d-is)
+                inv.reads;
             steady = ap g.D.Disk.faults w.d-is ∙ inv.steady;
           }
     ]

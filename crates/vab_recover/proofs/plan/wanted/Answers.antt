@@ -15,7 +15,8 @@ returns-then-not-is_of_slot-clause-none c =
     ap (is_of_slot c.args.slot) (sym c.text.ensures.value)
     ∙ sym c.is_of_slot.ensures
     ∙ c.if-not-is_of_slot.true in
-    inl (first_none (is_of_slot c.args.slot) c.args.name.now (layout_of c.args.table.now).parts other)
+    inl (first_none (is_of_slot c.args.slot) c.args.name.now (layout_of c.args.table.now).parts
+    other)
 
 pub returns-in-None-clause-none : goal.returns-in-None-clause-none
 returns-in-None-clause-none c =

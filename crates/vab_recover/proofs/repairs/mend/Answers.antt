@@ -2,11 +2,10 @@ use Rattle.std.proofs.Common.{◌≡◌, ◌∙◌, inl, inr, Ok, refl, ap, subs
 use Rattle.std.specs.Prelude.{IfSome, OnOk}
 use Rattle.vab_disk.proofs.Moments.{adds_wider}
 use Rattle.vab_disk.proofs.CallLaws.{touches_wider}
-use Rattle.vab_marks.specs.Mark.{mark_of}
+use Rattle.vab_marks.specs.Mark.{mark_of, idle_mark}
 use Rattle.vab_device.specs.declared.device.Device.{Device}
 use Rattle.vab_tidy.specs.Kept.{device_after}
 use Rattle.vab_tidy.specs.Stays.{Stays}
-use Rattle.vab_tidy.specs.Tidied.{idle_mark}
 use Rattle.vab_tidy.specs.Writes.{IsOfTidyings}
 use Rattle.vab_tidy.proofs.StaysLaws.{stays_then, touches_if}
 use Rattle.vab_recover.specs.Opened.{with_tables}

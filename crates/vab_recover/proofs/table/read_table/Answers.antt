@@ -10,7 +10,8 @@ returns-then-not-lies_in-clause-fault g c = λ told kind.
     let size : ℕ = g.D.Disk.size c.args.d.now in
     let t = c.in_ok-loaded.loaded.table in
     let lies : lies_in size c.args.geometry.now (layout_of t).device ≡ false =
-    ap (λ (n : ℕ). lies_in n c.args.geometry.now (layout_of t).device) (sym c.sectors-sectors.ensures)
+    ap (λ (n : ℕ). lies_in n c.args.geometry.now (layout_of t).device)
+    (sym c.sectors-sectors.ensures)
     ∙ sym c.lies_in.ensures
     ∙ c.if-not-lies_in.true in
     table_lies_not size c.args.geometry.now c.args.slot (g.D.Disk.seen c.args.d.now) t
@@ -21,7 +22,8 @@ returns-clause-ok g c = λ told.
     let size : ℕ = g.D.Disk.size c.args.d.now in
     let t = c.in_ok-loaded.loaded.table in
     let lies : lies_in size c.args.geometry.now (layout_of t).device ≡ true =
-    ap (λ (n : ℕ). lies_in n c.args.geometry.now (layout_of t).device) (sym c.sectors-sectors.ensures)
+    ap (λ (n : ℕ). lies_in n c.args.geometry.now (layout_of t).device)
+    (sym c.sectors-sectors.ensures)
     ∙ sym c.lies_in.ensures
     ∙ c.if-not-lies_in.false in
     table_is size c.args.geometry.now c.args.slot (g.D.Disk.seen c.args.d.now) t

@@ -3,7 +3,8 @@ use Rattle.std.specs.Prelude.{Option}
 use Rattle.vab_disk.proofs.CallLaws.{changes_telling}
 use Rattle.vab_model.specs.Commands.{command_of}
 use Rattle.vab_model.specs.Effects.{after_of}
-use Rattle.vab_device.specs.Does.{Does, effect_of, is_of_merge}
+use Rattle.vab_device.specs.Does.{Does, effect_of}
+use Rattle.vab_model.specs.Kinds.{is_of_merge}
 use Rattle.vab_device.specs.Mounted.{Mounted, mounted_on}
 use Rattle.vab_device.specs.Reading.{IsIn}
 use Rattle.vab_device.proofs.ReadingLaws.{device_stands}

@@ -1,4 +1,5 @@
-use Rattle.std.proofs.Common.{◌*◌, ◌-◌, ◌++◌, length, length-drop, drop, replicate, refl, ap, ◌∙◌, arith}
+use Rattle.std.proofs.Common.{◌*◌, ◌-◌, ◌++◌, length, length-drop, drop, replicate, refl, ap, ◌∙◌}
+use Rattle.std.proofs.Common.{arith}
 use Rattle.std.proofs.lemmas.List.{take_all}
 use Rattle.vab_store.proofs.BlockLaws.{block_whole, block_past}
 use Rattle.vab_store.proofs.writer.image_block.Goals as goal

@@ -6,7 +6,7 @@ use Rattle.vab_disk.specs.Calls.{IsAtRest, Touches}
 use Rattle.vab_disk.specs.Written.{set_here, set_there}
 use Rattle.vab_disk.proofs.Moments.{adds_wider}
 use Rattle.vab_marks.specs.declared.mark.MarkPhase.TheVariants as marks
-use Rattle.vab_marks.specs.Mark.{mark_of}
+use Rattle.vab_marks.specs.Mark.{mark_of, idle_mark}
 use Rattle.vab_tables.specs.declared.table.Table.{Table}
 use Rattle.vab_tables.specs.Text.{IsTableText}
 use Rattle.vab_lpstore.specs.Layout.{BothHold}
@@ -16,7 +16,7 @@ use Rattle.vab_device.specs.declared.device.Device.{Device}
 use Rattle.vab_device.specs.Kept.{IsDevice, table_of_slot}
 use Rattle.vab_device.specs.Reading.{device, Represents, mark_in}
 use Rattle.vab_tidy.specs.Stays.{LeavesSame, IsInOrder, HoldsTable}
-use Rattle.vab_tidy.specs.Tidied.{idle_mark, HasCompleted}
+use Rattle.vab_tidy.specs.Tidied.{HasCompleted}
 use Rattle.vab_tidy.proofs.KeptLaws.{has_table}
 use Rattle.vab_tidy.proofs.MarkLaws.{idle_there, marked_means, marked_represents}
 use Rattle.vab_tidy.proofs.StandsLaws.{StandsIdle, stands_idle}

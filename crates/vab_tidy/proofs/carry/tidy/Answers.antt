@@ -1,7 +1,7 @@
 use Rattle.std.proofs.Common.{◌≡◌, ℕ, List, Err, sym, ap, subst, inl, inr}
 use Rattle.std.specs.Prelude.{Option, Some}
 use Rattle.vab_disk.specs.Disk.{IsAt}
-use Rattle.vab_marks.specs.Mark.{mark_spelling}
+use Rattle.vab_marks.specs.Mark.{mark_spelling, idle_mark}
 use Rattle.vab_lpstore.specs.Storing.{IsOfTable}
 use Rattle.vab_lpstore.proofs.StoreLaws.{store_elsewhere}
 use Rattle.vab_device.specs.declared.device.Device.{Device}
@@ -9,7 +9,6 @@ use Rattle.vab_tidy.specs.declared.prepared.Alone.{Alone}
 use Rattle.vab_tidy.specs.declared.prepared.Tidying.{Tidying}
 use Rattle.vab_tidy.specs.Kept.{with_alone, with_table, tidied_device}
 use Rattle.vab_tidy.specs.Stays.{Stays}
-use Rattle.vab_tidy.specs.Tidied.{idle_mark}
 use Rattle.vab_tidy.specs.Writes.{IsOfAlone, IsOfTidied}
 use Rattle.vab_tidy.proofs.StaysLaws.{stays_wider, stays_then}
 use Rattle.vab_tidy.proofs.MarkLaws.{completed_stays}

@@ -9,8 +9,10 @@ use Rattle.vab_words.proofs.command.vab.Goals as goal
 pub returns : goal.returns
 unfolding vab_app
 returns c =
-    let make = grown _ _ _ no_verbs make_app c.in_ok-subcommand.ensures c.without_verbs.ensures c.in_ok-make.ensures.local c.in_ok-make.ensures.app in
-    let serve = grown _ _ _ _ serve_app c.in_ok-subcommand-2.ensures make c.in_ok-serve.ensures.local c.in_ok-serve.ensures.app in
+    let make = grown _ _ _ no_verbs make_app c.in_ok-subcommand.ensures c.without_verbs.ensures
+    c.in_ok-make.ensures.local c.in_ok-make.ensures.app in
+    let serve = grown _ _ _ _ serve_app c.in_ok-subcommand-2.ensures make
+    c.in_ok-serve.ensures.local c.in_ok-serve.ensures.app in
     let install = grown _ _ _ _ (new_app (codes "install"))
     c.in_ok-subcommand-3.ensures serve c.new.ensures.local c.new.ensures.app in
     let boot = grown _ _ _ _ (new_app (codes "boot"))

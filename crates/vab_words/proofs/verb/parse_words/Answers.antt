@@ -13,9 +13,11 @@ returns-in_err-matches-clause-usage c =
 pub returns-clause-verb : goal.returns-clause-verb
 returns-clause-verb c =
     let words : List Text = map string_bytes c.args.words.now in
-    rw c.ok_or.ensures.value (answered words c.found_verb.result _ c.in_ok-matches.ensures.taken c.in_ok-matches.ensures.found c.found_verb.ensures.value)
+    rw c.ok_or.ensures.value (answered words c.found_verb.result _ c.in_ok-matches.ensures.taken
+    c.in_ok-matches.ensures.found c.found_verb.ensures.value)
 
 pub returns-clause-usage : goal.returns-clause-usage
 returns-clause-usage c =
     let words : List Text = map string_bytes c.args.words.now in
-    rw c.ok_or.ensures.value (refused words c.found_verb.result _ c.in_ok-matches.ensures.taken c.in_ok-matches.ensures.found c.found_verb.ensures.value)
+    rw c.ok_or.ensures.value (refused words c.found_verb.result _ c.in_ok-matches.ensures.taken
+    c.in_ok-matches.ensures.found c.found_verb.ensures.value)

@@ -4,7 +4,10 @@ use Rattle.vab_bytes.specs.Name.{IsName, name_field, name_of_field}
 use Rattle.vab_bytes.proofs.NameLaws.{found_name, only_name}
 use Rattle.vab_bytes.proofs.name.Name36.from_field.Goals as goal
 
-found : {E : Type 0} (o : Option (List ℕ)) (e : E) (bytes : List ℕ) → length bytes ≡ 36 → o ≡ name_of_field bytes → IfOk (ok_or o e) (λ n. IsName n × (bytes ≡ name_field n))
+found : {E : Type 0} (o : Option (List ℕ)) (e : E) (bytes : List ℕ)
+    → length bytes ≡ 36
+    → o ≡ name_of_field bytes
+    → IfOk (ok_or o e) (λ n. IsName n × (bytes ≡ name_field n))
 found None e bytes len h = tt
 found (Some n) e bytes len h = found_name bytes n len (sym h)
 

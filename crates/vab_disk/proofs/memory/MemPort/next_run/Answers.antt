@@ -6,11 +6,13 @@ use Rattle.vab_disk.proofs.memory.MemPort.next_run.Goals as goal
 
 pub invariant_of-port-clause-reads : goal.invariant_of-port-clause-reads
 invariant_of-port-clause-reads c = λ s.
-    c.args.self.reads s ∙ ap (λ (l : List Call). seen_of c.args.self.count l s) (same_calls c.args.self.begun c.len.result c.args.self.calls.items)
+    c.args.self.reads s ∙ ap (λ (l : List Call). seen_of c.args.self.count l s)
+    (same_calls c.args.self.begun c.len.result c.args.self.calls.items)
 
 pub invariant_of-port-clause-tells : goal.invariant_of-port-clause-tells
 invariant_of-port-clause-tells c =
-    let none : calls_of c.len.result c.args.self.calls.items ≡ [] = none_yet c.len.result c.args.self.calls.items (search rules) in
+    let none : calls_of c.len.result c.args.self.calls.items ≡ [] =
+    none_yet c.len.result c.args.self.calls.items (search rules) in
     c.clear.ensures.items ∙ sym (ap told_of none)
 
 pub returns-clause-may_leave : goal.returns-clause-may_leave

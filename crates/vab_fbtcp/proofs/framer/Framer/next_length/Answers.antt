@@ -9,4 +9,5 @@ returns-clause-unread c =
     let rest = drop c.gather.new.at c.args.self.now.piece.items in
     let full : length c.gather.new.held.items ≡ 8 = search rules in
     let same : c.gather.new.held.items ++ rest ≡ unread_of c.args.self.now = search rules in
-    ap (λ (l : List ℕ). l ++ rest) c.clear.ensures ∙ sym (drop_at c.gather.new.held.items rest 8 full) ∙ ap (λ (l : List ℕ). drop 8 l) same
+    ap (λ (l : List ℕ). l ++ rest) c.clear.ensures
+    ∙ sym (drop_at c.gather.new.held.items rest 8 full) ∙ ap (λ (l : List ℕ). drop 8 l) same

@@ -13,7 +13,8 @@ invariant_of-result c =
     let es : List Exception = c.args.items.items in
     let ps : List Place = c.in-Ok-sorted_by.places.items in
     let sorted : IsSortedBy Old es ps =
-    subst (λ (l : List Exception). IsSortedBy Old l ps) c.deref-2.ensures.value c.in-Ok-sorted_by.ensures in
+    subst (λ (l : List Exception). IsSortedBy Old l ps) c.deref-2.ensures.value
+    c.in-Ok-sorted_by.ensures in
     let ties : TellsTie ps (length ps) c.first_tie.result =
     subst (λ (l : List Place). TellsTie l (length l) c.first_tie.result) c.deref-3.ensures.value
     c.first_tie.ensures in
@@ -24,12 +25,14 @@ returns-in-Some-clause-answers c =
     let es : List Exception = c.args.items.items in
     let ps : List Place = c.in-Ok-sorted_by.places.items in
     let sorted : IsSortedBy Old es ps =
-    subst (λ (l : List Exception). IsSortedBy Old l ps) c.deref-2.ensures.value c.in-Ok-sorted_by.ensures in
+    subst (λ (l : List Exception). IsSortedBy Old l ps) c.deref-2.ensures.value
+    c.in-Ok-sorted_by.ensures in
     let ties : TellsTie ps (length ps) c.first_tie.result =
     subst (λ (l : List Place). TellsTie l (length l) c.first_tie.result) c.deref-3.ensures.value
     c.first_tie.ensures in
     let new : TellsRepeat New es c.in-Ok.repeat =
-    subst (λ (l : List Exception). TellsRepeat New l c.in-Ok.repeat) c.deref.ensures.value c.in-Ok.ensures in
+    subst (λ (l : List Exception). TellsRepeat New l c.in-Ok.repeat) c.deref.ensures.value
+    c.in-Ok.ensures in
     ap (λ r. unless_repeated r (Ok es))
     (repeat_told es ps c.first_tie.result c.in-Ok.repeat sorted ties new ∙ sym c.in-Some.ensures)
 
@@ -38,11 +41,13 @@ returns-in-None-clause-answers c =
     let es : List Exception = c.args.items.items in
     let ps : List Place = c.in-Ok-sorted_by.places.items in
     let sorted : IsSortedBy Old es ps =
-    subst (λ (l : List Exception). IsSortedBy Old l ps) c.deref-2.ensures.value c.in-Ok-sorted_by.ensures in
+    subst (λ (l : List Exception). IsSortedBy Old l ps) c.deref-2.ensures.value
+    c.in-Ok-sorted_by.ensures in
     let ties : TellsTie ps (length ps) c.first_tie.result =
     subst (λ (l : List Place). TellsTie l (length l) c.first_tie.result) c.deref-3.ensures.value
     c.first_tie.ensures in
     let new : TellsRepeat New es c.in-Ok.repeat =
-    subst (λ (l : List Exception). TellsRepeat New l c.in-Ok.repeat) c.deref.ensures.value c.in-Ok.ensures in
+    subst (λ (l : List Exception). TellsRepeat New l c.in-Ok.repeat) c.deref.ensures.value
+    c.in-Ok.ensures in
     ap (λ r. unless_repeated r (Ok es))
     (repeat_told es ps c.first_tie.result c.in-Ok.repeat sorted ties new ∙ sym c.in-None.ensures)

@@ -15,13 +15,14 @@ loop-j-init c = record {
 pub loop-j-preserved : goal.loop-j-preserved
 loop-j-preserved c =
     let olds = c.args.olds.now in
+    let k = c.args.chunk in
     let j = c.loop-j.j in
     record {
       items =
           c.in_ok-push.ensures.items
           ∙ ap (λ l. l ++ c.planned.result ∷ []) c.loop-j.invariant.items
-          ∙ ap (λ e. firsts (planned_at olds) j ++ e ∷ []) c.planned.ensures
-          ∙ sym (firsts-more (planned_at olds) j);
+          ∙ ap (λ e. firsts (planned_at k olds) j ++ e ∷ []) c.planned.ensures
+          ∙ sym (firsts-more (planned_at k olds) j);
       index =
           c.in_ok-push-2.ensures.items
           ∙ ap (λ l. l ++ place_for olds j ∷ []) c.loop-j.invariant.index
@@ -30,6 +31,7 @@ loop-j-preserved c =
 
 pub invariant_of-result : goal.invariant_of-result
 invariant_of-result c =
-    planned_indexed c.args.olds.now c.loop-j.items.items c.loop-j.index.items c.loop-j.j
+    planned_indexed c.args.chunk c.args.olds.now c.loop-j.items.items c.loop-j.index.items
+    c.loop-j.j
     c.requires (omega (arith, c.loop-j-test.false, c.loop-j.auto.j-end))
     c.loop-j.invariant.items c.loop-j.invariant.index

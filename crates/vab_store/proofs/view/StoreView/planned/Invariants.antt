@@ -6,6 +6,6 @@ use Rattle.vab_store.proofs.view.StoreView.planned.Given as goal
 
 abbrev pub invariant-loop-j : goal.invariant-loop-j
 invariant-loop-j l = record {
-  items : l.items.items ≡ firsts (planned_at l.olds) l.j;
+  items : l.items.items ≡ firsts (planned_at l.chunk l.olds) l.j;
   index : l.index.items ≡ firsts (place_for l.olds) l.j;
 }

@@ -1,0 +1,258 @@
+-- Memory may be refused in place of an edit's, a begin's or a flash's effect alone, where its reply
+-- is that it is done or that the table is full. No command of a verb takes memory.
+use Rattle.std.proofs.Common.{◌≡◌, ◌∙◌, ℕ, ◌*◌, Bool, true, false, cond, List, [], length, sym}
+use Rattle.std.proofs.Common.{Option, Result, Ok, Err, Some, None, refl}
+use Rattle.std.specs.Prelude.{◌==◌, nat_lt, nat_le, is_some}
+use Rattle.vab_bootctl.specs.Boot.{info_at}
+use Rattle.vab_names.specs.Names.{is_full, base_of}
+use Rattle.vab_space.specs.Space.{need_of}
+use Rattle.vab_layout.specs.declared.layout.Layout.{Layout}
+use Rattle.vab_layout.specs.Slots.{other_slot}
+use Rattle.vab_builder.specs.declared.fault.EditFault.{EditFault}
+use Rattle.vab_builder.specs.declared.fault.EditFault.TheVariants as faults
+use Rattle.vab_model.specs.declared.state.PlanImage.{PlanImage}
+use Rattle.vab_model.specs.declared.state.PlanImage.TheVariants.{Kept, Declared, Written}
+use Rattle.vab_model.specs.declared.state.PlanEntry.{PlanEntry}
+use Rattle.vab_model.specs.declared.state.Phase.{Phase}
+use Rattle.vab_model.specs.declared.state.Phase.TheVariants.{Idle, Installing, Staged, Merging}
+use Rattle.vab_model.specs.declared.command.Refusal.{Refusal}
+use Rattle.vab_model.specs.declared.command.Refusal.TheVariants as refusals
+use Rattle.vab_model.specs.declared.command.Reply.{Reply}
+use Rattle.vab_model.specs.declared.command.Reply.TheVariants as replies
+use Rattle.vab_model.specs.Commands.{Command, SetActive, Boot, Mark, Print, Digest, Begin, Create}
+use Rattle.vab_model.specs.Commands.{Resize, Delete, Snapshot, Flash, Finish, Cancel, BeginMerge}
+use Rattle.vab_model.specs.Commands.{Merge}
+use Rattle.vab_model.specs.Effects.{Effect, refuses, does, active_effect, print_effect}
+use Rattle.vab_model.specs.Effects.{digest_effect, Found, Image_is, Refused_by, found_of}
+use Rattle.vab_model.specs.Effects.{effect, effect_map}
+use Rattle.vab_model.specs.Kinds.{IsVerb}
+use Rattle.vab_model.specs.State.{images_at}
+use Rattle.vab_bootctl.specs.declared.slots.Control.{Control}
+use Rattle.vab_bootctl.specs.Boot.{activated_of}
+use Rattle.vab_device.specs.Mounted.{Mounted, in_state}
+use Rattle.vab_device.specs.Updates.{table_effect, begun_effect, begin_effect, layout_at}
+use Rattle.vab_device.specs.Updates.{EditOf, edited_effect, edit_effect, staged_effect}
+use Rattle.vab_device.specs.Updates.{stored_effect, entry_effect, entry_named, flash_effect}
+use Rattle.vab_device.specs.Updates.{if_room, flashed, differences, source_bytes, is_sparse}
+use Rattle.vab_device.specs.Updates.{create_edit, resize_edit, delete_edit, snapshot_edit}
+use Rattle.vab_device.specs.Updates.{cancelled, cancel_effect, finish_effect, complete_effect}
+use Rattle.vab_device.specs.Updates.{begin_merge_effect, merging_from, merge_effect, effect_on}
+use Rattle.vab_device.specs.Updates.{least_declared}
+
+-- a reply in whose place memory may be refused
+abbrev pub is_wanted : Reply → Bool
+is_wanted replies.Done = true
+is_wanted (replies.Refused refusal) = is_full refusal
+  where
+    is_full : Refusal → Bool
+    is_full (refusals.TableFull size most) = true
+    is_full _ = false
+is_wanted _ = false
+
+-- where memory may be refused, the reply is one of those
+abbrev pub TellsWanted : Effect Mounted → Type 0
+TellsWanted e = e.wants ≡ true → is_wanted e.reply ≡ true
+
+-- memory isn't refused in its place
+abbrev pub WantsNothing : Effect Mounted → Type 0
+WantsNothing e = e.wants ≡ false
+
+nothing_told : (e : Effect Mounted) → WantsNothing e → TellsWanted e
+nothing_told e none wants = absurd (let no : false ≡ true = sym none ∙ wants in cc)
+
+module _ (m : Mounted) where
+  either : (b : Bool) (e f : Effect Mounted)
+      → TellsWanted e
+      → TellsWanted f
+      → TellsWanted (cond b e f)
+  either true e f one other = one
+  either false e f one other = other
+
+  refused : (r : Refusal) → TellsWanted (refuses r)
+  refused r wants = absurd cc
+
+  -- ---- the target's table
+
+  tabled : (source : ℕ) (plan : List PlanEntry) (r : Result Layout EditFault)
+      → TellsWanted (table_effect m source plan r)
+  tabled source plan (Ok l) wants = refl
+  tabled source plan (Err (faults.TableFull size most)) wants = refl
+  tabled source plan (Err _) wants = absurd cc
+
+  begun : (source : ℕ) (l : Option Layout) → TellsWanted (begun_effect m source l)
+  begun source None = refused refusals.NoImages
+  begun source (Some l) = tabled source [] _
+
+  begins : (phase : Phase) → TellsWanted (begin_effect m phase)
+  begins Idle = begun m.state.control.current (layout_at m.places m.state.control.current)
+  begins _ = refused refusals.NotIdle
+
+  edited : (source : ℕ) (plan : List PlanEntry) (edit : EditOf) (s t : Option Layout)
+      → TellsWanted (edited_effect m source plan edit s t)
+  edited source plan edit None t = refused refusals.NotInstalling
+  edited source plan edit (Some s) None = refused refusals.NotInstalling
+  edited source plan edit (Some s) (Some t) = tabled source plan _
+
+  edits : (edit : EditOf) (phase : Phase) → TellsWanted (edit_effect m edit phase)
+  edits edit (Installing source plan) =
+      edited source plan edit
+      (layout_at m.places source)
+      (layout_at m.places (other_slot source))
+  edits edit _ = refused refusals.NotInstalling
+
+  -- ---- an image
+
+  roomed : (source : ℕ) (plan : List PlanEntry) (e : PlanEntry) (store : ℕ) (staged : List ℕ)
+      (n : ℕ)
+      → TellsWanted (if_room m source plan e store staged n)
+  roomed source plan e store staged n =
+      either (nat_le (need_of n) store)
+      (flashed m source plan e staged n)
+      (refuses (refusals.StoreFull (need_of n) store))
+      (λ wants. refl)
+      (refused (refusals.StoreFull (need_of n) store))
+
+  written : (source : ℕ) (plan : List PlanEntry) (e : PlanEntry) (store : ℕ)
+      (staged : Option (List ℕ))
+      → TellsWanted (staged_effect m source plan e store staged)
+  written source plan e store None = refused refusals.NothingStaged
+  written source plan e store (Some staged) =
+      let n : ℕ = differences (source_bytes m.state source e.name) staged e.blocks in
+      let large : Refusal = refusals.TooLarge (length staged) (4096 * e.blocks) in
+      let room : Effect Mounted = if_room m source plan e store staged n in
+      let is_large : Bool = nat_lt (4096 * e.blocks) (length staged) in
+      either (is_sparse staged) (refuses refusals.Sparse)
+      (cond is_large (refuses large) room)
+      (refused refusals.Sparse)
+      (either is_large (refuses large) room (refused large)
+      (roomed source plan e store staged n))
+
+  stored : (source : ℕ) (plan : List PlanEntry) (name : List ℕ) (group : Option (List ℕ))
+      (blocks : ℕ) (own store : Option ℕ) (staged : Option (List ℕ)) (image : PlanImage)
+      → TellsWanted (stored_effect m source plan
+      (record { name = name; group = group; blocks = blocks; store = own; image = image })
+      staged store)
+  stored source plan name group blocks own None staged image = refused refusals.NoStore
+  stored source plan name group blocks own (Some store) staged Kept =
+      written source plan
+      (record { name = name; group = group; blocks = blocks; store = own; image = Kept })
+      store staged
+  stored source plan name group blocks own (Some store) staged Declared =
+      written source plan
+      (record { name = name; group = group; blocks = blocks; store = own; image = Declared })
+      store staged
+  stored source plan name group blocks own (Some store) staged (Written bytes count) =
+      refused refusals.Written
+
+  found : (source : ℕ) (plan : List PlanEntry) (staged : Option (List ℕ)) (e : Option PlanEntry)
+      → TellsWanted (entry_effect m source plan staged e)
+  found source plan staged None = refused refusals.Unknown
+  found source plan staged (Some e) =
+      stored source plan e.name e.group e.blocks e.store e.store staged e.image
+
+  flashes : (staged : Option (List ℕ)) (name : List ℕ) (phase : Phase)
+      → TellsWanted (flash_effect m staged name phase)
+  flashes staged name (Installing source plan) =
+      let e : Option PlanEntry = entry_named (base_of name) plan in
+      either (is_full (other_slot source) name)
+      (entry_effect m source plan staged e)
+      (refuses refusals.BadName)
+      (found source plan staged e)
+      (refused refusals.BadName)
+  flashes staged name _ = refused refusals.NotInstalling
+
+  -- ---- commands that want nothing
+
+  neither : (b : Bool) (e f : Effect Mounted)
+      → WantsNothing e
+      → WantsNothing f
+      → WantsNothing (cond b e f)
+  neither true e f one other = one
+  neither false e f one other = other
+
+  activates : (has : Bool) (c : Control)
+      → WantsNothing (effect_map (in_state m) (active_effect has m.state c))
+  activates true c = refl
+  activates false c = refl
+
+  prints : (name : List ℕ) (f : Found)
+      → WantsNothing (effect_map (in_state m) (print_effect name f))
+  prints name (Image_is image) = refl
+  prints name (Refused_by refusal) = refl
+
+  digests : (f : Found) → WantsNothing (effect_map (in_state m) (digest_effect f))
+  digests (Image_is image) = refl
+  digests (Refused_by refusal) = refl
+
+  cancels : (phase : Phase) → WantsNothing (cancel_effect m phase)
+  cancels Idle = refl
+  cancels (Installing source plan) = refl
+  cancels (Staged source left) =
+      neither (m.state.control.current == source)
+      (does replies.Done (cancelled m source)) (refuses refusals.RunningTarget) refl refl
+  cancels (Merging target left) = refl
+
+  completes : (source : ℕ) (plan : List PlanEntry) (least : Option (List ℕ))
+      → WantsNothing (complete_effect m source plan least)
+  completes source plan None = refl
+  completes source plan (Some name) = refl
+
+  finishes : (phase : Phase) → WantsNothing (finish_effect m phase)
+  finishes (Installing source plan) = completes source plan (least_declared None plan)
+  finishes _ = refl
+
+  merge_begins : (phase : Phase) → WantsNothing (begin_merge_effect m phase)
+  merge_begins (Staged source left) =
+      let info = info_at m.state.control (other_slot source) in
+      let begun : Effect Mounted = does replies.Done (merging_from m source left) in
+      neither (m.state.control.current == source)
+      (refuses refusals.NotRunningTarget)
+      (cond info.successful begun (refuses refusals.NotSuccessful))
+      refl
+      (neither info.successful begun (refuses refusals.NotSuccessful) refl refl)
+  merge_begins _ = refl
+
+  merges : (blocks : ℕ) (phase : Phase) → WantsNothing (merge_effect m blocks phase)
+  merges blocks (Merging target left) = refl
+  merges blocks _ = refl
+
+  -- ---- each command
+
+  -- a command of a verb takes no memory
+  pub verb_wants : (staged : Option (List ℕ)) (c : Command)
+      → IsVerb c
+      → WantsNothing (effect_on m staged c)
+  unfolding effect
+  verb_wants staged (SetActive n) verb =
+      activates (is_some (images_at m.state n)) (activated_of m.state.control n)
+  verb_wants staged Boot verb = refl
+  verb_wants staged Mark verb = refl
+  verb_wants staged (Print name) verb = prints name (found_of m.state name)
+  verb_wants staged (Digest name) verb = digests (found_of m.state name)
+  verb_wants staged Cancel verb = cancels m.state.phase
+  verb_wants staged BeginMerge verb = merge_begins m.state.phase
+  verb_wants staged (Merge blocks) verb = merges blocks m.state.phase
+  verb_wants staged _ verb = absurd cc
+
+  verb_told : (staged : Option (List ℕ)) (c : Command)
+      → IsVerb c
+      → TellsWanted (effect_on m staged c)
+  verb_told staged c verb = nothing_told (effect_on m staged c) (verb_wants staged c verb)
+
+  -- where memory may be refused, the reply is that it is done, or that the table is full
+  pub wants_told : (staged : Option (List ℕ)) (c : Command) → TellsWanted (effect_on m staged c)
+  wants_told staged Begin = begins m.state.phase
+  wants_told staged (Create name size) = edits (create_edit name size) m.state.phase
+  wants_told staged (Resize name size) = edits (resize_edit name size) m.state.phase
+  wants_told staged (Delete name) = edits (delete_edit name) m.state.phase
+  wants_told staged (Snapshot name size) = edits (snapshot_edit name size) m.state.phase
+  wants_told staged (Flash name) = flashes staged name m.state.phase
+  wants_told staged Finish = nothing_told (finish_effect m m.state.phase) (finishes m.state.phase)
+  wants_told staged (SetActive n) = verb_told staged (SetActive n) refl
+  wants_told staged Boot = verb_told staged Boot refl
+  wants_told staged Mark = verb_told staged Mark refl
+  wants_told staged (Print name) = verb_told staged (Print name) refl
+  wants_told staged (Digest name) = verb_told staged (Digest name) refl
+  wants_told staged Cancel = verb_told staged Cancel refl
+  wants_told staged BeginMerge = verb_told staged BeginMerge refl
+  wants_told staged (Merge blocks) = verb_told staged (Merge blocks) refl

@@ -1,0 +1,580 @@
+-- While a merge is under way no command begins or ends an installation, and each turn that was
+-- asked for is taken: so at some moment it has ended.
+use Rattle.std.proofs.Common.{◌≡◌, ◌⊎◌, inl, inr, ℕ, zero, suc, ◌+◌, ◌<◌, ◌≤◌, Bool, true}
+use Rattle.std.proofs.Common.{false, cond, List, [], ◌∷◌, ◌++◌, length, take, drop, Option, Some}
+use Rattle.std.proofs.Common.{None, Result, Ok, refl, sym, ap, subst, arith, add-zero}
+use Rattle.std.proofs.lemmas.Bool.{cases_Bool}
+use Rattle.std.specs.List.{flat_map}
+use Rattle.vab_layout.specs.Slots.{other_slot}
+use Rattle.vab_set.specs.declared.set.SetImage.{SetImage}
+use Rattle.vab_model.specs.declared.state.Image.{Image as ImageOfSlot}
+use Rattle.vab_model.specs.declared.state.Phase.{Phase}
+use Rattle.vab_model.specs.declared.state.Phase.TheVariants.{Idle, Installing, Staged, Merging}
+use Rattle.vab_model.specs.declared.command.Refusal.TheVariants.{NotIdle}
+use Rattle.vab_model.specs.declared.command.Reply.TheVariants as replies
+use Rattle.vab_model.specs.Commands.{Command, Begin, Finish, SetActive}
+use Rattle.vab_model.specs.Effects.{Effect, IsOneOf, refuses, last_of, after_of}
+use Rattle.vab_model.specs.Kinds.{is_of_installation, turns_of}
+use Rattle.vab_device.specs.Mounted.{Mounted}
+use Rattle.vab_device.specs.Updates.{effect_on, begin_effect, finish_effect}
+use Rattle.vab_fbproto.specs.Requests.{Asked, Do}
+use Rattle.vab_fbproto.specs.Requests.{request_of}
+use Rattle.vab_fbproto.specs.declared.request.BadCommand.{BadCommand}
+use Rattle.vab_exchanges.specs.Session.{Exchange}
+use Rattle.vab_exchanges.specs.Items.{Response, Kept, Item, item_by, item_of, item_open, items_of}
+use Rattle.vab_exchanges.specs.Items.{item_asked, kept_after, unless_refused, no_memory}
+use Rattle.vab_exchanges.specs.Runs.{steps_at}
+use Rattle.vab_session.specs.Alone.{IsAlone}
+use Rattle.vab_session.specs.Responses.{response}
+use Rattle.vab_session.specs.Served.{nothing_staged}
+use Rattle.vab_session.proofs.AloneLaws.{alone_effect, last_alone, item_alone}
+use Rattle.vab_update.specs.Install.{image_orders, order}
+use Rattle.vab_update.specs.Orders.{Order, effect_all, followed}
+use Rattle.vab_cli.specs.Acts.{Act, course}
+use Rattle.vab_cli.specs.Acts as acts
+use Rattle.vab_cli.specs.Codes.{reply_status}
+use Rattle.vab_cli.specs.Demo.{life, update_acts}
+use Rattle.vab_update.specs.Install.{install_effect}
+use Rattle.vab_cli.specs.Installing.{install_item, left_behind}
+use Rattle.vab_cli.specs.Verbs.{line_item, verb_item}
+use Rattle.vab_rounds.specs.Rounds.{Run, Serves, Carries, Installs, Tells, Lives, items_in}
+use Rattle.vab_rounds.specs.Folds.{Cut, after_items, after_cut}
+use Rattle.vab_rounds.specs.Merges.{asks_update, turns_asked, turns_in, turns_by, turns_done}
+use Rattle.vab_rounds.specs.Merges.{turns_by_all, IsMerged}
+use Rattle.vab_rounds.specs.Ended.{IsMoment, turns_behind, HasEnded}
+use Rattle.vab_rounds.proofs.Folding.{cut_steps}
+use Rattle.vab_rounds.proofs.Merging.{IsDue, command_steps, command_last, exchange_due}
+use Rattle.vab_rounds.proofs.Merging.{ends_nothing, asks_no_end}
+
+-- ---- what begins or ends an installation does nothing while a merge is under way
+
+abbrev IsUnderWay : Phase → Type 0
+IsUnderWay (Merging target still) = Unit {0}
+IsUnderWay _ = ⊥
+
+begin_refused : (m : Mounted) (phase : Phase)
+    → IsUnderWay phase
+    → begin_effect m phase ≡ refuses NotIdle
+begin_refused m (Merging target still) is = refl
+begin_refused m _ is = absurd is
+
+finish_none : (m : Mounted) (phase : Phase) → IsUnderWay phase → (finish_effect m phase).later ≡ []
+finish_none m (Merging target still) is = refl
+finish_none m _ is = absurd is
+
+of_installation : (m : Mounted) (staged : Option (List ℕ)) (c : Command)
+    → is_of_installation c ≡ true
+    → IsUnderWay m.state.phase
+    → (effect_on m staged c).later ≡ []
+of_installation m staged Begin of is =
+    ap (λ (e : Effect Mounted). e.later) (begin_refused m m.state.phase is)
+of_installation m staged Finish of is = finish_none m m.state.phase is
+of_installation m staged _ of is = absurd cc
+
+no_turns : (c : Command) → is_of_installation c ≡ true → turns_of c ≡ 0
+no_turns Begin of = refl
+no_turns Finish of = refl
+no_turns _ of = absurd cc
+
+-- a set isn't installed
+install_refused : (m : Mounted) (set : List SetImage)
+    → IsUnderWay m.state.phase
+    → install_effect m set ≡ refuses NotIdle
+unfolding effect_all
+install_refused m set is =
+    let source : ℕ = m.state.control.current in
+    let rest : List Order =
+    flat_map (image_orders source) set
+    ++ order Finish
+    ∷ order (SetActive (other_slot source))
+    ∷ [] in
+    ap (λ (e : Effect Mounted). followed e (effect_all rest (after_of m e)))
+    (begin_refused m m.state.phase is)
+
+-- and a life ends there
+life_items : (m : Mounted) (made : List ℕ) (next : List SetImage)
+    → IsUnderWay m.state.phase
+    → items_in m (Lives made next) ≡ line_item m made ∷ install_item m next ∷ []
+unfolding course
+life_items m made next is =
+    let left : ℕ = left_behind m next in
+    let rest : List Act = drop 1 (update_acts next left) in
+    ap (λ (e : Effect Mounted).
+    line_item m made
+    ∷ (acts.followed (install_item m next) (reply_status e.reply)
+    (course rest (install_item m next).last.now)).items)
+    (install_refused m next is)
+
+-- ---- items
+
+after_none : (m : Mounted) (items : List (Item Mounted)) → after_items m items 0 ≡ m
+after_none m [] = refl
+after_none m (i ∷ is) = refl
+
+module _ (target : ℕ) (images : List ImageOfSlot) (left : ℕ) where
+  -- so many turns were asked for, and the blocks that are left fit beside them
+  abbrev IsLeft : ℕ → Phase → Type 0
+  IsLeft asked (Merging slot still) = still + asked ≤ left
+  IsLeft asked _ = ⊥
+
+  -- the merge is under way
+  record Merges (asked : ℕ) (m : Mounted) : Type 0 where
+    alone : IsAlone target images m
+    still : IsLeft asked m.state.phase
+
+  -- it is, or has ended
+  record Goes (asked : ℕ) (m : Mounted) : Type 0 where
+    alone : IsAlone target images m
+    due : IsDue left asked m.state.phase
+
+  left_due : (asked : ℕ) (phase : Phase) → IsLeft asked phase → IsDue left asked phase
+  left_due asked (Merging slot still) is = is
+  left_due asked _ is = absurd is
+
+  under_way : (asked : ℕ) (phase : Phase) → IsLeft asked phase → IsUnderWay phase
+  under_way asked (Merging slot still) is = tt
+  under_way asked _ is = absurd is
+
+  goes : (asked : ℕ) (m : Mounted) → Merges asked m → Goes asked m
+  goes asked m is =
+      record { alone = is.alone; due = left_due asked m.state.phase is.still }
+
+  -- which of both
+  either : (asked : ℕ) (m : Mounted) (phase : Phase)
+      → m.state.phase ≡ phase
+      → Goes asked m
+      → IsMerged target images m ⊎ Merges asked m
+  either asked m Idle at is = inl (record { idle = at; alone = is.alone })
+  either asked m (Installing source plan) at is =
+      absurd (subst (IsDue left asked) at is.due)
+  either asked m (Staged source still) at is =
+      absurd (subst (IsDue left asked) at is.due)
+  either asked m (Merging slot still) at is = inr (record {
+    alone = is.alone;
+    still = subst (IsLeft asked) (sym at) (subst (IsDue left asked) at is.due);
+  })
+
+  either_of : (asked : ℕ) (m : Mounted) → Goes asked m → IsMerged target images m ⊎ Merges asked m
+  either_of asked m is = either asked m m.state.phase refl is
+
+  too_many : (asked : ℕ) (phase : Phase) → IsLeft asked phase → left < asked → ⊥
+  too_many asked (Merging slot still) is many = omega (arith, is, many)
+  too_many asked _ is many = is
+
+  merges_at : (n k : ℕ) (m : Mounted) → n ≡ k → Merges n m → Merges k m
+  merges_at n k m same is = subst (λ (j : ℕ). Merges j m) same is
+
+  goes_at : (n k : ℕ) (m : Mounted) → n ≡ k → Goes n m → Goes k m
+  goes_at n k m same is = subst (λ (j : ℕ). Goes j m) same is
+
+  merges_plain : (asked : ℕ) (m : Mounted) → Merges asked m → Merges (asked + 0) m
+  merges_plain asked m is = merges_at asked (asked + 0) m (sym (add-zero asked)) is
+
+  goes_plain : (asked : ℕ) (m : Mounted) → Goes asked m → Goes (asked + 0) m
+  goes_plain asked m is = goes_at asked (asked + 0) m (sym (add-zero asked)) is
+
+  abbrev AllGo : ℕ → List Mounted → Type 0
+  AllGo asked ms = (x : Mounted) → IsOneOf ms x → Goes asked x
+
+  none_go : (asked : ℕ) (m : Mounted) (ms : List Mounted)
+      → ms ≡ []
+      → Goes asked m
+      → AllGo asked (m ∷ ms)
+  none_go asked m ms none is x (inl here) = subst (Goes asked) (sym here) is
+  none_go asked m ms none is x (inr there) =
+      absurd (subst (λ (l : List Mounted). IsOneOf l x) none there)
+
+  one_goes : (asked : ℕ) (m : Mounted) → Goes asked m → AllGo asked (m ∷ [])
+  one_goes asked m is = none_go asked m [] refl is
+
+  -- ---- a command
+
+  command_goes : (asked : ℕ) (m : Mounted) (staged : Option (List ℕ)) (c : Command)
+      → Merges asked m
+      → AllGo asked (effect_on m staged c).later
+  command_goes asked m staged c is x at = elim (cases_Bool (is_of_installation c)) [
+    | inl of ↦
+        let none = of_installation m staged c of (under_way asked m.state.phase is.still) in
+        absurd (subst (λ (l : List Mounted). IsOneOf l x) none at)
+    | inr not ↦
+        record {
+          alone =
+              alone_effect target images m staged c (ends_nothing c not) is.alone x at;
+          due =
+              command_steps left asked m staged c not (left_due asked m.state.phase is.still) x at;
+        }
+  ]
+
+  command_lasts : (asked : ℕ) (m : Mounted) (staged : Option (List ℕ)) (c : Command)
+      → Merges asked m
+      → Goes (asked + turns_of c) (last_of m (effect_on m staged c).later)
+  command_lasts asked m staged c is = elim (cases_Bool (is_of_installation c)) [
+    | inl of ↦
+        let none = of_installation m staged c of (under_way asked m.state.phase is.still) in
+        let same : asked + 0 ≡ asked + turns_of c =
+        ap (λ (n : ℕ). asked + n) (sym (no_turns c of)) in
+        subst (λ (l : List Mounted). Goes (asked + turns_of c) (last_of m l)) (sym none)
+        (goes_at (asked + 0) (asked + turns_of c) m same
+        (goes_plain asked m (goes asked m is)))
+    | inr not ↦
+        record {
+          alone =
+              last_alone target images m (effect_on m staged c).later is.alone
+              (alone_effect target images m staged c (ends_nothing c not) is.alone);
+          due =
+              command_last left asked m staged c not (left_due asked m.state.phase is.still);
+        }
+  ]
+
+  -- ---- an exchange
+
+  record ItemGoes (asked turns : ℕ) (item : Item Mounted) : Type 0 where
+    steps : AllGo asked item.steps
+    last : Goes (asked + turns) item.last.now
+
+  -- a packet that begins or ends an installation
+  asks_none : (k : Kept Mounted) (asks : Result Asked BadCommand)
+      → asks_update asks ≡ true
+      → IsUnderWay k.now.state.phase
+      → ((response k.now k.staged asks).later ≡ [])
+      × (turns_asked k.now.state.phase asks ≡ 0)
+  asks_none k (Ok (Do c)) of is = (of_installation k.now k.staged c of is, no_turns c of)
+  asks_none k _ of is = absurd cc
+
+  unless_none : (refused : Bool) (e : Response Mounted)
+      → e.later ≡ []
+      → (unless_refused refused e).later ≡ []
+  unless_none false e none = none
+  unless_none true e none = by_want e.may_want
+    where
+      by_want : (b : Bool)
+          → (let r : Response Mounted = cond b no_memory e in r.later) ≡ []
+      by_want true = refl
+      by_want false = none
+
+  done_is : (k : Kept Mounted) (refused : Bool) (parts : List (List ℕ))
+      (asks : Result Asked BadCommand)
+      → asks_update asks ≡ true
+      → item_asked response k refused parts asks
+      ≡ item_by k (unless_refused refused (response k.now k.staged asks))
+  done_is k refused parts (Ok (Do c)) of = refl
+  done_is k refused parts _ of = absurd cc
+
+  exchange_goes : (asked : ℕ) (k : Kept Mounted) (s : Exchange)
+      → Merges asked k.now
+      → ItemGoes asked (turns_asked k.now.state.phase (request_of s.command))
+      (item_of response k s)
+  unfolding item_of
+  exchange_goes asked k s is = elim (cases_Bool (asks_update (request_of s.command))) [
+    | inl of ↦
+        let asks : Result Asked BadCommand = request_of s.command in
+        let t : ℕ = turns_asked k.now.state.phase asks in
+        let none = asks_none k asks of (under_way asked k.now.state.phase is.still) in
+        let e : Response Mounted = unless_refused s.refused (response k.now k.staged asks) in
+        let still = unless_none s.refused (response k.now k.staged asks) none.0 in
+        let same : asked + 0 ≡ asked + t = ap (λ (n : ℕ). asked + n) (sym none.1) in
+        subst (ItemGoes asked t) (sym (done_is k s.refused s.parts asks of))
+        (record {
+          steps = none_go asked k.now e.later still (goes asked k.now is);
+          last =
+              subst (λ (l : List Mounted). Goes (asked + t) (last_of k.now l)) (sym still)
+              (goes_at (asked + 0) (asked + t) k.now same
+              (goes_plain asked k.now (goes asked k.now is)));
+        })
+    | inr not ↦
+        let due = exchange_due left asked k s not (left_due asked k.now.state.phase is.still) in
+        let alone = item_alone target images k s (asks_no_end (request_of s.command) not)
+        is.alone in
+        record {
+          steps = λ x at. record { alone = alone.steps x at; due = due.steps x at };
+          last = record { alone = alone.last; due = due.last };
+        }
+  ]
+
+  -- ---- items behind a moment
+
+  -- it had ended behind some of the first `whole` items, not before so many of them
+  abbrev EndsBehind : Mounted → List (Item Mounted) → (from whole : ℕ) → Type 0
+  EndsBehind m items from whole =
+      (n : ℕ)
+      × (from ≤ n)
+      × (n ≤ whole)
+      × IsMerged target images (after_items m items n)
+
+  -- it goes on behind them, and in each step of the next one
+  record GoesOn (asked : ℕ) (m : Mounted) (items : List (Item Mounted)) (whole : ℕ) : Type 0 where
+    at : Merges asked (after_items m items whole)
+    steps : AllGo asked (steps_at m items whole)
+
+  abbrev Ends : ℕ → Mounted → List (Item Mounted) → (from whole : ℕ) → Type 0
+  Ends asked m items from whole = EndsBehind m items from whole ⊎ GoesOn asked m items whole
+
+  -- the same number
+  ends_at : (n k : ℕ) (m : Mounted) (items : List (Item Mounted)) (from whole : ℕ)
+      → n ≡ k
+      → Ends n m items from whole
+      → Ends k m items from whole
+  ends_at n k m items from whole same is =
+      subst (λ (j : ℕ). Ends j m items from whole) same is
+
+  -- nothing more is done
+  rests : (asked : ℕ) (m : Mounted) (from whole : ℕ) → Merges asked m → Ends asked m [] from whole
+  rests asked m from whole is = inr (record { at = is; steps = one_goes asked m (goes asked m is) })
+
+  -- behind one item more
+  behind_one : (asked : ℕ) (m : Mounted) (i : Item Mounted) (items : List (Item Mounted))
+      (from whole : ℕ)
+      → Ends asked i.last.now items from whole
+      → Ends asked m (i ∷ items) (suc from) (suc whole)
+  behind_one asked m i items from whole (inl ends) =
+      inl (suc ends.0, omega (arith, ends.1), omega (arith, ends.2), ends.3)
+  behind_one asked m i items from whole (inr on) = inr (record { at = on.at; steps = on.steps })
+
+  -- from before it on
+  from_before : (asked : ℕ) (m : Mounted) (items : List (Item Mounted)) (from whole : ℕ)
+      → Ends asked m items from whole
+      → Ends asked m items 0 whole
+  from_before asked m items from whole (inl ends) =
+      inl (ends.0, omega arith, ends.2, ends.3)
+  from_before asked m items from whole (inr on) = inr on
+
+  -- the first item, and those behind it
+  one_more : (asked t : ℕ) (m : Mounted) (i : Item Mounted) (items : List (Item Mounted))
+      (whole : ℕ)
+      → Goes (asked + t) i.last.now
+      → (u : ℕ)
+      → (Merges (asked + t) i.last.now → Ends (asked + t + u) i.last.now items 0 whole)
+      → Ends (asked + (t + u)) m (i ∷ items) 0 (suc whole)
+  one_more asked t m i items whole last u rest = elim (either_of (asked + t) i.last.now last) [
+    | inl ended ↦
+        inl (
+          1,
+          omega arith,
+          omega arith,
+          subst (IsMerged target images) (sym (after_none i.last.now items)) ended,
+        )
+    | inr still ↦
+        let same : asked + t + u ≡ asked + (t + u) = omega arith in
+        ends_at (asked + t + u) (asked + (t + u)) m (i ∷ items) 0 (suc whole) same
+        (from_before (asked + t + u) m (i ∷ items) 1 (suc whole)
+        (behind_one (asked + t + u) m i items 0 whole (rest still)))
+  ]
+
+  -- ---- sessions
+
+  open_goes : (asked : ℕ) (k : Kept Mounted) (command : List ℕ)
+      → Merges asked k.now
+      → AllGo (asked + 0) (item_open response k command).steps
+  unfolding item_open
+  open_goes asked k command is =
+      one_goes (asked + 0) k.now (goes_plain asked k.now (goes asked k.now is))
+
+  open_still : (asked : ℕ) (k : Kept Mounted) (command : List ℕ)
+      → Merges asked k.now
+      → Merges (asked + 0) (item_open response k command).last.now
+  unfolding item_open
+  open_still asked k command is = merges_plain asked k.now is
+
+  session_ends : (asked : ℕ) (k : Kept Mounted) (exchanges : List Exchange)
+      (unfinished : Option (List ℕ)) (whole : ℕ)
+      → Merges asked k.now
+      → Ends (asked + turns_in k (take whole exchanges)) k.now
+      (items_of response k exchanges unfinished) 0 whole
+  session_ends asked k [] None zero is =
+      rests (asked + 0) k.now 0 0 (merges_plain asked k.now is)
+  session_ends asked k [] None (suc n) is =
+      rests (asked + 0) k.now 0 (suc n) (merges_plain asked k.now is)
+  session_ends asked k [] (Some command) zero is = inr (record {
+    at = merges_plain asked k.now is;
+    steps = open_goes asked k command is;
+  })
+  session_ends asked k [] (Some command) (suc n) is =
+      from_before (asked + 0) k.now (item_open response k command ∷ []) 1 (suc n)
+      (behind_one (asked + 0) k.now (item_open response k command) [] 0 n
+      (rests (asked + 0) (item_open response k command).last.now 0 n
+      (open_still asked k command is)))
+  session_ends asked k (s ∷ ss) unfinished zero is = inr (record {
+    at = merges_plain asked k.now is;
+    steps = λ x at. goes_plain asked x ((exchange_goes asked k s is).steps x at);
+  })
+  session_ends asked k (s ∷ ss) unfinished (suc n) is =
+      let i : Item Mounted = item_of response k s in
+      let t : ℕ = turns_asked k.now.state.phase (request_of s.command) in
+      one_more asked t k.now i (items_of response i.last ss unfinished) n
+      (exchange_goes asked k s is).last
+      (turns_in i.last (take n ss))
+      (λ still. session_ends (asked + t) i.last ss unfinished n still)
+
+  session_from : (asked : ℕ) (k : Kept Mounted) (exchanges : List Exchange)
+      (unfinished : Option (List ℕ)) (from whole : ℕ)
+      → from ≤ length exchanges
+      → from ≤ whole
+      → Merges asked (after_items k.now (items_of response k exchanges unfinished) from)
+      → Ends
+      (asked + turns_in (kept_after response k (take from exchanges))
+      (drop from (take whole exchanges)))
+      k.now (items_of response k exchanges unfinished) from whole
+  session_from asked k exchanges unfinished zero whole few some is =
+      session_ends asked k exchanges unfinished whole
+      (subst (Merges asked) (after_none k.now (items_of response k exchanges unfinished)) is)
+  session_from asked k [] unfinished (suc n) whole few some is = absurd (omega (arith, few))
+  session_from asked k (s ∷ ss) unfinished (suc n) zero few some is =
+      absurd (omega (arith, some))
+  session_from asked k (s ∷ ss) unfinished (suc n) (suc w) few some is =
+      let i : Item Mounted = item_of response k s in
+      behind_one
+      (asked + turns_in (kept_after response i.last (take n ss)) (drop n (take w ss)))
+      k.now i (items_of response i.last ss unfinished) n w
+      (session_from asked i.last ss unfinished n w (omega (arith, few)) (omega (arith, some)) is)
+
+  -- ---- runs
+
+  -- an item that changes nothing, and those behind it
+  still_item : (asked : ℕ) (m : Mounted) (i : Item Mounted) (items : List (Item Mounted))
+      (whole : ℕ)
+      → i.steps ≡ m ∷ []
+      → i.last.now ≡ m
+      → Merges asked m
+      → ((n : ℕ) → Ends asked m items 0 n)
+      → Ends asked m (i ∷ items) 0 whole
+  still_item asked m i items zero steps last is rest = inr (record {
+    at = is;
+    steps = subst (AllGo asked) (sym steps) (one_goes asked m (goes asked m is));
+  })
+  still_item asked m i items (suc n) steps last is rest =
+      from_before asked m (i ∷ items) 1 (suc n)
+      (behind_one asked m i items 0 n
+      (subst (λ (x : Mounted). Ends asked x items 0 n) (sym last) (rest n)))
+
+  carried : (asked : ℕ) (m : Mounted) (c : Command) (whole : ℕ)
+      → Merges asked m
+      → Ends (asked + turns_done whole c) m (verb_item m c ∷ []) 0 whole
+  carried asked m c zero is = inr (record {
+    at = merges_plain asked m is;
+    steps = λ x at. goes_plain asked x (carried_step x at);
+  })
+    where
+      carried_step : AllGo asked (verb_item m c).steps
+      carried_step x (inl here) = subst (Goes asked) (sym here) (goes asked m is)
+      carried_step x (inr there) = command_goes asked m None c is x there
+  carried asked m c (suc n) is =
+      let t : ℕ = turns_of c in
+      ends_at (asked + (t + 0)) (asked + t) m (verb_item m c ∷ []) 0 (suc n) (omega arith)
+      (one_more asked t m (verb_item m c) [] n (command_lasts asked m None c is) 0
+      (λ still.
+      rests (asked + t + 0) (verb_item m c).last.now 0 n
+      (merges_plain (asked + t) (verb_item m c).last.now still)))
+
+  installed : (asked : ℕ) (m : Mounted) (set : List SetImage) (whole : ℕ)
+      → Merges asked m
+      → Ends asked m (install_item m set ∷ []) 0 whole
+  installed asked m set whole is =
+      let none : (install_effect m set).later ≡ [] =
+      ap (λ (e : Effect Mounted). e.later)
+      (install_refused m set (under_way asked m.state.phase is.still)) in
+      still_item asked m (install_item m set) [] whole
+      (ap (λ (l : List Mounted). m ∷ l) none)
+      (ap (λ (l : List Mounted). last_of m l) none)
+      is (λ n. rests asked m 0 n is)
+
+  run_ends : (asked : ℕ) (m : Mounted) (run : Run) (from whole : ℕ)
+      → IsMoment from run
+      → from ≤ whole
+      → Merges asked (after_items m (items_in m run) from)
+      → Ends (asked + turns_behind m from whole run) m (items_in m run) from whole
+  run_ends asked m (Serves exchanges unfinished) from whole moment some is =
+      session_from asked (nothing_staged m) exchanges unfinished from whole moment some is
+  run_ends asked m (Carries c) zero whole moment some is = carried asked m c whole is
+  run_ends asked m (Carries c) (suc n) zero moment some is = absurd (omega (arith, some))
+  run_ends asked m (Carries c) (suc n) (suc w) moment some is =
+      let last : Mounted = (verb_item m c).last.now in
+      behind_one (asked + 0) m (verb_item m c) [] n w
+      (rests (asked + 0) last n w (merges_plain asked last is))
+  run_ends asked m (Installs set) zero whole moment some is =
+      ends_at asked (asked + 0) m (install_item m set ∷ []) 0 whole (sym (add-zero asked))
+      (installed asked m set whole is)
+  run_ends asked m (Installs set) (suc n) whole moment some is = absurd (omega (arith, moment))
+  run_ends asked m (Tells text) zero whole moment some is =
+      ends_at asked (asked + 0) m (line_item m text ∷ []) 0 whole (sym (add-zero asked))
+      (still_item asked m (line_item m text) [] whole refl refl is (λ n. rests asked m 0 n is))
+  run_ends asked m (Tells text) (suc n) whole moment some is = absurd (omega (arith, moment))
+  run_ends asked m (Lives made next) zero whole moment some is =
+      let begun : Merges asked m =
+      subst (Merges asked) (after_none m (items_in m (Lives made next))) is in
+      let same = life_items m made next (under_way asked m.state.phase begun.still) in
+      subst (λ (l : List (Item Mounted)). Ends (asked + 0) m l 0 whole) (sym same)
+      (ends_at asked (asked + 0) m (line_item m made ∷ install_item m next ∷ []) 0 whole
+      (sym (add-zero asked))
+      (still_item asked m (line_item m made) (install_item m next ∷ []) whole refl refl begun
+      (λ n. installed asked m next n begun)))
+  run_ends asked m (Lives made next) (suc n) whole moment some is = absurd (omega (arith, moment))
+
+  -- ---- runs one after another
+
+  from_first : (m : Mounted) (run : Run) (whole : ℕ)
+      → turns_behind m 0 whole run ≡ turns_by m whole run
+  from_first m (Serves exchanges unfinished) whole = refl
+  from_first m (Carries c) whole = refl
+  from_first m (Installs set) whole = refl
+  from_first m (Tells text) whole = refl
+  from_first m (Lives made next) whole = refl
+
+  first_moment : (run : Run) → IsMoment 0 run
+  first_moment (Serves exchanges unfinished) = omega arith
+  first_moment (Carries c) = omega arith
+  first_moment _ = refl
+
+  cuts_end : (asked : ℕ) (m : Mounted) (c : Cut) (cs : List Cut) (from : ℕ)
+      → IsMoment from c.run
+      → from ≤ c.whole
+      → Merges asked (after_items m (items_in m c.run) from)
+      → left < asked + (turns_behind m from c.whole c.run + turns_by_all (after_cut m c) cs)
+      → HasEnded target images m from (c ∷ cs)
+  cuts_end asked m c [] from moment some is many =
+      let t : ℕ = turns_behind m from c.whole c.run in
+      elim (run_ends asked m c.run from c.whole moment some is) [
+        | inl ends ↦ inl (ends.0, ends.1, ends.2, ends.3)
+        | inr on ↦
+            let at = on.at in
+            absurd (too_many (asked + t) (after_items m (items_in m c.run) c.whole).state.phase
+            at.still (omega (arith, many)))
+      ]
+  cuts_end asked m c (d ∷ ds) from moment some is many =
+      let t : ℕ = turns_behind m from c.whole c.run in
+      let next : Mounted = after_cut m c in
+      elim (run_ends asked m c.run from c.whole moment some is) [
+        | inl ends ↦ inl (ends.0, ends.1, ends.2, ends.3)
+        | inr on ↦
+            elim (either_of (asked + t) next (on.steps next (cut_steps m c))) [
+              | inl ended ↦
+                  inr (inl (
+                    0,
+                    omega arith,
+                    omega arith,
+                    subst (IsMerged target images) (sym (after_none next (items_in next d.run)))
+                        ended,
+                  ))
+              | inr still ↦
+                  inr (cuts_end (asked + t) next d ds 0 (first_moment d.run) (omega arith)
+                  (subst (Merges (asked + t)) (sym (after_none next (items_in next d.run))) still)
+                  (omega (arith, many, from_first next d.run d.whole)))
+            ]
+      ]
+
+pub merges_have_ended : (first : Mounted) (c : Cut) (cs : List Cut) (from : ℕ)
+    → IsMoment from c.run
+    → from ≤ c.whole
+    → (target left : ℕ)
+    → (images : List ImageOfSlot)
+    → (after_items first (items_in first c.run) from).state.phase ≡ Merging target left
+    → IsAlone target images (after_items first (items_in first c.run) from)
+    → left < turns_behind first from c.whole c.run + turns_by_all (after_cut first c) cs
+    → HasEnded target images first from (c ∷ cs)
+merges_have_ended first c cs from moment some target left images phase alone many =
+    let whole : left + 0 ≤ left = omega arith in
+    cuts_end target images left 0 first c cs from moment some
+    (record {
+      alone = alone;
+      still = subst (IsLeft target images left 0) (sym phase) whole;
+    })
+    (omega (arith, many))

@@ -1,0 +1,28 @@
+-- The block of a store that stands for a block of the partition.
+use Rattle.std.proofs.Common.{◌≡◌, ℕ, List, Option, Some, None, ap, ◌∙◌, refl}
+use Rattle.std.specs.Prelude.{option_map}
+use Rattle.vab_space.specs.declared.Chunk.{Chunk}
+use Rattle.vab_space.specs.declared.Chunk.TheVariants.{One, Two, Four}
+use Rattle.vab_space.specs.Chunks.{block_in, chunk_at, place_in}
+use Rattle.vab_exceptions.specs.declared.area.Exception.{Exception}
+use Rattle.vab_store.specs.View.{view_of, stored_at}
+
+-- with chunks of one block it is the new chunk
+pub stored_one : (es : List Exception) (block : ℕ) → stored_at One es block ≡ view_of es block
+stored_one es block = refl
+
+-- its chunk has a new one
+pub stored_some : (k : Chunk) (es : List Exception) (block new : ℕ)
+    → view_of es (chunk_at k block) ≡ Some new
+    → stored_at k es block ≡ Some (block_in k new (place_in k block))
+stored_some One es block new is = is
+stored_some Two es block new is = ap (option_map (λ n. block_in Two n (place_in Two block))) is
+stored_some Four es block new is = ap (option_map (λ n. block_in Four n (place_in Four block))) is
+
+-- or has none
+pub stored_none : (k : Chunk) (es : List Exception) (block : ℕ)
+    → view_of es (chunk_at k block) ≡ None
+    → stored_at k es block ≡ None
+stored_none One es block is = is
+stored_none Two es block is = ap (option_map (λ n. block_in Two n (place_in Two block))) is
+stored_none Four es block is = ap (option_map (λ n. block_in Four n (place_in Four block))) is
