@@ -52,7 +52,7 @@ use Rattle.vabpack.specs.Packed.{
   IsOfFile,
   StopsAt,
   AreKnownAs,
-  HasLong,
+  HasUnfit,
   meant,
   Stands,
   IsMalformed,
@@ -196,7 +196,7 @@ stands_at files a i file known is =
 
 pub none_long : (files : Contents) (asked : List Asked) (images : List SetImage)
     → AreImagesOf files asked images
-    → ¬ HasLong files asked
+    → ¬ HasUnfit files asked
 none_long files [] images are long = long
 none_long files (a ∷ asked) [] are long = are
 none_long files (a ∷ asked) (i ∷ images) are (inl (file, known, inl long)) =

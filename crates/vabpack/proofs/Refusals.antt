@@ -18,7 +18,7 @@ use Rattle.vabpack.specs.Packed.{
   meant,
   IsOfSet,
   AreKnownAs,
-  HasLong,
+  HasUnfit,
   IsAboutFiles,
   IsAboutSet,
 }
@@ -28,7 +28,7 @@ use Rattle.vabpack.specs.declared.refusal.Refusal.{Refusal}
 use Rattle.vabpack.specs.declared.refusal.Refusal.TheVariants as refusals
 
 about_files : (files : Contents) (fails : Failing) (asked : List Asked) (e : Refusal)
-    → HasLong files asked
+    → HasUnfit files asked
     → IsOfSet files fails asked e
     → IsAboutFiles e
 about_files files fails asked refusals.NoMemory long h = tt
@@ -45,7 +45,7 @@ pub long_is_refused : {V : Type 0} (view : V → List ℕ) (files : Contents) (f
     (asked : List Asked) (r : Result V Refusal)
     → IfOk r (λ v. IsSetOf files asked (view v))
     → IfErr r (IsOfSet files fails asked)
-    → HasLong files asked
+    → HasUnfit files asked
     → IsErrAnd r IsAboutFiles
 long_is_refused view files fails asked (Ok v) is refused long =
     absurd (none_long files asked is.images is.each long)

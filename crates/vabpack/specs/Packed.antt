@@ -182,11 +182,11 @@ IsUnfit asked file =
     ⊎ ((image : List ℕ) × (meant file ≡ Ok image) × (image_of asked image ≡ None)))
 
 -- one of these has a file that is known to be so
-abbrev pub HasLong : Contents → List Asked → Type 0
-HasLong files [] = ⊥
-HasLong files (asked ∷ rest) =
+abbrev pub HasUnfit : Contents → List Asked → Type 0
+HasUnfit files [] = ⊥
+HasUnfit files (asked ∷ rest) =
     ((file : List ℕ) × (files asked.path ≡ Some file) × IsUnfit asked file)
-    ⊎ HasLong files rest
+    ⊎ HasUnfit files rest
 
 -- the program's status: the words aren't taken, a file can't be read, or memory was refused
 abbrev pub status_of : Refusal → ℕ

@@ -9,7 +9,7 @@ ghost use Rattle.vab_pack.specs.Faults.{IsFaultOf};
 ghost use Rattle.vab_pack.specs.Images.{NamesOfSet};
 ghost use Rattle.vab_pack.specs.declared.fault.WordFault.{WordFault as Fault};
 ghost use Rattle.vabpack.specs.Packed.{IsImageOf, AreImagesOf, IsSetOf, IsPacked, IsOfFile};
-ghost use Rattle.vabpack.specs.Packed.{StopsAt, IsOfSet, IsCause, RefusesWith, HasLong};
+ghost use Rattle.vabpack.specs.Packed.{StopsAt, IsOfSet, IsCause, RefusesWith, HasUnfit};
 ghost use Rattle.vabpack.specs.Packed.{IsAboutFiles, IsAboutSet, AreKnownAs};
 ghost use Rattle.vabpack.specs.Packed.{meant, IsMalformed};
 
@@ -138,7 +138,7 @@ pub fn pack<'a, S: Source>(
     // refused, unless memory is refused.
     ensures long { (asked : List Asked)
         → Ask (map string_bytes words.entry.now) asked
-        → HasLong (S.bytes_at source.now) asked
+        → HasUnfit (S.bytes_at source.now) asked
         → IsErrAnd result IsAboutFiles }
     // Where the set is too long, that is the refusal, unless a file can't be read or memory is
     // refused.

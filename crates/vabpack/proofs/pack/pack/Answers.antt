@@ -3,7 +3,7 @@ use Rattle.std.proofs.Common.{refl, sym, ap, ◌∙◌, subst, arith}
 use Rattle.std.proofs.lemmas.Bool.{eqb-true}
 use Rattle.vab_pack.specs.Asked.{Asked}
 use Rattle.vab_pack.specs.declared.fault.WordFault.{WordFault}
-use Rattle.vabpack.specs.Packed.{AreKnownAs, HasLong}
+use Rattle.vabpack.specs.Packed.{AreKnownAs, HasUnfit}
 use Rattle.vabpack.proofs.Refusals.{none_large, long_is_refused, large_is_refused}
 use Rattle.vabpack.proofs.pack.pack.Goals as goal
 
@@ -31,7 +31,7 @@ returns-clause-long g c = λ asked asks long.
     ∙ sym c.deref.ensures.value in
     long_is_refused (λ v. v.items) files (g.S.Source.fails c.args.source.now) c.deref.result.now
     c.pack_entries.result c.pack_entries.ensures.set c.pack_entries.ensures.refused
-    (subst (HasLong files) is long)
+    (subst (HasUnfit files) is long)
 
 pub returns-clause-large : goal.returns-clause-large
 returns-clause-large g c = λ asked images asks known.
