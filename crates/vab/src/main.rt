@@ -7,9 +7,11 @@ ghost use Rattle.std.specs.Str.Parse.{digits_value};
 ghost use Rattle.vab_real.specs.Cells.{size_of, HasImage};
 ghost use Rattle.vab.specs.Word.{AsksMemory};
 
+mod explain;
 mod usage;
 mod word;
 
+use explain::explain;
 use std::io::{Stdin, Stdout};
 use std::process::ExitCode;
 use usage::USAGE;
@@ -41,7 +43,10 @@ fn open_port(rt: &HostRuntime, word: &str) -> Result<FilePort<Stdin, Stdout>, u8
         }
         Device::File(path) => match FilePort::open(rt, path, rt.stdin(), rt.stdout()) {
             Ok(port) => Ok(port),
-            Err(OpenFault::Memory) => Err(NO_MEMORY),
+            Err(OpenFault::Memory) => {
+                let _ = eprintln!(rt; "vab: {path}: out of memory");
+                Err(NO_MEMORY)
+            }
             Err(fault) => {
                 let _ = eprintln!(rt; "vab: {path}: {fault}");
                 Err(NOT_OPENED)
@@ -63,14 +68,9 @@ fn run_words(rt: &HostRuntime, words: &[String]) -> u8 {
         Ok(port) => port,
         Err(status) => return status,
     };
-    let status = run(rt.alloc(), rest, &mut port);
-    if status == Status::Usage {
-        let _ = rt.eprintln(USAGE);
-    }
-    if status == Status::Disk && port.is_read_only() {
-        let _ = eprintln!(rt; "vab: {first}: opened for reading alone, since it can't be written");
-    }
-    status.code()
+    let ending = run(rt.alloc(), rest, &mut port);
+    explain(rt, first.as_str(), rest, &mut port, &ending);
+    ending.code()
 }
 
 fn main(rt: HostRuntime) -> ExitCode {
@@ -83,7 +83,10 @@ fn main(rt: HostRuntime) -> ExitCode {
     };
     ExitCode::from(match words_of(&rt) {
         Ok(words) => run_words(&rt, words.as_slice()),
-        Err(WordsFault::NoMemory) => NO_MEMORY,
+        Err(WordsFault::NoMemory) => {
+            let _ = eprintln!(&rt; "vab: out of memory");
+            NO_MEMORY
+        }
         Err(WordsFault::NotText) => {
             let _ = eprintln!(&rt; "vab: a word isn't UTF-8\n{USAGE}");
             Status::Usage.code()

@@ -1,4 +1,5 @@
 pub mod Acts
+pub mod Causes
 pub mod Codes
 pub mod Counts
 pub mod Demo

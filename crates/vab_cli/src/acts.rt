@@ -5,9 +5,10 @@ ghost use Rattle.vab_bootctl.specs.declared.slots.Control.{Control};
 ghost use Rattle.vab_bootctl.specs.Control.{control_of};
 ghost use Rattle.vab_model.specs.Commands.{command_of};
 ghost use Rattle.vab_device.specs.Kept.{IsDevice};
-ghost use Rattle.vab_device.specs.Mounted.{Mounted};
+ghost use Rattle.vab_device.specs.Mounted.{Mounted, mounted_on};
 ghost use Rattle.vab_device.specs.Reading.{IsIn, Represents};
 ghost use Rattle.vab_cli.specs.Acts.{PerformsActs, closed_by, command_act, status_in};
+ghost use Rattle.vab_cli.specs.Causes.{noted, IsRefusedOn};
 ghost use Rattle.vab_cli.specs.Touched.{IsOfDone};
 ghost use Rattle.vab_model.specs.Kinds.{IsVerb};
 
@@ -16,6 +17,7 @@ use crate::line::{put_front, reply_line};
 use crate::telling::say_line;
 use arrayvec::ArrayVec;
 use std::alloc::Global;
+use vab_causes::Cause;
 use vab_commands::run_one;
 use vab_device::Device;
 use vab_disk::{Disk, Port};
@@ -37,6 +39,21 @@ fn closed(device: Device, reply: &Reply) -> Result<Device, Status>
     }
 }
 
+// Notes why a command was refused.
+fn note_refusal(reply: &Reply, cause: &mut Option<Cause>)
+    ensures { cause.new ≡ noted reply.now cause.old }
+{
+    match reply {
+        Reply::Refused(refusal) => *cause = Some(Cause::Refused(*refusal)),
+        Reply::Done
+        | Reply::Booted(_)
+        | Reply::Bytes(_)
+        | Reply::Digest(_)
+        | Reply::Left(_)
+        | Reply::Merged => {}
+    }
+}
+
 /// The status that a run ends with.
 pub(crate) fn ended(last: Result<Device, Status>) -> Status
     ensures { result ≡ status_in last }
@@ -55,6 +72,7 @@ pub(crate) fn perform<P: Port>(
     device: Device,
     command: &Command,
     front: &[u8],
+    cause: &mut Option<Cause>,
 ) -> Result<Device, Status>
     requires verb { IsVerb (command_of command.now) }
     requires short { length front.now ≤ 80 }
@@ -65,6 +83,10 @@ pub(crate) fn perform<P: Port>(
         port.old port.new result }
     // It takes no memory.
     ensures memory { IsErrOf result Status.NoMemory → ⊥ }
+    // A refusal is that of the table of effects.
+    ensures refused { P.is_modelled
+        → IsErrOf result Status.Refused
+        → IsRefusedOn (mounted_on device (P.seen port.old)) (command_of command.now) cause.new }
     ensures changes { P.is_modelled
         → (s : Mounted)
         → IsIn (P.size port.old) s (P.seen port.old)
@@ -83,6 +105,7 @@ pub(crate) fn perform<P: Port>(
     let mut line = ArrayVec::new();
     put_front(front, &reply, &mut line);
     reply_line(command, current, blocks, &reply, &mut line);
+    note_refusal(&reply, cause);
     match say_line(port, line.as_slice()) {
         Ok(()) => closed(device, &reply),
         Err(status) => Err(status),

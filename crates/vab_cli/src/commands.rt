@@ -8,6 +8,7 @@ ghost use Rattle.vab_model.specs.Commands.{command_of};
 ghost use Rattle.vab_device.specs.declared.fault.StartFault.{StartFault as Fault};
 ghost use Rattle.vab_device.specs.Mounted.{Mounted};
 ghost use Rattle.vab_device.specs.Reading.{device, IsIn};
+ghost use Rattle.vab_cli.specs.Causes.{IsNoDevice, IsRefusedAs};
 ghost use Rattle.vab_cli.specs.Counts.{HearsNothing, IsSteady};
 ghost use Rattle.vab_cli.specs.Verbs.{none_line, command_line, command_item, verb_status};
 ghost use Rattle.vab_model.specs.Kinds.{IsVerb};
@@ -19,11 +20,17 @@ use crate::acts::{ended, perform};
 use crate::line::NOT_A_DEVICE;
 use crate::opening::open;
 use std::alloc::Global;
+use vab_causes::Cause;
 use vab_disk::{Disk, Port};
 use vab_model::Command;
 
 /// Opens the device, carries out a command, and tells its line.
-pub(crate) fn carry_out<P: Port>(alloc: Global, port: &mut P, command: &Command) -> Status
+pub(crate) fn carry_out<P: Port>(
+    alloc: Global,
+    port: &mut P,
+    command: &Command,
+    cause: &mut Option<Cause>,
+) -> Status
     requires { IsVerb (command_of command.now) }
     ensures runs { P.is_modelled
         → (s : Mounted)
@@ -50,10 +57,18 @@ pub(crate) fn carry_out<P: Port>(alloc: Global, port: &mut P, command: &Command)
     ensures words { result ≢ Status.Usage }
     ensures disk { result ≡ Status.Disk → Rose (P.faults port.old).disk (P.faults port.new).disk }
     ensures port { result ≡ Status.Port → Rose (P.faults port.old).sink (P.faults port.new).sink }
+    // Where there is none, the cause is the first thing that is wrong with the disk.
+    ensures unopened { P.is_modelled
+        → result ≡ Status.NotADevice
+        → IsNoDevice P.Disk port.old cause.new }
+    // Where the command is refused, it is the refusal of the table of effects.
+    ensures refused { P.is_modelled
+        → result ≡ Status.Refused
+        → IsRefusedAs P.Disk port.old (command_of command.now) cause.new }
 {
-    let device = match open(alloc, port, NOT_A_DEVICE) {
+    let device = match open(alloc, port, NOT_A_DEVICE, cause) {
         Ok(device) => device,
         Err(status) => return status,
     };
-    ended(perform(alloc, port, device, command, b""))
+    ended(perform(alloc, port, device, command, b"", cause))
 }

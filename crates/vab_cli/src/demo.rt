@@ -3,6 +3,7 @@
 ghost use Rattle.std.specs.Prelude.{◌≡◌, ◌≢◌, ◌⊎◌, ◌≤◌, ◌<◌, ◌+◌, ◌/◌, ◌^◌, [], ◌∷◌, ◌++◌, map};
 ghost use Rattle.std.specs.Prelude.{replicate, take, codes};
 ghost use Rattle.vab_disk.specs.Disk.{Rose};
+ghost use Rattle.vab_gen.specs.Sets.{fresh_set};
 ghost use Rattle.vab_set.specs.Spelling.{IsImage, IsSet};
 ghost use Rattle.vab_model.specs.Commands.{Merge as MergeOf};
 ghost use Rattle.vab_device.specs.Kept.{IsDevice};
@@ -10,6 +11,7 @@ ghost use Rattle.vab_device.specs.Mounted.{mounted_on};
 ghost use Rattle.vab_device.specs.Reading.{Represents};
 ghost use Rattle.vab_words.specs.Values.{IsScale};
 ghost use Rattle.vab_cli.specs.Acts.{PerformsActs, command_act, line_act};
+ghost use Rattle.vab_cli.specs.Causes.{IsUnmade};
 ghost use Rattle.vab_cli.specs.Counts.{IsSteady};
 ghost use Rattle.vab_cli.specs.Demo.{Demonstrates, DemonstratesOf, digest_act, digest_front};
 ghost use Rattle.vab_cli.specs.Demo.{life, sevens, take_over, update_acts};
@@ -23,6 +25,7 @@ use crate::line::Line;
 use crate::making::{tell_made, tell_unmade};
 use arrayvec::ArrayVec;
 use std::alloc::Global;
+use vab_causes::Cause;
 use vab_device::Device;
 use vab_disk::{Disk, Port};
 use vab_fbproto::put;
@@ -57,14 +60,19 @@ fn begin_life<P: Port>(port: &mut P, device: Device, set: &Set) -> Result<Device
 }
 
 // The slot that isn't running takes over: it is booted and marked, and the merge is begun.
-fn take_over<P: Port>(alloc: Global, port: &mut P, device: Device) -> Result<Device, Status>
+fn take_over<P: Port>(
+    alloc: Global,
+    port: &mut P,
+    device: Device,
+    cause: &mut Option<Cause>,
+) -> Result<Device, Status>
     requires kept { IsDevice device (P.size port.old) }
     requires represents { P.is_modelled → Represents device (P.size port.old) (P.seen port.old) }
     ensures { PerformsActs P.Disk device take_over port.old port.new result }
 {
-    let next = perform(alloc, port, device, &Command::Boot, b"")?;
-    let next = perform(alloc, port, next, &Command::Mark, b"")?;
-    perform(alloc, port, next, &Command::BeginMerge, b"")
+    let next = perform(alloc, port, device, &Command::Boot, b"", cause)?;
+    let next = perform(alloc, port, next, &Command::Mark, b"", cause)?;
+    perform(alloc, port, next, &Command::BeginMerge, b"", cause)
 }
 
 // Takes seven turns of a merge, so many times.
@@ -73,6 +81,7 @@ fn merge_by_sevens<P: Port>(
     port: &mut P,
     device: Device,
     times: u64,
+    cause: &mut Option<Cause>,
 ) -> Result<Device, Status>
     requires kept { IsDevice device (P.size port.old) }
     requires represents { P.is_modelled → Represents device (P.size port.old) (P.seen port.old) }
@@ -81,7 +90,7 @@ fn merge_by_sevens<P: Port>(
 {
     let mut next = device;
     for _time in 0..times {
-        next = perform(alloc, port, next, &Command::Merge(TURNS), b"")?;
+        next = perform(alloc, port, next, &Command::Merge(TURNS), b"", cause)?;
     }
     Ok(next)
 }
@@ -92,6 +101,7 @@ fn tell_digest<P: Port>(
     port: &mut P,
     device: Device,
     image: &SetImage,
+    cause: &mut Option<Cause>,
 ) -> Result<Device, Status>
     requires image { IsImage image.now }
     requires kept { IsDevice device (P.size port.old) }
@@ -110,6 +120,7 @@ fn tell_digest<P: Port>(
         device,
         &Command::Digest(name),
         front.as_slice(),
+        cause,
     )
 }
 
@@ -119,6 +130,7 @@ fn tell_digests<P: Port>(
     port: &mut P,
     device: Device,
     set: &Set,
+    cause: &mut Option<Cause>,
 ) -> Result<Device, Status>
     requires set { IsSet set.now }
     requires kept { IsDevice device (P.size port.old) }
@@ -127,13 +139,19 @@ fn tell_digests<P: Port>(
 {
     let mut next = device;
     for image in set.as_slice() {
-        next = tell_digest(alloc, port, next, image)?;
+        next = tell_digest(alloc, port, next, image, cause)?;
     }
     Ok(next)
 }
 
 // Installs a set, boots and marks its slot, merges it, and tells its digests.
-fn update<P: Port>(alloc: Global, port: &mut P, device: Device, set: &Set) -> Result<Device, Status>
+fn update<P: Port>(
+    alloc: Global,
+    port: &mut P,
+    device: Device,
+    set: &Set,
+    cause: &mut Option<Cause>,
+) -> Result<Device, Status>
     requires set { IsSet set.now }
     requires kept { IsDevice device (P.size port.old) }
     requires represents { P.is_modelled → Represents device (P.size port.old) (P.seen port.old) }
@@ -141,11 +159,11 @@ fn update<P: Port>(alloc: Global, port: &mut P, device: Device, set: &Set) -> Re
         (update_acts set.now (left_behind (mounted_on device (P.seen port.old)) set.now))
         port.old port.new result }
 {
-    let next = install_set(alloc, port, device, set)?;
+    let next = install_set(alloc, port, device, set, cause)?;
     let blocks = left(&next);
-    let next = take_over(alloc, port, next)?;
-    let next = merge_by_sevens(alloc, port, next, blocks / TURNS + 1)?;
-    tell_digests(alloc, port, next, set)
+    let next = take_over(alloc, port, next, cause)?;
+    let next = merge_by_sevens(alloc, port, next, blocks / TURNS + 1, cause)?;
+    tell_digests(alloc, port, next, set, cause)
 }
 
 // Tells that the device is made, and updates it.
@@ -155,6 +173,7 @@ fn live<P: Port>(
     device: Device,
     set: &Set,
     next: &Set,
+    cause: &mut Option<Cause>,
 ) -> Result<Device, Status>
     requires set { IsSet set.now }
     requires next { IsSet next.now }
@@ -167,11 +186,17 @@ fn live<P: Port>(
         port.old port.new result }
 {
     let made = begin_life(port, device, set)?;
-    update(alloc, port, made, next)
+    update(alloc, port, made, next, cause)
 }
 
 // Makes a device of a set, opens it, and updates it by the next one.
-fn demonstrate<P: Port>(alloc: Global, port: &mut P, set: &Set, next: &Set) -> Status
+fn demonstrate<P: Port>(
+    alloc: Global,
+    port: &mut P,
+    set: &Set,
+    next: &Set,
+    cause: &mut Option<Cause>,
+) -> Status
     requires set { IsSet set.now }
     requires next { IsSet next.now }
     ensures does { Demonstrates P.Disk set.now next.now port.old port.new result }
@@ -179,27 +204,43 @@ fn demonstrate<P: Port>(alloc: Global, port: &mut P, set: &Set, next: &Set) -> S
     ensures words { result ≢ Status.Usage }
     ensures disk { result ≡ Status.Disk → Rose (P.faults port.old).disk (P.faults port.new).disk }
     ensures port { result ≡ Status.Port → Rose (P.faults port.old).sink (P.faults port.new).sink }
+    ensures unmade { P.is_modelled
+        → result ≡ Status.NotADevice
+        → IsUnmade P.Disk port.old set.now 0 65536 cause.new }
 {
     match make_device(alloc, port, set, 0, METADATA_MAX) {
         Ok(()) => {}
-        Err(fault) => return tell_unmade(port, fault),
+        Err(fault) => {
+            *cause = Some(Cause::Making(fault));
+            return tell_unmade(port, fault);
+        }
     }
     let device = match start(alloc, port) {
         Ok(device) => device,
         Err(fault) => return Status::from(fault),
     };
-    ended(live(alloc, port, device, set, next))
+    ended(live(alloc, port, device, set, next, cause))
 }
 
 /// Makes a device of the set that is drawn from a number, and updates it by the one that is drawn
 /// after it, with so many times as many blocks.
-pub(crate) fn demo<P: Port>(alloc: Global, port: &mut P, seed: u64, scale: u64) -> Status
+pub(crate) fn demo<P: Port>(
+    alloc: Global,
+    port: &mut P,
+    seed: u64,
+    scale: u64,
+    cause: &mut Option<Cause>,
+) -> Status
     requires { IsScale scale }
     ensures does { DemonstratesOf P.Disk seed scale port.old port.new result }
     ensures steady { IsSteady P.Disk port.old port.new result }
     ensures words { result ≢ Status.Usage }
     ensures disk { result ≡ Status.Disk → Rose (P.faults port.old).disk (P.faults port.new).disk }
     ensures port { result ≡ Status.Port → Rose (P.faults port.old).sink (P.faults port.new).sink }
+    // Where none is made, the cause is the first refusal.
+    ensures unmade { P.is_modelled
+        → result ≡ Status.NotADevice
+        → IsUnmade P.Disk port.old (fresh_set scale seed) 0 65536 cause.new }
 {
     let set = match set_scaled(alloc, seed, scale) {
         Ok(set) => set,
@@ -209,5 +250,5 @@ pub(crate) fn demo<P: Port>(alloc: Global, port: &mut P, seed: u64, scale: u64) 
         Ok(next) => next,
         Err(_) => return Status::NoMemory,
     };
-    demonstrate(alloc, port, &set, &next)
+    demonstrate(alloc, port, &set, &next, cause)
 }

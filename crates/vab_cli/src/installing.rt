@@ -1,12 +1,13 @@
 //! Installing the set of images that the input spells.
-ghost use Rattle.std.specs.Prelude.{◌≡◌, ◌≢◌, ◌⊎◌, ◌+◌, [], ◌∷◌, IfOk};
+ghost use Rattle.std.specs.Prelude.{◌≡◌, ◌≢◌, ◌⊎◌, ◌+◌, [], ◌∷◌, IfOk, IsErrOf};
 ghost use Rattle.vab_disk.specs.Disk.{Rose};
 ghost use Rattle.vab_set.specs.Spelling.{IsSet};
 ghost use Rattle.vab_device.specs.Kept.{IsDevice};
-ghost use Rattle.vab_device.specs.Mounted.{Mounted, count_at};
+ghost use Rattle.vab_device.specs.Mounted.{Mounted, count_at, mounted_on};
 ghost use Rattle.vab_device.specs.Reading.{IsIn, Represents};
 ghost use Rattle.vab_commands.specs.Touched.{ChangesDevice};
 ghost use Rattle.vab_cli.specs.Acts.{PerformsActs, install_act};
+ghost use Rattle.vab_cli.specs.Causes.{IsNoDevice, IsNoSet, IsUninstalled, IsUninstalledOn};
 ghost use Rattle.vab_cli.specs.Counts.{IsSteady};
 ghost use Rattle.vab_cli.specs.Installing.{Installs, left_behind};
 
@@ -18,6 +19,7 @@ use crate::opening::open;
 use crate::telling::say_line;
 use arrayvec::ArrayVec;
 use std::alloc::Global;
+use vab_causes::Cause;
 use vab_device::Device;
 use vab_disk::{Disk, Port};
 use vab_input::hear_all;
@@ -33,6 +35,7 @@ pub(crate) fn install_set<P: Port>(
     port: &mut P,
     device: Device,
     set: &Set,
+    cause: &mut Option<Cause>,
 ) -> Result<Device, Status>
     requires set { IsSet set.now }
     requires kept { IsDevice device (P.size port.old) }
@@ -45,9 +48,13 @@ pub(crate) fn install_set<P: Port>(
         → (s : Mounted)
         → IsIn (P.size port.old) s (P.seen port.old)
         → IfOk result (λ next. count_at next.a + count_at next.b ≡ left_behind s set.now) }
+    ensures refused { P.is_modelled
+        → IsErrOf result Status.Refused
+        → IsUninstalledOn (mounted_on device (P.seen port.old)) set.now cause.new }
 {
     let mut line = ArrayVec::new();
-    let refusal = match vab_update::install(alloc, port, device, set) {
+    let mut at = None;
+    let refusal = match vab_update::install(alloc, port, device, set, &mut at) {
         Ok(device) => {
             installed_line(set.len() as u64, left(&device), &mut line);
             return match say_line(port, line.as_slice()) {
@@ -61,6 +68,7 @@ pub(crate) fn install_set<P: Port>(
     if refusal == Refusal::NoMemory {
         return Err(Status::NoMemory);
     }
+    *cause = Some(Cause::Installing(at, refusal));
     refused_line(refusal, &mut line);
     match say_line(port, line.as_slice()) {
         Ok(()) => Err(Status::Refused),
@@ -70,7 +78,7 @@ pub(crate) fn install_set<P: Port>(
 
 /// Opens the device, installs the set of images that the input spells into the slot that isn't
 /// running, and tells how many it has, or why a command was refused.
-pub(crate) fn install<P: Port>(alloc: Global, port: &mut P) -> Status
+pub(crate) fn install<P: Port>(alloc: Global, port: &mut P, cause: &mut Option<Cause>) -> Status
     ensures runs { Installs P.Disk port.old port.new result }
     ensures steady { IsSteady P.Disk port.old port.new result }
     ensures words { result ≢ Status.Usage }
@@ -78,18 +86,34 @@ pub(crate) fn install<P: Port>(alloc: Global, port: &mut P) -> Status
     ensures port { result ≡ Status.Port
         → Rose (P.faults port.old).source (P.faults port.new).source
         ⊎ Rose (P.faults port.old).sink (P.faults port.new).sink }
+    // Where there is none, the cause is the first thing that is wrong with the disk.
+    ensures unopened { P.is_modelled
+        → result ≡ Status.NotADevice
+        → IsNoDevice P.Disk port.old cause.new }
+    // Where a command is refused, it is the refusal of the table of effects.
+    ensures uninstalled { P.is_modelled
+        → result ≡ Status.Refused
+        → IsUninstalled P.Disk port.old cause.new }
+    // Where the input is no set, it is too long, or the first thing that is wrong with it.
+    ensures no_set { P.is_modelled → result ≡ Status.Malformed → IsNoSet P.Disk port.old cause.new }
 {
-    let device = match open(alloc, port, NOT_A_DEVICE) {
+    let device = match open(alloc, port, NOT_A_DEVICE, cause) {
         Ok(device) => device,
         Err(status) => return status,
     };
     let bytes = match hear_all(alloc, port, MAX_SET) {
         Ok(bytes) => bytes,
-        Err(fault) => return Status::from(fault),
+        Err(fault) => {
+            *cause = Some(Cause::TooLong);
+            return Status::from(fault);
+        }
     };
     let set = match read_set(alloc, &bytes) {
         Ok(set) => set,
-        Err(fault) => return Status::from(fault),
+        Err(fault) => {
+            *cause = Some(Cause::Set(fault));
+            return Status::from(fault);
+        }
     };
-    ended(install_set(alloc, port, device, &set))
+    ended(install_set(alloc, port, device, &set, cause))
 }

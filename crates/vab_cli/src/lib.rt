@@ -5,6 +5,7 @@
 mod acts;
 mod commands;
 mod demo;
+mod ending;
 mod installing;
 mod line;
 mod making;
@@ -16,5 +17,6 @@ mod serving;
 mod status;
 mod telling;
 
+pub use ending::Ending;
 pub use program::run;
 pub use status::Status;

@@ -10,6 +10,7 @@ ghost use Rattle.vab_set.specs.declared.fault.SetFault.{SetFault as FaultOfSet};
 ghost use Rattle.vab_make.specs.declared.fault.MakeFault.{MakeFault as FaultOfMaking};
 ghost use Rattle.vab_make.specs.Made.{refusal_of};
 ghost use Rattle.vab_make.specs.Touched.{IsOfMaking};
+ghost use Rattle.vab_cli.specs.Causes.{IsNoSet, IsUnmade};
 ghost use Rattle.vab_cli.specs.Codes.{make_status};
 ghost use Rattle.vab_cli.specs.Counts.{IsSteady};
 ghost use Rattle.vab_cli.specs.Verbs.{is_silent, make_line, done_making};
@@ -22,6 +23,7 @@ use crate::Status;
 use crate::line::NOT_A_DEVICE;
 use arrayvec::ArrayVec;
 use std::alloc::Global;
+use vab_causes::Cause;
 use vab_disk::{Disk, Port};
 use vab_exchanges::say_all;
 use vab_input::hear_all;
@@ -122,7 +124,14 @@ pub(crate) fn tell_unmade<P: Port>(port: &mut P, fault: MakeFault) -> Status
 }
 
 // Makes a device of a set, and tells that it is made, or why not.
-fn make_of<P: Port>(alloc: Global, port: &mut P, set: &Set, limit: u64, max: u32) -> Status
+fn make_of<P: Port>(
+    alloc: Global,
+    port: &mut P,
+    set: &Set,
+    limit: u64,
+    max: u32,
+    cause: &mut Option<Cause>,
+) -> Status
     requires set { IsSet set.now }
     requires limit { limit ≤ 2 ^ 44 }
     requires max_sectors { max % 512 ≡ 0 }
@@ -146,11 +155,16 @@ fn make_of<P: Port>(alloc: Global, port: &mut P, set: &Set, limit: u64, max: u32
     ensures words { result ≢ Status.Usage }
     ensures disk { result ≡ Status.Disk → Rose (P.faults port.old).disk (P.faults port.new).disk }
     ensures port { result ≡ Status.Port → Rose (P.faults port.old).sink (P.faults port.new).sink }
+    // Where none is made, the cause is the first refusal.
+    ensures unmade { (result ≡ Status.NotADevice) ⊎ (result ≡ Status.Refused)
+        → IsUnmade P.Disk port.old set.now limit max cause.new }
+    ensures read { result ≢ Status.Malformed }
 {
     let fault = match make_device(alloc, port, set, limit, max) {
         Ok(()) => return tell_made(port, set),
         Err(fault) => fault,
     };
+    *cause = Some(Cause::Making(fault));
     if is_silent(&fault) {
         return Status::from(fault);
     }
@@ -159,7 +173,13 @@ fn make_of<P: Port>(alloc: Global, port: &mut P, set: &Set, limit: u64, max: u32
 
 /// Makes a device of the set of images that the input spells, and tells that it is made, or why
 /// not.
-pub(crate) fn make<P: Port>(alloc: Global, port: &mut P, limit: u64, max: u32) -> Status
+pub(crate) fn make<P: Port>(
+    alloc: Global,
+    port: &mut P,
+    limit: u64,
+    max: u32,
+    cause: &mut Option<Cause>,
+) -> Status
     requires limit { limit ≤ 2 ^ 44 }
     requires max_sectors { max % 512 ≡ 0 }
     requires max_least { 512 ≤ max }
@@ -200,14 +220,28 @@ pub(crate) fn make<P: Port>(alloc: Global, port: &mut P, limit: u64, max: u32) -
     ensures port { result ≡ Status.Port
         → Rose (P.faults port.old).source (P.faults port.new).source
         ⊎ Rose (P.faults port.old).sink (P.faults port.new).sink }
+    // Where none is made of a set, the cause is the first refusal.
+    ensures unmade { P.is_modelled
+        → (result ≡ Status.NotADevice) ⊎ (result ≡ Status.Refused)
+        → (set : List ImageOfSet)
+        × (set_of (P.input_left port.old) ≡ Ok set)
+        × IsUnmade P.Disk port.old set limit max cause.new }
+    // Where the input is no set, it is too long, or the first thing that is wrong with it.
+    ensures no_set { P.is_modelled → result ≡ Status.Malformed → IsNoSet P.Disk port.old cause.new }
 {
     let bytes = match hear_all(alloc, port, MAX_SET) {
         Ok(bytes) => bytes,
-        Err(fault) => return Status::from(fault),
+        Err(fault) => {
+            *cause = Some(Cause::TooLong);
+            return Status::from(fault);
+        }
     };
     let set = match read_set(alloc, &bytes) {
         Ok(set) => set,
-        Err(fault) => return Status::from(fault),
+        Err(fault) => {
+            *cause = Some(Cause::Set(fault));
+            return Status::from(fault);
+        }
     };
-    make_of(alloc, port, &set, limit, max)
+    make_of(alloc, port, &set, limit, max, cause)
 }

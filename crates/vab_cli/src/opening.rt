@@ -7,12 +7,14 @@ ghost use Rattle.vab_device.specs.Kept.{IsDevice};
 ghost use Rattle.vab_device.specs.Mounted.{Mounted};
 ghost use Rattle.vab_device.specs.Reading.{device, IsIn, Represents};
 ghost use Rattle.vab_recover.specs.Opening.{IsOfOpening};
+ghost use Rattle.vab_cli.specs.Causes.{IsNoDevice};
 ghost use Rattle.vab_cli.specs.Counts.{HearsNothing, IsSteady};
 ghost use Rattle.vab_cli.specs.Opening.{Opens};
 ghost use Rattle.vab_cli.specs.Runs.{FailsBefore, RunsNone};
 
 use crate::Status;
 use std::alloc::Global;
+use vab_causes::Cause;
 use vab_device::Device;
 use vab_disk::{Disk, Port};
 use vab_exchanges::say_all;
@@ -20,7 +22,12 @@ use vab_recover::start;
 
 /// Opens the device of the disk. Where there is none, it tells the line; the error is the status to
 /// end with.
-pub(crate) fn open<P: Port>(alloc: Global, port: &mut P, line: &[u8]) -> Result<Device, Status>
+pub(crate) fn open<P: Port>(
+    alloc: Global,
+    port: &mut P,
+    line: &[u8],
+    cause: &mut Option<Cause>,
+) -> Result<Device, Status>
     ensures kept { IfOk result (λ d. IsDevice d (P.size port.old)) }
     ensures represents { P.is_modelled
         → IfOk result (λ d. Represents d (P.size port.old) (P.seen port.new)) }
@@ -51,10 +58,17 @@ pub(crate) fn open<P: Port>(alloc: Global, port: &mut P, line: &[u8]) -> Result<
         → Rose (P.faults port.old).disk (P.faults port.new).disk }
     ensures port { IsErrOf result Status.Port
         → Rose (P.faults port.old).sink (P.faults port.new).sink }
+    // Where there is none, the cause is the first thing that is wrong with the disk.
+    ensures unopened { P.is_modelled
+        → IsErrOf result Status.NotADevice
+        → IsNoDevice P.Disk port.old cause.new }
 {
     let status = match start(alloc, port) {
         Ok(device) => return Ok(device),
-        Err(fault) => Status::from(fault),
+        Err(fault) => {
+            *cause = Some(Cause::Opening(fault));
+            Status::from(fault)
+        }
     };
     if status != Status::NotADevice {
         return Err(status);

@@ -1,6 +1,7 @@
 //! The page of the device of the disk.
 ghost use Rattle.std.specs.Prelude.{◌≡◌, ◌≢◌};
 ghost use Rattle.vab_disk.specs.Disk.{Rose};
+ghost use Rattle.vab_cli.specs.Causes.{IsNoDevice};
 ghost use Rattle.vab_cli.specs.Counts.{IsSteady};
 ghost use Rattle.vab_cli.specs.Paging.{TellsPage};
 
@@ -8,19 +9,24 @@ use crate::Status;
 use crate::line::NOT_A_DEVICE;
 use crate::opening::open;
 use std::alloc::Global;
+use vab_causes::Cause;
 use vab_disk::{Disk, Port};
 use vab_exchanges::say_all;
 use vab_status::status_page;
 
 /// Opens the device, and tells its page.
-pub(crate) fn tell_page<P: Port>(alloc: Global, port: &mut P) -> Status
+pub(crate) fn tell_page<P: Port>(alloc: Global, port: &mut P, cause: &mut Option<Cause>) -> Status
     ensures tells { TellsPage P.Disk port.old port.new result }
     ensures steady { IsSteady P.Disk port.old port.new result }
     ensures words { result ≢ Status.Usage }
     ensures disk { result ≡ Status.Disk → Rose (P.faults port.old).disk (P.faults port.new).disk }
     ensures port { result ≡ Status.Port → Rose (P.faults port.old).sink (P.faults port.new).sink }
+    // Where there is none, the cause is the first thing that is wrong with the disk.
+    ensures unopened { P.is_modelled
+        → result ≡ Status.NotADevice
+        → IsNoDevice P.Disk port.old cause.new }
 {
-    let device = match open(alloc, port, NOT_A_DEVICE) {
+    let device = match open(alloc, port, NOT_A_DEVICE, cause) {
         Ok(device) => device,
         Err(status) => return status,
     };

@@ -13,6 +13,7 @@ ghost use Rattle.vab_device.specs.Kept.{IsDevice};
 ghost use Rattle.vab_device.specs.Mounted.{Mounted, bytes_at, sectors_read};
 ghost use Rattle.vab_device.specs.Reading.{device, IsIn, Represents};
 ghost use Rattle.vab_manager.specs.Blocks.{KeepsPart};
+ghost use Rattle.vab_cli.specs.Causes.{IsNoDevice, IsRefusedAs, IsRefusedOn};
 ghost use Rattle.vab_cli.specs.Counts.{HearsNothing, IsSteady};
 ghost use Rattle.vab_cli.specs.Telling.{DoesItem, Says};
 ghost use Rattle.vab_cli.specs.Verbs.{none_line, refused_line as line_of, print_told};
@@ -25,6 +26,7 @@ use crate::line::{NOT_A_DEVICE, refused_line};
 use crate::opening::open;
 use arrayvec::ArrayVec;
 use std::alloc::Global;
+use vab_causes::Cause;
 use vab_device::Device;
 use vab_disk::{Disk, Port};
 use vab_exchanges::say_all;
@@ -174,7 +176,12 @@ fn refuse<P: Port>(port: &mut P, refusal: Refusal) -> Result<Status, Status>
 }
 
 // Tells an image's bytes, or why there are none.
-fn print_image<P: Port>(port: &mut P, device: &Device, name: &[u8]) -> Result<Status, Status>
+fn print_image<P: Port>(
+    port: &mut P,
+    device: &Device,
+    name: &[u8],
+    cause: &mut Option<Cause>,
+) -> Result<Status, Status>
     requires kept { IsDevice device.now (P.size port.old) }
     requires represents { P.is_modelled
         → Represents device.now (P.size port.old) (P.seen port.old) }
@@ -197,18 +204,29 @@ fn print_image<P: Port>(port: &mut P, device: &Device, name: &[u8]) -> Result<St
         → Rose (P.faults port.old).disk (P.faults port.new).disk }
     ensures port { IsErrOf result Status.Port
         → Rose (P.faults port.old).sink (P.faults port.new).sink }
+    ensures refused { IfOk result (λ status. status ≡ Status.Refused
+        → (image : Image)
+        → IsRefusedOn (mounted_on device.now image) (PrintOf name.now) cause.new) }
 {
     match locate(device, name) {
         Ok((slot, blocks)) => match tell_blocks(port, device, slot, base_of(name), blocks) {
             Ok(()) => Ok(Status::Done),
             Err(status) => Err(status),
         },
-        Err(refusal) => refuse(port, refusal),
+        Err(refusal) => {
+            *cause = Some(Cause::Refused(refusal));
+            refuse(port, refusal)
+        }
     }
 }
 
 /// Opens the device, and tells the bytes of an image alone, or why there are none.
-pub(crate) fn print<P: Port>(alloc: Global, port: &mut P, name: &[u8]) -> Status
+pub(crate) fn print<P: Port>(
+    alloc: Global,
+    port: &mut P,
+    name: &[u8],
+    cause: &mut Option<Cause>,
+) -> Status
     ensures runs { P.is_modelled
         → (s : Mounted)
         → IsIn (P.size port.old) s (P.seen port.old)
@@ -234,12 +252,20 @@ pub(crate) fn print<P: Port>(alloc: Global, port: &mut P, name: &[u8]) -> Status
     ensures words { result ≢ Status.Usage }
     ensures disk { result ≡ Status.Disk → Rose (P.faults port.old).disk (P.faults port.new).disk }
     ensures port { result ≡ Status.Port → Rose (P.faults port.old).sink (P.faults port.new).sink }
+    // Where there is none, the cause is the first thing that is wrong with the disk.
+    ensures unopened { P.is_modelled
+        → result ≡ Status.NotADevice
+        → IsNoDevice P.Disk port.old cause.new }
+    // Where the name is refused, it is the refusal of the table of effects.
+    ensures refused { P.is_modelled
+        → result ≡ Status.Refused
+        → IsRefusedAs P.Disk port.old (PrintOf name.now) cause.new }
 {
-    let device = match open(alloc, port, NOT_A_DEVICE) {
+    let device = match open(alloc, port, NOT_A_DEVICE, cause) {
         Ok(device) => device,
         Err(status) => return status,
     };
-    match print_image(port, &device, name) {
+    match print_image(port, &device, name, cause) {
         Ok(status) => status,
         Err(status) => status,
     }

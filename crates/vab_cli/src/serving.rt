@@ -9,22 +9,28 @@ ghost use Rattle.vab_make.specs.Made.{made_device_of};
 ghost use Rattle.vab_make.specs.Making.{LeavesMaking};
 ghost use Rattle.vab_commands.specs.Touched.{IsOfAll, IsOfCommands};
 ghost use Rattle.vab_session.specs.Merges.{MergesNothing};
+ghost use Rattle.vab_cli.specs.Causes.{IsBrokenOff, IsNoDevice, IsUnmade};
 ghost use Rattle.vab_cli.specs.Touched.{IsOfServing, IsOfFresh};
 ghost use Rattle.vab_cli.specs.Counts.{IsSteady};
 ghost use Rattle.vab_cli.specs.Runs.{RunsSession, FailsBefore, RunsNone, RunsRefused, FailsMaking};
 
 use crate::Status;
 use crate::opening::open;
-use crate::status::session_status;
+use crate::status::{session_cause, session_status};
 use std::alloc::Global;
 use vab_bytes::Listing;
+use vab_causes::Cause;
 use vab_disk::{Disk, Port};
 use vab_make::make_device;
 use vab_recover::start;
 use vab_session::serve;
 
 /// A session over the device of the disk.
-pub(crate) fn open_and_serve<P: Port>(alloc: Global, port: &mut P) -> Status
+pub(crate) fn open_and_serve<P: Port>(
+    alloc: Global,
+    port: &mut P,
+    cause: &mut Option<Cause>,
+) -> Status
     ensures runs { P.is_modelled
         → (s : Mounted)
         → IsIn (P.size port.old) s (P.seen port.old)
@@ -53,12 +59,21 @@ pub(crate) fn open_and_serve<P: Port>(alloc: Global, port: &mut P) -> Status
     ensures port { result ≡ Status.Port
         → Rose (P.faults port.old).source (P.faults port.new).source
         ⊎ Rose (P.faults port.old).sink (P.faults port.new).sink }
+    // Where there is none, the cause is the first thing that is wrong with the disk.
+    ensures unopened { P.is_modelled
+        → result ≡ Status.NotADevice
+        → IsNoDevice P.Disk port.old cause.new }
+    // Where the input is malformed, the cause is how its session ends.
+    ensures broken_off { P.is_modelled
+        → result ≡ Status.Malformed
+        → IsBrokenOff P.Disk port.old cause.new }
 {
-    let device = match open(alloc, port, b"") {
+    let device = match open(alloc, port, b"", cause) {
         Ok(device) => device,
         Err(status) => return status,
     };
     let answer = serve(alloc, port, device);
+    *cause = session_cause(&answer);
     session_status(&answer)
 }
 
@@ -66,7 +81,11 @@ pub(crate) fn open_and_serve<P: Port>(alloc: Global, port: &mut P) -> Status
 const FRESH_METADATA_MAX: u32 = 65536;
 
 /// A session over the device of the empty set, which is made first.
-pub(crate) fn make_and_serve<P: Port>(alloc: Global, port: &mut P) -> Status
+pub(crate) fn make_and_serve<P: Port>(
+    alloc: Global,
+    port: &mut P,
+    cause: &mut Option<Cause>,
+) -> Status
     ensures runs { P.is_modelled
         → 6152 ≤ P.size port.old
         → RunsSession P.Disk (P.size port.old)
@@ -90,16 +109,28 @@ pub(crate) fn make_and_serve<P: Port>(alloc: Global, port: &mut P) -> Status
     ensures port { result ≡ Status.Port
         → Rose (P.faults port.old).source (P.faults port.new).source
         ⊎ Rose (P.faults port.old).sink (P.faults port.new).sink }
+    // Where none is made, the cause is the first refusal.
+    ensures unmade { P.is_modelled
+        → result ≡ Status.NotADevice
+        → IsUnmade P.Disk port.old [] 0 65536 cause.new }
+    // Where the input is malformed, the cause is how its session ends.
+    ensures broken_off { P.is_modelled
+        → result ≡ Status.Malformed
+        → IsBrokenOff P.Disk port.old cause.new }
 {
     let set = Listing::from_vec(Vec::new(alloc));
     match make_device(alloc, port, &set, 0, FRESH_METADATA_MAX) {
         Ok(()) => {}
-        Err(fault) => return Status::from(fault),
+        Err(fault) => {
+            *cause = Some(Cause::Making(fault));
+            return Status::from(fault);
+        }
     }
     let device = match start(alloc, port) {
         Ok(device) => device,
         Err(fault) => return Status::from(fault),
     };
     let answer = serve(alloc, port, device);
+    *cause = session_cause(&answer);
     session_status(&answer)
 }

@@ -1,6 +1,7 @@
 // How the program ends.
 ghost use Rattle.std.specs.Prelude.{◌≡◌};
 
+use vab_causes::Cause;
 use vab_device::{Device, StartFault};
 use vab_input::InputFault;
 use vab_make::MakeFault;
@@ -47,6 +48,20 @@ impl Status {
             Status::Disk => 6,
             Status::Port => 7,
             Status::NoMemory => 8,
+        }
+    }
+
+    // The status in words.
+    pub(crate) fn text(&self) -> &'static str {
+        match self {
+            Status::Done => "done",
+            Status::Usage => "the words aren't taken",
+            Status::Malformed => "malformed input",
+            Status::Refused => "refused",
+            Status::NotADevice => "no device",
+            Status::Disk => "the disk failed",
+            Status::Port => "the input or the output failed",
+            Status::NoMemory => "out of memory",
         }
     }
 }
@@ -158,7 +173,18 @@ impl From<&Reply> for Status {
     }
 }
 
+ghost use Rattle.vab_cli.specs.Causes.{session_cause};
 ghost use Rattle.vab_cli.specs.Codes.{session_status};
+
+/// Why a session stops, where it does.
+pub(crate) fn session_cause(answer: &Result<(Ended, Device), SessionFault>) -> Option<Cause>
+    ensures { result ≡ session_cause answer.now }
+{
+    match answer {
+        Ok(_) => None,
+        Err(fault) => Some(Cause::Session(*fault)),
+    }
+}
 
 /// The status of what a session answers.
 pub(crate) fn session_status(answer: &Result<(Ended, Device), SessionFault>) -> Status

@@ -15,6 +15,7 @@ ghost use Rattle.vab_update.specs.Install.{size_command, target_name};
 use crate::Stop;
 use crate::carry::carry_out;
 use std::alloc::Global;
+use vab_bytes::Name36;
 use vab_device::Device;
 use vab_disk::Disk;
 use vab_manager::kept_part;
@@ -71,9 +72,16 @@ fn install_image<D: Disk>(
 
 /// Installs the images of a set into the slot that isn't running, as an update that is ready, and
 /// makes that slot the next one to boot. It stops at the first command that is refused; those
-/// before it are done. Where the device that is kept is that of the disk and nothing was pending,
-/// each outcome since is a step of one of the commands.
-pub fn install<D: Disk>(alloc: Global, d: &mut D, device: Device, set: &Set) -> Result<Device, Stop>
+/// before it are done. Where that was one of an image, `at` is the image's name, and else none.
+/// Where the device that is kept is that of the disk and nothing was pending, each outcome since is
+/// a step of one of the commands.
+pub fn install<D: Disk>(
+    alloc: Global,
+    d: &mut D,
+    device: Device,
+    set: &Set,
+    at: &mut Option<Name36>,
+) -> Result<Device, Stop>
     requires set { IsSet set.now }
     requires kept { IsDevice device (D.size d.old) }
     requires represents { D.is_modelled → Represents device (D.size d.old) (D.seen d.old) }
@@ -81,10 +89,13 @@ pub fn install<D: Disk>(alloc: Global, d: &mut D, device: Device, set: &Set) -> 
         d.old d.new result }
 {
     let source = device.current();
+    *at = None;
     let mut next = carry_out(alloc, d, device, &Command::Begin, None)?;
     for image in set.as_slice() {
+        *at = Some(image.name);
         next = install_image(alloc, d, next, source, image)?;
     }
+    *at = None;
     let next = carry_out(alloc, d, next, &Command::Finish, None)?;
     carry_out(alloc, d, next, &Command::SetActive(1 - source), None)
 }

@@ -1,4 +1,5 @@
 pub mod Command
+pub mod Complaints
 pub mod Spelled
 pub mod Values
 pub mod Verbs

@@ -3,9 +3,11 @@
 #![tactic(auto)]
 
 mod command;
+mod complaint;
 mod spelled;
 mod values;
 mod verb;
 
+pub use complaint::{Complaint, Value, complaint_of};
 pub use spelled::spelled_out;
 pub use verb::{Verb, WordsFault, parse_words};
