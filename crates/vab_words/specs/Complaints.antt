@@ -1,6 +1,5 @@
 -- What is wrong with words that ask for nothing.
-use Rattle.std.specs.Prelude.{◌≡◌, ◌<◌, ℕ, Bool, false, List, length, map, slice_index, string_bytes}
-use Rattle.std.specs.Prelude.{Some, is_some}
+use Rattle.std.specs.Prelude.{◌≡◌, ℕ, Bool, false, List, slice_get, Some, is_some}
 use Rattle.vab_words.specs.Values.{blocks_of, limit_of, metadata_max_of, scale_of, seed_of, slot_of}
 use Rattle.vab_words.specs.declared.complaint.Complaint.{Complaint}
 use Rattle.vab_words.specs.declared.complaint.Complaint.TheVariants as complaints
@@ -20,5 +19,7 @@ is_value Scale text = is_some (scale_of (Some text))
 -- a word that is named is there, and isn't one
 abbrev pub Names : List (List ℕ) → Complaint → Type 0
 Names words (complaints.Value index value) =
-    (index < length words) × (is_value value (slice_index words index) ≡ false)
+    (text : List ℕ)
+    × (slice_get words index ≡ Some text)
+    × (is_value value text ≡ false)
 Names words _ = Unit {0}
