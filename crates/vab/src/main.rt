@@ -12,10 +12,11 @@ mod usage;
 mod word;
 
 use explain::explain;
-use std::io::{Stdin, Stdout};
+use std::io::{IsTerminal, Stdin, Stdout};
 use std::process::ExitCode;
 use usage::USAGE;
 use vab_cli::{Status, run};
+use vab_meter::Metered;
 use vab_process::{WordsFault, open_standard, words_of};
 use vab_real::{FilePort, OpenFault};
 use word::{Device, parse_device};
@@ -55,6 +56,20 @@ fn open_port(rt: &HostRuntime, word: &str) -> Result<FilePort<Stdin, Stdout>, u8
     }
 }
 
+// Whether it is shown how far a verb is: one of long work, where standard error is a terminal and
+// its line wouldn't stand among the bytes of a partition.
+fn shows_how_far(rt: &HostRuntime, words: &[String]) -> bool {
+    let verb = match words.first() {
+        Some(word) => word.as_str(),
+        None => "",
+    };
+    match verb {
+        "make" | "install" | "merge" | "digest" => rt.stderr().is_terminal(),
+        "print" => rt.stderr().is_terminal() && !rt.stdout().is_terminal(),
+        _ => false,
+    }
+}
+
 // Does what the words ask for, and answers the status.
 fn run_words(rt: &HostRuntime, words: &[String]) -> u8 {
     let (first, rest) = match words {
@@ -64,11 +79,13 @@ fn run_words(rt: &HostRuntime, words: &[String]) -> u8 {
             return Status::Usage.code();
         }
     };
-    let mut port = match open_port(rt, first.as_str()) {
+    let port = match open_port(rt, first.as_str()) {
         Ok(port) => port,
         Err(status) => return status,
     };
-    let ending = run(rt.alloc(), rest, &mut port);
+    let mut metered = Metered::new(port, rt.stderr(), shows_how_far(rt, rest));
+    let ending = run(rt.alloc(), rest, &mut metered);
+    let mut port = metered.into_port();
     explain(rt, first.as_str(), rest, &mut port, &ending);
     ending.code()
 }
