@@ -1,5 +1,6 @@
 mod Acting
 mod Blocks
+mod Causing
 mod Courses
 mod Demos
 mod FreshTouching

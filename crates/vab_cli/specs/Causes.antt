@@ -6,7 +6,8 @@ use Rattle.vab_set.specs.Reading.{set_of}
 use Rattle.vab_set.specs.declared.set.SetImage.{SetImage}
 use Rattle.vab_set.specs.declared.fault.SetFault.{SetFault}
 use Rattle.vab_gen.specs.Sets.{fresh_set}
-use Rattle.vab_model.specs.Commands.{Command}
+use Rattle.vab_model.specs.Commands.{Command, SetActive, Boot, Mark, Print, Digest, Cancel}
+use Rattle.vab_model.specs.Commands.{BeginMerge, Merge}
 use Rattle.vab_model.specs.declared.command.Refusal.{Refusal}
 use Rattle.vab_model.specs.declared.command.Reply.{Reply}
 use Rattle.vab_model.specs.declared.command.Reply.TheVariants as replies
@@ -26,7 +27,6 @@ use Rattle.vab_causes.specs.declared.cause.Cause.{Cause}
 use Rattle.vab_causes.specs.declared.cause.Cause.TheVariants as causes
 use Rattle.vab_cli.specs.declared.status.Status.{Status}
 use Rattle.vab_cli.specs.declared.status.Status.TheVariants.{Malformed, Refused, NotADevice}
-use Rattle.vab_cli.specs.Verbs.{command_of}
 
 -- why a command was refused is noted, and nothing of another reply
 abbrev pub noted : Reply → Option Cause → Option Cause
@@ -53,19 +53,6 @@ pub record IsUninstalledOn
   pub refusal : Refusal
   pub is : cause ≡ Some (causes.Installing image refusal)
   pub holds : (install_effect s set).reply ≡ replies.Refused refusal
-
--- the words ask for a device to be made
-abbrev pub is_making : Meaning → Bool
-is_making (words.Make limit metadata_max) = true
-is_making (words.Serve fresh) = fresh
-is_making (words.Demo seed scale) = true
-is_making _ = false
-
--- the words ask for a set on the input
-abbrev pub takes_set : Meaning → Bool
-takes_set (words.Make limit metadata_max) = true
-takes_set words.Install = true
-takes_set _ = false
 
 module _ {D : Type 0} (g : Ghosts D) (old : D) where
   -- the first thing that is wrong with the disk
@@ -116,27 +103,39 @@ module _ {D : Type 0} (g : Ghosts D) (old : D) where
     pub session : IsSession (2 ^ 44) refused (g.input_left old) exchanges unfinished end
     pub says : Says (Err fault) end
 
-  -- The cause of each status 3, 4 and 5 of what the words ask for, but for the refusals of `demo`.
-  pub record Explains (m : Meaning) (status : Status) (cause : Option Cause) : Type 0 where
-    pub unopened : is_making m ≡ false → status ≡ NotADevice → IsNoDevice cause
-    pub refused : (c : Command)
-        → command_of m ≡ Some c
-        → status ≡ Refused
-        → IsRefusedAs c cause
-    pub uninstalled : m ≡ words.Install → status ≡ Refused → IsUninstalled cause
-    pub unmade : (limit max : ℕ)
-        → m ≡ words.Make limit max
-        → (status ≡ NotADevice) ⊎ (status ≡ Refused)
-        → (set : List SetImage)
-        × (set_of (g.input_left old) ≡ Ok set)
-        × IsUnmade set limit max cause
-    pub no_set : takes_set m ≡ true → status ≡ Malformed → IsNoSet cause
-    pub unmade_fresh : m ≡ words.Serve true → status ≡ NotADevice → IsUnmade [] 0 65536 cause
-    pub broken_off : (fresh : Bool)
-        → m ≡ words.Serve fresh
-        → status ≡ Malformed
-        → IsBrokenOff cause
-    pub unmade_drawn : (seed scale : ℕ)
-        → m ≡ words.Demo seed scale
-        → status ≡ NotADevice
-        → IsUnmade (fresh_set scale seed) 0 65536 cause
+  -- Some set that the input spells isn't made into a device.
+  abbrev pub IsUnmadeOfInput : (limit max : ℕ) → Option Cause → Type 0
+  IsUnmadeOfInput limit max cause =
+      (set : List SetImage)
+      × (set_of (g.input_left old) ≡ Ok set)
+      × IsUnmade set limit max cause
+
+  -- The cause of a command's refusal, and of no device.
+  abbrev pub ExplainsCommand : Command → Status → Option Cause → Type 0
+  ExplainsCommand c status cause =
+      (status ≡ NotADevice → IsNoDevice cause) × (status ≡ Refused → IsRefusedAs c cause)
+
+  -- The cause of each status 3, 4 and 5 of what the words ask for, but for a refusal in a `demo`.
+  abbrev pub Explains : Meaning → Status → Option Cause → Type 0
+  Explains (words.Make limit max) status cause =
+      ((status ≡ NotADevice) ⊎ (status ≡ Refused) → IsUnmadeOfInput limit max cause)
+      × (status ≡ Malformed → IsNoSet cause)
+  Explains (words.Serve true) status cause =
+      (status ≡ NotADevice → IsUnmade [] 0 65536 cause) × (status ≡ Malformed → IsBrokenOff cause)
+  Explains (words.Serve false) status cause =
+      (status ≡ NotADevice → IsNoDevice cause) × (status ≡ Malformed → IsBrokenOff cause)
+  Explains words.Install status cause =
+      (status ≡ NotADevice → IsNoDevice cause)
+      × (status ≡ Refused → IsUninstalled cause)
+      × (status ≡ Malformed → IsNoSet cause)
+  Explains words.Boot status cause = ExplainsCommand Boot status cause
+  Explains words.Mark status cause = ExplainsCommand Mark status cause
+  Explains words.BeginMerge status cause = ExplainsCommand BeginMerge status cause
+  Explains (words.Merge turns) status cause = ExplainsCommand (Merge turns) status cause
+  Explains words.Cancel status cause = ExplainsCommand Cancel status cause
+  Explains (words.Activate slot) status cause = ExplainsCommand (SetActive slot) status cause
+  Explains (words.Print name) status cause = ExplainsCommand (Print name) status cause
+  Explains (words.Digest name) status cause = ExplainsCommand (Digest name) status cause
+  Explains words.Status status cause = status ≡ NotADevice → IsNoDevice cause
+  Explains (words.Demo seed scale) status cause =
+      status ≡ NotADevice → IsUnmade (fresh_set scale seed) 0 65536 cause

@@ -10,7 +10,7 @@ ghost use Rattle.vab_set.specs.declared.fault.SetFault.{SetFault as FaultOfSet};
 ghost use Rattle.vab_make.specs.declared.fault.MakeFault.{MakeFault as FaultOfMaking};
 ghost use Rattle.vab_make.specs.Made.{refusal_of};
 ghost use Rattle.vab_make.specs.Touched.{IsOfMaking};
-ghost use Rattle.vab_cli.specs.Causes.{IsNoSet, IsUnmade};
+ghost use Rattle.vab_cli.specs.Causes.{IsNoSet, IsUnmade, IsUnmadeOfInput};
 ghost use Rattle.vab_cli.specs.Codes.{make_status};
 ghost use Rattle.vab_cli.specs.Counts.{IsSteady};
 ghost use Rattle.vab_cli.specs.Verbs.{is_silent, make_line, done_making};
@@ -223,9 +223,7 @@ pub(crate) fn make<P: Port>(
     // Where none is made of a set, the cause is the first refusal.
     ensures unmade { P.is_modelled
         → (result ≡ Status.NotADevice) ⊎ (result ≡ Status.Refused)
-        → (set : List ImageOfSet)
-        × (set_of (P.input_left port.old) ≡ Ok set)
-        × IsUnmade P.Disk port.old set limit max cause.new }
+        → IsUnmadeOfInput P.Disk port.old limit max cause.new }
     // Where the input is no set, it is too long, or the first thing that is wrong with it.
     ensures no_set { P.is_modelled → result ≡ Status.Malformed → IsNoSet P.Disk port.old cause.new }
 {

@@ -15,6 +15,9 @@ use Rattle.vab_cli.specs.Verbs.{line_behind}
 use Rattle.vab_cli.proofs.Acting.{command_broken, command_closed, command_failed, told_behind}
 use Rattle.vab_cli.proofs.Items.{replied, says_err, says_ok}
 use Rattle.vab_cli.proofs.Touching.{verb_changes}
+use Rattle.std.specs.Prelude.{IsErrOf}
+use Rattle.vab_cli.specs.declared.status.Status.TheVariants.{Refused}
+use Rattle.vab_cli.proofs.Causing.{closed_refused}
 use Rattle.vab_cli.proofs.acts.perform.Goals as goal
 
 pub returns-in-Err-clause-performs : goal.returns-in-Err-clause-performs
@@ -105,3 +108,13 @@ returns-in-Err-say_line-clause-changes g c = λ t s stands boot there.
     (c.requires.represents t) stands there (c.in-Ok.ensures.touches t))
     (changes_telling g.P.Disk _ _ c.run_one.new.d c.say_line.new.port c.say_line.ensures.size
     (λ t. says.seen) (λ t. says.crash) (λ t. says.time))
+
+pub returns-in-Ok-say_line-clause-refused : goal.returns-in-Ok-say_line-clause-refused
+returns-in-Ok-say_line-clause-refused g c = λ t refused.
+    let m : Mounted = mounted_on c.args.device (g.P.Disk.seen c.args.port.now) in
+    let command : Command = command_of c.args.command.now in
+    let reply : Reply = c.in-Ok.done.1 in
+    closed_refused c.in-Ok.done.0 reply c.args.cause.now c.note_refusal.new.cause m command
+    c.note_refusal.ensures
+    (sym (c.in-Ok.ensures.reply t ∙ replied c.in-Ok.ensures.refused command m c.requires.verb))
+    (subst (λ (r : Result Device Status). IsErrOf r Refused) c.closed.ensures refused)

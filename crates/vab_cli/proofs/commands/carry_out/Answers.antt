@@ -10,6 +10,9 @@ use Rattle.vab_cli.proofs.Acting.{acted_disk, acted_port, acted_words, command_i
 use Rattle.vab_cli.proofs.Acting.{runs_act, wanted}
 use Rattle.vab_cli.proofs.Running.{opened_in, same_opened}
 use Rattle.vab_cli.proofs.Touching.{opening_changes, Behind, verb_opened}
+use Rattle.vab_cli.specs.Causes.{IsRefusedOn}
+use Rattle.vab_cli.proofs.Causing.{device_opened, ended_opened, ended_refused, opening_kind}
+use Rattle.vab_cli.proofs.Causing.{unopened_unrefused}
 use Rattle.vab_cli.proofs.commands.carry_out.Goals as goal
 
 pub returns-clause-runs : goal.returns-clause-runs
@@ -89,3 +92,25 @@ returns-clause-changes g c = λ t s stands boot there.
     (c.perform.ensures.changes t s
     (subst (λ (n : ℕ). IsIn n s (g.P.Disk.seen mid)) (sym c.open.ensures.size) here) boot)
     there
+
+pub returns-in-Err-clause-refused : goal.returns-in-Err-clause-refused
+returns-in-Err-clause-refused g c = λ t refused.
+    unopened_unrefused
+    (opening_kind g.P.Disk none_line c.args.port.now c.open.new.port c.in-Err.status
+    (c.in-Err.ensures.early t) (c.in-Err.ensures.none t))
+    refused
+
+pub returns-clause-unopened : goal.returns-clause-unopened
+returns-clause-unopened g c = λ t none.
+    ended_opened c.perform.result c.perform.ensures.performs.stop
+    (sym c.ended.ensures ∙ none)
+
+pub returns-clause-refused : goal.returns-clause-refused
+returns-clause-refused g c = λ t refused s stands.
+    let opens = c.in-Ok.ensures.opens t in
+    subst
+    (λ (m : Mounted). IsRefusedOn m (command_of c.args.command.now) c.perform.new.cause)
+    (device_opened c.in-Ok.device (g.P.Disk.size c.args.port.now) (g.P.Disk.seen c.open.new.port)
+    (g.P.Disk.seen c.args.port.now) s (c.in-Ok.ensures.represents t) opens.device stands)
+    (c.perform.ensures.refused t
+    (ended_refused c.perform.result (sym c.ended.ensures ∙ refused)))

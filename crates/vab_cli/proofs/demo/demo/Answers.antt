@@ -3,6 +3,7 @@ use Rattle.vab_gen.specs.Sets.{fresh_set, next_set}
 use Rattle.vab_set.specs.declared.set.SetImage.{SetImage}
 use Rattle.vab_cli.specs.Demo.{Demonstrates}
 use Rattle.vab_cli.proofs.Demos.{demo_short}
+use Rattle.vab_cli.specs.Causes.{IsUnmade}
 use Rattle.vab_cli.proofs.demo.demo.Goals as goal
 
 pub returns-in-Err-clause-does : goal.returns-in-Err-clause-does
@@ -26,3 +27,10 @@ returns-clause-does g c =
     (λ (x : List SetImage).
     Demonstrates g.P.Disk x c.in-Ok-next_scaled.next old new c.demonstrate.result)
     c.in-Ok.ensures.exact c.demonstrate.ensures.does)
+
+pub returns-clause-unmade : goal.returns-clause-unmade
+returns-clause-unmade g c = λ t none.
+    subst
+    (λ (x : List SetImage).
+    IsUnmade g.P.Disk c.args.port.now x 0 65536 c.demonstrate.new.cause)
+    c.in-Ok.ensures.exact (c.demonstrate.ensures.unmade t none)

@@ -11,6 +11,8 @@ use Rattle.vab_cli.proofs.Demos.{demo_lives, demo_unmade, demo_unopened}
 use Rattle.vab_cli.proofs.Makings.{enough_sectors}
 use Rattle.vab_cli.proofs.Running.{contents_of, early_of, is_one, memory_other, not_of_disk_by}
 use Rattle.vab_cli.proofs.Sessions.{opens_sized}
+use Rattle.std.proofs.Common.{inl, refl}
+use Rattle.vab_cli.proofs.Causing.{ended_opened, unmade_told}
 use Rattle.vab_cli.proofs.demo.demonstrate.Goals as goal
 
 pub returns-in-Err-clause-does : goal.returns-in-Err-clause-does
@@ -78,3 +80,23 @@ returns-clause-does g c =
     (c.in-Ok-start.ensures.represents t))
     (c.start.ensures.quiet.size ∙ sized)
     c.live.ensures)
+
+pub returns-in-Err-clause-unmade : goal.returns-in-Err-clause-unmade
+returns-in-Err-clause-unmade g c = λ t none.
+    unmade_told g.P.Disk c.args.port.now c.args.set.now 0 65536 c.in-Err.fault _
+    c.tell_unmade.result c.in-Err.ensures.exact refl c.tell_unmade.ensures.either (inl none)
+
+pub returns-in-Err-start-clause-unmade : goal.returns-in-Err-start-clause-unmade
+returns-in-Err-start-clause-unmade g c = λ t none.
+    let mid = c.make_device.new.d in
+    let size = g.P.Disk.size c.args.port.now in
+    let sized : g.P.Disk.size mid ≡ size = c.make_device.ensures.touches.quiet.size in
+    is_one size (made_device_of c.args.set.now 0 65536 size) (g.P.Disk.seen mid)
+    c.in-Err-start.fault (c.in-Ok.ensures.made t)
+    (subst (λ (n : ℕ). device n (g.P.Disk.seen mid) ≡ Err c.in-Err-start.fault) sized
+    (c.in-Err-start.ensures.fault t
+    (contents_of c.in-Err-start.fault (sym c.from.ensures ∙ none))))
+
+pub returns-clause-unmade : goal.returns-clause-unmade
+returns-clause-unmade g c = λ t none.
+    ended_opened c.live.result c.live.ensures.stop (sym c.ended.ensures ∙ none)

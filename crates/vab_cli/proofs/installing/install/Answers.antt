@@ -29,6 +29,12 @@ use Rattle.vab_cli.proofs.Lines.{held_reply}
 use Rattle.vab_cli.proofs.Running.{same_opened, same_heard}
 use Rattle.vab_cli.proofs.Running.{MeansSame}
 use Rattle.vab_cli.proofs.Touching.{served_changes}
+use Rattle.vab_device.specs.Mounted.{Mounted, mounted_on}
+use Rattle.vab_cli.specs.Causes.{IsUninstalledOn, too_long, malformed}
+use Rattle.vab_cli.proofs.Causing.{device_opened, ended_opened, ended_read, ended_refused}
+use Rattle.vab_cli.proofs.Causing.{input_long, input_opened, input_unrefused, opening_kind}
+use Rattle.vab_cli.proofs.Causing.{set_opened, set_read, set_unrefused, unopened_read}
+use Rattle.vab_cli.proofs.Causing.{unopened_unrefused}
 use Rattle.vab_cli.proofs.installing.install.Goals as goal
 
 pub returns-in-Err-clause-runs : goal.returns-in-Err-clause-runs
@@ -278,3 +284,81 @@ returns-clause-port g c = λ is.
     c.in-Ok.ensures.steady (c.in-Ok-hear_all.ensures.steady (λ none. cc)))
     (acted_port g.P.Disk c.in-Ok.device _ c.hear_all.new.p c.install_set.new.port
     c.install_set.result c.install_set.ensures.performs (sym c.ended.ensures ∙ is)))
+
+pub returns-in-Err-clause-uninstalled : goal.returns-in-Err-clause-uninstalled
+returns-in-Err-clause-uninstalled g c = λ t refused.
+    unopened_unrefused
+    (opening_kind g.P.Disk none_line c.args.port.now c.open.new.port c.in-Err.status
+    (c.in-Err.ensures.early t) (c.in-Err.ensures.none t))
+    refused
+
+pub returns-in-Err-clause-no_set : goal.returns-in-Err-clause-no_set
+returns-in-Err-clause-no_set g c = λ t bad.
+    unopened_read
+    (opening_kind g.P.Disk none_line c.args.port.now c.open.new.port c.in-Err.status
+    (c.in-Err.ensures.early t) (c.in-Err.ensures.none t))
+    bad
+
+pub returns-in-Err-hear_all-clause-unopened : goal.returns-in-Err-hear_all-clause-unopened
+returns-in-Err-hear_all-clause-unopened g c = λ t none.
+    input_opened c.in-Err-hear_all.fault (sym c.from.ensures ∙ none)
+
+pub returns-in-Err-hear_all-clause-uninstalled : goal.returns-in-Err-hear_all-clause-uninstalled
+returns-in-Err-hear_all-clause-uninstalled g c = λ t refused.
+    input_unrefused c.in-Err-hear_all.fault (sym c.from.ensures ∙ refused)
+
+pub returns-in-Err-hear_all-clause-no_set : goal.returns-in-Err-hear_all-clause-no_set
+returns-in-Err-hear_all-clause-no_set g c = λ t bad.
+    let opens = c.in-Ok.ensures.opens t in
+    let left : g.P.Disk.input_left c.open.new.port ≡ g.P.Disk.input_left c.args.port.now =
+    opens.left in
+    let long = c.in-Err-hear_all.ensures.long t
+    (ap Err (input_long c.in-Err-hear_all.fault (sym c.from.ensures ∙ bad))) in
+    too_long refl (omega (arith, long, ap length left))
+
+pub returns-in-Err-read_set-clause-unopened : goal.returns-in-Err-read_set-clause-unopened
+returns-in-Err-read_set-clause-unopened g c = λ t none.
+    set_opened c.in-Err-read_set.fault (sym c.from-in-Err-read_set.ensures ∙ none)
+
+pub returns-in-Err-read_set-clause-uninstalled : goal.returns-in-Err-read_set-clause-uninstalled
+returns-in-Err-read_set-clause-uninstalled g c = λ t refused.
+    set_unrefused c.in-Err-read_set.fault (sym c.from-in-Err-read_set.ensures ∙ refused)
+
+pub returns-in-Err-read_set-clause-no_set : goal.returns-in-Err-read_set-clause-no_set
+returns-in-Err-read_set-clause-no_set g c = λ t bad.
+    let opens = c.in-Ok.ensures.opens t in
+    let text : c.deref.result.now ≡ g.P.Disk.input_left c.args.port.now =
+    c.deref.ensures.value ∙ c.in-Ok-hear_all.ensures.bytes t ∙ opens.left in
+    malformed c.in-Err-read_set.fault refl
+    (set_read c.in-Err-read_set.fault _ _ text c.in-Err-read_set.ensures.exact
+    (sym c.from-in-Err-read_set.ensures ∙ bad))
+
+pub returns-clause-unopened : goal.returns-clause-unopened
+returns-clause-unopened g c = λ t none.
+    let p = c.install_set.ensures.performs in
+    ended_opened c.install_set.result p.stop (sym c.ended.ensures ∙ none)
+
+pub returns-clause-uninstalled : goal.returns-clause-uninstalled
+returns-clause-uninstalled g c = λ t refused set is s stands.
+    let old = c.args.port.now in
+    let mid = c.open.new.port in
+    let now = c.hear_all.new.p in
+    let size = g.P.Disk.size old in
+    let opens = c.in-Ok.ensures.opens t in
+    let text : c.deref.result.now ≡ g.P.Disk.input_left old =
+    c.deref.ensures.value ∙ c.in-Ok-hear_all.ensures.bytes t ∙ opens.left in
+    let found : c.in-Ok-read_set.set ≡ set =
+    same_set _ _ set c.in-Ok-read_set.set text c.in-Ok-read_set.ensures.exact is in
+    let seen : g.P.Disk.seen now ≡ g.P.Disk.seen mid = c.hear_all.ensures.seen t in
+    subst (λ (x : List SetImage). IsUninstalledOn s x c.install_set.new.cause) found
+    (subst (λ (m : Mounted). IsUninstalledOn m c.in-Ok-read_set.set c.install_set.new.cause)
+    (ap (mounted_on c.in-Ok.device) seen
+    ∙ device_opened c.in-Ok.device size (g.P.Disk.seen mid) (g.P.Disk.seen old) s
+    (c.in-Ok.ensures.represents t) opens.device stands)
+    (c.install_set.ensures.refused t
+    (ended_refused c.install_set.result (sym c.ended.ensures ∙ refused))))
+
+pub returns-clause-no_set : goal.returns-clause-no_set
+returns-clause-no_set g c = λ t bad.
+    let p = c.install_set.ensures.performs in
+    ended_read c.install_set.result p.stop (sym c.ended.ensures ∙ bad)

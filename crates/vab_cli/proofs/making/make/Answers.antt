@@ -11,6 +11,11 @@ use Rattle.vab_cli.specs.Verbs.{make_line, done_making}
 use Rattle.vab_cli.specs.Runs.{RunsRefused, RunsMaking}
 use Rattle.vab_cli.proofs.InputFaults.{heard_whole, same_set, unheard_whole}
 use Rattle.vab_cli.proofs.Makings.{refused_after, making_after}
+use Rattle.std.proofs.Common.{⊎_elim, Ok, refl}
+use Rattle.vab_set.specs.Reading.{set_of}
+use Rattle.vab_cli.specs.Causes.{too_long, malformed}
+use Rattle.vab_cli.proofs.Causing.{input_long, input_opened, input_unrefused, set_opened}
+use Rattle.vab_cli.proofs.Causing.{set_read, set_unrefused, unmade_after}
 use Rattle.vab_cli.proofs.making.make.Goals as goal
 
 pub returns-clause-made : goal.returns-clause-made
@@ -103,3 +108,38 @@ pub returns-clause-within : goal.returns-clause-within
 returns-clause-within g c = λ t.
     subst (λ (l : List Hearing). HearsWithin (g.P.Disk.heard c.args.port.now) l)
     (sym (c.make_of.ensures.heard t)) (c.hear_all.ensures.within t)
+
+pub returns-in-Err-clause-unmade : goal.returns-in-Err-clause-unmade
+returns-in-Err-clause-unmade g c = λ t none.
+    ⊎_elim
+    (λ none. input_opened c.in-Err.fault (sym c.from.ensures ∙ none))
+    (λ refused. input_unrefused c.in-Err.fault (sym c.from.ensures ∙ refused))
+    none
+
+pub returns-in-Err-clause-no_set : goal.returns-in-Err-clause-no_set
+returns-in-Err-clause-no_set g c = λ t bad.
+    too_long refl
+    (c.in-Err.ensures.long t (ap Err (input_long c.in-Err.fault (sym c.from.ensures ∙ bad))))
+
+pub returns-in-Err-read_set-clause-unmade : goal.returns-in-Err-read_set-clause-unmade
+returns-in-Err-read_set-clause-unmade g c = λ t none.
+    ⊎_elim
+    (λ none. set_opened c.in-Err-read_set.fault (sym c.from-in-Err-read_set.ensures ∙ none))
+    (λ refused. set_unrefused c.in-Err-read_set.fault (sym c.from-in-Err-read_set.ensures ∙ refused))
+    none
+
+pub returns-in-Err-read_set-clause-no_set : goal.returns-in-Err-read_set-clause-no_set
+returns-in-Err-read_set-clause-no_set g c = λ t bad.
+    malformed c.in-Err-read_set.fault refl
+    (set_read c.in-Err-read_set.fault _ _ (c.deref.ensures.value ∙ c.in-Ok.ensures.bytes t)
+    c.in-Err-read_set.ensures.exact (sym c.from-in-Err-read_set.ensures ∙ bad))
+
+pub returns-clause-unmade : goal.returns-clause-unmade
+returns-clause-unmade g c = λ t none.
+    (
+      c.in-Ok-read_set.set,
+      subst (λ (l : List ℕ). set_of l ≡ Ok c.in-Ok-read_set.set)
+          (c.deref.ensures.value ∙ c.in-Ok.ensures.bytes t) c.in-Ok-read_set.ensures.exact,
+      unmade_after g.P.Disk c.args.port.now c.hear_all.new.p c.in-Ok-read_set.set c.args.limit
+          c.args.max c.make_of.new.cause c.hear_all.ensures.size (c.make_of.ensures.unmade none),
+    )

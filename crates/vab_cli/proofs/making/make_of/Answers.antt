@@ -14,6 +14,8 @@ use Rattle.vab_cli.specs.MadeDisk.{HoldsMade}
 use Rattle.vab_cli.proofs.Makings.{not_of_disk, silent_early, memory_of_none, silent_memory}
 use Rattle.vab_cli.proofs.Makings.{loud_refusal, silent_line, enough_sectors, status_not_port}
 use Rattle.vab_cli.proofs.Makings.{refused_told, refused_unheard, making_told, making_untold}
+use Rattle.std.proofs.Common.{refl}
+use Rattle.vab_cli.proofs.Causing.{made_read, made_unmade, unmade_read, unmade_told}
 use Rattle.vab_cli.proofs.making.make_of.Goals as goal
 
 pub tell_made-requires-clause-size : goal.tell_made-requires-clause-size
@@ -126,3 +128,26 @@ returns-clause-changes g c = λ t.
     (changes_telling g.P.Disk _ _ c.make_device.new.d c.tell_fault.new.port
     c.tell_fault.ensures.size
     (λ t. tells.seen) (λ t. tells.crash) (λ t. tells.time))
+
+pub returns-in-Ok-clause-unmade : goal.returns-in-Ok-clause-unmade
+returns-in-Ok-clause-unmade g c = λ none. made_unmade c.tell_made.ensures.either none
+
+pub returns-in-Ok-clause-read : goal.returns-in-Ok-clause-read
+returns-in-Ok-clause-read g c = λ bad. made_read c.tell_made.ensures.either bad
+
+pub returns-then-is_silent-clause-unmade : goal.returns-then-is_silent-clause-unmade
+returns-then-is_silent-clause-unmade g c = λ none.
+    unmade_told g.P.Disk c.args.port.now c.args.set.now c.args.limit c.args.max c.in-Err.fault _
+    c.from.result c.in-Err.ensures.exact refl (inl c.from.ensures) none
+
+pub returns-then-is_silent-clause-read : goal.returns-then-is_silent-clause-read
+returns-then-is_silent-clause-read g c = λ bad.
+    unmade_read c.in-Err.fault (inl c.from.ensures) bad
+
+pub returns-clause-unmade : goal.returns-clause-unmade
+returns-clause-unmade g c = λ none.
+    unmade_told g.P.Disk c.args.port.now c.args.set.now c.args.limit c.args.max c.in-Err.fault _
+    c.tell_fault.result c.in-Err.ensures.exact refl c.tell_fault.ensures.either none
+
+pub returns-clause-read : goal.returns-clause-read
+returns-clause-read g c = λ bad. unmade_read c.in-Err.fault c.tell_fault.ensures.either bad

@@ -89,3 +89,13 @@ returns-in-Err-say_all-clause-changes g c = λ t.
     (changes_touches g.P.Disk _ _ _ (c.start.ensures.touches t))
     (changes_telling g.P.Disk _ c.args.line.now c.start.new.d c.say_all.new.p c.say_all.ensures.size
     c.say_all.ensures.seen c.say_all.ensures.crash c.say_all.ensures.time)
+
+pub returns-in-Ok-say_all-clause-unopened : goal.returns-in-Ok-say_all-clause-unopened
+returns-in-Ok-say_all-clause-unopened g c = λ t none.
+    let is : c.from-status.result ≡ NotADevice = search rules in
+    record {
+      fault = c.in-Err.fault;
+      is = refl;
+      holds = c.in-Err.ensures.fault t
+          (contents_of c.in-Err.fault (sym c.from-status.ensures ∙ is));
+    }

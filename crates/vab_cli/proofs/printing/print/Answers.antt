@@ -10,6 +10,10 @@ use Rattle.vab_cli.proofs.Lines.{verb_kind}
 use Rattle.vab_cli.proofs.Running.{opened_in, runs_done, runs_failed, does_sized}
 use Rattle.vab_cli.proofs.Running.{same_opened}
 use Rattle.vab_cli.proofs.Touching.{opening_changes, opened_changes, Behind}
+use Rattle.vab_cli.specs.Causes.{IsRefusedOn}
+use Rattle.vab_cli.specs.Verbs.{none_line}
+use Rattle.vab_cli.proofs.Causing.{device_opened, failed_opened, failed_unrefused}
+use Rattle.vab_cli.proofs.Causing.{opening_kind, unopened_unrefused}
 use Rattle.vab_cli.proofs.printing.print.Goals as goal
 
 pub returns-in-Ok-print_image-clause-runs : goal.returns-in-Ok-print_image-clause-runs
@@ -78,3 +82,26 @@ returns-clause-changes g c = λ t s stands boot there.
     boot c.args.port.now c.open.new.port c.print_image.new.port t (c.open.ensures.changes t)
     (λ is. changes_wider g.P.Disk _ _ c.open.new.port c.print_image.new.port
     (c.print_image.ensures.changes t) (λ n x w. absurd w)) there
+
+pub returns-in-Err-clause-refused : goal.returns-in-Err-clause-refused
+returns-in-Err-clause-refused g c = λ t refused.
+    unopened_unrefused
+    (opening_kind g.P.Disk none_line c.args.port.now c.open.new.port c.in-Err.status
+    (c.in-Err.ensures.early t) (c.in-Err.ensures.none t))
+    refused
+
+pub returns-in-Ok-print_image-clause-refused : goal.returns-in-Ok-print_image-clause-refused
+returns-in-Ok-print_image-clause-refused g c = λ t refused s stands.
+    let opens = c.in-Ok.ensures.opens t in
+    subst
+    (λ (m : Mounted). IsRefusedOn m (Print c.args.name.now) c.print_image.new.cause)
+    (device_opened c.in-Ok.device (g.P.Disk.size c.args.port.now) (g.P.Disk.seen c.open.new.port)
+    (g.P.Disk.seen c.args.port.now) s (c.in-Ok.ensures.represents t) opens.device stands)
+    (c.in-Ok-print_image.ensures.refused refused (g.P.Disk.seen c.open.new.port))
+
+pub returns-clause-unopened : goal.returns-clause-unopened
+returns-clause-unopened g c = λ t none. failed_opened c.in-Err-print_image.ensures.failed none
+
+pub returns-clause-refused : goal.returns-clause-refused
+returns-clause-refused g c = λ t refused.
+    failed_unrefused c.in-Err-print_image.ensures.failed refused

@@ -10,6 +10,15 @@ use Rattle.vab_cli.specs.Telling.{DoesItem}
 use Rattle.vab_cli.specs.Verbs.{refused_line, line_item}
 use Rattle.vab_cli.proofs.Blocks.{image_told, image_done, refusal_told, refusal_done}
 use Rattle.vab_cli.proofs.Items.{mounted_is, does_line, print_item}
+use Rattle.std.proofs.Common.{Some, refl}
+use Rattle.vab_disk.specs.Disk.{Image}
+use Rattle.vab_device.specs.Mounted.{mounted_on}
+use Rattle.vab_model.specs.Commands.{Print}
+use Rattle.vab_causes.specs.declared.cause.Cause.TheVariants as causes
+use Rattle.vab_cli.specs.declared.status.Status.TheVariants.{Refused}
+use Rattle.vab_cli.specs.Causes.{IsRefusedOn}
+use Rattle.vab_cli.proofs.Blocks.{refusal_noted}
+use Rattle.vab_cli.proofs.Causing.{if_ok_by}
 use Rattle.vab_cli.proofs.printing.print_image.Goals as goal
 
 pub returns-in-Ok-tell_blocks-clause-does : goal.returns-in-Ok-tell_blocks-clause-does
@@ -146,3 +155,14 @@ returns-in-Err-clause-changes g c = λ t.
     let says = c.refuse.ensures.says t in
     changes_telling g.P.Disk _ (refused_line c.in-Err.refusal) c.args.port.now c.refuse.new.port
     c.refuse.ensures.size (λ t. says.seen) (λ t. says.crash) (λ t. says.time)
+
+pub returns-in-Err-clause-refused : goal.returns-in-Err-clause-refused
+returns-in-Err-clause-refused g c =
+    if_ok_by c.refuse.result
+    (λ status. status ≡ Refused
+    → (image : Image)
+    → IsRefusedOn (mounted_on c.args.device.now image) (Print c.args.name.now)
+    (Some (causes.Refused c.in-Err.refusal)))
+    (λ status is image.
+    refusal_noted c.args.device.now image c.args.name.now c.in-Err.refusal _
+    (c.in-Err.ensures.refused image) refl)

@@ -1,15 +1,16 @@
-use Rattle.std.proofs.Common.{◌≡◌, ℕ, inr, ap, refl, subst, true, false, rules}
+use Rattle.std.proofs.Common.{◌≡◌, ℕ, inr, ap, refl, subst, sym, true, false, rules}
 use Rattle.vab_model.specs.Commands.{SetActive, Boot, Mark, Print, Digest, Cancel, BeginMerge}
 use Rattle.vab_model.specs.Commands.{Merge}
-use Rattle.vab_words.specs.Verbs.{Serve, meaning_of}
+use Rattle.vab_words.specs.Verbs.{Meaning, Serve, meaning_of}
 use Rattle.vab_words.specs.Verbs as words
+use Rattle.vab_cli.specs.Causes.{Explains}
 use Rattle.vab_cli.specs.Demo.{DemonstratesOf}
 use Rattle.vab_cli.specs.Verbs.{command_of}
 use Rattle.vab_cli.proofs.Programs.{command_verb, serve_verb, fresh_verb, other_verb}
 use Rattle.vab_cli.proofs.program.do_verb.Goals as goal
 
-pub returns-in-Serve-true : goal.returns-in-Serve-true
-returns-in-Serve-true g c =
+pub returns-in-Serve-true-clause-does : goal.returns-in-Serve-true-clause-does
+returns-in-Serve-true-clause-does g c =
     let is : meaning_of c.args.verb ≡ Serve true = search rules in
     fresh_verb g.P.Disk (meaning_of c.args.verb) c.args.port.now c.make_and_serve.new.port
     c.make_and_serve.result c.make_and_serve.ensures.words c.make_and_serve.ensures.steady
@@ -18,8 +19,8 @@ returns-in-Serve-true g c =
     c.make_and_serve.ensures.too_small c.make_and_serve.ensures.changes
     c.make_and_serve.ensures.unmerged
 
-pub returns-in-Serve-false : goal.returns-in-Serve-false
-returns-in-Serve-false g c =
+pub returns-in-Serve-false-clause-does : goal.returns-in-Serve-false-clause-does
+returns-in-Serve-false-clause-does g c =
     let is : meaning_of c.args.verb ≡ Serve false = search rules in
     serve_verb g.P.Disk (meaning_of c.args.verb) c.args.port.now c.open_and_serve.new.port
     c.open_and_serve.result c.open_and_serve.ensures.words c.open_and_serve.ensures.steady
@@ -27,8 +28,8 @@ returns-in-Serve-false g c =
     is c.open_and_serve.ensures.runs c.open_and_serve.ensures.none
     c.open_and_serve.ensures.changes c.open_and_serve.ensures.unmerged
 
-pub returns-in-Boot : goal.returns-in-Boot
-returns-in-Boot g c =
+pub returns-in-Boot-clause-does : goal.returns-in-Boot-clause-does
+returns-in-Boot-clause-does g c =
     let is : meaning_of c.args.verb ≡ words.Boot = search rules in
     command_verb g.P.Disk (meaning_of c.args.verb) c.args.port.now c.carry_out.new.port
     c.carry_out.result c.carry_out.ensures.words c.carry_out.ensures.steady c.carry_out.ensures.disk
@@ -36,8 +37,8 @@ returns-in-Boot g c =
     c.carry_out.ensures.runs c.carry_out.ensures.none c.carry_out.ensures.changes
     c.carry_out.ensures.quiet
 
-pub returns-in-Mark : goal.returns-in-Mark
-returns-in-Mark g c =
+pub returns-in-Mark-clause-does : goal.returns-in-Mark-clause-does
+returns-in-Mark-clause-does g c =
     let is : meaning_of c.args.verb ≡ words.Mark = search rules in
     command_verb g.P.Disk (meaning_of c.args.verb) c.args.port.now c.carry_out-in-Mark.new.port
     c.carry_out-in-Mark.result c.carry_out-in-Mark.ensures.words c.carry_out-in-Mark.ensures.steady
@@ -47,8 +48,8 @@ returns-in-Mark g c =
     c.carry_out-in-Mark.ensures.changes
     c.carry_out-in-Mark.ensures.quiet
 
-pub returns-in-BeginMerge : goal.returns-in-BeginMerge
-returns-in-BeginMerge g c =
+pub returns-in-BeginMerge-clause-does : goal.returns-in-BeginMerge-clause-does
+returns-in-BeginMerge-clause-does g c =
     let is : meaning_of c.args.verb ≡ words.BeginMerge = search rules in
     let done = c.carry_out-in-BeginMerge.ensures in
     command_verb g.P.Disk (meaning_of c.args.verb) c.args.port.now
@@ -57,8 +58,8 @@ returns-in-BeginMerge g c =
     (λ port. inr (done.port port)) BeginMerge (ap command_of is)
     done.runs done.none done.changes done.quiet
 
-pub returns-in-Merge : goal.returns-in-Merge
-returns-in-Merge g c =
+pub returns-in-Merge-clause-does : goal.returns-in-Merge-clause-does
+returns-in-Merge-clause-does g c =
     let is : meaning_of c.args.verb ≡ words.Merge c.in-Merge.turns = search rules in
     let done = c.carry_out-in-Merge.ensures in
     command_verb g.P.Disk (meaning_of c.args.verb) c.args.port.now c.carry_out-in-Merge.new.port
@@ -66,8 +67,8 @@ returns-in-Merge g c =
     (λ port. inr (done.port port)) (Merge c.in-Merge.turns) (ap command_of is)
     done.runs done.none done.changes done.quiet
 
-pub returns-in-Cancel : goal.returns-in-Cancel
-returns-in-Cancel g c =
+pub returns-in-Cancel-clause-does : goal.returns-in-Cancel-clause-does
+returns-in-Cancel-clause-does g c =
     let is : meaning_of c.args.verb ≡ words.Cancel = search rules in
     command_verb g.P.Disk (meaning_of c.args.verb) c.args.port.now c.carry_out-in-Cancel.new.port
     c.carry_out-in-Cancel.result c.carry_out-in-Cancel.ensures.words
@@ -77,8 +78,8 @@ returns-in-Cancel g c =
     c.carry_out-in-Cancel.ensures.changes
     c.carry_out-in-Cancel.ensures.quiet
 
-pub returns-in-Activate : goal.returns-in-Activate
-returns-in-Activate g c =
+pub returns-in-Activate-clause-does : goal.returns-in-Activate-clause-does
+returns-in-Activate-clause-does g c =
     let is : meaning_of c.args.verb ≡ words.Activate c.in-Activate.slot = search rules in
     command_verb g.P.Disk (meaning_of c.args.verb) c.args.port.now c.carry_out-in-Activate.new.port
     c.carry_out-in-Activate.result c.carry_out-in-Activate.ensures.words
@@ -89,8 +90,8 @@ returns-in-Activate g c =
     c.carry_out-in-Activate.ensures.changes
     c.carry_out-in-Activate.ensures.quiet
 
-pub returns-in-Print : goal.returns-in-Print
-returns-in-Print g c =
+pub returns-in-Print-clause-does : goal.returns-in-Print-clause-does
+returns-in-Print-clause-does g c =
     let is : meaning_of c.args.verb ≡ words.Print c.as_bytes.result.now = search rules in
     command_verb g.P.Disk (meaning_of c.args.verb) c.args.port.now c.print.new.port
     c.print.result c.print.ensures.words c.print.ensures.steady c.print.ensures.disk
@@ -98,8 +99,8 @@ returns-in-Print g c =
     c.print.ensures.runs c.print.ensures.none c.print.ensures.changes
     c.print.ensures.quiet
 
-pub returns-in-Digest : goal.returns-in-Digest
-returns-in-Digest g c =
+pub returns-in-Digest-clause-does : goal.returns-in-Digest-clause-does
+returns-in-Digest-clause-does g c =
     let is : meaning_of c.args.verb ≡ words.Digest c.as_bytes-in-Digest.result.now = search rules in
     command_verb g.P.Disk (meaning_of c.args.verb) c.args.port.now c.carry_out-in-Digest.new.port
     c.carry_out-in-Digest.result c.carry_out-in-Digest.ensures.words
@@ -110,16 +111,16 @@ returns-in-Digest g c =
     c.carry_out-in-Digest.ensures.changes
     c.carry_out-in-Digest.ensures.quiet
 
-pub returns-in-Install : goal.returns-in-Install
-returns-in-Install g c =
+pub returns-in-Install-clause-does : goal.returns-in-Install-clause-does
+returns-in-Install-clause-does g c =
     let is : meaning_of c.args.verb ≡ words.Install = search rules in
     other_verb g.P.Disk (meaning_of c.args.verb) c.args.port.now c.install.new.port
     c.install.result c.install.ensures.words c.install.ensures.steady c.install.ensures.disk
     c.install.ensures.port words.Install is refl (λ fresh other. cc) (λ limit max other. cc)
     (λ same. c.install.ensures.runs) (λ other. cc) (λ seed scale other. cc)
 
-pub returns-in-Status : goal.returns-in-Status
-returns-in-Status g c =
+pub returns-in-Status-clause-does : goal.returns-in-Status-clause-does
+returns-in-Status-clause-does g c =
     let is : meaning_of c.args.verb ≡ words.Status = search rules in
     other_verb g.P.Disk (meaning_of c.args.verb) c.args.port.now c.tell_page.new.port
     c.tell_page.result c.tell_page.ensures.words c.tell_page.ensures.steady
@@ -127,8 +128,8 @@ returns-in-Status g c =
     words.Status is refl (λ fresh other. cc) (λ limit max other. cc)
     (λ other. cc) (λ same. c.tell_page.ensures.tells) (λ seed scale other. cc)
 
-pub returns-in-Demo : goal.returns-in-Demo
-returns-in-Demo g c =
+pub returns-in-Demo-clause-does : goal.returns-in-Demo-clause-does
+returns-in-Demo-clause-does g c =
     let is : meaning_of c.args.verb ≡ words.Demo c.in-Demo.seed c.in-Demo.scale = search rules in
     other_verb g.P.Disk (meaning_of c.args.verb) c.args.port.now c.demo.new.port
     c.demo.result c.demo.ensures.words c.demo.ensures.steady
@@ -144,3 +145,129 @@ returns-in-Demo g c =
     (λ (n : ℕ).
     DemonstratesOf g.P.Disk n c.in-Demo.scale c.args.port.now c.demo.new.port c.demo.result) one
     c.demo.ensures.does))
+
+pub returns-in-Boot-clause-explains : goal.returns-in-Boot-clause-explains
+returns-in-Boot-clause-explains g c = λ t.
+    let is : meaning_of c.args.verb ≡ words.Boot = search rules in
+    subst
+    (λ (m : Meaning).
+    Explains g.P.Disk c.args.port.now m c.carry_out.result c.carry_out.new.cause)
+    (sym is)
+    (c.carry_out.ensures.unopened t, c.carry_out.ensures.refused t)
+
+pub returns-in-Mark-clause-explains : goal.returns-in-Mark-clause-explains
+returns-in-Mark-clause-explains g c = λ t.
+    let is : meaning_of c.args.verb ≡ words.Mark = search rules in
+    subst
+    (λ (m : Meaning).
+    Explains g.P.Disk c.args.port.now m c.carry_out-in-Mark.result c.carry_out-in-Mark.new.cause)
+    (sym is)
+    (c.carry_out-in-Mark.ensures.unopened t, c.carry_out-in-Mark.ensures.refused t)
+
+pub returns-in-BeginMerge-clause-explains : goal.returns-in-BeginMerge-clause-explains
+returns-in-BeginMerge-clause-explains g c = λ t.
+    let is : meaning_of c.args.verb ≡ words.BeginMerge = search rules in
+    subst
+    (λ (m : Meaning).
+    Explains g.P.Disk c.args.port.now m c.carry_out-in-BeginMerge.result c.carry_out-in-BeginMerge.new.cause)
+    (sym is)
+    (c.carry_out-in-BeginMerge.ensures.unopened t, c.carry_out-in-BeginMerge.ensures.refused t)
+
+pub returns-in-Merge-clause-explains : goal.returns-in-Merge-clause-explains
+returns-in-Merge-clause-explains g c = λ t.
+    let is : meaning_of c.args.verb ≡ words.Merge c.in-Merge.turns = search rules in
+    subst
+    (λ (m : Meaning).
+    Explains g.P.Disk c.args.port.now m c.carry_out-in-Merge.result c.carry_out-in-Merge.new.cause)
+    (sym is)
+    (c.carry_out-in-Merge.ensures.unopened t, c.carry_out-in-Merge.ensures.refused t)
+
+pub returns-in-Cancel-clause-explains : goal.returns-in-Cancel-clause-explains
+returns-in-Cancel-clause-explains g c = λ t.
+    let is : meaning_of c.args.verb ≡ words.Cancel = search rules in
+    subst
+    (λ (m : Meaning).
+    Explains g.P.Disk c.args.port.now m c.carry_out-in-Cancel.result c.carry_out-in-Cancel.new.cause)
+    (sym is)
+    (c.carry_out-in-Cancel.ensures.unopened t, c.carry_out-in-Cancel.ensures.refused t)
+
+pub returns-in-Activate-clause-explains : goal.returns-in-Activate-clause-explains
+returns-in-Activate-clause-explains g c = λ t.
+    let is : meaning_of c.args.verb ≡ words.Activate c.in-Activate.slot = search rules in
+    subst
+    (λ (m : Meaning).
+    Explains g.P.Disk c.args.port.now m c.carry_out-in-Activate.result c.carry_out-in-Activate.new.cause)
+    (sym is)
+    (c.carry_out-in-Activate.ensures.unopened t, c.carry_out-in-Activate.ensures.refused t)
+
+pub returns-in-Print-clause-explains : goal.returns-in-Print-clause-explains
+returns-in-Print-clause-explains g c = λ t.
+    let is : meaning_of c.args.verb ≡ words.Print c.as_bytes.result.now = search rules in
+    subst
+    (λ (m : Meaning).
+    Explains g.P.Disk c.args.port.now m c.print.result c.print.new.cause)
+    (sym is)
+    (c.print.ensures.unopened t, c.print.ensures.refused t)
+
+pub returns-in-Digest-clause-explains : goal.returns-in-Digest-clause-explains
+returns-in-Digest-clause-explains g c = λ t.
+    let is : meaning_of c.args.verb ≡ words.Digest c.as_bytes-in-Digest.result.now = search rules in
+    subst
+    (λ (m : Meaning).
+    Explains g.P.Disk c.args.port.now m c.carry_out-in-Digest.result c.carry_out-in-Digest.new.cause)
+    (sym is)
+    (c.carry_out-in-Digest.ensures.unopened t, c.carry_out-in-Digest.ensures.refused t)
+
+pub returns-in-Make-clause-explains : goal.returns-in-Make-clause-explains
+returns-in-Make-clause-explains g c = λ t.
+    let is : meaning_of c.args.verb ≡ words.Make c.in-Make.limit c.in-Make.metadata_max = search rules in
+    subst
+    (λ (m : Meaning).
+    Explains g.P.Disk c.args.port.now m c.make.result c.make.new.cause)
+    (sym is)
+    (c.make.ensures.unmade t, c.make.ensures.no_set t)
+
+pub returns-in-Serve-true-clause-explains : goal.returns-in-Serve-true-clause-explains
+returns-in-Serve-true-clause-explains g c = λ t.
+    let is : meaning_of c.args.verb ≡ Serve true = search rules in
+    subst
+    (λ (m : Meaning).
+    Explains g.P.Disk c.args.port.now m c.make_and_serve.result c.make_and_serve.new.cause)
+    (sym is)
+    (c.make_and_serve.ensures.unmade t, c.make_and_serve.ensures.broken_off t)
+
+pub returns-in-Serve-false-clause-explains : goal.returns-in-Serve-false-clause-explains
+returns-in-Serve-false-clause-explains g c = λ t.
+    let is : meaning_of c.args.verb ≡ Serve false = search rules in
+    subst
+    (λ (m : Meaning).
+    Explains g.P.Disk c.args.port.now m c.open_and_serve.result c.open_and_serve.new.cause)
+    (sym is)
+    (c.open_and_serve.ensures.unopened t, c.open_and_serve.ensures.broken_off t)
+
+pub returns-in-Install-clause-explains : goal.returns-in-Install-clause-explains
+returns-in-Install-clause-explains g c = λ t.
+    let is : meaning_of c.args.verb ≡ words.Install = search rules in
+    subst
+    (λ (m : Meaning).
+    Explains g.P.Disk c.args.port.now m c.install.result c.install.new.cause)
+    (sym is)
+    (c.install.ensures.unopened t, c.install.ensures.uninstalled t, c.install.ensures.no_set t)
+
+pub returns-in-Status-clause-explains : goal.returns-in-Status-clause-explains
+returns-in-Status-clause-explains g c = λ t.
+    let is : meaning_of c.args.verb ≡ words.Status = search rules in
+    subst
+    (λ (m : Meaning).
+    Explains g.P.Disk c.args.port.now m c.tell_page.result c.tell_page.new.cause)
+    (sym is)
+    (c.tell_page.ensures.unopened t)
+
+pub returns-in-Demo-clause-explains : goal.returns-in-Demo-clause-explains
+returns-in-Demo-clause-explains g c = λ t.
+    let is : meaning_of c.args.verb ≡ words.Demo c.in-Demo.seed c.in-Demo.scale = search rules in
+    subst
+    (λ (m : Meaning).
+    Explains g.P.Disk c.args.port.now m c.demo.result c.demo.new.cause)
+    (sym is)
+    (c.demo.ensures.unmade t)

@@ -30,6 +30,10 @@ use Rattle.vab_session.specs.Merges.{MergesNothing}
 use Rattle.vab_cli.specs.Touched.{IsOfFresh}
 use Rattle.vab_cli.proofs.Touching.{served_changes}
 use Rattle.vab_cli.proofs.FreshTouching.{made_opened, making_fresh, made_served}
+use Rattle.vab_causes.specs.declared.cause.Cause.TheVariants as causes
+use Rattle.vab_cli.specs.Causes.{IsUnmade}
+use Rattle.vab_cli.proofs.Causing.{make_read, session_broken, session_opened, start_read}
+use Rattle.vab_cli.proofs.Causing.{unmade_told}
 use Rattle.vab_cli.proofs.serving.make_and_serve.Goals as goal
 
 pub returns-in-Err-clause-runs : goal.returns-in-Err-clause-runs
@@ -299,3 +303,44 @@ returns-clause-unmerged g c = λ t none.
     (λ (n : ℕ). Represents c.in-Ok-start.device n (g.P.Disk.seen c.start.new.d)) sized
     (c.in-Ok-start.ensures.represents t))
     (by.plain (subst (MergesNothing (2 ^ 44)) (sym left) none))
+
+pub returns-in-Err-clause-unmade : goal.returns-in-Err-clause-unmade
+returns-in-Err-clause-unmade g c = λ t none.
+    let set : c.from_vec-set.result ≡ [] = search rules in
+    subst
+    (λ (x : List SetImage).
+    IsUnmade g.P.Disk c.args.port.now x 0 65536 (Some (causes.Making c.in-Err.fault)))
+    set
+    (unmade_told g.P.Disk c.args.port.now c.from_vec-set.result 0 65536 c.in-Err.fault _
+    c.from.result c.in-Err.ensures.exact refl (inl c.from.ensures) (inl none))
+
+pub returns-in-Err-clause-broken_off : goal.returns-in-Err-clause-broken_off
+returns-in-Err-clause-broken_off g c = λ t bad.
+    make_read c.in-Err.fault (sym c.from.ensures ∙ bad)
+
+pub returns-in-Err-start-clause-unmade : goal.returns-in-Err-start-clause-unmade
+returns-in-Err-start-clause-unmade g c = λ t none.
+    let mid = c.make_device.new.d in
+    let size = g.P.Disk.size c.args.port.now in
+    let sized : g.P.Disk.size mid ≡ size = c.make_device.ensures.touches.quiet.size in
+    is_one size (made_device_of c.from_vec-set.result 0 65536 size) (g.P.Disk.seen mid)
+    c.in-Err-start.fault (c.in-Ok.ensures.made t)
+    (subst (λ (n : ℕ). device n (g.P.Disk.seen mid) ≡ Err c.in-Err-start.fault) sized
+    (c.in-Err-start.ensures.fault t
+    (contents_of c.in-Err-start.fault (sym c.from-in-Err-start.ensures ∙ none))))
+
+pub returns-in-Err-start-clause-broken_off : goal.returns-in-Err-start-clause-broken_off
+returns-in-Err-start-clause-broken_off g c = λ t bad.
+    start_read c.in-Err-start.fault (sym c.from-in-Err-start.ensures ∙ bad)
+
+pub returns-clause-unmade : goal.returns-clause-unmade
+returns-clause-unmade g c = λ t none.
+    session_opened c.serve-answer.result (sym c.session_status.ensures ∙ none)
+
+pub returns-clause-broken_off : goal.returns-clause-broken_off
+returns-clause-broken_off g c = λ t bad.
+    session_broken g.P.Disk (g.P.Disk.size c.start.new.d) c.in-Ok-start.device c.args.port.now
+    c.start.new.d c.serve-answer.new.p c.serve-answer.result c.session_cause.result
+    (c.start.ensures.quiet.left t ∙ c.make_device.ensures.touches.quiet.left t)
+    (c.serve-answer.ensures.serves t) c.session_cause.ensures
+    (sym c.session_status.ensures ∙ bad)

@@ -8,6 +8,8 @@ use Rattle.vab_cli.specs.Runs.{RunsSession}
 use Rattle.vab_cli.proofs.Sessions.{opened_runs}
 use Rattle.vab_cli.specs.Touched.{IsOfServing}
 use Rattle.vab_cli.proofs.Touching.{served_changes}
+use Rattle.std.proofs.Common.{◌∙◌, []}
+use Rattle.vab_cli.proofs.Causing.{opening_kind, session_broken, session_opened, unopened_read}
 use Rattle.vab_cli.proofs.serving.open_and_serve.Goals as goal
 
 pub returns-clause-runs : goal.returns-clause-runs
@@ -53,3 +55,22 @@ returns-clause-unmerged g c = λ t s stands none.
     c.args.port.now c.open.new.port c.serve-answer.new.p t (c.in-Ok.ensures.represents t)
     (c.open.ensures.changes t)
     (by.plain (subst (MergesNothing (2 ^ 44)) (sym opens.left) none))
+
+pub returns-in-Err-clause-broken_off : goal.returns-in-Err-clause-broken_off
+returns-in-Err-clause-broken_off g c = λ t bad.
+    unopened_read
+    (opening_kind g.P.Disk [] c.args.port.now c.open.new.port c.in-Err.status
+    (c.in-Err.ensures.early t) (c.in-Err.ensures.none t))
+    bad
+
+pub returns-clause-unopened : goal.returns-clause-unopened
+returns-clause-unopened g c = λ t none.
+    session_opened c.serve-answer.result (sym c.session_status.ensures ∙ none)
+
+pub returns-clause-broken_off : goal.returns-clause-broken_off
+returns-clause-broken_off g c = λ t bad.
+    let opens = c.in-Ok.ensures.opens t in
+    session_broken g.P.Disk (g.P.Disk.size c.open.new.port) c.in-Ok.device c.args.port.now
+    c.open.new.port c.serve-answer.new.p c.serve-answer.result c.session_cause.result opens.left
+    (c.serve-answer.ensures.serves t) c.session_cause.ensures
+    (sym c.session_status.ensures ∙ bad)

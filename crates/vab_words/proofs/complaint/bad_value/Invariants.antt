@@ -1,4 +1,3 @@
-use Rattle.std.specs.Prelude.{Unit}
 use Rattle.vab_words.proofs.complaint.bad_value.Given as goal
 
 abbrev pub invariant-loop-index : goal.invariant-loop-index
