@@ -29,8 +29,10 @@ fn explain_geometry(rt: &HostRuntime, device: &str, port: &mut FilePort<Stdin, S
     }
     let _ = match load_geometry(port) {
         Err(LoadFault::BothBad(primary, backup)) => eprintln!(rt;
-            "vab: {device}: no device: neither copy of the geometry passes (primary: {}; backup: {})",
+            "vab: {device}: no device: neither copy of the geometry passes ({}: {}; {}: {})",
+            "primary",
             geometry_text(primary),
+            "backup",
             geometry_text(backup)
         ),
         Ok(_) => eprintln!(rt;

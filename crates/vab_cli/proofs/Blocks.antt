@@ -11,10 +11,10 @@ use Rattle.vab_model.specs.declared.state.State.{State}
 use Rattle.vab_model.specs.Commands.{Print}
 use Rattle.vab_model.specs.declared.command.Reply.{Reply}
 use Rattle.vab_model.specs.Effects.{Effect, Found, Image_is, Refused_by, found_of, print_effect}
-use Rattle.vab_model.specs.Effects.{effect, effect_map}
+use Rattle.vab_model.specs.Effects.{effect}
 use Rattle.vab_device.specs.declared.device.Device.{Device}
 use Rattle.vab_device.specs.declared.device.Part.{Part}
-use Rattle.vab_device.specs.Mounted.{Mounted, bytes_at, in_state, mounted_on, state_on}
+use Rattle.vab_device.specs.Mounted.{Mounted, bytes_at, mounted_on, state_on}
 use Rattle.vab_manager.specs.Blocks.{KeepsPart}
 use Rattle.vab_manager.proofs.BlockLaws.{kept_once}
 use Rattle.vab_manager.proofs.DigestLaws.{bytes_append, bytes_more}
@@ -121,7 +121,8 @@ refusal_done state s name f same found =
     sym (ap (λ (x : Found). reply_status (printed name x)) found)
     ∙ ap (λ (x : State). reply_status (printed name (found_of x name))) same
 
-pub refusal_noted : (d : Device) (image : Image) (name : List ℕ) (f : Refusal) (cause : Option Cause)
+pub refusal_noted : (d : Device) (image : Image) (name : List ℕ) (f : Refusal)
+    (cause : Option Cause)
     → found_of (state_on d image) name ≡ Refused_by f
     → cause ≡ Some (causes.Refused f)
     → IsRefusedOn (mounted_on d image) (Print name) cause
@@ -129,6 +130,5 @@ unfolding effect
 refusal_noted d image name f cause found is = record {
   refusal = f;
   is = is;
-  holds = ap (λ (x : Found). (effect_map (in_state (mounted_on d image)) (print_effect name x)).reply)
-      found;
+  holds = ap (printed name) found;
 }

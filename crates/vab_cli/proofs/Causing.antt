@@ -123,7 +123,8 @@ ended_refused (Ok d) is = cc
 ended_refused (Err status) is = is
 
 -- a command that is closed by a refusal
-pub closed_refused : (d : Device) (r : Reply) (before after : Option Cause) (m : Mounted) (c : Command)
+pub closed_refused : (d : Device) (r : Reply) (before after : Option Cause) (m : Mounted)
+    (c : Command)
     → after ≡ noted r before
     → (effect_on m None c).reply ≡ r
     → IsErrOf (closed_by d r) Refused
@@ -335,7 +336,8 @@ pub session_broken : {D : Type 0} (g : Ghosts D) (size : ℕ) (d : Device) (old 
     → session_status answer ≡ Malformed
     → IsBrokenOff g old cause
 session_broken g size d old mid new answer cause left serves is bad =
-    broken_off g old answer cause serves.refused serves.exchanges serves.unfinished serves.end is bad
+    broken_off g old answer cause serves.refused serves.exchanges serves.unfinished serves.end is
+    bad
     (subst
     (λ (l : List ℕ).
     IsSession (2 ^ 44) serves.refused l serves.exchanges serves.unfinished serves.end)

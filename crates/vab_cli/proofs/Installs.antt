@@ -147,6 +147,9 @@ module _ {D : Type 0} (g : Ghosts D) (t : g.is_modelled) (size : ℕ) (d : Devic
         (refused_is (length set) (left_of (after_of s e).state.phase) e.reply refusal
         (refused.stop t other).reply)
 
+    pub refused_reply : e.reply ≡ replies.Refused refusal
+    refused_reply = (refused.stop t other).reply
+
     pub refused_status : reply_status (replies.Refused refusal) ≡ install_status s set
     refused_status = ap reply_status (sym (refused.stop t other).reply)
 

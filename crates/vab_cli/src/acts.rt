@@ -8,12 +8,13 @@ ghost use Rattle.vab_device.specs.Kept.{IsDevice};
 ghost use Rattle.vab_device.specs.Mounted.{Mounted, mounted_on};
 ghost use Rattle.vab_device.specs.Reading.{IsIn, Represents};
 ghost use Rattle.vab_cli.specs.Acts.{PerformsActs, closed_by, command_act, status_in};
-ghost use Rattle.vab_cli.specs.Causes.{noted, IsRefusedOn};
+ghost use Rattle.vab_cli.specs.Causes.{IsRefusedOn};
 ghost use Rattle.vab_cli.specs.Touched.{IsOfDone};
 ghost use Rattle.vab_model.specs.Kinds.{IsVerb};
 
 use crate::Status;
 use crate::line::{put_front, reply_line};
+use crate::noting::note_reply;
 use crate::telling::say_line;
 use arrayvec::ArrayVec;
 use std::alloc::Global;
@@ -36,21 +37,6 @@ fn closed(device: Device, reply: &Reply) -> Result<Device, Status>
         | Reply::Digest(_)
         | Reply::Left(_)
         | Reply::Merged => Ok(device),
-    }
-}
-
-// Notes why a command was refused.
-fn note_refusal(reply: &Reply, cause: &mut Option<Cause>)
-    ensures { cause.new ≡ noted reply.now cause.old }
-{
-    match reply {
-        Reply::Refused(refusal) => *cause = Some(Cause::Refused(*refusal)),
-        Reply::Done
-        | Reply::Booted(_)
-        | Reply::Bytes(_)
-        | Reply::Digest(_)
-        | Reply::Left(_)
-        | Reply::Merged => {}
     }
 }
 
@@ -105,7 +91,7 @@ pub(crate) fn perform<P: Port>(
     let mut line = ArrayVec::new();
     put_front(front, &reply, &mut line);
     reply_line(command, current, blocks, &reply, &mut line);
-    note_refusal(&reply, cause);
+    note_reply(&reply, cause);
     match say_line(port, line.as_slice()) {
         Ok(()) => closed(device, &reply),
         Err(status) => Err(status),

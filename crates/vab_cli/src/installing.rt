@@ -15,6 +15,7 @@ use crate::Status;
 use crate::acts::ended;
 use crate::line::{NOT_A_DEVICE, installed_line, refused_line};
 use crate::making::MAX_SET;
+use crate::noting::note_installing;
 use crate::opening::open;
 use crate::telling::say_line;
 use arrayvec::ArrayVec;
@@ -68,7 +69,7 @@ pub(crate) fn install_set<P: Port>(
     if refusal == Refusal::NoMemory {
         return Err(Status::NoMemory);
     }
-    *cause = Some(Cause::Installing(at, refusal));
+    note_installing(&at, &refusal, cause);
     refused_line(refusal, &mut line);
     match say_line(port, line.as_slice()) {
         Ok(()) => Err(Status::Refused),

@@ -9,6 +9,7 @@ mod ending;
 mod installing;
 mod line;
 mod making;
+mod noting;
 mod opening;
 mod paging;
 mod printing;

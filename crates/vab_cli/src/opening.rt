@@ -13,6 +13,7 @@ ghost use Rattle.vab_cli.specs.Opening.{Opens};
 ghost use Rattle.vab_cli.specs.Runs.{FailsBefore, RunsNone};
 
 use crate::Status;
+use crate::noting::note_opening;
 use std::alloc::Global;
 use vab_causes::Cause;
 use vab_device::Device;
@@ -66,7 +67,7 @@ pub(crate) fn open<P: Port>(
     let status = match start(alloc, port) {
         Ok(device) => return Ok(device),
         Err(fault) => {
-            *cause = Some(Cause::Opening(fault));
+            note_opening(&fault, cause);
             Status::from(fault)
         }
     };

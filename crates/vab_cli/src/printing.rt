@@ -23,6 +23,7 @@ ghost use Rattle.vab_cli.specs.Runs.{RunsItem, FailsBefore, RunsNone, IsFailed};
 
 use crate::Status;
 use crate::line::{NOT_A_DEVICE, refused_line};
+use crate::noting::note_refusal;
 use crate::opening::open;
 use arrayvec::ArrayVec;
 use std::alloc::Global;
@@ -214,7 +215,7 @@ fn print_image<P: Port>(
             Err(status) => Err(status),
         },
         Err(refusal) => {
-            *cause = Some(Cause::Refused(refusal));
+            note_refusal(&refusal, cause);
             refuse(port, refusal)
         }
     }

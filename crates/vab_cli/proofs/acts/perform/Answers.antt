@@ -114,7 +114,7 @@ returns-in-Ok-say_line-clause-refused g c = λ t refused.
     let m : Mounted = mounted_on c.args.device (g.P.Disk.seen c.args.port.now) in
     let command : Command = command_of c.args.command.now in
     let reply : Reply = c.in-Ok.done.1 in
-    closed_refused c.in-Ok.done.0 reply c.args.cause.now c.note_refusal.new.cause m command
-    c.note_refusal.ensures
+    closed_refused c.in-Ok.done.0 reply c.args.cause.now c.note_reply.new.cause m command
+    c.note_reply.ensures
     (sym (c.in-Ok.ensures.reply t ∙ replied c.in-Ok.ensures.refused command m c.requires.verb))
     (subst (λ (r : Result Device Status). IsErrOf r Refused) c.closed.ensures refused)

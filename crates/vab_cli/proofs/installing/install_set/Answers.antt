@@ -17,6 +17,7 @@ use Rattle.vab_cli.proofs.InstallActs.{Carried, install_closed, install_done, in
 use Rattle.vab_cli.proofs.InstallActs.{install_failed, install_refused_broken, install_wanted}
 use Rattle.vab_cli.proofs.Installs.{done_told, left_is, refused_told}
 use Rattle.vab_cli.proofs.Items.{says_err, says_ok}
+use Rattle.vab_cli.proofs.Installs.{refused_reply}
 use Rattle.vab_cli.proofs.installing.install_set.Goals as goal
 
 pub returns-in-Ok-say_line-clause-performs : goal.returns-in-Ok-say_line-clause-performs
@@ -192,3 +193,26 @@ returns-in-Err-say_line-clause-changes g c = λ t.
     (c.install.ensures.changes t)
     (changes_telling g.P.Disk _ _ c.install.new.d c.say_line-2.new.port c.say_line-2.ensures.size
     (λ t. says.seen) (λ t. says.crash) (λ t. says.time))
+
+pub returns-in-Ok-say_line-2-clause-refused : goal.returns-in-Ok-say_line-2-clause-refused
+returns-in-Ok-say_line-2-clause-refused g c = λ t is.
+    let old = c.args.port.now in
+    let mid = c.install.new.d in
+    let size = g.P.Disk.size old in
+    let d = c.args.device in
+    let set = c.args.set.now in
+    let m : Mounted = mounted_on d (g.P.Disk.seen old) in
+    let refusal : Refusal = c.in-Err-Refused.refusal in
+    let other : c.in-Err-Refused.refusal ≢ NoMemory = search rules in
+    let carries = subst
+    (λ (x : Stop).
+    Carried g.P.Disk d set old mid c.requires.kept c.requires.represents (Err x))
+    c.in-Err-Refused.field-0-is c.in-Err-Refused.ensures in
+    record {
+      image = c.install.new.at;
+      refusal = refusal;
+      is = c.note_installing.ensures;
+      holds = refused_reply g.P.Disk t size d set old mid refl m (c.requires.represents t)
+          (device_stands d size (g.P.Disk.seen old) (c.requires.represents t)) refusal other
+          carries;
+    }

@@ -125,7 +125,8 @@ pub returns-in-Err-read_set-clause-unmade : goal.returns-in-Err-read_set-clause-
 returns-in-Err-read_set-clause-unmade g c = λ t none.
     ⊎_elim
     (λ none. set_opened c.in-Err-read_set.fault (sym c.from-in-Err-read_set.ensures ∙ none))
-    (λ refused. set_unrefused c.in-Err-read_set.fault (sym c.from-in-Err-read_set.ensures ∙ refused))
+    (λ refused.
+    set_unrefused c.in-Err-read_set.fault (sym c.from-in-Err-read_set.ensures ∙ refused))
     none
 
 pub returns-in-Err-read_set-clause-no_set : goal.returns-in-Err-read_set-clause-no_set
@@ -135,11 +136,10 @@ returns-in-Err-read_set-clause-no_set g c = λ t bad.
     c.in-Err-read_set.ensures.exact (sym c.from-in-Err-read_set.ensures ∙ bad))
 
 pub returns-clause-unmade : goal.returns-clause-unmade
-returns-clause-unmade g c = λ t none.
-    (
-      c.in-Ok-read_set.set,
-      subst (λ (l : List ℕ). set_of l ≡ Ok c.in-Ok-read_set.set)
-          (c.deref.ensures.value ∙ c.in-Ok.ensures.bytes t) c.in-Ok-read_set.ensures.exact,
-      unmade_after g.P.Disk c.args.port.now c.hear_all.new.p c.in-Ok-read_set.set c.args.limit
-          c.args.max c.make_of.new.cause c.hear_all.ensures.size (c.make_of.ensures.unmade none),
-    )
+returns-clause-unmade g c = λ t none. (
+  c.in-Ok-read_set.set,
+  subst (λ (l : List ℕ). set_of l ≡ Ok c.in-Ok-read_set.set)
+      (c.deref.ensures.value ∙ c.in-Ok.ensures.bytes t) c.in-Ok-read_set.ensures.exact,
+  unmade_after g.P.Disk c.args.port.now c.hear_all.new.p c.in-Ok-read_set.set c.args.limit
+      c.args.max c.make_of.new.cause c.hear_all.ensures.size (c.make_of.ensures.unmade none),
+)

@@ -95,7 +95,7 @@ returns-in-Ok-say_all-clause-unopened g c = λ t none.
     let is : c.from-status.result ≡ NotADevice = search rules in
     record {
       fault = c.in-Err.fault;
-      is = refl;
+      is = c.note_opening.ensures;
       holds = c.in-Err.ensures.fault t
           (contents_of c.in-Err.fault (sym c.from-status.ensures ∙ is));
     }

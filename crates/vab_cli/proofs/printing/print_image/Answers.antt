@@ -10,11 +10,9 @@ use Rattle.vab_cli.specs.Telling.{DoesItem}
 use Rattle.vab_cli.specs.Verbs.{refused_line, line_item}
 use Rattle.vab_cli.proofs.Blocks.{image_told, image_done, refusal_told, refusal_done}
 use Rattle.vab_cli.proofs.Items.{mounted_is, does_line, print_item}
-use Rattle.std.proofs.Common.{Some, refl}
 use Rattle.vab_disk.specs.Disk.{Image}
 use Rattle.vab_device.specs.Mounted.{mounted_on}
 use Rattle.vab_model.specs.Commands.{Print}
-use Rattle.vab_causes.specs.declared.cause.Cause.TheVariants as causes
 use Rattle.vab_cli.specs.declared.status.Status.TheVariants.{Refused}
 use Rattle.vab_cli.specs.Causes.{IsRefusedOn}
 use Rattle.vab_cli.proofs.Blocks.{refusal_noted}
@@ -159,10 +157,11 @@ returns-in-Err-clause-changes g c = λ t.
 pub returns-in-Err-clause-refused : goal.returns-in-Err-clause-refused
 returns-in-Err-clause-refused g c =
     if_ok_by c.refuse.result
-    (λ status. status ≡ Refused
+    (λ (status : Status).
+    status ≡ Refused
     → (image : Image)
     → IsRefusedOn (mounted_on c.args.device.now image) (Print c.args.name.now)
-    (Some (causes.Refused c.in-Err.refusal)))
+    c.note_refusal.new.cause)
     (λ status is image.
-    refusal_noted c.args.device.now image c.args.name.now c.in-Err.refusal _
-    (c.in-Err.ensures.refused image) refl)
+    refusal_noted c.args.device.now image c.args.name.now c.in-Err.refusal
+    c.note_refusal.new.cause (c.in-Err.ensures.refused image) c.note_refusal.ensures)

@@ -151,7 +151,8 @@ returns-in-Boot-clause-explains g c = λ t.
     let is : meaning_of c.args.verb ≡ words.Boot = search rules in
     subst
     (λ (m : Meaning).
-    Explains g.P.Disk c.args.port.now m c.carry_out.result c.carry_out.new.cause)
+    Explains g.P.Disk c.args.port.now m c.carry_out.result
+    c.carry_out.new.cause)
     (sym is)
     (c.carry_out.ensures.unopened t, c.carry_out.ensures.refused t)
 
@@ -160,7 +161,8 @@ returns-in-Mark-clause-explains g c = λ t.
     let is : meaning_of c.args.verb ≡ words.Mark = search rules in
     subst
     (λ (m : Meaning).
-    Explains g.P.Disk c.args.port.now m c.carry_out-in-Mark.result c.carry_out-in-Mark.new.cause)
+    Explains g.P.Disk c.args.port.now m c.carry_out-in-Mark.result
+    c.carry_out-in-Mark.new.cause)
     (sym is)
     (c.carry_out-in-Mark.ensures.unopened t, c.carry_out-in-Mark.ensures.refused t)
 
@@ -169,7 +171,8 @@ returns-in-BeginMerge-clause-explains g c = λ t.
     let is : meaning_of c.args.verb ≡ words.BeginMerge = search rules in
     subst
     (λ (m : Meaning).
-    Explains g.P.Disk c.args.port.now m c.carry_out-in-BeginMerge.result c.carry_out-in-BeginMerge.new.cause)
+    Explains g.P.Disk c.args.port.now m c.carry_out-in-BeginMerge.result
+    c.carry_out-in-BeginMerge.new.cause)
     (sym is)
     (c.carry_out-in-BeginMerge.ensures.unopened t, c.carry_out-in-BeginMerge.ensures.refused t)
 
@@ -178,7 +181,8 @@ returns-in-Merge-clause-explains g c = λ t.
     let is : meaning_of c.args.verb ≡ words.Merge c.in-Merge.turns = search rules in
     subst
     (λ (m : Meaning).
-    Explains g.P.Disk c.args.port.now m c.carry_out-in-Merge.result c.carry_out-in-Merge.new.cause)
+    Explains g.P.Disk c.args.port.now m c.carry_out-in-Merge.result
+    c.carry_out-in-Merge.new.cause)
     (sym is)
     (c.carry_out-in-Merge.ensures.unopened t, c.carry_out-in-Merge.ensures.refused t)
 
@@ -187,7 +191,8 @@ returns-in-Cancel-clause-explains g c = λ t.
     let is : meaning_of c.args.verb ≡ words.Cancel = search rules in
     subst
     (λ (m : Meaning).
-    Explains g.P.Disk c.args.port.now m c.carry_out-in-Cancel.result c.carry_out-in-Cancel.new.cause)
+    Explains g.P.Disk c.args.port.now m c.carry_out-in-Cancel.result
+    c.carry_out-in-Cancel.new.cause)
     (sym is)
     (c.carry_out-in-Cancel.ensures.unopened t, c.carry_out-in-Cancel.ensures.refused t)
 
@@ -196,7 +201,8 @@ returns-in-Activate-clause-explains g c = λ t.
     let is : meaning_of c.args.verb ≡ words.Activate c.in-Activate.slot = search rules in
     subst
     (λ (m : Meaning).
-    Explains g.P.Disk c.args.port.now m c.carry_out-in-Activate.result c.carry_out-in-Activate.new.cause)
+    Explains g.P.Disk c.args.port.now m c.carry_out-in-Activate.result
+    c.carry_out-in-Activate.new.cause)
     (sym is)
     (c.carry_out-in-Activate.ensures.unopened t, c.carry_out-in-Activate.ensures.refused t)
 
@@ -205,7 +211,8 @@ returns-in-Print-clause-explains g c = λ t.
     let is : meaning_of c.args.verb ≡ words.Print c.as_bytes.result.now = search rules in
     subst
     (λ (m : Meaning).
-    Explains g.P.Disk c.args.port.now m c.print.result c.print.new.cause)
+    Explains g.P.Disk c.args.port.now m c.print.result
+    c.print.new.cause)
     (sym is)
     (c.print.ensures.unopened t, c.print.ensures.refused t)
 
@@ -214,16 +221,19 @@ returns-in-Digest-clause-explains g c = λ t.
     let is : meaning_of c.args.verb ≡ words.Digest c.as_bytes-in-Digest.result.now = search rules in
     subst
     (λ (m : Meaning).
-    Explains g.P.Disk c.args.port.now m c.carry_out-in-Digest.result c.carry_out-in-Digest.new.cause)
+    Explains g.P.Disk c.args.port.now m c.carry_out-in-Digest.result
+    c.carry_out-in-Digest.new.cause)
     (sym is)
     (c.carry_out-in-Digest.ensures.unopened t, c.carry_out-in-Digest.ensures.refused t)
 
 pub returns-in-Make-clause-explains : goal.returns-in-Make-clause-explains
 returns-in-Make-clause-explains g c = λ t.
-    let is : meaning_of c.args.verb ≡ words.Make c.in-Make.limit c.in-Make.metadata_max = search rules in
+    let is : meaning_of c.args.verb ≡ words.Make c.in-Make.limit c.in-Make.metadata_max =
+    search rules in
     subst
     (λ (m : Meaning).
-    Explains g.P.Disk c.args.port.now m c.make.result c.make.new.cause)
+    Explains g.P.Disk c.args.port.now m c.make.result
+    c.make.new.cause)
     (sym is)
     (c.make.ensures.unmade t, c.make.ensures.no_set t)
 
@@ -232,7 +242,8 @@ returns-in-Serve-true-clause-explains g c = λ t.
     let is : meaning_of c.args.verb ≡ Serve true = search rules in
     subst
     (λ (m : Meaning).
-    Explains g.P.Disk c.args.port.now m c.make_and_serve.result c.make_and_serve.new.cause)
+    Explains g.P.Disk c.args.port.now m c.make_and_serve.result
+    c.make_and_serve.new.cause)
     (sym is)
     (c.make_and_serve.ensures.unmade t, c.make_and_serve.ensures.broken_off t)
 
@@ -241,7 +252,8 @@ returns-in-Serve-false-clause-explains g c = λ t.
     let is : meaning_of c.args.verb ≡ Serve false = search rules in
     subst
     (λ (m : Meaning).
-    Explains g.P.Disk c.args.port.now m c.open_and_serve.result c.open_and_serve.new.cause)
+    Explains g.P.Disk c.args.port.now m c.open_and_serve.result
+    c.open_and_serve.new.cause)
     (sym is)
     (c.open_and_serve.ensures.unopened t, c.open_and_serve.ensures.broken_off t)
 
@@ -250,16 +262,21 @@ returns-in-Install-clause-explains g c = λ t.
     let is : meaning_of c.args.verb ≡ words.Install = search rules in
     subst
     (λ (m : Meaning).
-    Explains g.P.Disk c.args.port.now m c.install.result c.install.new.cause)
-    (sym is)
-    (c.install.ensures.unopened t, c.install.ensures.uninstalled t, c.install.ensures.no_set t)
+    Explains g.P.Disk c.args.port.now m c.install.result
+    c.install.new.cause)
+    (sym is) (
+      c.install.ensures.unopened t,
+      c.install.ensures.uninstalled t,
+      c.install.ensures.no_set t,
+    )
 
 pub returns-in-Status-clause-explains : goal.returns-in-Status-clause-explains
 returns-in-Status-clause-explains g c = λ t.
     let is : meaning_of c.args.verb ≡ words.Status = search rules in
     subst
     (λ (m : Meaning).
-    Explains g.P.Disk c.args.port.now m c.tell_page.result c.tell_page.new.cause)
+    Explains g.P.Disk c.args.port.now m c.tell_page.result
+    c.tell_page.new.cause)
     (sym is)
     (c.tell_page.ensures.unopened t)
 
@@ -268,6 +285,7 @@ returns-in-Demo-clause-explains g c = λ t.
     let is : meaning_of c.args.verb ≡ words.Demo c.in-Demo.seed c.in-Demo.scale = search rules in
     subst
     (λ (m : Meaning).
-    Explains g.P.Disk c.args.port.now m c.demo.result c.demo.new.cause)
+    Explains g.P.Disk c.args.port.now m c.demo.result
+    c.demo.new.cause)
     (sym is)
     (c.demo.ensures.unmade t)
