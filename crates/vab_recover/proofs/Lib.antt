@@ -4,4 +4,5 @@ pub mod FrameLaws
 pub mod MendLaws
 pub mod OpenLaws
 pub mod PlanLaws
+pub mod ProbeLaws
 pub mod ReadLaws

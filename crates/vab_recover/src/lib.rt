@@ -5,8 +5,16 @@ mod frame;
 mod judge;
 mod opening;
 mod plan;
+mod probing;
 mod read;
 mod repairs;
 mod table;
 
+pub use frame::MIN_SECTORS;
+pub use judge::judge_parts;
 pub use opening::start;
+pub use probing::probe;
+pub use read::{
+    MARK_SECTOR, read_control, read_geometry, read_if, read_mark, reads_both, reads_statuses,
+};
+pub use table::{Tables, read_tables};

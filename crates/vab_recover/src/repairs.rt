@@ -13,37 +13,12 @@ ghost use Rattle.vab_recover.specs.Opened.{AreTablesThere, IsOpened, with_tables
 ghost use Rattle.vab_recover.specs.Opening.{IsOfOpening, HasNoneCompleted, IsTidied};
 ghost use Rattle.vab_recover.specs.Repairs.{IsRepair, BothCopiesHold};
 
-use crate::table::Tables;
+use crate::table::{Tables, with_tables};
 use vab_device::Device;
 use vab_disk::Disk;
 use vab_gate::DiskFault;
 use vab_lpstore::repair_table;
 use vab_tidy::{Tidying, carry_out};
-
-// The device with the tables that were loaded.
-fn with_tables(device: Device, tables: Tables) -> Device
-    requires { device.mark.slot < 2 }
-    ensures { result ≡ with_tables tables device }
-{
-    let Tables { source, target } = tables;
-    let target = match target {
-        None => None,
-        Some(loaded) => Some(loaded.table),
-    };
-    if device.mark.slot == 0 {
-        Device {
-            table_a: Some(source.table),
-            table_b: target,
-            ..device
-        }
-    } else {
-        Device {
-            table_a: target,
-            table_b: Some(source.table),
-            ..device
-        }
-    }
-}
 
 // Repairs the tables that were read, the source's first.
 fn repair_tables<D: Disk>(d: &mut D, kept: &Device, tables: &Tables) -> Result<(), DiskFault>

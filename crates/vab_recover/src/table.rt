@@ -17,12 +17,12 @@ ghost use Rattle.vab_device.specs.Kept.{reads_both};
 ghost use Rattle.vab_device.specs.Phases.{phase_at};
 ghost use Rattle.vab_recover.specs.Opened.{IsTableThere, AreLoaded, AreTablesThere};
 ghost use Rattle.vab_recover.specs.Repairs.{IsLoadedAt};
-ghost use Rattle.vab_recover.specs.Opened.{target_slots, target_tables, tables_of};
+ghost use Rattle.vab_recover.specs.Opened.{target_slots, target_tables, tables_of, with_tables};
 ghost use Rattle.vab_tidy.specs.Counts.{CountsFaults};
 
 use crate::read::{copies_end, reads_both, super_bytes};
 use std::alloc::Global;
-use vab_device::StartFault;
+use vab_device::{Device, StartFault};
 use vab_disk::Disk;
 use vab_geometry::Geometry;
 use vab_lpstore::{LoadFault, Loaded, load_table};
@@ -172,5 +172,30 @@ pub fn read_tables<D: Disk>(
             Err(fault) => Err(fault),
             Ok(target) => Ok(Tables { source, target }),
         },
+    }
+}
+
+/// The device with the tables that were loaded.
+pub fn with_tables(device: Device, tables: Tables) -> Device
+    requires { device.mark.slot < 2 }
+    ensures { result ≡ with_tables tables device }
+{
+    let Tables { source, target } = tables;
+    let target = match target {
+        None => None,
+        Some(loaded) => Some(loaded.table),
+    };
+    if device.mark.slot == 0 {
+        Device {
+            table_a: Some(source.table),
+            table_b: target,
+            ..device
+        }
+    } else {
+        Device {
+            table_a: target,
+            table_b: Some(source.table),
+            ..device
+        }
     }
 }
