@@ -105,6 +105,32 @@ impl<R: Read + Drop, W: Write + Drop> FilePort<R, W> {
         }
     }
 
+    /// A port over a file that exists, as `open` makes one, but for reading alone, whether the file
+    /// can be written or not. It shares its lock with others that only read; a write to it is a
+    /// fault of the disk.
+    pub fn open_to_read<F: Files<File = File> + AllocGlobal>(
+        files: &F,
+        path: &str,
+        input: R,
+        output: W,
+    ) -> Result<Self, OpenFault>
+        ensures { IfOk result (λ p. ⟦<FilePort<R, W> as Disk>⟧.faults p ≡ no_faults) }
+    {
+        let file = match File::open(files, path) {
+            Ok(file) => file,
+            Err(fault) => return Err(OpenFault::Open(fault)),
+        };
+        lock(&file, true)?;
+        let store = match FileStore::new(file) {
+            Ok(store) => store,
+            Err(fault) => return Err(OpenFault::Length(fault)),
+        };
+        match Buffered::new(files.alloc(), store) {
+            Ok(disk) => Ok(FilePort::new(Cells::File(disk), true, input, output)),
+            Err(NoMemory) => Err(OpenFault::Memory),
+        }
+    }
+
     /// Whether its file can't be written, so that it was opened for reading alone.
     pub fn is_read_only(&self) -> bool
         ensures { result ≡ self.now.read_only }

@@ -1,0 +1,4 @@
+pub mod Copies
+pub mod Findings
+pub mod Rows
+pub mod Surveyed
