@@ -100,8 +100,12 @@ pub fn with_folders(rt: &HostRuntime, words: &[String]) -> Result<Vec<String>, F
 }
 
 impl FolderFault {
+    ghost use Rattle.vabpack.specs.Folders.{folder_status_of};
+
     /// The program's status.
-    pub fn status(&self) -> u8 {
+    pub fn status(&self) -> u8
+        ensures { result ≡ folder_status_of self.now }
+    {
         match self {
             FolderFault::Folder(_, _) => 9,
             FolderFault::Empty(_) => 2,
