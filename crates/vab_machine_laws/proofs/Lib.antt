@@ -1,3 +1,11 @@
 pub mod SlotRows
 pub mod Filled
 pub mod Flashes
+pub mod Sectors
+pub mod Installed
+pub mod Values
+pub mod Given
+pub mod Sources
+pub mod Begins
+pub mod Entries
+pub mod Deletes
