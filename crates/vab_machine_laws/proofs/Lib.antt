@@ -9,3 +9,7 @@ pub mod Sources
 pub mod Begins
 pub mod Entries
 pub mod Deletes
+pub mod Rooms
+pub mod Snapshots
+pub mod Groups
+pub mod Resizes
