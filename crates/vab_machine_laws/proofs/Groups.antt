@@ -1,5 +1,5 @@
 -- The bytes and the limit of a group, by a table's partitions and by the plan that it has.
-use Rattle.std.proofs.Common.{◌≡◌, ◌∙◌, ℕ, true, false, cond, List, []}
+use Rattle.std.proofs.Common.{◌++◌, ◌≡◌, ◌∙◌, ℕ, true, false, cond, List, []}
 use Rattle.std.proofs.Common.{◌∷◌}
 use Rattle.std.proofs.Common.{length, inl, inr, refl, sym, ap}
 use Rattle.std.specs.Prelude.{Option, Some, None, map, Contains, All}
@@ -10,11 +10,13 @@ use Rattle.std.proofs.lemmas.List.Elements.{All-contains}
 use Rattle.vab_names.specs.Names.{is_of_slot, base_of, default_name}
 use Rattle.vab_names.proofs.NameCases.{same_name, eq_name, ne_name, other_name, default_not_own}
 use Rattle.vab_tables.specs.declared.entries.Group.{Group}
-use Rattle.vab_blocks.proofs.Contained.{first, later}
+use Rattle.vab_blocks.proofs.Contained.{first, later, of_filter}
 use Rattle.vab_layout.specs.declared.layout.Part.{Part}
 use Rattle.vab_layout.specs.Plain.{own_groups}
 use Rattle.vab_layout.specs.Slots.{own_parts, groups_of_slot, IsOwnPart}
 use Rattle.vab_builder.specs.Edits.{group_named}
+use Rattle.vab_builder.specs.Edits.{first_group as first_of_slot}
+use Rattle.vab_machine.specs.Plans.{first_group}
 use Rattle.vab_device.specs.Stores.{first_named}
 use Rattle.vab_builder.specs.Sizes.{limit_of, sizes_in}
 use Rattle.vab_model.specs.declared.state.GroupLimit.{GroupLimit}
@@ -179,3 +181,66 @@ group_own slot name (p ∷ ps) of = elim (cases_Bool (is_of_slot slot p.name)) [
       (λ e. both_ways (is_of_slot slot p.name) other (ap (is_of_slot slot) e ∙ of)) in
       rw (other, no) (group_own slot name ps of)
 ]
+
+-- ---- the group of a new partition
+
+abbrev first_base : List (List ℕ × ℕ) → List ℕ
+first_base [] = []
+first_base (p ∷ ps) = p.0
+
+first_same : (o : ℕ) (xs ys : List Group)
+    → map {B = List ℕ × ℕ} (λ (g : Group). (base_of g.name, g.maximum_size)) xs
+    ≡ map {B = List ℕ × ℕ} (λ (g : Group). (base_of g.name, g.maximum_size)) ys
+    → ((y : Group) → Contains ys y → is_of_slot o y.name ≡ true)
+    → group_of (first_of_slot ys)
+    ≡ first_group
+    (map {B = GroupLimit}
+    (λ (g : Group). record { name = base_of g.name; limit = g.maximum_size }) xs)
+first_same o [] [] same of = none_is default_name refl
+first_same o [] (y ∷ ys) same of = absurd cc
+first_same o (x ∷ xs) [] same of = absurd cc
+first_same o (x ∷ xs) (y ∷ ys) same of =
+    own_is o y.name (of y (first y ys)) ∙ ap (λ (n : List ℕ). Some n) (sym (ap first_base same))
+
+pub first_is : (source o : ℕ) (groups : List GroupLimit) (ss ts : List Group)
+    → groups ≡ limits_of source ss
+    → groups_of_slot source ss ≡ groups_of_slot o ts
+    → group_of (first_of_slot (own_groups o ts)) ≡ first_group groups
+first_is source o groups ss ts are same =
+    first_same o (own_groups source ss) (own_groups o ts) same
+    (λ y c. (of_filter (λ (g : Group). is_of_slot o g.name) ts y c).1)
+    ∙ sym (ap first_group are)
+
+first_among : (o : ℕ) (xs : List Group)
+    → ((x : Group) → Contains xs x → is_of_slot o x.name ≡ true)
+    → IsOfSlot o (first_of_slot xs)
+first_among o [] of = of_none refl
+first_among o (x ∷ xs) of = of_own (of x (first x xs))
+
+pub first_in_slot : (o : ℕ) (ts : List Group) → IsOfSlot o (first_of_slot (own_groups o ts))
+first_in_slot o ts =
+    first_among o (own_groups o ts)
+    (λ y c. (of_filter (λ (g : Group). is_of_slot o g.name) ts y c).1)
+
+same_itself : (g : Option (List ℕ)) → same_group g g ≡ true
+same_itself None = refl
+same_itself (Some name) = eq_name name name refl
+
+-- an entry more, in the group
+pub pushed : (g : Option (List ℕ)) (e : PlanEntry) (es : List PlanEntry)
+    → e.group ≡ g
+    → map {A = PlanEntry} (λ x. x.blocks)
+    (filter {X = PlanEntry} (λ x. same_group x.group g) (es ++ e ∷ []))
+    ≡ map {A = PlanEntry} (λ x. x.blocks)
+    (filter {X = PlanEntry} (λ x. same_group x.group g) es)
+    ++ e.blocks ∷ []
+pushed g e [] is =
+    let same : same_group e.group g ≡ true =
+    ap (λ (x : Option (List ℕ)). same_group x g) is ∙ same_itself g in
+    rw same refl
+pushed g e (x ∷ xs) is =
+    let rest = pushed g e xs is in
+    elim (cases_Bool (same_group x.group g)) [
+      | inl t ↦ rw t (ap (λ (l : List ℕ). x.blocks ∷ l) rest)
+      | inr f ↦ rw f rest
+    ]

@@ -13,3 +13,5 @@ pub mod Rooms
 pub mod Snapshots
 pub mod Groups
 pub mod Resizes
+pub mod Creates
+pub mod All

@@ -1,6 +1,6 @@
 //! Commands whose table may be full.
 ghost use Rattle.std.specs.Prelude.{ℕ, List};
-ghost use Rattle.vab_model.specs.Commands.{Begin, Delete, Snapshot, Resize};
+ghost use Rattle.vab_model.specs.Commands.{Command, Begin, Create, Delete, Snapshot, Resize};
 ghost use Rattle.vab_machine_laws.specs.Edits.{IsTheMachinesOrFull, IsTheMachinesUnlimited};
 
 use vab_targets::plans_by_sizes;
@@ -13,7 +13,15 @@ pub fn edits_are_the_machines()
     ensures begin { IsTheMachinesOrFull Begin }
     ensures delete { (name : List ℕ) → IsTheMachinesOrFull (Delete name) }
     ensures snapshot { (name : List ℕ) (size : ℕ) → IsTheMachinesOrFull (Snapshot name size) }
+    ensures create { (name : List ℕ) (size : ℕ) → IsTheMachinesUnlimited (Create name size) }
     ensures resize { (name : List ℕ) (size : ℕ) → IsTheMachinesUnlimited (Resize name size) }
+{
+    plans_by_sizes();
+}
+
+/// All of these laws in one: on each such disk, whichever the command is.
+pub fn each_command_is_the_machines()
+    ensures { (c : Command) → IsTheMachinesUnlimited c }
 {
     plans_by_sizes();
 }

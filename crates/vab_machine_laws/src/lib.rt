@@ -5,5 +5,5 @@
 mod edits;
 mod slots;
 
-pub use edits::edits_are_the_machines;
+pub use edits::{each_command_is_the_machines, edits_are_the_machines};
 pub use slots::{ends_are_the_machines, flashes_are_the_machines, slots_are_the_machines};

@@ -1,4 +1,5 @@
 use Rattle.vab_machine_laws.proofs.Begins.{begin_is}
+use Rattle.vab_machine_laws.proofs.Creates.{create_is}
 use Rattle.vab_machine_laws.proofs.Deletes.{delete_is}
 use Rattle.vab_machine_laws.proofs.Snapshots.{snapshot_is}
 use Rattle.vab_machine_laws.proofs.Resizes.{resize_is}
@@ -15,3 +16,6 @@ returns-clause-snapshot c = snapshot_is c.plans_by_sizes.ensures.edited
 
 pub returns-clause-resize : goal.returns-clause-resize
 returns-clause-resize c = resize_is c.plans_by_sizes.ensures.edited
+
+pub returns-clause-create : goal.returns-clause-create
+returns-clause-create c = create_is c.plans_by_sizes.ensures.edited
