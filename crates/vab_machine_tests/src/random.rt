@@ -1,7 +1,7 @@
 // Lists of commands that are drawn, each beside the machine.
 
 use crate::beside::{beside, opened};
-use crate::made::made;
+use crate::made::made_of_two;
 use std::alloc::Global;
 use std::process::Abort;
 use std::test::*;
@@ -170,16 +170,14 @@ fn play(
 #[test]
 fn drawn_lists_are_the_machines(rt: HostRuntime) -> Result<(), Fail> {
     let alloc = rt.alloc();
-    let s: (&[u8], u8) = (b"s", 4);
-    let v: (&[u8], u8) = (b"v", 2);
     let mut seen = [false; 15];
     for seed in 0..6u64 {
         let d = if seed % 3 == 0 {
-            made(alloc, 16, 28672, 4096, &[s, v])?
+            made_of_two(alloc, 16, 28672, 4096)?
         } else if seed % 3 == 1 {
-            made(alloc, 24, 0, 1024, &[s, v])?
+            made_of_two(alloc, 24, 0, 1024)?
         } else {
-            made(alloc, 24, 40960, 4096, &[v, s])?
+            made_of_two(alloc, 24, 40960, 4096)?
         };
         play(&rt, alloc, d, seed, &mut seen)?;
     }
