@@ -1,0 +1,142 @@
+-- What is counted of a small plan is a number of 64 bits.
+use Rattle.std.proofs.Common.{◌≡◌, ℕ, ◌+◌, ◌*◌, ◌^◌, ◌≤◌, ◌<◌, List, [], ◌∷◌, length}
+use Rattle.std.proofs.Common.{arith}
+use Rattle.std.proofs.Common.{cond, eqb, inl, inr, Option, Some, None}
+use Rattle.std.specs.Prelude.{All, map, sum, sum_by}
+use Rattle.std.specs.List.{filter}
+use Rattle.std.proofs.lemmas.Bool.{cases_Bool}
+use Rattle.std.proofs.lemmas.List.{length-map}
+use Rattle.std.proofs.lemmas.List.Elements.{All-map, All-weaker, All-head, All-tail}
+use Rattle.std.proofs.lemmas.List.Elements.{All-nil}
+use Rattle.std.proofs.lemmas.List.Sums.{sum_by-le, sum_by-cons}
+use Rattle.vab_space.specs.declared.Want.{Want}
+use Rattle.vab_space.specs.Space.{growth_of}
+use Rattle.vab_model.specs.declared.state.Image.{Image}
+use Rattle.vab_model.specs.declared.state.PlanImage.{PlanImage}
+use Rattle.vab_model.specs.declared.state.PlanImage.TheVariants.{Kept, Declared, Written}
+use Rattle.vab_model.specs.declared.state.PlanEntry.{PlanEntry}
+use Rattle.vab_model.specs.declared.state.State.{State}
+use Rattle.vab_machine.specs.Plans.{blocks_in, want_of, in_use, same_group}
+use Rattle.vab_machine.specs.Plans.{group_bytes, listed, images_of}
+use Rattle.vab_machine.specs.Machine.{exceptions_of, exceptions_in}
+use Rattle.vab_machine.specs.Small.{AreSmallImages, IsSmallSlot, IsSmallImage, IsSmallEntry}
+use Rattle.vab_machine.specs.Small.{IsSmallPlan, IsSmall}
+
+-- a sum of at most 32 numbers of at most so much
+sum_most : (most : ℕ) (xs : List ℕ)
+    → length xs ≤ 32
+    → All (λ x. x ≤ most) xs
+    → sum xs ≤ 32 * most
+sum_most most xs few each =
+    let all = sum_by-le (λ x. x) most xs each in
+    grind arith
+
+image_most : (images : List Image)
+    → AreSmallImages images
+    → sum (map (λ (i : Image). blocks_in i.bytes) images) ≤ 32 * 2 ^ 28
+image_most images small =
+    sum_most (2 ^ 28) (map (λ (i : Image). blocks_in i.bytes) images)
+    (omega (arith, length-map images (λ (i : Image). blocks_in i.bytes), small.few))
+    (All-map (λ x. x ≤ 2 ^ 28) (λ (i : Image). blocks_in i.bytes) images
+    (All-weaker (λ (i : Image). length i.bytes ≤ 2 ^ 40) (λ (i : Image). blocks_in i.bytes ≤ 2 ^ 28)
+    (λ i le. omega (arith, le)) images small.each))
+
+want_most : (source : List Image) (f : Want → ℕ) (most : ℕ) (plan : List PlanEntry)
+    → IsSmallPlan plan
+    → ((e : PlanEntry) → IsSmallEntry e → f (want_of source e) ≤ most)
+    → sum_by f (map (want_of source) plan) ≤ 32 * most
+want_most source f most plan small each =
+    let all = sum_by-le f most (map (want_of source) plan)
+    (All-map (λ w. f w ≤ most) (want_of source) plan
+    (All-weaker IsSmallEntry (λ e. f (want_of source e) ≤ most) each plan small.each)) in
+    let long = length-map plan (want_of source) in
+    let few = small.few in
+    grind arith
+
+no_images : AreSmallImages []
+no_images = record { few = omega arith; each = All-nil (λ (i : Image). length i.bytes ≤ 2 ^ 40) }
+
+listed_small : (images : Option (List Image)) → IsSmallSlot images → AreSmallImages (listed images)
+listed_small None small = no_images
+listed_small (Some images) small = small
+
+pub images_small : (s : State) (slot : ℕ) → IsSmall s → AreSmallImages (images_of s slot)
+images_small s slot small = elim (cases_Bool (eqb slot 0)) [
+  | inl t ↦ rw t (listed_small s.a small.a)
+  | inr f ↦ rw f (listed_small s.b small.b)
+]
+
+pub in_use_fits : (source : List Image) (plan : List PlanEntry)
+    → AreSmallImages source
+    → IsSmallPlan plan
+    → in_use source plan < 2 ^ 63
+in_use_fits source plan images small =
+    let kept = image_most source images in
+    let grown = want_most source growth_of (2 ^ 28) plan small
+    (λ e s. omega (arith, s.blocks)) in
+    let stored = want_most source (λ w. w.store) (2 ^ 52) plan small (λ e s. s.store) in
+    omega (arith, kept, grown, stored)
+
+pub state_in_use_fits : (s : State) (source : ℕ) (plan : List PlanEntry)
+    → IsSmall s
+    → IsSmallPlan plan
+    → in_use (images_of s source) plan < 2 ^ 63
+state_in_use_fits s source plan small =
+    in_use_fits (images_of s source) plan (images_small s source small)
+
+-- an entry more of which a group has bytes
+pub group_more : (group : Option (List ℕ)) (e : PlanEntry) (es : List PlanEntry)
+    → group_bytes group (e ∷ es)
+    ≡ cond (same_group e.group group) (4096 * e.blocks) 0 + group_bytes group es
+group_more group e es =
+    let blocks : PlanEntry → ℕ = λ x. x.blocks in
+    let rest : List PlanEntry = filter (λ (x : PlanEntry). same_group x.group group) es in
+    elim (cases_Bool (same_group e.group group)) [
+      | inl t ↦
+          let more = sum_by-cons (λ x. x) e.blocks (map blocks rest) in
+          rw t (omega (arith, more))
+      | inr f ↦ rw f (omega arith)
+    ]
+
+group_most : (group : Option (List ℕ)) (plan : List PlanEntry)
+    → All IsSmallEntry plan
+    → group_bytes group plan ≤ 2 ^ 40 * length plan
+group_most group [] each = omega arith
+group_most group (e ∷ es) each =
+    let more = group_more group e es in
+    let rest = group_most group es (All-tail IsSmallEntry e es each) in
+    let first = (All-head IsSmallEntry e es each).blocks in
+    elim (cases_Bool (same_group e.group group)) [
+      | inl t ↦ let is = rw t at more in rw t (omega (arith, is, rest, first))
+      | inr f ↦ let is = rw f at more in rw f (omega (arith, is, rest, first))
+    ]
+
+pub group_fits : (group : Option (List ℕ)) (plan : List PlanEntry)
+    → IsSmallPlan plan
+    → group_bytes group plan < 2 ^ 63
+group_fits group plan small =
+    let most = group_most group plan small.each in
+    omega (arith, most, small.few)
+
+few_exceptions : (image : PlanImage) → IsSmallImage image → exceptions_of image ≤ 2 ^ 52
+few_exceptions Kept small = omega arith
+few_exceptions Declared small = omega arith
+few_exceptions (Written bytes exceptions) small = small.few
+
+exceptions_most : (plan : List PlanEntry)
+    → All IsSmallEntry plan
+    → exceptions_in plan ≤ 2 ^ 52 * length plan
+exceptions_most [] each = omega arith
+exceptions_most (e ∷ es) each =
+    omega (
+      arith,
+      few_exceptions e.image (All-head IsSmallEntry e es each).image,
+      exceptions_most es (All-tail IsSmallEntry e es each),
+    )
+
+pub exceptions_fit : (plan : List PlanEntry)
+    → IsSmallPlan plan
+    → exceptions_in plan < 2 ^ 63
+exceptions_fit plan small =
+    let most = exceptions_most plan small.each in
+    omega (arith, most, small.few)

@@ -1,0 +1,5 @@
+pub mod Bounds
+pub mod Blocks
+pub mod Turns
+pub mod SmallLaws
+pub mod SmallAfter

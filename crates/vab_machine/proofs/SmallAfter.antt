@@ -1,0 +1,420 @@
+-- The state after a command on a small state is small.
+use Rattle.std.proofs.Common.{◌≡◌, ℕ, zero, suc, ◌-◌, ◌*◌, ◌^◌, ◌≤◌, Bool, true}
+use Rattle.std.proofs.Common.{false}
+use Rattle.std.proofs.Common.{List, [], ◌∷◌, ◌++◌, length, Option, Some, None, eqb, inl, inr, refl}
+use Rattle.std.proofs.Common.{arith, length-append}
+use Rattle.std.specs.Prelude.{All, map, replicate, nat_le, nat_lt, not, is_some, ◌&&◌, ◌||◌, ◌==◌}
+use Rattle.std.specs.Str.{bytes_eq}
+use Rattle.std.proofs.lemmas.Bool.{cases_Bool, leb-true, ltb-true, and_parts}
+use Rattle.std.proofs.lemmas.List.{length-map, length-replicate}
+use Rattle.std.proofs.lemmas.List.Elements.{All-map, All-weaker, All-head}
+use Rattle.std.proofs.lemmas.List.Elements.{All-tail}
+use Rattle.vab_bootctl.specs.declared.slots.Control.{Control}
+use Rattle.vab_bootctl.specs.Boot.{info_at, activated_of}
+use Rattle.vab_names.specs.Names.{is_full, base_of}
+use Rattle.vab_space.specs.Space.{need_of, blocks_of}
+use Rattle.vab_model.specs.declared.state.Image.{Image}
+use Rattle.vab_model.specs.declared.state.PlanImage.{PlanImage}
+use Rattle.vab_model.specs.declared.state.PlanImage.TheVariants.{Kept, Declared, Written}
+use Rattle.vab_model.specs.declared.state.PlanEntry.{PlanEntry}
+use Rattle.vab_model.specs.declared.state.Phase.{Phase}
+use Rattle.vab_model.specs.declared.state.Phase.TheVariants.{Idle, Installing, Staged, Merging}
+use Rattle.vab_model.specs.declared.state.State.{State}
+use Rattle.vab_model.specs.declared.command.Refusal.{Refusal}
+use Rattle.vab_model.specs.declared.command.Refusal.TheVariants as refusals
+use Rattle.vab_model.specs.Commands.{Command, SetActive, Boot, Mark, Print, Digest, Begin, Create}
+use Rattle.vab_model.specs.Commands.{Resize, Delete, Snapshot, Flash, Finish, Cancel, BeginMerge}
+use Rattle.vab_model.specs.Commands.{Merge}
+use Rattle.vab_model.specs.Effects.{Effect, after_of, last_of, active_effect, found_of, Found}
+use Rattle.vab_model.specs.Effects.{Image_is, Refused_by, print_effect, digest_effect}
+use Rattle.vab_model.specs.State.{images_at}
+use Rattle.vab_machine.specs.Plans.{other_slot, images_of, bytes_named, entry_named}
+use Rattle.vab_machine.specs.Plans.{is_planned, first_group, created_entry, at_entry, kept_entry}
+use Rattle.vab_machine.specs.Plans.{resized_entry, stored_entry, in_use, group_bytes, limit_of}
+use Rattle.vab_machine.specs.Plans.{is_within, without_entry, written_entry}
+use Rattle.vab_machine.specs.Staged.{is_sparse, filled, differences}
+use Rattle.vab_machine.specs.Machine.{unless, if_installing, if_planned, planned, if_room}
+use Rattle.vab_machine.specs.Machine.{if_within}
+use Rattle.vab_machine.specs.Machine.{begun, begin_row, create_row, resize_row, delete_row}
+use Rattle.vab_machine.specs.Machine.{snapshot_row, if_stored, flash_staged, is_written}
+use Rattle.vab_machine.specs.Machine.{flash_entry}
+use Rattle.vab_machine.specs.Machine.{flash_row, final_bytes, final_image, finished, if_complete}
+use Rattle.vab_machine.specs.Machine.{least_declared, finish_row, without_images, cancel_row}
+use Rattle.vab_machine.specs.Machine.{begin_merge_row, turns, merge_row, machine_effect}
+use Rattle.vab_machine.specs.Small.{AreSmallImages, IsSmallSlot, IsSmallImage, IsSmallEntry}
+use Rattle.vab_machine.specs.Small.{IsSmallPlan, IsSmallPhase, IsSmall}
+use Rattle.vab_machine.proofs.Blocks.{differences_most}
+use Rattle.vab_machine.proofs.Bounds.{images_small}
+use Rattle.vab_machine.proofs.SmallLaws.{entry_small, resize_small, store_plan_small, create_small}
+use Rattle.vab_machine.proofs.SmallLaws.{delete_small, write_small, begin_small}
+
+-- the state after an effect is small
+abbrev Keeps : State → Effect State → Type 0
+Keeps s e = IsSmall (after_of s e)
+
+-- ---- tests
+
+keeps_unless : (s : State) (b : Bool) (refusal : Refusal) (e : Effect State)
+    → IsSmall s
+    → (b ≡ true → Keeps s e)
+    → Keeps s (unless b refusal e)
+keeps_unless s true refusal e small next = next refl
+keeps_unless s false refusal e small next = small
+
+keeps_installing : (s : State) (phase : Phase) (row : ℕ → List PlanEntry → Effect State)
+    → IsSmall s
+    → IsSmallPhase phase
+    → ((source : ℕ) (plan : List PlanEntry) → IsSmallPlan plan → Keeps s (row source plan))
+    → Keeps s (if_installing phase row)
+keeps_installing s Idle row small phase next = small
+keeps_installing s (Installing source plan) row small phase next = next source plan phase
+keeps_installing s (Staged source left) row small phase next = small
+keeps_installing s (Merging target left) row small phase next = small
+
+keeps_planned : (s : State) (o : Option PlanEntry) (row : PlanEntry → Effect State)
+    → IsSmall s
+    → ((e : PlanEntry) → o ≡ Some e → Keeps s (row e))
+    → Keeps s (if_planned o row)
+keeps_planned s None row small next = small
+keeps_planned s (Some e) row small next = next e refl
+
+-- ---- another plan
+
+plan_kept : (s : State) (source : ℕ) (plan : List PlanEntry)
+    → IsSmall s
+    → IsSmallPlan plan
+    → Keeps s (planned s source plan)
+plan_kept s source plan small next = record { a = small.a; b = small.b; phase = next }
+
+room_kept : (s : State) (source : ℕ) (plan : List PlanEntry)
+    → IsSmall s
+    → IsSmallPlan plan
+    → Keeps s (if_room s source plan)
+room_kept s source plan small next =
+    keeps_unless s (nat_le (in_use (images_of s source) plan) s.cap)
+    (refusals.NoRoom (in_use (images_of s source) plan) s.cap)
+    (planned s source plan) small (λ _. plan_kept s source plan small next)
+
+within_kept : (s : State) (source : ℕ) (group : Option (List ℕ)) (plan : List PlanEntry)
+    → IsSmall s
+    → IsSmallPlan plan
+    → Keeps s (if_within s source group plan)
+within_kept s source group plan small next =
+    keeps_unless s (is_within (group_bytes group plan) (limit_of s.groups group))
+    (refusals.GroupLimit (group_bytes group plan) (limit_of s.groups group))
+    (if_room s source plan) small (λ _. room_kept s source plan small next)
+
+-- ---- rows
+
+begun_kept : (s : State) (images : Option (List Image))
+    → IsSmall s
+    → IsSmallSlot images
+    → Keeps s (begun s images)
+begun_kept s None small slot = small
+begun_kept s (Some images) small slot =
+    plan_kept s s.control.current (map kept_entry images) small (begin_small images slot)
+
+slot_small : (s : State) (slot : ℕ) → IsSmall s → IsSmallSlot (images_at s slot)
+slot_small s slot small = elim (cases_Bool (eqb slot 0)) [
+  | inl t ↦ rw t small.a
+  | inr f ↦ rw f small.b
+]
+
+begin_kept : (s : State) (phase : Phase) → IsSmall s → Keeps s (begin_row s phase)
+begin_kept s Idle small =
+    begun_kept s (images_at s s.control.current) small (slot_small s s.control.current small)
+begin_kept s (Installing source plan) small = small
+begin_kept s (Staged source left) small = small
+begin_kept s (Merging target left) small = small
+
+create_kept : (s : State) (name : List ℕ) (size source : ℕ) (plan : List PlanEntry)
+    → IsSmall s
+    → IsSmallPlan plan
+    → Keeps s (create_row s name size source plan)
+create_kept s name size source plan small next =
+    let made : List PlanEntry = plan ++ created_entry s.groups (base_of name) size ∷ [] in
+    let within : Effect State = if_within s source (first_group s.groups) made in
+    let few : Effect State = unless (nat_lt (length plan) 32) refusals.TooMany within in
+    let absent : Effect State = unless (not (is_planned (base_of name) plan)) refusals.Exists few in
+    let sized : Effect State = unless (nat_le size (2 ^ 40)) refusals.BadSize absent in
+    keeps_unless s (is_full (other_slot source) name) refusals.BadName sized small (λ _.
+    keeps_unless s (nat_le size (2 ^ 40)) refusals.BadSize absent small (λ le.
+    keeps_unless s (not (is_planned (base_of name) plan)) refusals.Exists few small (λ _.
+    keeps_unless s (nat_lt (length plan) 32) refusals.TooMany within small (λ lt.
+    within_kept s source (first_group s.groups) made small
+    (create_small s.groups (base_of name) size plan next (leb-true size (2 ^ 40) le)
+    (ltb-true (length plan) 32 lt))))))
+
+resize_kept : (s : State) (name : List ℕ) (size source : ℕ) (plan : List PlanEntry)
+    → IsSmall s
+    → IsSmallPlan plan
+    → Keeps s (resize_row s name size source plan)
+resize_kept s name size source plan small next =
+    let made : List PlanEntry = at_entry (base_of name) (resized_entry (blocks_of size)) plan in
+    let within : PlanEntry → Effect State = λ e. if_within s source e.group made in
+    let plain : PlanEntry → Effect State =
+    λ e. unless (not (is_some e.store)) refusals.HasStore (within e) in
+    let found : Effect State = if_planned (entry_named (base_of name) plan) plain in
+    let sized : Effect State = unless (nat_le size (2 ^ 40)) refusals.BadSize found in
+    keeps_unless s (is_full (other_slot source) name) refusals.BadName sized small (λ _.
+    keeps_unless s (nat_le size (2 ^ 40)) refusals.BadSize found small (λ le.
+    keeps_planned s (entry_named (base_of name) plan) plain small (λ e _.
+    keeps_unless s (not (is_some e.store)) refusals.HasStore (within e) small (λ _.
+    within_kept s source e.group made small
+    (resize_small (base_of name) size plan next (leb-true size (2 ^ 40) le))))))
+
+delete_kept : (s : State) (name : List ℕ) (source : ℕ) (plan : List PlanEntry)
+    → IsSmall s
+    → IsSmallPlan plan
+    → Keeps s (delete_row s name source plan)
+delete_kept s name source plan small next =
+    let made : List PlanEntry = without_entry (base_of name) plan in
+    let plain : PlanEntry → Effect State =
+    λ e. unless (not (is_some e.store)) refusals.HasStore (planned s source made) in
+    keeps_unless s (is_full (other_slot source) name) refusals.BadName
+    (if_planned (entry_named (base_of name) plan) plain) small (λ _.
+    keeps_planned s (entry_named (base_of name) plan) plain small (λ e _.
+    keeps_unless s (not (is_some e.store)) refusals.HasStore (planned s source made) small (λ _.
+    plan_kept s source made small (delete_small (base_of name) plan next))))
+
+snapshot_kept : (s : State) (name : List ℕ) (size source : ℕ) (plan : List PlanEntry)
+    → IsSmall s
+    → IsSmallPlan plan
+    → Keeps s (snapshot_row s name size source plan)
+snapshot_kept s name size source plan small next =
+    let made : List PlanEntry = at_entry (base_of name) (stored_entry size) plan in
+    let plain : PlanEntry → Effect State =
+    λ e. unless (not (is_some e.store)) refusals.HasStore (if_room s source made) in
+    let found : Effect State = if_planned (entry_named (base_of name) plan) plain in
+    let some : Bool = size == 0 || nat_lt 1 (blocks_of size) in
+    keeps_unless s (is_full (other_slot source) name) refusals.BadName
+    (unless (nat_le size (2 ^ 40) && some) refusals.BadSize found) small (λ _.
+    keeps_unless s (nat_le size (2 ^ 40) && some) refusals.BadSize found small (λ sized.
+    keeps_planned s (entry_named (base_of name) plan) plain small (λ e _.
+    keeps_unless s (not (is_some e.store)) refusals.HasStore (if_room s source made) small (λ _.
+    room_kept s source made small
+    (store_plan_small (base_of name) size plan next
+    (leb-true size (2 ^ 40) (and_parts (nat_le size (2 ^ 40)) some sized).0))))))
+
+-- ---- flash
+
+filled_long : (staged : List ℕ) (blocks : ℕ)
+    → length staged ≤ 4096 * blocks
+    → length (filled staged blocks) ≡ 4096 * blocks
+filled_long staged blocks le =
+    let zero_byte : ℕ = 0 in
+    omega (
+      arith,
+      length-append staged (replicate (4096 * blocks - length staged) zero_byte),
+      length-replicate (4096 * blocks - length staged) zero_byte,
+      le,
+    )
+
+stored_kept : (s : State) (source : ℕ) (plan : List PlanEntry) (e : PlanEntry) (store : ℕ)
+    (image : List ℕ) (n : ℕ)
+    → IsSmall s
+    → IsSmallPlan plan
+    → length image ≤ 2 ^ 40
+    → n ≤ 2 ^ 52
+    → Keeps s (if_stored s source plan e store image n)
+stored_kept s source plan e store image n small next long few =
+    let made : List PlanEntry = at_entry e.name (written_entry image n) plan in
+    keeps_unless s (nat_le (need_of n) store) (refusals.StoreFull (need_of n) store)
+    (planned s source made) small (λ _.
+    plan_kept s source made small (write_small e.name image n plan next long few))
+
+staged_kept : (s : State) (source : ℕ) (plan : List PlanEntry) (e : PlanEntry) (store : ℕ)
+    (staged : Option (List ℕ))
+    → IsSmall s
+    → IsSmallPlan plan
+    → IsSmallEntry e
+    → Keeps s (flash_staged s source plan e store staged)
+staged_kept s source plan e store None small next entry = small
+staged_kept s source plan e store (Some staged) small next entry =
+    let image : List ℕ = filled staged e.blocks in
+    let n : ℕ = differences (bytes_named e.name (images_of s source)) image e.blocks in
+    let done : Effect State = if_stored s source plan e store image n in
+    let fits : Bool = nat_le (length staged) (4096 * e.blocks) in
+    let large : Refusal = refusals.TooLarge (length staged) (4096 * e.blocks) in
+    let most = differences_most (bytes_named e.name (images_of s source)) image e.blocks in
+    keeps_unless s (not (is_sparse staged)) refusals.Sparse (unless fits large done) small (λ _.
+    keeps_unless s fits large done small (λ le.
+    let long = filled_long staged e.blocks (leb-true (length staged) (4096 * e.blocks) le) in
+    stored_kept s source plan e store image n small next
+    (omega (arith, long, entry.blocks)) (omega (arith, most, entry.blocks))))
+
+flash_entry_kept : (s : State) (source : ℕ) (plan : List PlanEntry) (staged : Option (List ℕ))
+    (e : PlanEntry) (store : Option ℕ)
+    → IsSmall s
+    → IsSmallPlan plan
+    → IsSmallEntry e
+    → Keeps s (flash_entry s source plan staged e store)
+flash_entry_kept s source plan staged e None small next entry = small
+flash_entry_kept s source plan staged e (Some store) small next entry =
+    keeps_unless s (not (is_written e.image)) refusals.Written
+    (flash_staged s source plan e store staged) small
+    (λ _. staged_kept s source plan e store staged small next entry)
+
+flash_kept : (s : State) (staged : Option (List ℕ)) (name : List ℕ) (source : ℕ)
+    (plan : List PlanEntry)
+    → IsSmall s
+    → IsSmallPlan plan
+    → Keeps s (flash_row s staged name source plan)
+flash_kept s staged name source plan small next =
+    let row : PlanEntry → Effect State = λ e. flash_entry s source plan staged e e.store in
+    keeps_unless s (is_full (other_slot source) name) refusals.BadName
+    (if_planned (entry_named (base_of name) plan) row) small (λ _.
+    keeps_planned s (entry_named (base_of name) plan) row small (λ e is.
+    flash_entry_kept s source plan staged e e.store small next
+    (entry_small (base_of name) plan e next.each is)))
+
+-- ---- finish
+
+bytes_short : (name : List ℕ) (images : List Image)
+    → All (λ (i : Image). length i.bytes ≤ 2 ^ 40) images
+    → length (bytes_named name images) ≤ 2 ^ 40
+bytes_short name [] each = omega arith
+bytes_short name (i ∷ is) each = elim (cases_Bool (bytes_eq i.name name)) [
+  | inl t ↦ rw t (All-head (λ (i : Image). length i.bytes ≤ 2 ^ 40) i is each)
+  | inr f ↦ rw f (bytes_short name is (All-tail (λ (i : Image). length i.bytes ≤ 2 ^ 40) i is each))
+]
+
+final_short : (source : List Image) (name : List ℕ) (image : PlanImage)
+    → AreSmallImages source
+    → IsSmallImage image
+    → length (final_bytes source name image) ≤ 2 ^ 40
+final_short source name Kept images small = bytes_short name source images.each
+final_short source name Declared images small = omega arith
+final_short source name (Written bytes n) images small = small.bytes_small
+
+final_small : (source : List Image) (plan : List PlanEntry)
+    → AreSmallImages source
+    → IsSmallPlan plan
+    → AreSmallImages (map (final_image source) plan)
+final_small source plan images small = record {
+  few = omega (arith, length-map plan (final_image source), small.few);
+  each =
+      All-map (λ (i : Image). length i.bytes ≤ 2 ^ 40) (final_image source) plan
+      (All-weaker IsSmallEntry (λ e. length (final_image source e).bytes ≤ 2 ^ 40)
+      (λ e s. final_short source e.name e.image images s.image) plan small.each);
+}
+
+finished_small : (s : State) (source : ℕ) (plan : List PlanEntry)
+    → IsSmall s
+    → IsSmallPlan plan
+    → IsSmall (finished s source plan)
+finished_small s source plan small next =
+    let images = final_small (images_of s source) plan (images_small s source small) next in
+    elim (cases_Bool (eqb (other_slot source) 0)) [
+      | inl t ↦ rw t (record { a = images; b = small.b; phase = tt })
+      | inr f ↦ rw f (record { a = small.a; b = images; phase = tt })
+    ]
+
+complete_kept : (s : State) (least : Option (List ℕ)) (e : Effect State)
+    → IsSmall s
+    → Keeps s e
+    → Keeps s (if_complete least e)
+complete_kept s None e small next = next
+complete_kept s (Some name) e small next = small
+
+-- ---- fewer images
+
+none_small : (s : State) (slot : ℕ) (phase : Phase)
+    → IsSmall s
+    → IsSmallPhase phase
+    → IsSmall (record (without_images s slot) { phase = phase })
+none_small s slot phase small next = elim (cases_Bool (eqb slot 0)) [
+  | inl t ↦ rw t (record { a = tt; b = small.b; phase = next })
+  | inr f ↦ rw f (record { a = small.a; b = tt; phase = next })
+]
+
+cancel_kept : (s : State) (phase : Phase) → IsSmall s → Keeps s (cancel_row s phase)
+cancel_kept s Idle small = small
+cancel_kept s (Installing source plan) small = none_small s (other_slot source) Idle small tt
+cancel_kept s (Staged source left) small = elim (cases_Bool (eqb s.control.current source)) [
+  | inl t ↦ rw t (none_small s (other_slot source) Idle small tt)
+  | inr f ↦ rw f small
+]
+cancel_kept s (Merging target left) small = small
+
+begin_merge_kept : (s : State) (phase : Phase) → IsSmall s → Keeps s (begin_merge_row s phase)
+begin_merge_kept s Idle small = small
+begin_merge_kept s (Installing source plan) small = small
+begin_merge_kept s (Staged source left) small =
+    elim (cases_Bool (eqb s.control.current source)) [
+      | inl t ↦ rw t small
+      | inr f ↦ elim (cases_Bool (info_at s.control (other_slot source)).successful) [
+        | inl t ↦
+            rw (f, t) (none_small s source (Merging (other_slot source) left) small tt)
+        | inr n ↦ rw (f, n) small
+      ]
+    ]
+begin_merge_kept s (Merging target left) small = small
+
+turns_kept : (s x : State) (n target left : ℕ)
+    → IsSmall s
+    → IsSmall x
+    → IsSmall (last_of x (turns n s target left))
+unfolding turns
+turns_kept s x zero target left small last = last
+turns_kept s x (suc n) target zero small last =
+    record { a = small.a; b = small.b; phase = tt }
+turns_kept s x (suc n) target (suc left) small last =
+    turns_kept s (record s { phase = Merging target left }) n target left small
+    (record { a = small.a; b = small.b; phase = tt })
+
+merge_kept : (s : State) (n : ℕ) (phase : Phase) → IsSmall s → Keeps s (merge_row s n phase)
+merge_kept s n Idle small = small
+merge_kept s n (Installing source plan) small = small
+merge_kept s n (Staged source left) small = small
+merge_kept s n (Merging target left) small = turns_kept s s n target left small small
+
+-- ---- the table
+
+active_kept : (s : State) (has : Bool) (c : Control)
+    → IsSmall s
+    → Keeps s (active_effect has s c)
+active_kept s true c small = record { a = small.a; b = small.b; phase = small.phase }
+active_kept s false c small = small
+
+print_kept : (s : State) (name : List ℕ) (f : Found) → IsSmall s → Keeps s (print_effect name f)
+print_kept s name (Image_is image) small = small
+print_kept s name (Refused_by refusal) small = small
+
+digest_kept : (s : State) (f : Found) → IsSmall s → Keeps s (digest_effect f)
+digest_kept s (Image_is image) small = small
+digest_kept s (Refused_by refusal) small = small
+
+pub small_after : (s : State) (staged : Option (List ℕ)) (c : Command)
+    → IsSmall s
+    → IsSmall (after_of s (machine_effect s staged c))
+unfolding machine_effect
+small_after s staged (SetActive slot) small =
+    active_kept s (is_some (images_at s slot)) (activated_of s.control slot) small
+small_after s staged Boot small = record { a = small.a; b = small.b; phase = small.phase }
+small_after s staged Mark small = record { a = small.a; b = small.b; phase = small.phase }
+small_after s staged (Print name) small = print_kept s name (found_of s name) small
+small_after s staged (Digest name) small = digest_kept s (found_of s name) small
+small_after s staged Begin small = begin_kept s s.phase small
+small_after s staged (Create name size) small =
+    keeps_installing s s.phase (create_row s name size) small small.phase
+    (λ source plan next. create_kept s name size source plan small next)
+small_after s staged (Resize name size) small =
+    keeps_installing s s.phase (resize_row s name size) small small.phase
+    (λ source plan next. resize_kept s name size source plan small next)
+small_after s staged (Delete name) small =
+    keeps_installing s s.phase (delete_row s name) small small.phase
+    (λ source plan next. delete_kept s name source plan small next)
+small_after s staged (Snapshot name size) small =
+    keeps_installing s s.phase (snapshot_row s name size) small small.phase
+    (λ source plan next. snapshot_kept s name size source plan small next)
+small_after s staged (Flash name) small =
+    keeps_installing s s.phase (flash_row s staged name) small small.phase
+    (λ source plan next. flash_kept s staged name source plan small next)
+small_after s staged Finish small =
+    keeps_installing s s.phase (finish_row s) small small.phase
+    (λ source plan next.
+    complete_kept s (least_declared None plan) _ small (finished_small s source plan small next))
+small_after s staged Cancel small = cancel_kept s s.phase small
+small_after s staged BeginMerge small = begin_merge_kept s s.phase small
+small_after s staged (Merge count) small = merge_kept s count s.phase small

@@ -1,0 +1,155 @@
+-- What follows from a small state is small.
+use Rattle.std.proofs.Common.{◌≡◌, ℕ, ◌^◌, ◌≤◌, ◌<◌, Bool, List}
+use Rattle.std.proofs.Common.{[]}
+use Rattle.std.proofs.Common.{◌∷◌, ◌++◌, length, Option, Some, eqb, inl, inr}
+use Rattle.std.proofs.Common.{subst}
+use Rattle.std.proofs.Common.{arith, length-append, cond}
+use Rattle.std.specs.Prelude.{All, map, not}
+use Rattle.std.specs.List.{filter}
+use Rattle.std.specs.Str.{bytes_eq}
+use Rattle.std.proofs.lemmas.Bool.{cases_Bool}
+use Rattle.std.proofs.lemmas.List.{length-map}
+use Rattle.std.proofs.lemmas.List.Elements.{All-map, All-filter, All-weaker, All-head, All-tail}
+use Rattle.std.proofs.lemmas.List.Elements.{All-push}
+use Rattle.vab_space.specs.Space.{need_of, blocks_of}
+use Rattle.vab_model.specs.declared.state.GroupLimit.{GroupLimit}
+use Rattle.vab_model.specs.declared.state.Image.{Image}
+use Rattle.vab_model.specs.declared.state.PlanEntry.{PlanEntry}
+use Rattle.vab_machine.specs.Plans.{entry_named, at_entry, kept_entry}
+use Rattle.vab_machine.specs.Plans.{created_entry, resized_entry, stored_entry, written_entry}
+use Rattle.vab_machine.specs.Plans.{without_entry}
+use Rattle.vab_machine.specs.Small.{AreSmallImages, IsSmallEntry}
+use Rattle.vab_machine.specs.Small.{IsSmallPlan}
+
+-- ---- entries
+
+pub entry_small : (name : List ℕ) (plan : List PlanEntry) (e : PlanEntry)
+    → All IsSmallEntry plan
+    → entry_named name plan ≡ Some e
+    → IsSmallEntry e
+entry_small name [] e each is = absurd cc
+entry_small name (x ∷ xs) e each is = elim (cases_Bool (bytes_eq x.name name)) [
+  | inl t ↦
+      let found : (let o : Option PlanEntry = Some x in o ≡ Some e) = rw t at is in
+      let same : x ≡ e = cc in
+      subst IsSmallEntry same (All-head IsSmallEntry x xs each)
+  | inr f ↦
+      let rest : entry_named name xs ≡ Some e = rw f at is in
+      entry_small name xs e (All-tail IsSmallEntry x xs each) rest
+]
+
+pub resized_small : (n : ℕ) (e : PlanEntry)
+    → n ≤ 2 ^ 28
+    → IsSmallEntry e
+    → IsSmallEntry (resized_entry n e)
+resized_small n e le small = elim (cases_Bool (eqb e.blocks n)) [
+  | inl t ↦ rw t small
+  | inr f ↦ rw f (record { blocks = le; store = small.store; image = tt })
+]
+
+store_small : (size : ℕ) (e : PlanEntry)
+    → size ≤ 2 ^ 40
+    → e.blocks ≤ 2 ^ 28
+    → cond (eqb size 0) (need_of e.blocks) (blocks_of size) ≤ 2 ^ 52
+store_small size e le small = elim (cases_Bool (eqb size 0)) [
+  | inl t ↦ rw t (omega (arith, small))
+  | inr f ↦ rw f (omega (arith, le))
+]
+
+pub stored_small : (size : ℕ) (e : PlanEntry)
+    → size ≤ 2 ^ 40
+    → IsSmallEntry e
+    → IsSmallEntry (stored_entry size e)
+stored_small size e le small = record {
+  blocks = small.blocks;
+  store = store_small size e le small.blocks;
+  image = tt;
+}
+
+pub at_entry_small : (name : List ℕ) (change : PlanEntry → PlanEntry) (plan : List PlanEntry)
+    → IsSmallPlan plan
+    → ((e : PlanEntry) → IsSmallEntry e → IsSmallEntry (change e))
+    → IsSmallPlan (at_entry name change plan)
+at_entry_small name change plan small keeps =
+    let f : PlanEntry → PlanEntry = λ e. cond (bytes_eq e.name name) (change e) e in
+    record {
+      few = omega (arith, length-map plan f, small.few);
+      each =
+          All-map IsSmallEntry f plan
+          (All-weaker IsSmallEntry (λ e. IsSmallEntry (f e))
+          (λ e s. elim (cases_Bool (bytes_eq e.name name)) [
+            | inl t ↦ rw t (keeps e s)
+            | inr n ↦ rw n s
+          ]) plan small.each);
+    }
+
+pub resize_small : (name : List ℕ) (size : ℕ) (plan : List PlanEntry)
+    → IsSmallPlan plan
+    → size ≤ 2 ^ 40
+    → IsSmallPlan (at_entry name (resized_entry (blocks_of size)) plan)
+resize_small name size plan small le =
+    at_entry_small name (resized_entry (blocks_of size)) plan small
+    (λ e s. resized_small (blocks_of size) e (omega (arith, le)) s)
+
+pub store_plan_small : (name : List ℕ) (size : ℕ) (plan : List PlanEntry)
+    → IsSmallPlan plan
+    → size ≤ 2 ^ 40
+    → IsSmallPlan (at_entry name (stored_entry size) plan)
+store_plan_small name size plan small le =
+    at_entry_small name (stored_entry size) plan small (λ e s. stored_small size e le s)
+
+pub create_small : (groups : List GroupLimit) (name : List ℕ) (size : ℕ) (plan : List PlanEntry)
+    → IsSmallPlan plan
+    → size ≤ 2 ^ 40
+    → length plan < 32
+    → IsSmallPlan (plan ++ created_entry groups name size ∷ [])
+create_small groups name size plan small le few = record {
+  few = omega (arith, length-append plan (created_entry groups name size ∷ []), few);
+  each =
+      All-push IsSmallEntry plan (created_entry groups name size) small.each
+      (record { blocks = omega (arith, le); store = omega arith; image = tt });
+}
+
+filter_most : {X : Type 0} (p : X → Bool) (xs : List X) → length (filter p xs) ≤ length xs
+filter_most p [] = omega arith
+filter_most p (x ∷ xs) =
+    let rest = filter_most p xs in
+    elim (cases_Bool (p x)) [
+      | inl t ↦ rw t (omega (arith, rest))
+      | inr f ↦ rw f (omega (arith, rest))
+    ]
+
+pub delete_small : (name : List ℕ) (plan : List PlanEntry)
+    → IsSmallPlan plan
+    → IsSmallPlan (without_entry name plan)
+delete_small name plan small =
+    let p : PlanEntry → Bool = λ e. not (bytes_eq e.name name) in
+    record {
+      few = omega (arith, filter_most p plan, small.few);
+      each = All-filter p IsSmallEntry plan small.each;
+    }
+
+pub write_small : (name bytes : List ℕ) (n : ℕ) (plan : List PlanEntry)
+    → IsSmallPlan plan
+    → length bytes ≤ 2 ^ 40
+    → n ≤ 2 ^ 52
+    → IsSmallPlan (at_entry name (written_entry bytes n) plan)
+write_small name bytes n plan small long few =
+    at_entry_small name (written_entry bytes n) plan small (λ e s. record {
+      blocks = s.blocks;
+      store = s.store;
+      image = record { bytes_small = long; few = few };
+    })
+
+pub begin_small : (images : List Image)
+    → AreSmallImages images
+    → IsSmallPlan (map kept_entry images)
+begin_small images small = record {
+  few = omega (arith, length-map images kept_entry, small.few);
+  each =
+      All-map IsSmallEntry kept_entry images
+      (All-weaker (λ (i : Image). length i.bytes ≤ 2 ^ 40)
+      (λ (i : Image). IsSmallEntry (kept_entry i))
+      (λ i le. record { blocks = omega (arith, le); store = omega arith; image = tt })
+      images small.each);
+}

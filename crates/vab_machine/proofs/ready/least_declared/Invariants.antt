@@ -1,0 +1,7 @@
+use Rattle.std.proofs.Common.{◌≡◌, drop, None}
+use Rattle.vab_machine.specs.Machine.{least_declared}
+use Rattle.vab_machine.proofs.ready.least_declared.Given as goal
+
+abbrev pub invariant-loop-entry : goal.invariant-loop-entry
+invariant-loop-entry l =
+    least_declared l.least (drop l.entry-index l.plan) ≡ least_declared None l.plan

@@ -1,0 +1,5 @@
+pub mod Plans
+pub mod Staged
+pub mod Machine
+pub mod Small
+pub mod Changes

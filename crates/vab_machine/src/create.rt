@@ -1,0 +1,65 @@
+//! The begin of an update, and a partition more.
+
+ghost use Rattle.std.specs.Prelude.{◌≡◌, ◌^◌, IfOk};
+ghost use Rattle.vab_model.specs.Effects.{after_of};
+ghost use Rattle.vab_machine.specs.Machine.{begin_row, create_row, if_installing};
+ghost use Rattle.vab_machine.specs.Small.{IsSmall};
+
+use crate::answer::{if_within, planned, refuse};
+use crate::change::{begun_plan, with_created};
+use crate::parts::{base_named, first_group, installing, is_planned};
+use std::alloc::Global;
+use vab_model::{NoMemory, Phase, Refusal, Reply, State};
+
+/// The most bytes of a partition.
+pub(crate) const MOST: u64 = 1 << 40;
+
+/// An update from the current slot.
+pub(crate) fn begin(alloc: Global, state: &State) -> Result<(State, Reply), NoMemory>
+    ensures state { IfOk result
+        (λ r. r.0 ≡ after_of state.now (begin_row state.now state.now.phase)) }
+    ensures reply { IfOk result (λ r. r.1 ≡ (begin_row state.now state.now.phase).reply) }
+{
+    let Phase::Idle = &state.phase else {
+        return refuse(alloc, state, Refusal::NotIdle);
+    };
+    let current = state.control.current;
+    let images = if current == 0 { &state.a } else { &state.b };
+    match images {
+        None => refuse(alloc, state, Refusal::NoImages),
+        Some(images) => planned(alloc, state, current, begun_plan(alloc, images.as_slice())?),
+    }
+}
+
+/// A partition more.
+pub(crate) fn create(
+    alloc: Global,
+    state: &State,
+    name: &[u8],
+    size: u64,
+) -> Result<(State, Reply), NoMemory>
+    requires { IsSmall state.now }
+    ensures state { IfOk result (λ r. r.0
+        ≡ after_of state.now
+        (if_installing state.now.phase (create_row state.now name.now size))) }
+    ensures reply { IfOk result
+        (λ r. r.1 ≡ (if_installing state.now.phase (create_row state.now name.now size)).reply) }
+{
+    let Some((source, plan)) = installing(state) else {
+        return refuse(alloc, state, Refusal::NotInstalling);
+    };
+    let Some(base) = base_named(name, source) else {
+        return refuse(alloc, state, Refusal::BadName);
+    };
+    if size > MOST {
+        return refuse(alloc, state, Refusal::BadSize);
+    }
+    if is_planned(plan, base.text()) {
+        return refuse(alloc, state, Refusal::Exists);
+    }
+    if plan.len() >= 32 {
+        return refuse(alloc, state, Refusal::TooMany);
+    }
+    let next = with_created(alloc, plan, &state.groups, base, size)?;
+    if_within(alloc, state, source, &first_group(&state.groups), next)
+}

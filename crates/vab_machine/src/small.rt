@@ -1,0 +1,80 @@
+//! Whether all that is counted of a state are numbers of 64 bits.
+
+ghost use Rattle.std.specs.Prelude.{◌↔◌, ◌≤◌, ◌^◌, IsTrue, length};
+ghost use Rattle.vab_machine.specs.Small.{AreSmallImages, IsSmallSlot, IsSmallImage, IsSmallEntry};
+ghost use Rattle.vab_machine.specs.Small.{IsSmallPlan, IsSmallPhase, IsSmall};
+
+use vab_bytes::Listing;
+use vab_model::{Image, Phase, PlanEntry, PlanImage, State};
+
+/// The most blocks of a store, and the most exceptions.
+const MOST_BLOCKS: u64 = 1 << 52;
+
+fn is_small_bytes(bytes: &[u8]) -> bool
+    ensures { IsTrue result ↔ (length bytes.now ≤ 2 ^ 40) }
+{
+    bytes.len() <= 1 << 40
+}
+
+fn are_small_images(images: &[Image]) -> bool
+    ensures { IsTrue result ↔ AreSmallImages images.now }
+{
+    images.len() <= 32
+        && images
+            .iter()
+            .all(|image| is_small_bytes(image.bytes.as_slice()))
+}
+
+fn is_small_slot(images: &Option<Listing<Image>>) -> bool
+    ensures { IsTrue result ↔ IsSmallSlot images.now }
+{
+    match images {
+        None => true,
+        Some(images) => are_small_images(images.as_slice()),
+    }
+}
+
+fn is_small_image(image: &PlanImage) -> bool
+    ensures { IsTrue result ↔ IsSmallImage image.now }
+{
+    match image {
+        PlanImage::Kept => true,
+        PlanImage::Declared => true,
+        PlanImage::Written(bytes, exceptions) => {
+            is_small_bytes(bytes.as_slice()) && *exceptions <= MOST_BLOCKS
+        }
+    }
+}
+
+fn is_small_entry(entry: &PlanEntry) -> bool
+    ensures { IsTrue result ↔ IsSmallEntry entry.now }
+{
+    entry.blocks <= 1 << 28
+        && entry.store.unwrap_or(0) <= MOST_BLOCKS
+        && is_small_image(&entry.image)
+}
+
+fn is_small_plan(plan: &[PlanEntry]) -> bool
+    ensures { IsTrue result ↔ IsSmallPlan plan.now }
+{
+    plan.len() <= 32 && plan.iter().all(|entry| is_small_entry(entry))
+}
+
+fn is_small_phase(phase: &Phase) -> bool
+    ensures { IsTrue result ↔ IsSmallPhase phase.now }
+{
+    match phase {
+        Phase::Idle => true,
+        Phase::Installing(_, plan) => is_small_plan(plan.as_slice()),
+        Phase::Staged(_, _) => true,
+        Phase::Merging(_, _) => true,
+    }
+}
+
+/// Whether a state is small enough for `step`, as that of each device is: 32 images of 2^40 bytes
+/// each in a slot, a plan of 32 partitions of 2^28 blocks each, and stores of 2^52 blocks.
+pub fn is_small(state: &State) -> bool
+    ensures { IsTrue result ↔ IsSmall state.now }
+{
+    is_small_slot(&state.a) && is_small_slot(&state.b) && is_small_phase(&state.phase)
+}

@@ -1,0 +1,17 @@
+pub mod SlotRows
+pub mod Filled
+pub mod Flashes
+pub mod Sectors
+pub mod Installed
+pub mod Values
+pub mod Given
+pub mod Sources
+pub mod Begins
+pub mod Entries
+pub mod Deletes
+pub mod Rooms
+pub mod Snapshots
+pub mod Groups
+pub mod Resizes
+pub mod Creates
+pub mod All

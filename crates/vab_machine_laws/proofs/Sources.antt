@@ -1,0 +1,317 @@
+-- The slot of an update's source, or of a device without an update: its table and its images.
+use Rattle.std.proofs.Common.{◌≡◌, ◌∙◌, ℕ, zero, suc, ◌+◌, ◌≤◌, ◌<◌, List, [], ◌∷◌}
+use Rattle.std.proofs.Common.{refl, sym, ap, subst, arith, Ok, eqb}
+use Rattle.std.specs.Prelude.{Option, Some, map}
+use Rattle.std.proofs.lemmas.Bool.{leb-true, eqb-true}
+use Rattle.vab_disk.specs.Disk.{Image}
+use Rattle.vab_bootctl.specs.declared.slots.Control.{Control}
+use Rattle.vab_bootctl.specs.Boot.{info_at}
+use Rattle.vab_marks.specs.declared.mark.MarkPhase.{MarkPhase}
+use Rattle.vab_marks.specs.declared.mark.MarkPhase.TheVariants as marks
+use Rattle.vab_marks.specs.declared.status.PartStatus.{PartStatus}
+use Rattle.vab_marks.specs.Mark.{mark_at}
+use Rattle.vab_tables.specs.declared.table.Table.{Table}
+use Rattle.vab_tables.specs.Rules.{cap_of}
+use Rattle.vab_geometry.specs.declared.geometry.Geometry.{Geometry}
+use Rattle.vab_layout.specs.declared.layout.Layout.{Layout}
+use Rattle.vab_layout.specs.Layout.{layout_of}
+use Rattle.vab_layout.specs.Plain.{plain}
+use Rattle.vab_layout.specs.Slots.{other_slot, IsOwn}
+use Rattle.vab_layout.proofs.LayoutLaws.{layout_keeps}
+use Rattle.vab_partitions.proofs.OwnRules.{own_kept}
+use Rattle.vab_model.specs.declared.state.Image.{Image as ImageOfSlot}
+use Rattle.vab_model.specs.declared.state.PlanEntry.{PlanEntry}
+use Rattle.vab_model.specs.declared.state.Phase.TheVariants.{Idle, Installing, Staged, Merging}
+use Rattle.vab_model.specs.State.{images_at}
+use Rattle.vab_device.specs.declared.fault.StartFault.TheVariants.{BadState}
+use Rattle.vab_device.specs.Checks.{Check, check}
+use Rattle.vab_device.specs.Kept.{parts_of, AreParts}
+use Rattle.vab_device.specs.Mounted.{Mounted, mounted_on, state_on, image_on, phase_on, phase_by}
+use Rattle.vab_device.specs.Mounted.{entries_on, count_at}
+use Rattle.vab_device.specs.Phases.{phase_at, is_good, own_check, twin_check, target_check}
+use Rattle.vab_device.specs.Reading.{Read, kept, IsIn, Reads, table_at}
+use Rattle.vab_device.specs.Stores.{Scanned}
+use Rattle.vab_device.specs.Updates.{layout_at}
+use Rattle.vab_device.proofs.CheckLaws.{first_kept, check_kept}
+use Rattle.vab_device.proofs.OwnParts.{parts_kept}
+use Rattle.vab_device.proofs.ReadingLaws.{device_was, idle_read_of, slot_below}
+use Rattle.vab_device.proofs.StayLaws.{one_of}
+use Rattle.vab_edit.proofs.InstallingLaws.{read_at, two_tables}
+use Rattle.vab_targets.specs.Plans.{HasWholeSectors}
+use Rattle.vab_machine_laws.proofs.Sectors.{table_rules, IsRead}
+use Rattle.vab_machine_laws.proofs.Installed.{IsReadAs, none_named}
+
+-- The slot of the update mark: its table, whose partitions have the slot's images, and the blocks
+-- of the device.
+pub record HasSource (size : ℕ) (image : Image) (m : Mounted) (slot : ℕ) : Type 0 where
+  pub l : Layout
+  pub below : slot < 2
+  pub from : layout_at m.places slot ≡ Some (plain slot l)
+  pub pictures : List ImageOfSlot
+  pub images : images_at m.state slot ≡ Some pictures
+  pub are : pictures ≡ map (image_on image) (parts_of slot l)
+  pub cap : m.state.cap ≡ cap_of l.device
+  pub parts : AreParts size (parts_of slot l)
+
+-- ---- without an update
+
+abbrev idle_at : ℕ
+    → List (Option PartStatus)
+    → Control
+    → Geometry
+    → Table
+    → List Scanned
+    → Read
+idle_at slot statuses c g t scanned = record {
+  mark = mark_at marks.Idle slot;
+  statuses = statuses;
+  control = c;
+  geometry = g;
+  tables = t ∷ [];
+  scanned = scanned;
+}
+
+phase_said : (r : Read) (image : Image)
+    → (mounted_on (kept r) image).state.phase ≡ phase_on (kept r) image
+unfolding state_on
+phase_said r image = refl
+
+module _
+    (size : ℕ) (image : Image) (slot : ℕ) (statuses : List (Option PartStatus)) (c : Control)
+    (g : Geometry) (t : Table) (ss : List Scanned)
+    (whole : HasWholeSectors size image)
+    (reads : Reads size (idle_at slot statuses c g t ss) image)
+    (table : table_at size g slot image ≡ Ok t) where
+  abbrev r : Read
+  r = idle_at slot statuses c g t ss
+
+  lower : slot < 2
+  lower = slot_below image r.mark reads.mark
+
+  enough : 4120 ≤ size
+  enough = leb-true 4120 size reads.enough
+
+  from_at : (k : ℕ)
+      → k < 2
+      → layout_at (mounted_on (kept (idle_at k statuses c g t ss)) image).places k
+      ≡ Some (plain k (layout_of t))
+  from_at zero lt = refl
+  from_at (suc zero) lt = refl
+  from_at (suc (suc n)) lt = absurd (omega (arith, lt))
+
+  images_are : (k : ℕ)
+      → k < 2
+      → images_at (mounted_on (kept (idle_at k statuses c g t ss)) image).state k
+      ≡ Some (map (image_on image) (parts_of k (layout_of t)))
+  unfolding state_on
+  images_are zero lt = refl
+  images_are (suc zero) lt = refl
+  images_are (suc (suc n)) lt = absurd (omega (arith, lt))
+
+  cap_is : (mounted_on (kept r) image).state.cap ≡ cap_of (layout_of t).device
+  unfolding state_on
+  cap_is = refl
+
+  idle_parts : AreParts size (parts_of slot (layout_of t))
+  idle_parts =
+      let own : IsOwn slot (layout_of t).parts =
+      own_kept slot (layout_of t).parts
+      (none_named _ (first_kept (own_check slot t) [] reads.parts).0) in
+      let read : IsRead size g t =
+      table_rules size image g slot t whole enough lower reads.geometry table in
+      parts_kept size slot g (layout_of t) enough (layout_keeps t read.rules) own read.lies
+
+  -- the slot of the mark is current
+  pub current_on : (mounted_on (kept r) image).state.control.current ≡ slot
+  unfolding state_on
+  current_on =
+      let at : Check = check (eqb c.current slot) (BadState 1) in
+      let good : Check = check (is_good (info_at c slot)) (BadState 2) in
+      eqb-true c.current slot
+      (check_kept (eqb c.current slot) (BadState 1) (first_kept at (good ∷ []) reads.state).0)
+
+  pub idle_source : HasSource size image (mounted_on (kept r) image) slot
+  idle_source = record {
+    l = layout_of t;
+    below = lower;
+    from = from_at slot lower;
+    pictures = map (image_on image) (parts_of slot (layout_of t));
+    images = images_are slot lower;
+    are = refl;
+    cap = cap_is;
+    parts = idle_parts;
+  }
+
+pub has_idle : (size : ℕ) (image : Image) (m : Mounted)
+    → HasWholeSectors size image
+    → IsIn size m image
+    → m.state.phase ≡ Idle
+    → HasSource size image m m.state.control.current
+has_idle size image m whole is phase =
+    let was = device_was size image m is in
+    let r : Read = was.read in
+    let idle : r.mark.phase ≡ marks.Idle =
+    idle_read_of size r image was.reads
+    (sym (phase_said r image) ∙ sym (ap (λ (x : Mounted). x.state.phase) was.is) ∙ phase) in
+    let marked : r ≡ record r { mark = record r.mark { phase = marks.Idle } } =
+    (λ i. record r { mark = record r.mark { phase = idle i } }) in
+    let now = subst (IsReadAs size image m) marked (record { reads = was.reads; is = was.is }) in
+    let one = one_of size r.geometry r.mark.slot image r.tables now.reads.tables in
+    let form : record r { mark = record r.mark { phase = marks.Idle } }
+    ≡ idle_at r.mark.slot r.statuses r.control r.geometry one.0 r.scanned =
+    (λ i. record {
+      mark = record r.mark { phase = marks.Idle };
+      statuses = r.statuses;
+      control = r.control;
+      geometry = r.geometry;
+      tables = one.1 i;
+      scanned = r.scanned;
+    }) in
+    let read = subst (IsReadAs size image m) form now in
+    let there = idle_source size image r.mark.slot r.statuses r.control r.geometry one.0 r.scanned
+    whole read.reads one.2 in
+    let current = current_on size image r.mark.slot r.statuses r.control r.geometry one.0 r.scanned
+    whole read.reads one.2 in
+    let at : HasSource size image (mounted_on (kept
+    (idle_at r.mark.slot r.statuses r.control r.geometry one.0 r.scanned)) image)
+    (mounted_on (kept
+    (idle_at r.mark.slot r.statuses r.control r.geometry one.0 r.scanned))
+    image).state.control.current =
+    subst (HasSource size image (mounted_on (kept
+    (idle_at r.mark.slot r.statuses r.control r.geometry one.0 r.scanned)) image)) (sym current)
+    there in
+    subst (λ (x : Mounted). HasSource size image x x.state.control.current) (sym read.is) at
+
+-- ---- while an update is installed
+
+installing_by : (p : MarkPhase) (slot left source : ℕ) (plan : List PlanEntry)
+    (ts : List Table) (ss : List Scanned) (image : Image)
+    → phase_by (mark_at p slot) left
+    (entries_on image ((phase_at p).plan slot ts ss))
+    ≡ Installing source plan
+    → p ≡ marks.Installing
+installing_by marks.Idle slot left source plan ts ss image is =
+    absurd (let bad : Idle ≡ Installing source plan = is in cc)
+installing_by marks.Installing slot left source plan ts ss image is = refl
+installing_by marks.Staged slot left source plan ts ss image is =
+    absurd (let bad : Staged slot left ≡ Installing source plan = is in cc)
+installing_by marks.Merging slot left source plan ts ss image is =
+    absurd (let bad : Merging slot left ≡ Installing source plan = is in cc)
+installing_by marks.Completed slot left source plan ts ss image is =
+    absurd (let bad : Idle ≡ Installing source plan = is in cc)
+
+installing_of : (r : Read) (image : Image) (source : ℕ) (plan : List PlanEntry)
+    → (mounted_on (kept r) image).state.phase ≡ Installing source plan
+    → r.mark.phase ≡ marks.Installing
+unfolding state_on
+installing_of r image source plan is =
+    installing_by r.mark.phase r.mark.slot (count_at (kept r).a + count_at (kept r).b) source plan
+    r.tables r.scanned image is
+
+-- the mark's slot is the source
+source_of : (k : ℕ) (statuses : List (Option PartStatus)) (seen : Control) (g : Geometry)
+    (s t : Table) (ss : List Scanned) (image : Image) (source : ℕ) (plan : List PlanEntry)
+    → (mounted_on (kept (read_at k statuses seen g s t ss)) image).state.phase
+    ≡ Installing source plan
+    → k ≡ source
+unfolding state_on
+source_of k statuses seen g s t ss image source plan is = cc
+
+module _
+    (size : ℕ) (image : Image) (slot : ℕ) (statuses : List (Option PartStatus)) (seen : Control)
+    (g : Geometry) (s t : Table) (ss : List Scanned)
+    (whole : HasWholeSectors size image)
+    (reads : Reads size (read_at slot statuses seen g s t ss) image) where
+  abbrev both : Read
+  both = read_at slot statuses seen g s t ss
+
+  under : slot < 2
+  under = slot_below image both.mark reads.mark
+
+  many : 4120 ≤ size
+  many = leb-true 4120 size reads.enough
+
+  source_at : (k : ℕ)
+      → k < 2
+      → layout_at (mounted_on (kept (read_at k statuses seen g s t ss)) image).places k
+      ≡ Some (plain k (layout_of s))
+  source_at zero lt = refl
+  source_at (suc zero) lt = refl
+  source_at (suc (suc n)) lt = absurd (omega (arith, lt))
+
+  drawn : (k : ℕ)
+      → k < 2
+      → images_at (mounted_on (kept (read_at k statuses seen g s t ss)) image).state k
+      ≡ Some (map (image_on image) (parts_of k (layout_of s)))
+  unfolding state_on
+  drawn zero lt = refl
+  drawn (suc zero) lt = refl
+  drawn (suc (suc n)) lt = absurd (omega (arith, lt))
+
+  blocks_are : (mounted_on (kept both) image).state.cap ≡ cap_of (layout_of s).device
+  unfolding state_on
+  blocks_are = refl
+
+  source_parts : AreParts size (parts_of slot (layout_of s))
+  source_parts =
+      let o : ℕ = other_slot slot in
+      let one = first_kept (twin_check o s t) (own_check slot s ∷ target_check o s t ∷ [])
+      reads.parts in
+      let two = first_kept (own_check slot s) (target_check o s t ∷ []) one.1 in
+      let own : IsOwn slot (layout_of s).parts =
+      own_kept slot (layout_of s).parts (none_named _ two.0) in
+      let tables = two_tables size g slot o image (s ∷ t ∷ []) reads.tables in
+      let are : tables.source ∷ tables.target ∷ [] ≡ s ∷ t ∷ [] = sym tables.are in
+      let same : tables.source ≡ s = cc in
+      let read : IsRead size g s =
+      subst (IsRead size g) same
+      (table_rules size image g slot tables.source whole many under reads.geometry
+      tables.source_read) in
+      parts_kept size slot g (layout_of s) many (layout_keeps s read.rules) own read.lies
+
+  pub installing_source : HasSource size image (mounted_on (kept both) image) slot
+  installing_source = record {
+    l = layout_of s;
+    below = under;
+    from = source_at slot under;
+    pictures = map (image_on image) (parts_of slot (layout_of s));
+    images = drawn slot under;
+    are = refl;
+    cap = blocks_are;
+    parts = source_parts;
+  }
+
+pub has_source : (size : ℕ) (image : Image) (m : Mounted) (source : ℕ) (plan : List PlanEntry)
+    → HasWholeSectors size image
+    → IsIn size m image
+    → m.state.phase ≡ Installing source plan
+    → HasSource size image m source
+has_source size image m source plan whole is phase =
+    let was = device_was size image m is in
+    let r : Read = was.read in
+    let installing : r.mark.phase ≡ marks.Installing =
+    installing_of r image source plan
+    (sym (ap (λ (x : Mounted). x.state.phase) was.is) ∙ phase) in
+    let marked : r ≡ record r { mark = record r.mark { phase = marks.Installing } } =
+    (λ i. record r { mark = record r.mark { phase = installing i } }) in
+    let now = subst (IsReadAs size image m) marked (record { reads = was.reads; is = was.is }) in
+    let two = two_tables size r.geometry r.mark.slot (other_slot r.mark.slot) image r.tables
+    now.reads.tables in
+    let form : record r { mark = record r.mark { phase = marks.Installing } }
+    ≡ read_at r.mark.slot r.statuses r.control r.geometry two.source two.target r.scanned =
+    (λ i. record {
+      mark = record r.mark { phase = marks.Installing };
+      statuses = r.statuses;
+      control = r.control;
+      geometry = r.geometry;
+      tables = two.are i;
+      scanned = r.scanned;
+    }) in
+    let read = subst (IsReadAs size image m) form now in
+    let there = installing_source size image r.mark.slot r.statuses r.control r.geometry two.source
+    two.target r.scanned whole read.reads in
+    let same = source_of r.mark.slot r.statuses r.control r.geometry two.source two.target r.scanned
+    image source plan (sym (ap (λ (x : Mounted). x.state.phase) read.is) ∙ phase) in
+    subst (λ (x : Mounted). HasSource size image x source) (sym read.is)
+    (subst (HasSource size image (mounted_on (kept (read_at r.mark.slot r.statuses r.control
+    r.geometry two.source two.target r.scanned)) image)) same there)

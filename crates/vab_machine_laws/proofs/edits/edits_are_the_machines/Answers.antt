@@ -1,0 +1,21 @@
+use Rattle.vab_machine_laws.proofs.Begins.{begin_is}
+use Rattle.vab_machine_laws.proofs.Creates.{create_is}
+use Rattle.vab_machine_laws.proofs.Deletes.{delete_is}
+use Rattle.vab_machine_laws.proofs.Snapshots.{snapshot_is}
+use Rattle.vab_machine_laws.proofs.Resizes.{resize_is}
+use Rattle.vab_machine_laws.proofs.edits.edits_are_the_machines.Goals as goal
+
+pub returns-clause-begin : goal.returns-clause-begin
+returns-clause-begin c = begin_is c.plans_by_sizes.ensures.begun
+
+pub returns-clause-delete : goal.returns-clause-delete
+returns-clause-delete c = delete_is c.plans_by_sizes.ensures.edited
+
+pub returns-clause-snapshot : goal.returns-clause-snapshot
+returns-clause-snapshot c = snapshot_is c.plans_by_sizes.ensures.edited
+
+pub returns-clause-resize : goal.returns-clause-resize
+returns-clause-resize c = resize_is c.plans_by_sizes.ensures.edited
+
+pub returns-clause-create : goal.returns-clause-create
+returns-clause-create c = create_is c.plans_by_sizes.ensures.edited

@@ -1,0 +1,5 @@
+use Rattle.vab_machine_laws.proofs.Flashes.{flash_is}
+use Rattle.vab_machine_laws.proofs.slots.flashes_are_the_machines.Goals as goal
+
+pub returns : goal.returns
+returns c = flash_is

@@ -1,0 +1,9 @@
+//! Laws that tie the plain machine to disks: what a command makes of a device is what the machine
+//! makes of its state, or the device's table is full.
+#![tactic(auto)]
+
+mod edits;
+mod slots;
+
+pub use edits::{each_command_is_the_machines, edits_are_the_machines};
+pub use slots::{ends_are_the_machines, flashes_are_the_machines, slots_are_the_machines};

@@ -1,0 +1,85 @@
+// A command on a disk in memory, and beside it on the machine.
+
+use crate::held::state_of;
+use crate::spelled::spelled;
+use std::alloc::Global;
+use std::process::Abort;
+use std::test::*;
+use vab_commands::run_one;
+use vab_device::Device;
+use vab_disk::MemPort;
+use vab_machine::{is_small, step};
+use vab_model::{Command, Refusal, Reply, State};
+use vab_recover::start;
+
+/// The state of the device that is opened.
+pub(crate) fn opened(alloc: Global, d: &mut MemPort) -> Result<State, Fail> {
+    match start(alloc, d) {
+        Ok(device) => state_of(alloc, d, &device),
+        Err(_) => Err("a device is opened".into()),
+    }
+}
+
+// Opens the device and carries out a command on it.
+fn carried(
+    alloc: Global,
+    d: &mut MemPort,
+    command: &Command,
+    staged: Option<&[u8]>,
+) -> Option<(Device, Reply)> {
+    let device = match start(alloc, d) {
+        Ok(device) => device,
+        Err(_) => return None,
+    };
+    run_one(alloc, d, device, command, staged).ok()
+}
+
+// What the machine makes of it.
+fn stepped(
+    alloc: Global,
+    state: &State,
+    command: &Command,
+    staged: Option<&[u8]>,
+) -> Result<(State, Reply), Fail> {
+    if !is_small(state) {
+        return Err("a state is small".into());
+    }
+    Ok(step(alloc, state, command, staged)?)
+}
+
+/// Carries out a command on the device of a disk, and on the machine in this state, which is that
+/// of the device. The replies are the same, or the table was full where the machine's is `Done`,
+/// and then nothing has changed; and so are the states behind them.
+pub(crate) fn beside(
+    rt: &impl Abort,
+    alloc: Global,
+    d: &mut MemPort,
+    state: &State,
+    command: &Command,
+    staged: Option<&[u8]>,
+) -> Result<(State, Reply), Fail> {
+    let (stepped, want) = stepped(alloc, state, command, staged)?;
+    let (device, told) = carried(alloc, d, command, staged).ok_or("a command is carried out")?;
+    let held = state_of(alloc, d, &device)?;
+    let next = match told {
+        Reply::Refused(Refusal::TableFull(_, _)) => {
+            assert_eq!(rt; want, Reply::Done, "{command:?}");
+            state.copy(alloc)?
+        }
+        _ => {
+            assert_eq!(rt; told, want, "{command:?}");
+            stepped
+        }
+    };
+    let (held, wanted) = (spelled(alloc, &held)?, spelled(alloc, &next)?);
+    assert!(rt;
+        held.as_slice() == wanted.as_slice(),
+        "the state behind {command:?}"
+    );
+    let again = spelled(alloc, &opened(alloc, d)?)?;
+    assert!(rt;
+        again.as_slice() == wanted.as_slice(),
+        "the state opened behind {command:?}"
+    );
+    Ok((next, told))
+}
