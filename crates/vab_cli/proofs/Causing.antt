@@ -120,7 +120,7 @@ ended_read (Err status) stop is = absurd (stop_read stop is)
 
 pub ended_refused : (r : Result Device Status) → status_in r ≡ Refused → IsErrOf r Refused
 ended_refused (Ok d) is = cc
-ended_refused (Err status) is = is
+ended_refused (Err status) is = ap Err is
 
 -- a command that is closed by a refusal
 pub closed_refused : (d : Device) (r : Reply) (before after : Option Cause) (m : Mounted)
@@ -129,12 +129,12 @@ pub closed_refused : (d : Device) (r : Reply) (before after : Option Cause) (m :
     → (effect_on m None c).reply ≡ r
     → IsErrOf (closed_by d r) Refused
     → IsRefusedOn m c after
-closed_refused d replies.Done before after m c note is refused = absurd refused
-closed_refused d (replies.Booted slot) before after m c note is refused = absurd refused
-closed_refused d (replies.Bytes name) before after m c note is refused = absurd refused
-closed_refused d (replies.Digest sum) before after m c note is refused = absurd refused
-closed_refused d (replies.Left blocks) before after m c note is refused = absurd refused
-closed_refused d replies.Merged before after m c note is refused = absurd refused
+closed_refused d replies.Done before after m c note is refused = cc
+closed_refused d (replies.Booted slot) before after m c note is refused = cc
+closed_refused d (replies.Bytes name) before after m c note is refused = cc
+closed_refused d (replies.Digest sum) before after m c note is refused = cc
+closed_refused d (replies.Left blocks) before after m c note is refused = cc
+closed_refused d replies.Merged before after m c note is refused = cc
 closed_refused d (replies.Refused refusal) before after m c note is refused =
     record { refusal = refusal; is = note; holds = is }
 

@@ -1,7 +1,7 @@
 //! Telling the bytes of an image.
 ghost use Rattle.std.specs.Prelude.{◌≡◌, ◌≢◌, ◌⊎◌, ◌≤◌, ◌<◌, ◌+◌, [], length, take, drop};
 ghost use Rattle.std.specs.Prelude.{IfOk, IfErr, OnOk, OnErr, IsErrOf, Ok, Err};
-ghost use Rattle.vab_disk.specs.Disk.{Rose};
+ghost use Rattle.vab_disk.specs.Disk.{Image, Rose};
 ghost use Rattle.vab_disk.specs.Calls.{Changes, FailsWithDisk, OnlyReads};
 ghost use Rattle.vab_bootctl.specs.declared.slots.Control.{Control};
 ghost use Rattle.vab_bootctl.specs.Control.{control_of};
@@ -10,7 +10,7 @@ ghost use Rattle.vab_model.specs.Effects.{found_of};
 ghost use Rattle.vab_device.specs.declared.fault.StartFault.{StartFault as Fault};
 ghost use Rattle.vab_device.specs.declared.device.Part.{Part};
 ghost use Rattle.vab_device.specs.Kept.{IsDevice};
-ghost use Rattle.vab_device.specs.Mounted.{Mounted, bytes_at, sectors_read};
+ghost use Rattle.vab_device.specs.Mounted.{Mounted, mounted_on, bytes_at, sectors_read};
 ghost use Rattle.vab_device.specs.Reading.{device, IsIn, Represents};
 ghost use Rattle.vab_manager.specs.Blocks.{KeepsPart};
 ghost use Rattle.vab_cli.specs.Causes.{IsNoDevice, IsRefusedAs, IsRefusedOn};

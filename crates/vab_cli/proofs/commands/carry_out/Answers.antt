@@ -1,11 +1,12 @@
 use Rattle.std.proofs.Common.{◌∙◌, ⊎_elim, inl, [], ℕ, List, sym, subst}
 use Rattle.vab_disk.specs.Disk.{Faults, Rose}
+use Rattle.vab_device.specs.Mounted.{Mounted}
 use Rattle.vab_device.specs.Reading.{IsIn, Represents}
 use Rattle.vab_model.specs.Commands.{command_of}
 use Rattle.vab_cli.specs.declared.status.Status.{Status}
 use Rattle.vab_cli.specs.Acts.{command_act, status_in}
 use Rattle.vab_cli.specs.Runs.{Held, RunsItem}
-use Rattle.vab_cli.specs.Verbs.{command_line, command_item, verb_status}
+use Rattle.vab_cli.specs.Verbs.{command_line, command_item, none_line, verb_status}
 use Rattle.vab_cli.proofs.Acting.{acted_disk, acted_port, acted_words, command_is_act, front_none}
 use Rattle.vab_cli.proofs.Acting.{runs_act, wanted}
 use Rattle.vab_cli.proofs.Running.{opened_in, same_opened}
