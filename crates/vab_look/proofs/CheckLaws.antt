@@ -77,7 +77,7 @@ own_at places.Control x = (parts_read x).control
 own_at places.Geometry x = (parts_read x).geometry
 own_at places.Tables x = (parts_read x).tables
 own_at places.Partitions x = (parts_read x).partitions
-own_at places.Stores x = Unread
+own_at places.Stores x = (parts_read x).stores
 own_at places.States x = Unread
 
 module _ (form : Form) (first : Option StartFault) (x : Option Details) where

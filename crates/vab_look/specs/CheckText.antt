@@ -97,6 +97,7 @@ nothing_read = record {
   geometry = Unread;
   tables = Unread;
   partitions = Unread;
+  stores = Unread;
 }
 
 abbrev pub parts_read : Option Details → Parts
@@ -205,7 +206,7 @@ back_lines form first x =
     table_copies form x
     ++ part_line form places.Tables first (parts_read x).tables
     ++ part_line form places.Partitions first (parts_read x).partitions
-    ++ part_line form places.Stores first Unread
+    ++ part_line form places.Stores first (parts_read x).stores
     ++ part_line form places.States first Unread
     ++ opening_writes form first x
 

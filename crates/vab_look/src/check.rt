@@ -27,6 +27,7 @@ fn nothing_read() -> Parts
         geometry: Finding::Unread,
         tables: Finding::Unread,
         partitions: Finding::Unread,
+        stores: Finding::Unread,
     }
 }
 
@@ -118,7 +119,7 @@ fn push_back(
     push_table_copies(form, details, page)?;
     push_part(form, Place::Tables, first, own.tables, page)?;
     push_part(form, Place::Partitions, first, own.partitions, page)?;
-    push_part(form, Place::Stores, first, Finding::Unread, page)?;
+    push_part(form, Place::Stores, first, own.stores, page)?;
     push_part(form, Place::States, first, Finding::Unread, page)?;
     push_opening(form, first, details, page)
 }

@@ -21,7 +21,7 @@ const NO_CONTROL: &[u8] = b"size ok\nmark ok\nstatuses ok\n\
     control sector 4 is no boot control: bad magic\n\
     geometry primary ok\ngeometry backup ok\ngeometry ok\n\
     table a primary ok\ntable a backup ok\ntables ok\n\
-    partitions ok\nstores not judged\nstates not judged\n";
+    partitions ok\nstores ok\nstates not judged\n";
 
 // No primary geometry.
 const ONE_GEOMETRY: &[u8] = b"size ok\nmark ok\nstatuses ok\ncontrol ok\n\

@@ -13,6 +13,7 @@ mod table;
 pub use frame::MIN_SECTORS;
 pub use judge::judge_parts;
 pub use opening::start;
+pub use plan::read_plan;
 pub use probing::probe;
 pub use read::{
     MARK_SECTOR, read_control, read_geometry, read_if, read_mark, reads_both, reads_statuses,

@@ -1,15 +1,18 @@
 //! The readers of the parts, where a fault of what the disk holds is no failure.
 
-ghost use Rattle.std.specs.Prelude.{◌≡◌, ◌<◌, ◌≤◌, Bool, IfOk, IfErr, IfSome};
+ghost use Rattle.std.specs.Prelude.{◌≡◌, ◌<◌, ◌≤◌, Bool, true, IfOk, IfErr, IfSome, IsNone, OnOk};
+ghost use Rattle.std.specs.Prelude.{Ok, Err};
 ghost use Rattle.vab_disk.specs.Calls.{OnlyReads};
 ghost use Rattle.vab_geometry.specs.Geometry.{IsGeometry};
-ghost use Rattle.vab_tables.specs.Rules.{KeepsRules};
+ghost use Rattle.vab_layout.specs.Layout.{layout_of};
+ghost use Rattle.vab_partitions.specs.Merging.{IsMerging};
 ghost use Rattle.vab_device.specs.Faults.{IsOfContents, IsOfDisk};
-ghost use Rattle.vab_device.specs.Kept.{copies_end, super_bytes};
+ghost use Rattle.vab_device.specs.Kept.{copies_end, super_bytes, AreOfUpdate};
 ghost use Rattle.vab_device.specs.Reading.{mark_in, statuses_at, control_in, geometry_at};
 ghost use Rattle.vab_tidy.specs.Counts.{CountsFaults};
-ghost use Rattle.vab_recover.specs.Opened.{reads_statuses, fault_of};
-ghost use Rattle.vab_survey.specs.Findings.{Finds, Judges, FindsPartitions, tables_asked};
+ghost use Rattle.vab_recover.specs.Opened.{reads_statuses, is_merging, AreTablesThere};
+ghost use Rattle.vab_survey.specs.Findings.{Finds, FindsScans, FindsBehind, IsUnread};
+ghost use Rattle.vab_survey.specs.Findings.{tables_asked, listed};
 
 use crate::finding::{Finding, is_of_contents};
 use std::alloc::Global;
@@ -18,9 +21,42 @@ use vab_disk::Disk;
 use vab_geometry::Geometry;
 use vab_marks::UpdateMark;
 use vab_recover::{
-    Tables, judge_parts, read_control, read_geometry, read_if, read_mark, read_tables,
+    Tables, judge_parts, read_control, read_geometry, read_if, read_mark, read_plan, read_tables,
     reads_statuses,
 };
+use vab_statuses::Statuses;
+
+/// What is found of the tables, of their partitions, and of the stores.
+#[derive(Clone, Copy, Debug, PartialEq, Eq)]
+pub struct Behind {
+    pub tables: Finding,
+    pub partitions: Finding,
+    pub stores: Finding,
+}
+
+/// Nothing, where the tables can't be read.
+pub(crate) fn unread() -> Behind
+    ensures { IsUnread result }
+{
+    Behind {
+        tables: Finding::Unread,
+        partitions: Finding::Unread,
+        stores: Finding::Unread,
+    }
+}
+
+// What a fault of what the disk holds is found as; the others are failures.
+fn found_of(fault: StartFault) -> Result<Finding, StartFault>
+    ensures found { IfOk result (λ f. (f ≡ Finding.Wrong fault) × IsOfContents fault) }
+    ensures kind { OnOk result (IsOfDisk fault → ⊥) }
+    ensures failed { IfErr result (λ f. (f ≡ fault) × (IsOfContents f → ⊥)) }
+{
+    if is_of_contents(&fault) {
+        Ok(Finding::Wrong(fault))
+    } else {
+        Err(fault)
+    }
+}
 
 /// What was read of a part, or what is wrong with it.
 pub(crate) type Said<T> = Result<T, StartFault>;
@@ -61,17 +97,22 @@ pub(crate) fn said_geometry<D: Disk>(d: &mut D) -> Result<Said<Geometry>, StartF
 }
 
 /// The statuses of a device with this mark.
-pub(crate) fn found_statuses<D: Disk>(d: &mut D, mark: &UpdateMark) -> Result<Finding, StartFault>
+pub(crate) fn said_statuses<D: Disk>(
+    d: &mut D,
+    mark: &UpdateMark,
+) -> Result<Said<Statuses>, StartFault>
     requires { 2081 ≤ D.size d.old }
-    ensures finds { D.is_modelled → IfOk result
-        (λ f. Finds f (statuses_at (reads_statuses mark.now.phase) (D.seen d.old))) }
+    ensures fine { D.is_modelled → IfOk result (λ r. IfOk r
+        (λ ss. statuses_at (reads_statuses mark.now.phase) (D.seen d.old) ≡ Ok ss.items)) }
+    ensures wrong { D.is_modelled → IfOk result (λ r. IfErr r
+        (λ f. statuses_at (reads_statuses mark.now.phase) (D.seen d.old) ≡ Err f)) }
     ensures failed { IfErr result (λ f. IsOfContents f → ⊥) }
     ensures reads { OnlyReads D.Disk d.old d.new }
     ensures counts { CountsFaults D.Disk d.old d.new result }
 {
     match read_if(d, reads_statuses(mark.phase)) {
-        Ok(_) => Ok(Finding::Fine),
-        Err(fault) if is_of_contents(&fault) => Ok(Finding::Wrong(fault)),
+        Ok(statuses) => Ok(Ok(statuses)),
+        Err(fault) if is_of_contents(&fault) => Ok(Err(fault)),
         Err(fault) => Err(fault),
     }
 }
@@ -93,52 +134,81 @@ pub(crate) fn found_control<D: Disk>(d: &mut D) -> Result<Finding, StartFault>
     }
 }
 
-// Whether the partitions of these tables keep the rules of a device with this mark.
-fn found_partitions(
+// The stores of a device with this mark and these tables, whose partitions keep their rules, where
+// its statuses are read.
+fn found_stores<D: Disk>(
     alloc: Global,
+    d: &mut D,
+    geometry: &Geometry,
     tables: &Tables,
     mark: &UpdateMark,
+    statuses: &Said<Statuses>,
 ) -> Result<Finding, StartFault>
+    requires enough { 4120 ≤ D.size d.old }
     requires slot { mark.now.slot < 2 }
-    requires source { KeepsRules tables.now.source.table }
-    requires target { IfSome tables.now.target (λ l. KeepsRules l.table) }
-    ensures judges { IfOk result (λ f. Judges f
-        (fault_of mark.now.phase mark.now.slot tables.now.source.table tables.now.target)) }
+    requires there { AreTablesThere (D.size d.old) geometry.now mark.now tables.now }
+    requires update { IfSome tables.now.target
+        (λ l. AreOfUpdate mark.now.slot tables.now.source.table l.table) }
+    requires merging { IsNone tables.now.target
+        → is_merging mark.now.phase ≡ true
+        → IsMerging mark.now.slot (layout_of tables.now.source.table).parts }
+    ensures finds { D.is_modelled → IfOk result (λ f.
+        FindsScans f tables.now mark.now (listed statuses.now) (D.seen d.old)) }
     ensures failed { IfErr result (λ f. IsOfContents f → ⊥) }
-    ensures memory { IfErr result (λ f. IsOfDisk f → ⊥) }
+    ensures reads { OnlyReads D.Disk d.old d.new }
+    ensures counts { CountsFaults D.Disk d.old d.new result }
 {
-    match judge_parts(alloc, tables, mark) {
-        Ok(()) => Ok(Finding::Fine),
-        Err(fault) if is_of_contents(&fault) => Ok(Finding::Wrong(fault)),
-        Err(fault) => Err(fault),
+    match statuses {
+        Err(_) => Ok(Finding::Unread),
+        Ok(statuses) => match read_plan(alloc, d, tables, statuses, mark) {
+            Ok(_plan) => Ok(Finding::Fine),
+            Err(fault) => found_of(fault),
+        },
     }
 }
 
-/// The tables that are read of a device with this mark, and their partitions.
+/// The tables that are read of a device with this mark, their partitions, and the stores that its
+/// statuses name, where these are read.
 pub(crate) fn found_tables<D: Disk>(
     alloc: Global,
     d: &mut D,
     geometry: &Geometry,
     mark: &UpdateMark,
-) -> Result<(Finding, Finding), StartFault>
+    statuses: &Said<Statuses>,
+) -> Result<Behind, StartFault>
+    requires enough { 4120 ≤ D.size d.old }
     requires rules { IsGeometry geometry.now }
     requires slot { mark.now.slot < 2 }
     requires copies_on { copies_end geometry.now ≤ super_bytes (D.size d.old) }
-    ensures tables { D.is_modelled → IfOk result (λ r.
-        Finds r.0 (tables_asked (D.size d.old) geometry.now mark.now (D.seen d.old))) }
-    ensures partitions { D.is_modelled → IfOk result (λ r.
-        FindsPartitions r.0 r.1 mark.now
-        (tables_asked (D.size d.old) geometry.now mark.now (D.seen d.old))) }
+    ensures behind { D.is_modelled → IfOk result (λ r.
+        FindsBehind r mark.now (listed statuses.now)
+        (tables_asked (D.size d.old) geometry.now mark.now (D.seen d.old)) (D.seen d.old)) }
     ensures failed { IfErr result (λ f. IsOfContents f → ⊥) }
     ensures reads { OnlyReads D.Disk d.old d.new }
     ensures counts { CountsFaults D.Disk d.old d.new result }
 {
     match read_tables(alloc, d, geometry, mark) {
-        Ok(tables) => match found_partitions(alloc, &tables, mark) {
-            Ok(partitions) => Ok((Finding::Fine, partitions)),
+        Ok(tables) => match judge_parts(alloc, &tables, mark) {
+            Ok(()) => match found_stores(alloc, d, geometry, &tables, mark, statuses) {
+                Ok(stores) => Ok(Behind {
+                    tables: Finding::Fine,
+                    partitions: Finding::Fine,
+                    stores,
+                }),
+                Err(fault) => Err(fault),
+            },
+            Err(fault) if is_of_contents(&fault) => Ok(Behind {
+                tables: Finding::Fine,
+                partitions: Finding::Wrong(fault),
+                stores: Finding::Unread,
+            }),
             Err(fault) => Err(fault),
         },
-        Err(fault) if is_of_contents(&fault) => Ok((Finding::Wrong(fault), Finding::Unread)),
+        Err(fault) if is_of_contents(&fault) => Ok(Behind {
+            tables: Finding::Wrong(fault),
+            partitions: Finding::Unread,
+            stores: Finding::Unread,
+        }),
         Err(fault) => Err(fault),
     }
 }

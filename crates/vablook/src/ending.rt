@@ -1,4 +1,6 @@
 // How a run ends.
+ghost use Rattle.std.specs.Prelude.{◌≡◌, ◌≢◌};
+
 use vab_device::StartFault;
 use vab_look::fault_text;
 
@@ -25,19 +27,25 @@ pub struct Device<'a> {
 
 impl<'a> Device<'a> {
     /// Says in one line why the run ends, and answers the status.
-    pub fn ends(&self, status: u8, why: &str) -> u8 {
+    pub fn ends(&self, status: u8, why: &str) -> u8
+        ensures { result ≡ status }
+    {
         let path = self.path;
         let _ = eprintln!(self.rt; "vablook: {path}: {why}");
         status
     }
 
     /// Memory was refused.
-    pub fn lacks_memory(&self) -> u8 {
+    pub fn lacks_memory(&self) -> u8
+        ensures { result ≡ 8 }
+    {
         self.ends(NO_MEMORY, "memory was refused")
     }
 
     /// Says that the disk is no device, and why.
-    pub fn is_none(&self, fault: &StartFault) -> u8 {
+    pub fn is_none(&self, fault: &StartFault) -> u8
+        ensures { result ≢ 0 }
+    {
         let path = self.path;
         match fault_text(self.rt.alloc(), fault) {
             Err(_) => self.lacks_memory(),
@@ -52,7 +60,9 @@ impl<'a> Device<'a> {
     }
 
     /// Says why nothing is told, and answers the status.
-    pub fn refuses(&self, fault: &StartFault) -> u8 {
+    pub fn refuses(&self, fault: &StartFault) -> u8
+        ensures { result ≢ 0 }
+    {
         match fault {
             StartFault::NoMemory => self.lacks_memory(),
             StartFault::Disk(_) => self.ends(DISK_FAILED, "the disk failed"),

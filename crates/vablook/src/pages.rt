@@ -1,5 +1,7 @@
 // The pages.
+ghost use Rattle.std.specs.Prelude.{◌≡◌, IsNone, IsOk};
 ghost use Rattle.vab_disk.specs.Calls.{OnlyReads};
+ghost use Rattle.vab_device.specs.Reading.{device as means};
 
 use crate::ending::{DONE, Device, NOT_WRITTEN};
 use crate::words::Page;
@@ -42,22 +44,36 @@ fn tell_tables<D: Disk>(device: &Device<'_>, form: Form, d: &mut D) -> u8
     }
 }
 
-// The page of what is wrong.
-fn tell_check<D: Disk>(device: &Device<'_>, form: Form, d: &mut D) -> u8
-    ensures { OnlyReads D.Disk d.old d.new }
+// The page of what is wrong with a disk that has this first fault, or none.
+fn tell_survey(device: &Device<'_>, page: &[u8], first: &Option<StartFault>) -> u8
+    ensures { result ≡ 0 → IsNone first.now }
 {
-    let survey = match survey_disk(device.rt.alloc(), d) {
-        Ok(survey) => survey,
-        Err(fault) => return device.refuses(&fault),
-    };
-    let page = match check_text(device.rt.alloc(), form, &survey) {
-        Ok(page) => page,
-        Err(_) => return device.lacks_memory(),
-    };
-    let status = tell(device, &page);
-    match &survey.first {
-        Some(fault) if status == DONE => device.is_none(fault),
-        _ => status,
+    let status = tell(device, page);
+    match first {
+        None => status,
+        Some(fault) => {
+            if status == DONE {
+                device.is_none(fault)
+            } else {
+                status
+            }
+        }
+    }
+}
+
+// The page of what is wrong. Its status is 0 only where the disk is a device.
+fn tell_check<D: Disk>(device: &Device<'_>, form: Form, d: &mut D) -> u8
+    ensures reads { OnlyReads D.Disk d.old d.new }
+    ensures fine { D.is_modelled
+        → result ≡ 0
+        → IsOk (means (D.size d.old) (D.seen d.old)) }
+{
+    match survey_disk(device.rt.alloc(), d) {
+        Err(fault) => device.refuses(&fault),
+        Ok(survey) => match check_text(device.rt.alloc(), form, &survey) {
+            Ok(page) => tell_survey(device, &page, &survey.first),
+            Err(_) => device.lacks_memory(),
+        },
     }
 }
 
