@@ -1,5 +1,6 @@
--- The machine: of each command the reply, the states that follow one another, and whether memory
--- may be refused in place of that. It leaves out one refusal, that of a table that is full.
+-- The machine: of each command the reply, the states that follow one another, none for a refusal or
+-- a question, and whether memory may be refused in place of that. Refusals are tried in the order
+-- in which a row has them. It leaves out one, that of a table that is full, which is the last.
 use Rattle.std.specs.Prelude.{ℕ, zero, suc, ◌+◌, ◌-◌, ◌*◌, ◌^◌, ◌==◌, nat_lt, nat_le, Bool}
 use Rattle.std.specs.Prelude.{true, false, not, ◌&&◌, ◌||◌, if◌then◌else◌, List, [], ◌∷◌, ◌++◌}
 use Rattle.std.specs.Prelude.{length, map, Option, Some, None, is_some}

@@ -1,5 +1,5 @@
--- How large a state may be so that all that the machine counts are numbers of 64 bits: each device
--- is smaller, and what follows from a small state is small.
+-- How large a state may be so that all that the program beside the machine counts are numbers of 64
+-- bits. What follows from a small state is small.
 use Rattle.std.specs.Prelude.{ℕ, ◌≤◌, ◌^◌, List, length, Option, Some, None, All}
 use Rattle.vab_model.specs.declared.state.Image.{Image}
 use Rattle.vab_model.specs.declared.state.PlanImage.{PlanImage}

@@ -71,8 +71,9 @@ fn is_small_phase(phase: &Phase) -> bool
     }
 }
 
-/// Whether a state is small enough for `step`, as that of each device is: 32 images of 2^40 bytes
-/// each in a slot, a plan of 32 partitions of 2^28 blocks each, and stores of 2^52 blocks.
+/// Whether a state is small enough for `step`: at most 32 images of 2^40 bytes each in a slot, a
+/// plan of 32 partitions of 2^28 blocks each, and stores of 2^52 blocks. A device's rules allow no
+/// more partitions and no larger ones; that its state is so small isn't proved here.
 pub fn is_small(state: &State) -> bool
     ensures { IsTrue result ↔ IsSmall state.now }
 {

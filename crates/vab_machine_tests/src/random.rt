@@ -32,7 +32,8 @@ const SIZES: [u64; 8] = [0, 1, 4096, 8192, 16384, 20480, 32768, 1 << 41];
 
 // A name of this slot, now and then of the other.
 fn name(draws: &mut Draws, slot: usize) -> &'static [u8] {
-    let slot = if draws.draw(8) == 0 { slot + 1 } else { slot };
+    let other = if slot == 0 { 1 } else { 0 };
+    let slot = if draws.draw(8) == 0 { other } else { slot };
     let which = draws.draw(9).saturating_sub(5);
     NAMES[slot % 2][(which % 4) as usize]
 }
