@@ -1,10 +1,8 @@
 -- The lines that the page of `check` has.
-use Rattle.std.proofs.Common.{◌≡◌, ◌∙◌, ℕ, List, [], ◌++◌, refl, sym, ap, subst, inl, inr}
-use Rattle.std.specs.Prelude.{Option, Some, None, ◌==◌, codes}
-use Rattle.std.proofs.lemmas.Bool.{cases_Bool}
+use Rattle.std.proofs.Common.{◌≡◌, ◌∙◌, ℕ, List, [], ◌++◌, refl, sym, ap, subst}
+use Rattle.std.specs.Prelude.{Option, Some, None}
 use Rattle.std.proofs.lemmas.List.{append-nil, append_assoc}
 use Rattle.vab_device.specs.declared.fault.StartFault.{StartFault}
-use Rattle.vab_device.specs.declared.fault.StartFault.TheVariants as faults
 use Rattle.vab_survey.specs.declared.finding.Finding.{Finding}
 use Rattle.vab_survey.specs.declared.finding.Finding.TheVariants.{Fine, Wrong, Unread}
 use Rattle.vab_survey.specs.declared.survey.Details.{Details}

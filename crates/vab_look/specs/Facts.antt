@@ -1,6 +1,6 @@
 -- The facts of the page of `status`, a line for each, by what is kept of a device.
-use Rattle.std.specs.Prelude.{ℕ, ◌+◌, ◌*◌, Bool, List, [], ◌++◌, length, codes}
-use Rattle.std.specs.Prelude.{if◌then◌else◌, Option, Some, None}
+use Rattle.std.specs.Prelude.{ℕ, ◌+◌, ◌*◌, List, [], ◌++◌, length, codes}
+use Rattle.std.specs.Prelude.{Option, Some, None}
 use Rattle.std.specs.List.{flat_map}
 use Rattle.vab_bootctl.specs.declared.slots.Info.{Info}
 use Rattle.vab_device.specs.declared.device.Device.{Device}

@@ -1,5 +1,5 @@
 -- The pages of the device of a disk.
-use Rattle.std.specs.Prelude.{◌≡◌, ℕ, List, Result, Ok, Err}
+use Rattle.std.specs.Prelude.{◌≡◌, ℕ, List, Ok}
 use Rattle.std.specs.List.{flat_map}
 use Rattle.vab_disk.specs.Disk.{Image}
 use Rattle.vab_device.specs.declared.device.Device.{Device}

@@ -1,4 +1,4 @@
-use Rattle.vab_disk.proofs.CallLaws.{reads_none, reads_then}
+use Rattle.vab_disk.proofs.CallLaws.{reads_none}
 use Rattle.vab_look.proofs.image.copy_image.Goals as goal
 
 pub loop-block-init : goal.loop-block-init

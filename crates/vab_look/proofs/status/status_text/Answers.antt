@@ -1,6 +1,4 @@
 use Rattle.std.proofs.Common.{ℕ, ◌<◌, sym, subst}
-use Rattle.vab_disk.specs.Disk.{Image}
-use Rattle.vab_device.specs.declared.device.Device.{Device}
 use Rattle.vab_look.proofs.StatusLaws.{page_there}
 use Rattle.vab_look.proofs.status.status_text.Goals as goal
 
