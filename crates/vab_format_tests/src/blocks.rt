@@ -96,25 +96,52 @@ fn blocks_of_named_partitions_each_once(rt: HostRuntime) -> Result<(), Fail> {
     Ok(())
 }
 
+// The blocks of eight that `a_a` leaves.
+fn left_by_a(alloc: Global) -> Result<Runs, Fail> {
+    let table = table(alloc)?;
+    let taken = Runs::of_table(alloc, &table, &[name(b"a_a")?])?;
+    Ok(Runs::free(alloc, 8, &taken)?)
+}
+
+// The runs of the lowest of these blocks, so many, where there are.
+fn lowest(alloc: Global, free: &Runs, count: u64) -> Result<Option<Vec<(u64, u64)>>, Fail> {
+    match free.take_lowest(alloc, count)? {
+        Some(lowest) => Ok(Some(lowest.as_blocks().runs().to_vec(alloc)?)),
+        None => Ok(None),
+    }
+}
+
+// Whether these are among the blocks, and these not.
+fn parts(free: &Runs, inside: &[u64], outside: &[u64]) -> bool {
+    for block in inside {
+        if !free.contains(*block) {
+            return false;
+        }
+    }
+    for block in outside {
+        if free.contains(*block) {
+            return false;
+        }
+    }
+    true
+}
+
 #[test]
 fn the_lowest_free_blocks(rt: HostRuntime) -> Result<(), Fail> {
-    let table = table(rt.alloc())?;
-    let taken = Runs::of_table(rt.alloc(), &table, &[name(b"a_a")?])?;
-    let free = Runs::free(rt.alloc(), 8, &taken)?;
+    let alloc = rt.alloc();
+    let free = left_by_a(alloc)?;
     assert!(rt; free.runs() == [(2, 2), (5, 3)].as_slice());
-    assert!(rt; free.count() == 5);
-    assert!(rt; free.contains(2) && free.contains(7));
-    assert!(rt; !free.contains(1) && !free.contains(4) && !free.contains(8));
-    for (n, runs) in [
+    assert!(rt; free.count() == 5 && parts(&free, &[2, 7], &[1, 4, 8]));
+    for (count, runs) in [
         (3, [(2, 2), (5, 1)].as_slice()),
         (5, &[(2, 2), (5, 3)]),
         (2, &[(2, 2)]),
         (0, &[]),
     ] {
-        let lowest = free.take_lowest(rt.alloc(), n)?.ok_or("so many")?;
-        assert!(rt; lowest.as_blocks().runs() == runs);
+        let lowest = lowest(alloc, &free, count)?.ok_or("so many")?;
+        assert!(rt; lowest.as_slice() == runs);
     }
-    assert!(rt; free.take_lowest(rt.alloc(), 6)?.is_none());
+    assert!(rt; lowest(alloc, &free, 6)?.is_none());
     Ok(())
 }
 
