@@ -10,14 +10,21 @@ use vab_blocks::{Blocks, Runs};
 use vab_bytes::Name36;
 use vab_tables::{Table, decode_table};
 
-// `a_a` has block 4, and 0 and 1; `b_a` has 4 and 7; `c_a` has none.
+// `a_a` has block 4, and 0 and 1; `b_a` has 4 and 7; `c_a` has none. Each has its first extent and
+// how many.
+const PARTITIONS: [(&[u8], [u32; 4]); 3] = [
+    (b"a_a", [0, 0, 2, 0]),
+    (b"b_a", [0, 2, 2, 0]),
+    (b"c_a", [0, 0, 0, 0]),
+];
+
 fn table(alloc: Global) -> Result<Table, Fail>
     ensures { IfOk result (λ t. KeepsRules t) }
 {
     let mut tables = Vec::new(alloc);
-    put(&mut tables, b"a_a", &[0, 0, 2, 0])?;
-    put(&mut tables, b"b_a", &[0, 2, 2, 0])?;
-    put(&mut tables, b"c_a", &[0, 0, 0, 0])?;
+    for (name, numbers) in PARTITIONS {
+        put(&mut tables, name, &numbers)?;
+    }
     for extent in [[8, 2080], [16, 2048], [8, 2080], [8, 2104]] {
         put(&mut tables, b"", &[extent[0], 0, 0, extent[1], 0, 0])?;
     }
@@ -53,46 +60,88 @@ fn blocks(alloc: Global, numbers: &[u64]) -> Result<Blocks, Fail> {
     Ok(blocks)
 }
 
+// Whether the blocks of these partitions, each once, are these runs.
+fn has_runs(
+    alloc: Global,
+    table: &Table,
+    names: &[&[u8]],
+    runs: &[(u64, u64)],
+) -> Result<bool, Fail>
+    requires { KeepsRules table.now }
+{
+    let mut parsed = Vec::new(alloc);
+    for text in names {
+        parsed.push(name(text)?)?;
+    }
+    let found = Runs::of_table(alloc, table, &parsed)?;
+    Ok(found.runs() == runs)
+}
+
+// The names of partitions, and the runs of their blocks.
+const NAMED: [(&[&[u8]], &[(u64, u64)]); 6] = [
+    (&[b"a_a", b"a_a"], &[(0, 2), (4, 1)]),
+    (&[b"b_a"], &[(4, 1), (7, 1)]),
+    (&[b"b_a", b"c_a", b"a_a"], &[(0, 2), (4, 1), (7, 1)]),
+    (&[b"c_a"], &[]),
+    (&[b"a_b"], &[]),
+    (&[], &[]),
+];
+
 #[test]
 fn blocks_of_named_partitions_each_once(rt: HostRuntime) -> Result<(), Fail> {
     let table = table(rt.alloc())?;
-    let a = name(b"a_a")?;
-    let b = name(b"b_a")?;
-    let c = name(b"c_a")?;
-    let other = name(b"a_b")?;
-    for (names, runs) in [
-        ([a, a].as_slice(), [(0, 2), (4, 1)].as_slice()),
-        (&[b], &[(4, 1), (7, 1)]),
-        (&[b, c, a], &[(0, 2), (4, 1), (7, 1)]),
-        (&[c], &[]),
-        (&[other], &[]),
-        (&[], &[]),
-    ] {
-        let found = Runs::of_table(rt.alloc(), &table, names)?;
-        assert_eq!(rt; found.runs(), runs);
+    for (names, runs) in NAMED {
+        assert!(rt; has_runs(rt.alloc(), &table, names, runs)?, "{runs:?}");
     }
     Ok(())
 }
 
+// The blocks of eight that `a_a` leaves.
+fn left_by_a(alloc: Global) -> Result<Runs, Fail> {
+    let table = table(alloc)?;
+    let taken = Runs::of_table(alloc, &table, &[name(b"a_a")?])?;
+    Ok(Runs::free(alloc, 8, &taken)?)
+}
+
+// The runs of the lowest of these blocks, so many, where there are.
+fn lowest(alloc: Global, free: &Runs, count: u64) -> Result<Option<Vec<(u64, u64)>>, Fail> {
+    match free.take_lowest(alloc, count)? {
+        Some(lowest) => Ok(Some(lowest.as_blocks().runs().to_vec(alloc)?)),
+        None => Ok(None),
+    }
+}
+
+// Whether these are among the blocks, and these not.
+fn parts(free: &Runs, inside: &[u64], outside: &[u64]) -> bool {
+    for block in inside {
+        if !free.contains(*block) {
+            return false;
+        }
+    }
+    for block in outside {
+        if free.contains(*block) {
+            return false;
+        }
+    }
+    true
+}
+
 #[test]
 fn the_lowest_free_blocks(rt: HostRuntime) -> Result<(), Fail> {
-    let table = table(rt.alloc())?;
-    let taken = Runs::of_table(rt.alloc(), &table, &[name(b"a_a")?])?;
-    let free = Runs::free(rt.alloc(), 8, &taken)?;
-    assert_eq!(rt; free.runs(), [(2, 2), (5, 3)].as_slice());
-    assert_eq!(rt; free.count(), 5);
-    assert!(rt; free.contains(2) && free.contains(7));
-    assert!(rt; !free.contains(1) && !free.contains(4) && !free.contains(8));
-    for (n, runs) in [
+    let alloc = rt.alloc();
+    let free = left_by_a(alloc)?;
+    assert!(rt; free.runs() == [(2, 2), (5, 3)].as_slice());
+    assert!(rt; free.count() == 5 && parts(&free, &[2, 7], &[1, 4, 8]));
+    for (count, runs) in [
         (3, [(2, 2), (5, 1)].as_slice()),
         (5, &[(2, 2), (5, 3)]),
         (2, &[(2, 2)]),
         (0, &[]),
     ] {
-        let lowest = free.take_lowest(rt.alloc(), n)?.ok_or("so many")?;
-        assert_eq!(rt; lowest.as_blocks().runs(), runs);
+        let lowest = lowest(alloc, &free, count)?.ok_or("so many")?;
+        assert!(rt; lowest.as_slice() == runs);
     }
-    assert!(rt; free.take_lowest(rt.alloc(), 6)?.is_none());
+    assert!(rt; lowest(alloc, &free, 6)?.is_none());
     Ok(())
 }
 
@@ -117,35 +166,60 @@ fn plain_distinct(numbers: &[u64]) -> bool {
     true
 }
 
-// Whether the sorted and the free numbers of a list are those of the plain program.
-fn sorts(alloc: Global, list: &[u64]) -> Result<bool, Fail> {
+// The numbers of a list in their order, each once.
+fn sorted(alloc: Global, list: &[u64]) -> Result<Vec<u64>, Fail> {
+    let listed = blocks(alloc, list)?;
+    let sorted = Runs::sorted(alloc, &listed)?;
+    numbers(alloc, sorted.as_blocks())
+}
+
+// The numbers below ten that aren't in a list.
+fn free(alloc: Global, list: &[u64]) -> Result<Vec<u64>, Fail> {
     let listed = blocks(alloc, list)?;
     let sorted = Runs::sorted(alloc, &listed)?;
     let free = Runs::free(alloc, 10, &sorted)?;
-    Ok(
-        numbers(alloc, sorted.as_blocks())?.as_slice() == plain(alloc, 16, list, true)?.as_slice()
-            && numbers(alloc, free.as_blocks())?.as_slice()
-                == plain(alloc, 10, list, false)?.as_slice()
-            && listed.is_distinct(alloc)? == plain_distinct(list),
-    )
+    numbers(alloc, free.as_blocks())
 }
 
-// Whether the first two numbers, the two behind them and all of them twice are those of the list.
-fn cuts(alloc: Global, list: &[u64]) -> Result<bool, Fail> {
+fn is_distinct(alloc: Global, list: &[u64]) -> Result<bool, Fail> {
+    let listed = blocks(alloc, list)?;
+    Ok(listed.is_distinct(alloc)?)
+}
+
+// The first two numbers of a list.
+fn front(alloc: Global, list: &[u64]) -> Result<Vec<u64>, Fail> {
     let listed = blocks(alloc, list)?;
     let front = listed.take(alloc, 2)?;
-    let mut rest = Blocks::new(alloc);
-    rest.append_part(&listed, 2, 2)?;
+    numbers(alloc, &front)
+}
+
+// The two numbers behind them.
+fn back(alloc: Global, list: &[u64]) -> Result<Vec<u64>, Fail> {
+    let listed = blocks(alloc, list)?;
+    let mut back = Blocks::new(alloc);
+    back.append_part(&listed, 2, 2)?;
+    numbers(alloc, &back)
+}
+
+// All of a list twice.
+fn twice(alloc: Global, list: &[u64]) -> Result<Vec<u64>, Fail> {
+    let listed = blocks(alloc, list)?;
     let mut twice = listed.copy(alloc)?;
     twice.append(&listed)?;
+    numbers(alloc, &twice)
+}
+
+// All of a list twice, as a plain program puts it together.
+fn plain_twice(alloc: Global, list: &[u64]) -> Result<Vec<u64>, Fail> {
     let mut whole = list.to_vec(alloc)?;
     whole.extend_from_slice(list)?;
-    let back = list.get(2..).unwrap_or(&[]);
-    Ok(
-        numbers(alloc, &front)?.as_slice() == list.get(..2).unwrap_or(list)
-            && numbers(alloc, &rest)?.as_slice() == back.get(..2).unwrap_or(back)
-            && numbers(alloc, &twice)?.as_slice() == whole.as_slice(),
-    )
+    Ok(whole)
+}
+
+// The numbers of a list from a place on, two at most.
+fn plain_part(list: &[u64], from: usize) -> &[u64] {
+    let rest = list.get(from..).unwrap_or(&[]);
+    rest.get(..2).unwrap_or(rest)
 }
 
 // Runs that touch, that overlap and that stand out of order, runs of one block, no block, a full
@@ -163,11 +237,45 @@ const LISTS: [&[u64]; 8] = [
 
 #[test]
 fn runs_say_what_a_plain_list_says(rt: HostRuntime) -> Result<(), Fail> {
+    let alloc = rt.alloc();
     for list in LISTS {
-        assert!(rt; sorts(rt.alloc(), list)?, "{list:?}");
-        assert!(rt; cuts(rt.alloc(), list)?, "{list:?}");
+        let wanted = plain(alloc, 16, list, true)?;
+        assert!(rt;
+            sorted(alloc, list)?.as_slice() == wanted.as_slice(),
+            "{list:?}"
+        );
+        let others = plain(alloc, 10, list, false)?;
+        assert!(rt;
+            free(alloc, list)?.as_slice() == others.as_slice(),
+            "{list:?}"
+        );
+        assert!(rt;
+            is_distinct(alloc, list)? == plain_distinct(list),
+            "{list:?}"
+        );
     }
-    let run = Blocks::consecutive(rt.alloc(), 3, 4)?;
-    assert_eq!(rt; run.runs(), [(3, 4)].as_slice());
+    Ok(())
+}
+
+#[test]
+fn runs_are_cut_and_put_together_as_lists(rt: HostRuntime) -> Result<(), Fail> {
+    let alloc = rt.alloc();
+    for list in LISTS {
+        assert!(rt;
+            front(alloc, list)?.as_slice() == plain_part(list, 0),
+            "{list:?}"
+        );
+        assert!(rt;
+            back(alloc, list)?.as_slice() == plain_part(list, 2),
+            "{list:?}"
+        );
+        let whole = plain_twice(alloc, list)?;
+        assert!(rt;
+            twice(alloc, list)?.as_slice() == whole.as_slice(),
+            "{list:?}"
+        );
+    }
+    let run = Blocks::consecutive(alloc, 3, 4)?;
+    assert!(rt; run.runs() == [(3, 4)].as_slice());
     Ok(())
 }

@@ -50,20 +50,20 @@ fn made() -> [u8; 512] {
 
 #[test]
 fn faults_of_boot_control_in_their_order(rt: HostRuntime) {
-    assert_eq!(rt; decode_control(&made()), Ok(MADE));
+    assert!(rt; decode_control(&made()) == Ok(MADE));
     let mut bytes = made();
     bytes[28] ^= 1;
-    assert_eq!(rt; decode_control(&bytes), Err(ControlFault::BadSum));
+    assert!(rt; decode_control(&bytes) == Err(ControlFault::BadSum));
     bytes[8] = 2;
-    assert_eq!(rt; decode_control(&bytes), Err(ControlFault::BadVersion));
+    assert!(rt; decode_control(&bytes) == Err(ControlFault::BadVersion));
     bytes[4] = 0;
-    assert_eq!(rt; decode_control(&bytes), Err(ControlFault::BadMagic));
+    assert!(rt; decode_control(&bytes) == Err(ControlFault::BadMagic));
     for front in [
         b"_a\0\0BCAB\x01\x03\0\0\x8f\0\0\0",
         b"_c\0\0BCAB\x01\x02\0\0\x8f\0\0\0",
         b"_a\0\x01BCAB\x01\x02\0\0\x8f\0\0\0",
     ] {
-        assert_eq!(rt; decode_control(&sector(front)), Err(ControlFault::BadSlots));
+        assert!(rt; decode_control(&sector(front)) == Err(ControlFault::BadSlots));
     }
 }
 
@@ -71,13 +71,10 @@ fn faults_of_boot_control_in_their_order(rt: HostRuntime) {
 fn what_is_no_field_stays(rt: HostRuntime) {
     let mut bytes = [0xff; 512];
     encode_control_into(&MADE, &mut bytes);
-    assert_eq!(rt;
-        &bytes[..16],
-        b"_a\0\0BCAB\x01\xfa\xff\xff\x8f\xff\0\xff".as_slice()
-    );
-    assert_eq!(rt; &bytes[16..28], [0xff; 12].as_slice());
-    assert_eq!(rt; &bytes[32..], [0xff; 480].as_slice());
-    assert_eq!(rt; decode_control(&bytes), Ok(MADE));
+    assert!(rt; &bytes[..16] == b"_a\0\0BCAB\x01\xfa\xff\xff\x8f\xff\0\xff".as_slice());
+    assert!(rt; &bytes[16..28] == [0xff; 12].as_slice());
+    assert!(rt; &bytes[32..] == [0xff; 480].as_slice());
+    assert!(rt; decode_control(&bytes) == Ok(MADE));
 }
 
 #[test]
@@ -86,11 +83,11 @@ fn active_booted_and_marked(rt: HostRuntime) {
     let mut bytes = made();
     let active = activated(&MADE, 0);
     encode_control_into(&active, &mut bytes);
-    assert_eq!(rt; bytes[12], 0xef);
+    assert!(rt; bytes[12] == 0xef);
     let booted = booted(&active, has);
-    assert_eq!(rt; booted, active);
+    assert!(rt; booted == active);
     encode_control_into(&marked(&booted), &mut bytes);
-    assert_eq!(rt; bytes[12], 0x8f);
+    assert!(rt; bytes[12] == 0x8f);
 }
 
 #[test]
@@ -99,23 +96,23 @@ fn seven_boots_of_a_slot_that_never_works(rt: HostRuntime) {
     let mut bytes = made();
     let mut control = activated(&MADE, 1);
     encode_control_into(&control, &mut bytes);
-    assert_eq!(rt; &bytes[12..16], [0x8e, 0, 0x6f, 0].as_slice());
-    assert_eq!(rt; control.b, TRIED);
+    assert!(rt; &bytes[12..16] == [0x8e, 0, 0x6f, 0].as_slice());
+    assert!(rt; control.b == TRIED);
     for _ in 0..6 {
-        assert_eq!(rt; choose(&control, has), Some(1));
+        assert!(rt; choose(&control, has) == Some(1));
         control = booted(&control, has);
-        assert_eq!(rt; control.current, 1);
+        assert!(rt; control.current == 1);
     }
-    assert_eq!(rt; control.b, Info { tries: 0, ..TRIED });
-    assert_eq!(rt; choose(&control, has), Some(0));
-    assert_eq!(rt; booted(&control, has).current, 0);
+    assert!(rt; control.b == Info { tries: 0, ..TRIED });
+    assert!(rt; choose(&control, has) == Some(0));
+    assert!(rt; booted(&control, has).current == 0);
 }
 
 #[test]
 fn a_on_a_tie_and_none_without_images(rt: HostRuntime) {
     let both = Control { b: GOOD, ..MADE };
-    assert_eq!(rt; choose(&both, [true, true]), Some(0));
-    assert_eq!(rt; choose(&both, [false, true]), Some(1));
-    assert_eq!(rt; choose(&both, [false, false]), None);
-    assert_eq!(rt; booted(&both, [false, false]), both);
+    assert!(rt; choose(&both, [true, true]) == Some(0));
+    assert!(rt; choose(&both, [false, true]) == Some(1));
+    assert!(rt; choose(&both, [false, false]) == None);
+    assert!(rt; booted(&both, [false, false]) == both);
 }

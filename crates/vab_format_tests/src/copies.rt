@@ -52,6 +52,32 @@ fn both_copies_hold_the_text_and_zeros_behind_it(rt: HostRuntime) -> Result<(), 
     Ok(())
 }
 
+// The first bytes of the first two sectors of the copy there.
+fn firsts(alloc: Global, d: &mut MemPort, at: u64) -> Result<[u8; 2], Fail> {
+    let copy = copy_at(alloc, d, at)?;
+    match (copy.get(0), copy.get(512)) {
+        (Some(first), Some(second)) => Ok([*first, *second]),
+        _ => Err("a copy is read".into()),
+    }
+}
+
+// A second text is cut behind so many writes and syncs: the first bytes of what is left.
+fn cut(alloc: Global, stop: u64) -> Result<[u8; 4], Fail> {
+    let mut d = port(alloc)?;
+    if !store(&mut d, &[1u8; 1536]) {
+        return Err("the first text is stored".into());
+    }
+    let mut d = d.next_run(Vec::new(alloc));
+    d.stop_after(stop);
+    if store(&mut d, &[2u8; 1536]) {
+        return Err("the second text isn't stored".into());
+    }
+    let mut d = d.next_run(Vec::new(alloc));
+    let [first, second] = firsts(alloc, &mut d, 2)?;
+    let [third, fourth] = firsts(alloc, &mut d, 6)?;
+    Ok([first, second, third, fourth])
+}
+
 #[test]
 fn a_cut_leaves_one_copy_whole(rt: HostRuntime) -> Result<(), Fail> {
     let alloc = rt.alloc();
@@ -66,18 +92,7 @@ fn a_cut_leaves_one_copy_whole(rt: HostRuntime) -> Result<(), Fail> {
         (13, [2, 2, 2, 2]),
     ];
     for (stop, want) in left {
-        let mut d = port(alloc)?;
-        assert!(rt; store(&mut d, &[1u8; 1536]));
-        let mut d = d.next_run(Vec::new(alloc));
-        d.stop_after(stop);
-        assert!(rt; !store(&mut d, &[2u8; 1536]));
-        let mut d = d.next_run(Vec::new(alloc));
-        let primary = copy_at(alloc, &mut d, 2)?;
-        let backup = copy_at(alloc, &mut d, 6)?;
-        assert_eq!(rt; primary.get(0).copied(), Some(want[0]));
-        assert_eq!(rt; primary.get(512).copied(), Some(want[1]));
-        assert_eq!(rt; backup.get(0).copied(), Some(want[2]));
-        assert_eq!(rt; backup.get(512).copied(), Some(want[3]));
+        assert!(rt; cut(alloc, stop)? == want, "after {stop} calls");
     }
     Ok(())
 }

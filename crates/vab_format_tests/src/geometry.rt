@@ -53,12 +53,9 @@ fn a_made_devices_geometry_has_these_bytes(rt: HostRuntime) {
         slots: 2,
     };
     let bytes = encode_geometry(&geometry);
-    assert_eq!(rt; bytes.as_slice(), made().as_slice());
-    assert_eq!(rt;
-        &bytes[..8],
-        [0x67u8, 0x44, 0x6c, 0x61, 52, 0, 0, 0].as_slice()
-    );
-    assert_eq!(rt; decode_geometry(&bytes), Ok(geometry));
+    assert!(rt; bytes.as_slice() == made().as_slice());
+    assert!(rt; &bytes[..8] == [0x67u8, 0x44, 0x6c, 0x61, 52, 0, 0, 0].as_slice());
+    assert!(rt; decode_geometry(&bytes) == Ok(geometry));
 }
 
 #[test]
@@ -76,7 +73,7 @@ fn the_first_fault_of_a_geometry_is_told(rt: HostRuntime) {
         (sector(&SMALL_BLOCK, 65536, 2, 512), GeometryFault::BadField),
     ];
     for (bytes, fault) in faults {
-        assert_eq!(rt; decode_geometry(&bytes), Err(fault));
+        assert!(rt; decode_geometry(&bytes) == Err(fault));
     }
 }
 
@@ -104,8 +101,8 @@ fn the_primary_geometry_is_taken_or_else_the_backup(rt: HostRuntime) {
     };
     let mut bad = made();
     bad[44] = 3;
-    assert_eq!(rt; loaded(alloc, &made(), &[0u8; 512]), Some(Ok(geometry)));
-    assert_eq!(rt; loaded(alloc, &bad, &made()), Some(Ok(geometry)));
+    assert!(rt; loaded(alloc, &made(), &[0u8; 512]) == Some(Ok(geometry)));
+    assert!(rt; loaded(alloc, &bad, &made()) == Some(Ok(geometry)));
     let fault = LoadFault::BothBad(GeometryFault::BadSum, GeometryFault::BadMagic);
-    assert_eq!(rt; loaded(alloc, &bad, &[0u8; 512]), Some(Err(fault)));
+    assert!(rt; loaded(alloc, &bad, &[0u8; 512]) == Some(Err(fault)));
 }

@@ -1,7 +1,9 @@
 // Values of the format, and the happy path of each function that allocates.
 
-ghost use Rattle.std.specs.Prelude.{IfOk};
+ghost use Rattle.std.specs.Prelude.{◌≡◌, IfOk, IfSome};
 ghost use Rattle.vab_tables.specs.Rules.{KeepsRules};
+ghost use Rattle.vab_tables.specs.Spelling.{table_size_of};
+ghost use Rattle.vab_layout.specs.Layout.{layout_of, table_of};
 
 use crate::texts::{put, put_device, text_of};
 use std::alloc::Global;
@@ -24,15 +26,21 @@ const EXTENTS: [[u32; 2]; 9] = [
 
 // `a_a` of `main_a` has the blocks 0, 1 and 4 in three extents; `b_a` of `default` has 2 and 3,
 // `c_a` none, `d_a` 7, 6 and 5 in this order, `e_a` all of the device.
+const PARTITIONS: [(&[u8], [u32; 4]); 5] = [
+    (b"a_a", [1, 0, 3, 1]),
+    (b"b_a", [0, 3, 1, 0]),
+    (b"c_a", [0, 0, 0, 0]),
+    (b"d_a", [0, 4, 3, 1]),
+    (b"e_a", [0, 7, 2, 0]),
+];
+
 fn table(alloc: Global) -> Result<Table, Fail>
     ensures { IfOk result (λ t. KeepsRules t) }
 {
     let mut tables = Vec::new(alloc);
-    put(&mut tables, b"a_a", &[1, 0, 3, 1])?;
-    put(&mut tables, b"b_a", &[0, 3, 1, 0])?;
-    put(&mut tables, b"c_a", &[0, 0, 0, 0])?;
-    put(&mut tables, b"d_a", &[0, 4, 3, 1])?;
-    put(&mut tables, b"e_a", &[0, 7, 2, 0])?;
+    for (name, numbers) in PARTITIONS {
+        put(&mut tables, name, &numbers)?;
+    }
     for extent in EXTENTS {
         put(&mut tables, b"", &[extent[0], 0, 0, extent[1], 0, 0])?;
     }
@@ -102,46 +110,80 @@ fn blocks_are_those_that_a_plain_program_reads(rt: HostRuntime) -> Result<(), Fa
         &[(0, 256)],
     ];
     for (part, own) in layout.parts.as_slice().iter().zip(runs.iter()) {
-        assert_eq!(rt; part.blocks.runs(), *own);
+        assert!(rt; part.blocks.runs() == *own);
     }
     Ok(())
 }
 
-#[tactic(auto, using(vab_layout::proofs::LayoutLaws::layout_runs_small))]
+// Bytes of the text of the layout's table, where there are five partitions in two groups.
+fn size_of(table: &Table, layout: &Layout) -> Option<u64>
+    requires keeps { KeepsRules table.now }
+    requires layout { layout.now ≡ layout_of table.now }
+    ensures { IfSome result (λ size. size ≡ table_size_of (table_of layout.now)) }
+{
+    if table.partitions.len() == 5 && layout.parts.len() == 5 && layout.groups.len() == 2 {
+        Some(layout.text_size())
+    } else {
+        None
+    }
+}
+
+// The layout's table with joined extents, whose text takes 844 bytes.
+fn joined(alloc: Global) -> Result<Table, Fail>
+    ensures { IfOk result (λ t. KeepsRules t) }
+{
+    let table = table(alloc)?;
+    let layout = Layout::of_table(alloc, &table)?;
+    match size_of(&table, &layout) {
+        Some(844) => Ok(layout.to_table(alloc)?),
+        _ => Err("844 bytes".into()),
+    }
+}
+
+// Whether the layout begins with `a_a` of `main_a`, which has these runs.
+fn begins_with_a(layout: &Layout) -> bool {
+    match layout.parts.as_slice().first() {
+        Some(part) => {
+            layout.parts.len() == 5
+                && part.name.text() == b"a_a".as_slice()
+                && part.attributes == 1
+                && part.group.text() == b"main_a".as_slice()
+                && part.blocks.runs() == [(0, 2), (4, 1)].as_slice()
+        }
+        None => false,
+    }
+}
+
+// The first extent of the second partition, its count of extents and its group.
+fn second(table: &Table) -> Option<[u32; 3]> {
+    let partition = table.partitions.as_slice().get(1)?;
+    Some([
+        partition.first_extent,
+        partition.extent_count,
+        partition.group,
+    ])
+}
+
+const JOINED: [(u64, u64); 7] = [
+    (16, 2048),
+    (8, 2080),
+    (16, 2064),
+    (8, 2104),
+    (8, 2096),
+    (8, 2088),
+    (2048, 2048),
+];
+
 #[test]
 fn runs_become_extents_and_blocks_again(rt: HostRuntime) -> Result<(), Fail> {
-    let table = table(rt.alloc())?;
-    assert!(rt; table.partitions.len() == 5);
-    let layout = Layout::of_table(rt.alloc(), &table)?;
-    assert!(rt; layout.parts.len() == 5 && layout.groups.len() == 2);
-    let a = &layout.parts.as_slice()[0];
-    assert_eq!(rt; (a.name.text(), a.attributes), (b"a_a".as_slice(), 1));
-    assert_eq!(rt; a.group.text(), b"main_a".as_slice());
-    let size = layout.text_size();
-    assert!(rt; size == 844);
-    let joined = layout.to_table(rt.alloc())?;
-    assert_eq!(rt; (joined.minor, joined.flags), (2, 1));
-    assert_eq!(rt;
-        sectors(rt.alloc(), &joined)?.as_slice(),
-        [
-            (16, 2048),
-            (8, 2080),
-            (16, 2064),
-            (8, 2104),
-            (8, 2096),
-            (8, 2088),
-            (2048, 2048)
-        ]
-        .as_slice()
-    );
-    assert!(rt; joined.partitions.len() == 5);
-    let b = joined.partitions.as_slice()[1];
-    assert_eq!(rt; (b.first_extent, b.extent_count, b.group), (2, 1, 0));
-    let again = Layout::of_table(rt.alloc(), &joined)?;
-    assert!(rt; again.parts.len() == 5);
-    assert_eq!(rt;
-        again.parts.as_slice()[0].blocks.runs(),
-        [(0, 2), (4, 1)].as_slice()
-    );
+    let alloc = rt.alloc();
+    let first = Layout::of_table(alloc, &table(alloc)?)?;
+    assert!(rt; begins_with_a(&first));
+    let joined = joined(alloc)?;
+    assert!(rt; joined.minor == 2 && joined.flags == 1 && joined.partitions.len() == 5);
+    assert!(rt; sectors(alloc, &joined)?.as_slice() == JOINED.as_slice());
+    assert!(rt; second(&joined) == Some([2, 1, 0]));
+    let again = Layout::of_table(alloc, &joined)?;
+    assert!(rt; begins_with_a(&again));
     Ok(())
 }

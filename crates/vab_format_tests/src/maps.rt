@@ -41,10 +41,10 @@ fn byte_at(d: &mut MemPort, sector: u64) -> Option<u8> {
 #[test]
 fn blocks_follow_the_runs_in_their_order(rt: HostRuntime) -> Result<(), Fail> {
     let map = map(rt.alloc())?;
-    assert_eq!(rt; map.len(), 5);
+    assert!(rt; map.len() == 5);
     for (block, sector) in [(0u64, 48u64), (1, 56), (2, 8), (3, 16), (4, 24)] {
         assert!(rt; block < map.len());
-        assert_eq!(rt; map.sector_of(block), sector, "of block {block}");
+        assert!(rt; map.sector_of(block) == sector, "of block {block}");
     }
     Ok(())
 }
@@ -53,22 +53,32 @@ fn blocks_follow_the_runs_in_their_order(rt: HostRuntime) -> Result<(), Fail> {
 fn a_part_of_a_block_is_none(rt: HostRuntime) -> Result<(), Fail> {
     let map = Map::new(rt.alloc(), &[(0, 7), (10, 15), (30, 0)]);
     let map = map.ok().ok_or("there is memory for a map")?;
-    assert_eq!(rt; map.len(), 1);
+    assert!(rt; map.len() == 1);
     assert!(rt; map.len() > 0 && map.sector_of(0) == 10);
     Ok(())
 }
 
-#[test]
-fn a_block_is_written_at_its_sectors_and_read_back(rt: HostRuntime) -> Result<(), Fail> {
-    let alloc = rt.alloc();
-    let map = map(alloc)?;
+// The five blocks and what each is filled with.
+const FILLED: [(u64, u8); 5] = [(0, 1), (1, 2), (2, 3), (3, 4), (4, 5)];
+
+// A disk on which each block is filled.
+fn filled(alloc: Global, map: &Map) -> Result<MemPort, Fail> {
     let port = MemPort::new(alloc, 64, Vec::new(alloc));
     let mut d = port.ok().ok_or("there is memory for a disk")?;
-    for (block, byte) in [(0u64, 1u8), (1, 2), (2, 3), (3, 4), (4, 5)] {
-        assert!(rt; write(&mut d, &map, block, byte));
+    for (block, byte) in FILLED {
+        if !write(&mut d, map, block, byte) {
+            return Err("a block is written".into());
+        }
     }
+    Ok(d)
+}
+
+#[test]
+fn a_block_is_written_at_its_sectors_and_read_back(rt: HostRuntime) -> Result<(), Fail> {
+    let map = map(rt.alloc())?;
+    let mut d = filled(rt.alloc(), &map)?;
     // Of the disk's blocks, the one before the first and the one between two runs are as before.
-    let left = [
+    for (sector, want) in [
         (0u64, 0u8),
         (8, 3),
         (15, 3),
@@ -77,13 +87,14 @@ fn a_block_is_written_at_its_sectors_and_read_back(rt: HostRuntime) -> Result<()
         (32, 0),
         (48, 1),
         (56, 2),
-    ];
-    for (sector, want) in left {
-        assert_eq!(rt; byte_at(&mut d, sector), Some(want), "in sector {sector}");
+    ] {
+        assert!(rt; byte_at(&mut d, sector) == Some(want), "in sector {sector}");
     }
-    for (block, byte) in [(0u64, 1u8), (1, 2), (2, 3), (3, 4), (4, 5)] {
-        let bytes = read(&mut d, &map, block).ok_or("a block is read")?;
-        assert!(rt; bytes == [byte; 4096], "at {block}");
+    for (block, byte) in FILLED {
+        assert!(rt;
+            read(&mut d, &map, block) == Some([byte; 4096]),
+            "at {block}"
+        );
     }
     Ok(())
 }

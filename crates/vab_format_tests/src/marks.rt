@@ -13,6 +13,21 @@ fn put_sum(bytes: &mut [u8; 512]) {
     put_le32(bytes, 508, sum);
 }
 
+// Whether a sector begins with these bytes, has zeros behind them, and ends with this sum.
+fn is_sector(bytes: &[u8; 512], front: &[u8], sum: [u8; 4]) -> bool {
+    front.len() <= 508
+        && bytes.starts_with(front)
+        && bytes[front.len()..508].iter().all(|b| *b == 0)
+        && bytes.ends_with(&sum)
+}
+
+// Whether the mark of this phase has this byte, and is read again.
+fn has_byte(phase: MarkPhase, byte: u8) -> bool {
+    let mark = UpdateMark { phase, slot: 0 };
+    let bytes = encode_mark(&mark);
+    bytes[5] == byte && decode_mark(&bytes) == Ok(mark)
+}
+
 #[test]
 fn marks_as_bytes(rt: HostRuntime) {
     let mark = UpdateMark {
@@ -20,10 +35,9 @@ fn marks_as_bytes(rt: HostRuntime) {
         slot: 1,
     };
     let bytes = encode_mark(&mark);
-    assert_eq!(rt; &bytes[..8], b"VABU\x01\x03\x01\0".as_slice());
-    assert_eq!(rt; &bytes[8..508], [0; 500].as_slice());
-    assert_eq!(rt; &bytes[508..], [0x2b, 0x14, 0xc5, 0xa7].as_slice());
-    assert_eq!(rt; decode_mark(&bytes), Ok(mark));
+    let sum = [0x2b, 0x14, 0xc5, 0xa7];
+    assert!(rt; is_sector(&bytes, b"VABU\x01\x03\x01\0", sum));
+    assert!(rt; decode_mark(&bytes) == Ok(mark));
     for (byte, phase) in [
         (0, MarkPhase::Idle),
         (1, MarkPhase::Installing),
@@ -31,36 +45,39 @@ fn marks_as_bytes(rt: HostRuntime) {
         (3, MarkPhase::Merging),
         (4, MarkPhase::Completed),
     ] {
-        let mark = UpdateMark { phase, slot: 0 };
-        let bytes = encode_mark(&mark);
-        assert_eq!(rt; bytes[5], byte);
-        assert_eq!(rt; decode_mark(&bytes), Ok(mark));
+        assert!(rt; has_byte(phase, byte), "{byte}");
     }
+}
+
+// The fault of an idle mark with these bytes in these places, and then its sum or not.
+fn fault_of(changes: &[(usize, u8)], summed: bool) -> Option<MarkFault> {
+    let mut bytes = encode_mark(&UpdateMark {
+        phase: MarkPhase::Idle,
+        slot: 0,
+    });
+    for (at, byte) in changes {
+        if *at < 512 {
+            bytes[*at] = *byte;
+        }
+    }
+    if summed {
+        put_sum(&mut bytes);
+    }
+    decode_mark(&bytes).err()
 }
 
 #[test]
 fn faults_of_a_mark_in_their_order(rt: HostRuntime) {
-    let good = encode_mark(&UpdateMark {
-        phase: MarkPhase::Idle,
-        slot: 0,
-    });
-    let mut bytes = good;
-    bytes[6] = 2;
-    assert_eq!(rt; decode_mark(&bytes), Err(MarkFault::BadSum));
-    put_sum(&mut bytes);
-    assert_eq!(rt; decode_mark(&bytes), Err(MarkFault::BadField));
-    bytes[4] = 2;
-    assert_eq!(rt; decode_mark(&bytes), Err(MarkFault::BadVersion));
-    bytes[3] = b'S';
-    assert_eq!(rt; decode_mark(&bytes), Err(MarkFault::BadMagic));
-    let mut later = good;
-    later[5] = 5;
-    put_sum(&mut later);
-    assert_eq!(rt; decode_mark(&later), Err(MarkFault::BadField));
-    let mut stray = good;
-    stray[507] = 1;
-    put_sum(&mut stray);
-    assert_eq!(rt; decode_mark(&stray), Err(MarkFault::BadField));
+    for (changes, summed, fault) in [
+        ([(6, 2)].as_slice(), false, MarkFault::BadSum),
+        (&[(6, 2)], true, MarkFault::BadField),
+        (&[(6, 2), (4, 2)], false, MarkFault::BadVersion),
+        (&[(6, 2), (4, 2), (3, b'S')], false, MarkFault::BadMagic),
+        (&[(5, 5)], true, MarkFault::BadField),
+        (&[(507, 1)], true, MarkFault::BadField),
+    ] {
+        assert!(rt; fault_of(changes, summed) == Some(fault), "{fault:?}");
+    }
 }
 
 #[test]
@@ -70,12 +87,10 @@ fn statuses_as_bytes(rt: HostRuntime) -> Result<(), Fail> {
         count: 258,
     };
     let bytes = encode_status(&status);
-    assert_eq!(rt; &bytes[..16], b"VABS\x01\x01\x08\0system_b".as_slice());
-    assert_eq!(rt; &bytes[16..44], [0; 28].as_slice());
-    assert_eq!(rt; &bytes[44..52], [2, 1, 0, 0, 0, 0, 0, 0].as_slice());
-    assert_eq!(rt; &bytes[52..508], [0; 456].as_slice());
-    assert_eq!(rt; &bytes[508..], [0x04, 0xfe, 0xf2, 0x8f].as_slice());
-    assert_eq!(rt; decode_status(&bytes), Ok(status));
-    assert_eq!(rt; decode_status(&[0; 512]), Err(MarkFault::BadMagic));
+    let front = b"VABS\x01\x01\x08\0system_b\0\0\0\0\0\0\0\0\0\0\0\0\0\0\
+        \0\0\0\0\0\0\0\0\0\0\0\0\0\0\x02\x01";
+    assert!(rt; is_sector(&bytes, front, [0x04, 0xfe, 0xf2, 0x8f]));
+    assert!(rt; decode_status(&bytes) == Ok(status));
+    assert!(rt; decode_status(&[0; 512]) == Err(MarkFault::BadMagic));
     Ok(())
 }

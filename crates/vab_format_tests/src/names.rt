@@ -16,7 +16,7 @@ fn base_names(rt: HostRuntime) -> Result<(), Fail> {
     let longest = [b'x'; 30];
     for text in [b"x".as_slice(), b"system", b"vendor_boot.2", &longest] {
         let base = parse_base(text).ok_or("a base name")?;
-        assert_eq!(rt; base.text(), text);
+        assert!(rt; base.text() == text);
     }
     let longer = [b'x'; 31];
     for text in [b"".as_slice(), b"a-b", b"a b", b"a/b", &longer] {
@@ -36,7 +36,7 @@ fn names_of_a_slot(rt: HostRuntime) -> Result<(), Fail> {
         (b"a", false, false),
         (b"", false, false),
     ] {
-        assert_eq!(rt; [is_of_slot(text, 0), is_of_slot(text, 1)], [of_a, of_b]);
+        assert!(rt; [is_of_slot(text, 0), is_of_slot(text, 1)] == [of_a, of_b]);
     }
     for (text, full) in [
         (b"system_b".as_slice(), true),
@@ -45,30 +45,39 @@ fn names_of_a_slot(rt: HostRuntime) -> Result<(), Fail> {
         (b"a-b_b", false),
         (b"system_b-cow", false),
     ] {
-        assert_eq!(rt; is_full(text, 1), full);
+        assert!(rt; is_full(text, 1) == full);
     }
     Ok(())
 }
 
+// The full name of a base name in slot b, with its twin in slot a and the name of its store.
+fn made_of(base: &Name36) -> Option<[Name36; 3]> {
+    if base.text().len() > 30 {
+        return None;
+    }
+    let full = full_name(base, 1);
+    if full.text().len() < 2 || full.text().len() > 32 {
+        return None;
+    }
+    Some([full, in_slot(&full, 0), store_of(&full)])
+}
+
+// The base name in a full name.
+fn base_in(full: &[u8]) -> &[u8] {
+    if full.len() < 2 { b"" } else { base_of(full) }
+}
+
 #[test]
 fn names_made_of_names(rt: HostRuntime) -> Result<(), Fail> {
-    let base = name(b"system")?;
-    assert!(rt; base.text().len() <= 34);
-    let full = full_name(&base, 1);
-    assert_eq!(rt; full.text(), b"system_b".as_slice());
-    let two = full.text().len() >= 2;
-    assert!(rt; two);
-    let twin = in_slot(&full, 0);
-    assert_eq!(rt; twin.text(), b"system_a".as_slice());
-    assert_eq!(rt; base_of(full.text()), b"system".as_slice());
-    let store = store_of(&full);
-    assert_eq!(rt; store.text(), b"system_b-cow".as_slice());
-    assert_eq!(rt;
-        [is_store(store.text(), 0), is_store(store.text(), 1)],
-        [false, true]
+    let [full, twin, store] = made_of(&name(b"system")?).ok_or("they are short")?;
+    assert!(rt;
+        full.text() == b"system_b".as_slice() && base_in(full.text()) == b"system".as_slice()
     );
+    assert!(rt; twin.text() == b"system_a".as_slice());
+    assert!(rt; store.text() == b"system_b-cow".as_slice());
+    assert!(rt; is_store(store.text(), 1) && !is_store(store.text(), 0));
     assert!(rt; !is_store(full.text(), 1));
-    assert_eq!(rt; default_group().text(), b"default".as_slice());
-    assert_eq!(rt; store_group().text(), b"cow".as_slice());
+    assert!(rt; default_group().text() == b"default".as_slice());
+    assert!(rt; store_group().text() == b"cow".as_slice());
     Ok(())
 }

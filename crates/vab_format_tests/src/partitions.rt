@@ -1,6 +1,6 @@
 // One table for each kind of bad partition, and the happy path.
 
-ghost use Rattle.std.specs.Prelude.{IfOk};
+ghost use Rattle.std.specs.Prelude.{IfOk, ◌<◌};
 ghost use Rattle.vab_tables.specs.Rules.{KeepsRules};
 
 use crate::texts::{put, put_device, text_of};
@@ -214,72 +214,78 @@ fn table(alloc: Global, sample: &Sample) -> Result<Table, Fail>
     Ok(decode_table(alloc, &text, 1024)?)
 }
 
-#[test]
-fn each_bad_partition_is_named(rt: HostRuntime) -> Result<(), Fail> {
-    for (sample, bad) in [
-        (&GOOD, [b"".as_slice(), b"system_b"]),
-        (&NAMES, [b"a-b_a", b"vendor_b"]),
-        (&SHARED, [b"vendor_a", b""]),
-    ] {
-        let table = table(rt.alloc(), sample)?;
-        for slot in 0..2 {
-            let found = bad_partition(rt.alloc(), &table, slot)?;
-            match &found {
-                Some(name) => assert_eq!(rt; name.text(), bad[slot], "slot {slot}"),
-                None => assert!(rt; bad[slot].is_empty(), "slot {slot}"),
-            }
-        }
-    }
-    Ok(())
-}
-
-// The name of the bad partition or store of slot b beside slot a, or nothing where none is bad.
-fn bad_one(alloc: Global, table: &Table) -> Result<Vec<u8>, Fail>
-    requires { KeepsRules table.now }
-{
-    let found = match bad_partition(alloc, table, 0)? {
-        None => bad_target(alloc, table, table, 1)?,
-        Some(_) => return Err("the source is good")?,
-    };
+// The name that was found, or nothing.
+fn text_of_found(alloc: Global, found: Option<Name36>) -> Result<Vec<u8>, Fail> {
     match found {
         Some(name) => Ok(name.text().to_vec(alloc)?),
         None => Ok(Vec::new(alloc)),
     }
 }
 
+// The name of the bad partition of a slot of a sample, or nothing where none is bad.
+fn bad_in(alloc: Global, sample: &Sample, slot: usize) -> Result<Vec<u8>, Fail>
+    requires { slot < 2 }
+{
+    let table = table(alloc, sample)?;
+    text_of_found(alloc, bad_partition(alloc, &table, slot)?)
+}
+
+// Each sample with the bad partition of slot a and that of slot b.
+const SOURCES: [(&Sample, [&[u8]; 2]); 3] = [
+    (&GOOD, [b"", b"system_b"]),
+    (&NAMES, [b"a-b_a", b"vendor_b"]),
+    (&SHARED, [b"vendor_a", b""]),
+];
+
 #[test]
-fn the_first_bad_one_of_a_target_is_named(rt: HostRuntime) -> Result<(), Fail> {
-    for (sample, bad) in [
-        (&TARGET, b"".as_slice()),
-        (&SOURCE_BLOCK, b"vendor_b"),
-        (&UNMARKED, b"system_b"),
-        (&STORE_GROUP, b"vendor_b-cow"),
-        (&ORPHAN, b"other_b-cow"),
-        (&STORE_FIRST, b"vendor_b"),
-    ] {
-        let table = table(rt.alloc(), sample)?;
-        let found = bad_one(rt.alloc(), &table)?;
-        assert_eq!(rt; found.as_slice(), bad);
+fn each_bad_partition_is_named(rt: HostRuntime) -> Result<(), Fail> {
+    for (sample, bad) in SOURCES {
+        for slot in 0..2 {
+            let found = bad_in(rt.alloc(), sample, slot)?;
+            assert!(rt; found.as_slice() == bad[slot], "slot {slot}");
+        }
     }
     Ok(())
 }
 
-// The same tables with no source: a block of the source and an unmarked partition are no matter.
+// The name of the bad partition or store of slot b beside slot a, or nothing where none is bad.
+fn bad_beside(alloc: Global, sample: &Sample) -> Result<Vec<u8>, Fail> {
+    let table = table(alloc, sample)?;
+    match bad_partition(alloc, &table, 0)? {
+        None => text_of_found(alloc, bad_target(alloc, &table, &table, 1)?),
+        Some(_) => Err("the source is good".into()),
+    }
+}
+
+// The name of the bad partition or store of slot b alone, or nothing where none is bad.
+fn bad_merged(alloc: Global, sample: &Sample) -> Result<Vec<u8>, Fail> {
+    let table = table(alloc, sample)?;
+    text_of_found(alloc, bad_merging(alloc, &table, 1)?)
+}
+
+// Each sample with the bad one of slot b beside its source, and that of slot b alone, to which a
+// block of the source and an unmarked partition are no matter.
+const TARGETS: [(&Sample, [&[u8]; 2]); 6] = [
+    (&TARGET, [b"", b""]),
+    (&SOURCE_BLOCK, [b"vendor_b", b""]),
+    (&UNMARKED, [b"system_b", b""]),
+    (&STORE_GROUP, [b"vendor_b-cow", b"vendor_b-cow"]),
+    (&ORPHAN, [b"other_b-cow", b"other_b-cow"]),
+    (&STORE_FIRST, [b"vendor_b", b"vendor_b"]),
+];
+
+#[test]
+fn the_first_bad_one_of_a_target_is_named(rt: HostRuntime) -> Result<(), Fail> {
+    for (sample, bad) in TARGETS {
+        assert!(rt; bad_beside(rt.alloc(), sample)?.as_slice() == bad[0]);
+    }
+    Ok(())
+}
+
 #[test]
 fn the_first_bad_one_of_a_merged_slot_is_named(rt: HostRuntime) -> Result<(), Fail> {
-    for (sample, bad) in [
-        (&TARGET, b"".as_slice()),
-        (&SOURCE_BLOCK, b""),
-        (&UNMARKED, b""),
-        (&STORE_GROUP, b"vendor_b-cow"),
-        (&ORPHAN, b"other_b-cow"),
-        (&STORE_FIRST, b"vendor_b"),
-    ] {
-        let table = table(rt.alloc(), sample)?;
-        match bad_merging(rt.alloc(), &table, 1)? {
-            Some(name) => assert_eq!(rt; name.text(), bad),
-            None => assert!(rt; bad.is_empty()),
-        }
+    for (sample, bad) in TARGETS {
+        assert!(rt; bad_merged(rt.alloc(), sample)?.as_slice() == bad[1]);
     }
     Ok(())
 }
@@ -314,26 +320,34 @@ fn with_groups(alloc: Global, groups: &[(&[u8], u64)], size: u64) -> Result<Tabl
     })
 }
 
+const SOURCE_GROUPS: [(&[u8], u64); 3] = [(b"one_a", 8), (b"cow", 0), (b"two_a", 16)];
+
+// Whether slot b's groups are the twins of slot a's, and the device of that size is the source's of
+// 1 MiB.
+fn beside(alloc: Global, groups: &[(&[u8], u64)], size: u64) -> Result<(bool, bool), Fail> {
+    let source = with_groups(alloc, &SOURCE_GROUPS, 1 << 20)?;
+    let target = with_groups(alloc, groups, size)?;
+    Ok((
+        has_twins(&source, &target, 1),
+        same_device(&source, &target),
+    ))
+}
+
+// Groups of slot b, and whether they are twins.
+const TWINS: [([(&[u8], u64); 3], bool); 5] = [
+    ([(b"one_b", 8), (b"two_b", 16), (b"cow", 0)], true),
+    ([(b"two_b", 16), (b"one_b", 8), (b"cow", 0)], false),
+    ([(b"one_b", 8), (b"two_b", 17), (b"cow", 0)], false),
+    ([(b"one_b", 8), (b"two_a", 16), (b"cow", 0)], false),
+    ([(b"one_b", 8), (b"two_b", 16), (b"three_b", 0)], false),
+];
+
 #[test]
 fn twins_have_one_name_one_limit_and_one_order(rt: HostRuntime) -> Result<(), Fail> {
-    let alloc = rt.alloc();
-    let groups = [(b"one_a".as_slice(), 8), (b"cow", 0), (b"two_a", 16)];
-    let source = with_groups(alloc, &groups, 1 << 20)?;
-    for (groups, twins) in [
-        (
-            [(b"one_b".as_slice(), 8), (b"two_b", 16), (b"cow", 0)],
-            true,
-        ),
-        ([(b"two_b", 16), (b"one_b", 8), (b"cow", 0)], false),
-        ([(b"one_b", 8), (b"two_b", 17), (b"cow", 0)], false),
-        ([(b"one_b", 8), (b"two_a", 16), (b"cow", 0)], false),
-        ([(b"one_b", 8), (b"two_b", 16), (b"three_b", 0)], false),
-    ] {
-        let target = with_groups(alloc, &groups, 1 << 20)?;
-        assert_eq!(rt; has_twins(&source, &target, 1), twins);
-        assert!(rt; same_device(&source, &target));
+    for (groups, twins) in TWINS {
+        assert!(rt; beside(rt.alloc(), &groups, 1 << 20)? == (twins, true));
     }
-    let other = with_groups(alloc, &groups, 1 << 21)?;
-    assert!(rt; !same_device(&source, &other));
+    let (_, same) = beside(rt.alloc(), &SOURCE_GROUPS, 1 << 21)?;
+    assert!(rt; !same);
     Ok(())
 }

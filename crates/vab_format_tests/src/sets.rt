@@ -2,7 +2,7 @@
 
 use std::alloc::Global;
 use std::test::*;
-use vab_set::{SetFault, read_set, write_set};
+use vab_set::{SetFault, SetImage, read_set, write_set};
 
 // One image `x` of three bytes for a partition of 4096 bytes.
 const ONE: [u8; 41] = [
@@ -23,17 +23,22 @@ fn changed(at: usize, byte: u8) -> [u8; 41] {
     bytes
 }
 
+// Whether an image is that of `ONE`.
+fn is_one(image: &SetImage<'_>) -> bool {
+    image.name.text() == b"x".as_slice()
+        && image.size == 4096
+        && image.store == 0
+        && image.bytes.as_slice() == b"abc".as_slice()
+}
+
 #[test]
 fn one_image_is_read_and_written_again(rt: HostRuntime) -> Result<(), Fail> {
     let set = read_set(rt.alloc(), &ONE)
         .ok()
         .ok_or("the bytes are a set")?;
-    assert_eq!(rt; set.len(), 1);
+    assert!(rt; set.len() == 1);
     for image in set.as_slice() {
-        assert!(rt; image.name.text() == b"x".as_slice());
-        assert_eq!(rt; image.size, 4096);
-        assert_eq!(rt; image.store, 0);
-        assert!(rt; image.bytes.as_slice() == b"abc".as_slice());
+        assert!(rt; is_one(image));
     }
     let bytes = write_set(rt.alloc(), &set).ok().ok_or("there is memory")?;
     assert!(rt; bytes.as_slice() == ONE.as_slice());
@@ -51,7 +56,10 @@ fn each_fault_is_the_first_from_the_left(rt: HostRuntime) -> Result<(), Fail> {
         (40, SetFault::Cut(0)),
     ];
     for (len, want) in cuts {
-        assert_eq!(rt; fault_of(alloc, &ONE[..len]), Some(want), "of {len} bytes");
+        assert!(rt;
+            fault_of(alloc, &ONE[..len]) == Some(want),
+            "of {len} bytes"
+        );
     }
     let changes = [
         (0usize, b'W', SetFault::BadMagic),
@@ -65,7 +73,10 @@ fn each_fault_is_the_first_from_the_left(rt: HostRuntime) -> Result<(), Fail> {
         (19, 2, SetFault::TooBig(0)),
     ];
     for (at, byte, want) in changes {
-        assert_eq!(rt; fault_of(alloc, &changed(at, byte)), Some(want), "at {at}");
+        assert!(rt;
+            fault_of(alloc, &changed(at, byte)) == Some(want),
+            "at {at}"
+        );
     }
     Ok(())
 }
@@ -78,7 +89,7 @@ fn names_that_are_too_long_or_cut_off_are_refused(rt: HostRuntime) -> Result<(),
         set.push(b'x')?;
     }
     let cut = b"VABSET1\n\x01\0\0\0\x09syst";
-    assert_eq!(rt; fault_of(rt.alloc(), &set), Some(SetFault::BadName(0)));
-    assert_eq!(rt; fault_of(rt.alloc(), cut), Some(SetFault::Cut(0)));
+    assert!(rt; fault_of(rt.alloc(), &set) == Some(SetFault::BadName(0)));
+    assert!(rt; fault_of(rt.alloc(), cut) == Some(SetFault::Cut(0)));
     Ok(())
 }

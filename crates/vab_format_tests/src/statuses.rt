@@ -54,16 +54,17 @@ fn statuses_are_put_into_free_sectors(rt: HostRuntime) -> Result<(), Fail> {
     let mut d = port.ok().ok_or("there is memory for a disk")?;
     let system = status(b"system_b", 3)?;
     let vendor = status(b"vendor_b", 0)?;
-    assert_eq!(rt; first_two(&mut d), Some(Ok([None, None])));
-    assert_eq!(rt; put(&mut d, &system), Some(2049));
-    assert_eq!(rt; first_two(&mut d), Some(Ok([Some(system), None])));
-    assert_eq!(rt; put(&mut d, &vendor), Some(2050));
-    assert_eq!(rt; first_two(&mut d), Some(Ok([Some(system), Some(vendor)])));
+    assert!(rt; first_two(&mut d) == Some(Ok([None, None])));
     // A second status of one name is in the third sector.
-    assert_eq!(rt; put(&mut d, &system), Some(2051));
-    assert_eq!(rt; first_two(&mut d), Some(Err(StatusFault::Bad(2051))));
-    assert_eq!(rt; d.sectors(), 2081);
-    assert!(rt; clear_statuses(&mut d).is_ok());
-    assert_eq!(rt; first_two(&mut d), Some(Ok([None, None])));
+    for (status, at, found) in [
+        (system, 2049, Ok([Some(system), None])),
+        (vendor, 2050, Ok([Some(system), Some(vendor)])),
+        (system, 2051, Err(StatusFault::Bad(2051))),
+    ] {
+        assert!(rt; put(&mut d, &status) == Some(at));
+        assert!(rt; first_two(&mut d) == Some(found));
+    }
+    assert!(rt; d.sectors() == 2081 && clear_statuses(&mut d).is_ok());
+    assert!(rt; first_two(&mut d) == Some(Ok([None, None])));
     Ok(())
 }

@@ -26,16 +26,8 @@ pub(crate) fn put_device(out: &mut Vec<u8>) -> Result<(), Fail> {
     put(out, b"super", &[0])
 }
 
-/// A text with right sums around these tables, so many of partitions, extents, groups and devices.
-pub(crate) fn text_of(
-    alloc: Global,
-    minor: u8,
-    counts: [u32; 4],
-    tables: &[u8],
-) -> Result<Vec<u8>, Fail> {
-    let size = if minor == 2 { 1 } else { 0 };
-    let mut text = b"0PLA".to_vec(alloc)?;
-    text.extend_from_slice(&[10, 0, minor, 0, 128 * (1 - size), size, 0, 0])?;
+// What stands behind the header's sum: the length and the sum of the tables, and where each is.
+fn back_of(alloc: Global, minor: u8, counts: [u32; 4], tables: &[u8]) -> Result<Vec<u8>, Fail> {
     let mut back = Vec::new(alloc);
     let len = u32::try_from(tables.len()).ok().ok_or("too long")?;
     back.extend_from_slice(&len.to_le_bytes())?;
@@ -46,14 +38,33 @@ pub(crate) fn text_of(
         offset = offset.wrapping_add(counts[i].wrapping_mul(SIZES[i]));
     }
     if minor == 2 {
-        back.extend_from_slice(&1u32.to_le_bytes())?;
-        back.extend_from_slice(&[0; 124])?;
+        back.extend_from_slice(&[1])?;
+        back.extend_from_slice(&[0; 127])?;
     }
-    let mut header = text.as_slice().to_vec(alloc)?;
-    header.extend_from_slice(&[0; 32])?;
-    header.extend_from_slice(&back)?;
-    text.extend_from_slice(&Sha256::digest(header.as_slice()))?;
-    text.extend_from_slice(&back)?;
+    Ok(back)
+}
+
+// The header with this sum.
+fn header(alloc: Global, minor: u8, sum: &[u8; 32], back: &[u8]) -> Result<Vec<u8>, Fail> {
+    let size = if minor == 2 { 1 } else { 0 };
+    let mut header = b"0PLA".to_vec(alloc)?;
+    header.extend_from_slice(&[10, 0, minor, 0, 128 * (1 - size), size, 0, 0])?;
+    header.extend_from_slice(sum)?;
+    header.extend_from_slice(back)?;
+    Ok(header)
+}
+
+/// A text with right sums around these tables, so many of partitions, extents, groups and devices.
+pub(crate) fn text_of(
+    alloc: Global,
+    minor: u8,
+    counts: [u32; 4],
+    tables: &[u8],
+) -> Result<Vec<u8>, Fail> {
+    let back = back_of(alloc, minor, counts, tables)?;
+    let unsummed = header(alloc, minor, &[0; 32], &back)?;
+    let sum = Sha256::digest(unsummed.as_slice());
+    let mut text = header(alloc, minor, &sum, &back)?;
     text.extend_from_slice(tables)?;
     Ok(text)
 }

@@ -35,8 +35,6 @@ mod sources;
 #[cfg(test)]
 mod staged;
 #[cfg(test)]
-mod stops;
-#[cfg(test)]
 mod tables;
 #[cfg(test)]
 mod texts;

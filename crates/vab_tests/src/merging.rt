@@ -2,15 +2,19 @@
 
 use crate::packets::{Case, SYSTEM, session};
 use crate::runs::{SECTORS, Step, port, steps, steps_on, words};
-use crate::sessions::{put, sector};
+use crate::sessions::{put, sector, text_at};
 use crate::sets::filled;
 use crate::staged::{MADE, serve, staged};
-use crate::stops::left_by;
 use std::alloc::Global;
 use std::process::Abort;
 use std::test::Fail;
 use vab_cli::run;
 use vab_disk::{Blend, Disk, MemPort};
+
+// A port on what is left of this one.
+fn left_by(d: &MemPort, blend: Blend) -> Result<MemPort, Fail> {
+    d.outcome(blend).map_err(|_| Fail::from("memory"))
+}
 
 // Slot b is marked as one that works, and was booted last.
 const B_WORKS: [u8; 4] = [0x8e, 0, 0x8f, 0];
@@ -256,35 +260,101 @@ fn small(rt: &impl Abort, alloc: Global) -> Result<MemPort, Fail> {
     steps_on(rt, alloc, port(alloc, 6400, b"")?, &runs)
 }
 
-// Wherever a merge stops, and whether what was pending then has landed or not, the images are the
-// same, and merging goes on to its end.
-#[test]
-fn a_merge_that_is_cut_off_goes_on(rt: HostRuntime) -> Result<(), Fail> {
-    let alloc = rt.alloc();
+// The images `x` and `y` of slot b are there.
+fn has_images(rt: &impl Abort, alloc: Global, d: MemPort) -> Result<MemPort, Fail> {
     let x = filled(alloc, b"xxx", 8192)?;
     let y = filled(alloc, b"yyy", 4096)?;
     let prints: [Step; 2] = [
         (&["print", "x_b"], b"", 0, &x),
         (&["print", "y_b"], b"", 0, &y),
     ];
+    steps_on(rt, alloc, d, &prints)
+}
+
+// A merge of all on a disk: its status, and the port.
+fn merged(alloc: Global, d: MemPort) -> Result<(u8, MemPort), Fail> {
     let all = words(alloc, &["merge", "4"])?;
-    let first = small(&rt, alloc)?;
-    // Two runs, of 19 and 11 writes and syncs, and the end, of two: in each copy, before and behind
-    // its sync, in each clear, and in the end.
-    for stop in [0, 5, 16, 17, 18, 19, 28, 29, 30, 31, 32u64] {
-        let mut d = left_by(&first, Blend::New)?;
-        d.stop_after(stop);
-        let status = run(alloc, &all, &mut d).code();
-        assert_eq!(rt; status, if stop < 32 { 6 } else { 0 });
-        for blend in [Blend::Old, Blend::New] {
-            let left = left_by(&d, blend)?;
-            let left = steps_on(&rt, alloc, left, &prints)?;
-            let mut left = left.next_run(Vec::new(alloc));
-            let code = run(alloc, &all, &mut left).code();
-            assert!(rt; code == 0 || (code == 4 && stop > 30), "after {stop} calls");
-            let left = steps_on(&rt, alloc, left, &prints)?;
-            steps_on(&rt, alloc, left, &[(&["boot"], b"", 0, b"booted b\n")])?;
+    let mut d = d;
+    let status = run(alloc, &all, &mut d).code();
+    Ok((status, d.next_run(Vec::new(alloc))))
+}
+
+// The images are there in front of a merge and behind it, and the slot is booted then. Nothing is
+// left to be merged only where a merge may be at its end.
+fn goes_on(rt: &impl Abort, alloc: Global, left: MemPort, at_end: bool) -> Result<(), Fail> {
+    let left = has_images(rt, alloc, left)?;
+    let (status, left) = merged(alloc, left.next_run(Vec::new(alloc)))?;
+    assert!(rt; status == 0 || (status == 4 && at_end));
+    let left = has_images(rt, alloc, left)?;
+    steps_on(rt, alloc, left, &[(&["boot"], b"", 0, b"booted b\n")])?;
+    Ok(())
+}
+
+// Where that device has its bytes: boot control, the mark and the statuses, the table of slot b in
+// two copies, and the blocks that are used.
+const PLACES: [(u64, u64); 5] = [
+    (4, 5),
+    (2048, 2081),
+    (4248, 4252),
+    (4504, 4508),
+    (6144, 6224),
+];
+
+// The bytes of the device on a disk.
+fn bytes_of(alloc: Global, d: &mut MemPort) -> Result<Vec<u8>, Fail> {
+    let mut bytes = Vec::new(alloc);
+    for (from, to) in PLACES {
+        let part = text_at(alloc, d, from, to - from)?;
+        bytes.extend_from_slice(&part)?;
+    }
+    Ok(bytes)
+}
+
+// Whether these bytes are among those that were seen before.
+fn is_among(seen: &[Vec<u8>], bytes: &[u8]) -> bool {
+    for before in seen {
+        if before.as_slice() == bytes {
+            return true;
         }
+    }
+    false
+}
+
+// A merge stops behind so many writes and syncs. Whether what was pending then has landed or not,
+// it goes on. A disk that was seen before isn't tried again.
+fn is_cut(
+    rt: &impl Abort,
+    alloc: Global,
+    first: &MemPort,
+    stop: u64,
+    seen: &mut Vec<Vec<u8>>,
+) -> Result<(), Fail> {
+    let mut d = left_by(first, Blend::New)?;
+    d.stop_after(stop);
+    let (status, d) = merged(alloc, d)?;
+    assert!(rt;
+        status == if stop < 32 { 6 } else { 0 },
+        "after {stop} calls"
+    );
+    for blend in [Blend::Old, Blend::New] {
+        let mut left = left_by(&d, blend)?;
+        let bytes = bytes_of(alloc, &mut left)?;
+        if !is_among(seen, &bytes) {
+            goes_on(rt, alloc, left, stop > 30)?;
+            seen.push(bytes)?;
+        }
+    }
+    Ok(())
+}
+
+// Two runs, of 19 and 11 writes and syncs, and the end, of two: in each copy, before and behind its
+// sync, in each clear, and in the end.
+#[test]
+fn a_merge_that_is_cut_off_goes_on(rt: HostRuntime) -> Result<(), Fail> {
+    let first = small(&rt, rt.alloc())?;
+    let mut seen = Vec::new(rt.alloc());
+    for stop in [0, 5, 16, 17, 18, 19, 28, 29, 30, 31, 32u64] {
+        is_cut(&rt, rt.alloc(), &first, stop, &mut seen)?;
     }
     Ok(())
 }
