@@ -74,7 +74,7 @@ in_use_fits source plan images small =
     let kept = image_most source images in
     let grown = want_most source growth_of (2 ^ 28) plan small
     (λ e s. omega (arith, s.blocks)) in
-    let stored = want_most source (λ w. w.store) (2 ^ 52) plan small (λ e s. s.store) in
+    let stored = want_most source (λ w. w.store) (2 ^ 55) plan small (λ e s. s.store) in
     omega (arith, kept, grown, stored)
 
 pub state_in_use_fits : (s : State) (source : ℕ) (plan : List PlanEntry)
@@ -118,14 +118,14 @@ group_fits group plan small =
     let most = group_most group plan small.each in
     omega (arith, most, small.few)
 
-few_exceptions : (image : PlanImage) → IsSmallImage image → exceptions_of image ≤ 2 ^ 52
+few_exceptions : (image : PlanImage) → IsSmallImage image → exceptions_of image ≤ 2 ^ 55
 few_exceptions Kept small = omega arith
 few_exceptions Declared small = omega arith
 few_exceptions (Written bytes exceptions) small = small.few
 
 exceptions_most : (plan : List PlanEntry)
     → All IsSmallEntry plan
-    → exceptions_in plan ≤ 2 ^ 52 * length plan
+    → exceptions_in plan ≤ 2 ^ 55 * length plan
 exceptions_most [] each = omega arith
 exceptions_most (e ∷ es) each =
     omega (

@@ -215,7 +215,7 @@ stored_kept : (s : State) (source : ℕ) (plan : List PlanEntry) (e : PlanEntry)
     → IsSmall s
     → IsSmallPlan plan
     → length image ≤ 2 ^ 40
-    → n ≤ 2 ^ 52
+    → n ≤ 2 ^ 55
     → Keeps s (if_stored s source plan e store image n)
 stored_kept s source plan e store image n small next long few =
     let made : List PlanEntry = at_entry e.name (written_entry image n) plan in

@@ -50,7 +50,7 @@ resized_small n e le small = elim (cases_Bool (eqb e.blocks n)) [
 store_small : (size : ℕ) (e : PlanEntry)
     → size ≤ 2 ^ 40
     → e.blocks ≤ 2 ^ 28
-    → cond (eqb size 0) (need_of e.blocks) (blocks_of size) ≤ 2 ^ 52
+    → cond (eqb size 0) (need_of e.blocks) (blocks_of size) ≤ 2 ^ 55
 store_small size e le small = elim (cases_Bool (eqb size 0)) [
   | inl t ↦ rw t (omega (arith, small))
   | inr f ↦ rw f (omega (arith, le))
@@ -132,7 +132,7 @@ delete_small name plan small =
 pub write_small : (name bytes : List ℕ) (n : ℕ) (plan : List PlanEntry)
     → IsSmallPlan plan
     → length bytes ≤ 2 ^ 40
-    → n ≤ 2 ^ 52
+    → n ≤ 2 ^ 55
     → IsSmallPlan (at_entry name (written_entry bytes n) plan)
 write_small name bytes n plan small long few =
     at_entry_small name (written_entry bytes n) plan small (λ e s. record {

@@ -19,20 +19,20 @@ abbrev pub IsSmallSlot : Option (List Image) → Type 0
 IsSmallSlot None = Unit {0}
 IsSmallSlot (Some images) = AreSmallImages images
 
--- at most 2^40 bytes, with fewer exceptions than 2^52
+-- at most 2^40 bytes, with fewer exceptions than 2^55
 pub record IsSmallWritten (bytes : List ℕ) (exceptions : ℕ) : Type 0 where
   pub bytes_small : length bytes ≤ 2 ^ 40
-  pub few : exceptions ≤ 2 ^ 52
+  pub few : exceptions ≤ 2 ^ 55
 
 abbrev pub IsSmallImage : PlanImage → Type 0
 IsSmallImage Kept = Unit {0}
 IsSmallImage Declared = Unit {0}
 IsSmallImage (Written bytes exceptions) = IsSmallWritten bytes exceptions
 
--- at most 2^28 blocks, and a store of at most 2^52
+-- at most 2^28 blocks, and a store of at most 2^55
 pub record IsSmallEntry (e : PlanEntry) : Type 0 where
   pub blocks : e.blocks ≤ 2 ^ 28
-  pub store : store_blocks e.store ≤ 2 ^ 52
+  pub store : store_blocks e.store ≤ 2 ^ 55
   pub image : IsSmallImage e.image
 
 pub record IsSmallPlan (plan : List PlanEntry) : Type 0 where

@@ -8,7 +8,7 @@ use vab_bytes::Listing;
 use vab_model::{Image, Phase, PlanEntry, PlanImage, State};
 
 /// The most blocks of a store, and the most exceptions.
-const MOST_BLOCKS: u64 = 1 << 52;
+const MOST_BLOCKS: u64 = 1 << 55;
 
 fn is_small_bytes(bytes: &[u8]) -> bool
     ensures { IsTrue result ↔ (length bytes.now ≤ 2 ^ 40) }
@@ -71,9 +71,9 @@ fn is_small_phase(phase: &Phase) -> bool
     }
 }
 
-/// Whether a state is small enough for `step`: at most 32 images of 2^40 bytes each in a slot, a
-/// plan of 32 partitions of 2^28 blocks each, and stores of 2^52 blocks. A device's rules allow no
-/// more partitions and no larger ones; that its state is so small isn't proved here.
+/// Whether a state is small enough for `step`, as the states of devices are: at most 32 images of
+/// 2^40 bytes each in a slot, a plan of 32 partitions of 2^28 blocks each, and stores of 2^55
+/// blocks.
 pub fn is_small(state: &State) -> bool
     ensures { IsTrue result ↔ IsSmall state.now }
 {

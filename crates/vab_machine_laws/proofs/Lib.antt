@@ -15,3 +15,4 @@ pub mod Groups
 pub mod Resizes
 pub mod Creates
 pub mod All
+pub mod SmallDevices

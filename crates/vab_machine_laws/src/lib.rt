@@ -3,7 +3,9 @@
 #![tactic(auto)]
 
 mod edits;
+mod sizes;
 mod slots;
 
 pub use edits::{each_command_is_the_machines, edits_are_the_machines};
+pub use sizes::devices_are_small;
 pub use slots::{ends_are_the_machines, flashes_are_the_machines, slots_are_the_machines};
