@@ -43,7 +43,7 @@ impl<W: Write + Drop> Line<W> {
         self.is_drawn = true;
         let _ = write!(
             self.out,
-            "\rread {} MiB, written {} MiB, heard {} MiB, told {} MiB\u{1b}[K",
+            "\rread {} MiB, written {} MiB, heard {} MiB, told {} MiB\u{1b}[K\r",
             mib(self.read),
             mib(self.written),
             mib(self.heard),

@@ -10,8 +10,10 @@ mod words;
 use ending::{Device, NO_MEMORY, NOT_OPENED, USAGE_STATUS};
 use extract::extract;
 use pages::tell_page;
+use std::io::IsTerminal;
 use std::process::ExitCode;
 use usage::USAGE;
+use vab_meter::Metered;
 use vab_process::{WordsFault, open_standard, words_of};
 use vab_real::{FilePort, OpenFault};
 use words::{Request, request_of};
@@ -33,7 +35,12 @@ fn look(device: &Device<'_>, request: Request<'_>) -> u8 {
     };
     match request {
         Request::Page(page, form) => tell_page(device, page, form, &mut port),
-        Request::Extract(folder, slot) => extract(device, &mut port, folder, slot),
+        Request::Extract(folder, slot) => {
+            let mut metered = Metered::new(port, rt.stderr(), rt.stderr().is_terminal());
+            let status = extract(device, &mut metered, folder, slot);
+            metered.into_port();
+            status
+        }
     }
 }
 
