@@ -2,7 +2,7 @@
 // the mark.
 
 use crate::devices::{SECTORS, device_of_one, reply_staged};
-use crate::opening::{areas, control, put, put_each, sector, with_store};
+use crate::opening::{areas, control, opened, put, put_each, sector, with_store};
 use crate::texts::FULL;
 use std::alloc::Global;
 use std::test::*;
@@ -85,26 +85,31 @@ fn lose(d: &mut MemPort) -> Result<(), Fail> {
     Ok(())
 }
 
+// Whether the device of a disk is slot b's, with two partitions and two groups and no update, and
+// the mark says so.
+fn is_tidied(alloc: Global, d: &mut MemPort) -> Result<bool, Fail> {
+    let last = name(b"y_b")?;
+    let device = opened(alloc, d)?;
+    let is_idle = device.phase() == PhaseKind::Idle;
+    let has_table = kept(&device, 1) == Some((2, 2, last));
+    Ok(is_idle && has_table && mark_of(d) == idle(1))
+}
+
 #[test]
 fn a_merge_that_has_ended_is_tidied_once(rt: HostRuntime) -> Result<(), Fail> {
     let alloc = rt.alloc();
     let mut d = merged(alloc)?;
-    let was = mark_of(&mut d).ok_or("there is a mark")?;
-    assert_eq!(rt; was.phase, MarkPhase::Completed);
-    assert_eq!(rt; was.slot, 1);
-    let device = start(alloc, &mut d).ok().ok_or("it is a device")?;
-    assert_eq!(rt; device.phase(), PhaseKind::Idle);
-    assert_eq!(rt; kept(&device, 1), Some((2, 2, name(b"y_b")?)));
-    assert_eq!(rt; mark_of(&mut d), idle(1));
+    let completed = UpdateMark {
+        phase: MarkPhase::Completed,
+        slot: 1,
+    };
+    assert!(rt; mark_of(&mut d) == Some(completed));
     // The table is stored, each copy with its syncs, and the mark by one gate.
-    assert!(rt; d.syncs() > 1);
+    assert!(rt; is_tidied(alloc, &mut d)? && d.syncs() > 1);
     // Once more nothing is written, and nothing is synced.
     let mut d = d.next_run(Vec::new(alloc));
     d.stop_after(1);
-    let device = start(alloc, &mut d).ok().ok_or("it is a device")?;
-    assert_eq!(rt; kept(&device, 1), Some((2, 2, name(b"y_b")?)));
-    assert_eq!(rt; mark_of(&mut d), idle(1));
-    assert_eq!(rt; d.syncs(), 0);
+    assert!(rt; is_tidied(alloc, &mut d)? && d.syncs() == 0);
     Ok(())
 }
 
@@ -145,11 +150,11 @@ fn a_tidying_that_is_cut_goes_on(rt: HostRuntime) -> Result<(), Fail> {
             if !landed {
                 lose(&mut d)?;
             }
-            let device = start(alloc, &mut d).ok().ok_or("it is a device")?;
-            assert_eq!(rt; device.phase(), PhaseKind::Idle, "after {stop} calls");
-            assert_eq!(rt; image_of(&device), Some((256, 100, 6144)));
-            assert_eq!(rt; kept(&device, 0), Some((1, 2, name(b"system_a")?)));
-            assert_eq!(rt; mark_of(&mut d), idle(0));
+            let device = opened(alloc, &mut d)?;
+            assert!(rt; device.phase() == PhaseKind::Idle, "after {stop} calls");
+            assert!(rt; image_of(&device) == Some((256, 100, 6144)));
+            assert!(rt; kept(&device, 0) == Some((1, 2, name(b"system_a")?)));
+            assert!(rt; mark_of(&mut d) == idle(0));
         }
         cut = stop;
     }
@@ -179,11 +184,11 @@ fn a_table_that_would_not_fit_is_left(rt: HostRuntime) -> Result<(), Fail> {
     put_each(&mut d, &sectors)?;
     assert!(rt; d.sync().is_ok());
     let mut d = d.next_run(Vec::new(alloc));
-    let device = start(alloc, &mut d).ok().ok_or("it is a device")?;
-    assert_eq!(rt; kept(&device, 0), Some((2, 3, name(b"system_a-cow")?)));
+    let device = opened(alloc, &mut d)?;
+    assert!(rt; kept(&device, 0) == Some((2, 3, name(b"system_a-cow")?)));
     assert!(rt; sector(&mut d, 4120) == Some(FULL) && sector(&mut d, 4122) == Some(FULL));
     // The mark alone is written.
-    assert_eq!(rt; mark_of(&mut d), idle(0));
-    assert_eq!(rt; d.syncs(), 1);
+    assert!(rt; mark_of(&mut d) == idle(0));
+    assert!(rt; d.syncs() == 1);
     Ok(())
 }
