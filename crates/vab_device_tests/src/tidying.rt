@@ -131,36 +131,47 @@ fn image_of(device: &Device) -> Option<(u64, u64, u64)> {
     Some((device.cap(), part.map.len(), part.map.sector_of(0)))
 }
 
+// Whether the device of a disk is that of slot a, without an update and without a store, and the
+// mark says so.
+fn is_ended(alloc: Global, d: &mut MemPort) -> Result<bool, Fail> {
+    let last = name(b"system_a")?;
+    let device = opened(alloc, d)?;
+    let is_idle = device.phase() == PhaseKind::Idle;
+    let has_image = image_of(&device) == Some((256, 100, 6144));
+    let has_table = kept(&device, 0) == Some((1, 2, last));
+    Ok(is_idle && has_image && has_table && mark_of(d) == idle(0))
+}
+
+// A tidying that is cut behind so many writes and syncs, and what was pending then has landed or
+// not: whether it was done, and the port.
+fn cut(alloc: Global, stop: u64, landed: bool) -> Result<(bool, MemPort), Fail> {
+    let mut d = ended(alloc)?;
+    d.stop_after(stop);
+    let done = start(alloc, &mut d).is_ok();
+    let mut d = d.next_run(Vec::new(alloc));
+    if !landed {
+        lose(&mut d)?;
+    }
+    Ok((done, d))
+}
+
 // Wherever it is cut, and whether what was pending then has landed or not, the device is the same,
 // and it is tidied when it is opened next.
 #[test]
 fn a_tidying_that_is_cut_goes_on(rt: HostRuntime) -> Result<(), Fail> {
     let alloc = rt.alloc();
-    let mut cut = 0u64;
-    let mut done = false;
     for stop in 0..20 {
+        let (_, mut lost) = cut(alloc, stop, false)?;
+        assert!(rt; is_ended(alloc, &mut lost)?, "after {stop} calls");
+        let (done, mut landed) = cut(alloc, stop, true)?;
+        assert!(rt; is_ended(alloc, &mut landed)?, "after {stop} calls");
         if done {
-            break;
+            // It made more calls than that.
+            assert!(rt; stop > 6, "after {stop} calls");
+            return Ok(());
         }
-        for landed in [false, true] {
-            let mut d = ended(alloc)?;
-            d.stop_after(stop);
-            done = start(alloc, &mut d).is_ok();
-            let mut d = d.next_run(Vec::new(alloc));
-            if !landed {
-                lose(&mut d)?;
-            }
-            let device = opened(alloc, &mut d)?;
-            assert!(rt; device.phase() == PhaseKind::Idle, "after {stop} calls");
-            assert!(rt; image_of(&device) == Some((256, 100, 6144)));
-            assert!(rt; kept(&device, 0) == Some((1, 2, name(b"system_a")?)));
-            assert!(rt; mark_of(&mut d) == idle(0));
-        }
-        cut = stop;
     }
-    // It made more calls than that.
-    assert!(rt; done && cut > 6, "after {cut} calls");
-    Ok(())
+    Err("a tidying comes to its end".into())
 }
 
 #[test]
