@@ -113,9 +113,9 @@ fn commands_on_a_made_device(rt: HostRuntime) -> Result<(), Fail> {
         ),
     ];
     for (command, told, slot_a) in cases {
-        assert_eq!(rt; reply(alloc, &mut d, &command), Some(told), "{command:?}");
-        assert_eq!(rt; info(&mut d, 0)?, slot_a);
-        assert_eq!(rt; info(&mut d, 1)?, [0, 0]);
+        assert!(rt; reply(alloc, &mut d, &command) == Some(told), "{command:?}");
+        assert!(rt; info(&mut d, 0)? == slot_a);
+        assert!(rt; info(&mut d, 1)? == [0, 0]);
     }
     let told = reply(alloc, &mut d, &Command::Print(b"x_a"));
     assert!(rt; matches!(told, Some(Reply::Bytes(_))));
@@ -132,9 +132,9 @@ fn a_command_that_is_cut_leaves_the_old_boot_control_or_the_new_one(
         let mut d = device_of_one(alloc)?;
         d.stop_after(stop);
         let told = reply(alloc, &mut d, &Command::SetActive(0));
-        assert_eq!(rt; told, if stop == 2 { Some(Reply::Done) } else { None });
+        assert!(rt; told == (if stop == 2 { Some(Reply::Done) } else { None }));
         let mut d = d.next_run(Vec::new(alloc));
-        assert_eq!(rt; info(&mut d, 0)?, slot_a);
+        assert!(rt; info(&mut d, 0)? == slot_a);
         assert!(rt; start(alloc, &mut d).is_ok());
     }
     Ok(())
@@ -145,24 +145,18 @@ fn a_device_that_is_not_made_is_what_the_disk_was(rt: HostRuntime) -> Result<(),
     let alloc = rt.alloc();
     let set = set_of_one(alloc)?;
     let mut d = device_of_one(alloc)?;
-    assert_eq!(rt;
-        reply(alloc, &mut d, &Command::SetActive(0)),
-        Some(Reply::Done)
-    );
+    assert!(rt; reply(alloc, &mut d, &Command::SetActive(0)) == Some(Reply::Done));
     let made = make_device(alloc, &mut d, &set, 0, 512);
-    assert_eq!(rt; made, Err(MakeFault::TableFull(540, 512)));
-    assert_eq!(rt; info(&mut d, 0)?, [0xef, 0]);
+    assert!(rt; made == Err(MakeFault::TableFull(540, 512)));
+    assert!(rt; info(&mut d, 0)? == [0xef, 0]);
     // Two calls were made. After four more the mark is gone, and there is no device until the made
     // one.
     d.stop_after(6);
     assert!(rt; make_device(alloc, &mut d, &set, 0, 65536).is_err());
     let mut d = d.next_run(Vec::new(alloc));
     assert!(rt; start(alloc, &mut d).is_err());
-    assert_eq!(rt; make_device(alloc, &mut d, &set, 0, 65536), Ok(()));
+    assert!(rt; make_device(alloc, &mut d, &set, 0, 65536) == Ok(()));
     let mut d = d.next_run(Vec::new(alloc));
-    assert_eq!(rt;
-        reply(alloc, &mut d, &Command::Digest(b"x_a")),
-        Some(Reply::Digest(SUM))
-    );
+    assert!(rt; reply(alloc, &mut d, &Command::Digest(b"x_a")) == Some(Reply::Digest(SUM)));
     Ok(())
 }

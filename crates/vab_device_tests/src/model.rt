@@ -69,6 +69,11 @@ fn device(alloc: Global) -> Result<State, Fail> {
     })
 }
 
+// What a command makes of a state, and its reply.
+fn after(alloc: Global, state: &State, command: &Command) -> Result<(State, Reply), Fail> {
+    Ok(step(alloc, state, command, None)?)
+}
+
 // Priority, tries and whether the slot is successful.
 fn info(info: &Info) -> (u8, u8, bool) {
     (info.priority, info.tries, info.successful)
@@ -77,28 +82,28 @@ fn info(info: &Info) -> (u8, u8, bool) {
 #[test]
 fn a_slot_without_images_is_not_set_active(rt: HostRuntime) -> Result<(), Fail> {
     let state = device(rt.alloc())?;
-    let (after, reply) = step(rt.alloc(), &state, &Command::SetActive(1), None)?;
-    assert_eq!(rt; reply, Reply::Refused(Refusal::NoImages));
-    assert_eq!(rt; info(&after.control.a), (3, 1, false));
-    assert_eq!(rt; info(&after.control.b), (0, 0, false));
-    assert_eq!(rt; after.cap, 256);
-    assert_eq!(rt; after.groups.len(), 1);
-    assert_eq!(rt; after.control.current, 0);
+    let (after, reply) = after(rt.alloc(), &state, &Command::SetActive(1))?;
+    assert!(rt; reply == Reply::Refused(Refusal::NoImages));
+    assert!(rt; info(&after.control.a) == (3, 1, false));
+    assert!(rt; info(&after.control.b) == (0, 0, false));
+    assert!(rt; after.cap == 256);
+    assert!(rt; after.groups.len() == 1);
+    assert!(rt; after.control.current == 0);
     Ok(())
 }
 
 #[test]
 fn a_slot_is_set_active_booted_and_marked(rt: HostRuntime) -> Result<(), Fail> {
     let state = device(rt.alloc())?;
-    let (active, reply) = step(rt.alloc(), &state, &Command::SetActive(0), None)?;
-    assert_eq!(rt; reply, Reply::Done);
-    assert_eq!(rt; info(&active.control.a), (15, 6, false));
-    let (booted, reply) = step(rt.alloc(), &active, &Command::Boot, None)?;
-    assert_eq!(rt; reply, Reply::Booted(0));
-    assert_eq!(rt; info(&booted.control.a), (15, 5, false));
-    let (marked, reply) = step(rt.alloc(), &booted, &Command::Mark, None)?;
-    assert_eq!(rt; reply, Reply::Done);
-    assert_eq!(rt; info(&marked.control.a), (15, 0, true));
+    let (active, reply) = after(rt.alloc(), &state, &Command::SetActive(0))?;
+    assert!(rt; reply == Reply::Done);
+    assert!(rt; info(&active.control.a) == (15, 6, false));
+    let (booted, reply) = after(rt.alloc(), &active, &Command::Boot)?;
+    assert!(rt; reply == Reply::Booted(0));
+    assert!(rt; info(&booted.control.a) == (15, 5, false));
+    let (marked, reply) = after(rt.alloc(), &booted, &Command::Mark)?;
+    assert!(rt; reply == Reply::Done);
+    assert!(rt; info(&marked.control.a) == (15, 0, true));
     Ok(())
 }
 
@@ -133,15 +138,15 @@ fn a_plan_is_copied(rt: HostRuntime) -> Result<(), Fail> {
         plan.push(planned(image)?).ok().ok_or("there is memory")?;
     }
     state.phase = Phase::Installing(0, Listing::from_vec(plan));
-    let (copy, _) = step(rt.alloc(), &state, &Command::Mark, None)?;
+    let (copy, _) = after(rt.alloc(), &state, &Command::Mark)?;
     let Phase::Installing(source, plan) = &copy.phase else {
         return Err(Fail::from("the phase"));
     };
-    assert_eq!(rt; *source, 0);
-    assert_eq!(rt; plan.len(), 3);
+    assert!(rt; *source == 0);
+    assert!(rt; plan.len() == 3);
     let (content, exceptions) = written(&plan.as_slice()[1]).ok_or("written")?;
-    assert_eq!(rt; content, b"abc".as_slice());
-    assert_eq!(rt; exceptions, 7);
+    assert!(rt; content == b"abc".as_slice());
+    assert!(rt; exceptions == 7);
     Ok(())
 }
 
@@ -187,8 +192,8 @@ fn questions_are_answered_and_commands_on_an_update_refused(rt: HostRuntime) -> 
         (Command::BeginMerge, Reply::Refused(Refusal::NotStaged)),
         (Command::Merge(1), Reply::Refused(Refusal::NotMerging)),
     ] {
-        let (_, reply) = step(rt.alloc(), &state, &command, None)?;
-        assert_eq!(rt; reply, want, "{command:?}");
+        let (_, reply) = after(rt.alloc(), &state, &command)?;
+        assert!(rt; reply == want, "{command:?}");
     }
     Ok(())
 }

@@ -253,98 +253,176 @@ fn left(device: &Device) -> Option<u64> {
     }
 }
 
+/// The device of a disk, where it is one.
+pub(crate) fn opened(alloc: Global, d: &mut MemPort) -> Result<Device, Fail> {
+    match start(alloc, d) {
+        Ok(device) => Ok(device),
+        Err(_) => Err("it is a device".into()),
+    }
+}
+
+// How many blocks the device of a disk has.
+fn cap_of(alloc: Global, d: &mut MemPort) -> Result<u64, StartFault> {
+    match start(alloc, d) {
+        Ok(device) => Ok(device.cap()),
+        Err(fault) => Err(fault),
+    }
+}
+
+// The priority of a slot.
+fn priority(device: &Device, slot: usize) -> Option<u8>
+    requires { slot < 2 }
+{
+    match device.slot_info(slot) {
+        Some(info) => Some(info.priority),
+        None => None,
+    }
+}
+
+// What boot control says: the slot that was booted last, slot a's priority and whether it is
+// successful, and slot b's priority.
+type Fields = (usize, u8, bool, u8);
+
+// The sector of such a boot control.
+fn control_with(fields: Fields) -> Result<[u8; 512], Fail> {
+    let (current, priority, successful, target) = fields;
+    if current > 1 || priority > 15 || target > 15 {
+        return Err("fields of boot control".into());
+    }
+    Ok(control_of(current, priority, successful, target))
+}
+
+// Whether a slot has one partition, `system` of this group, with 100 blocks from the first on.
+fn has_system(device: &Device, slot: usize, group: &[u8]) -> bool
+    requires { slot < 2 }
+{
+    let parts = match device.images(slot) {
+        Some(parts) => parts.as_slice(),
+        None => return false,
+    };
+    match parts.first() {
+        Some(part) => {
+            parts.len() == 1
+                && part.name.text() == b"system".as_slice()
+                && part.group.text() == group
+                && part.map.len() == 100
+                && part.map.sector_of(0) == 6144
+        }
+        None => false,
+    }
+}
+
+// Whether slot a alone has images, one partition, and was booted last.
+fn has_slot_a(device: &Device) -> bool {
+    device.current() == 0
+        && priority(device, 0) == Some(15)
+        && device.images(1).is_none()
+        && device.slot_info(1).is_none()
+        && device.plan.is_none()
+        && has_system(device, 0, b"main_a")
+}
+
+// Whether the device has the one group `main`, without a limit.
+fn has_main(device: &Device) -> bool {
+    let groups = device.groups.as_slice();
+    match groups.first() {
+        Some(group) => {
+            groups.len() == 1 && group.name.text() == b"main".as_slice() && group.limit == 0
+        }
+        None => false,
+    }
+}
+
 #[test]
 fn a_disk_is_its_device(rt: HostRuntime) -> Result<(), Fail> {
     let alloc = rt.alloc();
     let mut d = device(alloc)?;
-    let device = start(alloc, &mut d).ok().ok_or("it is a device")?;
-    assert_eq!(rt; device.cap(), 256);
-    assert_eq!(rt; device.current(), 0);
-    assert_eq!(rt; device.phase(), PhaseKind::Idle);
-    assert_eq!(rt; device.slot_info(0).map(|info| info.priority), Some(15));
-    assert!(rt; device.slot_info(1).is_none());
-    assert!(rt; device.images(1).is_none());
-    let parts = device.images(0).ok_or("slot a has images")?.as_slice();
-    assert_eq!(rt; parts.len(), 1);
-    let part = parts.first().ok_or("there is a partition")?;
-    assert_eq!(rt; part.name.text(), b"system".as_slice());
-    assert_eq!(rt; part.group.text(), b"main_a".as_slice());
-    assert_eq!(rt; part.map.len(), 100);
-    assert!(rt; part.map.len() > 0);
-    assert_eq!(rt; part.map.sector_of(0), 6144);
-    let groups = device.groups.as_slice();
-    assert_eq!(rt; groups.len(), 1);
-    let group = groups.first().ok_or("there is a group")?;
-    assert_eq!(rt; group.name.text(), b"main".as_slice());
-    assert_eq!(rt; group.limit, 0);
+    let device = opened(alloc, &mut d)?;
+    assert!(rt; device.cap() == 256 && device.phase() == PhaseKind::Idle);
+    assert!(rt; has_slot_a(&device) && has_main(&device));
     Ok(())
 }
 
+// What stands in place of a sector.
+#[derive(Clone, Copy)]
+enum Other {
+    Zeros,
+    Mark(MarkPhase),
+    BadTable,
+    BadControl,
+    Control(Fields),
+}
+
+fn other_sector(other: Other) -> Result<[u8; 512], Fail> {
+    match other {
+        Other::Zeros => Ok([0; 512]),
+        Other::Mark(phase) => Ok(mark(phase)),
+        Other::BadTable => Ok(bad_table()),
+        Other::BadControl => Ok(bad_control()),
+        Other::Control(fields) => control_with(fields),
+    }
+}
+
+// The sectors that are other ones, what stands there, and the device's blocks or the fault.
+const FAULTS: [([u64; 2], Other, Result<u64, StartFault>); 15] = [
+    ([MARK, MARK], Other::Mark(MarkPhase::Idle), Ok(256)),
+    ([TABLE, TABLE], Other::BadTable, Ok(256)),
+    ([TABLE_BACKUP, TABLE_BACKUP], Other::BadTable, Ok(256)),
+    (
+        [TABLE, TABLE_BACKUP],
+        Other::BadTable,
+        Err(StartFault::BadTable(0)),
+    ),
+    ([GEOMETRY, GEOMETRY], Other::Zeros, Ok(256)),
+    (
+        [GEOMETRY, GEOMETRY_BACKUP],
+        Other::Zeros,
+        Err(StartFault::BadGeometry),
+    ),
+    ([MARK, MARK], Other::Zeros, Err(StartFault::BadMark(2048))),
+    // Nothing is left to be merged, or all is.
+    ([MARK, MARK], Other::Mark(MarkPhase::Merging), Ok(256)),
+    ([MARK, MARK], Other::Mark(MarkPhase::Completed), Ok(256)),
+    // While an update is installed or ready, slot b has a table too.
+    (
+        [MARK, MARK],
+        Other::Mark(MarkPhase::Installing),
+        Err(StartFault::BadTable(1)),
+    ),
+    (
+        [MARK, MARK],
+        Other::Mark(MarkPhase::Staged),
+        Err(StartFault::BadTable(1)),
+    ),
+    (
+        [CONTROL, CONTROL],
+        Other::BadControl,
+        Err(StartFault::BadControl(ControlFault::BadSum)),
+    ),
+    (
+        [CONTROL, CONTROL],
+        Other::Control((1, 15, true, 0)),
+        Err(StartFault::BadState(1)),
+    ),
+    (
+        [CONTROL, CONTROL],
+        Other::Control((0, 0, true, 0)),
+        Err(StartFault::BadState(2)),
+    ),
+    (
+        [CONTROL, CONTROL],
+        Other::Control((0, 15, false, 0)),
+        Err(StartFault::BadState(2)),
+    ),
+];
+
 #[test]
 fn the_first_fault_is_told(rt: HostRuntime) -> Result<(), Fail> {
-    let alloc = rt.alloc();
-    let zeros = [0u8; 512];
-    // The sectors that are other ones, what stands there, and the device's blocks or the fault.
-    let cases = [
-        ([MARK, MARK], mark(MarkPhase::Idle), Ok(256)),
-        ([TABLE, TABLE], bad_table(), Ok(256)),
-        ([TABLE_BACKUP, TABLE_BACKUP], bad_table(), Ok(256)),
-        (
-            [TABLE, TABLE_BACKUP],
-            bad_table(),
-            Err(StartFault::BadTable(0)),
-        ),
-        ([GEOMETRY, GEOMETRY], zeros, Ok(256)),
-        (
-            [GEOMETRY, GEOMETRY_BACKUP],
-            zeros,
-            Err(StartFault::BadGeometry),
-        ),
-        ([MARK, MARK], zeros, Err(StartFault::BadMark(2048))),
-        // Nothing is left to be merged, or all is.
-        ([MARK, MARK], mark(MarkPhase::Merging), Ok(256)),
-        ([MARK, MARK], mark(MarkPhase::Completed), Ok(256)),
-        // While an update is installed or ready, slot b has a table too.
-        (
-            [MARK, MARK],
-            mark(MarkPhase::Installing),
-            Err(StartFault::BadTable(1)),
-        ),
-        (
-            [MARK, MARK],
-            mark(MarkPhase::Staged),
-            Err(StartFault::BadTable(1)),
-        ),
-        (
-            [CONTROL, CONTROL],
-            bad_control(),
-            Err(StartFault::BadControl(ControlFault::BadSum)),
-        ),
-        (
-            [CONTROL, CONTROL],
-            control(1, 15, true),
-            Err(StartFault::BadState(1)),
-        ),
-        (
-            [CONTROL, CONTROL],
-            control(0, 0, true),
-            Err(StartFault::BadState(2)),
-        ),
-        (
-            [CONTROL, CONTROL],
-            control(0, 15, false),
-            Err(StartFault::BadState(2)),
-        ),
-    ];
-    for ([first, second], bytes, answer) in cases {
-        let mut d = device(alloc)?;
-        assert!(rt; put(&mut d, first, &bytes));
-        assert!(rt; put(&mut d, second, &bytes));
-        assert_eq!(rt;
-            start(alloc, &mut d).map(|device| device.cap()),
-            answer,
-            "at {first}"
-        );
+    for ([first, second], other, answer) in FAULTS {
+        let mut d = device(rt.alloc())?;
+        let bytes = other_sector(other)?;
+        assert!(rt; put(&mut d, first, &bytes) && put(&mut d, second, &bytes));
+        assert!(rt; cap_of(rt.alloc(), &mut d) == answer, "at {first}");
     }
     Ok(())
 }
@@ -353,128 +431,125 @@ fn the_first_fault_is_told(rt: HostRuntime) -> Result<(), Fail> {
 fn an_update_that_is_ready_has_images_of_both_slots(rt: HostRuntime) -> Result<(), Fail> {
     let alloc = rt.alloc();
     let mut d = staged(alloc, target_table(1, &KEPT_SUMS), control(0, 15, true))?;
-    let device = start(alloc, &mut d).ok().ok_or("it is a device")?;
-    assert_eq!(rt; device.phase(), PhaseKind::Staged(0));
-    assert_eq!(rt; device.slot_info(0).map(|info| info.priority), Some(15));
-    assert_eq!(rt; device.slot_info(1).map(|info| info.priority), Some(0));
-    assert!(rt; device.plan.is_none());
-    let groups = [b"main_a".as_slice(), b"main_b".as_slice()];
-    for (slot, group) in groups.iter().enumerate() {
-        let parts = device.images(slot).ok_or("the slot has images")?.as_slice();
-        assert_eq!(rt; parts.len(), 1);
-        let part = parts.first().ok_or("there is a partition")?;
-        assert_eq!(rt; part.name.text(), b"system".as_slice());
-        assert_eq!(rt; part.group.text(), *group);
-        assert!(rt; part.map.len() > 0);
-        assert_eq!(rt; part.map.sector_of(0), 6144);
+    let device = opened(alloc, &mut d)?;
+    assert!(rt; device.phase() == PhaseKind::Staged(0) && device.plan.is_none());
+    assert!(rt; priority(&device, 0) == Some(15));
+    assert!(rt; priority(&device, 1) == Some(0));
+    assert!(rt; has_system(&device, 0, b"main_a") && has_system(&device, 1, b"main_b"));
+    Ok(())
+}
+
+// Whether the target's partition is kept, or is to be written and has no status; boot control; and
+// the device's blocks or the fault.
+const READY: [(bool, Fields, Result<u64, StartFault>); 7] = [
+    (true, (0, 15, true, 0), Ok(256)),
+    (true, (1, 15, true, 15), Ok(256)),
+    // The slot that was booted last has the priority 0, or the source doesn't work.
+    (true, (1, 15, true, 0), Err(StartFault::BadState(2))),
+    (true, (0, 0, true, 0), Err(StartFault::BadState(2))),
+    (true, (1, 15, false, 15), Err(StartFault::BadState(2))),
+    (false, (0, 15, true, 0), Err(StartFault::BadState(3))),
+    (false, (1, 15, true, 0), Err(StartFault::BadState(2))),
+];
+
+#[test]
+fn an_update_that_is_ready_keeps_the_rules_of_the_slots(rt: HostRuntime) -> Result<(), Fail> {
+    for (kept, fields, answer) in READY {
+        let target = if kept {
+            target_table(1, &KEPT_SUMS)
+        } else {
+            target_table(5, &UPDATED_SUMS)
+        };
+        let mut d = staged(rt.alloc(), target, control_with(fields)?)?;
+        assert!(rt; cap_of(rt.alloc(), &mut d) == answer, "{fields:?}");
     }
     Ok(())
 }
 
-#[test]
-fn an_update_that_is_ready_keeps_the_rules_of_the_slots(rt: HostRuntime) -> Result<(), Fail> {
-    let alloc = rt.alloc();
-    let kept = target_table(1, &KEPT_SUMS);
-    // Its partition is to be written, and has no status.
-    let declared = target_table(5, &UPDATED_SUMS);
-    let cases = [
-        (kept, control(0, 15, true), Ok(256)),
-        (kept, control_of(1, 15, true, 15), Ok(256)),
-        // The slot that was booted last has the priority 0, or the source doesn't work.
-        (kept, control(1, 15, true), Err(StartFault::BadState(2))),
-        (kept, control(0, 0, true), Err(StartFault::BadState(2))),
-        (
-            kept,
-            control_of(1, 15, false, 15),
-            Err(StartFault::BadState(2)),
-        ),
-        (declared, control(0, 15, true), Err(StartFault::BadState(3))),
-        (declared, control(1, 15, true), Err(StartFault::BadState(2))),
-    ];
-    for (target, control, answer) in cases {
-        let mut d = staged(alloc, target, control)?;
-        assert_eq!(rt; start(alloc, &mut d).map(|device| device.cap()), answer);
+// The blocks of the store of slot a's partition, and where the blocks 7 and 30 stand in it.
+fn store_of(device: &Device) -> Option<(u64, Option<u64>, Option<u64>)> {
+    let part = device.images(0)?.as_slice().first()?;
+    let blocks = part.store.as_ref()?.len();
+    match &part.image {
+        PartImage::Written(view) => Some((blocks, view.chunk_of(7), view.chunk_of(30))),
+        _ => None,
     }
-    Ok(())
 }
 
 #[test]
 fn a_slot_that_is_merged_is_read_through_its_store(rt: HostRuntime) -> Result<(), Fail> {
     let alloc = rt.alloc();
     let mut d = with_store(alloc, MarkPhase::Merging, areas()[1])?;
-    let device = start(alloc, &mut d).ok().ok_or("it is a device")?;
-    assert_eq!(rt; device.phase(), PhaseKind::Merging(0));
-    assert_eq!(rt; device.current(), 0);
-    assert_eq!(rt; device.slot_info(0).map(|info| info.priority), Some(15));
-    assert!(rt; device.images(1).is_none());
-    assert!(rt; device.plan.is_none());
-    assert_eq!(rt; left(&device), Some(1));
-    let parts = device.images(0).ok_or("slot a has images")?.as_slice();
-    assert_eq!(rt; parts.len(), 1);
-    let part = parts.first().ok_or("there is a partition")?;
-    assert_eq!(rt; part.name.text(), b"system".as_slice());
-    assert_eq!(rt; part.map.len(), 100);
-    assert_eq!(rt; part.store.as_ref().map(|store| store.len()), Some(5));
-    if let PartImage::Written(view) = &part.image {
-        assert_eq!(rt; view.chunk_of(7), Some(2));
-        assert_eq!(rt; view.chunk_of(30), None);
-    }
+    let device = opened(alloc, &mut d)?;
+    assert!(rt; device.phase() == PhaseKind::Merging(0) && has_slot_a(&device));
+    assert!(rt; left(&device) == Some(1));
+    assert!(rt; store_of(&device) == Some((5, Some(2), None)));
     Ok(())
+}
+
+// How many exceptions the store of slot a's partition has on a disk that is merged, of this area,
+// with the status or without, and of this boot control.
+fn left_on(
+    alloc: Global,
+    area: [u8; 512],
+    has_status: bool,
+    fields: Fields,
+) -> Result<Result<Option<u64>, StartFault>, Fail> {
+    let mut d = with_store(alloc, MarkPhase::Merging, area)?;
+    let status = if has_status { status()? } else { [0; 512] };
+    put_each(
+        &mut d,
+        &[(STATUS, status), (CONTROL, control_with(fields)?)],
+    )?;
+    match start(alloc, &mut d) {
+        Ok(device) => Ok(Ok(left(&device))),
+        Err(fault) => Ok(Err(fault)),
+    }
 }
 
 #[test]
 fn a_merge_keeps_the_rules_of_its_slot(rt: HostRuntime) -> Result<(), Fail> {
-    let alloc = rt.alloc();
-    let [none, one, two, three] = areas();
-    let zeros = [0u8; 512];
-    let good = control(0, 15, true);
+    let good = (0, 15, true, 0);
     let bad_store = StartFault::BadStore(full_name()?);
-    // The area, the status and the boot control, and how many exceptions are left or the fault.
-    let cases = [
-        (none, status()?, good, Ok(Some(0))),
-        (one, status()?, good, Ok(Some(1))),
-        (two, status()?, good, Ok(Some(2))),
-        (three, status()?, good, Err(bad_store)),
-        (two, zeros, good, Err(StartFault::BadState(3))),
-        (
-            two,
-            status()?,
-            control(1, 15, true),
-            Err(StartFault::BadState(1)),
-        ),
-        (
-            two,
-            status()?,
-            control(0, 15, false),
-            Err(StartFault::BadState(2)),
-        ),
-    ];
-    for (area, status, control, answer) in cases {
-        let mut d = with_store(alloc, MarkPhase::Merging, area)?;
-        assert!(rt; put(&mut d, STATUS, &status));
-        assert!(rt; put(&mut d, CONTROL, &control));
-        assert_eq!(rt; start(alloc, &mut d).map(|device| left(&device)), answer);
+    // The exceptions of the area, whether there is a status, the boot control, and how many
+    // exceptions are left or the fault.
+    for (count, has_status, fields, answer) in [
+        (0usize, true, good, Ok(Some(0))),
+        (1, true, good, Ok(Some(1))),
+        (2, true, good, Ok(Some(2))),
+        (3, true, good, Err(bad_store)),
+        (2, false, good, Err(StartFault::BadState(3))),
+        (2, true, (1, 15, true, 0), Err(StartFault::BadState(1))),
+        (2, true, (0, 15, false, 0), Err(StartFault::BadState(2))),
+    ] {
+        let area = areas()[count];
+        assert!(rt;
+            left_on(rt.alloc(), area, has_status, fields)? == answer,
+            "{fields:?}"
+        );
     }
     Ok(())
+}
+
+// Whether slot a's partition is what its own blocks hold.
+fn is_kept(device: &Device) -> bool {
+    let parts = match device.images(0) {
+        Some(parts) => parts.as_slice(),
+        None => return false,
+    };
+    match parts.first() {
+        Some(part) => matches!(&part.image, PartImage::Kept),
+        None => false,
+    }
 }
 
 #[test]
 fn a_slot_whose_stores_are_all_merged_has_no_update(rt: HostRuntime) -> Result<(), Fail> {
     let alloc = rt.alloc();
     let mut d = with_store(alloc, MarkPhase::Completed, areas()[2])?;
-    let device = start(alloc, &mut d).ok().ok_or("it is a device")?;
-    assert_eq!(rt; device.phase(), PhaseKind::Idle);
-    assert_eq!(rt; device.current(), 0);
-    assert!(rt; device.images(1).is_none());
-    assert!(rt; device.plan.is_none());
-    // Its partition is what its own blocks hold.
-    assert_eq!(rt; left(&device), None);
-    let parts = device.images(0).ok_or("slot a has images")?.as_slice();
-    assert_eq!(rt; parts.len(), 1);
-    let part = parts.first().ok_or("there is a partition")?;
-    assert_eq!(rt; part.name.text(), b"system".as_slice());
-    assert_eq!(rt; part.map.len(), 100);
-    assert!(rt; matches!(&part.image, PartImage::Kept));
+    let device = opened(alloc, &mut d)?;
+    assert!(rt; device.phase() == PhaseKind::Idle && has_slot_a(&device));
+    assert!(rt; left(&device).is_none() && is_kept(&device));
     Ok(())
 }
 
@@ -484,8 +559,8 @@ fn a_bad_copy_of_the_table_is_repaired(rt: HostRuntime) -> Result<(), Fail> {
     for at in [TABLE, TABLE_BACKUP] {
         let mut d = device(alloc)?;
         assert!(rt; put(&mut d, at, &bad_table()));
-        assert!(rt; start(alloc, &mut d).is_ok());
-        assert_eq!(rt; sector(&mut d, at), Some(table().0));
+        assert!(rt; cap_of(alloc, &mut d) == Ok(256));
+        assert!(rt; sector(&mut d, at) == Some(table().0));
     }
     Ok(())
 }
@@ -495,15 +570,9 @@ fn a_small_disk_and_one_that_fails_are_no_device(rt: HostRuntime) -> Result<(), 
     let alloc = rt.alloc();
     let small = MemPort::new(alloc, 4119, Vec::new(alloc));
     let mut small = small.ok().ok_or("there is memory for a disk")?;
-    assert_eq!(rt;
-        start(alloc, &mut small).map(|device| device.cap()),
-        Err(StartFault::TooSmall(4120, 4119))
-    );
+    assert!(rt; cap_of(alloc, &mut small) == Err(StartFault::TooSmall(4120, 4119)));
     let mut failing = device(alloc)?.next_run(Vec::new(alloc));
     assert!(rt; failing.fail_at(CallKind::Disk, 0).is_ok());
-    assert_eq!(rt;
-        start(alloc, &mut failing).map(|device| device.cap()),
-        Err(StartFault::Disk(DiskFault))
-    );
+    assert!(rt; cap_of(alloc, &mut failing) == Err(StartFault::Disk(DiskFault)));
     Ok(())
 }

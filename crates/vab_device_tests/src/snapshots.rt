@@ -74,17 +74,17 @@ fn blocks_that_differ_get_exceptions(rt: HostRuntime) -> Result<(), Fail> {
     let image = image(alloc)?;
     let view = written(alloc, &mut d, &base, &store, image.as_slice());
     let view = view.ok_or("an image is written")?;
-    assert_eq!(rt; view.count(), 3);
+    assert!(rt; view.count() == 3);
     for (block, chunk) in [(0u64, Some(2u64)), (1, None), (2, Some(3)), (3, Some(4))] {
-        assert_eq!(rt; view.chunk_of(block), chunk, "block {block}");
+        assert!(rt; view.chunk_of(block) == chunk, "block {block}");
     }
-    assert_eq!(rt; d.sectors(), 64);
-    assert_eq!(rt; d.settled_sector(40), [7; 512]);
+    assert!(rt; d.sectors() == 64);
+    assert!(rt; d.settled_sector(40) == [7; 512]);
     let mut nine = [0; 512];
     nine[0] = 9;
-    assert_eq!(rt; d.settled_sector(48), nine);
-    assert_eq!(rt; d.settled_sector(56), [0; 512]);
-    assert_eq!(rt; d.settled_sector(0), [0; 512]);
+    assert!(rt; d.settled_sector(48) == nine);
+    assert!(rt; d.settled_sector(56) == [0; 512]);
+    assert!(rt; d.settled_sector(0) == [0; 512]);
     Ok(())
 }
 
@@ -97,7 +97,7 @@ fn an_empty_image_differs_behind_the_partitions_end(rt: HostRuntime) -> Result<(
     let mut d = port.ok().ok_or("there is memory for a disk")?;
     let view = written(alloc, &mut d, &base, &store, &[]);
     let view = view.ok_or("an image is written")?;
-    assert_eq!(rt; view.count(), 1);
-    assert_eq!(rt; view.chunk_of(3), Some(2));
+    assert!(rt; view.count() == 1);
+    assert!(rt; view.chunk_of(3) == Some(2));
     Ok(())
 }

@@ -2,7 +2,7 @@
 // the mark.
 
 use crate::devices::{SECTORS, device_of_one, reply_staged};
-use crate::opening::{areas, control, put, put_each, sector, with_store};
+use crate::opening::{areas, control, opened, put, put_each, sector, with_store};
 use crate::texts::FULL;
 use std::alloc::Global;
 use std::test::*;
@@ -85,26 +85,31 @@ fn lose(d: &mut MemPort) -> Result<(), Fail> {
     Ok(())
 }
 
+// Whether the device of a disk is slot b's, with two partitions and two groups and no update, and
+// the mark says so.
+fn is_tidied(alloc: Global, d: &mut MemPort) -> Result<bool, Fail> {
+    let last = name(b"y_b")?;
+    let device = opened(alloc, d)?;
+    let is_idle = device.phase() == PhaseKind::Idle;
+    let has_table = kept(&device, 1) == Some((2, 2, last));
+    Ok(is_idle && has_table && mark_of(d) == idle(1))
+}
+
 #[test]
 fn a_merge_that_has_ended_is_tidied_once(rt: HostRuntime) -> Result<(), Fail> {
     let alloc = rt.alloc();
     let mut d = merged(alloc)?;
-    let was = mark_of(&mut d).ok_or("there is a mark")?;
-    assert_eq!(rt; was.phase, MarkPhase::Completed);
-    assert_eq!(rt; was.slot, 1);
-    let device = start(alloc, &mut d).ok().ok_or("it is a device")?;
-    assert_eq!(rt; device.phase(), PhaseKind::Idle);
-    assert_eq!(rt; kept(&device, 1), Some((2, 2, name(b"y_b")?)));
-    assert_eq!(rt; mark_of(&mut d), idle(1));
+    let completed = UpdateMark {
+        phase: MarkPhase::Completed,
+        slot: 1,
+    };
+    assert!(rt; mark_of(&mut d) == Some(completed));
     // The table is stored, each copy with its syncs, and the mark by one gate.
-    assert!(rt; d.syncs() > 1);
+    assert!(rt; is_tidied(alloc, &mut d)? && d.syncs() > 1);
     // Once more nothing is written, and nothing is synced.
     let mut d = d.next_run(Vec::new(alloc));
     d.stop_after(1);
-    let device = start(alloc, &mut d).ok().ok_or("it is a device")?;
-    assert_eq!(rt; kept(&device, 1), Some((2, 2, name(b"y_b")?)));
-    assert_eq!(rt; mark_of(&mut d), idle(1));
-    assert_eq!(rt; d.syncs(), 0);
+    assert!(rt; is_tidied(alloc, &mut d)? && d.syncs() == 0);
     Ok(())
 }
 
@@ -126,36 +131,47 @@ fn image_of(device: &Device) -> Option<(u64, u64, u64)> {
     Some((device.cap(), part.map.len(), part.map.sector_of(0)))
 }
 
+// Whether the device of a disk is that of slot a, without an update and without a store, and the
+// mark says so.
+fn is_ended(alloc: Global, d: &mut MemPort) -> Result<bool, Fail> {
+    let last = name(b"system_a")?;
+    let device = opened(alloc, d)?;
+    let is_idle = device.phase() == PhaseKind::Idle;
+    let has_image = image_of(&device) == Some((256, 100, 6144));
+    let has_table = kept(&device, 0) == Some((1, 2, last));
+    Ok(is_idle && has_image && has_table && mark_of(d) == idle(0))
+}
+
+// A tidying that is cut behind so many writes and syncs, and what was pending then has landed or
+// not: whether it was done, and the port.
+fn cut(alloc: Global, stop: u64, landed: bool) -> Result<(bool, MemPort), Fail> {
+    let mut d = ended(alloc)?;
+    d.stop_after(stop);
+    let done = start(alloc, &mut d).is_ok();
+    let mut d = d.next_run(Vec::new(alloc));
+    if !landed {
+        lose(&mut d)?;
+    }
+    Ok((done, d))
+}
+
 // Wherever it is cut, and whether what was pending then has landed or not, the device is the same,
 // and it is tidied when it is opened next.
 #[test]
 fn a_tidying_that_is_cut_goes_on(rt: HostRuntime) -> Result<(), Fail> {
     let alloc = rt.alloc();
-    let mut cut = 0u64;
-    let mut done = false;
     for stop in 0..20 {
+        let (_, mut lost) = cut(alloc, stop, false)?;
+        assert!(rt; is_ended(alloc, &mut lost)?, "after {stop} calls");
+        let (done, mut landed) = cut(alloc, stop, true)?;
+        assert!(rt; is_ended(alloc, &mut landed)?, "after {stop} calls");
         if done {
-            break;
+            // It made more calls than that.
+            assert!(rt; stop > 6, "after {stop} calls");
+            return Ok(());
         }
-        for landed in [false, true] {
-            let mut d = ended(alloc)?;
-            d.stop_after(stop);
-            done = start(alloc, &mut d).is_ok();
-            let mut d = d.next_run(Vec::new(alloc));
-            if !landed {
-                lose(&mut d)?;
-            }
-            let device = start(alloc, &mut d).ok().ok_or("it is a device")?;
-            assert_eq!(rt; device.phase(), PhaseKind::Idle, "after {stop} calls");
-            assert_eq!(rt; image_of(&device), Some((256, 100, 6144)));
-            assert_eq!(rt; kept(&device, 0), Some((1, 2, name(b"system_a")?)));
-            assert_eq!(rt; mark_of(&mut d), idle(0));
-        }
-        cut = stop;
     }
-    // It made more calls than that.
-    assert!(rt; done && cut > 6, "after {cut} calls");
-    Ok(())
+    Err("a tidying comes to its end".into())
 }
 
 #[test]
@@ -179,11 +195,11 @@ fn a_table_that_would_not_fit_is_left(rt: HostRuntime) -> Result<(), Fail> {
     put_each(&mut d, &sectors)?;
     assert!(rt; d.sync().is_ok());
     let mut d = d.next_run(Vec::new(alloc));
-    let device = start(alloc, &mut d).ok().ok_or("it is a device")?;
-    assert_eq!(rt; kept(&device, 0), Some((2, 3, name(b"system_a-cow")?)));
+    let device = opened(alloc, &mut d)?;
+    assert!(rt; kept(&device, 0) == Some((2, 3, name(b"system_a-cow")?)));
     assert!(rt; sector(&mut d, 4120) == Some(FULL) && sector(&mut d, 4122) == Some(FULL));
     // The mark alone is written.
-    assert_eq!(rt; mark_of(&mut d), idle(0));
-    assert_eq!(rt; d.syncs(), 1);
+    assert!(rt; mark_of(&mut d) == idle(0));
+    assert!(rt; d.syncs() == 1);
     Ok(())
 }

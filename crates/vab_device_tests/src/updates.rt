@@ -3,6 +3,7 @@
 
 use crate::devices::{device_of_one, reply, reply_staged};
 use std::alloc::Global;
+use std::process::Abort;
 use std::test::*;
 use vab_device::{PartImage, PhaseKind};
 use vab_disk::{Disk, MemPort};
@@ -11,7 +12,10 @@ use vab_recover::start;
 
 // What is planned in a place: the partition's blocks, its store's, `k`, `d` or `w` for kept,
 // declared or written, and how many exceptions.
-fn planned(alloc: Global, d: &mut MemPort, place: usize) -> Option<(u64, u64, u8, u64)> {
+type Planned = (u64, u64, u8, u64);
+
+// What is planned there on a disk; nothing where nothing is planned or there is no such place.
+fn planned(alloc: Global, d: &mut MemPort, place: usize) -> Option<Planned> {
     let device = match start(alloc, d) {
         Ok(device) => device,
         Err(_) => return None,
@@ -36,87 +40,159 @@ fn planned(alloc: Global, d: &mut MemPort, place: usize) -> Option<(u64, u64, u8
     Some((part.map.len(), store, letter, exceptions))
 }
 
+// A command, the bytes that are staged, and its reply.
+type Step<'a> = (Command<'a>, Option<&'a [u8]>, Reply);
+
+// Carries out these on a disk. Behind them this is planned in the first two places.
+fn each_is_told(
+    rt: &impl Abort,
+    alloc: Global,
+    d: &mut MemPort,
+    steps: &[Step<'_>],
+    plan: [Option<Planned>; 2],
+) {
+    for (command, staged, told) in steps {
+        let reply = reply_staged(alloc, d, command, *staged);
+        assert!(rt; reply == Some(*told), "{command:?}: {reply:?}");
+    }
+    assert!(rt; planned(alloc, d, 0) == plan[0] && planned(alloc, d, 1) == plan[1]);
+}
+
+// What is planned at first.
+const KEPT: Option<Planned> = Some((1, 0, b'k', 0));
+
+// What an update that isn't begun refuses.
+const FIRST: [Step<'static>; 3] = [
+    (
+        Command::Delete(b"x_b"),
+        None,
+        Reply::Refused(Refusal::NotInstalling),
+    ),
+    (
+        Command::Flash(b"x_b"),
+        Some(b"abc"),
+        Reply::Refused(Refusal::NotInstalling),
+    ),
+    (Command::Begin, None, Reply::Done),
+];
+
+const EDITS: [Step<'static>; 8] = [
+    (Command::Begin, None, Reply::Refused(Refusal::NotIdle)),
+    (Command::Create(b"y_b", 8192), None, Reply::Done),
+    (
+        Command::Create(b"y_b", 0),
+        None,
+        Reply::Refused(Refusal::Exists),
+    ),
+    (
+        Command::Resize(b"z_b", 0),
+        None,
+        Reply::Refused(Refusal::Unknown),
+    ),
+    (
+        Command::Snapshot(b"y_b", 4096),
+        None,
+        Reply::Refused(Refusal::BadSize),
+    ),
+    (Command::Snapshot(b"y_b", 0), None, Reply::Done),
+    (
+        Command::Resize(b"y_b", 4096),
+        None,
+        Reply::Refused(Refusal::HasStore),
+    ),
+    (
+        Command::Create(b"z_b", 1 << 40),
+        None,
+        Reply::Refused(Refusal::NoRoom(268435463, 256)),
+    ),
+];
+
+const FLASHES: [Step<'static>; 6] = [
+    (
+        Command::Flash(b"x"),
+        Some(b"abc"),
+        Reply::Refused(Refusal::BadName),
+    ),
+    (
+        Command::Flash(b"z_b"),
+        Some(b"abc"),
+        Reply::Refused(Refusal::Unknown),
+    ),
+    (
+        Command::Flash(b"x_b"),
+        Some(b"abc"),
+        Reply::Refused(Refusal::NoStore),
+    ),
+    (
+        Command::Flash(b"y_b"),
+        None,
+        Reply::Refused(Refusal::NothingStaged),
+    ),
+    (
+        Command::Flash(b"y_b"),
+        Some(b"\x3a\xff\x26\xed"),
+        Reply::Refused(Refusal::Sparse),
+    ),
+    (Command::Flash(b"y_b"), Some(b"abc"), Reply::Done),
+];
+
+// A store is as full as the image differs.
+const STORES: [Step<'static>; 4] = [
+    (
+        Command::Flash(b"y_b"),
+        Some(b"abc"),
+        Reply::Refused(Refusal::Written),
+    ),
+    (Command::Snapshot(b"x_b", 8192), None, Reply::Done),
+    (
+        Command::Flash(b"x_b"),
+        Some(b"abd"),
+        Reply::Refused(Refusal::StoreFull(3, 2)),
+    ),
+    (Command::Flash(b"x_b"), Some(b"abc"), Reply::Done),
+];
+
+const AGAIN: [Step<'static>; 2] = [
+    (
+        Command::Cancel,
+        None,
+        Reply::Refused(Refusal::NothingToCancel),
+    ),
+    (Command::Begin, None, Reply::Done),
+];
+
 #[test]
 fn an_update_is_begun_edited_flashed_and_dropped(rt: HostRuntime) -> Result<(), Fail> {
     let alloc = rt.alloc();
     let mut d = device_of_one(alloc)?;
-    let none = Some(Reply::Refused(Refusal::NotInstalling));
-    assert_eq!(rt; reply(alloc, &mut d, &Command::Delete(b"x_b")), none);
-    assert_eq!(rt;
-        reply_staged(alloc, &mut d, &Command::Flash(b"x_b"), Some(b"abc")),
-        none
+    each_is_told(&rt, alloc, &mut d, &FIRST, [KEPT, None]);
+    each_is_told(&rt, alloc, &mut d, &EDITS, [KEPT, Some((2, 4, b'd', 0))]);
+    let large = vec![in alloc; 0u8; 8193]?;
+    let refused = Reply::Refused(Refusal::TooLarge(8193, 8192));
+    let too_large: [Step; 1] = [(Command::Flash(b"y_b"), Some(&large), refused)];
+    each_is_told(
+        &rt,
+        alloc,
+        &mut d,
+        &too_large,
+        [KEPT, Some((2, 4, b'd', 0))],
     );
-    assert_eq!(rt; reply(alloc, &mut d, &Command::Begin), Some(Reply::Done));
-    assert_eq!(rt; planned(alloc, &mut d, 0), Some((1, 0, b'k', 0)));
-    assert_eq!(rt;
-        reply(alloc, &mut d, &Command::Begin),
-        Some(Reply::Refused(Refusal::NotIdle))
-    );
-    // Each edit and its reply.
-    let edits = [
-        (Command::Create(b"y_b", 8192), Reply::Done),
-        (Command::Create(b"y_b", 0), Reply::Refused(Refusal::Exists)),
-        (Command::Resize(b"z_b", 0), Reply::Refused(Refusal::Unknown)),
-        (
-            Command::Snapshot(b"y_b", 4096),
-            Reply::Refused(Refusal::BadSize),
-        ),
-        (Command::Snapshot(b"y_b", 0), Reply::Done),
-        (
-            Command::Resize(b"y_b", 4096),
-            Reply::Refused(Refusal::HasStore),
-        ),
-        (
-            Command::Create(b"z_b", 1 << 40),
-            Reply::Refused(Refusal::NoRoom(268435463, 256)),
-        ),
-    ];
-    for (what, told) in edits {
-        assert_eq!(rt; reply(alloc, &mut d, &what), Some(told), "{what:?}");
-    }
-    assert_eq!(rt; planned(alloc, &mut d, 1), Some((2, 4, b'd', 0)));
-    let large = [0u8; 8193];
-    // Each name, the staged bytes, and the reply.
-    let flashes = [
-        (b"x".as_slice(), Some(b"abc".as_slice()), Refusal::BadName),
-        (b"z_b", Some(b"abc"), Refusal::Unknown),
-        (b"x_b", Some(b"abc"), Refusal::NoStore),
-        (b"y_b", None, Refusal::NothingStaged),
-        (b"y_b", Some(b"\x3a\xff\x26\xed"), Refusal::Sparse),
-        (b"y_b", Some(&large), Refusal::TooLarge(8193, 8192)),
-    ];
-    for (name, staged, refusal) in flashes {
-        let told = reply_staged(alloc, &mut d, &Command::Flash(name), staged);
-        assert_eq!(rt; told, Some(Reply::Refused(refusal)), "{refusal:?}");
-    }
-    assert_eq!(rt;
-        reply_staged(alloc, &mut d, &Command::Flash(b"y_b"), Some(b"abc")),
-        Some(Reply::Done)
-    );
-    assert_eq!(rt; planned(alloc, &mut d, 1), Some((2, 4, b'w', 2)));
-    let again = reply_staged(alloc, &mut d, &Command::Flash(b"y_b"), Some(b"abc"));
-    assert_eq!(rt; again, Some(Reply::Refused(Refusal::Written)));
-    // The source's image stays, and a store is as full as the image differs.
+    let written = Some((2, 4, b'w', 2));
+    each_is_told(&rt, alloc, &mut d, &FLASHES, [KEPT, written]);
+    // The source's image stays.
     let image = reply(alloc, &mut d, &Command::Print(b"x_a"));
     assert!(rt; matches!(image, Some(Reply::Bytes(_))));
-    let store = reply(alloc, &mut d, &Command::Snapshot(b"x_b", 8192));
-    assert_eq!(rt; store, Some(Reply::Done));
-    let full = reply_staged(alloc, &mut d, &Command::Flash(b"x_b"), Some(b"abd"));
-    assert_eq!(rt; full, Some(Reply::Refused(Refusal::StoreFull(3, 2))));
-    assert_eq!(rt;
-        reply_staged(alloc, &mut d, &Command::Flash(b"x_b"), Some(b"abc")),
-        Some(Reply::Done)
+    each_is_told(
+        &rt,
+        alloc,
+        &mut d,
+        &STORES,
+        [Some((1, 2, b'w', 0)), written],
     );
-    assert_eq!(rt; planned(alloc, &mut d, 0), Some((1, 2, b'w', 0)));
-    assert_eq!(rt; planned(alloc, &mut d, 1), Some((2, 4, b'w', 2)));
     // What is dropped is gone from the next update.
-    assert_eq!(rt; reply(alloc, &mut d, &Command::Cancel), Some(Reply::Done));
-    assert_eq!(rt; planned(alloc, &mut d, 0), None);
-    let nothing = Some(Reply::Refused(Refusal::NothingToCancel));
-    assert_eq!(rt; reply(alloc, &mut d, &Command::Cancel), nothing);
-    assert_eq!(rt; reply(alloc, &mut d, &Command::Begin), Some(Reply::Done));
-    assert_eq!(rt; planned(alloc, &mut d, 0), Some((1, 0, b'k', 0)));
-    assert_eq!(rt; planned(alloc, &mut d, 1), None);
+    let cancel: [Step; 1] = [(Command::Cancel, None, Reply::Done)];
+    each_is_told(&rt, alloc, &mut d, &cancel, [None, None]);
+    each_is_told(&rt, alloc, &mut d, &AGAIN, [KEPT, None]);
     Ok(())
 }
 
@@ -150,24 +226,44 @@ fn a_store_counts_all_its_exceptions(rt: HostRuntime) -> Result<(), Fail> {
     let alloc = rt.alloc();
     let mut d = device_of_one(alloc)?;
     for command in [Command::Begin, Command::Snapshot(b"x_b", 0)] {
-        assert_eq!(rt; reply(alloc, &mut d, &command), Some(Reply::Done));
+        assert!(rt; reply(alloc, &mut d, &command) == Some(Reply::Done));
     }
     let flashed = reply_staged(alloc, &mut d, &Command::Flash(b"x_b"), Some(b"abd"));
-    assert_eq!(rt; flashed, Some(Reply::Done));
-    assert_eq!(rt;
-        ready(alloc, &mut d),
-        Some((PhaseKind::Installing(0), b'-', 0))
-    );
+    assert!(rt; flashed == Some(Reply::Done));
+    assert!(rt; ready(alloc, &mut d) == Some((PhaseKind::Installing(0), b'-', 0)));
     // Somebody else writes that image into the source's block.
     let mut bytes = [0u8; 512];
     bytes[..3].copy_from_slice(b"abd");
     assert!(rt; d.sectors() > 6144 && d.write_sector(6144, &bytes).is_ok() && d.sync().is_ok());
-    assert_eq!(rt; reply(alloc, &mut d, &Command::Finish), Some(Reply::Done));
-    assert_eq!(rt; ready(alloc, &mut d), Some((PhaseKind::Staged(0), b'w', 1)));
+    assert!(rt; reply(alloc, &mut d, &Command::Finish) == Some(Reply::Done));
+    assert!(rt; ready(alloc, &mut d) == Some((PhaseKind::Staged(0), b'w', 1)));
     let a = reply(alloc, &mut d, &Command::Digest(b"x_a"));
     assert!(rt; a == reply(alloc, &mut d, &Command::Digest(b"x_b")));
     assert!(rt; matches!(a, Some(Reply::Digest(_))));
     Ok(())
+}
+
+// Cuts a command behind so many writes and syncs: whether it was done, and the port.
+fn cut(
+    alloc: Global,
+    d: MemPort,
+    stop: u64,
+    command: &Command,
+    staged: Option<&[u8]>,
+) -> (bool, MemPort) {
+    let mut d = d;
+    d.stop_after(stop);
+    let done = reply_staged(alloc, &mut d, command, staged).is_some();
+    (done, d.next_run(Vec::new(alloc)))
+}
+
+// A disk with an update that is begun.
+fn begun(alloc: Global) -> Result<MemPort, Fail> {
+    let mut d = device_of_one(alloc)?;
+    if reply(alloc, &mut d, &Command::Begin) != Some(Reply::Done) {
+        return Err("an update is begun".into());
+    }
+    Ok(d.next_run(Vec::new(alloc)))
 }
 
 // Wherever it is cut, a finish leaves the update installed or ready, and a cancel of a ready one
@@ -175,66 +271,58 @@ fn a_store_counts_all_its_exceptions(rt: HostRuntime) -> Result<(), Fail> {
 #[test]
 fn the_end_of_an_installation_is_cut(rt: HostRuntime) -> Result<(), Fail> {
     let alloc = rt.alloc();
+    let installed = Some((PhaseKind::Installing(0), b'-', 0));
+    let staged = Some((PhaseKind::Staged(0), b'k', 0));
     let mut seen = [false; 4];
     // A finish makes four writes and syncs, a cancel two.
     for stop in 0..7u64 {
-        let mut d = device_of_one(alloc)?;
-        assert_eq!(rt; reply(alloc, &mut d, &Command::Begin), Some(Reply::Done));
-        let mut d = d.next_run(Vec::new(alloc));
-        d.stop_after(stop);
-        let done = reply(alloc, &mut d, &Command::Finish).is_some();
-        let mut d = d.next_run(Vec::new(alloc));
+        let (done, mut d) = cut(alloc, begun(alloc)?, stop, &Command::Finish, None);
         let kept = ready(alloc, &mut d);
-        let installed = kept == Some((PhaseKind::Installing(0), b'-', 0));
-        assert!(rt; kept == Some((PhaseKind::Staged(0), b'k', 0)) || (installed && !done));
+        assert!(rt; kept == staged || (kept == installed && !done));
         seen[usize::from(done)] = true;
         if !done {
             continue;
         }
-        d.stop_after(stop.saturating_sub(4));
-        let dropped = reply(alloc, &mut d, &Command::Cancel).is_some();
-        let mut d = d.next_run(Vec::new(alloc));
+        let behind = stop.saturating_sub(4);
+        let (dropped, mut d) = cut(alloc, d, behind, &Command::Cancel, None);
         let left = ready(alloc, &mut d);
-        assert!(rt; left == Some((PhaseKind::Idle, b'-', 0)) || (left == kept && !dropped));
+        let idle = left == Some((PhaseKind::Idle, b'-', 0));
+        assert!(rt; idle || (left == kept && !dropped));
         seen[2 + usize::from(dropped)] = true;
     }
-    assert!(rt; seen.iter().all(|came| *came), "{seen:?}");
+    assert!(rt; seen == [true; 4], "{seen:?}");
     Ok(())
 }
+
+// The steps of an update that are cut, and what is planned behind each.
+const CUT: [(Command<'static>, Planned); 3] = [
+    (Command::Begin, (1, 0, b'k', 0)),
+    (Command::Snapshot(b"x_b", 0), (1, 3, b'd', 0)),
+    (Command::Flash(b"x_b"), (1, 3, b'w', 1)),
+];
 
 // Wherever it is cut, each of begin, an edit and a flash leaves the device before it or after it.
 #[test]
 fn an_update_that_is_cut_is_the_old_one_or_the_new_one(rt: HostRuntime) -> Result<(), Fail> {
     let alloc = rt.alloc();
-    let mut seen = [false; 6];
-    for stop in 0..80 {
+    // Of each step, whether it was cut at some call, and done at another.
+    let mut seen = [[false; 2]; 3];
+    for stop in 0..80u64 {
         let mut d = device_of_one(alloc)?;
-        d.stop_after(stop);
-        let whole = reply(alloc, &mut d, &Command::Begin).is_some();
-        let mut d = d.next_run(Vec::new(alloc));
-        let kept = planned(alloc, &mut d, 0);
-        assert!(rt; kept == Some((1, 0, b'k', 0)) || (kept.is_none() && !whole));
-        seen[usize::from(whole)] = true;
-        if !whole {
-            continue;
+        let mut before = None;
+        let stops = [stop, stop / 4, stop.saturating_sub(45)];
+        for (step, (command, after)) in CUT.iter().enumerate() {
+            let (done, left) = cut(alloc, d, stops[step], command, Some(b"abd"));
+            d = left;
+            let now = planned(alloc, &mut d, 0);
+            assert!(rt; now == Some(*after) || (now == before && !done));
+            seen[step][usize::from(done)] = true;
+            if !done {
+                break;
+            }
+            before = now;
         }
-        d.stop_after(stop / 4);
-        let stored = reply(alloc, &mut d, &Command::Snapshot(b"x_b", 0)).is_some();
-        let mut d = d.next_run(Vec::new(alloc));
-        let declared = planned(alloc, &mut d, 0);
-        assert!(rt; declared == Some((1, 3, b'd', 0)) || (declared == kept && !stored));
-        seen[2 + usize::from(stored)] = true;
-        if !stored {
-            continue;
-        }
-        d.stop_after(stop.saturating_sub(45));
-        let done = reply_staged(alloc, &mut d, &Command::Flash(b"x_b"), Some(b"abd")).is_some();
-        let mut d = d.next_run(Vec::new(alloc));
-        let written = planned(alloc, &mut d, 0);
-        assert!(rt; written == Some((1, 3, b'w', 1)) || (written == declared && !done));
-        seen[4 + usize::from(done)] = true;
     }
-    // Each of the three was cut at some call, and was done at others.
-    assert!(rt; seen.iter().all(|came| *came), "{seen:?}");
+    assert!(rt; seen == [[true; 2]; 3], "{seen:?}");
     Ok(())
 }

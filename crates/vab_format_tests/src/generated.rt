@@ -60,17 +60,17 @@ fn images_of_seeds_are_known(rt: HostRuntime) -> Result<(), Fail> {
         let set = set_scaled(alloc, seed, scale)
             .ok()
             .ok_or("there is memory")?;
-        assert_eq!(rt; blocks_of(alloc, &set)?.as_slice(), blocks.as_slice());
-        assert_eq!(rt; bytes_at(&set, 0, 0), front);
+        assert!(rt; blocks_of(alloc, &set)?.as_slice() == blocks.as_slice());
+        assert!(rt; bytes_at(&set, 0, 0) == front);
         let last = (blocks[3] as usize).saturating_mul(BLOCK).saturating_sub(8);
-        assert_eq!(rt; bytes_at(&set, 3, last), back);
+        assert!(rt; bytes_at(&set, 3, last) == back);
         let next = next_scaled(alloc, seed, scale, &set)
             .ok()
             .ok_or("there is memory")?;
-        assert_eq!(rt; blocks_of(alloc, &next)?.as_slice(), grown.as_slice());
-        assert_eq!(rt; bytes_at(&next, 0, 0), next_front);
+        assert!(rt; blocks_of(alloc, &next)?.as_slice() == grown.as_slice());
+        assert!(rt; bytes_at(&next, 0, 0) == next_front);
         let last = (grown[3] as usize).saturating_mul(BLOCK).saturating_sub(8);
-        assert_eq!(rt; bytes_at(&next, 3, last), next_back);
+        assert!(rt; bytes_at(&next, 3, last) == next_back);
     }
     Ok(())
 }
@@ -89,7 +89,7 @@ fn kept_blocks_are_those_of_the_old_image(rt: HostRuntime) -> Result<(), Fail> {
         for (block, mark) in (0..blocks).zip(marks.bytes()) {
             let at = BLOCK.saturating_mul(block);
             let same = bytes_at(&set, image, at) == bytes_at(&next, image, at);
-            assert_eq!(rt; same, mark == b'k', "block {block} of image {image}");
+            assert!(rt; same == (mark == b'k'), "block {block} of image {image}");
         }
     }
     for (image, name) in next
@@ -98,7 +98,7 @@ fn kept_blocks_are_those_of_the_old_image(rt: HostRuntime) -> Result<(), Fail> {
         .zip(["odm", "product", "system", "vendor"])
     {
         assert!(rt; image.name.text() == name.as_bytes());
-        assert_eq!(rt; image.store, 0);
+        assert!(rt; image.store == 0);
         assert!(rt; image.bytes.len() as u64 == image.size);
     }
     Ok(())
