@@ -42,7 +42,7 @@ use Rattle.vab_device.specs.Updates.{entry_by}
 use Rattle.vab_edit.proofs.PlanLaws.{map_map, map_among}
 use Rattle.vab_targets.specs.Plans.{EditsFollowSizes, HasWholeSectors}
 use Rattle.vab_machine_laws.specs.Edits.{IsTheMachinesUnlimited}
-use Rattle.vab_machine_laws.proofs.Installed.{IsInstalled, is_installed}
+use Rattle.vab_targets.proofs.Installed.{IsInstalled, is_installed}
 use Rattle.vab_machine_laws.proofs.Sources.{HasSource, has_source}
 use Rattle.vab_machine_laws.proofs.Entries.{entry_absent, entry_there}
 use Rattle.vab_machine_laws.proofs.Given.{IsGiven, edit_is}

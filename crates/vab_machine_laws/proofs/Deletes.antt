@@ -20,7 +20,7 @@ use Rattle.vab_machine.specs.Plans.{without_entry}
 use Rattle.vab_machine.specs.Machine.{delete_row, machine_effect}
 use Rattle.vab_device.specs.Mounted.{Mounted}
 use Rattle.vab_targets.specs.Plans.{EditsFollowSizes}
-use Rattle.vab_machine_laws.proofs.Installed.{IsInstalled, is_installed}
+use Rattle.vab_targets.proofs.Installed.{IsInstalled, is_installed}
 use Rattle.vab_machine_laws.specs.Edits.{IsTheMachinesOrFull}
 use Rattle.vab_machine_laws.proofs.Entries.{entry_absent, entry_there, store_there}
 use Rattle.vab_machine_laws.proofs.Given.{IsGiven, edit_is}

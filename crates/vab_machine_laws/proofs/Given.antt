@@ -29,7 +29,7 @@ use Rattle.vab_device.specs.Updates.{EditOf, effect_on, edit_effect, edited_effe
 use Rattle.vab_device.specs.Updates.{refusal_of, is_full_table}
 use Rattle.vab_edit.proofs.PlainLaws.{changed_plain}
 use Rattle.vab_targets.specs.Plans.{HasWholeSectors, EditsFollowSizes, edited_plan, with_plan}
-use Rattle.vab_machine_laws.proofs.Installed.{IsInstalled}
+use Rattle.vab_targets.proofs.Installed.{IsInstalled}
 use Rattle.vab_machine_laws.specs.Edits.{IsMachinesOrFull}
 
 -- what the machine says, where an edit's table is given or refused so

@@ -1,8 +1,6 @@
 pub mod SlotRows
 pub mod Filled
 pub mod Flashes
-pub mod Sectors
-pub mod Installed
 pub mod Values
 pub mod Given
 pub mod Sources

@@ -38,7 +38,7 @@ use Rattle.vab_edit.proofs.NamedLaws.{base_eq}
 use Rattle.vab_edit.proofs.PlanLaws.{map_map}
 use Rattle.vab_targets.specs.Plans.{EditsFollowSizes, HasWholeSectors}
 use Rattle.vab_machine_laws.specs.Edits.{IsTheMachinesUnlimited}
-use Rattle.vab_machine_laws.proofs.Installed.{IsInstalled, is_installed}
+use Rattle.vab_targets.proofs.Installed.{IsInstalled, is_installed}
 use Rattle.vab_machine_laws.proofs.Sources.{HasSource, has_source}
 use Rattle.vab_machine_laws.proofs.Entries.{IsFound, entry_absent, entry_there, store_there}
 use Rattle.vab_machine_laws.proofs.Given.{IsGiven, edit_is}

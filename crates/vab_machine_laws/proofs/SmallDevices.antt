@@ -28,7 +28,7 @@ use Rattle.vab_machine.specs.Small.{IsSmallSlot, IsSmallImage, IsSmallEntry}
 use Rattle.vab_machine.specs.Small.{IsSmallPhase}
 use Rattle.vab_merging.proofs.CountLaws.{few_of}
 use Rattle.vab_targets.specs.Plans.{HasWholeSectors}
-use Rattle.vab_machine_laws.proofs.Sectors.{blocks_long}
+use Rattle.vab_targets.proofs.Sectors.{blocks_long}
 use Rattle.vab_machine_laws.specs.Sizes.{DevicesAreSmall}
 
 -- ---- what is read through a store

@@ -38,8 +38,8 @@ use Rattle.vab_device.proofs.ReadingLaws.{device_was, idle_read_of, slot_below}
 use Rattle.vab_device.proofs.StayLaws.{one_of}
 use Rattle.vab_edit.proofs.InstallingLaws.{read_at, two_tables}
 use Rattle.vab_targets.specs.Plans.{HasWholeSectors}
-use Rattle.vab_machine_laws.proofs.Sectors.{table_rules, IsRead}
-use Rattle.vab_machine_laws.proofs.Installed.{IsReadAs, none_named}
+use Rattle.vab_targets.proofs.Sectors.{table_rules, IsRead}
+use Rattle.vab_targets.proofs.Installed.{IsReadAs, none_named}
 
 -- The slot of the update mark: its table, whose partitions have the slot's images, and the blocks
 -- of the device.

@@ -1,7 +1,7 @@
 mod FewNames
 mod FreeStatus
-mod Sectors
-mod Installed
+pub mod Sectors
+pub mod Installed
 mod Entries
 mod Edits
 mod Updates

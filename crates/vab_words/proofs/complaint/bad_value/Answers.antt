@@ -11,8 +11,7 @@ loop-index-init c = tt
 pub returns-then-not-takes : goal.returns-then-not-takes
 returns-then-not-takes c =
     let word = c.index-words-index.result in
-    let bad : is_value c.in-Some.value c.as_str.result.now ≡ false = search rules in
-    (
+    let bad : is_value c.in-Some.value c.as_str.result.now ≡ false = search rules in (
       string_bytes word,
       slice_get-map string_bytes c.args.words.now c.loop-index.index
           ∙ ap (option_map string_bytes)
