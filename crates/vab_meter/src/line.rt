@@ -2,7 +2,7 @@
 
 use std::io::Write;
 
-// So many sectors or pieces of 512 bytes go by between two drawings: 8 MiB.
+// So many pieces of 512 bytes go by between two drawings: 8 MiB.
 const STEP: u64 = 16384;
 
 /// What went by, and where it is shown.
@@ -51,9 +51,10 @@ impl<W: Write + Drop> Line<W> {
         );
     }
 
-    // So many bytes went by.
+    // So many bytes went by: a piece for each 512 of them, and one at least.
     fn pass(&mut self, bytes: u64) {
-        self.since = self.since.saturating_add(bytes >> 9).saturating_add(1);
+        let pieces = if bytes < 512 { 1 } else { bytes >> 9 };
+        self.since = self.since.saturating_add(pieces);
         if self.is_shown && self.since >= STEP {
             self.since = 0;
             self.draw();
