@@ -12,7 +12,7 @@ use std::process::ExitCode;
 use vab_blocks::Runs;
 use vab_builder::{Edit, apply, import};
 use vab_bytes::Name36;
-use vab_partitions::{bad_partition, bad_target};
+use vab_partitions::{MAX_PARTITIONS, bad_partition, bad_target};
 use vab_tables::{Table, decode_table, encode_table, table_size};
 
 const MAX: u32 = 1 << 20;
@@ -46,7 +46,7 @@ fn judge(alloc: Global, text: &[u8], times: u32) -> bool {
     for _ in 0..times {
         match decode_table(alloc, text, MAX) {
             Ok(table) => {
-                if bad_partition(alloc, &table, 0).is_err() {
+                if bad_partition(alloc, &table, 0, MAX_PARTITIONS).is_err() {
                     return false;
                 }
             }
@@ -64,7 +64,7 @@ fn edits(alloc: Global, text: &[u8], edit: &Edit, times: u32) -> bool {
     if !is_small(&table) || table_size(&table) >= 1 << 24 {
         return false;
     }
-    match bad_partition(alloc, &table, 0) {
+    match bad_partition(alloc, &table, 0, MAX_PARTITIONS) {
         Ok(None) => {}
         _ => return false,
     }
@@ -87,7 +87,7 @@ fn targets(alloc: Global, text: &[u8], times: u32) -> bool {
     if !is_small(&table) || table_size(&table) >= 1 << 24 {
         return false;
     }
-    match bad_partition(alloc, &table, 0) {
+    match bad_partition(alloc, &table, 0, MAX_PARTITIONS) {
         Ok(None) => {}
         _ => return false,
     }
@@ -95,7 +95,7 @@ fn targets(alloc: Global, text: &[u8], times: u32) -> bool {
         return false;
     };
     for _ in 0..times {
-        match bad_target(alloc, &table, &target, 1) {
+        match bad_target(alloc, &table, &target, 1, MAX_PARTITIONS) {
             Ok(None) => {}
             _ => return false,
         }

@@ -52,6 +52,13 @@ use Rattle.vab_device.proofs.StayLaws.{mark_there, copy_stays, copies_from, one_
 use Rattle.vab_device.proofs.UpdateLaws.{update_read, kept_with}
 use Rattle.vab_begin.proofs.CopiesApart.{table_in, tables_apart, ends_behind}
 use Rattle.vab_device.proofs.RepairLaws.{ends_within}
+use Rattle.vab_names.specs.Names.{most_partitions}
+use Rattle.vab_marks.specs.declared.version.MarkVersion.TheVariants.{Two}
+use Rattle.vab_statuses.specs.Statuses.{statuses_under}
+use Rattle.vab_device.specs.Reading.{version_at}
+use Rattle.vab_device.proofs.MostLaws.{parts_all, parts_two}
+use Rattle.vab_device.proofs.SameLaws.{version_same, most_same}
+use Rattle.vab_device.proofs.StayLaws.{version_there}
 
 -- what is read without an update
 abbrev pub idle_shape : ℕ
@@ -179,11 +186,15 @@ module _
       (λ at is. behind at
       (images_behind size (end_of g (other_slot slot)) 1 _ _ r old at reads within is))
 
+  mark_stays : mid 2048 ≡ old 2048
+  mark_stays = low 2048 (λ e. omega (arith, e)) (λ w. omega (arith, w.from)) (omega arith)
+
   pub same_read : SameRead size (idle_shape slot ss seen g s scanned) old mid
   same_read = record {
-    mark = mark_same old mid
-        (low 2048 (λ e. omega (arith, e)) (λ w. omega (arith, w.from)) (omega arith));
-    statuses = statuses_kept false old mid (λ no. absurd (let e : false ≡ true = no in cc));
+    most = most_same old mid mark_stays;
+    mark = mark_same old mid mark_stays;
+    statuses = statuses_kept false old mid (version_same old mid mark_stays)
+        (λ no. absurd (let e : false ≡ true = no in cc));
     control = seen_same;
     geometry = geometry_stays;
     tables = tables_agree size g (slot ∷ []) old mid own_table;
@@ -256,10 +267,16 @@ module _
 
     -- ---- the sectors with places of their own
 
+    pub version_new : version_at new ≡ Two
+    version_new =
+        version_there (installing_mark slot) new
+        (set_here mid 2048 (mark_spelling (installing_mark slot)) 2048 refl)
+
     statuses_new : statuses_at true new ≡ Ok no_statuses
     unfolding statuses_at
     statuses_new =
-        ap statuses_read
+        ap (λ v. statuses_read (statuses_under v new)) version_new
+        ∙ ap statuses_read
         (statuses_same mid new (λ at is. elsewhere at (λ e. omega (arith, e, is.from)))
         ∙ prepared.statuses)
 
@@ -290,13 +307,15 @@ module _
         (ap (λ (n : ℕ). groups_of_slot n s.groups) here ∙ sym groups) in
         rw (devices, pairs) refl
 
-    target_rules : target_check (other_slot slot) s u ≡ None
+    target_rules : target_check most_partitions (other_slot slot) s u ≡ None
     target_rules =
         ap names_none
-        (target_not_bad (other_slot slot) (layout_of s).parts (layout_of u).parts target)
+        (target_not_bad most_partitions (other_slot slot) (layout_of s).parts (layout_of u).parts
+        (record { is = target; few = target.own.few }))
 
-    own_rules : own_check slot s ≡ None
-    own_rules = (first_kept (own_check slot s) [] reads.parts).0
+    own_rules : own_check most_partitions slot s ≡ None
+    own_rules =
+        (first_kept (own_check most_partitions slot s) [] (parts_all r old reads.parts)).0
 
     three_kept : (x y z : Check)
         → x ≡ None
@@ -321,8 +340,9 @@ module _
       control = seen_new;
       geometry = geometry_new;
       tables = tables_new;
-      parts = three_kept (twin_check (other_slot slot) s u) (own_check slot s)
-          (target_check (other_slot slot) s u) twins own_rules target_rules;
+      parts = parts_two after new version_new
+          (three_kept (twin_check (other_slot slot) s u) (own_check most_partitions slot s)
+          (target_check most_partitions (other_slot slot) s u) twins own_rules target_rules);
       stores = no_stores;
       state = ap (λ (x : Control). first_fault (slot_checks slot x)) (sym seen_is) ∙ reads.state;
     }

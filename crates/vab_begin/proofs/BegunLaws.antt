@@ -59,6 +59,7 @@ use Rattle.vab_begin.proofs.PlannedLaws.{plan_keeps, target_table}
 use Rattle.vab_begin.proofs.BeginLaws.{idle_shape, IsPrepared, same_read}
 use Rattle.vab_begin.proofs.BeginLaws.{reads_new}
 use Rattle.vab_begin.proofs.BeginLaws.{copies_new, control_new, images_new_a, images_new_b}
+use Rattle.vab_begin.proofs.BeginLaws.{version_new}
 
 -- the device with an update to a target of this table
 abbrev pub begun_device : Device → Table → Device
@@ -361,6 +362,9 @@ module _ (told : Type 0) (text : List ℕ) (size : ℕ) (old : Image) where
                 dev.slot dev.geometry short same reads whole x.table of.target of.device
                 of.groups stands rules.lies prepared copies read;
             copies = copies_new slot ss seen g s scanned c told text size old mid
+                dev.slot dev.geometry short same reads whole x.table of.target of.device
+                of.groups stands rules.lies prepared copies read;
+            version = version_new slot ss seen g s scanned c told text size old mid
                 dev.slot dev.geometry short same reads whole x.table of.target of.device
                 of.groups stands rules.lies prepared copies read;
           };

@@ -43,6 +43,10 @@ use Rattle.vab_begin.proofs.KeptLaws.{source_b}
 use Rattle.vab_device.proofs.UpdateLaws.{update_read, kept_with}
 use Rattle.vab_device.proofs.StayLaws.{mark_there, copy_stays, copies_from, one_of, two_of}
 use Rattle.vab_begin.proofs.RunsLaws.{source_runs}
+use Rattle.vab_marks.specs.declared.version.MarkVersion.TheVariants.{Two}
+use Rattle.vab_device.specs.Reading.{version_at, most_at}
+use Rattle.vab_device.proofs.MostLaws.{parts_under}
+use Rattle.vab_device.proofs.StayLaws.{version_there}
 
 -- ---- what is kept
 
@@ -78,14 +82,14 @@ both_tables marks.Staged slot both = refl
 both_tables marks.Merging slot both = absurd cc
 both_tables marks.Completed slot both = absurd cc
 
-both_checks : (m : MarkPhase) (slot : ℕ) (t u : Table)
+both_checks : (m : MarkPhase) (most slot : ℕ) (t u : Table)
     → reads_both m ≡ true
-    → (phase_at m).part_checks slot (t ∷ u ∷ []) ≡ update_checks slot t u
-both_checks marks.Idle slot t u both = absurd cc
-both_checks marks.Installing slot t u both = refl
-both_checks marks.Staged slot t u both = refl
-both_checks marks.Merging slot t u both = absurd cc
-both_checks marks.Completed slot t u both = absurd cc
+    → (phase_at m).part_checks most slot (t ∷ u ∷ []) ≡ update_checks most slot t u
+both_checks marks.Idle most slot t u both = absurd cc
+both_checks marks.Installing most slot t u both = refl
+both_checks marks.Staged most slot t u both = refl
+both_checks marks.Merging most slot t u both = absurd cc
+both_checks marks.Completed most slot t u both = absurd cc
 
 -- ---- what it means
 
@@ -193,6 +197,11 @@ module _
   elsewhere : (s : ℕ) → s ≢ 2048 → new s ≡ old s
   elsewhere s other = set_there old 2048 (mark_spelling (idle_mark d.mark.slot)) s other
 
+  version_new : version_at new ≡ Two
+  version_new =
+      version_there (idle_mark d.mark.slot) new
+      (set_here old 2048 (mark_spelling (idle_mark d.mark.slot)) 2048 refl)
+
   two : (t : Table) × (u : Table) × (r.tables ≡ t ∷ u ∷ [])
       × (table_at size r.geometry r.mark.slot old ≡ Ok t)
   two =
@@ -221,16 +230,20 @@ module _
   of_tables s there =
       elsewhere s (λ e. omega (arith, e, copies_from r.geometry (r.mark.slot ∷ []) s there))
 
-  own_rules : own_check r.mark.slot two.0 ≡ None
+  -- under version 2, which the disk has and keeps
+  own_rules : own_check (most_at new) r.mark.slot two.0 ≡ None
   own_rules =
       let source = r.mark.slot in
       let target = other_slot r.mark.slot in
-      let all : first_fault (update_checks source two.0 two.1) ≡ None =
-      ap first_fault (sym (both_checks r.mark.phase r.mark.slot two.0 two.1 both))
-      ∙ subst (λ (x : Read). part_fault x ≡ None) shape is.reads.parts in
+      let most : ℕ = most_at new in
+      let parts = parts_under r old new (version_new ∙ sym is.version) is.reads.parts in
+      let all : first_fault (update_checks most source two.0 two.1) ≡ None =
+      ap first_fault (sym (both_checks r.mark.phase most r.mark.slot two.0 two.1 both))
+      ∙ subst (λ (x : Read). part_fault most x ≡ None) shape parts in
       let rest = first_kept (twin_check target two.0 two.1)
-      (own_check source two.0 ∷ target_check target two.0 two.1 ∷ []) all in
-      (first_kept (own_check source two.0) (target_check target two.0 two.1 ∷ []) rest.1).0
+      (own_check most source two.0 ∷ target_check most target two.0 two.1 ∷ []) all in
+      (first_kept (own_check most source two.0) (target_check most target two.0 two.1 ∷ [])
+      rest.1).0
 
   control_new : control_of (new 4) ≡ Ok d.control
   control_new = ap control_of (elsewhere 4 (λ e. omega (arith, e))) ∙ is.control
@@ -293,6 +306,7 @@ module _
     is = kept_is;
     control = control_new;
     copies = copies;
+    version = version_new;
   }
 
   of_images : (slot : ℕ) (parts : Option (List Part))

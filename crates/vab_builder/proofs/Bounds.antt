@@ -1,6 +1,6 @@
 -- How large the numbers of an update's target are.
-use Rattle.std.proofs.Common.{◌≡◌, ℕ, ◌^◌, ◌<◌, ◌≤◌, Bool, true, false, cond, List, [], ◌∷◌, ◌++◌}
-use Rattle.std.proofs.Common.{length, map, sum, ap, ◌∙◌, inl, inr, arith, length-append}
+use Rattle.std.proofs.Common.{◌≡◌, ℕ, ◌+◌, ◌^◌, ◌<◌, ◌≤◌, Bool, true, false, cond, List, [], ◌∷◌}
+use Rattle.std.proofs.Common.{◌++◌, length, map, sum, ap, ◌∙◌, inl, inr, arith, length-append}
 use Rattle.std.specs.Prelude.{All, Contains}
 use Rattle.std.specs.Str.{bytes_eq}
 use Rattle.std.specs.List.{filter}
@@ -8,7 +8,7 @@ use Rattle.std.proofs.lemmas.List.Elements.{All-filter, All-map, All-contains, A
 use Rattle.std.proofs.lemmas.List.Elements.{All-nil, All-weaker}
 use Rattle.std.proofs.lemmas.List.{length-map}
 use Rattle.std.proofs.lemmas.List.Sums.{sum-map, sum_by-le, length-filter, count_by-le-length}
-use Rattle.vab_names.specs.Names.{in_slot, is_of_slot, is_store, store_of}
+use Rattle.vab_names.specs.Names.{in_slot, is_of_slot, is_store, store_of, most_partitions}
 use Rattle.vab_space.specs.declared.Want.{Want}
 use Rattle.vab_space.specs.Space.{used_of, growth_of}
 use Rattle.vab_tables.specs.Rules.{cap_of, IsDevice}
@@ -32,11 +32,11 @@ pub few_kept : (p : Part → Bool) (parts : List Part) → length (filter p part
 few_kept p parts = omega (arith, length-filter p parts, count_by-le-length p parts)
 
 pub sum_small : (f : Part → ℕ) (parts : List Part) → All (λ p. f p ≤ 2 ^ 28) parts
-    → length parts ≤ 32 → sum (map f parts) ≤ 2 ^ 33
+    → length parts ≤ most_partitions → sum (map f parts) ≤ 2 ^ 34
 sum_small f parts small few = omega (arith, sum-map f parts, sum_by-le f (2 ^ 28) parts small, few)
 
 pub own_small : (slot : ℕ) (parts : List Part) → IsOwn slot parts
-    → sum (map (λ p. length p.blocks) (own_parts slot parts)) ≤ 2 ^ 33
+    → sum (map (λ p. length p.blocks) (own_parts slot parts)) ≤ 2 ^ 34
 own_small slot parts own =
     sum_small (λ p. length p.blocks) (own_parts slot parts)
     (All-weaker (IsOwnPart slot) (λ p. length p.blocks ≤ 2 ^ 28) (λ p h. h.size)
@@ -47,7 +47,7 @@ either_small true m n k hm hn = hm
 either_small false m n k hm hn = hn
 
 pub group_small : (slot : ℕ) (parts : List Part) (group name : List ℕ) (n : ℕ) → IsOwn slot parts
-    → n ≤ 2 ^ 28 → sum (sizes_in group name n (own_parts slot parts)) ≤ 2 ^ 33
+    → n ≤ 2 ^ 28 → sum (sizes_in group name n (own_parts slot parts)) ≤ 2 ^ 34
 group_small slot parts group name n own small =
     let f : Part → ℕ = λ p. cond (bytes_eq p.name name) n (length p.blocks) in
     let inside : List Part = filter (λ p. bytes_eq p.group group) (own_parts slot parts) in
@@ -100,7 +100,9 @@ store_small slot source target name update of = elim (named_cases (store_of name
       omega (arith, few, cap_small target.device update.target_rules.device, ap length r.3)
 ]
 
-pub used_small : (sizes : List ℕ) (wants : List Want) → sum sizes ≤ 2 ^ 33 → length wants ≤ 33
+pub used_small : (sizes : List ℕ) (wants : List Want)
+    → sum sizes ≤ 2 ^ 34
+    → length wants ≤ most_partitions + 1
     → All (λ w. w.blocks ≤ 2 ^ 28) wants → All (λ w. w.store ≤ 2 ^ 52) wants
     → used_of sizes wants < 2 ^ 63
 used_small sizes wants small few blocks stores =

@@ -11,7 +11,7 @@ use Rattle.std.proofs.lemmas.List.Elements.{filter-append, Contains-get_or, Cont
 use Rattle.std.proofs.lemmas.List.Elements.{Contains-append_right, Contains-append_cases}
 use Rattle.std.proofs.lemmas.List.Quantifiers.{all_pairs_push}
 use Rattle.std.proofs.lemmas.List.Sums.{sum_by_push}
-use Rattle.vab_names.specs.Names.{is_of_slot, is_store, store_of, default_name}
+use Rattle.vab_names.specs.Names.{is_of_slot, is_store, store_of, default_name, most_partitions}
 use Rattle.vab_space.specs.Space.{blocks_of}
 use Rattle.vab_tables.specs.declared.entries.Group.{Group}
 use Rattle.vab_tables.specs.Rules.{cap_of, IsGroup, is_shared, has_slot}
@@ -258,7 +258,8 @@ pieces_pushed own stores c once own-once apart =
 
 -- a target with a partition of the slot more
 target_pushed : (slot : ℕ) (source parts : List Part) (c : Part) → is_of_slot slot c.name ≡ true
-    → IsTarget slot source parts → IsOwnPart slot c → length (own_parts slot parts) < 32
+    → IsTarget slot source parts → IsOwnPart slot c
+    → length (own_parts slot parts) < most_partitions
     → IsTargetPart slot source (parts ++ c ∷ []) c → IsDistinct c.blocks
     → ((q : Part) → Contains (own_parts slot parts ++ store_parts slot parts) q
     → Apart q.blocks c.blocks) → IsTarget slot source (parts ++ c ∷ [])

@@ -19,7 +19,7 @@ use Rattle.std.proofs.lemmas.Nat.{and_assoc, and_le_l, or_lt}
 use Rattle.std.proofs.lemmas.Slice.Eq.{bytes_eq-Decides}
 use Rattle.vab_bytes.specs.Name.{is_name}
 use Rattle.vab_names.specs.Names.{is_of_slot, base_of, in_slot, is_store, store_of, default_name}
-use Rattle.vab_names.specs.Names.{store_group_name}
+use Rattle.vab_names.specs.Names.{store_group_name, most_partitions}
 use Rattle.vab_names.proofs.NameLaws.{of_slot_long, length-base_of, in_slot_is_name}
 use Rattle.vab_tables.specs.declared.entries.Group.{Group}
 use Rattle.vab_tables.specs.Rules.{cap_of, is_shared, has_slot, IsGroup, NamesDiffer}
@@ -593,7 +593,8 @@ imported_is_target source l lt rules own =
     All-filter (λ p. is_of_slot source p.name) (Contains l.parts) l.parts
     (All-contains_itself l.parts) in
     let Target : Part → Type 0 = IsTargetPart other l.parts all in
-    let few : length twins ≤ 32 = omega (arith, length-map mine (twin_part other), own.few) in
+    let few : length twins ≤ most_partitions =
+    omega (arith, length-map mine (twin_part other), own.few) in
     let both : own_parts other all ++ store_parts other all ≡ twins =
     ap (λ (s : List Part). own_parts other all ++ s) none ∙ append-nil (own_parts other all)
     ∙ is in
@@ -603,7 +604,7 @@ imported_is_target source l lt rules own =
         each = subst (λ (ps : List Part). All (IsOwnPart other) ps) (sym is)
             (All-map (IsOwnPart other) (twin_part other) mine
             (λ (k : ℕ) (d : Part) le. twin_is_own source _ (own.each k d le)));
-        few = subst (λ (ps : List Part). length ps ≤ 32) (sym is) few;
+        few = subst (λ (ps : List Part). length ps ≤ most_partitions) (sym is) few;
         once = subst (λ (ps : List Part). IsDistinct (blocks_of_parts ps)) (sym is) once;
       };
       each = subst (λ (ps : List Part). All Target ps) (sym is)
@@ -657,7 +658,7 @@ unfolding plain
 plain_is_own slot l own =
     let is = own_parts_again slot l.parts in record {
       each = subst (λ (ps : List Part). All (IsOwnPart slot) ps) (sym is) own.each;
-      few = subst (λ (ps : List Part). length ps ≤ 32) (sym is) own.few;
+      few = subst (λ (ps : List Part). length ps ≤ most_partitions) (sym is) own.few;
       once = subst (λ (ps : List Part). IsDistinct (blocks_of_parts ps)) (sym is) own.once;
     }
 

@@ -12,7 +12,7 @@ use Rattle.std.proofs.lemmas.List.Elements.{All-contains, All-push, filter-appen
 use Rattle.std.proofs.lemmas.List.Elements.{Contains-append_left, Contains-append_right}
 use Rattle.std.proofs.lemmas.List.Folds.{list_any_at, Any-from_list_any}
 use Rattle.std.proofs.lemmas.List.Quantifiers.{all_pairs_push}
-use Rattle.vab_names.specs.Names.{is_of_slot, base_of, in_slot, store_of}
+use Rattle.vab_names.specs.Names.{is_of_slot, base_of, in_slot, store_of, most_partitions}
 use Rattle.vab_blocks.proofs.BlockLaws.{is_free, free_ascends}
 use Rattle.vab_tables.specs.declared.entries.Group.{Group}
 use Rattle.vab_tables.specs.Rules.{cap_of, IsGroup, NamesDiffer}
@@ -236,7 +236,7 @@ before_not_store slot source target name s b update inside c d =
 -- ---- a target
 
 pub target_made : (slot : ℕ) (source parts : List Part)
-    → All (IsOwnPart slot) (own_parts slot parts) → length (own_parts slot parts) ≤ 32
+    → All (IsOwnPart slot) (own_parts slot parts) → length (own_parts slot parts) ≤ most_partitions
     → All (IsTargetPart slot source parts) (own_parts slot parts)
     → All (IsStorePart slot source parts) (store_parts slot parts)
     → IsDistinct (blocks_of_parts (own_parts slot parts ++ store_parts slot parts))

@@ -22,3 +22,4 @@ pub mod ResizeKeeps
 pub mod StoreKeeps
 pub mod ChangeKeeps
 pub mod AskedLaws
+pub mod LimitLaws

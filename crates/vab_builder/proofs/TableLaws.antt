@@ -13,7 +13,7 @@ use Rattle.vab_tables.specs.declared.entries.BlockDevice.{BlockDevice}
 use Rattle.vab_tables.specs.declared.table.Table.{Table}
 use Rattle.vab_tables.specs.Rules.{KeepsRules, IsPartition}
 use Rattle.vab_tables.specs.Spelling.{table_size_of}
-use Rattle.vab_names.specs.Names.{base_of, default_name, is_of_slot}
+use Rattle.vab_names.specs.Names.{base_of, default_name, is_of_slot, most_partitions}
 use Rattle.vab_layout.specs.declared.layout.Part.{Part}
 use Rattle.vab_layout.specs.declared.layout.Layout.{Layout}
 use Rattle.vab_blocks.specs.Runs.{runs_of}
@@ -111,7 +111,7 @@ plain_small slot t keeps small own =
     (λ p. length (runs_of p.blocks) ≤ length t.extents) l.parts (parts_runs t keeps) in
     let runs : sum_by (λ p. length (runs_of p.blocks)) mine ≤ length mine * length t.extents =
     sum_by-le (λ (p : Part). length (runs_of p.blocks)) (length t.extents) mine few in
-    let most : length mine * length t.extents ≤ 32 * length t.extents =
+    let most : length mine * length t.extents ≤ most_partitions * length t.extents =
     mul-le-mul_right (length t.extents) own.few in
     let is : sum_by (λ p. length (runs_of p.blocks)) (plain slot l).parts
     ≡ sum_by (λ p. length (runs_of p.blocks)) mine =

@@ -3,7 +3,7 @@ use Rattle.std.proofs.Common.{◌≡◌, ℕ, ◌+◌, ◌^◌, ◌<◌, ◌≤�
 use Rattle.std.proofs.Common.{length, refl, sym, ◌∙◌, inl, inr, Result, Ok, Err}
 use Rattle.std.specs.Prelude.{MatchResult}
 use Rattle.std.proofs.lemmas.Bool.{le-leb, lt-leb, lt-ltb, le-ltb, leb-true, ltb-true, not-true}
-use Rattle.vab_names.specs.Names.{is_full}
+use Rattle.vab_names.specs.Names.{is_full, most_partitions}
 use Rattle.vab_space.specs.Space.{blocks_of}
 use Rattle.vab_tables.specs.Rules.{cap_of}
 use Rattle.vab_layout.specs.declared.layout.Part.{Part}
@@ -75,7 +75,7 @@ created-exists slot source target name bytes full short there =
 
 pub created-too_many : (slot : ℕ) (source target : Layout) (name : List ℕ) (bytes : ℕ)
     → is_full slot name ≡ true → bytes ≤ 2 ^ 40 → has_part name target.parts ≡ false
-    → 32 ≤ length (own_parts slot target.parts)
+    → most_partitions ≤ length (own_parts slot target.parts)
     → created slot source target name bytes
     ≡ Err (TooMany (length (own_parts slot target.parts) + 1))
 unfolding created
@@ -83,13 +83,13 @@ created-too_many slot source target name bytes full short absent many =
     let size : leb bytes (2 ^ 40) ≡ true = le-leb bytes (2 ^ 40) short in
     let known : has_part name (own_parts slot target.parts) ≡ false =
     has_own slot name target.parts (full_slot slot name full) ∙ absent in
-    let few : ltb (length (own_parts slot target.parts)) 32 ≡ false =
-    le-ltb (length (own_parts slot target.parts)) 32 many in
+    let few : ltb (length (own_parts slot target.parts)) most_partitions ≡ false =
+    le-ltb (length (own_parts slot target.parts)) most_partitions many in
     rw (full, size, known, few) refl
 
 pub created-group_limit : (slot : ℕ) (source target : Layout) (name : List ℕ) (bytes sum limit : ℕ)
     → is_full slot name ≡ true → bytes ≤ 2 ^ 40 → has_part name target.parts ≡ false
-    → length (own_parts slot target.parts) < 32
+    → length (own_parts slot target.parts) < most_partitions
     → sum ≡ created_group_sum slot target name (blocks_of bytes)
     → limit ≡ created_group_limit slot target → is_within sum limit ≡ false
     → created slot source target name bytes ≡ Err (GroupLimit sum limit)
@@ -99,15 +99,15 @@ created-group_limit slot source target name bytes sum limit full short absent sm
     let size : leb bytes (2 ^ 40) ≡ true = le-leb bytes (2 ^ 40) short in
     let known : has_part name (own_parts slot target.parts) ≡ false =
     has_own slot name target.parts (full_slot slot name full) ∙ absent in
-    let few : ltb (length (own_parts slot target.parts)) 32 ≡ true =
-    lt-ltb (length (own_parts slot target.parts)) 32 small in
+    let few : ltb (length (own_parts slot target.parts)) most_partitions ≡ true =
+    lt-ltb (length (own_parts slot target.parts)) most_partitions small in
     let over : is_within (created_group_sum slot target name (blocks_of bytes))
     (created_group_limit slot target) ≡ false = rw (← sum-is, ← limit-is) outside in
     rw (sum-is, limit-is) (rw (full, size, known, few, over) refl)
 
 pub created-no_room : (slot : ℕ) (source target : Layout) (name : List ℕ) (bytes used cap : ℕ)
     → is_full slot name ≡ true → bytes ≤ 2 ^ 40 → has_part name target.parts ≡ false
-    → length (own_parts slot target.parts) < 32
+    → length (own_parts slot target.parts) < most_partitions
     → is_within (created_group_sum slot target name (blocks_of bytes))
     (created_group_limit slot target) ≡ true
     → used ≡ created_in_use slot source target name (blocks_of bytes) → cap ≡ cap_of target.device
@@ -118,8 +118,8 @@ created-no_room slot source target name bytes used cap full short absent small w
     let size : leb bytes (2 ^ 40) ≡ true = le-leb bytes (2 ^ 40) short in
     let known : has_part name (own_parts slot target.parts) ≡ false =
     has_own slot name target.parts (full_slot slot name full) ∙ absent in
-    let few : ltb (length (own_parts slot target.parts)) 32 ≡ true =
-    lt-ltb (length (own_parts slot target.parts)) 32 small in
+    let few : ltb (length (own_parts slot target.parts)) most_partitions ≡ true =
+    lt-ltb (length (own_parts slot target.parts)) most_partitions small in
     let more : cap_of target.device < created_in_use slot source target name (blocks_of bytes) =
     rw (← used-is, ← cap-is) over in
     let room : leb (created_in_use slot source target name (blocks_of bytes)) (cap_of target.device)
@@ -138,8 +138,8 @@ created-ok slot source target name bytes h =
     let size : leb bytes (2 ^ 40) ≡ true = le-leb bytes (2 ^ 40) h.size in
     let known : has_part name (own_parts slot target.parts) ≡ false =
     has_own slot name target.parts (full_slot slot name full) ∙ h.absent in
-    let few : ltb (length (own_parts slot target.parts)) 32 ≡ true =
-    lt-ltb (length (own_parts slot target.parts)) 32 h.few in
+    let few : ltb (length (own_parts slot target.parts)) most_partitions ≡ true =
+    lt-ltb (length (own_parts slot target.parts)) most_partitions h.few in
     let within = h.within in
     let room : leb (created_in_use slot source target name (blocks_of bytes)) (cap_of target.device)
     ≡ true =
@@ -168,7 +168,7 @@ created_passes slot source target name bytes l h =
         size = leb-true bytes (2 ^ 40) b.0;
         absent = sym (has_own slot name target.parts (full_slot slot name a.0))
             ∙ not-true (has_part name own) c.0;
-        few = ltb-true (length own) 32 d.0;
+        few = ltb-true (length own) most_partitions d.0;
         within = e.0;
         room = leb-true (created_in_use slot source target name (blocks_of bytes))
             (cap_of target.device) f.0;

@@ -5,6 +5,7 @@ use Rattle.std.specs.Prelude.{drop, Result, Ok, Err}
 use Rattle.std.specs.List.{filter, list_any}
 use Rattle.std.specs.Str.{bytes_eq}
 use Rattle.vab_names.specs.Names.{is_full, store_of, default_name, store_group_name}
+use Rattle.vab_names.specs.Names.{most_partitions}
 use Rattle.vab_space.specs.Space.{need_of, blocks_of, group_sum_of}
 use Rattle.vab_tables.specs.declared.entries.Group.{Group}
 use Rattle.vab_tables.specs.Rules.{cap_of}
@@ -179,7 +180,7 @@ created slot source target name bytes =
     unless (is_full slot name) BadName
     (unless (nat_le bytes (2 ^ 40)) BadSize
     (unless (not (is_known slot target name)) Exists
-    (unless (nat_lt (length own) 32) (TooMany (length own + 1))
+    (unless (nat_lt (length own) most_partitions) (TooMany (length own + 1))
     (unless (is_within sum (limit_of target.groups group))
     (GroupLimit sum (limit_of target.groups group))
     (unless (nat_le used (cap_of target.device)) (NoRoom used (cap_of target.device))

@@ -1,7 +1,7 @@
 -- What stands where an edit passes all of its tests.
 use Rattle.std.specs.Prelude.{◌≡◌, ℕ, ◌^◌, ◌<◌, ◌≤◌, Bool, true, false, ◌&&◌, ◌||◌, ◌==◌, nat_le}
 use Rattle.std.specs.Prelude.{nat_lt, List, [], ◌∷◌, ◌++◌, length}
-use Rattle.vab_names.specs.Names.{is_full, store_of}
+use Rattle.vab_names.specs.Names.{is_full, store_of, most_partitions}
 use Rattle.vab_space.specs.Space.{blocks_of, group_sum_of}
 use Rattle.vab_tables.specs.Rules.{cap_of}
 use Rattle.vab_layout.specs.declared.layout.Layout.{Layout}
@@ -37,7 +37,7 @@ pub record IsCreated (slot : ℕ) (source target : Layout) (name : List ℕ) (by
   pub full : is_full slot name ≡ true
   pub size : bytes ≤ 2 ^ 40
   pub absent : has_part name target.parts ≡ false
-  pub few : length (own_parts slot target.parts) < 32
+  pub few : length (own_parts slot target.parts) < most_partitions
   pub within : is_within (created_group_sum slot target name (blocks_of bytes))
       (created_group_limit slot target) ≡ true
   pub room : created_in_use slot source target name (blocks_of bytes) ≤ cap_of target.device

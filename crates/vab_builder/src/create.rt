@@ -20,12 +20,12 @@ use std::alloc::Global;
 use vab_blocks::Blocks;
 use vab_bytes::{Listing, Name36};
 use vab_layout::{Layout, Part};
-use vab_names::default_group;
+use vab_names::{MAX_PARTITIONS, default_group};
 use vab_space::{blocks, fits};
 use vab_tables::{Group, NoMemory};
 
 /// The most partitions of a slot.
-const MAX_PARTS: u64 = 32;
+const MAX_PARTS: u64 = MAX_PARTITIONS as u64;
 
 /// Read-only and updated.
 const ATTRIBUTES: u32 = 5;

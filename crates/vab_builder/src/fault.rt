@@ -18,7 +18,7 @@ pub enum EditFault {
     Exists,
     /// The partition has a store.
     HasStore,
-    /// The target would have so many partitions, more than 32.
+    /// The target would have so many partitions, more than a slot may have.
     TooMany(u64),
     /// The partitions of its group would have so many bytes, more than the group's limit.
     GroupLimit(u64, u64),

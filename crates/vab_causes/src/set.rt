@@ -7,7 +7,7 @@ use vab_set::SetFault;
 fn write_fault<W: fmt::Write>(f: &mut fmt::Formatter<W>, fault: &SetFault) -> fmt::Result {
     match fault {
         SetFault::BadMagic => write!(f, "it doesn't begin as a set of images does"),
-        SetFault::TooMany(count) => write!(f, "a set of {count} images, and 32 are the most"),
+        SetFault::TooMany(count) => write!(f, "a set of {count} images, and 64 are the most"),
         SetFault::BadName(image) => write!(
             f,
             "image {}: the name isn't 1 to 30 of A-Z a-z 0-9 _ .",

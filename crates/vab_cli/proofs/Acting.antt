@@ -19,9 +19,11 @@ use Rattle.vab_device.specs.Mounted.{Mounted, count_at, mounted_on}
 use Rattle.vab_device.specs.Reading.{IsIn, Represents}
 use Rattle.vab_device.specs.Updates.{effect_on}
 use Rattle.vab_device.proofs.ReadingLaws.{device_stands}
+use Rattle.vab_commands.specs.Copies.{HasBothCopies}
 use Rattle.vab_commands.specs.Touched.{ChangesAll}
 use Rattle.vab_commands.specs.Writes.{IsOfCommand}
 use Rattle.vab_commands.proofs.ChangeLaws.{command_changes_all}
+use Rattle.vab_commands.proofs.CopiesLaws.{both_copies, copies_stay}
 use Rattle.vab_exchanges.specs.Items.{Item, joined}
 use Rattle.vab_model.specs.Effects.{IsOneOf}
 use Rattle.vab_exchanges.specs.Runs.{LeavesItem}
@@ -98,6 +100,7 @@ module _ {D : Type 0} (g : Ghosts D) (d : Device) (item : Item Mounted) (ends : 
     pub geometry : IfOk r (λ next. next.geometry ≡ d.geometry)
     pub represents : g.is_modelled
         → IfOk r (λ next. Represents next (g.size old) (g.seen new))
+    pub copies : g.is_modelled → Held (status_in r) → HasBothCopies (g.size old) (g.seen new)
     pub ends_so : g.is_modelled → OnOk (told_by r) (status_in r ≡ ends)
     pub does : g.is_modelled → DoesItem g (g.size old) item old new (told_by r)
     pub short : g.is_modelled → IsErrOf r NoMemory → LeavesShort g (g.size old) item old new
@@ -114,6 +117,7 @@ module _ {D : Type 0} (g : Ghosts D) (d : Device) (item : Item Mounted) (ends : 
     kept = a.kept;
     geometry = a.geometry;
     represents = a.represents;
+    copies = a.copies;
     ends = a.ends_so;
     told = λ t.
         told_map r _ _
@@ -482,6 +486,7 @@ module _ {D : Type 0} (g : Ghosts D) (d : Device) (c : Command) (verb : IsVerb c
         kept = tt;
         geometry = tt;
         represents = λ t. tt;
+        copies = λ t held. absurd held;
         ends_so = λ t. tt;
         does = λ t.
             command_fails g (g.size old) d c verb W m (line_behind front m c) some old mid refl
@@ -538,6 +543,7 @@ module _ {D : Type 0} (g : Ghosts D) (d : Device) (c : Command) (verb : IsVerb c
           kept = tt;
           geometry = tt;
           represents = λ t. tt;
+          copies = λ t held. absurd held;
           ends_so = λ t. tt;
           does = λ t. doing t (Err Port) (says t);
           short = λ t memory. cc;
@@ -568,6 +574,9 @@ module _ {D : Type 0} (g : Ghosts D) (d : Device) (c : Command) (verb : IsVerb c
               closed_ok d' reply (λ x. Represents x (g.size old) (g.seen new))
               (subst (λ (i : Image). Represents d' (g.size old) i) (sym (seen t))
               (done.represents t));
+          copies = λ t held.
+              copies_stay (g.size old) (g.seen mid) (g.seen new) (seen t)
+              (both_copies d' (g.size old) (g.seen mid) (done.represents t));
           ends_so = λ t.
               subst
               (λ (r : Result Status Status). OnOk r (status_in (closed_by d' reply) ≡ status))

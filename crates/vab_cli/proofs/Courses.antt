@@ -19,6 +19,8 @@ use Rattle.vab_device.specs.Mounted.{Mounted, mounted_on}
 use Rattle.vab_device.specs.Reading.{IsIn, Represents}
 use Rattle.vab_device.proofs.ReadingLaws.{device_stands}
 use Rattle.vab_model.specs.Effects.{IsOneOf}
+use Rattle.vab_commands.specs.Copies.{HasBothCopies}
+use Rattle.vab_commands.proofs.CopiesLaws.{both_copies}
 use Rattle.vab_commands.proofs.ChangeLaws.{all_then}
 use Rattle.vab_exchanges.specs.Items.{Item, joined}
 use Rattle.vab_exchanges.specs.Runs.{LeavesItem}
@@ -366,6 +368,7 @@ module _ {D : Type 0} (g : Ghosts D) (d : Device) where
     kept = p.kept;
     geometry = p.geometry;
     represents = p.represents;
+    copies = p.copies;
     ends = λ t.
         subst (λ (x : Course). OnOk (told_by r) (status_in r ≡ x.ends)) (same t) (p.ends t);
     told = λ t.
@@ -408,6 +411,7 @@ module _ {D : Type 0} (g : Ghosts D) (d : Device) where
         kept = tt;
         geometry = tt;
         represents = λ t. tt;
+        copies = p.copies;
         ends = λ t. refused_same e xs ys m (λ c. e ≡ c.ends) (p.ends t) (p.ends t);
         told = λ t.
             refused_same e xs ys m (λ c. g.told new ≡ g.told old ++ joined c.items) (p.ends t)
@@ -481,6 +485,8 @@ module _ {D : Type 0} (g : Ghosts D) (d next : Device) (xs ys : List Act) (old m
     represents = λ t.
         ok_map r _ _ (λ x is. subst (λ (k : ℕ). Represents x k (g.seen new)) sized is)
         (second.represents t);
+    copies = λ t held.
+        subst (λ (k : ℕ). HasBothCopies k (g.seen new)) sized (second.copies t held);
     ends = λ t.
         told_map r _ _ (λ is. is ∙ ap (λ (x : Course). x.ends) (sym (both_is t)))
         (second.ends t);
@@ -544,6 +550,7 @@ performs_none g d old kept is = record {
   kept = kept;
   geometry = refl;
   represents = is;
+  copies = λ t held. both_copies d (g.size old) (g.seen old) (is t);
   ends = λ t. refl;
   told = λ t. sym (append-nil (g.told old));
   stands = λ t. device_stands d (g.size old) (g.seen old) (is t);

@@ -12,7 +12,8 @@ use Rattle.vab_disk.proofs.CallLaws.{reads_none}
 use Rattle.vab_set.specs.declared.set.SetImage.{SetImage}
 use Rattle.vab_device.specs.declared.device.Device.{Device}
 use Rattle.vab_device.specs.Mounted.{Mounted, mounted_on}
-use Rattle.vab_device.specs.Reading.{IsIn, Represents}
+use Rattle.vab_device.specs.Reading.{IsIn, Represents, version_at}
+use Rattle.vab_marks.specs.declared.version.MarkVersion.TheVariants.{Two}
 use Rattle.vab_model.specs.Effects.{IsOneOf}
 use Rattle.vab_model.specs.Commands.{Boot, Mark, Digest, BeginMerge, Merge}
 use Rattle.vab_make.specs.declared.fault.MakeFault.{MakeFault}
@@ -250,6 +251,7 @@ module _ {D : Type 0}
       (gives : Gives {A = Unit {0}} (Ok tt) (refusal_of set 0 65536 size))
       (makes : Makes mid)
       (made : g.is_modelled → IsMade set 0 65536 size (g.seen mid))
+      (version : g.is_modelled → version_at (g.seen mid) ≡ Two)
       (rest : g.is_modelled → IsAtRest g mid)
       (making : g.is_modelled → Making mid) where
     not_refused : {R : Type 0} (fault : MakeFault) → refusal_of set 0 65536 size ≡ Some fault → R
@@ -299,7 +301,8 @@ module _ {D : Type 0}
       refused = λ t fault is. not_refused fault is;
       touches = λ t.
           making_fresh g set size IsOfAll old now
-          (made_opened g set size old mid now (made t) (changes_touches g _ old mid makes)
+          (made_opened g set size old mid now (made t) (version t)
+          (changes_touches g _ old mid makes)
           (opens_there now (opens t)));
       quiet = λ t. record {
         left = (quiet_there t now (opens t)).left ∙ makes.quiet.left t;
@@ -408,7 +411,8 @@ module _ {D : Type 0}
         });
         refused = λ t fault is. not_refused fault is;
         touches = λ t.
-            made_served g set size IsOfAll old mid new (made t) (changes_touches g _ old mid makes)
+            made_served g set size IsOfAll old mid new (made t) (version t)
+            (changes_touches g _ old mid makes)
             (served_changes g size IsOfAll d mid now new t (represents t)
             (opens_there now (opens t))
             (lived.changes t));

@@ -21,7 +21,8 @@ use Rattle.vab_device.specs.declared.device.Device.{Device}
 use Rattle.vab_device.specs.Mounted.{Mounted, state_on, mounted_on, table_placed}
 use Rattle.vab_marks.specs.declared.mark.MarkPhase.TheVariants as marks
 use Rattle.vab_device.specs.Phases.{Phase, phase_at}
-use Rattle.vab_device.specs.Reading.{Read, Reads, kept, table_for}
+use Rattle.vab_device.specs.Reading.{Read, Reads, kept, table_for, version_at}
+use Rattle.vab_marks.specs.declared.version.MarkVersion.TheVariants.{One, Two}
 use Rattle.vab_device.proofs.ReadingLaws.{idle_at, idle_read_of, device_of}
 use Rattle.vab_recover.specs.Opening.{IsOfOpening}
 use Rattle.vab_recover.specs.Repairs.{IsRepair, IsOneOf}
@@ -70,7 +71,8 @@ of_flags true false g slot text s bytes w = inr (inl w)
 of_flags true true g slot text s bytes w = absurd w
 
 module _ (set : List SetImage) (size : ℕ) (image : Image)
-    (made : IsMade set 0 65536 size image) where
+    (made : IsMade set 0 65536 size image)
+    (version : version_at image ≡ Two) where
   module _ (r : Read) (reads : Reads size r image) where
     is : mounted_on (kept r) image ≡ made_device_of set 0 65536 size
     is = let both = sym (device_of size r image reads) ∙ made in cc
@@ -155,7 +157,8 @@ module _ (set : List SetImage) (size : ℕ) (image : Image)
 
   -- what opening may write is of them, or of the mark
   opening_made : (s : ℕ) (bytes : List ℕ) → IsOfOpening size image s bytes → IsOfMaking set 65536 s
-  opening_made s bytes (inl w) = repair_made s bytes w
+  opening_made s bytes (inl (inl w)) = repair_made s bytes w
+  opening_made s bytes (inl (inr w)) = absurd (let no : One ≡ Two = sym w.old ∙ version in cc)
   opening_made s bytes (inr w) =
       let of = geometry w.read w.reads in
       ⊎_elim
@@ -174,13 +177,14 @@ module _ {D : Type 0} (g : Ghosts D) (set : List SetImage) (size : ℕ) where
 
   pub made_opened : (old mid new : D)
       → IsMade set 0 65536 size (g.seen mid)
+      → version_at (g.seen mid) ≡ Two
       → Changes g Fresh old mid
       → Changes g (IsOfOpening size (g.seen mid)) mid new
       → Changes g Fresh old new
-  made_opened old mid new made makes opens =
+  made_opened old mid new made version makes opens =
       changes_then g Fresh old mid new makes
       (changes_wider g Fresh (IsOfOpening size (g.seen mid)) mid new opens
-      (opening_made set size (g.seen mid) made))
+      (opening_made set size (g.seen mid) made version))
 
   module _ (W : Device → List ℕ → ℕ → List ℕ → Type 0) where
     pub making_fresh : (old new : D) → Changes g Fresh old new
@@ -190,14 +194,15 @@ module _ {D : Type 0} (g : Ghosts D) (set : List SetImage) (size : ℕ) where
 
     pub made_served : (old mid new : D)
         → IsMade set 0 65536 size (g.seen mid)
+        → version_at (g.seen mid) ≡ Two
         → Changes g Fresh old mid
         → Changes g (IsOfServing W size (g.seen mid)) mid new
         → Changes g (IsOfMade set W size) old new
-    made_served old mid new made makes serves =
+    made_served old mid new made version makes serves =
         changes_then g (IsOfMade set W size) old mid new (making_fresh old mid makes)
         (changes_wider g (IsOfMade set W size) (IsOfServing W size (g.seen mid)) mid new serves
         (λ s x w.
         ⊎_elim {C = IsOfMade set W size s x}
-        (λ opens. inl (opening_made set size (g.seen mid) made s x opens))
+        (λ opens. inl (opening_made set size (g.seen mid) made version s x opens))
         (λ served. inr (record { made = g.seen mid; is = made; serves = served }))
         w))

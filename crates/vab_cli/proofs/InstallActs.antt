@@ -22,6 +22,7 @@ use Rattle.vab_update.specs.Install.{install_orders}
 use Rattle.vab_cli.specs.declared.status.Status.{Status}
 use Rattle.vab_cli.specs.declared.status.Status.TheVariants.{Done, Refused, Disk, Port, NoMemory}
 use Rattle.vab_cli.specs.Acts.{Performs, PerformsActs, install_act}
+use Rattle.vab_commands.proofs.CopiesLaws.{copies_stay}
 use Rattle.vab_cli.specs.Counts.{HearsNothing}
 use Rattle.vab_cli.specs.Installing.{install_item, install_status, install_told}
 use Rattle.vab_cli.specs.Telling.{Says}
@@ -66,6 +67,7 @@ module _ {D : Type 0} (g : Ghosts D) (d : Device) (set : List SetImage) (old mid
         kept = tt;
         geometry = tt;
         represents = λ t. tt;
+        copies = λ t held. absurd held;
         ends_so = λ t. tt;
         does = λ t.
             install_fails g t (g.size old) d set old mid refl m (represents t) (here t)
@@ -89,6 +91,7 @@ module _ {D : Type 0} (g : Ghosts D) (d : Device) (set : List SetImage) (old mid
         kept = tt;
         geometry = tt;
         represents = λ t. tt;
+        copies = λ t held. carries.copies t;
         ends_so = λ t. tt;
         does = λ t.
             install_fails g t (g.size old) d set old mid refl m (represents t) (here t)
@@ -140,6 +143,9 @@ module _ {D : Type 0} (g : Ghosts D) (d : Device) (set : List SetImage) (old mid
             kept = tt;
             geometry = tt;
             represents = λ t. tt;
+            copies = λ t held.
+                copies_stay (g.size old) (g.seen mid) (g.seen new)
+                (let told = says t in told.seen) (carries.copies t);
             ends_so = λ t.
                 refused_status g t (g.size old) d set old mid refl m (represents t) (here t)
                 refusal other carries;
@@ -170,6 +176,7 @@ module _ {D : Type 0} (g : Ghosts D) (d : Device) (set : List SetImage) (old mid
             kept = tt;
             geometry = tt;
             represents = λ t. tt;
+            copies = λ t held. absurd held;
             ends_so = λ t. tt;
             does = λ t.
                 install_refused g t (g.size old) d set old mid refl m (represents t) (here t)
@@ -204,6 +211,8 @@ module _ {D : Type 0} (g : Ghosts D) (d : Device) (set : List SetImage) (old mid
             represents = λ t.
                 subst (λ (i : Image). Represents next (g.size old) i) (sym (seen t))
                 (carries.represents t);
+            copies = λ t held.
+                copies_stay (g.size old) (g.seen mid) (g.seen new) (seen t) (carries.copies t);
             ends_so = λ t.
                 done_status g t (g.size old) d set old mid refl m (represents t) (here t) next
                 carries;
@@ -234,6 +243,7 @@ module _ {D : Type 0} (g : Ghosts D) (d : Device) (set : List SetImage) (old mid
             kept = tt;
             geometry = tt;
             represents = λ t. tt;
+            copies = λ t held. absurd held;
             ends_so = λ t. tt;
             does = λ t.
                 install_does g t (g.size old) d set old mid refl m (represents t) (here t) next

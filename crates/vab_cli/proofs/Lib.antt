@@ -1,6 +1,7 @@
 mod Acting
 mod Blocks
 mod Causing
+mod CopiesLeft
 mod Courses
 mod Demos
 mod FreshTouching
@@ -16,3 +17,4 @@ mod Running
 mod Saying
 mod Sessions
 mod Touching
+mod Writing

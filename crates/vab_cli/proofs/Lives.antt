@@ -9,6 +9,7 @@ use Rattle.vab_device.specs.Kept.{IsDevice}
 use Rattle.vab_device.specs.Mounted.{Mounted, mounted_on}
 use Rattle.vab_device.specs.Reading.{IsIn, Represents}
 use Rattle.vab_device.proofs.ReadingLaws.{device_stands}
+use Rattle.vab_commands.proofs.CopiesLaws.{both_copies, copies_stay}
 use Rattle.vab_cli.specs.declared.status.Status.{Status}
 use Rattle.vab_cli.specs.declared.status.Status.TheVariants.{Done, Port}
 use Rattle.vab_cli.specs.Acts.{Performs, PerformsActs, line_act}
@@ -78,6 +79,10 @@ module _ {D : Type 0} (g : Ghosts D) (d : Device) (line : List ℕ) (old new : D
         represents = λ t.
             subst (λ (i : Image). Represents d (g.size old) i)
             (sym ((let told = tells t in told.seen))) (represents t);
+        copies = λ t held.
+            copies_stay (g.size old) (g.seen old) (g.seen new)
+            (let told = tells t in told.seen)
+            (both_copies d (g.size old) (g.seen old) (represents t));
         ends_so = λ t. refl;
         does = λ t.
             does_line g (g.size old) m line old new (Ok Done) (here t)
@@ -105,6 +110,7 @@ module _ {D : Type 0} (g : Ghosts D) (d : Device) (line : List ℕ) (old new : D
         kept = tt;
         geometry = tt;
         represents = λ t. tt;
+        copies = λ t held. absurd held;
         ends_so = λ t. tt;
         does = λ t.
             does_line g (g.size old) m line old new (Err Port) (here t) (part status (tells t));

@@ -2,7 +2,7 @@
 use Rattle.std.proofs.Common.{◌≡◌, ◌≢◌, ◌⊎◌, ◌∙◌, inl, inr, ⊎_elim, ◌≤◌, ◌<◌, ◌^◌, ◌++◌, ℕ, List}
 use Rattle.std.proofs.Common.{[], length}
 use Rattle.std.proofs.Common.{◌∷◌, zero, suc, Bool, Option, drop, true, false, None, Some, Ok, Err}
-use Rattle.std.proofs.Common.{refl, sym, ap, subst}
+use Rattle.std.proofs.Common.{refl, sym, ap, subst, take}
 use Rattle.vab_disk.specs.declared.disk.Disk.{Ghosts}
 use Rattle.vab_disk.specs.Disk.{Outcome, Rose}
 use Rattle.vab_disk.specs.Calls.{IsAtRest, Changes, InSectors}
@@ -30,10 +30,16 @@ use Rattle.vab_session.specs.Alone.{IsAlone, StandsAlone}
 use Rattle.vab_session.specs.Merges.{MergesNothing}
 use Rattle.vab_session.proofs.AloneLaws.{AreAlone, one, more, last_alone, stands_alone}
 use Rattle.vab_session.proofs.AloneLaws.{alone_effect}
+use Rattle.vab_session.proofs.SourceLaws as source
+use Rattle.vab_session.proofs.SourceLaws.{stands_kept}
+use Rattle.vab_session.proofs.UntilLaws as until
+use Rattle.vab_session.specs.Source.{HasKept, StandsKept, FindsMergedFrom}
+use Rattle.vab_model.specs.Effects.{IsOneOf}
 use Rattle.vab_cli.specs.declared.status.Status.{Status}
 use Rattle.vab_cli.specs.declared.status.Status.TheVariants.{Done, Usage, Malformed, NotADevice}
 use Rattle.vab_cli.specs.declared.status.Status.TheVariants.{Disk, Port, NoMemory}
 use Rattle.vab_cli.specs.Codes.{make_status}
+use Rattle.vab_cli.specs.Copies.{LeavesCopies}
 use Rattle.vab_cli.specs.Acts.{Course, RunsActs}
 use Rattle.vab_cli.specs.Demo.{DemonstratesOf}
 use Rattle.vab_input.specs.HearsToEnd.{HearsWithin}
@@ -47,6 +53,7 @@ use Rattle.vab_cli.specs.Runs.{RunsNone, RunsRefused, RunsMaking, FailsMaking}
 use Rattle.vab_cli.specs.Touched.{IsOfVerb, IsOfServing, IsOfFresh}
 use Rattle.vab_cli.specs.Verbs.{command_of, none_line, verb_item, verb_status, make_line}
 use Rattle.vab_cli.specs.Verbs.{done_making}
+use Rattle.vab_cli.specs.Written.{WritesServed}
 use Rattle.vab_cli.proofs.Running.{item_told}
 use Rattle.vab_cli.proofs.Sessions.{completed}
 
@@ -106,6 +113,19 @@ steps_alone s c slot images other is (suc n) =
     (last_alone slot images s (effect_on s None c).later is
     (alone_effect slot images s None c other is))
 
+item_keeps : (s : Mounted) (c : Command) (slot : ℕ) (images : List ImageOfSlot) (n : ℕ)
+    (x : Mounted)
+    → HasKept slot images s
+    → IsOneOf (steps_at s (verb_item s c ∷ []) n) x
+    → HasKept slot images x ⊎ FindsMergedFrom slot (verb_item s c).steps
+item_keeps s c slot images n x is at =
+    until.item_step (source.Merged slot images) (source.Stands slot images)
+    (source.apart slot images) s (verb_item s c) n x
+    (until.item_makes (source.Merged slot images) (source.Stands slot images)
+    (source.apart slot images) s (verb_item s c) (effect_on s None c).later refl refl is
+    (source.command_makes slot images s None c is))
+    at
+
 module _ {D : Type 0}
     (g : Ghosts D)
     (m : Meaning)
@@ -161,6 +181,28 @@ module _ {D : Type 0}
   cut_alone c s slot images o (inr fails) other is rest at =
       stands_alone slot images (g.size old) o.image s (fails.every_cut rest o at).stands is
 
+  -- the images of a slot that is gone back to
+  cut_kept : (c : Command) (s : Mounted) (slot : ℕ) (images : List ImageOfSlot) (o : Outcome)
+      → RunsItem g (g.size old) s (verb_item s c) (verb_status s c) old new status
+      ⊎ FailsBefore g (g.size old) s old new status
+      → HasKept slot images s
+      → IsAtRest g old
+      → g.outcomes new (g.moment old) o
+      → StandsKept (g.size old) slot images o.image
+      ⊎ FindsMergedFrom slot (verb_item s c).steps
+  cut_kept c s slot images o (inl runs) is rest at =
+      let crash = ⊎_elim (λ within. within) (λ none. absurd none)
+      ((let items = runs.items in items.every_cut) rest o at) in
+      elim
+      (item_keeps s c slot images (acknowledged (verb_item s c ∷ []) (drop 0 crash.since))
+      crash.step.0 is crash.step.1) [
+        | inl stands ↦
+            inl (stands_kept slot images (g.size old) o crash.step.0 crash.step.2 stands)
+        | inr found ↦ inr found
+      ]
+  cut_kept c s slot images o (inr fails) is rest at =
+      inl (stands_kept slot images (g.size old) o s (fails.every_cut rest o at).stands is)
+
   -- a verb that is a command on a device
   pub command_verb : (c : Command)
       → command_of m ≡ Some c
@@ -180,8 +222,9 @@ module _ {D : Type 0}
       → control_of (g.seen old 4) ≡ Ok boot
       → Changes g (IsOfVerb (g.size old) (g.seen old) s boot c) old new)
       → (g.is_modelled → HearsNothing g old new)
+      → LeavesCopies g m old new status
       → DoesVerb g m old new status
-  command_verb c some runs none touches quiet = record {
+  command_verb c some runs none touches quiet copies = record {
     item = λ t c' is s stands.
         let same : Some c ≡ Some c' = sym some ∙ is in
         let one : c ≡ c' = cc in
@@ -199,11 +242,21 @@ module _ {D : Type 0}
         one (touches t s stands boot there);
     alone = λ t c' is s stands rest slot images alone o at.
         cut_alone c s slot images o (runs t s stands) (ends_none m c some) alone rest at;
+    kept = λ t c' is s stands rest slot images kept o at.
+        let same : Some c ≡ Some c' = sym some ∙ is in
+        let one : c ≡ c' = cc in
+        subst
+        (λ (x : Command).
+        StandsKept (g.size old) slot images o.image
+        ⊎ FindsMergedFrom slot (verb_item s x).steps)
+        one (cut_kept c s slot images o (runs t s stands) kept rest at);
     quiet = λ t c' is. quiet t;
     serve = λ t is. is_command m (Serve false) c some is refl;
     none_served = λ t is. is_command m (Serve false) c some is refl;
+    unheard_served = λ t is. is_command m (Serve false) c some is refl;
     touches_served = λ t is. is_command m (Serve false) c some is refl;
     touches_unmerged = λ t is. is_command m (Serve false) c some is refl;
+    writes_served = λ t is. is_command m (Serve false) c some is refl;
     touches_fresh = λ t is. is_command m (Serve true) c some is refl;
     touches_fresh_unmerged = λ t is. is_command m (Serve true) c some is refl;
     fresh = λ t is. is_command m (Serve true) c some is refl;
@@ -219,6 +272,7 @@ module _ {D : Type 0}
     install = λ is. is_command m verbs.Install c some is refl;
     tells = λ is. is_command m verbs.Status c some is refl;
     demo = λ seed scale is. is_command m (Demo seed scale) c some is refl;
+    copies = copies;
     disk = disk;
     port = port;
     steady = steady;
@@ -259,17 +313,31 @@ module _ {D : Type 0}
       → IsIn (g.size old) s (g.seen old)
       → MergesNothing (2 ^ 44) (g.input_left old)
       → Changes g (IsOfServing IsOfCommands (g.size old) (g.seen old)) old new)
+      → LeavesCopies g m old new status
+      → (g.is_modelled
+      → (s : Mounted)
+      → IsIn (g.size old) s (g.seen old)
+      → WritesServed g (status ≡ Disk) (g.size old)
+      (drop 4 (take (2 ^ 44) (g.input_left old)))
+      old new)
+      → (g.is_modelled
+      → (fault : StartFault)
+      → device (g.size old) (g.seen old) ≡ Err fault
+      → HearsNothing g old new)
       → DoesVerb g m old new status
-  serve_verb is runs none touches unmerged = record {
+  serve_verb is runs none touches unmerged copies writes unheard = record {
     item = λ t c some. no_command m (Serve false) c is refl some;
     none = λ t c some. no_command m (Serve false) c is refl some;
     touches = λ t c some. no_command m (Serve false) c is refl some;
     alone = λ t c some. no_command m (Serve false) c is refl some;
+    kept = λ t c some. no_command m (Serve false) c is refl some;
     quiet = λ t c some. no_command m (Serve false) c is refl some;
     serve = λ t same. runs t;
     none_served = λ t same. none t;
+    unheard_served = λ t same. unheard t;
     touches_served = λ t same. touches t;
     touches_unmerged = λ t same. unmerged t;
+    writes_served = λ t same. writes t;
     touches_fresh = λ t other. let both = sym is ∙ other in cc;
     touches_fresh_unmerged = λ t other. let both = sym is ∙ other in cc;
     fresh = λ t other. let both = sym is ∙ other in cc;
@@ -285,6 +353,7 @@ module _ {D : Type 0}
     install = λ other. let both = sym is ∙ other in cc;
     tells = λ other. let both = sym is ∙ other in cc;
     demo = λ seed scale other. let both = sym is ∙ other in cc;
+    copies = copies;
     disk = disk;
     port = port;
     steady = steady;
@@ -315,17 +384,21 @@ module _ {D : Type 0}
       → (g.is_modelled
       → MergesNothing (2 ^ 44) (g.input_left old)
       → Changes g (IsOfFresh IsOfCommands (g.size old)) old new)
+      → LeavesCopies g m old new status
       → DoesVerb g m old new status
-  fresh_verb is runs small too_small touches unmerged = record {
+  fresh_verb is runs small too_small touches unmerged copies = record {
     item = λ t c some. no_command m (Serve true) c is refl some;
     none = λ t c some. no_command m (Serve true) c is refl some;
     touches = λ t c some. no_command m (Serve true) c is refl some;
     alone = λ t c some. no_command m (Serve true) c is refl some;
+    kept = λ t c some. no_command m (Serve true) c is refl some;
     quiet = λ t c some. no_command m (Serve true) c is refl some;
     serve = λ t other. let both = sym is ∙ other in cc;
     none_served = λ t other. let both = sym is ∙ other in cc;
+    unheard_served = λ t other. let both = sym is ∙ other in cc;
     touches_served = λ t other. let both = sym is ∙ other in cc;
     touches_unmerged = λ t other. let both = sym is ∙ other in cc;
+    writes_served = λ t other. let both = sym is ∙ other in cc;
     touches_fresh = λ t same. touches t;
     touches_fresh_unmerged = λ t same. unmerged t;
     fresh = λ t same. runs t;
@@ -341,6 +414,7 @@ module _ {D : Type 0}
     install = λ other. let both = sym is ∙ other in cc;
     tells = λ other. let both = sym is ∙ other in cc;
     demo = λ seed scale other. let both = sym is ∙ other in cc;
+    copies = copies;
     disk = disk;
     port = port;
     steady = steady;
@@ -382,17 +456,21 @@ module _ {D : Type 0}
       → (g.is_modelled → status ≡ Done → g.input_left new ≡ [])
       → (g.is_modelled → HearsUnless (g.input_left old) (g.heard old) (g.heard new) status)
       → (g.is_modelled → HearsWithin (g.heard old) (g.heard new))
+      → LeavesCopies g m old new status
       → DoesVerb g m old new status
-  make_verb limit max is made refused malformed touches end heard within = record {
+  make_verb limit max is made refused malformed touches end heard within copies = record {
     item = λ t c some. no_command m (Make limit max) c is refl some;
     none = λ t c some. no_command m (Make limit max) c is refl some;
     touches = λ t c some. no_command m (Make limit max) c is refl some;
     alone = λ t c some. no_command m (Make limit max) c is refl some;
+    kept = λ t c some. no_command m (Make limit max) c is refl some;
     quiet = λ t c some. no_command m (Make limit max) c is refl some;
     serve = λ t other. let both = sym is ∙ other in cc;
     none_served = λ t other. let both = sym is ∙ other in cc;
+    unheard_served = λ t other. let both = sym is ∙ other in cc;
     touches_served = λ t other. let both = sym is ∙ other in cc;
     touches_unmerged = λ t other. let both = sym is ∙ other in cc;
+    writes_served = λ t other. let both = sym is ∙ other in cc;
     touches_fresh = λ t other. let both = sym is ∙ other in cc;
     touches_fresh_unmerged = λ t other. let both = sym is ∙ other in cc;
     fresh = λ t other. let both = sym is ∙ other in cc;
@@ -431,6 +509,7 @@ module _ {D : Type 0}
     install = λ other. let both = sym is ∙ other in cc;
     tells = λ other. let both = sym is ∙ other in cc;
     demo = λ seed scale other. let both = sym is ∙ other in cc;
+    copies = copies;
     disk = disk;
     port = port;
     steady = steady;
@@ -485,17 +564,21 @@ module _ {D : Type 0}
       → ((seed scale : ℕ)
       → n ≡ Demo seed scale
       → DemonstratesOf g seed scale old new status)
+      → LeavesCopies g m old new status
       → DoesVerb g m old new status
-  other_verb n is none not_serve not_make install tells demo = record {
+  other_verb n is none not_serve not_make install tells demo copies = record {
     item = λ t c some. no_command m n c is none some;
     none = λ t c some. no_command m n c is none some;
     touches = λ t c some. no_command m n c is none some;
     alone = λ t c some. no_command m n c is none some;
+    kept = λ t c some. no_command m n c is none some;
     quiet = λ t c some. no_command m n c is none some;
     serve = λ t other. absurd (not_serve false (sym is ∙ other));
     none_served = λ t other. absurd (not_serve false (sym is ∙ other));
+    unheard_served = λ t other. absurd (not_serve false (sym is ∙ other));
     touches_served = λ t other. absurd (not_serve false (sym is ∙ other));
     touches_unmerged = λ t other. absurd (not_serve false (sym is ∙ other));
+    writes_served = λ t other. absurd (not_serve false (sym is ∙ other));
     touches_fresh = λ t other. absurd (not_serve true (sym is ∙ other));
     touches_fresh_unmerged = λ t other. absurd (not_serve true (sym is ∙ other));
     fresh = λ t other. absurd (not_serve true (sym is ∙ other));
@@ -511,6 +594,7 @@ module _ {D : Type 0}
     install = λ other. install (sym is ∙ other);
     tells = λ other. tells (sym is ∙ other);
     demo = λ seed scale other. demo seed scale (sym is ∙ other);
+    copies = copies;
     disk = disk;
     port = port;
     steady = steady;

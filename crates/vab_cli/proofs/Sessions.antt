@@ -24,6 +24,7 @@ use Rattle.vab_exchanges.specs.Hearing.{HearsWhere}
 use Rattle.vab_exchanges.specs.Items.{items_of, kept_after, output_of}
 use Rattle.vab_exchanges.specs.Runs.{CrashesWithin, IsTold, Serves}
 use Rattle.vab_exchanges.proofs.RunLaws.{items_chain, within_greeting}
+use Rattle.vab_session.proofs.SourceLaws.{kept_at_cut}
 use Rattle.vab_session.proofs.StandLaws.{stands_at_cut}
 use Rattle.vab_session.specs.Responses.{response}
 use Rattle.vab_session.specs.Served.{Answer, Says, Held as HeldBySession, reached}
@@ -204,6 +205,13 @@ module _ {D : Type 0}
             (λ within.
             inl (stands_at_cut slot images size (nothing_staged first) serves.exchanges done later
             serves.unfinished (g.told old) o within is alone since told_is whole))
+            (λ before. inr before)
+            (every_cut rest o at);
+        kept = λ rest done later is slot images kept o at since told_is whole.
+            ⊎_elim
+            (λ within.
+            inl (kept_at_cut slot images size (nothing_staged first) serves.exchanges done later
+            serves.unfinished (g.told old) o within is kept since told_is whole))
             (λ before. inr before)
             (every_cut rest o at);
       }

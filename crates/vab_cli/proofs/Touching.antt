@@ -37,7 +37,7 @@ pub opening_leaves : (size : ℕ) (old new : Image)
     → new 4 ≡ old 4
 opening_leaves size old new but =
     ⊎_elim (λ same. same)
-    (λ w. opening_misses size 4 old (new 4) (omega arith) (λ e. omega (arith, e)) w)
+    (λ w. opening_misses size 4 old (new 4) (omega arith) w)
     (but 4)
 
 -- ---- a command on the device of a disk

@@ -15,6 +15,7 @@ use Rattle.vab_device.specs.declared.device.Device.{Device}
 use Rattle.vab_device.specs.Kept.{IsDevice}
 use Rattle.vab_device.specs.Mounted.{Mounted, mounted_on}
 use Rattle.vab_device.specs.Reading.{IsIn, Represents}
+use Rattle.vab_commands.specs.Copies.{HasBothCopies}
 use Rattle.vab_commands.specs.Touched.{ChangesAll}
 use Rattle.vab_exchanges.specs.Items.{Item, joined}
 use Rattle.vab_exchanges.specs.Runs.{LeavesItem}
@@ -23,7 +24,7 @@ use Rattle.vab_cli.specs.declared.status.Status.TheVariants.{Done, Usage, Malfor
 use Rattle.vab_cli.specs.declared.status.Status.TheVariants.{NotADevice, Disk, Port, NoMemory}
 use Rattle.vab_cli.specs.Counts.{HearsNothing, IsSteady}
 use Rattle.vab_cli.specs.Installing.{install_item, install_status}
-use Rattle.vab_cli.specs.Runs.{IsFailed, RunsItems}
+use Rattle.vab_cli.specs.Runs.{Held, IsFailed, RunsItems}
 use Rattle.vab_cli.specs.Verbs.{command_item, line_behind, line_item, verb_status}
 
 -- ---- what is done
@@ -147,8 +148,9 @@ module _ {D : Type 0} (g : Ghosts D) where
     pub items : RunsItems g size Else [] first c.items c.last (status ≡ c.ends) old new
     pub short : status ≡ NoMemory → StopsAmong size c.items old new
 
-  -- This comes of a device. Where all is done, a device is kept, and it is the disk's. It hears
-  -- nothing, and writes what commands may.
+  -- This comes of a device. Where all is done, a device is kept, and it is the disk's. Unless the
+  -- disk or the port failed, both copies of each table agree in the end. It hears nothing, and
+  -- writes what commands may.
   pub record Performs
       (d : Device)
       (c : Course)
@@ -162,6 +164,9 @@ module _ {D : Type 0} (g : Ghosts D) where
     pub ends : g.is_modelled → OnOk (told_by result) (status_in result ≡ c.ends)
     pub told : g.is_modelled → OnOk (told_by result) (g.told new ≡ g.told old ++ joined c.items)
     pub stands : g.is_modelled → OnOk (told_by result) (IsIn (g.size old) c.last (g.seen new))
+    pub copies : g.is_modelled
+        → Held (status_in result)
+        → HasBothCopies (g.size old) (g.seen new)
     pub rest : g.is_modelled → IsAtRest g old → OnOk (told_by result) (IsAtRest g new)
     pub front : g.is_modelled → (n : ℕ) × (g.told new ≡ g.told old ++ take n (joined c.items))
     pub short : g.is_modelled

@@ -1,6 +1,7 @@
 pub mod Acts
 pub mod Causes
 pub mod Codes
+pub mod Copies
 pub mod Counts
 pub mod Demo
 pub mod Installing
@@ -12,3 +13,4 @@ pub mod Runs
 pub mod Telling
 pub mod Touched
 pub mod Verbs
+pub mod Written

@@ -1,6 +1,6 @@
 -- What the program does where its words ask for a verb.
 use Rattle.std.specs.Prelude.{◌≡◌, ◌≢◌, ◌⊎◌, ◌≤◌, ◌<◌, ◌^◌, ◌++◌, ℕ, List, [], length, true, false}
-use Rattle.std.specs.Prelude.{Some, None, Ok, Err, Bool, Option}
+use Rattle.std.specs.Prelude.{Some, None, Ok, Err, Bool, Option, take, drop}
 use Rattle.vab_disk.specs.declared.disk.Disk.{Ghosts}
 use Rattle.vab_disk.specs.Disk.{Outcome, Rose}
 use Rattle.vab_disk.specs.Calls.{IsAtRest, Changes, InSectors}
@@ -29,10 +29,12 @@ use Rattle.vab_session.specs.Alone.{IsAlone, StandsAlone}
 use Rattle.vab_session.specs.Merges.{MergesNothing}
 use Rattle.vab_session.specs.Responses.{response}
 use Rattle.vab_session.specs.Served.{nothing_staged}
+use Rattle.vab_session.specs.Source.{HasKept, StandsKept, FindsMergedFrom}
 use Rattle.vab_cli.specs.declared.status.Status.{Status}
 use Rattle.vab_cli.specs.declared.status.Status.TheVariants.{Done, Usage, Malformed, NotADevice}
 use Rattle.vab_cli.specs.declared.status.Status.TheVariants.{Disk, Port, NoMemory}
 use Rattle.vab_cli.specs.Codes.{make_status}
+use Rattle.vab_cli.specs.Copies.{LeavesCopies}
 use Rattle.vab_input.specs.HearsToEnd.{HearsWithin}
 use Rattle.vab_cli.specs.Counts.{HearsNothing, HearsUnless, IsSteady}
 use Rattle.vab_cli.specs.Demo.{DemonstratesOf, life_of}
@@ -43,6 +45,7 @@ use Rattle.vab_cli.specs.Runs.{RunsRefused, RunsMaking, FailsMaking}
 use Rattle.vab_cli.specs.Touched.{IsOfVerb, IsOfServing, IsOfFresh}
 use Rattle.vab_cli.specs.Verbs.{command_of, none_line, verb_item, verb_status}
 use Rattle.vab_cli.specs.Verbs.{make_line, done_making}
+use Rattle.vab_cli.specs.Written.{WritesServed}
 
 -- The whole session of the input is told, as it ends.
 pub record AnswersAll {D : Type 0}
@@ -110,6 +113,21 @@ pub record DoesVerb {D : Type 0}
       → (o : Outcome)
       → g.outcomes new (g.moment old) o
       → StandsAlone (g.size old) slot images o.image
+  -- Where one slot alone has images, or the update that was installed from it is ready, it has
+  -- these images in every outcome, until a merge from it is begun.
+  pub kept : g.is_modelled
+      → (c : Command)
+      → command_of m ≡ Some c
+      → (s : Mounted)
+      → IsIn (g.size old) s (g.seen old)
+      → IsAtRest g old
+      → (slot : ℕ)
+      → (images : List ImageOfSlot)
+      → HasKept slot images s
+      → (o : Outcome)
+      → g.outcomes new (g.moment old) o
+      → StandsKept (g.size old) slot images o.image
+      ⊎ FindsMergedFrom slot (verb_item s c).steps
   -- They hear nothing.
   pub quiet : g.is_modelled → (c : Command) → command_of m ≡ Some c → HearsNothing g old new
   -- `serve` over a disk that is a device: the session of the input, with its bytes told, and so is
@@ -126,6 +144,12 @@ pub record DoesVerb {D : Type 0}
       → (fault : StartFault)
       → device (g.size old) (g.seen old) ≡ Err fault
       → RunsNone g (g.size old) [] old new status
+  -- Where the disk isn't opened, nothing is heard.
+  pub unheard_served : g.is_modelled
+      → m ≡ Serve false
+      → (fault : StartFault)
+      → device (g.size old) (g.seen old) ≡ Err fault
+      → HearsNothing g old new
   -- It writes what opening may, and what its commands may write: boot control by the boot
   -- rules, the update mark, the statuses, tables, and blocks behind them. Where no packet asks for
   -- a merge, those are the target's table, and blocks of no image.
@@ -140,6 +164,16 @@ pub record DoesVerb {D : Type 0}
       → IsIn (g.size old) s (g.seen old)
       → MergesNothing (2 ^ 44) (g.input_left old)
       → Changes g (IsOfServing IsOfCommands (g.size old) (g.seen old)) old new
+  -- What it writes is what its packets write in turn, from the device that was opened: one that
+  -- changes the device what its command writes there, and a question, a variable, a download or a
+  -- refusal nothing, unless the disk failed.
+  pub writes_served : g.is_modelled
+      → m ≡ Serve false
+      → (s : Mounted)
+      → IsIn (g.size old) s (g.seen old)
+      → WritesServed g (status ≡ Disk) (g.size old)
+      (drop 4 (take (2 ^ 44) (g.input_left old)))
+      old new
   -- `serve --fresh` on enough sectors: the same over the made device of the empty set. Until its
   -- last gate is settled each cut leaves the disk as it was, or no device, or the made one. On too
   -- few sectors: status 5, and nothing is told or written.
@@ -217,6 +251,8 @@ pub record DoesVerb {D : Type 0}
   pub demo : (seed scale : ℕ)
       → m ≡ Demo seed scale
       → DemonstratesOf g seed scale old new status
+  -- Both copies of each table agree in the end.
+  pub copies : LeavesCopies g m old new status
   -- Status 6 comes only where the count of the disk's faults rose, and 7 only where that of the
   -- source or the sink did. With any other the counts are as they were.
   pub disk : status ≡ Disk → Rose (g.faults old).disk (g.faults new).disk

@@ -18,6 +18,7 @@ use Rattle.vab_exchanges.specs.Runs.{acknowledged, CrashesWithin, IsTold}
 use Rattle.vab_exchanges.specs.Hearing.{HearsWhere}
 use Rattle.vab_session.specs.Alone.{IsAlone, StandsAlone, FindsReady, reached_in}
 use Rattle.vab_session.specs.Responses.{response}
+use Rattle.vab_session.specs.Source.{HasKept, StandsKept, FindsMergedFrom}
 use Rattle.vab_cli.specs.declared.status.Status.{Status}
 use Rattle.vab_cli.specs.declared.status.Status.TheVariants.{Done, Usage, Malformed, Refused}
 use Rattle.vab_cli.specs.declared.status.Status.TheVariants.{NotADevice, Disk, Port, NoMemory}
@@ -175,6 +176,29 @@ module _ {D : Type 0} (g : Ghosts D) (size : ℕ) where
         (drop 4 since)
         → (StandsAlone size slot images o.image
         ⊎ FindsReady
+        (reached_in (kept_after response (nothing_staged first) done) later unfinished
+        (acknowledged (items_of response (nothing_staged first) exchanges unfinished)
+        (drop 4 since)
+        - length done)))
+        ⊎ Else o
+    -- From where one slot alone has images, or the update that was installed from it is ready: in
+    -- every outcome the slot has these images; or by then a merge from it was begun. One that isn't
+    -- begun, since that is refused, is none.
+    pub kept : IsAtRest g old
+        → (done later : List Exchange)
+        → exchanges ≡ done ++ later
+        → (slot : ℕ)
+        → (images : List ImageOfSlot)
+        → HasKept slot images (kept_after response (nothing_staged first) done).now
+        → (o : Outcome)
+        → g.outcomes new (g.moment old) o
+        → (since : List ℕ)
+        → o.told ≡ g.told old ++ since
+        → length done
+        ≤ acknowledged (items_of response (nothing_staged first) exchanges unfinished)
+        (drop 4 since)
+        → (StandsKept size slot images o.image
+        ⊎ FindsMergedFrom slot
         (reached_in (kept_after response (nothing_staged first) done) later unfinished
         (acknowledged (items_of response (nothing_staged first) exchanges unfinished)
         (drop 4 since)

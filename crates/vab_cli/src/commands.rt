@@ -9,6 +9,8 @@ ghost use Rattle.vab_device.specs.declared.fault.StartFault.{StartFault as Fault
 ghost use Rattle.vab_device.specs.Mounted.{Mounted};
 ghost use Rattle.vab_device.specs.Reading.{device, IsIn};
 ghost use Rattle.vab_cli.specs.Causes.{IsNoDevice, IsRefusedAs};
+ghost use Rattle.vab_commands.specs.Copies.{HasBothCopies};
+ghost use Rattle.vab_cli.specs.Copies.{IsAnswered};
 ghost use Rattle.vab_cli.specs.Counts.{HearsNothing, IsSteady};
 ghost use Rattle.vab_cli.specs.Verbs.{none_line, command_line, command_item, verb_status};
 ghost use Rattle.vab_model.specs.Kinds.{IsVerb};
@@ -53,6 +55,12 @@ pub(crate) fn carry_out<P: Port>(
         (IsOfVerb (P.size port.old) (P.seen port.old) s boot (command_of command.now))
         port.old port.new }
     ensures quiet { P.is_modelled → HearsNothing P.Disk port.old port.new }
+    // Where it is done or refused, both copies of each table agree.
+    ensures copies { P.is_modelled
+        → (s : Mounted)
+        → IsIn (P.size port.old) s (P.seen port.old)
+        → IsAnswered result
+        → HasBothCopies (P.size port.old) (P.seen port.new) }
     ensures steady { IsSteady P.Disk port.old port.new result }
     ensures words { result ≢ Status.Usage }
     ensures disk { result ≡ Status.Disk → Rose (P.faults port.old).disk (P.faults port.new).disk }

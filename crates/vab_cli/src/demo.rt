@@ -1,7 +1,7 @@
 //! The whole life of a device whose images are drawn from a number: it is made, updated, booted,
 //! marked, merged, and its digests are told.
 ghost use Rattle.std.specs.Prelude.{◌≡◌, ◌≢◌, ◌⊎◌, ◌≤◌, ◌<◌, ◌+◌, ◌/◌, ◌^◌, [], ◌∷◌, ◌++◌, map};
-ghost use Rattle.std.specs.Prelude.{replicate, take, codes};
+ghost use Rattle.std.specs.Prelude.{replicate, take, codes, None};
 ghost use Rattle.vab_disk.specs.Disk.{Rose};
 ghost use Rattle.vab_gen.specs.Sets.{fresh_set};
 ghost use Rattle.vab_set.specs.Spelling.{IsImage, IsSet};
@@ -12,6 +12,9 @@ ghost use Rattle.vab_device.specs.Reading.{Represents};
 ghost use Rattle.vab_words.specs.Values.{IsScale};
 ghost use Rattle.vab_cli.specs.Acts.{PerformsActs, command_act, line_act};
 ghost use Rattle.vab_cli.specs.Causes.{IsUnmade};
+ghost use Rattle.vab_make.specs.Made.{refusal_of};
+ghost use Rattle.vab_commands.specs.Copies.{HasBothCopies};
+ghost use Rattle.vab_cli.specs.Copies.{IsAnswered};
 ghost use Rattle.vab_cli.specs.Counts.{IsSteady};
 ghost use Rattle.vab_cli.specs.Demo.{Demonstrates, DemonstratesOf, digest_act, digest_front};
 ghost use Rattle.vab_cli.specs.Demo.{life, sevens, take_over, update_acts};
@@ -200,6 +203,10 @@ fn demonstrate<P: Port>(
     requires set { IsSet set.now }
     requires next { IsSet next.now }
     ensures does { Demonstrates P.Disk set.now next.now port.old port.new result }
+    ensures copies { P.is_modelled
+        → refusal_of set.now 0 65536 (P.size port.old) ≡ None
+        → IsAnswered result
+        → HasBothCopies (P.size port.old) (P.seen port.new) }
     ensures steady { IsSteady P.Disk port.old port.new result }
     ensures words { result ≢ Status.Usage }
     ensures disk { result ≡ Status.Disk → Rose (P.faults port.old).disk (P.faults port.new).disk }
@@ -233,6 +240,11 @@ pub(crate) fn demo<P: Port>(
 ) -> Status
     requires { IsScale scale }
     ensures does { DemonstratesOf P.Disk seed scale port.old port.new result }
+    // Where a device is made and it is done or refused, both copies of each table agree.
+    ensures copies { P.is_modelled
+        → refusal_of (fresh_set scale seed) 0 65536 (P.size port.old) ≡ None
+        → IsAnswered result
+        → HasBothCopies (P.size port.old) (P.seen port.new) }
     ensures steady { IsSteady P.Disk port.old port.new result }
     ensures words { result ≢ Status.Usage }
     ensures disk { result ≡ Status.Disk → Rose (P.faults port.old).disk (P.faults port.new).disk }

@@ -8,6 +8,8 @@ ghost use Rattle.vab_device.specs.Reading.{IsIn, Represents};
 ghost use Rattle.vab_commands.specs.Touched.{ChangesDevice};
 ghost use Rattle.vab_cli.specs.Acts.{PerformsActs, install_act};
 ghost use Rattle.vab_cli.specs.Causes.{IsNoDevice, IsNoSet, IsUninstalled, IsUninstalledOn};
+ghost use Rattle.vab_commands.specs.Copies.{HasBothCopies};
+ghost use Rattle.vab_cli.specs.Copies.{IsAnswered};
 ghost use Rattle.vab_cli.specs.Counts.{IsSteady};
 ghost use Rattle.vab_cli.specs.Installing.{Installs, left_behind};
 
@@ -81,6 +83,12 @@ pub(crate) fn install_set<P: Port>(
 /// running, and tells how many it has, or why a command was refused.
 pub(crate) fn install<P: Port>(alloc: Global, port: &mut P, cause: &mut Option<Cause>) -> Status
     ensures runs { Installs P.Disk port.old port.new result }
+    // Where it is done or refused, or the input is malformed, both copies of each table agree.
+    ensures copies { P.is_modelled
+        → (s : Mounted)
+        → IsIn (P.size port.old) s (P.seen port.old)
+        → IsAnswered result
+        → HasBothCopies (P.size port.old) (P.seen port.new) }
     ensures steady { IsSteady P.Disk port.old port.new result }
     ensures words { result ≢ Status.Usage }
     ensures disk { result ≡ Status.Disk → Rose (P.faults port.old).disk (P.faults port.new).disk }

@@ -1,7 +1,11 @@
 //! The page of the device of the disk.
 ghost use Rattle.std.specs.Prelude.{◌≡◌, ◌≢◌};
 ghost use Rattle.vab_disk.specs.Disk.{Rose};
+ghost use Rattle.vab_device.specs.Mounted.{Mounted};
+ghost use Rattle.vab_device.specs.Reading.{IsIn};
 ghost use Rattle.vab_cli.specs.Causes.{IsNoDevice};
+ghost use Rattle.vab_commands.specs.Copies.{HasBothCopies};
+ghost use Rattle.vab_cli.specs.Copies.{IsAnswered};
 ghost use Rattle.vab_cli.specs.Counts.{IsSteady};
 ghost use Rattle.vab_cli.specs.Paging.{TellsPage};
 
@@ -17,6 +21,12 @@ use vab_status::status_page;
 /// Opens the device, and tells its page.
 pub(crate) fn tell_page<P: Port>(alloc: Global, port: &mut P, cause: &mut Option<Cause>) -> Status
     ensures tells { TellsPage P.Disk port.old port.new result }
+    // Where it is done, both copies of each table agree.
+    ensures copies { P.is_modelled
+        → (s : Mounted)
+        → IsIn (P.size port.old) s (P.seen port.old)
+        → IsAnswered result
+        → HasBothCopies (P.size port.old) (P.seen port.new) }
     ensures steady { IsSteady P.Disk port.old port.new result }
     ensures words { result ≢ Status.Usage }
     ensures disk { result ≡ Status.Disk → Rose (P.faults port.old).disk (P.faults port.new).disk }

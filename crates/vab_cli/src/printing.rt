@@ -14,6 +14,8 @@ ghost use Rattle.vab_device.specs.Mounted.{Mounted, mounted_on, bytes_at, sector
 ghost use Rattle.vab_device.specs.Reading.{device, IsIn, Represents};
 ghost use Rattle.vab_manager.specs.Blocks.{KeepsPart};
 ghost use Rattle.vab_cli.specs.Causes.{IsNoDevice, IsRefusedAs, IsRefusedOn};
+ghost use Rattle.vab_commands.specs.Copies.{HasBothCopies};
+ghost use Rattle.vab_cli.specs.Copies.{IsAnswered};
 ghost use Rattle.vab_cli.specs.Counts.{HearsNothing, IsSteady};
 ghost use Rattle.vab_cli.specs.Telling.{DoesItem, Says};
 ghost use Rattle.vab_cli.specs.Verbs.{none_line, refused_line as line_of, print_told};
@@ -249,6 +251,12 @@ pub(crate) fn print<P: Port>(
         (IsOfVerb (P.size port.old) (P.seen port.old) s boot (PrintOf name.now))
         port.old port.new }
     ensures quiet { P.is_modelled → HearsNothing P.Disk port.old port.new }
+    // Where it is done or refused, both copies of each table agree.
+    ensures copies { P.is_modelled
+        → (s : Mounted)
+        → IsIn (P.size port.old) s (P.seen port.old)
+        → IsAnswered result
+        → HasBothCopies (P.size port.old) (P.seen port.new) }
     ensures steady { IsSteady P.Disk port.old port.new result }
     ensures words { result ≢ Status.Usage }
     ensures disk { result ≡ Status.Disk → Rose (P.faults port.old).disk (P.faults port.new).disk }

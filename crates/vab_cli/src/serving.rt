@@ -1,5 +1,5 @@
 //! A session over the device of the disk, or over one that is made first.
-ghost use Rattle.std.specs.Prelude.{◌≡◌, ◌≢◌, ◌⊎◌, ◌≤◌, ◌<◌, ◌^◌, [], Err};
+ghost use Rattle.std.specs.Prelude.{◌≡◌, ◌≢◌, ◌⊎◌, ◌≤◌, ◌<◌, ◌^◌, [], Err, take, drop};
 ghost use Rattle.vab_disk.specs.Disk.{Rose};
 ghost use Rattle.vab_disk.specs.Calls.{Changes};
 ghost use Rattle.vab_device.specs.declared.fault.StartFault.{StartFault as Fault};
@@ -11,7 +11,10 @@ ghost use Rattle.vab_commands.specs.Touched.{IsOfAll, IsOfCommands};
 ghost use Rattle.vab_session.specs.Merges.{MergesNothing};
 ghost use Rattle.vab_cli.specs.Causes.{IsBrokenOff, IsNoDevice, IsUnmade};
 ghost use Rattle.vab_cli.specs.Touched.{IsOfServing, IsOfFresh};
-ghost use Rattle.vab_cli.specs.Counts.{IsSteady};
+ghost use Rattle.vab_commands.specs.Copies.{HasBothCopies};
+ghost use Rattle.vab_cli.specs.Copies.{IsAnswered};
+ghost use Rattle.vab_cli.specs.Counts.{HearsNothing, IsSteady};
+ghost use Rattle.vab_cli.specs.Written.{WritesServed};
 ghost use Rattle.vab_cli.specs.Runs.{RunsSession, FailsBefore, RunsNone, RunsRefused, FailsMaking};
 
 use crate::Status;
@@ -53,6 +56,23 @@ pub(crate) fn open_and_serve<P: Port>(
         → (fault : Fault)
         → device (P.size port.old) (P.seen port.old) ≡ Err fault
         → RunsNone P.Disk (P.size port.old) [] port.old port.new result }
+    // However the session ends, both copies of each table agree.
+    ensures copies { P.is_modelled
+        → (s : Mounted)
+        → IsIn (P.size port.old) s (P.seen port.old)
+        → IsAnswered result
+        → HasBothCopies (P.size port.old) (P.seen port.new) }
+    // What it writes is what its packets write in turn, from the device that was opened.
+    ensures writes { P.is_modelled
+        → (s : Mounted)
+        → IsIn (P.size port.old) s (P.seen port.old)
+        → WritesServed P.Disk (result ≡ Status.Disk) (P.size port.old)
+        (drop 4 (take (2 ^ 44) (P.input_left port.old)))
+        port.old port.new }
+    ensures unheard { P.is_modelled
+        → (fault : Fault)
+        → device (P.size port.old) (P.seen port.old) ≡ Err fault
+        → HearsNothing P.Disk port.old port.new }
     ensures steady { IsSteady P.Disk port.old port.new result }
     ensures words { result ≢ Status.Usage }
     ensures disk { result ≡ Status.Disk → Rose (P.faults port.old).disk (P.faults port.new).disk }
@@ -103,6 +123,10 @@ pub(crate) fn make_and_serve<P: Port>(
         → RunsRefused P.Disk (P.size port.old) [] Status.NotADevice port.old port.new result }
     ensures too_small { P.size port.old < 6152
         → (result ≡ Status.NotADevice) ⊎ (result ≡ Status.NoMemory) }
+    // However the session ends, both copies of each table agree.
+    ensures copies { P.is_modelled
+        → (result ≡ Status.Done) ⊎ (result ≡ Status.Malformed)
+        → HasBothCopies (P.size port.old) (P.seen port.new) }
     ensures steady { IsSteady P.Disk port.old port.new result }
     ensures words { result ≢ Status.Usage }
     ensures disk { result ≡ Status.Disk → Rose (P.faults port.old).disk (P.faults port.new).disk }

@@ -1,3 +1,4 @@
 pub mod ChangeLaws
 pub mod ControlsLaws
+pub mod CopiesLaws
 pub mod FreeLaws

@@ -1,3 +1,4 @@
 pub mod Controls
+pub mod Copies
 pub mod Touched
 pub mod Writes

@@ -16,11 +16,13 @@ use Rattle.vab_device.specs.declared.device.Part.{Part}
 use Rattle.vab_device.specs.declared.device.Device.{Device}
 use Rattle.vab_device.specs.Mounted.{images_on, state_on, mounted_on, in_state}
 use Rattle.vab_device.specs.Phases.{phase_at}
-use Rattle.vab_device.specs.Reading.{Read, control_read, control_in}
+use Rattle.vab_device.specs.Reading.{Read, control_read, control_in, version_at}
 use Rattle.vab_device.specs.Reading.{state_fault, stores_of, Reads, AgreeCopies}
 use Rattle.vab_device.specs.Reading.{Represents, IsOfTables, IsOfImages, IsOfPlan}
 use Rattle.vab_device.specs.Mounted.{entries_on}
+use Rattle.vab_device.proofs.MostLaws.{parts_under}
 use Rattle.vab_device.proofs.SameLaws.{mark_same, geometry_same, tables_agree, images_same}
+use Rattle.vab_device.proofs.SameLaws.{version_same}
 use Rattle.vab_device.proofs.StoreLaws.{statuses_kept, stores_kept, plan_kept}
 use Rattle.vab_device.proofs.Behind.{images_behind, stores_behind, plan_behind}
 
@@ -32,7 +34,7 @@ tables_from g (slot ∷ slots) s (inl is) = omega (arith, is.from)
 tables_from g (slot ∷ slots) s (inr (inl is)) = omega (arith, is.from)
 tables_from g (slot ∷ slots) s (inr (inr is)) = tables_from g slots s is
 
-copies_kept : (g : Geometry) (slots : List ℕ) (ts : List Table) (old new : Image)
+pub copies_kept : (g : Geometry) (slots : List ℕ) (ts : List Table) (old new : Image)
     → ((s : ℕ) → IsOfTables g slots s → new s ≡ old s)
     → AgreeCopies g slots ts old
     → AgreeCopies g slots ts new
@@ -111,12 +113,15 @@ module _
       ap (λ x. control_read a b (control_of x)) (set_here old 4 bytes 4 refl)
       ∙ ap (control_read a b) decoded
 
+  version_gated : version_at gated ≡ version_at old
+  version_gated = version_same old gated (elsewhere 2048 (λ e. omega (arith, e)))
+
   reads_gated : KeepsState is.read c → Reads size (read_with is.read c) gated
   reads_gated state = record {
     enough = is.reads.enough;
     mark = mark_same old gated (elsewhere 2048 (λ e. omega (arith, e))) ∙ is.reads.mark;
     statuses =
-        statuses_kept (phase_at is.read.mark.phase).reads_statuses old gated
+        statuses_kept (phase_at is.read.mark.phase).reads_statuses old gated version_gated
         (λ read s there. elsewhere s (λ e. omega (arith, e, there.from)))
         ∙ is.reads.statuses;
     control = control_there _ _;
@@ -130,7 +135,7 @@ module _
         old gated
         of_tables
         ∙ is.reads.tables;
-    parts = is.reads.parts;
+    parts = parts_under is.read old gated version_gated is.reads.parts;
     stores =
         stores_kept (stores_of is.read) old gated is.read.scanned
         (λ s there.
@@ -153,6 +158,7 @@ module _
     control = ap control_of (set_here old 4 bytes 4 refl) ∙ decoded;
     copies = copies_kept is.read.geometry ((phase_at is.read.mark.phase).tables is.read.mark.slot)
         is.read.tables old gated of_tables is.copies;
+    version = version_gated ∙ is.version;
   }
 
   images_a : images_on gated d.a ≡ images_on old d.a

@@ -14,6 +14,7 @@ use Rattle.vab_device.specs.Idle.{control_read_of, idle_read}
 use Rattle.vab_device.specs.Phases.{Phase, slot_checks, phase_at, own_check}
 use Rattle.vab_device.specs.Reading.{Read, mark_in, statuses_at, control_in, geometry_at, table_at}
 use Rattle.vab_device.specs.Reading.{tables_in, part_fault, state_fault, stores_of, device, Reads}
+use Rattle.vab_device.specs.Reading.{most_at}
 use Rattle.vab_device.specs.Stores.{scans_in}
 use Rattle.vab_device.proofs.OpeningLaws.{device_no_control, device_no_geometry, device_no_tables}
 use Rattle.vab_device.proofs.OpeningLaws.{device_judged, device_stated, reads_of, or_first}
@@ -96,10 +97,15 @@ module _
           (ap (λ x. x >>= λ t. tables_in size g [] image >>= λ ts. Ok (t ∷ ts)) table);
     }
 
-    parts_are : part_fault (idle_read m c g t) ≡ own_check m.slot t
+    parts_are : part_fault (most_at image) (idle_read m c g t)
+        ≡ own_check (most_at image) m.slot t
     parts_are =
-        of_idle m (λ p. first_fault (p.part_checks m.slot (t ∷ [])) ≡ own_check m.slot t) is_idle
-        (or_first (own_check m.slot t))
+        of_idle m
+        (λ p.
+        first_fault (p.part_checks (most_at image) m.slot (t ∷ []))
+        ≡ own_check (most_at image) m.slot t)
+        is_idle
+        (or_first (own_check (most_at image) m.slot t))
 
     state_is : state_fault (idle_read m c g t)
         ≡ first_fault (slot_checks m.slot (control_read_of m.slot c))
@@ -114,14 +120,14 @@ module _
     no_stores = of_idle m (λ p. scans_in (p.stores m.slot (t ∷ []) []) image ≡ Ok []) is_idle refl
 
     pub idle_judged : (f : StartFault)
-        → or_else (own_check m.slot t)
+        → or_else (own_check (most_at image) m.slot t)
         (first_fault (slot_checks m.slot (control_read_of m.slot c)))
         ≡ Some f
         → device size image ≡ Err f
-    idle_judged f is = by_check (own_check m.slot t) parts_are is
+    idle_judged f is = by_check (own_check (most_at image) m.slot t) parts_are is
       where
         by_check : (x : Option StartFault)
-            → part_fault (idle_read m c g t) ≡ x
+            → part_fault (most_at image) (idle_read m c g t) ≡ x
             → or_else x (first_fault (slot_checks m.slot (control_read_of m.slot c))) ≡ Some f
             → device size image ≡ Err f
         by_check None parts is =
@@ -130,7 +136,7 @@ module _
         by_check (Some h) parts is =
             device_judged size (idle_read m c g t) image f frame_reads (parts ∙ is)
 
-    pub reads_idle : own_check m.slot t ≡ None
+    pub reads_idle : own_check (most_at image) m.slot t ≡ None
         → first_fault (slot_checks m.slot (control_read_of m.slot c)) ≡ None
         → Reads size (idle_read m c g t) image
     reads_idle parts state =

@@ -5,6 +5,7 @@ pub mod ControlLaws
 pub mod DoesLaws
 pub mod IdleLaws
 pub mod MarkLaws
+pub mod MostLaws
 pub mod OpeningLaws
 pub mod ReadingLaws
 pub mod RepairLaws

@@ -8,6 +8,7 @@ use Rattle.vab_marks.specs.declared.mark.UpdateMark.{UpdateMark}
 use Rattle.vab_marks.specs.declared.sector.MarkFault.{MarkFault}
 use Rattle.vab_marks.specs.declared.sector.MarkFault.TheVariants.{BadField}
 use Rattle.vab_marks.specs.Mark.{mark_magic, mark_fields, mark_of, phase_of, with_phase}
+use Rattle.vab_marks.specs.Version.{is_version}
 use Rattle.vab_marks.specs.Sector.{are_zeros, head_fault}
 use Rattle.vab_marks.specs.Sector as sectors
 
@@ -37,7 +38,8 @@ fields_slot bytes m is =
 
 pub mark_slot : (bytes : List ℕ) (m : UpdateMark) → mark_of bytes ≡ Ok m → m.slot < 2
 unfolding mark_of
-mark_slot bytes m is = by_head (head_fault mark_magic bytes) is
+mark_slot bytes m is =
+    by_head (head_fault mark_magic (is_version (slice_index bytes 4)) bytes) is
   where
     by_head : (o : Option MarkFault) → sectors.unless o (mark_fields bytes) ≡ Ok m → m.slot < 2
     by_head None is = fields_slot bytes m is

@@ -14,7 +14,7 @@ use Rattle.vab_device.specs.Checks.{Check, first_fault}
 use Rattle.vab_device.specs.Phases.{phase_at}
 use Rattle.vab_device.specs.Reading.{Read, mark_in, statuses_at, control_read, control_in}
 use Rattle.vab_device.specs.Reading.{geometry_at, tables_in, frame, part_fault, state_fault, judged}
-use Rattle.vab_device.specs.Reading.{stores_of, scanned_in, stated, device, Reads}
+use Rattle.vab_device.specs.Reading.{stores_of, scanned_in, stated, device, Reads, most_at}
 use Rattle.vab_device.specs.Stores.{Scanned, scans_in}
 use Rattle.vab_device.proofs.ReadingLaws.{FrameReads, frame_is}
 
@@ -81,14 +81,14 @@ device_no_tables size image m ss c g f enough mark statuses control geometry tab
 
 pub device_judged : (size : ℕ) (r : Read) (image : Image) (f : StartFault)
     → FrameReads size image r
-    → part_fault r ≡ Some f
+    → part_fault (most_at image) r ≡ Some f
     → device size image ≡ Err f
 unfolding device judged
 device_judged size r image f reads parts = rw (frame_is size r image reads, parts) refl
 
 pub device_scanned : (size : ℕ) (r : Read) (image : Image) (f : StartFault)
     → FrameReads size image r
-    → part_fault r ≡ None
+    → part_fault (most_at image) r ≡ None
     → scans_in (stores_of r) image ≡ Err f
     → device size image ≡ Err f
 unfolding device judged scanned_in
@@ -97,7 +97,7 @@ device_scanned size r image f reads parts stores =
 
 pub device_stated : (size : ℕ) (r : Read) (image : Image) (ss : List Scanned) (f : StartFault)
     → FrameReads size image r
-    → part_fault r ≡ None
+    → part_fault (most_at image) r ≡ None
     → scans_in (stores_of r) image ≡ Ok ss
     → state_fault (record r { scanned = ss }) ≡ Some f
     → device size image ≡ Err f
@@ -108,7 +108,7 @@ device_stated size r image ss f reads parts stores state =
 -- and where none is it is read
 pub reads_of : (size : ℕ) (r : Read) (image : Image) (ss : List Scanned)
     → FrameReads size image r
-    → part_fault r ≡ None
+    → part_fault (most_at image) r ≡ None
     → scans_in (stores_of r) image ≡ Ok ss
     → state_fault (record r { scanned = ss }) ≡ None
     → Reads size (record r { scanned = ss }) image

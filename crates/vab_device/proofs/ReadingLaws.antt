@@ -31,12 +31,13 @@ use Rattle.vab_device.specs.Phases.{Phase, slot_checks, staged_checks, idle, ins
 use Rattle.vab_device.specs.Phases.{is_good, slot_ready}
 use Rattle.vab_device.specs.Reading.{Read, settled, mark_read, mark_in, statuses_at, control_read}
 use Rattle.vab_device.specs.Reading.{control_in}
-use Rattle.vab_device.specs.Reading.{geometry_at, stores_of, scanned_in}
+use Rattle.vab_device.specs.Reading.{geometry_at, stores_of, scanned_in, most_at}
 use Rattle.vab_device.specs.Reading.{table_at, tables_in, framed, frame, part_fault, state_fault}
 use Rattle.vab_device.specs.Reading.{judged, stated, table_for, parts_for, kept, device}
 use Rattle.vab_device.specs.Reading.{Reads, Represents, SameRead, control_kept}
 use Rattle.vab_device.proofs.CheckLaws.{bound, passed}
 use Rattle.vab_device.proofs.MarkLaws.{mark_slot}
+use Rattle.vab_device.proofs.MostLaws.{parts_more}
 
 -- ---- where it is read it means so
 
@@ -194,7 +195,7 @@ pub record DeviceWas (size : ℕ) (image : Image) (m : Mounted) : Type 0 where
 -- the links of a reading, from the frame to the stores
 read_was : (size : ℕ) (image : Image) (first r : Read)
     → FrameReads size image first
-    → part_fault first ≡ None
+    → part_fault (most_at image) first ≡ None
     → ScannedWas image first r
     → state_fault r ≡ None
     → Reads size r image
@@ -220,12 +221,13 @@ pub device_was : (size : ℕ) (image : Image) (m : Mounted)
     → DeviceWas size image m
 unfolding device judged stated
 device_was size image m is =
-    let last = bound (frame size image >>= judged >>= scanned_in image >>= stated)
+    let judging_by = judged (most_at image) in
+    let last = bound (frame size image >>= judging_by >>= scanned_in image >>= stated)
     (λ r. Ok (mounted_on (kept r) image)) m is in
-    let mid = bound (frame size image >>= judged >>= scanned_in image) stated last.0 last.1 in
-    let judging = bound (frame size image >>= judged) (scanned_in image) mid.0 mid.1 in
-    let first = bound (frame size image) judged judging.0 judging.1 in
-    let parts = passed (part_fault first.0) first.0 judging.0 first.2 in
+    let mid = bound (frame size image >>= judging_by >>= scanned_in image) stated last.0 last.1 in
+    let judging = bound (frame size image >>= judging_by) (scanned_in image) mid.0 mid.1 in
+    let first = bound (frame size image) judging_by judging.0 judging.1 in
+    let parts = passed (part_fault (most_at image) first.0) first.0 judging.0 first.2 in
     let state = passed (state_fault mid.0) mid.0 last.0 mid.2 in
     let scanned : ScannedWas image first.0 mid.0 =
     subst (λ (x : Read). ScannedWas image x mid.0) (sym parts.1)
@@ -253,7 +255,7 @@ reads_kept size r old new reads same = record {
   control = same.control ∙ reads.control;
   geometry = same.geometry ∙ reads.geometry;
   tables = same.tables ∙ reads.tables;
-  parts = reads.parts;
+  parts = parts_more r (most_at old) (most_at new) same.most reads.parts;
   stores = same.stores ∙ reads.stores;
   state = reads.state;
 }

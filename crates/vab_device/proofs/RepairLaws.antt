@@ -21,7 +21,7 @@ use Rattle.vab_device.specs.Kept.{copies_end}
 use Rattle.vab_device.specs.Phases.{phase_at}
 use Rattle.vab_device.specs.Reading.{Read, tables_in, stores_of, kept, Reads, SameRead}
 use Rattle.vab_device.proofs.SameLaws.{mark_same, control_same, geometry_same, table_same}
-use Rattle.vab_device.proofs.SameLaws.{images_same}
+use Rattle.vab_device.proofs.SameLaws.{images_same, version_same, most_same}
 use Rattle.vab_device.proofs.StoreLaws.{statuses_kept, stores_kept, plan_kept}
 use Rattle.vab_device.proofs.Behind.{images_behind, stores_behind, plan_behind}
 
@@ -153,8 +153,10 @@ repair_same size n k r old new geometry slot k_below fits reads others table =
     λ s le. others s (inr (omega (arith, le, apart, fits))) (inr (omega (arith, le, fits))) in
     let within = ends_within g k geometry k_below in
     record {
+      most = most_same old new (before 2048 (omega arith));
       mark = mark_same old new (before 2048 (omega arith));
       statuses = statuses_kept (phase_at r.mark.phase).reads_statuses old new
+          (version_same old new (before 2048 (omega arith)))
           (λ read s is. before s (omega (arith, is.below)));
       control = control_same _ _ old new (before 4 (omega arith));
       geometry = geometry_same size old new (before 4104 (omega arith)) (before 4112 (omega arith));

@@ -1,7 +1,7 @@
 -- What is read the same: where live sectors stay, where copies of tables are written, and where
 -- boot
 -- control is.
-use Rattle.std.proofs.Common.{◌≡◌, ◌∙◌, inl, inr, ⊎_elim, ℕ, ◌+◌}
+use Rattle.std.proofs.Common.{◌≡◌, ◌∙◌, inl, inr, ⊎_elim, ℕ, ◌+◌, ◌≤◌}
 use Rattle.std.proofs.Common.{List, [], ◌∷◌, Ok, refl, ap}
 use Rattle.std.proofs.Common.{arith}
 use Rattle.std.specs.Prelude.{Bool, Option, Some, None, map}
@@ -22,7 +22,9 @@ use Rattle.vab_device.specs.declared.device.Part.{Part}
 use Rattle.vab_device.specs.Checks.{◌>>=◌}
 use Rattle.vab_device.specs.Mounted.{bytes_at, sectors_read, image_on, images_on}
 use Rattle.vab_device.specs.Phases.{phase_at}
-use Rattle.vab_device.specs.Reading.{Read, mark_read, mark_in, control_read, control_in}
+use Rattle.vab_device.specs.Reading.{Read, mark_read, mark_in, version_at, most_at, control_read}
+use Rattle.vab_device.specs.Reading.{control_in}
+use Rattle.vab_marks.specs.Version.{version_in, partitions_under}
 use Rattle.vab_device.specs.Reading.{geometry_read, geometry_at, table_read, table_at, tables_in}
 use Rattle.vab_device.specs.Reading.{kept, Reads, SameRead, Dead}
 use Rattle.vab_device.specs.Reading.{stores_of, IsOfTables, IsOfParts, IsOfImages}
@@ -35,6 +37,14 @@ use Rattle.vab_device.proofs.StoreLaws.{statuses_kept, stores_kept, plan_kept}
 pub mark_same : (old new : Image) → new 2048 ≡ old 2048 → mark_in new ≡ mark_in old
 unfolding mark_in
 mark_same old new same = ap (λ b. mark_read (mark_of b)) same
+
+pub version_same : (old new : Image) → new 2048 ≡ old 2048 → version_at new ≡ version_at old
+version_same old new same = ap version_in same
+
+-- so as many partitions may be there, or more
+pub most_same : (old new : Image) → new 2048 ≡ old 2048 → most_at old ≤ most_at new
+most_same old new same =
+    omega (arith, ap partitions_under (version_same old new same))
 
 pub control_same : (a b : Bool) (old new : Image)
     → new 4 ≡ old 4
@@ -114,8 +124,10 @@ pub agrees_same : (size : ℕ) (r : Read) (old new : Image)
     → Agrees r old new
     → SameRead size r old new
 agrees_same size r old new reads agrees = record {
+  most = most_same old new (agrees 2048 (Live.of_mark refl));
   mark = mark_same old new (agrees 2048 (Live.of_mark refl));
   statuses = statuses_kept (phase_at r.mark.phase).reads_statuses old new
+      (version_same old new (agrees 2048 (Live.of_mark refl)))
       (λ read s is. agrees s (Live.of_statuses read is));
   control = control_same _ _ old new (agrees 4 (Live.of_control refl));
   geometry = geometry_same size old new

@@ -5,13 +5,16 @@ use Rattle.vab_disk.specs.Disk.{Image}
 use Rattle.vab_gate.proofs.Blocks.{sectors_same}
 use Rattle.vab_marks.specs.declared.mark.MarkPhase.{MarkPhase}
 use Rattle.vab_marks.specs.declared.mark.UpdateMark.{UpdateMark}
+use Rattle.vab_marks.specs.declared.version.MarkVersion.TheVariants.{Two}
 use Rattle.vab_marks.specs.Mark.{mark_of, mark_spelling}
+use Rattle.vab_marks.specs.Version.{version_in}
+use Rattle.vab_marks.proofs.MarkLaws.{version_spelled}
 use Rattle.vab_geometry.specs.declared.geometry.Geometry.{Geometry}
 use Rattle.vab_lpstore.specs.Layout.{copy_sectors, primary_of, backup_of, primary_bytes}
 use Rattle.vab_lpstore.specs.Layout.{backup_bytes, BothHold}
 use Rattle.vab_tables.specs.declared.table.Table.{Table}
 use Rattle.vab_device.specs.Checks.{◌>>=◌}
-use Rattle.vab_device.specs.Reading.{settled, mark_read, mark_in, table_at, tables_in}
+use Rattle.vab_device.specs.Reading.{settled, mark_read, mark_in, version_at, table_at, tables_in}
 use Rattle.vab_device.specs.Reading.{IsOfTables}
 use Rattle.vab_device.proofs.CheckLaws.{bound}
 
@@ -27,6 +30,11 @@ mark_there m image stays read same =
     ap (λ (b : List ℕ). mark_read (mark_of b)) same
     ∙ ap mark_read read
     ∙ ap (λ (p : MarkPhase). Ok (record m { phase = p })) stays
+
+pub version_there : (m : UpdateMark) (image : Image)
+    → image 2048 ≡ mark_spelling m
+    → version_at image ≡ Two
+version_there m image same = ap version_in same ∙ version_spelled Two m
 
 -- ---- copies of a table
 

@@ -16,7 +16,8 @@ use Rattle.vab_store.specs.Scan.{scan_of}
 use Rattle.vab_store.proofs.ChunkLaws.{chunk_same}
 use Rattle.vab_store.proofs.ScanLaws.{scan_of_is, scan_of_ok}
 use Rattle.vab_statuses.specs.Statuses.{IsOfStatuses}
-use Rattle.vab_statuses.proofs.StatusesLaws.{statuses_same}
+use Rattle.vab_statuses.specs.Statuses.{statuses_under}
+use Rattle.vab_statuses.proofs.UnderLaws.{under_same}
 use Rattle.vab_device.specs.declared.fault.StartFault.{StartFault}
 use Rattle.vab_device.specs.declared.fault.StartFault.TheVariants.{BadStore}
 use Rattle.vab_device.specs.declared.device.Part.{Part}
@@ -24,7 +25,8 @@ use Rattle.vab_device.specs.declared.device.PartImage.{PartImage}
 use Rattle.vab_device.specs.declared.device.PartImage.TheVariants.{Kept, Declared, Written}
 use Rattle.vab_device.specs.Checks.{◌>>=◌}
 use Rattle.vab_device.specs.Mounted.{written_sectors, planned_on, entry_on, entries_on}
-use Rattle.vab_device.specs.Reading.{statuses_read, statuses_at, IsOfBlocks, IsOfStores}
+use Rattle.vab_device.specs.Reading.{version_at, statuses_read, statuses_at, IsOfBlocks}
+use Rattle.vab_device.specs.Reading.{IsOfStores}
 use Rattle.vab_device.specs.Reading.{IsOfWritten, IsOfPlanned, IsOfPlan}
 use Rattle.vab_device.specs.Stores.{Wanted, Scanned, scan_read, scan_at, scans_in}
 use Rattle.vab_device.proofs.CheckLaws.{bound}
@@ -33,11 +35,14 @@ use Rattle.vab_device.proofs.BlockLaws.{bytes_same}
 -- ---- the statuses
 
 pub statuses_kept : (b : Bool) (old new : Image)
+    → version_at new ≡ version_at old
     → (b ≡ true → (s : ℕ) → IsOfStatuses s → new s ≡ old s)
     → statuses_at b new ≡ statuses_at b old
 unfolding statuses_at
-statuses_kept false old new same = refl
-statuses_kept true old new same = ap statuses_read (statuses_same old new (same refl))
+statuses_kept false old new version same = refl
+statuses_kept true old new version same =
+    ap (λ v. statuses_read (statuses_under v new)) version
+    ∙ ap statuses_read (under_same (version_at old) old new (same refl))
 
 -- ---- a store
 

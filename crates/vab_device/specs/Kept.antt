@@ -3,7 +3,7 @@ use Rattle.std.specs.Prelude.{◌≡◌, ◌≢◌, ◌⊎◌, ℕ, ◌+◌, ◌
 use Rattle.std.specs.Prelude.{Bool, true, false, nat_le, if◌then◌else◌, List, map, length}
 use Rattle.std.specs.Prelude.{Option, Some, None, is_some, All, AllPairs, IsTrue}
 use Rattle.std.specs.Str.{bytes_eq}
-use Rattle.vab_names.specs.Names.{is_base, base_of, default_name}
+use Rattle.vab_names.specs.Names.{is_base, base_of, default_name, most_partitions}
 use Rattle.vab_bootctl.specs.Control.{Fits as FitsControl}
 use Rattle.vab_marks.specs.declared.mark.MarkPhase.{MarkPhase}
 use Rattle.vab_marks.specs.declared.mark.MarkPhase.TheVariants as marks
@@ -102,10 +102,10 @@ pub record IsPart (size : ℕ) (p : Part) : Type 0 where
   pub small : length p.map ≤ 2 ^ 28
   pub store : IsStored size p.map p.store p.image
 
--- at most 32 partitions of a slot
+-- the partitions of a slot, not too many
 pub record AreParts (size : ℕ) (parts : List Part) : Type 0 where
   pub each : All (IsPart size) parts
-  pub few : length parts ≤ 32
+  pub few : length parts ≤ most_partitions
 
 abbrev pub ArePresent : ℕ → Option (List Part) → Type 0
 ArePresent size None = Unit {0}

@@ -29,7 +29,8 @@ use Rattle.vab_device.specs.Kept.{sectors_of}
 use Rattle.vab_device.specs.Stores.{Wanted, wanted_of, or_fewer, first_named, Scanned}
 use Rattle.vab_device.specs.Stores.{exceptions_of}
 
--- No field sees more than it may depend on. A slot is that of the update mark.
+-- No field sees more than it may depend on. A slot is that of the update mark, and the most are the
+-- most partitions that a slot may have.
 pub record Phase : Type 0 where
   -- the slots whose tables are read, in this order
   pub tables : ℕ → List ℕ
@@ -41,7 +42,7 @@ pub record Phase : Type 0 where
   -- the statuses of partitions are read
   pub reads_statuses : Bool
   -- the rules of the tables and of their partitions, and those of the slots
-  pub part_checks : ℕ → List Table → List Check
+  pub part_checks : (most slot : ℕ) → List Table → List Check
   pub state_checks : ℕ → Control → List Table → List Scanned → List Check
   -- the stores that are read, in the order of the statuses that name them
   pub stores : ℕ → List Table → List PartStatus → List (Result Wanted StartFault)
@@ -53,8 +54,8 @@ abbrev pub is_good : Info → Bool
 is_good info = not (info.priority == 0) && info.successful
 
 -- a slot's own partitions keep their rules
-abbrev pub own_check : ℕ → Table → Check
-own_check slot t = names_none (bad_part slot [] (own_parts slot (layout_of t).parts))
+abbrev pub own_check : (most slot : ℕ) → Table → Check
+own_check most slot t = names_none (bad_part most slot [] (own_parts slot (layout_of t).parts))
 
 -- of the first table, where there is one
 abbrev pub of_first_table : {A : Type 0} → A → (Table → A) → List Table → A
@@ -79,7 +80,7 @@ idle = record {
   has_b = λ slot. slot == 1;
   through = λ slot k. false;
   reads_statuses = false;
-  part_checks = λ slot. of_first slot (λ t. own_check slot t ∷ []);
+  part_checks = λ most slot. of_first slot (λ t. own_check most slot t ∷ []);
   state_checks = λ slot c ts scanned. slot_checks slot c;
   stores = λ slot ts statuses. [];
   plan = λ slot ts scanned. None;
@@ -101,14 +102,15 @@ twin_check target s t =
     (BadTable target)
 
 -- the target's partitions and stores keep their rules beside the source
-abbrev pub target_check : ℕ → Table → Table → Check
-target_check target s t = names_none (bad_target_of target (layout_of s).parts (layout_of t).parts)
+abbrev pub target_check : (most target : ℕ) → Table → Table → Check
+target_check most target s t =
+    names_none (bad_target_of most target (layout_of s).parts (layout_of t).parts)
 
-abbrev pub update_checks : ℕ → Table → Table → List Check
-update_checks source s t =
+abbrev pub update_checks : (most source : ℕ) → Table → Table → List Check
+update_checks most source s t =
     twin_check (other_slot source) s t
-    ∷ own_check source s
-    ∷ target_check (other_slot source) s t
+    ∷ own_check most source s
+    ∷ target_check most (other_slot source) s t
     ∷ []
 
 -- what is known of a partition that is updated or not, and the exceptions of its store
@@ -142,8 +144,8 @@ abbrev pub installing : Phase
 installing = record idle {
   tables = λ slot. slot ∷ other_slot slot ∷ [];
   reads_statuses = true;
-  part_checks = λ slot.
-      of_both (check false (BadTable slot) ∷ []) (λ s t. update_checks slot s t);
+  part_checks = λ most slot.
+      of_both (check false (BadTable slot) ∷ []) (λ s t. update_checks most slot s t);
   stores = λ slot ts statuses.
       of_both [] (λ s t. map (wanted_of (other_slot slot) (layout_of t)) statuses) ts;
   plan = λ slot ts scanned.
@@ -192,8 +194,8 @@ staged = record installing {
 -- ---- the stores of an update are merged
 
 -- the slot's partitions and stores keep their rules, with no source beside them
-abbrev pub merging_check : ℕ → Table → Check
-merging_check slot t = names_none (bad_merging_of slot (layout_of t).parts)
+abbrev pub merging_check : (most slot : ℕ) → Table → Check
+merging_check most slot t = names_none (bad_merging_of most slot (layout_of t).parts)
 
 -- each partition of the slot is kept or written
 abbrev pub slot_ready : ℕ → List Table → List Scanned → Bool
@@ -213,7 +215,7 @@ abbrev pub merging : Phase
 merging = record idle {
   through = λ slot k. slot == k;
   reads_statuses = true;
-  part_checks = λ slot. of_first slot (λ t. merging_check slot t ∷ []);
+  part_checks = λ most slot. of_first slot (λ t. merging_check most slot t ∷ []);
   state_checks = merging_checks;
   stores = λ slot ts statuses.
       of_first_table []

@@ -1,5 +1,6 @@
 -- What a whole disk means: a device with its images, or the first thing that is wrong.
-use Rattle.std.specs.Prelude.{◌≡◌, ◌⊎◌, ℕ, ◌+◌, ◌==◌, Bool, true, false, nat_le, if◌then◌else◌}
+use Rattle.std.specs.Prelude.{◌≡◌, ◌⊎◌, ℕ, ◌+◌, ◌≤◌, ◌==◌, Bool, true, false, nat_le}
+use Rattle.std.specs.Prelude.{if◌then◌else◌}
 use Rattle.std.specs.Prelude.{List, [], ◌∷◌, Option, Some, None, Result, Ok, Err}
 use Rattle.vab_disk.specs.Disk.{Image}
 use Rattle.vab_disk.specs.Calls.{IsBetween, SameBut}
@@ -11,8 +12,11 @@ use Rattle.vab_marks.specs.declared.mark.MarkPhase.TheVariants as marks
 use Rattle.vab_marks.specs.declared.mark.UpdateMark.{UpdateMark}
 use Rattle.vab_marks.specs.declared.sector.MarkFault.{MarkFault}
 use Rattle.vab_marks.specs.declared.status.PartStatus.{PartStatus}
+use Rattle.vab_marks.specs.declared.version.MarkVersion.{MarkVersion}
+use Rattle.vab_marks.specs.declared.version.MarkVersion.TheVariants.{Two}
 use Rattle.vab_marks.specs.Mark.{mark_of}
-use Rattle.vab_statuses.specs.Statuses.{statuses_in, written_in, IsOfStatuses}
+use Rattle.vab_marks.specs.Version.{version_in, partitions_under}
+use Rattle.vab_statuses.specs.Statuses.{statuses_under, written_in, IsOfStatuses}
 use Rattle.vab_tables.specs.declared.table.Table.{Table}
 use Rattle.vab_tables.specs.declared.fault.TableFault.{TableFault}
 use Rattle.vab_tables.specs.Rules.{cap_of}
@@ -66,15 +70,22 @@ mark_read (Err fault) = Err (BadMark 2048)
 unfoldable pub mark_in : Image → Result UpdateMark StartFault
 mark_in image = mark_read (mark_of (image 2048))
 
+-- the version of the mark, and the most partitions that a slot may have under it
+abbrev pub version_at : Image → MarkVersion
+version_at image = version_in (image 2048)
+
+abbrev pub most_at : Image → ℕ
+most_at image = partitions_under (version_at image)
+
 abbrev pub statuses_read : Result (List (Option PartStatus)) ℕ
     → Result (List (Option PartStatus)) StartFault
 statuses_read (Ok statuses) = Ok statuses
 statuses_read (Err sector) = Err (BadMark sector)
 
--- the statuses, where they are read
+-- the statuses, where they are read: those that the mark's version has
 unfoldable pub statuses_at : Bool → Image → Result (List (Option PartStatus)) StartFault
 statuses_at false image = Ok []
-statuses_at true image = statuses_read (statuses_in image)
+statuses_at true image = statuses_read (statuses_under (version_at image) image)
 
 abbrev pub control_read : Bool → Bool → Result Control ControlFault → Result Control StartFault
 control_read has_a has_b (Ok c) = Ok (control_seen has_a has_b c)
@@ -139,17 +150,17 @@ frame size image =
     unless (nat_le 4120 size) (TooSmall 4120 size) (mark_in image) >>= λ m.
     framed size m (phase_at m.phase) image
 
-abbrev pub part_fault : Read → Option StartFault
-part_fault r = first_fault ((phase_at r.mark.phase).part_checks r.mark.slot r.tables)
+abbrev pub part_fault : (most : ℕ) → Read → Option StartFault
+part_fault most r = first_fault ((phase_at r.mark.phase).part_checks most r.mark.slot r.tables)
 
 abbrev pub state_fault : Read → Option StartFault
 state_fault r =
     first_fault
     ((phase_at r.mark.phase).state_checks r.mark.slot r.control r.tables r.scanned)
 
--- the rules of the partitions
-unfoldable pub judged : Read → Result Read StartFault
-judged r = passing (part_fault r) r
+-- the rules of the partitions, of which a slot has so many at most
+unfoldable pub judged : (most : ℕ) → Read → Result Read StartFault
+judged most r = passing (part_fault most r) r
 
 -- the stores that are read
 abbrev pub stores_of : Read → List (Result Wanted StartFault)
@@ -213,7 +224,7 @@ kept r = record {
 -- What a disk of so many sectors means: the links in their order.
 unfoldable pub device : ℕ → Image → Result Mounted StartFault
 device size image =
-    frame size image >>= judged >>= scanned_in image >>= stated >>= λ r.
+    frame size image >>= judged (most_at image) >>= scanned_in image >>= stated >>= λ r.
     Ok (mounted_on (kept r) image)
 
 -- a disk of so many sectors is this device
@@ -233,7 +244,7 @@ pub record Reads (size : ℕ) (r : Read) (image : Image) : Type 0 where
   pub geometry : geometry_at size image ≡ Ok r.geometry
   pub tables : tables_in size r.geometry ((phase_at r.mark.phase).tables r.mark.slot) image
       ≡ Ok r.tables
-  pub parts : part_fault r ≡ None
+  pub parts : part_fault (most_at image) r ≡ None
   pub stores : scans_in (stores_of r) image ≡ Ok r.scanned
   pub state : state_fault r ≡ None
 
@@ -247,20 +258,28 @@ AgreeCopies g (s ∷ ss) (t ∷ ts) image =
     ((text : List ℕ) × IsTableText g.max text t × BothHold g s text image)
     × AgreeCopies g ss ts image
 
--- The device that is kept is that of the disk: it is what is read of it, with the whole boot
--- control, its tables are those that the disk reads, and both copies of each agree.
-pub record Represents (d : Device) (size : ℕ) (image : Image) : Type 0 where
+-- The device that is kept is that of the disk, whose mark has this version: it is what is read of
+-- it, with the whole boot control, its tables are those that the disk reads, and both copies of
+-- each agree.
+pub record RepresentsUnder (v : MarkVersion) (d : Device) (size : ℕ) (image : Image) : Type 0 where
   pub read : Read
   pub reads : Reads size read image
   pub is : d ≡ record (kept read) { control = d.control }
   pub control : control_of (image 4) ≡ Ok d.control
   pub copies : AgreeCopies read.geometry ((phase_at read.mark.phase).tables read.mark.slot)
       read.tables image
+  pub version : version_at image ≡ v
+
+-- The kept device of a disk that is open: the mark has version 2.
+abbrev pub Represents : Device → ℕ → Image → Type 0
+Represents d size image = RepresentsUnder Two d size image
 
 -- ---- what is read the same
 
--- Each part that is read, and the images, are the same in both.
+-- Each part that is read, and the images, are the same in both, and a slot may have as many
+-- partitions or more.
 pub record SameRead (size : ℕ) (r : Read) (old new : Image) : Type 0 where
+  pub most : most_at old ≤ most_at new
   pub mark : mark_in new ≡ mark_in old
   pub statuses : statuses_at (phase_at r.mark.phase).reads_statuses new
       ≡ statuses_at (phase_at r.mark.phase).reads_statuses old

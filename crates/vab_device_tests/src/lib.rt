@@ -2,6 +2,8 @@
 #![tactic(auto)]
 
 #[cfg(test)]
+mod adopting;
+#[cfg(test)]
 mod devices;
 #[cfg(test)]
 mod making;
@@ -19,3 +21,5 @@ mod texts;
 mod tidying;
 #[cfg(test)]
 mod updates;
+#[cfg(test)]
+mod versions;

@@ -307,10 +307,11 @@ fn an_update_that_is_cut_is_the_old_one_or_the_new_one(rt: HostRuntime) -> Resul
     let alloc = rt.alloc();
     // Of each step, whether it was cut at some call, and done at another.
     let mut seen = [[false; 2]; 3];
-    for stop in 0..80u64 {
+    // A begin makes some 70 calls, most of them zeros over the statuses.
+    for stop in 0..112u64 {
         let mut d = device_of_one(alloc)?;
         let mut before = None;
-        let stops = [stop, stop / 4, stop.saturating_sub(45)];
+        let stops = [stop, stop.saturating_sub(32) / 4, stop.saturating_sub(77)];
         for (step, (command, after)) in CUT.iter().enumerate() {
             let (done, left) = cut(alloc, d, stops[step], command, Some(b"abd"));
             d = left;

@@ -215,7 +215,7 @@ module _ {D : Type 0} (g : Ghosts D) (d : Device) (edit : Edit) (staged : Option
           mounted_edited (g.size old) d.mark.slot (text_sectors (length text)) (st t).statuses
           (st t).seen
           d.geometry p.s p.t u (st t).scanned edit (g.seen old) image kept.geometry kept.slot fits
-          (st t).reads was p.given.is_edited lies others d.control
+          (st t).reads was p.given.is_edited lies (st t).version others d.control
           ∙ (λ i. installing_with (mounted_on (sym (st t).is i) (g.seen old)) d.mark.slot
           (map (entry_on (g.seen old))
           (sym (planned_at d (g.size old) (g.seen old) p.s p.t p.tables.old_plan
@@ -228,7 +228,8 @@ module _ {D : Type 0} (g : Ghosts D) (d : Device) (edit : Edit) (staged : Option
           device_edited (g.size old) d.mark.slot (text_sectors (length text)) (st t).statuses
           (st t).seen
           d.geometry p.s p.t u (st t).scanned edit (g.seen old) image kept.geometry kept.slot fits
-          (st t).reads was p.given.is_edited lies others d.control (st t).control there
+          (st t).reads was p.given.is_edited lies (st t).version others d.control (st t).control
+          there
           ∙ ap Ok mounted
 
       represents_at : BothHold d.geometry (other_slot d.mark.slot) text image
@@ -240,8 +241,8 @@ module _ {D : Type 0} (g : Ghosts D) (d : Device) (edit : Edit) (staged : Option
           represents_edited (g.size old) d.mark.slot (text_sectors (length text)) (st t).statuses
           (st t).seen
           d.geometry p.s p.t u (st t).scanned edit (g.seen old) image kept.geometry kept.slot fits
-          (st t).reads was p.given.is_edited lies others d.control text (st t).control (st t).copies
-          p.given.is_text held
+          (st t).reads was p.given.is_edited lies (st t).version others d.control text
+          (st t).control (st t).copies p.given.is_text held
 
       plan_is : carried_over d.plan plan
           ≡ plan_of (other_slot d.mark.slot) (layout_of u) (st t).scanned
@@ -256,7 +257,7 @@ module _ {D : Type 0} (g : Ghosts D) (d : Device) (edit : Edit) (staged : Option
           ∙ carried_plan (g.size old) d.mark.slot (text_sectors (length text)) (st t).statuses
           (st t).seen
           d.geometry p.s p.t u (st t).scanned edit (g.seen old) image kept.geometry kept.slot fits
-          (st t).reads was p.given.is_edited lies others
+          (st t).reads was p.given.is_edited lies (st t).version others
 
       device_is : with_target d (other_slot d.mark.slot) u (carried_over d.plan plan)
           ≡ device_at d.mark.slot (st t).statuses (st t).seen d.geometry p.s u

@@ -53,6 +53,11 @@ use Rattle.vab_edit.proofs.NextLaws.{device_at, mounted_next}
 use Rattle.vab_edit.proofs.PlanLaws.{store_updated, plan_carried, plan_means}
 use Rattle.vab_edit.proofs.SparedLaws.{spared}
 use Rattle.vab_edit.proofs.WantedLaws.{scanned_both, wanted_still}
+use Rattle.vab_names.specs.Names.{most_partitions}
+use Rattle.vab_marks.specs.declared.version.MarkVersion.TheVariants.{Two}
+use Rattle.vab_device.specs.Reading.{version_at, most_at}
+use Rattle.vab_device.proofs.MostLaws.{parts_all, parts_two}
+use Rattle.vab_device.proofs.SameLaws.{version_same}
 
 -- ---- slots
 
@@ -103,6 +108,7 @@ module _
     (was : IsTarget (other_slot k) (layout_of s).parts (layout_of t).parts)
     (edited : IsEdited g.max k edit s t u)
     (lies : lies_in size g (layout_of u).device ≡ true)
+    (two : version_at old ≡ Two)
     (others : SameElsewhere g (other_slot k) n old image) where
   abbrev o : ℕ
   o = other_slot k
@@ -125,11 +131,14 @@ module _
 
   -- the partitions and stores keep their rules
 
-  old_rules : (twin_check o s t ≡ None) × (own_check k s ≡ None)
+  abbrev most : ℕ
+  most = most_partitions
+
+  old_rules : (twin_check o s t ≡ None) × (own_check most k s ≡ None)
   old_rules =
-      let first = first_kept (twin_check o s t) (own_check k s ∷ target_check o s t ∷ [])
-      reads.parts in
-      let second = first_kept (own_check k s) (target_check o s t ∷ []) first.1 in
+      let first = first_kept (twin_check o s t) (own_check most k s ∷ target_check most o s t ∷ [])
+      (parts_all r old reads.parts) in
+      let second = first_kept (own_check most k s) (target_check most o s t ∷ []) first.1 in
       (first.0, second.0)
 
   twins : twin_check o s u ≡ None
@@ -143,10 +152,17 @@ module _
       ((twins_are o s.groups t.groups).0 both.1 ∙ sym edited.groups) in
       ap (λ (b : Bool). check b (BadTable o)) (and_from _ _ devices groups)
 
-  parts : part_fault (read_at k statuses seen g s u scanned) ≡ None
+  version : version_at image ≡ version_at old
+  version = version_same old image (before 2048 (omega arith))
+
+  parts : part_fault (most_at image) (read_at k statuses seen g s u scanned) ≡ None
   parts =
-      three_none (twin_check o s u) (own_check k s) (target_check o s u) twins old_rules.1
-      (ap names_none (target_not_bad o (layout_of s).parts (layout_of u).parts edited.target))
+      parts_two (read_at k statuses seen g s u scanned) image (version ∙ two)
+      (three_none (twin_check o s u) (own_check most k s) (target_check most o s u) twins
+      old_rules.1
+      (ap names_none
+      (target_not_bad most o (layout_of s).parts (layout_of u).parts
+      (record { is = edited.target; few = edited.target.own.few }))))
 
   -- the tables
 
@@ -197,7 +213,7 @@ module _
       enough = reads.enough;
       mark = mark_same old image (before 2048 (omega arith)) ∙ reads.mark;
       statuses =
-          statuses_kept true old image (λ read a is. before a (omega (arith, is.below)))
+          statuses_kept true old image version (λ read a is. before a (omega (arith, is.below)))
           ∙ reads.statuses;
       control = control_same _ _ old image (before 4 (omega arith)) ∙ reads.control;
       geometry =
@@ -302,4 +318,5 @@ module _
       ),
       ((text, is, held), tt),
     );
+    version = version ∙ two;
   }

@@ -22,6 +22,8 @@ use Rattle.vab_device.specs.Stores.{Scanned}
 use Rattle.vab_device.proofs.CheckLaws.{bound}
 use Rattle.vab_device.proofs.ReadingLaws.{device_of, has_images, control_is_seen}
 use Rattle.vab_marks.specs.Mark.{mark_at}
+use Rattle.vab_marks.specs.declared.version.MarkVersion.TheVariants.{Two}
+use Rattle.vab_device.specs.Reading.{version_at}
 
 -- what is read: the source's slot, its table and the target's
 abbrev pub read_at : ℕ
@@ -87,6 +89,7 @@ pub record StandsInstalling (d : Device) (size : ℕ) (image : Image) : Type 0 w
   }
   pub control : control_of (image 4) ≡ Ok d.control
   pub copies : AgreeCopies geometry (slot ∷ other_slot slot ∷ []) (source ∷ target ∷ []) image
+  pub version : version_at image ≡ Two
 
 -- the parts of a reading that is a device's
 record StandsFor (d : Device) (size : ℕ) (image : Image) (r : Read) : Type 0 where
@@ -131,6 +134,7 @@ stands_installing d size image is installing =
       is = formed.is;
       control = is.control;
       copies = formed.copies;
+      version = is.version;
     }
 
 -- ---- what a disk means, whose boot control is kept whole

@@ -5,7 +5,7 @@ use Rattle.std.specs.Prelude.{◌==◌, nat_le, nat_lt, bit_or, if◌then◌else
 use Rattle.std.specs.Str.{bytes_eq}
 use Rattle.std.proofs.lemmas.List.Elements.{filter_passes}
 use Rattle.vab_names.specs.Names.{is_full, is_of_slot, in_slot, store_of, default_name}
-use Rattle.vab_names.specs.Names.{store_group_name}
+use Rattle.vab_names.specs.Names.{store_group_name, most_partitions}
 use Rattle.vab_space.specs.declared.Want.{Want}
 use Rattle.vab_space.specs.Space.{blocks_of, group_sum_of, used_of}
 use Rattle.vab_tables.specs.Rules.{cap_of}
@@ -94,7 +94,7 @@ module _
         unless (is_full slot name) BadName
         (unless (nat_le bytes (2 ^ 40)) BadSize
         (unless (not (is_known slot target name)) Exists
-        (unless (nat_lt (length mine) 32) (TooMany (length mine + 1))
+        (unless (nat_lt (length mine) most_partitions) (TooMany (length mine + 1))
         (unless (is_within sum (limit_of target.groups group))
         (GroupLimit sum (limit_of target.groups group))
         (unless (nat_le (created_used name n i) (cap_of target.device))

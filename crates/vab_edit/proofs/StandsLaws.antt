@@ -21,6 +21,8 @@ use Rattle.vab_device.specs.Stores.{Scanned}
 use Rattle.vab_edit.specs.Prepared.{HasTables}
 use Rattle.vab_edit.proofs.InstallingLaws.{read_at, stands_installing}
 use Rattle.vab_edit.proofs.NextLaws.{device_at}
+use Rattle.vab_marks.specs.declared.version.MarkVersion.TheVariants.{Two}
+use Rattle.vab_device.specs.Reading.{version_at}
 
 pub record StandsUpdate (d : Device) (size : ℕ) (image : Image) (s t : Table) : Type 0 where
   pub statuses : List (Option PartStatus)
@@ -30,6 +32,7 @@ pub record StandsUpdate (d : Device) (size : ℕ) (image : Image) (s t : Table) 
   pub is : d ≡ device_at d.mark.slot statuses seen d.geometry s t scanned d.control
   pub control : control_of (image 4) ≡ Ok d.control
   pub copies : AgreeCopies d.geometry (d.mark.slot ∷ other_slot d.mark.slot ∷ []) (s ∷ t ∷ []) image
+  pub version : version_at image ≡ Two
 
 pub installing_phase : (m : MarkPhase) → IsPhase m → is_installing m ≡ true → m ≡ marks.Installing
 installing_phase m (inl is) t =
@@ -109,6 +112,7 @@ stands_update d size image s t is has represents =
           (λ (x : ℕ × Geometry × Table × Table).
           AgreeCopies x.1 (x.0 ∷ other_slot x.0 ∷ []) (x.2 ∷ x.3 ∷ []) image)
           all st.copies;
+      version = st.version;
     }
 
 -- what is planned

@@ -42,6 +42,11 @@ use Rattle.vab_device.proofs.StayLaws.{mark_there, copy_stays, copies_from}
 use Rattle.vab_device.proofs.Steps.{marked}
 use Rattle.vab_finish.specs.Finished.{finished_device}
 use Rattle.vab_finish.proofs.FinalLaws.{count_plain, count_planned}
+use Rattle.vab_marks.specs.declared.version.MarkVersion.TheVariants.{Two}
+use Rattle.vab_device.specs.Reading.{version_at}
+use Rattle.vab_device.proofs.MostLaws.{parts_under}
+use Rattle.vab_device.proofs.SameLaws.{version_same, most_same}
+use Rattle.vab_device.proofs.StayLaws.{version_there}
 
 -- the source's boot control lets it be booted, also with nothing said of the target
 runs_of : (slot : ℕ) (c : Control)
@@ -100,8 +105,11 @@ module _
   -- nothing is said of the target, of which nothing is read
   pub same_read : SameRead size before old mid
   same_read = record {
+    most = most_same old mid (stays 2048 (λ e. omega (arith, e)));
     mark = mark_same old mid (stays 2048 (λ e. omega (arith, e)));
-    statuses = statuses_kept true old mid (λ read s is. stays s (λ e. omega (arith, e, is.from)));
+    statuses =
+        statuses_kept true old mid (version_same old mid (stays 2048 (λ e. omega (arith, e))))
+        (λ read s is. stays s (λ e. omega (arith, e, is.from)));
     control = seen_same;
     geometry =
         geometry_same size old mid
@@ -150,6 +158,7 @@ module _
   module _
       (prepared : control_of (mid 4) ≡ Ok (cleared_of c (other_slot slot)))
       (copies : AgreeCopies g (slot ∷ other_slot slot ∷ []) (t ∷ u ∷ []) old)
+      (version : version_at old ≡ Two)
       (read : mark_of (mark_spelling (staged_mark slot)) ≡ Ok (staged_mark slot))
       (ready : are_ready (plan_of (other_slot slot) (layout_of u) scanned) ≡ true) where
     abbrev new : Image
@@ -192,13 +201,18 @@ module _
         ≡ None
     state_new = rw (runs, ready) refl
 
+    pub version_new : version_at new ≡ Two
+    version_new =
+        version_there (staged_mark slot) new
+        (set_here mid 2048 (mark_spelling (staged_mark slot)) 2048 refl)
+
     pub reads_new : Reads size after new
     reads_new = record {
       enough = reads.enough;
       mark = mark_there (staged_mark slot) new refl read
           (set_here mid 2048 (mark_spelling (staged_mark slot)) 2048 refl);
       statuses =
-          statuses_kept true old new
+          statuses_kept true old new (version_new ∙ sym version)
           (λ read s is.
           elsewhere s (λ e. omega (arith, e, is.from)) (λ e. omega (arith, e, is.from)))
           ∙ reads.statuses;
@@ -212,7 +226,7 @@ module _
           tables_agree size g (slot ∷ other_slot slot ∷ []) old new
           (table_sectors (slot ∷ other_slot slot ∷ []))
           ∙ reads.tables;
-      parts = reads.parts;
+      parts = parts_under before old new (version_new ∙ sym version) reads.parts;
       stores =
           stores_kept (stores_of before) old new scanned
           (λ s is. from_behind s (stores_behind size 4096 before old s reads (omega arith) is))

@@ -38,6 +38,9 @@ use Rattle.vab_finish.proofs.FinalLaws.{source_named, final_all}
 use Rattle.vab_finish.proofs.FinishedLaws.{same_read, reads_new, control_new, copies_new, images_a}
 use Rattle.vab_finish.proofs.FinishedLaws.{images_b, kept_finished, means_a, means_b}
 use Rattle.vab_finish.proofs.ReadyLaws.{ready_of, finish_by}
+use Rattle.vab_marks.specs.declared.version.MarkVersion.TheVariants.{Two}
+use Rattle.vab_device.specs.Reading.{version_at}
+use Rattle.vab_finish.proofs.FinishedLaws.{version_new}
 
 installing_only : (p : MarkPhase) → is_installing p ≡ true → p ≡ marks.Installing
 installing_only marks.Idle is = absurd cc
@@ -102,6 +105,7 @@ module _ (told : Type 0) (size : ℕ) (old : Image) where
       → Reads size r old
       → control_of (old 4) ≡ Ok d.control
       → AgreeCopies r.geometry ((phase_at r.mark.phase).tables r.mark.slot) r.tables old
+      → version_at old ≡ Two
       → SameBut (Writes d) old mid
       → control_of (mid 4) ≡ Ok (cleared_of d.control (other_slot d.mark.slot))
       → mark_of (mark_spelling (staged_mark d.mark.slot)) ≡ Ok (staged_mark d.mark.slot)
@@ -127,6 +131,7 @@ module _ (told : Type 0) (size : ℕ) (old : Image) where
         (reads : Reads size (update_read marks.Installing slot ss seen g t u scanned) old)
         (whole : control_of (old 4) ≡ Ok c)
         (copies : AgreeCopies g (slot ∷ other_slot slot ∷ []) (t ∷ u ∷ []) old)
+        (version : version_at old ≡ Two)
         (same : SameBut (Writes was) old mid)
         (prepared : control_of (mid 4) ≡ Ok (cleared_of c (other_slot slot)))
         (read : mark_of (mark_spelling (staged_mark slot)) ≡ Ok (staged_mark slot))
@@ -138,12 +143,14 @@ module _ (told : Type 0) (size : ℕ) (old : Image) where
       represents = record {
         read = update_read marks.Staged slot ss (cleared_of c (other_slot slot)) g t u scanned;
         reads = reads_new slot ss seen g t u scanned c told size old mid dev.slot reads whole same
-            prepared copies read ready;
+            prepared copies version read ready;
         is = kept_finished slot ss seen g t u scanned c dev.slot;
         control = control_new slot ss seen g t u scanned c told size old mid dev.slot reads whole
-            same prepared copies read ready;
+            same prepared copies version read ready;
         copies = copies_new slot ss seen g t u scanned c told size old mid dev.slot reads whole
-            same prepared copies read ready;
+            same prepared copies version read ready;
+        version = version_new slot ss seen g t u scanned c told size old mid dev.slot reads whole
+            same prepared copies version read ready;
       }
 
       final_same : map (final_image (state_on was old) slot) (map (entry_on old) planned)
@@ -166,6 +173,7 @@ module _ (told : Type 0) (size : ℕ) (old : Image) where
       (reads : Reads size (update_read marks.Installing slot ss seen g t u scanned) old)
       (whole : control_of (old 4) ≡ Ok c)
       (copies : AgreeCopies g (slot ∷ other_slot slot ∷ []) (t ∷ u ∷ []) old)
+      (version : version_at old ≡ Two)
       (same : SameBut (Writes (was slot ss seen g t u scanned c)) old mid)
       (prepared : control_of (mid 4) ≡ Ok (cleared_of c (other_slot slot)))
       (read : mark_of (mark_spelling (staged_mark slot)) ≡ Ok (staged_mark slot))
@@ -174,53 +182,58 @@ module _ (told : Type 0) (size : ℕ) (old : Image) where
       (marked mid (mark_spelling (staged_mark slot)))
       ≡ finished (mounted_on (was slot ss seen g t u scanned c) old) slot
       (map (entry_on old) (planned slot ss seen g t u scanned c))
-  means_shape zero ss seen g t u scanned c mid dev reads whole copies same prepared read ready =
+  means_shape zero ss seen g t u scanned c mid dev reads whole copies version same prepared read
+      ready =
       let new = marked mid (mark_spelling (staged_mark 0)) in
       let a = some_same 0 ss seen g t u scanned c _ new
       (images_a 0 ss seen g t u scanned c told size old mid dev.slot reads whole same prepared
-      copies
+      copies version
       read ready) in
       let b = some_same 0 ss seen g t u scanned c _ new
       (images_b 0 ss seen g t u scanned c told size old mid dev.slot reads whole same prepared
-      copies
+      copies version
       read ready) in
       ap (λ (k : Device). mounted_on k new) (kept_finished 0 ss seen g t u scanned c dev.slot)
       ∙ means_a ss seen g t u scanned c old new a
       (b ∙ sym
-      (final_same 0 ss seen g t u scanned c mid dev reads whole copies same prepared read ready))
-  means_shape (suc zero) ss seen g t u scanned c mid dev reads whole copies same prepared read
-      ready =
+      (final_same 0 ss seen g t u scanned c mid dev reads whole copies version same prepared read
+      ready))
+  means_shape (suc zero) ss seen g t u scanned c mid dev reads whole copies version same prepared
+      read ready =
       let new = marked mid (mark_spelling (staged_mark 1)) in
       let a = some_same 1 ss seen g t u scanned c _ new
       (images_a 1 ss seen g t u scanned c told size old mid dev.slot reads whole same prepared
-      copies
+      copies version
       read ready) in
       let b = some_same 1 ss seen g t u scanned c _ new
       (images_b 1 ss seen g t u scanned c told size old mid dev.slot reads whole same prepared
-      copies
+      copies version
       read ready) in
       ap (λ (k : Device). mounted_on k new) (kept_finished 1 ss seen g t u scanned c dev.slot)
       ∙ means_b ss seen g t u scanned c old new b
       (a ∙ sym
-      (final_same 1 ss seen g t u scanned c mid dev reads whole copies same prepared read ready))
-  means_shape (suc (suc n)) ss seen g t u scanned c mid dev reads whole copies same prepared read
-      ready = absurd (omega (arith, dev.slot))
+      (final_same 1 ss seen g t u scanned c mid dev reads whole copies version same prepared read
+      ready))
+  means_shape (suc (suc n)) ss seen g t u scanned c mid dev reads whole copies version same prepared
+      read ready = absurd (omega (arith, dev.slot))
 
   next_shape : (slot : ℕ) (ss : List (Option PartStatus)) (seen : Control) (g : Geometry)
       (t u : Table) (scanned : List Scanned) (c : Control) (mid : Image)
       → NextOf mid (was slot ss seen g t u scanned c)
       (update_read marks.Installing slot ss seen g t u scanned)
-  next_shape slot ss seen g t u scanned c mid dev reads whole copies same prepared read ready =
+  next_shape slot ss seen g t u scanned c mid dev reads whole copies version same prepared read
+      ready =
       let both : Some (planned slot ss seen g t u scanned c) ≡ Some ready.plan = ready.plan_is in
       let e : planned slot ss seen g t u scanned c ≡ ready.plan = cc in
       let are : are_ready (planned slot ss seen g t u scanned c) ≡ true =
       ap are_ready e ∙ ready_of ready.plan ready.none in
       record {
         represents =
-            represents slot ss seen g t u scanned c mid dev reads whole copies same prepared
+            represents slot ss seen g t u scanned c mid dev reads whole copies version same prepared
             read are;
         means =
-            means_shape slot ss seen g t u scanned c mid dev reads whole copies same prepared read
+            means_shape slot ss seen g t u scanned c mid dev reads whole copies version same
+            prepared read
             are
             ∙ ap
             (λ (ps : List Part).
@@ -286,7 +299,7 @@ module _ (told : Type 0) (size : ℕ) (old : Image) where
               (next_shape r.mark.slot r.statuses r.control r.geometry two.0 two.1 r.scanned
               d.control
               mid))
-              dev is.reads is.control is.copies same prepared read ready
+              dev is.reads is.control is.copies is.version same prepared read ready
 
           pub finish_step : (staged : Option (List ℕ))
               → IsStep d (finished_device d) staged Finish replies.Done false size old

@@ -37,6 +37,8 @@ use Rattle.vab_flash.proofs.InstallingLaws.{installing_read, Installs}
 use Rattle.vab_flash.proofs.ApartLaws.{stores_miss, planned_miss, images_miss}
 use Rattle.vab_device.proofs.PartBlocks.{block_behind}
 use Rattle.vab_device.proofs.RepairLaws.{ends_within}
+use Rattle.vab_device.specs.Reading.{version_at, most_at}
+use Rattle.vab_device.proofs.SameLaws.{version_same, most_same}
 
 -- ---- the tables of a device
 
@@ -196,7 +198,7 @@ module _
   -- Where all sectors stay but for the store's and those of the statuses.
   module _ (new : Image)
       (same : (s : ℕ) → (IsOfStatuses s → ⊥) → (InStore s → ⊥) → new s ≡ old s) where
-    low : (s : ℕ) → s < 2049 ⊎ 2081 ≤ s → s < 4120 → new s ≡ old s
+    low : (s : ℕ) → s < 2049 ⊎ 2113 ≤ s → s < 4120 → new s ≡ old s
     low s (inl before) below =
         same s (λ st. omega (arith, st.from, before)) (not_low s below)
     low s (inr behind) below =
@@ -213,6 +215,12 @@ module _
 
     pub mark_stays : mark_in new ≡ mark_in old
     mark_stays = mark_same old new (low 2048 (inl (omega arith)) (omega arith))
+
+    pub version_stays : version_at new ≡ version_at old
+    version_stays = version_same old new (low 2048 (inl (omega arith)) (omega arith))
+
+    pub most_stays : most_at old ≤ most_at new
+    most_stays = most_same old new (low 2048 (inl (omega arith)) (omega arith))
 
     pub control_stays : (a b : Bool) → control_in a b new ≡ control_in a b old
     control_stays a b = control_same a b old new (low 4 (inl (omega arith)) (omega arith))
@@ -287,9 +295,10 @@ module _
       let stay : (s : ℕ) → (IsOfStatuses s → ⊥) → (InStore s → ⊥) → new s ≡ old s =
       λ s status not. ⊎_elim (λ is. is) (λ w. absurd (not w)) (but s) in
       record {
+        most = most_stays new stay;
         mark = mark_stays new stay;
         statuses =
-            statuses_kept true old new
+            statuses_kept true old new (version_stays new stay)
             (λ reads s is.
             ⊎_elim (λ same. same) (λ w. absurd (not_low s (omega (arith, is.below)) w)) (but s));
         control = control_stays new stay _ _;

@@ -50,6 +50,11 @@ use Rattle.vab_flash.proofs.DeadLaws.{mark_stays, control_stays, control_sector,
 use Rattle.vab_flash.proofs.DeadLaws.{tables_stay, copies_agree, stores_stay}
 use Rattle.vab_flash.proofs.DeadLaws.{plan_sectors, images_a_stay, images_b_stay}
 use Rattle.vab_device.proofs.NamedParts.{set_one}
+use Rattle.vab_marks.specs.declared.version.MarkVersion.TheVariants.{Two}
+use Rattle.vab_statuses.specs.Statuses.{statuses_under}
+use Rattle.vab_device.specs.Reading.{version_at}
+use Rattle.vab_device.proofs.MostLaws.{parts_under}
+use Rattle.vab_flash.proofs.DeadLaws.{version_stays}
 
 -- ---- one entry of a list
 
@@ -187,6 +192,12 @@ module _
       let b = parts_same 1 (i.slot == 1) (read_table 1 read_was) i.scanned scanned_then in
       (λ k. record form { a = a k; b = b k })
 
+  version_was : version_at new ≡ version_at old
+  version_was = version_stays d size old i device name store own found unread new same
+
+  version_then : version_at new ≡ Two
+  version_then = version_was ∙ i.version
+
   pub installs_then : Installs device_then size new
   unfolding statuses_at
   installs_then = record {
@@ -201,7 +212,9 @@ module _
     reads = record {
       enough = i.reads.enough;
       mark = mark_stays d size old i device name store own found unread new same ∙ i.reads.mark;
-      statuses = ap statuses_read joined;
+      statuses =
+          ap (λ v. statuses_read (statuses_under v new)) version_then
+          ∙ ap statuses_read joined;
       control =
           control_stays d size old i device name store own found unread new same _ _
           ∙ i.reads.control;
@@ -210,7 +223,7 @@ module _
           ∙ i.reads.geometry;
       tables =
           tables_stay d size old i device name store own found unread new same ∙ i.reads.tables;
-      parts = i.reads.parts;
+      parts = parts_under read_was old new version_was i.reads.parts;
       stores = read_then;
       state = i.reads.state;
     };
@@ -223,6 +236,7 @@ module _
         ap control_of (control_sector d size old i device name store own found unread new same)
         ∙ i.control;
     copies = copies_agree d size old i device name store own found unread new same;
+    version = version_then;
   }
 
   -- ---- the entries then

@@ -15,6 +15,8 @@ use Rattle.vab_device.specs.Phases.{phase_at}
 use Rattle.vab_device.specs.Reading.{Read, kept, parts_for, Reads, AgreeCopies, Represents}
 use Rattle.vab_device.specs.Stores.{Scanned}
 use Rattle.vab_marks.specs.Mark.{mark_at}
+use Rattle.vab_marks.specs.declared.version.MarkVersion.TheVariants.{Two}
+use Rattle.vab_device.specs.Reading.{version_at}
 
 -- what is read of a disk with an update from this slot, with the tables of source and target
 abbrev pub installing_read : ℕ
@@ -53,6 +55,7 @@ pub record Installs (d : Device) (size : ℕ) (image : Image) : Type 0 where
       }
   pub control : control_of (image 4) ≡ Ok d.control
   pub copies : AgreeCopies geometry (slot ∷ (1 - slot) ∷ []) (source ∷ target ∷ others) image
+  pub version : version_at image ≡ Two
 
 pub installs_represents : (d : Device) (size : ℕ) (image : Image)
     → Installs d size image
@@ -63,6 +66,7 @@ installs_represents d size image i = record {
   is = i.is;
   control = i.control;
   copies = i.copies;
+  version = i.version;
 }
 
 -- partitions that aren't read through stores are the same, whatever those hold
@@ -131,4 +135,5 @@ installs_of d size image plan is planned =
           (λ (x : Read).
           AgreeCopies x.geometry ((phase_at x.mark.phase).tables x.mark.slot) x.tables image)
           e is.copies;
+      version = is.version;
     }

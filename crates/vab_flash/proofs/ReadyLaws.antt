@@ -80,6 +80,7 @@ use Rattle.vab_flash.proofs.DeadLaws.{Tables, tables_kept, store_dead}
 use Rattle.vab_flash.proofs.PlacedLaws.{Placed, placed_of}
 use Rattle.vab_flash.proofs.SourceLaws.{sectors_once, source_blocks, source_apart}
 use Rattle.vab_device.proofs.PartBlocks.{sectors_disjoint}
+use Rattle.vab_statuses.specs.Statuses.{statuses_under}
 
 -- ---- over every disk
 
@@ -331,7 +332,9 @@ module _ (d : Device) (size : ℕ) (old : Image) (device_is : IsDevice d size)
 
       statuses_were : statuses_in old ≡ Ok i.statuses
       unfolding statuses_at
-      statuses_were = statuses_read_of (statuses_in old) i.statuses i.reads.statuses
+      statuses_were =
+          statuses_read_of (statuses_in old) i.statuses
+          (ap (λ v. statuses_read (statuses_under v old)) (sym i.version) ∙ i.reads.statuses)
 
       joined : statuses_in gated
           ≡ Ok (with_status i.statuses free (record { name = name; count = length es }))

@@ -3,8 +3,8 @@
 use std::test::*;
 use vab_bytes::{Name36, crc32, put_le32};
 use vab_marks::{
-    MarkFault, MarkPhase, PartStatus, UpdateMark, decode_mark, decode_status, encode_mark,
-    encode_status,
+    MarkFault, MarkPhase, MarkVersion, PartStatus, UpdateMark, decode_mark, decode_status,
+    encode_mark, encode_status,
 };
 
 /// Writes the sum of the sector.
@@ -35,8 +35,8 @@ fn marks_as_bytes(rt: HostRuntime) {
         slot: 1,
     };
     let bytes = encode_mark(&mark);
-    let sum = [0x2b, 0x14, 0xc5, 0xa7];
-    assert!(rt; is_sector(&bytes, b"VABU\x01\x03\x01\0", sum));
+    let sum = [0x0c, 0x0b, 0x94, 0xb3];
+    assert!(rt; is_sector(&bytes, b"VABU\x02\x03\x01\0", sum));
     assert!(rt; decode_mark(&bytes) == Ok(mark));
     for (byte, phase) in [
         (0, MarkPhase::Idle),
@@ -47,6 +47,21 @@ fn marks_as_bytes(rt: HostRuntime) {
     ] {
         assert!(rt; has_byte(phase, byte), "{byte}");
     }
+}
+
+#[test]
+fn a_mark_of_version_1_is_read(rt: HostRuntime) {
+    let mark = UpdateMark {
+        phase: MarkPhase::Merging,
+        slot: 1,
+    };
+    let mut bytes = [0u8; 512];
+    bytes[..8].copy_from_slice(b"VABU\x01\x03\x01\0");
+    bytes[508..].copy_from_slice(&[0x2b, 0x14, 0xc5, 0xa7]);
+    assert!(rt; decode_mark(&bytes) == Ok(mark));
+    assert!(rt; MarkVersion::of_mark(&bytes) == MarkVersion::One);
+    assert!(rt; MarkVersion::of_mark(&encode_mark(&mark)) == MarkVersion::Two);
+    assert!(rt; MarkVersion::One.partitions() == 32 && MarkVersion::Two.partitions() == 64);
 }
 
 // The fault of an idle mark with these bytes in these places, and then its sum or not.
@@ -71,8 +86,9 @@ fn faults_of_a_mark_in_their_order(rt: HostRuntime) {
     for (changes, summed, fault) in [
         ([(6, 2)].as_slice(), false, MarkFault::BadSum),
         (&[(6, 2)], true, MarkFault::BadField),
-        (&[(6, 2), (4, 2)], false, MarkFault::BadVersion),
-        (&[(6, 2), (4, 2), (3, b'S')], false, MarkFault::BadMagic),
+        (&[(6, 2), (4, 0)], false, MarkFault::BadVersion),
+        (&[(6, 2), (4, 3)], false, MarkFault::BadVersion),
+        (&[(6, 2), (4, 3), (3, b'S')], false, MarkFault::BadMagic),
         (&[(5, 5)], true, MarkFault::BadField),
         (&[(507, 1)], true, MarkFault::BadField),
     ] {

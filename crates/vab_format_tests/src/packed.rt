@@ -5,7 +5,11 @@ ghost use Rattle.vab_pack.specs.Asked.{IsAsked};
 
 use std::alloc::Global;
 use std::test::*;
+use vab_names::MAX_PARTITIONS;
 use vab_pack::{Entry, WordFault, parse_word, parse_words, set_image};
+
+// A word more than a set has images.
+const MORE: usize = MAX_PARTITIONS + 1;
 
 fn words_of(alloc: Global, texts: &[&str]) -> Result<Vec<String>, Fail> {
     let mut words = Vec::new(alloc);
@@ -133,8 +137,14 @@ fn the_first_bad_word_is_told(rt: HostRuntime) -> Result<(), Fail> {
             "at {second}"
         );
     }
-    assert_eq!(rt; fault_of(alloc, &["x"; 32])?, Some(WordFault::BadWord(0)));
-    assert_eq!(rt; fault_of(alloc, &["x"; 33])?, Some(WordFault::TooMany(33)));
+    assert_eq!(rt;
+        fault_of(alloc, &["x"; MAX_PARTITIONS])?,
+        Some(WordFault::BadWord(0))
+    );
+    assert_eq!(rt;
+        fault_of(alloc, &["x"; MORE])?,
+        Some(WordFault::TooMany(MORE))
+    );
     Ok(())
 }
 

@@ -1,12 +1,14 @@
 // One table for each kind of bad partition, and the happy path.
 
-ghost use Rattle.std.specs.Prelude.{IfOk, ◌<◌};
+ghost use Rattle.std.specs.Prelude.{IfOk, ◌<◌, ◌≤◌};
+ghost use Rattle.vab_names.specs.Names.{most_partitions};
 ghost use Rattle.vab_tables.specs.Rules.{KeepsRules};
 
 use crate::texts::{put, put_device, text_of};
 use std::alloc::Global;
 use std::test::*;
 use vab_bytes::{Listing, Name36};
+use vab_names::MAX_PARTITIONS;
 use vab_partitions::{bad_merging, bad_partition, bad_target, has_twins, same_device};
 use vab_tables::{BlockDevice, Group, Table, decode_table};
 
@@ -222,12 +224,14 @@ fn text_of_found(alloc: Global, found: Option<Name36>) -> Result<Vec<u8>, Fail> 
     }
 }
 
-// The name of the bad partition of a slot of a sample, or nothing where none is bad.
-fn bad_in(alloc: Global, sample: &Sample, slot: usize) -> Result<Vec<u8>, Fail>
-    requires { slot < 2 }
+// The name of the bad partition of a slot of a sample where it may have so many, or nothing where
+// none is bad.
+fn bad_in(alloc: Global, sample: &Sample, slot: usize, most: usize) -> Result<Vec<u8>, Fail>
+    requires slot { slot < 2 }
+    requires most { most ≤ most_partitions }
 {
     let table = table(alloc, sample)?;
-    text_of_found(alloc, bad_partition(alloc, &table, slot)?)
+    text_of_found(alloc, bad_partition(alloc, &table, slot, most)?)
 }
 
 // Each sample with the bad partition of slot a and that of slot b.
@@ -241,9 +245,20 @@ const SOURCES: [(&Sample, [&[u8]; 2]); 3] = [
 fn each_bad_partition_is_named(rt: HostRuntime) -> Result<(), Fail> {
     for (sample, bad) in SOURCES {
         for slot in 0..2 {
-            let found = bad_in(rt.alloc(), sample, slot)?;
+            let found = bad_in(rt.alloc(), sample, slot, MAX_PARTITIONS)?;
             assert!(rt; found.as_slice() == bad[slot], "slot {slot}");
         }
+    }
+    Ok(())
+}
+
+#[test]
+fn a_partition_too_many_is_bad(rt: HostRuntime) -> Result<(), Fail> {
+    for (most, bad) in [(0, b"system_a".as_slice()), (2, b"empty_a"), (3, b"")] {
+        assert!(rt;
+            bad_in(rt.alloc(), &GOOD, 0, most)?.as_slice() == bad,
+            "most {most}"
+        );
     }
     Ok(())
 }
@@ -251,8 +266,8 @@ fn each_bad_partition_is_named(rt: HostRuntime) -> Result<(), Fail> {
 // The name of the bad partition or store of slot b beside slot a, or nothing where none is bad.
 fn bad_beside(alloc: Global, sample: &Sample) -> Result<Vec<u8>, Fail> {
     let table = table(alloc, sample)?;
-    match bad_partition(alloc, &table, 0)? {
-        None => text_of_found(alloc, bad_target(alloc, &table, &table, 1)?),
+    match bad_partition(alloc, &table, 0, MAX_PARTITIONS)? {
+        None => text_of_found(alloc, bad_target(alloc, &table, &table, 1, MAX_PARTITIONS)?),
         Some(_) => Err("the source is good".into()),
     }
 }
@@ -260,7 +275,7 @@ fn bad_beside(alloc: Global, sample: &Sample) -> Result<Vec<u8>, Fail> {
 // The name of the bad partition or store of slot b alone, or nothing where none is bad.
 fn bad_merged(alloc: Global, sample: &Sample) -> Result<Vec<u8>, Fail> {
     let table = table(alloc, sample)?;
-    text_of_found(alloc, bad_merging(alloc, &table, 1)?)
+    text_of_found(alloc, bad_merging(alloc, &table, 1, MAX_PARTITIONS)?)
 }
 
 // Each sample with the bad one of slot b beside its source, and that of slot b alone, to which a

@@ -2,7 +2,11 @@
 
 use std::alloc::Global;
 use std::test::*;
+use vab_names::MAX_PARTITIONS;
 use vab_set::{SetFault, SetImage, read_set, write_set};
+
+// An image more than a set may have.
+const MORE: u8 = MAX_PARTITIONS as u8 + 1;
 
 // One image `x` of three bytes for a partition of 4096 bytes.
 const ONE: [u8; 41] = [
@@ -63,7 +67,7 @@ fn each_fault_is_the_first_from_the_left(rt: HostRuntime) -> Result<(), Fail> {
     }
     let changes = [
         (0usize, b'W', SetFault::BadMagic),
-        (8, 33, SetFault::TooMany(33)),
+        (8, MORE, SetFault::TooMany(MORE as u32)),
         (8, 2, SetFault::Cut(1)),
         (8, 0, SetFault::Trailing),
         (12, 0, SetFault::BadName(0)),

@@ -3,7 +3,7 @@
 use std::test::*;
 use vab_bytes::Name36;
 use vab_disk::{Disk, MemPort};
-use vab_marks::PartStatus;
+use vab_marks::{MarkVersion, PartStatus};
 use vab_statuses::{StatusFault, Statuses, clear_statuses, first_free, put_status, read_statuses};
 
 fn status(name: &[u8], count: u64) -> Result<PartStatus, Fail> {
@@ -13,7 +13,7 @@ fn status(name: &[u8], count: u64) -> Result<PartStatus, Fail> {
 
 // Puts a status into the first free sector, and answers that sector.
 fn put<D: Disk>(d: &mut D, status: &PartStatus) -> Option<u64> {
-    if d.sectors() < 2081 {
+    if d.sectors() < 2113 {
         return None;
     }
     let at = match first_free(d) {
@@ -28,10 +28,15 @@ fn put<D: Disk>(d: &mut D, status: &PartStatus) -> Option<u64> {
 
 // What the sectors hold, where the disk has them.
 fn read<D: Disk>(d: &mut D) -> Option<Result<Statuses, StatusFault>> {
-    if d.sectors() < 2081 {
+    read_under(d, MarkVersion::Two)
+}
+
+// The same under a version of the mark.
+fn read_under<D: Disk>(d: &mut D, version: MarkVersion) -> Option<Result<Statuses, StatusFault>> {
+    if d.sectors() < 2113 {
         return None;
     }
-    Some(read_statuses(d))
+    Some(read_statuses(d, version))
 }
 
 // The statuses that stand in the first two sectors, or the bad sector.
@@ -50,7 +55,7 @@ fn first_two<D: Disk>(d: &mut D) -> Option<Result<[Option<PartStatus>; 2], Statu
 
 #[test]
 fn statuses_are_put_into_free_sectors(rt: HostRuntime) -> Result<(), Fail> {
-    let port = MemPort::new(rt.alloc(), 2081, Vec::new(rt.alloc()));
+    let port = MemPort::new(rt.alloc(), 2113, Vec::new(rt.alloc()));
     let mut d = port.ok().ok_or("there is memory for a disk")?;
     let system = status(b"system_b", 3)?;
     let vendor = status(b"vendor_b", 0)?;
@@ -64,7 +69,35 @@ fn statuses_are_put_into_free_sectors(rt: HostRuntime) -> Result<(), Fail> {
         assert!(rt; put(&mut d, &status) == Some(at));
         assert!(rt; first_two(&mut d) == Some(found));
     }
-    assert!(rt; d.sectors() == 2081 && clear_statuses(&mut d).is_ok());
+    assert!(rt; d.sectors() == 2113 && clear_statuses(&mut d).is_ok());
     assert!(rt; first_two(&mut d) == Some(Ok([None, None])));
+    Ok(())
+}
+
+// Writes a sector of the disk.
+fn write<D: Disk>(d: &mut D, at: u64, bytes: &[u8; 512]) -> bool {
+    at < d.sectors() && d.write_sector(at, bytes).is_ok()
+}
+
+#[test]
+fn version_1_has_the_first_32_statuses(rt: HostRuntime) -> Result<(), Fail> {
+    let port = MemPort::new(rt.alloc(), 2113, Vec::new(rt.alloc()));
+    let mut d = port.ok().ok_or("there is memory for a disk")?;
+    let system = status(b"system_b", 3)?;
+    assert!(rt; put(&mut d, &system) == Some(2049));
+    // Whether the sector is bad under version 1.
+    for (at, is_bad) in [(2080, true), (2081, false), (2112, false)] {
+        assert!(rt; write(&mut d, at, &[1; 512]));
+        let one = read_under(&mut d, MarkVersion::One);
+        assert!(rt; matches!(one, Some(Err(_))) == is_bad, "{at}");
+        assert!(rt; matches!(read(&mut d), Some(Err(StatusFault::Bad(bad))) if bad == at));
+        assert!(rt; write(&mut d, at, &[0; 512]));
+    }
+    let one = read_under(&mut d, MarkVersion::One);
+    let statuses = one
+        .ok_or("there are sectors")?
+        .map_err(|_| Fail::from("statuses"))?;
+    assert!(rt; statuses.as_slice().len() == 64);
+    assert!(rt; statuses.as_slice().first() == Some(&Some(system)));
     Ok(())
 }

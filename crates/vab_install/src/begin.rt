@@ -5,7 +5,8 @@ ghost use Rattle.vab_disk.specs.Calls.{IsAtRest, Touches, FailsWithDisk};
 ghost use Rattle.vab_bootctl.specs.Control.{Fits};
 ghost use Rattle.vab_geometry.specs.Geometry.{IsGeometry};
 ghost use Rattle.vab_lpstore.specs.Layout.{copy_sectors, backup_of, BothHold};
-ghost use Rattle.vab_statuses.specs.Statuses.{statuses_in, no_statuses};
+ghost use Rattle.vab_statuses.specs.Statuses.{statuses_in, no_statuses, first_status};
+ghost use Rattle.vab_statuses.specs.Statuses.{status_sectors};
 ghost use Rattle.vab_install.specs.Control.{cleared_of, IsWritten};
 ghost use Rattle.vab_install.specs.Begin.{IsOfClearing, IsOfBegin};
 
@@ -19,7 +20,7 @@ use vab_statuses::clear_statuses;
 
 // Writes the boot control and zeros over the statuses, and doesn't sync.
 fn clear_update<D: Disk>(d: &mut D, control: &Control) -> Result<(), DiskFault>
-    requires on_disk { 2081 ≤ D.size d.old }
+    requires on_disk { first_status + status_sectors ≤ D.size d.old }
     requires fits { Fits control.now }
     ensures control { D.is_modelled
         → OnOk result (IsWritten control.now (D.seen d.old 4) (D.seen d.new 4)) }
@@ -46,7 +47,7 @@ pub fn prepare_begin<D: Disk>(
     requires slot { target < 2 }
     requires table_on_disk { backup_of geometry.now target + copy_sectors geometry.now
         ≤ D.size d.old }
-    requires statuses_on_disk { 2081 ≤ D.size d.old }
+    requires statuses_on_disk { first_status + status_sectors ≤ D.size d.old }
     requires text_fits { length text.now ≤ geometry.now.max }
     requires fits { Fits control.now }
     // Boot control is the given one without the target, and all other bits of its sector stay.

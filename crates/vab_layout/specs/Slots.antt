@@ -5,7 +5,7 @@ use Rattle.std.specs.Prelude.{All, Any, AllPairs, Contains, IsTrue}
 use Rattle.std.specs.List.{filter}
 use Rattle.std.specs.Str.{bytes_eq}
 use Rattle.vab_names.specs.Names.{is_base, is_of_slot, is_store, base_of, in_slot, store_of}
-use Rattle.vab_names.specs.Names.{default_name, store_group_name}
+use Rattle.vab_names.specs.Names.{default_name, store_group_name, most_partitions}
 use Rattle.vab_tables.specs.declared.entries.Group.{Group}
 use Rattle.vab_layout.specs.declared.layout.Part.{Part}
 use Rattle.vab_layout.specs.Layout.{blocks_of_parts}
@@ -33,10 +33,10 @@ pub record IsOwnPart (slot : ℕ) (p : Part) : Type 0 where
   pub size : length p.blocks ≤ 2 ^ 28
   pub group : IsTrue (bytes_eq p.group default_name || is_of_slot slot p.group)
 
--- at most 32 of them, and no block twice
+-- no more of them than a slot has, and no block twice
 pub record IsOwn (slot : ℕ) (parts : List Part) : Type 0 where
   pub each : All (IsOwnPart slot) (own_parts slot parts)
-  pub few : length (own_parts slot parts) ≤ 32
+  pub few : length (own_parts slot parts) ≤ most_partitions
   pub once : IsDistinct (blocks_of_parts (own_parts slot parts))
 
 -- ---- the target of an update

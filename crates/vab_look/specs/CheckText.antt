@@ -2,6 +2,8 @@
 use Rattle.std.specs.Prelude.{◌≡◌, ℕ, ◌==◌, nat_lt, Bool, true, false, ◌||◌, if◌then◌else◌}
 use Rattle.std.specs.Prelude.{List, []}
 use Rattle.std.specs.Prelude.{◌++◌, codes, Option, Some, None, Result, Ok, Err}
+use Rattle.vab_marks.specs.declared.version.MarkVersion.{MarkVersion}
+use Rattle.vab_marks.specs.declared.version.MarkVersion.TheVariants as versions
 use Rattle.vab_marks.specs.declared.mark.MarkPhase.{MarkPhase}
 use Rattle.vab_marks.specs.declared.mark.MarkPhase.TheVariants as marks
 use Rattle.vab_marks.specs.declared.mark.UpdateMark.{UpdateMark}
@@ -167,6 +169,15 @@ repairs_in form m None = []
 repairs_in form m (Some p) =
     repairs_if form (is_asked m 0) 0 p.a ++ repairs_if form (is_asked m 1) 1 p.b
 
+abbrev pub raise_words : Form → List ℕ
+raise_words form =
+    begun form (codes "opening") ++ keyed_in form (codes "raises") (codes "mark") ++ ended form
+
+-- the mark has version 1
+abbrev pub raise_line : Form → MarkVersion → List ℕ
+raise_line form versions.One = raise_words form
+raise_line form versions.Two = []
+
 -- a merge has ended
 abbrev pub has_ended : MarkPhase → Bool
 has_ended marks.Idle = false
@@ -186,7 +197,8 @@ tidy_line form (Ok m) = if has_ended m.phase then tidy_words form else []
 abbrev pub opening_writes : Form → Option StartFault → Option Details → List ℕ
 opening_writes form (Some f) x = []
 opening_writes form None None = []
-opening_writes form None (Some x) = repairs_in form x.mark x.tables ++ tidy_line form x.mark
+opening_writes form None (Some x) =
+    repairs_in form x.mark x.tables ++ (raise_line form x.version ++ tidy_line form x.mark)
 
 -- ---- the page
 

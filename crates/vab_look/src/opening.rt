@@ -8,7 +8,7 @@ use crate::form::{Form, begin, end, put_keyed, put_word};
 use crate::line::{Line, push_line};
 use vab_device::StartFault;
 use vab_fbproto::slot_letter;
-use vab_marks::{MarkFault, MarkPhase, UpdateMark};
+use vab_marks::{MarkFault, MarkPhase, MarkVersion, UpdateMark};
 use vab_model::NoMemory;
 use vab_recover::reads_both;
 use vab_survey::{Details, SlotTable, TablesPage};
@@ -146,6 +146,26 @@ fn push_repairs(
     }
 }
 
+// The line of a mark that gets version 2.
+fn raise_line(form: Form) -> Line
+    ensures { result.items ≡ texts.raise_words form }
+{
+    let mut line = begin(form, b"opening");
+    put_keyed(form, b"raises", b"mark", &mut line);
+    end(form, &mut line);
+    line
+}
+
+// Puts that line, where the mark has version 1.
+fn push_raise(form: Form, version: MarkVersion, page: &mut Vec<u8>) -> Result<(), NoMemory>
+    ensures { OnOk result (page.new.items ≡ page.old.items ++ texts.raise_line form version) }
+{
+    match version {
+        MarkVersion::One => push_line(&raise_line(form), page),
+        MarkVersion::Two => Ok(()),
+    }
+}
+
 // Whether the mark says that a merge has ended.
 fn has_ended(mark: &UpdateMark) -> bool
     ensures { result ≡ texts.has_ended (mark.now).phase }
@@ -205,6 +225,7 @@ pub(crate) fn push_opening(
             None => Ok(()),
             Some(details) => {
                 push_repairs(form, &details.mark, &details.tables, page)?;
+                push_raise(form, details.version, page)?;
                 push_tidy(form, &details.mark, page)
             }
         },

@@ -83,6 +83,25 @@ fn each_part_is_told_by_itself(rt: HostRuntime) -> Result<(), Fail> {
     Ok(())
 }
 
+// A whole device whose mark has version 1.
+const OLD_MARK: &[u8] = b"size ok\nmark ok\nstatuses ok\ncontrol ok\n\
+    geometry primary ok\ngeometry backup ok\ngeometry ok\n\
+    table a primary ok\ntable a backup ok\ntables ok\n\
+    partitions ok\nstores ok\nstates ok\nopening raises mark\n";
+
+#[test]
+fn a_mark_of_version_1_is_told(rt: HostRuntime) -> Result<(), Fail> {
+    let alloc = rt.alloc();
+    let mut d = device_of_one(alloc)?;
+    let mut mark = [0u8; 512];
+    mark[..5].copy_from_slice(b"VABU\x01");
+    mark[508..].copy_from_slice(&[0xe7, 0x63, 0x71, 0xca]);
+    assert!(rt; d.sectors() > 2048 && d.write_sector(2048, &mark).is_ok());
+    let page = checked(alloc, &mut d)?;
+    assert_eq!(rt; page.as_slice(), OLD_MARK);
+    Ok(())
+}
+
 #[test]
 fn a_disk_that_is_too_small(rt: HostRuntime) -> Result<(), Fail> {
     let alloc = rt.alloc();

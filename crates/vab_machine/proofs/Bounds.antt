@@ -9,6 +9,7 @@ use Rattle.std.proofs.lemmas.List.{length-map}
 use Rattle.std.proofs.lemmas.List.Elements.{All-map, All-weaker, All-head, All-tail}
 use Rattle.std.proofs.lemmas.List.Elements.{All-nil}
 use Rattle.std.proofs.lemmas.List.Sums.{sum_by-le, sum_by-cons}
+use Rattle.vab_names.specs.Names.{most_partitions}
 use Rattle.vab_space.specs.declared.Want.{Want}
 use Rattle.vab_space.specs.Space.{growth_of}
 use Rattle.vab_model.specs.declared.state.Image.{Image}
@@ -22,18 +23,18 @@ use Rattle.vab_machine.specs.Machine.{exceptions_of, exceptions_in}
 use Rattle.vab_machine.specs.Small.{AreSmallImages, IsSmallSlot, IsSmallImage, IsSmallEntry}
 use Rattle.vab_machine.specs.Small.{IsSmallPlan, IsSmall}
 
--- a sum of at most 32 numbers of at most so much
+-- a sum of as many numbers as a slot has partitions, of at most so much
 sum_most : (most : ℕ) (xs : List ℕ)
-    → length xs ≤ 32
+    → length xs ≤ most_partitions
     → All (λ x. x ≤ most) xs
-    → sum xs ≤ 32 * most
+    → sum xs ≤ most_partitions * most
 sum_most most xs few each =
     let all = sum_by-le (λ x. x) most xs each in
     grind arith
 
 image_most : (images : List Image)
     → AreSmallImages images
-    → sum (map (λ (i : Image). blocks_in i.bytes) images) ≤ 32 * 2 ^ 28
+    → sum (map (λ (i : Image). blocks_in i.bytes) images) ≤ most_partitions * 2 ^ 28
 image_most images small =
     sum_most (2 ^ 28) (map (λ (i : Image). blocks_in i.bytes) images)
     (omega (arith, length-map images (λ (i : Image). blocks_in i.bytes), small.few))
@@ -44,7 +45,7 @@ image_most images small =
 want_most : (source : List Image) (f : Want → ℕ) (most : ℕ) (plan : List PlanEntry)
     → IsSmallPlan plan
     → ((e : PlanEntry) → IsSmallEntry e → f (want_of source e) ≤ most)
-    → sum_by f (map (want_of source) plan) ≤ 32 * most
+    → sum_by f (map (want_of source) plan) ≤ most_partitions * most
 want_most source f most plan small each =
     let all = sum_by-le f most (map (want_of source) plan)
     (All-map (λ w. f w ≤ most) (want_of source) plan

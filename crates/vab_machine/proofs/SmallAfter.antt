@@ -11,7 +11,7 @@ use Rattle.std.proofs.lemmas.List.Elements.{All-map, All-weaker, All-head}
 use Rattle.std.proofs.lemmas.List.Elements.{All-tail}
 use Rattle.vab_bootctl.specs.declared.slots.Control.{Control}
 use Rattle.vab_bootctl.specs.Boot.{info_at, activated_of}
-use Rattle.vab_names.specs.Names.{is_full, base_of}
+use Rattle.vab_names.specs.Names.{is_full, base_of, most_partitions}
 use Rattle.vab_space.specs.Space.{need_of, blocks_of}
 use Rattle.vab_model.specs.declared.state.Image.{Image}
 use Rattle.vab_model.specs.declared.state.PlanImage.{PlanImage}
@@ -134,16 +134,17 @@ create_kept : (s : State) (name : List ℕ) (size source : ℕ) (plan : List Pla
 create_kept s name size source plan small next =
     let made : List PlanEntry = plan ++ created_entry s.groups (base_of name) size ∷ [] in
     let within : Effect State = if_within s source (first_group s.groups) made in
-    let few : Effect State = unless (nat_lt (length plan) 32) refusals.TooMany within in
+    let few : Effect State =
+    unless (nat_lt (length plan) most_partitions) refusals.TooMany within in
     let absent : Effect State = unless (not (is_planned (base_of name) plan)) refusals.Exists few in
     let sized : Effect State = unless (nat_le size (2 ^ 40)) refusals.BadSize absent in
     keeps_unless s (is_full (other_slot source) name) refusals.BadName sized small (λ _.
     keeps_unless s (nat_le size (2 ^ 40)) refusals.BadSize absent small (λ le.
     keeps_unless s (not (is_planned (base_of name) plan)) refusals.Exists few small (λ _.
-    keeps_unless s (nat_lt (length plan) 32) refusals.TooMany within small (λ lt.
+    keeps_unless s (nat_lt (length plan) most_partitions) refusals.TooMany within small (λ lt.
     within_kept s source (first_group s.groups) made small
     (create_small s.groups (base_of name) size plan next (leb-true size (2 ^ 40) le)
-    (ltb-true (length plan) 32 lt))))))
+    (ltb-true (length plan) most_partitions lt))))))
 
 resize_kept : (s : State) (name : List ℕ) (size source : ℕ) (plan : List PlanEntry)
     → IsSmall s

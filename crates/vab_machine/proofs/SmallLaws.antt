@@ -11,6 +11,7 @@ use Rattle.std.proofs.lemmas.Bool.{cases_Bool}
 use Rattle.std.proofs.lemmas.List.{length-map}
 use Rattle.std.proofs.lemmas.List.Elements.{All-map, All-filter, All-weaker, All-head, All-tail}
 use Rattle.std.proofs.lemmas.List.Elements.{All-push}
+use Rattle.vab_names.specs.Names.{most_partitions}
 use Rattle.vab_space.specs.Space.{need_of, blocks_of}
 use Rattle.vab_model.specs.declared.state.GroupLimit.{GroupLimit}
 use Rattle.vab_model.specs.declared.state.Image.{Image}
@@ -101,7 +102,7 @@ store_plan_small name size plan small le =
 pub create_small : (groups : List GroupLimit) (name : List ℕ) (size : ℕ) (plan : List PlanEntry)
     → IsSmallPlan plan
     → size ≤ 2 ^ 40
-    → length plan < 32
+    → length plan < most_partitions
     → IsSmallPlan (plan ++ created_entry groups name size ∷ [])
 create_small groups name size plan small le few = record {
   few = omega (arith, length-append plan (created_entry groups name size ∷ []), few);

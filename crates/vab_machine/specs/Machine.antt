@@ -7,7 +7,7 @@ use Rattle.std.specs.Prelude.{length, map, Option, Some, None, is_some}
 use Rattle.std.specs.Ordering.{is_lt, nat_cmp}
 use Rattle.std.specs.Cmp.Lexicographic.{slice_cmp}
 use Rattle.vab_bootctl.specs.Boot.{info_at, activated_of, booted_of, marked_of}
-use Rattle.vab_names.specs.Names.{is_full, base_of}
+use Rattle.vab_names.specs.Names.{is_full, base_of, most_partitions}
 use Rattle.vab_space.specs.Space.{need_of, blocks_of}
 use Rattle.vab_model.specs.declared.state.Image.{Image}
 use Rattle.vab_model.specs.declared.state.PlanImage.{PlanImage}
@@ -85,7 +85,7 @@ create_row s name size source plan =
     unless (is_full (other_slot source) name) refusals.BadName
     (unless (nat_le size (2 ^ 40)) refusals.BadSize
     (unless (not (is_planned (base_of name) plan)) refusals.Exists
-    (unless (nat_lt (length plan) 32) refusals.TooMany
+    (unless (nat_lt (length plan) most_partitions) refusals.TooMany
     (if_within s source (first_group s.groups)
     (plan ++ created_entry s.groups (base_of name) size ∷ [])))))
 

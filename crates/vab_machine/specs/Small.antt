@@ -1,6 +1,7 @@
 -- How large a state may be so that all that the program beside the machine counts are numbers of 64
 -- bits. What follows from a small state is small.
 use Rattle.std.specs.Prelude.{ℕ, ◌≤◌, ◌^◌, List, length, Option, Some, None, All}
+use Rattle.vab_names.specs.Names.{most_partitions}
 use Rattle.vab_model.specs.declared.state.Image.{Image}
 use Rattle.vab_model.specs.declared.state.PlanImage.{PlanImage}
 use Rattle.vab_model.specs.declared.state.PlanImage.TheVariants.{Kept, Declared, Written}
@@ -10,9 +11,9 @@ use Rattle.vab_model.specs.declared.state.Phase.TheVariants.{Idle, Installing, S
 use Rattle.vab_model.specs.declared.state.State.{State}
 use Rattle.vab_machine.specs.Plans.{store_blocks}
 
--- at most 32 images of at most 2^40 bytes
+-- no more images than a slot has partitions, of at most 2^40 bytes
 pub record AreSmallImages (images : List Image) : Type 0 where
-  pub few : length images ≤ 32
+  pub few : length images ≤ most_partitions
   pub each : All (λ (i : Image). length i.bytes ≤ 2 ^ 40) images
 
 abbrev pub IsSmallSlot : Option (List Image) → Type 0
@@ -36,7 +37,7 @@ pub record IsSmallEntry (e : PlanEntry) : Type 0 where
   pub image : IsSmallImage e.image
 
 pub record IsSmallPlan (plan : List PlanEntry) : Type 0 where
-  pub few : length plan ≤ 32
+  pub few : length plan ≤ most_partitions
   pub each : All IsSmallEntry plan
 
 abbrev pub IsSmallPhase : Phase → Type 0

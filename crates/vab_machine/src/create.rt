@@ -10,6 +10,7 @@ use crate::change::{begun_plan, with_created};
 use crate::parts::{base_named, first_group, installing, is_planned};
 use std::alloc::Global;
 use vab_model::{NoMemory, Phase, Refusal, Reply, State};
+use vab_names::MAX_PARTITIONS;
 
 /// The most bytes of a partition.
 pub(crate) const MOST: u64 = 1 << 40;
@@ -57,7 +58,7 @@ pub(crate) fn create(
     if is_planned(plan, base.text()) {
         return refuse(alloc, state, Refusal::Exists);
     }
-    if plan.len() >= 32 {
+    if plan.len() >= MAX_PARTITIONS {
         return refuse(alloc, state, Refusal::TooMany);
     }
     let next = with_created(alloc, plan, &state.groups, base, size)?;

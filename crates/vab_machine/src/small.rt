@@ -6,6 +6,7 @@ ghost use Rattle.vab_machine.specs.Small.{IsSmallPlan, IsSmallPhase, IsSmall};
 
 use vab_bytes::Listing;
 use vab_model::{Image, Phase, PlanEntry, PlanImage, State};
+use vab_names::MAX_PARTITIONS;
 
 /// The most blocks of a store, and the most exceptions.
 const MOST_BLOCKS: u64 = 1 << 55;
@@ -19,7 +20,7 @@ fn is_small_bytes(bytes: &[u8]) -> bool
 fn are_small_images(images: &[Image]) -> bool
     ensures { IsTrue result ↔ AreSmallImages images.now }
 {
-    images.len() <= 32
+    images.len() <= MAX_PARTITIONS
         && images
             .iter()
             .all(|image| is_small_bytes(image.bytes.as_slice()))
@@ -57,7 +58,7 @@ fn is_small_entry(entry: &PlanEntry) -> bool
 fn is_small_plan(plan: &[PlanEntry]) -> bool
     ensures { IsTrue result ↔ IsSmallPlan plan.now }
 {
-    plan.len() <= 32 && plan.iter().all(|entry| is_small_entry(entry))
+    plan.len() <= MAX_PARTITIONS && plan.iter().all(|entry| is_small_entry(entry))
 }
 
 fn is_small_phase(phase: &Phase) -> bool
@@ -71,8 +72,8 @@ fn is_small_phase(phase: &Phase) -> bool
     }
 }
 
-/// Whether a state is small enough for `step`, as the states of devices are: at most 32 images of
-/// 2^40 bytes each in a slot, a plan of 32 partitions of 2^28 blocks each, and stores of 2^55
+/// Whether a state is small enough for `step`, as the states of devices are: at most 64 images of
+/// 2^40 bytes each in a slot, a plan of 64 partitions of 2^28 blocks each, and stores of 2^55
 /// blocks.
 pub fn is_small(state: &State) -> bool
     ensures { IsTrue result ↔ IsSmall state.now }

@@ -5,7 +5,7 @@ use Rattle.vab_model.specs.Commands.{Resize, Delete, Snapshot, Flash, Finish, Ca
 use Rattle.vab_model.specs.Commands.{Merge}
 use Rattle.vab_targets.specs.Plans.{BeginKeepsImages, EditsFollowSizes}
 use Rattle.vab_machine_laws.specs.Rows.{IsTheMachines}
-use Rattle.vab_machine_laws.specs.Edits.{IsTheMachinesOrFull, IsTheMachinesUnlimited}
+use Rattle.vab_machine_laws.specs.Edits.{IsTheMachinesOrFull}
 use Rattle.vab_machine_laws.proofs.SlotRows.{set_active_row, boot_row, mark_row, print_row}
 use Rattle.vab_machine_laws.proofs.SlotRows.{digest_row, finish_is, cancel_is, begin_merge_is}
 use Rattle.vab_machine_laws.proofs.SlotRows.{merge_is}
@@ -16,24 +16,20 @@ use Rattle.vab_machine_laws.proofs.Deletes.{delete_is}
 use Rattle.vab_machine_laws.proofs.Snapshots.{snapshot_is}
 use Rattle.vab_machine_laws.proofs.Resizes.{resize_is}
 
-plainly : (c : Command) → IsTheMachines c → IsTheMachinesUnlimited c
-plainly c row size image m staged unlimited whole is = inl (row m staged)
+plainly : (c : Command) → IsTheMachines c → IsTheMachinesOrFull c
+plainly c row size image m staged whole is = inl (row m staged)
 
-or_full : (c : Command) → IsTheMachinesOrFull c → IsTheMachinesUnlimited c
-or_full c row size image m staged unlimited whole is = row size image m staged whole is
-
-pub each_is : BeginKeepsImages → EditsFollowSizes → (c : Command) → IsTheMachinesUnlimited c
+pub each_is : BeginKeepsImages → EditsFollowSizes → (c : Command) → IsTheMachinesOrFull c
 each_is begins edits (SetActive slot) = plainly (SetActive slot) (set_active_row slot)
 each_is begins edits Boot = plainly Boot boot_row
 each_is begins edits Mark = plainly Mark mark_row
 each_is begins edits (Print name) = plainly (Print name) (print_row name)
 each_is begins edits (Digest name) = plainly (Digest name) (digest_row name)
-each_is begins edits Begin = or_full Begin (begin_is begins)
+each_is begins edits Begin = begin_is begins
 each_is begins edits (Create name size) = create_is edits name size
 each_is begins edits (Resize name size) = resize_is edits name size
-each_is begins edits (Delete name) = or_full (Delete name) (delete_is edits name)
-each_is begins edits (Snapshot name size) =
-    or_full (Snapshot name size) (snapshot_is edits name size)
+each_is begins edits (Delete name) = delete_is edits name
+each_is begins edits (Snapshot name size) = snapshot_is edits name size
 each_is begins edits (Flash name) = plainly (Flash name) (flash_is name)
 each_is begins edits Finish = plainly Finish finish_is
 each_is begins edits Cancel = plainly Cancel cancel_is

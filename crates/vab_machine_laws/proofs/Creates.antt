@@ -8,7 +8,7 @@ use Rattle.std.specs.Str.{bytes_eq}
 use Rattle.std.proofs.lemmas.Bool.{cases_Bool, leb-true, leb-false, ltb-true, ltb-false}
 use Rattle.std.proofs.lemmas.List.{length-map}
 use Rattle.vab_disk.specs.Disk.{Image}
-use Rattle.vab_names.specs.Names.{is_full, is_of_slot, base_of, default_name}
+use Rattle.vab_names.specs.Names.{is_full, is_of_slot, base_of, default_name, most_partitions}
 use Rattle.vab_names.proofs.NameCases.{full_slot, ne_name}
 use Rattle.vab_space.specs.declared.Want.{Want}
 use Rattle.vab_space.specs.Space.{blocks_of, group_sum_of}
@@ -41,7 +41,8 @@ use Rattle.vab_device.specs.Mounted.{Mounted}
 use Rattle.vab_device.specs.Updates.{entry_by}
 use Rattle.vab_edit.proofs.PlanLaws.{map_map, map_among}
 use Rattle.vab_targets.specs.Plans.{EditsFollowSizes, HasWholeSectors}
-use Rattle.vab_machine_laws.specs.Edits.{IsTheMachinesUnlimited}
+use Rattle.vab_builder.proofs.LimitLaws.{default_unlimited}
+use Rattle.vab_machine_laws.specs.Edits.{IsTheMachinesOrFull}
 use Rattle.vab_targets.proofs.Installed.{IsInstalled, is_installed}
 use Rattle.vab_machine_laws.proofs.Sources.{HasSource, has_source}
 use Rattle.vab_machine_laws.proofs.Entries.{entry_absent, entry_there}
@@ -179,16 +180,16 @@ module _
                     (rw (full, sized, is) refl, refl)
                 | inr absent ↦
                     let is = entry_absent o i.t plan i.again name of absent in
-                    elim (cases_Bool (nat_lt (length plan) 32)) [
+                    elim (cases_Bool (nat_lt (length plan) most_partitions)) [
                       | inr many ↦
-                          let most = ltb-false (length plan) 32 many in
+                          let most = ltb-false (length plan) most_partitions many in
                           subst Given
                           (sym (created-too_many o i.s i.t name bytes full short absent
                           (omega (arith, most, long))))
                           (rw (full, sized, is, many) refl, refl)
                       | inl few ↦
-                          let under = ltb-true (length plan) 32 few in
-                          let small : length own < 32 = omega (arith, under, long) in
+                          let under = ltb-true (length plan) most_partitions few in
+                          let small : length own < most_partitions = omega (arith, under, long) in
                           let judged : row
                           ≡ if_within m.state source (first_group m.state.groups) next =
                           rw (full, sized, is, few) refl in
@@ -227,12 +228,12 @@ module _
   ]
 
 pub create_is : EditsFollowSizes → (name : List ℕ) (bytes : ℕ)
-    → IsTheMachinesUnlimited (Create name bytes)
+    → IsTheMachinesOrFull (Create name bytes)
 unfolding machine_effect
-create_is law name bytes size image m staged unlimited whole is =
+create_is law name bytes size image m staged whole is =
     edit_is law size image m staged whole is (Create name bytes) refl (create_of name bytes)
     refl (create_row m.state name bytes) (λ source plan phase.
     let i = is_installed size image m source plan whole is phase in
     let h = has_source size image m source plan whole is phase in
-    let none = unlimited (other_slot source) i.t i.to in
+    let none = default_unlimited i.t.groups i.update.target_rules.groups in
     (i, create_given size image m source plan whole i h none name bytes))

@@ -37,7 +37,8 @@ use Rattle.vab_device.specs.Updates.{entry_by}
 use Rattle.vab_edit.proofs.NamedLaws.{base_eq}
 use Rattle.vab_edit.proofs.PlanLaws.{map_map}
 use Rattle.vab_targets.specs.Plans.{EditsFollowSizes, HasWholeSectors}
-use Rattle.vab_machine_laws.specs.Edits.{IsTheMachinesUnlimited}
+use Rattle.vab_builder.proofs.LimitLaws.{default_unlimited}
+use Rattle.vab_machine_laws.specs.Edits.{IsTheMachinesOrFull}
 use Rattle.vab_targets.proofs.Installed.{IsInstalled, is_installed}
 use Rattle.vab_machine_laws.proofs.Sources.{HasSource, has_source}
 use Rattle.vab_machine_laws.proofs.Entries.{IsFound, entry_absent, entry_there, store_there}
@@ -257,12 +258,12 @@ module _
   ]
 
 pub resize_is : EditsFollowSizes → (name : List ℕ) (bytes : ℕ)
-    → IsTheMachinesUnlimited (Resize name bytes)
+    → IsTheMachinesOrFull (Resize name bytes)
 unfolding machine_effect
-resize_is law name bytes size image m staged unlimited whole is =
+resize_is law name bytes size image m staged whole is =
     edit_is law size image m staged whole is (Resize name bytes) refl (resize_of name bytes)
     refl (resize_row m.state name bytes) (λ source plan phase.
     let i = is_installed size image m source plan whole is phase in
     let h = has_source size image m source plan whole is phase in
-    let none = unlimited (other_slot source) i.t i.to in
+    let none = default_unlimited i.t.groups i.update.target_rules.groups in
     (i, resize_given size image m source plan whole i h none name bytes))

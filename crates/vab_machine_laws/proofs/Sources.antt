@@ -13,6 +13,7 @@ use Rattle.vab_marks.specs.Mark.{mark_at}
 use Rattle.vab_tables.specs.declared.table.Table.{Table}
 use Rattle.vab_tables.specs.Rules.{cap_of}
 use Rattle.vab_geometry.specs.declared.geometry.Geometry.{Geometry}
+use Rattle.vab_names.specs.Names.{most_partitions}
 use Rattle.vab_layout.specs.declared.layout.Layout.{Layout}
 use Rattle.vab_layout.specs.Layout.{layout_of}
 use Rattle.vab_layout.specs.Plain.{plain}
@@ -33,6 +34,7 @@ use Rattle.vab_device.specs.Reading.{Read, kept, IsIn, Reads, table_at}
 use Rattle.vab_device.specs.Stores.{Scanned}
 use Rattle.vab_device.specs.Updates.{layout_at}
 use Rattle.vab_device.proofs.CheckLaws.{first_kept, check_kept}
+use Rattle.vab_device.proofs.MostLaws.{parts_all}
 use Rattle.vab_device.proofs.OwnParts.{parts_kept}
 use Rattle.vab_device.proofs.ReadingLaws.{device_was, idle_read_of, slot_below}
 use Rattle.vab_device.proofs.StayLaws.{one_of}
@@ -115,8 +117,9 @@ module _
   idle_parts : AreParts size (parts_of slot (layout_of t))
   idle_parts =
       let own : IsOwn slot (layout_of t).parts =
-      own_kept slot (layout_of t).parts
-      (none_named _ (first_kept (own_check slot t) [] reads.parts).0) in
+      own_kept most_partitions slot (layout_of t).parts (omega arith)
+      (none_named _
+      (first_kept (own_check most_partitions slot t) [] (parts_all r image reads.parts)).0) in
       let read : IsRead size g t =
       table_rules size image g slot t whole enough lower reads.geometry table in
       parts_kept size slot g (layout_of t) enough (layout_keeps t read.rules) own read.lies
@@ -255,11 +258,13 @@ module _
   source_parts : AreParts size (parts_of slot (layout_of s))
   source_parts =
       let o : ℕ = other_slot slot in
-      let one = first_kept (twin_check o s t) (own_check slot s ∷ target_check o s t ∷ [])
-      reads.parts in
-      let two = first_kept (own_check slot s) (target_check o s t ∷ []) one.1 in
+      let checked : Check = own_check most_partitions slot s in
+      let target : Check = target_check most_partitions o s t in
+      let one = first_kept (twin_check o s t) (checked ∷ target ∷ [])
+      (parts_all both image reads.parts) in
+      let two = first_kept checked (target ∷ []) one.1 in
       let own : IsOwn slot (layout_of s).parts =
-      own_kept slot (layout_of s).parts (none_named _ two.0) in
+      own_kept most_partitions slot (layout_of s).parts (omega arith) (none_named _ two.0) in
       let tables = two_tables size g slot o image (s ∷ t ∷ []) reads.tables in
       let are : tables.source ∷ tables.target ∷ [] ≡ s ∷ t ∷ [] = sym tables.are in
       let same : tables.source ≡ s = cc in

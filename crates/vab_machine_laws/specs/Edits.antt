@@ -1,5 +1,5 @@
 -- A command whose table may be full, beside what the machine makes of the device's state.
-use Rattle.std.specs.Prelude.{◌≡◌, ◌<◌, ◌⊎◌, ℕ, List, Option, Some, true}
+use Rattle.std.specs.Prelude.{◌≡◌, ◌<◌, ◌⊎◌, ℕ, List, Option, true}
 use Rattle.vab_disk.specs.Disk.{Image}
 use Rattle.vab_model.specs.declared.state.State.{State}
 use Rattle.vab_model.specs.declared.command.Refusal.TheVariants as refusals
@@ -9,10 +9,7 @@ use Rattle.vab_model.specs.Effects.{Effect, refuses, wanting}
 use Rattle.vab_machine.specs.Machine.{machine_effect}
 use Rattle.vab_device.specs.Mounted.{Mounted}
 use Rattle.vab_device.specs.Reading.{IsIn}
-use Rattle.vab_names.specs.Names.{default_name}
-use Rattle.vab_layout.specs.declared.layout.Layout.{Layout}
-use Rattle.vab_builder.specs.Sizes.{limit_of}
-use Rattle.vab_device.specs.Updates.{effect_on, layout_at}
+use Rattle.vab_device.specs.Updates.{effect_on}
 use Rattle.vab_targets.specs.Plans.{HasWholeSectors}
 use Rattle.vab_machine_laws.specs.Rows.{on_states}
 
@@ -30,21 +27,6 @@ IsMachinesOrFull most e f = (on_states e ≡ f) ⊎ IsFull most e f
 -- on each disk of whole sectors that is a device
 abbrev pub IsTheMachinesOrFull : Command → Type 0
 IsTheMachinesOrFull c = (size : ℕ) (image : Image) (m : Mounted) (staged : Option (List ℕ))
-    → HasWholeSectors size image
-    → IsIn size m image
-    → IsMachinesOrFull m.places.geometry.max (effect_on m staged c)
-    (machine_effect m.state staged c)
-
--- No table of the device gives the group of no slot a limit, as none does that is written here.
-abbrev pub HasNoDefaultLimit : Mounted → Type 0
-HasNoDefaultLimit m = (slot : ℕ) (l : Layout)
-    → layout_at m.places slot ≡ Some l
-    → limit_of l.groups default_name ≡ 0
-
--- the same on those of them whose group of no slot has no limit
-abbrev pub IsTheMachinesUnlimited : Command → Type 0
-IsTheMachinesUnlimited c = (size : ℕ) (image : Image) (m : Mounted) (staged : Option (List ℕ))
-    → HasNoDefaultLimit m
     → HasWholeSectors size image
     → IsIn size m image
     → IsMachinesOrFull m.places.geometry.max (effect_on m staged c)

@@ -1,27 +1,25 @@
 //! Commands whose table may be full.
 ghost use Rattle.std.specs.Prelude.{ℕ, List};
 ghost use Rattle.vab_model.specs.Commands.{Command, Begin, Create, Delete, Snapshot, Resize};
-ghost use Rattle.vab_machine_laws.specs.Edits.{IsTheMachinesOrFull, IsTheMachinesUnlimited};
+ghost use Rattle.vab_machine_laws.specs.Edits.{IsTheMachinesOrFull};
 
 use vab_targets::plans_by_sizes;
 
 /// On a disk of whole sectors that is a device, what such a command makes of the device is what the
-/// machine makes of its state, or the machine would have been done and the table is full. Where a
-/// size is judged beside the limit of a group, no table gives the group of no slot a limit: none
-/// that is written here does, but one that others wrote may, and no state has it.
+/// machine makes of its state, or the machine would have been done and the table is full.
 pub fn edits_are_the_machines()
     ensures begin { IsTheMachinesOrFull Begin }
     ensures delete { (name : List ℕ) → IsTheMachinesOrFull (Delete name) }
     ensures snapshot { (name : List ℕ) (size : ℕ) → IsTheMachinesOrFull (Snapshot name size) }
-    ensures create { (name : List ℕ) (size : ℕ) → IsTheMachinesUnlimited (Create name size) }
-    ensures resize { (name : List ℕ) (size : ℕ) → IsTheMachinesUnlimited (Resize name size) }
+    ensures create { (name : List ℕ) (size : ℕ) → IsTheMachinesOrFull (Create name size) }
+    ensures resize { (name : List ℕ) (size : ℕ) → IsTheMachinesOrFull (Resize name size) }
 {
     plans_by_sizes();
 }
 
 /// All of these laws in one: on each such disk, whichever the command is.
 pub fn each_command_is_the_machines()
-    ensures { (c : Command) → IsTheMachinesUnlimited c }
+    ensures { (c : Command) → IsTheMachinesOrFull c }
 {
     plans_by_sizes();
 }

@@ -112,7 +112,7 @@ marked set limit max size text mark image small is has idle =
     (all_kept set max text image new is.most
     (λ s other. set_there image 2048 mark s other)
     has)
-    (ap mark_of (set_here image 2048 mark 2048 refl) ∙ idle)
+    (subst IsIdle (sym (set_here image 2048 mark 2048 refl)) idle)
 
 -- the places, where the mark is written
 pub places_marked : (max : ℕ) (text mark : List ℕ) (old new : Image)

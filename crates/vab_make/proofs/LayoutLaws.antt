@@ -13,6 +13,7 @@ use Rattle.std.proofs.lemmas.List.FromFn.{length-range_with_len, get_or-range_wi
 use Rattle.vab_bytes.specs.Name.{is_name, IsName}
 use Rattle.vab_bytes.proofs.NameLaws.{name_bytes}
 use Rattle.vab_names.specs.Names.{is_base, is_short, suffix_of, is_of_slot, base_of}
+use Rattle.vab_names.specs.Names.{most_partitions}
 use Rattle.vab_names.proofs.NameLaws.{full_is_name, is_slot, base_of-append}
 use Rattle.vab_space.specs.Space.{blocks_of}
 use Rattle.vab_tables.specs.declared.entries.Group.{Group}
@@ -221,10 +222,10 @@ one_blocks p = append-nil p.blocks
 
 passes : (earlier : List Part) (at : ℕ) (image : SetImage)
     → IsImage image
-    → length earlier < 32
+    → length earlier < most_partitions
     → is_distinct (blocks_of_parts earlier) ≡ true
     → AreBelow earlier at
-    → part_passes 0 earlier (part_at at image) ≡ true
+    → part_passes most_partitions 0 earlier (part_at at image) ≡ true
 unfolding is_of_slot
 passes earlier at image is few once below =
     let n : ℕ = blocks_of image.size in
@@ -233,7 +234,7 @@ passes earlier at image is few once below =
     ap is_base (base_of-append 0 image.name) ∙ is.name in
     let long : leb (length (range_with_len at n)) (2 ^ 28) ≡ true =
     le-leb _ _ (omega (arith, length-range_with_len at n, is.size)) in
-    let count : ltb (length earlier) 32 ≡ true = lt-ltb _ _ few in
+    let count : ltb (length earlier) most_partitions ≡ true = lt-ltb _ _ few in
     let apart : is_distinct (blocks ++ range_with_len at n) ≡ true =
     distinct_append blocks (range_with_len at n) once (distinct_range at n)
     (λ b l r. absurd (omega (arith, below b l, in_range at n b r))) in
@@ -241,11 +242,11 @@ passes earlier at image is few once below =
 
 none_bad : (earlier : List Part) (at : ℕ) (set : List SetImage)
     → All IsImage set
-    → length earlier + length set ≤ 32
+    → length earlier + length set ≤ most_partitions
     → is_distinct (blocks_of_parts earlier) ≡ true
     → AreBelow earlier at
-    → bad_part 0 earlier (parts_from at set) ≡ None
-none_bad earlier at [] all few once below = bad_none 0 earlier
+    → bad_part most_partitions 0 earlier (parts_from at set) ≡ None
+none_bad earlier at [] all few once below = bad_none most_partitions 0 earlier
 none_bad earlier at (x ∷ xs) all few once below =
     let n : ℕ = blocks_of x.size in
     let p : Part = part_at at x in
@@ -263,7 +264,7 @@ none_bad earlier at (x ∷ xs) all few once below =
       | inl l ↦ omega (arith, below b l)
       | inr r ↦ omega (arith, in_range at n b r)
     ] in
-    bad_next 0 earlier p (parts_from (at + n) xs)
+    bad_next most_partitions 0 earlier p (parts_from (at + n) xs)
     (passes earlier at x (All-head IsImage x xs all) (omega (arith, few)) once below)
     ∙ none_bad next (at + n) xs (All-tail IsImage x xs all)
     (omega (arith, few, length-append earlier (p ∷ []))) once_more more
@@ -271,9 +272,9 @@ none_bad earlier at (x ∷ xs) all few once below =
 -- no partition of the device breaks a rule
 pub parts_pass : (set : List SetImage)
     → IsSet set
-    → bad_part 0 [] (own_parts 0 (parts_from 0 set)) ≡ None
+    → bad_part most_partitions 0 [] (own_parts 0 (parts_from 0 set)) ≡ None
 parts_pass set is =
-    ap (bad_part 0 []) (own_all 0 set)
+    ap (bad_part most_partitions 0 []) (own_all 0 set)
     ∙ none_bad [] 0 set is.each (omega (arith, is.count)) refl (λ b c. absurd (omega (arith, c.1)))
 
 -- the table of a layout is of minor version 2

@@ -1,6 +1,7 @@
 -- A disk with all the parts of the device is the device.
 use Rattle.std.proofs.Common.{◌≡◌, ◌∙◌, ℕ, suc, ◌+◌, ◌*◌, ◌<◌, ◌≤◌, ◌^◌, true, false, leb, List, []}
-use Rattle.std.proofs.Common.{◌∷◌, length, get_or, take, codes, Result, Ok, refl, ap, arith}
+use Rattle.std.proofs.Common.{◌∷◌, length, get_or, take, codes, Result, Ok, refl, sym, ap, subst}
+use Rattle.std.proofs.Common.{arith}
 use Rattle.std.specs.Prelude.{All, map, Some, None}
 use Rattle.std.specs.List.{range_with_len}
 use Rattle.std.proofs.lemmas.Bool.{le-leb, and_from}
@@ -49,6 +50,10 @@ use Rattle.vab_make.specs.Prepared.{IsMost, IsPrepared}
 use Rattle.vab_make.specs.Steps.{HoldsBlocks, HasAll}
 use Rattle.vab_make.proofs.LayoutLaws.{part_at, made_groups, layout_keeps, own_all, parts_pass}
 use Rattle.vab_make.proofs.BlockLaws.{blocks_bytes, blocks_moved}
+use Rattle.vab_names.specs.Names.{most_partitions}
+use Rattle.vab_marks.specs.declared.version.MarkVersion.TheVariants.{Two}
+use Rattle.vab_marks.specs.Version.{version_in, partitions_under}
+use Rattle.vab_device.specs.Reading.{most_at}
 
 -- ---- images
 
@@ -118,13 +123,14 @@ most_geometry max most = record {
 abbrev pub idle_one : UpdateMark
 idle_one = mark_at marks.Idle 0
 
--- the bytes are those of this mark
-abbrev pub IsIdle : List ℕ → Type 0
-IsIdle bytes = (let is : Result UpdateMark MarkFault = Ok idle_one in mark_of bytes ≡ is)
+-- the bytes are those of this mark, of version 2
+pub record IsIdle (bytes : List ℕ) : Type 0 where
+  pub mark : (let is : Result UpdateMark MarkFault = Ok idle_one in mark_of bytes ≡ is)
+  pub version : version_in bytes ≡ Two
 
 mark_is : (image : Image) → IsIdle (image 2048) → mark_in image ≡ Ok idle_one
 unfolding mark_in
-mark_is image mark = ap mark_read mark
+mark_is image idle = ap mark_read idle.mark
 
 geometry_is : (max size : ℕ) (image : Image)
     → IsMost max
@@ -157,9 +163,14 @@ module _
       let lies : lies_in size g made.device ≡ true = and_from _ _ within ends in
       ap (table_read size g 0) table ∙ rw (again, lies) refl
 
-  parts_are : own_check 0 (table_of made) ≡ None
+  parts_are : own_check most_partitions 0 (table_of made) ≡ None
   unfolding made_layout
   parts_are = rw (again, parts_pass set is.room.images) refl
+
+  parts_read : IsIdle (image 2048) → own_check (most_at image) 0 (table_of made) ≡ None
+  parts_read idle =
+      subst (λ v. own_check (partitions_under v) 0 (table_of made) ≡ None) (sym idle.version)
+      parts_are
 
   -- what is read of the disk
   abbrev reading : Read
@@ -172,7 +183,7 @@ module _
       made_control (made_geometry max) (table_of made)
       (control_seen_in true false image made_control has.control)
       (geometry_is max size image is.most is.room.enough has.places.primary)
-      table_is parts_are refl
+      table_is (parts_read mark) refl
 
   -- ---- what it means
 

@@ -22,7 +22,7 @@ const BLOCK: u64 = 4096;
 pub fn set_blocks(set: &Set) -> u64
     requires { IsSet set.now }
     ensures blocks { result ≡ set_blocks set.now }
-    ensures few { result ≤ 2 ^ 33 }
+    ensures few { result ≤ 2 ^ 34 }
 {
     let mut sum = 0;
     for image in set.as_slice() {

@@ -6,7 +6,9 @@ ghost use Rattle.vab_disk.specs.Calls.{IsAtRest, InSectors, Touches, FailsWithDi
 ghost use Rattle.vab_set.specs.Spelling.{IsSet};
 ghost use Rattle.vab_make.specs.Made.{made_control, refusal_of};
 ghost use Rattle.vab_make.specs.Making.{Gives, IsOfDisk, IsMade, LeavesMaking};
+ghost use Rattle.vab_marks.specs.declared.version.MarkVersion.TheVariants.{Two};
 ghost use Rattle.vab_marks.specs.Mark.{mark_of};
+ghost use Rattle.vab_marks.specs.Version.{version_in};
 ghost use Rattle.vab_make.specs.Prepared.{IsMost, HasRoom, IsPrepared};
 ghost use Rattle.vab_make.specs.Touched.{IsOfContents, IsOfMaking};
 ghost use Rattle.vab_bootctl.specs.Control.{control_of, KeepsRest};
@@ -28,7 +30,8 @@ const MARK: u64 = 2048;
 
 // The mark of a device without an update, with images in slot a.
 fn idle_mark() -> [u8; 512]
-    ensures { mark_of result ≡ Ok (record { phase = MarkPhase.Idle; slot = 0 }) }
+    ensures mark { mark_of result ≡ Ok (record { phase = MarkPhase.Idle; slot = 0 }) }
+    ensures version { version_in result ≡ Two }
 {
     encode_mark(&UpdateMark {
         phase: MarkPhase::Idle,
@@ -81,6 +84,7 @@ fn make_on<D: Disk>(d: &mut D, set: &Set, max: u32, text: &[u8]) -> Result<(), D
     ensures copies { D.is_modelled → OnOk result (HasPlaces max text.now (D.seen d.new)) }
     ensures control { D.is_modelled
         → OnOk result (control_of (D.seen d.new 4) ≡ Ok made_control) }
+    ensures version { D.is_modelled → OnOk result (version_in (D.seen d.new 2048) ≡ Two) }
     ensures rest { D.is_modelled
         → OnOk result (KeepsRest (blanked (D.seen d.old 4)) (D.seen d.new 4)) }
     ensures settled { D.is_modelled → OnOk result (IsAtRest D.Disk d.new) }
@@ -125,6 +129,8 @@ pub fn make_device<D: Disk>(
     // The boot control is there as a whole, also what it says of slot b, which has no images.
     ensures control { D.is_modelled
         → OnOk result (control_of (D.seen d.new 4) ≡ Ok made_control) }
+    // The mark has version 2.
+    ensures version { D.is_modelled → OnOk result (version_in (D.seen d.new 2048) ≡ Two) }
     // The boot control's sector stays behind the 32 bytes of the boot control.
     ensures rest { D.is_modelled
         → OnOk result (KeepsRest (blanked (D.seen d.old 4)) (D.seen d.new 4)) }

@@ -1,9 +1,10 @@
 -- What callers need of the update mark.
-use Rattle.std.proofs.Common.{◌≡◌, ℕ, zero, suc, ◌^◌, ◌<◌, ◌&&◌, Bool, true, false, cond, ltb, List}
+use Rattle.std.proofs.Common.{◌≡◌, ℕ, zero, suc, ◌^◌, ◌<◌, ◌&&◌, ◌||◌, Bool, true, false, cond}
+use Rattle.std.proofs.Common.{eqb, ltb, List}
 use Rattle.std.proofs.Common.{[], ◌∷◌, length, take, get_or, Option, Some, None, Result, Ok, Err}
-use Rattle.std.proofs.Common.{refl, ap, subst, ◌∙◌, arith, lit≤}
+use Rattle.std.proofs.Common.{refl, sym, ap, subst, ◌∙◌, arith, lit≤}
 use Rattle.std.specs.Prelude.{option_map, ok_or}
-use Rattle.std.proofs.lemmas.Bool.{ltb-true, lt-ltb, and_parts, and_from, cond-true}
+use Rattle.std.proofs.lemmas.Bool.{ltb-true, lt-ltb, and_parts, and_from, cond-true, eqb-true}
 use Rattle.std.proofs.lemmas.List.{drop-drop}
 use Rattle.vab_bytes.specs.Number.{IsBytes, field, put_at}
 use Rattle.vab_bytes.proofs.NumberLaws.{length-field}
@@ -14,12 +15,16 @@ use Rattle.vab_marks.specs.declared.mark.MarkPhase.{MarkPhase}
 use Rattle.vab_marks.specs.declared.mark.MarkPhase.TheVariants.{Idle, Installing, Staged, Merging}
 use Rattle.vab_marks.specs.declared.mark.MarkPhase.TheVariants.{Completed}
 use Rattle.vab_marks.specs.declared.mark.UpdateMark.{UpdateMark}
+use Rattle.vab_marks.specs.declared.version.MarkVersion.{MarkVersion}
+use Rattle.vab_marks.specs.declared.version.MarkVersion.TheVariants.{One, Two}
 use Rattle.vab_marks.specs.Sector.{zeros, are_zeros, sealed, head_fault, unless}
 use Rattle.vab_marks.proofs.SectorLaws.{length-zeros, field-zeros, are_zeros-zeros, zeros_from}
 use Rattle.vab_marks.proofs.SectorLaws.{field-add, field-one, length-sealed, field-sealed}
 use Rattle.vab_marks.proofs.SectorLaws.{get_or-sealed, unless_ok, front_sum, head_is, head_again}
 use Rattle.vab_marks.proofs.SectorLaws.{zero_head}
-use Rattle.vab_marks.specs.Mark.{FitsMark, phase_byte, mark_magic, mark_front, mark_spelling}
+use Rattle.vab_marks.specs.Version.{version_byte, version_of, version_in, is_version}
+use Rattle.vab_marks.specs.Mark.{FitsMark, phase_byte, mark_magic, mark_front, mark_under}
+use Rattle.vab_marks.specs.Mark.{mark_spelling}
 use Rattle.vab_marks.specs.Mark.{phase_of, with_phase, mark_fields, mark_of}
 
 -- ---- phases
@@ -42,19 +47,38 @@ phase_is (suc (suc (suc zero))) p h = ap phase_byte (some_is Merging p h)
 phase_is (suc (suc (suc (suc zero)))) p h = ap phase_byte (some_is Completed p h)
 phase_is (suc (suc (suc (suc (suc n))))) p h = absurd cc
 
+-- ---- versions
+
+version_again : (v : MarkVersion) → version_of (version_byte v) ≡ v
+version_again One = refl
+version_again Two = refl
+
+byte_again : (v : MarkVersion) → is_version (version_byte v) ≡ true
+byte_again One = refl
+byte_again Two = refl
+
+version_is : (b : ℕ) → is_version b ≡ true → b ≡ version_byte (version_of b)
+version_is b h = by (eqb b 1) refl
+  where
+    by : (one : Bool) → eqb b 1 ≡ one → b ≡ version_byte (version_of b)
+    by true is = eqb-true b 1 is ∙ ap version_byte (sym (ap (λ (t : Bool). cond t One Two) is))
+    by false other =
+        let two : eqb b 2 ≡ true = ap (λ (t : Bool). t || eqb b 2) (sym other) ∙ h in
+        eqb-true b 2 two ∙ ap version_byte (sym (ap (λ (t : Bool). cond t One Two) other))
+
 -- ---- the front of the sector
 
 -- the parts make the front
-front_is : (bytes : List ℕ) (m : UpdateMark)
+front_is : (bytes : List ℕ) (v : MarkVersion) (m : UpdateMark)
     → length bytes ≡ 512
     → take 4 bytes ≡ mark_magic
-    → get_or bytes 4 0 ≡ 1
+    → get_or bytes 4 0 ≡ version_byte v
     → get_or bytes 5 0 ≡ phase_byte m.phase
     → get_or bytes 6 0 ≡ m.slot
     → field bytes 7 501 ≡ zeros 501
-    → take 508 bytes ≡ mark_front m
-front_is bytes m len magic version phase slot rest =
-    let e4 : field bytes 4 1 ≡ 1 ∷ [] = field-one bytes 4 (omega (arith, len))
+    → take 508 bytes ≡ mark_front v m
+front_is bytes v m len magic version phase slot rest =
+    let e4 : field bytes 4 1 ≡ version_byte v ∷ [] = field-one bytes 4 (omega (arith, len))
     ∙ ap (λ (k : ℕ). k ∷ []) version in
     let e5 : field bytes 5 1 ≡ phase_byte m.phase ∷ [] = field-one bytes 5 (omega (arith, len))
     ∙ ap (λ (k : ℕ). k ∷ []) phase in
@@ -64,12 +88,12 @@ front_is bytes m len magic version phase slot rest =
     ∙ rw (e6, rest) refl in
     let from5 : field bytes 5 503 ≡ phase_byte m.phase ∷ m.slot ∷ zeros 501 =
     field-add bytes 5 1 502 ∙ rw (e5, from6) refl in
-    let from4 : field bytes 4 504 ≡ 1 ∷ phase_byte m.phase ∷ m.slot ∷ zeros 501 =
+    let from4 : field bytes 4 504 ≡ version_byte v ∷ phase_byte m.phase ∷ m.slot ∷ zeros 501 =
     field-add bytes 4 1 503 ∙ rw (e4, from5) refl in
     field-add bytes 0 4 504 ∙ rw (magic, from4) refl
 
-length-front : (m : UpdateMark) → length (mark_front m) ≡ 508
-length-front m = omega (arith, length-zeros 501)
+length-front : (v : MarkVersion) (m : UpdateMark) → length (mark_front v m) ≡ 508
+length-front v m = omega (arith, length-zeros 501)
 
 -- ---- reading
 
@@ -85,16 +109,18 @@ fields_ok : (t : Bool) (r : Result UpdateMark MarkFault) (m : UpdateMark)
 fields_ok true r m h = (refl, h)
 fields_ok false r m h = absurd cc
 
--- what is read is spelled so
+-- what is read is spelled so, under the version of its sector
 pub found_mark : (bytes : List ℕ) (m : UpdateMark)
     → length bytes ≡ 512
     → IsBytes bytes
     → mark_of bytes ≡ Ok m
-    → FitsMark m × (bytes ≡ mark_spelling m)
-unfolding mark_of mark_spelling
+    → FitsMark m × (bytes ≡ mark_under (version_in bytes) m)
+unfolding mark_of mark_under
 found_mark bytes m len are h =
-    let u = unless_ok (head_fault mark_magic bytes) (mark_fields bytes) m h in
-    let head = head_is mark_magic bytes len are u.0 in
+    let v : MarkVersion = version_in bytes in
+    let known : Bool = is_version (get_or bytes 4 0) in
+    let u = unless_ok (head_fault mark_magic known bytes) (mark_fields bytes) m h in
+    let head = head_is mark_magic known bytes len are u.0 in
     let f = fields_ok (ltb (get_or bytes 6 0) 2 && are_zeros (field bytes 7 501)) _ m u.1 in
     let tests = and_parts (ltb (get_or bytes 6 0) 2) (are_zeros (field bytes 7 501)) f.0 in
     let p = with_phase_ok (get_or bytes 6 0) (phase_of (get_or bytes 5 0)) m f.1 in
@@ -102,23 +128,26 @@ found_mark bytes m len are h =
     let rest : field bytes 7 501 ≡ zeros 501 =
     zeros_from (field bytes 7 501) 501 (length-field bytes 7 501 (omega (arith, len)))
     tests.1 in
-    let front : take 508 bytes ≡ mark_front read =
-    front_is bytes read len head.first head.version (phase_is (get_or bytes 5 0) p.0 p.1) refl
-    rest in
-    let P : UpdateMark → Type 0 = λ k. FitsMark k × (bytes ≡ sealed (mark_front k)) in
+    let front : take 508 bytes ≡ mark_front v read =
+    front_is bytes v read len head.first (version_is (get_or bytes 4 0) head.version)
+    (phase_is (get_or bytes 5 0) p.0 p.1) refl rest in
+    let P : UpdateMark → Type 0 = λ k. FitsMark k × (bytes ≡ sealed (mark_front v k)) in
     subst P p.2 (ltb-true _ _ tests.0, head.whole ∙ ap sealed front)
 
 -- what is spelled so is read
-pub only_mark : (m : UpdateMark)
-    → crc_of (mark_front m) < 2 ^ 32
+pub only_mark : (v : MarkVersion) (m : UpdateMark)
+    → crc_of (mark_front v m) < 2 ^ 32
     → FitsMark m
-    → mark_of (mark_spelling m) ≡ Ok m
-unfolding mark_of mark_spelling
-only_mark m sum fits =
-    let front : List ℕ = mark_front m in
+    → mark_of (mark_under v m) ≡ Ok m
+unfolding mark_of mark_under
+only_mark v m sum fits =
+    let front : List ℕ = mark_front v m in
     let whole : List ℕ = sealed front in
-    let len = length-front m in
-    let head : head_fault mark_magic whole ≡ None = head_again mark_magic front len sum refl refl in
+    let len = length-front v m in
+    let version : is_version (get_or whole 4 0) ≡ true =
+    ap is_version (get_or-sealed front 4 (omega (arith, len))) ∙ byte_again v in
+    let head : head_fault mark_magic (is_version (get_or whole 4 0)) whole ≡ None =
+    head_again mark_magic (is_version (get_or whole 4 0)) front len sum refl version in
     let phase : get_or whole 5 0 ≡ phase_byte m.phase =
     get_or-sealed front 5 (omega (arith, len)) in
     let slot : get_or whole 6 0 ≡ m.slot = get_or-sealed front 6 (omega (arith, len)) in
@@ -134,24 +163,31 @@ only_mark m sum fits =
     ap of_head head ∙ cond-true _ _ (Err BadField) (and_from _ _ below clean)
     ∙ ap of_phase (ap phase_of phase ∙ phase_again m.phase) ∙ ap of_slot slot
 
-pub read_mark : (bytes : List ℕ) (m : UpdateMark)
+pub read_mark : (bytes : List ℕ) (v : MarkVersion) (m : UpdateMark)
     → IsBytes bytes
     → FitsMark m
-    → bytes ≡ mark_spelling m
+    → bytes ≡ mark_under v m
     → mark_of bytes ≡ Ok m
-unfolding mark_spelling
-read_mark bytes m are fits h = ap mark_of h
-    ∙ only_mark m (front_sum bytes (mark_front m) (length-front m) are h) fits
+unfolding mark_under
+read_mark bytes v m are fits h = ap mark_of h
+    ∙ only_mark v m (front_sum bytes (mark_front v m) (length-front v m) are h) fits
+
+-- the version under which a mark is spelled
+pub version_spelled : (v : MarkVersion) (m : UpdateMark) → version_in (mark_under v m) ≡ v
+unfolding mark_under
+version_spelled v m =
+    ap version_of (get_or-sealed (mark_front v m) 4 (omega (arith, length-front v m)))
+    ∙ version_again v
 
 -- ---- writing
 
 -- the sector before its sum
 abbrev pub mark_drawn : UpdateMark → List ℕ
-mark_drawn m = put_at (put_at (zeros 512) 0 mark_magic) 4 (1 ∷ phase_byte m.phase ∷ m.slot ∷ [])
+mark_drawn m = put_at (put_at (zeros 512) 0 mark_magic) 4 (2 ∷ phase_byte m.phase ∷ m.slot ∷ [])
 
-pub drawn_mark : (m : UpdateMark) → take 508 (mark_drawn m) ≡ mark_front m
+pub drawn_mark : (m : UpdateMark) → take 508 (mark_drawn m) ≡ mark_front Two m
 drawn_mark m =
-    let head : List ℕ → List ℕ = λ t. 86 ∷ 65 ∷ 66 ∷ 85 ∷ 1 ∷ phase_byte m.phase ∷ m.slot ∷ t in
+    let head : List ℕ → List ℕ = λ t. 86 ∷ 65 ∷ 66 ∷ 85 ∷ 2 ∷ phase_byte m.phase ∷ m.slot ∷ t in
     ap (λ (t : List ℕ). head (take 501 t)) (drop-drop 3 4 (zeros 512))
     ∙ ap head (field-zeros 512 7 501 (lit≤ tt))
 
@@ -161,8 +197,9 @@ unfolding mark_of
 zero_is_no_mark bytes h =
     let of_head : Option MarkFault → Result UpdateMark MarkFault = λ o.
     unless o (mark_fields bytes) in
-    ap of_head (zero_head 85 (65 ∷ 66 ∷ 85 ∷ []) bytes h)
+    ap of_head
+    (zero_head 85 (65 ∷ 66 ∷ 85 ∷ []) (is_version (get_or bytes 4 0)) bytes h)
 
 pub length-mark_spelling : (m : UpdateMark) → length (mark_spelling m) ≡ 512
-unfolding mark_spelling
-length-mark_spelling m = length-sealed (mark_front m) (length-front m)
+unfolding mark_under
+length-mark_spelling m = length-sealed (mark_front Two m) (length-front Two m)

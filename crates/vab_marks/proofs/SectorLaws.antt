@@ -152,40 +152,39 @@ unless_ok None r x h = (refl, h)
 unless_ok (Some fault) r x h = absurd cc
 
 -- a sector with no fault in its head
-pub record HasHead (magic bytes : List ℕ) : Type 0 where
+pub record HasHead (magic : List ℕ) (known : Bool) (bytes : List ℕ) : Type 0 where
   pub first : take 4 bytes ≡ magic
-  pub version : get_or bytes 4 0 ≡ 1
+  pub version : known ≡ true
   pub whole : bytes ≡ sealed (take 508 bytes)
 
-pub head_is : (magic bytes : List ℕ)
+pub head_is : (magic : List ℕ) (known : Bool) (bytes : List ℕ)
     → length bytes ≡ 512
     → IsBytes bytes
-    → head_fault magic bytes ≡ None
-    → HasHead magic bytes
+    → head_fault magic known bytes ≡ None
+    → HasHead magic known bytes
 unfolding head_fault
-head_is magic bytes len are h =
+head_is magic known bytes len are h =
     let g1 = clear (not (bytes_eq (take 4 bytes) magic)) BadMagic _ h in
-    let g2 = clear (not (eqb (get_or bytes 4 0) 1)) BadVersion _ g1.1 in
+    let g2 = clear (not known) BadVersion _ g1.1 in
     let g3 = clear (not (eqb (le_at w32 bytes 508) (crc_of (take 508 bytes)))) BadSum _ g2.1 in
     record {
       first = (bytes_eq-Decides (take 4 bytes) magic).0 (not-false _ g1.0);
-      version = same _ _ g2.0;
+      version = not-false known g2.0;
       whole = sealed_from bytes len are (same _ _ g3.0);
     }
 
-pub head_again : (magic front : List ℕ)
+pub head_again : (magic : List ℕ) (known : Bool) (front : List ℕ)
     → length front ≡ 508
     → crc_of front < 2 ^ 32
     → take 4 front ≡ magic
-    → get_or front 4 0 ≡ 1
-    → head_fault magic (sealed front) ≡ None
+    → known ≡ true
+    → head_fault magic known (sealed front) ≡ None
 unfolding head_fault
-head_again magic front len fits first version =
+head_again magic known front len fits first version =
     let e1 : not (bytes_eq (take 4 (sealed front)) magic) ≡ false =
     not_from_true _ ((bytes_eq-Decides (take 4 (sealed front)) magic).1
     (take-sealed front 4 (omega (arith, len)) ∙ first)) in
-    let e2 = apart (get_or (sealed front) 4 0) 1 (get_or-sealed front 4 (omega (arith, len))
-    ∙ version) in
+    let e2 : not known ≡ false = not_from_true known version in
     let whole : take 508 (sealed front) ≡ front = take-sealed front 508 (omega (arith, len))
     ∙ take_all 508 front (omega (arith, len)) in
     let e3 = apart (le_at w32 (sealed front) 508) (crc_of (take 508 (sealed front)))
@@ -194,11 +193,11 @@ head_again magic front len fits first version =
     ∙ cond-false _ (Some BadSum) _ e3
 
 -- a sector whose first byte is zero is neither a mark nor a status
-pub zero_head : (first : ℕ) (magic bytes : List ℕ)
+pub zero_head : (first : ℕ) (magic : List ℕ) (known : Bool) (bytes : List ℕ)
     → get_or bytes 0 0 ≡ 0
-    → head_fault (suc first ∷ magic) bytes ≡ Some BadMagic
+    → head_fault (suc first ∷ magic) known bytes ≡ Some BadMagic
 unfolding head_fault
-zero_head first magic bytes h =
+zero_head first magic known bytes h =
     let test : Bool = bytes_eq (take 4 bytes) (suc first ∷ magic) in
     let differs : test ≡ true → ⊥ = λ t.
     (let e = (bytes_eq-Decides (take 4 bytes) (suc first ∷ magic)).0 t in

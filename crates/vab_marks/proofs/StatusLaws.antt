@@ -104,8 +104,9 @@ pub found_status : (bytes : List ℕ) (s : PartStatus)
     → FitsStatus s × (bytes ≡ status_spelling s)
 unfolding status_of status_spelling
 found_status bytes s len are h =
-    let u = unless_ok (head_fault status_magic bytes) (status_fields bytes) s h in
-    let head = head_is status_magic bytes len are u.0 in
+    let known : Bool = eqb (get_or bytes 4 0) 1 in
+    let u = unless_ok (head_fault status_magic known bytes) (status_fields bytes) s h in
+    let head = head_is status_magic known bytes len are u.0 in
     let f = fields_ok (eqb (get_or bytes 5 0) 1 && eqb (le_at w16 bytes 6) 8 && are_zeros
     (field bytes 52 456)) _ s u.1 in
     let tests = and_parts (eqb (get_or bytes 5 0) 1 && eqb (le_at w16 bytes 6) 8)
@@ -124,8 +125,8 @@ found_status bytes s len are h =
     zeros_from (field bytes 52 456) 456 (length-field bytes 52 456 (omega (arith, len)))
     tests.1 in
     let front : take 508 bytes ≡ status_front read =
-    front_is bytes read len head.first head.version (eqb-true _ _ numbers.0) chunk name.1 count
-    rest in
+    front_is bytes read len head.first (eqb-true _ _ head.version) (eqb-true _ _ numbers.0) chunk
+    name.1 count rest in
     let P : PartStatus → Type 0 = λ k. FitsStatus k × (bytes ≡ sealed (status_front k)) in
     subst P n.2 (
       record { name = name.0; count = le_at_fits_64 bytes 44 are },
@@ -146,8 +147,10 @@ only_status s sum fits =
     let name : List ℕ = name_field s.name in
     let rest : List ℕ = to_le_bytes w64 s.count ++ zeros 456 in
     let long : length name ≡ 36 = length-name_field s.name fits.name in
-    let head : head_fault status_magic whole ≡ None =
-    head_again status_magic front len sum refl refl in
+    let version : eqb (get_or whole 4 0) 1 ≡ true =
+    eq-eqb _ 1 (get_or-sealed front 4 (omega (arith, len))) in
+    let head : head_fault status_magic (eqb (get_or whole 4 0) 1) whole ≡ None =
+    head_again status_magic (eqb (get_or whole 4 0) 1) front len sum refl version in
     let state : get_or whole 5 0 ≡ 1 = get_or-sealed front 5 (omega (arith, len)) in
     let chunk : le_at w16 whole 6 ≡ 8 = le_at_is_16 whole 6 8 (lit< tt)
     (field-sealed front 6 2 (omega (arith, len))) in
@@ -244,7 +247,7 @@ unfolding status_of
 zero_is_no_status bytes h =
     let of_head : Option MarkFault → Result PartStatus MarkFault = λ o.
     unless o (status_fields bytes) in
-    ap of_head (zero_head 85 (65 ∷ 66 ∷ 83 ∷ []) bytes h)
+    ap of_head (zero_head 85 (65 ∷ 66 ∷ 83 ∷ []) (eqb (get_or bytes 4 0) 1) bytes h)
 
 pub length-status_spelling : (s : PartStatus) → IsName s.name → length (status_spelling s) ≡ 512
 unfolding status_spelling

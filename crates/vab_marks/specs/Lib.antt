@@ -1,3 +1,4 @@
 pub mod Sector
+pub mod Version
 pub mod Mark
 pub mod Status

@@ -1,4 +1,4 @@
--- The update mark: the one spelling of each, and what the bytes of a sector mean.
+-- The update mark: the spelling of each under a version, and what the bytes of a sector mean.
 use Rattle.std.specs.Prelude.{ℕ, zero, suc, ◌<◌, ◌&&◌, nat_lt, if◌then◌else◌, List, [], ◌∷◌, ◌++◌}
 use Rattle.std.specs.Prelude.{slice_index, Option, Some, None, option_map, ok_or, Result, Err}
 use Rattle.vab_bytes.specs.Number.{field}
@@ -8,7 +8,10 @@ use Rattle.vab_marks.specs.declared.mark.MarkPhase.{MarkPhase}
 use Rattle.vab_marks.specs.declared.mark.MarkPhase.TheVariants.{Idle, Installing, Staged, Merging}
 use Rattle.vab_marks.specs.declared.mark.MarkPhase.TheVariants.{Completed}
 use Rattle.vab_marks.specs.declared.mark.UpdateMark.{UpdateMark}
+use Rattle.vab_marks.specs.declared.version.MarkVersion.{MarkVersion}
+use Rattle.vab_marks.specs.declared.version.MarkVersion.TheVariants.{Two}
 use Rattle.vab_marks.specs.Sector.{zeros, are_zeros, sealed, head_fault, unless}
+use Rattle.vab_marks.specs.Version.{version_byte, is_version}
 
 -- what has a spelling
 abbrev pub FitsMark : UpdateMark → Type 0
@@ -25,13 +28,17 @@ phase_byte Completed = 4
 abbrev pub mark_magic : List ℕ
 mark_magic = 86 ∷ 65 ∷ 66 ∷ 85 ∷ []
 
--- the magic, version 1, the phase, the slot, and zeros
-abbrev pub mark_front : UpdateMark → List ℕ
-mark_front m = mark_magic ++ 1 ∷ phase_byte m.phase ∷ m.slot ∷ zeros 501
+-- the magic, the version, the phase, the slot, and zeros
+abbrev pub mark_front : MarkVersion → UpdateMark → List ℕ
+mark_front v m = mark_magic ++ version_byte v ∷ phase_byte m.phase ∷ m.slot ∷ zeros 501
 
 -- that, and the sum
-unfoldable pub mark_spelling : UpdateMark → List ℕ
-mark_spelling m = sealed (mark_front m)
+unfoldable pub mark_under : MarkVersion → UpdateMark → List ℕ
+mark_under v m = sealed (mark_front v m)
+
+-- what is written of a mark: it has version 2
+abbrev pub mark_spelling : UpdateMark → List ℕ
+mark_spelling m = mark_under Two m
 
 abbrev pub phase_of : ℕ → Option MarkPhase
 phase_of zero = Some Idle
@@ -74,6 +81,7 @@ mark_fields bytes =
     BadField
     else Err BadField
 
--- the mark in the bytes of a sector, or the first fault
+-- the mark in the bytes of a sector, under either version, or the first fault
 unfoldable pub mark_of : List ℕ → Result UpdateMark MarkFault
-mark_of bytes = unless (head_fault mark_magic bytes) (mark_fields bytes)
+mark_of bytes =
+    unless (head_fault mark_magic (is_version (slice_index bytes 4)) bytes) (mark_fields bytes)

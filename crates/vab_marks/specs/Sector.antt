@@ -1,5 +1,5 @@
 -- What marks and statuses share: a sector with a magic, a version, fields, zeros and a sum.
-use Rattle.std.specs.Prelude.{ℕ, Bool, not, ◌==◌, if◌then◌else◌, List, ◌++◌, take, slice_index}
+use Rattle.std.specs.Prelude.{ℕ, Bool, not, ◌==◌, if◌then◌else◌, List, ◌++◌, take}
 use Rattle.std.specs.Prelude.{replicate, Option, Some, None, Result, Err}
 use Rattle.std.specs.List.{list_all}
 use Rattle.std.specs.Int.{w32, to_le_bytes}
@@ -20,11 +20,11 @@ are_zeros bytes = list_all (λ b. b == 0) bytes
 unfoldable pub sealed : List ℕ → List ℕ
 sealed front = front ++ to_le_bytes w32 (crc_of front)
 
--- the first fault before the fields
-unfoldable pub head_fault : List ℕ → List ℕ → Option MarkFault
-head_fault magic bytes =
+-- the first fault before the fields, where the version is one that is known or not
+unfoldable pub head_fault : (magic : List ℕ) → (known : Bool) → List ℕ → Option MarkFault
+head_fault magic known bytes =
     if not (bytes_eq (take 4 bytes) magic) then Some BadMagic
-    else (if not (slice_index bytes 4 == 1) then Some BadVersion
+    else (if not known then Some BadVersion
     else (if not (le_at w32 bytes 508 == crc_of (take 508 bytes)) then Some BadSum
     else None))
 

@@ -43,4 +43,5 @@ status_fields bytes =
 
 -- the status in the bytes of a sector, or the first fault
 unfoldable pub status_of : List ℕ → Result PartStatus MarkFault
-status_of bytes = unless (head_fault status_magic bytes) (status_fields bytes)
+status_of bytes =
+    unless (head_fault status_magic (slice_index bytes 4 == 1) bytes) (status_fields bytes)

@@ -2,9 +2,13 @@
 
 ghost use Rattle.std.specs.Prelude.{◌≡◌, IfOk, Ok};
 ghost use Rattle.vab_marks.specs.declared.mark.UpdateMark.{UpdateMark};
-ghost use Rattle.vab_marks.specs.Mark.{FitsMark, phase_byte, phase_of, mark_spelling, mark_of};
+ghost use Rattle.vab_marks.specs.declared.version.MarkVersion.{MarkVersion};
+ghost use Rattle.vab_marks.specs.Mark.{FitsMark, phase_byte, phase_of, mark_under, mark_of};
+ghost use Rattle.vab_marks.specs.Mark.{mark_spelling};
+ghost use Rattle.vab_marks.specs.Version.{version_in};
 
-use crate::sector::{MarkFault, VERSION, are_zeros, blank, head_fault, put, seal};
+use crate::sector::{MarkFault, are_zeros, blank, head_fault, put, seal};
+use crate::version::MarkVersion;
 
 const MAGIC: &[u8; 4] = b"VABU";
 
@@ -63,7 +67,7 @@ impl MarkPhase {
 fn mark_in(bytes: &[u8; 512]) -> Result<UpdateMark, MarkFault>
     ensures { result ≡ mark_of bytes.now }
 {
-    if let Some(fault) = head_fault(bytes, MAGIC) {
+    if let Some(fault) = head_fault(bytes, MAGIC, MarkVersion::is_version(bytes[4])) {
         return Err(fault);
     }
     if bytes[6] > 1 || !are_zeros(&bytes[7..508]) {
@@ -76,30 +80,40 @@ fn mark_in(bytes: &[u8; 512]) -> Result<UpdateMark, MarkFault>
     })
 }
 
-/// The mark of this sector, or the first fault.
+/// The mark of this sector, under either version, or the first fault.
 pub fn decode_mark(bytes: &[u8; 512]) -> Result<UpdateMark, MarkFault>
     // Which mark or which fault it is.
     ensures exact { result ≡ mark_of bytes.now }
-    // What is read is spelled so.
-    ensures found { IfOk result (λ m. FitsMark m × (bytes.now ≡ mark_spelling m)) }
-    // What is spelled so is read.
-    ensures only { (m : UpdateMark) → FitsMark m → bytes.now ≡ mark_spelling m → result ≡ Ok m }
+    // What is read is spelled so under the sector's version.
+    ensures found { IfOk result
+        (λ m. FitsMark m × (bytes.now ≡ mark_under (version_in bytes.now) m)) }
+    // What is spelled so under a version is read.
+    ensures only { (v : MarkVersion)
+        (m : UpdateMark)
+        → FitsMark m
+        → bytes.now ≡ mark_under v m
+        → result ≡ Ok m }
 {
     mark_in(bytes)
 }
 
-/// The sector with this mark.
+/// The sector with this mark, of version 2.
 pub fn encode_mark(mark: &UpdateMark) -> [u8; 512]
     requires { FitsMark mark.now }
     ensures spelled { result ≡ mark_spelling mark.now }
     ensures decoded { mark_of result ≡ Ok mark.now }
+    ensures version { version_in result ≡ MarkVersion.Two }
 {
     let mut bytes = blank();
     put(&mut bytes, 0, MAGIC);
     put(
         &mut bytes,
         4,
-        &[VERSION, mark.phase.to_byte(), mark.slot as u8],
+        &[
+            MarkVersion::Two.to_byte(),
+            mark.phase.to_byte(),
+            mark.slot as u8,
+        ],
     );
     seal(&mut bytes);
     bytes

@@ -7,7 +7,6 @@ ghost use Rattle.vab_marks.specs.Sector.{zeros, are_zeros, sealed, head_fault};
 
 use vab_bytes::{crc32, le32_at, put_le32};
 
-pub const VERSION: u8 = 1;
 /// How many bytes stand before the sum.
 const SUMMED: usize = 508;
 
@@ -16,7 +15,7 @@ const SUMMED: usize = 508;
 pub enum MarkFault {
     /// The magic is another.
     BadMagic,
-    /// The version is not 1.
+    /// The version is none that is known: 1 of a status, 1 or 2 of a mark.
     BadVersion,
     /// The sum is not that of the bytes before it.
     BadSum,
@@ -37,14 +36,14 @@ pub fn are_zeros(bytes: &[u8]) -> bool
     bytes.iter().all(|b| *b == 0)
 }
 
-/// The first fault before the fields.
+/// The first fault before the fields, where the version is one that is known or not.
 #[tactic(auto, unfolding(crate::specs::Sector::head_fault))]
-pub fn head_fault(bytes: &[u8; 512], magic: &[u8; 4]) -> Option<MarkFault>
-    ensures { result ≡ head_fault magic.now bytes.now }
+pub fn head_fault(bytes: &[u8; 512], magic: &[u8; 4], is_known: bool) -> Option<MarkFault>
+    ensures { result ≡ head_fault magic.now is_known bytes.now }
 {
     if &bytes[..4] != magic.as_slice() {
         Some(MarkFault::BadMagic)
-    } else if bytes[4] != VERSION {
+    } else if !is_known {
         Some(MarkFault::BadVersion)
     } else if le32_at(bytes, SUMMED) != crc32(&bytes[..SUMMED]) {
         Some(MarkFault::BadSum)

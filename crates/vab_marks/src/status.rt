@@ -5,10 +5,12 @@ ghost use Rattle.vab_bytes.specs.Number.{field};
 ghost use Rattle.vab_marks.specs.declared.status.PartStatus.{PartStatus};
 ghost use Rattle.vab_marks.specs.Status.{FitsStatus, status_spelling, status_of};
 
-use crate::sector::{MarkFault, VERSION, are_zeros, blank, head_fault, put, seal};
+use crate::sector::{MarkFault, are_zeros, blank, head_fault, put, seal};
 use vab_bytes::{Name36, le16_at, le64_at, put_le16, put_le64};
 
 const MAGIC: &[u8; 4] = b"VABS";
+
+const VERSION: u8 = 1;
 /// The partition's image is written.
 const WRITTEN: u8 = 1;
 /// The size of a chunk of the partition's store, in sectors of 512 bytes.
@@ -36,7 +38,7 @@ fn name_bytes(bytes: &[u8; 512]) -> [u8; 36]
 fn status_in(bytes: &[u8; 512]) -> Result<PartStatus, MarkFault>
     ensures { result ≡ status_of bytes.now }
 {
-    if let Some(fault) = head_fault(bytes, MAGIC) {
+    if let Some(fault) = head_fault(bytes, MAGIC, bytes[4] == VERSION) {
         return Err(fault);
     }
     if bytes[5] != WRITTEN || le16_at(bytes, 6) != CHUNK || !are_zeros(&bytes[52..508]) {

@@ -41,6 +41,11 @@ use Rattle.vab_device.proofs.UpdateLaws.{update_read, kept_with}
 use Rattle.vab_merge_gates.specs.Kept.{merging_device}
 use Rattle.vab_merge_gates.proofs.FewerLaws.{scans_fewer}
 use Rattle.vab_merge_gates.proofs.TwinLaws.{same_device, same_limits}
+use Rattle.vab_marks.specs.declared.version.MarkVersion.TheVariants.{Two}
+use Rattle.vab_names.specs.Names.{most_partitions}
+use Rattle.vab_device.specs.Reading.{version_at}
+use Rattle.vab_device.proofs.MostLaws.{parts_all, parts_two}
+use Rattle.vab_device.proofs.StayLaws.{version_there}
 
 -- what is read while the stores of a slot are merged
 abbrev pub merging_read : ℕ
@@ -98,6 +103,7 @@ module _
     (reads : Reads size (update_read marks.Staged slot ss seen g t u scanned) old)
     (whole : control_of (old 4) ≡ Ok c)
     (copies : AgreeCopies g (slot ∷ other_slot slot ∷ []) (t ∷ u ∷ []) old)
+    (version : version_at old ≡ Two)
     (read : mark_of (mark_spelling (merging_mark (other_slot slot)))
     ≡ Ok (merging_mark (other_slot slot)))
     (running : c.current ≡ other_slot slot)
@@ -125,20 +131,26 @@ module _
 
   -- ---- the rules
 
-  checks : (twin_check target t u ≡ None)
-      × (first_fault (own_check slot t ∷ target_check target t u ∷ []) ≡ None)
-  checks =
-      first_kept (twin_check target t u) (own_check slot t ∷ target_check target t u ∷ [])
-      reads.parts
+  abbrev most : ℕ
+  most = most_partitions
 
-  rules : merging_check target u ≡ None
+  checks : (twin_check target t u ≡ None)
+      × (first_fault (own_check most slot t ∷ target_check most target t u ∷ []) ≡ None)
+  checks =
+      first_kept (twin_check target t u)
+      (own_check most slot t ∷ target_check most target t u ∷ [])
+      (parts_all before old reads.parts)
+
+  rules : merging_check most target u ≡ None
   rules =
-      let later = (first_kept (own_check slot t) (target_check target t u ∷ []) checks.1).1 in
-      let named : target_check target t u ≡ None =
-      (first_kept (target_check target t u) [] later).0 in
-      let none : bad_target_of target (layout_of t).parts (layout_of u).parts ≡ None =
-      none_named (bad_target_of target (layout_of t).parts (layout_of u).parts) named in
-      ap names_none (merging_of_target target (layout_of t).parts (layout_of u).parts none)
+      let later = (first_kept (own_check most slot t) (target_check most target t u ∷ [])
+      checks.1).1 in
+      let named : target_check most target t u ≡ None =
+      (first_kept (target_check most target t u) [] later).0 in
+      let none : bad_target_of most target (layout_of t).parts (layout_of u).parts ≡ None =
+      none_named (bad_target_of most target (layout_of t).parts (layout_of u).parts) named in
+      ap names_none
+      (merging_of_target most target (layout_of t).parts (layout_of u).parts (omega arith) none)
 
   states : (check (may_run slot seen) (BadState 2) ≡ None)
       × (first_fault (check (target_ready slot (t ∷ u ∷ []) scanned) (BadState 3) ∷ []) ≡ None)
@@ -199,13 +211,19 @@ module _
       reads.stores
       ∙ reads.stores)
 
+  pub version_new : version_at new ≡ Two
+  version_new =
+      version_there (merging_mark target) new
+      (set_here old 2048 (mark_spelling (merging_mark target)) 2048 refl)
+
   pub reads_new : Reads size after new
   reads_new = record {
     enough = reads.enough;
     mark = mark_there (merging_mark target) new refl read
         (set_here old 2048 (mark_spelling (merging_mark target)) 2048 refl);
     statuses =
-        statuses_kept true old new (λ read s is. elsewhere s (λ e. omega (arith, e, is.from)))
+        statuses_kept true old new (version_new ∙ sym version)
+        (λ read s is. elsewhere s (λ e. omega (arith, e, is.from)))
         ∙ reads.statuses;
     control = control_seen_in (target == 0) (target == 1) new c control_new;
     geometry =
@@ -215,7 +233,7 @@ module _
         ∙ reads.geometry;
     tables =
         tables_agree size g (target ∷ []) old new (table_sectors (target ∷ [])) ∙ table_old;
-    parts = (rw rules refl);
+    parts = parts_two after new version_new (rw rules refl);
     stores = stores;
     state = state;
   }

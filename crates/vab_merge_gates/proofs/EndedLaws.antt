@@ -47,6 +47,12 @@ use Rattle.vab_merge_gates.specs.Kept.{plain_part, plain_parts, ended_device}
 use Rattle.vab_merge_gates.proofs.BegunLaws.{merging_read, none_named}
 use Rattle.vab_merge_gates.proofs.KeptLaws.{plain_there}
 use Rattle.vab_device.proofs.PhaseCases.{unplanned_of}
+use Rattle.vab_marks.specs.declared.version.MarkVersion.TheVariants.{Two}
+use Rattle.vab_names.specs.Names.{most_partitions}
+use Rattle.vab_marks.specs.Version.{partitions_under}
+use Rattle.vab_device.specs.Reading.{version_at, most_at}
+use Rattle.vab_device.proofs.MostLaws.{parts_all}
+use Rattle.vab_device.proofs.StayLaws.{version_there}
 
 -- the mark is read as that of no update
 completed_there : (slot : ℕ) (image : Image)
@@ -184,13 +190,23 @@ module _
 
   -- ---- the rules
 
-  own_rules : own_check r.mark.slot one.0 ≡ None
+  version_new : version_at new ≡ Two
+  version_new =
+      version_there (completed_mark d.mark.slot) new
+      (set_here old 2048 (mark_spelling (completed_mark d.mark.slot)) 2048 refl)
+
+  own_rules : own_check (most_at new) r.mark.slot one.0 ≡ None
   own_rules =
-      let named : merging_check r.mark.slot one.0 ≡ None =
-      (first_kept (merging_check r.mark.slot one.0) [] reads.parts).0 in
-      let kept : bad_merging_of r.mark.slot (layout_of one.0).parts ≡ None =
-      none_named (bad_merging_of r.mark.slot (layout_of one.0).parts) named in
-      ap names_none (own_of_merging r.mark.slot (layout_of one.0).parts kept)
+      let most : ℕ = most_partitions in
+      let named : merging_check most r.mark.slot one.0 ≡ None =
+      (first_kept (merging_check most r.mark.slot one.0) [] (parts_all shaped old reads.parts)).0
+      in
+      let kept : bad_merging_of most r.mark.slot (layout_of one.0).parts ≡ None =
+      none_named (bad_merging_of most r.mark.slot (layout_of one.0).parts) named in
+      let own : own_check most r.mark.slot one.0 ≡ None =
+      ap names_none
+      (own_of_merging most r.mark.slot (layout_of one.0).parts (omega arith) kept) in
+      subst (λ v. own_check (partitions_under v) r.mark.slot one.0 ≡ None) (sym version_new) own
 
   seen_is : r.control ≡ control_read_of r.mark.slot d.control
   seen_is =
@@ -259,6 +275,7 @@ module _
     is = kept_is;
     control = control_new;
     copies = copies;
+    version = version_new;
   }
 
   -- ---- the images

@@ -41,6 +41,9 @@ use Rattle.vab_merge_gates.proofs.BegunLaws.{images_a, images_b, device_same, li
 use Rattle.vab_merge_gates.proofs.BegunLaws.{kept_begun}
 use Rattle.vab_merge_gates.proofs.SlotLaws.{both_of}
 use Rattle.vab_device.proofs.PhaseCases.{unplanned_of}
+use Rattle.vab_marks.specs.declared.version.MarkVersion.TheVariants.{Two}
+use Rattle.vab_device.specs.Reading.{version_at}
+use Rattle.vab_merge_gates.proofs.BegunLaws.{version_new}
 
 -- ---- what it means
 
@@ -152,6 +155,7 @@ module _ (size : ℕ) (old : Image) where
       → Reads size r old
       → control_of (old 4) ≡ Ok d.control
       → AgreeCopies r.geometry ((phase_at r.mark.phase).tables r.mark.slot) r.tables old
+      → version_at old ≡ Two
       → mark_of (mark_spelling (merging_mark (other_slot d.mark.slot)))
       ≡ Ok (merging_mark (other_slot d.mark.slot))
       → d.control.current ≡ other_slot d.mark.slot
@@ -184,31 +188,40 @@ module _ (size : ℕ) (old : Image) where
       (t u : Table) (scanned : List Scanned) (c : Control)
       → NextOf (kept_with (update_read marks.Staged slot ss seen g t u scanned) c)
       (update_read marks.Staged slot ss seen g t u scanned)
-  next_shape slot ss seen g t u scanned c below reads whole copies read running successful =
+  next_shape slot ss seen g t u scanned c below reads whole copies version read running successful =
       record {
         represents = record {
           read = merging_read (other_slot slot) ss (control_read_of (other_slot slot) c) g u
               scanned;
-          reads = reads_new slot ss seen g t u scanned c size old below reads whole copies read
+          reads = reads_new slot ss seen g t u scanned c size old below reads whole copies version
+              read
               running
               successful;
           is = kept_begun slot ss seen g t u scanned c below
-              (device_same slot ss seen g t u scanned c size old below reads whole copies read
+              (device_same slot ss seen g t u scanned c size old below reads whole copies version
+              read
               running
               successful)
-              (limits_same slot ss seen g t u scanned c size old below reads whole copies read
+              (limits_same slot ss seen g t u scanned c size old below reads whole copies version
+              read
               running
               successful);
-          control = control_new slot ss seen g t u scanned c size old below reads whole copies read
+          control = control_new slot ss seen g t u scanned c size old below reads whole copies
+              version read
               running successful;
-          copies = copies_new slot ss seen g t u scanned c size old below reads whole copies read
+          copies = copies_new slot ss seen g t u scanned c size old below reads whole copies version
+              read
               running successful;
+          version = version_new slot ss seen g t u scanned c size old below reads whole copies
+              version read running successful;
         };
         means = means_shape slot ss seen g t u scanned c
             (marked old (mark_spelling (merging_mark (other_slot slot)))) below
-            (images_a slot ss seen g t u scanned c size old below reads whole copies read running
+            (images_a slot ss seen g t u scanned c size old below reads whole copies version read
+            running
             successful)
-            (images_b slot ss seen g t u scanned c size old below reads whole copies read running
+            (images_b slot ss seen g t u scanned c size old below reads whole copies version read
+            running
             successful);
       }
 
@@ -257,7 +270,7 @@ module _ (size : ℕ) (old : Image) where
         subst (λ (y : Read). NextOf d y) (sym shape)
         (subst (λ (k : Device). NextOf k shaped) (sym form)
         (next_shape r.mark.slot r.statuses r.control r.geometry two.0 two.1 r.scanned d.control))
-        dev.slot is.reads is.control is.copies read may.running may.successful
+        dev.slot is.reads is.control is.copies is.version read may.running may.successful
 
     not_source : (d.control.current == d.mark.slot) ≡ false
     not_source = elim (cases_Bool (d.control.current == d.mark.slot)) [

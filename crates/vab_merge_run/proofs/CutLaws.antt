@@ -65,6 +65,9 @@ use Rattle.vab_merge_run.proofs.ScansLaws.{exceptions_some, wants, scan_named, s
 use Rattle.vab_merge_run.proofs.SeenLaws.{seen_same}
 use Rattle.vab_device.proofs.NamedParts.{set_one}
 use Rattle.vab_device.proofs.RepairLaws.{ends_within}
+use Rattle.vab_device.specs.Reading.{version_at}
+use Rattle.vab_device.proofs.MostLaws.{parts_under}
+use Rattle.vab_device.proofs.SameLaws.{version_same}
 
 -- ---- the copies of a table
 
@@ -279,6 +282,9 @@ module _ (d : Device) (size : ℕ) (old : Image) (i : Merges d size old) (single
 
     -- ---- what is read then
 
+    version_then : version_at new ≡ version_at old
+    version_then = version_same old new (low 2048 (omega arith))
+
     pub merges_then : Merges (cut_at place k d) size new
     merges_then = record {
       slot = i.slot;
@@ -292,14 +298,15 @@ module _ (d : Device) (size : ℕ) (old : Image) (i : Merges d size old) (single
         enough = i.reads.enough;
         mark = mark_same old new (low 2048 (omega arith)) ∙ i.reads.mark;
         statuses =
-            statuses_kept true old new (λ reads s is. low s (omega (arith, is.below)))
+            statuses_kept true old new version_then
+            (λ reads s is. low s (omega (arith, is.below)))
             ∙ i.reads.statuses;
         control = control_same _ _ old new (low 4 (omega arith)) ∙ i.reads.control;
         geometry =
             geometry_same size old new (low 4104 (omega arith)) (low 4112 (omega arith))
             ∙ i.reads.geometry;
         tables = tables_agree size i.geometry (i.slot ∷ []) old new copies ∙ i.reads.tables;
-        parts = i.reads.parts;
+        parts = parts_under read_then old new version_then i.reads.parts;
         stores = stores_read;
         state = state_then;
       };
@@ -317,6 +324,7 @@ module _ (d : Device) (size : ℕ) (old : Image) (i : Merges d size old) (single
         ),
         tt,
       );
+      version = version_then ∙ i.version;
     }
 
     pub represents_then : Represents (cut_at place k d) size new

@@ -45,6 +45,10 @@ use Rattle.vab_merge_run.specs.Turns.{own_of, with_own, part_at, no_part}
 use Rattle.vab_merge_run.proofs.OwnLaws.{Single, own_kept}
 use Rattle.vab_device.proofs.NamedParts.{Named, first_is}
 use Rattle.vab_marks.specs.Mark.{mark_at}
+use Rattle.vab_marks.specs.declared.version.MarkVersion.TheVariants.{Two}
+use Rattle.vab_names.specs.Names.{most_partitions}
+use Rattle.vab_device.specs.Reading.{version_at}
+use Rattle.vab_device.proofs.MostLaws.{parts_all}
 
 -- ---- what is read
 
@@ -81,6 +85,7 @@ pub record Merges (d : Device) (size : ℕ) (image : Image) : Type 0 where
       }
   pub control : control_of (image 4) ≡ Ok d.control
   pub copies : AgreeCopies geometry (slot ∷ []) (table ∷ []) image
+  pub version : version_at image ≡ Two
 
 pub merges_represents : (d : Device) (size : ℕ) (image : Image)
     → Merges d size image
@@ -91,6 +96,7 @@ merges_represents d size image i = record {
   is = i.is;
   control = i.control;
   copies = i.copies;
+  version = i.version;
 }
 
 pub merges_of : (d : Device) (size : ℕ) (image : Image)
@@ -133,6 +139,7 @@ merges_of d size image is merging =
           (λ (x : Read).
           AgreeCopies x.geometry ((phase_at x.mark.phase).tables x.mark.slot) x.tables image)
           e is.copies;
+      version = is.version;
     }
 
 -- ---- the partitions of the slot
@@ -194,13 +201,15 @@ rules_of d size image i is =
     let r : Read = merging_read i.slot i.statuses i.seen i.geometry i.table i.scanned in
     let form : Device = record (kept r) { control = d.control } in
     let of : IsDevice form size = subst (λ (k : Device). IsDevice k size) i.is is in
-    let none = first_kept (merging_check i.slot i.table) [] i.reads.parts in
+    let none = first_kept (merging_check most_partitions i.slot i.table) []
+    (parts_all r image i.reads.parts) in
     record {
       geometry = of.geometry;
       table = table_of size i.slot i.geometry i.table i.below of.table_a of.table_b;
       merging =
-          is_merging i.slot (layout_of i.table).parts
-          (names_kept (bad_merging_of i.slot (layout_of i.table).parts) none.0);
+          (is_merging most_partitions i.slot (layout_of i.table).parts (omega arith)
+          (names_kept (bad_merging_of most_partitions i.slot (layout_of i.table).parts)
+          none.0)).is;
     }
 
 -- ---- partitions by their names

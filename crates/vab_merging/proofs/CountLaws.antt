@@ -48,7 +48,7 @@ few_in size (p ∷ ps) are =
     let rest = few_in size ps (All-tail (IsPart size) p ps are) in
     omega (arith, here, rest)
 
-pub few_all : (size : ℕ) (ps : List Part) → AreParts size ps → count_in ps ≤ 2 ^ 33
+pub few_all : (size : ℕ) (ps : List Part) → AreParts size ps → count_in ps ≤ 2 ^ 34
 few_all size ps are =
     let most = few_in size ps are.each in
     omega (arith, most, are.few)

@@ -22,7 +22,7 @@ fn count_of(part: &Part) -> u64
 fn count_in(parts: &Listing<Part>) -> u64
     requires { (size : ℕ) × AreParts size parts.now }
     ensures is { result ≡ count_in parts.now }
-    ensures few { result ≤ 2 ^ 33 }
+    ensures few { result ≤ 2 ^ 34 }
 {
     let mut count = 0;
     for part in parts.as_slice() {
@@ -35,7 +35,7 @@ fn count_in(parts: &Listing<Part>) -> u64
 fn count_at(parts: &Option<Listing<Part>>) -> u64
     requires { (size : ℕ) × ArePresent size parts.now }
     ensures is { result ≡ count_at parts.now }
-    ensures few { result ≤ 2 ^ 33 }
+    ensures few { result ≤ 2 ^ 34 }
 {
     match parts {
         None => 0,
@@ -43,11 +43,11 @@ fn count_at(parts: &Option<Listing<Part>>) -> u64
     }
 }
 
-/// How many exceptions the stores of slots with images have, at most 2^34.
+/// How many exceptions the stores of slots with images have, at most 2^35.
 pub fn left(device: &Device) -> u64
     requires { (size : ℕ) × IsDevice device.now size }
     ensures is { result ≡ count_at device.now.a + count_at device.now.b }
-    ensures few { result ≤ 2 ^ 34 }
+    ensures few { result ≤ 2 ^ 35 }
 {
     count_at(&device.a) + count_at(&device.b)
 }

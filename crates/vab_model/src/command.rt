@@ -80,7 +80,7 @@ pub enum Refusal {
     Sparse,
     /// So many bytes are staged for a partition of so many.
     TooLarge(u64, u64),
-    /// The target would have a 33rd partition.
+    /// The target would have a 65th partition.
     TooMany,
     /// The partitions of a group would have so many bytes, of so many.
     GroupLimit(u64, u64),

@@ -46,6 +46,12 @@ is_store slot name = ends_with nat_eq name (suffix_of slot ++ store_suffix)
 unfoldable pub store_of : List ℕ → List ℕ
 store_of name = name ++ store_suffix
 
+-- ---- partitions of a slot
+
+-- how many of them there are at most, and so how many images a set has
+abbrev pub most_partitions : ℕ
+most_partitions = 64
+
 -- ---- groups of no slot
 
 abbrev pub default_name : List ℕ

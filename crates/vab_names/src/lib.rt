@@ -12,6 +12,9 @@ ghost use Rattle.vab_names.specs.Names.{is_store, store_of, default_name, store_
 use arrayvec::ArrayVec;
 use vab_bytes::Name36;
 
+/// The most partitions of a slot, and so the most images of a set.
+pub const MAX_PARTITIONS: usize = 64;
+
 /// The longest name, in bytes.
 const MAX: usize = 36;
 

@@ -13,7 +13,7 @@ use Rattle.std.proofs.lemmas.List.Sums.{position_or_len_is}
 use Rattle.std.proofs.lemmas.Bool.{cases_Bool, ltb-false, ltb-true, le-ltb, lt-ltb, both_ways}
 use Rattle.std.proofs.lemmas.Bool.{false_from_ne_true}
 use Rattle.std.proofs.lemmas.Slice.Eq.{bytes_eq-Decides}
-use Rattle.vab_names.specs.Names.{is_base}
+use Rattle.vab_names.specs.Names.{is_base, most_partitions}
 use Rattle.vab_pack.specs.declared.fault.WordFault.{WordFault}
 use Rattle.vab_pack.specs.declared.fault.WordFault.TheVariants as faults
 use Rattle.vab_pack.specs.Front.{Front, front_of, size_of, store_of}
@@ -58,14 +58,14 @@ count_of words i before lt asks =
     ∙ length-take-le i words (omega (arith, lt))
 
 comes : (words : List (List ℕ)) (i : ℕ) (fault : WordFault) (before : List Asked)
-    → length words ≤ 32
+    → length words ≤ most_partitions
     → i < length words
     → Ask (take i words) before
     → asked_by before (get_or words i []) ≡ err_by fault
     → asked_of words ≡ err fault
 unfolding asked_of asked_behind
 comes words i fault before few inside asks h =
-    let no : ltb 32 (length words) ≡ false = le-ltb _ _ few in
+    let no : ltb most_partitions (length words) ≡ false = le-ltb _ _ few in
     let word : List ℕ = get_or words i [] in
     let rest : List (List ℕ) = drop (i + 1) words in
     let there : asked_behind [] words ≡ asked_behind before (word ∷ rest) =
@@ -129,7 +129,7 @@ pub fault_comes : (words : List (List ℕ)) (fault : WordFault)
     → asked_of words ≡ err fault
 unfolding asked_of
 fault_comes words (faults.TooMany count) (is, many) =
-    let yes : ltb 32 (length words) ≡ true = lt-ltb _ _ (omega (arith, is, many)) in
+    let yes : ltb most_partitions (length words) ≡ true = lt-ltb _ _ (omega (arith, is, many)) in
     rw yes (ap (λ (k : ℕ). err (faults.TooMany k)) (sym is))
 fault_comes words (faults.BadWord i) is =
     let long = count_of words i is.before is.inside is.asks in
@@ -239,7 +239,8 @@ stops asked (word ∷ words) fault h apart =
           }
     ]
 
-module _ (words : List (List ℕ)) (i : ℕ) (before : List Asked) (few : length words ≤ 32)
+module _ (words : List (List ℕ)) (i : ℕ) (before : List Asked)
+    (few : length words ≤ most_partitions)
     (inside : i < length words) (asks : Ask (take i words) before) (fault : WordFault) where
   long : length before ≡ i
   long = count_of words i before inside asks
@@ -392,13 +393,13 @@ pub fault_holds : (words : List (List ℕ)) (fault : WordFault)
     → asked_of words ≡ err fault
     → IsFaultOf words fault
 unfolding asked_of
-fault_holds words fault h = elim (cases_Bool (ltb 32 (length words))) [
+fault_holds words fault h = elim (cases_Bool (ltb most_partitions (length words))) [
   | inl many ↦
       let e : err (faults.TooMany (length words)) ≡ err fault = sym (rw many refl) ∙ h in
       let same : faults.TooMany (length words) ≡ fault = cc in
-      subst (IsFaultOf words) same (refl, ltb-true 32 (length words) many)
+      subst (IsFaultOf words) same (refl, ltb-true most_partitions (length words) many)
   | inr within ↦
-      let few : length words ≤ 32 = ltb-false 32 (length words) within in
+      let few : length words ≤ most_partitions = ltb-false most_partitions (length words) within in
       let s = stops [] words fault (sym (rw within refl) ∙ h) (λ (i j : ℕ) (d : Asked) lt below.
       absurd (omega arith)) in
       let taken : length (take s.at words) ≡ s.at =

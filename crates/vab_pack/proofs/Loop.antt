@@ -4,6 +4,7 @@ use Rattle.std.proofs.Common.{get_or, drop, map, Result, Ok, Err, refl, sym, ap,
 use Rattle.std.proofs.Common.{add-one, arith}
 use Rattle.std.proofs.lemmas.Bool.{le-ltb}
 use Rattle.std.proofs.lemmas.List.{drop_all, length-map}
+use Rattle.vab_names.specs.Names.{most_partitions}
 use Rattle.vab_pack.specs.declared.fault.WordFault.{WordFault}
 use Rattle.vab_pack.specs.declared.fault.WordFault.TheVariants as faults
 use Rattle.vab_pack.specs.Asked.{Asked}
@@ -55,10 +56,10 @@ module _ {S : Type 0} (text : S → List ℕ) (words : List S) (i : ℕ)
       sym so_far ∙ rw none refl
 
 pub few : {S : Type 0} (text : S → List ℕ) (words : List S)
-    → length words ≤ 32
+    → length words ≤ most_partitions
     → asked_of (map text words) ≡ asked_behind [] (map text words)
 unfolding asked_of
 few text words le =
-    let no : ltb 32 (length (map text words)) ≡ false =
+    let no : ltb most_partitions (length (map text words)) ≡ false =
     le-ltb _ _ (omega (arith, length-map words text, le)) in
     rw no refl

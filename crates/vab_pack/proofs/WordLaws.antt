@@ -17,7 +17,7 @@ use Rattle.std.proofs.lemmas.Bool.{eqb-true}
 use Rattle.std.proofs.lemmas.Slice.Eq.{bytes_eq-Decides}
 use Rattle.std.proofs.Math.ListN.{get_or-append}
 use Rattle.std.proofs.Math.Seq.{get_or-append_seam}
-use Rattle.vab_names.specs.Names.{is_base}
+use Rattle.vab_names.specs.Names.{is_base, most_partitions}
 use Rattle.vab_set.specs.declared.set.SetImage.{SetImage}
 use Rattle.vab_pack.specs.declared.fault.WordFault.{WordFault}
 use Rattle.vab_pack.specs.declared.fault.WordFault.TheVariants as faults
@@ -410,13 +410,14 @@ pub words_found : (words : List (List ℕ)) (asked : List Asked)
     → Ask words asked
 unfolding asked_of
 words_found words asked h =
-    let few = passed (ltb 32 (length words)) (faults.TooMany (length words)) (asked_behind [] words)
+    let few = passed (ltb most_partitions (length words)) (faults.TooMany (length words))
+    (asked_behind [] words)
     asked h in
     let b = behind_found [] words asked few.1 (λ (i j : ℕ) (d : Asked) lt below.
     absurd (omega arith)) in
     let more : b.more ≡ asked = sym b.whole in
     record {
-      count = ltb-false 32 (length words) few.0;
+      count = ltb-false most_partitions (length words) few.0;
       spelled = subst (AreWordsOf words) more b.spelled;
       each = subst (All IsAsked) more b.fits;
       names = b.apart;
@@ -427,7 +428,7 @@ pub words_again : (words : List (List ℕ)) (asked : List Asked)
     → asked_of words ≡ Ok asked
 unfolding asked_of
 words_again words asked is =
-    let few : ltb 32 (length words) ≡ false = le-ltb _ _ is.count in
+    let few : ltb most_partitions (length words) ≡ false = le-ltb _ _ is.count in
     rw few (behind_again words asked is.spelled is.each is.names)
 
 -- ---- the set

@@ -1,7 +1,7 @@
 -- What words ask for: images of these names and sizes, with the bytes of the files at these paths.
 use Rattle.std.specs.Prelude.{◌≡◌, ◌≢◌, ℕ, ◌<◌, ◌≤◌, ◌^◌, List, [], ◌∷◌, ◌++◌, length, IsTrue, All}
 use Rattle.std.specs.Prelude.{AllPairs, Option, Some, IfSome}
-use Rattle.vab_names.specs.Names.{is_base}
+use Rattle.vab_names.specs.Names.{is_base, most_partitions}
 use Rattle.vab_pack.specs.Front.{Front, HasFront, size_of, store_of}
 
 -- an image: its name, the bytes of its partition where they are asked for, those of its store, and
@@ -55,9 +55,9 @@ pub record IsAsked (asked : Asked) : Type 0 where
   pub size : IfSome asked.size (λ n. n ≤ 2 ^ 40)
   pub store : asked.store < 2 ^ 64
 
--- these words ask for these images: at most 32, word by word, and no two have one name
+-- these words ask for these images: at most so many, word by word, and no two have one name
 pub record Ask (words : List (List ℕ)) (asked : List Asked) : Type 0 where
-  pub count : length words ≤ 32
+  pub count : length words ≤ most_partitions
   pub spelled : AreWordsOf words asked
   pub each : All IsAsked asked
   pub names : AllPairs (λ a b. a.name ≢ b.name) asked

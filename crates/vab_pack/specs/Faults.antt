@@ -1,16 +1,17 @@
 -- Why words ask for no images.
 use Rattle.std.specs.Prelude.{◌≡◌, ◌≢◌, ℕ, ◌<◌, ◌≤◌, List, [], length, take, slice_index_or, IsTrue}
 use Rattle.std.specs.Prelude.{All, Option, Some, None}
-use Rattle.vab_names.specs.Names.{is_base}
+use Rattle.vab_names.specs.Names.{is_base, most_partitions}
 use Rattle.vab_pack.specs.declared.fault.WordFault.{WordFault}
 use Rattle.vab_pack.specs.declared.fault.WordFault.TheVariants as faults
 use Rattle.vab_pack.specs.Front.{Front, size_of, store_of}
 use Rattle.vab_pack.specs.Asked.{Asked, Parts, HasParts, IsWord, Ask}
 
--- of no more than 32 words those before this one ask for images, and it is bad behind these
+-- of no more words than a set has images those before this one ask for images, and it is bad behind
+-- these
 pub record IsFirstBad (words : List (List ℕ)) (word : ℕ) (IsBad : List Asked → List ℕ → Type 0) :
     Type 0 where
-  pub few : length words ≤ 32
+  pub few : length words ≤ most_partitions
   pub inside : word < length words
   pub before : List Asked
   pub asks : Ask (take word words) before
@@ -33,7 +34,7 @@ pub record IsNew (before : List Asked) (name : List ℕ) : Type 0 where
 -- a word's faults, from left to right: no name and path, a bad name, one that is there, a bad size,
 -- a bad store
 abbrev pub IsFaultOf : List (List ℕ) → WordFault → Type 0
-IsFaultOf words (faults.TooMany count) = (count ≡ length words) × (32 < count)
+IsFaultOf words (faults.TooMany count) = (count ≡ length words) × (most_partitions < count)
 IsFaultOf words (faults.BadWord i) =
     IsFirstBad words i (λ before word. (p : Parts) → ¬ HasParts word p)
 IsFaultOf words (faults.BadName i) =

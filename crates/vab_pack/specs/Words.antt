@@ -3,7 +3,7 @@ use Rattle.std.specs.Prelude.{◌≡◌, ℕ, Bool, ◌==◌, nat_lt, if◌then�
 use Rattle.std.specs.Prelude.{length, position, Option, Some, None, Result, Ok, Err}
 use Rattle.std.specs.List.{before_first, after_first}
 use Rattle.std.specs.Str.{bytes_eq}
-use Rattle.vab_names.specs.Names.{is_base}
+use Rattle.vab_names.specs.Names.{is_base, most_partitions}
 use Rattle.vab_pack.specs.declared.fault.WordFault.{WordFault}
 use Rattle.vab_pack.specs.declared.fault.WordFault.TheVariants as faults
 use Rattle.vab_pack.specs.Front.{Front, front_of, size_of, store_of}
@@ -84,4 +84,6 @@ asked_behind asked (word ∷ words) = do
 
 unfoldable pub asked_of : List (List ℕ) → Result (List Asked) WordFault
 asked_of words =
-    if nat_lt 32 (length words) then Err (faults.TooMany (length words)) else asked_behind [] words
+    if nat_lt most_partitions (length words)
+    then Err (faults.TooMany (length words))
+    else asked_behind [] words

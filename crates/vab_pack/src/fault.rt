@@ -9,7 +9,7 @@ use std::alloc::{AllocError, AllocFailed};
 /// but for `NoMemory`. Words are counted from 0.
 #[derive(Clone, Copy, Debug, PartialEq, Eq)]
 pub enum WordFault {
-    /// More than 32 words, and how many.
+    /// More words than a set has images, 64, and how many.
     TooMany(usize),
     /// The word has no `=`, or nothing behind its first one.
     BadWord(usize),

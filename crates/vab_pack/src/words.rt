@@ -13,10 +13,10 @@ use crate::front::{Front, split_front};
 use crate::{Entry, WordFault};
 use std::alloc::Global;
 use vab_bytes::Name36;
-use vab_names::parse_base;
+use vab_names::{MAX_PARTITIONS, parse_base};
 
 /// The most words, and so the most images of a set.
-const MAX_WORDS: usize = 32;
+const MAX_WORDS: usize = MAX_PARTITIONS;
 
 // What stands before the first `=` of a word and what stands behind it.
 #[tactic(auto, unfolding(crate::specs::Words::parts_of))]

@@ -19,17 +19,17 @@ use Rattle.vab_partitions.proofs.OwnRules.{with_one}
 use Rattle.vab_partitions.proofs.TargetLaws.{in_target, own_of_target}
 
 -- What was seen are the partitions and stores in front of a place, and these keep their rules.
-pub record Stands (slot : ℕ) (Keeps : Part → Type 0) (target : List Part) (i : ℕ) (front : Front)
-    : Type 0 where
+pub record Stands (most slot : ℕ) (Keeps : Part → Type 0) (target : List Part) (i : ℕ)
+    (front : Front) : Type 0 where
   pub seen : front.seen ≡ blocks_of_parts (target_parts slot (take i target))
   pub own : front.own ≡ length (own_parts slot (take i target))
-  pub kept : Together slot Keeps (target_parts slot (take i target))
+  pub kept : Together most slot Keeps (target_parts slot (take i target))
   pub apart : front.apart ≡ is_distinct (blocks_of_parts (target_parts slot target))
 
-pub stands_first : (slot : ℕ) (Keeps : Part → Type 0) (target : List Part) (front : Front)
+pub stands_first : (most slot : ℕ) (Keeps : Part → Type 0) (target : List Part) (front : Front)
     → IsStart slot target front
-    → Stands slot Keeps target 0 front
-stands_first slot Keeps target front start = record {
+    → Stands most slot Keeps target 0 front
+stands_first most slot Keeps target front start = record {
   apart = start.apart;
   seen = start.seen;
   own = start.own;
@@ -64,14 +64,14 @@ next_own slot parts i p lt at =
     ∙ length-append (own_parts slot (take i parts)) (own_parts slot (p ∷ []))
 
 -- a partition that is no part of the target is passed over
-pub stands_skip : (slot : ℕ) (Keeps : Part → Type 0) (target : List Part) (i : ℕ)
+pub stands_skip : (most slot : ℕ) (Keeps : Part → Type 0) (target : List Part) (i : ℕ)
     (front : Front) (p : Part)
-    → Stands slot Keeps target i front
+    → Stands most slot Keeps target i front
     → i < length target
     → p ≡ get_or target i p
     → (is_of_slot slot p.name || is_store slot p.name) ≡ false
-    → Stands slot Keeps target (i + 1) front
-stands_skip slot Keeps target i front p s lt at other =
+    → Stands most slot Keeps target (i + 1) front
+stands_skip most slot Keeps target i front p s lt at other =
     let parts = or_parts (is_of_slot slot p.name) (is_store slot p.name) other in
     let none : target_parts slot (p ∷ []) ≡ [] = rw (parts.0, parts.1) refl in
     let no_own : own_parts slot (p ∷ []) ≡ [] = rw parts.0 refl in
@@ -83,17 +83,17 @@ stands_skip slot Keeps target i front p s lt at other =
       apart = s.apart;
       seen = s.seen ∙ ap blocks_of_parts (sym same);
       own = omega (arith, s.own, next_own slot target i p lt at, ap length no_own);
-      kept = subst (Together slot Keeps) (sym same) s.kept;
+      kept = subst (Together most slot Keeps) (sym same) s.kept;
     }
 
 -- ---- one more of them
 
-joined_keeps : (slot : ℕ) (Keeps : Part → Type 0) (target : List Part) (i : ℕ)
+joined_keeps : (most slot : ℕ) (Keeps : Part → Type 0) (target : List Part) (i : ℕ)
     (front : Front) (p : Part)
-    → Stands slot Keeps target i front
-    → Joins slot Keeps front p
-    → Together slot Keeps (target_parts slot (take i target) ++ p ∷ [])
-joined_keeps slot Keeps target i front p s j =
+    → Stands most slot Keeps target i front
+    → Joins most slot Keeps front p
+    → Together most slot Keeps (target_parts slot (take i target) ++ p ∷ [])
+joined_keeps most slot Keeps target i front p s j =
     let xs : List Part = target_parts slot (take i target) in
     record {
       each = All-append Keeps xs (p ∷ []) s.kept.each
@@ -111,12 +111,12 @@ joined_keeps slot Keeps target i front p s j =
           (subst (λ (l : List ℕ). IsDistinct (l ++ p.blocks)) s.seen j.room.once);
     }
 
-keeps_joined : (slot : ℕ) (Keeps : Part → Type 0) (target : List Part) (i : ℕ)
+keeps_joined : (most slot : ℕ) (Keeps : Part → Type 0) (target : List Part) (i : ℕ)
     (front : Front) (p : Part)
-    → Stands slot Keeps target i front
-    → Together slot Keeps (target_parts slot (take i target) ++ p ∷ [])
-    → Joins slot Keeps front p
-keeps_joined slot Keeps target i front p s k =
+    → Stands most slot Keeps target i front
+    → Together most slot Keeps (target_parts slot (take i target) ++ p ∷ [])
+    → Joins most slot Keeps front p
+keeps_joined most slot Keeps target i front p s k =
     let xs : List Part = target_parts slot (take i target) in
     record {
       room = record {
@@ -145,16 +145,16 @@ one_more slot target i p lt at is =
     next_target slot target i p lt at
     ∙ ap (λ (l : List Part). target_parts slot (take i target) ++ l) one
 
-pub stands_take : (slot : ℕ) (Keeps : Part → Type 0) (target : List Part) (i : ℕ)
+pub stands_take : (most slot : ℕ) (Keeps : Part → Type 0) (target : List Part) (i : ℕ)
     (front new : Front) (p : Part)
-    → Stands slot Keeps target i front
+    → Stands most slot Keeps target i front
     → i < length target
     → p ≡ get_or target i p
     → (is_of_slot slot p.name || is_store slot p.name) ≡ true
-    → Joins slot Keeps front p
+    → Joins most slot Keeps front p
     → IsJoined slot front new p
-    → Stands slot Keeps target (i + 1) new
-stands_take slot Keeps target i front new p s lt at is j joined =
+    → Stands most slot Keeps target (i + 1) new
+stands_take most slot Keeps target i front new p s lt at is j joined =
     let more = one_more slot target i p lt at is in
     record {
       apart = joined.apart ∙ s.apart;
@@ -162,21 +162,21 @@ stands_take slot Keeps target i front new p s lt at is j joined =
           ∙ sym (with_one (target_parts slot (take i target)) p)
           ∙ ap blocks_of_parts (sym more);
       own = omega (arith, joined.own, s.own, next_own slot target i p lt at);
-      kept = subst (Together slot Keeps) (sym more)
-          (joined_keeps slot Keeps target i front p s j);
+      kept = subst (Together most slot Keeps) (sym more)
+          (joined_keeps most slot Keeps target i front p s j);
     }
 
 -- ---- what is answered
 
-pub bad_first : (slot : ℕ) (Keeps : Part → Type 0) (target : List Part) (i : ℕ)
+pub bad_first : (most slot : ℕ) (Keeps : Part → Type 0) (target : List Part) (i : ℕ)
     (front : Front) (p : Part)
-    → Stands slot Keeps target i front
+    → Stands most slot Keeps target i front
     → i < length target
     → p ≡ get_or target i p
     → (is_of_slot slot p.name || is_store slot p.name) ≡ true
-    → (Joins slot Keeps front p → ⊥)
-    → FirstBad slot Keeps target p.name
-bad_first slot Keeps target i front p s lt at is refused =
+    → (Joins most slot Keeps front p → ⊥)
+    → FirstBad most slot Keeps target p.name
+bad_first most slot Keeps target i front p s lt at is refused =
     let xs : List Part = target_parts slot (take i target) in
     let rest : List Part = target_parts slot (drop (i + 1) target) in
     record {
@@ -189,34 +189,35 @@ bad_first slot Keeps target i front p s lt at is refused =
           ∙ append_assoc xs (p ∷ []) rest;
       named = refl;
       kept = s.kept;
-      broken = λ k. refused (keeps_joined slot Keeps target i front p s k);
+      broken = λ k. refused (keeps_joined most slot Keeps target i front p s k);
     }
 
-pub stands_last : (slot : ℕ) (Keeps : Part → Type 0) (target : List Part) (i : ℕ) (front : Front)
-    → Stands slot Keeps target i front
+pub stands_last : (most slot : ℕ) (Keeps : Part → Type 0) (target : List Part) (i : ℕ)
+    (front : Front)
+    → Stands most slot Keeps target i front
     → length target ≤ i
-    → Together slot Keeps (target_parts slot target)
-stands_last slot Keeps target i front s done =
-    subst (λ (l : List Part). Together slot Keeps (target_parts slot l)) (take_all i target done)
-    s.kept
+    → Together most slot Keeps (target_parts slot target)
+stands_last most slot Keeps target i front s done =
+    subst (λ (l : List Part). Together most slot Keeps (target_parts slot l))
+    (take_all i target done) s.kept
 
--- at most 32 partitions were seen
-pub own_few : (slot : ℕ) (Keeps : Part → Type 0) (target : List Part) (i : ℕ) (front : Front)
-    → Stands slot Keeps target i front
-    → front.own ≤ 32
-own_few slot Keeps target i front s =
+-- at most so many partitions were seen
+pub own_few : (most slot : ℕ) (Keeps : Part → Type 0) (target : List Part) (i : ℕ) (front : Front)
+    → Stands most slot Keeps target i front
+    → front.own ≤ most
+own_few most slot Keeps target i front s =
     omega (arith, s.own, s.kept.few, ap length (own_of_target slot (take i target)))
 
 -- where no block stands twice in all, none does in the front and the next
-pub apart_next : (slot : ℕ) (Keeps : Part → Type 0) (target : List Part) (i : ℕ)
+pub apart_next : (most slot : ℕ) (Keeps : Part → Type 0) (target : List Part) (i : ℕ)
     (front : Front) (p : Part)
-    → Stands slot Keeps target i front
+    → Stands most slot Keeps target i front
     → i < length target
     → p ≡ get_or target i p
     → (is_of_slot slot p.name || is_store slot p.name) ≡ true
     → front.apart ≡ true
     → is_distinct (front.seen ++ p.blocks) ≡ true
-apart_next slot Keeps target i front p s lt at is apart =
+apart_next most slot Keeps target i front p s lt at is apart =
     let xs : List Part = target_parts slot (take i target) in
     let rest : List Part = target_parts slot (drop (i + 1) target) in
     let split : target_parts slot target ≡ (xs ++ p ∷ []) ++ rest =

@@ -6,4 +6,5 @@ pub mod FrontLaws
 pub mod TargetTests
 pub mod BadTarget
 pub mod MergingLaws
+pub mod MostLaws
 pub mod TwinLaws

@@ -109,35 +109,35 @@ pub both_pass : (a s d ok : Bool) → a ≡ true → s ≡ true → ok ≡ d →
 both_pass a s d ok ha hs h = rw (ha, hs) h
 
 -- the test, as the code makes it
-pub part_passes_is : (slot : ℕ) (t : Table) (earlier : List Part) (p : Partition)
-    → part_passes slot earlier (part_of t p)
+pub part_passes_is : (most slot : ℕ) (t : Table) (earlier : List Part) (p : Partition)
+    → part_passes most slot earlier (part_of t p)
     ≡ (is_base (base_of p.name)
     && (bytes_eq (group_at t.groups p.group) default_name
-    || is_of_slot slot (group_at t.groups p.group)) && ltb (length earlier) 32)
+    || is_of_slot slot (group_at t.groups p.group)) && ltb (length earlier) most)
     && leb (length (blocks_of_partition t p)) (2 ^ 28)
     && is_distinct (blocks_of_parts earlier ++ blocks_of_partition t p)
-part_passes_is slot t earlier p =
+part_passes_is most slot t earlier p =
     tests (is_base (base_of p.name)) (leb (length (blocks_of_partition t p)) (2 ^ 28))
     (bytes_eq (group_at t.groups p.group) default_name
-    || is_of_slot slot (group_at t.groups p.group)) (ltb (length earlier) 32)
+    || is_of_slot slot (group_at t.groups p.group)) (ltb (length earlier) most)
     (is_distinct (blocks_of_parts earlier ++ blocks_of_partition t p))
 
 -- ---- the first bad one
 
-pub bad_next : (slot : ℕ) (earlier : List Part) (p : Part) (rest : List Part)
-    → part_passes slot earlier p ≡ true
-    → bad_part slot earlier (p ∷ rest) ≡ bad_part slot (earlier ++ p ∷ []) rest
+pub bad_next : (most slot : ℕ) (earlier : List Part) (p : Part) (rest : List Part)
+    → part_passes most slot earlier p ≡ true
+    → bad_part most slot earlier (p ∷ rest) ≡ bad_part most slot (earlier ++ p ∷ []) rest
 unfolding bad_part
-bad_next slot earlier p rest h = rw h refl
+bad_next most slot earlier p rest h = rw h refl
 
-pub bad_here : (slot : ℕ) (earlier : List Part) (p : Part) (rest : List Part)
-    → part_passes slot earlier p ≡ false → bad_part slot earlier (p ∷ rest) ≡ Some p.name
+pub bad_here : (most slot : ℕ) (earlier : List Part) (p : Part) (rest : List Part)
+    → part_passes most slot earlier p ≡ false → bad_part most slot earlier (p ∷ rest) ≡ Some p.name
 unfolding bad_part
-bad_here slot earlier p rest h = rw h refl
+bad_here most slot earlier p rest h = rw h refl
 
-pub bad_none : (slot : ℕ) (earlier : List Part) → bad_part slot earlier [] ≡ None
+pub bad_none : (most slot : ℕ) (earlier : List Part) → bad_part most slot earlier [] ≡ None
 unfolding bad_part
-bad_none slot earlier = refl
+bad_none most slot earlier = refl
 
 pub own_all : (slot : ℕ) (t : Table) → own_parts slot (layout_of t).parts ≡ own_from slot t 0
 unfolding layout_of
@@ -146,37 +146,39 @@ own_all slot t = refl
 -- ---- the loop
 
 -- the test of a partition behind those that were seen
-abbrev pub joins_them : ℕ → Table → List ℕ → ℕ → Partition → Bool
-joins_them slot t seen count p =
+abbrev pub joins_them : (most slot : ℕ) → Table → List ℕ → ℕ → Partition → Bool
+joins_them most slot t seen count p =
     (is_base (base_of p.name)
     && (bytes_eq (group_at t.groups p.group) default_name
     || is_of_slot slot (group_at t.groups p.group))
-    && ltb count 32)
+    && ltb count most)
     && leb (length (blocks_of_partition t p)) (2 ^ 28)
     && is_distinct (seen ++ blocks_of_partition t p)
 
 -- The blocks that were seen are those of the own partitions in front of a place, and all of these
 -- pass.
-pub record Stands (slot : ℕ) (t : Table) (i : ℕ) (seen : List ℕ) (count : ℕ) : Type 0 where
+pub record Stands (most slot : ℕ) (t : Table) (i : ℕ) (seen : List ℕ) (count : ℕ) : Type 0 where
   pub blocks : seen ≡ blocks_of_parts (own_before slot t i)
   pub counted : count ≡ length (own_before slot t i)
-  pub bad : bad_part slot (own_before slot t i) (own_from slot t i)
-      ≡ bad_part slot [] (own_parts slot (layout_of t).parts)
+  pub bad : bad_part most slot (own_before slot t i) (own_from slot t i)
+      ≡ bad_part most slot [] (own_parts slot (layout_of t).parts)
 
-pub stands_first : (slot : ℕ) (t : Table) (seen : List ℕ) → seen ≡ [] → Stands slot t 0 seen 0
-stands_first slot t seen none = record {
+pub stands_first : (most slot : ℕ) (t : Table) (seen : List ℕ)
+    → seen ≡ []
+    → Stands most slot t 0 seen 0
+stands_first most slot t seen none = record {
   blocks = none;
   counted = refl;
-  bad = ap (bad_part slot []) (sym (own_all slot t));
+  bad = ap (bad_part most slot []) (sym (own_all slot t));
 }
 
-pub stands_skip : (slot : ℕ) (t : Table) (i : ℕ) (seen : List ℕ) (count : ℕ) (p : Partition)
-    → Stands slot t i seen count
+pub stands_skip : (most slot : ℕ) (t : Table) (i : ℕ) (seen : List ℕ) (count : ℕ) (p : Partition)
+    → Stands most slot t i seen count
     → i < length t.partitions
     → p ≡ get_or t.partitions i p
     → is_of_slot slot p.name ≡ false
-    → Stands slot t (i + 1) seen count
-stands_skip slot t i seen count p s lt at other =
+    → Stands most slot t (i + 1) seen count
+stands_skip most slot t i seen count p s lt at other =
     let own : Partition → Type 0 = λ q. is_of_slot slot q.name ≡ false in
     let at-place : own (get_or t.partitions i p) = subst own at other in
     let before = skip_before slot t i p lt at-place in
@@ -184,34 +186,36 @@ stands_skip slot t i seen count p s lt at other =
     record {
       blocks = s.blocks ∙ ap blocks_of_parts (sym before);
       counted = s.counted ∙ ap length (sym before);
-      bad = ap (λ (l : List Part). bad_part slot l (own_from slot t (i + 1))) before
-          ∙ ap (bad_part slot (own_before slot t i)) (sym from) ∙ s.bad;
+      bad = ap (λ (l : List Part). bad_part most slot l (own_from slot t (i + 1))) before
+          ∙ ap (bad_part most slot (own_before slot t i)) (sym from) ∙ s.bad;
     }
 
 -- what was judged is the test of the definition
-judged_is : (slot : ℕ) (t : Table) (i : ℕ) (seen : List ℕ) (count : ℕ) (p : Partition)
-    → Stands slot t i seen count
-    → part_passes slot (own_before slot t i) (part_of t p) ≡ joins_them slot t seen count p
-judged_is slot t i seen count p s =
+judged_is : (most slot : ℕ) (t : Table) (i : ℕ) (seen : List ℕ) (count : ℕ) (p : Partition)
+    → Stands most slot t i seen count
+    → part_passes most slot (own_before slot t i) (part_of t p)
+    ≡ joins_them most slot t seen count p
+judged_is most slot t i seen count p s =
     let group : List ℕ = group_at t.groups p.group in
     let a : Bool = is_base (base_of p.name) in
     let g : Bool = bytes_eq group default_name || is_of_slot slot group in
     let own : List ℕ = blocks_of_partition t p in
     let small : Bool = leb (length own) (2 ^ 28) in
-    let test : ℕ → List ℕ → Bool = λ n l. (a && g && ltb n 32) && small && is_distinct (l ++ own) in
+    let test : ℕ → List ℕ → Bool =
+    λ n l. (a && g && ltb n most) && small && is_distinct (l ++ own) in
     let before : List Part = own_before slot t i in
-    part_passes_is slot t before p
+    part_passes_is most slot t before p
     ∙ ap (λ (n : ℕ). test n (blocks_of_parts before)) (sym s.counted)
     ∙ ap (λ (l : List ℕ). test count l) (sym s.blocks)
 
-pub stands_bad : (slot : ℕ) (t : Table) (i : ℕ) (seen : List ℕ) (count : ℕ) (p : Partition)
-    → Stands slot t i seen count
+pub stands_bad : (most slot : ℕ) (t : Table) (i : ℕ) (seen : List ℕ) (count : ℕ) (p : Partition)
+    → Stands most slot t i seen count
     → i < length t.partitions
     → p ≡ get_or t.partitions i p
     → is_of_slot slot p.name ≡ true
-    → joins_them slot t seen count p ≡ false
-    → bad_part slot [] (own_parts slot (layout_of t).parts) ≡ Some p.name
-stands_bad slot t i seen count p s lt at own fails =
+    → joins_them most slot t seen count p ≡ false
+    → bad_part most slot [] (own_parts slot (layout_of t).parts) ≡ Some p.name
+stands_bad most slot t i seen count p s lt at own fails =
     let Own : Partition → Type 0 = λ q. is_of_slot slot q.name ≡ true in
     let at-place : Own (get_or t.partitions i p) = subst Own at own in
     let rest : List Part = own_from slot t (i + 1) in
@@ -219,8 +223,8 @@ stands_bad slot t i seen count p s lt at own fails =
     let from : own_from slot t i ≡ part_of t p ∷ rest =
     take_from slot t i p lt at-place
     ∙ ap (λ (q : Partition). part_of t q ∷ rest) (sym at) in
-    sym s.bad ∙ ap (bad_part slot before) from
-    ∙ bad_here slot before (part_of t p) rest (judged_is slot t i seen count p s ∙ fails)
+    sym s.bad ∙ ap (bad_part most slot before) from
+    ∙ bad_here most slot before (part_of t p) rest (judged_is most slot t i seen count p s ∙ fails)
 
 -- the blocks of the own partitions in front of the next place
 pub next_blocks : (slot : ℕ) (t : Table) (i : ℕ) (seen : List ℕ) (p : Partition)
@@ -242,15 +246,16 @@ next_blocks slot t i seen p blocks lt at own =
     ∙ sym (blocks_append before (part_of t p ∷ []))
     ∙ ap blocks_of_parts (sym after)
 
-pub stands_take : (slot : ℕ) (t : Table) (i : ℕ) (seen more : List ℕ) (count : ℕ) (p : Partition)
-    → Stands slot t i seen count
+pub stands_take : (most slot : ℕ) (t : Table) (i : ℕ) (seen more : List ℕ) (count : ℕ)
+    (p : Partition)
+    → Stands most slot t i seen count
     → i < length t.partitions
     → p ≡ get_or t.partitions i p
     → is_of_slot slot p.name ≡ true
-    → joins_them slot t seen count p ≡ true
+    → joins_them most slot t seen count p ≡ true
     → more ≡ seen ++ blocks_of_partition t p
-    → Stands slot t (i + 1) more (count + 1)
-stands_take slot t i seen more count p s lt at own passes is =
+    → Stands most slot t (i + 1) more (count + 1)
+stands_take most slot t i seen more count p s lt at own passes is =
     let Own : Partition → Type 0 = λ q. is_of_slot slot q.name ≡ true in
     let at-place : Own (get_or t.partitions i p) = subst Own at own in
     let before : List Part = own_before slot t i in
@@ -261,26 +266,27 @@ stands_take slot t i seen more count p s lt at own passes is =
     let after : own_before slot t (i + 1) ≡ before ++ part_of t p ∷ [] =
     take_before slot t i p lt at-place ∙ ap (λ (q : Part). before ++ q ∷ []) part-is in
     let next =
-    bad_next slot before (part_of t p) rest (judged_is slot t i seen count p s ∙ passes) in
+    bad_next most slot before (part_of t p) rest
+    (judged_is most slot t i seen count p s ∙ passes) in
     let len = length-append before (part_of t p ∷ []) in
     record {
       blocks = is ∙ next_blocks slot t i seen p s.blocks lt at own;
       counted = omega (arith, s.counted, ap length after, len);
-      bad = ap (λ (l : List Part). bad_part slot l rest) after ∙ sym next
-          ∙ ap (bad_part slot before) (sym from) ∙ s.bad;
+      bad = ap (λ (l : List Part). bad_part most slot l rest) after ∙ sym next
+          ∙ ap (bad_part most slot before) (sym from) ∙ s.bad;
     }
 
-pub stands_last : (slot : ℕ) (t : Table) (i : ℕ) (seen : List ℕ) (count : ℕ)
-    → Stands slot t i seen count
+pub stands_last : (most slot : ℕ) (t : Table) (i : ℕ) (seen : List ℕ) (count : ℕ)
+    → Stands most slot t i seen count
     → length t.partitions ≤ i
-    → bad_part slot [] (own_parts slot (layout_of t).parts) ≡ None
-stands_last slot t i seen count s le =
+    → bad_part most slot [] (own_parts slot (layout_of t).parts) ≡ None
+stands_last most slot t i seen count s le =
     let back =
     nil_from_length (drop i t.partitions) (omega (arith, length-drop i t.partitions, le)) in
     let none : own_from slot t i ≡ [] =
     ap (λ (l : List Partition). own_parts slot (map (part_of t) l)) back in
-    sym s.bad ∙ ap (bad_part slot (own_before slot t i)) none
-    ∙ bad_none slot (own_before slot t i)
+    sym s.bad ∙ ap (bad_part most slot (own_before slot t i)) none
+    ∙ bad_none most slot (own_before slot t i)
 
 -- ---- all own partitions
 

@@ -10,7 +10,7 @@ use Rattle.std.proofs.lemmas.List.Sums.{sum_by-append}
 use Rattle.std.proofs.lemmas.List.Elements.{All-contains}
 use Rattle.std.proofs.lemmas.List.Elements.{filter-append}
 use Rattle.std.proofs.lemmas.List.Elements.{Contains-append_left}
-use Rattle.vab_names.specs.Names.{is_of_slot, is_store}
+use Rattle.vab_names.specs.Names.{is_of_slot, is_store, most_partitions}
 use Rattle.vab_layout.specs.declared.layout.Part.{Part}
 use Rattle.vab_layout.specs.Layout.{blocks_of_parts}
 use Rattle.vab_layout.specs.Slots.{own_parts, store_parts, IsDistinct, IsOwnPart}
@@ -18,8 +18,8 @@ use Rattle.vab_layout.specs.Slots.{IsTargetPart, IsStorePart, IsTarget}
 use Rattle.vab_blocks.proofs.Distinct.{distinct_left, distinct_pairs, pairs_distinct, times}
 use Rattle.vab_blocks.proofs.Distinct.{at_most_once, once_each}
 use Rattle.vab_partitions.specs.Together.{target_parts, KeepsEither, Together, FirstBad}
-use Rattle.vab_partitions.specs.Target.{KeepsAlone}
-use Rattle.vab_partitions.specs.Merging.{IsMerging, IsStoreAlone, KeepsMerging}
+use Rattle.vab_partitions.specs.Target.{KeepsAlone, FitsTarget}
+use Rattle.vab_partitions.specs.Merging.{IsMerging, IsStoreAlone, FitsMerging, KeepsMerging}
 use Rattle.vab_names.proofs.NameCases.{own_or_store}
 use Rattle.vab_partitions.proofs.OwnLaws.{blocks_append}
 use Rattle.vab_blocks.proofs.Contained.{all_from, of_filter, in_filter}
@@ -98,13 +98,13 @@ store_true a b off either = elim (or_cases a b either) [
 -- ---- the whole slot
 
 -- what the partitions and the stores keep, said of each list
-record Kept (slot : ℕ) (Own Store : Part → Type 0) (parts : List Part) : Type 0 where
+record Kept (most slot : ℕ) (Own Store : Part → Type 0) (parts : List Part) : Type 0 where
   own : All Own (own_parts slot parts)
   stores : All Store (store_parts slot parts)
-  few : length (own_parts slot parts) ≤ 32
+  few : length (own_parts slot parts) ≤ most
   once : IsDistinct (blocks_of_parts (own_parts slot parts ++ store_parts slot parts))
 
-module _ (slot : ℕ) (Own Store : Part → Type 0) (parts : List Part) where
+module _ (most slot : ℕ) (Own Store : Part → Type 0) (parts : List Part) where
   own_alone : (p : Part)
       → All (KeepsEither slot Own Store) (target_parts slot parts)
       → Contains (own_parts slot parts) p
@@ -132,21 +132,21 @@ module _ (slot : ℕ) (Own Store : Part → Type 0) (parts : List Part) where
       in
       subst (λ (b : Bool). MatchBool b (Own s) (Store s)) other alone
 
-  together_kept : Together slot (KeepsEither slot Own Store) (target_parts slot parts)
-      → Kept slot Own Store parts
+  together_kept : Together most slot (KeepsEither slot Own Store) (target_parts slot parts)
+      → Kept most slot Own Store parts
   together_kept k =
       let own : List Part = own_parts slot parts in
       let stores : List Part = store_parts slot parts in
       record {
         own = all_from Own own (λ p c. own_alone p k.each c);
         stores = all_from Store stores (λ s c. store_alone s k.each c);
-        few = subst (λ (l : List Part). length l ≤ 32) (own_of_target slot parts) k.few;
+        few = subst (λ (l : List Part). length l ≤ most) (own_of_target slot parts) k.few;
         once = as_often (blocks_of_parts (target_parts slot parts))
             (blocks_of_parts (own ++ stores)) (λ b. times_both slot b parts) k.once;
       }
 
-  kept_together : Kept slot Own Store parts
-      → Together slot (KeepsEither slot Own Store) (target_parts slot parts)
+  kept_together : Kept most slot Own Store parts
+      → Together most slot (KeepsEither slot Own Store) (target_parts slot parts)
   kept_together k =
       let own : List Part = own_parts slot parts in
       let stores : List Part = store_parts slot parts in
@@ -164,12 +164,12 @@ module _ (slot : ℕ) (Own Store : Part → Type 0) (parts : List Part) where
                   let there = in_filter (λ q. is_store slot q.name) parts p f.0 store in
                   subst Told (sym other) (All-contains Store stores p k.stores there)
             ]);
-        few = subst (λ (l : List Part). length l ≤ 32) (sym (own_of_target slot parts)) k.few;
+        few = subst (λ (l : List Part). length l ≤ most) (sym (own_of_target slot parts)) k.few;
         once = as_often (blocks_of_parts (own ++ stores))
             (blocks_of_parts (target_parts slot parts)) (λ b. sym (times_both slot b parts)) k.once;
       }
 
-  own_once : Kept slot Own Store parts → IsDistinct (blocks_of_parts (own_parts slot parts))
+  own_once : Kept most slot Own Store parts → IsDistinct (blocks_of_parts (own_parts slot parts))
   own_once k =
       let own : List Part = own_parts slot parts in
       let stores : List Part = store_parts slot parts in
@@ -183,67 +183,77 @@ module _ (slot : ℕ) (Own Store : Part → Type 0) (parts : List Part) where
 abbrev OwnRules : ℕ → List Part → List Part → Part → Type 0
 OwnRules slot source target p = IsOwnPart slot p × IsTargetPart slot source target p
 
-pub together_target : (slot : ℕ) (source target : List Part)
-    → Together slot (KeepsAlone slot source target) (target_parts slot target)
-    → IsTarget slot source target
-together_target slot source target together =
+pub together_target : (most slot : ℕ) (source target : List Part)
+    → most ≤ most_partitions
+    → Together most slot (KeepsAlone slot source target) (target_parts slot target)
+    → FitsTarget most slot source target
+together_target most slot source target small together =
     let Own : Part → Type 0 = OwnRules slot source target in
     let own : List Part = own_parts slot target in
-    let k = together_kept slot Own (IsStorePart slot source target) target together in
+    let k = together_kept most slot Own (IsStorePart slot source target) target together in
     record {
-      own = record {
-        each = all_from (IsOwnPart slot) own (λ p c. (All-contains Own own p k.own c).0);
-        few = k.few;
-        once = own_once slot Own (IsStorePart slot source target) target k;
+      is = record {
+        own = record {
+          each = all_from (IsOwnPart slot) own (λ p c. (All-contains Own own p k.own c).0);
+          few = omega (arith, k.few);
+          once = own_once most slot Own (IsStorePart slot source target) target k;
+        };
+        each = all_from (IsTargetPart slot source target) own
+            (λ p c. (All-contains Own own p k.own c).1);
+        stores = k.stores;
+        once = k.once;
       };
-      each = all_from (IsTargetPart slot source target) own
-          (λ p c. (All-contains Own own p k.own c).1);
-      stores = k.stores;
-      once = k.once;
+      few = k.few;
     }
 
-pub target_together : (slot : ℕ) (source target : List Part)
-    → IsTarget slot source target
-    → Together slot (KeepsAlone slot source target) (target_parts slot target)
-target_together slot source target is =
+pub target_together : (most slot : ℕ) (source target : List Part)
+    → FitsTarget most slot source target
+    → Together most slot (KeepsAlone slot source target) (target_parts slot target)
+target_together most slot source target fits =
+    let is = fits.is in
     let own : List Part = own_parts slot target in
-    kept_together slot (OwnRules slot source target) (IsStorePart slot source target) target
+    kept_together most slot (OwnRules slot source target) (IsStorePart slot source target) target
     (record {
       own = all_from (OwnRules slot source target) own (λ p c. (
         All-contains (IsOwnPart slot) own p is.own.each c,
         All-contains (IsTargetPart slot source target) own p is.each c,
       ));
       stores = is.stores;
-      few = is.own.few;
+      few = fits.few;
       once = is.once;
     })
 
 -- ---- a slot that is merged
 
-pub together_merging : (slot : ℕ) (target : List Part)
-    → Together slot (KeepsMerging slot target) (target_parts slot target)
-    → IsMerging slot target
-together_merging slot target together =
-    let k = together_kept slot (IsOwnPart slot) (IsStoreAlone slot target) target together in
+pub together_merging : (most slot : ℕ) (target : List Part)
+    → most ≤ most_partitions
+    → Together most slot (KeepsMerging slot target) (target_parts slot target)
+    → FitsMerging most slot target
+together_merging most slot target small together =
+    let k = together_kept most slot (IsOwnPart slot) (IsStoreAlone slot target) target together in
     record {
-      own = record {
-        each = k.own;
-        few = k.few;
-        once = own_once slot (IsOwnPart slot) (IsStoreAlone slot target) target k;
+      is = record {
+        own = record {
+          each = k.own;
+          few = omega (arith, k.few);
+          once = own_once most slot (IsOwnPart slot) (IsStoreAlone slot target) target k;
+        };
+        stores = k.stores;
+        once = k.once;
       };
-      stores = k.stores;
-      once = k.once;
+      few = k.few;
     }
 
-pub merging_together : (slot : ℕ) (target : List Part)
-    → IsMerging slot target
-    → Together slot (KeepsMerging slot target) (target_parts slot target)
-merging_together slot target is =
-    kept_together slot (IsOwnPart slot) (IsStoreAlone slot target) target
+pub merging_together : (most slot : ℕ) (target : List Part)
+    → FitsMerging most slot target
+    → Together most slot (KeepsMerging slot target) (target_parts slot target)
+merging_together most slot target fits =
+    let is = fits.is in
+    kept_together most slot (IsOwnPart slot) (IsStoreAlone slot target) target
     (record {
       own = is.own.each;
       stores = is.stores;
-      few = is.own.few;
+      few = fits.few;
       once = is.once;
     })
 
@@ -262,10 +272,10 @@ target_merging slot source target is = record {
 
 -- ---- a front of them
 
-pub front_keeps : (slot : ℕ) (Keeps : Part → Type 0) (xs ys : List Part)
-    → Together slot Keeps (xs ++ ys)
-    → Together slot Keeps xs
-front_keeps slot Keeps xs ys k = record {
+pub front_keeps : (most slot : ℕ) (Keeps : Part → Type 0) (xs ys : List Part)
+    → Together most slot Keeps (xs ++ ys)
+    → Together most slot Keeps xs
+front_keeps most slot Keeps xs ys k = record {
   each = all_from Keeps xs (λ p c.
       All-contains Keeps (xs ++ ys) p k.each (Contains-append_left xs ys p c));
   few = omega (
@@ -281,12 +291,12 @@ front_keeps slot Keeps xs ys k = record {
 }
 
 -- where one is bad, they don't keep the rules together
-pub bad_not_together : (slot : ℕ) (Keeps : Part → Type 0) (parts : List Part) (name : List ℕ)
-    → FirstBad slot Keeps parts name
-    → Together slot Keeps (target_parts slot parts)
+pub bad_not_together : (most slot : ℕ) (Keeps : Part → Type 0) (parts : List Part) (name : List ℕ)
+    → FirstBad most slot Keeps parts name
+    → Together most slot Keeps (target_parts slot parts)
     → ⊥
-bad_not_together slot Keeps parts name f k =
+bad_not_together most slot Keeps parts name f k =
     let joined = f.split ∙ sym (append_assoc f.before (f.bad ∷ []) f.behind) in
     f.broken
-    (front_keeps slot Keeps (f.before ++ f.bad ∷ []) f.behind
-    (subst (Together slot Keeps) joined k))
+    (front_keeps most slot Keeps (f.before ++ f.bad ∷ []) f.behind
+    (subst (Together most slot Keeps) joined k))

@@ -155,14 +155,14 @@ merging_alone slot target p = elim (cases_Bool (is_of_slot slot p.name)) [
 
 -- ---- several
 
-pub together_decides : (slot : ℕ) (passes : Part → Bool) (Keeps : Part → Type 0)
+pub together_decides : (most slot : ℕ) (passes : Part → Bool) (Keeps : Part → Type 0)
     → ((p : Part) → Decides (passes p) (Keeps p))
     → (these : List Part)
-    → Decides (pass_together slot passes these) (Together slot Keeps these)
+    → Decides (pass_together most slot passes these) (Together most slot Keeps these)
 unfolding pass_together
-together_decides slot passes Keeps decides these =
+together_decides most slot passes Keeps decides these =
     let each : Bool = list_all passes these in
-    let few : Bool = leb (length (own_parts slot these)) 32 in
+    let few : Bool = leb (length (own_parts slot these)) most in
     let once : Bool = is_distinct (blocks_of_parts these) in
     Decides-like (each && few && once)
     (λ k. record { each = k.0.0; few = k.0.1; once = k.1 })
@@ -170,5 +170,5 @@ together_decides slot passes Keeps decides these =
     (Decides-and (each && few) once
     (Decides-and each few
     (Decides-by_and passes Keeps (list_all passes) decides refl (λ _ _. refl) these)
-    (at_most (length (own_parts slot these)) 32))
+    (at_most (length (own_parts slot these)) most))
     (distinct_pairs (blocks_of_parts these), pairs_distinct (blocks_of_parts these)))

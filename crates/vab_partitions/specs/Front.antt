@@ -13,14 +13,14 @@ pub record IsStart (slot : ℕ) (target : List Part) (front : Front) : Type 0 wh
   pub own : front.own ≡ 0
   pub apart : front.apart ≡ is_distinct (blocks_of_parts (target_parts slot target))
 
--- there is room for a partition or a store behind them
-pub record HasRoom (slot : ℕ) (front : Front) (p : Part) : Type 0 where
+-- there is room for a partition or a store behind them where the slot may have so many partitions
+pub record HasRoom (most slot : ℕ) (front : Front) (p : Part) : Type 0 where
   pub once : IsDistinct (front.seen ++ p.blocks)
-  pub few : front.own + length (own_parts slot (p ∷ [])) ≤ 32
+  pub few : front.own + length (own_parts slot (p ∷ [])) ≤ most
 
 -- it may stand there
-pub record Joins (slot : ℕ) (Keeps : Part → Type 0) (front : Front) (p : Part) : Type 0 where
-  pub room : HasRoom slot front p
+pub record Joins (most slot : ℕ) (Keeps : Part → Type 0) (front : Front) (p : Part) : Type 0 where
+  pub room : HasRoom most slot front p
   pub alone : Keeps p
 
 -- it does

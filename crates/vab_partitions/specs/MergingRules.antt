@@ -12,7 +12,8 @@ abbrev pub passes_merging : ℕ → List Part → Part → Bool
 passes_merging slot target p =
     if is_of_slot slot p.name then own_passes slot p else store_stands slot target p
 
--- the name of the first of the slot's partitions and stores with which a rule is broken
-unfoldable pub bad_merging_of : (slot : ℕ) → (target : List Part) → Option (List ℕ)
-bad_merging_of slot target =
-    bad_behind slot (passes_merging slot target) [] (target_parts slot target)
+-- the name of the first of the slot's partitions and stores with which a rule is broken, where the
+-- slot may have so many partitions
+unfoldable pub bad_merging_of : (most slot : ℕ) → (target : List Part) → Option (List ℕ)
+bad_merging_of most slot target =
+    bad_behind most slot (passes_merging slot target) [] (target_parts slot target)

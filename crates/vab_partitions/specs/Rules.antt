@@ -7,16 +7,19 @@ pub use Rattle.vab_blocks.specs.Blocks.{is_distinct}
 use Rattle.vab_layout.specs.declared.layout.Part.{Part}
 use Rattle.vab_layout.specs.Layout.{blocks_of_parts}
 
--- Whether a partition may stand behind these: its base name, at most 2^40 bytes, the group of no
--- slot or one of the slot, the 32nd at most, and no block twice in it and in them.
-abbrev pub part_passes : ℕ → List Part → Part → Bool
-part_passes slot earlier p =
+-- Whether a partition may stand behind these where a slot may have so many: its base name, at most
+-- 2^40 bytes, the group of no slot or one of the slot, room for one more, and no block twice in it
+-- and in them.
+abbrev pub part_passes : (most slot : ℕ) → (earlier : List Part) → Part → Bool
+part_passes most slot earlier p =
     is_base (base_of p.name) && nat_le (length p.blocks) (2 ^ 28)
     && (bytes_eq p.group default_name || is_of_slot slot p.group)
-    && nat_lt (length earlier) 32 && is_distinct (blocks_of_parts earlier ++ p.blocks)
+    && nat_lt (length earlier) most && is_distinct (blocks_of_parts earlier ++ p.blocks)
 
 -- the first that may not
-unfoldable pub bad_part : ℕ → List Part → List Part → Option (List ℕ)
-bad_part slot earlier [] = None
-bad_part slot earlier (p ∷ ps) =
-    if part_passes slot earlier p then bad_part slot (earlier ++ p ∷ []) ps else Some p.name
+unfoldable pub bad_part : (most slot : ℕ) → (earlier parts : List Part) → Option (List ℕ)
+bad_part most slot earlier [] = None
+bad_part most slot earlier (p ∷ ps) =
+    if part_passes most slot earlier p
+    then bad_part most slot (earlier ++ p ∷ []) ps
+    else Some p.name

@@ -65,7 +65,8 @@ passes_alone slot source target p =
     then own_passes slot p && target_passes slot source target p
     else store_passes slot source target p
 
--- the name of the first of the target's partitions and stores with which a rule is broken
-unfoldable pub bad_target_of : (slot : ℕ) → (source target : List Part) → Option (List ℕ)
-bad_target_of slot source target =
-    bad_behind slot (passes_alone slot source target) [] (target_parts slot target)
+-- the name of the first of the target's partitions and stores with which a rule is broken, where
+-- the slot may have so many partitions
+unfoldable pub bad_target_of : (most slot : ℕ) → (source target : List Part) → Option (List ℕ)
+bad_target_of most slot source target =
+    bad_behind most slot (passes_alone slot source target) [] (target_parts slot target)

@@ -16,35 +16,36 @@ target_parts slot parts = filter (λ p. is_of_slot slot p.name || is_store slot 
 abbrev pub KeepsEither : ℕ → (Own Store : Part → Type 0) → Part → Type 0
 KeepsEither slot Own Store p = MatchBool (is_of_slot slot p.name) (Own p) (Store p)
 
--- each of these keeps the rules, at most 32 are partitions, and no block stands twice in them
-pub record Together (slot : ℕ) (Keeps : Part → Type 0) (these : List Part) : Type 0 where
+-- each of these keeps the rules, at most so many are partitions, and no block stands twice in them
+pub record Together (most slot : ℕ) (Keeps : Part → Type 0) (these : List Part) : Type 0 where
   pub each : All Keeps these
-  pub few : length (own_parts slot these) ≤ 32
+  pub few : length (own_parts slot these) ≤ most
   pub once : IsDistinct (blocks_of_parts these)
 
 -- the first that breaks a rule: those in front of it keep them together, and with it they don't
-pub record FirstBad (slot : ℕ) (Keeps : Part → Type 0) (parts : List Part) (name : List ℕ) : Type 0
-  where
-    pub before : List Part
-    pub bad : Part
-    pub behind : List Part
-    pub split : target_parts slot parts ≡ before ++ bad ∷ behind
-    pub named : bad.name ≡ name
-    pub kept : Together slot Keeps before
-    pub broken : Together slot Keeps (before ++ bad ∷ []) → ⊥
+pub record FirstBad (most slot : ℕ) (Keeps : Part → Type 0) (parts : List Part) (name : List ℕ)
+    : Type 0 where
+  pub before : List Part
+  pub bad : Part
+  pub behind : List Part
+  pub split : target_parts slot parts ≡ before ++ bad ∷ behind
+  pub named : bad.name ≡ name
+  pub kept : Together most slot Keeps before
+  pub broken : Together most slot Keeps (before ++ bad ∷ []) → ⊥
 
 -- ---- as tests
 
--- each of these passes, at most 32 are partitions, and no block stands twice in them
-unfoldable pub pass_together : ℕ → (Part → Bool) → List Part → Bool
-pass_together slot passes these =
+-- each of these passes, at most so many are partitions, and no block stands twice in them
+unfoldable pub pass_together : (most slot : ℕ) → (passes : Part → Bool) → List Part → Bool
+pass_together most slot passes these =
     list_all passes these
-    && nat_le (length (own_parts slot these)) 32 && is_distinct (blocks_of_parts these)
+    && nat_le (length (own_parts slot these)) most && is_distinct (blocks_of_parts these)
 
 -- the first with which those before it don't pass together
-unfoldable pub bad_behind : ℕ → (Part → Bool) → List Part → List Part → Option (List ℕ)
-bad_behind slot passes earlier [] = None
-bad_behind slot passes earlier (p ∷ ps) =
-    if pass_together slot passes (earlier ++ p ∷ [])
-    then bad_behind slot passes (earlier ++ p ∷ []) ps
+unfoldable pub bad_behind : (most slot : ℕ) → (passes : Part → Bool) → (earlier parts : List Part)
+    → Option (List ℕ)
+bad_behind most slot passes earlier [] = None
+bad_behind most slot passes earlier (p ∷ ps) =
+    if pass_together most slot passes (earlier ++ p ∷ [])
+    then bad_behind most slot passes (earlier ++ p ∷ []) ps
     else Some p.name

@@ -14,3 +14,4 @@ pub use merging::bad_merging;
 pub use own::bad_partition;
 pub use target::bad_target;
 pub use twins::{has_twins, same_device};
+pub use vab_names::MAX_PARTITIONS;

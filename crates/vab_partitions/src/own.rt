@@ -5,6 +5,7 @@ ghost use Rattle.std.specs.Prelude.{nat_lt};
 ghost use Rattle.std.specs.Prelude.{length, [], IfOk, IfNone, OnOk};
 ghost use Rattle.std.specs.Str.{bytes_eq};
 ghost use Rattle.vab_names.specs.Names.{is_base, is_of_slot, base_of, default_name};
+ghost use Rattle.vab_names.specs.Names.{most_partitions};
 ghost use Rattle.vab_tables.specs.Rules.{KeepsRules, IsPartition};
 ghost use Rattle.vab_layout.specs.Layout.{layout_of, group_at, blocks_of_parts};
 ghost use Rattle.vab_layout.specs.Layout.{blocks_of_partition};
@@ -17,9 +18,6 @@ use vab_blocks::Blocks;
 use vab_bytes::Name36;
 use vab_names::{base_of, default_group, is_of_slot, parse_base};
 use vab_tables::{NoMemory, Partition, Table};
-
-/// The most partitions of a slot.
-const MAX_PARTITIONS: usize = 32;
 
 /// Whether the group is that of no slot or one of this slot.
 pub(crate) fn is_group_of(name: &Name36, slot: usize) -> bool
@@ -37,8 +35,15 @@ pub(crate) fn has_base(name: &Name36) -> bool
     parse_base(base_of(name.text())).is_some()
 }
 
-/// Whether a partition of the slot may be one of its own, but for its size and its blocks.
-fn passes_alone(table: &Table, partition: &Partition, slot: usize, count: usize) -> bool
+/// Whether a partition of the slot may be one of its own behind `count` others, but for its size
+/// and its blocks.
+fn passes_alone(
+    table: &Table,
+    partition: &Partition,
+    slot: usize,
+    count: usize,
+    most: usize,
+) -> bool
     requires slot { slot < 2 }
     requires keeps { KeepsRules table.now }
     requires group { partition.now.group < length table.now.groups }
@@ -47,10 +52,10 @@ fn passes_alone(table: &Table, partition: &Partition, slot: usize, count: usize)
         ≡ (is_base (base_of partition.now.name)
         && (bytes_eq (group_at table.now.groups partition.now.group) default_name
         || is_of_slot slot (group_at table.now.groups partition.now.group))
-        && nat_lt count 32) }
+        && nat_lt count most) }
 {
     let group = &table.groups.as_slice()[partition.group as usize];
-    has_base(&partition.name) && is_group_of(&group.name, slot) && count < MAX_PARTITIONS
+    has_base(&partition.name) && is_group_of(&group.name, slot) && count < most
 }
 
 /// Writes the blocks of a partition at the end.
@@ -88,6 +93,7 @@ fn joins(
     partition: &Partition,
     slot: usize,
     count: usize,
+    most: usize,
     apart: bool,
 ) -> Result<bool, NoMemory>
     requires slot { slot < 2 }
@@ -102,14 +108,16 @@ fn joins(
         ≡ ((is_base (base_of partition.now.name)
         && (bytes_eq (group_at table.now.groups partition.now.group) default_name
         || is_of_slot slot (group_at table.now.groups partition.now.group))
-        && nat_lt count 32)
+        && nat_lt count most)
         && nat_le (length (blocks_of_partition table.now partition.now)) (2 ^ 28)
         && is_distinct (seen.old ++ blocks_of_partition table.now partition.now))) }
     ensures added { IfOk result (λ ok. ok ≡ true
         → seen.new ≡ seen.old ++ blocks_of_partition table.now partition.now) }
 {
     let extents = table.extents_of(partition);
-    if !passes_alone(table, partition, slot, count) || !is_small(extents, table.first_sector()) {
+    if !passes_alone(table, partition, slot, count, most)
+        || !is_small(extents, table.first_sector())
+    {
         return Ok(false);
     }
     push_blocks(seen, table, partition)?;
@@ -121,14 +129,20 @@ fn joins(
 
 /// The first of a slot's own partitions, in the order of the table, that breaks a rule beside
 /// those before it: a base name of 1 to 30 bytes of `A-Z a-z 0-9 _ .`, at most 2^40 bytes, the
-/// group of no slot or one of the slot, 32 partitions at most, and no block twice. `NoMemory`
-/// where memory is refused.
-pub fn bad_partition(alloc: Global, table: &Table, slot: usize) -> Result<Option<Name36>, NoMemory>
+/// group of no slot or one of the slot, `most` partitions, and no block twice. `NoMemory` where
+/// memory is refused.
+pub fn bad_partition(
+    alloc: Global,
+    table: &Table,
+    slot: usize,
+    most: usize,
+) -> Result<Option<Name36>, NoMemory>
     requires slot { slot < 2 }
     requires keeps { KeepsRules table.now }
+    requires most { most ≤ most_partitions }
     ensures exact { IfOk result
         (λ bad. bad
-        ≡ bad_part slot [] (own_parts slot (layout_of table.now).parts)) }
+        ≡ bad_part most slot [] (own_parts slot (layout_of table.now).parts)) }
     ensures own { IfOk result (λ bad. IfNone bad (IsOwn slot (layout_of table.now).parts)) }
 {
     let blocks = own_blocks(alloc, table, slot)?;
@@ -137,7 +151,7 @@ pub fn bad_partition(alloc: Global, table: &Table, slot: usize) -> Result<Option
     let mut count = 0;
     for partition in table.partitions.as_slice() {
         if is_of_slot(partition.name.text(), slot) {
-            if !joins(alloc, table, &mut seen, partition, slot, count, apart)? {
+            if !joins(alloc, table, &mut seen, partition, slot, count, most, apart)? {
                 return Ok(Some(partition.name));
             }
             count += 1;

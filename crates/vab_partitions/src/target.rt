@@ -2,13 +2,13 @@
 
 ghost use Rattle.std.specs.Prelude.{◌≡◌, ◌↔◌, ◌<◌, ◌≤◌, ◌||◌, ◌++◌, [], ◌∷◌, true, IfOk, IfSome};
 ghost use Rattle.std.specs.Prelude.{IsNone, IsTrue, OnOk};
-ghost use Rattle.vab_names.specs.Names.{is_of_slot, is_store};
+ghost use Rattle.vab_names.specs.Names.{is_of_slot, is_store, most_partitions};
 ghost use Rattle.vab_tables.specs.Rules.{KeepsRules};
 ghost use Rattle.vab_layout.specs.Layout.{layout_of, blocks_of_parts};
-ghost use Rattle.vab_layout.specs.Slots.{other_slot, own_parts, IsOwn, IsTarget};
+ghost use Rattle.vab_layout.specs.Slots.{other_slot, own_parts, IsOwn};
 ghost use Rattle.vab_blocks.specs.Blocks.{is_distinct};
 ghost use Rattle.vab_partitions.specs.Together.{target_parts};
-ghost use Rattle.vab_partitions.specs.Target.{KeepsAlone, IsFirstBad};
+ghost use Rattle.vab_partitions.specs.Target.{KeepsAlone, FitsTarget, IsFirstBad};
 ghost use Rattle.vab_partitions.specs.TargetRules.{bad_target_of};
 
 use crate::beside::keeps_alone;
@@ -19,16 +19,13 @@ use vab_layout::{Layout, Part};
 use vab_names::{is_of_slot, is_store};
 use vab_tables::{NoMemory, Table};
 
-/// The most partitions of a slot.
-const MAX_PARTITIONS: u64 = 32;
-
 /// The blocks of the partitions and stores that were seen, and how many partitions these are.
 /// `apart` tells that no block stands twice in the whole target, so that it need not be judged
 /// again.
 #[derive(Debug, Drop)]
 pub(crate) struct Front {
     pub(crate) seen: Blocks,
-    pub(crate) own: u64,
+    pub(crate) own: usize,
     pub(crate) apart: bool,
 }
 
@@ -96,13 +93,19 @@ impl Front {
     }
 
     /// Whether there is room for a partition or a store behind those that were seen: no block
-    /// stands twice, and at most 32 are partitions. Where there is, it is one of them.
-    pub(crate) fn push(&mut self, alloc: Global, part: &Part, slot: usize) -> Result<bool, NoMemory>
+    /// stands twice, and at most so many are partitions. Where there is, it is one of them.
+    pub(crate) fn push(
+        &mut self,
+        alloc: Global,
+        part: &Part,
+        slot: usize,
+        most: usize,
+    ) -> Result<bool, NoMemory>
         requires slot { slot < 2 }
-        requires few { self.old.own ≤ 32 }
+        requires few { self.old.own ≤ most }
         requires apart { self.old.apart ≡ true
             → is_distinct (self.old.seen ++ part.now.blocks) ≡ true }
-        ensures room { IfOk result (λ ok. IsTrue ok ↔ HasRoom slot self.old part.now) }
+        ensures room { IfOk result (λ ok. IsTrue ok ↔ HasRoom most slot self.old part.now) }
         ensures joined { IfOk result (λ ok. IsTrue ok → IsJoined slot self.old self.new part.now) }
     {
         self.seen.append(&part.blocks)?;
@@ -110,7 +113,7 @@ impl Front {
             return Ok(false);
         }
         if is_of_slot(part.name.text(), slot) {
-            if self.own >= MAX_PARTITIONS {
+            if self.own >= most {
                 return Ok(false);
             }
             self.own += 1;
@@ -128,19 +131,20 @@ impl Front {
         taken: &Blocks,
         part: &Part,
         slot: usize,
+        most: usize,
     ) -> Result<bool, NoMemory>
         requires slot { slot < 2 }
         requires source { IsOwn (other_slot slot) source.now }
         requires taken { taken.now ≡ blocks_of_parts (own_parts (other_slot slot) source.now) }
         requires either { (is_of_slot slot part.now.name || is_store slot part.now.name) ≡ true }
-        requires few { self.old.own ≤ 32 }
+        requires few { self.old.own ≤ most }
         requires apart { self.old.apart ≡ true
             → is_distinct (self.old.seen ++ part.now.blocks) ≡ true }
         ensures joins { IfOk result (λ ok. IsTrue ok
-            ↔ Joins slot (KeepsAlone slot source.now target.now) self.old part.now) }
+            ↔ Joins most slot (KeepsAlone slot source.now target.now) self.old part.now) }
         ensures joined { IfOk result (λ ok. IsTrue ok → IsJoined slot self.old self.new part.now) }
     {
-        if !self.push(alloc, part, slot)? {
+        if !self.push(alloc, part, slot, most)? {
             return Ok(false);
         }
         keeps_alone(alloc, source, target, taken, part, slot)
@@ -153,17 +157,21 @@ fn first_bad(
     source: &[Part],
     target: &[Part],
     slot: usize,
+    most: usize,
 ) -> Result<Option<Name36>, NoMemory>
     requires slot { slot < 2 }
     requires source { IsOwn (other_slot slot) source.now }
-    ensures kept { IfOk result (λ bad. IsNone bad ↔ IsTarget slot source.now target.now) }
-    ensures first { IfOk result (λ bad. IfSome bad (IsFirstBad slot source.now target.now)) }
-    ensures is { IfOk result (λ bad. bad ≡ bad_target_of slot source.now target.now) }
+    requires most { most ≤ most_partitions }
+    ensures kept { IfOk result (λ bad. IsNone bad ↔ FitsTarget most slot source.now target.now) }
+    ensures first { IfOk result (λ bad. IfSome bad (IsFirstBad most slot source.now target.now)) }
+    ensures is { IfOk result (λ bad. bad ≡ bad_target_of most slot source.now target.now) }
 {
     let taken = taken_by(alloc, source, 1 - slot)?;
     let mut front = Front::start(alloc, target, slot)?;
     for part in target {
-        if is_of_target(part, slot) && !front.join(alloc, source, target, &taken, part, slot)? {
+        if is_of_target(part, slot)
+            && !front.join(alloc, source, target, &taken, part, slot, most)?
+        {
             return Ok(Some(part.name));
         }
     }
@@ -184,19 +192,21 @@ pub fn bad_target(
     source: &Table,
     target: &Table,
     slot: usize,
+    most: usize,
 ) -> Result<Option<Name36>, NoMemory>
     requires slot { slot < 2 }
     requires source_keeps { KeepsRules source.now }
     requires target_keeps { KeepsRules target.now }
     requires source_own { IsOwn (other_slot slot) (layout_of source.now).parts }
-    // None exactly where the target keeps all of its rules.
+    requires most { most ≤ most_partitions }
+    // None exactly where the target keeps all of its rules and has at most so many partitions.
     ensures kept { IfOk result (λ bad. IsNone bad
-        ↔ IsTarget slot (layout_of source.now).parts (layout_of target.now).parts) }
+        ↔ FitsTarget most slot (layout_of source.now).parts (layout_of target.now).parts) }
     ensures first { IfOk result (λ bad. IfSome bad
-        (IsFirstBad slot (layout_of source.now).parts (layout_of target.now).parts)) }
+        (IsFirstBad most slot (layout_of source.now).parts (layout_of target.now).parts)) }
     // It is a function of both tables.
     ensures is { IfOk result (λ bad. bad
-        ≡ bad_target_of slot (layout_of source.now).parts (layout_of target.now).parts) }
+        ≡ bad_target_of most slot (layout_of source.now).parts (layout_of target.now).parts) }
 {
     let source = Layout::of_table(alloc, source)?;
     let target = Layout::of_table(alloc, target)?;
@@ -205,5 +215,6 @@ pub fn bad_target(
         source.parts.as_slice(),
         target.parts.as_slice(),
         slot,
+        most,
     )
 }

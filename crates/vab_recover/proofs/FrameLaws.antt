@@ -35,6 +35,9 @@ use Rattle.vab_recover.specs.Opened.{tables_of, slots_fault, slot_parts, planned
 use Rattle.vab_recover.specs.Opened.{reads_statuses, through_of, through_slot}
 use Rattle.vab_recover.specs.Opened.{target_slots, fault_of, stores_by, plan_by, IsAssembled}
 use Rattle.vab_recover.specs.Opened.{with_tables, table_if, IsOpened, AreLoaded}
+use Rattle.vab_marks.specs.Version.{partitions_under}
+use Rattle.vab_device.specs.Reading.{part_fault, most_at}
+use Rattle.vab_marks.specs.declared.version.MarkVersion.{MarkVersion}
 
 -- ---- a phase and the tables that are read in it
 
@@ -69,8 +72,9 @@ pub record IsOfPhase
     (slot : ℕ)
     (s : Loaded)
     (t : Option Loaded) : Type 0 where
-  pub parts : first_fault ((phase_at phase).part_checks slot (s.table ∷ target_tables t))
-      ≡ fault_of phase slot s.table t
+  pub parts : (most : ℕ)
+      → first_fault ((phase_at phase).part_checks most slot (s.table ∷ target_tables t))
+      ≡ fault_of most phase slot s.table t
   pub stores : (sts : List PartStatus)
       → (phase_at phase).stores slot (s.table ∷ target_tables t) sts
       ≡ stores_by (is_merging phase) (through_slot phase slot) (through_of phase s t) sts
@@ -101,7 +105,7 @@ of_phase : (phase : MarkPhase) (slot : ℕ) (s : Loaded) (t : Option Loaded)
     → is_some t ≡ reads_both phase
     → IsOfPhase phase slot s t
 of_phase marks.Idle zero s None is below both = record {
-  parts = or_first (own_check 0 s.table);
+  parts = λ most. or_first (own_check most 0 s.table);
   stores = λ sts. refl;
   state = λ c ss. refl;
   plan = λ ss. refl;
@@ -111,7 +115,7 @@ of_phase marks.Idle zero s None is below both = record {
   table_b = refl;
 }
 of_phase marks.Idle (suc zero) s None is below both = record {
-  parts = or_first (own_check 1 s.table);
+  parts = λ most. or_first (own_check most 1 s.table);
   stores = λ sts. refl;
   state = λ c ss. refl;
   plan = λ ss. refl;
@@ -121,7 +125,7 @@ of_phase marks.Idle (suc zero) s None is below both = record {
   table_b = refl;
 }
 of_phase marks.Installing zero s (Some l) is below both = record {
-  parts = refl;
+  parts = λ most. refl;
   stores = λ sts. refl;
   state = λ c ss. refl;
   plan = λ ss. refl;
@@ -131,7 +135,7 @@ of_phase marks.Installing zero s (Some l) is below both = record {
   table_b = refl;
 }
 of_phase marks.Installing (suc zero) s (Some l) is below both = record {
-  parts = refl;
+  parts = λ most. refl;
   stores = λ sts. refl;
   state = λ c ss. refl;
   plan = λ ss. refl;
@@ -141,7 +145,7 @@ of_phase marks.Installing (suc zero) s (Some l) is below both = record {
   table_b = refl;
 }
 of_phase marks.Staged zero s (Some l) is below both = record {
-  parts = refl;
+  parts = λ most. refl;
   stores = λ sts. refl;
   state = λ c ss. refl;
   plan = λ ss. refl;
@@ -151,7 +155,7 @@ of_phase marks.Staged zero s (Some l) is below both = record {
   table_b = refl;
 }
 of_phase marks.Staged (suc zero) s (Some l) is below both = record {
-  parts = refl;
+  parts = λ most. refl;
   stores = λ sts. refl;
   state = λ c ss. refl;
   plan = λ ss. refl;
@@ -161,7 +165,7 @@ of_phase marks.Staged (suc zero) s (Some l) is below both = record {
   table_b = refl;
 }
 of_phase marks.Merging zero s None is below both = record {
-  parts = or_first (merging_check 0 s.table);
+  parts = λ most. or_first (merging_check most 0 s.table);
   stores = λ sts. refl;
   state = λ c ss. refl;
   plan = λ ss. refl;
@@ -171,7 +175,7 @@ of_phase marks.Merging zero s None is below both = record {
   table_b = refl;
 }
 of_phase marks.Merging (suc zero) s None is below both = record {
-  parts = or_first (merging_check 1 s.table);
+  parts = λ most. or_first (merging_check most 1 s.table);
   stores = λ sts. refl;
   state = λ c ss. refl;
   plan = λ ss. refl;
@@ -223,31 +227,31 @@ control_single m image c is =
     control_seen_in ((phase_at m.phase).has_a m.slot) ((phase_at m.phase).has_b m.slot) image c is
     ∙ ap Ok (seen_slots r c)
 
-pub no_control : (size : ℕ) (image : Image) (m : UpdateMark) (ss : List (Option PartStatus))
-    (f : StartFault)
-    → IsMarked size image m ss
+pub no_control : (size : ℕ) (image : Image) (m : UpdateMark) (v : MarkVersion)
+    (ss : List (Option PartStatus)) (f : StartFault)
+    → IsMarked size image m v ss
     → ((a b : Bool) → control_in a b image ≡ Err f)
     → device size image ≡ Err f
-no_control size image m ss f marked bad =
+no_control size image m v ss f marked bad =
     device_no_control size image m ss f marked.enough marked.mark marked.statuses
     (bad ((phase_at m.phase).has_a m.slot) ((phase_at m.phase).has_b m.slot))
 
-pub no_geometry : (size : ℕ) (image : Image) (m : UpdateMark) (ss : List (Option PartStatus))
-    (c : Control) (f : StartFault)
-    → IsMarked size image m ss
+pub no_geometry : (size : ℕ) (image : Image) (m : UpdateMark) (v : MarkVersion)
+    (ss : List (Option PartStatus)) (c : Control) (f : StartFault)
+    → IsMarked size image m v ss
     → control_of (image 4) ≡ Ok c
     → geometry_at size image ≡ Err f
     → device size image ≡ Err f
-no_geometry size image m ss c f marked control bad =
+no_geometry size image m v ss c f marked control bad =
     device_no_geometry size image m ss (control_kept m c) f marked.enough marked.mark
     marked.statuses (control_single m image c control) bad
 
-pub no_tables : (size : ℕ) (image : Image) (m : UpdateMark) (ss : List (Option PartStatus))
-    (c : Control) (g : Geometry) (f : StartFault)
-    → IsHeaded size image m ss c g
+pub no_tables : (size : ℕ) (image : Image) (m : UpdateMark) (v : MarkVersion)
+    (ss : List (Option PartStatus)) (c : Control) (g : Geometry) (f : StartFault)
+    → IsHeaded size image m v ss c g
     → tables_in size g ((phase_at m.phase).tables m.slot) image ≡ Err f
     → device size image ≡ Err f
-no_tables size image m ss c g f headed bad =
+no_tables size image m v ss c g f headed bad =
     device_no_tables size image m ss (control_kept m c) g f headed.marked.enough
     headed.marked.mark headed.marked.statuses (control_single m image c headed.control)
     headed.geometry bad
@@ -297,10 +301,27 @@ module _
       → state_fault (record first { scanned = scanned }) ≡ x
   state_is scanned x is = is_of.state f.heads.control scanned ∙ is
 
+  -- of the disk's version
+  parts_as : (x : Option StartFault)
+      → fault_of (partitions_under f.heads.version) f.heads.mark.phase f.heads.mark.slot
+      f.tables.source.table f.tables.target
+      ≡ x
+      → part_fault (most_at image) first ≡ x
+  parts_as x is =
+      is_of.parts (most_at image)
+      ∙ ap
+      (λ v.
+      fault_of (partitions_under v) f.heads.mark.phase f.heads.mark.slot f.tables.source.table
+      f.tables.target)
+      framed.heads.marked.version
+      ∙ is
+
   pub frame_judged : (h : StartFault)
-      → fault_of f.heads.mark.phase f.heads.mark.slot f.tables.source.table f.tables.target ≡ Some h
+      → fault_of (partitions_under f.heads.version) f.heads.mark.phase f.heads.mark.slot
+      f.tables.source.table f.tables.target
+      ≡ Some h
       → device size image ≡ Err h
-  frame_judged h is = device_judged size first image h frame_reads (is_of.parts ∙ is)
+  frame_judged h is = device_judged size first image h frame_reads (parts_as (Some h) is)
 
   stores_are : (x : Result (List Scanned) StartFault)
       → scans_in (stores_for f (written_in f.heads.statuses.items)) image ≡ x
@@ -310,25 +331,31 @@ module _
       (is_of.stores (written_in ss)) ∙ is
 
   pub frame_scanned : (h : StartFault)
-      → fault_of f.heads.mark.phase f.heads.mark.slot f.tables.source.table f.tables.target ≡ None
+      → fault_of (partitions_under f.heads.version) f.heads.mark.phase f.heads.mark.slot
+      f.tables.source.table f.tables.target
+      ≡ None
       → scans_in (stores_for f (written_in f.heads.statuses.items)) image ≡ Err h
       → device size image ≡ Err h
   frame_scanned h parts is =
-      device_scanned size first image h frame_reads (is_of.parts ∙ parts) (stores_are (Err h) is)
+      device_scanned size first image h frame_reads (parts_as None parts) (stores_are (Err h) is)
 
   pub frame_stated : (scanned : List Scanned) (h : StartFault)
-      → fault_of f.heads.mark.phase f.heads.mark.slot f.tables.source.table f.tables.target ≡ None
+      → fault_of (partitions_under f.heads.version) f.heads.mark.phase f.heads.mark.slot
+      f.tables.source.table f.tables.target
+      ≡ None
       → scans_in (stores_for f (written_in f.heads.statuses.items)) image ≡ Ok scanned
       → slots_fault f.heads.mark f.heads.control
       (through_parts f.heads.mark.phase f.heads.mark.slot f.tables.source f.tables.target scanned)
       ≡ Some h
       → device size image ≡ Err h
   frame_stated scanned h parts stores is =
-      device_stated size first image scanned h frame_reads (is_of.parts ∙ parts)
+      device_stated size first image scanned h frame_reads (parts_as None parts)
       (stores_are (Ok scanned) stores) (state_is scanned (Some h) is)
 
   pub frame_read : (scanned : List Scanned)
-      → fault_of f.heads.mark.phase f.heads.mark.slot f.tables.source.table f.tables.target ≡ None
+      → fault_of (partitions_under f.heads.version) f.heads.mark.phase f.heads.mark.slot
+      f.tables.source.table f.tables.target
+      ≡ None
       → scans_in (stores_for f (written_in f.heads.statuses.items)) image ≡ Ok scanned
       → slots_fault f.heads.mark f.heads.control
       (through_parts f.heads.mark.phase f.heads.mark.slot f.tables.source f.tables.target scanned)
@@ -338,7 +365,7 @@ module _
       (tables_of f.tables) scanned)
       image
   frame_read scanned parts stores state =
-      reads_of size first image scanned frame_reads (is_of.parts ∙ parts)
+      reads_of size first image scanned frame_reads (parts_as None parts)
       (stores_are (Ok scanned) stores) (state_is scanned None state)
 
 -- the rules of the slots, of the target's partitions as they were planned

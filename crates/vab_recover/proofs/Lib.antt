@@ -1,7 +1,9 @@
+pub mod BehindLaws
 pub mod DeviceLaws
 pub mod FinishLaws
 pub mod FrameLaws
 pub mod MendLaws
+pub mod MigrateLaws
 pub mod OpenLaws
 pub mod PlanLaws
 pub mod ProbeLaws

@@ -73,15 +73,20 @@ repair_misses size at old bytes below w =
     at (inl (omega (arith, below))) (inl (omega (arith, below))) in
     sym (set_here old at bytes at refl) ∙ stays
 
--- so is what opening would, but for the mark
+-- so is what opening would in front of the mark
 pub opening_misses : (size at : ℕ) (old : Image) (bytes : List ℕ)
-    → at < 4120
-    → at ≢ 2048
+    → at < 2048
     → IsOfOpening size old at bytes
     → bytes ≡ old at
 unfolding primary_of backup_of
-opening_misses size at old bytes below other (inl w) = repair_misses size at old bytes below w
-opening_misses size at old bytes below other (inr w) =
+opening_misses size at old bytes below (inl (inl w)) =
+    repair_misses size at old bytes (omega (arith, below)) w
+opening_misses size at old bytes below (inl (inr w)) =
+    ⊎_elim
+    (λ added. absurd (omega (arith, added.from, below)))
+    (λ mark. absurd (omega (arith, mark.writes.0, below)))
+    w.writes
+opening_misses size at old bytes below (inr w) =
     ⊎_elim
     (λ table.
     let text = table_text (alone w.read.mark.slot table.table) in
@@ -89,7 +94,7 @@ opening_misses size at old bytes below other (inr w) =
     (set_but (IsOfTable w.read.geometry w.read.mark.slot text) old at bytes table.writes)
     at (inl (omega (arith, below))) (inl (omega (arith, below))) in
     sym (set_here old at bytes at refl) ∙ stays)
-    (λ mark. absurd (other mark.0))
+    (λ mark. absurd (omega (arith, mark.0, below)))
     w.writes
 
 pub repair_keeps : (size at : ℕ) (old new : Image)
@@ -275,14 +280,15 @@ module _
   pub tidied_of : (x : Option Tidying) (mid new : Image)
       → IsDue d.mark old x
       → IfSome x (IsTidying d.geometry.max d.mark t.source.table)
-      → mid 2048 ≡ old 2048
+      → mark_of (mid 2048) ≡ mark_of (old 2048)
       → IfSome x (λ k. mark_of (new 2048) ≡ Ok (idle_mark d.mark.slot))
       → (IsNone x → new ≡ mid)
       → IsTidied (device_after x (with_tables t d)) old new
   tidied_of None mid new due is same mark still =
-      let stays : new 2048 ≡ old 2048 = ap (λ (i : Image). i 2048) (still refl) ∙ same in
+      let stays : mark_of (new 2048) ≡ mark_of (old 2048) =
+      ap (λ (i : Image). mark_of (i 2048)) (still refl) ∙ same in
       record {
-        none = λ slot has. due slot (ap mark_of (sym stays) ∙ has);
+        none = λ slot has. due slot (sym stays ∙ has);
         mark = λ slot has. absurd (due slot has);
         table = keeps_tidy None due is;
       }

@@ -19,7 +19,9 @@ use Rattle.vab_layout.specs.Slots.{other_slot}
 use Rattle.vab_device.specs.declared.device.Device.{Device}
 use Rattle.vab_device.specs.Kept.{reads_both, IsDevice}
 use Rattle.vab_device.specs.Phases.{phase_at}
-use Rattle.vab_device.specs.Reading.{Read, device, Reads, AgreeCopies, Represents, SameRead}
+use Rattle.vab_device.specs.Reading.{Read, device, Reads, AgreeCopies, RepresentsUnder, SameRead}
+use Rattle.vab_device.specs.Reading.{version_at}
+use Rattle.vab_marks.specs.Version.{version_in}
 use Rattle.vab_device.proofs.ReadingLaws.{device_same, reads_kept}
 use Rattle.vab_device.proofs.RepairLaws.{repair_same, primary_kept, backup_kept}
 use Rattle.vab_recover.specs.declared.table.Tables.{Tables}
@@ -172,6 +174,13 @@ pub control_stays : (g : Geometry) (slot n : ℕ) (old new : Image)
 unfolding primary_of backup_of
 control_stays g slot n old new others = others 4 (inl (omega arith)) (inl (omega arith))
 
+-- so does the mark
+pub front_stays : (g : Geometry) (slot n : ℕ) (old new : Image)
+    → SameElsewhere g slot n old new
+    → new 2048 ≡ old 2048
+unfolding primary_of backup_of
+front_stays g slot n old new others = others 2048 (inl (omega arith)) (inl (omega arith))
+
 pub on_ok : {A E : Type 0} (P Q : Type 0) (r : Result A E) → (P → Q) → OnOk r P → OnOk r Q
 on_ok P Q (Ok x) f p = f p
 on_ok P Q (Err e) f p = p
@@ -278,7 +287,12 @@ module _
         ap control_of (control_stays d.geometry d.mark.slot (sectors_in t.source) old mid others)
         ∙ opened.control
 
-    pub mid_represents : t.target ≡ None → Represents (with_tables t d) size mid
+    mid_version : version_at mid ≡ version_at old
+    mid_version =
+        ap version_in (front_stays d.geometry d.mark.slot (sectors_in t.source) old mid others)
+
+    pub mid_represents : t.target ≡ None
+        → RepresentsUnder (version_at old) (with_tables t d) size mid
     mid_represents none = record {
       read = read_of d.mark opened.statuses d.control d.geometry (tables_of t) opened.scanned;
       reads = mid_reads;
@@ -287,6 +301,7 @@ module _
       copies = copies_agree d.geometry d.mark t mid there.both (there.source.text, held)
           (subst (λ (y : Option Loaded). IfSome y (Holds d.geometry (other_slot d.mark.slot) mid))
           (sym none) tt);
+      version = mid_version;
     }
 
     -- ---- and then the target's
@@ -353,7 +368,7 @@ module _
             other_holds d.geometry d.mark.slot (other_slot d.mark.slot) (sectors_in l) mid new
             kept.geometry.two kept.slot (omega arith) apart fits others_too t.source.text held
 
-        pub new_represents : Represents (with_tables t d) size new
+        pub new_represents : RepresentsUnder (version_at old) (with_tables t d) size new
         new_represents = record {
           read = read_of d.mark opened.statuses d.control d.geometry (tables_of t) opened.scanned;
           reads =
@@ -370,4 +385,8 @@ module _
               (subst (λ (y : Option Loaded).
               IfSome y (Holds d.geometry (other_slot d.mark.slot) new))
               (sym is) (l_there.text, held_too));
+          version =
+              ap version_in
+              (front_stays d.geometry (other_slot d.mark.slot) (sectors_in l) mid new others_too)
+              ∙ mid_version;
         }

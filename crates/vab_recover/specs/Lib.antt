@@ -1,3 +1,4 @@
+pub mod Behind
 pub mod Memory
 pub mod Opened
 pub mod Opening

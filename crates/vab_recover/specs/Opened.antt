@@ -10,6 +10,7 @@ use Rattle.vab_bootctl.specs.Boot.{info_at}
 use Rattle.vab_marks.specs.declared.mark.MarkPhase.{MarkPhase}
 use Rattle.vab_marks.specs.declared.mark.MarkPhase.TheVariants as marks
 use Rattle.vab_marks.specs.declared.mark.UpdateMark.{UpdateMark}
+use Rattle.vab_marks.specs.declared.version.MarkVersion.{MarkVersion}
 use Rattle.vab_marks.specs.declared.status.PartStatus.{PartStatus}
 use Rattle.vab_geometry.specs.declared.geometry.Geometry.{Geometry}
 use Rattle.vab_geometry.specs.Geometry.{IsGeometry}
@@ -32,7 +33,7 @@ use Rattle.vab_device.specs.Kept.{limits_of, parts_of}
 use Rattle.vab_device.specs.Phases.{phase_at, own_check, update_checks, plan_of, slot_checks}
 use Rattle.vab_device.specs.Phases.{are_ready, is_good, may_run, merging_check}
 use Rattle.vab_device.specs.Reading.{Read, mark_in, statuses_at, geometry_at, tables_in, kept}
-use Rattle.vab_device.specs.Reading.{control_kept}
+use Rattle.vab_device.specs.Reading.{control_kept, version_at}
 use Rattle.vab_device.specs.Reading.{Reads}
 use Rattle.vab_device.specs.Stores.{Wanted, Scanned, wanted_of, or_fewer, scans_in}
 use Rattle.vab_recover.specs.Repairs.{IsLoadedAt}
@@ -76,11 +77,16 @@ read_of m statuses c g ts scanned = record {
   scanned = scanned;
 }
 
--- the mark and the statuses of a disk that is large enough
-pub record IsMarked (size : ℕ) (image : Image) (m : UpdateMark) (ss : List (Option PartStatus))
-    : Type 0 where
+-- the mark, its version and the statuses of a disk that is large enough
+pub record IsMarked
+    (size : ℕ)
+    (image : Image)
+    (m : UpdateMark)
+    (v : MarkVersion)
+    (ss : List (Option PartStatus)) : Type 0 where
   pub enough : nat_le 4120 size ≡ true
   pub mark : mark_in image ≡ Ok m
+  pub version : version_at image ≡ v
   pub statuses : statuses_at (phase_at m.phase).reads_statuses image ≡ Ok ss
 
 -- those, the whole boot control and the geometry
@@ -88,10 +94,11 @@ pub record IsHeaded
     (size : ℕ)
     (image : Image)
     (m : UpdateMark)
+    (v : MarkVersion)
     (ss : List (Option PartStatus))
     (c : Control)
     (g : Geometry) : Type 0 where
-  pub marked : IsMarked size image m ss
+  pub marked : IsMarked size image m v ss
   pub control : control_of (image 4) ≡ Ok c
   pub geometry : geometry_at size image ≡ Ok g
 
@@ -137,8 +144,8 @@ pub record AreTablesThere (size : ℕ) (g : Geometry) (m : UpdateMark) (t : Tabl
 
 -- what is read of a disk in front of its stores
 pub record IsFramed (size : ℕ) (image : Image) (f : Frame) : Type 0 where
-  pub heads : IsHeaded size image f.heads.mark f.heads.statuses.items f.heads.control
-      f.heads.geometry
+  pub heads : IsHeaded size image f.heads.mark f.heads.version f.heads.statuses.items
+      f.heads.control f.heads.geometry
   pub tables : tables_in size f.heads.geometry
       ((phase_at f.heads.mark.phase).tables f.heads.mark.slot)
       image
@@ -147,10 +154,12 @@ pub record IsFramed (size : ℕ) (image : Image) (f : Frame) : Type 0 where
 
 -- ---- rules and plan
 
--- the first fault of the tables and of their partitions
-abbrev pub fault_of : MarkPhase → ℕ → Table → Option Loaded → Option StartFault
-fault_of phase slot s None = if is_merging phase then merging_check slot s else own_check slot s
-fault_of phase slot s (Some l) = first_fault (update_checks slot s l.table)
+-- the first fault of the tables and of their partitions, of which a slot may have so many
+abbrev pub fault_of : (most : ℕ) → MarkPhase → (slot : ℕ) → Table → Option Loaded
+    → Option StartFault
+fault_of most phase slot s None =
+    if is_merging phase then merging_check most slot s else own_check most slot s
+fault_of most phase slot s (Some l) = first_fault (update_checks most slot s l.table)
 
 -- The table whose partitions are read through stores: that of an update's target, and while it is
 -- merged that of the mark's slot.

@@ -7,15 +7,25 @@ use Rattle.vab_geometry.specs.declared.geometry.Geometry.{Geometry}
 use Rattle.vab_lpstore.specs.Loading.{slot_table}
 use Rattle.vab_device.specs.declared.device.Device.{Device}
 use Rattle.vab_device.specs.Kept.{table_of_slot}
-use Rattle.vab_device.specs.Reading.{geometry_at}
+use Rattle.vab_device.specs.Reading.{geometry_at, version_at}
+use Rattle.vab_marks.specs.declared.version.MarkVersion.TheVariants.{Two}
+pub use Rattle.vab_tidy.specs.Migration.{IsOfMigration}
 pub use Rattle.vab_tidy.specs.Stays.{LeavesSame}
 use Rattle.vab_tidy.specs.Tidied.{HasCompleted, tidy_table}
 use Rattle.vab_tidy.specs.Writes.{IsOfTidying}
 use Rattle.vab_recover.specs.Repairs.{IsRepair}
 
--- a repair, and what is written behind a merge that has ended
+-- a repair, and what is written where the mark has version 1
+abbrev pub IsOfMending : ℕ → Image → ℕ → List ℕ → Type 0
+IsOfMending size image s b = IsRepair size image s b ⊎ IsOfMigration image s b
+
+-- these, and what is written behind a merge that has ended
 abbrev pub IsOfOpening : ℕ → Image → ℕ → List ℕ → Type 0
-IsOfOpening size image s b = IsRepair size image s b ⊎ IsOfTidying size image s b
+IsOfOpening size image s b = IsOfMending size image s b ⊎ IsOfTidying size image s b
+
+-- the mark has version 2
+abbrev pub HasVersion2 : Image → Type 0
+HasVersion2 image = version_at image ≡ Two
 
 -- the mark doesn't say that a merge has ended
 abbrev pub HasNoneCompleted : Image → Type 0

@@ -1,23 +1,21 @@
 //! What the sectors with places of their own say.
 
-ghost use Rattle.std.specs.Prelude.{◌≡◌, ◌⊎◌, ◌<◌, ◌≤◌, IfOk, IfErr, Err};
+ghost use Rattle.std.specs.Prelude.{◌≡◌, ◌<◌, ◌≤◌, IfOk, IfErr, Err};
 ghost use Rattle.vab_disk.specs.Calls.{OnlyReads};
 ghost use Rattle.vab_device.specs.Faults.{IsOfContents};
 ghost use Rattle.vab_device.specs.Kept.{IsPhase};
 ghost use Rattle.vab_device.specs.Reading.{device};
 ghost use Rattle.vab_tidy.specs.Counts.{CountsFaults};
-ghost use Rattle.vab_recover.specs.Memory.{IsNamed, HasHeads};
-ghost use Rattle.vab_recover.specs.Opened.{IsMarked, IsHeaded, AreHeads, AreLoaded, AreTablesThere};
-ghost use Rattle.vab_recover.specs.Opened.{IsFramed};
+ghost use Rattle.vab_recover.specs.Memory.{IsNamed};
+ghost use Rattle.vab_recover.specs.Opened.{IsMarked, IsHeaded, AreHeads};
 
-use crate::read::{read_control, read_geometry, read_if, read_mark, reads_statuses};
-use crate::table::{Tables, read_tables};
-use std::alloc::Global;
+use crate::read::{read_control, read_geometry, read_if, read_mark, read_version, reads_statuses};
+use crate::table::Tables;
 use vab_bootctl::Control;
 use vab_device::StartFault;
 use vab_disk::Disk;
 use vab_geometry::Geometry;
-use vab_marks::UpdateMark;
+use vab_marks::{MarkVersion, UpdateMark};
 use vab_statuses::Statuses;
 
 /// The fewest sectors of a device.
@@ -27,6 +25,8 @@ pub const MIN_SECTORS: u64 = 4120;
 #[derive(Drop)]
 pub struct Heads {
     pub mark: UpdateMark,
+    /// The version that the mark has on the disk.
+    pub version: MarkVersion,
     /// The statuses of an update's partitions, none where there is no update.
     pub statuses: Statuses,
     pub control: Control,
@@ -40,10 +40,10 @@ pub struct Frame {
     pub tables: Tables,
 }
 
-// The mark, and the statuses where there is an update.
-fn read_marks<D: Disk>(d: &mut D) -> Result<(UpdateMark, Statuses), StartFault>
+// The mark with its version, and the statuses where there is an update.
+fn read_marks<D: Disk>(d: &mut D) -> Result<(UpdateMark, MarkVersion, Statuses), StartFault>
     ensures marked { D.is_modelled → IfOk result
-        (λ r. IsMarked (D.size d.old) (D.seen d.old) r.0 r.1.items) }
+        (λ r. IsMarked (D.size d.old) (D.seen d.old) r.0 r.1 r.2.items) }
     ensures fault { D.is_modelled → IfErr result
         (λ f. IsOfContents f → device (D.size d.old) (D.seen d.old) ≡ Err f) }
     ensures named { IfErr result IsNamed }
@@ -59,17 +59,21 @@ fn read_marks<D: Disk>(d: &mut D) -> Result<(UpdateMark, Statuses), StartFault>
     }
     match read_mark(d) {
         Err(fault) => Err(fault),
-        Ok(mark) => match read_if(d, reads_statuses(mark.phase)) {
+        Ok(mark) => match read_version(d) {
             Err(fault) => Err(fault),
-            Ok(statuses) => Ok((mark, statuses)),
+            Ok(version) => match read_if(d, reads_statuses(mark.phase), version) {
+                Err(fault) => Err(fault),
+                Ok(statuses) => Ok((mark, version, statuses)),
+            },
         },
     }
 }
 
-// What stands in front of the tables.
-fn read_heads<D: Disk>(d: &mut D) -> Result<Heads, StartFault>
+/// What stands in front of the tables. Each fault of the disk's contents comes only where that is
+/// the first thing wrong.
+pub fn read_heads<D: Disk>(d: &mut D) -> Result<Heads, StartFault>
     ensures headed { D.is_modelled → IfOk result (λ h. IsHeaded (D.size d.old) (D.seen d.old)
-        h.mark h.statuses.items h.control h.geometry) }
+        h.mark h.version h.statuses.items h.control h.geometry) }
     ensures fault { D.is_modelled → IfErr result
         (λ f. IsOfContents f → device (D.size d.old) (D.seen d.old) ≡ Err f) }
     ensures named { IfErr result IsNamed }
@@ -79,42 +83,18 @@ fn read_heads<D: Disk>(d: &mut D) -> Result<Heads, StartFault>
 {
     match read_marks(d) {
         Err(fault) => Err(fault),
-        Ok((mark, statuses)) => match read_control(d) {
+        Ok((mark, version, statuses)) => match read_control(d) {
             Err(fault) => Err(fault),
             Ok(control) => match read_geometry(d) {
                 Err(fault) => Err(fault),
                 Ok(geometry) => Ok(Heads {
                     mark,
+                    version,
                     statuses,
                     control,
                     geometry,
                 }),
             },
-        },
-    }
-}
-
-/// What is read of a disk in front of its stores. Each fault of its contents comes only where that
-/// is the first thing wrong; behind the geometry want of memory may come in its place.
-pub fn read_frame<D: Disk>(alloc: Global, d: &mut D) -> Result<Frame, StartFault>
-    ensures framed { D.is_modelled → IfOk result
-        (λ f. IsFramed (D.size d.old) (D.seen d.old) f) }
-    ensures fault { D.is_modelled → IfErr result
-        (λ f. IsOfContents f → device (D.size d.old) (D.seen d.old) ≡ Err f) }
-    ensures memory { D.is_modelled → IfErr result
-        (λ f. IsNamed f ⊎ HasHeads (D.size d.old) (D.seen d.old)) }
-    ensures are { IfOk result
-        (λ f. AreHeads (D.size d.old) f.heads.mark f.heads.control f.heads.geometry) }
-    ensures there { IfOk result
-        (λ f. AreTablesThere (D.size d.old) f.heads.geometry f.heads.mark f.tables) }
-    ensures reads { OnlyReads D.Disk d.old d.new }
-    ensures counts { CountsFaults D.Disk d.old d.new result }
-{
-    match read_heads(d) {
-        Err(fault) => Err(fault),
-        Ok(heads) => match read_tables(alloc, d, &heads.geometry, &heads.mark) {
-            Err(fault) => Err(fault),
-            Ok(tables) => Ok(Frame { heads, tables }),
         },
     }
 }

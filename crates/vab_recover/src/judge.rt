@@ -1,10 +1,11 @@
 //! The rules of tables, partitions and slots, and the device that is kept.
 
-ghost use Rattle.std.specs.Prelude.{◌≡◌, ◌<◌, ℕ, IfOk, OnOk, IfErr, OnErr, Err, ◌==◌, IfSome};
-ghost use Rattle.std.specs.Prelude.{if◌then◌else◌, Some, None, IsNone, true, [], ◌∷◌};
+ghost use Rattle.std.specs.Prelude.{◌≡◌, ◌<◌, ◌≤◌, ℕ, IfOk, OnOk, IfErr, OnErr, Err, ◌==◌};
+ghost use Rattle.std.specs.Prelude.{if◌then◌else◌, Some, None, IsNone, IfSome, true, [], ◌∷◌};
 ghost use Rattle.vab_tables.specs.Rules.{KeepsRules};
 ghost use Rattle.vab_layout.specs.Layout.{layout_of};
 ghost use Rattle.vab_layout.specs.Slots.{IsOwn};
+ghost use Rattle.vab_names.specs.Names.{most_partitions};
 ghost use Rattle.vab_partitions.specs.Merging.{IsMerging};
 ghost use Rattle.vab_device.specs.declared.fault.StartFault.TheVariants.{BadState};
 ghost use Rattle.vab_device.specs.Checks.{check, first_fault};
@@ -156,15 +157,16 @@ pub fn judge_slots(
 }
 
 // Whether a slot's own partitions keep their rules.
-fn judge_own(alloc: Global, table: &Table, slot: usize) -> Result<(), StartFault>
+fn judge_own(alloc: Global, table: &Table, slot: usize, most: usize) -> Result<(), StartFault>
     requires slot { slot < 2 }
+    requires most { most ≤ most_partitions }
     requires keeps { KeepsRules table.now }
-    ensures kept { OnOk result (own_check slot table.now ≡ None) }
-    ensures fault { IfErr result (λ f. IsOfContents f → own_check slot table.now ≡ Some f) }
+    ensures kept { OnOk result (own_check most slot table.now ≡ None) }
+    ensures fault { IfErr result (λ f. IsOfContents f → own_check most slot table.now ≡ Some f) }
     ensures own { OnOk result (IsOwn slot (layout_of table.now).parts) }
     ensures kind { IfErr result (λ f. IsOfDisk f → ⊥) }
 {
-    match bad_partition(alloc, table, slot) {
+    match bad_partition(alloc, table, slot, most) {
         Ok(None) => Ok(()),
         Ok(Some(name)) => Err(StartFault::BadPartition(name)),
         Err(_) => Err(StartFault::NoMemory),
@@ -177,13 +179,16 @@ fn judge_update(
     source: &Table,
     target: &Table,
     slot: usize,
+    most: usize,
 ) -> Result<(), StartFault>
     requires slot { slot < 2 }
+    requires most { most ≤ most_partitions }
     requires source_keeps { KeepsRules source.now }
     requires target_keeps { KeepsRules target.now }
-    ensures kept { OnOk result (first_fault (update_checks slot source.now target.now) ≡ None) }
+    ensures kept { OnOk result
+        (first_fault (update_checks most slot source.now target.now) ≡ None) }
     ensures fault { IfErr result (λ f. IsOfContents f
-        → first_fault (update_checks slot source.now target.now) ≡ Some f) }
+        → first_fault (update_checks most slot source.now target.now) ≡ Some f) }
     ensures own { OnOk result (IsOwn slot (layout_of source.now).parts) }
     ensures update { OnOk result (AreOfUpdate slot source.now target.now) }
     ensures kind { IfErr result (λ f. IsOfDisk f → ⊥) }
@@ -191,9 +196,9 @@ fn judge_update(
     if !same_device(source, target) || !has_twins(source, target, 1 - slot) {
         return Err(StartFault::BadTable(1 - slot));
     }
-    match judge_own(alloc, source, slot) {
+    match judge_own(alloc, source, slot, most) {
         Err(fault) => Err(fault),
-        Ok(()) => match bad_target(alloc, source, target, 1 - slot) {
+        Ok(()) => match bad_target(alloc, source, target, 1 - slot, most) {
             Ok(None) => Ok(()),
             Ok(Some(name)) => Err(StartFault::BadPartition(name)),
             Err(_) => Err(StartFault::NoMemory),
@@ -202,15 +207,17 @@ fn judge_update(
 }
 
 // Whether a slot whose stores are merged keeps its rules.
-fn judge_merging(alloc: Global, table: &Table, slot: usize) -> Result<(), StartFault>
+fn judge_merging(alloc: Global, table: &Table, slot: usize, most: usize) -> Result<(), StartFault>
     requires slot { slot < 2 }
+    requires most { most ≤ most_partitions }
     requires keeps { KeepsRules table.now }
-    ensures kept { OnOk result (merging_check slot table.now ≡ None) }
-    ensures fault { IfErr result (λ f. IsOfContents f → merging_check slot table.now ≡ Some f) }
+    ensures kept { OnOk result (merging_check most slot table.now ≡ None) }
+    ensures fault { IfErr result
+        (λ f. IsOfContents f → merging_check most slot table.now ≡ Some f) }
     ensures merging { OnOk result (IsMerging slot (layout_of table.now).parts) }
     ensures kind { IfErr result (λ f. IsOfDisk f → ⊥) }
 {
-    match bad_merging(alloc, table, slot) {
+    match bad_merging(alloc, table, slot, most) {
         Ok(None) => Ok(()),
         Ok(Some(name)) => Err(StartFault::BadPartition(name)),
         Err(_) => Err(StartFault::NoMemory),
@@ -218,34 +225,41 @@ fn judge_merging(alloc: Global, table: &Table, slot: usize) -> Result<(), StartF
 }
 
 // Whether the one table that is read keeps its rules.
-fn judge_one(alloc: Global, table: &Table, mark: &UpdateMark) -> Result<(), StartFault>
+fn judge_one(alloc: Global, table: &Table, mark: &UpdateMark, most: usize) -> Result<(), StartFault>
     requires slot { mark.now.slot < 2 }
+    requires most { most ≤ most_partitions }
     requires keeps { KeepsRules table.now }
-    ensures kept { OnOk result (fault_of mark.now.phase mark.now.slot table.now None ≡ None) }
+    ensures kept { OnOk result (fault_of most mark.now.phase mark.now.slot table.now None ≡ None) }
     ensures fault { IfErr result (λ f. IsOfContents f
-        → fault_of mark.now.phase mark.now.slot table.now None ≡ Some f) }
+        → fault_of most mark.now.phase mark.now.slot table.now None ≡ Some f) }
     ensures own { OnOk result (IsOwn mark.now.slot (layout_of table.now).parts) }
     ensures merging { OnOk result (is_merging mark.now.phase ≡ true
         → IsMerging mark.now.slot (layout_of table.now).parts) }
     ensures kind { IfErr result (λ f. IsOfDisk f → ⊥) }
 {
     if is_merging(mark.phase) {
-        judge_merging(alloc, table, mark.slot)
+        judge_merging(alloc, table, mark.slot, most)
     } else {
-        judge_own(alloc, table, mark.slot)
+        judge_own(alloc, table, mark.slot, most)
     }
 }
 
-/// Whether the tables and the partitions keep the rules of a device with this mark. `BadTable` and
-/// `BadPartition` come exactly where they say.
-pub fn judge_parts(alloc: Global, tables: &Tables, mark: &UpdateMark) -> Result<(), StartFault>
+/// Whether the tables and the partitions keep the rules of a device with this mark, whose slots may
+/// have so many partitions. `BadTable` and `BadPartition` come exactly where they say.
+pub fn judge_parts(
+    alloc: Global,
+    tables: &Tables,
+    mark: &UpdateMark,
+    most: usize,
+) -> Result<(), StartFault>
     requires slot { mark.now.slot < 2 }
+    requires most { most ≤ most_partitions }
     requires source { KeepsRules tables.now.source.table }
     requires target { IfSome tables.now.target (λ l. KeepsRules l.table) }
-    ensures kept { OnOk result (fault_of mark.now.phase mark.now.slot
+    ensures kept { OnOk result (fault_of most mark.now.phase mark.now.slot
         tables.now.source.table tables.now.target ≡ None) }
     ensures fault { IfErr result (λ f. IsOfContents f
-        → fault_of mark.now.phase mark.now.slot tables.now.source.table tables.now.target
+        → fault_of most mark.now.phase mark.now.slot tables.now.source.table tables.now.target
         ≡ Some f) }
     ensures own { OnOk result (IsOwn mark.now.slot (layout_of tables.now.source.table).parts) }
     ensures update { OnOk result (IfSome tables.now.target
@@ -256,8 +270,8 @@ pub fn judge_parts(alloc: Global, tables: &Tables, mark: &UpdateMark) -> Result<
     ensures kind { IfErr result (λ f. IsOfDisk f → ⊥) }
 {
     match &tables.target {
-        None => judge_one(alloc, &tables.source.table, mark),
-        Some(target) => judge_update(alloc, &tables.source.table, &target.table, mark.slot),
+        None => judge_one(alloc, &tables.source.table, mark, most),
+        Some(target) => judge_update(alloc, &tables.source.table, &target.table, mark.slot, most),
     }
 }
 

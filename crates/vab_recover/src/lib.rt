@@ -10,12 +10,13 @@ mod read;
 mod repairs;
 mod table;
 
-pub use frame::MIN_SECTORS;
+pub use frame::{Heads, MIN_SECTORS};
 pub use judge::judge_parts;
-pub use opening::start;
+pub use opening::{open_behind, start};
 pub use plan::read_plan;
 pub use probing::probe;
 pub use read::{
-    MARK_SECTOR, read_control, read_geometry, read_if, read_mark, reads_both, reads_statuses,
+    MARK_SECTOR, read_control, read_geometry, read_if, read_mark, read_version, reads_both,
+    reads_statuses,
 };
 pub use table::{Tables, read_tables};

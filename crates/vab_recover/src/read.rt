@@ -8,7 +8,7 @@ ghost use Rattle.vab_geometry.specs.Geometry.{IsGeometry};
 ghost use Rattle.vab_device.specs.Faults.{Answers, IsOfContents, IsOfDisk};
 ghost use Rattle.vab_device.specs.Kept.{copies_end, super_bytes, has_both, reads_both, IsPhase};
 ghost use Rattle.vab_device.specs.Reading.{settled, mark_read, mark_in, control_read, control_in};
-ghost use Rattle.vab_device.specs.Reading.{geometry_at, statuses_at};
+ghost use Rattle.vab_device.specs.Reading.{geometry_at, statuses_at, version_at};
 ghost use Rattle.vab_tidy.specs.Counts.{CountsFaults};
 ghost use Rattle.vab_recover.specs.Memory.{IsNamed};
 ghost use Rattle.vab_recover.specs.Opened.{is_merging, reads_statuses};
@@ -18,7 +18,7 @@ use vab_device::StartFault;
 use vab_disk::Disk;
 use vab_gate::get_sector;
 use vab_geometry::{Geometry, LoadFault, SUPER, load_geometry};
-use vab_marks::{MarkPhase, UpdateMark, decode_mark};
+use vab_marks::{MarkPhase, MarkVersion, UpdateMark, decode_mark};
 use vab_statuses::{StatusFault, Statuses, read_statuses};
 
 /// The disk sector of the update mark.
@@ -139,10 +139,28 @@ pub fn read_mark<D: Disk>(d: &mut D) -> Result<UpdateMark, StartFault>
     known_mark(&sector)
 }
 
-/// Reads the statuses where they are read; elsewhere there are none.
+/// Reads the version of the update mark.
+pub fn read_version<D: Disk>(d: &mut D) -> Result<MarkVersion, StartFault>
+    requires { 2048 < D.size d.old }
+    ensures version { D.is_modelled → IfOk result (λ v. version_at (D.seen d.old) ≡ v) }
+    ensures fault { IfErr result IsOfDisk }
+    ensures reads { OnlyReads D.Disk d.old d.new }
+    ensures counts { CountsFaults D.Disk d.old d.new result }
+{
+    let sector = read(d, MARK_SECTOR)?;
+    Ok(MarkVersion::of_mark(&sector))
+}
+
+/// Reads the statuses where they are read, those that the mark's version has; elsewhere there are
+/// none.
 #[tactic(auto, unfolding(vab_device::specs::Reading::statuses_at))]
-pub fn read_if<D: Disk>(d: &mut D, reads: bool) -> Result<Statuses, StartFault>
-    requires { 2081 ≤ D.size d.old }
+pub fn read_if<D: Disk>(
+    d: &mut D,
+    reads: bool,
+    version: MarkVersion,
+) -> Result<Statuses, StartFault>
+    requires on_disk { 2113 ≤ D.size d.old }
+    requires version { D.is_modelled → version_at (D.seen d.old) ≡ version }
     ensures ok { D.is_modelled → IfOk result
         (λ s. statuses_at reads (D.seen d.old) ≡ Ok s.items) }
     ensures fault { D.is_modelled → IfErr result (λ f. IsOfContents f
@@ -154,7 +172,7 @@ pub fn read_if<D: Disk>(d: &mut D, reads: bool) -> Result<Statuses, StartFault>
     if !reads {
         return Ok(Statuses::new());
     }
-    match read_statuses(d) {
+    match read_statuses(d, version) {
         Ok(statuses) => Ok(statuses),
         Err(StatusFault::Bad(sector)) => Err(StartFault::BadMark(sector)),
         Err(StatusFault::Disk(fault)) => Err(StartFault::Disk(fault)),

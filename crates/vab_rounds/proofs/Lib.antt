@@ -1,4 +1,6 @@
 mod Folding
+mod Given
+mod Lasting
 mod Merging
 mod Running
 pub mod Ended

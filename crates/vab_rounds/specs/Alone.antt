@@ -1,11 +1,14 @@
--- One slot alone has images, and keeps them, until another update is ready.
-use Rattle.std.specs.Prelude.{◌⊎◌, ◌++◌, ℕ, List, [], ◌∷◌, take}
+-- One slot alone has images, and keeps them, until another update is ready; and a slot keeps its
+-- images until a merge from it is begun.
+use Rattle.std.specs.Prelude.{◌≡◌, ◌⊎◌, ◌≤◌, ◌++◌, ◌-◌, ℕ, List, [], ◌∷◌, take, drop, Some}
 use Rattle.std.specs.List.{flat_map}
 use Rattle.vab_model.specs.declared.state.Image.{Image as ImageOfSlot}
+use Rattle.vab_model.specs.State.{images_at}
 use Rattle.vab_device.specs.Mounted.{Mounted}
-use Rattle.vab_session.specs.Alone.{IsAlone, BootsTo, FindsReady}
+use Rattle.vab_session.specs.Alone.{IsAlone, BootsTo, Finds, IsReady}
+use Rattle.vab_session.specs.Source.{HasKept, IsMergedFrom}
 use Rattle.vab_rounds.specs.Rounds.{items_in}
-use Rattle.vab_rounds.specs.Folds.{Cut, further, after_cut, folded}
+use Rattle.vab_rounds.specs.Folds.{Cut, after_items, further, after_cut, folded}
 
 -- the devices that a run comes to: in the steps of the items that are done, and in those of the one
 -- behind them
@@ -14,10 +17,14 @@ reached first c =
     flat_map (λ i. i.steps) (take c.whole (items_in first c.run))
     ++ take c.steps (further first c)
 
+-- on one of them it is so
+abbrev pub Meets : (Mounted → Type 0) → Mounted → List Cut → Type 0
+Meets Is first [] = ⊥
+Meets Is first (c ∷ cs) = Finds Is (reached first c) ⊎ Meets Is (after_cut first c) cs
+
 -- on one of them an update is ready
 abbrev pub SomeReady : Mounted → List Cut → Type 0
-SomeReady first [] = ⊥
-SomeReady first (c ∷ cs) = FindsReady (reached first c) ⊎ SomeReady (after_cut first c) cs
+SomeReady = Meets (λ m. IsReady m.state.phase)
 
 -- Where a slot alone has images and no update is ready, as from the begin of a merge on, it keeps
 -- them, byte for byte, and a boot goes to it, whatever is cut: behind all these runs, or else an
@@ -27,3 +34,28 @@ RunsStayAlone = (slot : ℕ) (images : List ImageOfSlot) (first : Mounted) (cuts
     → IsAlone slot images first
     → (IsAlone slot images (folded first cuts) × BootsTo slot (folded first cuts))
     ⊎ SomeReady first cuts
+
+-- ---- from a moment of a run on
+
+-- the same devices, of the first run those behind the first so many of its items
+abbrev pub reached_behind : Mounted → (from : ℕ) → Cut → List Mounted
+reached_behind first from c =
+    flat_map (λ i. i.steps) (take (c.whole - from) (drop from (items_in first c.run)))
+    ++ take c.steps (further first c)
+
+abbrev pub MeetsBehind : (Mounted → Type 0) → Mounted → (from : ℕ) → List Cut → Type 0
+MeetsBehind Is first from [] = ⊥
+MeetsBehind Is first from (c ∷ cs) =
+    Finds Is (reached_behind first from c) ⊎ Meets Is (after_cut first c) cs
+
+-- From any moment of a run on at which a slot alone has images, or the update that was installed
+-- from it is ready, the slot keeps these images, byte for byte, whatever is cut, or else a merge
+-- from it was begun on the way. What is refused doesn't count.
+abbrev pub RunsKeepImages : Type 0
+RunsKeepImages = (slot : ℕ) (images : List ImageOfSlot) (first : Mounted) (c : Cut)
+    (cs : List Cut) (from : ℕ)
+    → from ≤ c.whole
+    → HasKept slot images (after_items first (items_in first c.run) from)
+    → ((images_at (folded first (c ∷ cs)).state slot ≡ Some images)
+    × HasKept slot images (folded first (c ∷ cs)))
+    ⊎ MeetsBehind (λ m. IsMergedFrom slot m.state.phase) first from (c ∷ cs)

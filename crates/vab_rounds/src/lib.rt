@@ -4,4 +4,7 @@
 
 mod rounds;
 
-pub use rounds::{chains_are_rounds, ends_a_merge, many_rounds, runs_are_rounds, stays_alone};
+pub use rounds::{
+    chains_are_rounds, ends_a_merge, keeps_images, keeps_what_finish_gave, many_rounds,
+    runs_are_rounds, stays_alone,
+};

@@ -1,7 +1,8 @@
 //! Laws of rounds.
-ghost use Rattle.vab_rounds.specs.Alone.{RunsStayAlone};
+ghost use Rattle.vab_rounds.specs.Alone.{RunsKeepImages, RunsStayAlone};
 ghost use Rattle.vab_rounds.specs.Chains.{ChainsAreRounds, MakingBeginsRounds};
 ghost use Rattle.vab_rounds.specs.Ended.{MergesHaveEnded};
+ghost use Rattle.vab_rounds.specs.Finished.{FinishedImagesAreMerged, FinishedImagesLast};
 ghost use Rattle.vab_rounds.specs.Folds.{RoundsBoot, RoundsFold, SessionsFold};
 ghost use Rattle.vab_rounds.specs.Merges.{MergesEnd};
 ghost use Rattle.vab_rounds.specs.Runs.{MakingIsRound, RunsAreRounds};
@@ -23,6 +24,12 @@ pub fn stays_alone()
     ensures { RunsStayAlone }
 {}
 
+/// From any moment on at which a slot alone has images, or the update that was installed from it is
+/// ready, it keeps them behind many rounds, or a merge from it was begun on the way.
+pub fn keeps_images()
+    ensures { RunsKeepImages }
+{}
+
 /// However often a merge is cut, it ends once its acknowledged commands have asked for one turn
 /// more than blocks were left; the target has its images byte for byte.
 pub fn ends_a_merge()
@@ -30,6 +37,13 @@ pub fn ends_a_merge()
     ensures ended { MergesHaveEnded }
     // In the end, where no run begins an update or ends its installation.
     ensures last { MergesEnd }
+{}
+
+/// The images that the end of an installation gave are those of the target from then on, whatever
+/// is cut, until they are given up; and they are the ones that it has where its merge has ended.
+pub fn keeps_what_finish_gave()
+    ensures last { FinishedImagesLast }
+    ensures merged { FinishedImagesAreMerged }
 {}
 
 /// What `run` promises, for any words, of a run that is cut: it is a round. Where a device is made

@@ -1,5 +1,8 @@
 pub mod AloneLaws
+pub mod SourceLaws
 pub mod StandLaws
+pub mod UntilLaws
+pub mod WrittenLaws
 mod Changing
 mod Data
 mod Endings

@@ -55,11 +55,15 @@ abbrev pub IsReady : Phase → Type 0
 IsReady (Staged source left) = Unit {0}
 IsReady _ = ⊥
 
--- On one of these devices an update is ready.
-pub record FindsReady (ms : List Mounted) : Type 0 where
+-- One of these devices is such a one.
+pub record Finds (Is : Mounted → Type 0) (ms : List Mounted) : Type 0 where
   pub mounted : Mounted
   pub reached : IsOneOf ms mounted
-  pub ready : IsReady mounted.state.phase
+  pub is : Is mounted
+
+-- On one of these devices an update is ready.
+abbrev pub FindsReady : List Mounted → Type 0
+FindsReady = Finds (λ m. IsReady m.state.phase)
 
 -- The devices that these exchanges come to: in the steps of the first n of them, and in those of
 -- the one behind them.

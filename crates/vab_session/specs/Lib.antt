@@ -3,3 +3,5 @@ pub mod Fault
 pub mod Merges
 pub mod Responses
 pub mod Served
+pub mod Source
+pub mod Written

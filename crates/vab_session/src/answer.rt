@@ -1,6 +1,6 @@
 //! One exchange: what it changes, and then its reply.
 ghost use Rattle.std.specs.Prelude.{◌≡◌, ◌≤◌, ℕ, List, length, OnOk, IfOk, Ok, MatchOption};
-ghost use Rattle.std.specs.Prelude.{Result, option_map, false};
+ghost use Rattle.std.specs.Prelude.{Result, option_map, false, IsErrOf};
 ghost use Rattle.vab_fbtcp.specs.declared.event.Place.TheVariants.{Length};
 ghost use Rattle.vab_device.specs.Kept.{IsDevice};
 ghost use Rattle.vab_device.specs.Reading.{Represents};
@@ -9,6 +9,7 @@ ghost use Rattle.vab_fbproto.specs.declared.request.BadCommand.{BadCommand};
 ghost use Rattle.vab_model.specs.Commands.{command_of};
 ghost use Rattle.vab_device.specs.Does.{KeepsSource};
 ghost use Rattle.vab_model.specs.Kinds.{is_of_merge};
+ghost use Rattle.vab_commands.specs.Copies.{HasBothCopies};
 ghost use Rattle.vab_commands.specs.Touched.{ChangesDevice, ChangesBy, FollowsBy};
 ghost use Rattle.vab_exchanges.specs.Session.{ends_session};
 ghost use Rattle.vab_exchanges.specs.Reading.{stands_at, rest_of, beyond_of, room_of, total_of};
@@ -16,7 +17,8 @@ ghost use Rattle.vab_exchanges.specs.Reading.{count_of, most_of, IsFed};
 ghost use Rattle.vab_exchanges.specs.Items.{AsksNoData, staged_after};
 ghost use Rattle.vab_session.specs.Merges.{asks_merge};
 ghost use Rattle.vab_session.specs.Responses.{response, still, takes_staged};
-ghost use Rattle.vab_session.specs.Served.{kept_on, AnswersOrFails, HasCause};
+ghost use Rattle.vab_session.specs.Served.{kept_on, AnswersOrFails, HasCause, Held};
+ghost use Rattle.vab_session.specs.Written.{IsOfChange, WritesAs, WritesPacket};
 
 use crate::tell::{data_text, tell_reply};
 use crate::{KeptDevice, SessionFault};
@@ -53,6 +55,10 @@ fn tell_still<P: Port>(p: &mut P, kept: KeptDevice, text: &[u8]) -> Result<KeptD
         → AnswersOrFails (P.size p.old) P.Disk (kept_on kept (P.seen p.old))
         command before before beyond count total most p.old p.new result }
     ensures changes { P.is_modelled → ChangesDevice P.Disk kept.device p.old p.new }
+    ensures copies { P.is_modelled
+        → Held result
+        → HasBothCopies (P.size p.old) (P.seen p.new) }
+    ensures writes { P.is_modelled → WritesAs P.Disk (λ s b. ⊥) p.old p.new }
     ensures cause { HasCause P.Disk p.old p.new result }
 {
     match tell_reply(p, text) {
@@ -122,6 +128,14 @@ fn carry_out<P: Port>(
         packet before before beyond count total most p.old p.new result }
     ensures changes { P.is_modelled
         → ChangesBy P.Disk kept.device (is_of_merge (command_of command.now) ≡ false) p.old p.new }
+    ensures copies { P.is_modelled
+        → Held result
+        → HasBothCopies (P.size p.old) (P.seen p.new) }
+    ensures writes { P.is_modelled
+        → WritesAs P.Disk
+        (IsOfChange P.is_modelled (IsErrOf result SessionFault.Disk) kept.device
+        (kept_on kept (P.seen p.old)) (P.seen p.old 4) (command_of command.now))
+        p.old p.new }
     ensures cause { HasCause P.Disk p.old p.new result }
 {
     let KeptDevice { device, staged } = kept;
@@ -161,6 +175,13 @@ fn command<P: Port>(
         packet.now before before beyond count total most p.old p.new result }
     ensures changes { P.is_modelled
         → ChangesBy P.Disk kept.device (asks_merge (request_of packet.now) ≡ false) p.old p.new }
+    ensures copies { P.is_modelled
+        → Held result
+        → HasBothCopies (P.size p.old) (P.seen p.new) }
+    // What is written is what its command writes, where it changes the device, or the disk failed.
+    ensures writes { P.is_modelled
+        → WritesPacket P.Disk (IsErrOf result SessionFault.Disk) kept.device
+        (kept_on kept (P.seen p.old)) packet.now p.old p.new }
     ensures cause { HasCause P.Disk p.old p.new result }
 {
     match read_command(packet) {
@@ -217,6 +238,10 @@ fn download<P: Port>(
         (total_of reader.old (P.input_left p.old))
         (most_of reader.old) p.old p.new result }
     ensures changes { P.is_modelled → ChangesDevice P.Disk kept.device p.old p.new }
+    ensures copies { P.is_modelled
+        → Held result
+        → HasBothCopies (P.size p.old) (P.seen p.new) }
+    ensures writes { P.is_modelled → WritesAs P.Disk (λ s b. ⊥) p.old p.new }
     ensures cause { HasCause P.Disk p.old p.new result }
 {
     if size > MAX_DATA {
@@ -314,6 +339,13 @@ pub(crate) fn answer<P: Port>(
         (most_of reader.old) p.old p.new result }
     ensures changes { P.is_modelled
         → ChangesBy P.Disk kept.device (asks_merge (request_of packet.now) ≡ false) p.old p.new }
+    ensures copies { P.is_modelled
+        → Held result
+        → HasBothCopies (P.size p.old) (P.seen p.new) }
+    // What is written is what its command writes, where it changes the device, or the disk failed.
+    ensures writes { P.is_modelled
+        → WritesPacket P.Disk (IsErrOf result SessionFault.Disk) kept.device
+        (kept_on kept (P.seen p.old)) packet.now p.old p.new }
     ensures cause { HasCause P.Disk p.old p.new result }
 {
     match announced(packet) {

@@ -1,8 +1,11 @@
 //! The session: a greeting, a hello, and then exchange after exchange.
 ghost use Rattle.std.specs.Prelude.{◌≡◌, ◌<◌, ◌++◌, ◌^◌, ℕ, List, slice_index, codes, IfOk, OnOk};
+ghost use Rattle.std.specs.Prelude.{IsErrOf, take, drop};
 ghost use Rattle.vab_fbtcp.specs.declared.event.Place.TheVariants.{Length};
 ghost use Rattle.vab_device.specs.Kept.{IsDevice};
+ghost use Rattle.vab_device.specs.Mounted.{mounted_on};
 ghost use Rattle.vab_device.specs.Reading.{IsIn, Represents};
+ghost use Rattle.vab_commands.specs.Copies.{HasBothCopies};
 ghost use Rattle.vab_commands.specs.Touched.{ChangesBy};
 ghost use Rattle.vab_exchanges.specs.Reading.{stands_at, rest_of, beyond_of, total_of, count_of};
 ghost use Rattle.vab_exchanges.specs.Reading.{most_of, IsFed};
@@ -10,7 +13,8 @@ ghost use Rattle.vab_exchanges.specs.Runs.{Ran};
 ghost use Rattle.vab_session.specs.Merges.{IsPlain, MergesNothing};
 ghost use Rattle.vab_session.specs.Responses.{response};
 ghost use Rattle.vab_session.specs.Served.{kept_on, Held, Says, reached, SaysSlot};
-ghost use Rattle.vab_session.specs.Served.{ServesDevice, HasCause};
+ghost use Rattle.vab_session.specs.Served.{ServesDevice, HasCause, nothing_staged};
+ghost use Rattle.vab_session.specs.Written.{WritesInTurn};
 
 use crate::answer::{answer, is_last};
 use crate::{Ended, KeptDevice, SessionFault};
@@ -63,6 +67,14 @@ fn answer_all<P: Port>(
         → ChangesBy P.Disk kept.device
         (IsPlain (P.told p.old) (rest_of reader.old (P.input_left p.old)))
         p.old p.new }
+    ensures copies { P.is_modelled
+        → Held result
+        → HasBothCopies (P.size p.old) (P.seen p.new) }
+    ensures writes { P.is_modelled
+        → (told : List ℕ)
+        → P.told p.old ≡ told ++ codes "FB01"
+        → WritesInTurn P.Disk (IsErrOf result SessionFault.Disk) (P.size p.old) kept.device
+        (kept_on kept (P.seen p.old)) (rest_of reader.old (P.input_left p.old)) p.old p.new }
     ensures cause { HasCause P.Disk p.old p.new result }
 {
     let mut kept = kept;
@@ -111,6 +123,15 @@ pub fn serve_up_to<P: Port>(
     ensures size { P.size p.new ≡ P.size p.old }
     ensures changes { P.is_modelled
         → ChangesBy P.Disk device (MergesNothing most (P.input_left p.old)) p.old p.new }
+    ensures copies { P.is_modelled
+        → Held result
+        → HasBothCopies (P.size p.old) (P.seen p.new) }
+    // The packets behind the hello write in turn: one that changes the device what its command
+    // writes there, and each other nothing, unless the disk failed.
+    ensures writes { P.is_modelled
+        → WritesInTurn P.Disk (IsErrOf result SessionFault.Disk) (P.size p.old) device
+        (nothing_staged (mounted_on device (P.seen p.old)))
+        (drop 4 (take most (P.input_left p.old))) p.old p.new }
     ensures cause { HasCause P.Disk p.old p.new result }
 {
     if say_all(p, b"FB01").is_err() {
@@ -145,6 +166,15 @@ pub fn serve<P: Port>(
     ensures size { P.size p.new ≡ P.size p.old }
     ensures changes { P.is_modelled
         → ChangesBy P.Disk device (MergesNothing (2 ^ 44) (P.input_left p.old)) p.old p.new }
+    ensures copies { P.is_modelled
+        → Held result
+        → HasBothCopies (P.size p.old) (P.seen p.new) }
+    // The packets behind the hello write in turn: one that changes the device what its command
+    // writes there, and each other nothing, unless the disk failed.
+    ensures writes { P.is_modelled
+        → WritesInTurn P.Disk (IsErrOf result SessionFault.Disk) (P.size p.old) device
+        (nothing_staged (mounted_on device (P.seen p.old)))
+        (drop 4 (take (2 ^ 44) (P.input_left p.old))) p.old p.new }
     ensures cause { HasCause P.Disk p.old p.new result }
 {
     serve_up_to(alloc, p, device, MAX_SESSION)

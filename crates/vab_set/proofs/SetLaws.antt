@@ -25,7 +25,7 @@ use Rattle.vab_bytes.proofs.NumberLaws.{le_at_spelled_32, le_at_is_32}
 use Rattle.vab_set.specs.declared.set.SetImage.{SetImage}
 use Rattle.vab_set.specs.declared.fault.SetFault.{SetFault}
 use Rattle.vab_set.specs.declared.fault.SetFault.TheVariants as faults
-use Rattle.vab_names.specs.Names.{is_base, is_short}
+use Rattle.vab_names.specs.Names.{is_base, is_short, most_partitions}
 use Rattle.vab_set.specs.Spelling.{magic, image_text, images_text, set_text, IsImage, IsSet}
 use Rattle.vab_set.specs.Reading.{◌>>=◌, taken, number_at, text_at, first_named, judged}
 use Rattle.vab_set.specs.Reading.{unless_first, new_name, size_at, image_at, images_at, count_at}
@@ -477,7 +477,7 @@ images_again images (x ∷ more) fits apart =
 pub record Counted (bytes : List ℕ) (n : ℕ) (back : List ℕ) : Type 0 where
   pub whole : bytes ≡ (magic ++ to_le_bytes w32 n) ++ back
   pub rest : IsBytes back
-  pub few : n ≤ 32
+  pub few : n ≤ most_partitions
 
 count_found : (bytes : List ℕ) (x : ℕ × List ℕ)
     → IsBytes bytes
@@ -489,10 +489,10 @@ count_found bytes x is h =
     let n : ℕ = le_at w32 bytes 8 in
     let rest : List ℕ = drop 12 bytes in
     let a = passed head faults.BadMagic (cond (ltb (length bytes) 12) (Err (faults.Cut 0))
-    (cond (ltb 32 n) (Err (faults.TooMany n)) (Ok (n, rest)))) x h in
+    (cond (ltb most_partitions n) (Err (faults.TooMany n)) (Ok (n, rest)))) x h in
     let b = passed (ltb (length bytes) 12) (faults.Cut 0)
-    (cond (ltb 32 n) (Err (faults.TooMany n)) (Ok (n, rest))) x a.1 in
-    let c = guarded (ltb 32 n) (faults.TooMany n) (n, rest) x b.1 in
+    (cond (ltb most_partitions n) (Err (faults.TooMany n)) (Ok (n, rest))) x a.1 in
+    let c = guarded (ltb most_partitions n) (faults.TooMany n) (n, rest) x b.1 in
     let long : 8 + 4 ≤ length bytes = omega (arith, ltb-false (length bytes) 12 b.0) in
     let front : take 8 bytes ≡ magic = elim (cases_Bool (bytes_eq (take 8 bytes) magic)) [
       | inl same ↦ (bytes_eq-Decides (take 8 bytes) magic).0 same
@@ -510,11 +510,11 @@ count_found bytes x is h =
           ∙ ap (λ (l : List ℕ). magic ++ l) behind
           ∙ sym (append_assoc magic (to_le_bytes w32 n) rest);
       rest = λ i. rw get_or-drop (is (12 + i));
-      few = ltb-false 32 n c.0;
+      few = ltb-false most_partitions n c.0;
     })
 
 count_again : (n : ℕ) (rest : List ℕ)
-    → n ≤ 32
+    → n ≤ most_partitions
     → count_at ((magic ++ to_le_bytes w32 n) ++ rest) ≡ Ok (n, rest)
 unfolding count_at
 count_again n rest few =
@@ -524,7 +524,7 @@ count_again n rest few =
     le-ltb _ _ (omega (arith, length-append (magic ++ to_le_bytes w32 n) rest)) in
     let whole : ltb (length bytes) 12 ≡ false =
     le-ltb _ _ (omega (arith, length-append (magic ++ to_le_bytes w32 n) rest)) in
-    let less : ltb 32 n ≡ false = le-ltb _ _ few in
+    let less : ltb most_partitions n ≡ false = le-ltb _ _ few in
     rw (long, whole, is, less) refl
 
 pub set_found : (bytes : List ℕ) (all : List SetImage)

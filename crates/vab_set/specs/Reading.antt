@@ -8,7 +8,7 @@ use Rattle.vab_bytes.specs.Number.{le_at}
 use Rattle.vab_set.specs.declared.set.SetImage.{SetImage}
 use Rattle.vab_set.specs.declared.fault.SetFault.{SetFault}
 use Rattle.vab_set.specs.declared.fault.SetFault.TheVariants as faults
-use Rattle.vab_names.specs.Names.{is_base}
+use Rattle.vab_names.specs.Names.{is_base, most_partitions}
 use Rattle.vab_set.specs.Spelling.{magic}
 
 infixl 10 ◌>>=◌
@@ -92,7 +92,7 @@ unfoldable pub count_at : List ℕ → Result (ℕ × List ℕ) SetFault
 count_at bytes =
     if nat_lt (length bytes) 8 || not (bytes_eq (take 8 bytes) magic) then Err faults.BadMagic else
     if nat_lt (length bytes) 12 then Err (faults.Cut 0) else
-    if nat_lt 32 (le_at w32 bytes 8) then Err (faults.TooMany (le_at w32 bytes 8))
+    if nat_lt most_partitions (le_at w32 bytes 8) then Err (faults.TooMany (le_at w32 bytes 8))
     else Ok (le_at w32 bytes 8, drop 12 bytes)
 
 unfoldable pub set_of : List ℕ → Result (List SetImage) SetFault

@@ -2,7 +2,7 @@
 use Rattle.std.specs.Prelude.{◌≢◌, ℕ, ◌<◌, ◌≤◌, ◌^◌, List, [], ◌∷◌, ◌++◌, length, IsTrue, All}
 use Rattle.std.specs.Prelude.{AllPairs}
 use Rattle.std.specs.Int.{w32, w64, to_le_bytes}
-use Rattle.vab_names.specs.Names.{is_base}
+use Rattle.vab_names.specs.Names.{is_base, most_partitions}
 use Rattle.vab_bytes.specs.Number.{IsBytes}
 use Rattle.vab_set.specs.declared.set.SetImage.{SetImage}
 
@@ -34,8 +34,8 @@ pub record IsImage (image : SetImage) : Type 0 where
   pub bytes : IsBytes image.bytes
   pub short : length image.bytes ≤ image.size
 
--- a set that has a spelling: at most 32 images, and no two have one name
+-- a set that has a spelling: no more images than a slot has partitions, and no two have one name
 pub record IsSet (images : List SetImage) : Type 0 where
-  pub count : length images ≤ 32
+  pub count : length images ≤ most_partitions
   pub each : All IsImage images
   pub names : AllPairs (λ a b. a.name ≢ b.name) images

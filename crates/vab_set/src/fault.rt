@@ -11,7 +11,7 @@ use std::alloc::{AllocError, AllocFailed};
 pub enum SetFault {
     /// Fewer than 8 bytes, or another magic.
     BadMagic,
-    /// More than 32 images, and how many.
+    /// More images than a slot has partitions, 64, and how many.
     TooMany(u32),
     /// The name of an image is not 1 to 30 bytes of `A-Z a-z 0-9 _ .`.
     BadName(usize),

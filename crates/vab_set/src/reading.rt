@@ -9,11 +9,11 @@ ghost use Rattle.vab_set.specs.Reading.{new_name, size_at, image_at, images_at, 
 use crate::{Content, Set, SetFault, SetImage};
 use std::alloc::Global;
 use vab_bytes::{Listing, Name36, le32_at, le64_at};
-use vab_names::parse_base;
+use vab_names::{MAX_PARTITIONS, parse_base};
 
 const MAGIC: &[u8; 8] = b"VABSET1\n";
 
-const MAX_IMAGES: u32 = 32;
+const MAX_IMAGES: u32 = MAX_PARTITIONS as u32;
 
 const MAX_SIZE: u64 = 1 << 40;
 

@@ -17,7 +17,7 @@ use Rattle.vab_marks.specs.declared.sector.MarkFault.{MarkFault}
 use Rattle.vab_marks.specs.declared.status.PartStatus.{PartStatus}
 use Rattle.vab_statuses.specs.Statuses.{has_name, repeats, AreOther, NamesDiffer}
 use Rattle.vab_statuses.specs.Statuses.{status_read, entry_read, entry_of, go_on}
-use Rattle.vab_statuses.specs.Statuses.{statuses_from, statuses_in}
+use Rattle.vab_statuses.specs.Statuses.{statuses_from, statuses_of}
 use Rattle.vab_statuses.specs.declared.fault.StatusFault.{StatusFault}
 use Rattle.vab_statuses.specs.declared.fault.StatusFault.TheVariants.{Bad, Disk}
 use Rattle.vab_statuses.specs.Answers.{TellsBad}
@@ -137,9 +137,10 @@ step_found n image done l h =
 
 -- ---- the sectors from the beginning
 
-pub from_begin : (image : Image) → statuses_in image ≡ statuses_from 32 image []
-unfolding statuses_in
-from_begin image = refl
+pub from_begin : (count : ℕ) (image : Image)
+    → statuses_of count image ≡ statuses_from count image []
+unfolding statuses_of
+from_begin count image = refl
 
 pub from_end : (image : Image) (done : List (Option PartStatus))
     → statuses_from 0 image done ≡ Ok done
@@ -150,7 +151,7 @@ from_end image done = refl
 abbrev pub AreRead : Image → List (Option PartStatus) → Type 0
 AreRead image l = (k : ℕ) → k < length l → status_read (image (2049 + k)) ≡ Ok (get_or l k None)
 
-read_more : (image : Image) (done : List (Option PartStatus)) (e : Option PartStatus)
+pub read_more : (image : Image) (done : List (Option PartStatus)) (e : Option PartStatus)
     → AreRead image done
     → status_read (image (2049 + length done)) ≡ Ok e
     → AreRead image (done ++ e ∷ [])
@@ -201,12 +202,14 @@ from_found (suc n) image done l read differ h =
 pub none_differ : NamesDiffer []
 none_differ i j d lt below = absurd (omega arith)
 
-pub statuses_found : (image : Image) (l : List (Option PartStatus))
-    → statuses_in image ≡ Ok l
-    → IsListed 32 image l
-statuses_found image l h =
-    from_found 32 image [] l (λ k below. absurd (omega arith)) none_differ
-    (sym (from_begin image) ∙ h)
+pub statuses_found : (count : ℕ) (image : Image) (l : List (Option PartStatus))
+    → statuses_of count image ≡ Ok l
+    → IsListed count image l
+statuses_found count image l h =
+    let all : 0 + count ≡ count = omega arith in
+    subst (λ (n : ℕ). IsListed n image l) all
+    (from_found count image [] l (λ k below. absurd (omega arith)) none_differ
+    (sym (from_begin count image) ∙ h))
 
 from_only : (n : ℕ) (image : Image) (done rest : List (Option PartStatus))
     → length rest ≡ n
@@ -237,45 +240,47 @@ from_only (suc n) image done (e ∷ rest) all read differ =
     (subst (AreRead image) (sym joined) read) (subst NamesDiffer (sym joined) differ)
     ∙ ap (λ (l : List (Option PartStatus)). Ok l) joined
 
-pub statuses_only : (image : Image) (l : List (Option PartStatus))
-    → IsListed 32 image l
-    → statuses_in image ≡ Ok l
-statuses_only image l is =
-    from_begin image ∙ from_only 32 image [] l is.all is.read is.differ
+pub statuses_only : (count : ℕ) (image : Image) (l : List (Option PartStatus))
+    → IsListed count image l
+    → statuses_of count image ≡ Ok l
+statuses_only count image l is =
+    from_begin count image ∙ from_only count image [] l is.all is.read is.differ
 
 -- ---- a loop over the sectors
 
-pub left_ok : (i : ℕ) (image : Image) (done : List (Option PartStatus)) (e : Option PartStatus)
-    → i < 32
+pub left_ok : (count i : ℕ) (image : Image) (done : List (Option PartStatus))
+    (e : Option PartStatus)
+    → i < count
     → length done ≡ i
-    → statuses_in image ≡ statuses_from (32 - i) image done
+    → statuses_of count image ≡ statuses_from (count - i) image done
     → entry_of (2049 + i) done (image (2049 + i)) ≡ Ok e
-    → statuses_in image ≡ statuses_from (32 - (i + 1)) image (done ++ e ∷ [])
-left_ok i image done e below long so_far h =
-    let one : 32 - i ≡ suc (32 - (i + 1)) = omega arith in
+    → statuses_of count image ≡ statuses_from (count - (i + 1)) image (done ++ e ∷ [])
+left_ok count i image done e below long so_far h =
+    let one : count - i ≡ suc (count - (i + 1)) = omega arith in
     so_far
     ∙ ap (λ (k : ℕ). statuses_from k image done) one
-    ∙ step_ok (32 - (i + 1)) image done e
+    ∙ step_ok (count - (i + 1)) image done e
     (subst (λ (k : ℕ). entry_of (2049 + k) done (image (2049 + k)) ≡ Ok e) (sym long) h)
 
-pub left_err : (i : ℕ) (image : Image) (done : List (Option PartStatus)) (at : ℕ)
-    → i < 32
+pub left_err : (count i : ℕ) (image : Image) (done : List (Option PartStatus)) (at : ℕ)
+    → i < count
     → length done ≡ i
-    → statuses_in image ≡ statuses_from (32 - i) image done
+    → statuses_of count image ≡ statuses_from (count - i) image done
     → entry_of (2049 + i) done (image (2049 + i)) ≡ Err at
-    → statuses_in image ≡ Err at
-left_err i image done at below long so_far h =
-    let one : 32 - i ≡ suc (32 - (i + 1)) = omega arith in
+    → statuses_of count image ≡ Err at
+left_err count i image done at below long so_far h =
+    let one : count - i ≡ suc (count - (i + 1)) = omega arith in
     so_far
     ∙ ap (λ (k : ℕ). statuses_from k image done) one
-    ∙ step_err (32 - (i + 1)) image done at
+    ∙ step_err (count - (i + 1)) image done at
     (subst (λ (k : ℕ). entry_of (2049 + k) done (image (2049 + k)) ≡ Err at) (sym long) h)
 
-pub left_bad : (i : ℕ) (image : Image) (done : List (Option PartStatus)) (f : StatusFault)
-    → i < 32
+pub left_bad : (count i : ℕ) (image : Image) (done : List (Option PartStatus)) (f : StatusFault)
+    → i < count
     → length done ≡ i
-    → statuses_in image ≡ statuses_from (32 - i) image done
+    → statuses_of count image ≡ statuses_from (count - i) image done
     → TellsBad (entry_of (2049 + i) done (image (2049 + i))) f
-    → TellsBad (statuses_in image) f
-left_bad i image done (Bad at) below long so_far h = left_err i image done at below long so_far h
-left_bad i image done (Disk fault) below long so_far h = tt
+    → TellsBad (statuses_of count image) f
+left_bad count i image done (Bad at) below long so_far h =
+    left_err count i image done at below long so_far h
+left_bad count i image done (Disk fault) below long so_far h = tt

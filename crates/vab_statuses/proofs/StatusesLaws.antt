@@ -20,36 +20,44 @@ use Rattle.vab_marks.specs.Sector.{are_zeros}
 use Rattle.vab_marks.specs.Status.{status_of}
 use Rattle.vab_statuses.specs.Statuses.{IsOfStatuses, status_read, some_status}
 use Rattle.vab_statuses.specs.Statuses.{entry_of}
-use Rattle.vab_statuses.specs.Statuses.{go_on, statuses_from, statuses_in, no_statuses}
+use Rattle.vab_statuses.specs.Statuses.{go_on, statuses_from, statuses_in, statuses_of, no_statuses}
 use Rattle.vab_statuses.specs.Statuses.{AreOther, NamesDiffer, written_in, status_named, is_named}
 use Rattle.vab_statuses.specs.Statuses.{repeats, free_from, free_in, with_status, IsFirstFree}
 use Rattle.vab_marks.proofs.StatusLaws.{zero_is_no_status}
 use Rattle.vab_statuses.proofs.ReadLaws.{step_ok, from_end, from_begin, entry_only, others_of}
+use Rattle.vab_statuses.proofs.ReadLaws.{read_more, differ_more}
 use Rattle.vab_statuses.proofs.ReadLaws.{AreRead, IsListed, statuses_found, statuses_only}
 
 -- ---- other sectors don't matter
 
 from_same : (n : ℕ) (old new : Image) (done : List (Option PartStatus))
-    → length done + n ≤ 32
-    → ((s : ℕ) → IsOfStatuses s → new s ≡ old s)
+    → ((k : ℕ) → k < length done + n → new (2049 + k) ≡ old (2049 + k))
     → statuses_from n new done ≡ statuses_from n old done
 unfolding statuses_from
-from_same zero old new done fits same = refl
-from_same (suc n) old new done fits same =
+from_same zero old new done same = refl
+from_same (suc n) old new done same =
     let at : ℕ = 2049 + length done in
-    let here : new at ≡ old at = same at (record { from = omega arith; below = omega arith }) in
+    let here : new at ≡ old at = same (length done) (omega arith) in
     let rest : (s : Option PartStatus)
     → statuses_from n new (done ++ s ∷ []) ≡ statuses_from n old (done ++ s ∷ []) =
     λ s. from_same n old new (done ++ s ∷ [])
-    (omega (arith, fits, length-append done (s ∷ []))) same in
+    (λ k below. same k (omega (arith, below, length-append done (s ∷ [])))) in
     ap (λ (b : List ℕ). go_on (entry_of at done b) (λ s. statuses_from n new (done ++ s ∷ []))) here
     ∙ (λ i. go_on (entry_of at done (old at)) (λ s. rest s i))
+
+pub statuses_first : (n : ℕ) (old new : Image)
+    → ((k : ℕ) → k < n → new (2049 + k) ≡ old (2049 + k))
+    → statuses_of n new ≡ statuses_of n old
+unfolding statuses_of
+statuses_first n old new same =
+    from_same n old new [] (λ k below. same k (omega (arith, below)))
 
 pub statuses_same : (old new : Image)
     → ((s : ℕ) → IsOfStatuses s → new s ≡ old s)
     → statuses_in new ≡ statuses_in old
-unfolding statuses_in
-statuses_same old new same = from_same 32 old new [] (omega arith) same
+statuses_same old new same =
+    statuses_first 64 old new
+    (λ k below. same (2049 + k) (record { from = omega arith; below = omega (arith, below) }))
 
 -- ---- no status
 
@@ -61,7 +69,7 @@ zeros_are zero = refl
 zeros_are (suc n) = zeros_are n
 
 from_blank : (n : ℕ) (image : Image) (done : List (Option PartStatus))
-    → length done + n ≤ 32
+    → length done + n ≤ 64
     → ((s : ℕ) → IsOfStatuses s → image s ≡ replicate 512 0)
     → statuses_from n image done ≡ Ok (done ++ replicate n None)
 from_blank zero image done fits blank =
@@ -81,7 +89,7 @@ pub statuses_blank : (image : Image)
     → ((s : ℕ) → IsOfStatuses s → image s ≡ replicate 512 0)
     → statuses_in image ≡ Ok no_statuses
 unfolding no_statuses
-statuses_blank image blank = from_begin image ∙ from_blank 32 image [] (omega arith) blank
+statuses_blank image blank = from_begin 64 image ∙ from_blank 64 image [] (omega arith) blank
 
 -- ---- names
 
@@ -191,13 +199,13 @@ pub first_is_free : (image : Image) (l : List (Option PartStatus)) (o : Option �
     → IsFirstFree image o
     → o ≡ free_in l
 first_is_free image l None h none =
-    let is = statuses_found image l h in
+    let is = statuses_found 64 image l h in
     sym (found_none 2049 l (λ j lt.
     written_some (image (2049 + j)) (get_or l j None)
     (none (2049 + j) (record { from = omega arith; below = omega (arith, is.all) }))
     (is.read j lt)))
 first_is_free image l (Some at) h (there, zeros, before) =
-    let is = statuses_found image l h in
+    let is = statuses_found 64 image l h in
     let k : ℕ = at - 2049 in
     let same : 2049 + k ≡ at = omega (arith, there.from) in
     let below : k < length l = omega (arith, is.all, there.below) in
@@ -322,17 +330,75 @@ pub statuses_put : (image : Image) (bytes : List ℕ) (l : List (Option PartStat
     → status_of bytes ≡ Ok s
     → statuses_in (set_sector image at bytes) ≡ Ok (with_status l at s)
 statuses_put image bytes l at s h free new read =
-    let is : IsListed 32 image l = statuses_found image l h in
+    let is : IsListed 64 image l = statuses_found 64 image l h in
     let place : IsFreeAt 2049 l at = free_is 2049 l at free in
     let k : ℕ = place.place in
     let same : at ≡ 2049 + k = place.is in
     let also : at - 2049 ≡ k = omega (arith, same) in
     let none : repeats (Some s) l ≡ false = named_none s.name l new in
-    let put : IsListed 32 (set_sector image (2049 + k) bytes) (set l k (Some s)) = record {
+    let put : IsListed 64 (set_sector image (2049 + k) bytes) (set l k (Some s)) = record {
       all = length-set l k (Some s) ∙ is.all;
       read = put_read image bytes l k s place.within is.read read;
       differ = put_differ l k s place.within is.differ (others_of (Some s) l none);
     } in
     ap (λ (a : ℕ). statuses_in (set_sector image a bytes)) same
-    ∙ statuses_only (set_sector image (2049 + k) bytes) (set l k (Some s)) put
+    ∙ statuses_only 64 (set_sector image (2049 + k) bytes) (set l k (Some s)) put
     ∙ ap (λ (j : ℕ). Ok (set l j (Some s))) (sym also)
+
+-- ---- more sectors are read
+
+-- so many sectors more, all zeros, hold no status
+none_more : (n : ℕ) (image : Image) (l : List (Option PartStatus))
+    → IsListed (length l) image l
+    → ((k : ℕ) → length l ≤ k → k < length l + n → are_zeros (image (2049 + k)) ≡ true)
+    → IsListed (length l + n) image (l ++ replicate n None)
+none_more zero image l is blank =
+    let all : length l ≡ length l + 0 = omega arith in
+    subst (λ (t : List (Option PartStatus)). IsListed (length l + 0) image t) (sym (append-nil l))
+    (subst (λ (n : ℕ). IsListed n image l) all is)
+none_more (suc n) image l is blank =
+    let one : List (Option PartStatus) = None ∷ [] in
+    let long : length (l ++ one) ≡ suc (length l) = length-append l one ∙ omega arith in
+    let here : status_read (image (2049 + length l)) ≡ Ok None =
+    read_blank (image (2049 + length l)) (blank (length l) (omega arith) (omega arith)) in
+    let more : IsListed (length (l ++ one)) image (l ++ one) = record {
+      all = refl;
+      read = read_more image l None is.read here;
+      differ = differ_more None l refl is.differ;
+    } in
+    let rest : IsListed (length (l ++ one) + n) image ((l ++ one) ++ replicate n None) =
+    none_more n image (l ++ one) more
+    (λ k from below. blank k (omega (arith, from, long)) (omega (arith, below, long))) in
+    let count : length (l ++ one) + n ≡ length l + suc n = omega (arith, long) in
+    subst (λ (t : List (Option PartStatus)). IsListed (length l + suc n) image t)
+    (append_assoc l one (replicate n None))
+    (subst (λ (m : ℕ). IsListed m image ((l ++ one) ++ replicate n None)) count rest)
+
+-- the statuses of the first 32 sectors, where those behind them are zeros, are all
+pub statuses_longer : (old new : Image) (l : List (Option PartStatus))
+    → statuses_of 32 old ≡ Ok l
+    → ((k : ℕ) → k < 32 → new (2049 + k) ≡ old (2049 + k))
+    → ((k : ℕ) → 32 ≤ k → k < 64 → are_zeros (new (2049 + k)) ≡ true)
+    → statuses_in new ≡ Ok (l ++ replicate 32 None)
+statuses_longer old new l h same blank =
+    let is : IsListed 32 old l = statuses_found 32 old l h in
+    let long : 32 ≡ length l = sym is.all in
+    let now : IsListed 32 new l = record {
+      all = is.all;
+      read = λ k below.
+          ap status_read (same k (omega (arith, below, is.all))) ∙ is.read k below;
+      differ = is.differ;
+    } in
+    let all : IsListed (length l + 32) new (l ++ replicate 32 None) =
+    none_more 32 new l (subst (λ (n : ℕ). IsListed n new l) long now)
+    (λ k from below. blank k (omega (arith, from, is.all)) (omega (arith, below, is.all))) in
+    let count : length l + 32 ≡ 64 = omega (arith, is.all) in
+    statuses_only 64 new (l ++ replicate 32 None)
+    (subst (λ (n : ℕ). IsListed n new (l ++ replicate 32 None)) count all)
+
+pub written_longer : (l : List (Option PartStatus)) (n : ℕ)
+    → written_in (l ++ replicate n None) ≡ written_in l
+written_longer [] zero = refl
+written_longer [] (suc n) = written_longer [] n
+written_longer (None ∷ l) n = written_longer l n
+written_longer (Some s ∷ l) n = ap (λ (t : List PartStatus). s ∷ t) (written_longer l n)

@@ -8,12 +8,15 @@ use Rattle.vab_disk.specs.Disk.{Image}
 use Rattle.vab_disk.specs.Calls.{IsBetween}
 use Rattle.vab_marks.specs.declared.sector.MarkFault.{MarkFault}
 use Rattle.vab_marks.specs.declared.status.PartStatus.{PartStatus}
+use Rattle.vab_marks.specs.declared.version.MarkVersion.{MarkVersion}
+use Rattle.vab_marks.specs.declared.version.MarkVersion.TheVariants.{One, Two}
 use Rattle.vab_marks.specs.Sector.{are_zeros}
 use Rattle.vab_marks.specs.Status.{FitsStatus, status_of}
+use Rattle.vab_marks.specs.Version.{partitions_under}
 
--- how many sectors hold statuses
+-- how many sectors hold statuses, where the mark has version 2
 abbrev pub status_sectors : ℕ
-status_sectors = 32
+status_sectors = partitions_under Two
 
 -- the first of them
 abbrev pub first_status : ℕ
@@ -116,10 +119,25 @@ statuses_from (suc n) image done =
     go_on (entry_of (first_status + length done) done (image (first_status + length done)))
     (λ status. statuses_from n image (done ++ status ∷ []))
 
--- What the 32 sectors hold, in their order; or the first sector that is neither all zeros nor a
--- status, or that names a partition which a sector before it names.
-unfoldable pub statuses_in : Image → Result (List (Option PartStatus)) ℕ
-statuses_in image = statuses_from status_sectors image []
+-- What the first so many sectors hold, in their order; or the first sector that is neither all
+-- zeros nor a status, or that names a partition which a sector before it names.
+unfoldable pub statuses_of : (count : ℕ) → Image → Result (List (Option PartStatus)) ℕ
+statuses_of count image = statuses_from count image []
+
+-- what all of them hold
+abbrev pub statuses_in : Image → Result (List (Option PartStatus)) ℕ
+statuses_in image = statuses_of status_sectors image
+
+-- these, and none behind them, as many as there are sectors
+abbrev pub filled : Result (List (Option PartStatus)) ℕ → Result (List (Option PartStatus)) ℕ
+filled (Ok l) = Ok (l ++ replicate (status_sectors - partitions_under One) None)
+filled (Err at) = Err at
+
+-- What they hold where the mark has this version: under version 1 the last 32 aren't read, and have
+-- none.
+abbrev pub statuses_under : MarkVersion → Image → Result (List (Option PartStatus)) ℕ
+statuses_under One image = filled (statuses_of (partitions_under One) image)
+statuses_under Two image = statuses_in image
 
 -- no status in any of the sectors
 unfoldable pub no_statuses : List (Option PartStatus)

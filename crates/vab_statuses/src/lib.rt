@@ -1,4 +1,5 @@
-//! The statuses of an update's partitions, in 32 sectors of a disk: a sector for each.
+//! The statuses of an update's partitions, in 64 sectors of a disk: a sector for each. Where the
+//! update mark has version 1, the first 32 are read alone.
 #![tactic(auto)]
 
 mod fault;

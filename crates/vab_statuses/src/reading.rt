@@ -1,13 +1,15 @@
 //! Statuses that are read.
 
-ghost use Rattle.std.specs.Prelude.{◌≡◌, ◌≢◌, ◌<◌, ◌≤◌, ℕ, List, Option, length, IfOk, IfErr};
-ghost use Rattle.std.specs.Prelude.{IfSome, OnErr, Ok, Err, false};
+ghost use Rattle.std.specs.Prelude.{◌≡◌, ◌≢◌, ◌<◌, ◌≤◌, ◌+◌, ℕ, List, Option, length, IfOk, IfErr};
+ghost use Rattle.std.specs.Prelude.{IfSome, OnErr, Ok, Err, None, false, ◌-◌, ◌++◌, replicate};
 ghost use Rattle.std.specs.List.{AllPairs};
 ghost use Rattle.vab_disk.specs.Calls.{OnlyReads, FailsWithDisk};
 ghost use Rattle.vab_marks.specs.declared.status.PartStatus.{PartStatus};
 ghost use Rattle.vab_marks.specs.Sector.{are_zeros};
 ghost use Rattle.vab_statuses.specs.Statuses.{has_name, is_named, status_read, FitsEntry, repeats};
-ghost use Rattle.vab_statuses.specs.Statuses.{entry_of, statuses_in, AreFitting, NamesDiffer};
+ghost use Rattle.vab_statuses.specs.Statuses.{entry_of, statuses_in, statuses_of, AreFitting};
+ghost use Rattle.vab_statuses.specs.Statuses.{NamesDiffer, statuses_under, first_status};
+ghost use Rattle.vab_statuses.specs.Statuses.{status_sectors};
 ghost use Rattle.vab_statuses.specs.Statuses.{written_in, free_in, IsOfStatuses, IsFirstFree};
 ghost use Rattle.vab_statuses.specs.Answers.{TellsBad, CountsFaults};
 
@@ -16,16 +18,17 @@ use arrayvec::ArrayVec;
 use vab_bytes::Name36;
 use vab_disk::Disk;
 use vab_gate::{DiskFault, SECTOR, get_sector};
-use vab_marks::{MarkFault, PartStatus, decode_status};
+use vab_marks::{MarkFault, MarkVersion, PartStatus, decode_status};
+use vab_names::MAX_PARTITIONS;
 
 /// How many sectors hold statuses.
-pub const STATUS_SECTORS: u64 = 32;
+pub const STATUS_SECTORS: u64 = MAX_PARTITIONS as u64;
 
 /// The first of them.
 pub const FIRST_STATUS: u64 = 2049;
 
 /// What the sectors hold, in their order: a status, or none where the sector is all zeros.
-pub type Statuses = ArrayVec<Option<PartStatus>, 32>;
+pub type Statuses = ArrayVec<Option<PartStatus>, MAX_PARTITIONS>;
 
 // Whether no status stands in these bytes: they are all zeros.
 fn is_blank(bytes: &[u8]) -> bool
@@ -125,22 +128,21 @@ fn read_entry<D: Disk>(
     }
 }
 
-/// Reads the statuses, and takes no memory. `Bad` comes exactly where a sector is neither all zeros
-/// nor a status, or names a partition that a sector before it names, with the first such sector.
-pub fn read_statuses<D: Disk>(d: &mut D) -> Result<Statuses, StatusFault>
-    requires { 2081 ≤ D.size d.old }
+// Reads the statuses of the first so many sectors.
+fn read_first<D: Disk>(d: &mut D, count: u64) -> Result<Statuses, StatusFault>
+    requires most { count ≤ status_sectors }
+    requires on_disk { first_status + count ≤ D.size d.old }
     ensures ok { D.is_modelled
-        → IfOk result (λ s. statuses_in (D.seen d.old) ≡ Ok s.items) }
-    ensures bad { D.is_modelled → IfErr result (TellsBad (statuses_in (D.seen d.old))) }
-    ensures all { IfOk result (λ s. length s.items ≡ 32) }
+        → IfOk result (λ s. statuses_of count (D.seen d.old) ≡ Ok s.items) }
+    ensures bad { D.is_modelled → IfErr result (TellsBad (statuses_of count (D.seen d.old))) }
+    ensures all { IfOk result (λ s. length s.items ≡ count) }
     ensures fits { IfOk result (λ s. AreFitting s.items) }
     ensures differ { IfOk result (λ s. NamesDiffer s.items) }
-    ensures names { IfOk result (λ s. AllPairs (λ a b. a.name ≢ b.name) (written_in s.items)) }
     ensures reads { OnlyReads D.Disk d.old d.new }
     ensures counts { CountsFaults D.Disk d.old d.new result }
 {
     let mut statuses = Statuses::new();
-    for i in 0..STATUS_SECTORS {
+    for i in 0..count {
         match read_entry(d, FIRST_STATUS + i, statuses.as_slice()) {
             Ok(status) => statuses.push(status),
             Err(fault) => return Err(fault),
@@ -149,9 +151,46 @@ pub fn read_statuses<D: Disk>(d: &mut D) -> Result<Statuses, StatusFault>
     Ok(statuses)
 }
 
+// Puts none behind these, as many as there are sectors.
+fn fill(statuses: &mut Statuses)
+    requires { length statuses.old.items ≤ status_sectors }
+    ensures { statuses.new.items
+        ≡ statuses.old.items ++ replicate (status_sectors - length statuses.old.items) None }
+{
+    for _ in statuses.len()..STATUS_SECTORS as usize {
+        statuses.push(None);
+    }
+}
+
+/// Reads the statuses where the update mark has this version, and takes no memory: 64 of them, of
+/// which under version 1 the last 32 are none, whatever their sectors hold. `Bad` comes exactly
+/// where a sector that is read is neither all zeros nor a status, or names a partition that a
+/// sector before it names, with the first such sector.
+pub fn read_statuses<D: Disk>(d: &mut D, version: MarkVersion) -> Result<Statuses, StatusFault>
+    requires { first_status + status_sectors ≤ D.size d.old }
+    ensures ok { D.is_modelled
+        → IfOk result (λ s. statuses_under version (D.seen d.old) ≡ Ok s.items) }
+    ensures bad { D.is_modelled
+        → IfErr result (TellsBad (statuses_under version (D.seen d.old))) }
+    ensures all { IfOk result (λ s. length s.items ≡ status_sectors) }
+    ensures fits { IfOk result (λ s. AreFitting s.items) }
+    ensures differ { IfOk result (λ s. NamesDiffer s.items) }
+    ensures names { IfOk result (λ s. AllPairs (λ a b. a.name ≢ b.name) (written_in s.items)) }
+    ensures reads { OnlyReads D.Disk d.old d.new }
+    ensures counts { CountsFaults D.Disk d.old d.new result }
+{
+    match read_first(d, version.partitions() as u64) {
+        Ok(mut statuses) => {
+            fill(&mut statuses);
+            Ok(statuses)
+        }
+        Err(fault) => Err(fault),
+    }
+}
+
 /// The first of the sectors that is all zeros, `None` exactly where there is none. Takes no memory.
 pub fn first_free<D: Disk>(d: &mut D) -> Result<Option<u64>, DiskFault>
-    requires { 2081 ≤ D.size d.old }
+    requires { first_status + status_sectors ≤ D.size d.old }
     ensures first { D.is_modelled → IfOk result (IsFirstFree (D.seen d.old)) }
     // It is the first without a status, where the statuses are good.
     ensures free { D.is_modelled

@@ -1,12 +1,13 @@
 //! Statuses that are written.
 
-ghost use Rattle.std.specs.Prelude.{◌≡◌, ◌<◌, ◌≤◌, List, Option, Some, None, Ok, OnOk};
+ghost use Rattle.std.specs.Prelude.{◌≡◌, ◌+◌, ◌<◌, ◌≤◌, List, Option, Some, None, Ok, OnOk};
 ghost use Rattle.vab_disk.specs.Disk.{LeavesEither, Adds, IsAt, set_sector};
 ghost use Rattle.vab_disk.specs.Calls.{IsAtRest, InSectors, Touches, FailsWithDisk};
 ghost use Rattle.vab_marks.specs.declared.status.PartStatus.{PartStatus};
 ghost use Rattle.vab_marks.specs.Status.{status_spelling, status_of};
 ghost use Rattle.vab_statuses.specs.Statuses.{IsOfStatuses, statuses_in, free_in, written_in};
 ghost use Rattle.vab_statuses.specs.Statuses.{status_named, with_status, no_statuses};
+ghost use Rattle.vab_statuses.specs.Statuses.{first_status, status_sectors};
 
 use crate::{FIRST_STATUS, STATUS_SECTORS};
 use vab_disk::Disk;
@@ -15,7 +16,7 @@ use vab_marks::{PartStatus, encode_status};
 
 /// Writes zeros over the sectors of the statuses, and doesn't sync.
 pub fn clear_statuses<D: Disk>(d: &mut D) -> Result<(), DiskFault>
-    requires { 2081 ≤ D.size d.old }
+    requires { first_status + status_sectors ≤ D.size d.old }
     ensures none { D.is_modelled
         → OnOk result (statuses_in (D.seen d.new) ≡ Ok no_statuses) }
     ensures touches { Touches D.Disk (InSectors IsOfStatuses) d.old d.new }

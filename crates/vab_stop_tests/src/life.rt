@@ -53,11 +53,12 @@ pub(crate) const LIFE: &[Verb<'static>] = &[
 // The same of a device whose update is being installed.
 const ANEW: &[Verb<'static>] = &[CANCEL, INSTALL, ACTIVATE_B, BOOT, MARK, BEGIN_MERGE, MERGE];
 
-// Where a small device has its bytes: boot control, the mark and the first statuses, the geometry,
-// the tables and its first blocks.
-const PLACES: [(u64, u64); 5] = [
+// Where a small device has its bytes: boot control, the mark and the first statuses, those that
+// version 2 of the mark adds, the geometry, the tables and its first blocks.
+const PLACES: [(u64, u64); 6] = [
     (4, 5),
     (2048, 2051),
+    (2081, 2113),
     (4104, 4105),
     (4112, 4128),
     (6144, 6224),

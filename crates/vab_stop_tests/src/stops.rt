@@ -6,7 +6,8 @@ use crate::life::*;
 use std::alloc::Global;
 use std::process::Abort;
 use std::test::Fail;
-use vab_disk::{Blend, CallKind, MemPort};
+use vab_bytes::{crc32, put_le32};
+use vab_disk::{Blend, CallKind, Disk, MemPort};
 
 // A small disk: 32 blocks.
 const SMALL: u64 = 6400;
@@ -64,14 +65,12 @@ const SERVING: Trial = Trial {
     steps: STEPS,
 };
 
+const ONE_TURN: Verb<'static> = (&["merge", "1"], b"");
+
 const MERGING: Trial = Trial {
     before: 6,
     verb: MERGE,
-    steps: &[
-        (&["merge", "1"], b""),
-        (&["merge", "1"], b""),
-        (&["merge", "1"], b""),
-    ],
+    steps: &[ONE_TURN, ONE_TURN, ONE_TURN],
 };
 
 // The verbs of few writes.
@@ -258,6 +257,53 @@ fn stops(rt: &impl Abort, alloc: Global, trial: &Trial, blends: [Blend; 2]) -> R
     Cut::new(rt, alloc, trial)?.stops(rt, alloc, blends)
 }
 
+// Writes the sum of a sector.
+fn put_sum(bytes: &mut [u8; 512]) {
+    let sum = crc32(&bytes[..508]);
+    put_le32(bytes, 508, sum);
+}
+
+// A mark as it was under version 1.
+fn as_version_1(mut mark: [u8; 512]) -> [u8; 512] {
+    mark[4] = 1;
+    put_sum(&mut mark);
+    mark
+}
+
+// That disk as it was under version 1 of the mark, with other bytes where version 2 adds statuses.
+fn of_version_1(d: MemPort) -> Result<MemPort, Fail> {
+    let mut d = d;
+    let mut mark = [0u8; 512];
+    if d.sectors() < 2113 || d.read_sector(2048, &mut mark).is_err() {
+        return Err("a mark is read".into());
+    }
+    for (at, bytes) in [
+        (2048, as_version_1(mark)),
+        (2081, [0xff; 512]),
+        (2100, [0xff; 512]),
+        (2112, [0xff; 512]),
+    ] {
+        if at >= d.sectors() || d.write_sector(at, &bytes).is_err() {
+            return Err("a sector is written".into());
+        }
+    }
+    left_by(&d, Blend::New)
+}
+
+// A verb of one step on that disk is stopped at each of its writes and syncs.
+fn stops_of_version_1(
+    rt: &impl Abort,
+    alloc: Global,
+    start: MemPort,
+    verb: Verb<'static>,
+) -> Result<(), Fail> {
+    let pages = pages(rt, alloc, left_by(&start, Blend::New)?, &[verb])?;
+    let start = of_version_1(start)?;
+    let cut = Cut { start, verb, pages };
+    cut.stops(rt, alloc, WHOLE)?;
+    cut.stops(rt, alloc, MIXED)
+}
+
 // Each call of a verb fails once.
 fn faults(rt: &impl Abort, alloc: Global, trial: &Trial) -> Result<(), Fail> {
     let cut = Cut::new(rt, alloc, trial)?;
@@ -323,6 +369,20 @@ fn a_merge_is_stopped_anywhere(rt: HostRuntime) -> Result<(), Fail> {
 #[test]
 fn a_merge_is_stopped_anywhere_over_mixed_sectors(rt: HostRuntime) -> Result<(), Fail> {
     stops(&rt, rt.alloc(), &MERGING, MIXED)
+}
+
+// Without an update, while one is installed, with one that is ready, that is merged, and that was
+// merged and isn't tidied.
+#[test]
+fn a_device_of_version_1_is_stopped_anywhere(rt: HostRuntime) -> Result<(), Fail> {
+    let alloc = rt.alloc();
+    let steps = STEPS.get(..4).unwrap_or(STEPS);
+    let installing = all_done(&rt, alloc, behind(&rt, alloc, 1)?, steps)?;
+    stops_of_version_1(&rt, alloc, left_by(&installing, Blend::New)?, ACTIVATE_A)?;
+    for (before, verb) in [(1, BOOT), (2, CANCEL), (6, ONE_TURN), (7, BOOT)] {
+        stops_of_version_1(&rt, alloc, behind(&rt, alloc, before)?, verb)?;
+    }
+    Ok(())
 }
 
 #[test]

@@ -19,6 +19,7 @@ use Rattle.vab_survey.specs.declared.found.Behind.{Behind}
 use Rattle.vab_survey.specs.declared.finding.Finding.{Finding}
 use Rattle.vab_survey.specs.declared.finding.Finding.TheVariants.{Fine, Wrong, Unread}
 use Rattle.vab_survey.specs.declared.parts.Parts.{Parts}
+use Rattle.vab_device.specs.Reading.{most_at}
 
 -- ---- one part
 
@@ -79,9 +80,10 @@ abbrev pub FindsParts : (partitions stores : Finding)
     → Image
     → Type 0
 FindsParts Fine s t m said image =
-    (fault_of m.phase m.slot t.source.table t.target ≡ None) × FindsScans s t m said image
+    (fault_of (most_at image) m.phase m.slot t.source.table t.target ≡ None)
+    × FindsScans s t m said image
 FindsParts (Wrong fault) s t m said image =
-    (fault_of m.phase m.slot t.source.table t.target ≡ Some fault) × (s ≡ Unread)
+    (fault_of (most_at image) m.phase m.slot t.source.table t.target ≡ Some fault) × (s ≡ Unread)
 FindsParts Unread s t m said image = ⊥
 
 -- The tables, and what stands on them, which is unread where they are wrong.

@@ -2,6 +2,7 @@
 use Rattle.std.specs.Prelude.{◌≡◌, ℕ, false, nat_le, Err, IsOk, MatchOption}
 use Rattle.vab_disk.specs.Disk.{Image}
 use Rattle.vab_marks.specs.Mark.{mark_of}
+use Rattle.vab_marks.specs.Version.{version_in}
 use Rattle.vab_geometry.specs.Reading.{geometry_of}
 use Rattle.vab_device.specs.declared.fault.StartFault.{StartFault}
 use Rattle.vab_device.specs.Reading.{device, geometry_at}
@@ -19,6 +20,7 @@ pub record AreGeometries (image : Image) (g : Geometries) : Type 0 where
 -- The tables stand where the geometry says, and nowhere without one.
 pub record IsDetailed (size : ℕ) (image : Image) (x : Details) : Type 0 where
   pub mark : x.mark ≡ mark_of (image 2048)
+  pub version : x.version ≡ version_in (image 2048)
   pub parts : AreFound size image x.parts
   pub geometries : AreGeometries image x.geometries
   pub tables : MatchOption x.tables

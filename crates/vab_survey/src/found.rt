@@ -1,16 +1,19 @@
 //! The readers of the parts, where a fault of what the disk holds is no failure.
 
 ghost use Rattle.std.specs.Prelude.{◌≡◌, ◌<◌, ◌≤◌, Bool, true, IfOk, IfErr, IfSome, IsNone, OnOk};
-ghost use Rattle.std.specs.Prelude.{Ok, Err};
+ghost use Rattle.std.specs.Prelude.{Ok, Err, Some, None};
 ghost use Rattle.vab_disk.specs.Calls.{OnlyReads};
+ghost use Rattle.vab_tables.specs.Rules.{KeepsRules};
 ghost use Rattle.vab_geometry.specs.Geometry.{IsGeometry};
 ghost use Rattle.vab_layout.specs.Layout.{layout_of};
 ghost use Rattle.vab_partitions.specs.Merging.{IsMerging};
 ghost use Rattle.vab_device.specs.Faults.{IsOfContents, IsOfDisk};
 ghost use Rattle.vab_device.specs.Kept.{copies_end, super_bytes, AreOfUpdate};
 ghost use Rattle.vab_device.specs.Reading.{mark_in, statuses_at, control_in, geometry_at};
+ghost use Rattle.vab_device.specs.Reading.{most_at};
 ghost use Rattle.vab_tidy.specs.Counts.{CountsFaults};
 ghost use Rattle.vab_recover.specs.Opened.{reads_statuses, is_merging, AreTablesThere};
+ghost use Rattle.vab_recover.specs.Opened.{fault_of};
 ghost use Rattle.vab_survey.specs.Findings.{Finds, FindsScans, FindsBehind, IsUnread};
 ghost use Rattle.vab_survey.specs.Findings.{tables_asked, listed};
 
@@ -22,7 +25,7 @@ use vab_geometry::Geometry;
 use vab_marks::UpdateMark;
 use vab_recover::{
     Tables, judge_parts, read_control, read_geometry, read_if, read_mark, read_plan, read_tables,
-    reads_statuses,
+    read_version, reads_statuses,
 };
 use vab_statuses::Statuses;
 
@@ -101,7 +104,7 @@ pub(crate) fn said_statuses<D: Disk>(
     d: &mut D,
     mark: &UpdateMark,
 ) -> Result<Said<Statuses>, StartFault>
-    requires { 2081 ≤ D.size d.old }
+    requires { 2113 ≤ D.size d.old }
     ensures fine { D.is_modelled → IfOk result (λ r. IfOk r
         (λ ss. statuses_at (reads_statuses mark.now.phase) (D.seen d.old) ≡ Ok ss.items)) }
     ensures wrong { D.is_modelled → IfOk result (λ r. IfErr r
@@ -110,9 +113,12 @@ pub(crate) fn said_statuses<D: Disk>(
     ensures reads { OnlyReads D.Disk d.old d.new }
     ensures counts { CountsFaults D.Disk d.old d.new result }
 {
-    match read_if(d, reads_statuses(mark.phase)) {
-        Ok(statuses) => Ok(Ok(statuses)),
-        Err(fault) if is_of_contents(&fault) => Ok(Err(fault)),
+    match read_version(d) {
+        Ok(version) => match read_if(d, reads_statuses(mark.phase), version) {
+            Ok(statuses) => Ok(Ok(statuses)),
+            Err(fault) if is_of_contents(&fault) => Ok(Err(fault)),
+            Err(fault) => Err(fault),
+        },
         Err(fault) => Err(fault),
     }
 }
@@ -167,6 +173,37 @@ fn found_stores<D: Disk>(
     }
 }
 
+// Whether the partitions keep their rules, as many as the mark's version has room for.
+fn judge_under<D: Disk>(
+    alloc: Global,
+    d: &mut D,
+    tables: &Tables,
+    mark: &UpdateMark,
+) -> Result<(), StartFault>
+    requires enough { 4120 ≤ D.size d.old }
+    requires slot { mark.now.slot < 2 }
+    requires source { KeepsRules tables.now.source.table }
+    requires target { IfSome tables.now.target (λ l. KeepsRules l.table) }
+    ensures kept { D.is_modelled → OnOk result (fault_of (most_at (D.seen d.old)) mark.now.phase
+        mark.now.slot tables.now.source.table tables.now.target ≡ None) }
+    ensures fault { D.is_modelled → IfErr result (λ f. IsOfContents f
+        → fault_of (most_at (D.seen d.old)) mark.now.phase mark.now.slot
+        tables.now.source.table tables.now.target
+        ≡ Some f) }
+    ensures update { OnOk result (IfSome tables.now.target
+        (λ l. AreOfUpdate mark.now.slot tables.now.source.table l.table)) }
+    ensures merging { OnOk result (IsNone tables.now.target
+        → is_merging mark.now.phase ≡ true
+        → IsMerging mark.now.slot (layout_of tables.now.source.table).parts) }
+    ensures reads { OnlyReads D.Disk d.old d.new }
+    ensures counts { CountsFaults D.Disk d.old d.new result }
+{
+    match read_version(d) {
+        Ok(version) => judge_parts(alloc, tables, mark, version.partitions()),
+        Err(fault) => Err(fault),
+    }
+}
+
 /// The tables that are read of a device with this mark, their partitions, and the stores that its
 /// statuses name, where these are read.
 pub(crate) fn found_tables<D: Disk>(
@@ -188,7 +225,7 @@ pub(crate) fn found_tables<D: Disk>(
     ensures counts { CountsFaults D.Disk d.old d.new result }
 {
     match read_tables(alloc, d, geometry, mark) {
-        Ok(tables) => match judge_parts(alloc, &tables, mark) {
+        Ok(tables) => match judge_under(alloc, d, &tables, mark) {
             Ok(()) => match found_stores(alloc, d, geometry, &tables, mark, statuses) {
                 Ok(stores) => Ok(Behind {
                     tables: Finding::Fine,

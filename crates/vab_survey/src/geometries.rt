@@ -1,8 +1,9 @@
-//! The copies of the geometry, and the mark as it stands.
+//! The copies of the geometry, and the mark as it stands with its version.
 
 ghost use Rattle.std.specs.Prelude.{◌≡◌, ◌<◌, ◌≤◌, IfOk, IfErr};
 ghost use Rattle.vab_disk.specs.Calls.{OnlyReads};
 ghost use Rattle.vab_marks.specs.Mark.{mark_of};
+ghost use Rattle.vab_marks.specs.Version.{version_in};
 ghost use Rattle.vab_device.specs.Faults.{IsOfDisk};
 ghost use Rattle.vab_tidy.specs.Counts.{CountsFaults};
 ghost use Rattle.vab_survey.specs.Surveyed.{AreGeometries};
@@ -11,7 +12,7 @@ use vab_device::StartFault;
 use vab_disk::Disk;
 use vab_gate::get_sector;
 use vab_geometry::{BACKUP, Geometry, GeometryFault, PRIMARY, decode_geometry};
-use vab_marks::{MarkFault, UpdateMark, decode_mark};
+use vab_marks::{MarkFault, MarkVersion, UpdateMark, decode_mark};
 use vab_recover::MARK_SECTOR;
 
 /// Both copies of the geometry, each by itself.
@@ -38,16 +39,19 @@ fn read<D: Disk>(d: &mut D, at: u64) -> Result<[u8; 512], StartFault>
     }
 }
 
-/// The mark as it stands.
-pub(crate) fn read_mark<D: Disk>(d: &mut D) -> Result<Result<UpdateMark, MarkFault>, StartFault>
+/// The mark as it stands, and the version that its sector says.
+pub(crate) fn read_mark<D: Disk>(
+    d: &mut D,
+) -> Result<(Result<UpdateMark, MarkFault>, MarkVersion), StartFault>
     requires { 2048 < D.size d.old }
-    ensures mark { D.is_modelled → IfOk result (λ m. m ≡ mark_of (D.seen d.old 2048)) }
+    ensures mark { D.is_modelled → IfOk result (λ r. r.0 ≡ mark_of (D.seen d.old 2048)) }
+    ensures version { D.is_modelled → IfOk result (λ r. r.1 ≡ version_in (D.seen d.old 2048)) }
     ensures failed { IfErr result IsOfDisk }
     ensures reads { OnlyReads D.Disk d.old d.new }
     ensures counts { CountsFaults D.Disk d.old d.new result }
 {
     match read(d, MARK_SECTOR) {
-        Ok(sector) => Ok(decode_mark(&sector)),
+        Ok(sector) => Ok((decode_mark(&sector), MarkVersion::of_mark(&sector))),
         Err(fault) => Err(fault),
     }
 }

@@ -41,7 +41,7 @@ pub struct Parts {
 
 // The mark, and the statuses, which without a mark are wrong.
 fn read_marks<D: Disk>(d: &mut D) -> Result<(Said<UpdateMark>, Said<Statuses>), StartFault>
-    requires { 2081 ≤ D.size d.old }
+    requires { 2113 ≤ D.size d.old }
     ensures mark { D.is_modelled → IfOk result (λ r. mark_in (D.seen d.old) ≡ r.0) }
     ensures slot { IfOk result (λ r. IfOk r.0 (λ m. m.slot < 2)) }
     ensures statuses { D.is_modelled

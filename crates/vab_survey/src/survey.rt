@@ -4,6 +4,7 @@ ghost use Rattle.std.specs.Prelude.{◌≡◌, ◌≤◌, IfOk, IfErr, IfSome, I
 ghost use Rattle.std.specs.Prelude.{nat_le, false, OnOk, Some};
 ghost use Rattle.vab_disk.specs.Calls.{OnlyReads};
 ghost use Rattle.vab_marks.specs.Mark.{mark_of};
+ghost use Rattle.vab_marks.specs.Version.{version_in};
 ghost use Rattle.vab_device.specs.declared.fault.StartFault.{StartFault as Fault};
 ghost use Rattle.vab_device.specs.Faults.{IsOfContents, IsOfDisk};
 ghost use Rattle.vab_device.specs.Reading.{device, geometry_at};
@@ -19,7 +20,7 @@ use crate::tables::{TablesPage, tables_at};
 use std::alloc::Global;
 use vab_device::StartFault;
 use vab_disk::Disk;
-use vab_marks::{MarkFault, UpdateMark};
+use vab_marks::{MarkFault, MarkVersion, UpdateMark};
 use vab_recover::{MIN_SECTORS, probe};
 
 /// The parts of a disk that is large enough.
@@ -27,6 +28,8 @@ use vab_recover::{MIN_SECTORS, probe};
 pub struct Details {
     /// The mark as it stands, also behind a merge that has ended.
     pub mark: Result<UpdateMark, MarkFault>,
+    /// The version of the mark, where there is one.
+    pub version: MarkVersion,
     pub parts: Parts,
     pub geometries: Geometries,
     /// The copies of both slots' tables, where there is a geometry.
@@ -93,22 +96,23 @@ fn tables_there<D: Disk>(alloc: Global, d: &mut D) -> Result<Option<TablesPage>,
     }
 }
 
-// What stands in three sectors: the mark and both copies of the geometry.
+// What stands in three sectors: the mark with its version, and both copies of the geometry.
 fn read_sectors<D: Disk>(
     d: &mut D,
-) -> Result<(Result<UpdateMark, MarkFault>, Geometries), StartFault>
+) -> Result<(Result<UpdateMark, MarkFault>, MarkVersion, Geometries), StartFault>
     requires { 4120 ≤ D.size d.old }
     ensures mark { D.is_modelled → IfOk result (λ r. r.0 ≡ mark_of (D.seen d.old 2048)) }
-    ensures geometries { D.is_modelled → IfOk result (λ r. AreGeometries (D.seen d.old) r.1) }
+    ensures version { D.is_modelled → IfOk result (λ r. r.1 ≡ version_in (D.seen d.old 2048)) }
+    ensures geometries { D.is_modelled → IfOk result (λ r. AreGeometries (D.seen d.old) r.2) }
     ensures failed { IfErr result (λ f. IsOfContents f → ⊥) }
     ensures reads { OnlyReads D.Disk d.old d.new }
     ensures counts { CountsFaults D.Disk d.old d.new result }
 {
     match read_mark(d) {
         Err(fault) => Err(fault),
-        Ok(mark) => match read_geometries(d) {
+        Ok((mark, version)) => match read_geometries(d) {
             Err(fault) => Err(fault),
-            Ok(geometries) => Ok((mark, geometries)),
+            Ok(geometries) => Ok((mark, version, geometries)),
         },
     }
 }
@@ -124,12 +128,13 @@ fn read_details<D: Disk>(alloc: Global, d: &mut D) -> Result<Details, StartFault
 {
     match read_sectors(d) {
         Err(fault) => Err(fault),
-        Ok((mark, geometries)) => match read_parts(alloc, d) {
+        Ok((mark, version, geometries)) => match read_parts(alloc, d) {
             Err(fault) => Err(fault),
             Ok(parts) => match tables_there(alloc, d) {
                 Err(fault) => Err(fault),
                 Ok(tables) => Ok(Details {
                     mark,
+                    version,
                     parts,
                     geometries,
                     tables,

@@ -16,7 +16,7 @@ use Rattle.vab_marks.specs.declared.mark.MarkPhase.TheVariants as marks
 use Rattle.vab_marks.specs.declared.status.PartStatus.{PartStatus}
 use Rattle.vab_tables.specs.declared.table.Table.{Table}
 use Rattle.vab_geometry.specs.declared.geometry.Geometry.{Geometry}
-use Rattle.vab_names.specs.Names.{is_of_slot, in_slot, store_of, default_name}
+use Rattle.vab_names.specs.Names.{is_of_slot, in_slot, store_of, default_name, most_partitions}
 use Rattle.vab_names.proofs.NameCases.{ne_name, default_not_own}
 use Rattle.vab_layout.specs.declared.layout.Part.{Part}
 use Rattle.vab_layout.specs.declared.layout.Layout.{Layout}
@@ -52,6 +52,7 @@ use Rattle.vab_device.specs.Stores.{Scanned}
 use Rattle.vab_device.specs.Updates.{effect_on, begin_effect, begun_effect, table_effect, layout_at}
 use Rattle.vab_device.specs.Updates.{image_or, entry_by, plan_by}
 use Rattle.vab_device.proofs.CheckLaws.{first_kept, check_kept}
+use Rattle.vab_device.proofs.MostLaws.{parts_all}
 use Rattle.vab_device.proofs.OwnParts.{parts_kept, length-sectors_of}
 use Rattle.vab_device.proofs.ReadingLaws.{device_was, idle_read_of, slot_below}
 use Rattle.vab_device.proofs.StayLaws.{one_of}
@@ -310,8 +311,9 @@ module _
   parts : AreParts size (parts_of slot (layout_of t))
   parts =
       let own : IsOwn slot (layout_of t).parts =
-      own_kept slot (layout_of t).parts
-      (none_named _ (first_kept (own_check slot t) [] reads.parts).0) in
+      own_kept most_partitions slot (layout_of t).parts (omega arith)
+      (none_named _
+      (first_kept (own_check most_partitions slot t) [] (parts_all r image reads.parts)).0) in
       let read : IsRead size g t =
       table_rules size image g slot t whole enough lower reads.geometry table in
       parts_kept size slot g (layout_of t) enough (layout_keeps t read.rules) own read.lies

@@ -55,9 +55,11 @@ free_or_none image (suc n) = elim (free_or_none image n) [
   ]
 ]
 
-pub first_free : (image : Image) (f : IsFree image 32) → IsFirstFree image (Some (2049 + f.place))
-first_free image f = (
-  record { from = omega arith; below = omega (arith, f.below) },
+pub first_free : (image : Image) (n : ℕ) (f : IsFree image n)
+    → n ≤ 64
+    → IsFirstFree image (Some (2049 + f.place))
+first_free image n f small = (
+  record { from = omega arith; below = omega (arith, f.below, small) },
   f.zeros,
   λ s between.
       let same : 2049 + (s - 2049) ≡ s = omega (arith, between.from) in
@@ -65,7 +67,7 @@ first_free image f = (
       (f.before (s - 2049) (omega (arith, between.from, between.below))),
 )
 
-pub none_first : (image : Image) → NoneFree image 32 → IsFirstFree image None
+pub none_first : (image : Image) → NoneFree image 64 → IsFirstFree image None
 none_first image none s there =
     let same : 2049 + (s - 2049) ≡ s = omega (arith, there.from) in
     subst (λ (k : ℕ). are_zeros (image k) ≡ false) same
@@ -78,6 +80,22 @@ pub all_written : (at : ℕ) (l : List (Option PartStatus))
 all_written at [] h = refl
 all_written at (None ∷ rest) h = absurd (let no : Some at ≡ None = h in cc)
 all_written at (Some s ∷ rest) h = ap suc (all_written (at + 1) rest h)
+
+-- there are as many statuses or more as sectors before the first that is free
+pub before_free : (at : ℕ) (l : List (Option PartStatus)) (k : ℕ)
+    → free_from at l ≡ Some (at + k)
+    → k ≤ length (written_in l)
+before_free at [] k h = absurd (let no : None ≡ Some (at + k) = h in cc)
+before_free at (None ∷ rest) k h =
+    let first : Some at ≡ Some (at + k) = h in
+    let same : at ≡ at + k = cc in
+    omega (arith, same)
+before_free at (Some s ∷ rest) zero h = omega arith
+before_free at (Some s ∷ rest) (suc k) h =
+    let next : at + suc k ≡ at + 1 + k = omega arith in
+    let later : k ≤ length (written_in rest) =
+    before_free (at + 1) rest k (h ∙ ap (λ (n : ℕ). Some n) next) in
+    omega (arith, later)
 
 -- ---- names of partitions
 

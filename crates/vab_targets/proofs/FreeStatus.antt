@@ -1,6 +1,6 @@
 -- A flash that is done is of a partition that no status names, so a sector of statuses is free.
-use Rattle.std.proofs.Common.{◌≡◌, ◌≢◌, ◌∙◌, inl, inr, ℕ, ◌+◌, Bool, true, false, List, [], ◌∷◌}
-use Rattle.std.proofs.Common.{length, map, Option, Some, None, Result, Ok, Err}
+use Rattle.std.proofs.Common.{◌≡◌, ◌≢◌, ◌∙◌, inl, inr, ℕ, ◌+◌, ◌≤◌, Bool, true, false, List, []}
+use Rattle.std.proofs.Common.{◌∷◌, length, map, Option, Some, None, Result, Ok, Err}
 use Rattle.std.proofs.Common.{sym, ap, subst, arith, refl}
 use Rattle.std.specs.Prelude.{if◌then◌else◌, option_map, All, AllPairs, Contains}
 use Rattle.std.specs.Str.{bytes_eq}
@@ -14,20 +14,22 @@ use Rattle.vab_names.proofs.NameCases.{eq_name}
 use Rattle.vab_marks.specs.declared.mark.MarkPhase.{MarkPhase}
 use Rattle.vab_marks.specs.declared.mark.MarkPhase.TheVariants as marks
 use Rattle.vab_marks.specs.declared.status.PartStatus.{PartStatus}
-use Rattle.vab_statuses.specs.Statuses.{statuses_in, written_in, IsFirstFree}
-use Rattle.vab_statuses.proofs.ReadLaws.{statuses_found}
-use Rattle.vab_statuses.proofs.StatusesLaws.{names_differ, first_is_free}
+use Rattle.vab_marks.specs.declared.version.MarkVersion.{MarkVersion}
+use Rattle.vab_marks.specs.Version.{partitions_under}
+use Rattle.vab_statuses.specs.Statuses.{statuses_under, written_in, IsFirstFree}
+use Rattle.vab_statuses.proofs.StatusesLaws.{names_differ}
 use Rattle.vab_tables.specs.declared.table.Table.{Table}
 use Rattle.vab_blocks.proofs.Contained.{first, later}
 use Rattle.vab_layout.specs.declared.layout.Part.{Part as PartOfLayout}
 use Rattle.vab_layout.specs.declared.layout.Layout.{Layout}
 use Rattle.vab_layout.specs.Layout.{layout_of}
-use Rattle.vab_layout.specs.Slots.{other_slot, own_parts, is_updated, IsTargetPart, IsTarget}
+use Rattle.vab_layout.specs.Slots.{other_slot, own_parts, is_updated, IsTargetPart}
 use Rattle.vab_exceptions.specs.declared.area.Exception.{Exception}
 use Rattle.vab_space.specs.declared.Chunk.TheVariants.{One}
 use Rattle.vab_store.specs.declared.fault.StoreFault.{StoreFault}
 use Rattle.vab_store.specs.Scan.{scan_of}
 use Rattle.vab_builder.proofs.Counting.{pairs_map}
+use Rattle.vab_partitions.specs.Target.{FitsTarget}
 use Rattle.vab_partitions.specs.TargetRules.{bad_target_of}
 use Rattle.vab_partitions.proofs.BadTarget.{no_bad_target}
 use Rattle.vab_model.specs.declared.state.PlanEntry.{PlanEntry}
@@ -50,7 +52,7 @@ use Rattle.vab_device.specs.Stores.{Wanted, Scanned, first_named, wanted_by, wan
 use Rattle.vab_device.specs.Stores.{scan_read, scan_at, scans_in, exceptions_of}
 use Rattle.vab_device.specs.Phases.{phase_at, twin_check, own_check, target_check, update_checks}
 use Rattle.vab_device.specs.Phases.{planned_image, planned_on, plan_of}
-use Rattle.vab_device.specs.Reading.{Read, kept, statuses_read, statuses_at}
+use Rattle.vab_device.specs.Reading.{Read, kept, version_at, most_at, statuses_read, statuses_at}
 use Rattle.vab_device.specs.Updates.{effect_on, flash_effect, entry_effect, entry_named}
 use Rattle.vab_device.specs.Updates.{stored_effect}
 use Rattle.vab_device.proofs.CheckLaws.{bound, first_kept}
@@ -59,7 +61,8 @@ use Rattle.vab_device.proofs.ReadingLaws.{device_was}
 use Rattle.vab_marks.specs.Mark.{mark_at}
 use Rattle.vab_targets.specs.Statuses.{FlashFindsFree}
 use Rattle.vab_targets.proofs.FewNames.{IsNamed, named_in_list, few_names}
-use Rattle.vab_targets.proofs.FewNames.{NoneFree, free_or_none, first_free, none_first, all_written}
+use Rattle.vab_targets.proofs.FewNames.{NoneFree, free_or_none, first_free}
+use Rattle.vab_targets.proofs.Filled.{few_under, differ_under, filled}
 
 -- ---- what a flash that is done says of its partition
 
@@ -294,26 +297,22 @@ each_other slot l name (s ∷ ss) image scanned read none =
 -- ---- one of the sectors is free
 
 -- statuses in all sectors would be of more partitions than a target has
-too_many : (slot : ℕ) (source : List PartOfLayout) (l : Layout)
+too_many : (v : MarkVersion) (slot : ℕ) (source : List PartOfLayout) (l : Layout)
     (statuses : List (Option PartStatus)) (scanned : List Scanned) (image : Image)
-    → IsTarget slot source l.parts
-    → statuses_in image ≡ Ok statuses
+    → FitsTarget (partitions_under v) slot source l.parts
+    → statuses_under v image ≡ Ok statuses
     → scans_in (map (wanted_of slot l) (written_in statuses)) image ≡ Ok scanned
     → IsFlashed l scanned (own_parts slot l.parts)
-    → NoneFree image 32
+    → NoneFree image (partitions_under v)
     → ⊥
-too_many slot source l statuses scanned image target read scans f none =
+too_many v slot source l statuses scanned image target read scans f none =
     let own : List PartOfLayout = own_parts slot l.parts in
     let p : PartOfLayout = f.part in
     let ss : List PartStatus = written_in statuses in
-    let listed = statuses_found image statuses read in
     let marked = updated slot source l.parts p f.store
-    (All-contains (IsTargetPart slot source l.parts) own p target.each f.has) f.stored in
+    (All-contains (IsTargetPart slot source l.parts) own p target.is.each f.has) f.stored in
     let unread = not_read (is_updated p) (exceptions_of p.name scanned) marked f.unwritten in
     let others = each_other slot l p.name ss image scanned scans unread in
-    let written =
-    all_written 2049 statuses (sym (first_is_free image statuses None read (none_first image none)))
-    in
     let names : List (List ℕ) = map (λ (s : PartStatus). s.name) ss in
     let named : All (IsNamed own) (p.name ∷ names) =
     All-cons (IsNamed own) p.name names (named_in_list own p f.has)
@@ -323,36 +322,37 @@ too_many slot source l statuses scanned image target read scans f none =
     (All-map (λ (name : List ℕ). p.name ≢ name) (λ (s : PartStatus). s.name) ss
     (λ k d lt. (others k d lt).other))
     (pairs_map (λ a b. a ≢ b) (λ (s : PartStatus). s.name) ss
-    (names_differ statuses listed.differ)) in
+    (names_differ statuses (differ_under v image statuses read))) in
     omega (
       arith,
       few_names own (p.name ∷ names) named apart,
       length-map ss (λ (s : PartStatus). s.name),
-      written,
-      listed.all,
-      target.own.few,
+      filled v image statuses read none,
+      target.few,
     )
 
 none_named : (x : Option (List ℕ)) → names_none x ≡ None → x ≡ None
 none_named None h = refl
 none_named (Some name) h = absurd cc
 
-target_of : (slot : ℕ) (s t : Table)
-    → first_fault (update_checks slot s t) ≡ None
-    → IsTarget (other_slot slot) (layout_of s).parts (layout_of t).parts
-target_of slot s t none =
+target_of : (most slot : ℕ) (s t : Table)
+    → most ≤ 64
+    → first_fault (update_checks most slot s t) ≡ None
+    → FitsTarget most (other_slot slot) (layout_of s).parts (layout_of t).parts
+target_of most slot s t small none =
     let k : ℕ = other_slot slot in
-    let twin = first_kept (twin_check k s t) (own_check slot s ∷ target_check k s t ∷ []) none in
-    let own = first_kept (own_check slot s) (target_check k s t ∷ []) twin.1 in
-    let target = first_kept (target_check k s t) [] own.1 in
-    no_bad_target k (layout_of s).parts (layout_of t).parts
-    (none_named (bad_target_of k (layout_of s).parts (layout_of t).parts) target.0)
+    let twin = first_kept (twin_check k s t)
+    (own_check most slot s ∷ target_check most k s t ∷ []) none in
+    let own = first_kept (own_check most slot s) (target_check most k s t ∷ []) twin.1 in
+    let target = first_kept (target_check most k s t) [] own.1 in
+    no_bad_target most k (layout_of s).parts (layout_of t).parts small
+    (none_named (bad_target_of most k (layout_of s).parts (layout_of t).parts) target.0)
 
 statuses_were : (image : Image) (l : List (Option PartStatus))
     → statuses_at true image ≡ Ok l
-    → statuses_in image ≡ Ok l
+    → statuses_under (version_at image) image ≡ Ok l
 unfolding statuses_at
-statuses_were image l h = by_result (statuses_in image) l h
+statuses_were image l h = by_result (statuses_under (version_at image) image) l h
   where
     by_result : (x : Result (List (Option PartStatus)) ℕ) (l : List (Option PartStatus))
         → statuses_read x ≡ Ok l
@@ -377,7 +377,7 @@ module _ (slot : ℕ) (statuses : List (Option PartStatus)) (scanned : List Scan
     (m : Mounted) (staged : Option (List ℕ)) (name : List ℕ) where
   -- while an update is installed, with the tables of source and target
   installing_finds : (s t : Table)
-      → first_fault (update_checks slot s t) ≡ None
+      → first_fault (update_checks (most_at image) slot s t) ≡ None
       → statuses_at true image ≡ Ok statuses
       → scans_in (map (wanted_of (other_slot slot) (layout_of t)) (written_in statuses)) image
       ≡ Ok scanned
@@ -387,6 +387,7 @@ module _ (slot : ℕ) (statuses : List (Option PartStatus)) (scanned : List Scan
       ≡ replies.Done
       → (at : ℕ) × IsFirstFree image (Some at)
   installing_finds s t none read scans done =
+      let v : MarkVersion = version_at image in
       let k : ℕ = other_slot slot in
       let l : Layout = layout_of t in
       let own : List PartOfLayout = own_parts k l.parts in
@@ -394,17 +395,19 @@ module _ (slot : ℕ) (statuses : List (Option PartStatus)) (scanned : List Scan
       let entry = entry_effect m slot plan staged (entry_named (base_of name) plan) in
       let f = done_flashed m slot plan staged image l scanned (base_of name) own
       (if_full (is_full k name) entry done) in
-      elim (free_or_none image 32) [
-        | inl free ↦ (2049 + free.place, first_free image free)
+      elim (free_or_none image (partitions_under v)) [
+        | inl free ↦
+            (2049 + free.place, first_free image (partitions_under v) free (few_under v))
         | inr no_free ↦
             absurd
-            (too_many k (layout_of s).parts l statuses scanned image (target_of slot s t none)
+            (too_many v k (layout_of s).parts l statuses scanned image
+            (target_of (partitions_under v) slot s t (few_under v) none)
             (statuses_were image statuses read) scans f no_free)
       ]
 
   -- in each other phase a flash is refused
   by_phase : (phase : MarkPhase) (ts : List Table) (left : ℕ)
-      → first_fault ((phase_at phase).part_checks slot ts) ≡ None
+      → first_fault ((phase_at phase).part_checks (most_at image) slot ts) ≡ None
       → statuses_at (phase_at phase).reads_statuses image ≡ Ok statuses
       → scans_in ((phase_at phase).stores slot ts (written_in statuses)) image ≡ Ok scanned
       → (flash_effect m staged name

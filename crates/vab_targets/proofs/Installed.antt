@@ -14,7 +14,7 @@ use Rattle.vab_tables.specs.declared.table.Table.{Table}
 use Rattle.vab_tables.specs.Rules.{KeepsRules}
 use Rattle.vab_geometry.specs.declared.geometry.Geometry.{Geometry}
 use Rattle.vab_exceptions.specs.declared.area.Exception.{Exception}
-use Rattle.vab_names.specs.Names.{is_of_slot, base_of, store_of}
+use Rattle.vab_names.specs.Names.{is_of_slot, base_of, store_of, most_partitions}
 use Rattle.vab_names.proofs.NameCases.{same_name}
 use Rattle.vab_layout.specs.declared.layout.Part.{Part as PartOfLayout}
 use Rattle.vab_layout.specs.declared.layout.Layout.{Layout}
@@ -33,7 +33,7 @@ use Rattle.vab_builder.proofs.SlotLaws.{other_slot_again, other_slot_below}
 use Rattle.vab_model.specs.declared.state.PlanEntry.{PlanEntry}
 use Rattle.vab_model.specs.declared.state.Phase.TheVariants.{Idle, Installing, Staged, Merging}
 use Rattle.vab_device.specs.declared.fault.StartFault.TheVariants.{BadTable}
-use Rattle.vab_device.specs.Checks.{names_none}
+use Rattle.vab_device.specs.Checks.{Check, names_none}
 use Rattle.vab_device.specs.Kept.{limits_of}
 use Rattle.vab_device.specs.Mounted.{Mounted, mounted_on, state_on, entry_on, entries_on, phase_by}
 use Rattle.vab_device.specs.Mounted.{count_at}
@@ -44,6 +44,7 @@ use Rattle.vab_device.specs.Reading.{Read, kept, IsIn, Reads}
 use Rattle.vab_device.specs.Stores.{Scanned, exceptions_of}
 use Rattle.vab_device.specs.Updates.{if_written, entry_named, written_of, plan_by, layout_at}
 use Rattle.vab_device.proofs.CheckLaws.{first_kept, check_kept}
+use Rattle.vab_device.proofs.MostLaws.{parts_all}
 use Rattle.vab_device.proofs.ReadingLaws.{device_was, slot_below}
 use Rattle.vab_edit.proofs.InstallingLaws.{read_at, two_tables}
 use Rattle.vab_edit.proofs.NamedLaws.{first_is, base_eq, HasBoth, LeavesBoth}
@@ -208,12 +209,16 @@ module _
 
   -- ---- the rules
 
-  rules : (twin_check o s t ≡ None) × (own_check slot s ≡ None) × (target_check o s t ≡ None)
+  rules : (twin_check o s t ≡ None)
+      × (own_check most_partitions slot s ≡ None)
+      × (target_check most_partitions o s t ≡ None)
   rules =
-      let one = first_kept (twin_check o s t) (own_check slot s ∷ target_check o s t ∷ [])
-      reads.parts in
-      let two = first_kept (own_check slot s) (target_check o s t ∷ []) one.1 in
-      let three = first_kept (target_check o s t) [] two.1 in
+      let own : Check = own_check most_partitions slot s in
+      let target : Check = target_check most_partitions o s t in
+      let one = first_kept (twin_check o s t) (own ∷ target ∷ [])
+      (parts_all r image reads.parts) in
+      let two = first_kept own (target ∷ []) one.1 in
+      let three = first_kept target [] two.1 in
       (one.0, two.0, three.0)
 
   are : (are_devices s.devices t.devices ≡ true) × (are_twins o s.groups t.groups ≡ true)
@@ -233,7 +238,7 @@ module _
   device_is = ap first_device ((devices_are s.devices t.devices).0 are.0)
 
   own : IsOwn slot (layout_of s).parts
-  own = own_kept slot (layout_of s).parts (none_named _ rules.1)
+  own = own_kept most_partitions slot (layout_of s).parts (omega arith) (none_named _ rules.1)
 
   update : IsUpdate (other_slot slot) (layout_of s) (layout_of t)
   update =
@@ -252,7 +257,9 @@ module _
         own =
             subst (λ (n : ℕ). IsOwn n (layout_of s).parts)
             (sym (other_slot_again slot below)) own;
-        parts = no_bad_target o (layout_of s).parts (layout_of t).parts (none_named _ rules.2);
+        parts =
+            (no_bad_target most_partitions o (layout_of s).parts (layout_of t).parts (omega arith)
+            (none_named _ rules.2)).is;
         device = device_is;
       }
 

@@ -1,4 +1,5 @@
 mod FewNames
+mod Filled
 mod FreeStatus
 pub mod Sectors
 pub mod Installed

@@ -219,18 +219,18 @@ fn edits_are_refused_at_their_limits(rt: HostRuntime) -> Result<(), Fail> {
 }
 
 #[test]
-fn a_target_has_at_most_32_partitions(rt: HostRuntime) -> Result<(), Fail> {
+fn a_target_has_at_most_64_partitions(rt: HostRuntime) -> Result<(), Fail> {
     let alloc = rt.alloc();
     let (mut input, mut told) = session(alloc, &[(b"oem begin", b"OKAY")])?;
-    for letter in *b"abcdefghijklmnopqrstuvwyzABCDEF" {
+    for letter in *b"abcdefghijklmnopqrstuvwyzABCDEFGHIJKLMNOPQRSTUVWXYZ0123456789_." {
         let mut packet = Vec::from_slice(alloc, b"create-logical-partition:")?;
         packet.push(letter)?;
         packet.extend_from_slice(b"_b:0")?;
         put_packet(&mut input, packet.as_slice())?;
         put_packet(&mut told, b"OKAY")?;
     }
-    put_packet(&mut input, b"create-logical-partition:G_b:0")?;
-    put_packet(&mut told, b"FAILmore than 32 partitions")?;
+    put_packet(&mut input, b"create-logical-partition:xx_b:0")?;
+    put_packet(&mut told, b"FAILmore than 64 partitions")?;
     let runs: [Step; 2] = [
         (&["make"], &ONE, 0, b"made 1 images, 1 of 256 blocks\n"),
         (&["serve"], &input, 0, &told),

@@ -108,21 +108,21 @@ fn a_refused_installation_stops_and_may_be_dropped(rt: HostRuntime) -> Result<()
 }
 
 #[test]
-fn thirty_two_images_are_installed(rt: HostRuntime) -> Result<(), Fail> {
+fn sixty_four_images_are_installed(rt: HostRuntime) -> Result<(), Fail> {
     let alloc = rt.alloc();
-    let set = set_of_many(alloc, 32)?;
+    let set = set_of_many(alloc, 64)?;
     let cases: [Step; 3] = [
         (
             &["make"],
             set.as_slice(),
             0,
-            b"made 32 images, 32 of 256 blocks\n",
+            b"made 64 images, 64 of 256 blocks\n",
         ),
         (
             &["install"],
             set.as_slice(),
             0,
-            b"installed 32 images, left 0\n",
+            b"installed 64 images, left 0\n",
         ),
         (&["boot"], b"", 0, b"booted b\n"),
     ];
@@ -140,7 +140,7 @@ fn an_installation_is_cut_off(rt: HostRuntime) -> Result<(), Fail> {
     let old = filled(alloc, b"abc", 4096)?;
     let one = crate::runs::ONE.as_slice();
     let told = b"made 1 images, 1 of 256 blocks\n";
-    for stop in [0, 1, 7, 20, 33, 46, 50, 53, 54, 55u64] {
+    for stop in [0, 1, 7, 20, 33, 65, 78, 82, 85, 86, 87u64] {
         let mut d = steps(&rt, alloc, SECTORS, &[(&["make"], one, 0, told)])?;
         d = d.next_run(set.to_vec(alloc)?);
         d.stop_after(stop);

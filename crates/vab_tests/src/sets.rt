@@ -66,30 +66,30 @@ pub(crate) fn filled(alloc: Global, bytes: &[u8], count: usize) -> Result<Vec<u8
     Ok(all)
 }
 
-// A disk with a device of 32 partitions.
+// A disk with a device of 64 partitions.
 fn device_of_many(rt: &impl Abort, alloc: Global) -> Result<MemPort, Fail> {
-    let set = set_of_many(alloc, 32)?;
-    let told = b"made 32 images, 32 of 256 blocks\n";
+    let set = set_of_many(alloc, 64)?;
+    let told = b"made 64 images, 64 of 256 blocks\n";
     steps(rt, alloc, SECTORS, &[(&["make"], set.as_slice(), 0, told)])
 }
 
-/// A text of 2896 bytes: the table of slot a with the partitions `p00_a` to `p31_a` of one block.
+/// A text of 5328 bytes: the table of slot a with the partitions `p00_a` to `p63_a` of one block.
 pub(crate) fn text_of_many(rt: &impl Abort, alloc: Global) -> Result<Vec<u8>, Fail> {
     let mut d = device_of_many(rt, alloc)?;
-    text_at(alloc, &mut d, 4120, 6)
+    text_at(alloc, &mut d, 4120, 11)
 }
 
 #[test]
-fn a_slot_has_at_most_32_partitions(rt: HostRuntime) -> Result<(), Fail> {
+fn a_slot_has_at_most_64_partitions(rt: HostRuntime) -> Result<(), Fail> {
     let alloc = rt.alloc();
-    let set = set_of_many(alloc, 33)?;
-    let last = filled(alloc, &[31], 4096)?;
+    let set = set_of_many(alloc, 65)?;
+    let last = filled(alloc, &[63], 4096)?;
     let cases: [Step; 5] = [
-        (&["print", "p31_a"], b"", 0, last.as_slice()),
-        (&["print", "p32_a"], b"", 4, b"refused: unknown partition\n"),
+        (&["print", "p63_a"], b"", 0, last.as_slice()),
+        (&["print", "p64_a"], b"", 4, b"refused: unknown partition\n"),
         (&["make"], set.as_slice(), 3, b""),
         (&["boot"], b"", 0, b"booted a\n"),
-        (&["print", "p31_a"], b"", 0, last.as_slice()),
+        (&["print", "p63_a"], b"", 0, last.as_slice()),
     ];
     let d = device_of_many(&rt, alloc)?;
     steps_on(&rt, alloc, d, &cases)?;

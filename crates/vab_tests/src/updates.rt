@@ -14,7 +14,7 @@ use std::process::Abort;
 use std::test::*;
 use vab_builder::{Edit, EditFault, apply, import, without_stores};
 use vab_layout::Layout;
-use vab_partitions::bad_partition;
+use vab_partitions::{MAX_PARTITIONS, bad_partition};
 use vab_tables::{Table, decode_table, encode_table};
 
 /// An update: the text of a table of slot a, the slots of its source and of its target, and the
@@ -46,10 +46,10 @@ const TO_A: Update<'static> = Update {
 fn is_small(table: &Table) -> bool
     ensures { result ≡ true → table_size_of table.now < 2 ^ 24 }
 {
-    table.partitions.len() < 99
-        && table.extents.len() < 99
-        && table.groups.len() < 99
-        && table.devices.len() < 99
+    table.partitions.len() < 999
+        && table.extents.len() < 999
+        && table.groups.len() < 999
+        && table.devices.len() < 999
 }
 
 // The table of slot a that a text spells.
@@ -57,7 +57,7 @@ fn spelled(alloc: Global, text: &[u8], max: u32) -> Result<Table, Fail>
     ensures { IfOk result (λ t. IsSource 0 t) }
 {
     let table = decode_table(alloc, text, max)?;
-    match bad_partition(alloc, &table, 0)? {
+    match bad_partition(alloc, &table, 0, MAX_PARTITIONS)? {
         None if is_small(&table) => Ok(table),
         _ => Err(Fail::from("a small table of a good slot")),
     }
@@ -410,7 +410,7 @@ fn edits_are_refused_by_name(rt: HostRuntime) -> Result<(), Fail> {
     }
     let (target, _) = tables_after(alloc, &limited, &same)?;
     assert_eq!(rt; text_size(alloc, &target)?, 664);
-    // 32 partitions of a block each; an edit in place of one is taken.
+    // 64 partitions of a block each; an edit in place of one is taken.
     let text = text_of_many(&rt, alloc)?;
     let many = Update {
         text: text.as_slice(),
@@ -420,8 +420,8 @@ fn edits_are_refused_by_name(rt: HostRuntime) -> Result<(), Fail> {
     let first = Edit::Resize(b"p00_b", 4096);
     let edits = [first, first, first, first, first, first];
     let more = refusal_after(alloc, &many, &edits, &Edit::Create(b"x_b", 0))?;
-    assert_eq!(rt; more, Some(EditFault::TooMany(33)));
-    let edits = [first, first, first, first, first, Edit::Delete(b"p31_b")];
+    assert_eq!(rt; more, Some(EditFault::TooMany(65)));
+    let edits = [first, first, first, first, first, Edit::Delete(b"p63_b")];
     let more = refusal_after(alloc, &many, &edits, &Edit::Create(b"x_b", 0))?;
     assert_eq!(rt; more, None);
     Ok(())

@@ -7,14 +7,16 @@ use Rattle.vab_marks.specs.declared.mark.MarkPhase.{MarkPhase}
 use Rattle.vab_marks.specs.declared.mark.MarkPhase.TheVariants as marks
 use Rattle.vab_marks.specs.declared.mark.UpdateMark.{UpdateMark}
 use Rattle.vab_marks.specs.declared.sector.MarkFault.{MarkFault}
+use Rattle.vab_marks.specs.declared.version.MarkVersion.TheVariants.{Two}
 use Rattle.vab_marks.specs.Mark.{mark_of, idle_mark, completed_mark, mark_at}
+use Rattle.vab_marks.specs.Version.{partitions_under}
 use Rattle.vab_geometry.specs.declared.geometry.Geometry.{Geometry}
 use Rattle.vab_lpstore.specs.Layout.{primary_of, backup_of}
 use Rattle.vab_lpstore.specs.Storing.{SameElsewhere}
 use Rattle.vab_tables.specs.declared.table.Table.{Table}
 use Rattle.vab_device.specs.declared.device.Device.{Device}
 use Rattle.vab_device.specs.Reading.{Read, kept, device, SameRead, Represents, mark_read, mark_in}
-use Rattle.vab_device.specs.Reading.{IsOfTables, settled}
+use Rattle.vab_device.specs.Reading.{IsOfTables, settled, version_at}
 use Rattle.vab_device.proofs.Behind.{images_behind}
 use Rattle.vab_device.proofs.ReadingLaws.{reads_kept, device_same}
 use Rattle.vab_device.proofs.SameLaws.{control_same, geometry_same, tables_agree, images_same}
@@ -96,7 +98,8 @@ module _
     (st : StandsIdle d size old t)
     (image : Image)
     (elsewhere : (s : ℕ) → s ≢ 2048 → image s ≡ old s)
-    (mark : mark_in image ≡ Ok (idle_mark d.mark.slot)) where
+    (mark : mark_in image ≡ Ok (idle_mark d.mark.slot))
+    (version : version_at image ≡ Two) where
   abbrev r : Read
   r = read_at d.mark.slot d.control d.geometry t
 
@@ -109,8 +112,9 @@ module _
 
   same_read : SameRead size (read_at d.mark.slot d.control d.geometry t) old image
   same_read = record {
+    most = omega (arith, ap partitions_under (version ∙ sym st.version));
     mark = mark ∙ sym st.reads.mark;
-    statuses = statuses_kept false old image
+    statuses = statuses_kept false old image (version ∙ sym st.version)
         (λ read s is. elsewhere s (λ e. omega (arith, e, is.from)));
     control = control_same _ _ old image (elsewhere 4 (λ e. omega (arith, e)));
     geometry = geometry_same size old image
@@ -144,4 +148,5 @@ module _
       ),
       tt,
     );
+    version = version;
   }

@@ -8,6 +8,7 @@ use Rattle.vab_bootctl.specs.Control.{control_of}
 use Rattle.vab_marks.specs.declared.mark.MarkPhase.{MarkPhase}
 use Rattle.vab_marks.specs.declared.mark.MarkPhase.TheVariants as marks
 use Rattle.vab_marks.specs.declared.status.PartStatus.{PartStatus}
+use Rattle.vab_marks.specs.declared.version.MarkVersion.TheVariants.{Two}
 use Rattle.vab_statuses.specs.Statuses.{written_in}
 use Rattle.vab_geometry.specs.declared.geometry.Geometry.{Geometry}
 use Rattle.vab_tables.specs.declared.table.Table.{Table}
@@ -15,7 +16,8 @@ use Rattle.vab_device.specs.declared.device.Device.{Device}
 use Rattle.vab_device.specs.Idle.{idle_read, control_read_of}
 use Rattle.vab_device.specs.Kept.{table_of_slot}
 use Rattle.vab_device.specs.Phases.{phase_at}
-use Rattle.vab_device.specs.Reading.{Read, Reads, Represents, AgreeCopies, statuses_at, control_in}
+use Rattle.vab_device.specs.Reading.{Read, Reads, Represents, AgreeCopies, version_at, statuses_at}
+use Rattle.vab_device.specs.Reading.{control_in}
 use Rattle.vab_device.specs.Stores.{scans_in}
 use Rattle.vab_device.proofs.ReadingLaws.{one_table, control_is_seen}
 use Rattle.vab_device.proofs.UpdateLaws.{kept_with}
@@ -31,6 +33,7 @@ pub record StandsIdle (d : Device) (size : ℕ) (image : Image) (t : Table) : Ty
   pub is : d ≡ kept_with (read_at d.mark.slot d.control d.geometry t) d.control
   pub control : control_of (image 4) ≡ Ok d.control
   pub copies : AgreeCopies d.geometry (d.mark.slot ∷ []) (t ∷ []) image
+  pub version : version_at image ≡ Two
 
 no_statuses : (image : Image) (ss : List (Option PartStatus))
     → statuses_at false image ≡ Ok ss
@@ -135,4 +138,5 @@ module _
         (λ (x : Read).
         AgreeCopies x.geometry ((phase_at x.mark.phase).tables x.mark.slot) x.tables image)
         whole is.copies;
+    version = is.version;
   }

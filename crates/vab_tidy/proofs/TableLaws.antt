@@ -21,14 +21,16 @@ use Rattle.vab_device.specs.Checks.{names_none}
 use Rattle.vab_device.specs.Kept.{lies_in, parts_of}
 use Rattle.vab_device.specs.Mounted.{images_on, mounted_on, state_on}
 use Rattle.vab_device.specs.Phases.{own_check}
-use Rattle.vab_device.specs.Reading.{Read, kept, device, Reads, Represents, table_at}
+use Rattle.vab_device.specs.Reading.{Read, kept, device, Reads, Represents, table_at, version_at}
+use Rattle.vab_device.specs.Reading.{most_at}
 use Rattle.vab_device.proofs.Behind.{images_behind}
 use Rattle.vab_device.proofs.CheckLaws.{first_kept}
 use Rattle.vab_device.proofs.IdleLaws.{reads_idle}
 use Rattle.vab_device.proofs.OpeningLaws.{control_seen_in}
 use Rattle.vab_device.proofs.ReadingLaws.{device_of, device_same, single_works}
 use Rattle.vab_device.proofs.RepairLaws.{end_of, repair_same}
-use Rattle.vab_device.proofs.SameLaws.{mark_same, geometry_same, images_same}
+use Rattle.vab_device.proofs.MostLaws.{parts_under}
+use Rattle.vab_device.proofs.SameLaws.{mark_same, geometry_same, images_same, version_same}
 use Rattle.vab_device.proofs.UpdateLaws.{kept_with}
 use Rattle.vab_tidy.specs.Kept.{with_table}
 use Rattle.vab_tidy.specs.Stays.{LeavesSame}
@@ -131,11 +133,15 @@ module _
   control : control_of (image 4) ≡ Ok d.control
   control = ap control_of (before 4 (omega arith)) ∙ st.control
 
+  version : version_at image ≡ version_at old
+  version = version_same old image (before 2048 (omega arith))
+
   -- the slot's own partitions are the same
-  rules : own_check k u ≡ None
+  rules : own_check (most_at image) k u ≡ None
   rules =
-      ap (λ ps. names_none (bad_part k [] ps)) (own_is k t u is)
-      ∙ (first_kept (own_check k t) [] st.reads.parts).0
+      ap (λ ps. names_none (bad_part (most_at image) k [] ps)) (own_is k t u is)
+      ∙ (first_kept (own_check (most_at image) k t) []
+      (parts_under r old image version st.reads.parts)).0
 
   module _ (there : slot_table d.geometry d.mark.slot image ≡ Ok u) where
     table : table_at size g k image ≡ Ok u
@@ -178,6 +184,7 @@ module _
         ∙ kept_alone k d.control d.control g t u below is;
     control = control;
     copies = ((text, of_text, held), tt);
+    version = version ∙ st.version;
   }
 
 -- each outcome of storing it is a disk that means the same

@@ -1,5 +1,6 @@
 pub mod Counts
 pub mod Kept
+pub mod Migration
 pub mod Planned
 pub mod Stays
 pub mod Tidied

@@ -27,7 +27,9 @@ use Rattle.vab_device.specs.Updates.{effect_on}
 use Rattle.vab_device.proofs.ReadingLaws.{device_stands}
 use Rattle.vab_commands.specs.Touched.{ChangesDevice}
 use Rattle.vab_commands.specs.Writes.{IsOfCommand}
+use Rattle.vab_commands.specs.Copies.{HasBothCopies}
 use Rattle.vab_commands.proofs.ChangeLaws.{command_changes, commands_then, keeps_then}
+use Rattle.vab_commands.proofs.CopiesLaws.{both_copies}
 use Rattle.vab_update.specs.declared.stop.Stop.{Stop}
 use Rattle.vab_update.specs.declared.stop.Stop.TheVariants as stops
 use Rattle.vab_update.specs.Carries.{Carries, CarriesOut, IsAmong, IsStop, IsRefusedBy}
@@ -108,6 +110,7 @@ carries_stop g d m e rest old new s is = record {
       (among_wider (steps_of m e) (steps_of m (followed e rest)) (g.size old) (g.seen new)
       (step_first m e rest))
       (is.among t);
+  copies = is.copies;
   rest = is.rest;
   quiet = is.quiet;
   changes = is.changes;
@@ -215,6 +218,9 @@ module _ {D : Type 0} (g : Ghosts D) (d next : Device) (m n : Mounted) (e f : Ef
         (second_step t)
         (subst (λ (k : ℕ). IsAmong (steps_of n f) k (g.seen new)) sized is))
         (second.among t);
+    copies = λ t.
+        held_map r _ _ (λ is. subst (λ (k : ℕ). HasBothCopies k (g.seen new)) sized is)
+        (second.copies t);
     rest = λ t rest. second.rest t (first.rest t rest);
     quiet = quiet_then g old mid new first.quiet second.quiet;
     changes = λ t.
@@ -261,6 +267,7 @@ carries_same g d m e f old new r same is = record {
       subst
       (λ (x : Effect Mounted). UnlessFailed r (IsAmong (steps_of m x) (g.size old) (g.seen new)))
       (same t) (is.among t);
+  copies = is.copies;
   rest = is.rest;
   quiet = is.quiet;
   changes = is.changes;
@@ -395,6 +402,7 @@ module _ {D : Type 0} (g : Ghosts D) (d : Device) (staged : Option (List ℕ)) (
     whole = λ t. tt;
     stop = λ t. tt;
     among = λ t. tt;
+    copies = λ t. tt;
     rest = λ t rest. tt;
     quiet = does.quiet;
     changes = changes_one (Err fault) does;
@@ -420,6 +428,9 @@ module _ {D : Type 0} (g : Ghosts D) (d : Device) (staged : Option (List ℕ)) (
       means = stands t;
     }
 
+    copies_one : g.is_modelled → HasBothCopies (g.size old) (g.seen new)
+    copies_one t = both_copies next (g.size old) (g.seen new) (does.represents t)
+
     -- where it isn't want of memory, the effect is that of the table
     effect_is : g.is_modelled
         → (reply ≡ replies.Refused NoMemory → ⊥)
@@ -439,6 +450,7 @@ module _ {D : Type 0} (g : Ghosts D) (d : Device) (staged : Option (List ℕ)) (
           ap (λ (x : Effect Mounted). x.reply) (followed_done e (answers replies.Done) (well t));
       stop = λ t. tt;
       among = among_one;
+      copies = copies_one;
       rest = does.rest;
       quiet = does.quiet;
       changes = changes_one (Ok (next, reply)) does;
@@ -467,6 +479,7 @@ module _ {D : Type 0} (g : Ghosts D) (d : Device) (staged : Option (List ℕ)) (
       whole = λ t. tt;
       stop = λ t other. by t other;
       among = among_one;
+      copies = copies_one;
       rest = does.rest;
       quiet = does.quiet;
       changes = changes_one (Ok (next, reply)) does;

@@ -14,6 +14,7 @@ use Rattle.vab_device.specs.Does.{LeavesStep, KeepsSource}
 use Rattle.vab_device.specs.Kept.{IsDevice}
 use Rattle.vab_device.specs.Mounted.{Mounted, mounted_on}
 use Rattle.vab_device.specs.Reading.{device, Represents}
+use Rattle.vab_commands.specs.Copies.{HasBothCopies}
 use Rattle.vab_commands.specs.Touched.{ChangesDevice}
 use Rattle.vab_update.specs.declared.stop.Stop.{Stop}
 use Rattle.vab_update.specs.declared.stop.Stop.TheVariants as stops
@@ -60,7 +61,7 @@ IsStop m e size image (stops.Disk fault) = Unit {0}
 -- this of the device. Where all are done, the device that is kept is the one after them. Where
 -- nothing was pending each outcome since is one of their steps. What they may write is what
 -- commands that merge nothing may. Where memory is refused to one of them, the disk is in one of
--- the steps.
+-- the steps. Unless the disk fails, both copies of each table agree in the end.
 pub record Carries {D : Type 0}
     (g : Ghosts D)
     (d : Device)
@@ -77,6 +78,7 @@ pub record Carries {D : Type 0}
   pub stop : g.is_modelled → IfErr result (IsStop m e (g.size old) (g.seen new))
   pub among : g.is_modelled
       → UnlessFailed result (IsAmong (steps_of m e) (g.size old) (g.seen new))
+  pub copies : g.is_modelled → UnlessFailed result (HasBothCopies (g.size old) (g.seen new))
   pub rest : g.is_modelled → IsAtRest g old → UnlessFailed result (IsAtRest g new)
   pub quiet : IsQuiet g old new
   pub changes : g.is_modelled → ChangesDevice g d old new

@@ -35,7 +35,7 @@ sum_in slot t group name n =
 pub in_small : (slot : ℕ) (t : Table) (group name : List ℕ) (n : ℕ)
     → IsOwn slot (layout_of t).parts
     → n ≤ 2 ^ 28
-    → sum_by (size_in slot t group name n) t.partitions ≤ 2 ^ 33
+    → sum_by (size_in slot t group name n) t.partitions ≤ 2 ^ 34
 in_small slot t group name n own small =
     omega (
       arith,

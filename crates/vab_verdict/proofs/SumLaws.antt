@@ -90,7 +90,7 @@ sum_sizes slot t =
     ∙ sum_own slot t (λ p. length p.blocks)
 
 pub sizes_small : (slot : ℕ) (t : Table) → IsOwn slot (layout_of t).parts
-    → sum_by (own_size slot t) t.partitions ≤ 2 ^ 33
+    → sum_by (own_size slot t) t.partitions ≤ 2 ^ 34
 sizes_small slot t own = omega (arith, sum_sizes slot t, own_small slot (layout_of t).parts own)
 
 -- a sum so far and what the next partition adds are within the whole sum

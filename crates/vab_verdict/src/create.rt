@@ -10,11 +10,12 @@ use crate::groups::{created_group, is_within};
 use crate::names::{MAX_BYTES, full_name};
 use crate::room::{capacity, created_in_use};
 use vab_builder::EditFault;
+use vab_names::MAX_PARTITIONS;
 use vab_space::{blocks, fits};
 use vab_tables::Table;
 
 /// The most partitions of a slot.
-const MAX_PARTS: u64 = 32;
+const MAX_PARTS: u64 = MAX_PARTITIONS as u64;
 
 /// The first refusal of a partition more.
 pub(crate) fn create_fault(

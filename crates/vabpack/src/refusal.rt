@@ -11,7 +11,7 @@ use vab_sparse::SparseFault;
 
 /// What the program says where its words aren't taken.
 pub const USAGE: &str = "usage: vabpack NAME[:SIZE[:STORE]]=FILE.. FOLDER/..\n\
-    A set of 1 to 32 images on the output, as `vab DEVICE make` takes it, one for each word.\n\
+    A set of 1 to 64 images on the output, as `vab DEVICE make` takes it, one for each word.\n\
     \u{20} NAME             the partition's name without its slot, 1 to 30 of A-Z a-z 0-9 _ .\n\
     \u{20} SIZE             bytes of the partition, at most 2^40, in whole blocks of 4096;\n\
     \u{20}                  those of the file where it is left out, also in NAME::STORE\n\
@@ -93,7 +93,7 @@ fn explain_words<R: Eprint>(rt: &R, words: &[String], fault: WordFault) {
     };
     let _ = match fault {
         WordFault::TooMany(count) => eprintln!(rt;
-            "vabpack: {count} words, and a set has at most 32 images"
+            "vabpack: {count} words, and a set has at most 64 images"
         ),
         WordFault::BadWord(index) => eprintln!(rt;
             "vabpack: {}: not NAME[:SIZE[:STORE]]=FILE",

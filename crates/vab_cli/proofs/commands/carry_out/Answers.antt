@@ -14,6 +14,7 @@ use Rattle.vab_cli.proofs.Touching.{opening_changes, Behind, verb_opened}
 use Rattle.vab_cli.specs.Causes.{IsRefusedOn}
 use Rattle.vab_cli.proofs.Causing.{device_opened, ended_opened, ended_refused, opening_kind}
 use Rattle.vab_cli.proofs.Causing.{unopened_unrefused}
+use Rattle.vab_cli.proofs.CopiesLeft.{early_unanswered, performed_copies}
 use Rattle.vab_cli.proofs.commands.carry_out.Goals as goal
 
 pub returns-clause-runs : goal.returns-clause-runs
@@ -115,3 +116,15 @@ returns-clause-refused g c = λ t refused s stands.
     (g.P.Disk.seen c.args.port.now) s (c.in-Ok.ensures.represents t) opens.device stands)
     (c.perform.ensures.refused t
     (ended_refused c.perform.result (sym c.ended.ensures ∙ refused)))
+
+pub returns-in-Err-clause-copies : goal.returns-in-Err-clause-copies
+returns-in-Err-clause-copies g c = λ t s stands answers.
+    absurd
+    ((let fails = c.in-Err.ensures.early t s stands in
+    early_unanswered c.in-Err.status fails.early) answers)
+
+pub returns-clause-copies : goal.returns-clause-copies
+returns-clause-copies g c = λ t s stands answers.
+    performed_copies g.P.Disk c.in-Ok.device _ (g.P.Disk.size c.args.port.now) c.open.new.port
+    c.perform.new.port c.perform.result c.ended.result t c.open.ensures.size
+    c.perform.ensures.performs c.ended.ensures answers

@@ -1,4 +1,5 @@
 use Rattle.std.proofs.Common.{◌∙◌, List, ap, subst}
+use Rattle.vab_make.specs.Made.{refusal_of}
 use Rattle.vab_gen.specs.Sets.{fresh_set, next_set}
 use Rattle.vab_set.specs.declared.set.SetImage.{SetImage}
 use Rattle.vab_cli.specs.Demo.{Demonstrates}
@@ -34,3 +35,19 @@ returns-clause-unmade g c = λ t none.
     (λ (x : List SetImage).
     IsUnmade g.P.Disk c.args.port.now x 0 65536 c.demonstrate.new.cause)
     c.in-Ok.ensures.exact (c.demonstrate.ensures.unmade t none)
+
+pub returns-in-Err-clause-copies : goal.returns-in-Err-clause-copies
+returns-in-Err-clause-copies g c = λ t none answers.
+    absurd answers
+
+pub returns-in-Err-next_scaled-clause-copies : goal.returns-in-Err-next_scaled-clause-copies
+returns-in-Err-next_scaled-clause-copies g c = λ t none answers.
+    absurd answers
+
+pub returns-clause-copies : goal.returns-clause-copies
+returns-clause-copies g c = λ t none answers.
+    c.demonstrate.ensures.copies t
+    (ap (λ (x : List SetImage). refusal_of x 0 65536 (g.P.Disk.size c.args.port.now))
+    c.in-Ok.ensures.exact
+    ∙ none)
+    answers

@@ -13,6 +13,9 @@ use Rattle.vab_cli.proofs.Running.{contents_of, early_of, is_one, memory_other, 
 use Rattle.vab_cli.proofs.Sessions.{opens_sized}
 use Rattle.std.proofs.Common.{inl, refl}
 use Rattle.vab_cli.proofs.Causing.{ended_opened, unmade_told}
+use Rattle.vab_cli.specs.Copies.{IsAnswered}
+use Rattle.vab_cli.proofs.CopiesLeft.{either_unanswered, making_unanswered, performed_copies}
+use Rattle.vab_cli.proofs.CopiesLeft.{start_unanswered}
 use Rattle.vab_cli.proofs.demo.demonstrate.Goals as goal
 
 pub returns-in-Err-clause-does : goal.returns-in-Err-clause-does
@@ -30,7 +33,8 @@ returns-in-Err-start-clause-does g c =
     let sized : g.P.Disk.size mid ≡ size = c.make_device.ensures.touches.quiet.size in
     demo_unopened g.P.Disk g.met.P.Disk.only_now c.args.set.now c.args.next.now c.args.port.now
     mid c.in-Ok.ensures.exact c.make_device.ensures.touches c.in-Ok.ensures.made
-    c.in-Ok.ensures.settled c.make_device.ensures.time c.start.new.d c.from.result
+    c.in-Ok.ensures.version c.in-Ok.ensures.settled c.make_device.ensures.time c.start.new.d
+    c.from.result
     (λ t.
     let other : start_status c.in-Err-start.fault ≢ NotADevice = λ is.
     is_one size (made_device_of c.args.set.now 0 65536 size) (g.P.Disk.seen mid)
@@ -63,7 +67,8 @@ returns-clause-does g c =
     (sym c.ended.ensures)
     (demo_lives g.P.Disk g.met.P.Disk.only_now c.args.set.now c.args.next.now old mid
     c.in-Ok.ensures.exact c.make_device.ensures.touches c.in-Ok.ensures.made
-    c.in-Ok.ensures.settled c.make_device.ensures.time d now c.live.new.port c.live.result
+    c.in-Ok.ensures.version c.in-Ok.ensures.settled c.make_device.ensures.time d now c.live.new.port
+    c.live.result
     c.start.ensures.touches
     (λ t.
     opens_sized g.P.Disk (g.P.Disk.size mid) size mid now sized (record {
@@ -100,3 +105,22 @@ returns-in-Err-start-clause-unmade g c = λ t none.
 pub returns-clause-unmade : goal.returns-clause-unmade
 returns-clause-unmade g c = λ t none.
     ended_opened c.live.result c.live.ensures.stop (sym c.ended.ensures ∙ none)
+
+pub returns-in-Err-clause-copies : goal.returns-in-Err-clause-copies
+returns-in-Err-clause-copies g c = λ t none answers.
+    absurd
+    (either_unanswered c.tell_unmade.result _ c.tell_unmade.ensures.either
+    (making_unanswered c.in-Err.fault _ c.in-Err.ensures.exact none)
+    answers)
+
+pub returns-in-Err-start-clause-copies : goal.returns-in-Err-start-clause-copies
+returns-in-Err-start-clause-copies g c = λ t none answers.
+    absurd
+    (start_unanswered c.in-Err-start.fault (subst IsAnswered c.from.ensures answers))
+
+pub returns-clause-copies : goal.returns-clause-copies
+returns-clause-copies g c = λ t none answers.
+    performed_copies g.P.Disk c.in-Ok-start.device _ (g.P.Disk.size c.args.port.now) c.start.new.d
+    c.live.new.port c.live.result c.ended.result t
+    (c.start.ensures.quiet.size ∙ c.make_device.ensures.touches.quiet.size)
+    c.live.ensures c.ended.ensures answers

@@ -35,6 +35,8 @@ use Rattle.vab_cli.proofs.Causing.{device_opened, ended_opened, ended_read, ende
 use Rattle.vab_cli.proofs.Causing.{input_long, input_opened, input_unrefused, opening_kind}
 use Rattle.vab_cli.proofs.Causing.{set_opened, set_read, set_unrefused, unopened_read}
 use Rattle.vab_cli.proofs.Causing.{unopened_unrefused}
+use Rattle.vab_commands.proofs.CopiesLaws.{both_copies, copies_stay}
+use Rattle.vab_cli.proofs.CopiesLeft.{early_unanswered, performed_copies}
 use Rattle.vab_cli.proofs.installing.install.Goals as goal
 
 pub returns-in-Err-clause-runs : goal.returns-in-Err-clause-runs
@@ -362,3 +364,28 @@ pub returns-clause-no_set : goal.returns-clause-no_set
 returns-clause-no_set g c = λ t bad.
     let p = c.install_set.ensures.performs in
     ended_read c.install_set.result p.stop (sym c.ended.ensures ∙ bad)
+
+pub returns-in-Err-clause-copies : goal.returns-in-Err-clause-copies
+returns-in-Err-clause-copies g c = λ t s stands answers.
+    absurd
+    ((let fails = c.in-Err.ensures.early t s stands in
+    early_unanswered c.in-Err.status fails.early) answers)
+
+pub returns-in-Err-hear_all-clause-copies : goal.returns-in-Err-hear_all-clause-copies
+returns-in-Err-hear_all-clause-copies g c = λ t s stands answers.
+    copies_stay (g.P.Disk.size c.args.port.now) (g.P.Disk.seen c.open.new.port)
+    (g.P.Disk.seen c.hear_all.new.p) (c.hear_all.ensures.seen t)
+    (both_copies c.in-Ok.device _ _ (c.in-Ok.ensures.represents t))
+
+pub returns-in-Err-read_set-clause-copies : goal.returns-in-Err-read_set-clause-copies
+returns-in-Err-read_set-clause-copies g c = λ t s stands answers.
+    copies_stay (g.P.Disk.size c.args.port.now) (g.P.Disk.seen c.open.new.port)
+    (g.P.Disk.seen c.hear_all.new.p) (c.hear_all.ensures.seen t)
+    (both_copies c.in-Ok.device _ _ (c.in-Ok.ensures.represents t))
+
+pub returns-clause-copies : goal.returns-clause-copies
+returns-clause-copies g c = λ t s stands answers.
+    performed_copies g.P.Disk c.in-Ok.device _ (g.P.Disk.size c.args.port.now) c.hear_all.new.p
+    c.install_set.new.port c.install_set.result c.ended.result t
+    (c.hear_all.ensures.size ∙ c.open.ensures.size)
+    c.install_set.ensures.performs c.ended.ensures answers

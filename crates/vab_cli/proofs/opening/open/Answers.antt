@@ -3,7 +3,7 @@ use Rattle.vab_disk.proofs.CallLaws.{changes_touches, changes_then, changes_tell
 use Rattle.vab_device.proofs.ReadingLaws.{device_stands}
 use Rattle.vab_cli.specs.declared.status.Status.TheVariants.{NotADevice, Port}
 use Rattle.vab_cli.specs.Runs.{IsEarly}
-use Rattle.vab_cli.proofs.Running.{contents_of, early_of, not_of_disk_by, memory_other}
+use Rattle.vab_cli.proofs.Running.{contents_of, early_of, is_one, not_of_disk_by, memory_other}
 use Rattle.vab_cli.proofs.Running.{fails_before, none_early, none_told, contents_no_disk}
 use Rattle.vab_cli.proofs.opening.open.Goals as goal
 
@@ -52,6 +52,19 @@ returns-then-ne-clause-none g c = λ t fault none.
     (c.in-Err.ensures.unwritten
     (not_of_disk_by c.in-Err.fault (memory_other (sym c.from-status.ensures ∙ memory)))).seen t)
     (c.start.ensures.time t)
+
+-- a disk that is a device isn't told to be none
+pub returns-in-Ok-say_all-clause-early : goal.returns-in-Ok-say_all-clause-early
+returns-in-Ok-say_all-clause-early g c = λ t s stands.
+    let is : c.from-status.result ≡ NotADevice = search rules in
+    is_one (g.P.Disk.size c.args.port.now) s (g.P.Disk.seen c.args.port.now) c.in-Err.fault stands
+    (c.in-Err.ensures.fault t (contents_of c.in-Err.fault (sym c.from-status.ensures ∙ is)))
+
+pub returns-in-Err-say_all-clause-early : goal.returns-in-Err-say_all-clause-early
+returns-in-Err-say_all-clause-early g c = λ t s stands.
+    let is : c.from-status.result ≡ NotADevice = search rules in
+    is_one (g.P.Disk.size c.args.port.now) s (g.P.Disk.seen c.args.port.now) c.in-Err.fault stands
+    (c.in-Err.ensures.fault t (contents_of c.in-Err.fault (sym c.from-status.ensures ∙ is)))
 
 pub returns-in-Ok-say_all-clause-none : goal.returns-in-Ok-say_all-clause-none
 returns-in-Ok-say_all-clause-none g c = λ t fault none.

@@ -11,6 +11,8 @@ use Rattle.vab_cli.proofs.InputFaults.{short_before}
 use Rattle.vab_cli.proofs.Items.{mounted_is, does_line}
 use Rattle.vab_cli.proofs.Lines.{not_failed}
 use Rattle.vab_cli.proofs.Running.{same_opened, opened_in, runs_done, runs_failed}
+use Rattle.vab_commands.proofs.CopiesLaws.{both_copies, copies_stay}
+use Rattle.vab_cli.proofs.CopiesLeft.{early_unanswered}
 use Rattle.vab_cli.proofs.paging.tell_page.Goals as goal
 
 pub returns-in-Err-status_page-clause-tells : goal.returns-in-Err-status_page-clause-tells
@@ -126,3 +128,23 @@ returns-clause-tells g c =
           (changes_telling g.P.Disk _ _ mid new c.say_all.ensures.size
           c.say_all.ensures.seen c.say_all.ensures.crash c.say_all.ensures.time);
     }
+
+pub returns-in-Err-clause-copies : goal.returns-in-Err-clause-copies
+returns-in-Err-clause-copies g c = λ t s stands answers.
+    absurd
+    ((let fails = c.in-Err.ensures.early t s stands in
+    early_unanswered c.in-Err.status fails.early) answers)
+
+pub returns-in-Err-status_page-clause-copies : goal.returns-in-Err-status_page-clause-copies
+returns-in-Err-status_page-clause-copies g c = λ t s stands answers.
+    absurd answers
+
+pub returns-in-Ok-say_all-clause-copies : goal.returns-in-Ok-say_all-clause-copies
+returns-in-Ok-say_all-clause-copies g c = λ t s stands answers.
+    copies_stay (g.P.Disk.size c.args.port.now) (g.P.Disk.seen c.open.new.port)
+    (g.P.Disk.seen c.say_all.new.p) (c.say_all.ensures.seen t)
+    (both_copies c.in-Ok.device _ _ (c.in-Ok.ensures.represents t))
+
+pub returns-clause-copies : goal.returns-clause-copies
+returns-clause-copies g c = λ t s stands answers.
+    absurd answers

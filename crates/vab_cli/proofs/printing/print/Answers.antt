@@ -14,6 +14,8 @@ use Rattle.vab_cli.specs.Causes.{IsRefusedOn}
 use Rattle.vab_cli.specs.Verbs.{none_line}
 use Rattle.vab_cli.proofs.Causing.{device_opened, failed_opened, failed_unrefused}
 use Rattle.vab_cli.proofs.Causing.{opening_kind, unopened_unrefused}
+use Rattle.vab_commands.proofs.CopiesLaws.{both_copies, copies_stay}
+use Rattle.vab_cli.proofs.CopiesLeft.{early_unanswered, failed_unanswered, unwritten}
 use Rattle.vab_cli.proofs.printing.print.Goals as goal
 
 pub returns-in-Ok-print_image-clause-runs : goal.returns-in-Ok-print_image-clause-runs
@@ -105,3 +107,21 @@ returns-clause-unopened g c = λ t none. failed_opened c.in-Err-print_image.ensu
 pub returns-clause-refused : goal.returns-clause-refused
 returns-clause-refused g c = λ t refused.
     failed_unrefused c.in-Err-print_image.ensures.failed refused
+
+pub returns-in-Err-clause-copies : goal.returns-in-Err-clause-copies
+returns-in-Err-clause-copies g c = λ t s stands answers.
+    absurd
+    ((let fails = c.in-Err.ensures.early t s stands in
+    early_unanswered c.in-Err.status fails.early) answers)
+
+pub returns-in-Ok-print_image-clause-copies : goal.returns-in-Ok-print_image-clause-copies
+returns-in-Ok-print_image-clause-copies g c = λ t s stands answers.
+    copies_stay (g.P.Disk.size c.args.port.now) (g.P.Disk.seen c.open.new.port)
+    (g.P.Disk.seen c.print_image.new.port)
+    (unwritten g.P.Disk c.open.new.port c.print_image.new.port t (c.print_image.ensures.changes t))
+    (both_copies c.in-Ok.device _ _ (c.in-Ok.ensures.represents t))
+
+pub returns-clause-copies : goal.returns-clause-copies
+returns-clause-copies g c = λ t s stands answers.
+    absurd
+    (failed_unanswered c.in-Err-print_image.status c.in-Err-print_image.ensures.failed answers)

@@ -6,7 +6,8 @@ use Rattle.vab_words.specs.Verbs as words
 use Rattle.vab_cli.specs.Causes.{Explains}
 use Rattle.vab_cli.specs.Demo.{DemonstratesOf}
 use Rattle.vab_cli.specs.Verbs.{command_of}
-use Rattle.vab_cli.proofs.Programs.{command_verb, serve_verb, fresh_verb, other_verb}
+use Rattle.vab_cli.proofs.CopiesLeft.{opened_copies, fresh_copies, demo_copies, made_copies}
+use Rattle.vab_cli.proofs.Programs.{command_verb, serve_verb, fresh_verb, make_verb, other_verb}
 use Rattle.vab_cli.proofs.program.do_verb.Goals as goal
 
 pub returns-in-Serve-true-clause-does : goal.returns-in-Serve-true-clause-does
@@ -18,6 +19,8 @@ returns-in-Serve-true-clause-does g c =
     is c.make_and_serve.ensures.runs c.make_and_serve.ensures.small
     c.make_and_serve.ensures.too_small c.make_and_serve.ensures.changes
     c.make_and_serve.ensures.unmerged
+    (fresh_copies g.P.Disk (meaning_of c.args.verb) c.args.port.now c.make_and_serve.new.port
+    c.make_and_serve.result is c.make_and_serve.ensures.copies)
 
 pub returns-in-Serve-false-clause-does : goal.returns-in-Serve-false-clause-does
 returns-in-Serve-false-clause-does g c =
@@ -27,6 +30,11 @@ returns-in-Serve-false-clause-does g c =
     c.open_and_serve.ensures.disk c.open_and_serve.ensures.port
     is c.open_and_serve.ensures.runs c.open_and_serve.ensures.none
     c.open_and_serve.ensures.changes c.open_and_serve.ensures.unmerged
+    (opened_copies g.P.Disk (meaning_of c.args.verb) c.args.port.now c.open_and_serve.new.port
+    c.open_and_serve.result (Serve false) is (λ other. cc)
+    (λ seed scale other. cc)
+    c.open_and_serve.ensures.copies)
+    c.open_and_serve.ensures.writes c.open_and_serve.ensures.unheard
 
 pub returns-in-Boot-clause-does : goal.returns-in-Boot-clause-does
 returns-in-Boot-clause-does g c =
@@ -36,6 +44,10 @@ returns-in-Boot-clause-does g c =
     (λ port. inr (c.carry_out.ensures.port port)) Boot (ap command_of is)
     c.carry_out.ensures.runs c.carry_out.ensures.none c.carry_out.ensures.changes
     c.carry_out.ensures.quiet
+    (opened_copies g.P.Disk (meaning_of c.args.verb) c.args.port.now c.carry_out.new.port
+    c.carry_out.result words.Boot is (λ other. cc)
+    (λ seed scale other. cc)
+    c.carry_out.ensures.copies)
 
 pub returns-in-Mark-clause-does : goal.returns-in-Mark-clause-does
 returns-in-Mark-clause-does g c =
@@ -47,6 +59,10 @@ returns-in-Mark-clause-does g c =
     c.carry_out-in-Mark.ensures.runs c.carry_out-in-Mark.ensures.none
     c.carry_out-in-Mark.ensures.changes
     c.carry_out-in-Mark.ensures.quiet
+    (opened_copies g.P.Disk (meaning_of c.args.verb) c.args.port.now c.carry_out-in-Mark.new.port
+    c.carry_out-in-Mark.result words.Mark is (λ other. cc)
+    (λ seed scale other. cc)
+    c.carry_out-in-Mark.ensures.copies)
 
 pub returns-in-BeginMerge-clause-does : goal.returns-in-BeginMerge-clause-does
 returns-in-BeginMerge-clause-does g c =
@@ -57,6 +73,11 @@ returns-in-BeginMerge-clause-does g c =
     c.carry_out-in-BeginMerge.result done.words done.steady done.disk
     (λ port. inr (done.port port)) BeginMerge (ap command_of is)
     done.runs done.none done.changes done.quiet
+    (opened_copies g.P.Disk (meaning_of c.args.verb) c.args.port.now
+    c.carry_out-in-BeginMerge.new.port
+    c.carry_out-in-BeginMerge.result words.BeginMerge is (λ other. cc)
+    (λ seed scale other. cc)
+    c.carry_out-in-BeginMerge.ensures.copies)
 
 pub returns-in-Merge-clause-does : goal.returns-in-Merge-clause-does
 returns-in-Merge-clause-does g c =
@@ -66,6 +87,10 @@ returns-in-Merge-clause-does g c =
     c.carry_out-in-Merge.result done.words done.steady done.disk
     (λ port. inr (done.port port)) (Merge c.in-Merge.turns) (ap command_of is)
     done.runs done.none done.changes done.quiet
+    (opened_copies g.P.Disk (meaning_of c.args.verb) c.args.port.now c.carry_out-in-Merge.new.port
+    c.carry_out-in-Merge.result (words.Merge c.in-Merge.turns) is (λ other. cc)
+    (λ seed scale other. cc)
+    c.carry_out-in-Merge.ensures.copies)
 
 pub returns-in-Cancel-clause-does : goal.returns-in-Cancel-clause-does
 returns-in-Cancel-clause-does g c =
@@ -77,6 +102,10 @@ returns-in-Cancel-clause-does g c =
     c.carry_out-in-Cancel.ensures.runs c.carry_out-in-Cancel.ensures.none
     c.carry_out-in-Cancel.ensures.changes
     c.carry_out-in-Cancel.ensures.quiet
+    (opened_copies g.P.Disk (meaning_of c.args.verb) c.args.port.now c.carry_out-in-Cancel.new.port
+    c.carry_out-in-Cancel.result words.Cancel is (λ other. cc)
+    (λ seed scale other. cc)
+    c.carry_out-in-Cancel.ensures.copies)
 
 pub returns-in-Activate-clause-does : goal.returns-in-Activate-clause-does
 returns-in-Activate-clause-does g c =
@@ -89,6 +118,11 @@ returns-in-Activate-clause-does g c =
     c.carry_out-in-Activate.ensures.runs c.carry_out-in-Activate.ensures.none
     c.carry_out-in-Activate.ensures.changes
     c.carry_out-in-Activate.ensures.quiet
+    (opened_copies g.P.Disk (meaning_of c.args.verb) c.args.port.now
+    c.carry_out-in-Activate.new.port
+    c.carry_out-in-Activate.result (words.Activate c.in-Activate.slot) is (λ other. cc)
+    (λ seed scale other. cc)
+    c.carry_out-in-Activate.ensures.copies)
 
 pub returns-in-Print-clause-does : goal.returns-in-Print-clause-does
 returns-in-Print-clause-does g c =
@@ -98,6 +132,10 @@ returns-in-Print-clause-does g c =
     (λ port. inr (c.print.ensures.port port)) (Print c.as_bytes.result.now) (ap command_of is)
     c.print.ensures.runs c.print.ensures.none c.print.ensures.changes
     c.print.ensures.quiet
+    (opened_copies g.P.Disk (meaning_of c.args.verb) c.args.port.now c.print.new.port
+    c.print.result (words.Print c.as_bytes.result.now) is (λ other. cc)
+    (λ seed scale other. cc)
+    c.print.ensures.copies)
 
 pub returns-in-Digest-clause-does : goal.returns-in-Digest-clause-does
 returns-in-Digest-clause-does g c =
@@ -110,6 +148,10 @@ returns-in-Digest-clause-does g c =
     c.carry_out-in-Digest.ensures.runs c.carry_out-in-Digest.ensures.none
     c.carry_out-in-Digest.ensures.changes
     c.carry_out-in-Digest.ensures.quiet
+    (opened_copies g.P.Disk (meaning_of c.args.verb) c.args.port.now c.carry_out-in-Digest.new.port
+    c.carry_out-in-Digest.result (words.Digest c.as_bytes-in-Digest.result.now) is (λ other. cc)
+    (λ seed scale other. cc)
+    c.carry_out-in-Digest.ensures.copies)
 
 pub returns-in-Install-clause-does : goal.returns-in-Install-clause-does
 returns-in-Install-clause-does g c =
@@ -117,7 +159,12 @@ returns-in-Install-clause-does g c =
     other_verb g.P.Disk (meaning_of c.args.verb) c.args.port.now c.install.new.port
     c.install.result c.install.ensures.words c.install.ensures.steady c.install.ensures.disk
     c.install.ensures.port words.Install is refl (λ fresh other. cc) (λ limit max other. cc)
-    (λ same. c.install.ensures.runs) (λ other. cc) (λ seed scale other. cc)
+    (λ same. c.install.ensures.runs) (λ other. cc)
+    (λ seed scale other. cc)
+    (opened_copies g.P.Disk (meaning_of c.args.verb) c.args.port.now c.install.new.port
+    c.install.result words.Install is (λ other. cc)
+    (λ seed scale other. cc)
+    c.install.ensures.copies)
 
 pub returns-in-Status-clause-does : goal.returns-in-Status-clause-does
 returns-in-Status-clause-does g c =
@@ -127,6 +174,10 @@ returns-in-Status-clause-does g c =
     c.tell_page.ensures.disk (λ port. inr (c.tell_page.ensures.port port))
     words.Status is refl (λ fresh other. cc) (λ limit max other. cc)
     (λ other. cc) (λ same. c.tell_page.ensures.tells) (λ seed scale other. cc)
+    (opened_copies g.P.Disk (meaning_of c.args.verb) c.args.port.now c.tell_page.new.port
+    c.tell_page.result words.Status is (λ other. cc)
+    (λ seed scale other. cc)
+    c.tell_page.ensures.copies)
 
 pub returns-in-Demo-clause-does : goal.returns-in-Demo-clause-does
 returns-in-Demo-clause-does g c =
@@ -145,6 +196,8 @@ returns-in-Demo-clause-does g c =
     (λ (n : ℕ).
     DemonstratesOf g.P.Disk n c.in-Demo.scale c.args.port.now c.demo.new.port c.demo.result) one
     c.demo.ensures.does))
+    (demo_copies g.P.Disk (meaning_of c.args.verb) c.args.port.now c.demo.new.port c.demo.result
+    c.in-Demo.seed c.in-Demo.scale is c.demo.ensures.copies)
 
 pub returns-in-Boot-clause-explains : goal.returns-in-Boot-clause-explains
 returns-in-Boot-clause-explains g c = λ t.
@@ -289,3 +342,14 @@ returns-in-Demo-clause-explains g c = λ t.
     c.demo.new.cause)
     (sym is)
     (c.demo.ensures.unmade t)
+
+pub returns-in-Make-clause-does : goal.returns-in-Make-clause-does
+returns-in-Make-clause-does g c =
+    let is : meaning_of c.args.verb ≡ words.Make c.in-Make.limit c.in-Make.metadata_max =
+    search rules in
+    let done = c.make.ensures in
+    make_verb g.P.Disk (meaning_of c.args.verb) c.args.port.now c.make.new.port c.make.result
+    done.words done.steady done.disk done.port c.in-Make.limit c.in-Make.metadata_max is
+    done.made done.refused done.malformed done.changes done.end done.heard done.within
+    (made_copies g.P.Disk (meaning_of c.args.verb) c.args.port.now c.make.new.port c.make.result
+    c.in-Make.limit c.in-Make.metadata_max is)

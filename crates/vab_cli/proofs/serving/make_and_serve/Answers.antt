@@ -5,7 +5,8 @@ use Rattle.vab_disk.specs.Disk.{Adds}
 use Rattle.vab_disk.specs.declared.disk.Disk.{Ghosts}
 use Rattle.vab_disk.specs.Calls.{IsAtRest, OnlyReads, Touches, Changes, InSectors}
 use Rattle.vab_disk.proofs.CallLaws.{reads_none, changes_touches}
-use Rattle.vab_device.specs.Reading.{device, Represents}
+use Rattle.vab_device.specs.Reading.{device, Represents, version_at}
+use Rattle.vab_marks.specs.declared.version.MarkVersion.TheVariants.{Two}
 use Rattle.vab_device.proofs.ReadingLaws.{device_stands}
 use Rattle.vab_recover.specs.Opening.{LeavesSame, IsOfOpening}
 use Rattle.vab_make.specs.Touched.{IsOfMaking}
@@ -15,6 +16,7 @@ use Rattle.vab_make.specs.Made.{refusal_of, made_device_of}
 use Rattle.vab_make.specs.Making.{Gives, IsMade, LeavesMaking}
 use Rattle.vab_session.specs.Served.{ServesDevice}
 use Rattle.vab_cli.specs.declared.status.Status.{Status}
+use Rattle.vab_cli.specs.declared.status.Status.TheVariants.{Done, Malformed}
 use Rattle.vab_cli.specs.declared.status.Status.TheVariants.{NotADevice, NoMemory}
 use Rattle.vab_cli.specs.Codes.{start_status}
 use Rattle.vab_cli.specs.Opening.{Opens}
@@ -34,6 +36,10 @@ use Rattle.vab_causes.specs.declared.cause.Cause.TheVariants as causes
 use Rattle.vab_cli.specs.Causes.{IsUnmade}
 use Rattle.vab_cli.proofs.Causing.{make_read, session_broken, session_opened, start_read}
 use Rattle.vab_cli.proofs.Causing.{unmade_told}
+use Rattle.vab_commands.specs.Copies.{HasBothCopies}
+use Rattle.vab_cli.specs.Copies.{IsAnswered}
+use Rattle.vab_cli.proofs.CopiesLeft.{ended_answers, making_unended, session_held}
+use Rattle.vab_cli.proofs.CopiesLeft.{start_unanswered}
 use Rattle.vab_cli.proofs.serving.make_and_serve.Goals as goal
 
 pub returns-in-Err-clause-runs : goal.returns-in-Err-clause-runs
@@ -235,6 +241,7 @@ module _ {D : Type 0} (g : Ghosts D) (set : List SetImage) (old mid new : D)
     (is : set ≡ [])
     (sized : g.size mid ≡ g.size old)
     (made : IsMade set 0 65536 (g.size old) (g.seen mid))
+    (version : version_at (g.seen mid) ≡ Two)
     (makes : Touches g (InSectors (IsOfMaking set 65536)) old mid)
     (opens : Touches g (IsOfOpening (g.size mid) (g.seen mid)) mid new)
     (W : Device → List ℕ → ℕ → List ℕ → Type 0) where
@@ -254,27 +261,28 @@ module _ {D : Type 0} (g : Ghosts D) (set : List SetImage) (old mid new : D)
   opens_made : Changes g (IsOfFresh W (g.size old)) old new
   opens_made =
       making_fresh g [] (g.size old) W old new
-      (made_opened g [] (g.size old) old mid new here making opening)
+      (made_opened g [] (g.size old) old mid new here version making opening)
 
   serves_made : (t : g.is_modelled) (d : Device) (last : D)
       → Represents d (g.size old) (g.seen new)
       → Changes g (W d (g.seen new 4)) new last
       → Changes g (IsOfFresh W (g.size old)) old last
   serves_made t d last is serves =
-      made_served g [] (g.size old) W old mid last here making
+      made_served g [] (g.size old) W old mid last here version making
       (served_changes g (g.size old) W d mid new last t is opening serves)
 
 pub returns-in-Err-start-clause-changes : goal.returns-in-Err-start-clause-changes
 returns-in-Err-start-clause-changes g c = λ t.
     opens_made g.P.Disk c.from_vec-set.result c.args.port.now c.make_device.new.d c.start.new.d
     (search rules) c.make_device.ensures.touches.quiet.size (c.in-Ok.ensures.made t)
-    c.make_device.ensures.touches (c.start.ensures.touches t) IsOfAll
+    (c.in-Ok.ensures.version t) c.make_device.ensures.touches (c.start.ensures.touches t) IsOfAll
 
 pub returns-in-Err-start-clause-unmerged : goal.returns-in-Err-start-clause-unmerged
 returns-in-Err-start-clause-unmerged g c = λ t none.
     opens_made g.P.Disk c.from_vec-set.result c.args.port.now c.make_device.new.d c.start.new.d
     (search rules) c.make_device.ensures.touches.quiet.size (c.in-Ok.ensures.made t)
-    c.make_device.ensures.touches (c.start.ensures.touches t) IsOfCommands
+    (c.in-Ok.ensures.version t) c.make_device.ensures.touches (c.start.ensures.touches t)
+    IsOfCommands
 
 pub returns-clause-changes : goal.returns-clause-changes
 returns-clause-changes g c = λ t.
@@ -282,7 +290,8 @@ returns-clause-changes g c = λ t.
     c.make_device.ensures.touches.quiet.size in
     let by = c.serve-answer.ensures.changes t in
     serves_made g.P.Disk c.from_vec-set.result c.args.port.now c.make_device.new.d c.start.new.d
-    (search rules) sized (c.in-Ok.ensures.made t) c.make_device.ensures.touches
+    (search rules) sized (c.in-Ok.ensures.made t) (c.in-Ok.ensures.version t)
+    c.make_device.ensures.touches
     (c.start.ensures.touches t) IsOfAll t c.in-Ok-start.device c.serve-answer.new.p
     (subst
     (λ (n : ℕ). Represents c.in-Ok-start.device n (g.P.Disk.seen c.start.new.d)) sized
@@ -297,7 +306,8 @@ returns-clause-unmerged g c = λ t none.
     let left : g.P.Disk.input_left c.start.new.d ≡ g.P.Disk.input_left c.args.port.now =
     c.start.ensures.quiet.left t ∙ c.make_device.ensures.touches.quiet.left t in
     serves_made g.P.Disk c.from_vec-set.result c.args.port.now c.make_device.new.d c.start.new.d
-    (search rules) sized (c.in-Ok.ensures.made t) c.make_device.ensures.touches
+    (search rules) sized (c.in-Ok.ensures.made t) (c.in-Ok.ensures.version t)
+    c.make_device.ensures.touches
     (c.start.ensures.touches t) IsOfCommands t c.in-Ok-start.device c.serve-answer.new.p
     (subst
     (λ (n : ℕ). Represents c.in-Ok-start.device n (g.P.Disk.seen c.start.new.d)) sized
@@ -344,3 +354,23 @@ returns-clause-broken_off g c = λ t bad.
     (c.start.ensures.quiet.left t ∙ c.make_device.ensures.touches.quiet.left t)
     (c.serve-answer.ensures.serves t) c.session_cause.ensures
     (sym c.session_status.ensures ∙ bad)
+
+pub returns-in-Err-clause-copies : goal.returns-in-Err-clause-copies
+returns-in-Err-clause-copies g c = λ t ends.
+    absurd
+    (making_unended c.in-Err.fault
+    (subst (λ (s : Status). (s ≡ Done) ⊎ (s ≡ Malformed)) c.from.ensures ends))
+
+pub returns-in-Err-start-clause-copies : goal.returns-in-Err-start-clause-copies
+returns-in-Err-start-clause-copies g c = λ t ends.
+    absurd
+    (start_unanswered c.in-Err-start.fault
+    (subst IsAnswered c.from-in-Err-start.ensures (ended_answers _ ends)))
+
+pub returns-clause-copies : goal.returns-clause-copies
+returns-clause-copies g c = λ t ends.
+    subst (λ (n : ℕ). HasBothCopies n (g.P.Disk.seen c.serve-answer.new.p))
+    (c.start.ensures.quiet.size ∙ c.make_device.ensures.touches.quiet.size)
+    (c.serve-answer.ensures.copies t
+    (session_held c.serve-answer.result
+    (subst IsAnswered c.session_status.ensures (ended_answers _ ends))))

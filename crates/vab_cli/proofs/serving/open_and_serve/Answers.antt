@@ -10,6 +10,11 @@ use Rattle.vab_cli.specs.Touched.{IsOfServing}
 use Rattle.vab_cli.proofs.Touching.{served_changes}
 use Rattle.std.proofs.Common.{◌∙◌, []}
 use Rattle.vab_cli.proofs.Causing.{opening_kind, session_broken, session_opened, unopened_read}
+use Rattle.vab_commands.specs.Copies.{HasBothCopies}
+use Rattle.vab_cli.specs.Copies.{IsAnswered}
+use Rattle.vab_cli.proofs.CopiesLeft.{early_unanswered, session_held}
+use Rattle.std.proofs.Common.{inr}
+use Rattle.vab_cli.proofs.Writing.{changes_as, writes_opened}
 use Rattle.vab_cli.proofs.serving.open_and_serve.Goals as goal
 
 pub returns-clause-runs : goal.returns-clause-runs
@@ -74,3 +79,33 @@ returns-clause-broken_off g c = λ t bad.
     c.open.new.port c.serve-answer.new.p c.serve-answer.result c.session_cause.result opens.left
     (c.serve-answer.ensures.serves t) c.session_cause.ensures
     (sym c.session_status.ensures ∙ bad)
+
+pub returns-in-Err-clause-copies : goal.returns-in-Err-clause-copies
+returns-in-Err-clause-copies g c = λ t s stands answers.
+    absurd
+    ((let fails = c.in-Err.ensures.early t s stands in
+    early_unanswered c.in-Err.status fails.early) answers)
+
+pub returns-clause-copies : goal.returns-clause-copies
+returns-clause-copies g c = λ t s stands answers.
+    subst (λ (n : ℕ). HasBothCopies n (g.P.Disk.seen c.serve-answer.new.p)) c.open.ensures.size
+    (c.serve-answer.ensures.copies t
+    (session_held c.serve-answer.result (subst IsAnswered c.session_status.ensures answers)))
+
+pub returns-in-Err-clause-writes : goal.returns-in-Err-clause-writes
+returns-in-Err-clause-writes g c = λ t s stands.
+    inr (changes_as g.P.Disk _ c.args.port.now c.open.new.port t (c.open.ensures.changes t))
+
+pub returns-clause-writes : goal.returns-clause-writes
+returns-clause-writes g c = λ t s stands.
+    let opens = c.in-Ok.ensures.opens t in
+    writes_opened g.P.Disk (g.P.Disk.size c.args.port.now) c.in-Ok.device c.serve-answer.result
+    c.session_status.result c.args.port.now c.open.new.port c.serve-answer.new.p t
+    c.open.ensures.size opens.left (c.in-Ok.ensures.represents t) (c.open.ensures.changes t)
+    opens.settled c.session_status.ensures (c.serve-answer.ensures.writes t)
+
+pub returns-in-Err-clause-unheard : goal.returns-in-Err-clause-unheard
+returns-in-Err-clause-unheard g c = λ t fault none. c.open.ensures.quiet t
+
+pub returns-clause-unheard : goal.returns-clause-unheard
+returns-clause-unheard g c = λ t fault none. absurd (c.in-Ok.ensures.found t fault none)

@@ -6,11 +6,13 @@ use Rattle.vab_disk.proofs.Moments.{adds_on, adds_wider}
 use Rattle.vab_disk.proofs.CallLaws.{touches_wider, touches_on, touches_then}
 use Rattle.vab_bootctl.specs.Control.{control_of, KeepsRest}
 use Rattle.vab_copies.specs.Copies.{zeros}
+use Rattle.vab_marks.specs.Version.{version_in}
 use Rattle.vab_make.specs.Making.{IsMade}
 use Rattle.vab_make.specs.Steps.{blanked}
 use Rattle.vab_make.proofs.TouchLaws.{mark_stays}
 use Rattle.vab_make.proofs.Gates.{marked, places_marked, blank_making, first_making, last_making}
 use Rattle.vab_make.proofs.making.make_on.Goals as goal
+use Rattle.vab_make.proofs.StateLaws.{IsIdle}
 
 -- the mark's sector after the first gate
 blanked_mark : (old new : Image) → new ≡ set_sector old 2048 zeros → new 2048 ≡ zeros
@@ -58,12 +60,14 @@ returns-clause-touches g c =
 pub returns-clause-made : goal.returns-clause-made
 returns-clause-made g c = λ t limit is.
     let size = g.D.Disk.size c.args.d.now in
+    let idle : IsIdle c.idle_mark.result =
+    record { mark = c.idle_mark.ensures.mark; version = c.idle_mark.ensures.version } in
     on_ok_weaker c.put_gate-2.result
     (λ now.
     subst (λ (i : Image). IsMade c.args.set.now limit c.args.max size i) (sym now)
     (marked c.args.set.now limit c.args.max size c.args.text.now c.idle_mark.result
     (g.D.Disk.seen c.settle_contents.new.d) (g.met.D.Disk.small c.args.d.now) is
-    (c.in_ok-settle_contents.ensures.all t) c.idle_mark.ensures))
+    (c.in_ok-settle_contents.ensures.all t) idle))
     (c.put_gate-2.ensures.written t)
 
 pub returns-clause-copies : goal.returns-clause-copies
@@ -84,6 +88,16 @@ returns-clause-control g c = λ t.
     (ap (λ (i : Image). i 4) now
     ∙ set_there full 2048 c.idle_mark.result 4 (λ e. omega (arith, e)))
     ∙ (c.in_ok-settle_contents.ensures.all t).control)
+    (c.put_gate-2.ensures.written t)
+
+pub returns-clause-version : goal.returns-clause-version
+returns-clause-version g c = λ t.
+    let full = g.D.Disk.seen c.settle_contents.new.d in
+    on_ok_weaker c.put_gate-2.result
+    (λ now.
+    ap (λ (i : Image). version_in (i 2048)) now
+    ∙ ap version_in (set_here full 2048 c.idle_mark.result 2048 refl)
+    ∙ c.idle_mark.ensures.version)
     (c.put_gate-2.ensures.written t)
 
 pub returns-clause-rest : goal.returns-clause-rest
@@ -119,7 +133,7 @@ returns-clause-time g c = λ t limit is rest.
     let made =
     marked c.args.set.now limit c.args.max size c.args.text.now c.idle_mark.result full
     (g.met.D.Disk.small c.args.d.now) is (c.in_ok-settle_contents.ensures.all t)
-    c.idle_mark.ensures in
+    (record { mark = c.idle_mark.ensures.mark; version = c.idle_mark.ensures.version }) in
     adds_on g.D.Disk.moment g.D.Disk.outcomes _ _ _ _ _
     (adds_on g.D.Disk.moment g.D.Disk.outcomes _ _ _ _ _
     (adds_wider g.D.Disk.moment g.D.Disk.outcomes _ _ _ _ (c.put_gate.ensures.gate t rest)

@@ -3,7 +3,8 @@ use Rattle.std.specs.Prelude.{IfOk}
 use Rattle.vab_bytes.specs.Number.{IsBytes}
 use Rattle.vab_marks.specs.declared.mark.UpdateMark.{UpdateMark}
 use Rattle.vab_marks.specs.declared.sector.MarkFault.{MarkFault}
-use Rattle.vab_marks.specs.Mark.{FitsMark, mark_spelling, mark_of}
+use Rattle.vab_marks.specs.Version.{version_in}
+use Rattle.vab_marks.specs.Mark.{FitsMark, mark_under, mark_of}
 use Rattle.vab_marks.proofs.MarkLaws.{found_mark, read_mark}
 use Rattle.vab_marks.proofs.mark.decode_mark.Goals as goal
 
@@ -11,7 +12,7 @@ found : (bytes : List ℕ) (r : Result UpdateMark MarkFault)
     → length bytes ≡ 512
     → IsBytes bytes
     → r ≡ mark_of bytes
-    → IfOk r (λ m. FitsMark m × (bytes ≡ mark_spelling m))
+    → IfOk r (λ m. FitsMark m × (bytes ≡ mark_under (version_in bytes) m))
 found bytes (Ok m) len are h = found_mark bytes m len are (sym h)
 found bytes (Err e) len are h = tt
 
@@ -20,5 +21,5 @@ returns-clause-found c = found c.args.bytes.now c.mark_in.result c.told-bytes c.
     c.mark_in.ensures
 
 pub returns-clause-only : goal.returns-clause-only
-returns-clause-only c m fits spelled = c.mark_in.ensures ∙ read_mark c.args.bytes.now m c.fits-bytes
-    fits spelled
+returns-clause-only c v m fits spelled = c.mark_in.ensures
+    ∙ read_mark c.args.bytes.now v m c.fits-bytes fits spelled

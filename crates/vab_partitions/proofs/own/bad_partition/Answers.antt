@@ -14,7 +14,7 @@ use Rattle.vab_partitions.proofs.own.bad_partition.Goals.{else-is_of_slot}
 
 pub loop-partition-init : goal.loop-partition-init
 loop-partition-init c =
-    stands_first c.args.slot c.args.table.now c.new-seen.result c.new-seen.ensures
+    stands_first c.args.most c.args.slot c.args.table.now c.new-seen.result c.new-seen.ensures
 
 pub joins-requires-clause-long : goal.joins-requires-clause-long
 joins-requires-clause-long c =
@@ -51,7 +51,8 @@ returns-then-not-branch-clause-exact c =
     let own : is_of_slot c.args.slot p.name ≡ true =
     subst (λ (n : List ℕ). is_of_slot c.args.slot n ≡ true) c.text.ensures.value
     (sym c.is_of_slot.ensures ∙ c.if-is_of_slot.true) in
-    sym (stands_bad c.args.slot c.args.table.now i c.loop-partition.seen c.loop-partition.count p
+    sym (stands_bad c.args.most c.args.slot c.args.table.now i c.loop-partition.seen
+    c.loop-partition.count p
     c.loop-partition.invariant
     (omega (arith, ap length c.as_slice-partition-items.ensures, c.loop-partition-test.true)) at own
     (sym c.in_ok-joins.ensures.joins ∙ c.if-not-branch.true))
@@ -59,6 +60,8 @@ returns-then-not-branch-clause-exact c =
 pub loop-partition-preserved : goal.loop-partition-preserved
 loop-partition-preserved c =
     let t = c.args.table.now in
+    let slot = c.args.slot in
+    let most = c.args.most in
     let p : Partition = c.partition-item.result in
     let i : ℕ = c.loop-partition.partition-index in
     let at : p ≡ get_or t.partitions i p =
@@ -68,41 +71,41 @@ loop-partition-preserved c =
     omega (arith, ap length c.as_slice-partition-items.ensures, c.loop-partition-test.true) in
     elim c.if-is_of_slot.branch [
       | then-is_of_slot+in_ok-joins+else-not-branch w ↦
-          let own : is_of_slot c.args.slot p.name ≡ true =
-          subst (λ (n : List ℕ). is_of_slot c.args.slot n ≡ true) c.text.ensures.value
+          let own : is_of_slot slot p.name ≡ true =
+          subst (λ (n : List ℕ). is_of_slot slot n ≡ true) c.text.ensures.value
           (sym c.is_of_slot.ensures ∙ w.if-is_of_slot.true) in
           let ok : w.in_ok-joins.field-0 ≡ true = w.if-not-branch.false in
           let next =
-          stands_take c.args.slot t i c.loop-partition.seen w.joins.new.seen c.loop-partition.count
+          stands_take most slot t i c.loop-partition.seen w.joins.new.seen c.loop-partition.count
           p
           c.loop-partition.invariant lt at own (sym w.in_ok-joins.ensures.joins
           ∙ ok) (w.in_ok-joins.ensures.added ok) in
-          subst (λ (l : List ℕ). Stands c.args.slot t (i + 1) l c.if-is_of_slot.count)
+          subst (λ (l : List ℕ). Stands most slot t (i + 1) l c.if-is_of_slot.count)
           (sym w.seen-is)
-          (subst (λ (n : ℕ). Stands c.args.slot t (i + 1) w.joins.new.seen n) (sym w.count-is) next)
+          (subst (λ (n : ℕ). Stands most slot t (i + 1) w.joins.new.seen n) (sym w.count-is) next)
       | else-is_of_slot w ↦
-          let other : is_of_slot c.args.slot p.name ≡ false =
-          subst (λ (n : List ℕ). is_of_slot c.args.slot n ≡ false) c.text.ensures.value
+          let other : is_of_slot slot p.name ≡ false =
+          subst (λ (n : List ℕ). is_of_slot slot n ≡ false) c.text.ensures.value
           (sym c.is_of_slot.ensures ∙ w.if-is_of_slot.false) in
           let next =
-          stands_skip c.args.slot t i c.loop-partition.seen c.loop-partition.count p
+          stands_skip most slot t i c.loop-partition.seen c.loop-partition.count p
           c.loop-partition.invariant lt at other in
-          subst (λ (l : List ℕ). Stands c.args.slot t (i + 1) l c.if-is_of_slot.count)
+          subst (λ (l : List ℕ). Stands most slot t (i + 1) l c.if-is_of_slot.count)
           (sym w.seen-is)
-          (subst (λ (n : ℕ). Stands c.args.slot t (i + 1) c.loop-partition.seen n) (sym w.count-is)
+          (subst (λ (n : ℕ). Stands most slot t (i + 1) c.loop-partition.seen n) (sym w.count-is)
           next)
     ]
 
 pub returns-clause-exact : goal.returns-clause-exact
 returns-clause-exact c =
-    sym (stands_last c.args.slot c.args.table.now c.loop-partition.partition-index
+    sym (stands_last c.args.most c.args.slot c.args.table.now c.loop-partition.partition-index
     c.loop-partition.seen
     c.loop-partition.count c.loop-partition.invariant
     (omega (arith, ap length c.as_slice-partition-items.ensures, c.loop-partition-test.false)))
 
 pub returns-clause-own : goal.returns-clause-own
 returns-clause-own c =
-    own_kept c.args.slot (layout_of c.args.table.now).parts
-    (stands_last c.args.slot c.args.table.now c.loop-partition.partition-index c.loop-partition.seen
-    c.loop-partition.count c.loop-partition.invariant
+    own_kept c.args.most c.args.slot (layout_of c.args.table.now).parts c.requires.most
+    (stands_last c.args.most c.args.slot c.args.table.now c.loop-partition.partition-index
+    c.loop-partition.seen c.loop-partition.count c.loop-partition.invariant
     (omega (arith, ap length c.as_slice-partition-items.ensures, c.loop-partition-test.false)))

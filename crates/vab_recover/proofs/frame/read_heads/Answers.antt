@@ -9,7 +9,7 @@ pub returns-in-Err-read_control-clause-fault : goal.returns-in-Err-read_control-
 returns-in-Err-read_control-clause-fault g c = λ t kind.
     let seen = sym (c.read_marks.ensures.reads.seen t) in
     no_control (g.D.Disk.size c.args.d.now) (g.D.Disk.seen c.args.d.now) c.in-Ok.mark
-    c.in-Ok.statuses.items _ (c.in-Ok.ensures.marked t)
+    c.in-Ok.version c.in-Ok.statuses.items _ (c.in-Ok.ensures.marked t)
     (λ a b. ap (control_in a b) seen ∙ c.in-Err-read_control.ensures.fault t kind a b)
 
 pub returns-in-Err-read_geometry-clause-fault : goal.returns-in-Err-read_geometry-clause-fault
@@ -19,6 +19,6 @@ returns-in-Err-read_geometry-clause-fault g c = λ t kind.
     let size =
     sym (c.read_control.ensures.reads.quiet.size ∙ c.read_marks.ensures.reads.quiet.size) in
     no_geometry (g.D.Disk.size c.args.d.now) (g.D.Disk.seen c.args.d.now) c.in-Ok.mark
-    c.in-Ok.statuses.items c.in-Ok-read_control.control _ (c.in-Ok.ensures.marked t)
+    c.in-Ok.version c.in-Ok.statuses.items c.in-Ok-read_control.control _ (c.in-Ok.ensures.marked t)
     (ap (λ (i : Image). control_of (i 4)) seen ∙ c.in-Ok-read_control.ensures.ok t)
     ((λ i. geometry_at (size i) (both i)) ∙ c.in-Err-read_geometry.ensures.answers t kind)

@@ -1,7 +1,28 @@
+use Rattle.std.proofs.Common.{◌≡◌, ℕ, subst}
+use Rattle.std.specs.Prelude.{Option, Some, None}
+use Rattle.vab_marks.specs.declared.version.MarkVersion.{MarkVersion}
+use Rattle.vab_marks.specs.Version.{partitions_under}
+use Rattle.vab_device.specs.declared.fault.StartFault.{StartFault}
+use Rattle.vab_recover.specs.Opened.{fault_of}
+use Rattle.vab_recover.specs.declared.frame.Frame.{Frame}
+use Rattle.vab_recover.proofs.BehindLaws.{framed_stores}
 use Rattle.vab_recover.proofs.FrameLaws.{frame_judged, frame_scanned, frame_stated, frame_read}
 use Rattle.vab_recover.proofs.FrameLaws.{kept_is, opened_of, slots_are}
 use Rattle.vab_recover.proofs.FinishLaws.{through_are, through_on_disk, assembled_kept}
 use Rattle.vab_recover.proofs.opening.finish.Goals as goal
+
+-- the rules are judged by the number that the version of the mark says
+by_version : (n : ℕ) (f : Frame) (x : Option StartFault)
+    → n ≡ partitions_under f.heads.version
+    → fault_of n f.heads.mark.phase f.heads.mark.slot f.tables.source.table f.tables.target ≡ x
+    → fault_of (partitions_under f.heads.version) f.heads.mark.phase f.heads.mark.slot
+    f.tables.source.table f.tables.target
+    ≡ x
+by_version n f x same is =
+    subst
+    (λ (k : ℕ).
+    fault_of k f.heads.mark.phase f.heads.mark.slot f.tables.source.table f.tables.target ≡ x)
+    same is
 
 pub read_plan-requires-clause-target : goal.read_plan-requires-clause-target
 read_plan-requires-clause-target g c =
@@ -16,40 +37,44 @@ read_plan-requires-clause-on_disk g c =
     c.requires.there c.in-Ok.ensures.update c.in-Ok.ensures.merging c.requires.are.enough
 
 pub returns-in-Err-clause-fault : goal.returns-in-Err-clause-fault
-returns-in-Err-clause-fault g c = λ t kind.
-    frame_judged (g.D.Disk.size c.args.d.now) (g.D.Disk.seen c.args.d.now) c.args.frame
-    (c.requires.framed t) c.requires.are.phase c.requires.are.slot c.requires.there.both _
-    (c.in-Err.ensures.fault kind)
+returns-in-Err-clause-fault g c = λ t image same framed kind.
+    frame_judged (g.D.Disk.size c.args.d.now) image c.args.frame
+    framed c.requires.are.phase c.requires.are.slot c.requires.there.both _
+    (by_version _ c.args.frame (Some c.in-Err.fault) c.partitions.ensures.is
+    (c.in-Err.ensures.fault kind))
 
 pub returns-in-Err-read_plan-clause-fault : goal.returns-in-Err-read_plan-clause-fault
-returns-in-Err-read_plan-clause-fault g c = λ t kind.
-    frame_scanned (g.D.Disk.size c.args.d.now) (g.D.Disk.seen c.args.d.now) c.args.frame
-    (c.requires.framed t) c.requires.are.phase c.requires.are.slot c.requires.there.both _
-    c.in-Ok.ensures.kept (c.in-Err-read_plan.ensures.fault t kind)
+returns-in-Err-read_plan-clause-fault g c = λ t image same framed kind.
+    frame_scanned (g.D.Disk.size c.args.d.now) image c.args.frame
+    framed c.requires.are.phase c.requires.are.slot c.requires.there.both _
+    (by_version _ c.args.frame None c.partitions.ensures.is c.in-Ok.ensures.kept)
+    (framed_stores c.args.frame
+    (g.D.Disk.seen c.args.d.now) image _ same (c.in-Err-read_plan.ensures.fault t kind))
 
 pub returns-in-Err-judge_slots-clause-fault : goal.returns-in-Err-judge_slots-clause-fault
-returns-in-Err-judge_slots-clause-fault g c = λ t kind.
+returns-in-Err-judge_slots-clause-fault g c = λ t image same framed kind.
     let f = c.args.frame in
     let plan = c.in-Ok-read_plan.ensures.plan in
-    frame_stated (g.D.Disk.size c.args.d.now) (g.D.Disk.seen c.args.d.now) f (c.requires.framed t)
+    frame_stated (g.D.Disk.size c.args.d.now) image f framed
     c.requires.are.phase c.requires.are.slot c.requires.there.both plan.scanned _
-    c.in-Ok.ensures.kept (plan.read t)
+    (by_version _ c.args.frame None c.partitions.ensures.is c.in-Ok.ensures.kept)
+    (framed_stores f (g.D.Disk.seen c.args.d.now) image _ same (plan.read t))
     (slots_are f c.in-Ok-read_plan.through plan.scanned _ plan.plan_is
     c.in-Err-judge_slots.ensures.fault)
 
 pub returns-in-Ok-assemble-clause-opened : goal.returns-in-Ok-assemble-clause-opened
-returns-in-Ok-assemble-clause-opened g c = λ t.
+returns-in-Ok-assemble-clause-opened g c = λ t image same framed.
     let f = c.args.frame in
     let h = f.heads in
     let plan = c.in-Ok-read_plan.ensures.plan in
     let is = c.in-Ok-assemble.ensures.is in
-    let framed = c.requires.framed t in
     opened_of c.in-Ok-assemble.device f.tables (g.D.Disk.size c.args.d.now)
-    (g.D.Disk.seen c.args.d.now) h.mark h.statuses.items h.control h.geometry plan.scanned is.mark
+    image h.mark h.statuses.items h.control h.geometry plan.scanned is.mark
     is.control is.geometry
-    (frame_read (g.D.Disk.size c.args.d.now) (g.D.Disk.seen c.args.d.now) f framed
+    (frame_read (g.D.Disk.size c.args.d.now) image f framed
     c.requires.are.phase c.requires.are.slot c.requires.there.both plan.scanned
-    c.in-Ok.ensures.kept (plan.read t)
+    (by_version _ c.args.frame None c.partitions.ensures.is c.in-Ok.ensures.kept)
+    (framed_stores f (g.D.Disk.seen c.args.d.now) image _ same (plan.read t))
     (slots_are f c.in-Ok-read_plan.through plan.scanned _ plan.plan_is
     c.in-Ok-judge_slots.ensures.ok))
     (kept_is c.in-Ok-assemble.device f.tables h.mark h.statuses.items h.control h.geometry

@@ -1,8 +1,8 @@
 use Rattle.std.proofs.Common.{◌∙◌, ℕ, sym, subst}
 use Rattle.vab_disk.specs.Disk.{Image, Nothing}
-use Rattle.vab_disk.specs.Calls.{OnlyReads, Touches}
+use Rattle.vab_disk.specs.Calls.{Touches}
 use Rattle.vab_disk.proofs.Moments.{adds_on, adds_wider}
-use Rattle.vab_disk.proofs.CallLaws.{touches_reads, touches_then}
+use Rattle.vab_disk.proofs.CallLaws.{reads_then, touches_reads, touches_then}
 use Rattle.vab_device.specs.declared.device.Device.{Device}
 use Rattle.vab_device.specs.Reading.{device}
 use Rattle.vab_device.proofs.ReadingLaws.{device_stands}
@@ -11,7 +11,8 @@ use Rattle.vab_tidy.specs.Stays.{LeavesSame}
 use Rattle.vab_tidy.specs.Tidied.{HasCompleted}
 use Rattle.vab_tidy.proofs.StaysLaws.{leaves_before}
 use Rattle.vab_recover.specs.Opened.{with_tables}
-use Rattle.vab_recover.specs.Opening.{IsOfOpening, HasNoneCompleted, IsTidied, GoesOn}
+use Rattle.vab_recover.specs.Opening.{IsOfOpening, HasVersion2, HasNoneCompleted, IsTidied}
+use Rattle.vab_recover.specs.Opening.{GoesOn}
 use Rattle.vab_recover.specs.Repairs.{BothCopiesHold}
 use Rattle.vab_recover.proofs.MendLaws.{rests, order_of}
 use Rattle.vab_recover.proofs.opening.start.Goals as goal
@@ -54,30 +55,26 @@ returns-in-Err-clause-touches g c = λ t.
     c.mend.ensures.stays.touches))
 
 pub returns-in-Ok-clause-healthy : goal.returns-in-Ok-clause-healthy
-returns-in-Ok-clause-healthy g c = λ t hold none.
+returns-in-Ok-clause-healthy g c = λ t hold version none.
+    let seen = sym (c.in_ok-device.ensures.reads.seen t) in
     let still : BothCopiesHold (g.D.Disk.size c.look.new.d) (g.D.Disk.seen c.look.new.d) =
     subst (λ (k : ℕ). BothCopiesHold k (g.D.Disk.seen c.look.new.d))
     (sym c.in_ok-device.ensures.reads.quiet.size)
-    (subst (λ (i : Image). BothCopiesHold (g.D.Disk.size c.args.d.now) i)
-    (sym (c.in_ok-device.ensures.reads.seen t)) hold) in
-    subst (λ (x : g.row.D.Denot). OnlyReads g.D.Disk c.args.d.now x)
-    (sym
-    (c.mend.ensures.healthy t still
-    (subst HasNoneCompleted (sym (c.in_ok-device.ensures.reads.seen t)) none)))
-    c.in_ok-device.ensures.reads
+    (subst (λ (i : Image). BothCopiesHold (g.D.Disk.size c.args.d.now) i) seen hold) in
+    reads_then g.D.Disk c.args.d.now c.look.new.d c.mend.new.d c.in_ok-device.ensures.reads
+    (c.mend.ensures.healthy t still (subst HasVersion2 seen version)
+    (subst HasNoneCompleted seen none))
 
 pub returns-in-Err-clause-healthy : goal.returns-in-Err-clause-healthy
-returns-in-Err-clause-healthy g c = λ t hold none.
+returns-in-Err-clause-healthy g c = λ t hold version none.
+    let seen = sym (c.in_ok-device.ensures.reads.seen t) in
     let still : BothCopiesHold (g.D.Disk.size c.look.new.d) (g.D.Disk.seen c.look.new.d) =
     subst (λ (k : ℕ). BothCopiesHold k (g.D.Disk.seen c.look.new.d))
     (sym c.in_ok-device.ensures.reads.quiet.size)
-    (subst (λ (i : Image). BothCopiesHold (g.D.Disk.size c.args.d.now) i)
-    (sym (c.in_ok-device.ensures.reads.seen t)) hold) in
-    subst (λ (x : g.row.D.Denot). OnlyReads g.D.Disk c.args.d.now x)
-    (sym
-    (c.mend.ensures.healthy t still
-    (subst HasNoneCompleted (sym (c.in_ok-device.ensures.reads.seen t)) none)))
-    c.in_ok-device.ensures.reads
+    (subst (λ (i : Image). BothCopiesHold (g.D.Disk.size c.args.d.now) i) seen hold) in
+    reads_then g.D.Disk c.args.d.now c.look.new.d c.mend.new.d c.in_ok-device.ensures.reads
+    (c.mend.ensures.healthy t still (subst HasVersion2 seen version)
+    (subst HasNoneCompleted seen none))
 
 pub returns-in-Ok-clause-tidied : goal.returns-in-Ok-clause-tidied
 returns-in-Ok-clause-tidied g c = λ t.

@@ -5,7 +5,7 @@ use Rattle.vab_disk.proofs.CallLaws.{touches_then, touches_wider}
 use Rattle.vab_lpstore.specs.Layout.{copy_sectors, backup_of, BothHold}
 use Rattle.vab_lpstore.specs.Storing.{LeavesTable}
 use Rattle.vab_layout.specs.Slots.{other_slot}
-use Rattle.vab_device.specs.Reading.{device, Represents}
+use Rattle.vab_device.specs.Reading.{device, RepresentsUnder, version_at}
 use Rattle.vab_recover.specs.Opened.{with_tables}
 use Rattle.vab_tidy.specs.Stays.{LeavesSame}
 use Rattle.vab_recover.specs.Repairs.{IsRepair}
@@ -105,7 +105,8 @@ returns-in-Some-clause-represents g c = λ t.
     let d = c.args.kept.now in
     let new = g.D.Disk.seen c.repair_table-in-Some.new.d in
     on_ok (BothHold d.geometry (other_slot d.mark.slot) c.in-Some.target.text new)
-    (Represents (with_tables c.args.tables.now d) (g.D.Disk.size c.args.d.now) new)
+    (RepresentsUnder (version_at (g.D.Disk.seen c.args.d.now)) (with_tables c.args.tables.now d)
+    (g.D.Disk.size c.args.d.now) new)
     c.repair_table-in-Some.result
     (new_represents d c.args.tables.now (g.D.Disk.size c.args.d.now) (g.D.Disk.seen c.args.d.now)
     c.requires.is c.requires.there (c.requires.read t) (g.D.Disk.seen c.repair_table.new.d)

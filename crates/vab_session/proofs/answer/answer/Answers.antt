@@ -3,6 +3,7 @@ use Rattle.vab_commands.proofs.ChangeLaws.{changes_by}
 use Rattle.vab_exchanges.specs.Reading.{rest_of, beyond_of, total_of, count_of, most_of}
 use Rattle.vab_session.specs.Served.{kept_on, AnswersOrFails}
 use Rattle.vab_session.proofs.Changing.{follows_kept}
+use Rattle.vab_session.proofs.WrittenLaws.{writes_as}
 use Rattle.vab_session.proofs.answer.answer.Goals as goal
 
 pub returns-in-Ok-command-clause-does : goal.returns-in-Ok-command-clause-does
@@ -41,3 +42,13 @@ returns-in-Err-clause-changes g c = λ t.
 pub returns-in-Ok-clause-follows : goal.returns-in-Ok-clause-follows
 returns-in-Ok-clause-follows g c =
     follows_kept c.args.kept.device _ c.in-Ok.kept.device c.in-Ok.ensures.source
+
+pub returns-in-Ok-clause-writes : goal.returns-in-Ok-clause-writes
+returns-in-Ok-clause-writes g c = λ t.
+    writes_as g.P.Disk (λ s b. ⊥) _ c.args.p.now c.download.new.p (λ s b none. absurd none)
+    (c.download.ensures.writes t)
+
+pub returns-in-Err-clause-writes : goal.returns-in-Err-clause-writes
+returns-in-Err-clause-writes g c = λ t.
+    writes_as g.P.Disk (λ s b. ⊥) _ c.args.p.now c.download.new.p (λ s b none. absurd none)
+    (c.download.ensures.writes t)

@@ -1,4 +1,4 @@
-use Rattle.std.proofs.Common.{◌≡◌, inl, ◌∙◌, ℕ, List, Ok, ap, subst, false}
+use Rattle.std.proofs.Common.{◌≡◌, inl, ◌∙◌, ℕ, List, Ok, refl, ap, subst, false}
 use Rattle.std.specs.Prelude.{Option}
 use Rattle.vab_disk.proofs.CallLaws.{changes_telling}
 use Rattle.vab_model.specs.Commands.{command_of}
@@ -17,6 +17,8 @@ use Rattle.vab_session.specs.declared.kept.KeptDevice.{KeptDevice}
 use Rattle.vab_session.specs.Served.{kept_on}
 use Rattle.vab_session.proofs.Changing.{changes_told, follows_done}
 use Rattle.vab_session.proofs.Data.{command_before, command_done, command_told}
+use Rattle.vab_commands.proofs.CopiesLaws.{both_copies, copies_stay}
+use Rattle.vab_session.proofs.WrittenLaws.{command_tries, command_writes, writes_told}
 use Rattle.vab_session.proofs.answer.carry_out.Goals as goal
 
 pub returns-in-Err-clause-does : goal.returns-in-Err-clause-does
@@ -133,3 +135,62 @@ pub returns-in-Ok-tell_reply-clause-follows : goal.returns-in-Ok-tell_reply-clau
 returns-in-Ok-tell_reply-clause-follows g c =
     follows_done c.args.kept.device (command_of c.args.command.now) c.in-Ok.done.0
     c.in-Ok.ensures.follows
+
+pub returns-in-Err-clause-copies : goal.returns-in-Err-clause-copies
+returns-in-Err-clause-copies g c = λ t held.
+    absurd held
+
+pub returns-in-Ok-tell_reply-clause-copies : goal.returns-in-Ok-tell_reply-clause-copies
+returns-in-Ok-tell_reply-clause-copies g c = λ t held.
+    copies_stay (g.P.Disk.size c.args.p.now) (g.P.Disk.seen c.run_one.new.d)
+    (g.P.Disk.seen c.tell_reply.new.p) (c.tell_reply.ensures.seen t)
+    (both_copies c.in-Ok.done.0 _ _ (c.in-Ok.ensures.represents t))
+
+pub returns-in-Err-tell_reply-clause-copies : goal.returns-in-Err-tell_reply-clause-copies
+returns-in-Err-tell_reply-clause-copies g c = λ t held.
+    absurd held
+
+pub returns-in-Err-clause-writes : goal.returns-in-Err-clause-writes
+returns-in-Err-clause-writes g c = λ t.
+    let old = c.args.p.now in
+    let mid = c.run_one.new.d in
+    let device = c.args.kept.device in
+    let cmd = command_of c.args.command.now in
+    let W = IsOfCommand g.P.Disk.is_modelled device (g.P.Disk.seen old 4) cmd in
+    let k = kept_on c.args.kept (g.P.Disk.seen old) in
+    let did : Does g.P.Disk device k.staged cmd W old mid c.run_one.result =
+    subst (λ (st : Option (List ℕ)). Does g.P.Disk device st cmd W old mid c.run_one.result)
+    c.bytes_of.ensures c.run_one.ensures in
+    command_tries g.P.Disk t device k cmd old mid refl _ c.run_one.result refl did
+
+pub returns-in-Ok-tell_reply-clause-writes : goal.returns-in-Ok-tell_reply-clause-writes
+returns-in-Ok-tell_reply-clause-writes g c = λ t.
+    let old = c.args.p.now in
+    let mid = c.run_one.new.d in
+    let new = c.tell_reply.new.p in
+    let device = c.args.kept.device in
+    let cmd = command_of c.args.command.now in
+    let W = IsOfCommand g.P.Disk.is_modelled device (g.P.Disk.seen old 4) cmd in
+    let k = kept_on c.args.kept (g.P.Disk.seen old) in
+    let did : Does g.P.Disk device k.staged cmd W old mid (Ok c.in-Ok.done) =
+    subst (λ (st : Option (List ℕ)). Does g.P.Disk device st cmd W old mid (Ok c.in-Ok.done))
+    c.bytes_of.ensures c.in-Ok.ensures in
+    writes_told g.P.Disk _ old mid new _
+    (command_writes g.P.Disk t device k cmd old mid refl _ c.in-Ok.done did)
+    (λ rest. did.rest t rest) (c.tell_reply.ensures.seen t) (c.tell_reply.ensures.time t)
+
+pub returns-in-Err-tell_reply-clause-writes : goal.returns-in-Err-tell_reply-clause-writes
+returns-in-Err-tell_reply-clause-writes g c = λ t.
+    let old = c.args.p.now in
+    let mid = c.run_one.new.d in
+    let new = c.tell_reply.new.p in
+    let device = c.args.kept.device in
+    let cmd = command_of c.args.command.now in
+    let W = IsOfCommand g.P.Disk.is_modelled device (g.P.Disk.seen old 4) cmd in
+    let k = kept_on c.args.kept (g.P.Disk.seen old) in
+    let did : Does g.P.Disk device k.staged cmd W old mid (Ok c.in-Ok.done) =
+    subst (λ (st : Option (List ℕ)). Does g.P.Disk device st cmd W old mid (Ok c.in-Ok.done))
+    c.bytes_of.ensures c.in-Ok.ensures in
+    writes_told g.P.Disk _ old mid new _
+    (command_writes g.P.Disk t device k cmd old mid refl _ c.in-Ok.done did)
+    (λ rest. did.rest t rest) (c.tell_reply.ensures.seen t) (c.tell_reply.ensures.time t)

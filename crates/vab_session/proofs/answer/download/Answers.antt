@@ -18,12 +18,16 @@ use Rattle.vab_exchanges.specs.Runs.{Answers}
 use Rattle.vab_exchanges.proofs.Answering.{answers_large, fails_large, answers_refused}
 use Rattle.vab_exchanges.proofs.Answering.{fails_refused, fails_data, answers_download, fails_okay}
 use Rattle.vab_exchanges.proofs.Listening.{hears_at, hears_same}
+use Rattle.vab_exchanges.proofs.Progress.{still_settled}
+use Rattle.vab_session.specs.Written.{WritesAs}
 use Rattle.vab_session.specs.declared.kept.KeptDevice.{KeptDevice}
 use Rattle.vab_session.specs.Responses.{response}
 use Rattle.vab_session.specs.Served.{kept_on, Fails, HasCause}
 use Rattle.vab_session.specs.declared.fault.SessionFault.{SessionFault}
 use Rattle.vab_session.proofs.Data.{data_fails, same_holds, read_cause}
 use Rattle.vab_session.proofs.Changing.{changes_listening}
+use Rattle.vab_commands.proofs.CopiesLaws.{both_copies, copies_stay}
+use Rattle.vab_session.proofs.WrittenLaws.{writes_still, writes_telling, writes_told}
 use Rattle.vab_session.proofs.answer.download.Goals as goal
 
 some_wanted : (n : ℕ) → (n ≡ 0 → false ≡ true) → 0 < n
@@ -389,3 +393,124 @@ returns-in-Ok-tell_reply-clause-source g c = keeps_all c.args.kept.device
 
 pub returns-clause-source : goal.returns-clause-source
 returns-clause-source g c = keeps_all c.args.kept.device
+
+pub returns-in-Ok-clause-copies : goal.returns-in-Ok-clause-copies
+returns-in-Ok-clause-copies g c = λ t held.
+    copies_stay (g.P.Disk.size c.args.p.now) (g.P.Disk.seen c.args.p.now)
+    (g.P.Disk.seen c.tell_reply.new.p)
+    (c.tell_reply.ensures.seen t)
+    (both_copies c.args.kept.device _ _ (c.requires.stands t))
+
+pub returns-in-Err-clause-copies : goal.returns-in-Err-clause-copies
+returns-in-Err-clause-copies g c = λ t held.
+    absurd held
+
+pub returns-in-Ok-tell_reply-clause-copies : goal.returns-in-Ok-tell_reply-clause-copies
+returns-in-Ok-tell_reply-clause-copies g c = λ t held.
+    copies_stay (g.P.Disk.size c.args.p.now) (g.P.Disk.seen c.args.p.now)
+    (g.P.Disk.seen c.tell_reply-in-Err-with_capacity.new.p)
+    (c.tell_reply-in-Err-with_capacity.ensures.seen t)
+    (both_copies c.args.kept.device _ _ (c.requires.stands t))
+
+pub returns-in-Err-tell_reply-clause-copies : goal.returns-in-Err-tell_reply-clause-copies
+returns-in-Err-tell_reply-clause-copies g c = λ t held.
+    absurd held
+
+pub returns-in-Err-tell_reply-2-clause-copies : goal.returns-in-Err-tell_reply-2-clause-copies
+returns-in-Err-tell_reply-2-clause-copies g c = λ t held.
+    absurd held
+
+pub returns-in-Err-data-clause-copies : goal.returns-in-Err-data-clause-copies
+returns-in-Err-data-clause-copies g c = λ t held.
+    copies_stay (g.P.Disk.size c.args.p.now) (g.P.Disk.seen c.args.p.now)
+    (g.P.Disk.seen c.data.new.p)
+    (c.data.ensures.listens.seen t ∙ c.tell_reply-2.ensures.seen t)
+    (both_copies c.args.kept.device _ _ (c.requires.stands t))
+
+pub returns-in-Err-tell_reply-3-clause-copies : goal.returns-in-Err-tell_reply-3-clause-copies
+returns-in-Err-tell_reply-3-clause-copies g c = λ t held.
+    absurd held
+
+pub returns-clause-copies : goal.returns-clause-copies
+returns-clause-copies g c = λ t held.
+    copies_stay (g.P.Disk.size c.args.p.now) (g.P.Disk.seen c.args.p.now)
+    (g.P.Disk.seen c.tell_reply-3.new.p)
+    (c.tell_reply-3.ensures.seen t ∙ c.data.ensures.listens.seen t ∙ c.tell_reply-2.ensures.seen t)
+    (both_copies c.args.kept.device _ _ (c.requires.stands t))
+
+pub returns-in-Ok-clause-writes : goal.returns-in-Ok-clause-writes
+returns-in-Ok-clause-writes g c = λ t.
+    writes_telling g.P.Disk (λ s b. ⊥) c.args.p.now c.tell_reply.new.p _
+    (c.tell_reply.ensures.seen t)
+    (c.tell_reply.ensures.time t)
+
+pub returns-in-Err-clause-writes : goal.returns-in-Err-clause-writes
+returns-in-Err-clause-writes g c = λ t.
+    writes_telling g.P.Disk (λ s b. ⊥) c.args.p.now c.tell_reply.new.p _
+    (c.tell_reply.ensures.seen t)
+    (c.tell_reply.ensures.time t)
+
+pub returns-in-Ok-tell_reply-clause-writes : goal.returns-in-Ok-tell_reply-clause-writes
+returns-in-Ok-tell_reply-clause-writes g c = λ t.
+    writes_telling g.P.Disk (λ s b. ⊥) c.args.p.now c.tell_reply-in-Err-with_capacity.new.p _
+    (c.tell_reply-in-Err-with_capacity.ensures.seen t)
+    (c.tell_reply-in-Err-with_capacity.ensures.time t)
+
+pub returns-in-Err-tell_reply-clause-writes : goal.returns-in-Err-tell_reply-clause-writes
+returns-in-Err-tell_reply-clause-writes g c = λ t.
+    writes_telling g.P.Disk (λ s b. ⊥) c.args.p.now c.tell_reply-in-Err-with_capacity.new.p _
+    (c.tell_reply-in-Err-with_capacity.ensures.seen t)
+    (c.tell_reply-in-Err-with_capacity.ensures.time t)
+
+pub returns-in-Err-tell_reply-2-clause-writes : goal.returns-in-Err-tell_reply-2-clause-writes
+returns-in-Err-tell_reply-2-clause-writes g c = λ t.
+    writes_telling g.P.Disk (λ s b. ⊥) c.args.p.now c.tell_reply-2.new.p _
+    (c.tell_reply-2.ensures.seen t)
+    (c.tell_reply-2.ensures.time t)
+
+-- `DATA` was told, and data were heard
+data_writes : {D : Type 0} (g : Ghosts D) (old mid heard : D) (text : List ℕ)
+    → g.seen mid ≡ g.seen old
+    → Adds g.moment g.outcomes old mid (LeavesSaying (g.told old) text (g.may_leave old))
+    → g.seen heard ≡ g.seen mid
+    → Adds g.moment g.outcomes mid heard Nothing
+    → WritesAs g (λ s b. ⊥) old heard
+data_writes g old mid heard text same time seen still =
+    writes_telling g (λ s b. ⊥) old heard text (seen ∙ same)
+    (heard_time g old mid heard text time still)
+
+pub returns-in-Err-data-clause-writes : goal.returns-in-Err-data-clause-writes
+returns-in-Err-data-clause-writes g c = λ t.
+    data_writes g.P.Disk c.args.p.now c.tell_reply-2.new.p c.data.new.p _
+    (c.tell_reply-2.ensures.seen t) (c.tell_reply-2.ensures.time t)
+    (c.data.ensures.listens.seen t) (c.data.ensures.listens.time t)
+
+pub returns-in-Err-tell_reply-3-clause-writes : goal.returns-in-Err-tell_reply-3-clause-writes
+returns-in-Err-tell_reply-3-clause-writes g c = λ t.
+    let said = c.tell_reply-2.ensures in
+    let listens = c.data.ensures.listens in
+    let last = c.tell_reply-3.ensures in
+    writes_told g.P.Disk (λ s b. ⊥) c.args.p.now c.data.new.p c.tell_reply-3.new.p _
+    (data_writes g.P.Disk c.args.p.now c.tell_reply-2.new.p c.data.new.p _
+    (said.seen t) (said.time t) (listens.seen t) (listens.time t))
+    (λ rest.
+    still_settled response (IsIn (g.P.Disk.size c.args.p.now)) g.P.Disk c.tell_reply-2.new.p
+    c.data.new.p (listens.seen t) (listens.crash t)
+    (still_settled response (IsIn (g.P.Disk.size c.args.p.now)) g.P.Disk c.args.p.now
+    c.tell_reply-2.new.p (said.seen t) (said.crash t) rest))
+    (last.seen t) (last.time t)
+
+pub returns-clause-writes : goal.returns-clause-writes
+returns-clause-writes g c = λ t.
+    let said = c.tell_reply-2.ensures in
+    let listens = c.data.ensures.listens in
+    let last = c.tell_reply-3.ensures in
+    writes_told g.P.Disk (λ s b. ⊥) c.args.p.now c.data.new.p c.tell_reply-3.new.p _
+    (data_writes g.P.Disk c.args.p.now c.tell_reply-2.new.p c.data.new.p _
+    (said.seen t) (said.time t) (listens.seen t) (listens.time t))
+    (λ rest.
+    still_settled response (IsIn (g.P.Disk.size c.args.p.now)) g.P.Disk c.tell_reply-2.new.p
+    c.data.new.p (listens.seen t) (listens.crash t)
+    (still_settled response (IsIn (g.P.Disk.size c.args.p.now)) g.P.Disk c.args.p.now
+    c.tell_reply-2.new.p (said.seen t) (said.crash t) rest))
+    (last.seen t) (last.time t)

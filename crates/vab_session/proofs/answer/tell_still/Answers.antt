@@ -8,6 +8,8 @@ use Rattle.vab_exchanges.specs.Runs.{Answers}
 use Rattle.vab_session.specs.Responses.{response}
 use Rattle.vab_session.specs.Served.{kept_on}
 use Rattle.vab_session.proofs.Data.{still_answers, still_fails}
+use Rattle.vab_commands.proofs.CopiesLaws.{both_copies, copies_stay}
+use Rattle.vab_session.proofs.WrittenLaws.{writes_telling}
 use Rattle.vab_session.proofs.answer.tell_still.Goals as goal
 
 pub returns-in-Ok-clause-does : goal.returns-in-Ok-clause-does
@@ -52,3 +54,25 @@ returns-in-Err-clause-changes g c = λ t.
 
 pub returns-in-Ok-clause-source : goal.returns-in-Ok-clause-source
 returns-in-Ok-clause-source g c = keeps_all c.args.kept.device
+
+pub returns-in-Ok-clause-copies : goal.returns-in-Ok-clause-copies
+returns-in-Ok-clause-copies g c = λ t held.
+    copies_stay (g.P.Disk.size c.args.p.now) (g.P.Disk.seen c.args.p.now)
+    (g.P.Disk.seen c.tell_reply.new.p) (c.tell_reply.ensures.seen t)
+    (both_copies c.args.kept.device _ _ (c.requires.stands t))
+
+pub returns-in-Err-clause-copies : goal.returns-in-Err-clause-copies
+returns-in-Err-clause-copies g c = λ t held.
+    absurd held
+
+pub returns-in-Ok-clause-writes : goal.returns-in-Ok-clause-writes
+returns-in-Ok-clause-writes g c = λ t.
+    writes_telling g.P.Disk (λ s b. ⊥) c.args.p.now c.tell_reply.new.p _
+    (c.tell_reply.ensures.seen t)
+    (c.tell_reply.ensures.time t)
+
+pub returns-in-Err-clause-writes : goal.returns-in-Err-clause-writes
+returns-in-Err-clause-writes g c = λ t.
+    writes_telling g.P.Disk (λ s b. ⊥) c.args.p.now c.tell_reply.new.p _
+    (c.tell_reply.ensures.seen t)
+    (c.tell_reply.ensures.time t)

@@ -10,6 +10,7 @@ use Rattle.vab_exchanges.proofs.Progress.{Progress}
 use Rattle.vab_session.specs.Merges.{IsPlain}
 use Rattle.vab_session.specs.Responses.{response}
 use Rattle.vab_session.specs.Served.{kept_on}
+use Rattle.vab_session.proofs.WrittenLaws.{HasWritten}
 use Rattle.vab_session.proofs.session.answer_all.Given as goal
 
 abbrev pub invariant-loop-packet : goal.invariant-loop-packet
@@ -47,6 +48,15 @@ invariant-loop-packet g l = record {
       told l.fn.p l.p
       (rest_of l.reader (g.P.Disk.input_left l.p))
       (kept_on l.kept (g.P.Disk.seen l.p));
+  written : g.P.Disk.is_modelled
+      → (told : List ℕ)
+      → g.P.Disk.told l.fn.p ≡ told ++ codes "FB01"
+      → HasWritten g.P.Disk (g.P.Disk.size l.fn.p) l.fn.kept.device
+      (kept_on l.fn.kept (g.P.Disk.seen l.fn.p))
+      (rest_of l.fn.reader (g.P.Disk.input_left l.fn.p))
+      l.kept.device (kept_on l.kept (g.P.Disk.seen l.p))
+      (rest_of l.reader (g.P.Disk.input_left l.p))
+      l.fn.p l.p;
 }
 
 abbrev pub decreases-loop-packet : goal.decreases-loop-packet

@@ -31,6 +31,9 @@ use Rattle.vab_session.specs.Served.{nothing_staged, Held, HeldBy, Says, HasCaus
 use Rattle.vab_session.proofs.Data.{read_cause}
 use Rattle.vab_session.proofs.Endings.{moved, hello_fails}
 use Rattle.vab_session.proofs.Changing.{changes_listening, changes_still, changes_behind}
+use Rattle.vab_commands.proofs.CopiesLaws.{both_copies, copies_stay}
+use Rattle.vab_commands.specs.Copies.{HasBothCopies}
+use Rattle.vab_session.proofs.WrittenLaws.{saying_same, written_before, written_nothing}
 use Rattle.vab_session.proofs.session.serve_up_to.Goals as goal
 
 pub returns-then-is_err-clause-serves : goal.returns-then-is_err-clause-serves
@@ -279,3 +282,66 @@ returns-clause-changes g c = λ t.
     (changes_listening g.P.Disk W _ _ said_to mid listens))
     (λ none. ((g.P.Disk.told old, listens.told t ∙ told), subst HasNoMerge (sym rest) none))
     (c.answer_all.ensures.changes t)
+
+pub returns-then-is_err-clause-copies : goal.returns-then-is_err-clause-copies
+returns-then-is_err-clause-copies g c = λ t held.
+    absurd held
+
+pub returns-in-Err-clause-copies : goal.returns-in-Err-clause-copies
+returns-in-Err-clause-copies g c = λ t held.
+    copies_stay (g.P.Disk.size c.args.p.now) (g.P.Disk.seen c.args.p.now)
+    (g.P.Disk.seen c.hello.new.p)
+    (c.hello.ensures.listens.seen t ∙ c.say_all.ensures.seen t)
+    (both_copies c.args.device _ _ (c.requires.stands t))
+
+pub returns-clause-copies : goal.returns-clause-copies
+returns-clause-copies g c = λ t held.
+    subst (λ (n : ℕ). HasBothCopies n (g.P.Disk.seen c.answer_all.new.p))
+    (c.hello.ensures.listens.size ∙ c.say_all.ensures.size)
+    (c.answer_all.ensures.copies t held)
+
+pub returns-then-is_err-clause-writes : goal.returns-then-is_err-clause-writes
+returns-then-is_err-clause-writes g c = λ t.
+    written_nothing g.P.Disk _ (g.P.Disk.size c.args.p.now) c.args.device _ _ c.args.p.now
+    c.say_all.new.p (c.say_all.ensures.seen t)
+    (saying_same g.P.Disk c.args.p.now c.say_all.new.p _ (c.say_all.ensures.time t))
+
+pub returns-in-Err-clause-writes : goal.returns-in-Err-clause-writes
+returns-in-Err-clause-writes g c = λ t.
+    written_nothing g.P.Disk _ (g.P.Disk.size c.args.p.now) c.args.device _ _ c.args.p.now
+    c.hello.new.p (c.hello.ensures.listens.seen t ∙ c.say_all.ensures.seen t)
+    (λ rest.
+    adds_still g.P.Disk.moment g.P.Disk.outcomes c.args.p.now c.say_all.new.p c.hello.new.p _
+    (saying_same g.P.Disk c.args.p.now c.say_all.new.p _ (c.say_all.ensures.time t) rest)
+    (c.hello.ensures.listens.time t))
+
+pub returns-clause-writes : goal.returns-clause-writes
+returns-clause-writes g c = λ t.
+    let said = c.say_all.ensures in
+    let listens = c.hello.ensures.listens in
+    let ok = c.in-Ok.ensures in
+    let d = c.args.device in
+    let old = c.args.p.now in
+    let said_to = c.say_all.new.p in
+    let mid = c.hello.new.p in
+    let new = c.answer_all.new.p in
+    let most = c.args.most in
+    let input = g.P.Disk.input_left old in
+    let N = g.P.Disk.size old in
+    let told : g.P.Disk.told said_to ≡ g.P.Disk.told old ++ codes "FB01" =
+    where_ok c.say_all.result (g.P.Disk.told said_to ≡ g.P.Disk.told old ++ codes "FB01")
+    (sym c.is_err.ensures.value ∙ c.if-is_err.false) (said.told t) in
+    let rest : rest_of c.hello.new.self (g.P.Disk.input_left mid) ≡ drop 4 (take most input) =
+    ok.rest t
+    ∙ ap (λ (l : List ℕ). drop 4 l)
+    (c.new-reader.ensures.rest (g.P.Disk.input_left said_to) ∙ ap (take most) (said.left t)) in
+    written_before g.P.Disk _ N (g.P.Disk.size mid) d (drop 4 (take most input))
+    (rest_of c.hello.new.self (g.P.Disk.input_left mid)) old mid new
+    (listens.size ∙ said.size) rest (listens.seen t ∙ said.seen t)
+    (λ rests.
+    still_settled response (IsIn N) g.P.Disk said_to mid (listens.seen t) (listens.crash t)
+    (still_settled response (IsIn N) g.P.Disk old said_to (said.seen t) (said.crash t) rests))
+    (λ rests.
+    adds_still g.P.Disk.moment g.P.Disk.outcomes old said_to mid _
+    (saying_same g.P.Disk old said_to _ (said.time t) rests) (listens.time t))
+    (c.answer_all.ensures.writes t (g.P.Disk.told old) (listens.told t ∙ told))

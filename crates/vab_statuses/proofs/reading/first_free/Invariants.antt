@@ -9,7 +9,7 @@ invariant-loop-at g l = record {
       → (s : ℕ)
       → IsBetween 2049 l.at s
       → are_zeros (g.D.Disk.seen l.fn.d s) ≡ false;
-  within : l.at ≤ 2081;
+  within : l.at ≤ 2113;
   reads : OnlyReads g.D.Disk l.fn.d l.d;
   steady : g.D.Disk.faults l.d ≡ g.D.Disk.faults l.fn.d;
 }

@@ -1,82 +1,54 @@
-use Rattle.std.proofs.Common.{◌≡◌, ◌+◌, ◌-◌, ℕ, List, [], ◌∷◌, ◌++◌, length, Option, refl}
-use Rattle.std.proofs.Common.{sym, ◌∙◌, ap, subst, arith, length-append}
-use Rattle.std.proofs.lemmas.List.Elements.{All-push}
+use Rattle.std.proofs.Common.{◌-◌, ◌∙◌, ap, sym, subst, List, Option, None, Ok, arith}
+use Rattle.std.proofs.Common.{length, replicate, length-append}
+use Rattle.std.proofs.lemmas.List.{length-replicate}
 use Rattle.vab_disk.specs.Disk.{Image}
-use Rattle.vab_disk.proofs.CallLaws.{reads_none, reads_then}
 use Rattle.vab_marks.specs.declared.status.PartStatus.{PartStatus}
-use Rattle.vab_statuses.specs.Statuses.{entry_of, statuses_from, AreFitting, NamesDiffer, FitsEntry}
-use Rattle.vab_statuses.specs.Statuses.{repeats}
+use Rattle.vab_statuses.specs.Statuses.{AreFitting, NamesDiffer, statuses_of}
 use Rattle.vab_statuses.specs.Answers.{TellsBad}
-use Rattle.vab_statuses.proofs.ReadLaws.{from_begin, from_end, left_ok, left_bad, differ_more}
-use Rattle.vab_statuses.proofs.ReadLaws.{none_differ}
 use Rattle.vab_statuses.proofs.StatusesLaws.{names_differ}
+use Rattle.vab_statuses.proofs.UnderLaws.{under_ok, under_bad, differ_filled, fits_filled}
 use Rattle.vab_statuses.proofs.reading.read_statuses.Goals as goal
 
-pub loop-i-init : goal.loop-i-init
-loop-i-init g c =
+pub returns-in-Ok-clause-ok : goal.returns-in-Ok-clause-ok
+returns-in-Ok-clause-ok g c = λ t.
     let image : Image = g.D.Disk.seen c.args.d.now in
-    let none : c.new-statuses.result.items ≡ [] = c.new-statuses.ensures in
-    record {
-      so_far = λ t.
-          from_begin image
-          ∙ ap (λ (l : List (Option PartStatus)). statuses_from 32 image l) (sym none);
-      all = ap length none;
-      fits = subst AreFitting (sym none) (λ k d below. absurd (omega arith));
-      differ = subst NamesDiffer (sym none) none_differ;
-      reads = reads_none g.D.Disk _;
-      steady = refl;
-    }
+    let l : List (Option PartStatus) = c.in-Ok.statuses.items in
+    under_ok c.args.version image l
+    (ap (λ n. statuses_of n image) (sym c.partitions.ensures.is) ∙ c.in-Ok.ensures.ok t)
+    (c.in-Ok.ensures.all ∙ c.partitions.ensures.is)
+    ∙ ap (λ (k : List (Option PartStatus)). Ok k) (sym c.fill.ensures)
+
+pub returns-in-Ok-clause-all : goal.returns-in-Ok-clause-all
+returns-in-Ok-clause-all g c =
+    let l : List (Option PartStatus) = c.in-Ok.statuses.items in
+    ap length c.fill.ensures
+    ∙ length-append l (replicate (64 - length l) None)
+    ∙ omega (
+      arith,
+      c.in-Ok.ensures.all,
+      c.partitions.ensures.most,
+      length-replicate {A = Option PartStatus} (64 - length l) None,
+    )
+
+pub returns-in-Ok-clause-fits : goal.returns-in-Ok-clause-fits
+returns-in-Ok-clause-fits g c =
+    subst AreFitting (sym c.fill.ensures)
+    (fits_filled _ c.in-Ok.statuses.items c.in-Ok.ensures.fits)
+
+pub returns-in-Ok-clause-differ : goal.returns-in-Ok-clause-differ
+returns-in-Ok-clause-differ g c =
+    subst NamesDiffer (sym c.fill.ensures)
+    (differ_filled _ c.in-Ok.statuses.items c.in-Ok.ensures.differ)
+
+pub returns-in-Ok-clause-names : goal.returns-in-Ok-clause-names
+returns-in-Ok-clause-names g c =
+    names_differ c.fill.new.statuses.items
+    (subst NamesDiffer (sym c.fill.ensures)
+    (differ_filled _ c.in-Ok.statuses.items c.in-Ok.ensures.differ))
 
 pub returns-in-Err-clause-bad : goal.returns-in-Err-clause-bad
 returns-in-Err-clause-bad g c = λ t.
     let image : Image = g.D.Disk.seen c.args.d.now in
-    let done : List (Option PartStatus) = c.loop-i.statuses.items in
-    let at : ℕ = 2049 + c.loop-i.i in
-    let told = c.in-Err.ensures.bad t in
-    let of_done = subst (λ (l : List (Option PartStatus)).
-    TellsBad (entry_of at l (g.D.Disk.seen c.loop-i.d at)) c.in-Err.fault)
-    c.as_slice.ensures.value told in
-    let of_image = subst (λ (m : Image). TellsBad (entry_of at done (m at)) c.in-Err.fault)
-    (c.loop-i.invariant.reads.seen t) of_done in
-    left_bad c.loop-i.i image done c.in-Err.fault c.loop-i-test.true c.loop-i.invariant.all
-    (c.loop-i.invariant.so_far t) of_image
-
-pub loop-i-preserved : goal.loop-i-preserved
-loop-i-preserved g c =
-    let image : Image = g.D.Disk.seen c.args.d.now in
-    let done : List (Option PartStatus) = c.loop-i.statuses.items in
-    let at : ℕ = 2049 + c.loop-i.i in
-    let status : Option PartStatus = c.in-Ok.status in
-    let inv = c.loop-i.invariant in
-    let ok = c.in-Ok.ensures in
-    let more : c.push.new.self.items ≡ done ++ status ∷ [] = c.push.ensures.items in
-    record {
-      so_far = λ t.
-          left_ok c.loop-i.i image done status c.loop-i-test.true inv.all (inv.so_far t)
-          (ap (λ (m : Image). entry_of at done (m at)) (sym (inv.reads.seen t))
-          ∙ ap (λ (l : List (Option PartStatus)). entry_of at l (g.D.Disk.seen c.loop-i.d at))
-          (sym c.as_slice.ensures.value)
-          ∙ ok.ok t)
-          ∙ ap (λ (l : List (Option PartStatus)). statuses_from (32 - (c.loop-i.i + 1)) image l)
-          (sym more);
-      all = omega (arith, ap length more, length-append done (status ∷ []), inv.all);
-      fits = subst AreFitting (sym more) (All-push FitsEntry done status inv.fits ok.fits);
-      differ = subst NamesDiffer (sym more)
-          (differ_more status done
-          (ap (λ (l : List (Option PartStatus)). repeats status l) (sym c.as_slice.ensures.value)
-          ∙ ok.other)
-          inv.differ);
-      reads = reads_then g.D.Disk _ _ _ inv.reads ok.reads;
-      steady = ok.counts ∙ inv.steady;
-    }
-
-pub returns-clause-ok : goal.returns-clause-ok
-returns-clause-ok g c = λ t.
-    let image : Image = g.D.Disk.seen c.args.d.now in
-    let none : 32 - c.loop-i.i ≡ 0 = omega arith in
-    c.loop-i.invariant.so_far t
-    ∙ ap (λ (k : ℕ). statuses_from k image c.loop-i.statuses.items) none
-    ∙ from_end image c.loop-i.statuses.items
-
-pub returns-clause-names : goal.returns-clause-names
-returns-clause-names g c = names_differ c.loop-i.statuses.items c.loop-i.invariant.differ
+    under_bad c.args.version image c.in-Err.fault
+    (subst (λ n. TellsBad (statuses_of n image) c.in-Err.fault) c.partitions.ensures.is
+    (c.in-Err.ensures.bad t))

@@ -6,7 +6,9 @@ use Rattle.vab_disk.specs.Calls.{IsAtRest, Touches}
 use Rattle.vab_disk.specs.Written.{set_here, set_there}
 use Rattle.vab_disk.proofs.Moments.{adds_wider}
 use Rattle.vab_marks.specs.declared.mark.MarkPhase.TheVariants as marks
+use Rattle.vab_marks.specs.declared.version.MarkVersion.TheVariants.{Two}
 use Rattle.vab_marks.specs.Mark.{mark_of, idle_mark}
+use Rattle.vab_marks.specs.Version.{version_in}
 use Rattle.vab_tables.specs.declared.table.Table.{Table}
 use Rattle.vab_tables.specs.Text.{IsTableText}
 use Rattle.vab_lpstore.specs.Layout.{BothHold}
@@ -14,7 +16,7 @@ use Rattle.vab_lpstore.specs.Loading.{slot_table}
 use Rattle.vab_lpstore.proofs.StoreLaws.{both_table}
 use Rattle.vab_device.specs.declared.device.Device.{Device}
 use Rattle.vab_device.specs.Kept.{IsDevice, table_of_slot}
-use Rattle.vab_device.specs.Reading.{device, Represents, mark_in}
+use Rattle.vab_device.specs.Reading.{device, Represents, mark_in, version_at}
 use Rattle.vab_tidy.specs.Stays.{LeavesSame, IsInOrder, HoldsTable}
 use Rattle.vab_tidy.specs.Tidied.{HasCompleted}
 use Rattle.vab_tidy.proofs.KeptLaws.{has_table}
@@ -26,7 +28,8 @@ module _ {D : Type 0} (g : Ghosts D) (d : Device) (bytes : List ℕ) (old new : 
     (dev : IsDevice d (g.size old))
     (is : g.is_modelled → Represents d (g.size old) (g.seen old))
     (idle : d.mark.phase ≡ marks.Idle)
-    (read : mark_of bytes ≡ Ok (idle_mark d.mark.slot)) where
+    (read : mark_of bytes ≡ Ok (idle_mark d.mark.slot))
+    (two : version_in bytes ≡ Two) where
   abbrev after : Image
   after = set_sector (g.seen old) 2048 bytes
 
@@ -45,11 +48,16 @@ module _ {D : Type 0} (g : Ghosts D) (d : Device) (bytes : List ℕ) (old new : 
   mark : mark_in after ≡ Ok (idle_mark d.mark.slot)
   mark = idle_there d.mark.slot after mark_now
 
+  version : version_at after ≡ Two
+  version = ap version_in (set_here (g.seen old) 2048 bytes 2048 refl) ∙ two
+
   means : g.is_modelled → device (g.size old) after ≡ device (g.size old) (g.seen old)
   means t = marked_means d (g.size old) (g.seen old) own.0 (st t) after elsewhere mark
+      version
 
   represents : g.is_modelled → Represents d (g.size old) after
   represents t = marked_represents d (g.size old) (g.seen old) own.0 (st t) after elsewhere mark
+      version
 
   time : (g.is_modelled
       → IsAtRest g old
@@ -117,10 +125,12 @@ returns-in-Err-clause-stays g c =
           c.encode_mark.ensures.spelled c.put_gate.ensures.touches;
       time =
           time g.D.Disk c.args.device _ old new c.requires.kept c.requires.represents
-          c.requires.idle c.encode_mark.ensures.decoded c.put_gate.ensures.gate;
+          c.requires.idle c.encode_mark.ensures.decoded
+          c.encode_mark.ensures.version c.put_gate.ensures.gate;
       order =
           order g.D.Disk c.args.device _ old new c.requires.kept c.requires.represents
-          c.requires.idle c.encode_mark.ensures.decoded c.put_gate.ensures.gate;
+          c.requires.idle c.encode_mark.ensures.decoded
+          c.encode_mark.ensures.version c.put_gate.ensures.gate;
       faults = record { steady = tt; cause = c.in-Err.ensures.faults.cause };
     }
 
@@ -130,6 +140,7 @@ returns-in-Ok-clause-stays g c =
     let old = c.args.d.now in
     let new = c.put_gate.new.d in
     let read = c.encode_mark.ensures.decoded in
+    let two = c.encode_mark.ensures.version in
     record {
       is = refl;
       kept = c.requires.kept;
@@ -137,21 +148,21 @@ returns-in-Ok-clause-stays g c =
           subst (λ (i : Image). Represents d (g.D.Disk.size old) i)
           (sym (c.in-Ok.ensures.written t))
           (represents g.D.Disk d _ old new c.requires.kept c.requires.represents c.requires.idle
-          read t);
+          read two t);
       same = λ t.
           ap (device (g.D.Disk.size old)) (c.in-Ok.ensures.written t)
           ∙ means g.D.Disk d _ old new c.requires.kept c.requires.represents c.requires.idle
-          read t;
+          read two t;
       settled = λ t rest. c.in-Ok.ensures.settled t;
       quiet = c.put_gate.ensures.touches.quiet;
       touches =
           subst (λ (l : List ℕ). Touches g.D.Disk (IsAt 2048 l) old new)
           c.encode_mark.ensures.spelled c.put_gate.ensures.touches;
       time =
-          time g.D.Disk d _ old new c.requires.kept c.requires.represents c.requires.idle read
+          time g.D.Disk d _ old new c.requires.kept c.requires.represents c.requires.idle read two
           c.put_gate.ensures.gate;
       order =
-          order g.D.Disk d _ old new c.requires.kept c.requires.represents c.requires.idle read
+          order g.D.Disk d _ old new c.requires.kept c.requires.represents c.requires.idle read two
           c.put_gate.ensures.gate;
       faults = record { steady = c.in-Ok.ensures.faults.steady; cause = tt };
     }

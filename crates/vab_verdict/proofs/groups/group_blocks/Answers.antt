@@ -9,7 +9,7 @@ overflow_add-blocks c =
     let a = c.args in
     omega (
       arith,
-      sum_within (size_in a.slot a.table.now a.group.now a.name.now a.count) _ _ _ _ _ _ (2 ^ 33)
+      sum_within (size_in a.slot a.table.now a.group.now a.name.now a.count) _ _ _ _ _ _ (2 ^ 34)
           (in_small a.slot a.table.now a.group.now a.name.now a.count c.requires.own
           c.requires.small)
           c.as_slice-partitions.ensures c.loop-partition-test.true c.partition-item.is

@@ -8,7 +8,7 @@ overflow_add-blocks c =
     let a = c.args in
     omega (
       arith,
-      sum_within (own_size a.slot a.table.now) _ _ _ _ _ _ (2 ^ 33)
+      sum_within (own_size a.slot a.table.now) _ _ _ _ _ _ (2 ^ 34)
           (sizes_small a.slot a.table.now c.requires.own) c.as_slice-partitions.ensures
           c.loop-partition-test.true c.partition-item.is c.loop-partition.invariant
           c.own_blocks-blocks.ensures,

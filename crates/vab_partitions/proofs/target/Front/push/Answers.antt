@@ -28,9 +28,9 @@ once : (seen more : List ℕ) (blocks : List ℕ) (told : Bool)
 once seen more blocks told is same t =
     distinct_pairs (seen ++ blocks) (ap is_distinct (sym is) ∙ sym same ∙ t)
 
-pub returns-else-self-ge-MAX_PARTITIONS-clause-room
-    : goal.returns-else-self-ge-MAX_PARTITIONS-clause-room
-returns-else-self-ge-MAX_PARTITIONS-clause-room c =
+pub returns-else-self-most-clause-room
+    : goal.returns-else-self-most-clause-room
+returns-else-self-most-clause-room c =
     let p : Part = c.args.part.now in
     let slot = c.args.slot in
     let named = ap (is_of_slot slot) (sym c.text.ensures.value) ∙ sym c.is_of_slot.ensures in
@@ -38,7 +38,7 @@ returns-else-self-ge-MAX_PARTITIONS-clause-room c =
       λ t. record {
         once = once c.args.self.now.seen _ p.blocks _ c.in_ok-append.ensures
             c.in_ok-is_once.ensures c.if-not-branch.false;
-        few = omega (arith, ap length own, c.if-self-ge-MAX_PARTITIONS.false);
+        few = omega (arith, ap length own, c.if-self-most.false);
       },
       λ room. refl,
     )

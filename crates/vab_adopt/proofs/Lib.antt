@@ -1,0 +1,7 @@
+pub mod CountLaws
+pub mod FoundLaws
+pub mod GateLaws
+pub mod HeadLaws
+pub mod ReadLaws
+pub mod RefusalLaws
+pub mod SectorLaws

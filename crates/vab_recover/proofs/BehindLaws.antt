@@ -1,0 +1,224 @@
+-- What is read behind the heads is the same where `super` is.
+use Rattle.std.proofs.Common.{◌≡◌, ◌∙◌, inl, inr, ℕ, ◌+◌, ◌≤◌, List, [], ◌∷◌, length, Result, Ok}
+use Rattle.std.proofs.Common.{Err, refl, sym, ap, subst, arith}
+use Rattle.std.specs.Prelude.{Bool, true, false, Option, Some, None, map}
+use Rattle.vab_disk.specs.Disk.{Image}
+use Rattle.vab_gate.proofs.Blocks.{sectors_same}
+use Rattle.vab_names.specs.Names.{store_of}
+use Rattle.vab_marks.specs.declared.mark.UpdateMark.{UpdateMark}
+use Rattle.vab_marks.specs.declared.status.PartStatus.{PartStatus}
+use Rattle.vab_statuses.specs.Statuses.{written_in}
+use Rattle.vab_exceptions.specs.declared.area.Exception.{Exception}
+use Rattle.vab_space.specs.declared.Chunk.TheVariants.{One}
+use Rattle.vab_store.specs.declared.fault.StoreFault.{StoreFault}
+use Rattle.vab_store.specs.Scan.{scan_of}
+use Rattle.vab_geometry.specs.declared.geometry.Geometry.{Geometry}
+use Rattle.vab_lpstore.specs.declared.loaded.Loaded.{Loaded}
+use Rattle.vab_lpstore.specs.Layout.{copy_sectors, primary_of, backup_of, primary_bytes}
+use Rattle.vab_lpstore.specs.Layout.{backup_bytes}
+use Rattle.vab_lpstore.specs.Loading.{IsLoaded}
+use Rattle.vab_layout.specs.declared.layout.Part.{Part as PartOfLayout}
+use Rattle.vab_layout.specs.declared.layout.Layout.{Layout}
+use Rattle.vab_layout.specs.Layout.{layout_of}
+use Rattle.vab_layout.specs.Slots.{other_slot, own_parts}
+use Rattle.vab_device.specs.declared.fault.StartFault.{StartFault}
+use Rattle.vab_device.specs.Checks.{◌>>=◌}
+use Rattle.vab_device.specs.Kept.{block_sector, sectors_of}
+use Rattle.vab_device.specs.Phases.{phase_at}
+use Rattle.vab_device.specs.Reading.{tables_in, IsOfTables, IsOfBlocks}
+use Rattle.vab_device.specs.Stores.{Wanted, Scanned, first_named, wanted_by, wanted_of, or_fewer}
+use Rattle.vab_device.specs.Stores.{scan_read, scan_at, scans_in}
+use Rattle.vab_device.proofs.SameLaws.{tables_agree}
+use Rattle.vab_device.proofs.StoreLaws.{scan_kept}
+use Rattle.vab_recover.specs.Behind.{SameSuper}
+use Rattle.vab_recover.specs.Opened.{AreLoaded, IsHeaded, IsFramed, wanted_for, stores_by}
+use Rattle.vab_recover.specs.Opened.{is_merging, tables_of, through_of, through_slot}
+use Rattle.vab_recover.specs.Repairs.{IsLoadedAt}
+use Rattle.vab_recover.specs.declared.frame.Frame.{Frame}
+use Rattle.vab_recover.specs.declared.table.Tables.{Tables}
+use Rattle.vab_recover.proofs.FinishLaws.{some_all}
+
+-- ---- tables
+
+tables_behind : (g : Geometry) (slots : List ℕ) (s : ℕ) → IsOfTables g slots s → 4096 ≤ s
+unfolding primary_of backup_of
+tables_behind g [] s is = absurd is
+tables_behind g (slot ∷ slots) s (inl is) = omega (arith, is.from)
+tables_behind g (slot ∷ slots) s (inr (inl is)) = omega (arith, is.from)
+tables_behind g (slot ∷ slots) s (inr (inr is)) = tables_behind g slots s is
+
+pub tables_as : (size : ℕ) (g : Geometry) (slots : List ℕ) (old new : Image)
+    → SameSuper old new
+    → tables_in size g slots new ≡ tables_in size g slots old
+tables_as size g slots old new same =
+    tables_agree size g slots old new (λ s is. same s (tables_behind g slots s is))
+
+primary_as : (g : Geometry) (slot : ℕ) (old new : Image)
+    → SameSuper old new
+    → primary_bytes g slot new ≡ primary_bytes g slot old
+unfolding primary_of
+primary_as g slot old new same =
+    sectors_same (copy_sectors g) (primary_of g slot) old new
+    (λ k below. same (primary_of g slot + k) (omega arith))
+
+backup_as : (g : Geometry) (slot : ℕ) (old new : Image)
+    → SameSuper old new
+    → backup_bytes g slot new ≡ backup_bytes g slot old
+unfolding backup_of
+backup_as g slot old new same =
+    sectors_same (copy_sectors g) (backup_of g slot) old new
+    (λ k below. same (backup_of g slot + k) (omega arith))
+
+one_as : (g : Geometry) (slot : ℕ) (old new : Image) (l : Loaded)
+    → SameSuper old new
+    → IsLoadedAt g slot old l
+    → IsLoadedAt g slot new l
+one_as g slot old new l same is =
+    subst (λ (p : List ℕ). IsLoaded g.max p (backup_bytes g slot new) l)
+    (sym (primary_as g slot old new same))
+    (subst (λ (b : List ℕ). IsLoaded g.max (primary_bytes g slot old) b l)
+    (sym (backup_as g slot old new same)) is)
+
+pub loaded_as : (g : Geometry) (slot : ℕ) (old new : Image) (t : Tables)
+    → SameSuper old new
+    → AreLoaded g slot old t
+    → AreLoaded g slot new t
+loaded_as g slot old new t same are = record {
+  source = one_as g slot old new t.source same are.source;
+  target =
+      some_all (IsLoadedAt g (other_slot slot) old) (IsLoadedAt g (other_slot slot) new) t.target
+      (λ l is. one_as g (other_slot slot) old new l same is) are.target;
+}
+
+-- ---- stores
+
+-- the blocks of a store that is wanted stand in `super`
+abbrev IsBehind : Result Wanted StartFault → Type 0
+IsBehind (Ok w) = (s : ℕ) → IsOfBlocks w.store s → 4096 ≤ s
+IsBehind (Err fault) = Unit {0}
+
+blocks_behind : (first : ℕ) (blocks : List ℕ) (s : ℕ)
+    → IsOfBlocks (map (block_sector first) blocks) s
+    → 4096 ≤ s
+blocks_behind first [] s is = absurd is
+blocks_behind first (b ∷ bs) s (inl is) = omega (arith, is.from)
+blocks_behind first (b ∷ bs) s (inr is) = blocks_behind first bs s is
+
+sectors_behind : (first : ℕ) (blocks : List ℕ) (s : ℕ)
+    → IsOfBlocks (sectors_of first blocks) s
+    → 4096 ≤ s
+unfolding sectors_of
+sectors_behind first blocks s is = blocks_behind first blocks s is
+
+by_behind : (first : ℕ) (st : PartStatus) (p q : Option PartOfLayout)
+    → IsBehind (wanted_by first st p q)
+by_behind first st None q = tt
+by_behind first st (Some p) None = tt
+by_behind first st (Some p) (Some q) = λ s is. sectors_behind first q.blocks s is
+
+fewer_behind : (x : Result Wanted StartFault) → IsBehind x → IsBehind (or_fewer x)
+fewer_behind (Ok w) is = is
+fewer_behind (Err fault) is = tt
+
+wanted_behind : (fewer : Bool) (slot : ℕ) (l : Layout) (st : PartStatus)
+    → IsBehind (wanted_for fewer slot l st)
+wanted_behind false slot l st =
+    by_behind l.device.first_logical_sector st
+    (first_named st.name (own_parts slot l.parts)) (first_named (store_of st.name) l.parts)
+wanted_behind true slot l st =
+    fewer_behind (wanted_of slot l st)
+    (by_behind l.device.first_logical_sector st
+    (first_named st.name (own_parts slot l.parts)) (first_named (store_of st.name) l.parts))
+
+-- a store whose sectors stay says the same, also where it is no list
+module _
+    (w : Wanted) (old new : Image)
+    (same : (s : ℕ) → IsOfBlocks w.store s → new s ≡ old s) where
+  abbrev said : Image → Result (List Exception) StoreFault
+  said image = scan_of One w.store (length w.base) image
+
+  by_both : (x y : Result (List Exception) StoreFault)
+      → said old ≡ x
+      → said new ≡ y
+      → scan_read w y ≡ scan_read w x
+  by_both (Ok es) y was is =
+      ap (scan_read w) (sym is ∙ scan_kept w.store old new same (length w.base) es was)
+  by_both (Err f) (Ok es) was is =
+      let back : said old ≡ Ok es =
+      scan_kept w.store new old (λ s there. sym (same s there)) (length w.base) es is in
+      let no : (let bad : Result (List Exception) StoreFault = Err f in bad ≡ Ok es) =
+      sym was ∙ back in
+      absurd cc
+  by_both (Err f) (Err h) was is = refl
+
+  store_as : scan_at w new ≡ scan_at w old
+  unfolding scan_at
+  store_as = by_both (said old) (said new) refl refl
+
+each_as : (x : Result Wanted StartFault) (ws : List (Result Wanted StartFault)) (old new : Image)
+    → SameSuper old new
+    → IsBehind x
+    → scans_in ws new ≡ scans_in ws old
+    → scans_in (x ∷ ws) new ≡ scans_in (x ∷ ws) old
+each_as (Err fault) ws old new same behind rest = refl
+each_as (Ok w) ws old new same behind rest =
+    let here = store_as w old new (λ s is. same s (behind s is)) in
+    (λ i. here i >>= λ s. rest i >>= λ ss. Ok (s ∷ ss))
+
+mapped_as : (fewer : Bool) (slot : ℕ) (l : Layout) (statuses : List PartStatus) (old new : Image)
+    → SameSuper old new
+    → scans_in (map (wanted_for fewer slot l) statuses) new
+    ≡ scans_in (map (wanted_for fewer slot l) statuses) old
+mapped_as fewer slot l [] old new same = refl
+mapped_as fewer slot l (st ∷ sts) old new same =
+    each_as (wanted_for fewer slot l st) (map (wanted_for fewer slot l) sts) old new same
+    (wanted_behind fewer slot l st) (mapped_as fewer slot l sts old new same)
+
+pub stores_as : (fewer : Bool) (slot : ℕ) (through : Option Loaded) (statuses : List PartStatus)
+    (old new : Image)
+    → SameSuper old new
+    → scans_in (stores_by fewer slot through statuses) new
+    ≡ scans_in (stores_by fewer slot through statuses) old
+stores_as fewer slot None statuses old new same = refl
+stores_as fewer slot (Some l) statuses old new same =
+    mapped_as fewer slot (layout_of l.table) statuses old new same
+
+-- those of a frame
+pub framed_stores : (f : Frame) (old new : Image) (x : Result (List Scanned) StartFault)
+    → SameSuper old new
+    → scans_in
+    (stores_by (is_merging f.heads.mark.phase) (through_slot f.heads.mark.phase f.heads.mark.slot)
+    (through_of f.heads.mark.phase f.tables.source f.tables.target)
+    (written_in f.heads.statuses.items))
+    old
+    ≡ x
+    → scans_in
+    (stores_by (is_merging f.heads.mark.phase) (through_slot f.heads.mark.phase f.heads.mark.slot)
+    (through_of f.heads.mark.phase f.tables.source f.tables.target)
+    (written_in f.heads.statuses.items))
+    new
+    ≡ x
+framed_stores f old new x same is =
+    stores_as (is_merging f.heads.mark.phase)
+    (through_slot f.heads.mark.phase f.heads.mark.slot)
+    (through_of f.heads.mark.phase f.tables.source f.tables.target)
+    (written_in f.heads.statuses.items) old new same
+    ∙ is
+
+-- a frame of which the heads are given
+pub framed_of : (size : ℕ) (f : Frame) (old new : Image)
+    → SameSuper old new
+    → IsHeaded size new f.heads.mark f.heads.version f.heads.statuses.items f.heads.control
+    f.heads.geometry
+    → tables_in size f.heads.geometry ((phase_at f.heads.mark.phase).tables f.heads.mark.slot) old
+    ≡ Ok (tables_of f.tables)
+    → AreLoaded f.heads.geometry f.heads.mark.slot old f.tables
+    → IsFramed size new f
+framed_of size f old new same headed tables loaded = record {
+  heads = headed;
+  tables =
+      tables_as size f.heads.geometry ((phase_at f.heads.mark.phase).tables f.heads.mark.slot) old
+      new same
+      ∙ tables;
+  loaded = loaded_as f.heads.geometry f.heads.mark.slot old new f.tables same loaded;
+}

@@ -1,0 +1,345 @@
+-- A slot keeps its images until a merge from it is begun.
+use Rattle.std.proofs.Common.{◌≡◌, ◌∙◌, ◌⊎◌, inl, inr, ℕ, zero, suc, ◌-◌, ◌≤◌, ◌<◌, ◌++◌, ◌==◌}
+use Rattle.std.proofs.Common.{Bool, true, false, cond, List, [], ◌∷◌, length, drop, codes, Option}
+use Rattle.std.proofs.Common.{Some, None, map, refl, sym, ap, subst, arith}
+use Rattle.std.specs.Prelude.{is_some}
+use Rattle.std.proofs.lemmas.Bool.{cases_Bool}
+use Rattle.std.proofs.lemmas.Bool.Decides.{nat_tests}
+use Rattle.vab_disk.specs.Disk.{Outcome}
+use Rattle.vab_bootctl.specs.declared.slots.Control.{Control}
+use Rattle.vab_bootctl.specs.Boot.{info_at, activated_of, booted_of, marked_of}
+use Rattle.vab_layout.specs.Slots.{other_slot}
+use Rattle.vab_model.specs.declared.state.Image.{Image as ImageOfSlot}
+use Rattle.vab_model.specs.declared.state.PlanEntry.{PlanEntry}
+use Rattle.vab_model.specs.declared.state.Phase.{Phase}
+use Rattle.vab_model.specs.declared.state.Phase.TheVariants.{Idle, Installing, Staged, Merging}
+use Rattle.vab_model.specs.declared.state.State.{State}
+use Rattle.vab_model.specs.declared.command.Refusal.{Refusal}
+use Rattle.vab_model.specs.declared.command.Refusal.TheVariants as refusals
+use Rattle.vab_model.specs.declared.command.Reply.TheVariants as replies
+use Rattle.vab_model.specs.Commands.{Command, SetActive, Boot, Mark, Print, Digest, Begin, Create}
+use Rattle.vab_model.specs.Commands.{Resize, Delete, Snapshot, Flash, Finish, Cancel, BeginMerge}
+use Rattle.vab_model.specs.Commands.{Merge}
+use Rattle.vab_model.specs.State.{images_at, has_images, with_control}
+use Rattle.vab_model.specs.Effects.{Effect, Found, Image_is, Refused_by, found_of, print_effect}
+use Rattle.vab_model.specs.Effects.{digest_effect, active_effect, effect, effect_map, IsOneOf}
+use Rattle.vab_model.specs.Effects.{does, refuses}
+use Rattle.vab_model.specs.Kinds.{is_finish}
+use Rattle.vab_device.specs.Mounted.{Mounted, in_state}
+use Rattle.vab_device.specs.Reading.{IsIn}
+use Rattle.vab_device.specs.Updates.{effect_on, begin_effect, EditOf, edit_effect, create_edit}
+use Rattle.vab_device.specs.Updates.{resize_edit, delete_edit, snapshot_edit, flash_effect}
+use Rattle.vab_device.specs.Updates.{cancelled, cancel_effect, begin_merge_effect, merge_effect}
+use Rattle.vab_device.specs.Updates.{merging_from, without_images, with_images, finish_effect}
+use Rattle.vab_device.specs.Updates.{complete_effect, finished, final_image, least_declared}
+use Rattle.vab_exchanges.specs.Session.{Exchange}
+use Rattle.vab_exchanges.specs.Items.{Kept, items_of, kept_after}
+use Rattle.vab_exchanges.specs.Runs.{acknowledged, CrashesWithin}
+use Rattle.vab_session.specs.Alone.{IsAlone, IsUnready, reached_in}
+use Rattle.vab_session.specs.Responses.{response}
+use Rattle.vab_session.specs.Source.{IsStagedFrom, IsReadyFrom, HasKept, IsMergedFrom}
+use Rattle.vab_session.specs.Source.{FindsMergedFrom, StandsKept}
+use Rattle.vab_session.proofs.AloneLaws.{alone_effect}
+use Rattle.vab_session.proofs.StandLaws.{finish_only}
+use Rattle.vab_session.proofs.UntilLaws as until
+
+-- these images for the other slot leave those of this one
+with_other : (s : State) (own : ℕ) (given : List ImageOfSlot)
+    → own < 2
+    → images_at (with_images s (other_slot own) given) own ≡ images_at s own
+with_other s zero given below = refl
+with_other s (suc zero) given below = refl
+with_other s (suc (suc n)) given below = absurd (omega (arith, below))
+
+with_target : (slot : ℕ) (s : State) (source : ℕ) (given : List ImageOfSlot)
+    → source ≡ slot
+    → slot < 2
+    → images_at (with_images s (other_slot source) given) slot ≡ images_at s slot
+with_target slot s source given at below =
+    subst
+    (λ (n : ℕ). images_at (with_images s (other_slot n) given) slot ≡ images_at s slot)
+    (sym at) (with_other s slot given below)
+
+-- a slot without images leaves those of the other
+pub still_has : (s : State) (own : ℕ)
+    → own < 2
+    → images_at (without_images s (other_slot own)) own ≡ images_at s own
+still_has s zero below = refl
+still_has s (suc zero) below = refl
+still_has s (suc (suc n)) below = absurd (omega (arith, below))
+
+pub still_none : (s : State) (own : ℕ)
+    → own < 2
+    → images_at (without_images s (other_slot own)) (other_slot own) ≡ None
+still_none s zero below = refl
+still_none s (suc zero) below = refl
+still_none s (suc (suc n)) below = absurd (omega (arith, below))
+
+module _ (slot : ℕ) (images : List ImageOfSlot) where
+  abbrev pub Stands : Mounted → Type 0
+  Stands m = HasKept slot images m
+
+  abbrev pub Merged : Mounted → Type 0
+  Merged m = IsMergedFrom slot m.state.phase
+
+  merged_alone : (phase : Phase) → slot < 2 → IsUnready slot phase → IsMergedFrom slot phase → ⊥
+  merged_alone Idle below is merged = merged
+  merged_alone (Installing source plan) below is merged = merged
+  merged_alone (Staged source left) below is merged = is
+  merged_alone (Merging target left) below is merged = omega (arith, below, is, merged)
+
+  merged_ready : (phase : Phase) → IsStagedFrom slot phase → IsMergedFrom slot phase → ⊥
+  merged_ready Idle is merged = is
+  merged_ready (Installing source plan) is merged = is
+  merged_ready (Staged source left) is merged = merged
+  merged_ready (Merging target left) is merged = is
+
+  pub apart : (m : Mounted) → Stands m → Merged m → ⊥
+  apart m (inl alone) merged = merged_alone m.state.phase alone.below alone.unready merged
+  apart m (inr ready) merged = merged_ready m.state.phase ready.ready merged
+
+  abbrev pub Makes : Mounted → List Mounted → Type 0
+  Makes m later = until.Makes Merged Stands apart m later
+
+  nothing : (m : Mounted) → Stands m → Makes m []
+  nothing m stands = until.made_nothing Merged Stands apart m stands
+
+  one : (m x : Mounted) → Stands m → Stands x → Makes m (x ∷ [])
+  one m x stands next = until.made_all Merged Stands apart m (x ∷ []) stands by
+    where
+      by : (y : Mounted) → IsOneOf (x ∷ []) y → Stands y
+      by y (inl here) = subst Stands (sym here) next
+      by y (inr none) = absurd none
+
+  either : (m : Mounted) (b : Bool) (e f : Effect Mounted)
+      → (b ≡ true → Makes m e.later)
+      → (b ≡ false → Makes m f.later)
+      → Makes m (cond b e f).later
+  either m true e f is other = is refl
+  either m false e f is other = other refl
+
+  -- ---- the end of an installation
+
+  completes : (m : Mounted) (source : ℕ) (plan : List PlanEntry) (least : Option (List ℕ))
+      → source ≡ slot
+      → IsAlone slot images m
+      → Makes m (complete_effect m source plan least).later
+  completes m source plan None at alone =
+      one m (finished m source plan) (inl alone) (inr (record {
+        below = alone.below;
+        has =
+            with_target slot m.state source (map (final_image m.state source) plan) at alone.below
+            ∙ alone.has;
+        ready = at;
+      }))
+  completes m source plan (Some name) at alone = nothing m (inl alone)
+
+  finishes : (m : Mounted) (phase : Phase)
+      → IsUnready slot phase
+      → IsAlone slot images m
+      → Makes m (finish_effect m phase).later
+  finishes m Idle is alone = nothing m (inl alone)
+  finishes m (Installing source plan) is alone =
+      completes m source plan (least_declared None plan) is alone
+  finishes m (Staged source left) is alone = nothing m (inl alone)
+  finishes m (Merging target left) is alone = nothing m (inl alone)
+
+  -- ---- where an update is ready
+
+  with_boot : (m : Mounted) (c : Control)
+      → IsReadyFrom slot images m
+      → Stands (in_state m (with_control c m.state))
+  with_boot m c is = inr (record { below = is.below; has = is.has; ready = is.ready })
+
+  activates : (m : Mounted) (has : Bool) (c : Control)
+      → IsReadyFrom slot images m
+      → Makes m (effect_map (in_state m) (active_effect has m.state c)).later
+  activates m true c is = one m _ (inr is) (with_boot m c is)
+  activates m false c is = nothing m (inr is)
+
+  prints : (m : Mounted) (name : List ℕ) (f : Found)
+      → IsReadyFrom slot images m
+      → Makes m (effect_map (in_state m) (print_effect name f)).later
+  prints m name (Image_is image) is = nothing m (inr is)
+  prints m name (Refused_by refusal) is = nothing m (inr is)
+
+  digests : (m : Mounted) (f : Found)
+      → IsReadyFrom slot images m
+      → Makes m (effect_map (in_state m) (digest_effect f)).later
+  digests m (Image_is image) is = nothing m (inr is)
+  digests m (Refused_by refusal) is = nothing m (inr is)
+
+  begins : (m : Mounted) (phase : Phase)
+      → IsStagedFrom slot phase
+      → IsReadyFrom slot images m
+      → Makes m (begin_effect m phase).later
+  begins m Idle at is = absurd at
+  begins m (Installing source plan) at is = absurd at
+  begins m (Staged source left) at is = nothing m (inr is)
+  begins m (Merging target left) at is = absurd at
+
+  edits : (m : Mounted) (edit : EditOf) (phase : Phase)
+      → IsStagedFrom slot phase
+      → IsReadyFrom slot images m
+      → Makes m (edit_effect m edit phase).later
+  edits m edit Idle at is = absurd at
+  edits m edit (Installing source plan) at is = absurd at
+  edits m edit (Staged source left) at is = nothing m (inr is)
+  edits m edit (Merging target left) at is = absurd at
+
+  flashes : (m : Mounted) (staged : Option (List ℕ)) (name : List ℕ) (phase : Phase)
+      → IsStagedFrom slot phase
+      → IsReadyFrom slot images m
+      → Makes m (flash_effect m staged name phase).later
+  flashes m staged name Idle at is = absurd at
+  flashes m staged name (Installing source plan) at is = absurd at
+  flashes m staged name (Staged source left) at is = nothing m (inr is)
+  flashes m staged name (Merging target left) at is = absurd at
+
+  finished_again : (m : Mounted) (phase : Phase)
+      → IsStagedFrom slot phase
+      → IsReadyFrom slot images m
+      → Makes m (finish_effect m phase).later
+  finished_again m Idle at is = absurd at
+  finished_again m (Installing source plan) at is = absurd at
+  finished_again m (Staged source left) at is = nothing m (inr is)
+  finished_again m (Merging target left) at is = absurd at
+
+  -- dropped while the source runs
+  dropped : (m : Mounted) (source : ℕ)
+      → source ≡ slot
+      → m.state.control.current ≡ source
+      → IsReadyFrom slot images m
+      → IsAlone slot images (cancelled m source)
+  dropped m source at runs is =
+      subst (λ (n : ℕ). IsAlone slot images (cancelled m n)) (sym at) (record {
+        below = is.below;
+        current = runs ∙ at;
+        has = still_has m.state slot is.below ∙ is.has;
+        other = still_none m.state slot is.below;
+        unready = tt;
+      })
+
+  cancels : (m : Mounted) (phase : Phase)
+      → IsStagedFrom slot phase
+      → IsReadyFrom slot images m
+      → Makes m (cancel_effect m phase).later
+  cancels m Idle at is = absurd at
+  cancels m (Installing source plan) at is = absurd at
+  cancels m (Staged source left) at is =
+      either m (m.state.control.current == source)
+      (does replies.Done (cancelled m source))
+      (refuses refusals.RunningTarget)
+      (λ runs.
+      one m (cancelled m source) (inr is)
+      (inl (dropped m source at (grind (arith, nat_tests, runs)) is)))
+      (λ other. nothing m (inr is))
+  cancels m (Merging target left) at is = absurd at
+
+  merge_begins : (m : Mounted) (phase : Phase)
+      → IsStagedFrom slot phase
+      → IsReadyFrom slot images m
+      → Makes m (begin_merge_effect m phase).later
+  merge_begins m Idle at is = absurd at
+  merge_begins m (Installing source plan) at is = absurd at
+  merge_begins m (Staged source left) at is =
+      let marked : Bool = (info_at m.state.control (other_slot source)).successful in
+      let begun : Effect Mounted = does replies.Done (merging_from m source left) in
+      let not_marked : Effect Mounted = refuses refusals.NotSuccessful in
+      either m (m.state.control.current == source)
+      (refuses refusals.NotRunningTarget)
+      (cond marked begun not_marked)
+      (λ runs. nothing m (inr is))
+      (λ other.
+      either m marked begun not_marked
+      (λ yes.
+      until.made_stop Merged Stands apart m (merging_from m source left) (ap other_slot at))
+      (λ no. nothing m (inr is)))
+  merge_begins m (Merging target left) at is = absurd at
+
+  merges : (m : Mounted) (blocks : ℕ) (phase : Phase)
+      → IsStagedFrom slot phase
+      → IsReadyFrom slot images m
+      → Makes m (merge_effect m blocks phase).later
+  merges m blocks Idle at is = absurd at
+  merges m blocks (Installing source plan) at is = absurd at
+  merges m blocks (Staged source left) at is = nothing m (inr is)
+  merges m blocks (Merging target left) at is = absurd at
+
+  ready_makes : (m : Mounted) (staged : Option (List ℕ)) (c : Command)
+      → IsReadyFrom slot images m
+      → Makes m (effect_on m staged c).later
+  unfolding effect
+  ready_makes m staged (SetActive n) is =
+      activates m (is_some (images_at m.state n)) (activated_of m.state.control n) is
+  ready_makes m staged Boot is =
+      one m _ (inr is) (with_boot m (booted_of m.state.control (has_images m.state)) is)
+  ready_makes m staged Mark is =
+      one m _ (inr is) (with_boot m (marked_of m.state.control) is)
+  ready_makes m staged (Print name) is = prints m name (found_of m.state name) is
+  ready_makes m staged (Digest name) is = digests m (found_of m.state name) is
+  ready_makes m staged Begin is = begins m m.state.phase is.ready is
+  ready_makes m staged (Create name size) is =
+      edits m (create_edit name size) m.state.phase is.ready is
+  ready_makes m staged (Resize name size) is =
+      edits m (resize_edit name size) m.state.phase is.ready is
+  ready_makes m staged (Delete name) is = edits m (delete_edit name) m.state.phase is.ready is
+  ready_makes m staged (Snapshot name size) is =
+      edits m (snapshot_edit name size) m.state.phase is.ready is
+  ready_makes m staged (Flash name) is = flashes m staged name m.state.phase is.ready is
+  ready_makes m staged Finish is = finished_again m m.state.phase is.ready is
+  ready_makes m staged Cancel is = cancels m m.state.phase is.ready is
+  ready_makes m staged BeginMerge is = merge_begins m m.state.phase is.ready is
+  ready_makes m staged (Merge blocks) is = merges m blocks m.state.phase is.ready is
+
+  pub command_makes : (m : Mounted) (staged : Option (List ℕ)) (c : Command)
+      → Stands m
+      → Makes m (effect_on m staged c).later
+  command_makes m staged c (inr ready) = ready_makes m staged c ready
+  command_makes m staged c (inl alone) = elim (cases_Bool (is_finish c)) [
+    | inl is ↦
+        subst (λ (d : Command). Makes m (effect_on m staged d).later) (sym (finish_only c is))
+        (finishes m m.state.phase alone.unready alone)
+    | inr not ↦
+        until.made_all Merged Stands apart m (effect_on m staged c).later (inl alone)
+        (λ x at. inl (alone_effect slot images m staged c not alone x at))
+  ]
+
+  -- ---- a cut of power
+
+  pub has_images_still : (m : Mounted) → Stands m → images_at m.state slot ≡ Some images
+  has_images_still m (inl alone) = alone.has
+  has_images_still m (inr ready) = ready.has
+
+  pub stands_kept : (size : ℕ) (o : Outcome) (m : Mounted)
+      → IsIn size m o.image
+      → Stands m
+      → StandsKept size slot images o.image
+  stands_kept size o m is stands =
+      record { mounted = m; is = is; has = has_images_still m stands; kept = stands }
+
+  -- Where that much was told, each cut of power leaves the slot its images, or a merge from it was
+  -- begun.
+  pub kept_at_cut : (size : ℕ) (first : Kept Mounted) (exchanges done later : List Exchange)
+      (unfinished : Option (List ℕ)) (told : List ℕ) (o : Outcome)
+      → CrashesWithin (IsIn size) (codes "FB01") first.now
+      (items_of response first exchanges unfinished) told o
+      → exchanges ≡ done ++ later
+      → Stands (kept_after response first done).now
+      → (since : List ℕ)
+      → o.told ≡ told ++ since
+      → length done
+      ≤ acknowledged (items_of response first exchanges unfinished) (drop 4 since)
+      → StandsKept size slot images o.image
+      ⊎ FindsMergedFrom slot
+      (reached_in (kept_after response first done) later unfinished
+      (acknowledged (items_of response first exchanges unfinished) (drop 4 since)
+      - length done))
+  kept_at_cut size first exchanges done later unfinished told o crash is stands since told_is
+      behind =
+      elim
+      (until.holds_at_cut Merged Stands apart command_makes size first exchanges done later
+      unfinished told o crash is stands since told_is behind) [
+        | inl at ↦ inl (stands_kept size o at.0 at.2 at.1)
+        | inr found ↦ inr found
+      ]
