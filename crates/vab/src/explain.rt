@@ -2,6 +2,7 @@
 
 use crate::usage::USAGE;
 use std::io::{Stdin, Stdout};
+use vab_adopt::AdoptFault;
 use vab_causes::Cause;
 use vab_cli::{Ending, Status};
 use vab_device::StartFault;
@@ -72,11 +73,18 @@ pub fn explain(
     ending: &Ending,
 ) {
     match (ending.status, &ending.cause) {
+        (Status::Done, Some(Cause::Dropped(mark))) => {
+            let _ = eprintln!(rt; "vab: {device}: {}", Cause::Dropped(*mark));
+        }
         (Status::Done, _) => {}
         (Status::Usage, _) => explain_words(rt, words),
-        (Status::NotADevice, Some(Cause::Opening(StartFault::BadGeometry))) => {
-            explain_geometry(rt, device, port)
-        }
+        (
+            Status::NotADevice,
+            Some(
+                Cause::Opening(StartFault::BadGeometry)
+                | Cause::Adopting(AdoptFault::NoDevice(StartFault::BadGeometry)),
+            ),
+        ) => explain_geometry(rt, device, port),
         (Status::Disk, _) if port.is_read_only() => {
             let _ = eprintln!(rt;
                 "vab: {device}: opened for reading alone, since it can't be written"

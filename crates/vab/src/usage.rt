@@ -7,6 +7,7 @@ pub const USAGE: &str = "usage: vab DEVICE VERB\n\
     \u{20} make             make a device of the set of images on the input, in slot a\n\
     \u{20}   --limit BYTES         limit of the partitions' group, 0 to 2^44, 0 for none\n\
     \u{20}   --metadata-max BYTES  most bytes of a copy of a table, 512 to 65536, by 512\n\
+    \u{20} adopt SLOT       make a device of a super that others wrote, by slot a's or b's table\n\
     \u{20} serve            a fastboot session over TCP framing on the input and the output\n\
     \u{20}   --fresh               make a device without images first\n\
     \u{20} install          install the set of images on the input in the slot that isn't running\n\

@@ -2,7 +2,7 @@
 use Rattle.std.proofs.Common.{◌≡◌, ◌∙◌, inl, inr, ℕ, ◌+◌, ◌*◌, ◌/◌, ◌<◌, ◌≤◌, eqb, List, [], ◌∷◌}
 use Rattle.std.proofs.Common.{length, map, refl, sym, ap, arith, length-append}
 use Rattle.std.specs.List.{flat_map}
-use Rattle.std.specs.Prelude.{Option, Some, None, All, ◌==◌, if◌then◌else◌, sum_by}
+use Rattle.std.specs.Prelude.{Option, Some, None, All, ◌==◌, if◌then◌else◌}
 use Rattle.std.proofs.lemmas.Bool.{cases_Bool}
 use Rattle.std.proofs.lemmas.List.{length-map}
 use Rattle.std.proofs.lemmas.List.Elements.{All-head, All-tail, All-weaker}
@@ -21,7 +21,7 @@ use Rattle.vab_manager.proofs.SeenLaws.{read_long, read_on_disk}
 use Rattle.vab_recover.specs.Opened.{with_tables}
 use Rattle.vab_recover.specs.declared.table.Tables.{Tables}
 use Rattle.vab_adopt.specs.declared.count.Adopted.{Adopted}
-use Rattle.vab_adopt.specs.Adopted.{images_there, images_of, blocks_in, IsCounted}
+use Rattle.vab_adopt.specs.Adopted.{images_there, blocks_in, IsCounted}
 use Rattle.vab_adopt.specs.Counting.{parts_there, blocks_over, IsCountOf}
 
 -- ---- the bytes of blocks

@@ -1,5 +1,5 @@
 -- What the gates of adopting leave.
-use Rattle.std.proofs.Common.{◌≡◌, ◌≢◌, ◌∙◌, ◌⊎◌, inl, inr, ⊎_elim, ℕ, ◌≤◌, ◌<◌, List, Ok, refl}
+use Rattle.std.proofs.Common.{◌≡◌, ◌≢◌, ◌∙◌, inl, inr, ⊎_elim, ℕ, ◌≤◌, ◌<◌, List, Ok, refl}
 use Rattle.std.proofs.Common.{sym, ap, subst, arith}
 use Rattle.vab_disk.specs.Disk.{Image, Outcome, IsSector, LeavesEither, LeavesWith, IsSettled}
 use Rattle.vab_disk.specs.Disk.{set_sector}

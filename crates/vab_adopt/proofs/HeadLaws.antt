@@ -27,7 +27,7 @@ use Rattle.vab_recover.specs.Opened.{IsMarked, IsHeaded}
 use Rattle.vab_recover.proofs.BehindLaws.{tables_as}
 use Rattle.vab_recover.proofs.FrameLaws.{no_geometry}
 use Rattle.vab_adopt.specs.Adopted.{adopted, adopted_control, control_sector, with_heads}
-use Rattle.vab_adopt.specs.Adopted.{IsControlOf, HasHeadsOf}
+use Rattle.vab_adopt.specs.Adopted.{HasHeadsOf}
 use Rattle.vab_adopt.proofs.SectorLaws.{control_there, mark_there}
 use Rattle.vab_make.specs.Steps.{blanked}
 
@@ -72,7 +72,7 @@ pub old_super : (slot : ℕ) (old one : Image) → HasHeadsOf slot old one → S
 old_super slot old one is = λ s le.
     is.others s (λ e. omega (arith, e, le)) (λ e. omega (arith, e, le))
 
-mark_means : (slot : ℕ) (image : Image)
+pub mark_means : (slot : ℕ) (image : Image)
     → mark_of (image 2048) ≡ Ok (idle_mark slot)
     → mark_in image ≡ Ok (idle_mark slot)
 unfolding mark_in

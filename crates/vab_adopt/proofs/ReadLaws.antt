@@ -1,5 +1,5 @@
 -- What is adopted after the disk was read alone.
-use Rattle.std.proofs.Common.{◌≡◌, ◌∙◌, ℕ, List, sym, ap, subst}
+use Rattle.std.proofs.Common.{◌∙◌, ℕ, List, sym, ap, subst}
 use Rattle.vab_disk.specs.declared.disk.Disk.{Ghosts}
 use Rattle.vab_disk.specs.Disk.{Image, Outcome, Adds}
 use Rattle.vab_disk.specs.Calls.{OnlyReads, IsAtRest, Touches}

@@ -1,5 +1,5 @@
 -- Why a disk isn't adopted.
-use Rattle.std.proofs.Common.{◌≡◌, ◌∙◌, ℕ, Ok, Err, refl, ap}
+use Rattle.std.proofs.Common.{◌≡◌, ℕ, Ok, Err, refl}
 use Rattle.std.specs.Prelude.{Some, None}
 use Rattle.vab_disk.specs.Disk.{Image}
 use Rattle.vab_device.specs.declared.fault.StartFault.{StartFault}

@@ -4,7 +4,6 @@ use Rattle.vab_disk.specs.declared.disk.Disk.{Ghosts}
 use Rattle.vab_disk.specs.Disk.{Image, Outcome, Rose}
 use Rattle.vab_marks.specs.Mark.{idle_mark, mark_spelling}
 use Rattle.vab_copies.specs.Copies.{zeros}
-use Rattle.vab_device.specs.declared.fault.StartFault.{StartFault}
 use Rattle.vab_device.specs.Faults.{IsOfContents}
 use Rattle.vab_device.specs.Faults as faults
 use Rattle.vab_device.specs.Mounted.{Mounted}
@@ -14,6 +13,7 @@ use Rattle.vab_adopt.specs.declared.fault.AdoptFault.{AdoptFault}
 use Rattle.vab_adopt.specs.declared.fault.AdoptFault.TheVariants.{AlreadyDevice, NoDevice}
 use Rattle.vab_adopt.specs.declared.count.Adopted.{Adopted}
 use Rattle.vab_adopt.specs.Adopted.{adopted, adopt_refusal, IsControlOf, IsCounted}
+use Rattle.vab_adopt.specs.Dropped.{dropped}
 
 -- ---- what is answered
 
@@ -42,21 +42,23 @@ pub record CountsAdopting {D A : Type 0}
   pub others : IfErr result (λ f. (IsOfDisk f → ⊥) → g.faults new ≡ g.faults old)
   pub cause : IfErr result (λ f. IsOfDisk f → Rose (g.faults old).disk (g.faults new).disk)
 
--- the disk is to be adopted, and that is what was counted
+-- the disk is to be adopted, with this count, and drops this update
 pub record IsFound (size slot : ℕ) (old : Image) (a : Adopted) : Type 0 where
   pub mounted : Mounted
   pub is : adopted size slot old ≡ Ok mounted
   pub none : adopt_refusal size slot old ≡ None
   pub counted : IsCounted slot mounted a
+  pub dropped : a.dropped ≡ dropped old
 
 -- ---- what is left
 
--- the disk is the adopted device, and that is what was counted
+-- the disk is the adopted device, with this count, and has dropped this update
 pub record IsAdopted (size slot : ℕ) (old new : Image) (a : Adopted) : Type 0 where
   pub mounted : Mounted
   pub is : adopted size slot old ≡ Ok mounted
   pub stands : IsIn size mounted new
   pub counted : IsCounted slot mounted a
+  pub dropped : a.dropped ≡ dropped old
 
 -- the boot control in its sector
 abbrev pub IsOfControl : ℕ → Image → ℕ → List ℕ → Type 0

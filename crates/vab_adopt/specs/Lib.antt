@@ -1,3 +1,5 @@
 pub mod Adopted
 pub mod Adopting
 pub mod Counting
+pub mod Dropped
+pub mod Named

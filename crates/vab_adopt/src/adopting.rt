@@ -1,18 +1,21 @@
 //! Adopting a disk.
 
-ghost use Rattle.std.specs.Prelude.{◌≡◌, ◌<◌, ◌≤◌, ℕ, true, false, IfOk, OnOk, IfErr, Err};
+ghost use Rattle.std.specs.Prelude.{◌≡◌, ◌<◌, ◌≤◌, ℕ, true, false, Some, IfOk, OnOk, IfErr, Err};
 ghost use Rattle.vab_disk.specs.Disk.{Adds};
 ghost use Rattle.vab_disk.specs.Calls.{IsAtRest, IsQuiet, OnlyReads, Touches};
 ghost use Rattle.vab_device.specs.declared.fault.StartFault.{StartFault as Fault};
 ghost use Rattle.vab_device.specs.Faults.{IsOfContents};
 ghost use Rattle.vab_device.specs.Reading.{device};
+ghost use Rattle.vab_adopt.specs.declared.fault.AdoptFault.{AdoptFault as Refusal};
 ghost use Rattle.vab_adopt.specs.declared.fault.AdoptFault.TheVariants.{NoDevice};
 ghost use Rattle.vab_adopt.specs.Adopted.{adopt_refusal};
 ghost use Rattle.vab_adopt.specs.Adopting.{CountsAdopting, Gives, IsAdopted, IsFound};
 ghost use Rattle.vab_adopt.specs.Adopting.{IsOfAdopting};
 ghost use Rattle.vab_adopt.specs.Adopting.{IsOfDisk, LeavesAdopting, Says};
+ghost use Rattle.vab_adopt.specs.Named.{IsNamed};
 
 use crate::count::{Adopted, count};
+use crate::dropped::update_there;
 use crate::fault::AdoptFault;
 use crate::heads::put_heads;
 use crate::reading::read_adopted;
@@ -79,15 +82,17 @@ fn look<D: Disk>(alloc: Global, d: &mut D, slot: usize) -> Result<Adopted, Adopt
     ensures counts { CountsAdopting D.Disk d.old d.new result }
 {
     check_none(alloc, d)?;
+    let dropped = update_there(d)?;
     let (device, _) = read_adopted(alloc, d, slot)?;
-    Ok(count(&device, slot))
+    Ok(count(&device, slot, dropped))
 }
 
 /// Adopts a disk whose `super` somebody else has written: it becomes the device of this slot's
 /// table, without an update, with the slot current and good, priority 15. Three sectors are
 /// written, one gate each: zeros for the mark, the boot control, the mark. Nothing of `super` is
 /// written, and the tables' copies are not repaired. The refusals come in the order of
-/// `AdoptFault`, each exactly where it says, and nothing is written then. A disk that fails, or a
+/// `AdoptFault`, each exactly where it says, and nothing is written then. An update whose mark can
+/// be read is dropped, and its mark answered. A disk that fails, or a
 /// cut of power, leaves the disk as it was, or no device, or the adopted one.
 pub fn adopt_device<D: Disk>(alloc: Global, d: &mut D, slot: usize) -> Result<Adopted, AdoptFault>
     requires slot { slot < 2 }
@@ -95,8 +100,15 @@ pub fn adopt_device<D: Disk>(alloc: Global, d: &mut D, slot: usize) -> Result<Ad
         → Gives result (adopt_refusal (D.size d.old) slot (D.seen d.old)) }
     ensures adopted { D.is_modelled
         → IfOk result (IsAdopted (D.size d.old) slot (D.seen d.old) (D.seen d.new)) }
+    // No fault of a mark, a boot control, a store or the slots comes.
+    ensures named { D.is_modelled → IfErr result (λ f. IsNamed slot f) }
     ensures settled { D.is_modelled → OnOk result (IsAtRest D.Disk d.new) }
     ensures unwritten { IfErr result (λ f. (IsOfDisk f → ⊥) → OnlyReads D.Disk d.old d.new) }
+    // Nor is anything where there is a refusal and the disk fails.
+    ensures refused { D.is_modelled
+        → (f : Refusal)
+        → adopt_refusal (D.size d.old) slot (D.seen d.old) ≡ Some f
+        → OnlyReads D.Disk d.old d.new }
     // The sectors of the boot control and of the mark alone are written, with these bytes.
     ensures touches { D.is_modelled
         → Touches D.Disk (IsOfAdopting slot (D.seen d.old)) d.old d.new }

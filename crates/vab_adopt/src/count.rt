@@ -5,6 +5,7 @@ ghost use Rattle.vab_device.specs.Kept.{AreParts, ArePresent};
 ghost use Rattle.vab_adopt.specs.Counting.{blocks_over, IsCountOf};
 
 use vab_device::{Device, Part};
+use vab_marks::UpdateMark;
 
 /// How much was adopted.
 #[derive(Clone, Copy, Debug, PartialEq, Eq)]
@@ -15,6 +16,8 @@ pub struct Adopted {
     pub blocks: u64,
     /// The blocks of 4096 bytes that partitions may have.
     pub cap: u64,
+    /// The mark of an update that was there, and is dropped: one that is installed, ready or merged.
+    pub dropped: Option<UpdateMark>,
 }
 
 // The blocks of these partitions.
@@ -29,12 +32,13 @@ fn blocks_over(parts: &[Part]) -> u64
     sum
 }
 
-/// What is counted of a slot of a device.
-pub(crate) fn count(device: &Device, slot: usize) -> Adopted
+/// What is counted of a slot of a device, where this update is dropped.
+pub(crate) fn count(device: &Device, slot: usize, dropped: Option<UpdateMark>) -> Adopted
     requires slot { slot < 2 }
     requires present { (size : ℕ)
         × ArePresent size (if slot == 0 then device.now.a else device.now.b) }
-    ensures { IsCountOf device.now slot result }
+    ensures counts { IsCountOf device.now slot result }
+    ensures dropped { result.dropped ≡ dropped }
 {
     let cap = device.cap();
     match device.images(slot) {
@@ -42,11 +46,13 @@ pub(crate) fn count(device: &Device, slot: usize) -> Adopted
             images: 0,
             blocks: 0,
             cap,
+            dropped,
         },
         Some(parts) => Adopted {
             images: parts.len() as u64,
             blocks: blocks_over(parts.as_slice()),
             cap,
+            dropped,
         },
     }
 }

@@ -19,8 +19,8 @@ use vab_marks::{MarkPhase, UpdateMark, encode_mark};
 // The disk sector of boot control.
 const CONTROL: u64 = 4;
 
-// The disk sector of the update mark.
-const MARK: u64 = 2048;
+/// The disk sector of the update mark.
+pub(crate) const MARK: u64 = 2048;
 
 /// The mark of a device of this slot without an update.
 pub(crate) fn idle_mark(slot: usize) -> UpdateMark

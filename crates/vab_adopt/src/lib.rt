@@ -3,6 +3,7 @@
 
 mod adopting;
 mod count;
+mod dropped;
 mod fault;
 mod heads;
 mod reading;

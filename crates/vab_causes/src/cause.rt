@@ -1,5 +1,6 @@
 // Why a run ends otherwise than done.
 
+use crate::adopting::{write_adopting, write_dropped};
 use crate::bytes::write_bytes;
 use crate::making::write_making;
 use crate::opening::write_opening;
@@ -7,10 +8,12 @@ use crate::session::write_session;
 use crate::set::write_set;
 use arrayvec::ArrayVec;
 use std::fmt;
+use vab_adopt::AdoptFault;
 use vab_bytes::Name36;
 use vab_device::StartFault;
 use vab_fbproto::put_refusal;
 use vab_make::MakeFault;
+use vab_marks::UpdateMark;
 use vab_model::Refusal;
 use vab_session::SessionFault;
 use vab_set::SetFault;
@@ -22,6 +25,10 @@ pub enum Cause {
     Opening(StartFault),
     /// No device was made.
     Making(MakeFault),
+    /// The disk wasn't adopted.
+    Adopting(AdoptFault),
+    /// It was adopted, and this update that was there is dropped.
+    Dropped(UpdateMark),
     /// The input has more bytes than a set may have, 2^32.
     TooLong,
     /// The input is no set of images.
@@ -66,6 +73,8 @@ impl fmt::Display for Cause {
         match self {
             Cause::Opening(fault) => write_opening(f, fault),
             Cause::Making(fault) => write_making(f, fault),
+            Cause::Adopting(fault) => write_adopting(f, fault),
+            Cause::Dropped(mark) => write_dropped(f, mark),
             Cause::TooLong => write!(f, "malformed input: more than 2^32 bytes"),
             Cause::Set(fault) => write_set(f, fault),
             Cause::Session(fault) => write_session(f, fault),

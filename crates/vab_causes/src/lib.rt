@@ -1,6 +1,7 @@
 //! Why a run of the program ends otherwise than done, and the text of it for people.
 #![tactic(auto)]
 
+mod adopting;
 mod bytes;
 mod cause;
 mod making;

@@ -90,6 +90,14 @@ pub failed_unrefused : {R : Type 0} {status : Status} → IsFailed status → st
 failed_unrefused (inl disk) is = cc
 failed_unrefused (inr port) is = cc
 
+pub none_held : IsFailed NotADevice → ⊥
+none_held (inl disk) = cc
+none_held (inr port) = cc
+
+pub memory_held : IsFailed NoMemory → ⊥
+memory_held (inl disk) = cc
+memory_held (inr port) = cc
+
 -- ---- what is done on a device that is open
 
 stop_opened : {status : Status} → IsStop status → status ≡ NotADevice → ⊥

@@ -1,8 +1,7 @@
 -- Both copies of the tables, where a run has come to its end.
-use Rattle.std.proofs.Common.{◌≡◌, ◌∙◌, ◌⊎◌, ⊎_elim, inl, inr, ℕ, true, false, Some, None, Ok, Err}
-use Rattle.std.proofs.Common.{Option, Result, sym, subst}
+use Rattle.std.proofs.Common.{◌≡◌, ◌∙◌, ◌⊎◌, ⊎_elim, ℕ, true, false, None, Ok, Err}
+use Rattle.std.proofs.Common.{Bool, Option, Result, sym, subst}
 use Rattle.vab_disk.specs.declared.disk.Disk.{Ghosts}
-use Rattle.vab_disk.specs.Disk.{Image}
 use Rattle.vab_disk.specs.Calls.{Changes}
 use Rattle.vab_disk.specs.Written.{same_image}
 use Rattle.vab_gen.specs.Sets.{fresh_set}
@@ -16,11 +15,10 @@ use Rattle.vab_make.specs.declared.fault.MakeFault.{MakeFault}
 use Rattle.vab_make.specs.declared.fault.MakeFault.TheVariants as make
 use Rattle.vab_make.specs.Made.{refusal_of}
 use Rattle.vab_make.specs.Making.{Gives}
-use Rattle.vab_words.specs.Verbs.{Meaning, Make, Serve, Install, Demo}
+use Rattle.vab_words.specs.Verbs.{Meaning, Serve, Install, Demo}
 use Rattle.vab_words.specs.Verbs as verbs
 use Rattle.vab_commands.specs.Copies.{HasBothCopies}
 use Rattle.vab_session.specs.Served.{Answer, Held as SessionHeld}
-use Rattle.vab_session.specs.declared.fault.SessionFault.{SessionFault}
 use Rattle.vab_session.specs.declared.fault.SessionFault.TheVariants as session
 use Rattle.vab_cli.specs.declared.status.Status.{Status}
 use Rattle.vab_cli.specs.declared.status.Status.TheVariants.{Done, Usage, Malformed, Refused}
@@ -207,11 +205,19 @@ module _ {D : Type 0} (g : Ghosts D) where
           ∙ none) answers;
     }
 
-    pub made_copies : (limit max : ℕ) → m ≡ Make limit max → LeavesCopies g m old new status
-    made_copies limit max same = record {
+    -- verbs that leave no device on which both copies agree
+    pub no_copies : (n : Meaning)
+        → m ≡ n
+        → command_of n ≡ None
+        → ((fresh : Bool) → n ≡ Serve fresh → ⊥)
+        → (n ≡ Install → ⊥)
+        → (n ≡ verbs.Status → ⊥)
+        → ((seed scale : ℕ) → n ≡ Demo seed scale → ⊥)
+        → LeavesCopies g m old new status
+    no_copies n same none not_serve not_install not_status not_demo = record {
       opened = λ t of.
-          absurd (unopened (Make limit max) (let r : Option Command = None in λ i. r) (λ e. cc)
-          (λ e. cc) (λ e. cc) (subst OpensDevice same of));
-      fresh = λ t is. let both = sym same ∙ is in cc;
-      demo = λ t seed scale is. let both = sym same ∙ is in cc;
+          absurd (unopened n none (not_serve false) not_install not_status
+          (subst OpensDevice same of));
+      fresh = λ t is. absurd (not_serve true (sym same ∙ is));
+      demo = λ t seed scale is. absurd (not_demo seed scale (sym same ∙ is));
     }

@@ -40,6 +40,7 @@ use Rattle.vab_cli.specs.Runs.{IsEarly, IsFailed, FailsMaking}
 use Rattle.vab_cli.specs.Telling.{Tells}
 use Rattle.vab_cli.specs.Touched.{IsOfMade}
 use Rattle.vab_cli.specs.Verbs.{done_making, is_silent, make_line}
+use Rattle.vab_cli.proofs.Running.{untouched_stays}
 use Rattle.vab_cli.proofs.Acting.{command_is_act, install_is_act, line_is_act, not_stop, wanted}
 use Rattle.vab_cli.proofs.Courses.{AreActs, IsEnd, acts_chain, acts_end, are_both, are_mapped}
 use Rattle.vab_cli.proofs.Courses.{are_same, performs_as}
@@ -174,7 +175,7 @@ module _ {D : Type 0}
   demo_short = record {
     runs = λ t none.
         inr (making_failed g only_now size set 0 65536 old old NoMemory (inr refl) refl
-        (λ memory. inl refl)
+        (λ memory. inl (untouched_stays g only_now size old old refl))
         (λ rest. record {
           later = omega arith;
           keeps = λ t o before there. there;
@@ -183,7 +184,8 @@ module _ {D : Type 0}
     refused = λ t fault is.
         let reads = reads_none g old in
         refused_unheard g only_now size (make_line fault) (make_status fault) old old NoMemory
-        refl refl (reads.time t) (silent_line fault) (status_not_port fault) (inr (inr refl));
+        refl refl (reads.time t) (silent_line fault)
+        (λ port. absurd (status_not_port fault port)) (inr (inr refl));
     touches = λ t. changes_none g _ old;
     quiet = λ t. record { left = refl; heard = refl };
   }
@@ -207,7 +209,9 @@ module _ {D : Type 0}
         let early : IsEarly status = subst IsEarly (sym same.1) (made_early f free) in
         inr (subst (λ (x : D). FailsMaking g size set 0 65536 old x status) (sym same.0)
         (making_failed g only_now size set 0 65536 old mid status early (makes.quiet.told t)
-        (λ memory. inl (ap g.seen (untouched (memory_of_none f (sym same.1 ∙ memory)))))
+        (λ memory.
+        inl (untouched_stays g only_now size old mid
+        (untouched (memory_of_none f (sym same.1 ∙ memory)))))
         (making t)));
     refused = λ t fault is.
         let by : Gives {A = Unit {0}} (Err f) (Some fault) =
@@ -220,14 +224,14 @@ module _ {D : Type 0}
               (reads_none g old) in
               refused_unheard g only_now size (make_line fault) (make_status fault) old new status
               (reads.quiet.told t) (reads.seen t) (reads.time t) (silent_line fault)
-              (status_not_port fault)
+              (λ port. absurd (status_not_port fault port))
               (inr (inr (same.1 ∙ silent_memory f fault by quiet)))
           | inr loud ↦
               let same : f ≡ fault = loud_refusal f fault by loud in
               let reads = subst (λ (x : D). OnlyReads g old x) (sym before) (reads_none g old) in
               refused_told g only_now size (make_line fault) (make_status fault) old mid new
               status (makes.quiet.told t) (reads.seen t) (reads.crash t) (reads.time t)
-              (silent_line fault)
+              (silent_line fault) (λ port. cc)
               (subst (λ (x : MakeFault). (status ≡ make_status x) ⊎ (status ≡ Port)) same either)
               (subst
               (λ (x : MakeFault). Tells g (make_line x) (make_status x) mid new status) same

@@ -1,4 +1,5 @@
 mod Acting
+mod Adoptings
 mod Blocks
 mod Causing
 mod CopiesLeft

@@ -7,7 +7,7 @@ use Rattle.std.proofs.lemmas.Bool.Decides.{nat_tests}
 use Rattle.std.proofs.lemmas.List.{append-nil}
 use Rattle.vab_disk.specs.declared.disk.Disk.{Ghosts}
 use Rattle.vab_disk.specs.Disk.{Image, Outcome, Leaves, SameHoldings, Adds, Nothing}
-use Rattle.vab_disk.specs.Calls.{IsAtRest}
+use Rattle.vab_disk.specs.Calls.{IsAtRest, OnlyReads}
 use Rattle.vab_disk.specs.Port.{LeavesSaying}
 use Rattle.vab_disk.specs.Written.{same_image}
 use Rattle.vab_disk.proofs.Moments.{adds_wider, adds_on, all_since}
@@ -17,7 +17,7 @@ use Rattle.vab_device.specs.Reading.{device, IsIn}
 use Rattle.vab_make.specs.declared.fault.MakeFault.{MakeFault}
 use Rattle.vab_make.specs.declared.fault.MakeFault.TheVariants as make
 use Rattle.vab_make.specs.Made.{refusal_of, made_device_of}
-use Rattle.vab_make.specs.Making.{Gives, IsOfDisk, IsMade, LeavesMaking}
+use Rattle.vab_make.specs.Making.{Gives, IsOfDisk, LeavesMaking}
 use Rattle.vab_exchanges.specs.Runs.{LeavesItem}
 use Rattle.vab_exchanges.proofs.RunLaws.{telling, within_item}
 use Rattle.vab_cli.specs.declared.status.Status.{Status}
@@ -27,9 +27,10 @@ use Rattle.vab_input.specs.declared.input.InputFault.{InputFault}
 use Rattle.vab_input.specs.declared.input.InputFault.TheVariants as input
 use Rattle.vab_cli.specs.Telling.{Tells}
 use Rattle.vab_cli.specs.Verbs.{is_silent, make_line, line_item}
-use Rattle.vab_cli.specs.Runs.{IsFailed, LeavesTelling, RunsRefused, RunsMaking, MakesWithin}
+use Rattle.vab_cli.specs.Runs.{GivesWithin, IsFailed, LeavesTelling, RunsGiving}
+use Rattle.vab_cli.specs.Runs.{RunsMaking, RunsUnwritten, StaysAsIs}
 use Rattle.vab_cli.specs.MadeDisk.{HoldsMade}
-use Rattle.vab_cli.proofs.Running.{settled_image}
+use Rattle.vab_cli.proofs.Running.{moment_stays, settled_image}
 
 -- ---- faults of making
 
@@ -72,6 +73,15 @@ silent_memory (make.NoRoom used blocks) fault gives is = cc
 silent_memory (make.TableFull size max) fault gives is = cc
 silent_memory make.NoMemory fault gives is = refl
 silent_memory (make.Disk d) fault gives is = let same = gives in cc
+
+-- where something is told memory wasn't refused
+pub loud_memory : (f : MakeFault) → is_silent f ≡ false → make_status f ≡ NoMemory → ⊥
+loud_memory (make.TooSmall need have) is memory = cc
+loud_memory (make.GroupLimit used limit) is memory = cc
+loud_memory (make.NoRoom used blocks) is memory = cc
+loud_memory (make.TableFull size max) is memory = cc
+loud_memory make.NoMemory is memory = cc
+loud_memory (make.Disk d) is memory = cc
 
 -- and what is told is the refusal
 pub loud_refusal : (f fault : MakeFault)
@@ -198,30 +208,33 @@ module _ {D : Type 0}
       adds_wider g.moment g.outcomes old mid Nothing (Stays line old) before (λ o none. absurd none)
 
   -- a line is told, where nothing was done before
-  pub refused_told : (line : List ℕ) (ends : Status) (old mid new : D) (status : Status)
+  pub refused_told : {Fails : Status → Type 0} (line : List ℕ) (ends : Status) (old mid new : D)
+      (status : Status)
       → g.told mid ≡ g.told old
       → g.seen mid ≡ g.seen old
       → SameHoldings (g.may_leave old) (g.may_leave mid)
       → Adds g.moment g.outcomes old mid Nothing
       → (ends ≡ NoMemory → line ≡ [])
-      → (status ≡ ends) ⊎ (status ≡ Port)
+      → (Fails NoMemory → ⊥)
+      → (status ≡ ends) ⊎ Fails status
       → Tells g line ends mid new status
-      → RunsRefused g size line ends old new status
-  refused_told line ends old mid new status told seen holds before silent either tells = record {
-    status_is = ⊎_elim (λ same. inl same) (λ port. inr (inl port)) either;
-    front = (let front = tells.front in
-        (front.0, front.1 ∙ ap (λ (l : List ℕ). l ++ take front.0 line) told));
-    whole = λ same. tells.whole same ∙ ap (λ (l : List ℕ). l ++ line) told;
-    untold = λ memory. ⊎_elim
-        (λ same.
-        tells.whole same
-        ∙ ap (λ (l : List ℕ). g.told mid ++ l) (silent (sym same ∙ memory))
-        ∙ append-nil (g.told mid) ∙ told)
-        (λ port. cc) either;
-    same = tells.seen ∙ seen;
-    time = on;
-    every_cut = λ rest. still_cuts line old new (on rest) rest;
-  }
+      → RunsUnwritten g size Fails line ends old new status
+  refused_told {Fails} line ends old mid new status told seen holds before silent other either
+      tells = record {
+        status_is = ⊎_elim (λ same. inl same) (λ fails. inr (inl fails)) either;
+        front = (let front = tells.front in
+            (front.0, front.1 ∙ ap (λ (l : List ℕ). l ++ take front.0 line) told));
+        whole = λ same. tells.whole same ∙ ap (λ (l : List ℕ). l ++ line) told;
+        untold = λ memory. ⊎_elim
+            (λ same.
+            tells.whole same
+            ∙ ap (λ (l : List ℕ). g.told mid ++ l) (silent (sym same ∙ memory))
+            ∙ append-nil (g.told mid) ∙ told)
+            (λ fails. absurd (other (subst Fails memory fails))) either;
+        same = tells.seen ∙ seen;
+        time = on;
+        every_cut = λ rest. still_cuts line old new (on rest) rest;
+      }
     where
       on : IsAtRest g old → Adds g.moment g.outcomes old new (Stays line old)
       on rest =
@@ -238,16 +251,17 @@ module _ {D : Type 0}
                 (λ s. rest s (o.image s) (holds.no_more s (o.image s) (leaves.each_sector s)));
           })
 
-  -- memory was refused, and nothing is told
-  pub refused_unheard : (line : List ℕ) (ends : Status) (old new : D) (status : Status)
+  -- it fails, or memory was refused, and nothing is told
+  pub refused_unheard : {Fails : Status → Type 0} (line : List ℕ) (ends : Status) (old new : D)
+      (status : Status)
       → g.told new ≡ g.told old
       → g.seen new ≡ g.seen old
       → Adds g.moment g.outcomes old new Nothing
       → (ends ≡ NoMemory → line ≡ [])
-      → ends ≢ Port
-      → ((status ≡ ends) × (line ≡ [])) ⊎ ((status ≡ Port) ⊎ (status ≡ NoMemory))
-      → RunsRefused g size line ends old new status
-  refused_unheard line ends old new status told seen before silent other either = record {
+      → (Fails ends → line ≡ [])
+      → ((status ≡ ends) × (line ≡ [])) ⊎ (Fails status ⊎ (status ≡ NoMemory))
+      → RunsUnwritten g size Fails line ends old new status
+  refused_unheard {Fails} line ends old new status told seen before silent other either = record {
     status_is = ⊎_elim (λ same. inl same.0) (λ rest. inr rest) either;
     front = (0, told ∙ sym (append-nil (g.told old)));
     whole = λ same.
@@ -260,20 +274,21 @@ module _ {D : Type 0}
   }
     where
       empty : status ≡ ends
-          → ((status ≡ ends) × (line ≡ [])) ⊎ ((status ≡ Port) ⊎ (status ≡ NoMemory))
+          → ((status ≡ ends) × (line ≡ [])) ⊎ (Fails status ⊎ (status ≡ NoMemory))
           → line ≡ []
       empty same (inl both) = both.1
-      empty same (inr (inl port)) = absurd (other (sym same ∙ port))
+      empty same (inr (inl fails)) = other (subst Fails same fails)
       empty same (inr (inr memory)) = silent (sym same ∙ memory)
 
   -- what was said of a run from behind what only reads, of the run from before it
-  pub refused_after : (line : List ℕ) (ends : Status) (old mid new : D) (status : Status)
+  pub refused_after : {Fails : Status → Type 0} (line : List ℕ) (ends : Status) (old mid new : D)
+      (status : Status)
       → g.told mid ≡ g.told old
       → g.seen mid ≡ g.seen old
       → SameHoldings (g.may_leave old) (g.may_leave mid)
       → Adds g.moment g.outcomes old mid Nothing
-      → RunsRefused g size line ends mid new status
-      → RunsRefused g size line ends old new status
+      → RunsUnwritten g size Fails line ends mid new status
+      → RunsUnwritten g size Fails line ends old new status
   refused_after line ends old mid new status told seen holds before runs = record {
     status_is = runs.status_is;
     front = (let front = runs.front in
@@ -299,113 +314,106 @@ module _ {D : Type 0}
             kind = left.kind ∙ seen;
           })
 
-  -- ---- a device is made
+  -- ---- the disk becomes a device
 
-  module _ (set : List SetImage) (limit max : ℕ) (line : List ℕ) where
-    made : Mounted
-    made = made_device_of set limit max size
-
-    -- what a cut of power leaves
-    abbrev Makes : D → Outcome → Type 0
-    Makes old o = MakesWithin g size set limit max line (g.told old) (g.seen old) o
-
-    making_cuts : (old new : D)
-        → Adds g.moment g.outcomes old new (Makes old)
+  module _ (first : Mounted) (line : List ℕ) (Holds : Image → Type 0) where
+    giving_cuts : (Before : Outcome → Type 0) (old new : D)
+        → ((o : Outcome) → o.told ≡ g.told old → o.image ≡ g.seen old → Before o)
+        → Adds g.moment g.outcomes old new (GivesWithin g size Before first line (g.told old))
         → IsAtRest g old
         → (o : Outcome)
         → g.outcomes new (g.moment old) o
-        → Makes old o
-    making_cuts old new time rest =
-        all_since g.moment g.outcomes old new (Makes old) (Leaves (g.told old) (g.may_leave old))
-        time (only_now old)
-        (λ o leaves. inr (record {
-          told_so_far = leaves.told_so_far;
-          either = inl (settled_image g only_now size old o rest leaves);
-        }))
+        → GivesWithin g size Before first line (g.told old) o
+    giving_cuts Before old new untouched time rest =
+        all_since g.moment g.outcomes old new (GivesWithin g size Before first line (g.told old))
+        (Leaves (g.told old) (g.may_leave old)) time (only_now old)
+        (λ o leaves.
+        inr (untouched o leaves.told_so_far (settled_image g only_now size old o rest leaves)))
 
-    -- the line is told of the made device
+    -- the line is told of the device
     line_told : (old mid : D)
         → g.told mid ≡ g.told old
-        → IsMade set limit max size (g.seen mid)
+        → IsIn size first (g.seen mid)
         → IsAtRest g mid
         → (o : Outcome)
         → LeavesSaying (g.told mid) line (g.may_leave mid) o
-        → LeavesItem (IsIn size) (g.told old) (line_item (made_device_of set limit max size) line) o
+        → LeavesItem (IsIn size) (g.told old) (line_item first line) o
     line_told old mid told is rest =
-        telling (IsIn size) (g.told old) (g.told mid)
-        (line_item (made_device_of set limit max size) line) [] line [] (g.may_leave mid)
+        telling (IsIn size) (g.told old) (g.told mid) (line_item first line) [] line []
+        (g.may_leave mid)
         (sym (append-nil line)) (told ∙ sym (append-nil (g.told old))) (inl refl)
         (λ o leaves.
         ap (device size)
         (same_image o.image (g.seen mid) (λ s. rest s (o.image s) (leaves.each_sector s)))
         ∙ is)
 
-    making_left : (old mid : D)
-        → Adds g.moment g.outcomes old mid
-        (LeavesMaking (g.told old) set limit max size (g.seen old))
-        → Adds g.moment g.outcomes old mid (Makes old)
-    making_left old mid making =
-        adds_wider g.moment g.outcomes old mid
-        (LeavesMaking (g.told old) set limit max size (g.seen old)) (Makes old) making
-        (λ o leaves. inr leaves)
+    giving_left : (Before : Outcome → Type 0) (old mid : D)
+        → Adds g.moment g.outcomes old mid Before
+        → Adds g.moment g.outcomes old mid (GivesWithin g size Before first line (g.told old))
+    giving_left Before old mid giving =
+        adds_wider g.moment g.outcomes old mid Before
+        (GivesWithin g size Before first line (g.told old)) giving (λ o leaves. inr leaves)
 
-    -- it is made, and the line is told, whole or in part
-    pub making_told : (old mid new : D) (status : Status)
+    -- the device is there, and the line is told, whole or in part
+    pub giving_told : (Before : Outcome → Type 0) (old mid new : D) (status : Status)
+        → ((o : Outcome) → o.told ≡ g.told old → o.image ≡ g.seen old → Before o)
         → g.told mid ≡ g.told old
-        → IsMade set limit max size (g.seen mid)
-        → HoldsMade max (g.seen old) (g.seen mid)
+        → IsIn size first (g.seen mid)
+        → Holds (g.seen mid)
         → IsAtRest g mid
-        → (IsAtRest g old
-        → Adds g.moment g.outcomes old mid
-        (LeavesMaking (g.told old) set limit max size (g.seen old)))
+        → (IsAtRest g old → Adds g.moment g.outcomes old mid Before)
         → (status ≡ Done) ⊎ (status ≡ Port)
         → Tells g line Done mid new status
-        → RunsMaking g size set limit max line old new status
-    making_told old mid new status told is holds rest making either tells = record {
+        → RunsGiving g size Before Holds first line old new status
+    giving_told Before old mid new status untouched told is holds rest giving either tells = record {
       status_is = ⊎_elim (λ done. inl done) (λ port. inr (inl (inr port))) either;
       front = (let front = tells.front in
           (front.0, front.1 ∙ ap (λ (l : List ℕ). l ++ take front.0 line) told));
       whole = λ done. tells.whole done ∙ ap (λ (l : List ℕ). l ++ line) told;
       untold = λ memory. ⊎_elim (λ done. cc) (λ port. cc) either;
+      memory = λ memory. ⊎_elim (λ done. cc) (λ port. cc) either;
       stands = λ done. ap (device size) tells.seen ∙ is;
-      holds = λ done.
-          subst (λ (x : Image). HoldsMade max (g.seen old) x) (sym tells.seen) holds;
+      holds = λ done. subst Holds (sym tells.seen) holds;
       settled = λ done s b held.
           rest s b ((let crash = tells.crash in crash.no_more) s b held)
           ∙ ap (λ (x : Image). x s) (sym tells.seen);
       time = on;
-      every_cut = λ before. making_cuts old new (on before) before;
+      every_cut = λ before. giving_cuts Before old new untouched (on before) before;
     }
       where
-        on : IsAtRest g old → Adds g.moment g.outcomes old new (Makes old)
+        on : IsAtRest g old
+            → Adds g.moment g.outcomes old new (GivesWithin g size Before first line (g.told old))
         on before =
-            adds_on g.moment g.outcomes old mid new (Makes old)
+            adds_on g.moment g.outcomes old mid new
+            (GivesWithin g size Before first line (g.told old))
             (LeavesSaying (g.told mid) line (g.may_leave mid))
-            (making_left old mid (making before)) tells.time
+            (giving_left Before old mid (giving before)) tells.time
             (λ o leaves.
-            inl (within_item (IsIn size) [] (made_device_of set limit max size) [] []
-            (line_item (made_device_of set limit max size) line) (g.told old) (g.told old) tt
+            inl (within_item (IsIn size) [] first [] [] (line_item first line) (g.told old)
+            (g.told old) tt
             (sym (append-nil (g.told old))) o (line_told old mid told is rest o leaves)))
 
     -- the disk or the port failed, or memory was refused, and nothing is told
-    pub making_untold : (old new : D) (status : Status)
+    pub giving_untold : (Before : Outcome → Type 0) (old new : D) (status : Status)
+        → ((o : Outcome) → o.told ≡ g.told old → o.image ≡ g.seen old → Before o)
         → g.told new ≡ g.told old
-        → (status ≡ NoMemory → g.seen new ≡ g.seen old)
-        → (IsAtRest g old
-        → Adds g.moment g.outcomes old new
-        (LeavesMaking (g.told old) set limit max size (g.seen old)))
+        → g.is_modelled
+        → (status ≡ NoMemory → OnlyReads g old new)
+        → (IsAtRest g old → Adds g.moment g.outcomes old new Before)
         → IsFailed status ⊎ (status ≡ NoMemory)
-        → RunsMaking g size set limit max line old new status
-    making_untold old new status told seen making either = record {
+        → RunsGiving g size Before Holds first line old new status
+    giving_untold Before old new status untouched told t reads giving either = record {
       status_is = inr either;
       front = (0, told ∙ sym (append-nil (g.told old)));
       whole = λ done. absurd (never done either);
-      untold = λ memory. (told, seen memory);
+      untold = λ memory. (told, (reads memory).seen t);
+      memory = λ memory. moment_stays g only_now size old new ((reads memory).time t);
       stands = λ done. absurd (never done either);
       holds = λ done. absurd (never done either);
       settled = λ done. absurd (never done either);
-      time = λ rest. making_left old new (making rest);
-      every_cut = λ rest. making_cuts old new (making_left old new (making rest)) rest;
+      time = λ rest. giving_left Before old new (giving rest);
+      every_cut = λ rest.
+          giving_cuts Before old new untouched (giving_left Before old new (giving rest)) rest;
     }
       where
         never : status ≡ Done → IsFailed status ⊎ (status ≡ NoMemory) → ⊥
@@ -413,41 +421,70 @@ module _ {D : Type 0}
         never done (inl (inr port)) = cc
         never done (inr memory) = cc
 
+  -- ---- a device is made
+
+  pub unmade_yet : (set : List SetImage) (limit max : ℕ) (old : D) (o : Outcome)
+      → o.told ≡ g.told old
+      → o.image ≡ g.seen old
+      → LeavesMaking (g.told old) set limit max size (g.seen old) o
+  unmade_yet set limit max old o told same = record {
+    told_so_far = told;
+    either = inl same;
+  }
+
+  module _ (set : List SetImage) (limit max : ℕ) (line : List ℕ) where
+    -- what a cut of power leaves
+    abbrev Makes : List ℕ → Image → Outcome → Type 0
+    Makes told image o =
+        GivesWithin g size (LeavesMaking told set limit max size image)
+        (made_device_of set limit max size) line told o
+
     -- what was said of a run from behind what only reads, of the run from before it
     pub making_after : (old mid new : D) (status : Status)
         → g.told mid ≡ g.told old
         → g.seen mid ≡ g.seen old
         → SameHoldings (g.may_leave old) (g.may_leave mid)
         → Adds g.moment g.outcomes old mid Nothing
+        → (status ≡ NoMemory → new ≡ mid)
         → RunsMaking g size set limit max line mid new status
         → RunsMaking g size set limit max line old new status
-    making_after old mid new status told seen holds before runs = record {
+    making_after old mid new status told seen holds before untouched runs = record {
       status_is = runs.status_is;
       front = (let front = runs.front in
           (front.0, front.1 ∙ ap (λ (l : List ℕ). l ++ take front.0 line) told));
       whole = λ done. runs.whole done ∙ ap (λ (l : List ℕ). l ++ line) told;
       untold = λ memory. (let untold = runs.untold memory in (untold.0 ∙ told, untold.1 ∙ seen));
+      memory = λ memory.
+          subst (λ (x : D). StaysAsIs g old x) (sym (untouched memory))
+          (moment_stays g only_now size old mid before);
       stands = runs.stands;
       holds = λ done.
           subst (λ (x : Image). HoldsMade max x (g.seen new)) seen (runs.holds done);
       settled = runs.settled;
       time = on;
-      every_cut = λ rest. making_cuts old new (on rest) rest;
+      every_cut = λ rest.
+          giving_cuts (made_device_of set limit max size) line (HoldsMade max (g.seen old))
+          (LeavesMaking (g.told old) set limit max size (g.seen old)) old new
+          (unmade_yet set limit max old) (on rest) rest;
     }
       where
-        moved : (o : Outcome) → Makes mid o → Makes old o
+        moved : (o : Outcome)
+            → Makes (g.told mid) (g.seen mid) o
+            → Makes (g.told old) (g.seen old) o
         moved o =
             subst
-            (λ (x : Image).
-            Makes mid o → MakesWithin g size set limit max line (g.told old) x o) seen
+            (λ (x : Image). Makes (g.told mid) (g.seen mid) o → Makes (g.told old) x o) seen
             (subst
-            (λ (l : List ℕ). Makes mid o → MakesWithin g size set limit max line l (g.seen mid) o)
+            (λ (l : List ℕ). Makes (g.told mid) (g.seen mid) o → Makes l (g.seen mid) o)
             told (λ is. is))
 
-        on : IsAtRest g old → Adds g.moment g.outcomes old new (Makes old)
+        on : IsAtRest g old
+            → Adds g.moment g.outcomes old new (Makes (g.told old) (g.seen old))
         on rest =
-            adds_on g.moment g.outcomes old mid new (Makes old) (Makes mid)
-            (adds_wider g.moment g.outcomes old mid Nothing (Makes old) before
+            adds_on g.moment g.outcomes old mid new (Makes (g.told old) (g.seen old))
+            (Makes (g.told mid) (g.seen mid))
+            (adds_wider g.moment g.outcomes old mid Nothing (Makes (g.told old) (g.seen old))
+            before
             (λ o none. absurd none))
             (runs.time (λ s b held.
             rest s b (holds.no_more s b held) ∙ ap (λ (x : Image). x s) (sym seen)))

@@ -21,7 +21,8 @@ use Rattle.vab_make.specs.declared.fault.MakeFault.{MakeFault}
 use Rattle.vab_make.specs.Made.{refusal_of, made_device_of}
 use Rattle.vab_make.specs.Making.{LeavesMaking}
 use Rattle.vab_make.specs.Touched.{IsOfMaking}
-use Rattle.vab_words.specs.Verbs.{Meaning, Make, Serve, Demo}
+use Rattle.vab_recover.specs.Opening.{IsOfOpening}
+use Rattle.vab_words.specs.Verbs.{Meaning, Make, Adopt, Serve, Demo}
 use Rattle.vab_words.specs.Verbs as verbs
 use Rattle.vab_exchanges.specs.Runs.{acknowledged, steps_at}
 use Rattle.vab_commands.specs.Touched.{IsOfAll, IsOfCommands}
@@ -38,6 +39,7 @@ use Rattle.vab_model.specs.Effects.{IsOneOf}
 use Rattle.vab_cli.specs.declared.status.Status.{Status}
 use Rattle.vab_cli.specs.declared.status.Status.TheVariants.{Done, Usage, Malformed, NotADevice}
 use Rattle.vab_cli.specs.declared.status.Status.TheVariants.{Disk, Port, NoMemory}
+use Rattle.vab_cli.specs.Adopting.{Adopts}
 use Rattle.vab_cli.specs.Codes.{make_status}
 use Rattle.vab_cli.specs.Copies.{LeavesCopies}
 use Rattle.vab_cli.specs.Acts.{Course, RunsActs}
@@ -82,6 +84,7 @@ is_end (Some c) = is_finish c
 none_ends : (m : Meaning) → is_end (command_of m) ≡ false
 unfolding is_end
 none_ends (Make limit max) = refl
+none_ends (Adopt slot) = refl
 none_ends (Serve fresh) = refl
 none_ends verbs.Install = refl
 none_ends verbs.Boot = refl
@@ -257,6 +260,7 @@ module _ {D : Type 0}
     touches_served = λ t is. is_command m (Serve false) c some is refl;
     touches_unmerged = λ t is. is_command m (Serve false) c some is refl;
     writes_served = λ t is. is_command m (Serve false) c some is refl;
+    writes_fresh = λ t is. is_command m (Serve true) c some is refl;
     touches_fresh = λ t is. is_command m (Serve true) c some is refl;
     touches_fresh_unmerged = λ t is. is_command m (Serve true) c some is refl;
     fresh = λ t is. is_command m (Serve true) c some is refl;
@@ -272,6 +276,7 @@ module _ {D : Type 0}
     install = λ is. is_command m verbs.Install c some is refl;
     tells = λ is. is_command m verbs.Status c some is refl;
     demo = λ seed scale is. is_command m (Demo seed scale) c some is refl;
+    adopt = λ slot is. is_command m (Adopt slot) c some is refl;
     copies = copies;
     disk = disk;
     port = port;
@@ -317,7 +322,7 @@ module _ {D : Type 0}
       → (g.is_modelled
       → (s : Mounted)
       → IsIn (g.size old) s (g.seen old)
-      → WritesServed g (status ≡ Disk) (g.size old)
+      → WritesServed g (IsOfOpening (g.size old) (g.seen old)) (status ≡ Disk) (g.size old)
       (drop 4 (take (2 ^ 44) (g.input_left old)))
       old new)
       → (g.is_modelled
@@ -338,6 +343,7 @@ module _ {D : Type 0}
     touches_served = λ t same. touches t;
     touches_unmerged = λ t same. unmerged t;
     writes_served = λ t same. writes t;
+    writes_fresh = λ t other. let both = sym is ∙ other in cc;
     touches_fresh = λ t other. let both = sym is ∙ other in cc;
     touches_fresh_unmerged = λ t other. let both = sym is ∙ other in cc;
     fresh = λ t other. let both = sym is ∙ other in cc;
@@ -353,6 +359,7 @@ module _ {D : Type 0}
     install = λ other. let both = sym is ∙ other in cc;
     tells = λ other. let both = sym is ∙ other in cc;
     demo = λ seed scale other. let both = sym is ∙ other in cc;
+    adopt = λ slot other. let both = sym is ∙ other in cc;
     copies = copies;
     disk = disk;
     port = port;
@@ -385,8 +392,12 @@ module _ {D : Type 0}
       → MergesNothing (2 ^ 44) (g.input_left old)
       → Changes g (IsOfFresh IsOfCommands (g.size old)) old new)
       → LeavesCopies g m old new status
+      → (g.is_modelled
+      → WritesServed g (InSectors (IsOfMaking [] 65536)) (status ≡ Disk) (g.size old)
+      (drop 4 (take (2 ^ 44) (g.input_left old)))
+      old new)
       → DoesVerb g m old new status
-  fresh_verb is runs small too_small touches unmerged copies = record {
+  fresh_verb is runs small too_small touches unmerged copies writes = record {
     item = λ t c some. no_command m (Serve true) c is refl some;
     none = λ t c some. no_command m (Serve true) c is refl some;
     touches = λ t c some. no_command m (Serve true) c is refl some;
@@ -399,6 +410,7 @@ module _ {D : Type 0}
     touches_served = λ t other. let both = sym is ∙ other in cc;
     touches_unmerged = λ t other. let both = sym is ∙ other in cc;
     writes_served = λ t other. let both = sym is ∙ other in cc;
+    writes_fresh = λ t same. writes t;
     touches_fresh = λ t same. touches t;
     touches_fresh_unmerged = λ t same. unmerged t;
     fresh = λ t same. runs t;
@@ -414,6 +426,7 @@ module _ {D : Type 0}
     install = λ other. let both = sym is ∙ other in cc;
     tells = λ other. let both = sym is ∙ other in cc;
     demo = λ seed scale other. let both = sym is ∙ other in cc;
+    adopt = λ slot other. let both = sym is ∙ other in cc;
     copies = copies;
     disk = disk;
     port = port;
@@ -471,6 +484,7 @@ module _ {D : Type 0}
     touches_served = λ t other. let both = sym is ∙ other in cc;
     touches_unmerged = λ t other. let both = sym is ∙ other in cc;
     writes_served = λ t other. let both = sym is ∙ other in cc;
+    writes_fresh = λ t other. let both = sym is ∙ other in cc;
     touches_fresh = λ t other. let both = sym is ∙ other in cc;
     touches_fresh_unmerged = λ t other. let both = sym is ∙ other in cc;
     fresh = λ t other. let both = sym is ∙ other in cc;
@@ -509,6 +523,7 @@ module _ {D : Type 0}
     install = λ other. let both = sym is ∙ other in cc;
     tells = λ other. let both = sym is ∙ other in cc;
     demo = λ seed scale other. let both = sym is ∙ other in cc;
+    adopt = λ slot other. let both = sym is ∙ other in cc;
     copies = copies;
     disk = disk;
     port = port;
@@ -564,9 +579,10 @@ module _ {D : Type 0}
       → ((seed scale : ℕ)
       → n ≡ Demo seed scale
       → DemonstratesOf g seed scale old new status)
+      → ((slot : ℕ) → n ≡ Adopt slot → Adopts g slot old new status)
       → LeavesCopies g m old new status
       → DoesVerb g m old new status
-  other_verb n is none not_serve not_make install tells demo copies = record {
+  other_verb n is none not_serve not_make install tells demo adopt copies = record {
     item = λ t c some. no_command m n c is none some;
     none = λ t c some. no_command m n c is none some;
     touches = λ t c some. no_command m n c is none some;
@@ -579,6 +595,7 @@ module _ {D : Type 0}
     touches_served = λ t other. absurd (not_serve false (sym is ∙ other));
     touches_unmerged = λ t other. absurd (not_serve false (sym is ∙ other));
     writes_served = λ t other. absurd (not_serve false (sym is ∙ other));
+    writes_fresh = λ t other. absurd (not_serve true (sym is ∙ other));
     touches_fresh = λ t other. absurd (not_serve true (sym is ∙ other));
     touches_fresh_unmerged = λ t other. absurd (not_serve true (sym is ∙ other));
     fresh = λ t other. absurd (not_serve true (sym is ∙ other));
@@ -594,6 +611,7 @@ module _ {D : Type 0}
     install = λ other. install (sym is ∙ other);
     tells = λ other. tells (sym is ∙ other);
     demo = λ seed scale other. demo seed scale (sym is ∙ other);
+    adopt = λ slot other. adopt slot (sym is ∙ other);
     copies = copies;
     disk = disk;
     port = port;

@@ -6,10 +6,9 @@ use Rattle.std.proofs.lemmas.List.{append-nil}
 use Rattle.std.specs.Result.{is_err}
 use Rattle.vab_disk.specs.declared.disk.Disk.{Ghosts}
 use Rattle.vab_disk.specs.Disk.{Image, Outcome, Leaves, SameHoldings, Adds, Nothing}
-use Rattle.vab_disk.specs.Calls.{IsAtRest}
-use Rattle.vab_disk.specs.Port.{LeavesSaying}
+use Rattle.vab_disk.specs.Calls.{IsAtRest, OnlyReads}
 use Rattle.vab_disk.specs.Written.{same_image}
-use Rattle.vab_disk.proofs.Moments.{adds_wider, adds_on, all_since}
+use Rattle.vab_disk.proofs.Moments.{adds_none, adds_wider, adds_on, all_since}
 use Rattle.vab_device.specs.declared.fault.StartFault.{StartFault}
 use Rattle.vab_device.specs.declared.fault.StartFault.TheVariants as start
 use Rattle.vab_device.specs.Faults.{IsOfContents, IsOfDisk}
@@ -21,12 +20,12 @@ use Rattle.vab_exchanges.specs.Items.{Item}
 use Rattle.vab_exchanges.specs.Runs.{CrashesWithin, LeavesItem}
 use Rattle.vab_exchanges.proofs.RunLaws.{within_item}
 use Rattle.vab_cli.specs.declared.status.Status.{Status}
-use Rattle.vab_cli.specs.declared.status.Status.TheVariants.{NotADevice, Disk, Port}
+use Rattle.vab_cli.specs.declared.status.Status.TheVariants.{NotADevice, Disk}
 use Rattle.vab_cli.specs.declared.status.Status.TheVariants.{NoMemory}
 use Rattle.vab_cli.specs.Codes.{start_status}
 use Rattle.vab_cli.specs.Opening.{Opens}
-use Rattle.vab_cli.specs.Runs.{IsEarly, IsFailed, LeavesTelling, MeansAs, RunsItem, RunsItems}
-use Rattle.vab_cli.specs.Runs.{FailsBefore, RunsNone, RunsShort}
+use Rattle.vab_cli.specs.Runs.{FailsBefore, IsEarly, IsFailed, LeavesAsIs, RunsItem, RunsItems}
+use Rattle.vab_cli.specs.Runs.{RunsShort, StaysAsIs}
 use Rattle.vab_cli.specs.Telling.{DoesItem, LeavesShort}
 
 -- Nothing is told, and the disk means the same in every outcome.
@@ -175,100 +174,48 @@ module _ {D : Type 0}
       → IsIn size s (g.seen mid)
   opened_in old mid s opens is = opens.device ∙ is
 
+  -- what adds no outcome leaves all as it was
+  pub moment_stays : (old new : D)
+      → Adds g.moment g.outcomes old new Nothing
+      → StaysAsIs g old new
+  moment_stays old new time rest =
+      all_since g.moment g.outcomes old new (LeavesAsIs (g.told old) (g.seen old))
+      (Leaves (g.told old) (g.may_leave old))
+      (adds_wider g.moment g.outcomes old new Nothing (LeavesAsIs (g.told old) (g.seen old))
+      time (λ o none. absurd none))
+      (only_now old)
+      (λ o leaves. record {
+        told_so_far = leaves.told_so_far;
+        same = settled_image old o rest leaves;
+      })
+
+  -- so does what isn't done
+  pub untouched_stays : (old new : D)
+      → new ≡ old
+      → (g.seen new ≡ g.seen old) × StaysAsIs g old new
+  untouched_stays old new same =
+      subst (λ (d : D). (g.seen d ≡ g.seen old) × StaysAsIs g old d) (sym same)
+      (refl, moment_stays old old (adds_none g.moment g.outcomes old Nothing))
+
   -- opening failed
   pub fails_before : (s : Mounted) (old new : D) (status : Status)
+      → g.is_modelled
       → IsIn size s (g.seen old)
       → IsEarly status
       → g.told new ≡ g.told old
-      → (status ≡ NoMemory → g.seen new ≡ g.seen old)
+      → (status ≡ NoMemory → OnlyReads g old new)
       → (IsAtRest g old
       → Adds g.moment g.outcomes old new (LeavesSame (g.told old) size (g.seen old)))
       → FailsBefore g size s old new status
-  fails_before s old new status is early told same time = record {
+  fails_before s old new status t is early told reads time = record {
     early = early;
     told = told;
-    same = same;
+    same = λ memory. (reads memory).seen t;
+    memory = λ memory. moment_stays old new ((reads memory).time t);
     every_cut = λ rest o at.
         let left = same_cuts old new (time rest) rest o at in
         record { told_so_far = left.told_so_far; stands = left.same ∙ is };
   }
-
-  -- opening failed where there is no device
-  pub none_early : (line : List ℕ) (old new : D) (status : Status)
-      → IsEarly status
-      → g.told new ≡ g.told old
-      → (status ≡ NoMemory → g.seen new ≡ g.seen old)
-      → (IsAtRest g old
-      → Adds g.moment g.outcomes old new (LeavesSame (g.told old) size (g.seen old)))
-      → RunsNone g size line old new status
-  none_early line old new status early told same time = record {
-    status_is = inr (⊎_elim (λ disk. inl (inl disk)) (λ memory. inr memory) early);
-    front = (0, told ∙ sym (append-nil (g.told old)));
-    whole = λ is. absurd (never is early);
-    untold = λ is. told;
-    same = λ either. ⊎_elim (λ is. absurd (never is early)) same either;
-    every_cut = λ rest o at.
-        let left = same_cuts old new (time rest) rest o at in
-        record {
-          front = (0, left.told_so_far ∙ sym (append-nil (g.told old)));
-          kind = left.same;
-        };
-  }
-    where
-      never : status ≡ NotADevice → IsEarly status → ⊥
-      never is (inl disk) = cc
-      never is (inr memory) = cc
-
-  -- there is no device, and the line is told, whole or in part
-  pub none_told : (line : List ℕ) (old mid new : D) (status : Status)
-      → (status ≡ NotADevice) ⊎ (status ≡ Port)
-      → g.told mid ≡ g.told old
-      → g.seen mid ≡ g.seen old
-      → SameHoldings (g.may_leave old) (g.may_leave mid)
-      → (IsAtRest g old
-      → Adds g.moment g.outcomes old mid (LeavesSame (g.told old) size (g.seen old)))
-      → (n : ℕ) × (g.told new ≡ g.told mid ++ take n line)
-      → (status ≡ NotADevice → g.told new ≡ g.told mid ++ line)
-      → g.seen new ≡ g.seen mid
-      → Adds g.moment g.outcomes mid new (LeavesSaying (g.told mid) line (g.may_leave mid))
-      → RunsNone g size line old new status
-  none_told line old mid new status status_is told seen holds time front whole seen' saying =
-      record {
-        status_is = ⊎_elim (λ none. inl none) (λ port. inr (inl (inr port))) status_is;
-        front = (front.0, front.1 ∙ ap (λ (l : List ℕ). l ++ take front.0 line) told);
-        whole = λ is. whole is ∙ ap (λ (l : List ℕ). l ++ line) told;
-        untold = λ is. ⊎_elim (λ none. cc) (λ port. cc) status_is;
-        same = λ is. seen' ∙ seen;
-        every_cut = λ rest o at.
-            all_since g.moment g.outcomes old new P (Leaves (g.told old) (g.may_leave old))
-            (adds_on g.moment g.outcomes old mid new P
-            (LeavesSaying (g.told mid) line (g.may_leave mid))
-            (adds_wider g.moment g.outcomes old mid (LeavesSame (g.told old) size (g.seen old)) P
-            (time rest)
-            (λ o' same. record {
-              front = (0, same.told_so_far ∙ sym (append-nil (g.told old)));
-              kind = same.same;
-            }))
-            saying
-            (λ o' leaves. record {
-              front = (
-                leaves.front.0,
-                leaves.front.1 ∙ ap (λ (l : List ℕ). l ++ take leaves.front.0 line) told,
-              );
-              kind = ap (device size)
-                  (same_image o'.image (g.seen old)
-                  (λ s. rest s (o'.image s) (holds.no_more s (o'.image s) (leaves.each_sector s))));
-            }))
-            (only_now old)
-            (λ o' leaves. record {
-              front = (0, leaves.told_so_far ∙ sym (append-nil (g.told old)));
-              kind = ap (device size) (settled_image old o' rest leaves);
-            })
-            o at;
-      }
-    where
-      P : Outcome → Type 0
-      P = LeavesTelling (g.told old) line (MeansAs size (g.seen old))
 
   -- ---- one item
 

@@ -40,7 +40,8 @@ use Rattle.vab_cli.specs.declared.status.Status.TheVariants.{NotADevice, Disk, P
 use Rattle.vab_cli.specs.Codes.{session_status, make_status}
 use Rattle.vab_cli.specs.Opening.{Opens}
 use Rattle.vab_cli.specs.Program.{AnswersAll}
-use Rattle.vab_cli.specs.Runs.{SaysEnd, Held, IsEarly, RunsItems, RunsSession, FailsMaking}
+use Rattle.vab_cli.specs.Runs.{SaysEnd, StaysAsIs, Held, IsEarly, RunsItems, RunsSession}
+use Rattle.vab_cli.specs.Runs.{FailsMaking}
 use Rattle.vab_cli.proofs.Items.{mounted_is}
 use Rattle.vab_cli.proofs.Running.{settled_image}
 
@@ -333,7 +334,8 @@ module _ {D : Type 0}
         → IsEarly status
         → g.told new ≡ g.told old
         → (status ≡ NoMemory
-        → (g.seen new ≡ g.seen old) ⊎ IsMade set limit max size (g.seen new))
+        → ((g.seen new ≡ g.seen old) × StaysAsIs g old new)
+        ⊎ IsMade set limit max size (g.seen new))
         → (IsAtRest g old
         → Adds g.moment g.outcomes old new
         (LeavesMaking (g.told old) set limit max size (g.seen old)))

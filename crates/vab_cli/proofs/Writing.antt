@@ -1,15 +1,14 @@
--- What a session over the device of the disk writes.
-use Rattle.std.proofs.Common.{◌≡◌, ◌∙◌, ◌⊎◌, inl, inr, ⊎_elim, ◌^◌, ℕ, List, take, drop, Result, Ok}
-use Rattle.std.proofs.Common.{Err, sym, ap, subst}
+-- What a session writes.
+use Rattle.std.proofs.Common.{◌≡◌, ◌∙◌, inl, inr, ⊎_elim, ◌^◌, ℕ, List, take, drop}
+use Rattle.std.proofs.Common.{sym, ap, subst}
 use Rattle.std.specs.Prelude.{IsErrOf}
 use Rattle.vab_disk.specs.declared.disk.Disk.{Ghosts}
 use Rattle.vab_disk.specs.Disk.{Image}
-use Rattle.vab_disk.specs.Calls.{Changes, IsAtRest, SameBut}
+use Rattle.vab_disk.specs.Calls.{Changes, IsAtRest}
 use Rattle.vab_disk.proofs.Moments.{adds_on, adds_wider}
 use Rattle.vab_device.specs.declared.device.Device.{Device}
 use Rattle.vab_device.specs.Mounted.{mounted_on}
 use Rattle.vab_device.specs.Reading.{Represents}
-use Rattle.vab_recover.specs.Opening.{IsOfOpening}
 use Rattle.vab_session.specs.Served.{Answer, nothing_staged}
 use Rattle.vab_session.specs.declared.fault.SessionFault.TheVariants as session
 use Rattle.vab_session.specs.Written.{WrittenInTurn, WritesAs, WritesInTurn}
@@ -17,7 +16,7 @@ use Rattle.vab_session.proofs.WrittenLaws.{written_wider}
 use Rattle.vab_cli.specs.declared.status.Status.{Status}
 use Rattle.vab_cli.specs.declared.status.Status.TheVariants.{Disk}
 use Rattle.vab_cli.specs.Codes.{session_status}
-use Rattle.vab_cli.specs.Written.{WritesOpened, WritesServed}
+use Rattle.vab_cli.specs.Written.{WritesServed}
 
 -- what is changed, where nothing was pending
 pub changes_as : {D : Type 0} (g : Ghosts D) (W : ℕ → List ℕ → Type 0) (old new : D)
@@ -32,21 +31,21 @@ changes_as g W old new t changes = record {
       ⊎_elim (λ was. inl (rest s (o.image s) was)) (λ wrote. inr wrote) (each s));
 }
 
-pub writes_opened : {D : Type 0} (g : Ghosts D) (size : ℕ) (d : Device) (r : Answer)
-    (status : Status) (old mid new : D)
+pub writes_opened : {D : Type 0} (g : Ghosts D) (W : ℕ → List ℕ → Type 0) (size : ℕ) (d : Device)
+    (r : Answer) (status : Status) (old mid new : D)
     → g.is_modelled
     → g.size mid ≡ size
     → g.input_left mid ≡ g.input_left old
     → Represents d size (g.seen mid)
-    → Changes g (IsOfOpening size (g.seen old)) old mid
+    → Changes g W old mid
     → (IsAtRest g old → IsAtRest g mid)
     → status ≡ session_status r
     → WritesInTurn g (IsErrOf r session.Disk) (g.size mid) d
     (nothing_staged (mounted_on d (g.seen mid)))
     (drop 4 (take (2 ^ 44) (g.input_left mid))) mid new
-    → WritesServed g (status ≡ Disk) size (drop 4 (take (2 ^ 44) (g.input_left old))) old new
-writes_opened g size d r status old mid new t sized left represents opens rests is wrote =
-    let first = changes_as g (IsOfOpening size (g.seen old)) old mid t opens in
+    → WritesServed g W (status ≡ Disk) size (drop 4 (take (2 ^ 44) (g.input_left old))) old new
+writes_opened g W size d r status old mid new t sized left represents opens rests is wrote =
+    let first = changes_as g W old mid t opens in
     let wide : (image : Image)
     → WrittenInTurn g.is_modelled (IsErrOf r session.Disk) (g.size mid) d
     (nothing_staged (mounted_on d (g.seen mid))) (g.seen mid) wrote.done wrote.more image

@@ -15,8 +15,12 @@ use Rattle.vab_device.specs.declared.fault.StartFault.{StartFault}
 use Rattle.vab_device.specs.Mounted.{Mounted}
 use Rattle.vab_device.specs.Reading.{device, IsIn}
 use Rattle.vab_device.specs.Updates.{effect_on}
+use Rattle.vab_marks.specs.declared.mark.UpdateMark.{UpdateMark}
 use Rattle.vab_make.specs.declared.fault.MakeFault.{MakeFault}
 use Rattle.vab_make.specs.Made.{refusal_of}
+use Rattle.vab_adopt.specs.declared.fault.AdoptFault.{AdoptFault}
+use Rattle.vab_adopt.specs.Adopted.{adopt_refusal}
+use Rattle.vab_adopt.specs.Dropped.{dropped}
 use Rattle.vab_update.specs.Install.{install_effect}
 use Rattle.vab_words.specs.Verbs.{Meaning}
 use Rattle.vab_words.specs.Verbs as words
@@ -26,7 +30,8 @@ use Rattle.vab_session.specs.declared.fault.SessionFault.{SessionFault}
 use Rattle.vab_causes.specs.declared.cause.Cause.{Cause}
 use Rattle.vab_causes.specs.declared.cause.Cause.TheVariants as causes
 use Rattle.vab_cli.specs.declared.status.Status.{Status}
-use Rattle.vab_cli.specs.declared.status.Status.TheVariants.{Malformed, Refused, NotADevice}
+use Rattle.vab_cli.specs.declared.status.Status.TheVariants.{Done, Malformed, Refused}
+use Rattle.vab_cli.specs.declared.status.Status.TheVariants.{NotADevice}
 
 -- why a command was refused is noted, and nothing of another reply
 abbrev pub noted : Reply → Option Cause → Option Cause
@@ -37,6 +42,11 @@ noted _ before = before
 abbrev pub session_cause : Answer → Option Cause
 session_cause (Ok r) = None
 session_cause (Err fault) = Some (causes.Session fault)
+
+-- the update that was dropped, if one was
+abbrev pub dropped_cause : Option UpdateMark → Option Cause
+dropped_cause None = None
+dropped_cause (Some mark) = Some (causes.Dropped mark)
 
 -- the refusal that the table of effects has for a command on a device
 pub record IsRefusedOn (s : Mounted) (c : Command) (cause : Option Cause) : Type 0 where
@@ -69,6 +79,12 @@ module _ {D : Type 0} (g : Ghosts D) (old : D) where
     pub fault : MakeFault
     pub is : cause ≡ Some (causes.Making fault)
     pub holds : refusal_of set limit max (g.size old) ≡ Some fault
+
+  -- the first reason not to adopt a disk
+  pub record IsUnadopted (slot : ℕ) (cause : Option Cause) : Type 0 where
+    pub fault : AdoptFault
+    pub is : cause ≡ Some (causes.Adopting fault)
+    pub holds : adopt_refusal (g.size old) slot (g.seen old) ≡ Some fault
 
   -- a command is refused on the device of the disk
   abbrev pub IsRefusedAs : Command → Option Cause → Type 0
@@ -115,11 +131,15 @@ module _ {D : Type 0} (g : Ghosts D) (old : D) where
   ExplainsCommand c status cause =
       (status ≡ NotADevice → IsNoDevice cause) × (status ≡ Refused → IsRefusedAs c cause)
 
-  -- The cause of each status 3, 4 and 5 of what the words ask for, but for a refusal in a `demo`.
+  -- The cause of each status 3, 4 and 5 of what the words ask for, but for a refusal in a `demo`;
+  -- and the update that `adopt` has dropped.
   abbrev pub Explains : Meaning → Status → Option Cause → Type 0
   Explains (words.Make limit max) status cause =
       ((status ≡ NotADevice) ⊎ (status ≡ Refused) → IsUnmadeOfInput limit max cause)
       × (status ≡ Malformed → IsNoSet cause)
+  Explains (words.Adopt slot) status cause =
+      ((status ≡ NotADevice) ⊎ (status ≡ Refused) → IsUnadopted slot cause)
+      × (status ≡ Done → cause ≡ dropped_cause (dropped (g.seen old)))
   Explains (words.Serve true) status cause =
       (status ≡ NotADevice → IsUnmade [] 0 65536 cause) × (status ≡ Malformed → IsBrokenOff cause)
   Explains (words.Serve false) status cause =

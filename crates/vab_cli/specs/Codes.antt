@@ -5,6 +5,8 @@ use Rattle.vab_session.specs.declared.fault.SessionFault.{SessionFault}
 use Rattle.vab_session.specs.declared.fault.SessionFault.TheVariants as session
 use Rattle.vab_device.specs.declared.fault.StartFault.{StartFault}
 use Rattle.vab_device.specs.declared.fault.StartFault.TheVariants as start
+use Rattle.vab_adopt.specs.declared.fault.AdoptFault.{AdoptFault}
+use Rattle.vab_adopt.specs.declared.fault.AdoptFault.TheVariants.{AlreadyDevice, NoDevice}
 use Rattle.vab_make.specs.declared.fault.MakeFault.{MakeFault}
 use Rattle.vab_make.specs.declared.fault.MakeFault.TheVariants as make
 use Rattle.vab_input.specs.declared.input.InputFault.{InputFault}
@@ -55,6 +57,11 @@ start_status (start.BadStore name) = NotADevice
 start_status (start.BadState rule) = NotADevice
 start_status start.NoMemory = NoMemory
 start_status (start.Disk fault) = Disk
+
+-- the status where a disk isn't adopted
+abbrev pub adopt_status : AdoptFault → Status
+adopt_status AlreadyDevice = Refused
+adopt_status (NoDevice fault) = start_status fault
 
 -- the status where a device isn't made
 abbrev pub make_status : MakeFault → Status

@@ -1,4 +1,5 @@
 pub mod Acts
+pub mod Adopting
 pub mod Causes
 pub mod Codes
 pub mod Copies

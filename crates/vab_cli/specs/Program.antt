@@ -19,7 +19,8 @@ use Rattle.vab_make.specs.declared.fault.MakeFault.{MakeFault}
 use Rattle.vab_make.specs.Made.{refusal_of, made_device_of}
 use Rattle.vab_make.specs.Making.{LeavesMaking}
 use Rattle.vab_make.specs.Touched.{IsOfMaking}
-use Rattle.vab_words.specs.Verbs.{Meaning, Make, Serve, Install, Demo}
+use Rattle.vab_recover.specs.Opening.{IsOfOpening}
+use Rattle.vab_words.specs.Verbs.{Meaning, Make, Adopt, Serve, Install, Demo}
 use Rattle.vab_words.specs.Verbs as verbs
 use Rattle.vab_exchanges.specs.Session.{Exchange, End, IsSession}
 use Rattle.vab_exchanges.specs.Items.{joined, output_of}
@@ -33,6 +34,7 @@ use Rattle.vab_session.specs.Source.{HasKept, StandsKept, FindsMergedFrom}
 use Rattle.vab_cli.specs.declared.status.Status.{Status}
 use Rattle.vab_cli.specs.declared.status.Status.TheVariants.{Done, Usage, Malformed, NotADevice}
 use Rattle.vab_cli.specs.declared.status.Status.TheVariants.{Disk, Port, NoMemory}
+use Rattle.vab_cli.specs.Adopting.{Adopts}
 use Rattle.vab_cli.specs.Codes.{make_status}
 use Rattle.vab_cli.specs.Copies.{LeavesCopies}
 use Rattle.vab_input.specs.HearsToEnd.{HearsWithin}
@@ -171,7 +173,7 @@ pub record DoesVerb {D : Type 0}
       → m ≡ Serve false
       → (s : Mounted)
       → IsIn (g.size old) s (g.seen old)
-      → WritesServed g (status ≡ Disk) (g.size old)
+      → WritesServed g (IsOfOpening (g.size old) (g.seen old)) (status ≡ Disk) (g.size old)
       (drop 4 (take (2 ^ 44) (g.input_left old)))
       old new
   -- `serve --fresh` on enough sectors: the same over the made device of the empty set. Until its
@@ -199,6 +201,13 @@ pub record DoesVerb {D : Type 0}
       → m ≡ Serve true
       → MergesNothing (2 ^ 44) (g.input_left old)
       → Changes g (IsOfFresh IsOfCommands (g.size old)) old new
+  -- It writes what making the device of the empty set does, and then packet by packet in the same
+  -- way.
+  pub writes_fresh : g.is_modelled
+      → m ≡ Serve true
+      → WritesServed g (InSectors (IsOfMaking [] 65536)) (status ≡ Disk) (g.size old)
+      (drop 4 (take (2 ^ 44) (g.input_left old)))
+      old new
   -- `make` of an input that spells a set: the made device, or the first refusal with its line and
   -- nothing written; of another input status 3, with nothing told or written. The input is heard
   -- to its end, where it isn't too long, and whatever comes of it not beyond that.
@@ -251,6 +260,8 @@ pub record DoesVerb {D : Type 0}
   pub demo : (seed scale : ℕ)
       → m ≡ Demo seed scale
       → DemonstratesOf g seed scale old new status
+  -- `adopt SLOT`.
+  pub adopt : (slot : ℕ) → m ≡ Adopt slot → Adopts g slot old new status
   -- Both copies of each table agree in the end.
   pub copies : LeavesCopies g m old new status
   -- Status 6 comes only where the count of the disk's faults rose, and 7 only where that of the

@@ -8,7 +8,7 @@ use Rattle.vab_set.specs.declared.set.SetImage.{SetImage}
 use Rattle.vab_model.specs.declared.state.Image.{Image as ImageOfSlot}
 use Rattle.vab_model.specs.Effects.{IsOneOf}
 use Rattle.vab_device.specs.Mounted.{Mounted}
-use Rattle.vab_device.specs.Reading.{device, IsIn}
+use Rattle.vab_device.specs.Reading.{IsIn}
 use Rattle.vab_make.specs.Made.{made_device_of}
 use Rattle.vab_make.specs.Making.{LeavesMaking}
 use Rattle.vab_exchanges.specs.Session.{Exchange, End, IsSession}
@@ -101,9 +101,18 @@ pub record LeavesTelling
   pub front : (n : ℕ) × (o.told ≡ told ++ take n line)
   pub kind : IsKind o.image
 
--- the disk means what this one does
-abbrev pub MeansAs : ℕ → Image → Image → Type 0
-MeansAs size old image = device size image ≡ device size old
+-- with nothing told, the disk as it was
+pub record LeavesAsIs (told : List ℕ) (old : Image) (o : Outcome) : Type 0 where
+  pub told_so_far : o.told ≡ told
+  pub same : o.image ≡ old
+
+-- every cut of power leaves it so
+abbrev pub StaysAsIs : {D : Type 0} → Ghosts D → (old new : D) → Type 0
+StaysAsIs g old new =
+    IsAtRest g old
+    → (o : Outcome)
+    → g.outcomes new (g.moment old) o
+    → LeavesAsIs (g.told old) (g.seen old) o
 
 -- ---- runs
 
@@ -232,38 +241,27 @@ module _ {D : Type 0} (g : Ghosts D) (size : ℕ) where
         → CrashesWithin (IsIn size) [] first (item ∷ []) (g.told old) o
 
   -- The disk failed, or memory was refused, while the device was opened: nothing is told, and every
-  -- cut of power leaves the device that it was. Where memory was refused it reads as before.
+  -- cut of power leaves the device that it was. Where memory was refused nothing was written.
   pub record FailsBefore (first : Mounted) (old new : D) (status : Status) : Type 0 where
     pub early : IsEarly status
     pub told : g.told new ≡ g.told old
     pub same : status ≡ NoMemory → g.seen new ≡ g.seen old
+    pub memory : status ≡ NoMemory → StaysAsIs g old new
     pub every_cut : IsAtRest g old
         → (o : Outcome)
         → g.outcomes new (g.moment old) o
         → LeavesFirst (g.told old) size first o
 
-  -- The disk is no device: this line is told. Nothing is written, and no cut of power makes it one.
-  -- Where memory is refused nothing is told.
-  pub record RunsNone (line : List ℕ) (old new : D) (status : Status) : Type 0 where
-    pub status_is : (status ≡ NotADevice) ⊎ (IsFailed status ⊎ (status ≡ NoMemory))
-    pub front : (n : ℕ) × (g.told new ≡ g.told old ++ take n line)
-    pub whole : status ≡ NotADevice → g.told new ≡ g.told old ++ line
-    pub untold : status ≡ NoMemory → g.told new ≡ g.told old
-    pub same : (status ≡ NotADevice) ⊎ (status ≡ NoMemory) → g.seen new ≡ g.seen old
-    pub every_cut : IsAtRest g old
-        → (o : Outcome)
-        → g.outcomes new (g.moment old) o
-        → LeavesTelling (g.told old) line (MeansAs size (g.seen old)) o
-
-  -- A run that changes nothing: a front of this is told, and all of it where the run ends so. Where
-  -- memory is refused nothing is told. Nothing is written, and every cut of power leaves the disk
-  -- as it was.
-  pub record RunsRefused
+  -- A run that writes nothing, whatever fails: a front of this is told, and all of it where the run
+  -- ends so. Where memory is refused nothing is told. Every cut of power leaves the disk as it was.
+  -- So it ends, or with a failure of these, or want of memory.
+  pub record RunsUnwritten
+      (Fails : Status → Type 0)
       (line : List ℕ)
       (ends : Status)
       (old new : D)
       (status : Status) : Type 0 where
-    pub status_is : (status ≡ ends) ⊎ ((status ≡ Port) ⊎ (status ≡ NoMemory))
+    pub status_is : (status ≡ ends) ⊎ (Fails status ⊎ (status ≡ NoMemory))
     pub front : (n : ℕ) × (g.told new ≡ g.told old ++ take n line)
     pub whole : status ≡ ends → g.told new ≡ g.told old ++ line
     pub untold : status ≡ NoMemory → g.told new ≡ g.told old
@@ -276,20 +274,26 @@ module _ {D : Type 0} (g : Ghosts D) (size : ℕ) where
         → g.outcomes new (g.moment old) o
         → LeavesTelling (g.told old) line (λ image. image ≡ g.seen old) o
 
-  -- the made device, with a front of the line told; or with nothing told the disk as it was, or no
-  -- device, or the made one
-  abbrev pub MakesWithin : List SetImage → ℕ → ℕ → List ℕ → List ℕ → Image → Outcome → Type 0
-  MakesWithin set limit max line told old o =
-      CrashesWithin (IsIn size) [] (made_device_of set limit max size)
-      (line_item (made_device_of set limit max size) line ∷ []) told o
-      ⊎ LeavesMaking told set limit max size old o
+  -- The disk is no device, and this line is told.
+  abbrev pub RunsNone : (line : List ℕ) → (old new : D) → Status → Type 0
+  RunsNone line old new status = RunsUnwritten IsFailed line NotADevice old new status
 
-  -- A device is made of a set, and this line is told. Until its last gate is settled, every cut of
-  -- power leaves the disk as it was, or no device, or the made one; from then on the made one, with
-  -- both copies of all there are two of. Where memory is refused nothing is told or written.
-  pub record RunsMaking
-      (set : List SetImage)
-      (limit max : ℕ)
+  -- What is asked for is refused, without a call of the disk.
+  abbrev pub RunsRefused : (line : List ℕ) → (ends : Status) → (old new : D) → Status → Type 0
+  RunsRefused line ends old new status = RunsUnwritten (λ s. s ≡ Port) line ends old new status
+
+  -- this device, with a front of the line told; or an outcome from before it
+  abbrev pub GivesWithin : (Outcome → Type 0) → Mounted → List ℕ → List ℕ → Outcome → Type 0
+  GivesWithin Before first line told o =
+      CrashesWithin (IsIn size) [] first (line_item first line ∷ []) told o ⊎ Before o
+
+  -- The disk becomes this device, and this line is told. Until its last gate is settled, every cut
+  -- of power leaves an outcome from before it; from then on the device, and the disk also holds
+  -- what its images don't tell. Where memory is refused nothing is told or written.
+  pub record RunsGiving
+      (Before : Outcome → Type 0)
+      (Holds : Image → Type 0)
+      (first : Mounted)
       (line : List ℕ)
       (old new : D)
       (status : Status) : Type 0 where
@@ -297,20 +301,34 @@ module _ {D : Type 0} (g : Ghosts D) (size : ℕ) where
     pub front : (n : ℕ) × (g.told new ≡ g.told old ++ take n line)
     pub whole : status ≡ Done → g.told new ≡ g.told old ++ line
     pub untold : status ≡ NoMemory → (g.told new ≡ g.told old) × (g.seen new ≡ g.seen old)
-    pub stands : status ≡ Done → IsIn size (made_device_of set limit max size) (g.seen new)
-    pub holds : status ≡ Done → HoldsMade max (g.seen old) (g.seen new)
+    pub memory : status ≡ NoMemory → StaysAsIs g old new
+    pub stands : status ≡ Done → IsIn size first (g.seen new)
+    pub holds : status ≡ Done → Holds (g.seen new)
     pub settled : status ≡ Done → IsAtRest g new
     pub time : IsAtRest g old
-        → Adds g.moment g.outcomes old new
-        (MakesWithin set limit max line (g.told old) (g.seen old))
+        → Adds g.moment g.outcomes old new (GivesWithin Before first line (g.told old))
     pub every_cut : IsAtRest g old
         → (o : Outcome)
         → g.outcomes new (g.moment old) o
-        → MakesWithin set limit max line (g.told old) (g.seen old) o
+        → GivesWithin Before first line (g.told old) o
+
+  -- A device is made of a set: until then every cut of power leaves the disk as it was, or no
+  -- device, or the made one, and from then on both copies of all there are two of are there.
+  abbrev pub RunsMaking : List SetImage
+      → (limit max : ℕ)
+      → (line : List ℕ)
+      → (old new : D)
+      → Status
+      → Type 0
+  RunsMaking set limit max line old new status =
+      RunsGiving (LeavesMaking (g.told old) set limit max size (g.seen old))
+      (HoldsMade max (g.seen old))
+      (made_device_of set limit max size)
+      line old new status
 
   -- The disk failed, or memory was refused, while a device was made or the made one was opened:
   -- nothing is told, and every cut of power leaves the disk as it was, or no device, or the made
-  -- one. Where memory was refused it reads as before, or as the made device.
+  -- one. Where memory was refused nothing was written, or the disk reads as the made device.
   pub record FailsMaking
       (set : List SetImage)
       (limit max : ℕ)
@@ -319,7 +337,7 @@ module _ {D : Type 0} (g : Ghosts D) (size : ℕ) where
     pub early : IsEarly status
     pub told : g.told new ≡ g.told old
     pub memory : status ≡ NoMemory
-        → (g.seen new ≡ g.seen old)
+        → ((g.seen new ≡ g.seen old) × StaysAsIs g old new)
         ⊎ IsIn size (made_device_of set limit max size) (g.seen new)
     pub every_cut : IsAtRest g old
         → (o : Outcome)

@@ -30,6 +30,7 @@ use Rattle.vab_cli.specs.Codes.{reply_status}
 -- the command that a verb on a device is
 abbrev pub command_of : Meaning → Option Command
 command_of (words.Make limit metadata_max) = None
+command_of (words.Adopt slot) = None
 command_of (words.Serve fresh) = None
 command_of words.Install = None
 command_of words.Boot = Some Boot

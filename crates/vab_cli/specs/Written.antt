@@ -1,4 +1,4 @@
--- What a session over the device of the disk writes.
+-- What a session writes, over the device of the disk or over one that is made first.
 use Rattle.std.specs.Prelude.{◌≡◌, ◌⊎◌, ◌++◌, ℕ, List, Option}
 use Rattle.std.specs.List.{flat_map}
 use Rattle.vab_disk.specs.declared.disk.Disk.{Ghosts}
@@ -7,24 +7,24 @@ use Rattle.vab_disk.specs.Calls.{IsAtRest, SameBut}
 use Rattle.vab_device.specs.declared.device.Device.{Device}
 use Rattle.vab_device.specs.Mounted.{mounted_on}
 use Rattle.vab_device.specs.Reading.{Represents}
-use Rattle.vab_recover.specs.Opening.{IsOfOpening}
 use Rattle.vab_exchanges.specs.Session.{Exchange, spelled}
 use Rattle.vab_session.specs.Merges.{AreExchanges}
 use Rattle.vab_session.specs.Served.{nothing_staged}
 use Rattle.vab_session.specs.Written.{WrittenInTurn, WritesAs, spelled_one}
 
--- The device is opened, with what opening may write; and from there the packets of the input write
--- in turn: one that changes the device what its command writes there, and each other nothing. Each
--- outcome is written so, where nothing was pending.
+-- The device is opened, or made and opened, with what that may write; and from there the packets of
+-- the input write in turn: one that changes the device what its command writes there, and each
+-- other nothing. Each outcome is written so, where nothing was pending.
 pub record WritesOpened {D : Type 0}
     (g : Ghosts D)
+    (W : ℕ → List ℕ → Type 0)
     (Failed : Type 0)
     (size : ℕ)
     (bytes : List ℕ)
     (old new : D) : Type 0 where
   pub device : Device
   pub opened : Image
-  pub opens : SameBut (IsOfOpening size (g.seen old)) (g.seen old) opened
+  pub opens : SameBut W (g.seen old) opened
   pub represents : Represents device size opened
   pub done : List Exchange
   pub more : Option (List ℕ)
@@ -35,18 +35,18 @@ pub record WritesOpened {D : Type 0}
       (nothing_staged (mounted_on device opened)) opened done more (g.seen new)
   pub time : IsAtRest g old
       → Adds g.moment g.outcomes old new
-      (λ o. SameBut (IsOfOpening size (g.seen old)) (g.seen old) o.image
+      (λ o. SameBut W (g.seen old) o.image
       ⊎ WrittenInTurn g.is_modelled Failed size device
       (nothing_staged (mounted_on device opened)) opened done more o.image)
 
--- or it isn't opened, and no more than opening may is written
+-- or it isn't, and no more than that is written
 abbrev pub WritesServed : {D : Type 0}
     → Ghosts D
+    → (W : ℕ → List ℕ → Type 0)
     → (Failed : Type 0)
     → ℕ
     → List ℕ
     → (old new : D)
     → Type 0
-WritesServed g Failed size bytes old new =
-    WritesOpened g Failed size bytes old new
-    ⊎ WritesAs g (IsOfOpening size (g.seen old)) old new
+WritesServed g W Failed size bytes old new =
+    WritesOpened g W Failed size bytes old new ⊎ WritesAs g W old new

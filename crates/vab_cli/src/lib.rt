@@ -3,6 +3,7 @@
 #![tactic(auto)]
 
 mod acts;
+mod adopting;
 mod commands;
 mod demo;
 mod ending;

@@ -11,6 +11,9 @@ use vab_model::{Command, Refusal, Reply};
 /// The line of a verb that finds no device.
 pub(crate) const NOT_A_DEVICE: &[u8] = b"not a device\n";
 
+/// The line of a disk that isn't adopted, since it is a device.
+pub(crate) const ALREADY_DEVICE: &[u8] = b"refused: already a device\n";
+
 /// A line: at most 256 bytes, with its newline.
 pub(crate) type Line = ArrayVec<u8, 256>;
 

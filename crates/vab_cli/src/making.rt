@@ -34,8 +34,8 @@ use vab_set::{Set, read_set};
 /// The most bytes of a set.
 pub(crate) const MAX_SET: u64 = 1 << 32;
 
-// Tells a line, and ends with the status.
-fn tell<P: Port>(port: &mut P, line: &[u8], status: Status) -> Status
+/// Tells a line, and ends with the status.
+pub(crate) fn tell<P: Port>(port: &mut P, line: &[u8], status: Status) -> Status
     requires { status ≢ Status.Port }
     ensures tells { P.is_modelled → Tells P.Disk line.now status port.old port.new result }
     ensures size { P.size port.new ≡ P.size port.old }
@@ -159,6 +159,8 @@ fn make_of<P: Port>(
     ensures unmade { (result ≡ Status.NotADevice) ⊎ (result ≡ Status.Refused)
         → IsUnmade P.Disk port.old set.now limit max cause.new }
     ensures read { result ≢ Status.Malformed }
+    // Where memory is refused nothing is done.
+    ensures memory { result ≡ Status.NoMemory → port.new ≡ port.old }
 {
     let fault = match make_device(alloc, port, set, limit, max) {
         Ok(()) => return tell_made(port, set),

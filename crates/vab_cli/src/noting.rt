@@ -1,11 +1,12 @@
 // Why something isn't done, as the cause of the run's ending.
 ghost use Rattle.std.specs.Prelude.{◌≡◌, Some};
-ghost use Rattle.vab_cli.specs.Causes.{noted};
+ghost use Rattle.vab_cli.specs.Causes.{dropped_cause, noted};
 ghost use Rattle.vab_causes.specs.declared.cause.Cause.TheVariants as causes;
 
 use vab_bytes::Name36;
 use vab_causes::Cause;
 use vab_device::StartFault;
+use vab_marks::UpdateMark;
 use vab_model::{Refusal, Reply};
 
 /// No device is opened.
@@ -13,6 +14,16 @@ pub(crate) fn note_opening(fault: &StartFault, cause: &mut Option<Cause>)
     ensures { cause.new ≡ Some (causes.Opening fault.now) }
 {
     *cause = Some(Cause::Opening(*fault));
+}
+
+/// A disk is adopted, and this update that was there is dropped.
+pub(crate) fn note_dropped(dropped: &Option<UpdateMark>, cause: &mut Option<Cause>)
+    ensures { cause.new ≡ dropped_cause dropped.now }
+{
+    *cause = match dropped {
+        Some(mark) => Some(Cause::Dropped(*mark)),
+        None => None,
+    };
 }
 
 /// A command is refused.

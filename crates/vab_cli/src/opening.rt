@@ -13,12 +13,12 @@ ghost use Rattle.vab_cli.specs.Opening.{Opens};
 ghost use Rattle.vab_cli.specs.Runs.{FailsBefore, RunsNone};
 
 use crate::Status;
+use crate::making::tell;
 use crate::noting::note_opening;
 use std::alloc::Global;
 use vab_causes::Cause;
 use vab_device::Device;
 use vab_disk::{Disk, Port};
-use vab_exchanges::say_all;
 use vab_recover::start;
 
 /// Opens the device of the disk. Where there is none, it tells the line; the error is the status to
@@ -74,8 +74,5 @@ pub(crate) fn open<P: Port>(
     if status != Status::NotADevice {
         return Err(status);
     }
-    match say_all(port, line) {
-        Ok(()) => Err(Status::NotADevice),
-        Err(_) => Err(Status::Port),
-    }
+    Err(tell(port, line, Status::NotADevice))
 }

@@ -4,6 +4,7 @@ ghost use Rattle.vab_words.specs.Verbs.{Meaning, IsInRange, meaning_of, verb_of}
 ghost use Rattle.vab_cli.specs.Causes.{Explains};
 ghost use Rattle.vab_cli.specs.Program.{DoesVerb};
 
+use crate::adopting::adopt;
 use crate::commands::carry_out;
 use crate::demo::demo;
 use crate::installing::install;
@@ -30,6 +31,7 @@ fn do_verb<P: Port>(alloc: Global, verb: Verb, port: &mut P, cause: &mut Option<
             limit,
             metadata_max,
         } => make(alloc, port, limit, metadata_max, cause),
+        Verb::Adopt(slot) => adopt(alloc, port, slot, cause),
         Verb::Serve { fresh: true } => make_and_serve(alloc, port, cause),
         Verb::Serve { fresh: false } => open_and_serve(alloc, port, cause),
         Verb::Install => install(alloc, port, cause),
@@ -54,7 +56,7 @@ pub fn run<P: Port>(alloc: Global, words: &[String], port: &mut P) -> Ending
         → verb_of (map string_bytes words.now) ≡ Some m
         → (result.status ≡ Status.NoMemory) × (port.new ≡ port.old)
         ⊎ DoesVerb P.Disk m port.old port.new result.status }
-    // The cause of a status 3, 4 or 5.
+    // The cause of a status 3, 4 or 5, and the update that `adopt` has dropped.
     ensures cause { P.is_modelled
         → (m : Meaning)
         → verb_of (map string_bytes words.now) ≡ Some m

@@ -1,12 +1,14 @@
 //! A session over the device of the disk, or over one that is made first.
 ghost use Rattle.std.specs.Prelude.{◌≡◌, ◌≢◌, ◌⊎◌, ◌≤◌, ◌<◌, ◌^◌, [], Err, take, drop};
 ghost use Rattle.vab_disk.specs.Disk.{Rose};
-ghost use Rattle.vab_disk.specs.Calls.{Changes};
+ghost use Rattle.vab_disk.specs.Calls.{Changes, InSectors};
 ghost use Rattle.vab_device.specs.declared.fault.StartFault.{StartFault as Fault};
 ghost use Rattle.vab_device.specs.Mounted.{Mounted};
 ghost use Rattle.vab_device.specs.Reading.{device, IsIn};
 ghost use Rattle.vab_make.specs.Made.{made_device_of};
 ghost use Rattle.vab_make.specs.Making.{LeavesMaking};
+ghost use Rattle.vab_make.specs.Touched.{IsOfMaking};
+ghost use Rattle.vab_recover.specs.Opening.{IsOfOpening};
 ghost use Rattle.vab_commands.specs.Touched.{IsOfAll, IsOfCommands};
 ghost use Rattle.vab_session.specs.Merges.{MergesNothing};
 ghost use Rattle.vab_cli.specs.Causes.{IsBrokenOff, IsNoDevice, IsUnmade};
@@ -66,7 +68,8 @@ pub(crate) fn open_and_serve<P: Port>(
     ensures writes { P.is_modelled
         → (s : Mounted)
         → IsIn (P.size port.old) s (P.seen port.old)
-        → WritesServed P.Disk (result ≡ Status.Disk) (P.size port.old)
+        → WritesServed P.Disk (IsOfOpening (P.size port.old) (P.seen port.old))
+        (result ≡ Status.Disk) (P.size port.old)
         (drop 4 (take (2 ^ 44) (P.input_left port.old)))
         port.old port.new }
     ensures unheard { P.is_modelled
@@ -123,6 +126,12 @@ pub(crate) fn make_and_serve<P: Port>(
         → RunsRefused P.Disk (P.size port.old) [] Status.NotADevice port.old port.new result }
     ensures too_small { P.size port.old < 6152
         → (result ≡ Status.NotADevice) ⊎ (result ≡ Status.NoMemory) }
+    // What it writes is what making does, and what its packets write in turn on the made device.
+    ensures writes { P.is_modelled
+        → WritesServed P.Disk (InSectors (IsOfMaking [] 65536)) (result ≡ Status.Disk)
+        (P.size port.old)
+        (drop 4 (take (2 ^ 44) (P.input_left port.old)))
+        port.old port.new }
     // However the session ends, both copies of each table agree.
     ensures copies { P.is_modelled
         → (result ≡ Status.Done) ⊎ (result ≡ Status.Malformed)

@@ -1,6 +1,7 @@
 // How the program ends.
 ghost use Rattle.std.specs.Prelude.{◌≡◌};
 
+use vab_adopt::AdoptFault;
 use vab_causes::Cause;
 use vab_device::{Device, StartFault};
 use vab_input::InputFault;
@@ -20,7 +21,7 @@ pub enum Status {
     /// data than were announced, an input that ends inside something, or one of more than 2^44
     /// bytes; or no set of images, or more than 2^32 bytes.
     Malformed,
-    /// 4: the command is refused, or the device isn't made.
+    /// 4: the command is refused, or the device isn't made, or the disk is adopted already.
     Refused,
     /// 5: the disk is no device, or has too few sectors to make one.
     NotADevice,
@@ -101,6 +102,19 @@ impl From<StartFault> for Status {
             | StartFault::BadState(_) => Status::NotADevice,
             StartFault::NoMemory => Status::NoMemory,
             StartFault::Disk(_) => Status::Disk,
+        }
+    }
+}
+
+impl From<AdoptFault> for Status {
+    ghost use Rattle.vab_cli.specs.Codes.{adopt_status};
+
+    ghost from_gives = { λ fault status. status ≡ adopt_status fault };
+
+    fn from(fault: AdoptFault) -> Self {
+        match fault {
+            AdoptFault::AlreadyDevice => Status::Refused,
+            AdoptFault::NoDevice(fault) => Status::from(fault),
         }
     }
 }

@@ -6,6 +6,7 @@ use std::test::*;
 use vab_adopt::{AdoptFault, Adopted, adopt_device};
 use vab_device::StartFault;
 use vab_disk::{Blend, Disk, MemPort};
+use vab_marks::{MarkPhase, UpdateMark, encode_mark};
 use vab_recover::probe;
 
 const CONTROL: u64 = 4;
@@ -17,6 +18,7 @@ const ONE: Adopted = Adopted {
     images: 1,
     blocks: 1,
     cap: (SECTORS - 6144) / 8,
+    dropped: None,
 };
 
 // The disk of a device of one image, without its mark and its boot control.
@@ -57,6 +59,38 @@ fn a_disk_without_a_super_is_not_adopted(rt: HostRuntime) -> Result<(), Fail> {
     let mut blank = blank.ok().ok_or("there is memory for a disk")?;
     let none = adopt_device(alloc, &mut blank, 0);
     assert!(rt; none == Err(AdoptFault::NoDevice(StartFault::BadGeometry)));
+    Ok(())
+}
+
+// What is answered where this mark stood on the disk.
+fn adopted_over(alloc: Global, mark: UpdateMark) -> Result<Adopted, Fail> {
+    let mut d = headless(alloc)?;
+    if MARK < d.sectors() {
+        d.write_sector(MARK, &encode_mark(&mark))
+            .ok()
+            .ok_or("a sector is written")?;
+    }
+    adopt_device(alloc, &mut d, 0)
+        .ok()
+        .ok_or("a disk is adopted")
+}
+
+#[test]
+fn an_update_that_is_dropped_is_answered(rt: HostRuntime) -> Result<(), Fail> {
+    let alloc = rt.alloc();
+    for (phase, slot, is_dropped) in [
+        (MarkPhase::Idle, 0, false),
+        (MarkPhase::Installing, 1, true),
+        (MarkPhase::Staged, 0, true),
+        (MarkPhase::Merging, 1, true),
+        (MarkPhase::Completed, 0, false),
+    ] {
+        let mark = UpdateMark { phase, slot };
+        let dropped = if is_dropped { Some(mark) } else { None };
+        let adopted = adopted_over(alloc, mark)?;
+        assert!(rt; adopted.dropped == dropped);
+        assert!(rt; adopted.images == 1);
+    }
     Ok(())
 }
 

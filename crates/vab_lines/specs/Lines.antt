@@ -1,4 +1,4 @@
--- The lines that are told of making a device.
+-- The lines that are told of making a device, and of adopting a disk.
 use Rattle.std.specs.Prelude.{ℕ, List, [], ◌++◌, codes, decimal}
 use Rattle.vab_model.specs.declared.command.Refusal.TheVariants as refusals
 use Rattle.vab_fbproto.specs.Texts.{refusal_text}
@@ -6,16 +6,24 @@ use Rattle.vab_make.specs.declared.fault.MakeFault.{MakeFault}
 use Rattle.vab_make.specs.declared.fault.MakeFault.TheVariants.{TooSmall, GroupLimit, NoRoom}
 use Rattle.vab_make.specs.declared.fault.MakeFault.TheVariants.{TableFull, NoMemory, Disk}
 
--- a device is made
-unfoldable pub made_line : ℕ → ℕ → ℕ → List ℕ
-made_line images used cap =
-    codes "made "
+-- so many images, behind a word, and the blocks that they fill of how many
+abbrev pub images_line : List ℕ → ℕ → ℕ → ℕ → List ℕ
+images_line word images used cap =
+    word
     ++ decimal images
     ++ codes " images, "
     ++ decimal used
     ++ codes " of "
     ++ decimal cap
     ++ codes " blocks\n"
+
+-- a device is made
+unfoldable pub made_line : ℕ → ℕ → ℕ → List ℕ
+made_line images used cap = images_line (codes "made ") images used cap
+
+-- a disk is adopted
+unfoldable pub adopted_line : ℕ → ℕ → ℕ → List ℕ
+adopted_line images used cap = images_line (codes "adopted ") images used cap
 
 -- why a set of images is refused, as a command is; the other faults refuse none
 unfoldable pub make_refusal : MakeFault → List ℕ

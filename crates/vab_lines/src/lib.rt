@@ -3,4 +3,4 @@
 
 mod lines;
 
-pub use lines::{made_line, make_refused_line};
+pub use lines::{adopted_line, made_line, make_refused_line};

@@ -2,7 +2,7 @@
 
 use arrayvec::ArrayVec;
 use std::test::*;
-use vab_lines::{made_line, make_refused_line};
+use vab_lines::{adopted_line, made_line, make_refused_line};
 use vab_make::MakeFault;
 
 #[test]
@@ -12,6 +12,16 @@ fn a_made_device_has_its_line(rt: HostRuntime) {
     assert_eq!(rt;
         out.as_slice(),
         b"made 1 images, 1 of 256 blocks\n".as_slice()
+    );
+}
+
+#[test]
+fn an_adopted_disk_has_its_line(rt: HostRuntime) {
+    let mut out = ArrayVec::new();
+    adopted_line(1, 100, 256, &mut out);
+    assert_eq!(rt;
+        out.as_slice(),
+        b"adopted 1 images, 100 of 256 blocks\n".as_slice()
     );
 }
 

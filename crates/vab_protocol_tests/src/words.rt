@@ -17,6 +17,8 @@ fn words_that_are_taken(rt: HostRuntime) -> Result<(), Fail> {
     let alloc = rt.alloc();
     for (texts, verb) in [
         (["serve"].as_slice(), Verb::Serve { fresh: false }),
+        (&["adopt", "a"], Verb::Adopt(0)),
+        (&["adopt", "b"], Verb::Adopt(1)),
         (&["serve", "--fresh"], Verb::Serve { fresh: true }),
         (&["install"], Verb::Install),
         (&["boot"], Verb::Boot),
@@ -138,6 +140,9 @@ fn words_that_ask_for_nothing(rt: HostRuntime) -> Result<(), Fail> {
         &["activate", "A"],
         &["activate", "_a"],
         &["activate", "a", "b"],
+        &["adopt"],
+        &["adopt", "c"],
+        &["adopt", "a", "b"],
         &["print"],
         &["print", "-x"],
         &["print", "--help"],

@@ -3,6 +3,7 @@
 ghost use Rattle.std.specs.Prelude.{◌≡◌, ◌⊎◌, ◌<◌, ◌≤◌, IfOk, OnOk, IfErr, IfSome, Ok, Err};
 ghost use Rattle.vab_disk.specs.Disk.{Adds, Image};
 ghost use Rattle.vab_disk.specs.Calls.{OnlyReads, Touches, IsAtRest, IsQuiet};
+ghost use Rattle.vab_device.specs.declared.fault.StartFault.{StartFault as Fault};
 ghost use Rattle.vab_device.specs.Faults.{IsOfContents, IsOfDisk};
 ghost use Rattle.vab_device.specs.Kept.{IsDevice};
 ghost use Rattle.vab_device.specs.Mounted.{mounted_on};
@@ -179,6 +180,11 @@ pub fn start<D: Disk>(alloc: Global, d: &mut D) -> Result<Device, StartFault>
     ensures memory { D.is_modelled → IfErr result
         (λ f. IsNamed f ⊎ HasHeads (D.size d.old) (D.seen d.old)) }
     ensures unwritten { IfErr result (λ f. (IsOfDisk f → ⊥) → OnlyReads D.Disk d.old d.new) }
+    // Of a disk that is no device nothing is written, also where the disk fails.
+    ensures none { D.is_modelled
+        → (f : Fault)
+        → device (D.size d.old) (D.seen d.old) ≡ Err f
+        → OnlyReads D.Disk d.old d.new }
     // What it touches, it repairs, of each table the one copy that doesn't hold its text, or it
     // goes on with version 2, or it tidies.
     ensures touches { D.is_modelled

@@ -1,6 +1,6 @@
 -- Runs of the program one after another are rounds.
 use Rattle.std.proofs.Common.{◌≡◌, ◌∙◌, ◌⊎◌, inl, inr, ℕ, List, [], ◌∷◌, Option, Some, None, refl}
-use Rattle.std.proofs.Common.{sym, subst}
+use Rattle.std.proofs.Common.{Ok, sym, subst}
 use Rattle.std.proofs.lemmas.List.{append-nil}
 use Rattle.vab_disk.specs.declared.disk.Disk.{Ghosts}
 use Rattle.vab_disk.specs.Disk.{Image, Outcome, Leaves}
@@ -10,14 +10,16 @@ use Rattle.vab_device.specs.Mounted.{Mounted}
 use Rattle.vab_device.specs.Reading.{IsIn}
 use Rattle.vab_make.specs.Made.{made_device_of}
 use Rattle.vab_make.specs.Making.{LeavesMaking}
-use Rattle.vab_words.specs.Verbs.{Meaning}
+use Rattle.vab_adopt.specs.Adopted.{adopted, adopt_refusal}
+use Rattle.vab_adopt.specs.Adopting.{LeavesAdopting}
+use Rattle.vab_words.specs.Verbs.{Adopt, Meaning}
 use Rattle.vab_cli.specs.declared.status.Status.{Status}
 use Rattle.vab_rounds.specs.Rounds.{Tells, Round}
 use Rattle.vab_rounds.specs.Runs.{IsMaking, LeavesRound, IsRun}
 use Rattle.vab_rounds.specs.Chains.{CutRun, MakesNothing, MakeNothing, IsAskedFor, IsPromised}
 use Rattle.vab_rounds.specs.Chains.{IsCutRun}
 use Rattle.vab_rounds.specs.Chains.{AreCutRuns, IsRoundOf, HaveRounds}
-use Rattle.vab_rounds.proofs.Running.{run_is_round, making_is_round}
+use Rattle.vab_rounds.proofs.Running.{adopting_is_round, making_is_round, run_is_round}
 
 module _ {D : Type 0}
     (g : Ghosts D)
@@ -131,6 +133,48 @@ module _ {D : Type 0}
           (left_by r.words first r.old r.new r.status r.outcome here one.rest one.promised none.0
           one.outcome)
 
+  -- rounds of this device, or what a run that gives it was cut before
+  given_chain : (size : ℕ) (image : Image) (r : CutRun D) (rs : List (CutRun D))
+      (m : Meaning) (first : Mounted) (Before : Type 0)
+      → AreCutRuns g size image (r ∷ rs)
+      → MakeNothing rs
+      → r.words ≡ Some m
+      → LeavesRound m size (g.input_left r.old) first (g.told r.old) r.outcome ⊎ Before
+      → HaveRounds g size first (r ∷ rs) ⊎ Before
+  given_chain size image r rs m first Before are none words begun =
+      elim begun [
+        | inl left ↦
+            inl (more size first r rs (given left)
+            (chain size (given left).next r.outcome.image rs
+            (left_there size first r (given left)) are.2 none))
+        | inr leaves ↦ inr leaves
+      ]
+    where
+      given : LeavesRound m size (g.input_left r.old) first (g.told r.old) r.outcome
+          → Left size first r
+      given left = record {
+        round = record { run = left.run; told = g.told r.old; outcome = r.outcome };
+        next = left.next;
+        of = record {
+          asked =
+              subst
+              (λ (w : Option Meaning). IsAskedFor w size (g.input_left r.old) first left.run)
+              (sym words)
+              left.is;
+          told = refl;
+          outcome = refl;
+          is = left.round;
+        };
+      }
+
+  -- what the run promises
+  promised : (size : ℕ) (r : CutRun D) (m : Meaning)
+      → IsCutRun g size r
+      → r.words ≡ Some m
+      → IsRun g m r.old r.new r.status
+  promised size r m one words =
+      subst (λ (w : Option Meaning). IsPromised g w r.old r.new r.status) words one.promised
+
   pub making_chain : (size : ℕ) (image : Image) (r : CutRun D) (rs : List (CutRun D))
       → AreCutRuns g size image (r ∷ rs)
       → MakeNothing rs
@@ -142,56 +186,52 @@ module _ {D : Type 0}
       → HaveRounds g size (made_device_of set limit max size) (r ∷ rs)
       ⊎ LeavesMaking (g.told r.old) set limit max size image r.outcome
   making_chain size image r rs are none m words set limit max makes =
-      elim begun [
-        | inl left ↦
-            let first = made_device_of set limit max size in
-            inl (more size first r rs (made left)
-            (chain size (made left).next r.outcome.image rs (left_there size first r (made left))
-            are.2 none))
-        | inr leaves ↦ inr leaves
-      ]
+      given_chain size image r rs m (made_device_of set limit max size)
+      (LeavesMaking (g.told r.old) set limit max size image r.outcome) are none words
+      (subst
+      (λ (i : Image). LeavesRound m size (g.input_left r.old)
+      (made_device_of set limit max size) (g.told r.old) r.outcome
+      ⊎ LeavesMaking (g.told r.old) set limit max size i r.outcome)
+      are.1
+      (subst
+      (λ (n : ℕ). LeavesRound m n (g.input_left r.old)
+      (made_device_of set limit max n) (g.told r.old) r.outcome
+      ⊎ LeavesMaking (g.told r.old) set limit max n (g.seen r.old) r.outcome)
+      one.sized
+      (making_is_round g only_now modelled m r.old r.new r.status one.rest r.outcome
+      one.outcome (promised size r m one words) set limit max
+      (subst (λ (n : ℕ). IsMaking m n (g.input_left r.old) set limit max) (sym one.sized)
+      makes))))
     where
       one : IsCutRun g size r
       one = are.0
 
-      runs : IsRun g m r.old r.new r.status
-      runs =
-          subst (λ (w : Option Meaning). IsPromised g w r.old r.new r.status) words one.promised
-
-      begun : LeavesRound m size (g.input_left r.old) (made_device_of set limit max size)
-          (g.told r.old) r.outcome
-          ⊎ LeavesMaking (g.told r.old) set limit max size image r.outcome
-      begun =
-          subst
-          (λ (i : Image). LeavesRound m size (g.input_left r.old)
-          (made_device_of set limit max size) (g.told r.old) r.outcome
-          ⊎ LeavesMaking (g.told r.old) set limit max size i r.outcome)
-          are.1
-          (subst
-          (λ (n : ℕ). LeavesRound m n (g.input_left r.old)
-          (made_device_of set limit max n) (g.told r.old) r.outcome
-          ⊎ LeavesMaking (g.told r.old) set limit max n (g.seen r.old) r.outcome)
-          one.sized
-          (making_is_round g only_now modelled m r.old r.new r.status one.rest r.outcome
-          one.outcome runs set limit max
-          (subst (λ (n : ℕ). IsMaking m n (g.input_left r.old) set limit max) (sym one.sized)
-          makes)))
-
-      made : LeavesRound m size (g.input_left r.old) (made_device_of set limit max size)
-          (g.told r.old) r.outcome
-          → Left size (made_device_of set limit max size) r
-      made left = record {
-        round = record { run = left.run; told = g.told r.old; outcome = r.outcome };
-        next = left.next;
-        of = record {
-          asked =
-              subst
-              (λ (w : Option Meaning). IsAskedFor w size (g.input_left r.old)
-              (made_device_of set limit max size) left.run)
-              (sym words)
-              left.is;
-          told = refl;
-          outcome = refl;
-          is = left.round;
-        };
-      }
+  pub adopting_chain : (size : ℕ) (image : Image) (r : CutRun D) (rs : List (CutRun D))
+      → AreCutRuns g size image (r ∷ rs)
+      → MakeNothing rs
+      → (slot : ℕ)
+      → r.words ≡ Some (Adopt slot)
+      → (first : Mounted)
+      → adopted size slot image ≡ Ok first
+      → adopt_refusal size slot image ≡ None
+      → HaveRounds g size first (r ∷ rs)
+      ⊎ LeavesAdopting (g.told r.old) size slot image r.outcome
+  adopting_chain size image r rs are none slot words first is unrefused =
+      given_chain size image r rs (Adopt slot) first
+      (LeavesAdopting (g.told r.old) size slot image r.outcome) are none words
+      (subst
+      (λ (i : Image). LeavesRound (Adopt slot) size (g.input_left r.old) first (g.told r.old)
+      r.outcome
+      ⊎ LeavesAdopting (g.told r.old) size slot i r.outcome)
+      are.1
+      (subst
+      (λ (n : ℕ). LeavesRound (Adopt slot) n (g.input_left r.old) first (g.told r.old) r.outcome
+      ⊎ LeavesAdopting (g.told r.old) n slot (g.seen r.old) r.outcome)
+      one.sized
+      (adopting_is_round g only_now modelled (Adopt slot) r.old r.new r.status one.rest r.outcome
+      one.outcome (promised size r (Adopt slot) one words) slot refl first
+      ((λ i. adopted (one.sized i) slot (are.1 i)) ∙ is)
+      ((λ i. adopt_refusal (one.sized i) slot (are.1 i)) ∙ unrefused))))
+    where
+      one : IsCutRun g size r
+      one = are.0

@@ -11,7 +11,6 @@ use Rattle.vab_model.specs.declared.state.Image.{Image as ImageOfSlot}
 use Rattle.vab_model.specs.declared.state.Phase.{Phase}
 use Rattle.vab_model.specs.declared.state.Phase.TheVariants.{Idle, Installing, Staged, Merging}
 use Rattle.vab_model.specs.declared.command.Refusal.TheVariants.{NotIdle}
-use Rattle.vab_model.specs.declared.command.Reply.TheVariants as replies
 use Rattle.vab_model.specs.Commands.{Command, Begin, Finish, SetActive}
 use Rattle.vab_model.specs.Effects.{Effect, IsOneOf, refuses, last_of, after_of}
 use Rattle.vab_model.specs.Kinds.{is_of_installation, turns_of}
@@ -33,7 +32,7 @@ use Rattle.vab_update.specs.Orders.{Order, effect_all, followed}
 use Rattle.vab_cli.specs.Acts.{Act, course}
 use Rattle.vab_cli.specs.Acts as acts
 use Rattle.vab_cli.specs.Codes.{reply_status}
-use Rattle.vab_cli.specs.Demo.{life, update_acts}
+use Rattle.vab_cli.specs.Demo.{update_acts}
 use Rattle.vab_update.specs.Install.{install_effect}
 use Rattle.vab_cli.specs.Installing.{install_item, left_behind}
 use Rattle.vab_cli.specs.Verbs.{line_item, verb_item}

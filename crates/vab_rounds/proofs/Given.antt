@@ -1,8 +1,8 @@
 -- The images that the end of an installation gave last.
-use Rattle.std.proofs.Common.{◌≡◌, ◌∙◌, ◌⊎◌, inl, inr, ℕ, zero, suc, ◌+◌, ◌-◌, ◌<◌, ◌≤◌, ◌==◌, Bool}
-use Rattle.std.proofs.Common.{true, false, cond, List, [], ◌∷◌, ◌++◌, map, Option, Some, None}
+use Rattle.std.proofs.Common.{◌≡◌, ◌∙◌, ◌⊎◌, inl, inr, ℕ, zero, suc, ◌+◌, ◌<◌, ◌≤◌, ◌==◌, Bool}
+use Rattle.std.proofs.Common.{true, false, cond, List, [], ◌∷◌, ◌++◌, Option, Some, None}
 use Rattle.std.proofs.Common.{refl, sym, ap, subst, arith}
-use Rattle.std.specs.Prelude.{is_some, nat_lt, nat_le, ◌||◌, ◌&&◌, slice_index_or}
+use Rattle.std.specs.Prelude.{is_some}
 use Rattle.std.proofs.lemmas.Bool.Decides.{nat_tests}
 use Rattle.vab_bootctl.specs.declared.slots.Control.{Control}
 use Rattle.vab_bootctl.specs.Boot.{info_at, activated_of, booted_of, marked_of, chosen_of}
@@ -28,9 +28,9 @@ use Rattle.vab_device.specs.Updates.{effect_on, begin_effect, EditOf, edit_effec
 use Rattle.vab_device.specs.Updates.{resize_edit, delete_edit, snapshot_edit, flash_effect}
 use Rattle.vab_device.specs.Updates.{cancelled, cancel_effect, begin_merge_effect, merge_effect}
 use Rattle.vab_device.specs.Updates.{merging_from, without_images, with_images, finish_effect}
-use Rattle.vab_device.specs.Updates.{complete_effect, finished, final_image, least_declared}
-use Rattle.vab_session.specs.Alone.{IsAlone, IsUnready, Finds}
-use Rattle.vab_session.specs.Source.{HasKept, IsReadyFrom, IsStagedFrom, IsMergedFrom}
+use Rattle.vab_device.specs.Updates.{complete_effect, least_declared}
+use Rattle.vab_session.specs.Alone.{IsAlone, Finds}
+use Rattle.vab_session.specs.Source.{IsStagedFrom, IsMergedFrom}
 use Rattle.vab_session.proofs.SourceLaws.{still_has, still_none}
 use Rattle.vab_session.proofs.SourceLaws as source
 use Rattle.vab_session.proofs.UntilLaws as until

@@ -11,7 +11,6 @@ use Rattle.vab_device.specs.Mounted.{Mounted}
 use Rattle.vab_device.specs.Updates.{effect_on}
 use Rattle.vab_exchanges.specs.Items.{Item}
 use Rattle.vab_exchanges.specs.Runs.{steps_at}
-use Rattle.vab_session.specs.Alone.{Finds}
 use Rattle.vab_session.specs.Served.{nothing_staged}
 use Rattle.vab_session.proofs.UntilLaws.{found_left, found_right, last_append}
 use Rattle.vab_session.proofs.UntilLaws as until

@@ -19,17 +19,23 @@ use Rattle.vab_device.specs.Mounted.{Mounted}
 use Rattle.vab_device.specs.Reading.{IsIn}
 use Rattle.vab_make.specs.Made.{refusal_of, made_device_of}
 use Rattle.vab_make.specs.Making.{LeavesMaking}
-use Rattle.vab_words.specs.Verbs.{Meaning, Make, Serve, Install, Boot, Mark, BeginMerge, Merge}
-use Rattle.vab_words.specs.Verbs.{Cancel, Activate, Print, Digest, Demo, Status as Page}
+use Rattle.vab_words.specs.Verbs.{Meaning, Make, Adopt, Serve, Install, Boot, Mark, BeginMerge}
+use Rattle.vab_words.specs.Verbs.{Merge, Cancel, Activate, Print, Digest, Demo, Status as Page}
+use Rattle.vab_adopt.specs.declared.fault.AdoptFault.TheVariants.{AlreadyDevice}
+use Rattle.vab_adopt.specs.Adopted.{adopted, adopt_refusal}
+use Rattle.vab_adopt.specs.Adopting.{LeavesAdopting}
+use Rattle.vab_adopt.proofs.RefusalLaws.{already_refused}
 use Rattle.vab_exchanges.specs.Items.{Item}
 use Rattle.vab_exchanges.specs.Runs.{CrashesWithin}
+use Rattle.vab_exchanges.proofs.RunLaws.{within_item}
 use Rattle.vab_status.specs.Page.{page}
 use Rattle.vab_cli.specs.declared.status.Status.{Status}
 use Rattle.vab_cli.specs.declared.status.Status.TheVariants.{Done, Malformed}
+use Rattle.vab_cli.specs.Adopting.{adopt_line, done_adopting}
 use Rattle.vab_cli.specs.Installing.{install_item, install_status, RunsOrFails}
 use Rattle.vab_cli.specs.Paging.{page_item}
 use Rattle.vab_cli.specs.Program.{DoesVerb}
-use Rattle.vab_cli.specs.Runs.{RunsSession, FailsBefore, LeavesFirst}
+use Rattle.vab_cli.specs.Runs.{RunsSession, FailsBefore, LeavesFirst, LeavesTelling}
 use Rattle.vab_cli.specs.Verbs.{command_of, done_making, line_item}
 use Rattle.vab_rounds.specs.Rounds.{Run, Serves, Carries, Installs, Tells, Lives, items_in}
 use Rattle.vab_rounds.specs.Rounds.{greeting_of}
@@ -108,6 +114,22 @@ module _ {D : Type 0}
   failed : (first : Mounted) → FailsBefore g (g.size old) first old new status → Round first
   failed first fails =
       untold m (g.size old) (g.input_left old) first (g.told old) o (fails.every_cut rest o at)
+
+  -- a front of the line is told, and the disk stays
+  refusal_told : (slot : ℕ) (first : Mounted)
+      → m ≡ Adopt slot
+      → IsIn (g.size old) first (g.seen old)
+      → LeavesTelling (g.told old) (adopt_line AlreadyDevice) (λ image. image ≡ g.seen old) o
+      → Round first
+  refusal_told slot first words is left =
+      let stands : IsIn (g.size old) first o.image =
+      subst (λ (i : Image). IsIn (g.size old) first i) (sym left.kind) is in
+      round_of first (Tells (adopt_line AlreadyDevice))
+      (inr (inr (inl (slot, words, inl refl))))
+      (within_item (IsIn (g.size old)) [] first [] []
+      (line_item first (adopt_line AlreadyDevice)) (g.told old) (g.told old) tt
+      (sym (append-nil (g.told old))) o
+      (record { front = left.front; step = (first, inl refl, stands); whole = λ all. stands }))
 
   session : (fresh : Bool) (Else : Outcome → Type 0) (first : Mounted)
       → m ≡ Serve fresh
@@ -224,6 +246,17 @@ module _ {D : Type 0}
       (λ fails. failed first fails)
       (does.serve modelled serves first is)
 
+  -- a device isn't adopted
+  unadopted : (slot : ℕ) (first : Mounted)
+      → m ≡ Adopt slot
+      → IsIn (g.size old) first (g.seen old)
+      → DoesVerb g m old new status
+      → Round first
+  unadopted slot first words is does =
+      let refused = (does.adopt slot words).refused modelled AlreadyDevice
+      (already_refused (g.size old) slot (g.seen old) first is) in
+      refusal_told slot first words is (refused.every_cut rest o at)
+
   -- by the words
   by_words : (first : Mounted)
       → IsIn (g.size old) first (g.seen old)
@@ -233,6 +266,7 @@ module _ {D : Type 0}
       → MakesNone n
       → Round first
   by_words first is does (Make limit max) words none = absurd none
+  by_words first is does (Adopt slot) words none = unadopted slot first words is does
   by_words first is does (Serve fresh) words none = served fresh first words none is does
   by_words first is does Install words none = installed first words is does
   by_words first is does Boot words none =
@@ -282,7 +316,7 @@ module _ {D : Type 0}
       ⊎_elim
       (λ crash. inl (round_of (made_device_of set limit max (g.size old))
       (Tells (done_making set (g.size old)))
-      (inr (inr (set, (limit, max, inl (words, fits, spelled, none)), refl)))
+      (inr (inr (inr (set, (limit, max, inl (words, fits, spelled, none)), refl))))
       crash))
       (λ early. inr early)
       ((does.made modelled limit max words set fits spelled none).every_cut rest o at)
@@ -325,6 +359,24 @@ module _ {D : Type 0}
       (runs.items.every_cut rest o at))
       (λ fails. inr (fails.every_cut rest o at))
       ((does.demo seed scale words).runs modelled none)
+
+  -- a disk that is adopted
+  pub adopting_is_round : IsRun g m old new status
+      → (slot : ℕ)
+      → m ≡ Adopt slot
+      → (first : Mounted)
+      → adopted (g.size old) slot (g.seen old) ≡ Ok first
+      → adopt_refusal (g.size old) slot (g.seen old) ≡ None
+      → Round first ⊎ LeavesAdopting (g.told old) (g.size old) slot (g.seen old) o
+  adopting_is_round (inl wants) slot words first is none =
+      let left = same_image wants.1 in
+      inr (record { told_so_far = left.0; either = inl left.1 })
+  adopting_is_round (inr does) slot words first is none =
+      ⊎_elim
+      (λ crash. inl (round_of first (Tells (done_adopting slot first))
+      (inr (inr (inl (slot, words, inr refl)))) crash))
+      (λ early. inr early)
+      (((does.adopt slot words).adopts modelled first is none).every_cut rest o at)
 
   pub making_is_round : IsRun g m old new status
       → (set : List SetImage) (limit max : ℕ)

@@ -1,6 +1,6 @@
 -- Runs of the program, one after another: each is begun at rest on the disk that a cut of power has
 -- left of the one before.
-use Rattle.std.specs.Prelude.{◌≡◌, ◌⊎◌, ℕ, List, [], ◌∷◌, Option, Some, None}
+use Rattle.std.specs.Prelude.{◌≡◌, ◌⊎◌, ℕ, List, [], ◌∷◌, Option, Some, None, Ok}
 use Rattle.vab_disk.specs.declared.disk.Disk.{Ghosts}
 use Rattle.vab_disk.specs.Disk.{Image, Outcome}
 use Rattle.vab_disk.specs.Calls.{IsAtRest}
@@ -9,7 +9,9 @@ use Rattle.vab_device.specs.Mounted.{Mounted}
 use Rattle.vab_device.specs.Reading.{IsIn}
 use Rattle.vab_make.specs.Made.{made_device_of}
 use Rattle.vab_make.specs.Making.{LeavesMaking}
-use Rattle.vab_words.specs.Verbs.{Meaning}
+use Rattle.vab_adopt.specs.Adopted.{adopted, adopt_refusal}
+use Rattle.vab_adopt.specs.Adopting.{LeavesAdopting}
+use Rattle.vab_words.specs.Verbs.{Adopt, Meaning}
 use Rattle.vab_cli.specs.declared.status.Status.{Status}
 use Rattle.vab_rounds.specs.Rounds.{Run, Tells, Round, IsRound, AreRounds}
 use Rattle.vab_rounds.specs.Runs.{IsMaking, MakesNone, IsRunOf, IsRun}
@@ -112,3 +114,22 @@ module _ {D : Type 0} (g : Ghosts D) where
       → IsMaking m size (g.input_left r.old) set limit max
       → HaveRounds size (made_device_of set limit max size) (r ∷ rs)
       ⊎ LeavesMaking (g.told r.old) set limit max size image r.outcome
+
+  -- Where the first one adopts the disk, they are rounds of the adopted device; or it was cut
+  -- before, and has left what adopting leaves.
+  abbrev pub AdoptingBeginsRounds : Type 0
+  AdoptingBeginsRounds =
+      g.is_modelled
+      → (size : ℕ)
+      → (image : Image)
+      → (r : CutRun D)
+      → (rs : List (CutRun D))
+      → AreCutRuns size image (r ∷ rs)
+      → MakeNothing rs
+      → (slot : ℕ)
+      → r.words ≡ Some (Adopt slot)
+      → (first : Mounted)
+      → adopted size slot image ≡ Ok first
+      → adopt_refusal size slot image ≡ None
+      → HaveRounds size first (r ∷ rs)
+      ⊎ LeavesAdopting (g.told r.old) size slot image r.outcome

@@ -11,12 +11,16 @@ use Rattle.vab_device.specs.Mounted.{Mounted}
 use Rattle.vab_device.specs.Reading.{IsIn}
 use Rattle.vab_make.specs.Made.{refusal_of, made_device_of}
 use Rattle.vab_make.specs.Making.{LeavesMaking}
-use Rattle.vab_words.specs.Verbs.{Meaning, Make, Serve, Install, Boot, Mark, BeginMerge, Merge}
-use Rattle.vab_words.specs.Verbs.{Cancel, Activate, Print, Digest, Demo, Status as Page}
+use Rattle.vab_words.specs.Verbs.{Meaning, Make, Adopt, Serve, Install, Boot, Mark, BeginMerge}
+use Rattle.vab_words.specs.Verbs.{Merge, Cancel, Activate, Print, Digest, Demo, Status as Page}
+use Rattle.vab_adopt.specs.declared.fault.AdoptFault.TheVariants.{AlreadyDevice}
+use Rattle.vab_adopt.specs.Adopted.{adopted, adopt_refusal}
+use Rattle.vab_adopt.specs.Adopting.{LeavesAdopting}
 use Rattle.vab_exchanges.specs.Session.{End, IsSession}
 use Rattle.vab_status.specs.Page.{page}
 use Rattle.vab_cli.specs.declared.status.Status.{Status}
 use Rattle.vab_cli.specs.declared.status.Status.TheVariants.{NoMemory}
+use Rattle.vab_cli.specs.Adopting.{adopt_line, done_adopting}
 use Rattle.vab_cli.specs.Program.{DoesVerb}
 use Rattle.vab_cli.specs.Verbs.{command_of, done_making}
 use Rattle.vab_rounds.specs.Rounds.{Run, Serves, Carries, Installs, Tells, Lives, IsRound}
@@ -38,9 +42,10 @@ IsMaking m size input set limit max =
     × (limit ≡ 0)
     × (max ≡ 65536))
 
--- the words ask for no making
+-- The words ask for no making. A disk that is a device isn't adopted.
 abbrev pub MakesNone : Meaning → Type 0
 MakesNone (Make limit max) = ⊥
+MakesNone (Adopt slot) = Unit {0}
 MakesNone (Serve fresh) = fresh ≡ false
 MakesNone Install = Unit {0}
 MakesNone Boot = Unit {0}
@@ -68,6 +73,9 @@ IsRunOf m size input first (Installs set) = (m ≡ Install) × (set_of input ≡
 IsRunOf m size input first (Tells text) =
     (text ≡ [])
     ⊎ ((m ≡ Page) × (text ≡ page first.state))
+    ⊎ ((slot : ℕ)
+    × (m ≡ Adopt slot)
+    × ((text ≡ adopt_line AlreadyDevice) ⊎ (text ≡ done_adopting slot first)))
     ⊎ ((set : List SetImage)
     × ((limit : ℕ) × (max : ℕ) × IsMaking m size input set limit max)
     × (text ≡ done_making set size))
@@ -131,3 +139,23 @@ module _ {D : Type 0} (g : Ghosts D) where
       → LeavesRound m (g.size old) (g.input_left old)
       (made_device_of set limit max (g.size old)) (g.told old) o
       ⊎ LeavesMaking (g.told old) set limit max (g.size old) (g.seen old) o
+
+  -- Where a disk is adopted, each cut is a round of the adopted device, or one from before it: the
+  -- disk as it was, or no device, or the adopted one, with nothing told.
+  abbrev pub AdoptingIsRound : Type 0
+  AdoptingIsRound =
+      g.is_modelled
+      → (m : Meaning)
+      → (old new : D)
+      → (status : Status)
+      → IsRun m old new status
+      → IsAtRest g old
+      → (slot : ℕ)
+      → m ≡ Adopt slot
+      → (first : Mounted)
+      → adopted (g.size old) slot (g.seen old) ≡ Ok first
+      → adopt_refusal (g.size old) slot (g.seen old) ≡ None
+      → (o : Outcome)
+      → g.outcomes new (g.moment old) o
+      → LeavesRound m (g.size old) (g.input_left old) first (g.told old) o
+      ⊎ LeavesAdopting (g.told old) (g.size old) slot (g.seen old) o

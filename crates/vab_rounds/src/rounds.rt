@@ -1,11 +1,12 @@
 //! Laws of rounds.
 ghost use Rattle.vab_rounds.specs.Alone.{RunsKeepImages, RunsStayAlone};
-ghost use Rattle.vab_rounds.specs.Chains.{ChainsAreRounds, MakingBeginsRounds};
+ghost use Rattle.vab_rounds.specs.Chains.{AdoptingBeginsRounds, ChainsAreRounds};
+ghost use Rattle.vab_rounds.specs.Chains.{MakingBeginsRounds};
 ghost use Rattle.vab_rounds.specs.Ended.{MergesHaveEnded};
 ghost use Rattle.vab_rounds.specs.Finished.{FinishedImagesAreMerged, FinishedImagesLast};
 ghost use Rattle.vab_rounds.specs.Folds.{RoundsBoot, RoundsFold, SessionsFold};
 ghost use Rattle.vab_rounds.specs.Merges.{MergesEnd};
-ghost use Rattle.vab_rounds.specs.Runs.{MakingIsRound, RunsAreRounds};
+ghost use Rattle.vab_rounds.specs.Runs.{AdoptingIsRound, MakingIsRound, RunsAreRounds};
 
 use vab_disk::Port;
 
@@ -47,16 +48,18 @@ pub fn keeps_what_finish_gave()
 {}
 
 /// What `run` promises, for any words, of a run that is cut: it is a round. Where a device is made
-/// first it is one of that device, or the cut was before its last gate.
+/// first, or a disk adopted, it is one of that device, or the cut was before its last gate.
 pub fn runs_are_rounds<P: Port>()
     ensures runs { RunsAreRounds P.Disk }
     ensures making { MakingIsRound P.Disk }
+    ensures adopting { AdoptingIsRound P.Disk }
 {}
 
 /// Runs of the program, for any words and each begun on what a cut of power left of the one before,
-/// are rounds, so that all that is said of rounds holds of them. Where the first one makes a device
-/// they are rounds of that device, or it was cut before its last gate.
+/// are rounds, so that all that is said of rounds holds of them. Where the first one makes a
+/// device, or adopts a disk, they are rounds of that device, or it was cut before its last gate.
 pub fn chains_are_rounds<P: Port>()
     ensures runs { ChainsAreRounds P.Disk }
     ensures making { MakingBeginsRounds P.Disk }
+    ensures adopting { AdoptingBeginsRounds P.Disk }
 {}

@@ -17,7 +17,7 @@ use Rattle.clap.specs.Takes.{flags_pass, step_passes, turn_passes, walk_passes}
 use Rattle.clap.proofs.OnLiterals.{clap_on_literals}
 use Rattle.vab_words.specs.Command.{found_in, is_taken, vab_app}
 use Rattle.vab_words.specs.Values.{blocks_of, limit_of, metadata_max_of, slot_of, seed_of, scale_of}
-use Rattle.vab_words.specs.Verbs.{Activate, Demo, Digest, Make, Meaning, Merge, Print, demo_of}
+use Rattle.vab_words.specs.Verbs.{Activate, Adopt, Demo, Digest, Make, Meaning, Merge, Print, demo_of}
 use Rattle.vab_words.specs.Verbs.{make_of, verb_in}
 use Rattle.vab_words.specs.Verbs.{verb_of}
 use Rattle.vab_words.specs.Spelled.{is_verb_name, name_of, verb_names}
@@ -182,6 +182,10 @@ enters_make : Enters (codes "make")
 unfolding clap_on_literals vab_app
 enters_make = (refl, λ behind. (_, refl))
 
+enters_adopt : Enters (codes "adopt")
+unfolding clap_on_literals vab_app
+enters_adopt = (refl, λ behind. (_, refl))
+
 enters_serve : Enters (codes "serve")
 unfolding clap_on_literals vab_app
 enters_serve = (refl, λ behind. (_, refl))
@@ -250,6 +254,11 @@ make_named a b = go (limit_of a) (metadata_max_of b)
 make_in : (rows : List Row) → IsNamed (codes "make") (verb_in (codes "make") rows)
 unfolding verb_in
 make_in rows = make_named (first_of (codes "limit") rows) (first_of (codes "metadata-max") rows)
+
+adopt_in : (rows : List Row) → IsNamed (codes "adopt") (verb_in (codes "adopt") rows)
+unfolding verb_in
+adopt_in rows = mapped (codes "adopt") Adopt (λ _. refl)
+    (option_and_then slot_of (first_of (codes "slot") rows))
 
 serve_in : (rows : List Row) → IsNamed (codes "serve") (verb_in (codes "serve") rows)
 unfolding verb_in
@@ -336,28 +345,34 @@ each_named : (rest : List Text) → Each (λ name. IsNamed name (verb_of (name �
 each_named rest = (
   named_verb (codes "make") rest enters_make make_in,
   (
-    named_verb (codes "serve") rest enters_serve serve_in,
+    named_verb (codes "adopt") rest enters_adopt adopt_in,
     (
-      named_verb (codes "install") rest enters_install install_in,
+      named_verb (codes "serve") rest enters_serve serve_in,
       (
-        named_verb (codes "boot") rest enters_boot boot_in,
+        named_verb (codes "install") rest enters_install install_in,
         (
-          named_verb (codes "mark") rest enters_mark mark_in,
+          named_verb (codes "boot") rest enters_boot boot_in,
           (
-            named_verb (codes "begin-merge") rest enters_begin_merge begin_merge_in,
+            named_verb (codes "mark") rest enters_mark mark_in,
             (
-              named_verb (codes "merge") rest enters_merge merge_in,
+              named_verb (codes "begin-merge") rest enters_begin_merge begin_merge_in,
               (
-                named_verb (codes "cancel") rest enters_cancel cancel_in,
+                named_verb (codes "merge") rest enters_merge merge_in,
                 (
-                  named_verb (codes "activate") rest enters_activate activate_in,
+                  named_verb (codes "cancel") rest enters_cancel cancel_in,
                   (
-                    named_verb (codes "print") rest enters_print print_in,
+                    named_verb (codes "activate") rest enters_activate activate_in,
                     (
-                      named_verb (codes "digest") rest enters_digest digest_in,
+                      named_verb (codes "print") rest enters_print print_in,
                       (
-                        named_verb (codes "status") rest enters_status status_in,
-                        (named_verb (codes "demo") rest enters_demo demo_in, tt),
+                        named_verb (codes "digest") rest enters_digest digest_in,
+                        (
+                          named_verb (codes "status") rest enters_status status_in,
+                          (
+                            named_verb (codes "demo") rest enters_demo demo_in,
+                            tt,
+                          ),
+                        ),
                       ),
                     ),
                   ),

@@ -10,7 +10,7 @@ use Rattle.clap.proofs.OnLiterals.{clap_on_literals}
 use Rattle.vab_words.specs.Command.{found_in, is_taken, vab_app}
 use Rattle.vab_words.specs.Values.{blocks_of, is_number, limit_of, metadata_max_of}
 use Rattle.vab_words.specs.Values.{number_up_to, slot_of}
-use Rattle.vab_words.specs.Verbs.{Activate, BeginMerge, Boot, Cancel, Digest, Install, Make, Mark}
+use Rattle.vab_words.specs.Verbs.{Activate, Adopt, BeginMerge, Boot, Cancel, Digest, Install, Make, Mark}
 use Rattle.vab_words.specs.Verbs.{Merge, Print, Serve, Status, demo_of, is_set, make_of}
 use Rattle.vab_words.specs.Verbs.{verb_in, verb_of}
 use Rattle.vab_words.specs.Spelled.{AsksBy, IsPlain, MakesBy}
@@ -95,6 +95,10 @@ five = refl
 
 pub merge_five : verb_of (codes "merge" ∷ codes "5" ∷ []) ≡ Some (Merge 5)
 merge_five = merge (codes "5") (grind (arith, nat_tests)) ∙ ap (option_map Merge) five
+
+pub adopt : AsksBy (codes "adopt") (λ text. option_map Adopt (slot_of text))
+unfolding clap_on_literals vab_app is_taken found_in verb_of verb_in
+adopt text plain = rw (no_dashes text plain, no_long text plain, no_short text plain) refl
 
 pub activate : AsksBy (codes "activate") (λ text. option_map Activate (slot_of text))
 unfolding clap_on_literals vab_app is_taken found_in verb_of verb_in

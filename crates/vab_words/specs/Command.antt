@@ -56,7 +56,8 @@ with_verb command verb = with_subcommand command verb.top
 unfoldable pub vab_app : App
 vab_app =
     with_verb (with_verb (with_verb (with_verb (with_verb (with_verb (with_verb (with_verb
-    (with_verb (with_verb (with_verb (with_verb (with_verb no_verbs make_app) serve_app)
+    (with_verb (with_verb (with_verb (with_verb (with_verb (with_verb no_verbs make_app)
+    (operand_app (codes "adopt") (codes "slot"))) serve_app)
     (new_app (codes "install"))) (new_app (codes "boot")))
     (new_app (codes "mark"))) (new_app (codes "begin-merge")))
     (operand_app (codes "merge") (codes "blocks"))) (new_app (codes "cancel")))

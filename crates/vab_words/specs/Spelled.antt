@@ -3,7 +3,7 @@ use Rattle.std.specs.Prelude.{◌≡◌, ◌≢◌, Bool, List, [], ◌∷◌, O
 use Rattle.std.specs.List.{list_any}
 use Rattle.std.specs.Str.{bytes_eq}
 use Rattle.clap.specs.Words.{Text}
-use Rattle.vab_words.specs.Verbs.{Activate, BeginMerge, Boot, Cancel, Demo, Digest, Install}
+use Rattle.vab_words.specs.Verbs.{Activate, Adopt, BeginMerge, Boot, Cancel, Demo, Digest, Install}
 use Rattle.vab_words.specs.Verbs.{Make, Mark, Meaning, Merge, Print, Serve, Status, verb_of}
 
 -- the word is no option: it doesn't begin with a hyphen
@@ -21,7 +21,7 @@ MakesBy option meaning =
 
 abbrev pub verb_names : List Text
 verb_names =
-    codes "make" ∷ codes "serve" ∷ codes "install" ∷ codes "boot" ∷ codes "mark" ∷
+    codes "make" ∷ codes "adopt" ∷ codes "serve" ∷ codes "install" ∷ codes "boot" ∷ codes "mark" ∷
     codes "begin-merge" ∷ codes "merge" ∷ codes "cancel" ∷ codes "activate" ∷ codes "print" ∷
     codes "digest" ∷ codes "status" ∷ codes "demo" ∷ []
 
@@ -32,6 +32,7 @@ is_verb_name word = list_any (λ name. bytes_eq name word) verb_names
 -- the name of the verb that is asked for
 abbrev pub name_of : Meaning → Text
 name_of (Make limit metadata_max) = codes "make"
+name_of (Adopt slot) = codes "adopt"
 name_of (Serve fresh) = codes "serve"
 name_of Install = codes "install"
 name_of Boot = codes "boot"

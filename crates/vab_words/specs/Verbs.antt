@@ -17,6 +17,7 @@ use Rattle.vab_words.specs.declared.verb.Verb.TheVariants as code
 -- a verb, with the values of its options and operands
 pub data Meaning : Type 0 where
   Make : ℕ → ℕ → Meaning
+  Adopt : ℕ → Meaning
   Serve : Bool → Meaning
   Install : Meaning
   Boot : Meaning
@@ -32,6 +33,7 @@ pub data Meaning : Type 0 where
 
 abbrev pub meaning_of : Verb → Meaning
 meaning_of (code.Make limit metadata_max) = Make limit metadata_max
+meaning_of (code.Adopt slot) = Adopt slot
 meaning_of (code.Serve fresh) = Serve fresh
 meaning_of code.Install = Install
 meaning_of code.Boot = Boot
@@ -45,9 +47,10 @@ meaning_of (code.Digest name) = Digest name.now
 meaning_of code.Status = Status
 meaning_of (code.Demo seed scale) = Demo seed scale
 
--- the values of `make`, of `merge` and of `demo` are in their ranges
+-- the values of `make`, of `adopt`, of `merge` and of `demo` are in their ranges
 abbrev pub IsInRange : Verb → Type 0
 IsInRange (code.Make limit metadata_max) = (limit ≤ 2 ^ 44) × IsMetadataMax metadata_max
+IsInRange (code.Adopt slot) = slot < 2
 IsInRange (code.Serve fresh) = Unit {0}
 IsInRange code.Install = Unit {0}
 IsInRange code.Boot = Unit {0}
@@ -86,6 +89,8 @@ unfoldable pub verb_in : Text → List Row → Option Meaning
 verb_in name rows =
     if bytes_eq name (codes "make") then make_of (first_of (codes "limit") rows)
     (first_of (codes "metadata-max") rows)
+    else if bytes_eq name (codes "adopt") then option_map Adopt
+    (option_and_then slot_of (first_of (codes "slot") rows))
     else if bytes_eq name (codes "serve") then Some (Serve (is_set (first_of (codes "fresh") rows)))
     else if bytes_eq name (codes "install") then Some Install
     else if bytes_eq name (codes "boot") then Some Boot

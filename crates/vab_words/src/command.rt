@@ -76,6 +76,7 @@ pub(crate) fn vab<'a>(alloc: Global) -> Result<Command<'a>, AllocError>
 {
     without_verbs(alloc)
         .subcommand(make(alloc)?)?
+        .subcommand(with_operand(alloc, "adopt", "slot")?)?
         .subcommand(serve(alloc)?)?
         .subcommand(Command::new(alloc, "install"))?
         .subcommand(Command::new(alloc, "boot"))?

@@ -12,7 +12,7 @@ use std::fmt;
 pub enum Value {
     /// The operand of `merge`.
     Turns,
-    /// The operand of `activate`.
+    /// The operand of `activate` and of `adopt`.
     Slot,
     /// The operand of `demo`.
     Seed,
@@ -71,8 +71,8 @@ impl fmt::Display for Value {
 // Whether a word is the name of a verb.
 fn is_verb(word: &str) -> bool {
     match word {
-        "make" | "serve" | "install" | "boot" | "mark" | "begin-merge" | "merge" | "cancel" => true,
-        "activate" | "print" | "digest" | "status" | "demo" => true,
+        "make" | "adopt" | "serve" | "install" | "boot" | "mark" | "begin-merge" => true,
+        "merge" | "cancel" | "activate" | "print" | "digest" | "status" | "demo" => true,
         _ => false,
     }
 }
@@ -81,7 +81,7 @@ fn is_verb(word: &str) -> bool {
 fn value_behind(word: &str) -> Option<Value> {
     match word {
         "merge" => Some(Value::Turns),
-        "activate" => Some(Value::Slot),
+        "activate" | "adopt" => Some(Value::Slot),
         "demo" => Some(Value::Seed),
         "--limit" => Some(Value::Limit),
         "--metadata-max" => Some(Value::MetadataMax),

@@ -3,7 +3,7 @@ ghost use Rattle.std.specs.Prelude.{◌≡◌, true, false, List, ℕ, [], ◌�
 ghost use Rattle.std.specs.Prelude.{option_map};
 ghost use Rattle.vab_words.specs.Spelled.{AsksBy, IsPlain, MakesBy, is_verb_name, name_of};
 ghost use Rattle.vab_words.specs.Values.{blocks_of, slot_of};
-ghost use Rattle.vab_words.specs.Verbs.{Activate, BeginMerge, Boot, Cancel, Digest, Install, Make};
+ghost use Rattle.vab_words.specs.Verbs.{Activate, Adopt, BeginMerge, Boot, Cancel, Digest, Install, Make};
 ghost use Rattle.vab_words.specs.Verbs.{Mark, Merge, Print, Serve, Status, demo_of, make_of};
 ghost use Rattle.vab_words.specs.Verbs.{verb_of};
 
@@ -17,6 +17,7 @@ pub fn spelled_out()
         → verb_of
         (codes "make" ∷ codes "--limit" ∷ limit ∷ codes "--metadata-max" ∷ metadata_max ∷ [])
         ≡ make_of (Some limit) (Some metadata_max) }
+    ensures adopt { AsksBy (codes "adopt") (λ text. option_map Adopt (slot_of text)) }
     ensures serve { verb_of (codes "serve" ∷ []) ≡ Some (Serve false) }
     ensures serve_fresh { verb_of (codes "serve" ∷ codes "--fresh" ∷ []) ≡ Some (Serve true) }
     ensures install { verb_of (codes "install" ∷ []) ≡ Some Install }

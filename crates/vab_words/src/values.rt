@@ -114,7 +114,8 @@ pub(crate) fn parse_scale(text: Option<&str>) -> Option<u64>
 /// The slot of a letter: 0 for a and 1 for b.
 #[tactic(auto, unfolding(crate::specs::Values::slot_of))]
 pub(crate) fn parse_slot(text: &str) -> Option<usize>
-    ensures { result ≡ slot_of text.now }
+    ensures value { result ≡ slot_of text.now }
+    ensures range { IfSome result (λ slot. slot < 2) }
 {
     match text {
         "a" => Some(0),

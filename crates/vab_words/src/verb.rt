@@ -22,6 +22,9 @@ pub enum Verb<'a> {
         /// The most bytes of a copy of a partition table: a multiple of 512, from 512 to 65536.
         metadata_max: u32,
     },
+    /// A device is made of a disk whose partition table of this slot somebody else has written,
+    /// 0 for a and 1 for b.
+    Adopt(usize),
     /// A session over the device.
     Serve {
         /// The device is made first.
@@ -159,6 +162,7 @@ fn verb_in<'a>(name: &str, values: &ArgMatches<'a>) -> Option<Verb<'a>>
 {
     match name {
         "make" => make_in(values),
+        "adopt" => Some(Verb::Adopt(parse_slot(text_of(values, "slot")?)?)),
         "serve" => Some(Verb::Serve {
             fresh: is_set(values, "fresh"),
         }),
@@ -188,7 +192,7 @@ fn found_verb<'a>(matches: &ArgMatches<'a>) -> Option<Verb<'a>>
 }
 
 /// What the words behind the device's ask for: `make [--limit BYTES] [--metadata-max BYTES]`,
-/// `serve [--fresh]`, `install`, `boot`, `mark`, `begin-merge`, `merge N`, `cancel`,
+/// `adopt SLOT`, `serve [--fresh]`, `install`, `boot`, `mark`, `begin-merge`, `merge N`, `cancel`,
 /// `activate SLOT`, `print NAME`, `digest NAME`, `status` or `demo SEED [--scale K]`.
 pub fn parse_words<'a>(alloc: Global, words: &'a [String]) -> Result<Verb<'a>, WordsFault>
     // A verb comes only where the words ask for it, and a refusal only where they ask for none.

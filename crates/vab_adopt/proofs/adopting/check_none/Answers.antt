@@ -1,4 +1,4 @@
-use Rattle.std.proofs.Common.{◌≡◌, ◌∙◌, sym, subst}
+use Rattle.std.proofs.Common.{sym, subst}
 use Rattle.std.proofs.lemmas.Result.{on_ok_weaker, IfErr-weaker}
 use Rattle.vab_adopt.specs.declared.fault.AdoptFault.{AdoptFault}
 use Rattle.vab_adopt.specs.Adopted.{adopt_refusal}

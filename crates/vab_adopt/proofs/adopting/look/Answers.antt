@@ -1,4 +1,4 @@
-use Rattle.std.proofs.Common.{◌≡◌, ◌∙◌, ◌<◌, ◌≤◌, ℕ, Ok, Err, sym, subst, arith}
+use Rattle.std.proofs.Common.{◌∙◌, ◌<◌, ℕ, sym, ap, subst, arith}
 use Rattle.vab_disk.specs.Disk.{Image}
 use Rattle.vab_device.specs.Kept.{IsDevice}
 use Rattle.vab_device.specs.Mounted.{mounted_on}
@@ -6,6 +6,7 @@ use Rattle.vab_recover.specs.Opened.{IsOpened, with_tables}
 use Rattle.vab_adopt.specs.declared.fault.AdoptFault.{AdoptFault}
 use Rattle.vab_adopt.specs.Adopted.{adopted, adopt_refusal, with_heads}
 use Rattle.vab_adopt.specs.Adopting.{Says}
+use Rattle.vab_adopt.specs.Dropped.{dropped as dropped_of}
 use Rattle.vab_adopt.proofs.CountLaws.{counted, present_at}
 use Rattle.vab_adopt.proofs.FoundLaws.{adopted_means, err_of, heads_whole}
 use Rattle.vab_adopt.proofs.RefusalLaws.{none_refused, adopted_unrefused}
@@ -15,8 +16,8 @@ pub returns-in_err-device-clause-refused : goal.returns-in_err-device-clause-ref
 returns-in_err-device-clause-refused g c = λ t.
     let size = g.D.Disk.size c.args.d.now in
     let old = g.D.Disk.seen c.args.d.now in
-    let n = c.check_none.ensures.reads.quiet.size in
-    let s = c.check_none.ensures.reads.seen t in
+    let n = c.update_there.ensures.reads.quiet.size ∙ c.check_none.ensures.reads.quiet.size in
+    let s = c.update_there.ensures.reads.seen t ∙ c.check_none.ensures.reads.seen t in
     let none = c.in_ok-check_none.ensures.none t in
     err_of c.from_residual-in_err-device.result _
     (λ (x : AdoptFault). Says x (adopt_refusal size c.args.slot old))
@@ -29,8 +30,8 @@ returns-in_err-device-clause-refused g c = λ t.
 
 pub count-requires-clause-present : goal.count-requires-clause-present
 count-requires-clause-present g c = (
-  g.D.Disk.size c.check_none.new.d,
-  present_at c.in_ok-device.device c.in_ok-device.field-0-1 (g.D.Disk.size c.check_none.new.d)
+  g.D.Disk.size c.update_there.new.d,
+  present_at c.in_ok-device.device c.in_ok-device.field-0-1 (g.D.Disk.size c.update_there.new.d)
       c.args.slot c.in_ok-device.ensures.kept,
 )
 
@@ -39,15 +40,15 @@ returns-clause-found g c = λ t.
     let size : ℕ = g.D.Disk.size c.args.d.now in
     let old = g.D.Disk.seen c.args.d.now in
     let slot : ℕ = c.args.slot in
-    let n = c.check_none.ensures.reads.quiet.size in
-    let s = c.check_none.ensures.reads.seen t in
+    let n = c.update_there.ensures.reads.quiet.size ∙ c.check_none.ensures.reads.quiet.size in
+    let s = c.update_there.ensures.reads.seen t ∙ c.check_none.ensures.reads.seen t in
     let d = c.in_ok-device.device in
     let tables = c.in_ok-device.field-0-1 in
     let none = c.in_ok-check_none.ensures.none t in
     let opened : IsOpened d tables size (with_heads slot old) =
     subst (λ (k : ℕ). IsOpened d tables k (with_heads slot old)) n
     (subst
-    (λ (i : Image). IsOpened d tables (g.D.Disk.size c.check_none.new.d) (with_heads slot i)) s
+    (λ (i : Image). IsOpened d tables (g.D.Disk.size c.update_there.new.d) (with_heads slot i)) s
     (c.in_ok-device.ensures.opened t)) in
     let kept : IsDevice (with_tables tables d) size =
     subst (λ (k : ℕ). IsDevice (with_tables tables d) k) n c.in_ok-device.ensures.kept in
@@ -62,5 +63,11 @@ returns-clause-found g c = λ t.
           (heads_whole size slot old four
           (λ k below. g.met.D.Disk.whole c.args.d.now k (old k) below
           (g.met.D.Disk.seen_held c.args.d.now k)))
-          d tables slot c.count.result (present_at d tables size slot kept) c.count.ensures;
+          d tables slot c.count.result (present_at d tables size slot kept)
+          c.count.ensures.counts;
+      dropped =
+          c.count.ensures.dropped
+          ∙ c.in_ok-dropped.ensures.is t
+          (omega (arith, kept.enough, c.check_none.ensures.reads.quiet.size))
+          ∙ ap dropped_of (c.check_none.ensures.reads.seen t);
     }

@@ -1,4 +1,4 @@
-use Rattle.std.proofs.Common.{◌≡◌, ◌∙◌, List, ℕ, refl, ap, sym, subst}
+use Rattle.std.proofs.Common.{◌∙◌, List, ℕ, refl, ap, sym, subst}
 use Rattle.std.proofs.lemmas.Result.{on_ok_weaker}
 use Rattle.vab_disk.specs.Disk.{Image}
 use Rattle.vab_disk.proofs.CallLaws.{touches_reads, touches_then, touches_wider, wrote_here}

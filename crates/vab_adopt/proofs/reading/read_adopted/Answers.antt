@@ -1,4 +1,4 @@
-use Rattle.std.proofs.Common.{◌≡◌, ◌∙◌, ◌≤◌, ℕ, Err, sym, subst, arith}
+use Rattle.std.proofs.Common.{◌≡◌, ℕ, Err, sym, subst, arith}
 use Rattle.std.specs.Prelude.{IfOk, IfErr}
 use Rattle.vab_disk.specs.Disk.{Image, IsSector}
 use Rattle.vab_device.specs.Faults.{IsOfContents}

@@ -31,7 +31,7 @@ returns-clause-made g c = λ t set fits is none.
     making_after g.P.Disk g.met.P.Disk.only_now size set limit max (done_making set size)
     old mid new c.make_of.result
     (c.hear_all.ensures.told t) (c.hear_all.ensures.seen t) (c.hear_all.ensures.crash t)
-    (c.hear_all.ensures.time t)
+    (c.hear_all.ensures.time t) c.make_of.ensures.memory
     (subst
     (λ (n : ℕ).
     refusal_of set limit max n ≡ None

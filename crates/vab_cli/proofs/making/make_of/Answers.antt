@@ -4,7 +4,8 @@ use Rattle.std.proofs.Common.{subst, arith}
 use Rattle.vab_disk.specs.Calls.{OnlyReads}
 use Rattle.vab_disk.proofs.CallLaws.{reads_none}
 use Rattle.vab_make.specs.declared.fault.MakeFault.{MakeFault}
-use Rattle.vab_make.specs.Making.{Gives}
+use Rattle.vab_make.specs.Made.{made_device_of}
+use Rattle.vab_make.specs.Making.{Gives, LeavesMaking}
 use Rattle.vab_cli.specs.declared.status.Status.TheVariants.{Done, Port, NoMemory}
 use Rattle.vab_cli.specs.Codes.{make_status}
 use Rattle.vab_cli.specs.Telling.{Tells}
@@ -13,7 +14,8 @@ use Rattle.vab_cli.specs.Runs.{IsFailed}
 use Rattle.vab_cli.specs.MadeDisk.{HoldsMade}
 use Rattle.vab_cli.proofs.Makings.{not_of_disk, silent_early, memory_of_none, silent_memory}
 use Rattle.vab_cli.proofs.Makings.{loud_refusal, silent_line, enough_sectors, status_not_port}
-use Rattle.vab_cli.proofs.Makings.{refused_told, refused_unheard, making_told, making_untold}
+use Rattle.vab_cli.proofs.Makings.{giving_told, giving_untold, refused_told, refused_unheard}
+use Rattle.vab_cli.proofs.Makings.{loud_memory, unmade_yet}
 use Rattle.std.proofs.Common.{refl}
 use Rattle.vab_cli.proofs.Causing.{made_read, made_unmade, unmade_read, unmade_told}
 use Rattle.vab_cli.proofs.making.make_of.Goals as goal
@@ -41,8 +43,13 @@ returns-in-Ok-clause-made g c = λ t none.
       control = c.in-Ok.ensures.control t;
       rest = c.in-Ok.ensures.rest t;
     } in
-    making_told g.P.Disk g.met.P.Disk.only_now size c.args.set.now c.args.limit c.args.max
-    (done_making c.args.set.now size) old mid new c.tell_made.result
+    giving_told g.P.Disk g.met.P.Disk.only_now size
+    (made_device_of c.args.set.now c.args.limit c.args.max size)
+    (done_making c.args.set.now size) (HoldsMade c.args.max (g.P.Disk.seen old))
+    (LeavesMaking (g.P.Disk.told old) c.args.set.now c.args.limit c.args.max size
+    (g.P.Disk.seen old))
+    old mid new c.tell_made.result
+    (unmade_yet g.P.Disk g.met.P.Disk.only_now size c.args.set.now c.args.limit c.args.max old)
     (c.make_device.ensures.touches.quiet.told t) (c.in-Ok.ensures.made t) holds
     (c.in-Ok.ensures.settled t) (c.make_device.ensures.time t) c.tell_made.ensures.either tells
 
@@ -57,12 +64,18 @@ returns-then-is_silent-clause-made g c = λ t none.
     (λ disk. inl (inl (c.from.ensures ∙ disk)))
     (λ memory. inr (c.from.ensures ∙ ap make_status memory))
     (silent_early fault is) in
-    making_untold g.P.Disk g.met.P.Disk.only_now size c.args.set.now c.args.limit c.args.max
-    (done_making c.args.set.now size) old new c.from.result
-    (c.make_device.ensures.touches.quiet.told t)
+    giving_untold g.P.Disk g.met.P.Disk.only_now size
+    (made_device_of c.args.set.now c.args.limit c.args.max size)
+    (done_making c.args.set.now size) (HoldsMade c.args.max (g.P.Disk.seen old))
+    (LeavesMaking (g.P.Disk.told old) c.args.set.now c.args.limit c.args.max size
+    (g.P.Disk.seen old))
+    old new c.from.result
+    (unmade_yet g.P.Disk g.met.P.Disk.only_now size c.args.set.now c.args.limit c.args.max old)
+    (c.make_device.ensures.touches.quiet.told t) t
     (λ memory.
-    ap g.P.Disk.seen
-    (c.in-Err.ensures.untouched (memory_of_none fault (sym c.from.ensures ∙ memory))))
+    subst (λ (x : g.row.P.Denot). OnlyReads g.P.Disk old x)
+    (sym (c.in-Err.ensures.untouched (memory_of_none fault (sym c.from.ensures ∙ memory))))
+    (reads_none g.P.Disk old))
     (c.make_device.ensures.time t) either
 
 pub returns-then-is_silent-clause-refused : goal.returns-then-is_silent-clause-refused
@@ -81,7 +94,7 @@ returns-then-is_silent-clause-refused g c = λ t fault refused.
     refused_unheard g.P.Disk g.met.P.Disk.only_now size (make_line fault) (make_status fault) old
     new
     c.from.result (c.make_device.ensures.touches.quiet.told t) (reads.seen t) (reads.time t)
-    (silent_line fault) (status_not_port fault) (inr (inr memory))
+    (silent_line fault) (λ port. absurd (status_not_port fault port)) (inr (inr memory))
 
 pub returns-clause-refused : goal.returns-clause-refused
 returns-clause-refused g c = λ t fault refused.
@@ -106,7 +119,7 @@ returns-clause-refused g c = λ t fault refused.
     refused_told g.P.Disk g.met.P.Disk.only_now size (make_line fault) (make_status fault) old mid
     new
     c.tell_fault.result (c.make_device.ensures.touches.quiet.told t) (reads.seen t) (reads.crash t)
-    (reads.time t) (silent_line fault) either tells
+    (reads.time t) (silent_line fault) (λ port. cc) either tells
 
 pub returns-in-Ok-clause-changes : goal.returns-in-Ok-clause-changes
 returns-in-Ok-clause-changes g c = λ t.
@@ -151,3 +164,20 @@ returns-clause-unmade g c = λ none.
 
 pub returns-clause-read : goal.returns-clause-read
 returns-clause-read g c = λ bad. unmade_read c.in-Err.fault c.tell_fault.ensures.either bad
+
+pub returns-in-Ok-clause-memory : goal.returns-in-Ok-clause-memory
+returns-in-Ok-clause-memory g c = λ memory.
+    ⊎_elim (λ done. let both = sym done ∙ memory in cc)
+    (λ port. let both = sym port ∙ memory in cc) c.tell_made.ensures.either
+
+pub returns-then-is_silent-clause-memory : goal.returns-then-is_silent-clause-memory
+returns-then-is_silent-clause-memory g c = λ memory.
+    c.in-Err.ensures.untouched (memory_of_none c.in-Err.fault (sym c.from.ensures ∙ memory))
+
+pub returns-clause-memory : goal.returns-clause-memory
+returns-clause-memory g c = λ memory.
+    let loud : is_silent c.in-Err.fault ≡ false =
+    sym c.is_silent.ensures ∙ c.if-is_silent.false in
+    ⊎_elim
+    (λ is. absurd (loud_memory c.in-Err.fault loud (sym is ∙ memory)))
+    (λ port. let both = sym port ∙ memory in cc) c.tell_fault.ensures.either

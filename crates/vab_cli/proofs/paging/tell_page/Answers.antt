@@ -15,6 +15,14 @@ use Rattle.vab_commands.proofs.CopiesLaws.{both_copies, copies_stay}
 use Rattle.vab_cli.proofs.CopiesLeft.{early_unanswered}
 use Rattle.vab_cli.proofs.paging.tell_page.Goals as goal
 
+pub returns-in-Err-clause-tells : goal.returns-in-Err-clause-tells
+returns-in-Err-clause-tells g c = record {
+  item = λ t s stands. inr (inr (c.in-Err.ensures.early t s stands));
+  none = λ t fault none. c.in-Err.ensures.none t fault none;
+  quiet = λ t. c.open.ensures.quiet t;
+  touches = λ t. c.open.ensures.changes t;
+}
+
 pub returns-in-Err-status_page-clause-tells : goal.returns-in-Err-status_page-clause-tells
 returns-in-Err-status_page-clause-tells g c =
     let old = c.args.port.now in

@@ -3,10 +3,11 @@ use Rattle.vab_model.specs.Commands.{SetActive, Boot, Mark, Print, Digest, Cance
 use Rattle.vab_model.specs.Commands.{Merge}
 use Rattle.vab_words.specs.Verbs.{Meaning, Serve, meaning_of}
 use Rattle.vab_words.specs.Verbs as words
+use Rattle.vab_cli.specs.Adopting.{Adopts}
 use Rattle.vab_cli.specs.Causes.{Explains}
 use Rattle.vab_cli.specs.Demo.{DemonstratesOf}
 use Rattle.vab_cli.specs.Verbs.{command_of}
-use Rattle.vab_cli.proofs.CopiesLeft.{opened_copies, fresh_copies, demo_copies, made_copies}
+use Rattle.vab_cli.proofs.CopiesLeft.{opened_copies, fresh_copies, demo_copies, no_copies}
 use Rattle.vab_cli.proofs.Programs.{command_verb, serve_verb, fresh_verb, make_verb, other_verb}
 use Rattle.vab_cli.proofs.program.do_verb.Goals as goal
 
@@ -21,6 +22,7 @@ returns-in-Serve-true-clause-does g c =
     c.make_and_serve.ensures.unmerged
     (fresh_copies g.P.Disk (meaning_of c.args.verb) c.args.port.now c.make_and_serve.new.port
     c.make_and_serve.result is c.make_and_serve.ensures.copies)
+    c.make_and_serve.ensures.writes
 
 pub returns-in-Serve-false-clause-does : goal.returns-in-Serve-false-clause-does
 returns-in-Serve-false-clause-does g c =
@@ -160,7 +162,7 @@ returns-in-Install-clause-does g c =
     c.install.result c.install.ensures.words c.install.ensures.steady c.install.ensures.disk
     c.install.ensures.port words.Install is refl (λ fresh other. cc) (λ limit max other. cc)
     (λ same. c.install.ensures.runs) (λ other. cc)
-    (λ seed scale other. cc)
+    (λ seed scale other. cc) (λ slot other. cc)
     (opened_copies g.P.Disk (meaning_of c.args.verb) c.args.port.now c.install.new.port
     c.install.result words.Install is (λ other. cc)
     (λ seed scale other. cc)
@@ -174,6 +176,7 @@ returns-in-Status-clause-does g c =
     c.tell_page.ensures.disk (λ port. inr (c.tell_page.ensures.port port))
     words.Status is refl (λ fresh other. cc) (λ limit max other. cc)
     (λ other. cc) (λ same. c.tell_page.ensures.tells) (λ seed scale other. cc)
+    (λ slot other. cc)
     (opened_copies g.P.Disk (meaning_of c.args.verb) c.args.port.now c.tell_page.new.port
     c.tell_page.result words.Status is (λ other. cc)
     (λ seed scale other. cc)
@@ -196,8 +199,32 @@ returns-in-Demo-clause-does g c =
     (λ (n : ℕ).
     DemonstratesOf g.P.Disk n c.in-Demo.scale c.args.port.now c.demo.new.port c.demo.result) one
     c.demo.ensures.does))
+    (λ slot other. cc)
     (demo_copies g.P.Disk (meaning_of c.args.verb) c.args.port.now c.demo.new.port c.demo.result
     c.in-Demo.seed c.in-Demo.scale is c.demo.ensures.copies)
+
+pub returns-in-Adopt-clause-does : goal.returns-in-Adopt-clause-does
+returns-in-Adopt-clause-does g c =
+    let is : meaning_of c.args.verb ≡ words.Adopt c.in-Adopt.slot = search rules in
+    let done = c.adopt.ensures in
+    other_verb g.P.Disk (meaning_of c.args.verb) c.args.port.now c.adopt.new.port
+    c.adopt.result done.words done.steady
+    done.disk (λ port. inr (done.port port))
+    (words.Adopt c.in-Adopt.slot) is refl (λ fresh other. cc)
+    (λ limit max other. cc) (λ other. cc) (λ other. cc) (λ seed scale other. cc)
+    (λ slot same.
+    let one : c.in-Adopt.slot ≡ slot = cc in
+    subst
+    (λ (n : ℕ). Adopts g.P.Disk n c.args.port.now c.adopt.new.port c.adopt.result) one
+    (record {
+      adopts = done.adopts;
+      refused = done.refused;
+      touches = done.changes;
+      quiet = done.quiet;
+    }))
+    (no_copies g.P.Disk (meaning_of c.args.verb) c.args.port.now c.adopt.new.port c.adopt.result
+    (words.Adopt c.in-Adopt.slot) is refl (λ fresh other. cc) (λ other. cc) (λ other. cc)
+    (λ seed scale other. cc))
 
 pub returns-in-Boot-clause-explains : goal.returns-in-Boot-clause-explains
 returns-in-Boot-clause-explains g c = λ t.
@@ -290,6 +317,16 @@ returns-in-Make-clause-explains g c = λ t.
     (sym is)
     (c.make.ensures.unmade t, c.make.ensures.no_set t)
 
+pub returns-in-Adopt-clause-explains : goal.returns-in-Adopt-clause-explains
+returns-in-Adopt-clause-explains g c = λ t.
+    let is : meaning_of c.args.verb ≡ words.Adopt c.in-Adopt.slot = search rules in
+    subst
+    (λ (m : Meaning).
+    Explains g.P.Disk c.args.port.now m c.adopt.result
+    c.adopt.new.cause)
+    (sym is)
+    (c.adopt.ensures.unadopted t, c.adopt.ensures.dropped t)
+
 pub returns-in-Serve-true-clause-explains : goal.returns-in-Serve-true-clause-explains
 returns-in-Serve-true-clause-explains g c = λ t.
     let is : meaning_of c.args.verb ≡ Serve true = search rules in
@@ -351,5 +388,6 @@ returns-in-Make-clause-does g c =
     make_verb g.P.Disk (meaning_of c.args.verb) c.args.port.now c.make.new.port c.make.result
     done.words done.steady done.disk done.port c.in-Make.limit c.in-Make.metadata_max is
     done.made done.refused done.malformed done.changes done.end done.heard done.within
-    (made_copies g.P.Disk (meaning_of c.args.verb) c.args.port.now c.make.new.port c.make.result
-    c.in-Make.limit c.in-Make.metadata_max is)
+    (no_copies g.P.Disk (meaning_of c.args.verb) c.args.port.now c.make.new.port c.make.result
+    (words.Make c.in-Make.limit c.in-Make.metadata_max) is refl (λ fresh other. cc) (λ other. cc)
+    (λ other. cc) (λ seed scale other. cc))

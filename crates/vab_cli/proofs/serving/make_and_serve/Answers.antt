@@ -22,9 +22,10 @@ use Rattle.vab_cli.specs.Codes.{start_status}
 use Rattle.vab_cli.specs.Opening.{Opens}
 use Rattle.vab_cli.specs.Runs.{IsEarly, RunsSession}
 use Rattle.vab_cli.proofs.Makings.{memory_of_none, refused_unheard}
-use Rattle.vab_cli.proofs.Running.{contents_of, early_of, is_one, memory_other, not_of_disk_by}
+use Rattle.vab_cli.proofs.Running.{contents_of, early_of, is_one, memory_other, not_of_disk_by, untouched_stays}
 use Rattle.vab_cli.proofs.Sessions.{fresh_enough, fresh_small, made_early, made_small}
 use Rattle.vab_cli.proofs.Sessions.{small_unwritten}
+use Rattle.vab_cli.proofs.Writing.{changes_as, writes_opened}
 use Rattle.vab_cli.proofs.Sessions.{making_failed, opening_failed, made_runs, opens_sized}
 use Rattle.vab_device.specs.declared.device.Device.{Device}
 use Rattle.vab_commands.specs.Touched.{IsOfAll, IsOfCommands}
@@ -55,7 +56,8 @@ returns-in-Err-clause-runs g c = λ t enough.
     subst IsEarly (sym c.from.ensures) (made_early c.in-Err.fault gives) in
     inr (making_failed g.P.Disk g.met.P.Disk.only_now size [] 0 65536 old c.make_device.new.d
     c.from.result early (c.make_device.ensures.touches.quiet.told t)
-    (λ memory. inl (ap g.P.Disk.seen (c.in-Err.ensures.untouched
+    (λ memory. inl (untouched_stays g.P.Disk g.met.P.Disk.only_now size old c.make_device.new.d
+    (c.in-Err.ensures.untouched
     (memory_of_none c.in-Err.fault (sym c.from.ensures ∙ memory)))))
     (subst
     (λ (x : List SetImage).
@@ -79,7 +81,7 @@ returns-in-Err-clause-small g c = λ t small.
     (reads_none g.P.Disk old) in
     refused_unheard g.P.Disk g.met.P.Disk.only_now size [] NotADevice old new c.from.result
     (c.make_device.ensures.touches.quiet.told t) (reads.seen t) (reads.time t) (λ memory. refl)
-    (λ port. cc)
+    (λ port. refl)
     (⊎_elim
     (λ none. inl (c.from.ensures ∙ none, refl))
     (λ memory. inr (inr (c.from.ensures ∙ memory)))
@@ -263,6 +265,9 @@ module _ {D : Type 0} (g : Ghosts D) (set : List SetImage) (old mid new : D)
       making_fresh g [] (g.size old) W old new
       (made_opened g [] (g.size old) old mid new here version making opening)
 
+  made_all : Changes g (InSectors (IsOfMaking [] 65536)) old new
+  made_all = made_opened g [] (g.size old) old mid new here version making opening
+
   serves_made : (t : g.is_modelled) (d : Device) (last : D)
       → Represents d (g.size old) (g.seen new)
       → Changes g (W d (g.seen new 4)) new last
@@ -374,3 +379,41 @@ returns-clause-copies g c = λ t ends.
     (c.serve-answer.ensures.copies t
     (session_held c.serve-answer.result
     (subst IsAnswered c.session_status.ensures (ended_answers _ ends))))
+
+pub returns-in-Err-clause-writes : goal.returns-in-Err-clause-writes
+returns-in-Err-clause-writes g c = λ t.
+    let set : c.from_vec-set.result ≡ [] = search rules in
+    inr (changes_as g.P.Disk _ c.args.port.now c.make_device.new.d t
+    (subst
+    (λ (x : List SetImage).
+    Changes g.P.Disk (InSectors (IsOfMaking x 65536)) c.args.port.now c.make_device.new.d) set
+    (changes_touches g.P.Disk _ c.args.port.now c.make_device.new.d
+    c.make_device.ensures.touches)))
+
+pub returns-in-Err-start-clause-writes : goal.returns-in-Err-start-clause-writes
+returns-in-Err-start-clause-writes g c = λ t.
+    inr (changes_as g.P.Disk _ c.args.port.now c.start.new.d t
+    (made_all g.P.Disk c.from_vec-set.result c.args.port.now c.make_device.new.d c.start.new.d
+    (search rules) c.make_device.ensures.touches.quiet.size (c.in-Ok.ensures.made t)
+    (c.in-Ok.ensures.version t) c.make_device.ensures.touches (c.start.ensures.touches t)
+    IsOfAll))
+
+pub returns-clause-writes : goal.returns-clause-writes
+returns-clause-writes g c = λ t.
+    let size = g.P.Disk.size c.args.port.now in
+    let mid = c.make_device.new.d in
+    let sized : g.P.Disk.size mid ≡ size = c.make_device.ensures.touches.quiet.size in
+    writes_opened g.P.Disk (InSectors (IsOfMaking [] 65536)) size c.in-Ok-start.device
+    c.serve-answer.result c.session_status.result c.args.port.now c.start.new.d
+    c.serve-answer.new.p t
+    (c.start.ensures.quiet.size ∙ sized)
+    (c.start.ensures.quiet.left t ∙ c.make_device.ensures.touches.quiet.left t)
+    (subst
+    (λ (n : ℕ). Represents c.in-Ok-start.device n (g.P.Disk.seen c.start.new.d)) sized
+    (c.in-Ok-start.ensures.represents t))
+    (made_all g.P.Disk c.from_vec-set.result c.args.port.now mid c.start.new.d
+    (search rules) sized (c.in-Ok.ensures.made t)
+    (c.in-Ok.ensures.version t) c.make_device.ensures.touches (c.start.ensures.touches t)
+    IsOfAll)
+    (λ rest. c.in-Ok-start.ensures.settled t (c.in-Ok.ensures.settled t))
+    c.session_status.ensures (c.serve-answer.ensures.writes t)

@@ -99,7 +99,7 @@ returns-in-Err-clause-writes g c = λ t s stands.
 pub returns-clause-writes : goal.returns-clause-writes
 returns-clause-writes g c = λ t s stands.
     let opens = c.in-Ok.ensures.opens t in
-    writes_opened g.P.Disk (g.P.Disk.size c.args.port.now) c.in-Ok.device c.serve-answer.result
+    writes_opened g.P.Disk _ (g.P.Disk.size c.args.port.now) c.in-Ok.device c.serve-answer.result
     c.session_status.result c.args.port.now c.open.new.port c.serve-answer.new.p t
     c.open.ensures.size opens.left (c.in-Ok.ensures.represents t) (c.open.ensures.changes t)
     opens.settled c.session_status.ensures (c.serve-answer.ensures.writes t)

@@ -15,6 +15,7 @@ use Rattle.vab_recover.specs.Opening.{IsOfOpening, HasVersion2, HasNoneCompleted
 use Rattle.vab_recover.specs.Opening.{GoesOn}
 use Rattle.vab_recover.specs.Repairs.{BothCopiesHold}
 use Rattle.vab_recover.proofs.MendLaws.{rests, order_of}
+use Rattle.vab_recover.proofs.ProbeLaws.{opened_means}
 use Rattle.vab_recover.proofs.opening.start.Goals as goal
 
 pub returns-in-Ok-clause-device : goal.returns-in-Ok-clause-device
@@ -25,6 +26,14 @@ returns-in-Ok-clause-device g c = λ t.
     (λ i. device (sym n i) (sym s i))
     ∙ sym (c.in-Ok.ensures.stays.same t)
     ∙ device_stands c.in-Ok.device _ new (c.in-Ok.ensures.stays.represents t)
+
+pub returns-in-Ok-clause-none : goal.returns-in-Ok-clause-none
+returns-in-Ok-clause-none g c = λ t f is.
+    let both = sym (opened_means _ _ _ _ (c.in_ok-device.ensures.opened t)) ∙ is in cc
+
+pub returns-in-Err-clause-none : goal.returns-in-Err-clause-none
+returns-in-Err-clause-none g c = λ t f is.
+    let both = sym (opened_means _ _ _ _ (c.in_ok-device.ensures.opened t)) ∙ is in cc
 
 pub returns-in-Ok-clause-touches : goal.returns-in-Ok-clause-touches
 returns-in-Ok-clause-touches g c = λ t.

@@ -8,6 +8,7 @@ returns c = record {
   make_limit = spelled.make_limit;
   make_metadata_max = spelled.make_metadata_max;
   make_both = spelled.make_both;
+  adopt = spelled.adopt;
   serve = spelled.serve;
   serve_fresh = spelled.serve_fresh;
   install = spelled.install;
