@@ -17,6 +17,7 @@ use Rattle.vab_marks.specs.declared.version.MarkVersion.TheVariants.{Two}
 use Rattle.vab_model.specs.Effects.{IsOneOf}
 use Rattle.vab_model.specs.Commands.{Boot, Mark, Digest, BeginMerge, Merge}
 use Rattle.vab_make.specs.declared.fault.MakeFault.{MakeFault}
+use Rattle.vab_make.specs.declared.fault.MakeFault.TheVariants as make
 use Rattle.vab_make.specs.Made.{made_device_of, refusal_of}
 use Rattle.vab_make.specs.Making.{Gives, IsMade, IsOfDisk, LeavesMaking}
 use Rattle.vab_make.specs.Touched.{IsOfMaking}
@@ -47,10 +48,10 @@ use Rattle.vab_cli.proofs.Courses.{are_same, performs_as}
 use Rattle.vab_cli.proofs.FreshTouching.{made_opened, made_served, making_fresh}
 use Rattle.vab_cli.proofs.Items.{mounted_is}
 use Rattle.vab_cli.proofs.Makings.{early_silent, loud_refusal, memory_of_none, not_of_disk}
-use Rattle.vab_cli.proofs.Makings.{refused_told}
-use Rattle.vab_cli.proofs.Makings.{refused_unheard, silent_line, silent_memory, status_not_port}
-use Rattle.vab_cli.proofs.Sessions.{made_early, making_cuts, making_failed, opening_failed}
-use Rattle.vab_cli.proofs.Sessions.{prepared}
+use Rattle.vab_cli.proofs.Makings.{refused_told, refused_unheard, silent_line, silent_memory}
+use Rattle.vab_cli.proofs.Makings.{small_refused, status_not_port}
+use Rattle.vab_cli.proofs.Sessions.{made_early, made_small, making_cuts, making_failed}
+use Rattle.vab_cli.proofs.Sessions.{opening_failed, prepared}
 use Rattle.vab_cli.proofs.Touching.{served_changes}
 
 -- ---- its acts
@@ -186,6 +187,7 @@ module _ {D : Type 0}
         refused_unheard g only_now size (make_line fault) (make_status fault) old old NoMemory
         refl refl (reads.time t) (silent_line fault)
         (λ port. absurd (status_not_port fault port)) (inr (inr refl));
+    small = λ less. inr (inr refl);
     touches = λ t. changes_none g _ old;
     quiet = λ t. record { left = refl; heard = refl };
   }
@@ -237,6 +239,15 @@ module _ {D : Type 0}
               (λ (x : MakeFault). Tells g (make_line x) (make_status x) mid new status) same
               (tells t))
         ];
+    small = λ less.
+        let by : Gives {A = Unit {0}} (Err f) (Some (make.TooSmall 6152 size)) =
+        subst (λ (said : Option MakeFault). Gives {A = Unit {0}} (Err f) said)
+        (small_refused set 0 65536 size less) gives in
+        ⊎_elim
+        (λ is.
+        ⊎_elim (λ none. inl (is ∙ none)) (λ memory. inr (inr (is ∙ memory)))
+        (made_small f 6152 size by))
+        (λ port. inr (inl port)) either;
     touches = λ t.
         let told = tells t in
         changes_then g _ old mid new (making_made mid makes)
@@ -303,6 +314,8 @@ module _ {D : Type 0}
           → Adds g.moment g.outcomes mid now (LeavesSame (g.told mid) n (g.seen mid)))
           makes.quiet.size (time t)));
       refused = λ t fault is. not_refused fault is;
+      small = λ less.
+          not_refused (make.TooSmall 6152 size) (small_refused set 0 65536 size less);
       touches = λ t.
           making_fresh g set size IsOfAll old now
           (made_opened g set size old mid now (made t) (version t)
@@ -414,6 +427,8 @@ module _ {D : Type 0}
               };
         });
         refused = λ t fault is. not_refused fault is;
+        small = λ less.
+            not_refused (make.TooSmall 6152 size) (small_refused set 0 65536 size less);
         touches = λ t.
             made_served g set size IsOfAll old mid new (made t) (version t)
             (changes_touches g _ old mid makes)

@@ -1,8 +1,9 @@
 -- Making a device as a run of the program.
 use Rattle.std.proofs.Common.{◌≡◌, ◌≢◌, ◌⊎◌, ◌∙◌, inl, inr, ⊎_elim, ◌<◌, ◌≤◌, ◌-◌, arith, true}
 use Rattle.std.proofs.Common.{false, ℕ, List, [], ◌++◌, take, Some, None, Err, refl, sym, ap}
-use Rattle.std.proofs.Common.{subst}
-use Rattle.std.proofs.lemmas.Bool.{cases_eq}
+use Rattle.std.proofs.Common.{subst, Bool, ◌*◌, if◌then◌else◌}
+use Rattle.std.specs.Prelude.{Option, nat_lt}
+use Rattle.std.proofs.lemmas.Bool.{cases_eq, cases_lt, le-ltb}
 use Rattle.std.proofs.lemmas.Bool.Decides.{nat_tests}
 use Rattle.std.proofs.lemmas.List.{append-nil}
 use Rattle.vab_disk.specs.declared.disk.Disk.{Ghosts}
@@ -16,12 +17,14 @@ use Rattle.vab_device.specs.Mounted.{Mounted}
 use Rattle.vab_device.specs.Reading.{device, IsIn}
 use Rattle.vab_make.specs.declared.fault.MakeFault.{MakeFault}
 use Rattle.vab_make.specs.declared.fault.MakeFault.TheVariants as make
-use Rattle.vab_make.specs.Made.{refusal_of, made_device_of}
+use Rattle.vab_tables.specs.Rules.{cap_of}
+use Rattle.vab_make.specs.Made.{is_over, made_device, made_device_of, refusal_of, set_blocks}
+use Rattle.vab_make.specs.Made.{set_text_size}
 use Rattle.vab_make.specs.Making.{Gives, IsOfDisk, LeavesMaking}
 use Rattle.vab_exchanges.specs.Runs.{LeavesItem}
 use Rattle.vab_exchanges.proofs.RunLaws.{telling, within_item}
 use Rattle.vab_cli.specs.declared.status.Status.{Status}
-use Rattle.vab_cli.specs.declared.status.Status.TheVariants.{Done, Disk, Port, NoMemory}
+use Rattle.vab_cli.specs.declared.status.Status.TheVariants.{Done, Disk, NotADevice, Port, NoMemory}
 use Rattle.vab_cli.specs.Codes.{make_status, input_status}
 use Rattle.vab_input.specs.declared.input.InputFault.{InputFault}
 use Rattle.vab_input.specs.declared.input.InputFault.TheVariants as input
@@ -114,7 +117,7 @@ silent_line make.NoMemory is = refl
 silent_line (make.Disk d) is = cc
 
 -- too few sectors are refused
-small_refused : (set : List SetImage) (limit max size : ℕ)
+pub small_refused : (set : List SetImage) (limit max size : ℕ)
     → size < 6152
     → refusal_of set limit max size ≡ Some (make.TooSmall 6152 size)
 unfolding refusal_of
@@ -127,6 +130,65 @@ enough_sectors set limit max size none = elim (cases_eq (6152 - size) 0) [
   | inl enough ↦ omega (arith, enough)
   | inr few ↦ let refused = small_refused set limit max size (omega (arith, few)) in cc
 ]
+
+not_small : (over room full : Bool) (a b c d e f need have : ℕ)
+    → (if over then Some (make.GroupLimit a b)
+    else (if room then Some (make.NoRoom c d)
+    else (if full then Some (make.TableFull e f) else None)))
+    ≡ Some (make.TooSmall need have)
+    → ⊥
+not_small true room full a b c d e f need have is = cc
+not_small false true full a b c d e f need have is = cc
+not_small false false true a b c d e f need have is = cc
+not_small false false false a b c d e f need have is = cc
+
+other_refusal : (set : List SetImage) (limit max size need have : ℕ)
+    → 6152 ≤ size
+    → refusal_of set limit max size ≡ Some (make.TooSmall need have)
+    → ⊥
+unfolding refusal_of
+other_refusal set limit max size need have enough is =
+    let used : ℕ = set_blocks set in
+    let cap : ℕ = cap_of (made_device size) in
+    let text : ℕ = set_text_size set limit size in
+    not_small (is_over set limit) (nat_lt cap used) (nat_lt max text) (4096 * used) limit used cap
+    text max need have
+    (subst
+    (λ (b : Bool).
+    (if b then Some (make.TooSmall 6152 size)
+    else (if is_over set limit then Some (make.GroupLimit (4096 * used) limit)
+    else (if nat_lt cap used then Some (make.NoRoom used cap)
+    else (if nat_lt max text then Some (make.TableFull text max) else None))))
+    ≡ Some (make.TooSmall need have))
+    (le-ltb size 6152 enough) is)
+
+-- no device is there, since there are too few sectors
+small_said : (f : MakeFault) (said : Option MakeFault)
+    → Gives {A = Unit {0}} (Err f) said
+    → make_status f ≡ NotADevice
+    → (need : ℕ) × (have : ℕ) × (said ≡ Some (make.TooSmall need have))
+small_said (make.TooSmall need have) said gives is = (need, have, gives)
+small_said (make.GroupLimit used limit) said gives is = cc
+small_said (make.NoRoom used blocks) said gives is = cc
+small_said (make.TableFull size max) said gives is = cc
+small_said make.NoMemory said gives is = cc
+small_said (make.Disk d) said gives is = cc
+
+too_few : (set : List SetImage) (limit max size need have : ℕ)
+    → refusal_of set limit max size ≡ Some (make.TooSmall need have)
+    → size < 6152
+too_few set limit max size need have is = elim (cases_lt size 6152) [
+  | inl few ↦ few
+  | inr enough ↦ absurd (other_refusal set limit max size need have enough is)
+]
+
+pub small_made : (set : List SetImage) (limit max size : ℕ) (f : MakeFault)
+    → Gives {A = Unit {0}} (Err f) (refusal_of set limit max size)
+    → make_status f ≡ NotADevice
+    → size < 6152
+small_made set limit max size f gives is =
+    let said = small_said f (refusal_of set limit max size) gives is in
+    too_few set limit max size said.0 said.1 said.2
 
 pub status_not_port : (f : MakeFault) → make_status f ≢ Port
 status_not_port (make.TooSmall need have) is = cc
@@ -365,21 +427,22 @@ module _ {D : Type 0}
         → (status ≡ Done) ⊎ (status ≡ Port)
         → Tells g line Done mid new status
         → RunsGiving g size Before Holds first line old new status
-    giving_told Before old mid new status untouched told is holds rest giving either tells = record {
-      status_is = ⊎_elim (λ done. inl done) (λ port. inr (inl (inr port))) either;
-      front = (let front = tells.front in
-          (front.0, front.1 ∙ ap (λ (l : List ℕ). l ++ take front.0 line) told));
-      whole = λ done. tells.whole done ∙ ap (λ (l : List ℕ). l ++ line) told;
-      untold = λ memory. ⊎_elim (λ done. cc) (λ port. cc) either;
-      memory = λ memory. ⊎_elim (λ done. cc) (λ port. cc) either;
-      stands = λ done. ap (device size) tells.seen ∙ is;
-      holds = λ done. subst Holds (sym tells.seen) holds;
-      settled = λ done s b held.
-          rest s b ((let crash = tells.crash in crash.no_more) s b held)
-          ∙ ap (λ (x : Image). x s) (sym tells.seen);
-      time = on;
-      every_cut = λ before. giving_cuts Before old new untouched (on before) before;
-    }
+    giving_told Before old mid new status untouched told is holds rest giving either
+        tells = record {
+          status_is = ⊎_elim (λ done. inl done) (λ port. inr (inl (inr port))) either;
+          front = (let front = tells.front in
+              (front.0, front.1 ∙ ap (λ (l : List ℕ). l ++ take front.0 line) told));
+          whole = λ done. tells.whole done ∙ ap (λ (l : List ℕ). l ++ line) told;
+          untold = λ memory. ⊎_elim (λ done. cc) (λ port. cc) either;
+          memory = λ memory. ⊎_elim (λ done. cc) (λ port. cc) either;
+          stands = λ done. ap (device size) tells.seen ∙ is;
+          holds = λ done. subst Holds (sym tells.seen) holds;
+          settled = λ done s b held.
+              rest s b ((let crash = tells.crash in crash.no_more) s b held)
+              ∙ ap (λ (x : Image). x s) (sym tells.seen);
+          time = on;
+          every_cut = λ before. giving_cuts Before old new untouched (on before) before;
+        }
       where
         on : IsAtRest g old
             → Adds g.moment g.outcomes old new (GivesWithin g size Before first line (g.told old))

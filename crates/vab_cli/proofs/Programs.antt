@@ -269,6 +269,7 @@ module _ {D : Type 0}
     made = λ t limit max is. is_command m (Make limit max) c some is refl;
     refused = λ t limit max is. is_command m (Make limit max) c some is refl;
     malformed = λ t limit max is. is_command m (Make limit max) c some is refl;
+    least = λ limit max is. is_command m (Make limit max) c some is refl;
     touches_made = λ t limit max is. is_command m (Make limit max) c some is refl;
     end = λ t limit max is. is_command m (Make limit max) c some is refl;
     heard = λ t limit max is. is_command m (Make limit max) c some is refl;
@@ -352,6 +353,7 @@ module _ {D : Type 0}
     made = λ t limit max other. let both = sym is ∙ other in cc;
     refused = λ t limit max other. let both = sym is ∙ other in cc;
     malformed = λ t limit max other. let both = sym is ∙ other in cc;
+    least = λ limit max other. let both = sym is ∙ other in cc;
     touches_made = λ t limit max other. let both = sym is ∙ other in cc;
     end = λ t limit max other. let both = sym is ∙ other in cc;
     heard = λ t limit max other. let both = sym is ∙ other in cc;
@@ -419,6 +421,7 @@ module _ {D : Type 0}
     made = λ t limit max other. let both = sym is ∙ other in cc;
     refused = λ t limit max other. let both = sym is ∙ other in cc;
     malformed = λ t limit max other. let both = sym is ∙ other in cc;
+    least = λ limit max other. let both = sym is ∙ other in cc;
     touches_made = λ t limit max other. let both = sym is ∙ other in cc;
     end = λ t limit max other. let both = sym is ∙ other in cc;
     heard = λ t limit max other. let both = sym is ∙ other in cc;
@@ -469,9 +472,10 @@ module _ {D : Type 0}
       → (g.is_modelled → status ≡ Done → g.input_left new ≡ [])
       → (g.is_modelled → HearsUnless (g.input_left old) (g.heard old) (g.heard new) status)
       → (g.is_modelled → HearsWithin (g.heard old) (g.heard new))
+      → (status ≡ NotADevice → g.size old < 6152)
       → LeavesCopies g m old new status
       → DoesVerb g m old new status
-  make_verb limit max is made refused malformed touches end heard within copies = record {
+  make_verb limit max is made refused malformed touches end heard within least copies = record {
     item = λ t c some. no_command m (Make limit max) c is refl some;
     none = λ t c some. no_command m (Make limit max) c is refl some;
     touches = λ t c some. no_command m (Make limit max) c is refl some;
@@ -512,6 +516,7 @@ module _ {D : Type 0}
         refused t set fits spelled fault
         ((λ i. refusal_of set (limits i) (most i) (g.size old)) ∙ refusal);
     malformed = λ t l x same. malformed t;
+    least = λ l x same. least;
     touches_made = λ t l x same set spelled.
         let both : Make limit max ≡ Make l x = sym is ∙ same in
         let most : max ≡ x = cc in
@@ -604,6 +609,7 @@ module _ {D : Type 0}
     made = λ t limit max other. absurd (not_make limit max (sym is ∙ other));
     refused = λ t limit max other. absurd (not_make limit max (sym is ∙ other));
     malformed = λ t limit max other. absurd (not_make limit max (sym is ∙ other));
+    least = λ limit max other. absurd (not_make limit max (sym is ∙ other));
     touches_made = λ t limit max other. absurd (not_make limit max (sym is ∙ other));
     end = λ t limit max other. absurd (not_make limit max (sym is ∙ other));
     heard = λ t limit max other. absurd (not_make limit max (sym is ∙ other));

@@ -1,11 +1,15 @@
--- What a session writes.
+-- What a session and an installation write.
 use Rattle.std.proofs.Common.{◌≡◌, ◌∙◌, inl, inr, ⊎_elim, ◌^◌, ℕ, List, take, drop}
-use Rattle.std.proofs.Common.{sym, ap, subst}
+use Rattle.std.proofs.Common.{Result, sym, ap, subst}
 use Rattle.std.specs.Prelude.{IsErrOf}
 use Rattle.vab_disk.specs.declared.disk.Disk.{Ghosts}
 use Rattle.vab_disk.specs.Disk.{Image}
 use Rattle.vab_disk.specs.Calls.{Changes, IsAtRest}
+use Rattle.vab_disk.specs.Disk.{Adds}
+use Rattle.vab_disk.specs.Port.{LeavesSaying}
+use Rattle.vab_disk.specs.Written.{same_image}
 use Rattle.vab_disk.proofs.Moments.{adds_on, adds_wider}
+use Rattle.vab_set.specs.declared.set.SetImage.{SetImage}
 use Rattle.vab_device.specs.declared.device.Device.{Device}
 use Rattle.vab_device.specs.Mounted.{mounted_on}
 use Rattle.vab_device.specs.Reading.{Represents}
@@ -13,10 +17,15 @@ use Rattle.vab_session.specs.Served.{Answer, nothing_staged}
 use Rattle.vab_session.specs.declared.fault.SessionFault.TheVariants as session
 use Rattle.vab_session.specs.Written.{WrittenInTurn, WritesAs, WritesInTurn}
 use Rattle.vab_session.proofs.WrittenLaws.{written_wider}
+use Rattle.vab_update.specs.declared.stop.Stop.{Stop}
+use Rattle.vab_update.specs.Install.{install_orders}
+use Rattle.vab_update.specs.Orders.{Order}
+use Rattle.vab_update.specs.Written.{HasFailed, OrdersWritten, WritesOrders}
+use Rattle.vab_update.proofs.WrittenLaws.{written_wider as orders_wider}
 use Rattle.vab_cli.specs.declared.status.Status.{Status}
 use Rattle.vab_cli.specs.declared.status.Status.TheVariants.{Disk}
 use Rattle.vab_cli.specs.Codes.{session_status}
-use Rattle.vab_cli.specs.Written.{WritesServed}
+use Rattle.vab_cli.specs.Written.{WritesInOrder, WritesInstall, WritesServed}
 
 -- what is changed, where nothing was pending
 pub changes_as : {D : Type 0} (g : Ghosts D) (W : ℕ → List ℕ → Type 0) (old new : D)
@@ -76,4 +85,77 @@ writes_opened g W size d r status old mid new t sized left represents opens rest
           (adds_wider g.moment g.outcomes old mid _ _ (first.time rest) (λ o same. inl same))
           (wrote.time (rests rest))
           (λ o w. inr (wide o.image w));
+    })
+
+-- ---- an installation
+
+module _ {D : Type 0} (g : Ghosts D) (F : Type 0) (d : Device) (orders : List Order) where
+  -- nothing is told behind it
+  pub orders_alone : (old new : D) (r : Result Device Stop)
+      → (HasFailed r → F)
+      → WritesOrders g d orders old new r
+      → WritesInOrder g F d orders old new
+  orders_alone old new r wide is = record {
+    seen = wider (g.seen new) is.seen;
+    time = λ rest.
+        adds_wider g.moment g.outcomes old new _ _ (is.time rest) (λ o w. wider o.image w);
+  }
+    where
+      wider : (image : Image)
+          → OrdersWritten g.is_modelled (HasFailed r) (g.size old) d (g.seen old) orders image
+          → OrdersWritten g.is_modelled F (g.size old) d (g.seen old) orders image
+      wider image =
+          orders_wider g.is_modelled (g.size old) (HasFailed r) F d (g.seen old) orders image wide
+
+  -- a line is told behind it
+  pub orders_told : (old mid new : D) (text : List ℕ)
+      → WritesInOrder g F d orders old mid
+      → (IsAtRest g old → IsAtRest g mid)
+      → g.seen new ≡ g.seen mid
+      → Adds g.moment g.outcomes mid new (LeavesSaying (g.told mid) text (g.may_leave mid))
+      → WritesInOrder g F d orders old new
+  orders_told old mid new text first rests same time = record {
+    seen = subst Written (sym same) first.seen;
+    time = λ rest.
+        adds_on g.moment g.outcomes old mid new _ _ (first.time rest) time
+        (λ o leaves.
+        subst Written
+        (sym (same_image o.image (g.seen mid)
+        (λ s. rests rest s (o.image s) (leaves.each_sector s))))
+        first.seen);
+  }
+    where
+      Written : Image → Type 0
+      Written image = OrdersWritten g.is_modelled F (g.size old) d (g.seen old) orders image
+
+pub writes_installed : {D : Type 0} (g : Ghosts D) (W : ℕ → List ℕ → Type 0) (F G : Type 0)
+    (size : ℕ) (d : Device) (set : List SetImage) (old mid new : D)
+    → g.is_modelled
+    → g.size mid ≡ size
+    → Represents d size (g.seen mid)
+    → Changes g W old mid
+    → (IsAtRest g old → IsAtRest g mid)
+    → (F → G)
+    → WritesInOrder g F d (install_orders d.control.current set) mid new
+    → WritesInstall g W G size set old new
+writes_installed g W F G size d set old mid new t sized represents opens rests wide wrote =
+    let orders : List Order = install_orders d.control.current set in
+    let first = changes_as g W old mid t opens in
+    let wider : (image : Image)
+    → OrdersWritten g.is_modelled F (g.size mid) d (g.seen mid) orders image
+    → OrdersWritten g.is_modelled G size d (g.seen mid) orders image =
+    λ image w.
+    orders_wider g.is_modelled size F G d (g.seen mid) orders image wide
+    (subst (λ (n : ℕ). OrdersWritten g.is_modelled F n d (g.seen mid) orders image) sized w) in
+    inl (record {
+      device = d;
+      opened = g.seen mid;
+      opens = first.seen;
+      represents = represents;
+      seen = wider (g.seen new) wrote.seen;
+      time = λ rest.
+          adds_on g.moment g.outcomes old mid new _ _
+          (adds_wider g.moment g.outcomes old mid _ _ (first.time rest) (λ o same. inl same))
+          (wrote.time (rests rest))
+          (λ o w. inr (wider o.image w));
     })

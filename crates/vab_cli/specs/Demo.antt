@@ -1,5 +1,6 @@
 -- The verb `demo`: the whole life of a device whose images are drawn from a number.
-use Rattle.std.specs.Prelude.{◌≡◌, ◌⊎◌, ℕ, ◌+◌, ◌/◌, List, [], ◌∷◌, ◌++◌, map, codes, replicate}
+use Rattle.std.specs.Prelude.{◌≡◌, ◌⊎◌, ◌<◌, ℕ, ◌+◌, ◌/◌, List, [], ◌∷◌, ◌++◌, map, codes}
+use Rattle.std.specs.Prelude.{replicate}
 use Rattle.std.specs.Prelude.{Some, None}
 use Rattle.vab_disk.specs.declared.disk.Disk.{Ghosts}
 use Rattle.vab_disk.specs.Calls.{Changes}
@@ -12,6 +13,7 @@ use Rattle.vab_model.specs.Commands.{Boot, Mark, Digest, BeginMerge, Merge}
 use Rattle.vab_commands.specs.Touched.{IsOfAll}
 use Rattle.vab_update.specs.Install.{target_name}
 use Rattle.vab_cli.specs.declared.status.Status.{Status}
+use Rattle.vab_cli.specs.declared.status.Status.TheVariants.{NotADevice, Port, NoMemory}
 use Rattle.vab_cli.specs.Acts.{Act, Course, RunsActs, command_act, course, install_act, line_act}
 use Rattle.vab_cli.specs.Codes.{make_status}
 use Rattle.vab_cli.specs.Counts.{HearsNothing}
@@ -55,6 +57,10 @@ life_of set next size =
     let made = made_device_of set 0 65536 size in
     course (life (done_making set size) next (left_behind made next)) made
 
+-- where there are too few sectors for a device
+abbrev pub EndsSmall : Status → Type 0
+EndsSmall status = (status ≡ NotADevice) ⊎ ((status ≡ Port) ⊎ (status ≡ NoMemory))
+
 module _ {D : Type 0} (g : Ghosts D) (set next : List SetImage) (old new : D) (status : Status)
   where
     pub record Demonstrates : Type 0 where
@@ -73,6 +79,8 @@ module _ {D : Type 0} (g : Ghosts D) (set next : List SetImage) (old new : D) (s
           → (fault : MakeFault)
           → refusal_of set 0 65536 (g.size old) ≡ Some fault
           → RunsRefused g (g.size old) (make_line fault) (make_status fault) old new status
+      -- On too few sectors it ends so, over any port.
+      pub small : g.size old < 6152 → EndsSmall status
       -- It writes what making does, and what commands on that device may.
       pub touches : g.is_modelled → Changes g (IsOfMade set IsOfAll (g.size old)) old new
       -- It hears nothing.

@@ -12,19 +12,21 @@ use Rattle.vab_model.specs.Effects.{steps_of, after_of}
 use Rattle.vab_device.specs.declared.fault.StartFault.{StartFault}
 use Rattle.vab_device.specs.Mounted.{Mounted}
 use Rattle.vab_device.specs.Reading.{device, IsIn}
+use Rattle.vab_recover.specs.Opening.{IsOfOpening}
 use Rattle.vab_commands.specs.Touched.{IsOfCommands}
 use Rattle.vab_update.specs.Install.{install_effect}
 use Rattle.vab_exchanges.specs.Items.{Item}
 use Rattle.vab_session.specs.Responses.{left_of}
 use Rattle.vab_session.specs.Served.{nothing_staged}
 use Rattle.vab_cli.specs.declared.status.Status.{Status}
-use Rattle.vab_cli.specs.declared.status.Status.TheVariants.{Done, Malformed}
+use Rattle.vab_cli.specs.declared.status.Status.TheVariants.{Done, Malformed, Disk}
 use Rattle.vab_input.specs.HearsToEnd.{HearsWithin}
 use Rattle.vab_cli.specs.Codes.{reply_status}
 use Rattle.vab_cli.specs.Counts.{HearsNothing, HearsUnless}
 use Rattle.vab_cli.specs.Runs.{Held, RunsItem, RunsShort, RunsNone, FailsBefore}
 use Rattle.vab_cli.specs.Touched.{IsOfServing}
 use Rattle.vab_cli.specs.Verbs.{line, line_item, none_line, refused_line}
+use Rattle.vab_cli.specs.Written.{WritesInstall}
 
 -- so many images are installed, and so many blocks left to merge
 abbrev pub installed_line : (images left : ℕ) → List ℕ
@@ -110,5 +112,14 @@ module _ {D : Type 0} (g : Ghosts D) (old new : D) (status : Status) where
         → (s : Mounted)
         → IsIn (g.size old) s (g.seen old)
         → Changes g (IsOfServing IsOfCommands (g.size old) (g.seen old)) old new
+    -- What it writes is what opening may, and then what its commands write in turn: one that
+    -- changes the device what it writes there, and each other nothing, unless the disk failed.
+    pub writes : g.is_modelled
+        → (set : List SetImage)
+        → set_of (g.input_left old) ≡ Ok set
+        → (s : Mounted)
+        → IsIn (g.size old) s (g.seen old)
+        → WritesInstall g (IsOfOpening (g.size old) (g.seen old)) (status ≡ Disk) (g.size old) set
+        old new
     -- Where it is done the input was heard to its end.
     pub end : g.is_modelled → status ≡ Done → g.input_left new ≡ []

@@ -234,6 +234,8 @@ pub record DoesVerb {D : Type 0}
       → (2 ^ 32 < length (g.input_left old))
       ⊎ ((fault : SetFault) × (set_of (g.input_left old) ≡ Err fault))
       → RunsRefused g (g.size old) [] Malformed old new status
+  -- It ends with status 5 on fewer than 6152 sectors alone, over any port.
+  pub least : (limit max : ℕ) → m ≡ Make limit max → status ≡ NotADevice → g.size old < 6152
   pub touches_made : g.is_modelled
       → (limit max : ℕ)
       → m ≡ Make limit max

@@ -1,9 +1,11 @@
--- What a session writes, over the device of the disk or over one that is made first.
+-- What a session writes, over the device of the disk or over one that is made first, and what an
+-- installation writes.
 use Rattle.std.specs.Prelude.{◌≡◌, ◌⊎◌, ◌++◌, ℕ, List, Option}
 use Rattle.std.specs.List.{flat_map}
 use Rattle.vab_disk.specs.declared.disk.Disk.{Ghosts}
 use Rattle.vab_disk.specs.Disk.{Image, Adds}
 use Rattle.vab_disk.specs.Calls.{IsAtRest, SameBut}
+use Rattle.vab_set.specs.declared.set.SetImage.{SetImage}
 use Rattle.vab_device.specs.declared.device.Device.{Device}
 use Rattle.vab_device.specs.Mounted.{mounted_on}
 use Rattle.vab_device.specs.Reading.{Represents}
@@ -11,6 +13,9 @@ use Rattle.vab_exchanges.specs.Session.{Exchange, spelled}
 use Rattle.vab_session.specs.Merges.{AreExchanges}
 use Rattle.vab_session.specs.Served.{nothing_staged}
 use Rattle.vab_session.specs.Written.{WrittenInTurn, WritesAs, spelled_one}
+use Rattle.vab_update.specs.Install.{install_orders}
+use Rattle.vab_update.specs.Orders.{Order}
+use Rattle.vab_update.specs.Written.{OrdersWritten}
 
 -- The device is opened, or made and opened, with what that may write; and from there the packets of
 -- the input write in turn: one that changes the device what its command writes there, and each
@@ -50,3 +55,51 @@ abbrev pub WritesServed : {D : Type 0}
     → Type 0
 WritesServed g W Failed size bytes old new =
     WritesOpened g W Failed size bytes old new ⊎ WritesAs g W old new
+
+-- ---- an installation
+
+-- Commands write in turn, from a device that is kept: each one that changes it what it writes on
+-- the device that it comes to, and each other nothing.
+pub record WritesInOrder {D : Type 0}
+    (g : Ghosts D)
+    (Failed : Type 0)
+    (d : Device)
+    (orders : List Order)
+    (old new : D) : Type 0 where
+  pub seen : OrdersWritten g.is_modelled Failed (g.size old) d (g.seen old) orders (g.seen new)
+  pub time : IsAtRest g old
+      → Adds g.moment g.outcomes old new
+      (λ o. OrdersWritten g.is_modelled Failed (g.size old) d (g.seen old) orders o.image)
+
+-- The device is opened, with what that may write; and from there the commands that install a set
+-- write in turn. Each outcome is written so, where nothing was pending.
+pub record WritesInstalled {D : Type 0}
+    (g : Ghosts D)
+    (W : ℕ → List ℕ → Type 0)
+    (Failed : Type 0)
+    (size : ℕ)
+    (set : List SetImage)
+    (old new : D) : Type 0 where
+  pub device : Device
+  pub opened : Image
+  pub opens : SameBut W (g.seen old) opened
+  pub represents : Represents device size opened
+  pub seen : OrdersWritten g.is_modelled Failed size device opened
+      (install_orders device.control.current set) (g.seen new)
+  pub time : IsAtRest g old
+      → Adds g.moment g.outcomes old new
+      (λ o. SameBut W (g.seen old) o.image
+      ⊎ OrdersWritten g.is_modelled Failed size device opened
+      (install_orders device.control.current set) o.image)
+
+-- or it isn't opened, or the input isn't had, and no more than that is written
+abbrev pub WritesInstall : {D : Type 0}
+    → Ghosts D
+    → (W : ℕ → List ℕ → Type 0)
+    → (Failed : Type 0)
+    → ℕ
+    → List SetImage
+    → (old new : D)
+    → Type 0
+WritesInstall g W Failed size set old new =
+    WritesInstalled g W Failed size set old new ⊎ WritesAs g W old new

@@ -12,6 +12,8 @@ ghost use Rattle.vab_commands.specs.Copies.{HasBothCopies};
 ghost use Rattle.vab_cli.specs.Copies.{IsAnswered};
 ghost use Rattle.vab_cli.specs.Counts.{IsSteady};
 ghost use Rattle.vab_cli.specs.Installing.{Installs, left_behind};
+ghost use Rattle.vab_cli.specs.Written.{WritesInOrder};
+ghost use Rattle.vab_update.specs.Install.{install_orders};
 
 use crate::Status;
 use crate::acts::ended;
@@ -46,6 +48,10 @@ pub(crate) fn install_set<P: Port>(
     ensures performs { PerformsActs P.Disk device (install_act set.now ∷ [])
         port.old port.new result }
     ensures changes { P.is_modelled → ChangesDevice P.Disk device port.old port.new }
+    // Its commands write in turn.
+    ensures writes { P.is_modelled
+        → WritesInOrder P.Disk (IsErrOf result Status.Disk) device
+        (install_orders device.control.current set.now) port.old port.new }
     // So many blocks are left to merge.
     ensures left { P.is_modelled
         → (s : Mounted)

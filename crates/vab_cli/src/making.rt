@@ -161,6 +161,7 @@ fn make_of<P: Port>(
     ensures read { result ≢ Status.Malformed }
     // Where memory is refused nothing is done.
     ensures memory { result ≡ Status.NoMemory → port.new ≡ port.old }
+    ensures small { result ≡ Status.NotADevice → P.size port.old < 6152 }
 {
     let fault = match make_device(alloc, port, set, limit, max) {
         Ok(()) => return tell_made(port, set),
@@ -222,6 +223,8 @@ pub(crate) fn make<P: Port>(
     ensures port { result ≡ Status.Port
         → Rose (P.faults port.old).source (P.faults port.new).source
         ⊎ Rose (P.faults port.old).sink (P.faults port.new).sink }
+    // On fewer sectors alone there is no device.
+    ensures small { result ≡ Status.NotADevice → P.size port.old < 6152 }
     // Where none is made of a set, the cause is the first refusal.
     ensures unmade { P.is_modelled
         → (result ≡ Status.NotADevice) ⊎ (result ≡ Status.Refused)

@@ -70,9 +70,8 @@ fn adopted_over(alloc: Global, mark: UpdateMark) -> Result<Adopted, Fail> {
             .ok()
             .ok_or("a sector is written")?;
     }
-    adopt_device(alloc, &mut d, 0)
-        .ok()
-        .ok_or("a disk is adopted")
+    let adopted = adopt_device(alloc, &mut d, 0);
+    Ok(adopted.ok().ok_or("a disk is adopted")?)
 }
 
 #[test]

@@ -1,6 +1,6 @@
 -- What the commands that install a set leave where all are done.
 use Rattle.std.proofs.Common.{◌≡◌, ◌∙◌, inl, inr, ℕ, zero, suc, ◌+◌, ◌<◌, ◌≤◌, List, [], ◌∷◌, ◌++◌}
-use Rattle.std.proofs.Common.{length, get_or, take, drop, refl, sym, ap, subst, arith, append-nil}
+use Rattle.std.proofs.Common.{length, get_or, take, drop, refl, sym, ap, arith, append-nil}
 use Rattle.std.proofs.Common.{append_assoc, add-one, take_all}
 use Rattle.std.proofs.lemmas.List.{take-append-drop}
 use Rattle.std.specs.Prelude.{Bool, true, false, Option, Some, None, is_some}

@@ -1,3 +1,4 @@
 pub mod CarriesLaws
 pub mod InstallLaws
 pub mod OrderLaws
+pub mod WrittenLaws

@@ -1,10 +1,8 @@
 -- Effects of commands that follow one another.
 use Rattle.std.proofs.Common.{◌≡◌, ◌∙◌, inl, inr, List, [], ◌∷◌, ◌++◌, refl, sym, ap, subst}
 use Rattle.std.proofs.Common.{append_assoc}
-use Rattle.std.proofs.Common.{append-nil}
-use Rattle.std.specs.Prelude.{Bool, true, false, if◌then◌else◌}
+use Rattle.std.specs.Prelude.{true, false}
 use Rattle.std.proofs.lemmas.Bool.{cases_Bool}
-use Rattle.vab_model.specs.declared.command.Reply.{Reply}
 use Rattle.vab_model.specs.declared.command.Reply.TheVariants as replies
 use Rattle.vab_model.specs.Effects.{Effect, answers, last_of, steps_of, after_of, IsOneOf}
 use Rattle.vab_device.specs.Mounted.{Mounted}

@@ -1,3 +1,4 @@
 pub mod Carries
 pub mod Install
 pub mod Orders
+pub mod Written

@@ -5,7 +5,7 @@ ghost use Rattle.vab_model.specs.Kinds.{is_of_merge};
 ghost use Rattle.vab_device.specs.Kept.{IsDevice};
 ghost use Rattle.vab_device.specs.Mounted.{mounted_on};
 ghost use Rattle.vab_device.specs.Reading.{Represents};
-ghost use Rattle.vab_update.specs.Carries.{CarriesOut};
+ghost use Rattle.vab_update.specs.Written.{CarriesOrders};
 ghost use Rattle.vab_update.specs.Orders.{Order, is_refused};
 
 use crate::Stop;
@@ -45,7 +45,7 @@ pub(crate) fn carry_out<D: Disk>(
     ensures { (order : Order)
         → order.command (mounted_on device (D.seen d.old)) ≡ command_of command.now
         → order.staged ≡ option_map (λ s. s.now) staged.entry
-        → CarriesOut D.Disk device (order ∷ []) d.old d.new result }
+        → CarriesOrders D.Disk device (order ∷ []) d.old d.new result }
 {
     match run_one(alloc, d, device, command, staged) {
         Err(fault) => Err(Stop::Disk(fault)),

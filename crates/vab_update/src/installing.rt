@@ -8,7 +8,7 @@ ghost use Rattle.vab_model.specs.Commands.{command_of};
 ghost use Rattle.vab_device.specs.Mounted.{mounted_on, state_on};
 ghost use Rattle.vab_fbvars.specs.Variables.{has_image};
 ghost use Rattle.vab_device.specs.Reading.{Represents};
-ghost use Rattle.vab_update.specs.Carries.{CarriesOut};
+ghost use Rattle.vab_update.specs.Written.{CarriesOrders};
 ghost use Rattle.vab_update.specs.Install.{image_orders, install_orders};
 ghost use Rattle.vab_update.specs.Install.{size_command, target_name};
 
@@ -58,7 +58,7 @@ fn install_image<D: Disk>(
     requires image { IsImage image.now }
     requires kept { IsDevice device (D.size d.old) }
     requires represents { D.is_modelled → Represents device (D.size d.old) (D.seen d.old) }
-    ensures { CarriesOut D.Disk device (image_orders source image.now) d.old d.new result }
+    ensures { CarriesOrders D.Disk device (image_orders source image.now) d.old d.new result }
 {
     let full = full_name(&image.name, 1 - source);
     let name = full.text();
@@ -74,7 +74,8 @@ fn install_image<D: Disk>(
 /// makes that slot the next one to boot. It stops at the first command that is refused; those
 /// before it are done. Where that was one of an image, `at` is the image's name, and else none.
 /// Where the device that is kept is that of the disk and nothing was pending, each outcome since is
-/// a step of one of the commands.
+/// a step of one of the commands; and each command writes what it writes on the device that it came
+/// to, and nothing where it is refused, unless the disk fails.
 pub fn install<D: Disk>(
     alloc: Global,
     d: &mut D,
@@ -85,7 +86,7 @@ pub fn install<D: Disk>(
     requires set { IsSet set.now }
     requires kept { IsDevice device (D.size d.old) }
     requires represents { D.is_modelled → Represents device (D.size d.old) (D.seen d.old) }
-    ensures { CarriesOut D.Disk device (install_orders device.control.current set.now)
+    ensures { CarriesOrders D.Disk device (install_orders device.control.current set.now)
         d.old d.new result }
 {
     let source = device.current();

@@ -17,7 +17,8 @@ use Rattle.clap.specs.Takes.{flags_pass, step_passes, turn_passes, walk_passes}
 use Rattle.clap.proofs.OnLiterals.{clap_on_literals}
 use Rattle.vab_words.specs.Command.{found_in, is_taken, vab_app}
 use Rattle.vab_words.specs.Values.{blocks_of, limit_of, metadata_max_of, slot_of, seed_of, scale_of}
-use Rattle.vab_words.specs.Verbs.{Activate, Adopt, Demo, Digest, Make, Meaning, Merge, Print, demo_of}
+use Rattle.vab_words.specs.Verbs.{Activate, Adopt, Demo, Digest, Make, Meaning, Merge, Print}
+use Rattle.vab_words.specs.Verbs.{demo_of}
 use Rattle.vab_words.specs.Verbs.{make_of, verb_in}
 use Rattle.vab_words.specs.Verbs.{verb_of}
 use Rattle.vab_words.specs.Spelled.{is_verb_name, name_of, verb_names}

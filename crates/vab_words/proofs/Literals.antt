@@ -10,7 +10,8 @@ use Rattle.clap.proofs.OnLiterals.{clap_on_literals}
 use Rattle.vab_words.specs.Command.{found_in, is_taken, vab_app}
 use Rattle.vab_words.specs.Values.{blocks_of, is_number, limit_of, metadata_max_of}
 use Rattle.vab_words.specs.Values.{number_up_to, slot_of}
-use Rattle.vab_words.specs.Verbs.{Activate, Adopt, BeginMerge, Boot, Cancel, Digest, Install, Make, Mark}
+use Rattle.vab_words.specs.Verbs.{Activate, Adopt, BeginMerge, Boot, Cancel, Digest, Install}
+use Rattle.vab_words.specs.Verbs.{Make, Mark}
 use Rattle.vab_words.specs.Verbs.{Merge, Print, Serve, Status, demo_of, is_set, make_of}
 use Rattle.vab_words.specs.Verbs.{verb_in, verb_of}
 use Rattle.vab_words.specs.Spelled.{AsksBy, IsPlain, MakesBy}

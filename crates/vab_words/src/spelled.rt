@@ -3,7 +3,8 @@ ghost use Rattle.std.specs.Prelude.{◌≡◌, true, false, List, ℕ, [], ◌�
 ghost use Rattle.std.specs.Prelude.{option_map};
 ghost use Rattle.vab_words.specs.Spelled.{AsksBy, IsPlain, MakesBy, is_verb_name, name_of};
 ghost use Rattle.vab_words.specs.Values.{blocks_of, slot_of};
-ghost use Rattle.vab_words.specs.Verbs.{Activate, Adopt, BeginMerge, Boot, Cancel, Digest, Install, Make};
+ghost use Rattle.vab_words.specs.Verbs.{Activate, Adopt, BeginMerge, Boot, Cancel, Digest, Install};
+ghost use Rattle.vab_words.specs.Verbs.{Make};
 ghost use Rattle.vab_words.specs.Verbs.{Mark, Merge, Print, Serve, Status, demo_of, make_of};
 ghost use Rattle.vab_words.specs.Verbs.{verb_of};
 

@@ -14,7 +14,8 @@ returns-in-AlreadyDevice-clause-tells g c = λ t loud.
     Tells g.P.Disk (adopt_line c.args.fault) x c.args.port.now c.tell.new.port c.tell.result)
     c.from-status.ensures
     (subst
-    (λ (l : List ℕ). Tells g.P.Disk l c.from-status.result c.args.port.now c.tell.new.port c.tell.result)
+    (λ (l : List ℕ).
+    Tells g.P.Disk l c.from-status.result c.args.port.now c.tell.new.port c.tell.result)
     (ap adopt_line (sym is)) (c.tell.ensures.tells t))
 
 pub returns-in-NoDevice-clause-tells : goal.returns-in-NoDevice-clause-tells
@@ -26,5 +27,6 @@ returns-in-NoDevice-clause-tells g c = λ t loud.
     Tells g.P.Disk (adopt_line c.args.fault) x c.args.port.now told.new.port told.result)
     c.from-status.ensures
     (subst
-    (λ (l : List ℕ). Tells g.P.Disk l c.from-status.result c.args.port.now told.new.port told.result)
+    (λ (l : List ℕ).
+    Tells g.P.Disk l c.from-status.result c.args.port.now told.new.port told.result)
     (none_told c.args.fault c.in-NoDevice.field-0 is loud) (told.ensures.tells t))

@@ -11,6 +11,7 @@ use Rattle.vab_device.specs.Reading.{Represents}
 use Rattle.vab_recover.specs.Opening.{IsOfOpening}
 use Rattle.vab_commands.specs.Touched.{IsOfCommands}
 use Rattle.vab_cli.specs.declared.status.Status.{Status}
+use Rattle.vab_cli.specs.declared.status.Status.TheVariants.{Disk}
 use Rattle.vab_cli.specs.Acts.{install_act, status_in}
 use Rattle.vab_update.specs.Install.{install_effect}
 use Rattle.vab_cli.specs.Installing.{RunsOrFails, install_item, install_status}
@@ -37,6 +38,8 @@ use Rattle.vab_cli.proofs.Causing.{set_opened, set_read, set_unrefused, unopened
 use Rattle.vab_cli.proofs.Causing.{unopened_unrefused}
 use Rattle.vab_commands.proofs.CopiesLaws.{both_copies, copies_stay}
 use Rattle.vab_cli.proofs.CopiesLeft.{early_unanswered, performed_copies}
+use Rattle.vab_cli.specs.Written.{WritesInstall}
+use Rattle.vab_cli.proofs.Writing.{changes_as, writes_installed}
 use Rattle.vab_cli.proofs.installing.install.Goals as goal
 
 pub returns-in-Err-clause-runs : goal.returns-in-Err-clause-runs
@@ -59,6 +62,9 @@ returns-in-Err-clause-runs g c =
           changes_wider g.P.Disk (IsOfServing IsOfCommands size (g.P.Disk.seen old))
           (IsOfOpening size (g.P.Disk.seen old)) old mid (c.open.ensures.changes t)
           (λ n x w. inl w);
+      writes = λ t set is s stands.
+          inr (changes_as g.P.Disk (IsOfOpening size (g.P.Disk.seen old)) old mid t
+          (c.open.ensures.changes t));
       end = λ t done.
           absurd
           (opening_undone g.P.Disk none_line old mid c.in-Err.status (c.in-Err.ensures.early t)
@@ -112,6 +118,12 @@ returns-in-Err-hear_all-clause-runs g c =
           (λ n x w. inl w))
           (changes_hearing g.P.Disk _ mid now c.hear_all.ensures.size c.hear_all.ensures.seen
           c.hear_all.ensures.crash c.hear_all.ensures.time);
+      writes = λ t set is s stands.
+          inr (changes_as g.P.Disk (IsOfOpening size (g.P.Disk.seen old)) old now t
+          (changes_then g.P.Disk (IsOfOpening size (g.P.Disk.seen old)) old mid now
+          (c.open.ensures.changes t)
+          (changes_hearing g.P.Disk _ mid now c.hear_all.ensures.size c.hear_all.ensures.seen
+          c.hear_all.ensures.crash c.hear_all.ensures.time)));
       end = λ t done. absurd (input_undone fault (sym c.from.ensures ∙ done));
     }
 
@@ -166,6 +178,12 @@ returns-in-Err-read_set-clause-runs g c =
           (λ n x w. inl w))
           (changes_hearing g.P.Disk _ mid now c.hear_all.ensures.size c.hear_all.ensures.seen
           c.hear_all.ensures.crash c.hear_all.ensures.time);
+      writes = λ t set is s stands.
+          inr (changes_as g.P.Disk (IsOfOpening size (g.P.Disk.seen old)) old now t
+          (changes_then g.P.Disk (IsOfOpening size (g.P.Disk.seen old)) old mid now
+          (c.open.ensures.changes t)
+          (changes_hearing g.P.Disk _ mid now c.hear_all.ensures.size c.hear_all.ensures.seen
+          c.hear_all.ensures.crash c.hear_all.ensures.time)));
       end = λ t done. absurd (set_undone fault (sym c.from-in-Err-read_set.ensures ∙ done));
     }
 
@@ -248,6 +266,22 @@ returns-clause-runs g c =
           (changes_hearing g.P.Disk _ mid now c.hear_all.ensures.size c.hear_all.ensures.seen
           c.hear_all.ensures.crash c.hear_all.ensures.time))
           (c.install_set.ensures.changes t);
+      writes = λ t set is s stands.
+          let found : read ≡ set =
+          same_set _ _ set read (text t) c.in-Ok-read_set.ensures.exact is in
+          subst
+          (λ (x : List SetImage).
+          WritesInstall g.P.Disk (IsOfOpening size (g.P.Disk.seen old)) (status ≡ Disk) size x old
+          new)
+          found
+          (writes_installed g.P.Disk (IsOfOpening size (g.P.Disk.seen old)) _ (status ≡ Disk) size
+          c.in-Ok.device read old now new t sized (represents t)
+          (changes_then g.P.Disk (IsOfOpening size (g.P.Disk.seen old)) old mid now
+          (c.open.ensures.changes t)
+          (changes_hearing g.P.Disk _ mid now c.hear_all.ensures.size c.hear_all.ensures.seen
+          c.hear_all.ensures.crash c.hear_all.ensures.time))
+          (same t).settled (λ failed. c.ended.ensures ∙ ap status_in failed)
+          (c.install_set.ensures.writes t));
       end = λ t done.
           (let quiet = p.quiet t in quiet.left) ∙ c.in-Ok-hear_all.ensures.end t;
     }

@@ -18,6 +18,15 @@ use Rattle.vab_cli.proofs.InstallActs.{install_failed, install_refused_broken, i
 use Rattle.vab_cli.proofs.Installs.{done_told, left_is, refused_told}
 use Rattle.vab_cli.proofs.Items.{says_err, says_ok}
 use Rattle.vab_cli.proofs.Installs.{refused_reply}
+use Rattle.std.proofs.Common.{Result}
+use Rattle.vab_disk.specs.declared.disk.Disk.{Ghosts}
+use Rattle.vab_disk.specs.Calls.{IsAtRest}
+use Rattle.vab_set.specs.declared.set.SetImage.{SetImage}
+use Rattle.vab_device.specs.declared.device.Device.{Device}
+use Rattle.vab_update.specs.Install.{install_orders}
+use Rattle.vab_update.specs.Written.{CarriesOrders, HasFailed}
+use Rattle.vab_cli.specs.Written.{WritesInOrder}
+use Rattle.vab_cli.proofs.Writing.{orders_alone, orders_told}
 use Rattle.vab_cli.proofs.installing.install_set.Goals as goal
 
 pub returns-in-Ok-say_line-clause-performs : goal.returns-in-Ok-say_line-clause-performs
@@ -35,9 +44,9 @@ returns-in-Ok-say_line-clause-performs g c =
     ∙ (λ i. installed_line (c.len.ensures i) (c.left.ensures.is i))
     ∙ done_told g.P.Disk t size d set old mid refl m (c.requires.represents t)
     (device_stands d size (g.P.Disk.seen old) (c.requires.represents t))
-    c.in-Ok.device c.in-Ok.ensures in
+    c.in-Ok.device c.in-Ok.ensures.carries in
     install_done g.P.Disk d set old mid c.requires.kept c.requires.represents new
-    c.say_line.ensures.size c.in-Ok.device c.in-Ok.ensures
+    c.say_line.ensures.size c.in-Ok.device c.in-Ok.ensures.carries
     (λ t.
     subst
     (λ (l : List ℕ). Says g.P.Disk {A = Status} {E = Status} l mid new (Ok Done)) (is t)
@@ -49,7 +58,7 @@ pub returns-in-Ok-say_line-clause-changes : goal.returns-in-Ok-say_line-clause-c
 returns-in-Ok-say_line-clause-changes g c = λ t.
     let says = c.say_line.ensures.says t in
     changes_then g.P.Disk _ c.args.port.now c.install.new.d c.say_line.new.port
-    (c.install.ensures.changes t)
+    (c.install.ensures.carries.changes t)
     (changes_telling g.P.Disk _ _ c.install.new.d c.say_line.new.port c.say_line.ensures.size
     (λ t. says.seen) (λ t. says.crash) (λ t. says.time))
 
@@ -57,7 +66,7 @@ pub returns-in-Ok-say_line-clause-left : goal.returns-in-Ok-say_line-clause-left
 returns-in-Ok-say_line-clause-left g c = λ t s stands.
     left_is g.P.Disk t (g.P.Disk.size c.args.port.now) c.args.device c.args.set.now
     c.args.port.now c.install.new.d refl s (c.requires.represents t) stands c.in-Ok.device
-    c.in-Ok.ensures
+    c.in-Ok.ensures.carries
 
 pub returns-in-Err-clause-performs : goal.returns-in-Err-clause-performs
 returns-in-Err-clause-performs g c =
@@ -74,12 +83,12 @@ returns-in-Err-clause-performs g c =
     ∙ (λ i. installed_line (c.len.ensures i) (c.left.ensures.is i))
     ∙ done_told g.P.Disk t size d set old mid refl m (c.requires.represents t)
     (device_stands d size (g.P.Disk.seen old) (c.requires.represents t))
-    c.in-Ok.device c.in-Ok.ensures in
+    c.in-Ok.device c.in-Ok.ensures.carries in
     subst
     (λ (s : Status). PerformsActs g.P.Disk d (install_act set ∷ []) old new (Err s))
     (sym c.in-Err.ensures.failed)
     (install_done_broken g.P.Disk d set old mid c.requires.kept c.requires.represents new
-    c.say_line.ensures.size c.in-Ok.device c.in-Ok.ensures
+    c.say_line.ensures.size c.in-Ok.device c.in-Ok.ensures.carries
     (λ t.
     subst
     (λ (l : List ℕ). Says g.P.Disk {A = Status} {E = Status} l mid new (Err Port)) (is t)
@@ -90,7 +99,7 @@ pub returns-in-Err-clause-changes : goal.returns-in-Err-clause-changes
 returns-in-Err-clause-changes g c = λ t.
     let says = c.say_line.ensures.says t in
     changes_then g.P.Disk _ c.args.port.now c.install.new.d c.say_line.new.port
-    (c.install.ensures.changes t)
+    (c.install.ensures.carries.changes t)
     (changes_telling g.P.Disk _ _ c.install.new.d c.say_line.new.port c.say_line.ensures.size
     (λ t. says.seen) (λ t. says.crash) (λ t. says.time))
 
@@ -102,7 +111,7 @@ returns-in-Err-Disk-clause-performs g c =
     (λ (x : Stop).
     Carried g.P.Disk c.args.device c.args.set.now c.args.port.now c.install.new.d
     c.requires.kept c.requires.represents (Err x))
-    c.in-Err-Disk.field-0-is c.in-Err-Disk.ensures)
+    c.in-Err-Disk.field-0-is c.in-Err-Disk.ensures.carries)
 
 pub returns-then-eq-clause-performs : goal.returns-then-eq-clause-performs
 returns-then-eq-clause-performs g c =
@@ -113,7 +122,7 @@ returns-then-eq-clause-performs g c =
     (λ (x : Stop).
     Carried g.P.Disk c.args.device c.args.set.now c.args.port.now c.install.new.d
     c.requires.kept c.requires.represents (Err x))
-    (c.in-Err-Refused.field-0-is ∙ ap stops.Refused want) c.in-Err-Refused.ensures)
+    (c.in-Err-Refused.field-0-is ∙ ap stops.Refused want) c.in-Err-Refused.ensures.carries)
 
 pub returns-in-Ok-say_line-2-clause-performs : goal.returns-in-Ok-say_line-2-clause-performs
 returns-in-Ok-say_line-2-clause-performs g c =
@@ -130,7 +139,7 @@ returns-in-Ok-say_line-2-clause-performs g c =
     let carries = subst
     (λ (x : Stop).
     Carried g.P.Disk d set old mid c.requires.kept c.requires.represents (Err x))
-    c.in-Err-Refused.field-0-is c.in-Err-Refused.ensures in
+    c.in-Err-Refused.field-0-is c.in-Err-Refused.ensures.carries in
     let is : g.P.Disk.is_modelled → c.as_slice-2.result.now ≡ install_told m set = λ t.
     c.as_slice-2.ensures.value
     ∙ c.refused_line.ensures
@@ -149,7 +158,7 @@ pub returns-in-Ok-say_line-2-clause-changes : goal.returns-in-Ok-say_line-2-clau
 returns-in-Ok-say_line-2-clause-changes g c = λ t.
     let says = c.say_line-2.ensures.says t in
     changes_then g.P.Disk _ c.args.port.now c.install.new.d c.say_line-2.new.port
-    (c.install.ensures.changes t)
+    (c.install.ensures.carries.changes t)
     (changes_telling g.P.Disk _ _ c.install.new.d c.say_line-2.new.port c.say_line-2.ensures.size
     (λ t. says.seen) (λ t. says.crash) (λ t. says.time))
 
@@ -168,7 +177,7 @@ returns-in-Err-say_line-clause-performs g c =
     let carries = subst
     (λ (x : Stop).
     Carried g.P.Disk d set old mid c.requires.kept c.requires.represents (Err x))
-    c.in-Err-Refused.field-0-is c.in-Err-Refused.ensures in
+    c.in-Err-Refused.field-0-is c.in-Err-Refused.ensures.carries in
     let is : g.P.Disk.is_modelled → c.as_slice-2.result.now ≡ install_told m set = λ t.
     c.as_slice-2.ensures.value
     ∙ c.refused_line.ensures
@@ -190,7 +199,7 @@ pub returns-in-Err-say_line-clause-changes : goal.returns-in-Err-say_line-clause
 returns-in-Err-say_line-clause-changes g c = λ t.
     let says = c.say_line-2.ensures.says t in
     changes_then g.P.Disk _ c.args.port.now c.install.new.d c.say_line-2.new.port
-    (c.install.ensures.changes t)
+    (c.install.ensures.carries.changes t)
     (changes_telling g.P.Disk _ _ c.install.new.d c.say_line-2.new.port c.say_line-2.ensures.size
     (λ t. says.seen) (λ t. says.crash) (λ t. says.time))
 
@@ -207,7 +216,7 @@ returns-in-Ok-say_line-2-clause-refused g c = λ t is.
     let carries = subst
     (λ (x : Stop).
     Carried g.P.Disk d set old mid c.requires.kept c.requires.represents (Err x))
-    c.in-Err-Refused.field-0-is c.in-Err-Refused.ensures in
+    c.in-Err-Refused.field-0-is c.in-Err-Refused.ensures.carries in
     record {
       image = c.install.new.at;
       refusal = refusal;
@@ -216,3 +225,76 @@ returns-in-Ok-say_line-2-clause-refused g c = λ t is.
           (device_stands d size (g.P.Disk.seen old) (c.requires.represents t)) refusal other
           carries;
     }
+
+-- what is written, and a line told behind it
+module _ {D : Type 0} (g : Ghosts D) (t : g.is_modelled) (F : Type 0) (d : Device)
+    (set : List SetImage) (old mid new : D) (r : Result Device Stop)
+    (wide : HasFailed r → F)
+    (is : CarriesOrders g d (install_orders d.control.current set) old mid r)
+    (rests : IsAtRest g old → IsAtRest g mid) where
+  set_told : {A E : Type 0} (text : List ℕ) (q : Result A E)
+      → Says g text mid new q
+      → WritesInOrder g F d (install_orders d.control.current set) old new
+  set_told text q says =
+      orders_told g F d (install_orders d.control.current set) old mid new text
+      (orders_alone g F d (install_orders d.control.current set) old mid r wide (is.writes t))
+      rests says.seen says.time
+
+pub returns-in-Ok-say_line-clause-writes : goal.returns-in-Ok-say_line-clause-writes
+returns-in-Ok-say_line-clause-writes g c = λ t.
+    set_told g.P.Disk t _ c.args.device c.args.set.now c.args.port.now c.install.new.d
+    c.say_line.new.port (Ok c.in-Ok.device) (λ none. absurd none) c.in-Ok.ensures
+    (λ rest. c.in-Ok.ensures.carries.rest t rest) _ _ (c.say_line.ensures.says t)
+
+pub returns-in-Err-clause-writes : goal.returns-in-Err-clause-writes
+returns-in-Err-clause-writes g c = λ t.
+    set_told g.P.Disk t _ c.args.device c.args.set.now c.args.port.now c.install.new.d
+    c.say_line.new.port (Ok c.in-Ok.device) (λ none. absurd none) c.in-Ok.ensures
+    (λ rest. c.in-Ok.ensures.carries.rest t rest) _ _ (c.say_line.ensures.says t)
+
+pub returns-in-Err-Disk-clause-writes : goal.returns-in-Err-Disk-clause-writes
+returns-in-Err-Disk-clause-writes g c = λ t.
+    orders_alone g.P.Disk _ c.args.device
+    (install_orders c.args.device.control.current c.args.set.now) c.args.port.now c.install.new.d
+    _ (λ failed. refl) (c.in-Err-Disk.ensures.writes t)
+
+-- a command was refused
+module _ {D : Type 0} (g : Ghosts D) (t : g.is_modelled) (F : Type 0) (d : Device)
+    (set : List SetImage) (old mid : D) (s : Stop) (refusal : Refusal)
+    (same : s ≡ stops.Refused refusal)
+    (is : CarriesOrders g d (install_orders d.control.current set) old mid (Err s)) where
+  refused_is : CarriesOrders g d (install_orders d.control.current set) old mid
+      (Err (stops.Refused refusal))
+  refused_is =
+      subst
+      (λ (x : Stop). CarriesOrders g d (install_orders d.control.current set) old mid (Err x))
+      same is
+
+  refused_alone : WritesInOrder g F d (install_orders d.control.current set) old mid
+  refused_alone =
+      orders_alone g F d (install_orders d.control.current set) old mid
+      (Err (stops.Refused refusal)) (λ none. absurd none) (refused_is.writes t)
+
+  refused_said : {A E : Type 0} (new : D) (text : List ℕ) (q : Result A E)
+      → Says g text mid new q
+      → WritesInOrder g F d (install_orders d.control.current set) old new
+  refused_said new text q says =
+      orders_told g F d (install_orders d.control.current set) old mid new text refused_alone
+      (λ rest. refused_is.carries.rest t rest) says.seen says.time
+
+pub returns-then-eq-clause-writes : goal.returns-then-eq-clause-writes
+returns-then-eq-clause-writes g c = λ t.
+    refused_alone g.P.Disk t _ c.args.device c.args.set.now c.args.port.now c.install.new.d _
+    c.in-Err-Refused.refusal c.in-Err-Refused.field-0-is c.in-Err-Refused.ensures
+
+pub returns-in-Ok-say_line-2-clause-writes : goal.returns-in-Ok-say_line-2-clause-writes
+returns-in-Ok-say_line-2-clause-writes g c = λ t.
+    refused_said g.P.Disk t _ c.args.device c.args.set.now c.args.port.now c.install.new.d _
+    c.in-Err-Refused.refusal c.in-Err-Refused.field-0-is c.in-Err-Refused.ensures
+    c.say_line-2.new.port _ _ (c.say_line-2.ensures.says t)
+
+pub returns-in-Err-say_line-clause-writes : goal.returns-in-Err-say_line-clause-writes
+returns-in-Err-say_line-clause-writes g c = λ t.
+    refused_said g.P.Disk t _ c.args.device c.args.set.now c.args.port.now c.install.new.d _
+    c.in-Err-Refused.refusal c.in-Err-Refused.field-0-is c.in-Err-Refused.ensures
+    c.say_line-2.new.port _ _ (c.say_line-2.ensures.says t)

@@ -11,7 +11,7 @@ use Rattle.vab_cli.specs.Verbs.{make_line, done_making}
 use Rattle.vab_cli.specs.Runs.{RunsRefused, RunsMaking}
 use Rattle.vab_cli.proofs.InputFaults.{heard_whole, same_set, unheard_whole}
 use Rattle.vab_cli.proofs.Makings.{refused_after, making_after}
-use Rattle.std.proofs.Common.{⊎_elim, Ok, refl}
+use Rattle.std.proofs.Common.{⊎_elim, Ok, refl, arith}
 use Rattle.vab_set.specs.Reading.{set_of}
 use Rattle.vab_cli.specs.Causes.{too_long, malformed}
 use Rattle.vab_cli.proofs.Causing.{input_long, input_opened, input_unrefused, set_opened}
@@ -143,3 +143,14 @@ returns-clause-unmade g c = λ t none. (
   unmade_after g.P.Disk c.args.port.now c.hear_all.new.p c.in-Ok-read_set.set c.args.limit
       c.args.max c.make_of.new.cause c.hear_all.ensures.size (c.make_of.ensures.unmade none),
 )
+
+pub returns-in-Err-clause-small : goal.returns-in-Err-clause-small
+returns-in-Err-clause-small g c = λ none. input_opened c.in-Err.fault (sym c.from.ensures ∙ none)
+
+pub returns-in-Err-read_set-clause-small : goal.returns-in-Err-read_set-clause-small
+returns-in-Err-read_set-clause-small g c = λ none.
+    set_opened c.in-Err-read_set.fault (sym c.from-in-Err-read_set.ensures ∙ none)
+
+pub returns-clause-small : goal.returns-clause-small
+returns-clause-small g c = λ none.
+    omega (arith, c.make_of.ensures.small none, c.hear_all.ensures.size)

@@ -15,7 +15,7 @@ use Rattle.vab_cli.specs.MadeDisk.{HoldsMade}
 use Rattle.vab_cli.proofs.Makings.{not_of_disk, silent_early, memory_of_none, silent_memory}
 use Rattle.vab_cli.proofs.Makings.{loud_refusal, silent_line, enough_sectors, status_not_port}
 use Rattle.vab_cli.proofs.Makings.{giving_told, giving_untold, refused_told, refused_unheard}
-use Rattle.vab_cli.proofs.Makings.{loud_memory, unmade_yet}
+use Rattle.vab_cli.proofs.Makings.{loud_memory, small_made, unmade_yet}
 use Rattle.std.proofs.Common.{refl}
 use Rattle.vab_cli.proofs.Causing.{made_read, made_unmade, unmade_read, unmade_told}
 use Rattle.vab_cli.proofs.making.make_of.Goals as goal
@@ -181,3 +181,19 @@ returns-clause-memory g c = λ memory.
     ⊎_elim
     (λ is. absurd (loud_memory c.in-Err.fault loud (sym is ∙ memory)))
     (λ port. let both = sym port ∙ memory in cc) c.tell_fault.ensures.either
+
+pub returns-in-Ok-clause-small : goal.returns-in-Ok-clause-small
+returns-in-Ok-clause-small g c = λ none. made_unmade c.tell_made.ensures.either (inl none)
+
+pub returns-then-is_silent-clause-small : goal.returns-then-is_silent-clause-small
+returns-then-is_silent-clause-small g c = λ none.
+    small_made c.args.set.now c.args.limit c.args.max (g.P.Disk.size c.args.port.now) c.in-Err.fault
+    c.in-Err.ensures.exact (sym c.from.ensures ∙ none)
+
+pub returns-clause-small : goal.returns-clause-small
+returns-clause-small g c = λ none.
+    ⊎_elim
+    (λ is.
+    small_made c.args.set.now c.args.limit c.args.max (g.P.Disk.size c.args.port.now) c.in-Err.fault
+    c.in-Err.ensures.exact (sym is ∙ none))
+    (λ port. let both = sym port ∙ none in cc) c.tell_fault.ensures.either

@@ -387,7 +387,7 @@ returns-in-Make-clause-does g c =
     let done = c.make.ensures in
     make_verb g.P.Disk (meaning_of c.args.verb) c.args.port.now c.make.new.port c.make.result
     done.words done.steady done.disk done.port c.in-Make.limit c.in-Make.metadata_max is
-    done.made done.refused done.malformed done.changes done.end done.heard done.within
+    done.made done.refused done.malformed done.changes done.end done.heard done.within done.small
     (no_copies g.P.Disk (meaning_of c.args.verb) c.args.port.now c.make.new.port c.make.result
     (words.Make c.in-Make.limit c.in-Make.metadata_max) is refl (λ fresh other. cc) (λ other. cc)
     (λ other. cc) (λ seed scale other. cc))

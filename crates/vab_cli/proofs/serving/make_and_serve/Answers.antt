@@ -22,7 +22,8 @@ use Rattle.vab_cli.specs.Codes.{start_status}
 use Rattle.vab_cli.specs.Opening.{Opens}
 use Rattle.vab_cli.specs.Runs.{IsEarly, RunsSession}
 use Rattle.vab_cli.proofs.Makings.{memory_of_none, refused_unheard}
-use Rattle.vab_cli.proofs.Running.{contents_of, early_of, is_one, memory_other, not_of_disk_by, untouched_stays}
+use Rattle.vab_cli.proofs.Running.{contents_of, early_of, is_one, memory_other, not_of_disk_by}
+use Rattle.vab_cli.proofs.Running.{untouched_stays}
 use Rattle.vab_cli.proofs.Sessions.{fresh_enough, fresh_small, made_early, made_small}
 use Rattle.vab_cli.proofs.Sessions.{small_unwritten}
 use Rattle.vab_cli.proofs.Writing.{changes_as, writes_opened}

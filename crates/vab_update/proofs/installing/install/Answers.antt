@@ -5,11 +5,11 @@ use Rattle.std.proofs.lemmas.Result.{err_from_is_err_and}
 use Rattle.vab_set.specs.declared.set.SetImage.{SetImage}
 use Rattle.vab_layout.specs.Slots.{other_slot}
 use Rattle.vab_model.specs.Commands.{Begin, Finish, SetActive}
-use Rattle.vab_update.specs.Carries.{CarriesOut}
+use Rattle.vab_update.specs.Written.{CarriesOrders}
 use Rattle.vab_update.specs.Install.{order, image_orders, install_orders}
 use Rattle.vab_update.specs.Orders.{Order}
-use Rattle.vab_update.proofs.CarriesLaws.{carries_more, carries_short, kept_next}
-use Rattle.vab_update.proofs.CarriesLaws.{represents_next}
+use Rattle.vab_update.proofs.WrittenLaws.{kept_next, orders_more, orders_short}
+use Rattle.vab_update.proofs.WrittenLaws.{represents_next}
 use Rattle.vab_update.proofs.InstallLaws.{orders_next, orders_both, orders_behind, orders_all}
 use Rattle.vab_update.proofs.installing.install.Goals as goal
 
@@ -19,10 +19,10 @@ returns-in_err-next g c =
     rw (p.1, p.2)
     (subst
     (λ (l : List Order).
-    CarriesOut g.D.Disk c.args.device l c.args.d.now c.carry_out.new.d
+    CarriesOrders g.D.Disk c.args.device l c.args.d.now c.carry_out.new.d
     (Err c.in_err-next.field-0.0))
     (orders_both c.args.device.control.current c.args.set.now 0)
-    (carries_short g.D.Disk c.args.device (order Begin ∷ [])
+    (orders_short g.D.Disk c.args.device (order Begin ∷ [])
     (orders_behind c.args.device.control.current c.args.set.now 0)
     c.args.d.now c.carry_out.new.d c.in_err-next.field-0.0
     (c.in_err-next.ensures (order Begin) refl refl)))
@@ -41,10 +41,10 @@ loop-image-preserved g c =
     ∙ ap (λ (l : List SetImage). get_or l i image) c.as_slice-image-items.ensures) in
     subst
     (λ (l : List Order).
-    CarriesOut g.D.Disk c.args.device l c.args.d.now c.install_image.new.d
+    CarriesOrders g.D.Disk c.args.device l c.args.d.now c.install_image.new.d
     (Ok c.in_ok-next-2.next))
     (orders_next source set i image below here)
-    (carries_more g.D.Disk c.args.device c.loop-image.next
+    (orders_more g.D.Disk c.args.device c.loop-image.next
     (order Begin ∷ flat_map (image_orders source) (take i set)) (image_orders source image)
     c.args.d.now c.loop-image.d c.install_image.new.d (Ok c.in_ok-next-2.next)
     c.requires.represents c.loop-image.invariant c.in_ok-next-2.ensures)
@@ -69,16 +69,16 @@ returns-in_err-next-2 g c =
     let some = order Begin ∷ flat_map (image_orders source) (take (i + 1) set) in
     rw (p.1, p.2)
     (subst
-    (λ (k : ℕ). CarriesOut g.D.Disk c.args.device (install_orders k set) old new (Err stop))
+    (λ (k : ℕ). CarriesOrders g.D.Disk c.args.device (install_orders k set) old new (Err stop))
     c.current-source.ensures
     (subst
-    (λ (l : List Order). CarriesOut g.D.Disk c.args.device l old new (Err stop))
+    (λ (l : List Order). CarriesOrders g.D.Disk c.args.device l old new (Err stop))
     (orders_both source set (i + 1))
-    (carries_short g.D.Disk c.args.device some (orders_behind source set (i + 1)) old new stop
+    (orders_short g.D.Disk c.args.device some (orders_behind source set (i + 1)) old new stop
     (subst
-    (λ (l : List Order). CarriesOut g.D.Disk c.args.device l old new (Err stop))
+    (λ (l : List Order). CarriesOrders g.D.Disk c.args.device l old new (Err stop))
     (orders_next source set i image below here)
-    (carries_more g.D.Disk c.args.device c.loop-image.next
+    (orders_more g.D.Disk c.args.device c.loop-image.next
     (order Begin ∷ flat_map (image_orders source) (take i set)) (image_orders source image)
     old c.loop-image.d new (Err stop)
     c.requires.represents c.loop-image.invariant c.in_err-next-2.ensures)))))
@@ -99,15 +99,15 @@ returns-in_err-next-3 g c =
     let last = order (SetActive (other_slot source)) in
     rw (p.1, p.2)
     (subst
-    (λ (k : ℕ). CarriesOut g.D.Disk c.args.device (install_orders k set) old new (Err stop))
+    (λ (k : ℕ). CarriesOrders g.D.Disk c.args.device (install_orders k set) old new (Err stop))
     c.current-source.ensures
-    (carries_more g.D.Disk c.args.device c.loop-image.next all (order Finish ∷ last ∷ [])
+    (orders_more g.D.Disk c.args.device c.loop-image.next all (order Finish ∷ last ∷ [])
     old c.loop-image.d new (Err stop) c.requires.represents
     (subst
     (λ (l : List Order).
-    CarriesOut g.D.Disk c.args.device l old c.loop-image.d (Ok c.loop-image.next))
+    CarriesOrders g.D.Disk c.args.device l old c.loop-image.d (Ok c.loop-image.next))
     (orders_all source set i above) c.loop-image.invariant)
-    (carries_short g.D.Disk c.loop-image.next (order Finish ∷ []) (last ∷ [])
+    (orders_short g.D.Disk c.loop-image.next (order Finish ∷ []) (last ∷ [])
     c.loop-image.d new stop (c.in_err-next-3.ensures (order Finish) refl refl))))
 
 pub carry_out-requires-3-clause-kept : goal.carry_out-requires-3-clause-kept
@@ -134,15 +134,15 @@ returns g c =
     let last = order (SetActive (other_slot source)) in
     let finished = c.in_ok-next-3.ensures (order Finish) refl refl in
     subst
-    (λ (k : ℕ). CarriesOut g.D.Disk c.args.device (install_orders k set) old new r)
+    (λ (k : ℕ). CarriesOrders g.D.Disk c.args.device (install_orders k set) old new r)
     c.current-source.ensures
-    (carries_more g.D.Disk c.args.device c.loop-image.next all (order Finish ∷ last ∷ [])
+    (orders_more g.D.Disk c.args.device c.loop-image.next all (order Finish ∷ last ∷ [])
     old c.loop-image.d new r c.requires.represents
     (subst
     (λ (l : List Order).
-    CarriesOut g.D.Disk c.args.device l old c.loop-image.d (Ok c.loop-image.next))
+    CarriesOrders g.D.Disk c.args.device l old c.loop-image.d (Ok c.loop-image.next))
     (orders_all source set i above) c.loop-image.invariant)
-    (carries_more g.D.Disk c.loop-image.next c.in_ok-next-3.next (order Finish ∷ []) (last ∷ [])
+    (orders_more g.D.Disk c.loop-image.next c.in_ok-next-3.next (order Finish ∷ []) (last ∷ [])
     c.loop-image.d c.carry_out-2.new.d new r
     (represents_next g.D.Disk c.args.device c.loop-image.next
     (order Begin ∷ flat_map (image_orders source) (take i set)) old c.loop-image.d

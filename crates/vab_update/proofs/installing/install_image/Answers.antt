@@ -4,8 +4,8 @@ use Rattle.vab_set.proofs.SetLaws.{base_short}
 use Rattle.vab_model.specs.Commands.{Command, Snapshot, Flash, command_of}
 use Rattle.vab_update.specs.Install.{order, target_name, size_command, flash_order}
 use Rattle.vab_update.specs.Orders.{Order}
-use Rattle.vab_update.proofs.CarriesLaws.{carries_more, carries_short, kept_next}
-use Rattle.vab_update.proofs.CarriesLaws.{represents_next}
+use Rattle.vab_update.proofs.WrittenLaws.{kept_next, orders_more, orders_short}
+use Rattle.vab_update.proofs.WrittenLaws.{represents_next}
 use Rattle.vab_update.proofs.installing.install_image.Goals as goal
 
 pub full_name-full-requires-clause-short : goal.full_name-full-requires-clause-short
@@ -20,7 +20,7 @@ returns-in_err-next g c =
     let p = err_from_is_err_and c.from_residual.result c.from_residual.ensures.1 in
     let first : Order = record { command = size_command source image; staged = None } in
     rw (p.1, p.2)
-    (carries_short g.D.Disk c.args.device (first ∷ [])
+    (orders_short g.D.Disk c.args.device (first ∷ [])
     (order (Snapshot (target_name source image) image.store) ∷ flash_order source image ∷ [])
     old c.carry_out.new.d c.in_err-next.field-0.0
     (c.in_err-next.ensures first (c.size_command-sized.ensures.is (g.D.Disk.seen old)) refl))
@@ -50,11 +50,11 @@ returns-in_err-next-2 g c =
     let second : Order = order (Snapshot (target_name source image) image.store) in
     let third : Order = flash_order source image in
     rw (p.1, p.2)
-    (carries_more g.D.Disk c.args.device c.in_ok-next.next (first ∷ []) (second ∷ third ∷ [])
+    (orders_more g.D.Disk c.args.device c.in_ok-next.next (first ∷ []) (second ∷ third ∷ [])
     old c.carry_out.new.d c.carry_out-2.new.d (Err c.in_err-next-2.field-0.0)
     c.requires.represents
     (c.in_ok-next.ensures first (c.size_command-sized.ensures.is (g.D.Disk.seen old)) refl)
-    (carries_short g.D.Disk c.in_ok-next.next (second ∷ []) (third ∷ [])
+    (orders_short g.D.Disk c.in_ok-next.next (second ∷ []) (third ∷ [])
     c.carry_out.new.d c.carry_out-2.new.d c.in_err-next-2.field-0.0
     (c.in_err-next-2.ensures second
     (ap (λ (n : List ℕ). Snapshot n image.store) (sym named)) refl)))
@@ -82,11 +82,11 @@ returns g c =
     let first : Order = record { command = size_command source image; staged = None } in
     let second : Order = order (Snapshot (target_name source image) image.store) in
     let third : Order = flash_order source image in
-    carries_more g.D.Disk c.args.device c.in_ok-next.next (first ∷ []) (second ∷ third ∷ [])
+    orders_more g.D.Disk c.args.device c.in_ok-next.next (first ∷ []) (second ∷ third ∷ [])
     old c.carry_out.new.d c.carry_out-3.new.d c.carry_out-3.result
     c.requires.represents
     (c.in_ok-next.ensures first (c.size_command-sized.ensures.is (g.D.Disk.seen old)) refl)
-    (carries_more g.D.Disk c.in_ok-next.next c.in_ok-next-2.next (second ∷ []) (third ∷ [])
+    (orders_more g.D.Disk c.in_ok-next.next c.in_ok-next-2.next (second ∷ []) (third ∷ [])
     c.carry_out.new.d c.carry_out-2.new.d c.carry_out-3.new.d c.carry_out-3.result
     (represents_next g.D.Disk c.args.device c.in_ok-next.next (order sized ∷ [])
     old c.carry_out.new.d (c.in_ok-next.ensures (order sized) refl refl))
