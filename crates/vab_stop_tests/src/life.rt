@@ -35,7 +35,7 @@ pub(crate) const BEGIN_MERGE: Verb<'static> = (&["begin-merge"], b"");
 
 pub(crate) const MERGE: Verb<'static> = (&["merge", "9"], b"");
 
-const STATUS: Verb<'static> = (&["status"], b"");
+pub(crate) const STATUS: Verb<'static> = (&["status"], b"");
 
 const PRINT: Verb<'static> = (&["print", "x_b"], b"");
 

@@ -371,18 +371,32 @@ fn a_merge_is_stopped_anywhere_over_mixed_sectors(rt: HostRuntime) -> Result<(),
     stops(&rt, rt.alloc(), &MERGING, MIXED)
 }
 
-// Without an update, while one is installed, with one that is ready, that is merged, and that was
-// merged and isn't tidied.
 #[test]
 fn a_device_of_version_1_is_stopped_anywhere(rt: HostRuntime) -> Result<(), Fail> {
+    stops_of_version_1(&rt, rt.alloc(), behind(&rt, rt.alloc(), 1)?, BOOT)
+}
+
+#[test]
+fn an_installing_device_of_version_1_is_stopped_anywhere(rt: HostRuntime) -> Result<(), Fail> {
     let alloc = rt.alloc();
     let steps = STEPS.get(..4).unwrap_or(STEPS);
     let installing = all_done(&rt, alloc, behind(&rt, alloc, 1)?, steps)?;
-    stops_of_version_1(&rt, alloc, left_by(&installing, Blend::New)?, ACTIVATE_A)?;
-    for (before, verb) in [(1, BOOT), (2, CANCEL), (6, ONE_TURN), (7, BOOT)] {
-        stops_of_version_1(&rt, alloc, behind(&rt, alloc, before)?, verb)?;
-    }
-    Ok(())
+    stops_of_version_1(&rt, alloc, left_by(&installing, Blend::New)?, ACTIVATE_A)
+}
+
+#[test]
+fn an_updated_device_of_version_1_is_stopped_anywhere(rt: HostRuntime) -> Result<(), Fail> {
+    stops_of_version_1(&rt, rt.alloc(), behind(&rt, rt.alloc(), 2)?, CANCEL)
+}
+
+#[test]
+fn a_merging_device_of_version_1_is_stopped_anywhere(rt: HostRuntime) -> Result<(), Fail> {
+    stops_of_version_1(&rt, rt.alloc(), behind(&rt, rt.alloc(), 6)?, ONE_TURN)
+}
+
+#[test]
+fn a_merged_device_of_version_1_is_stopped_anywhere(rt: HostRuntime) -> Result<(), Fail> {
+    stops_of_version_1(&rt, rt.alloc(), behind(&rt, rt.alloc(), 7)?, BOOT)
 }
 
 #[test]
