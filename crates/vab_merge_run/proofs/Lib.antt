@@ -9,3 +9,4 @@ pub mod CutLaws
 pub mod RunLaws
 pub mod BehindLaws
 pub mod LeftLaws
+pub mod NextLaws

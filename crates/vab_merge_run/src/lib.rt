@@ -6,4 +6,5 @@ mod own;
 mod part;
 mod run;
 
+pub use next::next_place;
 pub use run::merge_run;

@@ -6,7 +6,7 @@ ghost use Rattle.std.specs.Str.{bytes_eq};
 ghost use Rattle.vab_names.specs.Names.{is_store};
 ghost use Rattle.vab_device.specs.Kept.{parts_at, table_of_slot};
 ghost use Rattle.vab_merge_run.specs.Turns.{has_exceptions, place_of, stores_in, first_place};
-ghost use Rattle.vab_merge_run.specs.Turns.{next_of};
+ghost use Rattle.vab_merge_run.specs.Turns.{next_of, part_at};
 
 use vab_bytes::Listing;
 use vab_device::{Device, Part, PartImage};
@@ -87,7 +87,7 @@ fn table_at(device: &Device, slot: usize) -> Option<&Table>
 
 /// The place of the partition whose store the next turn takes: that of the first store, in the
 /// order of the table, that has exceptions.
-pub fn next(device: &Device) -> Option<usize>
+pub fn next_place(device: &Device) -> Option<usize>
     requires { device.now.mark.slot < 2 }
     ensures { result ≡ next_of device.now }
 {
@@ -98,5 +98,34 @@ pub fn next(device: &Device) -> Option<usize>
             None => None,
             Some(table) => first_place(parts, slot, table),
         },
+    }
+}
+
+// Whether the store of the partition at a place has exceptions.
+fn has_more(device: &Device, place: usize) -> bool
+    requires { device.now.mark.slot < 2 }
+    ensures { result ≡ has_exceptions (part_at device.now place) }
+{
+    match device.images(device.mark.slot) {
+        None => false,
+        Some(parts) => match parts.as_slice().get(place) {
+            None => false,
+            Some(part) => has_exceptions(part),
+        },
+    }
+}
+
+// The same behind a run in the store of the partition at a place: that place until its store has
+// no exception any more.
+pub fn next_behind(device: &Device, place: usize) -> Option<usize>
+    requires slot { device.now.mark.slot < 2 }
+    requires same { IsTrue (has_exceptions (part_at device.now place))
+        → next_of device.now ≡ Some place }
+    ensures { result ≡ next_of device.now }
+{
+    if has_more(device, place) {
+        Some(place)
+    } else {
+        next_place(device)
     }
 }

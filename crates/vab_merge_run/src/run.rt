@@ -8,7 +8,7 @@ ghost use Rattle.vab_merge_run.specs.Part.{RunsPart};
 ghost use Rattle.vab_merge_run.specs.Run.{MakesTurns};
 ghost use Rattle.vab_merge_run.specs.Turns.{next_of, part_at, cut_at};
 
-use crate::next::next;
+use crate::next::next_behind;
 use crate::own::{give_own, take_own};
 use crate::part::run_part;
 use vab_bytes::Listing;
@@ -42,16 +42,30 @@ fn run_at<D: Disk>(
 /// Makes the next turns of a merge, at most `most` of them: the last exceptions of the first store,
 /// in the order of the table, that has some, as many as are one run. Their blocks are copied into
 /// the partition, and behind a sync the entries are cleared. Answers how many; 0 only where no
-/// store has an exception, and then nothing is written. Takes no memory.
-pub fn merge_run<D: Disk>(d: &mut D, device: Device, most: u64) -> Result<(Device, u64), DiskFault>
+/// store has an exception, and then nothing is written. `place` is that of the store's partition,
+/// by `next_place`, and becomes that of the next run. Takes no memory.
+pub fn merge_run<D: Disk>(
+    d: &mut D,
+    device: Device,
+    place: &mut Option<usize>,
+    most: u64,
+) -> Result<(Device, u64), DiskFault>
     requires kept { IsDevice device (D.size d.old) }
     requires represents { D.is_modelled → Represents device (D.size d.old) (D.seen d.old) }
     requires merging { device.mark.phase ≡ marks.Merging }
+    requires here { place.old ≡ next_of device }
     requires some { 0 < most }
-    ensures { MakesTurns D.Disk device most d.old d.new result }
+    ensures makes { MakesTurns D.Disk device most d.old d.new result }
+    ensures there { IfOk result (λ r. place.new ≡ next_of r.0) }
 {
-    match next(&device) {
-        Some(place) => run_at(d, device, place, most),
+    match *place {
         None => Ok((device, 0)),
+        Some(at) => match run_at(d, device, at, most) {
+            Err(fault) => Err(fault),
+            Ok((behind, made)) => {
+                *place = next_behind(&behind, at);
+                Ok((behind, made))
+            }
+        },
     }
 }

@@ -9,7 +9,7 @@ ghost use Rattle.vab_merging.specs.Made.{MakesSome};
 use vab_device::Device;
 use vab_disk::Disk;
 use vab_gate::DiskFault;
-use vab_merge_run::merge_run;
+use vab_merge_run::{merge_run, next_place};
 
 /// Makes so many turns, fewer only where no store has an exception any more. Answers how many are
 /// not made.
@@ -24,9 +24,10 @@ pub(crate) fn make_turns<D: Disk>(
     ensures { MakesSome D.Disk device blocks d.old d.new result }
 {
     let mut device = device;
+    let mut place = next_place(&device);
     let mut wanted = blocks;
     while wanted > 0 {
-        match merge_run(d, device, wanted) {
+        match merge_run(d, device, &mut place, wanted) {
             Err(fault) => return Err(fault),
             Ok((next, made)) => {
                 if made == 0 {

@@ -14,6 +14,7 @@ loop-wanted-init g c =
           none
           (starts g.D.Disk c.args.device blocks c.args.d.now c.requires.kept c.requires.represents
           c.requires.merging),
+      c.next_place-place.ensures,
     )
 
 pub returns-in-Err : goal.returns-in-Err
@@ -23,7 +24,7 @@ returns-in-Err g c =
     let all : (blocks - wanted) + wanted ≡ blocks = omega (arith, c.loop-wanted.invariant.0) in
     fails g.D.Disk c.args.device blocks (blocks - wanted) wanted c.args.d.now c.loop-wanted.d
     c.merge_run.new.d c.loop-wanted.device c.loop-wanted.invariant.1 all c.in-Err.fault
-    c.loop-wanted-test.true c.in-Err.ensures
+    c.loop-wanted-test.true c.in-Err.ensures.makes
 
 pub returns-then-made-eq0 : goal.returns-then-made-eq0
 returns-then-made-eq0 g c =
@@ -36,7 +37,7 @@ returns-then-made-eq0 g c =
     subst
     (λ (n : ℕ).
     MakesTurns g.D.Disk d wanted c.loop-wanted.d c.merge_run.new.d (Ok (c.in-Ok.next, n)))
-    c.if-made-eq0.true c.in-Ok.ensures in
+    c.if-made-eq0.true c.in-Ok.ensures.makes in
     none_more g.D.Disk c.args.device blocks (blocks - wanted) wanted c.args.d.now c.loop-wanted.d
     c.merge_run.new.d d c.in-Ok.next c.loop-wanted.invariant.1 all c.loop-wanted-test.true run
 
@@ -46,7 +47,7 @@ loop-wanted-preserved g c =
     let wanted = c.loop-wanted.wanted in
     let made = c.in-Ok.made in
     let all : (blocks - wanted) + wanted ≡ blocks = omega (arith, c.loop-wanted.invariant.0) in
-    let few = c.in-Ok.ensures.at_most in
+    let few = c.in-Ok.ensures.makes.at_most in
     let more : (blocks - wanted) + made ≡ blocks - (wanted - made) =
     omega (arith, c.loop-wanted.invariant.0, few) in (
       omega (arith, c.loop-wanted.invariant.0),
@@ -56,7 +57,8 @@ loop-wanted-preserved g c =
           more
           (goes_on g.D.Disk c.args.device blocks (blocks - wanted) wanted c.args.d.now
           c.loop-wanted.d c.merge_run.new.d c.loop-wanted.device c.loop-wanted.invariant.1 all
-          c.in-Ok.next made c.in-Ok.ensures (omega (arith, c.if-made-eq0.false))),
+          c.in-Ok.next made c.in-Ok.ensures.makes (omega (arith, c.if-made-eq0.false))),
+      c.in-Ok.ensures.there,
     )
 
 pub returns : goal.returns

@@ -4,7 +4,7 @@ use Rattle.vab_device.specs.declared.device.Part.{Part}
 use Rattle.vab_device.specs.Kept.{table_of_slot}
 use Rattle.vab_merge_run.specs.Turns.{parts_or, stores_in, first_place}
 use Rattle.vab_merge_run.proofs.PlaceLaws.{first_none}
-use Rattle.vab_merge_run.proofs.next.next.Goals as goal
+use Rattle.vab_merge_run.proofs.next.next_place.Goals as goal
 
 pub returns-in-None : goal.returns-in-None
 returns-in-None c =
