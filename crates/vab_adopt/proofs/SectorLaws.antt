@@ -23,7 +23,8 @@ use Rattle.vab_marks.specs.Mark.{mark_of, idle_mark, mark_front, mark_spelling}
 use Rattle.vab_marks.specs.Sector.{zeros}
 use Rattle.vab_marks.proofs.MarkLaws.{only_mark}
 use Rattle.vab_make.specs.Steps.{blanked}
-use Rattle.vab_adopt.specs.Adopted.{adopted_control, control_sector, good_info, no_info}
+use Rattle.vab_model.specs.State.{no_info}
+use Rattle.vab_adopt.specs.Adopted.{adopted_control, control_sector, good_info}
 use Rattle.vab_adopt.specs.Adopted.{IsControlOf}
 
 -- ---- bytes

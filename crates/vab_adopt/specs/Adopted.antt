@@ -12,7 +12,7 @@ use Rattle.vab_marks.specs.declared.version.MarkVersion.TheVariants.{Two}
 use Rattle.vab_marks.specs.Mark.{mark_of, idle_mark, mark_spelling}
 use Rattle.vab_marks.specs.Version.{version_in}
 use Rattle.vab_model.specs.declared.state.Image.{Image as ImageOfSlot}
-use Rattle.vab_model.specs.State.{images_at}
+use Rattle.vab_model.specs.State.{images_at, no_info}
 use Rattle.vab_device.specs.declared.fault.StartFault.{StartFault}
 use Rattle.vab_device.specs.Mounted.{Mounted}
 use Rattle.vab_device.specs.Reading.{device}
@@ -26,10 +26,6 @@ use Rattle.vab_adopt.specs.declared.count.Adopted.{Adopted}
 -- a slot that works, with the highest priority
 abbrev pub good_info : Info
 good_info = record { priority = 15; tries = 0; successful = true }
-
--- a slot of which nothing is said
-abbrev pub no_info : Info
-no_info = record { priority = 0; tries = 0; successful = false }
 
 -- this slot is current and good, and nothing is said of the other
 abbrev pub adopted_control : ℕ → Control

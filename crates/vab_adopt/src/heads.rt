@@ -7,7 +7,8 @@ ghost use Rattle.vab_bootctl.specs.Control.{Fits};
 ghost use Rattle.vab_marks.specs.Mark.{mark_of, mark_spelling, idle_mark};
 ghost use Rattle.vab_device.specs.Mounted.{Mounted};
 ghost use Rattle.vab_make.specs.Steps.{blanked};
-ghost use Rattle.vab_adopt.specs.Adopted.{adopted, adopted_control, good_info, no_info};
+ghost use Rattle.vab_model.specs.State.{no_info};
+ghost use Rattle.vab_adopt.specs.Adopted.{adopted, adopted_control, good_info};
 ghost use Rattle.vab_adopt.specs.Adopted.{IsControlOf, HasHeadsOf};
 ghost use Rattle.vab_adopt.specs.Adopting.{IsOfAdopting, IsOfControl, LeavesAdopting};
 

@@ -1,4 +1,5 @@
-//! The lines that are told of making a device: each is text in ASCII and one newline byte.
+//! The lines that are told of making a device or adopting one: each is text in ASCII and one
+//! newline byte.
 #![tactic(auto)]
 
 mod lines;

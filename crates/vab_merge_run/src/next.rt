@@ -115,9 +115,9 @@ fn has_more(device: &Device, place: usize) -> bool
     }
 }
 
-// The same behind a run in the store of the partition at a place: that place until its store has
-// no exception any more.
-pub fn next_behind(device: &Device, place: usize) -> Option<usize>
+/// The same behind a run in the store of the partition at a place: that place until its store has
+/// no exception any more.
+pub(crate) fn next_behind(device: &Device, place: usize) -> Option<usize>
     requires slot { device.now.mark.slot < 2 }
     requires same { IsTrue (has_exceptions (part_at device.now place))
         → next_of device.now ≡ Some place }
