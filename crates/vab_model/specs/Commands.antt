@@ -1,5 +1,6 @@
 -- Commands, with their names as bytes.
 use Rattle.std.specs.Prelude.{ℕ, List}
+use Rattle.vab_space.specs.declared.Chunk.{Chunk}
 use Rattle.vab_model.specs.declared.command.Command.{Command as CommandOfCode}
 use Rattle.vab_model.specs.declared.command.Command.TheVariants as code
 
@@ -14,7 +15,7 @@ pub data Command : Type 0 where
   Resize : (name : List ℕ) (size : ℕ) → Command
   Delete : (name : List ℕ) → Command
   Snapshot : (name : List ℕ) (size : ℕ) → Command
-  Flash : (name : List ℕ) → Command
+  Flash : (name : List ℕ) (chunk : Chunk) → Command
   Finish : Command
   Cancel : Command
   BeginMerge : Command
@@ -31,7 +32,7 @@ command_of (code.Create name size) = Create name.now size
 command_of (code.Resize name size) = Resize name.now size
 command_of (code.Delete name) = Delete name.now
 command_of (code.Snapshot name size) = Snapshot name.now size
-command_of (code.Flash name) = Flash name.now
+command_of (code.Flash name chunk) = Flash name.now chunk
 command_of code.Finish = Finish
 command_of code.Cancel = Cancel
 command_of code.BeginMerge = BeginMerge

@@ -54,7 +54,7 @@ kind_of (Create name size) = edit
 kind_of (Resize name size) = edit
 kind_of (Delete name) = edit
 kind_of (Snapshot name size) = edit
-kind_of (Flash name) = record plain { uses_staged = true }
+kind_of (Flash name chunk) = record plain { uses_staged = true }
 kind_of Finish =
     record plain { of_installation = true; is_finish = true; changes_images = true }
 kind_of Cancel = record verb { changes_images = true }

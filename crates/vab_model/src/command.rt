@@ -1,6 +1,7 @@
 //! Commands and what is replied to them.
 
 use vab_bytes::Name36;
+use vab_space::Chunk;
 
 /// A command on a device. A slot is 0 for a and 1 for b; a name is a partition's with its slot's
 /// suffix; a size is in bytes.
@@ -27,8 +28,9 @@ pub enum Command<'a> {
     /// Gives a partition of the target an exception store of this size; 0: of the size that it
     /// needs at most.
     Snapshot(&'a [u8], u64),
-    /// Makes the staged bytes the image of a partition of the target.
-    Flash(&'a [u8]),
+    /// Makes the staged bytes the image of a partition of the target, in a store whose chunks have
+    /// this size.
+    Flash(&'a [u8], Chunk),
     /// Ends the installing of an update: its target has images, and may be set active.
     Finish,
     /// Drops an update.

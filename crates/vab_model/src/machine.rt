@@ -223,7 +223,7 @@ pub fn step(
         Command::Resize(_, _) => refuse_update(alloc, state, Refusal::NotInstalling),
         Command::Delete(_) => refuse_update(alloc, state, Refusal::NotInstalling),
         Command::Snapshot(_, _) => refuse_update(alloc, state, Refusal::NotInstalling),
-        Command::Flash(_) => refuse_update(alloc, state, Refusal::NotInstalling),
+        Command::Flash(_, _) => refuse_update(alloc, state, Refusal::NotInstalling),
         Command::Finish => refuse_update(alloc, state, Refusal::NotInstalling),
         Command::Cancel => refuse_update(alloc, state, Refusal::NothingToCancel),
         Command::BeginMerge => refuse(alloc, state, Refusal::NotStaged),

@@ -1,2 +1,3 @@
 pub mod Space
 pub mod Chunks
+pub mod Differing
