@@ -13,9 +13,10 @@ any_differs differs blocks bs = list_any (λ b. nat_lt b blocks && differs b) bs
 -- which aren't looked at
 abbrev pub chunk_differs : Chunk → (ℕ → Bool) → (blocks : ℕ) → ℕ → Bool
 chunk_differs One differs blocks c = differs c
-chunk_differs Two differs blocks c = any_differs differs blocks (2 * c ∷ 2 * c + 1 ∷ [])
+chunk_differs Two differs blocks c = any_differs differs blocks ((2 * c) ∷ (2 * c + 1) ∷ [])
 chunk_differs Four differs blocks c =
-    any_differs differs blocks (4 * c ∷ 4 * c + 1 ∷ 4 * c + 2 ∷ 4 * c + 3 ∷ [])
+    any_differs differs blocks
+    ((4 * c) ∷ (4 * c + 1) ∷ (4 * c + 2) ∷ (4 * c + 3) ∷ [])
 
 -- the chunks of so many blocks that differ, in ascending order
 unfoldable pub differing_chunks : Chunk → (ℕ → Bool) → (blocks : ℕ) → List ℕ

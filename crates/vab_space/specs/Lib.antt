@@ -1,3 +1,4 @@
 pub mod Space
 pub mod Chunks
 pub mod Differing
+pub mod Sectors

@@ -6,6 +6,7 @@ ghost use Rattle.vab_space.specs.Space.{need_of, blocks_of, growth_of, used_of, 
 ghost use Rattle.vab_space.specs.Chunks.{blocks_in, block_in, chunk_at, place_in, chunks_in};
 ghost use Rattle.vab_space.specs.Chunks.{chunks_for, entries_in, need_at, page_block, pages_in};
 ghost use Rattle.vab_space.specs.Chunks.{is_area, is_data, new_chunk_of, page_of, entry_of};
+ghost use Rattle.vab_space.specs.Sectors.{sectors_in, chunk_of_sectors};
 
 /// The size of a chunk of an exception store, in blocks of 4096 bytes.
 #[derive(Clone, Copy, Debug, PartialEq, Eq)]
@@ -26,6 +27,25 @@ impl Chunk {
             Chunk::One => 1,
             Chunk::Two => 2,
             Chunk::Four => 4,
+        }
+    }
+
+    /// How many sectors of 512 bytes it has: 8, 16 or 32.
+    pub fn sectors(self) -> u64
+        ensures { result ≡ sectors_in self }
+    {
+        8 * self.blocks()
+    }
+
+    /// The chunk of so many sectors, which are 8, 16 or 32.
+    pub fn from_sectors(sectors: u64) -> Option<Chunk>
+        ensures { result ≡ chunk_of_sectors sectors }
+    {
+        match sectors {
+            8 => Some(Chunk::One),
+            16 => Some(Chunk::Two),
+            32 => Some(Chunk::Four),
+            _ => None,
         }
     }
 
