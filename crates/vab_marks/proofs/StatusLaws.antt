@@ -3,7 +3,6 @@ use Rattle.std.proofs.Common.{◌≡◌, ℕ, ◌+◌, ◌-◌, ◌^◌, ◌<◌
 use Rattle.std.proofs.Common.{List, [], ◌∷◌, ◌++◌, length, take, drop, replicate, get_or, Option}
 use Rattle.std.proofs.Common.{Some, None, Result, Ok, Err, refl, sym, ap, subst, ◌∙◌, arith, lit<}
 use Rattle.std.proofs.Common.{lit≤}
-use Rattle.std.specs.Prelude.{option_map, ok_or}
 use Rattle.std.specs.Int.{w16, w64, to_le_bytes}
 use Rattle.std.proofs.lemmas.Bool.{eqb-true, eq-eqb, and_parts, and_from, cond-true}
 use Rattle.std.proofs.lemmas.List.{length-replicate, drop-drop, take_at, drop_at, length-append}
@@ -15,6 +14,9 @@ use Rattle.vab_bytes.proofs.NumberLaws.{le_at_is_16, le_at_is_64}
 use Rattle.vab_bytes.specs.Name.{IsName, name_field, name_of_field}
 use Rattle.vab_bytes.proofs.NameLaws.{name_fits, found_name, only_name}
 use Rattle.vab_bytes.specs.Crc.{crc_of}
+use Rattle.vab_space.specs.declared.Chunk.{Chunk}
+use Rattle.vab_space.specs.declared.Chunk.TheVariants.{One, Two, Four}
+use Rattle.vab_space.specs.Sectors.{sectors_in, chunk_of_sectors}
 use Rattle.vab_marks.specs.declared.sector.MarkFault.{MarkFault}
 use Rattle.vab_marks.specs.declared.sector.MarkFault.TheVariants.{BadField, BadMagic}
 use Rattle.vab_marks.specs.declared.status.PartStatus.{PartStatus}
@@ -24,7 +26,7 @@ use Rattle.vab_marks.proofs.SectorLaws.{zeros_from, field-add, field-one, length
 use Rattle.vab_marks.proofs.SectorLaws.{field-sealed, get_or-sealed, unless_ok, front_sum, head_is}
 use Rattle.vab_marks.proofs.SectorLaws.{head_again, zero_head}
 use Rattle.vab_marks.specs.Status.{FitsStatus, status_magic, status_front, status_spelling}
-use Rattle.vab_marks.specs.Status.{with_name, status_fields, status_of}
+use Rattle.vab_marks.specs.Status.{with_fields, status_fields, status_of}
 
 -- ---- the front of the sector
 
@@ -34,7 +36,7 @@ front_is : (bytes : List ℕ) (s : PartStatus)
     → take 4 bytes ≡ status_magic
     → get_or bytes 4 0 ≡ 1
     → get_or bytes 5 0 ≡ 1
-    → field bytes 6 2 ≡ to_le_bytes w16 8
+    → field bytes 6 2 ≡ to_le_bytes w16 (sectors_in s.chunk)
     → field bytes 8 36 ≡ name_field s.name
     → field bytes 44 8 ≡ to_le_bytes w64 s.count
     → field bytes 52 456 ≡ zeros 456
@@ -51,12 +53,13 @@ front_is bytes s len magic version state chunk name count rest =
     field-add bytes 8 36 464 ∙ ap (λ (t : List ℕ). t ++ field bytes 44 464) name
     ∙ ap (λ (t : List ℕ). name_field s.name ++ t) from44 in
     let tail : List ℕ = name_field s.name ++ (to_le_bytes w64 s.count ++ zeros 456) in
-    let from6 : field bytes 6 502 ≡ 8 ∷ 0 ∷ tail = field-add bytes 6 2 500
+    let size : List ℕ = to_le_bytes w16 (sectors_in s.chunk) in
+    let from6 : field bytes 6 502 ≡ size ++ tail = field-add bytes 6 2 500
     ∙ ap (λ (t : List ℕ). t ++ field bytes 8 500) chunk
-    ∙ ap (λ (t : List ℕ). 8 ∷ 0 ∷ t) from8 in
-    let from5 : field bytes 5 503 ≡ 1 ∷ 8 ∷ 0 ∷ tail = field-add bytes 5 1 502
+    ∙ ap (λ (t : List ℕ). size ++ t) from8 in
+    let from5 : field bytes 5 503 ≡ 1 ∷ (size ++ tail) = field-add bytes 5 1 502
     ∙ ap (λ (t : List ℕ). t ++ field bytes 6 502) e5 ∙ ap (λ (t : List ℕ). 1 ∷ t) from6 in
-    let from4 : field bytes 4 504 ≡ 1 ∷ 1 ∷ 8 ∷ 0 ∷ tail = field-add bytes 4 1 503
+    let from4 : field bytes 4 504 ≡ 1 ∷ 1 ∷ (size ++ tail) = field-add bytes 4 1 503
     ∙ ap (λ (t : List ℕ). t ++ field bytes 5 503) e4 ∙ ap (λ (t : List ℕ). 1 ∷ t) from5 in
     field-add bytes 0 4 504 ∙ ap (λ (t : List ℕ). t ++ field bytes 4 504) magic
     ∙ ap (λ (t : List ℕ). status_magic ++ t) from4
@@ -84,11 +87,53 @@ length-front s h =
 
 -- ---- reading
 
-with_name_ok : (count : ℕ) (o : Option (List ℕ)) (s : PartStatus)
-    → ok_or (option_map (with_name count) o) BadField ≡ Ok s
-    → (name : List ℕ) × (o ≡ Some name) × (with_name count name ≡ s)
-with_name_ok count None s h = absurd cc
-with_name_ok count (Some name) s h = (name, refl, cc)
+-- the size of a chunk is read back
+chunk_again : (k : Chunk) → chunk_of_sectors (sectors_in k) ≡ Some k
+chunk_again One = refl
+chunk_again Two = refl
+chunk_again Four = refl
+
+chunk_small : (k : Chunk) → sectors_in k < 2 ^ 16
+chunk_small One = lit< tt
+chunk_small Two = lit< tt
+chunk_small Four = lit< tt
+
+-- what is read as one is its size
+chunk_was : (n : ℕ) (k : Chunk) → chunk_of_sectors n ≡ Some k → n ≡ sectors_in k
+chunk_was n k h = by_tests (eqb n 8) (eqb n 16) (eqb n 32) (eqb-true n 8) (eqb-true n 16)
+    (eqb-true n 32) h
+  where
+    by_tests : (a b c : Bool)
+        → (a ≡ true → n ≡ 8)
+        → (b ≡ true → n ≡ 16)
+        → (c ≡ true → n ≡ 32)
+        → cond a (Some One) (cond b (Some Two) (cond c (Some Four) None)) ≡ Some k
+        → n ≡ sectors_in k
+    by_tests true b c first second third h =
+        let same : One ≡ k = cc in first refl ∙ ap sectors_in same
+    by_tests false true c first second third h =
+        let same : Two ≡ k = cc in second refl ∙ ap sectors_in same
+    by_tests false false true first second third h =
+        let same : Four ≡ k = cc in third refl ∙ ap sectors_in same
+    by_tests false false false first second third h = absurd cc
+
+-- the fields of what is read
+record AreFields (n : ℕ) (size : Option Chunk) (o : Option (List ℕ)) (s : PartStatus)
+    : Type 0 where
+  chunk : size ≡ Some s.chunk
+  name : o ≡ Some s.name
+  count : s.count ≡ n
+
+with_fields_ok : (count : ℕ) (size : Option Chunk) (o : Option (List ℕ)) (s : PartStatus)
+    → with_fields count size o ≡ Ok s
+    → AreFields count size o s
+with_fields_ok count None o s h = absurd cc
+with_fields_ok count (Some k) None s h = absurd cc
+with_fields_ok count (Some k) (Some name) s h =
+    let read : PartStatus = record { name = name; count = count; chunk = k } in
+    let same : read ≡ s = cc in
+    subst (λ (t : PartStatus). AreFields count (Some k) (Some name) t) same
+    (record { chunk = refl; name = refl; count = refl })
 
 fields_ok : (t : Bool) (r : Result PartStatus MarkFault) (s : PartStatus)
     → cond t r (Err BadField) ≡ Ok s
@@ -107,32 +152,27 @@ found_status bytes s len are h =
     let known : Bool = eqb (get_or bytes 4 0) 1 in
     let u = unless_ok (head_fault status_magic known bytes) (status_fields bytes) s h in
     let head = head_is status_magic known bytes len are u.0 in
-    let f = fields_ok (eqb (get_or bytes 5 0) 1 && eqb (le_at w16 bytes 6) 8 && are_zeros
-    (field bytes 52 456)) _ s u.1 in
-    let tests = and_parts (eqb (get_or bytes 5 0) 1 && eqb (le_at w16 bytes 6) 8)
-    (are_zeros (field bytes 52 456)) f.0 in
-    let numbers = and_parts (eqb (get_or bytes 5 0) 1) (eqb (le_at w16 bytes 6) 8) tests.0 in
-    let chunk : field bytes 6 2 ≡ to_le_bytes w16 8 =
+    let f = fields_ok (eqb (get_or bytes 5 0) 1 && are_zeros (field bytes 52 456)) _ s u.1 in
+    let tests = and_parts (eqb (get_or bytes 5 0) 1) (are_zeros (field bytes 52 456)) f.0 in
+    let n = with_fields_ok (le_at w64 bytes 44) (chunk_of_sectors (le_at w16 bytes 6))
+    (name_of_field (field bytes 8 36)) s f.1 in
+    let chunk : field bytes 6 2 ≡ to_le_bytes w16 (sectors_in s.chunk) =
     sym (le_at_spelled_16 bytes 6 (omega (arith, len)) are)
-    ∙ ap (to_le_bytes w16) (eqb-true _ _ numbers.1) in
-    let n = with_name_ok (le_at w64 bytes 44) (name_of_field (field bytes 8 36)) s f.1 in
-    let name = found_name (field bytes 8 36) n.0 (length-field bytes 8 36 (omega (arith, len)))
-    n.1 in
-    let read : PartStatus = with_name (le_at w64 bytes 44) n.0 in
-    let count : field bytes 44 8 ≡ to_le_bytes w64 (le_at w64 bytes 44) =
-    sym (le_at_spelled_64 bytes 44 (omega (arith, len)) are) in
+    ∙ ap (to_le_bytes w16) (chunk_was (le_at w16 bytes 6) s.chunk n.chunk) in
+    let name = found_name (field bytes 8 36) s.name (length-field bytes 8 36 (omega (arith, len)))
+    n.name in
+    let count : field bytes 44 8 ≡ to_le_bytes w64 s.count =
+    sym (le_at_spelled_64 bytes 44 (omega (arith, len)) are)
+    ∙ ap (to_le_bytes w64) (sym n.count) in
     let rest : field bytes 52 456 ≡ zeros 456 =
     zeros_from (field bytes 52 456) 456 (length-field bytes 52 456 (omega (arith, len)))
     tests.1 in
-    let front : take 508 bytes ≡ status_front read =
-    front_is bytes read len head.first (eqb-true _ _ head.version) (eqb-true _ _ numbers.0) chunk
+    let front : take 508 bytes ≡ status_front s =
+    front_is bytes s len head.first (eqb-true _ _ head.version) (eqb-true _ _ tests.0) chunk
     name.1 count rest in
-    let P : PartStatus → Type 0 = λ k. FitsStatus k × (bytes ≡ sealed (status_front k)) in
-    subst P n.2 (
-      record { name = name.0; count = le_at_fits_64 bytes 44 are },
-      head.whole
-          ∙ ap sealed front,
-    )
+    let small : s.count < 2 ^ 64 =
+    subst (λ (k : ℕ). k < 2 ^ 64) (sym n.count) (le_at_fits_64 bytes 44 are) in
+    (record { name = name.0; count = small }, head.whole ∙ ap sealed front)
 
 -- what is spelled so is read
 pub only_status : (s : PartStatus)
@@ -152,8 +192,11 @@ only_status s sum fits =
     let head : head_fault status_magic (eqb (get_or whole 4 0) 1) whole ≡ None =
     head_again status_magic (eqb (get_or whole 4 0) 1) front len sum refl version in
     let state : get_or whole 5 0 ≡ 1 = get_or-sealed front 5 (omega (arith, len)) in
-    let chunk : le_at w16 whole 6 ≡ 8 = le_at_is_16 whole 6 8 (lit< tt)
+    let chunk : le_at w16 whole 6 ≡ sectors_in s.chunk =
+    le_at_is_16 whole 6 (sectors_in s.chunk) (chunk_small s.chunk)
     (field-sealed front 6 2 (omega (arith, len))) in
+    let sized : chunk_of_sectors (le_at w16 whole 6) ≡ Some s.chunk =
+    ap chunk_of_sectors chunk ∙ chunk_again s.chunk in
     let named : field whole 8 36 ≡ name = field-sealed front 8 36 (omega (arith, len))
     ∙ take_at name rest 36 long in
     let counted : le_at w64 whole 44 ≡ s.count =
@@ -168,15 +211,17 @@ only_status s sum fits =
     ∙ are_zeros-zeros 456 in
     let read : name_of_field (field whole 8 36) ≡ Some s.name =
     only_name (field whole 8 36) s.name fits.name named in
-    let numbers : (eqb (get_or whole 5 0) 1 && eqb (le_at w16 whole 6) 8) ≡ true =
-    and_from _ _ (eq-eqb _ 1 state) (eq-eqb _ 8 chunk) in
     let of_head : Option MarkFault → Result PartStatus MarkFault = λ o.
     unless o (status_fields whole) in
+    let of_chunk : Option Chunk → Result PartStatus MarkFault = λ o.
+    with_fields (le_at w64 whole 44) o (name_of_field (field whole 8 36)) in
     let of_name : Option (List ℕ) → Result PartStatus MarkFault = λ o.
-    ok_or (option_map (with_name (le_at w64 whole 44)) o) BadField in
-    let of_count : ℕ → Result PartStatus MarkFault = λ k. Ok (with_name k s.name) in
-    ap of_head head ∙ cond-true _ _ (Err BadField) (and_from _ _ numbers clean) ∙ ap of_name read
-    ∙ ap of_count counted
+    with_fields (le_at w64 whole 44) (Some s.chunk) o in
+    let of_count : ℕ → Result PartStatus MarkFault = λ k.
+    with_fields k (Some s.chunk) (Some s.name) in
+    ap of_head head
+    ∙ cond-true _ _ (Err BadField) (and_from _ _ (eq-eqb _ 1 state) clean)
+    ∙ ap of_chunk sized ∙ ap of_name read ∙ ap of_count counted
 
 pub read_status : (bytes : List ℕ) (s : PartStatus)
     → IsBytes bytes
@@ -194,14 +239,15 @@ read_status bytes s are fits h =
 abbrev pub status_drawn : PartStatus → List ℕ
 status_drawn s =
     put_at (put_at (put_at (put_at (put_at (zeros 512) 0 status_magic) 4 (1 ∷ 1 ∷ [])) 6
-    (to_le_bytes w16 8)) 8 s.name) 44 (to_le_bytes w64 s.count)
+    (to_le_bytes w16 (sectors_in s.chunk))) 8 s.name) 44 (to_le_bytes w64 s.count)
 
 pub drawn_status : (s : PartStatus) → IsName s.name → take 508 (status_drawn s) ≡ status_front s
 drawn_status s h =
     let z : List ℕ = zeros 512 in
     let b1 : List ℕ = put_at z 0 status_magic in
     let b2 : List ℕ = put_at b1 4 (1 ∷ 1 ∷ []) in
-    let b3 : List ℕ = put_at b2 6 (to_le_bytes w16 8) in
+    let size : List ℕ = to_le_bytes w16 (sectors_in s.chunk) in
+    let b3 : List ℕ = put_at b2 6 size in
     let b4 : List ℕ = put_at b3 8 s.name in
     let count : List ℕ = to_le_bytes w64 s.count in
     let n : ℕ = length s.name in
@@ -209,16 +255,17 @@ drawn_status s h =
     let l0 : length z ≡ 512 = length-zeros 512 in
     let l1 : length b1 ≡ 512 = length-put_at z 0 status_magic (omega (arith, l0)) ∙ l0 in
     let l2 : length b2 ≡ 512 = length-put_at b1 4 (1 ∷ 1 ∷ []) (omega (arith, l1)) ∙ l1 in
-    let l3 : length b3 ≡ 512 = length-put_at b2 6 (to_le_bytes w16 8) (omega (arith, l2)) ∙ l2 in
+    let l3 : length b3 ≡ 512 = length-put_at b2 6 size (omega (arith, l2)) ∙ l2 in
     let l4 : length b4 ≡ 512 = length-put_at b3 8 s.name (omega (arith, l3, most)) ∙ l3 in
     let l5 : length (status_drawn s) ≡ 512 = length-put_at b4 44 count (omega (arith, l4)) ∙ l4 in
     let blank : (at m : ℕ) → 8 ≤ at → at + m ≤ 512 → field b3 at m ≡ zeros m =
-    λ at m from to. field-put_at_above b2 6 (to_le_bytes w16 8) at m (omega (arith, l2))
+    λ at m from to. field-put_at_above b2 6 size at m (omega (arith, l2))
     (omega (arith, from)) ∙ field-put_at_above b1 4 (1 ∷ 1 ∷ []) at m (omega (arith, l1))
     (omega (arith, from)) ∙ field-put_at_above z 0 status_magic at m (omega (arith, l0))
     (omega (arith, from)) ∙ field-zeros 512 at m to in
     let fits3 : 8 + n ≤ length b3 = omega (arith, l3, most) in
     let fits4 : 44 + length count ≤ length b4 = omega (arith, l4) in
+    let sized : field b3 6 2 ≡ size = field-put_at_same b2 6 2 size (omega (arith, l2)) refl in
     let low : (at m : ℕ) → at + m ≤ 8 → field (status_drawn s) at m ≡ field b3 at m =
     λ at m le. field-put_at_below b4 44 count at m fits4 (omega (arith, le))
     ∙ field-put_at_below b3 8 s.name at m fits3 le in
@@ -239,7 +286,7 @@ drawn_status s h =
     field-put_at_above b4 44 count 52 456 fits4 (lit≤ tt) ∙ field-put_at_above b3 8 s.name 52 456
     fits3 (omega (arith, most)) ∙ blank 52 456 (lit≤ tt) (lit≤ tt) in
     front_is (status_drawn s) s l5 (low 0 4 (lit≤ tt)) (low_byte 4 (lit< tt)) (low_byte 5 (lit< tt))
-    (low 6 2 (lit≤ tt)) name (field-put_at_same b4 44 8 count fits4 refl) rest
+    (low 6 2 (lit≤ tt) ∙ sized) name (field-put_at_same b4 44 8 count fits4 refl) rest
 
 -- a sector whose first byte is zero is no status
 pub zero_is_no_status : (bytes : List ℕ) → get_or bytes 0 0 ≡ 0 → status_of bytes ≡ Err BadMagic

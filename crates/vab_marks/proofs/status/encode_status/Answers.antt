@@ -14,6 +14,7 @@ front c =
       c.put-3.ensures,
       c.text.ensures.value,
       c.put_le16.ensures,
+      c.sectors.ensures,
       c.put-2.ensures,
       c.put.ensures,
       c.blank-bytes.ensures,
