@@ -9,8 +9,9 @@ use Rattle.vab_names.specs.Names.{store_of}
 use Rattle.vab_marks.specs.declared.mark.MarkPhase.{MarkPhase}
 use Rattle.vab_marks.specs.declared.mark.MarkPhase.TheVariants as marks
 use Rattle.vab_marks.specs.declared.status.PartStatus.{PartStatus}
+use Rattle.vab_space.specs.declared.Chunk.{Chunk}
 use Rattle.vab_exceptions.specs.declared.area.Exception.{Exception}
-use Rattle.vab_store.specs.View.{view_of}
+use Rattle.vab_store.specs.View.{stored_at}
 use Rattle.vab_statuses.specs.Statuses.{written_in}
 use Rattle.vab_geometry.specs.declared.geometry.Geometry.{Geometry}
 use Rattle.vab_lpstore.specs.Loading.{slot_table}
@@ -34,7 +35,7 @@ use Rattle.vab_device.specs.Reading.{parts_by}
 use Rattle.vab_device.specs.Reading.{read_table, kept, stores_of, Reads, IsOfBlocks, IsOfParts}
 use Rattle.vab_device.specs.Reading.{IsOfImages, IsOfStores, IsOfWritten, IsOfPlanned, IsOfPlan}
 use Rattle.vab_device.specs.Stores.{Wanted, Scanned, first_named, wanted_by, wanted_of, or_fewer}
-use Rattle.vab_device.specs.Stores.{exceptions_of, sector_seen, sectors_seen}
+use Rattle.vab_device.specs.Stores.{scanned_named, sector_seen, sectors_seen}
 use Rattle.vab_device.proofs.CheckLaws.{bound}
 
 -- ---- partitions
@@ -194,22 +195,22 @@ chosen_or : (store : List ℕ) (own : ℕ) (chunk : Option ℕ) (s : ℕ)
     → IsOfBlocks (sector_seen store own chunk ∷ []) s
     → IsOfBlocks store s ⊎ IsOfBlocks (own ∷ []) s
 chosen_or store own None s is = inr is
-chosen_or store own (Some chunk) s is = block_or store chunk own s is
+chosen_or store own (Some stored) s is = block_or store stored own s is
 
 -- a sector that is seen is one of the store's or of the partition's own
-pub seen_or : (store : List ℕ) (es : List Exception) (n : ℕ) (own : List ℕ) (s : ℕ)
-    → IsOfBlocks (sectors_seen store es n own) s
+pub seen_or : (k : Chunk) (store : List ℕ) (es : List Exception) (n : ℕ) (own : List ℕ) (s : ℕ)
+    → IsOfBlocks (sectors_seen k store es n own) s
     → IsOfBlocks store s ⊎ IsOfBlocks own s
-seen_or store es n [] s is = absurd is
-seen_or store es n (b ∷ bs) s (inl is) =
+seen_or k store es n [] s is = absurd is
+seen_or k store es n (b ∷ bs) s (inl is) =
     ⊎_elim (λ here. inl here) (λ there. inr (own_here there))
-    (chosen_or store b (view_of es n) s (inl is))
+    (chosen_or store b (stored_at k es n) s (inl is))
   where
     own_here : IsOfBlocks (b ∷ []) s → IsOfBlocks (b ∷ bs) s
     own_here (inl here) = inl here
     own_here (inr none) = absurd none
-seen_or store es n (b ∷ bs) s (inr is) =
-    ⊎_elim (λ here. inl here) (λ there. inr (inr there)) (seen_or store es (n + 1) bs s is)
+seen_or k store es n (b ∷ bs) s (inr is) =
+    ⊎_elim (λ here. inl here) (λ there. inr (inr there)) (seen_or k store es (n + 1) bs s is)
 
 store_from : (first low : ℕ) (q : Option PartOfLayout) (s : ℕ)
     → low ≤ 4096 + first
@@ -228,12 +229,12 @@ through_from low l ss p Kept s le is =
     sectors_from l.device.first_logical_sector low p.blocks s le is
 through_from low l ss p Declared s le is =
     sectors_from l.device.first_logical_sector low p.blocks s le is
-through_from low l ss p (Written es) s le is =
+through_from low l ss p (Written k es) s le is =
     let first = l.device.first_logical_sector in
     ⊎_elim
     (λ here. store_from first low (first_named (store_of p.name) l.parts) s le here)
     (λ there. sectors_from first low p.blocks s le there)
-    (seen_or (blocks_there (store_on l p.name)) es 0 (sectors_of first p.blocks) s is)
+    (seen_or k (blocks_there (store_on l p.name)) es 0 (sectors_of first p.blocks) s is)
 
 written_from : (low : ℕ) (l : Layout) (ss : List Scanned) (p : PartOfLayout) (image : PartImage)
     (s : ℕ)
@@ -242,7 +243,7 @@ written_from : (low : ℕ) (l : Layout) (ss : List Scanned) (p : PartOfLayout) (
     → low ≤ s
 written_from low l ss p Kept s le is = absurd is
 written_from low l ss p Declared s le is = absurd is
-written_from low l ss p (Written es) s le is = through_from low l ss p (Written es) s le is
+written_from low l ss p (Written k es) s le is = through_from low l ss p (Written k es) s le is
 
 targets_from : (low : ℕ) (l : Layout) (ss : List Scanned) (parts : List PartOfLayout) (s : ℕ)
     → low ≤ 4096 + l.device.first_logical_sector
@@ -250,7 +251,7 @@ targets_from : (low : ℕ) (l : Layout) (ss : List Scanned) (parts : List PartOf
     → low ≤ s
 targets_from low l ss [] s le is = absurd is
 targets_from low l ss (p ∷ ps) s le (inl is) =
-    through_from low l ss p (planned_image (is_updated p) (exceptions_of p.name ss)) s le is
+    through_from low l ss p (planned_image (is_updated p) (scanned_named p.name ss)) s le is
 targets_from low l ss (p ∷ ps) s le (inr is) = targets_from low l ss ps s le is
 
 slot_from : (low slot : ℕ) (through : Bool) (ss : List Scanned) (t : Table) (s : ℕ)
@@ -282,7 +283,7 @@ planned_from : (low : ℕ) (l : Layout) (ss : List Scanned) (parts : List PartOf
     → low ≤ s
 planned_from low l ss [] s le is = absurd is
 planned_from low l ss (p ∷ ps) s le (inl is) =
-    written_from low l ss p (planned_image (is_updated p) (exceptions_of p.name ss)) s le is
+    written_from low l ss p (planned_image (is_updated p) (scanned_named p.name ss)) s le is
 planned_from low l ss (p ∷ ps) s le (inr is) = planned_from low l ss ps s le is
 
 phase_plan_from : (low slot : ℕ) (m : MarkPhase) (ts : List Table) (ss : List Scanned) (s : ℕ)

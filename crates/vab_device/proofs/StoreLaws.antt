@@ -6,11 +6,12 @@ use Rattle.std.specs.Prelude.{Bool, true, false, map, Option, Some, None}
 use Rattle.vab_disk.specs.Disk.{Image}
 use Rattle.vab_disk.specs.Calls.{IsBetween}
 use Rattle.vab_exceptions.specs.declared.area.Exception.{Exception}
-use Rattle.vab_exceptions.specs.Entries.{area_entries, entry_at}
+use Rattle.vab_exceptions.specs.Entries.{entry_at}
 use Rattle.vab_exceptions.specs.Header.{header_of}
-use Rattle.vab_space.specs.declared.Chunk.TheVariants.{One}
+use Rattle.vab_space.specs.declared.Chunk.{Chunk}
 use Rattle.vab_store.specs.declared.fault.StoreFault.{StoreFault}
-use Rattle.vab_space.specs.Chunks.{area_chunk}
+use Rattle.vab_space.specs.Chunks.{page_block, page_entries}
+use Rattle.vab_space.proofs.ChunkLaws.{page_inside, chunks_fewer}
 use Rattle.vab_store.specs.Layout.{chunk_bytes, slot_at, slots_of}
 use Rattle.vab_store.specs.Scan.{scan_of}
 use Rattle.vab_store.proofs.ChunkLaws.{chunk_same}
@@ -55,30 +56,31 @@ in_blocks (b ∷ bs) zero s below is = inl is
 in_blocks (b ∷ bs) (suc c) s below is = inr (in_blocks bs c s (omega (arith, below)) is)
 
 module _
-    (store : List ℕ) (old new : Image)
+    (k : Chunk) (store : List ℕ) (old new : Image)
     (same : (s : ℕ) → IsOfBlocks store s → new s ≡ old s) where
   chunk_kept : (c : ℕ) → c < length store → chunk_bytes store new c ≡ chunk_bytes store old c
   chunk_kept c below = chunk_same store old new c (λ s is. same s (in_blocks store c s below is))
 
   slot_kept : (t : ℕ)
-      → t < slots_of One store
-      → slot_at One store new t ≡ slot_at One store old t
+      → t < slots_of k store
+      → slot_at k store new t ≡ slot_at k store old t
   unfolding slot_at
   slot_kept t below =
-      let within : area_chunk One (t / area_entries) < length store = omega (arith, below) in
-      ap (λ bytes. entry_at bytes (t % area_entries))
-      (chunk_kept (area_chunk One (t / area_entries)) within)
+      let page : ℕ = page_block k (t / page_entries) in
+      let within : page < length store =
+      page_inside k (length store) (t / page_entries) (omega (arith, below)) in
+      ap (λ bytes. entry_at bytes (t % page_entries)) (chunk_kept page within)
 
   pub scan_kept : (bound : ℕ) (es : List Exception)
-      → scan_of One store bound old ≡ Ok es
-      → scan_of One store bound new ≡ Ok es
+      → scan_of k store bound old ≡ Ok es
+      → scan_of k store bound new ≡ Ok es
   scan_kept bound es is =
       let was = scan_of_ok store bound old es is in
       scan_of_is store bound new es (record {
         fits = was.fits;
         header =
             ap (λ bytes. header_of (take 512 bytes))
-            (chunk_kept 0 (omega (arith, was.fits.chunks)))
+            (chunk_kept 0 (omega (arith, chunks_fewer k (length store) 2 was.fits.chunks)))
             ∙ was.header;
         reads = λ t below. slot_kept t (omega (arith, below, was.fits.room)) ∙ was.reads t below;
         stops =
@@ -100,8 +102,8 @@ store_kept : (w : Wanted) (old new : Image) (s : Scanned)
     → scan_at w new ≡ scan_at w old
 unfolding scan_at
 store_kept w old new s same is =
-    let taken = scan_taken w (scan_of One w.store (length w.base) old) s is in
-    let new_is = scan_kept w.store old new same (length w.base) taken.0 taken.1 in
+    let taken = scan_taken w (scan_of w.chunk w.store (length w.base) old) s is in
+    let new_is = scan_kept w.chunk w.store old new same (length w.base) taken.0 taken.1 in
     ap (scan_read w) (new_is ∙ sym taken.1)
 
 pub stores_kept : (ws : List (Result Wanted StartFault)) (old new : Image) (ss : List Scanned)
@@ -124,7 +126,8 @@ image_kept : (p : Part) (image : PartImage) (old new : Image)
     → planned_on new p image ≡ planned_on old p image
 image_kept p Kept old new same = refl
 image_kept p Declared old new same = refl
-image_kept p (Written es) old new same = rw (bytes_same old new (written_sectors p es) same) refl
+image_kept p (Written k es) old new same =
+    rw (bytes_same old new (written_sectors p k es) same) refl
 
 planned_kept : (plan : List Part) (old new : Image)
     → ((s : ℕ) → IsOfPlanned plan s → new s ≡ old s)

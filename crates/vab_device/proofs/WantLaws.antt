@@ -5,7 +5,8 @@ use Rattle.std.proofs.Common.{Option, Result, Ok, Err, Some, None, refl}
 use Rattle.std.specs.Prelude.{◌==◌, nat_lt, nat_le, is_some}
 use Rattle.vab_bootctl.specs.Boot.{info_at}
 use Rattle.vab_names.specs.Names.{is_full, base_of}
-use Rattle.vab_space.specs.Space.{need_of}
+use Rattle.vab_space.specs.declared.Chunk.{Chunk}
+use Rattle.vab_space.specs.Chunks.{need_at}
 use Rattle.vab_layout.specs.declared.layout.Layout.{Layout}
 use Rattle.vab_layout.specs.Slots.{other_slot}
 use Rattle.vab_builder.specs.declared.fault.EditFault.{EditFault}
@@ -102,64 +103,66 @@ module _ (m : Mounted) where
 
   -- ---- an image
 
-  roomed : (source : ℕ) (plan : List PlanEntry) (e : PlanEntry) (store : ℕ) (staged : List ℕ)
-      (n : ℕ)
-      → TellsWanted (if_room m source plan e store staged n)
-  roomed source plan e store staged n =
-      either (nat_le (need_of n) store)
+  roomed : (source : ℕ) (plan : List PlanEntry) (e : PlanEntry) (store : ℕ) (k : Chunk)
+      (staged : List ℕ) (n : ℕ)
+      → TellsWanted (if_room m source plan e store k staged n)
+  roomed source plan e store k staged n =
+      either (nat_le (need_at n k) store)
       (flashed m source plan e staged n)
-      (refuses (refusals.StoreFull (need_of n) store))
+      (refuses (refusals.StoreFull (need_at n k) store))
       (λ wants. refl)
-      (refused (refusals.StoreFull (need_of n) store))
+      (refused (refusals.StoreFull (need_at n k) store))
 
-  written : (source : ℕ) (plan : List PlanEntry) (e : PlanEntry) (store : ℕ)
+  written : (source : ℕ) (plan : List PlanEntry) (e : PlanEntry) (store : ℕ) (k : Chunk)
       (staged : Option (List ℕ))
-      → TellsWanted (staged_effect m source plan e store staged)
-  written source plan e store None = refused refusals.NothingStaged
-  written source plan e store (Some staged) =
-      let n : ℕ = differences (source_bytes m.state source e.name) staged e.blocks in
+      → TellsWanted (staged_effect m source plan e store k staged)
+  written source plan e store k None = refused refusals.NothingStaged
+  written source plan e store k (Some staged) =
+      let n : ℕ = differences k (source_bytes m.state source e.name) staged e.blocks in
       let large : Refusal = refusals.TooLarge (length staged) (4096 * e.blocks) in
-      let room : Effect Mounted = if_room m source plan e store staged n in
+      let room : Effect Mounted = if_room m source plan e store k staged n in
       let is_large : Bool = nat_lt (4096 * e.blocks) (length staged) in
       either (is_sparse staged) (refuses refusals.Sparse)
       (cond is_large (refuses large) room)
       (refused refusals.Sparse)
       (either is_large (refuses large) room (refused large)
-      (roomed source plan e store staged n))
+      (roomed source plan e store k staged n))
 
   stored : (source : ℕ) (plan : List PlanEntry) (name : List ℕ) (group : Option (List ℕ))
-      (blocks : ℕ) (own store : Option ℕ) (staged : Option (List ℕ)) (image : PlanImage)
+      (blocks : ℕ) (own store : Option ℕ) (k : Chunk) (staged : Option (List ℕ))
+      (image : PlanImage)
       → TellsWanted (stored_effect m source plan
       (record { name = name; group = group; blocks = blocks; store = own; image = image })
-      staged store)
-  stored source plan name group blocks own None staged image = refused refusals.NoStore
-  stored source plan name group blocks own (Some store) staged Kept =
+      k staged store)
+  stored source plan name group blocks own None k staged image = refused refusals.NoStore
+  stored source plan name group blocks own (Some store) k staged Kept =
       written source plan
       (record { name = name; group = group; blocks = blocks; store = own; image = Kept })
-      store staged
-  stored source plan name group blocks own (Some store) staged Declared =
+      store k staged
+  stored source plan name group blocks own (Some store) k staged Declared =
       written source plan
       (record { name = name; group = group; blocks = blocks; store = own; image = Declared })
-      store staged
-  stored source plan name group blocks own (Some store) staged (Written bytes count) =
+      store k staged
+  stored source plan name group blocks own (Some store) k staged (Written bytes count) =
       refused refusals.Written
 
-  found : (source : ℕ) (plan : List PlanEntry) (staged : Option (List ℕ)) (e : Option PlanEntry)
-      → TellsWanted (entry_effect m source plan staged e)
-  found source plan staged None = refused refusals.Unknown
-  found source plan staged (Some e) =
-      stored source plan e.name e.group e.blocks e.store e.store staged e.image
+  found : (source : ℕ) (plan : List PlanEntry) (k : Chunk) (staged : Option (List ℕ))
+      (e : Option PlanEntry)
+      → TellsWanted (entry_effect m source plan k staged e)
+  found source plan k staged None = refused refusals.Unknown
+  found source plan k staged (Some e) =
+      stored source plan e.name e.group e.blocks e.store e.store k staged e.image
 
-  flashes : (staged : Option (List ℕ)) (name : List ℕ) (phase : Phase)
-      → TellsWanted (flash_effect m staged name phase)
-  flashes staged name (Installing source plan) =
+  flashes : (staged : Option (List ℕ)) (name : List ℕ) (k : Chunk) (phase : Phase)
+      → TellsWanted (flash_effect m staged name k phase)
+  flashes staged name k (Installing source plan) =
       let e : Option PlanEntry = entry_named (base_of name) plan in
       either (is_full (other_slot source) name)
-      (entry_effect m source plan staged e)
+      (entry_effect m source plan k staged e)
       (refuses refusals.BadName)
-      (found source plan staged e)
+      (found source plan k staged e)
       (refused refusals.BadName)
-  flashes staged name _ = refused refusals.NotInstalling
+  flashes staged name k _ = refused refusals.NotInstalling
 
   -- ---- commands that want nothing
 
@@ -246,7 +249,7 @@ module _ (m : Mounted) where
   wants_told staged (Resize name size) = edits (resize_edit name size) m.state.phase
   wants_told staged (Delete name) = edits (delete_edit name) m.state.phase
   wants_told staged (Snapshot name size) = edits (snapshot_edit name size) m.state.phase
-  wants_told staged (Flash name) = flashes staged name m.state.phase
+  wants_told staged (Flash name k) = flashes staged name k m.state.phase
   wants_told staged Finish = nothing_told (finish_effect m m.state.phase) (finishes m.state.phase)
   wants_told staged (SetActive n) = verb_told staged (SetActive n) refl
   wants_told staged Boot = verb_told staged Boot refl

@@ -7,7 +7,6 @@ use Rattle.vab_names.specs.Names.{is_base, base_of, default_name, most_partition
 use Rattle.vab_bootctl.specs.Control.{Fits as FitsControl}
 use Rattle.vab_marks.specs.declared.mark.MarkPhase.{MarkPhase}
 use Rattle.vab_marks.specs.declared.mark.MarkPhase.TheVariants as marks
-use Rattle.vab_space.specs.declared.Chunk.TheVariants.{One}
 use Rattle.vab_store.specs.View.{Fits}
 use Rattle.vab_tables.specs.declared.entries.Group.{Group}
 use Rattle.vab_tables.specs.declared.entries.BlockDevice.{BlockDevice}
@@ -88,11 +87,11 @@ pub record IsStore (size : ℕ) (store : List ℕ) : Type 0 where
 abbrev pub IsStored : ℕ → List ℕ → Option (List ℕ) → PartImage → Type 0
 IsStored size base None Kept = Unit {0}
 IsStored size base None Declared = Unit {0}
-IsStored size base None (Written es) = ⊥
+IsStored size base None (Written k es) = ⊥
 IsStored size base (Some store) Kept = IsStore size store
 IsStored size base (Some store) Declared = IsStore size store
-IsStored size base (Some store) (Written es) =
-    IsStore size store × Fits One (length base) store es
+IsStored size base (Some store) (Written k es) =
+    IsStore size store × Fits k (length base) store es
 
 -- Its name, at most 2^28 blocks on the disk, none twice, and its store.
 pub record IsPart (size : ℕ) (p : Part) : Type 0 where

@@ -15,6 +15,7 @@ use Rattle.vab_geometry.specs.declared.geometry.Geometry.{Geometry}
 use Rattle.vab_layout.specs.declared.layout.Layout.{Layout}
 use Rattle.vab_layout.specs.Layout.{layout_of}
 use Rattle.vab_layout.specs.Plain.{plain}
+use Rattle.vab_space.specs.declared.Chunk.{Chunk}
 use Rattle.vab_exceptions.specs.declared.area.Exception.{Exception}
 use Rattle.vab_model.specs.declared.state.Image.{Image as ImageOfSlot}
 use Rattle.vab_model.specs.declared.state.PlanImage.{PlanImage}
@@ -56,13 +57,13 @@ blocks_there None = []
 blocks_there (Some store) = store
 
 -- the sectors that a read of a partition takes that is written through its store
-abbrev pub written_sectors : Part → List Exception → List ℕ
-written_sectors p es = sectors_seen (blocks_there p.store) es 0 p.map
+abbrev pub written_sectors : Part → Chunk → List Exception → List ℕ
+written_sectors p k es = sectors_seen k (blocks_there p.store) es 0 p.map
 
 abbrev pub sectors_by : Part → PartImage → List ℕ
 sectors_by p Kept = p.map
 sectors_by p Declared = p.map
-sectors_by p (Written es) = written_sectors p es
+sectors_by p (Written k es) = written_sectors p k es
 
 -- for each block of a partition, the first of the sectors that a read of it takes
 abbrev pub sectors_read : Part → List ℕ
@@ -84,8 +85,8 @@ images_on image (Some parts) = Some (map (image_on image) parts)
 abbrev pub planned_on : Image → Part → PartImage → PlanImage
 planned_on image p Kept = planned.Kept
 planned_on image p Declared = planned.Declared
-planned_on image p (Written es) =
-    planned.Written (bytes_at image (written_sectors p es)) (length es)
+planned_on image p (Written k es) =
+    planned.Written (bytes_at image (written_sectors p k es)) (length es)
 
 abbrev pub entry_on : Image → Part → PlanEntry
 entry_on image p = record {
@@ -106,7 +107,7 @@ entries_on image (Some plan) = Some (map (entry_on image) plan)
 abbrev pub count_of : PartImage → ℕ
 count_of Kept = 0
 count_of Declared = 0
-count_of (Written es) = length es
+count_of (Written k es) = length es
 
 -- those of all stores
 abbrev pub count_in : List Part → ℕ

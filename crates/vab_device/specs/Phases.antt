@@ -8,7 +8,6 @@ use Rattle.vab_bootctl.specs.Boot.{info_at}
 use Rattle.vab_marks.specs.declared.mark.MarkPhase.{MarkPhase}
 use Rattle.vab_marks.specs.declared.mark.MarkPhase.TheVariants as marks
 use Rattle.vab_marks.specs.declared.status.PartStatus.{PartStatus}
-use Rattle.vab_exceptions.specs.declared.area.Exception.{Exception}
 use Rattle.vab_names.specs.Names.{base_of, store_of}
 use Rattle.vab_tables.specs.declared.table.Table.{Table}
 use Rattle.vab_layout.specs.declared.layout.Part.{Part as PartOfLayout}
@@ -27,7 +26,7 @@ use Rattle.vab_device.specs.declared.device.PartImage.TheVariants.{Kept, Declare
 use Rattle.vab_device.specs.Checks.{Check, check, names_none}
 use Rattle.vab_device.specs.Kept.{sectors_of}
 use Rattle.vab_device.specs.Stores.{Wanted, wanted_of, or_fewer, first_named, Scanned}
-use Rattle.vab_device.specs.Stores.{exceptions_of}
+use Rattle.vab_device.specs.Stores.{scanned_named}
 
 -- No field sees more than it may depend on. A slot is that of the update mark, and the most are the
 -- most partitions that a slot may have.
@@ -114,10 +113,10 @@ update_checks most source s t =
     ∷ []
 
 -- what is known of a partition that is updated or not, and the exceptions of its store
-abbrev pub planned_image : Bool → Option (List Exception) → PartImage
-planned_image false es = Kept
+abbrev pub planned_image : Bool → Option Scanned → PartImage
+planned_image false s = Kept
 planned_image true None = Declared
-planned_image true (Some es) = Written es
+planned_image true (Some s) = Written s.chunk s.exceptions
 
 -- where the store of a partition stands, where it has one
 abbrev pub store_on : Layout → List ℕ → Option (List ℕ)
@@ -131,7 +130,7 @@ planned_on l scanned p = record {
   group = p.group;
   map = sectors_of l.device.first_logical_sector p.blocks;
   store = store_on l p.name;
-  image = planned_image (is_updated p) (exceptions_of p.name scanned);
+  image = planned_image (is_updated p) (scanned_named p.name scanned);
 }
 
 -- the partitions of an update's target
@@ -158,7 +157,7 @@ installing = record idle {
 abbrev pub is_ready : PartImage → Bool
 is_ready Kept = true
 is_ready Declared = false
-is_ready (Written es) = true
+is_ready (Written k es) = true
 
 abbrev pub are_ready : List Part → Bool
 are_ready parts = list_all (λ p. is_ready p.image) parts

@@ -335,7 +335,7 @@ IsOfStores (Ok w ∷ ws) s = IsOfBlocks w.store s ⊎ IsOfStores ws s
 abbrev pub IsOfWritten : Part → PartImage → ℕ → Type 0
 IsOfWritten p Kept s = ⊥
 IsOfWritten p Declared s = ⊥
-IsOfWritten p (Written es) s = IsOfBlocks (written_sectors p es) s
+IsOfWritten p (Written k es) s = IsOfBlocks (written_sectors p k es) s
 
 abbrev pub IsOfPlanned : List Part → ℕ → Type 0
 IsOfPlanned [] s = ⊥

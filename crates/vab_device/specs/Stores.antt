@@ -6,7 +6,7 @@ use Rattle.vab_disk.specs.Disk.{Image}
 use Rattle.vab_names.specs.Names.{store_of}
 use Rattle.vab_marks.specs.declared.status.PartStatus.{PartStatus}
 use Rattle.vab_exceptions.specs.declared.area.Exception.{Exception}
-use Rattle.vab_space.specs.declared.Chunk.TheVariants.{One}
+use Rattle.vab_space.specs.declared.Chunk.{Chunk}
 use Rattle.vab_store.specs.declared.fault.StoreFault.{StoreFault}
 use Rattle.vab_store.specs.Scan.{scan_of}
 use Rattle.vab_store.specs.View.{stored_at}
@@ -19,18 +19,20 @@ use Rattle.vab_device.specs.Checks.{unless, ◌>>=◌}
 use Rattle.vab_device.specs.Kept.{sectors_of}
 
 -- A store that a status names: the partition's whole name, its blocks and those of its store, each
--- as its first sector, how many exceptions the status says, and whether there may be fewer: while
--- a store is merged, exceptions leave its list.
+-- as its first sector, the size of a chunk and how many exceptions the status says, and whether
+-- there may be fewer: while a store is merged, exceptions leave its list.
 pub record Wanted : Type 0 where
   pub name : List ℕ
   pub base : List ℕ
   pub store : List ℕ
+  pub chunk : Chunk
   pub count : ℕ
   pub fewer : Bool
 
--- the exceptions of the store of a partition
+-- the exceptions of the store of a partition, and the size of its chunks
 pub record Scanned : Type 0 where
   pub name : List ℕ
+  pub chunk : Chunk
   pub exceptions : List Exception
 
 -- the first partition of this name
@@ -49,6 +51,7 @@ wanted_by first s (Some p) (Some store) = Ok (record {
   name = s.name;
   base = sectors_of first p.blocks;
   store = sectors_of first store.blocks;
+  chunk = s.chunk;
   count = s.count;
   fewer = false;
 })
@@ -71,15 +74,15 @@ or_fewer (Err fault) = Err fault
 abbrev pub is_long : (fewer : Bool) → (count n : ℕ) → Bool
 is_long fewer count n = if fewer then nat_le n count else n == count
 
--- a list of exceptions as long as that
+-- a list of exceptions as long as that, in chunks of the status's size
 abbrev pub scan_read : Wanted → Result (List Exception) StoreFault → Result Scanned StartFault
 scan_read w (Ok es) =
     unless (is_long w.fewer w.count (length es)) (BadStore w.name)
-    (Ok (record { name = w.name; exceptions = es }))
+    (Ok (record { name = w.name; chunk = w.chunk; exceptions = es }))
 scan_read w (Err fault) = Err (BadStore w.name)
 
 unfoldable pub scan_at : Wanted → Image → Result Scanned StartFault
-scan_at w image = scan_read w (scan_of One w.store (length w.base) image)
+scan_at w image = scan_read w (scan_of w.chunk w.store (length w.base) image)
 
 -- those of all stores, or the first fault
 abbrev pub scans_in : List (Result Wanted StartFault) → Image → Result (List Scanned) StartFault
@@ -90,22 +93,21 @@ scans_in (Ok w ∷ ws) image =
     scans_in ws image >>= λ rest.
     Ok (s ∷ rest)
 
--- the exceptions of the partition of this name, where its store was read
-abbrev pub exceptions_of : List ℕ → List Scanned → Option (List Exception)
-exceptions_of name [] = None
-exceptions_of name (s ∷ ss) =
-    if bytes_eq s.name name then Some s.exceptions else exceptions_of name ss
+-- those of the partition of this name, where its store was read
+abbrev pub scanned_named : List ℕ → List Scanned → Option Scanned
+scanned_named name [] = None
+scanned_named name (s ∷ ss) = if bytes_eq s.name name then Some s else scanned_named name ss
 
 -- ---- what a partition reads as through its store
 
--- the first sector of a block: of the store's chunk, where an exception has it and the store has
--- that chunk, else of the partition's own
+-- the first sector of a block: of the store's block, where an exception has its chunk and the store
+-- has that block, else of the partition's own
 abbrev pub sector_seen : List ℕ → ℕ → Option ℕ → ℕ
-sector_seen store own (Some chunk) = slice_index_or store chunk own
+sector_seen store own (Some stored) = slice_index_or store stored own
 sector_seen store own None = own
 
 -- for each block, counted from this number on, the first of the sectors that a read of it takes
-abbrev pub sectors_seen : List ℕ → List Exception → ℕ → List ℕ → List ℕ
-sectors_seen store es n [] = []
-sectors_seen store es n (own ∷ owns) =
-    sector_seen store own (stored_at One es n) ∷ sectors_seen store es (n + 1) owns
+abbrev pub sectors_seen : Chunk → List ℕ → List Exception → ℕ → List ℕ → List ℕ
+sectors_seen k store es n [] = []
+sectors_seen k store es n (own ∷ owns) =
+    sector_seen store own (stored_at k es n) ∷ sectors_seen k store es (n + 1) owns

@@ -4,14 +4,16 @@ use Rattle.std.specs.Prelude.{ℕ, zero, suc, ◌+◌, ◌-◌, ◌*◌, ◌/◌
 use Rattle.std.specs.Prelude.{nat_lt, nat_le}
 use Rattle.std.specs.Prelude.{if◌then◌else◌, List, [], ◌∷◌, length, map, take, Option, Some, None}
 use Rattle.std.specs.Prelude.{option_map, is_some, Result, Ok, Err}
-use Rattle.std.specs.List.{filter, flat_map, range_with_len}
+use Rattle.std.specs.List.{flat_map, range_with_len}
 use Rattle.std.specs.Str.{bytes_eq}
 use Rattle.std.specs.Ordering.{is_lt, nat_cmp}
 use Rattle.std.specs.Cmp.Lexicographic.{slice_cmp}
 use Rattle.vab_bytes.specs.Number.{field}
 use Rattle.vab_bootctl.specs.Boot.{info_at}
 use Rattle.vab_names.specs.Names.{is_full, base_of, store_of}
-use Rattle.vab_space.specs.Space.{need_of}
+use Rattle.vab_space.specs.declared.Chunk.{Chunk}
+use Rattle.vab_space.specs.Chunks.{need_at}
+use Rattle.vab_space.specs.Differing.{differing_chunks}
 use Rattle.vab_store.specs.Writing.{block_of}
 use Rattle.vab_layout.specs.declared.layout.Part.{Part as PartOfLayout}
 use Rattle.vab_layout.specs.declared.layout.Layout.{Layout}
@@ -206,10 +208,10 @@ is_other source staged i =
     not (nat_lt i (length source / 4096)
     && bytes_eq (field source (4096 * i) 4096) (block_of staged i))
 
--- how many of so many blocks differ
-abbrev pub differences : List ℕ → List ℕ → ℕ → ℕ
-differences source staged blocks =
-    length (filter (is_other source staged) (range_with_len 0 blocks))
+-- how many chunks of so many blocks differ
+abbrev pub differences : Chunk → List ℕ → List ℕ → ℕ → ℕ
+differences k source staged blocks =
+    length (differing_chunks k (is_other source staged) blocks)
 
 -- the staged bytes, with zeros behind their end
 abbrev pub filled : List ℕ → ℕ → List ℕ
@@ -234,50 +236,53 @@ flashed m source plan e staged n = wanting true (does replies.Done (record m {
   };
 }))
 
--- a store of so many blocks takes that many exceptions, or is full
-abbrev pub if_room : Mounted → (source : ℕ) → List PlanEntry → PlanEntry → (store : ℕ) → List ℕ
+-- a store of so many blocks takes that many exceptions, in chunks of this size, or is full
+abbrev pub if_room : Mounted → (source : ℕ) → List PlanEntry → PlanEntry → (store : ℕ) → Chunk
+    → List ℕ
     → ℕ
     → Effect Mounted
-if_room m source plan e store staged n =
-    if nat_le (need_of n) store
+if_room m source plan e store k staged n =
+    if nat_le (need_at n k) store
     then flashed m source plan e staged n
-    else refuses (refusals.StoreFull (need_of n) store)
+    else refuses (refusals.StoreFull (need_at n k) store)
 
 abbrev pub staged_effect : Mounted → (source : ℕ) → List PlanEntry → PlanEntry → (store : ℕ)
+    → Chunk
     → Option (List ℕ)
     → Effect Mounted
-staged_effect m source plan e store None = refuses refusals.NothingStaged
-staged_effect m source plan e store (Some staged) =
+staged_effect m source plan e store k None = refuses refusals.NothingStaged
+staged_effect m source plan e store k (Some staged) =
     if is_sparse staged then refuses refusals.Sparse
     else if nat_lt (4096 * e.blocks) (length staged)
     then refuses (refusals.TooLarge (length staged) (4096 * e.blocks))
-    else if_room m source plan e store staged
-    (differences (source_bytes m.state source e.name) staged e.blocks)
+    else if_room m source plan e store k staged
+    (differences k (source_bytes m.state source e.name) staged e.blocks)
 
-abbrev pub stored_effect : Mounted → (source : ℕ) → List PlanEntry → PlanEntry → Option (List ℕ)
+abbrev pub stored_effect : Mounted → (source : ℕ) → List PlanEntry → PlanEntry → Chunk
+    → Option (List ℕ)
     → Option ℕ
     → Effect Mounted
-stored_effect m source plan e staged None = refuses refusals.NoStore
-stored_effect m source plan e staged (Some store) = by_image e.image
+stored_effect m source plan e k staged None = refuses refusals.NoStore
+stored_effect m source plan e k staged (Some store) = by_image e.image
   where
     by_image : PlanImage → Effect Mounted
-    by_image Kept = staged_effect m source plan e store staged
-    by_image Declared = staged_effect m source plan e store staged
+    by_image Kept = staged_effect m source plan e store k staged
+    by_image Declared = staged_effect m source plan e store k staged
     by_image (Written bytes count) = refuses refusals.Written
 
-abbrev pub entry_effect : Mounted → (source : ℕ) → List PlanEntry → Option (List ℕ)
+abbrev pub entry_effect : Mounted → (source : ℕ) → List PlanEntry → Chunk → Option (List ℕ)
     → Option PlanEntry
     → Effect Mounted
-entry_effect m source plan staged None = refuses refusals.Unknown
-entry_effect m source plan staged (Some e) = stored_effect m source plan e staged e.store
+entry_effect m source plan k staged None = refuses refusals.Unknown
+entry_effect m source plan k staged (Some e) = stored_effect m source plan e k staged e.store
 
--- the staged bytes become the image of a partition
-abbrev pub flash_effect : Mounted → Option (List ℕ) → List ℕ → Phase → Effect Mounted
-flash_effect m staged name (Installing source plan) =
+-- the staged bytes become the image of a partition, in a store whose chunks have this size
+abbrev pub flash_effect : Mounted → Option (List ℕ) → List ℕ → Chunk → Phase → Effect Mounted
+flash_effect m staged name k (Installing source plan) =
     if is_full (other_slot source) name
-    then entry_effect m source plan staged (entry_named (base_of name) plan)
+    then entry_effect m source plan k staged (entry_named (base_of name) plan)
     else refuses refusals.BadName
-flash_effect m staged name _ = refuses refusals.NotInstalling
+flash_effect m staged name k _ = refuses refusals.NotInstalling
 
 -- ---- an update that is dropped
 
@@ -432,7 +437,7 @@ effect_on m staged (Create name size) = edit_effect m (create_edit name size) m.
 effect_on m staged (Resize name size) = edit_effect m (resize_edit name size) m.state.phase
 effect_on m staged (Delete name) = edit_effect m (delete_edit name) m.state.phase
 effect_on m staged (Snapshot name size) = edit_effect m (snapshot_edit name size) m.state.phase
-effect_on m staged (Flash name) = flash_effect m staged name m.state.phase
+effect_on m staged (Flash name k) = flash_effect m staged name k m.state.phase
 effect_on m staged Cancel = cancel_effect m m.state.phase
 effect_on m staged (SetActive slot) = effect_map (in_state m) (effect m.state (SetActive slot))
 effect_on m staged Boot = effect_map (in_state m) (effect m.state Boot)

@@ -10,6 +10,7 @@ use vab_geometry::Geometry;
 use vab_linear::Map;
 use vab_marks::{MarkPhase, UpdateMark};
 use vab_model::GroupLimit;
+use vab_space::Chunk;
 use vab_store::StoreView;
 use vab_tables::Table;
 
@@ -20,8 +21,9 @@ pub enum PartImage {
     Kept,
     /// Nothing yet: an update is to write it.
     Declared,
-    /// What its blocks hold, but for those that these exceptions of its store have.
-    Written(StoreView),
+    /// What its blocks hold, but for those that these exceptions of its store have, whose chunks
+    /// have this size.
+    Written(Chunk, StoreView),
 }
 
 /// A partition of a slot, or one that the target of an update is to have.

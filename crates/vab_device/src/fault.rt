@@ -25,8 +25,8 @@ pub enum StartFault {
     /// partitions, of an update's target or of a slot whose stores are merged.
     BadPartition(Name36),
     /// A status has this name, and there is no such partition with a store, or the store holds no
-    /// list of exceptions as long as the status says. While the store is merged the list may
-    /// be shorter.
+    /// list of exceptions as long as the status says, in chunks of the status's size. While the
+    /// store is merged the list may be shorter.
     BadStore(Name36),
     /// 1: the current slot has no images, which can't be while an update is ready. 2: the mark's
     /// slot has priority 0 or isn't successful, or an update is ready and its target is current and

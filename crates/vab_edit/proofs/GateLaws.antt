@@ -36,7 +36,7 @@ use Rattle.vab_device.specs.Mounted.{images_on, entry_on, mounted_on}
 use Rattle.vab_device.specs.Phases.{own_check, twin_check, target_check, plan_of}
 use Rattle.vab_device.specs.Reading.{Read, table_read, table_at, tables_in, part_fault, stores_of}
 use Rattle.vab_device.specs.Reading.{kept, device, Reads, Represents, AgreeCopies}
-use Rattle.vab_device.specs.Stores.{Scanned, scans_in, exceptions_of}
+use Rattle.vab_device.specs.Stores.{Scanned, scans_in, scanned_named}
 use Rattle.vab_device.specs.Updates.{plan_by, installing_with}
 use Rattle.vab_device.proofs.Behind.{images_behind, stores_behind, plan_behind}
 use Rattle.vab_device.proofs.CheckLaws.{first_kept, check_kept}
@@ -237,8 +237,8 @@ module _
       images_same old image (kept r).b
       (λ a is. behind a (images_behind size (end_of g o) 1 _ _ r old a reads within is))
 
-  has_both : (name : List ℕ) (es : List Exception)
-      → exceptions_of name scanned ≡ Some es
+  has_both : (name : List ℕ) (es : Scanned)
+      → scanned_named name scanned ≡ Some es
       → HasBoth o (layout_of t) name
   has_both name es found =
       scanned_both o (layout_of t) (written_in statuses) old scanned name es reads.stores found

@@ -140,7 +140,7 @@ written_is : (size : ℕ) (p o : Part) (image : PartImage)
     → IsPart size (written_by p o image)
 written_is size p o Kept of_p of_o is = of_p
 written_is size p o Declared of_p of_o is = of_p
-written_is size p o (Written es) of_p of_o is = record {
+written_is size p o (Written k es) of_p of_o is = record {
   name = of_p.name;
   on_disk = of_o.on_disk;
   once = of_o.once;

@@ -24,7 +24,7 @@ use Rattle.vab_device.specs.Kept.{block_sector, sectors_of, group_of}
 use Rattle.vab_device.specs.Mounted.{bytes_at, blocks_there, entry_on}
 use Rattle.vab_device.specs.Mounted.{planned_on as image_planned}
 use Rattle.vab_device.specs.Phases.{planned_image, store_on, planned_on, plan_of}
-use Rattle.vab_device.specs.Stores.{Scanned, first_named, exceptions_of, sectors_seen}
+use Rattle.vab_device.specs.Stores.{Scanned, first_named, scanned_named, sectors_seen}
 use Rattle.vab_device.specs.Updates.{image_or, if_written, entry_named, written_of, entry_by}
 use Rattle.vab_device.specs.Updates.{plan_by}
 use Rattle.vab_edit.specs.Carried.{planned_named, written_by, with_written, carried}
@@ -81,8 +81,9 @@ module _
     (slot : ℕ) (old new : Layout) (ss : List Scanned) (image : Image)
     (device : new.device ≡ old.device)
     (leaves : LeavesBoth slot old new)
-    (both : (name : List ℕ) (es : List Exception) → exceptions_of name ss ≡ Some es
-    → HasBoth slot old name)
+    (both : (name : List ℕ) (es : Scanned)
+        → scanned_named name ss ≡ Some es
+        → HasBoth slot old name)
     (was_updated : (q : PartOfLayout) → Contains (own_parts slot old.parts) q
     → has_part (store_of q.name) old.parts ≡ true → is_updated q ≡ true)
     (now_updated : (q : PartOfLayout) → Contains (own_parts slot new.parts) q
@@ -140,9 +141,9 @@ module _
     now : is_updated p ≡ true
     named : q.name ≡ p.name
 
-  is_written : (p q : PartOfLayout) (es : List Exception)
+  is_written : (p q : PartOfLayout) (es : Scanned)
       → Contains (own_parts slot new.parts) p
-      → exceptions_of p.name ss ≡ Some es
+      → scanned_named p.name ss ≡ Some es
       → first_named p.name (own_parts slot old.parts) ≡ Some q
       → IsWritten p q
   is_written p q es c ex fo =
@@ -189,9 +190,9 @@ module _
       let own = (of_filter (λ (x : PartOfLayout). is_of_slot slot x.name) new.parts p c).1 in
       ap (with_written (planned_on new [] p))
       (planned_found p.name (own_parts slot old.parts) own old_each)
-      ∙ go (exceptions_of p.name ss) (first_named p.name (own_parts slot old.parts)) refl refl
+      ∙ go (scanned_named p.name ss) (first_named p.name (own_parts slot old.parts)) refl refl
     where
-      alike : exceptions_of p.name ss ≡ None → planned_on new [] p ≡ planned_on new ss p
+      alike : scanned_named p.name ss ≡ None → planned_on new [] p ≡ planned_on new ss p
       alike ex = λ i. record {
         name = base_of p.name;
         group = p.group;
@@ -200,17 +201,17 @@ module _
         image = planned_image (is_updated p) (sym ex i);
       }
 
-      go : (x : Option (List Exception)) (o : Option PartOfLayout)
-          → exceptions_of p.name ss ≡ x
+      go : (x : Option Scanned) (o : Option PartOfLayout)
+          → scanned_named p.name ss ≡ x
           → first_named p.name (own_parts slot old.parts) ≡ o
           → with_written (planned_on new [] p) (option_map (planned_on old ss) o)
           ≡ planned_on new ss p
       go None None ex fo = alike ex
       go None (Some q) ex fo =
           let named = (first_is p.name (own_parts slot old.parts) q fo).named in
-          ap (λ (y : Option (List Exception)).
+          ap (λ (y : Option Scanned).
           written_by (planned_on new [] p) (planned_on old ss q) (planned_image (is_updated q) y))
-          (ap (λ (n : List ℕ). exceptions_of n ss) named ∙ ex)
+          (ap (λ (n : List ℕ). scanned_named n ss) named ∙ ex)
           ∙ nothing_written p q (is_updated q)
           ∙ alike ex
       go (Some es) None ex fo =
@@ -219,10 +220,10 @@ module _
           sym fo ∙ b.named in cc)
       go (Some es) (Some q) ex fo =
           let w = is_written p q es c ex fo in
-          let was : planned_image (is_updated q) (exceptions_of q.name ss) ≡ Written es =
-          (λ i. planned_image (w.was i) ((ap (λ (n : List ℕ). exceptions_of n ss) w.named
+          let was : planned_image (is_updated q) (scanned_named q.name ss) ≡ Written es.chunk es.exceptions =
+          (λ i. planned_image (w.was i) ((ap (λ (n : List ℕ). scanned_named n ss) w.named
           ∙ ex) i)) in
-          let now : planned_image (is_updated p) (exceptions_of p.name ss) ≡ Written es =
+          let now : planned_image (is_updated p) (scanned_named p.name ss) ≡ Written es.chunk es.exceptions =
           (λ i. planned_image (w.now i) (ex i)) in
           ap (written_by (planned_on new [] p) (planned_on old ss q)) was
           ∙ (λ i. record {
@@ -247,26 +248,26 @@ module _
 
   image_is : (p : PartOfLayout)
       → Contains (own_parts slot new.parts) p
-      → (x : Option (List Exception)) (o : Option PartOfLayout)
-      → exceptions_of p.name ss ≡ x
+      → (x : Option Scanned) (o : Option PartOfLayout)
+      → scanned_named p.name ss ≡ x
       → first_named p.name (own_parts slot old.parts) ≡ o
       → image_planned image (planned_on new ss p) (planned_image (is_updated p)
-      (exceptions_of p.name ss))
+      (scanned_named p.name ss))
       ≡ image_or (is_updated p)
       (written_of (option_map (λ (q : PartOfLayout). entry_on image (planned_on old ss q)) o))
   image_is p c None None ex fo =
-      ap (λ (y : Option (List Exception)).
+      ap (λ (y : Option Scanned).
       image_planned image (planned_on new ss p) (planned_image (is_updated p) y)) ex
       ∙ unwritten p (is_updated p)
   image_is p c None (Some q) ex fo =
       let named = (first_is p.name (own_parts slot old.parts) q fo).named in
       let none : if_written (image_planned image (planned_on old ss q)
-      (planned_image (is_updated q) (exceptions_of q.name ss))) ≡ None =
-      ap (λ (y : Option (List Exception)).
+      (planned_image (is_updated q) (scanned_named q.name ss))) ≡ None =
+      ap (λ (y : Option Scanned).
       if_written (image_planned image (planned_on old ss q) (planned_image (is_updated q) y)))
-      (ap (λ (n : List ℕ). exceptions_of n ss) named ∙ ex)
+      (ap (λ (n : List ℕ). scanned_named n ss) named ∙ ex)
       ∙ none_written p q (is_updated q) in
-      ap (λ (y : Option (List Exception)).
+      ap (λ (y : Option Scanned).
       image_planned image (planned_on new ss p) (planned_image (is_updated p) y)) ex
       ∙ unwritten p (is_updated p)
       ∙ ap (image_or (is_updated p)) (sym none)
@@ -275,13 +276,14 @@ module _
       let bad : (let x : Option PartOfLayout = None in x ≡ Some b.part) = sym fo ∙ b.named in cc)
   image_is p c (Some es) (Some q) ex fo =
       let w = is_written p q es c ex fo in
-      let was : planned_image (is_updated q) (exceptions_of q.name ss) ≡ Written es =
-      (λ i. planned_image (w.was i) ((ap (λ (n : List ℕ). exceptions_of n ss) w.named ∙ ex) i)) in
-      let now : planned_image (is_updated p) (exceptions_of p.name ss) ≡ Written es =
+      let was : planned_image (is_updated q) (scanned_named q.name ss) ≡ Written es.chunk es.exceptions =
+      (λ i. planned_image (w.was i) ((ap (λ (n : List ℕ). scanned_named n ss) w.named ∙ ex) i)) in
+      let now : planned_image (is_updated p) (scanned_named p.name ss) ≡ Written es.chunk es.exceptions =
       (λ i. planned_image (w.now i) (ex i)) in
       ap (image_planned image (planned_on new ss p)) now
       ∙ (λ i. planned.Written
-      (bytes_at image (sectors_seen (blocks_there (sym w.store i)) es 0 (sym w.map i))) (length es))
+      (bytes_at image (sectors_seen es.chunk (blocks_there (sym w.store i)) es.exceptions 0
+      (sym w.map i))) (length es.exceptions))
       ∙ (λ i. image_or (sym w.now i) (if_written (image_planned image (planned_on old ss q)
       (sym was i))))
 
@@ -292,7 +294,7 @@ module _
   entry_is p c =
       let own = (of_filter (λ (x : PartOfLayout). is_of_slot slot x.name) new.parts p c).1 in
       let found = entry_found p.name (own_parts slot old.parts) own old_each in
-      let seen = image_is p c (exceptions_of p.name ss)
+      let seen = image_is p c (scanned_named p.name ss)
       (first_named p.name (own_parts slot old.parts)) refl refl
       ∙ ap (λ (e : Option PlanEntry). image_or (is_updated p) (written_of e)) (sym found) in
       let blocks = map_length new.device.first_logical_sector p.blocks in

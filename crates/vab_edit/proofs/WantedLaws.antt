@@ -9,7 +9,6 @@ use Rattle.vab_disk.specs.Disk.{Image}
 use Rattle.vab_names.specs.Names.{store_of}
 use Rattle.vab_marks.specs.declared.status.PartStatus.{PartStatus}
 use Rattle.vab_exceptions.specs.declared.area.Exception.{Exception}
-use Rattle.vab_space.specs.declared.Chunk.TheVariants.{One}
 use Rattle.vab_store.specs.declared.fault.StoreFault.{StoreFault}
 use Rattle.vab_store.specs.Scan.{scan_of}
 use Rattle.vab_layout.specs.declared.layout.Part.{Part}
@@ -22,7 +21,7 @@ use Rattle.vab_device.specs.Checks.{◌>>=◌}
 use Rattle.vab_device.specs.Kept.{sectors_of}
 use Rattle.vab_device.specs.Stores.{Wanted, Scanned, first_named, wanted_by, wanted_of, is_long}
 use Rattle.vab_device.specs.Stores.{scan_read}
-use Rattle.vab_device.specs.Stores.{scan_at, scans_in, exceptions_of}
+use Rattle.vab_device.specs.Stores.{scan_at, scans_in, scanned_named}
 use Rattle.vab_device.proofs.CheckLaws.{bound}
 use Rattle.vab_edit.proofs.NamedLaws.{HasBoth, LeavesBoth, has_still}
 
@@ -35,7 +34,7 @@ read_name w (Err fault) s is =
     ≡ Ok s) = is in cc)
 read_name w (Ok es) s is = elim (cases_Bool (is_long w.fewer w.count (length es))) [
   | inl t ↦
-      let read : Scanned = record { name = w.name; exceptions = es } in
+      let read : Scanned = record { name = w.name; chunk = w.chunk; exceptions = es } in
       let taken : (let r : Result Scanned StartFault = Ok read in r ≡ Ok s) = rw t at is in
       let same : read ≡ s = cc in
       sym (ap (λ (x : Scanned). x.name) same)
@@ -47,7 +46,7 @@ read_name w (Ok es) s is = elim (cases_Bool (is_long w.fewer w.count (length es)
 
 scan_name : (w : Wanted) (image : Image) (s : Scanned) → scan_at w image ≡ Ok s → s.name ≡ w.name
 unfolding scan_at
-scan_name w image s is = read_name w (scan_of One w.store (length w.base) image) s is
+scan_name w image s is = read_name w (scan_of w.chunk w.store (length w.base) image) s is
 
 -- the first store that is scanned, and the others
 record ScansFirst (st : PartStatus) (a b : Option Part) (ws : List (Result Wanted StartFault))
@@ -77,6 +76,7 @@ scans_first first st (Some p) (Some q) ws image ss h =
       name = st.name;
       base = sectors_of first p.blocks;
       store = sectors_of first q.blocks;
+      chunk = st.chunk;
       count = st.count;
       fewer = false;
     } in
@@ -100,22 +100,22 @@ scans_first first st (Some p) (Some q) ws image ss h =
 -- ---- a partition whose store was scanned has one
 
 pub scanned_both : (slot : ℕ) (l : Layout) (sts : List PartStatus) (image : Image)
-    (ss : List Scanned) (name : List ℕ) (es : List Exception)
+    (ss : List Scanned) (name : List ℕ) (es : Scanned)
     → scans_in (map (wanted_of slot l) sts) image ≡ Ok ss
-    → exceptions_of name ss ≡ Some es
+    → scanned_named name ss ≡ Some es
     → HasBoth slot l name
 scanned_both slot l [] image ss name es h found =
     let none : (let r : Result (List Scanned) StartFault = Ok [] in r ≡ Ok ss) = h in
     let same : [] ≡ ss = cc in
-    let bad : (let x : Option (List Exception) = None in x ≡ Some es) =
-    ap (exceptions_of name) same ∙ found in
+    let bad : (let x : Option Scanned = None in x ≡ Some es) =
+    ap (scanned_named name) same ∙ found in
     absurd cc
 scanned_both slot l (st ∷ sts) image ss name es h found =
     let f = scans_first l.device.first_logical_sector st
     (first_named st.name (own_parts slot l.parts)) (first_named (store_of st.name) l.parts)
     (map (wanted_of slot l) sts) image ss h in
-    let at : exceptions_of name (f.scan ∷ f.rest) ≡ Some es =
-    sym (ap (exceptions_of name) f.is) ∙ found in
+    let at : scanned_named name (f.scan ∷ f.rest) ≡ Some es =
+    sym (ap (scanned_named name) f.is) ∙ found in
     elim (cases_Bool (bytes_eq f.scan.name name)) [
       | inl t ↦
           subst (HasBoth slot l) (sym f.scan_named ∙ same_name f.scan.name name t)
@@ -149,6 +149,7 @@ want_still slot old new st device leaves b =
       name = st.name;
       base = sectors_of (first i) (still.part_blocks i);
       store = sectors_of (first i) (still.store_blocks i);
+      chunk = st.chunk;
       count = st.count;
       fewer = false;
     })) in

@@ -14,7 +14,8 @@ planned_named name (p ∷ ps) = if bytes_eq p.name name then Some p else planned
 abbrev pub written_by : Part → Part → PartImage → Part
 written_by p o Kept = p
 written_by p o Declared = p
-written_by p o (Written es) = record p { map = o.map; store = o.store; image = Written es }
+written_by p o (Written k es) =
+    record p { map = o.map; store = o.store; image = Written k es }
 
 abbrev pub with_written : Part → Option Part → Part
 with_written p None = p

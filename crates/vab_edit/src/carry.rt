@@ -55,10 +55,10 @@ fn give(planned: &mut Part, old: Option<Part>)
         ) => match image {
             PartImage::Kept => {}
             PartImage::Declared => {}
-            PartImage::Written(view) => {
+            PartImage::Written(chunk, view) => {
                 planned.map = map;
                 planned.store = store;
-                planned.image = PartImage::Written(view);
+                planned.image = PartImage::Written(chunk, view);
             }
         },
     }

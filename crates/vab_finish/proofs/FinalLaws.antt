@@ -20,7 +20,7 @@ use Rattle.vab_device.specs.Kept.{sectors_of, part_on}
 use Rattle.vab_device.specs.Mounted.{bytes_at, image_on, entry_on, sectors_by, count_in, count_of}
 use Rattle.vab_device.specs.Mounted as mounted
 use Rattle.vab_device.specs.Phases.{planned_on, planned_image, is_ready, are_ready}
-use Rattle.vab_device.specs.Stores.{Scanned, exceptions_of}
+use Rattle.vab_device.specs.Stores.{Scanned, scanned_named}
 use Rattle.vab_device.specs.Updates.{bytes_of, source_bytes, final_bytes, final_image, plan_count}
 use Rattle.vab_device.specs.Updates.{written_count}
 use Rattle.vab_flash.proofs.SourceLaws.{full_or}
@@ -92,7 +92,7 @@ module _
       final_bytes s slot (base_of p.name) (mounted.planned_on image (planned_on target scanned p) x)
       ≡ bytes_at image (sectors_by (planned_on target scanned p) x)
 
-  bytes_by : (p : PartOfLayout) (b : Bool) (x : Option (List Exception))
+  bytes_by : (p : PartOfLayout) (b : Bool) (x : Option Scanned)
       → Rule p
       → is_updated p ≡ b
       → is_ready (planned_image b x) ≡ true
@@ -107,7 +107,7 @@ module _
       → final_image s slot (entry_on image (planned_on target scanned p))
       ≡ image_on image (planned_on target scanned p)
   final_one p rule ready =
-      let bytes = bytes_by p (is_updated p) (exceptions_of p.name scanned) rule refl ready in
+      let bytes = bytes_by p (is_updated p) (scanned_named p.name scanned) rule refl ready in
       (λ i. record {
         name = base_of p.name;
         group = Rattle.vab_device.specs.Kept.group_of p.group;
@@ -137,7 +137,8 @@ count_one : (image : Image) (p : Part) (x : PartImage)
     → written_count (mounted.planned_on image p x) ≡ count_of x
 count_one image p Rattle.vab_device.specs.declared.device.PartImage.TheVariants.Kept = refl
 count_one image p Rattle.vab_device.specs.declared.device.PartImage.TheVariants.Declared = refl
-count_one image p (Rattle.vab_device.specs.declared.device.PartImage.TheVariants.Written es) = refl
+count_one image p (Rattle.vab_device.specs.declared.device.PartImage.TheVariants.Written k es) =
+    refl
 
 pub count_planned : (image : Image) (ps : List Part)
     → plan_count (map (entry_on image) ps) ≡ count_in ps

@@ -28,7 +28,7 @@ name_same : (image : Image) (least : Option (List ℕ)) (p : Part) (x : PartImag
     → declared_name least p.name (planned_on image p x) ≡ declared_by least p.name x
 name_same image least p Kept = refl
 name_same image least p Declared = refl
-name_same image least p (Written es) = refl
+name_same image least p (Written k es) = refl
 
 pub least_same : (image : Image) (least : Option (List ℕ)) (ps : List Part)
     → least_declared least (map (entry_on image) ps) ≡ least_of least ps
@@ -50,7 +50,7 @@ kept_there : (least : Option (List ℕ)) (name : List ℕ) (x : PartImage)
     → is_some (declared_by least name x) ≡ true
 kept_there least name Kept there = there
 kept_there least name Declared there = lesser_there least name
-kept_there least name (Written es) there = there
+kept_there least name (Written k es) there = there
 
 -- a name that is found stays found
 least_there : (least : Option (List ℕ)) (ps : List Part)
@@ -69,7 +69,7 @@ ready_step p ps Kept rest is none = rw is (rest none)
 ready_step p ps Declared rest is none =
     let found : is_some (least_of (Some p.name) ps) ≡ true = least_there (Some p.name) ps refl in
     absurd (let no : true ≡ false = sym found ∙ ap is_some none in cc)
-ready_step p ps (Written es) rest is none = rw is (rest none)
+ready_step p ps (Written k es) rest is none = rw is (rest none)
 
 -- where none is found, each partition is kept or written
 pub ready_of : (ps : List Part) → least_of None ps ≡ None → are_ready ps ≡ true

@@ -9,7 +9,7 @@ use Rattle.vab_device.specs.Updates.{lesser}
 abbrev pub declared_by : Option (List ℕ) → List ℕ → PartImage → Option (List ℕ)
 declared_by least name Kept = least
 declared_by least name Declared = lesser least name
-declared_by least name (Written es) = least
+declared_by least name (Written k es) = least
 
 -- the lesser of a name and the partition's, where that is declared and not written
 abbrev pub declared_of : Option (List ℕ) → Part → Option (List ℕ)

@@ -34,7 +34,7 @@ fn declared(least: Option<Name36>, part: &Part) -> Option<Name36>
     match part.image {
         PartImage::Kept => least,
         PartImage::Declared => lesser(least, part.name),
-        PartImage::Written(_) => least,
+        PartImage::Written(_, _) => least,
     }
 }
 

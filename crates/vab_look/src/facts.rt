@@ -91,7 +91,7 @@ fn plan_word(image: &PartImage) -> &'static [u8]
     match image {
         PartImage::Kept => b"kept",
         PartImage::Declared => b"declared",
-        PartImage::Written(_) => b"written",
+        PartImage::Written(_, _) => b"written",
     }
 }
 

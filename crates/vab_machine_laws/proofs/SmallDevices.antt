@@ -11,7 +11,7 @@ use Rattle.vab_marks.specs.declared.mark.MarkPhase.{MarkPhase}
 use Rattle.vab_marks.specs.declared.mark.MarkPhase.TheVariants as marks
 use Rattle.vab_marks.specs.declared.mark.UpdateMark.{UpdateMark}
 use Rattle.vab_exceptions.specs.declared.area.Exception.{Exception}
-use Rattle.vab_space.specs.declared.Chunk.TheVariants.{One}
+use Rattle.vab_space.specs.declared.Chunk.{Chunk}
 use Rattle.vab_store.specs.View.{stored_at}
 use Rattle.vab_builder.proofs.Counting.{few_below}
 use Rattle.vab_model.specs.declared.state.Image.{Image as ImageOfSlot}
@@ -33,11 +33,11 @@ use Rattle.vab_machine_laws.specs.Sizes.{DevicesAreSmall}
 
 -- ---- what is read through a store
 
-length-seen : (store : List ℕ) (es : List Exception) (n : ℕ) (owns : List ℕ)
-    → length (sectors_seen store es n owns) ≡ length owns
-length-seen store es n [] = refl
-length-seen store es n (own ∷ owns) =
-    let rest = length-seen store es (n + 1) owns in omega (arith, rest)
+length-seen : (k : Chunk) (store : List ℕ) (es : List Exception) (n : ℕ) (owns : List ℕ)
+    → length (sectors_seen k store es n owns) ≡ length owns
+length-seen k store es n [] = refl
+length-seen k store es n (own ∷ owns) =
+    let rest = length-seen k store es (n + 1) owns in omega (arith, rest)
 
 module _ (size : ℕ) where
   seen_on : (store : List ℕ) (own : ℕ) (o : Option ℕ)
@@ -52,24 +52,24 @@ module _ (size : ℕ) where
         omega (arith, is, on)
   ]
 
-  all_seen : (store : List ℕ) (es : List Exception) (n : ℕ) (owns : List ℕ)
+  all_seen : (k : Chunk) (store : List ℕ) (es : List Exception) (n : ℕ) (owns : List ℕ)
       → All (λ s. s + 8 ≤ size) store
       → All (λ s. s + 8 ≤ size) owns
-      → All (λ s. s + 8 ≤ size) (sectors_seen store es n owns)
-  all_seen store es n [] stored on = All-nil (λ s. s + 8 ≤ size)
-  all_seen store es n (own ∷ owns) stored on =
-      All-cons (λ s. s + 8 ≤ size) (sector_seen store own (stored_at One es n))
-      (sectors_seen store es (n + 1) owns)
-      (seen_on store own (stored_at One es n) stored
+      → All (λ s. s + 8 ≤ size) (sectors_seen k store es n owns)
+  all_seen k store es n [] stored on = All-nil (λ s. s + 8 ≤ size)
+  all_seen k store es n (own ∷ owns) stored on =
+      All-cons (λ s. s + 8 ≤ size) (sector_seen store own (stored_at k es n))
+      (sectors_seen k store es (n + 1) owns)
+      (seen_on store own (stored_at k es n) stored
       (All-head (λ s. s + 8 ≤ size) own owns on))
-      (all_seen store es (n + 1) owns stored (All-tail (λ s. s + 8 ≤ size) own owns on))
+      (all_seen k store es (n + 1) owns stored (All-tail (λ s. s + 8 ≤ size) own owns on))
 
   -- the blocks of a written partition's store lie on the disk
-  store_on : (base : List ℕ) (store : Option (List ℕ)) (es : List Exception)
-      → IsStored size base store (Written es)
+  store_on : (base : List ℕ) (store : Option (List ℕ)) (k : Chunk) (es : List Exception)
+      → IsStored size base store (Written k es)
       → All (λ s. s + 8 ≤ size) (blocks_there store)
-  store_on base None es is = absurd is
-  store_on base (Some store) es is = is.0.on_disk
+  store_on base None k es is = absurd is
+  store_on base (Some store) k es is = is.0.on_disk
 
   read_by : (p : Part) (image : PartImage)
       → IsPart size p
@@ -78,11 +78,11 @@ module _ (size : ℕ) where
       × (length (sectors_by p image) ≡ length p.map)
   read_by p Kept is e = (is.on_disk, refl)
   read_by p Declared is e = (is.on_disk, refl)
-  read_by p (Written es) is e =
-      let stored : IsStored size p.map p.store (Written es) =
+  read_by p (Written k es) is e =
+      let stored : IsStored size p.map p.store (Written k es) =
       subst (IsStored size p.map p.store) e is.store in (
-        all_seen (blocks_there p.store) es 0 p.map (store_on p.map p.store es stored) is.on_disk,
-        length-seen (blocks_there p.store) es 0 p.map,
+        all_seen k (blocks_there p.store) es 0 p.map (store_on p.map p.store k es stored) is.on_disk,
+        length-seen k (blocks_there p.store) es 0 p.map,
       )
 
   module _ (image : Image) (whole : HasWholeSectors size image) where
@@ -126,7 +126,7 @@ module _ (size : ℕ) where
               → IsStore size store
           stored_is base store Kept is = is
           stored_is base store Declared is = is
-          stored_is base store (Written es) is = is.0
+          stored_is base store (Written k es) is = is.0
 
       image_small : (p : Part) (x : PartImage)
           → IsPart size p
@@ -134,10 +134,10 @@ module _ (size : ℕ) where
           → IsSmallImage (planned_on image p x)
       image_small p Kept is e = tt
       image_small p Declared is e = tt
-      image_small p (Written es) is e =
-          let few : count_of (Written es) ≤ 2 ^ 28 =
+      image_small p (Written k es) is e =
+          let few : count_of (Written k es) ≤ 2 ^ 28 =
           subst (λ (y : PartImage). count_of y ≤ 2 ^ 28) e (few_of size p is) in
-          record { bytes_small = short p (Written es) is e; few = omega (arith, few) }
+          record { bytes_small = short p (Written k es) is e; few = omega (arith, few) }
 
       entry_small : (p : Part) → IsPart size p → IsSmallEntry (entry_on image p)
       entry_small p is = record {

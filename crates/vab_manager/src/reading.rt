@@ -11,7 +11,6 @@ use vab_disk::Disk;
 use vab_gate::DiskFault;
 use vab_linear::read_at;
 use vab_snapread::read_block;
-use vab_space::Chunk;
 
 /// Reads a block of a partition: where it is written, what its store has in place of its own. The
 /// error comes where the disk has failed.
@@ -31,8 +30,8 @@ pub fn read_part<D: Disk>(
     match &part.image {
         PartImage::Kept => read_at(d, &part.map, block, out),
         PartImage::Declared => read_at(d, &part.map, block, out),
-        PartImage::Written(view) => match &part.store {
-            Some(store) => read_block(d, &part.map, store, view, block, out, Chunk::One),
+        PartImage::Written(chunk, view) => match &part.store {
+            Some(store) => read_block(d, &part.map, store, view, block, out, *chunk),
             None => unreachable!(),
         },
     }

@@ -35,9 +35,9 @@ use Rattle.vab_names.proofs.NameCases.{store_is_store}
 use Rattle.vab_device.specs.Kept.{sectors_of}
 use Rattle.vab_device.specs.Phases.{store_on}
 use Rattle.vab_device.specs.Stores.{Scanned, first_named}
-use Rattle.vab_device.specs.Stores.{exceptions_of}
+use Rattle.vab_device.specs.Stores.{scanned_named}
 use Rattle.vab_plan.specs.declared.planning.Scan.{Scan}
-use Rattle.vab_plan.specs.Scans.{scans_of, IsTargetTable}
+use Rattle.vab_plan.specs.Scans.{scanned_of, scans_of, IsTargetTable}
 
 -- ---- a place of a list
 
@@ -153,18 +153,18 @@ pub exceptions_here : (name : List ℕ) (scans : List Scan) (i : ℕ) (s : Scan)
     → i < length scans
     → s ≡ get_or scans i s
     → bytes_eq s.name name ≡ true
-    → exceptions_of name (scans_of (drop i scans)) ≡ Some s.view
+    → scanned_named name (scans_of (drop i scans)) ≡ Some (scanned_of s)
 exceptions_here name scans i s lt at here =
-    ap (λ (l : List Scan). exceptions_of name (scans_of l)) (drop_at scans i s lt at) ∙ rw here refl
+    ap (λ (l : List Scan). scanned_named name (scans_of l)) (drop_at scans i s lt at) ∙ rw here refl
 
 pub exceptions_skip : (name : List ℕ) (scans : List Scan) (i : ℕ) (s : Scan)
     → i < length scans
     → s ≡ get_or scans i s
     → bytes_eq s.name name ≡ false
-    → exceptions_of name (scans_of (drop i scans))
-    ≡ exceptions_of name (scans_of (drop (i + 1) scans))
+    → scanned_named name (scans_of (drop i scans))
+    ≡ scanned_named name (scans_of (drop (i + 1) scans))
 exceptions_skip name scans i s lt at other =
-    ap (λ (l : List Scan). exceptions_of name (scans_of l)) (drop_at scans i s lt at)
+    ap (λ (l : List Scan). scanned_named name (scans_of l)) (drop_at scans i s lt at)
     ∙ rw other refl
 
 not_name : (a b : List ℕ) → a ≢ b → bytes_eq a b ≡ false
@@ -177,8 +177,8 @@ not_name a b differ = elim (cases_Bool (bytes_eq a b)) [
 pub exceptions_without : (name : List ℕ) (scans : List Scan) (i : ℕ) (d : Scan)
     → i < length scans
     → (get_or scans i d).name ≢ name
-    → exceptions_of name (scans_of (take i scans ++ drop (suc i) scans))
-    ≡ exceptions_of name (scans_of scans)
+    → scanned_named name (scans_of (take i scans ++ drop (suc i) scans))
+    ≡ scanned_named name (scans_of scans)
 exceptions_without name [] i d lt differ = absurd (omega (arith, lt))
 exceptions_without name (s ∷ ss) zero d lt differ =
     let other = not_name s.name name differ in rw other refl
@@ -272,6 +272,6 @@ plan_more f slot t i p lt at own =
     ∙ ap (λ (l : List PartOfLayout). own_before slot t i ++ l) one))
 
 pub planned_same : (l : Layout) (xs ys : List Scanned) (p : PartOfLayout)
-    → exceptions_of p.name xs ≡ exceptions_of p.name ys
+    → scanned_named p.name xs ≡ scanned_named p.name ys
     → planned_on l xs p ≡ planned_on l ys p
 planned_same l xs ys p same = rw same refl

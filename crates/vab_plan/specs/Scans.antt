@@ -8,7 +8,7 @@ use Rattle.vab_device.specs.Stores.{Scanned}
 use Rattle.vab_plan.specs.declared.planning.Scan.{Scan}
 
 abbrev pub scanned_of : Scan → Scanned
-scanned_of s = record { name = s.name; exceptions = s.view }
+scanned_of s = record { name = s.name; chunk = s.chunk; exceptions = s.view }
 
 abbrev pub scans_of : List Scan → List Scanned
 scans_of scans = map scanned_of scans

@@ -1,16 +1,16 @@
 //! The partitions of an update's target, with what their stores hold.
 
 ghost use Rattle.std.specs.Prelude.{◌≡◌, ◌≢◌, ◌<◌, ◌≤◌, ℕ, List, length, IfOk, OnErr, Err};
-ghost use Rattle.std.specs.Prelude.{IfSome, IfNone, Some, None, true, get_or};
+ghost use Rattle.std.specs.Prelude.{IfSome, IfNone, Some, None, true, get_or, option_map};
 ghost use Rattle.std.specs.Str.{bytes_eq};
 ghost use Rattle.vab_names.specs.Names.{is_of_slot};
 ghost use Rattle.vab_tables.specs.Rules.{KeepsRules, IsPartition};
 ghost use Rattle.vab_layout.specs.Layout.{layout_of, part_of};
 ghost use Rattle.vab_layout.specs.Slots.{IsOwnPart};
 ghost use Rattle.vab_device.specs.Phases.{store_on, planned_image, planned_on, plan_of};
-ghost use Rattle.vab_device.specs.Stores.{first_named, exceptions_of};
+ghost use Rattle.vab_device.specs.Stores.{first_named, scanned_named};
 ghost use Rattle.vab_plan.specs.declared.planning.Scan.{Scan};
-ghost use Rattle.vab_plan.specs.Scans.{scans_of, IsTargetTable};
+ghost use Rattle.vab_plan.specs.Scans.{scanned_of, scans_of, IsTargetTable};
 
 use crate::partitions::{base, map};
 use std::alloc::Global;
@@ -18,6 +18,7 @@ use vab_bytes::{Listing, Name36};
 use vab_device::{Part, PartImage, StartFault};
 use vab_linear::Map;
 use vab_names::{is_of_slot, store_of};
+use vab_space::Chunk;
 use vab_store::StoreView;
 use vab_tables::{Partition, Table};
 
@@ -29,6 +30,8 @@ const UPDATED: u32 = 4;
 pub struct Scan {
     /// The partition's whole name.
     pub name: Name36,
+    /// The size of a chunk of the store.
+    pub chunk: Chunk,
     pub view: StoreView,
 }
 
@@ -81,10 +84,11 @@ pub fn store_map(
 
 // Where the exceptions of the partition of this name stand.
 fn place(scans: &[Scan], name: &Name36) -> Option<usize>
-    ensures none { IfNone result (exceptions_of name.now (scans_of scans.now) ≡ None) }
+    ensures none { IfNone result (scanned_named name.now (scans_of scans.now) ≡ None) }
     ensures within { IfSome result (λ i. i < length scans.now) }
     ensures first { IfSome result (λ i. (d : Scan)
-        → exceptions_of name.now (scans_of scans.now) ≡ Some (get_or scans.now i d).view) }
+        → scanned_named name.now (scans_of scans.now)
+        ≡ Some (scanned_of (get_or scans.now i d))) }
     ensures is { IfSome result (λ i. (d : Scan) → (get_or scans.now i d).name ≡ name.now) }
 {
     for i in 0..scans.len() {
@@ -96,24 +100,25 @@ fn place(scans: &[Scan], name: &Name36) -> Option<usize>
 }
 
 // The exceptions of the partition of this name, which leave the list.
-fn take(scans: &mut Vec<Scan>, name: &Name36) -> Option<StoreView>
-    ensures found { result ≡ exceptions_of name.now (scans_of scans.old.items) }
+fn take(scans: &mut Vec<Scan>, name: &Name36) -> Option<Scan>
+    ensures found { option_map scanned_of result
+        ≡ scanned_named name.now (scans_of scans.old.items) }
     ensures others { (n : List ℕ)
         → n ≢ name.now
-        → exceptions_of n (scans_of scans.new.items)
-        ≡ exceptions_of n (scans_of scans.old.items) }
+        → scanned_named n (scans_of scans.new.items)
+        ≡ scanned_named n (scans_of scans.old.items) }
 {
     match place(scans.as_slice(), name) {
         None => None,
-        Some(at) => Some(scans.remove(at).view),
+        Some(at) => Some(scans.remove(at)),
     }
 }
 
 // What is known of the image of a partition.
-fn image(updated: bool, view: Option<StoreView>) -> PartImage
-    ensures { result ≡ planned_image updated view }
+fn image(updated: bool, scan: Option<Scan>) -> PartImage
+    ensures { result ≡ planned_image updated (option_map scanned_of scan) }
 {
-    match view {
+    match scan {
         None => {
             if updated {
                 PartImage::Declared
@@ -121,9 +126,9 @@ fn image(updated: bool, view: Option<StoreView>) -> PartImage
                 PartImage::Kept
             }
         }
-        Some(view) => {
+        Some(scan) => {
             if updated {
-                PartImage::Written(view)
+                PartImage::Written(scan.chunk, scan.view)
             } else {
                 PartImage::Kept
             }
@@ -149,11 +154,11 @@ fn planned(
         (part_of table.now partition.now)) }
     ensures others { (n : List ℕ)
         → n ≢ partition.now.name
-        → exceptions_of n (scans_of scans.new.items)
-        ≡ exceptions_of n (scans_of scans.old.items) }
+        → scanned_named n (scans_of scans.new.items)
+        ≡ scanned_named n (scans_of scans.old.items) }
     ensures fault { OnErr result (result ≡ Err StartFault.NoMemory) }
 {
-    let view = take(scans, &partition.name);
+    let scan = take(scans, &partition.name);
     let map = map(alloc, table, partition)?;
     let store = store_map(alloc, table, &partition.name, slot)?;
     Ok(Part {
@@ -161,7 +166,7 @@ fn planned(
         group: table.groups.as_slice()[partition.group as usize].name,
         map,
         store,
-        image: image(partition.attributes & UPDATED != 0, view),
+        image: image(partition.attributes & UPDATED != 0, scan),
     })
 }
 

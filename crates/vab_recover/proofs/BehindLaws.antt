@@ -9,7 +9,6 @@ use Rattle.vab_marks.specs.declared.mark.UpdateMark.{UpdateMark}
 use Rattle.vab_marks.specs.declared.status.PartStatus.{PartStatus}
 use Rattle.vab_statuses.specs.Statuses.{written_in}
 use Rattle.vab_exceptions.specs.declared.area.Exception.{Exception}
-use Rattle.vab_space.specs.declared.Chunk.TheVariants.{One}
 use Rattle.vab_store.specs.declared.fault.StoreFault.{StoreFault}
 use Rattle.vab_store.specs.Scan.{scan_of}
 use Rattle.vab_geometry.specs.declared.geometry.Geometry.{Geometry}
@@ -135,17 +134,17 @@ module _
     (w : Wanted) (old new : Image)
     (same : (s : ℕ) → IsOfBlocks w.store s → new s ≡ old s) where
   abbrev said : Image → Result (List Exception) StoreFault
-  said image = scan_of One w.store (length w.base) image
+  said image = scan_of w.chunk w.store (length w.base) image
 
   by_both : (x y : Result (List Exception) StoreFault)
       → said old ≡ x
       → said new ≡ y
       → scan_read w y ≡ scan_read w x
   by_both (Ok es) y was is =
-      ap (scan_read w) (sym is ∙ scan_kept w.store old new same (length w.base) es was)
+      ap (scan_read w) (sym is ∙ scan_kept w.chunk w.store old new same (length w.base) es was)
   by_both (Err f) (Ok es) was is =
       let back : said old ≡ Ok es =
-      scan_kept w.store new old (λ s there. sym (same s there)) (length w.base) es is in
+      scan_kept w.chunk w.store new old (λ s there. sym (same s there)) (length w.base) es is in
       let no : (let bad : Result (List Exception) StoreFault = Err f in bad ≡ Ok es) =
       sym was ∙ back in
       absurd cc

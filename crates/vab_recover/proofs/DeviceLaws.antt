@@ -32,7 +32,6 @@ use Rattle.vab_names.specs.Names.{is_store, store_of}
 use Rattle.vab_marks.specs.declared.mark.MarkPhase.{MarkPhase}
 use Rattle.vab_marks.specs.declared.status.PartStatus.{PartStatus}
 use Rattle.vab_exceptions.specs.declared.area.Exception.{Exception}
-use Rattle.vab_space.specs.declared.Chunk.TheVariants.{One}
 use Rattle.vab_store.specs.View.{Fits as FitsStore}
 use Rattle.vab_lpstore.specs.declared.loaded.Loaded.{Loaded}
 use Rattle.vab_names.proofs.NameCases.{store_is_store}
@@ -41,7 +40,7 @@ use Rattle.vab_device.specs.Kept.{IsStore, IsStored, IsPart, AreParts, AreOfUpda
 use Rattle.vab_device.specs.Kept.{has_slot, reads_both}
 use Rattle.vab_device.specs.Phases.{store_on, planned_image, planned_on, plan_of}
 use Rattle.vab_device.specs.Reading.{kept}
-use Rattle.vab_device.specs.Stores.{Scanned, first_named, exceptions_of}
+use Rattle.vab_device.specs.Stores.{Scanned, first_named, scanned_named}
 use Rattle.vab_partitions.specs.Merging.{IsMerging}
 use Rattle.vab_plan.specs.Scans.{IsTargetTable}
 use Rattle.vab_recover.specs.Scans.{IsScanned}
@@ -61,43 +60,44 @@ use Rattle.vab_marks.specs.Mark.{mark_at}
 
 -- a store's image, where it is there
 stored : (size first : ℕ) (base : List ℕ) (x : Option PartOfLayout) (updated : Bool)
-    (es : Option (List Exception))
+    (s : Option Scanned)
     → ((q : PartOfLayout) → x ≡ Some q → IsStore size (sectors_of first q.blocks))
-    → ((e : List Exception)
-    → es ≡ Some e
+    → ((e : Scanned)
+    → s ≡ Some e
     → (store : List ℕ)
     × (option_map (λ q. sectors_of first q.blocks) x ≡ Some store)
-    × FitsStore One (length base) store e)
-    → IsStored size base (option_map (λ q. sectors_of first q.blocks) x) (planned_image updated es)
-stored size first base None false es store fits = tt
+    × FitsStore e.chunk (length base) store e.exceptions)
+    → IsStored size base (option_map (λ q. sectors_of first q.blocks) x) (planned_image updated s)
+stored size first base None false s store fits = tt
 stored size first base None true None store fits = tt
 stored size first base None true (Some e) store fits =
     let f = fits e refl in
     absurd (let no : None ≡ Some f.0 = f.1 in cc)
-stored size first base (Some q) false es store fits = store q refl
+stored size first base (Some q) false s store fits = store q refl
 stored size first base (Some q) true None store fits = store q refl
 stored size first base (Some q) true (Some e) store fits =
     let f = fits e refl in
     let whole : Some (sectors_of first q.blocks) ≡ Some f.0 = f.1 in
     let same : sectors_of first q.blocks ≡ f.0 = cc in (
       store q refl,
-      subst (λ (s : List ℕ). FitsStore One (length base) s e) (sym same) f.2,
+      subst (λ (s : List ℕ). FitsStore e.chunk (length base) s e.exceptions) (sym same) f.2,
     )
 
--- the exceptions of a name are of one of the scans
-exceptions_are : (P : Scanned → Type 0) (name : List ℕ) (ss : List Scanned) (es : List Exception)
+-- the scan of a name is one of the scans
+scan_is : (P : Scanned → Type 0) (name : List ℕ) (ss : List Scanned) (e : Scanned)
     → All P ss
-    → exceptions_of name ss ≡ Some es
-    → (s : Scanned) × P s × (s.name ≡ name) × (s.exceptions ≡ es)
-exceptions_are P name [] es all is = absurd (let no : None ≡ Some es = is in cc)
-exceptions_are P name (s ∷ ss) es all is = elim (cases_Bool (bytes_eq s.name name)) [
+    → scanned_named name ss ≡ Some e
+    → P e × (e.name ≡ name)
+scan_is P name [] e all is = absurd (let no : None ≡ Some e = is in cc)
+scan_is P name (s ∷ ss) e all is = elim (cases_Bool (bytes_eq s.name name)) [
   | inl here ↦
-      let found : Some s.exceptions ≡ Some es = rw here at is in
-      let same : s.exceptions ≡ es = cc in
-      (s, All-head P s ss all, (bytes_eq-Decides s.name name).0 here, same)
+      let found : Some s ≡ Some e = rw here at is in
+      let same : s ≡ e = cc in
+      subst (λ (t : Scanned). P t × (t.name ≡ name)) same
+      (All-head P s ss all, (bytes_eq-Decides s.name name).0 here)
   | inr other ↦
-      let found : exceptions_of name ss ≡ Some es = rw other at is in
-      exceptions_are P name ss es (All-tail P s ss all) found
+      let found : scanned_named name ss ≡ Some e = rw other at is in
+      scan_is P name ss e (All-tail P s ss all) found
 ]
 
 -- where names differ, each is found by its own
@@ -168,26 +168,22 @@ module _
     small = part.small;
     store =
         stored size first (sectors_of first p.blocks) (first_named (store_of p.name) l.parts)
-        (is_updated p) (exceptions_of p.name ss)
+        (is_updated p) (scanned_named p.name ss)
         (λ q is. store_is p.name q own is)
         (λ e is.
-        let s = exceptions_are (IsScanned slot l) p.name ss e are is in
-        let x = s.1 in
+        let s = scan_is (IsScanned slot l) p.name ss e are is in
+        let x = s.0 in
         let same : Some x.part ≡ Some p =
         sym x.named
-        ∙ ap (λ (n : List ℕ). first_named n (own_parts slot l.parts)) s.2
+        ∙ ap (λ (n : List ℕ). first_named n (own_parts slot l.parts)) s.1
         ∙ found in
         let part_is : x.part ≡ p = cc in
         let long : length x.part.blocks ≡ length (sectors_of first p.blocks) =
         ap (λ (q : PartOfLayout). length q.blocks) part_is
         ∙ sym (length-sectors_of first p.blocks) in (
           x.store,
-          sym (ap (store_on l) s.2) ∙ x.stored,
-          subst
-              (λ (es : List Exception).
-              FitsStore One (length (sectors_of first p.blocks)) x.store es)
-              s.3
-              (subst (λ (k : ℕ). FitsStore One k x.store s.0.exceptions) long x.fits),
+          sym (ap (store_on l) s.1) ∙ x.stored,
+          subst (λ (n : ℕ). FitsStore e.chunk n x.store e.exceptions) long x.fits,
         ));
   }
 

@@ -14,7 +14,7 @@ use Rattle.vab_names.specs.Names.{store_of}
 use Rattle.vab_marks.specs.declared.status.PartStatus.{PartStatus}
 use Rattle.vab_statuses.specs.Statuses.{written_in}
 use Rattle.vab_exceptions.specs.declared.area.Exception.{Exception}
-use Rattle.vab_space.specs.declared.Chunk.TheVariants.{One}
+use Rattle.vab_space.specs.declared.Chunk.{Chunk}
 use Rattle.vab_store.specs.Layout.{IsOnDisk}
 use Rattle.vab_tables.specs.declared.table.Table.{Table}
 use Rattle.vab_tables.specs.Rules.{cap_of, end_of}
@@ -74,7 +74,14 @@ by_store : (first : ℕ) (s : PartStatus) (part : PartOfLayout) (base store : Li
     → option_map (λ q. sectors_of first q.blocks) y ≡ Some store
     → base ≡ sectors_of first part.blocks
     → wanted_by first s x y
-    ≡ Ok (record { name = s.name; base = base; store = store; count = s.count; fewer = false })
+    ≡ Ok (record {
+      name = s.name;
+      base = base;
+      store = store;
+      chunk = s.chunk;
+      count = s.count;
+      fewer = false;
+    })
 by_store first s part base store x None named stored is =
     absurd (let no : None ≡ Some store = stored in cc)
 by_store first s part base store x (Some q) named stored is =
@@ -84,6 +91,7 @@ by_store first s part base store x (Some q) named stored is =
       name = s.name;
       base = sym is i;
       store = same i;
+      chunk = s.chunk;
       count = s.count;
       fewer = false;
     }))
@@ -91,7 +99,14 @@ by_store first s part base store x (Some q) named stored is =
 pub wanted_there : (slot : ℕ) (l : Layout) (s : PartStatus) (base store : List ℕ)
     → AreBlocks slot l s.name base store
     → wanted_of slot l s
-    ≡ Ok (record { name = s.name; base = base; store = store; count = s.count; fewer = false })
+    ≡ Ok (record {
+      name = s.name;
+      base = base;
+      store = store;
+      chunk = s.chunk;
+      count = s.count;
+      fewer = false;
+    })
 wanted_there slot l s base store are =
     by_store l.device.first_logical_sector s are.part base store
     (first_named s.name (own_parts slot l.parts)) (first_named (store_of s.name) l.parts)
@@ -170,8 +185,14 @@ scans_ok (Err f) ws image done x is = absurd
 -- ---- a scan of the store that a status names
 
 abbrev pub wanted_store : (fewer : Bool) → PartStatus → (base store : List ℕ) → Wanted
-wanted_store fewer s base store =
-    record { name = s.name; base = base; store = store; count = s.count; fewer = fewer }
+wanted_store fewer s base store = record {
+  name = s.name;
+  base = base;
+  store = store;
+  chunk = s.chunk;
+  count = s.count;
+  fewer = fewer;
+}
 
 wanted_found : (fewer : Bool) (slot : ℕ) (l : Layout) (s : PartStatus) (base store : List ℕ)
     → AreBlocks slot l s.name base store
@@ -184,37 +205,40 @@ pub wanted_is : (fewer : Bool) (slot : ℕ) (l : Layout) (s : PartStatus) (base 
     → AreBlocks slot l s.name base store
     → n ≡ length base
     → wanted_at (wanted_for fewer slot l s) image
-    ≡ scan_read (wanted_store fewer s base store) (scan_of One store n image)
+    ≡ scan_read (wanted_store fewer s base store) (scan_of s.chunk store n image)
 unfolding scan_at
 wanted_is fewer slot l s base store n image are long =
     ap (λ (r : Result Wanted StartFault). wanted_at r image)
     (wanted_found fewer slot l s base store are)
-    ∙ ap (λ (k : ℕ). scan_read (wanted_store fewer s base store) (scan_of One store k image))
+    ∙ ap (λ (k : ℕ). scan_read (wanted_store fewer s base store) (scan_of s.chunk store k image))
     (sym long)
 
-pub is_scanned : (slot : ℕ) (l : Layout) (name base store : List ℕ) (n : ℕ)
+pub is_scanned : (slot : ℕ) (l : Layout) (name base store : List ℕ) (k : Chunk) (n : ℕ)
     (scanned : Result (List Exception) StoreFault) (r : Result Scan StartFault)
     → AreBlocks slot l name base store
     → n ≡ length base
-    → IfOk scanned (λ es. Fits One n store es)
+    → IfOk scanned (λ es. Fits k n store es)
     → IfOk r (λ s. s.name ≡ name)
+    → IfOk r (λ s. s.chunk ≡ k)
     → IfOk r (λ s. scanned ≡ Ok s.view)
     → IfOk r (λ s. IsScanned slot l (scanned_of s))
 unfolding sectors_of
-is_scanned slot l name base store n scanned (Err f) are long fits named view = tt
-is_scanned slot l name base store n scanned (Ok s) are long fits named view =
+is_scanned slot l name base store k n scanned (Err f) are long fits named sized view = tt
+is_scanned slot l name base store k n scanned (Ok s) are long fits named sized view =
     let first = l.device.first_logical_sector in
     let same : n ≡ length are.part.blocks =
     long ∙ ap length are.base_is ∙ count first are.part.blocks in
-    let read : Fits One n store s.view =
-    subst (λ (x : Result (List Exception) StoreFault). IfOk x (λ es. Fits One n store es)) view
+    let read : Fits k n store s.view =
+    subst (λ (x : Result (List Exception) StoreFault). IfOk x (λ es. Fits k n store es)) view
     fits in
     record {
       part = are.part;
       store = store;
       named = ap (λ (m : List ℕ). first_named m (own_parts slot l.parts)) named ∙ are.named;
       stored = ap (store_on l) named ∙ are.stored;
-      fits = subst (λ (k : ℕ). Fits One k store s.view) same read;
+      fits =
+          subst (λ (j : Chunk). Fits j (length are.part.blocks) store s.view) (sym sized)
+          (subst (λ (m : ℕ). Fits k m store s.view) same read);
     }
   where
     count : (first : ℕ) (blocks : List ℕ) → length (sectors_of first blocks) ≡ length blocks

@@ -2,7 +2,6 @@
 use Rattle.std.specs.Prelude.{◌≡◌, ◌⊎◌, ℕ, List, length, Some, None}
 use Rattle.std.specs.Prelude.{Result, Ok, Err}
 use Rattle.vab_disk.specs.Disk.{Image}
-use Rattle.vab_space.specs.declared.Chunk.TheVariants.{One}
 use Rattle.vab_store.specs.View.{Fits}
 use Rattle.vab_layout.specs.declared.layout.Part.{Part as PartOfLayout}
 use Rattle.vab_layout.specs.declared.layout.Layout.{Layout}
@@ -35,4 +34,4 @@ pub record IsScanned (slot : ℕ) (l : Layout) (s : Scanned) : Type 0 where
   pub store : List ℕ
   pub named : first_named s.name (own_parts slot l.parts) ≡ Some part
   pub stored : store_on l s.name ≡ Some store
-  pub fits : Fits One (length part.blocks) store s.exceptions
+  pub fits : Fits s.chunk (length part.blocks) store s.exceptions

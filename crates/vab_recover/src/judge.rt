@@ -79,7 +79,7 @@ fn is_ready(image: &PartImage) -> bool
     match image {
         PartImage::Kept => true,
         PartImage::Declared => false,
-        PartImage::Written(_) => true,
+        PartImage::Written(_, _) => true,
     }
 }
 

@@ -20,7 +20,7 @@ ghost use Rattle.vab_layout.specs.Slots.{IsOwnPart, other_slot};
 ghost use Rattle.vab_device.specs.Faults.{IsOfContents, IsOfDisk};
 ghost use Rattle.vab_device.specs.Phases.{store_on, planned_image, planned_on, plan_of};
 ghost use Rattle.vab_device.specs.Stores.{Wanted, first_named, wanted_of, scan_read, scans_in};
-ghost use Rattle.vab_device.specs.Stores.{exceptions_of, is_long};
+ghost use Rattle.vab_device.specs.Stores.{is_long};
 ghost use Rattle.vab_tidy.specs.Counts.{CountsFaults};
 ghost use Rattle.vab_plan.specs.Scans.{scanned_of, scans_of, IsTargetTable};
 ghost use Rattle.vab_recover.specs.Scans.{wanted_at, AreBlocks, IsMissing, IsScanned};
@@ -39,7 +39,6 @@ use vab_marks::{PartStatus, UpdateMark};
 use vab_names::is_of_slot;
 use vab_plan::{Scan, map, named, plan, store_map};
 use vab_scan::scan;
-use vab_space::Chunk;
 use vab_statuses::Statuses;
 use vab_store::{StoreFault, StoreView};
 use vab_tables::Table;
@@ -86,17 +85,20 @@ fn judge_scan(
 ) -> Result<Scan, StartFault>
     ensures ok { (w : Wanted) (x : Result (List Exception) StoreFault)
         → w.name ≡ status.now.name
+        → w.chunk ≡ status.now.chunk
         → w.count ≡ status.now.count
         → w.fewer ≡ fewer
         → Answers scanned x
         → IfOk result (λ s. scan_read w x ≡ Ok (scanned_of s)) }
     ensures fault { (w : Wanted) (x : Result (List Exception) StoreFault)
         → w.name ≡ status.now.name
+        → w.chunk ≡ status.now.chunk
         → w.count ≡ status.now.count
         → w.fewer ≡ fewer
         → Answers scanned x
         → IfErr result (λ f. IsOfContents f → scan_read w x ≡ Err f) }
     ensures name { IfOk result (λ s. s.name ≡ status.now.name) }
+    ensures chunk { IfOk result (λ s. s.chunk ≡ status.now.chunk) }
     ensures view { IfOk result (λ s. scanned ≡ Ok s.view) }
     ensures kind { IfErr result (λ f. IsOfDisk f → scanned ≡ Err StoreFault.DiskFault) }
     ensures disk { scanned ≡ Err StoreFault.DiskFault → IfErr result IsOfDisk }
@@ -106,6 +108,7 @@ fn judge_scan(
             if is_long(fewer, status.count, view.count()) {
                 Ok(Scan {
                     name: status.name,
+                    chunk: status.chunk,
                     view,
                 })
             } else {
@@ -147,7 +150,7 @@ fn scan_store<D: Disk>(
         Err(fault) => Err(fault),
         Ok(None) => Err(StartFault::BadStore(status.name)),
         Ok(Some((base, store))) => {
-            let scanned = scan(alloc, d, &store, base.len(), Chunk::One);
+            let scanned = scan(alloc, d, &store, base.len(), status.chunk);
             judge_scan(status, scanned, fewer)
         }
     }

@@ -145,7 +145,7 @@ module _ (image : Image) where
       → texts.plan_word (planned_on image p i) ≡ kept.plan_word i
   word_on p Kept = refl
   word_on p Declared = refl
-  word_on p (Written es) = refl
+  word_on p (Written k es) = refl
 
   plan_line_on : (p : Part) → texts.plan_line (entry_on image p) ≡ kept.plan_line p
   plan_line_on p =

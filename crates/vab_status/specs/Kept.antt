@@ -46,7 +46,7 @@ slot_page slot info (Some parts) =
 abbrev pub plan_word : PartImage → List ℕ
 plan_word Kept = codes "kept"
 plan_word Declared = codes "declared"
-plan_word (Written es) = codes "written"
+plan_word (Written k es) = codes "written"
 
 -- a planned partition, with its size in bytes
 abbrev pub plan_line : Part → List ℕ

@@ -2,7 +2,8 @@
 use Rattle.std.specs.Prelude.{ℕ, List, [], ◌∷◌, ◌++◌, length, nat_lt, if◌then◌else◌}
 use Rattle.std.specs.Prelude.{Option, Some, None}
 use Rattle.std.specs.List.{flat_map}
-use Rattle.vab_space.specs.Space.{need_of}
+use Rattle.vab_space.specs.declared.Chunk.{Chunk}
+use Rattle.vab_space.specs.Chunks.{need_at}
 use Rattle.vab_layout.specs.Slots.{other_slot}
 use Rattle.vab_device.specs.declared.device.Device.{Device}
 use Rattle.vab_device.specs.declared.device.Part.{Part}
@@ -10,21 +11,21 @@ use Rattle.vab_device.specs.declared.device.PartImage.{PartImage}
 use Rattle.vab_device.specs.declared.device.PartImage.TheVariants.{Kept, Declared, Written}
 use Rattle.vab_survey.specs.declared.stores.StoreRow.{StoreRow}
 
--- of a store of so many blocks, those that so many exceptions use
-abbrev pub used_of : ℕ → ℕ → ℕ
-used_of blocks count = if nat_lt count blocks then need_of count else blocks
+-- of a store of so many blocks, those that so many exceptions use in chunks of this size
+abbrev pub used_of : ℕ → ℕ → Chunk → ℕ
+used_of blocks count k = if nat_lt count blocks then need_at count k else blocks
 
 abbrev pub row_by : ℕ → Part → Option (List ℕ) → PartImage → List StoreRow
 row_by slot p None image = []
 row_by slot p (Some store) Kept = []
 row_by slot p (Some store) Declared = []
-row_by slot p (Some store) (Written es) =
+row_by slot p (Some store) (Written k es) =
     record {
       slot = slot;
       name = p.name;
       exceptions = length es;
       blocks = length store;
-      used = used_of (length store) (length es);
+      used = used_of (length store) (length es) k;
     }
     ∷ []
 

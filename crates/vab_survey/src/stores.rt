@@ -8,7 +8,7 @@ use std::alloc::Global;
 use vab_bytes::{Listing, Name36};
 use vab_device::{Device, Part, PartImage};
 use vab_model::NoMemory;
-use vab_space::need;
+use vab_space::{Chunk, need_at};
 
 /// What the store of a partition holds that an update has written.
 #[derive(Clone, Copy, Debug, PartialEq, Eq)]
@@ -17,7 +17,7 @@ pub struct StoreRow {
     pub slot: usize,
     /// Its base name.
     pub name: Name36,
-    /// How many blocks of the partition the store has something for.
+    /// How many chunks of the partition the store has something for.
     pub exceptions: u64,
     /// How many blocks of 4096 bytes the store has.
     pub blocks: u64,
@@ -26,11 +26,15 @@ pub struct StoreRow {
 }
 
 // Of a store of so many blocks, those that so many exceptions use.
-fn used_of(blocks: u64, count: u64) -> u64
+fn used_of(blocks: u64, count: u64, chunk: Chunk) -> u64
     requires { blocks < 2 ^ 60 }
-    ensures { result ≡ used_of blocks count }
+    ensures { result ≡ used_of blocks count chunk }
 {
-    if count < blocks { need(count) } else { blocks }
+    if count < blocks {
+        need_at(count, chunk)
+    } else {
+        blocks
+    }
 }
 
 // The row of a partition, where it has a store and a status.
@@ -44,12 +48,12 @@ fn row_of(slot: usize, part: &Part) -> Option<StoreRow>
     match &part.image {
         PartImage::Kept => None,
         PartImage::Declared => None,
-        PartImage::Written(view) => Some(StoreRow {
+        PartImage::Written(chunk, view) => Some(StoreRow {
             slot,
             name: part.name,
             exceptions: view.count(),
             blocks: store.len(),
-            used: used_of(store.len(), view.count()),
+            used: used_of(store.len(), view.count(), *chunk),
         }),
     }
 }

@@ -7,7 +7,7 @@ use Rattle.vab_tables.specs.declared.entries.Partition.{Partition}
 use Rattle.vab_layout.specs.Layout.{layout_of, part_of}
 use Rattle.vab_device.specs.Phases.{planned_on}
 use Rattle.vab_plan.specs.Scans.{scans_of}
-use Rattle.vab_device.specs.Stores.{exceptions_of}
+use Rattle.vab_device.specs.Stores.{scanned_named}
 use Rattle.vab_plan.proofs.PlanLaws.{own_rules, all_before, plan_skip, plan_more, planned_same}
 use Rattle.vab_plan.proofs.PlanLaws.{at_any}
 use Rattle.vab_plan.proofs.planning.plan.Goals as goal
@@ -46,11 +46,11 @@ loop-partition-preserved c =
           let own : is_of_slot c.args.slot p.name ≡ true =
           subst (λ (n : List ℕ). is_of_slot c.args.slot n ≡ true) c.text.ensures.value
           (sym c.is_of_slot.ensures ∙ w.if-is_of_slot.true) in
-          let here : exceptions_of p.name (scans_of c.loop-partition.left.items)
-          ≡ exceptions_of p.name all =
+          let here : scanned_named p.name (scans_of c.loop-partition.left.items)
+          ≡ scanned_named p.name all =
           subst
-          (λ (q : Partition). exceptions_of q.name (scans_of c.loop-partition.left.items)
-          ≡ exceptions_of q.name all)
+          (λ (q : Partition). scanned_named q.name (scans_of c.loop-partition.left.items)
+          ≡ scanned_named q.name all)
           (sym at) (inv.left i p (omega arith) lt) in
           let f = planned_on l all in
           let entry : w.in_ok-planned.field-0 ≡ f (part_of t p) =
@@ -66,7 +66,7 @@ loop-partition-preserved c =
                 let differ : (get_or t.partitions k d).name ≢ p.name =
                 λ e. c.requires.target.rules.partition_names i k d (omega (arith, low)) below
                 (ap (λ (q : Partition). q.name) (sym (at_any t.partitions i p d lt at)) ∙ sym e) in
-                ap (λ v. exceptions_of (get_or t.partitions k d).name (scans_of v.items)) w.left-is
+                ap (λ v. scanned_named (get_or t.partitions k d).name (scans_of v.items)) w.left-is
                 ∙ w.in_ok-planned.ensures.others (get_or t.partitions k d).name differ
                 ∙ inv.left k d (omega (arith, low)) below;
           }
@@ -80,7 +80,7 @@ loop-partition-preserved c =
                 ∙ inv.plan
                 ∙ plan_skip (planned_on l all) c.args.slot t i p lt at other;
             left = λ k d low below.
-                ap (λ v. exceptions_of (get_or t.partitions k d).name (scans_of v.items)) w.left-is
+                ap (λ v. scanned_named (get_or t.partitions k d).name (scans_of v.items)) w.left-is
                 ∙ inv.left k d (omega (arith, low)) below;
           }
     ]

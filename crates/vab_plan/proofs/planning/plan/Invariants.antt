@@ -4,7 +4,7 @@ use Rattle.vab_tables.specs.declared.entries.Partition.{Partition}
 use Rattle.vab_layout.specs.Layout.{layout_of}
 use Rattle.vab_partitions.specs.Own.{own_before}
 use Rattle.vab_device.specs.Phases.{planned_on}
-use Rattle.vab_device.specs.Stores.{exceptions_of}
+use Rattle.vab_device.specs.Stores.{scanned_named}
 use Rattle.vab_plan.specs.Scans.{scans_of}
 use Rattle.vab_plan.proofs.planning.plan.Given as goal
 
@@ -16,6 +16,6 @@ invariant-loop-partition l = record {
   left : (k : ℕ) (d : Partition)
       → l.partition-index ≤ k
       → k < length l.table.partitions
-      → exceptions_of (get_or l.table.partitions k d).name (scans_of l.left.items)
-      ≡ exceptions_of (get_or l.table.partitions k d).name (scans_of l.fn.scans.items);
+      → scanned_named (get_or l.table.partitions k d).name (scans_of l.left.items)
+      ≡ scanned_named (get_or l.table.partitions k d).name (scans_of l.fn.scans.items);
 }

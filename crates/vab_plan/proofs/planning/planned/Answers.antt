@@ -32,7 +32,7 @@ returns-clause-entry c =
     let map = c.in_ok-map.ensures.blocks
     ∙ ap (λ (n : ℕ). sectors_of n (blocks_of_partition t p)) (sym (layout_first t)) in
     let image = c.image.ensures
-    ∙ ap (planned_image (is_updated (part_of t p))) c.take-view.ensures.found in
+    ∙ ap (planned_image (is_updated (part_of t p))) c.take-scan.ensures.found in
     (λ i. record {
       name = c.base.ensures i;
       group = group i;

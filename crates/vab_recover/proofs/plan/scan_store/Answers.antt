@@ -4,7 +4,6 @@ use Rattle.vab_layout.specs.Layout.{layout_of}
 use Rattle.vab_device.specs.declared.fault.StartFault.{StartFault}
 use Rattle.vab_device.specs.Faults.{IsOfContents}
 use Rattle.vab_device.specs.Stores.{Scanned, Wanted}
-use Rattle.vab_space.specs.declared.Chunk.TheVariants.{One}
 use Rattle.vab_store.specs.Scan.{scan_of}
 use Rattle.vab_plan.specs.Scans.{scanned_of}
 use Rattle.vab_recover.specs.Scans.{AreBlocks}
@@ -31,7 +30,8 @@ returns-in-Ok-Some-clause-ok g c = λ t.
     (λ (w : Option (List ℕ × List ℕ)). IfSome w
     (λ m. AreBlocks c.args.slot (layout_of c.args.table.now) c.args.status.now.name m.0 m.1))
     c.in-Ok-Some.field-0-is c.in-Ok-Some.ensures.there) c.len.ensures.count))
-    (c.judge_scan.ensures.ok w (scan_of One c.in-Ok-Some.store c.len.result image) refl refl refl
+    (c.judge_scan.ensures.ok w (scan_of s.chunk c.in-Ok-Some.store c.len.result image)
+    refl refl refl refl
     (c.scan-scanned.ensures.answers t))
 
 pub returns-in-Ok-Some-clause-fault : goal.returns-in-Ok-Some-clause-fault
@@ -48,16 +48,18 @@ returns-in-Ok-Some-clause-fault g c = λ t.
     (λ (w : Option (List ℕ × List ℕ)). IfSome w
     (λ m. AreBlocks c.args.slot (layout_of c.args.table.now) c.args.status.now.name m.0 m.1))
     c.in-Ok-Some.field-0-is c.in-Ok-Some.ensures.there) c.len.ensures.count))
-    (c.judge_scan.ensures.fault w (scan_of One c.in-Ok-Some.store c.len.result image) refl refl refl
+    (c.judge_scan.ensures.fault w (scan_of s.chunk c.in-Ok-Some.store c.len.result image)
+    refl refl refl refl
     (c.scan-scanned.ensures.answers t))
 
 pub returns-in-Ok-Some-clause-is : goal.returns-in-Ok-Some-clause-is
 returns-in-Ok-Some-clause-is g c =
     is_scanned c.args.slot (layout_of c.args.table.now) c.args.status.now.name c.in-Ok-Some.base
-    c.in-Ok-Some.store c.len.result c.scan-scanned.result c.judge_scan.result
+    c.in-Ok-Some.store c.args.status.now.chunk c.len.result c.scan-scanned.result
+    c.judge_scan.result
     (subst
     (λ (w : Option (List ℕ × List ℕ)). IfSome w
     (λ m. AreBlocks c.args.slot (layout_of c.args.table.now) c.args.status.now.name m.0 m.1))
     c.in-Ok-Some.field-0-is c.in-Ok-Some.ensures.there) c.len.ensures.count
     c.scan-scanned.ensures.fits
-    c.judge_scan.ensures.name c.judge_scan.ensures.view
+    c.judge_scan.ensures.name c.judge_scan.ensures.chunk c.judge_scan.ensures.view
