@@ -3,15 +3,14 @@ use Rattle.std.proofs.Common.{◌≡◌, inl, inr, ⊎_elim, ℕ, ◌+◌, ◌-�
 use Rattle.std.proofs.Common.{take, sym, ◌∙◌, ap, subst, arith}
 use Rattle.std.specs.Prelude.{slice_index, Ok}
 use Rattle.std.proofs.lemmas.Bool.{cases_lt}
-use Rattle.vab_space.specs.declared.Chunk.TheVariants.{One}
+use Rattle.vab_space.specs.declared.Chunk.{Chunk}
 use Rattle.vab_disk.specs.Disk.{Image, Adds}
 use Rattle.vab_disk.specs.declared.disk.Disk.{Ghosts}
 use Rattle.vab_disk.specs.Calls.{InSectors, Touches, IsAtRest}
 use Rattle.vab_disk.proofs.Moments.{adds_wider, adds_on}
 use Rattle.vab_disk.proofs.CallLaws.{touches_on, touches_wider}
 use Rattle.vab_exceptions.specs.declared.area.Exception.{Exception}
-use Rattle.vab_exceptions.specs.Entries.{area_entries}
-use Rattle.vab_space.specs.Chunks.{page_block}
+use Rattle.vab_space.specs.Chunks.{entries_in, page_block}
 use Rattle.vab_space.proofs.ChunkLaws.{page_inside}
 use Rattle.vab_store.specs.Scan.{scan_of}
 use Rattle.std.proofs.lemmas.List.{take_all}
@@ -26,8 +25,8 @@ use Rattle.vab_merge.proofs.MergeLaws.{copy_keeps, Ready, clear_keeps, clear_dro
 
 -- ---- runs
 
-pub may_none : (es : List Exception) (n : ℕ) → MayRun es n 0
-may_none es n = record {
+pub may_none : (k : Chunk) (es : List Exception) (n : ℕ) → MayRun k es n 0
+may_none k es n = record {
   run = record {
     within = omega arith;
     joined = λ j behind inside. absurd (omega (arith, behind, inside));
@@ -37,26 +36,27 @@ may_none es n = record {
 
 -- ---- which sectors are written
 
-copied_sector : (base store : List ℕ) (es : List Exception) (n s : ℕ)
-    → IsRun area_entries es n
-    → InCopied base es (length es - n) s
-    → IsMergedSector base store es n s
-copied_sector base store es n s run is = record {
+copied_sector : (k : Chunk) (base store : List ℕ) (es : List Exception) (n s : ℕ)
+    → IsRun (entries_in k) es n
+    → InCopied k base es (length es - n) s
+    → IsMergedSector k base store es n s
+copied_sector k base store es n s run is = record {
   place = is.place;
   within = is.within;
   may_run = record {
-    run = run_fewer area_entries es n (length es - is.place) run (omega (arith, is.behind));
+    run = run_fewer (entries_in k) es n (length es - is.place) run (omega (arith, is.behind));
     at_most = omega (arith, is.behind);
   };
   here = inl is.here;
 }
 
-cleared_sector : (base store : List ℕ) (es : List Exception) (n s : ℕ) (image : Image) (b : List ℕ)
-    → IsRun area_entries es n
+cleared_sector : (k : Chunk) (base store : List ℕ) (es : List Exception) (n s : ℕ)
+    (image : Image) (b : List ℕ)
+    → IsRun (entries_in k) es n
     → 0 < n
-    → IsClearing One store (length es - n) (length es) image s b
-    → IsMergedSector base store es n s
-cleared_sector base store es n s image b run some is =
+    → IsClearing k store (length es - n) (length es) image s b
+    → IsMergedSector k base store es n s
+cleared_sector k base store es n s image b run some is =
     let first : ℕ = length es - n in
     let i : ℕ = is.sector in
     let within_run = run.within in
@@ -68,11 +68,11 @@ cleared_sector base store es n s image b run some is =
             place = j;
             within = is.within.below;
             may_run = record {
-              run = run_fewer area_entries es n (length es - j) run
+              run = run_fewer (entries_in k) es n (length es - j) run
                   (omega (arith, before, within_run));
               at_most = omega (arith, before, within_run);
             };
-            here = inr (is.here ∙ ap (page_sector One store) (sym place));
+            here = inr (is.here ∙ ap (page_sector k store) (sym place));
           }
       | inr at_begin ↦
           let place : first / 32 ≡ i = omega (arith, at_begin, is.within.from) in
@@ -80,52 +80,53 @@ cleared_sector base store es n s image b run some is =
             place = first;
             within = omega (arith, some, within_run);
             may_run = record {
-              run = run_fewer area_entries es n (length es - first) run (omega (arith, within_run));
+              run = run_fewer (entries_in k) es n (length es - first) run
+                  (omega (arith, within_run));
               at_most = omega (arith, within_run);
             };
-            here = inr (is.here ∙ ap (page_sector One store) (sym place));
+            here = inr (is.here ∙ ap (page_sector k store) (sym place));
           }
     ]
 
-module _ {D : Type 0} (g : Ghosts D) (base store : List ℕ) (es : List Exception) (n : ℕ)
-    (run : IsRun area_entries es n) where
+module _ {D : Type 0} (g : Ghosts D) (k : Chunk) (base store : List ℕ) (es : List Exception) (n : ℕ)
+    (run : IsRun (entries_in k) es n) where
   pub touches_copied : (old mid : D)
-      → Touches g (InSectors (InCopied base es (length es - n))) old mid
-      → Touches g (InSectors (IsMergedSector base store es n)) old mid
+      → Touches g (InSectors (InCopied k base es (length es - n))) old mid
+      → Touches g (InSectors (IsMergedSector k base store es n)) old mid
   touches_copied old mid touches =
-      touches_wider g (InSectors (IsMergedSector base store es n))
-      (InSectors (InCopied base es (length es - n))) old mid touches
-      (λ s b is. copied_sector base store es n s run is)
+      touches_wider g (InSectors (IsMergedSector k base store es n))
+      (InSectors (InCopied k base es (length es - n))) old mid touches
+      (λ s b is. copied_sector k base store es n s run is)
 
   pub touches_merged : (old mid new : D)
       → 0 < n
-      → Touches g (InSectors (InCopied base es (length es - n))) old mid
-      → Touches g (IsClearing One store (length es - n) (length es) (g.seen mid)) mid new
-      → Touches g (InSectors (IsMergedSector base store es n)) old new
+      → Touches g (InSectors (InCopied k base es (length es - n))) old mid
+      → Touches g (IsClearing k store (length es - n) (length es) (g.seen mid)) mid new
+      → Touches g (InSectors (IsMergedSector k base store es n)) old new
   touches_merged old mid new some copied cleared =
-      touches_on g (InSectors (InCopied base es (length es - n)))
-      (IsClearing One store (length es - n) (length es) (g.seen mid))
-      (InSectors (IsMergedSector base store es n)) old mid new copied cleared
-      (λ s b is. copied_sector base store es n s run is)
-      (λ s b is. cleared_sector base store es n s (g.seen mid) b run some is)
+      touches_on g (InSectors (InCopied k base es (length es - n)))
+      (IsClearing k store (length es - n) (length es) (g.seen mid))
+      (InSectors (IsMergedSector k base store es n)) old mid new copied cleared
+      (λ s b is. copied_sector k base store es n s run is)
+      (λ s b is. cleared_sector k base store es n s (g.seen mid) b run some is)
 
   -- ---- what a crash leaves
 
   pub time_copied : (old mid : D)
       → g.is_modelled
-      → CanMerge base store es (g.size old)
+      → CanMerge k base store es (g.size old)
       → IsAtRest g old
-      → scan_of One store (length base) (g.seen old) ≡ Ok es
-      → Touches g (InSectors (InCopied base es (length es - n))) old mid
-      → Adds g.moment g.outcomes old mid (LeavesMerged base store es n (g.told old) (g.seen old))
+      → scan_of k store (length base) (g.seen old) ≡ Ok es
+      → Touches g (InSectors (InCopied k base es (length es - n))) old mid
+      → Adds g.moment g.outcomes old mid (LeavesMerged k base store es n (g.told old) (g.seen old))
   time_copied old mid t can rest scanned touches =
       adds_wider g.moment g.outcomes old mid _ _ (touches.time t)
       (λ o leaves. record {
         told_so_far = leaves.told_so_far;
         dropped = 0;
-        may_run = may_none es n;
+        may_run = may_none k es n;
         without =
-            copy_keeps base store es (g.size old) (length es - n) (g.seen old) o.image can
+            copy_keeps k base store es (g.size old) (length es - n) (g.seen old) o.image can
             (scan_of_ok store (length base) (g.seen old) es scanned)
             (λ s.
             ⊎_elim (λ was. inl (rest s (o.image s) was)) (λ w. inr w) (leaves.each_sector s));
@@ -134,12 +135,12 @@ module _ {D : Type 0} (g : Ghosts D) (base store : List ℕ) (es : List Exceptio
   pub ready_of : (old mid : D)
       → g.is_modelled
       → 0 < n
-      → CanMerge base store es (g.size old)
-      → scan_of One store (length base) (g.seen old) ≡ Ok es
-      → Touches g (InSectors (InCopied base es (length es - n))) old mid
-      → AreCopied base store es (length es - n) (length es) (g.seen old) (g.seen mid)
+      → CanMerge k base store es (g.size old)
+      → scan_of k store (length base) (g.seen old) ≡ Ok es
+      → Touches g (InSectors (InCopied k base es (length es - n))) old mid
+      → AreCopied k base store es (length es - n) (length es) (g.seen old) (g.seen mid)
       → ((s : ℕ) → s < g.size mid → length (g.seen mid s) ≡ 512)
-      → Ready base store es (g.size old) (length es - n) (g.seen old) (g.seen mid)
+      → Ready k base store es (g.size old) (length es - n) (g.seen old) (g.seen mid)
   ready_of old mid t some can scanned touches copied whole =
       let first : ℕ = length es - n in
       let below : first < length es = omega (arith, some, run.within) in
@@ -151,37 +152,37 @@ module _ {D : Type 0} (g : Ghosts D) (base store : List ℕ) (es : List Exceptio
         copied = copied;
         whole = λ p inside i lt.
             let on_disk =
-            can.may.store_on_disk (page_block One p) (page_inside One (length store) p inside) in
-            whole (slice_index store (page_block One p) + i)
+            can.may.store_on_disk (page_block k p) (page_inside k (length store) p inside) in
+            whole (slice_index store (page_block k p) + i)
             (omega (arith, lt, on_disk, touches.quiet.size));
       }
 
   pub time_merged : (old mid new : D)
       → g.is_modelled
       → 0 < n
-      → CanMerge base store es (g.size old)
+      → CanMerge k base store es (g.size old)
       → IsAtRest g old
-      → scan_of One store (length base) (g.seen old) ≡ Ok es
-      → Touches g (InSectors (InCopied base es (length es - n))) old mid
-      → AreCopied base store es (length es - n) (length es) (g.seen old) (g.seen mid)
+      → scan_of k store (length base) (g.seen old) ≡ Ok es
+      → Touches g (InSectors (InCopied k base es (length es - n))) old mid
+      → AreCopied k base store es (length es - n) (length es) (g.seen old) (g.seen mid)
       → ((s : ℕ) → s < g.size mid → length (g.seen mid s) ≡ 512)
       → IsAtRest g mid
-      → Touches g (IsClearing One store (length es - n) (length es) (g.seen mid)) mid new
-      → Adds g.moment g.outcomes old new (LeavesMerged base store es n (g.told old) (g.seen old))
+      → Touches g (IsClearing k store (length es - n) (length es) (g.seen mid)) mid new
+      → Adds g.moment g.outcomes old new (LeavesMerged k base store es n (g.told old) (g.seen old))
   time_merged old mid new t some can rest scanned touches copied whole mid_rest cleared =
       let ready = ready_of old mid t some can scanned touches copied whole in
       let more : Adds g.moment g.outcomes mid new
-      (LeavesMerged base store es n (g.told old) (g.seen old)) =
+      (LeavesMerged k base store es n (g.told old) (g.seen old)) =
       adds_wider g.moment g.outcomes mid new _ _ (cleared.time t)
       (λ o leaves.
-      let kept = clear_keeps base store es (g.size old) (length es - n) (g.seen old) (g.seen mid)
+      let kept = clear_keeps k base store es (g.size old) (length es - n) (g.seen old) (g.seen mid)
       o.image ready
       (λ s. ⊎_elim (λ was. inl (mid_rest s (o.image s) was)) (λ w. inr w) (leaves.each_sector s)) in
       record {
         told_so_far = leaves.told_so_far ∙ touches.quiet.told t;
         dropped = kept.0;
         may_run = record {
-          run = run_fewer area_entries es n kept.0 run (omega (arith, kept.1, run.within));
+          run = run_fewer (entries_in k) es n kept.0 run (omega (arith, kept.1, run.within));
           at_most = omega (arith, kept.1, run.within);
         };
         without = kept.2;
@@ -193,30 +194,30 @@ module _ {D : Type 0} (g : Ghosts D) (base store : List ℕ) (es : List Exceptio
   pub merged : (old mid new : D)
       → g.is_modelled
       → 0 < n
-      → CanMerge base store es (g.size old)
-      → scan_of One store (length base) (g.seen old) ≡ Ok es
-      → Touches g (InSectors (InCopied base es (length es - n))) old mid
-      → AreCopied base store es (length es - n) (length es) (g.seen old) (g.seen mid)
+      → CanMerge k base store es (g.size old)
+      → scan_of k store (length base) (g.seen old) ≡ Ok es
+      → Touches g (InSectors (InCopied k base es (length es - n))) old mid
+      → AreCopied k base store es (length es - n) (length es) (g.seen old) (g.seen mid)
       → ((s : ℕ) → s < g.size mid → length (g.seen mid s) ≡ 512)
-      → Touches g (IsClearing One store (length es - n) (length es) (g.seen mid)) mid new
-      → AreCleared One store (length es - n) (length es) (g.seen mid) (g.seen new)
-      → WithoutLast base store es n (g.seen old) (g.seen new)
+      → Touches g (IsClearing k store (length es - n) (length es) (g.seen mid)) mid new
+      → AreCleared k store (length es - n) (length es) (g.seen mid) (g.seen new)
+      → WithoutLast k base store es n (g.seen old) (g.seen new)
   merged old mid new t some can scanned touches copied whole cleared all =
       let ready = ready_of old mid t some can scanned touches copied whole in
       let left : length es - (length es - n) ≡ n = omega (arith, run.within) in
-      subst (λ (k : ℕ). WithoutLast base store es k (g.seen old) (g.seen new)) left
-      (clear_drops base store es (g.size old) (length es - n) (g.seen old) (g.seen mid) (g.seen new)
-      ready (cleared.seen t) all)
+      subst (λ (m : ℕ). WithoutLast k base store es m (g.seen old) (g.seen new)) left
+      (clear_drops k base store es (g.size old) (length es - n) (g.seen old) (g.seen mid)
+      (g.seen new) ready (cleared.seen t) all)
 
 -- ---- a run within more
 
-pub leaves_more : {D : Type 0} (g : Ghosts D) (base store : List ℕ) (es : List Exception)
-    (n most : ℕ)
+pub leaves_more : {D : Type 0} (g : Ghosts D) (k : Chunk) (base store : List ℕ)
+    (es : List Exception) (n most : ℕ)
     (old new : D)
     → n ≤ most
-    → Adds g.moment g.outcomes old new (LeavesMerged base store es n (g.told old) (g.seen old))
-    → Adds g.moment g.outcomes old new (LeavesMerged base store es most (g.told old) (g.seen old))
-leaves_more g base store es n most old new le adds =
+    → Adds g.moment g.outcomes old new (LeavesMerged k base store es n (g.told old) (g.seen old))
+    → Adds g.moment g.outcomes old new (LeavesMerged k base store es most (g.told old) (g.seen old))
+leaves_more g k base store es n most old new le adds =
     adds_wider g.moment g.outcomes old new _ _ adds
     (λ o leaves. record {
       told_so_far = leaves.told_so_far;
@@ -228,14 +229,14 @@ leaves_more g base store es n most old new le adds =
       without = leaves.without;
     })
 
-pub sectors_more : {D : Type 0} (g : Ghosts D) (base store : List ℕ) (es : List Exception)
-    (n most : ℕ) (old new : D)
+pub sectors_more : {D : Type 0} (g : Ghosts D) (k : Chunk) (base store : List ℕ)
+    (es : List Exception) (n most : ℕ) (old new : D)
     → n ≤ most
-    → Touches g (InSectors (IsMergedSector base store es n)) old new
-    → Touches g (InSectors (IsMergedSector base store es most)) old new
-sectors_more g base store es n most old new le touches =
-    touches_wider g (InSectors (IsMergedSector base store es most))
-    (InSectors (IsMergedSector base store es n)) old new touches
+    → Touches g (InSectors (IsMergedSector k base store es n)) old new
+    → Touches g (InSectors (IsMergedSector k base store es most)) old new
+sectors_more g k base store es n most old new le touches =
+    touches_wider g (InSectors (IsMergedSector k base store es most))
+    (InSectors (IsMergedSector k base store es n)) old new touches
     (λ s b is. record {
       place = is.place;
       within = is.within;
@@ -244,24 +245,24 @@ sectors_more g base store es n most old new le touches =
     })
 
 -- nothing is merged where no exception is left
-pub without_none : (base store : List ℕ) (es : List Exception) (old : Image)
-    → scan_of One store (length base) old ≡ Ok es
-    → WithoutLast base store es 0 old old
-without_none base store es old scanned =
+pub without_none : (k : Chunk) (base store : List ℕ) (es : List Exception) (old : Image)
+    → scan_of k store (length base) old ≡ Ok es
+    → WithoutLast k base store es 0 old old
+without_none k base store es old scanned =
     let whole : take (length es - 0) es ≡ es = take_all (length es - 0) es (omega arith) in
     record {
       scanned = scanned ∙ ap (λ l. Ok l) (sym whole);
-      same = λ block below. ap (λ (l : List Exception). view_block One base store l old block)
+      same = λ block below. ap (λ (l : List Exception). view_block k base store l old block)
           whole;
     }
 
-pub empty_run : (es : List Exception) (most : ℕ)
+pub empty_run : (k : Chunk) (es : List Exception) (most : ℕ)
     → 0 < most
-    → IsLongest area_entries es most 0
+    → IsLongest (entries_in k) es most 0
     → length es ≡ 0
-empty_run es most some is = elim (cases_lt 0 (length es)) [
+empty_run k es most some is = elim (cases_lt 0 (length es)) [
   | inl left ↦
-      let one : 1 ≤ 0 = is.longest 1 (omega (arith, some)) (run_one area_entries es left) in
+      let one : 1 ≤ 0 = is.longest 1 (omega (arith, some)) (run_one (entries_in k) es left) in
       absurd (omega (arith, one))
   | inr none ↦ omega (arith, none)
 ]

@@ -1,10 +1,9 @@
 //! The merge of a run.
 
 ghost use Rattle.std.specs.Prelude.{◌≡◌, ◌-◌, ◌<◌, ◌≤◌, length, take, Ok, IfOk, OnErr, OnOk};
-ghost use Rattle.vab_space.specs.declared.Chunk.TheVariants.{One};
+ghost use Rattle.vab_space.specs.Chunks.{entries_in};
 ghost use Rattle.vab_disk.specs.Disk.{Adds};
 ghost use Rattle.vab_disk.specs.Calls.{InSectors, Touches, IsAtRest, FailsWithDisk};
-ghost use Rattle.vab_exceptions.specs.Entries.{area_entries};
 ghost use Rattle.vab_store.specs.Layout.{slots_of, IsOnDisk, IsApart};
 ghost use Rattle.vab_store.specs.Scan.{scan_of};
 ghost use Rattle.vab_merge.specs.Run.{IsRun};
@@ -31,42 +30,50 @@ pub enum Ran {
     Empty,
 }
 
-// Copies the blocks of the exceptions from `first` on, and syncs.
+// Copies the chunks of the exceptions from `first` on, and syncs.
 fn copy_run<D: Disk>(
     d: &mut D,
     base: &Map,
     store: &Map,
     view: &StoreView,
     first: u64,
+    chunk: Chunk,
 ) -> Result<(), DiskFault>
-    requires may { MayMerge base.now store.now view.now (D.size d.old) }
-    requires can { D.is_modelled → CanMerge base.now store.now view.now (D.size d.old) }
+    requires may { MayMerge chunk base.now store.now view.now (D.size d.old) }
+    requires can { D.is_modelled → CanMerge chunk base.now store.now view.now (D.size d.old) }
     requires first { first ≤ length view.now }
     ensures copied { D.is_modelled → OnOk result
-        (AreCopied base.now store.now view.now first (length view.now)
+        (AreCopied chunk base.now store.now view.now first (length view.now)
         (D.seen d.old) (D.seen d.new)) }
     ensures rest { D.is_modelled → OnOk result (IsAtRest D.Disk d.new) }
-    ensures touches { Touches D.Disk (InSectors (InCopied base.now view.now first)) d.old d.new }
+    ensures touches { Touches D.Disk
+        (InSectors (InCopied chunk base.now view.now first)) d.old d.new }
     ensures faults { FailsWithDisk D.Disk d.old d.new result }
 {
-    copy_blocks(d, base, store, view, first)?;
+    copy_blocks(d, base, store, view, first, chunk)?;
     settle(d)
 }
 
 // Zeroes the entries from `first` up to `end`, and syncs.
-fn clear_run<D: Disk>(d: &mut D, store: &Map, first: u64, end: u64) -> Result<(), DiskFault>
+fn clear_run<D: Disk>(
+    d: &mut D,
+    store: &Map,
+    first: u64,
+    end: u64,
+    chunk: Chunk,
+) -> Result<(), DiskFault>
     requires order { first < end }
-    requires there { end ≤ slots_of One store.now }
+    requires there { end ≤ slots_of chunk store.now }
     requires on_disk { IsOnDisk store.now (D.size d.old) }
     requires apart { D.is_modelled → IsApart store.now }
     ensures cleared { D.is_modelled → OnOk result
-        (AreCleared One store.now first end (D.seen d.old) (D.seen d.new)) }
+        (AreCleared chunk store.now first end (D.seen d.old) (D.seen d.new)) }
     ensures rest { D.is_modelled → OnOk result (IsAtRest D.Disk d.new) }
     ensures touches { Touches D.Disk
-        (IsClearing One store.now first end (D.seen d.old)) d.old d.new }
+        (IsClearing chunk store.now first end (D.seen d.old)) d.old d.new }
     ensures faults { FailsWithDisk D.Disk d.old d.new result }
 {
-    clear_entries(d, store, Chunk::One, first, end)?;
+    clear_entries(d, store, chunk, first, end)?;
     settle(d)
 }
 
@@ -77,28 +84,30 @@ fn merge_last<D: Disk>(
     store: &Map,
     view: &StoreView,
     n: u64,
+    chunk: Chunk,
 ) -> Result<(), DiskFault>
-    requires may { MayMerge base.now store.now view.now (D.size d.old) }
-    requires can { D.is_modelled → CanMerge base.now store.now view.now (D.size d.old) }
+    requires may { MayMerge chunk base.now store.now view.now (D.size d.old) }
+    requires can { D.is_modelled → CanMerge chunk base.now store.now view.now (D.size d.old) }
     requires some { 0 < n }
-    requires run { IsRun area_entries view.now n }
+    requires run { IsRun (entries_in chunk) view.now n }
     ensures merged { D.is_modelled
-        → scan_of One store.now (length base.now) (D.seen d.old) ≡ Ok view.now
-        → OnOk result (WithoutLast base.now store.now view.now n (D.seen d.old) (D.seen d.new)) }
+        → scan_of chunk store.now (length base.now) (D.seen d.old) ≡ Ok view.now
+        → OnOk result
+        (WithoutLast chunk base.now store.now view.now n (D.seen d.old) (D.seen d.new)) }
     ensures rest { D.is_modelled → OnOk result (IsAtRest D.Disk d.new) }
     ensures time { D.is_modelled
         → IsAtRest D.Disk d.old
-        → scan_of One store.now (length base.now) (D.seen d.old) ≡ Ok view.now
+        → scan_of chunk store.now (length base.now) (D.seen d.old) ≡ Ok view.now
         → Adds D.moment D.outcomes d.old d.new
-        (LeavesMerged base.now store.now view.now n (D.told d.old) (D.seen d.old)) }
+        (LeavesMerged chunk base.now store.now view.now n (D.told d.old) (D.seen d.old)) }
     ensures touches { Touches D.Disk
-        (InSectors (IsMergedSector base.now store.now view.now n)) d.old d.new }
+        (InSectors (IsMergedSector chunk base.now store.now view.now n)) d.old d.new }
     ensures faults { FailsWithDisk D.Disk d.old d.new result }
 {
     let end = view.count();
     let first = end - n;
-    copy_run(d, base, store, view, first)?;
-    clear_run(d, store, first, end)
+    copy_run(d, base, store, view, first, chunk)?;
+    clear_run(d, store, first, end, chunk)
 }
 
 // Drops the last exceptions.
@@ -111,45 +120,48 @@ fn drop_run(view: &mut StoreView, n: u64)
     }
 }
 
-/// Merges the last exceptions of a store: as many, but at most `most`, as stand in one area with
-/// old chunks that ascend by one. Their blocks are copied to the partition, then their entries are
-/// zeroed, each with a sync behind it. After a fault the view is the old one: the store may have
-/// fewer exceptions by then, so it has to be scanned again.
+/// Merges the last exceptions of a store whose chunks have this size: as many, but at most `most`,
+/// as stand in one area with old chunks that ascend by one. Those of their blocks that the
+/// partition has are copied to it, then their entries are zeroed, each with a sync behind it. After
+/// a fault the view is the old one: the store may have fewer exceptions by then, so it has to be
+/// scanned again.
 pub fn run_turn<D: Disk>(
     d: &mut D,
     base: &Map,
     store: &Map,
     view: &mut StoreView,
     most: u64,
+    chunk: Chunk,
 ) -> Result<Ran, DiskFault>
-    requires may { MayMerge base.now store.now view.old (D.size d.old) }
-    requires can { D.is_modelled → CanMerge base.now store.now view.old (D.size d.old) }
+    requires may { MayMerge chunk base.now store.now view.old (D.size d.old) }
+    requires can { D.is_modelled → CanMerge chunk base.now store.now view.old (D.size d.old) }
     requires some { 0 < most }
-    ensures ran { IfOk result (IsRan view.old most) }
+    ensures ran { IfOk result (IsRan chunk view.old most) }
     ensures kept { IfOk result
         (λ ran. view.new ≡ take (length view.old - dropped_by ran) view.old) }
     ensures failed { OnErr result (view.new ≡ view.old) }
     // The kept view is the store's scan, and each block reads as before.
     ensures merged { D.is_modelled
-        → scan_of One store.now (length base.now) (D.seen d.old) ≡ Ok view.old
+        → scan_of chunk store.now (length base.now) (D.seen d.old) ≡ Ok view.old
         → IfOk result (λ ran.
-        WithoutLast base.now store.now view.old (dropped_by ran) (D.seen d.old) (D.seen d.new)) }
+        WithoutLast chunk base.now store.now view.old (dropped_by ran)
+        (D.seen d.old) (D.seen d.new)) }
     ensures rest { D.is_modelled → IsAtRest D.Disk d.old → OnOk result (IsAtRest D.Disk d.new) }
     // So it is in each outcome, but that fewer of the exceptions may be gone.
     ensures time { D.is_modelled
         → IsAtRest D.Disk d.old
-        → scan_of One store.now (length base.now) (D.seen d.old) ≡ Ok view.old
+        → scan_of chunk store.now (length base.now) (D.seen d.old) ≡ Ok view.old
         → Adds D.moment D.outcomes d.old d.new
-        (LeavesMerged base.now store.now view.old most (D.told d.old) (D.seen d.old)) }
+        (LeavesMerged chunk base.now store.now view.old most (D.told d.old) (D.seen d.old)) }
     ensures touches { Touches D.Disk
-        (InSectors (IsMergedSector base.now store.now view.old most)) d.old d.new }
+        (InSectors (IsMergedSector chunk base.now store.now view.old most)) d.old d.new }
     ensures faults { FailsWithDisk D.Disk d.old d.new result }
 {
-    let n = run_length(view, most);
+    let n = run_length(view, most, chunk);
     if n == 0 {
         return Ok(Ran::Empty);
     }
-    match merge_last(d, base, store, view, n) {
+    match merge_last(d, base, store, view, n, chunk) {
         Err(fault) => Err(fault),
         Ok(()) => {
             drop_run(view, n);
@@ -158,32 +170,34 @@ pub fn run_turn<D: Disk>(
     }
 }
 
-/// Merges the last exception.
+/// Merges the last exception of a store whose chunks have this size.
 pub fn turn<D: Disk>(
     d: &mut D,
     base: &Map,
     store: &Map,
     view: &mut StoreView,
+    chunk: Chunk,
 ) -> Result<Ran, DiskFault>
-    requires may { MayMerge base.now store.now view.old (D.size d.old) }
-    requires can { D.is_modelled → CanMerge base.now store.now view.old (D.size d.old) }
-    ensures ran { IfOk result (IsRan view.old 1) }
+    requires may { MayMerge chunk base.now store.now view.old (D.size d.old) }
+    requires can { D.is_modelled → CanMerge chunk base.now store.now view.old (D.size d.old) }
+    ensures ran { IfOk result (IsRan chunk view.old 1) }
     ensures kept { IfOk result
         (λ ran. view.new ≡ take (length view.old - dropped_by ran) view.old) }
     ensures failed { OnErr result (view.new ≡ view.old) }
     ensures merged { D.is_modelled
-        → scan_of One store.now (length base.now) (D.seen d.old) ≡ Ok view.old
+        → scan_of chunk store.now (length base.now) (D.seen d.old) ≡ Ok view.old
         → IfOk result (λ ran.
-        WithoutLast base.now store.now view.old (dropped_by ran) (D.seen d.old) (D.seen d.new)) }
+        WithoutLast chunk base.now store.now view.old (dropped_by ran)
+        (D.seen d.old) (D.seen d.new)) }
     ensures rest { D.is_modelled → IsAtRest D.Disk d.old → OnOk result (IsAtRest D.Disk d.new) }
     ensures time { D.is_modelled
         → IsAtRest D.Disk d.old
-        → scan_of One store.now (length base.now) (D.seen d.old) ≡ Ok view.old
+        → scan_of chunk store.now (length base.now) (D.seen d.old) ≡ Ok view.old
         → Adds D.moment D.outcomes d.old d.new
-        (LeavesMerged base.now store.now view.old 1 (D.told d.old) (D.seen d.old)) }
+        (LeavesMerged chunk base.now store.now view.old 1 (D.told d.old) (D.seen d.old)) }
     ensures touches { Touches D.Disk
-        (InSectors (IsMergedSector base.now store.now view.old 1)) d.old d.new }
+        (InSectors (IsMergedSector chunk base.now store.now view.old 1)) d.old d.new }
     ensures faults { FailsWithDisk D.Disk d.old d.new result }
 {
-    run_turn(d, base, store, view, 1)
+    run_turn(d, base, store, view, 1, chunk)
 }

@@ -1,21 +1,19 @@
 //! The exceptions that are merged together.
 
 ghost use Rattle.std.specs.Prelude.{◌≡◌, ◌↔◌, ◌-◌, ◌<◌, ◌≤◌, IsTrue, length};
-ghost use Rattle.vab_exceptions.specs.Entries.{area_entries};
+ghost use Rattle.vab_space.specs.Chunks.{entries_in};
 ghost use Rattle.vab_merge.specs.Run.{IsJoined, IsLongest};
 
+use vab_space::Chunk;
 use vab_store::StoreView;
 
-/// The entries of an area of one block.
-pub(crate) const AREA_ENTRIES: u64 = 256;
-
 // Whether the exception before this one stands in its area, with the old chunk before its.
-fn is_joined(view: &StoreView, next: u64) -> bool
+fn is_joined(view: &StoreView, next: u64, chunk: Chunk) -> bool
     requires some { 0 < next }
     requires within { next < length view.now }
-    ensures { IsTrue result ↔ IsJoined area_entries view.now (next - 1) }
+    ensures { IsTrue result ↔ IsJoined (entries_in chunk) view.now (next - 1) }
 {
-    let area = AREA_ENTRIES;
+    let area = chunk.entries();
     let before = view.at(next - 1).old_chunk;
     let here = view.at(next).old_chunk;
     (next - 1) / area == next / area && before < here && here - before == 1
@@ -23,16 +21,16 @@ fn is_joined(view: &StoreView, next: u64) -> bool
 
 /// How many of the last exceptions stand in one area with old chunks that ascend by one, at most
 /// `most`.
-pub(crate) fn run_length(view: &StoreView, most: u64) -> u64
+pub(crate) fn run_length(view: &StoreView, most: u64, chunk: Chunk) -> u64
     requires { 0 < most }
-    ensures { IsLongest area_entries view.now most result }
+    ensures { IsLongest (entries_in chunk) view.now most result }
 {
     let count = view.count();
     if count == 0 {
         return 0;
     }
     let mut n = 1;
-    while n < most && n < count && is_joined(view, count - n) {
+    while n < most && n < count && is_joined(view, count - n, chunk) {
         n += 1;
     }
     n

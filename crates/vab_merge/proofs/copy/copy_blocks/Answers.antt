@@ -1,12 +1,10 @@
-use Rattle.std.proofs.Common.{◌≡◌, ◌≤◌, ◌<◌, ◌∙◌, ℕ, List, length, ap, refl, arith, rules, subst}
-use Rattle.std.specs.Prelude.{slice_index}
-use Rattle.vab_disk.proofs.CallLaws.{touches_none, touches_on, touches_reads, touches_then}
-use Rattle.vab_disk.specs.Calls.{Touches, InSectors}
+use Rattle.std.proofs.Common.{◌≤◌, ◌<◌, ◌∙◌, ℕ, List, length, refl, arith, subst}
+use Rattle.vab_disk.proofs.CallLaws.{touches_none, touches_on}
+use Rattle.vab_disk.specs.Calls.{SameBut, InSectors}
 use Rattle.vab_disk.specs.Disk.{Image}
+use Rattle.vab_space.specs.declared.Chunk.{Chunk}
 use Rattle.vab_exceptions.specs.declared.area.Exception.{Exception}
-use Rattle.vab_gate.specs.Gate.{set_block, IsAmong}
-use Rattle.vab_store.specs.Layout.{chunk_bytes}
-use Rattle.vab_merge.specs.Copied.{InCopied}
+use Rattle.vab_merge.specs.Copied.{InChunk, IsCopied}
 use Rattle.vab_merge.proofs.CopyLaws.{MayCopy, copied_more, in_copied}
 use Rattle.vab_merge.proofs.copy.copy_blocks.Goals as goal
 
@@ -20,6 +18,7 @@ loop-j-init g c = record {
 pub loop-j-preserved : goal.loop-j-preserved
 loop-j-preserved g c =
     let i = c.loop-j.invariant in
+    let k : Chunk = c.args.chunk in
     let base : List ℕ = c.args.base.now in
     let store : List ℕ = c.args.store.now in
     let es : List Exception = c.args.view.now in
@@ -27,56 +26,38 @@ loop-j-preserved g c =
     let n : ℕ = c.loop-j.j in
     let within : n < length es = omega (arith, c.loop-j-test.true, c.count-j-end.ensures) in
     let behind : first ≤ n = omega arith in
-    let long : length c.read_at.new.out ≡ 4096 = search rules in
-    let bytes : List ℕ = c.read_at.new.out in
-    let read_touches : Touches g.D.Disk
-    (InSectors (InCopied base es first)) c.args.d.now c.read_at.new.d =
-    touches_then g.D.Disk _ _ _ _ i.touches
-    (touches_reads g.D.Disk _ _ _ c.in_ok-read_at.ensures.reads) in
     record {
       copied = λ t.
           let mid : Image = g.D.Disk.seen c.loop-j.d in
-          let may : MayCopy base store es = record {
-            fits = c.requires.fits;
+          let new : Image = g.D.Disk.seen c.copy_chunk.new.d in
+          let may : MayCopy base store = record {
             apart = c.requires.base_apart t;
             disjoint = c.requires.disjoint t;
           } in
-          copied_more base store es first n (g.D.Disk.seen c.args.d.now) mid
-          (g.D.Disk.seen c.write_at.new.d) bytes may behind within
-          (i.touches.seen t) (i.copied t)
-          (c.in_ok-read_at.ensures.bytes t
-          ∙ ap (λ (e : Exception). chunk_bytes store mid e.new_chunk) c.at-exception.ensures)
-          long
-          (c.in_ok-write_at.ensures.written t
-          ∙ ap (λ (o : Image). set_block o (slice_index base c.at-exception.result.old_chunk) bytes)
-          (c.in_ok-read_at.ensures.reads.seen t)
-          ∙ ap (λ (e : Exception). set_block mid
-          (slice_index base e.old_chunk) bytes) c.at-exception.ensures);
-      touches = touches_on g.D.Disk _ _ _ _ _ _ read_touches c.write_at.ensures.touches
+          copied_more k base store es first n (g.D.Disk.seen c.args.d.now) mid new may
+          c.requires.fits behind within (i.touches.seen t) (i.copied t)
+          (subst (λ (e : Exception). SameBut (InSectors (InChunk k base e.old_chunk)) mid new)
+          c.at.ensures (c.copy_chunk.ensures.touches.seen t))
+          (subst (λ (e : Exception). IsCopied k base store e mid new)
+          c.at.ensures (c.in_ok-copy_chunk.ensures.copied t));
+      touches = touches_on g.D.Disk _ _ _ _ _ _ i.touches c.copy_chunk.ensures.touches
           (λ s b w. w)
-          (λ s b w. in_copied base es first n bytes s b behind within
-          (subst (λ (e : Exception). IsAmong 8
-          (slice_index base e.old_chunk) bytes s b) c.at-exception.ensures w));
-      steady = c.in_ok-write_at.ensures.faults.steady ∙ c.in_ok-read_at.ensures.faults.steady
-          ∙ i.steady;
+          (λ s b w. in_copied k base es first n s behind within
+          (subst (λ (e : Exception). InChunk k base e.old_chunk s) c.at.ensures w));
+      steady = c.in_ok-copy_chunk.ensures.faults.steady ∙ i.steady;
     }
 
-pub returns-in_err-write_at-clause-touches : goal.returns-in_err-write_at-clause-touches
-returns-in_err-write_at-clause-touches g c =
+pub returns-in_err-copy_chunk-clause-touches : goal.returns-in_err-copy_chunk-clause-touches
+returns-in_err-copy_chunk-clause-touches g c =
     let i = c.loop-j.invariant in
+    let k : Chunk = c.args.chunk in
     let base : List ℕ = c.args.base.now in
     let es : List Exception = c.args.view.now in
     let first : ℕ = c.args.first in
     let n : ℕ = c.loop-j.j in
     let within : n < length es = omega (arith, c.loop-j-test.true, c.count-j-end.ensures) in
     let behind : first ≤ n = omega arith in
-    let bytes : List ℕ = c.read_at.new.out in
-    let read_touches : Touches g.D.Disk
-    (InSectors (InCopied base es first)) c.args.d.now c.read_at.new.d =
-    touches_then g.D.Disk _ _ _ _ i.touches
-    (touches_reads g.D.Disk _ _ _ c.in_ok-read_at.ensures.reads) in
-    touches_on g.D.Disk _ _ _ _ _ _ read_touches c.write_at.ensures.touches
+    touches_on g.D.Disk _ _ _ _ _ _ i.touches c.copy_chunk.ensures.touches
     (λ s b w. w)
-    (λ s b w. in_copied base es first n bytes s b behind within
-    (subst (λ (e : Exception). IsAmong 8
-    (slice_index base e.old_chunk) bytes s b) c.at-exception.ensures w))
+    (λ s b w. in_copied k base es first n s behind within
+    (subst (λ (e : Exception). InChunk k base e.old_chunk s) c.at.ensures w))

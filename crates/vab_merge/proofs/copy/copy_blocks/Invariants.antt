@@ -6,7 +6,8 @@ use Rattle.vab_merge.proofs.copy.copy_blocks.Given as goal
 abbrev pub invariant-loop-j : goal.invariant-loop-j
 invariant-loop-j g l = record {
   copied : g.D.Disk.is_modelled
-      → AreCopied l.base l.store l.view l.first l.j (g.D.Disk.seen l.fn.d) (g.D.Disk.seen l.d);
-  touches : Touches g.D.Disk (InSectors (InCopied l.base l.view l.first)) l.fn.d l.d;
+      → AreCopied l.chunk l.base l.store l.view l.first l.j
+      (g.D.Disk.seen l.fn.d) (g.D.Disk.seen l.d);
+  touches : Touches g.D.Disk (InSectors (InCopied l.chunk l.base l.view l.first)) l.fn.d l.d;
   steady : g.D.Disk.faults l.d ≡ g.D.Disk.faults l.fn.d;
 }

@@ -1,7 +1,7 @@
 use Rattle.std.proofs.Common.{◌≡◌, ◌-◌, ◌<◌, ℕ, List, length, subst, arith}
 use Rattle.std.proofs.lemmas.Result.{IfOk-weaker}
 use Rattle.vab_disk.specs.Calls.{InSectors, Touches}
-use Rattle.vab_space.specs.declared.Chunk.TheVariants.{One}
+use Rattle.vab_space.specs.declared.Chunk.{Chunk}
 use Rattle.vab_exceptions.specs.declared.area.Exception.{Exception}
 use Rattle.vab_merge.specs.Copied.{InCopied, AreCopied}
 use Rattle.vab_merge.specs.Cleared.{IsClearing, AreCleared}
@@ -12,6 +12,7 @@ use Rattle.vab_merge.proofs.merge.merge_last.Goals as goal
 
 pub clear_run-requires : goal.clear_run-requires
 clear_run-requires g c =
+    let k : Chunk = c.args.chunk in
     let es : List Exception = c.args.view.now in
     let n : ℕ = c.args.n in
     let end_is : c.count-end.result ≡ length es = c.count-end.ensures in
@@ -31,83 +32,88 @@ clear_run-requires g c =
 
 pub returns-in_err-copy_run-clause-touches : goal.returns-in_err-copy_run-clause-touches
 returns-in_err-copy_run-clause-touches g c =
+    let k : Chunk = c.args.chunk in
     let es : List Exception = c.args.view.now in
     let n : ℕ = c.args.n in
-    touches_copied g.D.Disk c.args.base.now c.args.store.now es n c.requires.run c.args.d.now
+    touches_copied g.D.Disk k c.args.base.now c.args.store.now es n c.requires.run c.args.d.now
     c.copy_run.new.d
-    (subst (λ (k : ℕ). Touches g.D.Disk
-    (InSectors (InCopied c.args.base.now es (k - n))) c.args.d.now c.copy_run.new.d)
+    (subst (λ (m : ℕ). Touches g.D.Disk
+    (InSectors (InCopied k c.args.base.now es (m - n))) c.args.d.now c.copy_run.new.d)
     c.count-end.ensures c.copy_run.ensures.touches)
 
 pub returns-in_err-copy_run-clause-time : goal.returns-in_err-copy_run-clause-time
 returns-in_err-copy_run-clause-time g c = λ t rest scanned.
+    let k : Chunk = c.args.chunk in
     let es : List Exception = c.args.view.now in
     let n : ℕ = c.args.n in
-    time_copied g.D.Disk c.args.base.now c.args.store.now es n c.requires.run c.args.d.now
+    time_copied g.D.Disk k c.args.base.now c.args.store.now es n c.requires.run c.args.d.now
     c.copy_run.new.d t (c.requires.can t) rest scanned
-    (subst (λ (k : ℕ). Touches g.D.Disk
-    (InSectors (InCopied c.args.base.now es (k - n))) c.args.d.now c.copy_run.new.d)
+    (subst (λ (m : ℕ). Touches g.D.Disk
+    (InSectors (InCopied k c.args.base.now es (m - n))) c.args.d.now c.copy_run.new.d)
     c.count-end.ensures c.copy_run.ensures.touches)
 
 pub returns-clause-touches : goal.returns-clause-touches
 returns-clause-touches g c =
+    let k : Chunk = c.args.chunk in
     let es : List Exception = c.args.view.now in
     let n : ℕ = c.args.n in
-    touches_merged g.D.Disk c.args.base.now c.args.store.now es n c.requires.run c.args.d.now
+    touches_merged g.D.Disk k c.args.base.now c.args.store.now es n c.requires.run c.args.d.now
     c.copy_run.new.d c.clear_run.new.d c.requires.some
-    (subst (λ (k : ℕ). Touches g.D.Disk
-    (InSectors (InCopied c.args.base.now es (k - n))) c.args.d.now c.copy_run.new.d)
+    (subst (λ (m : ℕ). Touches g.D.Disk
+    (InSectors (InCopied k c.args.base.now es (m - n))) c.args.d.now c.copy_run.new.d)
     c.count-end.ensures c.copy_run.ensures.touches)
-    (subst (λ (k : ℕ). Touches g.D.Disk
-    (IsClearing One c.args.store.now (k - n) k
+    (subst (λ (m : ℕ). Touches g.D.Disk
+    (IsClearing k c.args.store.now (m - n) m
     (g.D.Disk.seen c.copy_run.new.d)) c.copy_run.new.d c.clear_run.new.d)
     c.count-end.ensures c.clear_run.ensures.touches)
 
 pub returns-clause-time : goal.returns-clause-time
 returns-clause-time g c = λ t rest scanned.
+    let k : Chunk = c.args.chunk in
     let es : List Exception = c.args.view.now in
     let n : ℕ = c.args.n in
     let mid = c.copy_run.new.d in
-    time_merged g.D.Disk c.args.base.now c.args.store.now es n c.requires.run c.args.d.now
+    time_merged g.D.Disk k c.args.base.now c.args.store.now es n c.requires.run c.args.d.now
     mid c.clear_run.new.d t c.requires.some (c.requires.can t) rest scanned
-    (subst (λ (k : ℕ). Touches g.D.Disk
-    (InSectors (InCopied c.args.base.now es (k - n))) c.args.d.now mid)
+    (subst (λ (m : ℕ). Touches g.D.Disk
+    (InSectors (InCopied k c.args.base.now es (m - n))) c.args.d.now mid)
     c.count-end.ensures c.copy_run.ensures.touches)
-    (subst (λ (k : ℕ). AreCopied c.args.base.now c.args.store.now es (k - n) (length es)
+    (subst (λ (m : ℕ). AreCopied k c.args.base.now c.args.store.now es (m - n) (length es)
     (g.D.Disk.seen c.args.d.now) (g.D.Disk.seen mid))
     c.count-end.ensures (c.in_ok-copy_run.ensures.copied t))
     (λ s below. (g.met.D.Disk.whole mid s (g.D.Disk.seen mid s) below
     (g.met.D.Disk.seen_held mid s)).long)
     (c.in_ok-copy_run.ensures.rest t)
-    (subst (λ (k : ℕ). Touches g.D.Disk
-    (IsClearing One c.args.store.now (k - n) k (g.D.Disk.seen mid)) mid c.clear_run.new.d)
+    (subst (λ (m : ℕ). Touches g.D.Disk
+    (IsClearing k c.args.store.now (m - n) m (g.D.Disk.seen mid)) mid c.clear_run.new.d)
     c.count-end.ensures c.clear_run.ensures.touches)
 
 pub returns-clause-merged : goal.returns-clause-merged
 returns-clause-merged g c = λ t scanned.
+    let k : Chunk = c.args.chunk in
     let es : List Exception = c.args.view.now in
     let n : ℕ = c.args.n in
     let mid = c.copy_run.new.d in
     IfOk-weaker c.clear_run.result
-    (λ u. AreCleared One c.args.store.now (c.count-end.result - n) c.count-end.result
+    (λ u. AreCleared k c.args.store.now (c.count-end.result - n) c.count-end.result
     (g.D.Disk.seen mid) (g.D.Disk.seen c.clear_run.new.d))
-    (λ u. WithoutLast c.args.base.now c.args.store.now es n (g.D.Disk.seen c.args.d.now)
+    (λ u. WithoutLast k c.args.base.now c.args.store.now es n (g.D.Disk.seen c.args.d.now)
     (g.D.Disk.seen c.clear_run.new.d))
     (λ u all.
-    merged g.D.Disk c.args.base.now c.args.store.now es n c.requires.run c.args.d.now
+    merged g.D.Disk k c.args.base.now c.args.store.now es n c.requires.run c.args.d.now
     mid c.clear_run.new.d t c.requires.some (c.requires.can t) scanned
-    (subst (λ (k : ℕ). Touches g.D.Disk
-    (InSectors (InCopied c.args.base.now es (k - n))) c.args.d.now mid)
+    (subst (λ (m : ℕ). Touches g.D.Disk
+    (InSectors (InCopied k c.args.base.now es (m - n))) c.args.d.now mid)
     c.count-end.ensures c.copy_run.ensures.touches)
-    (subst (λ (k : ℕ). AreCopied c.args.base.now c.args.store.now es (k - n) (length es)
+    (subst (λ (m : ℕ). AreCopied k c.args.base.now c.args.store.now es (m - n) (length es)
     (g.D.Disk.seen c.args.d.now) (g.D.Disk.seen mid))
     c.count-end.ensures (c.in_ok-copy_run.ensures.copied t))
     (λ s below. (g.met.D.Disk.whole mid s (g.D.Disk.seen mid s) below
     (g.met.D.Disk.seen_held mid s)).long)
-    (subst (λ (k : ℕ). Touches g.D.Disk
-    (IsClearing One c.args.store.now (k - n) k (g.D.Disk.seen mid)) mid c.clear_run.new.d)
+    (subst (λ (m : ℕ). Touches g.D.Disk
+    (IsClearing k c.args.store.now (m - n) m (g.D.Disk.seen mid)) mid c.clear_run.new.d)
     c.count-end.ensures c.clear_run.ensures.touches)
-    (subst (λ (k : ℕ). AreCleared One c.args.store.now (k - n) k (g.D.Disk.seen mid)
+    (subst (λ (m : ℕ). AreCleared k c.args.store.now (m - n) m (g.D.Disk.seen mid)
     (g.D.Disk.seen c.clear_run.new.d))
     c.count-end.ensures all))
     (c.clear_run.ensures.cleared t)

@@ -2,15 +2,15 @@ use Rattle.std.proofs.Common.{◌-◌, length, sym, subst, arith}
 use Rattle.std.proofs.lemmas.List.{take_all}
 use Rattle.vab_disk.proofs.CallLaws.{touches_none}
 use Rattle.vab_disk.proofs.Moments.{adds_none}
-use Rattle.vab_exceptions.specs.Entries.{area_entries}
+use Rattle.vab_space.specs.Chunks.{entries_in}
 use Rattle.vab_merge.specs.Run.{IsLongest}
 use Rattle.vab_merge.proofs.RunSteps.{leaves_more, sectors_more, without_none, empty_run}
 use Rattle.vab_merge.proofs.merge.run_turn.Goals as goal
 
 pub returns-then-n-eq0-clause-ran : goal.returns-then-n-eq0-clause-ran
 returns-then-n-eq0-clause-ran g c =
-    empty_run c.args.view.now c.args.most c.requires.some
-    (subst (IsLongest area_entries c.args.view.now c.args.most) c.if-n-eq0.true
+    empty_run c.args.chunk c.args.view.now c.args.most c.requires.some
+    (subst (IsLongest (entries_in c.args.chunk) c.args.view.now c.args.most) c.if-n-eq0.true
     c.run_length-n.ensures)
 
 pub returns-then-n-eq0-clause-kept : goal.returns-then-n-eq0-clause-kept
@@ -19,7 +19,7 @@ returns-then-n-eq0-clause-kept g c =
 
 pub returns-then-n-eq0-clause-merged : goal.returns-then-n-eq0-clause-merged
 returns-then-n-eq0-clause-merged g c = λ t scanned.
-    without_none c.args.base.now c.args.store.now c.args.view.now
+    without_none c.args.chunk c.args.base.now c.args.store.now c.args.view.now
     (g.D.Disk.seen c.args.d.now) scanned
 
 pub returns-then-n-eq0-clause-time : goal.returns-then-n-eq0-clause-time
@@ -31,24 +31,24 @@ returns-then-n-eq0-clause-touches g c = touches_none g.D.Disk _ _
 
 pub returns-in-Err-clause-time : goal.returns-in-Err-clause-time
 returns-in-Err-clause-time g c = λ t rest scanned.
-    leaves_more g.D.Disk c.args.base.now c.args.store.now c.args.view.now c.run_length-n.result
-    c.args.most c.args.d.now c.merge_last.new.d c.run_length-n.ensures.at_most
+    leaves_more g.D.Disk c.args.chunk c.args.base.now c.args.store.now c.args.view.now
+    c.run_length-n.result c.args.most c.args.d.now c.merge_last.new.d c.run_length-n.ensures.at_most
     (c.merge_last.ensures.time t rest scanned)
 
 pub returns-in-Err-clause-touches : goal.returns-in-Err-clause-touches
 returns-in-Err-clause-touches g c =
-    sectors_more g.D.Disk c.args.base.now c.args.store.now c.args.view.now c.run_length-n.result
-    c.args.most c.args.d.now c.merge_last.new.d c.run_length-n.ensures.at_most
+    sectors_more g.D.Disk c.args.chunk c.args.base.now c.args.store.now c.args.view.now
+    c.run_length-n.result c.args.most c.args.d.now c.merge_last.new.d c.run_length-n.ensures.at_most
     c.merge_last.ensures.touches
 
 pub returns-in-Ok-clause-time : goal.returns-in-Ok-clause-time
 returns-in-Ok-clause-time g c = λ t rest scanned.
-    leaves_more g.D.Disk c.args.base.now c.args.store.now c.args.view.now c.run_length-n.result
-    c.args.most c.args.d.now c.merge_last.new.d c.run_length-n.ensures.at_most
+    leaves_more g.D.Disk c.args.chunk c.args.base.now c.args.store.now c.args.view.now
+    c.run_length-n.result c.args.most c.args.d.now c.merge_last.new.d c.run_length-n.ensures.at_most
     (c.merge_last.ensures.time t rest scanned)
 
 pub returns-in-Ok-clause-touches : goal.returns-in-Ok-clause-touches
 returns-in-Ok-clause-touches g c =
-    sectors_more g.D.Disk c.args.base.now c.args.store.now c.args.view.now c.run_length-n.result
-    c.args.most c.args.d.now c.merge_last.new.d c.run_length-n.ensures.at_most
+    sectors_more g.D.Disk c.args.chunk c.args.base.now c.args.store.now c.args.view.now
+    c.run_length-n.result c.args.most c.args.d.now c.merge_last.new.d c.run_length-n.ensures.at_most
     c.merge_last.ensures.touches

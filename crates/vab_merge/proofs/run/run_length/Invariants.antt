@@ -1,11 +1,11 @@
 use Rattle.std.proofs.Common.{◌≤◌, ◌-◌}
-use Rattle.vab_exceptions.specs.Entries.{area_entries}
+use Rattle.vab_space.specs.Chunks.{entries_in}
 use Rattle.vab_merge.specs.Run.{IsRun}
 use Rattle.vab_merge.proofs.run.run_length.Given as goal
 
 abbrev pub invariant-loop-n : goal.invariant-loop-n
 invariant-loop-n l = record {
-  run : IsRun area_entries l.view l.n;
+  run : IsRun (entries_in l.chunk) l.view l.n;
   most : l.n ≤ l.most;
   some : 1 ≤ l.n;
 }
