@@ -1,7 +1,8 @@
 -- The chunks that differ.
 use Rattle.std.proofs.Common.{◌≡◌, ℕ, zero, suc, ◌+◌, ◌*◌, ◌<◌, ◌≤◌, Bool, true, false, cond}
 use Rattle.std.proofs.Common.{◌&&◌, ◌||◌, nat_lt, List, [], ◌∷◌, ◌++◌, length, inl, inr, refl, sym}
-use Rattle.std.proofs.Common.{ap, ◌∙◌, subst, arith, not, length-append, All, Contains, filter}
+use Rattle.std.proofs.Common.{ap, ◌∙◌, subst, arith, not, append-nil, length-append, All}
+use Rattle.std.proofs.Common.{Contains, filter}
 use Rattle.std.specs.List.{range_with_len}
 use Rattle.std.specs.List.Sorted.{IsStrictlyIncreasing}
 use Rattle.std.proofs.lemmas.Bool.{cases_lt, lt-ltb, le-ltb, and_from, and_left, and_right}
@@ -41,6 +42,20 @@ passing_more test n =
     ∙ ap (filter test) (range_more 0 n)
     ∙ ap (λ (k : ℕ). filter test (range_with_len 0 n ++ k ∷ [])) last
     ∙ filter-append test (range_with_len 0 n) (n ∷ [])
+
+pub passing_true : (test : ℕ → Bool) (n : ℕ)
+    → test n ≡ true
+    → passing test (n + 1) ≡ passing test n ++ n ∷ []
+passing_true test n is =
+    passing_more test n ∙ ap (λ (t : Bool). passing test n ++ cond t (n ∷ []) []) is
+
+pub passing_false : (test : ℕ → Bool) (n : ℕ)
+    → test n ≡ false
+    → passing test (n + 1) ≡ passing test n
+passing_false test n is =
+    passing_more test n
+    ∙ ap (λ (t : Bool). passing test n ++ cond t (n ∷ []) []) is
+    ∙ append-nil (passing test n)
 
 range_ascends : (n : ℕ) → IsStrictlyIncreasing (range_with_len 0 n)
 range_ascends n k below =
