@@ -10,7 +10,7 @@ mod mark;
 mod snapshot;
 
 pub use begin::prepare_begin;
-pub use blocks::differing;
+pub use blocks::{Differing, list_differing};
 pub use control::{cleared, put_info};
 pub use fault::PartFault;
 pub use mark::put_mark;

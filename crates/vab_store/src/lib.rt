@@ -14,4 +14,4 @@ mod writer;
 pub use fault::StoreFault;
 pub use steps::Steps;
 pub use view::StoreView;
-pub use writer::write_store;
+pub use writer::{image_block, write_store};

@@ -62,8 +62,8 @@ fn page_block(chunk: Chunk, olds: &[u64], page: usize) -> [u8; 4096]
     bytes
 }
 
-// A block of the image, with zeros behind its end.
-fn image_block(image: &[u8], block: u64) -> [u8; 4096]
+/// Block `block` of an image, 4096 bytes each, with zeros behind the image's end.
+pub fn image_block(image: &[u8], block: u64) -> [u8; 4096]
     ensures { result ≡ block_of image.now block }
 {
     let mut bytes = [0; BLOCK];

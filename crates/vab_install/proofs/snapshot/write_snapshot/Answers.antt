@@ -1,46 +1,41 @@
-use Rattle.std.proofs.Common.{◌≡◌, ℕ, List, length, sym, subst}
+use Rattle.std.proofs.Common.{ℕ, List, sym, subst}
 use Rattle.vab_disk.specs.Disk.{Image}
-use Rattle.vab_disk.specs.Calls.{SameBut, InSectors}
 use Rattle.vab_exceptions.specs.declared.area.Exception.{Exception}
-use Rattle.vab_space.specs.Space.{need_of}
-use Rattle.vab_space.specs.declared.Chunk.TheVariants.{One}
-use Rattle.vab_store.specs.Layout.{InFirst}
+use Rattle.vab_space.specs.declared.Chunk.{Chunk}
+use Rattle.vab_space.specs.Chunks.{need_at}
 use Rattle.vab_store.specs.View.{Fits}
 use Rattle.vab_store.proofs.WrittenLaws.{planned_fits}
-use Rattle.vab_install.specs.Snapshot.{HoldsBlocks, HoldsNew}
-use Rattle.vab_install.proofs.SnapshotLaws.{base_stays, holds_blocks}
+use Rattle.std.proofs.Common.{length}
+use Rattle.vab_install.specs.Snapshot.{HoldsBlocks, EndsInZeros}
+use Rattle.vab_install.proofs.SnapshotLaws.{base_stays, holds_blocks, ends_in_zeros}
 use Rattle.vab_install.proofs.snapshot.write_snapshot.Goals as goal
 
 pub returns-in-Ok-write_planned-clause-fits : goal.returns-in-Ok-write_planned-clause-fits
-returns-in-Ok-write_planned-clause-fits g c =
-    let olds : List ℕ = c.in-Ok.plan.olds.items in
-    let ok = c.in-Ok.ensures in
-    subst (Fits One c.args.blocks c.args.store.now) (sym ok.view)
-    (planned_fits One olds c.args.store.now c.args.blocks ok.room ok.ascend ok.below)
+returns-in-Ok-write_planned-clause-fits g c = λ blocks below.
+    let k : Chunk = c.args.chunk in
+    subst (Fits k blocks c.args.store.now) (sym c.in-Ok.ensures)
+    (planned_fits k c.args.olds.now c.args.store.now blocks c.requires.room c.requires.ascend below)
 
 pub returns-in-Ok-write_planned-clause-holds : goal.returns-in-Ok-write_planned-clause-holds
-returns-in-Ok-write_planned-clause-holds g c = λ t.
-    let base : List ℕ = c.args.base.now in
+returns-in-Ok-write_planned-clause-holds g c = λ t base blocks disjoint listed.
+    let k : Chunk = c.args.chunk in
     let store : List ℕ = c.args.store.now in
     let staged : List ℕ = c.args.image.now in
-    let olds : List ℕ = c.in-Ok.plan.olds.items in
-    let same : c.as_slice.result.now ≡ olds = c.as_slice.ensures.value in
-    let ok = c.in-Ok.ensures in
-    let begun : Image = g.D.Disk.seen c.args.d.now in
-    let old : Image = g.D.Disk.seen c.make_plan.new.d in
+    let olds : List ℕ = c.args.olds.now in
+    let old : Image = g.D.Disk.seen c.args.d.now in
     let new : Image = g.D.Disk.seen c.write_planned.new.d in
-    let n : ℕ = need_of (length olds) in
-    let reads : old ≡ begun = ok.reads.seen t in
-    let touched : SameBut (InSectors (InFirst store n)) old new =
-    subst (λ (l : List ℕ). SameBut (InSectors (InFirst store (need_of (length l)))) old new) same
-    (c.write_planned.ensures.touches.seen t) in
-    let touched_begun : SameBut (InSectors (InFirst store n)) begun new =
-    subst (λ (i : Image). SameBut (InSectors (InFirst store n)) i new) reads touched in
-    let holds : HoldsNew store olds staged new =
-    subst (λ (l : List ℕ). HoldsNew store l staged new) same
-    (c.in-Ok-write_planned.ensures.blocks t) in
-    subst (λ (es : List Exception). HoldsBlocks base store es new staged c.args.blocks)
-    (sym ok.view)
-    (holds_blocks base store olds staged begun new c.args.blocks (ok.exact t) holds
-    (λ i below. base_stays base store n begun new i (c.requires.disjoint t) ok.room touched_begun
-    below))
+    subst (λ (es : List Exception). HoldsBlocks k base store es new staged blocks)
+    (sym c.in-Ok.ensures)
+    (holds_blocks k store olds staged new (c.in-Ok-write_planned.ensures.blocks t) base old blocks
+    listed
+    (λ i below. base_stays base store (need_at (length olds) k) old new i disjoint c.requires.room
+    (c.write_planned.ensures.touches.seen t) below))
+
+pub returns-in-Ok-write_planned-clause-filled : goal.returns-in-Ok-write_planned-clause-filled
+returns-in-Ok-write_planned-clause-filled g c = λ t blocks short.
+    let k : Chunk = c.args.chunk in
+    let new : Image = g.D.Disk.seen c.write_planned.new.d in
+    subst (λ (es : List Exception). EndsInZeros k c.args.store.now es new blocks)
+    (sym c.in-Ok.ensures)
+    (ends_in_zeros k c.args.store.now c.args.olds.now c.args.image.now new
+    (c.in-Ok-write_planned.ensures.blocks t) blocks short)
