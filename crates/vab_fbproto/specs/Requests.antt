@@ -4,6 +4,8 @@ use Rattle.std.specs.Prelude.{Bool, not, ◌==◌, ◌||◌, ◌&&◌, nat_lt, n
 use Rattle.std.specs.Prelude.{Some, None, Result, Ok, Err, position}
 use Rattle.std.specs.List.{list_any}
 use Rattle.std.specs.Str.{bytes_eq}
+use Rattle.vab_space.specs.declared.Chunk.{Chunk}
+use Rattle.vab_space.specs.declared.Chunk.TheVariants.{One, Two, Four}
 use Rattle.vab_model.specs.Commands.{Command, SetActive, Boot, Mark, Digest, Begin, Create, Resize}
 use Rattle.vab_model.specs.Commands.{Delete, Snapshot, Flash, Finish, Cancel, BeginMerge}
 use Rattle.vab_model.specs.Commands.{Merge}
@@ -205,6 +207,30 @@ blank_argument None = Err BadArgument
 blank_argument (Some text) =
     let end = position is_blank text in sized_name (word_at end text) (rest_at end text)
 
+-- CHUNK: the sectors of a chunk, `8`, `16` or `32`
+unfoldable pub chunk_of : List ℕ → Option Chunk
+chunk_of sectors =
+    if bytes_eq sectors (codes "8") then Some One
+    else if bytes_eq sectors (codes "16") then Some Two
+    else if bytes_eq sectors (codes "32") then Some Four
+    else None
+
+abbrev pub with_chunk : List ℕ → Option Chunk → Result (List ℕ × Chunk) BadCommand
+with_chunk name (Some chunk) = Ok (name, chunk)
+with_chunk name None = Err BadArgument
+
+-- NAME, and the CHUNK that stands behind it
+unfoldable pub chunked_name : List ℕ → Option (List ℕ) → Result (List ℕ × Chunk) BadCommand
+chunked_name name None = Err BadArgument
+chunked_name name (Some sectors) =
+    if is_name name then with_chunk name (chunk_of sectors) else Err BadArgument
+
+-- `NAME CHUNK`
+unfoldable pub chunk_argument : Option (List ℕ) → Result (List ℕ × Chunk) BadCommand
+chunk_argument None = Err BadArgument
+chunk_argument (Some text) =
+    let end = position is_blank text in chunked_name (word_at end text) (rest_at end text)
+
 -- ---- packets
 
 -- what an argument makes of a word
@@ -271,6 +297,8 @@ asked_oem word rest =
     then asks (λ blocks. Do (Merge blocks)) (count_argument rest)
     else if bytes_eq word (codes "oem snapshot")
     then asks (λ p. Do (Snapshot p.0 p.1)) (blank_argument rest)
+    else if bytes_eq word (codes "oem flash")
+    then asks (λ p. Do (Flash p.0 p.1)) (chunk_argument rest)
     else if bytes_eq word (codes "oem digest")
     then asks (λ name. Do (Digest name)) (name_argument rest)
     else Err Unknown
@@ -285,7 +313,7 @@ asked_update word rest =
     else if bytes_eq word (codes "delete-logical-partition")
     then asks (λ name. Do (Delete name)) (name_argument rest)
     else if bytes_eq word (codes "flash")
-    then asks (λ name. Do (Flash name)) (name_argument rest)
+    then asks (λ name. Do (Flash name One)) (name_argument rest)
     else if bytes_eq word (codes "snapshot-update") then update_action rest
     else asked_oem word rest
 

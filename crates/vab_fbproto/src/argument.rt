@@ -4,10 +4,12 @@ ghost use Rattle.std.specs.List.{list_any};
 ghost use Rattle.vab_fbproto.specs.Requests.{is_delimiter, is_name, no_argument, name_argument};
 ghost use Rattle.vab_fbproto.specs.Requests.{slot_argument, length_argument, count_argument};
 ghost use Rattle.vab_fbproto.specs.Requests.{sized_name, colon_argument, blank_argument};
+ghost use Rattle.vab_fbproto.specs.Requests.{chunk_of, chunked_name, chunk_argument};
 
 use crate::number::{decimal_number, number_of, short_hexadecimal};
 use crate::request::BadCommand;
 use crate::word::{split_at_blank, split_at_colon};
+use vab_space::Chunk;
 
 // Whether one of the bytes is a colon or a blank.
 fn has_delimiter(name: &[u8]) -> bool
@@ -157,6 +159,60 @@ pub(crate) fn blank_argument(rest: Option<&[u8]>) -> Result<(&[u8], u64), BadCom
         Some(text) => {
             let (name, number) = split_at_blank(text);
             sized_name(name, number)
+        }
+        None => Err(BadCommand::BadArgument),
+    }
+}
+
+// The size of a chunk, by its sectors of 512 bytes.
+#[tactic(auto, unfolding(crate::specs::Requests::chunk_of))]
+fn chunk_of(sectors: &[u8]) -> Option<Chunk>
+    ensures { result ≡ chunk_of sectors.now }
+{
+    if sectors == b"8".as_slice() {
+        Some(Chunk::One)
+    } else if sectors == b"16".as_slice() {
+        Some(Chunk::Two)
+    } else if sectors == b"32".as_slice() {
+        Some(Chunk::Four)
+    } else {
+        None
+    }
+}
+
+// A name, and the size of a chunk behind it.
+#[tactic(auto, unfolding(crate::specs::Requests::chunked_name))]
+fn chunked_name<'a>(name: &'a [u8], sectors: Option<&[u8]>) -> Result<(&'a [u8], Chunk), BadCommand>
+    ensures { let text = option_map (λ r. r.now) sectors.entry in
+        MatchResult result
+        (λ p. chunked_name name.now text ≡ Ok (p.0.now, p.1))
+        (λ e. chunked_name name.now text ≡ Err e) }
+{
+    let sectors = match sectors {
+        Some(sectors) => sectors,
+        None => return Err(BadCommand::BadArgument),
+    };
+    if !is_name(name) {
+        return Err(BadCommand::BadArgument);
+    }
+    match chunk_of(sectors) {
+        Some(chunk) => Ok((name, chunk)),
+        None => Err(BadCommand::BadArgument),
+    }
+}
+
+/// A name and the size of a chunk, with a blank between them.
+#[tactic(auto, unfolding(crate::specs::Requests::chunk_argument))]
+pub(crate) fn chunk_argument(rest: Option<&[u8]>) -> Result<(&[u8], Chunk), BadCommand>
+    ensures { let text = option_map (λ r. r.now) rest.entry in
+        MatchResult result
+        (λ p. chunk_argument text ≡ Ok (p.0.now, p.1))
+        (λ e. chunk_argument text ≡ Err e) }
+{
+    match rest {
+        Some(text) => {
+            let (name, sectors) = split_at_blank(text);
+            chunked_name(name, sectors)
         }
         None => Err(BadCommand::BadArgument),
     }

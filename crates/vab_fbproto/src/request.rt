@@ -4,11 +4,12 @@ ghost use Rattle.vab_fbproto.specs.Requests.{asked_of, plain, argued_variable, a
 ghost use Rattle.vab_fbproto.specs.Requests.{update_action, asked_oem, asked_update, request_of};
 
 use crate::argument::{
-    blank_argument, colon_argument, count_argument, length_argument, name_argument, no_argument,
-    slot_argument,
+    blank_argument, chunk_argument, colon_argument, count_argument, length_argument, name_argument,
+    no_argument, slot_argument,
 };
 use crate::word::{split_at_colon, split_packet};
 use vab_model::Command;
+use vab_space::Chunk;
 
 /// A variable that `getvar` asks for. A slot is 0 for a and 1 for b.
 #[derive(Clone, Copy, Debug)]
@@ -166,6 +167,9 @@ fn read_oem<'a>(word: &[u8], rest: Option<&'a [u8]>) -> Result<Request<'a>, BadC
     } else if word == b"oem snapshot".as_slice() {
         let (name, size) = blank_argument(rest)?;
         Ok(Request::Do(Command::Snapshot(name, size)))
+    } else if word == b"oem flash".as_slice() {
+        let (name, chunk) = chunk_argument(rest)?;
+        Ok(Request::Do(Command::Flash(name, chunk)))
     } else if word == b"oem digest".as_slice() {
         Ok(Request::Do(Command::Digest(name_argument(rest)?)))
     } else {
@@ -190,7 +194,8 @@ fn read_update<'a>(word: &[u8], rest: Option<&'a [u8]>) -> Result<Request<'a>, B
     } else if word == b"delete-logical-partition".as_slice() {
         Ok(Request::Do(Command::Delete(name_argument(rest)?)))
     } else if word == b"flash".as_slice() {
-        Ok(Request::Do(Command::Flash(name_argument(rest)?)))
+        let name = name_argument(rest)?;
+        Ok(Request::Do(Command::Flash(name, Chunk::One)))
     } else if word == b"snapshot-update".as_slice() {
         read_action(rest)
     } else {

@@ -1,10 +1,15 @@
--- The blocks of an image that differ, one after another.
-use Rattle.std.proofs.Common.{◌≡◌, ℕ, zero, suc, ◌+◌, ◌-◌, ◌≤◌, append_assoc, Bool, true, false}
+-- The chunks of an image that differ, one after another.
+use Rattle.std.proofs.Common.{◌≡◌, ℕ, zero, suc, ◌+◌, ◌-◌, ◌*◌, ◌^◌, ◌≤◌, ◌<◌, append_assoc}
+use Rattle.std.proofs.Common.{Bool, true, false}
 use Rattle.std.proofs.Common.{cond, List, [], ◌∷◌, ◌++◌}
 use Rattle.std.proofs.Common.{length, refl, sym, ap, ◌∙◌, arith, length-append}
 use Rattle.std.specs.Prelude.{replicate}
 use Rattle.std.specs.List.{filter, range_with_len}
 use Rattle.std.proofs.lemmas.List.Elements.{filter-append}
+use Rattle.vab_space.specs.declared.Chunk.{Chunk}
+use Rattle.vab_space.specs.declared.Chunk.TheVariants.{One, Two, Four}
+use Rattle.vab_space.specs.Chunks.{blocks_in, chunks_for}
+use Rattle.vab_space.specs.Differing.{chunk_differs, differing_chunks}
 use Rattle.vab_machine.specs.Staged.{differs, differences}
 
 range_more : (a n : ℕ) → range_with_len a (suc n) ≡ range_with_len a n ++ (a + n) ∷ []
@@ -21,11 +26,13 @@ length_cond : (b : Bool) (n : ℕ) → length (cond b (n ∷ []) []) ≡ bit b
 length_cond true n = refl
 length_cond false n = refl
 
-pub differences_more : (source image : List ℕ) (n : ℕ)
-    → differences source image (n + 1)
-    ≡ differences source image n + bit (differs source image n)
-differences_more source image n =
-    let p : ℕ → Bool = differs source image in
+-- how many numbers below n pass a test
+abbrev pub passing_below : (ℕ → Bool) → ℕ → ℕ
+passing_below p n = length (filter p (range_with_len 0 n))
+
+pub chunks_more : (p : ℕ → Bool) (n : ℕ)
+    → passing_below p (n + 1) ≡ passing_below p n + bit (p n)
+chunks_more p n =
     let one : n + 1 ≡ suc n = omega arith in
     let last : 0 + n ≡ n = omega arith in
     ap (λ (k : ℕ). length (filter p (range_with_len 0 k))) one
@@ -39,12 +46,37 @@ bit_most : (b : Bool) → bit b ≤ 1
 bit_most true = omega arith
 bit_most false = omega arith
 
-pub differences_most : (source image : List ℕ) (n : ℕ) → differences source image n ≤ n
-differences_most source image zero = omega arith
-differences_most source image (suc n) =
+below_most : (p : ℕ → Bool) (n : ℕ) → passing_below p n ≤ n
+below_most p zero = omega arith
+below_most p (suc n) =
     let one : n + 1 ≡ suc n = omega arith in
-    let more = ap (differences source image) (sym one) ∙ differences_more source image n in
-    omega (arith, more, bit_most (differs source image n), differences_most source image n)
+    let more = ap (passing_below p) (sym one) ∙ chunks_more p n in
+    omega (arith, more, bit_most (p n), below_most p n)
+
+-- no more chunks than blocks
+pub chunks_few : (k : Chunk) (blocks : ℕ) → chunks_for k blocks ≤ blocks
+chunks_few One blocks = omega arith
+chunks_few Two blocks = omega arith
+chunks_few Four blocks = omega arith
+
+pub differences_are : (k : Chunk) (source image : List ℕ) (blocks : ℕ)
+    → differences k source image blocks
+    ≡ passing_below (chunk_differs k (differs source image) blocks) (chunks_for k blocks)
+unfolding differing_chunks
+differences_are k source image blocks = refl
+
+pub differences_most : (k : Chunk) (source image : List ℕ) (blocks : ℕ)
+    → differences k source image blocks ≤ blocks
+differences_most k source image blocks =
+    let most =
+    below_most (chunk_differs k (differs source image) blocks) (chunks_for k blocks) in
+    omega (arith, differences_are k source image blocks, most, chunks_few k blocks)
+
+-- so few chunks are blocks of 64 bits
+pub need_fits : (k : Chunk) (n : ℕ) → n ≤ 2 ^ 28 → blocks_in k * n < 2 ^ 63
+need_fits One n few = omega (arith, few)
+need_fits Two n few = omega (arith, few)
+need_fits Four n few = omega (arith, few)
 
 more_last : (x n : ℕ) → replicate (suc n) x ≡ replicate n x ++ x ∷ []
 more_last x zero = refl

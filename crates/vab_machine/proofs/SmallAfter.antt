@@ -12,7 +12,9 @@ use Rattle.std.proofs.lemmas.List.Elements.{All-tail}
 use Rattle.vab_bootctl.specs.declared.slots.Control.{Control}
 use Rattle.vab_bootctl.specs.Boot.{info_at, activated_of}
 use Rattle.vab_names.specs.Names.{is_full, base_of, most_partitions}
-use Rattle.vab_space.specs.Space.{need_of, blocks_of}
+use Rattle.vab_space.specs.declared.Chunk.{Chunk}
+use Rattle.vab_space.specs.Space.{blocks_of}
+use Rattle.vab_space.specs.Chunks.{need_at}
 use Rattle.vab_model.specs.declared.state.Image.{Image}
 use Rattle.vab_model.specs.declared.state.PlanImage.{PlanImage}
 use Rattle.vab_model.specs.declared.state.PlanImage.TheVariants.{Kept, Declared, Written}
@@ -211,62 +213,62 @@ filled_long staged blocks le =
       le,
     )
 
-stored_kept : (s : State) (source : ℕ) (plan : List PlanEntry) (e : PlanEntry) (store : ℕ)
-    (image : List ℕ) (n : ℕ)
+stored_kept : (s : State) (source : ℕ) (plan : List PlanEntry) (e : PlanEntry) (k : Chunk)
+    (store : ℕ) (image : List ℕ) (n : ℕ)
     → IsSmall s
     → IsSmallPlan plan
     → length image ≤ 2 ^ 40
     → n ≤ 2 ^ 55
-    → Keeps s (if_stored s source plan e store image n)
-stored_kept s source plan e store image n small next long few =
+    → Keeps s (if_stored s source plan e k store image n)
+stored_kept s source plan e k store image n small next long few =
     let made : List PlanEntry = at_entry e.name (written_entry image n) plan in
-    keeps_unless s (nat_le (need_of n) store) (refusals.StoreFull (need_of n) store)
+    keeps_unless s (nat_le (need_at n k) store) (refusals.StoreFull (need_at n k) store)
     (planned s source made) small (λ _.
     plan_kept s source made small (write_small e.name image n plan next long few))
 
-staged_kept : (s : State) (source : ℕ) (plan : List PlanEntry) (e : PlanEntry) (store : ℕ)
-    (staged : Option (List ℕ))
+staged_kept : (s : State) (source : ℕ) (plan : List PlanEntry) (e : PlanEntry) (k : Chunk)
+    (store : ℕ) (staged : Option (List ℕ))
     → IsSmall s
     → IsSmallPlan plan
     → IsSmallEntry e
-    → Keeps s (flash_staged s source plan e store staged)
-staged_kept s source plan e store None small next entry = small
-staged_kept s source plan e store (Some staged) small next entry =
+    → Keeps s (flash_staged s source plan e k store staged)
+staged_kept s source plan e k store None small next entry = small
+staged_kept s source plan e k store (Some staged) small next entry =
     let image : List ℕ = filled staged e.blocks in
-    let n : ℕ = differences (bytes_named e.name (images_of s source)) image e.blocks in
-    let done : Effect State = if_stored s source plan e store image n in
+    let n : ℕ = differences k (bytes_named e.name (images_of s source)) image e.blocks in
+    let done : Effect State = if_stored s source plan e k store image n in
     let fits : Bool = nat_le (length staged) (4096 * e.blocks) in
     let large : Refusal = refusals.TooLarge (length staged) (4096 * e.blocks) in
-    let most = differences_most (bytes_named e.name (images_of s source)) image e.blocks in
+    let most = differences_most k (bytes_named e.name (images_of s source)) image e.blocks in
     keeps_unless s (not (is_sparse staged)) refusals.Sparse (unless fits large done) small (λ _.
     keeps_unless s fits large done small (λ le.
     let long = filled_long staged e.blocks (leb-true (length staged) (4096 * e.blocks) le) in
-    stored_kept s source plan e store image n small next
+    stored_kept s source plan e k store image n small next
     (omega (arith, long, entry.blocks)) (omega (arith, most, entry.blocks))))
 
 flash_entry_kept : (s : State) (source : ℕ) (plan : List PlanEntry) (staged : Option (List ℕ))
-    (e : PlanEntry) (store : Option ℕ)
+    (e : PlanEntry) (k : Chunk) (store : Option ℕ)
     → IsSmall s
     → IsSmallPlan plan
     → IsSmallEntry e
-    → Keeps s (flash_entry s source plan staged e store)
-flash_entry_kept s source plan staged e None small next entry = small
-flash_entry_kept s source plan staged e (Some store) small next entry =
+    → Keeps s (flash_entry s source plan staged e k store)
+flash_entry_kept s source plan staged e k None small next entry = small
+flash_entry_kept s source plan staged e k (Some store) small next entry =
     keeps_unless s (not (is_written e.image)) refusals.Written
-    (flash_staged s source plan e store staged) small
-    (λ _. staged_kept s source plan e store staged small next entry)
+    (flash_staged s source plan e k store staged) small
+    (λ _. staged_kept s source plan e k store staged small next entry)
 
-flash_kept : (s : State) (staged : Option (List ℕ)) (name : List ℕ) (source : ℕ)
+flash_kept : (s : State) (staged : Option (List ℕ)) (name : List ℕ) (k : Chunk) (source : ℕ)
     (plan : List PlanEntry)
     → IsSmall s
     → IsSmallPlan plan
-    → Keeps s (flash_row s staged name source plan)
-flash_kept s staged name source plan small next =
-    let row : PlanEntry → Effect State = λ e. flash_entry s source plan staged e e.store in
+    → Keeps s (flash_row s staged name k source plan)
+flash_kept s staged name k source plan small next =
+    let row : PlanEntry → Effect State = λ e. flash_entry s source plan staged e k e.store in
     keeps_unless s (is_full (other_slot source) name) refusals.BadName
     (if_planned (entry_named (base_of name) plan) row) small (λ _.
     keeps_planned s (entry_named (base_of name) plan) row small (λ e is.
-    flash_entry_kept s source plan staged e e.store small next
+    flash_entry_kept s source plan staged e k e.store small next
     (entry_small (base_of name) plan e next.each is)))
 
 -- ---- finish
@@ -409,9 +411,9 @@ small_after s staged (Delete name) small =
 small_after s staged (Snapshot name size) small =
     keeps_installing s s.phase (snapshot_row s name size) small small.phase
     (λ source plan next. snapshot_kept s name size source plan small next)
-small_after s staged (Flash name) small =
-    keeps_installing s s.phase (flash_row s staged name) small small.phase
-    (λ source plan next. flash_kept s staged name source plan small next)
+small_after s staged (Flash name chunk) small =
+    keeps_installing s s.phase (flash_row s staged name chunk) small small.phase
+    (λ source plan next. flash_kept s staged name chunk source plan small next)
 small_after s staged Finish small =
     keeps_installing s s.phase (finish_row s) small small.phase
     (λ source plan next.

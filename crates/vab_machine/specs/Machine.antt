@@ -8,7 +8,9 @@ use Rattle.std.specs.Ordering.{is_lt, nat_cmp}
 use Rattle.std.specs.Cmp.Lexicographic.{slice_cmp}
 use Rattle.vab_bootctl.specs.Boot.{info_at, activated_of, booted_of, marked_of}
 use Rattle.vab_names.specs.Names.{is_full, base_of, most_partitions}
-use Rattle.vab_space.specs.Space.{need_of, blocks_of}
+use Rattle.vab_space.specs.declared.Chunk.{Chunk}
+use Rattle.vab_space.specs.Space.{blocks_of}
+use Rattle.vab_space.specs.Chunks.{need_at}
 use Rattle.vab_model.specs.declared.state.Image.{Image}
 use Rattle.vab_model.specs.declared.state.PlanImage.{PlanImage}
 use Rattle.vab_model.specs.declared.state.PlanImage.TheVariants.{Kept, Declared, Written}
@@ -116,39 +118,42 @@ snapshot_row s name size source plan =
 
 -- ---- flash
 
--- this image, of which so many blocks differ, where the store has room for them
-abbrev pub if_stored : State → (source : ℕ) → List PlanEntry → PlanEntry → (store : ℕ)
+-- this image, of which so many chunks differ, where the store has room for them
+abbrev pub if_stored : State → (source : ℕ) → List PlanEntry → PlanEntry → Chunk → (store : ℕ)
     → List ℕ → ℕ → Effect State
-if_stored s source plan e store image n =
-    unless (nat_le (need_of n) store) (refusals.StoreFull (need_of n) store)
+if_stored s source plan e k store image n =
+    unless (nat_le (need_at n k) store) (refusals.StoreFull (need_at n k) store)
     (planned s source (at_entry e.name (written_entry image n) plan))
 
-abbrev pub flash_staged : State → (source : ℕ) → List PlanEntry → PlanEntry → (store : ℕ)
-    → Option (List ℕ) → Effect State
-flash_staged s source plan e store None = refuses refusals.NothingStaged
-flash_staged s source plan e store (Some staged) =
+abbrev pub flash_staged : State → (source : ℕ) → List PlanEntry → PlanEntry → Chunk
+    → (store : ℕ) → Option (List ℕ) → Effect State
+flash_staged s source plan e k store None = refuses refusals.NothingStaged
+flash_staged s source plan e k store (Some staged) =
     unless (not (is_sparse staged)) refusals.Sparse
     (unless (nat_le (length staged) (4096 * e.blocks))
     (refusals.TooLarge (length staged) (4096 * e.blocks))
-    (if_stored s source plan e store (filled staged e.blocks)
-    (differences (bytes_named e.name (images_of s source)) (filled staged e.blocks) e.blocks)))
+    (if_stored s source plan e k store (filled staged e.blocks)
+    (differences k (bytes_named e.name (images_of s source)) (filled staged e.blocks)
+    e.blocks)))
 
 abbrev pub is_written : PlanImage → Bool
 is_written (Written bytes exceptions) = true
 is_written _ = false
 
 abbrev pub flash_entry : State → (source : ℕ) → List PlanEntry → Option (List ℕ) → PlanEntry
-    → Option ℕ → Effect State
-flash_entry s source plan staged e None = refuses refusals.NoStore
-flash_entry s source plan staged e (Some store) =
-    unless (not (is_written e.image)) refusals.Written (flash_staged s source plan e store staged)
+    → Chunk → Option ℕ → Effect State
+flash_entry s source plan staged e k None = refuses refusals.NoStore
+flash_entry s source plan staged e k (Some store) =
+    unless (not (is_written e.image)) refusals.Written
+    (flash_staged s source plan e k store staged)
 
-abbrev pub flash_row : State → Option (List ℕ) → List ℕ → (source : ℕ) → List PlanEntry
-    → Effect State
-flash_row s staged name source plan =
+-- in a store with chunks of this size
+abbrev pub flash_row : State → Option (List ℕ) → List ℕ → Chunk → (source : ℕ)
+    → List PlanEntry → Effect State
+flash_row s staged name k source plan =
     unless (is_full (other_slot source) name) refusals.BadName
     (if_planned (entry_named (base_of name) plan) (λ e.
-    flash_entry s source plan staged e e.store))
+    flash_entry s source plan staged e k e.store))
 
 -- ---- finish
 
@@ -276,7 +281,8 @@ machine_effect s staged (Create name size) = if_installing s.phase (create_row s
 machine_effect s staged (Resize name size) = if_installing s.phase (resize_row s name size)
 machine_effect s staged (Delete name) = if_installing s.phase (delete_row s name)
 machine_effect s staged (Snapshot name size) = if_installing s.phase (snapshot_row s name size)
-machine_effect s staged (Flash name) = if_installing s.phase (flash_row s staged name)
+machine_effect s staged (Flash name chunk) =
+    if_installing s.phase (flash_row s staged name chunk)
 machine_effect s staged Finish = if_installing s.phase (finish_row s)
 machine_effect s staged Cancel = cancel_row s s.phase
 machine_effect s staged BeginMerge = begin_merge_row s s.phase

@@ -1,9 +1,10 @@
 -- Staged bytes as the image of a partition, beside the source's image of its name.
 use Rattle.std.specs.Prelude.{ℕ, ◌-◌, ◌*◌, nat_lt, Bool, not, ◌&&◌, List, [], ◌∷◌, ◌++◌}
 use Rattle.std.specs.Prelude.{length, take, replicate}
-use Rattle.std.specs.List.{filter, range_with_len}
 use Rattle.std.specs.Str.{bytes_eq}
 use Rattle.vab_bytes.specs.Number.{field}
+use Rattle.vab_space.specs.declared.Chunk.{Chunk}
+use Rattle.vab_space.specs.Differing.{differing_chunks}
 use Rattle.vab_machine.specs.Plans.{blocks_in}
 
 -- the first four bytes are those of an Android sparse image
@@ -23,7 +24,6 @@ abbrev pub differs : (source image : List ℕ) → ℕ → Bool
 differs source image i =
     not (nat_lt i (blocks_in source) && bytes_eq (block_at source i) (block_at image i))
 
--- how many of so many blocks differ
-abbrev pub differences : (source image : List ℕ) → (blocks : ℕ) → ℕ
-differences source image blocks =
-    length (filter (differs source image) (range_with_len 0 blocks))
+-- how many chunks of so many blocks differ
+abbrev pub differences : Chunk → (source image : List ℕ) → (blocks : ℕ) → ℕ
+differences k source image blocks = length (differing_chunks k (differs source image) blocks)

@@ -13,7 +13,7 @@ use crate::parts::{base_named, bytes_named, entry_named, images_of, installing};
 use crate::staged::{differences, filled, is_sparse};
 use std::alloc::Global;
 use vab_model::{NoMemory, PlanEntry, PlanImage, Refusal, Reply, State};
-use vab_space::need;
+use vab_space::{Chunk, need_at};
 
 // An update that is installed.
 #[derive(Clone, Copy)]
@@ -23,11 +23,13 @@ struct Update<'a> {
     plan: &'a [PlanEntry],
 }
 
-// This image, of which so many blocks differ, where the store has room for them.
+// This image, of which so many chunks differ, where the store has room for them.
+#[tactic(auto, using(crate::proofs::Blocks::need_fits))]
 fn if_stored(
     alloc: Global,
     update: &Update,
     entry: &PlanEntry,
+    chunk: Chunk,
     store: u64,
     image: &[u8],
     count: u64,
@@ -36,14 +38,15 @@ fn if_stored(
     requires count { count ≤ 2 ^ 28 }
     ensures state { IfOk result (λ r. r.0
         ≡ after_of (update.now).state.now
-        (if_stored (update.now).state.now (update.now).source (update.now).plan.now entry.now store
-        image.now count)) }
+        (if_stored (update.now).state.now (update.now).source (update.now).plan.now entry.now chunk
+        store image.now count)) }
     ensures reply { IfOk result (λ r. r.1
         ≡ (if_stored (update.now).state.now (update.now).source (update.now).plan.now entry.now
-        store image.now count).reply) }
+        chunk store image.now count).reply) }
 {
-    if need(count) > store {
-        return refuse(alloc, update.state, Refusal::StoreFull(need(count), store));
+    let need = need_at(count, chunk);
+    if need > store {
+        return refuse(alloc, update.state, Refusal::StoreFull(need, store));
     }
     let change = Change::Write(image, count);
     let next = at_entry(alloc, update.plan, entry.name.text(), &change)?;
@@ -55,6 +58,7 @@ fn flash_staged(
     alloc: Global,
     update: &Update,
     entry: &PlanEntry,
+    chunk: Chunk,
     store: u64,
     staged: Option<&[u8]>,
 ) -> Result<(State, Reply), NoMemory>
@@ -63,10 +67,10 @@ fn flash_staged(
     ensures state { IfOk result (λ r. r.0
         ≡ after_of (update.now).state.now
         (flash_staged (update.now).state.now (update.now).source (update.now).plan.now entry.now
-        store (option_copied staged.entry))) }
+        chunk store (option_copied staged.entry))) }
     ensures reply { IfOk result (λ r. r.1
         ≡ (flash_staged (update.now).state.now (update.now).source (update.now).plan.now entry.now
-        store (option_copied staged.entry)).reply) }
+        chunk store (option_copied staged.entry)).reply) }
 {
     let Some(staged) = staged else {
         return refuse(alloc, update.state, Refusal::NothingStaged);
@@ -80,8 +84,8 @@ fn flash_staged(
     }
     let image = filled(alloc, staged, entry.blocks)?;
     let source = bytes_named(images_of(update.state, update.source), entry.name.text());
-    let count = differences(source, &image, entry.blocks);
-    if_stored(alloc, update, entry, store, &image, count)
+    let count = differences(source, &image, entry.blocks, chunk);
+    if_stored(alloc, update, entry, chunk, store, &image, count)
 }
 
 fn is_written(image: &PlanImage) -> bool
@@ -96,16 +100,17 @@ fn flash_entry(
     update: &Update,
     entry: &PlanEntry,
     staged: Option<&[u8]>,
+    chunk: Chunk,
 ) -> Result<(State, Reply), NoMemory>
     requires plan { IsSmallPlan (update.now).plan.now }
     requires entry { IsSmallEntry entry.now }
     ensures state { IfOk result (λ r. r.0
         ≡ after_of (update.now).state.now
         (flash_entry (update.now).state.now (update.now).source (update.now).plan.now
-        (option_copied staged.entry) entry.now (entry.now).store)) }
+        (option_copied staged.entry) entry.now chunk (entry.now).store)) }
     ensures reply { IfOk result (λ r. r.1
         ≡ (flash_entry (update.now).state.now (update.now).source (update.now).plan.now
-        (option_copied staged.entry) entry.now (entry.now).store).reply) }
+        (option_copied staged.entry) entry.now chunk (entry.now).store).reply) }
 {
     let Some(store) = entry.store else {
         return refuse(alloc, update.state, Refusal::NoStore);
@@ -113,25 +118,26 @@ fn flash_entry(
     if is_written(&entry.image) {
         return refuse(alloc, update.state, Refusal::Written);
     }
-    flash_staged(alloc, update, entry, store, staged)
+    flash_staged(alloc, update, entry, chunk, store, staged)
 }
 
-/// The staged bytes become the image of a partition.
+/// The staged bytes become the image of a partition, in a store with chunks of this size.
 #[tactic(auto, using(crate::proofs::SmallLaws::entry_small))]
 pub(crate) fn flash(
     alloc: Global,
     state: &State,
     staged: Option<&[u8]>,
     name: &[u8],
+    chunk: Chunk,
 ) -> Result<(State, Reply), NoMemory>
     requires { IsSmall state.now }
     ensures state { IfOk result (λ r. r.0
         ≡ after_of state.now
         (if_installing state.now.phase
-        (flash_row state.now (option_copied staged.entry) name.now))) }
+        (flash_row state.now (option_copied staged.entry) name.now chunk))) }
     ensures reply { IfOk result (λ r. r.1
         ≡ (if_installing state.now.phase
-        (flash_row state.now (option_copied staged.entry) name.now)).reply) }
+        (flash_row state.now (option_copied staged.entry) name.now chunk)).reply) }
 {
     let Some((source, plan)) = installing(state) else {
         return refuse(alloc, state, Refusal::NotInstalling);
@@ -147,5 +153,5 @@ pub(crate) fn flash(
         source,
         plan,
     };
-    flash_entry(alloc, &update, entry, staged)
+    flash_entry(alloc, &update, entry, staged, chunk)
 }

@@ -41,7 +41,7 @@ fn done(
         Command::Resize(name, size) => resize(alloc, state, name, size),
         Command::Delete(name) => delete(alloc, state, name),
         Command::Snapshot(name, size) => snapshot(alloc, state, name, size),
-        Command::Flash(name) => flash(alloc, state, staged, name),
+        Command::Flash(name, chunk) => flash(alloc, state, staged, name, chunk),
         Command::Finish => finish(alloc, state),
         Command::Cancel => cancel(alloc, state),
         Command::BeginMerge => begin_merge(alloc, state),

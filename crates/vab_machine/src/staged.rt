@@ -1,11 +1,14 @@
 //! Staged bytes as an image.
 
 ghost use Rattle.std.specs.Prelude.{◌≡◌, ◌≤◌, ◌<◌, ◌*◌, ◌^◌, length, take, drop, IfOk};
+ghost use Rattle.vab_space.specs.Chunks.{chunks_for};
+ghost use Rattle.vab_space.specs.Differing.{any_differs, chunk_differs};
 ghost use Rattle.vab_machine.specs.Staged.{is_sparse, filled, block_at, differs, differences};
 
 use crate::count::blocks_in;
 use std::alloc::Global;
 use vab_model::NoMemory;
+use vab_space::Chunk;
 
 /// Whether this is an Android sparse image.
 pub(crate) fn is_sparse(staged: &[u8]) -> bool
@@ -63,16 +66,42 @@ fn differs(source: &[u8], image: &[u8], i: u64) -> bool
     !is_same
 }
 
-/// How many of so many blocks differ.
-#[tactic(auto, using(crate::proofs::Blocks::differences_more))]
-pub(crate) fn differences(source: &[u8], image: &[u8], blocks: u64) -> u64
+// Whether one of these blocks differs that is below so many.
+fn any_differs(source: &[u8], image: &[u8], blocks: u64, those: &[u64]) -> bool
     requires { blocks ≤ 2 ^ 28 }
-    ensures exact { result ≡ differences source.now image.now blocks }
+    ensures { result ≡ any_differs (differs source.now image.now) blocks those.now }
+{
+    those
+        .iter()
+        .any(|block| *block < blocks && differs(source, image, *block))
+}
+
+// Whether a block of chunk c differs that is below so many.
+fn chunk_differs(source: &[u8], image: &[u8], blocks: u64, chunk: Chunk, c: u64) -> bool
+    requires blocks { blocks ≤ 2 ^ 28 }
+    requires one { c < chunks_for chunk blocks }
+    ensures { result ≡ chunk_differs chunk (differs source.now image.now) blocks c }
+{
+    match chunk {
+        Chunk::One => differs(source, image, c),
+        Chunk::Two => any_differs(source, image, blocks, &[2 * c, 2 * c + 1]),
+        Chunk::Four => {
+            let those = [4 * c, 4 * c + 1, 4 * c + 2, 4 * c + 3];
+            any_differs(source, image, blocks, &those)
+        }
+    }
+}
+
+/// How many chunks of so many blocks differ.
+#[tactic(auto, using(crate::proofs::Blocks::chunks_more, crate::proofs::Blocks::chunks_few))]
+pub(crate) fn differences(source: &[u8], image: &[u8], blocks: u64, chunk: Chunk) -> u64
+    requires { blocks ≤ 2 ^ 28 }
+    ensures exact { result ≡ differences chunk source.now image.now blocks }
     ensures most { result ≤ blocks }
 {
     let mut count = 0;
-    for i in 0..blocks {
-        if differs(source, image, i) {
+    for c in 0..chunk.chunks_for(blocks) {
+        if chunk_differs(source, image, blocks, chunk, c) {
             count += 1;
         }
     }

@@ -1,9 +1,12 @@
 use Rattle.std.proofs.Common.{◌≡◌, ◌≤◌}
-use Rattle.vab_machine.specs.Staged.{differences}
+use Rattle.vab_space.specs.Differing.{chunk_differs}
+use Rattle.vab_machine.specs.Staged.{differs}
+use Rattle.vab_machine.proofs.Blocks.{passing_below}
 use Rattle.vab_machine.proofs.staged.differences.Given as goal
 
-abbrev pub invariant-loop-i : goal.invariant-loop-i
-invariant-loop-i l = record {
-  exact : l.count ≡ differences l.source l.image l.i;
-  most : l.count ≤ l.i;
+abbrev pub invariant-loop-c : goal.invariant-loop-c
+invariant-loop-c l = record {
+  exact :
+      l.count ≡ passing_below (chunk_differs l.chunk (differs l.source l.image) l.blocks) l.c;
+  most : l.count ≤ l.c;
 }
