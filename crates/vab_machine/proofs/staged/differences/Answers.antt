@@ -1,7 +1,7 @@
 use Rattle.std.proofs.Common.{◌≡◌, ◌∙◌, ℕ, Bool, length, sym, ap, arith}
 use Rattle.vab_space.specs.Chunks.{chunks_for}
 use Rattle.vab_space.specs.Differing.{chunk_differs}
-use Rattle.vab_space.proofs.DifferingLaws.{passing, differing_is}
+use Rattle.vab_space.proofs.DifferingLaws.{passing, chunks_fewest, differing_is}
 use Rattle.vab_machine.specs.Staged.{differs}
 use Rattle.vab_machine.proofs.staged.differences.Goals as goal
 
@@ -14,3 +14,12 @@ returns-clause-exact c =
     c.loop-c.invariant.exact
     ∙ ap (λ (n : ℕ). length (passing test n)) all
     ∙ sym (ap length (differing_is c.args.chunk other c.args.blocks))
+
+pub returns-clause-most : goal.returns-clause-most
+returns-clause-most c =
+    omega (
+      arith,
+      c.chunks_for-c-end.ensures,
+      c.loop-c.invariant.most,
+      chunks_fewest c.args.chunk c.args.blocks,
+    )
