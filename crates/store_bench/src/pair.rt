@@ -87,7 +87,7 @@ impl Pair {
             return None;
         }
         for runs in 0..u64::MAX {
-            match run_turn(d, &self.base, &self.store, &mut view, most) {
+            match run_turn(d, &self.base, &self.store, &mut view, most, Chunk::One) {
                 Ok(Ran::Merged(_)) => {}
                 Ok(Ran::Empty) => return Some(runs),
                 Err(_) => return None,

@@ -7,6 +7,7 @@ use Rattle.std.proofs.lemmas.Bool.{and_parts, leb-true}
 use Rattle.std.proofs.lemmas.List.Elements.{All-get_or}
 use Rattle.vab_disk.specs.Disk.{Image}
 use Rattle.vab_marks.specs.declared.mark.MarkPhase.TheVariants as marks
+use Rattle.vab_space.specs.declared.Chunk.{Chunk}
 use Rattle.vab_exceptions.specs.declared.area.Exception.{Exception}
 use Rattle.vab_geometry.specs.declared.geometry.Geometry.{Geometry}
 use Rattle.vab_names.specs.Names.{store_of}
@@ -111,8 +112,8 @@ planned_behind l scanned (p ∷ ps) (suc k) e below =
 
 -- ---- what a turn writes
 
-one_run : (es : List Exception) → 0 < length es → MayRun es 1 1
-one_run es some = record {
+one_run : (chunk : Chunk) (es : List Exception) → 0 < length es → MayRun chunk es 1 1
+one_run chunk es some = record {
   run = record {
     within = omega (arith, some);
     joined = λ j from below. absurd (omega (arith, from, below));
@@ -132,7 +133,8 @@ turn_in d size from s is merging all w =
     let part : IsPart size p =
     All-get_or (IsPart size) (own_of d) w.place no_part has.0
     (own_kept d size (single_of d size is merging) is).each in
-    let stored : IsStored size p.map (Some w.store) (Written w.exceptions) =
+    let stored : IsStored size p.map (Some w.store)
+    (Written w.chunk w.exceptions) =
     subst (λ (x : Option (List ℕ) × PartImage). IsStored size p.map x.0 x.1)
     (λ i. (w.stored i, w.written i)) part.store in
     let last : ℕ = length w.exceptions - 1 in
@@ -140,10 +142,11 @@ turn_in d size from s is merging all w =
     let behind : PartBehind from p =
     All-get_or (PartBehind from) (own_of d) w.place no_part has.0 all in
     behind s
-    (elim (merged_in p.map w.store w.exceptions 1 s stored.1 (record {
+    (elim (merged_in w.chunk p.map w.store w.exceptions 1 s stored.1 (record {
       place = last;
       within = omega (arith, w.some);
-      may_run = subst (MayRun w.exceptions 1) (sym one) (one_run w.exceptions w.some);
+      may_run =
+          subst (MayRun w.chunk w.exceptions 1) (sym one) (one_run w.chunk w.exceptions w.some);
       here = w.here;
     })) [
       | inl is ↦ inl is

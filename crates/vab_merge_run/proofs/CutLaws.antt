@@ -15,7 +15,6 @@ use Rattle.vab_geometry.specs.Geometry.{IsGeometry}
 use Rattle.vab_lpstore.specs.Layout.{copy_sectors, primary_of, backup_of}
 use Rattle.vab_lpstore.proofs.StoreLaws.{copies_apart}
 use Rattle.vab_exceptions.specs.declared.area.Exception.{Exception}
-use Rattle.vab_space.specs.declared.Chunk.TheVariants.{One}
 use Rattle.vab_store.specs.Layout.{IsApart, AreDisjoint}
 use Rattle.vab_store.specs.Scan.{scan_of}
 use Rattle.vab_store.specs.View.{Fits}
@@ -42,14 +41,14 @@ use Rattle.vab_bootctl.specs.Boot.{info_at}
 use Rattle.vab_store.proofs.ViewLaws.{take_fits}
 use Rattle.vab_device.specs.Reading.{Read, Represents, IsOfTables, IsOfBlocks}
 use Rattle.vab_device.specs.Reading.{state_fault}
-use Rattle.vab_device.specs.Stores.{Scanned, first_named, exceptions_of, scans_in}
+use Rattle.vab_device.specs.Stores.{Scanned, first_named, scanned_named, scans_in}
 use Rattle.vab_device.specs.Updates.{merged_to}
 use Rattle.vab_device.proofs.Behind.{seen_or}
 use Rattle.vab_device.proofs.BlockLaws.{bytes_same}
 use Rattle.vab_device.proofs.SameLaws.{mark_same, control_same, geometry_same, tables_agree}
 use Rattle.vab_device.proofs.StayLaws.{copy_stays}
 use Rattle.vab_device.proofs.StoreLaws.{statuses_kept}
-use Rattle.vab_merge_run.specs.Part.{exceptions_in, store_in}
+use Rattle.vab_merge_run.specs.Part.{exceptions_in, chunk_in, store_in}
 use Rattle.vab_merge_run.specs.Turns.{own_of, with_own, part_at, cut_image, cut_part, cut_at}
 use Rattle.vab_merge_run.specs.Turns.{left_in}
 use Rattle.vab_merge_run.proofs.OwnLaws.{Single, mounted_with}
@@ -60,8 +59,8 @@ use Rattle.vab_device.proofs.NamedParts.{one_of_name}
 use Rattle.vab_merge_run.proofs.ApartLaws.{InEither, either_behind, own_miss, store_miss}
 use Rattle.vab_merge_run.proofs.ApartLaws.{part_once, keeps_once, part_keeps, sectors_once}
 use Rattle.vab_device.proofs.PartBlocks.{sectors_disjoint}
-use Rattle.vab_merge_run.proofs.ScansLaws.{cut_list, cut_scan, exceptions_own, exceptions_other}
-use Rattle.vab_merge_run.proofs.ScansLaws.{exceptions_some, wants, scan_named, scans_then}
+use Rattle.vab_merge_run.proofs.ScansLaws.{cut_list, cut_of, cut_scan, scanned_own, scanned_other}
+use Rattle.vab_merge_run.proofs.ScansLaws.{scanned_some, wants, scan_named, scans_then}
 use Rattle.vab_merge_run.proofs.SeenLaws.{seen_same}
 use Rattle.vab_device.proofs.NamedParts.{set_one}
 use Rattle.vab_device.proofs.RepairLaws.{ends_within}
@@ -90,15 +89,15 @@ copies_below g slot s is below (inr (inr none)) = absurd none
 pub exceptions_count : (image : PartImage) → length (exceptions_in image) ≡ count_of image
 exceptions_count Kept = refl
 exceptions_count Declared = refl
-exceptions_count (Written es) = refl
+exceptions_count (Written k es) = refl
 
-planned_cut : (k : ℕ) (b : Bool) (o : Option (List Exception))
-    → planned_image b (option_map (cut_list k) o) ≡ cut_image k (planned_image b o)
+planned_cut : (k : ℕ) (b : Bool) (o : Option Scanned)
+    → planned_image b (option_map (cut_of k) o) ≡ cut_image k (planned_image b o)
 planned_cut k false o = refl
 planned_cut k true None = refl
-planned_cut k true (Some es) = refl
+planned_cut k true (Some s) = refl
 
-ready_same : (b : Bool) (o u : Option (List Exception))
+ready_same : (b : Bool) (o u : Option Scanned)
     → is_some o ≡ is_some u
     → is_ready (planned_image b o) ≡ is_ready (planned_image b u)
 ready_same false o u same = refl
@@ -112,8 +111,8 @@ all_ready : (l : Layout) (name : List ℕ) (k : ℕ) (ss : List Scanned) (ps : L
     ≡ are_ready (map (planned_on l ss) ps)
 all_ready l name k ss [] = refl
 all_ready l name k ss (p ∷ ps) =
-    let here = ready_same (is_updated p) (exceptions_of p.name (map (cut_scan name k) ss))
-    (exceptions_of p.name ss) (exceptions_some name p.name k ss) in
+    let here = ready_same (is_updated p) (scanned_named p.name (map (cut_scan name k) ss))
+    (scanned_named p.name ss) (scanned_some name p.name k ss) in
     let rest = all_ready l name k ss ps in
     (λ i. here i && rest i)
 
@@ -123,8 +122,8 @@ all_ready l name k ss (p ∷ ps) =
 
 module _ (d : Device) (size : ℕ) (old : Image) (i : Merges d size old) (single : Single d)
     (rules : Rules d size old i) (place : ℕ) (p : Placed d size old i place)
-    (fits : Fits One (length (part_at d place).map) (store_in (part_at d place))
-    (exceptions_in (part_at d place).image)) where
+    (fits : Fits (chunk_in (part_at d place).image) (length (part_at d place).map)
+    (store_in (part_at d place)) (exceptions_in (part_at d place).image)) where
   abbrev l : Layout
   l = layout_of i.table
 
@@ -151,10 +150,12 @@ module _ (d : Device) (size : ℕ) (old : Image) (i : Merges d size old) (single
   touched_of s is =
       subst (λ (x : Part). IsOfBlocks x.map s ⊎ IsOfBlocks (store_in x) s) p.written is
 
-  fits_here : Fits One (length base) store p.exceptions
+  fits_here : Fits p.scan.chunk (length base) store p.scan.exceptions
   fits_here =
-      subst (λ (x : Part). Fits One (length x.map) (store_in x) (exceptions_in x.image)) p.written
-      fits
+      subst
+      (λ (x : Part).
+      Fits (chunk_in x.image) (length x.map) (store_in x) (exceptions_in x.image))
+      p.written fits
 
   -- ---- it may be merged
 
@@ -176,18 +177,19 @@ module _ (d : Device) (size : ℕ) (old : Image) (i : Merges d size old) (single
       (sectors_disjoint at p.part.blocks p.keeps.blocks
       (part_keeps i.slot l.parts p.part p.keeps rules.merging p.there p.own p.found))
 
-  scan_here : scan_of One store (length base) old ≡ Ok p.exceptions
+  scan_here : scan_of p.scan.chunk store (length base) old ≡ Ok p.scan.exceptions
   scan_here =
       scan_named i.slot l p.part p.keeps rules.merging p.there p.own p.part_is p.found old
-      p.exceptions (written_in i.statuses) i.scanned i.reads.stores p.read
+      p.scan (written_in i.statuses) i.scanned i.reads.stores p.read
 
   -- a scan gives the exceptions that are kept
-  pub scan_kept_is : scan_of One (store_in (part_at d place)) (length (part_at d place).map) old
+  pub scan_kept_is : scan_of (chunk_in (part_at d place).image) (store_in (part_at d place))
+      (length (part_at d place).map) old
       ≡ Ok (exceptions_in (part_at d place).image)
   scan_kept_is =
       subst
       (λ (x : Part).
-      scan_of One (store_in x) (length x.map) old ≡ Ok (exceptions_in x.image))
+      scan_of (chunk_in x.image) (store_in x) (length x.map) old ≡ Ok (exceptions_in x.image))
       (sym p.written) scan_here
 
   behind_copies : copies_end i.geometry ≤ 512 * at
@@ -202,13 +204,14 @@ module _ (d : Device) (size : ℕ) (old : Image) (i : Merges d size old) (single
 
   module _ (k : ℕ) (new : Image)
       (few : k ≤ length (exceptions_in (part_at d place).image))
-      (without : WithoutLast (part_at d place).map (store_in (part_at d place))
-      (exceptions_in (part_at d place).image) k old new)
+      (without : WithoutLast (chunk_in (part_at d place).image) (part_at d place).map
+      (store_in (part_at d place)) (exceptions_in (part_at d place).image) k old new)
       (stay : (s : ℕ) → (Touched s → ⊥) → new s ≡ old s) where
-    without_here : WithoutLast base store p.exceptions k old new
+    without_here : WithoutLast p.scan.chunk base store p.scan.exceptions k old new
     without_here =
         subst
-        (λ (x : Part). WithoutLast x.map (store_in x) (exceptions_in x.image) k old new)
+        (λ (x : Part).
+        WithoutLast (chunk_in x.image) x.map (store_in x) (exceptions_in x.image) k old new)
         p.written without
 
     low : (s : ℕ) → s < 4120 → new s ≡ old s
@@ -234,7 +237,7 @@ module _ (d : Device) (size : ℕ) (old : Image) (i : Merges d size old) (single
         ≡ Ok scanned_then
     stores_read =
         scans_then i.slot l p.part p.keeps rules.merging p.there p.own p.part_is p.found
-        p.exceptions k old new scan_here without_here.scanned stay (written_in i.statuses)
+        p.scan k old new scan_here without_here.scanned stay (written_in i.statuses)
         i.scanned i.reads.stores
 
     abbrev read_then : Read
@@ -255,18 +258,18 @@ module _ (d : Device) (size : ℕ) (old : Image) (i : Merges d size old) (single
 
     own_entry : planned_on l scanned_then p.part ≡ cut_part k (planned_on l i.scanned p.part)
     own_entry =
-        let image : planned_image (is_updated p.part) (exceptions_of p.part.name scanned_then)
+        let image : planned_image (is_updated p.part) (scanned_named p.part.name scanned_then)
         ≡ cut_image k
-        (planned_image (is_updated p.part) (exceptions_of p.part.name i.scanned)) =
-        ap (planned_image (is_updated p.part)) (exceptions_own p.part.name k i.scanned)
-        ∙ planned_cut k (is_updated p.part) (exceptions_of p.part.name i.scanned) in
+        (planned_image (is_updated p.part) (scanned_named p.part.name i.scanned)) =
+        ap (planned_image (is_updated p.part)) (scanned_own p.part.name k i.scanned)
+        ∙ planned_cut k (is_updated p.part) (scanned_named p.part.name i.scanned) in
         (λ j. record (planned_on l i.scanned p.part) { image = image j })
 
     other_entry : (q : PartOfLayout)
         → q.name ≢ p.part.name
         → planned_on l scanned_then q ≡ planned_on l i.scanned q
     other_entry q differs =
-        let same = exceptions_other p.part.name q.name k i.scanned differs in
+        let same = scanned_other p.part.name q.name k i.scanned differs in
         (λ j. record (planned_on l i.scanned q) {
           image = planned_image (is_updated q) (same j);
         })
@@ -333,7 +336,7 @@ module _ (d : Device) (size : ℕ) (old : Image) (i : Merges d size old) (single
     -- ---- the images
 
     written_then : planned_on l scanned_then p.part
-        ≡ written_on l p.part p.keeps (cut_list k p.exceptions)
+        ≡ written_on l p.part p.keeps p.scan.chunk (cut_list k p.scan.exceptions)
     written_then =
         own_entry
         ∙ ap (cut_part k) (sym p.planned ∙ p.written)
@@ -341,12 +344,12 @@ module _ (d : Device) (size : ℕ) (old : Image) (i : Merges d size old) (single
     own_image : image_on new (planned_on l scanned_then p.part)
         ≡ image_on old (planned_on l i.scanned p.part)
     own_image =
-        let seen = seen_same base store p.exceptions (cut_list k p.exceptions) old new fits_here
-        (take_fits (length base) store p.exceptions (length p.exceptions - k) (omega arith)
-        fits_here)
+        let es : List Exception = p.scan.exceptions in
+        let seen = seen_same p.scan.chunk base store es (cut_list k es) old new fits_here
+        (take_fits (length base) store es (length es - k) (omega arith) fits_here)
         without_here.same in
         ap (image_on new) written_then
-        ∙ (λ j. record (image_on old (written_on l p.part p.keeps p.exceptions)) {
+        ∙ (λ j. record (image_on old (written_on l p.part p.keeps p.scan.chunk es)) {
           bytes = seen j;
         })
         ∙ ap (image_on old) (sym (sym p.planned ∙ p.written))
@@ -375,7 +378,7 @@ module _ (d : Device) (size : ℕ) (old : Image) (i : Merges d size old) (single
     other_stays q Declared s c differs is touched =
         own_miss i.slot l.parts p.part p.keeps rules.merging p.there p.own p.found at q s c differs
         is touched
-    other_stays q (Written es) s c differs is touched =
+    other_stays q (Written k es) s c differs is touched =
         ⊎_elim
         (λ here.
         store_stays q (first_named (store_of q.name) l.parts) s
@@ -383,7 +386,7 @@ module _ (d : Device) (size : ℕ) (old : Image) (i : Merges d size old) (single
         (λ there.
         own_miss i.slot l.parts p.part p.keeps rules.merging p.there p.own p.found at q s c differs
         there touched)
-        (seen_or (blocks_there (store_on l q.name)) es 0 (sectors_of at q.blocks) s is)
+        (seen_or k (blocks_there (store_on l q.name)) es 0 (sectors_of at q.blocks) s is)
 
     other_image : (q : PartOfLayout)
         → Contains owns q

@@ -15,6 +15,7 @@ use Rattle.vab_marks.specs.declared.mark.MarkPhase.TheVariants as marks
 use Rattle.vab_marks.specs.declared.status.PartStatus.{PartStatus}
 use Rattle.vab_geometry.specs.declared.geometry.Geometry.{Geometry}
 use Rattle.vab_geometry.specs.Geometry.{IsGeometry}
+use Rattle.vab_space.specs.declared.Chunk.{Chunk}
 use Rattle.vab_exceptions.specs.declared.area.Exception.{Exception}
 use Rattle.vab_tables.specs.declared.table.Table.{Table}
 use Rattle.vab_layout.specs.declared.layout.Part.{Part as PartOfLayout}
@@ -37,7 +38,7 @@ use Rattle.vab_device.specs.Phases.{phase_at, merging_check, planned_on, planned
 use Rattle.vab_device.specs.Phases.{plan_of, store_on}
 use Rattle.vab_device.specs.Reading.{Read, kept, Reads, AgreeCopies, Represents, tables_in}
 use Rattle.vab_device.specs.Reading.{table_for}
-use Rattle.vab_device.specs.Stores.{Scanned, first_named, exceptions_of}
+use Rattle.vab_device.specs.Stores.{Scanned, first_named, scanned_named}
 use Rattle.vab_device.proofs.CheckLaws.{first_kept}
 use Rattle.vab_device.proofs.ReadingLaws.{slot_below}
 use Rattle.vab_device.proofs.StayLaws.{one_of}
@@ -216,36 +217,37 @@ rules_of d size image i is =
 
 -- ---- a partition that is written
 
--- with its store, and these exceptions
-abbrev pub written_on : Layout → PartOfLayout → PartOfLayout → List Exception → Part
-written_on l p keeps es = record {
+-- with its store, whose chunks have this size, and these exceptions
+abbrev pub written_on : Layout → PartOfLayout → PartOfLayout → Chunk → List Exception → Part
+written_on l p keeps k es = record {
   name = base_of p.name;
   group = p.group;
   map = sectors_of l.device.first_logical_sector p.blocks;
   store = Some (sectors_of l.device.first_logical_sector keeps.blocks);
-  image = Written es;
+  image = Written k es;
 }
 
-written_of : (b : Bool) (o : Option (List Exception))
+written_of : (b : Bool) (o : Option Scanned)
     → 0 < count_of (planned_image b o)
-    → (es : List Exception) × (b ≡ true) × (o ≡ Some es)
+    → (s : Scanned) × (b ≡ true) × (o ≡ Some s)
 written_of false o some = absurd (omega (arith, some))
 written_of true None some = absurd (omega (arith, some))
-written_of true (Some es) some = (es, refl, refl)
+written_of true (Some s) some = (s, refl, refl)
 
-stored_of : (size at : ℕ) (base : List ℕ) (o : Option PartOfLayout) (es : List Exception)
-    → IsStored size base (option_map (λ q. sectors_of at q.blocks) o) (Written es)
+stored_of : (size at : ℕ) (base : List ℕ) (o : Option PartOfLayout) (k : Chunk)
+    (es : List Exception)
+    → IsStored size base (option_map (λ q. sectors_of at q.blocks) o) (Written k es)
     → (q : PartOfLayout) × (o ≡ Some q)
-stored_of size at base None es is = absurd is
-stored_of size at base (Some q) es is = (q, refl)
+stored_of size at base None k es is = absurd is
+stored_of size at base (Some q) k es is = (q, refl)
 
--- The partition at a place is this one of the table, its store that one, and these are its
--- exceptions.
+-- The partition at a place is this one of the table, its store that one, and this is what was read
+-- of it.
 pub record Placed (d : Device) (size : ℕ) (image : Image) (i : Merges d size image) (place : ℕ)
     : Type 0 where
   pub part : PartOfLayout
   pub keeps : PartOfLayout
-  pub exceptions : List Exception
+  pub scan : Scanned
   pub within : place < length (own_parts i.slot (layout_of i.table).parts)
   pub at_place : (e : PartOfLayout)
       → get_or (own_parts i.slot (layout_of i.table).parts) place e ≡ part
@@ -254,9 +256,10 @@ pub record Placed (d : Device) (size : ℕ) (image : Image) (i : Merges d size i
   pub part_is : first_named part.name (own_parts i.slot (layout_of i.table).parts) ≡ Some part
   pub found : first_named (store_of part.name) (layout_of i.table).parts ≡ Some keeps
   pub updated : is_updated part ≡ true
-  pub read : exceptions_of part.name i.scanned ≡ Some exceptions
+  pub read : scanned_named part.name i.scanned ≡ Some scan
   pub planned : part_at d place ≡ planned_on (layout_of i.table) i.scanned part
-  pub written : part_at d place ≡ written_on (layout_of i.table) part keeps exceptions
+  pub written : part_at d place
+      ≡ written_on (layout_of i.table) part keeps scan.chunk scan.exceptions
   pub differ : AllPairs Named (own_parts i.slot (layout_of i.table).parts)
 
 pub names_differ : (d : Device) (size : ℕ) (image : Image) (i : Merges d size image)
@@ -281,13 +284,14 @@ module _ (d : Device) (size : ℕ) (image : Image) (i : Merges d size image) (pl
   abbrev at : ℕ
   at = l.device.first_logical_sector
 
-  placed_with : (keeps : PartOfLayout) (es : List Exception)
+  placed_with : (keeps : PartOfLayout) (s : Scanned)
       → first_named (store_of part.name) l.parts ≡ Some keeps
       → is_updated part ≡ true
-      → exceptions_of part.name i.scanned ≡ Some es
+      → scanned_named part.name i.scanned ≡ Some s
       → Placed d size image i place
-  placed_with keeps es found updated read =
-      let as_written : planned_on l i.scanned part ≡ written_on l part keeps es =
+  placed_with keeps s found updated read =
+      let as_written : planned_on l i.scanned part
+      ≡ written_on l part keeps s.chunk s.exceptions =
       (λ k. record (planned_on l i.scanned part) {
         store = option_map (λ q. sectors_of at q.blocks) (found k);
         image = planned_image (updated k) (read k);
@@ -295,7 +299,7 @@ module _ (d : Device) (size : ℕ) (image : Image) (i : Merges d size image) (pl
       record {
         part = part;
         keeps = keeps;
-        exceptions = es;
+        scan = s;
         within = within;
         at_place = at_place;
         there = there;
@@ -313,18 +317,18 @@ module _ (d : Device) (size : ℕ) (image : Image) (i : Merges d size image) (pl
       → 0 < count_of (part_at d place).image
       → Placed d size image i place
   placed_part kept some =
-      let w = written_of (is_updated part) (exceptions_of part.name i.scanned)
+      let w = written_of (is_updated part) (scanned_named part.name i.scanned)
       (subst (λ (p : Part). 0 < count_of p.image) planned some) in
       let stored : IsStored size (sectors_of at part.blocks) (store_on l part.name)
-      (planned_image (is_updated part) (exceptions_of part.name i.scanned)) =
+      (planned_image (is_updated part) (scanned_named part.name i.scanned)) =
       (subst (IsPart size) planned kept).store in
       let as_written : IsStored size (sectors_of at part.blocks) (store_on l part.name)
-      (Written w.0) =
+      (Written w.0.chunk w.0.exceptions) =
       subst
       (λ (x : PartImage). IsStored size (sectors_of at part.blocks) (store_on l part.name) x)
       (λ k. planned_image (w.1 k) (w.2 k)) stored in
       let s = stored_of size at (sectors_of at part.blocks)
-      (first_named (store_of part.name) l.parts) w.0 as_written in
+      (first_named (store_of part.name) l.parts) w.0.chunk w.0.exceptions as_written in
       placed_with s.0 w.0 s.1 w.1 w.2
 
 pub placed_of : (d : Device) (size : ℕ) (image : Image) (i : Merges d size image) (place : ℕ)

@@ -1,5 +1,5 @@
 -- Behind a run, the next is in the same store until it has no exception any more.
-use Rattle.std.proofs.Common.{◌≡◌, ◌∙◌, ℕ, ◌+◌, ◌-◌, ◌<◌, true, sym, ap, subst, arith}
+use Rattle.std.proofs.Common.{◌≡◌, ◌∙◌, ℕ, ◌-◌, ◌<◌, true, ap, arith}
 use Rattle.std.specs.Prelude.{Some}
 use Rattle.std.proofs.lemmas.Bool.{ltb-true}
 use Rattle.vab_marks.specs.declared.mark.MarkPhase.TheVariants as marks

@@ -2,24 +2,24 @@
 use Rattle.std.proofs.Common.{◌≡◌, ◌⊎◌, ◌∙◌, inl, inr, ⊎_elim, ℕ, ◌+◌, ◌-◌, ◌≤◌, ◌<◌}
 use Rattle.std.proofs.Common.{true, List, length, get_or, take, Result, Ok, Err, refl, sym, ap}
 use Rattle.std.proofs.Common.{subst, arith, length-take-le}
-use Rattle.std.specs.Prelude.{Option, Some, None, is_some, All, IfOk, slice_index}
+use Rattle.std.specs.Prelude.{Option, Some, None, is_some, All, IfOk}
 use Rattle.std.proofs.lemmas.List.{get_or_default}
 use Rattle.std.proofs.lemmas.List.Elements.{All-get_or}
 use Rattle.vab_disk.specs.declared.disk.Disk.{Ghosts}
 use Rattle.vab_disk.specs.Disk.{Image, Outcome, Adds}
-use Rattle.vab_disk.specs.Calls.{IsBetween, InSectors, IsAtRest, Touches, SameBut}
+use Rattle.vab_disk.specs.Calls.{InSectors, IsAtRest, Touches, SameBut}
 use Rattle.vab_disk.proofs.CallLaws.{touches_wider, reads_none, quiet_none, touches_none}
 use Rattle.vab_disk.proofs.Moments.{adds_wider, adds_none}
 use Rattle.vab_gate.specs.declared.gate.DiskFault.{DiskFault}
 use Rattle.vab_marks.specs.declared.mark.MarkPhase.TheVariants as marks
 use Rattle.vab_exceptions.specs.declared.area.Exception.{Exception}
-use Rattle.vab_exceptions.specs.Entries.{area_entries}
-use Rattle.vab_space.specs.declared.Chunk.TheVariants.{One}
+use Rattle.vab_space.specs.declared.Chunk.{Chunk}
+use Rattle.vab_space.specs.Chunks.{entries_in}
 use Rattle.vab_store.specs.Layout.{IsOnDisk}
 use Rattle.vab_store.specs.Scan.{scan_of}
 use Rattle.vab_store.specs.View.{exception_at}
 use Rattle.vab_store.proofs.ViewLaws.{take-at}
-use Rattle.vab_merge.specs.Copied.{InBlockOf}
+use Rattle.vab_merge.specs.Copied.{InChunk, InBlocksOf}
 use Rattle.vab_merge.specs.Run.{IsLongest}
 use Rattle.vab_merge.specs.Merged.{MayMerge, CanMerge, WithoutLast, IsMergedSector}
 use Rattle.vab_merge.specs.Merged.{entry_sector}
@@ -32,7 +32,7 @@ use Rattle.vab_device.specs.Mounted.{mounted_on, count_of, blocks_there}
 use Rattle.vab_device.specs.Reading.{device, Represents}
 use Rattle.vab_device.specs.Updates.{merged_to}
 use Rattle.vab_device.proofs.ReadingLaws.{device_stands}
-use Rattle.vab_merge_run.specs.Part.{exceptions_in, store_in, RunsPart}
+use Rattle.vab_merge_run.specs.Part.{exceptions_in, chunk_in, store_in, RunsPart}
 use Rattle.vab_merge_run.specs.Run.{LeavesTurns, MakesTurns}
 use Rattle.vab_merge_run.specs.Turns.{next_of, own_of, no_part, part_at, cut_part, cut_at}
 use Rattle.vab_merge_run.specs.Turns.{left_in}
@@ -68,7 +68,7 @@ adds_both moment outcomes old new P Q one two = record {
 -- what a run in its store asks for over every disk
 pub record IsRunnable (size : ℕ) (p : Part) : Type 0 where
   pub store : is_some p.store ≡ true
-  pub may : MayMerge p.map (store_in p) (exceptions_in p.image) size
+  pub may : MayMerge (chunk_in p.image) p.map (store_in p) (exceptions_in p.image) size
 
 on_disk : (size : ℕ) (map : List ℕ) → All (λ s. s + 8 ≤ size) map → IsOnDisk map size
 on_disk size map all j below = All-get_or (λ s. s + 8 ≤ size) map j 0 below all
@@ -85,8 +85,8 @@ runnable size p is some = by_image p.store p.image is.store some
         → IsRunnable size (record p { store = store; image = image })
     by_image store Kept stored some = absurd (omega (arith, some))
     by_image store Declared stored some = absurd (omega (arith, some))
-    by_image None (Written es) stored some = absurd stored
-    by_image (Some store) (Written es) stored some = record {
+    by_image None (Written k es) stored some = absurd stored
+    by_image (Some store) (Written k es) stored some = record {
       store = refl;
       may = record {
         fits = stored.1;
@@ -115,11 +115,14 @@ pub counted : {D A B : Type 0} (g : Ghosts D) (p : Part) (f : A → ℕ) (h : B 
 counted g p f h most old new x y same runs = record {
   some = subst (λ (n : ℕ). 0 < n) same runs.some;
   longest =
-      subst (λ (n : ℕ). IsLongest area_entries (exceptions_in p.image) most n) same runs.longest;
+      subst
+      (λ (n : ℕ). IsLongest (entries_in (chunk_in p.image)) (exceptions_in p.image) most n)
+      same runs.longest;
   merged = λ t scan.
       subst
       (λ (n : ℕ).
-      WithoutLast p.map (store_in p) (exceptions_in p.image) n (g.seen old) (g.seen new))
+      WithoutLast (chunk_in p.image) p.map (store_in p) (exceptions_in p.image) n (g.seen old)
+      (g.seen new))
       same (runs.merged t scan);
   rest = runs.rest;
   time = runs.time;
@@ -153,6 +156,9 @@ module _ (d : Device) (size place : ℕ)
   abbrev es : List Exception
   es = exceptions_in part.image
 
+  abbrev chunk : Chunk
+  chunk = chunk_in part.image
+
   pub single : Single d
   single = single_of d size is merging
 
@@ -180,12 +186,12 @@ module _ (d : Device) (size place : ℕ)
   written_cut : (n : ℕ) (image : PartImage)
       → 0 < count_of image
       → (cut_part n (record part { image = image })).image
-      ≡ Written (take (length (exceptions_in image) - n) (exceptions_in image))
+      ≡ Written (chunk_in image) (take (length (exceptions_in image) - n) (exceptions_in image))
   written_cut n Kept has = absurd (omega (arith, has))
   written_cut n Declared has = absurd (omega (arith, has))
-  written_cut n (Written list) has = refl
+  written_cut n (Written k list) has = refl
 
-  module _ (most s : ℕ) (w : IsMergedSector part.map (store_in part) es most s) where
+  module _ (most s : ℕ) (w : IsMergedSector chunk part.map (store_in part) es most s) where
     -- the turns before that of this exception
     abbrev before : ℕ
     before = length es - 1 - w.place
@@ -211,16 +217,19 @@ module _ (d : Device) (size place : ℕ)
         ap (exception_at left) last
         ∙ take-at es (length es - before) w.place (omega (arith, w.within))
 
-    sector_then : InBlockOf part.map es w.place s ⊎ (s ≡ entry_sector (store_in part) w.place)
-        → InBlockOf (part_at device_then place).map left (length left - 1) s
-        ⊎ (s ≡ entry_sector (store_in part) (length left - 1))
+    sector_then : InBlocksOf chunk part.map es w.place s
+        ⊎ (s ≡ entry_sector chunk (store_in part) w.place)
+        → InBlocksOf chunk (part_at device_then place).map left (length left - 1) s
+        ⊎ (s ≡ entry_sector chunk (store_in part) (length left - 1))
     sector_then (inl here) =
         let map_is : (part_at device_then place).map ≡ part.map =
         ap (λ (x : Part). x.map) part_then in
-        inl (subst (λ (x : ℕ). IsBetween x (x + 8) s)
-        (sym (λ j. slice_index (map_is j) (last_is j).old_chunk)) here)
+        inl (subst
+        (λ (m : List ℕ). InChunk chunk m (exception_at left (length left - 1)).old_chunk s)
+        (sym map_is)
+        (subst (λ (e : Exception). InChunk chunk part.map e.old_chunk s) (sym last_is) here))
     sector_then (inr entry) =
-        inr (entry ∙ ap (entry_sector (store_in part)) (sym last))
+        inr (entry ∙ ap (entry_sector chunk (store_in part)) (sym last))
 
     turn_then : IsOfTurn device_then s
     turn_then = record {
@@ -228,6 +237,7 @@ module _ (d : Device) (size place : ℕ)
       next = next_cut d place before next (omega (arith, long, w.within));
       store = store_in part;
       stored = ap (λ (x : Part). x.store) part_then ∙ stored part.store runs_here.store;
+      chunk = chunk;
       exceptions = left;
       written = ap (λ (x : Part). x.image) part_then ∙ written_cut before part.image some;
       some = omega (arith, left_long);
@@ -256,7 +266,7 @@ module _ (d : Device) (size place : ℕ)
     pub p : Placed d size old i place
     p = placed_of d size old i place single is rules below some
 
-    pub can : CanMerge part.map (store_in part) es size
+    pub can : CanMerge chunk part.map (store_in part) es size
     can = record {
       may = runs_here.may;
       base_apart = base_apart d size old i single rules place p runs_here.may.fits;
@@ -264,14 +274,15 @@ module _ (d : Device) (size place : ℕ)
       disjoint = disjoint d size old i single rules place p runs_here.may.fits;
     }
 
-    pub scanned : scan_of One (store_in part) (length part.map) old ≡ Ok es
+    pub scanned : scan_of chunk (store_in part) (length part.map) old ≡ Ok es
     scanned = scan_kept_is d size old i single rules place p runs_here.may.fits
 
     -- an image on which its last exceptions are gone
     module _ (k most : ℕ) (new : Image)
         (few : k ≤ length es)
-        (without : WithoutLast part.map (store_in part) es k old new)
-        (but : SameBut (InSectors (IsMergedSector part.map (store_in part) es most)) old new) where
+        (without : WithoutLast chunk part.map (store_in part) es k old new)
+        (but : SameBut (InSectors (IsMergedSector chunk part.map (store_in part) es most))
+        old new) where
       stay : (s : ℕ)
           → (Touched d size old i single rules place p runs_here.may.fits s → ⊥)
           → new s ≡ old s
@@ -279,7 +290,7 @@ module _ (d : Device) (size place : ℕ)
           ⊎_elim (λ same. same)
           (λ w.
           absurd (not (touched_of d size old i single rules place p runs_here.may.fits s
-          (merged_in part.map (store_in part) es most s runs_here.may.fits w))))
+          (merged_in chunk part.map (store_in part) es most s runs_here.may.fits w))))
           (but s)
 
       pub represents_cut : Represents (cut_at place k d) size new
@@ -313,7 +324,7 @@ module _ (d : Device) (size place : ℕ)
         → Touches g (InSectors (IsOfTurns most d)) old new
     touches_turns result runs =
         touches_wider g (InSectors (IsOfTurns most d))
-        (InSectors (IsMergedSector part.map (store_in part) es most)) old new runs.touches
+        (InSectors (IsMergedSector chunk part.map (store_in part) es most)) old new runs.touches
         (λ s b w. sector_of_turn most s w)
 
     leaves : (result : Result (Device × ℕ) DiskFault)

@@ -10,9 +10,11 @@ use Rattle.vab_disk.specs.Disk.{Image}
 use Rattle.vab_names.specs.Names.{is_of_slot, store_of}
 use Rattle.vab_marks.specs.declared.status.PartStatus.{PartStatus}
 use Rattle.vab_exceptions.specs.declared.area.Exception.{Exception}
-use Rattle.vab_space.specs.declared.Chunk.TheVariants.{One}
+use Rattle.vab_exceptions.specs.declared.header.HeaderFault.{HeaderFault}
+use Rattle.vab_space.specs.declared.Chunk.{Chunk}
 use Rattle.vab_store.specs.declared.fault.StoreFault.{StoreFault}
 use Rattle.vab_store.specs.Scan.{scan_of}
+use Rattle.vab_store.proofs.ScanLaws.{scan_of_ok}
 use Rattle.vab_layout.specs.declared.layout.Part.{Part as PartOfLayout}
 use Rattle.vab_layout.specs.declared.layout.Layout.{Layout}
 use Rattle.vab_layout.specs.Slots.{own_parts}
@@ -24,7 +26,7 @@ use Rattle.vab_device.specs.declared.fault.StartFault.TheVariants.{BadStore}
 use Rattle.vab_device.specs.Checks.{◌>>=◌}
 use Rattle.vab_device.specs.Kept.{sectors_of}
 use Rattle.vab_device.specs.Stores.{Wanted, Scanned, first_named, wanted_by, wanted_of, or_fewer}
-use Rattle.vab_device.specs.Stores.{is_long, scan_read, scan_at, scans_in, exceptions_of}
+use Rattle.vab_device.specs.Stores.{is_long, scan_read, scan_at, scans_in, scanned_named}
 use Rattle.vab_device.proofs.CheckLaws.{bound}
 use Rattle.vab_device.proofs.StoreLaws.{scan_kept}
 use Rattle.vab_merge_run.proofs.ApartLaws.{InEither, store_miss}
@@ -35,74 +37,80 @@ use Rattle.vab_device.proofs.NamedParts.{named_in}
 abbrev pub cut_list : ℕ → List Exception → List Exception
 cut_list k es = take (length es - k) es
 
--- the store of this name without its last exceptions
-abbrev pub cut_scan : List ℕ → ℕ → Scanned → Scanned
-cut_scan name k s =
-    if bytes_eq s.name name then record s { exceptions = cut_list k s.exceptions } else s
+-- a store without its last exceptions
+abbrev pub cut_of : ℕ → Scanned → Scanned
+cut_of k s = record s { exceptions = cut_list k s.exceptions }
 
-pub exceptions_own : (name : List ℕ) (k : ℕ) (ss : List Scanned)
-    → exceptions_of name (map (cut_scan name k) ss)
-    ≡ option_map (cut_list k) (exceptions_of name ss)
-exceptions_own name k [] = refl
-exceptions_own name k (s ∷ ss) = elim (cases_Bool (bytes_eq s.name name)) [
+-- the one of this name
+abbrev pub cut_scan : List ℕ → ℕ → Scanned → Scanned
+cut_scan name k s = if bytes_eq s.name name then cut_of k s else s
+
+pub scanned_own : (name : List ℕ) (k : ℕ) (ss : List Scanned)
+    → scanned_named name (map (cut_scan name k) ss)
+    ≡ option_map (cut_of k) (scanned_named name ss)
+scanned_own name k [] = refl
+scanned_own name k (s ∷ ss) = elim (cases_Bool (bytes_eq s.name name)) [
   | inl here ↦ rw here (rw here refl)
-  | inr other ↦ rw other (rw other (exceptions_own name k ss))
+  | inr other ↦ rw other (rw other (scanned_own name k ss))
 ]
 
-pub exceptions_other : (name other : List ℕ) (k : ℕ) (ss : List Scanned)
+pub scanned_other : (name other : List ℕ) (k : ℕ) (ss : List Scanned)
     → other ≢ name
-    → exceptions_of other (map (cut_scan name k) ss) ≡ exceptions_of other ss
-exceptions_other name other k [] differs = refl
-exceptions_other name other k (s ∷ ss) differs =
-    let rest = exceptions_other name other k ss differs in
+    → scanned_named other (map (cut_scan name k) ss) ≡ scanned_named other ss
+scanned_other name other k [] differs = refl
+scanned_other name other k (s ∷ ss) differs =
+    let rest = scanned_other name other k ss differs in
     elim (cases_Bool (bytes_eq s.name name)) [
       | inl here ↦
           let no : bytes_eq s.name other ≡ false =
           ne_name s.name other (λ e. differs (sym e ∙ same_name s.name name here)) in
           rw here (rw no rest)
-      | inr not_it ↦ rw not_it (ap (cond (bytes_eq s.name other) (Some s.exceptions)) rest)
+      | inr not_it ↦ rw not_it (ap (cond (bytes_eq s.name other) (Some s)) rest)
     ]
 
-some_map : (k : ℕ) (o : Option (List Exception)) → is_some (option_map (cut_list k) o) ≡ is_some o
+some_map : (k : ℕ) (o : Option Scanned) → is_some (option_map (cut_of k) o) ≡ is_some o
 some_map k None = refl
-some_map k (Some es) = refl
+some_map k (Some s) = refl
 
-pub exceptions_some : (name other : List ℕ) (k : ℕ) (ss : List Scanned)
-    → is_some (exceptions_of other (map (cut_scan name k) ss)) ≡ is_some (exceptions_of other ss)
-exceptions_some name other k ss = elim (cases_Bool (bytes_eq other name)) [
+pub scanned_some : (name other : List ℕ) (k : ℕ) (ss : List Scanned)
+    → is_some (scanned_named other (map (cut_scan name k) ss)) ≡ is_some (scanned_named other ss)
+scanned_some name other k ss = elim (cases_Bool (bytes_eq other name)) [
   | inl here ↦
       subst
       (λ (n : List ℕ).
-      is_some (exceptions_of n (map (cut_scan name k) ss)) ≡ is_some (exceptions_of n ss))
+      is_some (scanned_named n (map (cut_scan name k) ss)) ≡ is_some (scanned_named n ss))
       (sym (same_name other name here))
-      (ap (λ (o : Option (List Exception)). is_some o) (exceptions_own name k ss)
-      ∙ some_map k (exceptions_of name ss))
+      (ap (λ (o : Option Scanned). is_some o) (scanned_own name k ss)
+      ∙ some_map k (scanned_named name ss))
   | inr not_it ↦
-      ap (λ (o : Option (List Exception)). is_some o)
-      (exceptions_other name other k ss (other_name other name not_it))
+      ap (λ (o : Option Scanned). is_some o)
+      (scanned_other name other k ss (other_name other name not_it))
 ]
 
 -- ---- a store
 
 -- its scan, which is long enough
 pub record IsRead (w : Wanted) (image : Image) (s : Scanned) : Type 0 where
-  pub scan : scan_of One w.store (length w.base) image ≡ Ok s.exceptions
+  pub scan : scan_of w.chunk w.store (length w.base) image ≡ Ok s.exceptions
   pub name : s.name ≡ w.name
+  pub chunk : s.chunk ≡ w.chunk
   pub long : is_long w.fewer w.count (length s.exceptions) ≡ true
 
 read_of : (w : Wanted) (x : Result (List Exception) StoreFault) (s : Scanned)
     → scan_read w x ≡ Ok s
     → (x ≡ Ok s.exceptions)
     × (s.name ≡ w.name)
+    × (s.chunk ≡ w.chunk)
     × (is_long w.fewer w.count (length s.exceptions) ≡ true)
 read_of w (Ok es) s is = elim (cases_Bool (is_long w.fewer w.count (length es))) [
   | inl enough ↦
       let same : (let r : Result Scanned StartFault = Ok
-      (record { name = w.name; exceptions = es }) in r ≡ Ok s) =
+      (record { name = w.name; chunk = w.chunk; exceptions = es }) in r ≡ Ok s) =
       rw enough at is in
-      let e : (record { name = w.name; exceptions = es }) ≡ s = cc in (
+      let e : (record { name = w.name; chunk = w.chunk; exceptions = es }) ≡ s = cc in (
         ap (λ (x : Scanned). Ok x.exceptions) e,
         sym (ap (λ (x : Scanned). x.name) e),
+        sym (ap (λ (x : Scanned). x.chunk) e),
         subst (λ (x : Scanned). is_long w.fewer w.count (length x.exceptions) ≡ true) e enough,
       )
   | inr few ↦
@@ -117,15 +125,26 @@ read_of w (Err fault) s is =
 is_read : (w : Wanted) (image : Image) (s : Scanned) → scan_at w image ≡ Ok s → IsRead w image s
 unfolding scan_at
 is_read w image s is =
-    let three = read_of w (scan_of One w.store (length w.base) image) s is in
-    record { scan = three.0; name = three.1; long = three.2 }
+    let four = read_of w (scan_of w.chunk w.store (length w.base) image) s is in
+    record { scan = four.0; name = four.1; chunk = four.2; long = four.3 }
 
 scan_made : (w : Wanted) (image : Image) (es : List Exception)
-    → scan_of One w.store (length w.base) image ≡ Ok es
+    → scan_of w.chunk w.store (length w.base) image ≡ Ok es
     → is_long w.fewer w.count (length es) ≡ true
-    → scan_at w image ≡ Ok (record { name = w.name; exceptions = es })
+    → scan_at w image ≡ Ok (record { name = w.name; chunk = w.chunk; exceptions = es })
 unfolding scan_at
 scan_made w image es scan long = ap (scan_read w) scan ∙ rw long refl
+
+-- a store's header says what size its chunks have
+scan_chunk : (j k : Chunk) (store : List ℕ) (bound : ℕ) (image : Image) (es fs : List Exception)
+    → scan_of j store bound image ≡ Ok es
+    → scan_of k store bound image ≡ Ok fs
+    → j ≡ k
+scan_chunk j k store bound image es fs one other =
+    let same : (let r : Result Chunk HeaderFault = Ok j in r ≡ Ok k) =
+    sym (scan_of_ok store bound image es one).header
+    ∙ (scan_of_ok store bound image fs other).header in
+    cc
 
 -- ---- the store of one partition, and the others
 
@@ -155,6 +174,7 @@ module _ (slot : ℕ) (l : Layout) (part keeps : PartOfLayout)
     name = st.name;
     base = sectors_of at p.blocks;
     store = sectors_of at q.blocks;
+    chunk = st.chunk;
     count = st.count;
     fewer = true;
   }
@@ -179,70 +199,72 @@ module _ (slot : ℕ) (l : Layout) (part keeps : PartOfLayout)
       → first_named (store_of st.name) l.parts ≡ Some q
       → scan_at (wanted st p q) image ≡ Ok s
       → s.name ≡ part.name
-      → scan_of One store (length base) image ≡ Ok s.exceptions
+      → scan_of s.chunk store (length base) image ≡ Ok s.exceptions
   named_here st p q image s p_is q_is scan named =
       let read = is_read (wanted st p q) image s scan in
       let these = both_named st p q p_is q_is (sym read.name ∙ named) in
-      (λ i. scan_of One (sectors_of at (sym these.1 i).blocks)
+      (λ i. scan_of (read.chunk i) (sectors_of at (sym these.1 i).blocks)
       (length (sectors_of at (sym these.0 i).blocks)) image)
       ∙ read.scan
 
-  named_step : (image : Image) (es : List Exception) (st : PartStatus) (p q : Option PartOfLayout)
+  named_step : (image : Image) (s : Scanned) (st : PartStatus) (p q : Option PartOfLayout)
       (ws : List (Result Wanted StartFault)) (ss : List Scanned)
       → first_named st.name owns ≡ p
       → first_named (store_of st.name) l.parts ≡ q
       → scans_in (or_fewer (wanted_by at st p q) ∷ ws) image ≡ Ok ss
-      → exceptions_of part.name ss ≡ Some es
+      → scanned_named part.name ss ≡ Some s
       → ((us : List Scanned)
       → scans_in ws image ≡ Ok us
-      → exceptions_of part.name us ≡ Some es
-      → scan_of One store (length base) image ≡ Ok es)
-      → scan_of One store (length base) image ≡ Ok es
-  named_step image es st None q ws ss p_is q_is is there later =
+      → scanned_named part.name us ≡ Some s
+      → scan_of s.chunk store (length base) image ≡ Ok s.exceptions)
+      → scan_of s.chunk store (length base) image ≡ Ok s.exceptions
+  named_step image s st None q ws ss p_is q_is is there later =
       absurd (let bad : (let r : Result (List Scanned) StartFault = Err (BadStore st.name) in r
       ≡ Ok ss) = is in cc)
-  named_step image es st (Some p) None ws ss p_is q_is is there later =
+  named_step image s st (Some p) None ws ss p_is q_is is there later =
       absurd (let bad : (let r : Result (List Scanned) StartFault = Err (BadStore st.name) in r
       ≡ Ok ss) = is in cc)
-  named_step image es st (Some p) (Some q) ws ss p_is q_is is there later =
+  named_step image s st (Some p) (Some q) ws ss p_is q_is is there later =
       let one = bound (scan_at (wanted st p q) image)
-      (λ s. scans_in ws image >>= λ rest. Ok (s ∷ rest)) ss is in
+      (λ u. scans_in ws image >>= λ rest. Ok (u ∷ rest)) ss is in
       let more = bound (scans_in ws image) (λ rest. Ok (one.0 ∷ rest)) ss one.2 in
       let whole : Ok (one.0 ∷ more.0) ≡ Ok ss = more.2 in
       let same : one.0 ∷ more.0 ≡ ss = cc in
-      let here : exceptions_of part.name (one.0 ∷ more.0) ≡ Some es =
-      ap (exceptions_of part.name) same ∙ there in
+      let here : scanned_named part.name (one.0 ∷ more.0) ≡ Some s =
+      ap (scanned_named part.name) same ∙ there in
       elim (cases_Bool (bytes_eq one.0.name part.name)) [
         | inl named ↦
-            let taken : Some one.0.exceptions ≡ Some es = rw named at here in
-            named_here st p q image one.0 p_is q_is one.1 (same_name one.0.name part.name named)
-            ∙ ap Ok (let e : one.0.exceptions ≡ es = cc in e)
+            let taken : Some one.0 ≡ Some s = rw named at here in
+            let e : one.0 ≡ s = cc in
+            subst
+            (λ (x : Scanned). scan_of x.chunk store (length base) image ≡ Ok x.exceptions) e
+            (named_here st p q image one.0 p_is q_is one.1
+            (same_name one.0.name part.name named))
         | inr other ↦ later more.0 more.1 (rw other at here)
       ]
 
   -- the exceptions that were read are those of a scan of the store
-  pub scan_named : (image : Image) (es : List Exception) (sts : List PartStatus) (ss : List Scanned)
+  pub scan_named : (image : Image) (s : Scanned) (sts : List PartStatus) (ss : List Scanned)
       → scans_in (map wants sts) image ≡ Ok ss
-      → exceptions_of part.name ss ≡ Some es
-      → scan_of One store (length base) image ≡ Ok es
-  scan_named image es [] ss is there =
+      → scanned_named part.name ss ≡ Some s
+      → scan_of s.chunk store (length base) image ≡ Ok s.exceptions
+  scan_named image s [] ss is there =
       let none : (let r : Result (List Scanned) StartFault = Ok [] in r ≡ Ok ss) = is in
       let e : [] ≡ ss = cc in
-      absurd (let bad : None ≡ Some es = ap (exceptions_of part.name) e ∙ there in cc)
-  scan_named image es (st ∷ sts) ss is there =
-      named_step image es st (first_named st.name owns) (first_named (store_of st.name) l.parts)
-      (map wants sts) ss refl refl is there (λ us. scan_named image es sts us)
+      absurd (let bad : None ≡ Some s = ap (scanned_named part.name) e ∙ there in cc)
+  scan_named image s (st ∷ sts) ss is there =
+      named_step image s st (first_named st.name owns) (first_named (store_of st.name) l.parts)
+      (map wants sts) ss refl refl is there (λ us. scan_named image s sts us)
 
   -- ---- what is read of it then
 
-  module _ (es : List Exception) (k : ℕ) (old new : Image)
-      (scan : scan_of One store (length base) old ≡ Ok es)
-      (now : scan_of One store (length base) new ≡ Ok (cut_list k es))
+  module _ (kept : Scanned) (k : ℕ) (old new : Image)
+      (scan : scan_of kept.chunk store (length base) old ≡ Ok kept.exceptions)
+      (now : scan_of kept.chunk store (length base) new ≡ Ok (cut_list k kept.exceptions))
       (stay : (s : ℕ) → (InEither slot l.parts part keeps is in_own own found at s → ⊥)
       → new s ≡ old s) where
     cut_here : (s : Scanned) → s.name ≡ part.name
-        → cut_scan part.name k s
-        ≡ record { name = s.name; exceptions = cut_list k s.exceptions }
+        → cut_scan part.name k s ≡ cut_of k s
     cut_here s named =
         let here : bytes_eq s.name part.name ≡ true = eq_name s.name part.name named in
         rw here refl
@@ -263,15 +285,20 @@ module _ (slot : ℕ) (l : Layout) (part keeps : PartOfLayout)
         → scan_at (wanted st p q) new ≡ Ok (cut_scan part.name k s)
     scan_own st p q s p_is q_is read named =
         let these = both_named st p q p_is q_is named in
-        let was : Ok es ≡ Ok s.exceptions =
-        sym scan
-        ∙ (λ i. scan_of One (sectors_of at (sym these.1 i).blocks)
+        let here : scan_of st.chunk store (length base) old ≡ Ok s.exceptions =
+        (λ i. scan_of st.chunk (sectors_of at (sym these.1 i).blocks)
         (length (sectors_of at (sym these.0 i).blocks)) old)
         ∙ read.scan in
-        let same : es ≡ s.exceptions = cc in
-        let found_now : scan_of One (sectors_of at q.blocks) (length (sectors_of at p.blocks)) new
+        let chunk : kept.chunk ≡ st.chunk =
+        scan_chunk kept.chunk st.chunk store (length base) old kept.exceptions s.exceptions scan
+        here in
+        let was : Ok kept.exceptions ≡ Ok s.exceptions =
+        sym scan ∙ ap (λ (j : Chunk). scan_of j store (length base) old) chunk ∙ here in
+        let same : kept.exceptions ≡ s.exceptions = cc in
+        let found_now : scan_of st.chunk (sectors_of at q.blocks) (length (sectors_of at p.blocks))
+        new
         ≡ Ok (cut_list k s.exceptions) =
-        (λ i. scan_of One (sectors_of at (these.1 i).blocks)
+        (λ i. scan_of (sym chunk i) (sectors_of at (these.1 i).blocks)
         (length (sectors_of at (these.0 i).blocks)) new)
         ∙ now
         ∙ ap (λ (x : List Exception). Ok (cut_list k x)) same in
@@ -280,7 +307,11 @@ module _ (slot : ℕ) (l : Layout) (part keeps : PartOfLayout)
         (sym (length-take-le (length s.exceptions - k) s.exceptions (omega arith)))
         (fewer_long st.count (length s.exceptions) read.long) in
         scan_made (wanted st p q) new (cut_list k s.exceptions) found_now long
-        ∙ (λ i. Ok (record { name = sym read.name i; exceptions = cut_list k s.exceptions }))
+        ∙ (λ i. Ok (record {
+          name = sym read.name i;
+          chunk = sym read.chunk i;
+          exceptions = cut_list k s.exceptions;
+        }))
         ∙ ap Ok (sym (cut_here s (read.name ∙ named)))
 
     scan_other : (st : PartStatus) (p q : PartOfLayout) (s : Scanned)
@@ -294,9 +325,10 @@ module _ (slot : ℕ) (l : Layout) (part keeps : PartOfLayout)
         let of : is_of_slot slot st.name ≡ true =
         ap (is_of_slot slot) (sym there.1)
         ∙ (of_filter (λ r. is_of_slot slot r.name) l.parts p there.0).1 in
-        let found_now : scan_of One (sectors_of at q.blocks) (length (sectors_of at p.blocks)) new
+        let found_now : scan_of st.chunk (sectors_of at q.blocks) (length (sectors_of at p.blocks))
+        new
         ≡ Ok s.exceptions =
-        scan_kept (sectors_of at q.blocks) old new
+        scan_kept st.chunk (sectors_of at q.blocks) old new
         (λ sector in_q.
         stay sector
         (λ either.
@@ -304,7 +336,11 @@ module _ (slot : ℕ) (l : Layout) (part keeps : PartOfLayout)
         in_q either))
         (length (sectors_of at p.blocks)) s.exceptions read.scan in
         scan_made (wanted st p q) new s.exceptions found_now read.long
-        ∙ (λ i. Ok (record { name = sym read.name i; exceptions = s.exceptions }))
+        ∙ (λ i. Ok (record {
+          name = sym read.name i;
+          chunk = sym read.chunk i;
+          exceptions = s.exceptions;
+        }))
         ∙ ap Ok (sym (cut_there s (λ e. differs (sym read.name ∙ e))))
 
     scan_then : (st : PartStatus) (p q : PartOfLayout) (s : Scanned)

@@ -7,12 +7,13 @@ use Rattle.std.proofs.lemmas.List.{get_or_default}
 use Rattle.vab_disk.specs.Disk.{Image}
 use Rattle.vab_gate.specs.Gate.{sectors_at}
 use Rattle.vab_exceptions.specs.declared.area.Exception.{Exception}
+use Rattle.vab_space.specs.declared.Chunk.{Chunk}
 use Rattle.vab_space.specs.Chunks.{page_block}
-use Rattle.vab_space.specs.declared.Chunk.TheVariants.{One}
+use Rattle.vab_space.proofs.ChunkLaws.{page_inside}
 use Rattle.vab_store.specs.Seen.{chosen_bytes, view_block}
-use Rattle.vab_store.specs.View.{view_of, Fits}
-use Rattle.vab_store.proofs.ViewLaws.{view_chunk}
-use Rattle.vab_merge.specs.Copied.{InBlockOf}
+use Rattle.vab_store.specs.View.{stored_at, Fits}
+use Rattle.vab_store.proofs.StoredLaws.{stored_inside}
+use Rattle.vab_merge.specs.Copied.{InBlocksOf}
 use Rattle.vab_merge.specs.Merged.{entry_sector, IsMergedSector}
 use Rattle.vab_device.specs.Mounted.{bytes_at}
 use Rattle.vab_device.specs.Reading.{IsOfBlocks}
@@ -22,45 +23,48 @@ use Rattle.vab_merge_run.proofs.ApartLaws.{in_blocks}
 -- ---- blocks through a store
 
 -- the sectors that a read of a block takes hold what is seen of it
-block_seen : (base store : List ℕ) (es : List Exception) (image : Image) (n : ℕ)
-    → Fits One (length base) store es
-    → sectors_at 8 image (sector_seen store (get_or base n 0) (view_of es n))
-    ≡ view_block One base store es image n
-block_seen base store es image n fits = by_chunk (view_of es n) refl
+block_seen : (chunk : Chunk) (base store : List ℕ) (es : List Exception) (image : Image) (n : ℕ)
+    → Fits chunk (length base) store es
+    → sectors_at 8 image (sector_seen store (get_or base n 0) (stored_at chunk es n))
+    ≡ view_block chunk base store es image n
+block_seen chunk base store es image n fits =
+    by_stored (stored_at chunk es n)
+    (λ b is. stored_inside chunk (length base) store es n b fits is)
   where
-    by_chunk : (o : Option ℕ)
-        → view_of es n ≡ o
+    -- of the store's block, where the store has it
+    by_stored : (o : Option ℕ)
+        → ((b : ℕ) → o ≡ Some b → b < length store)
         → sectors_at 8 image (sector_seen store (get_or base n 0) o)
         ≡ chosen_bytes base store image n o
-    by_chunk None h = refl
-    by_chunk (Some chunk) h =
+    by_stored None there = refl
+    by_stored (Some b) there =
         ap (λ (s : ℕ). sectors_at 8 image s)
-        (get_or_default store chunk (get_or base n 0) 0
-        (view_chunk (length base) store es n chunk fits h).new_chunk)
+        (get_or_default store b (get_or base n 0) 0 (there b refl))
 
-module _ (base store : List ℕ) (es fewer : List Exception) (old new : Image)
-    (fits : Fits One (length base) store es)
-    (fits_fewer : Fits One (length base) store fewer)
+module _ (chunk : Chunk) (base store : List ℕ) (es fewer : List Exception) (old new : Image)
+    (fits : Fits chunk (length base) store es)
+    (fits_fewer : Fits chunk (length base) store fewer)
     (same : (block : ℕ)
     → block < length base
-    → view_block One base store fewer new block ≡ view_block One base store es old block) where
+    → view_block chunk base store fewer new block ≡ view_block chunk base store es old block) where
   seen_from : (n : ℕ) (owns : List ℕ)
       → ((j : ℕ) → j < length owns → get_or owns j 0 ≡ get_or base (n + j) 0)
       → n + length owns ≤ length base
-      → flat_map (λ s. sectors_at 8 new s) (sectors_seen store fewer n owns)
-      ≡ flat_map (λ s. sectors_at 8 old s) (sectors_seen store es n owns)
+      → flat_map (λ s. sectors_at 8 new s) (sectors_seen chunk store fewer n owns)
+      ≡ flat_map (λ s. sectors_at 8 old s) (sectors_seen chunk store es n owns)
   seen_from n [] at within = refl
   seen_from n (own ∷ owns) at within =
       let none : n + 0 ≡ n = omega arith in
       let own_is : own ≡ get_or base n 0 =
       at 0 (omega arith) ∙ ap (λ (k : ℕ). get_or base k 0) none in
-      let here : sectors_at 8 new (sector_seen store own (view_of fewer n))
-      ≡ sectors_at 8 old (sector_seen store own (view_of es n)) =
-      ap (λ (o : ℕ). sectors_at 8 new (sector_seen store o (view_of fewer n))) own_is
-      ∙ block_seen base store fewer new n fits_fewer
+      let here : sectors_at 8 new (sector_seen store own (stored_at chunk fewer n))
+      ≡ sectors_at 8 old (sector_seen store own (stored_at chunk es n)) =
+      ap (λ (o : ℕ). sectors_at 8 new (sector_seen store o (stored_at chunk fewer n))) own_is
+      ∙ block_seen chunk base store fewer new n fits_fewer
       ∙ same n (omega (arith, within))
-      ∙ sym (block_seen base store es old n fits)
-      ∙ ap (λ (o : ℕ). sectors_at 8 old (sector_seen store o (view_of es n))) (sym own_is) in
+      ∙ sym (block_seen chunk base store es old n fits)
+      ∙ ap (λ (o : ℕ). sectors_at 8 old (sector_seen store o (stored_at chunk es n)))
+      (sym own_is) in
       let rest = seen_from (n + 1) owns
       (λ j below.
       at (suc j) (omega (arith, below))
@@ -69,8 +73,8 @@ module _ (base store : List ℕ) (es fewer : List Exception) (old new : Image)
       (λ i. here i ++ rest i)
 
   -- where each block is seen as before, so is the partition
-  pub seen_same : bytes_at new (sectors_seen store fewer 0 base)
-      ≡ bytes_at old (sectors_seen store es 0 base)
+  pub seen_same : bytes_at new (sectors_seen chunk store fewer 0 base)
+      ≡ bytes_at old (sectors_seen chunk store es 0 base)
   unfolding bytes_at
   seen_same =
       seen_from 0 base
@@ -80,19 +84,20 @@ module _ (base store : List ℕ) (es fewer : List Exception) (old new : Image)
 -- ---- what is written
 
 -- a sector of a merge is one of the partition's blocks, or one of the store's
-pub merged_in : (base store : List ℕ) (es : List Exception) (most s : ℕ)
-    → Fits One (length base) store es
-    → IsMergedSector base store es most s
+pub merged_in : (chunk : Chunk) (base store : List ℕ) (es : List Exception) (most s : ℕ)
+    → Fits chunk (length base) store es
+    → IsMergedSector chunk base store es most s
     → IsOfBlocks base s ⊎ IsOfBlocks store s
-merged_in base store es most s fits is = by_place is.here
+merged_in chunk base store es most s fits is = by_place is.here
   where
-    by_place : InBlockOf base es is.place s ⊎ (s ≡ entry_sector store is.place)
+    by_place : InBlocksOf chunk base es is.place s ⊎ (s ≡ entry_sector chunk store is.place)
         → IsOfBlocks base s ⊎ IsOfBlocks store s
-    by_place (inl here) =
-        inl (in_blocks base _ s (fits.lie is.place is.within).old_chunk here)
+    by_place (inl here) = inl (in_blocks base _ s here.below here.here)
     by_place (inr entry) =
-        let block : ℕ = page_block One ((is.place / 32) / 8) in
-        let below : block < length store = omega (arith, is.within, fits.room) in
+        let page : ℕ = (is.place / 32) / 8 in
+        let block : ℕ = page_block chunk page in
+        let below : block < length store =
+        page_inside chunk (length store) page (omega (arith, is.within, fits.room)) in
         inr (in_blocks store block s below (record {
           from = omega (arith, entry);
           below = omega (arith, entry);

@@ -28,8 +28,8 @@ use Rattle.vab_device.proofs.NamedParts.{all_set}
 cut_image_none : (image : PartImage) → cut_image 0 image ≡ image
 cut_image_none Kept = refl
 cut_image_none Declared = refl
-cut_image_none (Written es) =
-    ap Written (take_all (length es - 0) es (omega arith))
+cut_image_none (Written k es) =
+    ap (Written k) (take_all (length es - 0) es (omega arith))
 
 pub cut_none : (p : Part) → cut_part 0 p ≡ p
 cut_none p = (λ i. record p { image = cut_image_none p.image i })
@@ -38,12 +38,12 @@ cut_image_more : (n : ℕ) (image : PartImage)
     → cut_image n (cut_image 1 image) ≡ cut_image (suc n) image
 cut_image_more n Kept = refl
 cut_image_more n Declared = refl
-cut_image_more n (Written es) =
+cut_image_more n (Written k es) =
     let long : length (take (length es - 1) es) ≡ length es - 1 =
     length-take-le (length es - 1) es (omega arith) in
     let both : length (take (length es - 1) es) - n ≡ length es - suc n = omega (arith, long) in
-    ap (λ (k : ℕ). Written (take k (take (length es - 1) es))) both
-    ∙ ap Written (take-take (length es - suc n) (length es - 1) es (omega arith))
+    ap (λ (m : ℕ). Written k (take m (take (length es - 1) es))) both
+    ∙ ap (Written k) (take-take (length es - suc n) (length es - 1) es (omega arith))
 
 pub cut_more : (n : ℕ) (p : Part) → cut_part n (cut_part 1 p) ≡ cut_part (suc n) p
 cut_more n p = (λ i. record p { image = cut_image_more n p.image i })
@@ -52,7 +52,7 @@ count_cut_image : (n : ℕ) (image : PartImage)
     → count_of (cut_image n image) ≡ count_of image - n
 count_cut_image n Kept = omega arith
 count_cut_image n Declared = omega arith
-count_cut_image n (Written es) = length-take-le (length es - n) es (omega arith)
+count_cut_image n (Written k es) = length-take-le (length es - n) es (omega arith)
 
 pub count_cut : (n : ℕ) (p : Part) → count_of (cut_part n p).image ≡ count_of p.image - n
 count_cut n p = count_cut_image n p.image
@@ -62,10 +62,10 @@ stored_cut : (size n : ℕ) (base : List ℕ) (store : Option (List ℕ)) (image
     → IsStored size base store (cut_image n image)
 stored_cut size n base None Kept is = is
 stored_cut size n base None Declared is = is
-stored_cut size n base None (Written es) is = is
+stored_cut size n base None (Written k es) is = is
 stored_cut size n base (Some store) Kept is = is
 stored_cut size n base (Some store) Declared is = is
-stored_cut size n base (Some store) (Written es) is =
+stored_cut size n base (Some store) (Written k es) is =
     (is.0, take_fits (length base) store es (length es - n) (omega arith) is.1)
 
 part_cut : (size n : ℕ) (p : Part) → IsPart size p → IsPart size (cut_part n p)

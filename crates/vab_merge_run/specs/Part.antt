@@ -5,8 +5,9 @@ use Rattle.vab_disk.specs.Disk.{Adds}
 use Rattle.vab_disk.specs.Calls.{FailsWithDisk, InSectors, IsAtRest, Touches}
 use Rattle.vab_gate.specs.declared.gate.DiskFault.{DiskFault}
 use Rattle.vab_exceptions.specs.declared.area.Exception.{Exception}
-use Rattle.vab_exceptions.specs.Entries.{area_entries}
+use Rattle.vab_space.specs.declared.Chunk.{Chunk}
 use Rattle.vab_space.specs.declared.Chunk.TheVariants.{One}
+use Rattle.vab_space.specs.Chunks.{entries_in}
 use Rattle.vab_store.specs.Scan.{scan_of}
 use Rattle.vab_merge.specs.Run.{IsLongest}
 use Rattle.vab_merge.specs.Merged.{WithoutLast, LeavesMerged, IsMergedSector}
@@ -19,7 +20,13 @@ use Rattle.vab_device.specs.Mounted.{blocks_there}
 abbrev pub exceptions_in : PartImage → List Exception
 exceptions_in Kept = []
 exceptions_in Declared = []
-exceptions_in (Written es) = es
+exceptions_in (Written k es) = es
+
+-- the size of a chunk of that store; where none is read there is nothing to merge
+abbrev pub chunk_in : PartImage → Chunk
+chunk_in Kept = One
+chunk_in Declared = One
+chunk_in (Written k es) = k
 
 -- the blocks of its store
 abbrev pub store_in : Part → List ℕ
@@ -27,7 +34,8 @@ store_in p = blocks_there p.store
 
 -- a scan of the store gives the exceptions that are kept
 abbrev pub IsScanned : Part → (ℕ → List ℕ) → Type 0
-IsScanned p image = scan_of One (store_in p) (length p.map) image ≡ Ok (exceptions_in p.image)
+IsScanned p image =
+    scan_of (chunk_in p.image) (store_in p) (length p.map) image ≡ Ok (exceptions_in p.image)
 
 -- As many of the last exceptions as are a run, at most so many, are merged; the answer counts them.
 pub record RunsPart {D A : Type 0}
@@ -38,18 +46,21 @@ pub record RunsPart {D A : Type 0}
     (old new : D)
     (result : Result A DiskFault) : Type 0 where
   pub some : IfOk result (λ r. 0 < count r)
-  pub longest : IfOk result (λ r. IsLongest area_entries (exceptions_in p.image) most (count r))
+  pub longest : IfOk result
+      (λ r. IsLongest (entries_in (chunk_in p.image)) (exceptions_in p.image) most (count r))
   pub merged : g.is_modelled
       → IsScanned p (g.seen old)
       → IfOk result
-      (λ r. WithoutLast p.map (store_in p) (exceptions_in p.image) (count r) (g.seen old)
-      (g.seen new))
+      (λ r. WithoutLast (chunk_in p.image) p.map (store_in p) (exceptions_in p.image) (count r)
+      (g.seen old) (g.seen new))
   pub rest : g.is_modelled → IsAtRest g old → OnOk result (IsAtRest g new)
   pub time : g.is_modelled
       → IsAtRest g old
       → IsScanned p (g.seen old)
       → Adds g.moment g.outcomes old new
-      (LeavesMerged p.map (store_in p) (exceptions_in p.image) most (g.told old) (g.seen old))
+      (LeavesMerged (chunk_in p.image) p.map (store_in p) (exceptions_in p.image) most
+      (g.told old) (g.seen old))
   pub touches : Touches g
-      (InSectors (IsMergedSector p.map (store_in p) (exceptions_in p.image) most)) old new
+      (InSectors (IsMergedSector (chunk_in p.image) p.map (store_in p) (exceptions_in p.image)
+      most)) old new
   pub faults : FailsWithDisk g old new result

@@ -68,7 +68,7 @@ part_at d place = slice_index_or (own_of d) place no_part
 abbrev pub cut_image : ℕ → PartImage → PartImage
 cut_image n Kept = Kept
 cut_image n Declared = Declared
-cut_image n (Written es) = Written (take (length es - n) es)
+cut_image n (Written k es) = Written k (take (length es - n) es)
 
 abbrev pub cut_part : ℕ → Part → Part
 cut_part n p = record p { image = cut_image n p.image }

@@ -23,7 +23,7 @@ fn has_exceptions(part: &Part) -> bool
     match &part.image {
         PartImage::Kept => false,
         PartImage::Declared => false,
-        PartImage::Written(view) => view.count() > 0,
+        PartImage::Written(_, view) => view.count() > 0,
     }
 }
 

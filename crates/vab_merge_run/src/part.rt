@@ -4,7 +4,7 @@ ghost use Rattle.std.specs.Prelude.{◌≡◌, ◌<◌, length, IfOk, IsSome, Is
 ghost use Rattle.vab_merge.specs.Merged.{CanMerge, MayMerge};
 ghost use Rattle.vab_device.specs.Mounted.{blocks_there};
 ghost use Rattle.vab_merge_run.specs.Turns.{has_exceptions, cut_part};
-ghost use Rattle.vab_merge_run.specs.Part.{exceptions_in, RunsPart};
+ghost use Rattle.vab_merge_run.specs.Part.{chunk_in, exceptions_in, RunsPart};
 
 use vab_device::{Part, PartImage};
 use vab_disk::Disk;
@@ -16,11 +16,11 @@ use vab_merge::{Ran, run_turn};
 pub fn run_part<D: Disk>(d: &mut D, part: &mut Part, most: u64) -> Result<u64, DiskFault>
     requires stored { IsSome part.old.store }
     requires written { IsTrue (has_exceptions part.old) }
-    requires may { MayMerge part.old.map (blocks_there part.old.store)
+    requires may { MayMerge (chunk_in part.old.image) part.old.map (blocks_there part.old.store)
         (exceptions_in part.old.image) (D.size d.old) }
     requires can { D.is_modelled
-        → CanMerge part.old.map (blocks_there part.old.store) (exceptions_in part.old.image)
-        (D.size d.old) }
+        → CanMerge (chunk_in part.old.image) part.old.map (blocks_there part.old.store)
+        (exceptions_in part.old.image) (D.size d.old) }
     requires some { 0 < most }
     ensures kept { IfOk result (λ n. part.new ≡ cut_part n part.old) }
     ensures runs { RunsPart D.Disk part.old (λ n. n) most d.old d.new result }
@@ -32,7 +32,7 @@ pub fn run_part<D: Disk>(d: &mut D, part: &mut Part, most: u64) -> Result<u64, D
     match &mut part.image {
         PartImage::Kept => unreachable!(),
         PartImage::Declared => unreachable!(),
-        PartImage::Written(view) => match run_turn(d, &part.map, store, view, most) {
+        PartImage::Written(chunk, view) => match run_turn(d, &part.map, store, view, most, *chunk) {
             Ok(Ran::Merged(n)) => Ok(n),
             Ok(Ran::Empty) => unreachable!(),
             Err(fault) => Err(fault),

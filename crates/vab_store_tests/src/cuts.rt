@@ -4,6 +4,7 @@ use std::alloc::Global;
 use std::test::*;
 use vab_disk::{Disk, MemPort};
 use vab_merge::{Ran, turn};
+use vab_space::Chunk;
 
 // A sector that is pending, with its settled bytes and those that were written.
 #[derive(Clone, Copy)]
@@ -57,7 +58,7 @@ fn turned(alloc: Global, d: &mut MemPort, pair: &Pair) -> Option<(Ran, u64)> {
     if !pair.lies_on(d) {
         return None;
     }
-    match turn(d, &pair.base, &pair.store, &mut view) {
+    match turn(d, &pair.base, &pair.store, &mut view, pair.chunk) {
         Ok(ran) => Some((ran, view.count())),
         Err(_) => None,
     }
@@ -66,7 +67,7 @@ fn turned(alloc: Global, d: &mut MemPort, pair: &Pair) -> Option<(Ran, u64)> {
 // Blocks 1 and 2 of four stand in a store.
 fn written(alloc: Global, pair: &Pair) -> Result<MemPort, Fail> {
     let mut d = pair.disk(alloc)?;
-    let image = image(alloc, 4)?;
+    let image = image(alloc, 4, 4096)?;
     if !pair.write(&mut d, &[1, 2], &image) {
         return Err("the store is written")?;
     }
@@ -76,7 +77,7 @@ fn written(alloc: Global, pair: &Pair) -> Result<MemPort, Fail> {
 #[test]
 fn a_turn_merges_the_last_exception_until_none_is_left(rt: HostRuntime) -> Result<(), Fail> {
     let alloc = rt.alloc();
-    let pair = Pair::new(alloc, 4, 4)?;
+    let pair = Pair::new(alloc, 4, 4, Chunk::One)?;
     let d = written(alloc, &pair)?;
     let mut d = d.next_run(Vec::new(alloc));
     for (ran, left, syncs) in [
@@ -85,7 +86,7 @@ fn a_turn_merges_the_last_exception_until_none_is_left(rt: HostRuntime) -> Resul
         (Ran::Empty, 0, 4),
     ] {
         assert_eq!(rt; turned(alloc, &mut d, &pair), Some((ran, left)));
-        assert_eq!(rt; pair.count(alloc, &mut d, &[0, 1, 2, 0]), Some(left));
+        assert_eq!(rt; pair.count(alloc, &mut d, &[0, 1, 2, 0], 4096), Some(left));
         assert_eq!(rt; d.syncs(), syncs);
     }
     Ok(())
@@ -95,7 +96,7 @@ fn a_turn_merges_the_last_exception_until_none_is_left(rt: HostRuntime) -> Resul
 #[test]
 fn no_blend_of_a_cut_turn_changes_a_block(rt: HostRuntime) -> Result<(), Fail> {
     let alloc = rt.alloc();
-    let pair = Pair::new(alloc, 4, 4)?;
+    let pair = Pair::new(alloc, 4, 4, Chunk::One)?;
     for (stop, sectors, blends) in [
         (0, 0, 1),
         (1, 1, 2),
@@ -119,9 +120,89 @@ fn no_blend_of_a_cut_turn_changes_a_block(rt: HostRuntime) -> Result<(), Fail> {
             assert!(rt; lay(&mut d, &pending, blend));
             // The entry is gone once its sector has landed.
             let left = if stop == 10 && blend == 1 { 1 } else { 2 };
-            let count = pair.count(alloc, &mut d, &[0, 1, 2, 0]);
+            let count = pair.count(alloc, &mut d, &[0, 1, 2, 0], 4096);
             assert_eq!(rt; count, Some(left), "after {stop} calls, blend {blend}");
         }
     }
+    Ok(())
+}
+
+// Chunks 0 and 1, which are a run, stand in a store. The first sector of each of their blocks holds
+// the block's number.
+fn written_run(alloc: Global, pair: &Pair, blocks: u8) -> Result<MemPort, Fail> {
+    let mut d = pair.disk(alloc)?;
+    let image = image(alloc, blocks, 512)?;
+    if !pair.write(&mut d, &[0, 1], &image) {
+        return Err("the store is written")?;
+    }
+    Ok(d.next_run(Vec::new(alloc)))
+}
+
+// Whether each block reads as it is wanted in each blend of what a run left that was cut behind so
+// many calls. `entries` is the call that zeroes the entries.
+fn holds_when_cut(
+    alloc: Global,
+    pair: &Pair,
+    wanted: &[u8],
+    stop: u64,
+    entries: u64,
+) -> Result<bool, Fail> {
+    let mut d = written_run(alloc, pair, wanted.len().min(255) as u8)?;
+    d.stop_after(stop);
+    if pair.merge(alloc, &mut d, 2).is_some() {
+        return Ok(false);
+    }
+    let mut d = d.next_run(Vec::new(alloc));
+    let pending = pending_sectors(alloc, &mut d)?;
+    for blend in 0..1u32 << pending.len().min(10) {
+        // The entries are gone once their sector has landed.
+        let left = if stop == entries && blend == 1 { 0 } else { 2 };
+        if !lay(&mut d, &pending, blend) || pair.count(alloc, &mut d, wanted, 512) != Some(left) {
+            return Ok(false);
+        }
+    }
+    Ok(true)
+}
+
+// The first cut of a run behind which it isn't so. The calls are: the sectors of the blocks, sync,
+// the sector of the entries, sync.
+fn lost_when_cut(
+    alloc: Global,
+    pair: &Pair,
+    wanted: &[u8],
+    sectors: u32,
+) -> Result<Option<u64>, Fail> {
+    let entries = u64::from(sectors) + 2;
+    for stop in 0..=entries {
+        if !holds_when_cut(alloc, pair, wanted, stop, entries)? {
+            return Ok(Some(stop));
+        }
+    }
+    Ok(None)
+}
+
+// The last chunk has one block of the partition.
+#[test]
+fn no_blend_of_a_cut_run_changes_a_block_in_chunks_of_two(rt: HostRuntime) -> Result<(), Fail> {
+    let alloc = rt.alloc();
+    let pair = Pair::new(alloc, 3, 8, Chunk::Two)?;
+    let wanted = [0, 1, 2];
+    assert_eq!(rt; lost_when_cut(alloc, &pair, &wanted, 24)?, None);
+    let mut d = written_run(alloc, &pair, 3)?;
+    assert_eq!(rt; pair.merge(alloc, &mut d, 2), Some((Ran::Merged(2), 0)));
+    assert_eq!(rt; pair.count(alloc, &mut d, &wanted, 512), Some(0));
+    Ok(())
+}
+
+// The last chunk has two.
+#[test]
+fn no_blend_of_a_cut_run_changes_a_block_in_chunks_of_four(rt: HostRuntime) -> Result<(), Fail> {
+    let alloc = rt.alloc();
+    let pair = Pair::new(alloc, 6, 16, Chunk::Four)?;
+    let wanted = [0, 1, 2, 3, 4, 5];
+    assert_eq!(rt; lost_when_cut(alloc, &pair, &wanted, 48)?, None);
+    let mut d = written_run(alloc, &pair, 6)?;
+    assert_eq!(rt; pair.merge(alloc, &mut d, 2), Some((Ran::Merged(2), 0)));
+    assert_eq!(rt; pair.count(alloc, &mut d, &wanted, 512), Some(0));
     Ok(())
 }

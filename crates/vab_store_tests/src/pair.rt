@@ -2,7 +2,6 @@
 ghost use Rattle.std.specs.Prelude.{◌≡◌, ◌+◌, ◌*◌, ◌<◌, ◌≤◌, ◌^◌, length, IfOk, IfSome, IsTrue};
 ghost use Rattle.std.specs.List.Sorted.{IsStrictlyIncreasing};
 ghost use Rattle.vab_linear.specs.Map.{run_of};
-ghost use Rattle.vab_space.specs.declared.Chunk.TheVariants.{One};
 ghost use Rattle.vab_store.specs.View.{Fits};
 
 use std::alloc::Global;
@@ -13,7 +12,7 @@ use vab_linear::Map;
 use vab_merge::{Ran, run_turn};
 use vab_scan::scan;
 use vab_snapread::read_block;
-use vab_space::{Chunk, need};
+use vab_space::{Chunk, need_at};
 use vab_store::{StoreFault, StoreView, write_store};
 
 /// The partition stands from sector 0 on, and its store right behind it.
@@ -22,10 +21,12 @@ pub(crate) struct Pair {
     pub(crate) base: Map,
     pub(crate) store: Map,
     pub(crate) blocks: u64,
-    pub(crate) chunks: u64,
+    /// Blocks of the store.
+    pub(crate) room: u64,
+    pub(crate) chunk: Chunk,
     ghost base_is: { base ≡ run_of 0 blocks },
-    ghost store_is: { store ≡ run_of (8 * blocks) chunks },
-    ghost small: { 8 * (blocks + chunks) < 2 ^ 50 },
+    ghost store_is: { store ≡ run_of (8 * blocks) room },
+    ghost small: { 8 * (blocks + room) < 2 ^ 50 },
 }
 
 // Blocks that follow one another from a sector on.
@@ -52,64 +53,72 @@ pub(crate) fn ascending(alloc: Global, first: u64, count: u64) -> Result<Vec<u64
     Ok(numbers)
 }
 
-/// An image whose blocks hold their numbers.
-pub(crate) fn image(alloc: Global, blocks: u8) -> Result<Vec<u8>, Fail> {
+/// An image whose blocks begin with so many bytes of their number, and have zeros behind them.
+pub(crate) fn image(alloc: Global, blocks: u8, filled: usize) -> Result<Vec<u8>, Fail> {
     let mut bytes = Vec::new(alloc);
     for block in 0..blocks {
-        for _i in 0..4096u32 {
-            bytes.push(block)?;
+        for byte in begun(block, filled) {
+            bytes.push(byte)?;
         }
     }
     Ok(bytes)
 }
 
+// A block that begins with so many of these bytes, and has zeros behind them.
+fn begun(byte: u8, filled: usize) -> [u8; 4096] {
+    let mut bytes = [0; 4096];
+    bytes[..filled.min(4096)].fill(byte);
+    bytes
+}
+
 impl Pair {
-    /// A partition of so many blocks, and a store of so many chunks.
-    pub(crate) fn new(alloc: Global, blocks: u64, chunks: u64) -> Result<Pair, Fail>
-        requires { 8 * (blocks + chunks) < 2 ^ 50 }
+    /// A partition and a store of so many blocks, with chunks of this size.
+    pub(crate) fn new(alloc: Global, blocks: u64, room: u64, chunk: Chunk) -> Result<Pair, Fail>
+        requires { 8 * (blocks + room) < 2 ^ 50 }
     {
         let base = partition(alloc, 0, blocks)?;
-        let store = partition(alloc, 8 * blocks, chunks)?;
+        let store = partition(alloc, 8 * blocks, room)?;
         Ok(Pair {
             base,
             store,
             blocks,
-            chunks,
+            room,
+            chunk,
         })
     }
 
     /// A disk of zeros for both.
     pub(crate) fn disk(&self, alloc: Global) -> Result<MemPort, Fail> {
-        let sectors = 8 * (self.blocks + self.chunks);
+        let sectors = 8 * (self.blocks + self.room);
         let port = MemPort::new(alloc, sectors, Vec::new(alloc));
         Ok(port.ok().ok_or("there is memory for a disk")?)
     }
 
     /// Whether both lie on the disk.
     pub(crate) fn lies_on(&self, d: &MemPort) -> bool
-        ensures { IsTrue result → 8 * (self.now.blocks + self.now.chunks) ≤ d.now.count }
+        ensures { IsTrue result → 8 * (self.now.blocks + self.now.room) ≤ d.now.count }
     {
-        8 * (self.blocks + self.chunks) <= d.sectors()
+        8 * (self.blocks + self.room) <= d.sectors()
     }
 
-    /// Writes a store for these blocks, and syncs.
+    /// Writes a store for these chunks, and syncs.
     pub(crate) fn write(&self, d: &mut MemPort, olds: &[u64], image: &[u8]) -> bool
         requires { IsStrictlyIncreasing olds.now }
     {
-        if !self.lies_on(d) || need(olds.len() as u64) > self.chunks {
+        if !self.lies_on(d) || need_at(olds.len() as u64, self.chunk) > self.room {
             return false;
         }
-        write_store(d, &self.store, olds, image, Chunk::One).is_ok() && settle(d).is_ok()
+        write_store(d, &self.store, olds, image, self.chunk).is_ok() && settle(d).is_ok()
     }
 
     /// The exceptions of the store.
     pub(crate) fn scan(&self, alloc: Global, d: &mut MemPort) -> Option<StoreView>
-        ensures { IfSome result (Fits One self.now.blocks self.now.store) }
+        ensures { IfSome result (Fits self.now.chunk self.now.blocks self.now.store) }
     {
         if !self.lies_on(d) {
             return None;
         }
-        scan(alloc, d, &self.store, self.blocks, Chunk::One).ok()
+        scan(alloc, d, &self.store, self.blocks, self.chunk).ok()
     }
 
     /// What is wrong with the store, where it lies on the disk.
@@ -117,12 +126,12 @@ impl Pair {
         if !self.lies_on(d) {
             return None;
         }
-        scan(alloc, d, &self.store, self.blocks, Chunk::One).err()
+        scan(alloc, d, &self.store, self.blocks, self.chunk).err()
     }
 
-    // Whether a block that is read through the store holds this byte throughout.
-    fn reads(&self, d: &mut MemPort, view: &StoreView, block: u64, byte: u8) -> bool
-        requires { Fits One self.now.blocks self.now.store view.now }
+    // Whether a block that is read through the store holds these bytes.
+    fn reads(&self, d: &mut MemPort, view: &StoreView, block: u64, wanted: &[u8; 4096]) -> bool
+        requires { Fits self.now.chunk self.now.blocks self.now.store view.now }
     {
         if !self.lies_on(d) || block >= self.blocks {
             return false;
@@ -135,18 +144,24 @@ impl Pair {
             view,
             block,
             &mut bytes,
-            Chunk::One,
+            self.chunk,
         )
         .is_ok()
-            && bytes == [byte; 4096]
+            && bytes == *wanted
     }
 
-    /// How many exceptions a scan gives, where the partition's blocks hold these bytes, each one of
-    /// them throughout.
-    pub(crate) fn count(&self, alloc: Global, d: &mut MemPort, bytes: &[u8]) -> Option<u64> {
+    /// How many exceptions a scan gives, where the partition's blocks begin with so many of these
+    /// bytes, each block with one of them, and have zeros behind them.
+    pub(crate) fn count(
+        &self,
+        alloc: Global,
+        d: &mut MemPort,
+        bytes: &[u8],
+        filled: usize,
+    ) -> Option<u64> {
         let view = self.scan(alloc, d)?;
         for (block, byte) in bytes.iter().enumerate() {
-            if !self.reads(d, &view, block as u64, *byte) {
+            if !self.reads(d, &view, block as u64, &begun(*byte, filled)) {
                 return None;
             }
         }
@@ -161,7 +176,7 @@ impl Pair {
         if !self.lies_on(d) {
             return None;
         }
-        match run_turn(d, &self.base, &self.store, &mut view, most) {
+        match run_turn(d, &self.base, &self.store, &mut view, most, self.chunk) {
             Ok(ran) => Some((ran, view.count())),
             Err(_) => None,
         }

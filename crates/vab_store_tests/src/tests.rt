@@ -28,28 +28,28 @@ fn wanted() -> [u8; 100] {
 #[test]
 fn a_cut_while_entries_are_zeroed_changes_no_block(rt: HostRuntime) -> Result<(), Fail> {
     let alloc = rt.alloc();
-    let pair = Pair::new(alloc, 100, 60)?;
+    let pair = Pair::new(alloc, 100, 60, Chunk::One)?;
     let mut d = pair.disk(alloc)?;
-    let image = image(alloc, 100)?;
+    let image = image(alloc, 100, 4096)?;
     let olds = ascending(alloc, 10, 50)?;
     let wanted = wanted();
     assert!(rt; pair.write(&mut d, &olds, &image));
-    assert_eq!(rt; pair.count(alloc, &mut d, &wanted), Some(50));
+    assert_eq!(rt; pair.count(alloc, &mut d, &wanted, 4096), Some(50));
     assert_eq!(rt; d.sectors(), 1280);
     let full = [d.settled_sector(808), d.settled_sector(809)];
     let syncs = d.syncs();
     let ran = pair.merge(alloc, &mut d, 40);
     assert_eq!(rt; ran, Some((Ran::Merged(40), 10)));
     assert_eq!(rt; d.syncs().wrapping_sub(syncs), 2);
-    assert_eq!(rt; pair.count(alloc, &mut d, &wanted), Some(10));
+    assert_eq!(rt; pair.count(alloc, &mut d, &wanted, 4096), Some(10));
     assert_eq!(rt; d.sectors(), 1280);
     let cleared = d.settled_sector(808);
     // Only the second sector landed.
     assert!(rt; put(&mut d, 808, &full[0]));
-    assert_eq!(rt; pair.count(alloc, &mut d, &wanted), Some(32));
+    assert_eq!(rt; pair.count(alloc, &mut d, &wanted, 4096), Some(32));
     // Only the first did.
     assert!(rt; put(&mut d, 808, &cleared) && put(&mut d, 809, &full[1]));
-    assert_eq!(rt; pair.count(alloc, &mut d, &wanted), Some(10));
+    assert_eq!(rt; pair.count(alloc, &mut d, &wanted, 4096), Some(10));
     Ok(())
 }
 
@@ -118,7 +118,7 @@ fn scanned(
 #[test]
 fn a_full_area_wants_another_behind_it(rt: HostRuntime) -> Result<(), Fail> {
     let alloc = rt.alloc();
-    let pair = Pair::new(alloc, 1, 259)?;
+    let pair = Pair::new(alloc, 1, 259, Chunk::One)?;
     let mut d = pair.disk(alloc)?;
     let no_store = scanned(alloc, &mut d, 8, 259)?;
     assert!(rt; no_store == Err(StoreFault::Header(HeaderFault::BadMagic)));
@@ -149,10 +149,10 @@ fn sector_of(entries: [(u64, u64); 2]) -> [u8; 512] {
 #[test]
 fn entries_that_are_none_are_refused(rt: HostRuntime) -> Result<(), Fail> {
     let alloc = rt.alloc();
-    let pair = Pair::new(alloc, 4, 6)?;
+    let pair = Pair::new(alloc, 4, 6, Chunk::One)?;
     let mut d = pair.disk(alloc)?;
     let olds = ascending(alloc, 0, 2)?;
-    assert!(rt; pair.write(&mut d, &olds, &image(alloc, 4)?));
+    assert!(rt; pair.write(&mut d, &olds, &image(alloc, 4, 4096)?));
     for (entries, fault) in [
         ([(4, 2), (1, 3)], StoreFault::BadChunk(0)),
         ([(0, 1), (1, 3)], StoreFault::BadChunk(0)),

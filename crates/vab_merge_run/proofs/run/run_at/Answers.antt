@@ -5,7 +5,7 @@ use Rattle.std.proofs.lemmas.Bool.{lt-ltb}
 use Rattle.vab_merge.specs.Merged.{MayMerge, CanMerge}
 use Rattle.vab_device.specs.declared.device.Part.{Part}
 use Rattle.vab_device.specs.Mounted.{blocks_there, count_of}
-use Rattle.vab_merge_run.specs.Part.{exceptions_in, RunsPart}
+use Rattle.vab_merge_run.specs.Part.{exceptions_in, chunk_in, RunsPart}
 use Rattle.vab_merge_run.specs.Turns.{part_at, has_exceptions, cut_part, with_own}
 use Rattle.vab_merge_run.proofs.RunLaws.{runs_here, below, some, can, taken_is, counted, failed}
 use Rattle.vab_merge_run.proofs.run.run_at.Goals as goal
@@ -52,7 +52,8 @@ run_part-requires-clause-may g c =
     (below d size place c.requires.kept c.requires.merging c.requires.next)
     (c.into_vec-parts.ensures ∙ c.take_own-rest.ensures.parts) c.index_mut.ensures.value in
     subst
-    (λ (p : Part). MayMerge p.map (blocks_there p.store) (exceptions_in p.image) size)
+    (λ (p : Part).
+    MayMerge (chunk_in p.image) p.map (blocks_there p.store) (exceptions_in p.image) size)
     (sym here)
     (runs_here d size place c.requires.kept c.requires.merging c.requires.next).may
 
@@ -65,7 +66,8 @@ run_part-requires-clause-can g c = λ t.
     (below d size place c.requires.kept c.requires.merging c.requires.next)
     (c.into_vec-parts.ensures ∙ c.take_own-rest.ensures.parts) c.index_mut.ensures.value in
     subst
-    (λ (p : Part). CanMerge p.map (blocks_there p.store) (exceptions_in p.image) size)
+    (λ (p : Part).
+    CanMerge (chunk_in p.image) p.map (blocks_there p.store) (exceptions_in p.image) size)
     (sym here)
     (can d size place c.requires.kept c.requires.merging c.requires.next
     (g.D.Disk.seen c.args.d.now) (c.requires.represents t))

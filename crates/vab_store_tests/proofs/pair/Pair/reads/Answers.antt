@@ -11,7 +11,7 @@ read_block-requires-clause-block c =
 pub read_block-requires-clause-fits : goal.read_block-requires-clause-fits
 read_block-requires-clause-fits c =
     let pair = c.args.self.now in
-    fits_base pair.base pair.store c.args.view.now pair.blocks pair.base_is c.requires
+    fits_base pair.chunk pair.base pair.store c.args.view.now pair.blocks pair.base_is c.requires
 
 pub read_block-requires-clause-base_on_disk : goal.read_block-requires-clause-base_on_disk
 read_block-requires-clause-base_on_disk c =
@@ -21,4 +21,4 @@ read_block-requires-clause-base_on_disk c =
 pub read_block-requires-clause-store_on_disk : goal.read_block-requires-clause-store_on_disk
 read_block-requires-clause-store_on_disk c =
     let pair = c.args.self.now in
-    run_on_disk pair.store (8 * pair.blocks) pair.chunks _ pair.store_is (omega arith)
+    run_on_disk pair.store (8 * pair.blocks) pair.room _ pair.store_is (omega arith)
