@@ -1,5 +1,5 @@
 -- The blocks of a partition's exception store are those of no other partition and store.
-use Rattle.std.proofs.Common.{◌≡◌, ◌≢◌, ◌∙◌, inl, inr, ⊎_elim, ℕ, ◌+◌, ◌<◌}
+use Rattle.std.proofs.Common.{◌≡◌, ◌≢◌, ◌∙◌, inl, inr, ⊎_elim, ℕ, ◌<◌}
 use Rattle.std.proofs.Common.{true, false, List, [], ◌∷◌, ◌++◌, cond, Result, refl, sym}
 use Rattle.std.proofs.Common.{ap, subst, arith}
 use Rattle.std.specs.Prelude.{Bool, Option, Some, None, map, ◌==◌, Contains}
@@ -11,7 +11,6 @@ use Rattle.std.proofs.lemmas.List.Elements.{Contains-append_right}
 use Rattle.vab_marks.specs.declared.status.PartStatus.{PartStatus}
 use Rattle.vab_names.specs.Names.{is_of_slot, is_store, store_of}
 use Rattle.vab_statuses.specs.Statuses.{status_named}
-use Rattle.vab_exceptions.specs.declared.area.Exception.{Exception}
 use Rattle.vab_tables.specs.declared.table.Table.{Table}
 use Rattle.vab_layout.specs.declared.layout.Part.{Part as PartOfLayout}
 use Rattle.vab_layout.specs.declared.layout.Layout.{Layout}
@@ -30,7 +29,7 @@ use Rattle.vab_device.specs.Phases.{store_on, planned_on, planned_image}
 use Rattle.vab_device.specs.Reading.{IsOfBlocks, IsOfParts, IsOfImages, IsOfStores, IsOfWritten}
 use Rattle.vab_device.specs.Reading.{IsOfPlanned, table_for, parts_for}
 use Rattle.vab_device.specs.Stores.{Wanted, Scanned, first_named, wanted_by, wanted_of}
-use Rattle.vab_device.specs.Stores.{exceptions_of}
+use Rattle.vab_device.specs.Stores.{scanned_named}
 use Rattle.vab_device.proofs.Behind.{seen_or}
 use Rattle.vab_device.proofs.PartBlocks.{sectors_apart}
 use Rattle.vab_device.proofs.NamedParts.{named_in}
@@ -186,20 +185,20 @@ module _ (slot : ℕ) (source target : List PartOfLayout) (name : List ℕ) (sto
         sectors_apart at q.blocks store.blocks s (from_store p.name q of h differs) is in_store
 
     written_miss : (l : Layout) (ss : List Scanned) (p : PartOfLayout) (b : Bool)
-        (o : Option (List Exception))
+        (o : Option Scanned)
         → l.parts ≡ target
         → l.device.first_logical_sector ≡ at
         → Contains (own_parts (other_slot slot) target) p
-        → exceptions_of p.name ss ≡ o
-        → exceptions_of name ss ≡ None
+        → scanned_named p.name ss ≡ o
+        → scanned_named name ss ≡ None
         → IsOfWritten (planned_on l ss p) (planned_image b o) s
         → ⊥
     written_miss l ss p false o parts begins c o_is none is = is
     written_miss l ss p true None parts begins c o_is none is = is
-    written_miss l ss p true (Some es) parts begins c o_is none is =
+    written_miss l ss p true (Some r) parts begins c o_is none is =
         let differs : p.name ≢ name =
-        λ same. some_none es (exceptions_of p.name ss) o_is
-        (ap (λ (n : List ℕ). exceptions_of n ss) same ∙ none) in
+        λ same. some_none r (scanned_named p.name ss) o_is
+        (ap (λ (n : List ℕ). scanned_named n ss) same ∙ none) in
         let of : is_of_slot (other_slot slot) p.name ≡ true =
         (of_filter (λ r. is_of_slot (other_slot slot) r.name) target p c).1 in
         ⊎_elim
@@ -214,19 +213,19 @@ module _ (slot : ℕ) (source target : List PartOfLayout) (name : List ℕ) (sto
         (λ there.
         sectors_apart at p.blocks store.blocks s (from_own p c)
         (subst (λ (k : ℕ). IsOfBlocks (sectors_of k p.blocks) s) begins there) in_store)
-        (seen_or (blocks_there (store_on l p.name)) es 0
+        (seen_or r.chunk (blocks_there (store_on l p.name)) r.exceptions 0
         (sectors_of l.device.first_logical_sector p.blocks) s is)
 
     pub planned_miss : (l : Layout) (ss : List Scanned) (parts : List PartOfLayout)
         → l.parts ≡ target
         → l.device.first_logical_sector ≡ at
         → ((p : PartOfLayout) → Contains parts p → Contains (own_parts (other_slot slot) target) p)
-        → exceptions_of name ss ≡ None
+        → scanned_named name ss ≡ None
         → IsOfPlanned (map (planned_on l ss) parts) s
         → ⊥
     planned_miss l ss [] is_target begins within none is = is
     planned_miss l ss (p ∷ ps) is_target begins within none (inl is) =
-        written_miss l ss p (is_updated p) (exceptions_of p.name ss) is_target begins
+        written_miss l ss p (is_updated p) (scanned_named p.name ss) is_target begins
         (within p (first p ps)) refl none is
     planned_miss l ss (p ∷ ps) is_target begins within none (inr is) =
         planned_miss l ss ps is_target begins (λ q c. within q (later p ps q c)) none is

@@ -10,6 +10,7 @@ use Rattle.std.proofs.lemmas.List.Quantifiers.{position-Some}
 use Rattle.std.proofs.lemmas.List.Sums.{fails_before_first}
 use Rattle.std.specs.List.{position_or_len}
 use Rattle.vab_disk.specs.Disk.{Image}
+use Rattle.vab_space.specs.declared.Chunk.{Chunk}
 use Rattle.vab_names.specs.Names.{is_full, base_of}
 use Rattle.vab_layout.specs.Slots.{other_slot}
 use Rattle.vab_model.specs.declared.state.Phase.TheVariants.{Installing}
@@ -35,64 +36,65 @@ use Rattle.vab_flash.specs.Chosen.{place_of, HasPlace, IsChosen, plan_or, planne
 use Rattle.vab_flash.specs.Chosen.{blocks_or, part_named, part_among, part_at}
 
 -- where nothing is planned no update is installed
-unplanned_refuses : (m : Mounted) (staged : Option (List ℕ)) (name : List ℕ) (phase : MarkPhase)
-    (slot left : ℕ)
-    → flash_effect m staged name (unplanned phase slot left) ≡ refuses refusals.NotInstalling
-unplanned_refuses m staged name marks.Idle slot left = refl
-unplanned_refuses m staged name marks.Installing slot left = refl
-unplanned_refuses m staged name marks.Staged slot left = refl
-unplanned_refuses m staged name marks.Merging slot left = refl
-unplanned_refuses m staged name marks.Completed slot left = refl
+unplanned_refuses : (m : Mounted) (staged : Option (List ℕ)) (name : List ℕ) (chunk : Chunk)
+    (phase : MarkPhase) (slot left : ℕ)
+    → flash_effect m staged name chunk (unplanned phase slot left) ≡ refuses refusals.NotInstalling
+unplanned_refuses m staged name chunk marks.Idle slot left = refl
+unplanned_refuses m staged name chunk marks.Installing slot left = refl
+unplanned_refuses m staged name chunk marks.Staged slot left = refl
+unplanned_refuses m staged name chunk marks.Merging slot left = refl
+unplanned_refuses m staged name chunk marks.Completed slot left = refl
 
 pub flash_idle : (d : Device) (image : Image) (staged : Option (List ℕ)) (name : List ℕ)
+    (chunk : Chunk)
     → d.plan ≡ None
-    → effect_on (mounted_on d image) staged (Flash name) ≡ refuses refusals.NotInstalling
+    → effect_on (mounted_on d image) staged (Flash name chunk) ≡ refuses refusals.NotInstalling
 unfolding state_on
-flash_idle d image staged name none =
+flash_idle d image staged name chunk none =
     (λ k.
-    flash_effect (mounted_on d image) staged name
+    flash_effect (mounted_on d image) staged name chunk
     (phase_by d.mark (count_at d.a + count_at d.b) (entries_on image (none k))))
-    ∙ unplanned_refuses (mounted_on d image) staged name d.mark.phase d.mark.slot
+    ∙ unplanned_refuses (mounted_on d image) staged name chunk d.mark.phase d.mark.slot
     (count_at d.a + count_at d.b)
 
 -- of a plan
 pub flash_planned : (d : Device) (image : Image) (staged : Option (List ℕ)) (name : List ℕ)
-    (plan : List Part)
+    (chunk : Chunk) (plan : List Part)
     → d.plan ≡ Some plan
-    → effect_on (mounted_on d image) staged (Flash name)
-    ≡ flash_effect (mounted_on d image) staged name
+    → effect_on (mounted_on d image) staged (Flash name chunk)
+    ≡ flash_effect (mounted_on d image) staged name chunk
     (Installing d.mark.slot (map (entry_on image) plan))
 unfolding state_on
-flash_planned d image staged name plan is =
+flash_planned d image staged name chunk plan is =
     (λ k.
-    flash_effect (mounted_on d image) staged name
+    flash_effect (mounted_on d image) staged name chunk
     (phase_by d.mark (count_at d.a + count_at d.b) (entries_on image (is k))))
 
 pub flash_named : (d : Device) (image : Image) (staged : Option (List ℕ)) (name : List ℕ)
-    (plan : List Part)
+    (chunk : Chunk) (plan : List Part)
     → d.plan ≡ Some plan
     → is_full (other_slot d.mark.slot) name ≡ true
-    → effect_on (mounted_on d image) staged (Flash name)
-    ≡ entry_effect (mounted_on d image) d.mark.slot (map (entry_on image) plan) staged
+    → effect_on (mounted_on d image) staged (Flash name chunk)
+    ≡ entry_effect (mounted_on d image) d.mark.slot (map (entry_on image) plan) chunk staged
     (entry_named (base_of name) (map (entry_on image) plan))
-flash_named d image staged name plan is full =
-    flash_planned d image staged name plan is
+flash_named d image staged name chunk plan is full =
+    flash_planned d image staged name chunk plan is
     ∙ (λ k.
     if full k
-    then entry_effect (mounted_on d image) d.mark.slot (map (entry_on image) plan) staged
+    then entry_effect (mounted_on d image) d.mark.slot (map (entry_on image) plan) chunk staged
     (entry_named (base_of name) (map (entry_on image) plan))
     else refuses refusals.BadName)
 
 pub flash_other : (d : Device) (image : Image) (staged : Option (List ℕ)) (name : List ℕ)
-    (plan : List Part)
+    (chunk : Chunk) (plan : List Part)
     → d.plan ≡ Some plan
     → is_full (other_slot d.mark.slot) name ≡ false
-    → effect_on (mounted_on d image) staged (Flash name) ≡ refuses refusals.BadName
-flash_other d image staged name plan is other =
-    flash_planned d image staged name plan is
+    → effect_on (mounted_on d image) staged (Flash name chunk) ≡ refuses refusals.BadName
+flash_other d image staged name chunk plan is other =
+    flash_planned d image staged name chunk plan is
     ∙ (λ k.
     if other k
-    then entry_effect (mounted_on d image) d.mark.slot (map (entry_on image) plan) staged
+    then entry_effect (mounted_on d image) d.mark.slot (map (entry_on image) plan) chunk staged
     (entry_named (base_of name) (map (entry_on image) plan))
     else refuses refusals.BadName)
 
@@ -147,50 +149,53 @@ no_place image base plan is =
     none_named image base plan (all_fail base plan is)
 
 pub flash_unknown : (d : Device) (image : Image) (staged : Option (List ℕ)) (name : List ℕ)
-    (plan : List Part)
+    (chunk : Chunk) (plan : List Part)
     → d.plan ≡ Some plan
     → is_full (other_slot d.mark.slot) name ≡ true
     → place_of (base_of name) plan ≡ None
-    → effect_on (mounted_on d image) staged (Flash name) ≡ refuses refusals.Unknown
-flash_unknown d image staged name plan is full none =
-    flash_named d image staged name plan is full
-    ∙ ap (entry_effect (mounted_on d image) d.mark.slot (map (entry_on image) plan) staged)
+    → effect_on (mounted_on d image) staged (Flash name chunk) ≡ refuses refusals.Unknown
+flash_unknown d image staged name chunk plan is full none =
+    flash_named d image staged name chunk plan is full
+    ∙ ap (entry_effect (mounted_on d image) d.mark.slot (map (entry_on image) plan) chunk staged)
     (no_place image (base_of name) plan none)
 
 -- of the partition at its place
-pub flash_at : (d : Device) (image : Image) (staged : Option (List ℕ)) (name : List ℕ) (place : ℕ)
+pub flash_at : (d : Device) (image : Image) (staged : Option (List ℕ)) (name : List ℕ)
+    (chunk : Chunk) (place : ℕ)
     → HasPlace d name place
-    → effect_on (mounted_on d image) staged (Flash name)
-    ≡ entry_effect (mounted_on d image) d.mark.slot (map (entry_on image) (plan_or d.plan)) staged
+    → effect_on (mounted_on d image) staged (Flash name chunk)
+    ≡ entry_effect (mounted_on d image) d.mark.slot (map (entry_on image) (plan_or d.plan)) chunk
+    staged
     (Some (entry_on image (planned_at d place)))
-flash_at d image staged name place has =
+flash_at d image staged name chunk place has =
     let plan : List Part = has.plan in
     let is : plan_or d.plan ≡ plan = ap plan_or has.plan_is in
-    let at_plan : effect_on (mounted_on d image) staged (Flash name)
-    ≡ entry_effect (mounted_on d image) d.mark.slot (map (entry_on image) plan) staged
+    let at_plan : effect_on (mounted_on d image) staged (Flash name chunk)
+    ≡ entry_effect (mounted_on d image) d.mark.slot (map (entry_on image) plan) chunk staged
     (Some (entry_on image (get_or plan place no_planned))) =
-    flash_named d image staged name plan has.plan_is has.full
-    ∙ ap (entry_effect (mounted_on d image) d.mark.slot (map (entry_on image) plan) staged)
+    flash_named d image staged name chunk plan has.plan_is has.full
+    ∙ ap (entry_effect (mounted_on d image) d.mark.slot (map (entry_on image) plan) chunk staged)
     (place_named image (base_of name) plan place no_planned has.place_is) in
     subst
     (λ (ps : List Part).
-    effect_on (mounted_on d image) staged (Flash name)
-    ≡ entry_effect (mounted_on d image) d.mark.slot (map (entry_on image) ps) staged
+    effect_on (mounted_on d image) staged (Flash name chunk)
+    ≡ entry_effect (mounted_on d image) d.mark.slot (map (entry_on image) ps) chunk staged
     (Some (entry_on image (get_or ps place no_planned))))
     (sym is) at_plan
 
 pub flash_chosen : (d : Device) (image : Image) (staged : Option (List ℕ)) (name : List ℕ)
-    (place : ℕ) (bytes : List ℕ) (chosen : IsChosen d name staged place bytes)
-    → effect_on (mounted_on d image) staged (Flash name)
+    (chunk : Chunk) (place : ℕ) (bytes : List ℕ) (chosen : IsChosen d name staged place bytes)
+    → effect_on (mounted_on d image) staged (Flash name chunk)
     ≡ if_room (mounted_on d image) d.mark.slot (map (entry_on image) (plan_or d.plan))
-    (entry_on image (planned_at d place)) (length chosen.fits.store) bytes
-    (differences
+    (entry_on image (planned_at d place)) (length chosen.fits.store) chunk
+    bytes
+    (differences chunk
     (source_bytes (state_on d image) d.mark.slot (planned_at d place).name) bytes
     (length (planned_at d place).map))
-flash_chosen d image staged name place bytes chosen =
-    flash_at d image staged name place chosen.has
+flash_chosen d image staged name chunk place bytes chosen =
+    flash_at d image staged name chunk place chosen.has
     ∙ chosen.fits.effect (mounted_on d image) d.mark.slot (map (entry_on image) (plan_or d.plan))
-    image
+    chunk image
 
 -- ---- the source's image
 

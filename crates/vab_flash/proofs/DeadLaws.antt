@@ -27,7 +27,7 @@ use Rattle.vab_device.specs.Mounted.{images_on, entries_on}
 use Rattle.vab_device.specs.Reading.{Read, kept, AgreeCopies, Dead, IsOfTables}
 use Rattle.vab_device.specs.Reading.{IsOfBlocks, IsOfImages, IsOfPlan, mark_in, control_in}
 use Rattle.vab_device.specs.Reading.{geometry_at, tables_in, stores_of, table_for}
-use Rattle.vab_device.specs.Stores.{first_named, scans_in, exceptions_of}
+use Rattle.vab_device.specs.Stores.{first_named, scans_in, scanned_named}
 use Rattle.vab_device.proofs.SameLaws.{mark_same, control_same, geometry_same, tables_agree}
 use Rattle.vab_device.proofs.SameLaws.{images_same}
 use Rattle.vab_device.proofs.StoreLaws.{statuses_kept, stores_kept, plan_kept}
@@ -163,7 +163,7 @@ module _
     (name : List ℕ) (store : PartOfLayout)
     (own : is_of_slot (other_slot i.slot) name ≡ true)
     (found : first_named (store_of name) (layout_of i.target).parts ≡ Some store)
-    (unread : exceptions_of name i.scanned ≡ None) where
+    (unread : scanned_named name i.scanned ≡ None) where
   abbrev first : ℕ
   first = (layout_of i.target).device.first_logical_sector
 

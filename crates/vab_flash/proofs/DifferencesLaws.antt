@@ -1,9 +1,9 @@
--- The blocks that differ from an image's bytes are those that differ from its partition's.
+-- The chunks that differ from an image's bytes are those that differ from its partition's.
 use Rattle.std.proofs.Common.{◌≡◌, ◌∙◌, inl, inr, ℕ, zero, suc, ◌+◌, ◌*◌, ◌/◌, ◌≤◌, ◌<◌, List, []}
 use Rattle.std.proofs.Common.{◌∷◌}
 use Rattle.std.proofs.Common.{◌++◌, length, get_or, take, drop, refl, ap, arith, length-append}
-use Rattle.std.specs.Prelude.{Bool, true, nat_lt, All}
-use Rattle.std.specs.List.{filter, flat_map, range_with_len}
+use Rattle.std.specs.Prelude.{nat_lt, All}
+use Rattle.std.specs.List.{flat_map}
 use Rattle.std.proofs.lemmas.Bool.{cases_Bool, ltb-true}
 use Rattle.std.proofs.lemmas.List.{take_at}
 use Rattle.std.proofs.lemmas.List.Elements.{All-head, All-tail, All-weaker}
@@ -12,6 +12,8 @@ use Rattle.vab_bytes.specs.Number.{field}
 use Rattle.vab_disk.specs.Disk.{Image}
 use Rattle.vab_gate.specs.Gate.{sectors_at}
 use Rattle.vab_copies.proofs.CopyLaws.{length-sectors}
+use Rattle.vab_space.specs.declared.Chunk.{Chunk}
+use Rattle.vab_space.proofs.DifferingLaws.{differing_same}
 use Rattle.vab_store.specs.Layout.{chunk_bytes}
 use Rattle.vab_install.specs.Differing.{differs_at, differing_of}
 use Rattle.vab_device.specs.Mounted.{bytes_at}
@@ -81,31 +83,11 @@ module _ (image : Image) (size : ℕ) (base : List ℕ)
         | inr behind ↦ rw (count, behind) refl
       ]
 
-  -- as many differ from the one as from the other
-  pub differences_are : (staged : List ℕ) (blocks : ℕ)
-      → differences (bytes_at image base) staged blocks
-      ≡ length (differing_of base image staged blocks)
-  unfolding differing_of
-  differences_are staged blocks =
-      (λ j. length (filter (λ i. other_is staged i j) (range_with_len 0 blocks)))
-
--- ---- without blocks
-
-ones : (f : ℕ → Bool) (a n : ℕ)
-    → ((i : ℕ) → f i ≡ true)
-    → length (filter f (range_with_len a n)) ≡ n
-ones f a zero all = refl
-ones f a (suc n) all = rw (all a) (ap suc (ones f (a + 1) n all))
-
-none_there : (image : Image) (staged : List ℕ) (i : ℕ) → differs_at [] image staged i ≡ true
-none_there image staged i = elim (cases_Bool (nat_lt i 0)) [
-  | inl below ↦ absurd (let lt : i < 0 = ltb-true i 0 below in omega (arith, lt))
-  | inr not_below ↦ rw not_below refl
-]
-
--- from a partition without blocks all differ
-pub differing_all : (image : Image) (staged : List ℕ) (blocks : ℕ)
-    → length (differing_of [] image staged blocks) ≡ blocks
-unfolding differing_of
-differing_all image staged blocks =
-    ones (differs_at [] image staged) 0 blocks (none_there image staged)
+  -- as many chunks differ from the one as from the other
+  pub differences_are : (chunk : Chunk) (staged : List ℕ) (blocks : ℕ)
+      → differences chunk (bytes_at image base) staged blocks
+      ≡ length (differing_of chunk base image staged blocks)
+  differences_are chunk staged blocks =
+      ap length
+      (differing_same chunk (is_other (bytes_at image base) staged) (differs_at base image staged)
+      blocks (λ i below. other_is staged i))

@@ -7,14 +7,13 @@ use Rattle.std.proofs.lemmas.Bool.{cases_Bool, leb-false}
 use Rattle.std.proofs.lemmas.List.Elements.{All-get_or, All-head, All-tail}
 use Rattle.std.proofs.lemmas.List.Quantifiers.{position-Some}
 use Rattle.vab_names.specs.Names.{base_of}
-use Rattle.vab_space.specs.Space.{need_of}
 use Rattle.vab_store.specs.Layout.{IsOnDisk}
 use Rattle.vab_device.specs.declared.device.Part.{Part}
 use Rattle.vab_device.specs.declared.device.Device.{Device}
 use Rattle.vab_device.specs.Kept.{IsPart, ArePresent, IsDevice}
 use Rattle.vab_flash.specs.Chosen.{plan_or, planned_at, no_planned, part_named, part_among}
 use Rattle.vab_flash.specs.Chosen.{blocks_or}
-use Rattle.vab_flash.specs.Chosen.{base_of_place, store_at, full_of, HasPlace}
+use Rattle.vab_flash.specs.Chosen.{base_of_place, store_at, HasPlace}
 use Rattle.vab_flash.specs.Touched.{store_named, store_in}
 use Rattle.vab_device.specs.Mounted.{blocks_there}
 
@@ -52,20 +51,7 @@ pub base_on_disk : (d : Device) (size place : ℕ)
 base_on_disk d size place is i below =
     All-get_or (λ s. s + 8 ≤ size) (base_of_place d place) i 0 below (base_all d size place is)
 
--- ---- a store without room
-
-pub full_is : (n store a b : ℕ)
-    → Some (a, b) ≡ full_of n store
-    → (nat_le (need_of n) store ≡ false) × (a ≡ need_of n) × (b ≡ store)
-full_is n store a b is = elim (cases_Bool (nat_le (need_of n) store)) [
-  | inl room ↦
-      let bad : Some (a, b) ≡ None = rw room at is in
-      absurd cc
-  | inr none ↦
-      let same : Some (a, b) ≡ Some (need_of n, store) = rw none at is in
-      let pair : (a, b) ≡ (need_of n, store) = cc in
-      (none, ap (λ (x : ℕ × ℕ). x.0) pair, ap (λ (x : ℕ × ℕ). x.1) pair)
-]
+-- ---- a store with room
 
 pub le_true : (a b : ℕ) → a ≤ b → nat_le a b ≡ true
 le_true a b le = elim (cases_Bool (nat_le a b)) [

@@ -18,7 +18,7 @@ use Rattle.vab_model.specs.declared.state.Phase.TheVariants.{Installing}
 use Rattle.vab_marks.specs.declared.status.PartStatus.{PartStatus}
 use Rattle.vab_statuses.specs.Statuses.{IsOfStatuses, statuses_in, written_in, with_status, free_in}
 use Rattle.vab_exceptions.specs.declared.area.Exception.{Exception}
-use Rattle.vab_space.specs.declared.Chunk.TheVariants.{One}
+use Rattle.vab_space.specs.declared.Chunk.{Chunk}
 use Rattle.vab_store.specs.Scan.{scan_of}
 use Rattle.vab_layout.specs.declared.layout.Part.{Part as PartOfLayout}
 use Rattle.vab_layout.specs.declared.layout.Layout.{Layout}
@@ -41,7 +41,7 @@ use Rattle.vab_device.specs.Reading.{Read, read_table, kept, IsOfWritten, IsOfPl
 use Rattle.vab_device.proofs.StoreLaws.{plan_kept}
 use Rattle.vab_device.specs.Reading.{statuses_read, statuses_at, IsOfBlocks}
 use Rattle.vab_device.specs.Stores.{Wanted, Scanned, first_named, wanted_by, wanted_of, scan_read}
-use Rattle.vab_device.specs.Stores.{scan_at, scans_in, exceptions_of}
+use Rattle.vab_device.specs.Stores.{scan_at, scans_in, scanned_named}
 use Rattle.vab_flash.proofs.JoinLaws.{IsJoined, status_joins, ScansBoth, scans_apart}
 use Rattle.vab_flash.proofs.JoinLaws.{scans_together}
 use Rattle.vab_flash.proofs.JoinLaws.{others_kept, new_found}
@@ -65,10 +65,10 @@ module _
     (name : List ℕ) (part store : PartOfLayout)
     (own : is_of_slot (other_slot i.slot) name ≡ true)
     (found : first_named (store_of name) (layout_of i.target).parts ≡ Some store)
-    (unread : exceptions_of name i.scanned ≡ None)
+    (unread : scanned_named name i.scanned ≡ None)
     (part_is : first_named name (own_parts (other_slot i.slot) (layout_of i.target).parts)
     ≡ Some part)
-    (new : Image) (es : List Exception) (free : ℕ)
+    (new : Image) (chunk : Chunk) (es : List Exception) (free : ℕ)
     (same : (s : ℕ)
     → (IsOfStatuses s → ⊥)
     → (IsOfBlocks
@@ -76,8 +76,9 @@ module _
     → new s ≡ old s)
     (free_is : free_in i.statuses ≡ Some free)
     (joined : statuses_in new
-    ≡ Ok (with_status i.statuses free (record { name = name; count = length es })))
-    (scan : scan_of One (sectors_of (layout_of i.target).device.first_logical_sector store.blocks)
+    ≡ Ok (with_status i.statuses free
+    (record { name = name; count = length es; chunk = chunk })))
+    (scan : scan_of chunk (sectors_of (layout_of i.target).device.first_logical_sector store.blocks)
     (length (sectors_of (layout_of i.target).device.first_logical_sector part.blocks)) new
     ≡ Ok es) where
   abbrev read_was : Read
@@ -91,10 +92,10 @@ module _
   at = layout.device.first_logical_sector
 
   abbrev status : PartStatus
-  status = record { name = name; count = length es }
+  status = record { name = name; count = length es; chunk = chunk }
 
   abbrev one : Scanned
-  one = record { name = name; exceptions = es }
+  one = record { name = name; chunk = chunk; exceptions = es }
 
   abbrev wanted : PartStatus → Result Wanted StartFault
   wanted st = wanted_of (other_slot i.slot) layout st
@@ -103,6 +104,7 @@ module _
     name = name;
     base = sectors_of at part.blocks;
     store = sectors_of at store.blocks;
+    chunk = chunk;
     count = length es;
     fewer = false;
   }) new ≡ Ok one
@@ -113,6 +115,7 @@ module _
         name = name;
         base = sectors_of at part.blocks;
         store = sectors_of at store.blocks;
+        chunk = chunk;
         count = length es;
         fewer = false;
       })) scan
@@ -122,6 +125,7 @@ module _
     name = name;
     base = sectors_of at part.blocks;
     store = sectors_of at store.blocks;
+    chunk = chunk;
     count = length es;
     fewer = false;
   })
@@ -158,18 +162,18 @@ module _
   -- the exceptions of another partition stay
   pub other_exceptions : (other : List ℕ)
       → name ≢ other
-      → exceptions_of other scanned_then ≡ exceptions_of other i.scanned
+      → scanned_named other scanned_then ≡ scanned_named other i.scanned
   unfolding scanned_then
   other_exceptions other differs =
       others_kept other read_both.before read_both.behind one (ne_name name other differs)
-      ∙ ap (exceptions_of other) (sym read_both.both)
+      ∙ ap (scanned_named other) (sym read_both.both)
 
   -- and this one has those
-  pub own_exceptions : exceptions_of name scanned_then ≡ Some es
+  pub own_exceptions : scanned_named name scanned_then ≡ Some one
   unfolding scanned_then
   own_exceptions =
       new_found name read_both.before read_both.behind one (eq_name name name refl)
-      (ap (exceptions_of name) (sym read_both.both) ∙ unread)
+      (ap (scanned_named name) (sym read_both.both) ∙ unread)
 
   -- the device then
   abbrev pub device_then : Device
@@ -254,10 +258,10 @@ module _
       → p.name ≡ name
       → is_updated p ≡ true
       → planned_on layout scanned_then p
-      ≡ record (planned_on layout i.scanned p) { image = Written es }
+      ≡ record (planned_on layout i.scanned p) { image = Written chunk es }
   own_entry p named updated =
-      let es_is : exceptions_of p.name scanned_then ≡ Some es =
-      ap (λ (n : List ℕ). exceptions_of n scanned_then) named ∙ own_exceptions in
+      let es_is : scanned_named p.name scanned_then ≡ Some one =
+      ap (λ (n : List ℕ). scanned_named n scanned_then) named ∙ own_exceptions in
       (λ k. record (planned_on layout i.scanned p) {
         image = planned_image (updated k) (es_is k);
       })
@@ -270,7 +274,7 @@ module _
       → is_updated part ≡ true
       → AllPairs (λ a b. a.name ≢ b.name) (own_parts (other_slot i.slot) layout.parts)
       → set (plan_of (other_slot i.slot) layout i.scanned) k
-      (record (planned_on layout i.scanned part) { image = Written es })
+      (record (planned_on layout i.scanned part) { image = Written chunk es })
       ≡ plan_of (other_slot i.slot) layout scanned_then
   plan_then k d below is named updated differ =
       ap (set (plan_of (other_slot i.slot) layout i.scanned) k) (sym (own_entry part named updated))
@@ -317,7 +321,7 @@ module _
       → Contains (own_parts (other_slot i.slot) layout.parts) p
       → (p ≡ part) ⊎ (p.name ≢ name))
       (bytes : bytes_at new
-      (written_sectors (planned_on layout i.scanned part) es)
+      (written_sectors (planned_on layout i.scanned part) chunk es)
       ≡ filled staged (length (sectors_of at part.blocks))) where
     abbrev written : PlanImage
     written = models.Written (filled staged (length (sectors_of at part.blocks))) (length es)

@@ -22,7 +22,7 @@ use Rattle.vab_marks.specs.declared.status.PartStatus.{PartStatus}
 use Rattle.vab_marks.specs.Status.{status_of, status_spelling}
 use Rattle.vab_statuses.specs.Statuses.{IsOfStatuses, IsFirstFree}
 use Rattle.vab_statuses.proofs.StatusesLaws.{first_is_free}
-use Rattle.vab_space.specs.declared.Chunk.TheVariants.{One}
+use Rattle.vab_space.specs.declared.Chunk.{Chunk}
 use Rattle.vab_store.specs.Layout.{InFirst, IsApart, AreDisjoint}
 use Rattle.vab_store.specs.Scan.{scan_of}
 use Rattle.vab_store.specs.View.{Fits}
@@ -70,57 +70,59 @@ module _ (d : Device) (size : ℕ) (old : Image) (device_is : IsDevice d size)
       (subst (λ (ss : List ℕ). n ≤ length ss) store_is room)
       (subst (λ (ss : List ℕ). SameBut (InSectors (InFirst ss n)) old image) store_is but)
 
-  module _ (whole : (s : ℕ) → s < size → length (old s) ≡ 512)
+  module _ (chunk : Chunk) (whole : (s : ℕ) → s < size → length (old s) ≡ 512)
       (on_disk : All (λ s. s + 8 ≤ size) (base_of_place d place))
       (mid : Image) (es : List Exception) (free : ℕ) (status : PartStatus)
-      (room : needed_at d place old bytes ≤ store_long d place)
-      (es_is : es ≡ planned_of One (differing_at d place old bytes))
-      (fits : Fits One (length (planned_at d place).map) (store_at d place) es)
-      (but : SameBut (InSectors (InFirst (store_at d place) (needed_at d place old bytes))) old mid)
-      (scan : scan_of One (store_at d place) (length (planned_at d place).map) mid ≡ Ok es)
-      (holds : HoldsBlocks (base_of_place d place) (store_at d place) es mid bytes
+      (room : needed_at chunk d place old bytes ≤ store_long d place)
+      (es_is : es ≡ planned_of chunk (differing_at chunk d place old bytes))
+      (fits : Fits chunk (length (planned_at d place).map) (store_at d place) es)
+      (but : SameBut (InSectors (InFirst (store_at d place) (needed_at chunk d place old bytes)))
+      old mid)
+      (scan : scan_of chunk (store_at d place) (length (planned_at d place).map) mid ≡ Ok es)
+      (holds : HoldsBlocks chunk (base_of_place d place) (store_at d place) es mid bytes
       (length (planned_at d place).map))
       (first : IsFirstFree old (Some free))
       (there : IsOfStatuses free)
-      (status_is : status ≡ record { name = name; count = length es })
+      (status_is : status ≡ record { name = name; count = length es; chunk = chunk })
       (read : status_of (status_spelling status) ≡ Ok status) where
     abbrev gated : Image
     gated = set_sector mid free (status_spelling status)
 
-    pub both : (effect_on (mounted_on d old) staged (Flash name)
-        ≡ wanting true (does Done (mounted_on (with_written d place es) gated)))
-        × Represents (with_written d place es) size gated
+    pub both : (effect_on (mounted_on d old) staged (Flash name chunk)
+        ≡ wanting true (does Done (mounted_on (with_written d place chunk es) gated)))
+        × Represents (with_written d place chunk es) size gated
     both =
-        let ready = room_true d size old device_is is name staged place bytes chosen whole on_disk
-        room in
-        let fits_store = subst (λ (ss : List ℕ). Fits One (length (planned_at d place).map) ss es)
+        let ready = room_true d size old device_is is name staged place bytes chosen chunk whole
+        on_disk room in
+        let fits_store = subst (λ (ss : List ℕ). Fits chunk (length (planned_at d place).map) ss es)
         store_is
         fits in
         let but_store = subst
-        (λ (ss : List ℕ). SameBut (InSectors (InFirst ss (needed_at d place old bytes))) old mid)
+        (λ (ss : List ℕ).
+        SameBut (InSectors (InFirst ss (needed_at chunk d place old bytes))) old mid)
         store_is but in
         let scan_store = subst
-        (λ (ss : List ℕ). scan_of One ss (length (planned_at d place).map) mid ≡ Ok es) store_is
+        (λ (ss : List ℕ). scan_of chunk ss (length (planned_at d place).map) mid ≡ Ok es) store_is
         scan in
         let holds_store = subst
         (λ (ss : List ℕ).
-        HoldsBlocks (base_of_place d place) ss es mid bytes (length (planned_at d place).map))
+        HoldsBlocks chunk (base_of_place d place) ss es mid bytes (length (planned_at d place).map))
         store_is holds in
         let decoded : status_of (status_spelling status) ≡ Ok
-        (record { name = name; count = length es }) =
+        (record { name = name; count = length es; chunk = chunk }) =
         read ∙ ap Ok status_is in (
-          effect_next d size old device_is is name staged place bytes chosen whole on_disk mid es
-              free
+          effect_next d size old device_is is name staged place bytes chosen chunk whole on_disk
+              mid es free
               (status_spelling status) ready es_is fits_store but_store scan_store holds_store
               (λ l h. sym (first_is_free old l (Some free) h first)) there decoded,
           subst (λ (k : Device). Represents k size gated)
-              (next_is d size old device_is is name staged place bytes chosen whole on_disk mid es
-              free
+              (next_is d size old device_is is name staged place bytes chosen chunk whole on_disk
+              mid es free
               (status_spelling status) ready es_is fits_store but_store scan_store holds_store
               (λ l h. sym (first_is_free old l (Some free) h first)) there decoded)
-              (represents_next d size old device_is is name staged place bytes chosen whole on_disk
-              mid es
-              free (status_spelling status) ready es_is fits_store but_store scan_store holds_store
+              (represents_next d size old device_is is name staged place bytes chosen chunk whole
+              on_disk mid es free (status_spelling status) ready es_is fits_store but_store
+              scan_store holds_store
               (λ l h. sym (first_is_free old l (Some free) h first)) there decoded),
         )
 
@@ -154,12 +156,12 @@ name_is d name place has =
 -- ---- what is kept then
 
 pub written_kept : (d : Device) (size : ℕ) (name : List ℕ) (staged : Option (List ℕ)) (place : ℕ)
-    (bytes : List ℕ) (es : List Exception)
+    (bytes : List ℕ) (chunk : Chunk) (es : List Exception)
     → IsDevice d size
     → IsChosen d name staged place bytes
-    → Fits One (length (planned_at d place).map) (store_at d place) es
-    → IsDevice (with_written d place es) size
-written_kept d size name staged place bytes es is chosen fits =
+    → Fits chunk (length (planned_at d place).map) (store_at d place) es
+    → IsDevice (with_written d place chunk es) size
+written_kept d size name staged place bytes chunk es is chosen fits =
     let plan_is = chosen.has.plan_is in
     let whole : plan_or d.plan ≡ chosen.has.plan = ap plan_or plan_is in
     let all : AreParts size (plan_or d.plan) =
@@ -168,16 +170,17 @@ written_kept d size name staged place bytes es is chosen fits =
     let old : IsPart size (planned_at d place) = planned_kept d size place is chosen.within in
     let there : blocks_there (planned_at d place).store ≡ chosen.fits.store =
     ap blocks_there chosen.fits.store_is in
-    let one : IsPart size (record (planned_at d place) { image = Written es }) = record {
+    let one : IsPart size (record (planned_at d place) { image = Written chunk es }) = record {
       name = old.name;
       on_disk = old.on_disk;
       once = old.once;
       small = old.small;
       store =
-          subst (λ (o : Option (List ℕ)). IsStored size (planned_at d place).map o (Written es))
+          subst (λ (o : Option (List ℕ)).
+          IsStored size (planned_at d place).map o (Written chunk es))
           (sym chosen.fits.store_is) (
             store_kept size (planned_at d place) chosen.fits.store old chosen.fits.store_is,
-            subst (λ (ss : List ℕ). Fits One (length (planned_at d place).map) ss es) there fits,
+            subst (λ (ss : List ℕ). Fits chunk (length (planned_at d place).map) ss es) there fits,
           );
     } in
     record {
@@ -199,12 +202,12 @@ written_kept d size name staged place bytes es is chosen fits =
       planned = ap (λ (o : Option (List Part)). is_some o) (sym plan_is) ∙ is.planned;
       plan = record {
         each = all_set (IsPart size) (plan_or d.plan) place
-            (record (planned_at d place) { image = Written es }) all.each one;
+            (record (planned_at d place) { image = Written chunk es }) all.each one;
         few = omega (
           arith,
           all.few,
           length-set (plan_or d.plan) place
-              (record (planned_at d place) { image = Written es }),
+              (record (planned_at d place) { image = Written chunk es }),
         );
       };
       update = is.update;
@@ -225,19 +228,21 @@ in_flash d name place n has room s b w = record {
       (first_in (store_at d place) n s room w));
 }
 
-pub status_in_flash : (d : Device) (name : List ℕ) (place free count : ℕ) (status : PartStatus)
+pub status_in_flash : (d : Device) (name : List ℕ) (place free count : ℕ) (chunk : Chunk)
+    (status : PartStatus)
     → HasPlace d name place
     → IsOfStatuses free
-    → status ≡ record { name = name; count = count }
+    → status ≡ record { name = name; count = count; chunk = chunk }
     → (s : ℕ) (b : List ℕ)
     → IsAt free (status_spelling status) s b
     → IsOfFlash d name s b
-status_in_flash d name place free count status has there is s b at = record {
+status_in_flash d name place free count chunk status has there is s b at = record {
   place = place;
   has = has;
   writes = inr (record {
     there = subst IsOfStatuses (sym at.0) there;
     count = count;
+    chunk = chunk;
     is = at.1 ∙ ap status_spelling is;
   });
 }

@@ -1,5 +1,5 @@
 -- One status more, and the store that it names among those that are read.
-use Rattle.std.proofs.Common.{◌≡◌, ◌∙◌, inl, inr, ℕ, zero, suc, ◌+◌, ◌-◌, ◌<◌, List, [], ◌∷◌, ◌++◌}
+use Rattle.std.proofs.Common.{◌≡◌, ◌∙◌, inl, inr, ℕ, zero, suc, ◌-◌, ◌<◌, List, [], ◌∷◌, ◌++◌}
 use Rattle.std.proofs.Common.{length, get_or, set, cond, Result, Ok, Err, refl, sym, ap, subst}
 use Rattle.std.proofs.Common.{arith}
 use Rattle.std.specs.Prelude.{Bool, true, false, Option, Some, None, map}
@@ -9,7 +9,6 @@ use Rattle.vab_disk.specs.Disk.{Image}
 use Rattle.vab_marks.specs.declared.status.PartStatus.{PartStatus}
 use Rattle.vab_statuses.specs.Statuses.{written_in, status_named, with_status, free_in}
 use Rattle.vab_exceptions.specs.declared.area.Exception.{Exception}
-use Rattle.vab_space.specs.declared.Chunk.TheVariants.{One}
 use Rattle.vab_store.specs.declared.fault.StoreFault.{StoreFault}
 use Rattle.vab_store.specs.Scan.{scan_of}
 use Rattle.vab_names.specs.Names.{store_of}
@@ -21,7 +20,7 @@ use Rattle.vab_device.specs.declared.fault.StartFault.TheVariants.{BadStore}
 use Rattle.vab_device.specs.Checks.{◌>>=◌}
 use Rattle.vab_device.specs.Stores.{Wanted, Scanned, first_named, wanted_by, wanted_of, is_long}
 use Rattle.vab_device.specs.Stores.{scan_read}
-use Rattle.vab_device.specs.Stores.{scan_at, scans_in, exceptions_of}
+use Rattle.vab_device.specs.Stores.{scan_at, scans_in, scanned_named}
 use Rattle.vab_device.proofs.CheckLaws.{bound}
 use Rattle.vab_statuses.proofs.StatusesLaws.{IsFreeAt}
 use Rattle.vab_statuses.proofs.StatusesLaws.{free_is}
@@ -130,26 +129,25 @@ scans_together (Ok w ∷ ws) second image before behind one two =
 -- that of another name changes nothing
 pub others_kept : (name : List ℕ) (before behind : List Scanned) (s : Scanned)
     → bytes_eq s.name name ≡ false
-    → exceptions_of name (before ++ s ∷ behind) ≡ exceptions_of name (before ++ behind)
+    → scanned_named name (before ++ s ∷ behind) ≡ scanned_named name (before ++ behind)
 others_kept name [] behind s other = rw other refl
 others_kept name (x ∷ xs) behind s other =
-    ap (cond (bytes_eq x.name name) (Some x.exceptions)) (others_kept name xs behind s other)
+    ap (cond (bytes_eq x.name name) (Some x)) (others_kept name xs behind s other)
 
-test_none : (b : Bool) (es : List Exception) (o : Option (List Exception))
-    → cond b (Some es) o ≡ None
+test_none : (b : Bool) (s : Scanned) (o : Option Scanned)
+    → cond b (Some s) o ≡ None
     → (b ≡ false) × (o ≡ None)
-test_none true es o h = absurd cc
-test_none false es o h = (refl, h)
+test_none true s o h = absurd cc
+test_none false s o h = (refl, h)
 
 -- where none had the name, the one that joins is found
 pub new_found : (name : List ℕ) (before behind : List Scanned) (s : Scanned)
     → bytes_eq s.name name ≡ true
-    → exceptions_of name (before ++ behind) ≡ None
-    → exceptions_of name (before ++ s ∷ behind) ≡ Some s.exceptions
+    → scanned_named name (before ++ behind) ≡ None
+    → scanned_named name (before ++ s ∷ behind) ≡ Some s
 new_found name [] behind s is none = rw is refl
 new_found name (x ∷ xs) behind s is none =
-    let t = test_none (bytes_eq x.name name) x.exceptions (exceptions_of name (xs ++ behind)) none
-    in
+    let t = test_none (bytes_eq x.name name) x (scanned_named name (xs ++ behind)) none in
     let other : bytes_eq x.name name ≡ false = t.0 in
     rw other (new_found name xs behind s is t.1)
 
@@ -161,9 +159,9 @@ taken_name : (w : Wanted) (x : Result (List Exception) StoreFault) (s : Scanned)
 taken_name w (Ok es) s is = elim (cases_Bool (is_long w.fewer w.count (length es))) [
   | inl enough ↦
       let same : (let r : Result Scanned StartFault = Ok
-      (record { name = w.name; exceptions = es }) in r ≡ Ok s) =
+      (record { name = w.name; chunk = w.chunk; exceptions = es }) in r ≡ Ok s) =
       rw enough at is in
-      let e : (record { name = w.name; exceptions = es }) ≡ s = cc in
+      let e : (record { name = w.name; chunk = w.chunk; exceptions = es }) ≡ s = cc in
       sym (ap (λ (x : Scanned). x.name) e)
   | inr few ↦
       let bad : (let r : Result Scanned StartFault = Err (BadStore w.name) in r ≡ Ok s) = rw few at
@@ -176,7 +174,7 @@ taken_name w (Err fault) s is =
 
 scan_name : (w : Wanted) (image : Image) (s : Scanned) → scan_at w image ≡ Ok s → s.name ≡ w.name
 unfolding scan_at
-scan_name w image s is = taken_name w (scan_of One w.store (length w.base) image) s is
+scan_name w image s is = taken_name w (scan_of w.chunk w.store (length w.base) image) s is
 
 -- a status whose store was read is of a partition with a store
 pub record IsStoredBy (slot : ℕ) (l : Layout) (st : PartStatus) : Type 0 where
@@ -207,7 +205,7 @@ wanted_some first st (Some p) (Some q) ws image ss is = (_, refl, refl)
 pub unread_unnamed : (name : List ℕ) (slot : ℕ) (l : Layout) (sts : List PartStatus) (image : Image)
     (ss : List Scanned)
     → scans_in (map (wanted_of slot l) sts) image ≡ Ok ss
-    → exceptions_of name ss ≡ None
+    → scanned_named name ss ≡ None
     → status_named name sts ≡ None
 unread_unnamed name slot l [] image ss is none = refl
 unread_unnamed name slot l (st ∷ sts) image ss is none =
@@ -226,8 +224,8 @@ unread_unnamed name slot l (st ∷ sts) image ss is none =
     let whole : Ok (one.0 ∷ more.0) ≡ Ok ss = more.2 in
     let same : one.0 ∷ more.0 ≡ ss = cc in
     let named : one.0.name ≡ st.name = scan_name w.0 image one.0 one.1 ∙ w.2 in
-    let t = test_none (bytes_eq one.0.name name) one.0.exceptions (exceptions_of name more.0)
-    (ap (exceptions_of name) same ∙ none) in
+    let t = test_none (bytes_eq one.0.name name) one.0 (scanned_named name more.0)
+    (ap (scanned_named name) same ∙ none) in
     let other : bytes_eq st.name name ≡ false =
     ap (λ (n : List ℕ). bytes_eq n name) (sym named) ∙ t.0 in
     rw other (unread_unnamed name slot l sts image more.0 more.1 t.1)

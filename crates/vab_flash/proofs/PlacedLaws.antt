@@ -1,5 +1,5 @@
 -- The partition of the target's table that a planned partition is, and its store.
-use Rattle.std.proofs.Common.{◌≡◌, ◌≢◌, ◌⊎◌, ◌∙◌, ⊎_elim, ℕ, ◌<◌, true, List}
+use Rattle.std.proofs.Common.{◌≡◌, ◌≢◌, ◌∙◌, ⊎_elim, ℕ, ◌<◌, true, List}
 use Rattle.std.proofs.Common.{[], ◌++◌, length, get_or, refl, sym, ap, subst, arith}
 use Rattle.std.specs.Prelude.{Bool, Option, Some, None, map, option_map, Contains, AllPairs}
 use Rattle.std.specs.Str.{bytes_eq}
@@ -10,7 +10,6 @@ use Rattle.std.proofs.lemmas.List.Quantifiers.{position-Some}
 use Rattle.vab_disk.specs.Disk.{Image}
 use Rattle.vab_names.specs.Names.{is_of_slot, base_of, store_of, suffix_of}
 use Rattle.vab_names.proofs.NameLaws.{of_slot}
-use Rattle.vab_exceptions.specs.declared.area.Exception.{Exception}
 use Rattle.vab_layout.specs.declared.layout.Part.{Part as PartOfLayout}
 use Rattle.vab_layout.specs.declared.layout.Layout.{Layout}
 use Rattle.vab_layout.specs.Layout.{layout_of}
@@ -22,7 +21,7 @@ use Rattle.vab_device.specs.declared.device.Part.{Part}
 use Rattle.vab_device.specs.declared.device.Device.{Device}
 use Rattle.vab_device.specs.Kept.{sectors_of, IsDevice}
 use Rattle.vab_device.specs.Phases.{planned_on, planned_image, plan_of}
-use Rattle.vab_device.specs.Stores.{first_named, exceptions_of}
+use Rattle.vab_device.specs.Stores.{Scanned, first_named, scanned_named}
 use Rattle.vab_flash.specs.Chosen.{place_of, HasPlace, IsUnwritten, plan_or, no_planned, planned_at}
 use Rattle.vab_flash.proofs.InstallingLaws.{Installs}
 use Rattle.vab_device.proofs.NamedParts.{named_in}
@@ -39,9 +38,9 @@ some_store : (at : ℕ) (o : Option PartOfLayout) (store : List ℕ)
 some_store at None store is = absurd cc
 some_store at (Some q) store is = (q, refl, let same : sectors_of at q.blocks ≡ store = cc in same)
 
-unwritten_none : (o : Option (List Exception)) → IsUnwritten (planned_image true o) → o ≡ None
+unwritten_none : (o : Option Scanned) → IsUnwritten (planned_image true o) → o ≡ None
 unwritten_none None is = refl
-unwritten_none (Some es) is = absurd is
+unwritten_none (Some s) is = absurd is
 
 updated_of : (slot : ℕ) (source target : List PartOfLayout) (p st : PartOfLayout)
     → IsTargetPart slot source target p
@@ -70,7 +69,7 @@ pub record Placed (d : Device) (size : ℕ) (old : Image) (i : Installs d size o
   pub found : first_named (store_of name) (layout_of i.target).parts ≡ Some keeps
   pub store_is : sectors_of (layout_of i.target).device.first_logical_sector keeps.blocks ≡ store
   pub updated : is_updated part ≡ true
-  pub unread : exceptions_of name i.scanned ≡ None
+  pub unread : scanned_named name i.scanned ≡ None
   pub planned : planned_at d place ≡ planned_on (layout_of i.target) i.scanned part
   pub differ : AllPairs Named (own_parts (other_slot i.slot) (layout_of i.target).parts)
   pub plan_is : plan_or d.plan ≡ plan_of (other_slot i.slot) (layout_of i.target) i.scanned
@@ -166,8 +165,8 @@ module _ (d : Device) (size : ℕ) (old : Image) (i : Installs d size old) (devi
       let updated : is_updated part ≡ true =
       updated_of (other_slot i.slot) (layout_of i.source).parts layout.parts part found.0 rule
       found.1 in
-      let image : IsUnwritten (planned_image true (exceptions_of part.name i.scanned)) =
-      subst (λ (b : Bool). IsUnwritten (planned_image b (exceptions_of part.name i.scanned)))
+      let image : IsUnwritten (planned_image true (scanned_named part.name i.scanned)) =
+      subst (λ (b : Bool). IsUnwritten (planned_image b (scanned_named part.name i.scanned)))
       updated
       (subst (λ (p : Part). IsUnwritten p.image) planned_is unwritten) in
       record {
@@ -186,8 +185,8 @@ module _ (d : Device) (size : ℕ) (old : Image) (i : Installs d size old) (devi
         store_is = found.2;
         updated = updated;
         unread =
-            ap (λ (n : List ℕ). exceptions_of n i.scanned) (sym part_named)
-            ∙ unwritten_none (exceptions_of part.name i.scanned) image;
+            ap (λ (n : List ℕ). scanned_named n i.scanned) (sym part_named)
+            ∙ unwritten_none (scanned_named part.name i.scanned) image;
         planned = planned_is;
         differ = names;
         plan_is = plan_whole;

@@ -9,8 +9,8 @@ use Rattle.vab_disk.specs.Written.{set_there}
 use Rattle.vab_disk.specs.Calls.{IsBetween, InSectors, SameBut}
 use Rattle.std.proofs.lemmas.List.Elements.{All-get_or}
 use Rattle.vab_names.specs.Names.{base_of, in_slot}
-use Rattle.vab_space.specs.Space.{need_of}
-use Rattle.vab_space.specs.declared.Chunk.TheVariants.{One}
+use Rattle.vab_space.specs.declared.Chunk.{Chunk}
+use Rattle.vab_space.specs.Chunks.{need_at}
 use Rattle.vab_store.specs.Layout.{IsApart, AreDisjoint, InFirst}
 use Rattle.vab_layout.specs.Layout.{layout_of}
 use Rattle.vab_layout.specs.Slots.{other_slot, own_parts, blocks_named}
@@ -44,15 +44,15 @@ use Rattle.vab_flash.proofs.GateLaws.{device_then, installs_then, plan_then}
 use Rattle.std.proofs.Common.{set, take}
 use Rattle.std.proofs.lemmas.List.Elements.{All-contains}
 use Rattle.vab_exceptions.proofs.EntryLaws.{length-firsts}
-use Rattle.vab_store.specs.View.{view_of}
+use Rattle.vab_store.specs.View.{stored_at}
 use Rattle.vab_store.specs.Writing.{planned_at as planned_exception}
 use Rattle.vab_layout.specs.Slots.{IsTargetPart, before_of}
 use Rattle.vab_model.specs.declared.state.PlanImage.TheVariants as models
 use Rattle.vab_model.specs.declared.state.Phase.TheVariants.{Installing}
 use Rattle.vab_model.specs.declared.command.Reply.TheVariants as replies
 use Rattle.vab_model.specs.Effects.{does, wanting, unless_refused}
-use Rattle.vab_flash.specs.Chosen.{store_at, needed_at, full_of}
-use Rattle.vab_flash.proofs.FlashLaws.{le_true, full_is}
+use Rattle.vab_flash.specs.Chosen.{store_at, needed_at}
+use Rattle.vab_flash.proofs.FlashLaws.{le_true}
 use Rattle.vab_device.specs.Mounted.{Mounted, bytes_at, written_sectors, blocks_there, state_on}
 use Rattle.vab_device.specs.Stores.{Scanned, sectors_seen}
 use Rattle.vab_device.specs.Updates.{filled, with_image}
@@ -62,7 +62,7 @@ use Rattle.vab_flash.proofs.FilledLaws.{bytes_filled}
 use Rattle.vab_flash.proofs.GateLaws.{mounted_then}
 use Rattle.vab_device.proofs.NamedParts.{one_of_name}
 use Rattle.vab_flash.proofs.SourceLaws.{begins_same, behind_end}
-use Rattle.std.proofs.lemmas.Bool.{leb-true}
+use Rattle.std.proofs.lemmas.Bool.{leb-true, lt-leb}
 use Rattle.vab_device.specs.declared.device.Part.{Part}
 use Rattle.vab_device.specs.declared.device.Device.{Device}
 use Rattle.vab_device.specs.declared.fault.StartFault.{StartFault}
@@ -110,7 +110,7 @@ store_kept size p store is has = by_image p.image (subst (λ o. IsStored size p.
         → IsStore size store
     by_image Kept s = s
     by_image Declared s = s
-    by_image (Written es) s = s.0
+    by_image (Written chunk es) s = s.0
 
 -- ---- a sector of the first blocks
 
@@ -238,38 +238,38 @@ module _ (d : Device) (size : ℕ) (old : Image) (device_is : IsDevice d size)
       ∙ device_stands d size old is
 
   -- what is left to ask is whether the store has room for the blocks that differ
-  module _ (whole : (s : ℕ) → s < size → length (old s) ≡ 512)
+  module _ (chunk : Chunk) (whole : (s : ℕ) → s < size → length (old s) ≡ 512)
       (on_disk : All (λ s. s + 8 ≤ size) (base_of_place d place)) where
     abbrev pub n : ℕ
-    n = length (differing_at d place old bytes)
+    n = length (differing_at chunk d place old bytes)
 
-    pub effect_is : effect_on (mounted_on d old) staged (Flash name)
+    pub effect_is : effect_on (mounted_on d old) staged (Flash name chunk)
         ≡ if_room (mounted_on d old) d.mark.slot (map (entry_on old) (plan_or d.plan))
-        (entry_on old (planned_at d place)) (length chosen.fits.store) bytes n
+        (entry_on old (planned_at d place)) (length chosen.fits.store) chunk bytes n
     effect_is =
-        flash_chosen d old staged name place bytes chosen
+        flash_chosen d old staged name chunk place bytes chosen
         ∙ ap
         (if_room (mounted_on d old) d.mark.slot (map (entry_on old) (plan_or d.plan))
-        (entry_on old (planned_at d place)) (length chosen.fits.store) bytes)
+        (entry_on old (planned_at d place)) (length chosen.fits.store) chunk bytes)
         (ap (λ (source : List ℕ).
-        differences source bytes (length (planned_at d place).map))
+        differences chunk source bytes (length (planned_at d place).map))
         (source_is d old (planned_at d place).name direct)
-        ∙ differences_are old size (base_of_place d place) whole on_disk bytes
+        ∙ differences_are old size (base_of_place d place) whole on_disk chunk bytes
         (length (planned_at d place).map))
 
-    pub effect_full : nat_le (need_of n) (length chosen.fits.store) ≡ false
-        → effect_on (mounted_on d old) staged (Flash name)
-        ≡ refuses (StoreFull (need_of n) (length chosen.fits.store))
+    pub effect_full : nat_le (need_at n chunk) (length chosen.fits.store) ≡ false
+        → effect_on (mounted_on d old) staged (Flash name chunk)
+        ≡ refuses (StoreFull (need_at n chunk) (length chosen.fits.store))
     effect_full none =
         effect_is
         ∙ (λ k.
         if none k
         then flashed (mounted_on d old) d.mark.slot (map (entry_on old) (plan_or d.plan))
         (entry_on old (planned_at d place)) bytes n
-        else refuses (StoreFull (need_of n) (length chosen.fits.store)))
+        else refuses (StoreFull (need_at n chunk) (length chosen.fits.store)))
 
-    pub effect_room : nat_le (need_of n) (length chosen.fits.store) ≡ true
-        → effect_on (mounted_on d old) staged (Flash name)
+    pub effect_room : nat_le (need_at n chunk) (length chosen.fits.store) ≡ true
+        → effect_on (mounted_on d old) staged (Flash name chunk)
         ≡ flashed (mounted_on d old) d.mark.slot (map (entry_on old) (plan_or d.plan))
         (entry_on old (planned_at d place)) bytes n
     effect_room room =
@@ -278,31 +278,32 @@ module _ (d : Device) (size : ℕ) (old : Image) (device_is : IsDevice d size)
         if room k
         then flashed (mounted_on d old) d.mark.slot (map (entry_on old) (plan_or d.plan))
         (entry_on old (planned_at d place)) bytes n
-        else refuses (StoreFull (need_of n) (length chosen.fits.store)))
+        else refuses (StoreFull (need_at n chunk) (length chosen.fits.store)))
 
     -- ---- behind the gate
 
     module _ (mid : Image) (es : List Exception) (free : ℕ) (spelled : List ℕ)
-        (room : nat_le (need_of n) (length chosen.fits.store) ≡ true)
-        (es_is : es ≡ planned_of One (differing_at d place old bytes))
-        (fits : Fits One (length (planned_at d place).map) chosen.fits.store es)
-        (but : SameBut (InSectors (InFirst chosen.fits.store (need_of n))) old mid)
-        (scan : scan_of One chosen.fits.store (length (planned_at d place).map) mid ≡ Ok es)
-        (holds : HoldsBlocks (base_of_place d place) chosen.fits.store es mid bytes
+        (room : nat_le (need_at n chunk) (length chosen.fits.store) ≡ true)
+        (es_is : es ≡ planned_of chunk (differing_at chunk d place old bytes))
+        (fits : Fits chunk (length (planned_at d place).map) chosen.fits.store es)
+        (but : SameBut (InSectors (InFirst chosen.fits.store (need_at n chunk))) old mid)
+        (scan : scan_of chunk chosen.fits.store (length (planned_at d place).map) mid ≡ Ok es)
+        (holds : HoldsBlocks chunk (base_of_place d place) chosen.fits.store es mid bytes
         (length (planned_at d place).map))
         (free_is : (statuses : List (Option PartStatus))
         → statuses_in old ≡ Ok statuses
         → free_in statuses ≡ Some free)
         (there : IsOfStatuses free)
-        (decoded : status_of spelled ≡ Ok (record { name = name; count = length es })) where
+        (decoded : status_of spelled
+        ≡ Ok (record { name = name; count = length es; chunk = chunk })) where
       abbrev pub gated : Image
       gated = set_sector mid free spelled
 
       abbrev store_sectors : List ℕ
       store_sectors = sectors_of at p.keeps.blocks
 
-      long_enough : need_of n ≤ length chosen.fits.store
-      long_enough = leb-true (need_of n) (length chosen.fits.store) room
+      long_enough : need_at n chunk ≤ length chosen.fits.store
+      long_enough = leb-true (need_at n chunk) (length chosen.fits.store) room
 
       -- sectors that are neither the store's nor a status
       mid_same : (s : ℕ) → (IsOfBlocks store_sectors s → ⊥) → mid s ≡ old s
@@ -310,7 +311,7 @@ module _ (d : Device) (size : ℕ) (old : Image) (device_is : IsDevice d size)
           ⊎_elim (λ same. same)
           (λ w.
           absurd (not (subst (λ (ss : List ℕ). IsOfBlocks ss s) (sym p.store_is)
-          (first_in chosen.fits.store (need_of n) s long_enough w))))
+          (first_in chosen.fits.store (need_at n chunk) s long_enough w))))
           (but s)
 
       stay : (s : ℕ) → (IsOfStatuses s → ⊥) → (IsOfBlocks store_sectors s → ⊥) → gated s ≡ old s
@@ -337,9 +338,11 @@ module _ (d : Device) (size : ℕ) (old : Image) (device_is : IsDevice d size)
           (ap (λ v. statuses_read (statuses_under v old)) (sym i.version) ∙ i.reads.statuses)
 
       joined : statuses_in gated
-          ≡ Ok (with_status i.statuses free (record { name = name; count = length es }))
+          ≡ Ok (with_status i.statuses free
+          (record { name = name; count = length es; chunk = chunk }))
       joined =
-          statuses_put mid spelled i.statuses free (record { name = name; count = length es })
+          statuses_put mid spelled i.statuses free
+          (record { name = name; count = length es; chunk = chunk })
           (statuses_same old mid
           (λ s is.
           mid_same s
@@ -353,42 +356,43 @@ module _ (d : Device) (size : ℕ) (old : Image) (device_is : IsDevice d size)
       part_long : length (planned_at d place).map ≡ length (sectors_of at p.part.blocks)
       part_long = ap (λ (x : Part). length x.map) p.planned
 
-      scan_then : scan_of One store_sectors (length (sectors_of at p.part.blocks)) gated ≡ Ok es
+      scan_then : scan_of chunk store_sectors (length (sectors_of at p.part.blocks)) gated ≡ Ok es
       scan_then =
-          scan_kept store_sectors mid gated
+          scan_kept chunk store_sectors mid gated
           (λ s here. high_stays s (omega (arith, block_behind at p.keeps.blocks s here)))
           (length (sectors_of at p.part.blocks)) es
-          (ap (λ (ss : List ℕ). scan_of One ss (length (sectors_of at p.part.blocks)) mid)
+          (ap (λ (ss : List ℕ). scan_of chunk ss (length (sectors_of at p.part.blocks)) mid)
           p.store_is
-          ∙ ap (λ (k : ℕ). scan_of One chosen.fits.store k mid) (sym part_long)
+          ∙ ap (λ (k : ℕ). scan_of chunk chosen.fits.store k mid) (sym part_long)
           ∙ scan)
 
       pub next : Device
       next = device_then d size old i device_is name p.part p.keeps p.own p.found p.unread p.part_is
-          gated es free stay (free_is i.statuses statuses_were) joined scan_then
+          gated chunk es free stay (free_is i.statuses statuses_were) joined scan_then
 
       pub represents_next : Represents next size gated
       unfolding next
       represents_next =
           installs_represents next size gated
           (installs_then d size old i device_is name p.part p.keeps p.own p.found p.unread p.part_is
-          gated es free stay (free_is i.statuses statuses_were) joined scan_then)
+          gated chunk es free stay (free_is i.statuses statuses_were) joined scan_then)
 
       -- it is what is kept
-      pub next_is : next ≡ with_written d place es
+      pub next_is : next ≡ with_written d place chunk es
       unfolding next
       next_is =
           ap (λ (plan : List Part). record d { plan = Some plan })
           (sym (plan_then d size old i device_is name p.part p.keeps p.own p.found p.unread
           p.part_is
-          gated es free stay (free_is i.statuses statuses_were) joined scan_then place p.part
+          gated chunk es free stay (free_is i.statuses statuses_were) joined scan_then place p.part
           p.within
           (p.at_place p.part) p.named p.updated p.differ)
           ∙ ap (λ (x : Part).
           set (plan_of (other_slot i.slot) (layout_of i.target) i.scanned) place
-          (record x { image = Written es })) (sym p.planned)
+          (record x { image = Written chunk es })) (sym p.planned)
           ∙ ap (λ (plan : List Part).
-          set plan place (record (planned_at d place) { image = Written es })) (sym p.plan_is))
+          set plan place (record (planned_at d place) { image = Written chunk es }))
+          (sym p.plan_is))
 
       -- ---- what it means
 
@@ -429,20 +433,19 @@ module _ (d : Device) (size : ℕ) (old : Image) (device_is : IsDevice d size)
           → get_or (sectors_of at p.part.blocks) j 0 ≡ get_or base j 0) (sym base_is)
           (begins_same at p.part.blocks source begins))
 
-      bytes_mid : bytes_at mid (sectors_seen chosen.fits.store es 0 (planned_at d place).map)
+      bytes_mid : bytes_at mid (sectors_seen chunk chosen.fits.store es 0 (planned_at d place).map)
           ≡ filled bytes (length (planned_at d place).map)
       bytes_mid =
-          bytes_filled (base_of_place d place) (planned_at d place).map chosen.fits.store bytes es
-          mid
-          fits begin_there
+          bytes_filled chunk (base_of_place d place) (planned_at d place).map chosen.fits.store
+          bytes es mid fits begin_there
           (λ j below past none.
-          behind_end (base_of_place d place) bytes old (length (planned_at d place).map) j below
-          past
-          (ap (λ (l : List Exception). view_of l j) (sym es_is) ∙ none))
+          behind_end chunk (base_of_place d place) bytes old (length (planned_at d place).map) j
+          below past
+          (ap (λ (l : List Exception). stored_at chunk l j) (sym es_is) ∙ none))
           holds
 
       seen_high : (s : ℕ)
-          → IsOfBlocks (sectors_seen chosen.fits.store es 0 (planned_at d place).map) s
+          → IsOfBlocks (sectors_seen chunk chosen.fits.store es 0 (planned_at d place).map) s
           → 4096 ≤ s
       seen_high s there =
           ⊎_elim
@@ -458,38 +461,39 @@ module _ (d : Device) (size : ℕ) (old : Image) (device_is : IsDevice d size)
             block_behind at p.part.blocks s
                 (subst (λ (ss : List ℕ). IsOfBlocks ss s) map_is own),
           ))
-          (seen_or chosen.fits.store es 0 (planned_at d place).map s there)
+          (seen_or chunk chosen.fits.store es 0 (planned_at d place).map s there)
 
-      bytes_then : bytes_at gated (written_sectors (planned_at d place) es)
+      bytes_then : bytes_at gated (written_sectors (planned_at d place) chunk es)
           ≡ filled bytes (length (planned_at d place).map)
       bytes_then =
           ap (λ (o : Option (List ℕ)).
-          bytes_at gated (sectors_seen (blocks_there o) es 0 (planned_at d place).map))
+          bytes_at gated (sectors_seen chunk (blocks_there o) es 0 (planned_at d place).map))
           chosen.fits.store_is
-          ∙ bytes_same mid gated (sectors_seen chosen.fits.store es 0 (planned_at d place).map)
+          ∙ bytes_same mid gated
+          (sectors_seen chunk chosen.fits.store es 0 (planned_at d place).map)
           (λ s is. high_stays s (seen_high s is))
           ∙ bytes_mid
 
       count_is : length es ≡ n
       count_is =
           ap length es_is
-          ∙ length-firsts (planned_exception One (differing_at d place old bytes))
-          (length (differing_at d place old bytes))
+          ∙ length-firsts (planned_exception chunk (differing_at chunk d place old bytes))
+          (length (differing_at chunk d place old bytes))
 
-      pub effect_next : effect_on (mounted_on d old) staged (Flash name)
-          ≡ wanting true (does replies.Done (mounted_on (with_written d place es) gated))
+      pub effect_next : effect_on (mounted_on d old) staged (Flash name chunk)
+          ≡ wanting true (does replies.Done (mounted_on (with_written d place chunk es) gated))
       unfolding next
       effect_next =
           let means = mounted_then d size old i device_is name p.part p.keeps p.own p.found p.unread
-          p.part_is gated es free stay (free_is i.statuses statuses_were) joined scan_then bytes
-          p.named p.updated
+          p.part_is gated chunk es free stay (free_is i.statuses statuses_were) joined scan_then
+          bytes p.named p.updated
           (λ q c.
           ⊎_elim (λ same. inl same) (λ differs. inr (λ e. differs (e ∙ sym p.named)))
           (one_of_name (own_parts (other_slot i.slot) (layout_of i.target).parts) q p.part p.differ
           c
           p.there))
           (subst (λ (x : Part).
-          bytes_at gated (written_sectors x es) ≡ filled bytes (length x.map)) p.planned
+          bytes_at gated (written_sectors x chunk es) ≡ filled bytes (length x.map)) p.planned
           bytes_then) in
           let name_is : (planned_at d place).name ≡ base_of name =
           ap (λ (x : Part). x.name) p.planned ∙ ap base_of p.named in
@@ -509,26 +513,28 @@ module _ (d : Device) (size : ℕ) (old : Image) (device_is : IsDevice d size)
     store_is : store_at d place ≡ chosen.fits.store
     store_is = ap blocks_there chosen.fits.store_is
 
-    pub room_true : needed_at d place old bytes ≤ store_long d place
-        → nat_le (need_of n) (length chosen.fits.store) ≡ true
+    pub room_true : needed_at chunk d place old bytes ≤ store_long d place
+        → nat_le (need_at n chunk) (length chosen.fits.store) ≡ true
     room_true room =
-        le_true (need_of n) (length chosen.fits.store)
-        (subst (λ (ss : List ℕ). need_of n ≤ length ss) store_is room)
+        le_true (need_at n chunk) (length chosen.fits.store)
+        (subst (λ (ss : List ℕ). need_at n chunk ≤ length ss) store_is room)
 
     -- where memory is refused to it
-    pub no_memory : needed_at d place old bytes ≤ store_long d place
-        → unless_refused true (effect_on (mounted_on d old) staged (Flash name))
+    pub no_memory : needed_at chunk d place old bytes ≤ store_long d place
+        → unless_refused true (effect_on (mounted_on d old) staged (Flash name chunk))
         ≡ refuses NoMemory
     no_memory room = ap (unless_refused true) (effect_room (room_true room))
 
     -- where the store has no room
-    pub full_refused : (needed have : ℕ)
-        → Some (needed, have) ≡ full_of n (store_long d place)
-        → effect_on (mounted_on d old) staged (Flash name) ≡ refuses (StoreFull needed have)
-    full_refused needed have is =
-        let full = full_is n (store_long d place) needed have is in
-        let long : store_long d place ≡ length chosen.fits.store = ap length store_is in
-        let none : nat_le (need_of n) (length chosen.fits.store) ≡ false =
-        ap (nat_le (need_of n)) (sym long) ∙ full.0 in
-        effect_full none
-        ∙ (λ k. refuses (StoreFull (sym full.1 k) (sym (full.2 ∙ long) k)))
+    pub full_refused : (count : ℕ)
+        → count ≡ n
+        → store_long d place < need_at count chunk
+        → effect_on (mounted_on d old) staged (Flash name chunk)
+        ≡ refuses (StoreFull (need_at count chunk) (store_long d place))
+    full_refused count is more =
+        let long : length chosen.fits.store ≡ store_long d place = sym (ap length store_is) in
+        let needed : need_at n chunk ≡ need_at count chunk =
+        ap (λ (m : ℕ). need_at m chunk) (sym is) in
+        let none : nat_le (need_at n chunk) (length chosen.fits.store) ≡ false =
+        lt-leb (need_at n chunk) (length chosen.fits.store) (omega (arith, long, needed, more)) in
+        effect_full none ∙ (λ j. refuses (StoreFull (needed j) (long j)))

@@ -5,19 +5,20 @@ use Rattle.std.proofs.Common.{arith}
 use Rattle.std.specs.Prelude.{None, map, Contains, AllPairs, nat_lt}
 use Rattle.std.specs.Str.{bytes_eq}
 use Rattle.std.proofs.lemmas.Bool.{cases_Bool, cases_lt, ltb-true}
-use Rattle.std.proofs.lemmas.List.{get_or-take}
+use Rattle.std.proofs.lemmas.List.{get_or-take, get_or_default}
 use Rattle.vab_disk.specs.Disk.{Image}
 use Rattle.vab_names.specs.Names.{is_of_slot, base_of, in_slot, suffix_of}
 use Rattle.vab_names.proofs.NameLaws.{of_slot, base_of-append}
 use Rattle.vab_exceptions.specs.declared.area.Exception.{Exception}
-use Rattle.vab_space.specs.declared.Chunk.TheVariants.{One}
+use Rattle.vab_space.specs.declared.Chunk.{Chunk}
+use Rattle.vab_space.specs.Chunks.{chunk_at}
+use Rattle.vab_space.proofs.DifferingLaws.{differing_has}
 use Rattle.vab_store.specs.Layout.{IsApart}
-use Rattle.vab_store.specs.View.{view_of, exception_at}
+use Rattle.vab_store.specs.View.{view_of, stored_at, exception_at}
 use Rattle.vab_store.specs.Writing.{planned_of, planned_at}
 use Rattle.vab_store.proofs.ViewLaws.{view_out}
 use Rattle.vab_store.proofs.WrittenLaws.{planned_of-at}
-use Rattle.vab_install.specs.Differing.{differing_of}
-use Rattle.vab_install.proofs.DifferingLaws.{StandsIn, differing_has}
+use Rattle.vab_install.specs.Differing.{differs_at, differing_of}
 use Rattle.vab_exceptions.proofs.EntryLaws.{length-firsts}
 use Rattle.vab_layout.specs.declared.layout.Part.{Part as PartOfLayout}
 use Rattle.vab_layout.specs.Slots.{own_parts, blocks_named}
@@ -26,6 +27,7 @@ use Rattle.vab_blocks.proofs.Contained.{first as first_of, later}
 use Rattle.vab_names.proofs.NameCases.{same_name, ne_name, eq_name, other_name, in_slot_is}
 use Rattle.vab_device.specs.Kept.{block_sector, sectors_of, part_on}
 use Rattle.vab_flash.specs.Chosen.{blocks_or, part_named}
+use Rattle.vab_flash.proofs.FilledLaws.{no_chunk}
 use Rattle.vab_device.proofs.PartBlocks.{sector_at, sectors_long}
 
 -- ---- where blocks stand
@@ -132,21 +134,27 @@ begins_same at own base same i in_own in_base =
     ∙ get_or-take (length own) base i 0 own_below in
     sector_at at own i own_below ∙ ap (block_sector at) one ∙ sym (sector_at at base i base_below)
 
--- behind the end of the source's partition each block has an exception
-pub behind_end : (base staged : List ℕ) (image : Image) (blocks i : ℕ)
+-- behind the end of the source's partition the chunk of each block has an exception
+pub behind_end : (chunk : Chunk) (base staged : List ℕ) (image : Image) (blocks i : ℕ)
     → i < blocks
     → length base ≤ i
-    → view_of (planned_of One (differing_of base image staged blocks)) i ≡ None
+    → stored_at chunk (planned_of chunk (differing_of chunk base image staged blocks)) i ≡ None
     → ⊥
-behind_end base staged image blocks i below past none =
-    let olds : List ℕ = differing_of base image staged blocks in
-    let stands : StandsIn olds i = differing_has base image staged blocks i below
-    (elim (cases_Bool (nat_lt i (length base))) [
+behind_end chunk base staged image blocks i below past none =
+    let olds : List ℕ = differing_of chunk base image staged blocks in
+    let es : List Exception = planned_of chunk olds in
+    let differs : differs_at base image staged i ≡ true =
+    elim (cases_Bool (nat_lt i (length base))) [
       | inl inside ↦ absurd (omega (arith, ltb-true i (length base) inside, past))
       | inr past ↦ rw past refl
-    ]) in
-    let is : exception_at (planned_of One olds) stands.place ≡ planned_at One olds stands.place =
-    planned_of-at One olds stands.place stands.within in
-    view_out (planned_of One olds) i none stands.place
-    (omega (arith, stands.within, length-firsts (planned_at One olds) (length olds)))
-    (ap (λ (e : Exception). e.old_chunk) is ∙ stands.is)
+    ] in
+    let has : Contains olds (chunk_at chunk i) =
+    differing_has chunk (differs_at base image staged) blocks i below differs in
+    let is : exception_at es has.0 ≡ planned_at chunk olds has.0 =
+    planned_of-at chunk olds has.0 has.1 in
+    view_out es (chunk_at chunk i)
+    (no_chunk chunk es i (view_of es (chunk_at chunk i)) refl none) has.0
+    (omega (arith, has.1, length-firsts (planned_at chunk olds) (length olds)))
+    (ap (λ (e : Exception). e.old_chunk) is
+    ∙ get_or_default olds has.0 0 (chunk_at chunk i) has.1
+    ∙ has.2)

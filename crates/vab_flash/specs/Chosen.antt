@@ -1,10 +1,12 @@
 -- The planned partition that an image is for, and the bytes that are staged for it.
 use Rattle.std.specs.Prelude.{◌≡◌, ℕ, ◌*◌, ◌≤◌, true, List, [], ◌∷◌, length, slice_index_or}
-use Rattle.std.specs.Prelude.{slice_set}
-use Rattle.std.specs.Prelude.{position, Option, Some, None, if◌then◌else◌, ◌==◌, ◌<◌, nat_le}
+use Rattle.std.specs.Prelude.{slice_set, All}
+use Rattle.std.specs.Prelude.{position, Option, Some, None, if◌then◌else◌, ◌==◌, ◌<◌}
+use Rattle.std.specs.List.Sorted.{IsStrictlyIncreasing}
 use Rattle.std.specs.Str.{bytes_eq}
 use Rattle.vab_disk.specs.Disk.{Image}
-use Rattle.vab_space.specs.Space.{need_of}
+use Rattle.vab_space.specs.declared.Chunk.{Chunk}
+use Rattle.vab_space.specs.Chunks.{chunks_for, need_at}
 use Rattle.vab_install.specs.Differing.{differing_of}
 use Rattle.vab_exceptions.specs.declared.area.Exception.{Exception}
 use Rattle.vab_names.specs.Names.{is_full, base_of}
@@ -32,7 +34,7 @@ pub record HasPlace (d : Device) (name : List ℕ) (place : ℕ) : Type 0 where
 abbrev pub IsUnwritten : PartImage → Type 0
 IsUnwritten Kept = Unit {0}
 IsUnwritten Declared = Unit {0}
-IsUnwritten (Written es) = ⊥
+IsUnwritten (Written k es) = ⊥
 
 -- It has a store, nothing was written to it, and the staged bytes are at most as long as it is.
 -- What is left to ask is whether its store has room.
@@ -42,10 +44,10 @@ pub record IsFor (p : Part) (staged : Option (List ℕ)) (bytes : List ℕ) : Ty
   pub unwritten : IsUnwritten p.image
   pub staged_is : staged ≡ Some bytes
   pub small : length bytes ≤ 4096 * length p.map
-  pub effect : (m : Mounted) (source : ℕ) (plan : List PlanEntry) (image : Image)
-      → entry_effect m source plan staged (Some (entry_on image p))
-      ≡ if_room m source plan (entry_on image p) (length store) bytes
-      (differences (source_bytes m.state source p.name) bytes (length p.map))
+  pub effect : (m : Mounted) (source : ℕ) (plan : List PlanEntry) (k : Chunk) (image : Image)
+      → entry_effect m source plan k staged (Some (entry_on image p))
+      ≡ if_room m source plan (entry_on image p) (length store) k bytes
+      (differences k (source_bytes m.state source p.name) bytes (length p.map))
 
 -- ---- the source's partition
 
@@ -79,11 +81,11 @@ no_planned = record { name = []; group = []; map = []; store = None; image = Kep
 abbrev pub planned_at : Device → ℕ → Part
 planned_at d place = slice_index_or (plan_or d.plan) place no_planned
 
--- with these exceptions for the planned partition at this place
-abbrev pub with_written : Device → ℕ → List Exception → Device
-with_written d place es = record d {
+-- with these exceptions, in chunks of this size, for the planned partition at this place
+abbrev pub with_written : Device → ℕ → Chunk → List Exception → Device
+with_written d place k es = record d {
   plan = Some (slice_set (plan_or d.plan) place (record (planned_at d place)
-      { image = Written es }));
+      { image = Written k es }));
 }
 
 -- ---- what is asked of the disk
@@ -92,10 +94,10 @@ with_written d place es = record d {
 abbrev pub base_of_place : Device → ℕ → List ℕ
 base_of_place d place = blocks_or (part_at d d.mark.slot (planned_at d place).name)
 
--- the blocks of an image that differ from it
-abbrev pub differing_at : Device → ℕ → Image → List ℕ → List ℕ
-differing_at d place image bytes =
-    differing_of (base_of_place d place) image bytes (length (planned_at d place).map)
+-- the chunks of an image that differ from it
+abbrev pub differing_at : Chunk → Device → ℕ → Image → List ℕ → List ℕ
+differing_at k d place image bytes =
+    differing_of k (base_of_place d place) image bytes (length (planned_at d place).map)
 
 -- The name is that of the planned partition at this place, and the staged bytes may become its
 -- image, where the store has room.
@@ -104,10 +106,6 @@ pub record IsChosen (d : Device) (name : List ℕ) (staged : Option (List ℕ)) 
   pub has : HasPlace d name place
   pub within : place < length (plan_or d.plan)
   pub fits : IsFor (planned_at d place) staged bytes
-
--- what a store needs and how many blocks it has, where it has no room for so many exceptions
-abbrev pub full_of : ℕ → ℕ → Option (ℕ × ℕ)
-full_of n store = if nat_le (need_of n) store then None else Some (need_of n, store)
 
 -- the blocks of its store
 abbrev pub store_at : Device → ℕ → List ℕ
@@ -118,5 +116,12 @@ abbrev pub store_long : Device → ℕ → ℕ
 store_long d place = length (store_at d place)
 
 -- how many blocks the store needs for an image
-abbrev pub needed_at : Device → ℕ → Image → List ℕ → ℕ
-needed_at d place image bytes = need_of (length (differing_at d place image bytes))
+abbrev pub needed_at : Chunk → Device → ℕ → Image → List ℕ → ℕ
+needed_at k d place image bytes = need_at (length (differing_at k d place image bytes)) k
+
+-- Chunks in which the blocks of the planned partition at this place stand, in ascending order, for
+-- which its store has room.
+pub record IsListed (k : Chunk) (d : Device) (place : ℕ) (olds : List ℕ) : Type 0 where
+  pub ascend : IsStrictlyIncreasing olds
+  pub below : All (λ old. old < chunks_for k (length (planned_at d place).map)) olds
+  pub room : need_at (length olds) k ≤ store_long d place

@@ -2,6 +2,7 @@
 use Rattle.std.specs.Prelude.{◌≡◌, ◌⊎◌, ℕ, if◌then◌else◌, List, [], ◌∷◌, Option, Some, None}
 use Rattle.std.specs.Str.{bytes_eq}
 use Rattle.vab_names.specs.Names.{base_of}
+use Rattle.vab_space.specs.declared.Chunk.{Chunk}
 use Rattle.vab_marks.specs.Status.{status_spelling}
 use Rattle.vab_statuses.specs.Statuses.{IsOfStatuses}
 use Rattle.vab_device.specs.declared.device.Part.{Part}
@@ -20,11 +21,12 @@ abbrev pub store_in : List ℕ → Option (List Part) → List ℕ
 store_in base None = []
 store_in base (Some plan) = store_named base plan
 
--- A sector of the statuses with the status of this partition, of some count.
+-- A sector of the statuses with the status of this partition, of some count and chunk.
 pub record IsStatusOf (name : List ℕ) (s : ℕ) (bytes : List ℕ) : Type 0 where
   pub there : IsOfStatuses s
   pub count : ℕ
-  pub is : bytes ≡ status_spelling (record { name = name; count = count })
+  pub chunk : Chunk
+  pub is : bytes ≡ status_spelling (record { name = name; count = count; chunk = chunk })
 
 -- A sector of the blocks of that partition's store, or one of the statuses with a status of it.
 -- Where no partition of this name is planned, nothing is written.

@@ -5,6 +5,7 @@ ghost use Rattle.std.specs.Prelude.{All};
 ghost use Rattle.std.specs.Prelude.{option_map};
 ghost use Rattle.std.specs.Option.{option_copied};
 ghost use Rattle.vab_disk.specs.Disk.{Image};
+ghost use Rattle.vab_space.specs.declared.Chunk.{Chunk};
 ghost use Rattle.vab_model.specs.declared.state.PlanEntry.{PlanEntry};
 ghost use Rattle.vab_model.specs.Commands.{Flash};
 ghost use Rattle.vab_model.specs.Effects.{refuses};
@@ -35,8 +36,8 @@ fn place_of(plan: &Listing<Part>, base: &[u8]) -> Option<usize>
 fn find(device: &Device, name: &[u8]) -> Result<usize, Refusal>
     requires { device.now.mark.slot < 2 }
     ensures found { IfOk result (λ place. HasPlace device.now name.now place) }
-    ensures refused { (image : Image) (staged : Option (List ℕ)) → IfErr result
-        (λ f. effect_on (mounted_on device.now image) staged (Flash name.now) ≡ refuses f) }
+    ensures refused { (image : Image) (staged : Option (List ℕ)) (k : Chunk) → IfErr result
+        (λ f. effect_on (mounted_on device.now image) staged (Flash name.now k) ≡ refuses f) }
 {
     match &device.plan {
         None => Err(Refusal::NotInstalling),
@@ -66,16 +67,16 @@ fn fit<'a>(entry: &Part, staged: Option<&'a [u8]>) -> Result<&'a [u8], Refusal>
     requires { length entry.now.map < 2 ^ 48 }
     ensures fits { IfOk result
         (λ b. IsFor entry.now (option_map (λ s. s.now) staged.entry) b.now) }
-    ensures refused { (m : Mounted) (source : ℕ) (plan : List PlanEntry) (image : Image)
+    ensures refused { (m : Mounted) (source : ℕ) (plan : List PlanEntry) (k : Chunk) (image : Image)
         → IfErr result
-        (λ f. entry_effect m source plan (option_map (λ s. s.now) staged.entry)
+        (λ f. entry_effect m source plan k (option_map (λ s. s.now) staged.entry)
         (Some (entry_on image entry.now))
         ≡ refuses f) }
 {
     if entry.store.is_none() {
         return Err(Refusal::NoStore);
     }
-    if matches!(entry.image, PartImage::Written(_)) {
+    if matches!(entry.image, PartImage::Written(..)) {
         return Err(Refusal::Written);
     }
     let bytes = match staged {
@@ -137,9 +138,9 @@ pub fn choose<'a>(
     requires small { All (λ p. length p.map ≤ 2 ^ 28) (plan_or device.now.plan) }
     ensures chosen { IfOk result
         (λ r. IsChosen device.now name.now (option_map (λ s. s.now) staged.entry) r.0 r.1.now) }
-    ensures refused { (image : Image) → IfErr result
+    ensures refused { (image : Image) (k : Chunk) → IfErr result
         (λ f. effect_on (mounted_on device.now image) (option_map (λ s. s.now) staged.entry)
-        (Flash name.now)
+        (Flash name.now k)
         ≡ refuses f) }
 {
     match find(device, name) {

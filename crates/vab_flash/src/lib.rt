@@ -2,10 +2,8 @@
 #![tactic(auto)]
 
 mod chosen;
-mod count;
 mod flashing;
-mod judge;
+mod found;
 mod plan;
-mod write;
 
 pub use flashing::flash;

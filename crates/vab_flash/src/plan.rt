@@ -5,13 +5,14 @@ ghost use Rattle.vab_flash.specs.Chosen.{plan_or, with_written};
 
 use vab_bytes::Listing;
 use vab_device::{Device, PartImage};
+use vab_space::Chunk;
 use vab_store::StoreView;
 
-/// The device with these exceptions for the planned partition at this place, whose image was
-/// written. Takes no memory.
-pub fn written(device: Device, place: usize, view: StoreView) -> Device
+/// The device with these exceptions, in chunks of this size, for the planned partition at this
+/// place, whose image was written. Takes no memory.
+pub fn written(device: Device, place: usize, chunk: Chunk, view: StoreView) -> Device
     requires { place < length (plan_or device.plan) }
-    ensures { result ≡ with_written device place view }
+    ensures { result ≡ with_written device place chunk view }
 {
     let Device {
         geometry,
@@ -29,7 +30,7 @@ pub fn written(device: Device, place: usize, view: StoreView) -> Device
         Some(plan) => plan.into_vec(),
         None => unreachable!(),
     };
-    items[place].image = PartImage::Written(view);
+    items[place].image = PartImage::Written(chunk, view);
     Device {
         geometry,
         control,

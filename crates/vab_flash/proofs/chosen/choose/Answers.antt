@@ -9,14 +9,14 @@ use Rattle.vab_flash.proofs.ChosenLaws.{flash_at}
 use Rattle.vab_flash.proofs.chosen.choose.Goals as goal
 
 pub returns-in-Err-fit-clause-refused : goal.returns-in-Err-fit-clause-refused
-returns-in-Err-fit-clause-refused c = λ image.
+returns-in-Err-fit-clause-refused c = λ image chunk.
     let d = c.args.device.now in
     let staged = option_map (λ s. s.now) c.args.staged in
     let plan = map (entry_on image) (plan_or d.plan) in
-    flash_at d image staged c.args.name.now c.in-Ok.place c.in-Ok.ensures.found
+    flash_at d image staged c.args.name.now chunk c.in-Ok.place c.in-Ok.ensures.found
     ∙ subst
     (λ (p : Part).
-    entry_effect (mounted_on d image) d.mark.slot plan staged (Some (entry_on image p))
+    entry_effect (mounted_on d image) d.mark.slot plan chunk staged (Some (entry_on image p))
     ≡ refuses c.in-Err-fit.refusal)
     c.planned_at.ensures
-    (c.in-Err-fit.ensures.refused (mounted_on d image) d.mark.slot plan image)
+    (c.in-Err-fit.ensures.refused (mounted_on d image) d.mark.slot plan chunk image)

@@ -1,5 +1,7 @@
-use Rattle.std.proofs.Common.{Some, true}
+use Rattle.std.proofs.Common.{ℕ, ◌≤◌, List, Some, true, length, subst}
+use Rattle.vab_space.specs.Chunks.{need_at}
 use Rattle.vab_model.specs.Commands.{Flash}
+use Rattle.vab_flash.specs.Chosen.{store_long}
 use Rattle.vab_flash.specs.Touched.{IsOfFlash}
 use Rattle.vab_device.proofs.DoesLaws.{does_nothing, does_later, fails_reading}
 use Rattle.vab_flash.proofs.FlashLaws.{base_all}
@@ -10,28 +12,30 @@ pub returns-in-Ok-Some : goal.returns-in-Ok-Some
 returns-in-Ok-Some g c =
     let d = c.args.device in
     let name = c.args.name.now in
-    does_later g.D.Disk d (Some c.args.bytes.now) (Flash name) (IsOfFlash d name) _ _ _ _
-    c.first_free.ensures.reads c.in-Ok-Some.ensures.faults.steady c.store_image.ensures
+    does_later g.D.Disk d (Some c.args.bytes.now) (Flash name c.args.chunk) (IsOfFlash d name) _ _
+    _ _ c.first_free.ensures.reads c.in-Ok-Some.ensures.faults.steady c.store_image.ensures
 
 pub returns-in-Ok-None : goal.returns-in-Ok-None
 returns-in-Ok-None g c =
     let d = c.args.device in
     let name = c.args.name.now in
     let disk = c.args.d.now in
-    does_nothing g.D.Disk d (Some c.args.bytes.now) (Flash name) (IsOfFlash d name) true _ _ _
-    c.requires.kept c.requires.represents
+    does_nothing g.D.Disk d (Some c.args.bytes.now) (Flash name c.args.chunk) (IsOfFlash d name)
+    true _ _ _ c.requires.kept c.requires.represents
     (λ t.
     no_memory d (g.D.Disk.size disk) (g.D.Disk.seen disk) c.requires.kept (c.requires.represents t)
-    name (Some c.args.bytes.now) c.args.place c.args.bytes.now c.requires.chosen
+    name (Some c.args.bytes.now) c.args.place c.args.bytes.now c.requires.chosen c.args.chunk
     (λ s lt. (g.met.D.Disk.whole disk s (g.D.Disk.seen disk s) lt
     (g.met.D.Disk.seen_held disk s)).long)
-    (base_all d (g.D.Disk.size disk) c.args.place c.requires.kept) (c.requires.room t))
+    (base_all d (g.D.Disk.size disk) c.args.place c.requires.kept)
+    (subst (λ (l : List ℕ). need_at (length l) c.args.chunk ≤ store_long d c.args.place)
+    (c.requires.exact t) c.requires.listed.room))
     c.first_free.ensures.reads c.in-Ok-None.ensures.faults.steady
 
 pub returns-in-Err : goal.returns-in-Err
 returns-in-Err g c =
     let d = c.args.device in
     let name = c.args.name.now in
-    fails_reading g.D.Disk d (Some c.args.bytes.now) (Flash name) (IsOfFlash d name) c.in-Err.fault
-    _ _
+    fails_reading g.D.Disk d (Some c.args.bytes.now) (Flash name c.args.chunk) (IsOfFlash d name)
+    c.in-Err.fault _ _
     c.first_free.ensures.reads c.in-Err.ensures.faults.cause

@@ -1,9 +1,10 @@
-use Rattle.std.proofs.Common.{◌≡◌, ◌-◌, ◌++◌, List, length, Some, true, refl, sym, ap, subst, ◌∙◌}
-use Rattle.std.proofs.Common.{Ok}
-use Rattle.std.proofs.Common.{Err}
-use Rattle.vab_disk.specs.Calls.{InSectors}
+use Rattle.std.proofs.Common.{◌≡◌, ℕ, ◌≤◌, ◌-◌, ◌++◌, List, length, Some, Ok, Err, true, refl, sym}
+use Rattle.std.proofs.Common.{ap, subst, ◌∙◌}
+use Rattle.vab_disk.specs.Calls.{InSectors, SameBut}
+use Rattle.vab_space.specs.Chunks.{need_at}
 use Rattle.vab_marks.specs.declared.status.PartStatus.{PartStatus}
 use Rattle.vab_store.specs.Layout.{InFirst}
+use Rattle.vab_store.specs.Writing.{planned_of}
 use Rattle.vab_model.specs.Commands.{Flash}
 use Rattle.vab_model.specs.declared.command.Reply.TheVariants.{Done}
 use Rattle.vab_exceptions.specs.declared.area.Exception.{Exception}
@@ -13,18 +14,14 @@ use Rattle.vab_device.specs.declared.device.Device.{Device}
 use Rattle.vab_device.specs.Does.{Does}
 use Rattle.vab_device.specs.declared.device.Part.{Part}
 use Rattle.vab_marks.specs.Status.{status_spelling}
-use Rattle.vab_flash.specs.Chosen.{store_at, needed_at, with_written}
+use Rattle.vab_flash.specs.Chosen.{store_at, store_long, with_written}
 use Rattle.vab_flash.specs.Touched.{IsOfFlash}
 use Rattle.vab_device.proofs.DoesLaws.{does_nothing, fails_dead, fails_gate, does_gate}
-use Rattle.vab_flash.proofs.FlashLaws.{base_all, base_on_disk}
+use Rattle.vab_flash.proofs.FlashLaws.{base_all}
 use Rattle.vab_flash.proofs.ReadyLaws.{no_memory}
 use Rattle.vab_flash.proofs.GatedLaws.{apart_at, disjoint_at, dead_at, name_short, in_flash}
 use Rattle.vab_flash.proofs.GatedLaws.{both, name_is, status_in_flash, written_kept}
 use Rattle.vab_flash.proofs.flashing.store_image.Goals as goal
-
-pub write_place-requires-clause-base_on_disk : goal.write_place-requires-clause-base_on_disk
-write_place-requires-clause-base_on_disk g c =
-    base_on_disk c.args.device (g.D.Disk.size c.args.d.now) c.args.place c.requires.kept
 
 pub write_place-requires-clause-apart : goal.write_place-requires-clause-apart
 write_place-requires-clause-apart g c = λ t.
@@ -46,16 +43,19 @@ full_name-requires-clause-short g c =
 pub returns-in-Err-NoMemory : goal.returns-in-Err-NoMemory
 returns-in-Err-NoMemory g c =
     let d = c.args.device in
+    let k = c.args.chunk in
     let name = c.args.name.now in
     let disk = c.args.d.now in
-    does_nothing g.D.Disk d (Some c.args.bytes.now) (Flash name) (IsOfFlash d name) true _ _ _
+    does_nothing g.D.Disk d (Some c.args.bytes.now) (Flash name k) (IsOfFlash d name) true _ _ _
     c.requires.kept c.requires.represents
     (λ t.
     no_memory d (g.D.Disk.size disk) (g.D.Disk.seen disk) c.requires.kept (c.requires.represents t)
-    name (Some c.args.bytes.now) c.args.place c.args.bytes.now c.requires.chosen
+    name (Some c.args.bytes.now) c.args.place c.args.bytes.now c.requires.chosen k
     (λ s lt. (g.met.D.Disk.whole disk s (g.D.Disk.seen disk s) lt
     (g.met.D.Disk.seen_held disk s)).long)
-    (base_all d (g.D.Disk.size disk) c.args.place c.requires.kept) (c.requires.room t))
+    (base_all d (g.D.Disk.size disk) c.args.place c.requires.kept)
+    (subst (λ (l : List ℕ). need_at (length l) k ≤ store_long d c.args.place) (c.requires.exact t)
+    c.requires.listed.room))
     (subst (λ f. ReadsWithout {X = List Exception} g.D.Disk disk c.write_place.new.d (Err f))
     c.in-Err-NoMemory.field-0-is c.in-Err-NoMemory.ensures.unwritten)
     (subst (λ f. CountsFaults {X = List Exception} g.D.Disk disk c.write_place.new.d (Err f))
@@ -66,16 +66,17 @@ returns-in-Err-Disk g c =
     let d = c.args.device in
     let name = c.args.name.now in
     let disk = c.args.d.now in
-    let n = needed_at d c.args.place (g.D.Disk.seen disk) c.args.bytes.now in
-    fails_dead g.D.Disk d (Some c.args.bytes.now) (Flash name) (IsOfFlash d name) disk
+    let k = c.args.chunk in
+    let n = need_at (length c.args.olds.now) k in
+    fails_dead g.D.Disk d (Some c.args.bytes.now) (Flash name k) (IsOfFlash d name) disk
     c.write_place.new.d (InSectors (InFirst (store_at d c.args.place) n))
     (λ t image but.
     dead_at d (g.D.Disk.size disk) (g.D.Disk.seen disk) c.requires.kept (c.requires.represents t)
     name
     (Some c.args.bytes.now) c.args.place c.args.bytes.now c.requires.chosen n image
-    (c.requires.room t) but)
+    c.requires.listed.room but)
     c.write_place.ensures.touches
-    (λ t. in_flash d name c.args.place n c.requires.chosen.has (c.requires.room t))
+    (λ t. in_flash d name c.args.place n c.requires.chosen.has c.requires.listed.room)
     c.in-Err-Disk.fault
     (subst (λ f. CountsFaults {X = List Exception} g.D.Disk disk c.write_place.new.d (Err f))
     c.in-Err-Disk.field-0-is c.in-Err-Disk.ensures.counts)
@@ -87,37 +88,47 @@ returns-in-Err g c =
     let disk = c.args.d.now in
     let mid = c.write_place.new.d in
     let es = c.in-Ok.view in
-    let n = needed_at d c.args.place (g.D.Disk.seen disk) c.args.bytes.now in
+    let k = c.args.chunk in
+    let n = need_at (length c.args.olds.now) k in
     let ok = c.in-Ok.ensures in
     let same : c.planned_at.result.now.name ++ suffix_of (1 - d.mark.slot) ≡ name =
     ap (λ (q : Part). q.name ++ suffix_of (1 - d.mark.slot)) c.planned_at.ensures
     ∙ name_is d name c.args.place c.requires.chosen.has in
-    let status : PartStatus = record { name = c.full_name.result; count = c.count.result } in
-    let status_is : status ≡ record { name = name; count = length es } =
-    (λ k. record { name = (c.full_name.ensures ∙ same) k; count = c.count.ensures k }) in
+    let status : PartStatus =
+    record { name = c.full_name.result; count = c.count.result; chunk = k } in
+    let status_is : status ≡ record { name = name; count = length es; chunk = k } =
+    (λ j. record { name = (c.full_name.ensures ∙ same) j; count = c.count.ensures j; chunk = k })
+    in
     let gate = λ (t : g.D.Disk.is_modelled).
     both d (g.D.Disk.size disk) (g.D.Disk.seen disk) c.requires.kept (c.requires.represents t) name
-    (Some c.args.bytes.now) c.args.place c.args.bytes.now c.requires.chosen
+    (Some c.args.bytes.now) c.args.place c.args.bytes.now c.requires.chosen k
     (λ s lt. (g.met.D.Disk.whole disk s (g.D.Disk.seen disk s) lt
     (g.met.D.Disk.seen_held disk s)).long)
     (base_all d (g.D.Disk.size disk) c.args.place c.requires.kept) (g.D.Disk.seen mid) es
     c.args.free status
-    (c.requires.room t) (ok.planned t) ok.fits (c.write_place.ensures.touches.seen t) (ok.scanned t)
-    (ok.holds t) (c.requires.free t) c.requires.there status_is c.put_status.ensures.read in
-    fails_gate g.D.Disk d (Some c.args.bytes.now) (Flash name) (IsOfFlash d name) disk mid
+    (subst (λ (l : List ℕ). need_at (length l) k ≤ store_long d c.args.place) (c.requires.exact t)
+    c.requires.listed.room)
+    (ok.planned ∙ ap (planned_of k) (c.requires.exact t)) ok.fits
+    (subst (λ (l : List ℕ).
+    SameBut (InSectors (InFirst (store_at d c.args.place) (need_at (length l) k)))
+    (g.D.Disk.seen disk) (g.D.Disk.seen mid)) (c.requires.exact t)
+    (c.write_place.ensures.touches.seen t))
+    (ok.scanned t) (ok.holds t) (c.requires.free t) c.requires.there status_is
+    c.put_status.ensures.read in
+    fails_gate g.D.Disk d (Some c.args.bytes.now) (Flash name k) (IsOfFlash d name) disk mid
     (InSectors (InFirst (store_at d c.args.place) n))
     (λ t image but.
     dead_at d (g.D.Disk.size disk) (g.D.Disk.seen disk) c.requires.kept (c.requires.represents t)
     name
     (Some c.args.bytes.now) c.args.place c.args.bytes.now c.requires.chosen n image
-    (c.requires.room t) but)
+    c.requires.listed.room but)
     c.write_place.ensures.touches
-    (λ t. in_flash d name c.args.place n c.requires.chosen.has (c.requires.room t))
-    c.put_status.new.d (with_written d c.args.place es) Done c.args.free
+    (λ t. in_flash d name c.args.place n c.requires.chosen.has c.requires.listed.room)
+    c.put_status.new.d (with_written d c.args.place k es) Done c.args.free
     (status_spelling status)
     (λ t. (gate t).0) (λ t. (gate t).1) (λ t rest. c.put_status.ensures.gate t (ok.settled t))
     c.put_status.ensures.touches
-    (status_in_flash d name c.args.place c.args.free (length es) status c.requires.chosen.has
+    (status_in_flash d name c.args.place c.args.free (length es) k status c.requires.chosen.has
     c.requires.there status_is)
     c.in-Err.fault c.in-Err.ensures.faults.cause
 
@@ -128,44 +139,53 @@ returns-in-Ok-put_status g c =
     let disk = c.args.d.now in
     let mid = c.write_place.new.d in
     let es = c.in-Ok.view in
-    let n = needed_at d c.args.place (g.D.Disk.seen disk) c.args.bytes.now in
+    let k = c.args.chunk in
+    let n = need_at (length c.args.olds.now) k in
     let ok = c.in-Ok.ensures in
     let same : c.planned_at.result.now.name ++ suffix_of (1 - d.mark.slot) ≡ name =
     ap (λ (q : Part). q.name ++ suffix_of (1 - d.mark.slot)) c.planned_at.ensures
     ∙ name_is d name c.args.place c.requires.chosen.has in
-    let status : PartStatus = record { name = c.full_name.result; count = c.count.result } in
-    let status_is : status ≡ record { name = name; count = length es } =
-    (λ k. record { name = (c.full_name.ensures ∙ same) k; count = c.count.ensures k }) in
+    let status : PartStatus =
+    record { name = c.full_name.result; count = c.count.result; chunk = k } in
+    let status_is : status ≡ record { name = name; count = length es; chunk = k } =
+    (λ j. record { name = (c.full_name.ensures ∙ same) j; count = c.count.ensures j; chunk = k })
+    in
     let gate = λ (t : g.D.Disk.is_modelled).
     both d (g.D.Disk.size disk) (g.D.Disk.seen disk) c.requires.kept (c.requires.represents t) name
-    (Some c.args.bytes.now) c.args.place c.args.bytes.now c.requires.chosen
+    (Some c.args.bytes.now) c.args.place c.args.bytes.now c.requires.chosen k
     (λ s lt. (g.met.D.Disk.whole disk s (g.D.Disk.seen disk s) lt
     (g.met.D.Disk.seen_held disk s)).long)
     (base_all d (g.D.Disk.size disk) c.args.place c.requires.kept) (g.D.Disk.seen mid) es
     c.args.free status
-    (c.requires.room t) (ok.planned t) ok.fits (c.write_place.ensures.touches.seen t) (ok.scanned t)
-    (ok.holds t) (c.requires.free t) c.requires.there status_is c.put_status.ensures.read in
-    subst (λ (x : Device). Does g.D.Disk d (Some c.args.bytes.now) (Flash name) (IsOfFlash d name)
+    (subst (λ (l : List ℕ). need_at (length l) k ≤ store_long d c.args.place) (c.requires.exact t)
+    c.requires.listed.room)
+    (ok.planned ∙ ap (planned_of k) (c.requires.exact t)) ok.fits
+    (subst (λ (l : List ℕ).
+    SameBut (InSectors (InFirst (store_at d c.args.place) (need_at (length l) k)))
+    (g.D.Disk.seen disk) (g.D.Disk.seen mid)) (c.requires.exact t)
+    (c.write_place.ensures.touches.seen t))
+    (ok.scanned t) (ok.holds t) (c.requires.free t) c.requires.there status_is
+    c.put_status.ensures.read in
+    subst (λ (x : Device). Does g.D.Disk d (Some c.args.bytes.now) (Flash name k) (IsOfFlash d name)
     disk
     c.put_status.new.d (Ok (x, Done))) (sym c.written.ensures)
-    (does_gate g.D.Disk d (Some c.args.bytes.now) (Flash name) (IsOfFlash d name) disk mid
+    (does_gate g.D.Disk d (Some c.args.bytes.now) (Flash name k) (IsOfFlash d name) disk mid
     (InSectors (InFirst (store_at d c.args.place) n))
     (λ t image but.
     dead_at d (g.D.Disk.size disk) (g.D.Disk.seen disk) c.requires.kept (c.requires.represents t)
     name
     (Some c.args.bytes.now) c.args.place c.args.bytes.now c.requires.chosen n image
-    (c.requires.room t) but)
+    c.requires.listed.room but)
     c.write_place.ensures.touches
-    (λ t. in_flash d name c.args.place n c.requires.chosen.has (c.requires.room t))
-    c.put_status.new.d (with_written d c.args.place es) Done c.args.free
+    (λ t. in_flash d name c.args.place n c.requires.chosen.has c.requires.listed.room)
+    c.put_status.new.d (with_written d c.args.place k es) Done c.args.free
     (status_spelling status)
     (λ t. (gate t).0) (λ t. (gate t).1) (λ t rest. c.put_status.ensures.gate t (ok.settled t))
     c.put_status.ensures.touches
-    (status_in_flash d name c.args.place c.args.free (length es) status c.requires.chosen.has
+    (status_in_flash d name c.args.place c.args.free (length es) k status c.requires.chosen.has
     c.requires.there status_is)
     (written_kept d (g.D.Disk.size disk) name (Some c.args.bytes.now) c.args.place c.args.bytes.now
-    es
-    c.requires.kept c.requires.chosen ok.fits)
+    k es c.requires.kept c.requires.chosen ok.fits)
     (record { geometry = refl; slot = refl; parts = refl })
     (λ t. c.in-Ok-put_status.ensures.written t) (λ t. c.in-Ok-put_status.ensures.settled t)
     (c.in-Ok-put_status.ensures.faults.steady ∙ ok.counts))

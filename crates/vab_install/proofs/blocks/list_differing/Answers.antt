@@ -7,7 +7,8 @@ use Rattle.vab_space.specs.Chunks.{chunks_for}
 use Rattle.vab_space.specs.Differing.{chunk_differs}
 use Rattle.vab_space.proofs.DifferingLaws.{passing, passing_true, passing_false, differing_is}
 use Rattle.vab_install.specs.Differing.{differs_at, AscendsBelow}
-use Rattle.vab_install.proofs.DifferingLaws.{ascends_none, ascends_wider, ascends_more, pushed_keeps}
+use Rattle.vab_install.proofs.DifferingLaws.{ascends_none, ascends_wider, ascends_more}
+use Rattle.vab_install.proofs.DifferingLaws.{pushed_keeps}
 use Rattle.vab_install.proofs.blocks.list_differing.Goals as goal
 use Rattle.vab_install.proofs.blocks.list_differing.Goals.{then-branch, else-branch}
 
