@@ -1,23 +1,13 @@
--- The chunks of an image that differ, one after another.
+-- How many chunks of an image differ, and zeros behind an image.
 use Rattle.std.proofs.Common.{◌≡◌, ℕ, zero, suc, ◌+◌, ◌-◌, ◌*◌, ◌^◌, ◌≤◌, ◌<◌, append_assoc}
 use Rattle.std.proofs.Common.{Bool, true, false}
 use Rattle.std.proofs.Common.{cond, List, [], ◌∷◌, ◌++◌}
 use Rattle.std.proofs.Common.{length, refl, sym, ap, ◌∙◌, arith, length-append}
 use Rattle.std.specs.Prelude.{replicate}
-use Rattle.std.specs.List.{filter, range_with_len}
-use Rattle.std.proofs.lemmas.List.Elements.{filter-append}
 use Rattle.vab_space.specs.declared.Chunk.{Chunk}
 use Rattle.vab_space.specs.declared.Chunk.TheVariants.{One, Two, Four}
-use Rattle.vab_space.specs.Chunks.{blocks_in, chunks_for}
-use Rattle.vab_space.specs.Differing.{chunk_differs, differing_chunks}
-use Rattle.vab_machine.specs.Staged.{differs, differences}
-
-range_more : (a n : ℕ) → range_with_len a (suc n) ≡ range_with_len a n ++ (a + n) ∷ []
-range_more a zero = ap (λ (k : ℕ). k ∷ []) (omega arith)
-range_more a (suc n) =
-    let one : (a + 1) + n ≡ a + suc n = omega arith in
-    ap (λ (l : List ℕ). a ∷ l) (range_more (a + 1) n)
-    ∙ ap (λ (k : ℕ). a ∷ (range_with_len (a + 1) n ++ k ∷ [])) one
+use Rattle.vab_space.specs.Chunks.{blocks_in}
+use Rattle.vab_space.proofs.DifferingLaws.{passing, passing_more}
 
 abbrev pub bit : Bool → ℕ
 bit b = cond b 1 0
@@ -26,51 +16,13 @@ length_cond : (b : Bool) (n : ℕ) → length (cond b (n ∷ []) []) ≡ bit b
 length_cond true n = refl
 length_cond false n = refl
 
--- how many numbers below n pass a test
-abbrev pub passing_below : (ℕ → Bool) → ℕ → ℕ
-passing_below p n = length (filter p (range_with_len 0 n))
-
-pub chunks_more : (p : ℕ → Bool) (n : ℕ)
-    → passing_below p (n + 1) ≡ passing_below p n + bit (p n)
-chunks_more p n =
-    let one : n + 1 ≡ suc n = omega arith in
-    let last : 0 + n ≡ n = omega arith in
-    ap (λ (k : ℕ). length (filter p (range_with_len 0 k))) one
-    ∙ ap (λ (l : List ℕ). length (filter p l)) (range_more 0 n)
-    ∙ ap (λ (k : ℕ). length (filter p (range_with_len 0 n ++ k ∷ []))) last
-    ∙ ap length (filter-append p (range_with_len 0 n) (n ∷ []))
-    ∙ length-append (filter p (range_with_len 0 n)) (cond (p n) (n ∷ []) [])
-    ∙ ap (λ (k : ℕ). length (filter p (range_with_len 0 n)) + k) (length_cond (p n) n)
-
-bit_most : (b : Bool) → bit b ≤ 1
-bit_most true = omega arith
-bit_most false = omega arith
-
-below_most : (p : ℕ → Bool) (n : ℕ) → passing_below p n ≤ n
-below_most p zero = omega arith
-below_most p (suc n) =
-    let one : n + 1 ≡ suc n = omega arith in
-    let more = ap (passing_below p) (sym one) ∙ chunks_more p n in
-    omega (arith, more, bit_most (p n), below_most p n)
-
--- no more chunks than blocks
-pub chunks_few : (k : Chunk) (blocks : ℕ) → chunks_for k blocks ≤ blocks
-chunks_few One blocks = omega arith
-chunks_few Two blocks = omega arith
-chunks_few Four blocks = omega arith
-
-pub differences_are : (k : Chunk) (source image : List ℕ) (blocks : ℕ)
-    → differences k source image blocks
-    ≡ passing_below (chunk_differs k (differs source image) blocks) (chunks_for k blocks)
-unfolding differing_chunks
-differences_are k source image blocks = refl
-
-pub differences_most : (k : Chunk) (source image : List ℕ) (blocks : ℕ)
-    → differences k source image blocks ≤ blocks
-differences_most k source image blocks =
-    let most =
-    below_most (chunk_differs k (differs source image) blocks) (chunks_for k blocks) in
-    omega (arith, differences_are k source image blocks, most, chunks_few k blocks)
+-- one number more
+pub passing_count : (test : ℕ → Bool) (n : ℕ)
+    → length (passing test (n + 1)) ≡ length (passing test n) + bit (test n)
+passing_count test n =
+    ap length (passing_more test n)
+    ∙ length-append (passing test n) (cond (test n) (n ∷ []) [])
+    ∙ ap (λ (k : ℕ). length (passing test n) + k) (length_cond (test n) n)
 
 -- so few chunks are blocks of 64 bits
 pub need_fits : (k : Chunk) (n : ℕ) → n ≤ 2 ^ 28 → blocks_in k * n < 2 ^ 63

@@ -15,6 +15,7 @@ use Rattle.vab_names.specs.Names.{is_full, base_of, most_partitions}
 use Rattle.vab_space.specs.declared.Chunk.{Chunk}
 use Rattle.vab_space.specs.Space.{blocks_of}
 use Rattle.vab_space.specs.Chunks.{need_at}
+use Rattle.vab_space.proofs.DifferingLaws.{differing_most}
 use Rattle.vab_model.specs.declared.state.Image.{Image}
 use Rattle.vab_model.specs.declared.state.PlanImage.{PlanImage}
 use Rattle.vab_model.specs.declared.state.PlanImage.TheVariants.{Kept, Declared, Written}
@@ -34,7 +35,7 @@ use Rattle.vab_machine.specs.Plans.{other_slot, images_of, bytes_named, entry_na
 use Rattle.vab_machine.specs.Plans.{is_planned, first_group, created_entry, at_entry, kept_entry}
 use Rattle.vab_machine.specs.Plans.{resized_entry, stored_entry, in_use, group_bytes, limit_of}
 use Rattle.vab_machine.specs.Plans.{is_within, without_entry, written_entry}
-use Rattle.vab_machine.specs.Staged.{is_sparse, filled, differences}
+use Rattle.vab_machine.specs.Staged.{is_sparse, filled, differs, differences}
 use Rattle.vab_machine.specs.Machine.{unless, if_installing, if_planned, planned, if_room}
 use Rattle.vab_machine.specs.Machine.{if_within}
 use Rattle.vab_machine.specs.Machine.{begun, begin_row, create_row, resize_row, delete_row}
@@ -45,7 +46,6 @@ use Rattle.vab_machine.specs.Machine.{least_declared, finish_row, without_images
 use Rattle.vab_machine.specs.Machine.{begin_merge_row, turns, merge_row, machine_effect}
 use Rattle.vab_machine.specs.Small.{AreSmallImages, IsSmallSlot, IsSmallImage, IsSmallEntry}
 use Rattle.vab_machine.specs.Small.{IsSmallPlan, IsSmallPhase, IsSmall}
-use Rattle.vab_machine.proofs.Blocks.{differences_most}
 use Rattle.vab_machine.proofs.Bounds.{images_small}
 use Rattle.vab_machine.proofs.SmallLaws.{entry_small, resize_small, store_plan_small, create_small}
 use Rattle.vab_machine.proofs.SmallLaws.{delete_small, write_small, begin_small}
@@ -239,7 +239,7 @@ staged_kept s source plan e k store (Some staged) small next entry =
     let done : Effect State = if_stored s source plan e k store image n in
     let fits : Bool = nat_le (length staged) (4096 * e.blocks) in
     let large : Refusal = refusals.TooLarge (length staged) (4096 * e.blocks) in
-    let most = differences_most k (bytes_named e.name (images_of s source)) image e.blocks in
+    let most = differing_most k (differs (bytes_named e.name (images_of s source)) image) e.blocks in
     keeps_unless s (not (is_sparse staged)) refusals.Sparse (unless fits large done) small (λ _.
     keeps_unless s fits large done small (λ le.
     let long = filled_long staged e.blocks (leb-true (length staged) (4096 * e.blocks) le) in

@@ -93,7 +93,7 @@ fn chunk_differs(source: &[u8], image: &[u8], blocks: u64, chunk: Chunk, c: u64)
 }
 
 /// How many chunks of so many blocks differ.
-#[tactic(auto, using(crate::proofs::Blocks::chunks_more, crate::proofs::Blocks::chunks_few))]
+#[tactic(auto, using(crate::proofs::Blocks::passing_count))]
 pub(crate) fn differences(source: &[u8], image: &[u8], blocks: u64, chunk: Chunk) -> u64
     requires { blocks ≤ 2 ^ 28 }
     ensures exact { result ≡ differences chunk source.now image.now blocks }
