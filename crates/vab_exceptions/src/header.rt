@@ -1,7 +1,7 @@
 //! The header of a store.
 
 ghost use Rattle.std.specs.Prelude.{◌≡◌, Ok};
-ghost use Rattle.vab_exceptions.specs.Header.{header_of, header_bytes, chunk_of};
+ghost use Rattle.vab_exceptions.specs.Header.{header_of, header_bytes};
 
 use vab_bytes::{le32_at, put_le32};
 use vab_space::Chunk;
@@ -24,17 +24,6 @@ pub enum HeaderFault {
     BadChunk,
 }
 
-fn chunk_of(sectors: u32) -> Result<Chunk, HeaderFault>
-    ensures { result ≡ chunk_of sectors }
-{
-    match sectors {
-        8 => Ok(Chunk::One),
-        16 => Ok(Chunk::Two),
-        32 => Ok(Chunk::Four),
-        _ => Err(HeaderFault::BadChunk),
-    }
-}
-
 /// The size of the chunks of the exception store that this sector begins: four numbers of four
 /// bytes, the low byte first. They are the magic, whether the store is valid, the version 1, and
 /// the chunk size in sectors, 8, 16 or 32.
@@ -51,7 +40,7 @@ pub fn decode_store_header(bytes: &[u8; 512]) -> Result<Chunk, HeaderFault>
     if le32_at(bytes, 8) != VERSION {
         return Err(HeaderFault::BadVersion);
     }
-    chunk_of(le32_at(bytes, 12))
+    Chunk::from_sectors(u64::from(le32_at(bytes, 12))).ok_or(HeaderFault::BadChunk)
 }
 
 /// The header of a valid store, and zeros behind it.
@@ -63,6 +52,6 @@ pub fn encode_store_header(chunk: Chunk) -> [u8; 512]
     put_le32(&mut bytes, 0, MAGIC);
     put_le32(&mut bytes, 4, 1);
     put_le32(&mut bytes, 8, VERSION);
-    put_le32(&mut bytes, 12, 8 * chunk.blocks() as u32);
+    put_le32(&mut bytes, 12, chunk.sectors() as u32);
     bytes
 }

@@ -6,7 +6,8 @@ use Rattle.vab_manager.proofs.reading.read_part.Goals as goal
 pub returns-in-Some-clause-bytes : goal.returns-in-Some-clause-bytes
 returns-in-Some-clause-bytes g c = λ t.
     subst (λ (bytes : List ℕ). OnOk c.read_block.result (c.read_block.new.out ≡ bytes))
-    (seen_block (g.D.Disk.size c.args.d.now) c.args.part.now c.in-Some.store c.in-Written.view
+    (seen_block (g.D.Disk.size c.args.d.now) c.args.part.now c.in-Some.store
+    c.in-Written.chunk c.in-Written.view
     (record {
       store_is = c.in-Some.is;
       image_is = c.in-Written.is;
