@@ -10,6 +10,8 @@ use Rattle.vab_marks.specs.declared.mark.MarkPhase.{MarkPhase}
 use Rattle.vab_marks.specs.declared.mark.MarkPhase.TheVariants as marks
 use Rattle.vab_marks.specs.declared.status.PartStatus.{PartStatus}
 use Rattle.vab_marks.specs.Mark.{mark_of, mark_spelling, idle_mark, completed_mark}
+use Rattle.vab_space.specs.declared.Chunk.{Chunk}
+use Rattle.vab_store.proofs.StoredLaws.{stored_none}
 use Rattle.vab_geometry.specs.declared.geometry.Geometry.{Geometry}
 use Rattle.vab_tables.specs.declared.table.Table.{Table}
 use Rattle.vab_layout.specs.declared.layout.Part.{Part as PartOfLayout}
@@ -32,7 +34,7 @@ use Rattle.vab_device.specs.Phases.{phase_at, planned_on, slot_checks, own_check
 use Rattle.vab_device.specs.Phases.{merging_check}
 use Rattle.vab_device.specs.Reading.{Read, mark_read, mark_in, table_at, tables_in, Reads}
 use Rattle.vab_device.specs.Reading.{Represents, AgreeCopies, IsOfImages, IsOfTables}
-use Rattle.vab_device.specs.Stores.{Scanned, sectors_seen}
+use Rattle.vab_device.specs.Stores.{Scanned, sector_seen, sectors_seen}
 use Rattle.vab_device.specs.Updates.{merge_ended}
 use Rattle.vab_device.proofs.Behind.{images_behind}
 use Rattle.vab_device.proofs.CheckLaws.{first_kept}
@@ -65,16 +67,19 @@ completed_there slot image read same =
 
 -- ---- images without stores
 
-seen_plain : (store : List ℕ) (n : ℕ) (own : List ℕ) → sectors_seen store [] n own ≡ own
-seen_plain store n [] = refl
-seen_plain store n (b ∷ bs) = ap (λ (l : List ℕ). b ∷ l) (seen_plain store (n + 1) bs)
+seen_plain : (k : Chunk) (store : List ℕ) (n : ℕ) (own : List ℕ)
+    → sectors_seen k store [] n own ≡ own
+seen_plain k store n [] = refl
+seen_plain k store n (b ∷ bs) =
+    let here = stored_none k [] n refl in
+    let rest = seen_plain k store (n + 1) bs in
+    (λ i. sector_seen store b (here i) ∷ rest i)
 
 none_written : (p : Part) (x : PartImage) → count_of x ≡ 0 → sectors_by p x ≡ p.map
 none_written p Kept none = refl
 none_written p Declared none = refl
-none_written p (Written []) none =
-    seen_plain (blocks_there p.store) 0 p.map
-none_written p (Written (e ∷ es)) none = absurd (omega (arith, none))
+none_written p (Written k []) none = seen_plain k (blocks_there p.store) 0 p.map
+none_written p (Written k (e ∷ es)) none = absurd (omega (arith, none))
 
 plain_image : (image : Image) (p : Part)
     → count_of p.image ≡ 0

@@ -7,7 +7,6 @@ use Rattle.std.proofs.lemmas.Bool.{cases_Bool, eqb-true, le-leb}
 use Rattle.vab_disk.specs.Disk.{Image}
 use Rattle.vab_exceptions.specs.declared.area.Exception.{Exception}
 use Rattle.vab_marks.specs.declared.status.PartStatus.{PartStatus}
-use Rattle.vab_space.specs.declared.Chunk.TheVariants.{One}
 use Rattle.vab_store.specs.declared.fault.StoreFault.{StoreFault}
 use Rattle.vab_store.specs.Scan.{scan_of}
 use Rattle.vab_device.specs.declared.fault.StartFault.{StartFault}
@@ -30,6 +29,7 @@ read_fewer w (Ok es) s is = elim (cases_Bool (is_long w.fewer w.count (length es
   | inl long ↦
       let taken : (let x : Result Scanned StartFault = Ok (record {
         name = w.name;
+        chunk = w.chunk;
         exceptions = es;
       }) in x ≡ Ok s) = rw long at is in
       rw (long_enough w.fewer w.count (length es) long) taken
@@ -46,7 +46,7 @@ scan_fewer : (w : Wanted) (image : Image) (s : Scanned)
     → scan_at w image ≡ Ok s
     → scan_at (record w { fewer = true }) image ≡ Ok s
 unfolding scan_at
-scan_fewer w image s is = read_fewer w (scan_of One w.store (length w.base) image) s is
+scan_fewer w image s is = read_fewer w (scan_of w.chunk w.store (length w.base) image) s is
 
 one_fewer : (x : Result Wanted StartFault) (ws fewer : List (Result Wanted StartFault))
     (image : Image) (ss : List Scanned)

@@ -4,7 +4,9 @@ use Rattle.std.proofs.Common.{take, get_or, ap, subst, arith}
 use Rattle.std.specs.Prelude.{Option, Some, None, All}
 use Rattle.std.proofs.lemmas.List.Elements.{All-head, All-tail}
 use Rattle.vab_exceptions.specs.declared.area.Exception.{Exception}
-use Rattle.vab_space.specs.declared.Chunk.TheVariants.{One}
+use Rattle.vab_space.specs.declared.Chunk.{Chunk}
+use Rattle.vab_space.specs.declared.Chunk.TheVariants.{One, Two, Four}
+use Rattle.vab_space.specs.Chunks.{chunks_for}
 use Rattle.vab_store.specs.View.{Fits, exception_at}
 use Rattle.vab_device.specs.declared.device.Part.{Part}
 use Rattle.vab_device.specs.declared.device.PartImage.{PartImage}
@@ -15,24 +17,32 @@ use Rattle.vab_merging.proofs.BelowLaws.{few_below}
 
 -- ---- exceptions
 
-few_exceptions : (bound : ℕ) (map : List ℕ) (es : List Exception)
-    → Fits One bound map es
+-- as few chunks as blocks
+chunks_most : (k : Chunk) (blocks : ℕ) → chunks_for k blocks ≤ blocks
+chunks_most One blocks = omega arith
+chunks_most Two blocks = omega arith
+chunks_most Four blocks = omega arith
+
+few_exceptions : (k : Chunk) (bound : ℕ) (map : List ℕ) (es : List Exception)
+    → Fits k bound map es
     → length es ≤ bound
-few_exceptions bound map es fits =
-    few_below bound (length es) (λ j. (exception_at es j).old_chunk)
+few_exceptions k bound map es fits =
+    let few : length es ≤ chunks_for k bound =
+    few_below (chunks_for k bound) (length es) (λ j. (exception_at es j).old_chunk)
     (λ j below. (fits.lie j below).old_chunk)
-    (λ j k jk below. (fits.once j k jk below).old_chunk)
+    (λ i j ij below. (fits.once i j ij below).old_chunk) in
+    omega (arith, few, chunks_most k bound)
 
 few_stored : (size : ℕ) (base : List ℕ) (store : Option (List ℕ)) (image : PartImage)
     → IsStored size base store image
     → count_of image ≤ length base
 few_stored size base None Kept is = omega arith
 few_stored size base None Declared is = omega arith
-few_stored size base None (Written es) is = absurd is
+few_stored size base None (Written k es) is = absurd is
 few_stored size base (Some store) Kept is = omega arith
 few_stored size base (Some store) Declared is = omega arith
-few_stored size base (Some store) (Written es) is =
-    few_exceptions (length base) store es is.1
+few_stored size base (Some store) (Written k es) is =
+    few_exceptions k (length base) store es is.1
 
 pub few_of : (size : ℕ) (p : Part) → IsPart size p → count_of p.image ≤ 2 ^ 28
 few_of size p is =

@@ -14,7 +14,7 @@ fn count_of(part: &Part) -> u64
     match &part.image {
         PartImage::Kept => 0,
         PartImage::Declared => 0,
-        PartImage::Written(view) => view.count(),
+        PartImage::Written(_, view) => view.count(),
     }
 }
 
