@@ -10,6 +10,7 @@ use Rattle.vab_bootctl.specs.Boot.{info_at, IsBootable, chosen_of, booted_of, ac
 use Rattle.vab_bootctl.proofs.BootLaws.{chosen_is, booted_current, booted_none, activated_current}
 use Rattle.vab_layout.specs.Slots.{other_slot}
 use Rattle.vab_set.specs.declared.set.SetImage.{SetImage}
+use Rattle.vab_space.specs.declared.Chunk.TheVariants.{One}
 use Rattle.vab_model.specs.declared.state.Image.{Image as ImageOfSlot}
 use Rattle.vab_model.specs.declared.state.PlanEntry.{PlanEntry}
 use Rattle.vab_model.specs.declared.state.State.{State}
@@ -121,9 +122,9 @@ module _ (m : Mounted) where
 
   flashes : (x : Mounted) (staged : Option (List ℕ)) (name : List ℕ)
       → StillRuns m x
-      → AllRun (effect_on x staged (Flash name)).later
+      → AllRun (effect_on x staged (Flash name One)).later
   flashes x staged name runs y is =
-      planned x y runs (flash_planned x staged name x.state.phase y is)
+      planned x y runs (flash_planned x staged name One x.state.phase y is)
 
   -- the end of the installation
   completes : (x : Mounted) (source : ℕ) (plan : List PlanEntry) (least : Option (List ℕ))

@@ -256,8 +256,8 @@ module _ (m : Mounted) where
   same_by staged (Resize name size) other = edits (resize_edit name size)
   same_by staged (Delete name) other = edits (delete_edit name)
   same_by staged (Snapshot name size) other = edits (snapshot_edit name size)
-  same_by staged (Flash name) other =
-      λ x is. planned x _ (flash_planned m staged name m.state.phase x is)
+  same_by staged (Flash name chunk) other =
+      λ x is. planned x _ (flash_planned m staged name chunk m.state.phase x is)
   same_by staged (Merge blocks) other = merges blocks m.state.phase
   same_by staged _ other = absurd cc
 

@@ -3,7 +3,8 @@ use Rattle.std.proofs.Common.{◌≡◌, ℕ, ◌*◌, inl, inr, Bool, true, fal
 use Rattle.std.proofs.Common.{length, Option, Some, None, Result, Ok, Err, refl, sym, subst}
 use Rattle.std.specs.Prelude.{nat_lt, nat_le}
 use Rattle.vab_names.specs.Names.{is_full, base_of}
-use Rattle.vab_space.specs.Space.{need_of}
+use Rattle.vab_space.specs.declared.Chunk.{Chunk}
+use Rattle.vab_space.specs.Chunks.{need_at}
 use Rattle.vab_layout.specs.declared.layout.Layout.{Layout}
 use Rattle.vab_layout.specs.Slots.{other_slot}
 use Rattle.vab_builder.specs.declared.fault.EditFault.{EditFault}
@@ -85,67 +86,69 @@ module _ (m : Mounted) where
 
   -- ---- an image
 
-  roomed : (source : ℕ) (plan : List PlanEntry) (e : PlanEntry) (store : ℕ) (staged : List ℕ)
-      (n : ℕ)
-      → ArePlanned source (if_room m source plan e store staged n).later
-  roomed source plan e store staged n =
-      either source (nat_le (need_of n) store)
+  roomed : (source : ℕ) (plan : List PlanEntry) (e : PlanEntry) (store : ℕ) (k : Chunk)
+      (staged : List ℕ) (n : ℕ)
+      → ArePlanned source (if_room m source plan e store k staged n).later
+  roomed source plan e store k staged n =
+      either source (nat_le (need_at n k) store)
       (flashed m source plan e staged n)
-      (refuses (refusals.StoreFull (need_of n) store))
+      (refuses (refusals.StoreFull (need_at n k) store))
       (one source _ (record {
         plan = with_image e.name (Written (filled staged e.blocks) n) plan;
         state = refl;
       }))
       (none source)
 
-  written : (source : ℕ) (plan : List PlanEntry) (e : PlanEntry) (store : ℕ)
+  written : (source : ℕ) (plan : List PlanEntry) (e : PlanEntry) (store : ℕ) (k : Chunk)
       (staged : Option (List ℕ))
-      → ArePlanned source (staged_effect m source plan e store staged).later
-  written source plan e store None = none source
-  written source plan e store (Some staged) =
-      let n : ℕ = differences (source_bytes m.state source e.name) staged e.blocks in
+      → ArePlanned source (staged_effect m source plan e store k staged).later
+  written source plan e store k None = none source
+  written source plan e store k (Some staged) =
+      let n : ℕ = differences k (source_bytes m.state source e.name) staged e.blocks in
       let large : Refusal = refusals.TooLarge (length staged) (4096 * e.blocks) in
-      let room : Effect Mounted = if_room m source plan e store staged n in
+      let room : Effect Mounted = if_room m source plan e store k staged n in
       let is_large : Bool = nat_lt (4096 * e.blocks) (length staged) in
       either source (is_sparse staged) (refuses refusals.Sparse)
       (cond is_large (refuses large) room)
       (none source)
       (either source is_large (refuses large) room (none source)
-      (roomed source plan e store staged n))
+      (roomed source plan e store k staged n))
 
   stored : (source : ℕ) (plan : List PlanEntry) (name : List ℕ) (group : Option (List ℕ))
-      (blocks : ℕ) (own store : Option ℕ) (staged : Option (List ℕ)) (image : PlanImage)
+      (blocks : ℕ) (own store : Option ℕ) (k : Chunk) (staged : Option (List ℕ))
+      (image : PlanImage)
       → ArePlanned source (stored_effect m source plan
       (record { name = name; group = group; blocks = blocks; store = own; image = image })
-      staged store).later
-  stored source plan name group blocks own None staged image = none source
-  stored source plan name group blocks own (Some store) staged Kept =
+      k staged store).later
+  stored source plan name group blocks own None k staged image = none source
+  stored source plan name group blocks own (Some store) k staged Kept =
       written source plan
       (record { name = name; group = group; blocks = blocks; store = own; image = Kept })
-      store staged
-  stored source plan name group blocks own (Some store) staged Declared =
+      store k staged
+  stored source plan name group blocks own (Some store) k staged Declared =
       written source plan
       (record { name = name; group = group; blocks = blocks; store = own; image = Declared })
-      store staged
-  stored source plan name group blocks own (Some store) staged (Written bytes count) =
+      store k staged
+  stored source plan name group blocks own (Some store) k staged (Written bytes count) =
       none source
 
-  found : (source : ℕ) (plan : List PlanEntry) (staged : Option (List ℕ)) (e : Option PlanEntry)
-      → ArePlanned source (entry_effect m source plan staged e).later
-  found source plan staged None = none source
-  found source plan staged (Some e) =
-      stored source plan e.name e.group e.blocks e.store e.store staged e.image
+  found : (source : ℕ) (plan : List PlanEntry) (k : Chunk) (staged : Option (List ℕ))
+      (e : Option PlanEntry)
+      → ArePlanned source (entry_effect m source plan k staged e).later
+  found source plan k staged None = none source
+  found source plan k staged (Some e) =
+      stored source plan e.name e.group e.blocks e.store e.store k staged e.image
 
-  pub flash_planned : (staged : Option (List ℕ)) (name : List ℕ) (phase : Phase)
+  pub flash_planned : (staged : Option (List ℕ)) (name : List ℕ) (k : Chunk) (phase : Phase)
       → ArePlanned (worked_of phase m.state.control.current)
-      (flash_effect m staged name phase).later
-  flash_planned staged name Idle = none m.state.control.current
-  flash_planned staged name (Installing source plan) =
+      (flash_effect m staged name k phase).later
+  flash_planned staged name k Idle = none m.state.control.current
+  flash_planned staged name k (Installing source plan) =
       let e : Option PlanEntry = entry_named (base_of name) plan in
       either source (is_full (other_slot source) name)
-      (entry_effect m source plan staged e)
+      (entry_effect m source plan k staged e)
       (refuses refusals.BadName)
-      (found source plan staged e)
+      (found source plan k staged e)
       (none source)
-  flash_planned staged name (Staged source left) = none source
-  flash_planned staged name (Merging target left) = none target
+  flash_planned staged name k (Staged source left) = none source
+  flash_planned staged name k (Merging target left) = none target

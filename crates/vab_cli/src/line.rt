@@ -81,7 +81,7 @@ fn done_line(command: &Command, current: usize, left: u64, out: &mut Line)
         | Command::Resize(_, _)
         | Command::Delete(_)
         | Command::Snapshot(_, _)
-        | Command::Flash(_)
+        | Command::Flash(_, _)
         | Command::Finish
         | Command::Merge(_) => put_line(out, b"", b""),
     }

@@ -136,7 +136,7 @@ module _ {D : Type 0}
       of_text (edit_writes d.plan d.geometry (other_slot d.mark.slot) s b w)
   one_writes (Snapshot name size) not w =
       of_text (edit_writes d.plan d.geometry (other_slot d.mark.slot) s b w)
-  one_writes (Flash name) not w = ⊎_elim
+  one_writes (Flash name chunk) not w = ⊎_elim
       (λ store.
       inr (inr (inr (inr (store_is_free d (g.size old) (g.seen old) _ s device is store)))))
       (λ status. inr (inr (inl status.there)))

@@ -56,7 +56,7 @@ pub fn run_one<D: Disk>(
         Command::Resize(name, size) => edit(alloc, d, device, &Edit::Resize(name, size)),
         Command::Delete(name) => edit(alloc, d, device, &Edit::Delete(name)),
         Command::Snapshot(name, size) => edit(alloc, d, device, &Edit::AddStore(name, size)),
-        Command::Flash(name) => flash(alloc, d, device, name, staged),
+        Command::Flash(name, chunk) => flash(alloc, d, device, name, staged, chunk),
         Command::Cancel => cancel(d, device),
         Command::Finish => finish(d, device),
         Command::BeginMerge => begin_merge(d, device),

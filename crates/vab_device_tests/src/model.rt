@@ -7,6 +7,7 @@ use vab_bytes::{Bytes, Listing, Name36};
 use vab_model::{
     Command, GroupLimit, Image, Phase, PlanEntry, PlanImage, Refusal, Reply, State, step,
 };
+use vab_space::Chunk;
 
 // The SHA-256 of no bytes.
 const OF_NOTHING: [u8; 32] = [
@@ -184,7 +185,7 @@ fn questions_are_answered_and_commands_on_an_update_refused(rt: HostRuntime) -> 
             Reply::Refused(Refusal::NotInstalling),
         ),
         (
-            Command::Flash(b"system_b"),
+            Command::Flash(b"system_b", Chunk::One),
             Reply::Refused(Refusal::NotInstalling),
         ),
         (Command::Finish, Reply::Refused(Refusal::NotInstalling)),

@@ -217,6 +217,7 @@ fn status() -> Result<[u8; 512], Fail> {
     let status = PartStatus {
         name: full_name()?,
         count: 2,
+        chunk: Chunk::One,
     };
     Ok(encode_status(&status))
 }
@@ -249,7 +250,7 @@ fn left(device: &Device) -> Option<u64> {
     match &part.image {
         PartImage::Kept => None,
         PartImage::Declared => None,
-        PartImage::Written(view) => Some(view.count()),
+        PartImage::Written(_, view) => Some(view.count()),
     }
 }
 
@@ -471,7 +472,7 @@ fn store_of(device: &Device) -> Option<(u64, Option<u64>, Option<u64>)> {
     let part = device.images(0)?.as_slice().first()?;
     let blocks = part.store.as_ref()?.len();
     match &part.image {
-        PartImage::Written(view) => Some((blocks, view.chunk_of(7), view.chunk_of(30))),
+        PartImage::Written(_, view) => Some((blocks, view.chunk_of(7), view.chunk_of(30))),
         _ => None,
     }
 }

@@ -6,9 +6,9 @@ ghost use Rattle.vab_linear.specs.Map.{run_of};
 use std::alloc::Global;
 use std::test::*;
 use vab_disk::{Disk, MemPort};
-use vab_install::{differing, write_snapshot};
+use vab_install::{list_differing, write_snapshot};
 use vab_linear::Map;
-use vab_space::need;
+use vab_space::{Chunk, need_at};
 use vab_store::StoreView;
 
 // Blocks that follow one another from a sector on.
@@ -38,14 +38,15 @@ fn written<D: Disk>(
     if d.sectors() < 64 {
         return None;
     }
-    let count = match differing(d, base, image, 4) {
-        Ok(count) => count,
+    let found = match list_differing(alloc, d, Some(base), image, 4, Chunk::One, 4) {
+        Ok(found) => found,
         Err(_) => return None,
     };
-    if need(count) > store.len() {
+    let olds = found.chunks?;
+    if need_at(found.count, Chunk::One) > store.len() {
         return None;
     }
-    match write_snapshot(alloc, d, base, store, image, 4) {
+    match write_snapshot(alloc, d, store, image, &olds, Chunk::One) {
         Ok(view) => Some(view),
         Err(_) => None,
     }

@@ -13,6 +13,7 @@ use vab_geometry::{Geometry, encode_geometry};
 use vab_marks::{MarkPhase, UpdateMark, decode_mark, encode_mark};
 use vab_model::{Command, Reply};
 use vab_recover::start;
+use vab_space::Chunk;
 
 const MARK: u64 = 2048;
 
@@ -39,8 +40,8 @@ fn merged(alloc: Global) -> Result<MemPort, Fail> {
         (Command::Create(b"y_b", 8192), Reply::Done),
         (Command::Snapshot(b"x_b", 0), Reply::Done),
         (Command::Snapshot(b"y_b", 0), Reply::Done),
-        (Command::Flash(b"x_b"), Reply::Done),
-        (Command::Flash(b"y_b"), Reply::Done),
+        (Command::Flash(b"x_b", Chunk::One), Reply::Done),
+        (Command::Flash(b"y_b", Chunk::One), Reply::Done),
         (Command::Finish, Reply::Done),
         (Command::SetActive(1), Reply::Done),
         (Command::Boot, Reply::Booted(1)),

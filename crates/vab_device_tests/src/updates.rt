@@ -9,6 +9,7 @@ use vab_device::{PartImage, PhaseKind};
 use vab_disk::{Disk, MemPort};
 use vab_model::{Command, Refusal, Reply};
 use vab_recover::start;
+use vab_space::Chunk;
 
 // What is planned in a place: the partition's blocks, its store's, `k`, `d` or `w` for kept,
 // declared or written, and how many exceptions.
@@ -35,7 +36,7 @@ fn planned(alloc: Global, d: &mut MemPort, place: usize) -> Option<Planned> {
     let (letter, exceptions) = match &part.image {
         PartImage::Kept => (b'k', 0),
         PartImage::Declared => (b'd', 0),
-        PartImage::Written(view) => (b'w', view.count()),
+        PartImage::Written(_, view) => (b'w', view.count()),
     };
     Some((part.map.len(), store, letter, exceptions))
 }
@@ -69,7 +70,7 @@ const FIRST: [Step<'static>; 3] = [
         Reply::Refused(Refusal::NotInstalling),
     ),
     (
-        Command::Flash(b"x_b"),
+        Command::Flash(b"x_b", Chunk::One),
         Some(b"abc"),
         Reply::Refused(Refusal::NotInstalling),
     ),
@@ -109,47 +110,55 @@ const EDITS: [Step<'static>; 8] = [
 
 const FLASHES: [Step<'static>; 6] = [
     (
-        Command::Flash(b"x"),
+        Command::Flash(b"x", Chunk::One),
         Some(b"abc"),
         Reply::Refused(Refusal::BadName),
     ),
     (
-        Command::Flash(b"z_b"),
+        Command::Flash(b"z_b", Chunk::One),
         Some(b"abc"),
         Reply::Refused(Refusal::Unknown),
     ),
     (
-        Command::Flash(b"x_b"),
+        Command::Flash(b"x_b", Chunk::One),
         Some(b"abc"),
         Reply::Refused(Refusal::NoStore),
     ),
     (
-        Command::Flash(b"y_b"),
+        Command::Flash(b"y_b", Chunk::One),
         None,
         Reply::Refused(Refusal::NothingStaged),
     ),
     (
-        Command::Flash(b"y_b"),
+        Command::Flash(b"y_b", Chunk::One),
         Some(b"\x3a\xff\x26\xed"),
         Reply::Refused(Refusal::Sparse),
     ),
-    (Command::Flash(b"y_b"), Some(b"abc"), Reply::Done),
+    (
+        Command::Flash(b"y_b", Chunk::One),
+        Some(b"abc"),
+        Reply::Done,
+    ),
 ];
 
 // A store is as full as the image differs.
 const STORES: [Step<'static>; 4] = [
     (
-        Command::Flash(b"y_b"),
+        Command::Flash(b"y_b", Chunk::One),
         Some(b"abc"),
         Reply::Refused(Refusal::Written),
     ),
     (Command::Snapshot(b"x_b", 8192), None, Reply::Done),
     (
-        Command::Flash(b"x_b"),
+        Command::Flash(b"x_b", Chunk::One),
         Some(b"abd"),
         Reply::Refused(Refusal::StoreFull(3, 2)),
     ),
-    (Command::Flash(b"x_b"), Some(b"abc"), Reply::Done),
+    (
+        Command::Flash(b"x_b", Chunk::One),
+        Some(b"abc"),
+        Reply::Done,
+    ),
 ];
 
 const AGAIN: [Step<'static>; 2] = [
@@ -169,7 +178,7 @@ fn an_update_is_begun_edited_flashed_and_dropped(rt: HostRuntime) -> Result<(), 
     each_is_told(&rt, alloc, &mut d, &EDITS, [KEPT, Some((2, 4, b'd', 0))]);
     let large = vec![in alloc; 0u8; 8193]?;
     let refused = Reply::Refused(Refusal::TooLarge(8193, 8192));
-    let too_large: [Step; 1] = [(Command::Flash(b"y_b"), Some(&large), refused)];
+    let too_large: [Step; 1] = [(Command::Flash(b"y_b", Chunk::One), Some(&large), refused)];
     each_is_told(
         &rt,
         alloc,
@@ -214,7 +223,7 @@ fn ready(alloc: Global, d: &mut MemPort) -> Option<(PhaseKind, u8, u64)> {
     let (letter, exceptions) = match &part.image {
         PartImage::Kept => (b'k', 0),
         PartImage::Declared => (b'd', 0),
-        PartImage::Written(view) => (b'w', view.count()),
+        PartImage::Written(_, view) => (b'w', view.count()),
     };
     Some((device.phase(), letter, exceptions))
 }
@@ -228,7 +237,12 @@ fn a_store_counts_all_its_exceptions(rt: HostRuntime) -> Result<(), Fail> {
     for command in [Command::Begin, Command::Snapshot(b"x_b", 0)] {
         assert!(rt; reply(alloc, &mut d, &command) == Some(Reply::Done));
     }
-    let flashed = reply_staged(alloc, &mut d, &Command::Flash(b"x_b"), Some(b"abd"));
+    let flashed = reply_staged(
+        alloc,
+        &mut d,
+        &Command::Flash(b"x_b", Chunk::One),
+        Some(b"abd"),
+    );
     assert!(rt; flashed == Some(Reply::Done));
     assert!(rt; ready(alloc, &mut d) == Some((PhaseKind::Installing(0), b'-', 0)));
     // Somebody else writes that image into the source's block.
@@ -298,7 +312,7 @@ fn the_end_of_an_installation_is_cut(rt: HostRuntime) -> Result<(), Fail> {
 const CUT: [(Command<'static>, Planned); 3] = [
     (Command::Begin, (1, 0, b'k', 0)),
     (Command::Snapshot(b"x_b", 0), (1, 3, b'd', 0)),
-    (Command::Flash(b"x_b"), (1, 3, b'w', 1)),
+    (Command::Flash(b"x_b", Chunk::One), (1, 3, b'w', 1)),
 ];
 
 // Wherever it is cut, each of begin, an edit and a flash leaves the device before it or after it.

@@ -51,7 +51,7 @@ fn left(device: &Device) -> Option<u64> {
         return None;
     }
     match &device.images(0)?.as_slice().first()?.image {
-        PartImage::Written(view) => Some(view.count()),
+        PartImage::Written(_, view) => Some(view.count()),
         PartImage::Kept | PartImage::Declared => None,
     }
 }

@@ -1,13 +1,15 @@
 -- Staged bytes with zeros behind them, by blocks and as a whole.
 use Rattle.std.proofs.Common.{◌≡◌, ◌∙◌, ℕ, zero, suc, ◌+◌, ◌-◌, ◌*◌, ◌≤◌, ◌<◌, List, [], ◌∷◌}
-use Rattle.std.proofs.Common.{◌++◌, cond, length, take, drop, refl, sym, ap}
+use Rattle.std.proofs.Common.{◌++◌, length, take, drop, refl, sym, ap}
 use Rattle.std.proofs.Common.{arith, length-append, length-drop}
 use Rattle.std.specs.Prelude.{replicate, not, ◌&&◌, nat_lt}
-use Rattle.std.specs.List.{filter, flat_map, range_with_len}
+use Rattle.std.specs.List.{flat_map, range_with_len}
 use Rattle.std.specs.Str.{bytes_eq}
 use Rattle.std.proofs.Math.Seq.{take-add}
 use Rattle.std.proofs.lemmas.List.{take-replicate, drop-replicate, drop-drop, take_all}
 use Rattle.std.proofs.lemmas.List.{length-replicate}
+use Rattle.vab_space.specs.declared.Chunk.{Chunk}
+use Rattle.vab_space.proofs.DifferingLaws.{differing_same}
 use Rattle.vab_store.specs.Writing.{block_of}
 use Rattle.vab_machine.specs.Plans.{blocks_in}
 use Rattle.vab_machine.specs.Staged.{filled, block_at, differs, differences}
@@ -112,16 +114,9 @@ module _ (staged : List ℕ) (blocks : ℕ) (le : length staged ≤ 4096 * block
       ap (λ (b : List ℕ). not (nat_lt i (blocks_in source) && bytes_eq (block_at source i) b))
       (block_same staged blocks i le lt)
 
-  filter_same : (source : List ℕ) (a n : ℕ)
-      → a + n ≤ blocks
-      → filter (is_other source staged) (range_with_len a n)
-      ≡ filter (differs source t) (range_with_len a n)
-  filter_same source a zero within = refl
-  filter_same source a (suc n) within =
-      let here = other_same source a (omega (arith, within)) in
-      let rest = filter_same source (a + 1) n (omega (arith, within)) in
-      (λ i. cond (here i) (a ∷ rest i) (rest i))
-
-  pub differences_same : (source : List ℕ)
-      → differences_of source staged blocks ≡ differences source t blocks
-  differences_same source = ap length (filter_same source 0 blocks (omega arith))
+  pub differences_same : (k : Chunk) (source : List ℕ)
+      → differences_of k source staged blocks ≡ differences k source t blocks
+  differences_same k source =
+      ap length
+      (differing_same k (is_other source staged) (differs source t) blocks
+      (λ i lt. other_same source i lt))

@@ -1,4 +1,5 @@
 //! Commands that no table can refuse.
+ghost use Rattle.vab_space.specs.declared.Chunk.{Chunk};
 ghost use Rattle.vab_machine_laws.specs.Rows.{IsTheMachines};
 ghost use Rattle.vab_model.specs.Commands.{SetActive, Boot, Mark, Print, Digest, Flash, Finish};
 ghost use Rattle.vab_model.specs.Commands.{Cancel, BeginMerge, Merge};
@@ -23,5 +24,5 @@ pub fn ends_are_the_machines()
 
 /// So is what a flash makes of it.
 pub fn flashes_are_the_machines()
-    ensures { (name : List ℕ) → IsTheMachines (Flash name) }
+    ensures { (name : List ℕ) (chunk : Chunk) → IsTheMachines (Flash name chunk) }
 {}

@@ -25,13 +25,18 @@ fn sector_of(map: &Map, block: u64) -> Result<u64, Fail> {
     }
 }
 
-// The first sector of a block of an image: of its store, where that has it.
+// The first sector of a block of an image: of its store, where that has its chunk.
 fn place(part: &Part, block: u64) -> Result<u64, Fail> {
     match (&part.image, &part.store) {
-        (PartImage::Written(view), Some(store)) => match view.chunk_of(block) {
-            Some(chunk) => sector_of(store, chunk),
-            None => sector_of(&part.map, block),
-        },
+        (PartImage::Written(chunk, view), Some(store)) => {
+            match view.chunk_of(chunk.chunk_at(block)) {
+                Some(new) if new < 1 << 61 => {
+                    sector_of(store, chunk.block_in(new, chunk.place_in(block)))
+                }
+                Some(_) => Err("a chunk is in its store".into()),
+                None => sector_of(&part.map, block),
+            }
+        }
         _ => sector_of(&part.map, block),
     }
 }
@@ -88,7 +93,7 @@ fn plan(
         let image = match &part.image {
             PartImage::Kept => PlanImage::Kept,
             PartImage::Declared => PlanImage::Declared,
-            PartImage::Written(view) => {
+            PartImage::Written(_, view) => {
                 PlanImage::Written(image_bytes(alloc, d, part)?, view.count())
             }
         };
@@ -109,7 +114,7 @@ fn left(parts: &Option<Listing<Part>>) -> u64 {
     let mut left = 0u64;
     if let Some(parts) = parts {
         for part in parts.as_slice() {
-            if let PartImage::Written(view) = &part.image {
+            if let PartImage::Written(_, view) = &part.image {
                 left = left.saturating_add(view.count());
             }
         }

@@ -7,6 +7,7 @@ use std::process::Abort;
 use std::test::*;
 use vab_disk::MemPort;
 use vab_model::{Command, Phase, Reply, State};
+use vab_space::Chunk;
 
 // Numbers by multiplying and adding, from a seed.
 #[derive(Drop)]
@@ -42,6 +43,14 @@ fn size(draws: &mut Draws) -> u64 {
     SIZES[(draws.draw(8) % 8) as usize]
 }
 
+fn chunk(draws: &mut Draws) -> Chunk {
+    match draws.draw(3) {
+        0 => Chunk::One,
+        1 => Chunk::Two,
+        _ => Chunk::Four,
+    }
+}
+
 // Any command, on a device where this slot is current.
 fn any(draws: &mut Draws, current: usize) -> Command<'static> {
     match draws.draw(12) {
@@ -55,7 +64,7 @@ fn any(draws: &mut Draws, current: usize) -> Command<'static> {
         7 => Command::Merge(draws.draw(4)),
         8 => Command::Digest(name(draws, current)),
         9 => Command::Print(name(draws, current)),
-        10 => Command::Flash(name(draws, current)),
+        10 => Command::Flash(name(draws, current), chunk(draws)),
         _ => Command::Create(name(draws, current), size(draws)),
     }
 }
@@ -68,7 +77,7 @@ fn installing(draws: &mut Draws, target: usize) -> Command<'static> {
         3 => Command::Delete(name(draws, target)),
         4 => Command::Snapshot(name(draws, target), size(draws)),
         5 | 6 => Command::Snapshot(name(draws, target), 0),
-        7 | 8 | 9 => Command::Flash(name(draws, target)),
+        7 | 8 | 9 => Command::Flash(name(draws, target), chunk(draws)),
         _ => Command::Finish,
     }
 }
@@ -134,7 +143,7 @@ fn kind(command: &Command) -> usize {
         Command::Resize(_, _) => 7,
         Command::Delete(_) => 8,
         Command::Snapshot(_, _) => 9,
-        Command::Flash(_) => 10,
+        Command::Flash(_, _) => 10,
         Command::Finish => 11,
         Command::Cancel => 12,
         Command::BeginMerge => 13,

@@ -7,6 +7,7 @@ use std::process::Abort;
 use std::test::*;
 use vab_disk::MemPort;
 use vab_model::{Command, Refusal, Reply};
+use vab_space::Chunk;
 
 // What is staged.
 #[derive(Clone, Copy)]
@@ -143,34 +144,38 @@ const LIFE: [Case; 26] = [
     (Command::Begin, NOTHING, DONE),
     (Command::Resize(b"x_b", 16384), NOTHING, DONE),
     (
-        Command::Flash(b"x_b"),
+        Command::Flash(b"x_b", Chunk::One),
         NOTHING,
         Want::Refused(Refusal::NoStore),
     ),
     (Command::Snapshot(b"x_b", 20480), NOTHING, DONE),
     (
-        Command::Flash(b"x_b"),
+        Command::Flash(b"x_b", Chunk::One),
         NOTHING,
         Want::Refused(Refusal::NothingStaged),
     ),
     (
-        Command::Flash(b"x_b"),
+        Command::Flash(b"x_b", Chunk::One),
         Staged::Text(b"\x3a\xff\x26\xed"),
         Want::Refused(Refusal::Sparse),
     ),
     (
-        Command::Flash(b"x_b"),
+        Command::Flash(b"x_b", Chunk::One),
         Staged::Zeros(16385),
         Want::Refused(Refusal::TooLarge(16385, 16384)),
     ),
     (
-        Command::Flash(b"x_b"),
+        Command::Flash(b"x_b", Chunk::One),
         Staged::Text(b"abc"),
         Want::Refused(Refusal::StoreFull(6, 5)),
     ),
-    (Command::Flash(b"x_b"), Staged::Zeros(4096), DONE),
     (
-        Command::Flash(b"x_b"),
+        Command::Flash(b"x_b", Chunk::One),
+        Staged::Zeros(4096),
+        DONE,
+    ),
+    (
+        Command::Flash(b"x_b", Chunk::One),
         Staged::Zeros(1),
         Want::Refused(Refusal::Written),
     ),

@@ -4,6 +4,7 @@ use arrayvec::ArrayVec;
 use std::test::*;
 use vab_fbproto::{BadCommand, Request, Var, put_decimal, read_command, reply_text};
 use vab_model::{Command, Refusal, Reply};
+use vab_space::Chunk;
 
 // A variable, as a letter.
 fn letter_of_variable(variable: Var) -> u8 {
@@ -38,7 +39,9 @@ fn letter_of_command(command: Command) -> u8 {
         Command::Resize(_, _) => b'R',
         Command::Delete(_) => b'X',
         Command::Snapshot(_, _) => b'S',
-        Command::Flash(_) => b'F',
+        Command::Flash(_, Chunk::One) => b'F',
+        Command::Flash(_, Chunk::Two) => b'2',
+        Command::Flash(_, Chunk::Four) => b'4',
         Command::Finish => b'f',
         Command::Cancel => b'q',
         Command::BeginMerge => b'B',
@@ -117,6 +120,23 @@ fn packets_ask_for_what_their_words_say(rt: HostRuntime) -> Result<(), Fail> {
         (b"delete-logical-partition:x b", b'!'),
         (b"flash:x_b", b'F'),
         (b"flash", b'!'),
+        (b"flash:x_b 16", b'!'),
+        (b"oem flash x_b 8", b'F'),
+        (b"oem flash x_b 16", b'2'),
+        (b"oem flash x_b\t32", b'4'),
+        (b"oem flash x_b", b'!'),
+        (b"oem flash", b'!'),
+        (b"oem flash ", b'!'),
+        (b"oem flash  8", b'!'),
+        (b"oem flash x_b ", b'!'),
+        (b"oem flash x_b 4", b'!'),
+        (b"oem flash x_b 64", b'!'),
+        (b"oem flash x_b 08", b'!'),
+        (b"oem flash x_b 0x8", b'!'),
+        (b"oem flash x_b  8", b'!'),
+        (b"oem flash x_b 8 ", b'!'),
+        (b"oem flash x:b 8", b'!'),
+        (b"oem flash:x_b 8", b'?'),
         (b"snapshot-update:cancel", b'q'),
         (b"snapshot-update:merge", b'A'),
         (b"snapshot-update", b'!'),

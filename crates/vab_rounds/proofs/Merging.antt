@@ -5,6 +5,7 @@ use Rattle.std.proofs.Common.{List, [], ◌∷◌, take, codes, Option, Some, No
 use Rattle.std.proofs.Common.{Ok, Err}
 use Rattle.std.proofs.Common.{refl, sym, subst, arith, add-zero}
 use Rattle.std.specs.Prelude.{◌&&◌, nat_lt, is_some}
+use Rattle.vab_space.specs.declared.Chunk.{Chunk}
 use Rattle.vab_bootctl.specs.declared.slots.Control.{Control}
 use Rattle.vab_bootctl.specs.Boot.{activated_of}
 use Rattle.vab_model.specs.declared.state.Image.{Image as ImageOfSlot}
@@ -141,13 +142,14 @@ module _ (left : ℕ) where
   edits asked m edit (Staged source still) is = absurd is
   edits asked m edit (Merging target still) is = none asked
 
-  flashes : (asked : ℕ) (m : Mounted) (staged : Option (List ℕ)) (name : List ℕ) (phase : Phase)
+  flashes : (asked : ℕ) (m : Mounted) (staged : Option (List ℕ)) (name : List ℕ) (k : Chunk)
+      (phase : Phase)
       → IsDue left asked phase
-      → AreDue asked (flash_effect m staged name phase).later
-  flashes asked m staged name Idle is = none asked
-  flashes asked m staged name (Installing source plan) is = absurd is
-  flashes asked m staged name (Staged source still) is = absurd is
-  flashes asked m staged name (Merging target still) is = none asked
+      → AreDue asked (flash_effect m staged name k phase).later
+  flashes asked m staged name k Idle is = none asked
+  flashes asked m staged name k (Installing source plan) is = absurd is
+  flashes asked m staged name k (Staged source still) is = absurd is
+  flashes asked m staged name k (Merging target still) is = none asked
 
   cancels : (asked : ℕ) (m : Mounted) (phase : Phase)
       → IsDue left asked phase
@@ -201,8 +203,8 @@ module _ (left : ℕ) where
       edits asked m (delete_edit name) m.state.phase is
   command_steps asked m staged (Snapshot name size) other is =
       edits asked m (snapshot_edit name size) m.state.phase is
-  command_steps asked m staged (Flash name) other is =
-      flashes asked m staged name m.state.phase is
+  command_steps asked m staged (Flash name chunk) other is =
+      flashes asked m staged name chunk m.state.phase is
   command_steps asked m staged Cancel other is = cancels asked m m.state.phase is
   command_steps asked m staged BeginMerge other is = merge_begins asked m m.state.phase is
   command_steps asked m staged (Merge blocks) other is = merges asked m blocks m.state.phase is

@@ -11,7 +11,8 @@ use Rattle.vab_bootctl.specs.Boot.{info_at, IsBootable, chosen_of, booted_of}
 use Rattle.vab_bootctl.specs.Boot.{activated_of}
 use Rattle.vab_bootctl.proofs.BootLaws.{chosen_is, booted_current, booted_none}
 use Rattle.vab_names.specs.Names.{is_full, base_of}
-use Rattle.vab_space.specs.Space.{need_of}
+use Rattle.vab_space.specs.declared.Chunk.{Chunk}
+use Rattle.vab_space.specs.Chunks.{need_at}
 use Rattle.vab_layout.specs.declared.layout.Layout.{Layout}
 use Rattle.vab_layout.specs.Slots.{other_slot}
 use Rattle.vab_builder.specs.declared.fault.EditFault.{EditFault}
@@ -219,14 +220,14 @@ module _ (slot : ℕ) (images : List ImageOfSlot) where
   -- ---- an image
 
   roomed : (m : Mounted) (source : ℕ) (plan : List PlanEntry) (e : PlanEntry) (store : ℕ)
-      (staged : List ℕ) (n : ℕ)
+      (k : Chunk) (staged : List ℕ) (n : ℕ)
       → source ≡ slot
       → IsAlone slot images m
-      → AreAlone (if_room m source plan e store staged n).later
-  roomed m source plan e store staged n at is =
-      either (nat_le (need_of n) store)
+      → AreAlone (if_room m source plan e store k staged n).later
+  roomed m source plan e store k staged n at is =
+      either (nat_le (need_at n k) store)
       (flashed m source plan e staged n)
-      (refuses (refusals.StoreFull (need_of n) store))
+      (refuses (refusals.StoreFull (need_at n k) store))
       (one _
       (with_phase m
       (Installing source (with_image e.name (Written (filled staged e.blocks) n) plan))
@@ -234,61 +235,62 @@ module _ (slot : ℕ) (images : List ImageOfSlot) where
       none
 
   written : (m : Mounted) (source : ℕ) (plan : List PlanEntry) (e : PlanEntry) (store : ℕ)
-      (staged : Option (List ℕ))
+      (k : Chunk) (staged : Option (List ℕ))
       → source ≡ slot
       → IsAlone slot images m
-      → AreAlone (staged_effect m source plan e store staged).later
-  written m source plan e store None at is = none
-  written m source plan e store (Some staged) at is =
-      let n : ℕ = differences (source_bytes m.state source e.name) staged e.blocks in
+      → AreAlone (staged_effect m source plan e store k staged).later
+  written m source plan e store k None at is = none
+  written m source plan e store k (Some staged) at is =
+      let n : ℕ = differences k (source_bytes m.state source e.name) staged e.blocks in
       let large : Refusal = refusals.TooLarge (length staged) (4096 * e.blocks) in
-      let room : Effect Mounted = if_room m source plan e store staged n in
+      let room : Effect Mounted = if_room m source plan e store k staged n in
       let is_large : Bool = nat_lt (4096 * e.blocks) (length staged) in
       either (is_sparse staged) (refuses refusals.Sparse) (cond is_large (refuses large) room) none
-      (either is_large (refuses large) room none (roomed m source plan e store staged n at is))
+      (either is_large (refuses large) room none (roomed m source plan e store k staged n at is))
 
   stored : (m : Mounted) (source : ℕ) (plan : List PlanEntry) (name : List ℕ)
-      (group : Option (List ℕ)) (blocks : ℕ) (own store : Option ℕ) (staged : Option (List ℕ))
-      (image : PlanImage)
+      (group : Option (List ℕ)) (blocks : ℕ) (own store : Option ℕ) (k : Chunk)
+      (staged : Option (List ℕ)) (image : PlanImage)
       → source ≡ slot
       → IsAlone slot images m
       → AreAlone (stored_effect m source plan
       (record { name = name; group = group; blocks = blocks; store = own; image = image })
-      staged store).later
-  stored m source plan name group blocks own None staged image at is = none
-  stored m source plan name group blocks own (Some store) staged IsKept at is =
+      k staged store).later
+  stored m source plan name group blocks own None k staged image at is = none
+  stored m source plan name group blocks own (Some store) k staged IsKept at is =
       written m source plan
       (record { name = name; group = group; blocks = blocks; store = own; image = IsKept })
-      store staged at is
-  stored m source plan name group blocks own (Some store) staged Declared at is =
+      store k staged at is
+  stored m source plan name group blocks own (Some store) k staged Declared at is =
       written m source plan
       (record { name = name; group = group; blocks = blocks; store = own; image = Declared })
-      store staged at is
-  stored m source plan name group blocks own (Some store) staged (Written bytes count) at is = none
+      store k staged at is
+  stored m source plan name group blocks own (Some store) k staged (Written bytes count) at is =
+      none
 
-  found : (m : Mounted) (source : ℕ) (plan : List PlanEntry) (staged : Option (List ℕ))
-      (e : Option PlanEntry)
+  found : (m : Mounted) (source : ℕ) (plan : List PlanEntry) (k : Chunk)
+      (staged : Option (List ℕ)) (e : Option PlanEntry)
       → source ≡ slot
       → IsAlone slot images m
-      → AreAlone (entry_effect m source plan staged e).later
-  found m source plan staged None at is = none
-  found m source plan staged (Some e) at is =
-      stored m source plan e.name e.group e.blocks e.store e.store staged e.image at is
+      → AreAlone (entry_effect m source plan k staged e).later
+  found m source plan k staged None at is = none
+  found m source plan k staged (Some e) at is =
+      stored m source plan e.name e.group e.blocks e.store e.store k staged e.image at is
 
-  flashes : (m : Mounted) (staged : Option (List ℕ)) (name : List ℕ) (phase : Phase)
+  flashes : (m : Mounted) (staged : Option (List ℕ)) (name : List ℕ) (k : Chunk) (phase : Phase)
       → IsUnready slot phase
       → IsAlone slot images m
-      → AreAlone (flash_effect m staged name phase).later
-  flashes m staged name Idle unready is = none
-  flashes m staged name (Installing source plan) unready is =
+      → AreAlone (flash_effect m staged name k phase).later
+  flashes m staged name k Idle unready is = none
+  flashes m staged name k (Installing source plan) unready is =
       let e : Option PlanEntry = entry_named (base_of name) plan in
       either (is_full (other_slot source) name)
-      (entry_effect m source plan staged e)
+      (entry_effect m source plan k staged e)
       (refuses refusals.BadName)
-      (found m source plan staged e unready is)
+      (found m source plan k staged e unready is)
       none
-  flashes m staged name (Staged source left) unready is = none
-  flashes m staged name (Merging target left) unready is = none
+  flashes m staged name k (Staged source left) unready is = none
+  flashes m staged name k (Merging target left) unready is = none
 
   -- ---- an update that is dropped
 
@@ -410,8 +412,8 @@ module _ (slot : ℕ) (images : List ImageOfSlot) where
       edits m (delete_edit name) m.state.phase is.unready is
   alone_effect m staged (Snapshot name size) other is =
       edits m (snapshot_edit name size) m.state.phase is.unready is
-  alone_effect m staged (Flash name) other is =
-      flashes m staged name m.state.phase is.unready is
+  alone_effect m staged (Flash name chunk) other is =
+      flashes m staged name chunk m.state.phase is.unready is
   alone_effect m staged Finish other is = absurd cc
   alone_effect m staged Cancel other is = cancels m m.state.phase is.unready is
   alone_effect m staged BeginMerge other is = merge_begins m m.state.phase is.unready

@@ -6,6 +6,7 @@ use Rattle.std.specs.Prelude.{is_some}
 use Rattle.std.proofs.lemmas.Bool.{cases_Bool}
 use Rattle.std.proofs.lemmas.Bool.Decides.{nat_tests}
 use Rattle.vab_disk.specs.Disk.{Outcome}
+use Rattle.vab_space.specs.declared.Chunk.{Chunk}
 use Rattle.vab_bootctl.specs.declared.slots.Control.{Control}
 use Rattle.vab_bootctl.specs.Boot.{info_at, activated_of, booted_of, marked_of}
 use Rattle.vab_layout.specs.Slots.{other_slot}
@@ -187,14 +188,14 @@ module _ (slot : ℕ) (images : List ImageOfSlot) where
   edits m edit (Staged source left) at is = nothing m (inr is)
   edits m edit (Merging target left) at is = absurd at
 
-  flashes : (m : Mounted) (staged : Option (List ℕ)) (name : List ℕ) (phase : Phase)
+  flashes : (m : Mounted) (staged : Option (List ℕ)) (name : List ℕ) (k : Chunk) (phase : Phase)
       → IsStagedFrom slot phase
       → IsReadyFrom slot images m
-      → Makes m (flash_effect m staged name phase).later
-  flashes m staged name Idle at is = absurd at
-  flashes m staged name (Installing source plan) at is = absurd at
-  flashes m staged name (Staged source left) at is = nothing m (inr is)
-  flashes m staged name (Merging target left) at is = absurd at
+      → Makes m (flash_effect m staged name k phase).later
+  flashes m staged name k Idle at is = absurd at
+  flashes m staged name k (Installing source plan) at is = absurd at
+  flashes m staged name k (Staged source left) at is = nothing m (inr is)
+  flashes m staged name k (Merging target left) at is = absurd at
 
   finished_again : (m : Mounted) (phase : Phase)
       → IsStagedFrom slot phase
@@ -286,7 +287,8 @@ module _ (slot : ℕ) (images : List ImageOfSlot) where
   ready_makes m staged (Delete name) is = edits m (delete_edit name) m.state.phase is.ready is
   ready_makes m staged (Snapshot name size) is =
       edits m (snapshot_edit name size) m.state.phase is.ready is
-  ready_makes m staged (Flash name) is = flashes m staged name m.state.phase is.ready is
+  ready_makes m staged (Flash name chunk) is =
+      flashes m staged name chunk m.state.phase is.ready is
   ready_makes m staged Finish is = finished_again m m.state.phase is.ready is
   ready_makes m staged Cancel is = cancels m m.state.phase is.ready is
   ready_makes m staged BeginMerge is = merge_begins m m.state.phase is.ready is

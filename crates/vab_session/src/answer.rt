@@ -83,7 +83,7 @@ fn takes_staged(command: &Command, reply: &Reply) -> bool
     ensures { result ≡ takes_staged (command_of command.now) reply.now }
 {
     match (command, reply) {
-        (Command::Flash(_), Reply::Done) => true,
+        (Command::Flash(_, _), Reply::Done) => true,
         _ => false,
     }
 }

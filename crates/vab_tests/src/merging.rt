@@ -17,7 +17,7 @@ fn left_by(d: &MemPort, blend: Blend) -> Result<MemPort, Fail> {
 }
 
 // Slot b is marked as one that works, and was booted last.
-const B_WORKS: [u8; 4] = [0x8e, 0, 0x8f, 0];
+pub(crate) const B_WORKS: [u8; 4] = [0x8e, 0, 0x8f, 0];
 
 // Blocks 10 to 59.
 const FIFTY: [u8; 50] = [
@@ -27,7 +27,7 @@ const FIFTY: [u8; 50] = [
 ];
 
 // The image of `system`, 100 blocks, where each of these blocks begins with its number.
-fn image(alloc: Global, blocks: &[u8]) -> Result<Vec<u8>, Fail> {
+pub(crate) fn image(alloc: Global, blocks: &[u8]) -> Result<Vec<u8>, Fail> {
     let mut image = filled(alloc, b"abc", 409600)?;
     for block in blocks {
         let at = usize::from(*block).saturating_mul(4096);

@@ -4,6 +4,7 @@ use Rattle.std.specs.List.{flat_map}
 use Rattle.vab_names.specs.Names.{suffix_of}
 use Rattle.vab_layout.specs.Slots.{other_slot}
 use Rattle.vab_set.specs.declared.set.SetImage.{SetImage}
+use Rattle.vab_space.specs.declared.Chunk.TheVariants.{One}
 use Rattle.vab_model.specs.Commands.{Command, SetActive, Begin, Create, Resize, Snapshot, Flash}
 use Rattle.vab_model.specs.Commands.{Finish}
 use Rattle.vab_model.specs.Effects.{Effect}
@@ -26,10 +27,10 @@ size_command source image m =
     then Resize (target_name source image) image.size
     else Create (target_name source image) image.size
 
--- the image's bytes become those of the partition
+-- the image's bytes become those of the partition, in a store with chunks of 4096 bytes
 abbrev pub flash_order : (source : ℕ) → SetImage → Order
 flash_order source image = record {
-  command = λ m. Flash (target_name source image);
+  command = λ m. Flash (target_name source image) One;
   staged = Some image.bytes;
 }
 

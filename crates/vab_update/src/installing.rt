@@ -22,6 +22,7 @@ use vab_manager::kept_part;
 use vab_model::Command;
 use vab_names::full_name;
 use vab_set::{Set, SetImage};
+use vab_space::Chunk;
 
 // Whether the source has an image of this base name.
 fn is_there(device: &Device, source: usize, name: &[u8]) -> bool
@@ -67,7 +68,8 @@ fn install_image<D: Disk>(
     let snapshot = Command::Snapshot(name, image.store);
     let next = carry_out(alloc, d, next, &snapshot, None)?;
     let bytes = image.bytes.as_slice();
-    carry_out(alloc, d, next, &Command::Flash(name), Some(bytes))
+    let flash = Command::Flash(name, Chunk::One);
+    carry_out(alloc, d, next, &flash, Some(bytes))
 }
 
 /// Installs the images of a set into the slot that isn't running, as an update that is ready, and

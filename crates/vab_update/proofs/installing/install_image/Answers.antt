@@ -1,6 +1,7 @@
 use Rattle.std.proofs.Common.{◌≡◌, ◌∙◌, [], ◌∷◌, List, ℕ, Err, Some, None, refl, sym, ap, arith}
 use Rattle.std.proofs.lemmas.Result.{err_from_is_err_and}
 use Rattle.vab_set.proofs.SetLaws.{base_short}
+use Rattle.vab_space.specs.declared.Chunk.TheVariants.{One}
 use Rattle.vab_model.specs.Commands.{Command, Snapshot, Flash, command_of}
 use Rattle.vab_update.specs.Install.{order, target_name, size_command, flash_order}
 use Rattle.vab_update.specs.Orders.{Order}
@@ -92,4 +93,5 @@ returns g c =
     old c.carry_out.new.d (c.in_ok-next.ensures (order sized) refl refl))
     (c.in_ok-next-2.ensures second
     (ap (λ (n : List ℕ). Snapshot n image.store) (sym named)) refl)
-    (c.carry_out-3.ensures third (ap Flash (sym named)) (ap Some (sym c.as_slice-bytes.ensures))))
+    (c.carry_out-3.ensures third (ap (λ (n : List ℕ). Flash n One) (sym named))
+    (ap Some (sym c.as_slice-bytes.ensures))))
