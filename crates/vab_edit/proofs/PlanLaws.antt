@@ -220,10 +220,12 @@ module _
           sym fo ∙ b.named in cc)
       go (Some es) (Some q) ex fo =
           let w = is_written p q es c ex fo in
-          let was : planned_image (is_updated q) (scanned_named q.name ss) ≡ Written es.chunk es.exceptions =
+          let was : planned_image (is_updated q) (scanned_named q.name ss)
+          ≡ Written es.chunk es.exceptions =
           (λ i. planned_image (w.was i) ((ap (λ (n : List ℕ). scanned_named n ss) w.named
           ∙ ex) i)) in
-          let now : planned_image (is_updated p) (scanned_named p.name ss) ≡ Written es.chunk es.exceptions =
+          let now : planned_image (is_updated p) (scanned_named p.name ss)
+          ≡ Written es.chunk es.exceptions =
           (λ i. planned_image (w.now i) (ex i)) in
           ap (written_by (planned_on new [] p) (planned_on old ss q)) was
           ∙ (λ i. record {
@@ -276,9 +278,11 @@ module _
       let bad : (let x : Option PartOfLayout = None in x ≡ Some b.part) = sym fo ∙ b.named in cc)
   image_is p c (Some es) (Some q) ex fo =
       let w = is_written p q es c ex fo in
-      let was : planned_image (is_updated q) (scanned_named q.name ss) ≡ Written es.chunk es.exceptions =
+      let was : planned_image (is_updated q) (scanned_named q.name ss)
+      ≡ Written es.chunk es.exceptions =
       (λ i. planned_image (w.was i) ((ap (λ (n : List ℕ). scanned_named n ss) w.named ∙ ex) i)) in
-      let now : planned_image (is_updated p) (scanned_named p.name ss) ≡ Written es.chunk es.exceptions =
+      let now : planned_image (is_updated p) (scanned_named p.name ss)
+      ≡ Written es.chunk es.exceptions =
       (λ i. planned_image (w.now i) (ex i)) in
       ap (image_planned image (planned_on new ss p)) now
       ∙ (λ i. planned.Written

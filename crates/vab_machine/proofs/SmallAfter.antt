@@ -239,7 +239,8 @@ staged_kept s source plan e k store (Some staged) small next entry =
     let done : Effect State = if_stored s source plan e k store image n in
     let fits : Bool = nat_le (length staged) (4096 * e.blocks) in
     let large : Refusal = refusals.TooLarge (length staged) (4096 * e.blocks) in
-    let most = differing_most k (differs (bytes_named e.name (images_of s source)) image) e.blocks in
+    let most =
+    differing_most k (differs (bytes_named e.name (images_of s source)) image) e.blocks in
     keeps_unless s (not (is_sparse staged)) refusals.Sparse (unless fits large done) small (λ _.
     keeps_unless s fits large done small (λ le.
     let long = filled_long staged e.blocks (leb-true (length staged) (4096 * e.blocks) le) in

@@ -81,7 +81,8 @@ module _ (size : ℕ) where
   read_by p (Written k es) is e =
       let stored : IsStored size p.map p.store (Written k es) =
       subst (IsStored size p.map p.store) e is.store in (
-        all_seen k (blocks_there p.store) es 0 p.map (store_on p.map p.store k es stored) is.on_disk,
+        all_seen k (blocks_there p.store) es 0 p.map (store_on p.map p.store k es stored)
+            is.on_disk,
         length-seen k (blocks_there p.store) es 0 p.map,
       )
 
