@@ -5,8 +5,8 @@ use Rattle.std.specs.Prelude.{Option, Some, None, All}
 use Rattle.std.proofs.lemmas.List.Elements.{All-head, All-tail}
 use Rattle.vab_exceptions.specs.declared.area.Exception.{Exception}
 use Rattle.vab_space.specs.declared.Chunk.{Chunk}
-use Rattle.vab_space.specs.declared.Chunk.TheVariants.{One, Two, Four}
 use Rattle.vab_space.specs.Chunks.{chunks_for}
+use Rattle.vab_space.proofs.DifferingLaws.{chunks_fewest}
 use Rattle.vab_store.specs.View.{Fits, exception_at}
 use Rattle.vab_device.specs.declared.device.Part.{Part}
 use Rattle.vab_device.specs.declared.device.PartImage.{PartImage}
@@ -17,12 +17,6 @@ use Rattle.vab_merging.proofs.BelowLaws.{few_below}
 
 -- ---- exceptions
 
--- as few chunks as blocks
-chunks_most : (k : Chunk) (blocks : ℕ) → chunks_for k blocks ≤ blocks
-chunks_most One blocks = omega arith
-chunks_most Two blocks = omega arith
-chunks_most Four blocks = omega arith
-
 few_exceptions : (k : Chunk) (bound : ℕ) (map : List ℕ) (es : List Exception)
     → Fits k bound map es
     → length es ≤ bound
@@ -31,7 +25,7 @@ few_exceptions k bound map es fits =
     few_below (chunks_for k bound) (length es) (λ j. (exception_at es j).old_chunk)
     (λ j below. (fits.lie j below).old_chunk)
     (λ i j ij below. (fits.once i j ij below).old_chunk) in
-    omega (arith, few, chunks_most k bound)
+    omega (arith, few, chunks_fewest k bound)
 
 few_stored : (size : ℕ) (base : List ℕ) (store : Option (List ℕ)) (image : PartImage)
     → IsStored size base store image
