@@ -13,7 +13,7 @@ use std::env;
 use std::io::{self, Stdin, Stdout};
 use std::process::ExitCode;
 use vab_real::FilePort;
-use vab_space::need;
+use vab_space::{Chunk, need_at};
 
 /// The most exceptions, and the most blocks from one to the next.
 const MOST: u64 = 1 << 20;
@@ -21,11 +21,12 @@ const MOST: u64 = 1 << 20;
 /// The most blocks of a partition.
 const MOST_BLOCKS: u64 = 1 << 40;
 
-/// How many exceptions a store has, and how many blocks lie from one to the next.
+/// How many exceptions a store has, how many chunks lie from one to the next, and their size.
 #[derive(Clone, Copy)]
 struct Shape {
     count: u64,
     step: u64,
+    chunk: Chunk,
 }
 
 impl Shape {
@@ -36,7 +37,8 @@ impl Shape {
         if self.count > MOST {
             return None;
         }
-        let blocks = self.count.checked_mul(self.step)?;
+        let chunks = self.count.checked_mul(self.step)?;
+        let blocks = chunks.checked_mul(self.chunk.blocks())?;
         if blocks > MOST_BLOCKS {
             None
         } else {
@@ -46,10 +48,10 @@ impl Shape {
 
     fn pair(&self, alloc: Global) -> Option<Pair> {
         let blocks = self.blocks()?;
-        Pair::new(alloc, blocks, need(self.count)).ok()
+        Pair::new(alloc, blocks, need_at(self.count, self.chunk), self.chunk).ok()
     }
 
-    // The blocks that stand in the store.
+    // The chunks that stand in the store.
     fn olds(&self, alloc: Global) -> Option<Vec<u64>>
         ensures { IfSome result (λ v. IsStrictlyIncreasing v.items) }
     {
@@ -108,12 +110,17 @@ fn done(alloc: Global, d: &mut Device, verb: &str, shape: Shape, times: u64) -> 
     }
 }
 
-// A store of 600 consecutive blocks, and one of each third block.
+// A store of 600 consecutive blocks, one of each third block, and one of 600 chunks of four blocks.
 fn over_memory(rt: &HostRuntime) -> Result<bool, io::Error> {
-    for step in [1, 3] {
-        let mut d = FilePort::zeroed(rt.alloc(), 1 << 15, rt.stdin(), rt.stdout());
+    for (step, chunk) in [(1, Chunk::One), (3, Chunk::One), (1, Chunk::Four)] {
+        let mut d = FilePort::zeroed(rt.alloc(), 1 << 16, rt.stdin(), rt.stdout());
+        let shape = Shape {
+            count: 600,
+            step,
+            chunk,
+        };
         for verb in ["write", "scan", "merge", "scan"] {
-            match done(rt.alloc(), &mut d, verb, Shape { count: 600, step }, 1) {
+            match done(rt.alloc(), &mut d, verb, shape, 1) {
                 Some(line) => println!(rt; "{line}")?,
                 None => return Ok(false),
             }
@@ -143,6 +150,7 @@ fn over_file(rt: &HostRuntime, path: &str, words: &[String]) -> Option<String> {
     let shape = Shape {
         count: number(words.get(1))?,
         step: number(words.get(2))?,
+        chunk: Chunk::from_sectors(number(words.get(4)).unwrap_or(8))?,
     };
     let times = number(words.get(3)).unwrap_or(1);
     let mut d = FilePort::open(rt, path, rt.stdin(), rt.stdout()).ok()?;

@@ -6,4 +6,4 @@ pub scan-requires : goal.scan-requires
 scan-requires g c =
     let pair = c.args.self.now in
     let on = c.lies_on.ensures c.if-not-lies_on.false in
-    run_on_disk pair.store (8 * pair.blocks) pair.chunks _ pair.store_is (omega (arith, on))
+    run_on_disk pair.store (8 * pair.blocks) pair.room _ pair.store_is (omega (arith, on))
