@@ -53,6 +53,26 @@ fn a_cut_while_entries_are_zeroed_changes_no_block(rt: HostRuntime) -> Result<()
     Ok(())
 }
 
+// With chunks of one block the last four exceptions of 260 stand in a second area, with chunks of
+// two all of them stand in one.
+#[test]
+fn a_run_ends_where_its_area_does(rt: HostRuntime) -> Result<(), Fail> {
+    let alloc = rt.alloc();
+    let olds = ascending(alloc, 0, 260)?;
+    for (chunk, blocks, room, ran, left) in [
+        (Chunk::One, 260, 263, 4, 256),
+        (Chunk::Two, 520, 524, 260, 0u64),
+    ] {
+        let pair = Pair::new(alloc, blocks, room, chunk)?;
+        let mut d = pair.disk(alloc)?;
+        assert!(rt; pair.write(&mut d, &olds, &[7]));
+        let merged = pair.merge(alloc, &mut d, 300);
+        assert_eq!(rt; merged, Some((Ran::Merged(ran), left)));
+        assert_eq!(rt; pair.count(alloc, &mut d, &[7, 0], 1), Some(left));
+    }
+    Ok(())
+}
+
 #[test]
 fn exceptions_get_their_chunks_in_order(rt: HostRuntime) -> Result<(), Fail> {
     let olds = ascending(rt.alloc(), 0, 257)?;
