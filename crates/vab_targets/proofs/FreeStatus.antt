@@ -25,7 +25,7 @@ use Rattle.vab_layout.specs.declared.layout.Layout.{Layout}
 use Rattle.vab_layout.specs.Layout.{layout_of}
 use Rattle.vab_layout.specs.Slots.{other_slot, own_parts, is_updated, IsTargetPart}
 use Rattle.vab_exceptions.specs.declared.area.Exception.{Exception}
-use Rattle.vab_space.specs.declared.Chunk.TheVariants.{One}
+use Rattle.vab_space.specs.declared.Chunk.{Chunk}
 use Rattle.vab_store.specs.declared.fault.StoreFault.{StoreFault}
 use Rattle.vab_store.specs.Scan.{scan_of}
 use Rattle.vab_builder.proofs.Counting.{pairs_map}
@@ -49,7 +49,7 @@ use Rattle.vab_device.specs.Kept.{group_of, sectors_of}
 use Rattle.vab_device.specs.Mounted.{Mounted, state_on, mounted_on, entry_on, entries_on}
 use Rattle.vab_device.specs.Mounted.{phase_by, count_at, planned_on as image_planned}
 use Rattle.vab_device.specs.Stores.{Wanted, Scanned, first_named, wanted_by, wanted_of, is_long}
-use Rattle.vab_device.specs.Stores.{scan_read, scan_at, scans_in, exceptions_of}
+use Rattle.vab_device.specs.Stores.{scan_read, scan_at, scans_in, scanned_named}
 use Rattle.vab_device.specs.Phases.{phase_at, twin_check, own_check, target_check, update_checks}
 use Rattle.vab_device.specs.Phases.{planned_image, planned_on, plan_of}
 use Rattle.vab_device.specs.Reading.{Read, kept, version_at, most_at, statuses_read, statuses_at}
@@ -69,7 +69,7 @@ use Rattle.vab_targets.proofs.Filled.{few_under, differ_under, filled}
 abbrev IsUnwritten : PartImage → Type 0
 IsUnwritten Kept = Unit {0}
 IsUnwritten Declared = Unit {0}
-IsUnwritten (Written es) = ⊥
+IsUnwritten (Written k es) = ⊥
 
 -- it has a store, and was not written
 record IsOpen (store : Option ℕ) (i : PartImage) : Type 0 where
@@ -77,8 +77,8 @@ record IsOpen (store : Option ℕ) (i : PartImage) : Type 0 where
   stored : store ≡ Some blocks
   unwritten : IsUnwritten i
 
-done_open : (m : Mounted) (source : ℕ) (plan : List PlanEntry) (staged : Option (List ℕ))
-    (image : Image) (p : Part) (store : Option ℕ) (i : PartImage)
+done_open : (m : Mounted) (source : ℕ) (plan : List PlanEntry) (chunk : Chunk)
+    (staged : Option (List ℕ)) (image : Image) (p : Part) (store : Option ℕ) (i : PartImage)
     → (stored_effect m source plan
     (record {
       name = p.name;
@@ -87,16 +87,16 @@ done_open : (m : Mounted) (source : ℕ) (plan : List PlanEntry) (staged : Optio
       store = store;
       image = image_planned image p i;
     })
-    staged store).reply
+    chunk staged store).reply
     ≡ replies.Done
     → IsOpen store i
-done_open m source plan staged image p None i done =
+done_open m source plan chunk staged image p None i done =
     absurd (let no : replies.Refused refusals.NoStore ≡ replies.Done = done in cc)
-done_open m source plan staged image p (Some n) Kept done =
+done_open m source plan chunk staged image p (Some n) Kept done =
     record { blocks = n; stored = refl; unwritten = tt }
-done_open m source plan staged image p (Some n) Declared done =
+done_open m source plan chunk staged image p (Some n) Declared done =
     record { blocks = n; stored = refl; unwritten = tt }
-done_open m source plan staged image p (Some n) (Written es) done =
+done_open m source plan chunk staged image p (Some n) (Written k es) done =
     absurd (let no : replies.Refused refusals.Written ≡ replies.Done = done in cc)
 
 -- the partition of a plan, its store, and that nothing was written to it
@@ -105,7 +105,7 @@ record IsFlashed (l : Layout) (scanned : List Scanned) (ps : List PartOfLayout) 
   has : Contains ps part
   store : PartOfLayout
   stored : first_named (store_of part.name) l.parts ≡ Some store
-  unwritten : IsUnwritten (planned_image (is_updated part) (exceptions_of part.name scanned))
+  unwritten : IsUnwritten (planned_image (is_updated part) (scanned_named part.name scanned))
 
 store_there : (f : PartOfLayout → List ℕ) (x : Option PartOfLayout) (n : ℕ)
     → option_map length (option_map f x) ≡ Some n
@@ -113,20 +113,21 @@ store_there : (f : PartOfLayout → List ℕ) (x : Option PartOfLayout) (n : ℕ
 store_there f None n h = absurd (let no : None ≡ Some n = h in cc)
 store_there f (Some q) n h = (q, refl)
 
-done_flashed : (m : Mounted) (source : ℕ) (plan : List PlanEntry) (staged : Option (List ℕ))
-    (image : Image) (l : Layout) (scanned : List Scanned) (base : List ℕ) (ps : List PartOfLayout)
-    → (entry_effect m source plan staged
+done_flashed : (m : Mounted) (source : ℕ) (plan : List PlanEntry) (chunk : Chunk)
+    (staged : Option (List ℕ)) (image : Image) (l : Layout) (scanned : List Scanned)
+    (base : List ℕ) (ps : List PartOfLayout)
+    → (entry_effect m source plan chunk staged
     (entry_named base (map (entry_on image) (map (planned_on l scanned) ps)))).reply
     ≡ replies.Done
     → IsFlashed l scanned ps
-done_flashed m source plan staged image l scanned base [] done =
+done_flashed m source plan chunk staged image l scanned base [] done =
     absurd (let no : replies.Refused refusals.Unknown ≡ replies.Done = done in cc)
-done_flashed m source plan staged image l scanned base (p ∷ ps) done =
+done_flashed m source plan chunk staged image l scanned base (p ∷ ps) done =
     elim (cases_Bool (bytes_eq (base_of p.name) base)) [
       | inl here ↦
           let x : Part = planned_on l scanned p in
-          let open_now = done_open m source plan staged image x (option_map length x.store) x.image
-          (rw here at done) in
+          let open_now = done_open m source plan chunk staged image x (option_map length x.store)
+          x.image (rw here at done) in
           let place : PartOfLayout → List ℕ =
           λ q. sectors_of l.device.first_logical_sector q.blocks in
           let q = store_there place (first_named (store_of p.name) l.parts) open_now.blocks
@@ -139,7 +140,8 @@ done_flashed m source plan staged image l scanned base (p ∷ ps) done =
             unwritten = open_now.unwritten;
           }
       | inr other ↦
-          let rest = done_flashed m source plan staged image l scanned base ps (rw other at done) in
+          let rest = done_flashed m source plan chunk staged image l scanned base ps
+          (rw other at done) in
           record {
             part = rest.part;
             has = later p ps rest.part rest.has;
@@ -165,12 +167,12 @@ updated slot source target p q is stored =
           named.1)
     ]
 
-not_read : (b : Bool) (x : Option (List Exception))
+not_read : (b : Bool) (x : Option Scanned)
     → b ≡ true
     → IsUnwritten (planned_image b x)
     → x ≡ None
 not_read true None marked open_now = refl
-not_read true (Some es) marked open_now = absurd open_now
+not_read true (Some s) marked open_now = absurd open_now
 not_read false x marked open_now = absurd cc
 
 -- ---- the statuses name other partitions
@@ -226,14 +228,14 @@ scan_name : (w : Wanted) (x : Result (List Exception) StoreFault) (s : Scanned)
 scan_name w (Ok es) s h =
     ap (λ (y : Scanned). y.name)
     (unless_ok (is_long w.fewer w.count (length es)) (BadStore w.name)
-    (record { name = w.name; exceptions = es }) s h)
+    (record { name = w.name; chunk = w.chunk; exceptions = es }) s h)
 scan_name w (Err fault) s h =
     absurd
     (let no : (let r : Result Scanned StartFault = Err (BadStore w.name) in r ≡ Ok s) = h in cc)
 
 read_name : (w : Wanted) (image : Image) (s : Scanned) → scan_at w image ≡ Ok s → w.name ≡ s.name
 unfolding scan_at
-read_name w image s h = scan_name w (scan_of One w.store (length w.base) image) s h
+read_name w image s h = scan_name w (scan_of w.chunk w.store (length w.base) image) s h
 
 -- the partition that a status names, and its store
 record IsWanted (s : PartStatus) (x : Option PartOfLayout) (w : Wanted) : Type 0 where
@@ -256,6 +258,7 @@ wanted_found at s (Some p) (Some q) w h =
       name = s.name;
       base = sectors_of at p.blocks;
       store = sectors_of at q.blocks;
+      chunk = s.chunk;
       count = s.count;
       fewer = false;
     } in
@@ -263,7 +266,7 @@ wanted_found at s (Some p) (Some q) w h =
     let same : found ≡ w = cc in
     record { part = p; found = refl; name = ap (λ (v : Wanted). v.name) same }
 
-test_none : (b : Bool) (x : List Exception) (o : Option (List Exception))
+test_none : (b : Bool) (x : Scanned) (o : Option Scanned)
     → (if b then Some x else o) ≡ None
     → (b ≡ false) × (o ≡ None)
 test_none true x o h = absurd (let no : Some x ≡ None = h in cc)
@@ -272,7 +275,7 @@ test_none false x o h = (refl, h)
 each_other : (slot : ℕ) (l : Layout) (name : List ℕ) (ss : List PartStatus) (image : Image)
     (scanned : List Scanned)
     → scans_in (map (wanted_of slot l) ss) image ≡ Ok scanned
-    → exceptions_of name scanned ≡ None
+    → scanned_named name scanned ≡ None
     → All (IsOther (own_parts slot l.parts) name) ss
 each_other slot l name [] image scanned read none = λ k d lt. absurd (omega (arith, lt))
 each_other slot l name (s ∷ ss) image scanned read none =
@@ -281,9 +284,8 @@ each_other slot l name (s ∷ ss) image scanned read none =
     let wanted = wanted_found l.device.first_logical_sector s (first_named s.name own)
     (first_named (store_of s.name) l.parts) one.wanted one.is in
     let is : s.name ≡ one.scan.name = wanted.name ∙ read_name one.wanted image one.scan one.read in
-    let not_here = test_none (bytes_eq one.scan.name name) one.scan.exceptions
-    (exceptions_of name one.rest)
-    (subst (λ (ys : List Scanned). exceptions_of name ys ≡ None) (sym one.whole) none) in
+    let not_here = test_none (bytes_eq one.scan.name name) one.scan (scanned_named name one.rest)
+    (subst (λ (ys : List Scanned). scanned_named name ys ≡ None) (sym one.whole) none) in
     let found = named_in s.name own wanted.part wanted.found in
     All-cons (IsOther own name) s ss
     (record {
@@ -311,7 +313,7 @@ too_many v slot source l statuses scanned image target read scans f none =
     let ss : List PartStatus = written_in statuses in
     let marked = updated slot source l.parts p f.store
     (All-contains (IsTargetPart slot source l.parts) own p target.is.each f.has) f.stored in
-    let unread = not_read (is_updated p) (exceptions_of p.name scanned) marked f.unwritten in
+    let unread = not_read (is_updated p) (scanned_named p.name scanned) marked f.unwritten in
     let others = each_other slot l p.name ss image scanned scans unread in
     let names : List (List ℕ) = map (λ (s : PartStatus). s.name) ss in
     let named : All (IsNamed own) (p.name ∷ names) =
@@ -374,14 +376,14 @@ refused : replies.Refused refusals.NotInstalling ≡ replies.Done → ⊥
 refused done = cc
 
 module _ (slot : ℕ) (statuses : List (Option PartStatus)) (scanned : List Scanned) (image : Image)
-    (m : Mounted) (staged : Option (List ℕ)) (name : List ℕ) where
+    (m : Mounted) (staged : Option (List ℕ)) (name : List ℕ) (chunk : Chunk) where
   -- while an update is installed, with the tables of source and target
   installing_finds : (s t : Table)
       → first_fault (update_checks (most_at image) slot s t) ≡ None
       → statuses_at true image ≡ Ok statuses
       → scans_in (map (wanted_of (other_slot slot) (layout_of t)) (written_in statuses)) image
       ≡ Ok scanned
-      → (flash_effect m staged name
+      → (flash_effect m staged name chunk
       (Installing slot
       (map (entry_on image) (plan_of (other_slot slot) (layout_of t) scanned)))).reply
       ≡ replies.Done
@@ -392,8 +394,8 @@ module _ (slot : ℕ) (statuses : List (Option PartStatus)) (scanned : List Scan
       let l : Layout = layout_of t in
       let own : List PartOfLayout = own_parts k l.parts in
       let plan : List PlanEntry = map (entry_on image) (plan_of k l scanned) in
-      let entry = entry_effect m slot plan staged (entry_named (base_of name) plan) in
-      let f = done_flashed m slot plan staged image l scanned (base_of name) own
+      let entry = entry_effect m slot plan chunk staged (entry_named (base_of name) plan) in
+      let f = done_flashed m slot plan chunk staged image l scanned (base_of name) own
       (if_full (is_full k name) entry done) in
       elim (free_or_none image (partitions_under v)) [
         | inl free ↦
@@ -410,7 +412,7 @@ module _ (slot : ℕ) (statuses : List (Option PartStatus)) (scanned : List Scan
       → first_fault ((phase_at phase).part_checks (most_at image) slot ts) ≡ None
       → statuses_at (phase_at phase).reads_statuses image ≡ Ok statuses
       → scans_in ((phase_at phase).stores slot ts (written_in statuses)) image ≡ Ok scanned
-      → (flash_effect m staged name
+      → (flash_effect m staged name chunk
       (phase_by (mark_at phase slot) left
       (entries_on image ((phase_at phase).plan slot ts scanned)))).reply
       ≡ replies.Done
@@ -426,11 +428,13 @@ module _ (slot : ℕ) (statuses : List (Option PartStatus)) (scanned : List Scan
 
 pub flash_finds_free : FlashFindsFree
 unfolding state_on
-flash_finds_free size image m staged name is done =
+flash_finds_free size image m staged name chunk is done =
     let was = device_was size image m is in
     let r : Read = was.read in
     let d : Device = kept r in
-    let there : (effect_on (mounted_on d image) staged (Flash name)).reply ≡ replies.Done =
-    subst (λ (x : Mounted). (effect_on x staged (Flash name)).reply ≡ replies.Done) was.is done in
-    by_phase r.mark.slot r.statuses r.scanned image (mounted_on d image) staged name r.mark.phase
-    r.tables (count_at d.a + count_at d.b) was.reads.parts was.reads.statuses was.reads.stores there
+    let there : (effect_on (mounted_on d image) staged (Flash name chunk)).reply ≡ replies.Done =
+    subst (λ (x : Mounted). (effect_on x staged (Flash name chunk)).reply ≡ replies.Done) was.is
+    done in
+    by_phase r.mark.slot r.statuses r.scanned image (mounted_on d image) staged name chunk
+    r.mark.phase r.tables (count_at d.a + count_at d.b) was.reads.parts was.reads.statuses
+    was.reads.stores there

@@ -13,7 +13,6 @@ use Rattle.vab_statuses.specs.Statuses.{written_in}
 use Rattle.vab_tables.specs.declared.table.Table.{Table}
 use Rattle.vab_tables.specs.Rules.{KeepsRules}
 use Rattle.vab_geometry.specs.declared.geometry.Geometry.{Geometry}
-use Rattle.vab_exceptions.specs.declared.area.Exception.{Exception}
 use Rattle.vab_names.specs.Names.{is_of_slot, base_of, store_of, most_partitions}
 use Rattle.vab_names.proofs.NameCases.{same_name}
 use Rattle.vab_layout.specs.declared.layout.Part.{Part as PartOfLayout}
@@ -41,7 +40,7 @@ use Rattle.vab_device.specs.Mounted.{planned_on as image_planned}
 use Rattle.vab_device.specs.Phases.{phase_at, planned_image, planned_on, plan_of, twin_check}
 use Rattle.vab_device.specs.Phases.{own_check, target_check}
 use Rattle.vab_device.specs.Reading.{Read, kept, IsIn, Reads}
-use Rattle.vab_device.specs.Stores.{Scanned, exceptions_of}
+use Rattle.vab_device.specs.Stores.{Scanned, scanned_named}
 use Rattle.vab_device.specs.Updates.{if_written, entry_named, written_of, plan_by, layout_at}
 use Rattle.vab_device.proofs.CheckLaws.{first_kept, check_kept}
 use Rattle.vab_device.proofs.MostLaws.{parts_all}
@@ -265,11 +264,11 @@ module _
 
   -- ---- the plan
 
-  has_both : (name : List ℕ) (es : List Exception)
-      → exceptions_of name ss ≡ Some es
+  has_both : (name : List ℕ) (r : Scanned)
+      → scanned_named name ss ≡ Some r
       → HasBoth o (layout_of t) name
-  has_both name es found =
-      scanned_both o (layout_of t) (written_in statuses) image ss name es reads.stores found
+  has_both name r found =
+      scanned_both o (layout_of t) (written_in statuses) image ss name r reads.stores found
 
   leaves : LeavesBoth o (layout_of t) (layout_of t)
   leaves name b = record {
@@ -291,13 +290,13 @@ module _
 
   none_read : (name : List ℕ)
       → has_part (store_of name) (layout_of t).parts ≡ false
-      → exceptions_of name ss ≡ None
-  none_read name plain = by_found (exceptions_of name ss) refl
+      → scanned_named name ss ≡ None
+  none_read name plain = by_found (scanned_named name ss) refl
     where
-      by_found : (x : Option (List Exception)) → exceptions_of name ss ≡ x → x ≡ None
+      by_found : (x : Option Scanned) → scanned_named name ss ≡ x → x ≡ None
       by_found None is = refl
-      by_found (Some es) is =
-          let b = has_both name es is in
+      by_found (Some r) is =
+          let b = has_both name r is in
           let stored = first_is (store_of name) (layout_of t).parts b.store b.stored in
           absurd (both_ways (has_part (store_of name) (layout_of t).parts) plain stored.there)
 
@@ -310,7 +309,7 @@ module _
   none_in : (name : List ℕ) (ps : List PartOfLayout)
       → is_of_slot o name ≡ true
       → ((p : PartOfLayout) → Contains ps p → is_of_slot o p.name ≡ true)
-      → exceptions_of name ss ≡ None
+      → scanned_named name ss ≡ None
       → written_of
       (entry_named (base_of name) (map (entry_on image) (map (planned_on (layout_of t) ss) ps)))
       ≡ None
@@ -319,11 +318,11 @@ module _
       let same = base_eq o p.name name (each p (first p ps)) of in
       elim (cases_Bool (bytes_eq p.name name)) [
         | inl here ↦
-            let read : exceptions_of p.name ss ≡ None =
-            ap (λ (n : List ℕ). exceptions_of n ss) (same_name p.name name here) ∙ none in
+            let read : scanned_named p.name ss ≡ None =
+            ap (λ (n : List ℕ). scanned_named n ss) (same_name p.name name here) ∙ none in
             let found : if_written (image_planned image (planned_on (layout_of t) ss p)
-            (planned_image (is_updated p) (exceptions_of p.name ss))) ≡ None =
-            ap (λ (x : Option (List Exception)).
+            (planned_image (is_updated p) (scanned_named p.name ss))) ≡ None =
+            ap (λ (x : Option Scanned).
             if_written (image_planned image (planned_on (layout_of t) ss p)
             (planned_image (is_updated p) x))) read
             ∙ none_planned p (is_updated p) in

@@ -1,6 +1,7 @@
 -- A flash finds a sector for its status.
 use Rattle.std.specs.Prelude.{◌≡◌, ℕ, List, Option, Some}
 use Rattle.vab_disk.specs.Disk.{Image}
+use Rattle.vab_space.specs.declared.Chunk.{Chunk}
 use Rattle.vab_statuses.specs.Statuses.{IsFirstFree}
 use Rattle.vab_model.specs.declared.command.Reply.TheVariants as replies
 use Rattle.vab_model.specs.Commands.{Flash}
@@ -12,6 +13,7 @@ use Rattle.vab_device.specs.Updates.{effect_on}
 abbrev pub FlashFindsFree : Type 0
 FlashFindsFree =
     (size : ℕ) (image : Image) (m : Mounted) (staged : Option (List ℕ)) (name : List ℕ)
+    (chunk : Chunk)
     → IsIn size m image
-    → (effect_on m staged (Flash name)).reply ≡ replies.Done
+    → (effect_on m staged (Flash name chunk)).reply ≡ replies.Done
     → (at : ℕ) × IsFirstFree image (Some at)
