@@ -204,69 +204,84 @@ fn new_is_merged(
     Ok(())
 }
 
-// An area of 256, 512 or 1024 entries that is full, and one entry more: each time the next area has
-// the entry that ends the list.
+// A new partition: the packet that makes it, its store, and its bytes.
+type New<'a> = (&'a [u8], Filling<'a>, usize);
+
+// An area of 256 or 512 entries that is full, and one entry more: each time the next area has the
+// entry that ends the list.
+const AREAS: [New<'static>; 4] = [
+    (
+        b"create-logical-partition:x_b:1048576",
+        (
+            b"oem snapshot x_b 1060864",
+            b"oem flash x_b 8",
+            b"merging, left 256\n",
+        ),
+        1048576,
+    ),
+    (
+        b"create-logical-partition:x_b:1052672",
+        (
+            b"oem snapshot x_b 1064960",
+            b"oem flash x_b 8",
+            b"merging, left 257\n",
+        ),
+        1052672,
+    ),
+    (
+        b"create-logical-partition:x_b:4194304",
+        (
+            b"oem snapshot x_b 4218880",
+            b"oem flash x_b 16",
+            b"merging, left 512\n",
+        ),
+        4194304,
+    ),
+    (
+        b"create-logical-partition:x_b:4202496",
+        (
+            b"oem snapshot x_b 4227072",
+            b"oem flash x_b 16",
+            b"merging, left 513\n",
+        ),
+        4202496,
+    ),
+];
+
+// The same of 1024 entries.
+const LARGEST: [New<'static>; 2] = [
+    (
+        b"create-logical-partition:x_b:16777216",
+        (
+            b"oem snapshot x_b 16826368",
+            b"oem flash x_b 32",
+            b"merging, left 1024\n",
+        ),
+        16777216,
+    ),
+    (
+        b"create-logical-partition:x_b:16793600",
+        (
+            b"oem snapshot x_b 16842752",
+            b"oem flash x_b 32",
+            b"merging, left 1025\n",
+        ),
+        16793600,
+    ),
+];
+
 #[test]
 fn a_full_area_is_merged(rt: HostRuntime) -> Result<(), Fail> {
-    let alloc = rt.alloc();
-    let cases: [(&[u8], Filling, usize); 6] = [
-        (
-            b"create-logical-partition:x_b:1048576",
-            (
-                b"oem snapshot x_b 1060864",
-                b"oem flash x_b 8",
-                b"merging, left 256\n",
-            ),
-            1048576,
-        ),
-        (
-            b"create-logical-partition:x_b:1052672",
-            (
-                b"oem snapshot x_b 1064960",
-                b"oem flash x_b 8",
-                b"merging, left 257\n",
-            ),
-            1052672,
-        ),
-        (
-            b"create-logical-partition:x_b:4194304",
-            (
-                b"oem snapshot x_b 4218880",
-                b"oem flash x_b 16",
-                b"merging, left 512\n",
-            ),
-            4194304,
-        ),
-        (
-            b"create-logical-partition:x_b:4202496",
-            (
-                b"oem snapshot x_b 4227072",
-                b"oem flash x_b 16",
-                b"merging, left 513\n",
-            ),
-            4202496,
-        ),
-        (
-            b"create-logical-partition:x_b:16777216",
-            (
-                b"oem snapshot x_b 16826368",
-                b"oem flash x_b 32",
-                b"merging, left 1024\n",
-            ),
-            16777216,
-        ),
-        (
-            b"create-logical-partition:x_b:16793600",
-            (
-                b"oem snapshot x_b 16842752",
-                b"oem flash x_b 32",
-                b"merging, left 1025\n",
-            ),
-            16793600,
-        ),
-    ];
-    for (create, filling, size) in cases {
-        new_is_merged(&rt, alloc, create, &filling, size)?;
+    for (create, filling, size) in AREAS {
+        new_is_merged(&rt, rt.alloc(), create, &filling, size)?;
+    }
+    Ok(())
+}
+
+#[test]
+fn a_full_area_of_the_largest_chunks_is_merged(rt: HostRuntime) -> Result<(), Fail> {
+    for (create, filling, size) in LARGEST {
+        new_is_merged(&rt, rt.alloc(), create, &filling, size)?;
     }
     Ok(())
 }
