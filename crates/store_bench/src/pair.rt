@@ -37,12 +37,7 @@ fn consecutive(alloc: Global, first: u64, blocks: u64) -> Result<Map, NoMemory>
 
 impl Pair {
     /// A partition of so many blocks, and a store with room for so many, in chunks of this size.
-    pub(crate) fn new(
-        alloc: Global,
-        blocks: u64,
-        room: u64,
-        chunk: Chunk,
-    ) -> Result<Pair, NoMemory>
+    pub(crate) fn new(alloc: Global, blocks: u64, room: u64, chunk: Chunk) -> Result<Pair, NoMemory>
         requires { 8 * (blocks + room) < 2 ^ 50 }
     {
         let base = consecutive(alloc, 0, blocks)?;

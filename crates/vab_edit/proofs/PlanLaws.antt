@@ -82,8 +82,8 @@ module _
     (device : new.device ≡ old.device)
     (leaves : LeavesBoth slot old new)
     (both : (name : List ℕ) (es : Scanned)
-        → scanned_named name ss ≡ Some es
-        → HasBoth slot old name)
+    → scanned_named name ss ≡ Some es
+    → HasBoth slot old name)
     (was_updated : (q : PartOfLayout) → Contains (own_parts slot old.parts) q
     → has_part (store_of q.name) old.parts ≡ true → is_updated q ≡ true)
     (now_updated : (q : PartOfLayout) → Contains (own_parts slot new.parts) q
