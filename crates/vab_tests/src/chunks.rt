@@ -248,39 +248,9 @@ const AREAS: [New<'static>; 4] = [
     ),
 ];
 
-// The same of 1024 entries.
-const LARGEST: [New<'static>; 2] = [
-    (
-        b"create-logical-partition:x_b:16777216",
-        (
-            b"oem snapshot x_b 16826368",
-            b"oem flash x_b 32",
-            b"merging, left 1024\n",
-        ),
-        16777216,
-    ),
-    (
-        b"create-logical-partition:x_b:16793600",
-        (
-            b"oem snapshot x_b 16842752",
-            b"oem flash x_b 32",
-            b"merging, left 1025\n",
-        ),
-        16793600,
-    ),
-];
-
 #[test]
 fn a_full_area_is_merged(rt: HostRuntime) -> Result<(), Fail> {
     for (create, filling, size) in AREAS {
-        new_is_merged(&rt, rt.alloc(), create, &filling, size)?;
-    }
-    Ok(())
-}
-
-#[test]
-fn a_full_area_of_the_largest_chunks_is_merged(rt: HostRuntime) -> Result<(), Fail> {
-    for (create, filling, size) in LARGEST {
         new_is_merged(&rt, rt.alloc(), create, &filling, size)?;
     }
     Ok(())
