@@ -2,7 +2,8 @@
 
 use std::test::*;
 use vab_exceptions::{
-    Area, Exception, decode_area, decode_store_header, encode_area, encode_store_header,
+    Area, Exception, HeaderFault, decode_area, decode_store_header, encode_area,
+    encode_store_header,
 };
 use vab_space::Chunk;
 
@@ -13,6 +14,23 @@ fn header_begins_with_snap_and_three_numbers(rt: HostRuntime) {
     assert!(rt; bytes[..16] == front[..]);
     assert!(rt; bytes[16] == 0);
     assert!(rt; decode_store_header(&bytes) == Ok(Chunk::One));
+}
+
+#[test]
+fn a_chunk_has_8_16_or_32_sectors(rt: HostRuntime) {
+    for (sectors, wanted) in [
+        (0, Err(HeaderFault::BadChunk)),
+        (4, Err(HeaderFault::BadChunk)),
+        (8, Ok(Chunk::One)),
+        (12, Err(HeaderFault::BadChunk)),
+        (16, Ok(Chunk::Two)),
+        (32, Ok(Chunk::Four)),
+        (64, Err(HeaderFault::BadChunk)),
+    ] {
+        let mut bytes = encode_store_header(Chunk::One);
+        bytes[12] = sectors;
+        assert!(rt; decode_store_header(&bytes) == wanted);
+    }
 }
 
 #[test]

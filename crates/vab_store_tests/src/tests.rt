@@ -6,7 +6,7 @@ use std::marker::Brand;
 use std::sync::ledger::{Blank, Ledger};
 use std::test::*;
 use vab_disk::{Disk, MemPort};
-use vab_exceptions::HeaderFault;
+use vab_exceptions::{HeaderFault, encode_store_header};
 use vab_merge::Ran;
 use vab_scan::scan;
 use vab_space::Chunk;
@@ -150,6 +150,21 @@ fn a_full_area_wants_another_behind_it(rt: HostRuntime) -> Result<(), Fail> {
     assert!(rt; short == Err(StoreFault::Unended));
     let one_chunk = scanned(alloc, &mut d, 8, 1)?;
     assert!(rt; one_chunk == Err(StoreFault::Unended));
+    Ok(())
+}
+
+// Its header is judged first.
+#[test]
+fn a_store_of_less_than_two_chunks_has_no_end(rt: HostRuntime) -> Result<(), Fail> {
+    let alloc = rt.alloc();
+    for (chunk, room) in [(Chunk::Two, 3), (Chunk::Four, 2), (Chunk::Four, 7)] {
+        let pair = Pair::new(alloc, 1, room, chunk)?;
+        let mut d = pair.disk(alloc)?;
+        let none = Some(StoreFault::Header(HeaderFault::BadMagic));
+        assert_eq!(rt; pair.fault(alloc, &mut d), none);
+        assert!(rt; put(&mut d, 8, &encode_store_header(chunk)));
+        assert_eq!(rt; pair.fault(alloc, &mut d), Some(StoreFault::Unended));
+    }
     Ok(())
 }
 
