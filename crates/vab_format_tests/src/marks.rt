@@ -6,6 +6,7 @@ use vab_marks::{
     MarkFault, MarkPhase, MarkVersion, PartStatus, UpdateMark, decode_mark, decode_status,
     encode_mark, encode_status,
 };
+use vab_space::Chunk;
 
 /// Writes the sum of the sector.
 fn put_sum(bytes: &mut [u8; 512]) {
@@ -101,6 +102,7 @@ fn statuses_as_bytes(rt: HostRuntime) -> Result<(), Fail> {
     let status = PartStatus {
         name: Name36::parse(b"system_b").ok().ok_or("a name")?,
         count: 258,
+        chunk: Chunk::One,
     };
     let bytes = encode_status(&status);
     let front = b"VABS\x01\x01\x08\0system_b\0\0\0\0\0\0\0\0\0\0\0\0\0\0\
@@ -108,5 +110,11 @@ fn statuses_as_bytes(rt: HostRuntime) -> Result<(), Fail> {
     assert!(rt; is_sector(&bytes, front, [0x04, 0xfe, 0xf2, 0x8f]));
     assert!(rt; decode_status(&bytes) == Ok(status));
     assert!(rt; decode_status(&[0; 512]) == Err(MarkFault::BadMagic));
+    for (chunk, sectors) in [(Chunk::Two, 16), (Chunk::Four, 32)] {
+        let other = PartStatus { chunk, ..status };
+        let bytes = encode_status(&other);
+        assert!(rt; bytes[6..8] == [sectors, 0][..]);
+        assert!(rt; decode_status(&bytes) == Ok(other));
+    }
     Ok(())
 }

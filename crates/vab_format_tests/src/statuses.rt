@@ -4,11 +4,16 @@ use std::test::*;
 use vab_bytes::Name36;
 use vab_disk::{Disk, MemPort};
 use vab_marks::{MarkVersion, PartStatus};
+use vab_space::Chunk;
 use vab_statuses::{StatusFault, Statuses, clear_statuses, first_free, put_status, read_statuses};
 
 fn status(name: &[u8], count: u64) -> Result<PartStatus, Fail> {
     let name = Name36::parse(name).ok().ok_or("a name is parsed")?;
-    Ok(PartStatus { name, count })
+    Ok(PartStatus {
+        name,
+        count,
+        chunk: Chunk::One,
+    })
 }
 
 // Puts a status into the first free sector, and answers that sector.
