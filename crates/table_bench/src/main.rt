@@ -68,11 +68,11 @@ fn edits(alloc: Global, text: &[u8], edit: &Edit, times: u32) -> bool {
         Ok(None) => {}
         _ => return false,
     }
-    let Ok(target) = import(alloc, &table, 0, MAX) else {
+    let Ok(target) = import(alloc, &table, 0, MAX, false) else {
         return false;
     };
     for _ in 0..times {
-        if apply(alloc, &table, &target, 1, edit, MAX).is_err() {
+        if apply(alloc, &table, &target, 1, edit, MAX, false).is_err() {
             return false;
         }
     }
@@ -91,11 +91,11 @@ fn targets(alloc: Global, text: &[u8], times: u32) -> bool {
         Ok(None) => {}
         _ => return false,
     }
-    let Ok(target) = import(alloc, &table, 0, MAX) else {
+    let Ok(target) = import(alloc, &table, 0, MAX, false) else {
         return false;
     };
     for _ in 0..times {
-        match bad_target(alloc, &table, &target, 1, MAX_PARTITIONS) {
+        match bad_target(alloc, &table, &target, 1, MAX_PARTITIONS, false) {
             Ok(None) => {}
             _ => return false,
         }

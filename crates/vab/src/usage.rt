@@ -10,6 +10,7 @@ pub const USAGE: &str = "usage: vab DEVICE VERB\n\
     \u{20} adopt SLOT       make a device of a super that others wrote, by slot a's or b's table\n\
     \u{20} serve            a fastboot session over TCP framing on the input and the output\n\
     \u{20}   --fresh               make a device without images first\n\
+    \u{20}   --turns N             turns of a merge behind each reply, 0 to 2^32 - 1\n\
     \u{20} install          install the set of images on the input in the slot that isn't running\n\
     \u{20} boot             boot the slot of the highest priority\n\
     \u{20} mark             mark the current slot as one that works\n\

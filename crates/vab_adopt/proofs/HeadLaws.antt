@@ -95,13 +95,13 @@ module _
 
   same_read : SameRead size r one other
   same_read =
-      let a = (phase_at r.mark.phase).has_a r.mark.slot in
-      let b = (phase_at r.mark.phase).has_b r.mark.slot in
+      let a = (phase_at r.mark).has_a in
+      let b = (phase_at r.mark).has_b in
       let super = same_super slot old one other is is_too in
       record {
         most = omega (arith, ap partitions_under is.version, ap partitions_under is_too.version);
         mark = mark_means slot other is_too.mark ∙ sym (mark_means slot one is.mark);
-        statuses = statuses_kept (phase_at r.mark.phase).reads_statuses one other
+        statuses = statuses_kept (phase_at r.mark).reads_statuses one other
             (is_too.version ∙ sym is.version)
             (λ read s there.
             stays s (λ e. omega (arith, e, there.from)) (λ e. omega (arith, e, there.from)));
@@ -110,7 +110,7 @@ module _
             ∙ sym (control_seen_in a b one (adopted_control slot) is.control.control);
         geometry =
             geometry_same size one other (super 4104 (omega arith)) (super 4112 (omega arith));
-        tables = tables_as size r.geometry ((phase_at r.mark.phase).tables r.mark.slot) one other
+        tables = tables_as size r.geometry (phase_at r.mark).tables one other
             super;
         stores = stores_kept (stores_of r) one other r.scanned
             (λ s there. super s (stores_behind size 4096 r one s reads within there))

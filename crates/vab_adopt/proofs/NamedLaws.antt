@@ -114,7 +114,8 @@ module _ (size slot : ℕ) where
 
   framed_comes : (image : Image)
       → control_in (slot == 0) (slot == 1) image ≡ Ok seen
-      → Comes (IsOfSuper slot) IsHeadRead (framed size (idle_mark slot) idle image)
+      → Comes (IsOfSuper slot) IsHeadRead
+      (framed size (idle_mark slot) (idle (idle_mark slot)) image)
   unfolding statuses_at
   framed_comes image control =
       rw control
@@ -143,7 +144,7 @@ module _ (size slot : ℕ) where
       (λ m is.
       subst
       (λ (m : UpdateMark).
-      Comes (IsOfSuper slot) IsHeadRead (framed size m (phase_at m.phase) image)) (sym is)
+      Comes (IsOfSuper slot) IsHeadRead (framed size m (phase_at m) image)) (sym is)
       (framed_comes image control))
 
   -- a partition that breaks a rule
@@ -155,7 +156,7 @@ module _ (size slot : ℕ) where
       let one : faults.BadPartition name ≡ f = cc in subst (IsOfSuper slot) one tt
 
   parts_named : (most : ℕ) (ts : List Table) (f : StartFault)
-      → first_fault (idle.part_checks most slot ts) ≡ Some f
+      → first_fault ((idle (idle_mark slot)).part_checks most ts) ≡ Some f
       → IsOfSuper slot f
   parts_named most [] f is =
       let one : faults.BadTable slot ≡ f = cc in subst (IsOfSuper slot) one refl
@@ -170,7 +171,7 @@ module _ (size slot : ℕ) where
       (λ f some.
       parts_named most r.tables f
       (ap (λ (m : UpdateMark).
-      first_fault ((phase_at m.phase).part_checks most m.slot r.tables)) (sym is.mark) ∙ some))
+      first_fault ((phase_at m).part_checks most r.tables)) (sym is.mark) ∙ some))
       is
 
   scanned_comes : (image : Image) (r : Read)
@@ -180,7 +181,7 @@ module _ (size slot : ℕ) where
   scanned_comes image r is =
       go (stores_of r)
       (ap (λ (m : UpdateMark).
-      (phase_at m.phase).stores m.slot r.tables (written_in r.statuses)) is.mark)
+      (phase_at m).stores r.tables (written_in r.statuses)) is.mark)
     where
       go : (ws : List (Result Wanted StartFault))
           → ws ≡ []
@@ -205,7 +206,7 @@ module _ (size slot : ℕ) where
       (λ f some.
       let none : state_fault r ≡ None =
       (λ i. first_fault
-      ((phase_at (is.mark i).phase).state_checks (is.mark i).slot (is.control i) r.tables
+      ((phase_at (is.mark i)).state_checks (is.control i) r.tables
       r.scanned))
       ∙ slot_passes below in
       let both = sym none ∙ some in cc)

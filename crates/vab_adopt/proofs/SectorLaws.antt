@@ -1,7 +1,7 @@
 -- What the two sectors of the heads say.
 use Rattle.std.proofs.Common.{◌≡◌, ◌∙◌, inl, inr, ℕ, zero, suc, ◌+◌, ◌-◌, ◌*◌, ◌/◌, ◌<◌, eqb, List}
 use Rattle.std.proofs.Common.{[], ◌∷◌, length, take, drop, get_or, set, replicate, Ok, ap, subst}
-use Rattle.std.proofs.Common.{arith, rules}
+use Rattle.std.proofs.Common.{refl, arith, rules}
 use Rattle.std.proofs.Common.{length-append, length-drop}
 use Rattle.std.specs.Int.{w32, to_le_bytes}
 use Rattle.std.proofs.lemmas.Bool.{cases_Bool, cases_eq, cases_lt}
@@ -198,7 +198,7 @@ pub mark_there : (slot : ℕ)
 mark_there slot below =
     only_mark Two (idle_mark slot)
     (crc_fits (mark_front Two (idle_mark slot)) (front_bytes slot below))
-    below
+    (record { slot = below; apart = refl })
 
 -- ---- how long they are
 

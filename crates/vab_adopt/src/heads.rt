@@ -30,6 +30,7 @@ pub(crate) fn idle_mark(slot: usize) -> UpdateMark
     UpdateMark {
         phase: MarkPhase::Idle,
         slot,
+        apart: false,
     }
 }
 

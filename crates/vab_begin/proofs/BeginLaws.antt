@@ -2,15 +2,16 @@
 -- update: of a device in the form in which it is read.
 use Rattle.std.proofs.Common.{◌≡◌, ◌≢◌, ◌⊎◌, ◌∙◌, inl, inr, ℕ, zero, suc, ◌-◌, ◌*◌, ◌≤◌, ◌<◌, List}
 use Rattle.std.proofs.Common.{[], ◌∷◌, length, Ok, refl, sym, ap, arith}
-use Rattle.std.specs.Prelude.{true, false, Option, None, ◌==◌}
+use Rattle.std.specs.Prelude.{Bool, true, false, Option, None, ◌==◌}
 use Rattle.vab_disk.specs.Disk.{Image}
 use Rattle.vab_disk.specs.Written.{set_here, set_there}
 use Rattle.vab_disk.specs.Calls.{SameBut}
 use Rattle.vab_bootctl.specs.declared.slots.Control.{Control}
 use Rattle.vab_bootctl.specs.Control.{control_of}
 use Rattle.vab_marks.specs.declared.mark.MarkPhase.TheVariants as marks
+use Rattle.vab_marks.specs.declared.mark.UpdateMark.{UpdateMark}
 use Rattle.vab_marks.specs.declared.status.PartStatus.{PartStatus}
-use Rattle.vab_marks.specs.Mark.{mark_of, mark_spelling, installing_mark, mark_at}
+use Rattle.vab_marks.specs.Mark.{mark_of, mark_spelling, rephased, resloted, begun}
 use Rattle.vab_statuses.specs.Statuses.{statuses_in, no_statuses, IsOfStatuses}
 use Rattle.vab_statuses.proofs.StatusesLaws.{statuses_same}
 use Rattle.vab_geometry.specs.declared.geometry.Geometry.{Geometry}
@@ -21,7 +22,7 @@ use Rattle.vab_lpstore.proofs.StoreLaws.{both_table}
 use Rattle.vab_tables.specs.declared.table.Table.{Table}
 use Rattle.vab_tables.specs.Text.{IsTableText}
 use Rattle.vab_layout.specs.Layout.{layout_of, first_device}
-use Rattle.vab_layout.specs.Slots.{other_slot, IsTarget, groups_of_slot}
+use Rattle.vab_layout.specs.Slots.{other_slot, twins_by, IsTargetBeside, groups_of_slot}
 use Rattle.vab_partitions.specs.Twins.{are_twins, are_devices}
 use Rattle.vab_partitions.proofs.TwinLaws.{twins_are, devices_are}
 use Rattle.vab_partitions.proofs.BadTarget.{target_not_bad}
@@ -29,9 +30,9 @@ use Rattle.vab_install.specs.Control.{cleared_of}
 use Rattle.vab_device.specs.declared.device.Device.{Device}
 use Rattle.vab_device.specs.Checks.{Check, names_none, first_fault}
 use Rattle.vab_device.specs.Idle.{control_read_of}
-use Rattle.vab_device.specs.Kept.{copies_end, lies_in}
+use Rattle.vab_device.specs.Kept.{copies_end, lies_in, HasNoStores}
 use Rattle.vab_device.specs.Mounted.{images_on}
-use Rattle.vab_device.specs.Phases.{own_check, twin_check, target_check}
+use Rattle.vab_device.specs.Phases.{own_check, twin_check, target_check, no_store_check}
 use Rattle.vab_device.specs.Phases.{slot_checks}
 use Rattle.vab_device.specs.Reading.{Read, statuses_read, statuses_at, control_in}
 use Rattle.vab_device.specs.Reading.{geometry_at, table_at, tables_in}
@@ -50,6 +51,7 @@ use Rattle.vab_begin.specs.Writes.{IsOfPlaces}
 use Rattle.vab_device.proofs.Steps.{marked}
 use Rattle.vab_device.proofs.StayLaws.{mark_there, copy_stays, copies_from, one_of}
 use Rattle.vab_device.proofs.UpdateLaws.{update_read, kept_with}
+use Rattle.vab_plan.proofs.NoStoreLaws.{no_store_kept}
 use Rattle.vab_begin.proofs.CopiesApart.{table_in, tables_apart, ends_behind}
 use Rattle.vab_device.proofs.RepairLaws.{ends_within}
 use Rattle.vab_names.specs.Names.{most_partitions}
@@ -61,15 +63,16 @@ use Rattle.vab_device.proofs.SameLaws.{version_same, most_same}
 use Rattle.vab_device.proofs.StayLaws.{version_there}
 
 -- what is read without an update
-abbrev pub idle_shape : ℕ
+abbrev pub idle_shape : UpdateMark
+    → ℕ
     → List (Option PartStatus)
     → Control
     → Geometry
     → Table
     → List Scanned
     → Read
-idle_shape slot ss c g t scanned = record {
-  mark = mark_at marks.Idle slot;
+idle_shape base slot ss c g t scanned = record {
+  mark = rephased marks.Idle (resloted slot base);
   statuses = ss;
   control = c;
   geometry = g;
@@ -93,18 +96,19 @@ pub record IsPrepared (d : Device) (text : List ℕ) (mid : Image) : Type 0 wher
   pub stored : BothHold d.geometry (other_slot d.mark.slot) text mid
 
 module _
-    (slot : ℕ) (ss : List (Option PartStatus)) (seen : Control) (g : Geometry) (s : Table)
+    (base : UpdateMark) (slot : ℕ) (ss : List (Option PartStatus)) (seen : Control) (g : Geometry)
+    (s : Table)
     (scanned : List Scanned) (c : Control)
     (told : Type 0) (text : List ℕ) (size : ℕ) (old mid : Image)
     (below : slot < 2)
     (rules : IsGeometry g)
     (short : length text ≤ g.max)
     (same : SameBut
-    (IsOfPlaces told (kept_with (idle_shape slot ss seen g s scanned) c) text (old 4)) old mid)
-    (reads : Reads size (idle_shape slot ss seen g s scanned) old)
+    (IsOfPlaces told (kept_with (idle_shape base slot ss seen g s scanned) c) text (old 4)) old mid)
+    (reads : Reads size (idle_shape base slot ss seen g s scanned) old)
     (whole : control_of (old 4) ≡ Ok c) where
   abbrev r : Read
-  r = idle_shape slot ss seen g s scanned
+  r = idle_shape base slot ss seen g s scanned
 
   abbrev k : ℕ
   k = other_slot slot
@@ -117,7 +121,7 @@ module _
   stay at control statuses table = by_write (same at)
     where
       by_write : (mid at ≡ old at)
-          ⊎ IsOfPlaces told (kept_with (idle_shape slot ss seen g s scanned) c) text (old 4) at
+          ⊎ IsOfPlaces told (kept_with (idle_shape base slot ss seen g s scanned) c) text (old 4) at
           (mid at)
           → mid at ≡ old at
       by_write (inl is) = is
@@ -158,7 +162,7 @@ module _
           ∙ sym (control_seen_in (slot == 0) (slot == 1) old c whole)
 
       by_write : (mid 4 ≡ old 4)
-          ⊎ IsOfPlaces told (kept_with (idle_shape slot ss seen g s scanned) c) text (old 4) 4
+          ⊎ IsOfPlaces told (kept_with (idle_shape base slot ss seen g s scanned) c) text (old 4) 4
           (mid 4)
           → control_in (slot == 0) (slot == 1) mid ≡ control_in (slot == 0) (slot == 1) old
       by_write (inl is) = control_same (slot == 0) (slot == 1) old mid is
@@ -189,7 +193,7 @@ module _
   mark_stays : mid 2048 ≡ old 2048
   mark_stays = low 2048 (λ e. omega (arith, e)) (λ w. omega (arith, w.from)) (omega arith)
 
-  pub same_read : SameRead size (idle_shape slot ss seen g s scanned) old mid
+  pub same_read : SameRead size (idle_shape base slot ss seen g s scanned) old mid
   same_read = record {
     most = most_same old mid mark_stays;
     mark = mark_same old mid mark_stays;
@@ -207,23 +211,29 @@ module _
   -- ---- with the mark
 
   module _
+      (apart : Bool)
       (u : Table)
-      (target : IsTarget (other_slot slot) (layout_of s).parts (layout_of u).parts)
+      (target : IsTargetBeside (other_slot slot) (twins_by apart (layout_of s).parts)
+      (layout_of s).parts (layout_of u).parts)
+      (none_stored : HasNoStores apart (layout_of u).parts)
       (device : u.devices ≡ s.devices)
       (groups : groups_of_slot (other_slot slot) u.groups ≡ groups_of_slot slot s.groups)
       (stands : IsTableText g.max text u)
       (lies : lies_in size g (layout_of s).device ≡ true)
-      (prepared : IsPrepared (kept_with (idle_shape slot ss seen g s scanned) c) text mid)
+      (prepared : IsPrepared (kept_with (idle_shape base slot ss seen g s scanned) c) text mid)
       (copies : AgreeCopies g (slot ∷ []) (s ∷ []) old)
-      (read : mark_of (mark_spelling (installing_mark slot)) ≡ Ok (installing_mark slot)) where
+      (read : mark_of (mark_spelling (begun apart (resloted slot base)))
+      ≡ Ok (begun apart (resloted slot base))) where
     abbrev new : Image
-    new = marked mid (mark_spelling (installing_mark slot))
+    new = marked mid (mark_spelling (begun apart (resloted slot base)))
 
     abbrev after : Read
-    after = update_read marks.Installing slot no_statuses (control_read_of slot c) g s u []
+    after = update_read (begun apart (resloted slot base)) no_statuses
+        (control_read_of slot c) g s u []
 
     elsewhere : (at : ℕ) → at ≢ 2048 → new at ≡ mid at
-    elsewhere at other = set_there mid 2048 (mark_spelling (installing_mark slot)) at other
+    elsewhere at other = set_there mid 2048
+        (mark_spelling (begun apart (resloted slot base))) at other
 
     device_same : (layout_of u).device ≡ (layout_of s).device
     unfolding layout_of
@@ -269,8 +279,9 @@ module _
 
     pub version_new : version_at new ≡ Two
     version_new =
-        version_there (installing_mark slot) new
-        (set_here mid 2048 (mark_spelling (installing_mark slot)) 2048 refl)
+        version_there (begun apart (resloted slot base)) new
+        (set_here mid 2048 (mark_spelling (begun apart (resloted slot base))) 2048
+        refl)
 
     statuses_new : statuses_at true new ≡ Ok no_statuses
     unfolding statuses_at
@@ -307,22 +318,25 @@ module _
         (ap (λ (n : ℕ). groups_of_slot n s.groups) here ∙ sym groups) in
         rw (devices, pairs) refl
 
-    target_rules : target_check most_partitions (other_slot slot) s u ≡ None
+    target_rules : target_check apart most_partitions (other_slot slot) s u ≡ None
     target_rules =
         ap names_none
-        (target_not_bad most_partitions (other_slot slot) (layout_of s).parts (layout_of u).parts
+        (target_not_bad most_partitions (other_slot slot) (twins_by apart (layout_of s).parts)
+        (layout_of s).parts
+        (layout_of u).parts
         (record { is = target; few = target.own.few }))
 
     own_rules : own_check most_partitions slot s ≡ None
     own_rules =
         (first_kept (own_check most_partitions slot s) [] (parts_all r old reads.parts)).0
 
-    three_kept : (x y z : Check)
+    four_kept : (x y z w : Check)
         → x ≡ None
         → y ≡ None
         → z ≡ None
-        → first_fault (x ∷ y ∷ z ∷ []) ≡ None
-    three_kept x y z first second third = rw (first, second, third) refl
+        → w ≡ None
+        → first_fault (x ∷ y ∷ z ∷ w ∷ []) ≡ None
+    four_kept x y z w first second third fourth = rw (first, second, third, fourth) refl
 
     seen_is : seen ≡ control_read_of slot c
     seen_is = control_is_seen (slot == 0) (slot == 1) old c seen reads.control whole
@@ -334,15 +348,17 @@ module _
     pub reads_new : Reads size after new
     reads_new = record {
       enough = reads.enough;
-      mark = mark_there (installing_mark slot) new refl read
-          (set_here mid 2048 (mark_spelling (installing_mark slot)) 2048 refl);
+      mark = mark_there (begun apart (resloted slot base)) new refl refl read
+          (set_here mid 2048 (mark_spelling (begun apart (resloted slot base))) 2048
+          refl);
       statuses = statuses_new;
       control = seen_new;
       geometry = geometry_new;
       tables = tables_new;
       parts = parts_two after new version_new
-          (three_kept (twin_check (other_slot slot) s u) (own_check most_partitions slot s)
-          (target_check most_partitions (other_slot slot) s u) twins own_rules target_rules);
+          (four_kept (twin_check (other_slot slot) s u) (own_check most_partitions slot s)
+          (target_check apart most_partitions (other_slot slot) s u) (no_store_check apart u)
+          twins own_rules target_rules (no_store_kept apart u none_stored));
       stores = no_stores;
       state = ap (λ (x : Control). first_fault (slot_checks slot x)) (sym seen_is) ∙ reads.state;
     }

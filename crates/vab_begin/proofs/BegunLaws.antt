@@ -10,8 +10,9 @@ use Rattle.vab_bootctl.specs.declared.slots.Control.{Control}
 use Rattle.vab_bootctl.specs.Control.{control_of, Fits, FitsInfo}
 use Rattle.vab_marks.specs.declared.mark.MarkPhase.{MarkPhase}
 use Rattle.vab_marks.specs.declared.mark.MarkPhase.TheVariants as marks
+use Rattle.vab_marks.specs.declared.mark.UpdateMark.{UpdateMark}
 use Rattle.vab_marks.specs.declared.status.PartStatus.{PartStatus}
-use Rattle.vab_marks.specs.Mark.{mark_of, mark_spelling, installing_mark}
+use Rattle.vab_marks.specs.Mark.{mark_of, mark_spelling, rephased, resloted, begun}
 use Rattle.vab_statuses.specs.Statuses.{no_statuses}
 use Rattle.vab_geometry.specs.declared.geometry.Geometry.{Geometry}
 use Rattle.vab_tables.specs.declared.table.Table.{Table}
@@ -19,106 +20,117 @@ use Rattle.vab_tables.specs.Spelling.{table_size_of}
 use Rattle.vab_tables.specs.Text.{IsTableText}
 use Rattle.vab_layout.specs.declared.layout.Layout.{Layout}
 use Rattle.vab_layout.specs.Layout.{layout_of, table_of, first_device}
-use Rattle.vab_layout.specs.Slots.{other_slot}
+use Rattle.vab_layout.specs.Slots.{other_slot, twins_by}
 use Rattle.vab_layout.specs.Plain.{plain}
 use Rattle.vab_builder.specs.declared.fault.EditFault.{EditFault}
 use Rattle.vab_builder.specs.declared.fault.EditFault.TheVariants as faults
-use Rattle.vab_builder.specs.Import.{imported}
+use Rattle.vab_builder.specs.Import.{imported_by}
 use Rattle.vab_builder.specs.Edits.{fitting}
 use Rattle.vab_install.specs.Control.{cleared_of, no_info}
 use Rattle.vab_model.specs.declared.command.Reply.TheVariants as replies
 use Rattle.vab_model.specs.declared.command.Refusal.TheVariants as refusals
-use Rattle.vab_model.specs.Commands.{Begin}
-use Rattle.vab_model.specs.Effects.{does, refuses, wanting, unless_refused}
+use Rattle.vab_model.specs.Effects.{Effect, does, refuses, wanting, unless_refused}
 use Rattle.vab_device.specs.declared.device.Part.{Part}
 use Rattle.vab_device.specs.declared.device.Device.{Device}
 use Rattle.vab_device.specs.Idle.{control_read_of}
 use Rattle.vab_device.specs.Kept.{IsDevice, IsTableOf, IsKeptTable, IsUpdate, lies_in}
-use Rattle.vab_device.specs.Kept.{table_of_slot}
+use Rattle.vab_device.specs.Kept.{table_of_slot, HasNoStores}
 use Rattle.vab_device.specs.Mounted.{Mounted, mounted_on, state_on, images_on, image_on}
-use Rattle.vab_device.specs.Phases.{phase_at, plan_of}
+use Rattle.vab_device.specs.Phases.{phase_in, phase_at, plan_of}
 use Rattle.vab_device.specs.Reading.{Read, tables_in, table_at, Reads, AgreeCopies}
 use Rattle.vab_device.specs.Reading.{Represents, Dead}
 use Rattle.vab_device.specs.Stores.{Scanned}
 use Rattle.vab_device.specs.Updates.{effect_on, table_effect, installing_with, refusal_of}
-use Rattle.vab_device.specs.Updates.{is_full_table}
+use Rattle.vab_device.specs.Updates.{is_full_table, no_entries, begin_effect}
 use Rattle.vab_begin.specs.declared.target.Target.{Target}
 use Rattle.vab_begin.specs.Kept.{with_control, with_update}
 use Rattle.vab_begin.specs.Target.{layout_for, IsTargetOf, IsTargetFor, IsRefusedBy}
-use Rattle.vab_begin.specs.Writes.{IsOfPlaces}
+use Rattle.vab_begin.specs.Writes.{begin_of, IsOfPlaces}
 use Rattle.vab_device.proofs.Steps.{marked, IsStep}
 use Rattle.vab_begin.proofs.KeptLaws.{update_kept}
+use Rattle.vab_device.proofs.MarkLaws.{rephased_again}
+use Rattle.vab_device.proofs.ReadingLaws.{apart_known}
 use Rattle.vab_device.proofs.PhaseCases.{some_of, none_of, cases_slot, unplanned_of}
 use Rattle.vab_begin.proofs.KeptLaws.{current_of, source_a, source_b, no_target_a, no_target_b}
 use Rattle.vab_device.specs.Kept.{has_both}
 use Rattle.vab_device.proofs.StayLaws.{one_of}
 use Rattle.vab_device.proofs.UpdateLaws.{update_read, kept_with}
 use Rattle.vab_begin.proofs.CancelLaws.{some_same}
-use Rattle.vab_begin.proofs.ImportLaws.{imported_plain, fitting_same, plan_same}
+use Rattle.vab_begin.proofs.ImportLaws.{imported_plain, imported_no_stores, fitting_same, plan_same}
 use Rattle.vab_begin.proofs.PlannedLaws.{plan_keeps, target_table}
 use Rattle.vab_begin.proofs.BeginLaws.{idle_shape, IsPrepared, same_read}
 use Rattle.vab_begin.proofs.BeginLaws.{reads_new}
 use Rattle.vab_begin.proofs.BeginLaws.{copies_new, control_new, images_new_a, images_new_b}
 use Rattle.vab_begin.proofs.BeginLaws.{version_new}
 
--- the device with an update to a target of this table
-abbrev pub begun_device : Device → Table → Device
-begun_device d u =
+-- the device with an update to a target of this table, which stands apart or not
+abbrev pub begun_device : (apart : Bool) → Device → Table → Device
+begun_device apart d u =
     with_control (cleared_of d.control (other_slot d.mark.slot))
-    (with_update d marks.Installing (Some u)
+    (with_update d (begun apart d.mark) (Some u)
     (Some (plan_of (other_slot d.mark.slot) (layout_of u) [])))
 
 -- ---- what it means
 
-begun_a : (d : Device) (old new : Image) (a : List Part) (u : Table)
+-- the row of a begin
+begins : (m : Mounted) (staged : Option (List ℕ)) (apart : Bool)
+    → effect_on m staged (begin_of apart) ≡ begin_effect m apart m.state.phase
+begins m staged true = refl
+begins m staged false = refl
+
+begun_a : (apart : Bool) (d : Device) (old new : Image) (a : List Part) (u : Table)
     → d.mark.slot ≡ 0
     → d.a ≡ Some a
     → d.b ≡ None
     → map (image_on new) a ≡ map (image_on old) a
-    → mounted_on (begun_device d u) new
-    ≡ installing_with (mounted_on d old) d.mark.slot [] (layout_of u)
+    → mounted_on (begun_device apart d u) new
+    ≡ installing_with (mounted_on d old) d.mark.slot (no_entries apart) (layout_of u)
 unfolding state_on cleared_of
-begun_a d old new a u slot some none same =
+begun_a apart d old new a u slot some none same =
     rw (plan_same new (other_slot d.mark.slot) (layout_of u), slot, some, none, same) refl
 
-begun_b : (d : Device) (old new : Image) (b : List Part) (u : Table)
+begun_b : (apart : Bool) (d : Device) (old new : Image) (b : List Part) (u : Table)
     → d.mark.slot ≡ 1
     → d.a ≡ None
     → d.b ≡ Some b
     → map (image_on new) b ≡ map (image_on old) b
-    → mounted_on (begun_device d u) new
-    ≡ installing_with (mounted_on d old) d.mark.slot [] (layout_of u)
+    → mounted_on (begun_device apart d u) new
+    ≡ installing_with (mounted_on d old) d.mark.slot (no_entries apart) (layout_of u)
 unfolding state_on cleared_of
-begun_b d old new b u slot none some same =
+begun_b apart d old new b u slot none some same =
     rw (plan_same new (other_slot d.mark.slot) (layout_of u), slot, some, none, same) refl
 
-begins_a : (d : Device) (old : Image) (staged : Option (List ℕ)) (a : List Part) (s : Table)
+begins_a : (apart : Bool) (d : Device) (old : Image) (staged : Option (List ℕ)) (a : List Part)
+    (s : Table)
     → d.plan ≡ None
     → d.mark.phase ≡ marks.Idle
     → d.mark.slot ≡ 0
     → d.control.current ≡ 0
     → d.a ≡ Some a
     → d.table_a ≡ Some s
-    → effect_on (mounted_on d old) staged Begin
-    ≡ table_effect (mounted_on d old) d.mark.slot []
-    (fitting d.geometry.max (imported d.mark.slot (plain d.mark.slot (layout_of s))))
+    → effect_on (mounted_on d old) staged (begin_of apart)
+    ≡ table_effect (mounted_on d old) d.mark.slot (no_entries apart)
+    (fitting d.geometry.max (imported_by apart d.mark.slot (plain d.mark.slot (layout_of s))))
 unfolding state_on
-begins_a d old staged a s plan phase slot current some table =
-    rw (plan, phase, slot, current, some, table) refl
+begins_a apart d old staged a s plan phase slot current some table =
+    begins (mounted_on d old) staged apart
+    ∙ rw (plan, phase, slot, current, some, table) refl
 
-begins_b : (d : Device) (old : Image) (staged : Option (List ℕ)) (b : List Part) (s : Table)
+begins_b : (apart : Bool) (d : Device) (old : Image) (staged : Option (List ℕ)) (b : List Part)
+    (s : Table)
     → d.plan ≡ None
     → d.mark.phase ≡ marks.Idle
     → d.mark.slot ≡ 1
     → d.control.current ≡ 1
     → d.b ≡ Some b
     → d.table_b ≡ Some s
-    → effect_on (mounted_on d old) staged Begin
-    ≡ table_effect (mounted_on d old) d.mark.slot []
-    (fitting d.geometry.max (imported d.mark.slot (plain d.mark.slot (layout_of s))))
+    → effect_on (mounted_on d old) staged (begin_of apart)
+    ≡ table_effect (mounted_on d old) d.mark.slot (no_entries apart)
+    (fitting d.geometry.max (imported_by apart d.mark.slot (plain d.mark.slot (layout_of s))))
 unfolding state_on
-begins_b d old staged b s plan phase slot current some table =
-    rw (plan, phase, slot, current, some, table) refl
+begins_b apart d old staged b s plan phase slot current some table =
+    begins (mounted_on d old) staged apart
+    ∙ rw (plan, phase, slot, current, some, table) refl
 
 -- the table of a slot, where the slot is known
 slot_at : (n k : ℕ) (a b x : Option Table)
@@ -128,51 +140,58 @@ slot_at : (n k : ℕ) (a b x : Option Table)
 slot_at n k a b x is same = subst (λ (m : ℕ). (if m == 0 then a else b) ≡ x) is same
 
 -- The begin of an update of a device: the target's table, or the refusal.
-pub begin_is : (d : Device) (size : ℕ) (old : Image) (staged : Option (List ℕ)) (s : Table)
+pub begin_is : (apart : Bool) (d : Device) (size : ℕ) (old : Image) (staged : Option (List ℕ))
+    (s : Table)
     → IsDevice d size
     → d.mark.phase ≡ marks.Idle
     → table_of_slot d d.mark.slot ≡ Some s
-    → effect_on (mounted_on d old) staged Begin
-    ≡ table_effect (mounted_on d old) d.mark.slot [] (layout_for d.geometry.max d.mark.slot s)
-begin_is d size old staged s dev idle is =
+    → effect_on (mounted_on d old) staged (begin_of apart)
+    ≡ table_effect (mounted_on d old) d.mark.slot (no_entries apart)
+    (layout_for apart d.geometry.max d.mark.slot s)
+begin_is apart d size old staged s dev idle is =
     let plan = unplanned_of d size marks.Idle dev refl idle in
     let current = current_of d size dev (ap has_both idle) in
-    let plainly : effect_on (mounted_on d old) staged Begin
-    ≡ table_effect (mounted_on d old) d.mark.slot []
-    (fitting d.geometry.max (imported d.mark.slot (plain d.mark.slot (layout_of s)))) =
+    let plainly : effect_on (mounted_on d old) staged (begin_of apart)
+    ≡ table_effect (mounted_on d old) d.mark.slot (no_entries apart)
+    (fitting d.geometry.max (imported_by apart d.mark.slot (plain d.mark.slot (layout_of s)))) =
     elim (cases_slot d.mark.slot dev.slot) [
       | inl first ↦
           let a = some_of d.a (source_a d size dev first) in
-          begins_a d old staged a.0 s plan idle first (current ∙ first) a.1
+          begins_a apart d old staged a.0 s plan idle first (current ∙ first) a.1
           (slot_at d.mark.slot 0 d.table_a d.table_b (Some s) first is)
       | inr one ↦
           let b = some_of d.b (source_b d size dev one) in
-          begins_b d old staged b.0 s plan idle one (current ∙ one) b.1
+          begins_b apart d old staged b.0 s plan idle one (current ∙ one) b.1
           (slot_at d.mark.slot 1 d.table_a d.table_b (Some s) one is)
     ] in
     plainly
-    ∙ ap (λ (l : Layout). table_effect (mounted_on d old) d.mark.slot [] (fitting d.geometry.max l))
-    (imported_plain d.mark.slot (layout_of s) dev.slot)
+    ∙ ap
+    (λ (l : Layout).
+    table_effect (mounted_on d old) d.mark.slot (no_entries apart) (fitting d.geometry.max l))
+    (imported_plain apart d.mark.slot (layout_of s) dev.slot)
 
-pub begin_refused : (d : Device) (old : Image) (staged : Option (List ℕ)) (plan : List Part)
+pub begin_refused : (apart : Bool) (d : Device) (old : Image) (staged : Option (List ℕ))
+    (plan : List Part)
     → d.plan ≡ Some plan
-    → effect_on (mounted_on d old) staged Begin ≡ refuses refusals.NotIdle
+    → effect_on (mounted_on d old) staged (begin_of apart) ≡ refuses refusals.NotIdle
 unfolding state_on
-begin_refused d old staged plan is = rw is refl
+begin_refused apart d old staged plan is = begins (mounted_on d old) staged apart ∙ rw is refl
 
-pub begin_staged : (d : Device) (old : Image) (staged : Option (List ℕ))
+pub begin_staged : (apart : Bool) (d : Device) (old : Image) (staged : Option (List ℕ))
     → d.plan ≡ None
     → d.mark.phase ≡ marks.Staged
-    → effect_on (mounted_on d old) staged Begin ≡ refuses refusals.NotIdle
+    → effect_on (mounted_on d old) staged (begin_of apart) ≡ refuses refusals.NotIdle
 unfolding state_on
-begin_staged d old staged plan phase = rw (plan, phase) refl
+begin_staged apart d old staged plan phase =
+    begins (mounted_on d old) staged apart ∙ rw (plan, phase) refl
 
-pub begin_merging : (d : Device) (old : Image) (staged : Option (List ℕ))
+pub begin_merging : (apart : Bool) (d : Device) (old : Image) (staged : Option (List ℕ))
     → d.plan ≡ None
     → d.mark.phase ≡ marks.Merging
-    → effect_on (mounted_on d old) staged Begin ≡ refuses refusals.NotIdle
+    → effect_on (mounted_on d old) staged (begin_of apart) ≡ refuses refusals.NotIdle
 unfolding state_on
-begin_merging d old staged plan phase = rw (plan, phase) refl
+begin_merging apart d old staged plan phase =
+    begins (mounted_on d old) staged apart ∙ rw (plan, phase) refl
 
 -- ---- why there is no target
 
@@ -189,27 +208,39 @@ is_memory (faults.TableFull size most) = false
 is_memory faults.NoMemory = true
 
 -- memory may be refused in place of each answer of a table
-may_refuse : (m : Mounted) (slot max : ℕ) (l : Layout)
-    → unless_refused true (table_effect m slot [] (fitting max l)) ≡ refuses refusals.NoMemory
-may_refuse m slot max l = elim (cases_Bool (nat_le (table_size_of (table_of l)) max)) [
+may_refuse : (apart : Bool) (m : Mounted) (slot max : ℕ) (l : Layout)
+    → unless_refused true (table_effect m slot (no_entries apart) (fitting max l))
+    ≡ refuses refusals.NoMemory
+may_refuse apart m slot max l = elim (cases_Bool (nat_le (table_size_of (table_of l)) max)) [
   | inl fits ↦ rw fits refl
   | inr long ↦ rw long refl
 ]
 
-pub refused_is : (m : Mounted) (slot max : ℕ) (s : Table) (fault : EditFault)
-    → IsRefusedBy max slot s fault
-    → unless_refused (is_memory fault) (table_effect m slot [] (layout_for max slot s))
+pub refused_is : (apart : Bool) (m : Mounted) (slot max : ℕ) (s : Table) (fault : EditFault)
+    → IsRefusedBy apart max slot s fault
+    → unless_refused (is_memory fault)
+    (table_effect m slot (no_entries apart) (layout_for apart max slot s))
     ≡ wanting (is_full_table fault) (refuses (refusal_of fault))
-refused_is m slot max s faults.BadName is = ap (table_effect m slot []) is
-refused_is m slot max s faults.BadSize is = ap (table_effect m slot []) is
-refused_is m slot max s faults.Unknown is = ap (table_effect m slot []) is
-refused_is m slot max s faults.Exists is = ap (table_effect m slot []) is
-refused_is m slot max s faults.HasStore is = ap (table_effect m slot []) is
-refused_is m slot max s (faults.TooMany count) is = ap (table_effect m slot []) is
-refused_is m slot max s (faults.GroupLimit used limit) is = ap (table_effect m slot []) is
-refused_is m slot max s (faults.NoRoom used cap) is = ap (table_effect m slot []) is
-refused_is m slot max s (faults.TableFull size most) is = ap (table_effect m slot []) is
-refused_is m slot max s faults.NoMemory is = may_refuse m slot max (imported slot (layout_of s))
+refused_is apart m slot max s faults.BadName is =
+    ap (table_effect m slot (no_entries apart)) is
+refused_is apart m slot max s faults.BadSize is =
+    ap (table_effect m slot (no_entries apart)) is
+refused_is apart m slot max s faults.Unknown is =
+    ap (table_effect m slot (no_entries apart)) is
+refused_is apart m slot max s faults.Exists is =
+    ap (table_effect m slot (no_entries apart)) is
+refused_is apart m slot max s faults.HasStore is =
+    ap (table_effect m slot (no_entries apart)) is
+refused_is apart m slot max s (faults.TooMany count) is =
+    ap (table_effect m slot (no_entries apart)) is
+refused_is apart m slot max s (faults.GroupLimit used limit) is =
+    ap (table_effect m slot (no_entries apart)) is
+refused_is apart m slot max s (faults.NoRoom used cap) is =
+    ap (table_effect m slot (no_entries apart)) is
+refused_is apart m slot max s (faults.TableFull size most) is =
+    ap (table_effect m slot (no_entries apart)) is
+refused_is apart m slot max s faults.NoMemory is =
+    may_refuse apart m slot max (imported_by apart slot (layout_of s))
 
 -- ---- what is kept
 
@@ -250,12 +281,22 @@ cleared_current : (c : Control) (slot : ℕ) → (cleared_of c slot).current ≡
 unfolding cleared_of
 cleared_current c slot = elim (cases_Bool (slot == 0)) [ inl h ↦ rw h refl | inr h ↦ rw h refl ]
 
-pub begun_kept : (d : Device) (size : ℕ) (x : Target)
+-- of a target that stands apart no partition is in the stores' group
+pub target_no_stores : (apart : Bool) (d : Device) (size : ℕ) (x : Target)
+    → IsDevice d size
+    → IsTargetFor apart d x
+    → HasNoStores apart (layout_of x.table).parts
+target_no_stores apart d size x dev for =
+    subst (λ (l : Layout). HasNoStores apart l.parts) (sym for.target.layout)
+    (imported_no_stores apart d.mark.slot (layout_of for.source) dev.slot
+    (source_rules d size for.source dev for.is).own)
+
+pub begun_kept : (apart : Bool) (d : Device) (size : ℕ) (x : Target)
     → IsDevice d size
     → d.mark.phase ≡ marks.Idle
-    → IsTargetFor d x
-    → IsDevice (begun_device d x.table) size
-begun_kept d size x dev idle for =
+    → IsTargetFor apart d x
+    → IsDevice (begun_device apart d x.table) size
+begun_kept apart d size x dev idle for =
     let g = d.geometry in
     let s = for.source in
     let of = for.target in
@@ -263,12 +304,14 @@ begun_kept d size x dev idle for =
     let lies : lies_in size g (layout_of x.table).device ≡ true =
     ap (lies_in size g) (device_same s x.table of.device) ∙ rules.lies in
     let planned = plan_keeps size (other_slot d.mark.slot) g x.table dev.enough
-    (target_table (other_slot d.mark.slot) (layout_of s).parts x.table of.rules of.target) lies in
-    update_kept d size (cleared_of d.control (other_slot d.mark.slot)) marks.Installing
+    (target_table (other_slot d.mark.slot) (twins_by apart (layout_of s).parts) (layout_of s).parts
+    x.table of.rules of.target)
+    lies in
+    update_kept d size (cleared_of d.control (other_slot d.mark.slot)) marks.Installing apart
     (Some x.table) (Some (plan_of (other_slot d.mark.slot) (layout_of x.table) [])) dev
     (cleared_fits d.control (other_slot d.mark.slot) dev.control)
     (cleared_current d.control (other_slot d.mark.slot) ∙ current_of d size dev (ap has_both idle))
-    (inr (inl refl)) (ap has_both idle) refl
+    (inr (inl refl)) refl (ap has_both idle) refl
     (record {
       rules = of.rules;
       small = omega (arith, of.size, dev.geometry.most);
@@ -276,32 +319,40 @@ begun_kept d size x dev idle for =
       lies = lies;
     })
     refl refl planned
-    (subst (λ (t : Option Table). IsUpdate d.mark.slot t (Some x.table)) (sym for.is)
-    (record { target = of.target; device = sym of.device }))
+    (subst (λ (t : Option Table). IsUpdate apart d.mark.slot t (Some x.table)) (sym for.is)
+    (record {
+      target = of.target;
+      device = sym of.device;
+      no_stores = target_no_stores apart d size x dev for;
+    }))
 
-kept_begun : (slot : ℕ) (c : Control) (ss : List (Option PartStatus)) (seen : Control)
+kept_begun : (apart : Bool) (base : UpdateMark) (slot : ℕ) (c : Control)
+    (ss : List (Option PartStatus))
+    (seen : Control)
     (g : Geometry)
     (s u : Table) (scanned : List Scanned)
     → slot < 2
-    → begun_device (kept_with (idle_shape slot ss seen g s scanned) c) u
-    ≡ kept_with (update_read marks.Installing slot no_statuses (control_read_of slot c) g s u [])
+    → begun_device apart (kept_with (idle_shape base slot ss seen g s scanned) c) u
+    ≡ kept_with (update_read (begun apart (resloted slot base)) no_statuses
+    (control_read_of slot c) g s u [])
     (cleared_of c (other_slot slot))
-kept_begun zero c ss seen g s u scanned below = refl
-kept_begun (suc zero) c ss seen g s u scanned below = refl
-kept_begun (suc (suc n)) c ss seen g s u scanned below = absurd (omega (arith, below))
+kept_begun apart base zero c ss seen g s u scanned below = refl
+kept_begun apart base (suc zero) c ss seen g s u scanned below = refl
+kept_begun apart base (suc (suc n)) c ss seen g s u scanned below = absurd (omega (arith, below))
 
-kept_source : (slot : ℕ) (c : Control) (ss : List (Option PartStatus)) (seen : Control)
+kept_source : (base : UpdateMark) (slot : ℕ) (c : Control) (ss : List (Option PartStatus))
+    (seen : Control)
     (g : Geometry)
     (s : Table) (scanned : List Scanned)
     → slot < 2
-    → table_of_slot (kept_with (idle_shape slot ss seen g s scanned) c) slot ≡ Some s
-kept_source zero c ss seen g s scanned below = refl
-kept_source (suc zero) c ss seen g s scanned below = refl
-kept_source (suc (suc n)) c ss seen g s scanned below = absurd (omega (arith, below))
+    → table_of_slot (kept_with (idle_shape base slot ss seen g s scanned) c) slot ≡ Some s
+kept_source base zero c ss seen g s scanned below = refl
+kept_source base (suc zero) c ss seen g s scanned below = refl
+kept_source base (suc (suc n)) c ss seen g s scanned below = absurd (omega (arith, below))
 
 -- ---- from the form in which it is read to the device
 
-module _ (told : Type 0) (text : List ℕ) (size : ℕ) (old : Image) where
+module _ (told : Type 0) (apart : Bool) (text : List ℕ) (size : ℕ) (old : Image) where
   abbrev DeadOf : Device → Read → Type 0
   DeadOf d r =
       IsDevice d size
@@ -319,60 +370,66 @@ module _ (told : Type 0) (text : List ℕ) (size : ℕ) (old : Image) where
   abbrev NextOf : Target → Image → Device → Read → Type 0
   NextOf x mid d r =
       IsDevice d size
-      → IsTargetFor d x
+      → IsTargetFor apart d x
       → Reads size r old
       → control_of (old 4) ≡ Ok d.control
-      → AgreeCopies r.geometry ((phase_at r.mark.phase).tables r.mark.slot) r.tables old
+      → AgreeCopies r.geometry (phase_at r.mark).tables r.tables old
       → length text ≤ d.geometry.max
       → SameBut (IsOfPlaces told d text (old 4)) old mid
       → IsPrepared d text mid
       → IsTableText d.geometry.max text x.table
-      → mark_of (mark_spelling (installing_mark d.mark.slot)) ≡ Ok (installing_mark d.mark.slot)
-      → IsNext d (begun_device d x.table) (marked mid (mark_spelling (installing_mark d.mark.slot)))
+      → mark_of (mark_spelling (begun apart d.mark)) ≡ Ok (begun apart d.mark)
+      → IsNext d (begun_device apart d x.table)
+      (marked mid (mark_spelling (begun apart d.mark)))
 
   module _
-      (slot : ℕ) (ss : List (Option PartStatus)) (seen : Control) (g : Geometry) (s : Table)
+      (base : UpdateMark) (slot : ℕ) (ss : List (Option PartStatus)) (seen : Control) (g : Geometry)
+      (s : Table)
       (scanned : List Scanned) (c : Control) where
-    dead_shape : DeadOf (kept_with (idle_shape slot ss seen g s scanned) c)
-        (idle_shape slot ss seen g s scanned)
+    dead_shape : DeadOf (kept_with (idle_shape base slot ss seen g s scanned) c)
+        (idle_shape base slot ss seen g s scanned)
     dead_shape dev reads whole short new same =
-        same_read slot ss seen g s scanned c told text size old new dev.slot dev.geometry short same
+        same_read base slot ss seen g s scanned c told text size old new dev.slot dev.geometry short
+        same
         reads whole
 
     next_shape : (x : Target) (mid : Image)
-        → NextOf x mid (kept_with (idle_shape slot ss seen g s scanned) c)
-        (idle_shape slot ss seen g s scanned)
+        → NextOf x mid (kept_with (idle_shape base slot ss seen g s scanned) c)
+        (idle_shape base slot ss seen g s scanned)
     next_shape x mid dev for reads whole copies short same prepared stands read =
         let both : Some for.source ≡ Some s =
-        sym for.is ∙ kept_source slot c ss seen g s scanned dev.slot in
+        sym for.is ∙ kept_source base slot c ss seen g s scanned dev.slot in
         let source : for.source ≡ s = cc in
-        let of : IsTargetOf g.max slot s x = subst (λ (t : Table). IsTargetOf g.max slot t x)
-        source for.target in
-        let rules = source_rules (kept_with (idle_shape slot ss seen g s scanned) c) size s dev
-        (kept_source slot c ss seen g s scanned dev.slot) in
+        let of : IsTargetOf apart g.max slot s x =
+        subst (λ (t : Table). IsTargetOf apart g.max slot t x) source for.target in
+        let rules = source_rules (kept_with (idle_shape base slot ss seen g s scanned) c) size s dev
+        (kept_source base slot c ss seen g s scanned dev.slot) in
+        let none = target_no_stores apart (kept_with (idle_shape base slot ss seen g s scanned) c)
+        size x dev for in
         record {
           represents = record {
-            read = update_read marks.Installing slot no_statuses (control_read_of slot c)
+            read = update_read (begun apart (resloted slot base)) no_statuses
+                (control_read_of slot c)
                 g s x.table [];
-            reads = reads_new slot ss seen g s scanned c told text size old mid
-                dev.slot dev.geometry short same reads whole x.table of.target of.device
+            reads = reads_new base slot ss seen g s scanned c told text size old mid
+                dev.slot dev.geometry short same reads whole apart x.table of.target none of.device
                 of.groups stands rules.lies prepared copies read;
-            is = kept_begun slot c ss seen g s x.table scanned dev.slot;
-            control = control_new slot ss seen g s scanned c told text size old mid
-                dev.slot dev.geometry short same reads whole x.table of.target of.device
+            is = kept_begun apart base slot c ss seen g s x.table scanned dev.slot;
+            control = control_new base slot ss seen g s scanned c told text size old mid
+                dev.slot dev.geometry short same reads whole apart x.table of.target none of.device
                 of.groups stands rules.lies prepared copies read;
-            copies = copies_new slot ss seen g s scanned c told text size old mid
-                dev.slot dev.geometry short same reads whole x.table of.target of.device
+            copies = copies_new base slot ss seen g s scanned c told text size old mid
+                dev.slot dev.geometry short same reads whole apart x.table of.target none of.device
                 of.groups stands rules.lies prepared copies read;
-            version = version_new slot ss seen g s scanned c told text size old mid
-                dev.slot dev.geometry short same reads whole x.table of.target of.device
+            version = version_new base slot ss seen g s scanned c told text size old mid
+                dev.slot dev.geometry short same reads whole apart x.table of.target none of.device
                 of.groups stands rules.lies prepared copies read;
           };
-          images_a = images_new_a slot ss seen g s scanned c told text size old mid
-              dev.slot dev.geometry short same reads whole x.table of.target of.device
+          images_a = images_new_a base slot ss seen g s scanned c told text size old mid
+              dev.slot dev.geometry short same reads whole apart x.table of.target none of.device
               of.groups stands rules.lies prepared copies read;
-          images_b = images_new_b slot ss seen g s scanned c told text size old mid
-              dev.slot dev.geometry short same reads whole x.table of.target of.device
+          images_b = images_new_b base slot ss seen g s scanned c told text size old mid
+              dev.slot dev.geometry short same reads whole apart x.table of.target none of.device
               of.groups stands rules.lies prepared copies read;
         }
 
@@ -393,16 +450,21 @@ module _ (told : Type 0) (text : List ℕ) (size : ℕ) (old : Image) where
     one : (t : Table) × (r.tables ≡ t ∷ []) × (table_at size r.geometry r.mark.slot old ≡ Ok t)
     one =
         one_of size r.geometry r.mark.slot old r.tables
-        (subst (λ (m : MarkPhase). tables_in size r.geometry ((phase_at m).tables r.mark.slot) old
+        (subst (λ (p : MarkPhase). tables_in size r.geometry (phase_in p r.mark).tables old
         ≡ Ok r.tables)
         phase is.reads.tables)
 
+    phased : is.read.mark ≡ rephased marks.Idle is.read.mark
+    phased =
+        sym (rephased_again is.read.mark (apart_known old is.read.mark is.reads.mark))
+        ∙ ap (λ (p : MarkPhase). rephased p is.read.mark) phase
+
     abbrev shaped : Read
-    shaped = idle_shape r.mark.slot r.statuses r.control r.geometry one.0 r.scanned
+    shaped = idle_shape r.mark r.mark.slot r.statuses r.control r.geometry one.0 r.scanned
 
     shape : r ≡ shaped
     shape = (λ i. record {
-      mark = record r.mark { phase = phase i };
+      mark = phased i;
       statuses = r.statuses;
       control = r.control;
       geometry = r.geometry;
@@ -417,53 +479,58 @@ module _ (told : Type 0) (text : List ℕ) (size : ℕ) (old : Image) where
     begin_dead =
         subst (λ (x : Read). DeadOf d x) (sym shape)
         (subst (λ (k : Device). DeadOf k shaped) (sym form)
-        (dead_shape r.mark.slot r.statuses r.control r.geometry one.0 r.scanned d.control))
+        (dead_shape r.mark r.mark.slot r.statuses r.control r.geometry one.0 r.scanned d.control))
         dev is.reads is.control short
 
     module _
-        (x : Target) (mid : Image) (for : IsTargetFor d x)
+        (x : Target) (mid : Image) (for : IsTargetFor apart d x)
         (same : SameBut (IsOfPlaces told d text (old 4)) old mid)
         (prepared : IsPrepared d text mid)
         (stands : IsTableText d.geometry.max text x.table)
-        (read : mark_of (mark_spelling (installing_mark d.mark.slot))
-        ≡ Ok (installing_mark d.mark.slot)) where
+        (read : mark_of (mark_spelling (begun apart d.mark)) ≡ Ok (begun apart d.mark)) where
       abbrev new : Image
-      new = marked mid (mark_spelling (installing_mark d.mark.slot))
+      new = marked mid (mark_spelling (begun apart d.mark))
 
-      next : IsNext d (begun_device d x.table)
-          (marked mid (mark_spelling (installing_mark d.mark.slot)))
+      next : IsNext d (begun_device apart d x.table)
+          (marked mid (mark_spelling (begun apart d.mark)))
       next =
           subst (λ (y : Read). NextOf x mid d y) (sym shape)
           (subst (λ (k : Device). NextOf x mid k shaped) (sym form)
-          (next_shape r.mark.slot r.statuses r.control r.geometry one.0 r.scanned d.control x mid))
+          (next_shape r.mark r.mark.slot r.statuses r.control r.geometry one.0 r.scanned d.control x
+          mid))
           dev for is.reads is.control is.copies short same prepared stands read
 
-      means : mounted_on (begun_device d x.table) new
-          ≡ installing_with (mounted_on d old) d.mark.slot [] (layout_of x.table)
+      means : mounted_on (begun_device apart d x.table) new
+          ≡ installing_with (mounted_on d old) d.mark.slot (no_entries apart) (layout_of x.table)
       means = elim (cases_slot d.mark.slot dev.slot) [
         | inl first ↦
             let a = some_of d.a (source_a d size dev first) in
             let b = none_of d.b (no_target_b d size dev (ap has_both idle) first) in
-            begun_a d old new a.0 x.table first a.1 b (some_same a.0 old new d.a a.1 next.images_a)
+            begun_a apart d old new a.0 x.table first a.1 b
+            (some_same a.0 old new d.a a.1 next.images_a)
         | inr last ↦
             let a = none_of d.a (no_target_a d size dev (ap has_both idle) last) in
             let b = some_of d.b (source_b d size dev last) in
-            begun_b d old new b.0 x.table last a b.1 (some_same b.0 old new d.b b.1 next.images_b)
+            begun_b apart d old new b.0 x.table last a b.1
+            (some_same b.0 old new d.b b.1 next.images_b)
       ]
 
       pub begin_step : (staged : Option (List ℕ))
-          → IsStep d (begun_device d x.table) staged Begin replies.Done true size old new
+          → IsStep d (begun_device apart d x.table) staged (begin_of apart) replies.Done true size
+          old new
       begin_step staged =
           let of = for.target in
-          let gives : layout_for d.geometry.max d.mark.slot for.source ≡ Ok (layout_of x.table) =
+          let gives : layout_for apart d.geometry.max d.mark.slot for.source
+          ≡ Ok (layout_of x.table) =
           of.gives.1
           ∙ ap Ok (sym
-          (fitting_same d.geometry.max (imported d.mark.slot (layout_of for.source)) of.gives.0
+          (fitting_same d.geometry.max (imported_by apart d.mark.slot (layout_of for.source))
+          of.gives.0
           of.gives.1) ∙ sym of.layout) in
           record {
             represents = next.represents;
             effect =
-                begin_is d size old staged for.source dev idle for.is
-                ∙ ap (table_effect (mounted_on d old) d.mark.slot []) gives
+                begin_is apart d size old staged for.source dev idle for.is
+                ∙ ap (table_effect (mounted_on d old) d.mark.slot (no_entries apart)) gives
                 ∙ ap (λ (m : Mounted). wanting true (does replies.Done m)) (sym means);
           }

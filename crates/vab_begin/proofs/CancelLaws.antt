@@ -9,7 +9,8 @@ use Rattle.vab_bootctl.specs.Control.{control_of}
 use Rattle.vab_marks.specs.declared.mark.MarkPhase.{MarkPhase}
 use Rattle.vab_marks.specs.declared.mark.MarkPhase.TheVariants as marks
 use Rattle.vab_marks.specs.declared.status.PartStatus.{PartStatus}
-use Rattle.vab_marks.specs.Mark.{mark_of, mark_spelling, idle_mark}
+use Rattle.vab_marks.specs.declared.mark.UpdateMark.{UpdateMark}
+use Rattle.vab_marks.specs.Mark.{mark_of, mark_spelling, rephased, resloted}
 use Rattle.vab_geometry.specs.declared.geometry.Geometry.{Geometry}
 use Rattle.vab_tables.specs.declared.table.Table.{Table}
 use Rattle.vab_layout.specs.Slots.{other_slot}
@@ -23,8 +24,8 @@ use Rattle.vab_device.specs.Checks.{first_fault}
 use Rattle.vab_device.specs.Idle.{idle_read}
 use Rattle.vab_device.specs.Kept.{IsDevice, reads_both}
 use Rattle.vab_device.specs.Mounted.{Mounted, mounted_on, state_on, images_on, image_on}
-use Rattle.vab_device.specs.Phases.{phase_at, own_check, update_checks}
-use Rattle.vab_device.specs.Phases.{twin_check, target_check}
+use Rattle.vab_device.specs.Phases.{phase_in, phase_at, own_check, update_checks}
+use Rattle.vab_device.specs.Phases.{twin_check, target_check, no_store_check}
 use Rattle.vab_device.specs.Reading.{Read, mark_in, part_fault, tables_in, table_at, Reads}
 use Rattle.vab_device.specs.Reading.{Represents, AgreeCopies, IsOfImages, IsOfTables}
 use Rattle.vab_device.specs.Stores.{Scanned}
@@ -50,46 +51,49 @@ use Rattle.vab_device.proofs.StayLaws.{version_there}
 
 -- ---- what is kept
 
-kept_ended : (phase : MarkPhase) (slot : ℕ) (c : Control) (ss : List (Option PartStatus))
-    (seen : Control) (g : Geometry) (t u : Table) (scanned : List Scanned)
+kept_ended : (base : UpdateMark) (phase : MarkPhase) (slot : ℕ) (c : Control)
+    (ss : List (Option PartStatus)) (seen : Control) (g : Geometry) (t u : Table)
+    (scanned : List Scanned)
     → reads_both phase ≡ true
     → slot < 2
-    → without_update (kept_with (update_read phase slot ss seen g t u scanned) c)
-    ≡ kept_with (idle_read (idle_mark slot) c g t) c
-kept_ended marks.Installing zero c ss seen g t u scanned both below = refl
-kept_ended marks.Installing (suc zero) c ss seen g t u scanned both below = refl
-kept_ended marks.Staged zero c ss seen g t u scanned both below = refl
-kept_ended marks.Staged (suc zero) c ss seen g t u scanned both below = refl
-kept_ended phase (suc (suc n)) c ss seen g t u scanned both below = absurd (omega (arith, below))
-kept_ended marks.Idle zero c ss seen g t u scanned both below = absurd cc
-kept_ended marks.Idle (suc zero) c ss seen g t u scanned both below = absurd cc
-kept_ended marks.Merging zero c ss seen g t u scanned both below = absurd cc
-kept_ended marks.Merging (suc zero) c ss seen g t u scanned both below = absurd cc
-kept_ended marks.Completed zero c ss seen g t u scanned both below = absurd cc
-kept_ended marks.Completed (suc zero) c ss seen g t u scanned both below = absurd cc
+    → without_update (kept_with
+    (update_read (record base { phase = phase; slot = slot }) ss seen g t u scanned) c)
+    ≡ kept_with (idle_read (rephased marks.Idle (resloted slot base)) c g t) c
+kept_ended base marks.Installing zero c ss seen g t u scanned both below = refl
+kept_ended base marks.Installing (suc zero) c ss seen g t u scanned both below = refl
+kept_ended base marks.Staged zero c ss seen g t u scanned both below = refl
+kept_ended base marks.Staged (suc zero) c ss seen g t u scanned both below = refl
+kept_ended base phase (suc (suc n)) c ss seen g t u scanned both below =
+    absurd (omega (arith, below))
+kept_ended base marks.Idle zero c ss seen g t u scanned both below = absurd cc
+kept_ended base marks.Idle (suc zero) c ss seen g t u scanned both below = absurd cc
+kept_ended base marks.Merging zero c ss seen g t u scanned both below = absurd cc
+kept_ended base marks.Merging (suc zero) c ss seen g t u scanned both below = absurd cc
+kept_ended base marks.Completed zero c ss seen g t u scanned both below = absurd cc
+kept_ended base marks.Completed (suc zero) c ss seen g t u scanned both below = absurd cc
 
 -- an update's phases read both tables
 ends_both : (d : Device) → MayEnd d → reads_both d.mark.phase ≡ true
 ends_both d (inl installing) = ap reads_both installing
 ends_both d (inr staged) = ap reads_both staged.0
 
-both_tables : (m : MarkPhase) (slot : ℕ)
-    → reads_both m ≡ true
-    → (phase_at m).tables slot ≡ slot ∷ other_slot slot ∷ []
-both_tables marks.Idle slot both = absurd cc
-both_tables marks.Installing slot both = refl
-both_tables marks.Staged slot both = refl
-both_tables marks.Merging slot both = absurd cc
-both_tables marks.Completed slot both = absurd cc
+both_tables : (p : MarkPhase) (m : UpdateMark)
+    → reads_both p ≡ true
+    → (phase_in p m).tables ≡ m.slot ∷ other_slot m.slot ∷ []
+both_tables marks.Idle m both = absurd cc
+both_tables marks.Installing m both = refl
+both_tables marks.Staged m both = refl
+both_tables marks.Merging m both = absurd cc
+both_tables marks.Completed m both = absurd cc
 
-both_checks : (m : MarkPhase) (most slot : ℕ) (t u : Table)
-    → reads_both m ≡ true
-    → (phase_at m).part_checks most slot (t ∷ u ∷ []) ≡ update_checks most slot t u
-both_checks marks.Idle most slot t u both = absurd cc
-both_checks marks.Installing most slot t u both = refl
-both_checks marks.Staged most slot t u both = refl
-both_checks marks.Merging most slot t u both = absurd cc
-both_checks marks.Completed most slot t u both = absurd cc
+both_checks : (p : MarkPhase) (m : UpdateMark) (most : ℕ) (t u : Table)
+    → reads_both p ≡ true
+    → (phase_in p m).part_checks most (t ∷ u ∷ []) ≡ update_checks m.apart most m.slot t u
+both_checks marks.Idle m most t u both = absurd cc
+both_checks marks.Installing m most t u both = refl
+both_checks marks.Staged m most t u both = refl
+both_checks marks.Merging m most t u both = absurd cc
+both_checks marks.Completed m most t u both = absurd cc
 
 -- ---- what it means
 
@@ -175,18 +179,22 @@ module _
     (dev : IsDevice d size)
     (is : Represents d size old)
     (ends : MayEnd d)
-    (read : mark_of (mark_spelling (idle_mark d.mark.slot)) ≡ Ok (idle_mark d.mark.slot)) where
+    (read : mark_of (mark_spelling (rephased marks.Idle d.mark))
+    ≡ Ok (rephased marks.Idle d.mark)) where
   abbrev r : Read
   r = is.read
 
   abbrev new : Image
-  new = marked old (mark_spelling (idle_mark d.mark.slot))
+  new = marked old (mark_spelling (rephased marks.Idle d.mark))
 
   abbrev next : Device
   next = without_update d
 
+  own_mark : d.mark ≡ r.mark
+  own_mark = ap (λ (k : Device). k.mark) is.is
+
   own : d.mark.slot ≡ r.mark.slot
-  own = ap (λ (k : Device). k.mark.slot) is.is
+  own = ap (λ (m : UpdateMark). m.slot) own_mark
 
   phase : r.mark.phase ≡ d.mark.phase
   phase = sym (ap (λ (k : Device). k.mark.phase) is.is)
@@ -195,26 +203,26 @@ module _
   both = ap reads_both phase ∙ ends_both d ends
 
   elsewhere : (s : ℕ) → s ≢ 2048 → new s ≡ old s
-  elsewhere s other = set_there old 2048 (mark_spelling (idle_mark d.mark.slot)) s other
+  elsewhere s other = set_there old 2048 (mark_spelling (rephased marks.Idle d.mark)) s other
 
   version_new : version_at new ≡ Two
   version_new =
-      version_there (idle_mark d.mark.slot) new
-      (set_here old 2048 (mark_spelling (idle_mark d.mark.slot)) 2048 refl)
+      version_there (rephased marks.Idle d.mark) new
+      (set_here old 2048 (mark_spelling (rephased marks.Idle d.mark)) 2048 refl)
 
   two : (t : Table) × (u : Table) × (r.tables ≡ t ∷ u ∷ [])
       × (table_at size r.geometry r.mark.slot old ≡ Ok t)
   two =
       two_of size r.geometry r.mark.slot (other_slot r.mark.slot) old r.tables
       (subst (λ (slots : List ℕ). tables_in size r.geometry slots old ≡ Ok r.tables)
-      (both_tables r.mark.phase r.mark.slot both) is.reads.tables)
+      (both_tables r.mark.phase r.mark both) is.reads.tables)
 
   abbrev t : Table
   t = two.0
 
   abbrev shaped : Read
   shaped =
-      update_read r.mark.phase r.mark.slot r.statuses r.control r.geometry two.0 two.1 r.scanned
+      update_read r.mark r.statuses r.control r.geometry two.0 two.1 r.scanned
 
   shape : r ≡ shaped
   shape = (λ i. record {
@@ -237,12 +245,16 @@ module _
       let target = other_slot r.mark.slot in
       let most : ℕ = most_at new in
       let parts = parts_under r old new (version_new ∙ sym is.version) is.reads.parts in
-      let all : first_fault (update_checks most source two.0 two.1) ≡ None =
-      ap first_fault (sym (both_checks r.mark.phase most r.mark.slot two.0 two.1 both))
+      let apart = r.mark.apart in
+      let all : first_fault (update_checks apart most source two.0 two.1) ≡ None =
+      ap first_fault (sym (both_checks r.mark.phase r.mark most two.0 two.1 both))
       ∙ subst (λ (x : Read). part_fault most x ≡ None) shape parts in
       let rest = first_kept (twin_check target two.0 two.1)
-      (own_check most source two.0 ∷ target_check most target two.0 two.1 ∷ []) all in
-      (first_kept (own_check most source two.0) (target_check most target two.0 two.1 ∷ [])
+      (own_check most source two.0 ∷ target_check apart most target two.0 two.1
+      ∷ no_store_check apart two.1 ∷ [])
+      all in
+      (first_kept (own_check most source two.0)
+      (target_check apart most target two.0 two.1 ∷ no_store_check apart two.1 ∷ [])
       rest.1).0
 
   control_new : control_of (new 4) ≡ Ok d.control
@@ -257,15 +269,16 @@ module _
       let both : two.0 ∷ [] ≡ one.0 ∷ [] = one.1 in
       one.2 ∙ (let e : one.0 ≡ two.0 = cc in ap Ok e)
 
-  mark_new : mark_in new ≡ Ok (idle_mark r.mark.slot)
+  mark_new : mark_in new ≡ Ok (rephased marks.Idle r.mark)
   mark_new =
-      subst (λ (n : ℕ). mark_in new ≡ Ok (idle_mark n)) own
-      (mark_there (idle_mark d.mark.slot) new refl read
-      (set_here old 2048 (mark_spelling (idle_mark d.mark.slot)) 2048 refl))
+      subst (λ (m : UpdateMark). mark_in new ≡ Ok (rephased marks.Idle m)) own_mark
+      (mark_there (rephased marks.Idle d.mark) new refl refl read
+      (set_here old 2048 (mark_spelling (rephased marks.Idle d.mark)) 2048 refl))
 
-  reads : Reads size (idle_read (idle_mark r.mark.slot) d.control r.geometry two.0) new
+  reads : Reads size (idle_read (rephased marks.Idle r.mark) d.control r.geometry two.0) new
   reads =
-      reads_idle size new (idle_mark r.mark.slot) is.reads.enough mark_new refl d.control r.geometry
+      reads_idle size new (rephased marks.Idle r.mark) is.reads.enough mark_new refl d.control
+      r.geometry
       two.0
       (control_seen_in _ _ new d.control control_new)
       (geometry_same size old new
@@ -275,11 +288,12 @@ module _
       table_new own_rules (source_runs d size old dev is ends)
 
   kept_is : next
-      ≡ kept_with (idle_read (idle_mark r.mark.slot) d.control r.geometry two.0) d.control
+      ≡ kept_with (idle_read (rephased marks.Idle r.mark) d.control r.geometry two.0) d.control
   kept_is =
       ap without_update
       (is.is ∙ ap (λ (x : Read). kept_with x d.control) shape)
-      ∙ kept_ended r.mark.phase r.mark.slot d.control r.statuses r.control r.geometry two.0 two.1
+      ∙ kept_ended r.mark r.mark.phase r.mark.slot d.control r.statuses r.control r.geometry two.0
+      two.1
       r.scanned both (omega (arith, dev.slot, own))
 
   copies : AgreeCopies r.geometry (r.mark.slot ∷ []) (two.0 ∷ []) new
@@ -287,9 +301,9 @@ module _
       let were : AgreeCopies r.geometry (r.mark.slot ∷ other_slot r.mark.slot ∷ [])
       (two.0 ∷ two.1 ∷ []) old =
       subst (λ (slots : List ℕ). AgreeCopies r.geometry slots (two.0 ∷ two.1 ∷ []) old)
-      (both_tables r.mark.phase r.mark.slot both)
+      (both_tables r.mark.phase r.mark both)
       (subst (λ (ts : List Table). AgreeCopies r.geometry
-      ((phase_at r.mark.phase).tables r.mark.slot)
+      (phase_at r.mark).tables
       ts old) two.2 is.copies) in (
         (
           were.0.0,
@@ -301,7 +315,7 @@ module _
 
   represents : Represents next size new
   represents = record {
-    read = idle_read (idle_mark r.mark.slot) d.control r.geometry two.0;
+    read = idle_read (rephased marks.Idle r.mark) d.control r.geometry two.0;
     reads = reads;
     is = kept_is;
     control = control_new;

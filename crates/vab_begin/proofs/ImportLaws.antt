@@ -2,7 +2,7 @@
 use Rattle.std.proofs.Common.{◌≡◌, ◌∙◌, inl, inr, ℕ, zero, suc, ◌+◌, ◌*◌, ◌<◌, List, [], ◌∷◌}
 use Rattle.std.proofs.Common.{Result, Ok, Err, refl}
 use Rattle.std.proofs.Common.{arith, length}
-use Rattle.std.specs.Prelude.{Bool, false, map, nat_le, Option, Some, None}
+use Rattle.std.specs.Prelude.{Bool, true, false, map, nat_le, Option, Some, None, All, IsTrue}
 use Rattle.std.specs.List.{filter}
 use Rattle.std.proofs.lemmas.Bool.{cases_Bool}
 use Rattle.std.proofs.lemmas.List.{length-map}
@@ -14,14 +14,15 @@ use Rattle.vab_tables.specs.Spelling.{table_size_of, as_minor_2}
 use Rattle.vab_layout.specs.declared.layout.Part.{Part as PartOfLayout}
 use Rattle.vab_layout.specs.declared.layout.Layout.{Layout}
 use Rattle.vab_layout.specs.Layout.{table_of}
-use Rattle.vab_layout.specs.Slots.{own_parts, is_updated}
+use Rattle.vab_layout.specs.Slots.{own_parts, is_updated, IsOwn}
 use Rattle.vab_layout.specs.Plain.{plain, default_group, own_groups}
 use Rattle.vab_builder.specs.declared.fault.EditFault.{EditFault}
 use Rattle.vab_builder.specs.declared.fault.EditFault.TheVariants.{TableFull}
-use Rattle.vab_builder.specs.Import.{imported}
+use Rattle.vab_builder.specs.Import.{imported_by}
 use Rattle.vab_builder.specs.Edits.{fitting}
 use Rattle.vab_builder.proofs.ListLaws.{filter_all}
-use Rattle.vab_device.specs.Kept.{sectors_of}
+use Rattle.vab_device.specs.Kept.{sectors_of, HasNoStores}
+use Rattle.vab_plan.proofs.NoStoreLaws.{own_no_stores}
 use Rattle.vab_device.specs.Mounted.{entry_on}
 use Rattle.vab_device.specs.Phases.{planned_on, plan_of}
 use Rattle.vab_device.specs.Stores.{first_named}
@@ -46,15 +47,32 @@ own_again slot groups below =
     ≡ own_groups slot (own_groups slot groups) = rw (default_of_none slot below) refl in
     first ∙ twice (λ (g : Group). is_of_slot slot g.name) groups
 
-pub imported_plain : (slot : ℕ) (l : Layout) → slot < 2 → imported slot (plain slot l)
-    ≡ imported slot l
-unfolding imported plain
-imported_plain slot l below =
+pub imported_plain : (apart : Bool) (slot : ℕ) (l : Layout)
+    → slot < 2
+    → imported_by apart slot (plain slot l) ≡ imported_by apart slot l
+unfolding imported_by plain
+imported_plain true slot l below =
     rw (
       twice (λ (p : PartOfLayout). is_of_slot slot p.name) l.parts,
       own_again slot l.groups
           below,
     ) refl
+imported_plain false slot l below =
+    rw (
+      twice (λ (p : PartOfLayout). is_of_slot slot p.name) l.parts,
+      own_again slot l.groups
+          below,
+    ) refl
+
+-- ---- where the target stands apart, it has no partition in the stores' group
+
+pub imported_no_stores : (apart : Bool) (slot : ℕ) (l : Layout)
+    → slot < 2
+    → IsOwn slot l.parts
+    → HasNoStores apart (imported_by apart slot l).parts
+unfolding imported_by
+imported_no_stores true slot l below own = own_no_stores slot l.parts below own.each
+imported_no_stores false slot l below own = tt
 
 -- ---- a layout that fits
 

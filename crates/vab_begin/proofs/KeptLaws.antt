@@ -2,10 +2,12 @@
 use Rattle.std.proofs.Common.{◌≡◌, ◌∙◌, inl, inr, ℕ, zero, suc, ◌<◌, List, refl, sym}
 use Rattle.std.proofs.Common.{ap}
 use Rattle.std.proofs.Common.{subst, arith, true, false, eq-eqb}
-use Rattle.std.specs.Prelude.{◌==◌, if◌then◌else◌, Option, None, is_some}
+use Rattle.std.specs.Prelude.{◌==◌, if◌then◌else◌, Bool, Option, None, is_some}
 use Rattle.std.proofs.lemmas.Bool.{cases_Bool, eqb-true}
 use Rattle.vab_marks.specs.declared.mark.MarkPhase.{MarkPhase}
 use Rattle.vab_marks.specs.declared.mark.MarkPhase.TheVariants as marks
+use Rattle.vab_marks.specs.declared.mark.UpdateMark.{UpdateMark}
+use Rattle.vab_marks.specs.Mark.{MayStandApart}
 use Rattle.vab_bootctl.specs.declared.slots.Control.{Control}
 use Rattle.vab_bootctl.specs.Control.{Fits}
 use Rattle.vab_geometry.specs.declared.geometry.Geometry.{Geometry}
@@ -105,26 +107,34 @@ table_b_at (suc (suc n)) size g b t below is new = absurd (omega (arith, below))
 
 -- ---- the device
 
+-- the mark in this phase, whose target stands apart or not
+abbrev pub phased : MarkPhase → Bool → UpdateMark → UpdateMark
+phased phase apart m = record m { phase = phase; apart = apart }
+
 -- With another phase, table of the other slot, plan and boot control it is a device.
-pub update_kept : (d : Device) (size : ℕ) (c : Control) (phase : MarkPhase) (t : Option Table)
-    (plan : Option (List Part))
+pub update_kept : (d : Device) (size : ℕ) (c : Control) (phase : MarkPhase) (apart : Bool)
+    (t : Option Table) (plan : Option (List Part))
     → IsDevice d size
     → Fits c
     → c.current ≡ d.mark.slot
     → IsPhase phase
+    → MayStandApart (phased phase apart d.mark)
     → has_both d.mark.phase ≡ false
     → has_both phase ≡ false
     → IsKeptTable size d.geometry (other_slot d.mark.slot) t
     → is_some t ≡ reads_both phase
     → is_some plan ≡ is_installing phase
     → ArePresent size plan
-    → IsUpdate d.mark.slot (table_of_slot d d.mark.slot) t
-    → IsDevice (with_control c (with_update d phase t plan)) size
-update_kept d size c phase t plan is fits current known was one table there planned plans update =
-    let source : table_of_slot (with_update d phase t plan) d.mark.slot
+    → IsUpdate apart d.mark.slot (table_of_slot d d.mark.slot) t
+    → IsDevice (with_control c (with_update d (phased phase apart d.mark) t plan)) size
+update_kept d size c phase apart t plan is fits current known stands was one table there planned
+    plans update =
+    let source : table_of_slot (with_update d (phased phase apart d.mark) t plan) d.mark.slot
     ≡ table_of_slot d d.mark.slot =
     source_at d.mark.slot d.table_a d.table_b t in
-    let target : table_of_slot (with_update d phase t plan) (other_slot d.mark.slot) ≡ t =
+    let target : table_of_slot (with_update d (phased phase apart d.mark) t plan)
+    (other_slot d.mark.slot)
+    ≡ t =
     target_at d.mark.slot d.table_a d.table_b t is.slot in
     record {
       enough = is.enough;
@@ -132,6 +142,7 @@ update_kept d size c phase t plan is fits current known was one table there plan
       control = fits;
       phase = known;
       slot = is.slot;
+      apart = stands;
       current = own_has phase d.mark.slot c.current (sym current);
       has_a =
           is.has_a ∙ one_has d.mark.phase d.mark.slot 0 was ∙ sym (one_has phase d.mark.slot 0 one);
@@ -146,10 +157,11 @@ update_kept d size c phase t plan is fits current known was one table there plan
       target = ap is_some target ∙ there;
       planned = planned;
       plan = plans;
-      update = (subst (λ (x : Option Table). IsUpdate d.mark.slot x
-          (table_of_slot (with_update d phase t plan) (other_slot d.mark.slot)))
+      update = (subst (λ (x : Option Table). IsUpdate apart d.mark.slot x
+          (table_of_slot (with_update d (phased phase apart d.mark) t plan)
+          (other_slot d.mark.slot)))
           (sym source)
-          (subst (λ (x : Option Table). IsUpdate d.mark.slot (table_of_slot d d.mark.slot) x)
+          (subst (λ (x : Option Table). IsUpdate apart d.mark.slot (table_of_slot d d.mark.slot) x)
           (sym target) update));
     }
 
@@ -205,6 +217,7 @@ ended_kept d size is ends =
       control = is.control;
       phase = inl refl;
       slot = is.slot;
+      apart = refl;
       current = eq-eqb d.mark.slot d.control.current (sym (ends_at_source d size is ends));
       has_a = has_a_at d.mark.slot d.a is.slot (source_a d size is);
       has_b = has_b_at d.mark.slot d.b is.slot (source_b d size is);
@@ -217,11 +230,11 @@ ended_kept d size is ends =
       target = ap is_some target;
       planned = refl;
       plan = tt;
-      update = (subst (λ (x : Option Table). IsUpdate d.mark.slot x
+      update = (subst (λ (x : Option Table). IsUpdate false d.mark.slot x
           (table_of_slot (without_update d) (other_slot d.mark.slot)))
           (sym source)
-          (subst (λ (x : Option Table). IsUpdate d.mark.slot (table_of_slot d d.mark.slot) x)
-          (sym target) (no_target d.mark.slot (table_of_slot d d.mark.slot))));
+          (subst (λ (x : Option Table). IsUpdate false d.mark.slot (table_of_slot d d.mark.slot) x)
+          (sym target) (no_target false d.mark.slot (table_of_slot d d.mark.slot))));
     }
 
 -- its source stays

@@ -14,7 +14,8 @@ use Rattle.vab_layout.specs.declared.layout.Layout.{Layout}
 use Rattle.vab_layout.specs.Layout.{layout_of, blocks_of_parts}
 use Rattle.vab_layout.specs.Rules.{IsPart as IsPartOfLayout, IsLayout}
 use Rattle.vab_layout.proofs.LayoutLaws.{layout_keeps}
-use Rattle.vab_layout.specs.Slots.{own_parts, store_parts, is_updated, IsTarget, IsDistinct}
+use Rattle.vab_layout.specs.Slots.{own_parts, store_parts, is_updated, IsTargetBeside}
+use Rattle.vab_layout.specs.Slots.{IsDistinct}
 use Rattle.vab_names.proofs.NameCases.{store_is_store}
 use Rattle.vab_device.specs.Kept.{lies_in, sectors_of, part_on}
 use Rattle.vab_device.specs.Kept.{IsPart, AreParts, IsStore, IsStored}
@@ -123,11 +124,11 @@ stores_distinct own stores once =
     each_distinct stores (rest_once own stores once)
 
 -- the table of a target
-pub target_table : (slot : ℕ) (source : List PartOfLayout) (t : Table)
+pub target_table : (slot : ℕ) (twins source : List PartOfLayout) (t : Table)
     → KeepsRules t
-    → IsTarget slot source (layout_of t).parts
+    → IsTargetBeside slot twins source (layout_of t).parts
     → IsTargetTable slot t
-target_table slot source t rules is = record {
+target_table slot twins source t rules is = record {
   rules = rules;
   own = is.own;
   stores =

@@ -1,8 +1,9 @@
 -- What a begin writes is the begin's, and stands for the target's table.
-use Rattle.std.proofs.Common.{◌≡◌, ◌∙◌, inl, inr, ℕ, ◌≤◌, List, length, sym, ap, subst, arith}
+use Rattle.std.proofs.Common.{◌≡◌, ◌∙◌, inl, inr, ℕ, ◌≤◌, Bool, List, length, sym, ap, subst}
+use Rattle.std.proofs.Common.{arith}
 use Rattle.vab_disk.specs.Disk.{IsAt}
 use Rattle.vab_marks.specs.declared.mark.MarkPhase.TheVariants as marks
-use Rattle.vab_marks.specs.Mark.{mark_spelling, installing_mark}
+use Rattle.vab_marks.specs.Mark.{mark_spelling, begun}
 use Rattle.vab_tables.specs.declared.table.Table.{Table}
 use Rattle.vab_tables.specs.Spelling.{table_text, as_minor_2}
 use Rattle.vab_tables.specs.Text.{IsTableText}
@@ -13,7 +14,7 @@ use Rattle.vab_begin.specs.Target.{IsTargetFor}
 use Rattle.vab_begin.specs.Writes.{IsOfPlaces, IsOfBegun}
 use Rattle.vab_begin.proofs.ImportLaws.{minor_2}
 
-module _ (d : Device) (x : Target) (for : IsTargetFor d x) (text : List ℕ)
+module _ (apart : Bool) (d : Device) (x : Target) (for : IsTargetFor apart d x) (text : List ℕ)
     (same : text ≡ x.text) where
   pub target_short : length text ≤ d.geometry.max
   target_short = omega (arith, ap length same, for.target.spelled.long, for.target.size)
@@ -34,7 +35,9 @@ module _ (d : Device) (x : Target) (for : IsTargetFor d x) (text : List ℕ)
   short = omega (arith, ap length spelled, target_short)
 
   module _ (told : Type 0) (old : List ℕ) (idle : d.mark.phase ≡ marks.Idle) where
-    pub places_in : (s : ℕ) (b : List ℕ) → IsOfPlaces told d text old s b → IsOfBegun told d old s b
+    pub places_in : (s : ℕ) (b : List ℕ)
+        → IsOfPlaces told d text old s b
+        → IsOfBegun told apart d old s b
     places_in s b w =
         let gives = for.target.gives in
         record {
@@ -48,8 +51,8 @@ module _ (d : Device) (x : Target) (for : IsTargetFor d x) (text : List ℕ)
         }
 
     pub mark_in : (s : ℕ) (b : List ℕ)
-        → IsAt 2048 (mark_spelling (installing_mark d.mark.slot)) s b
-        → IsOfBegun told d old s b
+        → IsAt 2048 (mark_spelling (begun apart d.mark)) s b
+        → IsOfBegun told apart d old s b
     mark_in s b w = record {
       idle = idle;
       source = for.source;

@@ -13,7 +13,7 @@ use vab_device::{Device, PhaseKind};
 use vab_disk::Disk;
 use vab_gate::DiskFault;
 use vab_install::put_mark;
-use vab_marks::{MarkPhase, UpdateMark};
+use vab_marks::MarkPhase;
 use vab_model::{Refusal, Reply};
 
 // The device without its update.
@@ -21,7 +21,8 @@ fn ended(device: Device) -> Device
     requires { device.mark.slot < 2 }
     ensures { result ≡ without_update device }
 {
-    without_target(with_update(device, MarkPhase::Idle, None, None))
+    let mark = device.mark.with_phase(MarkPhase::Idle);
+    without_target(with_update(device, mark, None, None))
 }
 
 // Drops the update: the mark says that there is none.
@@ -32,10 +33,7 @@ fn end_update<D: Disk>(d: &mut D, device: Device) -> Result<(Device, Reply), Dis
     ensures { (staged : Option (List ℕ))
         → Does D.Disk device staged Cancel (IsOfCancelled device) d.old d.new result }
 {
-    let mark = UpdateMark {
-        phase: MarkPhase::Idle,
-        ..device.mark
-    };
+    let mark = device.mark.with_phase(MarkPhase::Idle);
     match put_mark(d, &mark) {
         Err(fault) => Err(fault),
         Ok(()) => Ok((ended(device), Reply::Done)),

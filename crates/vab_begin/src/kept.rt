@@ -5,23 +5,19 @@ ghost use Rattle.vab_begin.specs.Kept.{with_update, without_target};
 
 use vab_bytes::Listing;
 use vab_device::{Device, Part};
-use vab_marks::{MarkPhase, UpdateMark};
+use vab_marks::UpdateMark;
 use vab_tables::Table;
 
-/// The device in this phase from the same slot, with this table of the other slot, and this plan.
+/// The device with this mark of the same slot, with this table of the other slot, and this plan.
 pub fn with_update(
     device: Device,
-    phase: MarkPhase,
+    mark: UpdateMark,
     table: Option<Table>,
     plan: Option<Listing<Part>>,
 ) -> Device
     requires { device.mark.slot < 2 }
-    ensures { result ≡ with_update device phase table plan }
+    ensures { result ≡ with_update device mark table plan }
 {
-    let mark = UpdateMark {
-        phase,
-        ..device.mark
-    };
     if device.mark.slot == 0 {
         Device {
             mark,

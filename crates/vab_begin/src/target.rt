@@ -47,26 +47,32 @@ fn with_text(alloc: Global, table: Table, slot: usize) -> Result<Target, EditFau
 }
 
 // The target of an update from this source, or why there is none.
-fn target_of(alloc: Global, source: &Table, slot: usize, max: u32) -> Result<Target, EditFault>
+fn target_of(
+    alloc: Global,
+    source: &Table,
+    slot: usize,
+    max: u32,
+    apart: bool,
+) -> Result<Target, EditFault>
     requires slot { slot < 2 }
     requires keeps { KeepsRules source.now }
     requires small { table_size_of source.now < 2 ^ 24 }
     requires own { IsOwn slot (layout_of source.now).parts }
-    ensures target { IfOk result (λ x. IsTargetOf max slot source.now x) }
-    ensures refused { IfErr result (λ f. IsRefusedBy max slot source.now f) }
+    ensures target { IfOk result (λ x. IsTargetOf apart max slot source.now x) }
+    ensures refused { IfErr result (λ f. IsRefusedBy apart max slot source.now f) }
 {
-    match import(alloc, source, slot, max) {
+    match import(alloc, source, slot, max, apart) {
         Ok(table) => with_text(alloc, table, 1 - slot),
         Err(fault) => Err(fault),
     }
 }
 
-/// The target of an update from the device's slot. `TableFull` exactly where its text is longer
-/// than a copy may be; else `NoMemory` where memory is refused.
-pub fn target_for(alloc: Global, device: &Device) -> Result<Target, EditFault>
+/// The target of an update from the device's slot, which stands `apart` or not. `TableFull` exactly
+/// where its text is longer than a copy may be; else `NoMemory` where memory is refused.
+pub fn target_for(alloc: Global, device: &Device, apart: bool) -> Result<Target, EditFault>
     requires kept { (size : ℕ) × IsDevice device.now size }
-    ensures target { IfOk result (λ x. IsTargetFor device.now x) }
-    ensures refused { IfErr result (λ f. IsRefusedFor device.now f) }
+    ensures target { IfOk result (λ x. IsTargetFor apart device.now x) }
+    ensures refused { IfErr result (λ f. IsRefusedFor apart device.now f) }
 {
     let source = if device.mark.slot == 0 {
         device.table_a.as_ref()
@@ -74,7 +80,7 @@ pub fn target_for(alloc: Global, device: &Device) -> Result<Target, EditFault>
         device.table_b.as_ref()
     };
     match source {
-        Some(table) => target_of(alloc, table, device.mark.slot, device.geometry.max),
+        Some(table) => target_of(alloc, table, device.mark.slot, device.geometry.max, apart),
         None => unreachable!(),
     }
 }

@@ -16,9 +16,10 @@ use Rattle.vab_model.specs.declared.command.Refusal.TheVariants as refusals
 use Rattle.vab_model.specs.Commands.{BeginMerge}
 use Rattle.vab_model.specs.Effects.{Effect, after_of, does, refuses}
 use Rattle.vab_model.specs.State.{images_at}
+use Rattle.vab_model.specs.Machine.{without_images}
 use Rattle.vab_device.specs.Mounted.{Mounted}
 use Rattle.vab_device.specs.Reading.{IsIn}
-use Rattle.vab_device.specs.Updates.{effect_on, begin_merge_effect, merging_from, without_images}
+use Rattle.vab_device.specs.Updates.{effect_on, begin_merge_effect, merging_from}
 use Rattle.vab_session.specs.Alone.{IsAlone}
 use Rattle.vab_session.proofs.AloneLaws.{alone_boots}
 use Rattle.vab_boots.specs.Boots.{worked_of, is_ready}

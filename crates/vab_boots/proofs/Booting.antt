@@ -13,7 +13,7 @@ use Rattle.vab_model.specs.declared.state.Image.{Image as ImageOfSlot}
 use Rattle.vab_model.specs.declared.state.State.{State}
 use Rattle.vab_model.specs.declared.command.Reply.TheVariants as replies
 use Rattle.vab_model.specs.State.{images_at, has_images}
-use Rattle.vab_model.specs.Effects.{effect}
+use Rattle.vab_model.specs.Machine.{machine_effect}
 use Rattle.vab_device.specs.Mounted.{Mounted}
 use Rattle.vab_device.specs.Phases.{is_good}
 use Rattle.vab_device.specs.Reading.{IsIn}
@@ -80,7 +80,7 @@ bootable s slot works =
 chosen_boots : (m : Mounted) (slot : ℕ)
     → chosen_of m.state.control (has_images m.state) ≡ Some slot
     → Boots m
-unfolding effect
+unfolding machine_effect
 chosen_boots m slot is =
     let s : State = m.state in
     let i : Info = info_at s.control slot in

@@ -32,7 +32,7 @@ use Rattle.vab_device.specs.Kept.{has_both, has_slot}
 use Rattle.vab_device.specs.Mounted.{Mounted, state_on, images_on, entries_on}
 use Rattle.vab_device.specs.Mounted.{unplanned}
 use Rattle.vab_device.specs.Mounted.{phase_by, count_at}
-use Rattle.vab_device.specs.Phases.{phase_at, slot_checks, staged_checks, is_good, may_run}
+use Rattle.vab_device.specs.Phases.{phase_in, slot_checks, staged_checks, is_good, may_run}
 use Rattle.vab_device.specs.Phases.{target_ready}
 use Rattle.vab_device.specs.Stores.{Scanned}
 use Rattle.vab_device.specs.Reading.{IsIn, Read, Reads, kept, state_fault, control_in, control_read}
@@ -84,14 +84,14 @@ unplanned_unready marks.Merging slot left one = refl
 unplanned_unready marks.Completed slot left one = tt
 
 -- where both slots have images nothing is planned
-no_plan : (p : MarkPhase) (slot : ℕ) (ts : List Table) (ss : List Scanned)
+no_plan : (p : MarkPhase) (m : UpdateMark) (ts : List Table) (ss : List Scanned)
     → has_both p ≡ true
-    → (phase_at p).plan slot ts ss ≡ None
-no_plan marks.Idle slot ts ss both = absurd cc
-no_plan marks.Installing slot ts ss both = absurd cc
-no_plan marks.Staged slot ts ss both = refl
-no_plan marks.Merging slot ts ss both = absurd cc
-no_plan marks.Completed slot ts ss both = absurd cc
+    → (phase_in p m).plan ts ss ≡ None
+no_plan marks.Idle m ts ss both = absurd cc
+no_plan marks.Installing m ts ss both = absurd cc
+no_plan marks.Staged m ts ss both = refl
+no_plan marks.Merging m ts ss both = absurd cc
+no_plan marks.Completed m ts ss both = absurd cc
 
 ready_is : (m : UpdateMark) (left : ℕ) (entries : Option (List PlanEntry))
     → (has_both m.phase ≡ true → entries ≡ None)
@@ -116,14 +116,16 @@ unready_is m left (Some es) one = refl
 
 -- ---- which slots have images
 
-flag : MarkPhase → (own slot : ℕ) → Bool
-flag p own slot = cond (eqb slot 0) ((phase_at p).has_a own) ((phase_at p).has_b own)
+flag : MarkPhase → UpdateMark → (slot : ℕ) → Bool
+flag p m slot = cond (eqb slot 0) (phase_in p m).has_a (phase_in p m).has_b
 
-flag_is : (p : MarkPhase) (own slot : ℕ) → slot < 2 → flag p own slot ≡ has_slot p own slot
+flag_is : (p : MarkPhase) (m : UpdateMark) (slot : ℕ)
+    → slot < 2
+    → flag p m slot ≡ has_slot p m.slot slot
 unfolding flag
-flag_is p own zero lt = ap (λ (f : ℕ → Bool). f own) (of_phase p).has_a
-flag_is p own (suc zero) lt = ap (λ (f : ℕ → Bool). f own) (of_phase p).has_b
-flag_is p own (suc (suc n)) lt = absurd (omega (arith, lt))
+flag_is p m zero lt = (of_phase p m).has_a
+flag_is p m (suc zero) lt = (of_phase p m).has_b
+flag_is p m (suc (suc n)) lt = absurd (omega (arith, lt))
 
 own_slot : (p : MarkPhase) (own : ℕ) → has_slot p own own ≡ true
 own_slot p own = elim (cases_Bool (has_both p)) [
@@ -167,11 +169,11 @@ unfolding state_on flag
 has_at size r image reads zero lt =
     some_images image (kept r).a
     ∙ (has_images size r image reads).a
-    ∙ flag_is r.mark.phase r.mark.slot 0 lt
+    ∙ flag_is r.mark.phase r.mark 0 lt
 has_at size r image reads (suc zero) lt =
     some_images image (kept r).b
     ∙ (has_images size r image reads).b
-    ∙ flag_is r.mark.phase r.mark.slot 1 lt
+    ∙ flag_is r.mark.phase r.mark 1 lt
 has_at size r image reads (suc (suc n)) lt = absurd (omega (arith, lt))
 
 -- ---- boot control
@@ -342,7 +344,7 @@ facts_on size r image reads =
     let below : slot < 2 = slot_below image r.mark reads.mark in
     let other : other_slot slot < 2 = omega (arith, below) in
     let planned : has_both p ≡ true → entries ≡ None =
-    (λ both. entries_none image d.plan (no_plan p slot r.tables r.scanned both)) in
+    (λ both. entries_none image d.plan (no_plan p r.mark r.tables r.scanned both)) in
     let ready : is_ready (phase_by r.mark left entries) ≡ has_both p =
     ready_is r.mark left entries planned in
     let one : is_ready (phase_by r.mark left entries) ≡ false → has_both p ≡ false =

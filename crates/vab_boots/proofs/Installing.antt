@@ -2,7 +2,8 @@
 use Rattle.std.proofs.Common.{◌≡◌, ◌≢◌, ◌∙◌, ℕ, ◌<◌, ◌⊎◌, inl, inr, Bool, true, false, List, []}
 use Rattle.std.proofs.Common.{◌∷◌, ◌++◌, Option, Some, None, refl, sym, ap, subst, arith}
 use Rattle.std.proofs.lemmas.Bool.{and_parts, cases_eq, cases_Bool, ltb-true}
-use Rattle.std.specs.Prelude.{◌&&◌, ◌||◌, cond, eqb, map, is_some, nat_lt, slice_index_or}
+use Rattle.std.specs.Prelude.{◌^◌, nat_le, ◌&&◌, ◌||◌, cond, eqb, map, is_some, nat_lt}
+use Rattle.std.specs.Prelude.{slice_index_or}
 use Rattle.std.specs.List.{flat_map}
 use Rattle.vab_disk.specs.Disk.{Image}
 use Rattle.vab_bootctl.specs.declared.slots.Control.{Control}
@@ -12,20 +13,23 @@ use Rattle.vab_layout.specs.Slots.{other_slot}
 use Rattle.vab_set.specs.declared.set.SetImage.{SetImage}
 use Rattle.vab_space.specs.declared.Chunk.TheVariants.{One}
 use Rattle.vab_model.specs.declared.state.Image.{Image as ImageOfSlot}
-use Rattle.vab_model.specs.declared.state.PlanEntry.{PlanEntry}
+use Rattle.vab_model.specs.declared.state.Plan.{Plan}
 use Rattle.vab_model.specs.declared.state.State.{State}
 use Rattle.vab_model.specs.declared.state.Phase.{Phase}
 use Rattle.vab_model.specs.declared.state.Phase.TheVariants.{Idle, Installing, Staged, Merging}
 use Rattle.vab_model.specs.declared.command.Reply.TheVariants as replies
 use Rattle.vab_model.specs.Commands.{Begin, Create, Resize, Snapshot, Flash, Finish, SetActive}
-use Rattle.vab_model.specs.Effects.{Effect, IsOneOf, answers, effect, effect_map, active_effect}
+use Rattle.vab_model.specs.Effects.{Effect, IsOneOf, answers, effect_map, active_effect}
+use Rattle.vab_model.specs.Machine.{machine_effect}
 use Rattle.vab_model.specs.Effects.{steps_of, last_of, after_of}
 use Rattle.vab_model.specs.State.{images_at, has_images}
+use Rattle.vab_model.specs.Machine.{with_images, exceptions_in, least_declared}
 use Rattle.vab_device.specs.Mounted.{Mounted, in_state}
 use Rattle.vab_device.specs.Reading.{IsIn}
-use Rattle.vab_device.specs.Updates.{effect_on, begin_effect, EditOf, edit_effect, create_edit}
-use Rattle.vab_device.specs.Updates.{resize_edit, snapshot_edit, with_images, final_image}
-use Rattle.vab_device.specs.Updates.{plan_count, complete_effect, least_declared, finish_effect}
+use Rattle.vab_device.specs.Updates.{effect_on, begin_effect, EditOf, Guard, edit_effect}
+use Rattle.vab_device.specs.Updates.{no_guard, settled_guard, store_guard, create_edit}
+use Rattle.vab_device.specs.Updates.{resize_edit, snapshot_edit, final_image}
+use Rattle.vab_device.specs.Updates.{complete_effect, finish_effect}
 use Rattle.vab_update.specs.Install.{order, target_name, size_command, flash_order, image_orders}
 use Rattle.vab_update.specs.Orders.{Order, is_refused, effect_one, followed, effect_all}
 use Rattle.vab_update.proofs.OrderLaws.{followed_refused, followed_done, joined, last_append}
@@ -106,19 +110,20 @@ module _ (m : Mounted) where
   }
 
   begins : (x : Mounted) → StillRuns m x → AllRun (effect_on x None Begin).later
-  begins x runs y is = planned x y runs (begin_planned x x.state.phase y is)
+  begins x runs y is = planned x y runs (begin_planned x false x.state.phase y is)
 
-  edits : (x : Mounted) (edit : EditOf)
+  edits : (x : Mounted) (guard : Guard) (edit : EditOf)
       → StillRuns m x
-      → AllRun (edit_effect x edit x.state.phase).later
-  edits x edit runs y is = planned x y runs (edit_planned x edit x.state.phase y is)
+      → AllRun (edit_effect x guard edit x.state.phase).later
+  edits x guard edit runs y is = planned x y runs (edit_planned x guard edit x.state.phase y is)
 
   -- a partition gets its size, whether it is there already or not
   sizes : (x : Mounted) (there : Bool) (name : List ℕ) (size : ℕ)
       → StillRuns m x
       → AllRun (effect_on x None (cond there (Resize name size) (Create name size))).later
-  sizes x true name size runs = edits x (resize_edit name size) runs
-  sizes x false name size runs = edits x (create_edit name size) runs
+  sizes x true name size runs =
+      edits x (settled_guard (nat_le size (2 ^ 40)) name) (resize_edit name size) runs
+  sizes x false name size runs = edits x no_guard (create_edit name size) runs
 
   flashes : (x : Mounted) (staged : Option (List ℕ)) (name : List ℕ)
       → StillRuns m x
@@ -127,13 +132,13 @@ module _ (m : Mounted) where
       planned x y runs (flash_planned x staged name One x.state.phase y is)
 
   -- the end of the installation
-  completes : (x : Mounted) (source : ℕ) (plan : List PlanEntry) (least : Option (List ℕ))
+  completes : (x : Mounted) (source : ℕ) (plan : Plan) (least : Option (List ℕ))
       → source ≡ m.state.control.current
       → StillRuns m x
       → AllRun (complete_effect x source plan least).later
   completes x source plan None at runs y (inl same) =
-      let images : List ImageOfSlot = map (final_image x.state source) plan in
-      let phase : Phase = Staged source (plan_count plan) in
+      let images : List ImageOfSlot = map (final_image x.state source) plan.entries in
+      let phase : Phase = Staged source (exceptions_in plan.entries) in
       let next : State =
       record (with_images x.state (other_slot source) images) { phase = phase } in
       subst (StillRuns m) (sym same) (record {
@@ -153,7 +158,7 @@ module _ (m : Mounted) where
       → AllRun (finish_effect x phase).later
   finish_by x Idle at runs y is = absurd is
   finish_by x (Installing source plan) at runs y is =
-      completes x source plan (least_declared None plan) at runs y is
+      completes x source plan (least_declared None plan.entries) at runs y is
   finish_by x (Staged source left) at runs y is = absurd is
   finish_by x (Merging target left) at runs y is = absurd is
 
@@ -246,7 +251,7 @@ module _ (m : Mounted) where
       more_lead size (store ∷ flash ∷ later)
       (λ x runs. sizes m x _ name image.size runs)
       (more_lead store (flash ∷ later)
-      (λ x runs. edits m x (snapshot_edit name image.store) runs)
+      (λ x runs. edits m x store_guard (snapshot_edit name image.store) runs)
       (more_lead flash later
       (λ x runs. flashes m x (Some image.bytes) name runs)
       (images_lead source set rest lead)))
@@ -271,7 +276,7 @@ module _ (m : Mounted) where
   activates x slot false runs y is = absurd is
 
   last_leads : (slot : ℕ) → AllLead (order (SetActive slot) ∷ [])
-  unfolding effect effect_all
+  unfolding machine_effect effect_all
   last_leads slot x runs = activates x slot (is_some (images_at x.state slot)) runs
 
   -- all that install a set
@@ -315,7 +320,7 @@ boots_still : (m x : Mounted)
     → IsRunning m
     → StillRuns m x
     → BootsTo m.state.control.current x
-unfolding effect
+unfolding machine_effect
 boots_still m x running runs =
     let slot : ℕ = m.state.control.current in
     ap (λ (n : ℕ). replies.Booted n)
@@ -365,7 +370,7 @@ stays_running size image m next set is idle (inr later) =
 
 not_begun : (m : Mounted) (phase : Phase) (rest : Effect Mounted)
     → phase ≢ Idle
-    → (followed (begin_effect m phase) rest).later ≡ []
+    → (followed (begin_effect m false phase) rest).later ≡ []
 not_begun m Idle rest other = absurd (other refl)
 not_begun m (Installing source plan) rest other = refl
 not_begun m (Staged source left) rest other = refl
@@ -380,5 +385,5 @@ needs_no_update m set other =
     let last : List Order = order Finish ∷ order (SetActive (other_slot slot)) ∷ [] in
     not_begun m m.state.phase
     (effect_all (flat_map (image_orders slot) set ++ last)
-    (after_of m (begin_effect m m.state.phase)))
+    (after_of m (begin_effect m false m.state.phase)))
     other

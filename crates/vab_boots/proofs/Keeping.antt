@@ -6,7 +6,7 @@ use Rattle.std.proofs.Common.{ap}
 use Rattle.std.proofs.Common.{subst, arith}
 use Rattle.std.proofs.lemmas.Bool.{cases_Bool, eqb-true, eqb-false, eq-eqb, ne_eqb}
 use Rattle.std.proofs.lemmas.List.Elements.{All-cons}
-use Rattle.std.specs.Prelude.{All, map, is_some}
+use Rattle.std.specs.Prelude.{All, map, is_some, nat_le, ◌^◌}
 use Rattle.vab_bootctl.specs.declared.slots.Control.{Control}
 use Rattle.vab_bootctl.specs.Boot.{activated_of}
 use Rattle.vab_layout.specs.Slots.{other_slot}
@@ -14,6 +14,7 @@ use Rattle.vab_model.specs.declared.state.Image.{Image as ImageOfSlot}
 use Rattle.vab_model.specs.declared.state.PlanImage.{PlanImage}
 use Rattle.vab_model.specs.declared.state.PlanImage.TheVariants.{Kept, Declared, Written}
 use Rattle.vab_model.specs.declared.state.PlanEntry.{PlanEntry}
+use Rattle.vab_model.specs.declared.state.Plan.{Plan}
 use Rattle.vab_model.specs.declared.state.Phase.{Phase}
 use Rattle.vab_model.specs.declared.state.Phase.TheVariants.{Idle, Installing, Staged, Merging}
 use Rattle.vab_model.specs.declared.state.State.{State}
@@ -21,19 +22,23 @@ use Rattle.vab_model.specs.declared.command.Refusal.TheVariants as refusals
 use Rattle.vab_model.specs.declared.command.Reply.TheVariants as replies
 use Rattle.vab_model.specs.Commands.{Command, SetActive, Boot, Mark, Print, Digest, Begin, Create}
 use Rattle.vab_model.specs.Commands.{Resize, Delete, Snapshot, Flash, Finish, Cancel}
-use Rattle.vab_model.specs.Commands.{Merge}
+use Rattle.vab_model.specs.Commands.{Merge, Factory}
 use Rattle.vab_model.specs.State.{images_at}
 use Rattle.vab_model.specs.Effects.{Effect, Found, Image_is, Refused_by, found_of, print_effect}
-use Rattle.vab_model.specs.Effects.{digest_effect, active_effect, effect, effect_map, IsOneOf}
+use Rattle.vab_model.specs.Effects.{digest_effect, active_effect, effect_map, IsOneOf}
+use Rattle.vab_model.specs.Machine.{machine_effect}
 use Rattle.vab_model.specs.Effects.{after_of, does}
+use Rattle.vab_model.specs.Machine.{with_images, without_images, declared_name, least_declared}
+use Rattle.vab_model.specs.Machine.{exceptions_in}
+use Rattle.vab_model.specs.Machine.{turns as turns_of}
 use Rattle.vab_device.specs.Mounted.{Mounted, in_state}
 use Rattle.vab_device.specs.Updates.{effect_on}
-use Rattle.vab_device.specs.Updates.{EditOf, edit_effect, create_edit, resize_edit}
+use Rattle.vab_device.specs.Updates.{EditOf, Guard, edit_effect, no_guard, settled_guard}
+use Rattle.vab_device.specs.Updates.{store_guard, create_edit, resize_edit}
 use Rattle.vab_device.specs.Updates.{delete_edit, snapshot_edit}
 use Rattle.vab_device.specs.Updates.{merge_effect, turns}
-use Rattle.vab_device.specs.Updates.{with_images, without_images, complete_effect}
+use Rattle.vab_device.specs.Updates.{complete_effect}
 use Rattle.vab_device.specs.Updates.{finish_effect, cancelled, cancel_effect, final_image}
-use Rattle.vab_device.specs.Updates.{declared_name, least_declared, plan_count}
 use Rattle.vab_model.specs.Kinds.{changes_images}
 use Rattle.vab_boots.specs.Images.{IsReady, Finishes, Cancels, SameImages}
 use Rattle.vab_boots.proofs.Begins.{refused_not, done_then}
@@ -101,19 +106,19 @@ kept_beside s source images phase = elim (cases_Bool (eqb source 0)) [
   | inr not ↦ rw (not, other_is_a source not) refl
 ]
 
-finishes_by : (m : Mounted) (source : ℕ) (plan : List PlanEntry) (o : Option (List ℕ))
+finishes_by : (m : Mounted) (source : ℕ) (plan : Plan) (o : Option (List ℕ))
     → m.state.phase ≡ Installing source plan
-    → least_declared None plan ≡ o
+    → least_declared None plan.entries ≡ o
     → (complete_effect m source plan o).reply ≡ replies.Done
     → Finishes m (after_of m (complete_effect m source plan o))
 finishes_by m source plan None was none done =
-    let images : List ImageOfSlot = map (final_image m.state source) plan in
-    let phase : Phase = Staged source (plan_count plan) in
+    let images : List ImageOfSlot = map (final_image m.state source) plan.entries in
+    let phase : Phase = Staged source (exceptions_in plan.entries) in
     record {
       source = source;
       plan = plan;
       was = was;
-      ready = are_ready plan none;
+      ready = are_ready plan.entries none;
       staged = refl;
       target = given m.state (other_slot source) images phase;
       kept = kept_beside m.state source images phase;
@@ -127,7 +132,7 @@ finish_by : (m : Mounted) (phase : Phase)
     → Finishes m (after_of m (finish_effect m phase))
 finish_by m Idle was done = refused_not refusals.NotInstalling done
 finish_by m (Installing source plan) was done =
-    finishes_by m source plan (least_declared None plan) was refl done
+    finishes_by m source plan (least_declared None plan.entries) was refl done
 finish_by m (Staged source left) was done = refused_not refusals.NotInstalling done
 finish_by m (Merging target left) was done = refused_not refusals.NotInstalling done
 
@@ -171,7 +176,7 @@ cancel_by m source left done =
     (cancels_from m source)
 
 pub cancels : (m : Mounted) (staged : Option (List ℕ)) (source : ℕ)
-    → ((plan : List PlanEntry) × (m.state.phase ≡ Installing source plan))
+    → ((plan : Plan) × (m.state.phase ≡ Installing source plan))
     ⊎ ((left : ℕ) × (m.state.phase ≡ Staged source left))
     → (effect_on m staged Cancel).reply ≡ replies.Done
     → Cancels source m (after_of m (effect_on m staged Cancel))
@@ -209,13 +214,14 @@ module _ (m : Mounted) where
     b = ap (λ (s : State). s.b) by.state;
   }
 
-  edits : (edit : EditOf) → AreSame (edit_effect m edit m.state.phase).later
-  edits edit x is = planned x _ (edit_planned m edit m.state.phase x is)
+  edits : (guard : Guard) (edit : EditOf)
+      → AreSame (edit_effect m guard edit m.state.phase).later
+  edits guard edit x is = planned x _ (edit_planned m guard edit m.state.phase x is)
 
   -- ---- turns, boot control and questions
 
   turned : (blocks target left : ℕ) → AreSame (turns blocks m target left)
-  unfolding turns
+  unfolding turns_of
   turned zero target left = none
   turned (suc n) target zero = one _ (record { a = refl; b = refl })
   turned (suc n) target (suc left) =
@@ -244,18 +250,20 @@ module _ (m : Mounted) where
   same_by : (staged : Option (List ℕ)) (c : Command)
       → changes_images c ≡ false
       → AreSame (effect_on m staged c).later
-  unfolding effect
+  unfolding machine_effect
   same_by staged (SetActive n) other =
       activates (is_some (images_at m.state n)) (activated_of m.state.control n)
   same_by staged Boot other = one _ (record { a = refl; b = refl })
   same_by staged Mark other = one _ (record { a = refl; b = refl })
   same_by staged (Print name) other = prints name (found_of m.state name)
   same_by staged (Digest name) other = digests (found_of m.state name)
-  same_by staged Begin other = λ x is. planned x _ (begin_planned m m.state.phase x is)
-  same_by staged (Create name size) other = edits (create_edit name size)
-  same_by staged (Resize name size) other = edits (resize_edit name size)
-  same_by staged (Delete name) other = edits (delete_edit name)
-  same_by staged (Snapshot name size) other = edits (snapshot_edit name size)
+  same_by staged Begin other = λ x is. planned x _ (begin_planned m false m.state.phase x is)
+  same_by staged Factory other = λ x is. planned x _ (begin_planned m true m.state.phase x is)
+  same_by staged (Create name size) other = edits no_guard (create_edit name size)
+  same_by staged (Resize name size) other =
+      edits (settled_guard (nat_le size (2 ^ 40)) name) (resize_edit name size)
+  same_by staged (Delete name) other = edits (settled_guard true name) (delete_edit name)
+  same_by staged (Snapshot name size) other = edits store_guard (snapshot_edit name size)
   same_by staged (Flash name chunk) other =
       λ x is. planned x _ (flash_planned m staged name chunk m.state.phase x is)
   same_by staged (Merge blocks) other = merges blocks m.state.phase

@@ -11,22 +11,26 @@ use Rattle.vab_builder.specs.declared.fault.EditFault.{EditFault}
 use Rattle.vab_model.specs.declared.state.PlanImage.{PlanImage}
 use Rattle.vab_model.specs.declared.state.PlanImage.TheVariants.{Kept, Declared, Written}
 use Rattle.vab_model.specs.declared.state.PlanEntry.{PlanEntry}
+use Rattle.vab_model.specs.declared.state.Plan.{Plan}
 use Rattle.vab_model.specs.declared.state.Phase.{Phase}
 use Rattle.vab_model.specs.declared.state.Phase.TheVariants.{Idle, Installing, Staged, Merging}
 use Rattle.vab_model.specs.declared.command.Refusal.{Refusal}
 use Rattle.vab_model.specs.declared.command.Refusal.TheVariants as refusals
-use Rattle.vab_model.specs.Effects.{Effect, IsOneOf, refuses}
+use Rattle.vab_model.specs.Effects.{Effect, IsOneOf, refuses, wanting}
+use Rattle.vab_model.specs.Plans.{entry_named, with_entries}
+use Rattle.vab_model.specs.Staged.{is_sparse}
 use Rattle.vab_device.specs.Mounted.{Mounted}
-use Rattle.vab_device.specs.Updates.{table_effect, plan_by, begun_effect, begin_effect, layout_at}
-use Rattle.vab_device.specs.Updates.{EditOf, edited_effect, edit_effect, staged_effect}
-use Rattle.vab_device.specs.Updates.{stored_effect, entry_effect, entry_named, flash_effect}
+use Rattle.vab_device.specs.Updates.{table_effect, replanned, no_entries, begun_effect}
+use Rattle.vab_device.specs.Updates.{begin_effect, layout_at, EditOf, edited_effect, Guard}
+use Rattle.vab_device.specs.Updates.{unless_kept, edit_effect, staged_effect, unwritten_effect}
+use Rattle.vab_device.specs.Updates.{in_store, in_place, placed_effect, entry_effect, flash_effect}
 use Rattle.vab_device.specs.Updates.{if_room, flashed, with_image, filled, differences}
-use Rattle.vab_device.specs.Updates.{source_bytes, is_sparse}
+use Rattle.vab_device.specs.Updates.{source_bytes}
 use Rattle.vab_boots.specs.Boots.{worked_of}
 
 -- An update from this slot is installed, with this plan. Nothing else of the state has changed.
 pub record IsPlanned (source : ℕ) (m next : Mounted) : Type 0 where
-  pub plan : List PlanEntry
+  pub plan : Plan
   pub state : next.state ≡ record m.state { phase = Installing source plan }
 
 module _ (m : Mounted) where
@@ -50,101 +54,121 @@ module _ (m : Mounted) where
 
   -- ---- the target's table
 
-  tabled : (source : ℕ) (plan : List PlanEntry) (r : Result Layout EditFault)
+  tabled : (source : ℕ) (plan : Plan) (r : Result Layout EditFault)
       → ArePlanned source (table_effect m source plan r).later
   tabled source plan (Ok l) =
-      one source _ (record { plan = plan_by (other_slot source) l plan; state = refl })
+      one source _ (record { plan = replanned source plan l; state = refl })
   tabled source plan (Err fault) = none source
 
-  begun : (source : ℕ) (l : Option Layout) → ArePlanned source (begun_effect m source l).later
-  begun source None = none source
-  begun source (Some l) = tabled source [] _
+  begun : (apart : Bool) (source : ℕ) (l : Option Layout)
+      → ArePlanned source (begun_effect m apart source l).later
+  begun apart source None = none source
+  begun apart source (Some l) = tabled source (no_entries apart) _
 
-  pub begin_planned : (phase : Phase)
-      → ArePlanned (worked_of phase m.state.control.current) (begin_effect m phase).later
-  begin_planned Idle =
-      begun m.state.control.current (layout_at m.places m.state.control.current)
-  begin_planned (Installing source plan) = none source
-  begin_planned (Staged source left) = none source
-  begin_planned (Merging target left) = none target
+  pub begin_planned : (apart : Bool) (phase : Phase)
+      → ArePlanned (worked_of phase m.state.control.current) (begin_effect m apart phase).later
+  begin_planned apart Idle =
+      begun apart m.state.control.current (layout_at m.places m.state.control.current)
+  begin_planned apart (Installing source plan) = none source
+  begin_planned apart (Staged source left) = none source
+  begin_planned apart (Merging target left) = none target
 
-  edited : (source : ℕ) (plan : List PlanEntry) (edit : EditOf) (s t : Option Layout)
+  edited : (source : ℕ) (plan : Plan) (edit : EditOf) (s t : Option Layout)
       → ArePlanned source (edited_effect m source plan edit s t).later
   edited source plan edit None t = none source
   edited source plan edit (Some s) None = none source
   edited source plan edit (Some s) (Some t) = tabled source plan _
 
-  pub edit_planned : (edit : EditOf) (phase : Phase)
-      → ArePlanned (worked_of phase m.state.control.current) (edit_effect m edit phase).later
-  edit_planned edit Idle = none m.state.control.current
-  edit_planned edit (Installing source plan) =
-      edited source plan edit
+  unless_planned : (source : ℕ) (kept : Option Refusal) (next : Effect Mounted)
+      → ArePlanned source next.later
+      → ArePlanned source (unless_kept kept next).later
+  unless_planned source None next are = are
+  unless_planned source (Some refusal) next are = none source
+
+  pub edit_planned : (guard : Guard) (edit : EditOf) (phase : Phase)
+      → ArePlanned (worked_of phase m.state.control.current)
+      (edit_effect m guard edit phase).later
+  edit_planned guard edit Idle = none m.state.control.current
+  edit_planned guard edit (Installing source plan) =
+      unless_planned source (guard source plan)
+      (edited_effect m source plan edit
       (layout_at m.places source)
-      (layout_at m.places (other_slot source))
-  edit_planned edit (Staged source left) = none source
-  edit_planned edit (Merging target left) = none target
+      (layout_at m.places (other_slot source)))
+      (edited source plan edit
+      (layout_at m.places source)
+      (layout_at m.places (other_slot source)))
+  edit_planned guard edit (Staged source left) = none source
+  edit_planned guard edit (Merging target left) = none target
 
   -- ---- an image
 
-  roomed : (source : ℕ) (plan : List PlanEntry) (e : PlanEntry) (store : ℕ) (k : Chunk)
+  flashed_planned : (source : ℕ) (plan : Plan) (e : PlanEntry) (staged : List ℕ) (n : ℕ)
+      → ArePlanned source (flashed m source plan e staged n).later
+  flashed_planned source plan e staged n =
+      one source _ (record {
+        plan = with_entries plan
+            (with_image e.name (Written (filled staged e.blocks) n) plan.entries);
+        state = refl;
+      })
+
+  roomed : (source : ℕ) (plan : Plan) (e : PlanEntry) (store : ℕ) (k : Chunk)
       (staged : List ℕ) (n : ℕ)
       → ArePlanned source (if_room m source plan e store k staged n).later
   roomed source plan e store k staged n =
       either source (nat_le (need_at n k) store)
-      (flashed m source plan e staged n)
+      (wanting true (flashed m source plan e staged n))
       (refuses (refusals.StoreFull (need_at n k) store))
-      (one source _ (record {
-        plan = with_image e.name (Written (filled staged e.blocks) n) plan;
-        state = refl;
-      }))
+      (flashed_planned source plan e staged n)
       (none source)
 
-  written : (source : ℕ) (plan : List PlanEntry) (e : PlanEntry) (store : ℕ) (k : Chunk)
-      (staged : Option (List ℕ))
-      → ArePlanned source (staged_effect m source plan e store k staged).later
-  written source plan e store k None = none source
-  written source plan e store k (Some staged) =
-      let n : ℕ = differences k (source_bytes m.state source e.name) staged e.blocks in
+  written : (source : ℕ) (e : PlanEntry) (place : List ℕ → Effect Mounted)
+      → ((staged : List ℕ) → ArePlanned source (place staged).later)
+      → (staged : Option (List ℕ))
+      → ArePlanned source (staged_effect e place staged).later
+  written source e place are None = none source
+  written source e place are (Some staged) =
       let large : Refusal = refusals.TooLarge (length staged) (4096 * e.blocks) in
-      let room : Effect Mounted = if_room m source plan e store k staged n in
       let is_large : Bool = nat_lt (4096 * e.blocks) (length staged) in
       either source (is_sparse staged) (refuses refusals.Sparse)
-      (cond is_large (refuses large) room)
+      (cond is_large (refuses large) (place staged))
       (none source)
-      (either source is_large (refuses large) room (none source)
-      (roomed source plan e store k staged n))
+      (either source is_large (refuses large) (place staged) (none source) (are staged))
 
-  stored : (source : ℕ) (plan : List PlanEntry) (name : List ℕ) (group : Option (List ℕ))
-      (blocks : ℕ) (own store : Option ℕ) (k : Chunk) (staged : Option (List ℕ))
-      (image : PlanImage)
-      → ArePlanned source (stored_effect m source plan
-      (record { name = name; group = group; blocks = blocks; store = own; image = image })
-      k staged store).later
-  stored source plan name group blocks own None k staged image = none source
-  stored source plan name group blocks own (Some store) k staged Kept =
-      written source plan
-      (record { name = name; group = group; blocks = blocks; store = own; image = Kept })
-      store k staged
-  stored source plan name group blocks own (Some store) k staged Declared =
-      written source plan
-      (record { name = name; group = group; blocks = blocks; store = own; image = Declared })
-      store k staged
-  stored source plan name group blocks own (Some store) k staged (Written bytes count) =
-      none source
+  unwritten : (source : ℕ) (image : PlanImage) (next : Effect Mounted)
+      → ArePlanned source next.later
+      → ArePlanned source (unwritten_effect image next).later
+  unwritten source Kept next are = are
+  unwritten source Declared next are = are
+  unwritten source (Written bytes count) next are = none source
 
-  found : (source : ℕ) (plan : List PlanEntry) (k : Chunk) (staged : Option (List ℕ))
+  placed : (source : ℕ) (plan : Plan) (e : PlanEntry) (k : Chunk) (staged : Option (List ℕ))
+      (store : Option ℕ)
+      → ArePlanned source (placed_effect m source plan e k staged store).later
+  placed source plan e k staged None =
+      let next : Effect Mounted = staged_effect e (in_place m source plan e) staged in
+      either source plan.apart (unwritten_effect e.image next) (refuses refusals.NoStore)
+      (unwritten source e.image next
+      (written source e (in_place m source plan e)
+      (λ bytes. flashed_planned source plan e bytes 0) staged))
+      (none source)
+  placed source plan e k staged (Some store) =
+      unwritten source e.image (staged_effect e (in_store m source plan e store k) staged)
+      (written source e (in_store m source plan e store k)
+      (λ bytes. roomed source plan e store k bytes
+      (differences k (source_bytes m.state source e.name) bytes e.blocks)) staged)
+
+  found : (source : ℕ) (plan : Plan) (k : Chunk) (staged : Option (List ℕ))
       (e : Option PlanEntry)
       → ArePlanned source (entry_effect m source plan k staged e).later
   found source plan k staged None = none source
-  found source plan k staged (Some e) =
-      stored source plan e.name e.group e.blocks e.store e.store k staged e.image
+  found source plan k staged (Some e) = placed source plan e k staged e.store
 
   pub flash_planned : (staged : Option (List ℕ)) (name : List ℕ) (k : Chunk) (phase : Phase)
       → ArePlanned (worked_of phase m.state.control.current)
       (flash_effect m staged name k phase).later
   flash_planned staged name k Idle = none m.state.control.current
   flash_planned staged name k (Installing source plan) =
-      let e : Option PlanEntry = entry_named (base_of name) plan in
+      let e : Option PlanEntry = entry_named (base_of name) plan.entries in
       either source (is_full (other_slot source) name)
       (entry_effect m source plan k staged e)
       (refuses refusals.BadName)

@@ -5,6 +5,7 @@ use Rattle.std.specs.Prelude.{Option, All}
 use Rattle.vab_layout.specs.Slots.{other_slot}
 use Rattle.vab_model.specs.declared.state.Phase.TheVariants.{Idle, Installing, Staged}
 use Rattle.vab_model.specs.declared.state.PlanEntry.{PlanEntry}
+use Rattle.vab_model.specs.declared.state.Plan.{Plan}
 use Rattle.vab_model.specs.declared.state.PlanImage.{PlanImage}
 use Rattle.vab_model.specs.declared.state.PlanImage.TheVariants.{Kept, Declared, Written}
 use Rattle.vab_model.specs.declared.command.Reply.TheVariants as replies
@@ -12,8 +13,9 @@ use Rattle.vab_model.specs.Commands.{Command, Finish, Cancel}
 use Rattle.vab_model.specs.Kinds.{changes_images}
 use Rattle.vab_model.specs.Effects.{after_of, IsOneOf}
 use Rattle.vab_model.specs.State.{images_at}
+use Rattle.vab_model.specs.Machine.{exceptions_in}
 use Rattle.vab_device.specs.Mounted.{Mounted}
-use Rattle.vab_device.specs.Updates.{effect_on, final_image, plan_count}
+use Rattle.vab_device.specs.Updates.{effect_on, final_image}
 
 -- ---- the end of an installation
 
@@ -27,12 +29,12 @@ IsReady (Written bytes count) = Unit {0}
 -- these are the target's images, and the source has its own.
 pub record Finishes (m next : Mounted) : Type 0 where
   pub source : ℕ
-  pub plan : List PlanEntry
+  pub plan : Plan
   pub was : m.state.phase ≡ Installing source plan
-  pub ready : All (λ (e : PlanEntry). IsReady e.image) plan
-  pub staged : next.state.phase ≡ Staged source (plan_count plan)
+  pub ready : All (λ (e : PlanEntry). IsReady e.image) plan.entries
+  pub staged : next.state.phase ≡ Staged source (exceptions_in plan.entries)
   pub target : images_at next.state (other_slot source)
-      ≡ Some (map (final_image m.state source) plan)
+      ≡ Some (map (final_image m.state source) plan.entries)
   pub kept : images_at next.state source ≡ images_at m.state source
 
 abbrev pub FinishedIsPlan : Type 0
@@ -50,7 +52,7 @@ pub record Cancels (source : ℕ) (m next : Mounted) : Type 0 where
 
 abbrev pub CancelDropsTarget : Type 0
 CancelDropsTarget = (m : Mounted) (staged : Option (List ℕ)) (source : ℕ)
-    → ((plan : List PlanEntry) × (m.state.phase ≡ Installing source plan))
+    → ((plan : Plan) × (m.state.phase ≡ Installing source plan))
     ⊎ ((left : ℕ) × (m.state.phase ≡ Staged source left))
     → (effect_on m staged Cancel).reply ≡ replies.Done
     → Cancels source m (after_of m (effect_on m staged Cancel))

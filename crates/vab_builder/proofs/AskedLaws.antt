@@ -14,12 +14,12 @@ use Rattle.vab_layout.specs.Slots.{blocks_named}
 use Rattle.vab_builder.specs.declared.edit.Edit.{Edit}
 use Rattle.vab_builder.specs.declared.edit.Edit.TheVariants.{Create, Resize, Delete, AddStore}
 use Rattle.vab_builder.specs.Asked.{edited_name, HasBlocks, HasAsked, KeepsOthers}
-use Rattle.vab_builder.specs.Edits.{changed, changed_by, created_part, resized_part, updated}
+use Rattle.vab_builder.specs.Edits.{changed, changed_beside, created_part, resized_part, updated}
 use Rattle.vab_builder.specs.Edits.{store_part, store_blocks, with_created, with_resized}
 use Rattle.vab_builder.specs.Edits.{with_deleted, with_store}
 use Rattle.vab_builder.specs.Passes.{IsCreated, IsResized, IsStored}
 use Rattle.vab_builder.specs.Sizes.{has_part}
-use Rattle.vab_builder.specs.Update.{IsUpdate}
+use Rattle.vab_builder.specs.Update.{IsUpdateBeside}
 use Rattle.vab_builder.proofs.ChangedTarget.{KeepsNames, either, either_name, changed_differ}
 use Rattle.vab_blocks.proofs.Contained.{in_map, of_filter}
 use Rattle.vab_builder.proofs.DeleteVerdicts.{deleted_passes}
@@ -145,49 +145,51 @@ pub record IsDone (edit : Edit) (old new : Layout) : Type 0 where
 not_this : (name other : List ℕ) → other ≢ name → bytes_eq name other ≡ false
 not_this name other ne = ne_name name other (λ e. ne (sym e))
 
-created_done : (slot : ℕ) (source target : Layout) (name : List ℕ) (bytes : ℕ)
-    → IsUpdate slot source target
-    → IsCreated slot source target name bytes
-    → HasBlocks (with_created slot source target name (blocks_of bytes)) name (blocks_of bytes)
-    × KeepsOthers name target (with_created slot source target name (blocks_of bytes))
-created_done slot source target name bytes update is =
-    let p : Part = created_part slot source target name (blocks_of bytes) in
+created_done : (slot : ℕ) (twins : List Part) (source target : Layout) (name : List ℕ) (bytes : ℕ)
+    → IsUpdateBeside slot twins source target
+    → IsCreated slot twins source target name bytes
+    → HasBlocks (with_created slot twins source target name (blocks_of bytes)) name
+    (blocks_of bytes)
+    × KeepsOthers name target (with_created slot twins source target name (blocks_of bytes))
+created_done slot twins source target name bytes update is =
+    let p : Part = created_part slot twins source target name (blocks_of bytes) in
     let this : bytes_eq p.name name ≡ true = eq_name p.name name refl in (
       record {
         there = has_pushed name target.parts p this;
         count = ap length (named_pushed name target.parts p is.absent this)
-            ∙ created_size slot source target name (blocks_of bytes) update is.room;
+            ∙ created_size slot twins source target name (blocks_of bytes) update is.room;
       },
       λ other ne.
           let stay = others_pushed other target.parts p (not_this name other ne) in
           record { there = stay.0; blocks = stay.1 },
     )
 
-resized_done : (slot : ℕ) (source target : Layout) (name : List ℕ) (bytes : ℕ)
-    → IsUpdate slot source target
-    → IsResized slot source target name bytes
-    → HasBlocks (with_resized slot source target name (blocks_of bytes)) name (blocks_of bytes)
-    × KeepsOthers name target (with_resized slot source target name (blocks_of bytes))
-resized_done slot source target name bytes update is =
+resized_done : (slot : ℕ) (twins : List Part) (source target : Layout) (name : List ℕ) (bytes : ℕ)
+    → IsUpdateBeside slot twins source target
+    → IsResized slot twins source target name bytes
+    → HasBlocks (with_resized slot twins source target name (blocks_of bytes)) name
+    (blocks_of bytes)
+    × KeepsOthers name target (with_resized slot twins source target name (blocks_of bytes))
+resized_done slot twins source target name bytes update is =
     let n : ℕ = blocks_of bytes in
     let Done : Layout → Type 0 = λ l. HasBlocks l name n × KeepsOthers name target l in
     elim (cases_eq (length (blocks_named name target.parts)) n) [
-      | inl same ↦ subst Done (sym (same_size slot source target name n same)) (
+      | inl same ↦ subst Done (sym (same_size slot twins source target name n same)) (
         record { there = is.known; count = same },
         λ other ne. record { there = refl; blocks = refl },
       )
       | inr new ↦
-          let f : Part → Part = resized_part slot source target n in
+          let f : Part → Part = resized_part slot twins source target n in
           let names : KeepsNames f = λ p. refl in
           let r = own_there slot target name is.full is.known in
           let p : Part = r.0 in
           let c = (of_filter (λ q. is_of_slot slot q.name) target.parts p r.1).0 in
-          subst Done (sym (other_size slot source target name n new)) (
+          subst Done (sym (other_size slot twins source target name n new)) (
             record {
               there = has_changed name f name target.parts names ∙ is.known;
               count = ap length
                   (named_changed name f target.parts p names update.target_rules.part_names c r.2)
-                  ∙ resized_size slot source target name n p update r.1 r.2 is.room;
+                  ∙ resized_size slot twins source target name n p update r.1 r.2 is.room;
             },
             λ other ne. record {
               there = has_changed name f other target.parts names;
@@ -207,14 +209,14 @@ deleted_done target name = (
       record { there = stay.0; blocks = stay.1 },
 )
 
-stored_done : (slot : ℕ) (source target : Layout) (name : List ℕ) (bytes : ℕ)
-    → IsUpdate slot source target
-    → IsStored slot source target name bytes
+stored_done : (slot : ℕ) (twins : List Part) (source target : Layout) (name : List ℕ) (bytes : ℕ)
+    → IsUpdateBeside slot twins source target
+    → IsStored slot twins source target name bytes
     → HasBlocks (with_store slot source target name (store_blocks target name bytes))
     (store_of name) (store_blocks target name bytes)
     × KeepsOthers (store_of name) target
     (with_store slot source target name (store_blocks target name bytes))
-stored_done slot source target name bytes update is =
+stored_done slot twins source target name bytes update is =
     let n : ℕ = store_blocks target name bytes in
     let s : Part = store_part slot source target name n in
     let names : KeepsNames updated = λ p. refl in
@@ -226,7 +228,7 @@ stored_done slot source target name bytes update is =
       record {
         there = has_pushed (store_of name) marked s this;
         count = ap length (named_pushed (store_of name) marked s absent this)
-            ∙ stored_size slot source target name n r.0 update r.1 r.2 is.plain is.room;
+            ∙ stored_size slot twins source target name n r.0 update r.1 r.2 is.plain is.room;
       },
       λ other ne.
           let stay = others_pushed other marked s (not_this (store_of name) other ne) in
@@ -237,24 +239,24 @@ stored_done slot source target name bytes update is =
           },
     )
 
-pub edit_done : (slot : ℕ) (source target : Layout) (edit : Edit) (l : Layout)
-    → IsUpdate slot source target
-    → changed_by slot source target edit ≡ Ok l
+pub edit_done : (slot : ℕ) (twins : List Part) (source target : Layout) (edit : Edit) (l : Layout)
+    → IsUpdateBeside slot twins source target
+    → changed_beside slot twins source target edit ≡ Ok l
     → IsDone edit target l
-edit_done slot source target (Create name bytes) l update h =
-    let r = created_passes slot source target name.now bytes l h in
-    let done = created_done slot source target name.now bytes update r.0 in
+edit_done slot twins source target (Create name bytes) l update h =
+    let r = created_passes slot twins source target name.now bytes l h in
+    let done = created_done slot twins source target name.now bytes update r.0 in
     subst (IsDone (Create name bytes) target) (sym r.1) (record { asked = done.0; others = done.1 })
-edit_done slot source target (Resize name bytes) l update h =
-    let r = resized_passes slot source target name.now bytes l h in
-    let done = resized_done slot source target name.now bytes update r.0 in
+edit_done slot twins source target (Resize name bytes) l update h =
+    let r = resized_passes slot twins source target name.now bytes l h in
+    let done = resized_done slot twins source target name.now bytes update r.0 in
     subst (IsDone (Resize name bytes) target) (sym r.1) (record { asked = done.0; others = done.1 })
-edit_done slot source target (Delete name) l update h =
+edit_done slot twins source target (Delete name) l update h =
     let r = deleted_passes slot target name.now l h in
     let done = deleted_done target name.now in
     subst (IsDone (Delete name) target) (sym r.1) (record { asked = done.0; others = done.1 })
-edit_done slot source target (AddStore name bytes) l update h =
-    let r = stored_passes slot source target name.now bytes l h in
-    let done = stored_done slot source target name.now bytes update r.0 in
+edit_done slot twins source target (AddStore name bytes) l update h =
+    let r = stored_passes slot twins source target name.now bytes l h in
+    let done = stored_done slot twins source target name.now bytes update r.0 in
     subst (IsDone (AddStore name bytes) target) (sym r.1)
     (record { asked = done.0; others = done.1 })

@@ -18,7 +18,7 @@ use Rattle.vab_layout.specs.declared.layout.Layout.{Layout}
 use Rattle.vab_layout.specs.Rules.{IsPart}
 use Rattle.vab_layout.specs.Slots.{other_slot, own_parts, store_parts, before_of, blocks_named}
 use Rattle.vab_layout.specs.Slots.{IsDistinct, IsOwn, IsOwnPart}
-use Rattle.vab_builder.specs.Sizes.{WantFits, source_sizes, want_of, wants_of, wants_resized}
+use Rattle.vab_builder.specs.Sizes.{source_sizes, want_of, wants_of, wants_resized}
 use Rattle.vab_builder.specs.Sizes.{wants_stored, used_by, sizes_in}
 use Rattle.vab_builder.proofs.Counting.{few_below, pieces_once}
 use Rattle.vab_blocks.proofs.Contained.{all_from, of_filter, in_filter}
@@ -26,7 +26,8 @@ use Rattle.std.proofs.lemmas.List.Elements.{Contains-append_right}
 use Rattle.vab_names.proofs.NameCases.{in_slot_is, store_is_store}
 use Rattle.vab_builder.proofs.OwnLaws.{own_rules}
 use Rattle.vab_builder.proofs.PartLaws.{named_cases}
-use Rattle.vab_builder.specs.Update.{IsUpdate}
+use Rattle.vab_builder.specs.Update.{IsUpdateBeside}
+use Rattle.vab_builder.proofs.TwinLaws.{twins_own}
 
 pub few_kept : (p : Part → Bool) (parts : List Part) → length (filter p parts) ≤ length parts
 few_kept p parts = omega (arith, length-filter p parts, count_by-le-length p parts)
@@ -75,30 +76,32 @@ own_named slot name parts own of = elim (named_cases name parts) [
 pub cap_small : (d : BlockDevice) → IsDevice d → cap_of d ≤ 2 ^ 52
 cap_small d device = omega (arith, device.fits.size)
 
-pub store_small : (slot : ℕ) (source target : Layout) (name : List ℕ) → IsUpdate slot source target
+pub store_small : (slot : ℕ) (twins : List Part) (source target : Layout) (name : List ℕ)
+    → IsUpdateBeside slot twins source target
     → is_of_slot slot name ≡ true → length (blocks_named (store_of name) target.parts) ≤ 2 ^ 52
-store_small slot source target name update of = elim (named_cases (store_of name) target.parts) [
-  | inl none ↦ omega (arith, ap length none)
-  | inr r ↦
-      let p : Part = r.0 in
-      let store : Contains (store_parts slot target.parts) p =
-      in_filter (λ q. is_store slot q.name) target.parts p r.1 (ap (is_store slot) r.2
-      ∙ store_is_store slot name of) in
-      let listed =
-      Contains-append_right (own_parts slot target.parts) (store_parts slot target.parts) p
-      store in
-      let once =
-      All-contains (λ q. IsDistinct q.blocks)
-      (own_parts slot target.parts ++ store_parts slot target.parts) p
-      (pieces_once (λ q. q.blocks)
-      (own_parts slot target.parts ++ store_parts slot target.parts) update.parts.once) listed
-      in
-      let below =
-      (All-contains (IsPart (cap_of target.device) target.groups) target.parts p
-      update.target_rules.parts r.1).blocks in
-      let few = few_below (cap_of target.device) p.blocks once below in
-      omega (arith, few, cap_small target.device update.target_rules.device, ap length r.3)
-]
+store_small slot twins source target name update of =
+    elim (named_cases (store_of name) target.parts) [
+      | inl none ↦ omega (arith, ap length none)
+      | inr r ↦
+          let p : Part = r.0 in
+          let store : Contains (store_parts slot target.parts) p =
+          in_filter (λ q. is_store slot q.name) target.parts p r.1 (ap (is_store slot) r.2
+          ∙ store_is_store slot name of) in
+          let listed =
+          Contains-append_right (own_parts slot target.parts) (store_parts slot target.parts) p
+          store in
+          let once =
+          All-contains (λ q. IsDistinct q.blocks)
+          (own_parts slot target.parts ++ store_parts slot target.parts) p
+          (pieces_once (λ q. q.blocks)
+          (own_parts slot target.parts ++ store_parts slot target.parts) update.parts.once) listed
+          in
+          let below =
+          (All-contains (IsPart (cap_of target.device) target.groups) target.parts p
+          update.target_rules.parts r.1).blocks in
+          let few = few_below (cap_of target.device) p.blocks once below in
+          omega (arith, few, cap_small target.device update.target_rules.device, ap length r.3)
+    ]
 
 pub used_small : (sizes : List ℕ) (wants : List Want)
     → sum sizes ≤ 2 ^ 34
@@ -118,32 +121,34 @@ used_small sizes wants small few blocks stores =
           (2 ^ 52) wants stores,
     )
 
-pub wanted_small : (slot : ℕ) (source target : Layout) (p : Part) → IsUpdate slot source target
+pub wanted_small : (slot : ℕ) (twins : List Part) (source target : Layout) (p : Part)
+    → IsUpdateBeside slot twins source target
     → Contains (own_parts slot target.parts) p
     → (length p.blocks ≤ 2 ^ 28) × (length (blocks_named (store_of p.name) target.parts) ≤ 2 ^ 52)
-wanted_small slot source target p update c = (
+wanted_small slot twins source target p update c = (
   (All-contains (IsOwnPart slot) (own_parts slot target.parts) p update.parts.own.each c).size,
-  store_small slot source target p.name update
+  store_small slot twins source target p.name update
       (of_filter (λ q. is_of_slot slot q.name) target.parts p c).1,
 )
 
-pub created_bound : (slot : ℕ) (source target : Layout) (before n : ℕ) → IsUpdate slot source target
+pub created_bound : (slot : ℕ) (twins : List Part) (source target : Layout) (before n : ℕ)
+    → IsUpdateBeside slot twins source target
     → n ≤ 2 ^ 28
     → used_by slot source.parts
-    (wants_of slot source.parts target.parts
+    (wants_of slot twins target.parts
     ++ record { before = before; blocks = n; store = 0 } ∷ []) < 2 ^ 63
-created_bound slot source target before n update small =
+created_bound slot twins source target before n update small =
     let own : List Part = own_parts slot target.parts in
-    let w : Part → Want = want_of slot source.parts target.parts in
+    let w : Part → Want = want_of slot twins target.parts in
     let new : Want = record { before = before; blocks = n; store = 0 } in
     let blocks : All (λ v. v.blocks ≤ 2 ^ 28) (map w own) =
     All-map (λ v. v.blocks ≤ 2 ^ 28) w own
     (all_from (λ p. (w p).blocks ≤ 2 ^ 28) own
-    (λ p c. (wanted_small slot source target p update c).0)) in
+    (λ p c. (wanted_small slot twins source target p update c).0)) in
     let stores : All (λ v. v.store ≤ 2 ^ 52) (map w own) =
     All-map (λ v. v.store ≤ 2 ^ 52) w own
     (all_from (λ p. (w p).store ≤ 2 ^ 52) own
-    (λ p c. (wanted_small slot source target p update c).1)) in
+    (λ p c. (wanted_small slot twins source target p update c).1)) in
     used_small (source_sizes slot source.parts) (map w own ++ new ∷ [])
     (own_small (other_slot slot) source.parts update.own)
     (omega (arith, length-append (map w own) (new ∷ []), length-map own w, update.parts.own.few))
@@ -153,11 +158,12 @@ created_bound slot source target before n update small =
     (All-cons (λ v. v.store ≤ 2 ^ 52) new [] (omega arith) (All-nil (λ v. v.store ≤ 2 ^ 52))))
 
 -- the wants of the target's own partitions, each of small numbers
-mapped_bound : (slot : ℕ) (source target : Layout) (w : Part → Want) → IsUpdate slot source target
+mapped_bound : (slot : ℕ) (twins : List Part) (source target : Layout) (w : Part → Want)
+    → IsUpdateBeside slot twins source target
     → ((p : Part) → Contains (own_parts slot target.parts) p
     → ((w p).blocks ≤ 2 ^ 28) × ((w p).store ≤ 2 ^ 52))
     → used_by slot source.parts (map w (own_parts slot target.parts)) < 2 ^ 63
-mapped_bound slot source target w update small =
+mapped_bound slot twins source target w update small =
     let own : List Part = own_parts slot target.parts in
     used_small (source_sizes slot source.parts) (map w own)
     (own_small (other_slot slot) source.parts update.own)
@@ -180,44 +186,33 @@ stored_small : (b : Bool) (w : Want) (n : ℕ) → n ≤ 2 ^ 29 → (w.blocks �
 stored_small true w n small h = (h.0, omega (arith, small))
 stored_small false w n small h = h
 
-pub resized_bound : (slot : ℕ) (source target : Layout) (name : List ℕ) (n : ℕ)
-    → IsUpdate slot source target → n ≤ 2 ^ 28
-    → used_by slot source.parts (wants_resized slot source.parts target.parts name n) < 2 ^ 63
-resized_bound slot source target name n update small =
-    let w : Part → Want = want_of slot source.parts target.parts in
-    mapped_bound slot source target
+pub resized_bound : (slot : ℕ) (twins : List Part) (source target : Layout) (name : List ℕ) (n : ℕ)
+    → IsUpdateBeside slot twins source target → n ≤ 2 ^ 28
+    → used_by slot source.parts (wants_resized slot twins target.parts name n) < 2 ^ 63
+resized_bound slot twins source target name n update small =
+    let w : Part → Want = want_of slot twins target.parts in
+    mapped_bound slot twins source target
     (λ p. cond (bytes_eq p.name name) (record (w p) { blocks = n }) (w p)) update
     (λ p c. resized_small (bytes_eq p.name name) (w p) n small
-    (wanted_small slot source target p update c))
+    (wanted_small slot twins source target p update c))
 
-pub stored_bound : (slot : ℕ) (source target : Layout) (name : List ℕ) (n : ℕ)
-    → IsUpdate slot source target → n ≤ 2 ^ 29
-    → used_by slot source.parts (wants_stored slot source.parts target.parts name n) < 2 ^ 63
-stored_bound slot source target name n update small =
-    let w : Part → Want = want_of slot source.parts target.parts in
-    mapped_bound slot source target
+pub stored_bound : (slot : ℕ) (twins : List Part) (source target : Layout) (name : List ℕ) (n : ℕ)
+    → IsUpdateBeside slot twins source target → n ≤ 2 ^ 29
+    → used_by slot source.parts (wants_stored slot twins target.parts name n) < 2 ^ 63
+stored_bound slot twins source target name n update small =
+    let w : Part → Want = want_of slot twins target.parts in
+    mapped_bound slot twins source target
     (λ p. cond (bytes_eq p.name name) (record (w p) { store = n }) (w p)) update
     (λ p c. stored_small (bytes_eq p.name name) (w p) n small
-    (wanted_small slot source target p update c))
+    (wanted_small slot twins source target p update c))
 
 -- ---- numbers of 64 bits
 
-pub before_small : (slot : ℕ) (source target : Layout) (name : List ℕ)
-    → IsUpdate slot source target
-    → length (before_of slot source.parts name) < 2 ^ 64
-before_small slot source target name update =
+pub before_small : (slot : ℕ) (twins : List Part) (source target : Layout) (name : List ℕ)
+    → IsUpdateBeside slot twins source target
+    → length (before_of slot twins name) < 2 ^ 64
+before_small slot twins source target name update =
     let other : ℕ = other_slot slot in
     let of = in_slot_is other name in
-    omega (arith, own_named other (in_slot other name) source.parts update.own of)
-
-pub wants_fit : (slot : ℕ) (source target : Layout)
-    → IsUpdate slot source target
-    → All (WantFits slot source.parts target.parts) (own_parts slot target.parts)
-wants_fit slot source target update =
-    all_from (WantFits slot source.parts target.parts) (own_parts slot target.parts) (λ p c.
-    let small = wanted_small slot source target p update c in
-    record {
-      before = before_small slot source target p.name update;
-      blocks = omega (arith, small.0);
-      store = omega (arith, small.1);
-    })
+    let own = twins_own other twins source.parts update.twins_are update.own in
+    omega (arith, own_named other (in_slot other name) twins own of)

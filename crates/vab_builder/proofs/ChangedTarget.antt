@@ -15,7 +15,7 @@ use Rattle.vab_tables.specs.Rules.{NamesDiffer}
 use Rattle.vab_layout.specs.declared.layout.Part.{Part}
 use Rattle.vab_layout.specs.Layout.{blocks_of_parts}
 use Rattle.vab_layout.specs.Slots.{own_parts, store_parts, is_updated, IsDistinct, IsOwnPart}
-use Rattle.vab_layout.specs.Slots.{IsTarget, IsTargetPart, IsStorePart}
+use Rattle.vab_layout.specs.Slots.{IsTargetBeside, IsTargetPartBeside, IsStorePart}
 use Rattle.vab_builder.specs.Edits.{changed}
 use Rattle.vab_blocks.proofs.Contained.{all_from, first, later, cons_cases, none_in_nil, of_filter}
 use Rattle.vab_builder.proofs.Counting.{pairs_head, pairs_tail}
@@ -124,21 +124,21 @@ apart_pair (x ∷ xs) p q once c d ne =
 
 -- ---- the target
 
-pub record ChangesWell (slot : ℕ) (source parts : List Part) (name : List ℕ) (f : Part
+pub record ChangesWell (slot : ℕ) (twins source parts : List Part) (name : List ℕ) (f : Part
     → Part) (p : Part) : Type 0 where
   pub own : IsOwnPart slot (f p)
-  pub part : IsTargetPart slot source (changed name f parts) (f p)
+  pub part : IsTargetPartBeside slot twins source (changed name f parts) (f p)
   pub once : IsDistinct (f p).blocks
   pub apart : (q : Part) → Contains (own_parts slot parts ++ store_parts slot parts) q
       → (q.name ≡ name → ⊥) → Apart q.blocks (f p).blocks
 
-pieces_changed : (slot : ℕ) (source parts : List Part) (name : List ℕ) (f : Part → Part)
+pieces_changed : (slot : ℕ) (twins source parts : List Part) (name : List ℕ) (f : Part → Part)
     → is_of_slot slot name ≡ true → NamesDiffer (λ p. p.name) parts
     → IsDistinct (blocks_of_parts (own_parts slot parts ++ store_parts slot parts))
     → ((p : Part) → Contains (own_parts slot parts) p → p.name ≡ name
-    → ChangesWell slot source parts name f p)
+    → ChangesWell slot twins source parts name f p)
     → IsDistinct (blocks_of_parts (changed name f (own_parts slot parts) ++ store_parts slot parts))
-pieces_changed slot source parts name f of differ once well =
+pieces_changed slot twins source parts name f of differ once well =
     let own : List Part = own_parts slot parts in
     let stores : List Part = store_parts slot parts in
     let g : Part → Part = either name f in
@@ -184,26 +184,29 @@ pieces_changed slot source parts name f of differ once well =
     once_pieces blocks (changed name f own ++ stores) each
     (pairs_append R (changed name f own) stores (pairs_map R g own mine) stores-apart across)
 
-pub target_changed : (slot : ℕ) (source parts : List Part) (name : List ℕ) (f : Part → Part)
+pub target_changed : (slot : ℕ) (twins source parts : List Part) (name : List ℕ) (f : Part → Part)
     → KeepsNames f → ((p : Part) → IsTrue (is_updated p) → IsTrue (is_updated (f p)))
-    → is_of_slot slot name ≡ true → NamesDiffer (λ p. p.name) parts → IsTarget slot source parts
+    → is_of_slot slot name ≡ true → NamesDiffer (λ p. p.name) parts
+    → IsTargetBeside slot twins source parts
     → ((p : Part) → Contains (own_parts slot parts) p → p.name ≡ name
-    → ChangesWell slot source parts name f p) → IsTarget slot source (changed name f parts)
-target_changed slot source parts name f names stays of differ is well =
+    → ChangesWell slot twins source parts name f p)
+    → IsTargetBeside slot twins source (changed name f parts)
+target_changed slot twins source parts name f names stays of differ is well =
     let own : List Part = own_parts slot parts in
     let stores : List Part = store_parts slot parts in
     let after : List Part = changed name f parts in
     let own-is = changed_own slot name f parts names in
     let stores-are = changed_stores slot name f parts names of in
-    target_made slot source after
+    target_made slot twins source after
     (rw own-is
     (changed_all name f (IsOwnPart slot) own (λ p c e. (well p c e).own)
     (λ p c. All-contains (IsOwnPart slot) own p is.own.each c)))
     (rw own-is (omega (arith, length-map own (either name f), is.own.few)))
     (rw own-is
-    (changed_all name f (IsTargetPart slot source after) own (λ p c e. (well p c e).part)
-    (λ p c. target_part_among slot source parts after p
-    (All-contains (IsTargetPart slot source parts) own p is.each c)
+    (changed_all name f (IsTargetPartBeside slot twins source after) own
+    (λ p c e. (well p c e).part)
+    (λ p c. target_part_among slot twins source parts after p
+    (All-contains (IsTargetPartBeside slot twins source parts) own p is.each c)
     (λ none. changed_no_name name (store_of p.name) f parts names none))))
     (rw stores-are
     (all_from (IsStorePart slot source after) stores
@@ -218,7 +221,7 @@ target_changed slot source parts name f names stays of differ is well =
           (λ p. IsTrue (is_updated p)) a.1 (λ e. stays a.1 a.4.1) (λ ne. a.4.1),
     ) in
     rw own-is (there.0, x, there.1, there.2, told)))))
-    (rw (own-is, stores-are) (pieces_changed slot source parts name f of differ is.once well))
+    (rw (own-is, stores-are) (pieces_changed slot twins source parts name f of differ is.once well))
 
 -- the partitions of a name grow by so much at most
 pub changed_sum : (name : List ℕ) (f : Part → Part) (size : Part → ℕ) (m : ℕ) (parts : List Part)

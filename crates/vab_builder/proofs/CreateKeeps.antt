@@ -22,7 +22,8 @@ use Rattle.vab_blocks.specs.Runs.{runs_of}
 use Rattle.vab_layout.specs.Layout.{blocks_of_parts}
 use Rattle.vab_layout.specs.Rules.{names_of_groups, IsPart}
 use Rattle.vab_layout.specs.Slots.{other_slot, own_parts, store_parts, before_of, is_updated}
-use Rattle.vab_layout.specs.Slots.{IsDistinct, IsOwnPart, IsTarget, IsTargetPart, IsStorePart}
+use Rattle.vab_layout.specs.Slots.{IsDistinct, IsOwnPart, IsTargetBeside, IsTargetPartBeside}
+use Rattle.vab_layout.specs.Slots.{IsStorePart}
 use Rattle.vab_layout.specs.Plain.{default_group, own_groups}
 use Rattle.vab_builder.specs.Sizes.{has_part}
 use Rattle.vab_builder.specs.Edits.{free_of, created_blocks, created_part, first_group}
@@ -44,26 +45,27 @@ use Rattle.vab_builder.proofs.KeepLaws.{before_not_store, free_below_cap, free_n
 use Rattle.vab_builder.proofs.KeepLaws.{free_not_target, free_once, target_made, target_part_among}
 use Rattle.vab_builder.proofs.KeepLaws.{store_part_among}
 use Rattle.vab_builder.proofs.Keeps.{Keeps}
-use Rattle.vab_builder.specs.Update.{IsUpdate}
+use Rattle.vab_builder.specs.Update.{IsUpdateBeside}
+use Rattle.vab_builder.proofs.TwinLaws.{twins_own}
 use Rattle.vab_builder.specs.Passes.{IsCreated}
 
 -- ---- its blocks
 
-created_cases : (slot : ℕ) (source target : Layout) (name : List ℕ) (n b : ℕ)
-    → Contains (created_blocks slot source target name n) b
-    → (Contains (before_of slot source.parts name) b) ⊎ (Contains (free_of slot source target) b)
-created_cases slot source target name n b c =
-    let before : List ℕ = before_of slot source.parts name in
+created_cases : (slot : ℕ) (twins : List Part) (source target : Layout) (name : List ℕ) (n b : ℕ)
+    → Contains (created_blocks slot twins source target name n) b
+    → (Contains (before_of slot twins name) b) ⊎ (Contains (free_of slot source target) b)
+created_cases slot twins source target name n b c =
+    let before : List ℕ = before_of slot twins name in
     let free : List ℕ = free_of slot source target in
     elim (Contains-append_cases (take n before) (take (n - length before) free) b c) [
       | inl d ↦ inl (of_take n before b d)
       | inr d ↦ inr (of_take (n - length before) free b d)
     ]
 
-created_few : (slot : ℕ) (source target : Layout) (name : List ℕ) (n : ℕ)
-    → length (created_blocks slot source target name n) ≤ n
-created_few slot source target name n =
-    let before : List ℕ = before_of slot source.parts name in
+created_few : (slot : ℕ) (twins : List Part) (source target : Layout) (name : List ℕ) (n : ℕ)
+    → length (created_blocks slot twins source target name n) ≤ n
+created_few slot twins source target name n =
+    let before : List ℕ = before_of slot twins name in
     let free : List ℕ = free_of slot source target in
     omega (
       arith,
@@ -73,16 +75,18 @@ created_few slot source target name n =
       length-take (n - length before) free,
     )
 
-created_once : (slot : ℕ) (source target : Layout) (name : List ℕ) (n : ℕ)
-    → IsUpdate slot source target → IsDistinct (created_blocks slot source target name n)
-created_once slot source target name n update =
-    let before : List ℕ = before_of slot source.parts name in
+created_once : (slot : ℕ) (twins : List Part) (source target : Layout) (name : List ℕ) (n : ℕ)
+    → IsUpdateBeside slot twins source target
+    → IsDistinct (created_blocks slot twins source target name n)
+created_once slot twins source target name n update =
+    let before : List ℕ = before_of slot twins name in
     let free : List ℕ = free_of slot source target in
     once_append (take n before) (take (n - length before) free)
-    (once_take n before (before_once slot source.parts name update.own))
+    (once_take n before (before_once slot twins name
+    (twins_own (other_slot slot) twins source.parts update.twins_are update.own)))
     (once_take (n - length before) free (free_once slot source target))
     (λ b c d. free_not_source slot source target b (of_take (n - length before) free b d)
-    (before_listed slot source.parts name b (of_take n before b c)))
+    (before_listed slot twins source.parts name b update.twins_are (of_take n before b c)))
 
 pub le_cases : (m n : ℕ) → (m ≤ n) ⊎ (n < m)
 le_cases m n = elim (cases_lt n m) [ inl lt ↦ inr lt | inr le ↦ inl le ]
@@ -156,9 +160,10 @@ default_is_group =
       unlimited = λ t. refl;
     }
 
-groups_keep : (slot : ℕ) (source target : Layout) → IsUpdate slot source target
+groups_keep : (slot : ℕ) (twins : List Part) (source target : Layout)
+    → IsUpdateBeside slot twins source target
     → KeepsGroups slot target.groups (created_groups slot target)
-groups_keep slot source target update =
+groups_keep slot twins source target update =
     cond_both (bytes_eq (first_group (own_groups slot target.groups)) default_name)
     (with_group default_group target.groups) target.groups (KeepsGroups slot target.groups)
     (λ e. more_groups slot target.groups default_group update.target_rules.groups
@@ -257,13 +262,14 @@ pieces_pushed own stores c once own-once apart =
     ]))
 
 -- a target with a partition of the slot more
-target_pushed : (slot : ℕ) (source parts : List Part) (c : Part) → is_of_slot slot c.name ≡ true
-    → IsTarget slot source parts → IsOwnPart slot c
+target_pushed : (slot : ℕ) (twins source parts : List Part) (c : Part)
+    → is_of_slot slot c.name ≡ true
+    → IsTargetBeside slot twins source parts → IsOwnPart slot c
     → length (own_parts slot parts) < most_partitions
-    → IsTargetPart slot source (parts ++ c ∷ []) c → IsDistinct c.blocks
+    → IsTargetPartBeside slot twins source (parts ++ c ∷ []) c → IsDistinct c.blocks
     → ((q : Part) → Contains (own_parts slot parts ++ store_parts slot parts) q
-    → Apart q.blocks c.blocks) → IsTarget slot source (parts ++ c ∷ [])
-target_pushed slot source parts c of is own few target once apart =
+    → Apart q.blocks c.blocks) → IsTargetBeside slot twins source (parts ++ c ∷ [])
+target_pushed slot twins source parts c of is own few target once apart =
     let mine : List Part = own_parts slot parts in
     let stores : List Part = store_parts slot parts in
     let after : List Part = parts ++ c ∷ [] in
@@ -271,14 +277,14 @@ target_pushed slot source parts c of is own few target once apart =
     false_from_ne_true (is_store slot c.name) (λ t. own_or_store slot slot c.name of t) in
     let own-is = created_own slot parts c of in
     let stores-are = created_stores slot parts c no-store in
-    target_made slot source after
+    target_made slot twins source after
     (rw own-is (All-push (IsOwnPart slot) mine c is.own.each own))
     (rw own-is (omega (arith, length-append mine (c ∷ []), few)))
     (rw own-is
-    (All-push (IsTargetPart slot source after) mine c
-    (all_from (IsTargetPart slot source after) mine
-    (λ p h. target_part_among slot source parts after p
-    (All-contains (IsTargetPart slot source parts) mine p is.each h)
+    (All-push (IsTargetPartBeside slot twins source after) mine c
+    (all_from (IsTargetPartBeside slot twins source after) mine
+    (λ p h. target_part_among slot twins source parts after p
+    (All-contains (IsTargetPartBeside slot twins source parts) mine p is.each h)
     (λ none. All-push (λ s. s.name ≢ store_of p.name) parts c none
     (λ same. store_not_own slot p.name (ap (is_of_slot slot) (sym same) ∙ of))))) target))
     (rw stores-are
@@ -289,29 +295,33 @@ target_pushed slot source parts c of is own few target once apart =
     (any_left (λ p. (s.name ≡ store_of p.name) × IsTrue (is_updated p)) mine (c ∷ []) any)))))
     (rw (own-is, stores-are) (pieces_pushed mine stores c is.once once apart))
 
-created_apart : (slot : ℕ) (source target : Layout) (name : List ℕ) (n : ℕ) (q : Part)
-    → IsUpdate slot source target → is_of_slot slot name ≡ true → has_part name target.parts ≡ false
+created_apart : (slot : ℕ) (twins : List Part) (source target : Layout) (name : List ℕ) (n : ℕ)
+    (q : Part)
+    → IsUpdateBeside slot twins source target → is_of_slot slot name ≡ true
+    → has_part name target.parts ≡ false
     → Contains (own_parts slot target.parts ++ store_parts slot target.parts) q
-    → Apart q.blocks (created_blocks slot source target name n)
-created_apart slot source target name n q update of absent inside =
-    λ b hq hc. elim (created_cases slot source target name n b hc) [
+    → Apart q.blocks (created_blocks slot twins source target name n)
+created_apart slot twins source target name n q update of absent inside =
+    λ b hq hc. elim (created_cases slot twins source target name n b hc) [
       | inl before ↦
           elim (Contains-append_cases (own_parts slot target.parts) (store_parts slot target.parts)
           q
           inside) [
             | inl mine ↦
                 let there = (of_filter (λ p. is_of_slot slot p.name) target.parts q mine).0 in
-                before_not_own slot source target name q b update of mine
+                before_not_own slot twins source target name q b update of mine
                 (part_absent name target.parts q absent there) before hq
-            | inr store ↦ before_not_store slot source target name q b update store before hq
+            | inr store ↦ before_not_store slot twins source target name q b update store before hq
           ]
       | inr free ↦ free_not_target slot source target q b inside free hq
     ]
 
-created_part_is : (slot : ℕ) (source target : Layout) (after : List Part) (name : List ℕ) (n : ℕ)
-    → IsTargetPart slot source.parts after (created_part slot source target name n)
-created_part_is slot source target after name n =
-    let before : List ℕ = before_of slot source.parts name in
+created_part_is : (slot : ℕ) (twins : List Part) (source target : Layout) (after : List Part)
+    (name : List ℕ) (n : ℕ)
+    → IsTargetPartBeside slot twins source.parts after
+    (created_part slot twins source target name n)
+created_part_is slot twins source target after name n =
+    let before : List ℕ = before_of slot twins name in
     let free : List ℕ = free_of slot source target in
     let rest : List ℕ = take (n - length before) free in record {
       begins = begins_so before rest n (none_taken n (length before) free);
@@ -324,17 +334,18 @@ created_part_is slot source target after name n =
       kept = inl refl;
     }
 
-pub created_keeps : (slot : ℕ) (source target : Layout) (name : List ℕ) (bytes : ℕ)
-    → IsUpdate slot source target → IsCreated slot source target name bytes
-    → Keeps slot source target (with_created slot source target name (blocks_of bytes))
-created_keeps slot source target name bytes update is =
+pub created_keeps : (slot : ℕ) (twins : List Part) (source target : Layout) (name : List ℕ)
+    (bytes : ℕ)
+    → IsUpdateBeside slot twins source target → IsCreated slot twins source target name bytes
+    → Keeps slot twins source target (with_created slot twins source target name (blocks_of bytes))
+created_keeps slot twins source target name bytes update is =
     let n : ℕ = blocks_of bytes in
     let parts : List Part = target.parts in
-    let c : Part = created_part slot source target name n in
+    let c : Part = created_part slot twins source target name n in
     let cap : ℕ = cap_of target.device in
     let of = full_slot slot name is.full in
-    let keeps = groups_keep slot source target update in
-    let few = created_few slot source target name n in
+    let keeps = groups_keep slot twins source target update in
+    let few = created_few slot twins source target name n in
     let size : length c.blocks ≤ 2 ^ 28 = omega (arith, few, is.size) in
     let part : IsPart cap (created_groups slot target) c = record {
       name = full_named slot name is.full;
@@ -343,8 +354,8 @@ created_keeps slot source target name bytes update is =
       group = group_stands slot target;
       blocks =
           all_from (λ b. b < cap) c.blocks
-          (λ b h. elim (created_cases slot source target name n b h) [
-            | inl before ↦ before_below slot source target name b update before
+          (λ b h. elim (created_cases slot twins source target name n b h) [
+            | inl before ↦ before_below slot twins source target name b update before
             | inr free ↦ free_below_cap slot source target b free
           ]);
     } in record {
@@ -364,7 +375,7 @@ created_keeps slot source target name bytes update is =
             (Contains-get_or parts k d lt) same);
       };
       parts =
-          target_pushed slot source.parts parts c of update.parts
+          target_pushed slot twins source.parts parts c of update.parts
           (record {
             base = full_base slot name is.full;
             size = size;
@@ -372,9 +383,9 @@ created_keeps slot source target name bytes update is =
                 group_fits slot target.groups;
           })
           is.few
-          (created_part_is slot source target (parts ++ c ∷ []) name n)
-          (created_once slot source target name n update)
-          (λ q h. created_apart slot source target name n q update of is.absent h);
+          (created_part_is slot twins source target (parts ++ c ∷ []) name n)
+          (created_once slot twins source target name n update)
+          (λ q h. created_apart slot twins source target name n q update of is.absent h);
       device = refl;
       groups = keeps.of_slot;
       few_parts = omega (arith, length-append parts (c ∷ []));

@@ -14,8 +14,8 @@ use Rattle.vab_layout.specs.declared.layout.Layout.{Layout}
 use Rattle.vab_blocks.specs.Runs.{runs_of}
 use Rattle.vab_layout.specs.Layout.{blocks_of_parts}
 use Rattle.vab_layout.specs.Rules.{IsPart}
-use Rattle.vab_layout.specs.Slots.{own_parts, store_parts, IsDistinct, IsOwnPart, IsTarget}
-use Rattle.vab_layout.specs.Slots.{IsTargetPart, IsStorePart}
+use Rattle.vab_layout.specs.Slots.{own_parts, store_parts, IsDistinct, IsOwnPart, IsTargetBeside}
+use Rattle.vab_layout.specs.Slots.{IsTargetPartBeside, IsStorePart}
 use Rattle.vab_builder.specs.Sizes.{has_part}
 use Rattle.vab_builder.specs.Edits.{with_deleted}
 use Rattle.vab_builder.proofs.Bounds.{few_kept}
@@ -26,7 +26,7 @@ use Rattle.vab_names.proofs.NameCases.{ne_name}
 use Rattle.vab_builder.proofs.PartLaws.{part_absent}
 use Rattle.vab_builder.proofs.KeepLaws.{target_made, target_part_among, store_part_among}
 use Rattle.vab_builder.proofs.Keeps.{Keeps}
-use Rattle.vab_builder.specs.Update.{IsUpdate}
+use Rattle.vab_builder.specs.Update.{IsUpdateBeside}
 use Rattle.vab_builder.specs.Passes.{IsDeleted}
 
 filter_swap : (p q : Part → Bool) (xs : List Part) → filter p (filter q xs) ≡ filter q (filter p xs)
@@ -42,10 +42,11 @@ filter_swap p q (x ∷ xs) = elim (cases_Bool (p x)) [
   ]
 ]
 
-deleted_target : (slot : ℕ) (source parts : List Part) (name : List ℕ) → IsTarget slot source parts
+deleted_target : (slot : ℕ) (twins source parts : List Part) (name : List ℕ)
+    → IsTargetBeside slot twins source parts
     → has_part (store_of name) parts ≡ false
-    → IsTarget slot source (filter (λ p. not (bytes_eq p.name name)) parts)
-deleted_target slot source parts name is plain =
+    → IsTargetBeside slot twins source (filter (λ p. not (bytes_eq p.name name)) parts)
+deleted_target slot twins source parts name is plain =
     let keep : Part → Bool = λ p. not (bytes_eq p.name name) in
     let own : List Part = own_parts slot parts in
     let stores : List Part = store_parts slot parts in
@@ -62,13 +63,14 @@ deleted_target slot source parts name is plain =
     let apart =
     subst (λ (l : List Part). IsDistinct (blocks_of_parts l)) (filter-append keep own stores)
     once in
-    target_made slot source after
+    target_made slot twins source after
     (rw own-is (All-filter keep (IsOwnPart slot) own is.own.each))
     (rw own-is (omega (arith, few_kept keep own, is.own.few)))
     (rw own-is
-    (all_from (IsTargetPart slot source after) (filter keep own)
-    (λ p h. target_part_among slot source parts after p
-    (All-contains (IsTargetPart slot source parts) own p is.each (of_filter keep own p h).0)
+    (all_from (IsTargetPartBeside slot twins source after) (filter keep own)
+    (λ p h. target_part_among slot twins source parts after p
+    (All-contains (IsTargetPartBeside slot twins source parts) own p is.each
+    (of_filter keep own p h).0)
     (λ none. All-filter keep (λ s. s.name ≢ store_of p.name) parts none))))
     (rw stores-are (all_from (IsStorePart slot source after) (filter keep stores) (λ s h.
     let store = (of_filter keep stores s h).0 in
@@ -83,10 +85,10 @@ deleted_target slot source parts name is plain =
     rw own-is (stays.0, a.1, stays.1, stays.2, a.4)))))
     (rw (own-is, stores-are) apart)
 
-pub deleted_keeps : (slot : ℕ) (source target : Layout) (name : List ℕ)
-    → IsUpdate slot source target → IsDeleted slot target name
-    → Keeps slot source target (with_deleted target name)
-deleted_keeps slot source target name update is =
+pub deleted_keeps : (slot : ℕ) (twins : List Part) (source target : Layout) (name : List ℕ)
+    → IsUpdateBeside slot twins source target → IsDeleted slot target name
+    → Keeps slot twins source target (with_deleted target name)
+deleted_keeps slot twins source target name update is =
     let keep : Part → Bool = λ p. not (bytes_eq p.name name) in
     let parts : List Part = target.parts in record {
       rules = record {
@@ -100,7 +102,7 @@ deleted_keeps slot source target name update is =
         part_names =
             AllPairs-filter (λ a b. a.name ≢ b.name) keep parts update.target_rules.part_names;
       };
-      parts = deleted_target slot source.parts parts name update.parts is.plain;
+      parts = deleted_target slot twins source.parts parts name update.parts is.plain;
       device = refl;
       groups = refl;
       few_parts = omega (arith, few_kept keep parts);

@@ -18,7 +18,7 @@ use Rattle.vab_builder.proofs.OwnLaws.{own_rules}
 use Rattle.vab_builder.proofs.PartLaws.{named_cases, named_is, part_there, has_own}
 use Rattle.vab_builder.proofs.RoomLaws.{resize_room, store_room}
 use Rattle.vab_builder.specs.Sizes.{has_part, used_by, wants_resized, wants_stored}
-use Rattle.vab_builder.specs.Update.{IsUpdate}
+use Rattle.vab_builder.specs.Update.{IsUpdateBeside}
 use Rattle.vab_builder.specs.Passes.{store_size}
 use Rattle.vab_builder.specs.Edits.{resized_to}
 use Rattle.vab_builder.proofs.Bounds.{either_small}
@@ -37,16 +37,18 @@ changed_same name f g (p ∷ ps) h =
       | inr other ↦ rw other (ap (λ (l : List Part). p ∷ l) rest)
     ]
 
-pub resized_alike : (slot : ℕ) (source target : Layout) (name : List ℕ) (n : ℕ)
+pub resized_alike : (slot : ℕ) (twins : List Part) (source target : Layout) (name : List ℕ) (n : ℕ)
     → NamesDiffer (λ q. q.name) target.parts
-    → changed name (λ p. record (updated p) { blocks = resized_to slot source target name n })
-    target.parts ≡ changed name (resized_part slot source target n) target.parts
-resized_alike slot source target name n differ =
-    changed_same name (λ p. record (updated p) { blocks = resized_to slot source target name n })
-    (resized_part slot source target n) target.parts (λ p c e.
+    → changed name (λ p. record (updated p) { blocks = resized_to slot twins source target name n })
+    target.parts ≡ changed name (resized_part slot twins source target n) target.parts
+resized_alike slot twins source target name n differ =
+    changed_same name (λ p. record (updated p)
+    { blocks = resized_to slot twins source target name n })
+    (resized_part slot twins source target n) target.parts (λ p c e.
     let blocks : blocks_named name target.parts ≡ p.blocks =
     named_is name target.parts p differ c e in
-    let a : resized_to slot source target name n ≡ resized_blocks slot source target p n =
+    let a : resized_to slot twins source target name n
+    ≡ resized_blocks slot twins source target p n =
     rw (blocks, ← e) refl in
     ap (λ (bs : List ℕ). let q : Part =
     record { name = p.name; attributes = (updated p).attributes; group = p.group; blocks = bs }
@@ -70,17 +72,18 @@ store_few slot target name bytes own of size =
     either_small (eqb bytes 0) (need_of (length (blocks_named name target.parts))) (blocks_of bytes)
     (2 ^ 29) (omega (arith, all)) (omega (arith, short))
 
-pub same_size : (slot : ℕ) (source target : Layout) (name : List ℕ) (n : ℕ)
-    → length (blocks_named name target.parts) ≡ n → with_resized slot source target name n ≡ target
-same_size slot source target name n e =
+pub same_size : (slot : ℕ) (twins : List Part) (source target : Layout) (name : List ℕ) (n : ℕ)
+    → length (blocks_named name target.parts) ≡ n
+    → with_resized slot twins source target name n ≡ target
+same_size slot twins source target name n e =
     let test : eqb (length (blocks_named name target.parts)) n ≡ true =
     eq-eqb (length (blocks_named name target.parts)) n e in rw test refl
 
-pub other_size : (slot : ℕ) (source target : Layout) (name : List ℕ) (n : ℕ)
+pub other_size : (slot : ℕ) (twins : List Part) (source target : Layout) (name : List ℕ) (n : ℕ)
     → (length (blocks_named name target.parts) ≡ n → ⊥)
-    → with_resized slot source target name n
-    ≡ record target { parts = changed name (resized_part slot source target n) target.parts }
-other_size slot source target name n ne =
+    → with_resized slot twins source target name n
+    ≡ record target { parts = changed name (resized_part slot twins source target n) target.parts }
+other_size slot twins source target name n ne =
     let test : eqb (length (blocks_named name target.parts)) n ≡ false =
     ne_eqb (length (blocks_named name target.parts)) n ne in rw test refl
 
@@ -92,25 +95,27 @@ own_there slot target name full there =
     let of = full_slot slot name full in
     part_there name (own_parts slot target.parts) (has_own slot name target.parts of ∙ there)
 
-pub named_room : (slot : ℕ) (source target : Layout) (name : List ℕ) (n : ℕ)
-    → IsUpdate slot source target → is_full slot name ≡ true → has_part name target.parts ≡ true
-    → used_by slot source.parts (wants_resized slot source.parts target.parts name n)
+pub named_room : (slot : ℕ) (twins : List Part) (source target : Layout) (name : List ℕ) (n : ℕ)
+    → IsUpdateBeside slot twins source target → is_full slot name ≡ true
+    → has_part name target.parts ≡ true
+    → used_by slot source.parts (wants_resized slot twins target.parts name n)
     ≤ cap_of target.device
-    → n - length (kept_blocks (before_of slot source.parts name) (blocks_named name target.parts) n)
+    → n - length (kept_blocks (before_of slot twins name) (blocks_named name target.parts) n)
     ≤ length (free_of slot source target)
-named_room slot source target name n update full there used =
+named_room slot twins source target name n update full there used =
     let r = own_there slot target name full there in
     let p : Part = r.0 in
     let in-target = (of_filter (λ q. is_of_slot slot q.name) target.parts p r.1).0 in
     let blocks = named_is name target.parts p update.target_rules.part_names in-target r.2 in
-    let enough = rw r.2 at (resize_room slot source target name n p update r.1 r.2 used) in
+    let enough = rw r.2 at (resize_room slot twins source target name n p update r.1 r.2 used) in
     rw blocks enough
 
-pub stored_room : (slot : ℕ) (source target : Layout) (name : List ℕ) (n : ℕ)
-    → IsUpdate slot source target → is_full slot name ≡ true → has_part name target.parts ≡ true
+pub stored_room : (slot : ℕ) (twins : List Part) (source target : Layout) (name : List ℕ) (n : ℕ)
+    → IsUpdateBeside slot twins source target → is_full slot name ≡ true
+    → has_part name target.parts ≡ true
     → has_part (store_of name) target.parts ≡ false
-    → used_by slot source.parts (wants_stored slot source.parts target.parts name n)
+    → used_by slot source.parts (wants_stored slot twins target.parts name n)
     ≤ cap_of target.device → n ≤ length (free_of slot source target)
-stored_room slot source target name n update full there plain used =
+stored_room slot twins source target name n update full there plain used =
     let r = own_there slot target name full there in
-    store_room slot source target name n r.0 update r.1 r.2 plain used
+    store_room slot twins source target name n r.0 update r.1 r.2 plain used

@@ -31,9 +31,10 @@ use Rattle.vab_layout.specs.Layout.{blocks_of_parts}
 use Rattle.vab_layout.specs.Rules.{names_of_groups, IsPart, IsLayout}
 use Rattle.vab_layout.specs.Slots.{other_slot, own_parts, store_parts, IsDistinct, IsOwnPart, IsOwn}
 use Rattle.vab_layout.specs.Slots.{blocks_named, before_of, IsTargetPart, IsStorePart, IsTarget}
-use Rattle.vab_layout.specs.Slots.{groups_of_slot}
+use Rattle.vab_layout.specs.Slots.{twins_by, IsTargetPartBeside, IsTargetBeside, groups_of_slot}
 use Rattle.vab_layout.specs.Plain.{default_group, own_groups, plain}
-use Rattle.vab_builder.specs.Import.{stores_group, twin_group_name, twin_group, twin_part, imported}
+use Rattle.vab_builder.specs.Import.{stores_group, twin_group_name, twin_group, twin_part}
+use Rattle.vab_builder.specs.Import.{parts_by, imported_by}
 use Rattle.vab_builder.proofs.ListLaws.{filter_all, filter_none, length-filter-le, sum_by-filter-le}
 use Rattle.vab_builder.proofs.ListLaws.{map_keeps, flat_map-map, sum_by-map, pairs_head, pairs_tail}
 use Rattle.vab_builder.proofs.ListLaws.{pairs_append, pairs_map, pairs_weaker, cons_cases}
@@ -402,10 +403,32 @@ twin_part_rule cap slot other groups all p h stays = record {
 
 -- ---- rules of layouts
 
-pub imported_is_layout : (source : ℕ) (l : Layout) → source < 2 → IsLayout l → IsOwn source l.parts
-    → IsLayout (imported source l)
-unfolding imported
-imported_is_layout source l lt rules own =
+-- the parts of an import, with the twins or without them
+imported_each : (apart : Bool) (source cap : ℕ) (groups : List Group) (parts : List Part)
+    → All (IsPart cap groups) (own_parts source parts)
+    → All (λ p. IsPart cap groups (twin_part (other_slot source) p)) (own_parts source parts)
+    → All (IsPart cap groups) (parts_by apart source parts)
+imported_each true source cap groups parts one two = one
+imported_each false source cap groups parts one two =
+    let other : ℕ = other_slot source in
+    All-append (IsPart cap groups) (own_parts source parts)
+    (map (twin_part other) (own_parts source parts)) one
+    (All-map (IsPart cap groups) (twin_part other) (own_parts source parts) two)
+
+imported_names : (apart : Bool) (source : ℕ) (parts : List Part)
+    → source < 2
+    → NamesDiffer (λ (q : Part). q.name) parts
+    → NamesDiffer (λ (q : Part). q.name) (parts_by apart source parts)
+imported_names true source parts lt differ = own_parts_apart source parts differ
+imported_names false source parts lt differ = imported_parts_apart source parts lt differ
+
+pub imported_is_layout : (apart : Bool) (source : ℕ) (l : Layout)
+    → source < 2
+    → IsLayout l
+    → IsOwn source l.parts
+    → IsLayout (imported_by apart source l)
+unfolding imported_by
+imported_is_layout apart source l lt rules own =
     let other : ℕ = other_slot source in
     let cap : ℕ = cap_of l.device in
     let mine : List Group = own_groups source l.groups in
@@ -426,12 +449,8 @@ imported_is_layout source l lt rules own =
       flags = or_lt 32 l.flags 1 rules.flags (omega arith);
       groups = imported_groups_rule source l.groups rules.groups;
       group_names = imported_groups_apart source l.groups lt rules.group_names;
-      parts =
-          All-append (IsPart cap (default_group ∷ all)) (own_parts source l.parts)
-          (map (twin_part other) (own_parts source l.parts)) one
-          (All-map (IsPart cap (default_group ∷ all)) (twin_part other) (own_parts source l.parts)
-          two);
-      part_names = imported_parts_apart source l.parts lt rules.part_names;
+      parts = imported_each apart source cap (default_group ∷ all) l.parts one two;
+      part_names = imported_names apart source l.parts lt rules.part_names;
     }
 
 pub plain_is_layout : (slot : ℕ) (l : Layout) → IsLayout l → IsOwn slot l.parts
@@ -577,10 +596,9 @@ twin_is_target source parts p lt apart c named =
       );
     }
 
-pub imported_is_target : (source : ℕ) (l : Layout) → source < 2 → IsLayout l → IsOwn source l.parts
-    → IsTarget (other_slot source) l.parts (imported source l).parts
-unfolding imported
-imported_is_target source l lt rules own =
+with_twins_is_target : (source : ℕ) (l : Layout) → source < 2 → IsLayout l → IsOwn source l.parts
+    → IsTarget (other_slot source) l.parts (imported_parts source l.parts)
+with_twins_is_target source l lt rules own =
     let other : ℕ = other_slot source in
     let mine : List Part = own_parts source l.parts in
     let twins : List Part = map (twin_part other) mine in
@@ -617,10 +635,49 @@ imported_is_target source l lt rules own =
       once = subst (λ (ps : List Part). IsDistinct (blocks_of_parts ps)) (sym both) once;
     }
 
-pub imported_groups_of_slot : (source : ℕ) (l : Layout) → source < 2
-    → groups_of_slot (other_slot source) (imported source l).groups ≡ groups_of_slot source l.groups
-unfolding imported
-imported_groups_of_slot source l lt =
+-- the source's own partitions are a target without partitions
+alone_is_target : (source : ℕ) (parts : List Part)
+    → source < 2
+    → IsTargetBeside (other_slot source) [] parts (own_parts source parts)
+alone_is_target source parts lt =
+    let other : ℕ = other_slot source in
+    let own : List Part = own_parts source parts in
+    let none : own_parts other own ≡ [] =
+    filter_none (λ p. is_of_slot other p.name) own
+    (λ (k : ℕ) (d : Part) le. of_other_slot source _ lt (own_parts_named source parts k d le))
+    in
+    let stores : store_parts other own ≡ [] =
+    filter_none (λ p. is_store other p.name) own
+    (λ (k : ℕ) (d : Part) le. of_slot_no_store source other _
+    (own_parts_named source parts k d le)) in
+    let once : IsDistinct [] = λ i j d ij lj. absurd (omega arith) in
+    record {
+      own = record {
+        each = rw none (All-nil (IsOwnPart other));
+        few = rw none (omega arith);
+        once = rw none once;
+      };
+      each = rw none (All-nil (IsTargetPartBeside other [] parts own));
+      stores = rw stores (All-nil (IsStorePart other parts own));
+      once = rw (none, stores) once;
+    }
+
+pub imported_is_target : (apart : Bool) (source : ℕ) (l : Layout)
+    → source < 2
+    → IsLayout l
+    → IsOwn source l.parts
+    → IsTargetBeside (other_slot source) (twins_by apart l.parts) l.parts
+    (imported_by apart source l).parts
+unfolding imported_by
+imported_is_target true source l lt rules own = alone_is_target source l.parts lt
+imported_is_target false source l lt rules own = with_twins_is_target source l lt rules own
+
+pub imported_groups_of_slot : (apart : Bool) (source : ℕ) (l : Layout)
+    → source < 2
+    → groups_of_slot (other_slot source) (imported_by apart source l).groups
+    ≡ groups_of_slot source l.groups
+unfolding imported_by
+imported_groups_of_slot apart source l lt =
     let other : ℕ = other_slot source in
     let own : List Group = own_groups source l.groups in
     let twins : List Group = map (twin_group other) own in
@@ -664,64 +721,44 @@ plain_is_own slot l own =
 
 -- ---- how long the lists are
 
--- twice as many partitions as the source's own
-pub imported_parts_count : (source : ℕ) (l : Layout)
-    → length (imported source l).parts ≡ 2 * length (own_parts source l.parts)
-unfolding imported
-imported_parts_count source l =
-    let own : List Part = own_parts source l.parts in
-    let other : ℕ = other_slot source in
-    omega (arith, length-append own (map (twin_part other) own), length-map own (twin_part other))
-
 -- at most twice as many runs
-pub imported_runs : (source : ℕ) (l : Layout)
-    → sum_by (λ p. length (runs_of p.blocks)) (imported source l).parts
+pub imported_runs : (apart : Bool) (source : ℕ) (l : Layout)
+    → sum_by (λ p. length (runs_of p.blocks)) (imported_by apart source l).parts
     ≤ 2 * sum_by (λ p. length (runs_of p.blocks)) l.parts
-unfolding imported
-imported_runs source l =
+unfolding imported_by
+imported_runs true source l =
+    let runs : Part → ℕ = λ p. length (runs_of p.blocks) in
+    omega (arith, sum_by-filter-le (λ p. is_of_slot source p.name) runs l.parts)
+imported_runs false source l =
     let own : List Part = own_parts source l.parts in
     let other : ℕ = other_slot source in
     let runs : Part → ℕ = λ p. length (runs_of p.blocks) in
     omega (
       arith,
       sum_by-append runs own (map (twin_part other) own),
-      sum_by-map (twin_part other)
-          runs own,
+      sum_by-map (twin_part other) runs own,
       sum_by-filter-le (λ p. is_of_slot source p.name) runs l.parts,
     )
 
 -- at most twice as many groups and those of no slot
-pub imported_groups_count : (source : ℕ) (l : Layout)
-    → length (imported source l).groups ≤ 2 * length l.groups + 2
-unfolding imported
-imported_groups_count source l =
+pub imported_groups_count : (apart : Bool) (source : ℕ) (l : Layout)
+    → length (imported_by apart source l).groups ≤ 2 * length l.groups + 2
+unfolding imported_by
+imported_groups_count apart source l =
     let own : List Group = own_groups source l.groups in
     let twins : List Group = map (twin_group (other_slot source)) own in
     omega (
       arith,
       length-append own (twins ++ stores_group ∷ []),
-      length-append twins
-          (stores_group ∷ []),
+      length-append twins (stores_group ∷ []),
       length-map own (twin_group (other_slot source)),
-      length-filter-le
-          (λ g. is_of_slot source g.name) l.groups,
+      length-filter-le (λ g. is_of_slot source g.name) l.groups,
     )
 
 -- the slot's own partitions
 pub plain_parts : (slot : ℕ) (l : Layout) → (plain slot l).parts ≡ own_parts slot l.parts
 unfolding plain
 plain_parts slot l = refl
-
-pub plain_parts_count : (slot : ℕ) (l : Layout)
-    → length (plain slot l).parts ≡ length (own_parts slot l.parts)
-plain_parts_count slot l = ap length (plain_parts slot l)
-
-pub plain_runs : (slot : ℕ) (l : Layout)
-    → sum_by (λ p. length (runs_of p.blocks)) (plain slot l).parts
-    ≤ sum_by (λ p. length (runs_of p.blocks)) l.parts
-unfolding plain
-plain_runs slot l =
-    sum_by-filter-le (λ p. is_of_slot slot p.name) (λ p. length (runs_of p.blocks)) l.parts
 
 pub plain_groups_count : (slot : ℕ) (l : Layout)
     → length (plain slot l).groups ≤ length l.groups + 1

@@ -22,7 +22,8 @@ use Rattle.vab_blocks.specs.Runs.{in_front, runs_of}
 use Rattle.vab_layout.specs.Layout.{blocks_of_parts}
 use Rattle.vab_layout.specs.Rules.{names_of_groups, IsPart}
 use Rattle.vab_layout.specs.Slots.{other_slot, own_parts, store_parts, before_of, groups_of_slot}
-use Rattle.vab_layout.specs.Slots.{is_updated, IsDistinct, IsOwn, IsOwnPart, IsTarget, IsTargetPart}
+use Rattle.vab_layout.specs.Slots.{is_updated, IsDistinct, IsOwn, IsOwnPart, IsTargetBeside}
+use Rattle.vab_layout.specs.Slots.{IsTargetPartBeside}
 use Rattle.vab_layout.specs.Slots.{IsStorePart}
 use Rattle.vab_builder.specs.Edits.{free_of, with_group}
 use Rattle.vab_blocks.proofs.Contained.{first, in_map, of_map, in_piece, none_in_nil, of_filter}
@@ -30,7 +31,8 @@ use Rattle.vab_builder.proofs.Counting.{pairs_left, pieces_once, once_ascending}
 use Rattle.vab_names.proofs.NameCases.{same_name, eq_name, in_slot_is, in_slot_same}
 use Rattle.vab_builder.proofs.PartLaws.{named_cases, named_own, names_apart}
 use Rattle.vab_builder.proofs.RoomLaws.{before_listed, begun_or_fresh}
-use Rattle.vab_builder.specs.Update.{IsUpdate}
+use Rattle.vab_builder.specs.Update.{IsUpdateBeside}
+use Rattle.vab_builder.proofs.TwinLaws.{twins_in, twins_own}
 
 -- ---- runs
 
@@ -120,12 +122,12 @@ part_in slot cap groups after p keeps is =
 -- ---- blocks that a partition of the target may take
 
 -- the blocks of the source's partition of a base name stand once
-pub before_once : (slot : ℕ) (source : List Part) (name : List ℕ) → IsOwn (other_slot slot) source
-    → IsDistinct (before_of slot source name)
-before_once slot source name own =
+pub before_once : (slot : ℕ) (twins : List Part) (name : List ℕ) → IsOwn (other_slot slot) twins
+    → IsDistinct (before_of slot twins name)
+before_once slot twins name own =
     let twin : List ℕ = in_slot (other_slot slot) name in
-    let mine : List Part = own_parts (other_slot slot) source in
-    subst IsDistinct (named_own (other_slot slot) twin source (in_slot_is (other_slot slot) name))
+    let mine : List Part = own_parts (other_slot slot) twins in
+    subst IsDistinct (named_own (other_slot slot) twin twins (in_slot_is (other_slot slot) name))
     (elim (named_cases twin mine) [
       | inl none ↦ rw none (λ i j d ij lj. absurd (omega arith))
       | inr r ↦
@@ -134,16 +136,17 @@ before_once slot source name own =
     ])
 
 -- and lie on the device
-pub before_below : (slot : ℕ) (source target : Layout) (name : List ℕ) (b : ℕ)
-    → IsUpdate slot source target → Contains (before_of slot source.parts name) b
+pub before_below : (slot : ℕ) (twins : List Part) (source target : Layout) (name : List ℕ) (b : ℕ)
+    → IsUpdateBeside slot twins source target → Contains (before_of slot twins name) b
     → b < cap_of target.device
-before_below slot source target name b update c =
-    elim (named_cases (in_slot (other_slot slot) name) source.parts) [
+before_below slot twins source target name b update c =
+    elim (named_cases (in_slot (other_slot slot) name) twins) [
       | inl none ↦ absurd (none_in_nil b (subst (λ (l : List ℕ). Contains l b) none c))
       | inr r ↦
           let is =
           All-contains (IsPart (cap_of source.device) source.groups) source.parts r.0
-          update.source_rules.parts r.1 in
+          update.source_rules.parts
+          (twins_in twins source.parts r.0 update.twins_are r.1) in
           let lt : b < cap_of source.device =
           All-contains (λ x. x < cap_of source.device) r.0.blocks b is.blocks
           (subst (λ (l : List ℕ). Contains l b) r.3 c) in
@@ -193,55 +196,60 @@ free_once slot source target =
     ++ blocks_of_parts (own_parts slot target.parts ++ store_parts slot target.parts)))
 
 -- the source's blocks of one base name are in no target's partition of another
-pub before_not_own : (slot : ℕ) (source target : Layout) (name : List ℕ) (q : Part) (b : ℕ)
-    → IsUpdate slot source target → is_of_slot slot name ≡ true
+pub before_not_own : (slot : ℕ) (twins : List Part) (source target : Layout) (name : List ℕ)
+    (q : Part) (b : ℕ)
+    → IsUpdateBeside slot twins source target → is_of_slot slot name ≡ true
     → Contains (own_parts slot target.parts) q → (q.name ≡ name → ⊥)
-    → Contains (before_of slot source.parts name) b → Contains q.blocks b → ⊥
-before_not_own slot source target name q b update of inside ne c d =
+    → Contains (before_of slot twins name) b → Contains q.blocks b → ⊥
+before_not_own slot twins source target name q b update of inside ne c d =
     let other : ℕ = other_slot slot in
     let mine : List Part = own_parts other source.parts in
+    let own = twins_own other twins source.parts update.twins_are update.own in
     let is =
-    All-contains (IsTargetPart slot source.parts target.parts) (own_parts slot target.parts) q
+    All-contains (IsTargetPartBeside slot twins source.parts target.parts)
+    (own_parts slot target.parts) q
     update.parts.each inside in
     let of-q = (of_filter (λ p. is_of_slot slot p.name) target.parts q inside).1 in
-    elim (begun_or_fresh slot source.parts target.parts q b is d) [
+    elim (begun_or_fresh slot twins source.parts target.parts q b is d) [
       | inl begun ↦
           let differ : in_slot other q.name ≡ in_slot other name
           → ⊥ = λ e. ne (in_slot_same slot other q.name name of-q of e) in
           let apart =
-          names_apart (in_slot other q.name) (in_slot other name) mine differ update.own.once in
+          names_apart (in_slot other q.name) (in_slot other name) (own_parts other twins) differ
+          own.once in
           apart b
           (subst (λ (l : List ℕ). Contains l b)
-          (sym (named_own other (in_slot other q.name) source.parts (in_slot_is other q.name)))
+          (sym (named_own other (in_slot other q.name) twins (in_slot_is other q.name)))
           begun)
           (subst (λ (l : List ℕ). Contains l b)
-          (sym (named_own other (in_slot other name) source.parts (in_slot_is other name))) c)
+          (sym (named_own other (in_slot other name) twins (in_slot_is other name))) c)
       | inr fresh ↦
           All-contains (λ x. Contains (blocks_of_parts mine) x
-          → ⊥) (drop (length (before_of slot source.parts q.name)) q.blocks) b is.fresh fresh
-          (before_listed slot source.parts name b c)
+          → ⊥) (drop (length (before_of slot twins q.name)) q.blocks) b is.fresh fresh
+          (before_listed slot twins source.parts name b update.twins_are c)
     ]
 
 -- nor in a store
-pub before_not_store : (slot : ℕ) (source target : Layout) (name : List ℕ) (s : Part) (b : ℕ)
-    → IsUpdate slot source target → Contains (store_parts slot target.parts) s
-    → Contains (before_of slot source.parts name) b → Contains s.blocks b → ⊥
-before_not_store slot source target name s b update inside c d =
+pub before_not_store : (slot : ℕ) (twins : List Part) (source target : Layout) (name : List ℕ)
+    (s : Part) (b : ℕ)
+    → IsUpdateBeside slot twins source target → Contains (store_parts slot target.parts) s
+    → Contains (before_of slot twins name) b → Contains s.blocks b → ⊥
+before_not_store slot twins source target name s b update inside c d =
     let is =
     All-contains (IsStorePart slot source.parts target.parts) (store_parts slot target.parts) s
     update.parts.stores inside in
     All-contains (λ x. Contains (blocks_of_parts (own_parts (other_slot slot) source.parts)) x
-    → ⊥) s.blocks b is.apart d (before_listed slot source.parts name b c)
+    → ⊥) s.blocks b is.apart d (before_listed slot twins source.parts name b update.twins_are c)
 
 -- ---- a target
 
-pub target_made : (slot : ℕ) (source parts : List Part)
+pub target_made : (slot : ℕ) (twins source parts : List Part)
     → All (IsOwnPart slot) (own_parts slot parts) → length (own_parts slot parts) ≤ most_partitions
-    → All (IsTargetPart slot source parts) (own_parts slot parts)
+    → All (IsTargetPartBeside slot twins source parts) (own_parts slot parts)
     → All (IsStorePart slot source parts) (store_parts slot parts)
     → IsDistinct (blocks_of_parts (own_parts slot parts ++ store_parts slot parts))
-    → IsTarget slot source parts
-target_made slot source parts own few each stores once =
+    → IsTargetBeside slot twins source parts
+target_made slot twins source parts own few each stores once =
     let split =
     subst IsDistinct
     (flat_map-append (λ p. p.blocks) (own_parts slot parts) (store_parts slot parts)) once in
@@ -258,11 +266,11 @@ target_made slot source parts own few each stores once =
       once = once;
     }
 
-pub target_part_among : (slot : ℕ) (source parts after : List Part) (p : Part)
-    → IsTargetPart slot source parts p
+pub target_part_among : (slot : ℕ) (twins source parts after : List Part) (p : Part)
+    → IsTargetPartBeside slot twins source parts p
     → (All (λ s. s.name ≢ store_of p.name) parts → All (λ s. s.name ≢ store_of p.name) after)
-    → IsTargetPart slot source after p
-target_part_among slot source parts after p is still = record {
+    → IsTargetPartBeside slot twins source after p
+target_part_among slot twins source parts after p is still = record {
   begins = is.begins;
   fresh = is.fresh;
   kept = elim is.kept [

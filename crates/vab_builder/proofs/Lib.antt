@@ -6,8 +6,13 @@ pub mod Counting
 pub mod PartLaws
 pub mod OwnLaws
 pub mod ChangeLaws
+pub mod TwinLaws
 pub mod Bounds
 pub mod Verdicts
+pub mod PartitionLaws
+pub mod SumLaws
+pub mod UsedLaws
+pub mod GroupLaws
 pub mod RoomLaws
 pub mod ResizeVerdicts
 pub mod DeleteVerdicts

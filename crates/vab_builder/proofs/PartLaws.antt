@@ -5,7 +5,7 @@ use Rattle.std.specs.Prelude.{Contains}
 use Rattle.std.specs.Str.{bytes_eq}
 use Rattle.std.proofs.lemmas.Bool.{cases_Bool, or_parts, or_cases, both_ways}
 use Rattle.std.proofs.lemmas.List.Elements.{All-contains}
-use Rattle.vab_names.specs.Names.{is_of_slot, store_of}
+use Rattle.vab_names.specs.Names.{is_of_slot}
 use Rattle.vab_tables.specs.Rules.{NamesDiffer}
 use Rattle.vab_layout.specs.declared.layout.Part.{Part}
 use Rattle.vab_layout.specs.Layout.{blocks_of_parts}
@@ -146,19 +146,3 @@ names_apart m n (p ∷ ps) ne once =
         | inr also ↦ rw (other, also) rest
       ]
     ]
-
--- whether a partition has a store, as a function says it of the same names and parts
-pub store_told : (name given twin text : List ℕ) (parts listed : List Part) (found told : Bool)
-    → found ≡ has_part text listed
-    → text ≡ twin
-    → twin ≡ store_of given
-    → given ≡ name
-    → listed ≡ parts
-    → found ≡ told
-    → has_part (store_of name) parts ≡ told
-store_told name given twin text parts listed found told has same is named all answer =
-    ap (λ (n : List ℕ). has_part (store_of n) parts) (sym named)
-    ∙ ap (λ (n : List ℕ). has_part n parts) (sym is ∙ sym same)
-    ∙ ap (has_part text) (sym all)
-    ∙ sym has
-    ∙ answer

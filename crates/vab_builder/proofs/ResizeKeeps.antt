@@ -17,8 +17,8 @@ use Rattle.vab_layout.specs.declared.layout.Part.{Part}
 use Rattle.vab_layout.specs.declared.layout.Layout.{Layout}
 use Rattle.vab_blocks.specs.Runs.{runs_of}
 use Rattle.vab_layout.specs.Rules.{IsPart}
-use Rattle.vab_layout.specs.Slots.{own_parts, store_parts, before_of, blocks_named}
-use Rattle.vab_layout.specs.Slots.{IsDistinct, IsOwnPart, IsTargetPart}
+use Rattle.vab_layout.specs.Slots.{other_slot, own_parts, store_parts, before_of, blocks_named}
+use Rattle.vab_layout.specs.Slots.{IsDistinct, IsOwnPart, IsTargetPartBeside}
 use Rattle.vab_builder.specs.Edits.{free_of, kept_blocks, resized_blocks, resized_part, changed}
 use Rattle.vab_builder.specs.Edits.{with_resized}
 use Rattle.vab_builder.proofs.Counting.{Apart, once_append, once_take}
@@ -34,7 +34,8 @@ use Rattle.vab_builder.proofs.CreateKeeps.{begins_so, behind_so}
 use Rattle.vab_builder.proofs.ChangedTarget.{ChangesWell, target_changed, changed_all}
 use Rattle.vab_builder.proofs.ChangedTarget.{changed_differ, changed_sum, apart_pair}
 use Rattle.vab_builder.proofs.Keeps.{Keeps}
-use Rattle.vab_builder.specs.Update.{IsUpdate}
+use Rattle.vab_builder.specs.Update.{IsUpdateBeside}
+use Rattle.vab_builder.proofs.TwinLaws.{twins_own}
 use Rattle.vab_builder.specs.Passes.{IsResized}
 use Rattle.vab_builder.proofs.RoomLaws.{source_blocks}
 
@@ -67,12 +68,12 @@ updated_is a = let four : bit_and (bit_or a 4) 4 ≡ 4 = and_or_self 4 a in rw f
 
 -- ---- its blocks
 
-resized_cases : (slot : ℕ) (source target : Layout) (p : Part) (n b : ℕ)
-    → Contains (resized_blocks slot source target p n) b
-    → (Contains (before_of slot source.parts p.name) b)
+resized_cases : (slot : ℕ) (twins : List Part) (source target : Layout) (p : Part) (n b : ℕ)
+    → Contains (resized_blocks slot twins source target p n) b
+    → (Contains (before_of slot twins p.name) b)
     ⊎ ((Contains p.blocks b) ⊎ (Contains (free_of slot source target) b))
-resized_cases slot source target p n b c =
-    let before : List ℕ = before_of slot source.parts p.name in
+resized_cases slot twins source target p n b c =
+    let before : List ℕ = before_of slot twins p.name in
     let kept : List ℕ = kept_blocks before p.blocks n in
     let free : List ℕ = free_of slot source target in
     let k : ℕ = length before in
@@ -84,10 +85,10 @@ resized_cases slot source target p n b c =
       | inr d ↦ inr (inr (of_take (n - length kept) free b d))
     ]
 
-resized_few : (slot : ℕ) (source target : Layout) (p : Part) (n : ℕ)
-    → length (resized_blocks slot source target p n) ≤ n
-resized_few slot source target p n =
-    let before : List ℕ = before_of slot source.parts p.name in
+resized_few : (slot : ℕ) (twins : List Part) (source target : Layout) (p : Part) (n : ℕ)
+    → length (resized_blocks slot twins source target p n) ≤ n
+resized_few slot twins source target p n =
+    let before : List ℕ = before_of slot twins p.name in
     let kept : List ℕ = kept_blocks before p.blocks n in
     let free : List ℕ = free_of slot source target in
     omega (
@@ -99,27 +100,27 @@ resized_few slot source target p n =
     )
 
 -- what stands behind the source's blocks
-abbrev resized_rest : ℕ → Layout → Layout → Part → ℕ → List ℕ
-resized_rest slot source target p n =
-    let before = before_of slot source.parts p.name in
+abbrev resized_rest : ℕ → List Part → Layout → Layout → Part → ℕ → List ℕ
+resized_rest slot twins source target p n =
+    let before = before_of slot twins p.name in
     take (n - length before) (drop (length before) p.blocks)
     ++ take (n - length (kept_blocks before p.blocks n)) (free_of slot source target)
 
-resized_split : (slot : ℕ) (source target : Layout) (p : Part) (n : ℕ)
-    → resized_blocks slot source target p n ≡ take n (before_of slot source.parts p.name)
-    ++ resized_rest slot source target p n
-resized_split slot source target p n =
-    let before : List ℕ = before_of slot source.parts p.name in
+resized_split : (slot : ℕ) (twins : List Part) (source target : Layout) (p : Part) (n : ℕ)
+    → resized_blocks slot twins source target p n ≡ take n (before_of slot twins p.name)
+    ++ resized_rest slot twins source target p n
+resized_split slot twins source target p n =
+    let before : List ℕ = before_of slot twins p.name in
     append_assoc (take n before) (take (n - length before) (drop (length before) p.blocks))
     (take (n - length (kept_blocks before p.blocks n)) (free_of slot source target))
 
 none_taken : (k : ℕ) (xs : List ℕ) → k ≡ 0 → take k xs ≡ []
 none_taken k xs z = rw z refl
 
-rest_none : (slot : ℕ) (source target : Layout) (p : Part) (n : ℕ)
-    → n ≤ length (before_of slot source.parts p.name) → resized_rest slot source target p n ≡ []
-rest_none slot source target p n le =
-    let before : List ℕ = before_of slot source.parts p.name in
+rest_none : (slot : ℕ) (twins : List Part) (source target : Layout) (p : Part) (n : ℕ)
+    → n ≤ length (before_of slot twins p.name) → resized_rest slot twins source target p n ≡ []
+rest_none slot twins source target p n le =
+    let before : List ℕ = before_of slot twins p.name in
     let front =
     none_taken (n - length before) (drop (length before) p.blocks) (omega (arith, le)) in
     let back =
@@ -127,12 +128,13 @@ rest_none slot source target p n le =
     (omega (arith, le, length-kept_blocks before p.blocks n)) in
     rw (back, front) refl
 
-rest_fresh : (slot : ℕ) (source target : Layout) (p : Part) (n : ℕ)
+rest_fresh : (slot : ℕ) (twins : List Part) (source target : Layout) (p : Part) (n : ℕ)
     → All (λ b. Contains (source_blocks slot source) b
-    → ⊥) (drop (length (before_of slot source.parts p.name)) p.blocks)
-    → All (λ b. Contains (source_blocks slot source) b → ⊥) (resized_rest slot source target p n)
-rest_fresh slot source target p n fresh =
-    let before : List ℕ = before_of slot source.parts p.name in
+    → ⊥) (drop (length (before_of slot twins p.name)) p.blocks)
+    → All (λ b. Contains (source_blocks slot source) b → ⊥)
+    (resized_rest slot twins source target p n)
+rest_fresh slot twins source target p n fresh =
+    let before : List ℕ = before_of slot twins p.name in
     let P : ℕ → Type 0 = λ b. Contains (source_blocks slot source) b → ⊥ in
     let m : ℕ = n - length (kept_blocks before p.blocks n) in
     All-append P (take (n - length before) (drop (length before) p.blocks))
@@ -141,17 +143,18 @@ rest_fresh slot source target p n fresh =
     (all_from P (take m (free_of slot source target))
     (λ b h. free_not_source slot source target b (of_take m (free_of slot source target) b h)))
 
-resized_part_is : (slot : ℕ) (source target : Layout) (after : List Part) (p : Part) (n : ℕ)
-    → IsTargetPart slot source.parts target.parts p
-    → IsTargetPart slot source.parts after (resized_part slot source target n p)
-resized_part_is slot source target after p n is =
-    let before : List ℕ = before_of slot source.parts p.name in
-    let rest : List ℕ = resized_rest slot source target p n in
-    let split = resized_split slot source target p n in
-    let none = rest_none slot source target p n in
+resized_part_is : (slot : ℕ) (twins : List Part) (source target : Layout) (after : List Part)
+    (p : Part) (n : ℕ)
+    → IsTargetPartBeside slot twins source.parts target.parts p
+    → IsTargetPartBeside slot twins source.parts after (resized_part slot twins source target n p)
+resized_part_is slot twins source target after p n is =
+    let before : List ℕ = before_of slot twins p.name in
+    let rest : List ℕ = resized_rest slot twins source target p n in
+    let split = resized_split slot twins source target p n in
+    let none = rest_none slot twins source target p n in
     let P : ℕ → Type 0 = λ b. Contains (source_blocks slot source) b → ⊥ in
     let begins = begins_so before rest n none in
-    let fresh = behind_so before rest n none P (rest_fresh slot source target p n is.fresh) in
+    let fresh = behind_so before rest n none P (rest_fresh slot twins source target p n is.fresh) in
     record {
       begins =
           subst (λ (l : List ℕ). take (length before) l ≡ take (length l) before) (sym split)
@@ -160,54 +163,60 @@ resized_part_is slot source target after p n is =
       kept = inl (updated_is p.attributes);
     }
 
-resized_once : (slot : ℕ) (source target : Layout) (p : Part) (n : ℕ) → IsUpdate slot source target
-    → Contains (own_parts slot target.parts) p → IsDistinct (resized_blocks slot source target p n)
-resized_once slot source target p n update inside =
+resized_once : (slot : ℕ) (twins : List Part) (source target : Layout) (p : Part) (n : ℕ)
+    → IsUpdateBeside slot twins source target
+    → Contains (own_parts slot target.parts) p
+    → IsDistinct (resized_blocks slot twins source target p n)
+resized_once slot twins source target p n update inside =
     let own : List Part = own_parts slot target.parts in
     let stores : List Part = store_parts slot target.parts in
-    let before : List ℕ = before_of slot source.parts p.name in
+    let before : List ℕ = before_of slot twins p.name in
     let k : ℕ = length before in
     let kept : List ℕ = kept_blocks before p.blocks n in
     let free : List ℕ = free_of slot source target in
     let m : ℕ = n - length kept in
     let in-target = Contains-append_left own stores p inside in
     let is =
-    All-contains (IsTargetPart slot source.parts target.parts) own p update.parts.each inside in
+    All-contains (IsTargetPartBeside slot twins source.parts target.parts) own p update.parts.each
+    inside in
     let mine =
     All-contains (λ q. IsDistinct q.blocks) (own ++ stores) p
     (pieces_once (λ q. q.blocks) (own ++ stores) update.parts.once) in-target in
     let kept-once : IsDistinct kept = once_append (take n before) (take (n - k) (drop k p.blocks))
-    (once_take n before (before_once slot source.parts p.name update.own))
+    (once_take n before (before_once slot twins p.name
+    (twins_own (other_slot slot) twins source.parts update.twins_are update.own)))
     (once_take (n - k) (drop k p.blocks) (once_drop k p.blocks mine))
     (λ b c d. All-contains (λ x. Contains (source_blocks slot source) x
     → ⊥) (drop k p.blocks) b is.fresh (of_take (n - k) (drop k p.blocks) b d)
-    (before_listed slot source.parts p.name b (of_take n before b c))) in
+    (before_listed slot twins source.parts p.name b update.twins_are (of_take n before b c))) in
     once_append kept (take m free) kept-once (once_take m free (free_once slot source target))
     (λ b c d.
     let of-free = of_take m free b d in
     elim (Contains-append_cases (take n before) (take (n - k) (drop k p.blocks)) b c) [
       | inl e ↦
           free_not_source slot source target b of-free
-          (before_listed slot source.parts p.name b (of_take n before b e))
+          (before_listed slot twins source.parts p.name b update.twins_are (of_take n before b e))
       | inr e ↦
           free_not_target slot source target p b in-target of-free
           (of_drop k p.blocks b (of_take (n - k) (drop k p.blocks) b e))
     ])
 
-resized_apart : (slot : ℕ) (source target : Layout) (name : List ℕ) (p q : Part) (n : ℕ)
-    → IsUpdate slot source target → is_of_slot slot name ≡ true
+resized_apart : (slot : ℕ) (twins : List Part) (source target : Layout) (name : List ℕ) (p q : Part)
+    (n : ℕ)
+    → IsUpdateBeside slot twins source target → is_of_slot slot name ≡ true
     → Contains (own_parts slot target.parts) p → p.name ≡ name
     → Contains (own_parts slot target.parts ++ store_parts slot target.parts) q
-    → (q.name ≡ name → ⊥) → Apart q.blocks (resized_blocks slot source target p n)
-resized_apart slot source target name p q n update of inside e in-target ne =
+    → (q.name ≡ name → ⊥) → Apart q.blocks (resized_blocks slot twins source target p n)
+resized_apart slot twins source target name p q n update of inside e in-target ne =
     let own : List Part = own_parts slot target.parts in
     let stores : List Part = store_parts slot target.parts in
     let of-p : is_of_slot slot p.name ≡ true = ap (is_of_slot slot) e ∙ of in
     let other : q.name ≡ p.name → ⊥ = λ same. ne (same ∙ e) in
-    λ b hq hp. elim (resized_cases slot source target p n b hp) [
+    λ b hq hp. elim (resized_cases slot twins source target p n b hp) [
       | inl before ↦ elim (Contains-append_cases own stores q in-target) [
-        | inl mine ↦ before_not_own slot source target p.name q b update of-p mine other before hq
-        | inr store ↦ before_not_store slot source target p.name q b update store before hq
+        | inl mine ↦ before_not_own slot twins source target p.name q b update of-p mine other
+            before hq
+        | inr store ↦ before_not_store slot twins source target p.name q b update store before hq
       ]
       | inr more ↦ elim more [
         | inl former ↦
@@ -217,9 +226,10 @@ resized_apart slot source target name p q n update of inside e in-target ne =
       ]
     ]
 
-pub unchanged_keeps : (slot : ℕ) (source target : Layout) → IsUpdate slot source target
-    → Keeps slot source target target
-unchanged_keeps slot source target update =
+pub unchanged_keeps : (slot : ℕ) (twins : List Part) (source target : Layout)
+    → IsUpdateBeside slot twins source target
+    → Keeps slot twins source target target
+unchanged_keeps slot twins source target update =
     record {
       rules = update.target_rules;
       parts = update.parts;
@@ -231,16 +241,16 @@ unchanged_keeps slot source target update =
       few_runs = omega arith;
     }
 
-changed_keeps : (slot : ℕ) (source target : Layout) (name : List ℕ) (bytes : ℕ)
-    → IsUpdate slot source target → IsResized slot source target name bytes
-    → Keeps slot source target
+changed_keeps : (slot : ℕ) (twins : List Part) (source target : Layout) (name : List ℕ) (bytes : ℕ)
+    → IsUpdateBeside slot twins source target → IsResized slot twins source target name bytes
+    → Keeps slot twins source target
     (record target {
       parts =
-          changed name (resized_part slot source target (blocks_of bytes)) target.parts;
+          changed name (resized_part slot twins source target (blocks_of bytes)) target.parts;
     })
-changed_keeps slot source target name bytes update is =
+changed_keeps slot twins source target name bytes update is =
     let n : ℕ = blocks_of bytes in
-    let f : Part → Part = resized_part slot source target n in
+    let f : Part → Part = resized_part slot twins source target n in
     let parts : List Part = target.parts in
     let own : List Part = own_parts slot parts in
     let cap : ℕ = cap_of target.device in
@@ -256,9 +266,9 @@ changed_keeps slot source target name bytes update is =
       small = updated_small p.attributes rule.small;
       group = rule.group;
       blocks =
-          all_from (λ b. b < cap) (resized_blocks slot source target p n)
-          (λ b h. elim (resized_cases slot source target p n b h) [
-            | inl before ↦ before_below slot source target p.name b update before
+          all_from (λ b. b < cap) (resized_blocks slot twins source target p n)
+          (λ b h. elim (resized_cases slot twins source target p n b h) [
+            | inl before ↦ before_below slot twins source target p.name b update before
             | inr more ↦ elim more [
               | inl former ↦ All-contains (λ b. b < cap) p.blocks b rule.blocks former
               | inr free ↦ free_below_cap slot source target b free
@@ -267,19 +277,20 @@ changed_keeps slot source target name bytes update is =
     })
     (λ p c. All-contains (IsPart cap target.groups) parts p update.target_rules.parts c) in
     let well : (p : Part) → Contains own p → p.name ≡ name
-    → ChangesWell slot source.parts parts name f p = λ p c e.
+    → ChangesWell slot twins source.parts parts name f p = λ p c e.
     let own-is = All-contains (IsOwnPart slot) own p update.parts.own.each c in
-    let target-is = All-contains (IsTargetPart slot source.parts parts) own p update.parts.each c in
+    let target-is =
+    All-contains (IsTargetPartBeside slot twins source.parts parts) own p update.parts.each c in
     record {
       own = record {
         base = own-is.base;
         size =
-            omega (arith, resized_few slot source target p n, small);
+            omega (arith, resized_few slot twins source target p n, small);
         group = own-is.group;
       };
-      part = resized_part_is slot source target (changed name f parts) p n target-is;
-      once = resized_once slot source target p n update c;
-      apart = λ q h ne. resized_apart slot source target name p q n update of c e h ne;
+      part = resized_part_is slot twins source target (changed name f parts) p n target-is;
+      once = resized_once slot twins source target p n update c;
+      apart = λ q h ne. resized_apart slot twins source target name p q n update of c e h ne;
     } in record {
       rules = record {
         device = update.target_rules.device;
@@ -290,7 +301,8 @@ changed_keeps slot source target name bytes update is =
         part_names = changed_differ name f parts (λ p. refl) update.target_rules.part_names;
       };
       parts =
-          target_changed slot source.parts parts name f (λ p. refl) (λ p h. updated_is p.attributes)
+          target_changed slot twins source.parts parts name f (λ p. refl)
+          (λ p h. updated_is p.attributes)
           of update.target_rules.part_names update.parts well;
       device = refl;
       groups = refl;
@@ -303,24 +315,27 @@ changed_keeps slot source target name bytes update is =
                 update.target_rules.part_names
                 (λ p c e. omega (
                   arith,
-                  runs_few (resized_blocks slot source target p n),
-                  resized_few slot source target p
+                  runs_few (resized_blocks slot twins source target p n),
+                  resized_few slot twins source target p
                       n,
                   small,
                 )),
           );
     }
 
-pub resized_keeps : (slot : ℕ) (source target : Layout) (name : List ℕ) (bytes : ℕ)
-    → IsUpdate slot source target → IsResized slot source target name bytes
-    → Keeps slot source target (with_resized slot source target name (blocks_of bytes))
-resized_keeps slot source target name bytes update is =
+pub resized_keeps : (slot : ℕ) (twins : List Part) (source target : Layout) (name : List ℕ)
+    (bytes : ℕ)
+    → IsUpdateBeside slot twins source target → IsResized slot twins source target name bytes
+    → Keeps slot twins source target (with_resized slot twins source target name (blocks_of bytes))
+resized_keeps slot twins source target name bytes update is =
     let n : ℕ = blocks_of bytes in
     elim (cases_eq (length (blocks_named name target.parts)) n) [
       | inl same ↦
-          subst (Keeps slot source target) (sym (same_size slot source target name n same))
-          (unchanged_keeps slot source target update)
+          subst (Keeps slot twins source target)
+          (sym (same_size slot twins source target name n same))
+          (unchanged_keeps slot twins source target update)
       | inr other ↦
-          subst (Keeps slot source target) (sym (other_size slot source target name n other))
-          (changed_keeps slot source target name bytes update is)
+          subst (Keeps slot twins source target)
+          (sym (other_size slot twins source target name n other))
+          (changed_keeps slot twins source target name bytes update is)
     ]

@@ -32,47 +32,54 @@ group_own slot name (p ∷ ps) h = elim (cases_Bool (is_of_slot slot p.name)) [
       rw (other, no) (group_own slot name ps h)
 ]
 
-pub resized-bad_name : (slot : ℕ) (source target : Layout) (name : List ℕ) (bytes : ℕ)
-    → is_full slot name ≡ false → resized slot source target name bytes ≡ Err BadName
+pub resized-bad_name : (slot : ℕ) (twins : List Part) (source target : Layout) (name : List ℕ)
+    (bytes : ℕ)
+    → is_full slot name ≡ false → resized slot twins source target name bytes ≡ Err BadName
 unfolding resized
-resized-bad_name slot source target name bytes full = rw full refl
+resized-bad_name slot twins source target name bytes full = rw full refl
 
-pub resized-bad_size : (slot : ℕ) (source target : Layout) (name : List ℕ) (bytes : ℕ)
+pub resized-bad_size : (slot : ℕ) (twins : List Part) (source target : Layout) (name : List ℕ)
+    (bytes : ℕ)
     → is_full slot name ≡ true → 2 ^ 40 < bytes
-    → resized slot source target name bytes ≡ Err BadSize
+    → resized slot twins source target name bytes ≡ Err BadSize
 unfolding resized
-resized-bad_size slot source target name bytes full long = let size : leb bytes (2 ^ 40) ≡ false =
+resized-bad_size slot twins source target name bytes full long = let size : leb bytes (2 ^ 40)
+    ≡ false =
     lt-leb bytes (2 ^ 40) long in rw (full, size) refl
 
-pub resized-unknown : (slot : ℕ) (source target : Layout) (name : List ℕ) (bytes : ℕ)
+pub resized-unknown : (slot : ℕ) (twins : List Part) (source target : Layout) (name : List ℕ)
+    (bytes : ℕ)
     → is_full slot name ≡ true → bytes ≤ 2 ^ 40 → has_part name target.parts ≡ false
-    → resized slot source target name bytes ≡ Err Unknown
+    → resized slot twins source target name bytes ≡ Err Unknown
 unfolding resized
-resized-unknown slot source target name bytes full short absent =
+resized-unknown slot twins source target name bytes full short absent =
     let size : leb bytes (2 ^ 40) ≡ true = le-leb bytes (2 ^ 40) short in
     let known : has_part name (own_parts slot target.parts) ≡ false =
     has_own slot name target.parts (full_slot slot name full) ∙ absent in
     rw (full, size, known) refl
 
-pub resized-has_store : (slot : ℕ) (source target : Layout) (name : List ℕ) (bytes : ℕ)
+pub resized-has_store : (slot : ℕ) (twins : List Part) (source target : Layout) (name : List ℕ)
+    (bytes : ℕ)
     → is_full slot name ≡ true → bytes ≤ 2 ^ 40 → has_part name target.parts ≡ true
     → has_part (store_of name) target.parts ≡ true
-    → resized slot source target name bytes ≡ Err HasStore
+    → resized slot twins source target name bytes ≡ Err HasStore
 unfolding resized
-resized-has_store slot source target name bytes full short there store =
+resized-has_store slot twins source target name bytes full short there store =
     let size : leb bytes (2 ^ 40) ≡ true = le-leb bytes (2 ^ 40) short in
     let known : has_part name (own_parts slot target.parts) ≡ true =
     has_own slot name target.parts (full_slot slot name full) ∙ there in
     rw (full, size, known, store) refl
 
-pub resized-group_limit : (slot : ℕ) (source target : Layout) (name : List ℕ) (bytes sum limit : ℕ)
+pub resized-group_limit : (slot : ℕ) (twins : List Part) (source target : Layout) (name : List ℕ)
+    (bytes sum limit : ℕ)
     → is_full slot name ≡ true → bytes ≤ 2 ^ 40 → has_part name target.parts ≡ true
     → has_part (store_of name) target.parts ≡ false
     → sum ≡ resized_group_sum slot target name (blocks_of bytes)
     → limit ≡ resized_group_limit target name → is_within sum limit ≡ false
-    → resized slot source target name bytes ≡ Err (GroupLimit sum limit)
+    → resized slot twins source target name bytes ≡ Err (GroupLimit sum limit)
 unfolding resized
-resized-group_limit slot source target name bytes sum limit full short there plain sum-is limit-is
+resized-group_limit slot twins source target name bytes sum limit full short there plain sum-is
+    limit-is
     outside =
     let size : leb bytes (2 ^ 40) ≡ true = le-leb bytes (2 ^ 40) short in
     let known : has_part name (own_parts slot target.parts) ≡ true =
@@ -82,34 +89,39 @@ resized-group_limit slot source target name bytes sum limit full short there pla
     (resized_group_limit target name) ≡ false = rw (← sum-is, ← limit-is) outside in
     rw (sum-is, limit-is) (rw (full, size, known, plain, group, over) refl)
 
-pub resized-no_room : (slot : ℕ) (source target : Layout) (name : List ℕ) (bytes used cap : ℕ)
+pub resized-no_room : (slot : ℕ) (twins : List Part) (source target : Layout) (name : List ℕ)
+    (bytes used cap : ℕ)
     → is_full slot name ≡ true → bytes ≤ 2 ^ 40 → has_part name target.parts ≡ true
     → has_part (store_of name) target.parts ≡ false
     → is_within (resized_group_sum slot target name (blocks_of bytes))
     (resized_group_limit target name) ≡ true
-    → used ≡ resized_in_use slot source target name (blocks_of bytes) → cap ≡ cap_of target.device
-    → cap < used → resized slot source target name bytes ≡ Err (NoRoom used cap)
+    → used ≡ resized_in_use slot twins source target name (blocks_of bytes)
+    → cap ≡ cap_of target.device
+    → cap < used → resized slot twins source target name bytes ≡ Err (NoRoom used cap)
 unfolding resized
-resized-no_room slot source target name bytes used cap full short there plain within used-is cap-is
+resized-no_room slot twins source target name bytes used cap full short there plain within used-is
+    cap-is
     over =
     let size : leb bytes (2 ^ 40) ≡ true = le-leb bytes (2 ^ 40) short in
     let known : has_part name (own_parts slot target.parts) ≡ true =
     has_own slot name target.parts (full_slot slot name full) ∙ there in
     let group = group_own slot name target.parts (full_slot slot name full) in
-    let more : cap_of target.device < resized_in_use slot source target name (blocks_of bytes) =
+    let more : cap_of target.device < resized_in_use slot twins source target name
+    (blocks_of bytes) =
     rw (← used-is, ← cap-is) over in
-    let room : leb (resized_in_use slot source target name (blocks_of bytes)) (cap_of target.device)
+    let room : leb (resized_in_use slot twins source target name (blocks_of bytes))
+    (cap_of target.device)
     ≡ false =
-    lt-leb (resized_in_use slot source target name (blocks_of bytes)) (cap_of target.device)
+    lt-leb (resized_in_use slot twins source target name (blocks_of bytes)) (cap_of target.device)
     more in
     rw (used-is, cap-is) (rw (full, size, known, plain, group, within, room) refl)
 
-pub resized-ok : (slot : ℕ) (source target : Layout) (name : List ℕ) (bytes : ℕ)
-    → IsResized slot source target name bytes
-    → resized slot source target name bytes
-    ≡ Ok (with_resized slot source target name (blocks_of bytes))
+pub resized-ok : (slot : ℕ) (twins : List Part) (source target : Layout) (name : List ℕ) (bytes : ℕ)
+    → IsResized slot twins source target name bytes
+    → resized slot twins source target name bytes
+    ≡ Ok (with_resized slot twins source target name (blocks_of bytes))
 unfolding resized
-resized-ok slot source target name bytes h =
+resized-ok slot twins source target name bytes h =
     let full = h.full in
     let size : leb bytes (2 ^ 40) ≡ true = le-leb bytes (2 ^ 40) h.size in
     let known : has_part name (own_parts slot target.parts) ≡ true =
@@ -117,18 +129,20 @@ resized-ok slot source target name bytes h =
     let plain = h.plain in
     let group = group_own slot name target.parts (full_slot slot name full) in
     let within = h.within in
-    let room : leb (resized_in_use slot source target name (blocks_of bytes)) (cap_of target.device)
+    let room : leb (resized_in_use slot twins source target name (blocks_of bytes))
+    (cap_of target.device)
     ≡ true =
-    le-leb (resized_in_use slot source target name (blocks_of bytes)) (cap_of target.device)
+    le-leb (resized_in_use slot twins source target name (blocks_of bytes)) (cap_of target.device)
     h.room in
     rw (full, size, known, plain, group, within, room) refl
 
-pub resized_passes : (slot : ℕ) (source target : Layout) (name : List ℕ) (bytes : ℕ) (l : Layout)
-    → resized slot source target name bytes ≡ Ok l
-    → IsResized slot source target name bytes
-    × (l ≡ with_resized slot source target name (blocks_of bytes))
+pub resized_passes : (slot : ℕ) (twins : List Part) (source target : Layout) (name : List ℕ)
+    (bytes : ℕ) (l : Layout)
+    → resized slot twins source target name bytes ≡ Ok l
+    → IsResized slot twins source target name bytes
+    × (l ≡ with_resized slot twins source target name (blocks_of bytes))
 unfolding resized
-resized_passes slot source target name bytes l h =
+resized_passes slot twins source target name bytes l h =
     let own : List Part = own_parts slot target.parts in
     let a = unless_ok _ _ _ l h in
     let b = unless_ok _ _ _ l a.1 in
@@ -138,15 +152,15 @@ resized_passes slot source target name bytes l h =
     let f = unless_ok _ _ _ l e.1 in
     let group = group_own slot name target.parts (full_slot slot name a.0) in
     let is =
-    ok_same (with_resized slot source target name (blocks_of bytes)) l
-    (Ok (with_resized slot source target name (blocks_of bytes))) refl f.1 in (
+    ok_same (with_resized slot twins source target name (blocks_of bytes)) l
+    (Ok (with_resized slot twins source target name (blocks_of bytes))) refl f.1 in (
       record {
         full = a.0;
         size = leb-true bytes (2 ^ 40) b.0;
         known = sym (has_own slot name target.parts (full_slot slot name a.0)) ∙ c.0;
         plain = not-true (has_part (store_of name) target.parts) d.0;
         within = rw (← group) e.0;
-        room = leb-true (resized_in_use slot source target name (blocks_of bytes))
+        room = leb-true (resized_in_use slot twins source target name (blocks_of bytes))
             (cap_of target.device) f.0;
       },
       is,

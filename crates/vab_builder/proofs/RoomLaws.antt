@@ -20,7 +20,7 @@ use Rattle.vab_layout.specs.declared.layout.Part.{Part}
 use Rattle.vab_layout.specs.declared.layout.Layout.{Layout}
 use Rattle.vab_layout.specs.Layout.{blocks_of_parts}
 use Rattle.vab_layout.specs.Slots.{other_slot, own_parts, store_parts, blocks_named, before_of}
-use Rattle.vab_layout.specs.Slots.{IsTargetPart, IsStorePart}
+use Rattle.vab_layout.specs.Slots.{IsTargetPartBeside, IsStorePart}
 use Rattle.vab_builder.specs.Sizes.{has_part, want_of, wants_of, wants_resized, wants_stored}
 use Rattle.vab_builder.specs.Sizes.{used_by}
 use Rattle.vab_builder.specs.Edits.{created_blocks, free_of, kept_blocks, resized_blocks}
@@ -30,7 +30,7 @@ use Rattle.vab_blocks.proofs.Contained.{of_filter, in_filter, in_piece, some_pie
 use Rattle.vab_builder.proofs.Counting.{pairs_tail, enough_free, free_same}
 use Rattle.vab_names.proofs.NameCases.{eq_name, ne_name, store_is_store, in_slot_is}
 use Rattle.vab_builder.proofs.PartLaws.{named_cases, named_is, named_own, named_none, named_listed}
-use Rattle.vab_builder.specs.Update.{IsUpdate}
+use Rattle.vab_builder.specs.Update.{AreTwins, IsUpdateBeside}
 
 -- ---- the same blocks, counted once
 
@@ -43,53 +43,67 @@ target_blocks slot target =
 
 -- the blocks of a partition that are none of the source's
 abbrev fresh_of : ℕ → List Part → Part → List ℕ
-fresh_of slot source p = drop (length (before_of slot source p.name)) p.blocks
+fresh_of slot twins p = drop (length (before_of slot twins p.name)) p.blocks
 
 abbrev stored_of : List Part → Part → List ℕ
 stored_of target p = blocks_named (store_of p.name) target
 
-abbrev counted : ℕ → Layout → Layout → List ℕ
-counted slot source target =
+abbrev counted : ℕ → List Part → Layout → Layout → List ℕ
+counted slot twins source target =
     source_blocks slot source
-    ++ (flat_map (fresh_of slot source.parts) (own_parts slot target.parts)
+    ++ (flat_map (fresh_of slot twins) (own_parts slot target.parts)
     ++ flat_map (stored_of target.parts) (own_parts slot target.parts))
 
--- blocks of the source's partition of a base name are blocks of the source
-pub before_listed : (slot : ℕ) (source : List Part) (name : List ℕ) (b : ℕ)
-    → Contains (before_of slot source name) b
-    → Contains (blocks_of_parts (own_parts (other_slot slot) source)) b
-before_listed slot source name b c =
+-- the blocks of one name are blocks of these partitions
+listed : (slot : ℕ) (twins : List Part) (name : List ℕ) (b : ℕ)
+    → Contains (before_of slot twins name) b
+    → Contains (blocks_of_parts (own_parts (other_slot slot) twins)) b
+listed slot twins name b c =
     let twin : List ℕ = in_slot (other_slot slot) name in
-    named_listed twin (own_parts (other_slot slot) source) b
+    named_listed twin (own_parts (other_slot slot) twins) b
     (subst (λ (l : List ℕ). Contains l b)
-    (sym (named_own (other_slot slot) twin source (in_slot_is (other_slot slot) name))) c)
+    (sym (named_own (other_slot slot) twin twins (in_slot_is (other_slot slot) name))) c)
+
+-- blocks of a twin are blocks of the source
+pub before_listed : (slot : ℕ) (twins source : List Part) (name : List ℕ) (b : ℕ)
+    → AreTwins twins source
+    → Contains (before_of slot twins name) b
+    → Contains (blocks_of_parts (own_parts (other_slot slot) source)) b
+before_listed slot twins source name b are c = elim are [
+  | inl all ↦ subst (λ (l : List Part). Contains (blocks_of_parts (own_parts (other_slot slot) l))
+      b)
+      all (listed slot twins name b c)
+  | inr none ↦ absurd (none_in_nil b
+      (subst (λ (l : List Part). Contains (before_of slot l name) b) none c))
+]
 
 -- a block of a target's partition is one of the source's or a fresh one
-pub begun_or_fresh : (slot : ℕ) (source target : List Part) (p : Part) (b : ℕ)
-    → IsTargetPart slot source target p → Contains p.blocks b
-    → (Contains (before_of slot source p.name) b) ⊎ (Contains (fresh_of slot source p) b)
-begun_or_fresh slot source target p b is c =
-    let k : ℕ = length (before_of slot source p.name) in
+pub begun_or_fresh : (slot : ℕ) (twins source target : List Part) (p : Part) (b : ℕ)
+    → IsTargetPartBeside slot twins source target p → Contains p.blocks b
+    → (Contains (before_of slot twins p.name) b) ⊎ (Contains (fresh_of slot twins p) b)
+begun_or_fresh slot twins source target p b is c =
+    let k : ℕ = length (before_of slot twins p.name) in
     let both : Contains (take k p.blocks ++ drop k p.blocks) b =
     rw (take-append-drop k p.blocks) c in
     elim (Contains-append_cases (take k p.blocks) (drop k p.blocks) b both) [
       | inl t ↦
-          inl (of_take (length p.blocks) (before_of slot source p.name) b
+          inl (of_take (length p.blocks) (before_of slot twins p.name) b
           (subst (λ (l : List ℕ). Contains l b) is.begins t))
       | inr d ↦ inr d
     ]
 
-counted_listed : (slot : ℕ) (source target : Layout) (b : ℕ) → IsUpdate slot source target
+counted_listed : (slot : ℕ) (twins : List Part) (source target : Layout) (b : ℕ)
+    → IsUpdateBeside slot twins source target
     → Contains (source_blocks slot source ++ target_blocks slot target) b
-    → Contains (counted slot source target) b
-counted_listed slot source target b update c =
+    → Contains (counted slot twins source target) b
+counted_listed slot twins source target b update c =
     let own : List Part = own_parts slot target.parts in
     let stores : List Part = store_parts slot target.parts in
     let old : List ℕ = source_blocks slot source in
-    let fresh : List ℕ = flat_map (fresh_of slot source.parts) own in
+    let fresh : List ℕ = flat_map (fresh_of slot twins) own in
     let kept : List ℕ = flat_map (stored_of target.parts) own in
     let from-source : Contains old b
-    → Contains (counted slot source target) b =
+    → Contains (counted slot twins source target) b =
     λ d. Contains-append_left old (fresh ++ kept) b d in
     elim (Contains-append_cases old (target_blocks slot target) b c) [
       | inl d ↦ from-source d
@@ -97,14 +111,15 @@ counted_listed slot source target b update c =
           let r = some_piece (λ p. p.blocks) (own ++ stores) b d in
           elim (Contains-append_cases own stores r.0 r.1) [
             | inl mine ↦
-                elim (begun_or_fresh slot source.parts target.parts r.0 b
-                (All-contains (IsTargetPart slot source.parts target.parts) own r.0
+                elim (begun_or_fresh slot twins source.parts target.parts r.0 b
+                (All-contains (IsTargetPartBeside slot twins source.parts target.parts) own r.0
                 update.parts.each mine) r.2) [
-                  | inl begun ↦ from-source (before_listed slot source.parts r.0.name b begun)
+                  | inl begun ↦ from-source (before_listed slot twins source.parts r.0.name b
+                      update.twins_are begun)
                   | inr new ↦
                       Contains-append_right old (fresh ++ kept) b
                       (Contains-append_left fresh kept b
-                      (in_piece (fresh_of slot source.parts) own r.0 b mine new))
+                      (in_piece (fresh_of slot twins) own r.0 b mine new))
                 ]
             | inr store ↦
                 let is =
@@ -123,25 +138,25 @@ counted_listed slot source target b update c =
           ]
     ]
 
-listed_counted : (slot : ℕ) (source target : Layout) (b : ℕ)
-    → Contains (counted slot source target) b
+listed_counted : (slot : ℕ) (twins : List Part) (source target : Layout) (b : ℕ)
+    → Contains (counted slot twins source target) b
     → Contains (source_blocks slot source ++ target_blocks slot target) b
-listed_counted slot source target b c =
+listed_counted slot twins source target b c =
     let own : List Part = own_parts slot target.parts in
     let stores : List Part = store_parts slot target.parts in
     let old : List ℕ = source_blocks slot source in
-    let fresh : List ℕ = flat_map (fresh_of slot source.parts) own in
+    let fresh : List ℕ = flat_map (fresh_of slot twins) own in
     let kept : List ℕ = flat_map (stored_of target.parts) own in
     let all : List ℕ = target_blocks slot target in
     elim (Contains-append_cases old (fresh ++ kept) b c) [
       | inl d ↦ Contains-append_left old all b d
       | inr d ↦ elim (Contains-append_cases fresh kept b d) [
         | inl new ↦
-            let r = some_piece (fresh_of slot source.parts) own b new in
+            let r = some_piece (fresh_of slot twins) own b new in
             Contains-append_right old all b
             (in_piece (λ p. p.blocks) (own ++ stores) r.0 b
             (Contains-append_left own stores r.0 r.1)
-            (of_drop (length (before_of slot source.parts r.0.name)) r.0.blocks b r.2))
+            (of_drop (length (before_of slot twins r.0.name)) r.0.blocks b r.2))
         | inr store ↦
             let r = some_piece (stored_of target.parts) own b store in
             elim (named_cases (store_of r.0.name) target.parts) [
@@ -169,53 +184,59 @@ sum_by-map : {X Y : Type 0} (f : Y → ℕ) (g : X → Y) (xs : List X)
     → sum_by f (map g xs) ≡ sum_by (λ x. f (g x)) xs
 sum_by-map f g xs = fold-map (λ a x. a + f x) g 0 xs
 
-counted_long : (slot : ℕ) (source target : Layout)
-    → length (counted slot source target)
-    ≡ used_by slot source.parts (wants_of slot source.parts target.parts)
-counted_long slot source target =
+counted_long : (slot : ℕ) (twins : List Part) (source target : Layout)
+    → length (counted slot twins source target)
+    ≡ used_by slot source.parts (wants_of slot twins target.parts)
+counted_long slot twins source target =
     let own : List Part = own_parts slot target.parts in
-    let w : Part → Want = want_of slot source.parts target.parts in
+    let w : Part → Want = want_of slot twins target.parts in
     let old : List ℕ = source_blocks slot source in
-    let fresh : List ℕ = flat_map (fresh_of slot source.parts) own in
+    let fresh : List ℕ = flat_map (fresh_of slot twins) own in
     let kept : List ℕ = flat_map (stored_of target.parts) own in
     let a = length-flat_map (λ p. p.blocks) (own_parts (other_slot slot) source.parts) in
     let b = sum-map (λ p. length p.blocks) (own_parts (other_slot slot) source.parts) in
-    let c = length-flat_map (fresh_of slot source.parts) own in
+    let c = length-flat_map (fresh_of slot twins) own in
     let d =
-    sum_by_same (λ p. length (fresh_of slot source.parts p)) (λ p. growth_of (w p)) own
-    (λ p. length-drop (length (before_of slot source.parts p.name)) p.blocks) in
+    sum_by_same (λ p. length (fresh_of slot twins p)) (λ p. growth_of (w p)) own
+    (λ p. length-drop (length (before_of slot twins p.name)) p.blocks) in
     let e = sum_by-map growth_of w own in
     let f = length-flat_map (stored_of target.parts) own in
     let g = sum_by-map (λ v. v.store) w own in
     omega (arith, a, b, c, d, e, f, g, length-append old (fresh ++ kept), length-append fresh kept)
 
 -- the free blocks and those in use are the device's
-pub room : (slot : ℕ) (source target : Layout) → IsUpdate slot source target
+pub room : (slot : ℕ) (twins : List Part) (source target : Layout)
+    → IsUpdateBeside slot twins source target
     → cap_of target.device
     ≤ length (free_of slot source target) + used_by slot source.parts
-    (wants_of slot source.parts target.parts)
-room slot source target update =
-    let enough = enough_free (cap_of target.device) (counted slot source target) in
+    (wants_of slot twins target.parts)
+room slot twins source target update =
+    let enough = enough_free (cap_of target.device) (counted slot twins source target) in
     let same =
     free_same (cap_of target.device) (source_blocks slot source ++ target_blocks slot target)
-    (counted slot source target)
-    (λ b. (counted_listed slot source target b update, listed_counted slot source target b)) in
-    omega (arith, enough, ap length same, counted_long slot source target)
+    (counted slot twins source target)
+    (λ b. (
+      counted_listed slot twins source target b update,
+      listed_counted slot twins source target
+          b,
+    )) in
+    omega (arith, enough, ap length same, counted_long slot twins source target)
 
 -- ---- of a new partition
 
-pub create_room : (slot : ℕ) (source target : Layout) (before n : ℕ) → IsUpdate slot source target
+pub create_room : (slot : ℕ) (twins : List Part) (source target : Layout) (before n : ℕ)
+    → IsUpdateBeside slot twins source target
     → used_by slot source.parts
-    (wants_of slot source.parts target.parts
+    (wants_of slot twins target.parts
     ++ record { before = before; blocks = n; store = 0 } ∷ []) ≤ cap_of target.device
     → n - before ≤ length (free_of slot source target)
-create_room slot source target before n update used =
-    let wants : List Want = wants_of slot source.parts target.parts in
+create_room slot twins source target before n update used =
+    let wants : List Want = wants_of slot twins target.parts in
     let new : Want = record { before = before; blocks = n; store = 0 } in
     omega (
       arith,
       used,
-      room slot source target update,
+      room slot twins source target update,
       sum_by_push growth_of wants new,
       sum_by_push
           (λ v. v.store) wants new,
@@ -298,16 +319,18 @@ stored_store true w n = refl
 stored_store false w n = refl
 
 -- what another size adds to what is in use
-pub resized_more : (slot : ℕ) (source target : Layout) (name : List ℕ) (n : ℕ) (p : Part)
-    → IsUpdate slot source target → Contains (own_parts slot target.parts) p → p.name ≡ name
+pub resized_more : (slot : ℕ) (twins : List Part) (source target : Layout) (name : List ℕ) (n : ℕ)
+    (p : Part)
+    → IsUpdateBeside slot twins source target → Contains (own_parts slot target.parts) p
+    → p.name ≡ name
     → used_by slot source.parts
-    (wants_resized slot source.parts target.parts name n)
-    + (length p.blocks - length (before_of slot source.parts p.name))
+    (wants_resized slot twins target.parts name n)
+    + (length p.blocks - length (before_of slot twins p.name))
     ≡ used_by slot source.parts
-    (wants_of slot source.parts target.parts) + (n - length (before_of slot source.parts p.name))
-resized_more slot source target name n p update c e =
+    (wants_of slot twins target.parts) + (n - length (before_of slot twins p.name))
+resized_more slot twins source target name n p update c e =
     let own : List Part = own_parts slot target.parts in
-    let w : Part → Want = want_of slot source.parts target.parts in
+    let w : Part → Want = want_of slot twins target.parts in
     let v : Part → Want = λ q. cond (bytes_eq q.name name) (record (w q) { blocks = n }) (w q) in
     let a = sum_by-map growth_of v own in
     let b =
@@ -339,31 +362,35 @@ length-kept_blocks before blocks n =
       length-drop (length before) blocks,
     )
 
-pub resize_room : (slot : ℕ) (source target : Layout) (name : List ℕ) (n : ℕ) (p : Part)
-    → IsUpdate slot source target → Contains (own_parts slot target.parts) p → p.name ≡ name
-    → used_by slot source.parts (wants_resized slot source.parts target.parts name n)
+pub resize_room : (slot : ℕ) (twins : List Part) (source target : Layout) (name : List ℕ) (n : ℕ)
+    (p : Part)
+    → IsUpdateBeside slot twins source target → Contains (own_parts slot target.parts) p
+    → p.name ≡ name
+    → used_by slot source.parts (wants_resized slot twins target.parts name n)
     ≤ cap_of target.device
-    → n - length (kept_blocks (before_of slot source.parts p.name) p.blocks n)
+    → n - length (kept_blocks (before_of slot twins p.name) p.blocks n)
     ≤ length (free_of slot source target)
-resize_room slot source target name n p update c e used =
+resize_room slot twins source target name n p update c e used =
     omega (
       arith,
       used,
-      room slot source target update,
-      resized_more slot source target name n p
+      room slot twins source target update,
+      resized_more slot twins source target name n p
           update c e,
-      length-kept_blocks (before_of slot source.parts p.name) p.blocks n,
+      length-kept_blocks (before_of slot twins p.name) p.blocks n,
     )
 
 -- what a store of so many blocks adds
-pub stored_more : (slot : ℕ) (source target : Layout) (name : List ℕ) (n : ℕ) (p : Part)
-    → IsUpdate slot source target → Contains (own_parts slot target.parts) p → p.name ≡ name
+pub stored_more : (slot : ℕ) (twins : List Part) (source target : Layout) (name : List ℕ) (n : ℕ)
+    (p : Part)
+    → IsUpdateBeside slot twins source target → Contains (own_parts slot target.parts) p
+    → p.name ≡ name
     → has_part (store_of name) target.parts ≡ false
-    → used_by slot source.parts (wants_stored slot source.parts target.parts name n)
-    ≡ used_by slot source.parts (wants_of slot source.parts target.parts) + n
-stored_more slot source target name n p update c e plain =
+    → used_by slot source.parts (wants_stored slot twins target.parts name n)
+    ≡ used_by slot source.parts (wants_of slot twins target.parts) + n
+stored_more slot twins source target name n p update c e plain =
     let own : List Part = own_parts slot target.parts in
-    let w : Part → Want = want_of slot source.parts target.parts in
+    let w : Part → Want = want_of slot twins target.parts in
     let v : Part → Want = λ q. cond (bytes_eq q.name name) (record (w q) { store = n }) (w q) in
     let a = sum_by-map growth_of v own in
     let b =
@@ -383,32 +410,34 @@ stored_more slot source target name n p update c e plain =
     ∙ ap length (named_none (store_of name) target.parts plain) in
     omega (arith, a, b, d, f, g, h, i, none)
 
-pub store_room : (slot : ℕ) (source target : Layout) (name : List ℕ) (n : ℕ) (p : Part)
-    → IsUpdate slot source target → Contains (own_parts slot target.parts) p → p.name ≡ name
+pub store_room : (slot : ℕ) (twins : List Part) (source target : Layout) (name : List ℕ) (n : ℕ)
+    (p : Part)
+    → IsUpdateBeside slot twins source target → Contains (own_parts slot target.parts) p
+    → p.name ≡ name
     → has_part (store_of name) target.parts ≡ false
-    → used_by slot source.parts (wants_stored slot source.parts target.parts name n)
+    → used_by slot source.parts (wants_stored slot twins target.parts name n)
     ≤ cap_of target.device → n ≤ length (free_of slot source target)
-store_room slot source target name n p update c e plain used =
+store_room slot twins source target name n p update c e plain used =
     omega (
       arith,
       used,
-      room slot source target update,
-      stored_more slot source target name n p
+      room slot twins source target update,
+      stored_more slot twins source target name n p
           update c e plain,
     )
 
 -- ---- so each partition and each store has as many blocks as it was asked to have
 
-pub created_size : (slot : ℕ) (source target : Layout) (name : List ℕ) (n : ℕ)
-    → IsUpdate slot source target
+pub created_size : (slot : ℕ) (twins : List Part) (source target : Layout) (name : List ℕ) (n : ℕ)
+    → IsUpdateBeside slot twins source target
     → used_by slot source.parts
-    (wants_of slot source.parts target.parts
-    ++ record { before = length (before_of slot source.parts name); blocks = n; store = 0 } ∷ [])
-    ≤ cap_of target.device → length (created_blocks slot source target name n) ≡ n
-created_size slot source target name n update used =
-    let before : List ℕ = before_of slot source.parts name in
+    (wants_of slot twins target.parts
+    ++ record { before = length (before_of slot twins name); blocks = n; store = 0 } ∷ [])
+    ≤ cap_of target.device → length (created_blocks slot twins source target name n) ≡ n
+created_size slot twins source target name n update used =
+    let before : List ℕ = before_of slot twins name in
     let free : List ℕ = free_of slot source target in
-    let enough = create_room slot source target (length before) n update used in
+    let enough = create_room slot twins source target (length before) n update used in
     omega (
       arith,
       enough,
@@ -418,32 +447,36 @@ created_size slot source target name n update used =
       length-take (n - length before) free,
     )
 
-pub resized_size : (slot : ℕ) (source target : Layout) (name : List ℕ) (n : ℕ) (p : Part)
-    → IsUpdate slot source target → Contains (own_parts slot target.parts) p → p.name ≡ name
-    → used_by slot source.parts (wants_resized slot source.parts target.parts name n)
-    ≤ cap_of target.device → length (resized_blocks slot source target p n) ≡ n
-resized_size slot source target name n p update c e used =
-    let kept : List ℕ = kept_blocks (before_of slot source.parts p.name) p.blocks n in
+pub resized_size : (slot : ℕ) (twins : List Part) (source target : Layout) (name : List ℕ) (n : ℕ)
+    (p : Part)
+    → IsUpdateBeside slot twins source target → Contains (own_parts slot target.parts) p
+    → p.name ≡ name
+    → used_by slot source.parts (wants_resized slot twins target.parts name n)
+    ≤ cap_of target.device → length (resized_blocks slot twins source target p n) ≡ n
+resized_size slot twins source target name n p update c e used =
+    let kept : List ℕ = kept_blocks (before_of slot twins p.name) p.blocks n in
     let free : List ℕ = free_of slot source target in
-    let enough = resize_room slot source target name n p update c e used in
+    let enough = resize_room slot twins source target name n p update c e used in
     omega (
       arith,
       enough,
       length-append kept (take (n - length kept) free),
       length-take
           (n - length kept) free,
-      length-kept_blocks (before_of slot source.parts p.name) p.blocks n,
+      length-kept_blocks (before_of slot twins p.name) p.blocks n,
     )
 
-pub stored_size : (slot : ℕ) (source target : Layout) (name : List ℕ) (n : ℕ) (p : Part)
-    → IsUpdate slot source target → Contains (own_parts slot target.parts) p → p.name ≡ name
+pub stored_size : (slot : ℕ) (twins : List Part) (source target : Layout) (name : List ℕ) (n : ℕ)
+    (p : Part)
+    → IsUpdateBeside slot twins source target → Contains (own_parts slot target.parts) p
+    → p.name ≡ name
     → has_part (store_of name) target.parts ≡ false
-    → used_by slot source.parts (wants_stored slot source.parts target.parts name n)
+    → used_by slot source.parts (wants_stored slot twins target.parts name n)
     ≤ cap_of target.device → length (take n (free_of slot source target)) ≡ n
-stored_size slot source target name n p update c e plain used =
+stored_size slot twins source target name n p update c e plain used =
     omega (
       arith,
-      store_room slot source target name n p update c e plain used,
+      store_room slot twins source target name n p update c e plain used,
       length-take n
           (free_of slot source target),
     )

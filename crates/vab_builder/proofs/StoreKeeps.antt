@@ -22,7 +22,7 @@ use Rattle.vab_blocks.specs.Runs.{runs_of}
 use Rattle.vab_layout.specs.Layout.{blocks_of_parts}
 use Rattle.vab_layout.specs.Rules.{IsPart}
 use Rattle.vab_layout.specs.Slots.{other_slot, own_parts, store_parts, is_updated, IsDistinct}
-use Rattle.vab_layout.specs.Slots.{IsOwnPart, IsTarget, IsTargetPart, IsStorePart}
+use Rattle.vab_layout.specs.Slots.{IsOwnPart, IsTargetBeside, IsTargetPartBeside, IsStorePart}
 use Rattle.vab_builder.specs.Import.{stores_group}
 use Rattle.vab_builder.specs.Edits.{free_of, changed, updated, store_part, store_blocks, with_group}
 use Rattle.vab_builder.specs.Edits.{with_store}
@@ -41,21 +41,25 @@ use Rattle.vab_builder.proofs.ChangedTarget.{target_changed, changed_own, change
 use Rattle.vab_builder.proofs.ChangedTarget.{changed_all, changed_differ, changed_no_name}
 use Rattle.vab_builder.proofs.ChangedTarget.{apart_pair, either_by}
 use Rattle.vab_builder.proofs.Keeps.{Keeps}
-use Rattle.vab_builder.specs.Update.{IsUpdate}
+use Rattle.vab_builder.specs.Update.{IsUpdateBeside}
 use Rattle.vab_builder.specs.Passes.{IsStored}
 
 -- ---- the partition is marked as updated
 
-updated_target : (slot : ℕ) (source target : Layout) (name : List ℕ) → IsUpdate slot source target
-    → is_of_slot slot name ≡ true → IsTarget slot source.parts (changed name updated target.parts)
-updated_target slot source target name update of =
+updated_target : (slot : ℕ) (twins : List Part) (source target : Layout) (name : List ℕ)
+    → IsUpdateBeside slot twins source target
+    → is_of_slot slot name ≡ true
+    → IsTargetBeside slot twins source.parts (changed name updated target.parts)
+updated_target slot twins source target name update of =
     let parts : List Part = target.parts in
     let own : List Part = own_parts slot parts in
     let stores : List Part = store_parts slot parts in
-    target_changed slot source.parts parts name updated (λ p. refl) (λ p h. updated_is p.attributes)
+    target_changed slot twins source.parts parts name updated (λ p. refl)
+    (λ p h. updated_is p.attributes)
     of update.target_rules.part_names update.parts (λ p c e.
     let own-is = All-contains (IsOwnPart slot) own p update.parts.own.each c in
-    let is = All-contains (IsTargetPart slot source.parts parts) own p update.parts.each c in
+    let is =
+    All-contains (IsTargetPartBeside slot twins source.parts parts) own p update.parts.each c in
     record {
       own = record { base = own-is.base; size = own-is.size; group = own-is.group };
       part = record { begins = is.begins; fresh = is.fresh; kept = inl (updated_is p.attributes) };
@@ -103,29 +107,30 @@ pieces_stored own stores s once own-once apart =
     subst (λ (l : List Part). IsDistinct (blocks_of_parts l)) (append_assoc own stores (s ∷ []))
     (once_pieces f (all ++ s ∷ []) each pairs)
 
-target_stored : (slot : ℕ) (source parts : List Part) (s : Part) → is_of_slot slot s.name ≡ false
-    → is_store slot s.name ≡ true → IsTarget slot source parts
+target_stored : (slot : ℕ) (twins source parts : List Part) (s : Part)
+    → is_of_slot slot s.name ≡ false
+    → is_store slot s.name ≡ true → IsTargetBeside slot twins source parts
     → IsStorePart slot source (parts ++ s ∷ []) s → IsDistinct s.blocks
     → ((q : Part) → Contains (own_parts slot parts ++ store_parts slot parts) q
     → Apart q.blocks s.blocks)
     → ((p : Part) → Contains (own_parts slot parts) p
     → (IsTrue (is_updated p)) ⊎ (s.name ≡ store_of p.name → ⊥))
-    → IsTarget slot source (parts ++ s ∷ [])
-target_stored slot source parts s other of is store once apart marked =
+    → IsTargetBeside slot twins source (parts ++ s ∷ [])
+target_stored slot twins source parts s other of is store once apart marked =
     let own : List Part = own_parts slot parts in
     let stores : List Part = store_parts slot parts in
     let after : List Part = parts ++ s ∷ [] in
     let own-is = stored_own slot parts s other in
     let stores-are = stored_stores slot parts s of in
-    target_made slot source after
+    target_made slot twins source after
     (rw own-is is.own.each)
     (rw own-is is.own.few)
-    (rw own-is (all_from (IsTargetPart slot source after) own (λ p h.
-    let rule = All-contains (IsTargetPart slot source parts) own p is.each h in
+    (rw own-is (all_from (IsTargetPartBeside slot twins source after) own (λ p h.
+    let rule = All-contains (IsTargetPartBeside slot twins source parts) own p is.each h in
     elim (marked p h) [
       | inl marks ↦ record { begins = rule.begins; fresh = rule.fresh; kept = inl marks }
       | inr ne ↦
-          target_part_among slot source parts after p rule
+          target_part_among slot twins source parts after p rule
           (λ none. All-push (λ q. q.name ≢ store_of p.name) parts s none ne)
     ])))
     (rw stores-are
@@ -216,10 +221,12 @@ updated_runs name (p ∷ ps) =
           ps,
     )
 
-pub stored_keeps : (slot : ℕ) (source target : Layout) (name : List ℕ) (bytes : ℕ)
-    → IsUpdate slot source target → IsStored slot source target name bytes
-    → Keeps slot source target (with_store slot source target name (store_blocks target name bytes))
-stored_keeps slot source target name bytes update is =
+pub stored_keeps : (slot : ℕ) (twins : List Part) (source target : Layout) (name : List ℕ)
+    (bytes : ℕ)
+    → IsUpdateBeside slot twins source target → IsStored slot twins source target name bytes
+    → Keeps slot twins source target (with_store slot source target name
+    (store_blocks target name bytes))
+stored_keeps slot twins source target name bytes update is =
     let n : ℕ = store_blocks target name bytes in
     let parts : List Part = target.parts in
     let marked : List Part = changed name updated parts in
@@ -292,8 +299,8 @@ stored_keeps slot source target name bytes update is =
             (λ k d lt same. still k d lt same);
       };
       parts =
-          target_stored slot source.parts marked s other (store_is_store slot name of)
-          (updated_target slot source target name update of) store
+          target_stored slot twins source.parts marked s other (store_is_store slot name of)
+          (updated_target slot twins source target name update of) store
           (once_take n free (free_once slot source target))
           (λ q h. store_apart slot source target name n q of h)
           (λ p h. All-contains (λ q. (IsTrue (is_updated q))

@@ -21,7 +21,7 @@ use Rattle.vab_layout.specs.Layout.{part_of, layout_of, table_of, first_device}
 use Rattle.vab_layout.proofs.LayoutLaws.{runs_few, layout_runs, table_size_is}
 use Rattle.vab_layout.specs.Slots.{groups_of_slot, own_parts, IsOwn}
 use Rattle.vab_layout.specs.Plain.{plain}
-use Rattle.vab_builder.specs.Import.{imported}
+use Rattle.vab_builder.specs.Import.{imported_by}
 use Rattle.vab_builder.proofs.SlotLaws.{default_of_no_slot}
 use Rattle.vab_builder.proofs.ImportLaws.{plain_parts, plain_groups_count}
 
@@ -52,9 +52,10 @@ pub devices_same : (t u : Table) → KeepsRules t → KeepsRules u
 devices_same t u kt ku same = devices_are t kt ∙ ap (λ (d : BlockDevice). d ∷ []) same
     ∙ sym (devices_are u ku)
 
-pub imported_device : (source : ℕ) (l : Layout) → (imported source l).device ≡ l.device
-unfolding imported
-imported_device source l = refl
+pub imported_device : (apart : Bool) (source : ℕ) (l : Layout)
+    → (imported_by apart source l).device ≡ l.device
+unfolding imported_by
+imported_device apart source l = refl
 
 pub plain_device : (slot : ℕ) (l : Layout) → (plain slot l).device ≡ l.device
 unfolding plain

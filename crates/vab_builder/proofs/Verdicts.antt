@@ -1,10 +1,10 @@
 -- What an edit answers: the refusals in their order, and what stands where there is none.
 use Rattle.std.proofs.Common.{◌≡◌, ℕ, ◌+◌, ◌^◌, ◌<◌, ◌≤◌, Bool, true, false, leb, ltb, List}
-use Rattle.std.proofs.Common.{length, refl, sym, ◌∙◌, inl, inr, Result, Ok, Err}
-use Rattle.std.specs.Prelude.{MatchResult}
+use Rattle.std.proofs.Common.{length, refl, sym, ◌∙◌, Result, Ok, Err}
 use Rattle.std.proofs.lemmas.Bool.{le-leb, lt-leb, lt-ltb, le-ltb, leb-true, ltb-true, not-true}
 use Rattle.vab_names.specs.Names.{is_full, most_partitions}
 use Rattle.vab_space.specs.Space.{blocks_of}
+use Rattle.vab_tables.specs.declared.table.Table.{Table}
 use Rattle.vab_tables.specs.Rules.{cap_of}
 use Rattle.vab_layout.specs.declared.layout.Part.{Part}
 use Rattle.vab_layout.specs.declared.layout.Layout.{Layout}
@@ -16,8 +16,7 @@ use Rattle.vab_builder.specs.declared.fault.EditFault.TheVariants.{GroupLimit, N
 use Rattle.vab_builder.specs.declared.fault.EditFault.TheVariants.{NoMemory}
 use Rattle.vab_builder.specs.Sizes.{has_part, is_within}
 use Rattle.vab_builder.specs.Edits.{unless, with_created, created}
-use Rattle.vab_builder.specs.Gives.{GivesLayout}
-use Rattle.vab_builder.specs.Update.{Refuses}
+use Rattle.vab_builder.specs.Gives.{GivesTable}
 use Rattle.vab_names.proofs.NameCases.{full_slot}
 use Rattle.vab_builder.proofs.PartLaws.{has_own}
 use Rattle.vab_builder.specs.Passes.{created_group_sum, created_group_limit}
@@ -31,55 +30,57 @@ unless_ok false fault next l h = absurd (cc)
 pub ok_same : (a l : Layout) (said : Result Layout EditFault) → said ≡ Ok a → said ≡ Ok l → l ≡ a
 ok_same a l said e h = cc
 
-gives_fault : (fault : EditFault) (said : Result Layout EditFault) → Refuses said fault
-    → GivesLayout (Err fault) said
-gives_fault NoMemory said h = tt
-gives_fault BadName said h = elim h [ inl e ↦ absurd (cc) | inr is ↦ is ]
-gives_fault BadSize said h = elim h [ inl e ↦ absurd (cc) | inr is ↦ is ]
-gives_fault Unknown said h = elim h [ inl e ↦ absurd (cc) | inr is ↦ is ]
-gives_fault Exists said h = elim h [ inl e ↦ absurd (cc) | inr is ↦ is ]
-gives_fault HasStore said h = elim h [ inl e ↦ absurd (cc) | inr is ↦ is ]
-gives_fault (TooMany n) said h = elim h [ inl e ↦ absurd (cc) | inr is ↦ is ]
-gives_fault (GroupLimit u l) said h = elim h [ inl e ↦ absurd (cc) | inr is ↦ is ]
-gives_fault (NoRoom u c) said h = elim h [ inl e ↦ absurd (cc) | inr is ↦ is ]
-gives_fault (TableFull s m) said h = elim h [ inl e ↦ absurd (cc) | inr is ↦ is ]
-
-pub gives : (r : Result Layout EditFault) (said : Result Layout EditFault)
-    → MatchResult r (λ l. said ≡ Ok l) (Refuses said) → GivesLayout r said
-gives (Ok l) said h = h
-gives (Err fault) said h = gives_fault fault said h
+-- a refusal before the table's text is measured
+pub gives_refusal : (fault : EditFault) (said : Result Layout EditFault)
+    → said ≡ Err fault
+    → (let r : Result Table EditFault = Err fault in GivesTable r said)
+gives_refusal NoMemory said h = tt
+gives_refusal BadName said h = h
+gives_refusal BadSize said h = h
+gives_refusal Unknown said h = h
+gives_refusal Exists said h = h
+gives_refusal HasStore said h = h
+gives_refusal (TooMany n) said h = h
+gives_refusal (GroupLimit u l) said h = h
+gives_refusal (NoRoom u c) said h = h
+gives_refusal (TableFull s m) said h = h
 
 -- ---- a partition more
 
-pub created-bad_name : (slot : ℕ) (source target : Layout) (name : List ℕ) (bytes : ℕ)
-    → is_full slot name ≡ false → created slot source target name bytes ≡ Err BadName
+pub created-bad_name : (slot : ℕ) (twins : List Part) (source target : Layout) (name : List ℕ)
+    (bytes : ℕ)
+    → is_full slot name ≡ false → created slot twins source target name bytes ≡ Err BadName
 unfolding created
-created-bad_name slot source target name bytes full = rw full refl
+created-bad_name slot twins source target name bytes full = rw full refl
 
-pub created-bad_size : (slot : ℕ) (source target : Layout) (name : List ℕ) (bytes : ℕ)
+pub created-bad_size : (slot : ℕ) (twins : List Part) (source target : Layout) (name : List ℕ)
+    (bytes : ℕ)
     → is_full slot name ≡ true → 2 ^ 40 < bytes
-    → created slot source target name bytes ≡ Err BadSize
+    → created slot twins source target name bytes ≡ Err BadSize
 unfolding created
-created-bad_size slot source target name bytes full long = let size : leb bytes (2 ^ 40) ≡ false =
+created-bad_size slot twins source target name bytes full long = let size : leb bytes (2 ^ 40)
+    ≡ false =
     lt-leb bytes (2 ^ 40) long in rw (full, size) refl
 
-pub created-exists : (slot : ℕ) (source target : Layout) (name : List ℕ) (bytes : ℕ)
+pub created-exists : (slot : ℕ) (twins : List Part) (source target : Layout) (name : List ℕ)
+    (bytes : ℕ)
     → is_full slot name ≡ true → bytes ≤ 2 ^ 40 → has_part name target.parts ≡ true
-    → created slot source target name bytes ≡ Err Exists
+    → created slot twins source target name bytes ≡ Err Exists
 unfolding created
-created-exists slot source target name bytes full short there =
+created-exists slot twins source target name bytes full short there =
     let size : leb bytes (2 ^ 40) ≡ true = le-leb bytes (2 ^ 40) short in
     let known : has_part name (own_parts slot target.parts) ≡ true =
     has_own slot name target.parts (full_slot slot name full) ∙ there in
     rw (full, size, known) refl
 
-pub created-too_many : (slot : ℕ) (source target : Layout) (name : List ℕ) (bytes : ℕ)
+pub created-too_many : (slot : ℕ) (twins : List Part) (source target : Layout) (name : List ℕ)
+    (bytes : ℕ)
     → is_full slot name ≡ true → bytes ≤ 2 ^ 40 → has_part name target.parts ≡ false
     → most_partitions ≤ length (own_parts slot target.parts)
-    → created slot source target name bytes
+    → created slot twins source target name bytes
     ≡ Err (TooMany (length (own_parts slot target.parts) + 1))
 unfolding created
-created-too_many slot source target name bytes full short absent many =
+created-too_many slot twins source target name bytes full short absent many =
     let size : leb bytes (2 ^ 40) ≡ true = le-leb bytes (2 ^ 40) short in
     let known : has_part name (own_parts slot target.parts) ≡ false =
     has_own slot name target.parts (full_slot slot name full) ∙ absent in
@@ -87,14 +88,16 @@ created-too_many slot source target name bytes full short absent many =
     le-ltb (length (own_parts slot target.parts)) most_partitions many in
     rw (full, size, known, few) refl
 
-pub created-group_limit : (slot : ℕ) (source target : Layout) (name : List ℕ) (bytes sum limit : ℕ)
+pub created-group_limit : (slot : ℕ) (twins : List Part) (source target : Layout) (name : List ℕ)
+    (bytes sum limit : ℕ)
     → is_full slot name ≡ true → bytes ≤ 2 ^ 40 → has_part name target.parts ≡ false
     → length (own_parts slot target.parts) < most_partitions
     → sum ≡ created_group_sum slot target name (blocks_of bytes)
     → limit ≡ created_group_limit slot target → is_within sum limit ≡ false
-    → created slot source target name bytes ≡ Err (GroupLimit sum limit)
+    → created slot twins source target name bytes ≡ Err (GroupLimit sum limit)
 unfolding created
-created-group_limit slot source target name bytes sum limit full short absent small sum-is limit-is
+created-group_limit slot twins source target name bytes sum limit full short absent small sum-is
+    limit-is
     outside =
     let size : leb bytes (2 ^ 40) ≡ true = le-leb bytes (2 ^ 40) short in
     let known : has_part name (own_parts slot target.parts) ≡ false =
@@ -105,35 +108,40 @@ created-group_limit slot source target name bytes sum limit full short absent sm
     (created_group_limit slot target) ≡ false = rw (← sum-is, ← limit-is) outside in
     rw (sum-is, limit-is) (rw (full, size, known, few, over) refl)
 
-pub created-no_room : (slot : ℕ) (source target : Layout) (name : List ℕ) (bytes used cap : ℕ)
+pub created-no_room : (slot : ℕ) (twins : List Part) (source target : Layout) (name : List ℕ)
+    (bytes used cap : ℕ)
     → is_full slot name ≡ true → bytes ≤ 2 ^ 40 → has_part name target.parts ≡ false
     → length (own_parts slot target.parts) < most_partitions
     → is_within (created_group_sum slot target name (blocks_of bytes))
     (created_group_limit slot target) ≡ true
-    → used ≡ created_in_use slot source target name (blocks_of bytes) → cap ≡ cap_of target.device
-    → cap < used → created slot source target name bytes ≡ Err (NoRoom used cap)
+    → used ≡ created_in_use slot twins source target name (blocks_of bytes)
+    → cap ≡ cap_of target.device
+    → cap < used → created slot twins source target name bytes ≡ Err (NoRoom used cap)
 unfolding created
-created-no_room slot source target name bytes used cap full short absent small within used-is cap-is
+created-no_room slot twins source target name bytes used cap full short absent small within used-is
+    cap-is
     over =
     let size : leb bytes (2 ^ 40) ≡ true = le-leb bytes (2 ^ 40) short in
     let known : has_part name (own_parts slot target.parts) ≡ false =
     has_own slot name target.parts (full_slot slot name full) ∙ absent in
     let few : ltb (length (own_parts slot target.parts)) most_partitions ≡ true =
     lt-ltb (length (own_parts slot target.parts)) most_partitions small in
-    let more : cap_of target.device < created_in_use slot source target name (blocks_of bytes) =
+    let more : cap_of target.device < created_in_use slot twins source target name
+    (blocks_of bytes) =
     rw (← used-is, ← cap-is) over in
-    let room : leb (created_in_use slot source target name (blocks_of bytes)) (cap_of target.device)
+    let room : leb (created_in_use slot twins source target name (blocks_of bytes))
+    (cap_of target.device)
     ≡ false =
-    lt-leb (created_in_use slot source target name (blocks_of bytes)) (cap_of target.device)
+    lt-leb (created_in_use slot twins source target name (blocks_of bytes)) (cap_of target.device)
     more in
     rw (used-is, cap-is) (rw (full, size, known, few, within, room) refl)
 
-pub created-ok : (slot : ℕ) (source target : Layout) (name : List ℕ) (bytes : ℕ)
-    → IsCreated slot source target name bytes
-    → created slot source target name bytes
-    ≡ Ok (with_created slot source target name (blocks_of bytes))
+pub created-ok : (slot : ℕ) (twins : List Part) (source target : Layout) (name : List ℕ) (bytes : ℕ)
+    → IsCreated slot twins source target name bytes
+    → created slot twins source target name bytes
+    ≡ Ok (with_created slot twins source target name (blocks_of bytes))
 unfolding created
-created-ok slot source target name bytes h =
+created-ok slot twins source target name bytes h =
     let full = h.full in
     let size : leb bytes (2 ^ 40) ≡ true = le-leb bytes (2 ^ 40) h.size in
     let known : has_part name (own_parts slot target.parts) ≡ false =
@@ -141,18 +149,20 @@ created-ok slot source target name bytes h =
     let few : ltb (length (own_parts slot target.parts)) most_partitions ≡ true =
     lt-ltb (length (own_parts slot target.parts)) most_partitions h.few in
     let within = h.within in
-    let room : leb (created_in_use slot source target name (blocks_of bytes)) (cap_of target.device)
+    let room : leb (created_in_use slot twins source target name (blocks_of bytes))
+    (cap_of target.device)
     ≡ true =
-    le-leb (created_in_use slot source target name (blocks_of bytes)) (cap_of target.device)
+    le-leb (created_in_use slot twins source target name (blocks_of bytes)) (cap_of target.device)
     h.room in
     rw (full, size, known, few, within, room) refl
 
-pub created_passes : (slot : ℕ) (source target : Layout) (name : List ℕ) (bytes : ℕ) (l : Layout)
-    → created slot source target name bytes ≡ Ok l
-    → IsCreated slot source target name bytes
-    × (l ≡ with_created slot source target name (blocks_of bytes))
+pub created_passes : (slot : ℕ) (twins : List Part) (source target : Layout) (name : List ℕ)
+    (bytes : ℕ) (l : Layout)
+    → created slot twins source target name bytes ≡ Ok l
+    → IsCreated slot twins source target name bytes
+    × (l ≡ with_created slot twins source target name (blocks_of bytes))
 unfolding created
-created_passes slot source target name bytes l h =
+created_passes slot twins source target name bytes l h =
     let own : List Part = own_parts slot target.parts in
     let a = unless_ok _ _ _ l h in
     let b = unless_ok _ _ _ l a.1 in
@@ -161,8 +171,8 @@ created_passes slot source target name bytes l h =
     let e = unless_ok _ _ _ l d.1 in
     let f = unless_ok _ _ _ l e.1 in
     let is =
-    ok_same (with_created slot source target name (blocks_of bytes)) l
-    (Ok (with_created slot source target name (blocks_of bytes))) refl f.1 in (
+    ok_same (with_created slot twins source target name (blocks_of bytes)) l
+    (Ok (with_created slot twins source target name (blocks_of bytes))) refl f.1 in (
       record {
         full = a.0;
         size = leb-true bytes (2 ^ 40) b.0;
@@ -170,7 +180,7 @@ created_passes slot source target name bytes l h =
             ∙ not-true (has_part name own) c.0;
         few = ltb-true (length own) most_partitions d.0;
         within = e.0;
-        room = leb-true (created_in_use slot source target name (blocks_of bytes))
+        room = leb-true (created_in_use slot twins source target name (blocks_of bytes))
             (cap_of target.device) f.0;
       },
       is,

@@ -35,30 +35,30 @@ free_of slot source target =
     (blocks_of_parts (own_parts (other_slot slot) source.parts)
     ++ blocks_of_parts (own_parts slot target.parts ++ store_parts slot target.parts))
 
--- a new partition of n blocks: the source's of the same base name, as many as there are, and then
--- the lowest free ones
-abbrev pub created_blocks : ℕ → Layout → Layout → List ℕ → ℕ → List ℕ
-created_blocks slot source target name n =
-    let before = before_of slot source.parts name in
+-- a new partition of n blocks: those of its twin, the source's of the same base name, as many as
+-- there are, and then the lowest free ones
+abbrev pub created_blocks : ℕ → List Part → Layout → Layout → List ℕ → ℕ → List ℕ
+created_blocks slot twins source target name n =
+    let before = before_of slot twins name in
     take n before ++ take (n - length before) (free_of slot source target)
 
--- another size: the source's blocks, then the former fresh ones, and then the lowest free ones
+-- another size: its twin's blocks, then the former fresh ones, and then the lowest free ones
 abbrev pub kept_blocks : List ℕ → List ℕ → ℕ → List ℕ
 kept_blocks before blocks n =
     take n before ++ take (n - length before) (drop (length before) blocks)
 
-abbrev pub resized_blocks : ℕ → Layout → Layout → Part → ℕ → List ℕ
-resized_blocks slot source target p n =
-    let kept = kept_blocks (before_of slot source.parts p.name) p.blocks n in
+abbrev pub resized_blocks : ℕ → List Part → Layout → Layout → Part → ℕ → List ℕ
+resized_blocks slot twins source target p n =
+    let kept = kept_blocks (before_of slot twins p.name) p.blocks n in
     kept ++ take (n - length kept) (free_of slot source target)
 
 -- the blocks of the partition of this name at another size
-abbrev pub resized_to : ℕ → Layout → Layout → List ℕ → ℕ → List ℕ
-resized_to slot source target name n =
-    kept_blocks (before_of slot source.parts name) (blocks_named name target.parts) n
+abbrev pub resized_to : ℕ → List Part → Layout → Layout → List ℕ → ℕ → List ℕ
+resized_to slot twins source target name n =
+    kept_blocks (before_of slot twins name) (blocks_named name target.parts) n
     ++ take
     (n - length
-    (kept_blocks (before_of slot source.parts name) (blocks_named name target.parts) n))
+    (kept_blocks (before_of slot twins name) (blocks_named name target.parts) n))
     (free_of slot source target)
 
 -- ---- layouts
@@ -74,19 +74,19 @@ with_group group groups =
     if list_any (λ g. bytes_eq g.name group.name) groups then groups else groups ++ group ∷ []
 
 -- read-only and updated
-abbrev pub created_part : ℕ → Layout → Layout → List ℕ → ℕ → Part
-created_part slot source target name n =
+abbrev pub created_part : ℕ → List Part → Layout → Layout → List ℕ → ℕ → Part
+created_part slot twins source target name n =
     record {
       name = name;
       attributes = 5;
       group =
           first_group (own_groups slot target.groups);
-      blocks = created_blocks slot source target name n;
+      blocks = created_blocks slot twins source target name n;
     }
 
-abbrev pub with_created : ℕ → Layout → Layout → List ℕ → ℕ → Layout
-with_created slot source target name n = record target {
-  parts = target.parts ++ created_part slot source target name n ∷ [];
+abbrev pub with_created : ℕ → List Part → Layout → Layout → List ℕ → ℕ → Layout
+with_created slot twins source target name n = record target {
+  parts = target.parts ++ created_part slot twins source target name n ∷ [];
   groups =
       if bytes_eq (first_group (own_groups slot target.groups)) default_name then with_group
       default_group target.groups else target.groups;
@@ -99,15 +99,19 @@ changed name change parts = map (λ p. if bytes_eq p.name name then change p els
 abbrev pub updated : Part → Part
 updated p = record p { attributes = bit_or p.attributes 4 }
 
-abbrev pub resized_part : ℕ → Layout → Layout → ℕ → Part → Part
-resized_part slot source target n p =
-    record p { attributes = bit_or p.attributes 4; blocks = resized_blocks slot source target p n }
+abbrev pub resized_part : ℕ → List Part → Layout → Layout → ℕ → Part → Part
+resized_part slot twins source target n p =
+    record p {
+      attributes = bit_or p.attributes 4;
+      blocks = resized_blocks slot twins source target
+          p n;
+    }
 
-abbrev pub with_resized : ℕ → Layout → Layout → List ℕ → ℕ → Layout
-with_resized slot source target name n =
+abbrev pub with_resized : ℕ → List Part → Layout → Layout → List ℕ → ℕ → Layout
+with_resized slot twins source target name n =
     if length (blocks_named name target.parts) == n then target else record target {
       parts =
-          changed name (resized_part slot source target n) target.parts;
+          changed name (resized_part slot twins source target n) target.parts;
     }
 
 abbrev pub with_deleted : Layout → List ℕ → Layout
@@ -162,17 +166,17 @@ abbrev pub group_named : List ℕ → List Part → List ℕ
 group_named name [] = default_name
 group_named name (p ∷ ps) = if bytes_eq p.name name then p.group else group_named name ps
 
-unfoldable pub created : ℕ → Layout → Layout → List ℕ → ℕ → Result Layout EditFault
-created slot source target name bytes =
+unfoldable pub created : ℕ → List Part → Layout → Layout → List ℕ → ℕ → Result Layout EditFault
+created slot twins source target name bytes =
     let own = own_parts slot target.parts in
     let n = blocks_of bytes in
     let group = first_group (own_groups slot target.groups) in
     let sum = group_sum_of (sizes_in group name n own ++ n ∷ []) in
     let used =
     used_by slot source.parts
-    (wants_of slot source.parts target.parts
+    (wants_of slot twins target.parts
     ++ record {
-      before = length (before_of slot source.parts name);
+      before = length (before_of slot twins name);
       blocks = n;
       store =
           0;
@@ -184,15 +188,15 @@ created slot source target name bytes =
     (unless (is_within sum (limit_of target.groups group))
     (GroupLimit sum (limit_of target.groups group))
     (unless (nat_le used (cap_of target.device)) (NoRoom used (cap_of target.device))
-    (Ok (with_created slot source target name n)))))))
+    (Ok (with_created slot twins source target name n)))))))
 
-unfoldable pub resized : ℕ → Layout → Layout → List ℕ → ℕ → Result Layout EditFault
-resized slot source target name bytes =
+unfoldable pub resized : ℕ → List Part → Layout → Layout → List ℕ → ℕ → Result Layout EditFault
+resized slot twins source target name bytes =
     let own = own_parts slot target.parts in
     let n = blocks_of bytes in
     let group = group_named name own in
     let sum = group_sum_of (sizes_in group name n own) in
-    let used = used_by slot source.parts (wants_resized slot source.parts target.parts name n) in
+    let used = used_by slot source.parts (wants_resized slot twins target.parts name n) in
     unless (is_full slot name) BadName
     (unless (nat_le bytes (2 ^ 40)) BadSize
     (unless (is_known slot target name) Unknown
@@ -200,7 +204,7 @@ resized slot source target name bytes =
     (unless (is_within sum (limit_of target.groups group))
     (GroupLimit sum (limit_of target.groups group))
     (unless (nat_le used (cap_of target.device)) (NoRoom used (cap_of target.device))
-    (Ok (with_resized slot source target name n)))))))
+    (Ok (with_resized slot twins source target name n)))))))
 
 unfoldable pub deleted : ℕ → Layout → List ℕ → Result Layout EditFault
 deleted slot target name =
@@ -209,10 +213,10 @@ deleted slot target name =
     (unless (is_plain target name) HasStore
     (Ok (with_deleted target name))))
 
-unfoldable pub stored : ℕ → Layout → Layout → List ℕ → ℕ → Result Layout EditFault
-stored slot source target name bytes =
+unfoldable pub stored : ℕ → List Part → Layout → Layout → List ℕ → ℕ → Result Layout EditFault
+stored slot twins source target name bytes =
     let n = store_blocks target name bytes in
-    let used = used_by slot source.parts (wants_stored slot source.parts target.parts name n) in
+    let used = used_by slot source.parts (wants_stored slot twins target.parts name n) in
     unless (is_full slot name) BadName
     (unless (nat_le bytes (2 ^ 40) && (bytes == 0 || nat_lt 1 (blocks_of bytes))) BadSize
     (unless (is_known slot target name) Unknown
@@ -221,16 +225,27 @@ stored slot source target name bytes =
     (Ok (with_store slot source target name n))))))
 
 -- what an edit makes of the target, before its table's text is measured
+abbrev pub changed_beside : ℕ → List Part → Layout → Layout → Edit → Result Layout EditFault
+changed_beside slot twins source target (Create name bytes) =
+    created slot twins source target name.now bytes
+changed_beside slot twins source target (Resize name bytes) =
+    resized slot twins source target name.now bytes
+changed_beside slot twins source target (Delete name) = deleted slot target name.now
+changed_beside slot twins source target (AddStore name bytes) =
+    stored slot twins source target name.now bytes
+
+-- the same, where each partition of the source may be a twin
 abbrev pub changed_by : ℕ → Layout → Layout → Edit → Result Layout EditFault
-changed_by slot source target (Create name bytes) = created slot source target name.now bytes
-changed_by slot source target (Resize name bytes) = resized slot source target name.now bytes
-changed_by slot source target (Delete name) = deleted slot target name.now
-changed_by slot source target (AddStore name bytes) = stored slot source target name.now bytes
+changed_by slot source target edit = changed_beside slot source.parts source target edit
 
 abbrev pub if_fitting : ℕ → Result Layout EditFault → Result Layout EditFault
 if_fitting max (Ok l) = fitting max l
 if_fitting max (Err fault) = Err fault
 
 -- what an edit gives
+abbrev pub edited_beside : ℕ → List Part → Layout → Layout → ℕ → Edit → Result Layout EditFault
+edited_beside slot twins source target max edit =
+    if_fitting max (changed_beside slot twins source target edit)
+
 abbrev pub edited : ℕ → Layout → Layout → ℕ → Edit → Result Layout EditFault
-edited slot source target max edit = if_fitting max (changed_by slot source target edit)
+edited slot source target max edit = edited_beside slot source.parts source target max edit

@@ -27,17 +27,3 @@ GivesTable (Err (TooMany n)) said = said ≡ Err (TooMany n)
 GivesTable (Err (GroupLimit u l)) said = said ≡ Err (GroupLimit u l)
 GivesTable (Err (NoRoom u c)) said = said ≡ Err (NoRoom u c)
 GivesTable (Err (TableFull s m)) said = said ≡ Err (TableFull s m)
-
--- the same of a layout
-abbrev pub GivesLayout : Result Layout EditFault → Result Layout EditFault → Type 0
-GivesLayout (Ok l) said = said ≡ Ok l
-GivesLayout (Err NoMemory) said = Unit {0}
-GivesLayout (Err BadName) said = said ≡ Err BadName
-GivesLayout (Err BadSize) said = said ≡ Err BadSize
-GivesLayout (Err Unknown) said = said ≡ Err Unknown
-GivesLayout (Err Exists) said = said ≡ Err Exists
-GivesLayout (Err HasStore) said = said ≡ Err HasStore
-GivesLayout (Err (TooMany n)) said = said ≡ Err (TooMany n)
-GivesLayout (Err (GroupLimit u l)) said = said ≡ Err (GroupLimit u l)
-GivesLayout (Err (NoRoom u c)) said = said ≡ Err (NoRoom u c)
-GivesLayout (Err (TableFull s m)) said = said ≡ Err (TableFull s m)

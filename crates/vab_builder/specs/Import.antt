@@ -1,5 +1,6 @@
 -- The tables that begin an update and end it.
-use Rattle.std.specs.Prelude.{List, [], ◌∷◌, ◌++◌, ℕ, map, bit_and, bit_or, if◌then◌else◌}
+use Rattle.std.specs.Prelude.{List, [], ◌∷◌, ◌++◌, ℕ, Bool, true, false, map, bit_and, bit_or}
+use Rattle.std.specs.Prelude.{if◌then◌else◌}
 use Rattle.std.specs.Str.{bytes_eq}
 use Rattle.vab_names.specs.Names.{in_slot, default_name, store_group_name}
 use Rattle.vab_tables.specs.declared.entries.Group.{Group}
@@ -34,16 +35,25 @@ twin_part slot p =
 
 -- ---- the tables
 
+-- the source's own partitions, and then their twins where the target doesn't stand apart
+abbrev pub parts_by : (apart : Bool) → ℕ → List Part → List Part
+parts_by true source parts = own_parts source parts
+parts_by false source parts =
+    own_parts source parts ++ map (twin_part (other_slot source)) (own_parts source parts)
+
 -- The target's table as an update begins, of the source's: the source's groups and their twins with
 -- the same limits between the groups of no slot,
--- and the source's partitions and then their twins.
-unfoldable pub imported : ℕ → Layout → Layout
-imported source l = record {
-  parts =
-      own_parts source l.parts ++ map (twin_part (other_slot source)) (own_parts source l.parts);
+-- and these partitions.
+unfoldable pub imported_by : (apart : Bool) → ℕ → Layout → Layout
+imported_by apart source l = record {
+  parts = parts_by apart source l.parts;
   groups =
       default_group ∷ (own_groups source l.groups
       ++ (map (twin_group (other_slot source)) (own_groups source l.groups) ++ stores_group ∷ []));
   device = l.device;
   flags = bit_or l.flags 1;
 }
+
+-- the same, with the twins
+abbrev pub imported : ℕ → Layout → Layout
+imported source l = imported_by false source l

@@ -5,3 +5,5 @@ pub mod Asked
 pub mod Passes
 pub mod Gives
 pub mod Update
+pub mod Judged
+pub mod Sums

@@ -4,6 +4,7 @@ use Rattle.std.specs.Prelude.{nat_lt, List, [], ◌∷◌, ◌++◌, length}
 use Rattle.vab_names.specs.Names.{is_full, store_of, most_partitions}
 use Rattle.vab_space.specs.Space.{blocks_of, group_sum_of}
 use Rattle.vab_tables.specs.Rules.{cap_of}
+use Rattle.vab_layout.specs.declared.layout.Part.{Part}
 use Rattle.vab_layout.specs.declared.layout.Layout.{Layout}
 use Rattle.vab_layout.specs.Plain.{own_groups}
 use Rattle.vab_layout.specs.Slots.{own_parts, before_of}
@@ -27,20 +28,21 @@ abbrev pub created_group_limit : ℕ → Layout → ℕ
 created_group_limit slot target = limit_of target.groups (created_group slot target)
 
 -- blocks in use with the partition more
-abbrev pub created_in_use : ℕ → Layout → Layout → List ℕ → ℕ → ℕ
-created_in_use slot source target name n =
+abbrev pub created_in_use : ℕ → List Part → Layout → Layout → List ℕ → ℕ → ℕ
+created_in_use slot twins source target name n =
     used_by slot source.parts
-    (wants_of slot source.parts target.parts
-    ++ record { before = length (before_of slot source.parts name); blocks = n; store = 0 } ∷ [])
+    (wants_of slot twins target.parts
+    ++ record { before = length (before_of slot twins name); blocks = n; store = 0 } ∷ [])
 
-pub record IsCreated (slot : ℕ) (source target : Layout) (name : List ℕ) (bytes : ℕ) : Type 0 where
+pub record IsCreated (slot : ℕ) (twins : List Part) (source target : Layout) (name : List ℕ)
+    (bytes : ℕ) : Type 0 where
   pub full : is_full slot name ≡ true
   pub size : bytes ≤ 2 ^ 40
   pub absent : has_part name target.parts ≡ false
   pub few : length (own_parts slot target.parts) < most_partitions
   pub within : is_within (created_group_sum slot target name (blocks_of bytes))
       (created_group_limit slot target) ≡ true
-  pub room : created_in_use slot source target name (blocks_of bytes) ≤ cap_of target.device
+  pub room : created_in_use slot twins source target name (blocks_of bytes) ≤ cap_of target.device
 
 -- ---- another size
 
@@ -53,18 +55,19 @@ abbrev pub resized_group_limit : Layout → List ℕ → ℕ
 resized_group_limit target name = limit_of target.groups (group_named name target.parts)
 
 -- blocks in use
-abbrev pub resized_in_use : ℕ → Layout → Layout → List ℕ → ℕ → ℕ
-resized_in_use slot source target name n =
-    used_by slot source.parts (wants_resized slot source.parts target.parts name n)
+abbrev pub resized_in_use : ℕ → List Part → Layout → Layout → List ℕ → ℕ → ℕ
+resized_in_use slot twins source target name n =
+    used_by slot source.parts (wants_resized slot twins target.parts name n)
 
-pub record IsResized (slot : ℕ) (source target : Layout) (name : List ℕ) (bytes : ℕ) : Type 0 where
+pub record IsResized (slot : ℕ) (twins : List Part) (source target : Layout) (name : List ℕ)
+    (bytes : ℕ) : Type 0 where
   pub full : is_full slot name ≡ true
   pub size : bytes ≤ 2 ^ 40
   pub known : has_part name target.parts ≡ true
   pub plain : has_part (store_of name) target.parts ≡ false
   pub within : is_within (resized_group_sum slot target name (blocks_of bytes))
       (resized_group_limit target name) ≡ true
-  pub room : resized_in_use slot source target name (blocks_of bytes) ≤ cap_of target.device
+  pub room : resized_in_use slot twins source target name (blocks_of bytes) ≤ cap_of target.device
 
 -- ---- a partition less
 
@@ -80,14 +83,15 @@ abbrev pub store_size : ℕ → Bool
 store_size bytes = nat_le bytes (2 ^ 40) && (bytes == 0 || nat_lt 1 (blocks_of bytes))
 
 -- blocks in use
-abbrev pub stored_in_use : ℕ → Layout → Layout → List ℕ → ℕ → ℕ
-stored_in_use slot source target name n =
-    used_by slot source.parts (wants_stored slot source.parts target.parts name n)
+abbrev pub stored_in_use : ℕ → List Part → Layout → Layout → List ℕ → ℕ → ℕ
+stored_in_use slot twins source target name n =
+    used_by slot source.parts (wants_stored slot twins target.parts name n)
 
-pub record IsStored (slot : ℕ) (source target : Layout) (name : List ℕ) (bytes : ℕ) : Type 0 where
+pub record IsStored (slot : ℕ) (twins : List Part) (source target : Layout) (name : List ℕ)
+    (bytes : ℕ) : Type 0 where
   pub full : is_full slot name ≡ true
   pub size : store_size bytes ≡ true
   pub known : has_part name target.parts ≡ true
   pub plain : has_part (store_of name) target.parts ≡ false
-  pub room : stored_in_use slot source target name (store_blocks target name bytes)
+  pub room : stored_in_use slot twins source target name (store_blocks target name bytes)
       ≤ cap_of target.device

@@ -1,5 +1,5 @@
 -- The sizes of an update's partitions and stores: numbers of blocks alone.
-use Rattle.std.specs.Prelude.{◌<◌, ◌^◌, ℕ, Bool, ◌||◌, ◌==◌, nat_le, if◌then◌else◌, List, [], ◌∷◌}
+use Rattle.std.specs.Prelude.{ℕ, Bool, ◌||◌, ◌==◌, nat_le, if◌then◌else◌, List, [], ◌∷◌}
 use Rattle.std.specs.Prelude.{length, map}
 use Rattle.std.specs.List.{filter, list_any}
 use Rattle.std.specs.Str.{bytes_eq}
@@ -18,38 +18,32 @@ has_part name parts = list_any (λ p. bytes_eq p.name name) parts
 abbrev pub source_sizes : ℕ → List Part → List ℕ
 source_sizes slot source = map (λ p. length p.blocks) (own_parts (other_slot slot) source)
 
--- what the update wants of a partition of the target
-abbrev pub want_of : ℕ → List Part → List Part → Part → Want
-want_of slot source target p =
+-- what the update wants of a partition of the target, beside its twins
+abbrev pub want_of : (slot : ℕ) → (twins target : List Part) → Part → Want
+want_of slot twins target p =
     record {
-      before = length (before_of slot source p.name);
+      before = length (before_of slot twins p.name);
       blocks = length p.blocks;
       store =
           length (blocks_named (store_of p.name) target);
     }
 
--- these are numbers of 64 bits
-pub record WantFits (slot : ℕ) (source target : List Part) (p : Part) : Type 0 where
-  pub before : length (before_of slot source p.name) < 2 ^ 64
-  pub blocks : length p.blocks < 2 ^ 64
-  pub store : length (blocks_named (store_of p.name) target) < 2 ^ 64
-
-abbrev pub wants_of : ℕ → List Part → List Part → List Want
-wants_of slot source target = map (want_of slot source target) (own_parts slot target)
+abbrev pub wants_of : (slot : ℕ) → (twins target : List Part) → List Want
+wants_of slot twins target = map (want_of slot twins target) (own_parts slot target)
 
 -- the same, where the partition of this name has so many blocks
-abbrev pub wants_resized : ℕ → List Part → List Part → List ℕ → ℕ → List Want
-wants_resized slot source target name n =
-    map (λ p. if bytes_eq p.name name then record (want_of slot source target p) { blocks = n } else
-    want_of slot source target p) (own_parts slot target)
+abbrev pub wants_resized : (slot : ℕ) → (twins target : List Part) → List ℕ → ℕ → List Want
+wants_resized slot twins target name n =
+    map (λ p. if bytes_eq p.name name then record (want_of slot twins target p) { blocks = n } else
+    want_of slot twins target p) (own_parts slot target)
 
 -- and where its store has
-abbrev pub wants_stored : ℕ → List Part → List Part → List ℕ → ℕ → List Want
-wants_stored slot source target name n =
-    map (λ p. if bytes_eq p.name name then record (want_of slot source target p) { store = n } else
-    want_of slot source target p) (own_parts slot target)
+abbrev pub wants_stored : (slot : ℕ) → (twins target : List Part) → List ℕ → ℕ → List Want
+wants_stored slot twins target name n =
+    map (λ p. if bytes_eq p.name name then record (want_of slot twins target p) { store = n } else
+    want_of slot twins target p) (own_parts slot target)
 
--- the blocks in use, by what the update wants
+-- the blocks in use: the source's, and those that the update wants
 abbrev pub used_by : ℕ → List Part → List Want → ℕ
 used_by slot source wants = used_of (source_sizes slot source) wants
 

@@ -2,9 +2,11 @@
 
 ghost use Rattle.std.specs.Prelude.{◌≡◌, ◌≤◌, ◌<◌, [], ◌∷◌, ◌++◌, length, map, All, IfOk};
 ghost use Rattle.vab_layout.specs.Rules.{IsLayout};
-ghost use Rattle.vab_layout.specs.Slots.{other_slot, own_parts, IsOwn, IsTarget, groups_of_slot};
+ghost use Rattle.vab_layout.specs.Slots.{other_slot, own_parts, twins_by, IsOwn, IsTargetBeside};
+ghost use Rattle.vab_layout.specs.Slots.{groups_of_slot};
 ghost use Rattle.vab_layout.specs.Plain.{plain, default_group, own_groups};
-ghost use Rattle.vab_builder.specs.Import.{imported, stores_group, twin_group_name, twin_group};
+ghost use Rattle.vab_builder.specs.Import.{imported_by, parts_by, stores_group, twin_group_name};
+ghost use Rattle.vab_builder.specs.Import.{twin_group};
 ghost use Rattle.vab_builder.specs.Import.{twin_part};
 
 use std::alloc::Global;
@@ -19,20 +21,27 @@ const VIRTUAL_AB: u32 = 1;
 /// Read-only and disabled, the attributes that a partition's twin has too.
 const KEPT: u32 = 9;
 
-/// The layout of the target as an update from this source begins. `NoMemory` where memory is
-/// refused.
-pub(crate) fn imported(alloc: Global, layout: &Layout, source: usize) -> Result<Layout, NoMemory>
+/// The layout of the target as an update from this source begins, with or without the target's
+/// partitions. `NoMemory` where memory is refused.
+pub(crate) fn imported(
+    alloc: Global,
+    layout: &Layout,
+    source: usize,
+    apart: bool,
+) -> Result<Layout, NoMemory>
     requires slot { source < 2 }
     requires rules { IsLayout layout.now }
     requires own { IsOwn source layout.now.parts }
-    ensures value { IfOk result (λ l. l ≡ imported source layout.now) }
+    ensures value { IfOk result (λ l. l ≡ imported_by apart source layout.now) }
     ensures rules { IfOk result IsLayout }
-    ensures target { IfOk result (λ l. IsTarget (other_slot source) layout.now.parts l.parts) }
+    ensures target { IfOk result
+        (λ l. IsTargetBeside (other_slot source) (twins_by apart layout.now.parts) layout.now.parts
+        l.parts) }
     ensures groups { IfOk result
         (λ l. groups_of_slot (other_slot source) l.groups
         ≡ groups_of_slot source layout.now.groups) }
 {
-    let parts = imported_parts(alloc, layout.parts.as_slice(), source)?;
+    let parts = imported_parts(alloc, layout.parts.as_slice(), source, apart)?;
     let groups = imported_groups(alloc, layout.groups.as_slice(), source)?;
     Ok(Layout {
         parts: Listing::from_vec(parts),
@@ -118,7 +127,7 @@ fn twin_parts(alloc: Global, parts: &[Part], slot: usize) -> Result<Vec<Part>, N
 }
 
 // The source's own partitions and then their twins in the other slot.
-fn imported_parts(alloc: Global, parts: &[Part], source: usize) -> Result<Vec<Part>, NoMemory>
+fn both_parts(alloc: Global, parts: &[Part], source: usize) -> Result<Vec<Part>, NoMemory>
     requires slot { source < 2 }
     requires long { All (λ p. 2 ≤ length p.group) (own_parts source parts.now) }
     ensures { IfOk result
@@ -129,6 +138,25 @@ fn imported_parts(alloc: Global, parts: &[Part], source: usize) -> Result<Vec<Pa
     let twins = twin_parts(alloc, all.as_slice(), other_slot(source))?;
     all.extend(twins)?;
     Ok(all)
+}
+
+// The partitions of the target's table as an update begins: the source's own, and then their twins
+// where it doesn't stand apart.
+fn imported_parts(
+    alloc: Global,
+    parts: &[Part],
+    source: usize,
+    apart: bool,
+) -> Result<Vec<Part>, NoMemory>
+    requires slot { source < 2 }
+    requires long { All (λ p. 2 ≤ length p.group) (own_parts source parts.now) }
+    ensures { IfOk result (λ v. v.items ≡ parts_by apart source parts.now) }
+{
+    if apart {
+        own_parts(alloc, parts, source)
+    } else {
+        both_parts(alloc, parts, source)
+    }
 }
 
 // ---- groups

@@ -4,6 +4,7 @@
 
 mod applied;
 mod change;
+mod counts;
 mod create;
 mod delete;
 mod edit;
@@ -11,13 +12,17 @@ mod fault;
 mod find;
 mod fitting;
 mod free;
+mod groups;
 mod imported;
+mod judge;
+mod names;
 mod parts;
 mod resize;
 mod room;
 mod sizes;
 mod store;
 mod tables;
+mod wanted;
 
 pub use applied::apply;
 pub use edit::Edit;

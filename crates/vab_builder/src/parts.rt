@@ -1,13 +1,10 @@
 //! Names, partitions and groups of an edited target.
 
-ghost use Rattle.std.specs.Prelude.{◌≡◌, ◌↔◌, ◌≤◌, ◌<◌, ◌++◌, ◌∷◌, [], take, length, IfOk, OnOk};
-ghost use Rattle.std.specs.Prelude.{IfSome, IsSome, IsTrue, not};
+ghost use Rattle.std.specs.Prelude.{◌≡◌, ◌≤◌, ◌<◌, ◌++◌, ◌∷◌, [], take, length, IfOk, OnOk, not};
 ghost use Rattle.std.specs.List.{filter};
 ghost use Rattle.std.specs.Str.{bytes_eq};
-ghost use Rattle.vab_names.specs.Names.{is_full};
 ghost use Rattle.vab_tables.specs.Rules.{NamesDiffer};
 ghost use Rattle.vab_layout.specs.Slots.{before_of, blocks_named};
-ghost use Rattle.vab_builder.specs.Sizes.{is_within};
 ghost use Rattle.vab_builder.specs.Edits.{free_of, kept_blocks, changed, updated, with_group};
 
 use crate::find::{has_group, place_of, push_before, push_named};
@@ -16,35 +13,10 @@ use std::alloc::Global;
 use vab_blocks::Blocks;
 use vab_bytes::Name36;
 use vab_layout::{Layout, Part};
-use vab_names::is_full;
 use vab_tables::{Group, NoMemory};
 
 /// The attribute of a partition that an update has changed.
 pub(crate) const UPDATED: u32 = 4;
-
-/// The most bytes of a partition or a store.
-pub(crate) const MAX_BYTES: u64 = 1 << 40;
-
-/// Whether so many bytes are within a limit, where 0 is none.
-pub(crate) fn is_within(sum: u64, limit: u64) -> bool
-    ensures { result ≡ is_within sum limit }
-{
-    limit == 0 || sum <= limit
-}
-
-/// The name, if it is a base name and the slot's suffix.
-#[tactic(auto, using(vab_names::proofs::NameCases::full_named))]
-pub(crate) fn full_name(name: &[u8], slot: usize) -> Option<Name36>
-    requires { slot < 2 }
-    ensures value { IfSome result (λ n. n ≡ name.now) }
-    ensures exact { IsSome result ↔ IsTrue (is_full slot name.now) }
-{
-    if is_full(name, slot) {
-        Name36::parse(name).ok()
-    } else {
-        None
-    }
-}
 
 /// Writes the lowest free blocks at the end, so many.
 pub(crate) fn push_free(
@@ -69,11 +41,11 @@ pub(crate) fn push_free(
     Ok(())
 }
 
-/// What a partition of the target keeps at another size: blocks of the source, and then fresh ones
+/// What a partition of the target keeps at another size: blocks of its twin, and then fresh ones
 /// that it has.
 pub(crate) fn kept_blocks(
     alloc: Global,
-    source: &[Part],
+    twins: &[Part],
     target: &[Part],
     slot: usize,
     name: &Name36,
@@ -82,11 +54,11 @@ pub(crate) fn kept_blocks(
     requires slot { slot < 2 }
     requires long { 2 ≤ length name.now }
     ensures { IfOk result (λ b. b
-        ≡ kept_blocks (before_of slot source.now name.now)
+        ≡ kept_blocks (before_of slot twins.now name.now)
         (blocks_named name.now target.now) count) }
 {
     let mut kept = Blocks::new(alloc);
-    push_before(&mut kept, source, slot, name, count)?;
+    push_before(&mut kept, twins, slot, name, count)?;
     let shared = kept.len();
     push_named(&mut kept, name.text(), target, shared, count - shared)?;
     Ok(kept)

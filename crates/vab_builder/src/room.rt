@@ -1,181 +1,126 @@
-//! What is in use, and the bytes in a group.
+//! The blocks that are in use.
 
-ghost use Rattle.std.specs.Prelude.{◌≡◌, ◌≤◌, ◌<◌, ◌^◌, ◌∷◌, [], ◌++◌, length, IfOk};
-ghost use Rattle.vab_layout.specs.Slots.{IsOwn, own_parts, before_of};
-ghost use Rattle.vab_space.specs.Space.{group_sum_of};
-ghost use Rattle.vab_builder.specs.Sizes.{sizes_in, used_by, wants_of, wants_resized, wants_stored};
-ghost use Rattle.vab_builder.specs.Passes.{created_group_sum, created_group_limit};
-ghost use Rattle.vab_builder.specs.Passes.{resized_group_sum, resized_group_limit};
-ghost use Rattle.vab_builder.specs.Update.{IsUpdate};
+ghost use Rattle.std.specs.Prelude.{◌≡◌, ◌≤◌, ◌<◌, ◌+◌, ◌^◌, length, sum_by, true, Contains};
+ghost use Rattle.vab_names.specs.Names.{is_of_slot};
+ghost use Rattle.vab_tables.specs.Rules.{cap_of, KeepsRules};
+ghost use Rattle.vab_layout.specs.Layout.{layout_of, part_of};
+ghost use Rattle.vab_layout.specs.Slots.{twins_by};
+ghost use Rattle.vab_builder.specs.Passes.{created_in_use};
+ghost use Rattle.vab_builder.specs.Sizes.{used_by, want_of};
+ghost use Rattle.vab_builder.specs.Judged.{AreTables};
+ghost use Rattle.vab_builder.specs.Sums.{own_taken, wants_changed, IsSmall};
 
-use crate::find::{count_before, first_group, group_named, limit_of};
-use crate::sizes::{sizes_in, source_sizes, wants, wants_resized, wants_stored};
-use std::alloc::Global;
+use crate::counts::{count_before, count_blocks, count_named};
+use crate::sizes::slot_blocks;
+use crate::wanted::{Change, changed_want};
 use vab_bytes::Name36;
-use vab_layout::{Layout, Part};
-use vab_space::{Want, group_sum, used};
-use vab_tables::NoMemory;
+use vab_names::{is_of_slot, store_of};
+use vab_space::{Want, used};
+use vab_tables::{Partition, Table};
 
-// Bytes in a group with a partition more, of so many blocks.
-fn created_sum(
-    alloc: Global,
-    target: &[Part],
-    slot: usize,
-    group: &Name36,
-    name: &[u8],
-    count: u64,
-) -> Result<u64, NoMemory>
-    requires slot { slot < 2 }
-    requires own { IsOwn slot target.now }
-    requires small { count ≤ 2 ^ 28 }
-    ensures { IfOk result
-        (λ s. s
-        ≡ group_sum_of
-        (sizes_in group.now name.now count (own_parts slot target.now) ++ count ∷ [])) }
+// What the update wants of a partition of the target.
+fn want(source: &Table, target: &Table, partition: &Partition, slot: usize, apart: bool) -> Want
+    requires tables { AreTables slot apart source.now target.now }
+    requires listed { Contains (target.now).partitions partition.now }
+    requires own { is_of_slot slot (partition.now).name ≡ true }
+    ensures { result ≡ want_of slot (twins_by apart (layout_of source.now).parts)
+        (layout_of target.now).parts (part_of target.now partition.now) }
 {
-    let mut sizes = sizes_in(alloc, group, name, count, target, slot)?;
-    sizes.push(count)?;
-    Ok(group_sum(&sizes))
+    Want {
+        before: count_before(source, slot, &partition.name, apart),
+        blocks: count_blocks(target, partition),
+        store: count_named(store_of(&partition.name).text(), target),
+    }
 }
 
-// Bytes in a group where the partition of this name has so many blocks.
-fn resized_sum(
-    alloc: Global,
-    target: &[Part],
+// The blocks that are in use for a partition of the target, beside those of the source; 0 where it
+// is of no slot or the other.
+fn taken(
+    source: &Table,
+    target: &Table,
+    partition: &Partition,
     slot: usize,
-    group: &Name36,
-    name: &[u8],
-    count: u64,
-) -> Result<u64, NoMemory>
-    requires slot { slot < 2 }
-    requires own { IsOwn slot target.now }
-    requires small { count ≤ 2 ^ 28 }
-    ensures { IfOk result
-        (λ s. s ≡ group_sum_of (sizes_in group.now name.now count (own_parts slot target.now))) }
+    change: &Change,
+    apart: bool,
+) -> u64
+    requires tables { AreTables slot apart source.now target.now }
+    requires listed { Contains (target.now).partitions partition.now }
+    requires small { IsSmall change.now }
+    ensures { result
+        ≡ own_taken slot (twins_by apart (layout_of source.now).parts) target.now change.now
+        partition.now }
 {
-    let sizes = sizes_in(alloc, group, name, count, target, slot)?;
-    Ok(group_sum(&sizes))
+    if is_of_slot(partition.name.text(), slot) {
+        let want = want(source, target, partition, slot, apart);
+        used(&[], &[changed_want(change, &partition.name, want)])
+    } else {
+        0
+    }
 }
 
-/// Bytes in the group of a partition more, of so many blocks, and the group's limit.
-pub(crate) fn created_group(
-    alloc: Global,
-    target: &Layout,
-    slot: usize,
-    name: &[u8],
-    count: u64,
-) -> Result<(u64, u64), NoMemory>
-    requires slot { slot < 2 }
-    requires own { IsOwn slot target.now.parts }
-    requires small { count ≤ 2 ^ 28 }
-    ensures { IfOk result (λ r. (r.0 ≡ created_group_sum slot target.now name.now count)
-        × (r.1 ≡ created_group_limit slot target.now)) }
+// The same of all partitions of the target.
+fn all_taken(source: &Table, target: &Table, slot: usize, change: &Change, apart: bool) -> u64
+    requires tables { AreTables slot apart source.now target.now }
+    requires small { IsSmall change.now }
+    ensures { result
+        ≡ sum_by
+        (own_taken slot (twins_by apart (layout_of source.now).parts) target.now change.now)
+        (target.now).partitions }
 {
-    let groups = target.groups.as_slice();
-    let group = first_group(groups, slot);
-    let sum = created_sum(alloc, target.parts.as_slice(), slot, &group, name, count)?;
-    Ok((sum, limit_of(groups, group.text())))
+    let partitions = target.partitions.as_slice();
+    let mut blocks = 0;
+    for partition in partitions {
+        blocks += taken(source, target, partition, slot, change, apart);
+    }
+    blocks
 }
 
-/// Bytes in the group of the partition of this name, where it has so many blocks, and the group's
-/// limit.
-pub(crate) fn resized_group(
-    alloc: Global,
-    target: &Layout,
+/// The blocks in use with a change.
+pub(crate) fn in_use(
+    source: &Table,
+    target: &Table,
     slot: usize,
-    name: &[u8],
-    count: u64,
-) -> Result<(u64, u64), NoMemory>
-    requires slot { slot < 2 }
-    requires own { IsOwn slot target.now.parts }
-    requires small { count ≤ 2 ^ 28 }
-    ensures { IfOk result (λ r. (r.0 ≡ resized_group_sum slot target.now name.now count)
-        × (r.1 ≡ resized_group_limit target.now name.now)) }
+    change: &Change,
+    apart: bool,
+) -> u64
+    requires tables { AreTables slot apart source.now target.now }
+    requires small { IsSmall change.now }
+    ensures is { result ≡ used_by slot (layout_of source.now).parts
+        (wants_changed slot (twins_by apart (layout_of source.now).parts)
+        (layout_of target.now).parts change.now) }
+    ensures small { result < 2 ^ 63 }
 {
-    let parts = target.parts.as_slice();
-    let group = group_named(name, parts);
-    let sum = resized_sum(alloc, parts, slot, &group, name, count)?;
-    Ok((sum, limit_of(target.groups.as_slice(), group.text())))
+    slot_blocks(source, 1 - slot) + all_taken(source, target, slot, change, apart)
 }
 
 /// The blocks in use with a partition more, of so many blocks.
-pub(crate) fn created_used(
-    alloc: Global,
-    source: &Layout,
-    target: &Layout,
+pub(crate) fn created_in_use(
+    source: &Table,
+    target: &Table,
     slot: usize,
     name: &Name36,
     count: u64,
-) -> Result<u64, NoMemory>
-    requires update { IsUpdate slot source.now target.now }
+    apart: bool,
+) -> u64
+    requires tables { AreTables slot apart source.now target.now }
     requires long { 2 ≤ length name.now }
     requires small { count ≤ 2 ^ 28 }
-    ensures { IfOk result
-        (λ u. u
-        ≡ used_by slot source.now.parts
-        (wants_of slot source.now.parts target.now.parts
-        ++ record {
-          before = length (before_of slot source.now.parts name.now);
-          blocks =
-              count;
-          store = 0;
-        } ∷ [])) }
+    ensures { result
+        ≡ created_in_use slot (twins_by apart (layout_of source.now).parts)
+        (layout_of source.now) (layout_of target.now) name.now count }
 {
-    let sizes = source_sizes(alloc, source.parts.as_slice(), slot)?;
-    let mut wants = wants(
-        alloc,
-        source.parts.as_slice(),
-        target.parts.as_slice(),
-        slot,
-    )?;
-    wants.push(Want {
-        before: count_before(source.parts.as_slice(), slot, name),
+    let want = Want {
+        before: count_before(source, slot, name, apart),
         blocks: count,
         store: 0,
-    })?;
-    Ok(used(&sizes, &wants))
+    };
+    in_use(source, target, slot, &Change::Nothing, apart) + used(&[], &[want])
 }
 
-/// The blocks in use where the partition of this name has so many.
-pub(crate) fn resized_used(
-    alloc: Global,
-    source: &Layout,
-    target: &Layout,
-    slot: usize,
-    name: &[u8],
-    count: u64,
-) -> Result<u64, NoMemory>
-    requires update { IsUpdate slot source.now target.now }
-    requires small { count ≤ 2 ^ 28 }
-    ensures { IfOk result
-        (λ u. u
-        ≡ used_by slot source.now.parts
-        (wants_resized slot source.now.parts target.now.parts name.now count)) }
+/// The blocks that the table's device has.
+pub(crate) fn capacity(table: &Table) -> u64
+    requires { KeepsRules table.now }
+    ensures { result ≡ cap_of (layout_of table.now).device }
 {
-    let (source, target) = (source.parts.as_slice(), target.parts.as_slice());
-    let sizes = source_sizes(alloc, source, slot)?;
-    let wants = wants_resized(alloc, source, target, slot, name, count)?;
-    Ok(used(&sizes, &wants))
-}
-
-/// The blocks in use where the store of the partition of this name has so many.
-pub(crate) fn stored_used(
-    alloc: Global,
-    source: &Layout,
-    target: &Layout,
-    slot: usize,
-    name: &[u8],
-    count: u64,
-) -> Result<u64, NoMemory>
-    requires update { IsUpdate slot source.now target.now }
-    requires small { count ≤ 2 ^ 29 }
-    ensures { IfOk result
-        (λ u. u
-        ≡ used_by slot source.now.parts
-        (wants_stored slot source.now.parts target.now.parts name.now count)) }
-{
-    let (source, target) = (source.parts.as_slice(), target.parts.as_slice());
-    let sizes = source_sizes(alloc, source, slot)?;
-    let wants = wants_stored(alloc, source, target, slot, name, count)?;
-    Ok(used(&sizes, &wants))
+    table.devices.as_slice()[0].cap()
 }

@@ -1,28 +1,88 @@
 //! An exception store for a partition.
 
-ghost use Rattle.std.specs.Prelude.{◌≡◌, ◌≤◌, ◌<◌, ◌^◌, ◌++◌, ◌∷◌, [], length, IfOk, MatchResult};
-ghost use Rattle.vab_names.specs.Names.{store_of, store_group_name};
-ghost use Rattle.vab_layout.specs.Slots.{blocks_named};
+ghost use Rattle.std.specs.Prelude.{◌≡◌, ◌≤◌, ◌<◌, ◌^◌, ◌++◌, ◌∷◌, [], ◌==◌, length, true, IfOk};
+ghost use Rattle.std.specs.Prelude.{if◌then◌else◌};
+ghost use Rattle.vab_names.specs.Names.{is_full, store_of, store_group_name};
+ghost use Rattle.vab_space.specs.Space.{need_of, blocks_of};
 ghost use Rattle.vab_tables.specs.Rules.{NamesDiffer};
+ghost use Rattle.vab_layout.specs.Layout.{layout_of};
+ghost use Rattle.vab_layout.specs.Slots.{twins_by, IsOwn};
 ghost use Rattle.vab_builder.specs.Import.{stores_group};
-ghost use Rattle.vab_builder.specs.Edits.{changed, store_blocks, stored, updated, with_group};
-ghost use Rattle.vab_builder.specs.Gives.{GivesLayout};
-ghost use Rattle.vab_builder.specs.Update.{IsUpdate, Refuses};
-ghost use Rattle.vab_builder.specs.Passes.{IsStored, store_size};
+ghost use Rattle.vab_builder.specs.Edits.{changed, free_of, store_blocks, stored, updated};
+ghost use Rattle.vab_builder.specs.Edits.{with_group, with_store};
+ghost use Rattle.vab_builder.specs.Judged.{AreTables, Judges};
 
+use crate::counts::{count_named, has_part};
 use crate::fault::EditFault;
-use crate::find::{count_named, has_part};
-use crate::parts::{MAX_BYTES, full_name, mark_updated, push_free, with_group};
-use crate::room::stored_used;
+use crate::find::count_part;
+use crate::names::{full_name, has_store, is_store_size, judged_name};
+use crate::parts::{mark_updated, push_free, with_group};
+use crate::room::{capacity, in_use};
+use crate::wanted::Change;
 use std::alloc::Global;
 use vab_blocks::Blocks;
 use vab_bytes::{Listing, Name36};
 use vab_layout::{Layout, Part};
 use vab_names::{store_group, store_of};
 use vab_space::{blocks, fits, need};
-use vab_tables::NoMemory;
+use vab_tables::{NoMemory, Table};
 
-/// The target with an exception store for a partition.
+// Blocks of a store of so many bytes for a partition of so many blocks; 0 bytes are as many blocks
+// as all of them may need.
+fn store_blocks(count: u64, bytes: u64) -> u64
+    requires { count ≤ 2 ^ 28 }
+    ensures { result ≡ (if bytes == 0 then need_of count else blocks_of bytes) }
+{
+    if bytes == 0 {
+        need(count)
+    } else {
+        blocks(bytes)
+    }
+}
+
+/// The first refusal of an exception store for a partition.
+pub(crate) fn store_fault(
+    source: &Table,
+    target: &Table,
+    slot: usize,
+    name: &[u8],
+    bytes: u64,
+    apart: bool,
+) -> Option<EditFault>
+    requires { AreTables slot apart source.now target.now }
+    ensures { Judges result
+        (stored slot (twins_by apart (layout_of source.now).parts)
+        (layout_of source.now) (layout_of target.now) name.now bytes) }
+{
+    let Some(name) = full_name(name, slot) else {
+        return Some(EditFault::BadName);
+    };
+    if !is_store_size(bytes) {
+        return Some(EditFault::BadSize);
+    }
+    if !has_part(name.text(), target) {
+        return Some(EditFault::Unknown);
+    }
+    if has_store(&name, target) {
+        return Some(EditFault::HasStore);
+    }
+    let count = store_blocks(count_named(name.text(), target), bytes);
+    let used = in_use(
+        source,
+        target,
+        slot,
+        &Change::Store(name.text(), count),
+        apart,
+    );
+    let cap = capacity(target);
+    if !fits(used, cap) {
+        return Some(EditFault::NoRoom(used, cap));
+    }
+    None
+}
+
+/// The target with an exception store for a partition, for which the edit was judged. `NoMemory`
+/// where memory is refused.
 pub(crate) fn add_store(
     alloc: Global,
     source: &Layout,
@@ -30,71 +90,22 @@ pub(crate) fn add_store(
     slot: usize,
     name: &[u8],
     bytes: u64,
-) -> Result<Layout, EditFault>
-    requires { IsUpdate slot source.now target }
-    ensures { GivesLayout result (stored slot source.now target name.now bytes) }
+) -> Result<Layout, NoMemory>
+    requires slot { slot < 2 }
+    requires own { IsOwn slot target.parts }
+    requires differ { NamesDiffer (λ p. p.name) target.parts }
+    requires full { is_full slot name.now ≡ true }
+    requires room { store_blocks target name.now bytes
+        ≤ length (free_of slot source.now target) }
+    ensures { IfOk result (λ l. l
+        ≡ with_store slot source.now target name.now (store_blocks target name.now bytes)) }
 {
-    let (name, count) = judged(alloc, source, &target, slot, name, bytes)?;
+    let name = judged_name(name, slot);
+    let blocks = count_part(name.text(), target.parts.as_slice());
+    let count = store_blocks(blocks, bytes);
     let mut fresh = Blocks::new(alloc);
     push_free(alloc, &mut fresh, source, &target, slot, count)?;
-    Ok(with_store(target, &name, fresh)?)
-}
-
-// The name of the partition and the blocks of its store, or the first refusal.
-fn judged(
-    alloc: Global,
-    source: &Layout,
-    target: &Layout,
-    slot: usize,
-    name: &[u8],
-    bytes: u64,
-) -> Result<(Name36, u64), EditFault>
-    requires { IsUpdate slot source.now target.now }
-    ensures { MatchResult result (λ r. (r.0 ≡ name.now)
-        × (r.1 ≡ store_blocks target.now name.now bytes)
-        × IsStored slot source.now target.now name.now bytes)
-        (Refuses (stored slot source.now target.now name.now bytes)) }
-{
-    let Some(name) = full_name(name, slot) else {
-        return Err(EditFault::BadName);
-    };
-    if !is_store_size(bytes) {
-        return Err(EditFault::BadSize);
-    }
-    let parts = target.parts.as_slice();
-    if !has_part(name.text(), parts) {
-        return Err(EditFault::Unknown);
-    }
-    if has_part(store_of(&name).text(), parts) {
-        return Err(EditFault::HasStore);
-    }
-    let count = store_blocks(target, &name, bytes);
-    let used = stored_used(alloc, source, target, slot, name.text(), count)?;
-    let cap = target.device.cap();
-    if !fits(used, cap) {
-        return Err(EditFault::NoRoom(used, cap));
-    }
-    Ok((name, count))
-}
-
-// Whether a store may have so many bytes: 0, or more than a block.
-fn is_store_size(bytes: u64) -> bool
-    ensures { result ≡ store_size bytes }
-{
-    bytes <= MAX_BYTES && (bytes == 0 || blocks(bytes) > 1)
-}
-
-// Blocks of a store of so many bytes; 0 bytes are as many blocks as all blocks of the partition may
-// need.
-fn store_blocks(target: &Layout, name: &Name36, bytes: u64) -> u64
-    requires { length (blocks_named name.now target.now.parts) ≤ 2 ^ 28 }
-    ensures { result ≡ store_blocks target.now name.now bytes }
-{
-    if bytes == 0 {
-        need(count_named(name.text(), target.parts.as_slice()))
-    } else {
-        blocks(bytes)
-    }
+    with_store(target, &name, fresh)
 }
 
 // The target with a store of these blocks at the end, in the stores' group, its partition marked as

@@ -4,9 +4,10 @@ ghost use Rattle.std.specs.Prelude.{◌≡◌, ◌≤◌, ◌<◌, ◌^◌, IfOk
 ghost use Rattle.vab_tables.specs.Rules.{KeepsRules};
 ghost use Rattle.vab_tables.specs.Spelling.{table_size_of};
 ghost use Rattle.vab_layout.specs.Layout.{layout_of, table_of};
-ghost use Rattle.vab_layout.specs.Slots.{other_slot, IsOwn, IsTarget, groups_of_slot};
+ghost use Rattle.vab_layout.specs.Slots.{other_slot, twins_by, IsOwn, IsTargetBeside};
+ghost use Rattle.vab_layout.specs.Slots.{groups_of_slot};
 ghost use Rattle.vab_layout.specs.Plain.{plain};
-ghost use Rattle.vab_builder.specs.Import.{imported};
+ghost use Rattle.vab_builder.specs.Import.{imported_by};
 ghost use Rattle.vab_builder.specs.Edits.{fitting};
 ghost use Rattle.vab_builder.specs.Gives.{GivesTable};
 
@@ -18,29 +19,37 @@ use vab_layout::Layout;
 use vab_tables::{NoMemory, Table};
 
 /// The table of the other slot as an update from this source begins: the source's groups and their
-/// twins, the source's partitions and
-/// their twins with the same blocks. `TableFull` exactly where its text is longer than `max` bytes;
-/// `NoMemory` where memory is
-/// refused.
-pub fn import(alloc: Global, table: &Table, source: usize, max: u32) -> Result<Table, EditFault>
+/// twins, the source's partitions and their twins with the same blocks; where the update stands
+/// `apart`, the source's partitions alone. `TableFull` exactly where its text is longer than `max`
+/// bytes; `NoMemory` where memory is refused.
+pub fn import(
+    alloc: Global,
+    table: &Table,
+    source: usize,
+    max: u32,
+    apart: bool,
+) -> Result<Table, EditFault>
     requires slot { source < 2 }
     requires keeps { KeepsRules table.now }
     requires small { table_size_of table.now < 2 ^ 24 }
     requires own { IsOwn source (layout_of table.now).parts }
-    ensures exact { GivesTable result (fitting max (imported source (layout_of table.now))) }
+    ensures exact { GivesTable result
+        (fitting max (imported_by apart source (layout_of table.now))) }
     ensures rules { IfOk result KeepsRules }
     ensures size { IfOk result (λ t. table_size_of t ≤ max) }
-    ensures layout { IfOk result (λ t. layout_of t ≡ imported source (layout_of table.now)) }
+    ensures layout { IfOk result
+        (λ t. layout_of t ≡ imported_by apart source (layout_of table.now)) }
     // Edits may be made of it.
     ensures target { IfOk result
-        (λ t. IsTarget (other_slot source) (layout_of table.now).parts (layout_of t).parts) }
+        (λ t. IsTargetBeside (other_slot source) (twins_by apart (layout_of table.now).parts)
+        (layout_of table.now).parts (layout_of t).parts) }
     ensures device { IfOk result (λ t. t.devices ≡ table.now.devices) }
     ensures groups { IfOk result
         (λ t. groups_of_slot (other_slot source) t.groups
         ≡ groups_of_slot source table.now.groups) }
 {
     let layout = Layout::of_table(alloc, table)?;
-    let target = imported(alloc, &layout, source)?;
+    let target = imported(alloc, &layout, source, apart)?;
     fitting(alloc, &target, max)
 }
 

@@ -11,7 +11,7 @@ use Rattle.vab_model.specs.declared.state.State.{State}
 use Rattle.vab_model.specs.Commands.{Print}
 use Rattle.vab_model.specs.declared.command.Reply.{Reply}
 use Rattle.vab_model.specs.Effects.{Effect, Found, Image_is, Refused_by, found_of, print_effect}
-use Rattle.vab_model.specs.Effects.{effect}
+use Rattle.vab_model.specs.Machine.{machine_effect}
 use Rattle.vab_device.specs.declared.device.Device.{Device}
 use Rattle.vab_device.specs.declared.device.Part.{Part}
 use Rattle.vab_device.specs.Mounted.{Mounted, bytes_at, mounted_on, state_on}
@@ -99,7 +99,7 @@ pub image_done : (state : State) (s : Mounted) (name : List ℕ) (i : ImageOfSlo
     → state ≡ s.state
     → found_of state name ≡ Image_is i
     → Done ≡ verb_status s (Print name)
-unfolding effect
+unfolding machine_effect
 image_done state s name i same found =
     sym (ap (λ (f : Found). reply_status (printed name f)) found)
     ∙ ap (λ (x : State). reply_status (printed name (found_of x name))) same
@@ -116,7 +116,7 @@ pub refusal_done : (state : State) (s : Mounted) (name : List ℕ) (f : Refusal)
     → state ≡ s.state
     → found_of state name ≡ Refused_by f
     → Refused ≡ verb_status s (Print name)
-unfolding effect
+unfolding machine_effect
 refusal_done state s name f same found =
     sym (ap (λ (x : Found). reply_status (printed name x)) found)
     ∙ ap (λ (x : State). reply_status (printed name (found_of x name))) same
@@ -126,7 +126,7 @@ pub refusal_noted : (d : Device) (image : Image) (name : List ℕ) (f : Refusal)
     → found_of (state_on d image) name ≡ Refused_by f
     → cause ≡ Some (causes.Refused f)
     → IsRefusedOn (mounted_on d image) (Print name) cause
-unfolding effect
+unfolding machine_effect
 refusal_noted d image name f cause found is = record {
   refusal = f;
   is = is;

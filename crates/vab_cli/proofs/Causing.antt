@@ -336,14 +336,15 @@ start_read start.NoMemory is = cc
 start_read (start.Disk fault) is = cc
 
 -- how a session of the input ends, where it is broken off behind other calls
-pub session_broken : {D : Type 0} (g : Ghosts D) (size : ℕ) (d : Device) (old mid new : D)
+pub session_broken : {D : Type 0} (turns : ℕ) (g : Ghosts D) (size : ℕ) (d : Device)
+    (old mid new : D)
     (answer : Answer) (cause : Option Cause)
     → g.input_left mid ≡ g.input_left old
-    → ServesDevice size g d (2 ^ 44) mid new answer
+    → ServesDevice size g d (2 ^ 44) turns mid new answer
     → cause ≡ session_cause answer
     → session_status answer ≡ Malformed
     → IsBrokenOff g old cause
-session_broken g size d old mid new answer cause left serves is bad =
+session_broken turns g size d old mid new answer cause left serves is bad =
     broken_off g old answer cause serves.refused serves.exchanges serves.unfinished serves.end is
     bad
     (subst

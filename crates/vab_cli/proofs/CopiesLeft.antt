@@ -145,7 +145,7 @@ module _ {D : Type 0} (g : Ghosts D) where
 
     pub opened_copies : (n : Meaning)
         → m ≡ n
-        → (n ≡ Serve true → ⊥)
+        → ((turns : ℕ) → n ≡ Serve true turns → ⊥)
         → ((seed scale : ℕ) → n ≡ Demo seed scale → ⊥)
         → (g.is_modelled
         → (s : Mounted)
@@ -155,14 +155,14 @@ module _ {D : Type 0} (g : Ghosts D) where
         → LeavesCopies g m old new status
     opened_copies n same not_fresh not_demo copies = record {
       opened = λ t of s stands answers. copies t s stands answers;
-      fresh = λ t is. absurd (not_fresh (sym same ∙ is));
+      fresh = λ t k is. absurd (not_fresh k (sym same ∙ is));
       demo = λ t seed scale is. absurd (not_demo seed scale (sym same ∙ is));
     }
 
     -- verbs that aren't on the device of the disk
     unopened : (n : Meaning)
         → command_of n ≡ None
-        → (n ≡ Serve false → ⊥)
+        → ((turns : ℕ) → n ≡ Serve false turns → ⊥)
         → (n ≡ Install → ⊥)
         → (n ≡ verbs.Status → ⊥)
         → OpensDevice n
@@ -171,17 +171,19 @@ module _ {D : Type 0} (g : Ghosts D) where
         ⊎_elim
         (λ some. let both = sym some.1 ∙ none in cc)
         (λ others.
-        ⊎_elim not_serve (λ more. ⊎_elim not_install not_status more) others)
+        ⊎_elim (λ some. not_serve some.0 some.1) (λ more. ⊎_elim not_install not_status more)
+        others)
         of
 
-    pub fresh_copies : m ≡ Serve true
+    pub fresh_copies : (turns : ℕ)
+        → m ≡ Serve true turns
         → (g.is_modelled → (status ≡ Done) ⊎ (status ≡ Malformed) → Copies)
         → LeavesCopies g m old new status
-    fresh_copies same copies = record {
+    fresh_copies turns same copies = record {
       opened = λ t of.
-          absurd (unopened (Serve true) (let r : Option Command = None in λ i. r) (λ e. cc)
+          absurd (unopened (Serve true turns) (let r : Option Command = None in λ i. r) (λ k e. cc)
           (λ e. cc) (λ e. cc) (subst OpensDevice same of));
-      fresh = λ t is ends. copies t ends;
+      fresh = λ t k is ends. copies t ends;
       demo = λ t seed scale is. let both = sym same ∙ is in cc;
     }
 
@@ -194,9 +196,9 @@ module _ {D : Type 0} (g : Ghosts D) where
         → LeavesCopies g m old new status
     demo_copies a b same copies = record {
       opened = λ t of.
-          absurd (unopened (Demo a b) (let r : Option Command = None in λ i. r) (λ e. cc)
+          absurd (unopened (Demo a b) (let r : Option Command = None in λ i. r) (λ k e. cc)
           (λ e. cc) (λ e. cc) (subst OpensDevice same of));
-      fresh = λ t is. let both = sym same ∙ is in cc;
+      fresh = λ t k is. let both = sym same ∙ is in cc;
       demo = λ t seed scale is none answers.
           let both : Demo a b ≡ Demo seed scale = sym same ∙ is in
           let one : seed ≡ a = cc in
@@ -209,15 +211,15 @@ module _ {D : Type 0} (g : Ghosts D) where
     pub no_copies : (n : Meaning)
         → m ≡ n
         → command_of n ≡ None
-        → ((fresh : Bool) → n ≡ Serve fresh → ⊥)
+        → ((fresh : Bool) (turns : ℕ) → n ≡ Serve fresh turns → ⊥)
         → (n ≡ Install → ⊥)
         → (n ≡ verbs.Status → ⊥)
         → ((seed scale : ℕ) → n ≡ Demo seed scale → ⊥)
         → LeavesCopies g m old new status
     no_copies n same none not_serve not_install not_status not_demo = record {
       opened = λ t of.
-          absurd (unopened n none (not_serve false) not_install not_status
+          absurd (unopened n none (λ k. not_serve false k) not_install not_status
           (subst OpensDevice same of));
-      fresh = λ t is. absurd (not_serve true (sym same ∙ is));
+      fresh = λ t k is. absurd (not_serve true k (sym same ∙ is));
       demo = λ t seed scale is. absurd (not_demo seed scale (sym same ∙ is));
     }

@@ -1,5 +1,5 @@
 -- What comes of acts on a device, one behind another.
-use Rattle.std.proofs.Common.{◌≡◌, ◌∙◌, ◌⊎◌, inl, ℕ, ◌<◌, ◌+◌, min, List, [], ◌∷◌, ◌++◌}
+use Rattle.std.proofs.Common.{◌≡◌, ◌∙◌, ◌⊎◌, inl, inr, ℕ, ◌<◌, ◌+◌, min, List, [], ◌∷◌, ◌++◌}
 use Rattle.std.proofs.Common.{length, take, Result, Ok, Err, refl, sym, ap, subst, arith}
 use Rattle.std.proofs.Common.{append_assoc}
 use Rattle.std.specs.Prelude.{IfOk, OnOk}
@@ -24,7 +24,7 @@ use Rattle.vab_commands.proofs.CopiesLaws.{both_copies}
 use Rattle.vab_commands.proofs.ChangeLaws.{all_then}
 use Rattle.vab_exchanges.specs.Items.{Item, joined}
 use Rattle.vab_exchanges.specs.Runs.{LeavesItem}
-use Rattle.vab_exchanges.proofs.RunLaws.{IsChain, joined_append}
+use Rattle.vab_exchanges.proofs.RunLaws.{HasAll, IsChain, closes, joined_append}
 use Rattle.vab_cli.specs.declared.status.Status.{Status}
 use Rattle.vab_cli.specs.declared.status.Status.TheVariants.{Done, Usage, Malformed, Refused}
 use Rattle.vab_cli.specs.declared.status.Status.TheVariants.{NotADevice, Disk, Port, NoMemory}
@@ -144,23 +144,23 @@ abbrev pub AreActs : List Act → Type 0
 AreActs [] = Unit {0}
 AreActs (a ∷ xs) = IsAct a × AreActs xs
 
+-- an item begins with the device before it
+begins_there : (m : Mounted) (i : Item Mounted) → IsOneOf i.steps m → HasAll (m ∷ []) i.steps
+begins_there m i at x (inl same) = subst (IsOneOf i.steps) (sym same) at
+begins_there m i at x (inr none) = absurd none
+
 followed_chain : (m : Mounted) (i : Item Mounted) (s : Status) (rest : Course)
     → IsOneOf i.steps m
     → 0 < length i.reply
-    → IsChain i.last.now rest.items
-    → IsChain m (followed i s rest).items
-followed_chain m i Done rest begins some later = (begins, some, later)
-followed_chain m i Usage rest begins some later = (begins, some, tt)
-followed_chain m i Malformed rest begins some later = (begins, some, tt)
-followed_chain m i Refused rest begins some later = (begins, some, tt)
-followed_chain m i NotADevice rest begins some later = (begins, some, tt)
-followed_chain m i Disk rest begins some later = (begins, some, tt)
-followed_chain m i Port rest begins some later = (begins, some, tt)
-followed_chain m i NoMemory rest begins some later = (begins, some, tt)
+    → IsChain [] i.last.now [] rest.items
+    → IsChain [] m [] (followed i s rest).items
+followed_chain m i Done rest begins some later = (begins_there m i begins, some, later)
+followed_chain m i _ rest begins some later =
+    (begins_there m i begins, some, closes [] i.last.now)
 
-pub acts_chain : (xs : List Act) (m : Mounted) → AreActs xs → IsChain m (course xs m).items
+pub acts_chain : (xs : List Act) (m : Mounted) → AreActs xs → IsChain [] m [] (course xs m).items
 unfolding course
-acts_chain [] m are = tt
+acts_chain [] m are = closes [] m
 acts_chain (a ∷ xs) m are =
     let first : IsAct a = are.0 in
     let next = (a.item m).last.now in

@@ -84,20 +84,20 @@ life_is set next size left = (
 
 chain_behind : (done : List (Item Mounted)) (i : Item Mounted) (later : List (Item Mounted))
     (s : Mounted)
-    → IsChain s (done ++ i ∷ later)
-    → IsChain i.last.now later
+    → IsChain [] s [] (done ++ i ∷ later)
+    → IsChain [] i.last.now [] later
 chain_behind [] i later s chain = chain.2
 chain_behind (x ∷ xs) i later s chain = chain_behind xs i later x.last.now chain.2
 
 among_within : (size : ℕ) (first : Mounted) (items : List (Item Mounted)) (told : List ℕ)
     (o : Outcome)
-    → IsChain first items
+    → IsChain [] first [] items
     → LeavesAmong size items told o
-    → CrashesWithin (IsIn size) [] first items told o
+    → CrashesWithin (IsIn size) [] first items [] told o
 among_within size first items told o chain l =
-    subst (λ (x : List (Item Mounted)). CrashesWithin (IsIn size) [] first x told o) (sym l.are)
-    (within_item (IsIn size) [] first l.done l.later l.item told (told ++ joined l.done)
-    (chain_behind l.done l.item l.later first (subst (IsChain first) l.are chain))
+    subst (λ (x : List (Item Mounted)). CrashesWithin (IsIn size) [] first x [] told o) (sym l.are)
+    (within_item (IsIn size) [] [] first l.done l.later l.item told (told ++ joined l.done)
+    (chain_behind l.done l.item l.later first (subst (IsChain [] first []) l.are chain))
     refl o l.leaves)
 
 -- it ends as they do only where the last line is told
@@ -175,7 +175,7 @@ module _ {D : Type 0}
   pub demo_short : Demonstrates g set next old old NoMemory
   demo_short = record {
     runs = λ t none.
-        inr (making_failed g only_now size set 0 65536 old old NoMemory (inr refl) refl
+        inr (making_failed g only_now size 0 set 0 65536 old old NoMemory (inr refl) refl
         (λ memory. inl (untouched_stays g only_now size old old refl))
         (λ rest. record {
           later = omega arith;
@@ -210,7 +210,7 @@ module _ {D : Type 0}
         let same = silent (early_silent f free) in
         let early : IsEarly status = subst IsEarly (sym same.1) (made_early f free) in
         inr (subst (λ (x : D). FailsMaking g size set 0 65536 old x status) (sym same.0)
-        (making_failed g only_now size set 0 65536 old mid status early (makes.quiet.told t)
+        (making_failed g only_now size 0 set 0 65536 old mid status early (makes.quiet.told t)
         (λ memory.
         inl (untouched_stays g only_now size old mid
         (untouched (memory_of_none f (sym same.1 ∙ memory)))))
@@ -305,7 +305,7 @@ module _ {D : Type 0}
         → Demonstrates g set next old now status
     demo_unopened now status early unwritten opens time = record {
       runs = λ t none.
-          inr (opening_failed g only_now size set 0 65536 old mid now status (early t)
+          inr (opening_failed g only_now size 0 set 0 65536 old mid now status (early t)
           (makes.quiet.told t) (quiet_there t now (opens t)).told (unwritten t)
           (made t) (rest t) (making t)
           (subst
@@ -362,7 +362,7 @@ module _ {D : Type 0}
       end : IsEnd c.ends
       end = acts_end acts first (life_is set next size (left_behind first next))
 
-      chain : IsChain first c.items
+      chain : IsChain [] first [] c.items
       chain = acts_chain acts first (life_is set next size (left_behind first next))
 
       told_now : g.is_modelled → g.told now ≡ g.told old
@@ -372,15 +372,15 @@ module _ {D : Type 0}
           → IsAtRest g old
           → (o : Outcome)
           → g.outcomes new (g.moment old) o
-          → CrashesWithin (IsIn size) [] first c.items (g.told old) o
+          → CrashesWithin (IsIn size) [] first c.items [] (g.told old) o
           ⊎ LeavesMaking (g.told old) set 0 65536 size (g.seen old) o
       every_cut t before o at =
           let by = opened t in
-          let earlier = prepared g only_now size set 0 65536 old mid now (makes.quiet.told t)
+          let earlier = prepared g only_now size 0 set 0 65536 old mid now (makes.quiet.told t)
           (made t) (making t before) (by.time (rest t)) in
           let time = lived.time t (by.settled (rest t)) in
           ⊎_elim
-          (λ was. inr (making_cuts g only_now size set 0 65536 old now earlier before o was))
+          (λ was. inr (making_cuts g only_now size 0 set 0 65536 old now earlier before o was))
           (λ since.
           inl (among_within size first c.items (g.told old) o chain
           (subst (λ (l : List ℕ). LeavesAmong size c.items l o) (told_now t)

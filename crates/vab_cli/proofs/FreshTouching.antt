@@ -92,9 +92,9 @@ module _ (set : List SetImage) (size : ℕ) (image : Image)
     placed =
         subst
         (λ (p : Phase).
-        table_placed 0 (is_some (kept r).a) (table_for 0 (p.tables r.mark.slot) r.tables)
+        table_placed 0 (is_some (kept r).a) (table_for 0 p.tables r.tables)
         ≡ Some (plain 0 (made_layout set 0 size)))
-        (idle_at r.mark.phase phase)
+        (idle_at r.mark phase)
         (ap (λ (m : Mounted). m.places.a) is)
 
     slot : r.mark.slot ≡ 0
@@ -103,10 +103,10 @@ module _ (set : List SetImage) (size : ℕ) (image : Image)
         placed
 
     -- the one table that is read is slot a's
-    one_slot : (k : ℕ) → IsOneOf k ((phase_at r.mark.phase).tables r.mark.slot) → k ≡ 0
+    one_slot : (k : ℕ) → IsOneOf k (phase_at r.mark).tables → k ≡ 0
     one_slot k is_read =
         of_one k r.mark.slot slot
-        (subst (λ (p : Phase). IsOneOf k (p.tables r.mark.slot)) (idle_at r.mark.phase phase)
+        (subst (λ (p : Phase). IsOneOf k p.tables) (idle_at r.mark phase)
         is_read)
 
   -- a copy's text takes no more than its place

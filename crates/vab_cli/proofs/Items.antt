@@ -11,7 +11,8 @@ use Rattle.vab_disk.proofs.Moments.{adds_wider, adds_on}
 use Rattle.vab_gate.specs.declared.gate.DiskFault.{DiskFault}
 use Rattle.vab_model.specs.declared.command.Reply.{Reply}
 use Rattle.vab_model.specs.Commands.{Command, Print}
-use Rattle.vab_model.specs.Effects.{Found, Image_is, Refused_by, found_of, effect, effect_map}
+use Rattle.vab_model.specs.Effects.{Found, Image_is, Refused_by, found_of, effect_map}
+use Rattle.vab_model.specs.Machine.{machine_effect}
 use Rattle.vab_model.specs.Effects.{Effect, print_effect, steps_of, after_of, IsOneOf}
 use Rattle.vab_model.specs.Effects.{unless_refused}
 use Rattle.vab_device.specs.declared.device.Device.{Device}
@@ -279,7 +280,7 @@ module _ {D : Type 0} (g : Ghosts D) (size : ℕ) where
 -- an image's bytes, or why there are none, are told as a line is: nothing changes
 pub print_item : (s : Mounted) (name told : List ℕ)
     → command_item s (Print name) told ≡ line_item s told
-unfolding effect
+unfolding machine_effect
 print_item s name told = go (found_of s.state name) where
   go : (f : Found)
       → (let item : Item Mounted = record {

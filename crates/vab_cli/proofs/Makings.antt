@@ -22,7 +22,7 @@ use Rattle.vab_make.specs.Made.{is_over, made_device, made_device_of, refusal_of
 use Rattle.vab_make.specs.Made.{set_text_size}
 use Rattle.vab_make.specs.Making.{Gives, IsOfDisk, LeavesMaking}
 use Rattle.vab_exchanges.specs.Runs.{LeavesItem}
-use Rattle.vab_exchanges.proofs.RunLaws.{telling, within_item}
+use Rattle.vab_exchanges.proofs.RunLaws.{closes, telling, within_item}
 use Rattle.vab_cli.specs.declared.status.Status.{Status}
 use Rattle.vab_cli.specs.declared.status.Status.TheVariants.{Done, Disk, NotADevice, Port, NoMemory}
 use Rattle.vab_cli.specs.Codes.{make_status, input_status}
@@ -452,8 +452,8 @@ module _ {D : Type 0}
             (LeavesSaying (g.told mid) line (g.may_leave mid))
             (giving_left Before old mid (giving before)) tells.time
             (λ o leaves.
-            inl (within_item (IsIn size) [] first [] [] (line_item first line) (g.told old)
-            (g.told old) tt
+            inl (within_item (IsIn size) [] [] first [] [] (line_item first line) (g.told old)
+            (g.told old) (closes [] (line_item first line).last.now)
             (sym (append-nil (g.told old))) o (line_told old mid told is rest o leaves)))
 
     -- the disk or the port failed, or memory was refused, and nothing is told

@@ -49,7 +49,7 @@ use Rattle.vab_cli.specs.Counts.{HearsNothing, HearsUnless, IsSteady}
 use Rattle.vab_exchanges.specs.Items.{Item, joined}
 use Rattle.vab_cli.specs.Installing.{Installs, RunsOrFails, install_item, install_status}
 use Rattle.vab_cli.specs.Paging.{TellsPage, page_item}
-use Rattle.vab_cli.specs.Program.{DoesVerb}
+use Rattle.vab_cli.specs.Program.{AnswersAll, DoesVerb}
 use Rattle.vab_cli.specs.Runs.{NoFault, RunsSession, RunsItem, FailsBefore}
 use Rattle.vab_cli.specs.Runs.{RunsNone, RunsRefused, RunsMaking, FailsMaking}
 use Rattle.vab_cli.specs.Touched.{IsOfVerb, IsOfServing, IsOfFresh}
@@ -74,6 +74,10 @@ no_command : {R : Type 0} (m n : Meaning) (c : Command)
     → R
 no_command m n c is none some = is_command m n c some is none
 
+-- the words of one session say its number of turns
+same_turns : (fresh : Bool) (a b : ℕ) → Serve fresh a ≡ Serve fresh b → a ≡ b
+same_turns fresh a b is = cc
+
 -- ---- one slot alone with images
 
 -- no verb ends an installation
@@ -85,7 +89,7 @@ none_ends : (m : Meaning) → is_end (command_of m) ≡ false
 unfolding is_end
 none_ends (Make limit max) = refl
 none_ends (Adopt slot) = refl
-none_ends (Serve fresh) = refl
+none_ends (Serve fresh turns) = refl
 none_ends verbs.Install = refl
 none_ends verbs.Boot = refl
 none_ends verbs.Mark = refl
@@ -107,7 +111,7 @@ steps_alone : (s : Mounted) (c : Command) (slot : ℕ) (images : List ImageOfSlo
     → is_finish c ≡ false
     → IsAlone slot images s
     → (n : ℕ)
-    → AreAlone slot images (steps_at s (verb_item s c ∷ []) n)
+    → AreAlone slot images (steps_at [] s (verb_item s c ∷ []) n)
 steps_alone s c slot images other is zero =
     more slot images s (effect_on s None c).later is
     (alone_effect slot images s None c other is)
@@ -119,7 +123,7 @@ steps_alone s c slot images other is (suc n) =
 item_keeps : (s : Mounted) (c : Command) (slot : ℕ) (images : List ImageOfSlot) (n : ℕ)
     (x : Mounted)
     → HasKept slot images s
-    → IsOneOf (steps_at s (verb_item s c ∷ []) n) x
+    → IsOneOf (steps_at [] s (verb_item s c ∷ []) n) x
     → HasKept slot images x ⊎ FindsMergedFrom slot (verb_item s c).steps
 item_keeps s c slot images n x is at =
     until.item_step (source.Merged slot images) (source.Stands slot images)
@@ -254,18 +258,18 @@ module _ {D : Type 0}
         ⊎ FindsMergedFrom slot (verb_item s x).steps)
         one (cut_kept c s slot images o (runs t s stands) kept rest at);
     quiet = λ t c' is. quiet t;
-    serve = λ t is. is_command m (Serve false) c some is refl;
-    none_served = λ t is. is_command m (Serve false) c some is refl;
-    unheard_served = λ t is. is_command m (Serve false) c some is refl;
-    touches_served = λ t is. is_command m (Serve false) c some is refl;
-    touches_unmerged = λ t is. is_command m (Serve false) c some is refl;
-    writes_served = λ t is. is_command m (Serve false) c some is refl;
-    writes_fresh = λ t is. is_command m (Serve true) c some is refl;
-    touches_fresh = λ t is. is_command m (Serve true) c some is refl;
-    touches_fresh_unmerged = λ t is. is_command m (Serve true) c some is refl;
-    fresh = λ t is. is_command m (Serve true) c some is refl;
-    small = λ t is. is_command m (Serve true) c some is refl;
-    too_small = λ is. is_command m (Serve true) c some is refl;
+    serve = λ t turns is. is_command m (Serve false turns) c some is refl;
+    none_served = λ t turns is. is_command m (Serve false turns) c some is refl;
+    unheard_served = λ t turns is. is_command m (Serve false turns) c some is refl;
+    touches_served = λ t turns is. is_command m (Serve false turns) c some is refl;
+    touches_unmerged = λ t turns is. is_command m (Serve false turns) c some is refl;
+    writes_served = λ t turns is. is_command m (Serve false turns) c some is refl;
+    writes_fresh = λ t turns is. is_command m (Serve true turns) c some is refl;
+    touches_fresh = λ t turns is. is_command m (Serve true turns) c some is refl;
+    touches_fresh_unmerged = λ t turns is. is_command m (Serve true turns) c some is refl;
+    fresh = λ t turns is. is_command m (Serve true turns) c some is refl;
+    small = λ t turns is. is_command m (Serve true turns) c some is refl;
+    too_small = λ turns is. is_command m (Serve true turns) c some is refl;
     made = λ t limit max is. is_command m (Make limit max) c some is refl;
     refused = λ t limit max is. is_command m (Make limit max) c some is refl;
     malformed = λ t limit max is. is_command m (Make limit max) c some is refl;
@@ -291,8 +295,8 @@ module _ {D : Type 0}
         ((status ≡ verb_status s x) × (g.told new ≡ g.told old ++ (verb_item s x).reply))
         ⊎ (status ≡ NoMemory))
         one (item_whole c s held (runs t s stands));
-    complete_serve = λ t held is. is_command m (Serve false) c some is refl;
-    complete_fresh = λ t held is. is_command m (Serve true) c some is refl;
+    complete_serve = λ t held turns is. is_command m (Serve false turns) c some is refl;
+    complete_fresh = λ t held turns is. is_command m (Serve true turns) c some is refl;
     complete_install = λ t held is. is_command m verbs.Install c some is refl;
     complete_page = λ t held is. is_command m verbs.Status c some is refl;
     complete_demo = λ t held seed scale is.
@@ -300,11 +304,12 @@ module _ {D : Type 0}
   }
 
   -- a session over the device of the disk
-  pub serve_verb : m ≡ Serve false
+  pub serve_verb : (turns : ℕ)
+      → m ≡ Serve false turns
       → (g.is_modelled
       → (s : Mounted)
       → IsIn (g.size old) s (g.seen old)
-      → RunsSession g (g.size old) (λ o. ⊥) s old new status
+      → RunsSession g (g.size old) (λ o. ⊥) turns s old new status
       ⊎ FailsBefore g (g.size old) s old new status)
       → (g.is_modelled
       → (fault : StartFault)
@@ -317,13 +322,13 @@ module _ {D : Type 0}
       → (g.is_modelled
       → (s : Mounted)
       → IsIn (g.size old) s (g.seen old)
-      → MergesNothing (2 ^ 44) (g.input_left old)
+      → MergesNothing (2 ^ 44) turns (g.input_left old)
       → Changes g (IsOfServing IsOfCommands (g.size old) (g.seen old)) old new)
       → LeavesCopies g m old new status
       → (g.is_modelled
       → (s : Mounted)
       → IsIn (g.size old) s (g.seen old)
-      → WritesServed g (IsOfOpening (g.size old) (g.seen old)) (status ≡ Disk) (g.size old)
+      → WritesServed g (IsOfOpening (g.size old) (g.seen old)) (status ≡ Disk) turns (g.size old)
       (drop 4 (take (2 ^ 44) (g.input_left old)))
       old new)
       → (g.is_modelled
@@ -331,25 +336,41 @@ module _ {D : Type 0}
       → device (g.size old) (g.seen old) ≡ Err fault
       → HearsNothing g old new)
       → DoesVerb g m old new status
-  serve_verb is runs none touches unmerged copies writes unheard = record {
-    item = λ t c some. no_command m (Serve false) c is refl some;
-    none = λ t c some. no_command m (Serve false) c is refl some;
-    touches = λ t c some. no_command m (Serve false) c is refl some;
-    alone = λ t c some. no_command m (Serve false) c is refl some;
-    kept = λ t c some. no_command m (Serve false) c is refl some;
-    quiet = λ t c some. no_command m (Serve false) c is refl some;
-    serve = λ t same. runs t;
-    none_served = λ t same. none t;
-    unheard_served = λ t same. unheard t;
-    touches_served = λ t same. touches t;
-    touches_unmerged = λ t same. unmerged t;
-    writes_served = λ t same. writes t;
-    writes_fresh = λ t other. let both = sym is ∙ other in cc;
-    touches_fresh = λ t other. let both = sym is ∙ other in cc;
-    touches_fresh_unmerged = λ t other. let both = sym is ∙ other in cc;
-    fresh = λ t other. let both = sym is ∙ other in cc;
-    small = λ t other. let both = sym is ∙ other in cc;
-    too_small = λ other. let both = sym is ∙ other in cc;
+  serve_verb turns is runs none touches unmerged copies writes unheard = record {
+    item = λ t c some. no_command m (Serve false turns) c is refl some;
+    none = λ t c some. no_command m (Serve false turns) c is refl some;
+    touches = λ t c some. no_command m (Serve false turns) c is refl some;
+    alone = λ t c some. no_command m (Serve false turns) c is refl some;
+    kept = λ t c some. no_command m (Serve false turns) c is refl some;
+    quiet = λ t c some. no_command m (Serve false turns) c is refl some;
+    serve = λ t n same s stands.
+        subst
+        (λ (k : ℕ).
+        RunsSession g (g.size old) (λ o. ⊥) k s old new status
+        ⊎ FailsBefore g (g.size old) s old new status)
+        (same_turns false turns n (sym is ∙ same)) (runs t s stands);
+    none_served = λ t n same. none t;
+    unheard_served = λ t n same. unheard t;
+    touches_served = λ t n same. touches t;
+    touches_unmerged = λ t n same s stands.
+        subst
+        (λ (k : ℕ).
+        MergesNothing (2 ^ 44) k (g.input_left old)
+        → Changes g (IsOfServing IsOfCommands (g.size old) (g.seen old)) old new)
+        (same_turns false turns n (sym is ∙ same)) (unmerged t s stands);
+    writes_served = λ t n same s stands.
+        subst
+        (λ (k : ℕ).
+        WritesServed g (IsOfOpening (g.size old) (g.seen old)) (status ≡ Disk) k (g.size old)
+        (drop 4 (take (2 ^ 44) (g.input_left old)))
+        old new)
+        (same_turns false turns n (sym is ∙ same)) (writes t s stands);
+    writes_fresh = λ t n other. let both = sym is ∙ other in cc;
+    touches_fresh = λ t n other. let both = sym is ∙ other in cc;
+    touches_fresh_unmerged = λ t n other. let both = sym is ∙ other in cc;
+    fresh = λ t n other. let both = sym is ∙ other in cc;
+    small = λ t n other. let both = sym is ∙ other in cc;
+    too_small = λ n other. let both = sym is ∙ other in cc;
     made = λ t limit max other. let both = sym is ∙ other in cc;
     refused = λ t limit max other. let both = sym is ∙ other in cc;
     malformed = λ t limit max other. let both = sym is ∙ other in cc;
@@ -367,22 +388,25 @@ module _ {D : Type 0}
     port = port;
     steady = steady;
     words = words;
-    complete = λ t held c some. no_command m (Serve false) c is refl some;
-    complete_serve = λ t held same s stands.
-        completed g (g.size old) (λ o. ⊥) s old new status (runs t s stands) (λ fails. fails.early)
-        (no_disk held) (no_port held);
-    complete_fresh = λ t held other. let both = sym is ∙ other in cc;
+    complete = λ t held c some. no_command m (Serve false turns) c is refl some;
+    complete_serve = λ t held n same s stands.
+        subst (λ (k : ℕ). AnswersAll g k s old new status ⊎ (status ≡ NoMemory))
+        (same_turns false turns n (sym is ∙ same))
+        (completed g (g.size old) (λ o. ⊥) turns s old new status (runs t s stands)
+        (λ fails. fails.early) (no_disk held) (no_port held));
+    complete_fresh = λ t held n other. let both = sym is ∙ other in cc;
     complete_install = λ t held other. let both = sym is ∙ other in cc;
     complete_page = λ t held other. let both = sym is ∙ other in cc;
     complete_demo = λ t held seed scale other. let both = sym is ∙ other in cc;
   }
 
   -- a session over a device that is made first
-  pub fresh_verb : m ≡ Serve true
+  pub fresh_verb : (turns : ℕ)
+      → m ≡ Serve true turns
       → (g.is_modelled
       → 6152 ≤ g.size old
       → RunsSession g (g.size old)
-      (LeavesMaking (g.told old) [] 0 65536 (g.size old) (g.seen old))
+      (LeavesMaking (g.told old) [] 0 65536 (g.size old) (g.seen old)) turns
       (made_device_of [] 0 65536 (g.size old)) old new status
       ⊎ FailsMaking g (g.size old) [] 0 65536 old new status)
       → (g.is_modelled
@@ -391,33 +415,51 @@ module _ {D : Type 0}
       → (g.size old < 6152 → (status ≡ NotADevice) ⊎ (status ≡ NoMemory))
       → (g.is_modelled → Changes g (IsOfFresh IsOfAll (g.size old)) old new)
       → (g.is_modelled
-      → MergesNothing (2 ^ 44) (g.input_left old)
+      → MergesNothing (2 ^ 44) turns (g.input_left old)
       → Changes g (IsOfFresh IsOfCommands (g.size old)) old new)
       → LeavesCopies g m old new status
       → (g.is_modelled
-      → WritesServed g (InSectors (IsOfMaking [] 65536)) (status ≡ Disk) (g.size old)
+      → WritesServed g (InSectors (IsOfMaking [] 65536)) (status ≡ Disk) turns (g.size old)
       (drop 4 (take (2 ^ 44) (g.input_left old)))
       old new)
       → DoesVerb g m old new status
-  fresh_verb is runs small too_small touches unmerged copies writes = record {
-    item = λ t c some. no_command m (Serve true) c is refl some;
-    none = λ t c some. no_command m (Serve true) c is refl some;
-    touches = λ t c some. no_command m (Serve true) c is refl some;
-    alone = λ t c some. no_command m (Serve true) c is refl some;
-    kept = λ t c some. no_command m (Serve true) c is refl some;
-    quiet = λ t c some. no_command m (Serve true) c is refl some;
-    serve = λ t other. let both = sym is ∙ other in cc;
-    none_served = λ t other. let both = sym is ∙ other in cc;
-    unheard_served = λ t other. let both = sym is ∙ other in cc;
-    touches_served = λ t other. let both = sym is ∙ other in cc;
-    touches_unmerged = λ t other. let both = sym is ∙ other in cc;
-    writes_served = λ t other. let both = sym is ∙ other in cc;
-    writes_fresh = λ t same. writes t;
-    touches_fresh = λ t same. touches t;
-    touches_fresh_unmerged = λ t same. unmerged t;
-    fresh = λ t same. runs t;
-    small = λ t same. small t;
-    too_small = λ same. too_small;
+  fresh_verb turns is runs small too_small touches unmerged copies writes = record {
+    item = λ t c some. no_command m (Serve true turns) c is refl some;
+    none = λ t c some. no_command m (Serve true turns) c is refl some;
+    touches = λ t c some. no_command m (Serve true turns) c is refl some;
+    alone = λ t c some. no_command m (Serve true turns) c is refl some;
+    kept = λ t c some. no_command m (Serve true turns) c is refl some;
+    quiet = λ t c some. no_command m (Serve true turns) c is refl some;
+    serve = λ t n other. let both = sym is ∙ other in cc;
+    none_served = λ t n other. let both = sym is ∙ other in cc;
+    unheard_served = λ t n other. let both = sym is ∙ other in cc;
+    touches_served = λ t n other. let both = sym is ∙ other in cc;
+    touches_unmerged = λ t n other. let both = sym is ∙ other in cc;
+    writes_served = λ t n other. let both = sym is ∙ other in cc;
+    writes_fresh = λ t n same.
+        subst
+        (λ (k : ℕ).
+        WritesServed g (InSectors (IsOfMaking [] 65536)) (status ≡ Disk) k (g.size old)
+        (drop 4 (take (2 ^ 44) (g.input_left old)))
+        old new)
+        (same_turns true turns n (sym is ∙ same)) (writes t);
+    touches_fresh = λ t n same. touches t;
+    touches_fresh_unmerged = λ t n same.
+        subst
+        (λ (k : ℕ).
+        MergesNothing (2 ^ 44) k (g.input_left old)
+        → Changes g (IsOfFresh IsOfCommands (g.size old)) old new)
+        (same_turns true turns n (sym is ∙ same)) (unmerged t);
+    fresh = λ t n same enough.
+        subst
+        (λ (k : ℕ).
+        RunsSession g (g.size old)
+        (LeavesMaking (g.told old) [] 0 65536 (g.size old) (g.seen old)) k
+        (made_device_of [] 0 65536 (g.size old)) old new status
+        ⊎ FailsMaking g (g.size old) [] 0 65536 old new status)
+        (same_turns true turns n (sym is ∙ same)) (runs t enough);
+    small = λ t n same. small t;
+    too_small = λ n same. too_small;
     made = λ t limit max other. let both = sym is ∙ other in cc;
     refused = λ t limit max other. let both = sym is ∙ other in cc;
     malformed = λ t limit max other. let both = sym is ∙ other in cc;
@@ -435,11 +477,16 @@ module _ {D : Type 0}
     port = port;
     steady = steady;
     words = words;
-    complete = λ t held c some. no_command m (Serve true) c is refl some;
-    complete_serve = λ t held other. let both = sym is ∙ other in cc;
-    complete_fresh = λ t held same enough.
-        completed g (g.size old) _ _ old new status (runs t enough) (λ fails. fails.early)
-        (no_disk held) (no_port held);
+    complete = λ t held c some. no_command m (Serve true turns) c is refl some;
+    complete_serve = λ t held n other. let both = sym is ∙ other in cc;
+    complete_fresh = λ t held n same enough.
+        subst
+        (λ (k : ℕ).
+        AnswersAll g k (made_device_of [] 0 65536 (g.size old)) old new status
+        ⊎ (status ≡ NoMemory))
+        (same_turns true turns n (sym is ∙ same))
+        (completed g (g.size old) _ turns _ old new status (runs t enough) (λ fails. fails.early)
+        (no_disk held) (no_port held));
     complete_install = λ t held other. let both = sym is ∙ other in cc;
     complete_page = λ t held other. let both = sym is ∙ other in cc;
     complete_demo = λ t held seed scale other. let both = sym is ∙ other in cc;
@@ -482,18 +529,18 @@ module _ {D : Type 0}
     alone = λ t c some. no_command m (Make limit max) c is refl some;
     kept = λ t c some. no_command m (Make limit max) c is refl some;
     quiet = λ t c some. no_command m (Make limit max) c is refl some;
-    serve = λ t other. let both = sym is ∙ other in cc;
-    none_served = λ t other. let both = sym is ∙ other in cc;
-    unheard_served = λ t other. let both = sym is ∙ other in cc;
-    touches_served = λ t other. let both = sym is ∙ other in cc;
-    touches_unmerged = λ t other. let both = sym is ∙ other in cc;
-    writes_served = λ t other. let both = sym is ∙ other in cc;
-    writes_fresh = λ t other. let both = sym is ∙ other in cc;
-    touches_fresh = λ t other. let both = sym is ∙ other in cc;
-    touches_fresh_unmerged = λ t other. let both = sym is ∙ other in cc;
-    fresh = λ t other. let both = sym is ∙ other in cc;
-    small = λ t other. let both = sym is ∙ other in cc;
-    too_small = λ other. let both = sym is ∙ other in cc;
+    serve = λ t n other. let both = sym is ∙ other in cc;
+    none_served = λ t n other. let both = sym is ∙ other in cc;
+    unheard_served = λ t n other. let both = sym is ∙ other in cc;
+    touches_served = λ t n other. let both = sym is ∙ other in cc;
+    touches_unmerged = λ t n other. let both = sym is ∙ other in cc;
+    writes_served = λ t n other. let both = sym is ∙ other in cc;
+    writes_fresh = λ t n other. let both = sym is ∙ other in cc;
+    touches_fresh = λ t n other. let both = sym is ∙ other in cc;
+    touches_fresh_unmerged = λ t n other. let both = sym is ∙ other in cc;
+    fresh = λ t n other. let both = sym is ∙ other in cc;
+    small = λ t n other. let both = sym is ∙ other in cc;
+    too_small = λ n other. let both = sym is ∙ other in cc;
     made = λ t l x same set fits spelled none.
         let both : Make limit max ≡ Make l x = sym is ∙ same in
         let limits : limit ≡ l = cc in
@@ -535,8 +582,8 @@ module _ {D : Type 0}
     steady = steady;
     words = words;
     complete = λ t held c some. no_command m (Make limit max) c is refl some;
-    complete_serve = λ t held other. let both = sym is ∙ other in cc;
-    complete_fresh = λ t held other. let both = sym is ∙ other in cc;
+    complete_serve = λ t held n other. let both = sym is ∙ other in cc;
+    complete_fresh = λ t held n other. let both = sym is ∙ other in cc;
     complete_install = λ t held other. let both = sym is ∙ other in cc;
     complete_page = λ t held other. let both = sym is ∙ other in cc;
     complete_demo = λ t held seed scale other. let both = sym is ∙ other in cc;
@@ -577,7 +624,7 @@ module _ {D : Type 0}
   pub other_verb : (n : Meaning)
       → m ≡ n
       → command_of n ≡ None
-      → ((fresh : Bool) → n ≡ Serve fresh → ⊥)
+      → ((fresh : Bool) (turns : ℕ) → n ≡ Serve fresh turns → ⊥)
       → ((limit max : ℕ) → n ≡ Make limit max → ⊥)
       → (n ≡ verbs.Install → Installs g old new status)
       → (n ≡ verbs.Status → TellsPage g old new status)
@@ -594,18 +641,18 @@ module _ {D : Type 0}
     alone = λ t c some. no_command m n c is none some;
     kept = λ t c some. no_command m n c is none some;
     quiet = λ t c some. no_command m n c is none some;
-    serve = λ t other. absurd (not_serve false (sym is ∙ other));
-    none_served = λ t other. absurd (not_serve false (sym is ∙ other));
-    unheard_served = λ t other. absurd (not_serve false (sym is ∙ other));
-    touches_served = λ t other. absurd (not_serve false (sym is ∙ other));
-    touches_unmerged = λ t other. absurd (not_serve false (sym is ∙ other));
-    writes_served = λ t other. absurd (not_serve false (sym is ∙ other));
-    writes_fresh = λ t other. absurd (not_serve true (sym is ∙ other));
-    touches_fresh = λ t other. absurd (not_serve true (sym is ∙ other));
-    touches_fresh_unmerged = λ t other. absurd (not_serve true (sym is ∙ other));
-    fresh = λ t other. absurd (not_serve true (sym is ∙ other));
-    small = λ t other. absurd (not_serve true (sym is ∙ other));
-    too_small = λ other. absurd (not_serve true (sym is ∙ other));
+    serve = λ t k other. absurd (not_serve false k (sym is ∙ other));
+    none_served = λ t k other. absurd (not_serve false k (sym is ∙ other));
+    unheard_served = λ t k other. absurd (not_serve false k (sym is ∙ other));
+    touches_served = λ t k other. absurd (not_serve false k (sym is ∙ other));
+    touches_unmerged = λ t k other. absurd (not_serve false k (sym is ∙ other));
+    writes_served = λ t k other. absurd (not_serve false k (sym is ∙ other));
+    writes_fresh = λ t k other. absurd (not_serve true k (sym is ∙ other));
+    touches_fresh = λ t k other. absurd (not_serve true k (sym is ∙ other));
+    touches_fresh_unmerged = λ t k other. absurd (not_serve true k (sym is ∙ other));
+    fresh = λ t k other. absurd (not_serve true k (sym is ∙ other));
+    small = λ t k other. absurd (not_serve true k (sym is ∙ other));
+    too_small = λ k other. absurd (not_serve true k (sym is ∙ other));
     made = λ t limit max other. absurd (not_make limit max (sym is ∙ other));
     refused = λ t limit max other. absurd (not_make limit max (sym is ∙ other));
     malformed = λ t limit max other. absurd (not_make limit max (sym is ∙ other));
@@ -624,8 +671,8 @@ module _ {D : Type 0}
     steady = steady;
     words = words;
     complete = λ t held c some. no_command m n c is none some;
-    complete_serve = λ t held other. absurd (not_serve false (sym is ∙ other));
-    complete_fresh = λ t held other. absurd (not_serve true (sym is ∙ other));
+    complete_serve = λ t held k other. absurd (not_serve false k (sym is ∙ other));
+    complete_fresh = λ t held k other. absurd (not_serve true k (sym is ∙ other));
     complete_install = λ t held other set fits spelled s stands.
         told_whole s (install_item s set) (install_status s set) held
         ((install (sym is ∙ other)).item t set fits spelled s stands);

@@ -18,7 +18,7 @@ use Rattle.vab_recover.specs.Opening.{LeavesSame}
 use Rattle.vab_model.specs.Effects.{IsOneOf}
 use Rattle.vab_exchanges.specs.Items.{Item}
 use Rattle.vab_exchanges.specs.Runs.{CrashesWithin, LeavesItem}
-use Rattle.vab_exchanges.proofs.RunLaws.{within_item}
+use Rattle.vab_exchanges.proofs.RunLaws.{closes, within_item}
 use Rattle.vab_cli.specs.declared.status.Status.{Status}
 use Rattle.vab_cli.specs.declared.status.Status.TheVariants.{NotADevice, Disk}
 use Rattle.vab_cli.specs.declared.status.Status.TheVariants.{NoMemory}
@@ -242,9 +242,10 @@ module _ {D : Type 0}
     -- what an item leaves is within the run of it alone
     within_one : (told : List ℕ) (o : Outcome)
         → LeavesItem (IsIn size) told item o
-        → CrashesWithin (IsIn size) [] s (item ∷ []) told o
+        → CrashesWithin (IsIn size) [] s (item ∷ []) [] told o
     within_one told o leaves =
-        within_item (IsIn size) [] s [] [] item told told tt (sym (append-nil told)) o leaves
+        within_item (IsIn size) [] [] s [] [] item told told (closes [] item.last.now)
+        (sym (append-nil told)) o leaves
 
     -- every outcome of an item that is done on a device that is opened
     item_cuts : (old mid new : D)
@@ -254,7 +255,7 @@ module _ {D : Type 0}
         → IsAtRest g old
         → (o : Outcome)
         → g.outcomes new (g.moment old) o
-        → CrashesWithin (IsIn size) [] s (item ∷ []) (g.told old) o
+        → CrashesWithin (IsIn size) [] s (item ∷ []) [] (g.told old) o
     item_cuts old mid new opens is does rest o at =
         within_one (g.told old) o
         (all_since g.moment g.outcomes old new P (Leaves (g.told old) (g.may_leave old))
@@ -284,8 +285,8 @@ module _ {D : Type 0}
         → (IsAtRest g old
         → (o : Outcome)
         → g.outcomes new (g.moment old) o
-        → CrashesWithin (IsIn size) [] s (item ∷ []) (g.told old) o)
-        → RunsItems g size (λ o. ⊥) [] s (item ∷ []) item.last.now Whole old new
+        → CrashesWithin (IsIn size) [] s (item ∷ []) [] (g.told old) o)
+        → RunsItems g size (λ o. ⊥) [] s (item ∷ []) [] item.last.now Whole old new
     one_item Whole old new front whole stands settled cuts =
         let same = sym (append-nil item.reply) in
         record {

@@ -2,7 +2,7 @@
 use Rattle.std.proofs.Common.{◌≡◌, ◌⊎◌, ◌∙◌, inl, inr, ⊎_elim, ◌^◌, ◌<◌, ◌≤◌, ℕ, List, [], ◌++◌}
 use Rattle.std.proofs.Common.{take}
 use Rattle.std.proofs.Common.{codes, Some, None, Ok, Err, refl, sym, ap, subst, arith}
-use Rattle.std.specs.Prelude.{Option}
+use Rattle.std.specs.Prelude.{Option, Bool}
 use Rattle.std.proofs.lemmas.Bool.Decides.{nat_tests}
 use Rattle.std.proofs.lemmas.List.{append-nil}
 use Rattle.vab_disk.specs.declared.disk.Disk.{Ghosts}
@@ -19,14 +19,14 @@ use Rattle.vab_make.specs.declared.fault.MakeFault.{MakeFault}
 use Rattle.vab_make.specs.declared.fault.MakeFault.TheVariants as make
 use Rattle.vab_make.specs.Made.{made_layout, refusal_of, made_device_of}
 use Rattle.vab_make.specs.Making.{Gives, IsOfDisk, IsMade, LeavesMaking}
-use Rattle.vab_exchanges.specs.Session.{Exchange, End, IsSession}
+use Rattle.vab_exchanges.specs.Session.{Exchange, End, IsSession, waits_in}
 use Rattle.vab_exchanges.specs.Hearing.{HearsWhere}
-use Rattle.vab_exchanges.specs.Items.{items_of, kept_after, output_of}
+use Rattle.vab_exchanges.specs.Items.{items_of, kept_after, closing_of, final_of, output_of}
 use Rattle.vab_exchanges.specs.Runs.{CrashesWithin, IsTold, Serves}
 use Rattle.vab_exchanges.proofs.RunLaws.{items_chain, within_greeting}
 use Rattle.vab_session.proofs.SourceLaws.{kept_at_cut}
 use Rattle.vab_session.proofs.StandLaws.{stands_at_cut}
-use Rattle.vab_session.specs.Responses.{response}
+use Rattle.vab_session.specs.Responses.{machine}
 use Rattle.vab_session.specs.Served.{Answer, Says, Held as HeldBySession, reached}
 use Rattle.vab_session.specs.Served.{ServesDevice, nothing_staged}
 use Rattle.vab_session.specs.declared.fault.Ended.TheVariants as ended
@@ -121,23 +121,35 @@ module _ {D : Type 0}
     (only_now : (d : D) (o : Outcome)
     → g.outcomes d (g.moment d) o
     → Leaves (g.told d) (g.may_leave d) o)
-    (size : ℕ) where
+    (size turns : ℕ) where
   -- a cut of power within a session
-  abbrev Within : Mounted → List Exchange → Option (List ℕ) → List ℕ → Outcome → Type 0
-  Within first exchanges unfinished told =
+  abbrev Within : Mounted
+      → List Exchange
+      → Option (List ℕ)
+      → (waits : Bool)
+      → List ℕ
+      → Outcome
+      → Type 0
+  Within first exchanges unfinished waits told =
       CrashesWithin (IsIn size) (codes "FB01") first
-      (items_of response (nothing_staged first) exchanges unfinished) told
+      (items_of (machine turns) (nothing_staged first) exchanges unfinished)
+      (closing_of (machine turns) unfinished waits
+      (kept_after (machine turns) (nothing_staged first) exchanges)) told
 
   -- before anything of it is told
   before_all : (first : Mounted) (exchanges : List Exchange) (unfinished : Option (List ℕ))
-      (told : List ℕ) (o : Outcome)
+      (waits : Bool) (told : List ℕ) (o : Outcome)
       → o.told ≡ told
       → IsIn size first o.image
-      → Within first exchanges unfinished told o
-  before_all first exchanges unfinished told o same is =
-      within_greeting (IsIn size) (codes "FB01") first
-      (items_of response (nothing_staged first) exchanges unfinished) told o 0
-      (items_chain response (nothing_staged first) exchanges unfinished) (omega arith)
+      → Within first exchanges unfinished waits told o
+  before_all first exchanges unfinished waits told o same is =
+      let closing : List Mounted =
+      closing_of (machine turns) unfinished waits
+      (kept_after (machine turns) (nothing_staged first) exchanges) in
+      within_greeting (IsIn size) (codes "FB01") closing first
+      (items_of (machine turns) (nothing_staged first) exchanges unfinished) told o 0
+      (items_chain (machine turns) closing (nothing_staged first) exchanges unfinished)
+      (omega arith)
       (same ∙ sym (append-nil told)) is
 
   -- what a session promises behind what was only opened
@@ -153,17 +165,18 @@ module _ {D : Type 0}
     cuts : IsAtRest g old
         → (exchanges : List Exchange)
         → (unfinished : Option (List ℕ))
-        → Adds g.moment g.outcomes mid new (Within first exchanges unfinished (g.told mid))
+        → (waits : Bool)
+        → Adds g.moment g.outcomes mid new (Within first exchanges unfinished waits (g.told mid))
         → (o : Outcome)
         → g.outcomes new (g.moment old) o
-        → Within first exchanges unfinished (g.told old) o ⊎ Else o
+        → Within first exchanges unfinished waits (g.told old) o ⊎ Else o
 
   runs_behind : (Else : Outcome → Type 0) (d : Device) (first : Mounted) (old mid new : D)
       (r : Answer)
       → Behind Else first old mid new
       → Represents d size (g.seen mid)
-      → ServesDevice size g d (2 ^ 44) mid new r
-      → RunsSession g size Else first old new (session_status r)
+      → ServesDevice size g d (2 ^ 44) turns mid new r
+      → RunsSession g size Else turns first old new (session_status r)
   runs_behind Else d first old mid new r behind represents serves' =
       record {
         refused = serves.refused;
@@ -185,34 +198,36 @@ module _ {D : Type 0}
             subst
             (λ (h : List Hearing).
             HearsWhere
-            (IsTold response (nothing_staged first) serves.exchanges (g.input_left old)
+            (IsTold (machine turns) (nothing_staged first) serves.exchanges (g.input_left old)
             (g.told old))
             h (g.heard new))
             behind.heard
             (subst
             (λ (l : List ℕ).
             HearsWhere
-            (IsTold response (nothing_staged first) serves.exchanges (g.input_left old) l)
+            (IsTold (machine turns) (nothing_staged first) serves.exchanges (g.input_left old) l)
             (g.heard mid) (g.heard new))
             behind.told
             (subst
             (λ (l : List ℕ).
             HearsWhere
-            (IsTold response (nothing_staged first) serves.exchanges l (g.told mid))
+            (IsTold (machine turns) (nothing_staged first) serves.exchanges l (g.told mid))
             (g.heard mid) (g.heard new))
             behind.left serves.heard));
         alone = λ rest done later is slot images alone o at since told_is whole.
             ⊎_elim
             (λ within.
-            inl (stands_at_cut slot images size (nothing_staged first) serves.exchanges done later
-            serves.unfinished (g.told old) o within is alone since told_is whole))
+            inl (stands_at_cut slot images turns size (nothing_staged first) serves.exchanges done
+            later
+            serves.unfinished waits (g.told old) o within is alone since told_is whole))
             (λ before. inr before)
             (every_cut rest o at);
         kept = λ rest done later is slot images kept o at since told_is whole.
             ⊎_elim
             (λ within.
-            inl (kept_at_cut slot images size (nothing_staged first) serves.exchanges done later
-            serves.unfinished (g.told old) o within is kept since told_is whole))
+            inl (kept_at_cut slot images turns size (nothing_staged first) serves.exchanges done
+            later
+            serves.unfinished waits (g.told old) o within is kept since told_is whole))
             (λ before. inr before)
             (every_cut rest o at);
       }
@@ -220,28 +235,43 @@ module _ {D : Type 0}
       same : mounted_on d (g.seen mid) ≡ first
       same = mounted_is d size (g.seen mid) first represents behind.stands
 
-      serves : Serves response (IsIn size) g (HeldBySession r) (Says r) (reached r (g.seen new))
+      serves : Serves (machine turns) (IsIn size) g (HeldBySession r) (Says r)
+          (reached r (g.seen new))
           (2 ^ 44) (nothing_staged first) mid new
       serves =
           subst
           (λ (m : Mounted).
-          Serves response (IsIn size) g (HeldBySession r) (Says r) (reached r (g.seen new))
+          Serves (machine turns) (IsIn size) g (HeldBySession r) (Says r) (reached r (g.seen new))
           (2 ^ 44) (nothing_staged m) mid new)
           same serves'
+
+      waits : Bool
+      waits = waits_in (2 ^ 44) (g.input_left old) serves.end
+
+      same_waits : waits_in (2 ^ 44) (g.input_left mid) serves.end ≡ waits
+      same_waits = ap (λ (l : List ℕ). waits_in (2 ^ 44) l serves.end) behind.left
 
       every_cut : IsAtRest g old
           → (o : Outcome)
           → g.outcomes new (g.moment old) o
-          → Within first serves.exchanges serves.unfinished (g.told old) o ⊎ Else o
+          → Within first serves.exchanges serves.unfinished waits (g.told old) o ⊎ Else o
       every_cut rest =
-          behind.cuts rest serves.exchanges serves.unfinished (serves.time (behind.settled rest))
+          behind.cuts rest serves.exchanges serves.unfinished waits
+          (subst
+          (λ (b : Bool).
+          Adds g.moment g.outcomes mid new
+          (Within first serves.exchanges serves.unfinished b (g.told mid)))
+          same_waits (serves.time (behind.settled rest)))
 
       output : List ℕ
-      output = output_of response (nothing_staged first) serves.exchanges serves.unfinished
+      output = output_of (machine turns) (nothing_staged first) serves.exchanges serves.unfinished
 
       items : RunsItems g size Else (codes "FB01") first
-          (items_of response (nothing_staged first) serves.exchanges serves.unfinished)
-          (kept_after response (nothing_staged first) serves.exchanges).now
+          (items_of (machine turns) (nothing_staged first) serves.exchanges serves.unfinished)
+          (closing_of (machine turns) serves.unfinished waits
+          (kept_after (machine turns) (nothing_staged first) serves.exchanges))
+          (final_of (machine turns) serves.unfinished waits
+          (kept_after (machine turns) (nothing_staged first) serves.exchanges))
           (Held (session_status r)) old new
       items = record {
         front = (
@@ -250,7 +280,14 @@ module _ {D : Type 0}
         );
         whole = λ held.
             serves.whole (port_held r held) ∙ ap (λ (l : List ℕ). l ++ output) behind.told;
-        stands = λ held. serves.stands (port_held r held);
+        stands = λ held.
+            subst
+            (λ (b : Bool).
+            IsIn size
+            (final_of (machine turns) serves.unfinished b
+            (kept_after (machine turns) (nothing_staged first) serves.exchanges))
+            (g.seen new))
+            same_waits (serves.stands (port_held r held));
         settled = λ rest held. serves.settled (port_held r held) (behind.settled rest);
         every_cut = every_cut;
       }
@@ -260,8 +297,8 @@ module _ {D : Type 0}
       → Opens g size old mid
       → IsIn size first (g.seen old)
       → Represents d size (g.seen mid)
-      → ServesDevice size g d (2 ^ 44) mid new r
-      → RunsSession g size (λ o. ⊥) first old new (session_status r)
+      → ServesDevice size g d (2 ^ 44) turns mid new r
+      → RunsSession g size (λ o. ⊥) turns first old new (session_status r)
   opened_runs d first old mid new r opens is represents serves =
       runs_behind (λ o. ⊥) d first old mid new r
       (record {
@@ -270,22 +307,22 @@ module _ {D : Type 0}
         heard = opens.heard;
         stands = opens.device ∙ is;
         settled = opens.settled;
-        cuts = λ rest exchanges unfinished time o at.
-            let P = Within first exchanges unfinished (g.told old) in
+        cuts = λ rest exchanges unfinished waits time o at.
+            let P = Within first exchanges unfinished waits (g.told old) in
             inl (all_since g.moment g.outcomes old new P (Leaves (g.told old) (g.may_leave old))
             (adds_on g.moment g.outcomes old mid new P
-            (Within first exchanges unfinished (g.told mid))
+            (Within first exchanges unfinished waits (g.told mid))
             (adds_wider g.moment g.outcomes old mid
             (LeavesSame (g.told old) size (g.seen old)) P (opens.time rest)
             (λ o' same.
-            before_all first exchanges unfinished (g.told old) o' same.told_so_far
+            before_all first exchanges unfinished waits (g.told old) o' same.told_so_far
             (same.same ∙ is)))
             time
             (λ o' within.
-            subst (λ (l : List ℕ). Within first exchanges unfinished l o') opens.told within))
+            subst (λ (l : List ℕ). Within first exchanges unfinished waits l o') opens.told within))
             (only_now old)
             (λ o' leaves.
-            before_all first exchanges unfinished (g.told old) o' leaves.told_so_far
+            before_all first exchanges unfinished waits (g.told old) o' leaves.told_so_far
             (ap (device size) (settled_image g only_now size old o' rest leaves) ∙ is))
             o at);
       })
@@ -378,8 +415,8 @@ module _ {D : Type 0}
         (LeavesMaking (g.told old) set limit max size (g.seen old)))
         → Opens g size mid now
         → Represents d size (g.seen now)
-        → ServesDevice size g d (2 ^ 44) now new r
-        → RunsSession g size (LeavesMaking (g.told old) set limit max size (g.seen old))
+        → ServesDevice size g d (2 ^ 44) turns now new r
+        → RunsSession g size (LeavesMaking (g.told old) set limit max size (g.seen old)) turns
         (made_device_of set limit max size) old new (session_status r)
     made_runs d old mid now new r told left heard made rest making opens represents serves =
         runs_behind (LeavesMaking (g.told old) set limit max size (g.seen old)) d
@@ -390,13 +427,14 @@ module _ {D : Type 0}
           heard = opens.heard ∙ heard;
           stands = opens.device ∙ made;
           settled = λ before. opens.settled rest;
-          cuts = λ before exchanges unfinished time o at.
+          cuts = λ before exchanges unfinished waits time o at.
               let earlier = prepared old mid now told made (making before) (opens.time rest) in
               ⊎_elim
               (λ was. inr (making_cuts old now earlier before o was))
               (λ since.
               inl (subst
-              (λ (l : List ℕ). Within (made_device_of set limit max size) exchanges unfinished l o)
+              (λ (l : List ℕ).
+              Within (made_device_of set limit max size) exchanges unfinished waits l o)
               (opens.told ∙ told) since))
               (time.adds (g.moment old) o earlier.later at);
         })
@@ -417,14 +455,15 @@ module _ {D : Type 0} (g : Ghosts D) (size : ℕ) where
   held_of NoMemory disk port = tt
 
   -- the session is answered whole
-  pub completed : {Fails : Type 0} (Else : Outcome → Type 0) (first : Mounted) (old new : D)
+  pub completed : {Fails : Type 0} (Else : Outcome
+      → Type 0) (turns : ℕ) (first : Mounted) (old new : D)
       (status : Status)
-      → RunsSession g size Else first old new status ⊎ Fails
+      → RunsSession g size Else turns first old new status ⊎ Fails
       → (Fails → IsEarly status)
       → (status ≡ Disk → ⊥)
       → (status ≡ Port → ⊥)
-      → AnswersAll g first old new status ⊎ (status ≡ NoMemory)
-  completed Else first old new status (inl runs) early disk port =
+      → AnswersAll g turns first old new status ⊎ (status ≡ NoMemory)
+  completed Else turns first old new status (inl runs) early disk port =
       let held = held_of status disk port in
       inl (record {
         refused = runs.refused;
@@ -436,7 +475,7 @@ module _ {D : Type 0} (g : Ghosts D) (size : ℕ) where
         held = held;
         told = runs.items.whole held;
       })
-  completed Else first old new status (inr fails) early disk port =
+  completed Else turns first old new status (inr fails) early disk port =
       ⊎_elim (λ failed. absurd (disk failed)) (λ memory. inr memory) (early fails)
 
 -- opening a device, by what it says of the size that the disk has

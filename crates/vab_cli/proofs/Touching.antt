@@ -117,6 +117,8 @@ dropped_is d size image m s bytes kept same w = record {
   is =
       ap (λ (x : Mounted). dropped_from x.state.control.current x.state.phase) (sym same)
       ∙ source_is d size image kept w.ends;
+  kept = d.mark;
+  of = refl;
   mark = w.mark;
 }
 

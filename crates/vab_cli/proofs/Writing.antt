@@ -40,7 +40,8 @@ changes_as g W old new t changes = record {
       ⊎_elim (λ was. inl (rest s (o.image s) was)) (λ wrote. inr wrote) (each s));
 }
 
-pub writes_opened : {D : Type 0} (g : Ghosts D) (W : ℕ → List ℕ → Type 0) (size : ℕ) (d : Device)
+pub writes_opened : {D : Type 0} (turns : ℕ) (g : Ghosts D) (W : ℕ → List ℕ → Type 0) (size : ℕ)
+    (d : Device)
     (r : Answer) (status : Status) (old mid new : D)
     → g.is_modelled
     → g.size mid ≡ size
@@ -49,24 +50,25 @@ pub writes_opened : {D : Type 0} (g : Ghosts D) (W : ℕ → List ℕ → Type 0
     → Changes g W old mid
     → (IsAtRest g old → IsAtRest g mid)
     → status ≡ session_status r
-    → WritesInTurn g (IsErrOf r session.Disk) (g.size mid) d
+    → WritesInTurn g (IsErrOf r session.Disk) turns (g.size mid) d
     (nothing_staged (mounted_on d (g.seen mid)))
     (drop 4 (take (2 ^ 44) (g.input_left mid))) mid new
-    → WritesServed g W (status ≡ Disk) size (drop 4 (take (2 ^ 44) (g.input_left old))) old new
-writes_opened g W size d r status old mid new t sized left represents opens rests is wrote =
+    → WritesServed g W (status
+    ≡ Disk) turns size (drop 4 (take (2 ^ 44) (g.input_left old))) old new
+writes_opened turns g W size d r status old mid new t sized left represents opens rests is wrote =
     let first = changes_as g W old mid t opens in
     let wide : (image : Image)
-    → WrittenInTurn g.is_modelled (IsErrOf r session.Disk) (g.size mid) d
+    → WrittenInTurn g.is_modelled (IsErrOf r session.Disk) turns (g.size mid) d
     (nothing_staged (mounted_on d (g.seen mid))) (g.seen mid) wrote.done wrote.more image
-    → WrittenInTurn g.is_modelled (status ≡ Disk) size d
+    → WrittenInTurn g.is_modelled (status ≡ Disk) turns size d
     (nothing_staged (mounted_on d (g.seen mid))) (g.seen mid) wrote.done wrote.more image =
     λ image w.
-    written_wider g.is_modelled (IsErrOf r session.Disk) (status ≡ Disk) size d
+    written_wider g.is_modelled (IsErrOf r session.Disk) (status ≡ Disk) turns size d
     (nothing_staged (mounted_on d (g.seen mid))) (g.seen mid) wrote.done wrote.more image
     (λ failed. is ∙ ap session_status failed)
     (subst
     (λ (n : ℕ).
-    WrittenInTurn g.is_modelled (IsErrOf r session.Disk) n d
+    WrittenInTurn g.is_modelled (IsErrOf r session.Disk) turns n d
     (nothing_staged (mounted_on d (g.seen mid))) (g.seen mid) wrote.done wrote.more image)
     sized w) in
     inl (record {

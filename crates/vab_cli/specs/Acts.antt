@@ -145,7 +145,7 @@ module _ {D : Type 0} (g : Ghosts D) where
       (old new : D)
       (status : Status) : Type 0 where
     pub status_is : (status ≡ c.ends) ⊎ (IsFailed status ⊎ (status ≡ NoMemory))
-    pub items : RunsItems g size Else [] first c.items c.last (status ≡ c.ends) old new
+    pub items : RunsItems g size Else [] first c.items [] c.last (status ≡ c.ends) old new
     pub short : status ≡ NoMemory → StopsAmong size c.items old new
 
   -- This comes of a device. Where all is done, a device is kept, and it is the disk's. Unless the

@@ -140,9 +140,9 @@ module _ {D : Type 0} (g : Ghosts D) (old : D) where
   Explains (words.Adopt slot) status cause =
       ((status ≡ NotADevice) ⊎ (status ≡ Refused) → IsUnadopted slot cause)
       × (status ≡ Done → cause ≡ dropped_cause (dropped (g.seen old)))
-  Explains (words.Serve true) status cause =
+  Explains (words.Serve true turns) status cause =
       (status ≡ NotADevice → IsUnmade [] 0 65536 cause) × (status ≡ Malformed → IsBrokenOff cause)
-  Explains (words.Serve false) status cause =
+  Explains (words.Serve false turns) status cause =
       (status ≡ NotADevice → IsNoDevice cause) × (status ≡ Malformed → IsBrokenOff cause)
   Explains words.Install status cause =
       (status ≡ NotADevice → IsNoDevice cause)

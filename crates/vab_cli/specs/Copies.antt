@@ -29,7 +29,7 @@ IsAnswered NoMemory = ⊥
 abbrev pub OpensDevice : Meaning → Type 0
 OpensDevice m =
     ((c : Command) × (command_of m ≡ Some c))
-    ⊎ ((m ≡ Serve false) ⊎ ((m ≡ Install) ⊎ (m ≡ verbs.Status)))
+    ⊎ (((turns : ℕ) × (m ≡ Serve false turns)) ⊎ ((m ≡ Install) ⊎ (m ≡ verbs.Status)))
 
 pub record LeavesCopies {D : Type 0}
     (g : Ghosts D)
@@ -46,7 +46,8 @@ pub record LeavesCopies {D : Type 0}
       → HasBothCopies (g.size old) (g.seen new)
   -- So does a session over a device that is made first,
   pub fresh : g.is_modelled
-      → m ≡ Serve true
+      → (turns : ℕ)
+      → m ≡ Serve true turns
       → (status ≡ Done) ⊎ (status ≡ Malformed)
       → HasBothCopies (g.size old) (g.seen new)
   -- and the life of a device, where one is made.

@@ -28,7 +28,7 @@ use Rattle.vab_commands.specs.Touched.{IsOfAll, IsOfCommands}
 use Rattle.vab_status.specs.Page.{page}
 use Rattle.vab_session.specs.Alone.{IsAlone, StandsAlone}
 use Rattle.vab_session.specs.Merges.{MergesNothing}
-use Rattle.vab_session.specs.Responses.{response}
+use Rattle.vab_session.specs.Responses.{machine}
 use Rattle.vab_session.specs.Served.{nothing_staged}
 use Rattle.vab_session.specs.Source.{HasKept, StandsKept, FindsMergedFrom}
 use Rattle.vab_cli.specs.declared.status.Status.{Status}
@@ -52,6 +52,7 @@ use Rattle.vab_cli.specs.Written.{WritesServed}
 -- The whole session of the input is told, as it ends.
 pub record AnswersAll {D : Type 0}
     (g : Ghosts D)
+    (turns : ℕ)
     (first : Mounted)
     (old new : D)
     (status : Status) : Type 0 where
@@ -63,7 +64,7 @@ pub record AnswersAll {D : Type 0}
   pub status_is : SaysEnd status end
   pub held : Held status
   pub told : g.told new
-      ≡ g.told old ++ output_of response (nothing_staged first) exchanges unfinished
+      ≡ g.told old ++ output_of (machine turns) (nothing_staged first) exchanges unfinished
 
 pub record DoesVerb {D : Type 0}
     (g : Ghosts D)
@@ -136,76 +137,89 @@ pub record DoesVerb {D : Type 0}
   -- each cut of power. Or the disk failed or memory was refused while it was opened. Over a disk
   -- that is none: status 5, and nothing is told or written.
   pub serve : g.is_modelled
-      → m ≡ Serve false
+      → (turns : ℕ)
+      → m ≡ Serve false turns
       → (s : Mounted)
       → IsIn (g.size old) s (g.seen old)
-      → RunsSession g (g.size old) (λ o. ⊥) s old new status
+      → RunsSession g (g.size old) (λ o. ⊥) turns s old new status
       ⊎ FailsBefore g (g.size old) s old new status
   pub none_served : g.is_modelled
-      → m ≡ Serve false
+      → (turns : ℕ)
+      → m ≡ Serve false turns
       → (fault : StartFault)
       → device (g.size old) (g.seen old) ≡ Err fault
       → RunsNone g (g.size old) [] old new status
   -- Where the disk isn't opened, nothing is heard.
   pub unheard_served : g.is_modelled
-      → m ≡ Serve false
+      → (turns : ℕ)
+      → m ≡ Serve false turns
       → (fault : StartFault)
       → device (g.size old) (g.seen old) ≡ Err fault
       → HearsNothing g old new
   -- It writes what opening may, and what its commands may write: boot control by the boot
   -- rules, the update mark, the statuses, tables, and blocks behind them. Where no packet asks for
-  -- a merge, those are the target's table, and blocks of no image.
+  -- a merge and no turn is made between packets, those are the target's table, and blocks of no
+  -- image.
   pub touches_served : g.is_modelled
-      → m ≡ Serve false
+      → (turns : ℕ)
+      → m ≡ Serve false turns
       → (s : Mounted)
       → IsIn (g.size old) s (g.seen old)
       → Changes g (IsOfServing IsOfAll (g.size old) (g.seen old)) old new
   pub touches_unmerged : g.is_modelled
-      → m ≡ Serve false
+      → (turns : ℕ)
+      → m ≡ Serve false turns
       → (s : Mounted)
       → IsIn (g.size old) s (g.seen old)
-      → MergesNothing (2 ^ 44) (g.input_left old)
+      → MergesNothing (2 ^ 44) turns (g.input_left old)
       → Changes g (IsOfServing IsOfCommands (g.size old) (g.seen old)) old new
   -- What it writes is what its packets write in turn, from the device that was opened: one that
   -- changes the device what its command writes there, and a question, a variable, a download or a
   -- refusal nothing, unless the disk failed.
   pub writes_served : g.is_modelled
-      → m ≡ Serve false
+      → (turns : ℕ)
+      → m ≡ Serve false turns
       → (s : Mounted)
       → IsIn (g.size old) s (g.seen old)
-      → WritesServed g (IsOfOpening (g.size old) (g.seen old)) (status ≡ Disk) (g.size old)
+      → WritesServed g (IsOfOpening (g.size old) (g.seen old)) (status ≡ Disk) turns (g.size old)
       (drop 4 (take (2 ^ 44) (g.input_left old)))
       old new
   -- `serve --fresh` on enough sectors: the same over the made device of the empty set. Until its
   -- last gate is settled each cut leaves the disk as it was, or no device, or the made one. On too
   -- few sectors: status 5, and nothing is told or written.
   pub fresh : g.is_modelled
-      → m ≡ Serve true
+      → (turns : ℕ)
+      → m ≡ Serve true turns
       → 6152 ≤ g.size old
       → RunsSession g (g.size old)
-      (LeavesMaking (g.told old) [] 0 65536 (g.size old) (g.seen old))
+      (LeavesMaking (g.told old) [] 0 65536 (g.size old) (g.seen old)) turns
       (made_device_of [] 0 65536 (g.size old))
       old new status
       ⊎ FailsMaking g (g.size old) [] 0 65536 old new status
   pub small : g.is_modelled
-      → m ≡ Serve true
+      → (turns : ℕ)
+      → m ≡ Serve true turns
       → g.size old < 6152
       → RunsRefused g (g.size old) [] NotADevice old new status
-  pub too_small : m ≡ Serve true
+  pub too_small : (turns : ℕ)
+      → m ≡ Serve true turns
       → g.size old < 6152
       → (status ≡ NotADevice) ⊎ (status ≡ NoMemory)
   pub touches_fresh : g.is_modelled
-      → m ≡ Serve true
+      → (turns : ℕ)
+      → m ≡ Serve true turns
       → Changes g (IsOfFresh IsOfAll (g.size old)) old new
   pub touches_fresh_unmerged : g.is_modelled
-      → m ≡ Serve true
-      → MergesNothing (2 ^ 44) (g.input_left old)
+      → (turns : ℕ)
+      → m ≡ Serve true turns
+      → MergesNothing (2 ^ 44) turns (g.input_left old)
       → Changes g (IsOfFresh IsOfCommands (g.size old)) old new
   -- It writes what making the device of the empty set does, and then packet by packet in the same
   -- way.
   pub writes_fresh : g.is_modelled
-      → m ≡ Serve true
-      → WritesServed g (InSectors (IsOfMaking [] 65536)) (status ≡ Disk) (g.size old)
+      → (turns : ℕ)
+      → m ≡ Serve true turns
+      → WritesServed g (InSectors (IsOfMaking [] 65536)) (status ≡ Disk) turns (g.size old)
       (drop 4 (take (2 ^ 44) (g.input_left old)))
       old new
   -- `make` of an input that spells a set: the made device, or the first refusal with its line and
@@ -285,15 +299,18 @@ pub record DoesVerb {D : Type 0}
       ⊎ (status ≡ NoMemory)
   pub complete_serve : g.is_modelled
       → NoFault (g.faults old) (g.faults new)
-      → m ≡ Serve false
+      → (turns : ℕ)
+      → m ≡ Serve false turns
       → (s : Mounted)
       → IsIn (g.size old) s (g.seen old)
-      → AnswersAll g s old new status ⊎ (status ≡ NoMemory)
+      → AnswersAll g turns s old new status ⊎ (status ≡ NoMemory)
   pub complete_fresh : g.is_modelled
       → NoFault (g.faults old) (g.faults new)
-      → m ≡ Serve true
+      → (turns : ℕ)
+      → m ≡ Serve true turns
       → 6152 ≤ g.size old
-      → AnswersAll g (made_device_of [] 0 65536 (g.size old)) old new status ⊎ (status ≡ NoMemory)
+      → AnswersAll g turns (made_device_of [] 0 65536 (g.size old)) old new status ⊎ (status
+      ≡ NoMemory)
   pub complete_install : g.is_modelled
       → NoFault (g.faults old) (g.faults new)
       → m ≡ Install

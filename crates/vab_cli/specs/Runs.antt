@@ -11,13 +11,13 @@ use Rattle.vab_device.specs.Mounted.{Mounted}
 use Rattle.vab_device.specs.Reading.{IsIn}
 use Rattle.vab_make.specs.Made.{made_device_of}
 use Rattle.vab_make.specs.Making.{LeavesMaking}
-use Rattle.vab_exchanges.specs.Session.{Exchange, End, IsSession}
+use Rattle.vab_exchanges.specs.Session.{Exchange, End, IsSession, waits_in}
 use Rattle.vab_exchanges.specs.Session as session
-use Rattle.vab_exchanges.specs.Items.{Item, items_of, joined, kept_after}
+use Rattle.vab_exchanges.specs.Items.{Item, items_of, joined, kept_after, closing_of, final_of}
 use Rattle.vab_exchanges.specs.Runs.{acknowledged, CrashesWithin, IsTold}
 use Rattle.vab_exchanges.specs.Hearing.{HearsWhere}
 use Rattle.vab_session.specs.Alone.{IsAlone, StandsAlone, FindsReady, reached_in}
-use Rattle.vab_session.specs.Responses.{response}
+use Rattle.vab_session.specs.Responses.{machine}
 use Rattle.vab_session.specs.Source.{HasKept, StandsKept, FindsMergedFrom}
 use Rattle.vab_cli.specs.declared.status.Status.{Status}
 use Rattle.vab_cli.specs.declared.status.Status.TheVariants.{Done, Usage, Malformed, Refused}
@@ -127,6 +127,7 @@ module _ {D : Type 0} (g : Ghosts D) (size : ℕ) where
       (greeting : List ℕ)
       (first : Mounted)
       (items : List (Item Mounted))
+      (closing : List Mounted)
       (last : Mounted)
       (Whole : Type 0)
       (old new : D) : Type 0 where
@@ -137,14 +138,17 @@ module _ {D : Type 0} (g : Ghosts D) (size : ℕ) where
     pub every_cut : IsAtRest g old
         → (o : Outcome)
         → g.outcomes new (g.moment old) o
-        → CrashesWithin (IsIn size) greeting first items (g.told old) o ⊎ Else o
+        → CrashesWithin (IsIn size) greeting first items closing (g.told old) o ⊎ Else o
 
-  -- The input is a session of at most 2^44 bytes, for some choice of the commands to which memory
-  -- is refused. Its items run one behind another, all of them unless the disk or the port failed.
+  -- The input is a session of at most 2^44 bytes, with so many turns of a merge behind the hello
+  -- and
+  -- behind each reply, for some choice of the commands to which memory is refused. Its items run
+  -- one behind another, all of them unless the disk or the port failed.
   -- It hears only where all that had come is answered. `Else` are the outcomes from before the
   -- session.
   pub record RunsSession
       (Else : Outcome → Type 0)
+      (turns : ℕ)
       (first : Mounted)
       (old new : D)
       (status : Status) : Type 0 where
@@ -159,11 +163,14 @@ module _ {D : Type 0} (g : Ghosts D) (size : ℕ) where
         → (others ≡ exchanges) × (v ≡ unfinished) × (other ≡ end)
     pub status_is : SaysEnd status end
     pub items : RunsItems Else (codes "FB01") first
-        (items_of response (nothing_staged first) exchanges unfinished)
-        (kept_after response (nothing_staged first) exchanges).now
+        (items_of (machine turns) (nothing_staged first) exchanges unfinished)
+        (closing_of (machine turns) unfinished (waits_in (2 ^ 44) (g.input_left old) end)
+        (kept_after (machine turns) (nothing_staged first) exchanges))
+        (final_of (machine turns) unfinished (waits_in (2 ^ 44) (g.input_left old) end)
+        (kept_after (machine turns) (nothing_staged first) exchanges))
         (Held status) old new
     pub heard : HearsWhere
-        (IsTold response (nothing_staged first) exchanges (g.input_left old) (g.told old))
+        (IsTold (machine turns) (nothing_staged first) exchanges (g.input_left old) (g.told old))
         (g.heard old)
         (g.heard new)
     -- From where one slot alone has images and no update is ready, as from the reply of the begin
@@ -175,18 +182,19 @@ module _ {D : Type 0} (g : Ghosts D) (size : ℕ) where
         → exchanges ≡ done ++ later
         → (slot : ℕ)
         → (images : List ImageOfSlot)
-        → IsAlone slot images (kept_after response (nothing_staged first) done).now
+        → IsAlone slot images (kept_after (machine turns) (nothing_staged first) done).now
         → (o : Outcome)
         → g.outcomes new (g.moment old) o
         → (since : List ℕ)
         → o.told ≡ g.told old ++ since
         → length done
-        ≤ acknowledged (items_of response (nothing_staged first) exchanges unfinished)
+        ≤ acknowledged (items_of (machine turns) (nothing_staged first) exchanges unfinished)
         (drop 4 since)
         → (StandsAlone size slot images o.image
         ⊎ FindsReady
-        (reached_in (kept_after response (nothing_staged first) done) later unfinished
-        (acknowledged (items_of response (nothing_staged first) exchanges unfinished)
+        (reached_in turns (kept_after (machine turns) (nothing_staged first) done) later unfinished
+        (waits_in (2 ^ 44) (g.input_left old) end)
+        (acknowledged (items_of (machine turns) (nothing_staged first) exchanges unfinished)
         (drop 4 since)
         - length done)))
         ⊎ Else o
@@ -198,18 +206,19 @@ module _ {D : Type 0} (g : Ghosts D) (size : ℕ) where
         → exchanges ≡ done ++ later
         → (slot : ℕ)
         → (images : List ImageOfSlot)
-        → HasKept slot images (kept_after response (nothing_staged first) done).now
+        → HasKept slot images (kept_after (machine turns) (nothing_staged first) done).now
         → (o : Outcome)
         → g.outcomes new (g.moment old) o
         → (since : List ℕ)
         → o.told ≡ g.told old ++ since
         → length done
-        ≤ acknowledged (items_of response (nothing_staged first) exchanges unfinished)
+        ≤ acknowledged (items_of (machine turns) (nothing_staged first) exchanges unfinished)
         (drop 4 since)
         → (StandsKept size slot images o.image
         ⊎ FindsMergedFrom slot
-        (reached_in (kept_after response (nothing_staged first) done) later unfinished
-        (acknowledged (items_of response (nothing_staged first) exchanges unfinished)
+        (reached_in turns (kept_after (machine turns) (nothing_staged first) done) later unfinished
+        (waits_in (2 ^ 44) (g.input_left old) end)
+        (acknowledged (items_of (machine turns) (nothing_staged first) exchanges unfinished)
         (drop 4 since)
         - length done)))
         ⊎ Else o
@@ -222,7 +231,7 @@ module _ {D : Type 0} (g : Ghosts D) (size : ℕ) where
       (old new : D)
       (status : Status) : Type 0 where
     pub status_is : (status ≡ ends) ⊎ IsFailed status
-    pub items : RunsItems (λ o. ⊥) [] first (item ∷ []) item.last.now (status ≡ ends) old new
+    pub items : RunsItems (λ o. ⊥) [] first (item ∷ []) [] item.last.now (status ≡ ends) old new
 
   -- Memory was refused behind the opening: nothing is told, and the disk is in one of the item's
   -- steps, however power is cut.
@@ -238,7 +247,7 @@ module _ {D : Type 0} (g : Ghosts D) (size : ℕ) where
     pub every_cut : IsAtRest g old
         → (o : Outcome)
         → g.outcomes new (g.moment old) o
-        → CrashesWithin (IsIn size) [] first (item ∷ []) (g.told old) o
+        → CrashesWithin (IsIn size) [] first (item ∷ []) [] (g.told old) o
 
   -- The disk failed, or memory was refused, while the device was opened: nothing is told, and every
   -- cut of power leaves the device that it was. Where memory was refused nothing was written.
@@ -285,7 +294,7 @@ module _ {D : Type 0} (g : Ghosts D) (size : ℕ) where
   -- this device, with a front of the line told; or an outcome from before it
   abbrev pub GivesWithin : (Outcome → Type 0) → Mounted → List ℕ → List ℕ → Outcome → Type 0
   GivesWithin Before first line told o =
-      CrashesWithin (IsIn size) [] first (line_item first line ∷ []) told o ⊎ Before o
+      CrashesWithin (IsIn size) [] first (line_item first line ∷ []) [] told o ⊎ Before o
 
   -- The disk becomes this device, and this line is told. Until its last gate is settled, every cut
   -- of power leaves an outcome from before it; from then on the device, and the disk also holds

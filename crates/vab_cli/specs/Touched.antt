@@ -5,7 +5,8 @@ use Rattle.vab_disk.specs.Disk.{Image, IsAt}
 use Rattle.vab_disk.specs.Calls.{SameBut}
 use Rattle.vab_bootctl.specs.declared.slots.Control.{Control}
 use Rattle.vab_marks.specs.declared.mark.MarkPhase.TheVariants as marks
-use Rattle.vab_marks.specs.Mark.{mark_spelling, mark_at}
+use Rattle.vab_marks.specs.declared.mark.UpdateMark.{UpdateMark}
+use Rattle.vab_marks.specs.Mark.{mark_spelling, rephased}
 use Rattle.vab_model.specs.declared.state.Phase.{Phase}
 use Rattle.vab_model.specs.declared.state.Phase.TheVariants.{Idle, Installing, Staged, Merging}
 use Rattle.vab_model.specs.Commands.{Command}
@@ -19,7 +20,7 @@ use Rattle.vab_make.specs.Making.{IsMade}
 use Rattle.vab_make.specs.Touched.{IsOfMaking}
 use Rattle.vab_set.specs.declared.set.SetImage.{SetImage}
 use Rattle.vab_manager.specs.Controls.{IsOfSlots}
-use Rattle.vab_merge_gates.specs.Writes.{IsOfMergeBegun}
+use Rattle.vab_merging.specs.GateWrites.{IsOfMergeBegun}
 use Rattle.vab_merging.specs.Writes.{IsOfMerge}
 
 -- the source of an update that may be dropped, where this slot was booted last
@@ -29,12 +30,14 @@ dropped_from current (Installing source plan) = Some source
 dropped_from current (Staged source left) = if current == source then Some source else None
 dropped_from current (Merging target left) = None
 
--- What a cancel writes: the mark that there is no update from its source. Where none may be dropped
--- nothing is written.
+-- What a cancel writes: the mark that is kept, of its source, with no update. Where none may be
+-- dropped nothing is written.
 pub record IsDropped (m : Mounted) (s : ℕ) (bytes : List ℕ) : Type 0 where
   pub source : ℕ
   pub is : dropped_from m.state.control.current m.state.phase ≡ Some source
-  pub mark : IsAt 2048 (mark_spelling (mark_at marks.Idle source)) s bytes
+  pub kept : UpdateMark
+  pub of : kept.slot ≡ source
+  pub mark : IsAt 2048 (mark_spelling (rephased marks.Idle kept)) s bytes
 
 -- What the command of a verb that isn't of a merge writes on a device whose boot control is this
 -- one, in a sector with these bytes: the boot control that the boot rules make of it, of both

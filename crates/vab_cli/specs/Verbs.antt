@@ -31,7 +31,7 @@ use Rattle.vab_cli.specs.Codes.{reply_status}
 abbrev pub command_of : Meaning → Option Command
 command_of (words.Make limit metadata_max) = None
 command_of (words.Adopt slot) = None
-command_of (words.Serve fresh) = None
+command_of (words.Serve fresh turns) = None
 command_of words.Install = None
 command_of words.Boot = Some Boot
 command_of words.Mark = Some Mark

@@ -19,12 +19,13 @@ use Rattle.vab_update.specs.Written.{OrdersWritten}
 
 -- The device is opened, or made and opened, with what that may write; and from there the packets of
 -- the input write in turn: one that changes the device what its command writes there, and each
--- other nothing. Each outcome is written so, where nothing was pending.
+-- other nothing; and between them so many turns of a merge. Each outcome is written so, where
+-- nothing was pending.
 pub record WritesOpened {D : Type 0}
     (g : Ghosts D)
     (W : ℕ → List ℕ → Type 0)
     (Failed : Type 0)
-    (size : ℕ)
+    (turns size : ℕ)
     (bytes : List ℕ)
     (old new : D) : Type 0 where
   pub device : Device
@@ -36,12 +37,12 @@ pub record WritesOpened {D : Type 0}
   pub after : List ℕ
   pub are : AreExchanges done
   pub is : bytes ≡ flat_map spelled done ++ (spelled_one more ++ after)
-  pub seen : WrittenInTurn g.is_modelled Failed size device
+  pub seen : WrittenInTurn g.is_modelled Failed turns size device
       (nothing_staged (mounted_on device opened)) opened done more (g.seen new)
   pub time : IsAtRest g old
       → Adds g.moment g.outcomes old new
       (λ o. SameBut W (g.seen old) o.image
-      ⊎ WrittenInTurn g.is_modelled Failed size device
+      ⊎ WrittenInTurn g.is_modelled Failed turns size device
       (nothing_staged (mounted_on device opened)) opened done more o.image)
 
 -- or it isn't, and no more than that is written
@@ -49,12 +50,12 @@ abbrev pub WritesServed : {D : Type 0}
     → Ghosts D
     → (W : ℕ → List ℕ → Type 0)
     → (Failed : Type 0)
-    → ℕ
+    → (turns size : ℕ)
     → List ℕ
     → (old new : D)
     → Type 0
-WritesServed g W Failed size bytes old new =
-    WritesOpened g W Failed size bytes old new ⊎ WritesAs g W old new
+WritesServed g W Failed turns size bytes old new =
+    WritesOpened g W Failed turns size bytes old new ⊎ WritesAs g W old new
 
 -- ---- an installation
 

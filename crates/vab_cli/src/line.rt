@@ -77,6 +77,7 @@ fn done_line(command: &Command, current: usize, left: u64, out: &mut Line)
         | Command::Print(_)
         | Command::Digest(_)
         | Command::Begin
+        | Command::Factory
         | Command::Create(_, _)
         | Command::Resize(_, _)
         | Command::Delete(_)

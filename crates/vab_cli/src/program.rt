@@ -32,8 +32,13 @@ fn do_verb<P: Port>(alloc: Global, verb: Verb, port: &mut P, cause: &mut Option<
             metadata_max,
         } => make(alloc, port, limit, metadata_max, cause),
         Verb::Adopt(slot) => adopt(alloc, port, slot, cause),
-        Verb::Serve { fresh: true } => make_and_serve(alloc, port, cause),
-        Verb::Serve { fresh: false } => open_and_serve(alloc, port, cause),
+        Verb::Serve { fresh, turns } => {
+            if fresh {
+                make_and_serve(alloc, port, turns, cause)
+            } else {
+                open_and_serve(alloc, port, turns, cause)
+            }
+        }
         Verb::Install => install(alloc, port, cause),
         Verb::Boot => carry_out(alloc, port, &Command::Boot, cause),
         Verb::Mark => carry_out(alloc, port, &Command::Mark, cause),

@@ -28,18 +28,20 @@ use vab_causes::Cause;
 use vab_disk::{Disk, Port};
 use vab_make::make_device;
 use vab_recover::start;
-use vab_session::serve;
+use vab_session::serve_with;
 
-/// A session over the device of the disk.
+/// A session over the device of the disk, with so many turns of a merge behind the hello and behind
+/// each reply.
 pub(crate) fn open_and_serve<P: Port>(
     alloc: Global,
     port: &mut P,
+    turns: u64,
     cause: &mut Option<Cause>,
 ) -> Status
     ensures runs { P.is_modelled
         → (s : Mounted)
         → IsIn (P.size port.old) s (P.seen port.old)
-        → RunsSession P.Disk (P.size port.old) (λ o. ⊥) s port.old port.new result
+        → RunsSession P.Disk (P.size port.old) (λ o. ⊥) turns s port.old port.new result
         ⊎ FailsBefore P.Disk (P.size port.old) s port.old port.new result }
     ensures changes { P.is_modelled
         → (s : Mounted)
@@ -50,7 +52,7 @@ pub(crate) fn open_and_serve<P: Port>(
     ensures unmerged { P.is_modelled
         → (s : Mounted)
         → IsIn (P.size port.old) s (P.seen port.old)
-        → MergesNothing (2 ^ 44) (P.input_left port.old)
+        → MergesNothing (2 ^ 44) turns (P.input_left port.old)
         → Changes P.Disk
         (IsOfServing IsOfCommands (P.size port.old) (P.seen port.old))
         port.old port.new }
@@ -69,7 +71,7 @@ pub(crate) fn open_and_serve<P: Port>(
         → (s : Mounted)
         → IsIn (P.size port.old) s (P.seen port.old)
         → WritesServed P.Disk (IsOfOpening (P.size port.old) (P.seen port.old))
-        (result ≡ Status.Disk) (P.size port.old)
+        (result ≡ Status.Disk) turns (P.size port.old)
         (drop 4 (take (2 ^ 44) (P.input_left port.old)))
         port.old port.new }
     ensures unheard { P.is_modelled
@@ -95,7 +97,7 @@ pub(crate) fn open_and_serve<P: Port>(
         Ok(device) => device,
         Err(status) => return status,
     };
-    let answer = serve(alloc, port, device);
+    let answer = serve_with(alloc, port, device, turns);
     *cause = session_cause(&answer);
     session_status(&answer)
 }
@@ -107,19 +109,20 @@ const FRESH_METADATA_MAX: u32 = 65536;
 pub(crate) fn make_and_serve<P: Port>(
     alloc: Global,
     port: &mut P,
+    turns: u64,
     cause: &mut Option<Cause>,
 ) -> Status
     ensures runs { P.is_modelled
         → 6152 ≤ P.size port.old
         → RunsSession P.Disk (P.size port.old)
-        (LeavesMaking (P.told port.old) [] 0 65536 (P.size port.old) (P.seen port.old))
+        (LeavesMaking (P.told port.old) [] 0 65536 (P.size port.old) (P.seen port.old)) turns
         (made_device_of [] 0 65536 (P.size port.old))
         port.old port.new result
         ⊎ FailsMaking P.Disk (P.size port.old) [] 0 65536 port.old port.new result }
     ensures changes { P.is_modelled
         → Changes P.Disk (IsOfFresh IsOfAll (P.size port.old)) port.old port.new }
     ensures unmerged { P.is_modelled
-        → MergesNothing (2 ^ 44) (P.input_left port.old)
+        → MergesNothing (2 ^ 44) turns (P.input_left port.old)
         → Changes P.Disk (IsOfFresh IsOfCommands (P.size port.old)) port.old port.new }
     ensures small { P.is_modelled
         → P.size port.old < 6152
@@ -128,7 +131,7 @@ pub(crate) fn make_and_serve<P: Port>(
         → (result ≡ Status.NotADevice) ⊎ (result ≡ Status.NoMemory) }
     // What it writes is what making does, and what its packets write in turn on the made device.
     ensures writes { P.is_modelled
-        → WritesServed P.Disk (InSectors (IsOfMaking [] 65536)) (result ≡ Status.Disk)
+        → WritesServed P.Disk (InSectors (IsOfMaking [] 65536)) (result ≡ Status.Disk) turns
         (P.size port.old)
         (drop 4 (take (2 ^ 44) (P.input_left port.old)))
         port.old port.new }
@@ -163,7 +166,7 @@ pub(crate) fn make_and_serve<P: Port>(
         Ok(device) => device,
         Err(fault) => return Status::from(fault),
     };
-    let answer = serve(alloc, port, device);
+    let answer = serve_with(alloc, port, device, turns);
     *cause = session_cause(&answer);
     session_status(&answer)
 }

@@ -12,19 +12,22 @@ use Rattle.vab_disk.proofs.CallLaws.{changes_touches, changes_then, changes_wide
 use Rattle.vab_bootctl.specs.Boot.{activated_of, booted_of}
 use Rattle.vab_bootctl.specs.Control.{control_of, KeepsRest}
 use Rattle.vab_marks.specs.declared.mark.MarkPhase.TheVariants as marks
+use Rattle.vab_merging.specs.GateWrites.{merging_mark}
+use Rattle.vab_marks.specs.Mark.{rephased, begun}
 use Rattle.vab_geometry.specs.declared.geometry.Geometry.{Geometry}
 use Rattle.vab_lpstore.specs.Layout.{primary_of, backup_of}
 use Rattle.vab_layout.specs.Slots.{other_slot}
 use Rattle.vab_install.specs.Control.{cleared_of, IsControl as IsClearing}
 use Rattle.vab_model.specs.Commands.{Command, SetActive, Boot, Mark, Print, Digest, Begin, Create}
 use Rattle.vab_model.specs.Commands.{Resize, Delete, Snapshot, Flash, Finish, Cancel, BeginMerge}
-use Rattle.vab_model.specs.Commands.{Merge}
+use Rattle.vab_model.specs.Commands.{Merge, Factory}
 use Rattle.vab_device.specs.declared.device.Device.{Device}
 use Rattle.vab_device.specs.declared.device.Part.{Part}
 use Rattle.vab_device.specs.Does.{KeepsSource}
 use Rattle.vab_model.specs.Kinds.{is_of_merge}
 use Rattle.vab_device.specs.Kept.{IsDevice, copies_end, has_both, has_slot, parts_at}
 use Rattle.vab_device.specs.Reading.{Represents, IsOfImages}
+use Rattle.vab_begin.specs.Writes.{IsOfBegun}
 use Rattle.vab_edit.specs.Writes.{IsOfPhase}
 use Rattle.vab_manager.specs.Controls.{IsControl}
 use Rattle.vab_commands.specs.Controls.{Step, controls_by, IsOfControls}
@@ -34,9 +37,9 @@ use Rattle.vab_commands.specs.Touched.{IsOfCommands, ChangesDevice, IsOfUpdates,
 use Rattle.vab_commands.specs.Touched.{ChangesAll, ChangesBy, FollowsBy}
 use Rattle.vab_commands.proofs.ControlsLaws.{chosen, rest_same, Reached, writes_behind}
 use Rattle.vab_commands.proofs.ControlsLaws.{controls_wider}
-use Rattle.vab_merge_run.proofs.BehindLaws.{turns_behind}
+use Rattle.vab_merging.proofs.BehindLaws.{turns_behind}
 use Rattle.vab_merging.specs.Writes.{IsOfMerge}
-use Rattle.vab_commands.proofs.FreeLaws.{store_is_free}
+use Rattle.vab_commands.proofs.FreeLaws.{image_is_free}
 
 -- ---- one command
 
@@ -80,6 +83,28 @@ module _ {D : Type 0}
       → IsControl (cleared_of d.control (other_slot d.mark.slot)) (g.seen old 4) s b
   cleared_control is = record { at = is.at; control = is.control; rest = is.rest t }
 
+  -- what the begin of an installation writes, whose target stands apart or not
+  one_begun : (apart : Bool) → IsOfBegun g.is_modelled apart d (g.seen old 4) s b → Writes
+  one_begun apart w = ⊎_elim
+      (λ places.
+      ⊎_elim {C = Writes}
+      (λ clearing.
+      ⊎_elim {C = Writes}
+      (λ control.
+      inl (record {
+        steps = step Begin ∷ [];
+        of = (refl, tt);
+        writes = cleared_control control;
+      }))
+      (λ statuses. inr (inr (inl statuses)))
+      clearing)
+      (λ table.
+      of_text (record { text = _; fits = w.short; is = table }))
+      places)
+      (λ mark.
+      inr (inl (record { mark = begun apart d.mark; of = refl; is = mark })))
+      w.writes
+
   -- what a command that isn't one of a merge writes is of those that such commands write
   pub one_writes : (command : Command)
       → is_of_merge command ≡ false
@@ -110,24 +135,8 @@ module _ {D : Type 0}
   one_writes Mark not w = inl (record { steps = step Mark ∷ []; of = (refl, tt); writes = w })
   one_writes (Print name) not w = absurd w
   one_writes (Digest name) not w = absurd w
-  one_writes Begin not w = ⊎_elim
-      (λ places.
-      ⊎_elim {C = Writes}
-      (λ clearing.
-      ⊎_elim {C = Writes}
-      (λ control.
-      inl (record {
-        steps = step Begin ∷ [];
-        of = (refl, tt);
-        writes = cleared_control control;
-      }))
-      (λ statuses. inr (inr (inl statuses)))
-      clearing)
-      (λ table.
-      of_text (record { text = _; fits = w.short; is = table }))
-      places)
-      (λ mark. inr (inl (record { phase = marks.Installing; is = mark })))
-      w.writes
+  one_writes Begin not w = one_begun false w
+  one_writes Factory not w = one_begun true w
   one_writes (Create name size) not w =
       of_text (edit_writes d.plan d.geometry (other_slot d.mark.slot) s b w)
   one_writes (Resize name size) not w =
@@ -137,8 +146,9 @@ module _ {D : Type 0}
   one_writes (Snapshot name size) not w =
       of_text (edit_writes d.plan d.geometry (other_slot d.mark.slot) s b w)
   one_writes (Flash name chunk) not w = ⊎_elim
-      (λ store.
-      inr (inr (inr (inr (store_is_free d (g.size old) (g.seen old) _ s device is store)))))
+      (λ image.
+      inr (inr (inr (inr
+      (image_is_free d (g.size old) (g.seen old) name w.place s device is w.has image)))))
       (λ status. inr (inr (inl status.there)))
       w.writes
   one_writes Finish not w = ⊎_elim
@@ -148,9 +158,10 @@ module _ {D : Type 0}
         of = (refl, tt);
         writes = cleared_control control;
       }))
-      (λ mark. inr (inl (record { phase = marks.Staged; is = mark })))
+      (λ mark. inr (inl (record { mark = rephased marks.Staged d.mark; of = refl; is = mark })))
       w.writes
-  one_writes Cancel not w = inr (inl (record { phase = marks.Idle; is = w.mark }))
+  one_writes Cancel not w =
+      inr (inl (record { mark = rephased marks.Idle d.mark; of = refl; is = w.mark }))
   one_writes BeginMerge not w = absurd (let no : true ≡ false = not in cc)
   one_writes (Merge blocks) not w = absurd (let no : true ≡ false = not in cc)
 
@@ -186,7 +197,7 @@ merge_writes d size image blocks s b device is w =
     inr (inr (inr (turns_behind d size image blocks s device is w.merging turns))))
     (λ end. inl (record {
       slot = d.mark.slot;
-      mark = record { phase = marks.Completed; is = end.1 };
+      mark = record { mark = rephased marks.Completed d.mark; of = refl; is = end.1 };
     }))
     w.writes
 
@@ -212,7 +223,7 @@ any_writes g d old s b command t device is w =
         → IsOfUpdates d.geometry s b
     of_merge BeginMerge merge w = inl (record {
       slot = other_slot d.mark.slot;
-      mark = record { phase = marks.Merging; is = w.mark };
+      mark = record { mark = merging_mark d.mark; of = refl; is = w.mark };
     })
     of_merge (Merge blocks) merge w =
         merge_writes d (g.size old) (g.seen old) blocks s b device is w

@@ -5,7 +5,7 @@ use Rattle.vab_bootctl.specs.Boot.{activated_of, booted_of, marked_of}
 use Rattle.vab_layout.specs.Slots.{other_slot}
 use Rattle.vab_install.specs.Control.{cleared_of}
 use Rattle.vab_model.specs.Commands.{Command, SetActive, Boot, Mark, Begin}
-use Rattle.vab_model.specs.Commands.{Finish}
+use Rattle.vab_model.specs.Commands.{Finish, Factory}
 use Rattle.vab_manager.specs.Controls.{IsControl}
 
 -- A slot has images where both have, or where it is the source, the mark's slot.
@@ -21,6 +21,7 @@ control_by source a b (SetActive slot) c =
 control_by source a b Boot c = booted_of c (a ∷ b ∷ [])
 control_by source a b Mark c = marked_of c
 control_by source a b Begin c = cleared_of c (other_slot source)
+control_by source a b Factory c = cleared_of c (other_slot source)
 control_by source a b Finish c = cleared_of c (other_slot source)
 control_by source a b _ c = c
 

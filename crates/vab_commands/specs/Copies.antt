@@ -8,5 +8,5 @@ use Rattle.vab_device.specs.Reading.{Read, Reads, AgreeCopies}
 pub record HasBothCopies (size : ℕ) (image : Image) : Type 0 where
   pub read : Read
   pub reads : Reads size read image
-  pub agree : AgreeCopies read.geometry ((phase_at read.mark.phase).tables read.mark.slot)
+  pub agree : AgreeCopies read.geometry (phase_at read.mark).tables
       read.tables image

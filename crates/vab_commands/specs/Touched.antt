@@ -3,8 +3,8 @@ use Rattle.std.specs.Prelude.{◌≡◌, ◌⊎◌, ◌≤◌, ◌<◌, ℕ, ◌
 use Rattle.vab_disk.specs.declared.disk.Disk.{Ghosts}
 use Rattle.vab_disk.specs.Disk.{IsAt}
 use Rattle.vab_disk.specs.Calls.{Changes}
-use Rattle.vab_marks.specs.declared.mark.MarkPhase.{MarkPhase}
-use Rattle.vab_marks.specs.Mark.{mark_spelling, mark_at}
+use Rattle.vab_marks.specs.declared.mark.UpdateMark.{UpdateMark}
+use Rattle.vab_marks.specs.Mark.{mark_spelling}
 use Rattle.vab_statuses.specs.Statuses.{IsOfStatuses}
 use Rattle.vab_geometry.specs.declared.geometry.Geometry.{Geometry}
 use Rattle.vab_lpstore.specs.Storing.{IsOfTable}
@@ -15,10 +15,11 @@ use Rattle.vab_device.specs.Does.{KeepsSource}
 use Rattle.vab_device.specs.Reading.{IsOfImages}
 use Rattle.vab_commands.specs.Controls.{IsOfControls}
 
--- the sector of the update mark, with this slot in some phase
+-- the sector of the update mark, with one of this slot
 pub record IsMarkOf (slot s : ℕ) (b : List ℕ) : Type 0 where
-  pub phase : MarkPhase
-  pub is : IsAt 2048 (mark_spelling (mark_at phase slot)) s b
+  pub mark : UpdateMark
+  pub of : mark.slot ≡ slot
+  pub is : IsAt 2048 (mark_spelling mark) s b
 
 -- a sector of the copies of a slot's table, with its part of a text that fits there
 pub record IsTextOf (g : Geometry) (slot s : ℕ) (b : List ℕ) : Type 0 where
@@ -32,7 +33,7 @@ pub record IsFree (d : Device) (s : ℕ) : Type 0 where
   pub not_source : IsOfImages (parts_at d d.mark.slot) s → ⊥
 
 -- What an update from a device's slot may write but for boot control: the update mark, the
--- statuses, the target's table, and stores.
+-- statuses, the target's table, and the blocks that its images are written into.
 abbrev pub IsOfUpdate : Device → ℕ → List ℕ → Type 0
 IsOfUpdate d s b =
     IsMarkOf d.mark.slot s b

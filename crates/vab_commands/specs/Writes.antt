@@ -1,29 +1,30 @@
 -- The sectors that a command may write.
-use Rattle.std.specs.Prelude.{ℕ, List}
+use Rattle.std.specs.Prelude.{ℕ, true, false, List}
 use Rattle.vab_model.specs.Commands.{Command, SetActive, Boot, Mark, Print, Digest, Begin, Create}
 use Rattle.vab_model.specs.Commands.{Resize, Delete, Snapshot, Flash, Finish, Cancel, BeginMerge}
-use Rattle.vab_model.specs.Commands.{Merge}
+use Rattle.vab_model.specs.Commands.{Merge, Factory}
 use Rattle.vab_device.specs.declared.device.Device.{Device}
 use Rattle.vab_manager.specs.Controls as slots
 use Rattle.vab_begin.specs.Writes.{IsOfBegun, IsOfCancelled}
 use Rattle.vab_edit.specs.Writes.{IsOfEdit}
 use Rattle.vab_finish.specs.Writes.{IsOfFinished}
 use Rattle.vab_flash.specs.Touched.{IsOfFlash}
-use Rattle.vab_merge_gates.specs.Writes.{IsOfMergeBegun}
+use Rattle.vab_merging.specs.GateWrites.{IsOfMergeBegun}
 use Rattle.vab_merging.specs.Writes.{IsOfMerge}
 
 -- What a command may write on a device, where boot control's sector has these bytes: a command on
 -- slots boot control, by the boot rules; a begin its target's table and the mark, an edit that
--- table, a flash the partition's store and a status, a finish boot control without the target and
--- the mark, a cancel and the begin of a merge the mark, and a merge blocks of the partitions,
--- entries of their stores, and the mark at its end. The others write nothing.
+-- table, a flash the partition's store, or its own blocks, and a status, a finish boot control
+-- without the target and the mark, a cancel and the begin of a merge the mark, and a merge blocks
+-- of the partitions, entries of their stores, and the mark at its end. The others write nothing.
 abbrev pub IsOfCommand : Type 0 → Device → List ℕ → Command → ℕ → List ℕ → Type 0
 IsOfCommand told d old (SetActive slot) s b = slots.IsOfCommand d old (SetActive slot) s b
 IsOfCommand told d old Boot s b = slots.IsOfCommand d old Boot s b
 IsOfCommand told d old Mark s b = slots.IsOfCommand d old Mark s b
 IsOfCommand told d old (Print name) s b = ⊥
 IsOfCommand told d old (Digest name) s b = ⊥
-IsOfCommand told d old Begin s b = IsOfBegun told d old s b
+IsOfCommand told d old Begin s b = IsOfBegun told false d old s b
+IsOfCommand told d old Factory s b = IsOfBegun told true d old s b
 IsOfCommand told d old (Create name size) s b = IsOfEdit d s b
 IsOfCommand told d old (Resize name size) s b = IsOfEdit d s b
 IsOfCommand told d old (Delete name) s b = IsOfEdit d s b

@@ -17,8 +17,7 @@ use vab_finish::finish;
 use vab_flash::flash;
 use vab_gate::DiskFault;
 use vab_manager::{boot, digest, mark, print, set_active};
-use vab_merge_gates::begin_merge;
-use vab_merging::merge;
+use vab_merging::{begin_merge, merge};
 use vab_model::{Command, Reply};
 
 /// Carries out one command on a device, where these bytes are staged. Where the device that is kept
@@ -51,7 +50,8 @@ pub fn run_one<D: Disk>(
             Ok(reply) => Ok((device, reply)),
             Err(fault) => Err(fault),
         },
-        Command::Begin => begin(alloc, d, device),
+        Command::Begin => begin(alloc, d, device, false),
+        Command::Factory => begin(alloc, d, device, true),
         Command::Create(name, size) => edit(alloc, d, device, &Edit::Create(name, size)),
         Command::Resize(name, size) => edit(alloc, d, device, &Edit::Resize(name, size)),
         Command::Delete(name) => edit(alloc, d, device, &Edit::Delete(name)),

@@ -8,7 +8,10 @@ use Rattle.vab_disk.specs.Disk.{Image}
 use Rattle.vab_names.specs.Names.{store_of}
 use Rattle.vab_marks.specs.declared.mark.MarkPhase.{MarkPhase}
 use Rattle.vab_marks.specs.declared.mark.MarkPhase.TheVariants as marks
+use Rattle.vab_marks.specs.declared.mark.UpdateMark.{UpdateMark}
 use Rattle.vab_marks.specs.declared.status.PartStatus.{PartStatus}
+use Rattle.vab_marks.specs.declared.status.StatusImage.{StatusImage}
+use Rattle.vab_marks.specs.declared.status.StatusImage.TheVariants.{Stored, InPlace}
 use Rattle.vab_space.specs.declared.Chunk.{Chunk}
 use Rattle.vab_exceptions.specs.declared.area.Exception.{Exception}
 use Rattle.vab_store.specs.View.{stored_at}
@@ -29,12 +32,12 @@ use Rattle.vab_device.specs.Checks.{◌>>=◌}
 use Rattle.vab_device.specs.Kept.{block_sector, sectors_of, part_on, copies_end, super_bytes}
 use Rattle.vab_device.specs.Kept.{lies_in}
 use Rattle.vab_device.specs.Mounted.{blocks_there, sectors_by}
-use Rattle.vab_device.specs.Phases.{phase_at, store_on, planned_on, planned_image}
+use Rattle.vab_device.specs.Phases.{phase_in, phase_at, store_on, planned_on, planned_image}
 use Rattle.vab_device.specs.Reading.{Read, table_read, table_at, tables_in, table_for, parts_for}
 use Rattle.vab_device.specs.Reading.{parts_by}
 use Rattle.vab_device.specs.Reading.{read_table, kept, stores_of, Reads, IsOfBlocks, IsOfParts}
 use Rattle.vab_device.specs.Reading.{IsOfImages, IsOfStores, IsOfWritten, IsOfPlanned, IsOfPlan}
-use Rattle.vab_device.specs.Stores.{Wanted, Scanned, first_named, wanted_by, wanted_of, or_fewer}
+use Rattle.vab_device.specs.Stores.{Wanted, Scanned, first_named, image_wanted, wanted_of, or_fewer}
 use Rattle.vab_device.specs.Stores.{scanned_named, sector_seen, sectors_seen}
 use Rattle.vab_device.proofs.CheckLaws.{bound}
 
@@ -119,27 +122,32 @@ tables_behind size low g (slot ∷ slots) image ts le is =
 
 -- ---- stores
 
-wanted_from : (first low : ℕ) (st : PartStatus) (p q : Option PartOfLayout)
-    (ws : List (Result Wanted StartFault)) (s : ℕ)
+wanted_from : (may : Bool) (first low : ℕ) (name : List ℕ) (x : StatusImage)
+    (p q : Option PartOfLayout) (ws : List (Result Wanted StartFault)) (s : ℕ)
     → low ≤ 4096 + first
-    → IsOfStores (wanted_by first st p q ∷ ws) s
+    → IsOfStores (image_wanted may first name x p q ∷ ws) s
     → (low ≤ s) ⊎ IsOfStores ws s
-wanted_from first low st None q ws s le is = inr is
-wanted_from first low st (Some p) None ws s le is = inr is
-wanted_from first low st (Some p) (Some q) ws s le (inl is) =
+wanted_from may first low name InPlace None q ws s le is = inr is
+wanted_from may first low name InPlace (Some p) (Some q) ws s le is = inr is
+wanted_from true first low name InPlace (Some p) None ws s le (inl is) = absurd is
+wanted_from true first low name InPlace (Some p) None ws s le (inr is) = inr is
+wanted_from false first low name InPlace (Some p) None ws s le is = inr is
+wanted_from may first low name (Stored count k) None q ws s le is = inr is
+wanted_from may first low name (Stored count k) (Some p) None ws s le is = inr is
+wanted_from may first low name (Stored count k) (Some p) (Some q) ws s le (inl is) =
     inl (sectors_from first low q.blocks s le is)
-wanted_from first low st (Some p) (Some q) ws s le (inr is) = inr is
+wanted_from may first low name (Stored count k) (Some p) (Some q) ws s le (inr is) = inr is
 
-stores_from : (low slot : ℕ) (l : Layout) (statuses : List PartStatus) (s : ℕ)
+stores_from : (may : Bool) (low slot : ℕ) (l : Layout) (statuses : List PartStatus) (s : ℕ)
     → low ≤ 4096 + l.device.first_logical_sector
-    → IsOfStores (map (wanted_of slot l) statuses) s
+    → IsOfStores (map (wanted_of may slot l) statuses) s
     → low ≤ s
-stores_from low slot l [] s le is = absurd is
-stores_from low slot l (st ∷ sts) s le is =
-    ⊎_elim (λ here. here) (λ there. stores_from low slot l sts s le there)
-    (wanted_from l.device.first_logical_sector low st
+stores_from may low slot l [] s le is = absurd is
+stores_from may low slot l (st ∷ sts) s le is =
+    ⊎_elim (λ here. here) (λ there. stores_from may low slot l sts s le there)
+    (wanted_from may l.device.first_logical_sector low st.name st.image
     (first_named st.name (own_parts slot l.parts)) (first_named (store_of st.name) l.parts)
-    (map (wanted_of slot l) sts) s le is)
+    (map (wanted_of may slot l) sts) s le is)
 
 -- whether there may be fewer exceptions or not
 one_from : (w : Result Wanted StartFault) (ws : List (Result Wanted StartFault)) (s : ℕ)
@@ -151,33 +159,33 @@ one_from (Err fault) ws s is = inr is
 
 fewer_from : (low slot : ℕ) (l : Layout) (statuses : List PartStatus) (s : ℕ)
     → low ≤ 4096 + l.device.first_logical_sector
-    → IsOfStores (map (λ (st : PartStatus). or_fewer (wanted_of slot l st)) statuses) s
+    → IsOfStores (map (λ (st : PartStatus). or_fewer (wanted_of true slot l st)) statuses) s
     → low ≤ s
 fewer_from low slot l [] s le is = absurd is
 fewer_from low slot l (st ∷ sts) s le is =
-    ⊎_elim (λ here. stores_from low slot l (st ∷ []) s le here)
+    ⊎_elim (λ here. stores_from true low slot l (st ∷ []) s le here)
     (λ there. fewer_from low slot l sts s le there)
-    (one_from (wanted_of slot l st)
-    (map (λ (st : PartStatus). or_fewer (wanted_of slot l st)) sts) s is)
+    (one_from (wanted_of true slot l st)
+    (map (λ (st : PartStatus). or_fewer (wanted_of true slot l st)) sts) s is)
 
-phase_stores_from : (low slot : ℕ) (m : MarkPhase) (ts : List Table) (statuses : List PartStatus)
-    (s : ℕ)
+phase_stores_from : (low : ℕ) (p : MarkPhase) (m : UpdateMark) (ts : List Table)
+    (statuses : List PartStatus) (s : ℕ)
     → BeginBehind low ts
-    → IsOfStores ((phase_at m).stores slot ts statuses) s
+    → IsOfStores ((phase_in p m).stores ts statuses) s
     → low ≤ s
-phase_stores_from low slot marks.Idle ts statuses s begin is = absurd is
-phase_stores_from low slot marks.Installing [] statuses s begin is = absurd is
-phase_stores_from low slot marks.Installing (t ∷ []) statuses s begin is = absurd is
-phase_stores_from low slot marks.Installing (t ∷ u ∷ ts) statuses s begin is =
-    stores_from low (other_slot slot) (layout_of u) statuses s begin.1.0 is
-phase_stores_from low slot marks.Staged [] statuses s begin is = absurd is
-phase_stores_from low slot marks.Staged (t ∷ []) statuses s begin is = absurd is
-phase_stores_from low slot marks.Staged (t ∷ u ∷ ts) statuses s begin is =
-    stores_from low (other_slot slot) (layout_of u) statuses s begin.1.0 is
-phase_stores_from low slot marks.Merging [] statuses s begin is = absurd is
-phase_stores_from low slot marks.Merging (t ∷ ts) statuses s begin is =
-    fewer_from low slot (layout_of t) statuses s begin.0 is
-phase_stores_from low slot marks.Completed ts statuses s begin is = absurd is
+phase_stores_from low marks.Idle m ts statuses s begin is = absurd is
+phase_stores_from low marks.Installing m [] statuses s begin is = absurd is
+phase_stores_from low marks.Installing m (t ∷ []) statuses s begin is = absurd is
+phase_stores_from low marks.Installing m (t ∷ u ∷ ts) statuses s begin is =
+    stores_from m.apart low (other_slot m.slot) (layout_of u) statuses s begin.1.0 is
+phase_stores_from low marks.Staged m [] statuses s begin is = absurd is
+phase_stores_from low marks.Staged m (t ∷ []) statuses s begin is = absurd is
+phase_stores_from low marks.Staged m (t ∷ u ∷ ts) statuses s begin is =
+    stores_from m.apart low (other_slot m.slot) (layout_of u) statuses s begin.1.0 is
+phase_stores_from low marks.Merging m [] statuses s begin is = absurd is
+phase_stores_from low marks.Merging m (t ∷ ts) statuses s begin is =
+    fewer_from low m.slot (layout_of t) statuses s begin.0 is
+phase_stores_from low marks.Completed m ts statuses s begin is = absurd is
 
 -- ---- the partitions that are planned
 
@@ -286,19 +294,20 @@ planned_from low l ss (p ∷ ps) s le (inl is) =
     written_from low l ss p (planned_image (is_updated p) (scanned_named p.name ss)) s le is
 planned_from low l ss (p ∷ ps) s le (inr is) = planned_from low l ss ps s le is
 
-phase_plan_from : (low slot : ℕ) (m : MarkPhase) (ts : List Table) (ss : List Scanned) (s : ℕ)
+phase_plan_from : (low : ℕ) (p : MarkPhase) (m : UpdateMark) (ts : List Table)
+    (ss : List Scanned) (s : ℕ)
     → BeginBehind low ts
-    → IsOfPlan ((phase_at m).plan slot ts ss) s
+    → IsOfPlan ((phase_in p m).plan ts ss) s
     → low ≤ s
-phase_plan_from low slot marks.Idle ts ss s begin is = absurd is
-phase_plan_from low slot marks.Installing [] ss s begin is = absurd is
-phase_plan_from low slot marks.Installing (t ∷ []) ss s begin is = absurd is
-phase_plan_from low slot marks.Installing (t ∷ u ∷ ts) ss s begin is =
-    planned_from low (layout_of u) ss (own_parts (other_slot slot) (layout_of u).parts) s begin.1.0
-    is
-phase_plan_from low slot marks.Staged ts ss s begin is = absurd is
-phase_plan_from low slot marks.Merging ts ss s begin is = absurd is
-phase_plan_from low slot marks.Completed ts ss s begin is = absurd is
+phase_plan_from low marks.Idle m ts ss s begin is = absurd is
+phase_plan_from low marks.Installing m [] ss s begin is = absurd is
+phase_plan_from low marks.Installing m (t ∷ []) ss s begin is = absurd is
+phase_plan_from low marks.Installing m (t ∷ u ∷ ts) ss s begin is =
+    planned_from low (layout_of u) ss (own_parts (other_slot m.slot) (layout_of u).parts) s
+    begin.1.0 is
+phase_plan_from low marks.Staged m ts ss s begin is = absurd is
+phase_plan_from low marks.Merging m ts ss s begin is = absurd is
+phase_plan_from low marks.Completed m ts ss s begin is = absurd is
 
 -- ---- all that is read
 
@@ -308,7 +317,7 @@ read_begins : (size low : ℕ) (r : Read) (image : Image)
     → 512 * (low - 4096) ≤ copies_end r.geometry
     → BeginBehind low r.tables
 read_begins size low r image reads le =
-    tables_behind size low r.geometry ((phase_at r.mark.phase).tables r.mark.slot) image r.tables le
+    tables_behind size low r.geometry (phase_at r.mark).tables image r.tables le
     reads.tables
 
 -- a sector of an image stands behind the copies
@@ -318,7 +327,7 @@ pub images_behind : (size low slot : ℕ) (b through : Bool) (r : Read) (image :
     → IsOfImages (parts_for slot b through r.scanned (read_table slot r)) s
     → low ≤ s
 images_behind size low slot b through r image s reads le is =
-    for_from low slot b through r.scanned ((phase_at r.mark.phase).tables r.mark.slot) r.tables s
+    for_from low slot b through r.scanned (phase_at r.mark).tables r.tables s
     (read_begins size low r image reads le)
     is
 
@@ -329,7 +338,7 @@ pub stores_behind : (size low : ℕ) (r : Read) (image : Image) (s : ℕ)
     → IsOfStores (stores_of r) s
     → low ≤ s
 stores_behind size low r image s reads le is =
-    phase_stores_from low r.mark.slot r.mark.phase r.tables (written_in r.statuses) s
+    phase_stores_from low r.mark.phase r.mark r.tables (written_in r.statuses) s
     (read_begins size low r image reads le)
     is
 
@@ -340,6 +349,6 @@ pub plan_behind : (size low : ℕ) (r : Read) (image : Image) (s : ℕ)
     → IsOfPlan (kept r).plan s
     → low ≤ s
 plan_behind size low r image s reads le is =
-    phase_plan_from low r.mark.slot r.mark.phase r.tables r.scanned s
+    phase_plan_from low r.mark.phase r.mark r.tables r.scanned s
     (read_begins size low r image reads le)
     is

@@ -70,7 +70,7 @@ copies_kept g (slot ∷ slots) (t ∷ ts) old new same agree =
 abbrev pub read_with : Read → Control → Read
 read_with r c = record r {
   control = control_seen
-      ((phase_at r.mark.phase).has_a r.mark.slot) ((phase_at r.mark.phase).has_b r.mark.slot) c;
+      (phase_at r.mark).has_a (phase_at r.mark).has_b c;
 }
 
 abbrev pub with_boot : Control → Device → Device
@@ -91,13 +91,13 @@ module _
   elsewhere s other = set_there old 4 bytes s other
 
   of_tables : (s : ℕ)
-      → IsOfTables is.read.geometry ((phase_at is.read.mark.phase).tables is.read.mark.slot) s
+      → IsOfTables is.read.geometry (phase_at is.read.mark).tables s
       → gated s ≡ old s
   of_tables s there =
       elsewhere s (λ e. omega (
         arith,
         e,
-        tables_from is.read.geometry ((phase_at is.read.mark.phase).tables is.read.mark.slot) s
+        tables_from is.read.geometry (phase_at is.read.mark).tables s
             there,
       ))
 
@@ -121,7 +121,7 @@ module _
     enough = is.reads.enough;
     mark = mark_same old gated (elsewhere 2048 (λ e. omega (arith, e))) ∙ is.reads.mark;
     statuses =
-        statuses_kept (phase_at is.read.mark.phase).reads_statuses old gated version_gated
+        statuses_kept (phase_at is.read.mark).reads_statuses old gated version_gated
         (λ read s there. elsewhere s (λ e. omega (arith, e, there.from)))
         ∙ is.reads.statuses;
     control = control_there _ _;
@@ -131,7 +131,7 @@ module _
         (elsewhere 4112 (λ e. omega (arith, e)))
         ∙ is.reads.geometry;
     tables =
-        tables_agree size is.read.geometry ((phase_at is.read.mark.phase).tables is.read.mark.slot)
+        tables_agree size is.read.geometry (phase_at is.read.mark).tables
         old gated
         of_tables
         ∙ is.reads.tables;
@@ -156,7 +156,7 @@ module _
     reads = reads_gated state;
     is = ap (with_boot c) is.is;
     control = ap control_of (set_here old 4 bytes 4 refl) ∙ decoded;
-    copies = copies_kept is.read.geometry ((phase_at is.read.mark.phase).tables is.read.mark.slot)
+    copies = copies_kept is.read.geometry (phase_at is.read.mark).tables
         is.read.tables old gated of_tables is.copies;
     version = version_gated ∙ is.version;
   }

@@ -11,7 +11,7 @@ use Rattle.vab_tables.specs.declared.table.Table.{Table}
 use Rattle.vab_device.specs.declared.fault.StartFault.{StartFault}
 use Rattle.vab_device.specs.Checks.{first_fault, or_else, ◌>>=◌}
 use Rattle.vab_device.specs.Idle.{control_read_of, idle_read}
-use Rattle.vab_device.specs.Phases.{Phase, slot_checks, phase_at, own_check}
+use Rattle.vab_device.specs.Phases.{Phase, idle, slot_checks, phase_at, own_check}
 use Rattle.vab_device.specs.Reading.{Read, mark_in, statuses_at, control_in, geometry_at, table_at}
 use Rattle.vab_device.specs.Reading.{tables_in, part_fault, state_fault, stores_of, device, Reads}
 use Rattle.vab_device.specs.Reading.{most_at}
@@ -23,9 +23,9 @@ use Rattle.vab_device.proofs.ReadingLaws.{FrameReads, idle_at}
 -- where the phase is that one, what is said of it is said of each phase
 of_idle : (m : UpdateMark) (P : Phase → Type 0)
     → m.phase ≡ marks.Idle
-    → P (phase_at marks.Idle)
-    → P (phase_at m.phase)
-of_idle m P is p = subst P (sym (idle_at m.phase is)) p
+    → P (idle m)
+    → P (phase_at m)
+of_idle m P is p = subst P (sym (idle_at m is)) p
 
 no_statuses : (image : Image) → statuses_at false image ≡ Ok []
 unfolding statuses_at
@@ -36,15 +36,15 @@ module _
     (enough : leb 4120 size ≡ true)
     (mark : mark_in image ≡ Ok m)
     (is_idle : m.phase ≡ marks.Idle) where
-  statuses : statuses_at (phase_at m.phase).reads_statuses image ≡ Ok []
+  statuses : statuses_at (phase_at m).reads_statuses image ≡ Ok []
   statuses =
       of_idle m (λ p. statuses_at p.reads_statuses image ≡ Ok []) is_idle (no_statuses image)
 
   control_is : (x : Result Control StartFault)
       → control_in (m.slot == 0) (m.slot == 1) image ≡ x
-      → control_in ((phase_at m.phase).has_a m.slot) ((phase_at m.phase).has_b m.slot) image ≡ x
+      → control_in (phase_at m).has_a (phase_at m).has_b image ≡ x
   control_is x is =
-      of_idle m (λ p. control_in (p.has_a m.slot) (p.has_b m.slot) image ≡ x) is_idle is
+      of_idle m (λ p. control_in p.has_a p.has_b image ≡ x) is_idle is
 
   pub idle_no_control : (f : StartFault)
       → control_in (m.slot == 0) (m.slot == 1) image ≡ Err f
@@ -62,8 +62,8 @@ module _
 
   tables_are : (g : Geometry) (x : Result (List Table) StartFault)
       → tables_in size g (m.slot ∷ []) image ≡ x
-      → tables_in size g ((phase_at m.phase).tables m.slot) image ≡ x
-  tables_are g x is = of_idle m (λ p. tables_in size g (p.tables m.slot) image ≡ x) is_idle is
+      → tables_in size g (phase_at m).tables image ≡ x
+  tables_are g x is = of_idle m (λ p. tables_in size g p.tables image ≡ x) is_idle is
 
   pub idle_no_table : (c : Control) (g : Geometry) (f : StartFault)
       → control_in (m.slot == 0) (m.slot == 1) image ≡ Ok c
@@ -102,7 +102,7 @@ module _
     parts_are =
         of_idle m
         (λ p.
-        first_fault (p.part_checks (most_at image) m.slot (t ∷ []))
+        first_fault (p.part_checks (most_at image) (t ∷ []))
         ≡ own_check (most_at image) m.slot t)
         is_idle
         (or_first (own_check (most_at image) m.slot t))
@@ -112,12 +112,12 @@ module _
     state_is =
         of_idle m
         (λ p.
-        first_fault (p.state_checks m.slot (control_read_of m.slot c) (t ∷ []) [])
+        first_fault (p.state_checks (control_read_of m.slot c) (t ∷ []) [])
         ≡ first_fault (slot_checks m.slot (control_read_of m.slot c)))
         is_idle refl
 
     no_stores : scans_in (stores_of (idle_read m c g t)) image ≡ Ok []
-    no_stores = of_idle m (λ p. scans_in (p.stores m.slot (t ∷ []) []) image ≡ Ok []) is_idle refl
+    no_stores = of_idle m (λ p. scans_in (p.stores (t ∷ []) []) image ≡ Ok []) is_idle refl
 
     pub idle_judged : (f : StartFault)
         → or_else (own_check (most_at image) m.slot t)

@@ -4,6 +4,7 @@ pub mod CheckLaws
 pub mod ControlLaws
 pub mod DoesLaws
 pub mod IdleLaws
+pub mod InPlaceLaws
 pub mod MarkLaws
 pub mod MostLaws
 pub mod OpeningLaws

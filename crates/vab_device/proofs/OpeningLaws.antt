@@ -36,7 +36,7 @@ device_no_mark size image f enough mark = rw (enough, mark) refl
 pub device_no_statuses : (size : ℕ) (image : Image) (m : UpdateMark) (f : StartFault)
     → leb 4120 size ≡ true
     → mark_in image ≡ Ok m
-    → statuses_at (phase_at m.phase).reads_statuses image ≡ Err f
+    → statuses_at (phase_at m).reads_statuses image ≡ Err f
     → device size image ≡ Err f
 unfolding device frame
 device_no_statuses size image m f enough mark statuses = rw (enough, mark, statuses) refl
@@ -45,8 +45,8 @@ pub device_no_control : (size : ℕ) (image : Image) (m : UpdateMark)
     (ss : List (Option PartStatus)) (f : StartFault)
     → leb 4120 size ≡ true
     → mark_in image ≡ Ok m
-    → statuses_at (phase_at m.phase).reads_statuses image ≡ Ok ss
-    → control_in ((phase_at m.phase).has_a m.slot) ((phase_at m.phase).has_b m.slot) image ≡ Err f
+    → statuses_at (phase_at m).reads_statuses image ≡ Ok ss
+    → control_in (phase_at m).has_a (phase_at m).has_b image ≡ Err f
     → device size image ≡ Err f
 unfolding device frame
 device_no_control size image m ss f enough mark statuses control =
@@ -56,8 +56,8 @@ pub device_no_geometry : (size : ℕ) (image : Image) (m : UpdateMark)
     (ss : List (Option PartStatus)) (c : Control) (f : StartFault)
     → leb 4120 size ≡ true
     → mark_in image ≡ Ok m
-    → statuses_at (phase_at m.phase).reads_statuses image ≡ Ok ss
-    → control_in ((phase_at m.phase).has_a m.slot) ((phase_at m.phase).has_b m.slot) image ≡ Ok c
+    → statuses_at (phase_at m).reads_statuses image ≡ Ok ss
+    → control_in (phase_at m).has_a (phase_at m).has_b image ≡ Ok c
     → geometry_at size image ≡ Err f
     → device size image ≡ Err f
 unfolding device frame
@@ -68,10 +68,10 @@ pub device_no_tables : (size : ℕ) (image : Image) (m : UpdateMark)
     (ss : List (Option PartStatus)) (c : Control) (g : Geometry) (f : StartFault)
     → leb 4120 size ≡ true
     → mark_in image ≡ Ok m
-    → statuses_at (phase_at m.phase).reads_statuses image ≡ Ok ss
-    → control_in ((phase_at m.phase).has_a m.slot) ((phase_at m.phase).has_b m.slot) image ≡ Ok c
+    → statuses_at (phase_at m).reads_statuses image ≡ Ok ss
+    → control_in (phase_at m).has_a (phase_at m).has_b image ≡ Ok c
     → geometry_at size image ≡ Ok g
-    → tables_in size g ((phase_at m.phase).tables m.slot) image ≡ Err f
+    → tables_in size g (phase_at m).tables image ≡ Err f
     → device size image ≡ Err f
 unfolding device frame
 device_no_tables size image m ss c g f enough mark statuses control geometry tables =

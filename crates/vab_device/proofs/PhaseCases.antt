@@ -1,7 +1,7 @@
 -- What is known of a kept device by its phase.
 use Rattle.std.proofs.Common.{◌≡◌, ◌∙◌, ◌⊎◌, inl, inr, ℕ, zero, suc, ◌<◌, List, refl}
 use Rattle.std.proofs.Common.{ap}
-use Rattle.std.proofs.Common.{arith, true, false}
+use Rattle.std.proofs.Common.{arith, Bool, true, false}
 use Rattle.std.specs.Prelude.{Option, Some, None, is_some}
 use Rattle.vab_marks.specs.declared.mark.MarkPhase.{MarkPhase}
 use Rattle.vab_marks.specs.declared.mark.MarkPhase.TheVariants as marks
@@ -104,6 +104,6 @@ pub unplanned_of : (d : Device) (size : ℕ) (p : MarkPhase)
 unplanned_of d size p is none phase =
     none_of d.plan (is.planned ∙ ap is_installing phase ∙ none)
 
-pub no_target : (source : ℕ) (s : Option Table) → IsUpdate source s None
-no_target source None = tt
-no_target source (Some s) = tt
+pub no_target : (apart : Bool) (source : ℕ) (s : Option Table) → IsUpdate apart source s None
+no_target apart source None = tt
+no_target apart source (Some s) = tt

@@ -19,7 +19,7 @@ use Rattle.vab_model.proofs.SeenLaws.{seen_again}
 use Rattle.vab_device.specs.declared.fault.StartFault.{StartFault}
 use Rattle.vab_device.specs.declared.fault.StartFault.TheVariants.{TooSmall, BadMark, BadState}
 use Rattle.vab_marks.specs.declared.sector.MarkFault.{MarkFault}
-use Rattle.vab_marks.specs.Mark.{mark_of}
+use Rattle.vab_marks.specs.Mark.{mark_of, MayStandApart, rephased}
 use Rattle.vab_model.specs.declared.state.Phase.TheVariants as phases
 use Rattle.vab_device.specs.declared.device.Device.{Device}
 use Rattle.vab_device.specs.Checks.{Check, check, or_else, first_fault, ◌>>=◌}
@@ -27,8 +27,8 @@ use Rattle.vab_device.specs.Mounted.{Mounted, control_on, state_on, mounted_on, 
 use Rattle.vab_device.specs.Mounted.{entries_on, phase_by, phase_on, unplanned, count_at}
 use Rattle.vab_device.specs.Stores.{Scanned, scans_in}
 use Rattle.vab_device.specs.Kept.{IsPhase, has_both, has_slot}
-use Rattle.vab_device.specs.Phases.{Phase, slot_checks, staged_checks, idle, installing, phase_at}
-use Rattle.vab_device.specs.Phases.{is_good, slot_ready}
+use Rattle.vab_device.specs.Phases.{Phase, slot_checks, staged_checks, idle, installing}
+use Rattle.vab_device.specs.Phases.{phase_in, phase_at, is_good, slot_ready}
 use Rattle.vab_device.specs.Reading.{Read, settled, mark_read, mark_in, statuses_at, control_read}
 use Rattle.vab_device.specs.Reading.{control_in}
 use Rattle.vab_device.specs.Reading.{geometry_at, stores_of, scanned_in, most_at}
@@ -36,7 +36,7 @@ use Rattle.vab_device.specs.Reading.{table_at, tables_in, framed, frame, part_fa
 use Rattle.vab_device.specs.Reading.{judged, stated, table_for, parts_for, kept, device}
 use Rattle.vab_device.specs.Reading.{Reads, Represents, SameRead, control_kept}
 use Rattle.vab_device.proofs.CheckLaws.{bound, passed}
-use Rattle.vab_device.proofs.MarkLaws.{mark_slot}
+use Rattle.vab_device.proofs.MarkLaws.{mark_slot, rephased_apart}
 use Rattle.vab_device.proofs.MostLaws.{parts_more}
 
 -- ---- where it is read it means so
@@ -49,14 +49,14 @@ unscanned r = record r { scanned = [] }
 pub record FrameReads (size : ℕ) (image : Image) (r : Read) : Type 0 where
   pub enough : nat_le 4120 size ≡ true
   pub mark : mark_in image ≡ Ok r.mark
-  pub statuses : statuses_at (phase_at r.mark.phase).reads_statuses image ≡ Ok r.statuses
+  pub statuses : statuses_at (phase_at r.mark).reads_statuses image ≡ Ok r.statuses
   pub control : control_in
-      ((phase_at r.mark.phase).has_a r.mark.slot)
-      ((phase_at r.mark.phase).has_b r.mark.slot)
+      (phase_at r.mark).has_a
+      (phase_at r.mark).has_b
       image
       ≡ Ok r.control
   pub geometry : geometry_at size image ≡ Ok r.geometry
-  pub tables : tables_in size r.geometry ((phase_at r.mark.phase).tables r.mark.slot) image
+  pub tables : tables_in size r.geometry (phase_at r.mark).tables image
       ≡ Ok r.tables
 
 pub frame_is : (size : ℕ) (r : Read) (image : Image)
@@ -96,23 +96,23 @@ device_of size r image reads =
 framed_was : (size : ℕ) (m : UpdateMark) (image : Image) (r : Read)
     → nat_le 4120 size ≡ true
     → mark_in image ≡ Ok m
-    → framed size m (phase_at m.phase) image ≡ Ok r
+    → framed size m (phase_at m) image ≡ Ok r
     → FrameReads size image r
 framed_was size m image r enough mark is =
-    let p : Phase = phase_at m.phase in
+    let p : Phase = phase_at m in
     let ss = bound (statuses_at p.reads_statuses image)
-    (λ ss. control_in (p.has_a m.slot) (p.has_b m.slot) image >>= λ c.
+    (λ ss. control_in p.has_a p.has_b image >>= λ c.
     geometry_at size image >>= λ g.
-    tables_in size g (p.tables m.slot) image >>= λ ts.
+    tables_in size g p.tables image >>= λ ts.
     Ok (record { mark = m; statuses = ss; control = c; geometry = g; tables = ts; scanned = [] }))
     r is in
-    let c = bound (control_in (p.has_a m.slot) (p.has_b m.slot) image)
+    let c = bound (control_in p.has_a p.has_b image)
     (λ c. geometry_at size image >>= λ g.
-    tables_in size g (p.tables m.slot) image >>= λ ts.
+    tables_in size g p.tables image >>= λ ts.
     Ok (record { mark = m; statuses = ss.0; control = c; geometry = g; tables = ts; scanned = [] }))
     r ss.2 in
     let g = bound (geometry_at size image)
-    (λ g. tables_in size g (p.tables m.slot) image >>= λ ts.
+    (λ g. tables_in size g p.tables image >>= λ ts.
     Ok (record {
       mark = m;
       statuses = ss.0;
@@ -123,7 +123,7 @@ framed_was size m image r enough mark is =
           [];
     }))
     r c.2 in
-    let ts = bound (tables_in size g.0 (p.tables m.slot) image)
+    let ts = bound (tables_in size g.0 p.tables image)
     (λ ts.
     Ok (record {
       mark = m;
@@ -161,9 +161,9 @@ frame_was : (size : ℕ) (image : Image) (r : Read)
 unfolding frame
 frame_was size image r is = elim (cases_Bool (nat_le 4120 size)) [
   | inl enough ↦
-      let reading : (mark_in image >>= λ m. framed size m (phase_at m.phase) image) ≡ Ok r =
+      let reading : (mark_in image >>= λ m. framed size m (phase_at m) image) ≡ Ok r =
       rw enough at is in
-      let m = bound (mark_in image) (λ m. framed size m (phase_at m.phase) image) r reading in
+      let m = bound (mark_in image) (λ m. framed size m (phase_at m) image) r reading in
       framed_was size m.0 image r enough m.1 m.2
   | inr few ↦
       let failed : (let none : Result Read StartFault = Err (TooSmall 4120 size) in none ≡ Ok r) =
@@ -287,37 +287,32 @@ device_same size r old new reads same =
 
 -- ---- the phases
 
-pub idle_at : (m : MarkPhase) → m ≡ marks.Idle → phase_at m ≡ idle
-idle_at m is = ap phase_at is
+pub idle_at : (m : UpdateMark) → m.phase ≡ marks.Idle → phase_at m ≡ idle m
+idle_at m is = ap (λ (p : MarkPhase). phase_in p m) is
 
 -- What a phase reads: which slots have images, and the table of the slot of the mark first.
-pub record IsOf (m : MarkPhase) (p : Phase) : Type 0 where
-  pub has_a : p.has_a ≡ (λ slot. has_slot m slot 0)
-  pub has_b : p.has_b ≡ (λ slot. has_slot m slot 1)
-  pub others : ℕ → List ℕ
-  pub tables : p.tables ≡ (λ slot. slot ∷ others slot)
+pub record IsOf (p : MarkPhase) (m : UpdateMark) : Type 0 where
+  pub has_a : (phase_in p m).has_a ≡ has_slot p m.slot 0
+  pub has_b : (phase_in p m).has_b ≡ has_slot p m.slot 1
+  pub others : List ℕ
+  pub tables : (phase_in p m).tables ≡ m.slot ∷ others
 
-pub of_phase : (m : MarkPhase) → IsOf m (phase_at m)
-of_phase marks.Idle = record { has_a = refl; has_b = refl; others = λ slot. []; tables = refl }
-of_phase marks.Installing = record {
+pub of_phase : (p : MarkPhase) (m : UpdateMark) → IsOf p m
+of_phase marks.Idle m = record { has_a = refl; has_b = refl; others = []; tables = refl }
+of_phase marks.Installing m = record {
   has_a = refl;
   has_b = refl;
-  others = λ slot. other_slot slot ∷ [];
+  others = other_slot m.slot ∷ [];
   tables = refl;
 }
-of_phase marks.Staged = record {
+of_phase marks.Staged m = record {
   has_a = refl;
   has_b = refl;
-  others = λ slot. other_slot slot ∷ [];
+  others = other_slot m.slot ∷ [];
   tables = refl;
 }
-of_phase marks.Merging = record { has_a = refl; has_b = refl; others = λ slot. []; tables = refl }
-of_phase marks.Completed = record {
-  has_a = refl;
-  has_b = refl;
-  others = λ slot. [];
-  tables = refl;
-}
+of_phase marks.Merging m = record { has_a = refl; has_b = refl; others = []; tables = refl }
+of_phase marks.Completed m = record { has_a = refl; has_b = refl; others = []; tables = refl }
 
 -- what is asked beside boot control, where one slot has images
 unfoldable ready_check : MarkPhase → (slot : ℕ) → List Table → List Scanned → Check
@@ -342,19 +337,20 @@ or_parts None y is = (refl, is)
 or_parts (Some fault) y is = absurd (let same : Some fault ≡ None = is in cc)
 
 -- where one slot has images, the rules of the slots are those of that one, and that
-single_checks : (m : MarkPhase) (slot : ℕ) (c : Control) (ts : List Table) (ss : List Scanned)
-    → has_both m ≡ false
-    → first_fault ((phase_at m).state_checks slot c ts ss)
-    ≡ or_else (first_fault (slot_checks slot c)) (ready_check m slot ts ss)
+single_checks : (p : MarkPhase) (m : UpdateMark) (c : Control) (ts : List Table)
+    (ss : List Scanned)
+    → has_both p ≡ false
+    → first_fault ((phase_in p m).state_checks c ts ss)
+    ≡ or_else (first_fault (slot_checks m.slot c)) (ready_check p m.slot ts ss)
 unfolding ready_check
-single_checks marks.Idle slot c ts ss one = sym (or_none (first_fault (slot_checks slot c)))
-single_checks marks.Installing slot c ts ss one = sym (or_none (first_fault (slot_checks slot c)))
-single_checks marks.Staged slot c ts ss one = absurd cc
-single_checks marks.Merging slot c ts ss one =
-    or_again (check (c.current == slot) (BadState 1))
-    (check (is_good (info_at c slot)) (BadState 2))
-    (check (slot_ready slot ts ss) (BadState 3))
-single_checks marks.Completed slot c ts ss one = sym (or_none (first_fault (slot_checks slot c)))
+single_checks marks.Idle m c ts ss one = sym (or_none (first_fault (slot_checks m.slot c)))
+single_checks marks.Installing m c ts ss one = sym (or_none (first_fault (slot_checks m.slot c)))
+single_checks marks.Staged m c ts ss one = absurd cc
+single_checks marks.Merging m c ts ss one =
+    or_again (check (c.current == m.slot) (BadState 1))
+    (check (is_good (info_at c m.slot)) (BadState 2))
+    (check (slot_ready m.slot ts ss) (BadState 3))
+single_checks marks.Completed m c ts ss one = sym (or_none (first_fault (slot_checks m.slot c)))
 
 pub single_works : (r : Read)
     → has_both r.mark.phase ≡ false
@@ -363,7 +359,7 @@ pub single_works : (r : Read)
 single_works r one none =
     (or_parts (first_fault (slot_checks r.mark.slot r.control))
     (ready_check r.mark.phase r.mark.slot r.tables r.scanned)
-    (sym (single_checks r.mark.phase r.mark.slot r.control r.tables r.scanned one) ∙ none)).0
+    (sym (single_checks r.mark.phase r.mark r.control r.tables r.scanned one) ∙ none)).0
 
 -- so they are with another boot control
 pub single_again : (r : Read) (c : Control)
@@ -374,8 +370,8 @@ pub single_again : (r : Read) (c : Control)
 single_again r c one none keeps =
     let ready = (or_parts (first_fault (slot_checks r.mark.slot r.control))
     (ready_check r.mark.phase r.mark.slot r.tables r.scanned)
-    (sym (single_checks r.mark.phase r.mark.slot r.control r.tables r.scanned one) ∙ none)).1 in
-    single_checks r.mark.phase r.mark.slot c r.tables r.scanned one
+    (sym (single_checks r.mark.phase r.mark r.control r.tables r.scanned one) ∙ none)).1 in
+    single_checks r.mark.phase r.mark c r.tables r.scanned one
     ∙ (λ i. or_else (keeps i) (ready i))
 
 pub state_staged : (r : Read)
@@ -383,18 +379,18 @@ pub state_staged : (r : Read)
     → state_fault r ≡ first_fault (staged_checks r.mark.slot r.control r.tables r.scanned)
 state_staged r is =
     ap
-    (λ (m : MarkPhase).
-    first_fault ((phase_at m).state_checks r.mark.slot r.control r.tables r.scanned))
+    (λ (p : MarkPhase).
+    first_fault ((phase_in p r.mark).state_checks r.control r.tables r.scanned))
     is
 
 -- of boot control the info of slots with images is read
 pub seen_slots : (r : Read) (c : Control)
-    → control_seen ((phase_at r.mark.phase).has_a r.mark.slot)
-    ((phase_at r.mark.phase).has_b r.mark.slot) c
+    → control_seen (phase_at r.mark).has_a
+    (phase_at r.mark).has_b c
     ≡ control_kept r.mark c
 seen_slots r c =
-    let of = of_phase r.mark.phase in
-    (λ i. control_seen (of.has_a i r.mark.slot) (of.has_b i r.mark.slot) c)
+    let of = of_phase r.mark.phase r.mark in
+    (λ i. control_seen (of.has_a i) (of.has_b i) c)
 
 -- a mark that is read is of a phase that a device may be in
 known_by : (phase : MarkPhase) → IsPhase (settled phase)
@@ -406,7 +402,7 @@ known_by marks.Completed = inl refl
 
 known_of : (x : Result UpdateMark MarkFault) (r : UpdateMark) → mark_read x ≡ Ok r → IsPhase r.phase
 known_of (Ok m) r is =
-    let e : record m { phase = settled m.phase } ≡ r = cc in
+    let e : rephased (settled m.phase) m ≡ r = cc in
     subst (λ (x : UpdateMark). IsPhase x.phase) e (known_by m.phase)
 known_of (Err fault) r is =
     absurd (let bad : (let x : Result UpdateMark StartFault = Err (BadMark 2048) in x ≡ Ok r) =
@@ -422,11 +418,26 @@ slot_read : (bytes : List ℕ) (x : Result UpdateMark MarkFault) (r : UpdateMark
     → mark_read x ≡ Ok r
     → r.slot < 2
 slot_read bytes (Ok m) r of is =
-    let e : record m { phase = settled m.phase } ≡ r = cc in
+    let e : rephased (settled m.phase) m ≡ r = cc in
     subst (λ (x : UpdateMark). x.slot < 2) e (mark_slot bytes m of)
 slot_read bytes (Err fault) r of is =
     absurd (let bad : (let x : Result UpdateMark StartFault = Err (BadMark 2048) in x ≡ Ok r) =
     is in cc)
+
+-- a target stands apart in the phases alone in which one may
+apart_read : (x : Result UpdateMark MarkFault) (r : UpdateMark)
+    → mark_read x ≡ Ok r
+    → MayStandApart r
+apart_read (Ok m) r is =
+    let e : rephased (settled m.phase) m ≡ r = cc in
+    subst MayStandApart e (rephased_apart (settled m.phase) m)
+apart_read (Err fault) r is =
+    absurd (let bad : (let x : Result UpdateMark StartFault = Err (BadMark 2048) in x ≡ Ok r) =
+    is in cc)
+
+pub apart_known : (image : Image) (m : UpdateMark) → mark_in image ≡ Ok m → MayStandApart m
+unfolding mark_in
+apart_known image m is = apart_read (mark_of (image 2048)) m is
 
 pub slot_below : (image : Image) (m : UpdateMark) → mark_in image ≡ Ok m → m.slot < 2
 unfolding mark_in
@@ -463,9 +474,9 @@ idle_read_of size r image reads none =
     by_phase : (p : MarkPhase)
         → (p ≡ marks.Installing) ⊎ (p ≡ marks.Staged) ⊎ (p ≡ marks.Merging)
         → (ts : List Table)
-        → tables_in size r.geometry ((phase_at p).tables r.mark.slot) image ≡ Ok ts
+        → tables_in size r.geometry (phase_in p r.mark).tables image ≡ Ok ts
         → phase_by (record r.mark { phase = p }) left
-        (entries_on image ((phase_at p).plan r.mark.slot ts r.scanned))
+        (entries_on image ((phase_in p r.mark).plan ts r.scanned))
         ≡ phases.Idle
         → ⊥
     by_phase marks.Idle (inl e) ts read is = cc
@@ -474,12 +485,12 @@ idle_read_of size r image reads none =
     by_phase marks.Installing e ts read is =
         let two = tables_two size r.geometry r.mark.slot (other_slot r.mark.slot) image ts read in
         let there : phase_by (record r.mark { phase = marks.Installing }) left
-        (entries_on image (installing.plan r.mark.slot (two.0 ∷ two.1 ∷ []) r.scanned))
+        (entries_on image ((installing r.mark).plan (two.0 ∷ two.1 ∷ []) r.scanned))
         ≡ phases.Idle =
         subst
         (λ (ts : List Table).
         phase_by (record r.mark { phase = marks.Installing }) left
-        (entries_on image (installing.plan r.mark.slot ts r.scanned))
+        (entries_on image ((installing r.mark).plan ts r.scanned))
         ≡ phases.Idle)
         two.2 is in
         cc
@@ -507,9 +518,9 @@ pub source_table : (size : ℕ) (r : Read) (image : Image)
     → Reads size r image
     → (t : Table) × (rest : List Table) × (r.tables ≡ t ∷ rest)
 source_table size r image reads =
-    let of = of_phase r.mark.phase in
-    tables_first size r.geometry r.mark.slot (of.others r.mark.slot) image r.tables
-    (subst (λ (f : ℕ → List ℕ). tables_in size r.geometry (f r.mark.slot) image ≡ Ok r.tables)
+    let of = of_phase r.mark.phase r.mark in
+    tables_first size r.geometry r.mark.slot of.others image r.tables
+    (subst (λ (slots : List ℕ). tables_in size r.geometry slots image ≡ Ok r.tables)
     of.tables reads.tables)
 
 tables_one : (size : ℕ) (g : Geometry) (slot : ℕ) (image : Image) (ts : List Table)
@@ -528,8 +539,8 @@ pub one_table : (size : ℕ) (r : Read) (image : Image)
     → (t : Table) × (r.tables ≡ t ∷ [])
 one_table size r image is reads =
     tables_one size r.geometry r.mark.slot image r.tables
-    (subst (λ (p : Phase). tables_in size r.geometry (p.tables r.mark.slot) image ≡ Ok r.tables)
-    (idle_at r.mark.phase is) reads.tables)
+    (subst (λ (p : Phase). tables_in size r.geometry p.tables image ≡ Ok r.tables)
+    (idle_at r.mark is) reads.tables)
 
 tables_long : (size : ℕ) (g : Geometry) (slots : List ℕ) (image : Image) (ts : List Table)
     → tables_in size g slots image ≡ Ok ts
@@ -570,53 +581,55 @@ some_both (suc zero) (suc (suc n)) through ss t u ts k_below below = absurd (ome
 some_both (suc (suc k)) own through ss t u ts k_below below = absurd (omega (arith, k_below))
 
 -- whether the partitions of slot k are there where the phase says that it has images
-abbrev AreThere : MarkPhase → (slot : ℕ) → List Table → List Scanned → Type 0
-AreThere m slot ts ss =
-    (is_some (parts_for 0 ((phase_at m).has_a slot) ((phase_at m).through slot 0) ss
-    (table_for 0 ((phase_at m).tables slot) ts))
-    ≡ (phase_at m).has_a slot)
-    × (is_some (parts_for 1 ((phase_at m).has_b slot) ((phase_at m).through slot 1) ss
-    (table_for 1 ((phase_at m).tables slot) ts))
-    ≡ (phase_at m).has_b slot)
+abbrev AreThere : MarkPhase → UpdateMark → List Table → List Scanned → Type 0
+AreThere p m ts ss =
+    (is_some (parts_for 0 (phase_in p m).has_a ((phase_in p m).through 0) ss
+    (table_for 0 (phase_in p m).tables ts))
+    ≡ (phase_in p m).has_a)
+    × (is_some (parts_for 1 (phase_in p m).has_b ((phase_in p m).through 1) ss
+    (table_for 1 (phase_in p m).tables ts))
+    ≡ (phase_in p m).has_b)
 
-are_there : (m : MarkPhase) (slot : ℕ) (ts : List Table) (ss : List Scanned)
-    → slot < 2
-    → length ts ≡ length ((phase_at m).tables slot)
-    → AreThere m slot ts ss
-are_there m slot [] ss below long = absurd (none_read m long)
+are_there : (p : MarkPhase) (m : UpdateMark) (ts : List Table) (ss : List Scanned)
+    → m.slot < 2
+    → length ts ≡ length (phase_in p m).tables
+    → AreThere p m ts ss
+are_there p m [] ss below long = absurd (none_read p long)
   where
-    none_read : (m : MarkPhase) → 0 ≡ length ((phase_at m).tables slot) → ⊥
+    none_read : (p : MarkPhase) → 0 ≡ length (phase_in p m).tables → ⊥
     none_read marks.Idle is = omega (arith, is)
     none_read marks.Installing is = omega (arith, is)
     none_read marks.Staged is = omega (arith, is)
     none_read marks.Merging is = omega (arith, is)
     none_read marks.Completed is = omega (arith, is)
-are_there marks.Idle slot (t ∷ ts) ss below long =
-    (some_first 0 slot [] false ss t ts, some_first 1 slot [] false ss t ts)
-are_there marks.Installing slot (t ∷ ts) ss below long = (
-  some_first 0 slot (other_slot slot ∷ []) false ss t ts,
-  some_first 1 slot (other_slot slot ∷ []) false ss t ts,
+are_there marks.Idle m (t ∷ ts) ss below long =
+    (some_first 0 m.slot [] false ss t ts, some_first 1 m.slot [] false ss t ts)
+are_there marks.Installing m (t ∷ ts) ss below long = (
+  some_first 0 m.slot (other_slot m.slot ∷ []) false ss t ts,
+  some_first 1 m.slot (other_slot m.slot ∷ []) false ss t ts,
 )
-are_there marks.Staged slot (t ∷ []) ss below long = absurd (omega (arith, long))
-are_there marks.Staged slot (t ∷ u ∷ ts) ss below long = (
-  some_both 0 slot (other_slot slot == 0) ss t u ts (omega arith) below,
-  some_both 1 slot (other_slot slot == 1) ss t u ts (omega arith) below,
+are_there marks.Staged m (t ∷ []) ss below long = absurd (omega (arith, long))
+are_there marks.Staged m (t ∷ u ∷ ts) ss below long = (
+  some_both 0 m.slot (other_slot m.slot == 0) ss t u ts (omega arith) below,
+  some_both 1 m.slot (other_slot m.slot == 1) ss t u ts (omega arith) below,
 )
-are_there marks.Merging slot (t ∷ ts) ss below long =
-    (some_first 0 slot [] (slot == 0) ss t ts, some_first 1 slot [] (slot == 1) ss t ts)
-are_there marks.Completed slot (t ∷ ts) ss below long =
-    (some_first 0 slot [] false ss t ts, some_first 1 slot [] false ss t ts)
+are_there marks.Merging m (t ∷ ts) ss below long = (
+  some_first 0 m.slot [] (m.slot == 0) ss t ts,
+  some_first 1 m.slot [] (m.slot == 1) ss t ts,
+)
+are_there marks.Completed m (t ∷ ts) ss below long =
+    (some_first 0 m.slot [] false ss t ts, some_first 1 m.slot [] false ss t ts)
 
 -- a slot has partitions where the phase says that it has images
 pub record HasImages (r : Read) : Type 0 where
-  pub a : is_some (kept r).a ≡ (phase_at r.mark.phase).has_a r.mark.slot
-  pub b : is_some (kept r).b ≡ (phase_at r.mark.phase).has_b r.mark.slot
+  pub a : is_some (kept r).a ≡ (phase_at r.mark).has_a
+  pub b : is_some (kept r).b ≡ (phase_at r.mark).has_b
 
 pub has_images : (size : ℕ) (r : Read) (image : Image) → Reads size r image → HasImages r
 has_images size r image reads =
-    let both = are_there r.mark.phase r.mark.slot r.tables r.scanned
+    let both = are_there r.mark.phase r.mark r.tables r.scanned
     (slot_below image r.mark reads.mark)
-    (tables_long size r.geometry ((phase_at r.mark.phase).tables r.mark.slot) image r.tables
+    (tables_long size r.geometry (phase_at r.mark).tables image r.tables
     reads.tables) in
     record { a = both.0; b = both.1 }
 
@@ -646,8 +659,8 @@ pub device_stands : (d : Device) (size : ℕ) (image : Image)
     → device size image ≡ Ok (mounted_on d image)
 device_stands d size image is =
     let r = is.read in
-    let a = (phase_at r.mark.phase).has_a r.mark.slot in
-    let b = (phase_at r.mark.phase).has_b r.mark.slot in
+    let a = (phase_at r.mark).has_a in
+    let b = (phase_at r.mark).has_b in
     let has = has_images size r image is.reads in
     let seen : r.control ≡ control_seen a b d.control =
     control_is_seen a b image d.control r.control is.reads.control is.control in

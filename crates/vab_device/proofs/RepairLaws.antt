@@ -9,6 +9,7 @@ use Rattle.vab_geometry.specs.Geometry.{IsGeometry}
 use Rattle.vab_gate.proofs.Blocks.{sectors_same}
 use Rattle.vab_marks.specs.declared.mark.MarkPhase.{MarkPhase}
 use Rattle.vab_marks.specs.declared.mark.MarkPhase.TheVariants as marks
+use Rattle.vab_marks.specs.declared.mark.UpdateMark.{UpdateMark}
 use Rattle.vab_lpstore.specs.Layout.{copy_sectors, primary_of, backup_of, primary_bytes}
 use Rattle.vab_lpstore.specs.Layout.{backup_bytes}
 use Rattle.vab_lpstore.specs.Loading.{slot_table}
@@ -18,7 +19,7 @@ use Rattle.vab_lpstore.specs.Storing.{SameElsewhere}
 use Rattle.vab_lpstore.proofs.StoreLaws.{backup_byte, copies_apart}
 use Rattle.vab_device.specs.Checks.{◌>>=◌}
 use Rattle.vab_device.specs.Kept.{copies_end}
-use Rattle.vab_device.specs.Phases.{phase_at}
+use Rattle.vab_device.specs.Phases.{phase_in, phase_at}
 use Rattle.vab_device.specs.Reading.{Read, tables_in, stores_of, kept, Reads, SameRead}
 use Rattle.vab_device.proofs.SameLaws.{mark_same, control_same, geometry_same, table_same}
 use Rattle.vab_device.proofs.SameLaws.{images_same, version_same, most_same}
@@ -107,12 +108,12 @@ abbrev AreSlots : List ℕ → Type 0
 AreSlots [] = Unit {0}
 AreSlots (j ∷ js) = (j < 2) × AreSlots js
 
-slots_read : (m : MarkPhase) (slot : ℕ) → slot < 2 → AreSlots ((phase_at m).tables slot)
-slots_read marks.Idle slot below = (below, tt)
-slots_read marks.Installing slot below = (below, (omega arith, tt))
-slots_read marks.Staged slot below = (below, (omega arith, tt))
-slots_read marks.Merging slot below = (below, tt)
-slots_read marks.Completed slot below = (below, tt)
+slots_read : (p : MarkPhase) (m : UpdateMark) → m.slot < 2 → AreSlots (phase_in p m).tables
+slots_read marks.Idle m below = (below, tt)
+slots_read marks.Installing m below = (below, (omega arith, tt))
+slots_read marks.Staged m below = (below, (omega arith, tt))
+slots_read marks.Merging m below = (below, tt)
+slots_read marks.Completed m below = (below, tt)
 
 each_same : (size k n : ℕ) (g : Geometry) (slots : List ℕ) (old new : Image)
     → 2 ≤ g.slots
@@ -155,13 +156,13 @@ repair_same size n k r old new geometry slot k_below fits reads others table =
     record {
       most = most_same old new (before 2048 (omega arith));
       mark = mark_same old new (before 2048 (omega arith));
-      statuses = statuses_kept (phase_at r.mark.phase).reads_statuses old new
+      statuses = statuses_kept (phase_at r.mark).reads_statuses old new
           (version_same old new (before 2048 (omega arith)))
           (λ read s is. before s (omega (arith, is.below)));
       control = control_same _ _ old new (before 4 (omega arith));
       geometry = geometry_same size old new (before 4104 (omega arith)) (before 4112 (omega arith));
-      tables = each_same size k n g ((phase_at r.mark.phase).tables r.mark.slot) old new
-          geometry.two k_below (slots_read r.mark.phase r.mark.slot slot) fits others table;
+      tables = each_same size k n g (phase_at r.mark).tables old new
+          geometry.two k_below (slots_read r.mark.phase r.mark slot) fits others table;
       stores = stores_kept (stores_of r) old new r.scanned
           (λ s is. behind s (stores_behind size (end_of g k) r old s reads within is))
           reads.stores;

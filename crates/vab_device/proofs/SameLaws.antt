@@ -126,14 +126,14 @@ pub agrees_same : (size : ℕ) (r : Read) (old new : Image)
 agrees_same size r old new reads agrees = record {
   most = most_same old new (agrees 2048 (Live.of_mark refl));
   mark = mark_same old new (agrees 2048 (Live.of_mark refl));
-  statuses = statuses_kept (phase_at r.mark.phase).reads_statuses old new
+  statuses = statuses_kept (phase_at r.mark).reads_statuses old new
       (version_same old new (agrees 2048 (Live.of_mark refl)))
       (λ read s is. agrees s (Live.of_statuses read is));
   control = control_same _ _ old new (agrees 4 (Live.of_control refl));
   geometry = geometry_same size old new
       (agrees 4104 (Live.of_geometry (inl refl)))
       (agrees 4112 (Live.of_geometry (inr refl)));
-  tables = tables_agree size r.geometry ((phase_at r.mark.phase).tables r.mark.slot) old new
+  tables = tables_agree size r.geometry (phase_at r.mark).tables old new
       (λ s is. agrees s (Live.of_tables is));
   stores = stores_kept (stores_of r) old new r.scanned (λ s is. agrees s (Live.of_stores is))
       reads.stores;

@@ -25,11 +25,12 @@ use Rattle.vab_device.specs.declared.device.Part.{Part}
 use Rattle.vab_device.specs.declared.device.PartImage.{PartImage}
 use Rattle.vab_device.specs.declared.device.PartImage.TheVariants.{Kept, Declared, Written}
 use Rattle.vab_device.specs.Checks.{◌>>=◌}
-use Rattle.vab_device.specs.Mounted.{written_sectors, planned_on, entry_on, entries_on}
+use Rattle.vab_device.specs.Mounted.{blocks_there, written_sectors, planned_on, entry_on}
+use Rattle.vab_device.specs.Mounted.{entries_on}
 use Rattle.vab_device.specs.Reading.{version_at, statuses_read, statuses_at, IsOfBlocks}
 use Rattle.vab_device.specs.Reading.{IsOfStores}
 use Rattle.vab_device.specs.Reading.{IsOfWritten, IsOfPlanned, IsOfPlan}
-use Rattle.vab_device.specs.Stores.{Wanted, Scanned, scan_read, scan_at, scans_in}
+use Rattle.vab_device.specs.Stores.{Wanted, Scanned, scan_read, scan_by, scan_at, scans_in}
 use Rattle.vab_device.proofs.CheckLaws.{bound}
 use Rattle.vab_device.proofs.BlockLaws.{bytes_same}
 
@@ -96,15 +97,22 @@ scan_taken w (Err fault) s is =
     absurd (let bad : (let r : Result Scanned StartFault = Err (BadStore w.name) in r ≡ Ok s) =
     is in cc)
 
+scan_by_kept : (w : Wanted) (store : Option (List ℕ)) (old new : Image) (s : Scanned)
+    → ((s : ℕ) → IsOfBlocks (blocks_there store) s → new s ≡ old s)
+    → scan_by w store old ≡ Ok s
+    → scan_by w store new ≡ scan_by w store old
+scan_by_kept w None old new s same is = refl
+scan_by_kept w (Some store) old new s same is =
+    let taken = scan_taken w (scan_of w.chunk store (length w.base) old) s is in
+    let new_is = scan_kept w.chunk store old new same (length w.base) taken.0 taken.1 in
+    ap (scan_read w) (new_is ∙ sym taken.1)
+
 store_kept : (w : Wanted) (old new : Image) (s : Scanned)
-    → ((s : ℕ) → IsOfBlocks w.store s → new s ≡ old s)
+    → ((s : ℕ) → IsOfBlocks (blocks_there w.store) s → new s ≡ old s)
     → scan_at w old ≡ Ok s
     → scan_at w new ≡ scan_at w old
 unfolding scan_at
-store_kept w old new s same is =
-    let taken = scan_taken w (scan_of w.chunk w.store (length w.base) old) s is in
-    let new_is = scan_kept w.chunk w.store old new same (length w.base) taken.0 taken.1 in
-    ap (scan_read w) (new_is ∙ sym taken.1)
+store_kept w old new s same is = scan_by_kept w w.store old new s same is
 
 pub stores_kept : (ws : List (Result Wanted StartFault)) (old new : Image) (ss : List Scanned)
     → ((s : ℕ) → IsOfStores ws s → new s ≡ old s)

@@ -2,18 +2,16 @@
 use Rattle.std.proofs.Common.{ℕ, List, [], ◌∷◌}
 use Rattle.std.specs.Prelude.{Option}
 use Rattle.vab_bootctl.specs.declared.slots.Control.{Control}
-use Rattle.vab_marks.specs.declared.mark.MarkPhase.{MarkPhase}
+use Rattle.vab_marks.specs.declared.mark.UpdateMark.{UpdateMark}
 use Rattle.vab_marks.specs.declared.status.PartStatus.{PartStatus}
 use Rattle.vab_geometry.specs.declared.geometry.Geometry.{Geometry}
 use Rattle.vab_tables.specs.declared.table.Table.{Table}
 use Rattle.vab_device.specs.declared.device.Device.{Device}
 use Rattle.vab_device.specs.Reading.{Read, kept}
 use Rattle.vab_device.specs.Stores.{Scanned}
-use Rattle.vab_marks.specs.Mark.{mark_at}
 
 -- what is read where there is an update
-abbrev pub update_read : MarkPhase
-    → ℕ
+abbrev pub update_read : UpdateMark
     → List (Option PartStatus)
     → Control
     → Geometry
@@ -21,8 +19,8 @@ abbrev pub update_read : MarkPhase
     → Table
     → List Scanned
     → Read
-update_read phase slot ss c g t u scanned = record {
-  mark = mark_at phase slot;
+update_read m ss c g t u scanned = record {
+  mark = m;
   statuses = ss;
   control = c;
   geometry = g;

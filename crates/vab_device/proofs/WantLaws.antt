@@ -1,6 +1,6 @@
 -- Memory may be refused in place of an edit's, a begin's or a flash's effect alone, where its reply
 -- is that it is done or that the table is full. No command of a verb takes memory.
-use Rattle.std.proofs.Common.{◌≡◌, ◌∙◌, ℕ, ◌*◌, Bool, true, false, cond, List, [], length, sym}
+use Rattle.std.proofs.Common.{◌≡◌, ◌∙◌, ℕ, ◌*◌, ◌^◌, Bool, true, false, cond, List, [], length, sym}
 use Rattle.std.proofs.Common.{Option, Result, Ok, Err, Some, None, refl}
 use Rattle.std.specs.Prelude.{◌==◌, nat_lt, nat_le, is_some}
 use Rattle.vab_bootctl.specs.Boot.{info_at}
@@ -14,6 +14,7 @@ use Rattle.vab_builder.specs.declared.fault.EditFault.TheVariants as faults
 use Rattle.vab_model.specs.declared.state.PlanImage.{PlanImage}
 use Rattle.vab_model.specs.declared.state.PlanImage.TheVariants.{Kept, Declared, Written}
 use Rattle.vab_model.specs.declared.state.PlanEntry.{PlanEntry}
+use Rattle.vab_model.specs.declared.state.Plan.{Plan}
 use Rattle.vab_model.specs.declared.state.Phase.{Phase}
 use Rattle.vab_model.specs.declared.state.Phase.TheVariants.{Idle, Installing, Staged, Merging}
 use Rattle.vab_model.specs.declared.command.Refusal.{Refusal}
@@ -22,23 +23,28 @@ use Rattle.vab_model.specs.declared.command.Reply.{Reply}
 use Rattle.vab_model.specs.declared.command.Reply.TheVariants as replies
 use Rattle.vab_model.specs.Commands.{Command, SetActive, Boot, Mark, Print, Digest, Begin, Create}
 use Rattle.vab_model.specs.Commands.{Resize, Delete, Snapshot, Flash, Finish, Cancel, BeginMerge}
-use Rattle.vab_model.specs.Commands.{Merge}
+use Rattle.vab_model.specs.Commands.{Merge, Factory}
 use Rattle.vab_model.specs.Effects.{Effect, refuses, does, active_effect, print_effect}
 use Rattle.vab_model.specs.Effects.{digest_effect, Found, Image_is, Refused_by, found_of}
-use Rattle.vab_model.specs.Effects.{effect, effect_map}
+use Rattle.vab_model.specs.Effects.{effect_map, wanting}
+use Rattle.vab_model.specs.Machine.{machine_effect}
 use Rattle.vab_model.specs.Kinds.{IsVerb}
 use Rattle.vab_model.specs.State.{images_at}
 use Rattle.vab_bootctl.specs.declared.slots.Control.{Control}
 use Rattle.vab_bootctl.specs.Boot.{activated_of}
+use Rattle.vab_model.specs.Plans.{entry_named}
+use Rattle.vab_model.specs.Staged.{is_sparse}
+use Rattle.vab_model.specs.Machine.{least_declared}
 use Rattle.vab_device.specs.Mounted.{Mounted, in_state}
 use Rattle.vab_device.specs.Updates.{table_effect, begun_effect, begin_effect, layout_at}
-use Rattle.vab_device.specs.Updates.{EditOf, edited_effect, edit_effect, staged_effect}
-use Rattle.vab_device.specs.Updates.{stored_effect, entry_effect, entry_named, flash_effect}
-use Rattle.vab_device.specs.Updates.{if_room, flashed, differences, source_bytes, is_sparse}
+use Rattle.vab_device.specs.Updates.{no_entries, EditOf, edited_effect, Guard, unless_kept}
+use Rattle.vab_device.specs.Updates.{edit_effect, no_guard, settled_guard, store_guard}
+use Rattle.vab_device.specs.Updates.{staged_effect, unwritten_effect, placed_effect, entry_effect}
+use Rattle.vab_device.specs.Updates.{flash_effect, in_store, in_place, if_room, flashed}
+use Rattle.vab_device.specs.Updates.{differences, source_bytes}
 use Rattle.vab_device.specs.Updates.{create_edit, resize_edit, delete_edit, snapshot_edit}
 use Rattle.vab_device.specs.Updates.{cancelled, cancel_effect, finish_effect, complete_effect}
 use Rattle.vab_device.specs.Updates.{begin_merge_effect, merging_from, merge_effect, effect_on}
-use Rattle.vab_device.specs.Updates.{least_declared}
 
 -- a reply in whose place memory may be refused
 abbrev pub is_wanted : Reply → Bool
@@ -74,89 +80,110 @@ module _ (m : Mounted) where
 
   -- ---- the target's table
 
-  tabled : (source : ℕ) (plan : List PlanEntry) (r : Result Layout EditFault)
+  tabled : (source : ℕ) (plan : Plan) (r : Result Layout EditFault)
       → TellsWanted (table_effect m source plan r)
   tabled source plan (Ok l) wants = refl
   tabled source plan (Err (faults.TableFull size most)) wants = refl
   tabled source plan (Err _) wants = absurd cc
 
-  begun : (source : ℕ) (l : Option Layout) → TellsWanted (begun_effect m source l)
-  begun source None = refused refusals.NoImages
-  begun source (Some l) = tabled source [] _
+  begun : (apart : Bool) (source : ℕ) (l : Option Layout)
+      → TellsWanted (begun_effect m apart source l)
+  begun apart source None = refused refusals.NoImages
+  begun apart source (Some l) = tabled source (no_entries apart) _
 
-  begins : (phase : Phase) → TellsWanted (begin_effect m phase)
-  begins Idle = begun m.state.control.current (layout_at m.places m.state.control.current)
-  begins _ = refused refusals.NotIdle
+  begins : (apart : Bool) (phase : Phase) → TellsWanted (begin_effect m apart phase)
+  begins apart Idle =
+      begun apart m.state.control.current (layout_at m.places m.state.control.current)
+  begins apart _ = refused refusals.NotIdle
 
-  edited : (source : ℕ) (plan : List PlanEntry) (edit : EditOf) (s t : Option Layout)
+  edited : (source : ℕ) (plan : Plan) (edit : EditOf) (s t : Option Layout)
       → TellsWanted (edited_effect m source plan edit s t)
   edited source plan edit None t = refused refusals.NotInstalling
   edited source plan edit (Some s) None = refused refusals.NotInstalling
   edited source plan edit (Some s) (Some t) = tabled source plan _
 
-  edits : (edit : EditOf) (phase : Phase) → TellsWanted (edit_effect m edit phase)
-  edits edit (Installing source plan) =
-      edited source plan edit
+  unless_kept_told : (kept : Option Refusal) (next : Effect Mounted)
+      → TellsWanted next
+      → TellsWanted (unless_kept kept next)
+  unless_kept_told None next told = told
+  unless_kept_told (Some refusal) next told = refused refusal
+
+  edits : (guard : Guard) (edit : EditOf) (phase : Phase)
+      → TellsWanted (edit_effect m guard edit phase)
+  edits guard edit (Installing source plan) =
+      let next : Effect Mounted = edited_effect m source plan edit
       (layout_at m.places source)
-      (layout_at m.places (other_slot source))
-  edits edit _ = refused refusals.NotInstalling
+      (layout_at m.places (other_slot source)) in
+      unless_kept_told (guard source plan) next
+      (edited source plan edit
+      (layout_at m.places source)
+      (layout_at m.places (other_slot source)))
+  edits guard edit _ = refused refusals.NotInstalling
 
   -- ---- an image
 
-  roomed : (source : ℕ) (plan : List PlanEntry) (e : PlanEntry) (store : ℕ) (k : Chunk)
+  roomed : (source : ℕ) (plan : Plan) (e : PlanEntry) (store : ℕ) (k : Chunk)
       (staged : List ℕ) (n : ℕ)
       → TellsWanted (if_room m source plan e store k staged n)
   roomed source plan e store k staged n =
       either (nat_le (need_at n k) store)
-      (flashed m source plan e staged n)
+      (wanting true (flashed m source plan e staged n))
       (refuses (refusals.StoreFull (need_at n k) store))
       (λ wants. refl)
       (refused (refusals.StoreFull (need_at n k) store))
 
-  written : (source : ℕ) (plan : List PlanEntry) (e : PlanEntry) (store : ℕ) (k : Chunk)
-      (staged : Option (List ℕ))
-      → TellsWanted (staged_effect m source plan e store k staged)
-  written source plan e store k None = refused refusals.NothingStaged
-  written source plan e store k (Some staged) =
-      let n : ℕ = differences k (source_bytes m.state source e.name) staged e.blocks in
+  staged_told : (e : PlanEntry) (place : List ℕ → Effect Mounted)
+      → ((staged : List ℕ) → TellsWanted (place staged))
+      → (staged : Option (List ℕ))
+      → TellsWanted (staged_effect e place staged)
+  staged_told e place told None = refused refusals.NothingStaged
+  staged_told e place told (Some staged) =
       let large : Refusal = refusals.TooLarge (length staged) (4096 * e.blocks) in
-      let room : Effect Mounted = if_room m source plan e store k staged n in
       let is_large : Bool = nat_lt (4096 * e.blocks) (length staged) in
       either (is_sparse staged) (refuses refusals.Sparse)
-      (cond is_large (refuses large) room)
+      (cond is_large (refuses large) (place staged))
       (refused refusals.Sparse)
-      (either is_large (refuses large) room (refused large)
-      (roomed source plan e store k staged n))
+      (either is_large (refuses large) (place staged) (refused large) (told staged))
 
-  stored : (source : ℕ) (plan : List PlanEntry) (name : List ℕ) (group : Option (List ℕ))
-      (blocks : ℕ) (own store : Option ℕ) (k : Chunk) (staged : Option (List ℕ))
-      (image : PlanImage)
-      → TellsWanted (stored_effect m source plan
-      (record { name = name; group = group; blocks = blocks; store = own; image = image })
-      k staged store)
-  stored source plan name group blocks own None k staged image = refused refusals.NoStore
-  stored source plan name group blocks own (Some store) k staged Kept =
-      written source plan
-      (record { name = name; group = group; blocks = blocks; store = own; image = Kept })
-      store k staged
-  stored source plan name group blocks own (Some store) k staged Declared =
-      written source plan
-      (record { name = name; group = group; blocks = blocks; store = own; image = Declared })
-      store k staged
-  stored source plan name group blocks own (Some store) k staged (Written bytes count) =
-      refused refusals.Written
+  unwritten_told : (image : PlanImage) (next : Effect Mounted)
+      → TellsWanted next
+      → TellsWanted (unwritten_effect image next)
+  unwritten_told Kept next told = told
+  unwritten_told Declared next told = told
+  unwritten_told (Written bytes count) next told = refused refusals.Written
 
-  found : (source : ℕ) (plan : List PlanEntry) (k : Chunk) (staged : Option (List ℕ))
+  -- an image in place wants nothing
+  placed_told : (source : ℕ) (plan : Plan) (e : PlanEntry) (staged : List ℕ)
+      → TellsWanted (in_place m source plan e staged)
+  placed_told source plan e staged wants = absurd cc
+
+  placed : (source : ℕ) (plan : Plan) (e : PlanEntry) (k : Chunk) (staged : Option (List ℕ))
+      (store : Option ℕ)
+      → TellsWanted (placed_effect m source plan e k staged store)
+  placed source plan e k staged None =
+      let next : Effect Mounted = unwritten_effect e.image
+      (staged_effect e (in_place m source plan e) staged) in
+      either plan.apart next (refuses refusals.NoStore)
+      (unwritten_told e.image (staged_effect e (in_place m source plan e) staged)
+      (staged_told e (in_place m source plan e) (placed_told source plan e) staged))
+      (refused refusals.NoStore)
+  placed source plan e k staged (Some store) =
+      unwritten_told e.image (staged_effect e (in_store m source plan e store k) staged)
+      (staged_told e (in_store m source plan e store k)
+      (λ bytes. roomed source plan e store k bytes
+      (differences k (source_bytes m.state source e.name) bytes e.blocks))
+      staged)
+
+  found : (source : ℕ) (plan : Plan) (k : Chunk) (staged : Option (List ℕ))
       (e : Option PlanEntry)
       → TellsWanted (entry_effect m source plan k staged e)
   found source plan k staged None = refused refusals.Unknown
-  found source plan k staged (Some e) =
-      stored source plan e.name e.group e.blocks e.store e.store k staged e.image
+  found source plan k staged (Some e) = placed source plan e k staged e.store
 
   flashes : (staged : Option (List ℕ)) (name : List ℕ) (k : Chunk) (phase : Phase)
       → TellsWanted (flash_effect m staged name k phase)
   flashes staged name k (Installing source plan) =
-      let e : Option PlanEntry = entry_named (base_of name) plan in
+      let e : Option PlanEntry = entry_named (base_of name) plan.entries in
       either (is_full (other_slot source) name)
       (entry_effect m source plan k staged e)
       (refuses refusals.BadName)
@@ -195,13 +222,13 @@ module _ (m : Mounted) where
       (does replies.Done (cancelled m source)) (refuses refusals.RunningTarget) refl refl
   cancels (Merging target left) = refl
 
-  completes : (source : ℕ) (plan : List PlanEntry) (least : Option (List ℕ))
+  completes : (source : ℕ) (plan : Plan) (least : Option (List ℕ))
       → WantsNothing (complete_effect m source plan least)
   completes source plan None = refl
   completes source plan (Some name) = refl
 
   finishes : (phase : Phase) → WantsNothing (finish_effect m phase)
-  finishes (Installing source plan) = completes source plan (least_declared None plan)
+  finishes (Installing source plan) = completes source plan (least_declared None plan.entries)
   finishes _ = refl
 
   merge_begins : (phase : Phase) → WantsNothing (begin_merge_effect m phase)
@@ -225,7 +252,7 @@ module _ (m : Mounted) where
   pub verb_wants : (staged : Option (List ℕ)) (c : Command)
       → IsVerb c
       → WantsNothing (effect_on m staged c)
-  unfolding effect
+  unfolding machine_effect
   verb_wants staged (SetActive n) verb =
       activates (is_some (images_at m.state n)) (activated_of m.state.control n)
   verb_wants staged Boot verb = refl
@@ -244,11 +271,16 @@ module _ (m : Mounted) where
 
   -- where memory may be refused, the reply is that it is done, or that the table is full
   pub wants_told : (staged : Option (List ℕ)) (c : Command) → TellsWanted (effect_on m staged c)
-  wants_told staged Begin = begins m.state.phase
-  wants_told staged (Create name size) = edits (create_edit name size) m.state.phase
-  wants_told staged (Resize name size) = edits (resize_edit name size) m.state.phase
-  wants_told staged (Delete name) = edits (delete_edit name) m.state.phase
-  wants_told staged (Snapshot name size) = edits (snapshot_edit name size) m.state.phase
+  wants_told staged Begin = begins false m.state.phase
+  wants_told staged Factory = begins true m.state.phase
+  wants_told staged (Create name size) =
+      edits no_guard (create_edit name size) m.state.phase
+  wants_told staged (Resize name size) =
+      edits (settled_guard (nat_le size (2 ^ 40)) name) (resize_edit name size) m.state.phase
+  wants_told staged (Delete name) =
+      edits (settled_guard true name) (delete_edit name) m.state.phase
+  wants_told staged (Snapshot name size) =
+      edits store_guard (snapshot_edit name size) m.state.phase
   wants_told staged (Flash name k) = flashes staged name k m.state.phase
   wants_told staged Finish = nothing_told (finish_effect m m.state.phase) (finishes m.state.phase)
   wants_told staged (SetActive n) = verb_told staged (SetActive n) refl

@@ -1,12 +1,14 @@
 -- What is kept of a device between two commands, and what holds of it over every disk.
 use Rattle.std.specs.Prelude.{◌≡◌, ◌≢◌, ◌⊎◌, ℕ, ◌+◌, ◌-◌, ◌*◌, ◌≤◌, ◌<◌, ◌==◌, ◌&&◌, ◌^◌}
 use Rattle.std.specs.Prelude.{Bool, true, false, nat_le, if◌then◌else◌, List, map, length}
-use Rattle.std.specs.Prelude.{Option, Some, None, is_some, All, AllPairs, IsTrue}
+use Rattle.std.specs.Prelude.{Option, Some, None, is_some, All, AllPairs, IsTrue, not, []}
 use Rattle.std.specs.Str.{bytes_eq}
-use Rattle.vab_names.specs.Names.{is_base, base_of, default_name, most_partitions}
+use Rattle.vab_names.specs.Names.{is_base, base_of, default_name, store_group_name}
+use Rattle.vab_names.specs.Names.{most_partitions}
 use Rattle.vab_bootctl.specs.Control.{Fits as FitsControl}
 use Rattle.vab_marks.specs.declared.mark.MarkPhase.{MarkPhase}
 use Rattle.vab_marks.specs.declared.mark.MarkPhase.TheVariants as marks
+use Rattle.vab_marks.specs.Mark.{MayStandApart}
 use Rattle.vab_store.specs.View.{Fits}
 use Rattle.vab_tables.specs.declared.entries.Group.{Group}
 use Rattle.vab_tables.specs.declared.entries.BlockDevice.{BlockDevice}
@@ -18,7 +20,7 @@ use Rattle.vab_geometry.specs.Geometry.{IsGeometry}
 use Rattle.vab_layout.specs.declared.layout.Part.{Part as PartOfLayout}
 use Rattle.vab_layout.specs.declared.layout.Layout.{Layout}
 use Rattle.vab_layout.specs.Layout.{layout_of}
-use Rattle.vab_layout.specs.Slots.{other_slot, own_parts, IsOwn, IsTarget}
+use Rattle.vab_layout.specs.Slots.{other_slot, own_parts, twins_by, IsOwn, IsTargetBeside}
 use Rattle.vab_layout.specs.Plain.{own_groups}
 use Rattle.vab_model.specs.declared.state.GroupLimit.{GroupLimit}
 use Rattle.vab_device.specs.declared.device.Part.{Part}
@@ -83,11 +85,12 @@ pub record IsStore (size : ℕ) (store : List ℕ) : Type 0 where
   pub on_disk : All (λ s. s + 8 ≤ size) store
   pub once : AllPairs (λ a b. a ≢ b) store
 
--- A partition that is written has a store, and its exceptions keep the rules of a list.
+-- A partition that is written has a store, and its exceptions keep the rules of a list; or it is
+-- written in place, without any.
 abbrev pub IsStored : ℕ → List ℕ → Option (List ℕ) → PartImage → Type 0
 IsStored size base None Kept = Unit {0}
 IsStored size base None Declared = Unit {0}
-IsStored size base None (Written k es) = ⊥
+IsStored size base None (Written k es) = es ≡ []
 IsStored size base (Some store) Kept = IsStore size store
 IsStored size base (Some store) Declared = IsStore size store
 IsStored size base (Some store) (Written k es) =
@@ -126,40 +129,47 @@ IsKeptTable size g slot (Some t) = IsTableOf size g slot t
 abbrev pub table_of_slot : Device → ℕ → Option Table
 table_of_slot d slot = if slot == 0 then d.table_a else d.table_b
 
--- the target of an update from this source, whose tables are these
-pub record AreOfUpdate (source : ℕ) (s t : Table) : Type 0 where
-  pub target : IsTarget (other_slot source) (layout_of s).parts (layout_of t).parts
-  pub device : s.devices ≡ t.devices
+-- it isn't in the stores' group
+abbrev pub is_no_store : PartOfLayout → Bool
+is_no_store p = not (bytes_eq p.group store_group_name)
 
-abbrev pub IsUpdate : ℕ → Option Table → Option Table → Type 0
-IsUpdate source None t = Unit {0}
-IsUpdate source (Some s) None = Unit {0}
-IsUpdate source (Some s) (Some t) = AreOfUpdate source s t
+-- Where the target of an installation stands apart, none of its table's partitions is in the
+-- stores' group.
+abbrev pub HasNoStores : (apart : Bool) → List PartOfLayout → Type 0
+HasNoStores true parts = All (λ p. IsTrue (is_no_store p)) parts
+HasNoStores false parts = Unit {0}
+
+-- The target of an update from this source, whose tables are these. Where it stands apart, no
+-- partition of the source is a twin of its own.
+pub record AreOfUpdate (apart : Bool) (source : ℕ) (s t : Table) : Type 0 where
+  pub target : IsTargetBeside (other_slot source)
+      (twins_by apart (layout_of s).parts)
+      (layout_of s).parts
+      (layout_of t).parts
+  pub device : s.devices ≡ t.devices
+  pub no_stores : HasNoStores apart (layout_of t).parts
+
+abbrev pub IsUpdate : (apart : Bool) → ℕ → Option Table → Option Table → Type 0
+IsUpdate apart source None t = Unit {0}
+IsUpdate apart source (Some s) None = Unit {0}
+IsUpdate apart source (Some s) (Some t) = AreOfUpdate apart source s t
 
 -- ---- phases
 
 abbrev pub is_installing : MarkPhase → Bool
-is_installing marks.Idle = false
 is_installing marks.Installing = true
-is_installing marks.Staged = false
-is_installing marks.Merging = false
-is_installing marks.Completed = false
+is_installing _ = false
 
 -- both slots have images
 abbrev pub has_both : MarkPhase → Bool
-has_both marks.Idle = false
-has_both marks.Installing = false
 has_both marks.Staged = true
-has_both marks.Merging = false
-has_both marks.Completed = false
+has_both _ = false
 
 -- the tables of both slots are read
 abbrev pub reads_both : MarkPhase → Bool
-reads_both marks.Idle = false
 reads_both marks.Installing = true
 reads_both marks.Staged = true
-reads_both marks.Merging = false
-reads_both marks.Completed = false
+reads_both _ = false
 
 -- a slot has images: that of the mark, or each of both
 abbrev pub has_slot : MarkPhase → (own slot : ℕ) → Bool
@@ -172,11 +182,10 @@ IsPhase phase =
     ⊎ (phase ≡ marks.Merging)
 
 abbrev pub kind_of : MarkPhase → ℕ → PhaseKind
-kind_of marks.Idle slot = kinds.Idle
 kind_of marks.Installing slot = kinds.Installing slot
 kind_of marks.Staged slot = kinds.Staged slot
 kind_of marks.Merging slot = kinds.Merging slot
-kind_of marks.Completed slot = kinds.Idle
+kind_of _ slot = kinds.Idle
 
 -- where an update stands
 abbrev pub phase_kind : Device → PhaseKind
@@ -195,6 +204,7 @@ pub record IsDevice (d : Device) (size : ℕ) : Type 0 where
   pub control : FitsControl d.control
   pub phase : IsPhase d.mark.phase
   pub slot : d.mark.slot < 2
+  pub apart : MayStandApart d.mark
   pub current : has_slot d.mark.phase d.mark.slot d.control.current ≡ true
   pub has_a : is_some d.a ≡ has_slot d.mark.phase d.mark.slot 0
   pub has_b : is_some d.b ≡ has_slot d.mark.phase d.mark.slot 1
@@ -207,6 +217,7 @@ pub record IsDevice (d : Device) (size : ℕ) : Type 0 where
   pub target : is_some (table_of_slot d (other_slot d.mark.slot)) ≡ reads_both d.mark.phase
   pub planned : is_some d.plan ≡ is_installing d.mark.phase
   pub plan : ArePresent size d.plan
-  pub update : IsUpdate d.mark.slot
+  pub update : IsUpdate d.mark.apart
+      d.mark.slot
       (table_of_slot d d.mark.slot)
       (table_of_slot d (other_slot d.mark.slot))

@@ -26,7 +26,8 @@ use Rattle.vab_model.specs.declared.state.Phase.{Phase}
 use Rattle.vab_model.specs.declared.state.Phase.TheVariants.{Idle, Installing, Staged, Merging}
 use Rattle.vab_model.specs.State.{control_seen}
 use Rattle.vab_model.specs.Commands.{Command}
-use Rattle.vab_model.specs.Effects.{Effect, effect, effect_map}
+use Rattle.vab_model.specs.Effects.{Effect, effect_map}
+use Rattle.vab_model.specs.Machine.{machine_effect}
 use Rattle.vab_device.specs.declared.device.Part.{Part}
 use Rattle.vab_device.specs.declared.device.PartImage.{PartImage}
 use Rattle.vab_device.specs.declared.device.PartImage.TheVariants.{Kept, Declared, Written}
@@ -132,7 +133,8 @@ unplanned marks.Completed slot left = Idle
 -- with images
 abbrev pub phase_by : UpdateMark → (left : ℕ) → Option (List PlanEntry) → Phase
 phase_by m left None = unplanned m.phase m.slot left
-phase_by m left (Some entries) = Installing m.slot entries
+phase_by m left (Some entries) =
+    Installing m.slot (record { apart = m.apart; entries = entries })
 
 abbrev pub phase_on : Device → Image → Phase
 phase_on d image = phase_by d.mark (count_at d.a + count_at d.b) (entries_on image d.plan)
@@ -172,6 +174,7 @@ mounted_on d image = record { state = state_on d image; places = places_on d }
 abbrev pub in_state : Mounted → State → Mounted
 in_state m state = record m { state = state }
 
--- What a command of the program makes of it: that of the model, in the same places.
-abbrev pub effect_in : Mounted → Command → Effect Mounted
-effect_in m command = effect_map (in_state m) (effect m.state command)
+-- What the machine makes of it by a command, where these bytes are staged: it stays in the same
+-- places.
+abbrev pub effect_in : Mounted → Option (List ℕ) → Command → Effect Mounted
+effect_in m staged command = effect_map (in_state m) (machine_effect m.state staged command)

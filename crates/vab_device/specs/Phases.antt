@@ -1,21 +1,22 @@
 -- A phase of an update: what it reads of a disk, and what it asks of that.
 use Rattle.std.specs.Prelude.{ℕ, ◌==◌, Bool, true, false, not, ◌&&◌, ◌||◌, List, [], ◌∷◌, map}
-use Rattle.std.specs.Prelude.{Option, Some, None, Result, option_map}
+use Rattle.std.specs.Prelude.{Option, Some, None, Result, option_map, if◌then◌else◌}
 use Rattle.std.specs.List.{list_all}
 use Rattle.vab_bootctl.specs.declared.slots.Info.{Info}
 use Rattle.vab_bootctl.specs.declared.slots.Control.{Control}
 use Rattle.vab_bootctl.specs.Boot.{info_at}
 use Rattle.vab_marks.specs.declared.mark.MarkPhase.{MarkPhase}
 use Rattle.vab_marks.specs.declared.mark.MarkPhase.TheVariants as marks
+use Rattle.vab_marks.specs.declared.mark.UpdateMark.{UpdateMark}
 use Rattle.vab_marks.specs.declared.status.PartStatus.{PartStatus}
 use Rattle.vab_names.specs.Names.{base_of, store_of}
 use Rattle.vab_tables.specs.declared.table.Table.{Table}
 use Rattle.vab_layout.specs.declared.layout.Part.{Part as PartOfLayout}
 use Rattle.vab_layout.specs.declared.layout.Layout.{Layout}
 use Rattle.vab_layout.specs.Layout.{layout_of}
-use Rattle.vab_layout.specs.Slots.{other_slot, own_parts, is_updated}
+use Rattle.vab_layout.specs.Slots.{other_slot, own_parts, is_updated, twins_by}
 use Rattle.vab_partitions.specs.Rules.{bad_part}
-use Rattle.vab_partitions.specs.TargetRules.{bad_target_of}
+use Rattle.vab_partitions.specs.TargetRules.{bad_beside}
 use Rattle.vab_partitions.specs.MergingRules.{bad_merging_of}
 use Rattle.vab_partitions.specs.Twins.{are_twins, are_devices}
 use Rattle.vab_device.specs.declared.fault.StartFault.{StartFault}
@@ -24,29 +25,28 @@ use Rattle.vab_device.specs.declared.device.Part.{Part}
 use Rattle.vab_device.specs.declared.device.PartImage.{PartImage}
 use Rattle.vab_device.specs.declared.device.PartImage.TheVariants.{Kept, Declared, Written}
 use Rattle.vab_device.specs.Checks.{Check, check, names_none}
-use Rattle.vab_device.specs.Kept.{sectors_of}
+use Rattle.vab_device.specs.Kept.{sectors_of, is_no_store}
 use Rattle.vab_device.specs.Stores.{Wanted, wanted_of, or_fewer, first_named, Scanned}
 use Rattle.vab_device.specs.Stores.{scanned_named}
 
--- No field sees more than it may depend on. A slot is that of the update mark, and the most are the
--- most partitions that a slot may have.
+-- No field sees more than it may depend on. The most are the most partitions that a slot may have.
 pub record Phase : Type 0 where
   -- the slots whose tables are read, in this order
-  pub tables : ℕ → List ℕ
+  pub tables : List ℕ
   -- the slots with images
-  pub has_a : ℕ → Bool
-  pub has_b : ℕ → Bool
-  -- whether the images of a slot are read through stores: the slot of the mark, and that slot
-  pub through : ℕ → ℕ → Bool
+  pub has_a : Bool
+  pub has_b : Bool
+  -- whether the images of that slot are read through stores
+  pub through : ℕ → Bool
   -- the statuses of partitions are read
   pub reads_statuses : Bool
   -- the rules of the tables and of their partitions, and those of the slots
-  pub part_checks : (most slot : ℕ) → List Table → List Check
-  pub state_checks : ℕ → Control → List Table → List Scanned → List Check
-  -- the stores that are read, in the order of the statuses that name them
-  pub stores : ℕ → List Table → List PartStatus → List (Result Wanted StartFault)
+  pub part_checks : (most : ℕ) → List Table → List Check
+  pub state_checks : Control → List Table → List Scanned → List Check
+  -- the images that statuses name, in their order
+  pub stores : List Table → List PartStatus → List (Result Wanted StartFault)
   -- the partitions that are planned
-  pub plan : ℕ → List Table → List Scanned → Option (List Part)
+  pub plan : List Table → List Scanned → Option (List Part)
 
 -- a slot may be booted as one that works
 abbrev pub is_good : Info → Bool
@@ -72,17 +72,17 @@ slot_checks slot c =
     ∷ []
 
 -- no update: the slot of the mark alone has images
-abbrev pub idle : Phase
-idle = record {
-  tables = λ slot. slot ∷ [];
-  has_a = λ slot. slot == 0;
-  has_b = λ slot. slot == 1;
-  through = λ slot k. false;
+abbrev pub idle : UpdateMark → Phase
+idle m = record {
+  tables = m.slot ∷ [];
+  has_a = m.slot == 0;
+  has_b = m.slot == 1;
+  through = λ slot. false;
   reads_statuses = false;
-  part_checks = λ most slot. of_first slot (λ t. own_check most slot t ∷ []);
-  state_checks = λ slot c ts scanned. slot_checks slot c;
-  stores = λ slot ts statuses. [];
-  plan = λ slot ts scanned. None;
+  part_checks = λ most. of_first m.slot (λ t. own_check most m.slot t ∷ []);
+  state_checks = λ c ts scanned. slot_checks m.slot c;
+  stores = λ ts statuses. [];
+  plan = λ ts scanned. None;
 }
 
 -- ---- an update is installed
@@ -100,16 +100,32 @@ twin_check target s t =
     (are_devices s.devices t.devices && are_twins target s.groups t.groups)
     (BadTable target)
 
--- the target's partitions and stores keep their rules beside the source
-abbrev pub target_check : (most target : ℕ) → Table → Table → Check
-target_check most target s t =
-    names_none (bad_target_of most target (layout_of s).parts (layout_of t).parts)
+-- the target's partitions and stores keep their rules beside the source, whose partitions are twins
+-- of the target's, where that doesn't stand apart
+abbrev pub target_check : (apart : Bool) → (most target : ℕ) → Table → Table → Check
+target_check apart most target s t =
+    names_none
+    (bad_beside most target
+    (twins_by apart (layout_of s).parts)
+    (layout_of s).parts
+    (layout_of t).parts)
 
-abbrev pub update_checks : (most source : ℕ) → Table → Table → List Check
-update_checks most source s t =
+-- the first partition in the stores' group
+abbrev pub first_store : List PartOfLayout → Option (List ℕ)
+first_store [] = None
+first_store (p ∷ ps) = if is_no_store p then first_store ps else Some p.name
+
+-- where the target stands apart, none is
+abbrev pub no_store_check : (apart : Bool) → Table → Check
+no_store_check true t = names_none (first_store (layout_of t).parts)
+no_store_check false t = names_none None
+
+abbrev pub update_checks : (apart : Bool) → (most source : ℕ) → Table → Table → List Check
+update_checks apart most source s t =
     twin_check (other_slot source) s t
     ∷ own_check most source s
-    ∷ target_check most (other_slot source) s t
+    ∷ target_check apart most (other_slot source) s t
+    ∷ no_store_check apart t
     ∷ []
 
 -- what is known of a partition that is updated or not, and the exceptions of its store
@@ -138,17 +154,21 @@ abbrev pub plan_of : ℕ → Layout → List Scanned → List Part
 plan_of target l scanned = map (planned_on l scanned) (own_parts target l.parts)
 
 -- An update is installed: the slot of the mark, its source, has images as without one, and the
--- partitions of the other slot, its target, are planned.
-abbrev pub installing : Phase
-installing = record idle {
-  tables = λ slot. slot ∷ other_slot slot ∷ [];
+-- partitions of the other slot, its target, are planned. Where it stands apart, images are written
+-- in place.
+abbrev pub installing : UpdateMark → Phase
+installing m = record (idle m) {
+  tables = m.slot ∷ other_slot m.slot ∷ [];
   reads_statuses = true;
-  part_checks = λ most slot.
-      of_both (check false (BadTable slot) ∷ []) (λ s t. update_checks most slot s t);
-  stores = λ slot ts statuses.
-      of_both [] (λ s t. map (wanted_of (other_slot slot) (layout_of t)) statuses) ts;
-  plan = λ slot ts scanned.
-      of_both None (λ s t. Some (plan_of (other_slot slot) (layout_of t) scanned)) ts;
+  part_checks = λ most.
+      of_both
+      (check false (BadTable m.slot) ∷ [])
+      (λ s t. update_checks m.apart most m.slot s t);
+  stores = λ ts statuses.
+      of_both []
+      (λ s t. map (wanted_of m.apart (other_slot m.slot) (layout_of t)) statuses) ts;
+  plan = λ ts scanned.
+      of_both None (λ s t. Some (plan_of (other_slot m.slot) (layout_of t) scanned)) ts;
 }
 
 -- ---- an update is ready
@@ -181,13 +201,13 @@ staged_checks source c ts scanned =
 
 -- An update is ready: both slots have images, those of the target, the slot that isn't the mark's,
 -- through their stores.
-abbrev pub staged : Phase
-staged = record installing {
-  has_a = λ slot. true;
-  has_b = λ slot. true;
-  through = λ slot k. other_slot slot == k;
-  state_checks = staged_checks;
-  plan = λ slot ts scanned. None;
+abbrev pub staged : UpdateMark → Phase
+staged m = record (installing m) {
+  has_a = true;
+  has_b = true;
+  through = λ slot. other_slot m.slot == slot;
+  state_checks = staged_checks m.slot;
+  plan = λ ts scanned. None;
 }
 
 -- ---- the stores of an update are merged
@@ -209,24 +229,29 @@ merging_checks slot c ts scanned =
     ∷ []
 
 -- The slot of the mark, the target of the update, alone has images, and they are read through the
--- stores that are merged. A store may have fewer exceptions than its status says.
-abbrev pub merging : Phase
-merging = record idle {
-  through = λ slot k. slot == k;
+-- stores that are merged. A store may have fewer exceptions than its status says, and a partition
+-- without one may be written in place.
+abbrev pub merging : UpdateMark → Phase
+merging m = record (idle m) {
+  through = λ slot. m.slot == slot;
   reads_statuses = true;
-  part_checks = λ most slot. of_first slot (λ t. merging_check most slot t ∷ []);
-  state_checks = merging_checks;
-  stores = λ slot ts statuses.
+  part_checks = λ most. of_first m.slot (λ t. merging_check most m.slot t ∷ []);
+  state_checks = merging_checks m.slot;
+  stores = λ ts statuses.
       of_first_table []
-      (λ t. map (λ (s : PartStatus). or_fewer (wanted_of slot (layout_of t) s)) statuses)
+      (λ t. map (λ (s : PartStatus). or_fewer (wanted_of true m.slot (layout_of t) s)) statuses)
       ts;
 }
 
 -- ---- the phases that there are
 
-abbrev pub phase_at : MarkPhase → Phase
-phase_at marks.Idle = idle
-phase_at marks.Installing = installing
-phase_at marks.Staged = staged
-phase_at marks.Merging = merging
-phase_at marks.Completed = idle
+-- that of a mark with this phase and the mark's other fields
+abbrev pub phase_in : MarkPhase → UpdateMark → Phase
+phase_in marks.Idle m = idle m
+phase_in marks.Installing m = installing m
+phase_in marks.Staged m = staged m
+phase_in marks.Merging m = merging m
+phase_in marks.Completed m = idle m
+
+abbrev pub phase_at : UpdateMark → Phase
+phase_at m = phase_in m.phase m

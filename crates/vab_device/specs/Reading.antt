@@ -14,7 +14,7 @@ use Rattle.vab_marks.specs.declared.sector.MarkFault.{MarkFault}
 use Rattle.vab_marks.specs.declared.status.PartStatus.{PartStatus}
 use Rattle.vab_marks.specs.declared.version.MarkVersion.{MarkVersion}
 use Rattle.vab_marks.specs.declared.version.MarkVersion.TheVariants.{Two}
-use Rattle.vab_marks.specs.Mark.{mark_of}
+use Rattle.vab_marks.specs.Mark.{mark_of, rephased}
 use Rattle.vab_marks.specs.Version.{version_in, partitions_under}
 use Rattle.vab_statuses.specs.Statuses.{statuses_under, written_in, IsOfStatuses}
 use Rattle.vab_tables.specs.declared.table.Table.{Table}
@@ -38,7 +38,7 @@ use Rattle.vab_device.specs.declared.device.Device.{Device}
 use Rattle.vab_device.specs.Checks.{unless, first_fault, passing, ◌>>=◌}
 use Rattle.vab_device.specs.Kept.{parts_of, limits_of, copies_end, super_bytes, lies_in, has_slot}
 use Rattle.vab_device.specs.Mounted.{Mounted, mounted_on, images_on, sectors_read, entries_on}
-use Rattle.vab_device.specs.Mounted.{written_sectors}
+use Rattle.vab_device.specs.Mounted.{written_sectors, blocks_there}
 use Rattle.vab_device.specs.Phases.{Phase, phase_at, plan_of, of_first_table}
 use Rattle.vab_device.specs.Stores.{Wanted, Scanned, scans_in}
 
@@ -56,14 +56,11 @@ pub record Read : Type 0 where
 
 -- where all stores are merged there is no update any more
 abbrev pub settled : MarkPhase → MarkPhase
-settled marks.Idle = marks.Idle
-settled marks.Installing = marks.Installing
-settled marks.Staged = marks.Staged
-settled marks.Merging = marks.Merging
 settled marks.Completed = marks.Idle
+settled phase = phase
 
 abbrev pub mark_read : Result UpdateMark MarkFault → Result UpdateMark StartFault
-mark_read (Ok m) = Ok (record m { phase = settled m.phase })
+mark_read (Ok m) = Ok (rephased (settled m.phase) m)
 mark_read (Err fault) = Err (BadMark 2048)
 
 -- the update mark, in sector 2048
@@ -133,9 +130,9 @@ tables_in size g (slot ∷ slots) image =
 abbrev pub framed : ℕ → UpdateMark → Phase → Image → Result Read StartFault
 framed size m p image =
     statuses_at p.reads_statuses image >>= λ ss.
-    control_in (p.has_a m.slot) (p.has_b m.slot) image >>= λ c.
+    control_in p.has_a p.has_b image >>= λ c.
     geometry_at size image >>= λ g.
-    tables_in size g (p.tables m.slot) image >>= λ ts.
+    tables_in size g p.tables image >>= λ ts.
     Ok (record {
       mark = m;
       statuses = ss;
@@ -148,15 +145,15 @@ framed size m p image =
 unfoldable pub frame : ℕ → Image → Result Read StartFault
 frame size image =
     unless (nat_le 4120 size) (TooSmall 4120 size) (mark_in image) >>= λ m.
-    framed size m (phase_at m.phase) image
+    framed size m (phase_at m) image
 
 abbrev pub part_fault : (most : ℕ) → Read → Option StartFault
-part_fault most r = first_fault ((phase_at r.mark.phase).part_checks most r.mark.slot r.tables)
+part_fault most r = first_fault ((phase_at r.mark).part_checks most r.tables)
 
 abbrev pub state_fault : Read → Option StartFault
 state_fault r =
     first_fault
-    ((phase_at r.mark.phase).state_checks r.mark.slot r.control r.tables r.scanned)
+    ((phase_at r.mark).state_checks r.control r.tables r.scanned)
 
 -- the rules of the partitions, of which a slot has so many at most
 unfoldable pub judged : (most : ℕ) → Read → Result Read StartFault
@@ -164,7 +161,7 @@ judged most r = passing (part_fault most r) r
 
 -- the stores that are read
 abbrev pub stores_of : Read → List (Result Wanted StartFault)
-stores_of r = (phase_at r.mark.phase).stores r.mark.slot r.tables (written_in r.statuses)
+stores_of r = (phase_at r.mark).stores r.tables (written_in r.statuses)
 
 -- their exceptions
 unfoldable pub scanned_in : Image → Read → Result Read StartFault
@@ -194,7 +191,7 @@ parts_for slot true through scanned None = None
 parts_for slot true through scanned (Some t) = Some (parts_by slot through scanned t)
 
 abbrev pub read_table : ℕ → Read → Option Table
-read_table slot r = table_for slot ((phase_at r.mark.phase).tables r.mark.slot) r.tables
+read_table slot r = table_for slot (phase_at r.mark).tables r.tables
 
 -- The blocks and the groups of the device are those of the first table.
 abbrev pub kept : Read → Device
@@ -205,18 +202,18 @@ kept r = record {
   cap = of_first_table 0 (λ t. cap_of (layout_of t).device) r.tables;
   groups = of_first_table [] (λ t. limits_of r.mark.slot t.groups) r.tables;
   a = parts_for 0
-      ((phase_at r.mark.phase).has_a r.mark.slot)
-      ((phase_at r.mark.phase).through r.mark.slot 0)
+      (phase_at r.mark).has_a
+      ((phase_at r.mark).through 0)
       r.scanned
       (read_table 0 r);
   b = parts_for 1
-      ((phase_at r.mark.phase).has_b r.mark.slot)
-      ((phase_at r.mark.phase).through r.mark.slot 1)
+      (phase_at r.mark).has_b
+      ((phase_at r.mark).through 1)
       r.scanned
       (read_table 1 r);
   table_a = read_table 0 r;
   table_b = read_table 1 r;
-  plan = (phase_at r.mark.phase).plan r.mark.slot r.tables r.scanned;
+  plan = (phase_at r.mark).plan r.tables r.scanned;
 }
 
 -- ---- what a disk means
@@ -235,14 +232,14 @@ IsIn size m image = device size image ≡ Ok m
 pub record Reads (size : ℕ) (r : Read) (image : Image) : Type 0 where
   pub enough : nat_le 4120 size ≡ true
   pub mark : mark_in image ≡ Ok r.mark
-  pub statuses : statuses_at (phase_at r.mark.phase).reads_statuses image ≡ Ok r.statuses
+  pub statuses : statuses_at (phase_at r.mark).reads_statuses image ≡ Ok r.statuses
   pub control : control_in
-      ((phase_at r.mark.phase).has_a r.mark.slot)
-      ((phase_at r.mark.phase).has_b r.mark.slot)
+      (phase_at r.mark).has_a
+      (phase_at r.mark).has_b
       image
       ≡ Ok r.control
   pub geometry : geometry_at size image ≡ Ok r.geometry
-  pub tables : tables_in size r.geometry ((phase_at r.mark.phase).tables r.mark.slot) image
+  pub tables : tables_in size r.geometry (phase_at r.mark).tables image
       ≡ Ok r.tables
   pub parts : part_fault (most_at image) r ≡ None
   pub stores : scans_in (stores_of r) image ≡ Ok r.scanned
@@ -266,7 +263,7 @@ pub record RepresentsUnder (v : MarkVersion) (d : Device) (size : ℕ) (image : 
   pub reads : Reads size read image
   pub is : d ≡ record (kept read) { control = d.control }
   pub control : control_of (image 4) ≡ Ok d.control
-  pub copies : AgreeCopies read.geometry ((phase_at read.mark.phase).tables read.mark.slot)
+  pub copies : AgreeCopies read.geometry (phase_at read.mark).tables
       read.tables image
   pub version : version_at image ≡ v
 
@@ -281,19 +278,19 @@ Represents d size image = RepresentsUnder Two d size image
 pub record SameRead (size : ℕ) (r : Read) (old new : Image) : Type 0 where
   pub most : most_at old ≤ most_at new
   pub mark : mark_in new ≡ mark_in old
-  pub statuses : statuses_at (phase_at r.mark.phase).reads_statuses new
-      ≡ statuses_at (phase_at r.mark.phase).reads_statuses old
+  pub statuses : statuses_at (phase_at r.mark).reads_statuses new
+      ≡ statuses_at (phase_at r.mark).reads_statuses old
   pub control : control_in
-      ((phase_at r.mark.phase).has_a r.mark.slot)
-      ((phase_at r.mark.phase).has_b r.mark.slot)
+      (phase_at r.mark).has_a
+      (phase_at r.mark).has_b
       new
       ≡ control_in
-      ((phase_at r.mark.phase).has_a r.mark.slot)
-      ((phase_at r.mark.phase).has_b r.mark.slot)
+      (phase_at r.mark).has_a
+      (phase_at r.mark).has_b
       old
   pub geometry : geometry_at size new ≡ geometry_at size old
-  pub tables : tables_in size r.geometry ((phase_at r.mark.phase).tables r.mark.slot) new
-      ≡ tables_in size r.geometry ((phase_at r.mark.phase).tables r.mark.slot) old
+  pub tables : tables_in size r.geometry (phase_at r.mark).tables new
+      ≡ tables_in size r.geometry (phase_at r.mark).tables old
   pub stores : scans_in (stores_of r) new ≡ scans_in (stores_of r) old
   pub images_a : images_on new (kept r).a ≡ images_on old (kept r).a
   pub images_b : images_on new (kept r).b ≡ images_on old (kept r).b
@@ -329,7 +326,7 @@ IsOfImages (Some parts) s = IsOfParts parts s
 abbrev pub IsOfStores : List (Result Wanted StartFault) → ℕ → Type 0
 IsOfStores [] s = ⊥
 IsOfStores (Err fault ∷ ws) s = IsOfStores ws s
-IsOfStores (Ok w ∷ ws) s = IsOfBlocks w.store s ⊎ IsOfStores ws s
+IsOfStores (Ok w ∷ ws) s = IsOfBlocks (blocks_there w.store) s ⊎ IsOfStores ws s
 
 -- a sector that a read of a written partition takes
 abbrev pub IsOfWritten : Part → PartImage → ℕ → Type 0
@@ -348,10 +345,10 @@ IsOfPlan (Some plan) s = IsOfPlanned plan s
 -- The live sectors: the reading and the images are the same where these are.
 pub data Live (r : Read) (s : ℕ) : Type 0 where
   of_mark : s ≡ 2048 → Live r s
-  of_statuses : (phase_at r.mark.phase).reads_statuses ≡ true → IsOfStatuses s → Live r s
+  of_statuses : (phase_at r.mark).reads_statuses ≡ true → IsOfStatuses s → Live r s
   of_control : s ≡ 4 → Live r s
   of_geometry : (s ≡ 4104) ⊎ (s ≡ 4112) → Live r s
-  of_tables : IsOfTables r.geometry ((phase_at r.mark.phase).tables r.mark.slot) s → Live r s
+  of_tables : IsOfTables r.geometry (phase_at r.mark).tables s → Live r s
   of_stores : IsOfStores (stores_of r) s → Live r s
   of_images_a : IsOfImages (kept r).a s → Live r s
   of_images_b : IsOfImages (kept r).b s → Live r s

@@ -1,12 +1,15 @@
--- The stores that statuses name, and what is read of them.
+-- The images that statuses name, and what is read of their stores.
 use Rattle.std.specs.Prelude.{ℕ, ◌+◌, ◌==◌, nat_le, Bool, true, false, if◌then◌else◌, List, []}
 use Rattle.std.specs.Prelude.{◌∷◌, length, slice_index_or, Option, Some, None, Result, Ok, Err}
 use Rattle.std.specs.Str.{bytes_eq}
 use Rattle.vab_disk.specs.Disk.{Image}
 use Rattle.vab_names.specs.Names.{store_of}
 use Rattle.vab_marks.specs.declared.status.PartStatus.{PartStatus}
+use Rattle.vab_marks.specs.declared.status.StatusImage.{StatusImage}
+use Rattle.vab_marks.specs.declared.status.StatusImage.TheVariants.{Stored, InPlace}
 use Rattle.vab_exceptions.specs.declared.area.Exception.{Exception}
 use Rattle.vab_space.specs.declared.Chunk.{Chunk}
+use Rattle.vab_space.specs.declared.Chunk.TheVariants.{One}
 use Rattle.vab_store.specs.declared.fault.StoreFault.{StoreFault}
 use Rattle.vab_store.specs.Scan.{scan_of}
 use Rattle.vab_store.specs.View.{stored_at}
@@ -18,13 +21,13 @@ use Rattle.vab_device.specs.declared.fault.StartFault.TheVariants.{BadStore}
 use Rattle.vab_device.specs.Checks.{unless, ◌>>=◌}
 use Rattle.vab_device.specs.Kept.{sectors_of}
 
--- A store that a status names: the partition's whole name, its blocks and those of its store, each
--- as its first sector, the size of a chunk and how many exceptions the status says, and whether
--- there may be fewer: while a store is merged, exceptions leave its list.
+-- An image that a status names: the partition's whole name, its blocks and those of its store, each
+-- as its first sector, where it isn't in place; the size of a chunk and how many exceptions the
+-- status says, and whether there may be fewer: while a store is merged, exceptions leave its list.
 pub record Wanted : Type 0 where
   pub name : List ℕ
   pub base : List ℕ
-  pub store : List ℕ
+  pub store : Option (List ℕ)
   pub chunk : Chunk
   pub count : ℕ
   pub fewer : Bool
@@ -40,26 +43,49 @@ abbrev pub first_named : List ℕ → List PartOfLayout → Option PartOfLayout
 first_named name [] = None
 first_named name (p ∷ ps) = if bytes_eq p.name name then Some p else first_named name ps
 
-abbrev pub wanted_by : ℕ
+-- the image of a status of this name, in the store of that partition, where there are both; or in
+-- place, where an image may be so and there is no store
+abbrev pub image_wanted : (in_place : Bool)
+    → ℕ
+    → List ℕ
+    → StatusImage
+    → Option PartOfLayout
+    → Option PartOfLayout
+    → Result Wanted StartFault
+image_wanted in_place first name image None store = Err (BadStore name)
+image_wanted in_place first name InPlace (Some p) (Some store) = Err (BadStore name)
+image_wanted in_place first name InPlace (Some p) None =
+    unless in_place (BadStore name) (Ok (record {
+      name = name;
+      base = sectors_of first p.blocks;
+      store = None;
+      chunk = One;
+      count = 0;
+      fewer = false;
+    }))
+image_wanted in_place first name (Stored count chunk) (Some p) None = Err (BadStore name)
+image_wanted in_place first name (Stored count chunk) (Some p) (Some store) = Ok (record {
+  name = name;
+  base = sectors_of first p.blocks;
+  store = Some (sectors_of first store.blocks);
+  chunk = chunk;
+  count = count;
+  fewer = false;
+})
+
+abbrev pub wanted_by : (in_place : Bool)
+    → ℕ
     → PartStatus
     → Option PartOfLayout
     → Option PartOfLayout
     → Result Wanted StartFault
-wanted_by first s None store = Err (BadStore s.name)
-wanted_by first s (Some p) None = Err (BadStore s.name)
-wanted_by first s (Some p) (Some store) = Ok (record {
-  name = s.name;
-  base = sectors_of first p.blocks;
-  store = sectors_of first store.blocks;
-  chunk = s.chunk;
-  count = s.count;
-  fewer = false;
-})
+wanted_by in_place first s p store = image_wanted in_place first s.name s.image p store
 
--- the store of the slot's partition of that name, or the fault that there is none
-abbrev pub wanted_of : ℕ → Layout → PartStatus → Result Wanted StartFault
-wanted_of slot l s =
-    wanted_by l.device.first_logical_sector s
+-- the image of the slot's partition of that name, which may stand in place or not, or the fault
+-- that there is none
+abbrev pub wanted_of : (in_place : Bool) → ℕ → Layout → PartStatus → Result Wanted StartFault
+wanted_of in_place slot l s =
+    wanted_by in_place l.device.first_logical_sector s
     (first_named s.name (own_parts slot l.parts))
     (first_named (store_of s.name) l.parts)
 
@@ -81,10 +107,15 @@ scan_read w (Ok es) =
     (Ok (record { name = w.name; chunk = w.chunk; exceptions = es }))
 scan_read w (Err fault) = Err (BadStore w.name)
 
-unfoldable pub scan_at : Wanted → Image → Result Scanned StartFault
-scan_at w image = scan_read w (scan_of w.chunk w.store (length w.base) image)
+-- an image in place has no exceptions
+abbrev pub scan_by : Wanted → Option (List ℕ) → Image → Result Scanned StartFault
+scan_by w None image = Ok (record { name = w.name; chunk = w.chunk; exceptions = [] })
+scan_by w (Some store) image = scan_read w (scan_of w.chunk store (length w.base) image)
 
--- those of all stores, or the first fault
+unfoldable pub scan_at : Wanted → Image → Result Scanned StartFault
+scan_at w image = scan_by w w.store image
+
+-- those of all images, or the first fault
 abbrev pub scans_in : List (Result Wanted StartFault) → Image → Result (List Scanned) StartFault
 scans_in [] image = Ok []
 scans_in (Err fault ∷ ws) image = Err fault
@@ -93,7 +124,7 @@ scans_in (Ok w ∷ ws) image =
     scans_in ws image >>= λ rest.
     Ok (s ∷ rest)
 
--- those of the partition of this name, where its store was read
+-- those of the partition of this name, where a status names it
 abbrev pub scanned_named : List ℕ → List Scanned → Option Scanned
 scanned_named name [] = None
 scanned_named name (s ∷ ss) = if bytes_eq s.name name then Some s else scanned_named name ss

@@ -22,11 +22,13 @@ pub enum StartFault {
     /// table of the slot that isn't the mark's is read while an update is installed or ready.
     BadTable(usize),
     /// The first partition, in the order of the table, that breaks a rule of a slot's own
-    /// partitions, of an update's target or of a slot whose stores are merged.
+    /// partitions, of an update's target or of a slot whose stores are merged; behind these, the
+    /// first that is in the stores' group, where the target stands apart.
     BadPartition(Name36),
     /// A status has this name, and there is no such partition with a store, or the store holds no
     /// list of exceptions as long as the status says, in chunks of the status's size. While the
-    /// store is merged the list may be shorter.
+    /// store is merged the list may be shorter. A status of an image in place is one of a partition
+    /// without a store, where the target stands apart or the slot is merged.
     BadStore(Name36),
     /// 1: the current slot has no images, which can't be while an update is ready. 2: the mark's
     /// slot has priority 0 or isn't successful, or an update is ready and its target is current and

@@ -65,7 +65,7 @@ fn a_disk_without_a_super_is_not_adopted(rt: HostRuntime) -> Result<(), Fail> {
 // What is answered where this mark stood on the disk.
 fn adopted_over(alloc: Global, mark: UpdateMark) -> Result<Adopted, Fail> {
     let mut d = headless(alloc)?;
-    if mark.slot < 2 && MARK < d.sectors() {
+    if mark.slot < 2 && !mark.apart && MARK < d.sectors() {
         d.write_sector(MARK, &encode_mark(&mark))
             .ok()
             .ok_or("a sector is written")?;
@@ -86,7 +86,11 @@ fn an_update_that_is_dropped_is_answered(rt: HostRuntime) -> Result<(), Fail> {
         (MarkPhase::Merging, 1, true),
         (MarkPhase::Completed, 0, false),
     ] {
-        let mark = UpdateMark { phase, slot };
+        let mark = UpdateMark {
+            phase,
+            slot,
+            apart: false,
+        };
         let dropped = if is_dropped { Some(mark) } else { None };
         let adopted = adopted_over(alloc, mark)?;
         assert!(rt; adopted.dropped == dropped);

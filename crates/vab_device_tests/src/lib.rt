@@ -8,7 +8,6 @@ mod devices;
 #[cfg(test)]
 mod making;
 #[cfg(test)]
-mod model;
 #[cfg(test)]
 mod opening;
 #[cfg(test)]

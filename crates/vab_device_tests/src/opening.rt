@@ -12,7 +12,7 @@ use vab_disk::{CallKind, Disk, MemPort};
 use vab_exceptions::encode_store_header;
 use vab_gate::DiskFault;
 use vab_geometry::{Geometry, encode_geometry};
-use vab_marks::{MarkPhase, PartStatus, UpdateMark, encode_mark, encode_status};
+use vab_marks::{MarkPhase, PartStatus, StatusImage, UpdateMark, encode_mark, encode_status};
 use vab_recover::start;
 use vab_space::Chunk;
 
@@ -85,7 +85,11 @@ fn geometry() -> [u8; 512] {
 }
 
 fn mark(phase: MarkPhase) -> [u8; 512] {
-    encode_mark(&UpdateMark { phase, slot: 0 })
+    encode_mark(&UpdateMark {
+        phase,
+        slot: 0,
+        apart: false,
+    })
 }
 
 pub(crate) fn control(current: usize, priority: u8, successful: bool) -> [u8; 512]
@@ -216,8 +220,10 @@ fn full_name() -> Result<Name36, Fail> {
 fn status() -> Result<[u8; 512], Fail> {
     let status = PartStatus {
         name: full_name()?,
-        count: 2,
-        chunk: Chunk::One,
+        image: StatusImage::Stored {
+            count: 2,
+            chunk: Chunk::One,
+        },
     };
     Ok(encode_status(&status))
 }
@@ -529,6 +535,20 @@ fn a_merge_keeps_the_rules_of_its_slot(rt: HostRuntime) -> Result<(), Fail> {
             "{fields:?}"
         );
     }
+    Ok(())
+}
+
+#[test]
+fn no_phase_takes_an_image_in_place(rt: HostRuntime) -> Result<(), Fail> {
+    let alloc = rt.alloc();
+    let mut d = with_store(alloc, MarkPhase::Merging, areas()[0])?;
+    let status = encode_status(&PartStatus {
+        name: full_name()?,
+        image: StatusImage::InPlace,
+    });
+    put_each(&mut d, &[(STATUS, status)])?;
+    let fault = start(alloc, &mut d).err();
+    assert!(rt; fault == Some(StartFault::BadStore(full_name()?)));
     Ok(())
 }
 

@@ -29,6 +29,7 @@ fn idle(slot: usize) -> Option<UpdateMark> {
     Some(UpdateMark {
         phase: MarkPhase::Idle,
         slot,
+        apart: false,
     })
 }
 
@@ -103,6 +104,7 @@ fn a_merge_that_has_ended_is_tidied_once(rt: HostRuntime) -> Result<(), Fail> {
     let completed = UpdateMark {
         phase: MarkPhase::Completed,
         slot: 1,
+        apart: false,
     };
     assert!(rt; mark_of(&mut d) == Some(completed));
     // The table is stored, each copy with its syncs, and the mark by one gate.
@@ -184,6 +186,7 @@ fn a_table_that_would_not_fit_is_left(rt: HostRuntime) -> Result<(), Fail> {
     let completed = encode_mark(&UpdateMark {
         phase: MarkPhase::Completed,
         slot: 0,
+        apart: false,
     });
     let sectors = [
         (4, control(0, 15, true)),

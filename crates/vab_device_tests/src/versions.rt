@@ -61,6 +61,7 @@ fn version(d: &mut MemPort) -> Option<MarkVersion> {
     let merging = UpdateMark {
         phase: MarkPhase::Merging,
         slot: 0,
+        apart: false,
     };
     let bytes = sector(d, MARK)?;
     if decode_mark(&bytes) == Ok(merging) {

@@ -1,7 +1,7 @@
 -- What an edit does, by what it does to the disk.
 use Rattle.std.proofs.Common.{◌≡◌, ◌∙◌, inl, inr, ⊎_elim, ℕ, ◌+◌, ◌≤◌, ◌<◌, true, false}
 use Rattle.std.proofs.Common.{List, length, Ok, Err, refl, sym, ap, subst, arith}
-use Rattle.std.specs.Prelude.{Option, Some, Result, map, AllPairs, ◌==◌}
+use Rattle.std.specs.Prelude.{Option, Some, None, Result, map, AllPairs, ◌==◌}
 use Rattle.std.proofs.lemmas.Bool.{cases_Bool}
 use Rattle.vab_disk.specs.declared.disk.Disk.{Ghosts}
 use Rattle.vab_disk.specs.Disk.{Image, Outcome, Adds, Rose}
@@ -20,22 +20,22 @@ use Rattle.vab_lpstore.specs.Storing.{IsOfTable, LeavesEitherTable, SameElsewher
 use Rattle.vab_lpstore.proofs.StoreLaws.{text_fits, begins_read, both_table, store_elsewhere}
 use Rattle.vab_layout.specs.declared.layout.Layout.{Layout}
 use Rattle.vab_layout.specs.Layout.{layout_of}
-use Rattle.vab_layout.specs.Slots.{other_slot, IsTarget}
+use Rattle.vab_layout.specs.Slots.{other_slot, twins_by, IsTargetBeside}
 use Rattle.vab_builder.specs.declared.edit.Edit.{Edit}
 use Rattle.vab_builder.specs.declared.fault.EditFault.{EditFault}
-use Rattle.vab_builder.specs.Edits.{edited}
+use Rattle.vab_builder.specs.Edits.{edited_beside}
 use Rattle.vab_model.specs.declared.command.Refusal.{Refusal}
 use Rattle.vab_model.specs.declared.command.Reply.TheVariants as replies
 use Rattle.vab_model.specs.declared.command.Refusal.TheVariants.{NoMemory}
-use Rattle.vab_model.specs.declared.state.PlanEntry.{PlanEntry}
+use Rattle.vab_model.specs.declared.state.Plan.{Plan}
 use Rattle.vab_model.specs.Effects.{Effect, refuses, does, steps_of, after_of, IsOneOf}
 use Rattle.vab_model.specs.Effects.{wanting, unless_refused}
 use Rattle.vab_device.specs.declared.device.Part.{Part}
 use Rattle.vab_device.specs.declared.device.Device.{Device}
 use Rattle.vab_device.specs.Does.{LeavesStep, effect_of, KeepsSource, Does}
 use Rattle.vab_device.proofs.DoesLaws.{does_nothing, follows_kept, step_follows}
-use Rattle.vab_device.specs.Kept.{lies_in, IsDevice}
-use Rattle.vab_device.specs.Mounted.{Mounted, entry_on, mounted_on}
+use Rattle.vab_device.specs.Kept.{lies_in, IsDevice, HasNoStores}
+use Rattle.vab_device.specs.Mounted.{Mounted, mounted_on}
 use Rattle.vab_device.specs.Phases.{plan_of}
 use Rattle.vab_device.specs.Reading.{device, Represents}
 use Rattle.vab_device.specs.Updates.{installing_with, table_effect, wants_for, effect_on}
@@ -43,15 +43,16 @@ use Rattle.vab_device.specs.Updates.{is_full_table}
 use Rattle.vab_device.proofs.ReadingLaws.{device_same, device_stands}
 use Rattle.vab_device.proofs.RepairLaws.{repair_same}
 use Rattle.vab_edit.specs.Carried.{carried}
+use Rattle.vab_edit.specs.Guards.{kept_from, kept_off}
 use Rattle.vab_edit.specs.Writes.{command_by, IsOfPhase, IsOfEdit}
 use Rattle.vab_edit.specs.Prepared.{IsPrepared, Refuses, with_target, carried_over}
 use Rattle.vab_edit.proofs.CopiesLaws.{ends_within}
 use Rattle.vab_edit.proofs.DeviceLaws.{kept_update, new_lies, next_kept}
-use Rattle.vab_edit.proofs.EffectLaws.{not_installing, effect_edited}
+use Rattle.vab_edit.proofs.EffectLaws.{not_installing, effect_edited, effect_kept}
 use Rattle.vab_edit.proofs.GateLaws.{other_below, carried_plan, mounted_edited, device_edited}
 use Rattle.vab_edit.proofs.GateLaws.{represents_edited}
 use Rattle.vab_edit.proofs.InstallingLaws.{read_at}
-use Rattle.vab_edit.proofs.NextLaws.{device_at, target_kept}
+use Rattle.vab_edit.proofs.NextLaws.{device_at, plan_at, target_kept}
 use Rattle.vab_edit.proofs.PreparedLaws.{plan_differs}
 use Rattle.vab_edit.proofs.StandsLaws.{StandsUpdate, stands_update, planned_at}
 
@@ -76,7 +77,7 @@ prepared_differs d edit u text plan is =
 -- ---- want of memory
 
 -- where an edit's effect wants memory
-wants_is : (m : Mounted) (source : ℕ) (plan : List PlanEntry) (said : Result Layout EditFault)
+wants_is : (m : Mounted) (source : ℕ) (plan : Plan) (said : Result Layout EditFault)
     → (table_effect m source plan said).wants ≡ wants_for said
 wants_is m source plan (Ok l) = refl
 wants_is m source plan (Err fault) = refl
@@ -91,6 +92,25 @@ target_keeps d target u plan = elim (cases_Bool (target == 0)) [
   | inl a ↦ rw a (record { geometry = refl; slot = refl; parts = refl })
   | inr b ↦ rw b (record { geometry = refl; slot = refl; parts = refl })
 ]
+
+-- where something keeps an edit from the plan, it is refused
+kept_back : (d : Device) (size : ℕ)
+    → IsDevice d size
+    → (image : Image) (staged : Option (List ℕ)) (edit : Edit) (r : Refusal)
+    → kept_off d.mark.apart (other_slot d.mark.slot) d.plan edit ≡ Some r
+    → effect_on (mounted_on d image) staged (command_by edit) ≡ refuses r
+kept_back d size kept image staged edit r is = by_plan d.plan refl
+  where
+    by_plan : (x : Option (List Part))
+        → d.plan ≡ x
+        → effect_on (mounted_on d image) staged (command_by edit) ≡ refuses r
+    by_plan None none =
+        absurd (let bad : (let y : Option Refusal = None in y ≡ Some r) =
+        ap
+        (λ (x : Option (List Part)). kept_off d.mark.apart (other_slot d.mark.slot) x edit)
+        (sym none)
+        ∙ is in cc)
+    by_plan (Some plan) planned = effect_kept d plan image staged edit r planned is
 
 -- where both copies are of one table, the slot's table is that one or the new one
 abbrev pub StoresTable : {D : Type 0}
@@ -123,14 +143,20 @@ module _ {D : Type 0} (g : Ghosts D) (d : Device) (edit : Edit) (staged : Option
       kept is
       (λ t. not_installing d (g.seen old) staged edit none.0 ∙ ap refuses (sym none.1))
       (reads_none g old) refl
-  refused_by r old kept is (inr refused) =
+  refused_by r old kept is (inr (inl back)) =
+      does_nothing g d staged (command_by edit) (IsOfEdit d) false (replies.Refused r) old old
+      kept is
+      (λ t. kept_back d (g.size old) kept (g.seen old) staged edit r back)
+      (reads_none g old) refl
+  refused_by r old kept is (inr (inr refused)) =
       let edited_is : (t : g.is_modelled)
       → effect_on (mounted_on d (g.seen old)) staged (command_by edit)
       ≡ table_effect (mounted_on d (g.seen old)) d.mark.slot
-      (map (entry_on (g.seen old)) refused.tables.old_plan)
-      (edited (other_slot d.mark.slot) (layout_of refused.s) (layout_of refused.t)
-      d.geometry.max edit) = λ t.
+      (plan_at d.mark.apart (g.seen old) refused.tables.old_plan)
+      (edited_beside (other_slot d.mark.slot) (twins_by d.mark.apart (layout_of refused.s).parts)
+      (layout_of refused.s) (layout_of refused.t) d.geometry.max edit) = λ t.
       effect_edited d (g.size old) refused.s refused.t kept refused.tables (g.seen old) staged edit
+      refused.free
       in
       ⊎_elim
       (λ wants.
@@ -151,7 +177,7 @@ module _ {D : Type 0} (g : Ghosts D) (d : Device) (edit : Edit) (staged : Option
       edited_is t
       ∙ ap
       (table_effect (mounted_on d (g.seen old)) d.mark.slot
-      (map (entry_on (g.seen old)) refused.tables.old_plan))
+      (plan_at d.mark.apart (g.seen old) refused.tables.old_plan))
       said.1
       ∙ ap (λ (x : Refusal). wanting (is_full_table said.0) (refuses x)) (sym said.2))
       (reads_none g old) refl)
@@ -174,22 +200,39 @@ module _ {D : Type 0} (g : Ghosts D) (d : Device) (edit : Edit) (staged : Option
     st t = stands_update d (g.size old) (g.seen old) p.s p.t kept p.tables (is t)
 
     lies : lies_in (g.size old) d.geometry (layout_of u).device ≡ true
-    lies = new_lies d (g.size old) edit p.s p.t u kept p.tables p.given.is_edited
+    lies = new_lies d (g.size old) edit p.s p.t u kept p.tables p.given.is_edited p.free
 
-    was : IsTarget (other_slot d.mark.slot) (layout_of p.s).parts (layout_of p.t).parts
+    was : IsTargetBeside (other_slot d.mark.slot) (twins_by d.mark.apart (layout_of p.s).parts)
+        (layout_of p.s).parts (layout_of p.t).parts
     was = (kept_update d (g.size old) p.s p.t kept p.tables).target
+
+    stores_were : HasNoStores d.mark.apart (layout_of p.t).parts
+    stores_were = (kept_update d (g.size old) p.s p.t kept p.tables).no_stores
+
+    -- nothing keeps the edit from what is read as the plan
+    free : (t : g.is_modelled)
+        → kept_from d.mark.apart (other_slot d.mark.slot)
+        (plan_of (other_slot d.mark.slot) (layout_of p.t) (st t).scanned) edit
+        ≡ None
+    free t =
+        ap
+        (λ (x : Option (List Part)). kept_off d.mark.apart (other_slot d.mark.slot) x edit)
+        (sym (p.tables.is_planned
+        ∙ ap Some (planned_at d (g.size old) (g.seen old) p.s p.t p.tables.old_plan (st t)
+        p.tables.is_planned)))
+        ∙ p.free
 
     abbrev next : Mounted
     next =
         installing_with (mounted_on d (g.seen old)) d.mark.slot
-        (map (entry_on (g.seen old)) p.tables.old_plan) (layout_of u)
+        (plan_at d.mark.apart (g.seen old) p.tables.old_plan) (layout_of u)
 
     gives : effect_of g d staged (command_by edit) false old ≡ wanting true (does replies.Done next)
     gives =
-        effect_edited d (g.size old) p.s p.t kept p.tables (g.seen old) staged edit
+        effect_edited d (g.size old) p.s p.t kept p.tables (g.seen old) staged edit p.free
         ∙ ap
         (table_effect (mounted_on d (g.seen old)) d.mark.slot
-        (map (entry_on (g.seen old)) p.tables.old_plan))
+        (plan_at d.mark.apart (g.seen old) p.tables.old_plan))
         p.given.gives
 
     writes : (s : ℕ) (b : List ℕ)
@@ -207,17 +250,19 @@ module _ {D : Type 0} (g : Ghosts D) (d : Device) (edit : Edit) (staged : Option
         (others : SameElsewhere d.geometry (other_slot d.mark.slot) (text_sectors (length text))
         (g.seen old) image) where
       mounted : mounted_on
-          (device_at d.mark.slot (st t).statuses (st t).seen d.geometry p.s u
+          (device_at d.mark d.mark.slot (st t).statuses (st t).seen d.geometry p.s u
           (st t).scanned d.control)
           image
           ≡ next
       mounted =
-          mounted_edited (g.size old) d.mark.slot (text_sectors (length text)) (st t).statuses
+          mounted_edited (g.size old) d.mark d.mark.slot (text_sectors (length text))
+          (st t).statuses
           (st t).seen
           d.geometry p.s p.t u (st t).scanned edit (g.seen old) image kept.geometry kept.slot fits
-          (st t).reads was p.given.is_edited lies (st t).version others d.control
+          (st t).reads was stores_were p.given.is_edited (free t) lies (st t).version others
+          d.control
           ∙ (λ i. installing_with (mounted_on (sym (st t).is i) (g.seen old)) d.mark.slot
-          (map (entry_on (g.seen old))
+          (plan_at d.mark.apart (g.seen old)
           (sym (planned_at d (g.size old) (g.seen old) p.s p.t p.tables.old_plan
           (st t) p.tables.is_planned) i))
           (layout_of u))
@@ -225,23 +270,26 @@ module _ {D : Type 0} (g : Ghosts D) (d : Device) (edit : Edit) (staged : Option
       means : slot_table d.geometry (other_slot d.mark.slot) image ≡ Ok u
           → device (g.size old) image ≡ Ok next
       means there =
-          device_edited (g.size old) d.mark.slot (text_sectors (length text)) (st t).statuses
+          device_edited (g.size old) d.mark d.mark.slot (text_sectors (length text)) (st t).statuses
           (st t).seen
           d.geometry p.s p.t u (st t).scanned edit (g.seen old) image kept.geometry kept.slot fits
-          (st t).reads was p.given.is_edited lies (st t).version others d.control (st t).control
+          (st t).reads was stores_were p.given.is_edited (free t) lies (st t).version others
+          d.control (st t).control
           there
           ∙ ap Ok mounted
 
       represents_at : BothHold d.geometry (other_slot d.mark.slot) text image
           → Represents
-          (device_at d.mark.slot (st t).statuses (st t).seen d.geometry p.s u
+          (device_at d.mark d.mark.slot (st t).statuses (st t).seen d.geometry p.s u
           (st t).scanned d.control)
           (g.size old) image
       represents_at held =
-          represents_edited (g.size old) d.mark.slot (text_sectors (length text)) (st t).statuses
+          represents_edited (g.size old) d.mark d.mark.slot (text_sectors (length text))
+          (st t).statuses
           (st t).seen
           d.geometry p.s p.t u (st t).scanned edit (g.seen old) image kept.geometry kept.slot fits
-          (st t).reads was p.given.is_edited lies (st t).version others d.control text
+          (st t).reads was stores_were p.given.is_edited (free t) lies (st t).version others
+          d.control text
           (st t).control (st t).copies p.given.is_text held
 
       plan_is : carried_over d.plan plan
@@ -254,19 +302,21 @@ module _ {D : Type 0} (g : Ghosts D) (d : Device) (edit : Edit) (staged : Option
           ∙ ap
           (map (carried (plan_of (other_slot d.mark.slot) (layout_of p.t) (st t).scanned)))
           p.given.is_plan
-          ∙ carried_plan (g.size old) d.mark.slot (text_sectors (length text)) (st t).statuses
+          ∙ carried_plan (g.size old) d.mark d.mark.slot (text_sectors (length text))
+          (st t).statuses
           (st t).seen
           d.geometry p.s p.t u (st t).scanned edit (g.seen old) image kept.geometry kept.slot fits
-          (st t).reads was p.given.is_edited lies (st t).version others
+          (st t).reads was stores_were p.given.is_edited (free t) lies (st t).version others
 
       device_is : with_target d (other_slot d.mark.slot) u (carried_over d.plan plan)
-          ≡ device_at d.mark.slot (st t).statuses (st t).seen d.geometry p.s u
+          ≡ device_at d.mark d.mark.slot (st t).statuses (st t).seen d.geometry p.s u
           (st t).scanned d.control
       device_is =
           ap
           (λ (x : Device). with_target x (other_slot d.mark.slot) u (carried_over d.plan plan))
           (st t).is
-          ∙ target_kept d.mark.slot (st t).statuses (st t).seen d.geometry p.s p.t u (st t).scanned
+          ∙ target_kept d.mark d.mark.slot (st t).statuses (st t).seen d.geometry p.s p.t u
+          (st t).scanned
           d.control (carried_over d.plan plan) kept.slot plan_is
 
     -- an outcome is the device before or after
@@ -289,10 +339,12 @@ module _ {D : Type 0} (g : Ghosts D) (d : Device) (edit : Edit) (staged : Option
           step = inl refl;
           means =
               device_same (g.size old)
-              (read_at d.mark.slot (st t).statuses (st t).seen d.geometry p.s p.t (st t).scanned)
+              (read_at d.mark d.mark.slot (st t).statuses (st t).seen d.geometry p.s p.t
+              (st t).scanned)
               (g.seen old) o.image (st t).reads
               (repair_same (g.size old) (text_sectors (length text)) (other_slot d.mark.slot)
-              (read_at d.mark.slot (st t).statuses (st t).seen d.geometry p.s p.t (st t).scanned)
+              (read_at d.mark d.mark.slot (st t).statuses (st t).seen d.geometry p.s p.t
+              (st t).scanned)
               (g.seen old) o.image kept.geometry kept.slot (other_below d.mark.slot) fits
               (st t).reads
               left.others (same ∙ sym (old_table t)))
@@ -361,7 +413,7 @@ module _ {D : Type 0} (g : Ghosts D) (d : Device) (edit : Edit) (staged : Option
     does_edit held settled counts = record {
       refused = false;
       kept =
-          next_kept d (g.size old) edit p.s p.t u kept p.tables p.given.is_edited
+          next_kept d (g.size old) edit p.s p.t u kept p.tables p.given.is_edited p.free
           (carried_over d.plan plan)
           (ap (λ (x : Option (List Part)). carried_over x plan) p.tables.is_planned
           ∙ ap (map (carried p.tables.old_plan)) p.given.is_plan);

@@ -1,11 +1,11 @@
 -- A kept device with another table and plan of the target is one.
 use Rattle.std.proofs.Common.{◌≡◌, ◌∙◌, ◌⊎◌, inl, inr, ℕ, zero, suc, ◌<◌, true, List, [], refl, sym}
 use Rattle.std.proofs.Common.{ap, subst, arith}
-use Rattle.std.specs.Prelude.{map, is_some, Option, Some, if◌then◌else◌, ◌==◌}
+use Rattle.std.specs.Prelude.{map, is_some, Option, Some, None, if◌then◌else◌, ◌==◌}
 use Rattle.vab_marks.specs.declared.mark.MarkPhase.TheVariants as marks
 use Rattle.vab_tables.specs.declared.table.Table.{Table}
 use Rattle.vab_layout.specs.Layout.{layout_of}
-use Rattle.vab_layout.specs.Slots.{other_slot}
+use Rattle.vab_layout.specs.Slots.{other_slot, twins_by}
 use Rattle.vab_layout.proofs.LayoutLaws.{layout_keeps}
 use Rattle.vab_builder.specs.declared.edit.Edit.{Edit}
 use Rattle.vab_device.specs.declared.device.Part.{Part}
@@ -15,9 +15,11 @@ use Rattle.vab_device.specs.Kept.{IsKeptTable, ArePresent, AreParts, AreOfUpdate
 use Rattle.vab_device.specs.Kept.{IsDevice}
 use Rattle.vab_device.specs.Phases.{plan_of}
 use Rattle.vab_edit.specs.Carried.{carried}
+use Rattle.vab_edit.specs.Guards.{kept_off}
 use Rattle.vab_edit.specs.Prepared.{IsEdited, HasTables, with_target}
 use Rattle.vab_edit.proofs.GateLaws.{device_of_layout}
 use Rattle.vab_edit.proofs.KeptLaws.{fresh_planned, all_carried}
+use Rattle.vab_edit.proofs.NoStoresLaws.{edited_no_stores}
 use Rattle.vab_edit.proofs.StandsLaws.{planned_phase}
 
 -- a slot is a or b
@@ -40,18 +42,20 @@ kept_table d size (suc (suc n)) t kept below is = absurd (omega (arith, below))
 pub kept_update : (d : Device) (size : ℕ) (s t : Table)
     → IsDevice d size
     → HasTables d s t
-    → AreOfUpdate d.mark.slot s t
+    → AreOfUpdate d.mark.apart d.mark.slot s t
 kept_update d size s t kept has =
-    subst (λ (x : Option Table). IsUpdate d.mark.slot (Some s) x) has.target
+    subst (λ (x : Option Table). IsUpdate d.mark.apart d.mark.slot (Some s) x) has.target
     (subst
-    (λ (x : Option Table). IsUpdate d.mark.slot x (table_of_slot d (other_slot d.mark.slot)))
+    (λ (x : Option Table).
+    IsUpdate d.mark.apart d.mark.slot x (table_of_slot d (other_slot d.mark.slot)))
     has.source kept.update)
 
 module _
     (d : Device) (size : ℕ) (edit : Edit) (s t u : Table)
     (kept : IsDevice d size)
     (has : HasTables d s t)
-    (edited : IsEdited d.geometry.max d.mark.slot edit s t u) where
+    (edited : IsEdited d.mark.apart d.geometry.max d.mark.slot edit s t u)
+    (free : kept_off d.mark.apart (other_slot d.mark.slot) d.plan edit ≡ None) where
   o : ℕ
   o = other_slot d.mark.slot
 
@@ -73,7 +77,8 @@ module _
   new_plan =
       all_carried size has.old_plan (plan_of (other_slot d.mark.slot) (layout_of u) [])
       (subst (ArePresent size) has.is_planned kept.plan)
-      (fresh_planned size (other_slot d.mark.slot) d.geometry (layout_of u) (layout_of s).parts
+      (fresh_planned size (other_slot d.mark.slot) d.geometry (layout_of u)
+      (twins_by d.mark.apart (layout_of s).parts) (layout_of s).parts
       kept.enough (layout_keeps u edited.rules) edited.target new_lies)
 
   phase_is : d.mark.phase ≡ marks.Installing
@@ -85,10 +90,18 @@ module _
   both_read : reads_both d.mark.phase ≡ true
   both_read = ap reads_both phase_is
 
-  are : AreOfUpdate d.mark.slot s u
+  are : AreOfUpdate d.mark.apart d.mark.slot s u
   are = record {
     target = edited.target;
     device = (kept_update d size s t kept has).device ∙ sym edited.device;
+    no_stores =
+        edited_no_stores d.mark.apart (other_slot d.mark.slot)
+        (twins_by d.mark.apart (layout_of s).parts) (layout_of s) (layout_of t) (layout_of u)
+        has.old_plan edit (omega arith) edited.layout
+        (subst
+        (λ (x : Option (List Part)). kept_off d.mark.apart (other_slot d.mark.slot) x edit ≡ None)
+        has.is_planned free)
+        (kept_update d size s t kept has).no_stores;
   }
 
   beside_a : (plan : List Part)
@@ -103,6 +116,7 @@ module _
         control = kept.control;
         phase = kept.phase;
         slot = kept.slot;
+        apart = kept.apart;
         current = kept.current;
         has_a = kept.has_a;
         has_b = kept.has_b;
@@ -121,9 +135,10 @@ module _
         update =
             subst
             (λ (x : Option Table).
-            IsUpdate d.mark.slot x (if other_slot d.mark.slot == 0 then d.table_a else Some u))
+            IsUpdate d.mark.apart d.mark.slot x
+            (if other_slot d.mark.slot == 0 then d.table_a else Some u))
             (sym (ap (λ (n : ℕ). if n == 0 then d.table_a else Some u) e ∙ ta))
-            (subst (λ (x : Option Table). IsUpdate d.mark.slot (Some s) x)
+            (subst (λ (x : Option Table). IsUpdate d.mark.apart d.mark.slot (Some s) x)
             (sym (ap (λ (n : ℕ). if other_slot n == 0 then d.table_a else Some u) e))
             are);
       }
@@ -140,6 +155,7 @@ module _
         control = kept.control;
         phase = kept.phase;
         slot = kept.slot;
+        apart = kept.apart;
         current = kept.current;
         has_a = kept.has_a;
         has_b = kept.has_b;
@@ -158,9 +174,10 @@ module _
         update =
             subst
             (λ (x : Option Table).
-            IsUpdate d.mark.slot x (if other_slot d.mark.slot == 0 then Some u else d.table_b))
+            IsUpdate d.mark.apart d.mark.slot x
+            (if other_slot d.mark.slot == 0 then Some u else d.table_b))
             (sym (ap (λ (n : ℕ). if n == 0 then Some u else d.table_b) e ∙ tb))
-            (subst (λ (x : Option Table). IsUpdate d.mark.slot (Some s) x)
+            (subst (λ (x : Option Table). IsUpdate d.mark.apart d.mark.slot (Some s) x)
             (sym (ap (λ (n : ℕ). if other_slot n == 0 then Some u else d.table_b) e))
             are);
       }

@@ -1,7 +1,11 @@
 -- What the table of effects says of an edit.
 use Rattle.std.proofs.Common.{◌≡◌, ◌∙◌, inl, inr, ℕ, ◌+◌, true, false, List, Result, refl, sym, ap}
-use Rattle.std.proofs.Common.{arith}
-use Rattle.std.specs.Prelude.{map, Option, Some, None, is_some, ◌==◌}
+use Rattle.std.proofs.Common.{arith, [], ◌∷◌, length}
+use Rattle.std.specs.Prelude.{map, Option, Some, None, option_map, is_some, ◌==◌, ◌&&◌, ◌^◌, Bool}
+use Rattle.std.specs.Prelude.{nat_le}
+use Rattle.std.specs.Prelude.{if◌then◌else◌}
+use Rattle.std.specs.Str.{bytes_eq}
+use Rattle.std.proofs.lemmas.Bool.{cases_Bool}
 use Rattle.vab_disk.specs.Disk.{Image}
 use Rattle.vab_marks.specs.declared.mark.MarkPhase.{MarkPhase}
 use Rattle.vab_marks.specs.declared.mark.MarkPhase.TheVariants as marks
@@ -9,33 +13,53 @@ use Rattle.vab_tables.specs.declared.table.Table.{Table}
 use Rattle.vab_layout.specs.declared.layout.Layout.{Layout}
 use Rattle.vab_layout.specs.Layout.{layout_of}
 use Rattle.vab_layout.specs.Plain.{plain}
-use Rattle.vab_layout.specs.Slots.{other_slot}
+use Rattle.vab_names.specs.Names.{is_full, base_of}
+use Rattle.vab_layout.specs.Slots.{other_slot, twins_by}
 use Rattle.vab_builder.specs.declared.edit.Edit.{Edit}
 use Rattle.vab_builder.specs.declared.edit.Edit.TheVariants.{Create, Resize, Delete, AddStore}
 use Rattle.vab_builder.specs.declared.fault.EditFault.{EditFault}
-use Rattle.vab_builder.specs.Edits.{changed_by, edited, if_fitting}
-use Rattle.vab_model.specs.declared.state.PlanEntry.{PlanEntry}
+use Rattle.vab_builder.specs.Edits.{changed_beside, edited_beside, if_fitting}
+use Rattle.vab_model.specs.declared.state.Plan.{Plan}
+use Rattle.vab_model.specs.declared.command.Refusal.{Refusal}
+use Rattle.vab_model.specs.Plans.{entry_named}
+use Rattle.vab_model.specs.Machine.{is_written as is_written_entry}
 use Rattle.vab_model.specs.declared.command.Refusal.TheVariants.{NotInstalling}
+use Rattle.vab_model.specs.declared.command.Refusal.TheVariants as refusals
 use Rattle.vab_model.specs.Effects.{refuses}
 use Rattle.vab_device.specs.declared.device.Part.{Part}
 use Rattle.vab_device.specs.declared.device.Device.{Device}
 use Rattle.vab_device.specs.Kept.{table_of_slot, has_slot, IsDevice}
 use Rattle.vab_device.specs.Mounted.{Mounted, table_placed, places_on, entry_on, entries_on}
 use Rattle.vab_device.specs.Mounted.{count_at, unplanned, phase_by, phase_on, state_on, mounted_on}
+use Rattle.vab_device.specs.declared.device.PartImage.{PartImage}
+use Rattle.vab_device.specs.declared.device.PartImage.TheVariants.{Kept, Declared, Written}
+use Rattle.vab_device.specs.Mounted.{planned_on}
 use Rattle.vab_device.specs.Updates.{EditOf, layout_at, edited_effect, edit_effect, table_effect}
-use Rattle.vab_device.specs.Updates.{effect_on}
+use Rattle.vab_device.specs.Updates.{effect_on, Guard, no_guard, is_settled_in, settled_guard}
+use Rattle.vab_device.specs.Updates.{store_guard, unless_kept}
+use Rattle.vab_edit.specs.Carried.{planned_named}
+use Rattle.vab_edit.specs.Guards.{is_written, is_settled, unless_settled, kept_from, kept_off}
 use Rattle.vab_edit.specs.Writes.{command_by}
 use Rattle.vab_edit.specs.Prepared.{HasTables}
 use Rattle.vab_edit.proofs.DeviceLaws.{slot_cases}
+use Rattle.vab_edit.proofs.NextLaws.{plan_at}
 use Rattle.vab_edit.proofs.PlainLaws.{changed_plain}
 use Rattle.vab_edit.proofs.StandsLaws.{planned_phase}
 
 -- what an edit gives of two tables' layouts
 abbrev edit_of : Edit → EditOf
-edit_of edit target s t = changed_by target s t edit
+edit_of edit apart target s t = changed_beside target (twins_by apart s.parts) s t edit
+
+-- what keeps it from a plan
+abbrev guard_of : Edit → Guard
+guard_of (Create name bytes) = no_guard
+guard_of (Resize name bytes) = settled_guard (nat_le bytes (2 ^ 40)) name.now
+guard_of (Delete name) = settled_guard true name.now
+guard_of (AddStore name bytes) = store_guard
 
 by_edit : (m : Mounted) (staged : Option (List ℕ)) (edit : Edit)
-    → effect_on m staged (command_by edit) ≡ edit_effect m (edit_of edit) m.state.phase
+    → effect_on m staged (command_by edit)
+    ≡ edit_effect m (guard_of edit) (edit_of edit) m.state.phase
 by_edit m staged (Create name bytes) = refl
 by_edit m staged (Resize name bytes) = refl
 by_edit m staged (Delete name) = refl
@@ -54,13 +78,14 @@ phase_of d image plan is =
     ∙ ap (λ (x : Option (List Part)).
     phase_by d.mark (count_at d.a + count_at d.b) (entries_on image x)) is
 
-unplanned_refuses : (m : Mounted) (edit : EditOf) (phase : MarkPhase) (slot left : ℕ)
-    → edit_effect m edit (unplanned phase slot left) ≡ refuses NotInstalling
-unplanned_refuses m edit marks.Idle slot left = refl
-unplanned_refuses m edit marks.Installing slot left = refl
-unplanned_refuses m edit marks.Staged slot left = refl
-unplanned_refuses m edit marks.Merging slot left = refl
-unplanned_refuses m edit marks.Completed slot left = refl
+unplanned_refuses : (m : Mounted) (guard : Guard) (edit : EditOf) (phase : MarkPhase)
+    (slot left : ℕ)
+    → edit_effect m guard edit (unplanned phase slot left) ≡ refuses NotInstalling
+unplanned_refuses m guard edit marks.Idle slot left = refl
+unplanned_refuses m guard edit marks.Installing slot left = refl
+unplanned_refuses m guard edit marks.Staged slot left = refl
+unplanned_refuses m guard edit marks.Merging slot left = refl
+unplanned_refuses m guard edit marks.Completed slot left = refl
 
 -- where no update is installed
 pub not_installing : (d : Device) (image : Image) (staged : Option (List ℕ)) (edit : Edit)
@@ -68,9 +93,78 @@ pub not_installing : (d : Device) (image : Image) (staged : Option (List ℕ)) (
     → effect_on (mounted_on d image) staged (command_by edit) ≡ refuses NotInstalling
 not_installing d image staged edit none =
     by_edit (mounted_on d image) staged edit
-    ∙ ap (edit_effect (mounted_on d image) (edit_of edit)) (phase_of d image None none)
-    ∙ unplanned_refuses (mounted_on d image) (edit_of edit) d.mark.phase d.mark.slot
-    (count_at d.a + count_at d.b)
+    ∙ ap (edit_effect (mounted_on d image) (guard_of edit) (edit_of edit))
+    (phase_of d image None none)
+    ∙ unplanned_refuses (mounted_on d image) (guard_of edit) (edit_of edit) d.mark.phase
+    d.mark.slot (count_at d.a + count_at d.b)
+
+-- ---- what keeps an edit from the plan
+
+written_as : (image : Image) (p : Part) (x : PartImage)
+    → is_written_entry (planned_on image p x) ≡ is_written x
+written_as image p Kept = refl
+written_as image p Declared = refl
+written_as image p (Written k es) = refl
+
+store_as : (x : Option (List ℕ)) → is_some (option_map (λ (l : List ℕ). length l) x) ≡ is_some x
+store_as None = refl
+store_as (Some store) = refl
+
+settled_as : (apart : Bool) (image : Image) (name : List ℕ) (all : List Part) (plan : List Part)
+    → is_settled_in (plan_at apart image all) (entry_named name (map (entry_on image) plan))
+    ≡ is_settled apart (planned_named name plan)
+settled_as apart image name all [] = refl
+settled_as apart image name all (p ∷ ps) = elim (cases_Bool (bytes_eq p.name name)) [
+  | inl here ↦ rw (here, store_as p.store, written_as image p p.image) refl
+  | inr other ↦ rw other (settled_as apart image name all ps)
+]
+
+settled_guards : (apart passes : Bool) (source : ℕ) (name : List ℕ) (image : Image)
+    (plan : List Part)
+    → settled_guard passes name source (plan_at apart image plan)
+    ≡ unless_settled apart passes (other_slot source) name plan
+settled_guards apart passes source name image plan =
+    ap
+    (λ (b : Bool).
+    if is_full (other_slot source) name && passes && b then Some refusals.Written else None)
+    (settled_as apart image (base_of name) plan plan)
+
+guards : (apart : Bool) (source : ℕ) (edit : Edit) (image : Image) (plan : List Part)
+    → guard_of edit source (plan_at apart image plan)
+    ≡ kept_from apart (other_slot source) plan edit
+guards apart source (Create name bytes) image plan = refl
+guards apart source (Resize name bytes) image plan =
+    settled_guards apart (nat_le bytes (2 ^ 40)) source name.now image plan
+guards apart source (Delete name) image plan =
+    settled_guards apart true source name.now image plan
+guards apart source (AddStore name bytes) image plan = refl
+
+-- of a device
+kept_so : (d : Device) (plan : List Part) (x : Option Refusal) (edit : Edit) (image : Image)
+    → d.plan ≡ Some plan
+    → kept_off d.mark.apart (other_slot d.mark.slot) d.plan edit ≡ x
+    → guard_of edit d.mark.slot (plan_at d.mark.apart image plan) ≡ x
+kept_so d plan x edit image planned is =
+    guards d.mark.apart d.mark.slot edit image plan
+    ∙ ap (λ (o : Option (List Part)). kept_off d.mark.apart (other_slot d.mark.slot) o edit)
+    (sym planned)
+    ∙ is
+
+-- where something keeps it from the plan, it is refused
+pub effect_kept : (d : Device) (plan : List Part) (image : Image) (staged : Option (List ℕ))
+    (edit : Edit) (r : Refusal)
+    → d.plan ≡ Some plan
+    → kept_off d.mark.apart (other_slot d.mark.slot) d.plan edit ≡ Some r
+    → effect_on (mounted_on d image) staged (command_by edit) ≡ refuses r
+effect_kept d plan image staged edit r planned is =
+    let m : Mounted = mounted_on d image in
+    by_edit m staged edit
+    ∙ ap (edit_effect m (guard_of edit) (edit_of edit)) (phase_of d image (Some plan) planned)
+    ∙ ap (λ (x : Option Refusal).
+    unless_kept x
+    (edited_effect m d.mark.slot (plan_at d.mark.apart image plan) (edit_of edit)
+    (layout_at m.places d.mark.slot) (layout_at m.places (other_slot d.mark.slot))))
+    (kept_so d plan (Some r) edit image planned is)
 
 -- ---- the tables
 
@@ -116,25 +210,34 @@ module _
   ]
 
   plain_same : (edit : Edit)
-      → changed_by (other_slot d.mark.slot) (plain d.mark.slot (layout_of s)) (layout_of t) edit
-      ≡ changed_by (other_slot d.mark.slot) (layout_of s) (layout_of t) edit
+      → edit_of edit d.mark.apart (other_slot d.mark.slot) (plain d.mark.slot (layout_of s))
+      (layout_of t)
+      ≡ edit_of edit d.mark.apart (other_slot d.mark.slot) (layout_of s) (layout_of t)
   plain_same edit =
       let twice : other_slot (other_slot d.mark.slot) ≡ d.mark.slot = omega (arith, kept.slot) in
-      ap (λ (n : ℕ). changed_by (other_slot d.mark.slot) (plain n (layout_of s))
-      (layout_of t) edit) (sym twice)
-      ∙ changed_plain (other_slot d.mark.slot) (layout_of s) (layout_of t) edit
+      ap (λ (n : ℕ). edit_of edit d.mark.apart (other_slot d.mark.slot) (plain n (layout_of s))
+      (layout_of t)) (sym twice)
+      ∙ changed_plain d.mark.apart (other_slot d.mark.slot) (layout_of s) (layout_of t) edit
 
   -- An edit of a device with an update gives what the builder gives of its tables.
   pub effect_edited : (image : Image) (staged : Option (List ℕ)) (edit : Edit)
+      → kept_off d.mark.apart (other_slot d.mark.slot) d.plan edit ≡ None
       → effect_on (mounted_on d image) staged (command_by edit)
-      ≡ table_effect (mounted_on d image) d.mark.slot (map (entry_on image) has.old_plan)
-      (edited (other_slot d.mark.slot) (layout_of s) (layout_of t) d.geometry.max edit)
-  effect_edited image staged edit =
+      ≡ table_effect (mounted_on d image) d.mark.slot
+      (plan_at d.mark.apart image has.old_plan)
+      (edited_beside (other_slot d.mark.slot) (twins_by d.mark.apart (layout_of s).parts)
+      (layout_of s) (layout_of t) d.geometry.max edit)
+  effect_edited image staged edit free =
       let m : Mounted = mounted_on d image in
-      let plan : List PlanEntry = map (entry_on image) has.old_plan in
+      let plan : Plan = plan_at d.mark.apart image has.old_plan in
       by_edit m staged edit
-      ∙ ap (edit_effect m (edit_of edit))
+      ∙ ap (edit_effect m (guard_of edit) (edit_of edit))
       (phase_of d image (Some has.old_plan) has.is_planned)
+      ∙ ap (λ (x : Option Refusal).
+      unless_kept x
+      (edited_effect m d.mark.slot plan (edit_of edit)
+      (layout_at m.places d.mark.slot) (layout_at m.places (other_slot d.mark.slot))))
+      (kept_so d has.old_plan None edit image has.is_planned free)
       ∙ (λ i. edited_effect m d.mark.slot plan (edit_of edit) (placed_source i) (placed_target i))
       ∙ ap (λ (x : Result Layout EditFault).
       table_effect m d.mark.slot plan (if_fitting d.geometry.max x)) (plain_same edit)

@@ -21,12 +21,14 @@ use Rattle.vab_device.specs.Reading.{AgreeCopies}
 use Rattle.vab_device.specs.Stores.{Scanned}
 use Rattle.vab_device.proofs.CheckLaws.{bound}
 use Rattle.vab_device.proofs.ReadingLaws.{device_of, has_images, control_is_seen}
-use Rattle.vab_marks.specs.Mark.{mark_at}
+use Rattle.vab_marks.specs.declared.mark.UpdateMark.{UpdateMark}
+use Rattle.vab_marks.specs.Mark.{rephased, resloted}
 use Rattle.vab_marks.specs.declared.version.MarkVersion.TheVariants.{Two}
 use Rattle.vab_device.specs.Reading.{version_at}
 
 -- what is read: the source's slot, its table and the target's
-abbrev pub read_at : ℕ
+abbrev pub read_at : UpdateMark
+    → ℕ
     → List (Option PartStatus)
     → Control
     → Geometry
@@ -34,8 +36,8 @@ abbrev pub read_at : ℕ
     → Table
     → List Scanned
     → Read
-read_at k statuses c g s t scanned = record {
-  mark = mark_at marks.Installing k;
+read_at base k statuses c g s t scanned = record {
+  mark = rephased marks.Installing (resloted k base);
   statuses = statuses;
   control = c;
   geometry = g;
@@ -76,6 +78,7 @@ two_tables size g a b image ts is =
 
 -- What a device with an update stands for, with the parts of its reading by name.
 pub record StandsInstalling (d : Device) (size : ℕ) (image : Image) : Type 0 where
+  pub base : UpdateMark
   pub slot : ℕ
   pub statuses : List (Option PartStatus)
   pub seen : Control
@@ -83,8 +86,8 @@ pub record StandsInstalling (d : Device) (size : ℕ) (image : Image) : Type 0 w
   pub source : Table
   pub target : Table
   pub scanned : List Scanned
-  pub reads : Reads size (read_at slot statuses seen geometry source target scanned) image
-  pub is : d ≡ record (kept (read_at slot statuses seen geometry source target scanned)) {
+  pub reads : Reads size (read_at base slot statuses seen geometry source target scanned) image
+  pub is : d ≡ record (kept (read_at base slot statuses seen geometry source target scanned)) {
     control = d.control;
   }
   pub control : control_of (image 4) ≡ Ok d.control
@@ -95,7 +98,7 @@ pub record StandsInstalling (d : Device) (size : ℕ) (image : Image) : Type 0 w
 record StandsFor (d : Device) (size : ℕ) (image : Image) (r : Read) : Type 0 where
   reads : Reads size r image
   is : d ≡ record (kept r) { control = d.control }
-  copies : AgreeCopies r.geometry ((phase_at r.mark.phase).tables r.mark.slot) r.tables image
+  copies : AgreeCopies r.geometry (phase_at r.mark).tables r.tables image
 
 pub stands_installing : (d : Device) (size : ℕ) (image : Image)
     → Represents d size image
@@ -105,16 +108,16 @@ stands_installing d size image is installing =
     let r : Read = is.read in
     let phase : r.mark.phase ≡ marks.Installing =
     sym (ap (λ (k : Device). k.mark.phase) is.is) ∙ installing in
-    let marked : r ≡ record r { mark = record r.mark { phase = marks.Installing } } =
+    let marked : r ≡ record r { mark = rephased marks.Installing r.mark } =
     (λ i. record r { mark = record r.mark { phase = phase i } }) in
     let now = subst (StandsFor d size image) marked
     (record { reads = is.reads; is = is.is; copies = is.copies }) in
     let two = two_tables size r.geometry r.mark.slot (other_slot r.mark.slot) image r.tables
     now.reads.tables in
-    let form : record r { mark = record r.mark { phase = marks.Installing } }
-    ≡ read_at r.mark.slot r.statuses r.control r.geometry two.source two.target r.scanned =
+    let form : record r { mark = rephased marks.Installing r.mark }
+    ≡ read_at r.mark r.mark.slot r.statuses r.control r.geometry two.source two.target r.scanned =
     (λ i. record {
-      mark = record r.mark { phase = marks.Installing };
+      mark = rephased marks.Installing r.mark;
       statuses = r.statuses;
       control = r.control;
       geometry = r.geometry;
@@ -123,6 +126,7 @@ stands_installing d size image is installing =
     }) in
     let formed = subst (StandsFor d size image) form now in
     record {
+      base = r.mark;
       slot = r.mark.slot;
       statuses = r.statuses;
       seen = r.control;
@@ -150,8 +154,8 @@ pub device_reads : (size : ℕ) (r : Read) (c : Control) (image : Image)
     → control_of (image 4) ≡ Ok c
     → device size image ≡ Ok (mounted_on (record (kept r) { control = c }) image)
 device_reads size r c image reads control =
-    let a = (phase_at r.mark.phase).has_a r.mark.slot in
-    let b = (phase_at r.mark.phase).has_b r.mark.slot in
+    let a = (phase_at r.mark).has_a in
+    let b = (phase_at r.mark).has_b in
     let has = has_images size r image reads in
     let seen : r.control ≡ control_seen a b c =
     control_is_seen a b image c r.control reads.control control in

@@ -15,7 +15,7 @@ use Rattle.vab_layout.specs.declared.layout.Part.{Part as PartOfLayout}
 use Rattle.vab_layout.specs.declared.layout.Layout.{Layout}
 use Rattle.vab_layout.specs.Rules.{IsPart as IsPartOfLayout, IsLayout}
 use Rattle.vab_layout.specs.Slots.{own_parts, store_parts, is_updated, IsDistinct}
-use Rattle.vab_layout.specs.Slots.{IsTarget, IsOwnPart}
+use Rattle.vab_layout.specs.Slots.{IsTargetBeside, IsOwnPart}
 use Rattle.vab_builder.proofs.Counting.{pieces_once}
 use Rattle.vab_blocks.proofs.Contained.{of_filter, in_filter}
 use Rattle.vab_names.proofs.NameCases.{store_is_store}
@@ -46,10 +46,10 @@ nothing_stored size first base (Some q) false is = is q refl
 nothing_stored size first base (Some q) true is = is q refl
 
 module _
-    (size slot : ℕ) (g : Geometry) (l : Layout) (source : List PartOfLayout)
+    (size slot : ℕ) (g : Geometry) (l : Layout) (twins source : List PartOfLayout)
     (enough : 4120 ≤ size)
     (rules : IsLayout l)
-    (target : IsTarget slot source l.parts)
+    (target : IsTargetBeside slot twins source l.parts)
     (lies : lies_in size g l.device ≡ true) where
   first : ℕ
   first = l.device.first_logical_sector

@@ -1,4 +1,5 @@
 pub mod SparedLaws
+pub mod NoStoresLaws
 pub mod PlainLaws
 pub mod NamedLaws
 pub mod WantedLaws

@@ -1,7 +1,8 @@
--- The first partition of a name, and what an edit leaves of those that have stores.
+-- The first partition of a name, and what an edit leaves of those whose images were read.
 use Rattle.std.proofs.Common.{◌≡◌, ◌∙◌, inl, inr, ℕ, true, false, List, [], ◌∷◌, refl, sym}
 use Rattle.std.proofs.Common.{ap, subst, ◌++◌}
-use Rattle.std.specs.Prelude.{Option, Some, None, Contains, if◌then◌else◌}
+use Rattle.std.specs.Prelude.{Bool, Option, Some, None, Contains, if◌then◌else◌, is_some}
+use Rattle.std.specs.Prelude.{option_map}
 use Rattle.std.specs.Str.{bytes_eq}
 use Rattle.std.proofs.lemmas.Bool.{cases_Bool, both_ways}
 use Rattle.vab_names.specs.Names.{is_of_slot, store_of, base_of, suffix_of}
@@ -13,7 +14,7 @@ use Rattle.vab_builder.specs.Asked.{IsAsBefore}
 use Rattle.vab_builder.specs.Sizes.{has_part}
 use Rattle.vab_blocks.proofs.Contained.{first, later, of_filter}
 use Rattle.vab_names.proofs.NameCases.{same_name, eq_name, ne_name, other_name}
-use Rattle.vab_device.specs.Stores.{first_named}
+use Rattle.vab_device.specs.Stores.{Scanned, first_named, scanned_named}
 
 -- ---- the first of a name
 
@@ -95,52 +96,112 @@ base_eq slot a b oa ob = elim (cases_Bool (bytes_eq a b)) [
       ∙ sym f
 ]
 
--- ---- a partition with its store
+-- ---- a partition whose image a status names
 
--- the slot has a partition of this name, and that has a store
-pub record HasBoth (slot : ℕ) (l : Layout) (name : List ℕ) : Type 0 where
+-- The slot has a partition of this name, and that has this store; it may have none where the target
+-- stands apart.
+pub record HasImage (apart : Bool) (slot : ℕ) (l : Layout) (name : List ℕ) : Type 0 where
   pub part : Part
-  pub store : Part
+  pub store : Option Part
   pub named : first_named name (own_parts slot l.parts) ≡ Some part
-  pub stored : first_named (store_of name) l.parts ≡ Some store
+  pub stored : first_named (store_of name) l.parts ≡ store
+  pub placed : store ≡ None → apart ≡ true
 
--- both are as before
+-- it is as before, and so is its store, where it has one
 pub record AreAsBefore (name : List ℕ) (old new : Layout) : Type 0 where
   pub part : IsAsBefore name old new
   pub store : IsAsBefore (store_of name) old new
 
--- each partition that has a store is as before, and so is its store
-abbrev pub LeavesBoth : ℕ → Layout → Layout → Type 0
-LeavesBoth slot old new = (name : List ℕ) → HasBoth slot old name → AreAsBefore name old new
+-- each partition is, and so is its store, whose image was read
+abbrev pub LeavesImages : List Scanned → Layout → Layout → Type 0
+LeavesImages ss old new = (name : List ℕ)
+    → is_some (scanned_named name ss) ≡ true
+    → AreAsBefore name old new
 
--- then the partition has one still, with the same blocks
-pub record HasStill (slot : ℕ) (new : Layout) (name : List ℕ) (part store : Part) : Type 0 where
-  pub both : HasBoth slot new name
+-- the blocks of a partition, where there is one
+abbrev pub blocks_of_some : Option Part → Option (List ℕ)
+blocks_of_some p = option_map (λ (q : Part). q.blocks) p
+
+-- then the partition is there still, with the same blocks, and so is its store
+pub record HasStill (apart : Bool) (slot : ℕ) (new : Layout) (name : List ℕ) (part : Part)
+    (store : Option Part) : Type 0 where
+  pub both : HasImage apart slot new name
   pub part_blocks : both.part.blocks ≡ part.blocks
-  pub store_blocks : both.store.blocks ≡ store.blocks
+  pub store_blocks : blocks_of_some both.store ≡ blocks_of_some store
 
-pub has_still : (slot : ℕ) (old new : Layout) (name : List ℕ)
-    → LeavesBoth slot old new
-    → (b : HasBoth slot old name)
-    → HasStill slot new name b.part b.store
-has_still slot old new name leaves b =
+first_none : (name : List ℕ) (parts : List Part)
+    → first_named name parts ≡ None
+    → has_part name parts ≡ false
+first_none name [] h = refl
+first_none name (q ∷ qs) h = elim (cases_Bool (bytes_eq q.name name)) [
+  | inl t ↦
+      let bad : (let x : Option Part = Some q in x ≡ None) = rw t at h in
+      absurd cc
+  | inr f ↦ let rest = first_none name qs (rw f at h) in rw f rest
+]
+
+none_first : (name : List ℕ) (parts : List Part)
+    → has_part name parts ≡ false
+    → first_named name parts ≡ None
+none_first name [] h = refl
+none_first name (q ∷ qs) h = elim (cases_Bool (bytes_eq q.name name)) [
+  | inl t ↦
+      let bad : true ≡ false = rw t at h in
+      absurd cc
+  | inr f ↦ let rest = none_first name qs (rw f at h) in rw f rest
+]
+
+-- the store of this name as before, or none as before
+record StoreStill (new : Layout) (name : List ℕ) (old_store : Option Part) : Type 0 where
+  store : Option Part
+  stored : first_named (store_of name) new.parts ≡ store
+  none : store ≡ None → old_store ≡ None
+  blocks : blocks_of_some store ≡ blocks_of_some old_store
+
+store_still : (old new : Layout) (name : List ℕ) (o : Option Part)
+    → IsAsBefore (store_of name) old new
+    → first_named (store_of name) old.parts ≡ o
+    → StoreStill new name o
+store_still old new name None left stored = record {
+  store = None;
+  stored =
+      none_first (store_of name) new.parts
+      (left.there ∙ first_none (store_of name) old.parts stored);
+  none = λ is. is;
+  blocks = refl;
+}
+store_still old new name (Some q) left stored =
+    let was = first_is (store_of name) old.parts q stored in
+    let now = first_some (store_of name) new.parts (left.there ∙ was.there) in
+    record {
+      store = Some now.0;
+      stored = now.1;
+      none = λ is. absurd (let bad : (let x : Option Part = Some now.0 in x ≡ None) = is in cc);
+      blocks =
+          ap Some
+          (sym (first_is (store_of name) new.parts now.0 now.1).blocks
+          ∙ left.blocks
+          ∙ was.blocks);
+    }
+
+pub has_still : (apart : Bool) (slot : ℕ) (old new : Layout) (name : List ℕ)
+    → AreAsBefore name old new
+    → (b : HasImage apart slot old name)
+    → HasStill apart slot new name b.part b.store
+has_still apart slot old new name left b =
     let own = own_named slot name old.parts b.part b.named in
     let was = first_is name old.parts b.part (sym (first_own slot name old.parts own) ∙ b.named) in
-    let was_store = first_is (store_of name) old.parts b.store b.stored in
-    let left = leaves name b in
     let now = first_some name new.parts (left.part.there ∙ was.there) in
-    let now_store = first_some (store_of name) new.parts (left.store.there ∙ was_store.there) in
+    let store = store_still old new name b.store left.store b.stored in
     record {
       both = record {
         part = now.0;
-        store = now_store.0;
+        store = store.store;
         named = first_own slot name new.parts own ∙ now.1;
-        stored = now_store.1;
+        stored = store.stored;
+        placed = λ none. b.placed (store.none none);
       };
       part_blocks =
           sym (first_is name new.parts now.0 now.1).blocks ∙ left.part.blocks ∙ was.blocks;
-      store_blocks =
-          sym (first_is (store_of name) new.parts now_store.0 now_store.1).blocks
-          ∙ left.store.blocks
-          ∙ was_store.blocks;
+      store_blocks = store.blocks;
     }

@@ -1,7 +1,7 @@
 -- An edit sees of the source its own partitions alone.
 use Rattle.std.proofs.Common.{◌≡◌, ℕ, ◌+◌, ◌-◌, ◌^◌, not, ◌&&◌, ◌||◌}
 use Rattle.std.proofs.Common.{List, [], ◌∷◌, ◌++◌, length, map, take, Ok, refl, ap}
-use Rattle.std.specs.Prelude.{◌==◌, nat_le, nat_lt, bit_or, if◌then◌else◌}
+use Rattle.std.specs.Prelude.{◌==◌, nat_le, nat_lt, bit_or, if◌then◌else◌, Bool, true, false}
 use Rattle.std.specs.Str.{bytes_eq}
 use Rattle.std.proofs.lemmas.List.Elements.{filter_passes}
 use Rattle.vab_names.specs.Names.{is_full, is_of_slot, in_slot, store_of, default_name}
@@ -15,6 +15,7 @@ use Rattle.vab_layout.specs.declared.layout.Layout.{Layout}
 use Rattle.vab_layout.specs.Layout.{blocks_of_parts}
 use Rattle.vab_layout.specs.Plain.{plain, default_group, own_groups}
 use Rattle.vab_layout.specs.Slots.{other_slot, own_parts, store_parts, blocks_named, before_of}
+use Rattle.vab_layout.specs.Slots.{twins_by}
 use Rattle.vab_builder.specs.declared.edit.Edit.{Edit}
 use Rattle.vab_builder.specs.declared.edit.Edit.TheVariants.{Create, Resize, Delete, AddStore}
 use Rattle.vab_builder.specs.declared.fault.EditFault.TheVariants.{BadName, BadSize, Unknown}
@@ -23,7 +24,7 @@ use Rattle.vab_builder.specs.declared.fault.EditFault.TheVariants.{GroupLimit, N
 use Rattle.vab_builder.specs.Edits.{free_of, kept_blocks, first_group, with_group, changed}
 use Rattle.vab_builder.specs.Edits.{with_created, with_resized, with_store, store_blocks, updated}
 use Rattle.vab_builder.specs.Edits.{unless, is_known, is_plain, group_named, created, resized}
-use Rattle.vab_builder.specs.Edits.{stored, changed_by}
+use Rattle.vab_builder.specs.Edits.{stored, changed_beside}
 use Rattle.vab_builder.specs.Import.{stores_group}
 use Rattle.vab_builder.specs.Sizes.{want_of, wants_of, wants_resized, wants_stored, used_by}
 use Rattle.vab_builder.specs.Sizes.{limit_of, sizes_in, is_within}
@@ -31,11 +32,11 @@ use Rattle.vab_builder.proofs.ListLaws.{filter_all}
 use Rattle.vab_names.proofs.NameCases.{in_slot_is}
 use Rattle.vab_builder.proofs.PartLaws.{named_own}
 
--- two sources with the same partitions of their slot
+-- two sources with the same partitions of their slot, and twins with the same blocks
 module _
-    (slot : ℕ) (from source target : Layout)
+    (slot : ℕ) (from source target : Layout) (new_twins twins : List Part)
     (own : own_parts (other_slot slot) from.parts ≡ own_parts (other_slot slot) source.parts)
-    (before : (name : List ℕ) → before_of slot from.parts name ≡ before_of slot source.parts name)
+    (before : (name : List ℕ) → before_of slot new_twins name ≡ before_of slot twins name)
   where
     free : free_of slot from target ≡ free_of slot source target
     free =
@@ -43,8 +44,8 @@ module _
         (blocks_of_parts l
         ++ blocks_of_parts (own_parts slot target.parts ++ store_parts slot target.parts))) own
 
-    want : (p : Part) → want_of slot from.parts target.parts p
-        ≡ want_of slot source.parts target.parts p
+    want : (p : Part) → want_of slot new_twins target.parts p
+        ≡ want_of slot twins target.parts p
     want p = λ i. record {
       before = length (before p.name i);
       blocks = length p.blocks;
@@ -58,18 +59,19 @@ module _
 
     created_used : (name : List ℕ) (n : ℕ)
         → used_by slot from.parts
-        (wants_of slot from.parts target.parts
-        ++ record { before = length (before_of slot from.parts name); blocks = n; store = 0 } ∷ [])
+        (wants_of slot new_twins target.parts
+        ++ record { before = length (before_of slot new_twins name); blocks = n; store = 0 } ∷ [])
         ≡ used_by slot source.parts
-        (wants_of slot source.parts target.parts
-        ++ record { before = length (before_of slot source.parts name); blocks = n; store = 0 } ∷
+        (wants_of slot twins target.parts
+        ++ record { before = length (before_of slot twins name); blocks = n; store = 0 } ∷
         [])
     created_used name n = used _ _ (λ i.
         map (λ p. want p i) (own_parts slot target.parts)
         ++ record { before = length (before name i); blocks = n; store = 0 } ∷ [])
 
     created_with : (name : List ℕ) (n : ℕ)
-        → with_created slot from target name n ≡ with_created slot source target name n
+        → with_created slot new_twins from target name n
+        ≡ with_created slot twins source target name n
     created_with name n = λ i. record target {
       parts = target.parts ++ record {
         name = name;
@@ -84,7 +86,8 @@ module _
     }
 
     created_same : (name : List ℕ) (bytes : ℕ)
-        → created slot from target name bytes ≡ created slot source target name bytes
+        → created slot new_twins from target name bytes
+        ≡ created slot twins source target name bytes
     unfolding created
     created_same name bytes = λ i.
         let mine : List Part = own_parts slot target.parts in
@@ -104,14 +107,15 @@ module _
     -- ---- another size
 
     resized_used : (name : List ℕ) (n : ℕ)
-        → used_by slot from.parts (wants_resized slot from.parts target.parts name n)
-        ≡ used_by slot source.parts (wants_resized slot source.parts target.parts name n)
+        → used_by slot from.parts (wants_resized slot new_twins target.parts name n)
+        ≡ used_by slot source.parts (wants_resized slot twins target.parts name n)
     resized_used name n = used _ _ (λ i.
         map (λ p. if bytes_eq p.name name then record (want p i) { blocks = n } else want p i)
         (own_parts slot target.parts))
 
     resized_with : (name : List ℕ) (n : ℕ)
-        → with_resized slot from target name n ≡ with_resized slot source target name n
+        → with_resized slot new_twins from target name n
+        ≡ with_resized slot twins source target name n
     resized_with name n = λ i.
         if length (blocks_named name target.parts) == n then target else record target {
           parts = changed name
@@ -124,7 +128,8 @@ module _
         }
 
     resized_same : (name : List ℕ) (bytes : ℕ)
-        → resized slot from target name bytes ≡ resized slot source target name bytes
+        → resized slot new_twins from target name bytes
+        ≡ resized slot twins source target name bytes
     unfolding resized
     resized_same name bytes = λ i.
         let mine : List Part = own_parts slot target.parts in
@@ -144,8 +149,8 @@ module _
     -- ---- a store
 
     stored_used : (name : List ℕ) (n : ℕ)
-        → used_by slot from.parts (wants_stored slot from.parts target.parts name n)
-        ≡ used_by slot source.parts (wants_stored slot source.parts target.parts name n)
+        → used_by slot from.parts (wants_stored slot new_twins target.parts name n)
+        ≡ used_by slot source.parts (wants_stored slot twins target.parts name n)
     stored_used name n = used _ _ (λ i.
         map (λ p. if bytes_eq p.name name then record (want p i) { store = n } else want p i)
         (own_parts slot target.parts))
@@ -163,7 +168,8 @@ module _
     }
 
     stored_same : (name : List ℕ) (bytes : ℕ)
-        → stored slot from target name bytes ≡ stored slot source target name bytes
+        → stored slot new_twins from target name bytes
+        ≡ stored slot twins source target name bytes
     unfolding stored
     stored_same name bytes = λ i.
         let n : ℕ = store_blocks target name bytes in
@@ -176,22 +182,34 @@ module _
         (Ok (stored_with name n i))))))
 
     changed_same : (edit : Edit)
-        → changed_by slot from target edit ≡ changed_by slot source target edit
+        → changed_beside slot new_twins from target edit
+        ≡ changed_beside slot twins source target edit
     changed_same (Create n bytes) = created_same n.now bytes
     changed_same (Resize n bytes) = resized_same n.now bytes
     changed_same (Delete n) = refl
     changed_same (AddStore n bytes) = stored_same n.now bytes
 
 -- the source without stores serves as well
-pub changed_plain : (slot : ℕ) (source target : Layout) (edit : Edit)
-    → changed_by slot (plain (other_slot slot) source) target edit
-    ≡ changed_by slot source target edit
+pub changed_plain : (apart : Bool) (slot : ℕ) (source target : Layout) (edit : Edit)
+    → changed_beside slot (twins_by apart (plain (other_slot slot) source).parts)
+    (plain (other_slot slot) source) target edit
+    ≡ changed_beside slot (twins_by apart source.parts) source target edit
 unfolding plain
-changed_plain slot source target edit =
+changed_plain apart slot source target edit =
     let other : ℕ = other_slot slot in
     let mine : List Part = own_parts other source.parts in
     changed_same slot (plain other source) source target
+    (twins_by apart (plain other source).parts)
+    (twins_by apart source.parts)
     (filter_all (λ p. is_of_slot other p.name) mine
     (filter_passes (λ p. is_of_slot other p.name) source.parts))
-    (λ name. named_own other (in_slot other name) source.parts (in_slot_is other name))
+    (before_same apart)
     edit
+  where
+    before_same : (apart : Bool) (name : List ℕ)
+        → before_of slot (twins_by apart (own_parts (other_slot slot) source.parts)) name
+        ≡ before_of slot (twins_by apart source.parts) name
+    before_same true name = refl
+    before_same false name =
+        named_own (other_slot slot) (in_slot (other_slot slot) name) source.parts
+        (in_slot_is (other_slot slot) name)

@@ -13,12 +13,12 @@ use Rattle.vab_tables.specs.Spelling.{table_size_of, as_minor_2}
 use Rattle.vab_layout.specs.declared.layout.Part.{Part as PartOfLayout}
 use Rattle.vab_layout.specs.declared.layout.Layout.{Layout}
 use Rattle.vab_layout.specs.Layout.{layout_of, table_of}
-use Rattle.vab_layout.specs.Slots.{own_parts, store_parts, IsDistinct, IsTarget}
+use Rattle.vab_layout.specs.Slots.{own_parts, store_parts, IsDistinct, IsTargetBeside}
 use Rattle.vab_layout.proofs.LayoutLaws.{layout_keeps}
 use Rattle.vab_builder.specs.declared.edit.Edit.{Edit}
 use Rattle.vab_builder.specs.declared.fault.EditFault.{EditFault}
 use Rattle.vab_builder.specs.declared.fault.EditFault.TheVariants as faults
-use Rattle.vab_builder.specs.Edits.{changed_by, edited, fitting, if_fitting}
+use Rattle.vab_builder.specs.Edits.{changed_beside, edited_beside, fitting, if_fitting}
 use Rattle.vab_builder.specs.Gives.{IsTableOf, GivesTable}
 use Rattle.vab_builder.proofs.Counting.{pairs_map, pairs_weaker, pieces_once}
 use Rattle.vab_blocks.proofs.Contained.{all_from, of_filter}
@@ -26,17 +26,17 @@ use Rattle.vab_builder.proofs.Verdicts.{unless_ok}
 use Rattle.vab_device.specs.declared.device.Part.{Part}
 use Rattle.vab_device.specs.Phases.{planned_on, plan_of}
 use Rattle.vab_device.specs.Updates.{refusal_of, wants_for}
-use Rattle.vab_verdict.specs.Judged.{IsGiven}
+use Rattle.vab_builder.specs.Judged.{IsGiven, IsRefused}
 use Rattle.vab_edit.specs.Prepared.{RefusesBy}
 use Rattle.vab_plan.specs.Scans.{IsTargetTable}
 
 -- ---- the table
 
-pub target_table : (slot : ℕ) (source : List PartOfLayout) (u : Table)
+pub target_table : (slot : ℕ) (twins source : List PartOfLayout) (u : Table)
     → KeepsRules u
-    → IsTarget slot source (layout_of u).parts
+    → IsTargetBeside slot twins source (layout_of u).parts
     → IsTargetTable slot u
-target_table slot source u rules target =
+target_table slot twins source u rules target =
     let own : List PartOfLayout = own_parts slot (layout_of u).parts in
     let stores : List PartOfLayout = store_parts slot (layout_of u).parts in
     let once = pieces_once (λ (p : PartOfLayout). p.blocks) (own ++ stores) target.once in
@@ -59,12 +59,13 @@ pub same_minor : (u : Table) (said : Result Layout EditFault)
 same_minor u said is = ap as_minor_2 is.2 ∙ minor_2 is.0 ∙ sym is.2
 
 -- its layout is that which the edit gives
-pub gives_layout : (slot max : ℕ) (s t u : Table) (edit : Edit)
-    → IsTableOf u (edited slot (layout_of s) (layout_of t) max edit)
-    → changed_by slot (layout_of s) (layout_of t) edit ≡ Ok (layout_of u)
-    → edited slot (layout_of s) (layout_of t) max edit ≡ Ok (layout_of u)
-gives_layout slot max s t u edit is layout =
-    let fits : edited slot (layout_of s) (layout_of t) max edit ≡ fitting max (layout_of u) =
+pub gives_layout : (slot max : ℕ) (twins : List PartOfLayout) (s t u : Table) (edit : Edit)
+    → IsTableOf u (edited_beside slot twins (layout_of s) (layout_of t) max edit)
+    → changed_beside slot twins (layout_of s) (layout_of t) edit ≡ Ok (layout_of u)
+    → edited_beside slot twins (layout_of s) (layout_of t) max edit ≡ Ok (layout_of u)
+gives_layout slot max twins s t u edit is layout =
+    let fits : edited_beside slot twins (layout_of s) (layout_of t) max edit
+    ≡ fitting max (layout_of u) =
     ap (if_fitting max) layout in
     let taken = unless_ok (nat_le (table_size_of (table_of (layout_of u))) max)
     (faults.TableFull (table_size_of (table_of (layout_of u))) max) (Ok (layout_of u)) is.0
@@ -87,7 +88,7 @@ passed_wants max said passes =
     ap (λ (r : Result Layout EditFault). wants_for (if_fitting max r)) passes.1
     ∙ fits_or max passes.0
 
-pub gives_refusal : (said : Result Layout EditFault) (fault : EditFault)
+gives_refusal : (said : Result Layout EditFault) (fault : EditFault)
     → wants_for said ≡ true
     → (let r : Result Table EditFault = Err fault in GivesTable r said)
     → RefusesBy said (refusal_of fault)
@@ -101,6 +102,16 @@ gives_refusal said (faults.TooMany n) wants h = inr (faults.TooMany n, h, refl)
 gives_refusal said (faults.GroupLimit u l) wants h = inr (faults.GroupLimit u l, h, refl)
 gives_refusal said (faults.NoRoom u c) wants h = inr (faults.NoRoom u c, h, refl)
 gives_refusal said (faults.TableFull s m) wants h = inr (faults.TableFull s m, h, refl)
+
+-- so is one that is refused before, without memory
+pub refuses_so : (max : ℕ) (said : Result Layout EditFault) (fault : EditFault)
+    → IsRefused said fault
+    → (let r : Result Table EditFault = Err fault in GivesTable r (if_fitting max said))
+    → RefusesBy (if_fitting max said) (refusal_of fault)
+refuses_so max said fault is gives = elim is [
+  | inl refused ↦ inr (fault, ap (if_fitting max) refused, refl)
+  | inr given ↦ gives_refusal (if_fitting max said) fault (passed_wants max said given) gives
+]
 
 -- ---- the plan
 

@@ -7,6 +7,8 @@ use Rattle.vab_bootctl.specs.declared.slots.Control.{Control}
 use Rattle.vab_bootctl.specs.Control.{control_of}
 use Rattle.vab_marks.specs.declared.mark.MarkPhase.{MarkPhase}
 use Rattle.vab_marks.specs.declared.mark.MarkPhase.TheVariants as marks
+use Rattle.vab_marks.specs.declared.mark.UpdateMark.{UpdateMark}
+use Rattle.vab_marks.specs.Mark.{rephased, resloted}
 use Rattle.vab_marks.specs.declared.status.PartStatus.{PartStatus}
 use Rattle.vab_tables.specs.declared.table.Table.{Table}
 use Rattle.vab_geometry.specs.declared.geometry.Geometry.{Geometry}
@@ -28,8 +30,8 @@ pub record StandsUpdate (d : Device) (size : ℕ) (image : Image) (s t : Table) 
   pub statuses : List (Option PartStatus)
   pub seen : Control
   pub scanned : List Scanned
-  pub reads : Reads size (read_at d.mark.slot statuses seen d.geometry s t scanned) image
-  pub is : d ≡ device_at d.mark.slot statuses seen d.geometry s t scanned d.control
+  pub reads : Reads size (read_at d.mark d.mark.slot statuses seen d.geometry s t scanned) image
+  pub is : d ≡ device_at d.mark d.mark.slot statuses seen d.geometry s t scanned d.control
   pub control : control_of (image 4) ≡ Ok d.control
   pub copies : AgreeCopies d.geometry (d.mark.slot ∷ other_slot d.mark.slot ∷ []) (s ∷ t ∷ []) image
   pub version : version_at image ≡ Two
@@ -51,21 +53,21 @@ pub planned_phase : (d : Device) (size : ℕ) (plan : List Part)
 planned_phase d size plan is planned =
     installing_phase d.mark.phase is.phase (sym is.planned ∙ ap is_some planned)
 
-source_at : (k : ℕ) (statuses : List (Option PartStatus)) (seen : Control) (g : Geometry)
-    (s t : Table) (scanned : List Scanned) (c : Control)
+source_at : (base : UpdateMark) (k : ℕ) (statuses : List (Option PartStatus)) (seen : Control)
+    (g : Geometry) (s t : Table) (scanned : List Scanned) (c : Control)
     → k < 2
-    → table_of_slot (device_at k statuses seen g s t scanned c) k ≡ Some s
-source_at zero statuses seen g s t scanned c below = refl
-source_at (suc zero) statuses seen g s t scanned c below = refl
-source_at (suc (suc n)) statuses seen g s t scanned c below = absurd (omega (arith, below))
+    → table_of_slot (device_at base k statuses seen g s t scanned c) k ≡ Some s
+source_at base zero statuses seen g s t scanned c below = refl
+source_at base (suc zero) statuses seen g s t scanned c below = refl
+source_at base (suc (suc n)) statuses seen g s t scanned c below = absurd (omega (arith, below))
 
-target_at : (k : ℕ) (statuses : List (Option PartStatus)) (seen : Control) (g : Geometry)
-    (s t : Table) (scanned : List Scanned) (c : Control)
+target_at : (base : UpdateMark) (k : ℕ) (statuses : List (Option PartStatus)) (seen : Control)
+    (g : Geometry) (s t : Table) (scanned : List Scanned) (c : Control)
     → k < 2
-    → table_of_slot (device_at k statuses seen g s t scanned c) (other_slot k) ≡ Some t
-target_at zero statuses seen g s t scanned c below = refl
-target_at (suc zero) statuses seen g s t scanned c below = refl
-target_at (suc (suc n)) statuses seen g s t scanned c below = absurd (omega (arith, below))
+    → table_of_slot (device_at base k statuses seen g s t scanned c) (other_slot k) ≡ Some t
+target_at base zero statuses seen g s t scanned c below = refl
+target_at base (suc zero) statuses seen g s t scanned c below = refl
+target_at base (suc (suc n)) statuses seen g s t scanned c below = absurd (omega (arith, below))
 
 some_same : {X : Type 0} (a b : X) → Some a ≡ Some b → a ≡ b
 some_same a b e = cc
@@ -84,33 +86,37 @@ stands_update d size image s t is has represents =
     let source : s ≡ st.source =
     some_same s st.source
     (sym has.source ∙ ap (λ (x : Device). table_of_slot x x.mark.slot) st.is
-    ∙ source_at st.slot st.statuses st.seen st.geometry st.source st.target st.scanned d.control
+    ∙ source_at st.base st.slot st.statuses st.seen st.geometry st.source st.target st.scanned
+    d.control
     below) in
     let target : t ≡ st.target =
     some_same t st.target
     (sym has.target ∙ ap (λ (x : Device). table_of_slot x (other_slot x.mark.slot)) st.is
-    ∙ target_at st.slot st.statuses st.seen st.geometry st.source st.target st.scanned d.control
+    ∙ target_at st.base st.slot st.statuses st.seen st.geometry st.source st.target st.scanned
+    d.control
     below) in
-    let all : (let x : ℕ × Geometry × Table × Table = (st.slot, st.geometry, st.source, st.target)
-    in
-    let y : ℕ × Geometry × Table × Table = (d.mark.slot, d.geometry, s, t) in x ≡ y) =
-    (λ i. (sym slot i, sym geometry i, sym source i, sym target i)) in
+    let marked : d.mark ≡ rephased marks.Installing (resloted st.slot st.base) =
+    ap (λ (x : Device). x.mark) st.is in
+    let all : (let x : UpdateMark × Geometry × Table × Table =
+    (rephased marks.Installing (resloted st.slot st.base), st.geometry, st.source, st.target) in
+    let y : UpdateMark × Geometry × Table × Table = (d.mark, d.geometry, s, t) in x ≡ y) =
+    (λ i. (sym marked i, sym geometry i, sym source i, sym target i)) in
     record {
       statuses = st.statuses;
       seen = st.seen;
       scanned = st.scanned;
       reads = subst
-          (λ (x : ℕ × Geometry × Table × Table).
-          Reads size (read_at x.0 st.statuses st.seen x.1 x.2 x.3 st.scanned) image)
+          (λ (x : UpdateMark × Geometry × Table × Table).
+          Reads size (read_at x.0 x.0.slot st.statuses st.seen x.1 x.2 x.3 st.scanned) image)
           all st.reads;
       is = subst
-          (λ (x : ℕ × Geometry × Table × Table).
-          d ≡ device_at x.0 st.statuses st.seen x.1 x.2 x.3 st.scanned d.control)
+          (λ (x : UpdateMark × Geometry × Table × Table).
+          d ≡ device_at x.0 x.0.slot st.statuses st.seen x.1 x.2 x.3 st.scanned d.control)
           all st.is;
       control = st.control;
       copies = subst
-          (λ (x : ℕ × Geometry × Table × Table).
-          AgreeCopies x.1 (x.0 ∷ other_slot x.0 ∷ []) (x.2 ∷ x.3 ∷ []) image)
+          (λ (x : UpdateMark × Geometry × Table × Table).
+          AgreeCopies x.1 (x.0.slot ∷ other_slot x.0.slot ∷ []) (x.2 ∷ x.3 ∷ []) image)
           all st.copies;
       version = st.version;
     }

@@ -1,3 +1,4 @@
 pub mod Carried
+pub mod Guards
 pub mod Prepared
 pub mod Writes

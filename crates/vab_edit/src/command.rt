@@ -21,8 +21,9 @@ use vab_model::Reply;
 /// device after it are those of the table of effects; where nothing was pending, each outcome since
 /// is the device before the edit or the one after it. It touches the copies of the target's table
 /// alone, and a refusal touches nothing. `NotInstalling` comes where no update is installed, and
-/// there alone; want of memory in place of `Done` and of `TableFull` alone. The error comes where
-/// the disk has failed.
+/// there alone. Where the target stands apart, a store is refused with `InPlace` before all else,
+/// and another size or the end of a partition that is written with `Written`. Want of memory comes
+/// in place of `Done` and of `TableFull` alone. The error comes where the disk has failed.
 pub fn edit<D: Disk>(
     alloc: Global,
     d: &mut D,

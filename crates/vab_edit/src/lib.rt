@@ -3,6 +3,7 @@
 
 mod carry;
 mod command;
+mod guard;
 mod prepared;
 
 pub use command::edit;

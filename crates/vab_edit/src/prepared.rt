@@ -2,14 +2,14 @@
 
 ghost use Rattle.std.specs.Prelude.{◌≡◌, ℕ, IfErr, IfOk, IfNone, IfSome, Some, None};
 ghost use Rattle.vab_layout.specs.Layout.{layout_of};
-ghost use Rattle.vab_layout.specs.Slots.{other_slot};
-ghost use Rattle.vab_builder.specs.Edits.{changed_by, edited};
+ghost use Rattle.vab_layout.specs.Slots.{other_slot, twins_by};
+ghost use Rattle.vab_builder.specs.Edits.{edited_beside};
 ghost use Rattle.vab_device.specs.Kept.{IsDevice};
 ghost use Rattle.vab_device.specs.Updates.{refusal_of};
-ghost use Rattle.vab_verdict.specs.Judged.{IsGiven as Passes};
 ghost use Rattle.vab_edit.specs.Prepared.{HasTables, IsGiven, IsPrepared, MayBeEdited};
 ghost use Rattle.vab_edit.specs.Prepared.{Refuses, RefusesBy};
 
+use crate::guard::kept_off;
 use std::alloc::Global;
 use vab_builder::{Edit, EditFault, apply};
 use vab_bytes::Listing;
@@ -17,7 +17,6 @@ use vab_device::{Device, Part};
 use vab_model::Refusal;
 use vab_plan::plan;
 use vab_tables::{Table, encode_table};
-use vab_verdict::verdict;
 
 /// The table that an edit gives, with its text, and its plan with nothing written.
 #[derive(Drop)]
@@ -63,24 +62,24 @@ fn tables(device: &Device) -> Option<(&Table, &Table)>
     }
 }
 
-// What an edit gives that is refused at most for the length of its table's text.
-fn applied(
+// What an edit gives beside the source's table, apart from it or not, or the first refusal.
+fn given(
     alloc: Global,
     source: &Table,
     target: &Table,
     slot: usize,
     edit: &Edit,
     max: u32,
+    apart: bool,
 ) -> Result<Prepared, Refusal>
-    requires tables { MayBeEdited max slot source.now target.now }
-    requires passes { Passes
-        (changed_by (other_slot slot) (layout_of source.now) (layout_of target.now) edit.now) }
-    ensures given { IfOk result (λ p. IsGiven max slot edit.now source.now target.now p.table
+    requires tables { MayBeEdited apart max slot source.now target.now }
+    ensures given { IfOk result (λ p. IsGiven apart max slot edit.now source.now target.now p.table
         p.text.items p.plan) }
     ensures refused { IfErr result (RefusesBy
-        (edited (other_slot slot) (layout_of source.now) (layout_of target.now) max edit.now)) }
+        (edited_beside (other_slot slot) (twins_by apart (layout_of source.now).parts)
+        (layout_of source.now) (layout_of target.now) max edit.now)) }
 {
-    match apply(alloc, source, target, 1 - slot, edit, max) {
+    match apply(alloc, source, target, 1 - slot, edit, max, apart) {
         Err(fault) => Err(refusal(fault)),
         Ok(table) => match encode_table(alloc, &table) {
             Err(_) => Err(Refusal::NoMemory),
@@ -89,27 +88,6 @@ fn applied(
                 Ok(plan) => Ok(Prepared { table, text, plan }),
             },
         },
-    }
-}
-
-// What an edit gives beside the source's table, or the first refusal.
-fn given(
-    alloc: Global,
-    source: &Table,
-    target: &Table,
-    slot: usize,
-    edit: &Edit,
-    max: u32,
-) -> Result<Prepared, Refusal>
-    requires tables { MayBeEdited max slot source.now target.now }
-    ensures given { IfOk result (λ p. IsGiven max slot edit.now source.now target.now p.table
-        p.text.items p.plan) }
-    ensures refused { IfErr result (RefusesBy
-        (edited (other_slot slot) (layout_of source.now) (layout_of target.now) max edit.now)) }
-{
-    match verdict(source, target, 1 - slot, edit) {
-        Some(fault) => Err(refusal(fault)),
-        None => applied(alloc, source, target, slot, edit, max),
     }
 }
 
@@ -122,13 +100,17 @@ pub fn prepare(alloc: Global, device: &Device, edit: &Edit) -> Result<Prepared, 
 {
     match tables(device) {
         None => Err(Refusal::NotInstalling),
-        Some((source, target)) => given(
-            alloc,
-            source,
-            target,
-            device.mark.slot,
-            edit,
-            device.geometry.max,
-        ),
+        Some((source, target)) => match kept_off(device, edit) {
+            Some(refusal) => Err(refusal),
+            None => given(
+                alloc,
+                source,
+                target,
+                device.mark.slot,
+                edit,
+                device.geometry.max,
+                device.mark.apart,
+            ),
+        },
     }
 }

@@ -15,7 +15,8 @@ use Rattle.vab_exchanges.specs.Session.{spelled, IsExchange, Leaves, End, Stops,
 use Rattle.vab_exchanges.specs.Session.{IsRead, Reads}
 use Rattle.vab_exchanges.specs.Items.{Response, no_memory, unless_refused, Kept, Item, item_by}
 use Rattle.vab_exchanges.specs.Items.{item_still, data_text, item_begun, joined, item_asked}
-use Rattle.vab_exchanges.specs.Items.{item_of, item_open, items_of, IsPlain, TellsItsChoices}
+use Rattle.vab_exchanges.specs.Items.{item_of, item_open, IsPlain, TellsItsChoices, Machine}
+use Rattle.vab_exchanges.specs.Items.{passed, behind, item_behind, open_behind, items_of}
 use Rattle.vab_exchanges.proofs.Sessions.{append_front, hello_or_not}
 use Rattle.vab_exchanges.proofs.Packets.{same_packet, same_exchange, stop_or_packet, due_refused}
 use Rattle.vab_exchanges.proofs.Packets.{due_fits, leave_some, all_or_not}
@@ -270,6 +271,7 @@ module _ {S : Type 0} (effect : S → Option (List ℕ) → Result Asked BadComm
       u.leaves u.breaks here.1)
       (cases_Bool s.refused)
 
+module _ {S : Type 0} (machine : Machine S) (plain : IsPlain machine.effect) where
   -- ---- all of them
 
   take_none : (l : List (Item S)) → take 0 l ≡ []
@@ -300,7 +302,7 @@ module _ {S : Type 0} (effect : S → Option (List ℕ) → Result Asked BadComm
       → Stops count bytes d
       → (k : Kept S) (ts : List Exchange) (v : Option (List ℕ)) (e : End)
       → IsRead count bytes ts v e
-      → items_of effect k ts v ≡ []
+      → items_of machine k ts v ≡ []
   none_open count bytes d stops k [] None e read = refl
   none_open count bytes d stops k [] (Some q) e read =
       absurd
@@ -315,10 +317,10 @@ module _ {S : Type 0} (effect : S → Option (List ℕ) → Result Asked BadComm
       (u v : Option (List ℕ)) (d e : End) (more : List ℕ)
       → IsRead count bytes ss u d
       → IsRead count bytes ts v e
-      → joined (items_of effect k ts v) ≡ joined (take n (items_of effect k ss u)) ++ more
-      → take n (items_of effect k ss u) ≡ take n (items_of effect k ts v)
+      → joined (items_of machine k ts v) ≡ joined (take n (items_of machine k ss u)) ++ more
+      → take n (items_of machine k ss u) ≡ take n (items_of machine k ts v)
   told_items zero count bytes k ss ts u v d e more a b told =
-      take_none (items_of effect k ss u) ∙ sym (take_none (items_of effect k ts v))
+      take_none (items_of machine k ss u) ∙ sym (take_none (items_of machine k ts v))
   told_items (suc n) count bytes k [] ts None v d e more a b told =
       ap (λ (l : List (Item S)). take (suc n) l) (sym (none_open count bytes d a k ts v e b))
   told_items (suc n) count bytes k [] [] (Some p) None d e more a b told =
@@ -327,40 +329,43 @@ module _ {S : Type 0} (effect : S → Option (List ℕ) → Result Asked BadComm
       let here =
       same_packet p q (flat_map packet a.parts ++ a.rest) (flat_map packet b.parts ++ b.rest)
       (omega (arith, a.short)) (omega (arith, b.short)) (sym a.is ∙ b.is) in
-      ap (λ (l : List ℕ). take (suc n) (item_open effect k l ∷ [])) here.0
+      ap (λ (l : List ℕ). take (suc n) (open_behind machine k l ∷ [])) here.0
   told_items (suc n) count bytes k [] (t ∷ ts) (Some p) v d e more a b told =
       absurd
-      (whole_or_open count k t bytes b.0
-      (joined (items_of effect (item_of effect k t).last ts v)) (joined (take n []) ++ more)
+      (whole_or_open machine.effect plain count (passed machine k) t bytes b.0
+      (joined (items_of machine (item_behind machine k t).last ts v)) (joined (take n []) ++ more)
       d p b.2 b.1 a
-      (told ∙ append_assoc (item_open effect k p).reply (joined (take n [])) more))
+      (told ∙ append_assoc (open_behind machine k p).reply (joined (take n [])) more))
   told_items (suc n) count bytes k (s ∷ ss) [] u None d e more a b told =
       absurd
       (stop_or_packet count bytes e b s.command (flat_map packet s.parts ++ a.0) a.2.short
       (a.1 ∙ append_assoc (packet s.command) (flat_map packet s.parts) a.0))
   told_items (suc n) count bytes k (s ∷ ss) [] u (Some q) d e more a b told =
-      let rest = joined (take n (items_of effect (item_of effect k s).last ss u)) in
+      let rest = joined (take n (items_of machine (item_behind machine k s).last ss u)) in
       absurd
-      (whole_or_open count k s bytes a.0 (rest ++ more) [] e q a.2 a.1 b
-      (sym (append_assoc (item_of effect k s).reply rest more) ∙ sym told))
+      (whole_or_open machine.effect plain count (passed machine k) s bytes a.0 (rest ++ more) [] e q
+      a.2 a.1 b
+      (sym (append_assoc (item_behind machine k s).reply rest more) ∙ sym told))
   told_items (suc n) count bytes k (s ∷ ss) (t ∷ ts) u v d e more a b told =
-      let rest = joined (take n (items_of effect (item_of effect k s).last ss u)) in
-      let later = joined (items_of effect (item_of effect k t).last ts v) in
-      let told' : (item_of effect k s).reply ++ (rest ++ more)
-      ≡ (item_of effect k t).reply ++ later =
-      sym (append_assoc (item_of effect k s).reply rest more) ∙ sym told in
-      let here = same_item k s t a.0 b.0 (rest ++ more) later a.2 b.2 (sym a.1 ∙ b.1) told' in
+      let rest = joined (take n (items_of machine (item_behind machine k s).last ss u)) in
+      let later = joined (items_of machine (item_behind machine k t).last ts v) in
+      let told' : (item_behind machine k s).reply ++ (rest ++ more)
+      ≡ (item_behind machine k t).reply ++ later =
+      sym (append_assoc (item_behind machine k s).reply rest more) ∙ sym told in
+      let here =
+      same_item machine.effect plain (passed machine k) s t a.0 b.0 (rest ++ more) later a.2 b.2
+      (sym a.1 ∙ b.1) told' in
       let left : later ≡ rest ++ more =
-      cancel (item_of effect k t).reply later (rest ++ more)
+      cancel (item_behind machine k t).reply later (rest ++ more)
       (sym told' ∙ ap (λ (m : Item S). m.reply ++ (rest ++ more)) here.0) in
-      let last = (item_of effect k s).last in
-      let next : take n (items_of effect last ss u)
-      ≡ take n (items_of effect (item_of effect k t).last ts v) =
+      let last = (item_behind machine k s).last in
+      let next : take n (items_of machine last ss u)
+      ≡ take n (items_of machine (item_behind machine k t).last ts v) =
       ⊎_elim
       (λ end_s. ⊎_elim
       (λ end_t.
       (λ i. take n
-      (items_of effect (here.0 i).last ((end_s.1.0 ∙ sym end_t.1.0) i)
+      (items_of machine (here.0 i).last ((end_s.1.0 ∙ sym end_t.1.0) i)
       ((end_s.1.1 ∙ sym end_t.1.1) i))))
       (λ on_t. let is =
       ap ends_session (same_command s t a.0 b.0 a.2 b.2 (sym a.1 ∙ b.1)) in let yes_s =
@@ -373,20 +378,20 @@ module _ {S : Type 0} (effect : S → Option (List ℕ) → Result Asked BadComm
       (λ on_t.
       told_items n count a.0 last ss ts u v d e more on_s.1
       (subst (λ (l : List ℕ). IsRead count l ts v e) (sym here.1) on_t.1)
-      (ap (λ (m : Item S). joined (items_of effect m.last ts v)) here.0 ∙ left)
-      ∙ ap (λ (m : Item S). take n (items_of effect m.last ts v)) here.0)
+      (ap (λ (m : Item S). joined (items_of machine m.last ts v)) here.0 ∙ left)
+      ∙ ap (λ (m : Item S). take n (items_of machine m.last ts v)) here.0)
       b.3)
       a.3 in
-      λ i. here.0 i ∷ next i
+      λ i. behind k.now (machine.between k.now) (here.0 i) ∷ next i
 
-  pub tells_its_choices : TellsItsChoices effect
+  pub tells_its_choices : TellsItsChoices machine
   tells_its_choices most refused other input ss ts u v d e first n more a b told =
       by_reads a.first b.first a.reads b.reads
     where
       by_reads : (d e : End)
           → Reads (take most input) ss u d
           → Reads (take most input) ts v e
-          → take n (items_of effect first ss u) ≡ take n (items_of effect first ts v)
+          → take n (items_of machine first ss u) ≡ take n (items_of machine first ts v)
       by_reads d e (inl x) (inl y) =
           let later : x.later ≡ y.later =
           append_front (take 4 (take most input)) x.later y.later (sym x.whole ∙ y.whole) in
@@ -396,4 +401,4 @@ module _ {S : Type 0} (effect : S → Option (List ℕ) → Result Asked BadComm
       by_reads d e (inl x) (inr y) = absurd (hello_or_not (take most input) e x.hello y.2)
       by_reads d e (inr x) (inl y) = absurd (hello_or_not (take most input) d y.hello x.2)
       by_reads d e (inr x) (inr y) =
-          λ i. take n (items_of effect first ((x.0 ∙ sym y.0) i) ((x.1 ∙ sym y.1) i))
+          λ i. take n (items_of machine first ((x.0 ∙ sym y.0) i) ((x.1 ∙ sym y.1) i))

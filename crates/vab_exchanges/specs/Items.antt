@@ -1,6 +1,5 @@
--- What the exchanges of a session make of a device, and what is told of each. What a command
--- makes of
--- it is given by the device.
+-- What the exchanges of a session make of a device, and what is told of each. What a command makes
+-- of it, and how it goes on by itself between two packets, is given by the device.
 use Rattle.std.specs.Prelude.{◌≡◌, ◌≢◌, ℕ, ◌≤◌, Bool, true, false, ◌&&◌, List, [], ◌∷◌, ◌++◌}
 use Rattle.std.specs.Prelude.{length, take, codes, nat_lt, if◌then◌else◌, Option, Some, None}
 use Rattle.std.specs.Prelude.{Result, Ok, Err}
@@ -106,6 +105,15 @@ AsksNoData (Ok (Getvar variable)) = Unit {0}
 AsksNoData (Ok (Do command)) = Unit {0}
 AsksNoData (Err bad) = Unit {0}
 
+-- what follows the first of some situations
+abbrev pub later_of : {S : Type 0} → List S → List S
+later_of [] = []
+later_of (s ∷ ss) = ss
+
+-- An item with the situations in front of it: from this one, through these, to its first.
+abbrev pub behind : {S : Type 0} → S → List S → Item S → Item S
+behind s front i = record i { steps = s ∷ (front ++ later_of i.steps) }
+
 -- all that is told of items
 abbrev pub joined : {S : Type 0} → List (Item S) → List ℕ
 joined [] = []
@@ -123,27 +131,12 @@ module _ {S : Type 0} (effect : S → Option (List ℕ) → Result Asked BadComm
   item_asked k refused parts (Ok (Do command)) = item_done k refused (Ok (Do command))
   item_asked k refused parts (Err bad) = item_done k refused (Err bad)
 
-  -- the item of an exchange
+  -- the item of an exchange, from where its packet is heard
   unfoldable pub item_of : Kept S → Exchange → Item S
   item_of k s = item_asked k s.refused s.parts (request_of s.command)
 
   unfoldable pub item_open : Kept S → List ℕ → Item S
   item_open k command = item_begun k (request_of command)
-
-  -- the items of exchanges, one behind the other, and that of the unfinished download
-  abbrev pub items_of : Kept S → List Exchange → Option (List ℕ) → List (Item S)
-  items_of k [] None = []
-  items_of k [] (Some command) = item_open k command ∷ []
-  items_of k (s ∷ ss) unfinished = item_of k s ∷ items_of (item_of k s).last ss unfinished
-
-  -- what is kept after exchanges
-  abbrev pub kept_after : Kept S → List Exchange → Kept S
-  kept_after k [] = k
-  kept_after k (s ∷ ss) = kept_after (item_of k s).last ss
-
-  -- all that a session tells
-  abbrev pub output_of : Kept S → List Exchange → Option (List ℕ) → List ℕ
-  output_of k exchanges unfinished = codes "FB01" ++ joined (items_of k exchanges unfinished)
 
   -- A reply in whose place want of memory may be told is short, and isn't what is told then.
   pub record IsPlain : Type 0 where
@@ -153,6 +146,53 @@ module _ {S : Type 0} (effect : S → Option (List ℕ) → Result Asked BadComm
     pub other : (s : S) (staged : Option (List ℕ)) (asked : Result Asked BadCommand)
         → (effect s staged asked).may_want ≡ true
         → (effect s staged asked).text ≢ codes "FAILout of memory"
+
+-- A device in a session: what a command makes of it, and the situations that it goes through by
+-- itself, one after another, before the next packet is heard. Nothing is told of these.
+pub record Machine (S : Type 0) : Type 0 where
+  pub effect : S → Option (List ℕ) → Result Asked BadCommand → Response S
+  pub between : S → List S
+
+module _ {S : Type 0} (machine : Machine S) where
+  -- what is kept when the next packet is heard
+  abbrev pub passed : Kept S → Kept S
+  passed k = record { now = last_of k.now (machine.between k.now); staged = k.staged }
+
+  -- The item of an exchange, and that of the unfinished download: what the device goes through by
+  -- itself before the packet is heard belongs to it.
+  abbrev pub item_behind : Kept S → Exchange → Item S
+  item_behind k s =
+      behind k.now (machine.between k.now) (item_of machine.effect (passed k) s)
+
+  abbrev pub open_behind : Kept S → List ℕ → Item S
+  open_behind k command =
+      behind k.now (machine.between k.now) (item_open machine.effect (passed k) command)
+
+  -- the items of exchanges, one behind the other, and that of the unfinished download
+  abbrev pub items_of : Kept S → List Exchange → Option (List ℕ) → List (Item S)
+  items_of k [] None = []
+  items_of k [] (Some command) = open_behind k command ∷ []
+  items_of k (s ∷ ss) unfinished = item_behind k s ∷ items_of (item_behind k s).last ss unfinished
+
+  -- what is kept after exchanges
+  abbrev pub kept_after : Kept S → List Exchange → Kept S
+  kept_after k [] = k
+  kept_after k (s ∷ ss) = kept_after (item_behind k s).last ss
+
+  -- what the device goes through behind the last exchange, where another packet is waited for; none
+  -- inside an unfinished download, whose item has what came before it
+  abbrev pub closing_of : Option (List ℕ) → (waits : Bool) → Kept S → List S
+  closing_of None waits k = if waits then machine.between k.now else []
+  closing_of (Some command) waits k = []
+
+  -- the situation that is left behind the last exchange, or inside the unfinished download
+  abbrev pub final_of : Option (List ℕ) → (waits : Bool) → Kept S → S
+  final_of None waits k = last_of k.now (closing_of None waits k)
+  final_of (Some command) waits k = (passed k).now
+
+  -- all that a session tells
+  abbrev pub output_of : Kept S → List Exchange → Option (List ℕ) → List ℕ
+  output_of k exchanges unfinished = codes "FB01" ++ joined (items_of k exchanges unfinished)
 
   -- What is told fixes the choices, as far as they tell: where two sessions of an input tell the
   -- same

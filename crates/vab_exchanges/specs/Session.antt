@@ -1,6 +1,7 @@
 -- A whole session, as a relation between its input, its exchanges and how it ends. No place in the
 -- input is kept.
-use Rattle.std.specs.Prelude.{◌≡◌, ◌⊎◌, ℕ, suc, ◌+◌, ◌-◌, ◌<◌, ◌≤◌, Bool, true, false, ◌||◌, List}
+use Rattle.std.specs.Prelude.{◌≡◌, ◌⊎◌, ℕ, suc, ◌+◌, ◌-◌, ◌<◌, ◌≤◌, Bool, true, false, not, ◌&&◌}
+use Rattle.std.specs.Prelude.{◌||◌, List}
 use Rattle.std.specs.Prelude.{[], ◌∷◌, ◌++◌, length, take, slice_index, IsTrue, nat_le, nat_lt}
 use Rattle.std.specs.Prelude.{if◌then◌else◌, Option, Some, None, Result, Ok, Err}
 use Rattle.std.specs.List.{flat_map}
@@ -189,6 +190,24 @@ spent BadHello = BadHello
 spent (TooLong n) = TooLong n
 spent (Overrun due came) = Overrun due came
 spent Spent = Spent
+
+-- a boot and the end were asked for
+abbrev pub is_boot : End → Bool
+is_boot Rebooted = true
+is_boot Closed = false
+is_boot BadHello = false
+is_boot (TooLong n) = false
+is_boot (Overrun due came) = false
+is_boot (Cut at) = false
+is_boot Spent = false
+
+-- where a session ends otherwise, another packet was waited for
+abbrev pub waits_behind : End → Bool
+waits_behind end = not (is_boot end)
+
+-- the same of a session that takes at most so many bytes of this input, if its hello is whole
+abbrev pub waits_in : ℕ → List ℕ → End → Bool
+waits_in most input end = is_hello (take 4 (take most input)) && waits_behind end
 
 -- The session that takes at most so many bytes of this input, where memory is refused so.
 pub record IsSession

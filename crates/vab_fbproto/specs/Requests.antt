@@ -8,7 +8,7 @@ use Rattle.vab_space.specs.declared.Chunk.{Chunk}
 use Rattle.vab_space.specs.declared.Chunk.TheVariants.{One, Two, Four}
 use Rattle.vab_model.specs.Commands.{Command, SetActive, Boot, Mark, Digest, Begin, Create, Resize}
 use Rattle.vab_model.specs.Commands.{Delete, Snapshot, Flash, Finish, Cancel, BeginMerge}
-use Rattle.vab_model.specs.Commands.{Merge}
+use Rattle.vab_model.specs.Commands.{Merge, Factory}
 use Rattle.vab_model.specs.Commands.{command_of}
 use Rattle.vab_fbproto.specs.declared.request.Var.{Var}
 use Rattle.vab_fbproto.specs.declared.request.Var.TheVariants as vars
@@ -292,6 +292,7 @@ asked_oem word rest =
     else if bytes_eq word (codes "oem mark-successful") then plain rest (Do Mark)
     else if bytes_eq word (codes "oem finish") then plain rest (Do Finish)
     else if bytes_eq word (codes "oem begin") then plain rest (Do Begin)
+    else if bytes_eq word (codes "oem factory") then plain rest (Do Factory)
     else if bytes_eq word (codes "oem begin-merge") then plain rest (Do BeginMerge)
     else if bytes_eq word (codes "oem merge")
     then asks (λ blocks. Do (Merge blocks)) (count_argument rest)

@@ -160,6 +160,8 @@ fn read_oem<'a>(word: &[u8], rest: Option<&'a [u8]>) -> Result<Request<'a>, BadC
         plain(rest, Request::Do(Command::Finish))
     } else if word == b"oem begin".as_slice() {
         plain(rest, Request::Do(Command::Begin))
+    } else if word == b"oem factory".as_slice() {
+        plain(rest, Request::Do(Command::Factory))
     } else if word == b"oem begin-merge".as_slice() {
         plain(rest, Request::Do(Command::BeginMerge))
     } else if word == b"oem merge".as_slice() {

@@ -15,6 +15,7 @@ use Rattle.vab_gate.specs.Gate.{sectors_at}
 use Rattle.vab_copies.proofs.CopyLaws.{length-sectors}
 use Rattle.vab_bootctl.specs.declared.slots.Info.{Info}
 use Rattle.vab_bootctl.specs.Boot.{info_at}
+use Rattle.vab_model.specs.Plans.{entry_named}
 use Rattle.vab_device.specs.declared.device.Part.{Part}
 use Rattle.vab_device.specs.declared.device.Device.{Device}
 use Rattle.vab_marks.specs.declared.mark.MarkPhase.{MarkPhase}
@@ -33,7 +34,6 @@ use Rattle.vab_manager.specs.Blocks.{image_at}
 use Rattle.vab_manager.proofs.BlockLaws.{image_of_part}
 use Rattle.vab_fbvars.specs.Variables.{slot_info, AreSectors, planned_in, entry_size, size_planned}
 use Rattle.vab_fbvars.specs.Variables.{status_text, status_of}
-use Rattle.vab_device.specs.Updates.{entry_named}
 
 -- ---- boot control
 

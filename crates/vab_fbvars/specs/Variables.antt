@@ -14,9 +14,9 @@ use Rattle.vab_layout.specs.Slots.{other_slot}
 use Rattle.vab_model.specs.declared.state.PlanEntry.{PlanEntry}
 use Rattle.vab_model.specs.State.{images_at, image_named}
 use Rattle.vab_model.specs.Effects.{Found, Image_is, Refused_by, found_of}
+use Rattle.vab_model.specs.Plans.{entry_named}
 use Rattle.vab_device.specs.declared.device.PhaseKind.{PhaseKind}
 use Rattle.vab_device.specs.declared.device.PhaseKind.TheVariants as kinds
-use Rattle.vab_device.specs.Updates.{entry_named}
 use Rattle.vab_fbproto.specs.Texts.{slot_letter}
 use Rattle.vab_fbproto.specs.Requests.{Variable, Version, CurrentSlot, SlotCount, MaxDownloadSize}
 use Rattle.vab_fbproto.specs.Requests.{HasSlot, SlotSuccessful, SlotUnbootable, SlotRetryCount}
@@ -52,7 +52,7 @@ tries_left None = 0
 
 -- the partitions that are planned, while an update is installed
 abbrev pub planned_in : Phase → List PlanEntry
-planned_in (Installing source plan) = plan
+planned_in (Installing source plan) = plan.entries
 planned_in _ = []
 
 -- a slot has an image of this base name
@@ -78,7 +78,9 @@ entry_size (Some e) = Some (4096 * e.blocks)
 abbrev pub size_planned : Phase → List ℕ → Option ℕ
 size_planned Idle name = None
 size_planned (Installing source plan) name =
-    if is_full (other_slot source) name then entry_size (entry_named (base_of name) plan) else None
+    if is_full (other_slot source) name
+    then entry_size (entry_named (base_of name) plan.entries)
+    else None
 size_planned (Staged source left) name = None
 size_planned (Merging target left) name = None
 

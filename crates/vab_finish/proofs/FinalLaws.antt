@@ -7,13 +7,15 @@ use Rattle.std.proofs.lemmas.Bool.{cases_Bool, and_parts}
 use Rattle.std.proofs.lemmas.List.Elements.{All-head, All-tail}
 use Rattle.vab_disk.specs.Disk.{Image}
 use Rattle.vab_names.specs.Names.{is_of_slot, base_of, in_slot}
-use Rattle.vab_exceptions.specs.declared.area.Exception.{Exception}
 use Rattle.vab_layout.specs.declared.layout.Part.{Part as PartOfLayout}
 use Rattle.vab_layout.specs.declared.layout.Layout.{Layout}
-use Rattle.vab_layout.specs.Slots.{other_slot, own_parts, blocks_named, is_updated, IsTargetPart}
+use Rattle.vab_layout.specs.Slots.{other_slot, own_parts, blocks_named, before_of, is_updated}
+use Rattle.vab_layout.specs.Slots.{twins_by, IsTargetPartBeside}
 use Rattle.vab_names.proofs.NameCases.{ne_name, in_slot_is}
 use Rattle.vab_model.specs.declared.state.State.{State}
 use Rattle.vab_model.specs.State.{image_named}
+use Rattle.vab_model.specs.Plans.{bytes_or_none, images_of}
+use Rattle.vab_model.specs.Machine.{exceptions_in, exceptions_of, final_bytes}
 use Rattle.vab_device.specs.declared.device.PartImage.{PartImage}
 use Rattle.vab_device.specs.declared.device.Part.{Part}
 use Rattle.vab_device.specs.Kept.{sectors_of, part_on}
@@ -21,15 +23,14 @@ use Rattle.vab_device.specs.Mounted.{bytes_at, image_on, entry_on, sectors_by, c
 use Rattle.vab_device.specs.Mounted as mounted
 use Rattle.vab_device.specs.Phases.{planned_on, planned_image, is_ready, are_ready}
 use Rattle.vab_device.specs.Stores.{Scanned, scanned_named}
-use Rattle.vab_device.specs.Updates.{bytes_of, source_bytes, final_bytes, final_image, plan_count}
-use Rattle.vab_device.specs.Updates.{written_count}
+use Rattle.vab_device.specs.Updates.{source_bytes, final_image}
 use Rattle.vab_flash.proofs.SourceLaws.{full_or}
 
 -- ---- the source's image
 
 -- the image of a base name is that of the table's partition of the whole name
 pub source_named : (image : Image) (at slot : ℕ) (name : List ℕ) (ps : List PartOfLayout)
-    → bytes_of (image_named (base_of name)
+    → bytes_or_none (image_named (base_of name)
     (map (image_on image) (map (part_on at) (own_parts slot ps))))
     ≡ bytes_at image (sectors_of at (blocks_named (in_slot slot name) ps))
 unfolding bytes_at sectors_of
@@ -54,9 +55,23 @@ source_named image at slot name (p ∷ ps) = elim (cases_Bool (is_of_slot slot p
 
 -- ---- the images of the plan
 
+-- a partition that isn't updated has the blocks of the source's of the same base name
+kept_blocks : (apart : Bool) (slot : ℕ) (source target : List PartOfLayout) (p : PartOfLayout)
+    → IsTargetPartBeside slot (twins_by apart source) source target p
+    → is_updated p ≡ false
+    → p.blocks ≡ before_of slot source p.name
+kept_blocks false slot source target p rule same =
+    ⊎_elim
+    (λ updated. absurd (let no : true ≡ false = sym updated ∙ same in cc))
+    (λ kept. kept.1) rule.kept
+kept_blocks true slot source target p rule same =
+    ⊎_elim
+    (λ updated. absurd (let no : true ≡ false = sym updated ∙ same in cc))
+    (λ kept. absurd (omega (arith, kept.0.2))) rule.kept
+
 module _
-    (slot : ℕ) (source : Layout) (target : Layout) (scanned : List Scanned) (s : State)
-    (image : Image)
+    (apart : Bool) (slot : ℕ) (source : Layout) (target : Layout) (scanned : List Scanned)
+    (s : State) (image : Image)
     (below : slot < 2)
     (first : source.device.first_logical_sector ≡ target.device.first_logical_sector)
     (named : (name : List ℕ)
@@ -64,7 +79,9 @@ module _
     ≡ bytes_at image (sectors_of source.device.first_logical_sector
     (blocks_named (in_slot slot name) source.parts))) where
   abbrev Rule : PartOfLayout → Type 0
-  Rule p = IsTargetPart (other_slot slot) source.parts target.parts p
+  Rule p =
+      IsTargetPartBeside (other_slot slot) (twins_by apart source.parts) source.parts target.parts
+      p
 
   kept_bytes : (p : PartOfLayout)
       → Rule p
@@ -74,9 +91,6 @@ module _
   kept_bytes p rule same =
       let back : other_slot (other_slot slot) ≡ slot = omega (arith, below) in
       let at = target.device.first_logical_sector in
-      ⊎_elim
-      (λ updated. absurd (let no : true ≡ false = sym updated ∙ same in cc))
-      (λ kept.
       named p.name
       ∙ ap (λ (n : ℕ). bytes_at image
       (sectors_of n (blocks_named (in_slot slot p.name) source.parts)))
@@ -84,12 +98,13 @@ module _
       ∙ ap (λ (n : ℕ). bytes_at image
       (sectors_of at (blocks_named (in_slot n p.name) source.parts)))
       (sym back)
-      ∙ ap (λ (bs : List ℕ). bytes_at image (sectors_of at bs)) (sym kept.1))
-      rule.kept
+      ∙ ap (λ (bs : List ℕ). bytes_at image (sectors_of at bs))
+      (sym (kept_blocks apart (other_slot slot) source.parts target.parts p rule same))
 
   abbrev Bytes : PartOfLayout → PartImage → Type 0
   Bytes p x =
-      final_bytes s slot (base_of p.name) (mounted.planned_on image (planned_on target scanned p) x)
+      final_bytes (images_of s slot) (base_of p.name)
+      (mounted.planned_on image (planned_on target scanned p) x)
       ≡ bytes_at image (sectors_by (planned_on target scanned p) x)
 
   bytes_by : (p : PartOfLayout) (b : Bool) (x : Option Scanned)
@@ -134,14 +149,14 @@ count_plain at [] = refl
 count_plain at (p ∷ ps) = omega (arith, count_plain at ps)
 
 count_one : (image : Image) (p : Part) (x : PartImage)
-    → written_count (mounted.planned_on image p x) ≡ count_of x
+    → exceptions_of (mounted.planned_on image p x) ≡ count_of x
 count_one image p Rattle.vab_device.specs.declared.device.PartImage.TheVariants.Kept = refl
 count_one image p Rattle.vab_device.specs.declared.device.PartImage.TheVariants.Declared = refl
 count_one image p (Rattle.vab_device.specs.declared.device.PartImage.TheVariants.Written k es) =
     refl
 
 pub count_planned : (image : Image) (ps : List Part)
-    → plan_count (map (entry_on image) ps) ≡ count_in ps
+    → exceptions_in (map (entry_on image) ps) ≡ count_in ps
 count_planned image [] = refl
 count_planned image (p ∷ ps) =
     let here = count_one image p p.image in

@@ -9,7 +9,8 @@ use Rattle.vab_bootctl.specs.declared.slots.Control.{Control}
 use Rattle.vab_bootctl.specs.Control.{control_of}
 use Rattle.vab_marks.specs.declared.mark.MarkPhase.TheVariants as marks
 use Rattle.vab_marks.specs.declared.status.PartStatus.{PartStatus}
-use Rattle.vab_marks.specs.Mark.{mark_of, mark_spelling, staged_mark}
+use Rattle.vab_marks.specs.declared.mark.UpdateMark.{UpdateMark}
+use Rattle.vab_marks.specs.Mark.{mark_of, mark_spelling, rephased, resloted}
 use Rattle.vab_geometry.specs.declared.geometry.Geometry.{Geometry}
 use Rattle.vab_tables.specs.declared.table.Table.{Table}
 use Rattle.vab_layout.specs.Layout.{layout_of}
@@ -31,6 +32,7 @@ use Rattle.vab_device.specs.Stores.{Scanned}
 use Rattle.vab_device.specs.Updates.{finished, final_image}
 use Rattle.vab_device.proofs.Behind.{images_behind, stores_behind, plan_behind}
 use Rattle.vab_device.proofs.CheckLaws.{first_kept, check_kept}
+use Rattle.vab_device.proofs.MarkLaws.{rephased_apart}
 use Rattle.vab_device.proofs.OpeningLaws.{control_seen_in}
 use Rattle.vab_device.proofs.ReadingLaws.{control_is_seen}
 use Rattle.vab_device.proofs.SameLaws.{mark_same, control_same, geometry_same, tables_agree}
@@ -73,15 +75,17 @@ runs_of (suc zero) c below passed =
 runs_of (suc (suc n)) c below passed = absurd (omega (arith, below))
 
 module _
-    (slot : ℕ) (ss : List (Option PartStatus)) (seen : Control) (g : Geometry) (t u : Table)
+    (base : UpdateMark) (slot : ℕ) (ss : List (Option PartStatus)) (seen : Control) (g : Geometry)
+    (t u : Table)
     (scanned : List Scanned) (c : Control)
     (told : Type 0) (size : ℕ) (old mid : Image)
     (below : slot < 2)
-    (reads : Reads size (update_read marks.Installing slot ss seen g t u scanned) old)
+    (reads : Reads size (update_read (rephased marks.Installing (resloted slot base)) ss seen g t u
+    scanned) old)
     (whole : control_of (old 4) ≡ Ok c)
     (same : SameBut (IsControl told (cleared_of c (other_slot slot)) (old 4)) old mid) where
   abbrev before : Read
-  before = update_read marks.Installing slot ss seen g t u scanned
+  before = update_read (rephased marks.Installing (resloted slot base)) ss seen g t u scanned
 
   stays : (s : ℕ) → s ≢ 4 → mid s ≡ old s
   stays s other = by_write (same s)
@@ -159,18 +163,21 @@ module _
       (prepared : control_of (mid 4) ≡ Ok (cleared_of c (other_slot slot)))
       (copies : AgreeCopies g (slot ∷ other_slot slot ∷ []) (t ∷ u ∷ []) old)
       (version : version_at old ≡ Two)
-      (read : mark_of (mark_spelling (staged_mark slot)) ≡ Ok (staged_mark slot))
+      (read : mark_of (mark_spelling (rephased marks.Staged (resloted slot base)))
+      ≡ Ok (rephased marks.Staged (resloted slot base)))
       (ready : are_ready (plan_of (other_slot slot) (layout_of u) scanned) ≡ true) where
     abbrev new : Image
-    new = marked mid (mark_spelling (staged_mark slot))
+    new = marked mid (mark_spelling (rephased marks.Staged (resloted slot base)))
 
     abbrev after : Read
     after =
-        update_read marks.Staged slot ss (cleared_of c (other_slot slot)) g t u scanned
+        update_read (rephased marks.Staged (resloted slot base)) ss (cleared_of c (other_slot slot))
+        g t u scanned
 
     elsewhere : (s : ℕ) → s ≢ 4 → s ≢ 2048 → new s ≡ old s
     elsewhere s other not_mark =
-        set_there mid 2048 (mark_spelling (staged_mark slot)) s not_mark ∙ stays s other
+        set_there mid 2048 (mark_spelling (rephased marks.Staged (resloted slot base))) s not_mark
+        ∙ stays s other
 
     from_behind : (s : ℕ) → 4096 ≤ s → new s ≡ old s
     from_behind s le = elsewhere s (λ e. omega (arith, e, le)) (λ e. omega (arith, e, le))
@@ -183,7 +190,8 @@ module _
     pub control_new : control_of (new 4) ≡ Ok (cleared_of c (other_slot slot))
     control_new =
         ap control_of
-        (set_there mid 2048 (mark_spelling (staged_mark slot)) 4 (λ e. omega (arith, e)))
+        (set_there mid 2048 (mark_spelling (rephased marks.Staged (resloted slot base))) 4
+        (λ e. omega (arith, e)))
         ∙ prepared
 
     seen_is : seen ≡ control_read_of slot c
@@ -203,14 +211,16 @@ module _
 
     pub version_new : version_at new ≡ Two
     version_new =
-        version_there (staged_mark slot) new
-        (set_here mid 2048 (mark_spelling (staged_mark slot)) 2048 refl)
+        version_there (rephased marks.Staged (resloted slot base)) new
+        (set_here mid 2048 (mark_spelling (rephased marks.Staged (resloted slot base))) 2048 refl)
 
     pub reads_new : Reads size after new
     reads_new = record {
       enough = reads.enough;
-      mark = mark_there (staged_mark slot) new refl read
-          (set_here mid 2048 (mark_spelling (staged_mark slot)) 2048 refl);
+      mark = mark_there (rephased marks.Staged (resloted slot base)) new refl
+          (rephased_apart marks.Staged (resloted slot base)) read
+          (set_here mid 2048 (mark_spelling (rephased marks.Staged (resloted slot base))) 2048
+          refl);
       statuses =
           statuses_kept true old new (version_new ∙ sym version)
           (λ read s is.
@@ -270,27 +280,32 @@ module _
 
 -- ---- what is kept
 
-pub kept_finished : (slot : ℕ) (ss : List (Option PartStatus)) (seen : Control) (g : Geometry)
-    (t u : Table) (scanned : List Scanned) (c : Control)
+pub kept_finished : (base : UpdateMark) (slot : ℕ) (ss : List (Option PartStatus)) (seen : Control)
+    (g : Geometry) (t u : Table) (scanned : List Scanned) (c : Control)
     → slot < 2
-    → finished_device (kept_with (update_read marks.Installing slot ss seen g t u scanned) c)
-    ≡ kept_with (update_read marks.Staged slot ss (cleared_of c (other_slot slot)) g t u scanned)
+    → finished_device (kept_with
+    (update_read (rephased marks.Installing (resloted slot base)) ss seen g t u scanned) c)
+    ≡ kept_with (update_read (rephased marks.Staged (resloted slot base)) ss
+    (cleared_of c (other_slot slot)) g t u scanned)
     (cleared_of c (other_slot slot))
-kept_finished zero ss seen g t u scanned c below = refl
-kept_finished (suc zero) ss seen g t u scanned c below = refl
-kept_finished (suc (suc n)) ss seen g t u scanned c below = absurd (omega (arith, below))
+kept_finished base zero ss seen g t u scanned c below = refl
+kept_finished base (suc zero) ss seen g t u scanned c below = refl
+kept_finished base (suc (suc n)) ss seen g t u scanned c below = absurd (omega (arith, below))
 
 -- ---- what it means
 
 module _
-    (ss : List (Option PartStatus)) (seen : Control) (g : Geometry) (t u : Table)
+    (base : UpdateMark) (ss : List (Option PartStatus)) (seen : Control) (g : Geometry)
+    (t u : Table)
     (scanned : List Scanned) (c : Control) (old new : Image) where
   abbrev was : ℕ → Device
-  was slot = kept_with (update_read marks.Installing slot ss seen g t u scanned) c
+  was slot = kept_with (update_read (rephased marks.Installing (resloted slot base)) ss seen g t u
+      scanned) c
 
   abbrev now : ℕ → Device
   now slot =
-      kept_with (update_read marks.Staged slot ss (cleared_of c (other_slot slot)) g t u scanned)
+      kept_with (update_read (rephased marks.Staged (resloted slot base)) ss
+      (cleared_of c (other_slot slot)) g t u scanned)
       (cleared_of c (other_slot slot))
 
   abbrev planned : ℕ → List Part
@@ -305,18 +320,19 @@ module _
       → map (image_on new) (planned slot)
       ≡ map (final_image (state_on (was slot) old) slot) (map (entry_on old) (planned slot))
       → mounted_on (now slot) new
-      ≡ finished (mounted_on (was slot) old) slot (map (entry_on old) (planned slot))
+      ≡ finished (mounted_on (was slot) old) slot
+      (record { apart = base.apart; entries = map (entry_on old) (planned slot) })
 
   none_left : (slot : ℕ) → count_in (own slot) ≡ 0
   none_left slot =
       count_plain (layout_of t).device.first_logical_sector (own_parts slot (layout_of t).parts)
 
   left_a : count_in (own 0) + count_in (planned 0)
-      ≡ Rattle.vab_device.specs.Updates.plan_count (map (entry_on old) (planned 0))
+      ≡ Rattle.vab_model.specs.Machine.exceptions_in (map (entry_on old) (planned 0))
   left_a = omega (arith, none_left 0, count_planned old (planned 0))
 
   left_b : count_in (planned 1) + count_in (own 1)
-      ≡ Rattle.vab_device.specs.Updates.plan_count (map (entry_on old) (planned 1))
+      ≡ Rattle.vab_model.specs.Machine.exceptions_in (map (entry_on old) (planned 1))
   left_b = omega (arith, none_left 1, count_planned old (planned 1))
 
   pub means_a : Means 0

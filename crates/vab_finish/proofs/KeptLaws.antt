@@ -8,6 +8,7 @@ use Rattle.vab_layout.specs.Slots.{other_slot}
 use Rattle.vab_device.specs.declared.device.Part.{Part}
 use Rattle.vab_device.specs.declared.device.Device.{Device}
 use Rattle.vab_device.specs.Kept.{ArePresent, IsDevice, is_installing, reads_both}
+use Rattle.vab_device.proofs.MarkLaws.{rephased_apart}
 use Rattle.vab_begin.proofs.KeptLaws.{source_a, source_b}
 use Rattle.vab_finish.specs.Finished.{finished_device}
 use Rattle.vab_begin.proofs.BegunLaws.{cleared_fits}
@@ -51,6 +52,7 @@ finished_kept d size is installing =
       control = cleared_fits d.control (other_slot d.mark.slot) is.control;
       phase = inr (inr (inl refl));
       slot = is.slot;
+      apart = rephased_apart marks.Staged d.mark;
       current = refl;
       has_a = has_a_now d.mark.slot d.a d.plan (source_a d size is) is.slot there;
       has_b = has_b_now d.mark.slot d.b d.plan (source_b d size is) is.slot there;

@@ -3,3 +3,4 @@ pub mod FinishedLaws
 pub mod KeptLaws
 pub mod ReadyLaws
 pub mod StepLaws
+pub mod LeftLaws

@@ -8,9 +8,11 @@ use Rattle.std.proofs.Common.{inl, inr, false}
 use Rattle.vab_disk.specs.Disk.{Image}
 use Rattle.vab_marks.specs.declared.mark.MarkPhase.{MarkPhase}
 use Rattle.vab_marks.specs.declared.mark.MarkPhase.TheVariants as marks
+use Rattle.vab_model.specs.declared.state.Plan.{Plan}
 use Rattle.vab_model.specs.declared.command.Refusal.TheVariants as refusals
 use Rattle.vab_model.specs.Commands.{Finish}
 use Rattle.vab_model.specs.Effects.{refuses}
+use Rattle.vab_model.specs.Machine.{least_declared, declared_name, lesser}
 use Rattle.vab_device.specs.declared.device.Part.{Part}
 use Rattle.vab_device.specs.declared.device.PartImage.{PartImage}
 use Rattle.vab_device.specs.declared.device.PartImage.TheVariants.{Kept, Declared, Written}
@@ -18,8 +20,7 @@ use Rattle.vab_device.specs.declared.device.Device.{Device}
 use Rattle.vab_device.specs.Mounted.{Mounted, mounted_on, state_on, planned_on, entry_on, unplanned}
 use Rattle.vab_device.specs.Mounted.{entries_on, phase_by, count_at}
 use Rattle.vab_device.specs.Phases.{are_ready}
-use Rattle.vab_device.specs.Updates.{effect_on, finish_effect, complete_effect, least_declared}
-use Rattle.vab_device.specs.Updates.{declared_name, lesser}
+use Rattle.vab_device.specs.Updates.{effect_on, finish_effect, complete_effect}
 use Rattle.vab_finish.specs.Ready.{declared_by, declared_of, least_of}
 
 -- ---- the least name
@@ -98,10 +99,14 @@ finish_nothing d image staged none =
     none
     ∙ not_installing (mounted_on d image) d.mark.phase d.mark.slot left
 
+-- the plan with these partitions
+abbrev pub plan_on : Device → Image → List Part → Plan
+plan_on d image plan = record { apart = d.mark.apart; entries = map (entry_on image) plan }
+
 finish_planned : (d : Device) (image : Image) (staged : Option (List ℕ)) (plan : List Part)
     → d.plan ≡ Some plan
     → effect_on (mounted_on d image) staged Finish
-    ≡ complete_effect (mounted_on d image) d.mark.slot (map (entry_on image) plan)
+    ≡ complete_effect (mounted_on d image) d.mark.slot (plan_on d image plan)
     (least_declared None (map (entry_on image) plan))
 unfolding state_on
 finish_planned d image staged plan is = rw is refl
@@ -111,8 +116,8 @@ pub finish_by : (d : Device) (image : Image) (staged : Option (List ℕ)) (plan 
     → d.plan ≡ Some plan
     → least_of None plan ≡ least
     → effect_on (mounted_on d image) staged Finish
-    ≡ complete_effect (mounted_on d image) d.mark.slot (map (entry_on image) plan) least
+    ≡ complete_effect (mounted_on d image) d.mark.slot (plan_on d image plan) least
 finish_by d image staged plan least is none =
     finish_planned d image staged plan is
-    ∙ ap (complete_effect (mounted_on d image) d.mark.slot (map (entry_on image) plan))
+    ∙ ap (complete_effect (mounted_on d image) d.mark.slot (plan_on d image plan))
     (least_same image None plan ∙ none)

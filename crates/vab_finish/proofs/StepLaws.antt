@@ -10,7 +10,8 @@ use Rattle.vab_bootctl.specs.Control.{control_of}
 use Rattle.vab_marks.specs.declared.mark.MarkPhase.{MarkPhase}
 use Rattle.vab_marks.specs.declared.mark.MarkPhase.TheVariants as marks
 use Rattle.vab_marks.specs.declared.status.PartStatus.{PartStatus}
-use Rattle.vab_marks.specs.Mark.{mark_of, mark_spelling, staged_mark}
+use Rattle.vab_marks.specs.declared.mark.UpdateMark.{UpdateMark}
+use Rattle.vab_marks.specs.Mark.{mark_of, mark_spelling, rephased, resloted}
 use Rattle.vab_geometry.specs.declared.geometry.Geometry.{Geometry}
 use Rattle.vab_tables.specs.declared.table.Table.{Table}
 use Rattle.vab_layout.specs.Layout.{layout_of}
@@ -23,7 +24,7 @@ use Rattle.vab_device.specs.declared.device.Part.{Part}
 use Rattle.vab_device.specs.declared.device.Device.{Device}
 use Rattle.vab_device.specs.Kept.{IsDevice, AreOfUpdate, is_installing, sectors_of}
 use Rattle.vab_device.specs.Mounted.{Mounted, mounted_on, state_on, bytes_at, image_on, entry_on}
-use Rattle.vab_device.specs.Phases.{phase_at, are_ready, plan_of}
+use Rattle.vab_device.specs.Phases.{phase_in, phase_at, are_ready, plan_of}
 use Rattle.vab_device.specs.Reading.{Read, Reads, Represents}
 use Rattle.vab_device.specs.Reading.{AgreeCopies, Dead, tables_in, table_at}
 use Rattle.vab_device.specs.Stores.{Scanned}
@@ -37,7 +38,7 @@ use Rattle.vab_finish.specs.Ready.{MayFinish}
 use Rattle.vab_finish.proofs.FinalLaws.{source_named, final_all}
 use Rattle.vab_finish.proofs.FinishedLaws.{same_read, reads_new, control_new, copies_new, images_a}
 use Rattle.vab_finish.proofs.FinishedLaws.{images_b, kept_finished, means_a, means_b}
-use Rattle.vab_finish.proofs.ReadyLaws.{ready_of, finish_by}
+use Rattle.vab_finish.proofs.ReadyLaws.{plan_on, ready_of, finish_by}
 use Rattle.vab_marks.specs.declared.version.MarkVersion.TheVariants.{Two}
 use Rattle.vab_device.specs.Reading.{version_at}
 use Rattle.vab_finish.proofs.FinishedLaws.{version_new}
@@ -57,30 +58,35 @@ installing_of d size dev ready =
     installing_only d.mark.phase (sym dev.planned ∙ ap is_some ready.plan_is)
 
 -- the tables are those of an update
-update_of : (slot : ℕ) (ss : List (Option PartStatus)) (seen : Control) (g : Geometry) (t u : Table)
+update_of : (base : UpdateMark) (slot : ℕ) (ss : List (Option PartStatus)) (seen : Control)
+    (g : Geometry) (t u : Table)
     (scanned : List Scanned) (c : Control) (size : ℕ)
     → slot < 2
-    → IsDevice (kept_with (update_read marks.Installing slot ss seen g t u scanned) c) size
-    → AreOfUpdate slot t u
-update_of zero ss seen g t u scanned c size below dev = dev.update
-update_of (suc zero) ss seen g t u scanned c size below dev = dev.update
-update_of (suc (suc n)) ss seen g t u scanned c size below dev = absurd (omega (arith, below))
+    → IsDevice (kept_with
+    (update_read (rephased marks.Installing (resloted slot base)) ss seen g t u scanned) c) size
+    → AreOfUpdate base.apart slot t u
+update_of base zero ss seen g t u scanned c size below dev = dev.update
+update_of base (suc zero) ss seen g t u scanned c size below dev = dev.update
+update_of base (suc (suc n)) ss seen g t u scanned c size below dev = absurd (omega (arith, below))
 
 -- the source's images are those of the first table
-source_of : (slot : ℕ) (ss : List (Option PartStatus)) (seen : Control) (g : Geometry) (t u : Table)
+source_of : (base : UpdateMark) (slot : ℕ) (ss : List (Option PartStatus)) (seen : Control)
+    (g : Geometry) (t u : Table)
     (scanned : List Scanned) (c : Control) (image : Image) (name : List ℕ)
     → slot < 2
     → source_bytes
-    (state_on (kept_with (update_read marks.Installing slot ss seen g t u scanned) c) image) slot
+    (state_on (kept_with (update_read (rephased marks.Installing (resloted slot base)) ss seen g t u
+    scanned) c) image) slot
     (base_of name)
     ≡ bytes_at image (sectors_of (layout_of t).device.first_logical_sector
     (blocks_named (in_slot slot name) (layout_of t).parts))
 unfolding state_on
-source_of zero ss seen g t u scanned c image name below =
+source_of base zero ss seen g t u scanned c image name below =
     source_named image (layout_of t).device.first_logical_sector 0 name (layout_of t).parts
-source_of (suc zero) ss seen g t u scanned c image name below =
+source_of base (suc zero) ss seen g t u scanned c image name below =
     source_named image (layout_of t).device.first_logical_sector 1 name (layout_of t).parts
-source_of (suc (suc n)) ss seen g t u scanned c image name below = absurd (omega (arith, below))
+source_of base (suc (suc n)) ss seen g t u scanned c image name below =
+    absurd (omega (arith, below))
 
 module _ (told : Type 0) (size : ℕ) (old : Image) where
   abbrev pub Writes : Device → ℕ → List ℕ → Type 0
@@ -97,69 +103,79 @@ module _ (told : Type 0) (size : ℕ) (old : Image) where
   record IsNext (d : Device) (plan : List Part) (new : Image) : Type 0 where
     represents : Represents (finished_device d) size new
     means : mounted_on (finished_device d) new
-        ≡ finished (mounted_on d old) d.mark.slot (map (entry_on old) plan)
+        ≡ finished (mounted_on d old) d.mark.slot (plan_on d old plan)
 
   abbrev NextOf : Image → Device → Read → Type 0
   NextOf mid d r =
       IsDevice d size
       → Reads size r old
       → control_of (old 4) ≡ Ok d.control
-      → AgreeCopies r.geometry ((phase_at r.mark.phase).tables r.mark.slot) r.tables old
+      → AgreeCopies r.geometry (phase_at r.mark).tables r.tables old
       → version_at old ≡ Two
       → SameBut (Writes d) old mid
       → control_of (mid 4) ≡ Ok (cleared_of d.control (other_slot d.mark.slot))
-      → mark_of (mark_spelling (staged_mark d.mark.slot)) ≡ Ok (staged_mark d.mark.slot)
+      → mark_of (mark_spelling (rephased marks.Staged d.mark)) ≡ Ok (rephased marks.Staged d.mark)
       → (ready : MayFinish d)
-      → IsNext d ready.plan (marked mid (mark_spelling (staged_mark d.mark.slot)))
+      → IsNext d ready.plan (marked mid (mark_spelling (rephased marks.Staged d.mark)))
 
   module _
-      (slot : ℕ) (ss : List (Option PartStatus)) (seen : Control) (g : Geometry) (t u : Table)
+      (base : UpdateMark) (slot : ℕ) (ss : List (Option PartStatus)) (seen : Control) (g : Geometry)
+      (t u : Table)
       (scanned : List Scanned) (c : Control) where
     abbrev was : Device
-    was = kept_with (update_read marks.Installing slot ss seen g t u scanned) c
+    was = kept_with (update_read (rephased marks.Installing (resloted slot base)) ss seen g t u
+        scanned) c
 
     abbrev planned : List Part
     planned = plan_of (other_slot slot) (layout_of u) scanned
 
-    dead_shape : DeadOf was (update_read marks.Installing slot ss seen g t u scanned)
+    dead_shape : DeadOf was
+        (update_read (rephased marks.Installing (resloted slot base)) ss seen g t u scanned)
     dead_shape dev reads whole new same =
-        same_read slot ss seen g t u scanned c told size old new dev.slot reads whole same
+        same_read base slot ss seen g t u scanned c told size old new dev.slot reads whole same
 
     module _
         (mid : Image)
         (dev : IsDevice was size)
-        (reads : Reads size (update_read marks.Installing slot ss seen g t u scanned) old)
+        (reads : Reads size (update_read (rephased marks.Installing (resloted slot base)) ss seen g
+        t u scanned) old)
         (whole : control_of (old 4) ≡ Ok c)
         (copies : AgreeCopies g (slot ∷ other_slot slot ∷ []) (t ∷ u ∷ []) old)
         (version : version_at old ≡ Two)
         (same : SameBut (Writes was) old mid)
         (prepared : control_of (mid 4) ≡ Ok (cleared_of c (other_slot slot)))
-        (read : mark_of (mark_spelling (staged_mark slot)) ≡ Ok (staged_mark slot))
+        (read : mark_of (mark_spelling (rephased marks.Staged (resloted slot base)))
+        ≡ Ok (rephased marks.Staged (resloted slot base)))
         (ready : are_ready planned ≡ true) where
       abbrev new : Image
-      new = marked mid (mark_spelling (staged_mark slot))
+      new = marked mid (mark_spelling (rephased marks.Staged (resloted slot base)))
 
       represents : Represents (finished_device was) size new
       represents = record {
-        read = update_read marks.Staged slot ss (cleared_of c (other_slot slot)) g t u scanned;
-        reads = reads_new slot ss seen g t u scanned c told size old mid dev.slot reads whole same
+        read = update_read (rephased marks.Staged (resloted slot base)) ss
+            (cleared_of c (other_slot slot)) g t u scanned;
+        reads = reads_new base slot ss seen g t u scanned c told size old mid dev.slot reads whole
+            same
             prepared copies version read ready;
-        is = kept_finished slot ss seen g t u scanned c dev.slot;
-        control = control_new slot ss seen g t u scanned c told size old mid dev.slot reads whole
+        is = kept_finished base slot ss seen g t u scanned c dev.slot;
+        control = control_new base slot ss seen g t u scanned c told size old mid dev.slot reads
+            whole
             same prepared copies version read ready;
-        copies = copies_new slot ss seen g t u scanned c told size old mid dev.slot reads whole
+        copies = copies_new base slot ss seen g t u scanned c told size old mid dev.slot reads whole
             same prepared copies version read ready;
-        version = version_new slot ss seen g t u scanned c told size old mid dev.slot reads whole
+        version = version_new base slot ss seen g t u scanned c told size old mid dev.slot reads
+            whole
             same prepared copies version read ready;
       }
 
       final_same : map (final_image (state_on was old) slot) (map (entry_on old) planned)
           ≡ map (image_on old) planned
       final_same =
-          let update = update_of slot ss seen g t u scanned c size dev.slot dev in
-          final_all slot (layout_of t) (layout_of u) scanned (state_on was old) old dev.slot
+          let update = update_of base slot ss seen g t u scanned c size dev.slot dev in
+          final_all base.apart slot (layout_of t) (layout_of u) scanned (state_on was old) old
+          dev.slot
           (ap (λ d. d.first_logical_sector) (device_same u t update.device))
-          (λ name. source_of slot ss seen g t u scanned c old name dev.slot)
+          (λ name. source_of base slot ss seen g t u scanned c old name dev.slot)
           (own_parts (other_slot slot) (layout_of u).parts) update.target.each ready
 
     some_same : (x : List Part) (new : Image)
@@ -167,78 +183,87 @@ module _ (told : Type 0) (size : ℕ) (old : Image) where
         → map (image_on new) x ≡ map (image_on old) x
     some_same x new is = cc
 
-  means_shape : (slot : ℕ) (ss : List (Option PartStatus)) (seen : Control) (g : Geometry)
+  means_shape : (base : UpdateMark) (slot : ℕ) (ss : List (Option PartStatus)) (seen : Control)
+      (g : Geometry)
       (t u : Table) (scanned : List Scanned) (c : Control) (mid : Image)
-      (dev : IsDevice (was slot ss seen g t u scanned c) size)
-      (reads : Reads size (update_read marks.Installing slot ss seen g t u scanned) old)
+      (dev : IsDevice (was base slot ss seen g t u scanned c) size)
+      (reads : Reads size (update_read (rephased marks.Installing (resloted slot base)) ss seen g t
+      u scanned) old)
       (whole : control_of (old 4) ≡ Ok c)
       (copies : AgreeCopies g (slot ∷ other_slot slot ∷ []) (t ∷ u ∷ []) old)
       (version : version_at old ≡ Two)
-      (same : SameBut (Writes (was slot ss seen g t u scanned c)) old mid)
+      (same : SameBut (Writes (was base slot ss seen g t u scanned c)) old mid)
       (prepared : control_of (mid 4) ≡ Ok (cleared_of c (other_slot slot)))
-      (read : mark_of (mark_spelling (staged_mark slot)) ≡ Ok (staged_mark slot))
-      (ready : are_ready (planned slot ss seen g t u scanned c) ≡ true)
-      → mounted_on (finished_device (was slot ss seen g t u scanned c))
-      (marked mid (mark_spelling (staged_mark slot)))
-      ≡ finished (mounted_on (was slot ss seen g t u scanned c) old) slot
-      (map (entry_on old) (planned slot ss seen g t u scanned c))
-  means_shape zero ss seen g t u scanned c mid dev reads whole copies version same prepared read
-      ready =
-      let new = marked mid (mark_spelling (staged_mark 0)) in
-      let a = some_same 0 ss seen g t u scanned c _ new
-      (images_a 0 ss seen g t u scanned c told size old mid dev.slot reads whole same prepared
-      copies version
-      read ready) in
-      let b = some_same 0 ss seen g t u scanned c _ new
-      (images_b 0 ss seen g t u scanned c told size old mid dev.slot reads whole same prepared
-      copies version
-      read ready) in
-      ap (λ (k : Device). mounted_on k new) (kept_finished 0 ss seen g t u scanned c dev.slot)
-      ∙ means_a ss seen g t u scanned c old new a
-      (b ∙ sym
-      (final_same 0 ss seen g t u scanned c mid dev reads whole copies version same prepared read
-      ready))
-  means_shape (suc zero) ss seen g t u scanned c mid dev reads whole copies version same prepared
+      (read : mark_of (mark_spelling (rephased marks.Staged (resloted slot base)))
+      ≡ Ok (rephased marks.Staged (resloted slot base)))
+      (ready : are_ready (planned base slot ss seen g t u scanned c) ≡ true)
+      → mounted_on (finished_device (was base slot ss seen g t u scanned c))
+      (marked mid (mark_spelling (rephased marks.Staged (resloted slot base))))
+      ≡ finished (mounted_on (was base slot ss seen g t u scanned c) old) slot
+      (plan_on (was base slot ss seen g t u scanned c) old
+      (planned base slot ss seen g t u scanned c))
+  means_shape base zero ss seen g t u scanned c mid dev reads whole copies version same prepared
       read ready =
-      let new = marked mid (mark_spelling (staged_mark 1)) in
-      let a = some_same 1 ss seen g t u scanned c _ new
-      (images_a 1 ss seen g t u scanned c told size old mid dev.slot reads whole same prepared
+      let new = marked mid (mark_spelling (rephased marks.Staged (resloted 0 base))) in
+      let a = some_same base 0 ss seen g t u scanned c _ new
+      (images_a base 0 ss seen g t u scanned c told size old mid dev.slot reads whole same prepared
       copies version
       read ready) in
-      let b = some_same 1 ss seen g t u scanned c _ new
-      (images_b 1 ss seen g t u scanned c told size old mid dev.slot reads whole same prepared
+      let b = some_same base 0 ss seen g t u scanned c _ new
+      (images_b base 0 ss seen g t u scanned c told size old mid dev.slot reads whole same prepared
       copies version
       read ready) in
-      ap (λ (k : Device). mounted_on k new) (kept_finished 1 ss seen g t u scanned c dev.slot)
-      ∙ means_b ss seen g t u scanned c old new b
-      (a ∙ sym
-      (final_same 1 ss seen g t u scanned c mid dev reads whole copies version same prepared read
+      ap (λ (k : Device). mounted_on k new) (kept_finished base 0 ss seen g t u scanned c dev.slot)
+      ∙ means_a base ss seen g t u scanned c old new a
+      (b ∙ sym
+      (final_same base 0 ss seen g t u scanned c mid dev reads whole copies version same prepared
+      read
       ready))
-  means_shape (suc (suc n)) ss seen g t u scanned c mid dev reads whole copies version same prepared
-      read ready = absurd (omega (arith, dev.slot))
+  means_shape base (suc zero) ss seen g t u scanned c mid dev reads whole copies version same
+      prepared read ready =
+      let new = marked mid (mark_spelling (rephased marks.Staged (resloted 1 base))) in
+      let a = some_same base 1 ss seen g t u scanned c _ new
+      (images_a base 1 ss seen g t u scanned c told size old mid dev.slot reads whole same prepared
+      copies version
+      read ready) in
+      let b = some_same base 1 ss seen g t u scanned c _ new
+      (images_b base 1 ss seen g t u scanned c told size old mid dev.slot reads whole same prepared
+      copies version
+      read ready) in
+      ap (λ (k : Device). mounted_on k new) (kept_finished base 1 ss seen g t u scanned c dev.slot)
+      ∙ means_b base ss seen g t u scanned c old new b
+      (a ∙ sym
+      (final_same base 1 ss seen g t u scanned c mid dev reads whole copies version same prepared
+      read
+      ready))
+  means_shape base (suc (suc n)) ss seen g t u scanned c mid dev reads whole copies version same
+      prepared read ready = absurd (omega (arith, dev.slot))
 
-  next_shape : (slot : ℕ) (ss : List (Option PartStatus)) (seen : Control) (g : Geometry)
+  next_shape : (base : UpdateMark) (slot : ℕ) (ss : List (Option PartStatus)) (seen : Control)
+      (g : Geometry)
       (t u : Table) (scanned : List Scanned) (c : Control) (mid : Image)
-      → NextOf mid (was slot ss seen g t u scanned c)
-      (update_read marks.Installing slot ss seen g t u scanned)
-  next_shape slot ss seen g t u scanned c mid dev reads whole copies version same prepared read
+      → NextOf mid (was base slot ss seen g t u scanned c)
+      (update_read (rephased marks.Installing (resloted slot base)) ss seen g t u scanned)
+  next_shape base slot ss seen g t u scanned c mid dev reads whole copies version same prepared read
       ready =
-      let both : Some (planned slot ss seen g t u scanned c) ≡ Some ready.plan = ready.plan_is in
-      let e : planned slot ss seen g t u scanned c ≡ ready.plan = cc in
-      let are : are_ready (planned slot ss seen g t u scanned c) ≡ true =
+      let both : Some (planned base slot ss seen g t u scanned c) ≡ Some ready.plan =
+      ready.plan_is in
+      let e : planned base slot ss seen g t u scanned c ≡ ready.plan = cc in
+      let are : are_ready (planned base slot ss seen g t u scanned c) ≡ true =
       ap are_ready e ∙ ready_of ready.plan ready.none in
       record {
         represents =
-            represents slot ss seen g t u scanned c mid dev reads whole copies version same prepared
+            represents base slot ss seen g t u scanned c mid dev reads whole copies version same
+            prepared
             read are;
         means =
-            means_shape slot ss seen g t u scanned c mid dev reads whole copies version same
+            means_shape base slot ss seen g t u scanned c mid dev reads whole copies version same
             prepared read
             are
             ∙ ap
             (λ (ps : List Part).
-            finished (mounted_on (was slot ss seen g t u scanned c) old) slot
-            (map (entry_on old) ps))
+            finished (mounted_on (was base slot ss seen g t u scanned c) old) slot
+            (plan_on (was base slot ss seen g t u scanned c) old ps))
             e;
       }
 
@@ -257,13 +282,13 @@ module _ (told : Type 0) (size : ℕ) (old : Image) where
           × (table_at size r.geometry r.mark.slot old ≡ Ok t)
       two =
           two_of size r.geometry r.mark.slot (other_slot r.mark.slot) old r.tables
-          (subst (λ (m : MarkPhase). tables_in size r.geometry ((phase_at m).tables r.mark.slot) old
+          (subst (λ (p : MarkPhase). tables_in size r.geometry (phase_in p r.mark).tables old
           ≡ Ok r.tables)
           phase is.reads.tables)
 
       abbrev shaped : Read
       shaped =
-          update_read marks.Installing r.mark.slot r.statuses r.control r.geometry two.0 two.1
+          update_read (rephased marks.Installing r.mark) r.statuses r.control r.geometry two.0 two.1
           r.scanned
 
       shape : r ≡ shaped
@@ -283,27 +308,29 @@ module _ (told : Type 0) (size : ℕ) (old : Image) where
       finish_dead =
           subst (λ (x : Read). DeadOf d x) (sym shape)
           (subst (λ (k : Device). DeadOf k shaped) (sym form)
-          (dead_shape r.mark.slot r.statuses r.control r.geometry two.0 two.1 r.scanned d.control))
+          (dead_shape r.mark r.mark.slot r.statuses r.control r.geometry two.0 two.1 r.scanned
+          d.control))
           dev is.reads is.control
 
       module _
           (mid : Image)
           (same : SameBut (Writes d) old mid)
           (prepared : control_of (mid 4) ≡ Ok (cleared_of d.control (other_slot d.mark.slot)))
-          (read : mark_of (mark_spelling (staged_mark d.mark.slot)) ≡ Ok (staged_mark d.mark.slot))
+          (read : mark_of (mark_spelling (rephased marks.Staged d.mark))
+          ≡ Ok (rephased marks.Staged d.mark))
         where
-          next : IsNext d ready.plan (marked mid (mark_spelling (staged_mark d.mark.slot)))
+          next : IsNext d ready.plan (marked mid (mark_spelling (rephased marks.Staged d.mark)))
           next =
               subst (λ (y : Read). NextOf mid d y) (sym shape)
               (subst (λ (k : Device). NextOf mid k shaped) (sym form)
-              (next_shape r.mark.slot r.statuses r.control r.geometry two.0 two.1 r.scanned
+              (next_shape r.mark r.mark.slot r.statuses r.control r.geometry two.0 two.1 r.scanned
               d.control
               mid))
               dev is.reads is.control is.copies is.version same prepared read ready
 
           pub finish_step : (staged : Option (List ℕ))
               → IsStep d (finished_device d) staged Finish replies.Done false size old
-              (marked mid (mark_spelling (staged_mark d.mark.slot)))
+              (marked mid (mark_spelling (rephased marks.Staged d.mark)))
           finish_step staged = record {
             represents = next.represents;
             effect =

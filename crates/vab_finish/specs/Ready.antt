@@ -1,10 +1,10 @@
 -- An installation that may end: each partition of its target is kept or written.
 use Rattle.std.specs.Prelude.{◌≡◌, ℕ, List, [], ◌∷◌, Option, Some, None}
+use Rattle.vab_model.specs.Machine.{lesser}
 use Rattle.vab_device.specs.declared.device.Part.{Part}
 use Rattle.vab_device.specs.declared.device.PartImage.{PartImage}
 use Rattle.vab_device.specs.declared.device.PartImage.TheVariants.{Kept, Declared, Written}
 use Rattle.vab_device.specs.declared.device.Device.{Device}
-use Rattle.vab_device.specs.Updates.{lesser}
 
 abbrev pub declared_by : Option (List ℕ) → List ℕ → PartImage → Option (List ℕ)
 declared_by least name Kept = least

@@ -1,7 +1,8 @@
 -- What the end of an installation writes.
 use Rattle.std.specs.Prelude.{◌⊎◌, ℕ, List}
 use Rattle.vab_disk.specs.Disk.{IsAt}
-use Rattle.vab_marks.specs.Mark.{mark_spelling, staged_mark}
+use Rattle.vab_marks.specs.declared.mark.MarkPhase.TheVariants as marks
+use Rattle.vab_marks.specs.Mark.{mark_spelling, rephased}
 use Rattle.vab_layout.specs.Slots.{other_slot}
 use Rattle.vab_install.specs.Control.{cleared_of, IsControl}
 use Rattle.vab_device.specs.declared.device.Device.{Device}
@@ -13,4 +14,4 @@ pub record IsOfFinished (told : Type 0) (d : Device) (old : List ℕ) (s : ℕ) 
   where
     pub ready : MayFinish d
     pub writes : IsControl told (cleared_of d.control (other_slot d.mark.slot)) old s b
-        ⊎ IsAt 2048 (mark_spelling (staged_mark d.mark.slot)) s b
+        ⊎ IsAt 2048 (mark_spelling (rephased marks.Staged d.mark)) s b

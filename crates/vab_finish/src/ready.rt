@@ -4,8 +4,9 @@ ghost use Rattle.std.specs.Prelude.{◌≡◌, Option, IfNone, IfSome, None, opt
 ghost use Rattle.vab_disk.specs.Disk.{Image};
 ghost use Rattle.vab_model.specs.Commands.{Finish};
 ghost use Rattle.vab_model.specs.Effects.{refuses};
+ghost use Rattle.vab_model.specs.Machine.{lesser};
 ghost use Rattle.vab_device.specs.Mounted.{mounted_on};
-ghost use Rattle.vab_device.specs.Updates.{effect_on, lesser};
+ghost use Rattle.vab_device.specs.Updates.{effect_on};
 ghost use Rattle.vab_finish.specs.Ready.{declared_of, least_of, MayFinish};
 
 use std::cmp::Ordering;

@@ -1,8 +1,8 @@
 -- What the table of effects says of a flash, by what is kept of the device.
-use Rattle.std.proofs.Common.{◌≡◌, ◌∙◌, ℕ, zero, suc, ◌+◌, ◌<◌, ◌≤◌, true, false, List, [], ◌∷◌}
-use Rattle.std.proofs.Common.{refl, sym}
-use Rattle.std.proofs.Common.{subst, ap, length, get_or, inl, inr, arith}
-use Rattle.std.specs.Prelude.{Bool, ◌==◌, Option, Some, None, map, All, nat_lt, if◌then◌else◌}
+use Rattle.std.proofs.Common.{◌≡◌, ◌∙◌, ℕ, zero, suc, ◌+◌, ◌<◌, ◌≤◌, true, false, List, []}
+use Rattle.std.proofs.Common.{◌∷◌, refl, sym, subst, ap, length, get_or, inl, inr, arith}
+use Rattle.std.specs.Prelude.{Bool, ◌==◌, Option, Some, None, map, All, nat_lt}
+use Rattle.std.specs.Prelude.{if◌then◌else◌}
 use Rattle.std.specs.Str.{bytes_eq}
 use Rattle.std.proofs.lemmas.Bool.{cases_Bool, ltb-false}
 use Rattle.std.proofs.lemmas.List.Elements.{All-head, All-tail}
@@ -12,27 +12,30 @@ use Rattle.std.specs.List.{position_or_len}
 use Rattle.vab_disk.specs.Disk.{Image}
 use Rattle.vab_space.specs.declared.Chunk.{Chunk}
 use Rattle.vab_names.specs.Names.{is_full, base_of}
-use Rattle.vab_layout.specs.Slots.{other_slot}
-use Rattle.vab_model.specs.declared.state.Phase.TheVariants.{Installing}
-use Rattle.vab_model.specs.declared.command.Refusal.TheVariants as refusals
-use Rattle.vab_model.specs.Commands.{Flash}
-use Rattle.vab_model.specs.Effects.{refuses}
-use Rattle.vab_device.specs.declared.device.Part.{Part}
-use Rattle.vab_device.specs.declared.device.Device.{Device}
-use Rattle.vab_device.specs.Mounted.{Mounted, state_on, mounted_on, entry_on, entries_on}
-use Rattle.vab_device.specs.Updates.{effect_on, flash_effect, entry_effect, entry_named}
-use Rattle.vab_device.specs.Updates.{if_room, differences, source_bytes, bytes_of}
 use Rattle.vab_bootctl.specs.declared.slots.Control.{Control}
-use Rattle.vab_model.specs.declared.state.State.{State}
-use Rattle.vab_model.specs.declared.state.Phase.TheVariants.{Idle}
-use Rattle.vab_model.specs.State.{image_named}
-use Rattle.vab_device.specs.Mounted.{bytes_at, image_on, images_on, sectors_read}
-use Rattle.vab_device.specs.Mounted.{count_at, unplanned, phase_by}
-use Rattle.vab_device.specs.Kept.{part_on, parts_at}
 use Rattle.vab_marks.specs.declared.mark.MarkPhase.{MarkPhase}
 use Rattle.vab_marks.specs.declared.mark.MarkPhase.TheVariants as marks
 use Rattle.vab_layout.specs.declared.layout.Part.{Part as PartOfLayout}
-use Rattle.vab_flash.specs.Chosen.{place_of, HasPlace, IsChosen, plan_or, planned_at, no_planned}
+use Rattle.vab_layout.specs.Slots.{other_slot}
+use Rattle.vab_model.specs.declared.state.Phase.TheVariants.{Idle, Installing}
+use Rattle.vab_model.specs.declared.state.Plan.{Plan}
+use Rattle.vab_model.specs.declared.state.State.{State}
+use Rattle.vab_model.specs.declared.command.Refusal.TheVariants as refusals
+use Rattle.vab_model.specs.Commands.{Flash}
+use Rattle.vab_model.specs.Effects.{refuses}
+use Rattle.vab_model.specs.Plans.{entry_named, bytes_or_none}
+use Rattle.vab_model.specs.State.{image_named}
+use Rattle.vab_device.specs.declared.device.Part.{Part}
+use Rattle.vab_device.specs.declared.device.Device.{Device}
+use Rattle.vab_device.specs.Kept.{part_on, parts_at}
+use Rattle.vab_device.specs.Mounted.{Mounted, state_on, mounted_on, entry_on, entries_on}
+use Rattle.vab_device.specs.Mounted.{bytes_at, image_on, images_on}
+use Rattle.vab_device.specs.Mounted.{sectors_read, count_at, unplanned, phase_by}
+use Rattle.vab_device.specs.Updates.{effect_on, flash_effect, entry_effect}
+use Rattle.vab_device.specs.Updates.{source_bytes}
+use Rattle.vab_flash.specs.declared.chosen.Destination.{Destination}
+use Rattle.vab_flash.specs.Chosen.{place_of, HasPlace, effect_into}
+use Rattle.vab_flash.specs.Chosen.{IsChosen, plan_or, planned_at, no_planned, store_long}
 use Rattle.vab_flash.specs.Chosen.{blocks_or, part_named, part_among, part_at}
 
 -- where nothing is planned no update is installed
@@ -57,13 +60,22 @@ flash_idle d image staged name chunk none =
     ∙ unplanned_refuses (mounted_on d image) staged name chunk d.mark.phase d.mark.slot
     (count_at d.a + count_at d.b)
 
+-- the entries of a device, where nothing else is planned
+abbrev pub plan_of_parts : Device → Image → List Part → Plan
+plan_of_parts d image plan =
+    record { apart = d.mark.apart; entries = map (entry_on image) plan }
+
+-- the plan of a device
+abbrev pub plan_on : Device → Image → Plan
+plan_on d image = plan_of_parts d image (plan_or d.plan)
+
 -- of a plan
 pub flash_planned : (d : Device) (image : Image) (staged : Option (List ℕ)) (name : List ℕ)
     (chunk : Chunk) (plan : List Part)
     → d.plan ≡ Some plan
     → effect_on (mounted_on d image) staged (Flash name chunk)
     ≡ flash_effect (mounted_on d image) staged name chunk
-    (Installing d.mark.slot (map (entry_on image) plan))
+    (Installing d.mark.slot (plan_of_parts d image plan))
 unfolding state_on
 flash_planned d image staged name chunk plan is =
     (λ k.
@@ -75,13 +87,13 @@ pub flash_named : (d : Device) (image : Image) (staged : Option (List ℕ)) (nam
     → d.plan ≡ Some plan
     → is_full (other_slot d.mark.slot) name ≡ true
     → effect_on (mounted_on d image) staged (Flash name chunk)
-    ≡ entry_effect (mounted_on d image) d.mark.slot (map (entry_on image) plan) chunk staged
+    ≡ entry_effect (mounted_on d image) d.mark.slot (plan_of_parts d image plan) chunk staged
     (entry_named (base_of name) (map (entry_on image) plan))
 flash_named d image staged name chunk plan is full =
     flash_planned d image staged name chunk plan is
     ∙ (λ k.
     if full k
-    then entry_effect (mounted_on d image) d.mark.slot (map (entry_on image) plan) chunk staged
+    then entry_effect (mounted_on d image) d.mark.slot (plan_of_parts d image plan) chunk staged
     (entry_named (base_of name) (map (entry_on image) plan))
     else refuses refusals.BadName)
 
@@ -94,7 +106,7 @@ flash_other d image staged name chunk plan is other =
     flash_planned d image staged name chunk plan is
     ∙ (λ k.
     if other k
-    then entry_effect (mounted_on d image) d.mark.slot (map (entry_on image) plan) chunk staged
+    then entry_effect (mounted_on d image) d.mark.slot (plan_of_parts d image plan) chunk staged
     (entry_named (base_of name) (map (entry_on image) plan))
     else refuses refusals.BadName)
 
@@ -156,7 +168,7 @@ pub flash_unknown : (d : Device) (image : Image) (staged : Option (List ℕ)) (n
     → effect_on (mounted_on d image) staged (Flash name chunk) ≡ refuses refusals.Unknown
 flash_unknown d image staged name chunk plan is full none =
     flash_named d image staged name chunk plan is full
-    ∙ ap (entry_effect (mounted_on d image) d.mark.slot (map (entry_on image) plan) chunk staged)
+    ∙ ap (entry_effect (mounted_on d image) d.mark.slot (plan_of_parts d image plan) chunk staged)
     (no_place image (base_of name) plan none)
 
 -- of the partition at its place
@@ -164,35 +176,32 @@ pub flash_at : (d : Device) (image : Image) (staged : Option (List ℕ)) (name :
     (chunk : Chunk) (place : ℕ)
     → HasPlace d name place
     → effect_on (mounted_on d image) staged (Flash name chunk)
-    ≡ entry_effect (mounted_on d image) d.mark.slot (map (entry_on image) (plan_or d.plan)) chunk
+    ≡ entry_effect (mounted_on d image) d.mark.slot (plan_on d image) chunk
     staged
     (Some (entry_on image (planned_at d place)))
 flash_at d image staged name chunk place has =
     let plan : List Part = has.plan in
     let is : plan_or d.plan ≡ plan = ap plan_or has.plan_is in
     let at_plan : effect_on (mounted_on d image) staged (Flash name chunk)
-    ≡ entry_effect (mounted_on d image) d.mark.slot (map (entry_on image) plan) chunk staged
+    ≡ entry_effect (mounted_on d image) d.mark.slot (plan_of_parts d image plan) chunk staged
     (Some (entry_on image (get_or plan place no_planned))) =
     flash_named d image staged name chunk plan has.plan_is has.full
-    ∙ ap (entry_effect (mounted_on d image) d.mark.slot (map (entry_on image) plan) chunk staged)
+    ∙ ap (entry_effect (mounted_on d image) d.mark.slot (plan_of_parts d image plan) chunk staged)
     (place_named image (base_of name) plan place no_planned has.place_is) in
     subst
     (λ (ps : List Part).
     effect_on (mounted_on d image) staged (Flash name chunk)
-    ≡ entry_effect (mounted_on d image) d.mark.slot (map (entry_on image) ps) chunk staged
+    ≡ entry_effect (mounted_on d image) d.mark.slot (plan_of_parts d image ps) chunk staged
     (Some (entry_on image (get_or ps place no_planned))))
     (sym is) at_plan
 
 pub flash_chosen : (d : Device) (image : Image) (staged : Option (List ℕ)) (name : List ℕ)
-    (chunk : Chunk) (place : ℕ) (bytes : List ℕ) (chosen : IsChosen d name staged place bytes)
+    (chunk : Chunk) (place : ℕ) (to : Destination) (bytes : List ℕ)
+    (chosen : IsChosen d name staged place to bytes)
     → effect_on (mounted_on d image) staged (Flash name chunk)
-    ≡ if_room (mounted_on d image) d.mark.slot (map (entry_on image) (plan_or d.plan))
-    (entry_on image (planned_at d place)) (length chosen.fits.store) chunk
-    bytes
-    (differences chunk
-    (source_bytes (state_on d image) d.mark.slot (planned_at d place).name) bytes
-    (length (planned_at d place).map))
-flash_chosen d image staged name chunk place bytes chosen =
+    ≡ effect_into to (mounted_on d image) d.mark.slot (plan_on d image)
+    (entry_on image (planned_at d place)) (store_long d place) chunk bytes
+flash_chosen d image staged name chunk place to bytes chosen =
     flash_at d image staged name chunk place chosen.has
     ∙ chosen.fits.effect (mounted_on d image) d.mark.slot (map (entry_on image) (plan_or d.plan))
     chunk image
@@ -214,7 +223,7 @@ parts_direct at (p ∷ ps) = (refl, parts_direct at ps)
 
 named_bytes : (image : Image) (base : List ℕ) (ps : List Part)
     → AreDirect ps
-    → bytes_of (image_named base (map (image_on image) ps))
+    → bytes_or_none (image_named base (map (image_on image) ps))
     ≡ bytes_at image (blocks_or (part_named base ps))
 unfolding bytes_at
 named_bytes image base [] direct = refl

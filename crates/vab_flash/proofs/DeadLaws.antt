@@ -1,14 +1,13 @@
--- What is written into a store that no status names is read by nothing.
+-- What is written for an image that no status names is read by nothing.
 use Rattle.std.proofs.Common.{◌≡◌, ◌⊎◌, ◌∙◌, inl, inr, ⊎_elim, ℕ, zero, suc, ◌+◌, ◌-◌, ◌*◌}
 use Rattle.std.proofs.Common.{◌≤◌, ◌<◌}
 use Rattle.std.proofs.Common.{true, List, [], ◌∷◌, length, take, refl, ap, subst}
 use Rattle.std.proofs.Common.{arith}
-use Rattle.std.specs.Prelude.{Bool, Option, Some, None, ◌==◌, if◌then◌else◌}
+use Rattle.std.specs.Prelude.{Bool, Option, None, ◌==◌, if◌then◌else◌}
 use Rattle.std.proofs.lemmas.Bool.{and_parts, leb-true}
 use Rattle.vab_disk.specs.Disk.{Image}
 use Rattle.vab_disk.specs.Calls.{IsBetween, InSectors}
 use Rattle.vab_gate.proofs.Blocks.{sectors_same}
-use Rattle.vab_names.specs.Names.{is_of_slot, store_of}
 use Rattle.vab_statuses.specs.Statuses.{IsOfStatuses, written_in, status_named}
 use Rattle.vab_geometry.specs.declared.geometry.Geometry.{Geometry}
 use Rattle.vab_geometry.specs.Geometry.{IsGeometry}
@@ -17,24 +16,23 @@ use Rattle.vab_lpstore.specs.Layout.{backup_bytes}
 use Rattle.vab_lpstore.proofs.StoreLaws.{copies_apart}
 use Rattle.vab_tables.specs.declared.table.Table.{Table}
 use Rattle.vab_tables.specs.declared.entries.BlockDevice.{BlockDevice}
-use Rattle.vab_layout.specs.declared.layout.Part.{Part as PartOfLayout}
 use Rattle.vab_layout.specs.Layout.{layout_of, first_device}
-use Rattle.vab_layout.specs.Slots.{other_slot, own_parts, IsTarget}
+use Rattle.vab_layout.specs.Slots.{other_slot, own_parts, twins_by, IsTargetBeside}
 use Rattle.vab_device.specs.declared.device.Device.{Device}
 use Rattle.vab_device.specs.Kept.{copies_end, sectors_of, IsDevice, IsTableOf}
-use Rattle.vab_device.specs.Kept.{IsKeptTable, IsUpdate}
+use Rattle.vab_device.specs.Kept.{IsKeptTable, HasNoStores, AreOfUpdate, IsUpdate}
 use Rattle.vab_device.specs.Mounted.{images_on, entries_on}
 use Rattle.vab_device.specs.Reading.{Read, kept, AgreeCopies, Dead, IsOfTables}
 use Rattle.vab_device.specs.Reading.{IsOfBlocks, IsOfImages, IsOfPlan, mark_in, control_in}
 use Rattle.vab_device.specs.Reading.{geometry_at, tables_in, stores_of, table_for}
-use Rattle.vab_device.specs.Stores.{first_named, scans_in, scanned_named}
+use Rattle.vab_device.specs.Stores.{scans_in, scanned_named}
 use Rattle.vab_device.proofs.SameLaws.{mark_same, control_same, geometry_same, tables_agree}
 use Rattle.vab_device.proofs.SameLaws.{images_same}
 use Rattle.vab_device.proofs.StoreLaws.{statuses_kept, stores_kept, plan_kept}
 use Rattle.vab_device.proofs.Behind.{images_behind, stores_behind, plan_behind}
 use Rattle.vab_flash.proofs.JoinLaws.{unread_unnamed}
 use Rattle.vab_flash.proofs.InstallingLaws.{installing_read, Installs}
-use Rattle.vab_flash.proofs.ApartLaws.{stores_miss, planned_miss, images_miss}
+use Rattle.vab_flash.proofs.ApartLaws.{BelongTo, stores_miss, planned_miss, images_miss}
 use Rattle.vab_device.proofs.PartBlocks.{block_behind}
 use Rattle.vab_device.proofs.RepairLaws.{ends_within}
 use Rattle.vab_device.specs.Reading.{version_at, most_at}
@@ -54,22 +52,26 @@ target_of size zero g s t others below a b = b
 target_of size (suc zero) g s t others below a b = a
 target_of size (suc (suc n)) g s t others below a b = absurd (omega (arith, below))
 
-pub update_of : (slot : ℕ) (s t : Table) (others : List Table)
+pub update_of : (apart : Bool) (slot : ℕ) (s t : Table) (others : List Table)
     → slot < 2
-    → IsUpdate slot
+    → IsUpdate apart slot
     (if slot == 0 then tables_of slot s t others 0 else tables_of slot s t others 1)
     (if other_slot slot == 0 then tables_of slot s t others 0 else tables_of slot s t others 1)
-    → IsTarget (other_slot slot) (layout_of s).parts (layout_of t).parts × (s.devices ≡ t.devices)
-update_of zero s t others below is = (is.target, is.device)
-update_of (suc zero) s t others below is = (is.target, is.device)
-update_of (suc (suc n)) s t others below is = absurd (omega (arith, below))
+    → AreOfUpdate apart slot s t
+update_of apart zero s t others below is = is
+update_of apart (suc zero) s t others below is = is
+update_of apart (suc (suc n)) s t others below is = absurd (omega (arith, below))
 
 -- what holds of the tables of an update
 pub record Tables (d : Device) (size : ℕ) (image : Image) (i : Installs d size image) : Type 0 where
   pub below : i.slot < 2
   pub geometry : IsGeometry i.geometry
   pub table : IsTableOf size i.geometry (other_slot i.slot) i.target
-  pub target : IsTarget (other_slot i.slot) (layout_of i.source).parts (layout_of i.target).parts
+  pub target : IsTargetBeside (other_slot i.slot)
+      (twins_by i.base.apart (layout_of i.source).parts)
+      (layout_of i.source).parts
+      (layout_of i.target).parts
+  pub no_stores : HasNoStores i.base.apart (layout_of i.target).parts
   pub begins : (layout_of i.source).device.first_logical_sector
       ≡ (layout_of i.target).device.first_logical_sector
 
@@ -79,17 +81,19 @@ pub tables_kept : (d : Device) (size : ℕ) (image : Image) (i : Installs d size
 unfolding layout_of
 tables_kept d size image i is =
     let r : Read =
-    installing_read i.slot i.statuses i.seen i.geometry i.source i.target i.others i.scanned in
+    installing_read i.base i.slot i.statuses i.seen i.geometry i.source i.target i.others
+    i.scanned in
     let form : Device = record (kept r) { control = d.control } in
     let of : IsDevice form size = subst (λ (k : Device). IsDevice k size) i.is is in
-    let update = update_of i.slot i.source i.target i.others of.slot of.update in
+    let update = update_of i.base.apart i.slot i.source i.target i.others of.slot of.update in
     record {
       below = of.slot;
       geometry = of.geometry;
       table = target_of size i.slot i.geometry i.source i.target i.others of.slot of.table_a
           of.table_b;
-      target = update.0;
-      begins = ap (λ (ds : List BlockDevice). (first_device ds).first_logical_sector) update.1;
+      target = update.target;
+      no_stores = update.no_stores;
+      begins = ap (λ (ds : List BlockDevice). (first_device ds).first_logical_sector) update.device;
     }
 
 -- ---- copies of tables
@@ -156,23 +160,24 @@ copies_stay g (slot ∷ slots) (t ∷ ts) old new same agree =
       copies_stay g slots ts old new (λ s is. same s (inr (inr is))) agree.1,
     )
 
--- ---- a store that isn't read
+-- ---- blocks for an image that isn't read
 
 module _
     (d : Device) (size : ℕ) (old : Image) (i : Installs d size old) (device : IsDevice d size)
-    (name : List ℕ) (store : PartOfLayout)
-    (own : is_of_slot (other_slot i.slot) name ≡ true)
-    (found : first_named (store_of name) (layout_of i.target).parts ≡ Some store)
+    (name blocks : List ℕ)
+    (belong : BelongTo i.slot (layout_of i.source).parts (layout_of i.target).parts name blocks)
     (unread : scanned_named name i.scanned ≡ None) where
   abbrev first : ℕ
   first = (layout_of i.target).device.first_logical_sector
 
   abbrev pub read : Read
-  read = installing_read i.slot i.statuses i.seen i.geometry i.source i.target i.others i.scanned
+  read =
+      installing_read i.base i.slot i.statuses i.seen i.geometry i.source i.target i.others
+      i.scanned
 
-  -- a sector of the store
-  abbrev pub InStore : ℕ → Type 0
-  InStore s = IsOfBlocks (sectors_of first store.blocks) s
+  -- a sector of these blocks
+  abbrev pub InThese : ℕ → Type 0
+  InThese s = IsOfBlocks (sectors_of first blocks) s
 
   tables : Tables d size old i
   tables = tables_kept d size old i device
@@ -181,30 +186,30 @@ module _
   behind_copies =
       let both = and_parts _ _ tables.table.lies in leb-true _ _ both.1
 
-  -- it stands behind the copies of the tables
-  pub not_low : (s : ℕ) → s < 4120 → InStore s → ⊥
+  -- they stand behind the copies of the tables
+  pub not_low : (s : ℕ) → s < 4120 → InThese s → ⊥
   not_low s low is =
-      omega (arith, low, block_behind first store.blocks s is, behind_copies)
+      omega (arith, low, block_behind first blocks s is, behind_copies)
 
-  not_copies : (s : ℕ) → InCopies i.geometry s → InStore s → ⊥
+  not_copies : (s : ℕ) → InCopies i.geometry s → InThese s → ⊥
   not_copies s copies is =
-      omega (arith, copies.below, block_behind first store.blocks s is, behind_copies)
+      omega (arith, copies.below, block_behind first blocks s is, behind_copies)
 
   pub unnamed : status_named name (written_in i.statuses) ≡ None
   unnamed =
-      unread_unnamed name (other_slot i.slot) (layout_of i.target) (written_in i.statuses) old
-      i.scanned i.reads.stores unread
+      unread_unnamed i.base.apart name (other_slot i.slot) (layout_of i.target)
+      (written_in i.statuses) old i.scanned i.reads.stores unread
 
-  -- Where all sectors stay but for the store's and those of the statuses.
+  -- Where all sectors stay but for those of these blocks and of the statuses.
   module _ (new : Image)
-      (same : (s : ℕ) → (IsOfStatuses s → ⊥) → (InStore s → ⊥) → new s ≡ old s) where
+      (same : (s : ℕ) → (IsOfStatuses s → ⊥) → (InThese s → ⊥) → new s ≡ old s) where
     low : (s : ℕ) → s < 2049 ⊎ 2113 ≤ s → s < 4120 → new s ≡ old s
     low s (inl before) below =
         same s (λ st. omega (arith, st.from, before)) (not_low s below)
     low s (inr behind) below =
         same s (λ st. omega (arith, st.below, behind)) (not_low s below)
 
-    high : (s : ℕ) → 4096 ≤ s → (InStore s → ⊥) → new s ≡ old s
+    high : (s : ℕ) → 4096 ≤ s → (InThese s → ⊥) → new s ≡ old s
     high s from not = same s (λ st. omega (arith, st.below, from)) not
 
     copies : (s : ℕ) → IsOfTables i.geometry (i.slot ∷ other_slot i.slot ∷ []) s → new s ≡ old s
@@ -251,26 +256,24 @@ module _
         (λ s is.
         high s (stores_behind size 4096 read old s i.reads (omega arith) is)
         (λ here.
-        stores_miss i.slot (layout_of i.source).parts (layout_of i.target).parts name store
-        tables.below tables.target own found first s here (layout_of i.target)
-        (written_in i.statuses) refl refl unnamed is))
+        stores_miss i.slot (layout_of i.source).parts (layout_of i.target).parts name blocks belong
+        first s here i.base.apart (layout_of i.target) (written_in i.statuses) refl refl unnamed
+        is))
         i.reads.stores
 
     images_a : (s : ℕ) → IsOfImages (kept read).a s → new s ≡ old s
     images_a s is =
         high s (images_behind size 4096 0 _ _ read old s i.reads (omega arith) is)
         (λ here.
-        images_miss i.slot (layout_of i.source).parts (layout_of i.target).parts name store
-        tables.below tables.target own found first s here 0 i.scanned i.source i.target i.others
-        refl tables.begins is)
+        images_miss i.slot (layout_of i.source).parts (layout_of i.target).parts name blocks belong
+        first s here 0 i.scanned i.source i.target i.others refl tables.begins is)
 
     images_b : (s : ℕ) → IsOfImages (kept read).b s → new s ≡ old s
     images_b s is =
         high s (images_behind size 4096 1 _ _ read old s i.reads (omega arith) is)
         (λ here.
-        images_miss i.slot (layout_of i.source).parts (layout_of i.target).parts name store
-        tables.below tables.target own found first s here 1 i.scanned i.source i.target i.others
-        refl tables.begins is)
+        images_miss i.slot (layout_of i.source).parts (layout_of i.target).parts name blocks belong
+        first s here 1 i.scanned i.source i.target i.others refl tables.begins is)
 
     pub images_a_stay : images_on new (kept read).a ≡ images_on old (kept read).a
     images_a_stay = images_same old new (kept read).a images_a
@@ -282,17 +285,17 @@ module _
     plan_sectors s is =
         high s (plan_behind size 4096 read old s i.reads (omega arith) is)
         (λ here.
-        planned_miss i.slot (layout_of i.source).parts (layout_of i.target).parts name store
-        tables.below tables.target own found first s here (layout_of i.target) i.scanned
+        planned_miss i.slot (layout_of i.source).parts (layout_of i.target).parts name blocks belong
+        first s here (layout_of i.target) i.scanned
         (own_parts (other_slot i.slot) (layout_of i.target).parts) refl refl (λ p c. c) unread is)
 
     pub plan_stays : entries_on new (kept read).plan ≡ entries_on old (kept read).plan
     plan_stays = plan_kept (kept read).plan old new plan_sectors
 
-  -- Writes into the store are dead.
-  pub store_dead : Dead size read old (InSectors InStore)
-  store_dead new but =
-      let stay : (s : ℕ) → (IsOfStatuses s → ⊥) → (InStore s → ⊥) → new s ≡ old s =
+  -- Writes into them are dead.
+  pub these_dead : Dead size read old (InSectors InThese)
+  these_dead new but =
+      let stay : (s : ℕ) → (IsOfStatuses s → ⊥) → (InThese s → ⊥) → new s ≡ old s =
       λ s status not. ⊎_elim (λ is. is) (λ w. absurd (not w)) (but s) in
       record {
         most = most_stays new stay;

@@ -1,4 +1,4 @@
--- Read through its store, a partition that was written is the staged bytes, with zeros behind them.
+-- A partition that was written reads as the staged bytes, with zeros behind them.
 use Rattle.std.proofs.Common.{◌≡◌, ◌∙◌, ℕ, suc, ◌+◌, ◌≤◌, ◌<◌, List, [], ◌∷◌, ◌++◌}
 use Rattle.std.proofs.Common.{length, get_or, refl, sym, ap, subst, arith, inl, inr}
 use Rattle.std.specs.Prelude.{Option, Some, None}
@@ -9,11 +9,13 @@ use Rattle.vab_disk.specs.Disk.{Image}
 use Rattle.vab_gate.specs.Gate.{sectors_at}
 use Rattle.vab_exceptions.specs.declared.area.Exception.{Exception}
 use Rattle.vab_space.specs.declared.Chunk.{Chunk}
+use Rattle.vab_space.specs.declared.Chunk.TheVariants.{One}
 use Rattle.vab_space.specs.Chunks.{block_in, chunk_at, place_in}
 use Rattle.vab_store.specs.Seen.{chosen_bytes}
 use Rattle.vab_store.specs.View.{view_of, stored_at, Fits}
 use Rattle.vab_store.specs.Writing.{block_of}
 use Rattle.vab_store.proofs.StoredLaws.{stored_some, stored_inside}
+use Rattle.vab_install.specs.InPlace.{HoldsImage}
 use Rattle.vab_install.specs.Snapshot.{HoldsBlocks}
 use Rattle.vab_device.specs.Mounted.{bytes_at}
 use Rattle.vab_device.specs.Stores.{sector_seen, sectors_seen}
@@ -87,3 +89,15 @@ module _ (chunk : Chunk) (base own store staged : List ℕ) (es : List Exception
       sectors_at 8 image (sector_seen store (get_or own i 0) (stored_at chunk es k))
       ≡ block_of staged k)
       at (of_chosen i (stored_at chunk es i) below refl ∙ holds i below))
+
+-- a partition into whose own blocks the image was written
+pub placed_filled : (own store staged : List ℕ) (image : Image)
+    → HoldsImage own staged image (length own)
+    → bytes_at image (sectors_seen One store [] 0 own) ≡ filled staged (length own)
+unfolding bytes_at
+placed_filled own store staged image holds =
+    seen_filled One store [] 0 own image staged
+    (λ i below.
+    let at : i ≡ 0 + i = omega arith in
+    subst (λ (k : ℕ). sectors_at 8 image (get_or own i 0) ≡ block_of staged k) at
+    (holds i below))

@@ -2,24 +2,23 @@
 use Rattle.std.proofs.Common.{◌≡◌, ◌≢◌, ◌⊎◌, ◌∙◌, inl, inr, ⊎_elim, ℕ, ◌<◌, true, false}
 use Rattle.std.proofs.Common.{List, []}
 use Rattle.std.proofs.Common.{◌∷◌, ◌++◌, length, get_or, set, Result, Ok, refl, sym, ap, subst}
-use Rattle.std.proofs.Common.{eqb, eq-eqb}
 use Rattle.std.specs.Prelude.{Some, None, map, if◌then◌else◌, ◌==◌, Contains}
 use Rattle.std.specs.Prelude.{AllPairs}
 use Rattle.std.specs.Str.{bytes_eq}
 use Rattle.std.proofs.lemmas.List.{map-append}
 use Rattle.vab_disk.specs.Disk.{Image}
 use Rattle.vab_bootctl.specs.Control.{control_of}
-use Rattle.vab_names.specs.Names.{is_of_slot, base_of, store_of, suffix_of}
+use Rattle.vab_names.specs.Names.{is_of_slot, base_of, suffix_of}
 use Rattle.vab_names.proofs.NameLaws.{of_slot}
 use Rattle.vab_model.specs.declared.state.PlanImage.{PlanImage}
 use Rattle.vab_model.specs.declared.state.PlanImage.TheVariants as models
 use Rattle.vab_model.specs.declared.state.PlanEntry.{PlanEntry}
 use Rattle.vab_model.specs.declared.state.Phase.TheVariants.{Installing}
 use Rattle.vab_marks.specs.declared.status.PartStatus.{PartStatus}
+use Rattle.vab_marks.specs.declared.status.StatusImage.{StatusImage}
 use Rattle.vab_statuses.specs.Statuses.{IsOfStatuses, statuses_in, written_in, with_status, free_in}
 use Rattle.vab_exceptions.specs.declared.area.Exception.{Exception}
 use Rattle.vab_space.specs.declared.Chunk.{Chunk}
-use Rattle.vab_store.specs.Scan.{scan_of}
 use Rattle.vab_layout.specs.declared.layout.Part.{Part as PartOfLayout}
 use Rattle.vab_layout.specs.declared.layout.Layout.{Layout}
 use Rattle.vab_layout.specs.Layout.{layout_of}
@@ -40,8 +39,9 @@ use Rattle.vab_device.specs.Updates.{filled, with_image}
 use Rattle.vab_device.specs.Reading.{Read, read_table, kept, IsOfWritten, IsOfPlanned}
 use Rattle.vab_device.proofs.StoreLaws.{plan_kept}
 use Rattle.vab_device.specs.Reading.{statuses_read, statuses_at, IsOfBlocks}
-use Rattle.vab_device.specs.Stores.{Wanted, Scanned, first_named, wanted_by, wanted_of, scan_read}
+use Rattle.vab_device.specs.Stores.{Wanted, Scanned, wanted_of}
 use Rattle.vab_device.specs.Stores.{scan_at, scans_in, scanned_named}
+use Rattle.vab_flash.proofs.ApartLaws.{BelongTo}
 use Rattle.vab_flash.proofs.JoinLaws.{IsJoined, status_joins, ScansBoth, scans_apart}
 use Rattle.vab_flash.proofs.JoinLaws.{scans_together}
 use Rattle.vab_flash.proofs.JoinLaws.{others_kept, new_found}
@@ -62,28 +62,28 @@ use Rattle.vab_flash.proofs.DeadLaws.{version_stays}
 
 module _
     (d : Device) (size : ℕ) (old : Image) (i : Installs d size old) (device : IsDevice d size)
-    (name : List ℕ) (part store : PartOfLayout)
+    (name blocks : List ℕ) (part : PartOfLayout)
     (own : is_of_slot (other_slot i.slot) name ≡ true)
-    (found : first_named (store_of name) (layout_of i.target).parts ≡ Some store)
+    (belong : BelongTo i.slot (layout_of i.source).parts (layout_of i.target).parts name blocks)
     (unread : scanned_named name i.scanned ≡ None)
-    (part_is : first_named name (own_parts (other_slot i.slot) (layout_of i.target).parts)
-    ≡ Some part)
-    (new : Image) (chunk : Chunk) (es : List Exception) (free : ℕ)
+    (new : Image) (there : StatusImage) (chunk : Chunk) (es : List Exception) (free : ℕ)
     (same : (s : ℕ)
     → (IsOfStatuses s → ⊥)
     → (IsOfBlocks
-    (sectors_of (layout_of i.target).device.first_logical_sector store.blocks) s → ⊥)
+    (sectors_of (layout_of i.target).device.first_logical_sector blocks) s → ⊥)
     → new s ≡ old s)
     (free_is : free_in i.statuses ≡ Some free)
     (joined : statuses_in new
-    ≡ Ok (with_status i.statuses free
-    (record { name = name; count = length es; chunk = chunk })))
-    (scan : scan_of chunk (sectors_of (layout_of i.target).device.first_logical_sector store.blocks)
-    (length (sectors_of (layout_of i.target).device.first_logical_sector part.blocks)) new
-    ≡ Ok es) where
+    ≡ Ok (with_status i.statuses free (record { name = name; image = there })))
+    (w : Wanted)
+    (wanted_one : wanted_of i.base.apart (other_slot i.slot) (layout_of i.target)
+    (record { name = name; image = there })
+    ≡ Ok w)
+    (scan_one : scan_at w new ≡ Ok (record { name = name; chunk = chunk; exceptions = es })) where
   abbrev read_was : Read
   read_was =
-      installing_read i.slot i.statuses i.seen i.geometry i.source i.target i.others i.scanned
+      installing_read i.base i.slot i.statuses i.seen i.geometry i.source i.target i.others
+      i.scanned
 
   abbrev layout : Layout
   layout = layout_of i.target
@@ -92,44 +92,13 @@ module _
   at = layout.device.first_logical_sector
 
   abbrev status : PartStatus
-  status = record { name = name; count = length es; chunk = chunk }
+  status = record { name = name; image = there }
 
   abbrev one : Scanned
   one = record { name = name; chunk = chunk; exceptions = es }
 
   abbrev wanted : PartStatus → Result Wanted StartFault
-  wanted st = wanted_of (other_slot i.slot) layout st
-
-  scan_one : scan_at (record {
-    name = name;
-    base = sectors_of at part.blocks;
-    store = sectors_of at store.blocks;
-    chunk = chunk;
-    count = length es;
-    fewer = false;
-  }) new ≡ Ok one
-  unfolding scan_at
-  scan_one =
-      let enough : eqb (length es) (length es) ≡ true = eq-eqb (length es) (length es) refl in
-      ap (scan_read (record {
-        name = name;
-        base = sectors_of at part.blocks;
-        store = sectors_of at store.blocks;
-        chunk = chunk;
-        count = length es;
-        fewer = false;
-      })) scan
-      ∙ rw enough refl
-
-  wanted_one : wanted status ≡ Ok (record {
-    name = name;
-    base = sectors_of at part.blocks;
-    store = sectors_of at store.blocks;
-    chunk = chunk;
-    count = length es;
-    fewer = false;
-  })
-  wanted_one = (λ k. wanted_by at status (part_is k) (found k))
+  wanted st = wanted_of i.base.apart (other_slot i.slot) layout st
 
   joins : IsJoined (written_in i.statuses) (written_in (with_status i.statuses free status)) status
   joins = status_joins i.statuses free status free_is
@@ -139,7 +108,7 @@ module _
       scans_apart (map wanted joins.before) (map wanted joins.behind) new i.scanned
       (ap (λ (ws : List (Result Wanted StartFault)). scans_in ws new)
       (sym (ap (map wanted) joins.others ∙ map-append wanted joins.before joins.behind))
-      ∙ stores_stay d size old i device name store own found unread new same
+      ∙ stores_stay d size old i device name blocks belong unread new same
       ∙ i.reads.stores)
 
   -- what is read of the stores then
@@ -183,7 +152,7 @@ module _
 
   abbrev read_with : List Scanned → Read
   read_with ss =
-      installing_read i.slot (with_status i.statuses free status) i.seen i.geometry i.source
+      installing_read i.base i.slot (with_status i.statuses free status) i.seen i.geometry i.source
       i.target i.others ss
 
   abbrev form : Device
@@ -197,7 +166,7 @@ module _
       (λ k. record form { a = a k; b = b k })
 
   version_was : version_at new ≡ version_at old
-  version_was = version_stays d size old i device name store own found unread new same
+  version_was = version_stays d size old i device name blocks belong unread new same
 
   version_then : version_at new ≡ Two
   version_then = version_was ∙ i.version
@@ -205,6 +174,7 @@ module _
   pub installs_then : Installs device_then size new
   unfolding statuses_at
   installs_then = record {
+    base = i.base;
     slot = i.slot;
     statuses = with_status i.statuses free status;
     seen = i.seen;
@@ -215,18 +185,18 @@ module _
     scanned = scanned_then;
     reads = record {
       enough = i.reads.enough;
-      mark = mark_stays d size old i device name store own found unread new same ∙ i.reads.mark;
+      mark = mark_stays d size old i device name blocks belong unread new same ∙ i.reads.mark;
       statuses =
           ap (λ v. statuses_read (statuses_under v new)) version_then
           ∙ ap statuses_read joined;
       control =
-          control_stays d size old i device name store own found unread new same _ _
+          control_stays d size old i device name blocks belong unread new same _ _
           ∙ i.reads.control;
       geometry =
-          geometry_stays d size old i device name store own found unread new same
+          geometry_stays d size old i device name blocks belong unread new same
           ∙ i.reads.geometry;
       tables =
-          tables_stay d size old i device name store own found unread new same ∙ i.reads.tables;
+          tables_stay d size old i device name blocks belong unread new same ∙ i.reads.tables;
       parts = parts_under read_was old new version_was i.reads.parts;
       stores = read_then;
       state = i.reads.state;
@@ -237,9 +207,9 @@ module _
         }) i.is
         ∙ sources_stay;
     control =
-        ap control_of (control_sector d size old i device name store own found unread new same)
+        ap control_of (control_sector d size old i device name blocks belong unread new same)
         ∙ i.control;
-    copies = copies_agree d size old i device name store own found unread new same;
+    copies = copies_agree d size old i device name blocks belong unread new same;
     version = version_then;
   }
 
@@ -307,7 +277,7 @@ module _
       (λ s is.
       ⊎_elim
       (λ here.
-      plan_sectors d size old i device name store own found unread new same s
+      plan_sectors d size old i device name blocks belong unread new same s
       (written_there (own_parts (other_slot i.slot) layout.parts) p s c here))
       (λ none. absurd none) is) in
       let both : Some (entry_on new x ∷ []) ≡ Some (entry_on old x ∷ []) = whole in
@@ -388,23 +358,28 @@ module _
         ≡ record (mounted_on d old) {
           state = record (state_on d old) {
             phase =
-                Installing d.mark.slot
-                (with_image (base_of name) written
-                (map (entry_on old) (plan_of (other_slot i.slot) layout i.scanned)));
+                Installing d.mark.slot (record {
+                  apart = d.mark.apart;
+                  entries =
+                      with_image (base_of name) written
+                      (map (entry_on old) (plan_of (other_slot i.slot) layout i.scanned));
+                });
           };
         }
     unfolding state_on
     mounted_then =
         let a : images_on new d.a ≡ images_on old d.a =
         subst (λ (k : Device). images_on new k.a ≡ images_on old k.a) (sym i.is)
-        (images_a_stay d size old i device name store own found unread new same) in
+        (images_a_stay d size old i device name blocks belong unread new same) in
         let b : images_on new d.b ≡ images_on old d.b =
         subst (λ (k : Device). images_on new k.b ≡ images_on old k.b) (sym i.is)
-        (images_b_stay d size old i device name store own found unread new same) in
+        (images_b_stay d size old i device name blocks belong unread new same) in
         (λ k. record (mounted_on d old) {
           state = record (state_on d old) {
             a = a k;
             b = b k;
-            phase = Installing d.mark.slot (entries_then k);
+            phase =
+                Installing d.mark.slot
+                (record { apart = d.mark.apart; entries = entries_then k });
           };
         })

@@ -1,5 +1,6 @@
 -- A device with an update that is installed, by what is read of its disk.
-use Rattle.std.proofs.Common.{◌≡◌, ◌∙◌, ℕ, ◌-◌, List, [], ◌∷◌, Ok, refl, sym, ap, subst}
+use Rattle.std.proofs.Common.{◌≡◌, ◌∙◌, ℕ, ◌-◌, List, [], ◌∷◌, Result, Ok, Err, refl, sym, ap}
+use Rattle.std.proofs.Common.{subst}
 use Rattle.std.specs.Prelude.{Bool, true, false, Option, Some, None}
 use Rattle.vab_disk.specs.Disk.{Image}
 use Rattle.vab_bootctl.specs.declared.slots.Control.{Control}
@@ -11,15 +12,20 @@ use Rattle.vab_geometry.specs.declared.geometry.Geometry.{Geometry}
 use Rattle.vab_tables.specs.declared.table.Table.{Table}
 use Rattle.vab_device.specs.declared.device.Part.{Part}
 use Rattle.vab_device.specs.declared.device.Device.{Device}
-use Rattle.vab_device.specs.Phases.{phase_at}
+use Rattle.vab_device.specs.Phases.{phase_in, phase_at}
 use Rattle.vab_device.specs.Reading.{Read, kept, parts_for, Reads, AgreeCopies, Represents}
 use Rattle.vab_device.specs.Stores.{Scanned}
-use Rattle.vab_marks.specs.Mark.{mark_at}
+use Rattle.vab_marks.specs.declared.mark.UpdateMark.{UpdateMark}
+use Rattle.vab_marks.specs.Mark.{rephased, resloted}
 use Rattle.vab_marks.specs.declared.version.MarkVersion.TheVariants.{Two}
-use Rattle.vab_device.specs.Reading.{version_at}
+use Rattle.vab_device.specs.declared.fault.StartFault.{StartFault}
+use Rattle.vab_device.specs.declared.fault.StartFault.TheVariants.{BadMark}
+use Rattle.vab_device.specs.Reading.{version_at, statuses_read, statuses_at}
+use Rattle.vab_statuses.specs.Statuses.{statuses_in, statuses_under}
 
 -- what is read of a disk with an update from this slot, with the tables of source and target
-abbrev pub installing_read : ℕ
+abbrev pub installing_read : UpdateMark
+    → ℕ
     → List (Option PartStatus)
     → Control
     → Geometry
@@ -28,8 +34,8 @@ abbrev pub installing_read : ℕ
     → List Table
     → List Scanned
     → Read
-installing_read slot statuses control geometry s t others scanned = record {
-  mark = mark_at marks.Installing slot;
+installing_read base slot statuses control geometry s t others scanned = record {
+  mark = rephased marks.Installing (resloted slot base);
   statuses = statuses;
   control = control;
   geometry = geometry;
@@ -39,6 +45,7 @@ installing_read slot statuses control geometry s t others scanned = record {
 
 -- the device is read so
 pub record Installs (d : Device) (size : ℕ) (image : Image) : Type 0 where
+  pub base : UpdateMark
   pub slot : ℕ
   pub statuses : List (Option PartStatus)
   pub seen : Control
@@ -47,10 +54,11 @@ pub record Installs (d : Device) (size : ℕ) (image : Image) : Type 0 where
   pub target : Table
   pub others : List Table
   pub scanned : List Scanned
-  pub reads : Reads size (installing_read slot statuses seen geometry source target others scanned)
-      image
+  pub reads : Reads size
+      (installing_read base slot statuses seen geometry source target others scanned) image
   pub is : d
-      ≡ record (kept (installing_read slot statuses seen geometry source target others scanned)) {
+      ≡ record
+      (kept (installing_read base slot statuses seen geometry source target others scanned)) {
         control = d.control;
       }
   pub control : control_of (image 4) ≡ Ok d.control
@@ -61,7 +69,9 @@ pub installs_represents : (d : Device) (size : ℕ) (image : Image)
     → Installs d size image
     → Represents d size image
 installs_represents d size image i = record {
-  read = installing_read i.slot i.statuses i.seen i.geometry i.source i.target i.others i.scanned;
+  read =
+      installing_read i.base i.slot i.statuses i.seen i.geometry i.source i.target i.others
+      i.scanned;
   reads = i.reads;
   is = i.is;
   control = i.control;
@@ -84,17 +94,18 @@ record Planning (m : MarkPhase) (ts : List Table) : Type 0 where
   others : List Table
   tables : ts ≡ source ∷ target ∷ others
 
-planning : (m : MarkPhase) (slot : ℕ) (ts : List Table) (ss : List Scanned) (plan : List Part)
-    → (phase_at m).plan slot ts ss ≡ Some plan
-    → Planning m ts
-planning marks.Idle slot ts ss plan h = absurd cc
-planning marks.Installing slot [] ss plan h = absurd cc
-planning marks.Installing slot (s ∷ []) ss plan h = absurd cc
-planning marks.Installing slot (s ∷ t ∷ ts) ss plan h =
+planning : (p : MarkPhase) (m : UpdateMark) (ts : List Table) (ss : List Scanned)
+    (plan : List Part)
+    → (phase_in p m).plan ts ss ≡ Some plan
+    → Planning p ts
+planning marks.Idle m ts ss plan h = absurd cc
+planning marks.Installing m [] ss plan h = absurd cc
+planning marks.Installing m (s ∷ []) ss plan h = absurd cc
+planning marks.Installing m (s ∷ t ∷ ts) ss plan h =
     record { installing = refl; source = s; target = t; others = ts; tables = refl }
-planning marks.Staged slot ts ss plan h = absurd cc
-planning marks.Merging slot ts ss plan h = absurd cc
-planning marks.Completed slot ts ss plan h = absurd cc
+planning marks.Staged m ts ss plan h = absurd cc
+planning marks.Merging m ts ss plan h = absurd cc
+planning marks.Completed m ts ss plan h = absurd cc
 
 -- a device with a plan
 pub installs_of : (d : Device) (size : ℕ) (image : Image) (plan : List Part)
@@ -104,10 +115,10 @@ pub installs_of : (d : Device) (size : ℕ) (image : Image) (plan : List Part)
 installs_of d size image plan is planned =
     let r : Read = is.read in
     let p : Planning r.mark.phase r.tables =
-    planning r.mark.phase r.mark.slot r.tables r.scanned plan
+    planning r.mark.phase r.mark r.tables r.scanned plan
     (sym (ap (λ (k : Device). k.plan) is.is) ∙ planned) in
     let form : Read =
-    installing_read r.mark.slot r.statuses r.control r.geometry p.source p.target p.others
+    installing_read r.mark r.mark.slot r.statuses r.control r.geometry p.source p.target p.others
     r.scanned in
     let e : r ≡ form =
     (λ i. record {
@@ -119,6 +130,7 @@ installs_of d size image plan is planned =
       scanned = r.scanned;
     }) in
     record {
+      base = r.mark;
       slot = r.mark.slot;
       statuses = r.statuses;
       seen = r.control;
@@ -133,7 +145,23 @@ installs_of d size image plan is planned =
       copies =
           subst
           (λ (x : Read).
-          AgreeCopies x.geometry ((phase_at x.mark.phase).tables x.mark.slot) x.tables image)
+          AgreeCopies x.geometry (phase_at x.mark).tables x.tables image)
           e is.copies;
       version = is.version;
     }
+
+-- the statuses of the disk
+pub statuses_were : (d : Device) (size : ℕ) (image : Image) (i : Installs d size image)
+    → statuses_in image ≡ Ok i.statuses
+unfolding statuses_at
+statuses_were d size image i =
+    taken (statuses_in image) i.statuses
+    (ap (λ v. statuses_read (statuses_under v image)) (sym i.version) ∙ i.reads.statuses)
+  where
+    taken : (x : Result (List (Option PartStatus)) ℕ) (l : List (Option PartStatus))
+        → statuses_read x ≡ Ok l
+        → x ≡ Ok l
+    taken (Ok m) l h = let same : m ≡ l = cc in ap Ok same
+    taken (Err at) l h =
+        absurd (let bad : (let r : Result (List (Option PartStatus)) StartFault = Err
+        (BadMark at) in r ≡ Ok l) = h in cc)

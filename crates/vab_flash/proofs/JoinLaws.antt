@@ -2,11 +2,14 @@
 use Rattle.std.proofs.Common.{◌≡◌, ◌∙◌, inl, inr, ℕ, zero, suc, ◌-◌, ◌<◌, List, [], ◌∷◌, ◌++◌}
 use Rattle.std.proofs.Common.{length, get_or, set, cond, Result, Ok, Err, refl, sym, ap, subst}
 use Rattle.std.proofs.Common.{arith}
-use Rattle.std.specs.Prelude.{Bool, true, false, Option, Some, None, map}
+use Rattle.std.specs.Prelude.{Bool, true, false, Option, Some, None, map, All}
 use Rattle.std.specs.Str.{bytes_eq}
 use Rattle.std.proofs.lemmas.Bool.{cases_Bool}
+use Rattle.std.proofs.lemmas.List.Elements.{All-cons}
 use Rattle.vab_disk.specs.Disk.{Image}
 use Rattle.vab_marks.specs.declared.status.PartStatus.{PartStatus}
+use Rattle.vab_marks.specs.declared.status.StatusImage.{StatusImage}
+use Rattle.vab_marks.specs.declared.status.StatusImage.TheVariants.{Stored, InPlace}
 use Rattle.vab_statuses.specs.Statuses.{written_in, status_named, with_status, free_in}
 use Rattle.vab_exceptions.specs.declared.area.Exception.{Exception}
 use Rattle.vab_store.specs.declared.fault.StoreFault.{StoreFault}
@@ -18,10 +21,12 @@ use Rattle.vab_layout.specs.Slots.{own_parts}
 use Rattle.vab_device.specs.declared.fault.StartFault.{StartFault}
 use Rattle.vab_device.specs.declared.fault.StartFault.TheVariants.{BadStore}
 use Rattle.vab_device.specs.Checks.{◌>>=◌}
-use Rattle.vab_device.specs.Stores.{Wanted, Scanned, first_named, wanted_by, wanted_of, is_long}
-use Rattle.vab_device.specs.Stores.{scan_read}
+use Rattle.vab_device.specs.Stores.{Wanted, Scanned, first_named, image_wanted, wanted_of, is_long}
+use Rattle.vab_device.specs.Stores.{scan_read, scan_by}
 use Rattle.vab_device.specs.Stores.{scan_at, scans_in, scanned_named}
 use Rattle.vab_device.proofs.CheckLaws.{bound}
+use Rattle.vab_device.proofs.NamedParts.{named_in}
+use Rattle.vab_flash.proofs.FewLaws.{IsNamed, named_in_list}
 use Rattle.vab_statuses.proofs.StatusesLaws.{IsFreeAt}
 use Rattle.vab_statuses.proofs.StatusesLaws.{free_is}
 
@@ -172,60 +177,119 @@ taken_name w (Err fault) s is =
     absurd (let bad : (let r : Result Scanned StartFault = Err (BadStore w.name) in r ≡ Ok s) = is
     in cc)
 
+by_name : (w : Wanted) (store : Option (List ℕ)) (image : Image) (s : Scanned)
+    → scan_by w store image ≡ Ok s
+    → s.name ≡ w.name
+by_name w None image s is =
+    let same : (let r : Result Scanned StartFault = Ok
+    (record { name = w.name; chunk = w.chunk; exceptions = [] }) in r ≡ Ok s) = is in
+    let e : (record { name = w.name; chunk = w.chunk; exceptions = [] }) ≡ s = cc in
+    sym (ap (λ (x : Scanned). x.name) e)
+by_name w (Some store) image s is =
+    taken_name w (scan_of w.chunk store (length w.base) image) s is
+
 scan_name : (w : Wanted) (image : Image) (s : Scanned) → scan_at w image ≡ Ok s → s.name ≡ w.name
 unfolding scan_at
-scan_name w image s is = taken_name w (scan_of w.chunk w.store (length w.base) image) s is
+scan_name w image s is = by_name w w.store image s is
 
--- a status whose store was read is of a partition with a store
-pub record IsStoredBy (slot : ℕ) (l : Layout) (st : PartStatus) : Type 0 where
-  pub part : PartOfLayout
-  pub store : PartOfLayout
-  pub part_is : first_named st.name (own_parts slot l.parts) ≡ Some part
-  pub store_is : first_named (store_of st.name) l.parts ≡ Some store
-
-pub record WantedOf (slot : ℕ) (l : Layout) (st : PartStatus) : Type 0 where
+-- a status whose image was read is of one of the slot's partitions
+pub record IsWanted (name : List ℕ) (p : Option PartOfLayout) (r : Result Wanted StartFault) :
+    Type 0 where
   pub wanted : Wanted
-  pub is : wanted_of slot l st ≡ Ok wanted
-  pub name : wanted.name ≡ st.name
+  pub is : r ≡ Ok wanted
+  pub named : wanted.name ≡ name
+  pub part : PartOfLayout
+  pub found : p ≡ Some part
 
-wanted_some : (first : ℕ) (st : PartStatus) (p q : Option PartOfLayout)
-    (ws : List (Result Wanted StartFault))
+no_reading : (name : List ℕ) (ss : List Scanned)
+    → (let r : Result (List Scanned) StartFault = Err (BadStore name) in r ≡ Ok ss)
+    → ⊥
+no_reading name ss is = cc
+
+wanted_some : (may : Bool) (first : ℕ) (name : List ℕ) (x : StatusImage)
+    (p q : Option PartOfLayout) (ws : List (Result Wanted StartFault))
     (image : Image) (ss : List Scanned)
-    → scans_in (wanted_by first st p q ∷ ws) image ≡ Ok ss
-    → (w : Wanted) × (wanted_by first st p q ≡ Ok w) × (w.name ≡ st.name)
-wanted_some first st None q ws image ss is =
-    absurd (let bad : (let r : Result (List Scanned) StartFault = Err (BadStore st.name) in r ≡ Ok
-    ss) = is in cc)
-wanted_some first st (Some p) None ws image ss is =
-    absurd (let bad : (let r : Result (List Scanned) StartFault = Err (BadStore st.name) in r ≡ Ok
-    ss) = is in cc)
-wanted_some first st (Some p) (Some q) ws image ss is = (_, refl, refl)
+    → scans_in (image_wanted may first name x p q ∷ ws) image ≡ Ok ss
+    → IsWanted name p (image_wanted may first name x p q)
+wanted_some may first name InPlace None q ws image ss is = absurd (no_reading name ss is)
+wanted_some may first name InPlace (Some p) (Some q) ws image ss is =
+    absurd (no_reading name ss is)
+wanted_some true first name InPlace (Some p) None ws image ss is =
+    record { wanted = _; is = refl; named = refl; part = p; found = refl }
+wanted_some false first name InPlace (Some p) None ws image ss is =
+    absurd (no_reading name ss is)
+wanted_some may first name (Stored count k) None q ws image ss is =
+    absurd (no_reading name ss is)
+wanted_some may first name (Stored count k) (Some p) None ws image ss is =
+    absurd (no_reading name ss is)
+wanted_some may first name (Stored count k) (Some p) (Some q) ws image ss is =
+    record { wanted = _; is = refl; named = refl; part = p; found = refl }
 
--- where no store of a name was read, no status has it
-pub unread_unnamed : (name : List ℕ) (slot : ℕ) (l : Layout) (sts : List PartStatus) (image : Image)
-    (ss : List Scanned)
-    → scans_in (map (wanted_of slot l) sts) image ≡ Ok ss
-    → scanned_named name ss ≡ None
-    → status_named name sts ≡ None
-unread_unnamed name slot l [] image ss is none = refl
-unread_unnamed name slot l (st ∷ sts) image ss is none =
-    let w = wanted_some l.device.first_logical_sector st
+-- the first status of which an image was read, and those behind it
+pub record FirstRead (may : Bool) (slot : ℕ) (l : Layout) (st : PartStatus)
+    (sts : List PartStatus) (image : Image) (ss : List Scanned) : Type 0 where
+  pub part : PartOfLayout
+  pub found : first_named st.name (own_parts slot l.parts) ≡ Some part
+  pub one : Scanned
+  pub named : one.name ≡ st.name
+  pub rest : List Scanned
+  pub behind : scans_in (map (wanted_of may slot l) sts) image ≡ Ok rest
+  pub whole : one ∷ rest ≡ ss
+
+pub first_read : (may : Bool) (slot : ℕ) (l : Layout) (st : PartStatus)
+    (sts : List PartStatus) (image : Image) (ss : List Scanned)
+    → scans_in (map (wanted_of may slot l) (st ∷ sts)) image ≡ Ok ss
+    → FirstRead may slot l st sts image ss
+first_read may slot l st sts image ss is =
+    let w = wanted_some may l.device.first_logical_sector st.name st.image
     (first_named st.name (own_parts slot l.parts))
-    (first_named (store_of st.name) l.parts) (map (wanted_of slot l) sts) image ss is in
-    let made : wanted_of slot l st ≡ Ok w.0 = w.1 in
-    let reading : scans_in (Ok w.0 ∷ map (wanted_of slot l) sts) image ≡ Ok ss =
-    sym (ap (λ (x : Result Wanted StartFault). scans_in (x ∷ map (wanted_of slot l) sts) image)
+    (first_named (store_of st.name) l.parts) (map (wanted_of may slot l) sts) image ss is in
+    let made : wanted_of may slot l st ≡ Ok w.wanted = w.is in
+    let reading : scans_in (Ok w.wanted ∷ map (wanted_of may slot l) sts) image ≡ Ok ss =
+    sym
+    (ap (λ (x : Result Wanted StartFault). scans_in (x ∷ map (wanted_of may slot l) sts) image)
     made)
     ∙ is in
-    let one = bound (scan_at w.0 image)
-    (λ s. scans_in (map (wanted_of slot l) sts) image >>= λ rest. Ok (s ∷ rest)) ss reading in
-    let more = bound (scans_in (map (wanted_of slot l) sts) image) (λ rest. Ok (one.0 ∷ rest)) ss
-    one.2 in
-    let whole : Ok (one.0 ∷ more.0) ≡ Ok ss = more.2 in
-    let same : one.0 ∷ more.0 ≡ ss = cc in
-    let named : one.0.name ≡ st.name = scan_name w.0 image one.0 one.1 ∙ w.2 in
-    let t = test_none (bytes_eq one.0.name name) one.0 (scanned_named name more.0)
-    (ap (scanned_named name) same ∙ none) in
+    let one = bound (scan_at w.wanted image)
+    (λ s. scans_in (map (wanted_of may slot l) sts) image >>= λ rest. Ok (s ∷ rest)) ss reading in
+    let more = bound (scans_in (map (wanted_of may slot l) sts) image)
+    (λ rest. Ok (one.0 ∷ rest)) ss one.2 in
+    let all : Ok (one.0 ∷ more.0) ≡ Ok ss = more.2 in
+    record {
+      part = w.part;
+      found = w.found;
+      one = one.0;
+      named = scan_name w.wanted image one.0 one.1 ∙ w.named;
+      rest = more.0;
+      behind = more.1;
+      whole = cc;
+    }
+
+-- where no image of a name was read, no status has it
+pub unread_unnamed : (may : Bool) (name : List ℕ) (slot : ℕ) (l : Layout)
+    (sts : List PartStatus) (image : Image) (ss : List Scanned)
+    → scans_in (map (wanted_of may slot l) sts) image ≡ Ok ss
+    → scanned_named name ss ≡ None
+    → status_named name sts ≡ None
+unread_unnamed may name slot l [] image ss is none = refl
+unread_unnamed may name slot l (st ∷ sts) image ss is none =
+    let f = first_read may slot l st sts image ss is in
+    let t = test_none (bytes_eq f.one.name name) f.one (scanned_named name f.rest)
+    (ap (scanned_named name) f.whole ∙ none) in
     let other : bytes_eq st.name name ≡ false =
-    ap (λ (n : List ℕ). bytes_eq n name) (sym named) ∙ t.0 in
-    rw other (unread_unnamed name slot l sts image more.0 more.1 t.1)
+    ap (λ (n : List ℕ). bytes_eq n name) (sym f.named) ∙ t.0 in
+    rw other (unread_unnamed may name slot l sts image f.rest f.behind t.1)
+
+-- each status is of one of the slot's partitions
+pub statuses_own : (may : Bool) (slot : ℕ) (l : Layout) (sts : List PartStatus) (image : Image)
+    (ss : List Scanned)
+    → scans_in (map (wanted_of may slot l) sts) image ≡ Ok ss
+    → All (λ st. IsNamed (own_parts slot l.parts) st.name) sts
+statuses_own may slot l [] image ss is = λ k d lt. absurd (omega (arith, lt))
+statuses_own may slot l (st ∷ sts) image ss is =
+    let f = first_read may slot l st sts image ss is in
+    let found = named_in st.name (own_parts slot l.parts) f.part f.found in
+    All-cons (λ (x : PartStatus). IsNamed (own_parts slot l.parts) x.name) st sts
+    (subst (IsNamed (own_parts slot l.parts)) found.1
+    (named_in_list (own_parts slot l.parts) f.part found.0))
+    (statuses_own may slot l sts image f.rest f.behind)

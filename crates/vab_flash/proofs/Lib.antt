@@ -1,5 +1,6 @@
 pub mod DifferencesLaws
 pub mod FilledLaws
+pub mod FewLaws
 pub mod JoinLaws
 pub mod InstallingLaws
 pub mod ApartLaws
@@ -8,6 +9,11 @@ pub mod GateLaws
 pub mod ChosenLaws
 pub mod PlacedLaws
 pub mod SourceLaws
+pub mod NextLaws
 pub mod ReadyLaws
 pub mod FlashLaws
 pub mod GatedLaws
+pub mod InPlaceLaws
+pub mod FreeLaws
+pub mod SectorLaws
+pub mod BareLaws

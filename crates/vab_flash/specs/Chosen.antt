@@ -1,5 +1,7 @@
--- The planned partition that an image is for, and the bytes that are staged for it.
-use Rattle.std.specs.Prelude.{◌≡◌, ℕ, ◌*◌, ◌≤◌, true, List, [], ◌∷◌, length, slice_index_or}
+-- The planned partition that an image is for, where the image goes, and the bytes that are staged
+-- for it.
+use Rattle.std.specs.Prelude.{◌≡◌, ℕ, ◌*◌, ◌≤◌, Bool, true, false, List, [], ◌∷◌, length}
+use Rattle.std.specs.Prelude.{slice_index_or}
 use Rattle.std.specs.Prelude.{slice_set, All}
 use Rattle.std.specs.Prelude.{position, Option, Some, None, if◌then◌else◌, ◌==◌, ◌<◌}
 use Rattle.std.specs.List.Sorted.{IsStrictlyIncreasing}
@@ -11,13 +13,17 @@ use Rattle.vab_install.specs.Differing.{differing_of}
 use Rattle.vab_exceptions.specs.declared.area.Exception.{Exception}
 use Rattle.vab_names.specs.Names.{is_full, base_of}
 use Rattle.vab_layout.specs.Slots.{other_slot}
+use Rattle.vab_model.specs.declared.state.Plan.{Plan}
 use Rattle.vab_model.specs.declared.state.PlanEntry.{PlanEntry}
+use Rattle.vab_model.specs.Effects.{Effect}
 use Rattle.vab_device.specs.declared.device.Part.{Part}
 use Rattle.vab_device.specs.declared.device.PartImage.{PartImage}
 use Rattle.vab_device.specs.declared.device.PartImage.TheVariants.{Kept, Declared, Written}
 use Rattle.vab_device.specs.declared.device.Device.{Device}
 use Rattle.vab_device.specs.Mounted.{Mounted, entry_on, blocks_there}
-use Rattle.vab_device.specs.Updates.{entry_effect, if_room, differences, source_bytes}
+use Rattle.vab_device.specs.Updates.{entry_effect, in_store, in_place}
+use Rattle.vab_flash.specs.declared.chosen.Destination.{Destination}
+use Rattle.vab_flash.specs.declared.chosen.Destination.TheVariants.{Store, Blocks}
 
 -- the place of the first planned partition of a base name
 abbrev pub place_of : List ℕ → List Part → Option ℕ
@@ -36,18 +42,39 @@ IsUnwritten Kept = Unit {0}
 IsUnwritten Declared = Unit {0}
 IsUnwritten (Written k es) = ⊥
 
--- It has a store, nothing was written to it, and the staged bytes are at most as long as it is.
--- What is left to ask is whether its store has room.
-pub record IsFor (p : Part) (staged : Option (List ℕ)) (bytes : List ℕ) : Type 0 where
-  pub store : List ℕ
-  pub store_is : p.store ≡ Some store
+-- where the image of a partition goes: into its store, or, where the target stands apart and it has
+-- none, into its own blocks
+abbrev pub destination_of : (apart : Bool) → Option (List ℕ) → Option Destination
+destination_of apart (Some store) = Some Store
+destination_of true None = Some Blocks
+destination_of false None = None
+
+-- what an image of these bytes makes of a device there, where the store has so many blocks
+abbrev pub effect_into : Destination
+    → Mounted
+    → (source : ℕ)
+    → Plan
+    → PlanEntry
+    → (store : ℕ)
+    → Chunk
+    → List ℕ
+    → Effect Mounted
+effect_into Store m source plan e store k bytes = in_store m source plan e store k bytes
+effect_into Blocks m source plan e store k bytes = in_place m source plan e bytes
+
+-- Its image goes there, nothing was written to it, and the staged bytes are at most as long as it
+-- is. What is left to ask is whether a store has room.
+pub record IsFor (apart : Bool) (p : Part) (to : Destination) (staged : Option (List ℕ))
+    (bytes : List ℕ) : Type 0 where
+  pub goes : destination_of apart p.store ≡ Some to
   pub unwritten : IsUnwritten p.image
   pub staged_is : staged ≡ Some bytes
   pub small : length bytes ≤ 4096 * length p.map
-  pub effect : (m : Mounted) (source : ℕ) (plan : List PlanEntry) (k : Chunk) (image : Image)
-      → entry_effect m source plan k staged (Some (entry_on image p))
-      ≡ if_room m source plan (entry_on image p) (length store) k bytes
-      (differences k (source_bytes m.state source p.name) bytes (length p.map))
+  pub effect : (m : Mounted) (source : ℕ) (entries : List PlanEntry) (k : Chunk) (image : Image)
+      → entry_effect m source (record { apart = apart; entries = entries }) k staged
+      (Some (entry_on image p))
+      ≡ effect_into to m source (record { apart = apart; entries = entries }) (entry_on image p)
+      (length (blocks_there p.store)) k bytes
 
 -- ---- the source's partition
 
@@ -100,12 +127,12 @@ differing_at k d place image bytes =
     differing_of k (base_of_place d place) image bytes (length (planned_at d place).map)
 
 -- The name is that of the planned partition at this place, and the staged bytes may become its
--- image, where the store has room.
+-- image there, where a store has room.
 pub record IsChosen (d : Device) (name : List ℕ) (staged : Option (List ℕ)) (place : ℕ)
-    (bytes : List ℕ) : Type 0 where
+    (to : Destination) (bytes : List ℕ) : Type 0 where
   pub has : HasPlace d name place
   pub within : place < length (plan_or d.plan)
-  pub fits : IsFor (planned_at d place) staged bytes
+  pub fits : IsFor d.mark.apart (planned_at d place) to staged bytes
 
 -- the blocks of its store
 abbrev pub store_at : Device → ℕ → List ℕ

@@ -1,36 +1,33 @@
 -- What the flash of a partition may write.
-use Rattle.std.specs.Prelude.{◌≡◌, ◌⊎◌, ℕ, if◌then◌else◌, List, [], ◌∷◌, Option, Some, None}
-use Rattle.std.specs.Str.{bytes_eq}
-use Rattle.vab_names.specs.Names.{base_of}
-use Rattle.vab_space.specs.declared.Chunk.{Chunk}
+use Rattle.std.specs.Prelude.{◌≡◌, ◌⊎◌, ℕ, Bool, true, false, List, [], Option, Some, None}
+use Rattle.vab_marks.specs.declared.status.StatusImage.{StatusImage}
 use Rattle.vab_marks.specs.Status.{status_spelling}
 use Rattle.vab_statuses.specs.Statuses.{IsOfStatuses}
 use Rattle.vab_device.specs.declared.device.Part.{Part}
 use Rattle.vab_device.specs.declared.device.Device.{Device}
-use Rattle.vab_device.specs.Mounted.{blocks_there}
 use Rattle.vab_device.specs.Reading.{IsOfBlocks}
-use Rattle.vab_flash.specs.Chosen.{HasPlace}
+use Rattle.vab_flash.specs.Chosen.{HasPlace, planned_at}
 
--- the blocks of the store of the first planned partition of this base name
-abbrev pub store_named : List ℕ → List Part → List ℕ
-store_named base [] = []
-store_named base (p ∷ ps) = if bytes_eq p.name base then blocks_there p.store else store_named base
-    ps
+-- the blocks that the image of a partition goes into, by its store and its own blocks
+abbrev pub blocks_by : (apart : Bool) → Option (List ℕ) → List ℕ → List ℕ
+blocks_by apart (Some store) own = store
+blocks_by true None own = own
+blocks_by false None own = []
 
-abbrev pub store_in : List ℕ → Option (List Part) → List ℕ
-store_in base None = []
-store_in base (Some plan) = store_named base plan
+abbrev pub blocks_for : (apart : Bool) → Part → List ℕ
+blocks_for apart p = blocks_by apart p.store p.map
 
--- A sector of the statuses with the status of this partition, of some count and chunk.
+-- A sector of the statuses with a status of this partition.
 pub record IsStatusOf (name : List ℕ) (s : ℕ) (bytes : List ℕ) : Type 0 where
   pub there : IsOfStatuses s
-  pub count : ℕ
-  pub chunk : Chunk
-  pub is : bytes ≡ status_spelling (record { name = name; count = count; chunk = chunk })
+  pub image : StatusImage
+  pub is : bytes ≡ status_spelling (record { name = name; image = image })
 
--- A sector of the blocks of that partition's store, or one of the statuses with a status of it.
--- Where no partition of this name is planned, nothing is written.
+-- A sector of the blocks of that partition's store, or of its own where it has none and the target
+-- stands apart; or one of the statuses with a status of it. Where no partition of this name is
+-- planned, nothing is written.
 pub record IsOfFlash (d : Device) (name : List ℕ) (s : ℕ) (bytes : List ℕ) : Type 0 where
   pub place : ℕ
   pub has : HasPlace d name place
-  pub writes : IsOfBlocks (store_in (base_of name) d.plan) s ⊎ IsStatusOf name s bytes
+  pub writes : IsOfBlocks (blocks_for d.mark.apart (planned_at d place)) s
+      ⊎ IsStatusOf name s bytes

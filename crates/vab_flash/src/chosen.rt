@@ -1,4 +1,4 @@
-//! Which planned partition the staged bytes are for.
+//! Which planned partition the staged bytes are for, and where they go.
 
 ghost use Rattle.std.specs.Prelude.{◌≡◌, ◌<◌, ◌≤◌, ◌^◌, ℕ, List, length, Option, Some, IfOk, IfErr};
 ghost use Rattle.std.specs.Prelude.{All};
@@ -9,10 +9,11 @@ ghost use Rattle.vab_space.specs.declared.Chunk.{Chunk};
 ghost use Rattle.vab_model.specs.declared.state.PlanEntry.{PlanEntry};
 ghost use Rattle.vab_model.specs.Commands.{Flash};
 ghost use Rattle.vab_model.specs.Effects.{refuses};
+ghost use Rattle.vab_model.specs.Staged.{is_sparse};
 ghost use Rattle.vab_device.specs.Mounted.{Mounted, mounted_on, entry_on};
-ghost use Rattle.vab_device.specs.Updates.{effect_on, entry_effect, is_sparse};
+ghost use Rattle.vab_device.specs.Updates.{effect_on, entry_effect};
 ghost use Rattle.vab_flash.specs.Chosen.{place_of, HasPlace, IsFor, part_named, part_at};
-ghost use Rattle.vab_flash.specs.Chosen.{plan_or, planned_at, IsChosen};
+ghost use Rattle.vab_flash.specs.Chosen.{plan_or, planned_at, destination_of, IsChosen};
 
 use vab_bytes::Listing;
 use vab_device::{Device, Part, PartImage};
@@ -24,6 +25,15 @@ const BLOCK: u64 = 4096;
 
 /// What an Android sparse image begins with.
 const SPARSE: [u8; 4] = [0x3a, 0xff, 0x26, 0xed];
+
+/// Where the image of a partition goes.
+#[derive(Clone, Copy, Debug, PartialEq, Eq)]
+pub enum Destination {
+    /// Into its store, over its blocks.
+    Store,
+    /// Into its own blocks.
+    Blocks,
+}
 
 // The place of the first planned partition of a base name.
 fn place_of(plan: &Listing<Part>, base: &[u8]) -> Option<usize>
@@ -62,20 +72,39 @@ fn is_sparse(bytes: &[u8]) -> bool
     &bytes[..count] == SPARSE.as_slice()
 }
 
-// The bytes for this planned partition, or why they can't become its image.
-fn fit<'a>(entry: &Part, staged: Option<&'a [u8]>) -> Result<&'a [u8], Refusal>
+// Where the image of a partition goes: into its store, or, where the target stands apart and it has
+// none, into its own blocks.
+fn destination_of(entry: &Part, apart: bool) -> Option<Destination>
+    ensures { result ≡ destination_of apart entry.now.store }
+{
+    match (&entry.store, apart) {
+        (Some(_), _) => Some(Destination::Store),
+        (None, true) => Some(Destination::Blocks),
+        (None, false) => None,
+    }
+}
+
+// Where the image of this planned partition goes, and the bytes for it, or why they can't become
+// its image.
+fn fit<'a>(
+    entry: &Part,
+    apart: bool,
+    staged: Option<&'a [u8]>,
+) -> Result<(Destination, &'a [u8]), Refusal>
     requires { length entry.now.map < 2 ^ 48 }
     ensures fits { IfOk result
-        (λ b. IsFor entry.now (option_map (λ s. s.now) staged.entry) b.now) }
-    ensures refused { (m : Mounted) (source : ℕ) (plan : List PlanEntry) (k : Chunk) (image : Image)
+        (λ r. IsFor apart entry.now r.0 (option_map (λ s. s.now) staged.entry) r.1.now) }
+    ensures refused { (m : Mounted) (source : ℕ) (entries : List PlanEntry) (k : Chunk)
+        (image : Image)
         → IfErr result
-        (λ f. entry_effect m source plan k (option_map (λ s. s.now) staged.entry)
-        (Some (entry_on image entry.now))
+        (λ f. entry_effect m source (record { apart = apart; entries = entries }) k
+        (option_map (λ s. s.now) staged.entry) (Some (entry_on image entry.now))
         ≡ refuses f) }
 {
-    if entry.store.is_none() {
-        return Err(Refusal::NoStore);
-    }
+    let destination = match destination_of(entry, apart) {
+        Some(destination) => destination,
+        None => return Err(Refusal::NoStore),
+    };
     if matches!(entry.image, PartImage::Written(..)) {
         return Err(Refusal::Written);
     }
@@ -90,7 +119,7 @@ fn fit<'a>(entry: &Part, staged: Option<&'a [u8]>) -> Result<&'a [u8], Refusal>
     if bytes.len() as u64 > most {
         return Err(Refusal::TooLarge(bytes.len() as u64, most));
     }
-    Ok(bytes)
+    Ok((destination, bytes))
 }
 
 // The first partition of a base name.
@@ -127,25 +156,26 @@ pub fn planned_at(device: &Device, place: usize) -> &Part
     }
 }
 
-/// The place in the plan of the partition that a name names, and the staged bytes for it; or why
-/// there are none. Whether its store has room isn't asked yet. Takes no memory.
+/// The place in the plan of the partition that a name names, where its image goes, and the staged
+/// bytes for it; or why there are none. Whether a store has room isn't asked yet. Takes no memory.
 pub fn choose<'a>(
     device: &Device,
     name: &[u8],
     staged: Option<&'a [u8]>,
-) -> Result<(usize, &'a [u8]), Refusal>
+) -> Result<(usize, Destination, &'a [u8]), Refusal>
     requires slot { device.now.mark.slot < 2 }
     requires small { All (λ p. length p.map ≤ 2 ^ 28) (plan_or device.now.plan) }
     ensures chosen { IfOk result
-        (λ r. IsChosen device.now name.now (option_map (λ s. s.now) staged.entry) r.0 r.1.now) }
+        (λ r. IsChosen device.now name.now (option_map (λ s. s.now) staged.entry) r.0 r.1
+        r.2.now) }
     ensures refused { (image : Image) (k : Chunk) → IfErr result
         (λ f. effect_on (mounted_on device.now image) (option_map (λ s. s.now) staged.entry)
         (Flash name.now k)
         ≡ refuses f) }
 {
     match find(device, name) {
-        Ok(place) => match fit(planned_at(device, place), staged) {
-            Ok(bytes) => Ok((place, bytes)),
+        Ok(place) => match fit(planned_at(device, place), device.mark.apart, staged) {
+            Ok((destination, bytes)) => Ok((place, destination, bytes)),
             Err(refusal) => Err(refusal),
         },
         Err(refusal) => Err(refusal),

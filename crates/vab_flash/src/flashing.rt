@@ -20,15 +20,16 @@ ghost use Rattle.vab_flash.specs.Chosen.{plan_or, planned_at, base_of_place, dif
 ghost use Rattle.vab_flash.specs.Chosen.{store_at, store_long, IsChosen, IsListed};
 ghost use Rattle.vab_flash.specs.Touched.{IsOfFlash};
 
-use crate::chosen::{choose, planned_at};
+use crate::chosen::{Destination, choose, planned_at};
 use crate::found::{find_differing, store_blocks};
+use crate::in_place::flash_in_place;
 use crate::plan::written;
 use std::alloc::Global;
 use vab_device::Device;
 use vab_disk::Disk;
 use vab_gate::DiskFault;
 use vab_install::{Differing, PartFault, write_snapshot};
-use vab_marks::PartStatus;
+use vab_marks::{PartStatus, StatusImage};
 use vab_model::{Refusal, Reply};
 use vab_names::full_name;
 use vab_space::{Chunk, need_at};
@@ -91,7 +92,7 @@ fn store_image<D: Disk>(
 ) -> Result<(Device, Reply), DiskFault>
     requires kept { IsDevice device (D.size d.old) }
     requires represents { D.is_modelled → Represents device (D.size d.old) (D.seen d.old) }
-    requires chosen { IsChosen device name.now (Some bytes.now) place bytes.now }
+    requires chosen { IsChosen device name.now (Some bytes.now) place Destination.Store bytes.now }
     requires listed { IsListed chunk device place olds.now }
     requires exact { D.is_modelled
         → olds.now ≡ differing_at chunk device place (D.seen d.old) bytes.now }
@@ -106,8 +107,10 @@ fn store_image<D: Disk>(
         Ok(view) => {
             let status = PartStatus {
                 name: full_name(&planned_at(&device, place).name, 1 - device.mark.slot),
-                count: view.count(),
-                chunk,
+                image: StatusImage::Stored {
+                    count: view.count(),
+                    chunk,
+                },
             };
             match put_status(d, free, &status) {
                 Ok(()) => Ok((written(device, place, chunk, view), Reply::Done)),
@@ -130,7 +133,7 @@ fn flash_place<D: Disk>(
 ) -> Result<(Device, Reply), DiskFault>
     requires kept { IsDevice device (D.size d.old) }
     requires represents { D.is_modelled → Represents device (D.size d.old) (D.seen d.old) }
-    requires chosen { IsChosen device name.now (Some bytes.now) place bytes.now }
+    requires chosen { IsChosen device name.now (Some bytes.now) place Destination.Store bytes.now }
     requires listed { IsListed chunk device place olds.now }
     requires exact { D.is_modelled
         → olds.now ≡ differing_at chunk device place (D.seen d.old) bytes.now }
@@ -157,7 +160,7 @@ fn flash_found<D: Disk>(
 ) -> Result<(Device, Reply), DiskFault>
     requires kept { IsDevice device (D.size d.old) }
     requires represents { D.is_modelled → Represents device (D.size d.old) (D.seen d.old) }
-    requires chosen { IsChosen device name.now (Some bytes.now) place bytes.now }
+    requires chosen { IsChosen device name.now (Some bytes.now) place Destination.Store bytes.now }
     requires count { D.is_modelled
         → found.count ≡ length (differing_at chunk device place (D.seen d.old) bytes.now) }
     requires most { found.count ≤ 2 ^ 28 }
@@ -182,12 +185,35 @@ fn flash_found<D: Disk>(
     }
 }
 
-/// The staged bytes become the image of the target's partition of this whole name: its store gets
-/// the chunks that differ from the source's partition of the base name, and behind a sync its
-/// status a free sector. Behind the bytes there are zeros up to the end of the last chunk.
-/// Refused in this order: `NotInstalling`, `BadName`, `Unknown`, `NoStore`, `Written`,
-/// `NothingStaged`, `Sparse`, `TooLarge`, `StoreFull`. `NoMemory` comes in place of `Done` alone,
-/// and before anything is written.
+// The staged bytes become the image of the planned partition at a place, in its store.
+fn flash_in_store<D: Disk>(
+    alloc: Global,
+    d: &mut D,
+    device: Device,
+    name: &[u8],
+    place: usize,
+    bytes: &[u8],
+    chunk: Chunk,
+) -> Result<(Device, Reply), DiskFault>
+    requires kept { IsDevice device (D.size d.old) }
+    requires represents { D.is_modelled → Represents device (D.size d.old) (D.seen d.old) }
+    requires chosen { IsChosen device name.now (Some bytes.now) place Destination.Store bytes.now }
+    ensures { Does D.Disk device (Some bytes.now) (Flash name.now chunk)
+        (IsOfFlash device name.now) d.old d.new result }
+{
+    match find_differing(alloc, d, &device, place, bytes, chunk) {
+        Ok(found) => flash_found(alloc, d, device, name, place, bytes, found, chunk),
+        Err(fault) => Err(fault),
+    }
+}
+
+/// The staged bytes become the image of the target's partition of this whole name. Its store gets
+/// the chunks that differ from the source's partition of the base name, or, where the target stands
+/// apart and there is no store, its own blocks get all bytes; and behind a sync its status a free
+/// sector. Behind the bytes there are zeros up to the end of the last chunk. Refused in this order:
+/// `NotInstalling`, `BadName`, `Unknown`, `NoStore`, `Written`, `NothingStaged`, `Sparse`,
+/// `TooLarge`, `StoreFull`. `NoMemory` comes in place of `Done` alone, and before anything is
+/// written; into a partition's own blocks it never comes.
 pub fn flash<D: Disk>(
     alloc: Global,
     d: &mut D,
@@ -203,9 +229,11 @@ pub fn flash<D: Disk>(
 {
     match choose(&device, name, staged) {
         Err(refusal) => Ok((device, Reply::Refused(refusal))),
-        Ok((place, bytes)) => match find_differing(alloc, d, &device, place, bytes, chunk) {
-            Ok(found) => flash_found(alloc, d, device, name, place, bytes, found, chunk),
-            Err(fault) => Err(fault),
-        },
+        Ok((place, Destination::Store, bytes)) => {
+            flash_in_store(alloc, d, device, name, place, bytes, chunk)
+        }
+        Ok((place, Destination::Blocks, bytes)) => {
+            flash_in_place(alloc, d, device, name, place, bytes)
+        }
     }
 }

@@ -4,6 +4,7 @@
 mod chosen;
 mod flashing;
 mod found;
+mod in_place;
 mod plan;
 
 pub use flashing::flash;

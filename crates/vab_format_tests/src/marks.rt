@@ -3,8 +3,8 @@
 use std::test::*;
 use vab_bytes::{Name36, crc32, put_le32};
 use vab_marks::{
-    MarkFault, MarkPhase, MarkVersion, PartStatus, UpdateMark, decode_mark, decode_status,
-    encode_mark, encode_status,
+    MarkFault, MarkPhase, MarkVersion, PartStatus, StatusImage, UpdateMark, decode_mark,
+    decode_status, encode_mark, encode_status,
 };
 use vab_space::Chunk;
 
@@ -22,32 +22,48 @@ fn is_sector(bytes: &[u8; 512], front: &[u8], sum: [u8; 4]) -> bool {
         && bytes.ends_with(&sum)
 }
 
-// Whether the mark of this phase has this byte, and is read again.
-fn has_byte(phase: MarkPhase, byte: u8) -> bool {
-    let mark = UpdateMark { phase, slot: 0 };
-    let bytes = encode_mark(&mark);
-    bytes[5] == byte && decode_mark(&bytes) == Ok(mark)
-}
+// Slot a's mark without an update.
+const IDLE: UpdateMark = UpdateMark {
+    phase: MarkPhase::Idle,
+    slot: 0,
+    apart: false,
+};
 
 #[test]
 fn marks_as_bytes(rt: HostRuntime) {
     let mark = UpdateMark {
         phase: MarkPhase::Merging,
         slot: 1,
+        apart: false,
     };
     let bytes = encode_mark(&mark);
     let sum = [0x0c, 0x0b, 0x94, 0xb3];
     assert!(rt; is_sector(&bytes, b"VABU\x02\x03\x01\0", sum));
     assert!(rt; decode_mark(&bytes) == Ok(mark));
-    for (byte, phase) in [
-        (0, MarkPhase::Idle),
-        (1, MarkPhase::Installing),
-        (2, MarkPhase::Staged),
-        (3, MarkPhase::Merging),
-        (4, MarkPhase::Completed),
+    let front = |phase: u8| [b'V', b'A', b'B', b'U', 2, phase, 0, 0];
+    for (byte, phase, apart) in [
+        (0, MarkPhase::Idle, false),
+        (1, MarkPhase::Installing, false),
+        (2, MarkPhase::Staged, false),
+        (3, MarkPhase::Merging, false),
+        (4, MarkPhase::Completed, false),
+        (5, MarkPhase::Installing, true),
+        (6, MarkPhase::Staged, true),
     ] {
-        assert!(rt; has_byte(phase, byte), "{byte}");
+        let mut bytes = [0; 512];
+        bytes[..8].copy_from_slice(&front(byte));
+        put_sum(&mut bytes);
+        let mark = UpdateMark {
+            phase,
+            slot: 0,
+            apart,
+        };
+        assert!(rt; decode_mark(&bytes) == Ok(mark), "{byte}");
     }
+    let ready = IDLE.begun(true).with_phase(MarkPhase::Staged);
+    assert!(rt; ready.apart && ready.phase == MarkPhase::Staged);
+    assert!(rt; !ready.with_phase(MarkPhase::Merging).apart);
+    assert!(rt; !IDLE.begun(false).apart);
 }
 
 #[test]
@@ -55,6 +71,7 @@ fn a_mark_of_version_1_is_read(rt: HostRuntime) {
     let mark = UpdateMark {
         phase: MarkPhase::Merging,
         slot: 1,
+        apart: false,
     };
     let mut bytes = [0u8; 512];
     bytes[..8].copy_from_slice(b"VABU\x01\x03\x01\0");
@@ -67,10 +84,7 @@ fn a_mark_of_version_1_is_read(rt: HostRuntime) {
 
 // The fault of an idle mark with these bytes in these places, and then its sum or not.
 fn fault_of(changes: &[(usize, u8)], summed: bool) -> Option<MarkFault> {
-    let mut bytes = encode_mark(&UpdateMark {
-        phase: MarkPhase::Idle,
-        slot: 0,
-    });
+    let mut bytes = encode_mark(&IDLE);
     for (at, byte) in changes {
         if *at < 512 {
             bytes[*at] = *byte;
@@ -90,7 +104,7 @@ fn faults_of_a_mark_in_their_order(rt: HostRuntime) {
         (&[(6, 2), (4, 0)], false, MarkFault::BadVersion),
         (&[(6, 2), (4, 3)], false, MarkFault::BadVersion),
         (&[(6, 2), (4, 3), (3, b'S')], false, MarkFault::BadMagic),
-        (&[(5, 5)], true, MarkFault::BadField),
+        (&[(5, 7)], true, MarkFault::BadField),
         (&[(507, 1)], true, MarkFault::BadField),
     ] {
         assert!(rt; fault_of(changes, summed) == Some(fault), "{fault:?}");
@@ -101,8 +115,10 @@ fn faults_of_a_mark_in_their_order(rt: HostRuntime) {
 fn statuses_as_bytes(rt: HostRuntime) -> Result<(), Fail> {
     let status = PartStatus {
         name: Name36::parse(b"system_b").ok().ok_or("a name")?,
-        count: 258,
-        chunk: Chunk::One,
+        image: StatusImage::Stored {
+            count: 258,
+            chunk: Chunk::One,
+        },
     };
     let bytes = encode_status(&status);
     let front = b"VABS\x01\x01\x08\0system_b\0\0\0\0\0\0\0\0\0\0\0\0\0\0\
@@ -111,10 +127,48 @@ fn statuses_as_bytes(rt: HostRuntime) -> Result<(), Fail> {
     assert!(rt; decode_status(&bytes) == Ok(status));
     assert!(rt; decode_status(&[0; 512]) == Err(MarkFault::BadMagic));
     for (chunk, sectors) in [(Chunk::Two, 16), (Chunk::Four, 32)] {
-        let other = PartStatus { chunk, ..status };
+        let image = StatusImage::Stored { count: 258, chunk };
+        let other = PartStatus { image, ..status };
         let bytes = encode_status(&other);
         assert!(rt; bytes[6..8] == [sectors, 0][..]);
         assert!(rt; decode_status(&bytes) == Ok(other));
+    }
+    Ok(())
+}
+
+// The status of a partition whose image is in place.
+fn placed() -> Result<PartStatus, Fail> {
+    Ok(PartStatus {
+        name: Name36::parse(b"system_b").ok().ok_or("a name")?,
+        image: StatusImage::InPlace,
+    })
+}
+
+#[test]
+fn a_status_in_place_as_bytes(rt: HostRuntime) -> Result<(), Fail> {
+    let status = placed()?;
+    let bytes = encode_status(&status);
+    let sum = [0xb9, 0x31, 0x23, 0x32];
+    assert!(rt; is_sector(&bytes, b"VABS\x01\x02\x08\0system_b", sum));
+    assert!(rt; decode_status(&bytes) == Ok(status));
+    assert!(rt; status.image.count() == 0);
+    // It has chunks of eight sectors and no exceptions, and no other state is named.
+    for (at, byte, fault) in [
+        (6, 16, Some(MarkFault::BadField)),
+        (6, 32, Some(MarkFault::BadField)),
+        (44, 1, Some(MarkFault::BadField)),
+        (51, 1, Some(MarkFault::BadField)),
+        (52, 1, Some(MarkFault::BadField)),
+        (5, 0, Some(MarkFault::BadField)),
+        (5, 3, Some(MarkFault::BadField)),
+        (5, 1, None),
+    ] {
+        let mut other = bytes;
+        if at < 508 {
+            other[at] = byte;
+        }
+        put_sum(&mut other);
+        assert!(rt; decode_status(&other).err() == fault, "{at}: {byte}");
     }
     Ok(())
 }

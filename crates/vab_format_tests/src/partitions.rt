@@ -185,6 +185,30 @@ const STORE_FIRST: Sample = Sample {
     groups: &TARGET_GROUPS,
 };
 
+// `vendor` of `b` has blocks of no partition of the source, and `system` none.
+const APART: Sample = Sample {
+    partitions: &[
+        (b"system_a", [0, 0, 1, 1]),
+        (b"vendor_a", [0, 1, 1, 1]),
+        (b"system_b", [4, 2, 0, 2]),
+        (b"vendor_b", [4, 2, 2, 2]),
+    ],
+    extents: &[[32, 2048], [16, 2080], [16, 2128], [8, 2152]],
+    groups: &TARGET_GROUPS,
+};
+
+// `vendor` isn't marked as updated, and has the source's blocks.
+const APART_UNMARKED: Sample = Sample {
+    partitions: &[
+        (b"system_a", [0, 0, 1, 1]),
+        (b"vendor_a", [0, 1, 1, 1]),
+        (b"system_b", [4, 2, 1, 2]),
+        (b"vendor_b", [0, 3, 0, 2]),
+    ],
+    extents: &[[32, 2048], [16, 2080], [16, 2128]],
+    groups: &TARGET_GROUPS,
+};
+
 // The partitions, the extents, the groups, and a device of 256 blocks that begins at sector 2048.
 fn entries(alloc: Global, sample: &Sample) -> Result<Vec<u8>, Fail> {
     let mut out = Vec::new(alloc);
@@ -263,11 +287,15 @@ fn a_partition_too_many_is_bad(rt: HostRuntime) -> Result<(), Fail> {
     Ok(())
 }
 
-// The name of the bad partition or store of slot b beside slot a, or nothing where none is bad.
-fn bad_beside(alloc: Global, sample: &Sample) -> Result<Vec<u8>, Fail> {
+// The name of the bad partition or store of slot b beside slot a, or apart from it, or nothing
+// where none is bad.
+fn bad_beside(alloc: Global, sample: &Sample, apart: bool) -> Result<Vec<u8>, Fail> {
     let table = table(alloc, sample)?;
     match bad_partition(alloc, &table, 0, MAX_PARTITIONS)? {
-        None => text_of_found(alloc, bad_target(alloc, &table, &table, 1, MAX_PARTITIONS)?),
+        None => text_of_found(
+            alloc,
+            bad_target(alloc, &table, &table, 1, MAX_PARTITIONS, apart)?,
+        ),
         Some(_) => Err("the source is good".into()),
     }
 }
@@ -278,21 +306,35 @@ fn bad_merged(alloc: Global, sample: &Sample) -> Result<Vec<u8>, Fail> {
     text_of_found(alloc, bad_merging(alloc, &table, 1, MAX_PARTITIONS)?)
 }
 
-// Each sample with the bad one of slot b beside its source, and that of slot b alone, to which a
-// block of the source and an unmarked partition are no matter.
-const TARGETS: [(&Sample, [&[u8]; 2]); 6] = [
-    (&TARGET, [b"", b""]),
-    (&SOURCE_BLOCK, [b"vendor_b", b""]),
-    (&UNMARKED, [b"system_b", b""]),
-    (&STORE_GROUP, [b"vendor_b-cow", b"vendor_b-cow"]),
-    (&ORPHAN, [b"other_b-cow", b"other_b-cow"]),
-    (&STORE_FIRST, [b"vendor_b", b"vendor_b"]),
+// Each sample with the bad one of slot b beside its source, that of slot b alone, to which a block
+// of the source and an unmarked partition are no matter, and that of slot b apart from its source,
+// of which it may have no block.
+const TARGETS: [(&Sample, [&[u8]; 3]); 8] = [
+    (&TARGET, [b"", b"", b"system_b"]),
+    (&SOURCE_BLOCK, [b"vendor_b", b"", b"system_b"]),
+    (&UNMARKED, [b"system_b", b"", b"system_b"]),
+    (
+        &STORE_GROUP,
+        [b"vendor_b-cow", b"vendor_b-cow", b"system_b"],
+    ),
+    (&ORPHAN, [b"other_b-cow", b"other_b-cow", b"system_b"]),
+    (&STORE_FIRST, [b"vendor_b", b"vendor_b", b"system_b"]),
+    (&APART, [b"vendor_b", b"", b""]),
+    (&APART_UNMARKED, [b"system_b", b"", b"vendor_b"]),
 ];
 
 #[test]
 fn the_first_bad_one_of_a_target_is_named(rt: HostRuntime) -> Result<(), Fail> {
     for (sample, bad) in TARGETS {
-        assert!(rt; bad_beside(rt.alloc(), sample)?.as_slice() == bad[0]);
+        assert!(rt; bad_beside(rt.alloc(), sample, false)?.as_slice() == bad[0]);
+    }
+    Ok(())
+}
+
+#[test]
+fn the_first_bad_one_of_a_target_apart_is_named(rt: HostRuntime) -> Result<(), Fail> {
+    for (sample, bad) in TARGETS {
+        assert!(rt; bad_beside(rt.alloc(), sample, true)?.as_slice() == bad[2]);
     }
     Ok(())
 }

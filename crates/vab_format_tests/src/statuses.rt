@@ -3,16 +3,20 @@
 use std::test::*;
 use vab_bytes::Name36;
 use vab_disk::{Disk, MemPort};
-use vab_marks::{MarkVersion, PartStatus};
+use vab_marks::{MarkVersion, PartStatus, StatusImage};
 use vab_space::Chunk;
-use vab_statuses::{StatusFault, Statuses, clear_statuses, first_free, put_status, read_statuses};
+use vab_statuses::{
+    StatusFault, Statuses, clear_statuses, first_free, free_or_last, put_status, read_statuses,
+};
 
 fn status(name: &[u8], count: u64) -> Result<PartStatus, Fail> {
     let name = Name36::parse(name).ok().ok_or("a name is parsed")?;
     Ok(PartStatus {
         name,
-        count,
-        chunk: Chunk::One,
+        image: StatusImage::Stored {
+            count,
+            chunk: Chunk::One,
+        },
     })
 }
 
@@ -104,5 +108,27 @@ fn version_1_has_the_first_32_statuses(rt: HostRuntime) -> Result<(), Fail> {
         .map_err(|_| Fail::from("statuses"))?;
     assert!(rt; statuses.as_slice().len() == 64);
     assert!(rt; statuses.as_slice().first() == Some(&Some(system)));
+    Ok(())
+}
+
+// The sector for the next status, where the disk has them.
+fn next<D: Disk>(d: &mut D) -> Option<u64> {
+    if d.sectors() < 2113 {
+        return None;
+    }
+    free_or_last(d).ok()
+}
+
+#[test]
+fn where_no_sector_is_free_it_is_the_last(rt: HostRuntime) -> Result<(), Fail> {
+    let port = MemPort::new(rt.alloc(), 2113, Vec::new(rt.alloc()));
+    let mut d = port.ok().ok_or("there is memory for a disk")?;
+    assert!(rt; next(&mut d) == Some(2049));
+    for at in 2049..2113 {
+        assert!(rt; write(&mut d, at, &[1; 512]));
+    }
+    assert!(rt; next(&mut d) == Some(2112));
+    assert!(rt; write(&mut d, 2100, &[0; 512]));
+    assert!(rt; next(&mut d) == Some(2100));
     Ok(())
 }

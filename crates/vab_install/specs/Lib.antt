@@ -4,3 +4,4 @@ pub mod Differing
 pub mod Pushed
 pub mod Counts
 pub mod Snapshot
+pub mod InPlace

@@ -50,22 +50,30 @@ blocks_named name (p ∷ ps) = if bytes_eq p.name name then p.blocks else blocks
 abbrev pub before_of : ℕ → List Part → List ℕ → List ℕ
 before_of slot source name = blocks_named (in_slot (other_slot slot) name) source
 
+-- the partitions of the source whose blocks an update's partitions of the same base name begin
+-- with: all of them, or none where the update stands apart
+abbrev pub twins_by : (apart : Bool) → List Part → List Part
+twins_by apart source = if apart then [] else source
+
 -- the partition is marked as updated
 abbrev pub is_updated : Part → Bool
 is_updated p = not (bit_and p.attributes 4 == 0)
 
--- A partition of the target: it begins with blocks of the source's partition of the same base name,
--- all that there are or as
--- many as it has, and its other blocks are no block of the source. Where it isn't marked as updated
--- it has the source's blocks and no store.
-pub record IsTargetPart (slot : ℕ) (source target : List Part) (p : Part) : Type 0 where
-  pub begins : take (length (before_of slot source p.name)) p.blocks
-      ≡ take (length p.blocks) (before_of slot source p.name)
+-- A partition of the target: it begins with blocks of its twin, the partition of the same base name
+-- among these of the source, all that there are or as many as it has, and its other blocks are no
+-- block of the source. Where it isn't marked as updated it has its twin's blocks and no store.
+pub record IsTargetPartBeside (slot : ℕ) (twins source target : List Part) (p : Part) : Type 0 where
+  pub begins : take (length (before_of slot twins p.name)) p.blocks
+      ≡ take (length p.blocks) (before_of slot twins p.name)
   pub fresh : All (λ b. Contains (blocks_of_parts (own_parts (other_slot slot) source)) b
-      → ⊥) (drop (length (before_of slot source p.name)) p.blocks)
+      → ⊥) (drop (length (before_of slot twins p.name)) p.blocks)
   pub kept : IsTrue (is_updated p)
-      ⊎ (Any (λ s. s.name ≡ in_slot (other_slot slot) p.name) source
-      × (p.blocks ≡ before_of slot source p.name) × All (λ s. s.name ≢ store_of p.name) target)
+      ⊎ (Any (λ s. s.name ≡ in_slot (other_slot slot) p.name) twins
+      × (p.blocks ≡ before_of slot twins p.name) × All (λ s. s.name ≢ store_of p.name) target)
+
+-- the same, where each partition of the source may be a twin
+abbrev pub IsTargetPart : (slot : ℕ) → (source target : List Part) → Part → Type 0
+IsTargetPart slot source target = IsTargetPartBeside slot source source target
 
 -- a store: it is one of a partition of the target that is marked as updated, stands in the stores'
 -- group, and has no block of the source
@@ -76,13 +84,17 @@ pub record IsStorePart (slot : ℕ) (source target : List Part) (s : Part) : Typ
   pub apart : All (λ b. Contains (blocks_of_parts (own_parts (other_slot slot) source)) b
       → ⊥) s.blocks
 
--- The target of an update from the other slot: no block stands twice in its partitions and their
--- stores.
-pub record IsTarget (slot : ℕ) (source target : List Part) : Type 0 where
+-- The target of an update from the other slot, with these twins: no block stands twice in its
+-- partitions and their stores.
+pub record IsTargetBeside (slot : ℕ) (twins source target : List Part) : Type 0 where
   pub own : IsOwn slot target
-  pub each : All (IsTargetPart slot source target) (own_parts slot target)
+  pub each : All (IsTargetPartBeside slot twins source target) (own_parts slot target)
   pub stores : All (IsStorePart slot source target) (store_parts slot target)
   pub once : IsDistinct (blocks_of_parts (own_parts slot target ++ store_parts slot target))
+
+-- the same, where each partition of the source may be a twin
+abbrev pub IsTarget : (slot : ℕ) → (source target : List Part) → Type 0
+IsTarget slot source target = IsTargetBeside slot source source target
 
 -- the groups of a slot, each with its limit
 abbrev pub groups_of_slot : ℕ → List Group → List (List ℕ × ℕ)

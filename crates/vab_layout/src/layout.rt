@@ -1,5 +1,8 @@
 //! Partitions as lists of blocks.
 
+ghost use Rattle.std.specs.Prelude.{◌≡◌};
+ghost use Rattle.vab_layout.specs.Slots.{twins_by};
+
 use vab_blocks::Blocks;
 use vab_bytes::{Listing, Name36};
 use vab_tables::{BlockDevice, Group};
@@ -28,4 +31,15 @@ pub struct Layout {
     pub device: BlockDevice,
     /// 1: a device with Virtual A/B.
     pub flags: u32,
+}
+
+impl Layout {
+    /// The partitions of a source that those of an update's target may share blocks with: all of
+    /// them, or none where the update stands `apart`.
+    pub fn twins(&self, apart: bool) -> &[Part]
+        ensures { result.now ≡ twins_by apart self.now.parts }
+    {
+        let parts = self.parts.as_slice();
+        if apart { &parts[..0] } else { parts }
+    }
 }

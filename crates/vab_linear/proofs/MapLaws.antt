@@ -34,6 +34,12 @@ pub blocks_of-one : (run : ℕ × ℕ) → blocks_of (run ∷ []) ≡ run_of run
 blocks_of-one run = blocks_of-cons run [] ∙ ap (λ (l : List ℕ). run_of run.0 (run.1 / 8) ++ l)
     blocks_of-nil ∙ append-nil (run_of run.0 (run.1 / 8))
 
+-- a run of whole blocks
+pub one_run : (first blocks : ℕ) → blocks_of ((first, 8 * blocks) ∷ []) ≡ run_of first blocks
+one_run first blocks =
+    let whole : (8 * blocks) / 8 ≡ blocks = omega arith in
+    blocks_of-one (first, 8 * blocks) ∙ ap (run_of first) whole
+
 pub blocks_of-append : (xs ys : List (ℕ × ℕ)) → blocks_of (xs ++ ys) ≡ blocks_of xs ++ blocks_of ys
 blocks_of-append [] ys = rw blocks_of-nil refl
 blocks_of-append (x ∷ xs) ys =

@@ -1,6 +1,7 @@
 // Which sector each block of a partition begins at.
-ghost use Rattle.std.specs.Prelude.{◌≡◌, ◌<◌, ◌+◌, ◌^◌, length, slice_index, sum_by, All, IfOk};
-ghost use Rattle.vab_linear.specs.Map.{blocks_of};
+ghost use Rattle.std.specs.Prelude.{◌≡◌, ◌<◌, ◌+◌, ◌*◌, ◌^◌, length, slice_index, sum_by, All};
+ghost use Rattle.std.specs.Prelude.{IfOk};
+ghost use Rattle.vab_linear.specs.Map.{blocks_of, run_of};
 
 use std::alloc::Global;
 use std::marker::Model;
@@ -54,6 +55,14 @@ impl Map {
             count += blocks;
         }
         Ok(Map { runs: held, count })
+    }
+
+    /// The blocks that stand one behind another from this sector on, so many of them.
+    pub fn physical(alloc: Global, first: u64, blocks: u64) -> Result<Map, NoMemory>
+        requires { first + 8 * blocks < 2 ^ 63 }
+        ensures { IfOk result (λ m. m ≡ run_of first blocks) }
+    {
+        Map::new(alloc, &[(first, SECTORS_OF_A_BLOCK * blocks)])
     }
 
     /// How many blocks there are.

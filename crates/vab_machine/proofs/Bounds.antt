@@ -16,10 +16,11 @@ use Rattle.vab_model.specs.declared.state.Image.{Image}
 use Rattle.vab_model.specs.declared.state.PlanImage.{PlanImage}
 use Rattle.vab_model.specs.declared.state.PlanImage.TheVariants.{Kept, Declared, Written}
 use Rattle.vab_model.specs.declared.state.PlanEntry.{PlanEntry}
+use Rattle.vab_model.specs.declared.state.Plan.{Plan}
 use Rattle.vab_model.specs.declared.state.State.{State}
-use Rattle.vab_machine.specs.Plans.{blocks_in, want_of, in_use, same_group}
-use Rattle.vab_machine.specs.Plans.{group_bytes, listed, images_of}
-use Rattle.vab_machine.specs.Machine.{exceptions_of, exceptions_in}
+use Rattle.vab_model.specs.Plans.{blocks_in, want_of, in_use, same_group}
+use Rattle.vab_model.specs.Plans.{group_bytes, listed, images_of, twins_of}
+use Rattle.vab_model.specs.Machine.{exceptions_of, exceptions_in}
 use Rattle.vab_machine.specs.Small.{AreSmallImages, IsSmallSlot, IsSmallImage, IsSmallEntry}
 use Rattle.vab_machine.specs.Small.{IsSmallPlan, IsSmall}
 
@@ -67,20 +68,21 @@ images_small s slot small = elim (cases_Bool (eqb slot 0)) [
   | inr f ↦ rw f (listed_small s.b small.b)
 ]
 
-pub in_use_fits : (source : List Image) (plan : List PlanEntry)
+pub in_use_fits : (source : List Image) (plan : Plan)
     → AreSmallImages source
-    → IsSmallPlan plan
+    → IsSmallPlan plan.entries
     → in_use source plan < 2 ^ 63
 in_use_fits source plan images small =
+    let twins : List Image = twins_of plan.apart source in
     let kept = image_most source images in
-    let grown = want_most source growth_of (2 ^ 28) plan small
+    let grown = want_most twins growth_of (2 ^ 28) plan.entries small
     (λ e s. omega (arith, s.blocks)) in
-    let stored = want_most source (λ w. w.store) (2 ^ 55) plan small (λ e s. s.store) in
+    let stored = want_most twins (λ w. w.store) (2 ^ 55) plan.entries small (λ e s. s.store) in
     omega (arith, kept, grown, stored)
 
-pub state_in_use_fits : (s : State) (source : ℕ) (plan : List PlanEntry)
+pub state_in_use_fits : (s : State) (source : ℕ) (plan : Plan)
     → IsSmall s
-    → IsSmallPlan plan
+    → IsSmallPlan plan.entries
     → in_use (images_of s source) plan < 2 ^ 63
 state_in_use_fits s source plan small =
     in_use_fits (images_of s source) plan (images_small s source small)

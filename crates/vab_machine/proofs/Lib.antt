@@ -3,3 +3,5 @@ pub mod Blocks
 pub mod Turns
 pub mod SmallLaws
 pub mod SmallAfter
+pub mod Found
+pub mod Questions

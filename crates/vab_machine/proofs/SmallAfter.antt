@@ -20,6 +20,7 @@ use Rattle.vab_model.specs.declared.state.Image.{Image}
 use Rattle.vab_model.specs.declared.state.PlanImage.{PlanImage}
 use Rattle.vab_model.specs.declared.state.PlanImage.TheVariants.{Kept, Declared, Written}
 use Rattle.vab_model.specs.declared.state.PlanEntry.{PlanEntry}
+use Rattle.vab_model.specs.declared.state.Plan.{Plan}
 use Rattle.vab_model.specs.declared.state.Phase.{Phase}
 use Rattle.vab_model.specs.declared.state.Phase.TheVariants.{Idle, Installing, Staged, Merging}
 use Rattle.vab_model.specs.declared.state.State.{State}
@@ -27,23 +28,24 @@ use Rattle.vab_model.specs.declared.command.Refusal.{Refusal}
 use Rattle.vab_model.specs.declared.command.Refusal.TheVariants as refusals
 use Rattle.vab_model.specs.Commands.{Command, SetActive, Boot, Mark, Print, Digest, Begin, Create}
 use Rattle.vab_model.specs.Commands.{Resize, Delete, Snapshot, Flash, Finish, Cancel, BeginMerge}
-use Rattle.vab_model.specs.Commands.{Merge}
+use Rattle.vab_model.specs.Commands.{Merge, Factory}
 use Rattle.vab_model.specs.Effects.{Effect, after_of, last_of, active_effect, found_of, Found}
 use Rattle.vab_model.specs.Effects.{Image_is, Refused_by, print_effect, digest_effect}
 use Rattle.vab_model.specs.State.{images_at}
-use Rattle.vab_machine.specs.Plans.{other_slot, images_of, bytes_named, entry_named}
-use Rattle.vab_machine.specs.Plans.{is_planned, first_group, created_entry, at_entry, kept_entry}
-use Rattle.vab_machine.specs.Plans.{resized_entry, stored_entry, in_use, group_bytes, limit_of}
-use Rattle.vab_machine.specs.Plans.{is_within, without_entry, written_entry}
-use Rattle.vab_machine.specs.Staged.{is_sparse, filled, differs, differences}
-use Rattle.vab_machine.specs.Machine.{unless, if_installing, if_planned, planned, if_room}
-use Rattle.vab_machine.specs.Machine.{if_within}
-use Rattle.vab_machine.specs.Machine.{begun, begin_row, create_row, resize_row, delete_row}
-use Rattle.vab_machine.specs.Machine.{snapshot_row, if_stored, flash_staged, is_written}
-use Rattle.vab_machine.specs.Machine.{flash_entry}
-use Rattle.vab_machine.specs.Machine.{flash_row, final_bytes, final_image, finished, if_complete}
-use Rattle.vab_machine.specs.Machine.{least_declared, finish_row, without_images, cancel_row}
-use Rattle.vab_machine.specs.Machine.{begin_merge_row, turns, merge_row, machine_effect}
+use Rattle.vab_model.specs.Plans.{other_slot, images_of, bytes_named, entry_named}
+use Rattle.vab_model.specs.Plans.{is_planned, first_group, created_entry, at_entry, begun_plan}
+use Rattle.vab_model.specs.Plans.{resized_entry, stored_entry, in_use, group_bytes, limit_of}
+use Rattle.vab_model.specs.Plans.{is_within, without_entry, with_entries}
+use Rattle.vab_model.specs.Staged.{is_sparse, filled, differs, differences}
+use Rattle.vab_model.specs.Machine.{unless, if_installing, if_planned, planned, if_room}
+use Rattle.vab_model.specs.Machine.{if_within}
+use Rattle.vab_model.specs.Machine.{begun, begin_row, create_row, resize_row, delete_row}
+use Rattle.vab_model.specs.Machine.{snapshot_row, with_image, in_store, in_place, flash_staged}
+use Rattle.vab_model.specs.Machine.{flash_unwritten, is_written, is_settled}
+use Rattle.vab_model.specs.Machine.{flash_entry}
+use Rattle.vab_model.specs.Machine.{flash_row, final_bytes, final_image, finished, if_complete}
+use Rattle.vab_model.specs.Machine.{least_declared, finish_row, without_images, cancel_row}
+use Rattle.vab_model.specs.Machine.{begin_merge_row, turns, merge_row, machine_effect}
 use Rattle.vab_machine.specs.Small.{AreSmallImages, IsSmallSlot, IsSmallImage, IsSmallEntry}
 use Rattle.vab_machine.specs.Small.{IsSmallPlan, IsSmallPhase, IsSmall}
 use Rattle.vab_machine.proofs.Bounds.{images_small}
@@ -63,10 +65,10 @@ keeps_unless : (s : State) (b : Bool) (refusal : Refusal) (e : Effect State)
 keeps_unless s true refusal e small next = next refl
 keeps_unless s false refusal e small next = small
 
-keeps_installing : (s : State) (phase : Phase) (row : ℕ → List PlanEntry → Effect State)
+keeps_installing : (s : State) (phase : Phase) (row : ℕ → Plan → Effect State)
     → IsSmall s
     → IsSmallPhase phase
-    → ((source : ℕ) (plan : List PlanEntry) → IsSmallPlan plan → Keeps s (row source plan))
+    → ((source : ℕ) (plan : Plan) → IsSmallPlan plan.entries → Keeps s (row source plan))
     → Keeps s (if_installing phase row)
 keeps_installing s Idle row small phase next = small
 keeps_installing s (Installing source plan) row small phase next = next source plan phase
@@ -82,39 +84,39 @@ keeps_planned s (Some e) row small next = next e refl
 
 -- ---- another plan
 
-plan_kept : (s : State) (source : ℕ) (plan : List PlanEntry)
+plan_kept : (s : State) (source : ℕ) (plan : Plan)
     → IsSmall s
-    → IsSmallPlan plan
+    → IsSmallPlan plan.entries
     → Keeps s (planned s source plan)
 plan_kept s source plan small next = record { a = small.a; b = small.b; phase = next }
 
-room_kept : (s : State) (source : ℕ) (plan : List PlanEntry)
+room_kept : (s : State) (source : ℕ) (plan : Plan)
     → IsSmall s
-    → IsSmallPlan plan
+    → IsSmallPlan plan.entries
     → Keeps s (if_room s source plan)
 room_kept s source plan small next =
     keeps_unless s (nat_le (in_use (images_of s source) plan) s.cap)
     (refusals.NoRoom (in_use (images_of s source) plan) s.cap)
     (planned s source plan) small (λ _. plan_kept s source plan small next)
 
-within_kept : (s : State) (source : ℕ) (group : Option (List ℕ)) (plan : List PlanEntry)
+within_kept : (s : State) (source : ℕ) (group : Option (List ℕ)) (plan : Plan)
     → IsSmall s
-    → IsSmallPlan plan
+    → IsSmallPlan plan.entries
     → Keeps s (if_within s source group plan)
 within_kept s source group plan small next =
-    keeps_unless s (is_within (group_bytes group plan) (limit_of s.groups group))
-    (refusals.GroupLimit (group_bytes group plan) (limit_of s.groups group))
+    keeps_unless s (is_within (group_bytes group plan.entries) (limit_of s.groups group))
+    (refusals.GroupLimit (group_bytes group plan.entries) (limit_of s.groups group))
     (if_room s source plan) small (λ _. room_kept s source plan small next)
 
 -- ---- rows
 
-begun_kept : (s : State) (images : Option (List Image))
+begun_kept : (s : State) (apart : Bool) (images : Option (List Image))
     → IsSmall s
     → IsSmallSlot images
-    → Keeps s (begun s images)
-begun_kept s None small slot = small
-begun_kept s (Some images) small slot =
-    plan_kept s s.control.current (map kept_entry images) small (begin_small images slot)
+    → Keeps s (begun s apart images)
+begun_kept s apart None small slot = small
+begun_kept s apart (Some images) small slot =
+    plan_kept s s.control.current (begun_plan apart images) small (begin_small apart images slot)
 
 slot_small : (s : State) (slot : ℕ) → IsSmall s → IsSmallSlot (images_at s slot)
 slot_small s slot small = elim (cases_Bool (eqb slot 0)) [
@@ -122,82 +124,99 @@ slot_small s slot small = elim (cases_Bool (eqb slot 0)) [
   | inr f ↦ rw f small.b
 ]
 
-begin_kept : (s : State) (phase : Phase) → IsSmall s → Keeps s (begin_row s phase)
-begin_kept s Idle small =
-    begun_kept s (images_at s s.control.current) small (slot_small s s.control.current small)
-begin_kept s (Installing source plan) small = small
-begin_kept s (Staged source left) small = small
-begin_kept s (Merging target left) small = small
-
-create_kept : (s : State) (name : List ℕ) (size source : ℕ) (plan : List PlanEntry)
+begin_kept : (s : State) (apart : Bool) (phase : Phase)
     → IsSmall s
-    → IsSmallPlan plan
+    → Keeps s (begin_row s apart phase)
+begin_kept s apart Idle small =
+    begun_kept s apart (images_at s s.control.current) small
+    (slot_small s s.control.current small)
+begin_kept s apart (Installing source plan) small = small
+begin_kept s apart (Staged source left) small = small
+begin_kept s apart (Merging target left) small = small
+
+create_kept : (s : State) (name : List ℕ) (size source : ℕ) (plan : Plan)
+    → IsSmall s
+    → IsSmallPlan plan.entries
     → Keeps s (create_row s name size source plan)
 create_kept s name size source plan small next =
-    let made : List PlanEntry = plan ++ created_entry s.groups (base_of name) size ∷ [] in
+    let es : List PlanEntry = plan.entries in
+    let made : Plan =
+    with_entries plan (es ++ created_entry s.groups (base_of name) size ∷ []) in
     let within : Effect State = if_within s source (first_group s.groups) made in
     let few : Effect State =
-    unless (nat_lt (length plan) most_partitions) refusals.TooMany within in
-    let absent : Effect State = unless (not (is_planned (base_of name) plan)) refusals.Exists few in
+    unless (nat_lt (length es) most_partitions) refusals.TooMany within in
+    let absent : Effect State = unless (not (is_planned (base_of name) es)) refusals.Exists few in
     let sized : Effect State = unless (nat_le size (2 ^ 40)) refusals.BadSize absent in
     keeps_unless s (is_full (other_slot source) name) refusals.BadName sized small (λ _.
     keeps_unless s (nat_le size (2 ^ 40)) refusals.BadSize absent small (λ le.
-    keeps_unless s (not (is_planned (base_of name) plan)) refusals.Exists few small (λ _.
-    keeps_unless s (nat_lt (length plan) most_partitions) refusals.TooMany within small (λ lt.
+    keeps_unless s (not (is_planned (base_of name) es)) refusals.Exists few small (λ _.
+    keeps_unless s (nat_lt (length es) most_partitions) refusals.TooMany within small (λ lt.
     within_kept s source (first_group s.groups) made small
-    (create_small s.groups (base_of name) size plan next (leb-true size (2 ^ 40) le)
-    (ltb-true (length plan) most_partitions lt))))))
+    (create_small s.groups (base_of name) size es next (leb-true size (2 ^ 40) le)
+    (ltb-true (length es) most_partitions lt))))))
 
-resize_kept : (s : State) (name : List ℕ) (size source : ℕ) (plan : List PlanEntry)
+resize_kept : (s : State) (name : List ℕ) (size source : ℕ) (plan : Plan)
     → IsSmall s
-    → IsSmallPlan plan
+    → IsSmallPlan plan.entries
     → Keeps s (resize_row s name size source plan)
 resize_kept s name size source plan small next =
-    let made : List PlanEntry = at_entry (base_of name) (resized_entry (blocks_of size)) plan in
+    let es : List PlanEntry = plan.entries in
+    let made : Plan =
+    with_entries plan (at_entry (base_of name) (resized_entry (blocks_of size)) es) in
     let within : PlanEntry → Effect State = λ e. if_within s source e.group made in
+    let loose : PlanEntry → Effect State =
+    λ e. unless (not (is_settled plan e)) refusals.Written (within e) in
     let plain : PlanEntry → Effect State =
-    λ e. unless (not (is_some e.store)) refusals.HasStore (within e) in
-    let found : Effect State = if_planned (entry_named (base_of name) plan) plain in
+    λ e. unless (not (is_some e.store)) refusals.HasStore (loose e) in
+    let found : Effect State = if_planned (entry_named (base_of name) es) plain in
     let sized : Effect State = unless (nat_le size (2 ^ 40)) refusals.BadSize found in
     keeps_unless s (is_full (other_slot source) name) refusals.BadName sized small (λ _.
     keeps_unless s (nat_le size (2 ^ 40)) refusals.BadSize found small (λ le.
-    keeps_planned s (entry_named (base_of name) plan) plain small (λ e _.
-    keeps_unless s (not (is_some e.store)) refusals.HasStore (within e) small (λ _.
+    keeps_planned s (entry_named (base_of name) es) plain small (λ e _.
+    keeps_unless s (not (is_some e.store)) refusals.HasStore (loose e) small (λ _.
+    keeps_unless s (not (is_settled plan e)) refusals.Written (within e) small (λ _.
     within_kept s source e.group made small
-    (resize_small (base_of name) size plan next (leb-true size (2 ^ 40) le))))))
+    (resize_small (base_of name) size es next (leb-true size (2 ^ 40) le)))))))
 
-delete_kept : (s : State) (name : List ℕ) (source : ℕ) (plan : List PlanEntry)
+delete_kept : (s : State) (name : List ℕ) (source : ℕ) (plan : Plan)
     → IsSmall s
-    → IsSmallPlan plan
+    → IsSmallPlan plan.entries
     → Keeps s (delete_row s name source plan)
 delete_kept s name source plan small next =
-    let made : List PlanEntry = without_entry (base_of name) plan in
+    let es : List PlanEntry = plan.entries in
+    let made : Plan = with_entries plan (without_entry (base_of name) es) in
+    let loose : PlanEntry → Effect State =
+    λ e. unless (not (is_settled plan e)) refusals.Written (planned s source made) in
     let plain : PlanEntry → Effect State =
-    λ e. unless (not (is_some e.store)) refusals.HasStore (planned s source made) in
+    λ e. unless (not (is_some e.store)) refusals.HasStore (loose e) in
     keeps_unless s (is_full (other_slot source) name) refusals.BadName
-    (if_planned (entry_named (base_of name) plan) plain) small (λ _.
-    keeps_planned s (entry_named (base_of name) plan) plain small (λ e _.
-    keeps_unless s (not (is_some e.store)) refusals.HasStore (planned s source made) small (λ _.
-    plan_kept s source made small (delete_small (base_of name) plan next))))
+    (if_planned (entry_named (base_of name) es) plain) small (λ _.
+    keeps_planned s (entry_named (base_of name) es) plain small (λ e _.
+    keeps_unless s (not (is_some e.store)) refusals.HasStore (loose e) small (λ _.
+    keeps_unless s (not (is_settled plan e)) refusals.Written (planned s source made) small (λ _.
+    plan_kept s source made small (delete_small (base_of name) es next)))))
 
-snapshot_kept : (s : State) (name : List ℕ) (size source : ℕ) (plan : List PlanEntry)
+snapshot_kept : (s : State) (name : List ℕ) (size source : ℕ) (plan : Plan)
     → IsSmall s
-    → IsSmallPlan plan
+    → IsSmallPlan plan.entries
     → Keeps s (snapshot_row s name size source plan)
 snapshot_kept s name size source plan small next =
-    let made : List PlanEntry = at_entry (base_of name) (stored_entry size) plan in
+    let es : List PlanEntry = plan.entries in
+    let made : Plan = with_entries plan (at_entry (base_of name) (stored_entry size) es) in
     let plain : PlanEntry → Effect State =
     λ e. unless (not (is_some e.store)) refusals.HasStore (if_room s source made) in
-    let found : Effect State = if_planned (entry_named (base_of name) plan) plain in
+    let found : Effect State = if_planned (entry_named (base_of name) es) plain in
     let some : Bool = size == 0 || nat_lt 1 (blocks_of size) in
-    keeps_unless s (is_full (other_slot source) name) refusals.BadName
-    (unless (nat_le size (2 ^ 40) && some) refusals.BadSize found) small (λ _.
-    keeps_unless s (nat_le size (2 ^ 40) && some) refusals.BadSize found small (λ sized.
-    keeps_planned s (entry_named (base_of name) plan) plain small (λ e _.
+    let sized : Effect State = unless (nat_le size (2 ^ 40) && some) refusals.BadSize found in
+    let named : Effect State = unless (is_full (other_slot source) name) refusals.BadName sized in
+    keeps_unless s (not plan.apart) refusals.InPlace named small (λ _.
+    keeps_unless s (is_full (other_slot source) name) refusals.BadName sized small (λ _.
+    keeps_unless s (nat_le size (2 ^ 40) && some) refusals.BadSize found small (λ within.
+    keeps_planned s (entry_named (base_of name) es) plain small (λ e _.
     keeps_unless s (not (is_some e.store)) refusals.HasStore (if_room s source made) small (λ _.
     room_kept s source made small
-    (store_plan_small (base_of name) size plan next
-    (leb-true size (2 ^ 40) (and_parts (nat_le size (2 ^ 40)) some sized).0))))))
+    (store_plan_small (base_of name) size es next
+    (leb-true size (2 ^ 40) (and_parts (nat_le size (2 ^ 40)) some within).0)))))))
 
 -- ---- flash
 
@@ -213,64 +232,89 @@ filled_long staged blocks le =
       le,
     )
 
-stored_kept : (s : State) (source : ℕ) (plan : List PlanEntry) (e : PlanEntry) (k : Chunk)
-    (store : ℕ) (image : List ℕ) (n : ℕ)
-    → IsSmall s
-    → IsSmallPlan plan
-    → length image ≤ 2 ^ 40
-    → n ≤ 2 ^ 55
-    → Keeps s (if_stored s source plan e k store image n)
-stored_kept s source plan e k store image n small next long few =
-    let made : List PlanEntry = at_entry e.name (written_entry image n) plan in
-    keeps_unless s (nat_le (need_at n k) store) (refusals.StoreFull (need_at n k) store)
-    (planned s source made) small (λ _.
-    plan_kept s source made small (write_small e.name image n plan next long few))
+-- an image as long as the entry may be written so
+abbrev KeepsPlaced : State → PlanEntry → (List ℕ → Effect State) → Type 0
+KeepsPlaced s e place =
+    (image : List ℕ) → length image ≤ 4096 * e.blocks → Keeps s (place image)
 
-staged_kept : (s : State) (source : ℕ) (plan : List PlanEntry) (e : PlanEntry) (k : Chunk)
-    (store : ℕ) (staged : Option (List ℕ))
+in_store_kept : (s : State) (source : ℕ) (plan : Plan) (e : PlanEntry) (k : Chunk) (store : ℕ)
     → IsSmall s
-    → IsSmallPlan plan
+    → IsSmallPlan plan.entries
     → IsSmallEntry e
-    → Keeps s (flash_staged s source plan e k store staged)
-staged_kept s source plan e k store None small next entry = small
-staged_kept s source plan e k store (Some staged) small next entry =
+    → KeepsPlaced s e (in_store s source plan e k store)
+in_store_kept s source plan e k store small next entry image long =
+    let before : List ℕ = bytes_named e.name (images_of s source) in
+    let n : ℕ = differences k before image e.blocks in
+    let most = differing_most k (differs before image) e.blocks in
+    keeps_unless s (nat_le (need_at n k) store) (refusals.StoreFull (need_at n k) store)
+    (planned s source (with_image plan e image n)) small (λ _.
+    plan_kept s source (with_image plan e image n) small
+    (write_small e.name image n plan.entries next (omega (arith, long, entry.blocks))
+    (omega (arith, most, entry.blocks))))
+
+in_place_kept : (s : State) (source : ℕ) (plan : Plan) (e : PlanEntry)
+    → IsSmall s
+    → IsSmallPlan plan.entries
+    → IsSmallEntry e
+    → KeepsPlaced s e (in_place s source plan e)
+in_place_kept s source plan e small next entry image long =
+    plan_kept s source (with_image plan e image 0) small
+    (write_small e.name image 0 plan.entries next (omega (arith, long, entry.blocks))
+    (omega arith))
+
+staged_kept : (s : State) (e : PlanEntry) (place : List ℕ → Effect State)
+    (staged : Option (List ℕ))
+    → IsSmall s
+    → KeepsPlaced s e place
+    → Keeps s (flash_staged e place staged)
+staged_kept s e place None small next = small
+staged_kept s e place (Some staged) small next =
     let image : List ℕ = filled staged e.blocks in
-    let n : ℕ = differences k (bytes_named e.name (images_of s source)) image e.blocks in
-    let done : Effect State = if_stored s source plan e k store image n in
     let fits : Bool = nat_le (length staged) (4096 * e.blocks) in
     let large : Refusal = refusals.TooLarge (length staged) (4096 * e.blocks) in
-    let most =
-    differing_most k (differs (bytes_named e.name (images_of s source)) image) e.blocks in
-    keeps_unless s (not (is_sparse staged)) refusals.Sparse (unless fits large done) small (λ _.
-    keeps_unless s fits large done small (λ le.
+    keeps_unless s (not (is_sparse staged)) refusals.Sparse (unless fits large (place image)) small
+    (λ _.
+    keeps_unless s fits large (place image) small (λ le.
     let long = filled_long staged e.blocks (leb-true (length staged) (4096 * e.blocks) le) in
-    stored_kept s source plan e k store image n small next
-    (omega (arith, long, entry.blocks)) (omega (arith, most, entry.blocks))))
+    next image (omega (arith, long))))
 
-flash_entry_kept : (s : State) (source : ℕ) (plan : List PlanEntry) (staged : Option (List ℕ))
+unwritten_kept : (s : State) (e : PlanEntry) (place : List ℕ → Effect State)
+    (staged : Option (List ℕ))
+    → IsSmall s
+    → KeepsPlaced s e place
+    → Keeps s (flash_unwritten e place staged)
+unwritten_kept s e place staged small next =
+    keeps_unless s (not (is_written e.image)) refusals.Written (flash_staged e place staged) small
+    (λ _. staged_kept s e place staged small next)
+
+flash_entry_kept : (s : State) (source : ℕ) (plan : Plan) (staged : Option (List ℕ))
     (e : PlanEntry) (k : Chunk) (store : Option ℕ)
     → IsSmall s
-    → IsSmallPlan plan
+    → IsSmallPlan plan.entries
     → IsSmallEntry e
     → Keeps s (flash_entry s source plan staged e k store)
-flash_entry_kept s source plan staged e k None small next entry = small
+flash_entry_kept s source plan staged e k None small next entry =
+    keeps_unless s plan.apart refusals.NoStore
+    (flash_unwritten e (in_place s source plan e) staged) small (λ _.
+    unwritten_kept s e (in_place s source plan e) staged small
+    (in_place_kept s source plan e small next entry))
 flash_entry_kept s source plan staged e k (Some store) small next entry =
-    keeps_unless s (not (is_written e.image)) refusals.Written
-    (flash_staged s source plan e k store staged) small
-    (λ _. staged_kept s source plan e k store staged small next entry)
+    unwritten_kept s e (in_store s source plan e k store) staged small
+    (in_store_kept s source plan e k store small next entry)
 
 flash_kept : (s : State) (staged : Option (List ℕ)) (name : List ℕ) (k : Chunk) (source : ℕ)
-    (plan : List PlanEntry)
+    (plan : Plan)
     → IsSmall s
-    → IsSmallPlan plan
+    → IsSmallPlan plan.entries
     → Keeps s (flash_row s staged name k source plan)
 flash_kept s staged name k source plan small next =
+    let es : List PlanEntry = plan.entries in
     let row : PlanEntry → Effect State = λ e. flash_entry s source plan staged e k e.store in
     keeps_unless s (is_full (other_slot source) name) refusals.BadName
-    (if_planned (entry_named (base_of name) plan) row) small (λ _.
-    keeps_planned s (entry_named (base_of name) plan) row small (λ e is.
+    (if_planned (entry_named (base_of name) es) row) small (λ _.
+    keeps_planned s (entry_named (base_of name) es) row small (λ e is.
     flash_entry_kept s source plan staged e k e.store small next
-    (entry_small (base_of name) plan e next.each is)))
+    (entry_small (base_of name) es e next.each is)))
 
 -- ---- finish
 
@@ -303,12 +347,13 @@ final_small source plan images small = record {
       (λ e s. final_short source e.name e.image images s.image) plan small.each);
 }
 
-finished_small : (s : State) (source : ℕ) (plan : List PlanEntry)
+finished_small : (s : State) (source : ℕ) (plan : Plan)
     → IsSmall s
-    → IsSmallPlan plan
+    → IsSmallPlan plan.entries
     → IsSmall (finished s source plan)
 finished_small s source plan small next =
-    let images = final_small (images_of s source) plan (images_small s source small) next in
+    let images =
+    final_small (images_of s source) plan.entries (images_small s source small) next in
     elim (cases_Bool (eqb (other_slot source) 0)) [
       | inl t ↦ rw t (record { a = images; b = small.b; phase = tt })
       | inr f ↦ rw f (record { a = small.a; b = images; phase = tt })
@@ -399,7 +444,8 @@ small_after s staged Boot small = record { a = small.a; b = small.b; phase = sma
 small_after s staged Mark small = record { a = small.a; b = small.b; phase = small.phase }
 small_after s staged (Print name) small = print_kept s name (found_of s name) small
 small_after s staged (Digest name) small = digest_kept s (found_of s name) small
-small_after s staged Begin small = begin_kept s s.phase small
+small_after s staged Begin small = begin_kept s false s.phase small
+small_after s staged Factory small = begin_kept s true s.phase small
 small_after s staged (Create name size) small =
     keeps_installing s s.phase (create_row s name size) small small.phase
     (λ source plan next. create_kept s name size source plan small next)
@@ -418,7 +464,8 @@ small_after s staged (Flash name chunk) small =
 small_after s staged Finish small =
     keeps_installing s s.phase (finish_row s) small small.phase
     (λ source plan next.
-    complete_kept s (least_declared None plan) _ small (finished_small s source plan small next))
+    complete_kept s (least_declared None plan.entries) _ small
+    (finished_small s source plan small next))
 small_after s staged Cancel small = cancel_kept s s.phase small
 small_after s staged BeginMerge small = begin_merge_kept s s.phase small
 small_after s staged (Merge count) small = merge_kept s count s.phase small

@@ -1,5 +1,5 @@
 -- What follows from a small state is small.
-use Rattle.std.proofs.Common.{◌≡◌, ℕ, ◌^◌, ◌≤◌, ◌<◌, Bool, List}
+use Rattle.std.proofs.Common.{◌≡◌, ℕ, ◌^◌, ◌≤◌, ◌<◌, Bool, true, false, List}
 use Rattle.std.proofs.Common.{[]}
 use Rattle.std.proofs.Common.{◌∷◌, ◌++◌, length, Option, Some, eqb, inl, inr}
 use Rattle.std.proofs.Common.{subst}
@@ -10,15 +10,15 @@ use Rattle.std.specs.Str.{bytes_eq}
 use Rattle.std.proofs.lemmas.Bool.{cases_Bool}
 use Rattle.std.proofs.lemmas.List.{length-map}
 use Rattle.std.proofs.lemmas.List.Elements.{All-map, All-filter, All-weaker, All-head, All-tail}
-use Rattle.std.proofs.lemmas.List.Elements.{All-push}
+use Rattle.std.proofs.lemmas.List.Elements.{All-push, All-nil}
 use Rattle.vab_names.specs.Names.{most_partitions}
 use Rattle.vab_space.specs.Space.{need_of, blocks_of}
 use Rattle.vab_model.specs.declared.state.GroupLimit.{GroupLimit}
 use Rattle.vab_model.specs.declared.state.Image.{Image}
 use Rattle.vab_model.specs.declared.state.PlanEntry.{PlanEntry}
-use Rattle.vab_machine.specs.Plans.{entry_named, at_entry, kept_entry}
-use Rattle.vab_machine.specs.Plans.{created_entry, resized_entry, stored_entry, written_entry}
-use Rattle.vab_machine.specs.Plans.{without_entry}
+use Rattle.vab_model.specs.Plans.{entry_named, at_entry, kept_entry}
+use Rattle.vab_model.specs.Plans.{created_entry, resized_entry, stored_entry, written_entry}
+use Rattle.vab_model.specs.Plans.{without_entry, begun_plan}
 use Rattle.vab_machine.specs.Small.{AreSmallImages, IsSmallEntry}
 use Rattle.vab_machine.specs.Small.{IsSmallPlan}
 
@@ -142,10 +142,10 @@ write_small name bytes n plan small long few =
       image = record { bytes_small = long; few = few };
     })
 
-pub begin_small : (images : List Image)
+kept_small : (images : List Image)
     → AreSmallImages images
     → IsSmallPlan (map kept_entry images)
-begin_small images small = record {
+kept_small images small = record {
   few = omega (arith, length-map images kept_entry, small.few);
   each =
       All-map IsSmallEntry kept_entry images
@@ -154,3 +154,12 @@ begin_small images small = record {
       (λ i le. record { blocks = omega (arith, le); store = omega arith; image = tt })
       images small.each);
 }
+
+no_entries : IsSmallPlan []
+no_entries = record { few = omega arith; each = All-nil IsSmallEntry }
+
+pub begin_small : (apart : Bool) (images : List Image)
+    → AreSmallImages images
+    → IsSmallPlan (begun_plan apart images).entries
+begin_small true images small = no_entries
+begin_small false images small = kept_small images small

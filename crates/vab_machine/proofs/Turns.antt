@@ -3,7 +3,7 @@ use Rattle.std.proofs.Common.{◌≡◌, ℕ, zero, suc, ◌-◌, ◌<◌, ◌�
 use Rattle.vab_model.specs.declared.state.Phase.TheVariants.{Idle, Merging}
 use Rattle.vab_model.specs.declared.state.State.{State}
 use Rattle.vab_model.specs.Effects.{last_of}
-use Rattle.vab_machine.specs.Machine.{turns}
+use Rattle.vab_model.specs.Machine.{turns}
 
 -- where an exception is left for each turn
 pub turns_some : (s x : State) (n target left : ℕ)

@@ -2,7 +2,7 @@
 use Rattle.vab_model.specs.declared.state.PlanEntry.{PlanEntry}
 use Rattle.vab_machine.specs.declared.change.Change.{Change}
 use Rattle.vab_machine.specs.declared.change.Change.TheVariants.{Resize, Store, Write}
-use Rattle.vab_machine.specs.Plans.{resized_entry, stored_entry, written_entry}
+use Rattle.vab_model.specs.Plans.{resized_entry, stored_entry, written_entry}
 
 abbrev pub change_of : Change → PlanEntry → PlanEntry
 change_of (Resize blocks) = resized_entry blocks

@@ -1,5 +1,3 @@
-pub mod Plans
-pub mod Staged
-pub mod Machine
 pub mod Small
 pub mod Changes
+pub mod Places

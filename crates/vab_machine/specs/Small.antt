@@ -9,7 +9,7 @@ use Rattle.vab_model.specs.declared.state.PlanEntry.{PlanEntry}
 use Rattle.vab_model.specs.declared.state.Phase.{Phase}
 use Rattle.vab_model.specs.declared.state.Phase.TheVariants.{Idle, Installing, Staged, Merging}
 use Rattle.vab_model.specs.declared.state.State.{State}
-use Rattle.vab_machine.specs.Plans.{store_blocks}
+use Rattle.vab_model.specs.Plans.{store_blocks}
 
 -- no more images than a slot has partitions, of at most 2^40 bytes
 pub record AreSmallImages (images : List Image) : Type 0 where
@@ -42,7 +42,7 @@ pub record IsSmallPlan (plan : List PlanEntry) : Type 0 where
 
 abbrev pub IsSmallPhase : Phase → Type 0
 IsSmallPhase Idle = Unit {0}
-IsSmallPhase (Installing source plan) = IsSmallPlan plan
+IsSmallPhase (Installing source plan) = IsSmallPlan plan.entries
 IsSmallPhase (Staged source left) = Unit {0}
 IsSmallPhase (Merging target left) = Unit {0}
 

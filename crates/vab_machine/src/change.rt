@@ -4,16 +4,17 @@ ghost use Rattle.std.specs.Prelude.{◌≡◌, ◌<◌, ◌^◌, ◌==◌, if◌
 ghost use Rattle.std.specs.Prelude.{◌∷◌, ◌++◌, []};
 ghost use Rattle.std.specs.Str.{bytes_eq};
 ghost use Rattle.vab_space.specs.Space.{need_of, blocks_of};
-ghost use Rattle.vab_machine.specs.Plans.{kept_entry, created_entry, resized_entry, stored_entry};
-ghost use Rattle.vab_machine.specs.Plans.{written_entry, at_entry, without_entry};
+ghost use Rattle.vab_model.specs.Plans.{kept_entry, created_entry, resized_entry, stored_entry};
+ghost use Rattle.vab_model.specs.Plans.{written_entry, at_entry, without_entry, with_entries};
+ghost use Rattle.vab_model.specs.Plans.{begun_plan};
 ghost use Rattle.vab_machine.specs.Changes.{change_of};
 ghost use Rattle.vab_machine.specs.Small.{IsSmallEntry};
 
 use crate::count::blocks_in;
-use crate::parts::first_group;
+use crate::parts::{first_group, twins_of};
 use std::alloc::Global;
 use vab_bytes::{Bytes, Listing, Name36};
-use vab_model::{GroupLimit, Image, NoMemory, PlanEntry, PlanImage};
+use vab_model::{GroupLimit, Image, NoMemory, Plan, PlanEntry, PlanImage};
 use vab_space::{blocks, need};
 
 /// What is made of an entry.
@@ -190,15 +191,34 @@ fn copy_plan(alloc: Global, plan: &[PlanEntry]) -> Result<Vec<PlanEntry>, NoMemo
     Ok(copies)
 }
 
-/// Each image of the source, kept.
-pub(crate) fn begun_plan(alloc: Global, source: &[Image]) -> Result<Listing<PlanEntry>, NoMemory>
-    ensures { IfOk result (λ x. x ≡ map kept_entry source.now) }
+// Each of these images, kept.
+fn kept_entries(alloc: Global, images: &[Image]) -> Result<Listing<PlanEntry>, NoMemory>
+    ensures { IfOk result (λ x. x ≡ map kept_entry images.now) }
 {
-    let mut plan = Vec::new(alloc);
-    for image in source {
-        plan.push(kept_entry(image))?;
+    let mut entries = Vec::new(alloc);
+    for image in images {
+        entries.push(kept_entry(image))?;
     }
-    Ok(Listing::from_vec(plan))
+    Ok(Listing::from_vec(entries))
+}
+
+/// The plan as an installation begins: each image of the source, kept, or nothing where the target
+/// stands apart.
+pub(crate) fn begun_plan(alloc: Global, apart: bool, source: &[Image]) -> Result<Plan, NoMemory>
+    ensures { IfOk result (λ p. p ≡ begun_plan apart source.now) }
+{
+    let entries = kept_entries(alloc, twins_of(apart, source))?;
+    Ok(Plan { apart, entries })
+}
+
+/// These entries in place of a plan's.
+pub(crate) fn with_entries(plan: &Plan, entries: Listing<PlanEntry>) -> Plan
+    ensures { result ≡ with_entries plan.now entries }
+{
+    Plan {
+        apart: plan.apart,
+        entries,
+    }
 }
 
 /// A partition more.

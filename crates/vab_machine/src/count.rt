@@ -1,13 +1,13 @@
 //! What is counted of a plan.
 
 ghost use Rattle.std.specs.Prelude.{◌≡◌, ◌<◌, ◌^◌, IfOk};
-ghost use Rattle.vab_machine.specs.Plans.{blocks_in, store_blocks, want_of, in_use, group_bytes};
-ghost use Rattle.vab_machine.specs.Plans.{limit_named, limit_of, is_within};
+ghost use Rattle.vab_model.specs.Plans.{blocks_in, store_blocks, want_of, in_use, group_bytes};
+ghost use Rattle.vab_model.specs.Plans.{limit_named, limit_of, is_within};
 
-use crate::parts::{bytes_named, same_group};
+use crate::parts::{bytes_named, same_group, twins_of};
 use std::alloc::Global;
 use vab_bytes::{Listing, Name36};
-use vab_model::{GroupLimit, Image, NoMemory, PlanEntry};
+use vab_model::{GroupLimit, Image, NoMemory, Plan, PlanEntry};
 use vab_space::{Want, used};
 
 /// Whole blocks of 4096 bytes of an image.
@@ -27,19 +27,19 @@ fn store_blocks(store: &Option<u64>) -> u64
     }
 }
 
-// What an entry wants.
-fn want_of(source: &[Image], entry: &PlanEntry) -> Want
-    ensures { result ≡ want_of source.now entry.now }
+// What an entry wants beside its twin.
+fn want_of(twins: &[Image], entry: &PlanEntry) -> Want
+    ensures { result ≡ want_of twins.now entry.now }
 {
     Want {
-        before: blocks_in(bytes_named(source, entry.name.text())),
+        before: blocks_in(bytes_named(twins, entry.name.text())),
         blocks: entry.blocks,
         store: store_blocks(&entry.store),
     }
 }
 
 /// Blocks in use: of the source's images, of what the plan adds to them, and of stores.
-pub(crate) fn in_use(alloc: Global, source: &[Image], plan: &[PlanEntry]) -> Result<u64, NoMemory>
+pub(crate) fn in_use(alloc: Global, source: &[Image], plan: &Plan) -> Result<u64, NoMemory>
     requires { in_use source.now plan.now < 2 ^ 63 }
     ensures { IfOk result (λ n. n ≡ in_use source.now plan.now) }
 {
@@ -47,9 +47,12 @@ pub(crate) fn in_use(alloc: Global, source: &[Image], plan: &[PlanEntry]) -> Res
         .iter()
         .map(|image| blocks_in(image.bytes.as_slice()))
         .collect(alloc)?;
+    let twins = twins_of(plan.apart, source);
     let wants: Vec<Want> = plan
+        .entries
+        .as_slice()
         .iter()
-        .map(|entry| want_of(source, entry))
+        .map(|entry| want_of(twins, entry))
         .collect(alloc)?;
     Ok(used(&sizes, &wants))
 }

@@ -2,11 +2,11 @@
 
 ghost use Rattle.std.specs.Prelude.{◌≡◌, ◌^◌, IfOk};
 ghost use Rattle.vab_model.specs.Effects.{after_of};
-ghost use Rattle.vab_machine.specs.Machine.{begin_row, create_row, if_installing};
+ghost use Rattle.vab_model.specs.Machine.{begin_row, create_row, if_installing};
 ghost use Rattle.vab_machine.specs.Small.{IsSmall};
 
 use crate::answer::{if_within, planned, refuse};
-use crate::change::{begun_plan, with_created};
+use crate::change::{begun_plan, with_created, with_entries};
 use crate::parts::{base_named, first_group, installing, is_planned};
 use std::alloc::Global;
 use vab_model::{NoMemory, Phase, Refusal, Reply, State};
@@ -15,11 +15,11 @@ use vab_names::MAX_PARTITIONS;
 /// The most bytes of a partition.
 pub(crate) const MOST: u64 = 1 << 40;
 
-/// An update from the current slot.
-pub(crate) fn begin(alloc: Global, state: &State) -> Result<(State, Reply), NoMemory>
+/// An update from the current slot, whose target stands apart or not.
+pub(crate) fn begin(alloc: Global, state: &State, apart: bool) -> Result<(State, Reply), NoMemory>
     ensures state { IfOk result
-        (λ r. r.0 ≡ after_of state.now (begin_row state.now state.now.phase)) }
-    ensures reply { IfOk result (λ r. r.1 ≡ (begin_row state.now state.now.phase).reply) }
+        (λ r. r.0 ≡ after_of state.now (begin_row state.now apart state.now.phase)) }
+    ensures reply { IfOk result (λ r. r.1 ≡ (begin_row state.now apart state.now.phase).reply) }
 {
     let Phase::Idle = &state.phase else {
         return refuse(alloc, state, Refusal::NotIdle);
@@ -28,7 +28,10 @@ pub(crate) fn begin(alloc: Global, state: &State) -> Result<(State, Reply), NoMe
     let images = if current == 0 { &state.a } else { &state.b };
     match images {
         None => refuse(alloc, state, Refusal::NoImages),
-        Some(images) => planned(alloc, state, current, begun_plan(alloc, images.as_slice())?),
+        Some(images) => {
+            let plan = begun_plan(alloc, apart, images.as_slice())?;
+            planned(alloc, state, current, plan)
+        }
     }
 }
 
@@ -55,12 +58,14 @@ pub(crate) fn create(
     if size > MOST {
         return refuse(alloc, state, Refusal::BadSize);
     }
-    if is_planned(plan, base.text()) {
+    let entries = plan.entries.as_slice();
+    if is_planned(entries, base.text()) {
         return refuse(alloc, state, Refusal::Exists);
     }
-    if plan.len() >= MAX_PARTITIONS {
+    if entries.len() >= MAX_PARTITIONS {
         return refuse(alloc, state, Refusal::TooMany);
     }
-    let next = with_created(alloc, plan, &state.groups, base, size)?;
+    let next = with_created(alloc, entries, &state.groups, base, size)?;
+    let next = with_entries(plan, next);
     if_within(alloc, state, source, &first_group(&state.groups), next)
 }

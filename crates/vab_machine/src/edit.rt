@@ -3,13 +3,13 @@
 ghost use Rattle.std.specs.Prelude.{◌≡◌, ◌≤◌, ◌^◌, ◌&&◌, ◌||◌, ◌==◌, nat_le, nat_lt, IfOk};
 ghost use Rattle.vab_space.specs.Space.{blocks_of};
 ghost use Rattle.vab_model.specs.Effects.{after_of};
-ghost use Rattle.vab_machine.specs.Machine.{resize_row, delete_row, snapshot_row, if_installing};
+ghost use Rattle.vab_model.specs.Machine.{resize_row, delete_row, snapshot_row, if_installing};
 ghost use Rattle.vab_machine.specs.Small.{IsSmall};
 
 use crate::answer::{if_room, if_within, planned, refuse};
-use crate::change::{Change, at_entry, without_entry};
+use crate::change::{Change, at_entry, with_entries, without_entry};
 use crate::create::MOST;
-use crate::parts::{base_named, entry_named, installing};
+use crate::parts::{base_named, entry_named, installing, is_settled};
 use std::alloc::Global;
 use vab_model::{NoMemory, Refusal, Reply, State};
 use vab_space::blocks;
@@ -38,14 +38,18 @@ pub(crate) fn resize(
     if size > MOST {
         return refuse(alloc, state, Refusal::BadSize);
     }
-    let Some(entry) = entry_named(plan, base.text()) else {
+    let Some(entry) = entry_named(plan.entries.as_slice(), base.text()) else {
         return refuse(alloc, state, Refusal::Unknown);
     };
     if entry.store.is_some() {
         return refuse(alloc, state, Refusal::HasStore);
     }
-    let next = at_entry(alloc, plan, base.text(), &Change::Resize(blocks(size)))?;
-    if_within(alloc, state, source, &entry.group, next)
+    if is_settled(plan, entry) {
+        return refuse(alloc, state, Refusal::Written);
+    }
+    let change = Change::Resize(blocks(size));
+    let next = at_entry(alloc, plan.entries.as_slice(), base.text(), &change)?;
+    if_within(alloc, state, source, &entry.group, with_entries(plan, next))
 }
 
 /// A partition less.
@@ -62,14 +66,17 @@ pub(crate) fn delete(alloc: Global, state: &State, name: &[u8]) -> Result<(State
     let Some(base) = base_named(name, source) else {
         return refuse(alloc, state, Refusal::BadName);
     };
-    let Some(entry) = entry_named(plan, base.text()) else {
+    let Some(entry) = entry_named(plan.entries.as_slice(), base.text()) else {
         return refuse(alloc, state, Refusal::Unknown);
     };
     if entry.store.is_some() {
         return refuse(alloc, state, Refusal::HasStore);
     }
-    let next = without_entry(alloc, plan, base.text())?;
-    planned(alloc, state, source, next)
+    if is_settled(plan, entry) {
+        return refuse(alloc, state, Refusal::Written);
+    }
+    let next = without_entry(alloc, plan.entries.as_slice(), base.text())?;
+    planned(alloc, state, source, with_entries(plan, next))
 }
 
 // Whether a store may have so many bytes: none, or more than a block.
@@ -98,18 +105,22 @@ pub(crate) fn snapshot(
     let Some((source, plan)) = installing(state) else {
         return refuse(alloc, state, Refusal::NotInstalling);
     };
+    if plan.apart {
+        return refuse(alloc, state, Refusal::InPlace);
+    }
     let Some(base) = base_named(name, source) else {
         return refuse(alloc, state, Refusal::BadName);
     };
     if !is_store_size(size) {
         return refuse(alloc, state, Refusal::BadSize);
     }
-    let Some(entry) = entry_named(plan, base.text()) else {
+    let Some(entry) = entry_named(plan.entries.as_slice(), base.text()) else {
         return refuse(alloc, state, Refusal::Unknown);
     };
     if entry.store.is_some() {
         return refuse(alloc, state, Refusal::HasStore);
     }
-    let next = at_entry(alloc, plan, base.text(), &Change::Store(size))?;
-    if_room(alloc, state, source, next)
+    let change = Change::Store(size);
+    let next = at_entry(alloc, plan.entries.as_slice(), base.text(), &change)?;
+    if_room(alloc, state, source, with_entries(plan, next))
 }

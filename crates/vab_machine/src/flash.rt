@@ -3,16 +3,17 @@
 ghost use Rattle.std.specs.Prelude.{◌≡◌, ◌≤◌, ◌^◌, IfOk};
 ghost use Rattle.std.specs.Option.{option_copied};
 ghost use Rattle.vab_model.specs.Effects.{after_of};
-ghost use Rattle.vab_machine.specs.Machine.{if_stored, flash_staged, is_written, flash_entry};
-ghost use Rattle.vab_machine.specs.Machine.{flash_row, if_installing};
+ghost use Rattle.vab_model.specs.Machine.{with_image, if_stored, in_place, flash_staged};
+ghost use Rattle.vab_model.specs.Machine.{flash_unwritten, flash_entry, flash_row, if_installing};
+ghost use Rattle.vab_machine.specs.Places.{placed};
 ghost use Rattle.vab_machine.specs.Small.{IsSmall, IsSmallEntry, IsSmallPlan};
 
 use crate::answer::{planned, refuse};
-use crate::change::{Change, at_entry};
-use crate::parts::{base_named, bytes_named, entry_named, images_of, installing};
+use crate::change::{Change, at_entry, with_entries};
+use crate::parts::{base_named, bytes_named, entry_named, images_of, installing, is_written};
 use crate::staged::{differences, filled, is_sparse};
 use std::alloc::Global;
-use vab_model::{NoMemory, PlanEntry, PlanImage, Refusal, Reply, State};
+use vab_model::{NoMemory, Plan, PlanEntry, Refusal, Reply, State};
 use vab_space::{Chunk, need_at};
 
 // An update that is installed.
@@ -20,7 +21,33 @@ use vab_space::{Chunk, need_at};
 struct Update<'a> {
     state: &'a State,
     source: usize,
-    plan: &'a [PlanEntry],
+    plan: &'a Plan,
+}
+
+/// Where an image goes.
+#[derive(Clone, Copy)]
+pub(crate) enum Place {
+    /// Into the blocks of its partition.
+    Blocks,
+    /// Into a store of so many blocks, whose chunks have this size.
+    Store(u64, Chunk),
+}
+
+// The plan with this image of an entry, whose store has so many exceptions.
+fn with_image(
+    alloc: Global,
+    plan: &Plan,
+    entry: &PlanEntry,
+    image: &[u8],
+    count: u64,
+) -> Result<Plan, NoMemory>
+    requires { IsSmallPlan plan.now.entries }
+    ensures { IfOk result (λ p. p ≡ with_image plan.now entry.now image.now count) }
+{
+    let change = Change::Write(image, count);
+    let entries = plan.entries.as_slice();
+    let next = at_entry(alloc, entries, entry.name.text(), &change)?;
+    Ok(with_entries(plan, next))
 }
 
 // This image, of which so many chunks differ, where the store has room for them.
@@ -34,7 +61,7 @@ fn if_stored(
     image: &[u8],
     count: u64,
 ) -> Result<(State, Reply), NoMemory>
-    requires plan { IsSmallPlan (update.now).plan.now }
+    requires plan { IsSmallPlan (update.now).plan.now.entries }
     requires count { count ≤ 2 ^ 28 }
     ensures state { IfOk result (λ r. r.0
         ≡ after_of (update.now).state.now
@@ -48,9 +75,57 @@ fn if_stored(
     if need > store {
         return refuse(alloc, update.state, Refusal::StoreFull(need, store));
     }
-    let change = Change::Write(image, count);
-    let next = at_entry(alloc, update.plan, entry.name.text(), &change)?;
+    let next = with_image(alloc, update.plan, entry, image, count)?;
     planned(alloc, update.state, update.source, next)
+}
+
+// An image in the blocks of its partition.
+fn in_place(
+    alloc: Global,
+    update: &Update,
+    entry: &PlanEntry,
+    image: &[u8],
+) -> Result<(State, Reply), NoMemory>
+    requires { IsSmallPlan (update.now).plan.now.entries }
+    ensures state { IfOk result (λ r. r.0
+        ≡ after_of (update.now).state.now
+        (in_place (update.now).state.now (update.now).source (update.now).plan.now entry.now
+        image.now)) }
+    ensures reply { IfOk result (λ r. r.1
+        ≡ (in_place (update.now).state.now (update.now).source (update.now).plan.now entry.now
+        image.now).reply) }
+{
+    let next = with_image(alloc, update.plan, entry, image, 0)?;
+    planned(alloc, update.state, update.source, next)
+}
+
+// An image where it goes.
+fn placed(
+    alloc: Global,
+    update: &Update,
+    entry: &PlanEntry,
+    place: Place,
+    image: &[u8],
+) -> Result<(State, Reply), NoMemory>
+    requires plan { IsSmallPlan (update.now).plan.now.entries }
+    requires entry { IsSmallEntry entry.now }
+    ensures state { IfOk result (λ r. r.0
+        ≡ after_of (update.now).state.now
+        (placed (update.now).state.now (update.now).source (update.now).plan.now entry.now place
+        image.now)) }
+    ensures reply { IfOk result (λ r. r.1
+        ≡ (placed (update.now).state.now (update.now).source (update.now).plan.now entry.now place
+        image.now).reply) }
+{
+    match place {
+        Place::Blocks => in_place(alloc, update, entry, image),
+        Place::Store(store, chunk) => {
+            let images = images_of(update.state, update.source);
+            let source = bytes_named(images, entry.name.text());
+            let count = differences(source, image, entry.blocks, chunk);
+            if_stored(alloc, update, entry, chunk, store, image, count)
+        }
+    }
 }
 
 // The staged bytes, if there are any.
@@ -58,19 +133,20 @@ fn flash_staged(
     alloc: Global,
     update: &Update,
     entry: &PlanEntry,
-    chunk: Chunk,
-    store: u64,
+    place: Place,
     staged: Option<&[u8]>,
 ) -> Result<(State, Reply), NoMemory>
-    requires plan { IsSmallPlan (update.now).plan.now }
+    requires plan { IsSmallPlan (update.now).plan.now.entries }
     requires entry { IsSmallEntry entry.now }
     ensures state { IfOk result (λ r. r.0
         ≡ after_of (update.now).state.now
-        (flash_staged (update.now).state.now (update.now).source (update.now).plan.now entry.now
-        chunk store (option_copied staged.entry))) }
+        (flash_staged entry.now
+        (placed (update.now).state.now (update.now).source (update.now).plan.now entry.now place)
+        (option_copied staged.entry))) }
     ensures reply { IfOk result (λ r. r.1
-        ≡ (flash_staged (update.now).state.now (update.now).source (update.now).plan.now entry.now
-        chunk store (option_copied staged.entry)).reply) }
+        ≡ (flash_staged entry.now
+        (placed (update.now).state.now (update.now).source (update.now).plan.now entry.now place)
+        (option_copied staged.entry)).reply) }
 {
     let Some(staged) = staged else {
         return refuse(alloc, update.state, Refusal::NothingStaged);
@@ -83,18 +159,36 @@ fn flash_staged(
         return refuse(alloc, update.state, Refusal::TooLarge(long, size));
     }
     let image = filled(alloc, staged, entry.blocks)?;
-    let source = bytes_named(images_of(update.state, update.source), entry.name.text());
-    let count = differences(source, &image, entry.blocks, chunk);
-    if_stored(alloc, update, entry, chunk, store, &image, count)
+    placed(alloc, update, entry, place, &image)
 }
 
-fn is_written(image: &PlanImage) -> bool
-    ensures { result ≡ is_written image.now }
+// The image of an entry that wasn't written.
+fn flash_unwritten(
+    alloc: Global,
+    update: &Update,
+    entry: &PlanEntry,
+    place: Place,
+    staged: Option<&[u8]>,
+) -> Result<(State, Reply), NoMemory>
+    requires plan { IsSmallPlan (update.now).plan.now.entries }
+    requires entry { IsSmallEntry entry.now }
+    ensures state { IfOk result (λ r. r.0
+        ≡ after_of (update.now).state.now
+        (flash_unwritten entry.now
+        (placed (update.now).state.now (update.now).source (update.now).plan.now entry.now place)
+        (option_copied staged.entry))) }
+    ensures reply { IfOk result (λ r. r.1
+        ≡ (flash_unwritten entry.now
+        (placed (update.now).state.now (update.now).source (update.now).plan.now entry.now place)
+        (option_copied staged.entry)).reply) }
 {
-    matches!(image, PlanImage::Written(_, _))
+    if is_written(&entry.image) {
+        return refuse(alloc, update.state, Refusal::Written);
+    }
+    flash_staged(alloc, update, entry, place, staged)
 }
 
-// The image of an entry, where it has a store and wasn't written.
+// The image of an entry, in its store, or in place where it has none and the target stands apart.
 fn flash_entry(
     alloc: Global,
     update: &Update,
@@ -102,7 +196,7 @@ fn flash_entry(
     staged: Option<&[u8]>,
     chunk: Chunk,
 ) -> Result<(State, Reply), NoMemory>
-    requires plan { IsSmallPlan (update.now).plan.now }
+    requires plan { IsSmallPlan (update.now).plan.now.entries }
     requires entry { IsSmallEntry entry.now }
     ensures state { IfOk result (λ r. r.0
         ≡ after_of (update.now).state.now
@@ -112,16 +206,20 @@ fn flash_entry(
         ≡ (flash_entry (update.now).state.now (update.now).source (update.now).plan.now
         (option_copied staged.entry) entry.now chunk (entry.now).store).reply) }
 {
-    let Some(store) = entry.store else {
-        return refuse(alloc, update.state, Refusal::NoStore);
+    let place = match entry.store {
+        Some(store) => Place::Store(store, chunk),
+        None => {
+            if !update.plan.apart {
+                return refuse(alloc, update.state, Refusal::NoStore);
+            }
+            Place::Blocks
+        }
     };
-    if is_written(&entry.image) {
-        return refuse(alloc, update.state, Refusal::Written);
-    }
-    flash_staged(alloc, update, entry, chunk, store, staged)
+    flash_unwritten(alloc, update, entry, place, staged)
 }
 
-/// The staged bytes become the image of a partition, in a store with chunks of this size.
+/// The staged bytes become the image of a partition, in a store with chunks of this size, or in
+/// place where the target stands apart.
 #[tactic(auto, using(crate::proofs::SmallLaws::entry_small))]
 pub(crate) fn flash(
     alloc: Global,
@@ -145,7 +243,7 @@ pub(crate) fn flash(
     let Some(base) = base_named(name, source) else {
         return refuse(alloc, state, Refusal::BadName);
     };
-    let Some(entry) = entry_named(plan, base.text()) else {
+    let Some(entry) = entry_named(plan.entries.as_slice(), base.text()) else {
         return refuse(alloc, state, Refusal::Unknown);
     };
     let update = Update {

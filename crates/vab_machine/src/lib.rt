@@ -1,13 +1,16 @@
-//! The plain machine: what each command makes of a state, an update's among them, said in sizes,
-//! names, groups and bytes. Nothing here knows of sectors, tables, or where a partition stands.
+//! The plain machine as a program: it computes what each command makes of a state, as the
+//! definitions of `vab_model` say it in sizes, names, groups and bytes. Nothing here knows of
+//! sectors, tables, or where a partition stands.
 #![tactic(auto)]
 
 mod answer;
+mod boots;
 mod change;
 mod count;
 mod create;
 mod edit;
 mod flash;
+mod images;
 mod machine;
 mod parts;
 mod ready;

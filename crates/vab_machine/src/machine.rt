@@ -4,19 +4,21 @@ ghost use Rattle.std.specs.Prelude.{◌≡◌, IfOk};
 ghost use Rattle.std.specs.Option.{option_copied};
 ghost use Rattle.vab_model.specs.Commands.{command_of};
 ghost use Rattle.vab_model.specs.Effects.{after_of};
-ghost use Rattle.vab_machine.specs.Machine.{machine_effect};
+ghost use Rattle.vab_model.specs.Machine.{machine_effect};
 ghost use Rattle.vab_machine.specs.Small.{IsSmall};
 
+use crate::boots::{boot, mark, set_active};
 use crate::create::{begin, create};
 use crate::edit::{delete, resize, snapshot};
 use crate::flash::flash;
+use crate::images::{digested, printed};
 use crate::ready::finish;
 use crate::slots::{begin_merge, cancel, merge};
 use std::alloc::Global;
 use vab_model::{Command, NoMemory, Reply, State};
 
 // What a command makes of a state, which says nothing of the size of what follows.
-#[tactic(auto, unfolding(crate::specs::Machine::machine_effect, vab_model::specs::Effects::effect))]
+#[tactic(auto, unfolding(vab_model::specs::Machine::machine_effect))]
 fn done(
     alloc: Global,
     state: &State,
@@ -31,12 +33,13 @@ fn done(
         ≡ (machine_effect state.now (option_copied staged.entry) (command_of command.now)).reply) }
 {
     match *command {
-        Command::SetActive(_) => vab_model::step(alloc, state, command, staged),
-        Command::Boot => vab_model::step(alloc, state, command, staged),
-        Command::Mark => vab_model::step(alloc, state, command, staged),
-        Command::Print(_) => vab_model::step(alloc, state, command, staged),
-        Command::Digest(_) => vab_model::step(alloc, state, command, staged),
-        Command::Begin => begin(alloc, state),
+        Command::SetActive(slot) => set_active(alloc, state, slot),
+        Command::Boot => boot(alloc, state),
+        Command::Mark => mark(alloc, state),
+        Command::Print(name) => printed(alloc, state, name),
+        Command::Digest(name) => digested(alloc, state, name),
+        Command::Begin => begin(alloc, state, false),
+        Command::Factory => begin(alloc, state, true),
         Command::Create(name, size) => create(alloc, state, name, size),
         Command::Resize(name, size) => resize(alloc, state, name, size),
         Command::Delete(name) => delete(alloc, state, name),

@@ -1,17 +1,17 @@
 //! Parts of a state.
 
-ghost use Rattle.std.specs.Prelude.{◌≡◌, ◌<◌, ℕ, List, true, false, MatchOption};
+ghost use Rattle.std.specs.Prelude.{◌≡◌, ◌<◌, ℕ, true, false, MatchOption};
 ghost use Rattle.std.specs.Option.{option_copied};
 ghost use Rattle.vab_names.specs.Names.{is_full, base_of};
-ghost use Rattle.vab_model.specs.declared.state.PlanEntry.{PlanEntry as PlanOf};
+ghost use Rattle.vab_model.specs.declared.state.Plan.{Plan as PlanOf};
 ghost use Rattle.vab_model.specs.declared.state.State.{State as StateOf};
 ghost use Rattle.vab_model.specs.Effects.{Effect, refuses};
-ghost use Rattle.vab_machine.specs.Machine.{if_installing};
-ghost use Rattle.vab_machine.specs.Plans.{other_slot, images_of, bytes_named, entry_named};
-ghost use Rattle.vab_machine.specs.Plans.{is_planned, same_group, first_group};
+ghost use Rattle.vab_model.specs.Machine.{if_installing, is_written, is_settled};
+ghost use Rattle.vab_model.specs.Plans.{other_slot, images_of, twins_of, bytes_named, entry_named};
+ghost use Rattle.vab_model.specs.Plans.{is_planned, same_group, first_group};
 
 use vab_bytes::{Listing, Name36};
-use vab_model::{GroupLimit, Image, Phase, PlanEntry, Refusal, State};
+use vab_model::{GroupLimit, Image, Phase, Plan, PlanEntry, PlanImage, Refusal, State};
 use vab_names::{base_of, is_full, parse_base};
 
 /// The slot that isn't this one.
@@ -23,15 +23,15 @@ pub(crate) fn other_slot(slot: usize) -> usize
 }
 
 /// The source of an update that is installed, and the plan of its target.
-pub(crate) fn installing(state: &State) -> Option<(usize, &[PlanEntry])>
+pub(crate) fn installing(state: &State) -> Option<(usize, &Plan)>
     ensures { MatchOption result
-        ((row : ℕ → List PlanOf → Effect StateOf)
+        ((row : ℕ → PlanOf → Effect StateOf)
         → if_installing state.now.phase row ≡ refuses Refusal.NotInstalling)
         (λ u. state.now.phase ≡ Phase.Installing u.0 u.1.now) }
 {
     match &state.phase {
         Phase::Idle => None,
-        Phase::Installing(source, plan) => Some((*source, plan.as_slice())),
+        Phase::Installing(source, plan) => Some((*source, plan)),
         Phase::Staged(_, _) => None,
         Phase::Merging(_, _) => None,
     }
@@ -46,6 +46,14 @@ pub(crate) fn images_of(state: &State, slot: usize) -> &[Image]
         None => &[],
         Some(images) => images.as_slice(),
     }
+}
+
+/// The images of the source whose blocks the target's entries of the same names begin with: all of
+/// them, or none where it stands apart.
+pub(crate) fn twins_of(apart: bool, source: &[Image]) -> &[Image]
+    ensures { result.now ≡ twins_of apart source.now }
+{
+    if apart { &[] } else { source }
 }
 
 /// The bytes of the image of this base name; none where there is no such image.
@@ -77,6 +85,20 @@ pub(crate) fn is_planned(plan: &[PlanEntry], name: &[u8]) -> bool
     ensures { result ≡ is_planned name.now plan.now }
 {
     entry_named(plan, name).is_some()
+}
+
+/// Whether an entry was flashed.
+pub(crate) fn is_written(image: &PlanImage) -> bool
+    ensures { result ≡ is_written image.now }
+{
+    matches!(image, PlanImage::Written(_, _))
+}
+
+/// Whether an entry's image is written in place, so that its blocks stay.
+pub(crate) fn is_settled(plan: &Plan, entry: &PlanEntry) -> bool
+    ensures { result ≡ is_settled plan.now entry.now }
+{
+    plan.apart && is_written(&entry.image)
 }
 
 /// Whether two groups are the same; `None` is that of no slot.

@@ -2,9 +2,9 @@
 
 ghost use Rattle.std.specs.Prelude.{◌≡◌, ◌<◌, ◌^◌, None, IfOk, map};
 ghost use Rattle.vab_model.specs.Effects.{after_of};
-ghost use Rattle.vab_machine.specs.Machine.{lesser, declared_name, least_declared, exceptions_of};
-ghost use Rattle.vab_machine.specs.Machine.{exceptions_in, final_bytes, final_image, finished};
-ghost use Rattle.vab_machine.specs.Machine.{finish_row, if_installing};
+ghost use Rattle.vab_model.specs.Machine.{lesser, declared_name, least_declared, exceptions_of};
+ghost use Rattle.vab_model.specs.Machine.{exceptions_in, final_bytes, final_image, finished};
+ghost use Rattle.vab_model.specs.Machine.{finish_row, if_installing};
 ghost use Rattle.vab_machine.specs.Small.{IsSmall, IsSmallPlan};
 
 use crate::answer::refuse;
@@ -13,7 +13,7 @@ use crate::parts::{bytes_named, images_of, installing, other_slot};
 use std::alloc::Global;
 use std::cmp::Ordering;
 use vab_bytes::{Bytes, Listing, Name36};
-use vab_model::{Image, NoMemory, Phase, PlanEntry, PlanImage, Refusal, Reply, State};
+use vab_model::{Image, NoMemory, Phase, Plan, PlanEntry, PlanImage, Refusal, Reply, State};
 
 // The lesser of two names, byte by byte.
 fn lesser(least: Option<Name36>, name: Name36) -> Option<Name36>
@@ -111,17 +111,13 @@ fn final_images(
 
 // The state where the target has the plan's images.
 #[tactic(auto, using(crate::proofs::Bounds::exceptions_fit))]
-fn finished(
-    alloc: Global,
-    state: &State,
-    source: usize,
-    plan: &[PlanEntry],
-) -> Result<State, NoMemory>
-    requires { IsSmallPlan plan.now }
+fn finished(alloc: Global, state: &State, source: usize, plan: &Plan) -> Result<State, NoMemory>
+    requires { IsSmallPlan plan.now.entries }
     ensures { IfOk result (λ s. s ≡ finished state.now source plan.now) }
 {
-    let images = final_images(alloc, images_of(state, source), plan)?;
-    let phase = Phase::Staged(source, exceptions_in(plan));
+    let entries = plan.entries.as_slice();
+    let images = final_images(alloc, images_of(state, source), entries)?;
+    let phase = Phase::Staged(source, exceptions_in(entries));
     let copy = state.copy(alloc)?;
     if other_slot(source) == 0 {
         Ok(State {
@@ -149,7 +145,7 @@ pub(crate) fn finish(alloc: Global, state: &State) -> Result<(State, Reply), NoM
     let Some((source, plan)) = installing(state) else {
         return refuse(alloc, state, Refusal::NotInstalling);
     };
-    match least_declared(plan) {
+    match least_declared(plan.entries.as_slice()) {
         Some(name) => refuse(alloc, state, Refusal::Incomplete(name)),
         None => Ok((finished(alloc, state, source, plan)?, Reply::Done)),
     }

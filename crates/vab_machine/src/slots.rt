@@ -3,8 +3,8 @@
 ghost use Rattle.std.specs.Prelude.{◌≡◌, IfOk};
 ghost use Rattle.vab_bootctl.specs.Boot.{info_at};
 ghost use Rattle.vab_model.specs.Effects.{after_of};
-ghost use Rattle.vab_machine.specs.Machine.{without_images, cancelled, cancel_row, merging_from};
-ghost use Rattle.vab_machine.specs.Machine.{begin_merge_row, merge_row};
+ghost use Rattle.vab_model.specs.Machine.{without_images, cancelled, cancel_row, merging_from};
+ghost use Rattle.vab_model.specs.Machine.{begin_merge_row, merge_row};
 
 use crate::answer::refuse;
 use crate::parts::other_slot;

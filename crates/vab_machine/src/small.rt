@@ -66,7 +66,7 @@ fn is_small_phase(phase: &Phase) -> bool
 {
     match phase {
         Phase::Idle => true,
-        Phase::Installing(_, plan) => is_small_plan(plan.as_slice()),
+        Phase::Installing(_, plan) => is_small_plan(plan.entries.as_slice()),
         Phase::Staged(_, _) => true,
         Phase::Merging(_, _) => true,
     }

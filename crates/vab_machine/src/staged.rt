@@ -3,7 +3,7 @@
 ghost use Rattle.std.specs.Prelude.{◌≡◌, ◌≤◌, ◌<◌, ◌*◌, ◌^◌, length, take, drop, IfOk};
 ghost use Rattle.vab_space.specs.Chunks.{chunks_for};
 ghost use Rattle.vab_space.specs.Differing.{any_differs, chunk_differs};
-ghost use Rattle.vab_machine.specs.Staged.{is_sparse, filled, block_at, differs, differences};
+ghost use Rattle.vab_model.specs.Staged.{is_sparse, filled, block_at, differs, differences};
 
 use crate::count::blocks_in;
 use std::alloc::Global;

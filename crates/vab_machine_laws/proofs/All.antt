@@ -2,7 +2,7 @@
 use Rattle.std.proofs.Common.{inl}
 use Rattle.vab_model.specs.Commands.{Command, SetActive, Boot, Mark, Print, Digest, Begin, Create}
 use Rattle.vab_model.specs.Commands.{Resize, Delete, Snapshot, Flash, Finish, Cancel, BeginMerge}
-use Rattle.vab_model.specs.Commands.{Merge}
+use Rattle.vab_model.specs.Commands.{Merge, Factory}
 use Rattle.vab_targets.specs.Plans.{BeginKeepsImages, EditsFollowSizes}
 use Rattle.vab_machine_laws.specs.Rows.{IsTheMachines}
 use Rattle.vab_machine_laws.specs.Edits.{IsTheMachinesOrFull}
@@ -10,7 +10,7 @@ use Rattle.vab_machine_laws.proofs.SlotRows.{set_active_row, boot_row, mark_row,
 use Rattle.vab_machine_laws.proofs.SlotRows.{digest_row, finish_is, cancel_is, begin_merge_is}
 use Rattle.vab_machine_laws.proofs.SlotRows.{merge_is}
 use Rattle.vab_machine_laws.proofs.Flashes.{flash_is}
-use Rattle.vab_machine_laws.proofs.Begins.{begin_is}
+use Rattle.vab_machine_laws.proofs.Begins.{update_is, factory_is}
 use Rattle.vab_machine_laws.proofs.Creates.{create_is}
 use Rattle.vab_machine_laws.proofs.Deletes.{delete_is}
 use Rattle.vab_machine_laws.proofs.Snapshots.{snapshot_is}
@@ -25,7 +25,8 @@ each_is begins edits Boot = plainly Boot boot_row
 each_is begins edits Mark = plainly Mark mark_row
 each_is begins edits (Print name) = plainly (Print name) (print_row name)
 each_is begins edits (Digest name) = plainly (Digest name) (digest_row name)
-each_is begins edits Begin = begin_is begins
+each_is begins edits Begin = update_is begins
+each_is begins edits Factory = factory_is begins
 each_is begins edits (Create name size) = create_is edits name size
 each_is begins edits (Resize name size) = resize_is edits name size
 each_is begins edits (Delete name) = delete_is edits name

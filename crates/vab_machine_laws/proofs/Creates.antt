@@ -16,10 +16,9 @@ use Rattle.vab_tables.specs.Rules.{cap_of}
 use Rattle.vab_blocks.proofs.Contained.{of_filter}
 use Rattle.vab_layout.specs.declared.layout.Part.{Part}
 use Rattle.vab_layout.specs.declared.layout.Layout.{Layout}
-use Rattle.vab_layout.specs.Slots.{other_slot, own_parts, before_of}
+use Rattle.vab_layout.specs.Slots.{other_slot, own_parts, twins_by, before_of}
 use Rattle.vab_builder.specs.declared.fault.EditFault.{EditFault}
 use Rattle.vab_builder.specs.Sizes.{has_part, want_of, wants_of, is_within, limit_of}
-use Rattle.vab_builder.specs.Edits.{changed_by}
 use Rattle.vab_builder.specs.Passes.{created_group, created_group_sum, created_group_limit}
 use Rattle.vab_builder.specs.Passes.{created_in_use}
 use Rattle.vab_builder.proofs.PartLaws.{part_absent}
@@ -28,24 +27,27 @@ use Rattle.vab_builder.proofs.Verdicts.{created-too_many, created-group_limit, c
 use Rattle.vab_builder.proofs.Verdicts.{created-ok}
 use Rattle.vab_model.specs.declared.state.Image.{Image as ImageOfSlot}
 use Rattle.vab_model.specs.declared.state.PlanEntry.{PlanEntry}
+use Rattle.vab_model.specs.declared.state.Plan.{Plan}
 use Rattle.vab_model.specs.declared.state.State.{State}
 use Rattle.vab_model.specs.declared.command.Refusal.TheVariants as refusals
 use Rattle.vab_model.specs.Commands.{Create}
 use Rattle.vab_model.specs.Effects.{Effect}
-use Rattle.vab_machine.specs.Plans.{created_entry, first_group, images_of, group_bytes}
-use Rattle.vab_machine.specs.Plans.{want_of as want_entry, limit_of as limit_by, same_group}
-use Rattle.vab_machine.specs.Machine.{unless, create_row, machine_effect, if_room}
-use Rattle.vab_machine.specs.Machine.{if_within}
+use Rattle.vab_model.specs.Plans.{created_entry, first_group, images_of, twins_of, group_bytes}
+use Rattle.vab_model.specs.Plans.{with_entries}
+use Rattle.vab_model.specs.Plans.{want_of as want_entry, limit_of as limit_by, same_group}
+use Rattle.vab_model.specs.Machine.{unless, create_row, machine_effect, if_room}
+use Rattle.vab_model.specs.Machine.{if_within}
 use Rattle.vab_device.specs.Kept.{group_of}
 use Rattle.vab_device.specs.Mounted.{Mounted}
-use Rattle.vab_device.specs.Updates.{entry_by}
+use Rattle.vab_device.specs.Updates.{no_guard, entry_by}
 use Rattle.vab_edit.proofs.PlanLaws.{map_map, map_among}
 use Rattle.vab_targets.specs.Plans.{EditsFollowSizes, HasWholeSectors}
 use Rattle.vab_builder.proofs.LimitLaws.{default_unlimited}
 use Rattle.vab_machine_laws.specs.Edits.{IsTheMachinesOrFull}
 use Rattle.vab_targets.proofs.Installed.{IsInstalled, is_installed}
+use Rattle.vab_targets.proofs.Updates.{by_edit}
 use Rattle.vab_machine_laws.proofs.Sources.{HasSource, has_source}
-use Rattle.vab_machine_laws.proofs.Entries.{entry_absent, entry_there}
+use Rattle.vab_targets.proofs.Named.{entry_absent, entry_there}
 use Rattle.vab_machine_laws.proofs.Given.{IsGiven, edit_is}
 use Rattle.vab_machine_laws.proofs.Groups.{IsOfSlot, group_same, limit_same, sizes_same, pushed}
 use Rattle.vab_machine_laws.proofs.Groups.{in_slot_group, first_is, first_in_slot}
@@ -58,7 +60,7 @@ map_more f [] x = refl
 map_more f (y ∷ ys) x = let rest = map_more f ys x in (λ i. f y ∷ rest i)
 
 module _
-    (size : ℕ) (image : Image) (m : Mounted) (source : ℕ) (plan : List PlanEntry)
+    (size : ℕ) (image : Image) (m : Mounted) (source : ℕ) (plan : Plan)
     (whole : HasWholeSectors size image)
     (i : IsInstalled m source plan)
     (h : HasSource size image m source)
@@ -76,11 +78,20 @@ module _
   abbrev more : PlanEntry
   more = created_entry m.state.groups (base_of name) bytes
 
-  abbrev next : List PlanEntry
-  next = plan ++ more ∷ []
+  abbrev twins : List Part
+  twins = twins_by plan.apart i.s.parts
+
+  abbrev pictured : List ImageOfSlot
+  pictured = twins_of plan.apart (images_of m.state source)
+
+  abbrev entries : List PlanEntry
+  entries = plan.entries ++ more ∷ []
+
+  abbrev next : Plan
+  next = with_entries plan entries
 
   abbrev used : ℕ
-  used = created_in_use o i.s i.t name n
+  used = created_in_use o twins i.s i.t name n
 
   abbrev sum : ℕ
   sum = created_group_sum o i.t name n
@@ -90,19 +101,19 @@ module _
 
   abbrev wanted : List Want
   wanted =
-      wants_of o i.s.parts i.t.parts
-      ++ record { before = length (before_of o i.s.parts name); blocks = n; store = 0 } ∷ []
+      wants_of o twins i.t.parts
+      ++ record { before = length (before_of o twins name); blocks = n; store = 0 } ∷ []
 
-  wants : map (want_entry (images_of m.state source)) next ≡ wanted
+  wants : map (want_entry pictured) entries ≡ wanted
   wants =
-      let images : List ImageOfSlot = images_of m.state source in
       let before = before_same size image m source plan whole i h name in
-      let there : map (want_entry images) plan ≡ wants_of o i.s.parts i.t.parts =
-      ap (map (want_entry images)) i.again
-      ∙ map_map (entry_by i.t plan) (want_entry images) own
-      ∙ map_among (λ p. want_entry images (entry_by i.t plan p)) (want_of o i.s.parts i.t.parts) own
+      let entry : Part → PlanEntry = entry_by i.t plan.entries in
+      let there : map (want_entry pictured) plan.entries ≡ wants_of o twins i.t.parts =
+      ap (map (want_entry pictured)) i.again
+      ∙ map_map entry (want_entry pictured) own
+      ∙ map_among (λ p. want_entry pictured (entry p)) (want_of o twins i.t.parts) own
       (λ p c. want_same size image m source plan whole i h p) in
-      map_more (want_entry images) plan more
+      map_more (want_entry pictured) plan.entries more
       ∙ (λ j. there j ++ record { before = before j; blocks = n; store = 0 } ∷ [])
 
   -- ---- the group
@@ -114,19 +125,19 @@ module _
   in_group p c = in_slot_group o i.t.parts p i.update.parts.own.each c
 
   sum_is : has_part name i.t.parts ≡ false
-      → group_bytes (first_group m.state.groups) next ≡ sum
+      → group_bytes (first_group m.state.groups) entries ≡ sum
   sum_is absent =
       let g : List ℕ = created_group o i.t in
       let mine = first_in_slot o i.t.groups in
-      let sizes = sizes_same g name n (entry_by i.t plan) own (λ p c.
+      let sizes = sizes_same g name n (entry_by i.t plan.entries) own (λ p c.
       let among = (of_filter (λ (x : Part). is_of_slot o x.name) i.t.parts p c).0 in
       let other : bytes_eq p.name name ≡ false =
       ne_name p.name name (part_absent name i.t.parts p absent among) in (
         group_same o p.group g (in_group p c) mine,
         rw other refl,
       )) in
-      ap (λ (x : Option (List ℕ)). group_bytes x next) (sym group)
-      ∙ ap group_sum_of (pushed (group_of g) more plan (sym group)
+      ap (λ (x : Option (List ℕ)). group_bytes x entries) (sym group)
+      ∙ ap group_sum_of (pushed (group_of g) more plan.entries (sym group)
       ∙ ap (λ (x : List PlanEntry).
       map {A = PlanEntry} (λ e. e.blocks)
       (filter {X = PlanEntry} (λ e. same_group e.group (group_of g)) x) ++ n ∷ []) i.again
@@ -149,8 +160,8 @@ module _
       unless (is_within (s j) (l j)) (refusals.GroupLimit (s j) (l j))
       (if_room m.state source next))
 
-  long : length plan ≡ length own
-  long = ap length i.again ∙ length-map own (entry_by i.t plan)
+  long : length plan.entries ≡ length own
+  long = ap length i.again ∙ length-map own (entry_by i.t plan.entries)
 
   -- ---- the row
 
@@ -160,45 +171,49 @@ module _
   abbrev Given : Result Layout EditFault → Type 0
   Given r = IsGiven m source next r row
 
-  pub create_given : Given (changed_by o i.s i.t (create_of name bytes))
+  pub create_given : Given (by_edit (create_of name bytes) plan.apart o i.s i.t)
   create_given = elim (cases_Bool (is_full o name)) [
-    | inr bad ↦ subst Given (sym (created-bad_name o i.s i.t name bytes bad)) (rw bad refl, refl)
+    | inr bad ↦ subst Given (sym (created-bad_name o twins i.s i.t name bytes bad))
+        (rw bad refl, refl)
     | inl full ↦
         let of = full_slot o name full in
         elim (cases_Bool (nat_le bytes (2 ^ 40))) [
           | inr bad ↦
               subst Given
-              (sym (created-bad_size o i.s i.t name bytes full (leb-false bytes (2 ^ 40) bad)))
+              (sym (created-bad_size o twins i.s i.t name bytes full
+              (leb-false bytes (2 ^ 40) bad)))
               (rw (full, bad) refl, refl)
           | inl sized ↦
               let short = leb-true bytes (2 ^ 40) sized in
               elim (cases_Bool (has_part name i.t.parts)) [
                 | inl there ↦
-                    let e = entry_there o i.t plan i.again name of there in
+                    let e = entry_there o i.t plan.entries i.again name of there in
                     let is = e.1 in
-                    subst Given (sym (created-exists o i.s i.t name bytes full short there))
+                    subst Given
+                    (sym (created-exists o twins i.s i.t name bytes full short there))
                     (rw (full, sized, is) refl, refl)
                 | inr absent ↦
-                    let is = entry_absent o i.t plan i.again name of absent in
-                    elim (cases_Bool (nat_lt (length plan) most_partitions)) [
+                    let is = entry_absent o i.t plan.entries i.again name of absent in
+                    elim (cases_Bool (nat_lt (length plan.entries) most_partitions)) [
                       | inr many ↦
-                          let most = ltb-false (length plan) most_partitions many in
+                          let most = ltb-false (length plan.entries) most_partitions many in
                           subst Given
-                          (sym (created-too_many o i.s i.t name bytes full short absent
+                          (sym (created-too_many o twins i.s i.t name bytes full short absent
                           (omega (arith, most, long))))
                           (rw (full, sized, is, many) refl, refl)
                       | inl few ↦
-                          let under = ltb-true (length plan) most_partitions few in
+                          let under = ltb-true (length plan.entries) most_partitions few in
                           let small : length own < most_partitions = omega (arith, under, long) in
                           let judged : row
                           ≡ if_within m.state source (first_group m.state.groups) next =
                           rw (full, sized, is, few) refl in
                           let asked = judged ∙ within_is absent in
-                          let roomed = room_is size image m source plan whole i h next wanted wants
-                          in
+                          let roomed = room_is size image m source plan whole i h entries wanted
+                          wants in
                           elim (cases_Bool (is_within sum limit)) [
                             | inr beyond ↦
-                                subst Given (sym (created-group_limit o i.s i.t name bytes sum limit
+                                subst Given (sym
+                                (created-group_limit o twins i.s i.t name bytes sum limit
                                 full short absent small refl refl beyond))
                                 (asked ∙ rw beyond refl, refl)
                             | inl within ↦
@@ -206,12 +221,14 @@ module _
                                 asked ∙ rw within refl in
                                 elim (cases_Bool (nat_le used (cap_of i.t.device))) [
                                   | inr over ↦
-                                      subst Given (sym (created-no_room o i.s i.t name bytes used
+                                      subst Given
+                                      (sym (created-no_room o twins i.s i.t name bytes used
                                       (cap_of i.t.device) full short absent small within refl refl
                                       (leb-false used (cap_of i.t.device) over)))
                                       (room ∙ roomed ∙ rw over refl, refl)
                                   | inl fits ↦
-                                      subst Given (sym (created-ok o i.s i.t name bytes (record {
+                                      subst Given
+                                      (sym (created-ok o twins i.s i.t name bytes (record {
                                         full = full;
                                         size = short;
                                         absent = absent;
@@ -231,8 +248,8 @@ pub create_is : EditsFollowSizes → (name : List ℕ) (bytes : ℕ)
     → IsTheMachinesOrFull (Create name bytes)
 unfolding machine_effect
 create_is law name bytes size image m staged whole is =
-    edit_is law size image m staged whole is (Create name bytes) refl (create_of name bytes)
-    refl (create_row m.state name bytes) (λ source plan phase.
+    edit_is law size image m staged whole is (Create name bytes) refl no_guard
+    (create_of name bytes) refl (create_row m.state name bytes) (λ source plan phase.
     let i = is_installed size image m source plan whole is phase in
     let h = has_source size image m source plan whole is phase in
     let none = default_unlimited i.t.groups i.update.target_rules.groups in

@@ -1,7 +1,7 @@
 -- The row of a flash.
-use Rattle.std.proofs.Common.{◌≡◌, ◌∙◌, ℕ, ◌*◌, ◌≤◌, List}
+use Rattle.std.proofs.Common.{◌≡◌, ◌∙◌, ℕ, ◌*◌, ◌≤◌, Bool, true, false, List}
 use Rattle.std.proofs.Common.{length, Option, Some, None, inl, inr, refl, ap}
-use Rattle.std.specs.Prelude.{nat_le}
+use Rattle.std.specs.Prelude.{nat_le, not, if◌then◌else◌}
 use Rattle.std.proofs.lemmas.Bool.{cases_Bool, cases_lt, lt-ltb, le-ltb, le-leb, lt-leb}
 use Rattle.vab_names.specs.Names.{is_full, base_of}
 use Rattle.vab_space.specs.declared.Chunk.{Chunk}
@@ -9,41 +9,75 @@ use Rattle.vab_space.specs.Chunks.{need_at}
 use Rattle.vab_model.specs.declared.state.PlanImage.{PlanImage}
 use Rattle.vab_model.specs.declared.state.PlanImage.TheVariants.{Kept, Declared, Written}
 use Rattle.vab_model.specs.declared.state.PlanEntry.{PlanEntry}
+use Rattle.vab_model.specs.declared.state.Plan.{Plan}
 use Rattle.vab_model.specs.declared.state.Phase.{Phase}
 use Rattle.vab_model.specs.declared.state.Phase.TheVariants.{Idle, Installing, Staged, Merging}
+use Rattle.vab_model.specs.declared.state.State.{State}
+use Rattle.vab_model.specs.declared.command.Refusal.TheVariants as refusals
 use Rattle.vab_model.specs.Commands.{Flash}
-use Rattle.vab_machine.specs.Plans.{other_slot, bytes_named, images_of, entry_named, at_entry}
-use Rattle.vab_machine.specs.Plans.{written_entry}
-use Rattle.vab_machine.specs.Staged.{is_sparse, filled, differences}
-use Rattle.vab_machine.specs.Machine.{if_installing, if_planned, if_stored, flash_staged}
-use Rattle.vab_machine.specs.Machine.{flash_entry}
-use Rattle.vab_machine.specs.Machine.{flash_row, machine_effect, planned}
+use Rattle.vab_model.specs.Effects.{Effect, refuses, wanting}
+use Rattle.vab_model.specs.Plans.{other_slot, bytes_named, images_of, entry_named}
+use Rattle.vab_model.specs.Staged.{is_sparse, filled, differences}
+use Rattle.vab_model.specs.Machine.{unless, if_installing, if_planned, is_written, with_image}
+use Rattle.vab_model.specs.Machine.{if_stored, in_store, in_place, flash_staged, flash_unwritten}
+use Rattle.vab_model.specs.Machine.{flash_entry, flash_row, machine_effect, planned}
 use Rattle.vab_device.specs.Mounted.{Mounted}
-use Rattle.vab_device.specs.Updates.{flash_effect, entry_effect, stored_effect}
-use Rattle.vab_device.specs.Updates.{staged_effect, if_room, differences as differences_of}
-use Rattle.vab_device.specs.Updates.{source_bytes}
+use Rattle.vab_device.specs.Updates.{flash_effect, entry_effect, placed_effect, unwritten_effect}
+use Rattle.vab_device.specs.Updates.{staged_effect, if_room, flashed, source_bytes}
+use Rattle.vab_device.specs.Updates.{differences as differences_of}
+use Rattle.vab_device.specs.Updates.{in_store as in_store_of, in_place as in_place_of}
 use Rattle.vab_machine_laws.specs.Rows.{on_states, IsTheMachines}
-use Rattle.vab_machine_laws.proofs.SlotRows.{source_same}
 use Rattle.vab_machine_laws.proofs.Filled.{filled_same, differences_same}
 
-room_same : (m : Mounted) (source : ℕ) (plan : List PlanEntry) (e : PlanEntry) (store : ℕ)
+-- the image of an entry, written
+written_same : (m : Mounted) (source : ℕ) (plan : Plan) (e : PlanEntry) (staged : List ℕ) (n : ℕ)
+    → length staged ≤ 4096 * e.blocks
+    → on_states (flashed m source plan e staged n)
+    ≡ wanting false (planned m.state source (with_image plan e (filled staged e.blocks) n))
+written_same m source plan e staged n le =
+    ap (λ (b : List ℕ). wanting false (planned m.state source (with_image plan e b n)))
+    (filled_same staged e.blocks le)
+
+room_same : (m : Mounted) (source : ℕ) (plan : Plan) (e : PlanEntry) (store : ℕ)
     (k : Chunk) (staged : List ℕ) (n : ℕ)
     → length staged ≤ 4096 * e.blocks
     → on_states (if_room m source plan e store k staged n)
     ≡ if_stored m.state source plan e k store (filled staged e.blocks) n
 room_same m source plan e store k staged n le = elim (cases_Bool (nat_le (need_at n k) store)) [
   | inl t ↦
-      rw t (ap (λ (b : List ℕ). planned m.state source (at_entry e.name (written_entry b n) plan))
+      rw t (ap (λ (b : List ℕ). planned m.state source (with_image plan e b n))
       (filled_same staged e.blocks le))
   | inr f ↦ rw f refl
 ]
 
-staged_same : (m : Mounted) (source : ℕ) (plan : List PlanEntry) (e : PlanEntry) (store : ℕ)
-    (k : Chunk) (staged : Option (List ℕ))
-    → on_states (staged_effect m source plan e store k staged)
-    ≡ flash_staged m.state source plan e k store staged
-staged_same m source plan e store k None = refl
-staged_same m source plan e store k (Some staged) = elim (cases_Bool (is_sparse staged)) [
+-- where an image goes, and the row of that
+abbrev SamePlace : PlanEntry → (List ℕ → Effect Mounted) → (List ℕ → Effect State) → Type 0
+SamePlace e place row =
+    (staged : List ℕ)
+    → length staged ≤ 4096 * e.blocks
+    → on_states (place staged) ≡ row (filled staged e.blocks)
+
+store_same : (m : Mounted) (source : ℕ) (plan : Plan) (e : PlanEntry) (store : ℕ) (k : Chunk)
+    → SamePlace e (in_store_of m source plan e store k) (in_store m.state source plan e k store)
+store_same m source plan e store k staged le =
+    let before : List ℕ = bytes_named e.name (images_of m.state source) in
+    let image : List ℕ = filled staged e.blocks in
+    let count : differences_of k (source_bytes m.state source e.name) staged e.blocks
+    ≡ differences k before image e.blocks =
+    differences_same staged e.blocks le k before in
+    ap (λ (n : ℕ). on_states (if_room m source plan e store k staged n)) count
+    ∙ room_same m source plan e store k staged (differences k before image e.blocks) le
+
+place_same : (m : Mounted) (source : ℕ) (plan : Plan) (e : PlanEntry)
+    → SamePlace e (in_place_of m source plan e) (in_place m.state source plan e)
+place_same m source plan e staged le = written_same m source plan e staged 0 le
+
+staged_same : (e : PlanEntry) (place : List ℕ → Effect Mounted) (row : List ℕ → Effect State)
+    (staged : Option (List ℕ))
+    → SamePlace e place row
+    → on_states (staged_effect e place staged) ≡ flash_staged e row staged
+staged_same e place row None same = refl
+staged_same e place row (Some staged) same = elim (cases_Bool (is_sparse staged)) [
   | inl t ↦ rw t refl
   | inr f ↦ elim (cases_lt (4096 * e.blocks) (length staged)) [
     | inl lt ↦
@@ -53,46 +87,48 @@ staged_same m source plan e store k (Some staged) = elim (cases_Bool (is_sparse 
     | inr le ↦
         let within = le-ltb (4096 * e.blocks) (length staged) le in
         let fits = le-leb (length staged) (4096 * e.blocks) le in
-        let source_is = source_same m.state source e.name in
-        let count : differences_of k (source_bytes m.state source e.name) staged e.blocks
-        ≡ differences k (bytes_named e.name (images_of m.state source)) (filled staged e.blocks)
-        e.blocks =
-        ap (λ (b : List ℕ). differences_of k b staged e.blocks) source_is
-        ∙ differences_same staged e.blocks le k
-        (bytes_named e.name (images_of m.state source)) in
-        rw (f, within, fits) (ap
-        (λ (n : ℕ). on_states (if_room m source plan e store k staged n)) count
-        ∙ room_same m source plan e store k staged
-        (differences k (bytes_named e.name (images_of m.state source)) (filled staged e.blocks)
-        e.blocks) le)
+        rw (f, within, fits) (same staged le)
   ]
 ]
 
-stored_by : (m : Mounted) (source : ℕ) (plan : List PlanEntry) (e : PlanEntry)
-    (k : Chunk) (staged : Option (List ℕ)) (store : ℕ) (image : PlanImage)
-    → e.image ≡ image
-    → on_states (stored_effect m source plan e k staged (Some store))
-    ≡ flash_entry m.state source plan staged e k (Some store)
-stored_by m source plan e k staged store Kept is =
-    rw is (staged_same m source plan e store k staged)
-stored_by m source plan e k staged store Declared is =
-    rw is (staged_same m source plan e store k staged)
-stored_by m source plan e k staged store (Written bytes n) is = rw is refl
+unwritten_same : (image : PlanImage) (next : Effect Mounted) (row : Effect State)
+    → on_states next ≡ row
+    → on_states (unwritten_effect image next)
+    ≡ unless (not (is_written image)) refusals.Written row
+unwritten_same Kept next row same = same
+unwritten_same Declared next row same = same
+unwritten_same (Written bytes n) next row same = refl
 
-stored_same : (m : Mounted) (source : ℕ) (plan : List PlanEntry) (e : PlanEntry)
+apart_same : (apart : Bool) (next : Effect Mounted) (row : Effect State)
+    → on_states next ≡ row
+    → on_states (if apart then next else refuses refusals.NoStore)
+    ≡ unless apart refusals.NoStore row
+apart_same true next row same = same
+apart_same false next row same = refl
+
+placed_same : (m : Mounted) (source : ℕ) (plan : Plan) (e : PlanEntry)
     (k : Chunk) (staged : Option (List ℕ)) (store : Option ℕ)
-    → on_states (stored_effect m source plan e k staged store)
+    → on_states (placed_effect m source plan e k staged store)
     ≡ flash_entry m.state source plan staged e k store
-stored_same m source plan e k staged None = refl
-stored_same m source plan e k staged (Some store) =
-    stored_by m source plan e k staged store e.image refl
+placed_same m source plan e k staged None =
+    let place : List ℕ → Effect Mounted = in_place_of m source plan e in
+    let row : List ℕ → Effect State = in_place m.state source plan e in
+    apart_same plan.apart (unwritten_effect e.image (staged_effect e place staged))
+    (flash_unwritten e row staged)
+    (unwritten_same e.image (staged_effect e place staged) (flash_staged e row staged)
+    (staged_same e place row staged (place_same m source plan e)))
+placed_same m source plan e k staged (Some store) =
+    let place : List ℕ → Effect Mounted = in_store_of m source plan e store k in
+    let row : List ℕ → Effect State = in_store m.state source plan e k store in
+    unwritten_same e.image (staged_effect e place staged) (flash_staged e row staged)
+    (staged_same e place row staged (store_same m source plan e store k))
 
-entry_same : (m : Mounted) (source : ℕ) (plan : List PlanEntry) (k : Chunk)
+entry_same : (m : Mounted) (source : ℕ) (plan : Plan) (k : Chunk)
     (staged : Option (List ℕ)) (o : Option PlanEntry)
     → on_states (entry_effect m source plan k staged o)
     ≡ if_planned o (λ e. flash_entry m.state source plan staged e k e.store)
 entry_same m source plan k staged None = refl
-entry_same m source plan k staged (Some e) = stored_same m source plan e k staged e.store
+entry_same m source plan k staged (Some e) = placed_same m source plan e k staged e.store
 
 flash_same : (m : Mounted) (staged : Option (List ℕ)) (name : List ℕ) (k : Chunk)
     (phase : Phase)
@@ -101,7 +137,8 @@ flash_same : (m : Mounted) (staged : Option (List ℕ)) (name : List ℕ) (k : C
 flash_same m staged name k Idle = refl
 flash_same m staged name k (Installing source plan) =
     elim (cases_Bool (is_full (other_slot source) name)) [
-      | inl t ↦ rw t (entry_same m source plan k staged (entry_named (base_of name) plan))
+      | inl t ↦
+          rw t (entry_same m source plan k staged (entry_named (base_of name) plan.entries))
       | inr f ↦ rw f refl
     ]
 flash_same m staged name k (Staged source left) = refl

@@ -16,13 +16,13 @@ use Rattle.vab_layout.specs.Plain.{own_groups}
 use Rattle.vab_layout.specs.Slots.{own_parts, groups_of_slot, IsOwnPart}
 use Rattle.vab_builder.specs.Edits.{group_named}
 use Rattle.vab_builder.specs.Edits.{first_group as first_of_slot}
-use Rattle.vab_machine.specs.Plans.{first_group}
+use Rattle.vab_model.specs.Plans.{first_group}
 use Rattle.vab_device.specs.Stores.{first_named}
 use Rattle.vab_builder.specs.Sizes.{limit_of, sizes_in}
 use Rattle.vab_model.specs.declared.state.GroupLimit.{GroupLimit}
 use Rattle.vab_model.specs.declared.state.PlanEntry.{PlanEntry}
-use Rattle.vab_machine.specs.Plans.{same_group, limit_named}
-use Rattle.vab_machine.specs.Plans.{limit_of as limit_by}
+use Rattle.vab_model.specs.Plans.{same_group, limit_named}
+use Rattle.vab_model.specs.Plans.{limit_of as limit_by}
 use Rattle.vab_device.specs.Kept.{group_of, limits_of}
 use Rattle.vab_edit.proofs.NamedLaws.{base_eq}
 

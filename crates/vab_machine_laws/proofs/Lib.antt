@@ -3,9 +3,9 @@ pub mod Filled
 pub mod Flashes
 pub mod Values
 pub mod Given
+pub mod Settled
 pub mod Sources
 pub mod Begins
-pub mod Entries
 pub mod Deletes
 pub mod Rooms
 pub mod Snapshots

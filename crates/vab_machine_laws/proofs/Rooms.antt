@@ -1,5 +1,5 @@
 -- The blocks in use, by a table's partitions and by the plan that it has.
-use Rattle.std.proofs.Common.{◌≡◌, ◌∙◌, ℕ, true, cond}
+use Rattle.std.proofs.Common.{◌≡◌, ◌∙◌, ℕ, Bool, true, false, cond}
 use Rattle.std.proofs.Common.{List, [], ◌∷◌, length, inl, inr, refl, sym, ap, arith}
 use Rattle.std.specs.Prelude.{Some, map, option_map, Contains, nat_le}
 use Rattle.std.specs.Str.{bytes_eq}
@@ -15,16 +15,17 @@ use Rattle.vab_blocks.proofs.Contained.{first, later, of_filter, in_map}
 use Rattle.vab_layout.specs.declared.layout.Part.{Part}
 use Rattle.vab_layout.specs.declared.layout.Layout.{Layout}
 use Rattle.vab_layout.specs.Plain.{plain}
-use Rattle.vab_layout.specs.Slots.{other_slot, own_parts, blocks_named, before_of}
+use Rattle.vab_layout.specs.Slots.{other_slot, own_parts, twins_by, blocks_named, before_of}
 use Rattle.vab_builder.specs.Sizes.{source_sizes, want_of, used_by}
 use Rattle.vab_builder.proofs.PartLaws.{named_own}
 use Rattle.vab_builder.proofs.SlotLaws.{other_slot_again}
 use Rattle.vab_model.specs.declared.state.Image.{Image as ImageOfSlot}
 use Rattle.vab_model.specs.declared.state.PlanEntry.{PlanEntry}
+use Rattle.vab_model.specs.declared.state.Plan.{Plan}
 use Rattle.vab_model.specs.declared.command.Refusal.TheVariants as refusals
-use Rattle.vab_machine.specs.Plans.{listed, images_of, bytes_named, blocks_in, store_blocks, in_use}
-use Rattle.vab_machine.specs.Plans.{want_of as want_entry, at_entry}
-use Rattle.vab_machine.specs.Machine.{unless, planned, if_room}
+use Rattle.vab_model.specs.Plans.{listed, images_of, bytes_named, blocks_in, store_blocks, in_use}
+use Rattle.vab_model.specs.Plans.{twins_of, want_of as want_entry, at_entry, with_entries}
+use Rattle.vab_model.specs.Machine.{unless, planned, if_room}
 use Rattle.vab_device.specs.Kept.{sectors_of, part_on, parts_of, IsPart}
 use Rattle.vab_device.specs.Mounted.{Mounted, image_on}
 use Rattle.vab_device.specs.Stores.{first_named}
@@ -72,7 +73,7 @@ module _ (source : ℕ) (pic : Part → ImageOfSlot)
       ]
 
 module _
-    (size : ℕ) (image : Image) (m : Mounted) (source : ℕ) (plan : List PlanEntry)
+    (size : ℕ) (image : Image) (m : Mounted) (source : ℕ) (plan : Plan)
     (whole : HasWholeSectors size image)
     (i : IsInstalled m source plan)
     (h : HasSource size image m source) where
@@ -84,6 +85,13 @@ module _
 
   abbrev own : List Part
   own = own_parts source h.l.parts
+
+  -- the twins of the target's partitions, and of the plan's entries
+  abbrev twins : List Part
+  twins = twins_by plan.apart i.s.parts
+
+  abbrev pictured : List ImageOfSlot
+  pictured = twins_of plan.apart (images_of m.state source)
 
   abbrev pic : Part → ImageOfSlot
   pic p = image_on image (part_on at p)
@@ -130,10 +138,10 @@ module _
       ∙ ap (map count) (sym own_same)
       ∙ ap (λ (n : ℕ). map count (own_parts n i.s.parts)) (sym (other_slot_again source i.below))
 
-  pub before_same : (name : List ℕ)
+  source_same : (name : List ℕ)
       → blocks_in (bytes_named (base_of name) (images_of m.state source))
       ≡ length (before_of o i.s.parts name)
-  before_same name =
+  source_same name =
       ap (λ (x : List ImageOfSlot). blocks_in (bytes_named (base_of name) x))
       (images_same ∙ pictures_are)
       ∙ before_by source pic (λ p. refl) name own of_source long
@@ -142,10 +150,20 @@ module _
       ∙ ap (λ (n : ℕ). length (blocks_named (in_slot n name) i.s.parts))
       (sym (other_slot_again source i.below))
 
+  pub before_same : (name : List ℕ)
+      → blocks_in (bytes_named (base_of name) pictured) ≡ length (before_of o twins name)
+  before_same name = by_twins plan.apart
+    where
+      by_twins : (b : Bool)
+          → blocks_in (bytes_named (base_of name) (twins_of b (images_of m.state source)))
+          ≡ length (before_of o (twins_by b i.s.parts) name)
+      by_twins true = refl
+      by_twins false = source_same name
+
   -- what an entry wants is what its partition does
   pub want_same : (p : Part)
-      → want_entry (images_of m.state source) (entry_by i.t plan p)
-      ≡ want_of o i.s.parts i.t.parts p
+      → want_entry pictured (entry_by i.t plan.entries p)
+      ≡ want_of o twins i.t.parts p
   want_same p =
       let before = before_same p.name in
       let store = store_same (store_of p.name) i.t.parts in
@@ -160,21 +178,20 @@ module _
       → ((p : Part)
       → Contains (own_parts o i.t.parts) p
       → p.name ≡ name
-      → want_entry (images_of m.state source) (change (entry_by i.t plan p)) ≡ want p)
-      → map (want_entry (images_of m.state source)) (at_entry (base_of name) change plan)
-      ≡ map (λ p. cond (bytes_eq p.name name) (want p) (want_of o i.s.parts i.t.parts p))
+      → want_entry pictured (change (entry_by i.t plan.entries p)) ≡ want p)
+      → map (want_entry pictured) (at_entry (base_of name) change plan.entries)
+      ≡ map (λ p. cond (bytes_eq p.name name) (want p) (want_of o twins i.t.parts p))
       (own_parts o i.t.parts)
   changed_wants name change want of each =
-      let images : List ImageOfSlot = images_of m.state source in
       let mine : List Part = own_parts o i.t.parts in
       let f : PlanEntry → PlanEntry =
       λ e. cond (bytes_eq e.name (base_of name)) (change e) e in
-      let entry : Part → PlanEntry = entry_by i.t plan in
-      ap (λ (x : List PlanEntry). map (want_entry images) (map f x)) i.again
-      ∙ ap (map (want_entry images)) (map_map entry f mine)
-      ∙ map_map (λ p. f (entry p)) (want_entry images) mine
-      ∙ map_among (λ p. want_entry images (f (entry p)))
-      (λ p. cond (bytes_eq p.name name) (want p) (want_of o i.s.parts i.t.parts p)) mine
+      let entry : Part → PlanEntry = entry_by i.t plan.entries in
+      ap (λ (x : List PlanEntry). map (want_entry pictured) (map f x)) i.again
+      ∙ ap (map (want_entry pictured)) (map_map entry f mine)
+      ∙ map_map (λ p. f (entry p)) (want_entry pictured) mine
+      ∙ map_among (λ p. want_entry pictured (f (entry p)))
+      (λ p. cond (bytes_eq p.name name) (want p) (want_of o twins i.t.parts p)) mine
       (λ p c.
       let same = base_eq o p.name name (of_target p c) of in
       elim (cases_Bool (bytes_eq p.name name)) [
@@ -184,16 +201,17 @@ module _
 
   -- the room that is asked for
   pub room_is : (next : List PlanEntry) (wants : List Want)
-      → map (want_entry (images_of m.state source)) next ≡ wants
-      → if_room m.state source next
+      → map (want_entry pictured) next ≡ wants
+      → if_room m.state source (with_entries plan next)
       ≡ unless (nat_le (used_by o i.s.parts wants) (cap_of i.t.device))
       (refusals.NoRoom (used_by o i.s.parts wants) (cap_of i.t.device))
-      (planned m.state source next)
+      (planned m.state source (with_entries plan next))
   room_is next wants are =
       let sizes = sizes_same in
       let cap = cap_same in
-      let used : in_use (images_of m.state source) next ≡ used_by o i.s.parts wants =
+      let used : in_use (images_of m.state source) (with_entries plan next)
+      ≡ used_by o i.s.parts wants =
       (λ j. used_of (sizes j) (are j)) in
       (λ j.
       unless (nat_le (used j) (cap j)) (refusals.NoRoom (used j) (cap j))
-      (planned m.state source next))
+      (planned m.state source (with_entries plan next)))

@@ -23,7 +23,7 @@ use Rattle.vab_device.specs.Mounted.{bytes_at, blocks_there, sectors_by}
 use Rattle.vab_device.specs.Mounted.{image_on, images_on, planned_on, entry_on, entries_on}
 use Rattle.vab_device.specs.Mounted.{unplanned, phase_by, state_on, count_at, count_of}
 use Rattle.vab_device.specs.Stores.{sector_seen, sectors_seen}
-use Rattle.vab_machine.specs.Plans.{store_blocks}
+use Rattle.vab_model.specs.Plans.{store_blocks}
 use Rattle.vab_machine.specs.Small.{IsSmallSlot, IsSmallImage, IsSmallEntry}
 use Rattle.vab_machine.specs.Small.{IsSmallPhase}
 use Rattle.vab_merging.proofs.CountLaws.{few_of}
@@ -68,7 +68,7 @@ module _ (size : ℕ) where
   store_on : (base : List ℕ) (store : Option (List ℕ)) (k : Chunk) (es : List Exception)
       → IsStored size base store (Written k es)
       → All (λ s. s + 8 ≤ size) (blocks_there store)
-  store_on base None k es is = absurd is
+  store_on base None k es is = All-nil (λ s. s + 8 ≤ size)
   store_on base (Some store) k es is = is.0.on_disk
 
   read_by : (p : Part) (image : PartImage)

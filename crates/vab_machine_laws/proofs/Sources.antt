@@ -1,15 +1,15 @@
 -- The slot of an update's source, or of a device without an update: its table and its images.
-use Rattle.std.proofs.Common.{◌≡◌, ◌∙◌, ℕ, zero, suc, ◌+◌, ◌≤◌, ◌<◌, List, [], ◌∷◌}
+use Rattle.std.proofs.Common.{◌≡◌, ◌∙◌, ℕ, zero, suc, ◌≤◌, ◌<◌, List, [], ◌∷◌}
 use Rattle.std.proofs.Common.{refl, sym, ap, subst, arith, Ok, eqb}
 use Rattle.std.specs.Prelude.{Option, Some, map}
 use Rattle.std.proofs.lemmas.Bool.{leb-true, eqb-true}
 use Rattle.vab_disk.specs.Disk.{Image}
 use Rattle.vab_bootctl.specs.declared.slots.Control.{Control}
 use Rattle.vab_bootctl.specs.Boot.{info_at}
-use Rattle.vab_marks.specs.declared.mark.MarkPhase.{MarkPhase}
 use Rattle.vab_marks.specs.declared.mark.MarkPhase.TheVariants as marks
 use Rattle.vab_marks.specs.declared.status.PartStatus.{PartStatus}
-use Rattle.vab_marks.specs.Mark.{mark_at}
+use Rattle.vab_marks.specs.declared.mark.UpdateMark.{UpdateMark}
+use Rattle.vab_marks.specs.Mark.{rephased, resloted}
 use Rattle.vab_tables.specs.declared.table.Table.{Table}
 use Rattle.vab_tables.specs.Rules.{cap_of}
 use Rattle.vab_geometry.specs.declared.geometry.Geometry.{Geometry}
@@ -21,27 +21,27 @@ use Rattle.vab_layout.specs.Slots.{other_slot, IsOwn}
 use Rattle.vab_layout.proofs.LayoutLaws.{layout_keeps}
 use Rattle.vab_partitions.proofs.OwnRules.{own_kept}
 use Rattle.vab_model.specs.declared.state.Image.{Image as ImageOfSlot}
-use Rattle.vab_model.specs.declared.state.PlanEntry.{PlanEntry}
-use Rattle.vab_model.specs.declared.state.Phase.TheVariants.{Idle, Installing, Staged, Merging}
+use Rattle.vab_model.specs.declared.state.Plan.{Plan}
+use Rattle.vab_model.specs.declared.state.Phase.TheVariants.{Idle, Installing}
 use Rattle.vab_model.specs.State.{images_at}
 use Rattle.vab_device.specs.declared.fault.StartFault.TheVariants.{BadState}
 use Rattle.vab_device.specs.Checks.{Check, check}
 use Rattle.vab_device.specs.Kept.{parts_of, AreParts}
-use Rattle.vab_device.specs.Mounted.{Mounted, mounted_on, state_on, image_on, phase_on, phase_by}
-use Rattle.vab_device.specs.Mounted.{entries_on, count_at}
-use Rattle.vab_device.specs.Phases.{phase_at, is_good, own_check, twin_check, target_check}
+use Rattle.vab_device.specs.Mounted.{Mounted, mounted_on, state_on, image_on, phase_on}
+use Rattle.vab_device.specs.Phases.{is_good, own_check, twin_check, target_check, no_store_check}
 use Rattle.vab_device.specs.Reading.{Read, kept, IsIn, Reads, table_at}
 use Rattle.vab_device.specs.Stores.{Scanned}
 use Rattle.vab_device.specs.Updates.{layout_at}
 use Rattle.vab_device.proofs.CheckLaws.{first_kept, check_kept}
 use Rattle.vab_device.proofs.MostLaws.{parts_all}
 use Rattle.vab_device.proofs.OwnParts.{parts_kept}
-use Rattle.vab_device.proofs.ReadingLaws.{device_was, idle_read_of, slot_below}
+use Rattle.vab_device.proofs.MarkLaws.{as_phase}
+use Rattle.vab_device.proofs.ReadingLaws.{device_was, idle_read_of, slot_below, apart_known}
 use Rattle.vab_device.proofs.StayLaws.{one_of}
 use Rattle.vab_edit.proofs.InstallingLaws.{read_at, two_tables}
 use Rattle.vab_targets.specs.Plans.{HasWholeSectors}
 use Rattle.vab_targets.proofs.Sectors.{table_rules, IsRead}
-use Rattle.vab_targets.proofs.Installed.{IsReadAs, none_named}
+use Rattle.vab_targets.proofs.Installed.{IsReadAs, none_named, installing_of}
 
 -- The slot of the update mark: its table, whose partitions have the slot's images, and the blocks
 -- of the device.
@@ -57,15 +57,16 @@ pub record HasSource (size : ℕ) (image : Image) (m : Mounted) (slot : ℕ) : T
 
 -- ---- without an update
 
-abbrev idle_at : ℕ
+abbrev idle_at : UpdateMark
+    → ℕ
     → List (Option PartStatus)
     → Control
     → Geometry
     → Table
     → List Scanned
     → Read
-idle_at slot statuses c g t scanned = record {
-  mark = mark_at marks.Idle slot;
+idle_at base slot statuses c g t scanned = record {
+  mark = rephased marks.Idle (resloted slot base);
   statuses = statuses;
   control = c;
   geometry = g;
@@ -79,13 +80,14 @@ unfolding state_on
 phase_said r image = refl
 
 module _
-    (size : ℕ) (image : Image) (slot : ℕ) (statuses : List (Option PartStatus)) (c : Control)
-    (g : Geometry) (t : Table) (ss : List Scanned)
+    (size : ℕ) (image : Image) (base : UpdateMark) (slot : ℕ)
+    (statuses : List (Option PartStatus)) (c : Control) (g : Geometry) (t : Table)
+    (ss : List Scanned)
     (whole : HasWholeSectors size image)
-    (reads : Reads size (idle_at slot statuses c g t ss) image)
+    (reads : Reads size (idle_at base slot statuses c g t ss) image)
     (table : table_at size g slot image ≡ Ok t) where
   abbrev r : Read
-  r = idle_at slot statuses c g t ss
+  r = idle_at base slot statuses c g t ss
 
   lower : slot < 2
   lower = slot_below image r.mark reads.mark
@@ -95,7 +97,7 @@ module _
 
   from_at : (k : ℕ)
       → k < 2
-      → layout_at (mounted_on (kept (idle_at k statuses c g t ss)) image).places k
+      → layout_at (mounted_on (kept (idle_at base k statuses c g t ss)) image).places k
       ≡ Some (plain k (layout_of t))
   from_at zero lt = refl
   from_at (suc zero) lt = refl
@@ -103,7 +105,7 @@ module _
 
   images_are : (k : ℕ)
       → k < 2
-      → images_at (mounted_on (kept (idle_at k statuses c g t ss)) image).state k
+      → images_at (mounted_on (kept (idle_at base k statuses c g t ss)) image).state k
       ≡ Some (map (image_on image) (parts_of k (layout_of t)))
   unfolding state_on
   images_are zero lt = refl
@@ -156,14 +158,15 @@ has_idle size image m whole is phase =
     let idle : r.mark.phase ≡ marks.Idle =
     idle_read_of size r image was.reads
     (sym (phase_said r image) ∙ sym (ap (λ (x : Mounted). x.state.phase) was.is) ∙ phase) in
-    let marked : r ≡ record r { mark = record r.mark { phase = marks.Idle } } =
-    (λ i. record r { mark = record r.mark { phase = idle i } }) in
+    let is_marked = as_phase r.mark marks.Idle (apart_known image r.mark was.reads.mark) idle in
+    let marked : r ≡ record r { mark = rephased marks.Idle r.mark } =
+    (λ i. record r { mark = is_marked i }) in
     let now = subst (IsReadAs size image m) marked (record { reads = was.reads; is = was.is }) in
     let one = one_of size r.geometry r.mark.slot image r.tables now.reads.tables in
-    let form : record r { mark = record r.mark { phase = marks.Idle } }
-    ≡ idle_at r.mark.slot r.statuses r.control r.geometry one.0 r.scanned =
+    let form : record r { mark = rephased marks.Idle r.mark }
+    ≡ idle_at r.mark r.mark.slot r.statuses r.control r.geometry one.0 r.scanned =
     (λ i. record {
-      mark = record r.mark { phase = marks.Idle };
+      mark = rephased marks.Idle r.mark;
       statuses = r.statuses;
       control = r.control;
       geometry = r.geometry;
@@ -171,62 +174,42 @@ has_idle size image m whole is phase =
       scanned = r.scanned;
     }) in
     let read = subst (IsReadAs size image m) form now in
-    let there = idle_source size image r.mark.slot r.statuses r.control r.geometry one.0 r.scanned
+    let there = idle_source size image r.mark r.mark.slot r.statuses r.control r.geometry one.0
+    r.scanned
     whole read.reads one.2 in
-    let current = current_on size image r.mark.slot r.statuses r.control r.geometry one.0 r.scanned
+    let current = current_on size image r.mark r.mark.slot r.statuses r.control r.geometry one.0
+    r.scanned
     whole read.reads one.2 in
     let at : HasSource size image (mounted_on (kept
-    (idle_at r.mark.slot r.statuses r.control r.geometry one.0 r.scanned)) image)
+    (idle_at r.mark r.mark.slot r.statuses r.control r.geometry one.0 r.scanned)) image)
     (mounted_on (kept
-    (idle_at r.mark.slot r.statuses r.control r.geometry one.0 r.scanned))
+    (idle_at r.mark r.mark.slot r.statuses r.control r.geometry one.0 r.scanned))
     image).state.control.current =
     subst (HasSource size image (mounted_on (kept
-    (idle_at r.mark.slot r.statuses r.control r.geometry one.0 r.scanned)) image)) (sym current)
+    (idle_at r.mark r.mark.slot r.statuses r.control r.geometry one.0 r.scanned)) image))
+    (sym current)
     there in
     subst (λ (x : Mounted). HasSource size image x x.state.control.current) (sym read.is) at
 
 -- ---- while an update is installed
 
-installing_by : (p : MarkPhase) (slot left source : ℕ) (plan : List PlanEntry)
-    (ts : List Table) (ss : List Scanned) (image : Image)
-    → phase_by (mark_at p slot) left
-    (entries_on image ((phase_at p).plan slot ts ss))
-    ≡ Installing source plan
-    → p ≡ marks.Installing
-installing_by marks.Idle slot left source plan ts ss image is =
-    absurd (let bad : Idle ≡ Installing source plan = is in cc)
-installing_by marks.Installing slot left source plan ts ss image is = refl
-installing_by marks.Staged slot left source plan ts ss image is =
-    absurd (let bad : Staged slot left ≡ Installing source plan = is in cc)
-installing_by marks.Merging slot left source plan ts ss image is =
-    absurd (let bad : Merging slot left ≡ Installing source plan = is in cc)
-installing_by marks.Completed slot left source plan ts ss image is =
-    absurd (let bad : Idle ≡ Installing source plan = is in cc)
-
-installing_of : (r : Read) (image : Image) (source : ℕ) (plan : List PlanEntry)
-    → (mounted_on (kept r) image).state.phase ≡ Installing source plan
-    → r.mark.phase ≡ marks.Installing
-unfolding state_on
-installing_of r image source plan is =
-    installing_by r.mark.phase r.mark.slot (count_at (kept r).a + count_at (kept r).b) source plan
-    r.tables r.scanned image is
-
 -- the mark's slot is the source
-source_of : (k : ℕ) (statuses : List (Option PartStatus)) (seen : Control) (g : Geometry)
-    (s t : Table) (ss : List Scanned) (image : Image) (source : ℕ) (plan : List PlanEntry)
-    → (mounted_on (kept (read_at k statuses seen g s t ss)) image).state.phase
+source_of : (base : UpdateMark) (k : ℕ) (statuses : List (Option PartStatus)) (seen : Control)
+    (g : Geometry) (s t : Table) (ss : List Scanned) (image : Image) (source : ℕ) (plan : Plan)
+    → (mounted_on (kept (read_at base k statuses seen g s t ss)) image).state.phase
     ≡ Installing source plan
     → k ≡ source
 unfolding state_on
-source_of k statuses seen g s t ss image source plan is = cc
+source_of base k statuses seen g s t ss image source plan is = cc
 
 module _
-    (size : ℕ) (image : Image) (slot : ℕ) (statuses : List (Option PartStatus)) (seen : Control)
-    (g : Geometry) (s t : Table) (ss : List Scanned)
+    (size : ℕ) (image : Image) (base : UpdateMark) (slot : ℕ)
+    (statuses : List (Option PartStatus)) (seen : Control) (g : Geometry) (s t : Table)
+    (ss : List Scanned)
     (whole : HasWholeSectors size image)
-    (reads : Reads size (read_at slot statuses seen g s t ss) image) where
+    (reads : Reads size (read_at base slot statuses seen g s t ss) image) where
   abbrev both : Read
-  both = read_at slot statuses seen g s t ss
+  both = read_at base slot statuses seen g s t ss
 
   under : slot < 2
   under = slot_below image both.mark reads.mark
@@ -236,7 +219,7 @@ module _
 
   source_at : (k : ℕ)
       → k < 2
-      → layout_at (mounted_on (kept (read_at k statuses seen g s t ss)) image).places k
+      → layout_at (mounted_on (kept (read_at base k statuses seen g s t ss)) image).places k
       ≡ Some (plain k (layout_of s))
   source_at zero lt = refl
   source_at (suc zero) lt = refl
@@ -244,7 +227,7 @@ module _
 
   drawn : (k : ℕ)
       → k < 2
-      → images_at (mounted_on (kept (read_at k statuses seen g s t ss)) image).state k
+      → images_at (mounted_on (kept (read_at base k statuses seen g s t ss)) image).state k
       ≡ Some (map (image_on image) (parts_of k (layout_of s)))
   unfolding state_on
   drawn zero lt = refl
@@ -259,10 +242,11 @@ module _
   source_parts =
       let o : ℕ = other_slot slot in
       let checked : Check = own_check most_partitions slot s in
-      let target : Check = target_check most_partitions o s t in
-      let one = first_kept (twin_check o s t) (checked ∷ target ∷ [])
+      let rest : List Check =
+      target_check base.apart most_partitions o s t ∷ no_store_check base.apart t ∷ [] in
+      let one = first_kept (twin_check o s t) (checked ∷ rest)
       (parts_all both image reads.parts) in
-      let two = first_kept checked (target ∷ []) one.1 in
+      let two = first_kept checked rest one.1 in
       let own : IsOwn slot (layout_of s).parts =
       own_kept most_partitions slot (layout_of s).parts (omega arith) (none_named _ two.0) in
       let tables = two_tables size g slot o image (s ∷ t ∷ []) reads.tables in
@@ -286,7 +270,7 @@ module _
     parts = source_parts;
   }
 
-pub has_source : (size : ℕ) (image : Image) (m : Mounted) (source : ℕ) (plan : List PlanEntry)
+pub has_source : (size : ℕ) (image : Image) (m : Mounted) (source : ℕ) (plan : Plan)
     → HasWholeSectors size image
     → IsIn size m image
     → m.state.phase ≡ Installing source plan
@@ -297,15 +281,15 @@ has_source size image m source plan whole is phase =
     let installing : r.mark.phase ≡ marks.Installing =
     installing_of r image source plan
     (sym (ap (λ (x : Mounted). x.state.phase) was.is) ∙ phase) in
-    let marked : r ≡ record r { mark = record r.mark { phase = marks.Installing } } =
+    let marked : r ≡ record r { mark = rephased marks.Installing r.mark } =
     (λ i. record r { mark = record r.mark { phase = installing i } }) in
     let now = subst (IsReadAs size image m) marked (record { reads = was.reads; is = was.is }) in
     let two = two_tables size r.geometry r.mark.slot (other_slot r.mark.slot) image r.tables
     now.reads.tables in
-    let form : record r { mark = record r.mark { phase = marks.Installing } }
-    ≡ read_at r.mark.slot r.statuses r.control r.geometry two.source two.target r.scanned =
+    let form : record r { mark = rephased marks.Installing r.mark }
+    ≡ read_at r.mark r.mark.slot r.statuses r.control r.geometry two.source two.target r.scanned =
     (λ i. record {
-      mark = record r.mark { phase = marks.Installing };
+      mark = rephased marks.Installing r.mark;
       statuses = r.statuses;
       control = r.control;
       geometry = r.geometry;
@@ -313,10 +297,12 @@ has_source size image m source plan whole is phase =
       scanned = r.scanned;
     }) in
     let read = subst (IsReadAs size image m) form now in
-    let there = installing_source size image r.mark.slot r.statuses r.control r.geometry two.source
+    let there = installing_source size image r.mark r.mark.slot r.statuses r.control r.geometry
+    two.source
     two.target r.scanned whole read.reads in
-    let same = source_of r.mark.slot r.statuses r.control r.geometry two.source two.target r.scanned
+    let same = source_of r.mark r.mark.slot r.statuses r.control r.geometry two.source two.target
+    r.scanned
     image source plan (sym (ap (λ (x : Mounted). x.state.phase) read.is) ∙ phase) in
     subst (λ (x : Mounted). HasSource size image x source) (sym read.is)
-    (subst (HasSource size image (mounted_on (kept (read_at r.mark.slot r.statuses r.control
+    (subst (HasSource size image (mounted_on (kept (read_at r.mark r.mark.slot r.statuses r.control
     r.geometry two.source two.target r.scanned)) image)) same there)

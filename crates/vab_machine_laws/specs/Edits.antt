@@ -6,7 +6,7 @@ use Rattle.vab_model.specs.declared.command.Refusal.TheVariants as refusals
 use Rattle.vab_model.specs.declared.command.Reply.TheVariants as replies
 use Rattle.vab_model.specs.Commands.{Command}
 use Rattle.vab_model.specs.Effects.{Effect, refuses, wanting}
-use Rattle.vab_machine.specs.Machine.{machine_effect}
+use Rattle.vab_model.specs.Machine.{machine_effect}
 use Rattle.vab_device.specs.Mounted.{Mounted}
 use Rattle.vab_device.specs.Reading.{IsIn}
 use Rattle.vab_device.specs.Updates.{effect_on}

@@ -3,7 +3,7 @@ use Rattle.std.specs.Prelude.{◌≡◌, ℕ, List, Option}
 use Rattle.vab_model.specs.declared.state.State.{State}
 use Rattle.vab_model.specs.Commands.{Command}
 use Rattle.vab_model.specs.Effects.{Effect, effect_map}
-use Rattle.vab_machine.specs.Machine.{machine_effect}
+use Rattle.vab_model.specs.Machine.{machine_effect}
 use Rattle.vab_device.specs.Mounted.{Mounted}
 use Rattle.vab_device.specs.Updates.{effect_on}
 

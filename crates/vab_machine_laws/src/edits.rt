@@ -1,6 +1,7 @@
 //! Commands whose table may be full.
 ghost use Rattle.std.specs.Prelude.{ℕ, List};
-ghost use Rattle.vab_model.specs.Commands.{Command, Begin, Create, Delete, Snapshot, Resize};
+ghost use Rattle.vab_model.specs.Commands.{Command, Begin, Factory, Create, Delete, Snapshot};
+ghost use Rattle.vab_model.specs.Commands.{Resize};
 ghost use Rattle.vab_machine_laws.specs.Edits.{IsTheMachinesOrFull};
 
 use vab_targets::plans_by_sizes;
@@ -9,6 +10,7 @@ use vab_targets::plans_by_sizes;
 /// machine makes of its state, or the machine would have been done and the table is full.
 pub fn edits_are_the_machines()
     ensures begin { IsTheMachinesOrFull Begin }
+    ensures factory { IsTheMachinesOrFull Factory }
     ensures delete { (name : List ℕ) → IsTheMachinesOrFull (Delete name) }
     ensures snapshot { (name : List ℕ) (size : ℕ) → IsTheMachinesOrFull (Snapshot name size) }
     ensures create { (name : List ℕ) (size : ℕ) → IsTheMachinesOrFull (Create name size) }

@@ -7,7 +7,7 @@ use vab_bytes::{Bytes, Listing, Name36};
 use vab_device::{Device, Part, PartImage, PhaseKind};
 use vab_disk::{Disk, MemPort};
 use vab_linear::Map;
-use vab_model::{Image, Phase, PlanEntry, PlanImage, State};
+use vab_model::{Image, Phase, Plan, PlanEntry, PlanImage, State};
 
 fn sector(d: &mut MemPort, at: u64) -> Result<[u8; 512], Fail> {
     let mut bytes = [0u8; 512];
@@ -82,13 +82,9 @@ fn images(
     Ok(Some(Listing::from_vec(images)))
 }
 
-fn plan(
-    alloc: Global,
-    d: &mut MemPort,
-    parts: &Option<Listing<Part>>,
-) -> Result<Listing<PlanEntry>, Fail> {
-    let mut plan = Vec::new(alloc);
-    let parts = parts.as_ref().ok_or("there is a plan")?;
+fn plan(alloc: Global, d: &mut MemPort, device: &Device) -> Result<Plan, Fail> {
+    let mut entries = Vec::new(alloc);
+    let parts = device.plan.as_ref().ok_or("there is a plan")?;
     for part in parts.as_slice() {
         let image = match &part.image {
             PartImage::Kept => PlanImage::Kept,
@@ -104,9 +100,12 @@ fn plan(
             store: part.store.as_ref().map(|store| store.len()),
             image,
         };
-        plan.push(entry).ok().ok_or("there is memory")?;
+        entries.push(entry).ok().ok_or("there is memory")?;
     }
-    Ok(Listing::from_vec(plan))
+    Ok(Plan {
+        apart: device.mark.apart,
+        entries: Listing::from_vec(entries),
+    })
 }
 
 // How many exceptions the stores of a slot with images have.
@@ -126,7 +125,7 @@ fn phase(alloc: Global, d: &mut MemPort, device: &Device) -> Result<Phase, Fail>
     let left = left(&device.a).saturating_add(left(&device.b));
     Ok(match device.phase() {
         PhaseKind::Idle => Phase::Idle,
-        PhaseKind::Installing(source) => Phase::Installing(source, plan(alloc, d, &device.plan)?),
+        PhaseKind::Installing(source) => Phase::Installing(source, plan(alloc, d, device)?),
         PhaseKind::Staged(source) => Phase::Staged(source, left),
         PhaseKind::Merging(target) => Phase::Merging(target, left),
     })

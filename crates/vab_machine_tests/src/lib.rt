@@ -13,4 +13,6 @@ mod random;
 #[cfg(test)]
 mod spelled;
 #[cfg(test)]
+mod states;
+#[cfg(test)]
 mod worked;

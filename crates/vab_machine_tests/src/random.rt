@@ -54,7 +54,7 @@ fn chunk(draws: &mut Draws) -> Chunk {
 // Any command, on a device where this slot is current.
 fn any(draws: &mut Draws, current: usize) -> Command<'static> {
     match draws.draw(12) {
-        0 => Command::Begin,
+        0 => begin(draws),
         1 => Command::Finish,
         2 => Command::Cancel,
         3 => Command::SetActive((draws.draw(2) % 2) as usize),
@@ -74,10 +74,23 @@ fn installing(draws: &mut Draws, target: usize) -> Command<'static> {
     match draws.draw(12) {
         0 => Command::Create(NAMES[target % 2][2], size(draws)),
         1 | 2 => Command::Resize(name(draws, target), size(draws)),
-        3 => Command::Delete(name(draws, target)),
+        3 => Command::Delete(NAMES[target % 2][1]),
         4 => Command::Snapshot(name(draws, target), size(draws)),
         5 | 6 => Command::Snapshot(name(draws, target), 0),
         7 | 8 | 9 => Command::Flash(name(draws, target), chunk(draws)),
+        _ => Command::Finish,
+    }
+}
+
+// A command of a factory install into this slot.
+fn in_factory(draws: &mut Draws, target: usize) -> Command<'static> {
+    match draws.draw(12) {
+        0 | 1 => Command::Create(NAMES[target % 2][0], size(draws)),
+        2 => Command::Create(NAMES[target % 2][2], size(draws)),
+        3 => Command::Resize(name(draws, target), size(draws)),
+        4 => Command::Delete(name(draws, target)),
+        5 => Command::Snapshot(name(draws, target), size(draws)),
+        6 | 7 | 8 => Command::Flash(name(draws, target), chunk(draws)),
         _ => Command::Finish,
     }
 }
@@ -92,16 +105,34 @@ fn staged_command(draws: &mut Draws, target: usize) -> Command<'static> {
     }
 }
 
+// A begin, now and then of a factory install.
+fn begin(draws: &mut Draws) -> Command<'static> {
+    if draws.draw(3) == 0 {
+        Command::Factory
+    } else {
+        Command::Begin
+    }
+}
+
+// A command of an installation whose target stands apart or not.
+fn planned(draws: &mut Draws, target: usize, apart: bool) -> Command<'static> {
+    if apart {
+        in_factory(draws, target)
+    } else {
+        installing(draws, target)
+    }
+}
+
 // Mostly a command that goes on with an update, and now and then any.
 fn command(draws: &mut Draws, state: &State) -> Command<'static> {
     let current = state.control.current;
     if draws.draw(5) == 0 {
         return any(draws, current);
     }
-    match state.phase {
-        Phase::Idle => Command::Begin,
-        Phase::Installing(0, _) => installing(draws, 1),
-        Phase::Installing(_, _) => installing(draws, 0),
+    match &state.phase {
+        Phase::Idle => begin(draws),
+        Phase::Installing(0, plan) => planned(draws, 1, plan.apart),
+        Phase::Installing(_, plan) => planned(draws, 0, plan.apart),
         Phase::Staged(0, _) => staged_command(draws, 1),
         Phase::Staged(_, _) => staged_command(draws, 0),
         Phase::Merging(_, _) => Command::Merge(draws.draw(4)),
@@ -148,6 +179,7 @@ fn kind(command: &Command) -> usize {
         Command::Cancel => 12,
         Command::BeginMerge => 13,
         Command::Merge(_) => 14,
+        Command::Factory => 15,
     }
 }
 
@@ -157,7 +189,7 @@ fn play(
     alloc: Global,
     d: MemPort,
     seed: u64,
-    seen: &mut [bool; 15],
+    seen: &mut [bool; 16],
 ) -> Result<(), Fail> {
     let mut d = d;
     let mut draws = Draws(seed);
@@ -168,7 +200,7 @@ fn play(
         let staged = bytes.as_ref().map(|bytes| bytes.as_slice());
         let (next, told) = beside(rt, alloc, &mut d, &state, &command, staged)?;
         let kind = kind(&command);
-        if kind < 15 && !matches!(told, Reply::Refused(_)) {
+        if kind < 16 && !matches!(told, Reply::Refused(_)) {
             seen[kind] = true;
         }
         state = next;
@@ -177,23 +209,47 @@ fn play(
     Ok(())
 }
 
+// Plays a list on each disk, and says how many kinds of command were done.
+fn kinds_done(rt: &impl Abort, alloc: Global, lists: [(u64, MemPort); 2]) -> Result<u64, Fail> {
+    let mut seen = [false; 16];
+    for (seed, d) in lists {
+        play(rt, alloc, d, seed, &mut seen)?;
+    }
+    let mut kinds = 0u64;
+    for done in seen {
+        if done {
+            kinds = kinds.saturating_add(1);
+        }
+    }
+    Ok(kinds)
+}
+
 #[test]
-fn drawn_lists_are_the_machines(rt: HostRuntime) -> Result<(), Fail> {
+fn lists_over_little_space_are_the_machines(rt: HostRuntime) -> Result<(), Fail> {
     let alloc = rt.alloc();
-    let mut seen = [false; 15];
-    for seed in 0..6u64 {
-        let d = if seed % 3 == 0 {
-            made_of_two(alloc, 16, 28672, 4096)?
-        } else if seed % 3 == 1 {
-            made_of_two(alloc, 24, 0, 1024)?
-        } else {
-            made_of_two(alloc, 24, 40960, 4096)?
-        };
-        play(&rt, alloc, d, seed, &mut seen)?;
-    }
-    // Each kind of command was done at some place.
-    for (kind, done) in seen.iter().enumerate() {
-        assert!(rt; *done, "{kind} is done");
-    }
+    let first = made_of_two(alloc, 16, 28672, 4096)?;
+    let second = made_of_two(alloc, 16, 28672, 4096)?;
+    let kinds = kinds_done(&rt, alloc, [(0, first), (3, second)])?;
+    assert!(rt; kinds > 11, "{kinds} kinds are done");
+    Ok(())
+}
+
+#[test]
+fn lists_over_small_tables_are_the_machines(rt: HostRuntime) -> Result<(), Fail> {
+    let alloc = rt.alloc();
+    let first = made_of_two(alloc, 24, 0, 1024)?;
+    let second = made_of_two(alloc, 24, 0, 1024)?;
+    let kinds = kinds_done(&rt, alloc, [(1, first), (4, second)])?;
+    assert!(rt; kinds > 11, "{kinds} kinds are done");
+    Ok(())
+}
+
+#[test]
+fn lists_of_every_kind_are_the_machines(rt: HostRuntime) -> Result<(), Fail> {
+    let alloc = rt.alloc();
+    let first = made_of_two(alloc, 24, 40960, 4096)?;
+    let second = made_of_two(alloc, 24, 40960, 4096)?;
+    let kinds = kinds_done(&rt, alloc, [(2, first), (5, second)])?;
+    assert_eq!(rt; kinds, 16);
     Ok(())
 }

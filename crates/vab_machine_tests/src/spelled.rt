@@ -71,7 +71,8 @@ fn phase(out: &mut Vec<u8>, phase: &Phase) -> Result<(), Fail> {
     number(out, slot as u64)?;
     number(out, left)?;
     if let Phase::Installing(_, plan) = phase {
-        for planned in plan.as_slice() {
+        number(out, u64::from(plan.apart))?;
+        for planned in plan.entries.as_slice() {
             entry(out, planned)?;
         }
     }

@@ -206,6 +206,86 @@ const LIFE: [Case; 26] = [
     (Command::Begin, NOTHING, DONE),
 ];
 
+// Of the same device, in a factory install.
+const FACTORY: [Case; 28] = [
+    (Command::Factory, NOTHING, DONE),
+    (Command::Factory, NOTHING, Want::Refused(Refusal::NotIdle)),
+    (Command::Begin, NOTHING, Want::Refused(Refusal::NotIdle)),
+    (Command::Create(b"x_b", 16384), NOTHING, DONE),
+    (
+        Command::Create(b"y_b", 57344),
+        NOTHING,
+        Want::Refused(Refusal::NoRoom(21, 20)),
+    ),
+    (Command::Create(b"y_b", 4096), NOTHING, DONE),
+    (Command::Resize(b"y_b", 53248), NOTHING, DONE),
+    (
+        Command::Snapshot(b"x_b", 0),
+        NOTHING,
+        Want::Refused(Refusal::InPlace),
+    ),
+    (
+        Command::Snapshot(b"", 1),
+        NOTHING,
+        Want::Refused(Refusal::InPlace),
+    ),
+    (Command::Finish, NOTHING, Want::Incomplete(b"x")),
+    (
+        Command::Flash(b"x_b", Chunk::Two),
+        NOTHING,
+        Want::Refused(Refusal::NothingStaged),
+    ),
+    (
+        Command::Flash(b"x_b", Chunk::One),
+        Staged::Text(b"\x3a\xff\x26\xed"),
+        Want::Refused(Refusal::Sparse),
+    ),
+    (
+        Command::Flash(b"x_b", Chunk::One),
+        Staged::Zeros(16385),
+        Want::Refused(Refusal::TooLarge(16385, 16384)),
+    ),
+    (
+        Command::Flash(b"x_b", Chunk::One),
+        Staged::Text(b"abc"),
+        DONE,
+    ),
+    (
+        Command::Flash(b"x_b", Chunk::One),
+        NOTHING,
+        Want::Refused(Refusal::Written),
+    ),
+    (
+        Command::Resize(b"x_b", 16384),
+        NOTHING,
+        Want::Refused(Refusal::Written),
+    ),
+    (
+        Command::Delete(b"x_b"),
+        NOTHING,
+        Want::Refused(Refusal::Written),
+    ),
+    (
+        Command::Resize(b"x_b", 1099511627777),
+        NOTHING,
+        Want::Refused(Refusal::BadSize),
+    ),
+    (Command::Finish, NOTHING, Want::Incomplete(b"y")),
+    (Command::Delete(b"y_b"), NOTHING, DONE),
+    (Command::Finish, NOTHING, DONE),
+    (Command::SetActive(1), NOTHING, DONE),
+    (Command::Boot, NOTHING, Want::Told(Reply::Booted(1))),
+    (Command::Mark, NOTHING, DONE),
+    (Command::BeginMerge, NOTHING, DONE),
+    (
+        Command::Print(b"x_a"),
+        NOTHING,
+        Want::Refused(Refusal::NoImages),
+    ),
+    (Command::Merge(1), NOTHING, Want::Told(Reply::Merged)),
+    (Command::Begin, NOTHING, DONE),
+];
+
 fn bytes_of(alloc: Global, staged: &Staged) -> Result<Option<Vec<u8>>, Fail> {
     let mut bytes = Vec::new(alloc);
     match staged {
@@ -277,4 +357,10 @@ fn a_table_has_its_size(rt: HostRuntime) -> Result<(), Fail> {
 fn an_update_is_booted_and_merged(rt: HostRuntime) -> Result<(), Fail> {
     let alloc = rt.alloc();
     play(&rt, alloc, made(alloc, 20, 0, 4096, b"x", 3)?, &LIFE)
+}
+
+#[test]
+fn a_factory_install_is_booted_and_merged(rt: HostRuntime) -> Result<(), Fail> {
+    let alloc = rt.alloc();
+    play(&rt, alloc, made(alloc, 20, 0, 4096, b"x", 3)?, &FACTORY)
 }

@@ -7,7 +7,7 @@ ghost use Rattle.vab_set.specs.Spelling.{IsSet};
 ghost use Rattle.vab_make.specs.Made.{made_control, refusal_of};
 ghost use Rattle.vab_make.specs.Making.{Gives, IsOfDisk, IsMade, LeavesMaking};
 ghost use Rattle.vab_marks.specs.declared.version.MarkVersion.TheVariants.{Two};
-ghost use Rattle.vab_marks.specs.Mark.{mark_of};
+ghost use Rattle.vab_marks.specs.Mark.{mark_of, idle_mark};
 ghost use Rattle.vab_marks.specs.Version.{version_in};
 ghost use Rattle.vab_make.specs.Prepared.{IsMost, HasRoom, IsPrepared};
 ghost use Rattle.vab_make.specs.Touched.{IsOfContents, IsOfMaking};
@@ -28,14 +28,15 @@ use vab_set::Set;
 // The disk sector of the update mark.
 const MARK: u64 = 2048;
 
-// The mark of a device without an update, with images in slot a.
-fn idle_mark() -> [u8; 512]
-    ensures mark { mark_of result ≡ Ok (record { phase = MarkPhase.Idle; slot = 0 }) }
+// The sector of the mark of a device without an update, with images in slot a.
+fn mark_sector() -> [u8; 512]
+    ensures mark { mark_of result ≡ Ok (idle_mark 0) }
     ensures version { version_in result ≡ Two }
 {
     encode_mark(&UpdateMark {
         phase: MarkPhase::Idle,
         slot: 0,
+        apart: false,
     })
 }
 
@@ -99,7 +100,7 @@ fn make_on<D: Disk>(d: &mut D, set: &Set, max: u32, text: &[u8]) -> Result<(), D
 {
     put_gate(d, MARK, &[0u8; 512])?;
     settle_contents(d, set, max, text)?;
-    put_gate(d, MARK, &idle_mark())
+    put_gate(d, MARK, &mark_sector())
 }
 
 /// Makes the device whose slot a has the images of a set, filled with zeros to whole blocks, and is

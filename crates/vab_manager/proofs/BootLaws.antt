@@ -29,6 +29,7 @@ kept_device d size c is fits current = record {
   control = fits;
   phase = is.phase;
   slot = is.slot;
+  apart = is.apart;
   current = current;
   has_a = is.has_a;
   has_b = is.has_b;

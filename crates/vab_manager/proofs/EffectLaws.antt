@@ -10,7 +10,8 @@ use Rattle.vab_model.specs.declared.state.State.{State}
 use Rattle.vab_model.specs.declared.command.Refusal.TheVariants.{NoImages}
 use Rattle.vab_model.specs.declared.command.Reply.TheVariants as replies
 use Rattle.vab_model.specs.Commands.{SetActive, Boot, Mark}
-use Rattle.vab_model.specs.Effects.{Effect, effect, effect_map, active_effect, does, refuses}
+use Rattle.vab_model.specs.Effects.{Effect, effect_map, active_effect, does, refuses}
+use Rattle.vab_model.specs.Machine.{machine_effect}
 use Rattle.vab_model.specs.State.{images_at, has_images, control_seen, with_control}
 use Rattle.vab_model.proofs.SeenLaws.{seen_activated, seen_marked, seen_booted}
 use Rattle.vab_device.specs.declared.device.Part.{Part}
@@ -54,7 +55,7 @@ mapped m e f same = ap (effect_map (in_state m)) same
 pub activated_effect : (d : Device) (image : Image) (staged : Option (List ℕ)) (slot : ℕ)
     → is_some (if slot == 0 then d.a else d.b) ≡ true
     → GivesControl d image staged (SetActive slot) replies.Done (activated_of d.control slot)
-unfolding effect
+unfolding machine_effect
 activated_effect d image staged slot has =
     let s : State = state_on d image in
     let there : is_some (images_at s slot) ≡ true = has_at d image slot ∙ has in
@@ -70,7 +71,7 @@ activated_effect d image staged slot has =
 pub refused_effect : (d : Device) (image : Image) (staged : Option (List ℕ)) (slot : ℕ)
     → is_some (if slot == 0 then d.a else d.b) ≡ false
     → effect_on (mounted_on d image) staged (SetActive slot) ≡ refuses NoImages
-unfolding effect
+unfolding machine_effect
 refused_effect d image staged slot none =
     let s : State = state_on d image in
     mapped (mounted_on d image) _ _
@@ -82,7 +83,7 @@ refused_effect d image staged slot none =
 pub marked_effect : (d : Device) (image : Image) (staged : Option (List ℕ))
     → (if d.control.current == 0 then is_some d.a else is_some d.b) ≡ true
     → GivesControl d image staged Mark replies.Done (marked_of d.control)
-unfolding effect
+unfolding machine_effect
 marked_effect d image staged has =
     let s : State = state_on d image in
     mapped (mounted_on d image) _ _
@@ -101,7 +102,7 @@ pub booted_effect : (d : Device) (image : Image) (staged : Option (List ℕ))
     → GivesControl d image staged Boot
     (replies.Booted (booted_of d.control (slots_with_images d)).current)
     (booted_of d.control (slots_with_images d))
-unfolding effect
+unfolding machine_effect
 booted_effect d image staged =
     let s : State = state_on d image in
     mapped (mounted_on d image) _ _

@@ -11,7 +11,8 @@ use Rattle.vab_model.specs.declared.command.Refusal.{Refusal}
 use Rattle.vab_model.specs.declared.command.Refusal.TheVariants.{Unknown}
 use Rattle.vab_model.specs.Commands.{Print, Digest}
 use Rattle.vab_model.specs.Effects.{Found, Image_is, Refused_by, found_image, found_in, found_of}
-use Rattle.vab_model.specs.Effects.{print_effect, digest_effect, effect, effect_map}
+use Rattle.vab_model.specs.Effects.{print_effect, digest_effect, effect_map}
+use Rattle.vab_model.specs.Machine.{machine_effect}
 use Rattle.vab_device.specs.declared.device.Part.{Part}
 use Rattle.vab_device.specs.declared.device.Device.{Device}
 use Rattle.vab_device.specs.Kept.{IsPart, IsDevice}
@@ -63,18 +64,18 @@ found_name d name p h = full_is (slot_named name) name (found_full d name p h)
 
 pub print_is : (d : Device) (image : Image) (name : List ℕ) (found : Result Part Refusal)
     → found_part d name ≡ found
-    → effect_in (mounted_on d image) (Print name)
+    → effect_in (mounted_on d image) None (Print name)
     ≡ effect_map (in_state (mounted_on d image)) (print_effect name (found_by image found))
-unfolding effect
+unfolding machine_effect
 print_is d image name found is =
     ap (λ (f : Found). effect_map (in_state (mounted_on d image)) (print_effect name f))
     (found_is d image name ∙ ap (found_by image) is)
 
 pub digest_is : (d : Device) (image : Image) (name : List ℕ) (found : Result Part Refusal)
     → found_part d name ≡ found
-    → effect_in (mounted_on d image) (Digest name)
+    → effect_in (mounted_on d image) None (Digest name)
     ≡ effect_map (in_state (mounted_on d image)) (digest_effect (found_by image found))
-unfolding effect
+unfolding machine_effect
 digest_is d image name found is =
     ap (λ (f : Found). effect_map (in_state (mounted_on d image)) (digest_effect f))
     (found_is d image name ∙ ap (found_by image) is)

@@ -5,7 +5,7 @@ use Rattle.std.proofs.Common.{length, get_or, Option, Some, None, refl, sym, ap,
 use Rattle.std.specs.Prelude.{All}
 use Rattle.std.proofs.lemmas.Bool.{cases_lt}
 use Rattle.std.proofs.lemmas.List.{get_or_default, get_or_past}
-use Rattle.std.proofs.lemmas.List.Elements.{All-get_or, All-from_get_or}
+use Rattle.std.proofs.lemmas.List.Elements.{All-nil, All-get_or, All-from_get_or}
 use Rattle.vab_disk.specs.Disk.{Image}
 use Rattle.vab_gate.specs.Gate.{sectors_at}
 use Rattle.vab_exceptions.specs.declared.area.Exception.{Exception}
@@ -75,7 +75,7 @@ store_on_disk : (size : ℕ) (base : List ℕ) (store : Option (List ℕ)) (k : 
     (es : List Exception)
     → IsStored size base store (Written k es)
     → All (λ s. s + 8 ≤ size) (blocks_there store)
-store_on_disk size base None k es kept = absurd kept
+store_on_disk size base None k es kept = All-nil (λ (s : ℕ). s + 8 ≤ size)
 store_on_disk size base (Some store) k es kept = kept.0.on_disk
 
 on_disk_by : (size : ℕ) (p : Part) (image : PartImage)

@@ -1,6 +1,7 @@
 //! The images of a device.
 
-ghost use Rattle.std.specs.Prelude.{◌≡◌, ◌≤◌, ◌<◌, ◌+◌, length, MatchResult, IfOk, All, Ok, Err};
+ghost use Rattle.std.specs.Prelude.{◌≡◌, ◌≤◌, ◌<◌, ◌+◌, length, MatchResult, IfOk, All};
+ghost use Rattle.std.specs.Prelude.{Ok, Err, None};
 ghost use Rattle.std.specs.Option.{option_copied};
 ghost use Rattle.sha2.specs.Sha256.{sha256};
 ghost use Rattle.vab_disk.specs.Calls.{FailsWithDisk, OnlyReads};
@@ -66,7 +67,7 @@ pub fn find<'a>(device: &'a Device, name: &[u8]) -> Result<&'a Part, Refusal>
 /// Whether an image can be told.
 pub fn print(device: &Device, name: &[u8]) -> Reply
     ensures { (image : Image)
-        → effect_in (mounted_on device.now image) (Print name.now) ≡ answers result }
+        → effect_in (mounted_on device.now image) None (Print name.now) ≡ answers result }
 {
     match find(device, name) {
         Err(refusal) => Reply::Refused(refusal),
@@ -98,7 +99,8 @@ fn digest_of<D: Disk>(d: &mut D, part: &Part) -> Result<[u8; 32], DiskFault>
 pub fn digest<D: Disk>(d: &mut D, device: &Device, name: &[u8]) -> Result<Reply, DiskFault>
     requires kept { IsDevice device.now (D.size d.old) }
     ensures reply { D.is_modelled → IfOk result
-        (λ r. effect_in (mounted_on device.now (D.seen d.old)) (DigestOf name.now) ≡ answers r) }
+        (λ r. effect_in (mounted_on device.now (D.seen d.old)) None (DigestOf name.now)
+        ≡ answers r) }
     ensures reads { OnlyReads D.Disk d.old d.new }
     ensures faults { FailsWithDisk D.Disk d.old d.new result }
 {

@@ -12,8 +12,8 @@ use vab_gate::DiskFault;
 use vab_linear::read_at;
 use vab_snapread::read_block;
 
-/// Reads a block of a partition: where it is written, what its store has in place of its own. The
-/// error comes where the disk has failed.
+/// Reads a block of a partition: where it is written and has a store, what that has in place of its
+/// own. The error comes where the disk has failed.
 pub fn read_part<D: Disk>(
     d: &mut D,
     part: &Part,
@@ -32,7 +32,7 @@ pub fn read_part<D: Disk>(
         PartImage::Declared => read_at(d, &part.map, block, out),
         PartImage::Written(chunk, view) => match &part.store {
             Some(store) => read_block(d, &part.map, store, view, block, out, *chunk),
-            None => unreachable!(),
+            None => read_at(d, &part.map, block, out),
         },
     }
 }

@@ -1,9 +1,9 @@
 -- What callers need of the update mark.
 use Rattle.std.proofs.Common.{◌≡◌, ℕ, zero, suc, ◌^◌, ◌<◌, ◌&&◌, ◌||◌, Bool, true, false, cond}
-use Rattle.std.proofs.Common.{eqb, ltb, List}
+use Rattle.std.proofs.Common.{eqb, ltb, not, List}
 use Rattle.std.proofs.Common.{[], ◌∷◌, length, take, get_or, Option, Some, None, Result, Ok, Err}
 use Rattle.std.proofs.Common.{refl, sym, ap, subst, ◌∙◌, arith, lit≤}
-use Rattle.std.specs.Prelude.{option_map, ok_or}
+use Rattle.std.specs.Prelude.{option_map, ok_or, IsTrue}
 use Rattle.std.proofs.lemmas.Bool.{ltb-true, lt-ltb, and_parts, and_from, cond-true, eqb-true}
 use Rattle.std.proofs.lemmas.List.{drop-drop}
 use Rattle.vab_bytes.specs.Number.{IsBytes, field, put_at}
@@ -24,28 +24,51 @@ use Rattle.vab_marks.proofs.SectorLaws.{get_or-sealed, unless_ok, front_sum, hea
 use Rattle.vab_marks.proofs.SectorLaws.{zero_head}
 use Rattle.vab_marks.specs.Version.{version_byte, version_of, version_in, is_version}
 use Rattle.vab_marks.specs.Mark.{FitsMark, phase_byte, mark_magic, mark_front, mark_under}
-use Rattle.vab_marks.specs.Mark.{mark_spelling}
+use Rattle.vab_marks.specs.Mark.{mark_spelling, may_stand_apart}
 use Rattle.vab_marks.specs.Mark.{phase_of, with_phase, mark_fields, mark_of}
 
 -- ---- phases
 
-some_is : (p q : MarkPhase) → (let one : Option MarkPhase = Some p in one ≡ Some q) → p ≡ q
+some_is : (p q : MarkPhase × Bool)
+    → (let one : Option (MarkPhase × Bool) = Some p in one ≡ Some q)
+    → p ≡ q
 some_is p q h = cc
 
-phase_again : (p : MarkPhase) → phase_of (phase_byte p) ≡ Some p
-phase_again Idle = refl
-phase_again Installing = refl
-phase_again Staged = refl
-phase_again Merging = refl
-phase_again Completed = refl
+phase_again : (p : MarkPhase) (apart : Bool)
+    → IsTrue (may_stand_apart p || not apart)
+    → phase_of (phase_byte p apart) ≡ Some (p, apart)
+phase_again Idle false h = refl
+phase_again Idle true h = absurd cc
+phase_again Installing false h = refl
+phase_again Installing true h = refl
+phase_again Staged false h = refl
+phase_again Staged true h = refl
+phase_again Merging false h = refl
+phase_again Merging true h = absurd cc
+phase_again Completed false h = refl
+phase_again Completed true h = absurd cc
 
-phase_is : (b : ℕ) (p : MarkPhase) → phase_of b ≡ Some p → b ≡ phase_byte p
-phase_is zero p h = ap phase_byte (some_is Idle p h)
-phase_is (suc zero) p h = ap phase_byte (some_is Installing p h)
-phase_is (suc (suc zero)) p h = ap phase_byte (some_is Staged p h)
-phase_is (suc (suc (suc zero))) p h = ap phase_byte (some_is Merging p h)
-phase_is (suc (suc (suc (suc zero)))) p h = ap phase_byte (some_is Completed p h)
-phase_is (suc (suc (suc (suc (suc n))))) p h = absurd cc
+-- the byte of a phase that is read, and that it has a spelling
+pub record IsPhaseOf (b : ℕ) (p : MarkPhase × Bool) : Type 0 where
+  pub byte : b ≡ phase_byte p.0 p.1
+  pub apart : IsTrue (may_stand_apart p.0 || not p.1)
+
+phase_is : (b : ℕ) (p : MarkPhase × Bool) → phase_of b ≡ Some p → IsPhaseOf b p
+phase_is zero p h =
+    subst (IsPhaseOf 0) (some_is (Idle, false) p h) (record { byte = refl; apart = refl })
+phase_is (suc zero) p h =
+    subst (IsPhaseOf 1) (some_is (Installing, false) p h) (record { byte = refl; apart = refl })
+phase_is (suc (suc zero)) p h =
+    subst (IsPhaseOf 2) (some_is (Staged, false) p h) (record { byte = refl; apart = refl })
+phase_is (suc (suc (suc zero))) p h =
+    subst (IsPhaseOf 3) (some_is (Merging, false) p h) (record { byte = refl; apart = refl })
+phase_is (suc (suc (suc (suc zero)))) p h =
+    subst (IsPhaseOf 4) (some_is (Completed, false) p h) (record { byte = refl; apart = refl })
+phase_is (suc (suc (suc (suc (suc zero))))) p h =
+    subst (IsPhaseOf 5) (some_is (Installing, true) p h) (record { byte = refl; apart = refl })
+phase_is (suc (suc (suc (suc (suc (suc zero)))))) p h =
+    subst (IsPhaseOf 6) (some_is (Staged, true) p h) (record { byte = refl; apart = refl })
+phase_is (suc (suc (suc (suc (suc (suc (suc n))))))) p h = absurd cc
 
 -- ---- versions
 
@@ -73,22 +96,24 @@ front_is : (bytes : List ℕ) (v : MarkVersion) (m : UpdateMark)
     → length bytes ≡ 512
     → take 4 bytes ≡ mark_magic
     → get_or bytes 4 0 ≡ version_byte v
-    → get_or bytes 5 0 ≡ phase_byte m.phase
+    → get_or bytes 5 0 ≡ phase_byte m.phase m.apart
     → get_or bytes 6 0 ≡ m.slot
     → field bytes 7 501 ≡ zeros 501
     → take 508 bytes ≡ mark_front v m
 front_is bytes v m len magic version phase slot rest =
     let e4 : field bytes 4 1 ≡ version_byte v ∷ [] = field-one bytes 4 (omega (arith, len))
     ∙ ap (λ (k : ℕ). k ∷ []) version in
-    let e5 : field bytes 5 1 ≡ phase_byte m.phase ∷ [] = field-one bytes 5 (omega (arith, len))
+    let e5 : field bytes 5 1 ≡ phase_byte m.phase m.apart ∷ [] =
+    field-one bytes 5 (omega (arith, len))
     ∙ ap (λ (k : ℕ). k ∷ []) phase in
     let e6 : field bytes 6 1 ≡ m.slot ∷ [] = field-one bytes 6 (omega (arith, len))
     ∙ ap (λ (k : ℕ). k ∷ []) slot in
     let from6 : field bytes 6 502 ≡ m.slot ∷ zeros 501 = field-add bytes 6 1 501
     ∙ rw (e6, rest) refl in
-    let from5 : field bytes 5 503 ≡ phase_byte m.phase ∷ m.slot ∷ zeros 501 =
+    let from5 : field bytes 5 503 ≡ phase_byte m.phase m.apart ∷ m.slot ∷ zeros 501 =
     field-add bytes 5 1 502 ∙ rw (e5, from6) refl in
-    let from4 : field bytes 4 504 ≡ version_byte v ∷ phase_byte m.phase ∷ m.slot ∷ zeros 501 =
+    let from4 : field bytes 4 504
+    ≡ version_byte v ∷ phase_byte m.phase m.apart ∷ m.slot ∷ zeros 501 =
     field-add bytes 4 1 503 ∙ rw (e4, from5) refl in
     field-add bytes 0 4 504 ∙ rw (magic, from4) refl
 
@@ -97,9 +122,9 @@ length-front v m = omega (arith, length-zeros 501)
 
 -- ---- reading
 
-with_phase_ok : (slot : ℕ) (o : Option MarkPhase) (m : UpdateMark)
+with_phase_ok : (slot : ℕ) (o : Option (MarkPhase × Bool)) (m : UpdateMark)
     → ok_or (option_map (with_phase slot) o) BadField ≡ Ok m
-    → (p : MarkPhase) × (o ≡ Some p) × (with_phase slot p ≡ m)
+    → (p : MarkPhase × Bool) × (o ≡ Some p) × (with_phase slot p ≡ m)
 with_phase_ok slot None m h = absurd cc
 with_phase_ok slot (Some p) m h = (p, refl, cc)
 
@@ -130,9 +155,12 @@ found_mark bytes m len are h =
     tests.1 in
     let front : take 508 bytes ≡ mark_front v read =
     front_is bytes v read len head.first (version_is (get_or bytes 4 0) head.version)
-    (phase_is (get_or bytes 5 0) p.0 p.1) refl rest in
+    (phase_is (get_or bytes 5 0) p.0 p.1).byte refl rest in
     let P : UpdateMark → Type 0 = λ k. FitsMark k × (bytes ≡ sealed (mark_front v k)) in
-    subst P p.2 (ltb-true _ _ tests.0, head.whole ∙ ap sealed front)
+    subst P p.2 (
+      record { slot = ltb-true _ _ tests.0; apart = (phase_is (get_or bytes 5 0) p.0 p.1).apart },
+      head.whole ∙ ap sealed front,
+    )
 
 -- what is spelled so is read
 pub only_mark : (v : MarkVersion) (m : UpdateMark)
@@ -148,20 +176,21 @@ only_mark v m sum fits =
     ap is_version (get_or-sealed front 4 (omega (arith, len))) ∙ byte_again v in
     let head : head_fault mark_magic (is_version (get_or whole 4 0)) whole ≡ None =
     head_again mark_magic (is_version (get_or whole 4 0)) front len sum refl version in
-    let phase : get_or whole 5 0 ≡ phase_byte m.phase =
+    let phase : get_or whole 5 0 ≡ phase_byte m.phase m.apart =
     get_or-sealed front 5 (omega (arith, len)) in
     let slot : get_or whole 6 0 ≡ m.slot = get_or-sealed front 6 (omega (arith, len)) in
     let rest : field whole 7 501 ≡ zeros 501 = field-sealed front 7 501 (omega (arith, len))
     ∙ field-zeros 501 0 501 (lit≤ tt) in
-    let below : ltb (get_or whole 6 0) 2 ≡ true = lt-ltb _ 2 (omega (arith, slot, fits)) in
+    let below : ltb (get_or whole 6 0) 2 ≡ true = lt-ltb _ 2 (omega (arith, slot, fits.slot)) in
     let clean : are_zeros (field whole 7 501) ≡ true = ap are_zeros rest ∙ are_zeros-zeros 501 in
     let of_head : Option MarkFault → Result UpdateMark MarkFault = λ o.
     unless o (mark_fields whole) in
-    let of_phase : Option MarkPhase → Result UpdateMark MarkFault = λ o.
+    let of_phase : Option (MarkPhase × Bool) → Result UpdateMark MarkFault = λ o.
     ok_or (option_map (with_phase (get_or whole 6 0)) o) BadField in
-    let of_slot : ℕ → Result UpdateMark MarkFault = λ k. Ok (with_phase k m.phase) in
+    let of_slot : ℕ → Result UpdateMark MarkFault = λ k. Ok (with_phase k (m.phase, m.apart)) in
     ap of_head head ∙ cond-true _ _ (Err BadField) (and_from _ _ below clean)
-    ∙ ap of_phase (ap phase_of phase ∙ phase_again m.phase) ∙ ap of_slot slot
+    ∙ ap of_phase (ap phase_of phase ∙ phase_again m.phase m.apart fits.apart)
+    ∙ ap of_slot slot
 
 pub read_mark : (bytes : List ℕ) (v : MarkVersion) (m : UpdateMark)
     → IsBytes bytes
@@ -183,11 +212,13 @@ version_spelled v m =
 
 -- the sector before its sum
 abbrev pub mark_drawn : UpdateMark → List ℕ
-mark_drawn m = put_at (put_at (zeros 512) 0 mark_magic) 4 (2 ∷ phase_byte m.phase ∷ m.slot ∷ [])
+mark_drawn m =
+    put_at (put_at (zeros 512) 0 mark_magic) 4 (2 ∷ phase_byte m.phase m.apart ∷ m.slot ∷ [])
 
 pub drawn_mark : (m : UpdateMark) → take 508 (mark_drawn m) ≡ mark_front Two m
 drawn_mark m =
-    let head : List ℕ → List ℕ = λ t. 86 ∷ 65 ∷ 66 ∷ 85 ∷ 2 ∷ phase_byte m.phase ∷ m.slot ∷ t in
+    let head : List ℕ → List ℕ = λ t.
+    86 ∷ 65 ∷ 66 ∷ 85 ∷ 2 ∷ phase_byte m.phase m.apart ∷ m.slot ∷ t in
     ap (λ (t : List ℕ). head (take 501 t)) (drop-drop 3 4 (zeros 512))
     ∙ ap head (field-zeros 512 7 501 (lit≤ tt))
 

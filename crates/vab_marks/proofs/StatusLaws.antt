@@ -1,10 +1,10 @@
 -- What callers need of the statuses of partitions.
-use Rattle.std.proofs.Common.{◌≡◌, ℕ, ◌+◌, ◌-◌, ◌^◌, ◌<◌, ◌≤◌, ◌&&◌, Bool, true, false, cond, eqb}
+use Rattle.std.proofs.Common.{◌≡◌, ℕ, ◌+◌, ◌-◌, ◌^◌, ◌<◌, ◌≤◌, Bool, true, false, cond, eqb}
 use Rattle.std.proofs.Common.{List, [], ◌∷◌, ◌++◌, length, take, drop, replicate, get_or, Option}
 use Rattle.std.proofs.Common.{Some, None, Result, Ok, Err, refl, sym, ap, subst, ◌∙◌, arith, lit<}
 use Rattle.std.proofs.Common.{lit≤}
 use Rattle.std.specs.Int.{w16, w64, to_le_bytes}
-use Rattle.std.proofs.lemmas.Bool.{eqb-true, eq-eqb, and_parts, and_from, cond-true}
+use Rattle.std.proofs.lemmas.Bool.{eqb-true, eq-eqb, cond-true}
 use Rattle.std.proofs.lemmas.List.{length-replicate, drop-drop, take_at, drop_at, length-append}
 use Rattle.vab_bytes.specs.Number.{IsBytes, field, le_at, put_at}
 use Rattle.vab_bytes.proofs.NumberLaws.{length-field, length-put_at, field-put_at_same}
@@ -20,12 +20,15 @@ use Rattle.vab_space.specs.Sectors.{sectors_in, chunk_of_sectors}
 use Rattle.vab_marks.specs.declared.sector.MarkFault.{MarkFault}
 use Rattle.vab_marks.specs.declared.sector.MarkFault.TheVariants.{BadField, BadMagic}
 use Rattle.vab_marks.specs.declared.status.PartStatus.{PartStatus}
+use Rattle.vab_marks.specs.declared.status.StatusImage.{StatusImage}
+use Rattle.vab_marks.specs.declared.status.StatusImage.TheVariants.{Stored, InPlace}
 use Rattle.vab_marks.specs.Sector.{zeros, are_zeros, sealed, head_fault, unless}
 use Rattle.vab_marks.proofs.SectorLaws.{zeros_are, length-zeros, field-zeros, are_zeros-zeros}
 use Rattle.vab_marks.proofs.SectorLaws.{zeros_from, field-add, field-one, length-sealed}
 use Rattle.vab_marks.proofs.SectorLaws.{field-sealed, get_or-sealed, unless_ok, front_sum, head_is}
 use Rattle.vab_marks.proofs.SectorLaws.{head_again, zero_head}
 use Rattle.vab_marks.specs.Status.{FitsStatus, status_magic, status_front, status_spelling}
+use Rattle.vab_marks.specs.Status.{state_byte, chunk_said, count_said, placed_in, image_of}
 use Rattle.vab_marks.specs.Status.{with_fields, status_fields, status_of}
 
 -- ---- the front of the sector
@@ -35,31 +38,33 @@ front_is : (bytes : List ℕ) (s : PartStatus)
     → length bytes ≡ 512
     → take 4 bytes ≡ status_magic
     → get_or bytes 4 0 ≡ 1
-    → get_or bytes 5 0 ≡ 1
-    → field bytes 6 2 ≡ to_le_bytes w16 (sectors_in s.chunk)
+    → get_or bytes 5 0 ≡ state_byte s.image
+    → field bytes 6 2 ≡ to_le_bytes w16 (sectors_in (chunk_said s.image))
     → field bytes 8 36 ≡ name_field s.name
-    → field bytes 44 8 ≡ to_le_bytes w64 s.count
+    → field bytes 44 8 ≡ to_le_bytes w64 (count_said s.image)
     → field bytes 52 456 ≡ zeros 456
     → take 508 bytes ≡ status_front s
 front_is bytes s len magic version state chunk name count rest =
+    let here : ℕ = state_byte s.image in
     let e4 : field bytes 4 1 ≡ 1 ∷ [] = field-one bytes 4 (omega (arith, len))
     ∙ ap (λ (k : ℕ). k ∷ []) version in
-    let e5 : field bytes 5 1 ≡ 1 ∷ [] = field-one bytes 5 (omega (arith, len))
+    let e5 : field bytes 5 1 ≡ here ∷ [] = field-one bytes 5 (omega (arith, len))
     ∙ ap (λ (k : ℕ). k ∷ []) state in
-    let from44 : field bytes 44 464 ≡ to_le_bytes w64 s.count ++ zeros 456 =
+    let many : List ℕ = to_le_bytes w64 (count_said s.image) in
+    let from44 : field bytes 44 464 ≡ many ++ zeros 456 =
     field-add bytes 44 8 456 ∙ ap (λ (t : List ℕ). t ++ field bytes 52 456) count
-    ∙ ap (λ (t : List ℕ). to_le_bytes w64 s.count ++ t) rest in
-    let from8 : field bytes 8 500 ≡ name_field s.name ++ (to_le_bytes w64 s.count ++ zeros 456) =
+    ∙ ap (λ (t : List ℕ). many ++ t) rest in
+    let from8 : field bytes 8 500 ≡ name_field s.name ++ (many ++ zeros 456) =
     field-add bytes 8 36 464 ∙ ap (λ (t : List ℕ). t ++ field bytes 44 464) name
     ∙ ap (λ (t : List ℕ). name_field s.name ++ t) from44 in
-    let tail : List ℕ = name_field s.name ++ (to_le_bytes w64 s.count ++ zeros 456) in
-    let size : List ℕ = to_le_bytes w16 (sectors_in s.chunk) in
+    let tail : List ℕ = name_field s.name ++ (many ++ zeros 456) in
+    let size : List ℕ = to_le_bytes w16 (sectors_in (chunk_said s.image)) in
     let from6 : field bytes 6 502 ≡ size ++ tail = field-add bytes 6 2 500
     ∙ ap (λ (t : List ℕ). t ++ field bytes 8 500) chunk
     ∙ ap (λ (t : List ℕ). size ++ t) from8 in
-    let from5 : field bytes 5 503 ≡ 1 ∷ (size ++ tail) = field-add bytes 5 1 502
-    ∙ ap (λ (t : List ℕ). t ++ field bytes 6 502) e5 ∙ ap (λ (t : List ℕ). 1 ∷ t) from6 in
-    let from4 : field bytes 4 504 ≡ 1 ∷ 1 ∷ (size ++ tail) = field-add bytes 4 1 503
+    let from5 : field bytes 5 503 ≡ here ∷ (size ++ tail) = field-add bytes 5 1 502
+    ∙ ap (λ (t : List ℕ). t ++ field bytes 6 502) e5 ∙ ap (λ (t : List ℕ). here ∷ t) from6 in
+    let from4 : field bytes 4 504 ≡ 1 ∷ here ∷ (size ++ tail) = field-add bytes 4 1 503
     ∙ ap (λ (t : List ℕ). t ++ field bytes 5 503) e4 ∙ ap (λ (t : List ℕ). 1 ∷ t) from5 in
     field-add bytes 0 4 504 ∙ ap (λ (t : List ℕ). t ++ field bytes 4 504) magic
     ∙ ap (λ (t : List ℕ). status_magic ++ t) from4
@@ -79,7 +84,7 @@ length-name_field text h =
 length-front : (s : PartStatus) → IsName s.name → length (status_front s) ≡ 508
 length-front s h =
     let name : List ℕ = name_field s.name in
-    let rest : List ℕ = to_le_bytes w64 s.count ++ zeros 456 in
+    let rest : List ℕ = to_le_bytes w64 (count_said s.image) ++ zeros 456 in
     let many : length rest ≡ 464 = omega (arith, length-zeros 456) in
     let both : length (name ++ rest) ≡ 500 = length-append name rest
     ∙ omega (arith, length-name_field s.name h, many) in
@@ -117,23 +122,71 @@ chunk_was n k h = by_tests (eqb n 8) (eqb n 16) (eqb n 32) (eqb-true n 8) (eqb-t
         let same : Four ≡ k = cc in third refl ∙ ap sectors_in same
     by_tests false false false first second third h = absurd cc
 
--- the fields of what is read
-record AreFields (n : ℕ) (size : Option Chunk) (o : Option (List ℕ)) (s : PartStatus)
-    : Type 0 where
-  chunk : size ≡ Some s.chunk
-  name : o ≡ Some s.name
-  count : s.count ≡ n
+-- the fields of an image that is read
+record AreOfImage (state count : ℕ) (size : Option Chunk) (x : StatusImage) : Type 0 where
+  state_is : state ≡ state_byte x
+  chunk_is : size ≡ Some (chunk_said x)
+  count_is : count ≡ count_said x
 
-with_fields_ok : (count : ℕ) (size : Option Chunk) (o : Option (List ℕ)) (s : PartStatus)
-    → with_fields count size o ≡ Ok s
-    → AreFields count size o s
-with_fields_ok count None o s h = absurd cc
-with_fields_ok count (Some k) None s h = absurd cc
-with_fields_ok count (Some k) (Some name) s h =
-    let read : PartStatus = record { name = name; count = count; chunk = k } in
+placed_ok : (count : ℕ) (k : Chunk) (x : StatusImage)
+    → placed_in count k ≡ Some x
+    → AreOfImage 2 count (Some k) x
+placed_ok count One x h = by (eqb count 0) refl h
+  where
+    by : (b : Bool)
+        → eqb count 0 ≡ b
+        → cond b (Some InPlace) None ≡ Some x
+        → AreOfImage 2 count (Some One) x
+    by true none h =
+        let same : InPlace ≡ x = cc in
+        subst (λ (y : StatusImage). AreOfImage 2 count (Some One) y) same
+        (record { state_is = refl; chunk_is = refl; count_is = eqb-true count 0 none })
+    by false some h = absurd cc
+placed_ok count Two x h = absurd cc
+placed_ok count Four x h = absurd cc
+
+image_ok : (state count : ℕ) (size : Option Chunk) (x : StatusImage)
+    → image_of state count size ≡ Some x
+    → AreOfImage state count size x
+image_ok state count None x h = absurd cc
+image_ok state count (Some k) x h = by (eqb state 1) (eqb state 2) refl refl h
+  where
+    by : (a b : Bool)
+        → eqb state 1 ≡ a
+        → eqb state 2 ≡ b
+        → cond a (Some (Stored count k)) (cond b (placed_in count k) None) ≡ Some x
+        → AreOfImage state count (Some k) x
+    by true b one two h =
+        let same : Stored count k ≡ x = cc in
+        subst (λ (y : StatusImage). AreOfImage state count (Some k) y) same
+        (record { state_is = eqb-true state 1 one; chunk_is = refl; count_is = refl })
+    by false true one two h =
+        subst (λ (n : ℕ). AreOfImage n count (Some k) x) (sym (eqb-true state 2 two))
+        (placed_ok count k x h)
+    by false false one two h = absurd cc
+
+-- and what is spelled so is read
+image_again : (x : StatusImage)
+    → image_of (state_byte x) (count_said x) (Some (chunk_said x)) ≡ Some x
+image_again (Stored count chunk) = refl
+image_again InPlace = refl
+
+-- the fields of what is read
+record AreFields (x : Option StatusImage) (o : Option (List ℕ)) (s : PartStatus)
+    : Type 0 where
+  image : x ≡ Some s.image
+  name : o ≡ Some s.name
+
+with_fields_ok : (x : Option StatusImage) (o : Option (List ℕ)) (s : PartStatus)
+    → with_fields x o ≡ Ok s
+    → AreFields x o s
+with_fields_ok None o s h = absurd cc
+with_fields_ok (Some x) None s h = absurd cc
+with_fields_ok (Some x) (Some name) s h =
+    let read : PartStatus = record { name = name; image = x } in
     let same : read ≡ s = cc in
-    subst (λ (t : PartStatus). AreFields count (Some k) (Some name) t) same
-    (record { chunk = refl; name = refl; count = refl })
+    subst (λ (t : PartStatus). AreFields (Some x) (Some name) t) same
+    (record { image = refl; name = refl })
 
 fields_ok : (t : Bool) (r : Result PartStatus MarkFault) (s : PartStatus)
     → cond t r (Err BadField) ≡ Ok s
@@ -152,26 +205,27 @@ found_status bytes s len are h =
     let known : Bool = eqb (get_or bytes 4 0) 1 in
     let u = unless_ok (head_fault status_magic known bytes) (status_fields bytes) s h in
     let head = head_is status_magic known bytes len are u.0 in
-    let f = fields_ok (eqb (get_or bytes 5 0) 1 && are_zeros (field bytes 52 456)) _ s u.1 in
-    let tests = and_parts (eqb (get_or bytes 5 0) 1) (are_zeros (field bytes 52 456)) f.0 in
-    let n = with_fields_ok (le_at w64 bytes 44) (chunk_of_sectors (le_at w16 bytes 6))
-    (name_of_field (field bytes 8 36)) s f.1 in
-    let chunk : field bytes 6 2 ≡ to_le_bytes w16 (sectors_in s.chunk) =
+    let f = fields_ok (are_zeros (field bytes 52 456)) _ s u.1 in
+    let n = with_fields_ok (image_of (get_or bytes 5 0) (le_at w64 bytes 44)
+    (chunk_of_sectors (le_at w16 bytes 6))) (name_of_field (field bytes 8 36)) s f.1 in
+    let i = image_ok (get_or bytes 5 0) (le_at w64 bytes 44)
+    (chunk_of_sectors (le_at w16 bytes 6)) s.image n.image in
+    let chunk : field bytes 6 2 ≡ to_le_bytes w16 (sectors_in (chunk_said s.image)) =
     sym (le_at_spelled_16 bytes 6 (omega (arith, len)) are)
-    ∙ ap (to_le_bytes w16) (chunk_was (le_at w16 bytes 6) s.chunk n.chunk) in
+    ∙ ap (to_le_bytes w16) (chunk_was (le_at w16 bytes 6) (chunk_said s.image) i.chunk_is) in
     let name = found_name (field bytes 8 36) s.name (length-field bytes 8 36 (omega (arith, len)))
     n.name in
-    let count : field bytes 44 8 ≡ to_le_bytes w64 s.count =
+    let count : field bytes 44 8 ≡ to_le_bytes w64 (count_said s.image) =
     sym (le_at_spelled_64 bytes 44 (omega (arith, len)) are)
-    ∙ ap (to_le_bytes w64) (sym n.count) in
+    ∙ ap (to_le_bytes w64) i.count_is in
     let rest : field bytes 52 456 ≡ zeros 456 =
     zeros_from (field bytes 52 456) 456 (length-field bytes 52 456 (omega (arith, len)))
-    tests.1 in
+    f.0 in
     let front : take 508 bytes ≡ status_front s =
-    front_is bytes s len head.first (eqb-true _ _ head.version) (eqb-true _ _ tests.0) chunk
+    front_is bytes s len head.first (eqb-true _ _ head.version) i.state_is chunk
     name.1 count rest in
-    let small : s.count < 2 ^ 64 =
-    subst (λ (k : ℕ). k < 2 ^ 64) (sym n.count) (le_at_fits_64 bytes 44 are) in
+    let small : count_said s.image < 2 ^ 64 =
+    subst (λ (k : ℕ). k < 2 ^ 64) i.count_is (le_at_fits_64 bytes 44 are) in
     (record { name = name.0; count = small }, head.whole ∙ ap sealed front)
 
 -- what is spelled so is read
@@ -185,22 +239,24 @@ only_status s sum fits =
     let whole : List ℕ = sealed front in
     let len : length front ≡ 508 = length-front s fits.name in
     let name : List ℕ = name_field s.name in
-    let rest : List ℕ = to_le_bytes w64 s.count ++ zeros 456 in
+    let rest : List ℕ = to_le_bytes w64 (count_said s.image) ++ zeros 456 in
     let long : length name ≡ 36 = length-name_field s.name fits.name in
     let version : eqb (get_or whole 4 0) 1 ≡ true =
     eq-eqb _ 1 (get_or-sealed front 4 (omega (arith, len))) in
     let head : head_fault status_magic (eqb (get_or whole 4 0) 1) whole ≡ None =
     head_again status_magic (eqb (get_or whole 4 0) 1) front len sum refl version in
-    let state : get_or whole 5 0 ≡ 1 = get_or-sealed front 5 (omega (arith, len)) in
-    let chunk : le_at w16 whole 6 ≡ sectors_in s.chunk =
-    le_at_is_16 whole 6 (sectors_in s.chunk) (chunk_small s.chunk)
+    let state : get_or whole 5 0 ≡ state_byte s.image =
+    get_or-sealed front 5 (omega (arith, len)) in
+    let chunk : le_at w16 whole 6 ≡ sectors_in (chunk_said s.image) =
+    le_at_is_16 whole 6 (sectors_in (chunk_said s.image)) (chunk_small (chunk_said s.image))
     (field-sealed front 6 2 (omega (arith, len))) in
-    let sized : chunk_of_sectors (le_at w16 whole 6) ≡ Some s.chunk =
-    ap chunk_of_sectors chunk ∙ chunk_again s.chunk in
+    let sized : chunk_of_sectors (le_at w16 whole 6) ≡ Some (chunk_said s.image) =
+    ap chunk_of_sectors chunk ∙ chunk_again (chunk_said s.image) in
     let named : field whole 8 36 ≡ name = field-sealed front 8 36 (omega (arith, len))
     ∙ take_at name rest 36 long in
-    let counted : le_at w64 whole 44 ≡ s.count =
-    le_at_is_64 whole 44 s.count fits.count (field-sealed front 44 8 (omega (arith, len))
+    let counted : le_at w64 whole 44 ≡ count_said s.image =
+    le_at_is_64 whole 44 (count_said s.image) fits.count
+    (field-sealed front 44 8 (omega (arith, len))
     ∙ ap (λ (t : List ℕ). take 8 t) (drop_at name rest 36 long)) in
     let back : field front 52 456 ≡ zeros 456 =
     ap (λ (t : List ℕ). take 456 t) (sym (drop-drop 8 36 (name ++ rest))
@@ -213,15 +269,16 @@ only_status s sum fits =
     only_name (field whole 8 36) s.name fits.name named in
     let of_head : Option MarkFault → Result PartStatus MarkFault = λ o.
     unless o (status_fields whole) in
-    let of_chunk : Option Chunk → Result PartStatus MarkFault = λ o.
-    with_fields (le_at w64 whole 44) o (name_of_field (field whole 8 36)) in
+    let placed : image_of (get_or whole 5 0) (le_at w64 whole 44)
+    (chunk_of_sectors (le_at w16 whole 6)) ≡ Some s.image =
+    (λ i. image_of (state i) (counted i) (sized i)) ∙ image_again s.image in
+    let of_image : Option StatusImage → Result PartStatus MarkFault = λ o.
+    with_fields o (name_of_field (field whole 8 36)) in
     let of_name : Option (List ℕ) → Result PartStatus MarkFault = λ o.
-    with_fields (le_at w64 whole 44) (Some s.chunk) o in
-    let of_count : ℕ → Result PartStatus MarkFault = λ k.
-    with_fields k (Some s.chunk) (Some s.name) in
+    with_fields (Some s.image) o in
     ap of_head head
-    ∙ cond-true _ _ (Err BadField) (and_from _ _ (eq-eqb _ 1 state) clean)
-    ∙ ap of_chunk sized ∙ ap of_name read ∙ ap of_count counted
+    ∙ cond-true _ _ (Err BadField) clean
+    ∙ ap of_image placed ∙ ap of_name read
 
 pub read_status : (bytes : List ℕ) (s : PartStatus)
     → IsBytes bytes
@@ -238,29 +295,33 @@ read_status bytes s are fits h =
 -- the sector before its sum
 abbrev pub status_drawn : PartStatus → List ℕ
 status_drawn s =
-    put_at (put_at (put_at (put_at (put_at (zeros 512) 0 status_magic) 4 (1 ∷ 1 ∷ [])) 6
-    (to_le_bytes w16 (sectors_in s.chunk))) 8 s.name) 44 (to_le_bytes w64 s.count)
+    put_at (put_at (put_at (put_at (put_at (zeros 512) 0 status_magic) 4
+    (1 ∷ state_byte s.image ∷ [])) 6
+    (to_le_bytes w16 (sectors_in (chunk_said s.image)))) 8 s.name) 44
+    (to_le_bytes w64 (count_said s.image))
 
 pub drawn_status : (s : PartStatus) → IsName s.name → take 508 (status_drawn s) ≡ status_front s
 drawn_status s h =
     let z : List ℕ = zeros 512 in
     let b1 : List ℕ = put_at z 0 status_magic in
-    let b2 : List ℕ = put_at b1 4 (1 ∷ 1 ∷ []) in
-    let size : List ℕ = to_le_bytes w16 (sectors_in s.chunk) in
+    let b2 : List ℕ = put_at b1 4 (1 ∷ state_byte s.image ∷ []) in
+    let size : List ℕ = to_le_bytes w16 (sectors_in (chunk_said s.image)) in
     let b3 : List ℕ = put_at b2 6 size in
     let b4 : List ℕ = put_at b3 8 s.name in
-    let count : List ℕ = to_le_bytes w64 s.count in
+    let count : List ℕ = to_le_bytes w64 (count_said s.image) in
     let n : ℕ = length s.name in
     let most : n ≤ 36 = (name_fits s.name h).1 in
     let l0 : length z ≡ 512 = length-zeros 512 in
     let l1 : length b1 ≡ 512 = length-put_at z 0 status_magic (omega (arith, l0)) ∙ l0 in
-    let l2 : length b2 ≡ 512 = length-put_at b1 4 (1 ∷ 1 ∷ []) (omega (arith, l1)) ∙ l1 in
+    let l2 : length b2 ≡ 512 =
+    length-put_at b1 4 (1 ∷ state_byte s.image ∷ []) (omega (arith, l1)) ∙ l1 in
     let l3 : length b3 ≡ 512 = length-put_at b2 6 size (omega (arith, l2)) ∙ l2 in
     let l4 : length b4 ≡ 512 = length-put_at b3 8 s.name (omega (arith, l3, most)) ∙ l3 in
     let l5 : length (status_drawn s) ≡ 512 = length-put_at b4 44 count (omega (arith, l4)) ∙ l4 in
     let blank : (at m : ℕ) → 8 ≤ at → at + m ≤ 512 → field b3 at m ≡ zeros m =
     λ at m from to. field-put_at_above b2 6 size at m (omega (arith, l2))
-    (omega (arith, from)) ∙ field-put_at_above b1 4 (1 ∷ 1 ∷ []) at m (omega (arith, l1))
+    (omega (arith, from))
+    ∙ field-put_at_above b1 4 (1 ∷ state_byte s.image ∷ []) at m (omega (arith, l1))
     (omega (arith, from)) ∙ field-put_at_above z 0 status_magic at m (omega (arith, l0))
     (omega (arith, from)) ∙ field-zeros 512 at m to in
     let fits3 : 8 + n ≤ length b3 = omega (arith, l3, most) in

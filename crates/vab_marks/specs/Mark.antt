@@ -1,5 +1,6 @@
 -- The update mark: the spelling of each under a version, and what the bytes of a sector mean.
-use Rattle.std.specs.Prelude.{ℕ, zero, suc, ◌<◌, ◌&&◌, nat_lt, if◌then◌else◌, List, [], ◌∷◌, ◌++◌}
+use Rattle.std.specs.Prelude.{ℕ, zero, suc, ◌<◌, Bool, true, false, not, ◌&&◌, ◌||◌, nat_lt, IsTrue}
+use Rattle.std.specs.Prelude.{if◌then◌else◌, List, [], ◌∷◌, ◌++◌}
 use Rattle.std.specs.Prelude.{slice_index, Option, Some, None, option_map, ok_or, Result, Err}
 use Rattle.vab_bytes.specs.Number.{field}
 use Rattle.vab_marks.specs.declared.sector.MarkFault.{MarkFault}
@@ -13,16 +14,28 @@ use Rattle.vab_marks.specs.declared.version.MarkVersion.TheVariants.{Two}
 use Rattle.vab_marks.specs.Sector.{zeros, are_zeros, sealed, head_fault, unless}
 use Rattle.vab_marks.specs.Version.{version_byte, is_version}
 
--- what has a spelling
-abbrev pub FitsMark : UpdateMark → Type 0
-FitsMark m = m.slot < 2
+-- the phases in which a target may stand apart
+abbrev pub may_stand_apart : MarkPhase → Bool
+may_stand_apart Installing = true
+may_stand_apart Staged = true
+may_stand_apart _ = false
 
-abbrev pub phase_byte : MarkPhase → ℕ
-phase_byte Idle = 0
-phase_byte Installing = 1
-phase_byte Staged = 2
-phase_byte Merging = 3
-phase_byte Completed = 4
+-- it doesn't in another phase
+abbrev pub MayStandApart : UpdateMark → Type 0
+MayStandApart m = IsTrue (may_stand_apart m.phase || not m.apart)
+
+-- what has a spelling
+pub record FitsMark (m : UpdateMark) : Type 0 where
+  pub slot : m.slot < 2
+  pub apart : MayStandApart m
+
+-- the byte of a phase, where the target stands apart or not
+abbrev pub phase_byte : MarkPhase → (apart : Bool) → ℕ
+phase_byte Idle apart = 0
+phase_byte Installing apart = if apart then 5 else 1
+phase_byte Staged apart = if apart then 6 else 2
+phase_byte Merging apart = 3
+phase_byte Completed apart = 4
 
 -- VABU
 abbrev pub mark_magic : List ℕ
@@ -30,7 +43,8 @@ mark_magic = 86 ∷ 65 ∷ 66 ∷ 85 ∷ []
 
 -- the magic, the version, the phase, the slot, and zeros
 abbrev pub mark_front : MarkVersion → UpdateMark → List ℕ
-mark_front v m = mark_magic ++ version_byte v ∷ phase_byte m.phase ∷ m.slot ∷ zeros 501
+mark_front v m =
+    mark_magic ++ version_byte v ∷ phase_byte m.phase m.apart ∷ m.slot ∷ zeros 501
 
 -- that, and the sum
 unfoldable pub mark_under : MarkVersion → UpdateMark → List ℕ
@@ -40,37 +54,39 @@ mark_under v m = sealed (mark_front v m)
 abbrev pub mark_spelling : UpdateMark → List ℕ
 mark_spelling m = mark_under Two m
 
-abbrev pub phase_of : ℕ → Option MarkPhase
-phase_of zero = Some Idle
-phase_of (suc zero) = Some Installing
-phase_of (suc (suc zero)) = Some Staged
-phase_of (suc (suc (suc zero))) = Some Merging
-phase_of (suc (suc (suc (suc zero)))) = Some Completed
-phase_of (suc (suc (suc (suc (suc n))))) = None
+-- the phase of a byte, and whether the target stands apart
+abbrev pub phase_of : ℕ → Option (MarkPhase × Bool)
+phase_of zero = Some (Idle, false)
+phase_of (suc zero) = Some (Installing, false)
+phase_of (suc (suc zero)) = Some (Staged, false)
+phase_of (suc (suc (suc zero))) = Some (Merging, false)
+phase_of (suc (suc (suc (suc zero)))) = Some (Completed, false)
+phase_of (suc (suc (suc (suc (suc zero))))) = Some (Installing, true)
+phase_of (suc (suc (suc (suc (suc (suc zero)))))) = Some (Staged, true)
+phase_of (suc (suc (suc (suc (suc (suc (suc n))))))) = None
 
--- the mark of this phase and slot: each mark that is made out of nothing is one of these
+-- the mark of this phase and slot, where there is none yet
 abbrev pub mark_at : MarkPhase → ℕ → UpdateMark
-mark_at phase slot = record { phase = phase; slot = slot }
+mark_at phase slot = record { phase = phase; slot = slot; apart = false }
 
--- no update of the device of this slot; one that is installed from it, or is ready; the stores of
--- this slot are merged, or all of them have been
+-- no update of the device of this slot
 abbrev pub idle_mark : ℕ → UpdateMark
 idle_mark slot = mark_at Idle slot
 
-abbrev pub installing_mark : ℕ → UpdateMark
-installing_mark slot = mark_at Installing slot
+-- a mark with another phase, or of another slot: each that is written of a device that is there is
+-- the one that is kept, so changed
+abbrev pub rephased : MarkPhase → UpdateMark → UpdateMark
+rephased phase m = record m { phase = phase; apart = may_stand_apart phase && m.apart }
 
-abbrev pub staged_mark : ℕ → UpdateMark
-staged_mark slot = mark_at Staged slot
+abbrev pub resloted : ℕ → UpdateMark → UpdateMark
+resloted slot m = record m { slot = slot }
 
-abbrev pub merging_mark : ℕ → UpdateMark
-merging_mark slot = mark_at Merging slot
+-- the mark of an installation from this one's slot, whose target stands apart or not
+abbrev pub begun : (apart : Bool) → UpdateMark → UpdateMark
+begun apart m = record m { phase = Installing; apart = apart }
 
-abbrev pub completed_mark : ℕ → UpdateMark
-completed_mark slot = mark_at Completed slot
-
-abbrev pub with_phase : ℕ → MarkPhase → UpdateMark
-with_phase slot phase = mark_at phase slot
+abbrev pub with_phase : ℕ → MarkPhase × Bool → UpdateMark
+with_phase slot p = record { phase = p.0; slot = slot; apart = p.1 }
 
 -- a field is bad where it has a value that is not named, or a byte is not zero where no field
 -- stands

@@ -9,5 +9,5 @@ mod version;
 
 pub use mark::{MarkPhase, UpdateMark, decode_mark, encode_mark};
 pub use sector::MarkFault;
-pub use status::{PartStatus, decode_status, encode_status};
+pub use status::{PartStatus, StatusImage, decode_status, encode_status};
 pub use version::MarkVersion;

@@ -4,7 +4,7 @@ ghost use Rattle.std.specs.Prelude.{◌≡◌, IfOk, Ok};
 ghost use Rattle.vab_marks.specs.declared.mark.UpdateMark.{UpdateMark};
 ghost use Rattle.vab_marks.specs.declared.version.MarkVersion.{MarkVersion};
 ghost use Rattle.vab_marks.specs.Mark.{FitsMark, phase_byte, phase_of, mark_under, mark_of};
-ghost use Rattle.vab_marks.specs.Mark.{mark_spelling};
+ghost use Rattle.vab_marks.specs.Mark.{mark_spelling, may_stand_apart, rephased, resloted, begun};
 ghost use Rattle.vab_marks.specs.Version.{version_in};
 
 use crate::sector::{MarkFault, are_zeros, blank, head_fault, put, seal};
@@ -34,32 +34,76 @@ pub struct UpdateMark {
     /// 0 for a, 1 for b: the sole slot in Idle, the source in Installing and Staged, the target in
     /// Merging and Completed.
     pub slot: usize,
+    /// The target stands apart, in Installing and Staged alone: no block of the source is its own.
+    pub apart: bool,
 }
 
 impl MarkPhase {
-    fn from_byte(byte: u8) -> Option<MarkPhase>
+    // A phase, and whether the target stands apart.
+    fn from_byte(byte: u8) -> Option<(MarkPhase, bool)>
         ensures { result ≡ phase_of byte }
     {
         match byte {
-            0 => Some(MarkPhase::Idle),
-            1 => Some(MarkPhase::Installing),
-            2 => Some(MarkPhase::Staged),
-            3 => Some(MarkPhase::Merging),
-            4 => Some(MarkPhase::Completed),
+            0 => Some((MarkPhase::Idle, false)),
+            1 => Some((MarkPhase::Installing, false)),
+            2 => Some((MarkPhase::Staged, false)),
+            3 => Some((MarkPhase::Merging, false)),
+            4 => Some((MarkPhase::Completed, false)),
+            5 => Some((MarkPhase::Installing, true)),
+            6 => Some((MarkPhase::Staged, true)),
             _ => None,
         }
     }
 
-    fn to_byte(self) -> u8
-        ensures { result ≡ phase_byte self }
+    fn to_byte(self, apart: bool) -> u8
+        ensures { result ≡ phase_byte self apart }
     {
         match self {
             MarkPhase::Idle => 0,
-            MarkPhase::Installing => 1,
-            MarkPhase::Staged => 2,
+            MarkPhase::Installing => { if apart { 5 } else { 1 } }
+            MarkPhase::Staged => { if apart { 6 } else { 2 } }
             MarkPhase::Merging => 3,
             MarkPhase::Completed => 4,
         }
+    }
+
+    // A target may stand apart in it.
+    fn may_stand_apart(self) -> bool
+        ensures { result ≡ may_stand_apart self }
+    {
+        matches!(self, MarkPhase::Installing | MarkPhase::Staged)
+    }
+}
+
+impl UpdateMark {
+    /// The same mark with another phase; where no target stands apart in that, none does.
+    pub fn with_phase(self, phase: MarkPhase) -> UpdateMark
+        ensures { result ≡ rephased phase self }
+    {
+        let apart = phase.may_stand_apart() && self.apart;
+        UpdateMark {
+            phase,
+            apart,
+            ..self
+        }
+    }
+
+    /// The mark of an installation from this one's slot, whose target stands apart or not.
+    pub fn begun(self, apart: bool) -> UpdateMark
+        ensures { result ≡ begun apart self }
+    {
+        UpdateMark {
+            phase: MarkPhase::Installing,
+            apart,
+            ..self
+        }
+    }
+
+    /// The same mark of another slot.
+    pub fn with_slot(self, slot: usize) -> UpdateMark
+        ensures { result ≡ resloted slot self }
+    {
+        UpdateMark { slot, ..self }
     }
 }
 
@@ -73,10 +117,11 @@ fn mark_in(bytes: &[u8; 512]) -> Result<UpdateMark, MarkFault>
     if bytes[6] > 1 || !are_zeros(&bytes[7..508]) {
         return Err(MarkFault::BadField);
     }
-    let phase = MarkPhase::from_byte(bytes[5]).ok_or(MarkFault::BadField)?;
+    let (phase, apart) = MarkPhase::from_byte(bytes[5]).ok_or(MarkFault::BadField)?;
     Ok(UpdateMark {
         phase,
         slot: bytes[6] as usize,
+        apart,
     })
 }
 
@@ -111,7 +156,7 @@ pub fn encode_mark(mark: &UpdateMark) -> [u8; 512]
         4,
         &[
             MarkVersion::Two.to_byte(),
-            mark.phase.to_byte(),
+            mark.phase.to_byte(mark.apart),
             mark.slot as u8,
         ],
     );

@@ -32,7 +32,8 @@ few_stored : (size : ℕ) (base : List ℕ) (store : Option (List ℕ)) (image :
     → count_of image ≤ length base
 few_stored size base None Kept is = omega arith
 few_stored size base None Declared is = omega arith
-few_stored size base None (Written k es) is = absurd is
+few_stored size base None (Written k es) is =
+    omega (arith, ap (λ (xs : List Exception). length xs) is)
 few_stored size base (Some store) Kept is = omega arith
 few_stored size base (Some store) Declared is = omega arith
 few_stored size base (Some store) (Written k es) is =

@@ -11,7 +11,7 @@ use Rattle.vab_disk.proofs.Moments.{adds_on, adds_wider}
 use Rattle.vab_gate.specs.declared.gate.DiskFault.{DiskFault}
 use Rattle.vab_marks.specs.declared.mark.MarkPhase.TheVariants as marks
 use Rattle.vab_marks.specs.declared.mark.UpdateMark.{UpdateMark}
-use Rattle.vab_marks.specs.Mark.{mark_spelling, completed_mark}
+use Rattle.vab_marks.specs.Mark.{mark_spelling, rephased}
 use Rattle.vab_model.specs.declared.command.Reply.{Reply}
 use Rattle.vab_model.specs.declared.command.Reply.TheVariants as replies
 use Rattle.vab_model.specs.declared.state.Phase.TheVariants.{Merging}
@@ -23,17 +23,17 @@ use Rattle.vab_device.specs.Kept.{IsDevice}
 use Rattle.vab_device.specs.Mounted.{Mounted, mounted_on, count_at}
 use Rattle.vab_device.specs.Reading.{device, Represents}
 use Rattle.vab_device.specs.Updates.{merged_to, merge_ended, merge_effect}
-use Rattle.vab_merge_gates.specs.Ends.{EndsMerge}
-use Rattle.vab_merge_gates.specs.Writes.{IsOfMergeEnd}
-use Rattle.vab_merge_run.specs.Run.{LeavesTurns}
-use Rattle.vab_merge_run.specs.Turns.{left_in}
-use Rattle.vab_merge_run.specs.Writes.{IsOfTurns}
-use Rattle.vab_merge_run.proofs.OwnLaws.{left_both}
-use Rattle.vab_merge_run.proofs.TurnLaws.{turned_beside, turned_mark}
+use Rattle.vab_merging.specs.Ends.{EndsMerge}
+use Rattle.vab_merging.specs.GateWrites.{IsOfMergeEnd}
+use Rattle.vab_merging.specs.Run.{LeavesTurns}
+use Rattle.vab_merging.specs.Turns.{left_in}
+use Rattle.vab_merging.specs.RunWrites.{IsOfTurns}
+use Rattle.vab_merging.proofs.OwnLaws.{left_both}
+use Rattle.vab_merging.proofs.TurnLaws.{turned_beside, turned_mark}
 use Rattle.vab_merging.specs.Made.{MakesSome}
 use Rattle.vab_merging.specs.Writes.{IsOfMerge}
 use Rattle.vab_merging.proofs.EffectLaws.{phase_is, effect_is}
-use Rattle.vab_merge_run.proofs.LeftLaws.{none_left}
+use Rattle.vab_merging.proofs.LeftLaws.{none_left}
 use Rattle.vab_merging.proofs.StepLaws.{merged_self, last_left, last_ended, step_left, step_ended}
 use Rattle.vab_merging.proofs.StepLaws.{turns_none, reply_left, reply_merged}
 
@@ -120,10 +120,9 @@ module _ {D : Type 0} (g : Ghosts D) (first : Device) (staged : Option (List ℕ
         ∙ ap (λ (m : UpdateMark). m.phase) (turned_mark (blocks - more) first)
         ∙ merging
 
-    own : d.mark.slot ≡ slot
-    own =
-        ap (λ (x : Device). x.mark.slot) made.is
-        ∙ ap (λ (m : UpdateMark). m.slot) (turned_mark (blocks - more) first)
+    own_mark : d.mark ≡ first.mark
+    own_mark =
+        ap (λ (x : Device). x.mark) made.is ∙ turned_mark (blocks - more) first
 
     geometry : d.geometry ≡ first.geometry
     geometry =
@@ -173,7 +172,7 @@ module _ {D : Type 0} (g : Ghosts D) (first : Device) (staged : Option (List ℕ
               fewer some t,
               (
                 w.0,
-                w.1 ∙ ap (λ (n : ℕ). mark_spelling (completed_mark n)) own,
+                w.1 ∙ ap (λ (m : UpdateMark). mark_spelling (rephased marks.Completed m)) own_mark,
               ),
             );
       }

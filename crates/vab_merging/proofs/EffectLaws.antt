@@ -12,8 +12,8 @@ use Rattle.vab_device.specs.declared.device.Device.{Device}
 use Rattle.vab_device.specs.Kept.{IsDevice}
 use Rattle.vab_device.specs.Mounted.{mounted_on, state_on, count_at}
 use Rattle.vab_device.specs.Updates.{effect_on, merge_effect}
-use Rattle.vab_merge_run.specs.Turns.{left_in}
-use Rattle.vab_merge_run.proofs.OwnLaws.{left_both}
+use Rattle.vab_merging.specs.Turns.{left_in}
+use Rattle.vab_merging.proofs.OwnLaws.{left_both}
 use Rattle.vab_device.proofs.PhaseCases.{unplanned_of}
 
 module _ (d : Device) (old : Image) (staged : Option (List ℕ)) (blocks : ℕ) where

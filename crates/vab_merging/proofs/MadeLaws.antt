@@ -15,10 +15,10 @@ use Rattle.vab_device.specs.Kept.{IsDevice}
 use Rattle.vab_device.specs.Mounted.{Mounted, mounted_on}
 use Rattle.vab_device.specs.Reading.{device, Represents}
 use Rattle.vab_device.specs.Updates.{merged_to}
-use Rattle.vab_merge_run.specs.Run.{LeavesTurns, MakesTurns}
-use Rattle.vab_merge_run.specs.Turns.{next_of, turned, left_in}
-use Rattle.vab_merge_run.specs.Writes.{IsOfTurn, IsOfTurns}
-use Rattle.vab_merge_run.proofs.TurnLaws.{turned_zero, turned_more, turned_mark}
+use Rattle.vab_merging.specs.Run.{LeavesTurns, MakesTurns}
+use Rattle.vab_merging.specs.Turns.{next_of, turned, left_in}
+use Rattle.vab_merging.specs.RunWrites.{IsOfTurn, IsOfTurns}
+use Rattle.vab_merging.proofs.TurnLaws.{turned_zero, turned_more, turned_mark}
 use Rattle.vab_merging.specs.Made.{MakesSome}
 use Rattle.vab_merging.proofs.EffectLaws.{phase_is}
 use Rattle.vab_merging.proofs.StepLaws.{merged_self}

@@ -5,8 +5,10 @@ use Rattle.std.proofs.lemmas.Bool.{cases_lt, le-leb, lt-leb}
 use Rattle.vab_model.specs.declared.command.Reply.TheVariants as replies
 use Rattle.vab_model.specs.declared.state.Phase.TheVariants.{Idle, Merging}
 use Rattle.vab_model.specs.Effects.{last_of, after_of, IsOneOf}
+use Rattle.vab_model.specs.Machine.{merge_reply}
+use Rattle.vab_model.specs.Machine.{turns as turns_of}
 use Rattle.vab_device.specs.Mounted.{Mounted}
-use Rattle.vab_device.specs.Updates.{merged_to, merge_ended, merge_reply, merge_effect, turns}
+use Rattle.vab_device.specs.Updates.{merged_to, merge_ended, merge_effect, turns}
 
 -- a device that is merged with so many left
 pub merged_self : (m : Mounted) (slot left : ℕ)
@@ -19,7 +21,7 @@ pub last_left : (blocks : ℕ) (m x : Mounted) (slot left : ℕ)
     → blocks ≤ left
     → x ≡ merged_to m slot left
     → last_of x (turns blocks m slot left) ≡ merged_to m slot (left - blocks)
-unfolding turns
+unfolding turns_of
 last_left zero m x slot left below is =
     is ∙ (let none : left ≡ left - 0 = omega arith in ap (merged_to m slot) none)
 last_left (suc n) m x slot zero below is = absurd (omega (arith, below))
@@ -32,7 +34,7 @@ last_left (suc n) m x slot (suc left) below is =
 pub last_ended : (blocks : ℕ) (m x : Mounted) (slot left : ℕ)
     → left < blocks
     → last_of x (turns blocks m slot left) ≡ merge_ended m
-unfolding turns
+unfolding turns_of
 last_ended zero m x slot left below = absurd (omega (arith, below))
 last_ended (suc n) m x slot zero below = refl
 last_ended (suc n) m x slot (suc left) below =
@@ -44,7 +46,7 @@ pub step_left : (made blocks : ℕ) (m x : Mounted) (slot left : ℕ)
     → made ≤ left
     → x ≡ merged_to m slot left
     → IsOneOf (x ∷ turns blocks m slot left) (merged_to m slot (left - made))
-unfolding turns
+unfolding turns_of
 step_left zero blocks m x slot left some within is =
     inl ((let none : left - 0 ≡ left = omega arith in ap (merged_to m slot) none) ∙ sym is)
 step_left (suc k) zero m x slot left some within is = absurd (omega (arith, some))
@@ -63,7 +65,7 @@ step_left (suc k) (suc n) m x slot (suc left) some within is =
 pub step_ended : (blocks : ℕ) (m x : Mounted) (slot left : ℕ)
     → left < blocks
     → IsOneOf (x ∷ turns blocks m slot left) (merge_ended m)
-unfolding turns
+unfolding turns_of
 step_ended zero m x slot left below = absurd (omega (arith, below))
 step_ended (suc n) m x slot zero below = inr (inl refl)
 step_ended (suc n) m x slot (suc left) below =
@@ -73,7 +75,7 @@ step_ended (suc n) m x slot (suc left) below =
 pub turns_none : (blocks : ℕ) (m : Mounted) (slot left : ℕ)
     → turns blocks m slot left ≡ []
     → blocks ≡ 0
-unfolding turns
+unfolding turns_of
 turns_none zero m slot left none = refl
 turns_none (suc n) m slot zero none =
     let no : merge_ended m ∷ [] ≡ [] = none in absurd cc

@@ -1,2 +1,9 @@
+pub mod Turns
+pub mod RunWrites
+pub mod Part
+pub mod Run
+pub mod Kept
+pub mod Ends
+pub mod GateWrites
 pub mod Writes
 pub mod Made

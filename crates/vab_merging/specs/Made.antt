@@ -9,9 +9,9 @@ use Rattle.vab_device.specs.Kept.{IsDevice}
 use Rattle.vab_device.specs.Mounted.{mounted_on}
 use Rattle.vab_device.specs.Reading.{Represents}
 use Rattle.vab_device.specs.Updates.{merged_to}
-use Rattle.vab_merge_run.specs.Run.{LeavesTurns}
-use Rattle.vab_merge_run.specs.Turns.{next_of, turned, left_in}
-use Rattle.vab_merge_run.specs.Writes.{IsOfTurns}
+use Rattle.vab_merging.specs.Run.{LeavesTurns}
+use Rattle.vab_merging.specs.Turns.{next_of, turned, left_in}
+use Rattle.vab_merging.specs.RunWrites.{IsOfTurns}
 
 -- So many turns are made, but for as many as the answer counts; it counts some only where no store
 -- has an exception. Where none are asked for, nothing is written. The device after them is the one

@@ -2,9 +2,9 @@
 use Rattle.std.specs.Prelude.{◌≡◌, ◌⊎◌, ◌<◌, ℕ, List}
 use Rattle.vab_marks.specs.declared.mark.MarkPhase.TheVariants as marks
 use Rattle.vab_device.specs.declared.device.Device.{Device}
-use Rattle.vab_merge_gates.specs.Writes.{IsOfMergeEnd}
-use Rattle.vab_merge_run.specs.Turns.{left_in}
-use Rattle.vab_merge_run.specs.Writes.{IsOfTurns}
+use Rattle.vab_merging.specs.GateWrites.{IsOfMergeEnd}
+use Rattle.vab_merging.specs.Turns.{left_in}
+use Rattle.vab_merging.specs.RunWrites.{IsOfTurns}
 
 -- What so many turns write: for each the block of an exception in its partition, and its entry in
 -- the store; and where there are more turns than exceptions, the mark that all stores are merged.

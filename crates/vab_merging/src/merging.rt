@@ -9,11 +9,11 @@ ghost use Rattle.vab_device.specs.Reading.{Represents};
 ghost use Rattle.vab_merging.specs.Writes.{IsOfMerge};
 
 use crate::counts::left;
+use crate::ending::end_merge;
 use crate::turns::make_turns;
 use vab_device::{Device, PhaseKind};
 use vab_disk::Disk;
 use vab_gate::DiskFault;
-use vab_merge_gates::end_merge;
 use vab_model::{Refusal, Reply};
 
 // Makes the turns, and ends the merge where more are asked for than there are exceptions.

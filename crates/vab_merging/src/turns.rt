@@ -6,10 +6,11 @@ ghost use Rattle.vab_device.specs.Kept.{IsDevice};
 ghost use Rattle.vab_device.specs.Reading.{Represents};
 ghost use Rattle.vab_merging.specs.Made.{MakesSome};
 
+use crate::next::next_place;
+use crate::run::merge_run;
 use vab_device::Device;
 use vab_disk::Disk;
 use vab_gate::DiskFault;
-use vab_merge_run::{merge_run, next_place};
 
 /// Makes so many turns, fewer only where no store has an exception any more. Answers how many are
 /// not made.

@@ -1,4 +1,2 @@
-pub mod Found
 pub mod Names
-pub mod Questions
 pub mod SeenLaws

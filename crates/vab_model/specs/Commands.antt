@@ -11,6 +11,7 @@ pub data Command : Type 0 where
   Print : (name : List ℕ) → Command
   Digest : (name : List ℕ) → Command
   Begin : Command
+  Factory : Command
   Create : (name : List ℕ) (size : ℕ) → Command
   Resize : (name : List ℕ) (size : ℕ) → Command
   Delete : (name : List ℕ) → Command
@@ -28,6 +29,7 @@ command_of code.Mark = Mark
 command_of (code.Print name) = Print name.now
 command_of (code.Digest name) = Digest name.now
 command_of code.Begin = Begin
+command_of code.Factory = Factory
 command_of (code.Create name size) = Create name.now size
 command_of (code.Resize name size) = Resize name.now size
 command_of (code.Delete name) = Delete name.now

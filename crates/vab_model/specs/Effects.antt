@@ -1,25 +1,18 @@
--- What a command makes of a state: the reply, and the states that follow one another.
-use Rattle.std.specs.Prelude.{◌≡◌, ◌⊎◌, ℕ, if◌then◌else◌, Bool, true, false, List, [], ◌∷◌}
-use Rattle.std.specs.Prelude.{◌&&◌, map, Option, Some, None, is_some}
+-- Effects of commands: a reply and the states that follow one another; and of the image that is
+-- asked for, of boot control, and of want of memory.
+use Rattle.std.specs.Prelude.{◌≡◌, ◌⊎◌, ℕ, if◌then◌else◌, Bool, true, false, ◌&&◌, List, [], ◌∷◌}
+use Rattle.std.specs.Prelude.{map, Option, Some, None}
 use Rattle.sha2.specs.Sha256.{sha256}
 use Rattle.vab_bootctl.specs.declared.slots.Control.{Control}
-use Rattle.vab_bootctl.specs.Boot.{activated_of, booted_of, marked_of}
 use Rattle.vab_names.specs.Names.{is_full, base_of}
 use Rattle.vab_model.specs.declared.state.Image.{Image}
-use Rattle.vab_model.specs.declared.state.Phase.{Phase}
-use Rattle.vab_model.specs.declared.state.Phase.TheVariants.{Idle}
 use Rattle.vab_model.specs.declared.state.State.{State}
 use Rattle.vab_model.specs.declared.command.Refusal.{Refusal}
-use Rattle.vab_model.specs.declared.command.Refusal.TheVariants.{NotIdle, NotInstalling}
-use Rattle.vab_model.specs.declared.command.Refusal.TheVariants.{NotStaged, NotMerging}
-use Rattle.vab_model.specs.declared.command.Refusal.TheVariants.{NothingToCancel, BadName}
-use Rattle.vab_model.specs.declared.command.Refusal.TheVariants.{Unknown, NoImages, NoMemory}
+use Rattle.vab_model.specs.declared.command.Refusal.TheVariants.{BadName, Unknown, NoImages}
+use Rattle.vab_model.specs.declared.command.Refusal.TheVariants.{NoMemory}
 use Rattle.vab_model.specs.declared.command.Reply.{Reply}
 use Rattle.vab_model.specs.declared.command.Reply.TheVariants as replies
-use Rattle.vab_model.specs.Commands.{Command, SetActive, Boot, Mark, Print, Digest, Begin, Create}
-use Rattle.vab_model.specs.Commands.{Resize, Delete, Snapshot, Flash, Finish, Cancel, BeginMerge}
-use Rattle.vab_model.specs.Commands.{Merge}
-use Rattle.vab_model.specs.State.{images_at, has_images, with_control, image_named}
+use Rattle.vab_model.specs.State.{with_control, image_named}
 
 -- A reply; the states that follow one another, none for a refusal or a question; and whether memory
 -- may be refused in its place.
@@ -66,7 +59,7 @@ found_of s name =
     if is_full 0 name then found_in s.a name
     else (if is_full 1 name then found_in s.b name else Refused_by BadName)
 
--- ---- the table
+-- ---- questions and boot control
 
 abbrev pub print_effect : {S : Type 0} → List ℕ → Found → Effect S
 print_effect name (Image_is image) = answers (replies.Bytes name)
@@ -80,34 +73,6 @@ digest_effect (Refused_by refusal) = refuses refusal
 abbrev pub active_effect : Bool → State → Control → Effect State
 active_effect true s c = does replies.Done (with_control c s)
 active_effect false s c = refuses NoImages
-
--- why a command on an update is refused by what a state says: there is none, or there is one
-abbrev pub unless_idle : Phase → Refusal → Refusal
-unless_idle Idle refusal = refusal
-unless_idle _ refusal = NotIdle
-
--- Each command has a row. A state doesn't say where its partitions stand, so an update is neither
--- begun nor carried on here: the commands on one are refused, as there is none, or since there is
--- one. They have their rows where the tables are known, in the effects of a device.
-unfoldable pub effect : State → Command → Effect State
-effect s (SetActive slot) =
-    active_effect (is_some (images_at s slot)) s (activated_of s.control slot)
-effect s Boot =
-    let c = booted_of s.control (has_images s) in
-    does (replies.Booted c.current) (with_control c s)
-effect s Mark = does replies.Done (with_control (marked_of s.control) s)
-effect s (Print name) = print_effect name (found_of s name)
-effect s (Digest name) = digest_effect (found_of s name)
-effect s Begin = refuses (unless_idle s.phase NotInstalling)
-effect s (Create name size) = refuses (unless_idle s.phase NotInstalling)
-effect s (Resize name size) = refuses (unless_idle s.phase NotInstalling)
-effect s (Delete name) = refuses (unless_idle s.phase NotInstalling)
-effect s (Snapshot name size) = refuses (unless_idle s.phase NotInstalling)
-effect s (Flash name chunk) = refuses (unless_idle s.phase NotInstalling)
-effect s Finish = refuses (unless_idle s.phase NotInstalling)
-effect s Cancel = refuses (unless_idle s.phase NothingToCancel)
-effect s BeginMerge = refuses NotStaged
-effect s (Merge blocks) = refuses NotMerging
 
 -- ---- want of memory
 

@@ -3,7 +3,7 @@
 use Rattle.std.specs.Prelude.{◌≡◌, ℕ, Bool, true, false}
 use Rattle.vab_model.specs.Commands.{Command, SetActive, Boot, Mark, Print, Digest, Begin, Create}
 use Rattle.vab_model.specs.Commands.{Resize, Delete, Snapshot, Flash, Finish, Cancel, BeginMerge}
-use Rattle.vab_model.specs.Commands.{Merge}
+use Rattle.vab_model.specs.Commands.{Merge, Factory}
 
 pub record Kind : Type 0 where
   -- it gives up the images of a source, or changes where those of the target are read
@@ -50,6 +50,7 @@ kind_of Mark = verb
 kind_of (Print name) = verb
 kind_of (Digest name) = verb
 kind_of Begin = record plain { of_installation = true }
+kind_of Factory = record plain { of_installation = true }
 kind_of (Create name size) = edit
 kind_of (Resize name size) = edit
 kind_of (Delete name) = edit

@@ -19,6 +19,9 @@ pub enum Command<'a> {
     Digest(&'a [u8]),
     /// Begins an update from the current slot.
     Begin,
+    /// Begins a factory install beside the current slot: the target has no partitions yet, and is
+    /// written in place.
+    Factory,
     /// Gives the target of an update a partition of this size.
     Create(&'a [u8], u64),
     /// Gives a partition of the target another size.
@@ -29,7 +32,7 @@ pub enum Command<'a> {
     /// needs at most.
     Snapshot(&'a [u8], u64),
     /// Makes the staged bytes the image of a partition of the target, in a store whose chunks have
-    /// this size.
+    /// this size, or in a factory install in place.
     Flash(&'a [u8], Chunk),
     /// Ends the installing of an update: its target has images, and may be set active.
     Finish,
@@ -96,6 +99,8 @@ pub enum Refusal {
     Incomplete(Name36),
     /// The slot has no images.
     NoImages,
+    /// In a factory install there are no stores.
+    InPlace,
     /// Memory was refused.
     NoMemory,
 }

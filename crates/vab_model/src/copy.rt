@@ -2,7 +2,7 @@
 
 ghost use Rattle.std.specs.Prelude.{◌≡◌, IfOk};
 
-use crate::{GroupLimit, Image, NoMemory, Phase, PlanEntry, PlanImage, State};
+use crate::{GroupLimit, Image, NoMemory, Phase, Plan, PlanEntry, PlanImage, State};
 use std::alloc::Global;
 use vab_bytes::{Bytes, Listing};
 
@@ -28,7 +28,7 @@ fn copy_images(alloc: Global, images: &Listing<Image>) -> Result<Listing<Image>,
     Ok(Listing::from_vec(copies))
 }
 
-fn copy_plan(alloc: Global, plan: &Listing<PlanEntry>) -> Result<Listing<PlanEntry>, NoMemory>
+fn copy_entries(alloc: Global, plan: &Listing<PlanEntry>) -> Result<Listing<PlanEntry>, NoMemory>
     ensures { IfOk result (λ x. x ≡ plan.now) }
 {
     let mut copies = Vec::new(alloc);
@@ -90,16 +90,24 @@ impl PlanEntry {
     }
 }
 
+impl Plan {
+    fn copy(&self, alloc: Global) -> Result<Plan, NoMemory>
+        ensures { IfOk result (λ x. x ≡ self.now) }
+    {
+        Ok(Plan {
+            apart: self.apart,
+            entries: copy_entries(alloc, &self.entries)?,
+        })
+    }
+}
+
 impl Phase {
     fn copy(&self, alloc: Global) -> Result<Phase, NoMemory>
         ensures { IfOk result (λ x. x ≡ self.now) }
     {
         match self {
             Phase::Idle => Ok(Phase::Idle),
-            Phase::Installing(source, plan) => Ok(Phase::Installing(
-                *source,
-                copy_plan(alloc, plan)?,
-            )),
+            Phase::Installing(source, plan) => Ok(Phase::Installing(*source, plan.copy(alloc)?)),
             Phase::Staged(source, left) => Ok(Phase::Staged(*source, *left)),
             Phase::Merging(target, left) => Ok(Phase::Merging(*target, *left)),
         }

@@ -29,7 +29,7 @@ pub enum PlanImage {
     Kept,
     /// None yet.
     Declared,
-    /// These bytes, and how many exceptions its store has.
+    /// These bytes, and how many exceptions its store has; none where it has no store.
     Written(Bytes, u64),
 }
 
@@ -47,13 +47,22 @@ pub struct PlanEntry {
     pub image: PlanImage,
 }
 
+/// The partitions that the target of an update is to have.
+#[derive(Drop)]
+pub struct Plan {
+    /// The target stands apart, in a factory install: no block of the source is the target's, and
+    /// an image is written into the blocks of its own partition, which has no store.
+    pub apart: bool,
+    pub entries: Listing<PlanEntry>,
+}
+
 /// Where an update stands. A slot is 0 for a and 1 for b.
 #[derive(Drop)]
 pub enum Phase {
     /// No update.
     Idle,
     /// From this source; the other slot's partitions are planned.
-    Installing(usize, Listing<PlanEntry>),
+    Installing(usize, Plan),
     /// From this source; so many blocks are left to merge.
     Staged(usize, u64),
     /// Into this target; so many blocks are left to merge.

@@ -13,9 +13,9 @@ use Rattle.vab_layout.specs.declared.layout.Part.{Part}
 use Rattle.vab_names.specs.Names.{most_partitions}
 use Rattle.vab_partitions.specs.Together.{target_parts, Together, FirstBad}
 use Rattle.vab_partitions.specs.Together.{pass_together, bad_behind}
-use Rattle.vab_partitions.specs.Target.{KeepsAlone, FitsTarget, IsFirstBad}
+use Rattle.vab_partitions.specs.Target.{KeepsAlone, FitsBeside, IsFirstBad}
 use Rattle.vab_partitions.specs.Merging.{FitsMerging, KeepsMerging}
-use Rattle.vab_partitions.specs.TargetRules.{passes_alone, bad_target_of}
+use Rattle.vab_partitions.specs.TargetRules.{passes_alone, bad_beside}
 use Rattle.vab_partitions.specs.MergingRules.{passes_merging, bad_merging_of}
 use Rattle.vab_partitions.proofs.TargetLaws.{front_keeps, together_target, target_together}
 use Rattle.vab_partitions.proofs.TargetLaws.{together_merging, merging_together}
@@ -200,48 +200,54 @@ module _ (most slot : ℕ) (passes : Part → Bool) (Keeps : Part → Type 0)
 -- ---- a target
 
 -- where none is bad, the target keeps its rules
-pub no_bad_target : (most slot : ℕ) (source target : List Part)
+pub no_bad_target : (most slot : ℕ) (twins source target : List Part)
     → most ≤ most_partitions
-    → bad_target_of most slot source target ≡ None
-    → FitsTarget most slot source target
-unfolding bad_target_of
-no_bad_target most slot source target small none =
-    together_target most slot source target small
-    (no_bad most slot (passes_alone slot source target) (KeepsAlone slot source target)
-    (alone slot source target) target none)
+    → bad_beside most slot twins source target ≡ None
+    → FitsBeside most slot twins source target
+unfolding bad_beside
+no_bad_target most slot twins source target small none =
+    together_target most slot twins source target small
+    (no_bad most slot (passes_alone slot twins source target) (KeepsAlone slot twins source target)
+    (alone slot twins source target) target none)
 
 -- and where it does, none is bad
-pub target_not_bad : (most slot : ℕ) (source target : List Part)
-    → FitsTarget most slot source target
-    → bad_target_of most slot source target ≡ None
-unfolding bad_target_of
-target_not_bad most slot source target is =
-    then_no_bad most slot (passes_alone slot source target) (KeepsAlone slot source target)
-    (alone slot source target) target (target_together most slot source target is)
+pub target_not_bad : (most slot : ℕ) (twins source target : List Part)
+    → FitsBeside most slot twins source target
+    → bad_beside most slot twins source target ≡ None
+unfolding bad_beside
+target_not_bad most slot twins source target is =
+    then_no_bad most slot (passes_alone slot twins source target)
+    (KeepsAlone slot twins source target)
+    (alone slot twins source target) target (target_together most slot twins source target is)
 
-pub target_is : (most slot : ℕ) (source target : List Part)
+pub target_is : (most slot : ℕ) (twins source target : List Part)
     → most ≤ most_partitions
-    → (bad_target_of most slot source target ≡ None) ↔ FitsTarget most slot source target
-target_is most slot source target small =
-    (no_bad_target most slot source target small, target_not_bad most slot source target)
+    → (bad_beside most slot twins source target ≡ None) ↔ FitsBeside most slot twins source target
+target_is most slot twins source target small = (
+  no_bad_target most slot twins source target small,
+  target_not_bad most slot twins source
+      target,
+)
 
 -- the bad one is the first
-pub bad_is_first : (most slot : ℕ) (source target : List Part) (name : List ℕ)
-    → bad_target_of most slot source target ≡ Some name
-    → IsFirstBad most slot source target name
-unfolding bad_target_of
-bad_is_first most slot source target name some =
-    bad_then_first most slot (passes_alone slot source target) (KeepsAlone slot source target)
-    (alone slot source target) target name some
+pub bad_is_first : (most slot : ℕ) (twins source target : List Part) (name : List ℕ)
+    → bad_beside most slot twins source target ≡ Some name
+    → IsFirstBad most slot twins source target name
+unfolding bad_beside
+bad_is_first most slot twins source target name some =
+    bad_then_first most slot (passes_alone slot twins source target)
+    (KeepsAlone slot twins source target)
+    (alone slot twins source target) target name some
 
 -- and the first is the bad one
-pub first_is_bad : (most slot : ℕ) (source target : List Part) (name : List ℕ)
-    → IsFirstBad most slot source target name
-    → bad_target_of most slot source target ≡ Some name
-unfolding bad_target_of
-first_is_bad most slot source target name f =
-    first_then_bad most slot (passes_alone slot source target) (KeepsAlone slot source target)
-    (alone slot source target) target name f
+pub first_is_bad : (most slot : ℕ) (twins source target : List Part) (name : List ℕ)
+    → IsFirstBad most slot twins source target name
+    → bad_beside most slot twins source target ≡ Some name
+unfolding bad_beside
+first_is_bad most slot twins source target name f =
+    first_then_bad most slot (passes_alone slot twins source target)
+    (KeepsAlone slot twins source target)
+    (alone slot twins source target) target name f
 
 -- ---- a slot that is merged
 

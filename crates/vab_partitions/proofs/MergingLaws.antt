@@ -5,21 +5,21 @@ use Rattle.vab_layout.specs.declared.layout.Part.{Part}
 use Rattle.vab_layout.specs.Slots.{own_parts}
 use Rattle.vab_partitions.specs.Rules.{bad_part}
 use Rattle.vab_partitions.specs.Merging.{FitsMerging}
-use Rattle.vab_partitions.specs.TargetRules.{bad_target_of}
+use Rattle.vab_partitions.specs.TargetRules.{bad_beside}
 use Rattle.vab_partitions.specs.MergingRules.{bad_merging_of}
 use Rattle.vab_partitions.proofs.OwnRules.{none_bad}
 use Rattle.vab_partitions.proofs.TargetLaws.{target_merging}
 use Rattle.vab_partitions.proofs.BadTarget.{no_bad_target, no_bad_merging, merging_not_bad}
 
 -- a target that keeps its rules beside a source keeps those of a slot that is merged
-pub merging_of_target : (most slot : ℕ) (source target : List Part)
+pub merging_of_target : (most slot : ℕ) (twins source target : List Part)
     → most ≤ most_partitions
-    → bad_target_of most slot source target ≡ None
+    → bad_beside most slot twins source target ≡ None
     → bad_merging_of most slot target ≡ None
-merging_of_target most slot source target small none =
-    let fits = no_bad_target most slot source target small none in
+merging_of_target most slot twins source target small none =
+    let fits = no_bad_target most slot twins source target small none in
     merging_not_bad most slot target
-    (record { is = target_merging slot source target fits.is; few = fits.few })
+    (record { is = target_merging slot twins source target fits.is; few = fits.few })
 
 -- where none is bad, the slot keeps the rules
 pub is_merging : (most slot : ℕ) (target : List Part)

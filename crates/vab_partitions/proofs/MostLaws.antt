@@ -11,7 +11,7 @@ use Rattle.vab_layout.specs.Layout.{blocks_of_parts}
 use Rattle.vab_layout.specs.Slots.{own_parts}
 use Rattle.vab_partitions.specs.Rules.{is_distinct, part_passes, bad_part}
 use Rattle.vab_partitions.specs.Together.{target_parts, pass_together, bad_behind}
-use Rattle.vab_partitions.specs.TargetRules.{passes_alone, bad_target_of}
+use Rattle.vab_partitions.specs.TargetRules.{passes_alone, bad_beside}
 use Rattle.vab_partitions.specs.MergingRules.{passes_merging, bad_merging_of}
 use Rattle.vab_partitions.proofs.OwnLaws.{bad_next, bad_here, bad_none}
 use Rattle.vab_partitions.proofs.BadTarget.{next_passes, next_bad, none_behind}
@@ -83,13 +83,14 @@ more_behind few most slot passes earlier (p ∷ ps) le none =
           sym (next_bad few slot passes earlier p ps f) ∙ none in cc)
     ]
 
-pub more_target : (few most slot : ℕ) (source target : List Part)
+pub more_target : (few most slot : ℕ) (twins source target : List Part)
     → few ≤ most
-    → bad_target_of few slot source target ≡ None
-    → bad_target_of most slot source target ≡ None
-unfolding bad_target_of
-more_target few most slot source target le none =
-    more_behind few most slot (passes_alone slot source target) [] (target_parts slot target) le
+    → bad_beside few slot twins source target ≡ None
+    → bad_beside most slot twins source target ≡ None
+unfolding bad_beside
+more_target few most slot twins source target le none =
+    more_behind few most slot (passes_alone slot twins source target) [] (target_parts slot target)
+    le
     none
 
 pub more_merging : (few most slot : ℕ) (target : List Part)

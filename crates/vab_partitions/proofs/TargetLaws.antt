@@ -14,11 +14,11 @@ use Rattle.vab_names.specs.Names.{is_of_slot, is_store, most_partitions}
 use Rattle.vab_layout.specs.declared.layout.Part.{Part}
 use Rattle.vab_layout.specs.Layout.{blocks_of_parts}
 use Rattle.vab_layout.specs.Slots.{own_parts, store_parts, IsDistinct, IsOwnPart}
-use Rattle.vab_layout.specs.Slots.{IsTargetPart, IsStorePart, IsTarget}
+use Rattle.vab_layout.specs.Slots.{IsTargetPartBeside, IsStorePart, IsTargetBeside}
 use Rattle.vab_blocks.proofs.Distinct.{distinct_left, distinct_pairs, pairs_distinct, times}
 use Rattle.vab_blocks.proofs.Distinct.{at_most_once, once_each}
 use Rattle.vab_partitions.specs.Together.{target_parts, KeepsEither, Together, FirstBad}
-use Rattle.vab_partitions.specs.Target.{KeepsAlone, FitsTarget}
+use Rattle.vab_partitions.specs.Target.{KeepsAlone, FitsBeside}
 use Rattle.vab_partitions.specs.Merging.{IsMerging, IsStoreAlone, FitsMerging, KeepsMerging}
 use Rattle.vab_names.proofs.NameCases.{own_or_store}
 use Rattle.vab_partitions.proofs.OwnLaws.{blocks_append}
@@ -180,15 +180,16 @@ module _ (most slot : ℕ) (Own Store : Part → Type 0) (parts : List Part) whe
 
 -- ---- a target beside its source
 
-abbrev OwnRules : ℕ → List Part → List Part → Part → Type 0
-OwnRules slot source target p = IsOwnPart slot p × IsTargetPart slot source target p
+abbrev OwnRules : (slot : ℕ) → (twins source target : List Part) → Part → Type 0
+OwnRules slot twins source target p = IsOwnPart slot p
+    × IsTargetPartBeside slot twins source target p
 
-pub together_target : (most slot : ℕ) (source target : List Part)
+pub together_target : (most slot : ℕ) (twins source target : List Part)
     → most ≤ most_partitions
-    → Together most slot (KeepsAlone slot source target) (target_parts slot target)
-    → FitsTarget most slot source target
-together_target most slot source target small together =
-    let Own : Part → Type 0 = OwnRules slot source target in
+    → Together most slot (KeepsAlone slot twins source target) (target_parts slot target)
+    → FitsBeside most slot twins source target
+together_target most slot twins source target small together =
+    let Own : Part → Type 0 = OwnRules slot twins source target in
     let own : List Part = own_parts slot target in
     let k = together_kept most slot Own (IsStorePart slot source target) target together in
     record {
@@ -198,7 +199,7 @@ together_target most slot source target small together =
           few = omega (arith, k.few);
           once = own_once most slot Own (IsStorePart slot source target) target k;
         };
-        each = all_from (IsTargetPart slot source target) own
+        each = all_from (IsTargetPartBeside slot twins source target) own
             (λ p c. (All-contains Own own p k.own c).1);
         stores = k.stores;
         once = k.once;
@@ -206,17 +207,18 @@ together_target most slot source target small together =
       few = k.few;
     }
 
-pub target_together : (most slot : ℕ) (source target : List Part)
-    → FitsTarget most slot source target
-    → Together most slot (KeepsAlone slot source target) (target_parts slot target)
-target_together most slot source target fits =
+pub target_together : (most slot : ℕ) (twins source target : List Part)
+    → FitsBeside most slot twins source target
+    → Together most slot (KeepsAlone slot twins source target) (target_parts slot target)
+target_together most slot twins source target fits =
     let is = fits.is in
     let own : List Part = own_parts slot target in
-    kept_together most slot (OwnRules slot source target) (IsStorePart slot source target) target
+    kept_together most slot (OwnRules slot twins source target) (IsStorePart slot source target)
+    target
     (record {
-      own = all_from (OwnRules slot source target) own (λ p c. (
+      own = all_from (OwnRules slot twins source target) own (λ p c. (
         All-contains (IsOwnPart slot) own p is.own.each c,
-        All-contains (IsTargetPart slot source target) own p is.each c,
+        All-contains (IsTargetPartBeside slot twins source target) own p is.each c,
       ));
       stores = is.stores;
       few = fits.few;
@@ -258,10 +260,10 @@ merging_together most slot target fits =
     })
 
 -- a target that keeps its rules beside a source keeps those of a slot that is merged
-pub target_merging : (slot : ℕ) (source target : List Part)
-    → IsTarget slot source target
+pub target_merging : (slot : ℕ) (twins source target : List Part)
+    → IsTargetBeside slot twins source target
     → IsMerging slot target
-target_merging slot source target is = record {
+target_merging slot twins source target is = record {
   own = is.own;
   stores = all_from (IsStoreAlone slot target) (store_parts slot target) (λ s c.
       let stores : List Part = store_parts slot target in

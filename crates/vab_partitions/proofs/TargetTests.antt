@@ -18,7 +18,7 @@ use Rattle.vab_blocks.proofs.Distinct.{distinct_pairs, pairs_distinct}
 use Rattle.vab_layout.specs.declared.layout.Part.{Part}
 use Rattle.vab_layout.specs.Layout.{blocks_of_parts}
 use Rattle.vab_layout.specs.Slots.{other_slot, own_parts, before_of, is_updated}
-use Rattle.vab_layout.specs.Slots.{IsOwnPart, IsTargetPart, IsStorePart}
+use Rattle.vab_layout.specs.Slots.{IsOwnPart, IsTargetPartBeside, IsStorePart}
 use Rattle.vab_partitions.specs.Together.{Together, pass_together}
 use Rattle.vab_partitions.specs.Target.{KeepsAlone}
 use Rattle.vab_partitions.specs.Merging.{IsStoreAlone, KeepsMerging}
@@ -74,42 +74,43 @@ own_part slot p =
     (Decides-and (base && small) group
     (Decides-and base small (itself base) (at_most (length p.blocks) (2 ^ 28))) (itself group))
 
-unchanged : (slot : ℕ) (source target : List Part) (p : Part)
-    → Decides (is_unchanged slot source target p)
-    (Any (λ s. s.name ≡ in_slot (other_slot slot) p.name) source
-    × (p.blocks ≡ before_of slot source p.name)
+unchanged : (slot : ℕ) (twins target : List Part) (p : Part)
+    → Decides (is_unchanged slot twins target p)
+    (Any (λ s. s.name ≡ in_slot (other_slot slot) p.name) twins
+    × (p.blocks ≡ before_of slot twins p.name)
     × All (λ s. (s.name ≡ store_of p.name) → ⊥) target)
-unchanged slot source target p =
+unchanged slot twins target p =
     let name : List ℕ = in_slot (other_slot slot) p.name in
-    let before : List ℕ = before_of slot source p.name in
-    let there : Bool = is_named name source in
+    let before : List ℕ = before_of slot twins p.name in
+    let there : Bool = is_named name twins in
     let same : Bool = bytes_eq p.blocks before in
     let store : Bool = is_named (store_of p.name) target in
     Decides-like (there && same && not store)
     (λ k. (k.0.0, k.0.1, none_named (store_of p.name) target k.1))
     (λ k. ((k.0, k.1), named_none (store_of p.name) target k.2))
     (Decides-and (there && same) (not store)
-    (Decides-and there same (part_then name source, then_part name source)
+    (Decides-and there same (part_then name twins, then_part name twins)
     (bytes_eq-Decides p.blocks before))
     (Decides-not store (part_then (store_of p.name) target, then_part (store_of p.name) target)))
 
-target_part : (slot : ℕ) (source target : List Part) (p : Part)
-    → Decides (target_passes slot source target p) (IsTargetPart slot source target p)
-target_part slot source target p =
-    let before : List ℕ = before_of slot source p.name in
+target_part : (slot : ℕ) (twins source target : List Part) (p : Part)
+    → Decides (target_passes slot twins source target p)
+    (IsTargetPartBeside slot twins source target p)
+target_part slot twins source target p =
+    let before : List ℕ = before_of slot twins p.name in
     let front : List ℕ = take (length before) p.blocks in
     let other : List ℕ = take (length p.blocks) before in
     let taken : List ℕ = source_blocks slot source in
     let rest : List ℕ = drop (length before) p.blocks in
-    let kept : Bool = is_updated p || is_unchanged slot source target p in
+    let kept : Bool = is_updated p || is_unchanged slot twins target p in
     Decides-like (bytes_eq front other && are_apart taken rest && kept)
     (λ k. record { begins = k.0.0; fresh = k.0.1; kept = k.1 })
     (λ k. ((k.begins, k.fresh), k.kept))
     (Decides-and (bytes_eq front other && are_apart taken rest) kept
     (Decides-and (bytes_eq front other) (are_apart taken rest) (bytes_eq-Decides front other)
     (apart taken rest))
-    (Decides-or (is_updated p) (is_unchanged slot source target p) (itself (is_updated p))
-    (unchanged slot source target p)))
+    (Decides-or (is_updated p) (is_unchanged slot twins target p) (itself (is_updated p))
+    (unchanged slot twins target p)))
 
 store_alone : (slot : ℕ) (target : List Part) (s : Part)
     → Decides (store_stands slot target s) (IsStoreAlone slot target s)
@@ -136,13 +137,13 @@ store_part slot source target s =
     (Decides-and stands (are_apart taken s.blocks) (store_alone slot target s)
     (apart taken s.blocks))
 
-pub alone : (slot : ℕ) (source target : List Part) (p : Part)
-    → Decides (passes_alone slot source target p) (KeepsAlone slot source target p)
-alone slot source target p = elim (cases_Bool (is_of_slot slot p.name)) [
+pub alone : (slot : ℕ) (twins source target : List Part) (p : Part)
+    → Decides (passes_alone slot twins source target p) (KeepsAlone slot twins source target p)
+alone slot twins source target p = elim (cases_Bool (is_of_slot slot p.name)) [
   | inl own ↦
       rw own
-      (Decides-and (own_passes slot p) (target_passes slot source target p) (own_part slot p)
-      (target_part slot source target p))
+      (Decides-and (own_passes slot p) (target_passes slot twins source target p) (own_part slot p)
+      (target_part slot twins source target p))
   | inr store ↦ rw store (store_part slot source target p)
 ]
 

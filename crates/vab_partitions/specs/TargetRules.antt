@@ -29,22 +29,22 @@ own_passes slot p =
     is_base (base_of p.name) && nat_le (length p.blocks) (2 ^ 28)
     && (bytes_eq p.group default_name || is_of_slot slot p.group)
 
--- the source has a partition of its base name, of the same blocks, and it has no store
-abbrev pub is_unchanged : ℕ → List Part → List Part → Part → Bool
-is_unchanged slot source target p =
-    is_named (in_slot (other_slot slot) p.name) source
-    && bytes_eq p.blocks (before_of slot source p.name)
+-- it has a twin, a partition of its base name in the source, of the same blocks, and no store
+abbrev pub is_unchanged : (slot : ℕ) → (twins target : List Part) → Part → Bool
+is_unchanged slot twins target p =
+    is_named (in_slot (other_slot slot) p.name) twins
+    && bytes_eq p.blocks (before_of slot twins p.name)
     && not (is_named (store_of p.name) target)
 
--- it begins with the source's blocks, as many as it has or all, has no other block of the source,
+-- it begins with its twin's blocks, as many as it has or all, has no other block of the source,
 -- and is marked as updated or unchanged
-abbrev pub target_passes : ℕ → List Part → List Part → Part → Bool
-target_passes slot source target p =
-    bytes_eq (take (length (before_of slot source p.name)) p.blocks)
-    (take (length p.blocks) (before_of slot source p.name))
+abbrev pub target_passes : (slot : ℕ) → (twins source target : List Part) → Part → Bool
+target_passes slot twins source target p =
+    bytes_eq (take (length (before_of slot twins p.name)) p.blocks)
+    (take (length p.blocks) (before_of slot twins p.name))
     && are_apart (source_blocks slot source)
-    (drop (length (before_of slot source p.name)) p.blocks)
-    && (is_updated p || is_unchanged slot source target p)
+    (drop (length (before_of slot twins p.name)) p.blocks)
+    && (is_updated p || is_unchanged slot twins target p)
 
 -- a store: it stands in the stores' group, and a partition of the target that is marked as updated
 -- has it
@@ -59,14 +59,19 @@ store_passes slot source target s =
     store_stands slot target s && are_apart (source_blocks slot source) s.blocks
 
 -- the rules of one partition or store
-abbrev pub passes_alone : ℕ → List Part → List Part → Part → Bool
-passes_alone slot source target p =
+abbrev pub passes_alone : (slot : ℕ) → (twins source target : List Part) → Part → Bool
+passes_alone slot twins source target p =
     if is_of_slot slot p.name
-    then own_passes slot p && target_passes slot source target p
+    then own_passes slot p && target_passes slot twins source target p
     else store_passes slot source target p
 
 -- the name of the first of the target's partitions and stores with which a rule is broken, where
 -- the slot may have so many partitions
-unfoldable pub bad_target_of : (most slot : ℕ) → (source target : List Part) → Option (List ℕ)
-bad_target_of most slot source target =
-    bad_behind most slot (passes_alone slot source target) [] (target_parts slot target)
+unfoldable pub bad_beside : (most slot : ℕ) → (twins source target : List Part)
+    → Option (List ℕ)
+bad_beside most slot twins source target =
+    bad_behind most slot (passes_alone slot twins source target) [] (target_parts slot target)
+
+-- the same, where each partition of the source may be a twin
+abbrev pub bad_target_of : (most slot : ℕ) → (source target : List Part) → Option (List ℕ)
+bad_target_of most slot source target = bad_beside most slot source source target

@@ -8,7 +8,8 @@ ghost use Rattle.std.specs.Str.{bytes_eq};
 ghost use Rattle.vab_names.specs.Names.{in_slot, is_of_slot, is_store, store_of, store_group_name};
 ghost use Rattle.vab_layout.specs.Layout.{blocks_of_parts};
 ghost use Rattle.vab_layout.specs.Slots.{blocks_named, is_updated, other_slot, own_parts};
-ghost use Rattle.vab_layout.specs.Slots.{IsDistinct, IsOwn, IsOwnPart, IsStorePart, IsTargetPart};
+ghost use Rattle.vab_layout.specs.Slots.{IsDistinct, IsOwn, IsOwnPart, IsStorePart};
+ghost use Rattle.vab_layout.specs.Slots.{IsTargetPartBeside};
 ghost use Rattle.vab_partitions.specs.Target.{KeepsAlone};
 ghost use Rattle.vab_partitions.specs.Merging.{IsStoreAlone};
 
@@ -124,17 +125,17 @@ pub(crate) fn is_own_part(part: &Part, slot: usize) -> bool
     has_base(&part.name) && has_few(&part.blocks) && is_group_of(&part.group, slot)
 }
 
-// Whether the partition has the source's blocks and no store.
-fn is_unchanged(source: &[Part], target: &[Part], part: &Part, before: &Blocks, slot: usize) -> bool
+// Whether the partition has its twin's blocks and no store.
+fn is_unchanged(twins: &[Part], target: &[Part], part: &Part, before: &Blocks, slot: usize) -> bool
     requires slot { slot < 2 }
     requires long { 2 ≤ length part.now.name }
     requires short { length part.now.name ≤ 32 }
     ensures { IsTrue result
-        ↔ (Any (λ s. s.name ≡ in_slot (other_slot slot) part.now.name) source.now
+        ↔ (Any (λ s. s.name ≡ in_slot (other_slot slot) part.now.name) twins.now
         × (part.now.blocks ≡ before.now)
         × All (λ s. s.name ≢ store_of part.now.name) target.now) }
 {
-    has_part(in_slot(&part.name, 1 - slot).text(), source)
+    has_part(in_slot(&part.name, 1 - slot).text(), twins)
         && is_same(&part.blocks, before)
         && !has_part(store_of(&part.name).text(), target)
 }
@@ -142,6 +143,7 @@ fn is_unchanged(source: &[Part], target: &[Part], part: &Part, before: &Blocks, 
 // Whether the partition keeps the rules of a target's.
 fn is_target_part(
     alloc: Global,
+    twins: &[Part],
     source: &[Part],
     target: &[Part],
     taken: &Blocks,
@@ -149,22 +151,23 @@ fn is_target_part(
     slot: usize,
 ) -> Result<bool, NoMemory>
     requires slot { slot < 2 }
+    requires twins { IsOwn (other_slot slot) twins.now }
     requires source { IsOwn (other_slot slot) source.now }
     requires taken { taken.now ≡ blocks_of_parts (own_parts (other_slot slot) source.now) }
     requires once { IsDistinct part.now.blocks }
     requires of_slot { is_of_slot slot part.now.name ≡ true }
     requires own { IsOwnPart slot part.now }
     ensures { IfOk result
-        (λ ok. IsTrue ok ↔ IsTargetPart slot source.now target.now part.now) }
+        (λ ok. IsTrue ok ↔ IsTargetPartBeside slot twins.now source.now target.now part.now) }
 {
-    let before = blocks_named(alloc, in_slot(&part.name, 1 - slot).text(), source)?;
+    let before = blocks_named(alloc, in_slot(&part.name, 1 - slot).text(), twins)?;
     if !begins(alloc, &part.blocks, &before)? {
         return Ok(false);
     }
     if !is_fresh(alloc, taken, &part.blocks, before.len())? {
         return Ok(false);
     }
-    Ok(part.attributes & UPDATED != 0 || is_unchanged(source, target, part, &before, slot))
+    Ok(part.attributes & UPDATED != 0 || is_unchanged(twins, target, part, &before, slot))
 }
 
 // Whether this is a partition of the slot with this name that is marked as updated.
@@ -242,6 +245,7 @@ fn is_store_part(
 /// Whether a partition of the slot or a store keeps the rules that don't speak of those before it.
 pub(crate) fn keeps_alone(
     alloc: Global,
+    twins: &[Part],
     source: &[Part],
     target: &[Part],
     taken: &Blocks,
@@ -249,11 +253,13 @@ pub(crate) fn keeps_alone(
     slot: usize,
 ) -> Result<bool, NoMemory>
     requires slot { slot < 2 }
+    requires twins { IsOwn (other_slot slot) twins.now }
     requires source { IsOwn (other_slot slot) source.now }
     requires taken { taken.now ≡ blocks_of_parts (own_parts (other_slot slot) source.now) }
     requires once { IsDistinct part.now.blocks }
     requires either { is_of_slot slot part.now.name ≡ false → is_store slot part.now.name ≡ true }
-    ensures { IfOk result (λ ok. IsTrue ok ↔ KeepsAlone slot source.now target.now part.now) }
+    ensures { IfOk result
+        (λ ok. IsTrue ok ↔ KeepsAlone slot twins.now source.now target.now part.now) }
 {
     if !is_of_slot(part.name.text(), slot) {
         return is_store_part(alloc, source, target, taken, part, slot);
@@ -261,5 +267,5 @@ pub(crate) fn keeps_alone(
     if !is_own_part(part, slot) {
         return Ok(false);
     }
-    is_target_part(alloc, source, target, taken, part, slot)
+    is_target_part(alloc, twins, source, target, taken, part, slot)
 }

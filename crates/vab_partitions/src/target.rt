@@ -5,11 +5,11 @@ ghost use Rattle.std.specs.Prelude.{IsNone, IsTrue, OnOk};
 ghost use Rattle.vab_names.specs.Names.{is_of_slot, is_store, most_partitions};
 ghost use Rattle.vab_tables.specs.Rules.{KeepsRules};
 ghost use Rattle.vab_layout.specs.Layout.{layout_of, blocks_of_parts};
-ghost use Rattle.vab_layout.specs.Slots.{other_slot, own_parts, IsOwn};
+ghost use Rattle.vab_layout.specs.Slots.{other_slot, own_parts, twins_by, IsOwn};
 ghost use Rattle.vab_blocks.specs.Blocks.{is_distinct};
 ghost use Rattle.vab_partitions.specs.Together.{target_parts};
-ghost use Rattle.vab_partitions.specs.Target.{KeepsAlone, FitsTarget, IsFirstBad};
-ghost use Rattle.vab_partitions.specs.TargetRules.{bad_target_of};
+ghost use Rattle.vab_partitions.specs.Target.{KeepsAlone, FitsBeside, IsFirstBad};
+ghost use Rattle.vab_partitions.specs.TargetRules.{bad_beside};
 
 use crate::beside::keeps_alone;
 use std::alloc::Global;
@@ -126,6 +126,7 @@ impl Front {
     fn join(
         &mut self,
         alloc: Global,
+        twins: &[Part],
         source: &[Part],
         target: &[Part],
         taken: &Blocks,
@@ -134,6 +135,7 @@ impl Front {
         most: usize,
     ) -> Result<bool, NoMemory>
         requires slot { slot < 2 }
+        requires twins { IsOwn (other_slot slot) twins.now }
         requires source { IsOwn (other_slot slot) source.now }
         requires taken { taken.now ≡ blocks_of_parts (own_parts (other_slot slot) source.now) }
         requires either { (is_of_slot slot part.now.name || is_store slot part.now.name) ≡ true }
@@ -141,36 +143,40 @@ impl Front {
         requires apart { self.old.apart ≡ true
             → is_distinct (self.old.seen ++ part.now.blocks) ≡ true }
         ensures joins { IfOk result (λ ok. IsTrue ok
-            ↔ Joins most slot (KeepsAlone slot source.now target.now) self.old part.now) }
+            ↔ Joins most slot (KeepsAlone slot twins.now source.now target.now) self.old part.now) }
         ensures joined { IfOk result (λ ok. IsTrue ok → IsJoined slot self.old self.new part.now) }
     {
         if !self.push(alloc, part, slot, most)? {
             return Ok(false);
         }
-        keeps_alone(alloc, source, target, taken, part, slot)
+        keeps_alone(alloc, twins, source, target, taken, part, slot)
     }
 }
 
 // The first partition or store of the target that breaks a rule.
 fn first_bad(
     alloc: Global,
+    twins: &[Part],
     source: &[Part],
     target: &[Part],
     slot: usize,
     most: usize,
 ) -> Result<Option<Name36>, NoMemory>
     requires slot { slot < 2 }
+    requires twins { IsOwn (other_slot slot) twins.now }
     requires source { IsOwn (other_slot slot) source.now }
     requires most { most ≤ most_partitions }
-    ensures kept { IfOk result (λ bad. IsNone bad ↔ FitsTarget most slot source.now target.now) }
-    ensures first { IfOk result (λ bad. IfSome bad (IsFirstBad most slot source.now target.now)) }
-    ensures is { IfOk result (λ bad. bad ≡ bad_target_of most slot source.now target.now) }
+    ensures kept { IfOk result
+        (λ bad. IsNone bad ↔ FitsBeside most slot twins.now source.now target.now) }
+    ensures first { IfOk result
+        (λ bad. IfSome bad (IsFirstBad most slot twins.now source.now target.now)) }
+    ensures is { IfOk result (λ bad. bad ≡ bad_beside most slot twins.now source.now target.now) }
 {
     let taken = taken_by(alloc, source, 1 - slot)?;
     let mut front = Front::start(alloc, target, slot)?;
     for part in target {
         if is_of_target(part, slot)
-            && !front.join(alloc, source, target, &taken, part, slot, most)?
+            && !front.join(alloc, twins, source, target, &taken, part, slot, most)?
         {
             return Ok(Some(part.name));
         }
@@ -182,17 +188,19 @@ fn first_bad(
 /// rule beside those before it.
 ///
 /// A partition of the slot keeps the rules of [`bad_partition`](crate::bad_partition), begins with
-/// the source's blocks, as many as it has or all, and has no other block of the source; where it
-/// isn't marked as updated it has the source's blocks and no store. A store stands in the group
-/// `cow`, its partition is there and marked as updated, and it has no block of the source. No block
-/// stands twice. The source is the other slot's, whose own partitions keep their rules. `NoMemory`
-/// where memory is refused.
+/// the blocks of its twin, the source's partition of the same base name, as many as it has or all,
+/// and has no other block of the source; where it isn't marked as updated it has its twin's blocks
+/// and no store. A store stands in the group `cow`, its partition is there and marked as updated,
+/// and it has no block of the source. No block stands twice. The source is the other slot's, whose
+/// own partitions keep their rules. Where the target stands `apart`, no partition has a twin: each
+/// is marked as updated, and has no block of the source. `NoMemory` where memory is refused.
 pub fn bad_target(
     alloc: Global,
     source: &Table,
     target: &Table,
     slot: usize,
     most: usize,
+    apart: bool,
 ) -> Result<Option<Name36>, NoMemory>
     requires slot { slot < 2 }
     requires source_keeps { KeepsRules source.now }
@@ -201,17 +209,21 @@ pub fn bad_target(
     requires most { most ≤ most_partitions }
     // None exactly where the target keeps all of its rules and has at most so many partitions.
     ensures kept { IfOk result (λ bad. IsNone bad
-        ↔ FitsTarget most slot (layout_of source.now).parts (layout_of target.now).parts) }
+        ↔ FitsBeside most slot (twins_by apart (layout_of source.now).parts)
+        (layout_of source.now).parts (layout_of target.now).parts) }
     ensures first { IfOk result (λ bad. IfSome bad
-        (IsFirstBad most slot (layout_of source.now).parts (layout_of target.now).parts)) }
+        (IsFirstBad most slot (twins_by apart (layout_of source.now).parts)
+        (layout_of source.now).parts (layout_of target.now).parts)) }
     // It is a function of both tables.
     ensures is { IfOk result (λ bad. bad
-        ≡ bad_target_of most slot (layout_of source.now).parts (layout_of target.now).parts) }
+        ≡ bad_beside most slot (twins_by apart (layout_of source.now).parts)
+        (layout_of source.now).parts (layout_of target.now).parts) }
 {
     let source = Layout::of_table(alloc, source)?;
     let target = Layout::of_table(alloc, target)?;
     first_bad(
         alloc,
+        source.twins(apart),
         source.parts.as_slice(),
         target.parts.as_slice(),
         slot,

@@ -1,2 +1,3 @@
+pub mod NoStoreLaws
 pub mod PartLaws
 pub mod PlanLaws

@@ -16,10 +16,36 @@ fn words_of(alloc: Global, texts: &[&str]) -> Result<Vec<String>, AllocError> {
 fn words_that_are_taken(rt: HostRuntime) -> Result<(), Fail> {
     let alloc = rt.alloc();
     for (texts, verb) in [
-        (["serve"].as_slice(), Verb::Serve { fresh: false }),
+        (
+            ["serve"].as_slice(),
+            Verb::Serve {
+                fresh: false,
+                turns: 0,
+            },
+        ),
         (&["adopt", "a"], Verb::Adopt(0)),
         (&["adopt", "b"], Verb::Adopt(1)),
-        (&["serve", "--fresh"], Verb::Serve { fresh: true }),
+        (
+            &["serve", "--fresh"],
+            Verb::Serve {
+                fresh: true,
+                turns: 0,
+            },
+        ),
+        (
+            &["serve", "--turns", "0"],
+            Verb::Serve {
+                fresh: false,
+                turns: 0,
+            },
+        ),
+        (
+            &["serve", "--turns=4294967295", "--fresh"],
+            Verb::Serve {
+                fresh: true,
+                turns: 4294967295,
+            },
+        ),
         (&["install"], Verb::Install),
         (&["boot"], Verb::Boot),
         (&["mark"], Verb::Mark),
@@ -122,6 +148,10 @@ fn words_that_ask_for_nothing(rt: HostRuntime) -> Result<(), Fail> {
         &["serve", "fresh"],
         &["serve", "--fresh", "--fresh"],
         &["serve", "--fresh=true"],
+        &["serve", "--turns"],
+        &["serve", "--turns", "x"],
+        &["serve", "--turns", "4294967296"],
+        &["serve", "--turns", "1", "--turns", "1"],
         &["--fresh", "serve"],
         &["make", "--limit"],
         &["make", "--limit", "x"],

@@ -5,8 +5,9 @@ use Rattle.std.specs.Prelude.{Bool, true, false, Option, Some, None, map}
 use Rattle.vab_disk.specs.Disk.{Image}
 use Rattle.vab_gate.proofs.Blocks.{sectors_same}
 use Rattle.vab_names.specs.Names.{store_of}
-use Rattle.vab_marks.specs.declared.mark.UpdateMark.{UpdateMark}
 use Rattle.vab_marks.specs.declared.status.PartStatus.{PartStatus}
+use Rattle.vab_marks.specs.declared.status.StatusImage.{StatusImage}
+use Rattle.vab_marks.specs.declared.status.StatusImage.TheVariants.{Stored, InPlace}
 use Rattle.vab_statuses.specs.Statuses.{written_in}
 use Rattle.vab_exceptions.specs.declared.area.Exception.{Exception}
 use Rattle.vab_store.specs.declared.fault.StoreFault.{StoreFault}
@@ -25,13 +26,14 @@ use Rattle.vab_device.specs.Checks.{◌>>=◌}
 use Rattle.vab_device.specs.Kept.{block_sector, sectors_of}
 use Rattle.vab_device.specs.Phases.{phase_at}
 use Rattle.vab_device.specs.Reading.{tables_in, IsOfTables, IsOfBlocks}
-use Rattle.vab_device.specs.Stores.{Wanted, Scanned, first_named, wanted_by, wanted_of, or_fewer}
-use Rattle.vab_device.specs.Stores.{scan_read, scan_at, scans_in}
+use Rattle.vab_device.specs.Mounted.{blocks_there}
+use Rattle.vab_device.specs.Stores.{Wanted, Scanned, first_named, image_wanted, wanted_of, or_fewer}
+use Rattle.vab_device.specs.Stores.{scan_read, scan_by, scan_at, scans_in}
 use Rattle.vab_device.proofs.SameLaws.{tables_agree}
 use Rattle.vab_device.proofs.StoreLaws.{scan_kept}
 use Rattle.vab_recover.specs.Behind.{SameSuper}
 use Rattle.vab_recover.specs.Opened.{AreLoaded, IsHeaded, IsFramed, wanted_for, stores_by}
-use Rattle.vab_recover.specs.Opened.{is_merging, tables_of, through_of, through_slot}
+use Rattle.vab_recover.specs.Opened.{is_merging, may_place, tables_of, through_of, through_slot}
 use Rattle.vab_recover.specs.Repairs.{IsLoadedAt}
 use Rattle.vab_recover.specs.declared.frame.Frame.{Frame}
 use Rattle.vab_recover.specs.declared.table.Tables.{Tables}
@@ -93,7 +95,7 @@ loaded_as g slot old new t same are = record {
 
 -- the blocks of a store that is wanted stand in `super`
 abbrev IsBehind : Result Wanted StartFault → Type 0
-IsBehind (Ok w) = (s : ℕ) → IsOfBlocks w.store s → 4096 ≤ s
+IsBehind (Ok w) = (s : ℕ) → IsOfBlocks (blocks_there w.store) s → 4096 ≤ s
 IsBehind (Err fault) = Unit {0}
 
 blocks_behind : (first : ℕ) (blocks : List ℕ) (s : ℕ)
@@ -109,50 +111,68 @@ sectors_behind : (first : ℕ) (blocks : List ℕ) (s : ℕ)
 unfolding sectors_of
 sectors_behind first blocks s is = blocks_behind first blocks s is
 
-by_behind : (first : ℕ) (st : PartStatus) (p q : Option PartOfLayout)
-    → IsBehind (wanted_by first st p q)
-by_behind first st None q = tt
-by_behind first st (Some p) None = tt
-by_behind first st (Some p) (Some q) = λ s is. sectors_behind first q.blocks s is
+by_behind : (may : Bool) (first : ℕ) (name : List ℕ) (x : StatusImage)
+    (p q : Option PartOfLayout)
+    → IsBehind (image_wanted may first name x p q)
+by_behind may first name InPlace None q = tt
+by_behind may first name InPlace (Some p) (Some q) = tt
+by_behind true first name InPlace (Some p) None = λ s is. absurd is
+by_behind false first name InPlace (Some p) None = tt
+by_behind may first name (Stored count k) None q = tt
+by_behind may first name (Stored count k) (Some p) None = tt
+by_behind may first name (Stored count k) (Some p) (Some q) =
+    λ s is. sectors_behind first q.blocks s is
 
 fewer_behind : (x : Result Wanted StartFault) → IsBehind x → IsBehind (or_fewer x)
 fewer_behind (Ok w) is = is
 fewer_behind (Err fault) is = tt
 
-wanted_behind : (fewer : Bool) (slot : ℕ) (l : Layout) (st : PartStatus)
-    → IsBehind (wanted_for fewer slot l st)
-wanted_behind false slot l st =
-    by_behind l.device.first_logical_sector st
+wanted_behind : (fewer may : Bool) (slot : ℕ) (l : Layout) (st : PartStatus)
+    → IsBehind (wanted_for fewer may slot l st)
+wanted_behind false may slot l st =
+    by_behind may l.device.first_logical_sector st.name st.image
     (first_named st.name (own_parts slot l.parts)) (first_named (store_of st.name) l.parts)
-wanted_behind true slot l st =
-    fewer_behind (wanted_of slot l st)
-    (by_behind l.device.first_logical_sector st
+wanted_behind true may slot l st =
+    fewer_behind (wanted_of may slot l st)
+    (by_behind may l.device.first_logical_sector st.name st.image
     (first_named st.name (own_parts slot l.parts)) (first_named (store_of st.name) l.parts))
 
 -- a store whose sectors stay says the same, also where it is no list
 module _
-    (w : Wanted) (old new : Image)
-    (same : (s : ℕ) → IsOfBlocks w.store s → new s ≡ old s) where
+    (w : Wanted) (store : List ℕ) (old new : Image)
+    (same : (s : ℕ) → IsOfBlocks store s → new s ≡ old s) where
   abbrev said : Image → Result (List Exception) StoreFault
-  said image = scan_of w.chunk w.store (length w.base) image
+  said image = scan_of w.chunk store (length w.base) image
 
   by_both : (x y : Result (List Exception) StoreFault)
       → said old ≡ x
       → said new ≡ y
       → scan_read w y ≡ scan_read w x
   by_both (Ok es) y was is =
-      ap (scan_read w) (sym is ∙ scan_kept w.chunk w.store old new same (length w.base) es was)
+      ap (scan_read w) (sym is ∙ scan_kept w.chunk store old new same (length w.base) es was)
   by_both (Err f) (Ok es) was is =
       let back : said old ≡ Ok es =
-      scan_kept w.chunk w.store new old (λ s there. sym (same s there)) (length w.base) es is in
+      scan_kept w.chunk store new old (λ s there. sym (same s there)) (length w.base) es is in
       let no : (let bad : Result (List Exception) StoreFault = Err f in bad ≡ Ok es) =
       sym was ∙ back in
       absurd cc
   by_both (Err f) (Err h) was is = refl
 
-  store_as : scan_at w new ≡ scan_at w old
-  unfolding scan_at
+  store_as : scan_by w (Some store) new ≡ scan_by w (Some store) old
   store_as = by_both (said old) (said new) refl refl
+
+-- and so does an image in place
+image_as : (w : Wanted) (store : Option (List ℕ)) (old new : Image)
+    → ((s : ℕ) → IsOfBlocks (blocks_there store) s → new s ≡ old s)
+    → scan_by w store new ≡ scan_by w store old
+image_as w None old new same = refl
+image_as w (Some store) old new same = store_as w store old new same
+
+wanted_as : (w : Wanted) (old new : Image)
+    → ((s : ℕ) → IsOfBlocks (blocks_there w.store) s → new s ≡ old s)
+    → scan_at w new ≡ scan_at w old
+unfolding scan_at
+wanted_as w old new same = image_as w w.store old new same
 
 each_as : (x : Result Wanted StartFault) (ws : List (Result Wanted StartFault)) (old new : Image)
     → SameSuper old new
@@ -161,44 +181,47 @@ each_as : (x : Result Wanted StartFault) (ws : List (Result Wanted StartFault)) 
     → scans_in (x ∷ ws) new ≡ scans_in (x ∷ ws) old
 each_as (Err fault) ws old new same behind rest = refl
 each_as (Ok w) ws old new same behind rest =
-    let here = store_as w old new (λ s is. same s (behind s is)) in
+    let here = wanted_as w old new (λ s is. same s (behind s is)) in
     (λ i. here i >>= λ s. rest i >>= λ ss. Ok (s ∷ ss))
 
-mapped_as : (fewer : Bool) (slot : ℕ) (l : Layout) (statuses : List PartStatus) (old new : Image)
-    → SameSuper old new
-    → scans_in (map (wanted_for fewer slot l) statuses) new
-    ≡ scans_in (map (wanted_for fewer slot l) statuses) old
-mapped_as fewer slot l [] old new same = refl
-mapped_as fewer slot l (st ∷ sts) old new same =
-    each_as (wanted_for fewer slot l st) (map (wanted_for fewer slot l) sts) old new same
-    (wanted_behind fewer slot l st) (mapped_as fewer slot l sts old new same)
-
-pub stores_as : (fewer : Bool) (slot : ℕ) (through : Option Loaded) (statuses : List PartStatus)
+mapped_as : (fewer may : Bool) (slot : ℕ) (l : Layout) (statuses : List PartStatus)
     (old new : Image)
     → SameSuper old new
-    → scans_in (stores_by fewer slot through statuses) new
-    ≡ scans_in (stores_by fewer slot through statuses) old
-stores_as fewer slot None statuses old new same = refl
-stores_as fewer slot (Some l) statuses old new same =
-    mapped_as fewer slot (layout_of l.table) statuses old new same
+    → scans_in (map (wanted_for fewer may slot l) statuses) new
+    ≡ scans_in (map (wanted_for fewer may slot l) statuses) old
+mapped_as fewer may slot l [] old new same = refl
+mapped_as fewer may slot l (st ∷ sts) old new same =
+    each_as (wanted_for fewer may slot l st) (map (wanted_for fewer may slot l) sts) old new same
+    (wanted_behind fewer may slot l st) (mapped_as fewer may slot l sts old new same)
+
+pub stores_as : (fewer may : Bool) (slot : ℕ) (through : Option Loaded)
+    (statuses : List PartStatus) (old new : Image)
+    → SameSuper old new
+    → scans_in (stores_by fewer may slot through statuses) new
+    ≡ scans_in (stores_by fewer may slot through statuses) old
+stores_as fewer may slot None statuses old new same = refl
+stores_as fewer may slot (Some l) statuses old new same =
+    mapped_as fewer may slot (layout_of l.table) statuses old new same
 
 -- those of a frame
 pub framed_stores : (f : Frame) (old new : Image) (x : Result (List Scanned) StartFault)
     → SameSuper old new
     → scans_in
-    (stores_by (is_merging f.heads.mark.phase) (through_slot f.heads.mark.phase f.heads.mark.slot)
+    (stores_by (is_merging f.heads.mark.phase) (may_place f.heads.mark)
+    (through_slot f.heads.mark.phase f.heads.mark.slot)
     (through_of f.heads.mark.phase f.tables.source f.tables.target)
     (written_in f.heads.statuses.items))
     old
     ≡ x
     → scans_in
-    (stores_by (is_merging f.heads.mark.phase) (through_slot f.heads.mark.phase f.heads.mark.slot)
+    (stores_by (is_merging f.heads.mark.phase) (may_place f.heads.mark)
+    (through_slot f.heads.mark.phase f.heads.mark.slot)
     (through_of f.heads.mark.phase f.tables.source f.tables.target)
     (written_in f.heads.statuses.items))
     new
     ≡ x
 framed_stores f old new x same is =
-    stores_as (is_merging f.heads.mark.phase)
+    stores_as (is_merging f.heads.mark.phase) (may_place f.heads.mark)
     (through_slot f.heads.mark.phase f.heads.mark.slot)
     (through_of f.heads.mark.phase f.tables.source f.tables.target)
     (written_in f.heads.statuses.items) old new same
@@ -209,14 +232,14 @@ pub framed_of : (size : ℕ) (f : Frame) (old new : Image)
     → SameSuper old new
     → IsHeaded size new f.heads.mark f.heads.version f.heads.statuses.items f.heads.control
     f.heads.geometry
-    → tables_in size f.heads.geometry ((phase_at f.heads.mark.phase).tables f.heads.mark.slot) old
+    → tables_in size f.heads.geometry (phase_at f.heads.mark).tables old
     ≡ Ok (tables_of f.tables)
     → AreLoaded f.heads.geometry f.heads.mark.slot old f.tables
     → IsFramed size new f
 framed_of size f old new same headed tables loaded = record {
   heads = headed;
   tables =
-      tables_as size f.heads.geometry ((phase_at f.heads.mark.phase).tables f.heads.mark.slot) old
+      tables_as size f.heads.geometry (phase_at f.heads.mark).tables old
       new same
       ∙ tables;
   loaded = loaded_as f.heads.geometry f.heads.mark.slot old new f.tables same loaded;

@@ -1,5 +1,5 @@
 -- What holds of a kept device over every disk.
-use Rattle.std.proofs.Common.{◌≡◌, ◌≢◌, ℕ, ◌+◌, ◌-◌, ◌*◌, ◌≤◌, ◌<◌, inl, inr, true, List, []}
+use Rattle.std.proofs.Common.{◌≡◌, ◌≢◌, ℕ, ◌+◌, ◌*◌, ◌≤◌, ◌<◌, inl, inr, true, List, []}
 use Rattle.std.proofs.Common.{◌∷◌, ◌++◌, length, get_or, Option, Some, None, refl, sym, ◌∙◌, ap}
 use Rattle.std.proofs.Common.{subst, arith}
 use Rattle.std.proofs.Common.{zero, suc, false}
@@ -31,11 +31,9 @@ use Rattle.std.proofs.lemmas.List.Kept.{AllPairs-filter}
 use Rattle.vab_names.specs.Names.{is_store, store_of}
 use Rattle.vab_marks.specs.declared.mark.MarkPhase.{MarkPhase}
 use Rattle.vab_marks.specs.declared.status.PartStatus.{PartStatus}
-use Rattle.vab_exceptions.specs.declared.area.Exception.{Exception}
-use Rattle.vab_store.specs.View.{Fits as FitsStore}
 use Rattle.vab_lpstore.specs.declared.loaded.Loaded.{Loaded}
 use Rattle.vab_names.proofs.NameCases.{store_is_store}
-use Rattle.vab_layout.specs.Slots.{store_parts, is_updated, IsTarget}
+use Rattle.vab_layout.specs.Slots.{store_parts, is_updated, IsTargetBeside}
 use Rattle.vab_device.specs.Kept.{IsStore, IsStored, IsPart, AreParts, AreOfUpdate, IsPhase}
 use Rattle.vab_device.specs.Kept.{has_slot, reads_both}
 use Rattle.vab_device.specs.Phases.{store_on, planned_image, planned_on, plan_of}
@@ -43,12 +41,11 @@ use Rattle.vab_device.specs.Reading.{kept}
 use Rattle.vab_device.specs.Stores.{Scanned, first_named, scanned_named}
 use Rattle.vab_partitions.specs.Merging.{IsMerging}
 use Rattle.vab_plan.specs.Scans.{IsTargetTable}
-use Rattle.vab_recover.specs.Scans.{IsScanned}
+use Rattle.vab_recover.specs.Scans.{AreExceptions, IsScanned}
 use Rattle.vab_recover.specs.Opened.{read_of, target_tables, AreHeads}
 use Rattle.vab_plan.proofs.PlanLaws.{first_filter, first_all}
 use Rattle.vab_device.proofs.OwnParts.{pairs_right, each_distinct, length-sectors_of}
 use Rattle.vab_device.proofs.OwnParts.{sectors_distinct, sectors_on, blocks_on, parts_kept}
-use Rattle.vab_marks.specs.Mark.{mark_at}
 
 -- ---- lists without repetition
 
@@ -64,23 +61,23 @@ stored : (size first : ℕ) (base : List ℕ) (x : Option PartOfLayout) (updated
     → ((q : PartOfLayout) → x ≡ Some q → IsStore size (sectors_of first q.blocks))
     → ((e : Scanned)
     → s ≡ Some e
-    → (store : List ℕ)
-    × (option_map (λ q. sectors_of first q.blocks) x ≡ Some store)
-    × FitsStore e.chunk (length base) store e.exceptions)
+    → (store : Option (List ℕ))
+    × (option_map (λ q. sectors_of first q.blocks) x ≡ store)
+    × AreExceptions e.chunk (length base) store e.exceptions)
     → IsStored size base (option_map (λ q. sectors_of first q.blocks) x) (planned_image updated s)
 stored size first base None false s store fits = tt
 stored size first base None true None store fits = tt
 stored size first base None true (Some e) store fits =
     let f = fits e refl in
-    absurd (let no : None ≡ Some f.0 = f.1 in cc)
+    subst (λ (o : Option (List ℕ)). AreExceptions e.chunk (length base) o e.exceptions) (sym f.1)
+    f.2
 stored size first base (Some q) false s store fits = store q refl
 stored size first base (Some q) true None store fits = store q refl
 stored size first base (Some q) true (Some e) store fits =
-    let f = fits e refl in
-    let whole : Some (sectors_of first q.blocks) ≡ Some f.0 = f.1 in
-    let same : sectors_of first q.blocks ≡ f.0 = cc in (
+    let f = fits e refl in (
       store q refl,
-      subst (λ (s : List ℕ). FitsStore e.chunk (length base) s e.exceptions) (sym same) f.2,
+      subst (λ (o : Option (List ℕ)). AreExceptions e.chunk (length base) o e.exceptions)
+          (sym f.1) f.2,
     )
 
 -- the scan of a name is one of the scans
@@ -183,7 +180,7 @@ module _
         ∙ sym (length-sectors_of first p.blocks) in (
           x.store,
           sym (ap (store_on l) s.1) ∙ x.stored,
-          subst (λ (n : ℕ). FitsStore e.chunk n x.store e.exceptions) long x.fits,
+          subst (λ (n : ℕ). AreExceptions e.chunk n x.store e.exceptions) long x.fits,
         ));
   }
 
@@ -211,21 +208,22 @@ module _
 
 -- ---- the device
 
-by_case : (size : ℕ) (phase : MarkPhase) (slot : ℕ) (statuses : List (Option PartStatus))
+by_case : (size : ℕ) (base : UpdateMark) (phase : MarkPhase) (slot : ℕ)
+    (statuses : List (Option PartStatus))
     (c : Control)
     (g : Geometry) (s : Table) (t : Option Loaded) (ss : List Scanned)
-    → AreHeads size (mark_at phase slot) c g
+    → AreHeads size (record base { phase = phase; slot = slot }) c g
     → has_slot phase slot c.current ≡ true
     → IsTableOf size g slot s
     → IfSome t (λ l. IsTableOf size g (other_slot slot) l.table)
-    → IfSome t (λ l. AreOfUpdate slot s l.table)
+    → IfSome t (λ l. AreOfUpdate base.apart slot s l.table)
     → is_some t ≡ reads_both phase
     → IfSome t (λ l. AreParts size (plan_of (other_slot slot) (layout_of l.table) ss))
     → (phase ≡ marks.Merging → AreParts size (plan_of slot (layout_of s) ss))
     → AreParts size (parts_of slot (layout_of s))
-    → (let m : UpdateMark = mark_at phase slot in
+    → (let m : UpdateMark = record base { phase = phase; slot = slot } in
     IsDevice (record (kept (read_of m statuses c g (s ∷ target_tables t) ss)) { control = c }) size)
-by_case size marks.Idle zero statuses c g s None ss
+by_case size base marks.Idle zero statuses c g s None ss
     heads current source target update both plan own parts =
     record {
       enough = heads.enough;
@@ -233,6 +231,7 @@ by_case size marks.Idle zero statuses c g s None ss
       control = heads.control;
       phase = inl refl;
       slot = heads.slot;
+      apart = heads.apart;
       current = current;
       has_a = refl;
       has_b = refl;
@@ -247,7 +246,7 @@ by_case size marks.Idle zero statuses c g s None ss
       plan = tt;
       update = tt;
     }
-by_case size marks.Idle (suc zero) statuses c g s None ss
+by_case size base marks.Idle (suc zero) statuses c g s None ss
     heads current source target update both plan own parts =
     record {
       enough = heads.enough;
@@ -255,6 +254,7 @@ by_case size marks.Idle (suc zero) statuses c g s None ss
       control = heads.control;
       phase = inl refl;
       slot = heads.slot;
+      apart = heads.apart;
       current = current;
       has_a = refl;
       has_b = refl;
@@ -269,7 +269,7 @@ by_case size marks.Idle (suc zero) statuses c g s None ss
       plan = tt;
       update = tt;
     }
-by_case size marks.Installing zero statuses c g s (Some l) ss
+by_case size base marks.Installing zero statuses c g s (Some l) ss
     heads current source target update both plan own parts =
     record {
       enough = heads.enough;
@@ -277,6 +277,7 @@ by_case size marks.Installing zero statuses c g s (Some l) ss
       control = heads.control;
       phase = inr (inl refl);
       slot = heads.slot;
+      apart = heads.apart;
       current = current;
       has_a = refl;
       has_b = refl;
@@ -291,7 +292,7 @@ by_case size marks.Installing zero statuses c g s (Some l) ss
       plan = plan;
       update = update;
     }
-by_case size marks.Installing (suc zero) statuses c g s (Some l) ss
+by_case size base marks.Installing (suc zero) statuses c g s (Some l) ss
     heads current source target update both plan own parts =
     record {
       enough = heads.enough;
@@ -299,6 +300,7 @@ by_case size marks.Installing (suc zero) statuses c g s (Some l) ss
       control = heads.control;
       phase = inr (inl refl);
       slot = heads.slot;
+      apart = heads.apart;
       current = current;
       has_a = refl;
       has_b = refl;
@@ -313,7 +315,7 @@ by_case size marks.Installing (suc zero) statuses c g s (Some l) ss
       plan = plan;
       update = update;
     }
-by_case size marks.Staged zero statuses c g s (Some l) ss
+by_case size base marks.Staged zero statuses c g s (Some l) ss
     heads current source target update both plan own parts =
     record {
       enough = heads.enough;
@@ -321,6 +323,7 @@ by_case size marks.Staged zero statuses c g s (Some l) ss
       control = heads.control;
       phase = inr (inr (inl refl));
       slot = heads.slot;
+      apart = heads.apart;
       current = refl;
       has_a = refl;
       has_b = refl;
@@ -335,7 +338,7 @@ by_case size marks.Staged zero statuses c g s (Some l) ss
       plan = tt;
       update = update;
     }
-by_case size marks.Staged (suc zero) statuses c g s (Some l) ss
+by_case size base marks.Staged (suc zero) statuses c g s (Some l) ss
     heads current source target update both plan own parts =
     record {
       enough = heads.enough;
@@ -343,6 +346,7 @@ by_case size marks.Staged (suc zero) statuses c g s (Some l) ss
       control = heads.control;
       phase = inr (inr (inl refl));
       slot = heads.slot;
+      apart = heads.apart;
       current = refl;
       has_a = refl;
       has_b = refl;
@@ -357,28 +361,28 @@ by_case size marks.Staged (suc zero) statuses c g s (Some l) ss
       plan = tt;
       update = update;
     }
-by_case size phase (suc (suc n)) statuses c g s t ss
+by_case size base phase (suc (suc n)) statuses c g s t ss
     heads current source target update both plan own parts =
     absurd (omega (arith, heads.slot))
-by_case size marks.Idle zero statuses c g s (Some l) ss
+by_case size base marks.Idle zero statuses c g s (Some l) ss
     heads current source target update both plan own parts =
     absurd (let no : true ≡ false = both in cc)
-by_case size marks.Idle (suc zero) statuses c g s (Some l) ss
+by_case size base marks.Idle (suc zero) statuses c g s (Some l) ss
     heads current source target update both plan own parts =
     absurd (let no : true ≡ false = both in cc)
-by_case size marks.Installing zero statuses c g s None ss
+by_case size base marks.Installing zero statuses c g s None ss
     heads current source target update both plan own parts =
     absurd (let no : false ≡ true = both in cc)
-by_case size marks.Installing (suc zero) statuses c g s None ss
+by_case size base marks.Installing (suc zero) statuses c g s None ss
     heads current source target update both plan own parts =
     absurd (let no : false ≡ true = both in cc)
-by_case size marks.Staged zero statuses c g s None ss
+by_case size base marks.Staged zero statuses c g s None ss
     heads current source target update both plan own parts =
     absurd (let no : false ≡ true = both in cc)
-by_case size marks.Staged (suc zero) statuses c g s None ss
+by_case size base marks.Staged (suc zero) statuses c g s None ss
     heads current source target update both plan own parts =
     absurd (let no : false ≡ true = both in cc)
-by_case size marks.Merging zero statuses c g s None ss
+by_case size base marks.Merging zero statuses c g s None ss
     heads current source target update both plan own parts =
     record {
       enough = heads.enough;
@@ -386,6 +390,7 @@ by_case size marks.Merging zero statuses c g s None ss
       control = heads.control;
       phase = inr (inr (inr refl));
       slot = heads.slot;
+      apart = heads.apart;
       current = current;
       has_a = refl;
       has_b = refl;
@@ -400,7 +405,7 @@ by_case size marks.Merging zero statuses c g s None ss
       plan = tt;
       update = tt;
     }
-by_case size marks.Merging (suc zero) statuses c g s None ss
+by_case size base marks.Merging (suc zero) statuses c g s None ss
     heads current source target update both plan own parts =
     record {
       enough = heads.enough;
@@ -408,6 +413,7 @@ by_case size marks.Merging (suc zero) statuses c g s None ss
       control = heads.control;
       phase = inr (inr (inr refl));
       slot = heads.slot;
+      apart = heads.apart;
       current = current;
       has_a = refl;
       has_b = refl;
@@ -422,13 +428,13 @@ by_case size marks.Merging (suc zero) statuses c g s None ss
       plan = tt;
       update = tt;
     }
-by_case size marks.Merging zero statuses c g s (Some l) ss
+by_case size base marks.Merging zero statuses c g s (Some l) ss
     heads current source target update both plan own parts =
     absurd (let no : true ≡ false = both in cc)
-by_case size marks.Merging (suc zero) statuses c g s (Some l) ss
+by_case size base marks.Merging (suc zero) statuses c g s (Some l) ss
     heads current source target update both plan own parts =
     absurd (let no : true ≡ false = both in cc)
-by_case size marks.Completed slot statuses c g s t ss
+by_case size base marks.Completed slot statuses c g s t ss
     heads current source target update both plan own parts =
     absurd (no_phase heads.phase)
   where
@@ -445,14 +451,15 @@ pub device_kept : (size : ℕ) (m : UpdateMark) (statuses : List (Option PartSta
     → has_slot m.phase m.slot c.current ≡ true
     → IsTableOf size g m.slot s
     → IfSome t (λ l. IsTableOf size g (other_slot m.slot) l.table)
-    → IfSome t (λ l. AreOfUpdate m.slot s l.table)
+    → IfSome t (λ l. AreOfUpdate m.apart m.slot s l.table)
     → is_some t ≡ reads_both m.phase
     → IfSome t (λ l. AreParts size (plan_of (other_slot m.slot) (layout_of l.table) ss))
     → (m.phase ≡ marks.Merging → AreParts size (plan_of m.slot (layout_of s) ss))
     → IsDevice (record (kept (read_of m statuses c g (s ∷ target_tables t) ss)) { control = c })
     size
 device_kept size m statuses c g s t ss heads current source target update both plan own =
-    by_case size m.phase m.slot statuses c g s t ss heads current source target update both plan own
+    by_case size m m.phase m.slot statuses c g s t ss heads current source target update both plan
+    own
     (parts_kept size m.slot g (layout_of s) heads.enough (layout_keeps s source.rules) source.own
     source.lies)
 
@@ -483,11 +490,11 @@ once_table slot t keeps own once = record {
         → All (λ p. IsDistinct p.blocks) qs
     stores_once ps qs once = each_distinct qs (rest_once ps qs once)
 
-pub target_table : (slot : ℕ) (source : List PartOfLayout) (t : Table)
+pub target_table : (slot : ℕ) (twins source : List PartOfLayout) (t : Table)
     → KeepsRules t
-    → IsTarget slot source (layout_of t).parts
+    → IsTargetBeside slot twins source (layout_of t).parts
     → IsTargetTable slot t
-target_table slot source t keeps target = once_table slot t keeps target.own target.once
+target_table slot twins source t keeps target = once_table slot t keeps target.own target.once
 
 pub merging_table : (slot : ℕ) (t : Table)
     → KeepsRules t

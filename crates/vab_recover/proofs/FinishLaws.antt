@@ -1,7 +1,7 @@
 -- What is known of a device whose parts were judged.
 use Rattle.std.proofs.Common.{◌≡◌, ◌∙◌, inl, inr, ℕ, ◌+◌, ◌≤◌, true, false, List, refl, sym, ap}
 use Rattle.std.proofs.Common.{subst}
-use Rattle.std.specs.Prelude.{Option, Some, None, IfSome, IsNone, All}
+use Rattle.std.specs.Prelude.{Bool, Option, Some, None, IfSome, IsNone, All}
 use Rattle.std.proofs.lemmas.Bool.{cases_Bool}
 use Rattle.vab_bootctl.specs.declared.slots.Control.{Control}
 use Rattle.vab_marks.specs.declared.mark.MarkPhase.{MarkPhase}
@@ -13,7 +13,7 @@ use Rattle.vab_tables.specs.declared.table.Table.{Table}
 use Rattle.vab_tables.specs.Rules.{end_of}
 use Rattle.vab_lpstore.specs.declared.loaded.Loaded.{Loaded}
 use Rattle.vab_layout.specs.Layout.{layout_of}
-use Rattle.vab_layout.specs.Slots.{other_slot, IsOwn}
+use Rattle.vab_layout.specs.Slots.{other_slot, twins_by, IsOwn}
 use Rattle.vab_device.specs.declared.device.Device.{Device}
 use Rattle.vab_device.specs.declared.device.Part.{Part}
 use Rattle.vab_partitions.specs.Merging.{IsMerging}
@@ -45,22 +45,23 @@ pub some_both : {X : Type 0} (P Q R : X → Type 0) (x : Option X)
 some_both P Q R None f p q = tt
 some_both P Q R (Some y) f p q = f y p q
 
-module _ (size slot : ℕ) (g : Geometry) (s : Table) (t : Option Loaded) where
+module _ (apart : Bool) (size slot : ℕ) (g : Geometry) (s : Table) (t : Option Loaded) where
   targets_are : IfSome t (IsTableThere size g)
-      → IfSome t (λ l. AreOfUpdate slot s l.table)
+      → IfSome t (λ l. AreOfUpdate apart slot s l.table)
       → IfSome t (λ l. IsTargetTable (other_slot slot) l.table)
   targets_are there update =
-      some_both (IsTableThere size g) (λ l. AreOfUpdate slot s l.table)
+      some_both (IsTableThere size g) (λ l. AreOfUpdate apart slot s l.table)
       (λ l. IsTargetTable (other_slot slot) l.table) t
       (λ l there update.
-      target_table (other_slot slot) (layout_of s).parts l.table there.text.rules update.target)
+      target_table (other_slot slot) (twins_by apart (layout_of s).parts) (layout_of s).parts
+      l.table there.text.rules update.target)
       there update
 
   targets_kept : IfSome t (IsTableThere size g)
-      → IfSome t (λ l. AreOfUpdate slot s l.table)
+      → IfSome t (λ l. AreOfUpdate apart slot s l.table)
       → IfSome t (λ l. IsTableOf size g (other_slot slot) l.table)
   targets_kept there update =
-      some_both (IsTableThere size g) (λ l. AreOfUpdate slot s l.table)
+      some_both (IsTableThere size g) (λ l. AreOfUpdate apart slot s l.table)
       (λ l. IsTableOf size g (other_slot slot) l.table) t
       (λ l there update. record {
         rules = there.text.rules;
@@ -107,7 +108,7 @@ merging_is marks.Completed is = absurd cc
 module _
     (size : ℕ) (g : Geometry) (m : UpdateMark) (t : Tables)
     (there : AreTablesThere size g m t)
-    (update : IfSome t.target (λ l. AreOfUpdate m.slot t.source.table l.table))
+    (update : IfSome t.target (λ l. AreOfUpdate m.apart m.slot t.source.table l.table))
     (merging : IsNone t.target
     → is_merging m.phase ≡ true
     → IsMerging m.slot (layout_of t.source.table).parts) where
@@ -124,7 +125,7 @@ module _
   through_are = elim (cases_Bool (is_merging m.phase)) [
     | inl is ↦ rw is (own_table is)
     | inr not ↦
-        rw not (targets_are size m.slot g t.source.table t.target there.target update)
+        rw not (targets_are m.apart size m.slot g t.source.table t.target there.target update)
   ]
 
   through_there : IfSome (through_of m.phase t.source t.target) (IsTableThere size g)
@@ -165,7 +166,7 @@ module _
         own = own;
         lies = there.source.lies;
       })
-      (targets_kept size m.slot g t.source.table t.target there.target update)
+      (targets_kept m.apart size m.slot g t.source.table t.target there.target update)
       update there.both (of_target parts) (of_own parts))
     where
       none_all : {X : Type 0} (P : X → Type 0) (x : Option X) → IsNone x → IfSome x P

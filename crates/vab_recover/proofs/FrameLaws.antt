@@ -18,7 +18,7 @@ use Rattle.vab_device.specs.declared.device.Device.{Device}
 use Rattle.vab_device.specs.declared.device.Part.{Part}
 use Rattle.vab_device.specs.Checks.{first_fault}
 use Rattle.vab_device.specs.Kept.{reads_both, IsPhase}
-use Rattle.vab_device.specs.Phases.{phase_at, own_check, merging_check}
+use Rattle.vab_device.specs.Phases.{phase_in, phase_at, own_check, merging_check}
 use Rattle.vab_device.specs.Reading.{Read, control_in, control_kept}
 use Rattle.vab_device.specs.Reading.{geometry_at, tables_in, table_for, parts_for}
 use Rattle.vab_device.specs.Reading.{state_fault, stores_of, kept, device, Reads}
@@ -27,12 +27,11 @@ use Rattle.vab_device.proofs.OpeningLaws.{device_no_control, device_no_geometry}
 use Rattle.vab_device.proofs.OpeningLaws.{device_no_tables, device_judged, device_scanned}
 use Rattle.vab_device.proofs.OpeningLaws.{device_stated, reads_of, control_seen_in, or_first}
 use Rattle.vab_device.proofs.ReadingLaws.{FrameReads, seen_slots}
-use Rattle.vab_marks.specs.Mark.{mark_at}
 use Rattle.vab_recover.specs.declared.frame.Frame.{Frame}
 use Rattle.vab_recover.specs.declared.table.Tables.{Tables}
 use Rattle.vab_recover.specs.Opened.{read_of, IsMarked, IsHeaded, IsFramed, target_tables}
 use Rattle.vab_recover.specs.Opened.{tables_of, slots_fault, slot_parts, planned_by, is_merging}
-use Rattle.vab_recover.specs.Opened.{reads_statuses, through_of, through_slot}
+use Rattle.vab_recover.specs.Opened.{reads_statuses, may_place, through_of, through_slot}
 use Rattle.vab_recover.specs.Opened.{target_slots, fault_of, stores_by, plan_by, IsAssembled}
 use Rattle.vab_recover.specs.Opened.{with_tables, table_if, IsOpened, AreLoaded}
 use Rattle.vab_marks.specs.Version.{partitions_under}
@@ -41,70 +40,83 @@ use Rattle.vab_marks.specs.declared.version.MarkVersion.{MarkVersion}
 
 -- ---- a phase and the tables that are read in it
 
-pub reads_if : (m : MarkPhase) → (phase_at m).reads_statuses ≡ reads_statuses m
-reads_if marks.Idle = refl
-reads_if marks.Installing = refl
-reads_if marks.Staged = refl
-reads_if marks.Merging = refl
-reads_if marks.Completed = refl
+pub reads_if : (m : UpdateMark) → (phase_at m).reads_statuses ≡ reads_statuses m.phase
+reads_if m = by_phase m.phase
+  where
+    by_phase : (p : MarkPhase) → (phase_in p m).reads_statuses ≡ reads_statuses p
+    by_phase marks.Idle = refl
+    by_phase marks.Installing = refl
+    by_phase marks.Staged = refl
+    by_phase marks.Merging = refl
+    by_phase marks.Completed = refl
 
 pub tables_split : (m : UpdateMark)
-    → (phase_at m.phase).tables m.slot ≡ m.slot ∷ target_slots m
-tables_split m = by_phase m.phase m.slot
+    → (phase_at m).tables ≡ m.slot ∷ target_slots m
+tables_split m = by_phase m.phase
   where
-    by_phase : (phase : MarkPhase) (slot : ℕ)
-        → (phase_at phase).tables slot
-        ≡ slot ∷ (if reads_both phase then other_slot slot ∷ [] else [])
-    by_phase marks.Idle slot = refl
-    by_phase marks.Installing slot = refl
-    by_phase marks.Staged slot = refl
-    by_phase marks.Merging slot = refl
-    by_phase marks.Completed slot = refl
+    by_phase : (p : MarkPhase)
+        → (phase_in p m).tables
+        ≡ m.slot ∷ (if reads_both p then other_slot m.slot ∷ [] else [])
+    by_phase marks.Idle = refl
+    by_phase marks.Installing = refl
+    by_phase marks.Staged = refl
+    by_phase marks.Merging = refl
+    by_phase marks.Completed = refl
 
 -- what is read through stores
 abbrev pub through_parts : MarkPhase → ℕ → Loaded → Option Loaded → List Scanned
     → Option (List Part)
 through_parts phase slot s t ss = plan_by (through_slot phase slot) (through_of phase s t) ss
 
+-- this mark, in this phase and of this slot
+abbrev pub mark_in_phase : UpdateMark → MarkPhase → ℕ → UpdateMark
+mark_in_phase base phase slot = record base { phase = phase; slot = slot }
+
 -- what the phase makes of the tables that were read, and of the stores
 pub record IsOfPhase
+    (base : UpdateMark)
     (phase : MarkPhase)
     (slot : ℕ)
     (s : Loaded)
     (t : Option Loaded) : Type 0 where
   pub parts : (most : ℕ)
-      → first_fault ((phase_at phase).part_checks most slot (s.table ∷ target_tables t))
-      ≡ fault_of most phase slot s.table t
+      → first_fault ((phase_at (mark_in_phase base phase slot)).part_checks most
+      (s.table ∷ target_tables t))
+      ≡ fault_of most (mark_in_phase base phase slot) s.table t
   pub stores : (sts : List PartStatus)
-      → (phase_at phase).stores slot (s.table ∷ target_tables t) sts
-      ≡ stores_by (is_merging phase) (through_slot phase slot) (through_of phase s t) sts
+      → (phase_at (mark_in_phase base phase slot)).stores (s.table ∷ target_tables t) sts
+      ≡ stores_by (is_merging phase) (may_place (mark_in_phase base phase slot))
+      (through_slot phase slot) (through_of phase s t) sts
   pub state : (c : Control) (ss : List Scanned)
       → first_fault
-      ((phase_at phase).state_checks slot (control_kept (mark_at phase slot) c)
+      ((phase_at (mark_in_phase base phase slot)).state_checks
+      (control_kept (mark_in_phase base phase slot) c)
       (s.table ∷ target_tables t) ss)
-      ≡ slots_fault (mark_at phase slot) c (through_parts phase slot s t ss)
+      ≡ slots_fault (mark_in_phase base phase slot) c (through_parts phase slot s t ss)
   pub plan : (ss : List Scanned)
       → planned_by phase (through_parts phase slot s t ss)
-      ≡ (phase_at phase).plan slot (s.table ∷ target_tables t) ss
+      ≡ (phase_at (mark_in_phase base phase slot)).plan (s.table ∷ target_tables t) ss
   pub a : (ss : List Scanned)
-      → slot_parts (mark_at phase slot) 0 s.table (through_parts phase slot s t ss)
-      ≡ parts_for 0 ((phase_at phase).has_a slot) ((phase_at phase).through slot 0) ss
-      (table_for 0 ((phase_at phase).tables slot) (s.table ∷ target_tables t))
+      → slot_parts (mark_in_phase base phase slot) 0 s.table (through_parts phase slot s t ss)
+      ≡ parts_for 0 (phase_at (mark_in_phase base phase slot)).has_a
+      ((phase_at (mark_in_phase base phase slot)).through 0) ss
+      (table_for 0 (phase_at (mark_in_phase base phase slot)).tables (s.table ∷ target_tables t))
   pub b : (ss : List Scanned)
-      → slot_parts (mark_at phase slot) 1 s.table (through_parts phase slot s t ss)
-      ≡ parts_for 1 ((phase_at phase).has_b slot) ((phase_at phase).through slot 1) ss
-      (table_for 1 ((phase_at phase).tables slot) (s.table ∷ target_tables t))
+      → slot_parts (mark_in_phase base phase slot) 1 s.table (through_parts phase slot s t ss)
+      ≡ parts_for 1 (phase_at (mark_in_phase base phase slot)).has_b
+      ((phase_at (mark_in_phase base phase slot)).through 1) ss
+      (table_for 1 (phase_at (mark_in_phase base phase slot)).tables (s.table ∷ target_tables t))
   pub table_a : table_if (slot == 0) s.table t
-      ≡ table_for 0 ((phase_at phase).tables slot) (s.table ∷ target_tables t)
+      ≡ table_for 0 (phase_at (mark_in_phase base phase slot)).tables (s.table ∷ target_tables t)
   pub table_b : table_if (slot == 1) s.table t
-      ≡ table_for 1 ((phase_at phase).tables slot) (s.table ∷ target_tables t)
+      ≡ table_for 1 (phase_at (mark_in_phase base phase slot)).tables (s.table ∷ target_tables t)
 
-of_phase : (phase : MarkPhase) (slot : ℕ) (s : Loaded) (t : Option Loaded)
+of_phase : (base : UpdateMark) (phase : MarkPhase) (slot : ℕ) (s : Loaded) (t : Option Loaded)
     → IsPhase phase
     → slot < 2
     → is_some t ≡ reads_both phase
-    → IsOfPhase phase slot s t
-of_phase marks.Idle zero s None is below both = record {
+    → IsOfPhase base phase slot s t
+of_phase base marks.Idle zero s None is below both = record {
   parts = λ most. or_first (own_check most 0 s.table);
   stores = λ sts. refl;
   state = λ c ss. refl;
@@ -114,7 +126,7 @@ of_phase marks.Idle zero s None is below both = record {
   table_a = refl;
   table_b = refl;
 }
-of_phase marks.Idle (suc zero) s None is below both = record {
+of_phase base marks.Idle (suc zero) s None is below both = record {
   parts = λ most. or_first (own_check most 1 s.table);
   stores = λ sts. refl;
   state = λ c ss. refl;
@@ -124,7 +136,7 @@ of_phase marks.Idle (suc zero) s None is below both = record {
   table_a = refl;
   table_b = refl;
 }
-of_phase marks.Installing zero s (Some l) is below both = record {
+of_phase base marks.Installing zero s (Some l) is below both = record {
   parts = λ most. refl;
   stores = λ sts. refl;
   state = λ c ss. refl;
@@ -134,7 +146,7 @@ of_phase marks.Installing zero s (Some l) is below both = record {
   table_a = refl;
   table_b = refl;
 }
-of_phase marks.Installing (suc zero) s (Some l) is below both = record {
+of_phase base marks.Installing (suc zero) s (Some l) is below both = record {
   parts = λ most. refl;
   stores = λ sts. refl;
   state = λ c ss. refl;
@@ -144,7 +156,7 @@ of_phase marks.Installing (suc zero) s (Some l) is below both = record {
   table_a = refl;
   table_b = refl;
 }
-of_phase marks.Staged zero s (Some l) is below both = record {
+of_phase base marks.Staged zero s (Some l) is below both = record {
   parts = λ most. refl;
   stores = λ sts. refl;
   state = λ c ss. refl;
@@ -154,7 +166,7 @@ of_phase marks.Staged zero s (Some l) is below both = record {
   table_a = refl;
   table_b = refl;
 }
-of_phase marks.Staged (suc zero) s (Some l) is below both = record {
+of_phase base marks.Staged (suc zero) s (Some l) is below both = record {
   parts = λ most. refl;
   stores = λ sts. refl;
   state = λ c ss. refl;
@@ -164,7 +176,7 @@ of_phase marks.Staged (suc zero) s (Some l) is below both = record {
   table_a = refl;
   table_b = refl;
 }
-of_phase marks.Merging zero s None is below both = record {
+of_phase base marks.Merging zero s None is below both = record {
   parts = λ most. or_first (merging_check most 0 s.table);
   stores = λ sts. refl;
   state = λ c ss. refl;
@@ -174,7 +186,7 @@ of_phase marks.Merging zero s None is below both = record {
   table_a = refl;
   table_b = refl;
 }
-of_phase marks.Merging (suc zero) s None is below both = record {
+of_phase base marks.Merging (suc zero) s None is below both = record {
   parts = λ most. or_first (merging_check most 1 s.table);
   stores = λ sts. refl;
   state = λ c ss. refl;
@@ -184,24 +196,24 @@ of_phase marks.Merging (suc zero) s None is below both = record {
   table_a = refl;
   table_b = refl;
 }
-of_phase phase (suc (suc n)) s t is below both = absurd (omega (arith, below))
-of_phase marks.Idle zero s (Some l) is below both =
+of_phase base phase (suc (suc n)) s t is below both = absurd (omega (arith, below))
+of_phase base marks.Idle zero s (Some l) is below both =
     absurd (let no : true ≡ false = both in cc)
-of_phase marks.Idle (suc zero) s (Some l) is below both =
+of_phase base marks.Idle (suc zero) s (Some l) is below both =
     absurd (let no : true ≡ false = both in cc)
-of_phase marks.Installing zero s None is below both =
+of_phase base marks.Installing zero s None is below both =
     absurd (let no : false ≡ true = both in cc)
-of_phase marks.Installing (suc zero) s None is below both =
+of_phase base marks.Installing (suc zero) s None is below both =
     absurd (let no : false ≡ true = both in cc)
-of_phase marks.Staged zero s None is below both =
+of_phase base marks.Staged zero s None is below both =
     absurd (let no : false ≡ true = both in cc)
-of_phase marks.Staged (suc zero) s None is below both =
+of_phase base marks.Staged (suc zero) s None is below both =
     absurd (let no : false ≡ true = both in cc)
-of_phase marks.Merging zero s (Some l) is below both =
+of_phase base marks.Merging zero s (Some l) is below both =
     absurd (let no : true ≡ false = both in cc)
-of_phase marks.Merging (suc zero) s (Some l) is below both =
+of_phase base marks.Merging (suc zero) s (Some l) is below both =
     absurd (let no : true ≡ false = both in cc)
-of_phase marks.Completed slot s t is below both = absurd (no_phase is)
+of_phase base marks.Completed slot s t is below both = absurd (no_phase is)
   where
     no_phase : IsPhase marks.Completed → ⊥
     no_phase (inl e) = absurd (let no : marks.Completed ≡ marks.Idle = e in cc)
@@ -213,7 +225,7 @@ of_phase marks.Completed slot s t is below both = absurd (no_phase is)
 
 pub control_single : (m : UpdateMark) (image : Image) (c : Control)
     → control_of (image 4) ≡ Ok c
-    → control_in ((phase_at m.phase).has_a m.slot) ((phase_at m.phase).has_b m.slot) image
+    → control_in (phase_at m).has_a (phase_at m).has_b image
     ≡ Ok (control_kept m c)
 control_single m image c is =
     let r : Read = record {
@@ -224,7 +236,7 @@ control_single m image c is =
       tables = [];
       scanned = [];
     } in
-    control_seen_in ((phase_at m.phase).has_a m.slot) ((phase_at m.phase).has_b m.slot) image c is
+    control_seen_in (phase_at m).has_a (phase_at m).has_b image c is
     ∙ ap Ok (seen_slots r c)
 
 pub no_control : (size : ℕ) (image : Image) (m : UpdateMark) (v : MarkVersion)
@@ -234,7 +246,7 @@ pub no_control : (size : ℕ) (image : Image) (m : UpdateMark) (v : MarkVersion)
     → device size image ≡ Err f
 no_control size image m v ss f marked bad =
     device_no_control size image m ss f marked.enough marked.mark marked.statuses
-    (bad ((phase_at m.phase).has_a m.slot) ((phase_at m.phase).has_b m.slot))
+    (bad (phase_at m).has_a (phase_at m).has_b)
 
 pub no_geometry : (size : ℕ) (image : Image) (m : UpdateMark) (v : MarkVersion)
     (ss : List (Option PartStatus)) (c : Control) (f : StartFault)
@@ -249,7 +261,7 @@ no_geometry size image m v ss c f marked control bad =
 pub no_tables : (size : ℕ) (image : Image) (m : UpdateMark) (v : MarkVersion)
     (ss : List (Option PartStatus)) (c : Control) (g : Geometry) (f : StartFault)
     → IsHeaded size image m v ss c g
-    → tables_in size g ((phase_at m.phase).tables m.slot) image ≡ Err f
+    → tables_in size g (phase_at m).tables image ≡ Err f
     → device size image ≡ Err f
 no_tables size image m v ss c g f headed bad =
     device_no_tables size image m ss (control_kept m c) g f headed.marked.enough
@@ -261,7 +273,8 @@ no_tables size image m v ss c g f headed bad =
 -- the stores that are read
 abbrev pub stores_for : Frame → List PartStatus → List (Result Wanted StartFault)
 stores_for f sts =
-    stores_by (is_merging f.heads.mark.phase) (through_slot f.heads.mark.phase f.heads.mark.slot)
+    stores_by (is_merging f.heads.mark.phase) (may_place f.heads.mark)
+    (through_slot f.heads.mark.phase f.heads.mark.slot)
     (through_of f.heads.mark.phase f.tables.source f.tables.target) sts
 
 module _
@@ -280,9 +293,11 @@ module _
   first = read_of f.heads.mark f.heads.statuses.items f.heads.control f.heads.geometry
       (tables_of f.tables) []
 
-  pub is_of : IsOfPhase f.heads.mark.phase f.heads.mark.slot f.tables.source f.tables.target
+  pub is_of : IsOfPhase f.heads.mark f.heads.mark.phase f.heads.mark.slot f.tables.source
+      f.tables.target
   is_of =
-      of_phase f.heads.mark.phase f.heads.mark.slot f.tables.source f.tables.target phase below both
+      of_phase f.heads.mark f.heads.mark.phase f.heads.mark.slot f.tables.source f.tables.target
+      phase below both
 
   frame_reads : FrameReads size image first
   frame_reads = record {
@@ -303,7 +318,7 @@ module _
 
   -- of the disk's version
   parts_as : (x : Option StartFault)
-      → fault_of (partitions_under f.heads.version) f.heads.mark.phase f.heads.mark.slot
+      → fault_of (partitions_under f.heads.version) f.heads.mark
       f.tables.source.table f.tables.target
       ≡ x
       → part_fault (most_at image) first ≡ x
@@ -311,13 +326,13 @@ module _
       is_of.parts (most_at image)
       ∙ ap
       (λ v.
-      fault_of (partitions_under v) f.heads.mark.phase f.heads.mark.slot f.tables.source.table
+      fault_of (partitions_under v) f.heads.mark f.tables.source.table
       f.tables.target)
       framed.heads.marked.version
       ∙ is
 
   pub frame_judged : (h : StartFault)
-      → fault_of (partitions_under f.heads.version) f.heads.mark.phase f.heads.mark.slot
+      → fault_of (partitions_under f.heads.version) f.heads.mark
       f.tables.source.table f.tables.target
       ≡ Some h
       → device size image ≡ Err h
@@ -331,7 +346,7 @@ module _
       (is_of.stores (written_in ss)) ∙ is
 
   pub frame_scanned : (h : StartFault)
-      → fault_of (partitions_under f.heads.version) f.heads.mark.phase f.heads.mark.slot
+      → fault_of (partitions_under f.heads.version) f.heads.mark
       f.tables.source.table f.tables.target
       ≡ None
       → scans_in (stores_for f (written_in f.heads.statuses.items)) image ≡ Err h
@@ -340,7 +355,7 @@ module _
       device_scanned size first image h frame_reads (parts_as None parts) (stores_are (Err h) is)
 
   pub frame_stated : (scanned : List Scanned) (h : StartFault)
-      → fault_of (partitions_under f.heads.version) f.heads.mark.phase f.heads.mark.slot
+      → fault_of (partitions_under f.heads.version) f.heads.mark
       f.tables.source.table f.tables.target
       ≡ None
       → scans_in (stores_for f (written_in f.heads.statuses.items)) image ≡ Ok scanned
@@ -353,7 +368,7 @@ module _
       (stores_are (Ok scanned) stores) (state_is scanned (Some h) is)
 
   pub frame_read : (scanned : List Scanned)
-      → fault_of (partitions_under f.heads.version) f.heads.mark.phase f.heads.mark.slot
+      → fault_of (partitions_under f.heads.version) f.heads.mark
       f.tables.source.table f.tables.target
       ≡ None
       → scans_in (stores_for f (written_in f.heads.statuses.items)) image ≡ Ok scanned
@@ -391,7 +406,7 @@ pub kept_is : (d : Device) (t : Tables) (m : UpdateMark) (ss : List (Option Part
     → target ≡ through_parts m.phase m.slot t.source t.target scanned
     → with_tables t d ≡ record (kept (read_of m ss c g (tables_of t) scanned)) { control = c }
 kept_is d t m ss c g target scanned phase below both is planned =
-    let of = of_phase m.phase m.slot t.source t.target phase below both in
+    let of = of_phase m m.phase m.slot t.source t.target phase below both in
     let a = is.a ∙ ap (slot_parts m 0 t.source.table) planned ∙ of.a scanned in
     let b = is.b ∙ ap (slot_parts m 1 t.source.table) planned ∙ of.b scanned in
     let table_a = ap (λ (x : UpdateMark). table_if (x.slot == 0) t.source.table t.target) is.mark

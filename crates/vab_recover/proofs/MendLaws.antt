@@ -1,5 +1,5 @@
 -- What opening writes, and what it leaves behind a merge that has ended.
-use Rattle.std.proofs.Common.{◌≡◌, ◌≢◌, ◌∙◌, ⊎_elim, inl, inr, ℕ, zero, suc, ◌<◌, true, false}
+use Rattle.std.proofs.Common.{◌≡◌, ◌∙◌, ⊎_elim, inl, inr, ℕ, zero, suc, ◌<◌, true, false}
 use Rattle.std.proofs.Common.{List, length, ◌≤◌, Ok, refl, sym, ap, subst, arith}
 use Rattle.std.specs.Prelude.{◌⊎◌, ◌==◌, if◌then◌else◌, Option, Some, None, IfSome, IsNone}
 use Rattle.vab_disk.specs.declared.disk.Disk.{Ghosts}
@@ -10,7 +10,7 @@ use Rattle.vab_disk.proofs.CallLaws.{set_same_but}
 use Rattle.vab_disk.proofs.Moments.{adds_wider}
 use Rattle.vab_marks.specs.declared.mark.MarkPhase.TheVariants as marks
 use Rattle.vab_marks.specs.declared.mark.UpdateMark.{UpdateMark}
-use Rattle.vab_marks.specs.Mark.{mark_of, idle_mark, completed_mark}
+use Rattle.vab_marks.specs.Mark.{mark_of, rephased}
 use Rattle.vab_geometry.specs.declared.geometry.Geometry.{Geometry}
 use Rattle.vab_tables.specs.declared.table.Table.{Table}
 use Rattle.vab_tables.specs.Spelling.{table_text}
@@ -140,7 +140,7 @@ pub none_due : (m : UpdateMark) (x : Option Tidying) (old : Image)
     → HasNoneCompleted old
     → IsNone x
 none_due m None old due none = refl
-none_due m (Some x) old due none = absurd (none m.slot due)
+none_due m (Some x) old due none = absurd (none m due)
 
 -- ---- the table that is left
 
@@ -155,20 +155,30 @@ tidy_alone : (max slot : ℕ) (t : Table)
 tidy_alone max slot t is = rw is refl
 
 -- one merge has ended
-one_slot : (j k : ℕ) (image : Image) → HasCompleted j image → HasCompleted k image → j ≡ k
+one_mark : (j k : UpdateMark) (image : Image)
+    → HasCompleted j image
+    → HasCompleted k image
+    → rephased marks.Completed j ≡ rephased marks.Completed k
+one_mark j k image of_j of_k =
+    let both : Ok (rephased marks.Completed j) ≡ Ok (rephased marks.Completed k) =
+    sym of_j ∙ of_k in
+    cc
+
+one_slot : (j k : UpdateMark) (image : Image)
+    → HasCompleted j image
+    → HasCompleted k image
+    → j.slot ≡ k.slot
 one_slot j k image of_j of_k =
-    let both : Ok (completed_mark j) ≡ Ok (completed_mark k) = sym of_j ∙ of_k in
-    let same : completed_mark j ≡ completed_mark k = cc in
-    ap (λ (m : UpdateMark). m.slot) same
+    ap (λ (m : UpdateMark). m.slot) (one_mark j k image of_j of_k)
 
 -- and where one has, there is no other mark
-not_both : (j k : ℕ) (image : Image)
-    → mark_of (image 2048) ≡ Ok (idle_mark j)
+not_both : (j k : UpdateMark) (image : Image)
+    → mark_of (image 2048) ≡ Ok (rephased marks.Idle j)
     → HasCompleted k image
     → ⊥
 not_both j k image idle is =
-    let both : Ok (idle_mark j) ≡ Ok (completed_mark k) = sym idle ∙ is in
-    let same : idle_mark j ≡ completed_mark k = cc in
+    let both : Ok (rephased marks.Idle j) ≡ Ok (rephased marks.Completed k) = sym idle ∙ is in
+    let same : rephased marks.Idle j ≡ rephased marks.Completed k = cc in
     let phase : marks.Idle ≡ marks.Completed = ap (λ (m : UpdateMark). m.phase) same in
     cc
 
@@ -272,63 +282,63 @@ module _
       → IsDue d.mark old x
       → IfSome x (IsTidying d.geometry.max d.mark t.source.table)
       → KeepsTidy (device_after x (with_tables t d)) old
-  keeps_tidy None due is = λ slot u has said. absurd (due slot has)
-  keeps_tidy (Some x) due is = λ slot u has said.
-      keeps_alone x.alone slot u is.alone (one_slot d.mark.slot slot old due has) said
+  keeps_tidy None due is = λ m u has said. absurd (due m has)
+  keeps_tidy (Some x) due is = λ m u has said.
+      keeps_alone x.alone m.slot u is.alone (one_slot d.mark m old due has) said
 
   -- the mark of the disk behind it
   pub tidied_of : (x : Option Tidying) (mid new : Image)
       → IsDue d.mark old x
       → IfSome x (IsTidying d.geometry.max d.mark t.source.table)
       → mark_of (mid 2048) ≡ mark_of (old 2048)
-      → IfSome x (λ k. mark_of (new 2048) ≡ Ok (idle_mark d.mark.slot))
+      → IfSome x (λ k. mark_of (new 2048) ≡ Ok (rephased marks.Idle d.mark))
       → (IsNone x → new ≡ mid)
       → IsTidied (device_after x (with_tables t d)) old new
   tidied_of None mid new due is same mark still =
       let stays : mark_of (new 2048) ≡ mark_of (old 2048) =
       ap (λ (i : Image). mark_of (i 2048)) (still refl) ∙ same in
       record {
-        none = λ slot has. due slot (sym stays ∙ has);
-        mark = λ slot has. absurd (due slot has);
+        none = λ m has. due m (sym stays ∙ has);
+        mark = λ m has. absurd (due m has);
         table = keeps_tidy None due is;
       }
   tidied_of (Some x) mid new due is same mark still = record {
-    none = λ slot has. not_both d.mark.slot slot new mark has;
-    mark = λ slot has.
-        subst (λ (n : ℕ). mark_of (new 2048) ≡ Ok (idle_mark n))
-        (one_slot d.mark.slot slot old due has) mark;
+    none = λ m has. not_both d.mark m new mark has;
+    mark = λ m has.
+        subst (λ (k : UpdateMark). mark_of (new 2048) ≡ Ok (rephased marks.Idle k))
+        (one_mark d.mark m old due has) mark;
     table = keeps_tidy (Some x) due is;
   }
 
   -- ---- the order
 
-  goes_alone : (x : Option Alone) (slot : ℕ) (g : Geometry) (u : Table) (image : Image)
+  goes_alone : (x : Option Alone) (m : UpdateMark) (g : Geometry) (u : Table) (image : Image)
       → IsAloneIf d.geometry.max d.mark.slot source x
-      → d.mark.slot ≡ slot
+      → rephased marks.Completed d.mark ≡ rephased marks.Completed m
       → d.geometry ≡ g
-      → slot_table g slot old ≡ Ok u
+      → slot_table g m.slot old ≡ Ok u
       → IsInOrder (with_alone x (with_tables t d)) image
-      → HasCompleted slot image ⊎ (slot_table g slot image ≡ Ok (tidy_table g.max slot u))
-  goes_alone x slot g u image is slots geometries said order =
+      → HasCompleted m image ⊎ (slot_table g m.slot image ≡ Ok (tidy_table g.max m.slot u))
+  goes_alone x m g u image is marked geometries said order =
       subst
-      (λ (n : ℕ).
-      HasCompleted n image ⊎ (slot_table g n image ≡ Ok (tidy_table g.max n u)))
-      slots
+      (λ (k : UpdateMark).
+      HasCompleted k image ⊎ (slot_table g k.slot image ≡ Ok (tidy_table g.max k.slot u)))
+      marked
       (subst
       (λ (h : Geometry).
-      HasCompleted d.mark.slot image
+      HasCompleted d.mark image
       ⊎ (slot_table h d.mark.slot image ≡ Ok (tidy_table h.max d.mark.slot u)))
       geometries (by_alone x is order))
     where
       there : slot_table d.geometry d.mark.slot old ≡ Ok u
       there =
           subst (λ (h : Geometry). slot_table h d.mark.slot old ≡ Ok u) (sym geometries)
-          (subst (λ (n : ℕ). slot_table g n old ≡ Ok u) (sym slots) said)
+          (subst (λ (k : UpdateMark). slot_table g k.slot old ≡ Ok u) (sym marked) said)
 
       by_alone : (x : Option Alone)
           → IsAloneIf d.geometry.max d.mark.slot source x
           → IsInOrder (with_alone x (with_tables t d)) image
-          → HasCompleted d.mark.slot image
+          → HasCompleted d.mark image
           ⊎ (slot_table d.geometry d.mark.slot image
           ≡ Ok (tidy_table d.geometry.max d.mark.slot u))
       by_alone None is order =
@@ -341,22 +351,21 @@ module _
   pub goes_on : (x : Option Tidying) (image : Image)
       → IsDue d.mark old x
       → IfSome x (IsTidying d.geometry.max d.mark t.source.table)
-      → (HasCompleted d.mark.slot old → IsInOrder (device_after x (with_tables t d)) image)
+      → (HasCompleted d.mark old → IsInOrder (device_after x (with_tables t d)) image)
       → GoesOn size old image
-  goes_on None image due is order = λ slot g u has geometry said. absurd (due slot has)
-  goes_on (Some x) image due is order = λ slot g u has geometry said.
+  goes_on None image due is order = λ m g u has geometry said. absurd (due m has)
+  goes_on (Some x) image due is order = λ m g u has geometry said.
       let both : Ok d.geometry ≡ Ok g = sym opened.reads.geometry ∙ geometry in
       let same : d.geometry ≡ g = cc in
-      goes_alone x.alone slot g u image is.alone (one_slot d.mark.slot slot old due has) same said
+      goes_alone x.alone m g u image is.alone (one_mark d.mark m old due has) same said
       (order due)
 
-  -- the slot of the kept mark
-  pub same_slot : (x : Option Tidying)
-      → (device_after x (with_tables t d)).mark.slot ≡ d.mark.slot
-  same_slot None = refl
-  same_slot (Some x) = by_alone x.alone
+  -- the kept mark
+  pub same_mark : (x : Option Tidying) → (device_after x (with_tables t d)).mark ≡ d.mark
+  same_mark None = refl
+  same_mark (Some x) = by_alone x.alone
     where
-      by_alone : (y : Option Alone) → (with_alone y (with_tables t d)).mark.slot ≡ d.mark.slot
+      by_alone : (y : Option Alone) → (with_alone y (with_tables t d)).mark ≡ d.mark
       by_alone None = refl
       by_alone (Some a) = refl
 
@@ -366,15 +375,15 @@ module _
       → IsDue d.mark old x
       → IfSome x (IsTidying d.geometry.max d.mark t.source.table)
       → Adds g.moment g.outcomes mid new P
-      → (HasCompleted (device_after x (with_tables t d)).mark.slot old
+      → (HasCompleted (device_after x (with_tables t d)).mark old
       → Adds g.moment g.outcomes mid new
       (λ o. IsInOrder (device_after x (with_tables t d)) o.image))
       → Adds g.moment g.outcomes mid new (λ o. GoesOn size old o.image)
   order_of g None mid new P due is time order =
       adds_wider g.moment g.outcomes mid new P _ time
-      (λ o p. goes_on None o.image due is (λ has. absurd (due d.mark.slot has)))
+      (λ o p. goes_on None o.image due is (λ has. absurd (due d.mark has)))
   order_of g (Some x) mid new P due is time order =
-      let has : HasCompleted (device_after (Some x) (with_tables t d)).mark.slot old =
-      subst (λ (n : ℕ). HasCompleted n old) (sym (same_slot (Some x))) due in
+      let has : HasCompleted (device_after (Some x) (with_tables t d)).mark old =
+      subst (λ (m : UpdateMark). HasCompleted m old) (sym (same_mark (Some x))) due in
       adds_wider g.moment g.outcomes mid new _ _ (order has)
       (λ o ordered. goes_on (Some x) o.image due is (λ k. ordered))

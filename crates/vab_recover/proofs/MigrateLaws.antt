@@ -50,14 +50,14 @@ migrated_represents v d size mid new is same but version = record {
   is = is.is;
   control = ap control_of (migration_keeps mid new 4 but (inl (omega arith))) ∙ is.control;
   copies =
-      copies_kept is.read.geometry ((phase_at is.read.mark.phase).tables is.read.mark.slot)
+      copies_kept is.read.geometry (phase_at is.read.mark).tables
       is.read.tables mid new
       (λ s there.
       migration_keeps mid new s but
       (inr (omega (
         arith,
         copies_from is.read.geometry
-            ((phase_at is.read.mark.phase).tables is.read.mark.slot) s there,
+            (phase_at is.read.mark).tables s there,
       ))))
       is.copies;
   version = version;

@@ -74,7 +74,7 @@ module _
   }
 
   -- what the repair wrote is of the copy that didn't hold the text
-  pub repair_is : IsOneOf k ((phase_at r.mark.phase).tables r.mark.slot)
+  pub repair_is : IsOneOf k (phase_at r.mark).tables
       → (s : ℕ) (b : List ℕ)
       → IsOfRepair l.primary l.backup r.geometry k l.text s b
       → IsRepair size old s b
@@ -89,7 +89,7 @@ module _
   }
 
   -- where both copies hold it, the flags say so
-  pub both_flags : IsOneOf k ((phase_at r.mark.phase).tables r.mark.slot)
+  pub both_flags : IsOneOf k (phase_at r.mark).tables
       → BothCopiesHold size old
       → (l.primary ≡ true) × (l.backup ≡ true)
   both_flags is_read hold =
@@ -145,7 +145,7 @@ pub copies_agree : (g : Geometry) (m : UpdateMark) (t : Tables) (image : Image)
     → is_some t.target ≡ reads_both m.phase
     → Holds g m.slot image t.source
     → IfSome t.target (Holds g (other_slot m.slot) image)
-    → AgreeCopies g ((phase_at m.phase).tables m.slot) (tables_of t) image
+    → AgreeCopies g (phase_at m).tables (tables_of t) image
 copies_agree g m t image is source target =
     subst (λ (slots : List ℕ). AgreeCopies g slots (tables_of t) image) (sym (tables_split m)) (
       (t.source.text, source.0, source.1),
@@ -153,12 +153,12 @@ copies_agree g m t image is source target =
     )
 
 -- the slots whose tables are read
-pub source_read : (m : UpdateMark) → IsOneOf m.slot ((phase_at m.phase).tables m.slot)
+pub source_read : (m : UpdateMark) → IsOneOf m.slot (phase_at m).tables
 source_read m = subst (IsOneOf m.slot) (sym (tables_split m)) (inl refl)
 
 pub target_read : (m : UpdateMark)
     → reads_both m.phase ≡ true
-    → IsOneOf (other_slot m.slot) ((phase_at m.phase).tables m.slot)
+    → IsOneOf (other_slot m.slot) (phase_at m).tables
 target_read m is =
     subst (IsOneOf (other_slot m.slot)) (sym (tables_split m)) (inr (rw is (inl refl)))
 

@@ -3,7 +3,7 @@ use Rattle.std.proofs.Common.{◌≡◌, ◌∙◌, ℕ, zero, suc, ◌+◌, ◌
 use Rattle.std.proofs.Common.{false}
 use Rattle.std.proofs.Common.{List, [], ◌∷◌, ◌++◌, length, get_or, drop, inl, inr}
 use Rattle.std.proofs.Common.{Option, Some, None, Result, Ok, Err, refl, sym, ap, subst, arith}
-use Rattle.std.specs.Prelude.{map, All, option_map}
+use Rattle.std.specs.Prelude.{map, All, option_map, ◌&&◌, if◌then◌else◌}
 use Rattle.std.specs.List.{filter}
 use Rattle.std.specs.Str.{bytes_eq}
 use Rattle.std.proofs.lemmas.Bool.{cases_Bool}
@@ -12,9 +12,11 @@ use Rattle.std.proofs.lemmas.List.Elements.{All-head, All-tail, All-map}
 use Rattle.vab_disk.specs.Disk.{Image}
 use Rattle.vab_names.specs.Names.{store_of}
 use Rattle.vab_marks.specs.declared.status.PartStatus.{PartStatus}
+use Rattle.vab_marks.specs.declared.status.StatusImage.TheVariants.{Stored, InPlace}
 use Rattle.vab_statuses.specs.Statuses.{written_in}
 use Rattle.vab_exceptions.specs.declared.area.Exception.{Exception}
 use Rattle.vab_space.specs.declared.Chunk.{Chunk}
+use Rattle.vab_space.specs.declared.Chunk.TheVariants.{One}
 use Rattle.vab_store.specs.Layout.{IsOnDisk}
 use Rattle.vab_tables.specs.declared.table.Table.{Table}
 use Rattle.vab_tables.specs.Rules.{cap_of, end_of}
@@ -33,15 +35,17 @@ use Rattle.std.proofs.lemmas.List.{length-map}
 use Rattle.std.proofs.lemmas.List.{map-append}
 use Rattle.vab_plan.proofs.PlanLaws.{drop_at, first_all}
 use Rattle.vab_device.specs.declared.fault.StartFault.{StartFault}
+use Rattle.vab_device.specs.declared.fault.StartFault.TheVariants.{BadStore}
 use Rattle.vab_device.specs.Checks.{◌>>=◌}
 use Rattle.vab_device.specs.Kept.{sectors_of}
 use Rattle.vab_device.specs.Phases.{store_on}
-use Rattle.vab_device.specs.Stores.{Wanted, Scanned, first_named, wanted_by, wanted_of, scan_at}
+use Rattle.vab_device.specs.Stores.{Wanted, Scanned, first_named, image_wanted, wanted_of, scan_at}
 use Rattle.vab_device.specs.Stores.{scans_in, or_fewer}
 use Rattle.vab_plan.specs.declared.planning.Scan.{Scan}
 use Rattle.vab_plan.specs.Scans.{scanned_of, scans_of, IsTargetTable}
 use Rattle.vab_recover.specs.Opened.{wanted_for}
-use Rattle.vab_recover.specs.Scans.{wanted_at, AreBlocks, IsScanned}
+use Rattle.vab_recover.specs.Scans.{wanted_at, AreBlocks, IsScanned, is_placed, status_placed}
+use Rattle.vab_recover.specs.Scans.{status_stored}
 
 -- ---- a place of a list
 
@@ -68,48 +72,49 @@ first_none q name (p ∷ ps) is =
 
 -- ---- a store that a status names
 
-by_store : (first : ℕ) (s : PartStatus) (part : PartOfLayout) (base store : List ℕ)
-    (x y : Option PartOfLayout)
+by_store : (may : Bool) (first : ℕ) (name : List ℕ) (count : ℕ) (k : Chunk) (part : PartOfLayout)
+    (base store : List ℕ) (x y : Option PartOfLayout)
     → x ≡ Some part
     → option_map (λ q. sectors_of first q.blocks) y ≡ Some store
     → base ≡ sectors_of first part.blocks
-    → wanted_by first s x y
+    → image_wanted may first name (Stored count k) x y
     ≡ Ok (record {
-      name = s.name;
+      name = name;
       base = base;
-      store = store;
-      chunk = s.chunk;
-      count = s.count;
+      store = Some store;
+      chunk = k;
+      count = count;
       fewer = false;
     })
-by_store first s part base store x None named stored is =
+by_store may first name count k part base store x None named stored is =
     absurd (let no : None ≡ Some store = stored in cc)
-by_store first s part base store x (Some q) named stored is =
+by_store may first name count k part base store x (Some q) named stored is =
     let whole : Some (sectors_of first q.blocks) ≡ Some store = stored in
     let same : sectors_of first q.blocks ≡ store = cc in
     rw named (λ i. Ok (record {
-      name = s.name;
+      name = name;
       base = sym is i;
-      store = same i;
-      chunk = s.chunk;
-      count = s.count;
+      store = Some (same i);
+      chunk = k;
+      count = count;
       fewer = false;
     }))
 
-pub wanted_there : (slot : ℕ) (l : Layout) (s : PartStatus) (base store : List ℕ)
-    → AreBlocks slot l s.name base store
-    → wanted_of slot l s
+pub wanted_there : (may : Bool) (slot : ℕ) (l : Layout) (name : List ℕ) (count : ℕ) (k : Chunk)
+    (base store : List ℕ)
+    → AreBlocks slot l name base store
+    → wanted_of may slot l (status_stored name count k)
     ≡ Ok (record {
-      name = s.name;
+      name = name;
       base = base;
-      store = store;
-      chunk = s.chunk;
-      count = s.count;
+      store = Some store;
+      chunk = k;
+      count = count;
       fewer = false;
     })
-wanted_there slot l s base store are =
-    by_store l.device.first_logical_sector s are.part base store
-    (first_named s.name (own_parts slot l.parts)) (first_named (store_of s.name) l.parts)
+wanted_there may slot l name count k base store are =
+    by_store may l.device.first_logical_sector name count k are.part base store
+    (first_named name (own_parts slot l.parts)) (first_named (store_of name) l.parts)
     are.named are.stored are.base_is
 
 -- where a store stands on the disk
@@ -184,33 +189,43 @@ scans_ok (Err f) ws image done x is = absurd
 
 -- ---- a scan of the store that a status names
 
-abbrev pub wanted_store : (fewer : Bool) → PartStatus → (base store : List ℕ) → Wanted
-wanted_store fewer s base store = record {
-  name = s.name;
+abbrev pub wanted_store : (fewer : Bool)
+    → (name : List ℕ)
+    → (count : ℕ)
+    → Chunk
+    → (base store : List ℕ)
+    → Wanted
+wanted_store fewer name count k base store = record {
+  name = name;
   base = base;
-  store = store;
-  chunk = s.chunk;
-  count = s.count;
+  store = Some store;
+  chunk = k;
+  count = count;
   fewer = fewer;
 }
 
-wanted_found : (fewer : Bool) (slot : ℕ) (l : Layout) (s : PartStatus) (base store : List ℕ)
-    → AreBlocks slot l s.name base store
-    → wanted_for fewer slot l s ≡ Ok (wanted_store fewer s base store)
-wanted_found false slot l s base store are = wanted_there slot l s base store are
-wanted_found true slot l s base store are = ap or_fewer (wanted_there slot l s base store are)
+wanted_found : (fewer may : Bool) (slot : ℕ) (l : Layout) (name : List ℕ) (count : ℕ) (k : Chunk)
+    (base store : List ℕ)
+    → AreBlocks slot l name base store
+    → wanted_for fewer may slot l (status_stored name count k)
+    ≡ Ok (wanted_store fewer name count k base store)
+wanted_found false may slot l name count k base store are =
+    wanted_there may slot l name count k base store are
+wanted_found true may slot l name count k base store are =
+    ap or_fewer (wanted_there may slot l name count k base store are)
 
-pub wanted_is : (fewer : Bool) (slot : ℕ) (l : Layout) (s : PartStatus) (base store : List ℕ)
-    (n : ℕ) (image : Image)
-    → AreBlocks slot l s.name base store
+pub wanted_is : (fewer may : Bool) (slot : ℕ) (l : Layout) (name : List ℕ) (count : ℕ) (k : Chunk)
+    (base store : List ℕ) (n : ℕ) (image : Image)
+    → AreBlocks slot l name base store
     → n ≡ length base
-    → wanted_at (wanted_for fewer slot l s) image
-    ≡ scan_read (wanted_store fewer s base store) (scan_of s.chunk store n image)
+    → wanted_at (wanted_for fewer may slot l (status_stored name count k)) image
+    ≡ scan_read (wanted_store fewer name count k base store) (scan_of k store n image)
 unfolding scan_at
-wanted_is fewer slot l s base store n image are long =
+wanted_is fewer may slot l name count k base store n image are long =
     ap (λ (r : Result Wanted StartFault). wanted_at r image)
-    (wanted_found fewer slot l s base store are)
-    ∙ ap (λ (k : ℕ). scan_read (wanted_store fewer s base store) (scan_of s.chunk store k image))
+    (wanted_found fewer may slot l name count k base store are)
+    ∙ ap
+    (λ (j : ℕ). scan_read (wanted_store fewer name count k base store) (scan_of k store j image))
     (sym long)
 
 pub is_scanned : (slot : ℕ) (l : Layout) (name base store : List ℕ) (k : Chunk) (n : ℕ)
@@ -233,7 +248,7 @@ is_scanned slot l name base store k n scanned (Ok s) are long fits named sized v
     fits in
     record {
       part = are.part;
-      store = store;
+      store = Some store;
       named = ap (λ (m : List ℕ). first_named m (own_parts slot l.parts)) named ∙ are.named;
       stored = ap (store_on l) named ∙ are.stored;
       fits =
@@ -243,6 +258,103 @@ is_scanned slot l name base store k n scanned (Ok s) are long fits named sized v
   where
     count : (first : ℕ) (blocks : List ℕ) → length (sectors_of first blocks) ≡ length blocks
     count first blocks = length-map blocks (λ b. 4096 + first + 8 * b)
+
+-- ---- an image in place
+
+by_place : (fewer may : Bool) (first : ℕ) (name : List ℕ) (a b : Option PartOfLayout)
+    (image : Image)
+    → may ≡ true
+    → is_placed a b ≡ true
+    → wanted_at
+    (if fewer
+    then or_fewer (image_wanted may first name InPlace a b)
+    else image_wanted may first name InPlace a b)
+    image
+    ≡ Ok (record { name = name; chunk = One; exceptions = [] })
+unfolding scan_at
+by_place fewer may first name None b image is placed = absurd cc
+by_place fewer may first name (Some p) (Some q) image is placed = absurd cc
+by_place true true first name (Some p) None image is placed = refl
+by_place false true first name (Some p) None image is placed = refl
+by_place fewer false first name (Some p) None image is placed = absurd cc
+
+as_if : (fewer may : Bool) (slot : ℕ) (l : Layout) (name : List ℕ)
+    → wanted_for fewer may slot l (status_placed name)
+    ≡ (if fewer
+    then or_fewer (image_wanted may l.device.first_logical_sector name InPlace
+    (first_named name (own_parts slot l.parts)) (first_named (store_of name) l.parts))
+    else image_wanted may l.device.first_logical_sector name InPlace
+    (first_named name (own_parts slot l.parts)) (first_named (store_of name) l.parts))
+as_if true may slot l name = refl
+as_if false may slot l name = refl
+
+-- that of a partition without a store, where one may be so
+pub placed_there : (fewer may : Bool) (slot : ℕ) (l : Layout) (name : List ℕ) (image : Image)
+    → may ≡ true
+    → is_placed (first_named name (own_parts slot l.parts)) (first_named (store_of name) l.parts)
+    ≡ true
+    → wanted_at (wanted_for fewer may slot l (status_placed name)) image
+    ≡ Ok (record { name = name; chunk = One; exceptions = [] })
+placed_there fewer may slot l name image is placed =
+    ap (λ (w : Result Wanted StartFault). wanted_at w image) (as_if fewer may slot l name)
+    ∙ by_place fewer may l.device.first_logical_sector name
+    (first_named name (own_parts slot l.parts)) (first_named (store_of name) l.parts) image is
+    placed
+
+by_none : (fewer may : Bool) (first : ℕ) (name : List ℕ) (a b : Option PartOfLayout)
+    (image : Image)
+    → (may && is_placed a b) ≡ false
+    → wanted_at
+    (if fewer
+    then or_fewer (image_wanted may first name InPlace a b)
+    else image_wanted may first name InPlace a b)
+    image
+    ≡ Err (BadStore name)
+by_none true may first name None b image none = refl
+by_none false may first name None b image none = refl
+by_none true may first name (Some p) (Some q) image none = refl
+by_none false may first name (Some p) (Some q) image none = refl
+by_none fewer true first name (Some p) None image none = absurd cc
+by_none true false first name (Some p) None image none = refl
+by_none false false first name (Some p) None image none = refl
+
+-- else there is none
+pub placed_nowhere : (fewer may : Bool) (slot : ℕ) (l : Layout) (name : List ℕ) (image : Image)
+    → (may
+    && is_placed (first_named name (own_parts slot l.parts)) (first_named (store_of name) l.parts))
+    ≡ false
+    → wanted_at (wanted_for fewer may slot l (status_placed name)) image ≡ Err (BadStore name)
+placed_nowhere fewer may slot l name image none =
+    ap (λ (w : Result Wanted StartFault). wanted_at w image) (as_if fewer may slot l name)
+    ∙ by_none fewer may l.device.first_logical_sector name
+    (first_named name (own_parts slot l.parts)) (first_named (store_of name) l.parts) image none
+
+pub is_placed_scan : (slot : ℕ) (l : Layout) (name : List ℕ)
+    → is_placed (first_named name (own_parts slot l.parts)) (first_named (store_of name) l.parts)
+    ≡ true
+    → IsScanned slot l (record { name = name; chunk = One; exceptions = [] })
+is_placed_scan slot l name placed =
+    by_parts (first_named name (own_parts slot l.parts)) (first_named (store_of name) l.parts) refl
+    refl placed
+  where
+    by_parts : (a b : Option PartOfLayout)
+        → first_named name (own_parts slot l.parts) ≡ a
+        → first_named (store_of name) l.parts ≡ b
+        → is_placed a b ≡ true
+        → IsScanned slot l (record { name = name; chunk = One; exceptions = [] })
+    by_parts None b named stored placed = absurd cc
+    by_parts (Some p) (Some q) named stored placed = absurd cc
+    by_parts (Some p) None named stored placed = record {
+      part = p;
+      store = None;
+      named = named;
+      stored =
+          ap
+          (option_map
+          (λ (q : PartOfLayout). sectors_of l.device.first_logical_sector q.blocks))
+          stored;
+      fits = refl;
+    }
 
 pub scans_step : (W : PartStatus → Result Wanted StartFault) (all : List (Option PartStatus))
     (i : ℕ)

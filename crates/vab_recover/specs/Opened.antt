@@ -2,7 +2,7 @@
 use Rattle.std.specs.Prelude.{◌≡◌, ℕ, ◌<◌, ◌≤◌, ◌^◌, ◌==◌, if◌then◌else◌, List, [], ◌∷◌}
 use Rattle.std.specs.Prelude.{length}
 use Rattle.std.specs.Prelude.{Bool, Option, Some, None, is_some, Ok, IfSome, IsTrue, nat_le, true}
-use Rattle.std.specs.Prelude.{false, map, All, Result}
+use Rattle.std.specs.Prelude.{false, map, All, Result, ◌||◌}
 use Rattle.vab_disk.specs.Disk.{Image}
 use Rattle.vab_bootctl.specs.Control.{control_of, Fits}
 use Rattle.vab_bootctl.specs.declared.slots.Control.{Control}
@@ -10,6 +10,7 @@ use Rattle.vab_bootctl.specs.Boot.{info_at}
 use Rattle.vab_marks.specs.declared.mark.MarkPhase.{MarkPhase}
 use Rattle.vab_marks.specs.declared.mark.MarkPhase.TheVariants as marks
 use Rattle.vab_marks.specs.declared.mark.UpdateMark.{UpdateMark}
+use Rattle.vab_marks.specs.Mark.{MayStandApart}
 use Rattle.vab_marks.specs.declared.version.MarkVersion.{MarkVersion}
 use Rattle.vab_marks.specs.declared.status.PartStatus.{PartStatus}
 use Rattle.vab_geometry.specs.declared.geometry.Geometry.{Geometry}
@@ -45,19 +46,19 @@ use Rattle.vab_recover.specs.declared.frame.Frame.{Frame}
 
 -- the stores of an update are merged
 abbrev pub is_merging : MarkPhase → Bool
-is_merging marks.Idle = false
-is_merging marks.Installing = false
-is_merging marks.Staged = false
 is_merging marks.Merging = true
-is_merging marks.Completed = false
+is_merging _ = false
 
 -- the statuses of partitions are read
 abbrev pub reads_statuses : MarkPhase → Bool
-reads_statuses marks.Idle = false
 reads_statuses marks.Installing = true
 reads_statuses marks.Staged = true
 reads_statuses marks.Merging = true
-reads_statuses marks.Completed = false
+reads_statuses _ = false
+
+-- An image may stand in place: where the target of an update stands apart, and while it is merged.
+abbrev pub may_place : UpdateMark → Bool
+may_place m = is_merging m.phase || m.apart
 
 -- ---- what is read in front of the stores
 
@@ -87,7 +88,7 @@ pub record IsMarked
   pub enough : nat_le 4120 size ≡ true
   pub mark : mark_in image ≡ Ok m
   pub version : version_at image ≡ v
-  pub statuses : statuses_at (phase_at m.phase).reads_statuses image ≡ Ok ss
+  pub statuses : statuses_at (phase_at m).reads_statuses image ≡ Ok ss
 
 -- those, the whole boot control and the geometry
 pub record IsHeaded
@@ -107,6 +108,7 @@ pub record AreHeads (size : ℕ) (m : UpdateMark) (c : Control) (g : Geometry) :
   pub enough : 4120 ≤ size
   pub phase : IsPhase m.phase
   pub slot : m.slot < 2
+  pub apart : MayStandApart m
   pub control : Fits c
   pub geometry : IsGeometry g
   pub copies_on : copies_end g ≤ super_bytes size
@@ -147,7 +149,7 @@ pub record IsFramed (size : ℕ) (image : Image) (f : Frame) : Type 0 where
   pub heads : IsHeaded size image f.heads.mark f.heads.version f.heads.statuses.items
       f.heads.control f.heads.geometry
   pub tables : tables_in size f.heads.geometry
-      ((phase_at f.heads.mark.phase).tables f.heads.mark.slot)
+      (phase_at f.heads.mark).tables
       image
       ≡ Ok (tables_of f.tables)
   pub loaded : AreLoaded f.heads.geometry f.heads.mark.slot image f.tables
@@ -155,11 +157,10 @@ pub record IsFramed (size : ℕ) (image : Image) (f : Frame) : Type 0 where
 -- ---- rules and plan
 
 -- the first fault of the tables and of their partitions, of which a slot may have so many
-abbrev pub fault_of : (most : ℕ) → MarkPhase → (slot : ℕ) → Table → Option Loaded
-    → Option StartFault
-fault_of most phase slot s None =
-    if is_merging phase then merging_check most slot s else own_check most slot s
-fault_of most phase slot s (Some l) = first_fault (update_checks most slot s l.table)
+abbrev pub fault_of : (most : ℕ) → UpdateMark → Table → Option Loaded → Option StartFault
+fault_of most m s None =
+    if is_merging m.phase then merging_check most m.slot s else own_check most m.slot s
+fault_of most m s (Some l) = first_fault (update_checks m.apart most m.slot s l.table)
 
 -- The table whose partitions are read through stores: that of an update's target, and while it is
 -- merged that of the mark's slot.
@@ -170,19 +171,21 @@ through_of phase s t = if is_merging phase then Some s else t
 abbrev pub through_slot : MarkPhase → ℕ → ℕ
 through_slot phase slot = if is_merging phase then slot else other_slot slot
 
--- the store that a status names, of which there may be fewer exceptions or not
-abbrev pub wanted_for : (fewer : Bool) → ℕ → Layout → PartStatus → Result Wanted StartFault
-wanted_for false slot l s = wanted_of slot l s
-wanted_for true slot l s = or_fewer (wanted_of slot l s)
+-- the image that a status names, of which there may be fewer exceptions or not, and which may stand
+-- in place or not
+abbrev pub wanted_for : (fewer may : Bool) → ℕ → Layout → PartStatus → Result Wanted StartFault
+wanted_for false may slot l s = wanted_of may slot l s
+wanted_for true may slot l s = or_fewer (wanted_of may slot l s)
 
--- the stores that are read
-abbrev pub stores_by : (fewer : Bool)
+-- the images that are read
+abbrev pub stores_by : (fewer may : Bool)
     → ℕ
     → Option Loaded
     → List PartStatus
     → List (Result Wanted StartFault)
-stores_by fewer slot None statuses = []
-stores_by fewer slot (Some l) statuses = map (wanted_for fewer slot (layout_of l.table)) statuses
+stores_by fewer may slot None statuses = []
+stores_by fewer may slot (Some l) statuses =
+    map (wanted_for fewer may slot (layout_of l.table)) statuses
 
 abbrev pub plan_by : ℕ → Option Loaded → List Scanned → Option (List Part)
 plan_by slot None scanned = None
@@ -191,7 +194,7 @@ plan_by slot (Some l) scanned = Some (plan_of slot (layout_of l.table) scanned)
 -- the partitions of a table, with what their stores hold
 pub record AreRead
     (modelled : Type 0)
-    (fewer : Bool)
+    (fewer may : Bool)
     (slot : ℕ)
     (t : Table)
     (statuses : List (Option PartStatus))
@@ -201,13 +204,13 @@ pub record AreRead
   pub parts_are : parts ≡ plan_of slot (layout_of t) scanned
   pub are : All (IsScanned slot (layout_of t)) scanned
   pub read : modelled
-      → scans_in (map (wanted_for fewer slot (layout_of t)) (written_in statuses)) image
+      → scans_in (map (wanted_for fewer may slot (layout_of t)) (written_in statuses)) image
       ≡ Ok scanned
 
 -- those of the table that is read through stores, where there is one
 pub record IsPlanRead
     (modelled : Type 0)
-    (fewer : Bool)
+    (fewer may : Bool)
     (slot : ℕ)
     (through : Option Loaded)
     (statuses : List (Option PartStatus))
@@ -217,7 +220,7 @@ pub record IsPlanRead
   pub plan_is : plan ≡ plan_by slot through scanned
   pub are : IfSome through (λ l. All (IsScanned slot (layout_of l.table)) scanned)
   pub read : modelled
-      → scans_in (stores_by fewer slot through (written_in statuses)) image ≡ Ok scanned
+      → scans_in (stores_by fewer may slot through (written_in statuses)) image ≡ Ok scanned
 
 -- whether nothing more needs to be written, where these partitions are read through stores
 abbrev pub is_target_ready : Option (List Part) → Bool

@@ -1,7 +1,9 @@
 -- What opening a device may write, and what it leaves behind a merge that has ended.
 use Rattle.std.specs.Prelude.{◌≡◌, ◌⊎◌, ℕ, List, Some, Ok}
 use Rattle.vab_disk.specs.Disk.{Image}
-use Rattle.vab_marks.specs.Mark.{mark_of, idle_mark}
+use Rattle.vab_marks.specs.declared.mark.MarkPhase.TheVariants as marks
+use Rattle.vab_marks.specs.declared.mark.UpdateMark.{UpdateMark}
+use Rattle.vab_marks.specs.Mark.{mark_of, rephased}
 use Rattle.vab_tables.specs.declared.table.Table.{Table}
 use Rattle.vab_geometry.specs.declared.geometry.Geometry.{Geometry}
 use Rattle.vab_lpstore.specs.Loading.{slot_table}
@@ -29,27 +31,30 @@ HasVersion2 image = version_at image ≡ Two
 
 -- the mark doesn't say that a merge has ended
 abbrev pub HasNoneCompleted : Image → Type 0
-HasNoneCompleted image = (slot : ℕ) → HasCompleted slot image → ⊥
+HasNoneCompleted image = (m : UpdateMark) → HasCompleted m image → ⊥
 
 -- Where a merge of a slot had ended, the table of the slot alone is kept, unless it had no other
 -- partitions and groups, or the text is longer than a copy may be.
 abbrev pub KeepsTidy : Device → Image → Type 0
-KeepsTidy d old = (slot : ℕ) (t : Table)
-    → HasCompleted slot old
-    → slot_table d.geometry slot old ≡ Ok t
-    → table_of_slot d slot ≡ Some (tidy_table d.geometry.max slot t)
+KeepsTidy d old = (m : UpdateMark) (t : Table)
+    → HasCompleted m old
+    → slot_table d.geometry m.slot old ≡ Ok t
+    → table_of_slot d m.slot ≡ Some (tidy_table d.geometry.max m.slot t)
 
--- Then no mark says that a merge has ended; where one said so, it says that there is no update.
+-- Then no mark says that a merge has ended; where one said so, it says that there is no update, and
+-- what else it said.
 pub record IsTidied (d : Device) (old new : Image) : Type 0 where
   pub none : HasNoneCompleted new
-  pub mark : (slot : ℕ) → HasCompleted slot old → mark_of (new 2048) ≡ Ok (idle_mark slot)
+  pub mark : (m : UpdateMark)
+      → HasCompleted m old
+      → mark_of (new 2048) ≡ Ok (rephased marks.Idle m)
   pub table : KeepsTidy d old
 
 -- Where a merge of a slot had ended, the mark says so still, or the table that is to be left stands
 -- on the disk. So where power is cut before the mark is written, the next opening goes on.
 abbrev pub GoesOn : ℕ → Image → Image → Type 0
-GoesOn size old image = (slot : ℕ) (g : Geometry) (t : Table)
-    → HasCompleted slot old
+GoesOn size old image = (m : UpdateMark) (g : Geometry) (t : Table)
+    → HasCompleted m old
     → geometry_at size old ≡ Ok g
-    → slot_table g slot old ≡ Ok t
-    → HasCompleted slot image ⊎ (slot_table g slot image ≡ Ok (tidy_table g.max slot t))
+    → slot_table g m.slot old ≡ Ok t
+    → HasCompleted m image ⊎ (slot_table g m.slot image ≡ Ok (tidy_table g.max m.slot t))

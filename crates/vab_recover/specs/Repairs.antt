@@ -24,7 +24,7 @@ pub record IsRepair (size : ℕ) (image : Image) (s : ℕ) (b : List ℕ) : Type
   pub read : Read
   pub reads : Reads size read image
   pub slot : ℕ
-  pub is_read : IsOneOf slot ((phase_at read.mark.phase).tables read.mark.slot)
+  pub is_read : IsOneOf slot (phase_at read.mark).tables
   pub table : Loaded
   pub loaded : IsLoadedAt read.geometry slot image table
   pub writes : IsOfRepair table.primary table.backup read.geometry slot table.text s b
@@ -33,6 +33,6 @@ pub record IsRepair (size : ℕ) (image : Image) (s : ℕ) (b : List ℕ) : Type
 abbrev pub BothCopiesHold : ℕ → Image → Type 0
 BothCopiesHold size image = (r : Read) (slot : ℕ) (l : Loaded)
     → Reads size r image
-    → IsOneOf slot ((phase_at r.mark.phase).tables r.mark.slot)
+    → IsOneOf slot (phase_at r.mark).tables
     → IsLoadedAt r.geometry slot image l
     → BothHold r.geometry slot l.text image

@@ -2,7 +2,8 @@
 
 ghost use Rattle.std.specs.Prelude.{◌≡◌, ◌<◌, ◌≤◌, ℕ, IfOk, OnOk, IfErr, OnErr, Err, ◌==◌};
 ghost use Rattle.std.specs.Prelude.{if◌then◌else◌, Some, None, IsNone, IfSome, true, [], ◌∷◌};
-ghost use Rattle.vab_tables.specs.Rules.{KeepsRules};
+ghost use Rattle.std.specs.Prelude.{length};
+ghost use Rattle.vab_tables.specs.Rules.{KeepsRules, IsPartition};
 ghost use Rattle.vab_layout.specs.Layout.{layout_of};
 ghost use Rattle.vab_layout.specs.Slots.{IsOwn};
 ghost use Rattle.vab_names.specs.Names.{most_partitions};
@@ -13,8 +14,11 @@ ghost use Rattle.vab_device.specs.Faults.{IsOfContents, IsOfDisk};
 ghost use Rattle.vab_bootctl.specs.Control.{Fits};
 ghost use Rattle.vab_device.specs.Phases.{slot_checks, own_check, update_checks, is_good};
 ghost use Rattle.vab_device.specs.Phases.{is_ready, are_ready, may_run, merging_check};
+ghost use Rattle.vab_device.specs.Phases.{first_store, no_store_check};
+ghost use Rattle.vab_layout.specs.Layout.{part_of};
 ghost use Rattle.vab_device.specs.Idle.{control_read_of};
-ghost use Rattle.vab_device.specs.Kept.{AreOfUpdate, has_both, has_slot, parts_of};
+ghost use Rattle.vab_device.specs.Kept.{AreOfUpdate, HasNoStores, has_both, has_slot, is_no_store};
+ghost use Rattle.vab_device.specs.Kept.{parts_of};
 ghost use Rattle.vab_recover.specs.Opened.{fault_of, IsAssembled, is_merging, is_target_ready};
 ghost use Rattle.vab_recover.specs.Opened.{planned_by, slots_fault};
 
@@ -22,13 +26,14 @@ use crate::read::{has_both, is_merging};
 use crate::table::Tables;
 use std::alloc::Global;
 use vab_bootctl::{Control, Info};
-use vab_bytes::Listing;
+use vab_bytes::{Listing, Name36};
 use vab_device::{Device, Part, PartImage, StartFault};
 use vab_geometry::Geometry;
 use vab_marks::{MarkPhase, UpdateMark};
+use vab_names::store_group;
 use vab_partitions::{bad_merging, bad_partition, bad_target, has_twins, same_device};
 use vab_plan::{limits, parts};
-use vab_tables::Table;
+use vab_tables::{Partition, Table};
 
 // Whether a slot may be booted as one that works.
 fn is_good(info: &Info) -> bool
@@ -173,24 +178,64 @@ fn judge_own(alloc: Global, table: &Table, slot: usize, most: usize) -> Result<(
     }
 }
 
-// Whether both tables are those of an update from this slot.
+// Whether a partition isn't in the stores' group.
+fn is_no_store(table: &Table, partition: &Partition) -> bool
+    requires { IsPartition table.now.minor (length table.now.extents)
+        (length table.now.groups) partition.now }
+    ensures { result ≡ is_no_store (part_of table.now partition.now) }
+{
+    table.groups.as_slice()[partition.group as usize].name != store_group()
+}
+
+// The first partition in the stores' group.
+fn first_store(table: &Table) -> Option<Name36>
+    requires { KeepsRules table.now }
+    ensures { result ≡ first_store (layout_of table.now).parts }
+{
+    for partition in table.partitions.as_slice() {
+        if !is_no_store(table, partition) {
+            return Some(partition.name);
+        }
+    }
+    None
+}
+
+// Whether no partition of a target that stands apart is in the stores' group.
+fn judge_stores(table: &Table, apart: bool) -> Result<(), StartFault>
+    requires { KeepsRules table.now }
+    ensures kept { OnOk result (no_store_check apart table.now ≡ None) }
+    ensures fault { IfErr result (λ f. no_store_check apart table.now ≡ Some f) }
+    ensures none { OnOk result (HasNoStores apart (layout_of table.now).parts) }
+    ensures kind { IfErr result IsOfContents }
+{
+    if !apart {
+        return Ok(());
+    }
+    match first_store(table) {
+        None => Ok(()),
+        Some(name) => Err(StartFault::BadPartition(name)),
+    }
+}
+
+// Whether both tables are those of an update from this slot, whose target stands apart or not.
 fn judge_update(
     alloc: Global,
     source: &Table,
     target: &Table,
     slot: usize,
     most: usize,
+    apart: bool,
 ) -> Result<(), StartFault>
     requires slot { slot < 2 }
     requires most { most ≤ most_partitions }
     requires source_keeps { KeepsRules source.now }
     requires target_keeps { KeepsRules target.now }
     ensures kept { OnOk result
-        (first_fault (update_checks most slot source.now target.now) ≡ None) }
+        (first_fault (update_checks apart most slot source.now target.now) ≡ None) }
     ensures fault { IfErr result (λ f. IsOfContents f
-        → first_fault (update_checks most slot source.now target.now) ≡ Some f) }
+        → first_fault (update_checks apart most slot source.now target.now) ≡ Some f) }
     ensures own { OnOk result (IsOwn slot (layout_of source.now).parts) }
-    ensures update { OnOk result (AreOfUpdate slot source.now target.now) }
+    ensures update { OnOk result (AreOfUpdate apart slot source.now target.now) }
     ensures kind { IfErr result (λ f. IsOfDisk f → ⊥) }
 {
     if !same_device(source, target) || !has_twins(source, target, 1 - slot) {
@@ -198,8 +243,8 @@ fn judge_update(
     }
     match judge_own(alloc, source, slot, most) {
         Err(fault) => Err(fault),
-        Ok(()) => match bad_target(alloc, source, target, 1 - slot, most) {
-            Ok(None) => Ok(()),
+        Ok(()) => match bad_target(alloc, source, target, 1 - slot, most, apart) {
+            Ok(None) => judge_stores(target, apart),
             Ok(Some(name)) => Err(StartFault::BadPartition(name)),
             Err(_) => Err(StartFault::NoMemory),
         },
@@ -229,9 +274,9 @@ fn judge_one(alloc: Global, table: &Table, mark: &UpdateMark, most: usize) -> Re
     requires slot { mark.now.slot < 2 }
     requires most { most ≤ most_partitions }
     requires keeps { KeepsRules table.now }
-    ensures kept { OnOk result (fault_of most mark.now.phase mark.now.slot table.now None ≡ None) }
+    ensures kept { OnOk result (fault_of most mark.now table.now None ≡ None) }
     ensures fault { IfErr result (λ f. IsOfContents f
-        → fault_of most mark.now.phase mark.now.slot table.now None ≡ Some f) }
+        → fault_of most mark.now table.now None ≡ Some f) }
     ensures own { OnOk result (IsOwn mark.now.slot (layout_of table.now).parts) }
     ensures merging { OnOk result (is_merging mark.now.phase ≡ true
         → IsMerging mark.now.slot (layout_of table.now).parts) }
@@ -256,14 +301,14 @@ pub fn judge_parts(
     requires most { most ≤ most_partitions }
     requires source { KeepsRules tables.now.source.table }
     requires target { IfSome tables.now.target (λ l. KeepsRules l.table) }
-    ensures kept { OnOk result (fault_of most mark.now.phase mark.now.slot
+    ensures kept { OnOk result (fault_of most mark.now
         tables.now.source.table tables.now.target ≡ None) }
     ensures fault { IfErr result (λ f. IsOfContents f
-        → fault_of most mark.now.phase mark.now.slot tables.now.source.table tables.now.target
+        → fault_of most mark.now tables.now.source.table tables.now.target
         ≡ Some f) }
     ensures own { OnOk result (IsOwn mark.now.slot (layout_of tables.now.source.table).parts) }
     ensures update { OnOk result (IfSome tables.now.target
-        (λ l. AreOfUpdate mark.now.slot tables.now.source.table l.table)) }
+        (λ l. AreOfUpdate mark.now.apart mark.now.slot tables.now.source.table l.table)) }
     ensures merging { OnOk result (IsNone tables.now.target
         → is_merging mark.now.phase ≡ true
         → IsMerging mark.now.slot (layout_of tables.now.source.table).parts) }
@@ -271,7 +316,14 @@ pub fn judge_parts(
 {
     match &tables.target {
         None => judge_one(alloc, &tables.source.table, mark, most),
-        Some(target) => judge_update(alloc, &tables.source.table, &target.table, mark.slot, most),
+        Some(target) => judge_update(
+            alloc,
+            &tables.source.table,
+            &target.table,
+            mark.slot,
+            most,
+            mark.apart,
+        ),
     }
 }
 

@@ -3,7 +3,7 @@
 ghost use Rattle.std.specs.Prelude.{◌≡◌, ◌<◌, ◌≤◌, ◌^◌, Bool, IfOk, IfErr, Ok, Err};
 ghost use Rattle.vab_disk.specs.Calls.{OnlyReads};
 ghost use Rattle.vab_bootctl.specs.Control.{Fits, control_of};
-ghost use Rattle.vab_marks.specs.Mark.{mark_of};
+ghost use Rattle.vab_marks.specs.Mark.{mark_of, MayStandApart};
 ghost use Rattle.vab_geometry.specs.Geometry.{IsGeometry};
 ghost use Rattle.vab_device.specs.Faults.{Answers, IsOfContents, IsOfDisk};
 ghost use Rattle.vab_device.specs.Kept.{copies_end, super_bytes, has_both, reads_both, IsPhase};
@@ -47,11 +47,8 @@ pub fn reads_both(phase: MarkPhase) -> bool
     ensures { result ≡ reads_both phase }
 {
     match phase {
-        MarkPhase::Idle => false,
-        MarkPhase::Installing => true,
-        MarkPhase::Staged => true,
-        MarkPhase::Merging => false,
-        MarkPhase::Completed => false,
+        MarkPhase::Installing | MarkPhase::Staged => true,
+        _ => false,
     }
 }
 
@@ -60,11 +57,8 @@ pub fn has_both(phase: MarkPhase) -> bool
     ensures { result ≡ has_both phase }
 {
     match phase {
-        MarkPhase::Idle => false,
-        MarkPhase::Installing => false,
         MarkPhase::Staged => true,
-        MarkPhase::Merging => false,
-        MarkPhase::Completed => false,
+        _ => false,
     }
 }
 
@@ -73,11 +67,8 @@ pub fn reads_statuses(phase: MarkPhase) -> bool
     ensures { result ≡ reads_statuses phase }
 {
     match phase {
-        MarkPhase::Idle => false,
-        MarkPhase::Installing => true,
-        MarkPhase::Staged => true,
-        MarkPhase::Merging => true,
-        MarkPhase::Completed => false,
+        MarkPhase::Installing | MarkPhase::Staged | MarkPhase::Merging => true,
+        _ => false,
     }
 }
 
@@ -86,11 +77,8 @@ pub fn is_merging(phase: MarkPhase) -> bool
     ensures { result ≡ is_merging phase }
 {
     match phase {
-        MarkPhase::Idle => false,
-        MarkPhase::Installing => false,
-        MarkPhase::Staged => false,
         MarkPhase::Merging => true,
-        MarkPhase::Completed => false,
+        _ => false,
     }
 }
 
@@ -100,11 +88,8 @@ fn settled(phase: MarkPhase) -> MarkPhase
     ensures phase { IsPhase result }
 {
     match phase {
-        MarkPhase::Idle => MarkPhase::Idle,
-        MarkPhase::Installing => MarkPhase::Installing,
-        MarkPhase::Staged => MarkPhase::Staged,
-        MarkPhase::Merging => MarkPhase::Merging,
         MarkPhase::Completed => MarkPhase::Idle,
+        phase => phase,
     }
 }
 
@@ -114,12 +99,10 @@ fn known_mark(sector: &[u8; 512]) -> Result<UpdateMark, StartFault>
     ensures kind { IfErr result IsOfContents }
     ensures phase { IfOk result (λ m. IsPhase m.phase) }
     ensures slot { IfOk result (λ m. m.slot < 2) }
+    ensures apart { IfOk result MayStandApart }
 {
     match decode_mark(sector) {
-        Ok(mark) => Ok(UpdateMark {
-            phase: settled(mark.phase),
-            slot: mark.slot,
-        }),
+        Ok(mark) => Ok(mark.with_phase(settled(mark.phase))),
         Err(_) => Err(StartFault::BadMark(MARK_SECTOR)),
     }
 }
@@ -132,6 +115,7 @@ pub fn read_mark<D: Disk>(d: &mut D) -> Result<UpdateMark, StartFault>
     ensures named { IfErr result IsNamed }
     ensures phase { IfOk result (λ m. IsPhase m.phase) }
     ensures slot { IfOk result (λ m. m.slot < 2) }
+    ensures apart { IfOk result MayStandApart }
     ensures reads { OnlyReads D.Disk d.old d.new }
     ensures counts { CountsFaults D.Disk d.old d.new result }
 {

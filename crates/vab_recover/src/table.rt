@@ -154,11 +154,11 @@ pub fn read_tables<D: Disk>(
     requires copies_on { copies_end geometry.now ≤ super_bytes (D.size d.old) }
     ensures ok { D.is_modelled → IfOk result (λ t.
         tables_in (D.size d.old) geometry.now
-        ((phase_at mark.now.phase).tables mark.now.slot) (D.seen d.old)
+        (phase_at mark.now).tables (D.seen d.old)
         ≡ Ok (tables_of t)) }
     ensures fault { D.is_modelled → IfErr result (λ f. IsOfContents f
         → tables_in (D.size d.old) geometry.now
-        ((phase_at mark.now.phase).tables mark.now.slot) (D.seen d.old)
+        (phase_at mark.now).tables (D.seen d.old)
         ≡ Err f) }
     ensures loaded { D.is_modelled → IfOk result
         (AreLoaded geometry.now mark.now.slot (D.seen d.old)) }

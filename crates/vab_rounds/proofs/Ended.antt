@@ -11,7 +11,7 @@ use Rattle.vab_model.specs.declared.state.Image.{Image as ImageOfSlot}
 use Rattle.vab_model.specs.declared.state.Phase.{Phase}
 use Rattle.vab_model.specs.declared.state.Phase.TheVariants.{Idle, Installing, Staged, Merging}
 use Rattle.vab_model.specs.declared.command.Refusal.TheVariants.{NotIdle}
-use Rattle.vab_model.specs.Commands.{Command, Begin, Finish, SetActive}
+use Rattle.vab_model.specs.Commands.{Command, Begin, Factory, Finish, SetActive, Merge}
 use Rattle.vab_model.specs.Effects.{Effect, IsOneOf, refuses, last_of, after_of}
 use Rattle.vab_model.specs.Kinds.{is_of_installation, turns_of}
 use Rattle.vab_device.specs.Mounted.{Mounted}
@@ -21,10 +21,12 @@ use Rattle.vab_fbproto.specs.Requests.{request_of}
 use Rattle.vab_fbproto.specs.declared.request.BadCommand.{BadCommand}
 use Rattle.vab_exchanges.specs.Session.{Exchange}
 use Rattle.vab_exchanges.specs.Items.{Response, Kept, Item, item_by, item_of, item_open, items_of}
-use Rattle.vab_exchanges.specs.Items.{item_asked, kept_after, unless_refused, no_memory}
+use Rattle.vab_exchanges.specs.Items.{item_asked, kept_after, unless_refused, no_memory, later_of}
+use Rattle.vab_exchanges.specs.Items.{passed, item_behind, open_behind, closing_of}
+use Rattle.vab_exchanges.proofs.RunLaws.{item_begins, open_begins}
 use Rattle.vab_exchanges.specs.Runs.{steps_at}
 use Rattle.vab_session.specs.Alone.{IsAlone}
-use Rattle.vab_session.specs.Responses.{response}
+use Rattle.vab_session.specs.Responses.{response, turns_between, machine}
 use Rattle.vab_session.specs.Served.{nothing_staged}
 use Rattle.vab_session.proofs.AloneLaws.{alone_effect, last_alone, item_alone}
 use Rattle.vab_update.specs.Install.{image_orders, order}
@@ -37,12 +39,15 @@ use Rattle.vab_update.specs.Install.{install_effect}
 use Rattle.vab_cli.specs.Installing.{install_item, left_behind}
 use Rattle.vab_cli.specs.Verbs.{line_item, verb_item}
 use Rattle.vab_rounds.specs.Rounds.{Run, Serves, Carries, Installs, Tells, Lives, items_in}
+use Rattle.vab_rounds.specs.Rounds.{closing_in}
 use Rattle.vab_rounds.specs.Folds.{Cut, after_items, after_cut}
-use Rattle.vab_rounds.specs.Merges.{asks_update, turns_asked, turns_in, turns_by, turns_done}
+use Rattle.vab_rounds.specs.Merges.{asks_update, turns_before, turns_asked, turns_in, turns_by}
+use Rattle.vab_rounds.specs.Merges.{turns_done}
 use Rattle.vab_rounds.specs.Merges.{turns_by_all, IsMerged}
-use Rattle.vab_rounds.specs.Ended.{IsMoment, turns_behind, HasEnded}
-use Rattle.vab_rounds.proofs.Folding.{cut_steps}
-use Rattle.vab_rounds.proofs.Merging.{IsDue, command_steps, command_last, exchange_due}
+use Rattle.vab_rounds.specs.Ended.{IsMoment, turns_behind, front_in, EndsIn, HasEnded}
+use Rattle.vab_rounds.proofs.Folding.{last_taken}
+use Rattle.vab_rounds.proofs.Merging.{IsDue, command_steps, command_last, exchange_due, less_due}
+use Rattle.vab_rounds.proofs.Merging.{before_last, passed_alone}
 use Rattle.vab_rounds.proofs.Merging.{ends_nothing, asks_no_end}
 
 -- ---- what begins or ends an installation does nothing while a merge is under way
@@ -51,11 +56,11 @@ abbrev IsUnderWay : Phase → Type 0
 IsUnderWay (Merging target still) = Unit {0}
 IsUnderWay _ = ⊥
 
-begin_refused : (m : Mounted) (phase : Phase)
+begin_refused : (m : Mounted) (apart : Bool) (phase : Phase)
     → IsUnderWay phase
-    → begin_effect m phase ≡ refuses NotIdle
-begin_refused m (Merging target still) is = refl
-begin_refused m _ is = absurd is
+    → begin_effect m apart phase ≡ refuses NotIdle
+begin_refused m apart (Merging target still) is = refl
+begin_refused m apart _ is = absurd is
 
 finish_none : (m : Mounted) (phase : Phase) → IsUnderWay phase → (finish_effect m phase).later ≡ []
 finish_none m (Merging target still) is = refl
@@ -66,12 +71,15 @@ of_installation : (m : Mounted) (staged : Option (List ℕ)) (c : Command)
     → IsUnderWay m.state.phase
     → (effect_on m staged c).later ≡ []
 of_installation m staged Begin of is =
-    ap (λ (e : Effect Mounted). e.later) (begin_refused m m.state.phase is)
+    ap (λ (e : Effect Mounted). e.later) (begin_refused m false m.state.phase is)
+of_installation m staged Factory of is =
+    ap (λ (e : Effect Mounted). e.later) (begin_refused m true m.state.phase is)
 of_installation m staged Finish of is = finish_none m m.state.phase is
 of_installation m staged _ of is = absurd cc
 
 no_turns : (c : Command) → is_of_installation c ≡ true → turns_of c ≡ 0
 no_turns Begin of = refl
+no_turns Factory of = refl
 no_turns Finish of = refl
 no_turns _ of = absurd cc
 
@@ -88,7 +96,7 @@ install_refused m set is =
     ∷ order (SetActive (other_slot source))
     ∷ [] in
     ap (λ (e : Effect Mounted). followed e (effect_all rest (after_of m e)))
-    (begin_refused m m.state.phase is)
+    (begin_refused m false m.state.phase is)
 
 -- and a life ends there
 life_items : (m : Mounted) (made : List ℕ) (next : List SetImage)
@@ -290,143 +298,322 @@ module _ (target : ℕ) (images : List ImageOfSlot) (left : ℕ) where
         }
   ]
 
+  -- ---- turns between two packets
+
+  less_goes : (asked n : ℕ) (m : Mounted) → Goes (asked + n) m → Goes asked m
+  less_goes asked n m is =
+      record { alone = is.alone; due = less_due left asked n m.state.phase is.due }
+
+  less_left : (asked n : ℕ) (phase : Phase) → IsLeft (asked + n) phase → IsLeft asked phase
+  less_left asked n (Merging slot still) is = omega (arith, is)
+  less_left asked n _ is = absurd is
+
+  merges_less : (asked n : ℕ) (m : Mounted) → Merges (asked + n) m → Merges asked m
+  merges_less asked n m is =
+      record { alone = is.alone; still = less_left asked n m.state.phase is.still }
+
+  -- each of the turns, and what they leave
+  between_goes : (asked turns : ℕ) (m : Mounted)
+      → Merges asked m
+      → AllGo asked (m ∷ turns_between turns m)
+  between_goes asked turns m is x (inl here) = subst (Goes asked) (sym here) (goes asked m is)
+  between_goes asked turns m is x (inr there) = command_goes asked m None (Merge turns) is x there
+
+  passed_goes : (asked turns : ℕ) (k : Kept Mounted)
+      → Merges asked k.now
+      → Goes (asked + turns_before turns k.now.state.phase) (passed (machine turns) k).now
+  passed_goes asked turns k is = record {
+    alone = passed_alone target images turns k is.alone;
+    due =
+        before_last left asked turns k.now k.now.state.phase refl
+        (left_due asked k.now.state.phase is.still);
+  }
+
+  -- some first ones of some and of others behind them
+  taken : (s : Mounted) (xs ys : List Mounted) (j : ℕ)
+      → IsOneOf (s ∷ xs) (last_of s (take j (xs ++ ys)))
+      ⊎ ((length xs ≤ j) × IsOneOf (last_of s xs ∷ ys) (last_of s (take j (xs ++ ys))))
+  taken s [] ys j = inr (omega arith, last_taken s ys j)
+  taken s (x ∷ xs) ys zero = inl (inl refl)
+  taken s (x ∷ xs) ys (suc j) = elim (taken x xs ys j) [
+    | inl at ↦ inl (inr at)
+    | inr beyond ↦ inr (omega (arith, beyond.0), beyond.1)
+  ]
+
   -- ---- items behind a moment
 
-  -- it had ended behind some of the first `whole` items, not before so many of them
-  abbrev EndsBehind : Mounted → List (Item Mounted) → (from whole : ℕ) → Type 0
-  EndsBehind m items from whole =
-      (n : ℕ)
+  -- It had ended behind some of the first `whole` items, not before so many of them, or behind the
+  -- turns before the next one of these.
+  abbrev EndsBehind : (front : Mounted → List Mounted)
+      → Mounted
+      → List (Item Mounted)
+      → (from whole : ℕ)
+      → Type 0
+  EndsBehind front m items from whole =
+      ((n : ℕ) × (from ≤ n) × (n ≤ whole) × IsMerged target images (after_items m items n))
+      ⊎ ((n : ℕ)
       × (from ≤ n)
-      × (n ≤ whole)
-      × IsMerged target images (after_items m items n)
+      × (n < whole)
+      × IsMerged target images
+      (last_of (after_items m items n) (front (after_items m items n))))
+
+  -- A step of the next item: it goes on, or it had ended behind the turns before that.
+  abbrev StepGoes : (front : Mounted → List Mounted) → ℕ → Mounted → List Mounted → ℕ → Type 0
+  StepGoes front asked m later j =
+      Goes asked (last_of m (take j later))
+      ⊎ ((length (front m) ≤ j) × IsMerged target images (last_of m (front m)))
 
   -- it goes on behind them, and in each step of the next one
-  record GoesOn (asked : ℕ) (m : Mounted) (items : List (Item Mounted)) (whole : ℕ) : Type 0 where
+  record GoesOn (front : Mounted → List Mounted) (closing : List Mounted) (asked : ℕ) (m : Mounted)
+      (items : List (Item Mounted)) (whole : ℕ) : Type 0 where
     at : Merges asked (after_items m items whole)
-    steps : AllGo asked (steps_at m items whole)
+    steps : (j : ℕ)
+        → StepGoes front asked (after_items m items whole)
+        (later_of (steps_at closing m items whole)) j
 
-  abbrev Ends : ℕ → Mounted → List (Item Mounted) → (from whole : ℕ) → Type 0
-  Ends asked m items from whole = EndsBehind m items from whole ⊎ GoesOn asked m items whole
+  abbrev Ends : (front : Mounted → List Mounted)
+      → (closing : List Mounted)
+      → ℕ
+      → Mounted
+      → List (Item Mounted)
+      → (from whole : ℕ)
+      → Type 0
+  Ends front closing asked m items from whole =
+      EndsBehind front m items from whole ⊎ GoesOn front closing asked m items whole
 
-  -- the same number
-  ends_at : (n k : ℕ) (m : Mounted) (items : List (Item Mounted)) (from whole : ℕ)
-      → n ≡ k
-      → Ends n m items from whole
-      → Ends k m items from whole
-  ends_at n k m items from whole same is =
-      subst (λ (j : ℕ). Ends j m items from whole) same is
+  module _ (front : Mounted → List Mounted) (closing : List Mounted) where
+    -- all of its steps go on
+    all_go : (asked : ℕ) (m : Mounted) (later : List Mounted)
+        → AllGo asked (m ∷ later)
+        → (j : ℕ)
+        → StepGoes front asked m later j
+    all_go asked m later go j = inl (go (last_of m (take j later)) (last_taken m later j))
 
-  -- nothing more is done
-  rests : (asked : ℕ) (m : Mounted) (from whole : ℕ) → Merges asked m → Ends asked m [] from whole
-  rests asked m from whole is = inr (record { at = is; steps = one_goes asked m (goes asked m is) })
+    -- the same number
+    ends_at : (n k : ℕ) (m : Mounted) (items : List (Item Mounted)) (from whole : ℕ)
+        → n ≡ k
+        → Ends front closing n m items from whole
+        → Ends front closing k m items from whole
+    ends_at n k m items from whole same is =
+        subst (λ (j : ℕ). Ends front closing j m items from whole) same is
 
-  -- behind one item more
-  behind_one : (asked : ℕ) (m : Mounted) (i : Item Mounted) (items : List (Item Mounted))
-      (from whole : ℕ)
-      → Ends asked i.last.now items from whole
-      → Ends asked m (i ∷ items) (suc from) (suc whole)
-  behind_one asked m i items from whole (inl ends) =
-      inl (suc ends.0, omega (arith, ends.1), omega (arith, ends.2), ends.3)
-  behind_one asked m i items from whole (inr on) = inr (record { at = on.at; steps = on.steps })
+    -- nothing more is done
+    rests : (asked : ℕ) (m : Mounted) (from whole : ℕ)
+        → Merges asked m
+        → AllGo asked (m ∷ closing)
+        → Ends front closing asked m [] from whole
+    rests asked m from whole is go =
+        inr (record { at = is; steps = all_go asked m closing go })
 
-  -- from before it on
-  from_before : (asked : ℕ) (m : Mounted) (items : List (Item Mounted)) (from whole : ℕ)
-      → Ends asked m items from whole
-      → Ends asked m items 0 whole
-  from_before asked m items from whole (inl ends) =
-      inl (ends.0, omega arith, ends.2, ends.3)
-  from_before asked m items from whole (inr on) = inr on
+    -- behind one item more
+    behind_one : (asked : ℕ) (m : Mounted) (i : Item Mounted) (items : List (Item Mounted))
+        (from whole : ℕ)
+        → Ends front closing asked i.last.now items from whole
+        → Ends front closing asked m (i ∷ items) (suc from) (suc whole)
+    behind_one asked m i items from whole (inl (inl ends)) =
+        inl (inl (suc ends.0, omega (arith, ends.1), omega (arith, ends.2), ends.3))
+    behind_one asked m i items from whole (inl (inr ends)) =
+        inl (inr (suc ends.0, omega (arith, ends.1), omega (arith, ends.2), ends.3))
+    behind_one asked m i items from whole (inr on) =
+        inr (record { at = on.at; steps = on.steps })
 
-  -- the first item, and those behind it
-  one_more : (asked t : ℕ) (m : Mounted) (i : Item Mounted) (items : List (Item Mounted))
-      (whole : ℕ)
-      → Goes (asked + t) i.last.now
-      → (u : ℕ)
-      → (Merges (asked + t) i.last.now → Ends (asked + t + u) i.last.now items 0 whole)
-      → Ends (asked + (t + u)) m (i ∷ items) 0 (suc whole)
-  one_more asked t m i items whole last u rest = elim (either_of (asked + t) i.last.now last) [
-    | inl ended ↦
-        inl (
-          1,
-          omega arith,
-          omega arith,
-          subst (IsMerged target images) (sym (after_none i.last.now items)) ended,
-        )
-    | inr still ↦
-        let same : asked + t + u ≡ asked + (t + u) = omega arith in
-        ends_at (asked + t + u) (asked + (t + u)) m (i ∷ items) 0 (suc whole) same
-        (from_before (asked + t + u) m (i ∷ items) 1 (suc whole)
-        (behind_one (asked + t + u) m i items 0 whole (rest still)))
-  ]
+    -- from before it on
+    from_before : (asked : ℕ) (m : Mounted) (items : List (Item Mounted)) (from whole : ℕ)
+        → Ends front closing asked m items from whole
+        → Ends front closing asked m items 0 whole
+    from_before asked m items from whole (inl (inl ends)) =
+        inl (inl (ends.0, omega arith, ends.2, ends.3))
+    from_before asked m items from whole (inl (inr ends)) =
+        inl (inr (ends.0, omega arith, ends.2, ends.3))
+    from_before asked m items from whole (inr on) = inr on
+
+    -- the first item, and those behind it
+    one_more : (asked t : ℕ) (m : Mounted) (i : Item Mounted) (items : List (Item Mounted))
+        (whole : ℕ)
+        → Goes (asked + t) i.last.now
+        → (u : ℕ)
+        → (Merges (asked + t) i.last.now
+        → Ends front closing (asked + t + u) i.last.now items 0 whole)
+        → Ends front closing (asked + (t + u)) m (i ∷ items) 0 (suc whole)
+    one_more asked t m i items whole last u rest = elim (either_of (asked + t) i.last.now last) [
+      | inl ended ↦
+          inl (inl (
+            1,
+            omega arith,
+            omega arith,
+            subst (IsMerged target images) (sym (after_none i.last.now items)) ended,
+          ))
+      | inr still ↦
+          let same : asked + t + u ≡ asked + (t + u) = omega arith in
+          ends_at (asked + t + u) (asked + (t + u)) m (i ∷ items) 0 (suc whole) same
+          (from_before (asked + t + u) m (i ∷ items) 1 (suc whole)
+          (behind_one (asked + t + u) m i items 0 whole (rest still)))
+    ]
 
   -- ---- sessions
 
-  open_goes : (asked : ℕ) (k : Kept Mounted) (command : List ℕ)
-      → Merges asked k.now
-      → AllGo (asked + 0) (item_open response k command).steps
+  open_all : (asked : ℕ) (k : Kept Mounted) (command : List ℕ)
+      → Goes asked k.now
+      → AllGo asked (item_open response k command).steps
   unfolding item_open
-  open_goes asked k command is =
-      one_goes (asked + 0) k.now (goes_plain asked k.now (goes asked k.now is))
+  open_all asked k command is = one_goes asked k.now is
 
-  open_still : (asked : ℕ) (k : Kept Mounted) (command : List ℕ)
-      → Merges asked k.now
-      → Merges (asked + 0) (item_open response k command).last.now
+  open_last : (k : Kept Mounted) (command : List ℕ)
+      → (item_open response k command).last.now ≡ k.now
   unfolding item_open
-  open_still asked k command is = merges_plain asked k.now is
+  open_last k command = refl
 
-  session_ends : (asked : ℕ) (k : Kept Mounted) (exchanges : List Exchange)
-      (unfinished : Option (List ℕ)) (whole : ℕ)
+  -- the steps of an item behind the turns
+  behind_steps : (asked turns : ℕ) (k : Kept Mounted) (i : Item Mounted)
+      → i.steps ≡ (passed (machine turns) k).now ∷ later_of i.steps
       → Merges asked k.now
-      → Ends (asked + turns_in k (take whole exchanges)) k.now
-      (items_of response k exchanges unfinished) 0 whole
-  session_ends asked k [] None zero is =
-      rests (asked + 0) k.now 0 0 (merges_plain asked k.now is)
-  session_ends asked k [] None (suc n) is =
-      rests (asked + 0) k.now 0 (suc n) (merges_plain asked k.now is)
-  session_ends asked k [] (Some command) zero is = inr (record {
-    at = merges_plain asked k.now is;
-    steps = open_goes asked k command is;
-  })
-  session_ends asked k [] (Some command) (suc n) is =
-      from_before (asked + 0) k.now (item_open response k command ∷ []) 1 (suc n)
-      (behind_one (asked + 0) k.now (item_open response k command) [] 0 n
-      (rests (asked + 0) (item_open response k command).last.now 0 n
-      (open_still asked k command is)))
-  session_ends asked k (s ∷ ss) unfinished zero is = inr (record {
-    at = merges_plain asked k.now is;
-    steps = λ x at. goes_plain asked x ((exchange_goes asked k s is).steps x at);
-  })
-  session_ends asked k (s ∷ ss) unfinished (suc n) is =
-      let i : Item Mounted = item_of response k s in
-      let t : ℕ = turns_asked k.now.state.phase (request_of s.command) in
-      one_more asked t k.now i (items_of response i.last ss unfinished) n
-      (exchange_goes asked k s is).last
-      (turns_in i.last (take n ss))
-      (λ still. session_ends (asked + t) i.last ss unfinished n still)
+      → (Merges (asked + turns_before turns k.now.state.phase) (passed (machine turns) k).now
+      → AllGo (asked + turns_before turns k.now.state.phase) i.steps)
+      → (j : ℕ)
+      → StepGoes (turns_between turns) asked k.now
+      (turns_between turns k.now ++ later_of i.steps) j
+  behind_steps asked turns k i begins is go j =
+      let b : ℕ = turns_before turns k.now.state.phase in
+      let front : List Mounted = turns_between turns k.now in
+      let x : Mounted = last_of k.now (take j (front ++ later_of i.steps)) in
+      elim (taken k.now front (later_of i.steps) j) [
+        | inl at ↦ inl (between_goes asked turns k.now is x at)
+        | inr beyond ↦
+            elim
+            (either_of (asked + b) (passed (machine turns) k).now (passed_goes asked turns k is)) [
+              | inl ended ↦ inr (beyond.0, ended)
+              | inr still ↦
+                  inl (less_goes asked b x
+                  (go still x
+                  (subst (λ (l : List Mounted). IsOneOf l x) (sym begins) beyond.1)))
+            ]
+      ]
 
-  session_from : (asked : ℕ) (k : Kept Mounted) (exchanges : List Exchange)
-      (unfinished : Option (List ℕ)) (from whole : ℕ)
+  closing_goes : (asked turns : ℕ) (k : Kept Mounted) (waits : Bool)
+      → Merges asked k.now
+      → AllGo asked (k.now ∷ closing_of (machine turns) None waits k)
+  closing_goes asked turns k true is = between_goes asked turns k.now is
+  closing_goes asked turns k false is = one_goes asked k.now (goes asked k.now is)
+
+  all_plain : (asked : ℕ) (ms : List Mounted) → AllGo asked ms → AllGo (asked + 0) ms
+  all_plain asked ms go x at = goes_plain asked x (go x at)
+
+  session_ends : (asked turns : ℕ) (k : Kept Mounted) (exchanges : List Exchange)
+      (unfinished : Option (List ℕ)) (waits : Bool) (whole : ℕ)
+      → Merges asked k.now
+      → Ends (turns_between turns)
+      (closing_of (machine turns) unfinished waits (kept_after (machine turns) k exchanges))
+      (asked + turns_in turns k (take whole exchanges)) k.now
+      (items_of (machine turns) k exchanges unfinished) 0 whole
+  session_ends asked turns k [] None waits zero is =
+      rests (turns_between turns) (closing_of (machine turns) None waits k) (asked + 0) k.now 0 0
+      (merges_plain asked k.now is)
+      (all_plain asked (k.now ∷ closing_of (machine turns) None waits k)
+      (closing_goes asked turns k waits is))
+  session_ends asked turns k [] None waits (suc n) is =
+      rests (turns_between turns) (closing_of (machine turns) None waits k) (asked + 0) k.now 0
+      (suc n) (merges_plain asked k.now is)
+      (all_plain asked (k.now ∷ closing_of (machine turns) None waits k)
+      (closing_goes asked turns k waits is))
+  session_ends asked turns k [] (Some command) waits zero is =
+      let next : Kept Mounted = passed (machine turns) k in
+      let same : asked ≡ asked + 0 = sym (add-zero asked) in
+      inr (record {
+        at = merges_plain asked k.now is;
+        steps = λ j.
+            subst
+            (λ (n : ℕ).
+            StepGoes (turns_between turns) n k.now
+            (turns_between turns k.now ++ later_of (item_open response next command).steps) j)
+            same
+            (behind_steps asked turns k (item_open response next command)
+            (open_begins response next command) is
+            (λ still.
+            open_all (asked + turns_before turns k.now.state.phase) next command
+            (goes (asked + turns_before turns k.now.state.phase) next.now still)) j);
+      })
+  session_ends asked turns k [] (Some command) waits (suc n) is =
+      let next : Kept Mounted = passed (machine turns) k in
+      let b : ℕ = turns_before turns k.now.state.phase in
+      let i : Item Mounted = open_behind (machine turns) k command in
+      let last : Goes (asked + b) i.last.now =
+      subst (Goes (asked + b)) (sym (open_last next command)) (passed_goes asked turns k is) in
+      let same : asked + 0 ≡ asked + (0 + 0) = omega arith in
+      let back : asked + (0 + 0) ≡ asked + 0 = omega arith in
+      ends_at (turns_between turns) [] (asked + (0 + 0)) (asked + 0) k.now (i ∷ []) 0 (suc n) back
+      (one_more (turns_between turns) [] asked 0 k.now i [] n
+      (goes_plain asked i.last.now (less_goes asked b i.last.now last)) 0
+      (λ still.
+      rests (turns_between turns) [] (asked + 0 + 0) i.last.now 0 n
+      (merges_plain (asked + 0) i.last.now still)
+      (one_goes (asked + 0 + 0) i.last.now
+      (goes (asked + 0 + 0) i.last.now (merges_plain (asked + 0) i.last.now still)))))
+  session_ends asked turns k (s ∷ ss) unfinished waits zero is =
+      let next : Kept Mounted = passed (machine turns) k in
+      let same : asked ≡ asked + 0 = sym (add-zero asked) in
+      inr (record {
+        at = merges_plain asked k.now is;
+        steps = λ j.
+            subst
+            (λ (n : ℕ).
+            StepGoes (turns_between turns) n k.now
+            (turns_between turns k.now ++ later_of (item_of response next s).steps) j)
+            same
+            (behind_steps asked turns k (item_of response next s) (item_begins response next s) is
+            (λ still.
+            (exchange_goes (asked + turns_before turns k.now.state.phase) next s still).steps) j);
+      })
+  session_ends asked turns k (s ∷ ss) unfinished waits (suc n) is =
+      let next : Kept Mounted = passed (machine turns) k in
+      let b : ℕ = turns_before turns k.now.state.phase in
+      let i : Item Mounted = item_behind (machine turns) k s in
+      let t : ℕ = turns_asked next.now.state.phase (request_of s.command) in
+      let u : ℕ = turns_in turns i.last (take n ss) in
+      let closing : List Mounted =
+      closing_of (machine turns) unfinished waits (kept_after (machine turns) i.last ss) in
+      let same : asked + b + (t + u) ≡ asked + (b + (t + u)) = omega arith in
+      elim (either_of (asked + b) next.now (passed_goes asked turns k is)) [
+        | inl ended ↦ inl (inr (0, omega arith, omega arith, ended))
+        | inr still ↦
+            ends_at (turns_between turns) closing (asked + b + (t + u)) (asked + (b + (t + u)))
+            k.now (i ∷ items_of (machine turns) i.last ss unfinished) 0 (suc n) same
+            (one_more (turns_between turns) closing (asked + b) t k.now i
+            (items_of (machine turns) i.last ss unfinished) n
+            (exchange_goes (asked + b) next s still).last u
+            (λ more. session_ends (asked + b + t) turns i.last ss unfinished waits n more))
+      ]
+
+  session_from : (asked turns : ℕ) (k : Kept Mounted) (exchanges : List Exchange)
+      (unfinished : Option (List ℕ)) (waits : Bool) (from whole : ℕ)
       → from ≤ length exchanges
       → from ≤ whole
-      → Merges asked (after_items k.now (items_of response k exchanges unfinished) from)
-      → Ends
-      (asked + turns_in (kept_after response k (take from exchanges))
+      → Merges asked (after_items k.now (items_of (machine turns) k exchanges unfinished) from)
+      → Ends (turns_between turns)
+      (closing_of (machine turns) unfinished waits (kept_after (machine turns) k exchanges))
+      (asked + turns_in turns (kept_after (machine turns) k (take from exchanges))
       (drop from (take whole exchanges)))
-      k.now (items_of response k exchanges unfinished) from whole
-  session_from asked k exchanges unfinished zero whole few some is =
-      session_ends asked k exchanges unfinished whole
-      (subst (Merges asked) (after_none k.now (items_of response k exchanges unfinished)) is)
-  session_from asked k [] unfinished (suc n) whole few some is = absurd (omega (arith, few))
-  session_from asked k (s ∷ ss) unfinished (suc n) zero few some is =
+      k.now (items_of (machine turns) k exchanges unfinished) from whole
+  session_from asked turns k exchanges unfinished waits zero whole few some is =
+      session_ends asked turns k exchanges unfinished waits whole
+      (subst (Merges asked)
+      (after_none k.now (items_of (machine turns) k exchanges unfinished)) is)
+  session_from asked turns k [] unfinished waits (suc n) whole few some is =
+      absurd (omega (arith, few))
+  session_from asked turns k (s ∷ ss) unfinished waits (suc n) zero few some is =
       absurd (omega (arith, some))
-  session_from asked k (s ∷ ss) unfinished (suc n) (suc w) few some is =
-      let i : Item Mounted = item_of response k s in
-      behind_one
-      (asked + turns_in (kept_after response i.last (take n ss)) (drop n (take w ss)))
-      k.now i (items_of response i.last ss unfinished) n w
-      (session_from asked i.last ss unfinished n w (omega (arith, few)) (omega (arith, some)) is)
+  session_from asked turns k (s ∷ ss) unfinished waits (suc n) (suc w) few some is =
+      let i : Item Mounted = item_behind (machine turns) k s in
+      behind_one (turns_between turns)
+      (closing_of (machine turns) unfinished waits (kept_after (machine turns) i.last ss))
+      (asked + turns_in turns (kept_after (machine turns) i.last (take n ss)) (drop n (take w ss)))
+      k.now i (items_of (machine turns) i.last ss unfinished) n w
+      (session_from asked turns i.last ss unfinished waits n w (omega (arith, few))
+      (omega (arith, some)) is)
 
   -- ---- runs
+
+  abbrev no_front : Mounted → List Mounted
+  no_front m = []
 
   -- an item that changes nothing, and those behind it
   still_item : (asked : ℕ) (m : Mounted) (i : Item Mounted) (items : List (Item Mounted))
@@ -434,39 +621,51 @@ module _ (target : ℕ) (images : List ImageOfSlot) (left : ℕ) where
       → i.steps ≡ m ∷ []
       → i.last.now ≡ m
       → Merges asked m
-      → ((n : ℕ) → Ends asked m items 0 n)
-      → Ends asked m (i ∷ items) 0 whole
+      → ((n : ℕ) → Ends no_front [] asked m items 0 n)
+      → Ends no_front [] asked m (i ∷ items) 0 whole
   still_item asked m i items zero steps last is rest = inr (record {
     at = is;
-    steps = subst (AllGo asked) (sym steps) (one_goes asked m (goes asked m is));
+    steps =
+        subst
+        (λ (l : List Mounted). (j : ℕ) → StepGoes no_front asked m (later_of l) j) (sym steps)
+        (all_go no_front [] asked m [] (one_goes asked m (goes asked m is)));
   })
   still_item asked m i items (suc n) steps last is rest =
-      from_before asked m (i ∷ items) 1 (suc n)
-      (behind_one asked m i items 0 n
-      (subst (λ (x : Mounted). Ends asked x items 0 n) (sym last) (rest n)))
+      from_before no_front [] asked m (i ∷ items) 1 (suc n)
+      (behind_one no_front [] asked m i items 0 n
+      (subst (λ (x : Mounted). Ends no_front [] asked x items 0 n) (sym last) (rest n)))
+
+  rests_here : (asked : ℕ) (m : Mounted) (from whole : ℕ)
+      → Merges asked m
+      → Ends no_front [] asked m [] from whole
+  rests_here asked m from whole is =
+      rests no_front [] asked m from whole is (one_goes asked m (goes asked m is))
 
   carried : (asked : ℕ) (m : Mounted) (c : Command) (whole : ℕ)
       → Merges asked m
-      → Ends (asked + turns_done whole c) m (verb_item m c ∷ []) 0 whole
+      → Ends no_front [] (asked + turns_done whole c) m (verb_item m c ∷ []) 0 whole
   carried asked m c zero is = inr (record {
     at = merges_plain asked m is;
-    steps = λ x at. goes_plain asked x (carried_step x at);
+    steps =
+        all_go no_front [] (asked + 0) m (effect_on m None c).later
+        (all_plain asked (m ∷ (effect_on m None c).later) carried_step);
   })
     where
-      carried_step : AllGo asked (verb_item m c).steps
+      carried_step : AllGo asked (m ∷ (effect_on m None c).later)
       carried_step x (inl here) = subst (Goes asked) (sym here) (goes asked m is)
       carried_step x (inr there) = command_goes asked m None c is x there
   carried asked m c (suc n) is =
       let t : ℕ = turns_of c in
-      ends_at (asked + (t + 0)) (asked + t) m (verb_item m c ∷ []) 0 (suc n) (omega arith)
-      (one_more asked t m (verb_item m c) [] n (command_lasts asked m None c is) 0
+      let same : asked + (t + 0) ≡ asked + t = omega arith in
+      ends_at no_front [] (asked + (t + 0)) (asked + t) m (verb_item m c ∷ []) 0 (suc n) same
+      (one_more no_front [] asked t m (verb_item m c) [] n (command_lasts asked m None c is) 0
       (λ still.
-      rests (asked + t + 0) (verb_item m c).last.now 0 n
+      rests_here (asked + t + 0) (verb_item m c).last.now 0 n
       (merges_plain (asked + t) (verb_item m c).last.now still)))
 
   installed : (asked : ℕ) (m : Mounted) (set : List SetImage) (whole : ℕ)
       → Merges asked m
-      → Ends asked m (install_item m set ∷ []) 0 whole
+      → Ends no_front [] asked m (install_item m set ∷ []) 0 whole
   installed asked m set whole is =
       let none : (install_effect m set).later ≡ [] =
       ap (λ (e : Effect Mounted). e.later)
@@ -474,36 +673,40 @@ module _ (target : ℕ) (images : List ImageOfSlot) (left : ℕ) where
       still_item asked m (install_item m set) [] whole
       (ap (λ (l : List Mounted). m ∷ l) none)
       (ap (λ (l : List Mounted). last_of m l) none)
-      is (λ n. rests asked m 0 n is)
+      is (λ n. rests_here asked m 0 n is)
 
   run_ends : (asked : ℕ) (m : Mounted) (run : Run) (from whole : ℕ)
       → IsMoment from run
       → from ≤ whole
       → Merges asked (after_items m (items_in m run) from)
-      → Ends (asked + turns_behind m from whole run) m (items_in m run) from whole
-  run_ends asked m (Serves exchanges unfinished) from whole moment some is =
-      session_from asked (nothing_staged m) exchanges unfinished from whole moment some is
+      → Ends (front_in run) (closing_in m run) (asked + turns_behind m from whole run) m
+      (items_in m run) from whole
+  run_ends asked m (Serves turns exchanges unfinished waits) from whole moment some is =
+      session_from asked turns (nothing_staged m) exchanges unfinished waits from whole moment some
+      is
   run_ends asked m (Carries c) zero whole moment some is = carried asked m c whole is
   run_ends asked m (Carries c) (suc n) zero moment some is = absurd (omega (arith, some))
   run_ends asked m (Carries c) (suc n) (suc w) moment some is =
       let last : Mounted = (verb_item m c).last.now in
-      behind_one (asked + 0) m (verb_item m c) [] n w
-      (rests (asked + 0) last n w (merges_plain asked last is))
+      behind_one no_front [] (asked + 0) m (verb_item m c) [] n w
+      (rests_here (asked + 0) last n w (merges_plain asked last is))
   run_ends asked m (Installs set) zero whole moment some is =
-      ends_at asked (asked + 0) m (install_item m set ∷ []) 0 whole (sym (add-zero asked))
-      (installed asked m set whole is)
+      ends_at no_front [] asked (asked + 0) m (install_item m set ∷ []) 0 whole
+      (sym (add-zero asked)) (installed asked m set whole is)
   run_ends asked m (Installs set) (suc n) whole moment some is = absurd (omega (arith, moment))
   run_ends asked m (Tells text) zero whole moment some is =
-      ends_at asked (asked + 0) m (line_item m text ∷ []) 0 whole (sym (add-zero asked))
-      (still_item asked m (line_item m text) [] whole refl refl is (λ n. rests asked m 0 n is))
+      ends_at no_front [] asked (asked + 0) m (line_item m text ∷ []) 0 whole
+      (sym (add-zero asked))
+      (still_item asked m (line_item m text) [] whole refl refl is
+      (λ n. rests_here asked m 0 n is))
   run_ends asked m (Tells text) (suc n) whole moment some is = absurd (omega (arith, moment))
   run_ends asked m (Lives made next) zero whole moment some is =
       let begun : Merges asked m =
       subst (Merges asked) (after_none m (items_in m (Lives made next))) is in
       let same = life_items m made next (under_way asked m.state.phase begun.still) in
-      subst (λ (l : List (Item Mounted)). Ends (asked + 0) m l 0 whole) (sym same)
-      (ends_at asked (asked + 0) m (line_item m made ∷ install_item m next ∷ []) 0 whole
-      (sym (add-zero asked))
+      subst (λ (l : List (Item Mounted)). Ends no_front [] (asked + 0) m l 0 whole) (sym same)
+      (ends_at no_front [] asked (asked + 0) m (line_item m made ∷ install_item m next ∷ []) 0
+      whole (sym (add-zero asked))
       (still_item asked m (line_item m made) (install_item m next ∷ []) whole refl refl begun
       (λ n. installed asked m next n begun)))
   run_ends asked m (Lives made next) (suc n) whole moment some is = absurd (omega (arith, moment))
@@ -512,16 +715,22 @@ module _ (target : ℕ) (images : List ImageOfSlot) (left : ℕ) where
 
   from_first : (m : Mounted) (run : Run) (whole : ℕ)
       → turns_behind m 0 whole run ≡ turns_by m whole run
-  from_first m (Serves exchanges unfinished) whole = refl
+  from_first m (Serves turns exchanges unfinished waits) whole = refl
   from_first m (Carries c) whole = refl
   from_first m (Installs set) whole = refl
   from_first m (Tells text) whole = refl
   from_first m (Lives made next) whole = refl
 
   first_moment : (run : Run) → IsMoment 0 run
-  first_moment (Serves exchanges unfinished) = omega arith
+  first_moment (Serves turns exchanges unfinished waits) = omega arith
   first_moment (Carries c) = omega arith
   first_moment _ = refl
+
+  ends_in : (m : Mounted) (c : Cut) (from : ℕ)
+      → EndsBehind (front_in c.run) m (items_in m c.run) from c.whole
+      → EndsIn target images m from c
+  ends_in m c from (inl ends) = inl ends
+  ends_in m c from (inr ends) = inr (ends.0, ends.1, inl ends.2, ends.3)
 
   cuts_end : (asked : ℕ) (m : Mounted) (c : Cut) (cs : List Cut) (from : ℕ)
       → IsMoment from c.run
@@ -532,7 +741,7 @@ module _ (target : ℕ) (images : List ImageOfSlot) (left : ℕ) where
   cuts_end asked m c [] from moment some is many =
       let t : ℕ = turns_behind m from c.whole c.run in
       elim (run_ends asked m c.run from c.whole moment some is) [
-        | inl ends ↦ inl (ends.0, ends.1, ends.2, ends.3)
+        | inl ends ↦ inl (ends_in m c from ends)
         | inr on ↦
             let at = on.at in
             absurd (too_many (asked + t) (after_items m (items_in m c.run) c.whole).state.phase
@@ -542,21 +751,26 @@ module _ (target : ℕ) (images : List ImageOfSlot) (left : ℕ) where
       let t : ℕ = turns_behind m from c.whole c.run in
       let next : Mounted = after_cut m c in
       elim (run_ends asked m c.run from c.whole moment some is) [
-        | inl ends ↦ inl (ends.0, ends.1, ends.2, ends.3)
+        | inl ends ↦ inl (ends_in m c from ends)
         | inr on ↦
-            elim (either_of (asked + t) next (on.steps next (cut_steps m c))) [
-              | inl ended ↦
-                  inr (inl (
-                    0,
-                    omega arith,
-                    omega arith,
-                    subst (IsMerged target images) (sym (after_none next (items_in next d.run)))
-                        ended,
-                  ))
-              | inr still ↦
-                  inr (cuts_end (asked + t) next d ds 0 (first_moment d.run) (omega arith)
-                  (subst (Merges (asked + t)) (sym (after_none next (items_in next d.run))) still)
-                  (omega (arith, many, from_first next d.run d.whole)))
+            elim (on.steps c.steps) [
+              | inr beyond ↦ inl (inr (c.whole, some, inr (refl, beyond.0), beyond.1))
+              | inl goes_on ↦
+                  elim (either_of (asked + t) next goes_on) [
+                    | inl ended ↦
+                        inr (inl (inl (
+                          0,
+                          omega arith,
+                          omega arith,
+                          subst (IsMerged target images)
+                              (sym (after_none next (items_in next d.run))) ended,
+                        )))
+                    | inr still ↦
+                        inr (cuts_end (asked + t) next d ds 0 (first_moment d.run) (omega arith)
+                        (subst (Merges (asked + t))
+                        (sym (after_none next (items_in next d.run))) still)
+                        (omega (arith, many, from_first next d.run d.whole)))
+                  ]
             ]
       ]
 

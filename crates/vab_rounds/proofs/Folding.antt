@@ -2,23 +2,23 @@
 use Rattle.std.proofs.Common.{◌≡◌, ◌∙◌, inl, inr, ℕ, zero, suc, ◌≤◌, Bool, true, false, cond}
 use Rattle.std.proofs.Common.{List, []}
 use Rattle.std.proofs.Common.{◌∷◌, ◌++◌, length, take, drop, map, replicate, codes, Option, Some}
-use Rattle.std.proofs.Common.{None, Result, Ok, Err, if◌then◌else◌}
+use Rattle.std.proofs.Common.{None, Ok, if◌then◌else◌}
 use Rattle.std.proofs.Common.{refl, sym, ap, subst, arith}
 use Rattle.std.proofs.lemmas.List.{drop_at}
-use Rattle.std.specs.Prelude.{◌&&◌, nat_lt}
+use Rattle.std.proofs.Common.{◌⊎◌}
 use Rattle.vab_disk.specs.Disk.{Image}
 use Rattle.vab_model.specs.Effects.{IsOneOf, last_of}
+use Rattle.vab_model.specs.Machine.{turns as machine_turns}
 use Rattle.vab_device.specs.Mounted.{Mounted}
 use Rattle.vab_device.specs.Reading.{IsIn}
-use Rattle.vab_fbproto.specs.Requests.{Asked, Getvar, Download, Do, MergeAll, BootAndEnd}
-use Rattle.vab_fbproto.specs.Requests.{request_of}
-use Rattle.vab_fbproto.specs.declared.request.BadCommand.{BadCommand}
-use Rattle.vab_exchanges.specs.Session.{Exchange, packet, most_data}
-use Rattle.vab_exchanges.specs.Items.{Kept, Item, item_still, item_staged}
-use Rattle.vab_exchanges.specs.Items.{item_download, item_done, item_asked, item_of, item_open}
+use Rattle.vab_exchanges.specs.Session.{Exchange}
+use Rattle.vab_exchanges.specs.Items.{Kept, Item, later_of, item_open, item_behind, open_behind}
 use Rattle.vab_exchanges.specs.Items.{items_of, kept_after}
+use Rattle.vab_model.specs.declared.state.Phase.{Phase}
+use Rattle.vab_model.specs.declared.state.Phase.TheVariants.{Idle, Installing, Staged, Merging}
+use Rattle.vab_device.specs.Updates.{merge_effect, turns}
 use Rattle.vab_exchanges.specs.Runs.{acknowledged, steps_at}
-use Rattle.vab_session.specs.Responses.{response}
+use Rattle.vab_session.specs.Responses.{turns_between, machine}
 use Rattle.vab_session.specs.Served.{nothing_staged}
 use Rattle.vab_set.specs.declared.set.SetImage.{SetImage}
 use Rattle.vab_model.specs.Commands.{Merge}
@@ -29,8 +29,8 @@ use Rattle.vab_cli.specs.Installing.{left_behind}
 use Rattle.vab_boots.specs.Boots.{Boots}
 use Rattle.vab_boots.proofs.Booting.{boots}
 use Rattle.vab_rounds.specs.Rounds.{Run, Serves, Carries, Installs, Tells, Lives, items_in}
-use Rattle.vab_rounds.specs.Rounds.{greeting_of, Round, IsRound, AreRounds}
-use Rattle.vab_rounds.specs.Folds.{after_items, later_of, Cut, done_by, further, after_cut, folded}
+use Rattle.vab_rounds.specs.Rounds.{greeting_of, closing_in, Round, IsRound, AreRounds}
+use Rattle.vab_rounds.specs.Folds.{after_items, Cut, done_by, further, after_cut, folded}
 use Rattle.vab_rounds.specs.Folds.{whole_in, IsCut, AreCuts}
 
 -- ---- items begin where the ones before them end
@@ -43,58 +43,20 @@ AreLinked s [] = Unit {0}
 AreLinked s (i ∷ is) = BeginsAt s i × AreLinked i.last.now is
 
 -- the steps behind n items begin with what they have left
-steps_begin : {S : Type 0} (s : S) (is : List (Item S)) (n : ℕ)
+steps_begin : {S : Type 0} (closing : List S) (s : S) (is : List (Item S)) (n : ℕ)
     → AreLinked s is
-    → steps_at s is n ≡ after_items s is n ∷ later_of (steps_at s is n)
-steps_begin s [] n linked = refl
-steps_begin s (i ∷ is) zero linked = linked.0
-steps_begin s (i ∷ is) (suc n) linked = steps_begin i.last.now is n linked.1
+    → steps_at closing s is n ≡ after_items s is n ∷ later_of (steps_at closing s is n)
+steps_begin closing s [] n linked = refl
+steps_begin closing s (i ∷ is) zero linked = linked.0
+steps_begin closing s (i ∷ is) (suc n) linked = steps_begin closing i.last.now is n linked.1
 
-either_begins : {S : Type 0} (s : S) (b : Bool) (i j : Item S)
-    → BeginsAt s i
-    → BeginsAt s j
-    → BeginsAt s (cond b i j)
-either_begins s true i j is other = is
-either_begins s false i j is other = other
-
-module _ (k : Kept Mounted) where
-  done_begins : (refused : Bool) (asked : Result Asked BadCommand)
-      → BeginsAt k.now (item_done response k refused asked)
-  done_begins refused asked = refl
-
-  download_begins : (size : ℕ) (refused : Bool) (parts : List (List ℕ))
-      → BeginsAt k.now (item_download k size refused parts)
-  download_begins size refused parts =
-      let large : Item Mounted = item_still k (packet (codes "FAILtoo large")) in
-      let wanting : Item Mounted = item_still k (packet (codes "FAILout of memory")) in
-      let whole : Item Mounted = item_staged k size parts in
-      let is_refused : Bool = refused && nat_lt 0 size in
-      either_begins k.now (nat_lt most_data size) large (cond is_refused wanting whole) refl
-      (either_begins k.now is_refused wanting whole refl refl)
-
-  asked_begins : (refused : Bool) (parts : List (List ℕ)) (asked : Result Asked BadCommand)
-      → BeginsAt k.now (item_asked response k refused parts asked)
-  asked_begins refused parts (Ok (Download size)) = download_begins size refused parts
-  asked_begins refused parts (Ok BootAndEnd) = done_begins refused (Ok BootAndEnd)
-  asked_begins refused parts (Ok MergeAll) = done_begins refused (Ok MergeAll)
-  asked_begins refused parts (Ok (Getvar variable)) = done_begins refused (Ok (Getvar variable))
-  asked_begins refused parts (Ok (Do command)) = done_begins refused (Ok (Do command))
-  asked_begins refused parts (Err bad) = done_begins refused (Err bad)
-
-  exchange_begins : (s : Exchange) → BeginsAt k.now (item_of response k s)
-  unfolding item_of
-  exchange_begins s = asked_begins s.refused s.parts (request_of s.command)
-
-  open_begins : (command : List ℕ) → BeginsAt k.now (item_open response k command)
-  unfolding item_open
-  open_begins command = refl
-
-session_linked : (k : Kept Mounted) (exchanges : List Exchange) (unfinished : Option (List ℕ))
-    → AreLinked k.now (items_of response k exchanges unfinished)
-session_linked k [] None = tt
-session_linked k [] (Some command) = (open_begins k command, tt)
-session_linked k (s ∷ ss) unfinished =
-    (exchange_begins k s, session_linked (item_of response k s).last ss unfinished)
+session_linked : (turns : ℕ) (k : Kept Mounted) (exchanges : List Exchange)
+    (unfinished : Option (List ℕ))
+    → AreLinked k.now (items_of (machine turns) k exchanges unfinished)
+session_linked turns k [] None = tt
+session_linked turns k [] (Some command) = (refl, tt)
+session_linked turns k (s ∷ ss) unfinished =
+    (refl, session_linked turns (item_behind (machine turns) k s).last ss unfinished)
 
 -- ---- what is done one behind another
 
@@ -159,8 +121,8 @@ course_linked m (a ∷ xs) are =
     (are.0 m) (course_linked (a.item m).last.now xs are.1)
 
 pub run_linked : (m : Mounted) (run : Run) → AreLinked m (items_in m run)
-run_linked m (Serves exchanges unfinished) =
-    session_linked (nothing_staged m) exchanges unfinished
+run_linked m (Serves turns exchanges unfinished waits) =
+    session_linked turns (nothing_staged m) exchanges unfinished
 run_linked m (Carries command) = (refl, tt)
 run_linked m (Installs set) = (refl, tt)
 run_linked m (Tells text) = (refl, tt)
@@ -187,10 +149,10 @@ last_taken s [] (suc n) = inl refl
 last_taken s (y ∷ ys) (suc n) = inr (last_taken y ys n)
 
 pub cut_steps : (m : Mounted) (c : Cut)
-    → IsOneOf (steps_at m (items_in m c.run) c.whole) (after_cut m c)
+    → IsOneOf (steps_at (closing_in m c.run) m (items_in m c.run) c.whole) (after_cut m c)
 cut_steps m c =
     subst (λ (l : List Mounted). IsOneOf l (after_cut m c))
-    (sym (steps_begin m (items_in m c.run) c.whole (run_linked m c.run)))
+    (sym (steps_begin (closing_in m c.run) m (items_in m c.run) c.whole (run_linked m c.run)))
     (last_taken (done_by m c) (further m c) c.steps)
 
 -- ---- one round
@@ -213,19 +175,21 @@ round_cut : (size : ℕ) (first : Mounted) (round : Round) (next : Mounted)
     → (c : Cut) × IsCut first round c × (next ≡ after_cut first c)
 round_cut size first round next is =
     let items : List (Item Mounted) = items_in first round.run in
+    let closing : List Mounted = closing_in first round.run in
     let whole : ℕ = whole_in first round in
     let since : drop (length round.told) round.outcome.told ≡ is.crashes.since =
     since_is round.told is.crashes.since round.outcome.told is.crashes.told_since in
     let x : Mounted = is.crashes.step.0 in
     let same : x ≡ next =
     same_device size round.outcome.image x next is.crashes.step.2 is.leaves in
-    let there : IsOneOf (steps_at first items whole) x =
+    let there : IsOneOf (steps_at closing first items whole) x =
     subst
     (λ (l : List ℕ). IsOneOf
-    (steps_at first items (acknowledged items (drop (length (greeting_of round.run)) l))) x)
+    (steps_at closing first items (acknowledged items (drop (length (greeting_of round.run)) l))) x)
     (sym since) is.crashes.step.1 in
-    let begun = steps_begin first items whole (run_linked first round.run) in
-    let step = some_steps (after_items first items whole) (later_of (steps_at first items whole)) x
+    let begun = steps_begin closing first items whole (run_linked first round.run) in
+    let step = some_steps (after_items first items whole)
+    (later_of (steps_at closing first items whole)) x
     (subst (λ (l : List Mounted). IsOneOf l x) begun there) in (
       record { run = round.run; whole = whole; steps = step.0 },
       record { run = refl; whole = refl; steps = step.1 },
@@ -250,27 +214,55 @@ rounds_fold size first last (round ∷ rounds) are =
 
 -- ---- sessions
 
-open_fold : (k : Kept Mounted) (command : List ℕ) (n : ℕ)
-    → after_items k.now (item_open response k command ∷ []) n ≡ k.now
+-- no turn is made between two packets
+none_merged : (m : Mounted) (phase : Phase) → (merge_effect m 0 phase).later ≡ []
+unfolding machine_turns
+none_merged m Idle = refl
+none_merged m (Installing source plan) = refl
+none_merged m (Staged source left) = refl
+none_merged m (Merging target left) = refl
+
+none_between : (n : ℕ) (m : Mounted) → n ≡ 0 → turns_between n m ≡ []
+none_between n m none =
+    ap (λ (k : ℕ). turns_between k m) none ∙ none_merged m m.state.phase
+
+open_last : (turns : ℕ) (k : Kept Mounted) (command : List ℕ)
+    → turns ≡ 0
+    → (open_behind (machine turns) k command).last.now ≡ k.now
 unfolding item_open
-open_fold k command zero = refl
-open_fold k command (suc n) = refl
+open_last turns k command none =
+    ap (λ (l : List Mounted). last_of k.now l) (none_between turns k.now none)
 
-kept_fold : (k : Kept Mounted) (exchanges : List Exchange) (unfinished : Option (List ℕ)) (n : ℕ)
-    → after_items k.now (items_of response k exchanges unfinished) n
-    ≡ (kept_after response k (take n exchanges)).now
-kept_fold k [] None zero = refl
-kept_fold k [] None (suc n) = refl
-kept_fold k [] (Some command) zero = refl
-kept_fold k [] (Some command) (suc n) = open_fold k command (suc n)
-kept_fold k (s ∷ ss) unfinished zero = refl
-kept_fold k (s ∷ ss) unfinished (suc n) = kept_fold (item_of response k s).last ss unfinished n
+-- a front of the exchanges, or nothing behind them that makes turns
+abbrev Folds : (turns : ℕ) → List Exchange → Option (List ℕ) → ℕ → Type 0
+Folds turns exchanges unfinished n =
+    (n ≤ length exchanges) ⊎ (unfinished ≡ None) ⊎ (turns ≡ 0)
 
-pub sessions_fold :
-    (m : Mounted) (exchanges : List Exchange) (unfinished : Option (List ℕ)) (n : ℕ)
-    → after_items m (items_of response (nothing_staged m) exchanges unfinished) n
-    ≡ (kept_after response (nothing_staged m) (take n exchanges)).now
-sessions_fold m exchanges unfinished n = kept_fold (nothing_staged m) exchanges unfinished n
+kept_fold : (turns : ℕ) (k : Kept Mounted) (exchanges : List Exchange)
+    (unfinished : Option (List ℕ)) (n : ℕ)
+    → Folds turns exchanges unfinished n
+    → after_items k.now (items_of (machine turns) k exchanges unfinished) n
+    ≡ (kept_after (machine turns) k (take n exchanges)).now
+kept_fold turns k [] None zero of = refl
+kept_fold turns k [] None (suc n) of = refl
+kept_fold turns k [] (Some command) zero of = refl
+kept_fold turns k [] (Some command) (suc n) (inl few) = absurd (omega (arith, few))
+kept_fold turns k [] (Some command) (suc n) (inr (inl none)) = absurd (let is = none in cc)
+kept_fold turns k [] (Some command) (suc n) (inr (inr none)) = open_last turns k command none
+kept_fold turns k (s ∷ ss) unfinished zero of = refl
+kept_fold turns k (s ∷ ss) unfinished (suc n) (inl few) =
+    kept_fold turns (item_behind (machine turns) k s).last ss unfinished n
+    (inl (omega (arith, few)))
+kept_fold turns k (s ∷ ss) unfinished (suc n) (inr other) =
+    kept_fold turns (item_behind (machine turns) k s).last ss unfinished n (inr other)
+
+pub sessions_fold : (turns : ℕ) (m : Mounted) (exchanges : List Exchange)
+    (unfinished : Option (List ℕ)) (n : ℕ)
+    → Folds turns exchanges unfinished n
+    → after_items m (items_of (machine turns) (nothing_staged m) exchanges unfinished) n
+    ≡ (kept_after (machine turns) (nothing_staged m) (take n exchanges)).now
+sessions_fold turns m exchanges unfinished n of =
+    kept_fold turns (nothing_staged m) exchanges unfinished n of
 
 -- ---- what boots
 

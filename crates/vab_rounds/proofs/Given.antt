@@ -2,7 +2,7 @@
 use Rattle.std.proofs.Common.{◌≡◌, ◌∙◌, ◌⊎◌, inl, inr, ℕ, zero, suc, ◌+◌, ◌<◌, ◌≤◌, ◌==◌, Bool}
 use Rattle.std.proofs.Common.{true, false, cond, List, [], ◌∷◌, ◌++◌, Option, Some, None}
 use Rattle.std.proofs.Common.{refl, sym, ap, subst, arith}
-use Rattle.std.specs.Prelude.{is_some}
+use Rattle.std.specs.Prelude.{is_some, nat_le, ◌^◌}
 use Rattle.std.proofs.lemmas.Bool.Decides.{nat_tests}
 use Rattle.vab_space.specs.declared.Chunk.{Chunk}
 use Rattle.vab_bootctl.specs.declared.slots.Control.{Control}
@@ -11,7 +11,7 @@ use Rattle.vab_bootctl.proofs.BootLaws.{chosen_is, booted_current, booted_none}
 use Rattle.vab_bootctl.proofs.BootLaws.{activated_current, marked_current}
 use Rattle.vab_layout.specs.Slots.{other_slot}
 use Rattle.vab_model.specs.declared.state.Image.{Image as ImageOfSlot}
-use Rattle.vab_model.specs.declared.state.PlanEntry.{PlanEntry}
+use Rattle.vab_model.specs.declared.state.Plan.{Plan}
 use Rattle.vab_model.specs.declared.state.Phase.{Phase}
 use Rattle.vab_model.specs.declared.state.Phase.TheVariants.{Idle, Installing, Staged, Merging}
 use Rattle.vab_model.specs.declared.state.State.{State}
@@ -19,17 +19,20 @@ use Rattle.vab_model.specs.declared.command.Refusal.TheVariants as refusals
 use Rattle.vab_model.specs.declared.command.Reply.TheVariants as replies
 use Rattle.vab_model.specs.Commands.{Command, SetActive, Boot, Mark, Print, Digest, Begin, Create}
 use Rattle.vab_model.specs.Commands.{Resize, Delete, Snapshot, Flash, Finish, Cancel, BeginMerge}
-use Rattle.vab_model.specs.Commands.{Merge}
+use Rattle.vab_model.specs.Commands.{Merge, Factory}
 use Rattle.vab_model.specs.State.{images_at, has_images, with_control}
 use Rattle.vab_model.specs.Effects.{Effect, Found, Image_is, Refused_by, found_of, print_effect}
-use Rattle.vab_model.specs.Effects.{digest_effect, active_effect, effect, effect_map, IsOneOf}
+use Rattle.vab_model.specs.Effects.{digest_effect, active_effect, effect_map, IsOneOf}
+use Rattle.vab_model.specs.Machine.{machine_effect}
 use Rattle.vab_model.specs.Effects.{does, refuses, after_of, last_of}
+use Rattle.vab_model.specs.Machine.{without_images, with_images, least_declared}
 use Rattle.vab_device.specs.Mounted.{Mounted, in_state}
-use Rattle.vab_device.specs.Updates.{effect_on, begin_effect, EditOf, edit_effect, create_edit}
+use Rattle.vab_device.specs.Updates.{effect_on, begin_effect, EditOf, Guard, edit_effect}
+use Rattle.vab_device.specs.Updates.{no_guard, settled_guard, store_guard, create_edit}
 use Rattle.vab_device.specs.Updates.{resize_edit, delete_edit, snapshot_edit, flash_effect}
 use Rattle.vab_device.specs.Updates.{cancelled, cancel_effect, begin_merge_effect, merge_effect}
-use Rattle.vab_device.specs.Updates.{merging_from, without_images, with_images, finish_effect}
-use Rattle.vab_device.specs.Updates.{complete_effect, least_declared}
+use Rattle.vab_device.specs.Updates.{merging_from, finish_effect}
+use Rattle.vab_device.specs.Updates.{complete_effect}
 use Rattle.vab_session.specs.Alone.{IsAlone, Finds}
 use Rattle.vab_session.specs.Source.{IsStagedFrom, IsMergedFrom}
 use Rattle.vab_session.proofs.SourceLaws.{still_has, still_none}
@@ -180,23 +183,23 @@ module _ (slot : ℕ) (images : List ImageOfSlot) where
   digests m (Image_is image) is = nothing m (inl is)
   digests m (Refused_by refusal) is = nothing m (inl is)
 
-  begins : (m : Mounted) (phase : Phase)
+  begins : (m : Mounted) (apart : Bool) (phase : Phase)
       → IsStagedFor slot phase
       → IsReadyFor slot images m
-      → Makes m (begin_effect m phase).later
-  begins m Idle at is = absurd at
-  begins m (Installing from plan) at is = absurd at
-  begins m (Staged from left) at is = nothing m (inl is)
-  begins m (Merging target left) at is = absurd at
+      → Makes m (begin_effect m apart phase).later
+  begins m apart Idle at is = absurd at
+  begins m apart (Installing from plan) at is = absurd at
+  begins m apart (Staged from left) at is = nothing m (inl is)
+  begins m apart (Merging target left) at is = absurd at
 
-  edits : (m : Mounted) (edit : EditOf) (phase : Phase)
+  edits : (m : Mounted) (guard : Guard) (edit : EditOf) (phase : Phase)
       → IsStagedFor slot phase
       → IsReadyFor slot images m
-      → Makes m (edit_effect m edit phase).later
-  edits m edit Idle at is = absurd at
-  edits m edit (Installing from plan) at is = absurd at
-  edits m edit (Staged from left) at is = nothing m (inl is)
-  edits m edit (Merging target left) at is = absurd at
+      → Makes m (edit_effect m guard edit phase).later
+  edits m guard edit Idle at is = absurd at
+  edits m guard edit (Installing from plan) at is = absurd at
+  edits m guard edit (Staged from left) at is = nothing m (inl is)
+  edits m guard edit (Merging target left) at is = absurd at
 
   flashes : (m : Mounted) (staged : Option (List ℕ)) (name : List ℕ) (k : Chunk) (phase : Phase)
       → IsStagedFor slot phase
@@ -307,7 +310,7 @@ module _ (slot : ℕ) (images : List ImageOfSlot) where
   ready_makes : (m : Mounted) (staged : Option (List ℕ)) (c : Command)
       → IsReadyFor slot images m
       → Makes m (effect_on m staged c).later
-  unfolding effect
+  unfolding machine_effect
   ready_makes m staged (SetActive n) is = activates m (is_some (images_at m.state n)) n is
   ready_makes m staged Boot is =
       one m _ (inl is)
@@ -319,14 +322,17 @@ module _ (slot : ℕ) (images : List ImageOfSlot) where
       (subst (λ (k : ℕ). k < 2) (sym (marked_current m.state.control)) is.runs) is)
   ready_makes m staged (Print name) is = prints m name (found_of m.state name) is
   ready_makes m staged (Digest name) is = digests m (found_of m.state name) is
-  ready_makes m staged Begin is = begins m m.state.phase is.ready is
+  ready_makes m staged Begin is = begins m false m.state.phase is.ready is
+  ready_makes m staged Factory is = begins m true m.state.phase is.ready is
   ready_makes m staged (Create name size) is =
-      edits m (create_edit name size) m.state.phase is.ready is
+      edits m no_guard (create_edit name size) m.state.phase is.ready is
   ready_makes m staged (Resize name size) is =
-      edits m (resize_edit name size) m.state.phase is.ready is
-  ready_makes m staged (Delete name) is = edits m (delete_edit name) m.state.phase is.ready is
+      edits m (settled_guard (nat_le size (2 ^ 40)) name) (resize_edit name size) m.state.phase
+      is.ready is
+  ready_makes m staged (Delete name) is =
+      edits m (settled_guard true name) (delete_edit name) m.state.phase is.ready is
   ready_makes m staged (Snapshot name size) is =
-      edits m (snapshot_edit name size) m.state.phase is.ready is
+      edits m store_guard (snapshot_edit name size) m.state.phase is.ready is
   ready_makes m staged (Flash name chunk) is =
       flashes m staged name chunk m.state.phase is.ready is
   ready_makes m staged Finish is = finishes m m.state.phase is.ready is
@@ -371,7 +377,7 @@ module _ (slot : ℕ) (images : List ImageOfSlot) where
 
 -- ---- behind the end of an installation
 
-completes : (before : Mounted) (from : ℕ) (plan : List PlanEntry) (least : Option (List ℕ))
+completes : (before : Mounted) (from : ℕ) (plan : Plan) (least : Option (List ℕ))
     → from < 2
     → before.state.control.current < 2
     → (complete_effect before from plan least).reply ≡ replies.Done
@@ -387,21 +393,21 @@ completes before from plan None below runs done = inl (record {
 })
 completes before from plan (Some name) below runs done = absurd cc
 
-behind_finish : (before next : Mounted) (from : ℕ) (plan : List PlanEntry)
+behind_finish : (before next : Mounted) (from : ℕ) (plan : Plan)
     → IsFinished from plan before next
     → HasGiven (other_slot from) (given_by before from plan) next
 behind_finish before next from plan is =
     let effect_is : effect_on before is.staged Finish
-    ≡ complete_effect before from plan (least_declared None plan) =
+    ≡ complete_effect before from plan (least_declared None plan.entries) =
     ap (finish_effect before) is.was in
     subst (HasGiven (other_slot from) (given_by before from plan))
     (sym (is.is ∙ ap (after_of before) effect_is))
-    (completes before from plan (least_declared None plan) is.alone.below
+    (completes before from plan (least_declared None plan.entries) is.alone.below
     (subst (λ (n : ℕ). n < 2) (sym is.alone.current) is.alone.below)
     (ap (λ (e : Effect Mounted). e.reply) (sym effect_is) ∙ is.done))
 
 lasting : (first : Mounted) (c : Cut) (cs : List Cut) (from slot : ℕ)
-    (plan : List PlanEntry) (before : Mounted)
+    (plan : Plan) (before : Mounted)
     → from ≤ c.whole
     → IsFinished slot plan before (after_items first (items_in first c.run) from)
     → HasGiven (other_slot slot) (given_by before slot plan) (folded first (c ∷ cs))
@@ -414,7 +420,7 @@ lasting first c cs from slot plan before below is =
     (behind_finish before (after_items first (items_in first c.run) from) slot plan is)
 
 pub finished_last : (first : Mounted) (c : Cut) (cs : List Cut) (from slot : ℕ)
-    (plan : List PlanEntry) (before : Mounted)
+    (plan : Plan) (before : Mounted)
     → from ≤ c.whole
     → IsFinished slot plan before (after_items first (items_in first c.run) from)
     → ((images_at (folded first (c ∷ cs)).state (other_slot slot)
@@ -441,7 +447,7 @@ folded_until first [] d at = refl
 folded_until first (c ∷ cs) d at = folded_until (after_cut first c) cs d at
 
 pub finished_merged : (first : Mounted) (c : Cut) (cs : List Cut) (from slot : ℕ)
-    (plan : List PlanEntry) (before : Mounted)
+    (plan : Plan) (before : Mounted)
     (earlier : List Cut) (d : Cut) (at : ℕ) (later : List Cut) (left : ℕ)
     → from ≤ c.whole
     → IsFinished slot plan before (after_items first (items_in first c.run) from)

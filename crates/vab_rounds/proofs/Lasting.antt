@@ -9,7 +9,8 @@ use Rattle.vab_model.specs.Commands.{Command, Merge, Boot, Mark, BeginMerge, Dig
 use Rattle.vab_model.specs.Effects.{Effect, last_of, after_of}
 use Rattle.vab_device.specs.Mounted.{Mounted}
 use Rattle.vab_device.specs.Updates.{effect_on}
-use Rattle.vab_exchanges.specs.Items.{Item}
+use Rattle.vab_exchanges.specs.Items.{Item, later_of}
+use Rattle.vab_exchanges.proofs.RunLaws.{last_in}
 use Rattle.vab_exchanges.specs.Runs.{steps_at}
 use Rattle.vab_session.specs.Served.{nothing_staged}
 use Rattle.vab_session.proofs.UntilLaws.{found_left, found_right, last_append}
@@ -23,7 +24,8 @@ use Rattle.vab_cli.specs.Demo.{digest_act, digest_front, life, sevens, take_over
 use Rattle.vab_cli.specs.Installing.{install_item, left_behind}
 use Rattle.vab_cli.specs.Verbs.{line_item, verb_item}
 use Rattle.vab_rounds.specs.Rounds.{Run, Serves, Carries, Installs, Tells, Lives, items_in}
-use Rattle.vab_rounds.specs.Folds.{Cut, after_items, later_of, after_cut, folded}
+use Rattle.vab_rounds.specs.Rounds.{closing_in}
+use Rattle.vab_rounds.specs.Folds.{Cut, after_items, after_cut, folded}
 use Rattle.vab_rounds.specs.Alone.{Meets, MeetsBehind}
 use Rattle.vab_rounds.proofs.Folding.{AreLinked, run_linked}
 
@@ -48,20 +50,27 @@ after_from m (i ∷ is) (suc from) (suc whole) below =
     less : (a b : ℕ) → suc b - suc a ≡ b - a
     less a b = omega arith
 
-steps_from : (m : Mounted) (items : List (Item Mounted)) (from whole : ℕ)
+steps_from : (closing : List Mounted) (m : Mounted) (items : List (Item Mounted)) (from whole : ℕ)
     → from ≤ whole
-    → steps_at (after_items m items from) (drop from items) (whole - from)
-    ≡ steps_at m items whole
-steps_from m [] zero whole below = refl
-steps_from m [] (suc from) whole below = refl
-steps_from m (i ∷ is) zero whole below = ap (steps_at m (i ∷ is)) (all_left whole)
-steps_from m (i ∷ is) (suc from) zero below = absurd (omega (arith, below))
-steps_from m (i ∷ is) (suc from) (suc whole) below =
-    ap (steps_at (after_items i.last.now is from) (drop from is)) (less from whole)
-    ∙ steps_from i.last.now is from whole (omega (arith, below))
+    → steps_at closing (after_items m items from) (drop from items) (whole - from)
+    ≡ steps_at closing m items whole
+steps_from closing m [] zero whole below = refl
+steps_from closing m [] (suc from) whole below = refl
+steps_from closing m (i ∷ is) zero whole below = ap (steps_at closing m (i ∷ is)) (all_left whole)
+steps_from closing m (i ∷ is) (suc from) zero below = absurd (omega (arith, below))
+steps_from closing m (i ∷ is) (suc from) (suc whole) below =
+    ap (steps_at closing (after_items i.last.now is from) (drop from is)) (less from whole)
+    ∙ steps_from closing i.last.now is from whole (omega (arith, below))
   where
     less : (a b : ℕ) → suc b - suc a ≡ b - a
     less a b = omega arith
+
+last_from : (m : Mounted) (items : List (Item Mounted)) (from : ℕ)
+    → last_in (after_items m items from) (drop from items) ≡ last_in m items
+last_from m [] zero = refl
+last_from m [] (suc from) = refl
+last_from m (i ∷ is) zero = refl
+last_from m (i ∷ is) (suc from) = last_from i.last.now is from
 
 linked_from : (m : Mounted) (items : List (Item Mounted)) (from : ℕ)
     → AreLinked m items
@@ -213,8 +222,8 @@ module _ (Stops Stands : Mounted → Type 0) (apart : (m : Mounted) → Stands m
   -- ---- runs
 
   run_makes : (m : Mounted) (run : Run) → EachMakes m (items_in m run)
-  run_makes m (Serves exchanges unfinished) =
-      until.session_makes Stops Stands apart commands (nothing_staged m) exchanges unfinished
+  run_makes m (Serves turns exchanges unfinished waits) =
+      until.session_makes Stops Stands apart commands turns (nothing_staged m) exchanges unfinished
   run_makes m (Carries c) = (
     λ stands.
         until.item_makes Stops Stands apart m (verb_item m c) (effect_on m None c).later refl
@@ -226,6 +235,18 @@ module _ (Stops Stands : Mounted → Type 0) (apart : (m : Mounted) → Stands m
   run_makes m (Lives made next) =
       let left : ℕ = left_behind m next in
       course_makes (life made next left) m (life_makes made next left)
+
+  -- what closes a run
+  run_closes : (m : Mounted) (run : Run)
+      → Stands (last_in m (items_in m run))
+      → Makes (last_in m (items_in m run)) (closing_in m run)
+  run_closes m (Serves turns exchanges unfinished waits) stands =
+      until.closing_makes Stops Stands apart commands turns unfinished waits (nothing_staged m)
+      exchanges stands
+  run_closes m (Carries c) stands = nothing _ stands
+  run_closes m (Installs set) stands = nothing _ stands
+  run_closes m (Tells text) stands = nothing _ stands
+  run_closes m (Lives made next) stands = nothing _ stands
 
   -- the steps behind the first of an item
   behind_first : (m : Mounted) (ms : List Mounted)
@@ -248,27 +269,31 @@ module _ (Stops Stands : Mounted → Type 0) (apart : (m : Mounted) → Stands m
   makes_from m (i ∷ is) (suc from) makes = makes_from i.last.now is from makes.1
 
   -- the devices behind some items, and behind some steps of one more
-  items_taken : (m : Mounted) (items : List (Item Mounted)) (whole steps : ℕ)
+  items_taken : (closing : List Mounted) (m : Mounted) (items : List (Item Mounted))
+      (whole steps : ℕ)
       → AreLinked m items
       → EachMakes m items
+      → (Stands (last_in m items) → Makes (last_in m items) closing)
       → Stands m
       → Good
-      (last_of (after_items m items whole) (take steps (later_of (steps_at m items whole))))
+      (last_of (after_items m items whole) (take steps (later_of (steps_at closing m items whole))))
       (flat_map (λ (i : Item Mounted). i.steps) (take whole items)
-      ++ take steps (later_of (steps_at m items whole)))
-  items_taken m [] whole zero linked makes stands = inl stands
-  items_taken m [] whole (suc n) linked makes stands = inl stands
-  items_taken m (i ∷ is) zero steps linked makes stands =
+      ++ take steps (later_of (steps_at closing m items whole)))
+  items_taken closing m [] zero steps linked makes closes stands =
+      until.until_taken Stops Stands apart m closing steps stands (closes stands).until
+  items_taken closing m [] (suc n) steps linked makes closes stands =
+      until.until_taken Stops Stands apart m closing steps stands (closes stands).until
+  items_taken closing m (i ∷ is) zero steps linked makes closes stands =
       until.until_taken Stops Stands apart m (later_of i.steps) steps stands
       (behind_first m i.steps linked.0 stands (makes.0 stands).until)
-  items_taken m (i ∷ is) (suc n) steps linked makes stands =
+  items_taken closing m (i ∷ is) (suc n) steps linked makes closes stands =
       let rest : List Mounted = flat_map (λ (j : Item Mounted). j.steps) (take n is) in
-      let more : List Mounted = take steps (later_of (steps_at i.last.now is n)) in
+      let more : List Mounted = take steps (later_of (steps_at closing i.last.now is n)) in
       let last : Mounted = last_of (after_items i.last.now is n) more in
       subst (Good last) (sym (append_assoc i.steps rest more))
       (elim (makes.0 stands).last [
         | inl next ↦
-            elim (items_taken i.last.now is n steps linked.1 makes.1 next) [
+            elim (items_taken closing i.last.now is n steps linked.1 makes.1 closes next) [
               | inl at ↦ inl at
               | inr found ↦ inr (found_right Stops i.steps (rest ++ more) found)
             ]
@@ -281,8 +306,8 @@ module _ (Stops Stands : Mounted → Type 0) (apart : (m : Mounted) → Stands m
   lasts first [] stands = inl stands
   lasts first (c ∷ cs) stands =
       elim
-      (items_taken first (items_in first c.run) c.whole c.steps (run_linked first c.run)
-      (run_makes first c.run) stands) [
+      (items_taken (closing_in first c.run) first (items_in first c.run) c.whole c.steps
+      (run_linked first c.run) (run_makes first c.run) (run_closes first c.run) stands) [
         | inl next ↦
             elim (lasts (after_cut first c) cs next) [
               | inl last ↦ inl last
@@ -298,7 +323,8 @@ module _ (Stops Stands : Mounted → Type 0) (apart : (m : Mounted) → Stands m
       → Good (after_cut first c)
       (flat_map (λ (i : Item Mounted). i.steps)
       (take (c.whole - from) (drop from (items_in first c.run)))
-      ++ take c.steps (later_of (steps_at first (items_in first c.run) c.whole)))
+      ++ take c.steps
+      (later_of (steps_at (closing_in first c.run) first (items_in first c.run) c.whole)))
   first_from first c from below stands =
       let items : List (Item Mounted) = items_in first c.run in
       let m : Mounted = after_items first items from in
@@ -310,11 +336,14 @@ module _ (Stops Stands : Mounted → Type 0) (apart : (m : Mounted) → Stands m
       Good (last_of x.0 (take c.steps (later_of x.1))) (some ++ take c.steps (later_of x.1)))
       (λ i. (
         after_from first items from c.whole below i,
-        steps_from first items from c.whole below i,
+        steps_from (closing_in first c.run) first items from c.whole below i,
       ))
-      (items_taken m (drop from items) n c.steps
+      (items_taken (closing_in first c.run) m (drop from items) n c.steps
       (linked_from first items from (run_linked first c.run))
-      (makes_from first items from (run_makes first c.run)) stands)
+      (makes_from first items from (run_makes first c.run))
+      (subst
+      (λ (x : Mounted). Stands x → Makes x (closing_in first c.run))
+      (sym (last_from first items from)) (run_closes first c.run)) stands)
 
   pub lasts_from : (first : Mounted) (c : Cut) (cs : List Cut) (from : ℕ)
       → from ≤ c.whole

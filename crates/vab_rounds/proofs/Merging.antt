@@ -1,10 +1,10 @@
 -- A merge goes on, however often it is cut.
 use Rattle.std.proofs.Common.{◌≡◌, ◌∙◌, inl, inr, ℕ, zero, suc, ◌+◌, ◌<◌, ◌≤◌, Bool, true}
 use Rattle.std.proofs.Common.{false, cond}
-use Rattle.std.proofs.Common.{List, [], ◌∷◌, take, codes, Option, Some, None, Result}
+use Rattle.std.proofs.Common.{List, [], ◌∷◌, ◌++◌, take, codes, Option, Some, None, Result}
 use Rattle.std.proofs.Common.{Ok, Err}
 use Rattle.std.proofs.Common.{refl, sym, subst, arith, add-zero}
-use Rattle.std.specs.Prelude.{◌&&◌, nat_lt, is_some}
+use Rattle.std.specs.Prelude.{◌&&◌, nat_lt, nat_le, ◌^◌, is_some}
 use Rattle.vab_space.specs.declared.Chunk.{Chunk}
 use Rattle.vab_bootctl.specs.declared.slots.Control.{Control}
 use Rattle.vab_bootctl.specs.Boot.{activated_of}
@@ -16,12 +16,15 @@ use Rattle.vab_model.specs.Commands.{Resize, Delete, Snapshot, Flash, Finish, Ca
 use Rattle.vab_model.specs.Commands.{Merge}
 use Rattle.vab_model.specs.State.{images_at}
 use Rattle.vab_model.specs.Effects.{Found, Image_is, Refused_by, found_of, print_effect}
-use Rattle.vab_model.specs.Effects.{digest_effect, active_effect, effect, effect_map, IsOneOf}
+use Rattle.vab_model.specs.Effects.{digest_effect, active_effect, effect_map, IsOneOf}
+use Rattle.vab_model.specs.Machine.{machine_effect}
 use Rattle.vab_model.specs.Effects.{last_of}
 use Rattle.vab_model.specs.Kinds.{is_of_installation, is_finish, turns_of}
+use Rattle.vab_model.specs.Machine.{turns as machine_turns}
 use Rattle.vab_device.proofs.WantLaws.{verb_wants}
 use Rattle.vab_device.specs.Mounted.{Mounted, in_state}
-use Rattle.vab_device.specs.Updates.{effect_on, EditOf, edit_effect, create_edit, resize_edit}
+use Rattle.vab_device.specs.Updates.{effect_on, EditOf, Guard, edit_effect, no_guard}
+use Rattle.vab_device.specs.Updates.{settled_guard, store_guard, create_edit, resize_edit}
 use Rattle.vab_device.specs.Updates.{delete_edit, snapshot_edit, flash_effect, cancel_effect}
 use Rattle.vab_device.specs.Updates.{begin_merge_effect, merge_effect, turns, merged_to}
 use Rattle.vab_fbproto.specs.Requests.{Asked, Getvar, Download, Do, MergeAll, BootAndEnd}
@@ -30,18 +33,21 @@ use Rattle.vab_fbproto.specs.declared.request.BadCommand.{BadCommand}
 use Rattle.vab_exchanges.specs.Session.{Exchange, packet, most_data}
 use Rattle.vab_exchanges.specs.Items.{Response, Kept, Item, item_still, item_staged}
 use Rattle.vab_exchanges.specs.Items.{item_download, item_done, item_asked, item_of, item_open}
-use Rattle.vab_exchanges.specs.Items.{items_of, unless_refused, no_memory}
+use Rattle.vab_exchanges.specs.Items.{items_of, unless_refused, no_memory, later_of, behind, passed}
+use Rattle.vab_exchanges.specs.Items.{item_behind, open_behind, kept_after, closing_of}
+use Rattle.vab_exchanges.proofs.RunLaws.{item_begins, open_begins}
 use Rattle.vab_exchanges.specs.Runs.{steps_at}
 use Rattle.vab_session.specs.Alone.{IsAlone}
-use Rattle.vab_session.specs.Responses.{response, left_of}
+use Rattle.vab_session.specs.Responses.{response, left_of, turns_between, machine}
 use Rattle.vab_session.specs.Served.{nothing_staged}
 use Rattle.vab_session.proofs.AloneLaws.{asks_finish, AreAlone, alone_effect, last_alone}
 use Rattle.vab_session.proofs.AloneLaws as alone
 use Rattle.vab_cli.specs.Verbs.{verb_item}
 use Rattle.vab_rounds.specs.Rounds.{Run, Serves, Carries, Installs, Tells, Lives, items_in}
+use Rattle.vab_rounds.specs.Rounds.{closing_in}
 use Rattle.vab_rounds.specs.Folds.{Cut, after_cut, folded}
 use Rattle.vab_rounds.specs.Merges.{asks_update, AskNoUpdate, BeginsNone}
-use Rattle.vab_rounds.specs.Merges.{BeginNone, turns_asked, turns_in, turns_by}
+use Rattle.vab_rounds.specs.Merges.{BeginNone, turns_before, turns_asked, turns_in, turns_by}
 use Rattle.vab_rounds.specs.Merges.{turns_by_all, IsMerged}
 use Rattle.vab_rounds.proofs.Folding.{cut_steps}
 
@@ -92,7 +98,7 @@ module _ (left : ℕ) where
   turned : (asked blocks : ℕ) (m : Mounted) (target still : ℕ)
       → still + asked ≤ left
       → AreDue asked (turns blocks m target still)
-  unfolding turns
+  unfolding machine_turns
   turned asked zero m target still is = none asked
   turned asked (suc n) m target zero is = one asked _ tt
   turned asked (suc n) m target (suc still) is =
@@ -102,7 +108,7 @@ module _ (left : ℕ) where
       → y.state.phase ≡ Merging target still
       → still + asked ≤ left
       → Due (asked + blocks) (last_of y (turns blocks m target still))
-  unfolding turns
+  unfolding machine_turns
   turned_last asked zero m y target still phase is =
       counted asked (asked + 0) y (sym (add-zero asked))
       (subst (IsDue left asked) (sym phase) is)
@@ -134,13 +140,13 @@ module _ (left : ℕ) where
 
   -- ---- other commands
 
-  edits : (asked : ℕ) (m : Mounted) (edit : EditOf) (phase : Phase)
+  edits : (asked : ℕ) (m : Mounted) (guard : Guard) (edit : EditOf) (phase : Phase)
       → IsDue left asked phase
-      → AreDue asked (edit_effect m edit phase).later
-  edits asked m edit Idle is = none asked
-  edits asked m edit (Installing source plan) is = absurd is
-  edits asked m edit (Staged source still) is = absurd is
-  edits asked m edit (Merging target still) is = none asked
+      → AreDue asked (edit_effect m guard edit phase).later
+  edits asked m guard edit Idle is = none asked
+  edits asked m guard edit (Installing source plan) is = absurd is
+  edits asked m guard edit (Staged source still) is = absurd is
+  edits asked m guard edit (Merging target still) is = none asked
 
   flashes : (asked : ℕ) (m : Mounted) (staged : Option (List ℕ)) (name : List ℕ) (k : Chunk)
       (phase : Phase)
@@ -187,7 +193,7 @@ module _ (left : ℕ) where
       → is_of_installation c ≡ false
       → Due asked m
       → AreDue asked (effect_on m staged c).later
-  unfolding effect
+  unfolding machine_effect
   command_steps asked m staged (SetActive n) other is =
       activates asked m (is_some (images_at m.state n)) (activated_of m.state.control n) is
   command_steps asked m staged Boot other is = one asked _ is
@@ -196,13 +202,14 @@ module _ (left : ℕ) where
       prints asked m name (found_of m.state name)
   command_steps asked m staged (Digest name) other is = digests asked m (found_of m.state name)
   command_steps asked m staged (Create name size) other is =
-      edits asked m (create_edit name size) m.state.phase is
+      edits asked m no_guard (create_edit name size) m.state.phase is
   command_steps asked m staged (Resize name size) other is =
-      edits asked m (resize_edit name size) m.state.phase is
+      edits asked m (settled_guard (nat_le size (2 ^ 40)) name) (resize_edit name size)
+      m.state.phase is
   command_steps asked m staged (Delete name) other is =
-      edits asked m (delete_edit name) m.state.phase is
+      edits asked m (settled_guard true name) (delete_edit name) m.state.phase is
   command_steps asked m staged (Snapshot name size) other is =
-      edits asked m (snapshot_edit name size) m.state.phase is
+      edits asked m store_guard (snapshot_edit name size) m.state.phase is
   command_steps asked m staged (Flash name chunk) other is =
       flashes asked m staged name chunk m.state.phase is
   command_steps asked m staged Cancel other is = cancels asked m m.state.phase is
@@ -399,44 +406,137 @@ module _ (left : ℕ) where
   unfolding item_open
   open_due asked k command is = still_due asked k _ is
 
+  -- ---- turns between two packets
+
+  pub less_due : (asked n : ℕ) (phase : Phase) → IsDue left (asked + n) phase
+      → IsDue left asked phase
+  less_due asked n Idle is = tt
+  less_due asked n (Installing source plan) is = absurd is
+  less_due asked n (Staged source still) is = absurd is
+  less_due asked n (Merging target still) is = omega (arith, is)
+
+  pub before_last : (asked turns : ℕ) (m : Mounted) (phase : Phase)
+      → m.state.phase ≡ phase
+      → IsDue left asked phase
+      → Due (asked + turns_before turns phase) (last_of m (merge_effect m turns phase).later)
+  before_last asked turns m Idle at is = subst (IsDue left (asked + 0)) (sym at) tt
+  before_last asked turns m (Installing source plan) at is = absurd is
+  before_last asked turns m (Staged source still) at is = absurd is
+  before_last asked turns m (Merging target still) at is =
+      merges_last asked m turns (Merging target still) at is
+
+  -- an item with the turns in front of it
+  behind_due : (asked turns t : ℕ) (k : Kept Mounted) (i : Item Mounted)
+      → i.steps ≡ (passed (machine turns) k).now ∷ later_of i.steps
+      → Due asked k.now
+      → IsDueIn (asked + turns_before turns k.now.state.phase) t i
+      → IsDueIn asked (turns_before turns k.now.state.phase + t)
+      (behind k.now (turns_between turns k.now) i)
+  behind_due asked turns t k i begins is due =
+      let b : ℕ = turns_before turns k.now.state.phase in
+      let front : List Mounted = turns_between turns k.now in
+      let later : AreDue asked (later_of i.steps) = λ x at.
+      less_due asked b x.state.phase
+      (due.steps x (subst (λ (l : List Mounted). IsOneOf l x) (sym begins) (inr at))) in
+      let same : asked + b + t ≡ asked + (b + t) = omega arith in
+      record {
+        steps = more asked k.now (front ++ later_of i.steps) is
+            (both asked front (later_of i.steps) (merges asked k.now turns k.now.state.phase is)
+            later);
+        last = counted (asked + b + t) (asked + (b + t)) i.last.now same due.last;
+      }
+    where
+      both : (n : ℕ) (xs ys : List Mounted) → AreDue n xs → AreDue n ys → AreDue n (xs ++ ys)
+      both n [] ys are others = others
+      both n (x ∷ xs) ys are others =
+          more n x (xs ++ ys) (are x (inl refl)) (both n xs ys (λ y at. are y (inr at)) others)
+
+  exchange_behind : (asked turns : ℕ) (k : Kept Mounted) (s : Exchange)
+      → asks_update (request_of s.command) ≡ false
+      → Due asked k.now
+      → IsDueIn asked
+      (turns_before turns k.now.state.phase
+      + turns_asked (passed (machine turns) k).now.state.phase (request_of s.command))
+      (item_behind (machine turns) k s)
+  exchange_behind asked turns k s other is =
+      let next : Kept Mounted = passed (machine turns) k in
+      behind_due asked turns (turns_asked next.now.state.phase (request_of s.command)) k
+      (item_of response next s) (item_begins response next s) is
+      (exchange_due (asked + turns_before turns k.now.state.phase) next s other
+      (before_last asked turns k.now k.now.state.phase refl is))
+
+  open_behind_due : (asked turns : ℕ) (k : Kept Mounted) (command : List ℕ)
+      → Due asked k.now
+      → IsDueIn asked (turns_before turns k.now.state.phase + 0)
+      (open_behind (machine turns) k command)
+  open_behind_due asked turns k command is =
+      let next : Kept Mounted = passed (machine turns) k in
+      behind_due asked turns 0 k (item_open response next command)
+      (open_begins response next command) is
+      (open_due (asked + turns_before turns k.now.state.phase) next command
+      (before_last asked turns k.now k.now.state.phase refl is))
+
   -- ---- sessions
 
-  session_due : (asked : ℕ) (k : Kept Mounted) (exchanges : List Exchange)
-      (unfinished : Option (List ℕ)) (n : ℕ)
+  closing_due : (asked turns : ℕ) (k : Kept Mounted) (unfinished : Option (List ℕ)) (waits : Bool)
+      → Due asked k.now
+      → AreDue (asked + 0) (k.now ∷ closing_of (machine turns) unfinished waits k)
+  closing_due asked turns k None true is =
+      all_counted asked (asked + 0) (k.now ∷ turns_between turns k.now) (sym (add-zero asked))
+      (more asked k.now (turns_between turns k.now) is
+      (merges asked k.now turns k.now.state.phase is))
+  closing_due asked turns k None false is =
+      all_counted asked (asked + 0) (k.now ∷ []) (sym (add-zero asked)) (one asked k.now is)
+  closing_due asked turns k (Some command) waits is =
+      all_counted asked (asked + 0) (k.now ∷ []) (sym (add-zero asked)) (one asked k.now is)
+
+  session_due : (asked turns : ℕ) (k : Kept Mounted) (exchanges : List Exchange)
+      (unfinished : Option (List ℕ)) (waits : Bool) (n : ℕ)
       → AskNoUpdate exchanges
       → Due asked k.now
-      → AreDue (asked + turns_in k (take n exchanges))
-      (steps_at k.now (items_of response k exchanges unfinished) n)
-  session_due asked k [] None zero other is =
-      all_counted asked (asked + 0) (k.now ∷ []) (sym (add-zero asked)) (one asked k.now is)
-  session_due asked k [] None (suc n) other is =
-      all_counted asked (asked + 0) (k.now ∷ []) (sym (add-zero asked)) (one asked k.now is)
-  session_due asked k [] (Some command) zero other is =
-      all_counted asked (asked + 0) (item_open response k command).steps (sym (add-zero asked))
-      (open_due asked k command is).steps
-  session_due asked k [] (Some command) (suc n) other is =
-      one (asked + 0) (item_open response k command).last.now (open_due asked k command is).last
-  session_due asked k (s ∷ ss) unfinished zero other is =
-      all_counted asked (asked + 0) (item_of response k s).steps (sym (add-zero asked))
-      (exchange_due asked k s other.0 is).steps
-  session_due asked k (s ∷ ss) unfinished (suc n) other is =
-      let i : Item Mounted = item_of response k s in
-      let t : ℕ = turns_asked k.now.state.phase (request_of s.command) in
-      let u : ℕ = turns_in i.last (take n ss) in
-      let same : asked + t + u ≡ asked + (t + u) = omega arith in
-      all_counted (asked + t + u) (asked + (t + u))
-      (steps_at i.last.now (items_of response i.last ss unfinished) n) same
-      (session_due (asked + t) i.last ss unfinished n other.1
-      (exchange_due asked k s other.0 is).last)
+      → AreDue (asked + turns_in turns k (take n exchanges))
+      (steps_at
+      (closing_of (machine turns) unfinished waits (kept_after (machine turns) k exchanges))
+      k.now (items_of (machine turns) k exchanges unfinished) n)
+  session_due asked turns k [] None waits zero other is =
+      closing_due asked turns k None waits is
+  session_due asked turns k [] None waits (suc n) other is =
+      closing_due asked turns k None waits is
+  session_due asked turns k [] (Some command) waits zero other is =
+      all_counted asked (asked + 0) (open_behind (machine turns) k command).steps
+      (sym (add-zero asked)) (open_behind_due asked turns k command is).steps
+  session_due asked turns k [] (Some command) waits (suc n) other is =
+      let b : ℕ = turns_before turns k.now.state.phase in
+      let last : Mounted = (open_behind (machine turns) k command).last.now in
+      all_counted asked (asked + 0) (last ∷ []) (sym (add-zero asked))
+      (one asked last
+      (less_due asked (b + 0) last.state.phase (open_behind_due asked turns k command is).last))
+  session_due asked turns k (s ∷ ss) unfinished waits zero other is =
+      all_counted asked (asked + 0) (item_behind (machine turns) k s).steps
+      (sym (add-zero asked)) (exchange_behind asked turns k s other.0 is).steps
+  session_due asked turns k (s ∷ ss) unfinished waits (suc n) other is =
+      let i : Item Mounted = item_behind (machine turns) k s in
+      let b : ℕ = turns_before turns k.now.state.phase in
+      let t : ℕ =
+      turns_asked (passed (machine turns) k).now.state.phase (request_of s.command) in
+      let u : ℕ = turns_in turns i.last (take n ss) in
+      let same : asked + (b + t) + u ≡ asked + (b + (t + u)) = omega arith in
+      all_counted (asked + (b + t) + u) (asked + (b + (t + u)))
+      (steps_at
+      (closing_of (machine turns) unfinished waits (kept_after (machine turns) i.last ss))
+      i.last.now (items_of (machine turns) i.last ss unfinished) n) same
+      (session_due (asked + (b + t)) turns i.last ss unfinished waits n other.1
+      (exchange_behind asked turns k s other.0 is).last)
 
   -- ---- runs
 
   run_due : (asked : ℕ) (m : Mounted) (run : Run) (whole : ℕ)
       → BeginsNone run
       → Due asked m
-      → AreDue (asked + turns_by m whole run) (steps_at m (items_in m run) whole)
-  run_due asked m (Serves exchanges unfinished) whole other is =
-      session_due asked (nothing_staged m) exchanges unfinished whole other is
+      → AreDue (asked + turns_by m whole run)
+      (steps_at (closing_in m run) m (items_in m run) whole)
+  run_due asked m (Serves turns exchanges unfinished waits) whole other is =
+      session_due asked turns (nothing_staged m) exchanges unfinished waits whole other is
   run_due asked m (Carries c) zero other is =
       let later : List Mounted = (effect_on m None c).later in
       all_counted asked (asked + 0) (m ∷ later) (sym (add-zero asked))
@@ -488,29 +588,79 @@ asks_no_end (Ok BootAndEnd) other = refl
 asks_no_end (Err bad) other = refl
 
 module _ (slot : ℕ) (images : List ImageOfSlot) where
-  session_alone : (k : Kept Mounted) (exchanges : List Exchange) (unfinished : Option (List ℕ))
-      (n : ℕ)
+  -- the turns between two packets keep it
+  between_alone : (turns : ℕ) (m : Mounted)
+      → IsAlone slot images m
+      → AreAlone slot images (turns_between turns m)
+  between_alone turns m is = alone_effect slot images m None (Merge turns) refl is
+
+  both_alone : (xs ys : List Mounted)
+      → AreAlone slot images xs
+      → AreAlone slot images ys
+      → AreAlone slot images (xs ++ ys)
+  both_alone [] ys are others = others
+  both_alone (x ∷ xs) ys are others =
+      alone.more slot images x (xs ++ ys) (are x (inl refl))
+      (both_alone xs ys (λ y at. are y (inr at)) others)
+
+  pub passed_alone : (turns : ℕ) (k : Kept Mounted)
+      → IsAlone slot images k.now
+      → IsAlone slot images (passed (machine turns) k).now
+  passed_alone turns k is =
+      last_alone slot images k.now (turns_between turns k.now) is (between_alone turns k.now is)
+
+  behind_alone : (turns : ℕ) (k : Kept Mounted) (i : Item Mounted)
+      → i.steps ≡ (passed (machine turns) k).now ∷ later_of i.steps
+      → IsAlone slot images k.now
+      → AreAlone slot images i.steps
+      → AreAlone slot images (behind k.now (turns_between turns k.now) i).steps
+  behind_alone turns k i begins is steps =
+      alone.more slot images k.now (turns_between turns k.now ++ later_of i.steps) is
+      (both_alone (turns_between turns k.now) (later_of i.steps) (between_alone turns k.now is)
+      (λ x at. steps x (subst (λ (l : List Mounted). IsOneOf l x) (sym begins) (inr at))))
+
+  closing_alone : (turns : ℕ) (k : Kept Mounted) (unfinished : Option (List ℕ)) (waits : Bool)
+      → IsAlone slot images k.now
+      → AreAlone slot images (k.now ∷ closing_of (machine turns) unfinished waits k)
+  closing_alone turns k None true is =
+      alone.more slot images k.now (turns_between turns k.now) is (between_alone turns k.now is)
+  closing_alone turns k None false is = alone.one slot images k.now is
+  closing_alone turns k (Some command) waits is = alone.one slot images k.now is
+
+  session_alone : (turns : ℕ) (k : Kept Mounted) (exchanges : List Exchange)
+      (unfinished : Option (List ℕ)) (waits : Bool) (n : ℕ)
       → AskNoUpdate exchanges
       → IsAlone slot images k.now
-      → AreAlone slot images (steps_at k.now (items_of response k exchanges unfinished) n)
-  session_alone k [] None n other is = alone.one slot images k.now is
-  session_alone k [] (Some command) zero other is =
-      (alone.open_alone slot images k command is).steps
-  session_alone k [] (Some command) (suc n) other is =
-      alone.one slot images (item_open response k command).last.now
-      (alone.open_alone slot images k command is).last
-  session_alone k (s ∷ ss) unfinished zero other is =
-      (alone.item_alone slot images k s (asks_no_end (request_of s.command) other.0) is).steps
-  session_alone k (s ∷ ss) unfinished (suc n) other is =
-      session_alone (item_of response k s).last ss unfinished n other.1
-      (alone.item_alone slot images k s (asks_no_end (request_of s.command) other.0) is).last
+      → AreAlone slot images
+      (steps_at
+      (closing_of (machine turns) unfinished waits (kept_after (machine turns) k exchanges))
+      k.now (items_of (machine turns) k exchanges unfinished) n)
+  session_alone turns k [] None waits n other is = closing_alone turns k None waits is
+  session_alone turns k [] (Some command) waits zero other is =
+      let next : Kept Mounted = passed (machine turns) k in
+      behind_alone turns k (item_open response next command) (open_begins response next command) is
+      (alone.open_alone slot images next command (passed_alone turns k is)).steps
+  session_alone turns k [] (Some command) waits (suc n) other is =
+      let next : Kept Mounted = passed (machine turns) k in
+      alone.one slot images (open_behind (machine turns) k command).last.now
+      (alone.open_alone slot images next command (passed_alone turns k is)).last
+  session_alone turns k (s ∷ ss) unfinished waits zero other is =
+      let next : Kept Mounted = passed (machine turns) k in
+      behind_alone turns k (item_of response next s) (item_begins response next s) is
+      (alone.item_alone slot images next s (asks_no_end (request_of s.command) other.0)
+      (passed_alone turns k is)).steps
+  session_alone turns k (s ∷ ss) unfinished waits (suc n) other is =
+      let next : Kept Mounted = passed (machine turns) k in
+      session_alone turns (item_behind (machine turns) k s).last ss unfinished waits n other.1
+      (alone.item_alone slot images next s (asks_no_end (request_of s.command) other.0)
+      (passed_alone turns k is)).last
 
   run_alone : (m : Mounted) (run : Run) (whole : ℕ)
       → BeginsNone run
       → IsAlone slot images m
-      → AreAlone slot images (steps_at m (items_in m run) whole)
-  run_alone m (Serves exchanges unfinished) whole other is =
-      session_alone (nothing_staged m) exchanges unfinished whole other is
+      → AreAlone slot images (steps_at (closing_in m run) m (items_in m run) whole)
+  run_alone m (Serves turns exchanges unfinished waits) whole other is =
+      session_alone turns (nothing_staged m) exchanges unfinished waits whole other is
   run_alone m (Carries c) zero other is =
       alone.more slot images m (effect_on m None c).later is
       (alone_effect slot images m None c (ends_nothing c other) is)

@@ -27,7 +27,8 @@ use Rattle.vab_adopt.specs.Adopting.{LeavesAdopting}
 use Rattle.vab_adopt.proofs.RefusalLaws.{already_refused}
 use Rattle.vab_exchanges.specs.Items.{Item}
 use Rattle.vab_exchanges.specs.Runs.{CrashesWithin}
-use Rattle.vab_exchanges.proofs.RunLaws.{within_item}
+use Rattle.vab_exchanges.specs.Session.{waits_in}
+use Rattle.vab_exchanges.proofs.RunLaws.{closes, within_item}
 use Rattle.vab_status.specs.Page.{page}
 use Rattle.vab_cli.specs.declared.status.Status.{Status}
 use Rattle.vab_cli.specs.declared.status.Status.TheVariants.{Done, Malformed}
@@ -38,7 +39,7 @@ use Rattle.vab_cli.specs.Program.{DoesVerb}
 use Rattle.vab_cli.specs.Runs.{RunsSession, FailsBefore, LeavesFirst, LeavesTelling}
 use Rattle.vab_cli.specs.Verbs.{command_of, done_making, line_item}
 use Rattle.vab_rounds.specs.Rounds.{Run, Serves, Carries, Installs, Tells, Lives, items_in}
-use Rattle.vab_rounds.specs.Rounds.{greeting_of}
+use Rattle.vab_rounds.specs.Rounds.{greeting_of, closing_in}
 use Rattle.vab_rounds.specs.Runs.{IsMaking, MakesNone, IsRunOf, LeavesRound, IsRun}
 
 -- where nothing else may be
@@ -50,7 +51,8 @@ certain (inr none) = absurd none
 leaves_round : (m : Meaning) (size : ℕ) (input : List ℕ) (first : Mounted) (told : List ℕ)
     (o : Outcome) (run : Run)
     → IsRunOf m size input first run
-    → CrashesWithin (IsIn size) (greeting_of run) first (items_in first run) told o
+    → CrashesWithin (IsIn size) (greeting_of run) first (items_in first run) (closing_in first run)
+    told o
     → LeavesRound m size input first told o
 leaves_round m size input first told o run is crash = record {
   run = run;
@@ -106,7 +108,7 @@ module _ {D : Type 0}
   round_of : (first : Mounted) (run : Run)
       → IsRunOf m (g.size old) (g.input_left old) first run
       → CrashesWithin (IsIn (g.size old)) (greeting_of run) first (items_in first run)
-      (g.told old) o
+      (closing_in first run) (g.told old) o
       → Round first
   round_of first run is crash =
       leaves_round m (g.size old) (g.input_left old) first (g.told old) o run is crash
@@ -126,19 +128,20 @@ module _ {D : Type 0}
       subst (λ (i : Image). IsIn (g.size old) first i) (sym left.kind) is in
       round_of first (Tells (adopt_line AlreadyDevice))
       (inr (inr (inl (slot, words, inl refl))))
-      (within_item (IsIn (g.size old)) [] first [] []
-      (line_item first (adopt_line AlreadyDevice)) (g.told old) (g.told old) tt
+      (within_item (IsIn (g.size old)) [] [] first [] []
+      (line_item first (adopt_line AlreadyDevice)) (g.told old) (g.told old) (closes [] first)
       (sym (append-nil (g.told old))) o
       (record { front = left.front; step = (first, inl refl, stands); whole = λ all. stands }))
 
-  session : (fresh : Bool) (Else : Outcome → Type 0) (first : Mounted)
-      → m ≡ Serve fresh
-      → RunsSession g (g.size old) Else first old new status
+  session : (fresh : Bool) (turns : ℕ) (Else : Outcome → Type 0) (first : Mounted)
+      → m ≡ Serve fresh turns
+      → RunsSession g (g.size old) Else turns first old new status
       → Round first ⊎ Else o
-  session fresh Else first words runs =
+  session fresh turns Else first words runs =
       ⊎_elim
-      (λ crash. inl (round_of first (Serves runs.exchanges runs.unfinished)
-      ((fresh, words), (runs.refused, runs.end, runs.session))
+      (λ crash. inl (round_of first
+      (Serves turns runs.exchanges runs.unfinished (waits_in (2 ^ 44) (g.input_left old) runs.end))
+      ((fresh, words), (runs.refused, runs.end, runs.session, refl))
       crash))
       (λ other. inr other)
       (runs.items.every_cut rest o at)
@@ -158,32 +161,32 @@ module _ {D : Type 0}
   same_crash : (first : Mounted) (run : Run) (i : Item Mounted)
       → items_in first run ≡ i ∷ []
       → greeting_of run ≡ []
-      → CrashesWithin (IsIn (g.size old)) [] first (i ∷ []) (g.told old) o
+      → closing_in first run ≡ []
+      → CrashesWithin (IsIn (g.size old)) [] first (i ∷ []) [] (g.told old) o
       → CrashesWithin (IsIn (g.size old)) (greeting_of run) first (items_in first run)
-      (g.told old) o
-  same_crash first run i items greeting crash =
+      (closing_in first run) (g.told old) o
+  same_crash first run i items greeting closing crash =
       subst
-      (λ (l : List (Item Mounted)). CrashesWithin (IsIn (g.size old))
-      (greeting_of run) first l (g.told old) o)
-      (sym items)
-      (subst
-      (λ (l : List ℕ). CrashesWithin (IsIn (g.size old)) l first (i ∷ []) (g.told old) o)
-      (sym greeting)
-      crash)
+      (λ (x : List (Item Mounted) × List ℕ × List Mounted). CrashesWithin (IsIn (g.size old))
+      x.1 first x.0 x.2 (g.told old) o)
+      (λ k. (sym items k, sym greeting k, sym closing k))
+      crash
 
   item : (first : Mounted) (run : Run) (ends : Status)
       → IsRunOf m (g.size old) (g.input_left old) first run
       → ((i : Item Mounted)
       → items_in first run ≡ i ∷ []
       → greeting_of run ≡ []
+      → closing_in first run ≡ []
       → RunsOrFails g old new status first i ends
       → Round first)
-  item first run ends is i items greeting (inl runs) =
+  item first run ends is i items greeting closing (inl runs) =
       round_of first run is
-      (same_crash first run i items greeting (certain (runs.items.every_cut rest o at)))
-  item first run ends is i items greeting (inr (inl short)) =
-      round_of first run is (same_crash first run i items greeting (short.every_cut rest o at))
-  item first run ends is i items greeting (inr (inr fails)) = failed first fails
+      (same_crash first run i items greeting closing (certain (runs.items.every_cut rest o at)))
+  item first run ends is i items greeting closing (inr (inl short)) =
+      round_of first run is
+      (same_crash first run i items greeting closing (short.every_cut rest o at))
+  item first run ends is i items greeting closing (inr (inr fails)) = failed first fails
 
   -- an input that is no set, and one that is
   not_a_set : (first : Mounted)
@@ -194,7 +197,7 @@ module _ {D : Type 0}
       → DoesVerb g m old new status
       → Round first
   not_a_set first words is bad does =
-      item first (Tells []) Malformed (inl refl) (line_item first []) refl refl
+      item first (Tells []) Malformed (inl refl) (line_item first []) refl refl refl
       ((does.install words).malformed modelled bad first is)
 
   by_set : (first : Mounted)
@@ -207,7 +210,7 @@ module _ {D : Type 0}
       → Round first
   by_set first words is does fits (Ok set) spelled =
       item first (Installs set) (install_status first set)
-      (words, spelled) (install_item first set) refl refl
+      (words, spelled) (install_item first set) refl refl refl
       ((does.install words).item modelled set fits spelled first is)
   by_set first words is does fits (Err fault) spelled =
       not_a_set first words is (inr (fault, spelled)) does
@@ -230,21 +233,21 @@ module _ {D : Type 0}
       → Round first
   paged first words is does =
       item first (Tells (page first.state)) Done (inr (inl (words, refl))) (page_item first)
-      refl refl
+      refl refl refl
       ((does.tells words).item modelled first is)
 
-  served : (fresh : Bool) (first : Mounted)
-      → m ≡ Serve fresh
+  served : (fresh : Bool) (turns : ℕ) (first : Mounted)
+      → m ≡ Serve fresh turns
       → fresh ≡ false
       → IsIn (g.size old) first (g.seen old)
       → DoesVerb g m old new status
       → Round first
-  served fresh first words not_fresh is does =
-      let serves : m ≡ Serve false = words ∙ ap Serve not_fresh in
+  served fresh turns first words not_fresh is does =
+      let serves : m ≡ Serve false turns = words ∙ ap (λ (b : Bool). Serve b turns) not_fresh in
       ⊎_elim
-      (λ runs. certain (session false (λ o. ⊥) first serves runs))
+      (λ runs. certain (session false turns (λ o. ⊥) first serves runs))
       (λ fails. failed first fails)
-      (does.serve modelled serves first is)
+      (does.serve modelled turns serves first is)
 
   -- a device isn't adopted
   unadopted : (slot : ℕ) (first : Mounted)
@@ -267,7 +270,8 @@ module _ {D : Type 0}
       → Round first
   by_words first is does (Make limit max) words none = absurd none
   by_words first is does (Adopt slot) words none = unadopted slot first words is does
-  by_words first is does (Serve fresh) words none = served fresh first words none is does
+  by_words first is does (Serve fresh turns) words none =
+      served fresh turns first words none is does
   by_words first is does Install words none = installed first words is does
   by_words first is does Boot words none =
       command commands.Boot first (ap command_of words) is does
@@ -332,15 +336,19 @@ module _ {D : Type 0}
       (subst (λ (n : ℕ). Making is n max) (sym none)
       (subst (λ (n : ℕ). Making is 0 n) (sym most) making))
 
-  fresh : m ≡ Serve true → 6152 ≤ g.size old → DoesVerb g m old new status → Making [] 0 65536
-  fresh words enough does =
+  fresh : (turns : ℕ)
+      → m ≡ Serve true turns
+      → 6152 ≤ g.size old
+      → DoesVerb g m old new status
+      → Making [] 0 65536
+  fresh turns words enough does =
       ⊎_elim
-      (λ runs. session true
+      (λ runs. session true turns
       (LeavesMaking (g.told old) [] 0 65536 (g.size old) (g.seen old))
       (made_device_of [] 0 65536 (g.size old))
       words runs)
       (λ fails. inr (fails.every_cut rest o at))
-      (does.fresh modelled words enough)
+      (does.fresh modelled turns words enough)
 
   demonstrated : (seed scale : ℕ)
       → m ≡ Demo seed scale
@@ -388,7 +396,8 @@ module _ {D : Type 0}
   making_is_round (inr does) set limit max (inl makes) =
       made set limit max makes.0 makes.1 makes.2 makes.3 does
   making_is_round (inr does) set limit max (inr (inl serves)) =
-      of_these [] set limit max serves.2 serves.3 serves.4 (fresh serves.0 serves.1 does)
+      of_these [] set limit max serves.2 serves.3 serves.4
+      (fresh serves.0.0 serves.0.1 serves.1 does)
   making_is_round (inr does) set limit max (inr (inr lives)) =
       of_these (fresh_set lives.1 lives.0) set limit max lives.4 lives.5 lives.6
       (demonstrated lives.0 lives.1 lives.2 lives.3 does)

@@ -3,7 +3,7 @@ use Rattle.std.specs.Prelude.{◌≡◌, ◌⊎◌, ◌<◌, ◌≤◌, ◌+◌,
 use Rattle.std.specs.Prelude.{Some, None}
 use Rattle.vab_layout.specs.Slots.{other_slot}
 use Rattle.vab_model.specs.declared.state.Image.{Image as ImageOfSlot}
-use Rattle.vab_model.specs.declared.state.PlanEntry.{PlanEntry}
+use Rattle.vab_model.specs.declared.state.Plan.{Plan}
 use Rattle.vab_model.specs.declared.state.Phase.{Phase}
 use Rattle.vab_model.specs.declared.state.Phase.TheVariants.{Idle, Installing, Staged, Merging}
 use Rattle.vab_model.specs.declared.command.Reply.TheVariants as replies
@@ -53,7 +53,7 @@ IsGivenUp slot m = IsDropped slot m ⊎ IsMergedFrom slot m.state.phase
 
 -- Where this installation was under way on a device, and its source alone had images, its end was
 -- done, and this is the device behind it.
-pub record IsFinished (source : ℕ) (plan : List PlanEntry) (before next : Mounted) : Type 0 where
+pub record IsFinished (source : ℕ) (plan : Plan) (before next : Mounted) : Type 0 where
   pub was : before.state.phase ≡ Installing source plan
   pub images : List ImageOfSlot
   pub alone : IsAlone source images before
@@ -62,14 +62,14 @@ pub record IsFinished (source : ℕ) (plan : List PlanEntry) (before next : Moun
   pub is : next ≡ after_of before (effect_on before staged Finish)
 
 -- the images that it gives: what was written, and the source's where a partition is kept
-abbrev pub given_by : Mounted → (source : ℕ) → List PlanEntry → List ImageOfSlot
-given_by before source plan = map (final_image before.state source) plan
+abbrev pub given_by : Mounted → (source : ℕ) → Plan → List ImageOfSlot
+given_by before source plan = map (final_image before.state source) plan.entries
 
 -- From the end of an installation on, at any moment of a run: the target has the images that it
 -- gave, byte for byte, behind whatever runs and cuts come, or else they were given up on the way.
 abbrev pub FinishedImagesLast : Type 0
 FinishedImagesLast = (first : Mounted) (c : Cut) (cs : List Cut) (from source : ℕ)
-    (plan : List PlanEntry) (before : Mounted)
+    (plan : Plan) (before : Mounted)
     → from ≤ c.whole
     → IsFinished source plan before (after_items first (items_in first c.run) from)
     → ((images_at (folded first (c ∷ cs)).state (other_slot source)
@@ -89,7 +89,7 @@ until_moment d at = record { run = d.run; whole = at; steps = 0 }
 -- before the merge was under way.
 abbrev pub FinishedImagesAreMerged : Type 0
 FinishedImagesAreMerged = (first : Mounted) (c : Cut) (cs : List Cut) (from source : ℕ)
-    (plan : List PlanEntry) (before : Mounted)
+    (plan : Plan) (before : Mounted)
     (earlier : List Cut) (d : Cut) (at : ℕ) (later : List Cut) (left : ℕ)
     → from ≤ c.whole
     → IsFinished source plan before (after_items first (items_in first c.run) from)

@@ -1,26 +1,22 @@
 -- What many rounds make of a device: the acknowledged items of each, in their order, and of one
 -- item more some first steps.
-use Rattle.std.specs.Prelude.{◌≡◌, ℕ, zero, suc, ◌≤◌, List, [], ◌∷◌, length, take, drop, Option}
+use Rattle.std.specs.Prelude.{◌≡◌, ◌⊎◌, ℕ, zero, suc, ◌≤◌, List, [], ◌∷◌, length, take, drop}
+use Rattle.std.specs.Prelude.{Option, None}
 use Rattle.vab_model.specs.Effects.{last_of}
 use Rattle.vab_device.specs.Mounted.{Mounted}
 use Rattle.vab_exchanges.specs.Session.{Exchange}
-use Rattle.vab_exchanges.specs.Items.{Item, items_of, kept_after}
+use Rattle.vab_exchanges.specs.Items.{Item, later_of, items_of, kept_after}
 use Rattle.vab_exchanges.specs.Runs.{acknowledged, steps_at}
-use Rattle.vab_session.specs.Responses.{response}
+use Rattle.vab_session.specs.Responses.{machine}
 use Rattle.vab_session.specs.Served.{nothing_staged}
 use Rattle.vab_boots.specs.Boots.{Boots}
-use Rattle.vab_rounds.specs.Rounds.{Run, items_in, greeting_of, Round, AreRounds}
+use Rattle.vab_rounds.specs.Rounds.{Run, items_in, greeting_of, closing_in, Round, AreRounds}
 
 -- the situation after the first n items
 abbrev pub after_items : {S : Type 0} → S → List (Item S) → ℕ → S
 after_items s [] n = s
 after_items s (i ∷ is) zero = s
 after_items s (i ∷ is) (suc n) = after_items i.last.now is n
-
--- all but the first of some situations
-abbrev pub later_of : {S : Type 0} → List S → List S
-later_of [] = []
-later_of (s ∷ ss) = ss
 
 -- A run, how many of its items are done, and how many steps of the one behind them: none, some or
 -- all of them.
@@ -33,9 +29,9 @@ pub record Cut : Type 0 where
 abbrev pub done_by : Mounted → Cut → Mounted
 done_by first c = after_items first (items_in first c.run) c.whole
 
--- the steps of the item behind them; none, where there is no more
+-- the steps of the item behind them, or those that close the run
 abbrev pub further : Mounted → Cut → List Mounted
-further first c = later_of (steps_at first (items_in first c.run) c.whole)
+further first c = later_of (steps_at (closing_in first c.run) first (items_in first c.run) c.whole)
 
 -- the device after the run
 abbrev pub after_cut : Mounted → Cut → Mounted
@@ -77,12 +73,13 @@ RoundsFold = (size : ℕ) (first last : Mounted) (rounds : List Round)
 -- ---- what the items of a session are
 
 -- Those that are done are the first exchanges, each answered in the situation that the ones before
--- it have left.
+-- it have left; an unfinished download is none of them, and only turns of a merge come with it.
 abbrev pub SessionsFold : Type 0
 SessionsFold =
-    (m : Mounted) (exchanges : List Exchange) (unfinished : Option (List ℕ)) (n : ℕ)
-    → after_items m (items_of response (nothing_staged m) exchanges unfinished) n
-    ≡ (kept_after response (nothing_staged m) (take n exchanges)).now
+    (turns : ℕ) (m : Mounted) (exchanges : List Exchange) (unfinished : Option (List ℕ)) (n : ℕ)
+    → (n ≤ length exchanges) ⊎ (unfinished ≡ None) ⊎ (turns ≡ 0)
+    → after_items m (items_of (machine turns) (nothing_staged m) exchanges unfinished) n
+    ≡ (kept_after (machine turns) (nothing_staged m) (take n exchanges)).now
 
 -- ---- what boots
 

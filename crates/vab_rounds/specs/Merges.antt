@@ -11,9 +11,9 @@ use Rattle.vab_fbproto.specs.Requests.{Asked, Do, MergeAll}
 use Rattle.vab_fbproto.specs.Requests.{request_of}
 use Rattle.vab_fbproto.specs.declared.request.BadCommand.{BadCommand}
 use Rattle.vab_exchanges.specs.Session.{Exchange}
-use Rattle.vab_exchanges.specs.Items.{Kept, item_of}
+use Rattle.vab_exchanges.specs.Items.{Kept, passed, item_behind}
 use Rattle.vab_session.specs.Alone.{IsAlone}
-use Rattle.vab_session.specs.Responses.{response, left_of}
+use Rattle.vab_session.specs.Responses.{machine, left_of}
 use Rattle.vab_session.specs.Served.{nothing_staged}
 use Rattle.vab_rounds.specs.Rounds.{Run, Serves, Carries, Installs, Tells, Lives}
 use Rattle.vab_rounds.specs.Folds.{Cut, after_cut, folded}
@@ -29,7 +29,7 @@ AskNoUpdate [] = Unit {0}
 AskNoUpdate (s ∷ ss) = (asks_update (request_of s.command) ≡ false) × AskNoUpdate ss
 
 abbrev pub BeginsNone : Run → Type 0
-BeginsNone (Serves exchanges unfinished) = AskNoUpdate exchanges
+BeginsNone (Serves turns exchanges unfinished waits) = AskNoUpdate exchanges
 BeginsNone (Carries command) = is_of_installation command ≡ false
 BeginsNone (Installs set) = ⊥
 BeginsNone (Tells text) = Unit {0}
@@ -47,11 +47,18 @@ turns_asked phase (Ok (Do command)) = turns_of command
 turns_asked phase (Ok MergeAll) = left_of phase + 1
 turns_asked phase _ = 0
 
--- by exchanges, one after another
-abbrev pub turns_in : Kept Mounted → List Exchange → ℕ
-turns_in k [] = 0
-turns_in k (s ∷ ss) =
-    turns_asked k.now.state.phase (request_of s.command) + turns_in (item_of response k s).last ss
+-- by a session itself before it hears a packet: so many, where an update is being merged
+abbrev pub turns_before : (turns : ℕ) → Phase → ℕ
+turns_before turns (Merging target left) = turns
+turns_before turns _ = 0
+
+-- by exchanges, one after another, each with the turns that were made before it was heard
+abbrev pub turns_in : (turns : ℕ) → Kept Mounted → List Exchange → ℕ
+turns_in turns k [] = 0
+turns_in turns k (s ∷ ss) =
+    turns_before turns k.now.state.phase
+    + (turns_asked (passed (machine turns) k).now.state.phase (request_of s.command)
+    + turns_in turns (item_behind (machine turns) k s).last ss)
 
 -- by a verb, where it is done
 abbrev pub turns_done : ℕ → Command → ℕ
@@ -60,8 +67,8 @@ turns_done (suc whole) command = turns_of command
 
 -- by those items of a run that are done, where it begins no update
 abbrev pub turns_by : Mounted → (whole : ℕ) → Run → ℕ
-turns_by first whole (Serves exchanges unfinished) =
-    turns_in (nothing_staged first) (take whole exchanges)
+turns_by first whole (Serves turns exchanges unfinished waits) =
+    turns_in turns (nothing_staged first) (take whole exchanges)
 turns_by first whole (Carries command) = turns_done whole command
 turns_by first whole _ = 0
 

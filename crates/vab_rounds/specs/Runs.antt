@@ -16,7 +16,7 @@ use Rattle.vab_words.specs.Verbs.{Merge, Cancel, Activate, Print, Digest, Demo, 
 use Rattle.vab_adopt.specs.declared.fault.AdoptFault.TheVariants.{AlreadyDevice}
 use Rattle.vab_adopt.specs.Adopted.{adopted, adopt_refusal}
 use Rattle.vab_adopt.specs.Adopting.{LeavesAdopting}
-use Rattle.vab_exchanges.specs.Session.{End, IsSession}
+use Rattle.vab_exchanges.specs.Session.{End, IsSession, waits_in}
 use Rattle.vab_status.specs.Page.{page}
 use Rattle.vab_cli.specs.declared.status.Status.{Status}
 use Rattle.vab_cli.specs.declared.status.Status.TheVariants.{NoMemory}
@@ -33,7 +33,8 @@ IsMaking m size input set limit max =
     × (length input ≤ 2 ^ 32)
     × (set_of input ≡ Ok set)
     × (refusal_of set limit max size ≡ None))
-    ⊎ ((m ≡ Serve true) × (6152 ≤ size) × (set ≡ []) × (limit ≡ 0) × (max ≡ 65536))
+    ⊎ (((turns : ℕ) × (m ≡ Serve true turns)) × (6152 ≤ size) × (set ≡ []) × (limit ≡ 0) × (max
+    ≡ 65536))
     ⊎ ((seed : ℕ)
     × (scale : ℕ)
     × (m ≡ Demo seed scale)
@@ -46,7 +47,7 @@ IsMaking m size input set limit max =
 abbrev pub MakesNone : Meaning → Type 0
 MakesNone (Make limit max) = ⊥
 MakesNone (Adopt slot) = Unit {0}
-MakesNone (Serve fresh) = fresh ≡ false
+MakesNone (Serve fresh turns) = fresh ≡ false
 MakesNone Install = Unit {0}
 MakesNone Boot = Unit {0}
 MakesNone Mark = Unit {0}
@@ -63,11 +64,12 @@ MakesNone (Demo seed scale) = ⊥
 -- of a device. Nothing is told and changed where the disk fails or memory is refused before, or
 -- where the input is no set.
 abbrev pub IsRunOf : Meaning → (size : ℕ) → (input : List ℕ) → Mounted → Run → Type 0
-IsRunOf m size input first (Serves exchanges unfinished) =
-    ((fresh : Bool) × (m ≡ Serve fresh))
+IsRunOf m size input first (Serves turns exchanges unfinished waits) =
+    ((fresh : Bool) × (m ≡ Serve fresh turns))
     × ((refused : ℕ → Bool)
     × (end : End)
-    × IsSession (2 ^ 44) refused input exchanges unfinished end)
+    × IsSession (2 ^ 44) refused input exchanges unfinished end
+    × (waits ≡ waits_in (2 ^ 44) input end))
 IsRunOf m size input first (Carries command) = command_of m ≡ Some command
 IsRunOf m size input first (Installs set) = (m ≡ Install) × (set_of input ≡ Ok set)
 IsRunOf m size input first (Tells text) =

@@ -4,7 +4,7 @@ use Rattle.std.proofs.Common.{◌≡◌, ◌∙◌, ℕ, zero, suc, ◌<◌, inl
 use Rattle.std.proofs.Common.{List, [], ◌∷◌, length, codes, Option, Some, None, Result}
 use Rattle.std.proofs.Common.{Ok, Err, refl, sym, ap, subst, arith}
 use Rattle.std.proofs.lemmas.Bool.{and_parts, cases_eq}
-use Rattle.std.specs.Prelude.{◌+◌, ◌*◌, is_some, ◌&&◌, nat_lt, nat_le, ◌||◌, slice_index_or}
+use Rattle.std.specs.Prelude.{◌+◌, ◌*◌, ◌^◌, is_some, ◌&&◌, nat_lt, nat_le, ◌||◌, slice_index_or}
 use Rattle.vab_disk.specs.Disk.{Image}
 use Rattle.vab_bootctl.specs.declared.slots.Control.{Control}
 use Rattle.vab_bootctl.specs.Boot.{info_at, IsBootable, chosen_of, booted_of}
@@ -20,6 +20,7 @@ use Rattle.vab_model.specs.declared.state.Image.{Image as ImageOfSlot}
 use Rattle.vab_model.specs.declared.state.PlanImage.{PlanImage}
 use Rattle.vab_model.specs.declared.state.PlanImage.TheVariants.{Kept as IsKept, Declared, Written}
 use Rattle.vab_model.specs.declared.state.PlanEntry.{PlanEntry}
+use Rattle.vab_model.specs.declared.state.Plan.{Plan}
 use Rattle.vab_model.specs.declared.state.Phase.{Phase}
 use Rattle.vab_model.specs.declared.state.Phase.TheVariants.{Idle, Installing, Staged, Merging}
 use Rattle.vab_model.specs.declared.state.State.{State}
@@ -28,19 +29,26 @@ use Rattle.vab_model.specs.declared.command.Refusal.TheVariants as refusals
 use Rattle.vab_model.specs.declared.command.Reply.TheVariants as replies
 use Rattle.vab_model.specs.Commands.{Command, SetActive, Boot, Mark, Print, Digest, Begin, Create}
 use Rattle.vab_model.specs.Commands.{Resize, Delete, Snapshot, Flash, Finish, Cancel, BeginMerge}
-use Rattle.vab_model.specs.Commands.{Merge}
+use Rattle.vab_model.specs.Commands.{Merge, Factory}
 use Rattle.vab_model.specs.State.{images_at, has_images, with_control}
 use Rattle.vab_model.specs.Effects.{Effect, Found, Image_is, Refused_by, found_of, print_effect}
-use Rattle.vab_model.specs.Effects.{digest_effect, active_effect, effect, effect_map, IsOneOf}
-use Rattle.vab_model.specs.Effects.{last_of, refuses}
+use Rattle.vab_model.specs.Effects.{digest_effect, active_effect, effect_map, IsOneOf}
+use Rattle.vab_model.specs.Machine.{machine_effect}
+use Rattle.vab_model.specs.Effects.{last_of, refuses, wanting}
+use Rattle.vab_model.specs.Plans.{entry_named, with_entries}
+use Rattle.vab_model.specs.Machine.{without_images}
+use Rattle.vab_model.specs.Staged.{is_sparse}
+use Rattle.vab_model.specs.Machine.{turns as turns_of}
 use Rattle.vab_device.specs.Mounted.{Mounted, Places, in_state}
 use Rattle.vab_device.specs.Updates.{effect_on, table_effect, begun_effect, begin_effect, layout_at}
-use Rattle.vab_device.specs.Updates.{EditOf, edited_effect, edit_effect, create_edit, resize_edit}
-use Rattle.vab_device.specs.Updates.{delete_edit, snapshot_edit, staged_effect, stored_effect}
-use Rattle.vab_device.specs.Updates.{entry_effect, entry_named, flash_effect, without_images}
+use Rattle.vab_device.specs.Updates.{no_entries, EditOf, edited_effect, Guard, unless_kept}
+use Rattle.vab_device.specs.Updates.{edit_effect, no_guard, settled_guard, store_guard, create_edit}
+use Rattle.vab_device.specs.Updates.{resize_edit, delete_edit, snapshot_edit, staged_effect}
+use Rattle.vab_device.specs.Updates.{unwritten_effect, in_store, in_place, placed_effect}
+use Rattle.vab_device.specs.Updates.{entry_effect, flash_effect}
 use Rattle.vab_device.specs.Updates.{cancelled, cancel_effect, begin_merge_effect, merge_effect}
 use Rattle.vab_device.specs.Updates.{turns, if_room, flashed, with_image, filled, differences}
-use Rattle.vab_device.specs.Updates.{source_bytes, is_sparse}
+use Rattle.vab_device.specs.Updates.{source_bytes}
 use Rattle.vab_fbproto.specs.Requests.{Asked, Getvar, Download, Do, MergeAll, BootAndEnd}
 use Rattle.vab_fbproto.specs.Requests.{request_of}
 use Rattle.vab_fbproto.specs.declared.request.BadCommand.{BadCommand}
@@ -107,7 +115,7 @@ module _ (s : State) (slot : ℕ)
 pub alone_boots : (slot : ℕ) (images : List ImageOfSlot) (m : Mounted)
     → IsAlone slot images m
     → BootsTo slot m
-unfolding effect
+unfolding machine_effect
 alone_boots slot images m is =
     ap (λ (n : ℕ). replies.Booted n)
     (boots_at m.state slot is.below is.current is.other
@@ -170,7 +178,7 @@ module _ (slot : ℕ) (images : List ImageOfSlot) where
     unready = unready;
   }
 
-  tabled : (m : Mounted) (source : ℕ) (plan : List PlanEntry) (r : Result Layout EditFault)
+  tabled : (m : Mounted) (source : ℕ) (plan : Plan) (r : Result Layout EditFault)
       → source ≡ slot
       → IsAlone slot images m
       → AreAlone (table_effect m source plan r).later
@@ -179,23 +187,24 @@ module _ (slot : ℕ) (images : List ImageOfSlot) where
 
   -- ---- the begin and the edits
 
-  begun : (m : Mounted) (source : ℕ) (l : Option Layout)
+  begun : (m : Mounted) (apart : Bool) (source : ℕ) (l : Option Layout)
       → source ≡ slot
       → IsAlone slot images m
-      → AreAlone (begun_effect m source l).later
-  begun m source None at is = none
-  begun m source (Some l) at is = tabled m source [] _ at is
+      → AreAlone (begun_effect m apart source l).later
+  begun m apart source None at is = none
+  begun m apart source (Some l) at is = tabled m source (no_entries apart) _ at is
 
-  begins : (m : Mounted) (phase : Phase)
+  begins : (m : Mounted) (apart : Bool) (phase : Phase)
       → IsAlone slot images m
-      → AreAlone (begin_effect m phase).later
-  begins m Idle is =
-      begun m m.state.control.current (layout_at m.places m.state.control.current) is.current is
-  begins m (Installing source plan) is = none
-  begins m (Staged source left) is = none
-  begins m (Merging target left) is = none
+      → AreAlone (begin_effect m apart phase).later
+  begins m apart Idle is =
+      begun m apart m.state.control.current
+      (layout_at m.places m.state.control.current) is.current is
+  begins m apart (Installing source plan) is = none
+  begins m apart (Staged source left) is = none
+  begins m apart (Merging target left) is = none
 
-  edited : (m : Mounted) (source : ℕ) (plan : List PlanEntry) (edit : EditOf)
+  edited : (m : Mounted) (source : ℕ) (plan : Plan) (edit : EditOf)
       (s t : Option Layout)
       → source ≡ slot
       → IsAlone slot images m
@@ -204,78 +213,100 @@ module _ (slot : ℕ) (images : List ImageOfSlot) where
   edited m source plan edit (Some s) None at is = none
   edited m source plan edit (Some s) (Some t) at is = tabled m source plan _ at is
 
-  edits : (m : Mounted) (edit : EditOf) (phase : Phase)
+  kept_off_alone : (kept : Option Refusal) (next : Effect Mounted)
+      → AreAlone next.later
+      → AreAlone (unless_kept kept next).later
+  kept_off_alone None next are = are
+  kept_off_alone (Some refusal) next are = none
+
+  edits : (m : Mounted) (guard : Guard) (edit : EditOf) (phase : Phase)
       → IsUnready slot phase
       → IsAlone slot images m
-      → AreAlone (edit_effect m edit phase).later
-  edits m edit Idle unready is = none
-  edits m edit (Installing source plan) unready is =
-      edited m source plan edit
+      → AreAlone (edit_effect m guard edit phase).later
+  edits m guard edit Idle unready is = none
+  edits m guard edit (Installing source plan) unready is =
+      kept_off_alone (guard source plan)
+      (edited_effect m source plan edit
+      (layout_at m.places source)
+      (layout_at m.places (other_slot source)))
+      (edited m source plan edit
       (layout_at m.places source)
       (layout_at m.places (other_slot source))
-      unready is
-  edits m edit (Staged source left) unready is = none
-  edits m edit (Merging target left) unready is = none
+      unready is)
+  edits m guard edit (Staged source left) unready is = none
+  edits m guard edit (Merging target left) unready is = none
 
   -- ---- an image
 
-  roomed : (m : Mounted) (source : ℕ) (plan : List PlanEntry) (e : PlanEntry) (store : ℕ)
-      (k : Chunk) (staged : List ℕ) (n : ℕ)
+  flashed_alone : (m : Mounted) (source : ℕ) (plan : Plan) (e : PlanEntry) (staged : List ℕ)
+      (n : ℕ)
+      → source ≡ slot
+      → IsAlone slot images m
+      → AreAlone (flashed m source plan e staged n).later
+  flashed_alone m source plan e staged n at is =
+      one _
+      (with_phase m
+      (Installing source
+      (with_entries plan
+      (with_image e.name (Written (filled staged e.blocks) n) plan.entries)))
+      m.places at is)
+
+  roomed : (m : Mounted) (source : ℕ) (plan : Plan) (e : PlanEntry) (store : ℕ) (k : Chunk)
+      (staged : List ℕ) (n : ℕ)
       → source ≡ slot
       → IsAlone slot images m
       → AreAlone (if_room m source plan e store k staged n).later
   roomed m source plan e store k staged n at is =
       either (nat_le (need_at n k) store)
-      (flashed m source plan e staged n)
+      (wanting true (flashed m source plan e staged n))
       (refuses (refusals.StoreFull (need_at n k) store))
-      (one _
-      (with_phase m
-      (Installing source (with_image e.name (Written (filled staged e.blocks) n) plan))
-      m.places at is))
+      (flashed_alone m source plan e staged n at is)
       none
 
-  written : (m : Mounted) (source : ℕ) (plan : List PlanEntry) (e : PlanEntry) (store : ℕ)
-      (k : Chunk) (staged : Option (List ℕ))
-      → source ≡ slot
-      → IsAlone slot images m
-      → AreAlone (staged_effect m source plan e store k staged).later
-  written m source plan e store k None at is = none
-  written m source plan e store k (Some staged) at is =
-      let n : ℕ = differences k (source_bytes m.state source e.name) staged e.blocks in
+  written : (e : PlanEntry) (place : List ℕ → Effect Mounted)
+      → ((staged : List ℕ) → AreAlone (place staged).later)
+      → (staged : Option (List ℕ))
+      → AreAlone (staged_effect e place staged).later
+  written e place are None = none
+  written e place are (Some staged) =
       let large : Refusal = refusals.TooLarge (length staged) (4096 * e.blocks) in
-      let room : Effect Mounted = if_room m source plan e store k staged n in
       let is_large : Bool = nat_lt (4096 * e.blocks) (length staged) in
-      either (is_sparse staged) (refuses refusals.Sparse) (cond is_large (refuses large) room) none
-      (either is_large (refuses large) room none (roomed m source plan e store k staged n at is))
+      either (is_sparse staged) (refuses refusals.Sparse)
+      (cond is_large (refuses large) (place staged)) none
+      (either is_large (refuses large) (place staged) none (are staged))
 
-  stored : (m : Mounted) (source : ℕ) (plan : List PlanEntry) (name : List ℕ)
-      (group : Option (List ℕ)) (blocks : ℕ) (own store : Option ℕ) (k : Chunk)
-      (staged : Option (List ℕ)) (image : PlanImage)
+  unwritten : (image : PlanImage) (next : Effect Mounted)
+      → AreAlone next.later
+      → AreAlone (unwritten_effect image next).later
+  unwritten IsKept next are = are
+  unwritten Declared next are = are
+  unwritten (Written bytes count) next are = none
+
+  placed : (m : Mounted) (source : ℕ) (plan : Plan) (e : PlanEntry) (k : Chunk)
+      (staged : Option (List ℕ)) (store : Option ℕ)
       → source ≡ slot
       → IsAlone slot images m
-      → AreAlone (stored_effect m source plan
-      (record { name = name; group = group; blocks = blocks; store = own; image = image })
-      k staged store).later
-  stored m source plan name group blocks own None k staged image at is = none
-  stored m source plan name group blocks own (Some store) k staged IsKept at is =
-      written m source plan
-      (record { name = name; group = group; blocks = blocks; store = own; image = IsKept })
-      store k staged at is
-  stored m source plan name group blocks own (Some store) k staged Declared at is =
-      written m source plan
-      (record { name = name; group = group; blocks = blocks; store = own; image = Declared })
-      store k staged at is
-  stored m source plan name group blocks own (Some store) k staged (Written bytes count) at is =
+      → AreAlone (placed_effect m source plan e k staged store).later
+  placed m source plan e k staged None at is =
+      let next : Effect Mounted = staged_effect e (in_place m source plan e) staged in
+      either plan.apart (unwritten_effect e.image next) (refuses refusals.NoStore)
+      (unwritten e.image next
+      (written e (in_place m source plan e)
+      (λ bytes. flashed_alone m source plan e bytes 0 at is) staged))
       none
+  placed m source plan e k staged (Some store) at is =
+      unwritten e.image (staged_effect e (in_store m source plan e store k) staged)
+      (written e (in_store m source plan e store k)
+      (λ bytes. roomed m source plan e store k bytes
+      (differences k (source_bytes m.state source e.name) bytes e.blocks) at is) staged)
 
-  found : (m : Mounted) (source : ℕ) (plan : List PlanEntry) (k : Chunk)
+  found : (m : Mounted) (source : ℕ) (plan : Plan) (k : Chunk)
       (staged : Option (List ℕ)) (e : Option PlanEntry)
       → source ≡ slot
       → IsAlone slot images m
       → AreAlone (entry_effect m source plan k staged e).later
   found m source plan k staged None at is = none
-  found m source plan k staged (Some e) at is =
-      stored m source plan e.name e.group e.blocks e.store e.store k staged e.image at is
+  found m source plan k staged (Some e) at is = placed m source plan e k staged e.store at is
 
   flashes : (m : Mounted) (staged : Option (List ℕ)) (name : List ℕ) (k : Chunk) (phase : Phase)
       → IsUnready slot phase
@@ -283,7 +314,7 @@ module _ (slot : ℕ) (images : List ImageOfSlot) where
       → AreAlone (flash_effect m staged name k phase).later
   flashes m staged name k Idle unready is = none
   flashes m staged name k (Installing source plan) unready is =
-      let e : Option PlanEntry = entry_named (base_of name) plan in
+      let e : Option PlanEntry = entry_named (base_of name) plan.entries in
       either (is_full (other_slot source) name)
       (entry_effect m source plan k staged e)
       (refuses refusals.BadName)
@@ -345,7 +376,7 @@ module _ (slot : ℕ) (images : List ImageOfSlot) where
       → target ≡ slot
       → IsAlone slot images m
       → AreAlone (turns blocks m target left)
-  unfolding turns
+  unfolding turns_of
   turned zero m target left at is = none
   turned (suc n) m target zero at is = one _ (with_phase m _ _ tt is)
   turned (suc n) m target (suc left) at is =
@@ -397,21 +428,23 @@ module _ (slot : ℕ) (images : List ImageOfSlot) where
       → (x : Mounted)
       → IsOneOf (effect_on m staged c).later x
       → IsAlone slot images x
-  unfolding effect
+  unfolding machine_effect
   alone_effect m staged (SetActive n) other is = activates m (is_some (images_at m.state n)) n is
   alone_effect m staged Boot other is = one _ (boots m is)
   alone_effect m staged Mark other is = one _ (with_boot m _ (marked_current m.state.control) is)
   alone_effect m staged (Print name) other is = prints m name (found_of m.state name)
   alone_effect m staged (Digest name) other is = digests m (found_of m.state name)
-  alone_effect m staged Begin other is = begins m m.state.phase is
+  alone_effect m staged Begin other is = begins m false m.state.phase is
+  alone_effect m staged Factory other is = begins m true m.state.phase is
   alone_effect m staged (Create name size) other is =
-      edits m (create_edit name size) m.state.phase is.unready is
+      edits m no_guard (create_edit name size) m.state.phase is.unready is
   alone_effect m staged (Resize name size) other is =
-      edits m (resize_edit name size) m.state.phase is.unready is
+      edits m (settled_guard (nat_le size (2 ^ 40)) name) (resize_edit name size) m.state.phase
+      is.unready is
   alone_effect m staged (Delete name) other is =
-      edits m (delete_edit name) m.state.phase is.unready is
+      edits m (settled_guard true name) (delete_edit name) m.state.phase is.unready is
   alone_effect m staged (Snapshot name size) other is =
-      edits m (snapshot_edit name size) m.state.phase is.unready is
+      edits m store_guard (snapshot_edit name size) m.state.phase is.unready is
   alone_effect m staged (Flash name chunk) other is =
       flashes m staged name chunk m.state.phase is.unready is
   alone_effect m staged Finish other is = absurd cc

@@ -20,7 +20,7 @@ use Rattle.vab_exchanges.specs.Items.{Kept}
 use Rattle.vab_exchanges.specs.Session.{Exchange, packet, spelled}
 use Rattle.vab_exchanges.proofs.Progress.{AreDone, Progress}
 use Rattle.vab_session.specs.Merges.{AreExchanges, HasNoMerge, asks_merge}
-use Rattle.vab_session.specs.Responses.{response}
+use Rattle.vab_session.specs.Responses.{machine}
 
 pub changes_listening : {D : Type 0} (g : Ghosts D) (W : ℕ → List ℕ → Type 0)
     (bytes : List ℕ) (TooFew : List ℕ → Type 0) (old new : D)
@@ -83,15 +83,15 @@ are_exchanges [] are = tt
 are_exchanges (s ∷ ss) are = (are.0, are_exchanges ss are.2)
 
 -- where no packet asks for a merge, that behind the exchanges that are done doesn't
-pub asks_none : {D : Type 0} (size : ℕ) (g : Ghosts D) (bytes beyond : List ℕ)
+pub asks_none : {D : Type 0} (turns size : ℕ) (g : Ghosts D) (bytes beyond : List ℕ)
     (first : Kept Mounted)
     (told : List ℕ) (old now : D) (left : List ℕ) (kept : Kept Mounted)
-    → Progress response (IsIn size) g bytes beyond first told old now left kept
+    → Progress (machine turns) (IsIn size) g bytes beyond first told old now left [] kept
     → HasNoMerge bytes
     → (command after : List ℕ)
     → left ≡ packet command ++ after
     → asks_merge (request_of command) ≡ false
-asks_none size g bytes beyond first told old now left kept so_far none command after is =
+asks_none turns size g bytes beyond first told old now left kept so_far none command after is =
     none so_far.done command after (are_exchanges so_far.done so_far.are)
     (so_far.is ∙ ap (λ (l : List ℕ). flat_map spelled so_far.done ++ l) is)
 

@@ -3,6 +3,7 @@ pub mod SourceLaws
 pub mod StandLaws
 pub mod UntilLaws
 pub mod WrittenLaws
+mod BetweenLaws
 mod Changing
 mod Data
 mod Endings

@@ -2,7 +2,7 @@
 use Rattle.std.proofs.Common.{◌≡◌, ◌∙◌, ◌⊎◌, inl, inr, ℕ, zero, suc, ◌-◌, ◌≤◌, ◌<◌, ◌++◌, ◌==◌}
 use Rattle.std.proofs.Common.{Bool, true, false, cond, List, [], ◌∷◌, length, drop, codes, Option}
 use Rattle.std.proofs.Common.{Some, None, map, refl, sym, ap, subst, arith}
-use Rattle.std.specs.Prelude.{is_some}
+use Rattle.std.specs.Prelude.{is_some, nat_le, ◌^◌}
 use Rattle.std.proofs.lemmas.Bool.{cases_Bool}
 use Rattle.std.proofs.lemmas.Bool.Decides.{nat_tests}
 use Rattle.vab_disk.specs.Disk.{Outcome}
@@ -11,7 +11,7 @@ use Rattle.vab_bootctl.specs.declared.slots.Control.{Control}
 use Rattle.vab_bootctl.specs.Boot.{info_at, activated_of, booted_of, marked_of}
 use Rattle.vab_layout.specs.Slots.{other_slot}
 use Rattle.vab_model.specs.declared.state.Image.{Image as ImageOfSlot}
-use Rattle.vab_model.specs.declared.state.PlanEntry.{PlanEntry}
+use Rattle.vab_model.specs.declared.state.Plan.{Plan}
 use Rattle.vab_model.specs.declared.state.Phase.{Phase}
 use Rattle.vab_model.specs.declared.state.Phase.TheVariants.{Idle, Installing, Staged, Merging}
 use Rattle.vab_model.specs.declared.state.State.{State}
@@ -20,24 +20,27 @@ use Rattle.vab_model.specs.declared.command.Refusal.TheVariants as refusals
 use Rattle.vab_model.specs.declared.command.Reply.TheVariants as replies
 use Rattle.vab_model.specs.Commands.{Command, SetActive, Boot, Mark, Print, Digest, Begin, Create}
 use Rattle.vab_model.specs.Commands.{Resize, Delete, Snapshot, Flash, Finish, Cancel, BeginMerge}
-use Rattle.vab_model.specs.Commands.{Merge}
+use Rattle.vab_model.specs.Commands.{Merge, Factory}
 use Rattle.vab_model.specs.State.{images_at, has_images, with_control}
 use Rattle.vab_model.specs.Effects.{Effect, Found, Image_is, Refused_by, found_of, print_effect}
-use Rattle.vab_model.specs.Effects.{digest_effect, active_effect, effect, effect_map, IsOneOf}
+use Rattle.vab_model.specs.Effects.{digest_effect, active_effect, effect_map, IsOneOf}
+use Rattle.vab_model.specs.Machine.{machine_effect}
 use Rattle.vab_model.specs.Effects.{does, refuses}
 use Rattle.vab_model.specs.Kinds.{is_finish}
+use Rattle.vab_model.specs.Machine.{without_images, with_images, least_declared}
 use Rattle.vab_device.specs.Mounted.{Mounted, in_state}
 use Rattle.vab_device.specs.Reading.{IsIn}
-use Rattle.vab_device.specs.Updates.{effect_on, begin_effect, EditOf, edit_effect, create_edit}
+use Rattle.vab_device.specs.Updates.{effect_on, begin_effect, EditOf, Guard, edit_effect}
+use Rattle.vab_device.specs.Updates.{no_guard, settled_guard, store_guard, create_edit}
 use Rattle.vab_device.specs.Updates.{resize_edit, delete_edit, snapshot_edit, flash_effect}
 use Rattle.vab_device.specs.Updates.{cancelled, cancel_effect, begin_merge_effect, merge_effect}
-use Rattle.vab_device.specs.Updates.{merging_from, without_images, with_images, finish_effect}
-use Rattle.vab_device.specs.Updates.{complete_effect, finished, final_image, least_declared}
+use Rattle.vab_device.specs.Updates.{merging_from, finish_effect}
+use Rattle.vab_device.specs.Updates.{complete_effect, finished, final_image}
 use Rattle.vab_exchanges.specs.Session.{Exchange}
-use Rattle.vab_exchanges.specs.Items.{Kept, items_of, kept_after}
+use Rattle.vab_exchanges.specs.Items.{Kept, items_of, kept_after, closing_of}
 use Rattle.vab_exchanges.specs.Runs.{acknowledged, CrashesWithin}
 use Rattle.vab_session.specs.Alone.{IsAlone, IsUnready, reached_in}
-use Rattle.vab_session.specs.Responses.{response}
+use Rattle.vab_session.specs.Responses.{machine}
 use Rattle.vab_session.specs.Source.{IsStagedFrom, IsReadyFrom, HasKept, IsMergedFrom}
 use Rattle.vab_session.specs.Source.{FindsMergedFrom, StandsKept}
 use Rattle.vab_session.proofs.AloneLaws.{alone_effect}
@@ -121,7 +124,7 @@ module _ (slot : ℕ) (images : List ImageOfSlot) where
 
   -- ---- the end of an installation
 
-  completes : (m : Mounted) (source : ℕ) (plan : List PlanEntry) (least : Option (List ℕ))
+  completes : (m : Mounted) (source : ℕ) (plan : Plan) (least : Option (List ℕ))
       → source ≡ slot
       → IsAlone slot images m
       → Makes m (complete_effect m source plan least).later
@@ -129,7 +132,8 @@ module _ (slot : ℕ) (images : List ImageOfSlot) where
       one m (finished m source plan) (inl alone) (inr (record {
         below = alone.below;
         has =
-            with_target slot m.state source (map (final_image m.state source) plan) at alone.below
+            with_target slot m.state source (map (final_image m.state source) plan.entries) at
+            alone.below
             ∙ alone.has;
         ready = at;
       }))
@@ -141,7 +145,7 @@ module _ (slot : ℕ) (images : List ImageOfSlot) where
       → Makes m (finish_effect m phase).later
   finishes m Idle is alone = nothing m (inl alone)
   finishes m (Installing source plan) is alone =
-      completes m source plan (least_declared None plan) is alone
+      completes m source plan (least_declared None plan.entries) is alone
   finishes m (Staged source left) is alone = nothing m (inl alone)
   finishes m (Merging target left) is alone = nothing m (inl alone)
 
@@ -170,23 +174,23 @@ module _ (slot : ℕ) (images : List ImageOfSlot) where
   digests m (Image_is image) is = nothing m (inr is)
   digests m (Refused_by refusal) is = nothing m (inr is)
 
-  begins : (m : Mounted) (phase : Phase)
+  begins : (m : Mounted) (apart : Bool) (phase : Phase)
       → IsStagedFrom slot phase
       → IsReadyFrom slot images m
-      → Makes m (begin_effect m phase).later
-  begins m Idle at is = absurd at
-  begins m (Installing source plan) at is = absurd at
-  begins m (Staged source left) at is = nothing m (inr is)
-  begins m (Merging target left) at is = absurd at
+      → Makes m (begin_effect m apart phase).later
+  begins m apart Idle at is = absurd at
+  begins m apart (Installing source plan) at is = absurd at
+  begins m apart (Staged source left) at is = nothing m (inr is)
+  begins m apart (Merging target left) at is = absurd at
 
-  edits : (m : Mounted) (edit : EditOf) (phase : Phase)
+  edits : (m : Mounted) (guard : Guard) (edit : EditOf) (phase : Phase)
       → IsStagedFrom slot phase
       → IsReadyFrom slot images m
-      → Makes m (edit_effect m edit phase).later
-  edits m edit Idle at is = absurd at
-  edits m edit (Installing source plan) at is = absurd at
-  edits m edit (Staged source left) at is = nothing m (inr is)
-  edits m edit (Merging target left) at is = absurd at
+      → Makes m (edit_effect m guard edit phase).later
+  edits m guard edit Idle at is = absurd at
+  edits m guard edit (Installing source plan) at is = absurd at
+  edits m guard edit (Staged source left) at is = nothing m (inr is)
+  edits m guard edit (Merging target left) at is = absurd at
 
   flashes : (m : Mounted) (staged : Option (List ℕ)) (name : List ℕ) (k : Chunk) (phase : Phase)
       → IsStagedFrom slot phase
@@ -270,7 +274,7 @@ module _ (slot : ℕ) (images : List ImageOfSlot) where
   ready_makes : (m : Mounted) (staged : Option (List ℕ)) (c : Command)
       → IsReadyFrom slot images m
       → Makes m (effect_on m staged c).later
-  unfolding effect
+  unfolding machine_effect
   ready_makes m staged (SetActive n) is =
       activates m (is_some (images_at m.state n)) (activated_of m.state.control n) is
   ready_makes m staged Boot is =
@@ -279,14 +283,17 @@ module _ (slot : ℕ) (images : List ImageOfSlot) where
       one m _ (inr is) (with_boot m (marked_of m.state.control) is)
   ready_makes m staged (Print name) is = prints m name (found_of m.state name) is
   ready_makes m staged (Digest name) is = digests m (found_of m.state name) is
-  ready_makes m staged Begin is = begins m m.state.phase is.ready is
+  ready_makes m staged Begin is = begins m false m.state.phase is.ready is
+  ready_makes m staged Factory is = begins m true m.state.phase is.ready is
   ready_makes m staged (Create name size) is =
-      edits m (create_edit name size) m.state.phase is.ready is
+      edits m no_guard (create_edit name size) m.state.phase is.ready is
   ready_makes m staged (Resize name size) is =
-      edits m (resize_edit name size) m.state.phase is.ready is
-  ready_makes m staged (Delete name) is = edits m (delete_edit name) m.state.phase is.ready is
+      edits m (settled_guard (nat_le size (2 ^ 40)) name) (resize_edit name size) m.state.phase
+      is.ready is
+  ready_makes m staged (Delete name) is =
+      edits m (settled_guard true name) (delete_edit name) m.state.phase is.ready is
   ready_makes m staged (Snapshot name size) is =
-      edits m (snapshot_edit name size) m.state.phase is.ready is
+      edits m store_guard (snapshot_edit name size) m.state.phase is.ready is
   ready_makes m staged (Flash name chunk) is =
       flashes m staged name chunk m.state.phase is.ready is
   ready_makes m staged Finish is = finished_again m m.state.phase is.ready is
@@ -322,26 +329,28 @@ module _ (slot : ℕ) (images : List ImageOfSlot) where
 
   -- Where that much was told, each cut of power leaves the slot its images, or a merge from it was
   -- begun.
-  pub kept_at_cut : (size : ℕ) (first : Kept Mounted) (exchanges done later : List Exchange)
-      (unfinished : Option (List ℕ)) (told : List ℕ) (o : Outcome)
+  pub kept_at_cut : (turns size : ℕ) (first : Kept Mounted) (exchanges done later : List Exchange)
+      (unfinished : Option (List ℕ)) (waits : Bool) (told : List ℕ) (o : Outcome)
       → CrashesWithin (IsIn size) (codes "FB01") first.now
-      (items_of response first exchanges unfinished) told o
+      (items_of (machine turns) first exchanges unfinished)
+      (closing_of (machine turns) unfinished waits (kept_after (machine turns) first exchanges))
+      told o
       → exchanges ≡ done ++ later
-      → Stands (kept_after response first done).now
+      → Stands (kept_after (machine turns) first done).now
       → (since : List ℕ)
       → o.told ≡ told ++ since
       → length done
-      ≤ acknowledged (items_of response first exchanges unfinished) (drop 4 since)
+      ≤ acknowledged (items_of (machine turns) first exchanges unfinished) (drop 4 since)
       → StandsKept size slot images o.image
       ⊎ FindsMergedFrom slot
-      (reached_in (kept_after response first done) later unfinished
-      (acknowledged (items_of response first exchanges unfinished) (drop 4 since)
+      (reached_in turns (kept_after (machine turns) first done) later unfinished waits
+      (acknowledged (items_of (machine turns) first exchanges unfinished) (drop 4 since)
       - length done))
-  kept_at_cut size first exchanges done later unfinished told o crash is stands since told_is
-      behind =
+  kept_at_cut turns size first exchanges done later unfinished waits told o crash is stands since
+      told_is behind =
       elim
-      (until.holds_at_cut Merged Stands apart command_makes size first exchanges done later
-      unfinished told o crash is stands since told_is behind) [
+      (until.holds_at_cut Merged Stands apart command_makes turns size first exchanges done later
+      unfinished waits told o crash is stands since told_is behind) [
         | inl at ↦ inl (stands_kept size o at.0 at.2 at.1)
         | inr found ↦ inr found
       ]

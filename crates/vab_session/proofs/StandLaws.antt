@@ -4,20 +4,21 @@ use Rattle.std.proofs.Common.{length, drop, codes, Option, Some, None, refl, sym
 use Rattle.std.proofs.lemmas.Bool.{cases_Bool}
 use Rattle.vab_disk.specs.Disk.{Outcome}
 use Rattle.vab_model.specs.declared.state.Image.{Image as ImageOfSlot}
-use Rattle.vab_model.specs.declared.state.PlanEntry.{PlanEntry}
+use Rattle.vab_model.specs.declared.state.Plan.{Plan}
 use Rattle.vab_model.specs.declared.state.Phase.{Phase}
 use Rattle.vab_model.specs.declared.state.Phase.TheVariants.{Installing, Staged}
 use Rattle.vab_model.specs.Commands.{Command, Finish}
 use Rattle.vab_model.specs.Kinds.{is_finish}
+use Rattle.vab_model.specs.Machine.{least_declared}
 use Rattle.vab_device.specs.Mounted.{Mounted}
 use Rattle.vab_device.specs.Reading.{IsIn}
-use Rattle.vab_device.specs.Updates.{effect_on, finish_effect, complete_effect, least_declared}
+use Rattle.vab_device.specs.Updates.{effect_on, finish_effect, complete_effect}
 use Rattle.vab_exchanges.specs.Session.{Exchange}
-use Rattle.vab_exchanges.specs.Items.{Kept, items_of, kept_after}
+use Rattle.vab_exchanges.specs.Items.{Kept, items_of, kept_after, closing_of}
 use Rattle.vab_exchanges.specs.Runs.{acknowledged, CrashesWithin}
 use Rattle.vab_session.specs.Alone.{IsAlone, IsUnready, IsReady, FindsReady, StandsAlone}
 use Rattle.vab_session.specs.Alone.{reached_in}
-use Rattle.vab_session.specs.Responses.{response}
+use Rattle.vab_session.specs.Responses.{machine}
 use Rattle.vab_session.proofs.AloneLaws.{alone_effect, stands_alone}
 use Rattle.vab_session.proofs.UntilLaws as until
 
@@ -43,7 +44,7 @@ module _ (slot : ℕ) (images : List ImageOfSlot) where
   abbrev pub Makes : Mounted → List Mounted → Type 0
   Makes m later = until.Makes Ready Stands apart m later
 
-  completes : (m : Mounted) (source : ℕ) (plan : List PlanEntry) (least : Option (List ℕ))
+  completes : (m : Mounted) (source : ℕ) (plan : Plan) (least : Option (List ℕ))
       → Stands m
       → Makes m (complete_effect m source plan least).later
   completes m source plan None stands = until.made_stop Ready Stands apart m _ tt
@@ -51,7 +52,7 @@ module _ (slot : ℕ) (images : List ImageOfSlot) where
 
   finishes : (m : Mounted) (phase : Phase) → Stands m → Makes m (finish_effect m phase).later
   finishes m (Installing source plan) stands =
-      completes m source plan (least_declared None plan) stands
+      completes m source plan (least_declared None plan.entries) stands
   finishes m _ stands = until.made_nothing Ready Stands apart m stands
 
   pub command_makes : (m : Mounted) (staged : Option (List ℕ)) (c : Command)
@@ -67,26 +68,28 @@ module _ (slot : ℕ) (images : List ImageOfSlot) where
   ]
 
   -- Where that much was told, each cut of power leaves the slot so, or an update was ready.
-  pub stands_at_cut : (size : ℕ) (first : Kept Mounted) (exchanges done later : List Exchange)
-      (unfinished : Option (List ℕ)) (told : List ℕ) (o : Outcome)
+  pub stands_at_cut : (turns size : ℕ) (first : Kept Mounted) (exchanges done later : List Exchange)
+      (unfinished : Option (List ℕ)) (waits : Bool) (told : List ℕ) (o : Outcome)
       → CrashesWithin (IsIn size) (codes "FB01") first.now
-      (items_of response first exchanges unfinished) told o
+      (items_of (machine turns) first exchanges unfinished)
+      (closing_of (machine turns) unfinished waits (kept_after (machine turns) first exchanges))
+      told o
       → exchanges ≡ done ++ later
-      → Stands (kept_after response first done).now
+      → Stands (kept_after (machine turns) first done).now
       → (since : List ℕ)
       → o.told ≡ told ++ since
       → length done
-      ≤ acknowledged (items_of response first exchanges unfinished) (drop 4 since)
+      ≤ acknowledged (items_of (machine turns) first exchanges unfinished) (drop 4 since)
       → StandsAlone size slot images o.image
       ⊎ FindsReady
-      (reached_in (kept_after response first done) later unfinished
-      (acknowledged (items_of response first exchanges unfinished) (drop 4 since)
+      (reached_in turns (kept_after (machine turns) first done) later unfinished waits
+      (acknowledged (items_of (machine turns) first exchanges unfinished) (drop 4 since)
       - length done))
-  stands_at_cut size first exchanges done later unfinished told o crash is alone since told_is
-      behind =
+  stands_at_cut turns size first exchanges done later unfinished waits told o crash is alone since
+      told_is behind =
       elim
-      (until.holds_at_cut Ready Stands apart command_makes size first exchanges done later
-      unfinished told o crash is alone since told_is behind) [
+      (until.holds_at_cut Ready Stands apart command_makes turns size first exchanges done later
+      unfinished waits told o crash is alone since told_is behind) [
         | inl at ↦ inl (stands_alone slot images size o.image at.0 at.2 at.1)
         | inr found ↦ inr found
       ]

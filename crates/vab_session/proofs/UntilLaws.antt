@@ -17,11 +17,14 @@ use Rattle.vab_fbproto.specs.Requests.{request_of}
 use Rattle.vab_fbproto.specs.declared.request.BadCommand.{BadCommand}
 use Rattle.vab_exchanges.specs.Session.{Exchange, packet, most_data}
 use Rattle.vab_exchanges.specs.Items.{Response, Kept, Item, item_by, item_of, item_open, items_of}
+use Rattle.vab_exchanges.specs.Items.{later_of, behind, passed, item_behind, open_behind}
+use Rattle.vab_exchanges.specs.Items.{closing_of}
 use Rattle.vab_exchanges.specs.Items.{item_asked, item_still, item_staged, item_download, item_done}
 use Rattle.vab_exchanges.specs.Items.{kept_after, unless_refused, no_memory}
 use Rattle.vab_exchanges.specs.Runs.{acknowledged, steps_at, CrashesWithin}
 use Rattle.vab_session.specs.Alone.{Finds, reached_in}
-use Rattle.vab_session.specs.Responses.{response, left_of}
+use Rattle.vab_exchanges.proofs.RunLaws.{last_in, item_begins, open_begins}
+use Rattle.vab_session.specs.Responses.{response, left_of, turns_between, machine}
 
 -- the last of some and of others behind them
 pub last_append : (m : Mounted) (xs ys : List Mounted)
@@ -176,7 +179,7 @@ module _ (Stops : Mounted → Type 0) where
     -- a step of one item alone
     pub item_step : (m : Mounted) (i : Item Mounted) (n : ℕ) (x : Mounted)
         → ItemMakes m i
-        → IsOneOf (steps_at m (i ∷ []) n) x
+        → IsOneOf (steps_at [] m (i ∷ []) n) x
         → Good x i.steps
     item_step m i zero x makes at = until_one i.steps x makes.until at
     item_step m i (suc n) x makes at = by makes.last
@@ -185,7 +188,7 @@ module _ (Stops : Mounted → Type 0) where
         by (inl stands) = inl (only i.last.now x stands (behind n at))
           where
             behind : (k : ℕ)
-                → IsOneOf (steps_at i.last.now [] k) x
+                → IsOneOf (steps_at [] i.last.now [] k) x
                 → IsOneOf (i.last.now ∷ []) x
             behind zero is = is
             behind (suc k) is = is
@@ -286,93 +289,204 @@ module _ (Stops : Mounted → Type 0) where
       unfolding item_open
       opened k command stands = still_makes k _ stands
 
-      pub session_makes : (k : Kept Mounted) (exchanges : List Exchange)
-          (unfinished : Option (List ℕ))
-          → EachMakes k.now (items_of response k exchanges unfinished)
-      session_makes k [] None = tt
-      session_makes k [] (Some command) = (opened k command, tt)
-      session_makes k (s ∷ ss) unfinished =
-          (exchanged k s, session_makes (item_of response k s).last ss unfinished)
+      -- the turns of a merge between two packets
+      pub goes_on : (turns : ℕ) (m : Mounted) → Stands m → Makes m (turns_between turns m)
+      goes_on turns m stands = commands m None (Merge turns) stands
 
-      -- ---- the steps of a session
-
-      -- a step of the item behind the first n of some
-      items_step : (m : Mounted) (items : List (Item Mounted)) (n : ℕ) (x : Mounted)
-          → EachMakes m items
+      -- an item with them in front of it
+      behind_makes : (m : Mounted) (front : List Mounted) (i : Item Mounted)
+          → i.steps ≡ last_of m front ∷ later_of i.steps
           → Stands m
-          → IsOneOf (steps_at m items n) x
-          → Good x (flat_map (λ (i : Item Mounted). i.steps) (take n items) ++ steps_at m items n)
-      items_step m [] zero x makes stands at = inl (only m x stands at)
-      items_step m [] (suc n) x makes stands at = inl (only m x stands at)
-      items_step m (i ∷ is) zero x makes stands at = until_one i.steps x (makes.0 stands).until at
-      items_step m (i ∷ is) (suc n) x makes stands at =
-          let rest : List Mounted = flat_map (λ (j : Item Mounted). j.steps) (take n is) in
-          let more : List Mounted = steps_at i.last.now is n in
-          subst (Good x) (sym (append_assoc i.steps rest more))
-          (elim (makes.0 stands).last [
-            | inl next ↦
-                elim (items_step i.last.now is n x makes.1 next at) [
-                  | inl stays ↦ inl stays
-                  | inr found ↦ inr (found_right i.steps (rest ++ more) found)
-                ]
-            | inr found ↦ inr (found_left i.steps (rest ++ more) found)
-          ])
+          → Makes m front
+          → (Stands (last_of m front) → ItemMakes (last_of m front) i)
+          → ItemMakes m (behind m front i)
+      behind_makes m front i begins stands made makes = by made.last
+        where
+          later : List Mounted
+          later = later_of i.steps
 
-      -- the same behind some exchanges
-      session_step : (first : Kept Mounted) (done later : List Exchange)
-          (unfinished : Option (List ℕ)) (n : ℕ) (x : Mounted)
-          → Stands (kept_after response first done).now
-          → length done ≤ n
-          → IsOneOf (steps_at first.now (items_of response first (done ++ later) unfinished) n) x
-          → Good x (reached_in (kept_after response first done) later unfinished (n - length done))
-      session_step first [] later unfinished n x stands behind at =
-          let same : n ≡ n - 0 = omega arith in
-          subst (λ (j : ℕ). Good x (reached_in first later unfinished j)) same
-          (items_step first.now (items_of response first later unfinished) n x
-          (session_makes first later unfinished) stands at)
-      session_step first (s ∷ done) later unfinished zero x stands behind at =
-          absurd (omega (arith, behind))
-      session_step first (s ∷ done) later unfinished (suc n) x stands behind at =
-          let k : Kept Mounted = kept_after response (item_of response first s).last done in
-          let same : n - length done ≡ suc n - length (s ∷ done) = omega arith in
-          subst (λ (j : ℕ). Good x (reached_in k later unfinished j)) same
-          (session_step (item_of response first s).last done later unfinished n x stands
-          (omega (arith, behind)) at)
+          rest : Stands (last_of m front) → Until i.steps → Until later
+          rest at is = unfirst (subst Until begins is)
+            where
+              unfirst : Until (last_of m front ∷ later) → Until later
+              unfirst (inl stops) = absurd (apart (last_of m front) at stops)
+              unfirst (inr (here, until)) = until
 
-      -- Where that much was told, each cut of power leaves a device of which it holds, or it had
-      -- stopped.
-      pub holds_at_cut : (size : ℕ) (first : Kept Mounted) (exchanges done later : List Exchange)
-          (unfinished : Option (List ℕ)) (told : List ℕ) (o : Outcome)
-          → CrashesWithin (IsIn size) (codes "FB01") first.now
-          (items_of response first exchanges unfinished) told o
-          → exchanges ≡ done ++ later
-          → Stands (kept_after response first done).now
-          → (since : List ℕ)
-          → o.told ≡ told ++ since
-          → length done
-          ≤ acknowledged (items_of response first exchanges unfinished) (drop 4 since)
-          → ((x : Mounted) × Stands x × IsIn size x o.image)
-          ⊎ Finds Stops
-          (reached_in (kept_after response first done) later unfinished
-          (acknowledged (items_of response first exchanges unfinished) (drop 4 since)
-          - length done))
-      holds_at_cut size first exchanges done later unfinished told o crash is stands since told_is
-          behind =
-          let same : crash.since ≡ since =
-          append_cancel_left told crash.since since (sym crash.told_since ∙ told_is) in
-          let items : List (Item Mounted) = items_of response first exchanges unfinished in
-          let n : ℕ = acknowledged items (drop 4 since) in
-          let x : Mounted = crash.step.0 in
-          let step : IsOneOf (steps_at first.now items n) x =
-          subst
-          (λ (l : List ℕ). IsOneOf (steps_at first.now items (acknowledged items (drop 4 l))) x)
-          same crash.step.1 in
-          elim
-          (session_step first done later unfinished n x stands behind
-          (subst
-          (λ (l : List Exchange). IsOneOf
-          (steps_at first.now (items_of response first l unfinished) n) x)
-          is step)) [
-            | inl stays ↦ inl (x, stays, crash.step.2)
-            | inr found ↦ inr found
-          ]
+          further : Stands (last_of m front)
+              → Finds Stops i.steps
+              → Finds Stops (m ∷ (front ++ later))
+          further at found =
+              let there : Finds Stops (last_of m front ∷ later) =
+              subst (Finds Stops) begins found in
+              elim there.reached [
+                | inl here ↦
+                    absurd (apart (last_of m front) at (subst Stops here there.is))
+                | inr behind ↦
+                    found_later m (front ++ later)
+                    (found_right front later
+                    (record { mounted = there.mounted; reached = behind; is = there.is }))
+              ]
+
+          by : Good (last_of m front) front → ItemMakes m (behind m front i)
+          by (inl at) = record {
+            until =
+                inr (stands, until_append front later made.until (rest at (makes at).until));
+            last =
+                elim (makes at).last [
+                  | inl last ↦ inl last
+                  | inr found ↦ inr (further at found)
+                ];
+          }
+          by (inr found) = record {
+            until = inr (stands, until_found front later made.until found);
+            last = inr (found_later m (front ++ later) (found_left front later found));
+          }
+
+      module _ (turns : ℕ) where
+        exchange_makes : (k : Kept Mounted) (s : Exchange)
+            → Stands k.now
+            → ItemMakes k.now (item_behind (machine turns) k s)
+        exchange_makes k s stands =
+            let k' : Kept Mounted = passed (machine turns) k in
+            behind_makes k.now (turns_between turns k.now) (item_of response k' s)
+            (item_begins response k' s) stands (goes_on turns k.now stands)
+            (λ at. exchanged k' s at)
+
+        open_makes : (k : Kept Mounted) (command : List ℕ)
+            → Stands k.now
+            → ItemMakes k.now (open_behind (machine turns) k command)
+        open_makes k command stands =
+            let k' : Kept Mounted = passed (machine turns) k in
+            behind_makes k.now (turns_between turns k.now) (item_open response k' command)
+            (open_begins response k' command) stands (goes_on turns k.now stands)
+            (λ at. opened k' command at)
+
+        pub session_makes : (k : Kept Mounted) (exchanges : List Exchange)
+            (unfinished : Option (List ℕ))
+            → EachMakes k.now (items_of (machine turns) k exchanges unfinished)
+        session_makes k [] None = tt
+        session_makes k [] (Some command) = (open_makes k command, tt)
+        session_makes k (s ∷ ss) unfinished = (
+          exchange_makes k s,
+          session_makes (item_behind (machine turns) k s).last ss unfinished,
+        )
+
+        -- what closes a session
+        pub closing_makes : (unfinished : Option (List ℕ)) (waits : Bool) (k : Kept Mounted)
+            (exchanges : List Exchange)
+            → Stands (last_in k.now (items_of (machine turns) k exchanges unfinished))
+            → Makes (last_in k.now (items_of (machine turns) k exchanges unfinished))
+            (closing_of (machine turns) unfinished waits (kept_after (machine turns) k exchanges))
+        closing_makes None true k [] stands = goes_on turns k.now stands
+        closing_makes None false k [] stands = made_nothing k.now stands
+        closing_makes (Some command) waits k [] stands =
+            made_nothing (open_behind (machine turns) k command).last.now stands
+        closing_makes unfinished waits k (s ∷ ss) stands =
+            closing_makes unfinished waits (item_behind (machine turns) k s).last ss stands
+
+        -- ---- the steps of a session
+
+        -- a step of the item behind the first n of some
+        pub items_step : (closing : List Mounted) (m : Mounted) (items : List (Item Mounted))
+            (n : ℕ) (x : Mounted)
+            → EachMakes m items
+            → (Stands (last_in m items) → Makes (last_in m items) closing)
+            → Stands m
+            → IsOneOf (steps_at closing m items n) x
+            → Good x
+            (flat_map (λ (i : Item Mounted). i.steps) (take n items)
+            ++ steps_at closing m items n)
+        items_step closing m [] zero x makes closes stands at =
+            until_one (m ∷ closing) x (inr (stands, (closes stands).until)) at
+        items_step closing m [] (suc n) x makes closes stands at =
+            until_one (m ∷ closing) x (inr (stands, (closes stands).until)) at
+        items_step closing m (i ∷ is) zero x makes closes stands at =
+            until_one i.steps x (makes.0 stands).until at
+        items_step closing m (i ∷ is) (suc n) x makes closes stands at =
+            let rest : List Mounted = flat_map (λ (j : Item Mounted). j.steps) (take n is) in
+            let more : List Mounted = steps_at closing i.last.now is n in
+            subst (Good x) (sym (append_assoc i.steps rest more))
+            (elim (makes.0 stands).last [
+              | inl next ↦
+                  elim (items_step closing i.last.now is n x makes.1 closes next at) [
+                    | inl stays ↦ inl stays
+                    | inr found ↦ inr (found_right i.steps (rest ++ more) found)
+                  ]
+              | inr found ↦ inr (found_left i.steps (rest ++ more) found)
+            ])
+
+        -- the same behind some exchanges
+        session_step : (first : Kept Mounted) (done later : List Exchange)
+            (unfinished : Option (List ℕ)) (waits : Bool) (n : ℕ) (x : Mounted)
+            → Stands (kept_after (machine turns) first done).now
+            → length done ≤ n
+            → IsOneOf
+            (steps_at
+            (closing_of (machine turns) unfinished waits
+            (kept_after (machine turns) first (done ++ later)))
+            first.now (items_of (machine turns) first (done ++ later) unfinished) n) x
+            → Good x
+            (reached_in turns (kept_after (machine turns) first done) later unfinished waits
+            (n - length done))
+        session_step first [] later unfinished waits n x stands behind at =
+            let same : n ≡ n - 0 = omega arith in
+            subst (λ (j : ℕ). Good x (reached_in turns first later unfinished waits j)) same
+            (items_step
+            (closing_of (machine turns) unfinished waits (kept_after (machine turns) first later))
+            first.now (items_of (machine turns) first later unfinished) n x
+            (session_makes first later unfinished) (closing_makes unfinished waits first later)
+            stands at)
+        session_step first (s ∷ done) later unfinished waits zero x stands behind at =
+            absurd (omega (arith, behind))
+        session_step first (s ∷ done) later unfinished waits (suc n) x stands behind at =
+            let k : Kept Mounted =
+            kept_after (machine turns) (item_behind (machine turns) first s).last done in
+            let same : n - length done ≡ suc n - length (s ∷ done) = omega arith in
+            subst (λ (j : ℕ). Good x (reached_in turns k later unfinished waits j)) same
+            (session_step (item_behind (machine turns) first s).last done later unfinished waits n
+            x stands (omega (arith, behind)) at)
+
+        -- Where that much was told, each cut of power leaves a device of which it holds, or it had
+        -- stopped.
+        pub holds_at_cut : (size : ℕ) (first : Kept Mounted) (exchanges done later : List Exchange)
+            (unfinished : Option (List ℕ)) (waits : Bool) (told : List ℕ) (o : Outcome)
+            → CrashesWithin (IsIn size) (codes "FB01") first.now
+            (items_of (machine turns) first exchanges unfinished)
+            (closing_of (machine turns) unfinished waits
+            (kept_after (machine turns) first exchanges))
+            told o
+            → exchanges ≡ done ++ later
+            → Stands (kept_after (machine turns) first done).now
+            → (since : List ℕ)
+            → o.told ≡ told ++ since
+            → length done
+            ≤ acknowledged (items_of (machine turns) first exchanges unfinished) (drop 4 since)
+            → ((x : Mounted) × Stands x × IsIn size x o.image)
+            ⊎ Finds Stops
+            (reached_in turns (kept_after (machine turns) first done) later unfinished waits
+            (acknowledged (items_of (machine turns) first exchanges unfinished) (drop 4 since)
+            - length done))
+        holds_at_cut size first exchanges done later unfinished waits told o crash is stands since
+            told_is behind =
+            let same : crash.since ≡ since =
+            append_cancel_left told crash.since since (sym crash.told_since ∙ told_is) in
+            let items : List (Item Mounted) = items_of (machine turns) first exchanges unfinished in
+            let closing : List Exchange → List Mounted =
+            λ l. closing_of (machine turns) unfinished waits (kept_after (machine turns) first l) in
+            let n : ℕ = acknowledged items (drop 4 since) in
+            let x : Mounted = crash.step.0 in
+            let step : IsOneOf (steps_at (closing exchanges) first.now items n) x =
+            subst
+            (λ (l : List ℕ).
+            IsOneOf (steps_at (closing exchanges) first.now items (acknowledged items (drop 4 l)))
+            x)
+            same crash.step.1 in
+            elim
+            (session_step first done later unfinished waits n x stands behind
+            (subst
+            (λ (l : List Exchange). IsOneOf
+            (steps_at (closing l) first.now (items_of (machine turns) first l unfinished) n) x)
+            is step)) [
+              | inl stays ↦ inl (x, stays, crash.step.2)
+              | inr found ↦ inr found
+            ]

@@ -14,7 +14,7 @@ use Rattle.vab_disk.proofs.CallLaws.{same_then}
 use Rattle.vab_disk.proofs.Moments.{adds_none, adds_on, adds_still, adds_wider}
 use Rattle.vab_gate.specs.declared.gate.DiskFault.{DiskFault}
 use Rattle.vab_model.specs.declared.command.Reply.{Reply}
-use Rattle.vab_model.specs.Commands.{Command}
+use Rattle.vab_model.specs.Commands.{Command, Merge}
 use Rattle.vab_model.specs.declared.command.Refusal.TheVariants.{NoMemory}
 use Rattle.vab_model.specs.Effects.{Effect, refuses, unless_refused}
 use Rattle.vab_device.specs.declared.device.Device.{Device}
@@ -25,9 +25,9 @@ use Rattle.vab_device.specs.Updates.{effect_on}
 use Rattle.vab_commands.specs.Writes.{IsOfCommand}
 use Rattle.vab_exchanges.specs.Hearing.{Listens}
 use Rattle.vab_exchanges.specs.Session.{Exchange, IsExchange, packet, spelled}
-use Rattle.vab_exchanges.specs.Items.{Kept, item_of}
+use Rattle.vab_exchanges.specs.Items.{Kept, item_of, passed, item_behind}
 use Rattle.vab_session.specs.Merges.{AreExchanges}
-use Rattle.vab_session.specs.Responses.{response}
+use Rattle.vab_session.specs.Responses.{response, machine}
 use Rattle.vab_session.specs.Served.{nothing_staged}
 use Rattle.vab_session.specs.Written.{IsOfChange, IsOfAsked, IsOfPacket, WrittenInTurn}
 use Rattle.vab_session.specs.Written.{WritesInTurn, WritesAs, WritesPacket, command_asked}
@@ -61,6 +61,19 @@ module _ {D : Type 0} (g : Ghosts D) (W : ℕ → List ℕ → Type 0) where
     time = λ rest. adds_wider g.moment g.outcomes old new _ _ time (λ o none. absurd none);
   }
 
+  -- and behind it nothing more
+  pub writes_heard : (old mid new : D)
+      → WritesAs g W old mid
+      → g.seen new ≡ g.seen mid
+      → Adds g.moment g.outcomes mid new Nothing
+      → WritesAs g W old new
+  writes_heard old mid new first same time = record {
+    seen = subst (SameBut W (g.seen old)) (sym same) first.seen;
+    time = λ rest.
+        adds_still g.moment g.outcomes old mid new (λ o. SameBut W (g.seen old) o.image)
+        (first.time rest) time;
+  }
+
   -- such sectors are touched
   pub writes_touches : g.is_modelled → (old new : D) → Touches g W old new → WritesAs g W old new
   writes_touches t old new touches = record {
@@ -90,6 +103,14 @@ module _ {D : Type 0} (g : Ghosts D) (W : ℕ → List ℕ → Type 0) where
         (λ s. rests rest s (o.image s) (leaves.each_sector s))))
         first.seen);
   }
+
+-- where more may be written
+pub same_wider : (V W : ℕ → List ℕ → Type 0) (old new : Image)
+    → ((s : ℕ) (b : List ℕ) → V s b → W s b)
+    → SameBut V old new
+    → SameBut W old new
+same_wider V W old new wider same s =
+    ⊎_elim (λ kept. inl kept) (λ wrote. inr (wider s (new s) wrote)) (same s)
 
 pub writes_as : {D : Type 0} (g : Ghosts D) (V W : ℕ → List ℕ → Type 0) (old new : D)
     → ((s : ℕ) (b : List ℕ) → V s b → W s b)
@@ -162,16 +183,31 @@ module _ {D : Type 0} (g : Ghosts D) (t : g.is_modelled) (d : Device) (k : Kept 
       (writes_touches g W t old new (does.touches t))
 
 -- what is written where nothing failed
+pub change_wider : (M F G : Type 0) (d : Device) (k : Kept Mounted) (old : List ℕ) (c : Command)
+    → (F → G)
+    → (s : ℕ) (b : List ℕ)
+    → IsOfChange M F d k old c s b
+    → IsOfChange M G d k old c s b
+change_wider M F G d k old c f s b is = record {
+  changes = ⊎_elim (λ failed. inl (f failed)) (λ changes. inr changes) is.changes;
+  writes = is.writes;
+}
+
 pub asked_wider : (M F G : Type 0) (d : Device) (k : Kept Mounted) (old : List ℕ)
     (c : Option Command) (s : ℕ) (b : List ℕ)
     → (F → G)
     → IsOfAsked M F d k old c s b
     → IsOfAsked M G d k old c s b
 asked_wider M F G d k old None s b f is = is
-asked_wider M F G d k old (Some c) s b f is = record {
-  changes = ⊎_elim (λ failed. inl (f failed)) (λ changes. inr changes) is.changes;
-  writes = is.writes;
-}
+asked_wider M F G d k old (Some c) s b f is = change_wider M F G d k old c f s b is
+
+packet_wider : (M F G : Type 0) (d : Device) (k : Kept Mounted) (old command : List ℕ)
+    → (F → G)
+    → (s : ℕ) (b : List ℕ)
+    → IsOfPacket M F d k old command s b
+    → IsOfPacket M G d k old command s b
+packet_wider M F G d k old command f s b is =
+    asked_wider M F G d k old (command_asked d (request_of command)) s b f is
 
 -- ---- one exchange behind the other
 
@@ -190,111 +226,169 @@ spelled_more (t ∷ ts) s later =
     ∙ ap (λ (l : List ℕ). spelled t ++ l) (spelled_more ts s later)
     ∙ sym (append_assoc (spelled t) (flat_map spelled ts) (spelled s ++ later))
 
-module _ (M F : Type 0) (size : ℕ) where
+module _ (M : Type 0) (turns size : ℕ) where
+  -- the turns of a merge before a packet is heard are made, which leaves this device
+  pub record IsPassed (d : Device) (k : Kept Mounted) (old : Image) (next : Device) (now : Image)
+      : Type 0 where
+    pub wrote : SameBut (IsOfChange M ⊥ d k (old 4) (Merge turns)) old now
+    pub represents : Represents next size now
+    pub is : mounted_on next now ≡ (passed (machine turns) k).now
+
+  -- a packet is answered, which leaves this device
+  pub record IsAnswered (d : Device) (k : Kept Mounted) (old : Image) (s : Exchange)
+      (next : Device) (now : Image) : Type 0 where
+    pub wrote : SameBut (IsOfPacket M ⊥ d k (old 4) s.command) old now
+    pub represents : Represents next size now
+    pub is : mounted_on next now ≡ (item_of response k s).last.now
+
   -- the exchanges are done, and this device is kept behind them
-  abbrev pub Turned : Device → Kept Mounted → Image → List Exchange → Device → Kept Mounted → Image
+  abbrev pub Carried : Device
+      → Kept Mounted
+      → Image
+      → List Exchange
+      → Device
+      → Kept Mounted
+      → Image
       → Type 0
-  Turned d k old [] d' k' now = (d' ≡ d) × (k' ≡ k) × (now ≡ old)
-  Turned d k old (s ∷ ss) d' k' now =
+  Carried d k old [] d' k' now = (d' ≡ d) × (k' ≡ k) × (now ≡ old)
+  Carried d k old (s ∷ ss) d' k' now =
       (next : Device)
       × (mid : Image)
-      × SameBut (IsOfPacket M ⊥ d k (old 4) s.command) old mid
-      × Represents next size mid
-      × (mounted_on next mid ≡ (item_of response k s).last.now)
-      × Turned next (item_of response k s).last mid ss d' k' now
+      × IsPassed d k old next mid
+      × (next' : Device)
+      × (mid' : Image)
+      × IsAnswered next (passed (machine turns) k) mid s next' mid'
+      × Carried next' (item_behind (machine turns) k s).last mid' ss d' k' now
 
   -- one exchange more
-  pub turned_more : (d : Device) (k : Kept Mounted) (old : Image) (done : List Exchange)
-      (d' : Device) (k' : Kept Mounted) (mid : Image)
+  pub carried_more : (d : Device) (k : Kept Mounted) (old : Image) (done : List Exchange)
+      (d' : Device) (k' : Kept Mounted) (mid : Image) (next : Device) (mid' : Image)
       (s : Exchange) (d'' : Device) (k'' : Kept Mounted) (now : Image)
-      → Turned d k old done d' k' mid
-      → SameBut (IsOfPacket M ⊥ d' k' (mid 4) s.command) mid now
-      → Represents d'' size now
-      → mounted_on d'' now ≡ (item_of response k' s).last.now
-      → k'' ≡ (item_of response k' s).last
-      → Turned d k old (done ++ s ∷ []) d'' k'' now
-  turned_more d k old [] d' k' mid s d'' k'' now (devices, kept, images) wrote represents is last =
-      let here : SameBut (IsOfPacket M ⊥ d k (old 4) s.command) old now =
+      → Carried d k old done d' k' mid
+      → IsPassed d' k' mid next mid'
+      → IsAnswered next (passed (machine turns) k') mid' s d'' now
+      → k'' ≡ (item_behind (machine turns) k' s).last
+      → Carried d k old (done ++ s ∷ []) d'' k'' now
+  carried_more d k old [] d' k' mid next mid' s d'' k'' now (devices, kept, images) turned
+      answered last =
       subst
-      (λ (x : Device × Kept Mounted × Image).
-      SameBut (IsOfPacket M ⊥ x.0 x.1 (x.2 4) s.command) x.2 now)
-      (λ i. (devices i, kept i, images i)) wrote in (
-        d'',
-        now,
-        here,
-        represents,
-        is ∙ ap (λ (x : Kept Mounted). (item_of response x s).last.now) kept,
-        (refl, last ∙ ap (λ (x : Kept Mounted). (item_of response x s).last) kept, refl),
-      )
-  turned_more d k old (x ∷ xs) d' k' mid s d'' k'' now first wrote represents is last = (
+      (λ (x : Device × Kept Mounted × Image). Carried x.0 x.1 x.2 (s ∷ []) d'' k'' now)
+      (λ i. (devices i, kept i, images i))
+      (next, mid', turned, d'', now, answered, (refl, last, refl))
+  carried_more d k old (x ∷ xs) d' k' mid next mid' s d'' k'' now first turned answered last = (
     first.0,
     first.1,
     first.2,
     first.3,
     first.4,
-    turned_more first.0 (item_of response k x).last first.1 xs d' k' mid s d'' k'' now first.5
-        wrote represents is last,
+    first.5,
+    carried_more first.3 (item_behind (machine turns) k x).last first.4 xs d' k' mid next mid' s
+        d'' k'' now first.6 turned answered last,
   )
 
-  -- behind them others
-  pub written_behind : (d : Device) (k : Kept Mounted) (old : Image) (done : List Exchange)
-      (d' : Device) (k' : Kept Mounted) (mid : Image) (ss : List Exchange)
-      (more : Option (List ℕ)) (image : Image)
-      → Turned d k old done d' k' mid
-      → WrittenInTurn M F size d' k' mid ss more image
-      → WrittenInTurn M F size d k old (done ++ ss) more image
-  written_behind d k old [] d' k' mid ss more image (devices, kept, images) is =
-      subst
-      (λ (x : Device × Kept Mounted × Image). WrittenInTurn M F size x.0 x.1 x.2 ss more image)
-      (λ i. (devices i, kept i, images i)) is
-  written_behind d k old (x ∷ xs) d' k' mid ss more image first is = inr (
-    first.0,
-    first.1,
-    first.2,
-    first.3,
-    first.4,
-    written_behind first.0 (item_of response k x).last first.1 xs d' k' mid ss more image first.5
-        is,
-  )
+  module _ (F : Type 0) where
+    -- behind them others
+    pub written_behind : (d : Device) (k : Kept Mounted) (old : Image) (done : List Exchange)
+        (d' : Device) (k' : Kept Mounted) (mid : Image) (ss : List Exchange)
+        (more : Option (List ℕ)) (image : Image)
+        → Carried d k old done d' k' mid
+        → WrittenInTurn M F turns size d' k' mid ss more image
+        → WrittenInTurn M F turns size d k old (done ++ ss) more image
+    written_behind d k old [] d' k' mid ss more image (devices, kept, images) is =
+        subst
+        (λ (x : Device × Kept Mounted × Image).
+        WrittenInTurn M F turns size x.0 x.1 x.2 ss more image)
+        (λ i. (devices i, kept i, images i)) is
+    written_behind d k old (x ∷ xs) d' k' mid ss more image first is = inr (
+      first.0,
+      first.1,
+      first.2.wrote,
+      first.2.represents,
+      first.2.is,
+      inr (
+        first.3,
+        first.4,
+        first.5.wrote,
+        first.5.represents,
+        first.5.is,
+        written_behind first.3 (item_behind (machine turns) k x).last first.4 xs d' k' mid ss
+            more image first.6 is,
+      ),
+    )
 
-  -- nothing more is written
-  pub written_still : (d : Device) (k : Kept Mounted) (old : Image) (ss : List Exchange)
-      (more : Option (List ℕ))
-      → WrittenInTurn M F size d k old ss more old
-  written_still d k old [] None = refl
-  written_still d k old [] (Some command) = λ n. inl refl
-  written_still d k old (s ∷ ss) more = inl (λ n. inl refl)
+    -- nothing more is written
+    pub written_still : (d : Device) (k : Kept Mounted) (old : Image) (ss : List Exchange)
+        (more : Option (List ℕ))
+        → WrittenInTurn M F turns size d k old ss more old
+    written_still d k old [] None = λ n. inl refl
+    written_still d k old [] (Some command) = inl (λ n. inl refl)
+    written_still d k old (s ∷ ss) more = inl (λ n. inl refl)
 
 -- where less may fail
-pub written_wider : (M F G : Type 0) (size : ℕ) (d : Device) (k : Kept Mounted) (old : Image)
+pub written_wider : (M F G : Type 0) (turns size : ℕ) (d : Device) (k : Kept Mounted) (old : Image)
     (ss : List Exchange) (more : Option (List ℕ)) (image : Image)
     → (F → G)
-    → WrittenInTurn M F size d k old ss more image
-    → WrittenInTurn M G size d k old ss more image
-written_wider M F G size d k old [] None image f is = is
-written_wider M F G size d k old [] (Some command) image f is = λ s.
-    ⊎_elim (λ same. inl same)
-    (λ wrote.
-    inr (asked_wider M F G d k (old 4) (command_asked d (request_of command)) s (image s) f wrote))
-    (is s)
-written_wider M F G size d k old (s ∷ ss) more image f (inl is) = inl (λ n.
-    ⊎_elim (λ same. inl same)
-    (λ wrote.
-    inr (asked_wider M F G d k (old 4) (command_asked d (request_of s.command)) n (image n) f
-    wrote))
-    (is n))
-written_wider M F G size d k old (s ∷ ss) more image f (inr is) = inr (
-  is.0,
-  is.1,
-  is.2,
-  is.3,
-  is.4,
-  written_wider M F G size is.0 (item_of response k s).last is.1 ss more image f is.5,
-)
+    → WrittenInTurn M F turns size d k old ss more image
+    → WrittenInTurn M G turns size d k old ss more image
+written_wider M F G turns size d k old [] None image f is =
+    same_wider (IsOfChange M F d k (old 4) (Merge turns))
+    (IsOfChange M G d k (old 4) (Merge turns)) old image
+    (change_wider M F G d k (old 4) (Merge turns) f) is
+written_wider M F G turns size d k old [] (Some command) image f (inl is) =
+    inl (same_wider (IsOfChange M F d k (old 4) (Merge turns))
+    (IsOfChange M G d k (old 4) (Merge turns)) old image
+    (change_wider M F G d k (old 4) (Merge turns) f) is)
+written_wider M F G turns size d k old [] (Some command) image f (inr is) =
+    let k' : Kept Mounted = passed (machine turns) k in
+    inr (
+      is.0,
+      is.1,
+      is.2,
+      is.3,
+      is.4,
+      same_wider (IsOfPacket M F is.0 k' (is.1 4) command)
+          (IsOfPacket M G is.0 k' (is.1 4) command) is.1 image
+          (packet_wider M F G is.0 k' (is.1 4) command f) is.5,
+    )
+written_wider M F G turns size d k old (s ∷ ss) more image f (inl is) =
+    inl (same_wider (IsOfChange M F d k (old 4) (Merge turns))
+    (IsOfChange M G d k (old 4) (Merge turns)) old image
+    (change_wider M F G d k (old 4) (Merge turns) f) is)
+written_wider M F G turns size d k old (s ∷ ss) more image f
+    (inr (next, mid, wrote, represents, is, inl part)) =
+    let k' : Kept Mounted = passed (machine turns) k in
+    inr (
+      next,
+      mid,
+      wrote,
+      represents,
+      is,
+      inl (same_wider (IsOfPacket M F next k' (mid 4) s.command)
+          (IsOfPacket M G next k' (mid 4) s.command) mid image
+          (packet_wider M F G next k' (mid 4) s.command f) part),
+    )
+written_wider M F G turns size d k old (s ∷ ss) more image f
+    (inr (next, mid, wrote, represents, is, inr all)) =
+    inr (
+      next,
+      mid,
+      wrote,
+      represents,
+      is,
+      inr (
+        all.0,
+        all.1,
+        all.2,
+        all.3,
+        all.4,
+        written_wider M F G turns size all.0 (item_behind (machine turns) k s).last all.1 ss more
+            image f all.5,
+      ),
+    )
 
 -- ---- a session that has come so far
 
-module _ {D : Type 0} (g : Ghosts D) (size : ℕ) (d : Device) (k : Kept Mounted)
+module _ {D : Type 0} (g : Ghosts D) (turns size : ℕ) (d : Device) (k : Kept Mounted)
     (bytes : List ℕ) where
   -- The exchanges that are done, and what they have written: this device is kept behind them, and
   -- whatever comes behind them, no outcome was written otherwise.
@@ -303,85 +397,37 @@ module _ {D : Type 0} (g : Ghosts D) (size : ℕ) (d : Device) (k : Kept Mounted
       pub done : List Exchange
       pub are : AreExchanges done
       pub is : bytes ≡ flat_map spelled done ++ left
-      pub turned : Turned g.is_modelled ⊥ size d k (g.seen old) done d' k' (g.seen now)
+      pub carried : Carried g.is_modelled turns size d k (g.seen old) done d' k' (g.seen now)
+      pub rests : IsAtRest g old → IsAtRest g now
       pub time : IsAtRest g old
           → (ss : List Exchange)
           → (more : Option (List ℕ))
           → Adds g.moment g.outcomes old now
-          (λ o. WrittenInTurn g.is_modelled ⊥ size d k (g.seen old) (done ++ ss) more o.image)
+          (λ o. WrittenInTurn g.is_modelled ⊥ turns size d k (g.seen old) (done ++ ss) more
+          o.image)
 
   pub written_none : (old : D) → HasWritten d k bytes old old
   written_none old = record {
     done = [];
     are = tt;
     is = refl;
-    turned = (refl, refl, refl);
+    carried = (refl, refl, refl);
+    rests = λ rest. rest;
     time = λ rest ss more. adds_none g.moment g.outcomes old _;
   }
 
-  -- something is heard
-  pub written_heard : (d' : Device) (staged : Option (List ℕ)) (left : List ℕ) (old mid now : D)
-      → g.seen now ≡ g.seen mid
-      → Adds g.moment g.outcomes mid now Nothing
-      → HasWritten d' (record { now = mounted_on d' (g.seen mid); staged = staged }) left old mid
-      → HasWritten d' (record { now = mounted_on d' (g.seen now); staged = staged }) left old now
-  written_heard d' staged left old mid now same time so_far = record {
-    done = so_far.done;
-    are = so_far.are;
-    is = so_far.is;
-    turned =
-        subst
-        (λ (image : Image).
-        Turned g.is_modelled ⊥ size d k (g.seen old) so_far.done d'
-        (record { now = mounted_on d' image; staged = staged }) image)
-        (sym same) so_far.turned;
-    time = λ rest ss more.
-        adds_still g.moment g.outcomes old mid now _ (so_far.time rest ss more) time;
-  }
+  -- The turns of a merge before the next packet write so.
+  abbrev pub WritesTurns : (F : Type 0) → Device → Kept Mounted → (old new : D) → Type 0
+  WritesTurns F d' k' old new =
+      WritesAs g (IsOfChange g.is_modelled F d' k' (g.seen old 4) (Merge turns)) old new
 
-  -- one exchange more is answered
-  pub written_more : (d' d'' : Device) (k' k'' : Kept Mounted) (left after : List ℕ)
-      (s : Exchange) (old mid now : D)
+  -- It ends here, with some of the turns that another packet would find made.
+  pub written_end : (F : Type 0) (d' : Device) (k' : Kept Mounted) (left : List ℕ) (old mid now : D)
       → HasWritten d' k' left old mid
-      → IsExchange s
-      → left ≡ spelled s ++ after
-      → (IsAtRest g old → IsAtRest g mid)
-      → WritesPacket g ⊥ d' k' s.command mid now
-      → Represents d'' size (g.seen now)
-      → mounted_on d'' (g.seen now) ≡ k''.now
-      → k'' ≡ (item_of response k' s).last
-      → HasWritten d'' k'' after old now
-  written_more d' d'' k' k'' left after s old mid now so_far one here rests wrote represents is
-      last = record {
-        done = so_far.done ++ s ∷ [];
-        are = more_exchanges so_far.done s so_far.are one;
-        is =
-            so_far.is
-            ∙ ap (λ (l : List ℕ). flat_map spelled so_far.done ++ l) here
-            ∙ sym (spelled_more so_far.done s after);
-        turned =
-            turned_more g.is_modelled ⊥ size d k (g.seen old) so_far.done d' k' (g.seen mid) s d''
-            k''
-            (g.seen now) so_far.turned wrote.seen represents
-            (is ∙ ap (λ (x : Kept Mounted). x.now) last) last;
-        time = λ rest ss more.
-            subst
-            (λ (l : List Exchange).
-            Adds g.moment g.outcomes old now
-            (λ o. WrittenInTurn g.is_modelled ⊥ size d k (g.seen old) l more o.image))
-            (sym (append_assoc so_far.done (s ∷ []) ss))
-            (adds_on g.moment g.outcomes old mid now _ _ (so_far.time rest (s ∷ ss) more)
-            (wrote.time (rests rest))
-            (λ o some.
-            written_behind g.is_modelled ⊥ size d k (g.seen old) so_far.done d' k' (g.seen mid)
-            (s ∷ ss) more o.image so_far.turned (inl some)));
-      }
-
-  -- it ends here
-  pub written_end : (F : Type 0) (d' : Device) (k' : Kept Mounted) (left : List ℕ) (old now : D)
-      → HasWritten d' k' left old now
-      → WritesInTurn g F size d k bytes old now
-  written_end F d' k' left old now so_far =
+      → WritesTurns F d' k' mid now
+      → WritesInTurn g F turns size d k bytes old now
+  written_end F d' k' left old mid now so_far wrote =
+      let M : Type 0 = g.is_modelled in
       let all : so_far.done ++ [] ≡ so_far.done = append-nil so_far.done in
       record {
         done = so_far.done ++ [];
@@ -390,59 +436,134 @@ module _ {D : Type 0} (g : Ghosts D) (size : ℕ) (d : Device) (k : Kept Mounted
         are = subst AreExchanges (sym all) so_far.are;
         is = so_far.is ∙ ap (λ (l : List Exchange). flat_map spelled l ++ left) (sym all);
         seen =
-            written_wider g.is_modelled ⊥ F size d k (g.seen old) (so_far.done ++ []) None
-            (g.seen now) (λ none. absurd none)
-            (written_behind g.is_modelled ⊥ size d k (g.seen old) so_far.done d' k' (g.seen now) []
-            None (g.seen now) so_far.turned refl);
-        time = λ rest.
-            adds_wider g.moment g.outcomes old now _ _ (so_far.time rest [] None)
-            (λ o is.
-            written_wider g.is_modelled ⊥ F size d k (g.seen old) (so_far.done ++ []) None
-            o.image (λ none. absurd none) is);
-      }
-
-  -- a packet more is answered, as far as it goes
-  pub written_last : (F : Type 0) (d' : Device) (k' : Kept Mounted) (left before : List ℕ)
-      (command : List ℕ) (old mid now : D)
-      → HasWritten d' k' left old mid
-      → left ≡ packet command ++ before
-      → (IsAtRest g old → IsAtRest g mid)
-      → WritesPacket g F d' k' command mid now
-      → WritesInTurn g F size d k bytes old now
-  written_last F d' k' left before command old mid now so_far here rests wrote =
-      let all : so_far.done ++ [] ≡ so_far.done = append-nil so_far.done in
-      let M : Type 0 = g.is_modelled in
-      let wide : (image : Image)
-      → Turned M ⊥ size d k (g.seen old) so_far.done d' k' (g.seen mid)
-      → Turned M F size d k (g.seen old) so_far.done d' k' (g.seen mid) =
-      λ image turned. turned in
-      record {
-        done = so_far.done ++ [];
-        more = Some command;
-        after = before;
-        are = subst AreExchanges (sym all) so_far.are;
-        is =
-            so_far.is
-            ∙ ap (λ (l : List ℕ). flat_map spelled so_far.done ++ l) here
-            ∙ ap (λ (l : List Exchange). flat_map spelled l ++ (packet command ++ before))
-            (sym all);
-        seen =
-            written_behind M F size d k (g.seen old) so_far.done d' k' (g.seen mid) []
-            (Some command) (g.seen now) (wide (g.seen now) so_far.turned) wrote.seen;
+            written_behind M turns size F d k (g.seen old) so_far.done d' k' (g.seen mid) []
+            None (g.seen now) so_far.carried wrote.seen;
         time = λ rest.
             adds_on g.moment g.outcomes old mid now _ _
-            (adds_wider g.moment g.outcomes old mid _ _ (so_far.time rest [] (Some command))
+            (adds_wider g.moment g.outcomes old mid _ _ (so_far.time rest [] None)
             (λ o is.
-            written_wider M ⊥ F size d k (g.seen old) (so_far.done ++ []) (Some command)
+            written_wider M ⊥ F turns size d k (g.seen old) (so_far.done ++ []) None
             o.image (λ none. absurd none) is))
-            (wrote.time (rests rest))
+            (wrote.time (so_far.rests rest))
             (λ o some.
-            written_behind M F size d k (g.seen old) so_far.done d' k' (g.seen mid) []
-            (Some command) o.image (wide o.image so_far.turned) some);
+            written_behind M turns size F d k (g.seen old) so_far.done d' k' (g.seen mid) []
+            None o.image so_far.carried some);
       }
 
+  -- A packet is heard, behind the turns.
+  module _ (d' next : Device) (k' : Kept Mounted) (left : List ℕ) (old mid now : D)
+      (so_far : HasWritten d' k' left old mid) (turned : WritesTurns ⊥ d' k' mid now)
+      (represents : Represents next size (g.seen now))
+      (is : mounted_on next (g.seen now) ≡ (passed (machine turns) k').now)
+      (rests : IsAtRest g mid → IsAtRest g now) where
+    abbrev kept : Kept Mounted
+    kept = passed (machine turns) k'
+
+    here : IsPassed g.is_modelled turns size d' k' (g.seen mid) next (g.seen now)
+    here = record { wrote = turned.seen; represents = represents; is = is }
+
+    -- so far, whatever comes behind
+    some_turns : (F : Type 0) (ss : List Exchange) (more : Option (List ℕ))
+        → ((image : Image)
+        → SameBut (IsOfChange g.is_modelled F d' k' (g.seen mid 4) (Merge turns)) (g.seen mid) image
+        → WrittenInTurn g.is_modelled F turns size d' k' (g.seen mid) ss more image)
+        → IsAtRest g old
+        → Adds g.moment g.outcomes old now
+        (λ o. WrittenInTurn g.is_modelled F turns size d k (g.seen old) (so_far.done ++ ss) more
+        o.image)
+    some_turns F ss more first rest =
+        let M : Type 0 = g.is_modelled in
+        adds_on g.moment g.outcomes old mid now _ _
+        (adds_wider g.moment g.outcomes old mid _ _ (so_far.time rest ss more)
+        (λ o is.
+        written_wider M ⊥ F turns size d k (g.seen old) (so_far.done ++ ss) more
+        o.image (λ none. absurd none) is))
+        (turned.time (so_far.rests rest))
+        (λ o some.
+        written_behind M turns size F d k (g.seen old) so_far.done d' k' (g.seen mid) ss
+        more o.image so_far.carried
+        (first o.image
+        (same_wider (IsOfChange M ⊥ d' k' (g.seen mid 4) (Merge turns))
+        (IsOfChange M F d' k' (g.seen mid 4) (Merge turns)) (g.seen mid) o.image
+        (change_wider M ⊥ F d' k' (g.seen mid 4) (Merge turns) (λ none. absurd none)) some)))
+
+    -- the packet is answered, as far as it goes
+    pub written_last : (F : Type 0) (before command : List ℕ) (new : D)
+        → left ≡ packet command ++ before
+        → WritesPacket g F next kept command now new
+        → WritesInTurn g F turns size d k bytes old new
+    written_last F before command new there wrote =
+        let M : Type 0 = g.is_modelled in
+        let all : so_far.done ++ [] ≡ so_far.done = append-nil so_far.done in
+        let behind : (image : Image)
+        → SameBut (IsOfPacket M F next kept (g.seen now 4) command) (g.seen now) image
+        → WrittenInTurn M F turns size d k (g.seen old) (so_far.done ++ []) (Some command) image =
+        λ image some.
+        written_behind M turns size F d k (g.seen old) so_far.done d' k' (g.seen mid) []
+        (Some command) image so_far.carried
+        (inr (next, g.seen now, turned.seen, represents, is, some)) in
+        record {
+          done = so_far.done ++ [];
+          more = Some command;
+          after = before;
+          are = subst AreExchanges (sym all) so_far.are;
+          is =
+              so_far.is
+              ∙ ap (λ (l : List ℕ). flat_map spelled so_far.done ++ l) there
+              ∙ ap (λ (l : List Exchange). flat_map spelled l ++ (packet command ++ before))
+              (sym all);
+          seen = behind (g.seen new) wrote.seen;
+          time = λ rest.
+              adds_on g.moment g.outcomes old now new _ _
+              (some_turns F [] (Some command) (λ image some. inl some) rest)
+              (wrote.time (rests (so_far.rests rest)))
+              (λ o some. behind o.image some);
+        }
+
+    -- it is answered
+    pub written_more : (d'' : Device) (k'' : Kept Mounted) (after : List ℕ) (s : Exchange) (new : D)
+        → IsExchange s
+        → left ≡ spelled s ++ after
+        → WritesPacket g ⊥ next kept s.command now new
+        → Represents d'' size (g.seen new)
+        → mounted_on d'' (g.seen new) ≡ k''.now
+        → k'' ≡ (item_behind (machine turns) k' s).last
+        → (IsAtRest g now → IsAtRest g new)
+        → HasWritten d'' k'' after old new
+    written_more d'' k'' after s new one there wrote stands same last settles = record {
+      done = so_far.done ++ s ∷ [];
+      are = more_exchanges so_far.done s so_far.are one;
+      is =
+          so_far.is
+          ∙ ap (λ (l : List ℕ). flat_map spelled so_far.done ++ l) there
+          ∙ sym (spelled_more so_far.done s after);
+      carried =
+          carried_more g.is_modelled turns size d k (g.seen old) so_far.done d' k' (g.seen mid)
+          next (g.seen now) s d'' k'' (g.seen new) so_far.carried here
+          (record {
+            wrote = wrote.seen;
+            represents = stands;
+            is = same ∙ ap (λ (x : Kept Mounted). x.now) last;
+          })
+          last;
+      rests = λ rest. settles (rests (so_far.rests rest));
+      time = λ rest ss more.
+          subst
+          (λ (l : List Exchange).
+          Adds g.moment g.outcomes old new
+          (λ o. WrittenInTurn g.is_modelled ⊥ turns size d k (g.seen old) l more o.image))
+          (sym (append_assoc so_far.done (s ∷ []) ss))
+          (adds_on g.moment g.outcomes old now new _ _
+          (some_turns ⊥ (s ∷ ss) more (λ image some. inl some) rest)
+          (wrote.time (rests (so_far.rests rest)))
+          (λ o some.
+          written_behind g.is_modelled turns size ⊥ d k (g.seen old) so_far.done d' k' (g.seen mid)
+          (s ∷ ss) more o.image so_far.carried
+          (inr (next, g.seen now, turned.seen, represents, is, inl some))));
+    }
+
 -- the same from before the greeting and the hello
-pub written_before : {D : Type 0} (g : Ghosts D) (F : Type 0) (size n : ℕ) (d : Device)
+pub written_before : {D : Type 0} (g : Ghosts D) (F : Type 0) (turns size n : ℕ) (d : Device)
     (bytes rest : List ℕ) (old mid now : D)
     → n ≡ size
     → rest ≡ bytes
@@ -450,19 +571,20 @@ pub written_before : {D : Type 0} (g : Ghosts D) (F : Type 0) (size n : ℕ) (d 
     → (IsAtRest g old → IsAtRest g mid)
     → (IsAtRest g old
     → Adds g.moment g.outcomes old mid (λ o. o.image ≡ g.seen old))
-    → WritesInTurn g F n d (nothing_staged (mounted_on d (g.seen mid))) rest mid now
-    → WritesInTurn g F size d (nothing_staged (mounted_on d (g.seen old))) bytes old now
-written_before g F size n d bytes rest old mid now sized same seen rests time is =
+    → WritesInTurn g F turns n d (nothing_staged (mounted_on d (g.seen mid))) rest mid now
+    → WritesInTurn g F turns size d (nothing_staged (mounted_on d (g.seen old))) bytes old now
+written_before g F turns size n d bytes rest old mid now sized same seen rests time is =
     let M : Type 0 = g.is_modelled in
     let moved : (image : Image)
-    → WrittenInTurn M F n d (nothing_staged (mounted_on d (g.seen mid))) (g.seen mid) is.done
+    → WrittenInTurn M F turns n d (nothing_staged (mounted_on d (g.seen mid))) (g.seen mid) is.done
     is.more image
-    → WrittenInTurn M F size d (nothing_staged (mounted_on d (g.seen old))) (g.seen old) is.done
+    → WrittenInTurn M F turns size d (nothing_staged (mounted_on d (g.seen old))) (g.seen old)
+    is.done
     is.more image =
     λ image w.
     subst
     (λ (x : ℕ × Image).
-    WrittenInTurn M F x.0 d (nothing_staged (mounted_on d x.1)) x.1 is.done is.more image)
+    WrittenInTurn M F turns x.0 d (nothing_staged (mounted_on d x.1)) x.1 is.done is.more image)
     (λ i. (sized i, seen i)) w in
     record {
       done = is.done;
@@ -477,30 +599,35 @@ written_before g F size n d bytes rest old mid now sized same seen rests time is
           (λ o same.
           subst
           (λ (image : Image).
-          WrittenInTurn M F size d (nothing_staged (mounted_on d (g.seen old))) (g.seen old)
+          WrittenInTurn M F turns size d (nothing_staged (mounted_on d (g.seen old))) (g.seen old)
           is.done is.more image)
           (sym same)
-          (written_still M F size d (nothing_staged (mounted_on d (g.seen old))) (g.seen old)
+          (written_still M turns size F d (nothing_staged (mounted_on d (g.seen old))) (g.seen old)
           is.done is.more)))
           (is.time (rests rest))
           (λ o w. moved o.image w);
     }
 
 -- nothing is written at all
-pub written_nothing : {D : Type 0} (g : Ghosts D) (F : Type 0) (size : ℕ) (d : Device)
+pub written_nothing : {D : Type 0} (g : Ghosts D) (F : Type 0) (turns size : ℕ) (d : Device)
     (k : Kept Mounted) (bytes : List ℕ) (old new : D)
     → g.seen new ≡ g.seen old
     → (IsAtRest g old
     → Adds g.moment g.outcomes old new (λ o. o.image ≡ g.seen old))
-    → WritesInTurn g F size d k bytes old new
-written_nothing g F size d k bytes old new same time = record {
+    → WritesInTurn g F turns size d k bytes old new
+written_nothing g F turns size d k bytes old new same time = record {
   done = [];
   more = None;
   after = bytes;
   are = tt;
   is = refl;
-  seen = same;
-  time = time;
+  seen = same_all g (IsOfChange g.is_modelled F d k (g.seen old 4) (Merge turns)) (g.seen old)
+      (g.seen new) same;
+  time = λ rest.
+      adds_wider g.moment g.outcomes old new _ _ (time rest)
+      (λ o same.
+      same_all g (IsOfChange g.is_modelled F d k (g.seen old 4) (Merge turns)) (g.seen old) o.image
+      same);
 }
 
 -- what was told of leaves the disk as it is

@@ -1,6 +1,6 @@
 -- One slot alone has images, and no update is ready: from the begin of a merge on, until an
 -- installation is finished.
-use Rattle.std.specs.Prelude.{◌≡◌, ◌++◌, ℕ, ◌<◌, List, take, Option, Some, None}
+use Rattle.std.specs.Prelude.{◌≡◌, ◌++◌, ℕ, ◌<◌, Bool, List, take, Option, Some, None}
 use Rattle.std.specs.List.{flat_map}
 use Rattle.vab_disk.specs.Disk.{Image}
 use Rattle.vab_layout.specs.Slots.{other_slot}
@@ -15,9 +15,9 @@ use Rattle.vab_device.specs.Mounted.{Mounted}
 use Rattle.vab_device.specs.Reading.{IsIn}
 use Rattle.vab_device.specs.Updates.{effect_on}
 use Rattle.vab_exchanges.specs.Session.{Exchange}
-use Rattle.vab_exchanges.specs.Items.{Kept, items_of}
+use Rattle.vab_exchanges.specs.Items.{Kept, items_of, kept_after, closing_of}
 use Rattle.vab_exchanges.specs.Runs.{steps_at}
-use Rattle.vab_session.specs.Responses.{response}
+use Rattle.vab_session.specs.Responses.{machine}
 
 -- An update is none, or is installed from this slot, or is merged into it.
 abbrev pub IsUnready : (slot : ℕ) → Phase → Type 0
@@ -65,13 +65,18 @@ pub record Finds (Is : Mounted → Type 0) (ms : List Mounted) : Type 0 where
 abbrev pub FindsReady : List Mounted → Type 0
 FindsReady = Finds (λ m. IsReady m.state.phase)
 
--- The devices that these exchanges come to: in the steps of the first n of them, and in those of
--- the one behind them.
-abbrev pub reached_in : Kept Mounted
+-- The devices that these exchanges come to, with so many turns of a merge behind each: in the steps
+-- of the first n of them, and in those of the one behind them, or behind the last one, where
+-- another packet is waited for.
+abbrev pub reached_in : (turns : ℕ)
+    → Kept Mounted
     → List Exchange
     → (unfinished : Option (List ℕ))
+    → (waits : Bool)
     → (n : ℕ)
     → List Mounted
-reached_in k exchanges unfinished n =
-    flat_map (λ i. i.steps) (take n (items_of response k exchanges unfinished))
-    ++ steps_at k.now (items_of response k exchanges unfinished) n
+reached_in turns k exchanges unfinished waits n =
+    flat_map (λ i. i.steps) (take n (items_of (machine turns) k exchanges unfinished))
+    ++ steps_at
+    (closing_of (machine turns) unfinished waits (kept_after (machine turns) k exchanges))
+    k.now (items_of (machine turns) k exchanges unfinished) n

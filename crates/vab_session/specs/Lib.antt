@@ -1,4 +1,5 @@
 pub mod Alone
+pub mod Between
 pub mod Fault
 pub mod Merges
 pub mod Responses

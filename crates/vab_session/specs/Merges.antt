@@ -26,10 +26,15 @@ HasNoMerge bytes = (done : List Exchange)
     → bytes ≡ flat_map spelled done ++ (packet command ++ after)
     → asks_merge (request_of command) ≡ false
 
--- the same of a session of at most so many bytes, behind the hello
-abbrev pub MergesNothing : (most : ℕ) → List ℕ → Type 0
-MergesNothing most input = HasNoMerge (drop 4 (take most input))
+-- The same of a session of at most so many bytes, behind the hello; and no turn is made between
+-- two packets.
+abbrev pub MergesNothing : (most turns : ℕ) → List ℕ → Type 0
+MergesNothing most turns input = HasNoMerge (drop 4 (take most input)) × (turns ≡ 0)
 
--- the greeting is told, and none of these bytes' packets asks for a merge
-abbrev pub IsPlain : (told bytes : List ℕ) → Type 0
-IsPlain told bytes = ((before : List ℕ) × (told ≡ before ++ codes "FB01")) × HasNoMerge bytes
+-- The greeting is told, none of these bytes' packets asks for a merge, and no turn is made between
+-- two packets.
+abbrev pub IsPlain : (turns : ℕ) → (told bytes : List ℕ) → Type 0
+IsPlain turns told bytes =
+    ((before : List ℕ) × (told ≡ before ++ codes "FB01"))
+    × HasNoMerge bytes
+    × (turns ≡ 0)

@@ -1,5 +1,5 @@
 -- What a packet makes of a device.
-use Rattle.std.specs.Prelude.{Bool, false, List, ℕ, ◌+◌, [], codes, Option, Result, Ok}
+use Rattle.std.specs.Prelude.{Bool, false, List, ℕ, ◌+◌, [], codes, Option, None, Result, Ok}
 use Rattle.std.specs.Prelude.{Err}
 use Rattle.vab_model.specs.declared.state.Phase.{Phase}
 use Rattle.vab_model.specs.declared.state.Phase.TheVariants.{Staged, Merging}
@@ -14,7 +14,7 @@ use Rattle.vab_fbproto.specs.Requests.{Asked, Getvar, Download, Do, MergeAll, Bo
 use Rattle.vab_fbproto.specs.Texts.{reply_text, bad_text}
 use Rattle.vab_fbvars.specs.Variables.{variable_text}
 use Rattle.vab_fbproto.specs.declared.request.BadCommand.{BadCommand}
-use Rattle.vab_exchanges.specs.Items.{Response}
+use Rattle.vab_exchanges.specs.Items.{Response, Machine}
 
 -- this is told, and nothing changes
 abbrev pub still : List ℕ → Response Mounted
@@ -52,3 +52,13 @@ response m staged (Ok (Do command)) = by_command m staged command
 response m staged (Ok MergeAll) = by_command m staged (Merge (left_of m.state.phase + 1))
 response m staged (Ok BootAndEnd) = by_command m staged Boot
 response m staged (Err bad) = still (bad_text bad)
+
+-- The devices that a session goes through by itself before it hears the next packet: those of the
+-- command to merge so many blocks, whose reply nobody hears. Where nothing is being merged there
+-- are none.
+abbrev pub turns_between : ℕ → Mounted → List Mounted
+turns_between turns m = (effect_on m None (Merge turns)).later
+
+-- a device in a session that makes so many turns behind each reply
+abbrev pub machine : ℕ → Machine Mounted
+machine turns = record { effect = response; between = turns_between turns }

@@ -10,7 +10,7 @@ use Rattle.vab_exchanges.specs.Session.{End}
 use Rattle.vab_exchanges.specs.Session as session
 use Rattle.vab_exchanges.specs.Items.{Kept}
 use Rattle.vab_exchanges.specs.Runs.{Answers, FailsWhole, FailsOpen, BreaksOff, Serves}
-use Rattle.vab_session.specs.Responses.{response}
+use Rattle.vab_session.specs.Responses.{response, machine}
 use Rattle.vab_session.specs.declared.fault.Ended.{Ended}
 use Rattle.vab_session.specs.declared.fault.Ended.TheVariants.{Closed, Rebooted}
 use Rattle.vab_session.specs.declared.fault.SessionFault.{SessionFault}
@@ -121,10 +121,11 @@ module _ {D : Type 0} (size : ℕ) (g : Ghosts D) where
       command before after beyond old new)
       (Fails k command before beyond count total most old new)
 
-  -- The session of the input, from this device on.
-  abbrev pub ServesDevice : Device → (most : ℕ) → (old new : D) → Answer → Type 0
-  ServesDevice d most old new result =
-      Serves response (IsIn size) g
+  -- The session of the input, from this device on, with so many turns of a merge behind the hello
+  -- and behind each reply.
+  abbrev pub ServesDevice : Device → (most turns : ℕ) → (old new : D) → Answer → Type 0
+  ServesDevice d most turns old new result =
+      Serves (machine turns) (IsIn size) g
       (Held result) (Says result) (reached result (g.seen new))
       most (nothing_staged (mounted_on d (g.seen old))) old new
 

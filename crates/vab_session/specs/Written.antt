@@ -1,5 +1,5 @@
 -- What a session writes: an exchange that changes the device what its command writes there, and
--- each other nothing.
+-- each other nothing; and between them what the turns of a merge write.
 use Rattle.std.specs.Prelude.{◌≡◌, ◌≢◌, ◌⊎◌, ℕ, ◌+◌, List, [], ◌∷◌, Option, Some, None, Result, Ok}
 use Rattle.std.specs.Prelude.{Err, ◌++◌}
 use Rattle.std.specs.List.{flat_map}
@@ -16,9 +16,9 @@ use Rattle.vab_fbproto.specs.Requests.{Asked, Getvar, Download, Do, MergeAll, Bo
 use Rattle.vab_fbproto.specs.Requests.{request_of}
 use Rattle.vab_fbproto.specs.declared.request.BadCommand.{BadCommand}
 use Rattle.vab_exchanges.specs.Session.{Exchange, packet, spelled}
-use Rattle.vab_exchanges.specs.Items.{Kept, item_of}
+use Rattle.vab_exchanges.specs.Items.{Kept, passed, item_behind}
 use Rattle.vab_session.specs.Merges.{AreExchanges}
-use Rattle.vab_session.specs.Responses.{response}
+use Rattle.vab_session.specs.Responses.{machine}
 
 -- The command that a packet asks for, where it asks for one. To merge all is a merge of one turn
 -- more than exceptions are left.
@@ -59,29 +59,65 @@ module _ (is_modelled Failed : Type 0) where
   abbrev pub IsOfPacket : Device → Kept Mounted → List ℕ → List ℕ → ℕ → List ℕ → Type 0
   IsOfPacket d k old command = IsOfAsked d k old (command_asked d (request_of command))
 
--- A disk behind some exchanges, one behind the other, from a device that is kept, and behind one
--- packet more: each exchange that is done has written what its packet writes on the device that it
--- came to, and left the next device; and of the one that follows some is written.
-abbrev pub WrittenInTurn : (is_modelled Failed : Type 0)
+-- Some of what is written first is written, and nothing else; or all of it, which leaves the next
+-- device, and then what is written from there on.
+abbrev pub WrittenThen : (Part Whole : ℕ → List ℕ → Type 0)
     → ℕ
-    → Device
-    → Kept Mounted
-    → Image
-    → List Exchange
-    → Option (List ℕ)
-    → Image
+    → (next : Mounted)
+    → (Then : Device → Image → Type 0)
+    → (old image : Image)
     → Type 0
-WrittenInTurn is_modelled Failed size d k old [] None image = image ≡ old
-WrittenInTurn is_modelled Failed size d k old [] (Some command) image =
-    SameBut (IsOfPacket is_modelled Failed d k (old 4) command) old image
-WrittenInTurn is_modelled Failed size d k old (s ∷ ss) more image =
-    SameBut (IsOfPacket is_modelled Failed d k (old 4) s.command) old image
-    ⊎ ((next : Device)
+WrittenThen Part Whole size next Then old image =
+    SameBut Part old image
+    ⊎ ((d : Device)
     × (mid : Image)
-    × SameBut (IsOfPacket is_modelled ⊥ d k (old 4) s.command) old mid
-    × Represents next size mid
-    × (mounted_on next mid ≡ (item_of response k s).last.now)
-    × WrittenInTurn is_modelled Failed size next (item_of response k s).last mid ss more image)
+    × SameBut Whole old mid
+    × Represents d size mid
+    × (mounted_on d mid ≡ next)
+    × Then d mid)
+
+module _ (is_modelled Failed : Type 0) (turns size : ℕ) where
+  -- the turns of a merge that are made before a packet is heard, and then what is written of it
+  abbrev pub PassedThen : Device
+      → Kept Mounted
+      → (Then : Device → Image → Type 0)
+      → (old image : Image)
+      → Type 0
+  PassedThen d k Then old image =
+      WrittenThen (IsOfChange is_modelled Failed d k (old 4) (Merge turns))
+      (IsOfChange is_modelled ⊥ d k (old 4) (Merge turns))
+      size (passed (machine turns) k).now Then old image
+
+  -- A disk behind some exchanges, one behind the other, from a device that is kept, and behind one
+  -- packet more: each exchange that is done has written what the turns of a merge in front of it
+  -- write, and what its packet writes on the device that it came to, and left the next device; and
+  -- of the one that follows, or of the turns behind the last one, some is written.
+  abbrev pub WrittenInTurn : Device
+      → Kept Mounted
+      → Image
+      → List Exchange
+      → Option (List ℕ)
+      → Image
+      → Type 0
+  WrittenInTurn d k old [] None image =
+      SameBut (IsOfChange is_modelled Failed d k (old 4) (Merge turns)) old image
+  WrittenInTurn d k old [] (Some command) image =
+      PassedThen d k
+      (λ d' mid.
+      SameBut (IsOfPacket is_modelled Failed d' (passed (machine turns) k) (mid 4) command)
+      mid image)
+      old image
+  WrittenInTurn d k old (s ∷ ss) more image =
+      PassedThen d k
+      (λ d' mid.
+      WrittenThen
+      (IsOfPacket is_modelled Failed d' (passed (machine turns) k) (mid 4) s.command)
+      (IsOfPacket is_modelled ⊥ d' (passed (machine turns) k) (mid 4) s.command)
+      size (item_behind (machine turns) k s).last.now
+      (λ d'' mid'.
+      WrittenInTurn d'' (item_behind (machine turns) k s).last mid' ss more image)
+      mid image)
+      old image
 
 -- the packet that follows, where there is one
 abbrev pub spelled_one : Option (List ℕ) → List ℕ
@@ -89,11 +125,12 @@ spelled_one None = []
 spelled_one (Some command) = packet command
 
 -- Some exchanges stand at the front of these bytes, and a packet behind them: the disk is written
--- by them in turn, and so is each outcome since, where nothing was pending.
+-- by them in turn, and by so many turns of a merge in front of each, and so is each outcome since,
+-- where nothing was pending.
 pub record WritesInTurn {D : Type 0}
     (g : Ghosts D)
     (Failed : Type 0)
-    (size : ℕ)
+    (turns size : ℕ)
     (d : Device)
     (k : Kept Mounted)
     (bytes : List ℕ)
@@ -103,10 +140,10 @@ pub record WritesInTurn {D : Type 0}
   pub after : List ℕ
   pub are : AreExchanges done
   pub is : bytes ≡ flat_map spelled done ++ (spelled_one more ++ after)
-  pub seen : WrittenInTurn g.is_modelled Failed size d k (g.seen old) done more (g.seen new)
+  pub seen : WrittenInTurn g.is_modelled Failed turns size d k (g.seen old) done more (g.seen new)
   pub time : IsAtRest g old
       → Adds g.moment g.outcomes old new
-      (λ o. WrittenInTurn g.is_modelled Failed size d k (g.seen old) done more o.image)
+      (λ o. WrittenInTurn g.is_modelled Failed turns size d k (g.seen old) done more o.image)
 
 -- Such sectors are written, and no others; the same in each outcome since.
 pub record WritesAs {D : Type 0}

@@ -1,8 +1,9 @@
 //! Laws of sessions over a device.
+ghost use Rattle.std.specs.Prelude.{ℕ};
 ghost use Rattle.vab_exchanges.specs.Items.{TellsItsChoices};
-ghost use Rattle.vab_session.specs.Responses.{response};
+ghost use Rattle.vab_session.specs.Responses.{machine};
 
 /// What is told fixes where memory was refused, as far as it tells.
 pub fn told_choices()
-    ensures { TellsItsChoices response }
+    ensures { (turns : ℕ) → TellsItsChoices (machine turns) }
 {}

@@ -3,6 +3,7 @@
 #![tactic(auto)]
 
 mod answer;
+mod between;
 mod fault;
 mod kept;
 mod law;
@@ -13,4 +14,4 @@ pub use answer::MAX_DATA;
 pub use fault::{Ended, SessionFault};
 pub use kept::KeptDevice;
 pub use law::told_choices;
-pub use session::{MAX_SESSION, serve, serve_up_to};
+pub use session::{MAX_SESSION, serve, serve_up_to, serve_with};

@@ -11,12 +11,13 @@ ghost use Rattle.vab_exchanges.specs.Reading.{stands_at, rest_of, beyond_of, tot
 ghost use Rattle.vab_exchanges.specs.Reading.{most_of, IsFed};
 ghost use Rattle.vab_exchanges.specs.Runs.{Ran};
 ghost use Rattle.vab_session.specs.Merges.{IsPlain, MergesNothing};
-ghost use Rattle.vab_session.specs.Responses.{response};
+ghost use Rattle.vab_session.specs.Responses.{machine};
 ghost use Rattle.vab_session.specs.Served.{kept_on, Held, Says, reached, SaysSlot};
 ghost use Rattle.vab_session.specs.Served.{ServesDevice, HasCause, nothing_staged};
 ghost use Rattle.vab_session.specs.Written.{WritesInTurn};
 
 use crate::answer::{answer, is_last};
+use crate::between::go_on;
 use crate::{Ended, KeptDevice, SessionFault};
 use arrayvec::ArrayVec;
 use std::alloc::Global;
@@ -35,12 +36,14 @@ fn device_of(kept: KeptDevice) -> Device
     device
 }
 
-// Answers the exchanges that are left.
+// Answers the exchanges that are left. Before it hears the next packet it makes so many turns of a
+// merge.
 fn answer_all<P: Port>(
     alloc: Global,
     p: &mut P,
     reader: &mut Reader,
     kept: KeptDevice,
+    turns: u64,
 ) -> Result<(Ended, Device), SessionFault>
     requires place { stands_at reader.old ≡ Length }
     requires fed { IsFed reader.old }
@@ -50,7 +53,7 @@ fn answer_all<P: Port>(
         → ((k : ℕ) → slice_index (rest_of reader.old (P.input_left p.old)) k < 256)
         → (told : List ℕ)
         → P.told p.old ≡ told ++ codes "FB01"
-        → Ran response (IsIn (P.size p.old)) P.Disk
+        → Ran (machine turns) (IsIn (P.size p.old)) P.Disk
         (Held result) (Says result) (reached result (P.seen p.new))
         (count_of reader.old (P.input_left p.old))
         (total_of reader.old (P.input_left p.old))
@@ -65,7 +68,7 @@ fn answer_all<P: Port>(
     ensures size { P.size p.new ≡ P.size p.old }
     ensures changes { P.is_modelled
         → ChangesBy P.Disk kept.device
-        (IsPlain (P.told p.old) (rest_of reader.old (P.input_left p.old)))
+        (IsPlain turns (P.told p.old) (rest_of reader.old (P.input_left p.old)))
         p.old p.new }
     ensures copies { P.is_modelled
         → Held result
@@ -73,13 +76,17 @@ fn answer_all<P: Port>(
     ensures writes { P.is_modelled
         → (told : List ℕ)
         → P.told p.old ≡ told ++ codes "FB01"
-        → WritesInTurn P.Disk (IsErrOf result SessionFault.Disk) (P.size p.old) kept.device
+        → WritesInTurn P.Disk (IsErrOf result SessionFault.Disk) turns (P.size p.old) kept.device
         (kept_on kept (P.seen p.old)) (rest_of reader.old (P.input_left p.old)) p.old p.new }
     ensures cause { HasCause P.Disk p.old p.new result }
 {
     let mut kept = kept;
     let mut packet = ArrayVec::new();
     loop {
+        match go_on(p, kept, turns) {
+            Ok(next) => kept = next,
+            Err(fault) => return Err(fault),
+        }
         match reader.packet(p, &mut packet) {
             Ok(true) => {}
             Ok(false) => return Ok((Ended::Closed, device_of(kept))),
@@ -94,6 +101,53 @@ fn answer_all<P: Port>(
             return Ok((Ended::Rebooted(device.current()), device));
         }
     }
+}
+
+// A session of at most so many bytes of input, with so many turns of a merge behind the hello and
+// behind each reply.
+fn hold_session<P: Port>(
+    alloc: Global,
+    p: &mut P,
+    device: Device,
+    most: u64,
+    turns: u64,
+) -> Result<(Ended, Device), SessionFault>
+    requires device { IsDevice device (P.size p.old) }
+    requires stands { P.is_modelled → Represents device (P.size p.old) (P.seen p.old) }
+    ensures serves { P.is_modelled
+        → ServesDevice (P.size p.old) P.Disk device most turns p.old p.new result }
+    ensures device { IfOk result (λ r. IsDevice r.1 (P.size p.old)) }
+    ensures stands { P.is_modelled
+        → IfOk result (λ r. Represents r.1 (P.size p.old) (P.seen p.new)) }
+    ensures slot { IfOk result (λ r. SaysSlot r.0 r.1) }
+    ensures size { P.size p.new ≡ P.size p.old }
+    ensures changes { P.is_modelled
+        → ChangesBy P.Disk device (MergesNothing most turns (P.input_left p.old)) p.old p.new }
+    ensures copies { P.is_modelled
+        → Held result
+        → HasBothCopies (P.size p.old) (P.seen p.new) }
+    // The packets behind the hello write in turn: one that changes the device what its command
+    // writes there, and each other nothing, unless the disk failed. In front of each, and behind
+    // the last, they are the turns of a merge.
+    ensures writes { P.is_modelled
+        → WritesInTurn P.Disk (IsErrOf result SessionFault.Disk) turns (P.size p.old) device
+        (nothing_staged (mounted_on device (P.seen p.old)))
+        (drop 4 (take most (P.input_left p.old))) p.old p.new }
+    ensures cause { HasCause P.Disk p.old p.new result }
+{
+    if say_all(p, b"FB01").is_err() {
+        return Err(SessionFault::Sink);
+    }
+    let mut reader = Reader::new(most);
+    match reader.hello(p) {
+        Ok(()) => {}
+        Err(fault) => return Err(SessionFault::from(fault)),
+    }
+    let kept = KeptDevice {
+        device,
+        staged: None,
+    };
+    answer_all(alloc, p, &mut reader, kept, turns)
 }
 
 /// A session of at most `most` bytes of input, over a device that is kept as the disk has it.
@@ -115,38 +169,62 @@ pub fn serve_up_to<P: Port>(
     requires device { IsDevice device (P.size p.old) }
     requires stands { P.is_modelled → Represents device (P.size p.old) (P.seen p.old) }
     ensures serves { P.is_modelled
-        → ServesDevice (P.size p.old) P.Disk device most p.old p.new result }
+        → ServesDevice (P.size p.old) P.Disk device most 0 p.old p.new result }
     ensures device { IfOk result (λ r. IsDevice r.1 (P.size p.old)) }
     ensures stands { P.is_modelled
         → IfOk result (λ r. Represents r.1 (P.size p.old) (P.seen p.new)) }
     ensures slot { IfOk result (λ r. SaysSlot r.0 r.1) }
     ensures size { P.size p.new ≡ P.size p.old }
     ensures changes { P.is_modelled
-        → ChangesBy P.Disk device (MergesNothing most (P.input_left p.old)) p.old p.new }
+        → ChangesBy P.Disk device (MergesNothing most 0 (P.input_left p.old)) p.old p.new }
     ensures copies { P.is_modelled
         → Held result
         → HasBothCopies (P.size p.old) (P.seen p.new) }
     // The packets behind the hello write in turn: one that changes the device what its command
     // writes there, and each other nothing, unless the disk failed.
     ensures writes { P.is_modelled
-        → WritesInTurn P.Disk (IsErrOf result SessionFault.Disk) (P.size p.old) device
+        → WritesInTurn P.Disk (IsErrOf result SessionFault.Disk) 0 (P.size p.old) device
         (nothing_staged (mounted_on device (P.seen p.old)))
         (drop 4 (take most (P.input_left p.old))) p.old p.new }
     ensures cause { HasCause P.Disk p.old p.new result }
 {
-    if say_all(p, b"FB01").is_err() {
-        return Err(SessionFault::Sink);
-    }
-    let mut reader = Reader::new(most);
-    match reader.hello(p) {
-        Ok(()) => {}
-        Err(fault) => return Err(SessionFault::from(fault)),
-    }
-    let kept = KeptDevice {
-        device,
-        staged: None,
-    };
-    answer_all(alloc, p, &mut reader, kept)
+    hold_session(alloc, p, device, most, 0)
+}
+
+/// A session, of at most 2^44 bytes, that goes on with a merge by itself: behind the hello, and
+/// behind each item's last reply, it makes `turns` turns before it hears the next packet, fewer
+/// only where the merge ends. Behind a packet that asks for a boot and the end it makes none. The
+/// turns tell nothing and take no memory; a fault of the disk in one of them is the session's.
+pub fn serve_with<P: Port>(
+    alloc: Global,
+    p: &mut P,
+    device: Device,
+    turns: u64,
+) -> Result<(Ended, Device), SessionFault>
+    requires device { IsDevice device (P.size p.old) }
+    requires stands { P.is_modelled → Represents device (P.size p.old) (P.seen p.old) }
+    ensures serves { P.is_modelled
+        → ServesDevice (P.size p.old) P.Disk device (2 ^ 44) turns p.old p.new result }
+    ensures device { IfOk result (λ r. IsDevice r.1 (P.size p.old)) }
+    ensures stands { P.is_modelled
+        → IfOk result (λ r. Represents r.1 (P.size p.old) (P.seen p.new)) }
+    ensures slot { IfOk result (λ r. SaysSlot r.0 r.1) }
+    ensures size { P.size p.new ≡ P.size p.old }
+    ensures changes { P.is_modelled
+        → ChangesBy P.Disk device (MergesNothing (2 ^ 44) turns (P.input_left p.old)) p.old p.new }
+    ensures copies { P.is_modelled
+        → Held result
+        → HasBothCopies (P.size p.old) (P.seen p.new) }
+    // The packets behind the hello write in turn: one that changes the device what its command
+    // writes there, and each other nothing, unless the disk failed. In front of each, and behind
+    // the last, they are the turns of a merge.
+    ensures writes { P.is_modelled
+        → WritesInTurn P.Disk (IsErrOf result SessionFault.Disk) turns (P.size p.old) device
+        (nothing_staged (mounted_on device (P.seen p.old)))
+        (drop 4 (take (2 ^ 44) (P.input_left p.old))) p.old p.new }
+    ensures cause { HasCause P.Disk p.old p.new result }
+{
+    hold_session(alloc, p, device, MAX_SESSION, turns)
 }
 
 /// A session, of at most 2^44 bytes.
@@ -158,24 +236,24 @@ pub fn serve<P: Port>(
     requires device { IsDevice device (P.size p.old) }
     requires stands { P.is_modelled → Represents device (P.size p.old) (P.seen p.old) }
     ensures serves { P.is_modelled
-        → ServesDevice (P.size p.old) P.Disk device (2 ^ 44) p.old p.new result }
+        → ServesDevice (P.size p.old) P.Disk device (2 ^ 44) 0 p.old p.new result }
     ensures device { IfOk result (λ r. IsDevice r.1 (P.size p.old)) }
     ensures stands { P.is_modelled
         → IfOk result (λ r. Represents r.1 (P.size p.old) (P.seen p.new)) }
     ensures slot { IfOk result (λ r. SaysSlot r.0 r.1) }
     ensures size { P.size p.new ≡ P.size p.old }
     ensures changes { P.is_modelled
-        → ChangesBy P.Disk device (MergesNothing (2 ^ 44) (P.input_left p.old)) p.old p.new }
+        → ChangesBy P.Disk device (MergesNothing (2 ^ 44) 0 (P.input_left p.old)) p.old p.new }
     ensures copies { P.is_modelled
         → Held result
         → HasBothCopies (P.size p.old) (P.seen p.new) }
     // The packets behind the hello write in turn: one that changes the device what its command
     // writes there, and each other nothing, unless the disk failed.
     ensures writes { P.is_modelled
-        → WritesInTurn P.Disk (IsErrOf result SessionFault.Disk) (P.size p.old) device
+        → WritesInTurn P.Disk (IsErrOf result SessionFault.Disk) 0 (P.size p.old) device
         (nothing_staged (mounted_on device (P.seen p.old)))
         (drop 4 (take (2 ^ 44) (P.input_left p.old))) p.old p.new }
     ensures cause { HasCause P.Disk p.old p.new result }
 {
-    serve_up_to(alloc, p, device, MAX_SESSION)
+    serve_with(alloc, p, device, 0)
 }

@@ -107,7 +107,8 @@ plan_line e =
 -- those of an update that is installed
 abbrev pub plan_page : Phase → List ℕ
 plan_page Idle = []
-plan_page (Installing source plan) = flat_map plan_line (by_name (λ (e : PlanEntry). e.name) plan)
+plan_page (Installing source plan) =
+    flat_map plan_line (by_name (λ (e : PlanEntry). e.name) plan.entries)
 plan_page (Staged source left) = []
 plan_page (Merging target left) = []
 

@@ -1,5 +1,5 @@
 -- The sectors of an update's statuses, and what they hold.
-use Rattle.std.specs.Prelude.{◌≡◌, ◌≢◌, ℕ, zero, suc, ◌+◌, ◌-◌, Bool, true, false, List}
+use Rattle.std.specs.Prelude.{◌≡◌, ◌≢◌, ◌⊎◌, ℕ, zero, suc, ◌+◌, ◌-◌, Bool, true, false, List}
 use Rattle.std.specs.Prelude.{[], ◌∷◌, ◌++◌, length, replicate, slice_set, if◌then◌else◌}
 use Rattle.std.specs.Prelude.{Option, Some, None, Result, Ok, Err}
 use Rattle.std.specs.List.{All, AllPairs, list_any}
@@ -150,3 +150,15 @@ IsFirstFree image (Some at) =
     × (are_zeros (image at) ≡ true)
     × ((s : ℕ) → IsBetween first_status at s → are_zeros (image s) ≡ false)
 IsFirstFree image None = (s : ℕ) → IsOfStatuses s → are_zeros (image s) ≡ false
+
+-- the last of them
+abbrev pub last_status : ℕ
+last_status = first_status + status_sectors - 1
+
+-- that one, or the last where there is none
+abbrev pub IsFreeOrLast : Image → ℕ → Type 0
+IsFreeOrLast image at = IsFirstFree image (Some at) ⊎ ((at ≡ last_status) × IsFirstFree image None)
+
+abbrev pub or_last : Option ℕ → ℕ
+or_last (Some at) = at
+or_last None = last_status

@@ -7,5 +7,7 @@ mod reading;
 mod writing;
 
 pub use fault::StatusFault;
-pub use reading::{FIRST_STATUS, STATUS_SECTORS, Statuses, first_free, read_statuses};
+pub use reading::{
+    FIRST_STATUS, STATUS_SECTORS, Statuses, first_free, free_or_last, read_statuses,
+};
 pub use writing::{clear_statuses, put_status};

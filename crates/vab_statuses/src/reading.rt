@@ -11,6 +11,7 @@ ghost use Rattle.vab_statuses.specs.Statuses.{entry_of, statuses_in, statuses_of
 ghost use Rattle.vab_statuses.specs.Statuses.{NamesDiffer, statuses_under, first_status};
 ghost use Rattle.vab_statuses.specs.Statuses.{status_sectors};
 ghost use Rattle.vab_statuses.specs.Statuses.{written_in, free_in, IsOfStatuses, IsFirstFree};
+ghost use Rattle.vab_statuses.specs.Statuses.{IsFreeOrLast, or_last};
 ghost use Rattle.vab_statuses.specs.Answers.{TellsBad, CountsFaults};
 
 use crate::StatusFault;
@@ -209,4 +210,25 @@ pub fn first_free<D: Disk>(d: &mut D) -> Result<Option<u64>, DiskFault>
         }
     }
     Ok(None)
+}
+
+/// The first of the sectors that is all zeros, and the last of them exactly where there is none, as
+/// a disk may show that tells nothing of its contents. Takes no memory.
+pub fn free_or_last<D: Disk>(d: &mut D) -> Result<u64, DiskFault>
+    requires { first_status + status_sectors ≤ D.size d.old }
+    ensures first { D.is_modelled → IfOk result (IsFreeOrLast (D.seen d.old)) }
+    // It is the first without a status, where the statuses are good.
+    ensures free { D.is_modelled
+        → (statuses : List (Option PartStatus))
+        → statuses_in (D.seen d.old) ≡ Ok statuses
+        → IfOk result (λ at. at ≡ or_last (free_in statuses)) }
+    ensures there { IfOk result IsOfStatuses }
+    ensures reads { OnlyReads D.Disk d.old d.new }
+    ensures faults { FailsWithDisk D.Disk d.old d.new result }
+{
+    match first_free(d) {
+        Err(fault) => Err(fault),
+        Ok(Some(at)) => Ok(at),
+        Ok(None) => Ok(FIRST_STATUS + STATUS_SECTORS - 1),
+    }
 }

@@ -65,6 +65,34 @@ const SERVING: Trial = Trial {
     steps: STEPS,
 };
 
+// A factory install of the same image.
+const FACTORY_STEPS: &[Verb<'static>] = &[
+    (&["serve"], b"FB01\0\0\0\0\0\0\0\x0boem factory"),
+    (
+        &["serve"],
+        b"FB01\0\0\0\0\0\0\0\x22create-logical-partition:x_b:12288",
+    ),
+    (
+        &["serve"],
+        b"FB01\0\0\0\0\0\0\0\x11download:00000003\
+          \0\0\0\0\0\0\0\x03abd\0\0\0\0\0\0\0\x09flash:x_b",
+    ),
+    (&["serve"], b"FB01\0\0\0\0\0\0\0\x0aoem finish"),
+    ACTIVATE_B,
+];
+
+const FACTORY_SESSION: &[u8] = b"FB01\0\0\0\0\0\0\0\x0boem factory\
+    \0\0\0\0\0\0\0\x22create-logical-partition:x_b:12288\
+    \0\0\0\0\0\0\0\x11download:00000003\0\0\0\0\0\0\0\x03abd\
+    \0\0\0\0\0\0\0\x09flash:x_b\0\0\0\0\0\0\0\x0aoem finish\
+    \0\0\0\0\0\0\0\x0cset_active:b";
+
+const FACTORY: Trial = Trial {
+    before: 1,
+    verb: (&["serve"], FACTORY_SESSION),
+    steps: FACTORY_STEPS,
+};
+
 const ONE_TURN: Verb<'static> = (&["merge", "1"], b"");
 
 const MERGING: Trial = Trial {
@@ -359,6 +387,11 @@ fn a_session_is_stopped_anywhere_over_mixed_sectors(rt: HostRuntime) -> Result<(
 #[test]
 fn a_session_meets_a_fault_of_each_call(rt: HostRuntime) -> Result<(), Fail> {
     faults(&rt, rt.alloc(), &SERVING)
+}
+
+#[test]
+fn a_factory_install_meets_a_fault_of_each_call(rt: HostRuntime) -> Result<(), Fail> {
+    faults(&rt, rt.alloc(), &FACTORY)
 }
 
 #[test]

@@ -3,13 +3,9 @@ use Rattle.std.proofs.Common.{◌≡◌, ℕ, ◌+◌, ◌*◌, ◌/◌, ◌≤�
 use Rattle.std.proofs.Common.{arith}
 use Rattle.std.specs.Prelude.{slice_index}
 use Rattle.vab_linear.specs.Map.{run_of, blocks_of}
-use Rattle.vab_linear.proofs.MapLaws.{length-run_of, run_of-at, blocks_of-one}
+pub use Rattle.vab_linear.proofs.MapLaws.{one_run}
+use Rattle.vab_linear.proofs.MapLaws.{length-run_of, run_of-at}
 use Rattle.vab_store.specs.Layout.{IsOnDisk, IsApart, AreDisjoint}
-
-pub one_run : (first blocks : ℕ) → blocks_of ((first, 8 * blocks) ∷ []) ≡ run_of first blocks
-one_run first blocks =
-    let whole : (8 * blocks) / 8 ≡ blocks = omega arith in
-    blocks_of-one (first, 8 * blocks) ∙ ap (run_of first) whole
 
 pub run_long : (map : List ℕ) (first blocks : ℕ) → map ≡ run_of first blocks → length map ≡ blocks
 run_long map first blocks is = ap length is ∙ length-run_of first blocks

@@ -1,7 +1,7 @@
 //! The exceptions of a store, as they are kept.
 
 ghost use Rattle.std.specs.Prelude.{◌≡◌, ℕ, ◌+◌, ◌-◌, ◌*◌, ◌^◌, ◌<◌, ◌≤◌, length, take, IfOk, Ok};
-ghost use Rattle.std.specs.Prelude.{IsErrOf};
+ghost use Rattle.std.specs.Prelude.{IsErrOf, []};
 ghost use Rattle.vab_store.specs.Scan.{repeat_of, unless_repeated};
 ghost use Rattle.std.specs.List.Sorted.{IsStrictlyIncreasing};
 ghost use Rattle.vab_store.specs.View.{exception_at, view_of};
@@ -41,6 +41,16 @@ impl Model for StoreView {
 
 impl StoreView {
     ghost use Rattle.vab_store.specs.Answers.{Answers};
+
+    /// No exceptions, of a partition that has no store. Takes no memory.
+    pub fn empty(alloc: Global) -> StoreView
+        ensures { result ≡ [] }
+    {
+        StoreView {
+            items: Vec::new(alloc),
+            index: Vec::new(alloc),
+        }
+    }
 
     /// What a scan gives of a store that is written for these chunks, which ascend.
     pub fn planned(alloc: Global, olds: &[u64], chunk: Chunk) -> Result<StoreView, NoMemory>

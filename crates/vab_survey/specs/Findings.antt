@@ -13,7 +13,7 @@ use Rattle.vab_device.specs.Phases.{phase_at}
 use Rattle.vab_device.specs.Stores.{scans_in}
 use Rattle.vab_device.specs.Reading.{mark_in, statuses_at, control_in, geometry_at, tables_in}
 use Rattle.vab_recover.specs.Opened.{reads_statuses, tables_of, fault_of, is_merging}
-use Rattle.vab_recover.specs.Opened.{through_of, through_slot, stores_by}
+use Rattle.vab_recover.specs.Opened.{through_of, through_slot, stores_by, may_place}
 use Rattle.vab_recover.specs.declared.table.Tables.{Tables}
 use Rattle.vab_survey.specs.declared.found.Behind.{Behind}
 use Rattle.vab_survey.specs.declared.finding.Finding.{Finding}
@@ -55,7 +55,7 @@ FindsStatuses f (Err fault) said = f ≡ Unread
 
 -- the tables that the mark asks for
 abbrev pub tables_asked : ℕ → Geometry → UpdateMark → Image → Result (List Table) StartFault
-tables_asked size g m image = tables_in size g ((phase_at m.phase).tables m.slot) image
+tables_asked size g m image = tables_in size g (phase_at m).tables image
 
 -- The stores that the statuses name, unread where these are wrong.
 abbrev pub FindsScans : Finding
@@ -67,7 +67,7 @@ abbrev pub FindsScans : Finding
 FindsScans f t m (Ok ss) image =
     Finds f
     (scans_in
-    (stores_by (is_merging m.phase) (through_slot m.phase m.slot)
+    (stores_by (is_merging m.phase) (may_place m) (through_slot m.phase m.slot)
     (through_of m.phase t.source t.target) (written_in ss))
     image)
 FindsScans f t m (Err fault) image = f ≡ Unread
@@ -80,10 +80,10 @@ abbrev pub FindsParts : (partitions stores : Finding)
     → Image
     → Type 0
 FindsParts Fine s t m said image =
-    (fault_of (most_at image) m.phase m.slot t.source.table t.target ≡ None)
+    (fault_of (most_at image) m t.source.table t.target ≡ None)
     × FindsScans s t m said image
 FindsParts (Wrong fault) s t m said image =
-    (fault_of (most_at image) m.phase m.slot t.source.table t.target ≡ Some fault) × (s ≡ Unread)
+    (fault_of (most_at image) m t.source.table t.target ≡ Some fault) × (s ≡ Unread)
 FindsParts Unread s t m said image = ⊥
 
 -- The tables, and what stands on them, which is unread where they are wrong.

@@ -154,7 +154,7 @@ fn found_stores<D: Disk>(
     requires slot { mark.now.slot < 2 }
     requires there { AreTablesThere (D.size d.old) geometry.now mark.now tables.now }
     requires update { IfSome tables.now.target
-        (λ l. AreOfUpdate mark.now.slot tables.now.source.table l.table) }
+        (λ l. AreOfUpdate mark.now.apart mark.now.slot tables.now.source.table l.table) }
     requires merging { IsNone tables.now.target
         → is_merging mark.now.phase ≡ true
         → IsMerging mark.now.slot (layout_of tables.now.source.table).parts }
@@ -184,14 +184,14 @@ fn judge_under<D: Disk>(
     requires slot { mark.now.slot < 2 }
     requires source { KeepsRules tables.now.source.table }
     requires target { IfSome tables.now.target (λ l. KeepsRules l.table) }
-    ensures kept { D.is_modelled → OnOk result (fault_of (most_at (D.seen d.old)) mark.now.phase
-        mark.now.slot tables.now.source.table tables.now.target ≡ None) }
+    ensures kept { D.is_modelled → OnOk result
+        (fault_of (most_at (D.seen d.old)) mark.now tables.now.source.table tables.now.target
+        ≡ None) }
     ensures fault { D.is_modelled → IfErr result (λ f. IsOfContents f
-        → fault_of (most_at (D.seen d.old)) mark.now.phase mark.now.slot
-        tables.now.source.table tables.now.target
+        → fault_of (most_at (D.seen d.old)) mark.now tables.now.source.table tables.now.target
         ≡ Some f) }
     ensures update { OnOk result (IfSome tables.now.target
-        (λ l. AreOfUpdate mark.now.slot tables.now.source.table l.table)) }
+        (λ l. AreOfUpdate mark.now.apart mark.now.slot tables.now.source.table l.table)) }
     ensures merging { OnOk result (IsNone tables.now.target
         → is_merging mark.now.phase ≡ true
         → IsMerging mark.now.slot (layout_of tables.now.source.table).parts) }

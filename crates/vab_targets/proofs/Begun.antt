@@ -6,6 +6,7 @@ use Rattle.std.specs.Prelude.{Option, Some, None, Contains, map, bit_and}
 use Rattle.std.specs.List.{filter}
 use Rattle.std.specs.Str.{bytes_eq}
 use Rattle.std.proofs.lemmas.Bool.{cases_Bool, leb-true, eqb-true}
+use Rattle.std.proofs.lemmas.List.{append-nil}
 use Rattle.std.proofs.lemmas.Nat.{and_assoc, and_le_r}
 use Rattle.std.proofs.lemmas.List.Elements.{All-contains, filter-append, filter_passes}
 use Rattle.std.proofs.lemmas.List.Elements.{Contains-append_cases}
@@ -22,12 +23,12 @@ use Rattle.vab_layout.specs.declared.layout.Part.{Part}
 use Rattle.vab_layout.specs.declared.layout.Layout.{Layout}
 use Rattle.vab_layout.specs.Layout.{layout_of}
 use Rattle.vab_layout.specs.Plain.{plain}
-use Rattle.vab_layout.specs.Slots.{other_slot, own_parts, IsOwn}
+use Rattle.vab_layout.specs.Slots.{other_slot, own_parts, twins_by, IsOwn}
 use Rattle.vab_layout.proofs.LayoutLaws.{layout_keeps}
 use Rattle.vab_partitions.proofs.OwnRules.{own_kept}
-use Rattle.vab_blocks.proofs.Contained.{all_from, in_map, of_map}
+use Rattle.vab_blocks.proofs.Contained.{all_from, in_map, of_map, none_in_nil}
 use Rattle.vab_builder.specs.Edits.{fitting}
-use Rattle.vab_builder.specs.Import.{imported, twin_part, twin_group_name}
+use Rattle.vab_builder.specs.Import.{parts_by, imported_by, twin_part, twin_group_name}
 use Rattle.vab_builder.specs.Sizes.{has_part}
 use Rattle.vab_builder.proofs.ListLaws.{filter_all, filter_none}
 use Rattle.vab_builder.proofs.PartLaws.{part_there}
@@ -35,13 +36,14 @@ use Rattle.vab_builder.proofs.SlotLaws.{of_other_slot, in_slot_of_slot, base_of-
 use Rattle.vab_builder.proofs.SlotLaws.{of_slot_not}
 use Rattle.vab_model.specs.declared.state.Image.{Image as ImageOfSlot}
 use Rattle.vab_model.specs.declared.state.PlanEntry.{PlanEntry}
+use Rattle.vab_model.specs.declared.state.Plan.{Plan}
 use Rattle.vab_model.specs.declared.state.Phase.{Phase}
 use Rattle.vab_model.specs.declared.state.Phase.TheVariants.{Idle, Installing, Staged, Merging}
 use Rattle.vab_model.specs.declared.command.Refusal.TheVariants as refusals
 use Rattle.vab_model.specs.declared.command.Reply.TheVariants as replies
-use Rattle.vab_model.specs.Commands.{Begin}
 use Rattle.vab_model.specs.Effects.{Effect, after_of}
 use Rattle.vab_model.specs.State.{images_at}
+use Rattle.vab_model.specs.Plans.{twins_of, kept_entry, begun_plan}
 use Rattle.vab_device.specs.declared.fault.StartFault.TheVariants.{BadState}
 use Rattle.vab_device.specs.Checks.{Check, check}
 use Rattle.vab_device.specs.Kept.{group_of, sectors_of, part_on, parts_of, IsPart, AreParts}
@@ -50,15 +52,17 @@ use Rattle.vab_device.specs.Phases.{is_good, own_check}
 use Rattle.vab_device.specs.Reading.{Read, kept, IsIn, Reads, table_at}
 use Rattle.vab_device.specs.Stores.{Scanned}
 use Rattle.vab_device.specs.Updates.{effect_on, begin_effect, begun_effect, table_effect, layout_at}
-use Rattle.vab_device.specs.Updates.{image_or, entry_by, plan_by}
+use Rattle.vab_device.specs.Updates.{image_or, entry_by, plan_by, replanned, no_entries}
 use Rattle.vab_device.proofs.CheckLaws.{first_kept, check_kept}
 use Rattle.vab_device.proofs.MostLaws.{parts_all}
 use Rattle.vab_device.proofs.OwnParts.{parts_kept, length-sectors_of}
-use Rattle.vab_device.proofs.ReadingLaws.{device_was, idle_read_of, slot_below}
+use Rattle.vab_device.proofs.MarkLaws.{as_phase}
+use Rattle.vab_device.proofs.ReadingLaws.{device_was, idle_read_of, slot_below, apart_known}
 use Rattle.vab_device.proofs.StayLaws.{one_of}
 use Rattle.vab_edit.proofs.PlanLaws.{map_among, map_map}
-use Rattle.vab_marks.specs.Mark.{mark_at}
-use Rattle.vab_targets.specs.Plans.{HasWholeSectors, kept_entry, begun_plan, with_plan}
+use Rattle.vab_marks.specs.declared.mark.UpdateMark.{UpdateMark}
+use Rattle.vab_marks.specs.Mark.{rephased, resloted}
+use Rattle.vab_targets.specs.Plans.{HasWholeSectors, with_plan, begin_of, BeginKeepsImages}
 use Rattle.vab_targets.proofs.Sectors.{blocks_long, table_rules, IsRead}
 use Rattle.vab_targets.proofs.Entries.{size_absent, own_is, no_store}
 use Rattle.vab_targets.proofs.Installed.{IsReadAs, none_named}
@@ -86,51 +90,62 @@ twin_group slot name = elim (cases_Bool (bytes_eq name default_name)) [
 
 -- ---- what is imported of a source
 
-module _ (slot : ℕ) (l : Layout) (below : slot < 2) where
+module _ (apart : Bool) (slot : ℕ) (l : Layout) (below : slot < 2) where
   abbrev o : ℕ
   o = other_slot slot
 
   abbrev own : List Part
   own = own_parts slot l.parts
 
-  parts_are : (imported slot (plain slot l)).parts ≡ own ++ map (twin_part o) own
-  unfolding imported plain
+  -- the partitions of the source that have twins
+  abbrev twinned : List Part
+  twinned = twins_by apart own
+
+  parts_by_twins : (b : Bool) (ps : List Part)
+      → own_parts slot ps ≡ ps
+      → parts_by b slot ps ≡ ps ++ map (twin_part o) (twins_by b ps)
+  parts_by_twins true ps same = same ∙ sym (append-nil ps)
+  parts_by_twins false ps same = ap (λ (qs : List Part). qs ++ map (twin_part o) qs) same
+
+  parts_are : (imported_by apart slot (plain slot l)).parts ≡ own ++ map (twin_part o) twinned
+  unfolding imported_by plain
   parts_are =
-      ap (λ (ps : List Part). ps ++ map (twin_part o) ps)
+      parts_by_twins apart own
       (filter_all (λ (p : Part). is_of_slot slot p.name) own
       (filter_passes (λ (p : Part). is_of_slot slot p.name) l.parts))
 
   twins_own : (q : Part)
-      → Contains (map (twin_part o) own) q
+      → Contains (map (twin_part o) twinned) q
       → is_of_slot o q.name ≡ true
   twins_own q c =
-      let r = of_map (twin_part o) own q c in
+      let r = of_map (twin_part o) twinned q c in
       subst (λ (x : Part). is_of_slot o x.name ≡ true) r.2 (in_slot_of_slot o r.0.name)
 
   -- the target's partitions are the twins
-  pub twins_are : own_parts o (imported slot (plain slot l)).parts ≡ map (twin_part o) own
+  pub twins_are : own_parts o (imported_by apart slot (plain slot l)).parts
+      ≡ map (twin_part o) twinned
   twins_are =
       let test : Part → Bool = λ p. is_of_slot o p.name in
       let none : filter test own ≡ [] =
       filter_none test own
       (all_from (λ (p : Part). is_of_slot o p.name ≡ false) own
       (λ p c. of_other_slot slot p.name below (own_is slot l.parts p c))) in
-      let all : filter test (map (twin_part o) own) ≡ map (twin_part o) own =
-      filter_all test (map (twin_part o) own)
-      (all_from (λ (p : Part). is_of_slot o p.name ≡ true) (map (twin_part o) own) twins_own) in
+      let all : filter test (map (twin_part o) twinned) ≡ map (twin_part o) twinned =
+      filter_all test (map (twin_part o) twinned)
+      (all_from (λ (p : Part). is_of_slot o p.name ≡ true) (map (twin_part o) twinned) twins_own) in
       ap (own_parts o) parts_are
-      ∙ filter-append test own (map (twin_part o) own)
+      ∙ filter-append test own (map (twin_part o) twinned)
       ∙ (λ i. none i ++ all i)
 
   -- and none has a store
   no_stores : (name : List ℕ)
-      → has_part (store_of name) (imported slot (plain slot l)).parts ≡ false
+      → has_part (store_of name) (imported_by apart slot (plain slot l)).parts ≡ false
   no_stores name =
       ap (has_part (store_of name)) parts_are
-      ∙ elim (cases_Bool (has_part (store_of name) (own ++ map (twin_part o) own))) [
+      ∙ elim (cases_Bool (has_part (store_of name) (own ++ map (twin_part o) twinned))) [
         | inl there ↦
-            let q = part_there (store_of name) (own ++ map (twin_part o) own) there in
-            elim (Contains-append_cases own (map (twin_part o) own) q.0 q.1) [
+            let q = part_there (store_of name) (own ++ map (twin_part o) twinned) there in
+            elim (Contains-append_cases own (map (twin_part o) twinned) q.0 q.1) [
               | inl mine ↦
                   absurd (no_store slot q.0.name name (own_is slot l.parts q.0 mine) (sym q.2))
               | inr twin ↦ absurd (no_store o q.0.name name (twins_own q.0 twin) (sym q.2))
@@ -140,19 +155,31 @@ module _ (slot : ℕ) (l : Layout) (below : slot < 2) where
 
 -- ---- the plan that it gives
 
+-- partitions that have twins are the source's
+twin_own : (apart : Bool) (ps : List Part) (p : Part)
+    → Contains (twins_by apart ps) p
+    → Contains ps p
+twin_own true ps p c = absurd (none_in_nil p c)
+twin_own false ps p c = c
+
+twins_drawn : (apart : Bool) (f : Part → ImageOfSlot) (ps : List Part)
+    → map f (twins_by apart ps) ≡ twins_of apart (map f ps)
+twins_drawn true f ps = refl
+twins_drawn false f ps = refl
+
 module _
-    (size : ℕ) (image : Image) (slot : ℕ) (l : Layout)
+    (apart : Bool) (size : ℕ) (image : Image) (slot : ℕ) (l : Layout)
     (below : slot < 2)
     (whole : HasWholeSectors size image)
     (parts : AreParts size (parts_of slot l)) where
   entry_kept : (p : Part)
       → Contains (own_parts slot l.parts) p
-      → entry_by (imported slot (plain slot l)) [] (twin_part (other_slot slot) p)
+      → entry_by (imported_by apart slot (plain slot l)) [] (twin_part (other_slot slot) p)
       ≡ kept_entry (image_on image (part_on l.device.first_logical_sector p))
   entry_kept p c =
       let at : ℕ = l.device.first_logical_sector in
       let o : ℕ = other_slot slot in
-      let new : Layout = imported slot (plain slot l) in
+      let new : Layout = imported_by apart slot (plain slot l) in
       let on = (All-contains (IsPart size) (parts_of slot l) (part_on at p) parts.each
       (in_map (part_on at) (own_parts slot l.parts) p c)).on_disk in
       let long = blocks_long size image (sectors_of at p.blocks) whole on in
@@ -161,7 +188,7 @@ module _
       let name = base_of-in_slot o p.name in
       let group = twin_group o p.group in
       let store = size_absent (store_of (in_slot o p.name)) new.parts
-      (no_stores slot l below (in_slot o p.name)) in
+      (no_stores apart slot l below (in_slot o p.name)) in
       let kept = twin_kept p.attributes in
       (λ i. record {
         name = name i;
@@ -171,31 +198,40 @@ module _
         image = image_or (kept i) None;
       })
 
-  pub plan_begun : plan_by (other_slot slot) (imported slot (plain slot l)) []
-      ≡ begun_plan (map (image_on image) (parts_of slot l))
-  plan_begun =
+  entries_begun : plan_by (other_slot slot) (imported_by apart slot (plain slot l)) []
+      ≡ map kept_entry (twins_of apart (map (image_on image) (parts_of slot l)))
+  entries_begun =
       let at : ℕ = l.device.first_logical_sector in
       let own : List Part = own_parts slot l.parts in
+      let twinned : List Part = twins_by apart own in
       let twin : Part → Part = twin_part (other_slot slot) in
-      let entry : Part → PlanEntry = entry_by (imported slot (plain slot l)) [] in
-      ap (map entry) (twins_are slot l below)
-      ∙ map_map twin entry own
-      ∙ map_among (λ p. entry (twin p)) (λ p. kept_entry (image_on image (part_on at p))) own
-      entry_kept
-      ∙ sym (ap (map kept_entry) (map_map (part_on at) (image_on image) own)
-      ∙ map_map (λ p. image_on image (part_on at p)) kept_entry own)
+      let entry : Part → PlanEntry = entry_by (imported_by apart slot (plain slot l)) [] in
+      let drawn : Part → ImageOfSlot = λ p. image_on image (part_on at p) in
+      ap (map entry) (twins_are apart slot l below)
+      ∙ map_map twin entry twinned
+      ∙ map_among (λ p. entry (twin p)) (λ p. kept_entry (drawn p)) twinned
+      (λ p c. entry_kept p (twin_own apart own p c))
+      ∙ sym (map_map drawn kept_entry twinned)
+      ∙ ap (map kept_entry)
+      (twins_drawn apart drawn own
+      ∙ ap (twins_of apart) (sym (map_map (part_on at) (image_on image) own)))
+
+  pub plan_begun : replanned slot (no_entries apart) (imported_by apart slot (plain slot l))
+      ≡ begun_plan apart (map (image_on image) (parts_of slot l))
+  plan_begun = ap (λ (es : List PlanEntry). record { apart = apart; entries = es }) entries_begun
 
 -- ---- what is read without an update
 
-abbrev idle_at : ℕ
+abbrev idle_at : UpdateMark
+    → ℕ
     → List (Option PartStatus)
     → Control
     → Geometry
     → Table
     → List Scanned
     → Read
-idle_at slot statuses c g t scanned = record {
-  mark = mark_at marks.Idle slot;
+idle_at base slot statuses c g t scanned = record {
+  mark = rephased marks.Idle (resloted slot base);
   statuses = statuses;
   control = c;
   geometry = g;
@@ -204,6 +240,7 @@ idle_at slot statuses c g t scanned = record {
 }
 
 record HasIdle (size : ℕ) (image : Image) (m : Mounted) : Type 0 where
+  base : UpdateMark
   slot : ℕ
   statuses : List (Option PartStatus)
   c : Control
@@ -211,7 +248,7 @@ record HasIdle (size : ℕ) (image : Image) (m : Mounted) : Type 0 where
   t : Table
   scanned : List Scanned
   table : table_at size g slot image ≡ Ok t
-  read : IsReadAs size image m (idle_at slot statuses c g t scanned)
+  read : IsReadAs size image m (idle_at base slot statuses c g t scanned)
 
 phase_said : (r : Read) (image : Image)
     → (mounted_on (kept r) image).state.phase ≡ phase_on (kept r) image
@@ -228,14 +265,15 @@ has_idle size image m is phase =
     let idle : r.mark.phase ≡ marks.Idle =
     idle_read_of size r image was.reads
     (sym (phase_said r image) ∙ sym (ap (λ (x : Mounted). x.state.phase) was.is) ∙ phase) in
-    let marked : r ≡ record r { mark = record r.mark { phase = marks.Idle } } =
-    (λ i. record r { mark = record r.mark { phase = idle i } }) in
+    let is_marked = as_phase r.mark marks.Idle (apart_known image r.mark was.reads.mark) idle in
+    let marked : r ≡ record r { mark = rephased marks.Idle r.mark } =
+    (λ i. record r { mark = is_marked i }) in
     let now = subst (IsReadAs size image m) marked (record { reads = was.reads; is = was.is }) in
     let one = one_of size r.geometry r.mark.slot image r.tables now.reads.tables in
-    let form : record r { mark = record r.mark { phase = marks.Idle } }
-    ≡ idle_at r.mark.slot r.statuses r.control r.geometry one.0 r.scanned =
+    let form : record r { mark = rephased marks.Idle r.mark }
+    ≡ idle_at r.mark r.mark.slot r.statuses r.control r.geometry one.0 r.scanned =
     (λ i. record {
-      mark = record r.mark { phase = marks.Idle };
+      mark = rephased marks.Idle r.mark;
       statuses = r.statuses;
       control = r.control;
       geometry = r.geometry;
@@ -243,6 +281,7 @@ has_idle size image m is phase =
       scanned = r.scanned;
     }) in
     record {
+      base = r.mark;
       slot = r.mark.slot;
       statuses = r.statuses;
       c = r.control;
@@ -256,22 +295,23 @@ has_idle size image m is phase =
 -- ---- a begin from a slot
 
 -- what is said of a begin from this slot
-abbrev Begins : Mounted → ℕ → Type 0
-Begins m n =
-    (begun_effect m n (layout_at m.places n)).reply ≡ replies.Done
+abbrev Begins : (apart : Bool) → Mounted → ℕ → Type 0
+Begins apart m n =
+    (begun_effect m apart n (layout_at m.places n)).reply ≡ replies.Done
     → (images : List ImageOfSlot)
     × (images_at m.state n ≡ Some images)
-    × ((after_of m (begun_effect m n (layout_at m.places n))).state
-    ≡ with_plan m.state n (begun_plan images))
+    × ((after_of m (begun_effect m apart n (layout_at m.places n))).state
+    ≡ with_plan m.state n (begun_plan apart images))
 
 module _
-    (size : ℕ) (image : Image) (slot : ℕ) (statuses : List (Option PartStatus)) (c : Control)
-    (g : Geometry) (t : Table) (ss : List Scanned)
+    (size : ℕ) (image : Image) (base : UpdateMark) (slot : ℕ)
+    (statuses : List (Option PartStatus)) (c : Control) (g : Geometry) (t : Table)
+    (ss : List Scanned)
     (whole : HasWholeSectors size image)
-    (reads : Reads size (idle_at slot statuses c g t ss) image)
+    (reads : Reads size (idle_at base slot statuses c g t ss) image)
     (table : table_at size g slot image ≡ Ok t) where
   abbrev r : Read
-  r = idle_at slot statuses c g t ss
+  r = idle_at base slot statuses c g t ss
 
   lower : slot < 2
   lower = slot_below image r.mark reads.mark
@@ -281,7 +321,7 @@ module _
 
   from_at : (k : ℕ)
       → k < 2
-      → layout_at (mounted_on (kept (idle_at k statuses c g t ss)) image).places k
+      → layout_at (mounted_on (kept (idle_at base k statuses c g t ss)) image).places k
       ≡ Some (plain k (layout_of t))
   from_at zero lt = refl
   from_at (suc zero) lt = refl
@@ -289,7 +329,7 @@ module _
 
   images_are : (k : ℕ)
       → k < 2
-      → images_at (mounted_on (kept (idle_at k statuses c g t ss)) image).state k
+      → images_at (mounted_on (kept (idle_at base k statuses c g t ss)) image).state k
       ≡ Some (map (image_on image) (parts_of k (layout_of t)))
   unfolding state_on
   images_are zero lt = refl
@@ -318,64 +358,72 @@ module _
       table_rules size image g slot t whole enough lower reads.geometry table in
       parts_kept size slot g (layout_of t) enough (layout_keeps t read.rules) own read.lies
 
-  begins_at : Begins (mounted_on (kept r) image) slot
-  begins_at done =
+  begins_at : (apart : Bool) → Begins apart (mounted_on (kept r) image) slot
+  begins_at apart done =
       let m : Mounted = mounted_on (kept r) image in
       let l : Layout = layout_of t in
-      let given : Layout = imported slot (plain slot l) in
-      let is : begun_effect m slot (layout_at m.places slot)
-      ≡ table_effect m slot [] (fitting g.max given) =
-      ap (begun_effect m slot) (from_at slot lower) in
-      let made = table_done m slot [] (fitting g.max given)
+      let none : Plan = no_entries apart in
+      let given : Layout = imported_by apart slot (plain slot l) in
+      let is : begun_effect m apart slot (layout_at m.places slot)
+      ≡ table_effect m slot none (fitting g.max given) =
+      ap (begun_effect m apart slot) (from_at slot lower) in
+      let made = table_done m slot none (fitting g.max given)
       (sym (ap (λ (e : Effect Mounted). e.reply) is) ∙ done) in
-      let plan : plan_by (other_slot slot) made.0 []
-      ≡ begun_plan (map (image_on image) (parts_of slot l)) =
-      ap (λ (x : Layout). plan_by (other_slot slot) x [])
+      let plan : replanned slot none made.0
+      ≡ begun_plan apart (map (image_on image) (parts_of slot l)) =
+      ap (replanned slot none)
       (sym (fitting_is g.max given made.0 made.1))
-      ∙ plan_begun size image slot l lower whole parts in (
+      ∙ plan_begun apart size image slot l lower whole parts in (
         map (image_on image) (parts_of slot l),
         images_are slot lower,
-        ap (λ (e : Effect Mounted). (after_of m e).state) (is ∙ ap (table_effect m slot []) made.1)
+        ap (λ (e : Effect Mounted). (after_of m e).state)
+            (is ∙ ap (table_effect m slot none) made.1)
             ∙ ap (with_plan m.state slot) plan,
       )
 
-  pub begins_current : Begins (mounted_on (kept r) image)
+  pub begins_current : (apart : Bool)
+      → Begins apart (mounted_on (kept r) image)
       (mounted_on (kept r) image).state.control.current
-  begins_current = subst (Begins (mounted_on (kept r) image)) (sym current_on) begins_at
+  begins_current apart =
+      subst (Begins apart (mounted_on (kept r) image)) (sym current_on) (begins_at apart)
 
 -- ---- a disk that is a device
 
-idle_by : (m : Mounted) (phase : Phase)
-    → (begin_effect m phase).reply ≡ replies.Done
+idle_by : (m : Mounted) (apart : Bool) (phase : Phase)
+    → (begin_effect m apart phase).reply ≡ replies.Done
     → phase ≡ Idle
-idle_by m Idle done = refl
-idle_by m (Installing source plan) done = refused_not refusals.NotIdle done
-idle_by m (Staged source left) done = refused_not refusals.NotIdle done
-idle_by m (Merging target left) done = refused_not refusals.NotIdle done
+idle_by m apart Idle done = refl
+idle_by m apart (Installing source plan) done = refused_not refusals.NotIdle done
+idle_by m apart (Staged source left) done = refused_not refusals.NotIdle done
+idle_by m apart (Merging target left) done = refused_not refusals.NotIdle done
 
--- what is said of a begin, by the phase
-abbrev BeginsFrom : Mounted → Phase → Type 0
-BeginsFrom m phase =
-    (begin_effect m phase).reply ≡ replies.Done
+-- what is said of a begin, by what it gives
+abbrev Keeps : (apart : Bool) → Mounted → Effect Mounted → Type 0
+Keeps apart m e =
+    e.reply ≡ replies.Done
     → (images : List ImageOfSlot)
     × (images_at m.state m.state.control.current ≡ Some images)
-    × ((after_of m (begin_effect m phase)).state
-    ≡ with_plan m.state m.state.control.current (begun_plan images))
+    × ((after_of m e).state ≡ with_plan m.state m.state.control.current (begun_plan apart images))
 
-pub begin_keeps : (size : ℕ) (image : Image) (m : Mounted) (staged : Option (List ℕ))
+begin_by : (size : ℕ) (image : Image) (m : Mounted) (apart : Bool)
     → HasWholeSectors size image
     → IsIn size m image
-    → (effect_on m staged Begin).reply ≡ replies.Done
-    → (images : List ImageOfSlot)
-    × (images_at m.state m.state.control.current ≡ Some images)
-    × ((after_of m (effect_on m staged Begin)).state
-    ≡ with_plan m.state m.state.control.current (begun_plan images))
-begin_keeps size image m staged whole is done =
-    let idle = idle_by m m.state.phase done in
+    → Keeps apart m (begin_effect m apart m.state.phase)
+begin_by size image m apart whole is done =
+    let idle = idle_by m apart m.state.phase done in
     let h = has_idle size image m is idle in
-    let begins : Begins m m.state.control.current =
-    subst (λ (x : Mounted). Begins x x.state.control.current) (sym h.read.is)
-    (begins_current size image h.slot h.statuses h.c h.g h.t h.scanned whole h.read.reads
-    h.table) in
-    let from : BeginsFrom m Idle = begins in
-    subst (BeginsFrom m) (sym idle) from done
+    let begins : Begins apart m m.state.control.current =
+    subst (λ (x : Mounted). Begins apart x x.state.control.current) (sym h.read.is)
+    (begins_current size image h.base h.slot h.statuses h.c h.g h.t h.scanned whole h.read.reads
+    h.table apart) in
+    let from : Keeps apart m (begin_effect m apart Idle) = begins in
+    subst (λ (phase : Phase). Keeps apart m (begin_effect m apart phase)) (sym idle) from done
+
+pub begin_is : (m : Mounted) (staged : Option (List ℕ)) (apart : Bool)
+    → begin_effect m apart m.state.phase ≡ effect_on m staged (begin_of apart)
+begin_is m staged true = refl
+begin_is m staged false = refl
+
+pub begin_keeps : BeginKeepsImages
+begin_keeps size image m staged apart whole is =
+    subst (Keeps apart m) (begin_is m staged apart) (begin_by size image m apart whole is)

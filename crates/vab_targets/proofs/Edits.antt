@@ -21,11 +21,11 @@ use Rattle.vab_blocks.proofs.Contained.{first, in_filter, of_filter}
 use Rattle.vab_builder.specs.declared.edit.Edit.{Edit}
 use Rattle.vab_builder.specs.declared.edit.Edit.TheVariants as edits
 use Rattle.vab_builder.specs.Asked.{KeepsOthers}
-use Rattle.vab_builder.specs.Edits.{changed, changed_by, created_part, resized_part, updated}
+use Rattle.vab_builder.specs.Edits.{changed, changed_beside, created_part, resized_part, updated}
 use Rattle.vab_builder.specs.Edits.{store_part, store_blocks}
 use Rattle.vab_builder.specs.Edits.{first_group as first_of_slot}
 use Rattle.vab_builder.specs.Sizes.{has_part}
-use Rattle.vab_builder.specs.Update.{IsUpdate}
+use Rattle.vab_builder.specs.Update.{IsUpdateBeside}
 use Rattle.vab_builder.proofs.AskedLaws.{edit_done}
 use Rattle.vab_builder.proofs.ChangedTarget.{either, changed_own}
 use Rattle.vab_builder.proofs.DeleteVerdicts.{deleted_passes}
@@ -40,17 +40,17 @@ use Rattle.vab_builder.proofs.Verdicts.{created_passes}
 use Rattle.vab_model.specs.declared.state.GroupLimit.{GroupLimit}
 use Rattle.vab_model.specs.declared.state.PlanImage.TheVariants.{Declared}
 use Rattle.vab_model.specs.declared.state.PlanEntry.{PlanEntry}
+use Rattle.vab_model.specs.Plans.{entry_named, first_group, created_entry, resized_entry}
+use Rattle.vab_model.specs.Plans.{stored_entry, at_entry, without_entry}
 use Rattle.vab_device.specs.Kept.{group_of, limits_of}
-use Rattle.vab_device.specs.Updates.{image_or, entry_named, written_of, entry_by, plan_by}
+use Rattle.vab_device.specs.Updates.{image_or, written_of, entry_by, plan_by}
 use Rattle.vab_edit.proofs.NamedLaws.{base_eq}
 use Rattle.vab_edit.proofs.PlanLaws.{map_among, map_map}
-use Rattle.vab_targets.specs.Plans.{first_group, created_entry, resized_entry, stored_entry}
-use Rattle.vab_targets.specs.Plans.{at_entry}
-use Rattle.vab_targets.specs.Plans.{without_entry}
 use Rattle.vab_targets.proofs.Entries.{map_changed, map_fewer, filter_swap, store_size, size_there}
 use Rattle.vab_targets.proofs.Entries.{size_absent, size_same, no_store, other_store, own_of}
 use Rattle.vab_targets.proofs.Entries.{own_is}
 use Rattle.vab_targets.proofs.Entries.{entry_same}
+use Rattle.vab_targets.proofs.Named.{entry_absent}
 
 -- ---- edits, by their values
 
@@ -132,19 +132,19 @@ map_more f (p ∷ ps) x = ap (λ (l : List PlanEntry). f p ∷ l) (map_more f ps
 -- ---- edits of a target's table
 
 module _
-    (slot : ℕ) (s t : Layout) (plan : List PlanEntry)
-    (update : IsUpdate slot s t)
-    (again : plan ≡ plan_by slot t plan)
-    (unwritten : (name : List ℕ) → is_of_slot slot name ≡ true
-    → has_part (store_of name) t.parts ≡ false
-    → written_of (entry_named (base_of name) plan) ≡ None) where
-  -- an updated partition without a store is declared
+    (slot : ℕ) (twins : List Part) (s t : Layout) (plan : List PlanEntry)
+    (update : IsUpdateBeside slot twins s t)
+    (again : plan ≡ plan_by slot t plan) where
+  -- nothing is written to the partition of this name
+  abbrev IsUnwritten : List ℕ → Type 0
+  IsUnwritten name = written_of (entry_named (base_of name) plan) ≡ None
+
+  -- where it is updated it is declared
   declared : (name : List ℕ) (b : Bool)
-      → is_of_slot slot name ≡ true
-      → has_part (store_of name) t.parts ≡ false
+      → IsUnwritten name
       → b ≡ true
       → image_or b (written_of (entry_named (base_of name) plan)) ≡ Declared
-  declared name b of plain is = (λ i. image_or (is i) (unwritten name of plain i))
+  declared name b unwritten is = (λ i. image_or (is i) (unwritten i))
 
   blocks_are : (name : List ℕ) (p : Part)
       → Contains (own_parts slot t.parts) p
@@ -156,13 +156,13 @@ module _
   -- ---- a partition less
 
   pub deleted_plan : (name : List ℕ) (l : Layout)
-      → changed_by slot s t (delete_of name) ≡ Ok l
+      → changed_beside slot twins s t (delete_of name) ≡ Ok l
       → plan_by slot l plan ≡ without_entry (base_of name) plan
   deleted_plan name l h =
       let passes = deleted_passes slot t name l h in
       let of = full_slot slot name passes.0.full in
       let others : KeepsOthers name t l =
-      (edit_done slot s t (delete_of name) l update h).others in
+      (edit_done slot twins s t (delete_of name) l update h).others in
       let keeps : Part → Bool = λ p. not (bytes_eq p.name name) in
       let left : own_parts slot l.parts ≡ filter keeps (own_parts slot t.parts) =
       ap (λ (x : Layout). own_parts slot x.parts) passes.1
@@ -179,7 +179,7 @@ module _
 
   stored_one : (name : List ℕ) (bytes : ℕ) (l : Layout) (p : Part)
       → is_of_slot slot name ≡ true
-      → has_part (store_of name) t.parts ≡ false
+      → IsUnwritten name
       → KeepsOthers (store_of name) t l
       → store_size (store_of name) l.parts ≡ Some (store_blocks t name bytes)
       → Contains (own_parts slot t.parts) p
@@ -187,7 +187,7 @@ module _
       ≡ cond (bytes_eq (base_of p.name) (base_of name))
       (stored_entry bytes (entry_by t plan p))
       (entry_by t plan p)
-  stored_one name bytes l p of plain others made c =
+  stored_one name bytes l p of unwritten others made c =
       let mine = own_is slot t.parts p c in
       let same = base_eq slot p.name name mine of in
       elim (cases_Bool (bytes_eq p.name name)) [
@@ -200,8 +200,8 @@ module _
             ∙ ap (λ (b : List ℕ).
             Some (if bytes == 0 then need_of (length b) else blocks_of bytes))
             (blocks_are name p c e) in
-            let image = declared p.name (is_updated (updated p)) mine
-            (ap (λ (n : List ℕ). has_part (store_of n) t.parts) e ∙ plain)
+            let image = declared p.name (is_updated (updated p))
+            (ap (λ (n : List ℕ). written_of (entry_named (base_of n) plan)) e ∙ unwritten)
             (updated_is p.attributes) in
             rw (same, here) (λ i. record {
               name = base_of p.name;
@@ -218,12 +218,13 @@ module _
       ]
 
   pub stored_plan : (name : List ℕ) (bytes : ℕ) (l : Layout)
-      → changed_by slot s t (store_edit_of name bytes) ≡ Ok l
+      → IsUnwritten name
+      → changed_beside slot twins s t (store_edit_of name bytes) ≡ Ok l
       → plan_by slot l plan ≡ at_entry (base_of name) (stored_entry bytes) plan
-  stored_plan name bytes l h =
-      let passes = stored_passes slot s t name bytes l h in
+  stored_plan name bytes l unwritten h =
+      let passes = stored_passes slot twins s t name bytes l h in
       let of = full_slot slot name passes.0.full in
-      let done = edit_done slot s t (store_edit_of name bytes) l update h in
+      let done = edit_done slot twins s t (store_edit_of name bytes) l update h in
       let n : ℕ = store_blocks t name bytes in
       let made = size_there (store_of name) l.parts n done.asked.there done.asked.count in
       let new : Part = store_part slot s t name n in
@@ -235,7 +236,7 @@ module _
       ∙ map_changed (entry_by l plan) (entry_by t plan) (either name updated)
       (λ (e : PlanEntry). cond (bytes_eq e.name (base_of name)) (stored_entry bytes e) e)
       (own_parts slot t.parts)
-      (λ p c. stored_one name bytes l p of passes.0.plain done.others made c)
+      (λ p c. stored_one name bytes l p of unwritten done.others made c)
       ∙ ap (at_entry (base_of name) (stored_entry bytes)) (sym again)
 
   -- ---- another size
@@ -273,16 +274,16 @@ module _
 
   resized_one : (name : List ℕ) (n : ℕ) (l : Layout) (p : Part)
       → is_of_slot slot name ≡ true
-      → has_part (store_of name) t.parts ≡ false
+      → IsUnwritten name
       → KeepsOthers name t l
       → (length (blocks_named name t.parts) ≡ n → ⊥)
-      → (p.name ≡ name → length (resized_part slot s t n p).blocks ≡ n)
+      → (p.name ≡ name → length (resized_part slot twins s t n p).blocks ≡ n)
       → Contains (own_parts slot t.parts) p
-      → entry_by l plan (either name (resized_part slot s t n) p)
+      → entry_by l plan (either name (resized_part slot twins s t n) p)
       ≡ cond (bytes_eq (base_of p.name) (base_of name))
       (resized_entry n (entry_by t plan p))
       (entry_by t plan p)
-  resized_one name n l p of plain others new count c =
+  resized_one name n l p of unwritten others new count c =
       let mine = own_is slot t.parts p c in
       let same = base_eq slot p.name name mine of in
       let stays = others (store_of p.name) (no_store slot name p.name of) in
@@ -293,8 +294,8 @@ module _
             let blocks = count e in
             let differs : eqb (length p.blocks) n ≡ false =
             ne_eqb (length p.blocks) n (λ is. new (ap length (blocks_are name p c e) ∙ is)) in
-            let image = declared p.name (is_updated (resized_part slot s t n p)) mine
-            (ap (λ (m : List ℕ). has_part (store_of m) t.parts) e ∙ plain)
+            let image = declared p.name (is_updated (resized_part slot twins s t n p))
+            (ap (λ (m : List ℕ). written_of (entry_named (base_of m) plan)) e ∙ unwritten)
             (updated_is p.attributes) in
             rw (same, here, differs) (λ i. record {
               name = base_of p.name;
@@ -307,31 +308,32 @@ module _
       ]
 
   pub resized_plan : (name : List ℕ) (bytes : ℕ) (l : Layout)
-      → changed_by slot s t (resize_of name bytes) ≡ Ok l
+      → IsUnwritten name
+      → changed_beside slot twins s t (resize_of name bytes) ≡ Ok l
       → plan_by slot l plan ≡ at_entry (base_of name) (resized_entry (blocks_of bytes)) plan
-  resized_plan name bytes l h =
-      let passes = resized_passes slot s t name bytes l h in
+  resized_plan name bytes l unwritten h =
+      let passes = resized_passes slot twins s t name bytes l h in
       let of = full_slot slot name passes.0.full in
       let n : ℕ = blocks_of bytes in
       let back = ap (at_entry (base_of name) (resized_entry n)) (sym again) in
       elim (cases_eq (length (blocks_named name t.parts)) n) [
         | inl same ↦
-            let is : l ≡ t = passes.1 ∙ same_size slot s t name n same in
+            let is : l ≡ t = passes.1 ∙ same_size slot twins s t name n same in
             ap (λ (x : Layout). plan_by slot x plan) is ∙ kept_sizes name n of same ∙ back
         | inr new ↦
             let others : KeepsOthers name t l =
-            (edit_done slot s t (resize_of name bytes) l update h).others in
-            let change : Part → Part = resized_part slot s t n in
+            (edit_done slot twins s t (resize_of name bytes) l update h).others in
+            let change : Part → Part = resized_part slot twins s t n in
             let stay : own_parts slot l.parts ≡ changed name change (own_parts slot t.parts) =
             ap (λ (x : Layout). own_parts slot x.parts)
-            (passes.1 ∙ other_size slot s t name n new)
+            (passes.1 ∙ other_size slot twins s t name n new)
             ∙ changed_own slot name change t.parts (λ p. refl) in
             ap (map (entry_by l plan)) stay
             ∙ map_changed (entry_by l plan) (entry_by t plan) (either name change)
             (λ (e : PlanEntry). cond (bytes_eq e.name (base_of name)) (resized_entry n e) e)
             (own_parts slot t.parts)
-            (λ p c. resized_one name n l p of passes.0.plain others new
-            (λ e. resized_size slot s t name n p update c e passes.0.room) c)
+            (λ p c. resized_one name n l p of unwritten others new
+            (λ e. resized_size slot twins s t name n p update c e passes.0.room) c)
             ∙ back
       ]
 
@@ -360,15 +362,15 @@ module _
 
   pub created_plan : (groups : List GroupLimit) (name : List ℕ) (bytes : ℕ) (l : Layout)
       → group_of (first_of_slot (own_groups slot t.groups)) ≡ first_group groups
-      → changed_by slot s t (create_of name bytes) ≡ Ok l
+      → changed_beside slot twins s t (create_of name bytes) ≡ Ok l
       → plan_by slot l plan ≡ plan ++ created_entry groups (base_of name) bytes ∷ []
   created_plan groups name bytes l group h =
-      let passes = created_passes slot s t name bytes l h in
+      let passes = created_passes slot twins s t name bytes l h in
       let of = full_slot slot name passes.0.full in
       let others : KeepsOthers name t l =
-      (edit_done slot s t (create_of name bytes) l update h).others in
+      (edit_done slot twins s t (create_of name bytes) l update h).others in
       let n : ℕ = blocks_of bytes in
-      let new : Part = created_part slot s t name n in
+      let new : Part = created_part slot twins s t name n in
       let plain = storeless name of passes.0.absent in
       let more : own_parts slot l.parts ≡ own_parts slot t.parts ++ new ∷ [] =
       ap (λ (x : Layout). own_parts slot x.parts) passes.1 ∙ own_more slot t.parts new of in
@@ -376,11 +378,13 @@ module _
       map_among (entry_by l plan) (entry_by t plan) (own_parts slot t.parts)
       (λ p c. entry_same t l plan p (others (store_of p.name) (no_store slot name p.name of)))
       ∙ sym again in
-      let blocks = created_size slot s t name n update passes.0.room in
+      let blocks = created_size slot twins s t name n update passes.0.room in
       let size : store_size (store_of name) l.parts ≡ None =
       size_same (store_of name) t l (others (store_of name) (no_store slot name name of))
       ∙ size_absent (store_of name) t.parts plain in
-      let image = declared name (is_updated new) of plain refl in
+      let unwritten : IsUnwritten name =
+      ap written_of (entry_absent slot t plan again name of passes.0.absent) in
+      let image = declared name (is_updated new) unwritten refl in
       let last : entry_by l plan new ≡ created_entry groups (base_of name) bytes = (λ i. record {
         name = base_of name;
         group = group i;

@@ -14,9 +14,11 @@ use Rattle.vab_blocks.proofs.Contained.{first, later, of_filter}
 use Rattle.vab_builder.specs.Asked.{IsAsBefore}
 use Rattle.vab_builder.specs.Sizes.{has_part}
 use Rattle.vab_model.specs.declared.state.PlanEntry.{PlanEntry}
-use Rattle.vab_device.specs.Kept.{group_of}
+use Rattle.vab_model.specs.Plans.{entry_named}
+use Rattle.vab_device.specs.Kept.{group_of, sectors_of}
 use Rattle.vab_device.specs.Stores.{first_named}
-use Rattle.vab_device.specs.Updates.{image_or, entry_named, written_of, entry_by}
+use Rattle.vab_device.specs.Updates.{image_or, written_of, entry_by}
+use Rattle.vab_device.proofs.OwnParts.{length-sectors_of}
 use Rattle.vab_edit.proofs.PlanLaws.{map_among, map_map}
 
 -- ---- lists
@@ -100,6 +102,14 @@ size_same name old new stays =
     size_told name new.parts
     ∙ (λ i. cond (stays.there i) (Some (length (stays.blocks i))) None)
     ∙ sym (size_told name old.parts)
+
+-- blocks of a store, each as its first sector
+pub store_length : (first : ℕ) (store : Option Part)
+    → option_map (λ (l : List ℕ). length l)
+    (option_map (λ (q : Part). sectors_of first q.blocks) store)
+    ≡ option_map (λ (q : Part). length q.blocks) store
+store_length first None = refl
+store_length first (Some q) = ap Some (length-sectors_of first q.blocks)
 
 -- ---- names
 

@@ -13,8 +13,8 @@ use Rattle.vab_statuses.specs.Statuses.{IsFirstFree}
 use Rattle.vab_statuses.proofs.ReadLaws.{statuses_found}
 use Rattle.vab_statuses.proofs.StatusesLaws.{first_is_free}
 use Rattle.vab_statuses.proofs.UnderLaws.{under_zeroed}
-use Rattle.vab_targets.proofs.FewNames.{NoneFree, IsFree, first_free, none_first, all_written}
-use Rattle.vab_targets.proofs.FewNames.{before_free}
+use Rattle.vab_flash.proofs.FewLaws.{all_written}
+use Rattle.vab_targets.proofs.FirstFree.{NoneFree, IsFree, first_free, none_first, before_free}
 
 pub few_under : (v : MarkVersion) → partitions_under v ≤ 64
 few_under One = omega arith

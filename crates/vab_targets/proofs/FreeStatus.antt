@@ -1,15 +1,16 @@
 -- A flash that is done is of a partition that no status names, so a sector of statuses is free.
-use Rattle.std.proofs.Common.{◌≡◌, ◌≢◌, ◌∙◌, inl, inr, ℕ, ◌+◌, ◌≤◌, Bool, true, false, List, []}
+use Rattle.std.proofs.Common.{◌≡◌, ◌≢◌, ◌⊎◌, ◌∙◌, inl, inr, ℕ, ◌+◌, ◌≤◌, Bool, true, false, List}
+use Rattle.std.proofs.Common.{[]}
 use Rattle.std.proofs.Common.{◌∷◌, length, map, Option, Some, None, Result, Ok, Err}
 use Rattle.std.proofs.Common.{sym, ap, subst, arith, refl}
-use Rattle.std.specs.Prelude.{if◌then◌else◌, option_map, All, AllPairs, Contains}
+use Rattle.std.specs.Prelude.{if◌then◌else◌, option_map, All, Any, AllPairs, Contains}
 use Rattle.std.specs.Str.{bytes_eq}
 use Rattle.std.proofs.lemmas.Bool.{cases_Bool, both_ways}
 use Rattle.std.proofs.lemmas.List.{length-map}
 use Rattle.std.proofs.lemmas.List.Elements.{All-cons, All-map, All-contains}
 use Rattle.std.proofs.lemmas.List.Kept.{AllPairs-cons}
 use Rattle.vab_disk.specs.Disk.{Image}
-use Rattle.vab_names.specs.Names.{is_full, base_of, store_of}
+use Rattle.vab_names.specs.Names.{is_full, base_of, in_slot, store_of}
 use Rattle.vab_names.proofs.NameCases.{eq_name}
 use Rattle.vab_marks.specs.declared.mark.MarkPhase.{MarkPhase}
 use Rattle.vab_marks.specs.declared.mark.MarkPhase.TheVariants as marks
@@ -23,46 +24,47 @@ use Rattle.vab_blocks.proofs.Contained.{first, later}
 use Rattle.vab_layout.specs.declared.layout.Part.{Part as PartOfLayout}
 use Rattle.vab_layout.specs.declared.layout.Layout.{Layout}
 use Rattle.vab_layout.specs.Layout.{layout_of}
-use Rattle.vab_layout.specs.Slots.{other_slot, own_parts, is_updated, IsTargetPart}
-use Rattle.vab_exceptions.specs.declared.area.Exception.{Exception}
+use Rattle.vab_layout.specs.Slots.{other_slot, own_parts, twins_by, is_updated}
+use Rattle.vab_layout.specs.Slots.{IsTargetPartBeside}
 use Rattle.vab_space.specs.declared.Chunk.{Chunk}
-use Rattle.vab_store.specs.declared.fault.StoreFault.{StoreFault}
-use Rattle.vab_store.specs.Scan.{scan_of}
 use Rattle.vab_builder.proofs.Counting.{pairs_map}
-use Rattle.vab_partitions.specs.Target.{FitsTarget}
-use Rattle.vab_partitions.specs.TargetRules.{bad_target_of}
+use Rattle.vab_partitions.specs.Target.{FitsBeside}
+use Rattle.vab_partitions.specs.TargetRules.{bad_beside}
 use Rattle.vab_partitions.proofs.BadTarget.{no_bad_target}
 use Rattle.vab_model.specs.declared.state.PlanEntry.{PlanEntry}
+use Rattle.vab_model.specs.declared.state.Plan.{Plan}
 use Rattle.vab_model.specs.declared.state.Phase.TheVariants.{Installing}
 use Rattle.vab_model.specs.declared.command.Refusal.TheVariants as refusals
 use Rattle.vab_model.specs.declared.command.Reply.TheVariants as replies
 use Rattle.vab_model.specs.Commands.{Flash}
 use Rattle.vab_model.specs.Effects.{Effect, refuses}
+use Rattle.vab_model.specs.Plans.{entry_named}
 use Rattle.vab_device.specs.declared.fault.StartFault.{StartFault}
-use Rattle.vab_device.specs.declared.fault.StartFault.TheVariants.{BadMark, BadStore}
+use Rattle.vab_device.specs.declared.fault.StartFault.TheVariants.{BadMark}
 use Rattle.vab_device.specs.declared.device.Device.{Device}
 use Rattle.vab_device.specs.declared.device.Part.{Part}
 use Rattle.vab_device.specs.declared.device.PartImage.{PartImage}
 use Rattle.vab_device.specs.declared.device.PartImage.TheVariants.{Kept, Declared, Written}
-use Rattle.vab_device.specs.Checks.{first_fault, names_none, unless, ◌>>=◌}
+use Rattle.vab_device.specs.Checks.{Check, first_fault, names_none}
 use Rattle.vab_device.specs.Kept.{group_of, sectors_of}
 use Rattle.vab_device.specs.Mounted.{Mounted, state_on, mounted_on, entry_on, entries_on}
 use Rattle.vab_device.specs.Mounted.{phase_by, count_at, planned_on as image_planned}
-use Rattle.vab_device.specs.Stores.{Wanted, Scanned, first_named, wanted_by, wanted_of, is_long}
-use Rattle.vab_device.specs.Stores.{scan_read, scan_at, scans_in, scanned_named}
-use Rattle.vab_device.specs.Phases.{phase_at, twin_check, own_check, target_check, update_checks}
+use Rattle.vab_device.specs.Stores.{Scanned, first_named, wanted_of, scans_in, scanned_named}
+use Rattle.vab_device.specs.Phases.{phase_in, twin_check, own_check, target_check, update_checks}
+use Rattle.vab_device.specs.Phases.{no_store_check}
 use Rattle.vab_device.specs.Phases.{planned_image, planned_on, plan_of}
 use Rattle.vab_device.specs.Reading.{Read, kept, version_at, most_at, statuses_read, statuses_at}
-use Rattle.vab_device.specs.Updates.{effect_on, flash_effect, entry_effect, entry_named}
-use Rattle.vab_device.specs.Updates.{stored_effect}
-use Rattle.vab_device.proofs.CheckLaws.{bound, first_kept}
+use Rattle.vab_device.specs.Updates.{effect_on, flash_effect, entry_effect, placed_effect}
+use Rattle.vab_device.specs.Updates.{unwritten_effect, staged_effect, in_store, in_place}
+use Rattle.vab_device.proofs.CheckLaws.{first_kept}
 use Rattle.vab_device.proofs.NamedParts.{named_in}
 use Rattle.vab_device.proofs.ReadingLaws.{device_was}
-use Rattle.vab_marks.specs.Mark.{mark_at}
+use Rattle.vab_marks.specs.declared.mark.UpdateMark.{UpdateMark}
 use Rattle.vab_targets.specs.Statuses.{FlashFindsFree}
-use Rattle.vab_targets.proofs.FewNames.{IsNamed, named_in_list, few_names}
-use Rattle.vab_targets.proofs.FewNames.{NoneFree, free_or_none, first_free}
+use Rattle.vab_flash.proofs.FewLaws.{IsNamed, named_in_list, few_names}
+use Rattle.vab_targets.proofs.FirstFree.{NoneFree, free_or_none, first_free}
 use Rattle.vab_targets.proofs.Filled.{few_under, differ_under, filled}
+use Rattle.vab_targets.proofs.Scans.{scanned_first, read_name, wanted_found}
 
 -- ---- what a flash that is done says of its partition
 
@@ -71,40 +73,63 @@ IsUnwritten Kept = Unit {0}
 IsUnwritten Declared = Unit {0}
 IsUnwritten (Written k es) = ⊥
 
--- it has a store, and was not written
-record IsOpen (store : Option ℕ) (i : PartImage) : Type 0 where
-  blocks : ℕ
-  stored : store ≡ Some blocks
+-- it was not written, and has a store, or the target stands apart
+record IsOpen (apart : Bool) (store : Option ℕ) (i : PartImage) : Type 0 where
+  placed : (apart ≡ true) ⊎ ((blocks : ℕ) × (store ≡ Some blocks))
   unwritten : IsUnwritten i
 
-done_open : (m : Mounted) (source : ℕ) (plan : List PlanEntry) (chunk : Chunk)
-    (staged : Option (List ℕ)) (image : Image) (p : Part) (store : Option ℕ) (i : PartImage)
-    → (stored_effect m source plan
-    (record {
-      name = p.name;
-      group = group_of p.group;
-      blocks = length p.map;
-      store = store;
-      image = image_planned image p i;
-    })
-    chunk staged store).reply
-    ≡ replies.Done
-    → IsOpen store i
-done_open m source plan chunk staged image p None i done =
-    absurd (let no : replies.Refused refusals.NoStore ≡ replies.Done = done in cc)
-done_open m source plan chunk staged image p (Some n) Kept done =
-    record { blocks = n; stored = refl; unwritten = tt }
-done_open m source plan chunk staged image p (Some n) Declared done =
-    record { blocks = n; stored = refl; unwritten = tt }
-done_open m source plan chunk staged image p (Some n) (Written k es) done =
+unwritten_done : (image : Image) (p : Part) (i : PartImage) (next : Effect Mounted)
+    → (unwritten_effect (image_planned image p i) next).reply ≡ replies.Done
+    → IsUnwritten i
+unwritten_done image p Kept next done = tt
+unwritten_done image p Declared next done = tt
+unwritten_done image p (Written k es) next done =
     absurd (let no : replies.Refused refusals.Written ≡ replies.Done = done in cc)
 
--- the partition of a plan, its store, and that nothing was written to it
-record IsFlashed (l : Layout) (scanned : List Scanned) (ps : List PartOfLayout) : Type 0 where
+if_apart : (b : Bool) (x : Effect Mounted)
+    → (if b then x else refuses refusals.NoStore).reply ≡ replies.Done
+    → (b ≡ true) × (x.reply ≡ replies.Done)
+if_apart true x done = (refl, done)
+if_apart false x done =
+    absurd (let no : replies.Refused refusals.NoStore ≡ replies.Done = done in cc)
+
+-- the entry of a partition with this store and this image
+abbrev entry_with : Image → Part → Option ℕ → PartImage → PlanEntry
+entry_with image p store i = record {
+  name = p.name;
+  group = group_of p.group;
+  blocks = length p.map;
+  store = store;
+  image = image_planned image p i;
+}
+
+done_open : (m : Mounted) (source : ℕ) (plan : Plan) (chunk : Chunk)
+    (staged : Option (List ℕ)) (image : Image) (p : Part) (store : Option ℕ) (i : PartImage)
+    → (placed_effect m source plan (entry_with image p store i) chunk staged store).reply
+    ≡ replies.Done
+    → IsOpen plan.apart store i
+done_open m source plan chunk staged image p None i done =
+    let e : PlanEntry = entry_with image p None i in
+    let place : Effect Mounted = staged_effect e (in_place m source plan e) staged in
+    let is = if_apart plan.apart (unwritten_effect e.image place) done in
+    record { placed = inl is.0; unwritten = unwritten_done image p i place is.1 }
+done_open m source plan chunk staged image p (Some n) i done =
+    let e : PlanEntry = entry_with image p (Some n) i in
+    let place : Effect Mounted = staged_effect e (in_store m source plan e n chunk) staged in
+    record { placed = inr (n, refl); unwritten = unwritten_done image p i place done }
+
+-- the partition of this layout has a store, or the target stands apart
+abbrev IsPlaced : (apart : Bool) → Layout → PartOfLayout → Type 0
+IsPlaced apart l p =
+    (apart ≡ true)
+    ⊎ ((store : PartOfLayout) × (first_named (store_of p.name) l.parts ≡ Some store))
+
+-- the partition of a plan, where its image goes, and that nothing was written to it
+record IsFlashed (apart : Bool) (l : Layout) (scanned : List Scanned) (ps : List PartOfLayout)
+    : Type 0 where
   part : PartOfLayout
   has : Contains ps part
-  store : PartOfLayout
-  stored : first_named (store_of part.name) l.parts ≡ Some store
+  placed : IsPlaced apart l part
   unwritten : IsUnwritten (planned_image (is_updated part) (scanned_named part.name scanned))
 
 store_there : (f : PartOfLayout → List ℕ) (x : Option PartOfLayout) (n : ℕ)
@@ -113,13 +138,27 @@ store_there : (f : PartOfLayout → List ℕ) (x : Option PartOfLayout) (n : ℕ
 store_there f None n h = absurd (let no : None ≡ Some n = h in cc)
 store_there f (Some q) n h = (q, refl)
 
-done_flashed : (m : Mounted) (source : ℕ) (plan : List PlanEntry) (chunk : Chunk)
+-- where a partition of this layout stands
+abbrev place_in : Layout → PartOfLayout → List ℕ
+place_in l q = sectors_of l.device.first_logical_sector q.blocks
+
+placed_there : (apart : Bool) (l : Layout) (p : PartOfLayout)
+    → (apart ≡ true)
+    ⊎ ((n : ℕ)
+    × (option_map length (option_map (place_in l) (first_named (store_of p.name) l.parts))
+    ≡ Some n))
+    → IsPlaced apart l p
+placed_there apart l p (inl is) = inl is
+placed_there apart l p (inr is) =
+    inr (store_there (place_in l) (first_named (store_of p.name) l.parts) is.0 is.1)
+
+done_flashed : (m : Mounted) (source : ℕ) (plan : Plan) (chunk : Chunk)
     (staged : Option (List ℕ)) (image : Image) (l : Layout) (scanned : List Scanned)
     (base : List ℕ) (ps : List PartOfLayout)
     → (entry_effect m source plan chunk staged
     (entry_named base (map (entry_on image) (map (planned_on l scanned) ps)))).reply
     ≡ replies.Done
-    → IsFlashed l scanned ps
+    → IsFlashed plan.apart l scanned ps
 done_flashed m source plan chunk staged image l scanned base [] done =
     absurd (let no : replies.Refused refusals.Unknown ≡ replies.Done = done in cc)
 done_flashed m source plan chunk staged image l scanned base (p ∷ ps) done =
@@ -128,15 +167,10 @@ done_flashed m source plan chunk staged image l scanned base (p ∷ ps) done =
           let x : Part = planned_on l scanned p in
           let open_now = done_open m source plan chunk staged image x (option_map length x.store)
           x.image (rw here at done) in
-          let place : PartOfLayout → List ℕ =
-          λ q. sectors_of l.device.first_logical_sector q.blocks in
-          let q = store_there place (first_named (store_of p.name) l.parts) open_now.blocks
-          open_now.stored in
           record {
             part = p;
             has = first p ps;
-            store = q.0;
-            stored = q.1;
+            placed = placed_there plan.apart l p open_now.placed;
             unwritten = open_now.unwritten;
           }
       | inr other ↦
@@ -145,27 +179,33 @@ done_flashed m source plan chunk staged image l scanned base (p ∷ ps) done =
           record {
             part = rest.part;
             has = later p ps rest.part rest.has;
-            store = rest.store;
-            stored = rest.stored;
+            placed = rest.placed;
             unwritten = rest.unwritten;
           }
     ]
 
 -- ---- it is updated, so no status names it
 
-updated : (slot : ℕ) (source target : List PartOfLayout) (p q : PartOfLayout)
-    → IsTargetPart slot source target p
-    → first_named (store_of p.name) target ≡ Some q
+updated : (apart : Bool) (slot : ℕ) (source : List PartOfLayout) (l : Layout)
+    (p : PartOfLayout)
+    → IsTargetPartBeside slot (twins_by apart source) source l.parts p
+    → IsPlaced apart l p
     → is_updated p ≡ true
-updated slot source target p q is stored =
-    let named = named_in (store_of p.name) target q stored in
-    elim is.kept [
-      | inl marked ↦ marked
-      | inr same ↦
-          absurd
-          (All-contains (λ (s : PartOfLayout). s.name ≢ store_of p.name) target q same.2 named.0
-          named.1)
-    ]
+updated apart slot source l p is placed = elim is.kept [
+  | inl marked ↦ marked
+  | inr same ↦ absurd (elim placed [
+    | inl is_apart ↦
+        let there = subst
+        (λ (b : Bool). Any (λ (s : PartOfLayout). s.name ≡ in_slot (other_slot slot) p.name)
+        (twins_by b source))
+        is_apart same.0 in
+        omega (arith, there.2)
+    | inr store ↦
+        let named = named_in (store_of p.name) l.parts store.0 store.1 in
+        All-contains (λ (s : PartOfLayout). s.name ≢ store_of p.name) l.parts store.0 same.2
+        named.0 named.1
+  ])
+]
 
 not_read : (b : Bool) (x : Option Scanned)
     → b ≡ true
@@ -182,107 +222,24 @@ record IsOther (ps : List PartOfLayout) (name : List ℕ) (s : PartStatus) : Typ
   named : IsNamed ps s.name
   other : name ≢ s.name
 
--- the first of the stores that were read, and the others
-record IsScanned (r : Result Wanted StartFault) (ws : List (Result Wanted StartFault))
-    (image : Image) (scanned : List Scanned) : Type 0 where
-  wanted : Wanted
-  is : r ≡ Ok wanted
-  scan : Scanned
-  read : scan_at wanted image ≡ Ok scan
-  rest : List Scanned
-  behind : scans_in ws image ≡ Ok rest
-  whole : scan ∷ rest ≡ scanned
-
-scanned_first : (r : Result Wanted StartFault) (ws : List (Result Wanted StartFault))
-    (image : Image) (scanned : List Scanned)
-    → scans_in (r ∷ ws) image ≡ Ok scanned
-    → IsScanned r ws image scanned
-scanned_first (Ok w) ws image scanned read =
-    let one = bound (scan_at w image) (λ s. scans_in ws image >>= λ rest. Ok (s ∷ rest)) scanned
-    read in
-    let others = bound (scans_in ws image) (λ rest. Ok (one.0 ∷ rest)) scanned one.2 in
-    let all : Ok (one.0 ∷ others.0) ≡ Ok scanned = others.2 in
-    record {
-      wanted = w;
-      is = refl;
-      scan = one.0;
-      read = one.1;
-      rest = others.0;
-      behind = others.1;
-      whole = cc;
-    }
-scanned_first (Err fault) ws image scanned read =
-    absurd (let no : (let r : Result (List Scanned) StartFault = Err fault in r ≡ Ok scanned) = read
-    in cc)
-
-unless_ok : (b : Bool) (fault : StartFault) (x y : Scanned)
-    → unless b fault (Ok x) ≡ Ok y
-    → x ≡ y
-unless_ok true fault x y h = let same : Ok x ≡ Ok y = h in cc
-unless_ok false fault x y h =
-    absurd (let no : (let r : Result Scanned StartFault = Err fault in r ≡ Ok y) = h in cc)
-
-scan_name : (w : Wanted) (x : Result (List Exception) StoreFault) (s : Scanned)
-    → scan_read w x ≡ Ok s
-    → w.name ≡ s.name
-scan_name w (Ok es) s h =
-    ap (λ (y : Scanned). y.name)
-    (unless_ok (is_long w.fewer w.count (length es)) (BadStore w.name)
-    (record { name = w.name; chunk = w.chunk; exceptions = es }) s h)
-scan_name w (Err fault) s h =
-    absurd
-    (let no : (let r : Result Scanned StartFault = Err (BadStore w.name) in r ≡ Ok s) = h in cc)
-
-read_name : (w : Wanted) (image : Image) (s : Scanned) → scan_at w image ≡ Ok s → w.name ≡ s.name
-unfolding scan_at
-read_name w image s h = scan_name w (scan_of w.chunk w.store (length w.base) image) s h
-
--- the partition that a status names, and its store
-record IsWanted (s : PartStatus) (x : Option PartOfLayout) (w : Wanted) : Type 0 where
-  part : PartOfLayout
-  found : x ≡ Some part
-  name : s.name ≡ w.name
-
-no_store : (s : PartStatus) (w : Wanted)
-    → (let r : Result Wanted StartFault = Err (BadStore s.name) in r ≡ Ok w)
-    → ⊥
-no_store s w h = cc
-
-wanted_found : (at : ℕ) (s : PartStatus) (x y : Option PartOfLayout) (w : Wanted)
-    → wanted_by at s x y ≡ Ok w
-    → IsWanted s x w
-wanted_found at s None y w h = absurd (no_store s w h)
-wanted_found at s (Some p) None w h = absurd (no_store s w h)
-wanted_found at s (Some p) (Some q) w h =
-    let found : Wanted = record {
-      name = s.name;
-      base = sectors_of at p.blocks;
-      store = sectors_of at q.blocks;
-      chunk = s.chunk;
-      count = s.count;
-      fewer = false;
-    } in
-    let whole : Ok found ≡ Ok w = h in
-    let same : found ≡ w = cc in
-    record { part = p; found = refl; name = ap (λ (v : Wanted). v.name) same }
-
 test_none : (b : Bool) (x : Scanned) (o : Option Scanned)
     → (if b then Some x else o) ≡ None
     → (b ≡ false) × (o ≡ None)
 test_none true x o h = absurd (let no : Some x ≡ None = h in cc)
 test_none false x o h = (refl, h)
 
-each_other : (slot : ℕ) (l : Layout) (name : List ℕ) (ss : List PartStatus) (image : Image)
-    (scanned : List Scanned)
-    → scans_in (map (wanted_of slot l) ss) image ≡ Ok scanned
+each_other : (in_place : Bool) (slot : ℕ) (l : Layout) (name : List ℕ) (ss : List PartStatus)
+    (image : Image) (scanned : List Scanned)
+    → scans_in (map (wanted_of in_place slot l) ss) image ≡ Ok scanned
     → scanned_named name scanned ≡ None
     → All (IsOther (own_parts slot l.parts) name) ss
-each_other slot l name [] image scanned read none = λ k d lt. absurd (omega (arith, lt))
-each_other slot l name (s ∷ ss) image scanned read none =
+each_other b slot l name [] image scanned read none = λ k d lt. absurd (omega (arith, lt))
+each_other b slot l name (s ∷ ss) image scanned read none =
     let own : List PartOfLayout = own_parts slot l.parts in
-    let one = scanned_first (wanted_of slot l s) (map (wanted_of slot l) ss) image scanned read in
-    let wanted = wanted_found l.device.first_logical_sector s (first_named s.name own)
-    (first_named (store_of s.name) l.parts) one.wanted one.is in
+    let one = scanned_first (wanted_of b slot l s) (map (wanted_of b slot l) ss) image scanned read
+    in
+    let wanted = wanted_found b l.device.first_logical_sector s.name s.image
+    (first_named s.name own) (first_named (store_of s.name) l.parts) one.wanted one.is in
     let is : s.name ≡ one.scan.name = wanted.name ∙ read_name one.wanted image one.scan one.read in
     let not_here = test_none (bytes_eq one.scan.name name) one.scan (scanned_named name one.rest)
     (subst (λ (ys : List Scanned). scanned_named name ys ≡ None) (sym one.whole) none) in
@@ -294,27 +251,29 @@ each_other slot l name (s ∷ ss) image scanned read none =
           both_ways (bytes_eq one.scan.name name) not_here.0
           (eq_name one.scan.name name (sym is ∙ sym same));
     })
-    (each_other slot l name ss image one.rest one.behind not_here.1)
+    (each_other b slot l name ss image one.rest one.behind not_here.1)
 
 -- ---- one of the sectors is free
 
 -- statuses in all sectors would be of more partitions than a target has
-too_many : (v : MarkVersion) (slot : ℕ) (source : List PartOfLayout) (l : Layout)
-    (statuses : List (Option PartStatus)) (scanned : List Scanned) (image : Image)
-    → FitsTarget (partitions_under v) slot source l.parts
+too_many : (v : MarkVersion) (apart : Bool) (slot : ℕ) (source : List PartOfLayout)
+    (l : Layout) (statuses : List (Option PartStatus)) (scanned : List Scanned) (image : Image)
+    → FitsBeside (partitions_under v) slot (twins_by apart source) source l.parts
     → statuses_under v image ≡ Ok statuses
-    → scans_in (map (wanted_of slot l) (written_in statuses)) image ≡ Ok scanned
-    → IsFlashed l scanned (own_parts slot l.parts)
+    → scans_in (map (wanted_of apart slot l) (written_in statuses)) image ≡ Ok scanned
+    → IsFlashed apart l scanned (own_parts slot l.parts)
     → NoneFree image (partitions_under v)
     → ⊥
-too_many v slot source l statuses scanned image target read scans f none =
+too_many v apart slot source l statuses scanned image target read scans f none =
     let own : List PartOfLayout = own_parts slot l.parts in
     let p : PartOfLayout = f.part in
     let ss : List PartStatus = written_in statuses in
-    let marked = updated slot source l.parts p f.store
-    (All-contains (IsTargetPart slot source l.parts) own p target.is.each f.has) f.stored in
+    let marked = updated apart slot source l p
+    (All-contains (IsTargetPartBeside slot (twins_by apart source) source l.parts) own p
+    target.is.each f.has)
+    f.placed in
     let unread = not_read (is_updated p) (scanned_named p.name scanned) marked f.unwritten in
-    let others = each_other slot l p.name ss image scanned scans unread in
+    let others = each_other apart slot l p.name ss image scanned scans unread in
     let names : List (List ℕ) = map (λ (s : PartStatus). s.name) ss in
     let named : All (IsNamed own) (p.name ∷ names) =
     All-cons (IsNamed own) p.name names (named_in_list own p f.has)
@@ -337,18 +296,21 @@ none_named : (x : Option (List ℕ)) → names_none x ≡ None → x ≡ None
 none_named None h = refl
 none_named (Some name) h = absurd cc
 
-target_of : (most slot : ℕ) (s t : Table)
+target_of : (apart : Bool) (most slot : ℕ) (s t : Table)
     → most ≤ 64
-    → first_fault (update_checks most slot s t) ≡ None
-    → FitsTarget most (other_slot slot) (layout_of s).parts (layout_of t).parts
-target_of most slot s t small none =
+    → first_fault (update_checks apart most slot s t) ≡ None
+    → FitsBeside most (other_slot slot) (twins_by apart (layout_of s).parts) (layout_of s).parts
+    (layout_of t).parts
+target_of apart most slot s t small none =
     let k : ℕ = other_slot slot in
-    let twin = first_kept (twin_check k s t)
-    (own_check most slot s ∷ target_check most k s t ∷ []) none in
-    let own = first_kept (own_check most slot s) (target_check most k s t ∷ []) twin.1 in
-    let target = first_kept (target_check most k s t) [] own.1 in
-    no_bad_target most k (layout_of s).parts (layout_of t).parts small
-    (none_named (bad_target_of most k (layout_of s).parts (layout_of t).parts) target.0)
+    let twins : List PartOfLayout = twins_by apart (layout_of s).parts in
+    let stores : List Check = no_store_check apart t ∷ [] in
+    let beside : Check = target_check apart most k s t in
+    let twin = first_kept (twin_check k s t) (own_check most slot s ∷ beside ∷ stores) none in
+    let own = first_kept (own_check most slot s) (beside ∷ stores) twin.1 in
+    let target = first_kept beside stores own.1 in
+    no_bad_target most k twins (layout_of s).parts (layout_of t).parts small
+    (none_named (bad_beside most k twins (layout_of s).parts (layout_of t).parts) target.0)
 
 statuses_were : (image : Image) (l : List (Option PartStatus))
     → statuses_at true image ≡ Ok l
@@ -375,56 +337,66 @@ if_full false x done =
 refused : replies.Refused refusals.NotInstalling ≡ replies.Done → ⊥
 refused done = cc
 
-module _ (slot : ℕ) (statuses : List (Option PartStatus)) (scanned : List Scanned) (image : Image)
-    (m : Mounted) (staged : Option (List ℕ)) (name : List ℕ) (chunk : Chunk) where
-  -- while an update is installed, with the tables of source and target
-  installing_finds : (s t : Table)
-      → first_fault (update_checks (most_at image) slot s t) ≡ None
-      → statuses_at true image ≡ Ok statuses
-      → scans_in (map (wanted_of (other_slot slot) (layout_of t)) (written_in statuses)) image
-      ≡ Ok scanned
-      → (flash_effect m staged name chunk
-      (Installing slot
-      (map (entry_on image) (plan_of (other_slot slot) (layout_of t) scanned)))).reply
-      ≡ replies.Done
-      → (at : ℕ) × IsFirstFree image (Some at)
-  installing_finds s t none read scans done =
-      let v : MarkVersion = version_at image in
-      let k : ℕ = other_slot slot in
-      let l : Layout = layout_of t in
-      let own : List PartOfLayout = own_parts k l.parts in
-      let plan : List PlanEntry = map (entry_on image) (plan_of k l scanned) in
-      let entry = entry_effect m slot plan chunk staged (entry_named (base_of name) plan) in
-      let f = done_flashed m slot plan chunk staged image l scanned (base_of name) own
-      (if_full (is_full k name) entry done) in
-      elim (free_or_none image (partitions_under v)) [
-        | inl free ↦
-            (2049 + free.place, first_free image (partitions_under v) free (few_under v))
-        | inr no_free ↦
-            absurd
-            (too_many v k (layout_of s).parts l statuses scanned image
-            (target_of (partitions_under v) slot s t (few_under v) none)
-            (statuses_were image statuses read) scans f no_free)
-      ]
+module _ (mark : UpdateMark) (statuses : List (Option PartStatus)) (scanned : List Scanned)
+    (image : Image) (m : Mounted) (staged : Option (List ℕ)) (name : List ℕ) (chunk : Chunk)
+  where
+    -- the plan of a target's layout
+    abbrev plan_in : Layout → Plan
+    plan_in l = record {
+      apart = mark.apart;
+      entries = map (entry_on image) (plan_of (other_slot mark.slot) l scanned);
+    }
 
-  -- in each other phase a flash is refused
-  by_phase : (phase : MarkPhase) (ts : List Table) (left : ℕ)
-      → first_fault ((phase_at phase).part_checks (most_at image) slot ts) ≡ None
-      → statuses_at (phase_at phase).reads_statuses image ≡ Ok statuses
-      → scans_in ((phase_at phase).stores slot ts (written_in statuses)) image ≡ Ok scanned
-      → (flash_effect m staged name chunk
-      (phase_by (mark_at phase slot) left
-      (entries_on image ((phase_at phase).plan slot ts scanned)))).reply
-      ≡ replies.Done
-      → (at : ℕ) × IsFirstFree image (Some at)
-  by_phase marks.Idle ts left none read scans done = absurd (refused done)
-  by_phase marks.Installing [] left none read scans done = absurd (refused done)
-  by_phase marks.Installing (s ∷ []) left none read scans done = absurd (refused done)
-  by_phase marks.Installing (s ∷ t ∷ ts) left none read scans done =
-      installing_finds s t none read scans done
-  by_phase marks.Staged ts left none read scans done = absurd (refused done)
-  by_phase marks.Merging ts left none read scans done = absurd (refused done)
-  by_phase marks.Completed ts left none read scans done = absurd (refused done)
+    -- while an update is installed, with the tables of source and target
+    installing_finds : (s t : Table)
+        → first_fault (update_checks mark.apart (most_at image) mark.slot s t) ≡ None
+        → statuses_at true image ≡ Ok statuses
+        → scans_in
+        (map (wanted_of mark.apart (other_slot mark.slot) (layout_of t)) (written_in statuses))
+        image
+        ≡ Ok scanned
+        → (flash_effect m staged name chunk (Installing mark.slot (plan_in (layout_of t)))).reply
+        ≡ replies.Done
+        → (at : ℕ) × IsFirstFree image (Some at)
+    installing_finds s t none read scans done =
+        let v : MarkVersion = version_at image in
+        let slot : ℕ = mark.slot in
+        let k : ℕ = other_slot slot in
+        let l : Layout = layout_of t in
+        let own : List PartOfLayout = own_parts k l.parts in
+        let plan : Plan = plan_in l in
+        let entry = entry_effect m slot plan chunk staged
+        (entry_named (base_of name) plan.entries) in
+        let f = done_flashed m slot plan chunk staged image l scanned (base_of name) own
+        (if_full (is_full k name) entry done) in
+        elim (free_or_none image (partitions_under v)) [
+          | inl free ↦
+              (2049 + free.place, first_free image (partitions_under v) free (few_under v))
+          | inr no_free ↦
+              absurd
+              (too_many v mark.apart k (layout_of s).parts l statuses scanned image
+              (target_of mark.apart (partitions_under v) slot s t (few_under v) none)
+              (statuses_were image statuses read) scans f no_free)
+        ]
+
+    -- in each other phase a flash is refused
+    by_phase : (phase : MarkPhase) (ts : List Table) (left : ℕ)
+        → first_fault ((phase_in phase mark).part_checks (most_at image) ts) ≡ None
+        → statuses_at (phase_in phase mark).reads_statuses image ≡ Ok statuses
+        → scans_in ((phase_in phase mark).stores ts (written_in statuses)) image ≡ Ok scanned
+        → (flash_effect m staged name chunk
+        (phase_by (record mark { phase = phase }) left
+        (entries_on image ((phase_in phase mark).plan ts scanned)))).reply
+        ≡ replies.Done
+        → (at : ℕ) × IsFirstFree image (Some at)
+    by_phase marks.Idle ts left none read scans done = absurd (refused done)
+    by_phase marks.Installing [] left none read scans done = absurd (refused done)
+    by_phase marks.Installing (s ∷ []) left none read scans done = absurd (refused done)
+    by_phase marks.Installing (s ∷ t ∷ ts) left none read scans done =
+        installing_finds s t none read scans done
+    by_phase marks.Staged ts left none read scans done = absurd (refused done)
+    by_phase marks.Merging ts left none read scans done = absurd (refused done)
+    by_phase marks.Completed ts left none read scans done = absurd (refused done)
 
 pub flash_finds_free : FlashFindsFree
 unfolding state_on
@@ -435,6 +407,6 @@ flash_finds_free size image m staged name chunk is done =
     let there : (effect_on (mounted_on d image) staged (Flash name chunk)).reply ≡ replies.Done =
     subst (λ (x : Mounted). (effect_on x staged (Flash name chunk)).reply ≡ replies.Done) was.is
     done in
-    by_phase r.mark.slot r.statuses r.scanned image (mounted_on d image) staged name chunk
+    by_phase r.mark r.statuses r.scanned image (mounted_on d image) staged name chunk
     r.mark.phase r.tables (count_at d.a + count_at d.b) was.reads.parts was.reads.statuses
     was.reads.stores there

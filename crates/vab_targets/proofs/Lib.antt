@@ -1,9 +1,13 @@
-mod FewNames
+mod ApartLaws
+mod FirstFree
 mod Filled
+mod Scans
 mod FreeStatus
 pub mod Sectors
 pub mod Installed
 mod Entries
+pub mod Named
 mod Edits
-mod Updates
-mod Begun
+pub mod Updates
+pub mod Begun
+mod WrittenLaws

@@ -1,2 +1,4 @@
 pub mod Plans
 pub mod Statuses
+pub mod Apart
+pub mod Written

@@ -1,10 +1,10 @@
 -- What the tables of a test's update keep.
-use Rattle.std.specs.Prelude.{◌≡◌, ℕ, ◌<◌, ◌^◌}
+use Rattle.std.specs.Prelude.{◌≡◌, ℕ, Bool, ◌<◌, ◌^◌}
 use Rattle.vab_tables.specs.declared.table.Table.{Table}
 use Rattle.vab_tables.specs.Rules.{KeepsRules}
 use Rattle.vab_tables.specs.Spelling.{table_size_of}
 use Rattle.vab_layout.specs.Layout.{layout_of}
-use Rattle.vab_layout.specs.Slots.{other_slot, IsOwn, IsTarget}
+use Rattle.vab_layout.specs.Slots.{other_slot, twins_by, IsOwn, IsTargetBeside}
 
 -- a slot and the other one
 pub record AreSlots (from to : ℕ) : Type 0 where
@@ -19,9 +19,10 @@ pub record IsSource (slot : ℕ) (t : Table) : Type 0 where
   pub small : table_size_of t < 2 ^ 24
   pub own : IsOwn slot (layout_of t).parts
 
--- a small table of a slot's update beside its source
-pub record IsUpdated (slot : ℕ) (source target : Table) : Type 0 where
+-- a small table of a slot's update beside its source, or apart from it
+pub record IsUpdated (slot : ℕ) (apart : Bool) (source target : Table) : Type 0 where
   pub keeps : KeepsRules target
   pub small : table_size_of target < 2 ^ 24
-  pub parts : IsTarget slot (layout_of source).parts (layout_of target).parts
+  pub parts : IsTargetBeside slot (twins_by apart (layout_of source).parts)
+      (layout_of source).parts (layout_of target).parts
   pub device : source.devices ≡ target.devices

@@ -9,6 +9,8 @@ mod demos;
 #[cfg(test)]
 mod downloads;
 #[cfg(test)]
+mod factory;
+#[cfg(test)]
 mod faults;
 #[cfg(test)]
 mod held;
@@ -40,6 +42,8 @@ mod staged;
 mod tables;
 #[cfg(test)]
 mod texts;
+#[cfg(test)]
+mod turns;
 #[cfg(test)]
 mod updates;
 #[cfg(test)]

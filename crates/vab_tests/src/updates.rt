@@ -19,13 +19,14 @@ use vab_tables::{Table, decode_table, encode_table};
 
 /// An update: the text of a table of slot a, the slots of its source and of its target, and the
 /// most bytes of a copy of a table. Where the source is slot b, it is what an update of b without
-/// edits makes of the text.
+/// edits makes of the text. The target stands beside its source or `apart` from it.
 #[derive(Clone, Copy)]
 pub(crate) struct Update<'a> {
     pub text: &'a [u8],
     pub from: usize,
     pub to: usize,
     pub max: u32,
+    pub apart: bool,
 }
 
 const TO_B: Update<'static> = Update {
@@ -33,6 +34,15 @@ const TO_B: Update<'static> = Update {
     from: 0,
     to: 1,
     max: 1024,
+    apart: false,
+};
+
+const APART: Update<'static> = Update {
+    text: &UNLIMITED,
+    from: 0,
+    to: 1,
+    max: 1024,
+    apart: true,
 };
 
 const TO_A: Update<'static> = Update {
@@ -40,6 +50,7 @@ const TO_A: Update<'static> = Update {
     from: 1,
     to: 0,
     max: 1024,
+    apart: false,
 };
 
 // Whether a table has so few entries that its text is short.
@@ -63,13 +74,13 @@ fn spelled(alloc: Global, text: &[u8], max: u32) -> Result<Table, Fail>
     }
 }
 
-// The table that an update from a slot to the other one begins with.
-fn begun(alloc: Global, source: &Table, from: usize, to: usize, max: u32) -> Result<Table, Fail>
-    requires slots { AreSlots from to }
-    requires source { IsSource from source.now }
-    ensures { IfOk result (λ t. IsUpdated to source.now t) }
+// The table that an update begins with.
+fn begun(alloc: Global, update: &Update<'_>, source: &Table) -> Result<Table, Fail>
+    requires slots { AreSlots update.now.from update.now.to }
+    requires source { IsSource update.now.from source.now }
+    ensures { IfOk result (λ t. IsUpdated update.now.to update.now.apart source.now t) }
 {
-    let begun = import(alloc, source, from, max)?;
+    let begun = import(alloc, source, update.from, update.max, update.apart)?;
     if !is_small(&begun) {
         return Err("a small table".into());
     }
@@ -96,7 +107,8 @@ fn of_slot_b(alloc: Global, text: &[u8], max: u32) -> Result<Table, Fail>
     ensures { IfOk result (λ t. IsSource 1 t) }
 {
     let source = spelled(alloc, text, max)?;
-    let target = begun(alloc, &source, 0, 1, max)?;
+    let update = Update { text, max, ..TO_B };
+    let target = begun(alloc, &update, &source)?;
     alone(alloc, &target, 1)
 }
 
@@ -128,10 +140,18 @@ fn edited(
 ) -> Result<Table, Fail>
     requires slots { AreSlots update.now.from update.now.to }
     requires source { IsSource update.now.from source.now }
-    requires target { IsUpdated update.now.to source.now target.now }
-    ensures { IfOk result (λ t. IsUpdated update.now.to source.now t) }
+    requires target { IsUpdated update.now.to update.now.apart source.now target.now }
+    ensures { IfOk result (λ t. IsUpdated update.now.to update.now.apart source.now t) }
 {
-    let edited = apply(alloc, source, target, update.to, edit, update.max)?;
+    let edited = apply(
+        alloc,
+        source,
+        target,
+        update.to,
+        edit,
+        update.max,
+        update.apart,
+    )?;
     if !is_small(&edited) {
         return Err("a small table".into());
     }
@@ -148,8 +168,8 @@ fn edited_twice(
 ) -> Result<Table, Fail>
     requires slots { AreSlots update.now.from update.now.to }
     requires source { IsSource update.now.from source.now }
-    requires target { IsUpdated update.now.to source.now target.now }
-    ensures { IfOk result (λ t. IsUpdated update.now.to source.now t) }
+    requires target { IsUpdated update.now.to update.now.apart source.now target.now }
+    ensures { IfOk result (λ t. IsUpdated update.now.to update.now.apart source.now t) }
 {
     let once = edited(alloc, update, source, target, edits[0])?;
     edited(alloc, update, source, &once, edits[1])
@@ -164,9 +184,9 @@ fn after(
 ) -> Result<Table, Fail>
     requires slots { AreSlots update.now.from update.now.to }
     requires source { IsSource update.now.from source.now }
-    ensures { IfOk result (λ t. IsUpdated update.now.to source.now t) }
+    ensures { IfOk result (λ t. IsUpdated update.now.to update.now.apart source.now t) }
 {
-    let begun = begun(alloc, source, update.from, update.to, update.max)?;
+    let begun = begun(alloc, update, source)?;
     let two = edited_twice(alloc, update, source, &begun, [&edits[0], &edits[1]])?;
     let four = edited_twice(alloc, update, source, &two, [&edits[2], &edits[3]])?;
     edited_twice(alloc, update, source, &four, [&edits[4], &edits[5]])
@@ -237,7 +257,16 @@ pub(crate) fn refusal_after(
 {
     let source = source(alloc, update)?;
     let target = after(alloc, update, &source, edits)?;
-    Ok(apply(alloc, &source, &target, update.to, edit, update.max).err())
+    Ok(apply(
+        alloc,
+        &source,
+        &target,
+        update.to,
+        edit,
+        update.max,
+        update.apart,
+    )
+    .err())
 }
 
 const SYSTEM: &[u8] = b"system_b";
@@ -294,6 +323,37 @@ fn a_partition_made_smaller_and_larger_has_the_sources_blocks(rt: HostRuntime) -
             blocks(alloc, &target, SYSTEM)?.as_slice(),
             expected.as_slice()
         );
+    }
+    Ok(())
+}
+
+// The numbers of 40 blocks from 100 on and, behind the block 140, as many as make 100 together.
+fn behind_the_source(alloc: Global) -> Result<Vec<u64>, Fail> {
+    let mut all: Vec<u64> = (100..140).collect(alloc)?;
+    let rest: Vec<u64> = (141..201).collect(alloc)?;
+    all.extend(rest)?;
+    Ok(all)
+}
+
+#[test]
+fn a_partition_apart_takes_the_lowest_blocks_that_are_free(rt: HostRuntime) -> Result<(), Fail> {
+    let alloc = rt.alloc();
+    // The source's partition has the first 100 blocks of 256.
+    let made = Edit::Create(SYSTEM, 409600);
+    let small = Edit::Resize(SYSTEM, 163840);
+    let (target, _) = tables_after(alloc, &APART, &[made, SAME, SAME, small, P1, SAME])?;
+    assert_eq!(rt;
+        blocks(alloc, &target, SYSTEM)?.as_slice(),
+        behind_the_source(alloc)?.as_slice()
+    );
+    assert_eq!(rt;
+        blocks(alloc, &target, b"p1_b")?.as_slice(),
+        [140].as_slice()
+    );
+    let full = [made, SAME, SAME, SAME, SAME, SAME];
+    for (bytes, refused) in [(233472, Some(EditFault::NoRoom(257, 256))), (229376, None)] {
+        let more = Edit::Create(b"x_b", bytes);
+        assert_eq!(rt; refusal_after(alloc, &APART, &full, &more)?, refused);
     }
     Ok(())
 }

@@ -1,7 +1,7 @@
 -- What is kept of a device with the table of its slot alone.
 use Rattle.std.proofs.Common.{◌≡◌, ◌∙◌, ℕ, zero, suc, ◌<◌, true, false, refl, ap, arith}
 use Rattle.std.proofs.Common.{subst}
-use Rattle.std.specs.Prelude.{◌==◌, if◌then◌else◌, Option, Some, None, is_some}
+use Rattle.std.specs.Prelude.{◌==◌, if◌then◌else◌, Bool, Option, Some, None, is_some}
 use Rattle.vab_geometry.specs.declared.geometry.Geometry.{Geometry}
 use Rattle.vab_geometry.specs.Geometry.{IsGeometry}
 use Rattle.vab_tables.specs.declared.table.Table.{Table}
@@ -93,10 +93,12 @@ other_at zero a b u below = refl
 other_at (suc zero) a b u below = refl
 other_at (suc (suc n)) a b u below = absurd (omega (arith, below))
 
-no_update : (source : ℕ) (s t : Option Table) → is_some t ≡ false → IsUpdate source s t
-no_update source None t none = tt
-no_update source (Some s) None none = tt
-no_update source (Some s) (Some t) none = absurd (let no : true ≡ false = none in cc)
+no_update : (apart : Bool) (source : ℕ) (s t : Option Table)
+    → is_some t ≡ false
+    → IsUpdate apart source s t
+no_update apart source None t none = tt
+no_update apart source (Some s) None none = tt
+no_update apart source (Some s) (Some t) none = absurd (let no : true ≡ false = none in cc)
 
 -- the table that is kept of the slot
 pub table_now : (d : Device) (u : Table)
@@ -119,6 +121,7 @@ table_kept d size u dev idle of =
       control = dev.control;
       phase = dev.phase;
       slot = dev.slot;
+      apart = dev.apart;
       current = dev.current;
       has_a = dev.has_a;
       has_b = dev.has_b;
@@ -132,7 +135,7 @@ table_kept d size u dev idle of =
       planned = dev.planned;
       plan = dev.plan;
       update =
-          no_update d.mark.slot
+          no_update d.mark.apart d.mark.slot
           (table_of_slot (with_table u d) d.mark.slot)
           (table_of_slot (with_table u d) (other_slot d.mark.slot))
           (ap is_some other ∙ dev.target ∙ ap reads_both idle);

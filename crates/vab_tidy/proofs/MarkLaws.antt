@@ -1,6 +1,11 @@
 -- The mark of no update in place of that of a merge that has ended: all is read as before.
-use Rattle.std.proofs.Common.{◌≡◌, ◌≢◌, ◌∙◌, ℕ, ◌≤◌, [], ◌∷◌, Result, Ok, Err, refl}
-use Rattle.std.proofs.Common.{inl, sym, ap, arith, true, false}
+use Rattle.std.proofs.Common.{◌≡◌, ◌≢◌, ◌∙◌, ℕ, zero, suc, ◌≤◌, List, [], ◌∷◌, Result, Ok, Err}
+use Rattle.std.proofs.Common.{inl, inr, refl, sym, ap, subst, arith, true, false}
+use Rattle.std.specs.Prelude.{Bool, ◌&&◌, ◌||◌, not, IsTrue, nat_lt, slice_index, Option, Some}
+use Rattle.std.specs.Prelude.{None}
+use Rattle.std.specs.Prelude.{option_map, ok_or}
+use Rattle.std.proofs.lemmas.Bool.{cases_Bool}
+use Rattle.vab_bytes.specs.Number.{field}
 use Rattle.vab_disk.specs.Disk.{Image}
 use Rattle.vab_bootctl.specs.Control.{control_of}
 use Rattle.vab_marks.specs.declared.mark.MarkPhase.{MarkPhase}
@@ -8,8 +13,12 @@ use Rattle.vab_marks.specs.declared.mark.MarkPhase.TheVariants as marks
 use Rattle.vab_marks.specs.declared.mark.UpdateMark.{UpdateMark}
 use Rattle.vab_marks.specs.declared.sector.MarkFault.{MarkFault}
 use Rattle.vab_marks.specs.declared.version.MarkVersion.TheVariants.{Two}
-use Rattle.vab_marks.specs.Mark.{mark_of, idle_mark, completed_mark, mark_at}
-use Rattle.vab_marks.specs.Version.{partitions_under}
+use Rattle.vab_marks.specs.declared.sector.MarkFault.TheVariants.{BadField}
+use Rattle.vab_marks.specs.Mark.{may_stand_apart, MayStandApart, phase_of, with_phase, mark_magic}
+use Rattle.vab_marks.specs.Mark.{mark_fields, mark_of, rephased}
+use Rattle.vab_marks.specs.Sector.{are_zeros, head_fault}
+use Rattle.vab_marks.specs.Sector as sectors
+use Rattle.vab_marks.specs.Version.{is_version, partitions_under}
 use Rattle.vab_geometry.specs.declared.geometry.Geometry.{Geometry}
 use Rattle.vab_lpstore.specs.Layout.{primary_of, backup_of}
 use Rattle.vab_lpstore.specs.Storing.{SameElsewhere}
@@ -18,6 +27,7 @@ use Rattle.vab_device.specs.declared.device.Device.{Device}
 use Rattle.vab_device.specs.Reading.{Read, kept, device, SameRead, Represents, mark_read, mark_in}
 use Rattle.vab_device.specs.Reading.{IsOfTables, settled, version_at}
 use Rattle.vab_device.proofs.Behind.{images_behind}
+use Rattle.vab_device.proofs.MarkLaws.{rephased_again}
 use Rattle.vab_device.proofs.ReadingLaws.{reads_kept, device_same}
 use Rattle.vab_device.proofs.SameLaws.{control_same, geometry_same, tables_agree, images_same}
 use Rattle.vab_device.proofs.StayLaws.{copy_stays, copies_from}
@@ -26,20 +36,79 @@ use Rattle.vab_tidy.specs.Tidied.{HasCompleted, is_completed}
 use Rattle.vab_tidy.specs.Tidied.{says_completed}
 use Rattle.vab_tidy.proofs.StandsLaws.{StandsIdle, read_at}
 
+-- ---- in a mark that is read a target stands apart where one may
+
+phase_said : (p q : MarkPhase × Bool)
+    → (let one : Option (MarkPhase × Bool) = Some p in one ≡ Some q)
+    → IsTrue (may_stand_apart p.0 || not p.1)
+    → IsTrue (may_stand_apart q.0 || not q.1)
+phase_said p q said fits =
+    subst (λ (x : MarkPhase × Bool). IsTrue (may_stand_apart x.0 || not x.1))
+    (let e : p ≡ q = cc in e) fits
+
+phase_fits : (b : ℕ) (p : MarkPhase × Bool)
+    → phase_of b ≡ Some p
+    → IsTrue (may_stand_apart p.0 || not p.1)
+phase_fits zero p is = phase_said (marks.Idle, false) p is refl
+phase_fits (suc zero) p is = phase_said (marks.Installing, false) p is refl
+phase_fits (suc (suc zero)) p is = phase_said (marks.Staged, false) p is refl
+phase_fits (suc (suc (suc zero))) p is = phase_said (marks.Merging, false) p is refl
+phase_fits (suc (suc (suc (suc zero)))) p is = phase_said (marks.Completed, false) p is refl
+phase_fits (suc (suc (suc (suc (suc zero))))) p is =
+    phase_said (marks.Installing, true) p is refl
+phase_fits (suc (suc (suc (suc (suc (suc zero)))))) p is =
+    phase_said (marks.Staged, true) p is refl
+phase_fits (suc (suc (suc (suc (suc (suc (suc n))))))) p is = absurd cc
+
+fields_apart : (bytes : List ℕ) (m : UpdateMark) → mark_fields bytes ≡ Ok m → MayStandApart m
+fields_apart bytes m is =
+    elim (cases_Bool (nat_lt (slice_index bytes 6) 2 && are_zeros (field bytes 7 501))) [
+      | inl both ↦
+          let taken : ok_or (option_map (with_phase (slice_index bytes 6))
+          (phase_of (slice_index bytes 5))) BadField ≡ Ok m = rw both at is in
+          of_phase (slice_index bytes 6) (phase_of (slice_index bytes 5))
+          (phase_fits (slice_index bytes 5)) taken
+      | inr not ↦
+          let bad : (let x : Result UpdateMark MarkFault = Err BadField in x ≡ Ok m) =
+          rw not at is in
+          absurd cc
+    ]
+  where
+    of_phase : (slot : ℕ) (o : Option (MarkPhase × Bool))
+        → ((p : MarkPhase × Bool) → o ≡ Some p → IsTrue (may_stand_apart p.0 || not p.1))
+        → ok_or (option_map (with_phase slot) o) BadField ≡ Ok m
+        → MayStandApart m
+    of_phase slot None fits is = absurd cc
+    of_phase slot (Some p) fits is =
+        subst MayStandApart (let e : with_phase slot p ≡ m = cc in e) (fits p refl)
+
+mark_apart : (bytes : List ℕ) (m : UpdateMark) → mark_of bytes ≡ Ok m → MayStandApart m
+unfolding mark_of
+mark_apart bytes m is =
+    by_head (head_fault mark_magic (is_version (slice_index bytes 4)) bytes) is
+  where
+    by_head : (o : Option MarkFault)
+        → sectors.unless o (mark_fields bytes) ≡ Ok m
+        → MayStandApart m
+    by_head None is = fields_apart bytes m is
+    by_head (Some fault) is = absurd cc
+
+-- ---- the mark of a merge that has ended
+
 -- a merge that has ended is read as no update
-pub completed_idle : (slot : ℕ) (image : Image)
-    → HasCompleted slot image
-    → mark_in image ≡ Ok (idle_mark slot)
+pub completed_idle : (m : UpdateMark) (image : Image)
+    → HasCompleted m image
+    → mark_in image ≡ Ok (rephased marks.Idle m)
 unfolding mark_in
-completed_idle slot image is = ap mark_read is
+completed_idle m image is = ap mark_read is
 
 -- what the disk was read with where a merge has ended
-pub completed_is : (slot : ℕ) (m : UpdateMark) (image : Image)
+pub completed_is : (k m : UpdateMark) (image : Image)
     → mark_in image ≡ Ok m
-    → HasCompleted slot image
-    → m ≡ idle_mark slot
-completed_is slot m image read is =
-    let both : Ok m ≡ Ok (idle_mark slot) = sym read ∙ completed_idle slot image is in
+    → HasCompleted k image
+    → m ≡ rephased marks.Idle k
+completed_is k m image read is =
+    let both : Ok m ≡ Ok (rephased marks.Idle k) = sym read ∙ completed_idle k image is in
     cc
 
 completed_phase : (p : MarkPhase) → is_completed p ≡ true → p ≡ marks.Completed
@@ -50,46 +119,49 @@ completed_phase marks.Merging is = absurd cc
 completed_phase marks.Completed is = refl
 
 says_slot : (x : Result UpdateMark MarkFault) (m : UpdateMark)
+    → ((k : UpdateMark) → x ≡ Ok k → MayStandApart k)
     → mark_read x ≡ Ok m
     → says_completed x ≡ true
-    → x ≡ Ok (completed_mark m.slot)
-says_slot (Ok k) m read is =
-    let same : record k { phase = settled k.phase } ≡ m = cc in
-    let slot : k.slot ≡ m.slot = ap (λ (x : UpdateMark). x.slot) same in
+    → x ≡ Ok (rephased marks.Completed m)
+says_slot (Ok k) m fits read is =
+    let same : rephased (settled k.phase) k ≡ m = cc in
     let phase = completed_phase k.phase is in
-    (λ i. Ok (mark_at (phase i) (slot i)))
-says_slot (Err f) m read is = absurd cc
+    ap Ok (sym (rephased_again k (fits k refl)))
+    ∙ ap (λ (p : MarkPhase). Ok (rephased p k)) phase
+    ∙ ap (λ (x : UpdateMark). Ok (rephased marks.Completed x)) same
+says_slot (Err f) m fits read is = absurd cc
 
 -- the merge that has ended is that of the slot of the mark
 pub says_of : (m : UpdateMark) (image : Image)
     → mark_in image ≡ Ok m
     → says_completed (mark_of (image 2048)) ≡ true
-    → HasCompleted m.slot image
+    → HasCompleted m image
 unfolding mark_in
-says_of m image read is = says_slot (mark_of (image 2048)) m read is
+says_of m image read is =
+    says_slot (mark_of (image 2048)) m (λ k there. mark_apart (image 2048) k there) read is
 
-pub says_none : (slot : ℕ) (image : Image)
+pub says_none : (m : UpdateMark) (image : Image)
     → says_completed (mark_of (image 2048)) ≡ false
-    → HasCompleted slot image
+    → HasCompleted m image
     → ⊥
-says_none slot image not is =
+says_none m image not is =
     let said : true ≡ false = sym (ap says_completed is) ∙ not in
     cc
 
 -- so is the mark of no update
-pub idle_there : (slot : ℕ) (image : Image)
-    → mark_of (image 2048) ≡ Ok (idle_mark slot)
-    → mark_in image ≡ Ok (idle_mark slot)
+pub idle_there : (m : UpdateMark) (image : Image)
+    → mark_of (image 2048) ≡ Ok (rephased marks.Idle m)
+    → mark_in image ≡ Ok (rephased marks.Idle m)
 unfolding mark_in
-idle_there slot image is = ap mark_read is
+idle_there m image is = ap mark_read is
 
 -- the mark stays where copies of a table are written
-pub completed_stays : (g : Geometry) (slot k n : ℕ) (old new : Image)
+pub completed_stays : (g : Geometry) (slot n : ℕ) (m : UpdateMark) (old new : Image)
     → SameElsewhere g slot n old new
-    → HasCompleted k old
-    → HasCompleted k new
+    → HasCompleted m old
+    → HasCompleted m new
 unfolding primary_of backup_of
-completed_stays g slot k n old new others has =
+completed_stays g slot n m old new others has =
     let same : new 2048 ≡ old 2048 = others 2048 (inl (omega arith)) (inl (omega arith)) in
     ap mark_of same ∙ has
 
@@ -98,10 +170,10 @@ module _
     (st : StandsIdle d size old t)
     (image : Image)
     (elsewhere : (s : ℕ) → s ≢ 2048 → image s ≡ old s)
-    (mark : mark_in image ≡ Ok (idle_mark d.mark.slot))
+    (mark : mark_in image ≡ Ok (rephased marks.Idle d.mark))
     (version : version_at image ≡ Two) where
   abbrev r : Read
-  r = read_at d.mark.slot d.control d.geometry t
+  r = read_at d.mark d.control d.geometry t
 
   behind : (s : ℕ) → 4096 ≤ s → image s ≡ old s
   behind s le = elsewhere s (λ e. omega (arith, e, le))
@@ -110,7 +182,7 @@ module _
   of_tables s there =
       elsewhere s (λ e. omega (arith, e, copies_from d.geometry (d.mark.slot ∷ []) s there))
 
-  same_read : SameRead size (read_at d.mark.slot d.control d.geometry t) old image
+  same_read : SameRead size (read_at d.mark d.control d.geometry t) old image
   same_read = record {
     most = omega (arith, ap partitions_under (version ∙ sym st.version));
     mark = mark ∙ sym st.reads.mark;
@@ -131,13 +203,13 @@ module _
 
   pub marked_means : device size image ≡ device size old
   marked_means =
-      device_same size (read_at d.mark.slot d.control d.geometry t) old image st.reads same_read
+      device_same size (read_at d.mark d.control d.geometry t) old image st.reads same_read
 
   pub marked_represents : Represents d size image
   marked_represents = record {
-    read = read_at d.mark.slot d.control d.geometry t;
+    read = read_at d.mark d.control d.geometry t;
     reads =
-        reads_kept size (read_at d.mark.slot d.control d.geometry t) old image st.reads same_read;
+        reads_kept size (read_at d.mark d.control d.geometry t) old image st.reads same_read;
     is = st.is;
     control = ap control_of (elsewhere 4 (λ e. omega (arith, e))) ∙ st.control;
     copies = (

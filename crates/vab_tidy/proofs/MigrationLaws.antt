@@ -65,8 +65,8 @@ module _
       others (2049 + k) (λ w. omega (arith, w.from, below)) (λ e. omega (arith, e))
 
   same_with : most_at old ≤ most_at new
-      → statuses_at (phase_at r.mark.phase).reads_statuses new
-      ≡ statuses_at (phase_at r.mark.phase).reads_statuses old
+      → statuses_at (phase_at r.mark).reads_statuses new
+      ≡ statuses_at (phase_at r.mark).reads_statuses old
       → SameRead size r old new
   same_with most statuses = record {
     most = most;
@@ -75,11 +75,11 @@ module _
     control = control_same _ _ old new (low 4 (omega arith));
     geometry = geometry_same size old new (high 4104 (omega arith)) (high 4112 (omega arith));
     tables =
-        tables_agree size r.geometry ((phase_at r.mark.phase).tables r.mark.slot) old new
+        tables_agree size r.geometry (phase_at r.mark).tables old new
         (λ s is.
         high s (omega (
           arith,
-          copies_from r.geometry ((phase_at r.mark.phase).tables r.mark.slot) s is,
+          copies_from r.geometry (phase_at r.mark).tables s is,
         )));
     stores =
         stores_kept (stores_of r) old new r.scanned
@@ -115,7 +115,7 @@ module _
   same_before was is =
       same_with
       (omega (arith, ap partitions_under was, ap partitions_under is))
-      (one_statuses (phase_at r.mark.phase).reads_statuses was is)
+      (one_statuses (phase_at r.mark).reads_statuses was is)
 
   -- ---- with the mark of version 2
 
@@ -150,7 +150,7 @@ module _
   same_behind was is blank =
       same_with
       (omega (arith, ap partitions_under was, ap partitions_under is))
-      (two_statuses (phase_at r.mark.phase).reads_statuses r.statuses was is blank reads.statuses
+      (two_statuses (phase_at r.mark).reads_statuses r.statuses was is blank reads.statuses
       ∙ sym reads.statuses)
 
 zeros_are : (n : ℕ) → are_zeros (replicate n 0) ≡ true

@@ -7,6 +7,7 @@ use Rattle.vab_bootctl.specs.declared.slots.Control.{Control}
 use Rattle.vab_bootctl.specs.Control.{control_of}
 use Rattle.vab_marks.specs.declared.mark.MarkPhase.{MarkPhase}
 use Rattle.vab_marks.specs.declared.mark.MarkPhase.TheVariants as marks
+use Rattle.vab_marks.specs.declared.mark.UpdateMark.{UpdateMark}
 use Rattle.vab_marks.specs.declared.status.PartStatus.{PartStatus}
 use Rattle.vab_marks.specs.declared.version.MarkVersion.TheVariants.{Two}
 use Rattle.vab_statuses.specs.Statuses.{written_in}
@@ -15,22 +16,23 @@ use Rattle.vab_tables.specs.declared.table.Table.{Table}
 use Rattle.vab_device.specs.declared.device.Device.{Device}
 use Rattle.vab_device.specs.Idle.{idle_read, control_read_of}
 use Rattle.vab_device.specs.Kept.{table_of_slot}
-use Rattle.vab_device.specs.Phases.{phase_at}
+use Rattle.vab_device.specs.Phases.{phase_in, phase_at}
 use Rattle.vab_device.specs.Reading.{Read, Reads, Represents, AgreeCopies, version_at, statuses_at}
 use Rattle.vab_device.specs.Reading.{control_in}
 use Rattle.vab_device.specs.Stores.{scans_in}
-use Rattle.vab_device.proofs.ReadingLaws.{one_table, control_is_seen}
+use Rattle.vab_device.proofs.MarkLaws.{rephased_again}
+use Rattle.vab_device.proofs.ReadingLaws.{one_table, control_is_seen, apart_known}
 use Rattle.vab_device.proofs.UpdateLaws.{kept_with}
-use Rattle.vab_marks.specs.Mark.{idle_mark}
+use Rattle.vab_marks.specs.Mark.{rephased, resloted}
 
 -- the reading of a device without an update
-abbrev pub read_at : ℕ → Control → Geometry → Table → Read
-read_at slot c g t = idle_read (idle_mark slot) c g t
+abbrev pub read_at : UpdateMark → Control → Geometry → Table → Read
+read_at m c g t = idle_read (rephased marks.Idle m) c g t
 
 -- The disk is read so, and is the kept device, whose slot has this table.
 pub record StandsIdle (d : Device) (size : ℕ) (image : Image) (t : Table) : Type 0 where
-  pub reads : Reads size (read_at d.mark.slot d.control d.geometry t) image
-  pub is : d ≡ kept_with (read_at d.mark.slot d.control d.geometry t) d.control
+  pub reads : Reads size (read_at d.mark d.control d.geometry t) image
+  pub is : d ≡ kept_with (read_at d.mark d.control d.geometry t) d.control
   pub control : control_of (image 4) ≡ Ok d.control
   pub copies : AgreeCopies d.geometry (d.mark.slot ∷ []) (t ∷ []) image
   pub version : version_at image ≡ Two
@@ -44,12 +46,12 @@ no_statuses image ss is =
     cc
 
 -- the table that is kept of the slot
-kept_table : (slot : ℕ) (c seen : Control) (g : Geometry) (t : Table)
+kept_table : (m : UpdateMark) (slot : ℕ) (c seen : Control) (g : Geometry) (t : Table)
     → slot < 2
-    → table_of_slot (kept_with (read_at slot seen g t) c) slot ≡ Some t
-kept_table zero c seen g t below = refl
-kept_table (suc zero) c seen g t below = refl
-kept_table (suc (suc n)) c seen g t below = absurd (omega (arith, below))
+    → table_of_slot (kept_with (read_at (resloted slot m) seen g t) c) slot ≡ Some t
+kept_table m zero c seen g t below = refl
+kept_table m (suc zero) c seen g t below = refl
+kept_table m (suc (suc n)) c seen g t below = absurd (omega (arith, below))
 
 module _
     (d : Device) (size : ℕ) (image : Image) (t : Table)
@@ -60,8 +62,11 @@ module _
   abbrev r : Read
   r = is.read
 
+  marked : d.mark ≡ r.mark
+  marked = ap (λ (k : Device). k.mark) is.is
+
   own : d.mark.slot ≡ r.mark.slot
-  own = ap (λ (k : Device). k.mark.slot) is.is
+  own = ap (λ (m : UpdateMark). m.slot) marked
 
   geometry : d.geometry ≡ r.geometry
   geometry = ap (λ (k : Device). k.geometry) is.is
@@ -69,13 +74,19 @@ module _
   phase : r.mark.phase ≡ marks.Idle
   phase = sym (ap (λ (k : Device). k.mark.phase) is.is) ∙ idle
 
+  phased : r.mark ≡ rephased marks.Idle r.mark
+  phased =
+      sym (rephased_again r.mark (apart_known image r.mark is.reads.mark))
+      ∙ ap (λ (p : MarkPhase). rephased p r.mark) phase
+
   one : (u : Table) × (r.tables ≡ u ∷ [])
   one = one_table size r image phase is.reads
 
   statuses : r.statuses ≡ []
   statuses =
       no_statuses image r.statuses
-      (subst (λ (p : MarkPhase). statuses_at (phase_at p).reads_statuses image ≡ Ok r.statuses)
+      (subst
+      (λ (p : MarkPhase). statuses_at (phase_in p r.mark).reads_statuses image ≡ Ok r.statuses)
       phase is.reads.statuses)
 
   scanned : r.scanned ≡ []
@@ -83,7 +94,7 @@ module _
       let none : Result.Ok [] ≡ Ok r.scanned =
       subst
       (λ (p : MarkPhase).
-      scans_in ((phase_at p).stores r.mark.slot r.tables (written_in r.statuses)) image
+      scans_in ((phase_in p r.mark).stores r.tables (written_in r.statuses)) image
       ≡ Ok r.scanned)
       phase is.reads.stores in
       cc
@@ -93,14 +104,14 @@ module _
       control_is_seen (r.mark.slot == 0) (r.mark.slot == 1) image d.control r.control
       (subst
       (λ (p : MarkPhase).
-      control_in ((phase_at p).has_a r.mark.slot) ((phase_at p).has_b r.mark.slot) image
+      control_in (phase_in p r.mark).has_a (phase_in p r.mark).has_b image
       ≡ Ok r.control)
       phase is.reads.control)
       is.control
 
-  shape : r ≡ read_at r.mark.slot d.control r.geometry one.0
+  shape : r ≡ read_at r.mark d.control r.geometry one.0
   shape = (λ i. record {
-    mark = record r.mark { phase = phase i };
+    mark = phased i;
     statuses = statuses i;
     control = seen i;
     geometry = r.geometry;
@@ -116,17 +127,17 @@ module _
       ∙ subst
       (λ (n : ℕ).
       table_of_slot
-      (kept_with (read_at r.mark.slot d.control r.geometry one.0) d.control)
+      (kept_with (read_at r.mark d.control r.geometry one.0) d.control)
       n
       ≡ Some one.0)
       (sym own)
-      (kept_table r.mark.slot d.control d.control r.geometry one.0
+      (kept_table r.mark r.mark.slot d.control d.control r.geometry one.0
       (subst (λ (n : ℕ). n < 2) own below)) in
       let both : Some one.0 ≡ Some t = sym there ∙ has in
       cc
 
-  whole : r ≡ read_at d.mark.slot d.control d.geometry t
-  whole = shape ∙ (λ i. read_at (sym own i) d.control (sym geometry i) (same i))
+  whole : r ≡ read_at d.mark d.control d.geometry t
+  whole = shape ∙ (λ i. read_at (sym marked i) d.control (sym geometry i) (same i))
 
   pub stands_idle : StandsIdle d size image t
   stands_idle = record {
@@ -136,7 +147,7 @@ module _
     copies =
         subst
         (λ (x : Read).
-        AgreeCopies x.geometry ((phase_at x.mark.phase).tables x.mark.slot) x.tables image)
+        AgreeCopies x.geometry (phase_at x.mark).tables x.tables image)
         whole is.copies;
     version = is.version;
   }

@@ -102,11 +102,11 @@ module _ {D : Type 0} (g : Ghosts D) where
       (of_v : g.is_modelled → (s : ℕ) (b : List ℕ) → V s b → U s b)
       (of_w : g.is_modelled → (s : ℕ) (b : List ℕ) → W s b → U s b)
       (still : g.is_modelled
-      → HasCompleted next.mark.slot (g.seen old)
-      → HasCompleted next.mark.slot (g.seen mid))
+      → HasCompleted next.mark (g.seen old)
+      → HasCompleted next.mark (g.seen mid))
       (order : g.is_modelled
       → IsAtRest g old
-      → HasCompleted next.mark.slot (g.seen old)
+      → HasCompleted next.mark (g.seen old)
       → Adds g.moment g.outcomes old mid (λ o. IsInOrder next o.image)) where
     pub stays_then : Stays g U next old new r
     stays_then =

@@ -37,68 +37,74 @@ use Rattle.vab_tidy.specs.Stays.{LeavesSame}
 use Rattle.vab_tidy.proofs.AloneLaws.{device_is, own_is, parts_are, cap_is, limits_are, place_is}
 use Rattle.vab_tidy.proofs.PlaceLaws.{table_is}
 use Rattle.vab_device.proofs.RepairLaws.{ends_within}
-use Rattle.vab_marks.specs.Mark.{idle_mark}
+use Rattle.vab_marks.specs.declared.mark.MarkPhase.TheVariants as marks
+use Rattle.vab_marks.specs.declared.mark.UpdateMark.{UpdateMark}
+use Rattle.vab_marks.specs.Mark.{rephased, resloted}
 use Rattle.vab_tidy.proofs.StandsLaws.{StandsIdle, read_at}
 
 -- ---- what is kept
 
 -- another table of which the same is kept
-kept_alone : (slot : ℕ) (seen c : Control) (g : Geometry) (t u : Table)
+kept_alone : (m : UpdateMark) (slot : ℕ) (seen c : Control) (g : Geometry) (t u : Table)
     → slot < 2
     → layout_of u ≡ plain slot (layout_of t)
-    → with_table u (kept_with (read_at slot seen g t) c) ≡ kept_with (read_at slot seen g u) c
-kept_alone zero seen c g t u below is = (λ i. record (kept_with (read_at 0 seen g u) c) {
-  cap = sym (cap_is 0 t u is) i;
-  groups = sym (limits_are 0 t u is) i;
-  a = Some (sym (parts_are 0 t u is) i);
-})
-kept_alone (suc zero) seen c g t u below is = (λ i. record (kept_with (read_at 1 seen g u) c) {
-  cap = sym (cap_is 1 t u is) i;
-  groups = sym (limits_are 1 t u is) i;
-  b = Some (sym (parts_are 1 t u is) i);
-})
-kept_alone (suc (suc n)) seen c g t u below is = absurd (omega (arith, below))
+    → with_table u (kept_with (read_at (resloted slot m) seen g t) c)
+    ≡ kept_with (read_at (resloted slot m) seen g u) c
+kept_alone m zero seen c g t u below is =
+    (λ i. record (kept_with (read_at (resloted 0 m) seen g u) c) {
+      cap = sym (cap_is 0 t u is) i;
+      groups = sym (limits_are 0 t u is) i;
+      a = Some (sym (parts_are 0 t u is) i);
+    })
+kept_alone m (suc zero) seen c g t u below is =
+    (λ i. record (kept_with (read_at (resloted 1 m) seen g u) c) {
+      cap = sym (cap_is 1 t u is) i;
+      groups = sym (limits_are 1 t u is) i;
+      b = Some (sym (parts_are 1 t u is) i);
+    })
+kept_alone m (suc (suc n)) seen c g t u below is = absurd (omega (arith, below))
 
 -- the images and the places are the same
-mounted_alone : (slot : ℕ) (seen : Control) (g : Geometry) (t u : Table) (old image : Image)
+mounted_alone : (m : UpdateMark) (slot : ℕ) (seen : Control) (g : Geometry) (t u : Table)
+    (old image : Image)
     → slot < 2
     → layout_of u ≡ plain slot (layout_of t)
-    → images_on image (kept (read_at slot seen g t)).a
-    ≡ images_on old (kept (read_at slot seen g t)).a
-    → images_on image (kept (read_at slot seen g t)).b
-    ≡ images_on old (kept (read_at slot seen g t)).b
-    → mounted_on (kept (read_at slot seen g u)) image
-    ≡ mounted_on (kept (read_at slot seen g t)) old
+    → images_on image (kept (read_at (resloted slot m) seen g t)).a
+    ≡ images_on old (kept (read_at (resloted slot m) seen g t)).a
+    → images_on image (kept (read_at (resloted slot m) seen g t)).b
+    ≡ images_on old (kept (read_at (resloted slot m) seen g t)).b
+    → mounted_on (kept (read_at (resloted slot m) seen g u)) image
+    ≡ mounted_on (kept (read_at (resloted slot m) seen g t)) old
 unfolding state_on
-mounted_alone zero seen g t u old image below is a b =
+mounted_alone m zero seen g t u old image below is a b =
     let blocks : images_on image (Some (parts_of 0 (layout_of u)))
     ≡ images_on old (Some (parts_of 0 (layout_of t))) =
     ap (λ ps. images_on image (Some ps)) (parts_are 0 t u is) ∙ a in
-    (λ i. record (mounted_on (kept (read_at 0 seen g u)) image) {
-      state = record (state_on (kept (read_at 0 seen g u)) image) {
+    (λ i. record (mounted_on (kept (read_at (resloted 0 m) seen g u)) image) {
+      state = record (state_on (kept (read_at (resloted 0 m) seen g u)) image) {
         cap = cap_is 0 t u is i;
         groups = limits_are 0 t u is i;
         a = blocks i;
       };
-      places = record (mounted_on (kept (read_at 0 seen g u)) image).places {
+      places = record (mounted_on (kept (read_at (resloted 0 m) seen g u)) image).places {
         a = Some (place_is 0 t u is i);
       };
     })
-mounted_alone (suc zero) seen g t u old image below is a b =
+mounted_alone m (suc zero) seen g t u old image below is a b =
     let blocks : images_on image (Some (parts_of 1 (layout_of u)))
     ≡ images_on old (Some (parts_of 1 (layout_of t))) =
     ap (λ ps. images_on image (Some ps)) (parts_are 1 t u is) ∙ b in
-    (λ i. record (mounted_on (kept (read_at 1 seen g u)) image) {
-      state = record (state_on (kept (read_at 1 seen g u)) image) {
+    (λ i. record (mounted_on (kept (read_at (resloted 1 m) seen g u)) image) {
+      state = record (state_on (kept (read_at (resloted 1 m) seen g u)) image) {
         cap = cap_is 1 t u is i;
         groups = limits_are 1 t u is i;
         b = blocks i;
       };
-      places = record (mounted_on (kept (read_at 1 seen g u)) image).places {
+      places = record (mounted_on (kept (read_at (resloted 1 m) seen g u)) image).places {
         b = Some (place_is 1 t u is i);
       };
     })
-mounted_alone (suc (suc n)) seen g t u old image below is a b = absurd (omega (arith, below))
+mounted_alone m (suc (suc n)) seen g t u old image below is a b = absurd (omega (arith, below))
 
 -- ---- the disk
 
@@ -118,7 +124,7 @@ module _
   g = d.geometry
 
   abbrev r : Read
-  r = read_at d.mark.slot d.control d.geometry t
+  r = read_at d.mark d.control d.geometry t
 
   before : (s : ℕ) → s < 4120 → image s ≡ old s
   unfolding primary_of backup_of
@@ -149,9 +155,9 @@ module _
         table_is size g k image u there
         (ap (lies_in size g) (device_is k t u is) ∙ lies)
 
-    pub reads_alone : Reads size (read_at d.mark.slot d.control d.geometry u) image
+    pub reads_alone : Reads size (read_at d.mark d.control d.geometry u) image
     reads_alone =
-        reads_idle size image (idle_mark k) st.reads.enough
+        reads_idle size image (rephased marks.Idle d.mark) st.reads.enough
         (mark_same old image (before 2048 (omega arith)) ∙ st.reads.mark)
         refl d.control g u
         (control_seen_in _ _ image d.control control)
@@ -162,9 +168,9 @@ module _
     pub means_alone : device size image ≡ device size old
     means_alone =
         let within = ends_within g k geometry below in
-        device_of size (read_at k d.control g u) image reads_alone
+        device_of size (read_at d.mark d.control g u) image reads_alone
         ∙ ap Ok
-        (mounted_alone k d.control g t u old image below is
+        (mounted_alone d.mark k d.control g t u old image below is
         (images_same old image (kept r).a
         (λ s of. behind s (images_behind size (end_of g k) 0 _ _ r old s st.reads within of)))
         (images_same old image (kept r).b
@@ -177,11 +183,11 @@ module _
       → BothHold d.geometry d.mark.slot text image
       → Represents (with_table u d) size image
   represents_alone text of_text held = record {
-    read = read_at k d.control g u;
+    read = read_at d.mark d.control g u;
     reads = reads_alone (both_table g k text u image held of_text);
     is =
         ap (with_table u) st.is
-        ∙ kept_alone k d.control d.control g t u below is;
+        ∙ kept_alone d.mark k d.control d.control g t u below is;
     control = control;
     copies = ((text, of_text, held), tt);
     version = version ∙ st.version;
@@ -203,8 +209,8 @@ leaves_alone d size n old t u told o st below geometry lies is fits leaves = rec
   same =
       ⊎_elim
       (λ was.
-      device_same size (read_at d.mark.slot d.control d.geometry t) old o.image st.reads
-      (repair_same size n d.mark.slot (read_at d.mark.slot d.control d.geometry t) old o.image
+      device_same size (read_at d.mark d.control d.geometry t) old o.image st.reads
+      (repair_same size n d.mark.slot (read_at d.mark d.control d.geometry t) old o.image
       geometry below below fits st.reads leaves.others
       (was
       ∙ sym (both_table d.geometry d.mark.slot st.copies.0.0 t old st.copies.0.2 st.copies.0.1))))

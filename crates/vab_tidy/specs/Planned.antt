@@ -40,8 +40,8 @@ pub record IsTidying (max : ℕ) (m : UpdateMark) (t : Table) (x : Tidying) : Ty
 
 -- something is to be done exactly where the mark of the disk says that a merge has ended
 abbrev pub IsDue : UpdateMark → Image → Option Tidying → Type 0
-IsDue m image None = (slot : ℕ) → HasCompleted slot image → ⊥
-IsDue m image (Some x) = HasCompleted m.slot image
+IsDue m image None = (k : UpdateMark) → HasCompleted k image → ⊥
+IsDue m image (Some x) = HasCompleted m image
 
 -- ---- of a device
 

@@ -25,7 +25,7 @@ HoldsTable d image = (t : Table)
 -- The mark says still that a merge of this slot has ended, or the table that is kept of it stands
 -- on the disk. So where power is cut before the mark is written, it is done at the next opening.
 abbrev pub IsInOrder : Device → Image → Type 0
-IsInOrder d image = HasCompleted d.mark.slot image ⊎ HoldsTable d image
+IsInOrder d image = HasCompleted d.mark image ⊎ HoldsTable d image
 
 -- The disk means the same then, and where nothing was pending in each outcome. What is kept is this
 -- device, which is that of the disk. It touches such sectors alone. An error comes where the disk
@@ -50,6 +50,6 @@ pub record Stays {D : Type 0}
       (LeavesSame (g.told old) (g.size old) (g.seen old))
   pub order : g.is_modelled
       → IsAtRest g old
-      → HasCompleted next.mark.slot (g.seen old)
+      → HasCompleted next.mark (g.seen old)
       → Adds g.moment g.outcomes old new (λ o. IsInOrder next o.image)
   pub faults : FailsWithDisk g old new result

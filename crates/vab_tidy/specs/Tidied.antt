@@ -9,7 +9,7 @@ use Rattle.vab_marks.specs.declared.mark.MarkPhase.{MarkPhase}
 use Rattle.vab_marks.specs.declared.mark.MarkPhase.TheVariants as marks
 use Rattle.vab_marks.specs.declared.mark.UpdateMark.{UpdateMark}
 use Rattle.vab_marks.specs.declared.sector.MarkFault.{MarkFault}
-use Rattle.vab_marks.specs.Mark.{mark_of, completed_mark}
+use Rattle.vab_marks.specs.Mark.{mark_of, rephased}
 use Rattle.vab_tables.specs.declared.entries.Group.{Group}
 use Rattle.vab_tables.specs.declared.entries.Partition.{Partition}
 use Rattle.vab_tables.specs.declared.table.Table.{Table}
@@ -19,23 +19,17 @@ use Rattle.vab_layout.specs.Plain.{plain}
 
 -- ---- the mark
 
--- the disk says so
-abbrev pub HasCompleted : ℕ → Image → Type 0
-HasCompleted slot image = mark_of (image 2048) ≡ Ok (completed_mark slot)
+-- the mark on the disk is this one, whatever its phase, of a merge that has ended
+abbrev pub HasCompleted : UpdateMark → Image → Type 0
+HasCompleted m image = mark_of (image 2048) ≡ Ok (rephased marks.Completed m)
 
 abbrev pub is_idle : MarkPhase → Bool
 is_idle marks.Idle = true
-is_idle marks.Installing = false
-is_idle marks.Staged = false
-is_idle marks.Merging = false
-is_idle marks.Completed = false
+is_idle _ = false
 
 abbrev pub is_completed : MarkPhase → Bool
-is_completed marks.Idle = false
-is_completed marks.Installing = false
-is_completed marks.Staged = false
-is_completed marks.Merging = false
 is_completed marks.Completed = true
+is_completed _ = false
 
 abbrev pub says_completed : Result UpdateMark MarkFault → Bool
 says_completed (Ok m) = is_completed m.phase

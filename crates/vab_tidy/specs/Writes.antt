@@ -1,7 +1,8 @@
 -- What is written behind a merge that has ended.
 use Rattle.std.specs.Prelude.{◌≡◌, ◌⊎◌, ◌≤◌, ℕ, true, List, length, Option, Some, None, Ok}
 use Rattle.vab_disk.specs.Disk.{Image, IsAt}
-use Rattle.vab_marks.specs.Mark.{mark_spelling, idle_mark}
+use Rattle.vab_marks.specs.declared.mark.MarkPhase.TheVariants as marks
+use Rattle.vab_marks.specs.Mark.{mark_spelling, rephased}
 use Rattle.vab_tables.specs.declared.table.Table.{Table}
 use Rattle.vab_tables.specs.Spelling.{table_text}
 use Rattle.vab_geometry.specs.declared.geometry.Geometry.{Geometry}
@@ -23,7 +24,7 @@ IsOfAlone d (Some x) s b = IsOfTable d.geometry d.mark.slot x.text s b
 -- that, and the mark of no update
 abbrev pub IsOfTidied : Device → Tidying → ℕ → List ℕ → Type 0
 IsOfTidied d x s b =
-    IsOfAlone d x.alone s b ⊎ IsAt 2048 (mark_spelling (idle_mark d.mark.slot)) s b
+    IsOfAlone d x.alone s b ⊎ IsAt 2048 (mark_spelling (rephased marks.Idle d.mark)) s b
 
 abbrev pub IsOfTidyings : Device → Option Tidying → ℕ → List ℕ → Type 0
 IsOfTidyings d None s b = ⊥
@@ -50,6 +51,6 @@ pub record IsOfTidyTable
 pub record IsOfTidying (size : ℕ) (image : Image) (s : ℕ) (b : List ℕ) : Type 0 where
   pub read : Read
   pub reads : Reads size read image
-  pub completed : HasCompleted read.mark.slot image
+  pub completed : HasCompleted read.mark image
   pub writes : IsOfTidyTable read.geometry read.mark.slot image s b
-      ⊎ IsAt 2048 (mark_spelling (idle_mark read.mark.slot)) s b
+      ⊎ IsAt 2048 (mark_spelling (rephased marks.Idle read.mark)) s b

@@ -2,7 +2,7 @@
 
 ghost use Rattle.std.specs.Prelude.{◌≡◌, ◌<◌, ◌≤◌, ◌+◌, IfSome, IsNone, Ok, OnOk};
 ghost use Rattle.vab_marks.specs.declared.mark.MarkPhase.TheVariants as marks;
-ghost use Rattle.vab_marks.specs.Mark.{mark_of, mark_spelling, idle_mark};
+ghost use Rattle.vab_marks.specs.Mark.{mark_of, mark_spelling, rephased};
 ghost use Rattle.vab_disk.specs.Disk.{IsAt};
 ghost use Rattle.vab_lpstore.specs.Storing.{IsOfTable};
 ghost use Rattle.vab_device.specs.Kept.{IsDevice};
@@ -17,7 +17,7 @@ use vab_device::Device;
 use vab_disk::Disk;
 use vab_gate::{DiskFault, put_gate};
 use vab_lpstore::store_table;
-use vab_marks::{MarkPhase, UpdateMark, encode_mark};
+use vab_marks::{MarkPhase, encode_mark};
 use vab_tables::Table;
 
 // The device with another table of the slot of its mark.
@@ -60,14 +60,11 @@ fn put_idle<D: Disk>(d: &mut D, device: Device) -> Result<Device, DiskFault>
     requires represents { D.is_modelled → Represents device (D.size d.old) (D.seen d.old) }
     requires idle { device.mark.phase ≡ marks.Idle }
     ensures stays { Stays D.Disk
-        (IsAt 2048 (mark_spelling (idle_mark device.mark.slot))) device d.old d.new result }
+        (IsAt 2048 (mark_spelling (rephased marks.Idle device.mark))) device d.old d.new result }
     ensures mark { D.is_modelled
-        → OnOk result (mark_of (D.seen d.new 2048) ≡ Ok (idle_mark device.mark.slot)) }
+        → OnOk result (mark_of (D.seen d.new 2048) ≡ Ok (rephased marks.Idle device.mark)) }
 {
-    let mark = UpdateMark {
-        phase: MarkPhase::Idle,
-        ..device.mark
-    };
+    let mark = device.mark.with_phase(MarkPhase::Idle);
     match put_gate(d, MARK_SECTOR, &encode_mark(&mark)) {
         Err(fault) => Err(fault),
         Ok(()) => Ok(device),
@@ -82,7 +79,7 @@ fn tidy<D: Disk>(d: &mut D, device: Device, tidying: Tidying) -> Result<Device, 
     ensures stays { Stays D.Disk (IsOfTidied device tidying) (tidied_device tidying device)
         d.old d.new result }
     ensures mark { D.is_modelled
-        → OnOk result (mark_of (D.seen d.new 2048) ≡ Ok (idle_mark device.mark.slot)) }
+        → OnOk result (mark_of (D.seen d.new 2048) ≡ Ok (rephased marks.Idle device.mark)) }
 {
     let Tidying { alone } = tidying;
     match alone {
@@ -110,7 +107,7 @@ pub fn carry_out<D: Disk>(
         d.old d.new result }
     ensures mark { D.is_modelled
         → OnOk result
-        (IfSome tidying (λ x. mark_of (D.seen d.new 2048) ≡ Ok (idle_mark device.mark.slot))) }
+        (IfSome tidying (λ x. mark_of (D.seen d.new 2048) ≡ Ok (rephased marks.Idle device.mark))) }
     ensures still { IsNone tidying → d.new ≡ d.old }
 {
     match tidying {

@@ -15,12 +15,14 @@ use Rattle.vab_model.specs.declared.command.Reply.{Reply}
 use Rattle.vab_model.specs.declared.command.Reply.TheVariants as replies
 use Rattle.vab_model.specs.declared.state.Phase.{Phase}
 use Rattle.vab_model.specs.declared.state.Phase.TheVariants.{Idle, Installing, Staged, Merging}
-use Rattle.vab_model.specs.declared.state.PlanEntry.{PlanEntry}
+use Rattle.vab_model.specs.declared.state.Plan.{Plan}
 use Rattle.vab_model.specs.Commands.{Command, Begin, Create, Resize, Finish, SetActive}
-use Rattle.vab_model.specs.Effects.{Effect, answers, after_of, active_effect, effect, effect_map}
+use Rattle.vab_model.specs.Effects.{Effect, answers, after_of, active_effect, effect_map}
+use Rattle.vab_model.specs.Machine.{machine_effect}
 use Rattle.vab_model.specs.State.{images_at}
+use Rattle.vab_model.specs.Machine.{least_declared}
 use Rattle.vab_device.specs.Mounted.{Mounted, in_state}
-use Rattle.vab_device.specs.Updates.{effect_on, finish_effect, complete_effect, least_declared}
+use Rattle.vab_device.specs.Updates.{effect_on, finish_effect, complete_effect}
 use Rattle.vab_fbvars.specs.Variables.{has_image}
 use Rattle.vab_update.specs.Install.{order, target_name, size_command, image_orders}
 use Rattle.vab_update.specs.Install.{install_orders}
@@ -38,7 +40,7 @@ finish_ready : (m : Mounted)
     → IsReady (after_of m (effect_on m None Finish)).state.phase
 finish_ready m = go m.state.phase
   where
-    complete : (source : ℕ) (plan : List PlanEntry) (least : Option (List ℕ))
+    complete : (source : ℕ) (plan : Plan) (least : Option (List ℕ))
         → is_refused (complete_effect m source plan least).reply ≡ false
         → IsReady (after_of m (complete_effect m source plan least)).state.phase
     complete source plan None done = (source, _, refl)
@@ -48,14 +50,14 @@ finish_ready m = go m.state.phase
         → is_refused (finish_effect m phase).reply ≡ false
         → IsReady (after_of m (finish_effect m phase)).state.phase
     go Idle done = absurd cc
-    go (Installing source plan) done = complete source plan (least_declared None plan) done
+    go (Installing source plan) done = complete source plan (least_declared None plan.entries) done
     go (Staged source left) done = absurd cc
     go (Merging target left) done = absurd cc
 
 -- boot control alone changes
 active_phase : (m : Mounted) (slot : ℕ)
     → (after_of m (effect_on m None (SetActive slot))).state.phase ≡ m.state.phase
-unfolding effect
+unfolding machine_effect
 active_phase m slot = go (is_some (images_at m.state slot))
   where
     active : Bool → Effect Mounted

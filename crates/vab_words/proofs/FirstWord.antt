@@ -17,8 +17,9 @@ use Rattle.clap.specs.Takes.{flags_pass, step_passes, turn_passes, walk_passes}
 use Rattle.clap.proofs.OnLiterals.{clap_on_literals}
 use Rattle.vab_words.specs.Command.{found_in, is_taken, vab_app}
 use Rattle.vab_words.specs.Values.{blocks_of, limit_of, metadata_max_of, slot_of, seed_of, scale_of}
+use Rattle.vab_words.specs.Values.{turns_of}
 use Rattle.vab_words.specs.Verbs.{Activate, Adopt, Demo, Digest, Make, Meaning, Merge, Print}
-use Rattle.vab_words.specs.Verbs.{demo_of}
+use Rattle.vab_words.specs.Verbs.{Serve, demo_of, is_set, serve_of}
 use Rattle.vab_words.specs.Verbs.{make_of, verb_in}
 use Rattle.vab_words.specs.Verbs.{verb_of}
 use Rattle.vab_words.specs.Spelled.{is_verb_name, name_of, verb_names}
@@ -261,9 +262,13 @@ unfolding verb_in
 adopt_in rows = mapped (codes "adopt") Adopt (λ _. refl)
     (option_and_then slot_of (first_of (codes "slot") rows))
 
+serve_named : (a b : Option Text) → IsNamed (codes "serve") (serve_of a b)
+unfolding serve_of
+serve_named a b = mapped (codes "serve") (Serve (is_set a)) (λ _. refl) (turns_of b)
+
 serve_in : (rows : List Row) → IsNamed (codes "serve") (verb_in (codes "serve") rows)
 unfolding verb_in
-serve_in rows = refl
+serve_in rows = serve_named (first_of (codes "fresh") rows) (first_of (codes "turns") rows)
 
 install_in : (rows : List Row) → IsNamed (codes "install") (verb_in (codes "install") rows)
 unfolding verb_in

@@ -9,19 +9,19 @@ use Rattle.clap.specs.Words.{Text}
 use Rattle.clap.proofs.OnLiterals.{clap_on_literals}
 use Rattle.vab_words.specs.Command.{found_in, is_taken, vab_app}
 use Rattle.vab_words.specs.Values.{blocks_of, is_number, limit_of, metadata_max_of}
-use Rattle.vab_words.specs.Values.{number_up_to, slot_of}
+use Rattle.vab_words.specs.Values.{number_up_to, slot_of, turns_of}
 use Rattle.vab_words.specs.Verbs.{Activate, Adopt, BeginMerge, Boot, Cancel, Digest, Install}
 use Rattle.vab_words.specs.Verbs.{Make, Mark}
-use Rattle.vab_words.specs.Verbs.{Merge, Print, Serve, Status, demo_of, is_set, make_of}
+use Rattle.vab_words.specs.Verbs.{Merge, Print, Serve, Status, demo_of, is_set, make_of, serve_of}
 use Rattle.vab_words.specs.Verbs.{verb_in, verb_of}
 use Rattle.vab_words.specs.Spelled.{AsksBy, IsPlain, MakesBy}
 
-pub serve : verb_of (codes "serve" ∷ []) ≡ Some (Serve false)
-unfolding clap_on_literals vab_app is_taken found_in verb_of verb_in is_set
+pub serve : verb_of (codes "serve" ∷ []) ≡ Some (Serve false 0)
+unfolding clap_on_literals vab_app is_taken found_in verb_of verb_in serve_of is_set turns_of
 serve = refl
 
-pub serve_fresh : verb_of (codes "serve" ∷ codes "--fresh" ∷ []) ≡ Some (Serve true)
-unfolding clap_on_literals vab_app is_taken found_in verb_of verb_in is_set
+pub serve_fresh : verb_of (codes "serve" ∷ codes "--fresh" ∷ []) ≡ Some (Serve true 0)
+unfolding clap_on_literals vab_app is_taken found_in verb_of verb_in serve_of is_set turns_of
 serve_fresh = refl
 
 pub install : verb_of (codes "install" ∷ []) ≡ Some Install
@@ -96,6 +96,22 @@ five = refl
 
 pub merge_five : verb_of (codes "merge" ∷ codes "5" ∷ []) ≡ Some (Merge 5)
 merge_five = merge (codes "5") (grind (arith, nat_tests)) ∙ ap (option_map Merge) five
+
+pub serve_turns : (text : Text)
+    → IsPlain text
+    → verb_of (codes "serve" ∷ codes "--turns" ∷ text ∷ [])
+    ≡ option_map (Serve false) (turns_of (Some text))
+unfolding clap_on_literals vab_app is_taken found_in verb_of verb_in serve_of is_set
+serve_turns text plain =
+    rw (no_dashes text plain, no_long text plain, no_short text plain) refl
+
+pub serve_fresh_turns : (text : Text)
+    → IsPlain text
+    → verb_of (codes "serve" ∷ codes "--fresh" ∷ codes "--turns" ∷ text ∷ [])
+    ≡ option_map (Serve true) (turns_of (Some text))
+unfolding clap_on_literals vab_app is_taken found_in verb_of verb_in serve_of is_set
+serve_fresh_turns text plain =
+    rw (no_dashes text plain, no_long text plain, no_short text plain) refl
 
 pub adopt : AsksBy (codes "adopt") (λ text. option_map Adopt (slot_of text))
 unfolding clap_on_literals vab_app is_taken found_in verb_of verb_in

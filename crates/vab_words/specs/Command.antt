@@ -23,9 +23,11 @@ make_app =
     with_rule (with_rule (new_app (codes "make")) (option_rule (codes "limit")))
     (option_rule (codes "metadata-max"))
 
--- `serve [--fresh]`
+-- `serve [--fresh] [--turns N]`
 abbrev pub serve_app : App
-serve_app = with_rule (new_app (codes "serve")) (flag_rule (codes "fresh"))
+serve_app =
+    with_rule (with_rule (new_app (codes "serve")) (flag_rule (codes "fresh")))
+    (option_rule (codes "turns"))
 
 -- a verb with one operand
 abbrev pub operand_app : Text → Text → App

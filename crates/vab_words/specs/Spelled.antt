@@ -33,7 +33,7 @@ is_verb_name word = list_any (λ name. bytes_eq name word) verb_names
 abbrev pub name_of : Meaning → Text
 name_of (Make limit metadata_max) = codes "make"
 name_of (Adopt slot) = codes "adopt"
-name_of (Serve fresh) = codes "serve"
+name_of (Serve fresh turns) = codes "serve"
 name_of Install = codes "install"
 name_of Boot = codes "boot"
 name_of Mark = codes "mark"

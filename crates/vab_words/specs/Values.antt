@@ -47,6 +47,11 @@ blocks_of text = option_and_then from_one (number_up_to (2 ^ 32 - 1) text)
 abbrev pub IsBlocks : ℕ → Type 0
 IsBlocks blocks = (1 ≤ blocks) × (blocks < 2 ^ 32)
 
+-- the number of `--turns`: from 0 to 2^32 - 1, and 0 where the option isn't given
+unfoldable pub turns_of : Option (List ℕ) → Option ℕ
+turns_of None = Some 0
+turns_of (Some text) = number_up_to (2 ^ 32 - 1) text
+
 -- the operand of `demo`: below 2^64
 unfoldable pub seed_of : List ℕ → Option ℕ
 seed_of text = number_up_to (2 ^ 64 - 1) text

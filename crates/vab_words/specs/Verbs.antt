@@ -6,7 +6,7 @@ use Rattle.std.specs.Str.{bytes_eq}
 use Rattle.clap.specs.Words.{Row, Text, first_of}
 use Rattle.vab_words.specs.Command.{found_in, is_taken}
 use Rattle.vab_words.specs.Values.{blocks_of, limit_of, metadata_max_of, slot_of, IsBlocks}
-use Rattle.vab_words.specs.Values.{IsMetadataMax, seed_of, scale_of, IsScale}
+use Rattle.vab_words.specs.Values.{IsMetadataMax, seed_of, scale_of, IsScale, turns_of}
 use Rattle.clap.specs.declared.error.kind.ErrorKind.{ErrorKind}
 use Rattle.clap.specs.declared.error.kind.ErrorKind.TheVariants as kind
 use Rattle.vab_words.specs.declared.verb.WordsFault.{WordsFault}
@@ -18,7 +18,7 @@ use Rattle.vab_words.specs.declared.verb.Verb.TheVariants as code
 pub data Meaning : Type 0 where
   Make : ℕ → ℕ → Meaning
   Adopt : ℕ → Meaning
-  Serve : Bool → Meaning
+  Serve : Bool → ℕ → Meaning
   Install : Meaning
   Boot : Meaning
   Mark : Meaning
@@ -34,7 +34,7 @@ pub data Meaning : Type 0 where
 abbrev pub meaning_of : Verb → Meaning
 meaning_of (code.Make limit metadata_max) = Make limit metadata_max
 meaning_of (code.Adopt slot) = Adopt slot
-meaning_of (code.Serve fresh) = Serve fresh
+meaning_of (code.Serve fresh turns) = Serve fresh turns
 meaning_of code.Install = Install
 meaning_of code.Boot = Boot
 meaning_of code.Mark = Mark
@@ -47,11 +47,11 @@ meaning_of (code.Digest name) = Digest name.now
 meaning_of code.Status = Status
 meaning_of (code.Demo seed scale) = Demo seed scale
 
--- the values of `make`, of `adopt`, of `merge` and of `demo` are in their ranges
+-- the values of `make`, of `adopt`, of `serve`, of `merge` and of `demo` are in their ranges
 abbrev pub IsInRange : Verb → Type 0
 IsInRange (code.Make limit metadata_max) = (limit ≤ 2 ^ 44) × IsMetadataMax metadata_max
 IsInRange (code.Adopt slot) = slot < 2
-IsInRange (code.Serve fresh) = Unit {0}
+IsInRange (code.Serve fresh turns) = turns < 2 ^ 32
 IsInRange code.Install = Unit {0}
 IsInRange code.Boot = Unit {0}
 IsInRange code.Mark = Unit {0}
@@ -84,6 +84,10 @@ demo_in rows =
 unfoldable pub is_set : Option Text → Bool
 is_set value = option_map_or (λ text. bytes_eq text (codes "true")) value false
 
+-- `serve` with what was found for its flag and the text of its option
+unfoldable pub serve_of : Option Text → Option Text → Option Meaning
+serve_of fresh turns = option_map (Serve (is_set fresh)) (turns_of turns)
+
 -- the verb of this name, by what was found for its arguments
 unfoldable pub verb_in : Text → List Row → Option Meaning
 verb_in name rows =
@@ -91,7 +95,8 @@ verb_in name rows =
     (first_of (codes "metadata-max") rows)
     else if bytes_eq name (codes "adopt") then option_map Adopt
     (option_and_then slot_of (first_of (codes "slot") rows))
-    else if bytes_eq name (codes "serve") then Some (Serve (is_set (first_of (codes "fresh") rows)))
+    else if bytes_eq name (codes "serve") then serve_of (first_of (codes "fresh") rows)
+    (first_of (codes "turns") rows)
     else if bytes_eq name (codes "install") then Some Install
     else if bytes_eq name (codes "boot") then Some Boot
     else if bytes_eq name (codes "mark") then Some Mark

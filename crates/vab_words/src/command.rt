@@ -42,7 +42,9 @@ fn serve<'a>(alloc: Global) -> Result<Command<'a>, AllocError>
     ensures app { IfOk result (λ c. app_of c ≡ serve_app) }
     ensures local { IfOk result (λ c. (fields_of c).has_globals ≡ false) }
 {
-    Command::new(alloc, "serve").arg(flag(alloc, "fresh"))
+    Command::new(alloc, "serve")
+        .arg(flag(alloc, "fresh"))?
+        .arg(option(alloc, "turns"))
 }
 
 fn with_operand<'a>(alloc: Global, verb: &'a str, name: &'a str) -> Result<Command<'a>, AllocError>

@@ -3,7 +3,7 @@ ghost use Rattle.std.specs.Prelude.{◌≡◌, IfSome, map, string_bytes};
 ghost use Rattle.vab_words.specs.Complaints.{Names};
 
 use crate::values::{
-    parse_blocks, parse_limit, parse_metadata_max, parse_scale, parse_seed, parse_slot,
+    parse_blocks, parse_limit, parse_metadata_max, parse_scale, parse_seed, parse_slot, parse_turns,
 };
 use std::fmt;
 
@@ -22,6 +22,8 @@ pub enum Value {
     MetadataMax,
     /// `--scale` of `demo`.
     Scale,
+    /// `--turns` of `serve`.
+    Between,
 }
 
 /// What is wrong with words that ask for nothing.
@@ -51,6 +53,7 @@ impl Value {
             Value::Limit => parse_limit(Some(text)).is_some(),
             Value::MetadataMax => parse_metadata_max(Some(text)).is_some(),
             Value::Scale => parse_scale(Some(text)).is_some(),
+            Value::Between => parse_turns(Some(text)).is_some(),
         }
     }
 }
@@ -64,6 +67,7 @@ impl fmt::Display for Value {
             Value::Limit => write!(f, "BYTES is 0 to 17592186044416"),
             Value::MetadataMax => write!(f, "BYTES is 512 to 65536, a multiple of 512"),
             Value::Scale => write!(f, "K is 1 to 64"),
+            Value::Between => write!(f, "N is 0 to 4294967295"),
         }
     }
 }
@@ -86,6 +90,7 @@ fn value_behind(word: &str) -> Option<Value> {
         "--limit" => Some(Value::Limit),
         "--metadata-max" => Some(Value::MetadataMax),
         "--scale" => Some(Value::Scale),
+        "--turns" => Some(Value::Between),
         _ => None,
     }
 }

@@ -2,7 +2,7 @@
 ghost use Rattle.std.specs.Prelude.{◌≡◌, true, false, List, ℕ, [], ◌∷◌, Some, None, IfSome, codes};
 ghost use Rattle.std.specs.Prelude.{option_map};
 ghost use Rattle.vab_words.specs.Spelled.{AsksBy, IsPlain, MakesBy, is_verb_name, name_of};
-ghost use Rattle.vab_words.specs.Values.{blocks_of, slot_of};
+ghost use Rattle.vab_words.specs.Values.{blocks_of, slot_of, turns_of};
 ghost use Rattle.vab_words.specs.Verbs.{Activate, Adopt, BeginMerge, Boot, Cancel, Digest, Install};
 ghost use Rattle.vab_words.specs.Verbs.{Make};
 ghost use Rattle.vab_words.specs.Verbs.{Mark, Merge, Print, Serve, Status, demo_of, make_of};
@@ -19,8 +19,14 @@ pub fn spelled_out()
         (codes "make" ∷ codes "--limit" ∷ limit ∷ codes "--metadata-max" ∷ metadata_max ∷ [])
         ≡ make_of (Some limit) (Some metadata_max) }
     ensures adopt { AsksBy (codes "adopt") (λ text. option_map Adopt (slot_of text)) }
-    ensures serve { verb_of (codes "serve" ∷ []) ≡ Some (Serve false) }
-    ensures serve_fresh { verb_of (codes "serve" ∷ codes "--fresh" ∷ []) ≡ Some (Serve true) }
+    ensures serve { verb_of (codes "serve" ∷ []) ≡ Some (Serve false 0) }
+    ensures serve_fresh { verb_of (codes "serve" ∷ codes "--fresh" ∷ []) ≡ Some (Serve true 0) }
+    ensures serve_turns { (text : List ℕ) → IsPlain text
+        → verb_of (codes "serve" ∷ codes "--turns" ∷ text ∷ [])
+        ≡ option_map (Serve false) (turns_of (Some text)) }
+    ensures serve_fresh_turns { (text : List ℕ) → IsPlain text
+        → verb_of (codes "serve" ∷ codes "--fresh" ∷ codes "--turns" ∷ text ∷ [])
+        ≡ option_map (Serve true) (turns_of (Some text)) }
     ensures install { verb_of (codes "install" ∷ []) ≡ Some Install }
     ensures boot { verb_of (codes "boot" ∷ []) ≡ Some Boot }
     ensures mark { verb_of (codes "mark" ∷ []) ≡ Some Mark }

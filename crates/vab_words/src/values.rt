@@ -3,7 +3,7 @@ ghost use Rattle.std.specs.Prelude.{◌≡◌, ◌≤◌, ◌<◌, ◌^◌, IfSo
 ghost use Rattle.std.specs.Char.{is_ascii_digit};
 ghost use Rattle.std.specs.List.{list_all};
 ghost use Rattle.vab_words.specs.Values.{is_number, number_up_to, limit_of, metadata_max_of};
-ghost use Rattle.vab_words.specs.Values.{blocks_of, slot_of, seed_of, scale_of};
+ghost use Rattle.vab_words.specs.Values.{blocks_of, slot_of, seed_of, scale_of, turns_of};
 ghost use Rattle.vab_words.specs.Values.{IsBlocks, IsMetadataMax, IsScale};
 
 const LIMIT_MAX: u64 = 1 << 44;
@@ -84,6 +84,18 @@ pub(crate) fn parse_blocks(text: &str) -> Option<u64>
     match parse_number(text, BLOCKS_MAX) {
         Some(blocks) if blocks >= 1 => Some(blocks),
         _ => None,
+    }
+}
+
+/// The number of `--turns`: from 0 to 2^32 - 1, and 0 where the option isn't given.
+#[tactic(auto, unfolding(crate::specs::Values::turns_of))]
+pub(crate) fn parse_turns(text: Option<&str>) -> Option<u64>
+    ensures value { result ≡ turns_of (option_map (λ t. t.now) text.entry) }
+    ensures range { IfSome result (λ n. n < 2 ^ 32) }
+{
+    match text {
+        Some(text) => parse_number(text, BLOCKS_MAX),
+        None => Some(0),
     }
 }
 

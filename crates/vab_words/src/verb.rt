@@ -6,7 +6,7 @@ ghost use Rattle.clap.specs.declared.error.kind.ErrorKind.TheVariants.{OutOfMemo
 
 use crate::command::vab;
 use crate::values::{
-    parse_blocks, parse_limit, parse_metadata_max, parse_scale, parse_seed, parse_slot,
+    parse_blocks, parse_limit, parse_metadata_max, parse_scale, parse_seed, parse_slot, parse_turns,
 };
 use clap::ArgMatches;
 use clap::error::ErrorKind;
@@ -29,6 +29,8 @@ pub enum Verb<'a> {
     Serve {
         /// The device is made first.
         fresh: bool,
+        /// How many turns of a merge are made behind the hello and behind each reply: below 2^32.
+        turns: u64,
     },
     /// Installs the set of images on standard input into the slot that isn't running.
     Install,
@@ -94,7 +96,7 @@ impl From<clap::Error> for WordsFault {
 
 ghost use Rattle.vab_words.specs.Command.{found_in, is_taken};
 ghost use Rattle.vab_words.specs.Verbs.{IsInRange, demo_in, is_set, make_of, meaning_of};
-ghost use Rattle.vab_words.specs.Verbs.{verb_in, verb_of};
+ghost use Rattle.vab_words.specs.Verbs.{serve_of, verb_in, verb_of};
 
 // What clap finds in the words.
 fn parse_matches<'a>(alloc: Global, words: &'a [String]) -> Result<ArgMatches<'a>, WordsFault>
@@ -153,6 +155,21 @@ fn is_set(values: &ArgMatches<'_>, id: &str) -> bool
     }
 }
 
+// `serve` with what was found for its flag and its option.
+#[tactic(auto, unfolding(crate::specs::Verbs::serve_of))]
+fn serve_in<'a>(values: &ArgMatches<'a>) -> Option<Verb<'a>>
+    ensures range { IfSome result IsInRange }
+    ensures value { option_map meaning_of result
+        ≡ serve_of (first_of (codes "fresh") (rows_of (found_of values.now)))
+        (first_of (codes "turns") (rows_of (found_of values.now))) }
+{
+    let turns = parse_turns(text_of(values, "turns"))?;
+    Some(Verb::Serve {
+        fresh: is_set(values, "fresh"),
+        turns,
+    })
+}
+
 // The verb of this name, by what was found for its arguments.
 #[tactic(auto, unfolding(crate::specs::Verbs::verb_in))]
 fn verb_in<'a>(name: &str, values: &ArgMatches<'a>) -> Option<Verb<'a>>
@@ -163,9 +180,7 @@ fn verb_in<'a>(name: &str, values: &ArgMatches<'a>) -> Option<Verb<'a>>
     match name {
         "make" => make_in(values),
         "adopt" => Some(Verb::Adopt(parse_slot(text_of(values, "slot")?)?)),
-        "serve" => Some(Verb::Serve {
-            fresh: is_set(values, "fresh"),
-        }),
+        "serve" => serve_in(values),
         "install" => Some(Verb::Install),
         "boot" => Some(Verb::Boot),
         "mark" => Some(Verb::Mark),
@@ -192,8 +207,9 @@ fn found_verb<'a>(matches: &ArgMatches<'a>) -> Option<Verb<'a>>
 }
 
 /// What the words behind the device's ask for: `make [--limit BYTES] [--metadata-max BYTES]`,
-/// `adopt SLOT`, `serve [--fresh]`, `install`, `boot`, `mark`, `begin-merge`, `merge N`, `cancel`,
-/// `activate SLOT`, `print NAME`, `digest NAME`, `status` or `demo SEED [--scale K]`.
+/// `adopt SLOT`, `serve [--fresh] [--turns N]`, `install`, `boot`, `mark`, `begin-merge`,
+/// `merge N`, `cancel`, `activate SLOT`, `print NAME`, `digest NAME`, `status` or
+/// `demo SEED [--scale K]`.
 pub fn parse_words<'a>(alloc: Global, words: &'a [String]) -> Result<Verb<'a>, WordsFault>
     // A verb comes only where the words ask for it, and a refusal only where they ask for none.
     ensures verb { IfOk result

@@ -1,17 +1,18 @@
 use Rattle.std.proofs.Common.{◌≡◌, ◌∙◌, List, Ok, refl, sym, ap, subst, arith}
 use Rattle.std.specs.Prelude.{Some}
-use Rattle.vab_marks.specs.declared.mark.MarkPhase.TheVariants as marks
-use Rattle.vab_marks.specs.Mark.{mark_spelling, installing_mark}
+use Rattle.vab_disk.specs.Disk.{Adds, LeavesEither, IsAt, set_sector}
+use Rattle.vab_disk.specs.Calls.{Touches}
+use Rattle.vab_marks.specs.declared.mark.UpdateMark.{UpdateMark}
+use Rattle.vab_marks.specs.Mark.{mark_of, mark_spelling, begun}
 use Rattle.vab_layout.specs.Slots.{other_slot}
 use Rattle.vab_install.specs.Control.{cleared_of}
 use Rattle.vab_model.specs.declared.command.Reply.TheVariants as replies
-use Rattle.vab_model.specs.Commands.{Begin}
 use Rattle.vab_device.specs.declared.device.Device.{Device}
 use Rattle.vab_device.specs.declared.device.Part.{Part}
 use Rattle.vab_device.specs.Does.{Does}
 use Rattle.vab_device.proofs.DoesLaws.{dead_means, fails_dead, fails_gate, does_gate}
 use Rattle.vab_begin.specs.Kept.{with_control, with_update}
-use Rattle.vab_begin.specs.Writes.{IsOfPlaces, IsOfBegun}
+use Rattle.vab_begin.specs.Writes.{begin_of, IsOfPlaces, IsOfBegun}
 use Rattle.vab_begin.proofs.CopiesApart.{copies_on_disk}
 use Rattle.vab_begin.proofs.BegunLaws.{begun_device, begun_kept, begin_dead, begin_step}
 use Rattle.vab_begin.proofs.WriteLaws.{target_short, target_stands, places_in, mark_in}
@@ -25,6 +26,7 @@ prepare_begin-requires-clause-table_on_disk g c =
 pub returns-in-Err : goal.returns-in-Err
 returns-in-Err g c = λ staged.
     let d = c.args.device in
+    let apart = c.args.apart in
     let x = c.args.target in
     let old = c.args.d.now in
     let mid = c.prepare_begin.new.d in
@@ -32,20 +34,21 @@ returns-in-Err g c = λ staged.
     let told = g.D.Disk.is_modelled in
     let text = c.as_slice-text.result.now in
     let bytes = g.D.Disk.seen old 4 in
-    let short = target_short d x c.requires.target text c.as_slice-text.ensures in
+    let short = target_short apart d x c.requires.target text c.as_slice-text.ensures in
     let V = IsOfPlaces told d text bytes in
     let dead = λ (t : told).
     dead_means d size (g.D.Disk.seen old) V (c.requires.represents t)
-    (begin_dead told text size (g.D.Disk.seen old) d c.requires.kept (c.requires.represents t)
+    (begin_dead told apart text size (g.D.Disk.seen old) d c.requires.kept (c.requires.represents t)
     c.requires.idle short) in
     let within = λ (t : told).
-    places_in d x c.requires.target text c.as_slice-text.ensures told bytes c.requires.idle in
-    fails_dead g.D.Disk d staged Begin (IsOfBegun told d bytes) old mid V dead
+    places_in apart d x c.requires.target text c.as_slice-text.ensures told bytes c.requires.idle in
+    fails_dead g.D.Disk d staged (begin_of apart) (IsOfBegun told apart d bytes) old mid V dead
     c.prepare_begin.ensures.touches within _ c.in-Err.ensures.faults.cause
 
 pub returns-in-Err-put_mark : goal.returns-in-Err-put_mark
 returns-in-Err-put_mark g c = λ staged.
     let d = c.args.device in
+    let apart = c.args.apart in
     let x = c.args.target in
     let old = c.args.d.now in
     let mid = c.prepare_begin.new.d in
@@ -53,16 +56,16 @@ returns-in-Err-put_mark g c = λ staged.
     let told = g.D.Disk.is_modelled in
     let text = c.as_slice-text.result.now in
     let bytes = g.D.Disk.seen old 4 in
-    let short = target_short d x c.requires.target text c.as_slice-text.ensures in
+    let short = target_short apart d x c.requires.target text c.as_slice-text.ensures in
     let V = IsOfPlaces told d text bytes in
     let dead = λ (t : told).
     dead_means d size (g.D.Disk.seen old) V (c.requires.represents t)
-    (begin_dead told text size (g.D.Disk.seen old) d c.requires.kept (c.requires.represents t)
+    (begin_dead told apart text size (g.D.Disk.seen old) d c.requires.kept (c.requires.represents t)
     c.requires.idle short) in
     let within = λ (t : told).
-    places_in d x c.requires.target text c.as_slice-text.ensures told bytes c.requires.idle in
+    places_in apart d x c.requires.target text c.as_slice-text.ensures told bytes c.requires.idle in
     let step = λ (t : told).
-    begin_step told text size (g.D.Disk.seen old) d c.requires.kept (c.requires.represents t)
+    begin_step told apart text size (g.D.Disk.seen old) d c.requires.kept (c.requires.represents t)
     c.requires.idle short x (g.D.Disk.seen mid) c.requires.target
     (c.prepare_begin.ensures.touches.seen t)
     (record {
@@ -70,20 +73,31 @@ returns-in-Err-put_mark g c = λ staged.
       statuses = c.in-Ok.ensures.statuses t;
       stored = c.in-Ok.ensures.stored t;
     })
-    (target_stands d x c.requires.target text c.as_slice-text.ensures)
-    c.put_mark.ensures.read staged in
-    fails_gate g.D.Disk d staged Begin (IsOfBegun told d bytes) old mid V dead
-    c.prepare_begin.ensures.touches within c.put_mark.new.d (begun_device d x.table) replies.Done
-    2048 (mark_spelling (installing_mark d.mark.slot))
+    (target_stands apart d x c.requires.target text c.as_slice-text.ensures)
+    (subst (λ (m : UpdateMark). mark_of (mark_spelling m) ≡ Ok m) c.begun-mark.ensures
+    c.put_mark.ensures.read)
+    staged in
+    fails_gate g.D.Disk d staged (begin_of apart) (IsOfBegun told apart d bytes) old mid V dead
+    c.prepare_begin.ensures.touches within c.put_mark.new.d (begun_device apart d x.table)
+    replies.Done 2048 (mark_spelling (begun apart d.mark))
     (λ t. (step t).effect) (λ t. (step t).represents)
-    (λ t rest. c.put_mark.ensures.gate t (c.in-Ok.ensures.settled t))
-    c.put_mark.ensures.touches
-    (mark_in d x c.requires.target text c.as_slice-text.ensures told bytes c.requires.idle)
+    (λ t rest.
+    subst
+    (λ (m : UpdateMark).
+    Adds g.D.Disk.moment g.D.Disk.outcomes mid c.put_mark.new.d
+    (LeavesEither (g.D.Disk.told mid) (g.D.Disk.seen mid)
+    (set_sector (g.D.Disk.seen mid) 2048 (mark_spelling m))))
+    c.begun-mark.ensures (c.put_mark.ensures.gate t (c.in-Ok.ensures.settled t)))
+    (subst
+    (λ (m : UpdateMark). Touches g.D.Disk (IsAt 2048 (mark_spelling m)) mid c.put_mark.new.d)
+    c.begun-mark.ensures c.put_mark.ensures.touches)
+    (mark_in apart d x c.requires.target text c.as_slice-text.ensures told bytes c.requires.idle)
     _ c.in-Err-put_mark.ensures.faults.cause
 
 pub returns-in-Ok-put_mark : goal.returns-in-Ok-put_mark
 returns-in-Ok-put_mark g c = λ staged.
     let d = c.args.device in
+    let apart = c.args.apart in
     let x = c.args.target in
     let old = c.args.d.now in
     let mid = c.prepare_begin.new.d in
@@ -91,16 +105,16 @@ returns-in-Ok-put_mark g c = λ staged.
     let told = g.D.Disk.is_modelled in
     let text = c.as_slice-text.result.now in
     let bytes = g.D.Disk.seen old 4 in
-    let short = target_short d x c.requires.target text c.as_slice-text.ensures in
+    let short = target_short apart d x c.requires.target text c.as_slice-text.ensures in
     let V = IsOfPlaces told d text bytes in
     let dead = λ (t : told).
     dead_means d size (g.D.Disk.seen old) V (c.requires.represents t)
-    (begin_dead told text size (g.D.Disk.seen old) d c.requires.kept (c.requires.represents t)
+    (begin_dead told apart text size (g.D.Disk.seen old) d c.requires.kept (c.requires.represents t)
     c.requires.idle short) in
     let within = λ (t : told).
-    places_in d x c.requires.target text c.as_slice-text.ensures told bytes c.requires.idle in
+    places_in apart d x c.requires.target text c.as_slice-text.ensures told bytes c.requires.idle in
     let step = λ (t : told).
-    begin_step told text size (g.D.Disk.seen old) d c.requires.kept (c.requires.represents t)
+    begin_step told apart text size (g.D.Disk.seen old) d c.requires.kept (c.requires.represents t)
     c.requires.idle short x (g.D.Disk.seen mid) c.requires.target
     (c.prepare_begin.ensures.touches.seen t)
     (record {
@@ -108,25 +122,39 @@ returns-in-Ok-put_mark g c = λ staged.
       statuses = c.in-Ok.ensures.statuses t;
       stored = c.in-Ok.ensures.stored t;
     })
-    (target_stands d x c.requires.target text c.as_slice-text.ensures)
-    c.put_mark.ensures.read staged in
-    let next : c.begun.result ≡ begun_device d x.table =
-    c.begun.ensures
+    (target_stands apart d x c.requires.target text c.as_slice-text.ensures)
+    (subst (λ (m : UpdateMark). mark_of (mark_spelling m) ≡ Ok m) c.begun-mark.ensures
+    c.put_mark.ensures.read)
+    staged in
+    let next : c.with_target.result ≡ begun_device apart d x.table =
+    c.with_target.ensures
     ∙ ap (λ (plan : List Part).
     with_control (cleared_of d.control (other_slot d.mark.slot))
-    (with_update d marks.Installing (Some x.table) (Some plan)))
+    (with_update d (begun apart d.mark) (Some x.table) (Some plan)))
     c.requires.target.target.spelled.plan in
-    subst (λ (k : Device). Does g.D.Disk d staged Begin
-    (IsOfBegun told d bytes) old c.put_mark.new.d
+    subst (λ (k : Device). Does g.D.Disk d staged (begin_of apart)
+    (IsOfBegun told apart d bytes) old c.put_mark.new.d
     (Ok (k, replies.Done))) (sym next)
-    (does_gate g.D.Disk d staged Begin (IsOfBegun told d bytes) old mid V dead
-    c.prepare_begin.ensures.touches within c.put_mark.new.d (begun_device d x.table) replies.Done
-    2048 (mark_spelling (installing_mark d.mark.slot))
+    (does_gate g.D.Disk d staged (begin_of apart) (IsOfBegun told apart d bytes) old mid V dead
+    c.prepare_begin.ensures.touches within c.put_mark.new.d (begun_device apart d x.table)
+    replies.Done 2048 (mark_spelling (begun apart d.mark))
     (λ t. (step t).effect) (λ t. (step t).represents)
-    (λ t rest. c.put_mark.ensures.gate t (c.in-Ok.ensures.settled t))
-    c.put_mark.ensures.touches
-    (mark_in d x c.requires.target text c.as_slice-text.ensures told bytes c.requires.idle)
-    (begun_kept d size x c.requires.kept c.requires.idle c.requires.target)
+    (λ t rest.
+    subst
+    (λ (m : UpdateMark).
+    Adds g.D.Disk.moment g.D.Disk.outcomes mid c.put_mark.new.d
+    (LeavesEither (g.D.Disk.told mid) (g.D.Disk.seen mid)
+    (set_sector (g.D.Disk.seen mid) 2048 (mark_spelling m))))
+    c.begun-mark.ensures (c.put_mark.ensures.gate t (c.in-Ok.ensures.settled t)))
+    (subst
+    (λ (m : UpdateMark). Touches g.D.Disk (IsAt 2048 (mark_spelling m)) mid c.put_mark.new.d)
+    c.begun-mark.ensures c.put_mark.ensures.touches)
+    (mark_in apart d x c.requires.target text c.as_slice-text.ensures told bytes c.requires.idle)
+    (begun_kept apart d size x c.requires.kept c.requires.idle c.requires.target)
     (record { geometry = refl; slot = refl; parts = refl })
-    c.in-Ok-put_mark.ensures.written c.in-Ok-put_mark.ensures.settled
+    (subst
+    (λ (m : UpdateMark). told
+    → g.D.Disk.seen c.put_mark.new.d ≡ set_sector (g.D.Disk.seen mid) 2048 (mark_spelling m))
+    c.begun-mark.ensures c.in-Ok-put_mark.ensures.written)
+    c.in-Ok-put_mark.ensures.settled
     (c.in-Ok-put_mark.ensures.faults.steady ∙ c.in-Ok.ensures.faults.steady))

@@ -1,39 +1,72 @@
-use Rattle.std.proofs.Common.{◌≡◌, arith, ap, subst, sym, ◌∙◌, length}
+use Rattle.std.proofs.Common.{◌≡◌, ◌<◌, ℕ, Bool, List, arith, ap, subst, sym, ◌∙◌, length}
 use Rattle.std.specs.Prelude.{sum_by, IfOk}
 use Rattle.vab_tables.specs.declared.table.Table.{Table}
 use Rattle.vab_tables.specs.Rules.{KeepsRules}
 use Rattle.vab_layout.specs.declared.layout.Layout.{Layout}
 use Rattle.vab_blocks.specs.Runs.{runs_of}
 use Rattle.vab_layout.specs.Layout.{layout_of, first_device}
-use Rattle.vab_layout.specs.Slots.{other_slot, IsOwn, IsTarget, groups_of_slot}
+use Rattle.vab_layout.specs.declared.layout.Part.{Part}
+use Rattle.vab_layout.specs.Rules.{IsLayout}
+use Rattle.vab_layout.specs.Slots.{other_slot, twins_by, IsOwn, IsTargetBeside, groups_of_slot}
+use Rattle.vab_builder.specs.Judged.{IsGiven}
+use Rattle.vab_builder.specs.Update.{AreTwins, IsUpdateBeside}
+use Rattle.vab_builder.proofs.TwinLaws.{twins_are}
 use Rattle.vab_builder.proofs.TableLaws.{both_ok, layout_groups, layout_device, devices_same}
 use Rattle.vab_builder.proofs.TableLaws.{entries_few, runs_small}
 use Rattle.std.proofs.Common.{Ok, Result}
 use Rattle.std.proofs.lemmas.Result.{IfOk-weaker}
+use Rattle.vab_builder.specs.declared.edit.Edit.{Edit}
 use Rattle.vab_builder.specs.declared.fault.EditFault.{EditFault}
 use Rattle.vab_builder.specs.Asked.{edited_name, HasAsked, KeepsOthers}
-use Rattle.vab_builder.specs.Edits.{changed_by}
+use Rattle.vab_builder.specs.Edits.{changed_beside}
 use Rattle.vab_builder.proofs.applied.apply.Goals as goal
 
-pub change-requires : goal.change-requires
-change-requires c =
-    let slot = c.args.target_slot in
-    let from : c.in_ok-source.source ≡ layout_of c.args.source.now = c.in_ok-source.ensures.value in
-    let to : c.in_ok-old.old ≡ layout_of c.args.target.now = c.in_ok-old.ensures.value in
+-- what is said of the tables holds of the layouts
+updated : (slot : ℕ) (apart : Bool) (s t : Table) (old source : Layout) (twins : List Part)
+    → slot < 2
+    → IsLayout source
+    → IsLayout old
+    → source ≡ layout_of s
+    → old ≡ layout_of t
+    → twins ≡ twins_by apart source.parts
+    → IsOwn (other_slot slot) (layout_of s).parts
+    → IsTargetBeside slot (twins_by apart (layout_of s).parts) (layout_of s).parts
+    (layout_of t).parts
+    → s.devices ≡ t.devices
+    → IsUpdateBeside slot twins source old
+updated slot apart s t old source twins low from_rules to_rules from to are own target device =
+    let Is : Layout → Layout → Type 0 = λ a b.
+    IsTargetBeside slot (twins_by apart a.parts) a.parts b.parts in
+    let parts = subst (λ (a : Layout). Is a old) (sym from)
+    (subst (Is (layout_of s)) (sym to) target) in
     record {
-      low = c.requires.slot;
-      source_rules = c.in_ok-source.ensures.rules;
-      target_rules = c.in_ok-old.ensures.rules;
-      own = subst (λ (l : Layout). IsOwn (other_slot slot) l.parts) (sym from)
-          c.requires.source_own;
-      parts = subst (λ (l : Layout). IsTarget slot l.parts c.in_ok-old.old.parts) (sym from)
-          (subst (λ (l : Layout). IsTarget slot (layout_of c.args.source.now).parts l.parts)
-          (sym to) c.requires.target);
-      device = ap (λ (l : Layout). l.device) from ∙ layout_device c.args.source.now
-          ∙ ap first_device c.requires.device
-          ∙ sym (layout_device c.args.target.now)
+      low = low;
+      source_rules = from_rules;
+      target_rules = to_rules;
+      own = subst (λ (l : Layout). IsOwn (other_slot slot) l.parts) (sym from) own;
+      twins_are = subst (λ (l : List Part). AreTwins l source.parts) (sym are)
+          (twins_are apart source.parts);
+      parts = subst (λ (l : List Part). IsTargetBeside slot l source.parts old.parts) (sym are)
+          parts;
+      device = ap (λ (l : Layout). l.device) from ∙ layout_device s ∙ ap first_device device
+          ∙ sym (layout_device t)
           ∙ sym (ap (λ (l : Layout). l.device) to);
     }
+
+pub change-requires-clause-update : goal.change-requires-clause-update
+change-requires-clause-update c =
+    updated c.args.target_slot c.args.apart c.args.source.now c.args.target.now c.in_ok-old.old
+    c.in_ok-source.source _ c.requires.slot c.in_ok-source.ensures.rules c.in_ok-old.ensures.rules
+    c.in_ok-source.ensures.value c.in_ok-old.ensures.value c.twins.ensures c.requires.source_own
+    c.requires.target c.requires.device
+
+-- the twins of the layout are those of the table
+twins_same : (apart : Bool) (twins : List Part) (s source : Layout)
+    → source ≡ s
+    → twins ≡ twins_by apart source.parts
+    → twins ≡ twins_by apart s.parts
+twins_same apart twins s source from are =
+    are ∙ ap (λ (l : Layout). twins_by apart l.parts) from
 
 -- what is said of the layouts holds of the tables
 between : (P : Layout → Layout → Type 0) (old new : Layout) (target : Table)
@@ -45,6 +78,28 @@ between : (P : Layout → Layout → Type 0) (old new : Layout) (target : Table)
 between P old new target r from p is =
     IfOk-weaker r _ _
     (λ t same. subst (P (layout_of target)) (sym same) (subst (λ (l : Layout). P l new) from p)) is
+
+-- what the edit gives of the tables it gives of their layouts
+read_same : (slot : ℕ) (apart : Bool) (edit : Edit) (s t : Table) (old source : Layout)
+    (twins : List Part)
+    → source ≡ layout_of s
+    → old ≡ layout_of t
+    → twins ≡ twins_by apart source.parts
+    → changed_beside slot twins source old edit
+    ≡ changed_beside slot (twins_by apart (layout_of s).parts) (layout_of s) (layout_of t) edit
+read_same slot apart edit s t old source twins from to are =
+    let all : List Part = twins_by apart (layout_of s).parts in
+    ap (λ (ts : List Part). changed_beside slot ts source old edit)
+    (twins_same apart twins (layout_of s) source from are)
+    ∙ ap (λ (l : Layout). changed_beside slot all l old edit) from
+    ∙ ap (λ (l : Layout). changed_beside slot all (layout_of s) l edit) to
+
+pub change-requires-clause-passes : goal.change-requires-clause-passes
+change-requires-clause-passes c =
+    let same = read_same c.args.target_slot c.args.apart c.args.edit.now c.args.source.now
+    c.args.target.now c.in_ok-old.old c.in_ok-source.source _ c.in_ok-source.ensures.value
+    c.in_ok-old.ensures.value c.twins.ensures in
+    subst IsGiven (sym same) c.in_default.ensures.passes
 
 pub returns-clause-asked : goal.returns-clause-asked
 returns-clause-asked c =
@@ -105,13 +160,9 @@ returns-clause-groups c =
 
 pub returns-clause-layout : goal.returns-clause-layout
 returns-clause-layout c =
-    let slot = c.args.target_slot in
-    let edit = c.args.edit.now in
-    let by = λ (s : Layout). λ (t : Layout). changed_by slot s t edit in
+    let same = read_same c.args.target_slot c.args.apart c.args.edit.now c.args.source.now
+    c.args.target.now c.in_ok-old.old c.in_ok-source.source _ c.in_ok-source.ensures.value
+    c.in_ok-old.ensures.value c.twins.ensures in
     IfOk-weaker c.fitting.result _ _
-    (λ t is.
-    ap (λ (s : Layout). by s (layout_of c.args.target.now)) (sym c.in_ok-source.ensures.value)
-    ∙ ap (by c.in_ok-source.source) (sym c.in_ok-old.ensures.value)
-    ∙ c.in_ok-target.ensures.exact
-    ∙ ap (λ (l : Layout). Ok l) (sym is))
+    (λ t is. sym same ∙ c.in_ok-target.ensures.exact ∙ ap (λ (l : Layout). Ok l) (sym is))
     c.fitting.ensures.layout

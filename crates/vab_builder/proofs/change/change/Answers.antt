@@ -5,7 +5,8 @@ pub returns : goal.returns
 returns c =
     let a = c.args in
     let k =
-    given_keeps a.slot a.source.now a.target a.edit.now c.changed.result c.requires
+    given_keeps a.slot a.twins.now a.source.now a.target a.edit.now c.changed.result
+    c.requires.update
     c.changed.ensures in
     record {
       exact = c.changed.ensures;

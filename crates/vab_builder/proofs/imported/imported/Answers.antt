@@ -4,8 +4,8 @@ use Rattle.vab_tables.specs.declared.entries.Group.{Group}
 use Rattle.vab_layout.specs.declared.layout.Part.{Part}
 use Rattle.vab_layout.specs.declared.layout.Layout.{Layout}
 use Rattle.vab_layout.specs.Rules.{IsLayout}
-use Rattle.vab_layout.specs.Slots.{other_slot, own_parts, IsTarget, groups_of_slot}
-use Rattle.vab_builder.specs.Import.{imported}
+use Rattle.vab_layout.specs.Slots.{other_slot, own_parts, IsTargetBeside, twins_by, groups_of_slot}
+use Rattle.vab_builder.specs.Import.{imported_by}
 use Rattle.vab_builder.proofs.ImportLaws.{own_parts_groups_long, imported_is_layout}
 use Rattle.vab_builder.proofs.ImportLaws.{imported_is_target, imported_groups_of_slot}
 use Rattle.vab_builder.proofs.imported.imported.Goals as goal
@@ -18,7 +18,7 @@ imported_parts-requires-clause-long c =
     (own_parts_groups_long source c.args.layout.now.parts c.requires.own)
 
 pub returns-clause-value : goal.returns-clause-value
-unfolding imported
+unfolding imported_by
 returns-clause-value c =
     let parts = c.from_vec.ensures in
     let parts_are = c.in_ok-parts.ensures in
@@ -31,7 +31,8 @@ returns-clause-value c =
 pub returns-clause-rules : goal.returns-clause-rules
 returns-clause-rules c =
     subst IsLayout (sym (returns-clause-value c))
-    (imported_is_layout c.args.source c.args.layout.now c.requires.slot c.requires.rules
+    (imported_is_layout c.args.apart c.args.source c.args.layout.now c.requires.slot
+    c.requires.rules
     c.requires.own)
 
 pub returns-clause-target : goal.returns-clause-target
@@ -39,12 +40,14 @@ returns-clause-target c =
     let source = c.args.source in
     let before = c.args.layout.now in
     let is = ap (λ (l : Layout). l.parts) (returns-clause-value c) in
-    subst (λ (ps : List Part). IsTarget (other_slot source) before.parts ps) (sym is)
-    (imported_is_target source before c.requires.slot c.requires.rules c.requires.own)
+    subst (λ (ps : List Part). IsTargetBeside (other_slot source)
+    (twins_by c.args.apart before.parts)
+    before.parts ps) (sym is)
+    (imported_is_target c.args.apart source before c.requires.slot c.requires.rules c.requires.own)
 
 pub returns-clause-groups : goal.returns-clause-groups
 returns-clause-groups c =
     let source = c.args.source in
     let is = ap (λ (l : Layout). l.groups) (returns-clause-value c) in
     ap (λ (gs : List Group). groups_of_slot (other_slot source) gs) is
-    ∙ imported_groups_of_slot source c.args.layout.now c.requires.slot
+    ∙ imported_groups_of_slot c.args.apart source c.args.layout.now c.requires.slot

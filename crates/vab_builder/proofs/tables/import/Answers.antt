@@ -9,7 +9,7 @@ use Rattle.vab_builder.proofs.TableLaws.{entries_few, runs_small}
 use Rattle.std.specs.Prelude.{sum_by}
 use Rattle.vab_blocks.specs.Runs.{runs_of}
 use Rattle.std.proofs.lemmas.Result.{IfOk-weaker}
-use Rattle.vab_builder.specs.Import.{imported}
+use Rattle.vab_builder.specs.Import.{imported_by}
 use Rattle.vab_builder.proofs.tables.import.Goals as goal
 
 pub fitting-requires-clause-groups : goal.fitting-requires-clause-groups
@@ -21,8 +21,7 @@ fitting-requires-clause-groups c =
       is,
       from,
       ap length (layout_groups c.args.table.now),
-      imported_groups_count
-          c.args.source c.in_ok-layout.layout,
+      imported_groups_count c.args.apart c.args.source c.in_ok-layout.layout,
       entries_few c.args.table.now c.requires.small,
     )
 
@@ -38,7 +37,7 @@ fitting-requires-clause-runs c =
       arith,
       is,
       from,
-      imported_runs c.args.source c.in_ok-layout.layout,
+      imported_runs c.args.apart c.args.source c.in_ok-layout.layout,
       runs_small
           c.args.table.now c.requires.keeps c.requires.small,
     )
@@ -49,7 +48,7 @@ returns-clause-device c =
     (λ t. t.devices ≡ c.args.table.now.devices)
     (λ t keeps is. devices_same t c.args.table.now keeps c.requires.keeps
     (ap (λ (l : Layout). l.device) (is ∙ c.in_ok-target.ensures.value)
-    ∙ imported_device c.args.source c.in_ok-layout.layout
+    ∙ imported_device c.args.apart c.args.source c.in_ok-layout.layout
     ∙ ap (λ (l : Layout). l.device) c.in_ok-layout.ensures.value))
     c.fitting.ensures.rules c.fitting.ensures.layout
 
@@ -70,5 +69,6 @@ pub returns-clause-layout : goal.returns-clause-layout
 returns-clause-layout c =
     IfOk-weaker c.fitting.result _ _
     (λ t is.
-    is ∙ c.in_ok-target.ensures.value ∙ ap (imported c.args.source) c.in_ok-layout.ensures.value)
+    is ∙ c.in_ok-target.ensures.value ∙ ap (imported_by c.args.apart c.args.source)
+    c.in_ok-layout.ensures.value)
     c.fitting.ensures.layout

@@ -11,29 +11,31 @@ use Rattle.vab_cli.proofs.CopiesLeft.{opened_copies, fresh_copies, demo_copies, 
 use Rattle.vab_cli.proofs.Programs.{command_verb, serve_verb, fresh_verb, make_verb, other_verb}
 use Rattle.vab_cli.proofs.program.do_verb.Goals as goal
 
-pub returns-in-Serve-true-clause-does : goal.returns-in-Serve-true-clause-does
-returns-in-Serve-true-clause-does g c =
-    let is : meaning_of c.args.verb ≡ Serve true = search rules in
+pub returns-then-fresh-clause-does : goal.returns-then-fresh-clause-does
+returns-then-fresh-clause-does g c =
+    let is : meaning_of c.args.verb ≡ Serve true c.in-Serve.turns =
+    search (rules, c.if-fresh.true) in
     fresh_verb g.P.Disk (meaning_of c.args.verb) c.args.port.now c.make_and_serve.new.port
     c.make_and_serve.result c.make_and_serve.ensures.words c.make_and_serve.ensures.steady
     c.make_and_serve.ensures.disk c.make_and_serve.ensures.port
-    is c.make_and_serve.ensures.runs c.make_and_serve.ensures.small
+    c.in-Serve.turns is c.make_and_serve.ensures.runs c.make_and_serve.ensures.small
     c.make_and_serve.ensures.too_small c.make_and_serve.ensures.changes
     c.make_and_serve.ensures.unmerged
     (fresh_copies g.P.Disk (meaning_of c.args.verb) c.args.port.now c.make_and_serve.new.port
-    c.make_and_serve.result is c.make_and_serve.ensures.copies)
+    c.make_and_serve.result c.in-Serve.turns is c.make_and_serve.ensures.copies)
     c.make_and_serve.ensures.writes
 
-pub returns-in-Serve-false-clause-does : goal.returns-in-Serve-false-clause-does
-returns-in-Serve-false-clause-does g c =
-    let is : meaning_of c.args.verb ≡ Serve false = search rules in
+pub returns-else-fresh-clause-does : goal.returns-else-fresh-clause-does
+returns-else-fresh-clause-does g c =
+    let is : meaning_of c.args.verb ≡ Serve false c.in-Serve.turns =
+    search (rules, c.if-fresh.false) in
     serve_verb g.P.Disk (meaning_of c.args.verb) c.args.port.now c.open_and_serve.new.port
     c.open_and_serve.result c.open_and_serve.ensures.words c.open_and_serve.ensures.steady
     c.open_and_serve.ensures.disk c.open_and_serve.ensures.port
-    is c.open_and_serve.ensures.runs c.open_and_serve.ensures.none
+    c.in-Serve.turns is c.open_and_serve.ensures.runs c.open_and_serve.ensures.none
     c.open_and_serve.ensures.changes c.open_and_serve.ensures.unmerged
     (opened_copies g.P.Disk (meaning_of c.args.verb) c.args.port.now c.open_and_serve.new.port
-    c.open_and_serve.result (Serve false) is (λ other. cc)
+    c.open_and_serve.result (Serve false c.in-Serve.turns) is (λ k other. cc)
     (λ seed scale other. cc)
     c.open_and_serve.ensures.copies)
     c.open_and_serve.ensures.writes c.open_and_serve.ensures.unheard
@@ -47,7 +49,7 @@ returns-in-Boot-clause-does g c =
     c.carry_out.ensures.runs c.carry_out.ensures.none c.carry_out.ensures.changes
     c.carry_out.ensures.quiet
     (opened_copies g.P.Disk (meaning_of c.args.verb) c.args.port.now c.carry_out.new.port
-    c.carry_out.result words.Boot is (λ other. cc)
+    c.carry_out.result words.Boot is (λ k other. cc)
     (λ seed scale other. cc)
     c.carry_out.ensures.copies)
 
@@ -62,7 +64,7 @@ returns-in-Mark-clause-does g c =
     c.carry_out-in-Mark.ensures.changes
     c.carry_out-in-Mark.ensures.quiet
     (opened_copies g.P.Disk (meaning_of c.args.verb) c.args.port.now c.carry_out-in-Mark.new.port
-    c.carry_out-in-Mark.result words.Mark is (λ other. cc)
+    c.carry_out-in-Mark.result words.Mark is (λ k other. cc)
     (λ seed scale other. cc)
     c.carry_out-in-Mark.ensures.copies)
 
@@ -77,7 +79,7 @@ returns-in-BeginMerge-clause-does g c =
     done.runs done.none done.changes done.quiet
     (opened_copies g.P.Disk (meaning_of c.args.verb) c.args.port.now
     c.carry_out-in-BeginMerge.new.port
-    c.carry_out-in-BeginMerge.result words.BeginMerge is (λ other. cc)
+    c.carry_out-in-BeginMerge.result words.BeginMerge is (λ k other. cc)
     (λ seed scale other. cc)
     c.carry_out-in-BeginMerge.ensures.copies)
 
@@ -90,7 +92,7 @@ returns-in-Merge-clause-does g c =
     (λ port. inr (done.port port)) (Merge c.in-Merge.turns) (ap command_of is)
     done.runs done.none done.changes done.quiet
     (opened_copies g.P.Disk (meaning_of c.args.verb) c.args.port.now c.carry_out-in-Merge.new.port
-    c.carry_out-in-Merge.result (words.Merge c.in-Merge.turns) is (λ other. cc)
+    c.carry_out-in-Merge.result (words.Merge c.in-Merge.turns) is (λ k other. cc)
     (λ seed scale other. cc)
     c.carry_out-in-Merge.ensures.copies)
 
@@ -105,7 +107,7 @@ returns-in-Cancel-clause-does g c =
     c.carry_out-in-Cancel.ensures.changes
     c.carry_out-in-Cancel.ensures.quiet
     (opened_copies g.P.Disk (meaning_of c.args.verb) c.args.port.now c.carry_out-in-Cancel.new.port
-    c.carry_out-in-Cancel.result words.Cancel is (λ other. cc)
+    c.carry_out-in-Cancel.result words.Cancel is (λ k other. cc)
     (λ seed scale other. cc)
     c.carry_out-in-Cancel.ensures.copies)
 
@@ -122,7 +124,7 @@ returns-in-Activate-clause-does g c =
     c.carry_out-in-Activate.ensures.quiet
     (opened_copies g.P.Disk (meaning_of c.args.verb) c.args.port.now
     c.carry_out-in-Activate.new.port
-    c.carry_out-in-Activate.result (words.Activate c.in-Activate.slot) is (λ other. cc)
+    c.carry_out-in-Activate.result (words.Activate c.in-Activate.slot) is (λ k other. cc)
     (λ seed scale other. cc)
     c.carry_out-in-Activate.ensures.copies)
 
@@ -135,7 +137,7 @@ returns-in-Print-clause-does g c =
     c.print.ensures.runs c.print.ensures.none c.print.ensures.changes
     c.print.ensures.quiet
     (opened_copies g.P.Disk (meaning_of c.args.verb) c.args.port.now c.print.new.port
-    c.print.result (words.Print c.as_bytes.result.now) is (λ other. cc)
+    c.print.result (words.Print c.as_bytes.result.now) is (λ k other. cc)
     (λ seed scale other. cc)
     c.print.ensures.copies)
 
@@ -151,7 +153,7 @@ returns-in-Digest-clause-does g c =
     c.carry_out-in-Digest.ensures.changes
     c.carry_out-in-Digest.ensures.quiet
     (opened_copies g.P.Disk (meaning_of c.args.verb) c.args.port.now c.carry_out-in-Digest.new.port
-    c.carry_out-in-Digest.result (words.Digest c.as_bytes-in-Digest.result.now) is (λ other. cc)
+    c.carry_out-in-Digest.result (words.Digest c.as_bytes-in-Digest.result.now) is (λ k other. cc)
     (λ seed scale other. cc)
     c.carry_out-in-Digest.ensures.copies)
 
@@ -160,11 +162,11 @@ returns-in-Install-clause-does g c =
     let is : meaning_of c.args.verb ≡ words.Install = search rules in
     other_verb g.P.Disk (meaning_of c.args.verb) c.args.port.now c.install.new.port
     c.install.result c.install.ensures.words c.install.ensures.steady c.install.ensures.disk
-    c.install.ensures.port words.Install is refl (λ fresh other. cc) (λ limit max other. cc)
+    c.install.ensures.port words.Install is refl (λ fresh k other. cc) (λ limit max other. cc)
     (λ same. c.install.ensures.runs) (λ other. cc)
     (λ seed scale other. cc) (λ slot other. cc)
     (opened_copies g.P.Disk (meaning_of c.args.verb) c.args.port.now c.install.new.port
-    c.install.result words.Install is (λ other. cc)
+    c.install.result words.Install is (λ k other. cc)
     (λ seed scale other. cc)
     c.install.ensures.copies)
 
@@ -174,11 +176,11 @@ returns-in-Status-clause-does g c =
     other_verb g.P.Disk (meaning_of c.args.verb) c.args.port.now c.tell_page.new.port
     c.tell_page.result c.tell_page.ensures.words c.tell_page.ensures.steady
     c.tell_page.ensures.disk (λ port. inr (c.tell_page.ensures.port port))
-    words.Status is refl (λ fresh other. cc) (λ limit max other. cc)
+    words.Status is refl (λ fresh k other. cc) (λ limit max other. cc)
     (λ other. cc) (λ same. c.tell_page.ensures.tells) (λ seed scale other. cc)
     (λ slot other. cc)
     (opened_copies g.P.Disk (meaning_of c.args.verb) c.args.port.now c.tell_page.new.port
-    c.tell_page.result words.Status is (λ other. cc)
+    c.tell_page.result words.Status is (λ k other. cc)
     (λ seed scale other. cc)
     c.tell_page.ensures.copies)
 
@@ -188,7 +190,7 @@ returns-in-Demo-clause-does g c =
     other_verb g.P.Disk (meaning_of c.args.verb) c.args.port.now c.demo.new.port
     c.demo.result c.demo.ensures.words c.demo.ensures.steady
     c.demo.ensures.disk (λ port. inr (c.demo.ensures.port port))
-    (words.Demo c.in-Demo.seed c.in-Demo.scale) is refl (λ fresh other. cc)
+    (words.Demo c.in-Demo.seed c.in-Demo.scale) is refl (λ fresh k other. cc)
     (λ limit max other. cc) (λ other. cc) (λ other. cc)
     (λ seed scale same.
     let one : c.in-Demo.seed ≡ seed = cc in
@@ -210,7 +212,7 @@ returns-in-Adopt-clause-does g c =
     other_verb g.P.Disk (meaning_of c.args.verb) c.args.port.now c.adopt.new.port
     c.adopt.result done.words done.steady
     done.disk (λ port. inr (done.port port))
-    (words.Adopt c.in-Adopt.slot) is refl (λ fresh other. cc)
+    (words.Adopt c.in-Adopt.slot) is refl (λ fresh k other. cc)
     (λ limit max other. cc) (λ other. cc) (λ other. cc) (λ seed scale other. cc)
     (λ slot same.
     let one : c.in-Adopt.slot ≡ slot = cc in
@@ -223,7 +225,7 @@ returns-in-Adopt-clause-does g c =
       quiet = done.quiet;
     }))
     (no_copies g.P.Disk (meaning_of c.args.verb) c.args.port.now c.adopt.new.port c.adopt.result
-    (words.Adopt c.in-Adopt.slot) is refl (λ fresh other. cc) (λ other. cc) (λ other. cc)
+    (words.Adopt c.in-Adopt.slot) is refl (λ fresh k other. cc) (λ other. cc) (λ other. cc)
     (λ seed scale other. cc))
 
 pub returns-in-Boot-clause-explains : goal.returns-in-Boot-clause-explains
@@ -327,9 +329,10 @@ returns-in-Adopt-clause-explains g c = λ t.
     (sym is)
     (c.adopt.ensures.unadopted t, c.adopt.ensures.dropped t)
 
-pub returns-in-Serve-true-clause-explains : goal.returns-in-Serve-true-clause-explains
-returns-in-Serve-true-clause-explains g c = λ t.
-    let is : meaning_of c.args.verb ≡ Serve true = search rules in
+pub returns-then-fresh-clause-explains : goal.returns-then-fresh-clause-explains
+returns-then-fresh-clause-explains g c = λ t.
+    let is : meaning_of c.args.verb ≡ Serve true c.in-Serve.turns =
+    search (rules, c.if-fresh.true) in
     subst
     (λ (m : Meaning).
     Explains g.P.Disk c.args.port.now m c.make_and_serve.result
@@ -337,9 +340,10 @@ returns-in-Serve-true-clause-explains g c = λ t.
     (sym is)
     (c.make_and_serve.ensures.unmade t, c.make_and_serve.ensures.broken_off t)
 
-pub returns-in-Serve-false-clause-explains : goal.returns-in-Serve-false-clause-explains
-returns-in-Serve-false-clause-explains g c = λ t.
-    let is : meaning_of c.args.verb ≡ Serve false = search rules in
+pub returns-else-fresh-clause-explains : goal.returns-else-fresh-clause-explains
+returns-else-fresh-clause-explains g c = λ t.
+    let is : meaning_of c.args.verb ≡ Serve false c.in-Serve.turns =
+    search (rules, c.if-fresh.false) in
     subst
     (λ (m : Meaning).
     Explains g.P.Disk c.args.port.now m c.open_and_serve.result
@@ -389,5 +393,5 @@ returns-in-Make-clause-does g c =
     done.words done.steady done.disk done.port c.in-Make.limit c.in-Make.metadata_max is
     done.made done.refused done.malformed done.changes done.end done.heard done.within done.small
     (no_copies g.P.Disk (meaning_of c.args.verb) c.args.port.now c.make.new.port c.make.result
-    (words.Make c.in-Make.limit c.in-Make.metadata_max) is refl (λ fresh other. cc) (λ other. cc)
+    (words.Make c.in-Make.limit c.in-Make.metadata_max) is refl (λ fresh k other. cc) (λ other. cc)
     (λ other. cc) (λ seed scale other. cc))

@@ -55,7 +55,8 @@ returns-in-Err-clause-runs g c = λ t enough.
     c.in-Err.ensures.exact in
     let early : IsEarly c.from.result =
     subst IsEarly (sym c.from.ensures) (made_early c.in-Err.fault gives) in
-    inr (making_failed g.P.Disk g.met.P.Disk.only_now size [] 0 65536 old c.make_device.new.d
+    inr (making_failed g.P.Disk g.met.P.Disk.only_now size c.args.turns [] 0 65536 old
+    c.make_device.new.d
     c.from.result early (c.make_device.ensures.touches.quiet.told t)
     (λ memory. inl (untouched_stays g.P.Disk g.met.P.Disk.only_now size old c.make_device.new.d
     (c.in-Err.ensures.untouched
@@ -146,7 +147,8 @@ returns-in-Err-start-clause-runs g c = λ t enough.
     (c.in-Err-start.ensures.fault t (contents_of c.in-Err-start.fault is))) in
     let early : IsEarly c.from-in-Err-start.result =
     subst IsEarly (sym c.from-in-Err-start.ensures) (early_of c.in-Err-start.fault other) in
-    inr (opening_failed g.P.Disk g.met.P.Disk.only_now size [] 0 65536 old mid c.start.new.d
+    inr (opening_failed g.P.Disk g.met.P.Disk.only_now size c.args.turns [] 0 65536 old mid
+    c.start.new.d
     c.from-in-Err-start.result early (c.make_device.ensures.touches.quiet.told t)
     (c.start.ensures.quiet.told t)
     (λ memory.
@@ -172,7 +174,7 @@ returns-clause-runs g c = λ t enough.
     let old = c.args.port.now in
     let mid = c.make_device.new.d in
     let now = c.start.new.d in
-    let new = c.serve-answer.new.p in
+    let new = c.serve_with-answer.new.p in
     let size = g.P.Disk.size old in
     let first = made_device_of [] 0 65536 size in
     let sized : g.P.Disk.size mid ≡ size = c.make_device.ensures.touches.quiet.size in
@@ -197,10 +199,11 @@ returns-clause-runs g c = λ t enough.
     subst (λ (n : ℕ). Represents d n (g.P.Disk.seen now)) sized
     (c.in-Ok-start.ensures.represents t) in
     let serves = subst
-    (λ (n : ℕ). ServesDevice n g.P.Disk d (2 ^ 44) now new c.serve-answer.result)
-    sized_now (c.serve-answer.ensures.serves t) in
-    let runs = made_runs g.P.Disk g.met.P.Disk.only_now size [] 0 65536 d old mid now new
-    c.serve-answer.result
+    (λ (n : ℕ). ServesDevice n g.P.Disk d (2 ^ 44) c.args.turns now new c.serve_with-answer.result)
+    sized_now (c.serve_with-answer.ensures.serves t) in
+    let runs = made_runs g.P.Disk g.met.P.Disk.only_now size c.args.turns [] 0 65536 d old mid now
+    new
+    c.serve_with-answer.result
     (c.make_device.ensures.touches.quiet.told t) (c.make_device.ensures.touches.quiet.left t)
     (c.make_device.ensures.touches.quiet.heard t) made (c.in-Ok.ensures.settled t)
     (subst
@@ -213,7 +216,8 @@ returns-clause-runs g c = λ t enough.
     inl (subst
     (λ (x : Status).
     RunsSession g.P.Disk size
-    (LeavesMaking (g.P.Disk.told old) [] 0 65536 size (g.P.Disk.seen old)) first old new x)
+    (LeavesMaking (g.P.Disk.told old) [] 0 65536 size (g.P.Disk.seen old)) c.args.turns first old
+    new x)
     (sym c.session_status.ensures) runs)
 
 -- no device is made
@@ -294,11 +298,11 @@ pub returns-clause-changes : goal.returns-clause-changes
 returns-clause-changes g c = λ t.
     let sized : g.P.Disk.size c.make_device.new.d ≡ g.P.Disk.size c.args.port.now =
     c.make_device.ensures.touches.quiet.size in
-    let by = c.serve-answer.ensures.changes t in
+    let by = c.serve_with-answer.ensures.changes t in
     serves_made g.P.Disk c.from_vec-set.result c.args.port.now c.make_device.new.d c.start.new.d
     (search rules) sized (c.in-Ok.ensures.made t) (c.in-Ok.ensures.version t)
     c.make_device.ensures.touches
-    (c.start.ensures.touches t) IsOfAll t c.in-Ok-start.device c.serve-answer.new.p
+    (c.start.ensures.touches t) IsOfAll t c.in-Ok-start.device c.serve_with-answer.new.p
     (subst
     (λ (n : ℕ). Represents c.in-Ok-start.device n (g.P.Disk.seen c.start.new.d)) sized
     (c.in-Ok-start.ensures.represents t))
@@ -308,17 +312,17 @@ pub returns-clause-unmerged : goal.returns-clause-unmerged
 returns-clause-unmerged g c = λ t none.
     let sized : g.P.Disk.size c.make_device.new.d ≡ g.P.Disk.size c.args.port.now =
     c.make_device.ensures.touches.quiet.size in
-    let by = c.serve-answer.ensures.changes t in
+    let by = c.serve_with-answer.ensures.changes t in
     let left : g.P.Disk.input_left c.start.new.d ≡ g.P.Disk.input_left c.args.port.now =
     c.start.ensures.quiet.left t ∙ c.make_device.ensures.touches.quiet.left t in
     serves_made g.P.Disk c.from_vec-set.result c.args.port.now c.make_device.new.d c.start.new.d
     (search rules) sized (c.in-Ok.ensures.made t) (c.in-Ok.ensures.version t)
     c.make_device.ensures.touches
-    (c.start.ensures.touches t) IsOfCommands t c.in-Ok-start.device c.serve-answer.new.p
+    (c.start.ensures.touches t) IsOfCommands t c.in-Ok-start.device c.serve_with-answer.new.p
     (subst
     (λ (n : ℕ). Represents c.in-Ok-start.device n (g.P.Disk.seen c.start.new.d)) sized
     (c.in-Ok-start.ensures.represents t))
-    (by.plain (subst (MergesNothing (2 ^ 44)) (sym left) none))
+    (by.plain (subst (MergesNothing (2 ^ 44) c.args.turns) (sym left) none))
 
 pub returns-in-Err-clause-unmade : goal.returns-in-Err-clause-unmade
 returns-in-Err-clause-unmade g c = λ t none.
@@ -351,14 +355,15 @@ returns-in-Err-start-clause-broken_off g c = λ t bad.
 
 pub returns-clause-unmade : goal.returns-clause-unmade
 returns-clause-unmade g c = λ t none.
-    session_opened c.serve-answer.result (sym c.session_status.ensures ∙ none)
+    session_opened c.serve_with-answer.result (sym c.session_status.ensures ∙ none)
 
 pub returns-clause-broken_off : goal.returns-clause-broken_off
 returns-clause-broken_off g c = λ t bad.
-    session_broken g.P.Disk (g.P.Disk.size c.start.new.d) c.in-Ok-start.device c.args.port.now
-    c.start.new.d c.serve-answer.new.p c.serve-answer.result c.session_cause.result
+    session_broken c.args.turns g.P.Disk (g.P.Disk.size c.start.new.d) c.in-Ok-start.device
+    c.args.port.now
+    c.start.new.d c.serve_with-answer.new.p c.serve_with-answer.result c.session_cause.result
     (c.start.ensures.quiet.left t ∙ c.make_device.ensures.touches.quiet.left t)
-    (c.serve-answer.ensures.serves t) c.session_cause.ensures
+    (c.serve_with-answer.ensures.serves t) c.session_cause.ensures
     (sym c.session_status.ensures ∙ bad)
 
 pub returns-in-Err-clause-copies : goal.returns-in-Err-clause-copies
@@ -375,10 +380,10 @@ returns-in-Err-start-clause-copies g c = λ t ends.
 
 pub returns-clause-copies : goal.returns-clause-copies
 returns-clause-copies g c = λ t ends.
-    subst (λ (n : ℕ). HasBothCopies n (g.P.Disk.seen c.serve-answer.new.p))
+    subst (λ (n : ℕ). HasBothCopies n (g.P.Disk.seen c.serve_with-answer.new.p))
     (c.start.ensures.quiet.size ∙ c.make_device.ensures.touches.quiet.size)
-    (c.serve-answer.ensures.copies t
-    (session_held c.serve-answer.result
+    (c.serve_with-answer.ensures.copies t
+    (session_held c.serve_with-answer.result
     (subst IsAnswered c.session_status.ensures (ended_answers _ ends))))
 
 pub returns-in-Err-clause-writes : goal.returns-in-Err-clause-writes
@@ -404,9 +409,9 @@ returns-clause-writes g c = λ t.
     let size = g.P.Disk.size c.args.port.now in
     let mid = c.make_device.new.d in
     let sized : g.P.Disk.size mid ≡ size = c.make_device.ensures.touches.quiet.size in
-    writes_opened g.P.Disk (InSectors (IsOfMaking [] 65536)) size c.in-Ok-start.device
-    c.serve-answer.result c.session_status.result c.args.port.now c.start.new.d
-    c.serve-answer.new.p t
+    writes_opened c.args.turns g.P.Disk (InSectors (IsOfMaking [] 65536)) size c.in-Ok-start.device
+    c.serve_with-answer.result c.session_status.result c.args.port.now c.start.new.d
+    c.serve_with-answer.new.p t
     (c.start.ensures.quiet.size ∙ sized)
     (c.start.ensures.quiet.left t ∙ c.make_device.ensures.touches.quiet.left t)
     (subst
@@ -417,4 +422,4 @@ returns-clause-writes g c = λ t.
     (c.in-Ok.ensures.version t) c.make_device.ensures.touches (c.start.ensures.touches t)
     IsOfAll)
     (λ rest. c.in-Ok-start.ensures.settled t (c.in-Ok.ensures.settled t))
-    c.session_status.ensures (c.serve-answer.ensures.writes t)
+    c.session_status.ensures (c.serve_with-answer.ensures.writes t)

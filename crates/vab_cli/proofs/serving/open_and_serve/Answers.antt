@@ -21,16 +21,17 @@ pub returns-clause-runs : goal.returns-clause-runs
 returns-clause-runs g c = λ t s stands.
     let old = c.args.port.now in
     let mid = c.open.new.port in
-    let new = c.serve-answer.new.p in
+    let new = c.serve_with-answer.new.p in
     let size = g.P.Disk.size old in
     let d = c.in-Ok.device in
     let serves = subst
-    (λ (n : ℕ). ServesDevice n g.P.Disk d (2 ^ 44) mid new c.serve-answer.result)
-    c.open.ensures.size (c.serve-answer.ensures.serves t) in
-    let runs = opened_runs g.P.Disk g.met.P.Disk.only_now size d s old mid new c.serve-answer.result
+    (λ (n : ℕ). ServesDevice n g.P.Disk d (2 ^ 44) c.args.turns mid new c.serve_with-answer.result)
+    c.open.ensures.size (c.serve_with-answer.ensures.serves t) in
+    let runs = opened_runs g.P.Disk g.met.P.Disk.only_now size c.args.turns d s old mid new
+    c.serve_with-answer.result
     (c.in-Ok.ensures.opens t) stands (c.in-Ok.ensures.represents t) serves in
     inl (subst
-    (λ (x : Status). RunsSession g.P.Disk size (λ o. ⊥) s old new x)
+    (λ (x : Status). RunsSession g.P.Disk size (λ o. ⊥) c.args.turns s old new x)
     (sym c.session_status.ensures) runs)
 
 pub returns-in-Err-clause-changes : goal.returns-in-Err-clause-changes
@@ -47,19 +48,19 @@ returns-in-Err-clause-unmerged g c = λ t s stands none.
 
 pub returns-clause-changes : goal.returns-clause-changes
 returns-clause-changes g c = λ t s stands.
-    let by = c.serve-answer.ensures.changes t in
+    let by = c.serve_with-answer.ensures.changes t in
     served_changes g.P.Disk (g.P.Disk.size c.args.port.now) IsOfAll c.in-Ok.device
-    c.args.port.now c.open.new.port c.serve-answer.new.p t (c.in-Ok.ensures.represents t)
+    c.args.port.now c.open.new.port c.serve_with-answer.new.p t (c.in-Ok.ensures.represents t)
     (c.open.ensures.changes t) by.all
 
 pub returns-clause-unmerged : goal.returns-clause-unmerged
 returns-clause-unmerged g c = λ t s stands none.
-    let by = c.serve-answer.ensures.changes t in
+    let by = c.serve_with-answer.ensures.changes t in
     let opens = c.in-Ok.ensures.opens t in
     served_changes g.P.Disk (g.P.Disk.size c.args.port.now) IsOfCommands c.in-Ok.device
-    c.args.port.now c.open.new.port c.serve-answer.new.p t (c.in-Ok.ensures.represents t)
+    c.args.port.now c.open.new.port c.serve_with-answer.new.p t (c.in-Ok.ensures.represents t)
     (c.open.ensures.changes t)
-    (by.plain (subst (MergesNothing (2 ^ 44)) (sym opens.left) none))
+    (by.plain (subst (MergesNothing (2 ^ 44) c.args.turns) (sym opens.left) none))
 
 pub returns-in-Err-clause-broken_off : goal.returns-in-Err-clause-broken_off
 returns-in-Err-clause-broken_off g c = λ t bad.
@@ -70,14 +71,16 @@ returns-in-Err-clause-broken_off g c = λ t bad.
 
 pub returns-clause-unopened : goal.returns-clause-unopened
 returns-clause-unopened g c = λ t none.
-    session_opened c.serve-answer.result (sym c.session_status.ensures ∙ none)
+    session_opened c.serve_with-answer.result (sym c.session_status.ensures ∙ none)
 
 pub returns-clause-broken_off : goal.returns-clause-broken_off
 returns-clause-broken_off g c = λ t bad.
     let opens = c.in-Ok.ensures.opens t in
-    session_broken g.P.Disk (g.P.Disk.size c.open.new.port) c.in-Ok.device c.args.port.now
-    c.open.new.port c.serve-answer.new.p c.serve-answer.result c.session_cause.result opens.left
-    (c.serve-answer.ensures.serves t) c.session_cause.ensures
+    session_broken c.args.turns g.P.Disk (g.P.Disk.size c.open.new.port) c.in-Ok.device
+    c.args.port.now
+    c.open.new.port c.serve_with-answer.new.p c.serve_with-answer.result c.session_cause.result
+    opens.left
+    (c.serve_with-answer.ensures.serves t) c.session_cause.ensures
     (sym c.session_status.ensures ∙ bad)
 
 pub returns-in-Err-clause-copies : goal.returns-in-Err-clause-copies
@@ -88,9 +91,9 @@ returns-in-Err-clause-copies g c = λ t s stands answers.
 
 pub returns-clause-copies : goal.returns-clause-copies
 returns-clause-copies g c = λ t s stands answers.
-    subst (λ (n : ℕ). HasBothCopies n (g.P.Disk.seen c.serve-answer.new.p)) c.open.ensures.size
-    (c.serve-answer.ensures.copies t
-    (session_held c.serve-answer.result (subst IsAnswered c.session_status.ensures answers)))
+    subst (λ (n : ℕ). HasBothCopies n (g.P.Disk.seen c.serve_with-answer.new.p)) c.open.ensures.size
+    (c.serve_with-answer.ensures.copies t
+    (session_held c.serve_with-answer.result (subst IsAnswered c.session_status.ensures answers)))
 
 pub returns-in-Err-clause-writes : goal.returns-in-Err-clause-writes
 returns-in-Err-clause-writes g c = λ t s stands.
@@ -99,10 +102,11 @@ returns-in-Err-clause-writes g c = λ t s stands.
 pub returns-clause-writes : goal.returns-clause-writes
 returns-clause-writes g c = λ t s stands.
     let opens = c.in-Ok.ensures.opens t in
-    writes_opened g.P.Disk _ (g.P.Disk.size c.args.port.now) c.in-Ok.device c.serve-answer.result
-    c.session_status.result c.args.port.now c.open.new.port c.serve-answer.new.p t
+    writes_opened c.args.turns g.P.Disk _ (g.P.Disk.size c.args.port.now) c.in-Ok.device
+    c.serve_with-answer.result
+    c.session_status.result c.args.port.now c.open.new.port c.serve_with-answer.new.p t
     c.open.ensures.size opens.left (c.in-Ok.ensures.represents t) (c.open.ensures.changes t)
-    opens.settled c.session_status.ensures (c.serve-answer.ensures.writes t)
+    opens.settled c.session_status.ensures (c.serve_with-answer.ensures.writes t)
 
 pub returns-in-Err-clause-unheard : goal.returns-in-Err-clause-unheard
 returns-in-Err-clause-unheard g c = λ t fault none. c.open.ensures.quiet t

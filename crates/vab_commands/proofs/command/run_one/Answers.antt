@@ -8,6 +8,7 @@ use Rattle.vab_model.specs.declared.command.Command.{Command as CommandOfCode}
 use Rattle.vab_model.specs.declared.command.Reply.{Reply}
 use Rattle.vab_model.specs.Commands.{Command, command_of, Print, Digest}
 use Rattle.vab_model.specs.Effects.{answers}
+use Rattle.vab_model.specs.Machine.{machine_effect}
 use Rattle.vab_device.specs.declared.device.Device.{Device}
 use Rattle.vab_device.specs.Does.{Does}
 use Rattle.vab_device.specs.Kept.{IsDevice}
@@ -71,6 +72,12 @@ returns-in-Begin g c =
     c.args.command.now _ _ _ c.in-Begin.is
     (c.begin.ensures (option_map (λ s. s.now) c.args.staged))
 
+pub returns-in-Factory : goal.returns-in-Factory
+returns-in-Factory g c =
+    of g.D.Disk c.args.device (option_map (λ s. s.now) c.args.staged) c.args.d.now
+    c.args.command.now _ _ _ c.in-Factory.is
+    (c.begin-in-Factory.ensures (option_map (λ s. s.now) c.args.staged))
+
 pub returns-in-Create : goal.returns-in-Create
 returns-in-Create g c =
     of g.D.Disk c.args.device (option_map (λ s. s.now) c.args.staged) c.args.d.now
@@ -114,6 +121,7 @@ returns-in-Cancel g c =
     (c.cancel.ensures (option_map (λ s. s.now) c.args.staged))
 
 pub returns-in-Print : goal.returns-in-Print
+unfolding machine_effect
 returns-in-Print g c =
     of g.D.Disk c.args.device (option_map (λ s. s.now) c.args.staged) c.args.d.now
     c.args.command.now _ _ _ c.in-Print.is
@@ -136,6 +144,7 @@ returns-in-Merge g c =
     (c.merge.ensures (option_map (λ s. s.now) c.args.staged))
 
 pub returns-in-Ok : goal.returns-in-Ok
+unfolding machine_effect
 returns-in-Ok g c =
     of g.D.Disk c.args.device (option_map (λ s. s.now) c.args.staged) c.args.d.now
     c.args.command.now _ _ _ c.in-Digest.is

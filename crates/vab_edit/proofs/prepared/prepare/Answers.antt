@@ -11,7 +11,7 @@ use Rattle.vab_edit.proofs.prepared.prepare.Goals as goal
 may_be_edited : (d : Device) (size : ℕ) (s t : Table)
     → IsDevice d size
     → HasTables d s t
-    → MayBeEdited d.geometry.max d.mark.slot s t
+    → MayBeEdited d.mark.apart d.geometry.max d.mark.slot s t
 may_be_edited d size s t kept has =
     let source = kept_table d size d.mark.slot s kept kept.slot has.source in
     let target = kept_table d size (other_slot d.mark.slot) t kept (omega arith) has.target in

@@ -5,7 +5,8 @@ use Rattle.vab_disk.specs.Calls.{Touches}
 use Rattle.vab_disk.specs.Written.{set_here}
 use Rattle.vab_bootctl.specs.declared.slots.Control.{Control}
 use Rattle.vab_bootctl.specs.Control.{control_of}
-use Rattle.vab_marks.specs.Mark.{mark_spelling, staged_mark}
+use Rattle.vab_marks.specs.declared.mark.MarkPhase.TheVariants as marks
+use Rattle.vab_marks.specs.Mark.{mark_spelling, rephased}
 use Rattle.vab_layout.specs.Slots.{other_slot}
 use Rattle.vab_install.specs.Control.{cleared_of, HasControl, IsControl}
 use Rattle.vab_model.specs.declared.command.Reply.TheVariants as replies
@@ -80,7 +81,7 @@ returns-in-Err-put_mark g c = λ staged.
     c.requires.ready))
     touches (λ t s b w. record { ready = c.requires.ready; writes = inl w })
     c.put_mark.new.d (finished_device d) replies.Done 2048
-    (mark_spelling (staged_mark d.mark.slot))
+    (mark_spelling (rephased marks.Staged d.mark))
     (λ t. (step t).effect) (λ t. (step t).represents)
     (λ t rest. c.put_mark.ensures.gate t (c.in-Ok.ensures.settled t))
     c.put_mark.ensures.touches
@@ -112,7 +113,7 @@ returns-in-Ok-put_mark g c = λ staged.
     c.requires.ready))
     touches (λ t s b w. record { ready = c.requires.ready; writes = inl w })
     c.put_mark.new.d (finished_device d) replies.Done 2048
-    (mark_spelling (staged_mark d.mark.slot))
+    (mark_spelling (rephased marks.Staged d.mark))
     (λ t. (step t).effect) (λ t. (step t).represents)
     (λ t rest. c.put_mark.ensures.gate t (c.in-Ok.ensures.settled t))
     c.put_mark.ensures.touches

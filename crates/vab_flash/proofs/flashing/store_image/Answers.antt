@@ -3,6 +3,7 @@ use Rattle.std.proofs.Common.{ap, subst, ◌∙◌}
 use Rattle.vab_disk.specs.Calls.{InSectors, SameBut}
 use Rattle.vab_space.specs.Chunks.{need_at}
 use Rattle.vab_marks.specs.declared.status.PartStatus.{PartStatus}
+use Rattle.vab_marks.specs.declared.status.StatusImage.TheVariants.{Stored}
 use Rattle.vab_store.specs.Layout.{InFirst}
 use Rattle.vab_store.specs.Writing.{planned_of}
 use Rattle.vab_model.specs.Commands.{Flash}
@@ -18,20 +19,20 @@ use Rattle.vab_flash.specs.Chosen.{store_at, store_long, with_written}
 use Rattle.vab_flash.specs.Touched.{IsOfFlash}
 use Rattle.vab_device.proofs.DoesLaws.{does_nothing, fails_dead, fails_gate, does_gate}
 use Rattle.vab_flash.proofs.FlashLaws.{base_all}
-use Rattle.vab_flash.proofs.ReadyLaws.{no_memory}
-use Rattle.vab_flash.proofs.GatedLaws.{apart_at, disjoint_at, dead_at, name_short, in_flash}
-use Rattle.vab_flash.proofs.GatedLaws.{both, name_is, status_in_flash, written_kept}
+use Rattle.vab_flash.proofs.ReadyLaws.{apart, disjoint, first_dead, no_memory}
+use Rattle.vab_flash.proofs.GatedLaws.{name_short, in_flash, stored, name_is, status_in_flash}
+use Rattle.vab_flash.proofs.GatedLaws.{kept_stored}
 use Rattle.vab_flash.proofs.flashing.store_image.Goals as goal
 
 pub write_place-requires-clause-apart : goal.write_place-requires-clause-apart
 write_place-requires-clause-apart g c = λ t.
-    apart_at c.args.device (g.D.Disk.size c.args.d.now) (g.D.Disk.seen c.args.d.now) c.requires.kept
+    apart c.args.device (g.D.Disk.size c.args.d.now) (g.D.Disk.seen c.args.d.now) c.requires.kept
     (c.requires.represents t) c.args.name.now (Some c.args.bytes.now) c.args.place c.args.bytes.now
     c.requires.chosen
 
 pub write_place-requires-clause-disjoint : goal.write_place-requires-clause-disjoint
 write_place-requires-clause-disjoint g c = λ t.
-    disjoint_at c.args.device (g.D.Disk.size c.args.d.now) (g.D.Disk.seen c.args.d.now)
+    disjoint c.args.device (g.D.Disk.size c.args.d.now) (g.D.Disk.seen c.args.d.now)
     c.requires.kept (c.requires.represents t) c.args.name.now (Some c.args.bytes.now) c.args.place
     c.args.bytes.now c.requires.chosen
 
@@ -71,12 +72,13 @@ returns-in-Err-Disk g c =
     fails_dead g.D.Disk d (Some c.args.bytes.now) (Flash name k) (IsOfFlash d name) disk
     c.write_place.new.d (InSectors (InFirst (store_at d c.args.place) n))
     (λ t image but.
-    dead_at d (g.D.Disk.size disk) (g.D.Disk.seen disk) c.requires.kept (c.requires.represents t)
+    first_dead d (g.D.Disk.size disk) (g.D.Disk.seen disk) c.requires.kept (c.requires.represents t)
     name
     (Some c.args.bytes.now) c.args.place c.args.bytes.now c.requires.chosen n image
     c.requires.listed.room but)
     c.write_place.ensures.touches
-    (λ t. in_flash d name c.args.place n c.requires.chosen.has c.requires.listed.room)
+    (λ t. in_flash d name (Some c.args.bytes.now) c.args.place c.args.bytes.now n c.requires.chosen
+    c.requires.listed.room)
     c.in-Err-Disk.fault
     (subst (λ f. CountsFaults {X = List Exception} g.D.Disk disk c.write_place.new.d (Err f))
     c.in-Err-Disk.field-0-is c.in-Err-Disk.ensures.counts)
@@ -95,12 +97,13 @@ returns-in-Err g c =
     ap (λ (q : Part). q.name ++ suffix_of (1 - d.mark.slot)) c.planned_at.ensures
     ∙ name_is d name c.args.place c.requires.chosen.has in
     let status : PartStatus =
-    record { name = c.full_name.result; count = c.count.result; chunk = k } in
-    let status_is : status ≡ record { name = name; count = length es; chunk = k } =
-    (λ j. record { name = (c.full_name.ensures ∙ same) j; count = c.count.ensures j; chunk = k })
+    record { name = c.full_name.result; image = Stored c.count.result k } in
+    let status_is : status ≡ record { name = name; image = Stored (length es) k } =
+    (λ j. record { name = (c.full_name.ensures ∙ same) j; image = Stored (c.count.ensures j) k })
     in
     let gate = λ (t : g.D.Disk.is_modelled).
-    both d (g.D.Disk.size disk) (g.D.Disk.seen disk) c.requires.kept (c.requires.represents t) name
+    stored d (g.D.Disk.size disk) (g.D.Disk.seen disk) c.requires.kept (c.requires.represents t)
+    name
     (Some c.args.bytes.now) c.args.place c.args.bytes.now c.requires.chosen k
     (λ s lt. (g.met.D.Disk.whole disk s (g.D.Disk.seen disk s) lt
     (g.met.D.Disk.seen_held disk s)).long)
@@ -118,18 +121,19 @@ returns-in-Err g c =
     fails_gate g.D.Disk d (Some c.args.bytes.now) (Flash name k) (IsOfFlash d name) disk mid
     (InSectors (InFirst (store_at d c.args.place) n))
     (λ t image but.
-    dead_at d (g.D.Disk.size disk) (g.D.Disk.seen disk) c.requires.kept (c.requires.represents t)
+    first_dead d (g.D.Disk.size disk) (g.D.Disk.seen disk) c.requires.kept (c.requires.represents t)
     name
     (Some c.args.bytes.now) c.args.place c.args.bytes.now c.requires.chosen n image
     c.requires.listed.room but)
     c.write_place.ensures.touches
-    (λ t. in_flash d name c.args.place n c.requires.chosen.has c.requires.listed.room)
+    (λ t. in_flash d name (Some c.args.bytes.now) c.args.place c.args.bytes.now n c.requires.chosen
+    c.requires.listed.room)
     c.put_status.new.d (with_written d c.args.place k es) Done c.args.free
     (status_spelling status)
     (λ t. (gate t).0) (λ t. (gate t).1) (λ t rest. c.put_status.ensures.gate t (ok.settled t))
     c.put_status.ensures.touches
-    (status_in_flash d name c.args.place c.args.free (length es) k status c.requires.chosen.has
-    c.requires.there status_is)
+    (status_in_flash d name c.args.place c.args.free (Stored (length es) k) status
+    c.requires.chosen.has c.requires.there status_is)
     c.in-Err.fault c.in-Err.ensures.faults.cause
 
 pub returns-in-Ok-put_status : goal.returns-in-Ok-put_status
@@ -146,12 +150,13 @@ returns-in-Ok-put_status g c =
     ap (λ (q : Part). q.name ++ suffix_of (1 - d.mark.slot)) c.planned_at.ensures
     ∙ name_is d name c.args.place c.requires.chosen.has in
     let status : PartStatus =
-    record { name = c.full_name.result; count = c.count.result; chunk = k } in
-    let status_is : status ≡ record { name = name; count = length es; chunk = k } =
-    (λ j. record { name = (c.full_name.ensures ∙ same) j; count = c.count.ensures j; chunk = k })
+    record { name = c.full_name.result; image = Stored c.count.result k } in
+    let status_is : status ≡ record { name = name; image = Stored (length es) k } =
+    (λ j. record { name = (c.full_name.ensures ∙ same) j; image = Stored (c.count.ensures j) k })
     in
     let gate = λ (t : g.D.Disk.is_modelled).
-    both d (g.D.Disk.size disk) (g.D.Disk.seen disk) c.requires.kept (c.requires.represents t) name
+    stored d (g.D.Disk.size disk) (g.D.Disk.seen disk) c.requires.kept (c.requires.represents t)
+    name
     (Some c.args.bytes.now) c.args.place c.args.bytes.now c.requires.chosen k
     (λ s lt. (g.met.D.Disk.whole disk s (g.D.Disk.seen disk s) lt
     (g.met.D.Disk.seen_held disk s)).long)
@@ -172,19 +177,20 @@ returns-in-Ok-put_status g c =
     (does_gate g.D.Disk d (Some c.args.bytes.now) (Flash name k) (IsOfFlash d name) disk mid
     (InSectors (InFirst (store_at d c.args.place) n))
     (λ t image but.
-    dead_at d (g.D.Disk.size disk) (g.D.Disk.seen disk) c.requires.kept (c.requires.represents t)
+    first_dead d (g.D.Disk.size disk) (g.D.Disk.seen disk) c.requires.kept (c.requires.represents t)
     name
     (Some c.args.bytes.now) c.args.place c.args.bytes.now c.requires.chosen n image
     c.requires.listed.room but)
     c.write_place.ensures.touches
-    (λ t. in_flash d name c.args.place n c.requires.chosen.has c.requires.listed.room)
+    (λ t. in_flash d name (Some c.args.bytes.now) c.args.place c.args.bytes.now n c.requires.chosen
+    c.requires.listed.room)
     c.put_status.new.d (with_written d c.args.place k es) Done c.args.free
     (status_spelling status)
     (λ t. (gate t).0) (λ t. (gate t).1) (λ t rest. c.put_status.ensures.gate t (ok.settled t))
     c.put_status.ensures.touches
-    (status_in_flash d name c.args.place c.args.free (length es) k status c.requires.chosen.has
-    c.requires.there status_is)
-    (written_kept d (g.D.Disk.size disk) name (Some c.args.bytes.now) c.args.place c.args.bytes.now
+    (status_in_flash d name c.args.place c.args.free (Stored (length es) k) status
+    c.requires.chosen.has c.requires.there status_is)
+    (kept_stored d (g.D.Disk.size disk) name (Some c.args.bytes.now) c.args.place c.args.bytes.now
     k es c.requires.kept c.requires.chosen ok.fits)
     (record { geometry = refl; slot = refl; parts = refl })
     (λ t. c.in-Ok-put_status.ensures.written t) (λ t. c.in-Ok-put_status.ensures.settled t)

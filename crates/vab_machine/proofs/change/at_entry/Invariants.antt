@@ -1,5 +1,5 @@
 use Rattle.std.proofs.Common.{◌≡◌, take}
-use Rattle.vab_machine.specs.Plans.{at_entry}
+use Rattle.vab_model.specs.Plans.{at_entry}
 use Rattle.vab_machine.specs.Changes.{change_of}
 use Rattle.vab_machine.proofs.change.at_entry.Given as goal
 

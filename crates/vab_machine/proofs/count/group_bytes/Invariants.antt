@@ -1,5 +1,5 @@
 use Rattle.std.proofs.Common.{◌≡◌, ◌+◌, ◌*◌, drop}
-use Rattle.vab_machine.specs.Plans.{group_bytes}
+use Rattle.vab_model.specs.Plans.{group_bytes}
 use Rattle.vab_machine.proofs.count.group_bytes.Given as goal
 
 abbrev pub invariant-loop-entry : goal.invariant-loop-entry

@@ -1,5 +1,5 @@
 use Rattle.std.proofs.Common.{◌≡◌, drop}
-use Rattle.vab_machine.specs.Plans.{bytes_named}
+use Rattle.vab_model.specs.Plans.{bytes_named}
 use Rattle.vab_machine.proofs.parts.bytes_named.Given as goal
 
 abbrev pub invariant-loop-image : goal.invariant-loop-image

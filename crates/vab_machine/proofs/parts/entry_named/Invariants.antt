@@ -1,5 +1,5 @@
 use Rattle.std.proofs.Common.{◌≡◌, drop}
-use Rattle.vab_machine.specs.Plans.{entry_named}
+use Rattle.vab_model.specs.Plans.{entry_named}
 use Rattle.vab_machine.proofs.parts.entry_named.Given as goal
 
 abbrev pub invariant-loop-entry : goal.invariant-loop-entry

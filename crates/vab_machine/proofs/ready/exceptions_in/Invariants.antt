@@ -1,5 +1,5 @@
 use Rattle.std.proofs.Common.{◌≡◌, ◌+◌, drop}
-use Rattle.vab_machine.specs.Machine.{exceptions_in}
+use Rattle.vab_model.specs.Machine.{exceptions_in}
 use Rattle.vab_machine.proofs.ready.exceptions_in.Given as goal
 
 abbrev pub invariant-loop-entry : goal.invariant-loop-entry

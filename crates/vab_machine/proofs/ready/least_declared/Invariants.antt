@@ -1,5 +1,5 @@
 use Rattle.std.proofs.Common.{◌≡◌, drop, None}
-use Rattle.vab_machine.specs.Machine.{least_declared}
+use Rattle.vab_model.specs.Machine.{least_declared}
 use Rattle.vab_machine.proofs.ready.least_declared.Given as goal
 
 abbrev pub invariant-loop-entry : goal.invariant-loop-entry

@@ -2,7 +2,7 @@ use Rattle.std.proofs.Common.{◌≡◌, ◌∙◌, ℕ, Bool, length, sym, ap, 
 use Rattle.vab_space.specs.Chunks.{chunks_for}
 use Rattle.vab_space.specs.Differing.{chunk_differs}
 use Rattle.vab_space.proofs.DifferingLaws.{passing, chunks_fewest, differing_is}
-use Rattle.vab_machine.specs.Staged.{differs}
+use Rattle.vab_model.specs.Staged.{differs}
 use Rattle.vab_machine.proofs.staged.differences.Goals as goal
 
 pub returns-clause-exact : goal.returns-clause-exact

@@ -1,7 +1,7 @@
 use Rattle.std.proofs.Common.{◌≡◌, ◌≤◌, length}
 use Rattle.vab_space.specs.Differing.{chunk_differs}
 use Rattle.vab_space.proofs.DifferingLaws.{passing}
-use Rattle.vab_machine.specs.Staged.{differs}
+use Rattle.vab_model.specs.Staged.{differs}
 use Rattle.vab_machine.proofs.staged.differences.Given as goal
 
 abbrev pub invariant-loop-c : goal.invariant-loop-c

@@ -1,4 +1,4 @@
-use Rattle.vab_machine_laws.proofs.Begins.{begin_is}
+use Rattle.vab_machine_laws.proofs.Begins.{update_is, factory_is}
 use Rattle.vab_machine_laws.proofs.Creates.{create_is}
 use Rattle.vab_machine_laws.proofs.Deletes.{delete_is}
 use Rattle.vab_machine_laws.proofs.Snapshots.{snapshot_is}
@@ -6,7 +6,10 @@ use Rattle.vab_machine_laws.proofs.Resizes.{resize_is}
 use Rattle.vab_machine_laws.proofs.edits.edits_are_the_machines.Goals as goal
 
 pub returns-clause-begin : goal.returns-clause-begin
-returns-clause-begin c = begin_is c.plans_by_sizes.ensures.begun
+returns-clause-begin c = update_is c.plans_by_sizes.ensures.begun
+
+pub returns-clause-factory : goal.returns-clause-factory
+returns-clause-factory c = factory_is c.plans_by_sizes.ensures.begun
 
 pub returns-clause-delete : goal.returns-clause-delete
 returns-clause-delete c = delete_is c.plans_by_sizes.ensures.edited

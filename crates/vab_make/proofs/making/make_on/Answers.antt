@@ -60,12 +60,12 @@ returns-clause-touches g c =
 pub returns-clause-made : goal.returns-clause-made
 returns-clause-made g c = λ t limit is.
     let size = g.D.Disk.size c.args.d.now in
-    let idle : IsIdle c.idle_mark.result =
-    record { mark = c.idle_mark.ensures.mark; version = c.idle_mark.ensures.version } in
+    let idle : IsIdle c.mark_sector.result =
+    record { mark = c.mark_sector.ensures.mark; version = c.mark_sector.ensures.version } in
     on_ok_weaker c.put_gate-2.result
     (λ now.
     subst (λ (i : Image). IsMade c.args.set.now limit c.args.max size i) (sym now)
-    (marked c.args.set.now limit c.args.max size c.args.text.now c.idle_mark.result
+    (marked c.args.set.now limit c.args.max size c.args.text.now c.mark_sector.result
     (g.D.Disk.seen c.settle_contents.new.d) (g.met.D.Disk.small c.args.d.now) is
     (c.in_ok-settle_contents.ensures.all t) idle))
     (c.put_gate-2.ensures.written t)
@@ -74,7 +74,7 @@ pub returns-clause-copies : goal.returns-clause-copies
 returns-clause-copies g c = λ t.
     on_ok_weaker c.put_gate-2.result
     (λ now.
-    places_marked c.args.max c.args.text.now c.idle_mark.result
+    places_marked c.args.max c.args.text.now c.mark_sector.result
     (g.D.Disk.seen c.settle_contents.new.d) (g.D.Disk.seen c.put_gate-2.new.d) c.requires.most now
     (c.in_ok-settle_contents.ensures.all t).places)
     (c.put_gate-2.ensures.written t)
@@ -86,7 +86,7 @@ returns-clause-control g c = λ t.
     (λ now.
     ap control_of
     (ap (λ (i : Image). i 4) now
-    ∙ set_there full 2048 c.idle_mark.result 4 (λ e. omega (arith, e)))
+    ∙ set_there full 2048 c.mark_sector.result 4 (λ e. omega (arith, e)))
     ∙ (c.in_ok-settle_contents.ensures.all t).control)
     (c.put_gate-2.ensures.written t)
 
@@ -96,8 +96,8 @@ returns-clause-version g c = λ t.
     on_ok_weaker c.put_gate-2.result
     (λ now.
     ap (λ (i : Image). version_in (i 2048)) now
-    ∙ ap version_in (set_here full 2048 c.idle_mark.result 2048 refl)
-    ∙ c.idle_mark.ensures.version)
+    ∙ ap version_in (set_here full 2048 c.mark_sector.result 2048 refl)
+    ∙ c.mark_sector.ensures.version)
     (c.put_gate-2.ensures.written t)
 
 pub returns-clause-rest : goal.returns-clause-rest
@@ -113,7 +113,7 @@ returns-clause-rest g c = λ t.
     (λ now.
     let last : new 4 ≡ full 4 =
     ap (λ (i : Image). i 4) now
-    ∙ set_there full 2048 c.idle_mark.result 4 (λ e. omega (arith, e)) in
+    ∙ set_there full 2048 c.mark_sector.result 4 (λ e. omega (arith, e)) in
     subst (λ (b : List ℕ). KeepsRest (blanked b) (new 4)) first
     (subst (λ (b : List ℕ). KeepsRest (blanked (mid 4)) b) (sym last)
     (c.in_ok-settle_contents.ensures.rest t)))
@@ -131,9 +131,9 @@ returns-clause-time g c = λ t limit is rest.
     mark_stays c.args.set.now c.args.max mid full (c.settle_contents.ensures.touches.seen t)
     ∙ blank in
     let made =
-    marked c.args.set.now limit c.args.max size c.args.text.now c.idle_mark.result full
+    marked c.args.set.now limit c.args.max size c.args.text.now c.mark_sector.result full
     (g.met.D.Disk.small c.args.d.now) is (c.in_ok-settle_contents.ensures.all t)
-    (record { mark = c.idle_mark.ensures.mark; version = c.idle_mark.ensures.version }) in
+    (record { mark = c.mark_sector.ensures.mark; version = c.mark_sector.ensures.version }) in
     adds_on g.D.Disk.moment g.D.Disk.outcomes _ _ _ _ _
     (adds_on g.D.Disk.moment g.D.Disk.outcomes _ _ _ _ _
     (adds_wider g.D.Disk.moment g.D.Disk.outcomes _ _ _ _ (c.put_gate.ensures.gate t rest)
@@ -145,6 +145,6 @@ returns-clause-time g c = λ t limit is rest.
     (c.in_ok-put_gate.ensures.settled t) blank))
     (c.put_gate-2.ensures.gate t (c.in_ok-settle_contents.ensures.settled t))
     (last_making told c.args.set.now limit c.args.max size old c.requires.room.enough
-    (g.D.Disk.told c.settle_contents.new.d) c.idle_mark.result full
+    (g.D.Disk.told c.settle_contents.new.d) c.mark_sector.result full
     (c.settle_contents.ensures.touches.quiet.told t ∙ c.put_gate.ensures.touches.quiet.told t)
     still made)

@@ -13,9 +13,12 @@ front c =
       c.put_le64.ensures,
       c.put-3.ensures,
       c.text.ensures.value,
+      c.count.ensures,
       c.put_le16.ensures,
       c.sectors.ensures,
+      c.chunk.ensures,
       c.put-2.ensures,
+      c.state.ensures,
       c.put.ensures,
       c.blank-bytes.ensures,
     ) refl in

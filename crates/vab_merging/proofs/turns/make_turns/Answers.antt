@@ -1,5 +1,5 @@
 use Rattle.std.proofs.Common.{◌≡◌, ℕ, ◌+◌, ◌-◌, arith, subst, Ok}
-use Rattle.vab_merge_run.specs.Run.{MakesTurns}
+use Rattle.vab_merging.specs.Run.{MakesTurns}
 use Rattle.vab_merging.proofs.MadeLaws.{SoFar, starts, fails, goes_on, all_made, none_more}
 use Rattle.vab_merging.proofs.turns.make_turns.Goals as goal
 

@@ -1,5 +1,5 @@
 use Rattle.std.proofs.Common.{◌≡◌, ◌-◌, ◌≤◌}
-use Rattle.vab_merge_run.specs.Turns.{next_of}
+use Rattle.vab_merging.specs.Turns.{next_of}
 use Rattle.vab_merging.proofs.MadeLaws.{SoFar}
 use Rattle.vab_merging.proofs.turns.make_turns.Given as goal
 

@@ -13,26 +13,26 @@ use Rattle.vab_partitions.proofs.PartCases.{named_small, fresh_as}
 use Rattle.vab_partitions.proofs.beside.is_target_part.Goals as goal
 use Rattle.vab_partitions.proofs.beside.is_target_part.Goals.{then-part-ne0, else-part-ne0}
 
--- the blocks of the source's partition
-before_is : (slot : ℕ) (source : List Part) (name twin text before : List ℕ)
-    → before ≡ blocks_named text source
+-- the blocks of its twin
+before_is : (slot : ℕ) (twins : List Part) (name twin text before : List ℕ)
+    → before ≡ blocks_named text twins
     → text ≡ twin
     → twin ≡ in_slot (1 - slot) name
-    → before ≡ before_of slot source name
-before_is slot source name twin text before is same in_other =
-    is ∙ ap (λ (n : List ℕ). blocks_named n source) (same ∙ in_other)
+    → before ≡ before_of slot twins name
+before_is slot twins name twin text before is same in_other =
+    is ∙ ap (λ (n : List ℕ). blocks_named n twins) (same ∙ in_other)
 
 -- they are few
-before_few : (slot : ℕ) (source : List Part) (name twin text before : List ℕ)
-    → IsOwn (other_slot slot) source
-    → before ≡ blocks_named text source
+before_few : (slot : ℕ) (twins : List Part) (name twin text before : List ℕ)
+    → IsOwn (other_slot slot) twins
+    → before ≡ blocks_named text twins
     → text ≡ twin
     → twin ≡ in_slot (1 - slot) name
     → length before ≤ 2 ^ 28
-before_few slot source name twin text before own is same in_other =
+before_few slot twins name twin text before own is same in_other =
     let small =
-    named_small (1 - slot) (in_slot (1 - slot) name) source own (in_slot_is (1 - slot) name) in
-    omega (arith, ap length (before_is slot source name twin text before is same in_other), small)
+    named_small (1 - slot) (in_slot (1 - slot) name) twins own (in_slot_is (1 - slot) name) in
+    omega (arith, ap length (before_is slot twins name twin text before is same in_other), small)
 
 pub in_slot-requires-clause-long : goal.in_slot-requires-clause-long
 in_slot-requires-clause-long c =
@@ -40,20 +40,20 @@ in_slot-requires-clause-long c =
 
 pub begins-requires-clause-before : goal.begins-requires-clause-before
 begins-requires-clause-before c =
-    before_few c.args.slot c.args.source.now c.args.part.now.name _ _ c.in_ok-before.before
-    c.requires.source c.in_ok-before.ensures c.text.ensures.value c.in_slot.ensures
+    before_few c.args.slot c.args.twins.now c.args.part.now.name _ _ c.in_ok-before.before
+    c.requires.twins c.in_ok-before.ensures c.text.ensures.value c.in_slot.ensures
 
 pub len-requires : goal.len-requires
 len-requires c =
     let few =
-    before_few c.args.slot c.args.source.now c.args.part.now.name _ _ c.in_ok-before.before
-    c.requires.source c.in_ok-before.ensures c.text.ensures.value c.in_slot.ensures in
+    before_few c.args.slot c.args.twins.now c.args.part.now.name _ _ c.in_ok-before.before
+    c.requires.twins c.in_ok-before.ensures c.text.ensures.value c.in_slot.ensures in
     omega (arith, few)
 
 pub returns-then-not-branch-2 : goal.returns-then-not-branch-2
 returns-then-not-branch-2 c =
     let before =
-    before_is c.args.slot c.args.source.now c.args.part.now.name _ _ c.in_ok-before.before
+    before_is c.args.slot c.args.twins.now c.args.part.now.name _ _ c.in_ok-before.before
     c.in_ok-before.ensures c.text.ensures.value c.in_slot.ensures in (
       λ t. absurd (let wrong : false ≡ true = t in cc),
       λ is. sym c.if-not-branch-2.true
@@ -75,16 +75,17 @@ returns c =
     let p : Part = c.args.part.now in
     let slot = c.args.slot in
     let source = c.args.source.now in
+    let twins = c.args.twins.now in
     let was : List ℕ = c.in_ok-before.before in
-    let before : was ≡ before_of slot source p.name =
-    before_is slot source p.name _ _ was c.in_ok-before.ensures c.text.ensures.value
+    let before : was ≡ before_of slot twins p.name =
+    before_is slot twins p.name _ _ was c.in_ok-before.ensures c.text.ensures.value
     c.in_slot.ensures in
     let begins =
     subst (λ (l : List ℕ). take (length l) p.blocks ≡ take (length p.blocks) l) before
     (c.in_ok-begins.ensures.0 c.if-not-branch.false) in
     let fresh =
     fresh_as c.args.taken.now (blocks_of_parts (own_parts (other_slot slot) source)) p.blocks
-    c.len.result (length (before_of slot source p.name)) c.requires.taken
+    c.len.result (length (before_of slot twins p.name)) c.requires.taken
     (c.len.ensures ∙ ap length before)
     (c.in_ok-is_fresh.ensures.0 c.if-not-branch-2.false) in
     elim c.if-part-ne0.branch [

@@ -2,7 +2,7 @@ use Rattle.std.proofs.Common.{◌≡◌, Bool, true, false, ap, subst, sym, ◌�
 use Rattle.std.specs.Prelude.{◌↔◌, IsTrue, MatchBool}
 use Rattle.std.proofs.lemmas.Result.{IfOk-weaker}
 use Rattle.vab_names.specs.Names.{is_of_slot}
-use Rattle.vab_layout.specs.Slots.{IsOwnPart, IsTargetPart, IsStorePart}
+use Rattle.vab_layout.specs.Slots.{IsOwnPart, IsTargetPartBeside, IsStorePart}
 use Rattle.vab_partitions.proofs.beside.keeps_alone.Goals as goal
 
 pub returns-then-not-is_of_slot : goal.returns-then-not-is_of_slot
@@ -15,7 +15,8 @@ returns-then-not-is_of_slot c =
     IfOk-weaker c.is_store_part.result _ _
     (λ ok told.
     subst (λ (b : Bool). IsTrue ok
-    ↔ MatchBool b (IsOwnPart a.slot p × IsTargetPart a.slot a.source.now a.target.now p)
+    ↔ MatchBool b (IsOwnPart a.slot p × IsTargetPartBeside a.slot a.twins.now a.source.now
+    a.target.now p)
     (IsStorePart a.slot a.source.now a.target.now p)) (sym other) told)
     c.is_store_part.ensures
 
@@ -30,7 +31,8 @@ returns c =
     IfOk-weaker c.is_target_part.result _ _
     (λ ok told.
     subst (λ (b : Bool). IsTrue ok
-    ↔ MatchBool b (IsOwnPart a.slot p × IsTargetPart a.slot a.source.now a.target.now p)
+    ↔ MatchBool b (IsOwnPart a.slot p × IsTargetPartBeside a.slot a.twins.now a.source.now
+    a.target.now p)
     (IsStorePart a.slot a.source.now a.target.now p)) (sym own)
     (λ t. (rules, told.0 t), λ both. told.1 both.1))
     c.is_target_part.ensures

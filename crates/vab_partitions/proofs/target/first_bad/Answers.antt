@@ -13,17 +13,19 @@ use Rattle.vab_partitions.proofs.target.first_bad.Goals.{else-is_of_target-via-e
 pub loop-part-init : goal.loop-part-init
 loop-part-init c =
     stands_first c.args.most c.args.slot
-    (KeepsAlone c.args.slot c.args.source.now c.args.target.now) c.args.target.now
+    (KeepsAlone c.args.slot c.args.twins.now c.args.source.now c.args.target.now) c.args.target.now
     c.in_ok-front.front c.in_ok-front.ensures
 
 pub join-requires-clause-few : goal.join-requires-clause-few
 join-requires-clause-few c =
-    own_few c.args.most c.args.slot (KeepsAlone c.args.slot c.args.source.now c.args.target.now)
+    own_few c.args.most c.args.slot (KeepsAlone c.args.slot c.args.twins.now c.args.source.now
+    c.args.target.now)
     c.args.target.now c.loop-part.part-index c.loop-part.front c.loop-part.invariant
 
 pub join-requires-clause-apart : goal.join-requires-clause-apart
 join-requires-clause-apart c =
-    apart_next c.args.most c.args.slot (KeepsAlone c.args.slot c.args.source.now c.args.target.now)
+    apart_next c.args.most c.args.slot (KeepsAlone c.args.slot c.args.twins.now c.args.source.now
+    c.args.target.now)
     c.args.target.now c.loop-part.part-index c.loop-part.front c.part-item.result
     c.loop-part.invariant c.loop-part-test.true c.part-item.is
     (sym c.is_of_target.ensures ∙ c.if-is_of_target.true)
@@ -31,7 +33,8 @@ join-requires-clause-apart c =
 -- what is refused may not stand behind what was seen
 pub returns-then-not-branch-clause-first : goal.returns-then-not-branch-clause-first
 returns-then-not-branch-clause-first c =
-    bad_first c.args.most c.args.slot (KeepsAlone c.args.slot c.args.source.now c.args.target.now)
+    bad_first c.args.most c.args.slot (KeepsAlone c.args.slot c.args.twins.now c.args.source.now
+    c.args.target.now)
     c.args.target.now c.loop-part.part-index c.loop-part.front c.part-item.result
     c.loop-part.invariant c.loop-part-test.true c.part-item.is
     (sym c.is_of_target.ensures ∙ c.if-is_of_target.true)
@@ -42,14 +45,16 @@ pub returns-then-not-branch-clause-kept : goal.returns-then-not-branch-clause-ke
 returns-then-not-branch-clause-kept c = (
   λ none. absurd (let wrong : true ≡ false = none in cc),
   λ is. absurd (bad_not_together c.args.most c.args.slot
-      (KeepsAlone c.args.slot c.args.source.now c.args.target.now) c.args.target.now
+      (KeepsAlone c.args.slot c.args.twins.now c.args.source.now c.args.target.now)
+      c.args.target.now
       c.part-item.result.name (returns-then-not-branch-clause-first c)
-      (target_together c.args.most c.args.slot c.args.source.now c.args.target.now is)),
+      (target_together c.args.most c.args.slot c.args.twins.now c.args.source.now c.args.target.now
+      is)),
 )
 
 pub returns-then-not-branch-clause-is : goal.returns-then-not-branch-clause-is
 returns-then-not-branch-clause-is c =
-    sym (first_is_bad c.args.most c.args.slot c.args.source.now c.args.target.now
+    sym (first_is_bad c.args.most c.args.slot c.args.twins.now c.args.source.now c.args.target.now
     c.part-item.result.name (returns-then-not-branch-clause-first c))
 
 pub loop-part-preserved : goal.loop-part-preserved
@@ -57,7 +62,7 @@ loop-part-preserved c =
     let most = c.args.most in
     let slot = c.args.slot in
     let target = c.args.target.now in
-    let Keeps : Part → Type 0 = KeepsAlone slot c.args.source.now target in
+    let Keeps : Part → Type 0 = KeepsAlone slot c.args.twins.now c.args.source.now target in
     let i = c.loop-part.part-index in
     let front : Front = c.loop-part.front in
     let p : Part = c.part-item.result in
@@ -79,15 +84,17 @@ loop-part-preserved c =
 -- the whole target keeps its rules
 pub returns-clause-kept : goal.returns-clause-kept
 returns-clause-kept c = (
-  λ none. together_target c.args.most c.args.slot c.args.source.now c.args.target.now
+  λ none. together_target c.args.most c.args.slot c.args.twins.now c.args.source.now
+      c.args.target.now
       c.requires.most
       (stands_last c.args.most c.args.slot
-      (KeepsAlone c.args.slot c.args.source.now c.args.target.now) c.args.target.now
+      (KeepsAlone c.args.slot c.args.twins.now c.args.source.now c.args.target.now)
+      c.args.target.now
       c.loop-part.part-index c.loop-part.front c.loop-part.invariant c.loop-part-test.false),
   λ is. refl,
 )
 
 pub returns-clause-is : goal.returns-clause-is
 returns-clause-is c =
-    sym (target_not_bad c.args.most c.args.slot c.args.source.now c.args.target.now
+    sym (target_not_bad c.args.most c.args.slot c.args.twins.now c.args.source.now c.args.target.now
     ((returns-clause-kept c).0 refl))

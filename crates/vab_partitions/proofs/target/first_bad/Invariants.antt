@@ -4,4 +4,4 @@ use Rattle.vab_partitions.proofs.target.first_bad.Given as goal
 
 abbrev pub invariant-loop-part : goal.invariant-loop-part
 invariant-loop-part l =
-    Stands l.most l.slot (KeepsAlone l.slot l.source l.target) l.target l.part-index l.front
+    Stands l.most l.slot (KeepsAlone l.slot l.twins l.source l.target) l.target l.part-index l.front

@@ -35,7 +35,7 @@ returns-in-Err-read_if-clause-fault g c = λ t kind.
     le-leb 4120 size (omega (arith, c.sectors-sectors.ensures, c.if-sectors-lt-MIN_SECTORS.false))
     in
     let m = c.in-Ok.mark in
-    let reads = reads_if m.phase ∙ sym c.reads_statuses.ensures in
+    let reads = reads_if m ∙ sym c.reads_statuses.ensures in
     let seen = sym (c.read_version.ensures.reads.seen t ∙ c.read_mark.ensures.reads.seen t) in
     device_no_statuses size (g.D.Disk.seen c.args.d.now) m _ enough (c.in-Ok.ensures.answers t)
     ((λ i. statuses_at (reads i) (seen i)) ∙ c.in-Err-read_if.ensures.fault t kind)

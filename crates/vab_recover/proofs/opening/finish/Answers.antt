@@ -1,6 +1,5 @@
 use Rattle.std.proofs.Common.{◌≡◌, ℕ, subst}
 use Rattle.std.specs.Prelude.{Option, Some, None}
-use Rattle.vab_marks.specs.declared.version.MarkVersion.{MarkVersion}
 use Rattle.vab_marks.specs.Version.{partitions_under}
 use Rattle.vab_device.specs.declared.fault.StartFault.{StartFault}
 use Rattle.vab_recover.specs.Opened.{fault_of}
@@ -14,14 +13,14 @@ use Rattle.vab_recover.proofs.opening.finish.Goals as goal
 -- the rules are judged by the number that the version of the mark says
 by_version : (n : ℕ) (f : Frame) (x : Option StartFault)
     → n ≡ partitions_under f.heads.version
-    → fault_of n f.heads.mark.phase f.heads.mark.slot f.tables.source.table f.tables.target ≡ x
-    → fault_of (partitions_under f.heads.version) f.heads.mark.phase f.heads.mark.slot
+    → fault_of n f.heads.mark f.tables.source.table f.tables.target ≡ x
+    → fault_of (partitions_under f.heads.version) f.heads.mark
     f.tables.source.table f.tables.target
     ≡ x
 by_version n f x same is =
     subst
     (λ (k : ℕ).
-    fault_of k f.heads.mark.phase f.heads.mark.slot f.tables.source.table f.tables.target ≡ x)
+    fault_of k f.heads.mark f.tables.source.table f.tables.target ≡ x)
     same is
 
 pub read_plan-requires-clause-target : goal.read_plan-requires-clause-target

@@ -1,4 +1,4 @@
-use Rattle.std.proofs.Common.{◌∙◌, ◌≡◌, ℕ, sym, ap, subst}
+use Rattle.std.proofs.Common.{◌∙◌, ◌≡◌, ℕ, sym, subst}
 use Rattle.std.specs.Prelude.{IfOk, IfErr, Err}
 use Rattle.vab_disk.specs.Disk.{Image}
 use Rattle.vab_device.specs.Phases.{phase_at}
@@ -17,7 +17,7 @@ returns-in-Err-clause-fault g c = λ t image same headed kind.
     no_tables (g.D.Disk.size c.args.d.now) image h.mark h.version h.statuses.items h.control
     h.geometry _ headed
     (tables_as (g.D.Disk.size c.args.d.now) h.geometry
-    ((phase_at h.mark.phase).tables h.mark.slot) (g.D.Disk.seen c.args.d.now) image same
+    (phase_at h.mark).tables (g.D.Disk.seen c.args.d.now) image same
     ∙ c.in-Err.ensures.fault t kind)
 
 pub returns-in-Ok-clause-opened : goal.returns-in-Ok-clause-opened

@@ -157,7 +157,7 @@ returns-in-Ok-clause-order g c = λ t rest.
     (λ (i : Image).
     HasCompleted
     (device_after c.in_ok-device.tidying
-    (with_tables c.in_ok-device.tables c.in_ok-device.device)).mark.slot
+    (with_tables c.in_ok-device.tables c.in_ok-device.device)).mark
     i)
     (sym (reads.seen t)) has)))
     (λ o goes. goes)
@@ -184,7 +184,7 @@ returns-in-Err-clause-order g c = λ t rest.
     (λ (i : Image).
     HasCompleted
     (device_after c.in_ok-device.tidying
-    (with_tables c.in_ok-device.tables c.in_ok-device.device)).mark.slot
+    (with_tables c.in_ok-device.tables c.in_ok-device.device)).mark
     i)
     (sym (reads.seen t)) has)))
     (λ o goes. goes)

@@ -1,65 +1,61 @@
-use Rattle.std.proofs.Common.{◌≡◌, ℕ, List, Result, Ok, Err, refl, sym, subst}
-use Rattle.std.specs.Prelude.{IfOk, IfErr, IfSome, Option}
+use Rattle.std.proofs.Common.{◌≡◌, sym, subst}
+use Rattle.std.specs.Prelude.{IfOk, IfErr, Result, Ok, Err}
+use Rattle.vab_marks.specs.declared.status.StatusImage.{StatusImage}
 use Rattle.vab_layout.specs.Layout.{layout_of}
-use Rattle.vab_device.specs.declared.fault.StartFault.{StartFault}
 use Rattle.vab_device.specs.Faults.{IsOfContents}
-use Rattle.vab_device.specs.Stores.{Scanned, Wanted}
-use Rattle.vab_store.specs.Scan.{scan_of}
 use Rattle.vab_plan.specs.Scans.{scanned_of}
-use Rattle.vab_recover.specs.Scans.{AreBlocks}
-use Rattle.vab_recover.proofs.PlanLaws.{wanted_store, wanted_is, is_scanned, store_on_disk}
+use Rattle.vab_recover.specs.Opened.{wanted_for}
+use Rattle.vab_recover.specs.Scans.{wanted_at}
 use Rattle.vab_recover.proofs.plan.scan_store.Goals as goal
 
-pub scan-scanned-requires : goal.scan-scanned-requires
-scan-scanned-requires g c =
-    store_on_disk c.args.slot (g.D.Disk.size c.args.d.now) c.args.table.now c.args.status.now.name
-    c.in-Ok-Some.store c.requires.target c.requires.on_disk (subst
-    (λ (w : Option (List ℕ × List ℕ)). IfSome w
-    (λ m. AreBlocks c.args.slot (layout_of c.args.table.now) c.args.status.now.name m.0 m.1))
-    c.in-Ok-Some.field-0-is c.in-Ok-Some.ensures.there).stored
-
-pub returns-in-Ok-Some-clause-ok : goal.returns-in-Ok-Some-clause-ok
-returns-in-Ok-Some-clause-ok g c = λ t.
-    let s = c.args.status.now in
-    let image = g.D.Disk.seen c.args.d.now in
-    let w : Wanted = wanted_store c.args.fewer s c.in-Ok-Some.base c.in-Ok-Some.store in
-    subst (λ (y : Result Scanned StartFault). IfOk c.judge_scan.result (λ s. y ≡ Ok (scanned_of s)))
-    (sym (wanted_is c.args.fewer c.args.slot (layout_of c.args.table.now) s c.in-Ok-Some.base
-    c.in-Ok-Some.store
-    c.len.result image (subst
-    (λ (w : Option (List ℕ × List ℕ)). IfSome w
-    (λ m. AreBlocks c.args.slot (layout_of c.args.table.now) c.args.status.now.name m.0 m.1))
-    c.in-Ok-Some.field-0-is c.in-Ok-Some.ensures.there) c.len.ensures.count))
-    (c.judge_scan.ensures.ok w (scan_of s.chunk c.in-Ok-Some.store c.len.result image)
-    refl refl refl refl
-    (c.scan-scanned.ensures.answers t))
-
-pub returns-in-Ok-Some-clause-fault : goal.returns-in-Ok-Some-clause-fault
-returns-in-Ok-Some-clause-fault g c = λ t.
-    let s = c.args.status.now in
-    let image = g.D.Disk.seen c.args.d.now in
-    let w : Wanted = wanted_store c.args.fewer s c.in-Ok-Some.base c.in-Ok-Some.store in
+pub returns-in-InPlace-clause-ok : goal.returns-in-InPlace-clause-ok
+returns-in-InPlace-clause-ok g c = λ t.
+    let name = c.args.status.now.name in
     subst
-    (λ (y : Result Scanned StartFault).
-    IfErr c.judge_scan.result (λ f. IsOfContents f → y ≡ Err f))
-    (sym (wanted_is c.args.fewer c.args.slot (layout_of c.args.table.now) s c.in-Ok-Some.base
-    c.in-Ok-Some.store
-    c.len.result image (subst
-    (λ (w : Option (List ℕ × List ℕ)). IfSome w
-    (λ m. AreBlocks c.args.slot (layout_of c.args.table.now) c.args.status.now.name m.0 m.1))
-    c.in-Ok-Some.field-0-is c.in-Ok-Some.ensures.there) c.len.ensures.count))
-    (c.judge_scan.ensures.fault w (scan_of s.chunk c.in-Ok-Some.store c.len.result image)
-    refl refl refl refl
-    (c.scan-scanned.ensures.answers t))
+    (λ (i : StatusImage). IfOk c.scan_placed.result
+    (λ s. wanted_at (wanted_for c.args.fewer c.args.may c.args.slot (layout_of c.args.table.now)
+    (record { name = name; image = i })) (g.D.Disk.seen c.args.d.now)
+    ≡ Ok (scanned_of s)))
+    (sym c.in-InPlace.is)
+    (c.scan_placed.ensures.ok (g.D.Disk.seen c.args.d.now))
 
-pub returns-in-Ok-Some-clause-is : goal.returns-in-Ok-Some-clause-is
-returns-in-Ok-Some-clause-is g c =
-    is_scanned c.args.slot (layout_of c.args.table.now) c.args.status.now.name c.in-Ok-Some.base
-    c.in-Ok-Some.store c.args.status.now.chunk c.len.result c.scan-scanned.result
-    c.judge_scan.result
-    (subst
-    (λ (w : Option (List ℕ × List ℕ)). IfSome w
-    (λ m. AreBlocks c.args.slot (layout_of c.args.table.now) c.args.status.now.name m.0 m.1))
-    c.in-Ok-Some.field-0-is c.in-Ok-Some.ensures.there) c.len.ensures.count
-    c.scan-scanned.ensures.fits
-    c.judge_scan.ensures.name c.judge_scan.ensures.chunk c.judge_scan.ensures.view
+pub returns-in-InPlace-clause-fault : goal.returns-in-InPlace-clause-fault
+returns-in-InPlace-clause-fault g c = λ t.
+    let name = c.args.status.now.name in
+    subst
+    (λ (i : StatusImage). IfErr c.scan_placed.result
+    (λ f. IsOfContents f → wanted_at (wanted_for c.args.fewer c.args.may c.args.slot
+    (layout_of c.args.table.now)
+    (record { name = name; image = i })) (g.D.Disk.seen c.args.d.now)
+    ≡ Err f))
+    (sym c.in-InPlace.is)
+    (given _ _ c.scan_placed.result (c.scan_placed.ensures.fault (g.D.Disk.seen c.args.d.now)))
+  where
+    given : {A B : Type 0} (P Q : B → Type 0) (r : Result A B)
+        → IfErr r (λ f. Q f)
+        → IfErr r (λ f. P f → Q f)
+    given P Q (Ok x) q = tt
+    given P Q (Err f) q = λ p. q
+
+pub returns-in-Stored-clause-ok : goal.returns-in-Stored-clause-ok
+returns-in-Stored-clause-ok g c = λ t.
+    let name = c.args.status.now.name in
+    subst
+    (λ (i : StatusImage). IfOk c.scan_stored.result
+    (λ s. wanted_at (wanted_for c.args.fewer c.args.may c.args.slot (layout_of c.args.table.now)
+    (record { name = name; image = i })) (g.D.Disk.seen c.args.d.now)
+    ≡ Ok (scanned_of s)))
+    (sym c.in-Stored.is)
+    (c.scan_stored.ensures.ok t c.args.may)
+
+pub returns-in-Stored-clause-fault : goal.returns-in-Stored-clause-fault
+returns-in-Stored-clause-fault g c = λ t.
+    let name = c.args.status.now.name in
+    subst
+    (λ (i : StatusImage). IfErr c.scan_stored.result
+    (λ f. IsOfContents f → wanted_at (wanted_for c.args.fewer c.args.may c.args.slot
+    (layout_of c.args.table.now)
+    (record { name = name; image = i })) (g.D.Disk.seen c.args.d.now)
+    ≡ Err f))
+    (sym c.in-Stored.is)
+    (c.scan_stored.ensures.fault t c.args.may)

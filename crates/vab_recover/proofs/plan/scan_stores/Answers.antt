@@ -26,7 +26,7 @@ pub loop-entry-preserved : goal.loop-entry-preserved
 loop-entry-preserved g c =
     let image : Image = g.D.Disk.seen c.args.d.now in
     let l = layout_of c.args.table.now in
-    let W = wanted_for c.args.fewer c.args.slot l in
+    let W = wanted_for c.args.fewer c.args.may c.args.slot l in
     let i : ℕ = c.loop-entry.entry-index in
     let all : List (Option PartStatus) = c.args.statuses.now.items in
     let inv = c.loop-entry.invariant in

@@ -13,10 +13,11 @@ use Rattle.vab_recover.proofs.plan.scan_stores.Given as goal
 abbrev pub invariant-loop-entry : goal.invariant-loop-entry
 invariant-loop-entry g l = record {
   so_far : g.D.Disk.is_modelled
-      → scans_in (map (wanted_for l.fewer l.slot (layout_of l.table)) (written_in l.statuses.items))
+      → scans_in
+      (map (wanted_for l.fewer l.may l.slot (layout_of l.table)) (written_in l.statuses.items))
       (g.D.Disk.seen l.fn.d)
       ≡ (scans_in
-      (map (wanted_for l.fewer l.slot (layout_of l.table))
+      (map (wanted_for l.fewer l.may l.slot (layout_of l.table))
       (written_in (drop l.entry-index l.statuses.items)))
       (g.D.Disk.seen l.fn.d)
       >>= λ rest. Ok (scans_of l.scans.items ++ rest));

@@ -2,7 +2,8 @@ use Rattle.std.proofs.Common.{◌≡◌, ◌∙◌, inl, inr, Ok, refl, sym, ap,
 use Rattle.std.specs.Prelude.{IfSome, OnOk}
 use Rattle.vab_disk.proofs.Moments.{adds_wider}
 use Rattle.vab_disk.proofs.CallLaws.{touches_wider}
-use Rattle.vab_marks.specs.Mark.{mark_of, idle_mark}
+use Rattle.vab_marks.specs.declared.mark.MarkPhase.TheVariants as marks
+use Rattle.vab_marks.specs.Mark.{mark_of, rephased}
 use Rattle.vab_device.specs.declared.device.Device.{Device}
 use Rattle.vab_tidy.specs.Kept.{device_after}
 use Rattle.vab_tidy.specs.Stays.{Stays}
@@ -96,7 +97,7 @@ returns-in-Ok-clause-tidied g c = λ t.
     let mid = g.D.Disk.seen c.mend_copies.new.d in
     let new = g.D.Disk.seen c.carry_out.new.d in
     let r = c.carry_out.result in
-    on_ok (IfSome x (λ k. mark_of (new 2048) ≡ Ok (idle_mark kept.mark.slot)))
+    on_ok (IfSome x (λ k. mark_of (new 2048) ≡ Ok (rephased marks.Idle kept.mark)))
     (IsTidied (device_after x (with_tables c.args.tables kept)) seen new) r
     (λ mark.
     tidied_of kept c.args.tables size seen c.requires.is.slot (c.requires.read t) x mid new
@@ -106,7 +107,7 @@ returns-in-Ok-clause-tidied g c = λ t.
     (λ none. ap g.D.Disk.seen (c.carry_out.ensures.still none)))
     (subst
     (λ (k : Device).
-    OnOk r (IfSome x (λ y. mark_of (new 2048) ≡ Ok (idle_mark k.mark.slot))))
+    OnOk r (IfSome x (λ y. mark_of (new 2048) ≡ Ok (rephased marks.Idle k.mark))))
     c.with_tables.ensures (c.carry_out.ensures.mark t))
 
 pub returns-in-Ok-clause-healthy : goal.returns-in-Ok-clause-healthy

@@ -1,11 +1,10 @@
 use Rattle.std.proofs.Common.{◌≡◌, ◌∙◌, inl, Result, Ok, Err, sym, ap, subst, arith}
 use Rattle.std.specs.Prelude.{OnOk}
-use Rattle.vab_disk.specs.Disk.{Image}
 use Rattle.vab_disk.specs.Calls.{OnlyReads}
 use Rattle.vab_disk.proofs.CallLaws.{quiet_then, touches_on, touches_wider}
 use Rattle.vab_disk.proofs.Moments.{adds_on, adds_wider}
 use Rattle.vab_marks.specs.Mark.{mark_of}
-use Rattle.vab_device.specs.Reading.{Reads, SameRead, device, mark_in, version_at}
+use Rattle.vab_device.specs.Reading.{Reads, SameRead, device, version_at}
 use Rattle.vab_device.proofs.ReadingLaws.{device_same}
 use Rattle.vab_device.proofs.SameLaws.{mark_same}
 use Rattle.vab_tidy.specs.Migration.{IsOfMigration}

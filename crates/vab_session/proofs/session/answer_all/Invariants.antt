@@ -1,4 +1,4 @@
-use Rattle.std.proofs.Common.{◌≡◌, ◌++◌, List, ℕ, codes}
+use Rattle.std.proofs.Common.{◌≡◌, ◌++◌, List, [], ℕ, codes}
 use Rattle.vab_disk.specs.Disk.{NoFewer}
 use Rattle.vab_fbtcp.specs.declared.event.Place.TheVariants.{Length}
 use Rattle.vab_device.specs.Kept.{IsDevice}
@@ -8,13 +8,13 @@ use Rattle.vab_exchanges.specs.Reading.{stands_at, rest_of, beyond_of, room_of, 
 use Rattle.vab_exchanges.specs.Reading.{IsFed}
 use Rattle.vab_exchanges.proofs.Progress.{Progress}
 use Rattle.vab_session.specs.Merges.{IsPlain}
-use Rattle.vab_session.specs.Responses.{response}
+use Rattle.vab_session.specs.Responses.{machine}
 use Rattle.vab_session.specs.Served.{kept_on}
 use Rattle.vab_session.proofs.WrittenLaws.{HasWritten}
 use Rattle.vab_session.proofs.session.answer_all.Given as goal
 
-abbrev pub invariant-loop-packet : goal.invariant-loop-packet
-invariant-loop-packet g l = record {
+abbrev pub invariant-loop-next : goal.invariant-loop-next
+invariant-loop-next g l = record {
   place : stands_at l.reader ≡ Length;
   fed : IsFed l.reader;
   most : most_of l.reader ≡ most_of l.fn.reader;
@@ -28,30 +28,30 @@ invariant-loop-packet g l = record {
   device : IsDevice l.kept.device (g.P.Disk.size l.fn.p);
   follows : g.P.Disk.is_modelled
       → FollowsBy l.fn.kept.device
-      (IsPlain (g.P.Disk.told l.fn.p) (rest_of l.fn.reader (g.P.Disk.input_left l.fn.p)))
+      (IsPlain l.fn.turns (g.P.Disk.told l.fn.p) (rest_of l.fn.reader (g.P.Disk.input_left l.fn.p)))
       l.kept.device;
   stands : g.P.Disk.is_modelled
       → Represents l.kept.device (g.P.Disk.size l.fn.p) (g.P.Disk.seen l.p);
   changes : g.P.Disk.is_modelled
       → ChangesBy g.P.Disk l.fn.kept.device
-      (IsPlain (g.P.Disk.told l.fn.p) (rest_of l.fn.reader (g.P.Disk.input_left l.fn.p)))
+      (IsPlain l.fn.turns (g.P.Disk.told l.fn.p) (rest_of l.fn.reader (g.P.Disk.input_left l.fn.p)))
       l.fn.p l.p;
   counts : NoFewer (g.P.Disk.faults l.fn.p) (g.P.Disk.faults l.p);
   steady : g.P.Disk.faults l.p ≡ g.P.Disk.faults l.fn.p;
   progress : g.P.Disk.is_modelled
       → (told : List ℕ)
       → g.P.Disk.told l.fn.p ≡ told ++ codes "FB01"
-      → Progress response (IsIn (g.P.Disk.size l.fn.p)) g.P.Disk
+      → Progress (machine l.fn.turns) (IsIn (g.P.Disk.size l.fn.p)) g.P.Disk
       (rest_of l.fn.reader (g.P.Disk.input_left l.fn.p))
       (beyond_of l.fn.reader (g.P.Disk.input_left l.fn.p))
       (kept_on l.fn.kept (g.P.Disk.seen l.fn.p))
       told l.fn.p l.p
-      (rest_of l.reader (g.P.Disk.input_left l.p))
+      (rest_of l.reader (g.P.Disk.input_left l.p)) []
       (kept_on l.kept (g.P.Disk.seen l.p));
   written : g.P.Disk.is_modelled
       → (told : List ℕ)
       → g.P.Disk.told l.fn.p ≡ told ++ codes "FB01"
-      → HasWritten g.P.Disk (g.P.Disk.size l.fn.p) l.fn.kept.device
+      → HasWritten g.P.Disk l.fn.turns (g.P.Disk.size l.fn.p) l.fn.kept.device
       (kept_on l.fn.kept (g.P.Disk.seen l.fn.p))
       (rest_of l.fn.reader (g.P.Disk.input_left l.fn.p))
       l.kept.device (kept_on l.kept (g.P.Disk.seen l.p))
@@ -59,5 +59,5 @@ invariant-loop-packet g l = record {
       l.fn.p l.p;
 }
 
-abbrev pub decreases-loop-packet : goal.decreases-loop-packet
-decreases-loop-packet g l = room_of l.reader
+abbrev pub decreases-loop-next : goal.decreases-loop-next
+decreases-loop-next g l = room_of l.reader

@@ -85,12 +85,12 @@ module _ {D : Type 0} (g : Ghosts D) (d : Device) (x : Alone) (text : List ℕ) 
   order : StoresTable g d text old new
       → g.is_modelled
       → IsAtRest g old
-      → HasCompleted d.mark.slot (g.seen old)
+      → HasCompleted d.mark (g.seen old)
       → Adds g.moment g.outcomes old new (λ o. IsInOrder (with_table x.table d) o.image)
   order table t rest has =
       adds_wider g.moment g.outcomes old new _ _ (either table t rest)
       (λ o leaves.
-      inl (completed_stays d.geometry d.mark.slot d.mark.slot n (g.seen old) o.image
+      inl (completed_stays d.geometry d.mark.slot n d.mark (g.seen old) o.image
       leaves.others has))
 
   others : g.is_modelled

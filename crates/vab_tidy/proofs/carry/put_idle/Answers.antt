@@ -7,7 +7,7 @@ use Rattle.vab_disk.specs.Written.{set_here, set_there}
 use Rattle.vab_disk.proofs.Moments.{adds_wider}
 use Rattle.vab_marks.specs.declared.mark.MarkPhase.TheVariants as marks
 use Rattle.vab_marks.specs.declared.version.MarkVersion.TheVariants.{Two}
-use Rattle.vab_marks.specs.Mark.{mark_of, idle_mark}
+use Rattle.vab_marks.specs.Mark.{mark_of, mark_spelling, rephased}
 use Rattle.vab_marks.specs.Version.{version_in}
 use Rattle.vab_tables.specs.declared.table.Table.{Table}
 use Rattle.vab_tables.specs.Text.{IsTableText}
@@ -28,7 +28,7 @@ module _ {D : Type 0} (g : Ghosts D) (d : Device) (bytes : List ℕ) (old new : 
     (dev : IsDevice d (g.size old))
     (is : g.is_modelled → Represents d (g.size old) (g.seen old))
     (idle : d.mark.phase ≡ marks.Idle)
-    (read : mark_of bytes ≡ Ok (idle_mark d.mark.slot))
+    (read : mark_of bytes ≡ Ok (rephased marks.Idle d.mark))
     (two : version_in bytes ≡ Two) where
   abbrev after : Image
   after = set_sector (g.seen old) 2048 bytes
@@ -42,11 +42,11 @@ module _ {D : Type 0} (g : Ghosts D) (d : Device) (bytes : List ℕ) (old new : 
   elsewhere : (s : ℕ) → s ≢ 2048 → after s ≡ g.seen old s
   elsewhere s other = set_there (g.seen old) 2048 bytes s other
 
-  pub mark_now : mark_of (after 2048) ≡ Ok (idle_mark d.mark.slot)
+  pub mark_now : mark_of (after 2048) ≡ Ok (rephased marks.Idle d.mark)
   mark_now = ap mark_of (set_here (g.seen old) 2048 bytes 2048 refl) ∙ read
 
-  mark : mark_in after ≡ Ok (idle_mark d.mark.slot)
-  mark = idle_there d.mark.slot after mark_now
+  mark : mark_in after ≡ Ok (rephased marks.Idle d.mark)
+  mark = idle_there d.mark after mark_now
 
   version : version_at after ≡ Two
   version = ap version_in (set_here (g.seen old) 2048 bytes 2048 refl) ∙ two
@@ -99,7 +99,7 @@ module _ {D : Type 0} (g : Ghosts D) (d : Device) (bytes : List ℕ) (old new : 
       → Adds g.moment g.outcomes old new (LeavesEither (g.told old) (g.seen old) after))
       → g.is_modelled
       → IsAtRest g old
-      → HasCompleted d.mark.slot (g.seen old)
+      → HasCompleted d.mark (g.seen old)
       → Adds g.moment g.outcomes old new (λ o. IsInOrder d o.image)
   order gate t rest has =
       adds_wider g.moment g.outcomes old new _ _ (gate t rest)
@@ -122,14 +122,15 @@ returns-in-Err-clause-stays g c =
       quiet = c.put_gate.ensures.touches.quiet;
       touches =
           subst (λ (l : List ℕ). Touches g.D.Disk (IsAt 2048 l) old new)
-          c.encode_mark.ensures.spelled c.put_gate.ensures.touches;
+          (c.encode_mark.ensures.spelled ∙ ap mark_spelling c.with_phase-mark.ensures)
+          c.put_gate.ensures.touches;
       time =
           time g.D.Disk c.args.device _ old new c.requires.kept c.requires.represents
-          c.requires.idle c.encode_mark.ensures.decoded
+          c.requires.idle (c.encode_mark.ensures.decoded ∙ ap Ok c.with_phase-mark.ensures)
           c.encode_mark.ensures.version c.put_gate.ensures.gate;
       order =
           order g.D.Disk c.args.device _ old new c.requires.kept c.requires.represents
-          c.requires.idle c.encode_mark.ensures.decoded
+          c.requires.idle (c.encode_mark.ensures.decoded ∙ ap Ok c.with_phase-mark.ensures)
           c.encode_mark.ensures.version c.put_gate.ensures.gate;
       faults = record { steady = tt; cause = c.in-Err.ensures.faults.cause };
     }
@@ -139,7 +140,7 @@ returns-in-Ok-clause-stays g c =
     let d = c.args.device in
     let old = c.args.d.now in
     let new = c.put_gate.new.d in
-    let read = c.encode_mark.ensures.decoded in
+    let read = c.encode_mark.ensures.decoded ∙ ap Ok c.with_phase-mark.ensures in
     let two = c.encode_mark.ensures.version in
     record {
       is = refl;
@@ -157,7 +158,8 @@ returns-in-Ok-clause-stays g c =
       quiet = c.put_gate.ensures.touches.quiet;
       touches =
           subst (λ (l : List ℕ). Touches g.D.Disk (IsAt 2048 l) old new)
-          c.encode_mark.ensures.spelled c.put_gate.ensures.touches;
+          (c.encode_mark.ensures.spelled ∙ ap mark_spelling c.with_phase-mark.ensures)
+          c.put_gate.ensures.touches;
       time =
           time g.D.Disk d _ old new c.requires.kept c.requires.represents c.requires.idle read two
           c.put_gate.ensures.gate;

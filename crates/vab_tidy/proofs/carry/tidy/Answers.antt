@@ -1,7 +1,8 @@
 use Rattle.std.proofs.Common.{◌≡◌, ℕ, List, Err, sym, ap, subst, inl, inr}
 use Rattle.std.specs.Prelude.{Option, Some}
 use Rattle.vab_disk.specs.Disk.{IsAt}
-use Rattle.vab_marks.specs.Mark.{mark_spelling, idle_mark}
+use Rattle.vab_marks.specs.declared.mark.MarkPhase.TheVariants as marks
+use Rattle.vab_marks.specs.Mark.{mark_spelling, rephased}
 use Rattle.vab_lpstore.specs.Storing.{IsOfTable}
 use Rattle.vab_lpstore.proofs.StoreLaws.{store_elsewhere}
 use Rattle.vab_device.specs.declared.device.Device.{Device}
@@ -57,11 +58,11 @@ returns-in-Ok-clause-stays g c =
     let new = c.put_idle-in-Ok.new.d in
     let next : tidied_device x d ≡ with_table a.table d =
     ap (λ (y : Option Alone). with_alone y d) c.in-Some.is in
-    let later : Stays g.D.Disk (IsAt 2048 (mark_spelling (idle_mark d.mark.slot)))
+    let later : Stays g.D.Disk (IsAt 2048 (mark_spelling (rephased marks.Idle d.mark)))
     (with_table a.table d) mid new c.put_idle-in-Ok.result =
     subst
     (λ (k : Device).
-    Stays g.D.Disk (IsAt 2048 (mark_spelling (idle_mark k.mark.slot))) k mid new
+    Stays g.D.Disk (IsAt 2048 (mark_spelling (rephased marks.Idle k.mark))) k mid new
     c.put_idle-in-Ok.result)
     c.in-Ok.ensures.is c.put_idle-in-Ok.ensures.stays in
     subst
@@ -69,11 +70,11 @@ returns-in-Ok-clause-stays g c =
     Stays g.D.Disk (IsOfTidied d x) k c.args.d.now new c.put_idle-in-Ok.result)
     (sym next)
     (stays_then g.D.Disk (IsOfTable d.geometry d.mark.slot a.text)
-    (IsAt 2048 (mark_spelling (idle_mark d.mark.slot))) (IsOfTidied d x) c.in-Ok.device
+    (IsAt 2048 (mark_spelling (rephased marks.Idle d.mark))) (IsOfTidied d x) c.in-Ok.device
     (with_table a.table d) (with_table a.table d) c.args.d.now mid new c.put_idle-in-Ok.result
     c.in-Ok.ensures later (λ t. of_table d x a c.in-Some.is) (λ t s b at. inr at)
     (λ t has.
-    completed_stays d.geometry d.mark.slot d.mark.slot _ (g.D.Disk.seen c.args.d.now)
+    completed_stays d.geometry d.mark.slot _ d.mark (g.D.Disk.seen c.args.d.now)
     (g.D.Disk.seen mid)
     (store_elsewhere d.geometry d.mark.slot a.text (g.D.Disk.seen c.args.d.now)
     (g.D.Disk.seen mid) (c.in-Ok.ensures.touches.seen t)) has)

@@ -6,8 +6,8 @@ use Rattle.vab_tidy.proofs.MarkLaws.{completed_is, says_of}
 use Rattle.vab_tidy.proofs.prepared.prepare.Goals as goal
 
 pub returns-then-not-is_idle-clause-due : goal.returns-then-not-is_idle-clause-due
-returns-then-not-is_idle-clause-due g c = λ t slot is.
-    let same = completed_is slot c.args.mark.now (g.D.Disk.seen c.args.d.now) (c.requires.mark t)
+returns-then-not-is_idle-clause-due g c = λ t k is.
+    let same = completed_is k c.args.mark.now (g.D.Disk.seen c.args.d.now) (c.requires.mark t)
     is in
     let idle : true ≡ is_idle c.args.mark.now.phase =
     sym (ap (λ (m : UpdateMark). is_idle m.phase) same) in

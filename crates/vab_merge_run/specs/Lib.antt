@@ -1,4 +1,0 @@
-pub mod Turns
-pub mod Writes
-pub mod Part
-pub mod Run

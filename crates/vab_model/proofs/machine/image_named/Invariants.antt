@@ -1,7 +1,0 @@
-use Rattle.std.proofs.Common.{◌≡◌, drop}
-use Rattle.vab_model.specs.State.{image_named}
-use Rattle.vab_model.proofs.machine.image_named.Given as goal
-
-abbrev pub invariant-loop-image : goal.invariant-loop-image
-invariant-loop-image l = image_named l.base (drop l.image-index l.image-items)
-    ≡ image_named l.base l.image-items

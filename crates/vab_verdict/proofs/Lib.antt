@@ -1,4 +1,0 @@
-pub mod PartitionLaws
-pub mod SumLaws
-pub mod GroupLaws
-pub mod RoomLaws

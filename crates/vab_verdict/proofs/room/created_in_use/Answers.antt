@@ -1,9 +1,0 @@
-use Rattle.vab_layout.specs.Layout.{layout_of}
-use Rattle.vab_builder.proofs.Bounds.{before_small}
-use Rattle.vab_verdict.proofs.room.created_in_use.Goals as goal
-
-pub count_before-requires-clause-small : goal.count_before-requires-clause-small
-count_before-requires-clause-small c =
-    let a = c.args in
-    before_small a.slot (layout_of a.source.now) (layout_of a.target.now) a.name.now
-    c.requires.tables.update

@@ -1,7 +1,0 @@
-use Rattle.std.proofs.Common.{◌≡◌, sum_by, take}
-use Rattle.vab_verdict.specs.Sums.{own_size}
-use Rattle.vab_verdict.proofs.sizes.slot_blocks.Given as goal
-
-abbrev pub invariant-loop-partition : goal.invariant-loop-partition
-invariant-loop-partition l =
-    l.blocks ≡ sum_by (own_size l.slot l.table) (take l.partition-index l.partitions)
