@@ -390,6 +390,16 @@ fn a_session_meets_a_fault_of_each_call(rt: HostRuntime) -> Result<(), Fail> {
 }
 
 #[test]
+fn a_factory_install_is_stopped_anywhere(rt: HostRuntime) -> Result<(), Fail> {
+    stops(&rt, rt.alloc(), &FACTORY, WHOLE)
+}
+
+#[test]
+fn a_factory_install_is_stopped_anywhere_over_mixed_sectors(rt: HostRuntime) -> Result<(), Fail> {
+    stops(&rt, rt.alloc(), &FACTORY, MIXED)
+}
+
+#[test]
 fn a_factory_install_meets_a_fault_of_each_call(rt: HostRuntime) -> Result<(), Fail> {
     faults(&rt, rt.alloc(), &FACTORY)
 }
