@@ -35,16 +35,8 @@ mod sets;
 #[cfg(test)]
 mod slots;
 #[cfg(test)]
-mod sources;
-#[cfg(test)]
 mod staged;
 #[cfg(test)]
-mod tables;
-#[cfg(test)]
-mod texts;
-#[cfg(test)]
 mod turns;
-#[cfg(test)]
-mod updates;
 #[cfg(test)]
 mod worked;

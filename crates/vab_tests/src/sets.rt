@@ -1,7 +1,6 @@
 // Sets of images: as many as there may be, their names, and images without bytes.
 
 use crate::runs::{SECTORS, Step, steps, steps_on};
-use crate::sessions::text_at;
 use std::alloc::Global;
 use std::process::Abort;
 use std::test::Fail;
@@ -71,12 +70,6 @@ fn device_of_many(rt: &impl Abort, alloc: Global) -> Result<MemPort, Fail> {
     let set = set_of_many(alloc, 64)?;
     let told = b"made 64 images, 64 of 256 blocks\n";
     steps(rt, alloc, SECTORS, &[(&["make"], set.as_slice(), 0, told)])
-}
-
-/// A text of 5328 bytes: the table of slot a with the partitions `p00_a` to `p63_a` of one block.
-pub(crate) fn text_of_many(rt: &impl Abort, alloc: Global) -> Result<Vec<u8>, Fail> {
-    let mut d = device_of_many(rt, alloc)?;
-    text_at(alloc, &mut d, 4120, 11)
 }
 
 #[test]

@@ -1,9 +1,8 @@
 // A device whose images are in slot b.
 
 use crate::runs::{ONE, SECTORS, Step, steps, steps_on};
-use crate::sessions::{damage, put, sector, text_at};
+use crate::sessions::{damage, put, sector};
 use crate::sets::filled;
-use crate::updates::text_of_slot_b;
 use std::alloc::Global;
 use std::process::Abort;
 use std::test::Fail;
@@ -12,6 +11,28 @@ use vab_disk::MemPort;
 // The boot control where slot b is current and successful, of priority 15, and its sum.
 const CONTROL: [u8; 32] =
     *b"_b\0\0BCAB\x01\x02\0\0\0\0\x8f\0\0\0\0\0\0\0\0\0\0\0\0\0\x60\x4a\x1b\xb9";
+
+// The text of slot b's table: `x_b` of the first block, in the group `main_b`.
+const TABLE: [u8; 492] = [
+    48, 80, 76, 65, 10, 0, 2, 0, 0, 1, 0, 0, 191, 52, 206, 232, 246, 216, 96, 242, 247, 36, 196,
+    43, 129, 101, 151, 60, 135, 12, 216, 112, 23, 235, 145, 151, 33, 136, 112, 137, 166, 152, 123,
+    150, 236, 0, 0, 0, 134, 91, 145, 54, 5, 216, 147, 117, 233, 1, 9, 109, 253, 3, 115, 251, 177,
+    134, 87, 247, 140, 93, 136, 190, 229, 154, 112, 71, 41, 80, 14, 228, 0, 0, 0, 0, 1, 0, 0, 0,
+    52, 0, 0, 0, 52, 0, 0, 0, 1, 0, 0, 0, 24, 0, 0, 0, 76, 0, 0, 0, 2, 0, 0, 0, 48, 0, 0, 0, 172,
+    0, 0, 0, 1, 0, 0, 0, 64, 0, 0, 0, 1, 0, 0, 0, 0, 0, 0, 0, 0, 0, 0, 0, 0, 0, 0, 0, 0, 0, 0, 0,
+    0, 0, 0, 0, 0, 0, 0, 0, 0, 0, 0, 0, 0, 0, 0, 0, 0, 0, 0, 0, 0, 0, 0, 0, 0, 0, 0, 0, 0, 0, 0, 0,
+    0, 0, 0, 0, 0, 0, 0, 0, 0, 0, 0, 0, 0, 0, 0, 0, 0, 0, 0, 0, 0, 0, 0, 0, 0, 0, 0, 0, 0, 0, 0, 0,
+    0, 0, 0, 0, 0, 0, 0, 0, 0, 0, 0, 0, 0, 0, 0, 0, 0, 0, 0, 0, 0, 0, 0, 0, 0, 0, 0, 0, 0, 0, 0, 0,
+    0, 0, 0, 0, 0, 0, 0, 0, 0, 0, 0, 0, 120, 95, 98, 0, 0, 0, 0, 0, 0, 0, 0, 0, 0, 0, 0, 0, 0, 0,
+    0, 0, 0, 0, 0, 0, 0, 0, 0, 0, 0, 0, 0, 0, 0, 0, 0, 0, 1, 0, 0, 0, 0, 0, 0, 0, 1, 0, 0, 0, 1, 0,
+    0, 0, 8, 0, 0, 0, 0, 0, 0, 0, 0, 0, 0, 0, 0, 8, 0, 0, 0, 0, 0, 0, 0, 0, 0, 0, 100, 101, 102,
+    97, 117, 108, 116, 0, 0, 0, 0, 0, 0, 0, 0, 0, 0, 0, 0, 0, 0, 0, 0, 0, 0, 0, 0, 0, 0, 0, 0, 0,
+    0, 0, 0, 0, 0, 0, 0, 0, 0, 0, 0, 0, 0, 0, 0, 0, 109, 97, 105, 110, 95, 98, 0, 0, 0, 0, 0, 0, 0,
+    0, 0, 0, 0, 0, 0, 0, 0, 0, 0, 0, 0, 0, 0, 0, 0, 0, 0, 0, 0, 0, 0, 0, 0, 0, 0, 0, 0, 0, 0, 0, 0,
+    0, 0, 0, 0, 8, 0, 0, 0, 0, 0, 0, 0, 0, 16, 0, 0, 0, 0, 0, 0, 0, 32, 0, 0, 0, 0, 0, 115, 117,
+    112, 101, 114, 0, 0, 0, 0, 0, 0, 0, 0, 0, 0, 0, 0, 0, 0, 0, 0, 0, 0, 0, 0, 0, 0, 0, 0, 0, 0, 0,
+    0, 0, 0, 0, 0, 0, 0, 0,
+];
 
 // The sum of the mark of a device without an update whose images are in slot b.
 const MARK_SUM: [u8; 4] = [55, 124, 134, 247];
@@ -45,10 +66,7 @@ fn halves(text: &[u8]) -> ([u8; 512], [u8; 512]) {
 pub(crate) fn device_of_b(rt: &impl Abort, alloc: Global) -> Result<MemPort, Fail> {
     let made: [Step; 1] = [(&["make"], &ONE, 0, b"made 1 images, 1 of 256 blocks\n")];
     let mut d = steps(rt, alloc, SECTORS, &made)?;
-    let text = text_at(alloc, &mut d, 4120, 2)?;
-    let text = text_of_slot_b(alloc, &text, 65536)?;
-    assert!(rt; text.len() == 492);
-    let (first, second) = halves(&text);
+    let (first, second) = halves(&TABLE);
     let sectors = [
         (4, control()),
         (2048, mark()),

@@ -5,9 +5,8 @@ ghost use Rattle.vab_tables.specs.Rules.{KeepsRules};
 ghost use Rattle.vab_tables.specs.Spelling.{table_size_of};
 ghost use Rattle.vab_layout.specs.Layout.{layout_of};
 ghost use Rattle.vab_layout.specs.Slots.{IsOwn};
-ghost use Rattle.vab_tests.specs.Updates.{AreSlots, IsSource, IsUpdated};
+ghost use Rattle.vab_table_tests.specs.Updates.{AreSlots, IsSource, IsUpdated};
 
-use crate::sets::text_of_many;
 use crate::sources::{LIMITED, UNLIMITED};
 use std::alloc::Global;
 use std::process::Abort;
@@ -17,16 +16,16 @@ use vab_layout::Layout;
 use vab_partitions::{MAX_PARTITIONS, bad_partition};
 use vab_tables::{Table, decode_table, encode_table};
 
-/// An update: the text of a table of slot a, the slots of its source and of its target, and the
-/// most bytes of a copy of a table. Where the source is slot b, it is what an update of b without
-/// edits makes of the text. The target stands beside its source or `apart` from it.
+// An update: the text of a table of slot a, the slots of its source and of its target, and the
+// most bytes of a copy of a table. Where the source is slot b, it is what an update of b without
+// edits makes of the text. The target stands beside its source or `apart` from it.
 #[derive(Clone, Copy)]
-pub(crate) struct Update<'a> {
-    pub text: &'a [u8],
-    pub from: usize,
-    pub to: usize,
-    pub max: u32,
-    pub apart: bool,
+struct Update<'a> {
+    text: &'a [u8],
+    from: usize,
+    to: usize,
+    max: u32,
+    apart: bool,
 }
 
 const TO_B: Update<'static> = Update {
@@ -110,13 +109,6 @@ fn of_slot_b(alloc: Global, text: &[u8], max: u32) -> Result<Table, Fail>
     let update = Update { text, max, ..TO_B };
     let target = begun(alloc, &update, &source)?;
     alone(alloc, &target, 1)
-}
-
-/// The text of the table of slot b alone after an update without edits of slot a, whose table this
-/// text spells.
-pub(crate) fn text_of_slot_b(alloc: Global, text: &[u8], max: u32) -> Result<Vec<u8>, Fail> {
-    let table = of_slot_b(alloc, text, max)?;
-    Ok(encode_table(alloc, &table)?)
 }
 
 // The table of the update's source.
@@ -246,8 +238,8 @@ fn tables_after(
     Ok((target, alone))
 }
 
-/// The refusal of an edit after these.
-pub(crate) fn refusal_after(
+// The refusal of an edit after these.
+fn refusal_after(
     alloc: Global,
     update: &Update<'_>,
     edits: &[Edit; 6],
@@ -257,6 +249,44 @@ pub(crate) fn refusal_after(
 {
     let source = source(alloc, update)?;
     let target = after(alloc, update, &source, edits)?;
+    Ok(apply(
+        alloc,
+        &source,
+        &target,
+        update.to,
+        edit,
+        update.max,
+        update.apart,
+    )
+    .err())
+}
+
+// The table of an update of one partition to 64: 63 of one block are new.
+fn full_target(alloc: Global, update: &Update<'_>, source: &Table) -> Result<Table, Fail>
+    requires slots { AreSlots update.now.from update.now.to }
+    requires source { IsSource update.now.from source.now }
+    ensures { IfOk result (λ t. IsUpdated update.now.to update.now.apart source.now t) }
+{
+    let mut target = begun(alloc, update, source)?;
+    for number in 0..63u8 {
+        let name = [b'p', b'0' + number / 10, b'0' + number % 10, b'_', b'b'];
+        target = edited(alloc, update, source, &target, &Edit::Create(&name, 4096))?;
+    }
+    Ok(target)
+}
+
+// The refusal of an edit where the target has 64 partitions, and this one is made before.
+fn refusal_of_65th(
+    alloc: Global,
+    update: &Update<'_>,
+    before: &Edit,
+    edit: &Edit,
+) -> Result<Option<EditFault>, Fail>
+    requires { AreSlots update.now.from update.now.to }
+{
+    let source = source(alloc, update)?;
+    let full = full_target(alloc, update, &source)?;
+    let target = edited(alloc, update, &source, &full, before)?;
     Ok(apply(
         alloc,
         &source,
@@ -470,19 +500,12 @@ fn edits_are_refused_by_name(rt: HostRuntime) -> Result<(), Fail> {
     }
     let (target, _) = tables_after(alloc, &limited, &same)?;
     assert_eq!(rt; text_size(alloc, &target)?, 664);
-    // 64 partitions of a block each; an edit in place of one is taken.
-    let text = text_of_many(&rt, alloc)?;
-    let many = Update {
-        text: text.as_slice(),
-        max: 65536,
-        ..TO_B
-    };
-    let first = Edit::Resize(b"p00_b", 4096);
-    let edits = [first, first, first, first, first, first];
-    let more = refusal_after(alloc, &many, &edits, &Edit::Create(b"x_b", 0))?;
+    // 64 partitions; one more in place of one of them is taken.
+    let many = Update { max: 65536, ..TO_B };
+    let create = Edit::Create(b"x_b", 0);
+    let more = refusal_of_65th(alloc, &many, &Edit::Resize(b"p00_b", 4096), &create)?;
     assert_eq!(rt; more, Some(EditFault::TooMany(65)));
-    let edits = [first, first, first, first, first, Edit::Delete(b"p63_b")];
-    let more = refusal_after(alloc, &many, &edits, &Edit::Create(b"x_b", 0))?;
+    let more = refusal_of_65th(alloc, &many, &Edit::Delete(b"p62_b"), &create)?;
     assert_eq!(rt; more, None);
     Ok(())
 }
