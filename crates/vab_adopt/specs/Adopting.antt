@@ -1,7 +1,7 @@
 -- What adopting a disk writes and leaves.
 use Rattle.std.specs.Prelude.{◌≡◌, ◌⊎◌, ℕ, List, Option, Some, None, Result, Ok, Err, OnOk, IfErr}
 use Rattle.vab_disk.specs.declared.disk.Disk.{Ghosts}
-use Rattle.vab_disk.specs.Disk.{Image, Outcome, Rose}
+use Rattle.vab_disk.specs.Disk.{Image, Outcome, DiskFailed}
 use Rattle.vab_marks.specs.Mark.{idle_mark, mark_spelling}
 use Rattle.vab_copies.specs.Copies.{zeros}
 use Rattle.vab_device.specs.Faults.{IsOfContents}
@@ -33,14 +33,14 @@ abbrev pub Gives : {A : Type 0} → Result A AdoptFault → Option AdoptFault �
 Gives (Ok done) said = said ≡ None
 Gives (Err fault) said = Says fault said
 
--- The disk is to blame only where its count rose; in all other cases the counts stay.
+-- The disk is to blame only where one call of it failed; in all other cases the counts stay.
 pub record CountsAdopting {D A : Type 0}
     (g : Ghosts D)
     (old new : D)
     (result : Result A AdoptFault) : Type 0 where
   pub steady : OnOk result (g.faults new ≡ g.faults old)
   pub others : IfErr result (λ f. (IsOfDisk f → ⊥) → g.faults new ≡ g.faults old)
-  pub cause : IfErr result (λ f. IsOfDisk f → Rose (g.faults old).disk (g.faults new).disk)
+  pub cause : IfErr result (λ f. IsOfDisk f → DiskFailed (g.faults old) (g.faults new))
 
 -- the disk is to be adopted, with this count, and drops this update
 pub record IsFound (size slot : ℕ) (old : Image) (a : Adopted) : Type 0 where

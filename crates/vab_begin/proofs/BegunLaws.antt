@@ -1,5 +1,5 @@
 -- A begin: its dead writes, and its step.
-use Rattle.std.proofs.Common.{◌≡◌, ◌∙◌, inl, inr, ℕ, zero, suc, ◌≤◌, ◌<◌, List}
+use Rattle.std.proofs.Common.{◌≡◌, ◌≢◌, ◌∙◌, inl, inr, ℕ, zero, suc, ◌≤◌, ◌<◌, List}
 use Rattle.std.proofs.Common.{[], ◌∷◌, length, Ok, refl, sym, ap, subst, arith}
 use Rattle.std.specs.Prelude.{Bool, true, false, Option, Some, None, ◌==◌, map, nat_le}
 use Rattle.std.specs.Prelude.{if◌then◌else◌}
@@ -46,6 +46,7 @@ use Rattle.vab_begin.specs.declared.target.Target.{Target}
 use Rattle.vab_begin.specs.Kept.{with_control, with_update}
 use Rattle.vab_begin.specs.Target.{layout_for, IsTargetOf, IsTargetFor, IsRefusedBy}
 use Rattle.vab_begin.specs.Writes.{begin_of, IsOfPlaces}
+use Rattle.vab_device.proofs.DoesLaws.{step_follows}
 use Rattle.vab_device.proofs.Steps.{marked, IsStep}
 use Rattle.vab_begin.proofs.KeptLaws.{update_kept}
 use Rattle.vab_device.proofs.MarkLaws.{rephased_again}
@@ -169,6 +170,38 @@ begin_is apart d size old staged s dev idle is =
     (λ (l : Layout).
     table_effect (mounted_on d old) d.mark.slot (no_entries apart) (fitting d.geometry.max l))
     (imported_plain apart d.mark.slot (layout_of s) dev.slot)
+
+-- the begin of an update to this target
+begin_gives : (apart : Bool) (d : Device) (size : ℕ) (old : Image) (staged : Option (List ℕ))
+    (x : Target)
+    → IsDevice d size
+    → d.mark.phase ≡ marks.Idle
+    → IsTargetFor apart d x
+    → effect_on (mounted_on d old) staged (begin_of apart)
+    ≡ wanting true
+    (does replies.Done
+    (installing_with (mounted_on d old) d.mark.slot (no_entries apart) (layout_of x.table)))
+begin_gives apart d size old staged x dev idle for =
+    let of = for.target in
+    let gives : layout_for apart d.geometry.max d.mark.slot for.source
+    ≡ Ok (layout_of x.table) =
+    of.gives.1
+    ∙ ap Ok (sym
+    (fitting_same d.geometry.max (imported_by apart d.mark.slot (layout_of for.source))
+    of.gives.0
+    of.gives.1) ∙ sym of.layout) in
+    begin_is apart d size old staged for.source dev idle for.is
+    ∙ ap (table_effect (mounted_on d old) d.mark.slot (no_entries apart)) gives
+
+-- it has a device behind it
+pub begin_follows : (apart : Bool) (d : Device) (size : ℕ) (old : Image)
+    (staged : Option (List ℕ)) (x : Target)
+    → IsDevice d size
+    → d.mark.phase ≡ marks.Idle
+    → IsTargetFor apart d x
+    → (effect_on (mounted_on d old) staged (begin_of apart)).later ≢ []
+begin_follows apart d size old staged x dev idle for =
+    step_follows (begin_gives apart d size old staged x dev idle for)
 
 pub begin_refused : (apart : Bool) (d : Device) (old : Image) (staged : Option (List ℕ))
     (plan : List Part)
@@ -518,19 +551,9 @@ module _ (told : Type 0) (apart : Bool) (text : List ℕ) (size : ℕ) (old : Im
       pub begin_step : (staged : Option (List ℕ))
           → IsStep d (begun_device apart d x.table) staged (begin_of apart) replies.Done true size
           old new
-      begin_step staged =
-          let of = for.target in
-          let gives : layout_for apart d.geometry.max d.mark.slot for.source
-          ≡ Ok (layout_of x.table) =
-          of.gives.1
-          ∙ ap Ok (sym
-          (fitting_same d.geometry.max (imported_by apart d.mark.slot (layout_of for.source))
-          of.gives.0
-          of.gives.1) ∙ sym of.layout) in
-          record {
-            represents = next.represents;
-            effect =
-                begin_is apart d size old staged for.source dev idle for.is
-                ∙ ap (table_effect (mounted_on d old) d.mark.slot (no_entries apart)) gives
-                ∙ ap (λ (m : Mounted). wanting true (does replies.Done m)) (sym means);
-          }
+      begin_step staged = record {
+        represents = next.represents;
+        effect =
+            begin_gives apart d size old staged x dev idle for
+            ∙ ap (λ (m : Mounted). wanting true (does replies.Done m)) (sym means);
+      }

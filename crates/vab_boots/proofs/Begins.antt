@@ -3,6 +3,7 @@ use Rattle.std.proofs.Common.{◌≡◌, ◌∙◌, ℕ, zero, suc, ◌<◌, Boo
 use Rattle.std.proofs.Common.{Option}
 use Rattle.std.proofs.Common.{Some, None, refl, sym, ap, subst, arith}
 use Rattle.std.proofs.lemmas.Bool.{eqb-false}
+use Rattle.std.specs.Prelude.{not}
 use Rattle.vab_disk.specs.Disk.{Image}
 use Rattle.vab_bootctl.specs.Boot.{info_at}
 use Rattle.vab_layout.specs.Slots.{other_slot}
@@ -14,9 +15,9 @@ use Rattle.vab_model.specs.declared.command.Reply.TheVariants as replies
 use Rattle.vab_model.specs.declared.command.Refusal.{Refusal}
 use Rattle.vab_model.specs.declared.command.Refusal.TheVariants as refusals
 use Rattle.vab_model.specs.Commands.{BeginMerge}
-use Rattle.vab_model.specs.Effects.{Effect, after_of, does, refuses}
+use Rattle.vab_model.specs.Effects.{Effect, after_of, does}
 use Rattle.vab_model.specs.State.{images_at}
-use Rattle.vab_model.specs.Machine.{without_images}
+use Rattle.vab_model.specs.Machine.{without_images, unless, merging_from as merging_state}
 use Rattle.vab_device.specs.Mounted.{Mounted}
 use Rattle.vab_device.specs.Reading.{IsIn}
 use Rattle.vab_device.specs.Updates.{effect_on, begin_merge_effect, merging_from}
@@ -30,19 +31,16 @@ use Rattle.vab_boots.proofs.Facts.{Facts, facts_of}
 -- ---- a begin that is done
 
 -- where this reply isn't a refusal the test held
-pub done_else : (b : Bool) (refusal : Refusal) (e : Effect Mounted)
-    → (cond b (refuses refusal) e).reply ≡ replies.Done
-    → (b ≡ false) × (e.reply ≡ replies.Done)
-done_else true refusal e done =
-    absurd (let bad : replies.Refused refusal ≡ replies.Done = done in cc)
-done_else false refusal e done = (refl, done)
-
-pub done_then : (b : Bool) (refusal : Refusal) (e : Effect Mounted)
-    → (cond b e (refuses refusal)).reply ≡ replies.Done
+pub tested : (b : Bool) (refusal : Refusal) (e : Effect State)
+    → (unless b refusal e).reply ≡ replies.Done
     → (b ≡ true) × (e.reply ≡ replies.Done)
-done_then true refusal e done = (refl, done)
-done_then false refusal e done =
+tested true refusal e done = (refl, done)
+tested false refusal e done =
     absurd (let bad : replies.Refused refusal ≡ replies.Done = done in cc)
+
+not_true : (b : Bool) → not b ≡ true → b ≡ false
+not_true true is = absurd cc
+not_true false is = refl
 
 pub refused_not : {A : Type 0} (refusal : Refusal) → replies.Refused refusal ≡ replies.Done → A
 refused_not refusal done = absurd cc
@@ -85,19 +83,22 @@ merge_begins : (m : Mounted) (source left : ℕ)
     → BeginsAlone m (after_of m (begin_merge_effect m (Staged source left)))
 merge_begins m source left facts phase done =
     let successful : Bool = (info_at m.state.control (other_slot source)).successful in
-    let begins : Effect Mounted = does replies.Done (merging_from m source left) in
-    let later : Effect Mounted = cond successful begins (refuses refusals.NotSuccessful) in
-    let current = done_else (eqb m.state.control.current source) refusals.NotRunningTarget later
+    let begins : Effect State = does replies.Done (merging_state m.state source left) in
+    let runs : Bool = eqb m.state.control.current source in
+    let other =
+    tested (not runs) refusals.NotRunningTarget (unless successful refusals.NotSuccessful begins)
     done in
-    let works = done_then successful refusals.NotSuccessful begins current.1 in
-    let same : begin_merge_effect m (Staged source left) ≡ begins =
-    rw (current.0, works.0) refl in
+    let works = tested successful refusals.NotSuccessful begins other.1 in
+    let current : runs ≡ false = not_true runs other.0 in
+    let same
+    : begin_merge_effect m (Staged source left) ≡ does replies.Done (merging_from m source left) =
+    rw (current, works.0) refl in
     let worked : source ≡ facts.slot =
     sym (ap (λ (p : Phase). worked_of p m.state.control.current) phase) ∙ facts.worked in
     let ready : is_ready m.state.phase ≡ true = ap is_ready phase in
     let some = some_of (images_at m.state (other_slot facts.slot)) (facts.both ready) in
     let below : source < 2 = omega (arith, worked, facts.below) in
-    let apart = eqb-false m.state.control.current source current.0 in
+    let apart = eqb-false m.state.control.current source current in
     let at : m.state.control.current ≡ other_slot source =
     omega (arith, apart, below, facts.current_below) in
     let had : images_at m.state (other_slot source) ≡ Some some.0 =

@@ -129,7 +129,7 @@ module _ (m : Mounted) where
       → StillRuns m x
       → AllRun (effect_on x staged (Flash name One)).later
   flashes x staged name runs y is =
-      planned x y runs (flash_planned x staged name One x.state.phase y is)
+      planned x y runs (flash_planned x staged name One y is)
 
   -- the end of the installation
   completes : (x : Mounted) (source : ℕ) (plan : Plan) (least : Option (List ℕ))

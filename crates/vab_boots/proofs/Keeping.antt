@@ -26,7 +26,7 @@ use Rattle.vab_model.specs.Commands.{Merge, Factory}
 use Rattle.vab_model.specs.State.{images_at}
 use Rattle.vab_model.specs.Effects.{Effect, Found, Image_is, Refused_by, found_of, print_effect}
 use Rattle.vab_model.specs.Effects.{digest_effect, active_effect, effect_map, IsOneOf}
-use Rattle.vab_model.specs.Machine.{machine_effect}
+use Rattle.vab_model.specs.Machine.{machine_effect, cancelled as cancelled_state}
 use Rattle.vab_model.specs.Effects.{after_of, does}
 use Rattle.vab_model.specs.Machine.{with_images, without_images, declared_name, least_declared}
 use Rattle.vab_model.specs.Machine.{exceptions_in}
@@ -41,7 +41,7 @@ use Rattle.vab_device.specs.Updates.{complete_effect}
 use Rattle.vab_device.specs.Updates.{finish_effect, cancelled, cancel_effect, final_image}
 use Rattle.vab_model.specs.Kinds.{changes_images}
 use Rattle.vab_boots.specs.Images.{IsReady, Finishes, Cancels, SameImages}
-use Rattle.vab_boots.proofs.Begins.{refused_not, done_then}
+use Rattle.vab_boots.proofs.Begins.{refused_not, tested}
 use Rattle.vab_boots.proofs.Planned.{IsPlanned, begin_planned, edit_planned, flash_planned}
 
 -- ---- two slots
@@ -168,10 +168,11 @@ cancel_by : (m : Mounted) (source left : ℕ)
     → (cancel_effect m (Staged source left)).reply ≡ replies.Done
     → Cancels source m (after_of m (cancel_effect m (Staged source left)))
 cancel_by m source left done =
-    let drops : Effect Mounted = does replies.Done (cancelled m source) in
+    let drops : Effect State = does replies.Done (cancelled_state m.state source) in
     let runs : Bool = eqb m.state.control.current source in
-    let current = done_then runs refusals.RunningTarget drops done in
-    let same : cancel_effect m (Staged source left) ≡ drops = rw current.0 refl in
+    let current = tested runs refusals.RunningTarget drops done in
+    let same : cancel_effect m (Staged source left) ≡ does replies.Done (cancelled m source) =
+    rw current.0 refl in
     subst (λ (e : Effect Mounted). Cancels source m (after_of m e)) (sym same)
     (cancels_from m source)
 
@@ -265,7 +266,7 @@ module _ (m : Mounted) where
   same_by staged (Delete name) other = edits (settled_guard true name) (delete_edit name)
   same_by staged (Snapshot name size) other = edits store_guard (snapshot_edit name size)
   same_by staged (Flash name chunk) other =
-      λ x is. planned x _ (flash_planned m staged name chunk m.state.phase x is)
+      λ x is. planned x _ (flash_planned m staged name chunk x is)
   same_by staged (Merge blocks) other = merges blocks m.state.phase
   same_by staged _ other = absurd cc
 

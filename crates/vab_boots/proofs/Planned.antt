@@ -16,16 +16,18 @@ use Rattle.vab_model.specs.declared.state.Phase.{Phase}
 use Rattle.vab_model.specs.declared.state.Phase.TheVariants.{Idle, Installing, Staged, Merging}
 use Rattle.vab_model.specs.declared.command.Refusal.{Refusal}
 use Rattle.vab_model.specs.declared.command.Refusal.TheVariants as refusals
+use Rattle.vab_model.specs.Commands.{Flash}
 use Rattle.vab_model.specs.Effects.{Effect, IsOneOf, refuses, wanting}
 use Rattle.vab_model.specs.Plans.{entry_named, with_entries}
 use Rattle.vab_model.specs.Staged.{is_sparse}
 use Rattle.vab_device.specs.Mounted.{Mounted}
+use Rattle.vab_device.specs.Flashed.{staged_effect, unwritten_effect, in_store, in_place}
+use Rattle.vab_device.specs.Flashed.{placed_effect, entry_effect, flash_effect, if_room, flashed}
+use Rattle.vab_device.specs.Flashed.{with_image, filled, differences, source_bytes}
 use Rattle.vab_device.specs.Updates.{table_effect, replanned, no_entries, begun_effect}
 use Rattle.vab_device.specs.Updates.{begin_effect, layout_at, EditOf, edited_effect, Guard}
-use Rattle.vab_device.specs.Updates.{unless_kept, edit_effect, staged_effect, unwritten_effect}
-use Rattle.vab_device.specs.Updates.{in_store, in_place, placed_effect, entry_effect, flash_effect}
-use Rattle.vab_device.specs.Updates.{if_room, flashed, with_image, filled, differences}
-use Rattle.vab_device.specs.Updates.{source_bytes}
+use Rattle.vab_device.specs.Updates.{unless_kept, edit_effect, effect_on}
+use Rattle.vab_device.proofs.FlashedLaws.{flash_by_blocks}
 use Rattle.vab_boots.specs.Boots.{worked_of}
 
 -- An update from this slot is installed, with this plan. Nothing else of the state has changed.
@@ -163,16 +165,26 @@ module _ (m : Mounted) where
   found source plan k staged None = none source
   found source plan k staged (Some e) = placed source plan e k staged e.store
 
-  pub flash_planned : (staged : Option (List ℕ)) (name : List ℕ) (k : Chunk) (phase : Phase)
+  flashes : (staged : Option (List ℕ)) (name : List ℕ) (k : Chunk) (phase : Phase)
       → ArePlanned (worked_of phase m.state.control.current)
       (flash_effect m staged name k phase).later
-  flash_planned staged name k Idle = none m.state.control.current
-  flash_planned staged name k (Installing source plan) =
+  flashes staged name k Idle = none m.state.control.current
+  flashes staged name k (Installing source plan) =
       let e : Option PlanEntry = entry_named (base_of name) plan.entries in
       either source (is_full (other_slot source) name)
       (entry_effect m source plan k staged e)
       (refuses refusals.BadName)
       (found source plan k staged e)
       (none source)
-  flash_planned staged name k (Staged source left) = none source
-  flash_planned staged name k (Merging target left) = none target
+  flashes staged name k (Staged source left) = none source
+  flashes staged name k (Merging target left) = none target
+
+  pub flash_planned : (staged : Option (List ℕ)) (name : List ℕ) (k : Chunk)
+      → ArePlanned (worked_of m.state.phase m.state.control.current)
+      (effect_on m staged (Flash name k)).later
+  flash_planned staged name k =
+      subst
+      (λ (e : Effect Mounted).
+      ArePlanned (worked_of m.state.phase m.state.control.current) e.later)
+      (sym (flash_by_blocks m staged name k))
+      (flashes staged name k m.state.phase)

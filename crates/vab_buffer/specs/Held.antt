@@ -1,7 +1,7 @@
 -- A disk over a store of runs, of which some sectors are held back.
-use Rattle.std.specs.Prelude.{◌≡◌, ◌⊎◌, ℕ, List, Result, OnErr}
+use Rattle.std.specs.Prelude.{◌≡◌, ◌⊎◌, ℕ, List, Result, OnOk, OnErr}
 use Rattle.vab_disk.specs.declared.disk.Disk.{Ghosts as DiskGhosts}
-use Rattle.vab_disk.specs.Disk.{Image, Outcome, Leaves, Faults, NoFewer, Rose}
+use Rattle.vab_disk.specs.Disk.{Image, Outcome, Leaves, Faults, DiskFailed}
 use Rattle.vab_buffer.specs.declared.store.RunStore.{Ghosts}
 use Rattle.vab_buffer.specs.declared.run.Run.{Run}
 use Rattle.vab_buffer.specs.Run.{over, IsKept}
@@ -58,10 +58,14 @@ abbrev pub IsFetched : {S : Type 0} → Ghosts S → S → Run → Type 0
 IsFetched g store ahead =
     g.is_modelled → (s : ℕ) (b : List ℕ) → IsKept ahead s b → b ≡ g.seen store s
 
--- An error comes where the count of the store's faults rose. No count of the store falls.
-pub record FailsBelow {S A E : Type 0}
+-- A read of a disk over a store: a run that was read ahead failed, or none did. Behind it the call
+-- is as any other. So one that is done has at most one failed call of the store behind it, and one
+-- that fails one or two, the last of which is for the sector alone.
+pub record FailsReading {S A E : Type 0}
     (g : Ghosts S)
     (old new : S)
     (result : Result A E) : Type 0 where
-  pub counts : NoFewer (g.faults old) (g.faults new)
-  pub cause : OnErr result (Rose (g.faults old).disk (g.faults new).disk)
+  pub ahead : Faults
+  pub tried : (ahead ≡ g.faults old) ⊎ DiskFailed (g.faults old) ahead
+  pub steady : OnOk result (g.faults new ≡ ahead)
+  pub cause : OnErr result (DiskFailed ahead (g.faults new))

@@ -1,11 +1,11 @@
 // A disk over a store of runs, that holds writes back and reads ahead.
-ghost use Rattle.std.specs.Prelude.{◌≡◌, ◌<◌, ◌≤◌, ◌+◌, ◌*◌, ℕ, List, length, slice_index, take};
-ghost use Rattle.std.specs.Prelude.{IfOk, OnOk, OnErr};
-ghost use Rattle.std.specs.Bool.{OnTrue};
-ghost use Rattle.vab_disk.specs.Disk.{NoFewer, Outcome, SameHoldings};
+ghost use Rattle.std.specs.Prelude.{◌≡◌, ◌⊎◌, ◌<◌, ◌≤◌, ◌+◌, ◌*◌, ℕ, List, length, slice_index};
+ghost use Rattle.std.specs.Prelude.{IfOk, OnOk, OnErr, take};
+ghost use Rattle.std.specs.Bool.{OnTrue, OnFalse};
+ghost use Rattle.vab_disk.specs.Disk.{DiskFailed, Outcome, SameHoldings};
 ghost use Rattle.vab_disk.specs.Calls.{OnlyReads, FailsWithDisk};
 ghost use Rattle.vab_gate.specs.Gate.{sectors_at};
-ghost use Rattle.vab_buffer.specs.Held.{as_disk, faults_of, IsFetched, FailsBelow};
+ghost use Rattle.vab_buffer.specs.Held.{as_disk, faults_of, IsFetched, FailsReading};
 ghost use Rattle.vab_buffer.specs.Run.{over, IsKept, Has, Takes};
 ghost use Rattle.vab_buffer.specs.Store.{OnlyWrites};
 
@@ -141,7 +141,7 @@ impl<S: RunStore + Drop> Buffered<S> {
         ensures reads { OnlyReads ⟦<Buffered<S> as Disk>⟧ self.old self.new }
         ensures none { OnOk result (self.new.held.count ≡ 0) }
         ensures faults { FailsWithDisk ⟦<Buffered<S> as Disk>⟧ self.old self.new result }
-        ensures below { FailsBelow S.RunStore self.old.store self.new.store result }
+        ensures below { FailsWithDisk (as_disk S.RunStore) self.old.store self.new.store result }
     {
         if self.held.count == 0 {
             return Ok(());
@@ -164,7 +164,7 @@ impl<S: RunStore + Drop> Buffered<S> {
         ensures reads { OnlyReads ⟦<Buffered<S> as Disk>⟧ self.old self.new }
         ensures room { OnOk result (Takes self.new.held at) }
         ensures faults { FailsWithDisk ⟦<Buffered<S> as Disk>⟧ self.old self.new result }
-        ensures below { FailsBelow S.RunStore self.old.store self.new.store result }
+        ensures below { FailsWithDisk (as_disk S.RunStore) self.old.store self.new.store result }
     {
         if self.held.takes(at) {
             return Ok(());
@@ -194,7 +194,10 @@ impl<S: RunStore + Drop> Buffered<S> {
         ensures here { OnTrue result (Has self.new.ahead at) }
         ensures held { self.new.held ≡ self.old.held }
         ensures failed { self.new.failed ≡ self.old.failed }
-        ensures below { NoFewer (S.faults self.old.store) (S.faults self.new.store) }
+        ensures below { OnTrue result (S.faults self.new.store ≡ S.faults self.old.store) }
+        ensures tried { OnFalse result
+            ((S.faults self.new.store ≡ S.faults self.old.store)
+            ⊎ DiskFailed (S.faults self.old.store) (S.faults self.new.store)) }
     {
         let count = self.run_from(at);
         if count < 2 {
@@ -213,7 +216,7 @@ impl<S: RunStore + Drop> Buffered<S> {
         ensures here { OnOk result (Has self.new.ahead at) }
         ensures held { self.new.held ≡ self.old.held }
         ensures faults { FailsWithDisk ⟦<Buffered<S> as Disk>⟧ self.old self.new result }
-        ensures below { FailsBelow S.RunStore self.old.store self.new.store result }
+        ensures below { FailsReading S.RunStore self.old.store self.new.store result }
     {
         if self.ahead.has(at) || self.read_ahead(at) {
             return Ok(());
@@ -277,8 +280,8 @@ impl<S: RunStore + Drop> Disk for Buffered<S> {
             (out.new ≡ ⟦<Buffered<S> as Disk>⟧.seen self.old at) }
         ensures reads { OnlyReads ⟦<Buffered<S> as Disk>⟧ self.old self.new }
         ensures faults { FailsWithDisk ⟦<Buffered<S> as Disk>⟧ self.old self.new result }
-        // It fails only where a call of the store failed.
-        ensures below { FailsBelow S.RunStore self.old.store self.new.store result }
+        // At most one call of the store fails that is made good.
+        ensures below { FailsReading S.RunStore self.old.store self.new.store result }
     {
         if self.held.has(at) {
             self.held.get(at, out);
@@ -297,8 +300,8 @@ impl<S: RunStore + Drop> Disk for Buffered<S> {
         ensures failed { OnErr result (OnlyReads ⟦<Buffered<S> as Disk>⟧ self.old self.new) }
         ensures writes { OnlyWrites ⟦<Buffered<S> as Disk>⟧ (IsAt at from.now) self.old self.new }
         ensures faults { FailsWithDisk ⟦<Buffered<S> as Disk>⟧ self.old self.new result }
-        // It fails only where a call of the store failed.
-        ensures below { FailsBelow S.RunStore self.old.store self.new.store result }
+        // It fails exactly where a call of the store does, and makes none behind it.
+        ensures below { FailsWithDisk (as_disk S.RunStore) self.old.store self.new.store result }
     {
         self.make_room(at)?;
         self.held.push(at, from);
@@ -312,8 +315,8 @@ impl<S: RunStore + Drop> Disk for Buffered<S> {
             (⟦<Buffered<S> as Disk>⟧.may_leave self.new)) }
         ensures syncs { OnlySyncs ⟦<Buffered<S> as Disk>⟧ self.old self.new }
         ensures faults { FailsWithDisk ⟦<Buffered<S> as Disk>⟧ self.old self.new result }
-        // It fails only where a call of the store failed.
-        ensures below { FailsBelow S.RunStore self.old.store self.new.store result }
+        // It fails exactly where a call of the store does, and makes none behind it.
+        ensures below { FailsWithDisk (as_disk S.RunStore) self.old.store self.new.store result }
     {
         self.write_out()?;
         match self.store.sync() {

@@ -2,7 +2,7 @@
 ghost use Rattle.std.specs.Prelude.{◌≡◌, ◌⊎◌, ◌<◌, ◌≤◌, ◌+◌, ◌^◌, ◌%◌, List, ℕ, length};
 ghost use Rattle.std.specs.Prelude.{slice_index, OnOk, OnErr};
 ghost use Rattle.vab_disk.specs.Disk.{Image, IsSector, Outcome, Leaves, IsSettled, Adds, Nothing};
-ghost use Rattle.vab_disk.specs.Disk.{Writes, SameHoldings, Faults, Quiet, Rose, Hearing};
+ghost use Rattle.vab_disk.specs.Disk.{Writes, SameHoldings, Faults, Quiet, Hearing, DiskFailed};
 ghost use Rattle.vab_disk.specs.Calls.{SameBut};
 ghost use Rattle.vab_gate.specs.Gate.{set_sectors, sectors_at, IsAmong};
 ghost use Rattle.vab_buffer.specs.Store.{sectors_in};
@@ -57,7 +57,7 @@ pub trait RunStore {
         ensures crash { is_modelled → SameHoldings (may_leave self.old) (may_leave self.new) }
         ensures time { is_modelled → Adds moment outcomes self.old self.new Nothing }
         ensures steady { OnOk result (faults self.new ≡ faults self.old) }
-        ensures cause { OnErr result (Rose (faults self.old).disk (faults self.new).disk) };
+        ensures cause { OnErr result (DiskFailed (faults self.old) (faults self.new)) };
 
     /// Writes sectors from `at` on. A crash leaves each of them, by itself, as it could be left
     /// before or with its new bytes. A run that fails may have written any of them.
@@ -75,7 +75,7 @@ pub trait RunStore {
         ensures time { is_modelled → Adds moment outcomes self.old self.new
             (Leaves (told self.old) (may_leave self.new)) }
         ensures steady { OnOk result (faults self.new ≡ faults self.old) }
-        ensures cause { OnErr result (Rose (faults self.old).disk (faults self.new).disk) };
+        ensures cause { OnErr result (DiskFailed (faults self.old) (faults self.new)) };
 
     /// After it a crash leaves what a read gives. One that fails leaves pending what is pending.
     fn sync(&mut self) -> Result<(), Failed>
@@ -89,7 +89,7 @@ pub trait RunStore {
         ensures seen { is_modelled → seen self.new ≡ seen self.old }
         ensures time { is_modelled → Adds moment outcomes self.old self.new Nothing }
         ensures steady { OnOk result (faults self.new ≡ faults self.old) }
-        ensures cause { OnErr result (Rose (faults self.old).disk (faults self.new).disk) };
+        ensures cause { OnErr result (DiskFailed (faults self.old) (faults self.new)) };
 
     /// A store is small.
     ghost small: { (d : Self) → size d < 2 ^ 55 };

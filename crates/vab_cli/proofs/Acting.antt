@@ -5,7 +5,7 @@ use Rattle.std.proofs.Common.{Result, Ok, Err, refl, sym, ap, subst, arith, leng
 use Rattle.std.specs.Prelude.{IfOk, IfErr, OnOk, IsErrOf, None}
 use Rattle.std.proofs.lemmas.List.{append-nil}
 use Rattle.vab_disk.specs.declared.disk.Disk.{Ghosts}
-use Rattle.vab_disk.specs.Disk.{Outcome, Faults, Image, Leaves, Rose}
+use Rattle.vab_disk.specs.Disk.{Outcome, Faults, Image, Leaves, DiskFailed, SinkFailed}
 use Rattle.vab_disk.proofs.CallLaws.{changes_then, changes_telling}
 use Rattle.vab_disk.proofs.Moments.{adds_wider}
 use Rattle.vab_gate.specs.declared.gate.DiskFault.{DiskFault}
@@ -108,8 +108,8 @@ module _ {D : Type 0} (g : Ghosts D) (d : Device) (item : Item Mounted) (ends : 
     pub quiet : g.is_modelled → HearsNothing g old new
     pub stop : IfErr r IsStop
     pub steady : IsSteady g old new (status_in r)
-    pub disk : IsErrOf r Disk → Rose (g.faults old).disk (g.faults new).disk
-    pub port : IsErrOf r Port → Rose (g.faults old).sink (g.faults new).sink
+    pub disk : IsErrOf r Disk → DiskFailed (g.faults old) (g.faults new)
+    pub port : IsErrOf r Port → SinkFailed (g.faults old) (g.faults new)
 
   pub performs_item : Acted → Performs g d (of_item item ends) old new r
   performs_item a = record {
@@ -321,14 +321,14 @@ module _ {D : Type 0} (g : Ghosts D) (d : Device) (c : Course) (old new : D)
           (λ e. let bad : Usage ≡ NoMemory = sym is ∙ e in cc)
           stop
 
-  pub acted_disk : status_in r ≡ Disk → Rose (g.faults old).disk (g.faults new).disk
+  pub acted_disk : status_in r ≡ Disk → DiskFailed (g.faults old) (g.faults new)
   acted_disk is = p.disk (go r is)
     where
       go : (r : Result Device Status) → status_in r ≡ Disk → IsErrOf r Disk
       go (Ok d) is = cc
       go (Err s) is = ap Err is
 
-  pub acted_port : status_in r ≡ Port → Rose (g.faults old).sink (g.faults new).sink
+  pub acted_port : status_in r ≡ Port → SinkFailed (g.faults old) (g.faults new)
   acted_port is = p.port (go r is)
     where
       go : (r : Result Device Status) → status_in r ≡ Port → IsErrOf r Port
@@ -415,7 +415,9 @@ status_closed d replies.Merged = refl
 status_closed d (replies.Refused refusal) = refl
 
 -- what holds of the device holds of the one that is answered
-closed_ok : (d : Device) (reply : Reply) (P : Device → Type 0) → P d → IfOk (closed_by d reply) P
+pub closed_ok : (d : Device) (reply : Reply) (P : Device → Type 0)
+    → P d
+    → IfOk (closed_by d reply) P
 closed_ok d replies.Done P p = p
 closed_ok d (replies.Booted slot) P p = p
 closed_ok d (replies.Bytes name) P p = p
@@ -535,7 +537,7 @@ module _ {D : Type 0} (g : Ghosts D) (d : Device) (c : Command) (verb : IsVerb c
     -- the port failed
     pub command_broken : (g.is_modelled
         → Says g (line_behind front m c) mid new (let r : Result Status Status = Err Port in r))
-        → Rose (g.faults mid).sink (g.faults new).sink
+        → SinkFailed (g.faults mid) (g.faults new)
         → PerformsActs g d (command_act front c ∷ []) old new (Err Port)
     command_broken says rose =
         as_act new (Err Port) (performs_item g d item status old new (Err Port) (record {
@@ -553,7 +555,7 @@ module _ {D : Type 0} (g : Ghosts D) (d : Device) (c : Command) (verb : IsVerb c
           steady = λ held. absurd held;
           disk = λ is. cc;
           port = λ is.
-              subst (λ (f : Faults). Rose f.sink (g.faults new).sink) done.faults.steady rose;
+              subst (λ (f : Faults). SinkFailed f (g.faults new)) done.faults.steady rose;
         }))
 
     -- all is told

@@ -9,7 +9,7 @@ use Rattle.std.proofs.lemmas.List.{take-append-drop, take-append-le, take_min}
 use Rattle.vab_set.specs.declared.set.SetImage.{SetImage}
 use Rattle.std.proofs.Math.Seq.{take-append-add}
 use Rattle.vab_disk.specs.declared.disk.Disk.{Ghosts}
-use Rattle.vab_disk.specs.Disk.{Outcome, Adds, Faults, Rose}
+use Rattle.vab_disk.specs.Disk.{Outcome, Adds, Faults, DiskFailed, SinkFailed}
 use Rattle.vab_disk.specs.Calls.{IsAtRest}
 use Rattle.vab_disk.proofs.CallLaws.{changes_none}
 use Rattle.vab_disk.proofs.Moments.{adds_on, adds_wider}
@@ -534,9 +534,9 @@ module _ {D : Type 0} (g : Ghosts D) (d next : Device) (xs ys : List Act) (old m
     stop = second.stop;
     steady = λ held. second.steady held ∙ faults_same;
     disk = λ is.
-        subst (λ (f : Faults). Rose f.disk (g.faults new).disk) faults_same (second.disk is);
+        subst (λ (f : Faults). DiskFailed f (g.faults new)) faults_same (second.disk is);
     port = λ is.
-        subst (λ (f : Faults). Rose f.sink (g.faults new).sink) faults_same (second.port is);
+        subst (λ (f : Faults). SinkFailed f (g.faults new)) faults_same (second.port is);
   }
 
 -- nothing is to be done
@@ -584,18 +584,18 @@ pub represents_next : {D : Type 0} (g : Ghosts D) (d next : Device) (xs : List A
 represents_next g d next xs old new p t =
     subst (λ (n : ℕ). Represents next n (g.seen new)) (sym p.size) (p.represents t)
 
--- ---- lists of acts
+-- ---- lists of acts, or of their commands
 
 -- one more of the same
-pub one_more : (n : ℕ) (a : Act) → replicate n a ++ a ∷ [] ≡ replicate (n + 1) a
+pub one_more : {A : Type 0} (n : ℕ) (a : A) → replicate n a ++ a ∷ [] ≡ replicate (n + 1) a
 one_more n a = replicate-append-replicate n 1 a
 
 -- so many images, and the next one
-pub map_more : (f : SetImage → Act) (set : List SetImage) (n : ℕ) (image : SetImage)
+pub map_more : {A : Type 0} (f : SetImage → A) (set : List SetImage) (n : ℕ) (image : SetImage)
     → n < length set
     → get_or set n image ≡ image
     → map f (take n set) ++ f image ∷ [] ≡ map f (take (n + 1) set)
-map_more f set n image below is = rw add-one (more set n below is)
+map_more {A} f set n image below is = rw add-one (more set n below is)
   where
     more : (xs : List SetImage) (k : ℕ)
         → k < length xs
@@ -604,14 +604,14 @@ map_more f set n image below is = rw add-one (more set n below is)
     more [] k below is = absurd (omega (arith, below))
     more (x ∷ xs) zero below is = ap (λ (y : SetImage). f y ∷ []) (sym is)
     more (x ∷ xs) (suc k) below is =
-        ap (λ (l : List Act). f x ∷ l) (more xs k (omega (arith, below)) is)
+        ap (λ (l : List A). f x ∷ l) (more xs k (omega (arith, below)) is)
 
-pub map_both : (f : SetImage → Act) (set : List SetImage) (n : ℕ)
+pub map_both : {A : Type 0} (f : SetImage → A) (set : List SetImage) (n : ℕ)
     → map f (take n set) ++ map f (drop n set) ≡ map f set
 map_both f set n =
     sym (map-append f (take n set) (drop n set)) ∙ ap (map f) (take-append-drop n set)
 
-pub map_all : (f : SetImage → Act) (set : List SetImage) (n : ℕ)
+pub map_all : {A : Type 0} (f : SetImage → A) (set : List SetImage) (n : ℕ)
     → length set ≤ n
     → map f (take n set) ≡ map f set
 map_all f set n is = ap (map f) (take_all n set is)

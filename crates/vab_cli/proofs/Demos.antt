@@ -31,28 +31,34 @@ use Rattle.vab_exchanges.proofs.RunLaws.{IsChain, within_item}
 use Rattle.vab_cli.specs.declared.status.Status.{Status}
 use Rattle.vab_cli.specs.declared.status.Status.TheVariants.{Done, Usage, Malformed, Refused}
 use Rattle.vab_cli.specs.declared.status.Status.TheVariants.{NotADevice, Disk, Port, NoMemory}
-use Rattle.vab_cli.specs.Acts.{Act, Course, IsStop, LeavesAmong, Performs, PerformsActs}
+use Rattle.vab_cli.specs.Acts.{Act, Course, DoesActs, IsStop, LeavesAmong, Performs}
 use Rattle.vab_cli.specs.Acts.{command_act, course, status_in, told_by}
 use Rattle.vab_cli.specs.Codes.{make_status}
-use Rattle.vab_cli.specs.Demo.{Demonstrates, digest_act, digest_front, life, life_of, take_over}
+use Rattle.vab_cli.specs.Demo.{Demonstrates, digest_act, digest_front, life, life_of, orders_of}
+use Rattle.vab_cli.specs.Demo.{take_over, update_orders}
 use Rattle.vab_cli.specs.Installing.{left_behind}
 use Rattle.vab_cli.specs.Opening.{Opens}
 use Rattle.vab_cli.specs.Runs.{IsEarly, IsFailed, FailsMaking}
 use Rattle.vab_cli.specs.Telling.{Tells}
 use Rattle.vab_cli.specs.Touched.{IsOfMade}
 use Rattle.vab_cli.specs.Verbs.{done_making, is_silent, make_line}
+use Rattle.vab_cli.specs.Written.{WritesLife}
+use Rattle.vab_update.specs.Orders.{Order}
 use Rattle.vab_cli.proofs.Running.{untouched_stays}
 use Rattle.vab_cli.proofs.Acting.{command_is_act, install_is_act, line_is_act, not_stop, wanted}
 use Rattle.vab_cli.proofs.Courses.{AreActs, IsEnd, acts_chain, acts_end, are_both, are_mapped}
 use Rattle.vab_cli.proofs.Courses.{are_same, performs_as}
 use Rattle.vab_cli.proofs.FreshTouching.{made_opened, made_served, making_fresh}
+use Rattle.vab_cli.proofs.ActsWritten.{writes_made}
 use Rattle.vab_cli.proofs.Items.{mounted_is}
+use Rattle.vab_cli.proofs.Lines.{current_is}
 use Rattle.vab_cli.proofs.Makings.{early_silent, loud_refusal, memory_of_none, not_of_disk}
 use Rattle.vab_cli.proofs.Makings.{refused_told, refused_unheard, silent_line, silent_memory}
 use Rattle.vab_cli.proofs.Makings.{small_refused, status_not_port}
 use Rattle.vab_cli.proofs.Sessions.{made_early, made_small, making_cuts, making_failed}
 use Rattle.vab_cli.proofs.Sessions.{opening_failed, prepared}
 use Rattle.vab_cli.proofs.Touching.{served_changes}
+use Rattle.vab_cli.proofs.Writing.{changes_as}
 
 -- ---- its acts
 
@@ -171,6 +177,10 @@ module _ {D : Type 0}
   making_made mid makes =
       making_fresh g set size IsOfAll old mid (changes_touches g _ old mid makes)
 
+  -- what making may write
+  abbrev Fresh : ℕ → List ℕ → Type 0
+  Fresh = InSectors (IsOfMaking set 65536)
+
   -- memory was refused before anything was done
   pub demo_short : Demonstrates g set next old old NoMemory
   demo_short = record {
@@ -189,6 +199,7 @@ module _ {D : Type 0}
         (λ port. absurd (status_not_port fault port)) (inr (inr refl));
     small = λ less. inr (inr refl);
     touches = λ t. changes_none g _ old;
+    writes = λ t. inr (changes_as g Fresh old old t (changes_none g Fresh old));
     quiet = λ t. record { left = refl; heard = refl };
   }
 
@@ -253,6 +264,12 @@ module _ {D : Type 0}
         changes_then g _ old mid new (making_made mid makes)
         (changes_telling g _ _ mid new sized (λ t. told.seen) (λ t. told.crash)
         (λ t. told.time));
+    writes = λ t.
+        let told = tells t in
+        inr (changes_as g Fresh old new t
+        (changes_then g Fresh old mid new (changes_touches g Fresh old mid makes)
+        (changes_telling g _ _ mid new sized (λ t. told.seen) (λ t. told.crash)
+        (λ t. told.time))));
     quiet = λ t.
         let told = tells t in
         record {
@@ -278,6 +295,15 @@ module _ {D : Type 0}
     opens_there now opens =
         subst (λ (n : ℕ). Changes g (IsOfOpening n (g.seen mid)) mid now) makes.quiet.size
         (changes_touches g _ mid now opens)
+
+    -- opening writes what making may
+    fresh_opened : g.is_modelled
+        → (now : D)
+        → Touches g (IsOfOpening (g.size mid) (g.seen mid)) mid now
+        → Changes g Fresh old now
+    fresh_opened t now opens =
+        made_opened g set size old mid now (made t) (version t)
+        (changes_touches g _ old mid makes) (opens_there now opens)
 
     record Unheard (now : D) : Type 0 where
       told : g.told now ≡ g.told mid
@@ -317,10 +343,8 @@ module _ {D : Type 0}
       small = λ less.
           not_refused (make.TooSmall 6152 size) (small_refused set 0 65536 size less);
       touches = λ t.
-          making_fresh g set size IsOfAll old now
-          (made_opened g set size old mid now (made t) (version t)
-          (changes_touches g _ old mid makes)
-          (opens_there now (opens t)));
+          making_fresh g set size IsOfAll old now (fresh_opened t now (opens t));
+      writes = λ t. inr (changes_as g Fresh old now t (fresh_opened t now (opens t)));
       quiet = λ t. record {
         left = (quiet_there t now (opens t)).left ∙ makes.quiet.left t;
         heard = (quiet_there t now (opens t)).heard ∙ makes.quiet.heard t;
@@ -333,9 +357,10 @@ module _ {D : Type 0}
         (opened : g.is_modelled → Opens g size mid now)
         (represents : g.is_modelled → Represents d size (g.seen now))
         (sized : g.size now ≡ size)
-        (p : PerformsActs g d
+        (p : DoesActs g d
         (life (done_making set (g.size now)) next
         (left_behind (mounted_on d (g.seen now)) next))
+        (update_orders d.control.current next (left_behind (mounted_on d (g.seen now)) next))
         now new r) where
       abbrev c : Course
       c = life_of set next size
@@ -346,6 +371,9 @@ module _ {D : Type 0}
       there : g.is_modelled → IsIn size first (g.seen now)
       there t = (let by = opened t in by.device) ∙ made t
 
+      first_is : g.is_modelled → mounted_on d (g.seen now) ≡ first
+      first_is t = mounted_is d size (g.seen now) first (represents t) (there t)
+
       course_is : g.is_modelled
           → course
           (life (done_making set (g.size now)) next
@@ -353,11 +381,21 @@ module _ {D : Type 0}
           (mounted_on d (g.seen now))
           ≡ c
       course_is t =
-          let same = mounted_is d size (g.seen now) first (represents t) (there t) in
+          let same = first_is t in
           λ i. course (life (done_making set (sized i)) next (left_behind (same i) next)) (same i)
 
       lived : Performs g d c now new r
-      lived = performs_as g d _ c now new r course_is p
+      lived = performs_as g d _ c now new r course_is p.performs
+
+      orders_are : g.is_modelled
+          → update_orders d.control.current next (left_behind (mounted_on d (g.seen now)) next)
+          ≡ orders_of set next size
+      orders_are t =
+          let same = first_is t in
+          let current : d.control.current ≡ first.state.control.current =
+          sym (current_is d (g.seen now))
+          ∙ ap (λ (m : Mounted). m.state.control.current) same in
+          λ i. update_orders (current i) next (left_behind (same i) next)
 
       end : IsEnd c.ends
       end = acts_end acts first (life_is set next size (left_behind first next))
@@ -435,6 +473,14 @@ module _ {D : Type 0}
             (served_changes g size IsOfAll d mid now new t (represents t)
             (opens_there now (opens t))
             (lived.changes t));
+        writes = λ t.
+            subst
+            (λ (l : List Order). WritesLife g Fresh size first l old new)
+            (orders_are t)
+            (writes_made g Fresh size d first _ old now new t sized (represents t) (first_is t)
+            (fresh_opened t now (opens t))
+            (λ before. (let by = opened t in by.settled) (rest t))
+            (let wrote = p.writes t in wrote.all));
         quiet = λ t.
             let lives = lived.quiet t in
             record {

@@ -2,7 +2,7 @@
 use Rattle.std.proofs.Common.{◌≡◌, ◌∙◌, inl, inr, List, [], ◌∷◌, Result, Ok}
 use Rattle.std.proofs.Common.{Err, refl, sym, subst}
 use Rattle.vab_disk.specs.declared.disk.Disk.{Ghosts}
-use Rattle.vab_disk.specs.Disk.{Faults, Image, Rose}
+use Rattle.vab_disk.specs.Disk.{Faults, Image, SinkFailed}
 use Rattle.vab_disk.proofs.CallLaws.{changes_then, changes_telling}
 use Rattle.vab_gate.specs.declared.gate.DiskFault.{DiskFault}
 use Rattle.vab_set.specs.declared.set.SetImage.{SetImage}
@@ -166,7 +166,7 @@ module _ {D : Type 0} (g : Ghosts D) (d : Device) (set : List SetImage) (old mid
 
       pub install_refused_broken : (g.is_modelled
           → Says g (install_told m set) mid new (let r : Result Status Status = Err Port in r))
-          → Rose (g.faults mid).sink (g.faults new).sink
+          → SinkFailed (g.faults mid) (g.faults new)
           → Acts new (Err Port)
       install_refused_broken says rose =
           as_act new (Err Port)
@@ -191,7 +191,7 @@ module _ {D : Type 0} (g : Ghosts D) (d : Device) (set : List SetImage) (old mid
             steady = λ held. absurd held;
             disk = λ is. cc;
             port = λ is.
-                subst (λ (f : Faults). Rose f.sink (g.faults new).sink) carries.steady rose;
+                subst (λ (f : Faults). SinkFailed f (g.faults new)) carries.steady rose;
           }))
 
     -- all are done
@@ -233,7 +233,7 @@ module _ {D : Type 0} (g : Ghosts D) (d : Device) (set : List SetImage) (old mid
 
       pub install_done_broken : (g.is_modelled
           → Says g (install_told m set) mid new (let r : Result Status Status = Err Port in r))
-          → Rose (g.faults mid).sink (g.faults new).sink
+          → SinkFailed (g.faults mid) (g.faults new)
           → Acts new (Err Port)
       install_done_broken says rose =
           as_act new (Err Port)
@@ -258,5 +258,5 @@ module _ {D : Type 0} (g : Ghosts D) (d : Device) (set : List SetImage) (old mid
             steady = λ held. absurd held;
             disk = λ is. cc;
             port = λ is.
-                subst (λ (f : Faults). Rose f.sink (g.faults new).sink) carries.steady rose;
+                subst (λ (f : Faults). SinkFailed f (g.faults new)) carries.steady rose;
           }))

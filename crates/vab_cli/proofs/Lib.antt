@@ -1,4 +1,5 @@
 mod Acting
+mod ActsWritten
 mod Adoptings
 mod Blocks
 mod Causing

@@ -2,7 +2,7 @@
 use Rattle.std.proofs.Common.{◌≡◌, inl, inr, ℕ, List, [], ◌∷◌, Result, Ok, Err, refl}
 use Rattle.std.proofs.Common.{sym, subst}
 use Rattle.vab_disk.specs.declared.disk.Disk.{Ghosts}
-use Rattle.vab_disk.specs.Disk.{Image, Rose}
+use Rattle.vab_disk.specs.Disk.{Image, SinkFailed}
 use Rattle.vab_disk.proofs.CallLaws.{changes_telling}
 use Rattle.vab_device.specs.declared.device.Device.{Device}
 use Rattle.vab_device.specs.Kept.{IsDevice}
@@ -102,7 +102,7 @@ module _ {D : Type 0} (g : Ghosts D) (d : Device) (line : List ℕ) (old new : D
   -- the port failed
   pub line_broken : (status : Status)
       → (g.is_modelled → Tells g line Done old new status)
-      → Rose (g.faults old).sink (g.faults new).sink
+      → SinkFailed (g.faults old) (g.faults new)
       → PerformsActs g d (line_act line ∷ []) old new (Err Port)
   line_broken status tells rose =
       as_act (Err Port) (performs_item g d (line_item m line) Done old new (Err Port) (record {

@@ -4,7 +4,7 @@ use Rattle.std.proofs.Common.{[], length}
 use Rattle.std.proofs.Common.{◌∷◌, zero, suc, Bool, Option, drop, true, false, None, Some, Ok, Err}
 use Rattle.std.proofs.Common.{refl, sym, ap, subst, take}
 use Rattle.vab_disk.specs.declared.disk.Disk.{Ghosts}
-use Rattle.vab_disk.specs.Disk.{Outcome, Rose}
+use Rattle.vab_disk.specs.Disk.{Outcome, DiskFailed, SinkFailed, SourceFailed}
 use Rattle.vab_disk.specs.Calls.{IsAtRest, Changes, InSectors}
 use Rattle.vab_bootctl.specs.declared.slots.Control.{Control}
 use Rattle.vab_bootctl.specs.Control.{control_of}
@@ -140,10 +140,10 @@ module _ {D : Type 0}
     (status : Status)
     (words : status ≢ Usage)
     (steady : IsSteady g old new status)
-    (disk : status ≡ Disk → Rose (g.faults old).disk (g.faults new).disk)
+    (disk : status ≡ Disk → DiskFailed (g.faults old) (g.faults new))
     (port : status ≡ Port
-    → Rose (g.faults old).source (g.faults new).source
-    ⊎ Rose (g.faults old).sink (g.faults new).sink) where
+    → SourceFailed (g.faults old) (g.faults new)
+    ⊎ SinkFailed (g.faults old) (g.faults new)) where
   no_disk : NoFault (g.faults old) (g.faults new) → status ≡ Disk → ⊥
   no_disk none is = none.disk (disk is)
 
@@ -328,7 +328,7 @@ module _ {D : Type 0}
       → (g.is_modelled
       → (s : Mounted)
       → IsIn (g.size old) s (g.seen old)
-      → WritesServed g (IsOfOpening (g.size old) (g.seen old)) (status ≡ Disk) turns (g.size old)
+      → WritesServed g (IsOfOpening (g.size old) (g.seen old)) turns (g.size old)
       (drop 4 (take (2 ^ 44) (g.input_left old)))
       old new)
       → (g.is_modelled
@@ -361,7 +361,7 @@ module _ {D : Type 0}
     writes_served = λ t n same s stands.
         subst
         (λ (k : ℕ).
-        WritesServed g (IsOfOpening (g.size old) (g.seen old)) (status ≡ Disk) k (g.size old)
+        WritesServed g (IsOfOpening (g.size old) (g.seen old)) k (g.size old)
         (drop 4 (take (2 ^ 44) (g.input_left old)))
         old new)
         (same_turns false turns n (sym is ∙ same)) (writes t s stands);
@@ -419,7 +419,7 @@ module _ {D : Type 0}
       → Changes g (IsOfFresh IsOfCommands (g.size old)) old new)
       → LeavesCopies g m old new status
       → (g.is_modelled
-      → WritesServed g (InSectors (IsOfMaking [] 65536)) (status ≡ Disk) turns (g.size old)
+      → WritesServed g (InSectors (IsOfMaking [] 65536)) turns (g.size old)
       (drop 4 (take (2 ^ 44) (g.input_left old)))
       old new)
       → DoesVerb g m old new status
@@ -439,7 +439,7 @@ module _ {D : Type 0}
     writes_fresh = λ t n same.
         subst
         (λ (k : ℕ).
-        WritesServed g (InSectors (IsOfMaking [] 65536)) (status ≡ Disk) k (g.size old)
+        WritesServed g (InSectors (IsOfMaking [] 65536)) k (g.size old)
         (drop 4 (take (2 ^ 44) (g.input_left old)))
         old new)
         (same_turns true turns n (sym is ∙ same)) (writes t);

@@ -1,7 +1,6 @@
 -- What a session and an installation write.
 use Rattle.std.proofs.Common.{◌≡◌, ◌∙◌, inl, inr, ⊎_elim, ◌^◌, ℕ, List, take, drop}
 use Rattle.std.proofs.Common.{Result, sym, ap, subst}
-use Rattle.std.specs.Prelude.{IsErrOf}
 use Rattle.vab_disk.specs.declared.disk.Disk.{Ghosts}
 use Rattle.vab_disk.specs.Disk.{Image}
 use Rattle.vab_disk.specs.Calls.{Changes, IsAtRest}
@@ -13,18 +12,12 @@ use Rattle.vab_set.specs.declared.set.SetImage.{SetImage}
 use Rattle.vab_device.specs.declared.device.Device.{Device}
 use Rattle.vab_device.specs.Mounted.{mounted_on}
 use Rattle.vab_device.specs.Reading.{Represents}
-use Rattle.vab_session.specs.Served.{Answer, nothing_staged}
-use Rattle.vab_session.specs.declared.fault.SessionFault.TheVariants as session
+use Rattle.vab_session.specs.Served.{nothing_staged}
 use Rattle.vab_session.specs.Written.{WrittenInTurn, WritesAs, WritesInTurn}
-use Rattle.vab_session.proofs.WrittenLaws.{written_wider}
 use Rattle.vab_update.specs.declared.stop.Stop.{Stop}
 use Rattle.vab_update.specs.Install.{install_orders}
 use Rattle.vab_update.specs.Orders.{Order}
-use Rattle.vab_update.specs.Written.{HasFailed, OrdersWritten, WritesOrders}
-use Rattle.vab_update.proofs.WrittenLaws.{written_wider as orders_wider}
-use Rattle.vab_cli.specs.declared.status.Status.{Status}
-use Rattle.vab_cli.specs.declared.status.Status.TheVariants.{Disk}
-use Rattle.vab_cli.specs.Codes.{session_status}
+use Rattle.vab_update.specs.Written.{OrdersWritten, WritesOrders}
 use Rattle.vab_cli.specs.Written.{WritesInOrder, WritesInstall, WritesServed}
 
 -- what is changed, where nothing was pending
@@ -41,36 +34,30 @@ changes_as g W old new t changes = record {
 }
 
 pub writes_opened : {D : Type 0} (turns : ℕ) (g : Ghosts D) (W : ℕ → List ℕ → Type 0) (size : ℕ)
-    (d : Device)
-    (r : Answer) (status : Status) (old mid new : D)
+    (d : Device) (old mid new : D)
     → g.is_modelled
     → g.size mid ≡ size
     → g.input_left mid ≡ g.input_left old
     → Represents d size (g.seen mid)
     → Changes g W old mid
     → (IsAtRest g old → IsAtRest g mid)
-    → status ≡ session_status r
-    → WritesInTurn g (IsErrOf r session.Disk) turns (g.size mid) d
+    → WritesInTurn g turns (g.size mid) d
     (nothing_staged (mounted_on d (g.seen mid)))
     (drop 4 (take (2 ^ 44) (g.input_left mid))) mid new
-    → WritesServed g W (status
-    ≡ Disk) turns size (drop 4 (take (2 ^ 44) (g.input_left old))) old new
-writes_opened turns g W size d r status old mid new t sized left represents opens rests is wrote =
+    → WritesServed g W turns size (drop 4 (take (2 ^ 44) (g.input_left old))) old new
+writes_opened turns g W size d old mid new t sized left represents opens rests wrote =
     let first = changes_as g W old mid t opens in
     let wide : (image : Image)
-    → WrittenInTurn g.is_modelled (IsErrOf r session.Disk) turns (g.size mid) d
+    → WrittenInTurn g.is_modelled turns (g.size mid) d
     (nothing_staged (mounted_on d (g.seen mid))) (g.seen mid) wrote.done wrote.more image
-    → WrittenInTurn g.is_modelled (status ≡ Disk) turns size d
+    → WrittenInTurn g.is_modelled turns size d
     (nothing_staged (mounted_on d (g.seen mid))) (g.seen mid) wrote.done wrote.more image =
     λ image w.
-    written_wider g.is_modelled (IsErrOf r session.Disk) (status ≡ Disk) turns size d
-    (nothing_staged (mounted_on d (g.seen mid))) (g.seen mid) wrote.done wrote.more image
-    (λ failed. is ∙ ap session_status failed)
-    (subst
+    subst
     (λ (n : ℕ).
-    WrittenInTurn g.is_modelled (IsErrOf r session.Disk) turns n d
+    WrittenInTurn g.is_modelled turns n d
     (nothing_staged (mounted_on d (g.seen mid))) (g.seen mid) wrote.done wrote.more image)
-    sized w) in
+    sized w in
     inl (record {
       device = d;
       opened = g.seen mid;
@@ -91,31 +78,20 @@ writes_opened turns g W size d r status old mid new t sized left represents open
 
 -- ---- an installation
 
-module _ {D : Type 0} (g : Ghosts D) (F : Type 0) (d : Device) (orders : List Order) where
+module _ {D : Type 0} (g : Ghosts D) (d : Device) (orders : List Order) where
   -- nothing is told behind it
   pub orders_alone : (old new : D) (r : Result Device Stop)
-      → (HasFailed r → F)
       → WritesOrders g d orders old new r
-      → WritesInOrder g F d orders old new
-  orders_alone old new r wide is = record {
-    seen = wider (g.seen new) is.seen;
-    time = λ rest.
-        adds_wider g.moment g.outcomes old new _ _ (is.time rest) (λ o w. wider o.image w);
-  }
-    where
-      wider : (image : Image)
-          → OrdersWritten g.is_modelled (HasFailed r) (g.size old) d (g.seen old) orders image
-          → OrdersWritten g.is_modelled F (g.size old) d (g.seen old) orders image
-      wider image =
-          orders_wider g.is_modelled (g.size old) (HasFailed r) F d (g.seen old) orders image wide
+      → WritesInOrder g d orders old new
+  orders_alone old new r is = record { seen = is.seen; time = is.time }
 
   -- a line is told behind it
   pub orders_told : (old mid new : D) (text : List ℕ)
-      → WritesInOrder g F d orders old mid
+      → WritesInOrder g d orders old mid
       → (IsAtRest g old → IsAtRest g mid)
       → g.seen new ≡ g.seen mid
       → Adds g.moment g.outcomes mid new (LeavesSaying (g.told mid) text (g.may_leave mid))
-      → WritesInOrder g F d orders old new
+      → WritesInOrder g d orders old new
   orders_told old mid new text first rests same time = record {
     seen = subst Written (sym same) first.seen;
     time = λ rest.
@@ -128,27 +104,25 @@ module _ {D : Type 0} (g : Ghosts D) (F : Type 0) (d : Device) (orders : List Or
   }
     where
       Written : Image → Type 0
-      Written image = OrdersWritten g.is_modelled F (g.size old) d (g.seen old) orders image
+      Written image = OrdersWritten g.is_modelled (g.size old) d (g.seen old) orders image
 
-pub writes_installed : {D : Type 0} (g : Ghosts D) (W : ℕ → List ℕ → Type 0) (F G : Type 0)
-    (size : ℕ) (d : Device) (set : List SetImage) (old mid new : D)
+pub writes_installed : {D : Type 0} (g : Ghosts D) (W : ℕ → List ℕ → Type 0) (size : ℕ)
+    (d : Device) (set : List SetImage) (old mid new : D)
     → g.is_modelled
     → g.size mid ≡ size
     → Represents d size (g.seen mid)
     → Changes g W old mid
     → (IsAtRest g old → IsAtRest g mid)
-    → (F → G)
-    → WritesInOrder g F d (install_orders d.control.current set) mid new
-    → WritesInstall g W G size set old new
-writes_installed g W F G size d set old mid new t sized represents opens rests wide wrote =
+    → WritesInOrder g d (install_orders d.control.current set) mid new
+    → WritesInstall g W size set old new
+writes_installed g W size d set old mid new t sized represents opens rests wrote =
     let orders : List Order = install_orders d.control.current set in
     let first = changes_as g W old mid t opens in
     let wider : (image : Image)
-    → OrdersWritten g.is_modelled F (g.size mid) d (g.seen mid) orders image
-    → OrdersWritten g.is_modelled G size d (g.seen mid) orders image =
+    → OrdersWritten g.is_modelled (g.size mid) d (g.seen mid) orders image
+    → OrdersWritten g.is_modelled size d (g.seen mid) orders image =
     λ image w.
-    orders_wider g.is_modelled size F G d (g.seen mid) orders image wide
-    (subst (λ (n : ℕ). OrdersWritten g.is_modelled F n d (g.seen mid) orders image) sized w) in
+    subst (λ (n : ℕ). OrdersWritten g.is_modelled n d (g.seen mid) orders image) sized w in
     inl (record {
       device = d;
       opened = g.seen mid;

@@ -4,7 +4,7 @@ use Rattle.std.specs.Prelude.{◌≡◌, ◌⊎◌, ℕ, Bool, true, false, if�
 use Rattle.std.specs.Prelude.{List, [], ◌∷◌, ◌++◌, take, Result, Ok, Err, IfOk, IfErr, OnOk}
 use Rattle.std.specs.Prelude.{IsErrOf}
 use Rattle.vab_disk.specs.declared.disk.Disk.{Ghosts}
-use Rattle.vab_disk.specs.Disk.{Outcome, Adds, Rose}
+use Rattle.vab_disk.specs.Disk.{Outcome, Adds, DiskFailed, SinkFailed}
 use Rattle.vab_disk.specs.Calls.{IsAtRest}
 use Rattle.vab_set.specs.declared.set.SetImage.{SetImage}
 use Rattle.vab_model.specs.Commands.{Command}
@@ -26,6 +26,8 @@ use Rattle.vab_cli.specs.Counts.{HearsNothing, IsSteady}
 use Rattle.vab_cli.specs.Installing.{install_item, install_status}
 use Rattle.vab_cli.specs.Runs.{Held, IsFailed, RunsItems}
 use Rattle.vab_cli.specs.Verbs.{command_item, line_behind, line_item, verb_status}
+use Rattle.vab_cli.specs.Written.{WritesActs}
+use Rattle.vab_update.specs.Orders.{Order}
 
 -- ---- what is done
 
@@ -179,8 +181,8 @@ module _ {D : Type 0} (g : Ghosts D) where
     pub quiet : g.is_modelled → HearsNothing g old new
     pub stop : IfErr result IsStop
     pub steady : IsSteady g old new (status_in result)
-    pub disk : IsErrOf result Disk → Rose (g.faults old).disk (g.faults new).disk
-    pub port : IsErrOf result Port → Rose (g.faults old).sink (g.faults new).sink
+    pub disk : IsErrOf result Disk → DiskFailed (g.faults old) (g.faults new)
+    pub port : IsErrOf result Port → SinkFailed (g.faults old) (g.faults new)
 
 -- these acts, on the device that is kept
 abbrev pub PerformsActs : {D : Type 0}
@@ -192,3 +194,14 @@ abbrev pub PerformsActs : {D : Type 0}
     → Type 0
 PerformsActs g d acts old new result =
     Performs g d (course acts (mounted_on d (g.seen old))) old new result
+
+-- the same, and what they write is what these commands write in turn
+pub record DoesActs {D : Type 0}
+    (g : Ghosts D)
+    (d : Device)
+    (acts : List Act)
+    (orders : List Order)
+    (old new : D)
+    (result : Result Device Status) : Type 0 where
+  pub performs : PerformsActs g d acts old new result
+  pub writes : g.is_modelled → WritesActs g d orders old new result

@@ -3,17 +3,19 @@ use Rattle.std.specs.Prelude.{◌≡◌, ◌⊎◌, ◌<◌, ℕ, ◌+◌, ◌/�
 use Rattle.std.specs.Prelude.{replicate}
 use Rattle.std.specs.Prelude.{Some, None}
 use Rattle.vab_disk.specs.declared.disk.Disk.{Ghosts}
-use Rattle.vab_disk.specs.Calls.{Changes}
+use Rattle.vab_disk.specs.Calls.{Changes, InSectors}
 use Rattle.vab_set.specs.declared.set.SetImage.{SetImage}
 use Rattle.vab_gen.specs.Sets.{fresh_set, next_set}
 use Rattle.vab_make.specs.declared.fault.MakeFault.{MakeFault}
 use Rattle.vab_make.specs.Made.{refusal_of, made_device_of}
 use Rattle.vab_make.specs.Making.{LeavesMaking}
+use Rattle.vab_make.specs.Touched.{IsOfMaking}
 use Rattle.vab_model.specs.Commands.{Boot, Mark, Digest, BeginMerge, Merge}
 use Rattle.vab_commands.specs.Touched.{IsOfAll}
-use Rattle.vab_update.specs.Install.{target_name}
+use Rattle.vab_update.specs.Install.{install_orders, order, target_name}
+use Rattle.vab_update.specs.Orders.{Order}
 use Rattle.vab_cli.specs.declared.status.Status.{Status}
-use Rattle.vab_cli.specs.declared.status.Status.TheVariants.{NotADevice, Port, NoMemory}
+use Rattle.vab_cli.specs.declared.status.Status.TheVariants.{NotADevice, Disk, Port, NoMemory}
 use Rattle.vab_cli.specs.Acts.{Act, Course, RunsActs, command_act, course, install_act, line_act}
 use Rattle.vab_cli.specs.Codes.{make_status}
 use Rattle.vab_cli.specs.Counts.{HearsNothing}
@@ -21,6 +23,7 @@ use Rattle.vab_cli.specs.Installing.{left_behind}
 use Rattle.vab_cli.specs.Runs.{RunsRefused, FailsMaking}
 use Rattle.vab_cli.specs.Touched.{IsOfMade}
 use Rattle.vab_cli.specs.Verbs.{done_making, make_line}
+use Rattle.vab_cli.specs.Written.{WritesLife}
 
 -- how often seven turns are taken until a merge of so many blocks has ended: a turn more ends it
 abbrev pub sevens : (left : ℕ) → ℕ
@@ -57,6 +60,29 @@ life_of set next size =
     let made = made_device_of set 0 65536 size in
     course (life (done_making set size) next (left_behind made next)) made
 
+-- ---- its commands
+
+-- the slot that isn't running takes over
+abbrev pub take_over_orders : List Order
+take_over_orders = order Boot ∷ order Mark ∷ order BeginMerge ∷ []
+
+abbrev pub digest_order : SetImage → Order
+digest_order image = order (Digest (target_name 0 image))
+
+-- those of an update by a set, from this slot
+abbrev pub update_orders : (source : ℕ) → List SetImage → (left : ℕ) → List Order
+update_orders source set left =
+    install_orders source set
+    ++ (take_over_orders ++ replicate (sevens left) (order (Merge 7)) ++ map digest_order set)
+
+-- those of the life of a device that is made of a set, on so many sectors, and of the next set
+abbrev pub orders_of : (set next : List SetImage) → (size : ℕ) → List Order
+orders_of set next size =
+    let made = made_device_of set 0 65536 size in
+    update_orders made.state.control.current next (left_behind made next)
+
+-- ---- what is promised
+
 -- where there are too few sectors for a device
 abbrev pub EndsSmall : Status → Type 0
 EndsSmall status = (status ≡ NotADevice) ⊎ ((status ≡ Port) ⊎ (status ≡ NoMemory))
@@ -83,6 +109,13 @@ module _ {D : Type 0} (g : Ghosts D) (set next : List SetImage) (old new : D) (s
       pub small : g.size old < 6152 → EndsSmall status
       -- It writes what making does, and what commands on that device may.
       pub touches : g.is_modelled → Changes g (IsOfMade set IsOfAll (g.size old)) old new
+      -- What it writes is what making does, and then what the commands of its life write in turn,
+      -- from the made device: one that changes the device what it writes there, and each other
+      -- nothing.
+      pub writes : g.is_modelled
+          → WritesLife g (InSectors (IsOfMaking set 65536)) (g.size old)
+          (made_device_of set 0 65536 (g.size old))
+          (orders_of set next (g.size old)) old new
       -- It hears nothing.
       pub quiet : g.is_modelled → HearsNothing g old new
 

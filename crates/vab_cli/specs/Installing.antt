@@ -113,13 +113,12 @@ module _ {D : Type 0} (g : Ghosts D) (old new : D) (status : Status) where
         → IsIn (g.size old) s (g.seen old)
         → Changes g (IsOfServing IsOfCommands (g.size old) (g.seen old)) old new
     -- What it writes is what opening may, and then what its commands write in turn: one that
-    -- changes the device what it writes there, and each other nothing, unless the disk failed.
+    -- changes the device what it writes there, and each other nothing, also where the disk fails.
     pub writes : g.is_modelled
         → (set : List SetImage)
         → set_of (g.input_left old) ≡ Ok set
         → (s : Mounted)
         → IsIn (g.size old) s (g.seen old)
-        → WritesInstall g (IsOfOpening (g.size old) (g.seen old)) (status ≡ Disk) (g.size old) set
-        old new
+        → WritesInstall g (IsOfOpening (g.size old) (g.seen old)) (g.size old) set old new
     -- Where it is done the input was heard to its end.
     pub end : g.is_modelled → status ≡ Done → g.input_left new ≡ []

@@ -2,7 +2,7 @@
 use Rattle.std.specs.Prelude.{◌≡◌, ◌≢◌, ◌⊎◌, ◌≤◌, ◌<◌, ◌^◌, ◌++◌, ℕ, List, [], length, true, false}
 use Rattle.std.specs.Prelude.{Some, None, Ok, Err, Bool, Option, take, drop}
 use Rattle.vab_disk.specs.declared.disk.Disk.{Ghosts}
-use Rattle.vab_disk.specs.Disk.{Outcome, Rose}
+use Rattle.vab_disk.specs.Disk.{Outcome, DiskFailed, SinkFailed, SourceFailed}
 use Rattle.vab_disk.specs.Calls.{IsAtRest, Changes, InSectors}
 use Rattle.vab_bootctl.specs.declared.slots.Control.{Control}
 use Rattle.vab_bootctl.specs.Control.{control_of}
@@ -175,13 +175,13 @@ pub record DoesVerb {D : Type 0}
       → Changes g (IsOfServing IsOfCommands (g.size old) (g.seen old)) old new
   -- What it writes is what its packets write in turn, from the device that was opened: one that
   -- changes the device what its command writes there, and a question, a variable, a download or a
-  -- refusal nothing, unless the disk failed.
+  -- refusal nothing, also where the disk fails.
   pub writes_served : g.is_modelled
       → (turns : ℕ)
       → m ≡ Serve false turns
       → (s : Mounted)
       → IsIn (g.size old) s (g.seen old)
-      → WritesServed g (IsOfOpening (g.size old) (g.seen old)) (status ≡ Disk) turns (g.size old)
+      → WritesServed g (IsOfOpening (g.size old) (g.seen old)) turns (g.size old)
       (drop 4 (take (2 ^ 44) (g.input_left old)))
       old new
   -- `serve --fresh` on enough sectors: the same over the made device of the empty set. Until its
@@ -219,7 +219,7 @@ pub record DoesVerb {D : Type 0}
   pub writes_fresh : g.is_modelled
       → (turns : ℕ)
       → m ≡ Serve true turns
-      → WritesServed g (InSectors (IsOfMaking [] 65536)) (status ≡ Disk) turns (g.size old)
+      → WritesServed g (InSectors (IsOfMaking [] 65536)) turns (g.size old)
       (drop 4 (take (2 ^ 44) (g.input_left old)))
       old new
   -- `make` of an input that spells a set: the made device, or the first refusal with its line and
@@ -280,15 +280,15 @@ pub record DoesVerb {D : Type 0}
   pub adopt : (slot : ℕ) → m ≡ Adopt slot → Adopts g slot old new status
   -- Both copies of each table agree in the end.
   pub copies : LeavesCopies g m old new status
-  -- Status 6 comes only where the count of the disk's faults rose, and 7 only where that of the
-  -- source or the sink did. With any other the counts are as they were.
-  pub disk : status ≡ Disk → Rose (g.faults old).disk (g.faults new).disk
+  -- Status 6 comes only where one call of the disk failed, and 7 only where a hearing did or a call
+  -- that tells; no other call failed. With any other status none did.
+  pub disk : status ≡ Disk → DiskFailed (g.faults old) (g.faults new)
   pub port : status ≡ Port
-      → Rose (g.faults old).source (g.faults new).source
-      ⊎ Rose (g.faults old).sink (g.faults new).sink
+      → SourceFailed (g.faults old) (g.faults new)
+      ⊎ SinkFailed (g.faults old) (g.faults new)
   pub steady : IsSteady g old new status
   pub words : status ≢ Usage
-  -- Where no count rises, what is asked for is done and told whole, or memory is refused.
+  -- Where no call fails, what is asked for is done and told whole, or memory is refused.
   pub complete : g.is_modelled
       → NoFault (g.faults old) (g.faults new)
       → (c : Command)

@@ -2,7 +2,7 @@
 use Rattle.std.specs.Prelude.{◌≡◌, ◌⊎◌, ◌^◌, ◌≤◌, ◌-◌, ℕ, List, [], ◌∷◌, ◌++◌, length, take, drop}
 use Rattle.std.specs.Prelude.{codes, Bool, Option}
 use Rattle.vab_disk.specs.declared.disk.Disk.{Ghosts}
-use Rattle.vab_disk.specs.Disk.{Image, Outcome, Adds, Faults, Rose}
+use Rattle.vab_disk.specs.Disk.{Image, Outcome, Adds, Faults, DiskFailed, SinkFailed, SourceFailed}
 use Rattle.vab_disk.specs.Calls.{IsAtRest}
 use Rattle.vab_set.specs.declared.set.SetImage.{SetImage}
 use Rattle.vab_model.specs.declared.state.Image.{Image as ImageOfSlot}
@@ -80,11 +80,11 @@ IsEarly status = (status ≡ Disk) ⊎ (status ≡ NoMemory)
 abbrev pub IsFailed : Status → Type 0
 IsFailed status = (status ≡ Disk) ⊎ (status ≡ Port)
 
--- no count of faults has risen
+-- no call has failed: no count of faults is one higher
 pub record NoFault (before now : Faults) : Type 0 where
-  pub disk : Rose before.disk now.disk → ⊥
-  pub source : Rose before.source now.source → ⊥
-  pub sink : Rose before.sink now.sink → ⊥
+  pub disk : DiskFailed before now → ⊥
+  pub source : SourceFailed before now → ⊥
+  pub sink : SinkFailed before now → ⊥
 
 -- ---- what a cut of power leaves
 

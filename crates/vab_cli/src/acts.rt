@@ -10,6 +10,8 @@ ghost use Rattle.vab_device.specs.Reading.{IsIn, Represents};
 ghost use Rattle.vab_cli.specs.Acts.{PerformsActs, closed_by, command_act, status_in};
 ghost use Rattle.vab_cli.specs.Causes.{IsRefusedOn};
 ghost use Rattle.vab_cli.specs.Touched.{IsOfDone};
+ghost use Rattle.vab_cli.specs.Written.{WritesActs};
+ghost use Rattle.vab_update.specs.Install.{order};
 ghost use Rattle.vab_model.specs.Kinds.{IsVerb};
 
 use crate::Status;
@@ -67,6 +69,9 @@ pub(crate) fn perform<P: Port>(
     ensures performs { PerformsActs P.Disk device
         (command_act front.now (command_of command.now) ∷ [])
         port.old port.new result }
+    // It writes what its command writes there, and nothing where that changes nothing.
+    ensures writes { P.is_modelled
+        → WritesActs P.Disk device (order (command_of command.now) ∷ []) port.old port.new result }
     // It takes no memory.
     ensures memory { IsErrOf result Status.NoMemory → ⊥ }
     // A refusal is that of the table of effects.

@@ -1,6 +1,6 @@
 //! Adopting a disk whose `super` somebody else has written.
 ghost use Rattle.std.specs.Prelude.{◌≡◌, ◌≢◌, ◌⊎◌, ◌<◌, Some, None, Ok, false};
-ghost use Rattle.vab_disk.specs.Disk.{Rose};
+ghost use Rattle.vab_disk.specs.Disk.{DiskFailed, SinkFailed};
 ghost use Rattle.vab_disk.specs.Calls.{Changes};
 ghost use Rattle.vab_device.specs.Mounted.{Mounted};
 ghost use Rattle.vab_adopt.specs.declared.fault.AdoptFault.{AdoptFault as Refusal};
@@ -35,7 +35,7 @@ fn tell_adopted<P: Port>(port: &mut P, adopted: &Adopted) -> Status
     ensures size { P.size port.new ≡ P.size port.old }
     ensures either { (result ≡ Status.Done) ⊎ (result ≡ Status.Port) }
     ensures steady { IsSteady P.Disk port.old port.new result }
-    ensures port { result ≢ Status.Done → Rose (P.faults port.old).sink (P.faults port.new).sink }
+    ensures port { result ≢ Status.Done → SinkFailed (P.faults port.old) (P.faults port.new) }
 {
     let mut line = ArrayVec::new();
     adopted_line(adopted.images, adopted.blocks, adopted.cap, &mut line);
@@ -61,7 +61,7 @@ fn tell_unadopted<P: Port>(port: &mut P, fault: AdoptFault) -> Status
     ensures either { (result ≡ adopt_status fault) ⊎ (result ≡ Status.Port) }
     ensures steady { IsSteady P.Disk port.old port.new result }
     ensures port { result ≢ adopt_status fault
-        → Rose (P.faults port.old).sink (P.faults port.new).sink }
+        → SinkFailed (P.faults port.old) (P.faults port.new) }
 {
     let status = Status::from(fault);
     match &fault {
@@ -94,8 +94,8 @@ pub(crate) fn adopt<P: Port>(
     ensures steady { IsSteady P.Disk port.old port.new result }
     ensures words { result ≢ Status.Usage }
     ensures read { result ≢ Status.Malformed }
-    ensures disk { result ≡ Status.Disk → Rose (P.faults port.old).disk (P.faults port.new).disk }
-    ensures port { result ≡ Status.Port → Rose (P.faults port.old).sink (P.faults port.new).sink }
+    ensures disk { result ≡ Status.Disk → DiskFailed (P.faults port.old) (P.faults port.new) }
+    ensures port { result ≡ Status.Port → SinkFailed (P.faults port.old) (P.faults port.new) }
     // Where it isn't adopted, the cause is the first refusal.
     ensures unadopted { P.is_modelled
         → (result ≡ Status.NotADevice) ⊎ (result ≡ Status.Refused)

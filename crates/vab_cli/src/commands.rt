@@ -1,6 +1,6 @@
 //! The verbs that are one command.
 ghost use Rattle.std.specs.Prelude.{◌≡◌, ◌≢◌, ◌⊎◌, Ok, Err};
-ghost use Rattle.vab_disk.specs.Disk.{Rose};
+ghost use Rattle.vab_disk.specs.Disk.{DiskFailed, SinkFailed};
 ghost use Rattle.vab_disk.specs.Calls.{Changes};
 ghost use Rattle.vab_bootctl.specs.declared.slots.Control.{Control};
 ghost use Rattle.vab_bootctl.specs.Control.{control_of};
@@ -63,8 +63,8 @@ pub(crate) fn carry_out<P: Port>(
         → HasBothCopies (P.size port.old) (P.seen port.new) }
     ensures steady { IsSteady P.Disk port.old port.new result }
     ensures words { result ≢ Status.Usage }
-    ensures disk { result ≡ Status.Disk → Rose (P.faults port.old).disk (P.faults port.new).disk }
-    ensures port { result ≡ Status.Port → Rose (P.faults port.old).sink (P.faults port.new).sink }
+    ensures disk { result ≡ Status.Disk → DiskFailed (P.faults port.old) (P.faults port.new) }
+    ensures port { result ≡ Status.Port → SinkFailed (P.faults port.old) (P.faults port.new) }
     // Where there is none, the cause is the first thing that is wrong with the disk.
     ensures unopened { P.is_modelled
         → result ≡ Status.NotADevice

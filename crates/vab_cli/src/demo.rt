@@ -2,22 +2,24 @@
 //! marked, merged, and its digests are told.
 ghost use Rattle.std.specs.Prelude.{◌≡◌, ◌≢◌, ◌⊎◌, ◌≤◌, ◌<◌, ◌+◌, ◌/◌, ◌^◌, [], ◌∷◌, ◌++◌, map};
 ghost use Rattle.std.specs.Prelude.{replicate, take, codes, None};
-ghost use Rattle.vab_disk.specs.Disk.{Rose};
+ghost use Rattle.vab_disk.specs.Disk.{DiskFailed, SinkFailed};
 ghost use Rattle.vab_gen.specs.Sets.{fresh_set};
 ghost use Rattle.vab_set.specs.Spelling.{IsImage, IsSet};
 ghost use Rattle.vab_model.specs.Commands.{Merge as MergeOf};
+ghost use Rattle.vab_update.specs.Install.{order};
 ghost use Rattle.vab_device.specs.Kept.{IsDevice};
 ghost use Rattle.vab_device.specs.Mounted.{mounted_on};
 ghost use Rattle.vab_device.specs.Reading.{Represents};
 ghost use Rattle.vab_words.specs.Values.{IsScale};
-ghost use Rattle.vab_cli.specs.Acts.{PerformsActs, command_act, line_act};
+ghost use Rattle.vab_cli.specs.Acts.{DoesActs, command_act, line_act};
 ghost use Rattle.vab_cli.specs.Causes.{IsUnmade};
 ghost use Rattle.vab_make.specs.Made.{refusal_of};
 ghost use Rattle.vab_commands.specs.Copies.{HasBothCopies};
 ghost use Rattle.vab_cli.specs.Copies.{IsAnswered};
 ghost use Rattle.vab_cli.specs.Counts.{IsSteady};
 ghost use Rattle.vab_cli.specs.Demo.{Demonstrates, DemonstratesOf, digest_act, digest_front};
-ghost use Rattle.vab_cli.specs.Demo.{life, sevens, take_over, update_acts};
+ghost use Rattle.vab_cli.specs.Demo.{digest_order, life, sevens, take_over, take_over_orders};
+ghost use Rattle.vab_cli.specs.Demo.{update_acts, update_orders};
 ghost use Rattle.vab_cli.specs.Installing.{left_behind};
 ghost use Rattle.vab_cli.specs.Verbs.{done_making};
 
@@ -52,8 +54,8 @@ fn begin_life<P: Port>(port: &mut P, device: Device, set: &Set) -> Result<Device
     requires size { 6152 ≤ P.size port.old }
     requires kept { IsDevice device (P.size port.old) }
     requires represents { P.is_modelled → Represents device (P.size port.old) (P.seen port.old) }
-    ensures { PerformsActs P.Disk device
-        (line_act (done_making set.now (P.size port.old)) ∷ [])
+    ensures { DoesActs P.Disk device
+        (line_act (done_making set.now (P.size port.old)) ∷ []) []
         port.old port.new result }
 {
     match tell_made(port, set) {
@@ -71,7 +73,7 @@ fn take_over<P: Port>(
 ) -> Result<Device, Status>
     requires kept { IsDevice device (P.size port.old) }
     requires represents { P.is_modelled → Represents device (P.size port.old) (P.seen port.old) }
-    ensures { PerformsActs P.Disk device take_over port.old port.new result }
+    ensures { DoesActs P.Disk device take_over take_over_orders port.old port.new result }
 {
     let next = perform(alloc, port, device, &Command::Boot, b"", cause)?;
     let next = perform(alloc, port, next, &Command::Mark, b"", cause)?;
@@ -88,7 +90,8 @@ fn merge_by_sevens<P: Port>(
 ) -> Result<Device, Status>
     requires kept { IsDevice device (P.size port.old) }
     requires represents { P.is_modelled → Represents device (P.size port.old) (P.seen port.old) }
-    ensures { PerformsActs P.Disk device (replicate times (command_act [] (MergeOf 7)))
+    ensures { DoesActs P.Disk device (replicate times (command_act [] (MergeOf 7)))
+        (replicate times (order (MergeOf 7)))
         port.old port.new result }
 {
     let mut next = device;
@@ -109,7 +112,8 @@ fn tell_digest<P: Port>(
     requires image { IsImage image.now }
     requires kept { IsDevice device (P.size port.old) }
     requires represents { P.is_modelled → Represents device (P.size port.old) (P.seen port.old) }
-    ensures { PerformsActs P.Disk device (digest_act image.now ∷ []) port.old port.new result }
+    ensures { DoesActs P.Disk device (digest_act image.now ∷ []) (digest_order image.now ∷ [])
+        port.old port.new result }
 {
     let full = full_name(&image.name, 1);
     let name = full.text();
@@ -138,7 +142,8 @@ fn tell_digests<P: Port>(
     requires set { IsSet set.now }
     requires kept { IsDevice device (P.size port.old) }
     requires represents { P.is_modelled → Represents device (P.size port.old) (P.seen port.old) }
-    ensures { PerformsActs P.Disk device (map digest_act set.now) port.old port.new result }
+    ensures { DoesActs P.Disk device (map digest_act set.now) (map digest_order set.now)
+        port.old port.new result }
 {
     let mut next = device;
     for image in set.as_slice() {
@@ -158,8 +163,10 @@ fn update<P: Port>(
     requires set { IsSet set.now }
     requires kept { IsDevice device (P.size port.old) }
     requires represents { P.is_modelled → Represents device (P.size port.old) (P.seen port.old) }
-    ensures { PerformsActs P.Disk device
+    ensures { DoesActs P.Disk device
         (update_acts set.now (left_behind (mounted_on device (P.seen port.old)) set.now))
+        (update_orders device.control.current set.now
+        (left_behind (mounted_on device (P.seen port.old)) set.now))
         port.old port.new result }
 {
     let next = install_set(alloc, port, device, set, cause)?;
@@ -183,8 +190,10 @@ fn live<P: Port>(
     requires size { 6152 ≤ P.size port.old }
     requires kept { IsDevice device (P.size port.old) }
     requires represents { P.is_modelled → Represents device (P.size port.old) (P.seen port.old) }
-    ensures { PerformsActs P.Disk device
+    ensures { DoesActs P.Disk device
         (life (done_making set.now (P.size port.old)) next.now
+        (left_behind (mounted_on device (P.seen port.old)) next.now))
+        (update_orders device.control.current next.now
         (left_behind (mounted_on device (P.seen port.old)) next.now))
         port.old port.new result }
 {
@@ -209,8 +218,8 @@ fn demonstrate<P: Port>(
         → HasBothCopies (P.size port.old) (P.seen port.new) }
     ensures steady { IsSteady P.Disk port.old port.new result }
     ensures words { result ≢ Status.Usage }
-    ensures disk { result ≡ Status.Disk → Rose (P.faults port.old).disk (P.faults port.new).disk }
-    ensures port { result ≡ Status.Port → Rose (P.faults port.old).sink (P.faults port.new).sink }
+    ensures disk { result ≡ Status.Disk → DiskFailed (P.faults port.old) (P.faults port.new) }
+    ensures port { result ≡ Status.Port → SinkFailed (P.faults port.old) (P.faults port.new) }
     ensures unmade { P.is_modelled
         → result ≡ Status.NotADevice
         → IsUnmade P.Disk port.old set.now 0 65536 cause.new }
@@ -247,8 +256,8 @@ pub(crate) fn demo<P: Port>(
         → HasBothCopies (P.size port.old) (P.seen port.new) }
     ensures steady { IsSteady P.Disk port.old port.new result }
     ensures words { result ≢ Status.Usage }
-    ensures disk { result ≡ Status.Disk → Rose (P.faults port.old).disk (P.faults port.new).disk }
-    ensures port { result ≡ Status.Port → Rose (P.faults port.old).sink (P.faults port.new).sink }
+    ensures disk { result ≡ Status.Disk → DiskFailed (P.faults port.old) (P.faults port.new) }
+    ensures port { result ≡ Status.Port → SinkFailed (P.faults port.old) (P.faults port.new) }
     // Where none is made, the cause is the first refusal.
     ensures unmade { P.is_modelled
         → result ≡ Status.NotADevice

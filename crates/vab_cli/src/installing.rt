@@ -1,6 +1,6 @@
 //! Installing the set of images that the input spells.
 ghost use Rattle.std.specs.Prelude.{◌≡◌, ◌≢◌, ◌⊎◌, ◌+◌, [], ◌∷◌, IfOk, IsErrOf};
-ghost use Rattle.vab_disk.specs.Disk.{Rose};
+ghost use Rattle.vab_disk.specs.Disk.{DiskFailed, SinkFailed, SourceFailed};
 ghost use Rattle.vab_set.specs.Spelling.{IsSet};
 ghost use Rattle.vab_device.specs.Kept.{IsDevice};
 ghost use Rattle.vab_device.specs.Mounted.{Mounted, count_at, mounted_on};
@@ -14,6 +14,7 @@ ghost use Rattle.vab_cli.specs.Counts.{IsSteady};
 ghost use Rattle.vab_cli.specs.Installing.{Installs, left_behind};
 ghost use Rattle.vab_cli.specs.Written.{WritesInOrder};
 ghost use Rattle.vab_update.specs.Install.{install_orders};
+ghost use Rattle.vab_update.specs.Written.{OrdersDone};
 
 use crate::Status;
 use crate::acts::ended;
@@ -50,8 +51,11 @@ pub(crate) fn install_set<P: Port>(
     ensures changes { P.is_modelled → ChangesDevice P.Disk device port.old port.new }
     // Its commands write in turn.
     ensures writes { P.is_modelled
-        → WritesInOrder P.Disk (IsErrOf result Status.Disk) device
+        → WritesInOrder P.Disk device
         (install_orders device.control.current set.now) port.old port.new }
+    ensures done { P.is_modelled
+        → IfOk result (λ last. OrdersDone P.is_modelled (P.size port.old) device (P.seen port.old)
+        (install_orders device.control.current set.now) last (P.seen port.new)) }
     // So many blocks are left to merge.
     ensures left { P.is_modelled
         → (s : Mounted)
@@ -97,10 +101,10 @@ pub(crate) fn install<P: Port>(alloc: Global, port: &mut P, cause: &mut Option<C
         → HasBothCopies (P.size port.old) (P.seen port.new) }
     ensures steady { IsSteady P.Disk port.old port.new result }
     ensures words { result ≢ Status.Usage }
-    ensures disk { result ≡ Status.Disk → Rose (P.faults port.old).disk (P.faults port.new).disk }
+    ensures disk { result ≡ Status.Disk → DiskFailed (P.faults port.old) (P.faults port.new) }
     ensures port { result ≡ Status.Port
-        → Rose (P.faults port.old).source (P.faults port.new).source
-        ⊎ Rose (P.faults port.old).sink (P.faults port.new).sink }
+        → SourceFailed (P.faults port.old) (P.faults port.new)
+        ⊎ SinkFailed (P.faults port.old) (P.faults port.new) }
     // Where there is none, the cause is the first thing that is wrong with the disk.
     ensures unopened { P.is_modelled
         → result ≡ Status.NotADevice

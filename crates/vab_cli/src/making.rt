@@ -1,7 +1,7 @@
 //! Making a device of the set of images that the input spells.
 ghost use Rattle.std.specs.Prelude.{◌≡◌, ◌≢◌, ◌⊎◌, ◌≤◌, ◌<◌, ◌%◌, ◌^◌, [], List, length};
 ghost use Rattle.std.specs.Prelude.{Some, None, Ok, Err, true};
-ghost use Rattle.vab_disk.specs.Disk.{Rose};
+ghost use Rattle.vab_disk.specs.Disk.{DiskFailed, SinkFailed, SourceFailed};
 ghost use Rattle.vab_disk.specs.Calls.{Changes, InSectors};
 ghost use Rattle.vab_set.specs.Spelling.{IsSet};
 ghost use Rattle.vab_set.specs.Reading.{set_of};
@@ -41,7 +41,7 @@ pub(crate) fn tell<P: Port>(port: &mut P, line: &[u8], status: Status) -> Status
     ensures size { P.size port.new ≡ P.size port.old }
     ensures either { (result ≡ status) ⊎ (result ≡ Status.Port) }
     ensures steady { IsSteady P.Disk port.old port.new result }
-    ensures port { result ≢ status → Rose (P.faults port.old).sink (P.faults port.new).sink }
+    ensures port { result ≢ status → SinkFailed (P.faults port.old) (P.faults port.new) }
 {
     match say_all(port, line) {
         Ok(()) => status,
@@ -59,7 +59,7 @@ pub(crate) fn tell_made<P: Port>(port: &mut P, set: &Set) -> Status
     ensures size { P.size port.new ≡ P.size port.old }
     ensures either { (result ≡ Status.Done) ⊎ (result ≡ Status.Port) }
     ensures steady { IsSteady P.Disk port.old port.new result }
-    ensures port { result ≢ Status.Done → Rose (P.faults port.old).sink (P.faults port.new).sink }
+    ensures port { result ≢ Status.Done → SinkFailed (P.faults port.old) (P.faults port.new) }
 {
     let mut line = ArrayVec::new();
     made_line(
@@ -92,7 +92,7 @@ fn tell_fault<P: Port>(port: &mut P, fault: MakeFault) -> Status
     ensures either { (result ≡ make_status fault) ⊎ (result ≡ Status.Port) }
     ensures steady { IsSteady P.Disk port.old port.new result }
     ensures port { result ≢ make_status fault
-        → Rose (P.faults port.old).sink (P.faults port.new).sink }
+        → SinkFailed (P.faults port.old) (P.faults port.new) }
 {
     let mut line = ArrayVec::new();
     match fault {
@@ -115,7 +115,7 @@ pub(crate) fn tell_unmade<P: Port>(port: &mut P, fault: MakeFault) -> Status
     ensures either { (result ≡ make_status fault) ⊎ (result ≡ Status.Port) }
     ensures steady { IsSteady P.Disk port.old port.new result }
     ensures port { result ≢ make_status fault
-        → Rose (P.faults port.old).sink (P.faults port.new).sink }
+        → SinkFailed (P.faults port.old) (P.faults port.new) }
 {
     if is_silent(&fault) {
         return Status::from(fault);
@@ -153,8 +153,8 @@ fn make_of<P: Port>(
     ensures heard { P.is_modelled → P.heard port.new ≡ P.heard port.old }
     ensures steady { IsSteady P.Disk port.old port.new result }
     ensures words { result ≢ Status.Usage }
-    ensures disk { result ≡ Status.Disk → Rose (P.faults port.old).disk (P.faults port.new).disk }
-    ensures port { result ≡ Status.Port → Rose (P.faults port.old).sink (P.faults port.new).sink }
+    ensures disk { result ≡ Status.Disk → DiskFailed (P.faults port.old) (P.faults port.new) }
+    ensures port { result ≡ Status.Port → SinkFailed (P.faults port.old) (P.faults port.new) }
     // Where none is made, the cause is the first refusal.
     ensures unmade { (result ≡ Status.NotADevice) ⊎ (result ≡ Status.Refused)
         → IsUnmade P.Disk port.old set.now limit max cause.new }
@@ -219,10 +219,10 @@ pub(crate) fn make<P: Port>(
     ensures within { P.is_modelled → HearsWithin (P.heard port.old) (P.heard port.new) }
     ensures steady { IsSteady P.Disk port.old port.new result }
     ensures words { result ≢ Status.Usage }
-    ensures disk { result ≡ Status.Disk → Rose (P.faults port.old).disk (P.faults port.new).disk }
+    ensures disk { result ≡ Status.Disk → DiskFailed (P.faults port.old) (P.faults port.new) }
     ensures port { result ≡ Status.Port
-        → Rose (P.faults port.old).source (P.faults port.new).source
-        ⊎ Rose (P.faults port.old).sink (P.faults port.new).sink }
+        → SourceFailed (P.faults port.old) (P.faults port.new)
+        ⊎ SinkFailed (P.faults port.old) (P.faults port.new) }
     // On fewer sectors alone there is no device.
     ensures small { result ≡ Status.NotADevice → P.size port.old < 6152 }
     // Where none is made of a set, the cause is the first refusal.

@@ -1,6 +1,6 @@
 //! Opening the device of the disk.
 ghost use Rattle.std.specs.Prelude.{◌≡◌, ◌≢◌, IfOk, IfErr, OnOk, IsErrOf, Ok, Err};
-ghost use Rattle.vab_disk.specs.Disk.{Rose};
+ghost use Rattle.vab_disk.specs.Disk.{DiskFailed, SinkFailed};
 ghost use Rattle.vab_disk.specs.Calls.{Changes};
 ghost use Rattle.vab_device.specs.declared.fault.StartFault.{StartFault as Fault};
 ghost use Rattle.vab_device.specs.Kept.{IsDevice};
@@ -56,9 +56,9 @@ pub(crate) fn open<P: Port>(
     ensures held { IfErr result (IsSteady P.Disk port.old port.new) }
     ensures words { IfErr result (λ status. status ≢ Status.Usage) }
     ensures disk { IsErrOf result Status.Disk
-        → Rose (P.faults port.old).disk (P.faults port.new).disk }
+        → DiskFailed (P.faults port.old) (P.faults port.new) }
     ensures port { IsErrOf result Status.Port
-        → Rose (P.faults port.old).sink (P.faults port.new).sink }
+        → SinkFailed (P.faults port.old) (P.faults port.new) }
     // Where there is none, the cause is the first thing that is wrong with the disk.
     ensures unopened { P.is_modelled
         → IsErrOf result Status.NotADevice

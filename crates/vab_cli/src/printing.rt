@@ -1,7 +1,7 @@
 //! Telling the bytes of an image.
 ghost use Rattle.std.specs.Prelude.{◌≡◌, ◌≢◌, ◌⊎◌, ◌≤◌, ◌<◌, ◌+◌, [], length, take, drop};
 ghost use Rattle.std.specs.Prelude.{IfOk, IfErr, OnOk, OnErr, IsErrOf, Ok, Err};
-ghost use Rattle.vab_disk.specs.Disk.{Image, Rose};
+ghost use Rattle.vab_disk.specs.Disk.{Image, DiskFailed, SinkFailed};
 ghost use Rattle.vab_disk.specs.Calls.{Changes, FailsWithDisk, OnlyReads};
 ghost use Rattle.vab_bootctl.specs.declared.slots.Control.{Control};
 ghost use Rattle.vab_bootctl.specs.Control.{control_of};
@@ -102,9 +102,9 @@ fn tell_piece<P: Port>(
     ensures steady { OnOk result (P.faults port.new ≡ P.faults port.old) }
     ensures failed { IfErr result IsFailed }
     ensures disk { IsErrOf result Status.Disk
-        → Rose (P.faults port.old).disk (P.faults port.new).disk }
+        → DiskFailed (P.faults port.old) (P.faults port.new) }
     ensures port { IsErrOf result Status.Port
-        → Rose (P.faults port.old).sink (P.faults port.new).sink }
+        → SinkFailed (P.faults port.old) (P.faults port.new) }
 {
     let mut piece = ArrayVec::new();
     match read_piece(port, device, slot, name, first, count, &mut piece) {
@@ -145,9 +145,9 @@ fn tell_blocks<P: Port>(
     ensures steady { OnOk result (P.faults port.new ≡ P.faults port.old) }
     ensures failed { IfErr result IsFailed }
     ensures disk { IsErrOf result Status.Disk
-        → Rose (P.faults port.old).disk (P.faults port.new).disk }
+        → DiskFailed (P.faults port.old) (P.faults port.new) }
     ensures port { IsErrOf result Status.Port
-        → Rose (P.faults port.old).sink (P.faults port.new).sink }
+        → SinkFailed (P.faults port.old) (P.faults port.new) }
 {
     let mut done = 0;
     while done < blocks {
@@ -168,7 +168,7 @@ fn refuse<P: Port>(port: &mut P, refusal: Refusal) -> Result<Status, Status>
     ensures steady { OnOk result (P.faults port.new ≡ P.faults port.old) }
     ensures status { IfOk result (λ status. status ≡ Status.Refused) }
     ensures failed { IfErr result (λ status. status ≡ Status.Port) }
-    ensures port { OnErr result (Rose (P.faults port.old).sink (P.faults port.new).sink) }
+    ensures port { OnErr result (SinkFailed (P.faults port.old) (P.faults port.new)) }
 {
     let mut line = ArrayVec::new();
     refused_line(refusal, &mut line);
@@ -204,9 +204,9 @@ fn print_image<P: Port>(
     ensures done { IfOk result (λ status. (status ≡ Status.Done) ⊎ (status ≡ Status.Refused)) }
     ensures failed { IfErr result IsFailed }
     ensures disk { IsErrOf result Status.Disk
-        → Rose (P.faults port.old).disk (P.faults port.new).disk }
+        → DiskFailed (P.faults port.old) (P.faults port.new) }
     ensures port { IsErrOf result Status.Port
-        → Rose (P.faults port.old).sink (P.faults port.new).sink }
+        → SinkFailed (P.faults port.old) (P.faults port.new) }
     ensures refused { IfOk result (λ status. status ≡ Status.Refused
         → (image : Image)
         → IsRefusedOn (mounted_on device.now image) (PrintOf name.now) cause.new) }
@@ -259,8 +259,8 @@ pub(crate) fn print<P: Port>(
         → HasBothCopies (P.size port.old) (P.seen port.new) }
     ensures steady { IsSteady P.Disk port.old port.new result }
     ensures words { result ≢ Status.Usage }
-    ensures disk { result ≡ Status.Disk → Rose (P.faults port.old).disk (P.faults port.new).disk }
-    ensures port { result ≡ Status.Port → Rose (P.faults port.old).sink (P.faults port.new).sink }
+    ensures disk { result ≡ Status.Disk → DiskFailed (P.faults port.old) (P.faults port.new) }
+    ensures port { result ≡ Status.Port → SinkFailed (P.faults port.old) (P.faults port.new) }
     // Where there is none, the cause is the first thing that is wrong with the disk.
     ensures unopened { P.is_modelled
         → result ≡ Status.NotADevice

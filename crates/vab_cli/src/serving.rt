@@ -1,6 +1,6 @@
 //! A session over the device of the disk, or over one that is made first.
 ghost use Rattle.std.specs.Prelude.{◌≡◌, ◌≢◌, ◌⊎◌, ◌≤◌, ◌<◌, ◌^◌, [], Err, take, drop};
-ghost use Rattle.vab_disk.specs.Disk.{Rose};
+ghost use Rattle.vab_disk.specs.Disk.{DiskFailed, SinkFailed, SourceFailed};
 ghost use Rattle.vab_disk.specs.Calls.{Changes, InSectors};
 ghost use Rattle.vab_device.specs.declared.fault.StartFault.{StartFault as Fault};
 ghost use Rattle.vab_device.specs.Mounted.{Mounted};
@@ -70,8 +70,8 @@ pub(crate) fn open_and_serve<P: Port>(
     ensures writes { P.is_modelled
         → (s : Mounted)
         → IsIn (P.size port.old) s (P.seen port.old)
-        → WritesServed P.Disk (IsOfOpening (P.size port.old) (P.seen port.old))
-        (result ≡ Status.Disk) turns (P.size port.old)
+        → WritesServed P.Disk (IsOfOpening (P.size port.old) (P.seen port.old)) turns
+        (P.size port.old)
         (drop 4 (take (2 ^ 44) (P.input_left port.old)))
         port.old port.new }
     ensures unheard { P.is_modelled
@@ -80,10 +80,10 @@ pub(crate) fn open_and_serve<P: Port>(
         → HearsNothing P.Disk port.old port.new }
     ensures steady { IsSteady P.Disk port.old port.new result }
     ensures words { result ≢ Status.Usage }
-    ensures disk { result ≡ Status.Disk → Rose (P.faults port.old).disk (P.faults port.new).disk }
+    ensures disk { result ≡ Status.Disk → DiskFailed (P.faults port.old) (P.faults port.new) }
     ensures port { result ≡ Status.Port
-        → Rose (P.faults port.old).source (P.faults port.new).source
-        ⊎ Rose (P.faults port.old).sink (P.faults port.new).sink }
+        → SourceFailed (P.faults port.old) (P.faults port.new)
+        ⊎ SinkFailed (P.faults port.old) (P.faults port.new) }
     // Where there is none, the cause is the first thing that is wrong with the disk.
     ensures unopened { P.is_modelled
         → result ≡ Status.NotADevice
@@ -131,8 +131,7 @@ pub(crate) fn make_and_serve<P: Port>(
         → (result ≡ Status.NotADevice) ⊎ (result ≡ Status.NoMemory) }
     // What it writes is what making does, and what its packets write in turn on the made device.
     ensures writes { P.is_modelled
-        → WritesServed P.Disk (InSectors (IsOfMaking [] 65536)) (result ≡ Status.Disk) turns
-        (P.size port.old)
+        → WritesServed P.Disk (InSectors (IsOfMaking [] 65536)) turns (P.size port.old)
         (drop 4 (take (2 ^ 44) (P.input_left port.old)))
         port.old port.new }
     // However the session ends, both copies of each table agree.
@@ -141,10 +140,10 @@ pub(crate) fn make_and_serve<P: Port>(
         → HasBothCopies (P.size port.old) (P.seen port.new) }
     ensures steady { IsSteady P.Disk port.old port.new result }
     ensures words { result ≢ Status.Usage }
-    ensures disk { result ≡ Status.Disk → Rose (P.faults port.old).disk (P.faults port.new).disk }
+    ensures disk { result ≡ Status.Disk → DiskFailed (P.faults port.old) (P.faults port.new) }
     ensures port { result ≡ Status.Port
-        → Rose (P.faults port.old).source (P.faults port.new).source
-        ⊎ Rose (P.faults port.old).sink (P.faults port.new).sink }
+        → SourceFailed (P.faults port.old) (P.faults port.new)
+        ⊎ SinkFailed (P.faults port.old) (P.faults port.new) }
     // Where none is made, the cause is the first refusal.
     ensures unmade { P.is_modelled
         → result ≡ Status.NotADevice

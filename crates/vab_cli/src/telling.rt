@@ -1,6 +1,6 @@
 //! Telling a line.
 ghost use Rattle.std.specs.Prelude.{◌≡◌, IfErr, OnOk, OnErr};
-ghost use Rattle.vab_disk.specs.Disk.{Rose};
+ghost use Rattle.vab_disk.specs.Disk.{SinkFailed};
 ghost use Rattle.vab_cli.specs.Telling.{Says};
 
 use crate::Status;
@@ -13,7 +13,7 @@ pub(crate) fn say_line<P: Port>(port: &mut P, line: &[u8]) -> Result<(), Status>
     ensures size { P.size port.new ≡ P.size port.old }
     ensures failed { IfErr result (λ status. status ≡ Status.Port) }
     ensures steady { OnOk result (P.faults port.new ≡ P.faults port.old) }
-    ensures port { OnErr result (Rose (P.faults port.old).sink (P.faults port.new).sink) }
+    ensures port { OnErr result (SinkFailed (P.faults port.old) (P.faults port.new)) }
 {
     match say_all(port, line) {
         Ok(()) => Ok(()),

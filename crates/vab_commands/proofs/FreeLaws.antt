@@ -4,7 +4,7 @@ use Rattle.vab_disk.specs.Disk.{Image}
 use Rattle.vab_device.specs.declared.device.Device.{Device}
 use Rattle.vab_device.specs.Kept.{IsDevice}
 use Rattle.vab_device.specs.Reading.{Represents, IsOfBlocks}
-use Rattle.vab_flash.specs.Chosen.{HasPlace, planned_at}
+use Rattle.vab_flash.specs.Place.{HasPlace, planned_at}
 use Rattle.vab_flash.specs.Touched.{blocks_for}
 use Rattle.vab_flash.proofs.SectorLaws.{flash_clear}
 use Rattle.vab_commands.specs.Touched.{IsFree}

@@ -1,7 +1,7 @@
 //! Reading a copy.
 
 ghost use Rattle.std.specs.Prelude.{◌≡◌, ◌⊎◌, ◌≤◌, ◌+◌, ◌*◌, ℕ, List, length, IfOk, IsErrOf};
-ghost use Rattle.vab_disk.specs.Disk.{Rose};
+ghost use Rattle.vab_disk.specs.Disk.{DiskFailed};
 ghost use Rattle.vab_disk.specs.Calls.{OnlyReads};
 ghost use Rattle.vab_gate.specs.Gate.{sectors_at};
 
@@ -48,10 +48,10 @@ pub fn read_text<D: Disk>(
         → IfOk result (λ text. text.items ≡ sectors_at count (D.seen d.old) at) }
     ensures long { IfOk result (λ text. length text.items ≡ 512 * count) }
     ensures reads { OnlyReads D.Disk d.old d.new }
-    // Only where the disk has failed a count rose.
+    // Only where the disk has failed does a count rise, by one call.
     ensures steady { IsErrOf result ReadFault.Disk ⊎ (D.faults d.new ≡ D.faults d.old) }
     ensures cause { IsErrOf result ReadFault.Disk
-        → Rose (D.faults d.old).disk (D.faults d.new).disk }
+        → DiskFailed (D.faults d.old) (D.faults d.new) }
 {
     let mut text = Vec::new(alloc);
     for i in 0..count {

@@ -1,15 +1,15 @@
 -- What a command does that writes what nothing reads, and then one sector by a gate.
-use Rattle.std.proofs.Common.{◌≡◌, ◌∙◌, inl, inr, ⊎_elim, ℕ, List, [], ◌∷◌, Result, Ok, Err, refl}
-use Rattle.std.proofs.Common.{sym, ap, subst}
+use Rattle.std.proofs.Common.{◌≡◌, ◌≢◌, ◌∙◌, inl, inr, ⊎_elim, ℕ, List, [], ◌∷◌, Result, Ok, Err}
+use Rattle.std.proofs.Common.{refl, sym, ap, subst}
 use Rattle.std.specs.Prelude.{Bool, false, Option, IfOk, OnOk, OnErr}
 use Rattle.vab_disk.specs.declared.disk.Disk.{Ghosts}
-use Rattle.vab_disk.specs.Disk.{Image, Outcome, Adds, Rose, LeavesEither, IsAt}
+use Rattle.vab_disk.specs.Disk.{Image, Outcome, Adds, LeavesEither, IsAt, DiskFailed}
 use Rattle.vab_disk.specs.Disk.{set_sector, NoFewer}
 use Rattle.vab_disk.specs.Calls.{IsAtRest, IsQuiet, OnlyReads, SameBut, Touches}
 use Rattle.vab_disk.proofs.Moments.{adds_wider, adds_on}
 use Rattle.vab_disk.proofs.CallLaws.{touches_wider, touches_reads, touches_then, touches_on}
 use Rattle.vab_disk.proofs.CallLaws.{reads_then}
-use Rattle.vab_disk.proofs.CallLaws.{quiet_then, rose_then}
+use Rattle.vab_disk.proofs.CallLaws.{quiet_then, failed_then}
 use Rattle.vab_gate.specs.declared.gate.DiskFault.{DiskFault}
 use Rattle.vab_model.specs.declared.command.Reply.{Reply}
 use Rattle.vab_model.specs.Commands.{Command}
@@ -60,8 +60,7 @@ on_ok_map (Err e) P Q f is = tt
 -- what is done has a device behind it
 pub step_follows : {e : Effect Mounted} {wants : Bool} {reply : Reply} {next : Mounted}
     → e ≡ wanting wants (does reply next)
-    → e.later ≡ []
-    → ⊥
+    → e.later ≢ []
 step_follows {e} {wants} {reply} {next} is none =
     let both : next ∷ [] ≡ [] = sym (ap (λ (x : Effect Mounted). x.later) is) ∙ none in cc
 
@@ -107,9 +106,9 @@ module _ {D : Type 0} (g : Ghosts D) (d : Device) (staged : Option (List ℕ)) (
   -- the disk failed where it only reads
   pub fails_reading : (fault : DiskFault) (old new : D)
       → OnlyReads g old new
-      → Rose (g.faults old).disk (g.faults new).disk
+      → DiskFailed (g.faults old) (g.faults new)
       → Does g d staged command W old new (Err fault)
-  fails_reading fault old new reads rose = record {
+  fails_reading fault old new reads failed = record {
     refused = false;
     kept = tt;
     follows = tt;
@@ -118,18 +117,19 @@ module _ {D : Type 0} (g : Ghosts D) (d : Device) (staged : Option (List ℕ)) (
     reply = λ t. tt;
     rest = λ t rest. tt;
     quiet = reads.quiet;
-    still = λ t none. tt;
+    still = λ t none. reads;
     touches = λ t. touches_reads g W old new reads;
     time = λ t rest. time_none old new _ reads t;
-    faults = record { steady = tt; cause = rose };
+    faults = record { steady = tt; cause = failed };
   }
 
-  rose_later : (r : Result (Device × Reply) DiskFault) (a b c : D)
-      → NoFewer (g.faults a) (g.faults b)
-      → OnErr r (Rose (g.faults b).disk (g.faults c).disk)
-      → OnErr r (Rose (g.faults a).disk (g.faults c).disk)
-  rose_later (Ok x) a b c fewer rose = tt
-  rose_later (Err e) a b c fewer rose = rose_then (g.faults a) (g.faults b) (g.faults c) fewer rose
+  fails_later : (r : Result (Device × Reply) DiskFault) (a b c : D)
+      → g.faults b ≡ g.faults a
+      → OnErr r (DiskFailed (g.faults b) (g.faults c))
+      → OnErr r (DiskFailed (g.faults a) (g.faults c))
+  fails_later (Ok x) a b c same failed = tt
+  fails_later (Err e) a b c same failed =
+      failed_then (g.faults a) (g.faults b) (g.faults c) same failed
 
   -- it reads first
   pub does_later : (old mid new : D) (r : Result (Device × Reply) DiskFault)
@@ -165,8 +165,7 @@ module _ {D : Type 0} (g : Ghosts D) (d : Device) (staged : Option (List ℕ)) (
         rest = λ t rest. later.rest t (rests old mid reads t rest);
         quiet = quiet_then g old mid new reads.quiet later.quiet;
         still = λ t none.
-            on_ok_map r (OnlyReads g mid new) (OnlyReads g old new)
-            (reads_then g old mid new reads)
+            reads_then g old mid new reads
             (later.still t
             (subst
             (λ (i : Image).
@@ -197,7 +196,7 @@ module _ {D : Type 0} (g : Ghosts D) (d : Device) (staged : Option (List ℕ)) (
         faults = record {
           steady = steady_then r (g.faults old) (g.faults mid) (g.faults new) counts
               later.faults.steady;
-          cause = rose_later r old mid new reads.quiet.counts later.faults.cause;
+          cause = fails_later r old mid new counts later.faults.cause;
         };
       }
 
@@ -236,9 +235,10 @@ module _ {D : Type 0} (g : Ghosts D) (d : Device) (staged : Option (List ℕ)) (
 
     -- and the disk fails
     pub fails_dead : (fault : DiskFault)
-        → Rose (g.faults old).disk (g.faults mid).disk
+        → (g.is_modelled → (effect_on (mounted_on d (g.seen old)) staged command).later ≢ [])
+        → DiskFailed (g.faults old) (g.faults mid)
         → Does g d staged command W old mid (Err fault)
-    fails_dead fault rose = record {
+    fails_dead fault follows failed = record {
       refused = false;
       kept = tt;
       follows = tt;
@@ -247,10 +247,10 @@ module _ {D : Type 0} (g : Ghosts D) (d : Device) (staged : Option (List ℕ)) (
       reply = λ t. tt;
       rest = λ t rest. tt;
       quiet = writes.quiet;
-      still = λ t none. tt;
+      still = λ t none. absurd (follows t none);
       touches = λ t. touches_wider g W V old mid writes (within t);
       time = until (effect_on (mounted_on d (g.seen old)) staged command);
-      faults = record { steady = tt; cause = rose };
+      faults = record { steady = tt; cause = failed };
     }
 
     -- then it writes one sector by a gate
@@ -302,9 +302,9 @@ module _ {D : Type 0} (g : Ghosts D) (d : Device) (staged : Option (List ℕ)) (
       quiet_both = quiet_then g old mid new writes.quiet gated.quiet
 
       pub fails_gate : (fault : DiskFault)
-          → Rose (g.faults mid).disk (g.faults new).disk
+          → DiskFailed (g.faults old) (g.faults new)
           → Does g d staged command W old new (Err fault)
-      fails_gate fault rose = record {
+      fails_gate fault failed = record {
         refused = false;
         kept = tt;
         follows = tt;
@@ -313,13 +313,10 @@ module _ {D : Type 0} (g : Ghosts D) (d : Device) (staged : Option (List ℕ)) (
         reply = λ t. tt;
         rest = λ t rest. tt;
         quiet = quiet_both;
-        still = λ t none. tt;
+        still = λ t none. absurd (step_follows (effect t) none);
         touches = both;
         time = steps;
-        faults = record {
-          steady = tt;
-          cause = rose_then (g.faults old) (g.faults mid) (g.faults new) writes.quiet.counts rose;
-        };
+        faults = record { steady = tt; cause = failed };
       }
 
       -- what follows is said of the next device

@@ -3,6 +3,8 @@ pub mod BlockLaws
 pub mod CheckLaws
 pub mod ControlLaws
 pub mod DoesLaws
+pub mod FilledBytes
+pub mod FlashedLaws
 pub mod IdleLaws
 pub mod InPlaceLaws
 pub mod MarkLaws

@@ -1,8 +1,8 @@
 -- Memory may be refused in place of an edit's, a begin's or a flash's effect alone, where its reply
 -- is that it is done or that the table is full. No command of a verb takes memory.
 use Rattle.std.proofs.Common.{◌≡◌, ◌∙◌, ℕ, ◌*◌, ◌^◌, Bool, true, false, cond, List, [], length, sym}
-use Rattle.std.proofs.Common.{Option, Result, Ok, Err, Some, None, refl}
-use Rattle.std.specs.Prelude.{◌==◌, nat_lt, nat_le, is_some}
+use Rattle.std.proofs.Common.{Option, Result, Ok, Err, Some, None, refl, subst}
+use Rattle.std.specs.Prelude.{◌==◌, not, nat_lt, nat_le, is_some}
 use Rattle.vab_bootctl.specs.Boot.{info_at}
 use Rattle.vab_names.specs.Names.{is_full, base_of}
 use Rattle.vab_space.specs.declared.Chunk.{Chunk}
@@ -27,8 +27,10 @@ use Rattle.vab_model.specs.Commands.{Merge, Factory}
 use Rattle.vab_model.specs.Effects.{Effect, refuses, does, active_effect, print_effect}
 use Rattle.vab_model.specs.Effects.{digest_effect, Found, Image_is, Refused_by, found_of}
 use Rattle.vab_model.specs.Effects.{effect_map, wanting}
-use Rattle.vab_model.specs.Machine.{machine_effect}
+use Rattle.vab_model.specs.Machine.{machine_effect, unless, cancelled as cancelled_state}
+use Rattle.vab_model.specs.Machine.{merging_from as merging_state}
 use Rattle.vab_model.specs.Kinds.{IsVerb}
+use Rattle.vab_model.specs.declared.state.State.{State}
 use Rattle.vab_model.specs.State.{images_at}
 use Rattle.vab_bootctl.specs.declared.slots.Control.{Control}
 use Rattle.vab_bootctl.specs.Boot.{activated_of}
@@ -36,15 +38,16 @@ use Rattle.vab_model.specs.Plans.{entry_named}
 use Rattle.vab_model.specs.Staged.{is_sparse}
 use Rattle.vab_model.specs.Machine.{least_declared}
 use Rattle.vab_device.specs.Mounted.{Mounted, in_state}
+use Rattle.vab_device.specs.Flashed.{staged_effect, unwritten_effect, placed_effect, entry_effect}
+use Rattle.vab_device.specs.Flashed.{flash_effect, in_store, in_place, if_room, flashed}
+use Rattle.vab_device.specs.Flashed.{differences, source_bytes}
 use Rattle.vab_device.specs.Updates.{table_effect, begun_effect, begin_effect, layout_at}
 use Rattle.vab_device.specs.Updates.{no_entries, EditOf, edited_effect, Guard, unless_kept}
 use Rattle.vab_device.specs.Updates.{edit_effect, no_guard, settled_guard, store_guard}
-use Rattle.vab_device.specs.Updates.{staged_effect, unwritten_effect, placed_effect, entry_effect}
-use Rattle.vab_device.specs.Updates.{flash_effect, in_store, in_place, if_room, flashed}
-use Rattle.vab_device.specs.Updates.{differences, source_bytes}
 use Rattle.vab_device.specs.Updates.{create_edit, resize_edit, delete_edit, snapshot_edit}
 use Rattle.vab_device.specs.Updates.{cancelled, cancel_effect, finish_effect, complete_effect}
 use Rattle.vab_device.specs.Updates.{begin_merge_effect, merging_from, merge_effect, effect_on}
+use Rattle.vab_device.proofs.FlashedLaws.{flash_by_blocks}
 
 -- a reply in whose place memory may be refused
 abbrev pub is_wanted : Reply → Bool
@@ -214,12 +217,18 @@ module _ (m : Mounted) where
   digests (Image_is image) = refl
   digests (Refused_by refusal) = refl
 
+  unless_none : (b : Bool) (refusal : Refusal) (e : Effect State)
+      → e.wants ≡ false
+      → (unless b refusal e).wants ≡ false
+  unless_none true refusal e none = none
+  unless_none false refusal e none = refl
+
   cancels : (phase : Phase) → WantsNothing (cancel_effect m phase)
   cancels Idle = refl
   cancels (Installing source plan) = refl
   cancels (Staged source left) =
-      neither (m.state.control.current == source)
-      (does replies.Done (cancelled m source)) (refuses refusals.RunningTarget) refl refl
+      unless_none (m.state.control.current == source) refusals.RunningTarget
+      (does replies.Done (cancelled_state m.state source)) refl
   cancels (Merging target left) = refl
 
   completes : (source : ℕ) (plan : Plan) (least : Option (List ℕ))
@@ -233,13 +242,11 @@ module _ (m : Mounted) where
 
   merge_begins : (phase : Phase) → WantsNothing (begin_merge_effect m phase)
   merge_begins (Staged source left) =
-      let info = info_at m.state.control (other_slot source) in
-      let begun : Effect Mounted = does replies.Done (merging_from m source left) in
-      neither (m.state.control.current == source)
-      (refuses refusals.NotRunningTarget)
-      (cond info.successful begun (refuses refusals.NotSuccessful))
-      refl
-      (neither info.successful begun (refuses refusals.NotSuccessful) refl refl)
+      let marked : Bool = (info_at m.state.control (other_slot source)).successful in
+      let begun : Effect State = does replies.Done (merging_state m.state source left) in
+      unless_none (not (m.state.control.current == source)) refusals.NotRunningTarget
+      (unless marked refusals.NotSuccessful begun)
+      (unless_none marked refusals.NotSuccessful begun refl)
   merge_begins _ = refl
 
   merges : (blocks : ℕ) (phase : Phase) → WantsNothing (merge_effect m blocks phase)
@@ -281,7 +288,9 @@ module _ (m : Mounted) where
       edits (settled_guard true name) (delete_edit name) m.state.phase
   wants_told staged (Snapshot name size) =
       edits store_guard (snapshot_edit name size) m.state.phase
-  wants_told staged (Flash name k) = flashes staged name k m.state.phase
+  wants_told staged (Flash name k) =
+      subst TellsWanted (sym (flash_by_blocks m staged name k))
+      (flashes staged name k m.state.phase)
   wants_told staged Finish = nothing_told (finish_effect m m.state.phase) (finishes m.state.phase)
   wants_told staged (SetActive n) = verb_told staged (SetActive n) refl
   wants_told staged Boot = verb_told staged Boot refl

@@ -49,8 +49,8 @@ pub record Follows (d : Device) (command : Command) (next : Device) : Type 0 whe
 
 -- The reply and the device after it are those of the table of effects, and where nothing was
 -- pending each outcome since is one of its steps. It touches such sectors alone, and a refusal or
--- an answer to a question, which no device follows, writes nothing. Memory may be refused to it. An
--- error comes where the disk has failed.
+-- an answer to a question, which no device follows, writes nothing, also where the disk fails.
+-- Memory may be refused to it. An error comes where the disk has failed.
 pub record Does {D : Type 0}
     (g : Ghosts D)
     (d : Device)
@@ -72,7 +72,7 @@ pub record Does {D : Type 0}
   pub quiet : IsQuiet g old new
   pub still : g.is_modelled
       → (effect_of g d staged command refused old).later ≡ []
-      → OnOk result (OnlyReads g old new)
+      → OnlyReads g old new
   pub touches : g.is_modelled → Touches g W old new
   pub time : g.is_modelled
       → IsAtRest g old

@@ -1,6 +1,7 @@
 pub mod Checks
 pub mod Does
 pub mod Faults
+pub mod Flashed
 pub mod Idle
 pub mod Kept
 pub mod Mounted

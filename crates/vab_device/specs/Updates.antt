@@ -1,18 +1,10 @@
 -- What the commands of an update make of a device: its begin, the edits of the target's table, the
--- image of a partition, the end of its installation, its cancelling, and its merge.
-use Rattle.std.specs.Prelude.{ℕ, ◌*◌, ◌/◌, ◌==◌, Bool, true, false, not, ◌&&◌, nat_lt, nat_le}
-use Rattle.std.specs.Prelude.{if◌then◌else◌, List, [], ◌∷◌, length, map, Option, Some, None, ◌^◌}
+-- end of its installation, its cancelling, and its merge.
+use Rattle.std.specs.Prelude.{ℕ, ◌==◌, Bool, true, false, not, ◌&&◌, nat_le}
+use Rattle.std.specs.Prelude.{if◌then◌else◌, List, [], length, map, Option, Some, None, ◌^◌}
 use Rattle.std.specs.Prelude.{is_some}
 use Rattle.std.specs.Prelude.{option_map, Result, Ok, Err}
-use Rattle.std.specs.List.{flat_map, range_with_len}
-use Rattle.std.specs.Str.{bytes_eq}
-use Rattle.vab_bytes.specs.Number.{field}
-use Rattle.vab_bootctl.specs.Boot.{info_at}
 use Rattle.vab_names.specs.Names.{is_full, base_of, store_of}
-use Rattle.vab_space.specs.declared.Chunk.{Chunk}
-use Rattle.vab_space.specs.Chunks.{need_at}
-use Rattle.vab_space.specs.Differing.{differing_chunks}
-use Rattle.vab_store.specs.Writing.{block_of}
 use Rattle.vab_layout.specs.declared.layout.Part.{Part as PartOfLayout}
 use Rattle.vab_layout.specs.declared.layout.Layout.{Layout}
 use Rattle.vab_layout.specs.Plain.{plain}
@@ -36,13 +28,12 @@ use Rattle.vab_model.specs.Commands.{Command, SetActive, Boot, Mark, Print, Dige
 use Rattle.vab_model.specs.Commands.{Resize, Delete, Snapshot, Flash, Finish, Cancel, BeginMerge}
 use Rattle.vab_model.specs.Commands.{Merge, Factory}
 use Rattle.vab_model.specs.Effects.{Effect, refuses, does, wanting, effect_map}
-use Rattle.vab_model.specs.Plans.{entry_named, bytes_named, images_of, with_entries}
-use Rattle.vab_model.specs.Staged.{is_sparse}
+use Rattle.vab_model.specs.Plans.{entry_named, images_of, with_entries}
 use Rattle.vab_model.specs.Machine.{is_settled, least_declared, if_complete}
 use Rattle.vab_model.specs.Machine.{final_image as image_of}
 use Rattle.vab_model.specs.Machine.{finished as finished_state, cancelled as cancelled_state}
 use Rattle.vab_model.specs.Machine.{merging_from as merging_state}
-use Rattle.vab_model.specs.Machine.{merge_row, turns as turns_of}
+use Rattle.vab_model.specs.Machine.{cancel_row, begin_merge_row, merge_row, turns as turns_of}
 use Rattle.vab_device.specs.Kept.{group_of}
 use Rattle.vab_device.specs.Mounted.{Mounted, Places, in_state, effect_in}
 use Rattle.vab_device.specs.Stores.{first_named}
@@ -232,104 +223,6 @@ settled_guard passes name source plan =
 abbrev pub store_guard : Guard
 store_guard source plan = if plan.apart then Some refusals.InPlace else None
 
--- ---- an image
-
--- the bytes of a source's image of this base name; none where there is no such image
-abbrev pub source_bytes : State → (source : ℕ) → List ℕ → List ℕ
-source_bytes s source name = bytes_named name (images_of s source)
-
--- block i of an image, with zeros behind its end, isn't the source's, or the source has none
-abbrev pub is_other : List ℕ → List ℕ → ℕ → Bool
-is_other source staged i =
-    not (nat_lt i (length source / 4096)
-    && bytes_eq (field source (4096 * i) 4096) (block_of staged i))
-
--- how many chunks of so many blocks differ
-abbrev pub differences : Chunk → List ℕ → List ℕ → ℕ → ℕ
-differences k source staged blocks =
-    length (differing_chunks k (is_other source staged) blocks)
-
--- the staged bytes, with zeros behind their end
-abbrev pub filled : List ℕ → ℕ → List ℕ
-filled staged blocks = flat_map (block_of staged) (range_with_len 0 blocks)
-
--- the entries with this image under a base name
-abbrev pub with_image : List ℕ → PlanImage → List PlanEntry → List PlanEntry
-with_image name image plan =
-    map {A = PlanEntry}
-    (λ e. if bytes_eq e.name name then record e { image = image } else e) plan
-
--- the image of an entry, and how many exceptions its store has
-abbrev pub flashed : Mounted → (source : ℕ) → Plan → PlanEntry → List ℕ → ℕ → Effect Mounted
-flashed m source plan e staged n = does replies.Done (record m {
-  state = record m.state {
-    phase =
-        Installing source
-        (with_entries plan
-        (with_image e.name (Written (filled staged e.blocks) n) plan.entries));
-  };
-})
-
--- a store of so many blocks takes that many exceptions, in chunks of this size, or is full
-abbrev pub if_room : Mounted → (source : ℕ) → Plan → PlanEntry → (store : ℕ) → Chunk → List ℕ
-    → ℕ
-    → Effect Mounted
-if_room m source plan e store k staged n =
-    if nat_le (need_at n k) store
-    then wanting true (flashed m source plan e staged n)
-    else refuses (refusals.StoreFull (need_at n k) store)
-
--- the staged bytes in a store, of whose chunks those are written that differ from the source's
-abbrev pub in_store : Mounted → (source : ℕ) → Plan → PlanEntry → (store : ℕ) → Chunk → List ℕ
-    → Effect Mounted
-in_store m source plan e store k staged =
-    if_room m source plan e store k staged
-    (differences k (source_bytes m.state source e.name) staged e.blocks)
-
--- the staged bytes in the entry's own blocks
-abbrev pub in_place : Mounted → (source : ℕ) → Plan → PlanEntry → List ℕ → Effect Mounted
-in_place m source plan e staged = flashed m source plan e staged 0
-
-abbrev pub staged_effect : PlanEntry → (List ℕ → Effect Mounted) → Option (List ℕ)
-    → Effect Mounted
-staged_effect e place None = refuses refusals.NothingStaged
-staged_effect e place (Some staged) =
-    if is_sparse staged then refuses refusals.Sparse
-    else if nat_lt (4096 * e.blocks) (length staged)
-    then refuses (refusals.TooLarge (length staged) (4096 * e.blocks))
-    else place staged
-
--- nothing was written to the entry
-abbrev pub unwritten_effect : PlanImage → Effect Mounted → Effect Mounted
-unwritten_effect Kept next = next
-unwritten_effect Declared next = next
-unwritten_effect (Written bytes count) next = refuses refusals.Written
-
-abbrev pub placed_effect : Mounted → (source : ℕ) → Plan → PlanEntry → Chunk → Option (List ℕ)
-    → Option ℕ
-    → Effect Mounted
-placed_effect m source plan e k staged None =
-    if plan.apart
-    then unwritten_effect e.image (staged_effect e (in_place m source plan e) staged)
-    else refuses refusals.NoStore
-placed_effect m source plan e k staged (Some store) =
-    unwritten_effect e.image (staged_effect e (in_store m source plan e store k) staged)
-
-abbrev pub entry_effect : Mounted → (source : ℕ) → Plan → Chunk → Option (List ℕ)
-    → Option PlanEntry
-    → Effect Mounted
-entry_effect m source plan k staged None = refuses refusals.Unknown
-entry_effect m source plan k staged (Some e) = placed_effect m source plan e k staged e.store
-
--- the staged bytes become the image of a partition, in a store whose chunks have this size, or,
--- where the target stands apart, in place
-abbrev pub flash_effect : Mounted → Option (List ℕ) → List ℕ → Chunk → Phase → Effect Mounted
-flash_effect m staged name k (Installing source plan) =
-    if is_full (other_slot source) name
-    then entry_effect m source plan k staged (entry_named (base_of name) plan.entries)
-    else refuses refusals.BadName
-flash_effect m staged name k _ = refuses refusals.NotInstalling
-
 -- ---- an update that is dropped
 
 -- no update any more from this source
@@ -337,14 +230,15 @@ abbrev pub cancelled : Mounted → (source : ℕ) → Mounted
 cancelled m source =
     in_places (with_layout m.places (other_slot source) None) (cancelled_state m.state source)
 
+-- its target's table isn't read any more
+abbrev pub cancelled_places : Places → Phase → Places
+cancelled_places p (Installing source plan) = with_layout p (other_slot source) None
+cancelled_places p (Staged source left) = with_layout p (other_slot source) None
+cancelled_places p _ = p
+
 abbrev pub cancel_effect : Mounted → Phase → Effect Mounted
-cancel_effect m Idle = refuses refusals.NothingToCancel
-cancel_effect m (Installing source plan) = does replies.Done (cancelled m source)
-cancel_effect m (Staged source left) =
-    if m.state.control.current == source
-    then does replies.Done (cancelled m source)
-    else refuses refusals.RunningTarget
-cancel_effect m (Merging target left) = refuses refusals.Merging
+cancel_effect m phase =
+    effect_map (in_places (cancelled_places m.places phase)) (cancel_row m.state phase)
 
 -- ---- an update that is ready
 
@@ -384,14 +278,14 @@ abbrev pub merging_from : Mounted → (source left : ℕ) → Mounted
 merging_from m source left =
     in_places (with_layout m.places source None) (merging_state m.state source left)
 
+-- the source's table isn't read any more
+abbrev pub merging_places : Places → Phase → Places
+merging_places p (Staged source left) = with_layout p source None
+merging_places p _ = p
+
 abbrev pub begin_merge_effect : Mounted → Phase → Effect Mounted
-begin_merge_effect m (Staged source left) =
-    if m.state.control.current == source
-    then refuses refusals.NotRunningTarget
-    else if (info_at m.state.control (other_slot source)).successful
-    then does replies.Done (merging_from m source left)
-    else refuses refusals.NotSuccessful
-begin_merge_effect m _ = refuses refusals.NotStaged
+begin_merge_effect m phase =
+    effect_map (in_places (merging_places m.places phase)) (begin_merge_row m.state phase)
 
 -- ---- its turns
 
@@ -427,8 +321,8 @@ effect_on m staged (Delete name) =
     edit_effect m (settled_guard true name) (delete_edit name) m.state.phase
 effect_on m staged (Snapshot name size) =
     edit_effect m store_guard (snapshot_edit name size) m.state.phase
-effect_on m staged (Flash name k) = flash_effect m staged name k m.state.phase
 effect_on m staged Cancel = cancel_effect m m.state.phase
+effect_on m staged (Flash name k) = effect_in m staged (Flash name k)
 effect_on m staged (SetActive slot) = effect_in m staged (SetActive slot)
 effect_on m staged Boot = effect_in m staged Boot
 effect_on m staged Mark = effect_in m staged Mark

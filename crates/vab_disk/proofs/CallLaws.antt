@@ -1,12 +1,12 @@
 -- How calls join.
-use Rattle.std.proofs.Common.{◌≡◌, ◌≢◌, ◌⊎◌, inl, inr, ⊎_elim, ℕ, ◌≤◌, ◌<◌, List, refl, sym, ◌∙◌}
+use Rattle.std.proofs.Common.{◌≡◌, ◌≢◌, ◌⊎◌, inl, inr, ⊎_elim, ℕ, List, refl, sym, ◌∙◌}
 use Rattle.std.proofs.Common.{ap, subst, arith}
 use Rattle.std.proofs.lemmas.Bool.{cases_eq}
 use Rattle.vab_disk.specs.declared.disk.Disk.{Ghosts}
-use Rattle.vab_disk.specs.Disk.{Image, Outcome, Leaves, LeavesWith, LeavesEither, Adds, Nothing}
-use Rattle.vab_disk.specs.Disk.{Writes, NoFewer, Faults, SameHoldings, IsAt, MayBeSet, Rose}
+use Rattle.vab_disk.specs.Disk.{Image, Leaves, LeavesWith, LeavesEither, Adds, Nothing}
+use Rattle.vab_disk.specs.Disk.{Writes, NoFewer, Faults, SameHoldings, IsAt, MayBeSet, DiskFailed}
 use Rattle.vab_disk.specs.Disk.{set_sector}
-use Rattle.vab_disk.specs.Calls.{IsQuiet, OnlyReads, OnlySyncs, InSectors, SameBut, Touches}
+use Rattle.vab_disk.specs.Calls.{IsQuiet, OnlyReads, OnlySyncs, SameBut, Touches}
 use Rattle.vab_disk.specs.Calls.{Changes, IsAtRest}
 use Rattle.vab_disk.specs.Port.{LeavesSaying}
 use Rattle.vab_disk.specs.Written.{set_here, set_there}
@@ -20,9 +20,9 @@ fewer_then a b c ab bc = record {
   sink = omega (arith, ab.sink, bc.sink);
 }
 
--- a count that rose after others has risen since before them
-pub rose_then : (a b c : Faults) → NoFewer a b → Rose b.disk c.disk → Rose a.disk c.disk
-rose_then a b c ab rose = omega (arith, ab.disk, rose)
+-- a call that failed behind others that didn't
+pub failed_then : (a b c : Faults) → b ≡ a → DiskFailed b c → DiskFailed a c
+failed_then a b c same failed = subst (λ (f : Faults). DiskFailed f c) same failed
 
 pub same_then : (W : ℕ → List ℕ → Type 0) (a b c : Image)
     → SameBut W a b

@@ -1,8 +1,7 @@
 -- How a run of disk calls goes on, and what its outcomes are.
-use Rattle.std.specs.Prelude.{◌≡◌, ◌≢◌, ◌⊎◌, ℕ, List}
+use Rattle.std.specs.Prelude.{◌≡◌, ◌⊎◌, ℕ, List}
 use Rattle.std.proofs.Common.{inl, inr, ⊎_elim, arith, sym, ◌∙◌, subst}
 use Rattle.std.proofs.lemmas.Bool.{cases_eq}
-use Rattle.std.proofs.lemmas.Bool.Decides.{nat_tests}
 use Rattle.vab_disk.specs.Written.{same_image, set_here, set_there}
 use Rattle.vab_disk.specs.Disk.{Image, set_sector, Outcome, Leaves, LeavesWith, LeavesEither}
 use Rattle.vab_disk.specs.Disk.{LeavesBlend, IsBlend, IsSettled, Adds, Nothing, IsAt, NoMoreBut}

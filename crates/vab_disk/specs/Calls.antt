@@ -2,7 +2,7 @@
 use Rattle.std.specs.Prelude.{◌≡◌, ◌⊎◌, ℕ, ◌≤◌, ◌<◌, List, Result, OnOk, OnErr}
 use Rattle.vab_disk.specs.declared.disk.Disk.{Ghosts}
 use Rattle.vab_disk.specs.Disk.{Image, LeavesWith, IsSettled, Adds, Nothing, NoMoreBut}
-use Rattle.vab_disk.specs.Disk.{SameHoldings, Quiet, NoFewer, Rose}
+use Rattle.vab_disk.specs.Disk.{SameHoldings, Quiet, DiskFailed}
 
 -- sectors from the one up to the other, which isn't among them
 pub record IsBetween (first end s : ℕ) : Type 0 where
@@ -47,13 +47,14 @@ pub record Touches {D : Type 0}
   pub time : g.is_modelled
       → Adds g.moment g.outcomes old new (LeavesWith W (g.told old) (g.may_leave old))
 
--- An error comes where the count of the disk's faults rose. Ok leaves all counts as they were.
+-- An error comes where one call of the disk failed, and none was made behind it. Ok leaves all
+-- counts as they were.
 pub record FailsWithDisk {D A E : Type 0}
     (g : Ghosts D)
     (old new : D)
     (result : Result A E) : Type 0 where
   pub steady : OnOk result (g.faults new ≡ g.faults old)
-  pub cause : OnErr result (Rose (g.faults old).disk (g.faults new).disk)
+  pub cause : OnErr result (DiskFailed (g.faults old) (g.faults new))
 
 -- nothing is pending: what a crash leaves is what a read gives
 abbrev pub IsAtRest : {D : Type 0} → Ghosts D → D → Type 0

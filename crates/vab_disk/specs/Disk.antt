@@ -103,9 +103,22 @@ pub record NoFewer (before now : Faults) : Type 0 where
   pub source : before.source ≤ now.source
   pub sink : before.sink ≤ now.sink
 
--- a count has risen, or stands at its type's end
-abbrev pub Rose : ℕ → ℕ → Type 0
-Rose before now = min (before + 1) (2 ^ 64 - 1) ≤ now
+-- a count that is one higher, or stands at its type's end
+abbrev pub one_more : ℕ → ℕ
+one_more n = min (n + 1) (2 ^ 64 - 1)
+
+-- One call failed, and it was one of the disk: no other call failed. Since any call may fail, none
+-- was made behind it.
+abbrev pub DiskFailed : Faults → Faults → Type 0
+DiskFailed before now = now ≡ record before { disk = one_more before.disk }
+
+-- one call failed, and it was a hearing
+abbrev pub SourceFailed : Faults → Faults → Type 0
+SourceFailed before now = now ≡ record before { source = one_more before.source }
+
+-- one call failed, and it was one that tells
+abbrev pub SinkFailed : Faults → Faults → Type 0
+SinkFailed before now = now ≡ record before { sink = one_more before.sink }
 
 -- What was told and what of the input was left when bytes were heard.
 pub record Hearing : Type 0 where

@@ -3,7 +3,7 @@ ghost use Rattle.std.specs.Prelude.{◌≡◌, ◌≢◌, ◌⊎◌, ◌<◌, �
 ghost use Rattle.std.specs.Prelude.{slice_index, take, IfOk, OnOk, OnErr, IsErrOf};
 ghost use Rattle.vab_disk.specs.Disk.{Image, IsSector, Outcome, Leaves, IsSettled, Adds, Nothing};
 ghost use Rattle.vab_disk.specs.Disk.{IsAt, Writes, SameHoldings, MayBeSet, Faults, NoFewer, Quiet};
-ghost use Rattle.vab_disk.specs.Disk.{Rose, Hearing, set_sector};
+ghost use Rattle.vab_disk.specs.Disk.{Hearing, set_sector, DiskFailed, SinkFailed, SourceFailed};
 ghost use Rattle.vab_disk.specs.Port.{Hears, LeavesSaying, heard_then};
 
 #[derive(Clone, Copy, Debug, PartialEq, Eq)]
@@ -59,7 +59,7 @@ pub trait Disk {
         ensures crash { is_modelled → SameHoldings (may_leave self.old) (may_leave self.new) }
         ensures time { is_modelled → Adds moment outcomes self.old self.new Nothing }
         ensures steady { OnOk result (faults self.new ≡ faults self.old) }
-        ensures cause { OnErr result (Rose (faults self.old).disk (faults self.new).disk) };
+        ensures cause { OnErr result (DiskFailed (faults self.old) (faults self.new)) };
 
     /// A write that fails may have written.
     fn write_sector(&mut self, at: u64, from: &[u8; 512]) -> Result<(), Failed>
@@ -74,7 +74,7 @@ pub trait Disk {
         ensures time { is_modelled → Adds moment outcomes self.old self.new
             (Leaves (told self.old) (may_leave self.new)) }
         ensures steady { OnOk result (faults self.new ≡ faults self.old) }
-        ensures cause { OnErr result (Rose (faults self.old).disk (faults self.new).disk) };
+        ensures cause { OnErr result (DiskFailed (faults self.old) (faults self.new)) };
 
     /// After it a crash leaves what a read gives. One that fails leaves pending what is pending.
     fn sync(&mut self) -> Result<(), Failed>
@@ -88,7 +88,7 @@ pub trait Disk {
         ensures seen { is_modelled → seen self.new ≡ seen self.old }
         ensures time { is_modelled → Adds moment outcomes self.old self.new Nothing }
         ensures steady { OnOk result (faults self.new ≡ faults self.old) }
-        ensures cause { OnErr result (Rose (faults self.old).disk (faults self.new).disk) };
+        ensures cause { OnErr result (DiskFailed (faults self.old) (faults self.new)) };
 
     /// A disk is small.
     ghost small: { (d : Self) → size d < 2 ^ 55 };
@@ -142,7 +142,7 @@ pub trait Port: Disk {
         ensures steady { OnOk result (Self.faults self.new ≡ Self.faults self.old) }
         ensures kind { IsErrOf result PortFault.Sink → ⊥ }
         ensures cause { OnErr result
-            (Rose (Self.faults self.old).source (Self.faults self.new).source) };
+            (SourceFailed (Self.faults self.old) (Self.faults self.new)) };
 
     /// Tells some bytes of a piece from its front, at least one of a piece that has any.
     fn say(&mut self, from: &[u8]) -> Result<usize, PortFault>
@@ -164,5 +164,5 @@ pub trait Port: Disk {
         ensures steady { OnOk result (Self.faults self.new ≡ Self.faults self.old) }
         ensures kind { IsErrOf result PortFault.Source → ⊥ }
         ensures cause { OnErr result
-            (Rose (Self.faults self.old).sink (Self.faults self.new).sink) };
+            (SinkFailed (Self.faults self.old) (Self.faults self.new)) };
 }

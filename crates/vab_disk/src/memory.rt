@@ -4,7 +4,8 @@ ghost use Rattle.std.specs.Prelude.{◌≡◌, ◌⊎◌, ◌≤◌, ◌<◌, �
 ghost use Rattle.std.specs.Prelude.{drop, take, reverse, slice_index_or, replicate, IfOk, OnOk};
 ghost use Rattle.std.specs.Prelude.{OnErr, IsTrue, ◌↔◌, Contains};
 ghost use Rattle.std.specs.Bool.{OnTrue, OnFalse};
-ghost use Rattle.vab_disk.specs.Disk.{IsSettled, SameHoldings, Rose};
+ghost use Rattle.vab_disk.specs.Disk.{IsSettled, SameHoldings, DiskFailed, SinkFailed};
+ghost use Rattle.vab_disk.specs.Disk.{SourceFailed, one_more};
 ghost use Rattle.vab_disk.specs.Numbered.{Numbered};
 ghost use Rattle.vab_disk.specs.Port.{Hears};
 ghost use Rattle.vab_disk.specs.declared.record.Call.{Call as CallOf};
@@ -275,8 +276,8 @@ impl MemPort {
     // Memory was refused to a `say`.
     fn starve(&mut self) -> PortFault
         ensures fault { result ≡ PortFault.Sink }
-        ensures rose { Rose self.old.sink.faults self.new.sink.faults }
-        ensures starving { Rose self.old.starved self.new.starved }
+        ensures rose { self.new.sink.faults ≡ one_more self.old.sink.faults }
+        ensures starving { self.new.starved ≡ one_more self.old.starved }
         ensures growing { self.old.starved ≤ self.new.starved }
         ensures later { self.old.sink.faults ≤ self.new.sink.faults }
         ensures calls { self.new.sink.calls ≡ self.old.sink.calls }
@@ -410,7 +411,7 @@ fn after_call(call: &Call, at: u64, now: [u8; 512], settled: [u8; 512]) -> ([u8;
 fn disk_fails(disk: &mut Failing, stop: Option<u64>, writes: u64) -> bool
     ensures fails { IsTrue result ↔
         (Contains disk.old.listed.items disk.old.calls ⊎ IsStopped stop writes) }
-    ensures rose { OnTrue result (Rose disk.old.faults disk.new.faults) }
+    ensures rose { OnTrue result (disk.new.faults ≡ one_more disk.old.faults) }
     ensures steady { OnFalse result (disk.new.faults ≡ disk.old.faults) }
     ensures later { disk.old.faults ≤ disk.new.faults }
     ensures numbered { Numbered disk.old disk.new }
@@ -446,9 +447,9 @@ fn record(
     ensures kind_calls { kind.new.calls ≡ kind.old.calls }
     ensures kind_listed { kind.new.listed.items ≡ kind.old.listed.items }
     ensures err { OnErr result (calls.new.items ≡ calls.old.items) }
-    ensures rose { OnErr result (Rose kind.old.faults kind.new.faults) }
+    ensures rose { OnErr result (kind.new.faults ≡ one_more kind.old.faults) }
     ensures later { kind.old.faults ≤ kind.new.faults }
-    ensures starving { OnErr result (Rose starved.old starved.new) }
+    ensures starving { OnErr result (starved.new ≡ one_more starved.old) }
     ensures growing { starved.old ≤ starved.new }
     ensures fed { OnOk result (starved.new ≡ starved.old) }
 {
@@ -547,13 +548,13 @@ impl Disk for MemPort {
             Nothing }
         ensures steady { OnOk result
             (⟦<MemPort as Disk>⟧.faults self.new ≡ ⟦<MemPort as Disk>⟧.faults self.old) }
-        ensures cause { OnErr result (Rose (⟦<MemPort as Disk>⟧.faults self.old).disk
-            (⟦<MemPort as Disk>⟧.faults self.new).disk) }
+        ensures cause { OnErr result (DiskFailed (⟦<MemPort as Disk>⟧.faults self.old)
+            (⟦<MemPort as Disk>⟧.faults self.new)) }
         // It fails exactly where it is listed, or stopped, or memory was refused.
         ensures fed { self.old.starved ≤ self.new.starved }
         ensures enough { OnOk result (self.new.starved ≡ self.old.starved) }
         ensures only { OnErr result
-            (IsDiskListed self.old ⊎ Rose self.old.starved self.new.starved) }
+            (IsDiskListed self.old ⊎ self.new.starved ≡ one_more self.old.starved) }
         ensures fails { IsDiskListed self.old → IsErr result }
         ensures numbered { IsDiskCall self.old self.new }
         ensures writes { SameWrites self.old self.new }
@@ -592,13 +593,13 @@ impl Disk for MemPort {
             (⟦<MemPort as Disk>⟧.may_leave self.new)) }
         ensures steady { OnOk result
             (⟦<MemPort as Disk>⟧.faults self.new ≡ ⟦<MemPort as Disk>⟧.faults self.old) }
-        ensures cause { OnErr result (Rose (⟦<MemPort as Disk>⟧.faults self.old).disk
-            (⟦<MemPort as Disk>⟧.faults self.new).disk) }
+        ensures cause { OnErr result (DiskFailed (⟦<MemPort as Disk>⟧.faults self.old)
+            (⟦<MemPort as Disk>⟧.faults self.new)) }
         // It fails exactly where it is listed, or stopped, or memory was refused.
         ensures fed { self.old.starved ≤ self.new.starved }
         ensures enough { OnOk result (self.new.starved ≡ self.old.starved) }
         ensures only { OnErr result
-            (IsDiskListed self.old ⊎ Rose self.old.starved self.new.starved) }
+            (IsDiskListed self.old ⊎ self.new.starved ≡ one_more self.old.starved) }
         ensures fails { IsDiskListed self.old → IsErr result }
         ensures numbered { IsDiskCall self.old self.new }
         ensures writes { OnOk result (OneWrite self.old self.new) }
@@ -640,13 +641,13 @@ impl Disk for MemPort {
             Nothing }
         ensures steady { OnOk result
             (⟦<MemPort as Disk>⟧.faults self.new ≡ ⟦<MemPort as Disk>⟧.faults self.old) }
-        ensures cause { OnErr result (Rose (⟦<MemPort as Disk>⟧.faults self.old).disk
-            (⟦<MemPort as Disk>⟧.faults self.new).disk) }
+        ensures cause { OnErr result (DiskFailed (⟦<MemPort as Disk>⟧.faults self.old)
+            (⟦<MemPort as Disk>⟧.faults self.new)) }
         // It fails exactly where it is listed, or stopped, or memory was refused.
         ensures fed { self.old.starved ≤ self.new.starved }
         ensures enough { OnOk result (self.new.starved ≡ self.old.starved) }
         ensures only { OnErr result
-            (IsDiskListed self.old ⊎ Rose self.old.starved self.new.starved) }
+            (IsDiskListed self.old ⊎ self.new.starved ≡ one_more self.old.starved) }
         ensures fails { IsDiskListed self.old → IsErr result }
         ensures numbered { IsDiskCall self.old self.new }
         ensures writes { OnOk result (OneSync self.old self.new) }
@@ -702,8 +703,8 @@ impl Port for MemPort {
         ensures kind { IsErrOf result PortFault.Sink → ⊥ }
         ensures steady { OnOk result
             (⟦<MemPort as Disk>⟧.faults self.new ≡ ⟦<MemPort as Disk>⟧.faults self.old) }
-        ensures cause { OnErr result (Rose (⟦<MemPort as Disk>⟧.faults self.old).source
-            (⟦<MemPort as Disk>⟧.faults self.new).source) }
+        ensures cause { OnErr result (SourceFailed (⟦<MemPort as Disk>⟧.faults self.old)
+            (⟦<MemPort as Disk>⟧.faults self.new)) }
         // It fails exactly where it is listed, or memory was refused.
         ensures failed { ⟦<MemPort as Disk>⟧.is_modelled
             → OnErr result
@@ -711,7 +712,7 @@ impl Port for MemPort {
         ensures fed { self.old.starved ≤ self.new.starved }
         ensures enough { OnOk result (self.new.starved ≡ self.old.starved) }
         ensures only { OnErr result
-            (IsHearListed self.old ⊎ Rose self.old.starved self.new.starved) }
+            (IsHearListed self.old ⊎ self.new.starved ≡ one_more self.old.starved) }
         ensures fails { IsHearListed self.old → IsErr result }
         ensures numbered { IsHearCall self.old self.new }
     {
@@ -764,13 +765,13 @@ impl Port for MemPort {
         ensures kind { IsErrOf result PortFault.Source → ⊥ }
         ensures steady { OnOk result
             (⟦<MemPort as Disk>⟧.faults self.new ≡ ⟦<MemPort as Disk>⟧.faults self.old) }
-        ensures cause { OnErr result (Rose (⟦<MemPort as Disk>⟧.faults self.old).sink
-            (⟦<MemPort as Disk>⟧.faults self.new).sink) }
+        ensures cause { OnErr result (SinkFailed (⟦<MemPort as Disk>⟧.faults self.old)
+            (⟦<MemPort as Disk>⟧.faults self.new)) }
         // It fails exactly where it is listed, or memory was refused.
         ensures fed { self.old.starved ≤ self.new.starved }
         ensures enough { OnOk result (self.new.starved ≡ self.old.starved) }
         ensures only { OnErr result
-            (IsSayListed self.old ⊎ Rose self.old.starved self.new.starved) }
+            (IsSayListed self.old ⊎ self.new.starved ≡ one_more self.old.starved) }
         ensures fails { IsSayListed self.old → IsErr result }
         ensures numbered { IsSayCall self.old self.new }
     {

@@ -4,7 +4,7 @@ use Rattle.std.proofs.Common.{List, length, Ok, Err, refl, sym, ap, subst, arith
 use Rattle.std.specs.Prelude.{Option, Some, None, Result, map, AllPairs, ◌==◌}
 use Rattle.std.proofs.lemmas.Bool.{cases_Bool}
 use Rattle.vab_disk.specs.declared.disk.Disk.{Ghosts}
-use Rattle.vab_disk.specs.Disk.{Image, Outcome, Adds, Rose}
+use Rattle.vab_disk.specs.Disk.{Image, Outcome, Adds, DiskFailed}
 use Rattle.vab_disk.specs.Calls.{IsAtRest, Touches}
 use Rattle.vab_disk.proofs.CallLaws.{reads_none, touches_wider}
 use Rattle.vab_disk.proofs.Moments.{adds_wider}
@@ -379,7 +379,7 @@ module _ {D : Type 0} (g : Ghosts D) (d : Device) (edit : Edit) (staged : Option
 
     -- the disk failed
     pub fails_edit : (fault : DiskFault)
-        → Rose (g.faults old).disk (g.faults new).disk
+        → DiskFailed (g.faults old) (g.faults new)
         → Does g d staged (command_by edit) (IsOfEdit d) old new (Err fault)
     fails_edit fault rose = record {
       refused = false;
@@ -390,7 +390,7 @@ module _ {D : Type 0} (g : Ghosts D) (d : Device) (edit : Edit) (staged : Option
       reply = λ t. tt;
       rest = λ t rest. tt;
       quiet = touches.quiet;
-      still = λ t none. tt;
+      still = λ t none. absurd (step_follows gives none);
       touches = λ t.
           touches_wider g (IsOfEdit d) (IsOfTable d.geometry (other_slot d.mark.slot) text) old new
           touches writes;

@@ -3,7 +3,7 @@ ghost use Rattle.std.specs.Prelude.{◌≡◌, ◌⊎◌, ◌<◌, ◌≤◌, �
 ghost use Rattle.std.specs.Prelude.{vec_len, vec_capacity, IfOk, IfErr, IfSome, IfNone};
 ghost use Rattle.std.specs.Prelude.{OnOk, OnErr, IsErrOf, IsTrue};
 ghost use Rattle.std.specs.Bool.{OnTrue, OnFalse};
-ghost use Rattle.vab_disk.specs.Disk.{Faults, Rose};
+ghost use Rattle.vab_disk.specs.Disk.{Faults, SourceFailed};
 ghost use Rattle.vab_fbtcp.specs.Frame.{found_of, place_after, body_place, bytes_of};
 ghost use Rattle.vab_fbtcp.specs.declared.event.Place.TheVariants.{Hello, Length};
 
@@ -78,7 +78,7 @@ impl Reader {
         ensures most { most_of self.new ≡ most_of self.old }
         ensures fault { OnErr result (result ≡ Err ReadFault.Source) }
         ensures steady { UnlessSource (P.faults p.new ≡ P.faults p.old) result }
-        ensures cause { OnErr result (Rose (P.faults p.old).source (P.faults p.new).source) }
+        ensures cause { OnErr result (SourceFailed (P.faults p.old) (P.faults p.new)) }
     {
         let room = self.budget.room();
         let want = if room < 4096 { room as usize } else { 4096 };
@@ -130,7 +130,7 @@ impl Reader {
             (FaultAt due (stands_at self.old) (rest_of self.old (P.input_left p.old))) }
         ensures steady { UnlessSource (P.faults p.new ≡ P.faults p.old) result }
         ensures cause { IsErrOf result ReadFault.Source
-            → Rose (P.faults p.old).source (P.faults p.new).source }
+            → SourceFailed (P.faults p.old) (P.faults p.new) }
     {
         loop {
             match self.framer.next(due)? {
@@ -179,7 +179,7 @@ impl Reader {
             (total_of self.old (P.input_left p.old)) (most_of self.old)) }
         ensures steady { UnlessSource (P.faults p.new ≡ P.faults p.old) result }
         ensures cause { IsErrOf result ReadFault.Source
-            → Rose (P.faults p.old).source (P.faults p.new).source }
+            → SourceFailed (P.faults p.old) (P.faults p.new) }
     {
         match self.next(p, 0) {
             Ok(Some(Event::Hello(_))) => Ok(()),
@@ -220,7 +220,7 @@ impl Reader {
             (total_of self.old (P.input_left p.old)) (most_of self.old)) }
         ensures steady { UnlessSource (P.faults p.new ≡ P.faults p.old) result }
         ensures cause { IsErrOf result ReadFault.Source
-            → Rose (P.faults p.old).source (P.faults p.new).source }
+            → SourceFailed (P.faults p.old) (P.faults p.new) }
     {
         let mut left = count;
         while left > 0 {
@@ -268,7 +268,7 @@ impl Reader {
             (total_of self.old (P.input_left p.old)) (most_of self.old)) }
         ensures steady { UnlessSource (P.faults p.new ≡ P.faults p.old) result }
         ensures cause { IsErrOf result ReadFault.Source
-            → Rose (P.faults p.old).source (P.faults p.new).source }
+            → SourceFailed (P.faults p.old) (P.faults p.new) }
     {
         packet.clear();
         match self.next(p, 0) {
@@ -321,7 +321,7 @@ impl Reader {
             (total_of self.old (P.input_left p.old)) (most_of self.old)) }
         ensures steady { UnlessSource (P.faults p.new ≡ P.faults p.old) result }
         ensures cause { IsErrOf result ReadFault.Source
-            → Rose (P.faults p.old).source (P.faults p.new).source }
+            → SourceFailed (P.faults p.old) (P.faults p.new) }
     {
         let mut left = count;
         while left > 0 {
@@ -371,7 +371,7 @@ impl Reader {
             (total_of self.old (P.input_left p.old)) (most_of self.old)) }
         ensures steady { UnlessSource (P.faults p.new ≡ P.faults p.old) result }
         ensures cause { IsErrOf result ReadFault.Source
-            → Rose (P.faults p.old).source (P.faults p.new).source }
+            → SourceFailed (P.faults p.old) (P.faults p.new) }
     {
         let mut left = due;
         while left > 0 {

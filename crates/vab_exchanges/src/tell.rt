@@ -1,6 +1,6 @@
 //! Telling whole pieces.
 ghost use Rattle.std.specs.Prelude.{◌≡◌, ◌++◌, ℕ, take, length, OnOk, OnErr, IsErrOf};
-ghost use Rattle.vab_disk.specs.Disk.{Adds, SameHoldings, Faults, NoFewer, Rose};
+ghost use Rattle.vab_disk.specs.Disk.{Adds, SameHoldings, Faults, NoFewer, SinkFailed};
 ghost use Rattle.vab_disk.specs.Port.{LeavesSaying};
 
 use vab_disk::{Disk, Port, PortFault};
@@ -20,7 +20,7 @@ pub fn say_all<P: Port>(p: &mut P, bytes: &[u8]) -> Result<(), PortFault>
     ensures counts { NoFewer (P.faults p.old) (P.faults p.new) }
     ensures steady { OnOk result (P.faults p.new ≡ P.faults p.old) }
     ensures kind { IsErrOf result PortFault.Source → ⊥ }
-    ensures cause { OnErr result (Rose (P.faults p.old).sink (P.faults p.new).sink) }
+    ensures cause { OnErr result (SinkFailed (P.faults p.old) (P.faults p.new)) }
 {
     let mut done = 0;
     while done < bytes.len() {

@@ -23,7 +23,8 @@ use Rattle.vab_device.specs.Mounted.{bytes_at, image_on, entry_on, sectors_by, c
 use Rattle.vab_device.specs.Mounted as mounted
 use Rattle.vab_device.specs.Phases.{planned_on, planned_image, is_ready, are_ready}
 use Rattle.vab_device.specs.Stores.{Scanned, scanned_named}
-use Rattle.vab_device.specs.Updates.{source_bytes, final_image}
+use Rattle.vab_device.specs.Flashed.{source_bytes}
+use Rattle.vab_device.specs.Updates.{final_image}
 use Rattle.vab_flash.proofs.SourceLaws.{full_or}
 
 -- ---- the source's image

@@ -1,5 +1,5 @@
 -- Whether an installation may end, as the partitions and as the plan of the state say.
-use Rattle.std.proofs.Common.{◌≡◌, ◌∙◌, ℕ, ◌+◌, true, List, [], ◌∷◌, refl, sym, ap}
+use Rattle.std.proofs.Common.{◌≡◌, ◌≢◌, ◌∙◌, ℕ, ◌+◌, true, List, [], ◌∷◌, refl, sym, ap}
 use Rattle.std.specs.Prelude.{Option, Some, None, map, is_some}
 use Rattle.std.proofs.lemmas.Bool.{cases_Bool}
 use Rattle.std.specs.Ordering.{is_lt, nat_cmp}
@@ -21,7 +21,8 @@ use Rattle.vab_device.specs.Mounted.{Mounted, mounted_on, state_on, planned_on, 
 use Rattle.vab_device.specs.Mounted.{entries_on, phase_by, count_at}
 use Rattle.vab_device.specs.Phases.{are_ready}
 use Rattle.vab_device.specs.Updates.{effect_on, finish_effect, complete_effect}
-use Rattle.vab_finish.specs.Ready.{declared_by, declared_of, least_of}
+use Rattle.vab_device.proofs.DoesLaws.{step_follows}
+use Rattle.vab_finish.specs.Ready.{declared_by, declared_of, least_of, MayFinish}
 
 -- ---- the least name
 
@@ -121,3 +122,10 @@ finish_by d image staged plan least is none =
     finish_planned d image staged plan is
     ∙ ap (complete_effect (mounted_on d image) d.mark.slot (plan_on d image plan))
     (least_same image None plan ∙ none)
+
+-- an installation that may end has a device behind its end
+pub finish_follows : (d : Device) (image : Image) (staged : Option (List ℕ))
+    → MayFinish d
+    → (effect_on (mounted_on d image) staged Finish).later ≢ []
+finish_follows d image staged ready =
+    step_follows (finish_by d image staged ready.plan None ready.plan_is ready.none)

@@ -28,7 +28,8 @@ use Rattle.vab_device.specs.Phases.{phase_in, phase_at, are_ready, plan_of}
 use Rattle.vab_device.specs.Reading.{Read, Reads, Represents}
 use Rattle.vab_device.specs.Reading.{AgreeCopies, Dead, tables_in, table_at}
 use Rattle.vab_device.specs.Stores.{Scanned}
-use Rattle.vab_device.specs.Updates.{source_bytes, finished, final_image}
+use Rattle.vab_device.specs.Flashed.{source_bytes}
+use Rattle.vab_device.specs.Updates.{finished, final_image}
 use Rattle.vab_begin.proofs.BegunLaws.{device_same}
 use Rattle.vab_device.proofs.UpdateLaws.{update_read, kept_with}
 use Rattle.vab_device.proofs.StayLaws.{two_of}

@@ -31,12 +31,14 @@ use Rattle.vab_device.specs.Kept.{part_on, parts_at}
 use Rattle.vab_device.specs.Mounted.{Mounted, state_on, mounted_on, entry_on, entries_on}
 use Rattle.vab_device.specs.Mounted.{bytes_at, image_on, images_on}
 use Rattle.vab_device.specs.Mounted.{sectors_read, count_at, unplanned, phase_by}
-use Rattle.vab_device.specs.Updates.{effect_on, flash_effect, entry_effect}
-use Rattle.vab_device.specs.Updates.{source_bytes}
+use Rattle.vab_device.specs.Flashed.{flash_effect, entry_effect, source_bytes}
+use Rattle.vab_device.specs.Updates.{effect_on}
+use Rattle.vab_device.proofs.FlashedLaws.{flash_by_blocks}
 use Rattle.vab_flash.specs.declared.chosen.Destination.{Destination}
-use Rattle.vab_flash.specs.Chosen.{place_of, HasPlace, effect_into}
-use Rattle.vab_flash.specs.Chosen.{IsChosen, plan_or, planned_at, no_planned, store_long}
+use Rattle.vab_flash.specs.Chosen.{effect_into}
+use Rattle.vab_flash.specs.Chosen.{IsChosen, store_long}
 use Rattle.vab_flash.specs.Chosen.{blocks_or, part_named, part_among, part_at}
+use Rattle.vab_flash.specs.Place.{place_of, HasPlace, plan_or, planned_at, no_planned}
 
 -- where nothing is planned no update is installed
 unplanned_refuses : (m : Mounted) (staged : Option (List ℕ)) (name : List ℕ) (chunk : Chunk)
@@ -54,7 +56,8 @@ pub flash_idle : (d : Device) (image : Image) (staged : Option (List ℕ)) (name
     → effect_on (mounted_on d image) staged (Flash name chunk) ≡ refuses refusals.NotInstalling
 unfolding state_on
 flash_idle d image staged name chunk none =
-    (λ k.
+    flash_by_blocks (mounted_on d image) staged name chunk
+    ∙ (λ k.
     flash_effect (mounted_on d image) staged name chunk
     (phase_by d.mark (count_at d.a + count_at d.b) (entries_on image (none k))))
     ∙ unplanned_refuses (mounted_on d image) staged name chunk d.mark.phase d.mark.slot
@@ -78,7 +81,8 @@ pub flash_planned : (d : Device) (image : Image) (staged : Option (List ℕ)) (n
     (Installing d.mark.slot (plan_of_parts d image plan))
 unfolding state_on
 flash_planned d image staged name chunk plan is =
-    (λ k.
+    flash_by_blocks (mounted_on d image) staged name chunk
+    ∙ (λ k.
     flash_effect (mounted_on d image) staged name chunk
     (phase_by d.mark (count_at d.a + count_at d.b) (entries_on image (is k))))
 

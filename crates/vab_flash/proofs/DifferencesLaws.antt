@@ -17,7 +17,7 @@ use Rattle.vab_space.proofs.DifferingLaws.{differing_same}
 use Rattle.vab_store.specs.Layout.{chunk_bytes}
 use Rattle.vab_install.specs.Differing.{differs_at, differing_of}
 use Rattle.vab_device.specs.Mounted.{bytes_at}
-use Rattle.vab_device.specs.Updates.{is_other, differences}
+use Rattle.vab_device.specs.Flashed.{is_other, differences}
 
 -- ---- pieces of 4096 bytes
 

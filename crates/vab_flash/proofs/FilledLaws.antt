@@ -19,7 +19,7 @@ use Rattle.vab_install.specs.InPlace.{HoldsImage}
 use Rattle.vab_install.specs.Snapshot.{HoldsBlocks}
 use Rattle.vab_device.specs.Mounted.{bytes_at}
 use Rattle.vab_device.specs.Stores.{sector_seen, sectors_seen}
-use Rattle.vab_device.specs.Updates.{filled}
+use Rattle.vab_device.specs.Flashed.{filled}
 
 -- each block that is seen is the staged one
 seen_filled : (chunk : Chunk) (store : List ℕ) (es : List Exception) (n : ℕ) (owns : List ℕ)

@@ -8,7 +8,8 @@ use Rattle.vab_store.specs.Layout.{IsOnDisk}
 use Rattle.vab_device.specs.declared.device.Part.{Part}
 use Rattle.vab_device.specs.declared.device.Device.{Device}
 use Rattle.vab_device.specs.Kept.{IsPart, ArePresent, IsDevice}
-use Rattle.vab_flash.specs.Chosen.{planned_at, part_named, part_among, blocks_or, base_of_place}
+use Rattle.vab_flash.specs.Chosen.{part_named, part_among, blocks_or, base_of_place}
+use Rattle.vab_flash.specs.Place.{planned_at}
 
 -- ---- the source's partition lies on the disk
 

@@ -35,7 +35,7 @@ use Rattle.vab_device.specs.Kept.{sectors_of, IsDevice}
 use Rattle.vab_device.specs.Phases.{planned_on, planned_image, plan_of}
 use Rattle.vab_device.specs.Mounted.{bytes_at, written_sectors, entry_on, entries_on, images_on}
 use Rattle.vab_device.specs.Mounted.{state_on, mounted_on}
-use Rattle.vab_device.specs.Updates.{filled, with_image}
+use Rattle.vab_device.specs.Flashed.{filled, with_image}
 use Rattle.vab_device.specs.Reading.{Read, read_table, kept, IsOfWritten, IsOfPlanned}
 use Rattle.vab_device.proofs.StoreLaws.{plan_kept}
 use Rattle.vab_device.specs.Reading.{statuses_read, statuses_at, IsOfBlocks}

@@ -39,9 +39,10 @@ use Rattle.vab_device.specs.Updates.{effect_on}
 use Rattle.vab_device.proofs.NamedParts.{all_set}
 use Rattle.vab_flash.specs.declared.chosen.Destination.{Destination}
 use Rattle.vab_flash.specs.declared.chosen.Destination.TheVariants.{Store, Blocks}
-use Rattle.vab_flash.specs.Chosen.{destination_of, IsChosen, HasPlace, plan_or, planned_at}
-use Rattle.vab_flash.specs.Chosen.{no_planned, base_of_place, differing_at, store_at, store_long}
+use Rattle.vab_flash.specs.Chosen.{destination_of, IsChosen}
+use Rattle.vab_flash.specs.Chosen.{base_of_place, differing_at, store_at, store_long}
 use Rattle.vab_flash.specs.Chosen.{needed_at, with_written}
+use Rattle.vab_flash.specs.Place.{HasPlace, plan_or, planned_at, no_planned}
 use Rattle.vab_flash.specs.Touched.{blocks_by, IsOfFlash}
 use Rattle.vab_flash.proofs.InPlaceLaws.{represents_placed, effect_placed}
 use Rattle.vab_flash.proofs.PlacedLaws.{of_store, of_blocks}

@@ -23,12 +23,15 @@ use Rattle.vab_device.specs.Kept.{sectors_of, IsDevice}
 use Rattle.vab_device.specs.Mounted.{Mounted, mounted_on, bytes_at, written_sectors, blocks_there}
 use Rattle.vab_device.specs.Reading.{device, Represents, IsOfBlocks}
 use Rattle.vab_device.specs.Stores.{Wanted, wanted_by, wanted_of, scan_at}
-use Rattle.vab_device.specs.Updates.{effect_on, filled}
+use Rattle.vab_device.specs.Flashed.{filled}
+use Rattle.vab_device.specs.Updates.{effect_on}
 use Rattle.vab_device.proofs.Behind.{seen_or}
+use Rattle.vab_device.proofs.DoesLaws.{step_follows}
 use Rattle.vab_device.proofs.PartBlocks.{block_behind}
 use Rattle.vab_device.proofs.ReadingLaws.{device_same, device_stands}
 use Rattle.vab_flash.specs.declared.chosen.Destination.TheVariants.{Blocks}
-use Rattle.vab_flash.specs.Chosen.{IsChosen, planned_at, with_written}
+use Rattle.vab_flash.specs.Chosen.{IsChosen, with_written}
+use Rattle.vab_flash.specs.Place.{planned_at}
 use Rattle.vab_flash.proofs.ApartLaws.{BelongTo, own_belongs}
 use Rattle.vab_flash.proofs.ChosenLaws.{flash_chosen}
 use Rattle.vab_flash.proofs.DeadLaws.{Tables, tables_kept, these_dead}
@@ -107,6 +110,12 @@ module _ (d : Device) (size : ℕ) (old : Image) (device_is : IsDevice d size)
       image i.reads
       (these_dead d size old i device_is name p.part.blocks belong p.unread image wide)
       ∙ device_stands d size old is
+
+  -- the image has a device behind it
+  pub placed_follows : (chunk : Chunk)
+      → (effect_on (mounted_on d old) staged (Flash name chunk)).later ≢ []
+  placed_follows chunk =
+      step_follows {wants = false} (flash_chosen d old staged name chunk place Blocks bytes chosen)
 
   -- ---- behind the gate
 

@@ -24,10 +24,11 @@ use Rattle.vab_device.specs.Mounted.{bytes_at, written_sectors, entry_on, state_
 use Rattle.vab_device.specs.Phases.{plan_of}
 use Rattle.vab_device.specs.Reading.{Represents, IsOfBlocks}
 use Rattle.vab_device.specs.Stores.{Wanted, wanted_of, scan_at}
-use Rattle.vab_device.specs.Updates.{filled, with_image}
+use Rattle.vab_device.specs.Flashed.{filled, with_image}
 use Rattle.vab_device.proofs.BlockLaws.{bytes_same}
 use Rattle.vab_device.proofs.NamedParts.{one_of_name}
-use Rattle.vab_flash.specs.Chosen.{plan_or, planned_at, with_written}
+use Rattle.vab_flash.specs.Chosen.{with_written}
+use Rattle.vab_flash.specs.Place.{plan_or, planned_at}
 use Rattle.vab_flash.proofs.ApartLaws.{BelongTo}
 use Rattle.vab_flash.proofs.DeadLaws.{not_low, unnamed}
 use Rattle.vab_flash.proofs.GateLaws.{device_then, installs_then, plan_then, mounted_then}

@@ -27,8 +27,9 @@ use Rattle.vab_device.specs.Phases.{planned_on, planned_image, plan_of}
 use Rattle.vab_device.specs.Stores.{Scanned, first_named, scanned_named}
 use Rattle.vab_flash.specs.declared.chosen.Destination.{Destination}
 use Rattle.vab_flash.specs.declared.chosen.Destination.TheVariants.{Store, Blocks}
-use Rattle.vab_flash.specs.Chosen.{place_of, HasPlace, IsUnwritten, destination_of, plan_or}
-use Rattle.vab_flash.specs.Chosen.{no_planned, planned_at, store_at}
+use Rattle.vab_flash.specs.Chosen.{IsUnwritten, destination_of}
+use Rattle.vab_flash.specs.Chosen.{store_at}
+use Rattle.vab_flash.specs.Place.{place_of, HasPlace, plan_or, no_planned, planned_at}
 use Rattle.vab_flash.proofs.ApartLaws.{store_rule}
 use Rattle.vab_flash.proofs.InstallingLaws.{Installs}
 use Rattle.vab_device.proofs.NamedParts.{named_in}

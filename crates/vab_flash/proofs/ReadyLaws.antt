@@ -38,15 +38,18 @@ use Rattle.vab_device.specs.Kept.{IsStore, ArePresent}
 use Rattle.vab_device.specs.Mounted.{Mounted, mounted_on, bytes_at, written_sectors, entry_on}
 use Rattle.vab_device.specs.Reading.{device, Represents, IsOfBlocks, parts_for, table_for}
 use Rattle.vab_device.specs.Stores.{Wanted, Scanned, wanted_by, wanted_of, scan_read, scan_at}
-use Rattle.vab_device.specs.Updates.{effect_on, if_room, flashed, differences, filled}
+use Rattle.vab_device.specs.Flashed.{if_room, flashed, differences, filled}
+use Rattle.vab_device.specs.Updates.{effect_on}
 use Rattle.vab_device.proofs.Behind.{seen_or}
+use Rattle.vab_device.proofs.DoesLaws.{step_follows}
 use Rattle.vab_device.proofs.PartBlocks.{block_behind, sectors_disjoint}
 use Rattle.vab_device.proofs.ReadingLaws.{device_same, device_stands}
 use Rattle.vab_device.proofs.StoreLaws.{scan_kept}
 use Rattle.vab_flash.specs.declared.chosen.Destination.TheVariants.{Store}
-use Rattle.vab_flash.specs.Chosen.{IsChosen, plan_or, planned_at, no_planned, base_of_place}
+use Rattle.vab_flash.specs.Chosen.{IsChosen, base_of_place}
 use Rattle.vab_flash.specs.Chosen.{part_among, part_named, part_at, blocks_or, store_at, store_long}
 use Rattle.vab_flash.specs.Chosen.{differing_at, needed_at, with_written}
+use Rattle.vab_flash.specs.Place.{plan_or, planned_at, no_planned}
 use Rattle.vab_flash.proofs.ApartLaws.{BelongTo, store_belongs}
 use Rattle.vab_flash.proofs.ChosenLaws.{plan_on, flash_chosen, AreAllDirect, parts_direct}
 use Rattle.vab_flash.proofs.ChosenLaws.{source_is}
@@ -270,6 +273,11 @@ module _ (d : Device) (size : ℕ) (old : Image) (device_is : IsDevice d size)
         then wanting true (flashed (mounted_on d old) d.mark.slot (plan_on d old)
         (entry_on old (planned_at d place)) bytes n)
         else refuses (StoreFull (need_at n chunk) (store_long d place)))
+
+    -- an image for which there is room has a device behind it
+    pub room_follows : needed_at chunk d place old bytes ≤ store_long d place
+        → (effect_on (mounted_on d old) staged (Flash name chunk)).later ≢ []
+    room_follows room = step_follows (effect_room room)
 
     -- ---- behind the gate
 

@@ -14,7 +14,8 @@ use Rattle.vab_device.specs.Reading.{Represents, IsOfBlocks, IsOfImages, parts_f
 use Rattle.vab_device.proofs.PartBlocks.{block_behind}
 use Rattle.vab_flash.specs.declared.chosen.Destination.{Destination}
 use Rattle.vab_flash.specs.declared.chosen.Destination.TheVariants.{Store, Blocks}
-use Rattle.vab_flash.specs.Chosen.{destination_of, HasPlace, planned_at}
+use Rattle.vab_flash.specs.Chosen.{destination_of}
+use Rattle.vab_flash.specs.Place.{HasPlace, planned_at}
 use Rattle.vab_flash.specs.Touched.{blocks_for}
 use Rattle.vab_flash.proofs.ApartLaws.{BelongTo, store_belongs, own_belongs, images_miss}
 use Rattle.vab_flash.proofs.DeadLaws.{Tables, tables_kept}

@@ -1,9 +1,8 @@
 -- The planned partition that an image is for, where the image goes, and the bytes that are staged
 -- for it.
 use Rattle.std.specs.Prelude.{◌≡◌, ℕ, ◌*◌, ◌≤◌, Bool, true, false, List, [], ◌∷◌, length}
-use Rattle.std.specs.Prelude.{slice_index_or}
 use Rattle.std.specs.Prelude.{slice_set, All}
-use Rattle.std.specs.Prelude.{position, Option, Some, None, if◌then◌else◌, ◌==◌, ◌<◌}
+use Rattle.std.specs.Prelude.{Option, Some, None, if◌then◌else◌, ◌==◌, ◌<◌}
 use Rattle.std.specs.List.Sorted.{IsStrictlyIncreasing}
 use Rattle.std.specs.Str.{bytes_eq}
 use Rattle.vab_disk.specs.Disk.{Image}
@@ -11,8 +10,6 @@ use Rattle.vab_space.specs.declared.Chunk.{Chunk}
 use Rattle.vab_space.specs.Chunks.{chunks_for, need_at}
 use Rattle.vab_install.specs.Differing.{differing_of}
 use Rattle.vab_exceptions.specs.declared.area.Exception.{Exception}
-use Rattle.vab_names.specs.Names.{is_full, base_of}
-use Rattle.vab_layout.specs.Slots.{other_slot}
 use Rattle.vab_model.specs.declared.state.Plan.{Plan}
 use Rattle.vab_model.specs.declared.state.PlanEntry.{PlanEntry}
 use Rattle.vab_model.specs.Effects.{Effect}
@@ -21,20 +18,10 @@ use Rattle.vab_device.specs.declared.device.PartImage.{PartImage}
 use Rattle.vab_device.specs.declared.device.PartImage.TheVariants.{Kept, Declared, Written}
 use Rattle.vab_device.specs.declared.device.Device.{Device}
 use Rattle.vab_device.specs.Mounted.{Mounted, entry_on, blocks_there}
-use Rattle.vab_device.specs.Updates.{entry_effect, in_store, in_place}
+use Rattle.vab_device.specs.Flashed.{entry_effect, in_store, in_place}
 use Rattle.vab_flash.specs.declared.chosen.Destination.{Destination}
 use Rattle.vab_flash.specs.declared.chosen.Destination.TheVariants.{Store, Blocks}
-
--- the place of the first planned partition of a base name
-abbrev pub place_of : List ℕ → List Part → Option ℕ
-place_of base plan = position (λ p. bytes_eq p.name base) plan
-
--- while an update is installed, the target has a partition of this name at this place of the plan
-pub record HasPlace (d : Device) (name : List ℕ) (place : ℕ) : Type 0 where
-  pub plan : List Part
-  pub plan_is : d.plan ≡ Some plan
-  pub full : is_full (other_slot d.mark.slot) name ≡ true
-  pub place_is : place_of (base_of name) plan ≡ Some place
+use Rattle.vab_flash.specs.Place.{HasPlace, plan_or, planned_at}
 
 -- nothing was written to it
 abbrev pub IsUnwritten : PartImage → Type 0
@@ -97,16 +84,6 @@ blocks_or None = []
 blocks_or (Some p) = p.map
 
 -- ---- the plan with an image that was written
-
-abbrev pub plan_or : Option (List Part) → List Part
-plan_or None = []
-plan_or (Some plan) = plan
-
-abbrev pub no_planned : Part
-no_planned = record { name = []; group = []; map = []; store = None; image = Kept }
-
-abbrev pub planned_at : Device → ℕ → Part
-planned_at d place = slice_index_or (plan_or d.plan) place no_planned
 
 -- with these exceptions, in chunks of this size, for the planned partition at this place
 abbrev pub with_written : Device → ℕ → Chunk → List Exception → Device

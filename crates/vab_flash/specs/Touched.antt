@@ -6,7 +6,7 @@ use Rattle.vab_statuses.specs.Statuses.{IsOfStatuses}
 use Rattle.vab_device.specs.declared.device.Part.{Part}
 use Rattle.vab_device.specs.declared.device.Device.{Device}
 use Rattle.vab_device.specs.Reading.{IsOfBlocks}
-use Rattle.vab_flash.specs.Chosen.{HasPlace, planned_at}
+use Rattle.vab_flash.specs.Place.{HasPlace, planned_at}
 
 -- the blocks that the image of a partition goes into, by its store and its own blocks
 abbrev pub blocks_by : (apart : Bool) → Option (List ℕ) → List ℕ → List ℕ

@@ -11,9 +11,11 @@ ghost use Rattle.vab_model.specs.Commands.{Flash};
 ghost use Rattle.vab_model.specs.Effects.{refuses};
 ghost use Rattle.vab_model.specs.Staged.{is_sparse};
 ghost use Rattle.vab_device.specs.Mounted.{Mounted, mounted_on, entry_on};
-ghost use Rattle.vab_device.specs.Updates.{effect_on, entry_effect};
-ghost use Rattle.vab_flash.specs.Chosen.{place_of, HasPlace, IsFor, part_named, part_at};
-ghost use Rattle.vab_flash.specs.Chosen.{plan_or, planned_at, destination_of, IsChosen};
+ghost use Rattle.vab_device.specs.Flashed.{entry_effect};
+ghost use Rattle.vab_device.specs.Updates.{effect_on};
+ghost use Rattle.vab_flash.specs.Chosen.{IsFor, part_named, part_at};
+ghost use Rattle.vab_flash.specs.Chosen.{destination_of, IsChosen};
+ghost use Rattle.vab_flash.specs.Place.{place_of, HasPlace, plan_or, planned_at};
 
 use vab_bytes::Listing;
 use vab_device::{Device, Part, PartImage};

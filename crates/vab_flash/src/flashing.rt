@@ -16,8 +16,9 @@ ghost use Rattle.vab_model.specs.Commands.{Flash};
 ghost use Rattle.vab_device.specs.Does.{Does};
 ghost use Rattle.vab_device.specs.Kept.{IsDevice};
 ghost use Rattle.vab_device.specs.Reading.{Represents};
-ghost use Rattle.vab_flash.specs.Chosen.{plan_or, planned_at, base_of_place, differing_at};
+ghost use Rattle.vab_flash.specs.Chosen.{base_of_place, differing_at};
 ghost use Rattle.vab_flash.specs.Chosen.{store_at, store_long, IsChosen, IsListed};
+ghost use Rattle.vab_flash.specs.Place.{plan_or, planned_at};
 ghost use Rattle.vab_flash.specs.Touched.{IsOfFlash};
 
 use crate::chosen::{Destination, choose, planned_at};

@@ -6,8 +6,9 @@ ghost use Rattle.vab_disk.specs.Calls.{OnlyReads, FailsWithDisk};
 ghost use Rattle.vab_space.specs.Chunks.{chunks_for};
 ghost use Rattle.vab_store.specs.Layout.{IsOnDisk};
 ghost use Rattle.vab_install.specs.Differing.{AscendsBelow};
-ghost use Rattle.vab_flash.specs.Chosen.{plan_or, planned_at, base_of_place, differing_at};
+ghost use Rattle.vab_flash.specs.Chosen.{base_of_place, differing_at};
 ghost use Rattle.vab_flash.specs.Chosen.{blocks_or, store_long};
+ghost use Rattle.vab_flash.specs.Place.{plan_or, planned_at};
 
 use crate::chosen::{part_at, planned_at};
 use std::alloc::Global;

@@ -1,7 +1,8 @@
 //! The plan with an image that was written.
 
 ghost use Rattle.std.specs.Prelude.{◌≡◌, ◌<◌, length};
-ghost use Rattle.vab_flash.specs.Chosen.{plan_or, with_written};
+ghost use Rattle.vab_flash.specs.Chosen.{with_written};
+ghost use Rattle.vab_flash.specs.Place.{plan_or};
 
 use vab_bytes::Listing;
 use vab_device::{Device, PartImage};

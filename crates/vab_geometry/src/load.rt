@@ -1,7 +1,7 @@
 //! The geometry of a disk.
 
 ghost use Rattle.std.specs.Prelude.{◌≡◌, ◌⊎◌, ◌≤◌, ◌<◌, ◌+◌, ℕ, List, IfOk};
-ghost use Rattle.vab_disk.specs.Disk.{Rose};
+ghost use Rattle.vab_disk.specs.Disk.{DiskFailed};
 ghost use Rattle.vab_disk.specs.Calls.{OnlyReads, FailsWithDisk};
 ghost use Rattle.vab_geometry.specs.Geometry.{IsGeometry};
 ghost use Rattle.vab_geometry.specs.Reading.{geometry_of};
@@ -60,7 +60,7 @@ pub fn load_geometry<D: Disk>(d: &mut D) -> Result<Geometry, LoadFault>
     ensures rules { IfOk result (λ g. IsGeometry g) }
     ensures reads { OnlyReads D.Disk d.old d.new }
     ensures steady { IsDiskFault result ⊎ (D.faults d.new ≡ D.faults d.old) }
-    ensures cause { IsDiskFault result → Rose (D.faults d.old).disk (D.faults d.new).disk }
+    ensures cause { IsDiskFault result → DiskFailed (D.faults d.old) (D.faults d.new) }
 {
     let first = match geometry_at(d, PRIMARY)? {
         Ok(geometry) => return Ok(geometry),

@@ -1,7 +1,7 @@
 // Hears the whole input, in pieces of at most 65536 bytes.
 ghost use Rattle.std.specs.Prelude.{◌≡◌, ◌<◌, ◌≤◌, ◌++◌, [], length, IfOk, OnOk, OnErr, IsErrOf};
 ghost use Rattle.std.specs.Bool.{OnTrue, OnFalse};
-ghost use Rattle.vab_disk.specs.Disk.{Adds, Nothing, Rose, SameHoldings};
+ghost use Rattle.vab_disk.specs.Disk.{Adds, Nothing, SameHoldings, SourceFailed};
 ghost use Rattle.vab_exchanges.specs.Hearing.{HearsWhere};
 ghost use Rattle.vab_input.specs.HearsToEnd.{FindsSome, HearsToEnd, HearsWithin};
 
@@ -67,7 +67,7 @@ fn hear_piece<P: Port>(p: &mut P, heard: &mut Vec<u8>) -> Result<bool, InputFaul
     ensures within { P.is_modelled → HearsWithin (P.heard p.old) (P.heard p.new) }
     ensures kind { IsErrOf result InputFault.TooLong → ⊥ }
     ensures cause { IsErrOf result InputFault.Source
-        → Rose (P.faults p.old).source (P.faults p.new).source }
+        → SourceFailed (P.faults p.old) (P.faults p.new) }
 {
     let mut piece = [0u8; 65536];
     let count = p.hear(&mut piece)?;
@@ -100,7 +100,7 @@ pub fn hear_all<P: Port>(alloc: Global, p: &mut P, most: u64) -> Result<Vec<u8>,
     // Unless hearing fails the counts of faults stay.
     ensures steady { (IsErrOf result InputFault.Source → ⊥) → P.faults p.new ≡ P.faults p.old }
     ensures cause { IsErrOf result InputFault.Source
-        → Rose (P.faults p.old).source (P.faults p.new).source }
+        → SourceFailed (P.faults p.old) (P.faults p.new) }
 {
     let mut heard = Vec::new(alloc);
     while hear_piece(p, &mut heard)? {

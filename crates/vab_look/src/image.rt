@@ -1,7 +1,7 @@
 //! The bytes of an image, written out.
 
 ghost use Rattle.std.specs.Prelude.{◌≡◌, ◌<◌, IsErrOf};
-ghost use Rattle.vab_disk.specs.Disk.{Rose};
+ghost use Rattle.vab_disk.specs.Disk.{DiskFailed};
 ghost use Rattle.vab_disk.specs.Calls.{OnlyReads};
 ghost use Rattle.vab_device.specs.Kept.{IsDevice};
 ghost use Rattle.vab_manager.specs.Blocks.{HasBlock};
@@ -34,7 +34,7 @@ fn copy_block<D: Disk, W: Write>(
     requires block { HasBlock device.now slot name.now block }
     ensures reads { OnlyReads D.Disk d.old d.new }
     ensures cause { IsErrOf result CopyFault.Disk
-        → Rose (D.faults d.old).disk (D.faults d.new).disk }
+        → DiskFailed (D.faults d.old) (D.faults d.new) }
 {
     let mut bytes = [0u8; 4096];
     match read_block(d, device, slot, name, block, &mut bytes) {

@@ -2,7 +2,7 @@
 
 ghost use Rattle.std.specs.Prelude.{◌≡◌, ◌⊎◌, ◌≤◌, ◌<◌, ◌+◌, ◌*◌, ◌^◌, ℕ, List, length, IfOk};
 ghost use Rattle.std.specs.Prelude.{IsErrOf};
-ghost use Rattle.vab_disk.specs.Disk.{Rose};
+ghost use Rattle.vab_disk.specs.Disk.{DiskFailed};
 ghost use Rattle.vab_disk.specs.Calls.{OnlyReads};
 ghost use Rattle.vab_gate.specs.Gate.{sectors_at};
 ghost use Rattle.vab_geometry.specs.Geometry.{IsGeometry};
@@ -38,7 +38,7 @@ fn read_front<D: Disk>(
     ensures reads { OnlyReads D.Disk d.old d.new }
     ensures steady { IsErrOf result ReadFault.Disk ⊎ (D.faults d.new ≡ D.faults d.old) }
     ensures cause { IsErrOf result ReadFault.Disk
-        → Rose (D.faults d.old).disk (D.faults d.new).disk }
+        → DiskFailed (D.faults d.old) (D.faults d.new) }
 {
     let first = read_text(alloc, d, at, 1)?;
     let needed = layout::sectors(needed_size(&first, max));
@@ -74,7 +74,7 @@ pub fn load_table<D: Disk>(
     ensures faults { AreFaults result }
     ensures reads { OnlyReads D.Disk d.old d.new }
     ensures steady { IsDiskFault result ⊎ (D.faults d.new ≡ D.faults d.old) }
-    ensures cause { IsDiskFault result → Rose (D.faults d.old).disk (D.faults d.new).disk }
+    ensures cause { IsDiskFault result → DiskFailed (D.faults d.old) (D.faults d.new) }
 {
     let count = layout::copy_size(geometry);
     let primary = read_front(

@@ -3,13 +3,12 @@ use Rattle.std.proofs.Common.{inl}
 use Rattle.vab_model.specs.Commands.{Command, SetActive, Boot, Mark, Print, Digest, Begin, Create}
 use Rattle.vab_model.specs.Commands.{Resize, Delete, Snapshot, Flash, Finish, Cancel, BeginMerge}
 use Rattle.vab_model.specs.Commands.{Merge, Factory}
-use Rattle.vab_targets.specs.Plans.{BeginKeepsImages, EditsFollowSizes}
+use Rattle.vab_targets.proofs.Plans.{BeginKeepsImages, EditsFollowSizes}
 use Rattle.vab_machine_laws.specs.Rows.{IsTheMachines}
 use Rattle.vab_machine_laws.specs.Edits.{IsTheMachinesOrFull}
 use Rattle.vab_machine_laws.proofs.SlotRows.{set_active_row, boot_row, mark_row, print_row}
 use Rattle.vab_machine_laws.proofs.SlotRows.{digest_row, finish_is, cancel_is, begin_merge_is}
-use Rattle.vab_machine_laws.proofs.SlotRows.{merge_is}
-use Rattle.vab_machine_laws.proofs.Flashes.{flash_is}
+use Rattle.vab_machine_laws.proofs.SlotRows.{merge_is, flash_is}
 use Rattle.vab_machine_laws.proofs.Begins.{update_is, factory_is}
 use Rattle.vab_machine_laws.proofs.Creates.{create_is}
 use Rattle.vab_machine_laws.proofs.Deletes.{delete_is}

@@ -17,7 +17,8 @@ use Rattle.vab_model.specs.Machine.{begun, begin_row, machine_effect, planned}
 use Rattle.vab_device.specs.Mounted.{Mounted}
 use Rattle.vab_device.specs.Reading.{IsIn}
 use Rattle.vab_device.specs.Updates.{effect_on, no_entries, begun_effect, begin_effect, layout_at}
-use Rattle.vab_targets.specs.Plans.{HasWholeSectors, BeginKeepsImages, begin_of, with_plan}
+use Rattle.vab_targets.specs.Sectors.{HasWholeSectors}
+use Rattle.vab_targets.proofs.Plans.{BeginKeepsImages, begin_of, with_plan}
 use Rattle.vab_targets.proofs.Begun.{begin_is}
 use Rattle.vab_machine_laws.specs.Edits.{IsMachinesOrFull, IsTheMachinesOrFull}
 use Rattle.vab_machine_laws.proofs.Given.{Follows, judged}

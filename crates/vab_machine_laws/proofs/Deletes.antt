@@ -20,7 +20,7 @@ use Rattle.vab_model.specs.Plans.{without_entry, with_entries}
 use Rattle.vab_model.specs.Machine.{delete_row, machine_effect}
 use Rattle.vab_device.specs.Mounted.{Mounted}
 use Rattle.vab_device.specs.Updates.{settled_guard, entry_by}
-use Rattle.vab_targets.specs.Plans.{EditsFollowSizes}
+use Rattle.vab_targets.proofs.Plans.{EditsFollowSizes}
 use Rattle.vab_targets.proofs.Installed.{IsInstalled, is_installed}
 use Rattle.vab_targets.proofs.Updates.{by_edit, is_kept, free_entry}
 use Rattle.vab_machine_laws.specs.Edits.{IsTheMachinesOrFull}

@@ -26,7 +26,8 @@ use Rattle.vab_device.specs.Mounted.{Mounted}
 use Rattle.vab_device.specs.Reading.{IsIn}
 use Rattle.vab_device.specs.Updates.{Guard, unless_kept, effect_on, edit_effect, edited_effect}
 use Rattle.vab_device.specs.Updates.{table_effect, refusal_of, is_full_table, layout_at}
-use Rattle.vab_targets.specs.Plans.{HasWholeSectors, EditsFollowSizes, edited_plan, with_plan}
+use Rattle.vab_targets.specs.Sectors.{HasWholeSectors}
+use Rattle.vab_targets.proofs.Plans.{EditsFollowSizes, edited_plan, with_plan}
 use Rattle.vab_targets.proofs.Installed.{IsInstalled}
 use Rattle.vab_targets.proofs.Updates.{by_edit, given_plain}
 use Rattle.vab_machine_laws.specs.Edits.{IsMachinesOrFull}

@@ -1,6 +1,4 @@
 pub mod SlotRows
-pub mod Filled
-pub mod Flashes
 pub mod Values
 pub mod Given
 pub mod Settled

@@ -38,7 +38,8 @@ use Rattle.vab_device.specs.Mounted.{Mounted}
 use Rattle.vab_device.specs.Updates.{settled_guard, entry_by}
 use Rattle.vab_edit.proofs.NamedLaws.{base_eq}
 use Rattle.vab_edit.proofs.PlanLaws.{map_map}
-use Rattle.vab_targets.specs.Plans.{EditsFollowSizes, HasWholeSectors}
+use Rattle.vab_targets.specs.Sectors.{HasWholeSectors}
+use Rattle.vab_targets.proofs.Plans.{EditsFollowSizes}
 use Rattle.vab_builder.proofs.LimitLaws.{default_unlimited}
 use Rattle.vab_machine_laws.specs.Edits.{IsTheMachinesOrFull}
 use Rattle.vab_targets.proofs.Installed.{IsInstalled, is_installed}

@@ -34,7 +34,7 @@ use Rattle.vab_device.proofs.OwnParts.{length-sectors_of}
 use Rattle.vab_edit.proofs.NamedLaws.{base_eq}
 use Rattle.vab_edit.proofs.PlanLaws.{map_among, map_map}
 use Rattle.vab_flash.proofs.SourceLaws.{full_or}
-use Rattle.vab_targets.specs.Plans.{HasWholeSectors}
+use Rattle.vab_targets.specs.Sectors.{HasWholeSectors}
 use Rattle.vab_targets.proofs.Sectors.{blocks_long}
 use Rattle.vab_targets.proofs.Installed.{IsInstalled}
 use Rattle.vab_machine_laws.proofs.Sources.{HasSource}

@@ -1,128 +1,83 @@
--- The rows of commands that no table can refuse.
-use Rattle.std.proofs.Common.{◌≡◌, ℕ, zero, suc, ◌-◌, Bool, true, false, eqb, List, ◌∷◌}
-use Rattle.std.proofs.Common.{Option, Some, None, inl, inr, refl, ap}
-use Rattle.std.specs.Prelude.{map, is_some}
-use Rattle.std.proofs.lemmas.Bool.{cases_Bool}
-use Rattle.vab_bootctl.specs.declared.slots.Control.{Control}
-use Rattle.vab_bootctl.specs.Boot.{info_at, activated_of}
+-- The rows of commands that no table can refuse: the device's is the machine's, in other places.
+use Rattle.std.proofs.Common.{◌≡◌, ℕ, List, [], ◌∷◌, Option, Some, None, refl}
+use Rattle.std.specs.Prelude.{map}
+use Rattle.vab_space.specs.declared.Chunk.{Chunk}
 use Rattle.vab_model.specs.declared.state.Plan.{Plan}
 use Rattle.vab_model.specs.declared.state.Phase.{Phase}
 use Rattle.vab_model.specs.declared.state.Phase.TheVariants.{Idle, Installing, Staged, Merging}
 use Rattle.vab_model.specs.declared.state.State.{State}
 use Rattle.vab_model.specs.declared.command.Reply.TheVariants as replies
-use Rattle.vab_model.specs.Commands.{SetActive, Boot, Mark, Print, Digest, Finish}
+use Rattle.vab_model.specs.Commands.{SetActive, Boot, Mark, Print, Digest, Flash, Finish}
 use Rattle.vab_model.specs.Commands.{Cancel, BeginMerge, Merge}
-use Rattle.vab_model.specs.Effects.{effect_map, does, active_effect, Found}
-use Rattle.vab_model.specs.Effects.{Image_is}
-use Rattle.vab_model.specs.Effects.{Refused_by, found_of, print_effect, digest_effect}
-use Rattle.vab_model.specs.State.{images_at}
+use Rattle.vab_model.specs.Effects.{Effect, effect_map, does}
 use Rattle.vab_model.specs.Machine.{machine_effect, finish_row, if_installing, least_declared}
-use Rattle.vab_model.specs.Machine.{finished as finished_state, if_complete, turns as turns_of}
+use Rattle.vab_model.specs.Machine.{finished as finished_state, if_complete}
 use Rattle.vab_model.specs.Machine.{merge_row, cancel_row, begin_merge_row}
 use Rattle.vab_device.specs.Mounted.{Mounted, in_state}
-use Rattle.vab_device.specs.Updates.{complete_effect, finish_effect, cancel_effect}
-use Rattle.vab_device.specs.Updates.{begin_merge_effect, turns, merge_effect}
+use Rattle.vab_device.specs.Updates.{in_places, cancelled_places, merging_places}
+use Rattle.vab_device.specs.Updates.{complete_effect, finish_effect}
 use Rattle.vab_machine_laws.specs.Rows.{on_states, state_of, IsTheMachines}
 
--- ---- slots and images
+states_back : (f : State → Mounted)
+    → ((s : State) → (f s).state ≡ s)
+    → (states : List State)
+    → map state_of (map f states) ≡ states
+states_back f back [] = refl
+states_back f back (s ∷ ss) = (λ i. back s i ∷ states_back f back ss i)
 
-active_same : (m : Mounted) (has : Bool) (c : Control)
-    → on_states (effect_map (in_state m) (active_effect has m.state c))
-    ≡ active_effect has m.state c
-active_same m true c = refl
-active_same m false c = refl
+-- the states of an effect in other places are its own
+back : (f : State → Mounted)
+    → ((s : State) → (f s).state ≡ s)
+    → (e : Effect State)
+    → on_states (effect_map f e) ≡ e
+back f same e = (λ i. record {
+  reply = e.reply;
+  later = states_back f same e.later i;
+  wants = e.wants;
+})
 
-print_same : (m : Mounted) (name : List ℕ) (f : Found)
-    → on_states (effect_map (in_state m) (print_effect name f)) ≡ print_effect name f
-print_same m name (Image_is image) = refl
-print_same m name (Refused_by refusal) = refl
-
-digest_same : (m : Mounted) (f : Found)
-    → on_states (effect_map (in_state m) (digest_effect f)) ≡ digest_effect f
-digest_same m (Image_is image) = refl
-digest_same m (Refused_by refusal) = refl
+-- ---- slots, images and a flash
 
 pub set_active_row : (slot : ℕ) → IsTheMachines (SetActive slot)
-unfolding machine_effect
 set_active_row slot m staged =
-    active_same m (is_some (images_at m.state slot)) (activated_of m.state.control slot)
+    back (in_state m) (λ s. refl) (machine_effect m.state staged (SetActive slot))
 
 pub boot_row : IsTheMachines Boot
-unfolding machine_effect
-boot_row m staged = refl
+boot_row m staged = back (in_state m) (λ s. refl) (machine_effect m.state staged Boot)
 
 pub mark_row : IsTheMachines Mark
-unfolding machine_effect
-mark_row m staged = refl
+mark_row m staged = back (in_state m) (λ s. refl) (machine_effect m.state staged Mark)
 
 pub print_row : (name : List ℕ) → IsTheMachines (Print name)
-unfolding machine_effect
-print_row name m staged = print_same m name (found_of m.state name)
+print_row name m staged =
+    back (in_state m) (λ s. refl) (machine_effect m.state staged (Print name))
 
 pub digest_row : (name : List ℕ) → IsTheMachines (Digest name)
-unfolding machine_effect
-digest_row name m staged = digest_same m (found_of m.state name)
+digest_row name m staged =
+    back (in_state m) (λ s. refl) (machine_effect m.state staged (Digest name))
 
--- ---- cancel and begin-merge
+pub flash_is : (name : List ℕ) (chunk : Chunk) → IsTheMachines (Flash name chunk)
+flash_is name chunk m staged =
+    back (in_state m) (λ s. refl) (machine_effect m.state staged (Flash name chunk))
 
-cancel_same : (m : Mounted) (phase : Phase)
-    → on_states (cancel_effect m phase) ≡ cancel_row m.state phase
-cancel_same m Idle = refl
-cancel_same m (Installing source plan) = refl
-cancel_same m (Staged source left) = elim (cases_Bool (eqb m.state.control.current source)) [
-  | inl t ↦ rw t refl
-  | inr f ↦ rw f refl
-]
-cancel_same m (Merging target left) = refl
+-- ---- cancel, begin-merge and merge
 
 pub cancel_is : IsTheMachines Cancel
 unfolding machine_effect
-cancel_is m staged = cancel_same m m.state.phase
-
-begin_merge_same : (m : Mounted) (phase : Phase)
-    → on_states (begin_merge_effect m phase) ≡ begin_merge_row m.state phase
-begin_merge_same m Idle = refl
-begin_merge_same m (Installing source plan) = refl
-begin_merge_same m (Staged source left) =
-    elim (cases_Bool (eqb m.state.control.current source)) [
-      | inl t ↦ rw t refl
-      | inr f ↦ elim (cases_Bool (info_at m.state.control (1 - source)).successful) [
-        | inl t ↦ rw (f, t) refl
-        | inr n ↦ rw (f, n) refl
-      ]
-    ]
-begin_merge_same m (Merging target left) = refl
+cancel_is m staged =
+    back (in_places (cancelled_places m.places m.state.phase)) (λ s. refl)
+    (cancel_row m.state m.state.phase)
 
 pub begin_merge_is : IsTheMachines BeginMerge
 unfolding machine_effect
-begin_merge_is m staged = begin_merge_same m m.state.phase
-
--- ---- merge
-
-turns_same : (m : Mounted) (n target left : ℕ)
-    → map state_of (turns n m target left) ≡ turns_of n m.state target left
-unfolding turns_of
-turns_same m zero target left = refl
-turns_same m (suc n) target zero = refl
-turns_same m (suc n) target (suc left) =
-    ap (λ (l : List State). record m.state { phase = Merging target left } ∷ l)
-    (turns_same m n target left)
-
-merge_same : (m : Mounted) (n : ℕ) (phase : Phase)
-    → on_states (merge_effect m n phase) ≡ merge_row m.state n phase
-merge_same m n Idle = refl
-merge_same m n (Installing source plan) = refl
-merge_same m n (Staged source left) = refl
-merge_same m n (Merging target left) =
-    (λ i. record {
-      reply = (merge_effect m n (Merging target left)).reply;
-      later = turns_same m n target left i;
-      wants = false;
-    })
+begin_merge_is m staged =
+    back (in_places (merging_places m.places m.state.phase)) (λ s. refl)
+    (begin_merge_row m.state m.state.phase)
 
 pub merge_is : (count : ℕ) → IsTheMachines (Merge count)
 unfolding machine_effect
-merge_is count m staged = merge_same m count m.state.phase
+merge_is count m staged =
+    back (in_state m) (λ s. refl) (merge_row m.state count m.state.phase)
 
 -- ---- finish
 

@@ -27,7 +27,7 @@ use Rattle.vab_model.specs.Plans.{store_blocks}
 use Rattle.vab_machine.specs.Small.{IsSmallSlot, IsSmallImage, IsSmallEntry}
 use Rattle.vab_machine.specs.Small.{IsSmallPhase}
 use Rattle.vab_merging.proofs.CountLaws.{few_of}
-use Rattle.vab_targets.specs.Plans.{HasWholeSectors}
+use Rattle.vab_targets.specs.Sectors.{HasWholeSectors}
 use Rattle.vab_targets.proofs.Sectors.{blocks_long}
 use Rattle.vab_machine_laws.specs.Sizes.{DevicesAreSmall}
 

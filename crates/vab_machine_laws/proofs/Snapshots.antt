@@ -33,7 +33,8 @@ use Rattle.vab_model.specs.Plans.{want_of as want_entry}
 use Rattle.vab_model.specs.Machine.{unless, if_planned, snapshot_row, machine_effect, if_room}
 use Rattle.vab_device.specs.Mounted.{Mounted}
 use Rattle.vab_device.specs.Updates.{store_guard, entry_by}
-use Rattle.vab_targets.specs.Plans.{EditsFollowSizes, HasWholeSectors}
+use Rattle.vab_targets.specs.Sectors.{HasWholeSectors}
+use Rattle.vab_targets.proofs.Plans.{EditsFollowSizes}
 use Rattle.vab_machine_laws.specs.Edits.{IsTheMachinesOrFull}
 use Rattle.vab_targets.proofs.Installed.{IsInstalled, is_installed}
 use Rattle.vab_targets.proofs.Updates.{by_edit}

@@ -39,7 +39,7 @@ use Rattle.vab_device.proofs.MarkLaws.{as_phase}
 use Rattle.vab_device.proofs.ReadingLaws.{device_was, idle_read_of, slot_below, apart_known}
 use Rattle.vab_device.proofs.StayLaws.{one_of}
 use Rattle.vab_edit.proofs.InstallingLaws.{read_at, two_tables}
-use Rattle.vab_targets.specs.Plans.{HasWholeSectors}
+use Rattle.vab_targets.specs.Sectors.{HasWholeSectors}
 use Rattle.vab_targets.proofs.Sectors.{table_rules, IsRead}
 use Rattle.vab_targets.proofs.Installed.{IsReadAs, none_named, installing_of}
 

@@ -10,7 +10,7 @@ use Rattle.vab_model.specs.Machine.{machine_effect}
 use Rattle.vab_device.specs.Mounted.{Mounted}
 use Rattle.vab_device.specs.Reading.{IsIn}
 use Rattle.vab_device.specs.Updates.{effect_on}
-use Rattle.vab_targets.specs.Plans.{HasWholeSectors}
+use Rattle.vab_targets.specs.Sectors.{HasWholeSectors}
 use Rattle.vab_machine_laws.specs.Rows.{on_states}
 
 -- The text of the table would be longer than it may be; the machine would have been done.

@@ -5,7 +5,7 @@ use Rattle.vab_machine.specs.Small.{IsSmall}
 use Rattle.vab_device.specs.declared.device.Device.{Device}
 use Rattle.vab_device.specs.Kept.{IsDevice}
 use Rattle.vab_device.specs.Mounted.{state_on}
-use Rattle.vab_targets.specs.Plans.{HasWholeSectors}
+use Rattle.vab_targets.specs.Sectors.{HasWholeSectors}
 
 -- On a disk of fewer than 2^55 sectors, each a whole one.
 abbrev pub DevicesAreSmall : Type 0

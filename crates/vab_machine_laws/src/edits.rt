@@ -4,8 +4,6 @@ ghost use Rattle.vab_model.specs.Commands.{Command, Begin, Factory, Create, Dele
 ghost use Rattle.vab_model.specs.Commands.{Resize};
 ghost use Rattle.vab_machine_laws.specs.Edits.{IsTheMachinesOrFull};
 
-use vab_targets::plans_by_sizes;
-
 /// On a disk of whole sectors that is a device, what such a command makes of the device is what the
 /// machine makes of its state, or the machine would have been done and the table is full.
 pub fn edits_are_the_machines()
@@ -15,13 +13,9 @@ pub fn edits_are_the_machines()
     ensures snapshot { (name : List ℕ) (size : ℕ) → IsTheMachinesOrFull (Snapshot name size) }
     ensures create { (name : List ℕ) (size : ℕ) → IsTheMachinesOrFull (Create name size) }
     ensures resize { (name : List ℕ) (size : ℕ) → IsTheMachinesOrFull (Resize name size) }
-{
-    plans_by_sizes();
-}
+{}
 
 /// All of these laws in one: on each such disk, whichever the command is.
 pub fn each_command_is_the_machines()
     ensures { (c : Command) → IsTheMachinesOrFull c }
-{
-    plans_by_sizes();
-}
+{}

@@ -1,7 +1,7 @@
 //! Making a device.
 
 ghost use Rattle.std.specs.Prelude.{◌≡◌, ◌≤◌, ◌%◌, ◌^◌, ℕ, List, length, Ok, OnOk, IfErr};
-ghost use Rattle.vab_disk.specs.Disk.{Adds, Rose};
+ghost use Rattle.vab_disk.specs.Disk.{Adds, DiskFailed};
 ghost use Rattle.vab_disk.specs.Calls.{IsAtRest, InSectors, Touches, FailsWithDisk};
 ghost use Rattle.vab_set.specs.Spelling.{IsSet};
 ghost use Rattle.vab_make.specs.Made.{made_control, refusal_of};
@@ -144,7 +144,7 @@ pub fn make_device<D: Disk>(
         (LeavesMaking (D.told d.old) set.now limit max (D.size d.old) (D.seen d.old)) }
     ensures steady { OnOk result (D.faults d.new ≡ D.faults d.old) }
     ensures cause { IfErr result (λ f. IsOfDisk f
-        → Rose (D.faults d.old).disk (D.faults d.new).disk) }
+        → DiskFailed (D.faults d.old) (D.faults d.new)) }
 {
     let text = prepare(alloc, set, limit, max, d.sectors())?;
     make_on(d, set, max, &text)?;

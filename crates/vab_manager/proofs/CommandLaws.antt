@@ -5,7 +5,7 @@ use Rattle.std.proofs.Common.{Err, None, refl, sym, ap, subst, arith, eq-eqb}
 use Rattle.std.specs.Prelude.{◌==◌, Option, Bool, if◌then◌else◌}
 use Rattle.std.proofs.lemmas.Bool.{cases_Bool, and_parts, and_from, or_left, eqb-true, eqb-false}
 use Rattle.vab_disk.specs.declared.disk.Disk.{Ghosts}
-use Rattle.vab_disk.specs.Disk.{Image, Outcome, Adds, Rose}
+use Rattle.vab_disk.specs.Disk.{Image, Outcome, Adds, DiskFailed}
 use Rattle.vab_disk.specs.Calls.{IsAtRest, IsQuiet, Touches}
 use Rattle.vab_disk.proofs.Moments.{adds_wider}
 use Rattle.vab_disk.proofs.CallLaws.{touches_wider}
@@ -288,7 +288,7 @@ module _ {D : Type 0} (g : Ghosts D) (d : Device) (staged : Option (List ℕ)) (
 
       -- the disk failed
       pub fails_change : (fault : DiskFault)
-          → Rose (g.faults old).disk (g.faults new).disk
+          → DiskFailed (g.faults old) (g.faults new)
           → DoesCommand g d staged command old new (Err fault)
       fails_change fault rose = record {
         refused = false;
@@ -299,7 +299,7 @@ module _ {D : Type 0} (g : Ghosts D) (d : Device) (staged : Option (List ℕ)) (
         reply = λ t. tt;
         rest = λ t rest. tt;
         quiet = quiet;
-        still = λ t none. tt;
+        still = λ t none. absurd (step_follows (gives t) none);
         touches = λ t. touches_wider g _ _ old new (touches t) writes;
         time = steps;
         faults = record { steady = tt; cause = rose };

@@ -1,12 +1,12 @@
 -- A merge of some blocks, by its turns and its end.
-use Rattle.std.proofs.Common.{◌≡◌, ◌∙◌, inl, inr, ⊎_elim, ℕ, ◌+◌, ◌-◌, ◌≤◌, ◌<◌, List, [], ◌∷◌}
-use Rattle.std.proofs.Common.{Result}
+use Rattle.std.proofs.Common.{◌≡◌, ◌≢◌, ◌∙◌, inl, inr, ⊎_elim, ℕ, ◌+◌, ◌-◌, ◌≤◌, ◌<◌, List, []}
+use Rattle.std.proofs.Common.{◌∷◌, Result}
 use Rattle.std.proofs.Common.{Ok, Err, sym, ap, subst, arith, false}
 use Rattle.std.specs.Prelude.{Option}
 use Rattle.vab_disk.specs.declared.disk.Disk.{Ghosts}
 use Rattle.vab_disk.specs.Disk.{Adds, Outcome}
 use Rattle.vab_disk.specs.Calls.{InSectors, IsAtRest, IsQuiet, Touches}
-use Rattle.vab_disk.proofs.CallLaws.{quiet_then, touches_on, touches_wider, rose_then}
+use Rattle.vab_disk.proofs.CallLaws.{quiet_then, touches_on, touches_wider, failed_then}
 use Rattle.vab_disk.proofs.Moments.{adds_on, adds_wider}
 use Rattle.vab_gate.specs.declared.gate.DiskFault.{DiskFault}
 use Rattle.vab_marks.specs.declared.mark.MarkPhase.TheVariants as marks
@@ -103,7 +103,7 @@ module _ {D : Type 0} (g : Ghosts D) (first : Device) (staged : Option (List ℕ
     reply = λ t. tt;
     rest = λ t rest. tt;
     quiet = made.quiet;
-    still = λ t none. tt;
+    still = λ t none. made.reads (none_asked none);
     touches = λ t.
         touches_wider g (IsOfMerge first blocks) (InSectors (IsOfTurns blocks first)) old new
         (made.touches t) of_turns;
@@ -153,6 +153,12 @@ module _ {D : Type 0} (g : Ghosts D) (first : Device) (staged : Option (List ℕ
         let within = means.0 in
         let left = means.1 in
         omega (arith, none, within, left, some, made.at_most)
+
+    -- more turns were asked for
+    more_asked : 0 < more → effect.later ≢ []
+    more_asked some none =
+        let zero = none_asked none in
+        omega (arith, zero, some, made.at_most)
 
     -- ---- the merge ends
 
@@ -237,12 +243,12 @@ module _ {D : Type 0} (g : Ghosts D) (first : Device) (staged : Option (List ℕ
       reply = λ t. tt;
       rest = λ t rest. tt;
       quiet = both_quiet some (Err fault) new ends;
-      still = λ t none. tt;
+      still = λ t none. absurd (more_asked some none);
       touches = both_touches some (Err fault) new ends;
       time = both_time some (Err fault) new ends;
       faults = record {
         steady = tt;
-        cause = rose_then (g.faults old) (g.faults mid) (g.faults new) made.quiet.counts
+        cause = failed_then (g.faults old) (g.faults mid) (g.faults new) made.faults.steady
             ends.faults.cause;
       };
     }
@@ -271,9 +277,7 @@ module _ {D : Type 0} (g : Ghosts D) (first : Device) (staged : Option (List ℕ
           ∙ ap (λ (e : Effect Mounted). e.reply) (sym is);
       rest = λ t rest. ends.rest t;
       quiet = both_quiet some (Ok r) new ends;
-      still = λ t none.
-          let zero = none_asked none in
-          absurd (omega (arith, zero, some, made.at_most));
+      still = λ t none. absurd (more_asked some none);
       touches = both_touches some (Ok r) new ends;
       time = both_time some (Ok r) new ends;
       faults = record { steady = ends.faults.steady ∙ made.faults.steady; cause = tt };

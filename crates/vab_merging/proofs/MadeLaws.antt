@@ -5,7 +5,7 @@ use Rattle.vab_disk.specs.declared.disk.Disk.{Ghosts}
 use Rattle.vab_disk.specs.Disk.{Adds, Outcome}
 use Rattle.vab_disk.specs.Calls.{InSectors, IsAtRest, IsQuiet, OnlyReads, Touches}
 use Rattle.vab_disk.proofs.CallLaws.{quiet_none, quiet_then, reads_none, touches_none, touches_on}
-use Rattle.vab_disk.proofs.CallLaws.{rose_then}
+use Rattle.vab_disk.proofs.CallLaws.{failed_then}
 use Rattle.vab_disk.proofs.Moments.{adds_none, adds_on}
 use Rattle.vab_gate.specs.declared.gate.DiskFault.{DiskFault}
 use Rattle.vab_marks.specs.declared.mark.MarkPhase.TheVariants as marks
@@ -175,7 +175,7 @@ module _ {D : Type 0} (g : Ghosts D) (first : Device) (blocks : ℕ) where
       time = then_time done wanted old mid new d so_far all (Err fault) run;
       faults = record {
         steady = tt;
-        cause = rose_then (g.faults old) (g.faults mid) (g.faults new) so_far.quiet.counts
+        cause = failed_then (g.faults old) (g.faults mid) (g.faults new) so_far.steady
             run.faults.cause;
       };
     }

@@ -1,6 +1,6 @@
 // A store of runs in a file.
 ghost use Rattle.std.specs.Prelude.{◌≡◌, ◌<◌, ◌≤◌, ◌^◌, OnOk, OnErr};
-ghost use Rattle.vab_disk.specs.Disk.{Rose};
+ghost use Rattle.vab_disk.specs.Disk.{one_more};
 
 use std::fs::File;
 use std::io::{self, Seek, SeekFrom};
@@ -33,7 +33,7 @@ impl FileStore {
     fn answer(&mut self, outcome: io::Result<()>) -> Result<(), Failed>
         ensures sectors { self.new.sectors ≡ self.old.sectors }
         ensures steady { OnOk result (self.new.faults ≡ self.old.faults) }
-        ensures cause { OnErr result (Rose self.old.faults self.new.faults) }
+        ensures cause { OnErr result (self.new.faults ≡ one_more self.old.faults) }
         ensures later { self.old.faults ≤ self.new.faults }
     {
         match outcome {

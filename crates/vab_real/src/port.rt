@@ -1,6 +1,6 @@
 // The port over the outside world.
 ghost use Rattle.std.specs.Prelude.{◌≡◌, ◌<◌, ◌≤◌, ◌^◌, IfOk, IsOk, OnOk, OnErr, replicate, false};
-ghost use Rattle.vab_disk.specs.Disk.{Image, NoFewer, Rose, set_sector};
+ghost use Rattle.vab_disk.specs.Disk.{Image, NoFewer, set_sector, SinkFailed, SourceFailed};
 
 use crate::cells::Cells;
 use crate::file_store::FileStore;
@@ -305,8 +305,8 @@ impl<R: Read + Drop, W: Write + Drop> Port for FilePort<R, W> {
             ≡ ⟦<FilePort<R, W> as Disk>⟧.faults self.old) }
         ensures kind { IsErrOf result PortFault.Sink → ⊥ }
         ensures cause { OnErr result
-            (Rose (⟦<FilePort<R, W> as Disk>⟧.faults self.old).source
-            (⟦<FilePort<R, W> as Disk>⟧.faults self.new).source) }
+            (SourceFailed (⟦<FilePort<R, W> as Disk>⟧.faults self.old)
+            (⟦<FilePort<R, W> as Disk>⟧.faults self.new)) }
         ensures cells { self.new.cells ≡ self.old.cells }
     {
         match self.input.read(out) {
@@ -330,8 +330,8 @@ impl<R: Read + Drop, W: Write + Drop> Port for FilePort<R, W> {
             ≡ ⟦<FilePort<R, W> as Disk>⟧.faults self.old) }
         ensures kind { IsErrOf result PortFault.Source → ⊥ }
         ensures cause { OnErr result
-            (Rose (⟦<FilePort<R, W> as Disk>⟧.faults self.old).sink
-            (⟦<FilePort<R, W> as Disk>⟧.faults self.new).sink) }
+            (SinkFailed (⟦<FilePort<R, W> as Disk>⟧.faults self.old)
+            (⟦<FilePort<R, W> as Disk>⟧.faults self.new)) }
         ensures cells { self.new.cells ≡ self.old.cells }
     {
         match self.output.write(from) {

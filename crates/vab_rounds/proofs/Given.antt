@@ -2,7 +2,7 @@
 use Rattle.std.proofs.Common.{◌≡◌, ◌∙◌, ◌⊎◌, inl, inr, ℕ, zero, suc, ◌+◌, ◌<◌, ◌≤◌, ◌==◌, Bool}
 use Rattle.std.proofs.Common.{true, false, cond, List, [], ◌∷◌, ◌++◌, Option, Some, None}
 use Rattle.std.proofs.Common.{refl, sym, ap, subst, arith}
-use Rattle.std.specs.Prelude.{is_some, nat_le, ◌^◌}
+use Rattle.std.specs.Prelude.{not, is_some, nat_le, ◌^◌}
 use Rattle.std.proofs.lemmas.Bool.Decides.{nat_tests}
 use Rattle.vab_space.specs.declared.Chunk.{Chunk}
 use Rattle.vab_bootctl.specs.declared.slots.Control.{Control}
@@ -15,6 +15,7 @@ use Rattle.vab_model.specs.declared.state.Plan.{Plan}
 use Rattle.vab_model.specs.declared.state.Phase.{Phase}
 use Rattle.vab_model.specs.declared.state.Phase.TheVariants.{Idle, Installing, Staged, Merging}
 use Rattle.vab_model.specs.declared.state.State.{State}
+use Rattle.vab_model.specs.declared.command.Refusal.{Refusal}
 use Rattle.vab_model.specs.declared.command.Refusal.TheVariants as refusals
 use Rattle.vab_model.specs.declared.command.Reply.TheVariants as replies
 use Rattle.vab_model.specs.Commands.{Command, SetActive, Boot, Mark, Print, Digest, Begin, Create}
@@ -23,16 +24,19 @@ use Rattle.vab_model.specs.Commands.{Merge, Factory}
 use Rattle.vab_model.specs.State.{images_at, has_images, with_control}
 use Rattle.vab_model.specs.Effects.{Effect, Found, Image_is, Refused_by, found_of, print_effect}
 use Rattle.vab_model.specs.Effects.{digest_effect, active_effect, effect_map, IsOneOf}
-use Rattle.vab_model.specs.Machine.{machine_effect}
+use Rattle.vab_model.specs.Machine.{machine_effect, unless, cancelled as cancelled_state}
+use Rattle.vab_model.specs.Machine.{merging_from as merging_state}
 use Rattle.vab_model.specs.Effects.{does, refuses, after_of, last_of}
 use Rattle.vab_model.specs.Machine.{without_images, with_images, least_declared}
-use Rattle.vab_device.specs.Mounted.{Mounted, in_state}
+use Rattle.vab_device.specs.Mounted.{Mounted, Places, in_state}
+use Rattle.vab_device.specs.Flashed.{flash_effect}
 use Rattle.vab_device.specs.Updates.{effect_on, begin_effect, EditOf, Guard, edit_effect}
 use Rattle.vab_device.specs.Updates.{no_guard, settled_guard, store_guard, create_edit}
-use Rattle.vab_device.specs.Updates.{resize_edit, delete_edit, snapshot_edit, flash_effect}
+use Rattle.vab_device.specs.Updates.{resize_edit, delete_edit, snapshot_edit}
 use Rattle.vab_device.specs.Updates.{cancelled, cancel_effect, begin_merge_effect, merge_effect}
-use Rattle.vab_device.specs.Updates.{merging_from, finish_effect}
+use Rattle.vab_device.specs.Updates.{in_places, with_layout, merging_from, finish_effect}
 use Rattle.vab_device.specs.Updates.{complete_effect}
+use Rattle.vab_device.proofs.FlashedLaws.{flash_by_blocks}
 use Rattle.vab_session.specs.Alone.{IsAlone, Finds}
 use Rattle.vab_session.specs.Source.{IsStagedFrom, IsMergedFrom}
 use Rattle.vab_session.proofs.SourceLaws.{still_has, still_none}
@@ -147,12 +151,17 @@ module _ (slot : ℕ) (images : List ImageOfSlot) where
       by y (inl here) = subst Stands (sym here) next
       by y (inr none) = absurd none
 
-  either : (m : Mounted) (b : Bool) (e f : Effect Mounted)
-      → (b ≡ true → Makes m e.later)
-      → (b ≡ false → Makes m f.later)
-      → Makes m (cond b e f).later
-  either m true e f is other = is refl
-  either m false e f is other = other refl
+  not_true : (b : Bool) → not b ≡ true → b ≡ false
+  not_true true is = absurd cc
+  not_true false is = refl
+
+  -- a row of the machine that is refused, unless a test holds
+  tested : (m : Mounted) (places : Places) (b : Bool) (refusal : Refusal) (e : Effect State)
+      → Stands m
+      → (b ≡ true → Makes m (effect_map (in_places places) e).later)
+      → Makes m (effect_map (in_places places) (unless b refusal e)).later
+  tested m places true refusal e stands holds = holds refl
+  tested m places false refusal e stands holds = nothing m stands
 
   with_boot : (m : Mounted) (c : Control)
       → c.current < 2
@@ -250,12 +259,11 @@ module _ (slot : ℕ) (images : List ImageOfSlot) where
   cancels m Idle at is = absurd at
   cancels m (Installing from plan) at is = absurd at
   cancels m (Staged from left) at is =
-      either m (m.state.control.current == from)
-      (does replies.Done (cancelled m from))
-      (refuses refusals.RunningTarget)
+      tested m (with_layout m.places (other_slot from) None)
+      (m.state.control.current == from) refusals.RunningTarget
+      (does replies.Done (cancelled_state m.state from)) (inl is)
       (λ runs.
       until.made_stop Stops Stands apart m (cancelled m from) (inl (dropped m from at is)))
-      (λ other. nothing m (inl is))
   cancels m (Merging target left) at is = absurd at
 
   -- its merge begins: it alone has images
@@ -293,18 +301,15 @@ module _ (slot : ℕ) (images : List ImageOfSlot) where
   merge_begins m (Installing from plan) at is = absurd at
   merge_begins m (Staged from left) at is =
       let marked : Bool = (info_at m.state.control (other_slot from)).successful in
-      let begun : Effect Mounted = does replies.Done (merging_from m from left) in
-      let not_marked : Effect Mounted = refuses refusals.NotSuccessful in
-      either m (m.state.control.current == from)
-      (refuses refusals.NotRunningTarget)
-      (cond marked begun not_marked)
-      (λ runs. nothing m (inl is))
+      let begun : Effect State = does replies.Done (merging_state m.state from left) in
+      let places : Places = with_layout m.places from None in
+      tested m places (not (m.state.control.current == from)) refusals.NotRunningTarget
+      (unless marked refusals.NotSuccessful begun) (inl is)
       (λ other.
-      either m marked begun not_marked
+      tested m places marked refusals.NotSuccessful begun (inl is)
       (λ yes.
       one m (merging_from m from left) (inl is)
-      (inr (inl (alone_then m from left at other is))))
-      (λ no. nothing m (inl is)))
+      (inr (inl (alone_then m from left at (not_true _ other) is)))))
   merge_begins m (Merging target left) at is = absurd at
 
   ready_makes : (m : Mounted) (staged : Option (List ℕ)) (c : Command)
@@ -334,7 +339,9 @@ module _ (slot : ℕ) (images : List ImageOfSlot) where
   ready_makes m staged (Snapshot name size) is =
       edits m store_guard (snapshot_edit name size) m.state.phase is.ready is
   ready_makes m staged (Flash name chunk) is =
-      flashes m staged name chunk m.state.phase is.ready is
+      subst (λ (e : Effect Mounted). Makes m e.later)
+      (sym (flash_by_blocks m staged name chunk))
+      (flashes m staged name chunk m.state.phase is.ready is)
   ready_makes m staged Finish is = finishes m m.state.phase is.ready is
   ready_makes m staged Cancel is = cancels m m.state.phase is.ready is
   ready_makes m staged BeginMerge is = merge_begins m m.state.phase is.ready is

@@ -15,7 +15,7 @@ use Rattle.vab_model.specs.Commands.{Command, SetActive, Boot, Mark, Print, Dige
 use Rattle.vab_model.specs.Commands.{Resize, Delete, Snapshot, Flash, Finish, Cancel, BeginMerge}
 use Rattle.vab_model.specs.Commands.{Merge}
 use Rattle.vab_model.specs.State.{images_at}
-use Rattle.vab_model.specs.Effects.{Found, Image_is, Refused_by, found_of, print_effect}
+use Rattle.vab_model.specs.Effects.{Effect, Found, Image_is, Refused_by, found_of, print_effect}
 use Rattle.vab_model.specs.Effects.{digest_effect, active_effect, effect_map, IsOneOf}
 use Rattle.vab_model.specs.Machine.{machine_effect}
 use Rattle.vab_model.specs.Effects.{last_of}
@@ -23,10 +23,12 @@ use Rattle.vab_model.specs.Kinds.{is_of_installation, is_finish, turns_of}
 use Rattle.vab_model.specs.Machine.{turns as machine_turns}
 use Rattle.vab_device.proofs.WantLaws.{verb_wants}
 use Rattle.vab_device.specs.Mounted.{Mounted, in_state}
+use Rattle.vab_device.specs.Flashed.{flash_effect}
 use Rattle.vab_device.specs.Updates.{effect_on, EditOf, Guard, edit_effect, no_guard}
 use Rattle.vab_device.specs.Updates.{settled_guard, store_guard, create_edit, resize_edit}
-use Rattle.vab_device.specs.Updates.{delete_edit, snapshot_edit, flash_effect, cancel_effect}
+use Rattle.vab_device.specs.Updates.{delete_edit, snapshot_edit, cancel_effect}
 use Rattle.vab_device.specs.Updates.{begin_merge_effect, merge_effect, turns, merged_to}
+use Rattle.vab_device.proofs.FlashedLaws.{flash_by_blocks}
 use Rattle.vab_fbproto.specs.Requests.{Asked, Getvar, Download, Do, MergeAll, BootAndEnd}
 use Rattle.vab_fbproto.specs.Requests.{request_of}
 use Rattle.vab_fbproto.specs.declared.request.BadCommand.{BadCommand}
@@ -211,7 +213,9 @@ module _ (left : ℕ) where
   command_steps asked m staged (Snapshot name size) other is =
       edits asked m store_guard (snapshot_edit name size) m.state.phase is
   command_steps asked m staged (Flash name chunk) other is =
-      flashes asked m staged name chunk m.state.phase is
+      subst (λ (e : Effect Mounted). AreDue asked e.later)
+      (sym (flash_by_blocks m staged name chunk))
+      (flashes asked m staged name chunk m.state.phase is)
   command_steps asked m staged Cancel other is = cancels asked m m.state.phase is
   command_steps asked m staged BeginMerge other is = merge_begins asked m m.state.phase is
   command_steps asked m staged (Merge blocks) other is = merges asked m blocks m.state.phase is

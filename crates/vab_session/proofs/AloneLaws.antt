@@ -40,15 +40,15 @@ use Rattle.vab_model.specs.Machine.{without_images}
 use Rattle.vab_model.specs.Staged.{is_sparse}
 use Rattle.vab_model.specs.Machine.{turns as turns_of}
 use Rattle.vab_device.specs.Mounted.{Mounted, Places, in_state}
+use Rattle.vab_device.specs.Flashed.{staged_effect, unwritten_effect, in_store, in_place}
+use Rattle.vab_device.specs.Flashed.{placed_effect, entry_effect, flash_effect, if_room, flashed}
+use Rattle.vab_device.specs.Flashed.{with_image, filled, differences, source_bytes}
 use Rattle.vab_device.specs.Updates.{effect_on, table_effect, begun_effect, begin_effect, layout_at}
 use Rattle.vab_device.specs.Updates.{no_entries, EditOf, edited_effect, Guard, unless_kept}
 use Rattle.vab_device.specs.Updates.{edit_effect, no_guard, settled_guard, store_guard, create_edit}
-use Rattle.vab_device.specs.Updates.{resize_edit, delete_edit, snapshot_edit, staged_effect}
-use Rattle.vab_device.specs.Updates.{unwritten_effect, in_store, in_place, placed_effect}
-use Rattle.vab_device.specs.Updates.{entry_effect, flash_effect}
+use Rattle.vab_device.specs.Updates.{resize_edit, delete_edit, snapshot_edit}
 use Rattle.vab_device.specs.Updates.{cancelled, cancel_effect, begin_merge_effect, merge_effect}
-use Rattle.vab_device.specs.Updates.{turns, if_room, flashed, with_image, filled, differences}
-use Rattle.vab_device.specs.Updates.{source_bytes}
+use Rattle.vab_device.specs.Updates.{turns}
 use Rattle.vab_fbproto.specs.Requests.{Asked, Getvar, Download, Do, MergeAll, BootAndEnd}
 use Rattle.vab_fbproto.specs.Requests.{request_of}
 use Rattle.vab_fbproto.specs.declared.request.BadCommand.{BadCommand}
@@ -57,6 +57,7 @@ use Rattle.vab_exchanges.specs.Items.{Response, Kept, Item, item_by, item_still,
 use Rattle.vab_exchanges.specs.Items.{item_download, item_of, item_open}
 use Rattle.vab_exchanges.specs.Items.{unless_refused, item_done, item_staged, no_memory}
 use Rattle.vab_device.specs.Reading.{IsIn}
+use Rattle.vab_device.proofs.FlashedLaws.{flash_by_blocks}
 use Rattle.vab_model.specs.Kinds.{is_finish}
 use Rattle.vab_session.specs.Alone.{IsUnready, IsAlone, BootsTo, StandsAlone}
 use Rattle.vab_session.specs.Responses.{response, left_of}
@@ -446,7 +447,9 @@ module _ (slot : ℕ) (images : List ImageOfSlot) where
   alone_effect m staged (Snapshot name size) other is =
       edits m store_guard (snapshot_edit name size) m.state.phase is.unready is
   alone_effect m staged (Flash name chunk) other is =
-      flashes m staged name chunk m.state.phase is.unready is
+      subst (λ (e : Effect Mounted). AreAlone e.later)
+      (sym (flash_by_blocks m staged name chunk))
+      (flashes m staged name chunk m.state.phase is.unready is)
   alone_effect m staged Finish other is = absurd cc
   alone_effect m staged Cancel other is = cancels m m.state.phase is.unready is
   alone_effect m staged BeginMerge other is = merge_begins m m.state.phase is.unready

@@ -34,7 +34,7 @@ use Rattle.vab_session.specs.Served.{kept_on}
 use Rattle.vab_session.specs.declared.fault.SessionFault.TheVariants.{Disk}
 use Rattle.vab_session.specs.declared.kept.KeptDevice.{KeptDevice}
 use Rattle.vab_session.proofs.Changing.{changes_still, follows_done, follows_kept}
-use Rattle.vab_session.proofs.WrittenLaws.{command_tries, command_writes, writes_still}
+use Rattle.vab_session.proofs.WrittenLaws.{command_writes, writes_still}
 
 -- ---- no turn
 
@@ -159,7 +159,7 @@ module _ {D : Type 0} (g : Ghosts D) (kept : KeptDevice) (n : ℕ) (old new : D)
           passes = passing (Ok r) did;
           changes = changed (Ok r) did;
           writes = λ t.
-              command_writes g t d (kept_on kept (g.seen old)) (Merge n) old new refl ⊥ r
+              command_writes g t d (kept_on kept (g.seen old)) (Merge n) old new refl (Ok r)
               (does (kept_on kept (g.seen old)).staged);
           fault = tt;
           cause = record {
@@ -187,8 +187,8 @@ module _ {D : Type 0} (g : Ghosts D) (kept : KeptDevice) (n : ℕ) (old new : D)
           passes = passing (Err fault) did;
           changes = changed (Err fault) did;
           writes = λ t.
-              command_tries g t d (kept_on kept (g.seen old)) (Merge n) old new refl (Unit {0})
-              (Err fault) tt (does (kept_on kept (g.seen old)).staged);
+              command_writes g t d (kept_on kept (g.seen old)) (Merge n) old new refl (Err fault)
+              (does (kept_on kept (g.seen old)).staged);
           fault = refl;
           cause = record {
             counts = did.quiet.counts;

@@ -3,7 +3,7 @@ use Rattle.std.proofs.Common.{◌≡◌, ℕ, ◌≤◌, true, false, List, [], 
 use Rattle.std.proofs.Common.{length-append, take, sym, ◌∙◌, ap, subst, refl, arith}
 use Rattle.std.proofs.lemmas.List.{append-nil, take_at}
 use Rattle.vab_disk.specs.Disk.{Outcome, SameHoldings, Adds, Nothing}
-use Rattle.vab_disk.specs.Disk.{Faults, NoFewer, Rose}
+use Rattle.vab_disk.specs.Disk.{Faults, NoFewer, SourceFailed}
 use Rattle.std.proofs.Common.{Err}
 use Rattle.vab_exchanges.specs.Reading.{IfNotSource}
 use Rattle.vab_disk.specs.Calls.{IsAtRest}
@@ -292,13 +292,13 @@ pub read_cause : {D A : Type 0} (g : Ghosts D) (old mid new : D) (fault : ReadFa
     → g.faults mid ≡ g.faults old
     → NoFewer (g.faults mid) (g.faults new)
     → IfNotSource (g.faults new ≡ g.faults mid) fault
-    → (fault ≡ reads.Source → Rose (g.faults mid).source (g.faults new).source)
+    → (fault ≡ reads.Source → SourceFailed (g.faults mid) (g.faults new))
     → HasCause {A = A} g old new (Err (fault_of_read fault))
 read_cause g old mid new reads.Source same counts steady rose = record {
   counts = subst (λ (f : Faults). NoFewer f (g.faults new)) same counts;
   steady = λ held. absurd held;
   disk = λ is. cc;
-  source = λ is. subst (λ (f : Faults). Rose f.source (g.faults new).source) same (rose refl);
+  source = λ is. subst (λ (f : Faults). SourceFailed f (g.faults new)) same (rose refl);
   sink = λ is. cc;
 }
 read_cause g old mid new reads.BadHello same counts steady rose = record {

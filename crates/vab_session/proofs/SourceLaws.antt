@@ -2,7 +2,7 @@
 use Rattle.std.proofs.Common.{◌≡◌, ◌∙◌, ◌⊎◌, inl, inr, ℕ, zero, suc, ◌-◌, ◌≤◌, ◌<◌, ◌++◌, ◌==◌}
 use Rattle.std.proofs.Common.{Bool, true, false, cond, List, [], ◌∷◌, length, drop, codes, Option}
 use Rattle.std.proofs.Common.{Some, None, map, refl, sym, ap, subst, arith}
-use Rattle.std.specs.Prelude.{is_some, nat_le, ◌^◌}
+use Rattle.std.specs.Prelude.{not, is_some, nat_le, ◌^◌}
 use Rattle.std.proofs.lemmas.Bool.{cases_Bool}
 use Rattle.std.proofs.lemmas.Bool.Decides.{nat_tests}
 use Rattle.vab_disk.specs.Disk.{Outcome}
@@ -24,18 +24,21 @@ use Rattle.vab_model.specs.Commands.{Merge, Factory}
 use Rattle.vab_model.specs.State.{images_at, has_images, with_control}
 use Rattle.vab_model.specs.Effects.{Effect, Found, Image_is, Refused_by, found_of, print_effect}
 use Rattle.vab_model.specs.Effects.{digest_effect, active_effect, effect_map, IsOneOf}
-use Rattle.vab_model.specs.Machine.{machine_effect}
+use Rattle.vab_model.specs.Machine.{machine_effect, unless, cancelled as cancelled_state}
+use Rattle.vab_model.specs.Machine.{merging_from as merging_state}
 use Rattle.vab_model.specs.Effects.{does, refuses}
 use Rattle.vab_model.specs.Kinds.{is_finish}
 use Rattle.vab_model.specs.Machine.{without_images, with_images, least_declared}
-use Rattle.vab_device.specs.Mounted.{Mounted, in_state}
+use Rattle.vab_device.specs.Mounted.{Mounted, Places, in_state}
 use Rattle.vab_device.specs.Reading.{IsIn}
+use Rattle.vab_device.specs.Flashed.{flash_effect}
 use Rattle.vab_device.specs.Updates.{effect_on, begin_effect, EditOf, Guard, edit_effect}
 use Rattle.vab_device.specs.Updates.{no_guard, settled_guard, store_guard, create_edit}
-use Rattle.vab_device.specs.Updates.{resize_edit, delete_edit, snapshot_edit, flash_effect}
+use Rattle.vab_device.specs.Updates.{resize_edit, delete_edit, snapshot_edit}
 use Rattle.vab_device.specs.Updates.{cancelled, cancel_effect, begin_merge_effect, merge_effect}
-use Rattle.vab_device.specs.Updates.{merging_from, finish_effect}
+use Rattle.vab_device.specs.Updates.{in_places, with_layout, merging_from, finish_effect}
 use Rattle.vab_device.specs.Updates.{complete_effect, finished, final_image}
+use Rattle.vab_device.proofs.FlashedLaws.{flash_by_blocks}
 use Rattle.vab_exchanges.specs.Session.{Exchange}
 use Rattle.vab_exchanges.specs.Items.{Kept, items_of, kept_after, closing_of}
 use Rattle.vab_exchanges.specs.Runs.{acknowledged, CrashesWithin}
@@ -115,12 +118,13 @@ module _ (slot : ℕ) (images : List ImageOfSlot) where
       by y (inl here) = subst Stands (sym here) next
       by y (inr none) = absurd none
 
-  either : (m : Mounted) (b : Bool) (e f : Effect Mounted)
-      → (b ≡ true → Makes m e.later)
-      → (b ≡ false → Makes m f.later)
-      → Makes m (cond b e f).later
-  either m true e f is other = is refl
-  either m false e f is other = other refl
+  -- a row of the machine that is refused, unless a test holds
+  tested : (m : Mounted) (places : Places) (b : Bool) (refusal : Refusal) (e : Effect State)
+      → Stands m
+      → (b ≡ true → Makes m (effect_map (in_places places) e).later)
+      → Makes m (effect_map (in_places places) (unless b refusal e)).later
+  tested m places true refusal e stands holds = holds refl
+  tested m places false refusal e stands holds = nothing m stands
 
   -- ---- the end of an installation
 
@@ -232,13 +236,12 @@ module _ (slot : ℕ) (images : List ImageOfSlot) where
   cancels m Idle at is = absurd at
   cancels m (Installing source plan) at is = absurd at
   cancels m (Staged source left) at is =
-      either m (m.state.control.current == source)
-      (does replies.Done (cancelled m source))
-      (refuses refusals.RunningTarget)
+      tested m (with_layout m.places (other_slot source) None)
+      (m.state.control.current == source) refusals.RunningTarget
+      (does replies.Done (cancelled_state m.state source)) (inr is)
       (λ runs.
       one m (cancelled m source) (inr is)
       (inl (dropped m source at (grind (arith, nat_tests, runs)) is)))
-      (λ other. nothing m (inr is))
   cancels m (Merging target left) at is = absurd at
 
   merge_begins : (m : Mounted) (phase : Phase)
@@ -249,17 +252,14 @@ module _ (slot : ℕ) (images : List ImageOfSlot) where
   merge_begins m (Installing source plan) at is = absurd at
   merge_begins m (Staged source left) at is =
       let marked : Bool = (info_at m.state.control (other_slot source)).successful in
-      let begun : Effect Mounted = does replies.Done (merging_from m source left) in
-      let not_marked : Effect Mounted = refuses refusals.NotSuccessful in
-      either m (m.state.control.current == source)
-      (refuses refusals.NotRunningTarget)
-      (cond marked begun not_marked)
-      (λ runs. nothing m (inr is))
+      let begun : Effect State = does replies.Done (merging_state m.state source left) in
+      let places : Places = with_layout m.places source None in
+      tested m places (not (m.state.control.current == source)) refusals.NotRunningTarget
+      (unless marked refusals.NotSuccessful begun) (inr is)
       (λ other.
-      either m marked begun not_marked
+      tested m places marked refusals.NotSuccessful begun (inr is)
       (λ yes.
-      until.made_stop Merged Stands apart m (merging_from m source left) (ap other_slot at))
-      (λ no. nothing m (inr is)))
+      until.made_stop Merged Stands apart m (merging_from m source left) (ap other_slot at)))
   merge_begins m (Merging target left) at is = absurd at
 
   merges : (m : Mounted) (blocks : ℕ) (phase : Phase)
@@ -295,7 +295,9 @@ module _ (slot : ℕ) (images : List ImageOfSlot) where
   ready_makes m staged (Snapshot name size) is =
       edits m store_guard (snapshot_edit name size) m.state.phase is.ready is
   ready_makes m staged (Flash name chunk) is =
-      flashes m staged name chunk m.state.phase is.ready is
+      subst (λ (e : Effect Mounted). Makes m e.later)
+      (sym (flash_by_blocks m staged name chunk))
+      (flashes m staged name chunk m.state.phase is.ready is)
   ready_makes m staged Finish is = finished_again m m.state.phase is.ready is
   ready_makes m staged Cancel is = cancels m m.state.phase is.ready is
   ready_makes m staged BeginMerge is = merge_begins m m.state.phase is.ready is

@@ -105,13 +105,6 @@ module _ {D : Type 0} (g : Ghosts D) (W : ℕ → List ℕ → Type 0) where
   }
 
 -- where more may be written
-pub same_wider : (V W : ℕ → List ℕ → Type 0) (old new : Image)
-    → ((s : ℕ) (b : List ℕ) → V s b → W s b)
-    → SameBut V old new
-    → SameBut W old new
-same_wider V W old new wider same s =
-    ⊎_elim (λ kept. inl kept) (λ wrote. inr (wider s (new s) wrote)) (same s)
-
 pub writes_as : {D : Type 0} (g : Ghosts D) (V W : ℕ → List ℕ → Type 0) (old new : D)
     → ((s : ℕ) (b : List ℕ) → V s b → W s b)
     → WritesAs g V old new
@@ -143,71 +136,31 @@ module _ {D : Type 0} (g : Ghosts D) (t : g.is_modelled) (d : Device) (k : Kept 
   abbrev W : ℕ → List ℕ → Type 0
   W = IsOfCommand g.is_modelled d (g.seen old 4) c
 
-  -- it is done or refused
-  pub command_writes : (F : Type 0) (r : Device × Reply)
-      → Does g d k.staged c W old new (Ok r)
-      → WritesAs g (IsOfChange g.is_modelled F d k (g.seen old 4) c) old new
-  command_writes F r does = by (effect_on k.now k.staged c).later refl
+  -- whatever comes of it
+  pub command_writes : (r : Result (Device × Reply) DiskFault)
+      → Does g d k.staged c W old new r
+      → WritesAs g (IsOfChange g.is_modelled d k (g.seen old 4) c) old new
+  command_writes r does = by (effect_on k.now k.staged c).later refl
     where
-      e : Effect Mounted
-      e = effect_on (mounted_on d (g.seen old)) k.staged c
-
       by : (later : List Mounted)
           → (effect_on k.now k.staged c).later ≡ later
-          → WritesAs g (IsOfChange g.is_modelled F d k (g.seen old 4) c) old new
+          → WritesAs g (IsOfChange g.is_modelled d k (g.seen old 4) c) old new
       by [] none =
           let same : (effect_on (mounted_on d (g.seen old)) k.staged c).later ≡ [] =
           ap (λ (m : Mounted). (effect_on m k.staged c).later) (sym is) ∙ none in
           let reads : OnlyReads g old new =
           does.still t (still_of does.refused
           (effect_on (mounted_on d (g.seen old)) k.staged c) same) in
-          writes_still g (IsOfChange g.is_modelled F d k (g.seen old 4) c) old new
+          writes_still g (IsOfChange g.is_modelled d k (g.seen old 4) c) old new
           (reads.seen t) (reads.time t)
       by (m ∷ ms) some =
-          writes_as g W (IsOfChange g.is_modelled F d k (g.seen old 4) c) old new
+          writes_as g W (IsOfChange g.is_modelled d k (g.seen old 4) c) old new
           (λ s b w.
           record {
-            changes = inr (λ none. let both = sym some ∙ none in cc);
+            changes = λ none. let both = sym some ∙ none in cc;
             writes = w;
           })
           (writes_touches g W t old new (does.touches t))
-
-  -- the disk failed
-  pub command_tries : (Failed : Type 0) (r : Result (Device × Reply) DiskFault)
-      → Failed
-      → Does g d k.staged c W old new r
-      → WritesAs g (IsOfChange g.is_modelled Failed d k (g.seen old 4) c) old new
-  command_tries Failed r failed does =
-      writes_as g W (IsOfChange g.is_modelled Failed d k (g.seen old 4) c) old new
-      (λ s b w. record { changes = inl failed; writes = w })
-      (writes_touches g W t old new (does.touches t))
-
--- what is written where nothing failed
-pub change_wider : (M F G : Type 0) (d : Device) (k : Kept Mounted) (old : List ℕ) (c : Command)
-    → (F → G)
-    → (s : ℕ) (b : List ℕ)
-    → IsOfChange M F d k old c s b
-    → IsOfChange M G d k old c s b
-change_wider M F G d k old c f s b is = record {
-  changes = ⊎_elim (λ failed. inl (f failed)) (λ changes. inr changes) is.changes;
-  writes = is.writes;
-}
-
-pub asked_wider : (M F G : Type 0) (d : Device) (k : Kept Mounted) (old : List ℕ)
-    (c : Option Command) (s : ℕ) (b : List ℕ)
-    → (F → G)
-    → IsOfAsked M F d k old c s b
-    → IsOfAsked M G d k old c s b
-asked_wider M F G d k old None s b f is = is
-asked_wider M F G d k old (Some c) s b f is = change_wider M F G d k old c f s b is
-
-packet_wider : (M F G : Type 0) (d : Device) (k : Kept Mounted) (old command : List ℕ)
-    → (F → G)
-    → (s : ℕ) (b : List ℕ)
-    → IsOfPacket M F d k old command s b
-    → IsOfPacket M G d k old command s b
-packet_wider M F G d k old command f s b is =
-    asked_wider M F G d k old (command_asked d (request_of command)) s b f is
 
 -- ---- one exchange behind the other
 
@@ -230,14 +183,14 @@ module _ (M : Type 0) (turns size : ℕ) where
   -- the turns of a merge before a packet is heard are made, which leaves this device
   pub record IsPassed (d : Device) (k : Kept Mounted) (old : Image) (next : Device) (now : Image)
       : Type 0 where
-    pub wrote : SameBut (IsOfChange M ⊥ d k (old 4) (Merge turns)) old now
+    pub wrote : SameBut (IsOfChange M d k (old 4) (Merge turns)) old now
     pub represents : Represents next size now
     pub is : mounted_on next now ≡ (passed (machine turns) k).now
 
   -- a packet is answered, which leaves this device
   pub record IsAnswered (d : Device) (k : Kept Mounted) (old : Image) (s : Exchange)
       (next : Device) (now : Image) : Type 0 where
-    pub wrote : SameBut (IsOfPacket M ⊥ d k (old 4) s.command) old now
+    pub wrote : SameBut (IsOfPacket M d k (old 4) s.command) old now
     pub represents : Represents next size now
     pub is : mounted_on next now ≡ (item_of response k s).last.now
 
@@ -286,105 +239,42 @@ module _ (M : Type 0) (turns size : ℕ) where
         d'' k'' now first.6 turned answered last,
   )
 
-  module _ (F : Type 0) where
-    -- behind them others
-    pub written_behind : (d : Device) (k : Kept Mounted) (old : Image) (done : List Exchange)
-        (d' : Device) (k' : Kept Mounted) (mid : Image) (ss : List Exchange)
-        (more : Option (List ℕ)) (image : Image)
-        → Carried d k old done d' k' mid
-        → WrittenInTurn M F turns size d' k' mid ss more image
-        → WrittenInTurn M F turns size d k old (done ++ ss) more image
-    written_behind d k old [] d' k' mid ss more image (devices, kept, images) is =
-        subst
-        (λ (x : Device × Kept Mounted × Image).
-        WrittenInTurn M F turns size x.0 x.1 x.2 ss more image)
-        (λ i. (devices i, kept i, images i)) is
-    written_behind d k old (x ∷ xs) d' k' mid ss more image first is = inr (
-      first.0,
-      first.1,
-      first.2.wrote,
-      first.2.represents,
-      first.2.is,
-      inr (
-        first.3,
-        first.4,
-        first.5.wrote,
-        first.5.represents,
-        first.5.is,
-        written_behind first.3 (item_behind (machine turns) k x).last first.4 xs d' k' mid ss
-            more image first.6 is,
-      ),
-    )
+  -- behind them others
+  pub written_behind : (d : Device) (k : Kept Mounted) (old : Image) (done : List Exchange)
+      (d' : Device) (k' : Kept Mounted) (mid : Image) (ss : List Exchange)
+      (more : Option (List ℕ)) (image : Image)
+      → Carried d k old done d' k' mid
+      → WrittenInTurn M turns size d' k' mid ss more image
+      → WrittenInTurn M turns size d k old (done ++ ss) more image
+  written_behind d k old [] d' k' mid ss more image (devices, kept, images) is =
+      subst
+      (λ (x : Device × Kept Mounted × Image).
+      WrittenInTurn M turns size x.0 x.1 x.2 ss more image)
+      (λ i. (devices i, kept i, images i)) is
+  written_behind d k old (x ∷ xs) d' k' mid ss more image first is = inr (
+    first.0,
+    first.1,
+    first.2.wrote,
+    first.2.represents,
+    first.2.is,
+    inr (
+      first.3,
+      first.4,
+      first.5.wrote,
+      first.5.represents,
+      first.5.is,
+      written_behind first.3 (item_behind (machine turns) k x).last first.4 xs d' k' mid ss
+          more image first.6 is,
+    ),
+  )
 
-    -- nothing more is written
-    pub written_still : (d : Device) (k : Kept Mounted) (old : Image) (ss : List Exchange)
-        (more : Option (List ℕ))
-        → WrittenInTurn M F turns size d k old ss more old
-    written_still d k old [] None = λ n. inl refl
-    written_still d k old [] (Some command) = inl (λ n. inl refl)
-    written_still d k old (s ∷ ss) more = inl (λ n. inl refl)
-
--- where less may fail
-pub written_wider : (M F G : Type 0) (turns size : ℕ) (d : Device) (k : Kept Mounted) (old : Image)
-    (ss : List Exchange) (more : Option (List ℕ)) (image : Image)
-    → (F → G)
-    → WrittenInTurn M F turns size d k old ss more image
-    → WrittenInTurn M G turns size d k old ss more image
-written_wider M F G turns size d k old [] None image f is =
-    same_wider (IsOfChange M F d k (old 4) (Merge turns))
-    (IsOfChange M G d k (old 4) (Merge turns)) old image
-    (change_wider M F G d k (old 4) (Merge turns) f) is
-written_wider M F G turns size d k old [] (Some command) image f (inl is) =
-    inl (same_wider (IsOfChange M F d k (old 4) (Merge turns))
-    (IsOfChange M G d k (old 4) (Merge turns)) old image
-    (change_wider M F G d k (old 4) (Merge turns) f) is)
-written_wider M F G turns size d k old [] (Some command) image f (inr is) =
-    let k' : Kept Mounted = passed (machine turns) k in
-    inr (
-      is.0,
-      is.1,
-      is.2,
-      is.3,
-      is.4,
-      same_wider (IsOfPacket M F is.0 k' (is.1 4) command)
-          (IsOfPacket M G is.0 k' (is.1 4) command) is.1 image
-          (packet_wider M F G is.0 k' (is.1 4) command f) is.5,
-    )
-written_wider M F G turns size d k old (s ∷ ss) more image f (inl is) =
-    inl (same_wider (IsOfChange M F d k (old 4) (Merge turns))
-    (IsOfChange M G d k (old 4) (Merge turns)) old image
-    (change_wider M F G d k (old 4) (Merge turns) f) is)
-written_wider M F G turns size d k old (s ∷ ss) more image f
-    (inr (next, mid, wrote, represents, is, inl part)) =
-    let k' : Kept Mounted = passed (machine turns) k in
-    inr (
-      next,
-      mid,
-      wrote,
-      represents,
-      is,
-      inl (same_wider (IsOfPacket M F next k' (mid 4) s.command)
-          (IsOfPacket M G next k' (mid 4) s.command) mid image
-          (packet_wider M F G next k' (mid 4) s.command f) part),
-    )
-written_wider M F G turns size d k old (s ∷ ss) more image f
-    (inr (next, mid, wrote, represents, is, inr all)) =
-    inr (
-      next,
-      mid,
-      wrote,
-      represents,
-      is,
-      inr (
-        all.0,
-        all.1,
-        all.2,
-        all.3,
-        all.4,
-        written_wider M F G turns size all.0 (item_behind (machine turns) k s).last all.1 ss more
-            image f all.5,
-      ),
-    )
+  -- nothing more is written
+  pub written_still : (d : Device) (k : Kept Mounted) (old : Image) (ss : List Exchange)
+      (more : Option (List ℕ))
+      → WrittenInTurn M turns size d k old ss more old
+  written_still d k old [] None = λ n. inl refl
+  written_still d k old [] (Some command) = inl (λ n. inl refl)
+  written_still d k old (s ∷ ss) more = inl (λ n. inl refl)
 
 -- ---- a session that has come so far
 
@@ -403,8 +293,7 @@ module _ {D : Type 0} (g : Ghosts D) (turns size : ℕ) (d : Device) (k : Kept M
           → (ss : List Exchange)
           → (more : Option (List ℕ))
           → Adds g.moment g.outcomes old now
-          (λ o. WrittenInTurn g.is_modelled ⊥ turns size d k (g.seen old) (done ++ ss) more
-          o.image)
+          (λ o. WrittenInTurn g.is_modelled turns size d k (g.seen old) (done ++ ss) more o.image)
 
   pub written_none : (old : D) → HasWritten d k bytes old old
   written_none old = record {
@@ -417,16 +306,16 @@ module _ {D : Type 0} (g : Ghosts D) (turns size : ℕ) (d : Device) (k : Kept M
   }
 
   -- The turns of a merge before the next packet write so.
-  abbrev pub WritesTurns : (F : Type 0) → Device → Kept Mounted → (old new : D) → Type 0
-  WritesTurns F d' k' old new =
-      WritesAs g (IsOfChange g.is_modelled F d' k' (g.seen old 4) (Merge turns)) old new
+  abbrev pub WritesTurns : Device → Kept Mounted → (old new : D) → Type 0
+  WritesTurns d' k' old new =
+      WritesAs g (IsOfChange g.is_modelled d' k' (g.seen old 4) (Merge turns)) old new
 
   -- It ends here, with some of the turns that another packet would find made.
-  pub written_end : (F : Type 0) (d' : Device) (k' : Kept Mounted) (left : List ℕ) (old mid now : D)
+  pub written_end : (d' : Device) (k' : Kept Mounted) (left : List ℕ) (old mid now : D)
       → HasWritten d' k' left old mid
-      → WritesTurns F d' k' mid now
-      → WritesInTurn g F turns size d k bytes old now
-  written_end F d' k' left old mid now so_far wrote =
+      → WritesTurns d' k' mid now
+      → WritesInTurn g turns size d k bytes old now
+  written_end d' k' left old mid now so_far wrote =
       let M : Type 0 = g.is_modelled in
       let all : so_far.done ++ [] ≡ so_far.done = append-nil so_far.done in
       record {
@@ -436,23 +325,20 @@ module _ {D : Type 0} (g : Ghosts D) (turns size : ℕ) (d : Device) (k : Kept M
         are = subst AreExchanges (sym all) so_far.are;
         is = so_far.is ∙ ap (λ (l : List Exchange). flat_map spelled l ++ left) (sym all);
         seen =
-            written_behind M turns size F d k (g.seen old) so_far.done d' k' (g.seen mid) []
+            written_behind M turns size d k (g.seen old) so_far.done d' k' (g.seen mid) []
             None (g.seen now) so_far.carried wrote.seen;
         time = λ rest.
             adds_on g.moment g.outcomes old mid now _ _
-            (adds_wider g.moment g.outcomes old mid _ _ (so_far.time rest [] None)
-            (λ o is.
-            written_wider M ⊥ F turns size d k (g.seen old) (so_far.done ++ []) None
-            o.image (λ none. absurd none) is))
+            (so_far.time rest [] None)
             (wrote.time (so_far.rests rest))
             (λ o some.
-            written_behind M turns size F d k (g.seen old) so_far.done d' k' (g.seen mid) []
+            written_behind M turns size d k (g.seen old) so_far.done d' k' (g.seen mid) []
             None o.image so_far.carried some);
       }
 
   -- A packet is heard, behind the turns.
   module _ (d' next : Device) (k' : Kept Mounted) (left : List ℕ) (old mid now : D)
-      (so_far : HasWritten d' k' left old mid) (turned : WritesTurns ⊥ d' k' mid now)
+      (so_far : HasWritten d' k' left old mid) (turned : WritesTurns d' k' mid now)
       (represents : Represents next size (g.seen now))
       (is : mounted_on next (g.seen now) ≡ (passed (machine turns) k').now)
       (rests : IsAtRest g mid → IsAtRest g now) where
@@ -463,43 +349,34 @@ module _ {D : Type 0} (g : Ghosts D) (turns size : ℕ) (d : Device) (k : Kept M
     here = record { wrote = turned.seen; represents = represents; is = is }
 
     -- so far, whatever comes behind
-    some_turns : (F : Type 0) (ss : List Exchange) (more : Option (List ℕ))
+    some_turns : (ss : List Exchange) (more : Option (List ℕ))
         → ((image : Image)
-        → SameBut (IsOfChange g.is_modelled F d' k' (g.seen mid 4) (Merge turns)) (g.seen mid) image
-        → WrittenInTurn g.is_modelled F turns size d' k' (g.seen mid) ss more image)
+        → SameBut (IsOfChange g.is_modelled d' k' (g.seen mid 4) (Merge turns)) (g.seen mid) image
+        → WrittenInTurn g.is_modelled turns size d' k' (g.seen mid) ss more image)
         → IsAtRest g old
         → Adds g.moment g.outcomes old now
-        (λ o. WrittenInTurn g.is_modelled F turns size d k (g.seen old) (so_far.done ++ ss) more
+        (λ o. WrittenInTurn g.is_modelled turns size d k (g.seen old) (so_far.done ++ ss) more
         o.image)
-    some_turns F ss more first rest =
-        let M : Type 0 = g.is_modelled in
-        adds_on g.moment g.outcomes old mid now _ _
-        (adds_wider g.moment g.outcomes old mid _ _ (so_far.time rest ss more)
-        (λ o is.
-        written_wider M ⊥ F turns size d k (g.seen old) (so_far.done ++ ss) more
-        o.image (λ none. absurd none) is))
+    some_turns ss more first rest =
+        adds_on g.moment g.outcomes old mid now _ _ (so_far.time rest ss more)
         (turned.time (so_far.rests rest))
         (λ o some.
-        written_behind M turns size F d k (g.seen old) so_far.done d' k' (g.seen mid) ss
-        more o.image so_far.carried
-        (first o.image
-        (same_wider (IsOfChange M ⊥ d' k' (g.seen mid 4) (Merge turns))
-        (IsOfChange M F d' k' (g.seen mid 4) (Merge turns)) (g.seen mid) o.image
-        (change_wider M ⊥ F d' k' (g.seen mid 4) (Merge turns) (λ none. absurd none)) some)))
+        written_behind g.is_modelled turns size d k (g.seen old) so_far.done d' k' (g.seen mid) ss
+        more o.image so_far.carried (first o.image some))
 
     -- the packet is answered, as far as it goes
-    pub written_last : (F : Type 0) (before command : List ℕ) (new : D)
+    pub written_last : (before command : List ℕ) (new : D)
         → left ≡ packet command ++ before
-        → WritesPacket g F next kept command now new
-        → WritesInTurn g F turns size d k bytes old new
-    written_last F before command new there wrote =
+        → WritesPacket g next kept command now new
+        → WritesInTurn g turns size d k bytes old new
+    written_last before command new there wrote =
         let M : Type 0 = g.is_modelled in
         let all : so_far.done ++ [] ≡ so_far.done = append-nil so_far.done in
         let behind : (image : Image)
-        → SameBut (IsOfPacket M F next kept (g.seen now 4) command) (g.seen now) image
-        → WrittenInTurn M F turns size d k (g.seen old) (so_far.done ++ []) (Some command) image =
+        → SameBut (IsOfPacket M next kept (g.seen now 4) command) (g.seen now) image
+        → WrittenInTurn M turns size d k (g.seen old) (so_far.done ++ []) (Some command) image =
         λ image some.
-        written_behind M turns size F d k (g.seen old) so_far.done d' k' (g.seen mid) []
+        written_behind M turns size d k (g.seen old) so_far.done d' k' (g.seen mid) []
         (Some command) image so_far.carried
         (inr (next, g.seen now, turned.seen, represents, is, some)) in
         record {
@@ -515,7 +392,7 @@ module _ {D : Type 0} (g : Ghosts D) (turns size : ℕ) (d : Device) (k : Kept M
           seen = behind (g.seen new) wrote.seen;
           time = λ rest.
               adds_on g.moment g.outcomes old now new _ _
-              (some_turns F [] (Some command) (λ image some. inl some) rest)
+              (some_turns [] (Some command) (λ image some. inl some) rest)
               (wrote.time (rests (so_far.rests rest)))
               (λ o some. behind o.image some);
         }
@@ -524,7 +401,7 @@ module _ {D : Type 0} (g : Ghosts D) (turns size : ℕ) (d : Device) (k : Kept M
     pub written_more : (d'' : Device) (k'' : Kept Mounted) (after : List ℕ) (s : Exchange) (new : D)
         → IsExchange s
         → left ≡ spelled s ++ after
-        → WritesPacket g ⊥ next kept s.command now new
+        → WritesPacket g next kept s.command now new
         → Represents d'' size (g.seen new)
         → mounted_on d'' (g.seen new) ≡ k''.now
         → k'' ≡ (item_behind (machine turns) k' s).last
@@ -551,19 +428,19 @@ module _ {D : Type 0} (g : Ghosts D) (turns size : ℕ) (d : Device) (k : Kept M
           subst
           (λ (l : List Exchange).
           Adds g.moment g.outcomes old new
-          (λ o. WrittenInTurn g.is_modelled ⊥ turns size d k (g.seen old) l more o.image))
+          (λ o. WrittenInTurn g.is_modelled turns size d k (g.seen old) l more o.image))
           (sym (append_assoc so_far.done (s ∷ []) ss))
           (adds_on g.moment g.outcomes old now new _ _
-          (some_turns ⊥ (s ∷ ss) more (λ image some. inl some) rest)
+          (some_turns (s ∷ ss) more (λ image some. inl some) rest)
           (wrote.time (rests (so_far.rests rest)))
           (λ o some.
-          written_behind g.is_modelled turns size ⊥ d k (g.seen old) so_far.done d' k' (g.seen mid)
+          written_behind g.is_modelled turns size d k (g.seen old) so_far.done d' k' (g.seen mid)
           (s ∷ ss) more o.image so_far.carried
           (inr (next, g.seen now, turned.seen, represents, is, inl some))));
     }
 
 -- the same from before the greeting and the hello
-pub written_before : {D : Type 0} (g : Ghosts D) (F : Type 0) (turns size n : ℕ) (d : Device)
+pub written_before : {D : Type 0} (g : Ghosts D) (turns size n : ℕ) (d : Device)
     (bytes rest : List ℕ) (old mid now : D)
     → n ≡ size
     → rest ≡ bytes
@@ -571,20 +448,20 @@ pub written_before : {D : Type 0} (g : Ghosts D) (F : Type 0) (turns size n : �
     → (IsAtRest g old → IsAtRest g mid)
     → (IsAtRest g old
     → Adds g.moment g.outcomes old mid (λ o. o.image ≡ g.seen old))
-    → WritesInTurn g F turns n d (nothing_staged (mounted_on d (g.seen mid))) rest mid now
-    → WritesInTurn g F turns size d (nothing_staged (mounted_on d (g.seen old))) bytes old now
-written_before g F turns size n d bytes rest old mid now sized same seen rests time is =
+    → WritesInTurn g turns n d (nothing_staged (mounted_on d (g.seen mid))) rest mid now
+    → WritesInTurn g turns size d (nothing_staged (mounted_on d (g.seen old))) bytes old now
+written_before g turns size n d bytes rest old mid now sized same seen rests time is =
     let M : Type 0 = g.is_modelled in
     let moved : (image : Image)
-    → WrittenInTurn M F turns n d (nothing_staged (mounted_on d (g.seen mid))) (g.seen mid) is.done
+    → WrittenInTurn M turns n d (nothing_staged (mounted_on d (g.seen mid))) (g.seen mid) is.done
     is.more image
-    → WrittenInTurn M F turns size d (nothing_staged (mounted_on d (g.seen old))) (g.seen old)
+    → WrittenInTurn M turns size d (nothing_staged (mounted_on d (g.seen old))) (g.seen old)
     is.done
     is.more image =
     λ image w.
     subst
     (λ (x : ℕ × Image).
-    WrittenInTurn M F turns x.0 d (nothing_staged (mounted_on d x.1)) x.1 is.done is.more image)
+    WrittenInTurn M turns x.0 d (nothing_staged (mounted_on d x.1)) x.1 is.done is.more image)
     (λ i. (sized i, seen i)) w in
     record {
       done = is.done;
@@ -599,34 +476,34 @@ written_before g F turns size n d bytes rest old mid now sized same seen rests t
           (λ o same.
           subst
           (λ (image : Image).
-          WrittenInTurn M F turns size d (nothing_staged (mounted_on d (g.seen old))) (g.seen old)
+          WrittenInTurn M turns size d (nothing_staged (mounted_on d (g.seen old))) (g.seen old)
           is.done is.more image)
           (sym same)
-          (written_still M turns size F d (nothing_staged (mounted_on d (g.seen old))) (g.seen old)
+          (written_still M turns size d (nothing_staged (mounted_on d (g.seen old))) (g.seen old)
           is.done is.more)))
           (is.time (rests rest))
           (λ o w. moved o.image w);
     }
 
 -- nothing is written at all
-pub written_nothing : {D : Type 0} (g : Ghosts D) (F : Type 0) (turns size : ℕ) (d : Device)
+pub written_nothing : {D : Type 0} (g : Ghosts D) (turns size : ℕ) (d : Device)
     (k : Kept Mounted) (bytes : List ℕ) (old new : D)
     → g.seen new ≡ g.seen old
     → (IsAtRest g old
     → Adds g.moment g.outcomes old new (λ o. o.image ≡ g.seen old))
-    → WritesInTurn g F turns size d k bytes old new
-written_nothing g F turns size d k bytes old new same time = record {
+    → WritesInTurn g turns size d k bytes old new
+written_nothing g turns size d k bytes old new same time = record {
   done = [];
   more = None;
   after = bytes;
   are = tt;
   is = refl;
-  seen = same_all g (IsOfChange g.is_modelled F d k (g.seen old 4) (Merge turns)) (g.seen old)
+  seen = same_all g (IsOfChange g.is_modelled d k (g.seen old 4) (Merge turns)) (g.seen old)
       (g.seen new) same;
   time = λ rest.
       adds_wider g.moment g.outcomes old new _ _ (time rest)
       (λ o same.
-      same_all g (IsOfChange g.is_modelled F d k (g.seen old 4) (Merge turns)) (g.seen old) o.image
+      same_all g (IsOfChange g.is_modelled d k (g.seen old 4) (Merge turns)) (g.seen old) o.image
       same);
 }
 
@@ -651,17 +528,11 @@ exchange_here left before after command s is same behind =
     ∙ (λ i. packet (sym same i) ++ behind i)
     ∙ sym (append_assoc (packet s.command) (flat_map packet s.parts) after)
 
--- what is written of a packet, by another name and with another fault
-pub packet_by : {D : Type 0} (g : Ghosts D) (F G : Type 0) (d : Device) (k : Kept Mounted)
+-- what is written of a packet, by another name
+pub packet_by : {D : Type 0} (g : Ghosts D) (d : Device) (k : Kept Mounted)
     (command named : List ℕ) (old new : D)
     → command ≡ named
-    → (F → G)
-    → WritesPacket g F d k command old new
-    → WritesPacket g G d k named old new
-packet_by g F G d k command named old new same f wrote =
-    subst (λ (l : List ℕ). WritesPacket g G d k l old new) same
-    (writes_as g _ _ old new
-    (λ s b is.
-    asked_wider g.is_modelled F G d k (g.seen old 4) (command_asked d (request_of command)) s b f
-    is)
-    wrote)
+    → WritesPacket g d k command old new
+    → WritesPacket g d k named old new
+packet_by g d k command named old new same wrote =
+    subst (λ (l : List ℕ). WritesPacket g d k l old new) same wrote

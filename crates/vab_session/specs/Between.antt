@@ -1,5 +1,5 @@
 -- What a session does by itself between two packets.
-use Rattle.std.specs.Prelude.{◌≡◌, ℕ, List, Option, IfOk, OnOk, OnErr, Err, MatchResult, Result}
+use Rattle.std.specs.Prelude.{◌≡◌, ℕ, List, Option, IfOk, OnOk, OnErr, Err, Result}
 use Rattle.vab_disk.specs.declared.disk.Disk.{Ghosts}
 use Rattle.vab_disk.specs.Calls.{IsAtRest, IsQuiet}
 use Rattle.vab_model.specs.Commands.{Merge}
@@ -38,14 +38,10 @@ pub record GoesOn {D : Type 0}
       (turns_between turns (mounted_on kept.device (g.seen old)))
       (mounted_on kept.device (g.seen old)) old new
   pub changes : g.is_modelled → ChangesBy g kept.device (turns ≡ 0) old new
-  pub writes : g.is_modelled → MatchResult result
-      (λ k. WritesAs g
-      (IsOfChange g.is_modelled ⊥ kept.device (kept_on kept (g.seen old)) (g.seen old 4)
+  pub writes : g.is_modelled
+      → WritesAs g
+      (IsOfChange g.is_modelled kept.device (kept_on kept (g.seen old)) (g.seen old 4)
       (Merge turns))
-      old new)
-      (λ fault. WritesAs g
-      (IsOfChange g.is_modelled (Unit {0}) kept.device (kept_on kept (g.seen old)) (g.seen old 4)
-      (Merge turns))
-      old new)
+      old new
   pub fault : OnErr result (result ≡ Err Disk)
   pub cause : HasCause g old new result

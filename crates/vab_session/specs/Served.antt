@@ -1,7 +1,7 @@
 -- How a session over a device ends, and what it leaves.
 use Rattle.std.specs.Prelude.{◌≡◌, ◌⊎◌, ℕ, List, Option, Some, None, Result, Ok, Err, MatchResult}
 use Rattle.std.specs.Prelude.{option_map}
-use Rattle.vab_disk.specs.Disk.{Image, NoFewer, Rose}
+use Rattle.vab_disk.specs.Disk.{Image, NoFewer, DiskFailed, SinkFailed, SourceFailed}
 use Rattle.vab_disk.specs.declared.disk.Disk.{Ghosts}
 use Rattle.vab_device.specs.declared.device.Device.{Device}
 use Rattle.vab_device.specs.Mounted.{Mounted, mounted_on}
@@ -129,14 +129,14 @@ module _ {D : Type 0} (size : ℕ) (g : Ghosts D) where
       (Held result) (Says result) (reached result (g.seen new))
       most (nothing_staged (mounted_on d (g.seen old))) old new
 
--- A fault of the disk, the source or the sink comes only where its count rose. With any other
--- answer the counts are as they were.
+-- A fault of the disk, the source or the sink comes only where one call of it failed, and no other
+-- call did. With any other answer the counts are as they were.
 pub record HasCause {D A : Type 0}
     (g : Ghosts D)
     (old new : D)
     (result : Result A SessionFault) : Type 0 where
   pub counts : NoFewer (g.faults old) (g.faults new)
   pub steady : Held result → g.faults new ≡ g.faults old
-  pub disk : result ≡ Err Disk → Rose (g.faults old).disk (g.faults new).disk
-  pub source : result ≡ Err Source → Rose (g.faults old).source (g.faults new).source
-  pub sink : result ≡ Err Sink → Rose (g.faults old).sink (g.faults new).sink
+  pub disk : result ≡ Err Disk → DiskFailed (g.faults old) (g.faults new)
+  pub source : result ≡ Err Source → SourceFailed (g.faults old) (g.faults new)
+  pub sink : result ≡ Err Sink → SinkFailed (g.faults old) (g.faults new)

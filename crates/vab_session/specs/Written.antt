@@ -30,10 +30,10 @@ command_asked d (Ok (Getvar variable)) = None
 command_asked d (Ok (Download size)) = None
 command_asked d (Err bad) = None
 
-module _ (is_modelled Failed : Type 0) where
+module _ (is_modelled : Type 0) where
   -- What a command writes on the device that it comes to, where boot control's sector has these
   -- bytes. One that doesn't change the device, as a question or one that is refused, writes
-  -- nothing, unless the disk has failed.
+  -- nothing.
   pub record IsOfChange
       (d : Device)
       (k : Kept Mounted)
@@ -41,7 +41,7 @@ module _ (is_modelled Failed : Type 0) where
       (c : Command)
       (s : ℕ)
       (bytes : List ℕ) : Type 0 where
-    pub changes : Failed ⊎ ((effect_on k.now k.staged c).later ≢ [])
+    pub changes : (effect_on k.now k.staged c).later ≢ []
     pub writes : IsOfCommand is_modelled d old c s bytes
 
   -- the same, where there is a command
@@ -61,22 +61,22 @@ module _ (is_modelled Failed : Type 0) where
 
 -- Some of what is written first is written, and nothing else; or all of it, which leaves the next
 -- device, and then what is written from there on.
-abbrev pub WrittenThen : (Part Whole : ℕ → List ℕ → Type 0)
+abbrev pub WrittenThen : (W : ℕ → List ℕ → Type 0)
     → ℕ
     → (next : Mounted)
     → (Then : Device → Image → Type 0)
     → (old image : Image)
     → Type 0
-WrittenThen Part Whole size next Then old image =
-    SameBut Part old image
+WrittenThen W size next Then old image =
+    SameBut W old image
     ⊎ ((d : Device)
     × (mid : Image)
-    × SameBut Whole old mid
+    × SameBut W old mid
     × Represents d size mid
     × (mounted_on d mid ≡ next)
     × Then d mid)
 
-module _ (is_modelled Failed : Type 0) (turns size : ℕ) where
+module _ (is_modelled : Type 0) (turns size : ℕ) where
   -- the turns of a merge that are made before a packet is heard, and then what is written of it
   abbrev pub PassedThen : Device
       → Kept Mounted
@@ -84,9 +84,8 @@ module _ (is_modelled Failed : Type 0) (turns size : ℕ) where
       → (old image : Image)
       → Type 0
   PassedThen d k Then old image =
-      WrittenThen (IsOfChange is_modelled Failed d k (old 4) (Merge turns))
-      (IsOfChange is_modelled ⊥ d k (old 4) (Merge turns))
-      size (passed (machine turns) k).now Then old image
+      WrittenThen (IsOfChange is_modelled d k (old 4) (Merge turns)) size
+      (passed (machine turns) k).now Then old image
 
   -- A disk behind some exchanges, one behind the other, from a device that is kept, and behind one
   -- packet more: each exchange that is done has written what the turns of a merge in front of it
@@ -100,20 +99,17 @@ module _ (is_modelled Failed : Type 0) (turns size : ℕ) where
       → Image
       → Type 0
   WrittenInTurn d k old [] None image =
-      SameBut (IsOfChange is_modelled Failed d k (old 4) (Merge turns)) old image
+      SameBut (IsOfChange is_modelled d k (old 4) (Merge turns)) old image
   WrittenInTurn d k old [] (Some command) image =
       PassedThen d k
       (λ d' mid.
-      SameBut (IsOfPacket is_modelled Failed d' (passed (machine turns) k) (mid 4) command)
-      mid image)
+      SameBut (IsOfPacket is_modelled d' (passed (machine turns) k) (mid 4) command) mid image)
       old image
   WrittenInTurn d k old (s ∷ ss) more image =
       PassedThen d k
       (λ d' mid.
-      WrittenThen
-      (IsOfPacket is_modelled Failed d' (passed (machine turns) k) (mid 4) s.command)
-      (IsOfPacket is_modelled ⊥ d' (passed (machine turns) k) (mid 4) s.command)
-      size (item_behind (machine turns) k s).last.now
+      WrittenThen (IsOfPacket is_modelled d' (passed (machine turns) k) (mid 4) s.command) size
+      (item_behind (machine turns) k s).last.now
       (λ d'' mid'.
       WrittenInTurn d'' (item_behind (machine turns) k s).last mid' ss more image)
       mid image)
@@ -129,7 +125,6 @@ spelled_one (Some command) = packet command
 -- where nothing was pending.
 pub record WritesInTurn {D : Type 0}
     (g : Ghosts D)
-    (Failed : Type 0)
     (turns size : ℕ)
     (d : Device)
     (k : Kept Mounted)
@@ -140,10 +135,10 @@ pub record WritesInTurn {D : Type 0}
   pub after : List ℕ
   pub are : AreExchanges done
   pub is : bytes ≡ flat_map spelled done ++ (spelled_one more ++ after)
-  pub seen : WrittenInTurn g.is_modelled Failed turns size d k (g.seen old) done more (g.seen new)
+  pub seen : WrittenInTurn g.is_modelled turns size d k (g.seen old) done more (g.seen new)
   pub time : IsAtRest g old
       → Adds g.moment g.outcomes old new
-      (λ o. WrittenInTurn g.is_modelled Failed turns size d k (g.seen old) done more o.image)
+      (λ o. WrittenInTurn g.is_modelled turns size d k (g.seen old) done more o.image)
 
 -- Such sectors are written, and no others; the same in each outcome since.
 pub record WritesAs {D : Type 0}
@@ -157,11 +152,10 @@ pub record WritesAs {D : Type 0}
 -- what answering a packet writes
 abbrev pub WritesPacket : {D : Type 0}
     → Ghosts D
-    → Type 0
     → Device
     → Kept Mounted
     → List ℕ
     → (old new : D)
     → Type 0
-WritesPacket g Failed d k command old new =
-    WritesAs g (IsOfPacket g.is_modelled Failed d k (g.seen old 4) command) old new
+WritesPacket g d k command old new =
+    WritesAs g (IsOfPacket g.is_modelled d k (g.seen old 4) command) old new

@@ -1,6 +1,6 @@
 //! One exchange: what it changes, and then its reply.
 ghost use Rattle.std.specs.Prelude.{◌≡◌, ◌≤◌, ℕ, List, length, OnOk, IfOk, Ok, MatchOption};
-ghost use Rattle.std.specs.Prelude.{Result, option_map, false, IsErrOf};
+ghost use Rattle.std.specs.Prelude.{Result, option_map, false};
 ghost use Rattle.vab_fbtcp.specs.declared.event.Place.TheVariants.{Length};
 ghost use Rattle.vab_device.specs.Kept.{IsDevice};
 ghost use Rattle.vab_device.specs.Reading.{Represents};
@@ -133,8 +133,8 @@ fn carry_out<P: Port>(
         → HasBothCopies (P.size p.old) (P.seen p.new) }
     ensures writes { P.is_modelled
         → WritesAs P.Disk
-        (IsOfChange P.is_modelled (IsErrOf result SessionFault.Disk) kept.device
-        (kept_on kept (P.seen p.old)) (P.seen p.old 4) (command_of command.now))
+        (IsOfChange P.is_modelled kept.device (kept_on kept (P.seen p.old)) (P.seen p.old 4)
+        (command_of command.now))
         p.old p.new }
     ensures cause { HasCause P.Disk p.old p.new result }
 {
@@ -178,10 +178,9 @@ fn command<P: Port>(
     ensures copies { P.is_modelled
         → Held result
         → HasBothCopies (P.size p.old) (P.seen p.new) }
-    // What is written is what its command writes, where it changes the device, or the disk failed.
+    // What is written is what its command writes, where it changes the device.
     ensures writes { P.is_modelled
-        → WritesPacket P.Disk (IsErrOf result SessionFault.Disk) kept.device
-        (kept_on kept (P.seen p.old)) packet.now p.old p.new }
+        → WritesPacket P.Disk kept.device (kept_on kept (P.seen p.old)) packet.now p.old p.new }
     ensures cause { HasCause P.Disk p.old p.new result }
 {
     match read_command(packet) {
@@ -342,10 +341,9 @@ pub(crate) fn answer<P: Port>(
     ensures copies { P.is_modelled
         → Held result
         → HasBothCopies (P.size p.old) (P.seen p.new) }
-    // What is written is what its command writes, where it changes the device, or the disk failed.
+    // What is written is what its command writes, where it changes the device.
     ensures writes { P.is_modelled
-        → WritesPacket P.Disk (IsErrOf result SessionFault.Disk) kept.device
-        (kept_on kept (P.seen p.old)) packet.now p.old p.new }
+        → WritesPacket P.Disk kept.device (kept_on kept (P.seen p.old)) packet.now p.old p.new }
     ensures cause { HasCause P.Disk p.old p.new result }
 {
     match announced(packet) {

@@ -1,6 +1,6 @@
 //! The session: a greeting, a hello, and then exchange after exchange.
 ghost use Rattle.std.specs.Prelude.{◌≡◌, ◌<◌, ◌++◌, ◌^◌, ℕ, List, slice_index, codes, IfOk, OnOk};
-ghost use Rattle.std.specs.Prelude.{IsErrOf, take, drop};
+ghost use Rattle.std.specs.Prelude.{take, drop};
 ghost use Rattle.vab_fbtcp.specs.declared.event.Place.TheVariants.{Length};
 ghost use Rattle.vab_device.specs.Kept.{IsDevice};
 ghost use Rattle.vab_device.specs.Mounted.{mounted_on};
@@ -76,7 +76,7 @@ fn answer_all<P: Port>(
     ensures writes { P.is_modelled
         → (told : List ℕ)
         → P.told p.old ≡ told ++ codes "FB01"
-        → WritesInTurn P.Disk (IsErrOf result SessionFault.Disk) turns (P.size p.old) kept.device
+        → WritesInTurn P.Disk turns (P.size p.old) kept.device
         (kept_on kept (P.seen p.old)) (rest_of reader.old (P.input_left p.old)) p.old p.new }
     ensures cause { HasCause P.Disk p.old p.new result }
 {
@@ -127,10 +127,10 @@ fn hold_session<P: Port>(
         → Held result
         → HasBothCopies (P.size p.old) (P.seen p.new) }
     // The packets behind the hello write in turn: one that changes the device what its command
-    // writes there, and each other nothing, unless the disk failed. In front of each, and behind
+    // writes there, and each other nothing, also where the disk fails. In front of each, and behind
     // the last, they are the turns of a merge.
     ensures writes { P.is_modelled
-        → WritesInTurn P.Disk (IsErrOf result SessionFault.Disk) turns (P.size p.old) device
+        → WritesInTurn P.Disk turns (P.size p.old) device
         (nothing_staged (mounted_on device (P.seen p.old)))
         (drop 4 (take most (P.input_left p.old))) p.old p.new }
     ensures cause { HasCause P.Disk p.old p.new result }
@@ -181,9 +181,9 @@ pub fn serve_up_to<P: Port>(
         → Held result
         → HasBothCopies (P.size p.old) (P.seen p.new) }
     // The packets behind the hello write in turn: one that changes the device what its command
-    // writes there, and each other nothing, unless the disk failed.
+    // writes there, and each other nothing, also where the disk fails.
     ensures writes { P.is_modelled
-        → WritesInTurn P.Disk (IsErrOf result SessionFault.Disk) 0 (P.size p.old) device
+        → WritesInTurn P.Disk 0 (P.size p.old) device
         (nothing_staged (mounted_on device (P.seen p.old)))
         (drop 4 (take most (P.input_left p.old))) p.old p.new }
     ensures cause { HasCause P.Disk p.old p.new result }
@@ -216,10 +216,10 @@ pub fn serve_with<P: Port>(
         → Held result
         → HasBothCopies (P.size p.old) (P.seen p.new) }
     // The packets behind the hello write in turn: one that changes the device what its command
-    // writes there, and each other nothing, unless the disk failed. In front of each, and behind
+    // writes there, and each other nothing, also where the disk fails. In front of each, and behind
     // the last, they are the turns of a merge.
     ensures writes { P.is_modelled
-        → WritesInTurn P.Disk (IsErrOf result SessionFault.Disk) turns (P.size p.old) device
+        → WritesInTurn P.Disk turns (P.size p.old) device
         (nothing_staged (mounted_on device (P.seen p.old)))
         (drop 4 (take (2 ^ 44) (P.input_left p.old))) p.old p.new }
     ensures cause { HasCause P.Disk p.old p.new result }
@@ -248,9 +248,9 @@ pub fn serve<P: Port>(
         → Held result
         → HasBothCopies (P.size p.old) (P.seen p.new) }
     // The packets behind the hello write in turn: one that changes the device what its command
-    // writes there, and each other nothing, unless the disk failed.
+    // writes there, and each other nothing, also where the disk fails.
     ensures writes { P.is_modelled
-        → WritesInTurn P.Disk (IsErrOf result SessionFault.Disk) 0 (P.size p.old) device
+        → WritesInTurn P.Disk 0 (P.size p.old) device
         (nothing_staged (mounted_on device (P.seen p.old)))
         (drop 4 (take (2 ^ 44) (P.input_left p.old))) p.old p.new }
     ensures cause { HasCause P.Disk p.old p.new result }

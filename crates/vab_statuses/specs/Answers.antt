@@ -1,6 +1,6 @@
 -- What a reading of statuses answers.
 use Rattle.std.specs.Prelude.{◌≡◌, ℕ, Result, Ok, Err}
-use Rattle.vab_disk.specs.Disk.{Rose}
+use Rattle.vab_disk.specs.Disk.{DiskFailed}
 use Rattle.vab_disk.specs.declared.disk.Disk.{Ghosts}
 use Rattle.vab_statuses.specs.declared.fault.StatusFault.{StatusFault}
 use Rattle.vab_statuses.specs.declared.fault.StatusFault.TheVariants.{Bad, Disk}
@@ -10,8 +10,8 @@ abbrev pub TellsBad : {X : Type 0} → Result X ℕ → StatusFault → Type 0
 TellsBad means (Bad at) = means ≡ Err at
 TellsBad means (Disk fault) = Unit {0}
 
--- A fault of the disk comes where the count of the disk's faults rose. Any other answer leaves all
--- counts as they were.
+-- A fault of the disk comes where one call of the disk failed. Any other answer leaves all counts
+-- as they were.
 abbrev pub CountsFaults : {D X : Type 0}
     → Ghosts D
     → D
@@ -20,4 +20,4 @@ abbrev pub CountsFaults : {D X : Type 0}
     → Type 0
 CountsFaults g old new (Ok x) = g.faults new ≡ g.faults old
 CountsFaults g old new (Err (Bad at)) = g.faults new ≡ g.faults old
-CountsFaults g old new (Err (Disk fault)) = Rose (g.faults old).disk (g.faults new).disk
+CountsFaults g old new (Err (Disk fault)) = DiskFailed (g.faults old) (g.faults new)

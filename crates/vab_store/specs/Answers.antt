@@ -1,6 +1,6 @@
 -- What a reading of a store answers.
 use Rattle.std.specs.Prelude.{◌≡◌, List, Result, Ok, Err}
-use Rattle.vab_disk.specs.Disk.{Rose}
+use Rattle.vab_disk.specs.Disk.{DiskFailed}
 use Rattle.vab_disk.specs.declared.disk.Disk.{Ghosts}
 use Rattle.vab_exceptions.specs.declared.area.Exception.{Exception}
 use Rattle.vab_store.specs.declared.fault.StoreFault.{StoreFault}
@@ -17,7 +17,7 @@ Answers (Err (faults.BadChunk j)) means = means ≡ Err (faults.BadChunk j)
 Answers (Err (faults.Repeated j k)) means = means ≡ Err (faults.Repeated j k)
 Answers (Err faults.Unended) means = means ≡ Err faults.Unended
 
--- A disk fault comes where the count of the disk's faults rose. Any other answer leaves all counts.
+-- A disk fault comes where one call of the disk failed. Any other answer leaves all counts.
 abbrev pub ReadsStore : {D X : Type 0}
     → Ghosts D
     → D
@@ -25,7 +25,7 @@ abbrev pub ReadsStore : {D X : Type 0}
     → Result X StoreFault
     → Type 0
 ReadsStore g old new (Ok es) = g.faults new ≡ g.faults old
-ReadsStore g old new (Err faults.DiskFault) = Rose (g.faults old).disk (g.faults new).disk
+ReadsStore g old new (Err faults.DiskFault) = DiskFailed (g.faults old) (g.faults new)
 ReadsStore g old new (Err faults.NoMemory) = g.faults new ≡ g.faults old
 ReadsStore g old new (Err (faults.Header fault)) = g.faults new ≡ g.faults old
 ReadsStore g old new (Err (faults.BadChunk j)) = g.faults new ≡ g.faults old

@@ -62,7 +62,8 @@ use Rattle.vab_device.proofs.StayLaws.{one_of}
 use Rattle.vab_edit.proofs.PlanLaws.{map_among, map_map}
 use Rattle.vab_marks.specs.declared.mark.UpdateMark.{UpdateMark}
 use Rattle.vab_marks.specs.Mark.{rephased, resloted}
-use Rattle.vab_targets.specs.Plans.{HasWholeSectors, with_plan, begin_of, BeginKeepsImages}
+use Rattle.vab_targets.specs.Sectors.{HasWholeSectors}
+use Rattle.vab_targets.proofs.Plans.{with_plan, begin_of, BeginKeepsImages}
 use Rattle.vab_targets.proofs.Sectors.{blocks_long, table_rules, IsRead}
 use Rattle.vab_targets.proofs.Entries.{size_absent, own_is, no_store}
 use Rattle.vab_targets.proofs.Installed.{IsReadAs, none_named}

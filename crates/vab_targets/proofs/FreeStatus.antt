@@ -54,11 +54,13 @@ use Rattle.vab_device.specs.Phases.{phase_in, twin_check, own_check, target_chec
 use Rattle.vab_device.specs.Phases.{no_store_check}
 use Rattle.vab_device.specs.Phases.{planned_image, planned_on, plan_of}
 use Rattle.vab_device.specs.Reading.{Read, kept, version_at, most_at, statuses_read, statuses_at}
-use Rattle.vab_device.specs.Updates.{effect_on, flash_effect, entry_effect, placed_effect}
-use Rattle.vab_device.specs.Updates.{unwritten_effect, staged_effect, in_store, in_place}
+use Rattle.vab_device.specs.Flashed.{flash_effect, entry_effect, placed_effect, unwritten_effect}
+use Rattle.vab_device.specs.Flashed.{staged_effect, in_store, in_place}
+use Rattle.vab_device.specs.Updates.{effect_on}
 use Rattle.vab_device.proofs.CheckLaws.{first_kept}
 use Rattle.vab_device.proofs.NamedParts.{named_in}
 use Rattle.vab_device.proofs.ReadingLaws.{device_was}
+use Rattle.vab_device.proofs.FlashedLaws.{flash_by_blocks}
 use Rattle.vab_marks.specs.declared.mark.UpdateMark.{UpdateMark}
 use Rattle.vab_targets.specs.Statuses.{FlashFindsFree}
 use Rattle.vab_flash.proofs.FewLaws.{IsNamed, named_in_list, few_names}
@@ -404,9 +406,11 @@ flash_finds_free size image m staged name chunk is done =
     let was = device_was size image m is in
     let r : Read = was.read in
     let d : Device = kept r in
-    let there : (effect_on (mounted_on d image) staged (Flash name chunk)).reply ≡ replies.Done =
-    subst (λ (x : Mounted). (effect_on x staged (Flash name chunk)).reply ≡ replies.Done) was.is
-    done in
+    let now : Mounted = mounted_on d image in
+    let there : (flash_effect now staged name chunk now.state.phase).reply ≡ replies.Done =
+    subst (λ (e : Effect Mounted). e.reply ≡ replies.Done) (flash_by_blocks now staged name chunk)
+    (subst (λ (x : Mounted). (effect_on x staged (Flash name chunk)).reply ≡ replies.Done) was.is
+    done) in
     by_phase r.mark r.statuses r.scanned image (mounted_on d image) staged name chunk
     r.mark.phase r.tables (count_at d.a + count_at d.b) was.reads.parts was.reads.statuses
     was.reads.stores there

@@ -57,7 +57,7 @@ use Rattle.vab_edit.proofs.NamedLaws.{base_eq, first_own}
 use Rattle.vab_edit.proofs.PlanLaws.{map_among, map_map}
 use Rattle.vab_marks.specs.declared.mark.UpdateMark.{UpdateMark}
 use Rattle.vab_marks.specs.Mark.{rephased}
-use Rattle.vab_targets.specs.Plans.{HasWholeSectors}
+use Rattle.vab_targets.specs.Sectors.{HasWholeSectors}
 use Rattle.vab_targets.proofs.Entries.{store_length}
 use Rattle.vab_targets.proofs.Named.{first_entry}
 use Rattle.vab_targets.proofs.Scans.{storeless_unread}

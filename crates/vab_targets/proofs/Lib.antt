@@ -1,4 +1,5 @@
 mod ApartLaws
+pub mod Plans
 mod FirstFree
 mod Filled
 mod Scans

@@ -33,7 +33,7 @@ use Rattle.vab_device.specs.Kept.{copies_end, super_bytes, lies_in}
 use Rattle.vab_device.specs.Mounted.{bytes_at}
 use Rattle.vab_device.specs.Reading.{geometry_read, geometry_at, table_read, table_at}
 use Rattle.vab_device.proofs.RepairLaws.{end_of, ends_within}
-use Rattle.vab_targets.specs.Plans.{HasWholeSectors}
+use Rattle.vab_targets.specs.Sectors.{HasWholeSectors}
 
 -- ---- bytes
 

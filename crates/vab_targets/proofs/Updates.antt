@@ -39,7 +39,8 @@ use Rattle.vab_device.specs.Updates.{unless_kept, no_guard, settled_guard, store
 use Rattle.vab_device.specs.Updates.{is_settled_in, table_effect, entry_by, plan_by, refusal_of}
 use Rattle.vab_device.specs.Updates.{if_written, written_of, layout_at}
 use Rattle.vab_edit.proofs.PlainLaws.{changed_plain}
-use Rattle.vab_targets.specs.Plans.{HasWholeSectors, edited_entries, edited_plan, with_plan}
+use Rattle.vab_targets.specs.Sectors.{HasWholeSectors}
+use Rattle.vab_targets.proofs.Plans.{edited_entries, edited_plan, with_plan}
 use Rattle.vab_targets.proofs.Edits.{create_of, resize_of, delete_of, store_edit_of, group_is}
 use Rattle.vab_targets.proofs.Edits.{created_plan, resized_plan, deleted_plan, stored_plan}
 use Rattle.vab_targets.proofs.Installed.{IsInstalled, is_installed}

@@ -26,7 +26,7 @@ use Rattle.vab_device.specs.Mounted.{Mounted}
 use Rattle.vab_device.specs.Reading.{IsIn}
 use Rattle.vab_device.specs.Updates.{effect_on, finish_effect, complete_effect, final_image}
 use Rattle.vab_device.specs.Updates.{image_or, if_written, written_of, entry_by, plan_by}
-use Rattle.vab_targets.specs.Plans.{HasWholeSectors}
+use Rattle.vab_targets.specs.Sectors.{HasWholeSectors}
 use Rattle.vab_targets.specs.Written.{IsOwnImage, bytes_written, written_image}
 use Rattle.vab_targets.proofs.ApartLaws.{apart_updated}
 use Rattle.vab_targets.proofs.Installed.{IsInstalled, is_installed}

@@ -1,4 +1,4 @@
-pub mod Plans
+pub mod Sectors
 pub mod Statuses
 pub mod Apart
 pub mod Written

@@ -1,7 +1,7 @@
 // Runs over a disk that holds writes back and reads ahead, where one call of the disk below fails.
 
 ghost use Rattle.std.specs.Prelude.{◌≡◌, ◌<◌, ◌≤◌, IfOk, OnOk, OnErr};
-ghost use Rattle.vab_disk.specs.Disk.{NoFewer, Rose};
+ghost use Rattle.vab_disk.specs.Disk.{NoFewer, SinkFailed, SourceFailed};
 
 use crate::packets::{Case, session};
 use crate::runs::{ONE, port, steps_on, words};
@@ -129,8 +129,8 @@ impl<D: Disk + Drop, R: Read + Drop> Port for HeldPort<D, R> {
             ≡ ⟦<HeldPort<D, R> as Disk>⟧.faults self.old) }
         ensures kind { IsErrOf result PortFault.Sink → ⊥ }
         ensures cause { OnErr result
-            (Rose (⟦<HeldPort<D, R> as Disk>⟧.faults self.old).source
-            (⟦<HeldPort<D, R> as Disk>⟧.faults self.new).source) }
+            (SourceFailed (⟦<HeldPort<D, R> as Disk>⟧.faults self.old)
+            (⟦<HeldPort<D, R> as Disk>⟧.faults self.new)) }
     {
         match self.input.read(out) {
             Ok(count) => Ok(count),
@@ -153,8 +153,8 @@ impl<D: Disk + Drop, R: Read + Drop> Port for HeldPort<D, R> {
             ≡ ⟦<HeldPort<D, R> as Disk>⟧.faults self.old) }
         ensures kind { IsErrOf result PortFault.Source → ⊥ }
         ensures cause { OnErr result
-            (Rose (⟦<HeldPort<D, R> as Disk>⟧.faults self.old).sink
-            (⟦<HeldPort<D, R> as Disk>⟧.faults self.new).sink) }
+            (SinkFailed (⟦<HeldPort<D, R> as Disk>⟧.faults self.old)
+            (⟦<HeldPort<D, R> as Disk>⟧.faults self.new)) }
     {
         match self.told.extend_from_slice(from) {
             Ok(()) => Ok(from.len()),

@@ -2,9 +2,9 @@
 use Rattle.std.proofs.Common.{⊎_elim, ◌≡◌, ◌∙◌, ℕ, List, Result, Ok, Err, refl, sym, ap, subst}
 use Rattle.std.specs.Prelude.{IfOk, OnOk, OnErr}
 use Rattle.vab_disk.specs.declared.disk.Disk.{Ghosts}
-use Rattle.vab_disk.specs.Disk.{Image, Outcome, Rose, Adds}
+use Rattle.vab_disk.specs.Disk.{Image, Outcome, Adds, DiskFailed}
 use Rattle.vab_disk.specs.Calls.{IsAtRest, IsQuiet, Touches}
-use Rattle.vab_disk.proofs.CallLaws.{quiet_none, quiet_then, touches_none, touches_on, rose_then}
+use Rattle.vab_disk.proofs.CallLaws.{quiet_none, quiet_then, touches_none, touches_on, failed_then}
 use Rattle.vab_disk.proofs.CallLaws.{touches_wider}
 use Rattle.vab_disk.proofs.Moments.{adds_none, adds_on, adds_wider}
 use Rattle.vab_gate.specs.declared.gate.DiskFault.{DiskFault}
@@ -157,8 +157,8 @@ module _ {D : Type 0} (g : Ghosts D) where
         steady_on (Err f) e = tt
 
         cause_on : (x : Result Device DiskFault)
-            → OnErr x (Rose (g.faults mid).disk (g.faults new).disk)
-            → OnErr x (Rose (g.faults old).disk (g.faults new).disk)
-        cause_on (Ok y) rose = tt
-        cause_on (Err f) rose =
-            rose_then (g.faults old) (g.faults mid) (g.faults new) first.quiet.counts rose
+            → OnErr x (DiskFailed (g.faults mid) (g.faults new))
+            → OnErr x (DiskFailed (g.faults old) (g.faults new))
+        cause_on (Ok y) failed = tt
+        cause_on (Err f) failed =
+            failed_then (g.faults old) (g.faults mid) (g.faults new) first.faults.steady failed

@@ -6,7 +6,7 @@ use Rattle.std.proofs.lemmas.Bool.{cases_Bool}
 use Rattle.vab_disk.specs.declared.disk.Disk.{Ghosts}
 use Rattle.vab_disk.specs.Disk.{Image, Outcome, Adds}
 use Rattle.vab_disk.specs.Calls.{IsAtRest}
-use Rattle.vab_disk.proofs.CallLaws.{quiet_then, rose_then}
+use Rattle.vab_disk.proofs.CallLaws.{quiet_then, failed_then}
 use Rattle.vab_disk.proofs.Moments.{adds_on, adds_wider}
 use Rattle.vab_gate.specs.declared.gate.DiskFault.{DiskFault}
 use Rattle.vab_model.specs.declared.command.Refusal.{Refusal}
@@ -240,8 +240,8 @@ module _ {D : Type 0} (g : Ghosts D) (d next : Device) (m n : Mounted) (e f : Ef
         });
     steady = held_map r _ _ (λ same. same ∙ first.steady) second.steady;
     cause =
-        failed_map r _ _ (λ rose. rose_then (g.faults old) (g.faults mid) (g.faults new)
-        first.quiet.counts rose) second.cause;
+        failed_map r _ _ (λ failed. failed_then (g.faults old) (g.faults mid) (g.faults new)
+        first.steady failed) second.cause;
   }
 
 -- the same of another effect, where it is that one

@@ -20,12 +20,12 @@ use Rattle.vab_device.specs.Mounted.{Mounted, mounted_on}
 use Rattle.vab_device.specs.Reading.{Represents}
 use Rattle.vab_commands.specs.Writes.{IsOfCommand}
 use Rattle.vab_session.specs.Written.{IsOfChange, WritesAs}
-use Rattle.vab_session.proofs.WrittenLaws.{command_tries, command_writes}
+use Rattle.vab_session.proofs.WrittenLaws.{command_writes}
 use Rattle.vab_update.specs.declared.stop.Stop.{Stop}
 use Rattle.vab_update.specs.declared.stop.Stop.TheVariants as stops
 use Rattle.vab_update.specs.Carries.{CarriesOut}
 use Rattle.vab_update.specs.Orders.{Order, effect_all, effect_one, is_refused}
-use Rattle.vab_update.specs.Written.{CarriesOrders, HasFailed, IsOfOrder, OrdersDone}
+use Rattle.vab_update.specs.Written.{CarriesOrders, IsOfOrder, OrdersDone}
 use Rattle.vab_update.specs.Written.{OrdersWritten, WritesOrders, comes_to}
 use Rattle.vab_update.proofs.CarriesLaws as carries
 use Rattle.vab_update.proofs.OrderLaws.{after_second, effect_single, followed_refused}
@@ -33,56 +33,33 @@ use Rattle.vab_update.proofs.OrderLaws.{after_second, effect_single, followed_re
 -- ---- lists of commands
 
 module _ (M : Type 0) (size : ℕ) where
-  but_wider : (F G : Type 0) (d : Device) (old : Image) (o : Order) (image : Image)
-      → (F → G)
-      → SameBut (IsOfOrder M F d old o) old image
-      → SameBut (IsOfOrder M G d old o) old image
-  but_wider F G d old o image f is s =
-      ⊎_elim (λ same. inl same)
-      (λ wrote. inr (record {
-        changes = ⊎_elim (λ failed. inl (f failed)) (λ some. inr some) wrote.changes;
-        writes = wrote.writes;
-      }))
-      (is s)
-
-  -- a disk that may fail writes no less
-  pub written_wider : (F G : Type 0) (d : Device) (old : Image) (os : List Order) (image : Image)
-      → (F → G)
-      → OrdersWritten M F size d old os image
-      → OrdersWritten M G size d old os image
-  written_wider F G d old [] image f is = is
-  written_wider F G d old (o ∷ os) image f (inl some) =
-      inl (but_wider F G d old o image f some)
-  written_wider F G d old (o ∷ os) image f (inr (next, mid, wrote, stands, at, rest)) =
-      inr (next, mid, wrote, stands, at, written_wider F G next mid os image f rest)
-
   -- none of them is begun
-  unbegun : (F : Type 0) (d : Device) (old : Image) (os : List Order) (image : Image)
+  unbegun : (d : Device) (old : Image) (os : List Order) (image : Image)
       → image ≡ old
-      → OrdersWritten M F size d old os image
-  unbegun F d old [] image same = same
-  unbegun F d old (o ∷ os) image same = inl (λ s. inl (ap (λ (x : Image). x s) same))
+      → OrdersWritten M size d old os image
+  unbegun d old [] image same = same
+  unbegun d old (o ∷ os) image same = inl (λ s. inl (ap (λ (x : Image). x s) same))
 
   -- others follow
-  pub written_left : (F : Type 0) (d : Device) (old : Image) (xs ys : List Order) (image : Image)
-      → OrdersWritten M F size d old xs image
-      → OrdersWritten M F size d old (xs ++ ys) image
-  written_left F d old [] ys image is = unbegun F d old ys image is
-  written_left F d old (x ∷ xs) ys image (inl some) = inl some
-  written_left F d old (x ∷ xs) ys image (inr (next, mid, wrote, stands, at, rest)) =
-      inr (next, mid, wrote, stands, at, written_left F next mid xs ys image rest)
+  pub written_left : (d : Device) (old : Image) (xs ys : List Order) (image : Image)
+      → OrdersWritten M size d old xs image
+      → OrdersWritten M size d old (xs ++ ys) image
+  written_left d old [] ys image is = unbegun d old ys image is
+  written_left d old (x ∷ xs) ys image (inl some) = inl some
+  written_left d old (x ∷ xs) ys image (inr (next, mid, wrote, stands, at, rest)) =
+      inr (next, mid, wrote, stands, at, written_left next mid xs ys image rest)
 
   -- others stand before them
-  pub written_right : (F : Type 0) (d last : Device) (old mid : Image) (xs ys : List Order)
+  pub written_right : (d last : Device) (old mid : Image) (xs ys : List Order)
       (image : Image)
       → OrdersDone M size d old xs last mid
-      → OrdersWritten M F size last mid ys image
-      → OrdersWritten M F size d old (xs ++ ys) image
-  written_right F d last old mid [] ys image (same, here) is =
-      subst (λ (x : Device). OrdersWritten M F size x old ys image) same
-      (subst (λ (i : Image). OrdersWritten M F size last i ys image) here is)
-  written_right F d last old mid (x ∷ xs) ys image (next, one, wrote, stands, at, rest) is =
-      inr (next, one, wrote, stands, at, written_right F next last one mid xs ys image rest is)
+      → OrdersWritten M size last mid ys image
+      → OrdersWritten M size d old (xs ++ ys) image
+  written_right d last old mid [] ys image (same, here) is =
+      subst (λ (x : Device). OrdersWritten M size x old ys image) same
+      (subst (λ (i : Image). OrdersWritten M size last i ys image) here is)
+  written_right d last old mid (x ∷ xs) ys image (next, one, wrote, stands, at, rest) is =
+      inr (next, one, wrote, stands, at, written_right next last one mid xs ys image rest is)
 
   pub done_both : (d last end : Device) (old mid new : Image) (xs ys : List Order)
       → OrdersDone M size d old xs last mid
@@ -126,23 +103,19 @@ orders_more g d next xs ys old mid new r was first second = record {
     both : g.is_modelled → WritesOrders g d (xs ++ ys) old new r
     both t =
         let behind : (image : Image)
-        → OrdersWritten g.is_modelled (HasFailed r) (g.size mid) next (g.seen mid) ys image
-        → OrdersWritten g.is_modelled (HasFailed r) (g.size old) d (g.seen old) (xs ++ ys) image =
+        → OrdersWritten g.is_modelled (g.size mid) next (g.seen mid) ys image
+        → OrdersWritten g.is_modelled (g.size old) d (g.seen old) (xs ++ ys) image =
         λ image is.
-        written_right g.is_modelled (g.size old) (HasFailed r) d next (g.seen old) (g.seen mid) xs
-        ys image (first.writes t).done
-        (subst
-        (λ (n : ℕ). OrdersWritten g.is_modelled (HasFailed r) n next (g.seen mid) ys image) sized
-        is) in
+        written_right g.is_modelled (g.size old) d next (g.seen old) (g.seen mid) xs ys image
+        (first.writes t).done
+        (subst (λ (n : ℕ). OrdersWritten g.is_modelled n next (g.seen mid) ys image) sized is) in
         record {
           seen = behind (g.seen new) (second.writes t).seen;
           time = λ rest.
               adds_on g.moment g.outcomes old mid new _ _
               (adds_wider g.moment g.outcomes old mid _ _ ((first.writes t).time rest)
               (λ o is.
-              written_left g.is_modelled (g.size old) (HasFailed r) d (g.seen old) xs ys o.image
-              (written_wider g.is_modelled (g.size old) ⊥ (HasFailed r) d (g.seen old) xs o.image
-              (λ none. absurd none) is)))
+              written_left g.is_modelled (g.size old) d (g.seen old) xs ys o.image is))
               ((second.writes t).time (first.carries.rest t rest))
               (λ o is. behind o.image is);
           done = done_of t r (second.writes t).done;
@@ -154,17 +127,15 @@ pub orders_short : {D : Type 0} (g : Ghosts D) (d : Device) (xs ys : List Order)
     → CarriesOrders g d (xs ++ ys) old new (Err s)
 orders_short g d xs ys old new s is = record {
   carries = carries.carries_short g d xs ys old new s is.carries;
-  writes = λ t.
-      let failed : Type 0 = HasFailed {A = Device} (Err s) in
-      record {
-        seen =
-            written_left g.is_modelled (g.size old) failed d (g.seen old) xs ys (g.seen new)
-            (is.writes t).seen;
-        time = λ rest.
-            adds_wider g.moment g.outcomes old new _ _ ((is.writes t).time rest)
-            (λ o w. written_left g.is_modelled (g.size old) failed d (g.seen old) xs ys o.image w);
-        done = tt;
-      };
+  writes = λ t. record {
+    seen =
+        written_left g.is_modelled (g.size old) d (g.seen old) xs ys (g.seen new)
+        (is.writes t).seen;
+    time = λ rest.
+        adds_wider g.moment g.outcomes old new _ _ ((is.writes t).time rest)
+        (λ o w. written_left g.is_modelled (g.size old) d (g.seen old) xs ys o.image w);
+    done = tt;
+  };
 }
 
 -- ---- one command
@@ -189,28 +160,36 @@ module _ {D : Type 0} (g : Ghosts D) (d : Device) (o : Order) (staged : Option (
   Doing r = Does g d staged c (IsOfCommand g.is_modelled d (g.seen old 4) c) old new r
 
   -- as what the order writes
-  of_order : (F : Type 0)
-      → WritesAs g (IsOfChange g.is_modelled F d (record {
-        now = mounted_on d (g.seen old);
-        staged = staged;
-      }) (g.seen old 4) c) old new
-      → WritesAs g (IsOfOrder g.is_modelled F d (g.seen old) o) old new
-  of_order F is =
+  of_order : WritesAs g (IsOfChange g.is_modelled d (record {
+    now = mounted_on d (g.seen old);
+    staged = staged;
+  }) (g.seen old 4) c) old new
+      → WritesAs g (IsOfOrder g.is_modelled d (g.seen old) o) old new
+  of_order is =
       subst
       (λ (x : Command).
-      WritesAs g (IsOfChange g.is_modelled F d (comes_to d (g.seen old) o) (g.seen old 4) x) old
-      new)
+      WritesAs g (IsOfChange g.is_modelled d (comes_to d (g.seen old) o) (g.seen old 4) x) old new)
       (sym same)
       (subst
       (λ (b : Option (List ℕ)).
-      WritesAs g (IsOfChange g.is_modelled F d (record {
+      WritesAs g (IsOfChange g.is_modelled d (record {
         now = mounted_on d (g.seen old);
         staged = b;
       }) (g.seen old 4) c) old new)
       (sym bytes) is)
 
+  -- whatever comes of it
+  wrote : (r : Result (Device × Reply) DiskFault)
+      → Doing r
+      → g.is_modelled
+      → WritesAs g (IsOfOrder g.is_modelled d (g.seen old) o) old new
+  wrote r does t =
+      of_order
+      (command_writes g t d (record { now = mounted_on d (g.seen old); staged = staged }) c old
+      new refl r does)
+
   some_written : (r : Result Device Stop)
-      → WritesAs g (IsOfOrder g.is_modelled (HasFailed r) d (g.seen old) o) old new
+      → WritesAs g (IsOfOrder g.is_modelled d (g.seen old) o) old new
       → IfOk r
       (λ last. OrdersDone g.is_modelled (g.size old) d (g.seen old) (o ∷ []) last (g.seen new))
       → WritesOrders g d (o ∷ []) old new r
@@ -226,27 +205,16 @@ module _ {D : Type 0} (g : Ghosts D) (d : Device) (o : Order) (staged : Option (
       → CarriesOrders g d (o ∷ []) old new (Err (stops.Disk fault))
   order_failed fault is does = record {
     carries = is;
-    writes = λ t.
-        some_written (Err (stops.Disk fault))
-        (of_order (Unit {0})
-        (command_tries g t d (record { now = mounted_on d (g.seen old); staged = staged }) c old
-        new refl (Unit {0}) (Err fault) tt does))
-        tt;
+    writes = λ t. some_written (Err (stops.Disk fault)) (wrote (Err fault) does t) tt;
   }
 
   module _ (r : Device × Reply) (does : Doing (Ok r)) where
-    wrote : g.is_modelled → WritesAs g (IsOfOrder g.is_modelled ⊥ d (g.seen old) o) old new
-    wrote t =
-        of_order ⊥
-        (command_writes g t d (record { now = mounted_on d (g.seen old); staged = staged }) c old
-        new refl ⊥ r does)
-
     pub order_refused : (refusal : Refusal)
         → CarriesOut g d (o ∷ []) old new (Err (stops.Refused refusal))
         → CarriesOrders g d (o ∷ []) old new (Err (stops.Refused refusal))
     order_refused refusal is = record {
       carries = is;
-      writes = λ t. some_written (Err (stops.Refused refusal)) (wrote t) tt;
+      writes = λ t. some_written (Err (stops.Refused refusal)) (wrote (Ok r) does t) tt;
     }
 
     pub order_done : (last : Device)
@@ -255,10 +223,10 @@ module _ {D : Type 0} (g : Ghosts D) (d : Device) (o : Order) (staged : Option (
     order_done last is = record {
       carries = is;
       writes = λ t.
-          some_written (Ok last) (wrote t) (
+          some_written (Ok last) (wrote (Ok r) does t) (
             last,
             g.seen new,
-            (wrote t).seen,
+            (wrote (Ok r) does t).seen,
             is.represents t,
             is.after t ∙ one_after o (mounted_on d (g.seen old)),
             (refl, refl),

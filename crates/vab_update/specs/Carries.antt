@@ -1,7 +1,7 @@
 -- What is promised of commands that are carried out one after another.
 use Rattle.std.specs.Prelude.{◌≡◌, ℕ, List, Result, Ok, Err, IfOk, IfErr, OnOk}
 use Rattle.vab_disk.specs.declared.disk.Disk.{Ghosts}
-use Rattle.vab_disk.specs.Disk.{Image, Adds, Rose}
+use Rattle.vab_disk.specs.Disk.{Image, Adds, DiskFailed}
 use Rattle.vab_disk.specs.Calls.{IsAtRest, IsQuiet}
 use Rattle.vab_model.specs.declared.command.Refusal.{Refusal}
 use Rattle.vab_model.specs.declared.command.Refusal.TheVariants.{NoMemory}
@@ -84,7 +84,7 @@ pub record Carries {D : Type 0}
       → IsAtRest g old
       → Adds g.moment g.outcomes old new (LeavesStep (g.told old) (g.size old) (steps_of m e))
   pub steady : UnlessFailed result (g.faults new ≡ g.faults old)
-  pub cause : IfFailed result (Rose (g.faults old).disk (g.faults new).disk)
+  pub cause : IfFailed result (DiskFailed (g.faults old) (g.faults new))
 
 -- these commands, on the device that is kept
 abbrev pub CarriesOut : {D : Type 0}

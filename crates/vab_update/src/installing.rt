@@ -77,7 +77,7 @@ fn install_image<D: Disk>(
 /// before it are done. Where that was one of an image, `at` is the image's name, and else none.
 /// Where the device that is kept is that of the disk and nothing was pending, each outcome since is
 /// a step of one of the commands; and each command writes what it writes on the device that it came
-/// to, and nothing where it is refused, unless the disk fails.
+/// to, and nothing where it is refused, also where the disk fails.
 pub fn install<D: Disk>(
     alloc: Global,
     d: &mut D,

@@ -10,11 +10,13 @@ use Rattle.vab_model.specs.declared.command.Reply.TheVariants as replies
 use Rattle.vab_device.specs.declared.device.Device.{Device}
 use Rattle.vab_device.specs.declared.device.Part.{Part}
 use Rattle.vab_device.specs.Does.{Does}
+use Rattle.vab_disk.proofs.CallLaws.{failed_then}
 use Rattle.vab_device.proofs.DoesLaws.{dead_means, fails_dead, fails_gate, does_gate}
 use Rattle.vab_begin.specs.Kept.{with_control, with_update}
 use Rattle.vab_begin.specs.Writes.{begin_of, IsOfPlaces, IsOfBegun}
 use Rattle.vab_begin.proofs.CopiesApart.{copies_on_disk}
 use Rattle.vab_begin.proofs.BegunLaws.{begun_device, begun_kept, begin_dead, begin_step}
+use Rattle.vab_begin.proofs.BegunLaws.{begin_follows}
 use Rattle.vab_begin.proofs.WriteLaws.{target_short, target_stands, places_in, mark_in}
 use Rattle.vab_begin.proofs.beginning.begin_to.Goals as goal
 
@@ -43,7 +45,11 @@ returns-in-Err g c = λ staged.
     let within = λ (t : told).
     places_in apart d x c.requires.target text c.as_slice-text.ensures told bytes c.requires.idle in
     fails_dead g.D.Disk d staged (begin_of apart) (IsOfBegun told apart d bytes) old mid V dead
-    c.prepare_begin.ensures.touches within _ c.in-Err.ensures.faults.cause
+    c.prepare_begin.ensures.touches within _
+    (λ t.
+    begin_follows apart d size (g.D.Disk.seen old) staged x c.requires.kept c.requires.idle
+    c.requires.target)
+    c.in-Err.ensures.faults.cause
 
 pub returns-in-Err-put_mark : goal.returns-in-Err-put_mark
 returns-in-Err-put_mark g c = λ staged.
@@ -92,7 +98,7 @@ returns-in-Err-put_mark g c = λ staged.
     (λ (m : UpdateMark). Touches g.D.Disk (IsAt 2048 (mark_spelling m)) mid c.put_mark.new.d)
     c.begun-mark.ensures c.put_mark.ensures.touches)
     (mark_in apart d x c.requires.target text c.as_slice-text.ensures told bytes c.requires.idle)
-    _ c.in-Err-put_mark.ensures.faults.cause
+    _ (failed_then _ _ _ c.in-Ok.ensures.faults.steady c.in-Err-put_mark.ensures.faults.cause)
 
 pub returns-in-Ok-put_mark : goal.returns-in-Ok-put_mark
 returns-in-Ok-put_mark g c = λ staged.

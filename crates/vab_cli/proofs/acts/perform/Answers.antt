@@ -13,6 +13,9 @@ use Rattle.vab_cli.specs.Codes.{reply_status}
 use Rattle.vab_cli.specs.Telling.{Says}
 use Rattle.vab_cli.specs.Verbs.{line_behind}
 use Rattle.vab_cli.proofs.Acting.{command_broken, command_closed, command_failed, told_behind}
+use Rattle.vab_cli.proofs.ActsWritten.{writes_broken, writes_closed, writes_failed}
+use Rattle.vab_cli.specs.Written.{WritesActs}
+use Rattle.vab_update.specs.Install.{order}
 use Rattle.vab_cli.proofs.Items.{replied, says_err, says_ok}
 use Rattle.vab_cli.proofs.Touching.{verb_changes}
 use Rattle.std.specs.Prelude.{IsErrOf}
@@ -118,3 +121,32 @@ returns-in-Ok-say_line-clause-refused g c = λ t refused.
     c.note_reply.ensures
     (sym (c.in-Ok.ensures.reply t ∙ replied c.in-Ok.ensures.refused command m c.requires.verb))
     (subst (λ (r : Result Device Status). IsErrOf r Refused) c.closed.ensures refused)
+
+pub returns-in-Err-clause-writes : goal.returns-in-Err-clause-writes
+returns-in-Err-clause-writes g c = λ t.
+    writes_failed g.P.Disk t c.args.device (command_of c.args.command.now) c.args.port.now
+    c.run_one.new.d _ c.in-Err.ensures
+
+pub returns-in-Ok-say_line-clause-writes : goal.returns-in-Ok-say_line-clause-writes
+returns-in-Ok-say_line-clause-writes g c = λ t.
+    let d = c.args.device in
+    let old = c.args.port.now in
+    let new = c.say_line.new.port in
+    let command : Command = command_of c.args.command.now in
+    subst
+    (λ (r : Result Device Status). WritesActs g.P.Disk d (order command ∷ []) old new r)
+    (sym c.closed.ensures)
+    (writes_closed g.P.Disk t d command old c.run_one.new.d c.requires.verb c.in-Ok.done.0
+    c.in-Ok.done.1 c.in-Ok.ensures new _ _ (c.say_line.ensures.says t))
+
+pub returns-in-Err-say_line-clause-writes : goal.returns-in-Err-say_line-clause-writes
+returns-in-Err-say_line-clause-writes g c = λ t.
+    let d = c.args.device in
+    let old = c.args.port.now in
+    let new = c.say_line.new.port in
+    let command : Command = command_of c.args.command.now in
+    subst
+    (λ (s : Status). WritesActs g.P.Disk d (order command ∷ []) old new (Err s))
+    (sym c.in-Err-say_line.ensures.failed)
+    (writes_broken g.P.Disk t d command old c.run_one.new.d c.requires.verb c.in-Ok.done.0
+    c.in-Ok.done.1 c.in-Ok.ensures new _ _ (c.say_line.ensures.says t))

@@ -1,5 +1,5 @@
 use Rattle.std.proofs.Common.{◌∙◌, ⊎_elim, inl, [], ℕ, List, sym, subst}
-use Rattle.vab_disk.specs.Disk.{Faults, Rose}
+use Rattle.vab_disk.specs.Disk.{Faults, DiskFailed, SinkFailed}
 use Rattle.vab_device.specs.Mounted.{Mounted}
 use Rattle.vab_device.specs.Reading.{IsIn, Represents}
 use Rattle.vab_model.specs.Commands.{command_of}
@@ -61,14 +61,14 @@ returns-clause-words g c = λ is.
 
 pub returns-clause-disk : goal.returns-clause-disk
 returns-clause-disk g c = λ is.
-    subst (λ (f : Faults). Rose f.disk (g.P.Disk.faults c.perform.new.port).disk)
+    subst (λ (f : Faults). DiskFailed f (g.P.Disk.faults c.perform.new.port))
     c.in-Ok.ensures.steady
     (acted_disk g.P.Disk c.in-Ok.device _ c.open.new.port c.perform.new.port c.perform.result
     c.perform.ensures.performs (sym c.ended.ensures ∙ is))
 
 pub returns-clause-port : goal.returns-clause-port
 returns-clause-port g c = λ is.
-    subst (λ (f : Faults). Rose f.sink (g.P.Disk.faults c.perform.new.port).sink)
+    subst (λ (f : Faults). SinkFailed f (g.P.Disk.faults c.perform.new.port))
     c.in-Ok.ensures.steady
     (acted_port g.P.Disk c.in-Ok.device _ c.open.new.port c.perform.new.port c.perform.result
     c.perform.ensures.performs (sym c.ended.ensures ∙ is))

@@ -104,7 +104,7 @@ returns-in-Err-start-clause-unmade g c = λ t none.
 
 pub returns-clause-unmade : goal.returns-clause-unmade
 returns-clause-unmade g c = λ t none.
-    ended_opened c.live.result c.live.ensures.stop (sym c.ended.ensures ∙ none)
+    ended_opened c.live.result c.live.ensures.performs.stop (sym c.ended.ensures ∙ none)
 
 pub returns-in-Err-clause-copies : goal.returns-in-Err-clause-copies
 returns-in-Err-clause-copies g c = λ t none answers.
@@ -123,4 +123,4 @@ returns-clause-copies g c = λ t none answers.
     performed_copies g.P.Disk c.in-Ok-start.device _ (g.P.Disk.size c.args.port.now) c.start.new.d
     c.live.new.port c.live.result c.ended.result t
     (c.start.ensures.quiet.size ∙ c.make_device.ensures.touches.quiet.size)
-    c.live.ensures c.ended.ensures answers
+    c.live.ensures.performs c.ended.ensures answers

@@ -1,7 +1,7 @@
 use Rattle.std.proofs.Common.{◌≡◌, ◌∙◌, inl, inr, ⊎_elim, ℕ, List, length, Err, refl, sym}
 use Rattle.std.proofs.Common.{ap, subst, arith}
 use Rattle.vab_disk.specs.declared.disk.Disk.{Ghosts}
-use Rattle.vab_disk.specs.Disk.{Faults, Hearing, Image, Rose}
+use Rattle.vab_disk.specs.Disk.{Faults, Hearing, Image, DiskFailed, SinkFailed}
 use Rattle.vab_disk.proofs.CallLaws.{changes_hearing, changes_then, changes_wider}
 use Rattle.vab_set.specs.declared.set.SetImage.{SetImage}
 use Rattle.vab_set.specs.declared.fault.SetFault.{SetFault}
@@ -271,17 +271,15 @@ returns-clause-runs g c =
           same_set _ _ set read (text t) c.in-Ok-read_set.ensures.exact is in
           subst
           (λ (x : List SetImage).
-          WritesInstall g.P.Disk (IsOfOpening size (g.P.Disk.seen old)) (status ≡ Disk) size x old
-          new)
+          WritesInstall g.P.Disk (IsOfOpening size (g.P.Disk.seen old)) size x old new)
           found
-          (writes_installed g.P.Disk (IsOfOpening size (g.P.Disk.seen old)) _ (status ≡ Disk) size
+          (writes_installed g.P.Disk (IsOfOpening size (g.P.Disk.seen old)) size
           c.in-Ok.device read old now new t sized (represents t)
           (changes_then g.P.Disk (IsOfOpening size (g.P.Disk.seen old)) old mid now
           (c.open.ensures.changes t)
           (changes_hearing g.P.Disk _ mid now c.hear_all.ensures.size c.hear_all.ensures.seen
           c.hear_all.ensures.crash c.hear_all.ensures.time))
-          (same t).settled (λ failed. c.ended.ensures ∙ ap status_in failed)
-          (c.install_set.ensures.writes t));
+          (same t).settled (c.install_set.ensures.writes t));
       end = λ t done.
           (let quiet = p.quiet t in quiet.left) ∙ c.in-Ok-hear_all.ensures.end t;
     }
@@ -307,7 +305,7 @@ returns-clause-words g c = λ is.
 
 pub returns-clause-disk : goal.returns-clause-disk
 returns-clause-disk g c = λ is.
-    subst (λ (f : Faults). Rose f.disk (g.P.Disk.faults c.install_set.new.port).disk)
+    subst (λ (f : Faults). DiskFailed f (g.P.Disk.faults c.install_set.new.port))
     (unfaulty g.P.Disk c.args.port.now c.open.new.port c.hear_all.new.p
     c.in-Ok.ensures.steady (c.in-Ok-hear_all.ensures.steady (λ none. cc)))
     (acted_disk g.P.Disk c.in-Ok.device _ c.hear_all.new.p c.install_set.new.port
@@ -315,7 +313,7 @@ returns-clause-disk g c = λ is.
 
 pub returns-clause-port : goal.returns-clause-port
 returns-clause-port g c = λ is.
-    inr (subst (λ (f : Faults). Rose f.sink (g.P.Disk.faults c.install_set.new.port).sink)
+    inr (subst (λ (f : Faults). SinkFailed f (g.P.Disk.faults c.install_set.new.port))
     (unfaulty g.P.Disk c.args.port.now c.open.new.port c.hear_all.new.p
     c.in-Ok.ensures.steady (c.in-Ok-hear_all.ensures.steady (λ none. cc)))
     (acted_port g.P.Disk c.in-Ok.device _ c.hear_all.new.p c.install_set.new.port

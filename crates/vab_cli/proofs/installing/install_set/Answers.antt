@@ -24,7 +24,8 @@ use Rattle.vab_disk.specs.Calls.{IsAtRest}
 use Rattle.vab_set.specs.declared.set.SetImage.{SetImage}
 use Rattle.vab_device.specs.declared.device.Device.{Device}
 use Rattle.vab_update.specs.Install.{install_orders}
-use Rattle.vab_update.specs.Written.{CarriesOrders, HasFailed}
+use Rattle.vab_update.specs.Written.{CarriesOrders, OrdersDone}
+use Rattle.vab_disk.specs.Disk.{Image}
 use Rattle.vab_cli.specs.Written.{WritesInOrder}
 use Rattle.vab_cli.proofs.Writing.{orders_alone, orders_told}
 use Rattle.vab_cli.proofs.installing.install_set.Goals as goal
@@ -227,39 +228,38 @@ returns-in-Ok-say_line-2-clause-refused g c = λ t is.
     }
 
 -- what is written, and a line told behind it
-module _ {D : Type 0} (g : Ghosts D) (t : g.is_modelled) (F : Type 0) (d : Device)
+module _ {D : Type 0} (g : Ghosts D) (t : g.is_modelled) (d : Device)
     (set : List SetImage) (old mid new : D) (r : Result Device Stop)
-    (wide : HasFailed r → F)
     (is : CarriesOrders g d (install_orders d.control.current set) old mid r)
     (rests : IsAtRest g old → IsAtRest g mid) where
   set_told : {A E : Type 0} (text : List ℕ) (q : Result A E)
       → Says g text mid new q
-      → WritesInOrder g F d (install_orders d.control.current set) old new
+      → WritesInOrder g d (install_orders d.control.current set) old new
   set_told text q says =
-      orders_told g F d (install_orders d.control.current set) old mid new text
-      (orders_alone g F d (install_orders d.control.current set) old mid r wide (is.writes t))
+      orders_told g d (install_orders d.control.current set) old mid new text
+      (orders_alone g d (install_orders d.control.current set) old mid r (is.writes t))
       rests says.seen says.time
 
 pub returns-in-Ok-say_line-clause-writes : goal.returns-in-Ok-say_line-clause-writes
 returns-in-Ok-say_line-clause-writes g c = λ t.
-    set_told g.P.Disk t _ c.args.device c.args.set.now c.args.port.now c.install.new.d
-    c.say_line.new.port (Ok c.in-Ok.device) (λ none. absurd none) c.in-Ok.ensures
+    set_told g.P.Disk t c.args.device c.args.set.now c.args.port.now c.install.new.d
+    c.say_line.new.port (Ok c.in-Ok.device) c.in-Ok.ensures
     (λ rest. c.in-Ok.ensures.carries.rest t rest) _ _ (c.say_line.ensures.says t)
 
 pub returns-in-Err-clause-writes : goal.returns-in-Err-clause-writes
 returns-in-Err-clause-writes g c = λ t.
-    set_told g.P.Disk t _ c.args.device c.args.set.now c.args.port.now c.install.new.d
-    c.say_line.new.port (Ok c.in-Ok.device) (λ none. absurd none) c.in-Ok.ensures
+    set_told g.P.Disk t c.args.device c.args.set.now c.args.port.now c.install.new.d
+    c.say_line.new.port (Ok c.in-Ok.device) c.in-Ok.ensures
     (λ rest. c.in-Ok.ensures.carries.rest t rest) _ _ (c.say_line.ensures.says t)
 
 pub returns-in-Err-Disk-clause-writes : goal.returns-in-Err-Disk-clause-writes
 returns-in-Err-Disk-clause-writes g c = λ t.
-    orders_alone g.P.Disk _ c.args.device
+    orders_alone g.P.Disk c.args.device
     (install_orders c.args.device.control.current c.args.set.now) c.args.port.now c.install.new.d
-    _ (λ failed. refl) (c.in-Err-Disk.ensures.writes t)
+    _ (c.in-Err-Disk.ensures.writes t)
 
 -- a command was refused
-module _ {D : Type 0} (g : Ghosts D) (t : g.is_modelled) (F : Type 0) (d : Device)
+module _ {D : Type 0} (g : Ghosts D) (t : g.is_modelled) (d : Device)
     (set : List SetImage) (old mid : D) (s : Stop) (refusal : Refusal)
     (same : s ≡ stops.Refused refusal)
     (is : CarriesOrders g d (install_orders d.control.current set) old mid (Err s)) where
@@ -270,31 +270,43 @@ module _ {D : Type 0} (g : Ghosts D) (t : g.is_modelled) (F : Type 0) (d : Devic
       (λ (x : Stop). CarriesOrders g d (install_orders d.control.current set) old mid (Err x))
       same is
 
-  refused_alone : WritesInOrder g F d (install_orders d.control.current set) old mid
+  refused_alone : WritesInOrder g d (install_orders d.control.current set) old mid
   refused_alone =
-      orders_alone g F d (install_orders d.control.current set) old mid
-      (Err (stops.Refused refusal)) (λ none. absurd none) (refused_is.writes t)
+      orders_alone g d (install_orders d.control.current set) old mid
+      (Err (stops.Refused refusal)) (refused_is.writes t)
 
   refused_said : {A E : Type 0} (new : D) (text : List ℕ) (q : Result A E)
       → Says g text mid new q
-      → WritesInOrder g F d (install_orders d.control.current set) old new
+      → WritesInOrder g d (install_orders d.control.current set) old new
   refused_said new text q says =
-      orders_told g F d (install_orders d.control.current set) old mid new text refused_alone
+      orders_told g d (install_orders d.control.current set) old mid new text refused_alone
       (λ rest. refused_is.carries.rest t rest) says.seen says.time
 
 pub returns-then-eq-clause-writes : goal.returns-then-eq-clause-writes
 returns-then-eq-clause-writes g c = λ t.
-    refused_alone g.P.Disk t _ c.args.device c.args.set.now c.args.port.now c.install.new.d _
+    refused_alone g.P.Disk t c.args.device c.args.set.now c.args.port.now c.install.new.d _
     c.in-Err-Refused.refusal c.in-Err-Refused.field-0-is c.in-Err-Refused.ensures
 
 pub returns-in-Ok-say_line-2-clause-writes : goal.returns-in-Ok-say_line-2-clause-writes
 returns-in-Ok-say_line-2-clause-writes g c = λ t.
-    refused_said g.P.Disk t _ c.args.device c.args.set.now c.args.port.now c.install.new.d _
+    refused_said g.P.Disk t c.args.device c.args.set.now c.args.port.now c.install.new.d _
     c.in-Err-Refused.refusal c.in-Err-Refused.field-0-is c.in-Err-Refused.ensures
     c.say_line-2.new.port _ _ (c.say_line-2.ensures.says t)
 
 pub returns-in-Err-say_line-clause-writes : goal.returns-in-Err-say_line-clause-writes
 returns-in-Err-say_line-clause-writes g c = λ t.
-    refused_said g.P.Disk t _ c.args.device c.args.set.now c.args.port.now c.install.new.d _
+    refused_said g.P.Disk t c.args.device c.args.set.now c.args.port.now c.install.new.d _
     c.in-Err-Refused.refusal c.in-Err-Refused.field-0-is c.in-Err-Refused.ensures
     c.say_line-2.new.port _ _ (c.say_line-2.ensures.says t)
+
+-- all are done, and a line is told behind it
+pub returns-in-Ok-say_line-clause-done : goal.returns-in-Ok-say_line-clause-done
+returns-in-Ok-say_line-clause-done g c = λ t.
+    let says = c.say_line.ensures.says t in
+    let wrote = c.in-Ok.ensures.writes t in
+    subst
+    (λ (i : Image).
+    OrdersDone g.P.Disk.is_modelled (g.P.Disk.size c.args.port.now) c.args.device
+    (g.P.Disk.seen c.args.port.now)
+    (install_orders c.args.device.control.current c.args.set.now) c.in-Ok.device i)
+    (sym says.seen) wrote.done

@@ -410,8 +410,7 @@ returns-clause-writes g c = λ t.
     let mid = c.make_device.new.d in
     let sized : g.P.Disk.size mid ≡ size = c.make_device.ensures.touches.quiet.size in
     writes_opened c.args.turns g.P.Disk (InSectors (IsOfMaking [] 65536)) size c.in-Ok-start.device
-    c.serve_with-answer.result c.session_status.result c.args.port.now c.start.new.d
-    c.serve_with-answer.new.p t
+    c.args.port.now c.start.new.d c.serve_with-answer.new.p t
     (c.start.ensures.quiet.size ∙ sized)
     (c.start.ensures.quiet.left t ∙ c.make_device.ensures.touches.quiet.left t)
     (subst
@@ -422,4 +421,4 @@ returns-clause-writes g c = λ t.
     (c.in-Ok.ensures.version t) c.make_device.ensures.touches (c.start.ensures.touches t)
     IsOfAll)
     (λ rest. c.in-Ok-start.ensures.settled t (c.in-Ok.ensures.settled t))
-    c.session_status.ensures (c.serve_with-answer.ensures.writes t)
+    (c.serve_with-answer.ensures.writes t)

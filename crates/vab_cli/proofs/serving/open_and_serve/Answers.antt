@@ -103,10 +103,9 @@ pub returns-clause-writes : goal.returns-clause-writes
 returns-clause-writes g c = λ t s stands.
     let opens = c.in-Ok.ensures.opens t in
     writes_opened c.args.turns g.P.Disk _ (g.P.Disk.size c.args.port.now) c.in-Ok.device
-    c.serve_with-answer.result
-    c.session_status.result c.args.port.now c.open.new.port c.serve_with-answer.new.p t
+    c.args.port.now c.open.new.port c.serve_with-answer.new.p t
     c.open.ensures.size opens.left (c.in-Ok.ensures.represents t) (c.open.ensures.changes t)
-    opens.settled c.session_status.ensures (c.serve_with-answer.ensures.writes t)
+    opens.settled (c.serve_with-answer.ensures.writes t)
 
 pub returns-in-Err-clause-unheard : goal.returns-in-Err-clause-unheard
 returns-in-Err-clause-unheard g c = λ t fault none. c.open.ensures.quiet t

@@ -13,10 +13,12 @@ use Rattle.vab_model.specs.declared.command.Reply.TheVariants as replies
 use Rattle.vab_model.specs.Commands.{Finish}
 use Rattle.vab_device.specs.declared.device.Device.{Device}
 use Rattle.vab_device.specs.Does.{Does}
+use Rattle.vab_disk.proofs.CallLaws.{failed_then}
 use Rattle.vab_device.proofs.DoesLaws.{dead_means, fails_dead, fails_gate, does_gate}
 use Rattle.vab_finish.specs.Finished.{finished_device}
 use Rattle.vab_finish.specs.Writes.{IsOfFinished}
 use Rattle.vab_finish.proofs.KeptLaws.{finished_kept, source_stays}
+use Rattle.vab_finish.proofs.ReadyLaws.{finish_follows}
 use Rattle.vab_finish.proofs.StepLaws.{installing_of, Writes, finish_dead, finish_step}
 use Rattle.vab_finish.proofs.finishing.end_installation.Goals as goal
 
@@ -56,7 +58,8 @@ returns-in-Err g c = λ staged.
     (touches_as g.D.Disk d old mid c.cleared-control.result c.cleared-control.ensures.exact
     c.prepare.ensures.touches)
     (λ t s b w. record { ready = c.requires.ready; writes = inl w })
-    _ c.in-Err.ensures.faults.cause
+    _ (λ t. finish_follows d (g.D.Disk.seen old) staged c.requires.ready)
+    c.in-Err.ensures.faults.cause
 
 pub returns-in-Err-put_mark : goal.returns-in-Err-put_mark
 returns-in-Err-put_mark g c = λ staged.
@@ -86,7 +89,7 @@ returns-in-Err-put_mark g c = λ staged.
     (λ t rest. c.put_mark.ensures.gate t (c.in-Ok.ensures.settled t))
     c.put_mark.ensures.touches
     (λ s b at. record { ready = c.requires.ready; writes = inr at })
-    _ c.in-Err-put_mark.ensures.faults.cause
+    _ (failed_then _ _ _ c.in-Ok.ensures.faults.steady c.in-Err-put_mark.ensures.faults.cause)
 
 pub returns-in-Ok-put_mark : goal.returns-in-Ok-put_mark
 returns-in-Ok-put_mark g c = λ staged.

@@ -3,8 +3,8 @@ use Rattle.std.specs.Prelude.{Some, map, option_map}
 use Rattle.vab_model.specs.Effects.{refuses}
 use Rattle.vab_device.specs.declared.device.Part.{Part}
 use Rattle.vab_device.specs.Mounted.{mounted_on, entry_on}
-use Rattle.vab_device.specs.Updates.{entry_effect}
-use Rattle.vab_flash.specs.Chosen.{plan_or}
+use Rattle.vab_device.specs.Flashed.{entry_effect}
+use Rattle.vab_flash.specs.Place.{plan_or}
 use Rattle.vab_flash.proofs.ChosenLaws.{plan_on, flash_at}
 use Rattle.vab_flash.proofs.chosen.choose.Goals as goal
 

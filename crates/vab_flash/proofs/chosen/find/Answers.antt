@@ -2,7 +2,7 @@ use Rattle.std.proofs.Common.{sym, ap, ◌∙◌}
 use Rattle.vab_names.proofs.NameLaws.{of_slot_long}
 use Rattle.vab_names.proofs.NameCases.{full_slot}
 use Rattle.vab_flash.proofs.ChosenLaws.{flash_idle, flash_other, flash_unknown}
-use Rattle.vab_flash.specs.Chosen.{place_of}
+use Rattle.vab_flash.specs.Place.{place_of}
 use Rattle.vab_flash.proofs.chosen.find.Goals as goal
 
 pub base_of-requires : goal.base_of-requires

@@ -7,7 +7,8 @@ use Rattle.vab_model.specs.Commands.{Flash}
 use Rattle.vab_model.specs.Effects.{refuses}
 use Rattle.vab_model.specs.declared.command.Refusal.TheVariants.{StoreFull}
 use Rattle.vab_device.proofs.DoesLaws.{does_nothing}
-use Rattle.vab_flash.specs.Chosen.{planned_at, store_long, differing_at, IsListed}
+use Rattle.vab_flash.specs.Chosen.{store_long, differing_at, IsListed}
+use Rattle.vab_flash.specs.Place.{planned_at}
 use Rattle.vab_flash.specs.Touched.{IsOfFlash}
 use Rattle.vab_flash.proofs.FlashLaws.{base_all}
 use Rattle.vab_flash.proofs.ReadyLaws.{no_memory, full_refused}

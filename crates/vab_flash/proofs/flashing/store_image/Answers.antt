@@ -17,9 +17,10 @@ use Rattle.vab_device.specs.declared.device.Part.{Part}
 use Rattle.vab_marks.specs.Status.{status_spelling}
 use Rattle.vab_flash.specs.Chosen.{store_at, store_long, with_written}
 use Rattle.vab_flash.specs.Touched.{IsOfFlash}
+use Rattle.vab_disk.proofs.CallLaws.{failed_then}
 use Rattle.vab_device.proofs.DoesLaws.{does_nothing, fails_dead, fails_gate, does_gate}
 use Rattle.vab_flash.proofs.FlashLaws.{base_all}
-use Rattle.vab_flash.proofs.ReadyLaws.{apart, disjoint, first_dead, no_memory}
+use Rattle.vab_flash.proofs.ReadyLaws.{apart, disjoint, first_dead, no_memory, room_follows}
 use Rattle.vab_flash.proofs.GatedLaws.{name_short, in_flash, stored, name_is, status_in_flash}
 use Rattle.vab_flash.proofs.GatedLaws.{kept_stored}
 use Rattle.vab_flash.proofs.flashing.store_image.Goals as goal
@@ -80,6 +81,15 @@ returns-in-Err-Disk g c =
     (λ t. in_flash d name (Some c.args.bytes.now) c.args.place c.args.bytes.now n c.requires.chosen
     c.requires.listed.room)
     c.in-Err-Disk.fault
+    (λ t.
+    room_follows d (g.D.Disk.size disk) (g.D.Disk.seen disk) c.requires.kept
+    (c.requires.represents t) name (Some c.args.bytes.now) c.args.place c.args.bytes.now
+    c.requires.chosen k
+    (λ s lt. (g.met.D.Disk.whole disk s (g.D.Disk.seen disk s) lt
+    (g.met.D.Disk.seen_held disk s)).long)
+    (base_all d (g.D.Disk.size disk) c.args.place c.requires.kept)
+    (subst (λ (l : List ℕ). need_at (length l) k ≤ store_long d c.args.place) (c.requires.exact t)
+    c.requires.listed.room))
     (subst (λ f. CountsFaults {X = List Exception} g.D.Disk disk c.write_place.new.d (Err f))
     c.in-Err-Disk.field-0-is c.in-Err-Disk.ensures.counts)
 
@@ -134,7 +144,7 @@ returns-in-Err g c =
     c.put_status.ensures.touches
     (status_in_flash d name c.args.place c.args.free (Stored (length es) k) status
     c.requires.chosen.has c.requires.there status_is)
-    c.in-Err.fault c.in-Err.ensures.faults.cause
+    c.in-Err.fault (failed_then _ _ _ ok.counts c.in-Err.ensures.faults.cause)
 
 pub returns-in-Ok-put_status : goal.returns-in-Ok-put_status
 returns-in-Ok-put_status g c =

@@ -3,7 +3,8 @@ use Rattle.std.proofs.lemmas.Result.{IfOk-weaker}
 use Rattle.vab_device.specs.declared.device.Part.{Part}
 use Rattle.vab_device.specs.Mounted.{blocks_there}
 use Rattle.vab_store.specs.View.{Fits}
-use Rattle.vab_flash.specs.Chosen.{planned_at, store_at}
+use Rattle.vab_flash.specs.Chosen.{store_at}
+use Rattle.vab_flash.specs.Place.{planned_at}
 use Rattle.vab_flash.proofs.flashing.write_place.Goals as goal
 
 pub returns-clause-fits : goal.returns-clause-fits

@@ -14,12 +14,14 @@ use Rattle.vab_model.specs.declared.command.Reply.TheVariants.{Done}
 use Rattle.vab_device.specs.declared.device.Device.{Device}
 use Rattle.vab_device.specs.declared.device.Part.{Part}
 use Rattle.vab_device.specs.Does.{Does}
+use Rattle.vab_disk.proofs.CallLaws.{failed_then}
 use Rattle.vab_device.proofs.DoesLaws.{fails_dead, fails_gate, does_gate}
-use Rattle.vab_flash.specs.Chosen.{planned_at, with_written}
+use Rattle.vab_flash.specs.Chosen.{with_written}
+use Rattle.vab_flash.specs.Place.{planned_at}
 use Rattle.vab_flash.specs.Touched.{IsOfFlash}
 use Rattle.vab_flash.proofs.GatedLaws.{name_short, name_is, placed, kept_placed, own_in_flash}
 use Rattle.vab_flash.proofs.GatedLaws.{status_in_flash}
-use Rattle.vab_flash.proofs.InPlaceLaws.{own_apart, own_dead}
+use Rattle.vab_flash.proofs.InPlaceLaws.{own_apart, own_dead, placed_follows}
 use Rattle.vab_flash.proofs.in_place.place_image.Goals as goal
 
 pub write_image-requires-clause-apart : goal.write_image-requires-clause-apart
@@ -51,7 +53,10 @@ returns-in-Err g c = λ chunk.
     Touches g.D.Disk (InSectors (InFirst p.map (length p.map))) disk c.write_image.new.d)
     c.planned_at.ensures c.write_image.ensures.touches)
     (λ t. own_in_flash d name (Some bytes) place bytes c.requires.chosen)
-    c.in-Err.fault c.in-Err.ensures.faults.cause
+    c.in-Err.fault
+    (λ t. placed_follows d (g.D.Disk.size disk) (g.D.Disk.seen disk) c.requires.kept
+    (c.requires.represents t) name (Some bytes) place bytes c.requires.chosen chunk)
+    c.in-Err.ensures.faults.cause
 
 pub returns-in-Err-put_status : goal.returns-in-Err-put_status
 returns-in-Err-put_status g c = λ chunk.
@@ -92,7 +97,8 @@ returns-in-Err-put_status g c = λ chunk.
     c.put_status.ensures.touches
     (status_in_flash d name place c.args.free InPlace status c.requires.chosen.has
     c.requires.there status_is)
-    c.in-Err-put_status.fault c.in-Err-put_status.ensures.faults.cause
+    c.in-Err-put_status.fault
+    (failed_then _ _ _ c.in-Ok.ensures.faults.steady c.in-Err-put_status.ensures.faults.cause)
 
 pub returns-in-Ok-put_status : goal.returns-in-Ok-put_status
 returns-in-Ok-put_status g c = λ chunk.

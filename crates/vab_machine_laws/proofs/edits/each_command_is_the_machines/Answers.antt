@@ -1,5 +1,7 @@
+use Rattle.vab_targets.proofs.Begun.{begin_keeps}
+use Rattle.vab_targets.proofs.Updates.{edits_follow}
 use Rattle.vab_machine_laws.proofs.All.{each_is}
 use Rattle.vab_machine_laws.proofs.edits.each_command_is_the_machines.Goals as goal
 
 pub returns : goal.returns
-returns c = each_is c.plans_by_sizes.ensures.begun c.plans_by_sizes.ensures.edited
+returns c = each_is begin_keeps edits_follow

@@ -1,4 +1,4 @@
-use Rattle.vab_machine_laws.proofs.Flashes.{flash_is}
+use Rattle.vab_machine_laws.proofs.SlotRows.{flash_is}
 use Rattle.vab_machine_laws.proofs.slots.flashes_are_the_machines.Goals as goal
 
 pub returns : goal.returns

@@ -18,7 +18,7 @@ use Rattle.vab_session.specs.Served.{kept_on}
 use Rattle.vab_session.proofs.Changing.{changes_told, follows_done}
 use Rattle.vab_session.proofs.Data.{command_before, command_done, command_told}
 use Rattle.vab_commands.proofs.CopiesLaws.{both_copies, copies_stay}
-use Rattle.vab_session.proofs.WrittenLaws.{command_tries, command_writes, writes_told}
+use Rattle.vab_session.proofs.WrittenLaws.{command_writes, writes_told}
 use Rattle.vab_session.proofs.answer.carry_out.Goals as goal
 
 pub returns-in-Err-clause-does : goal.returns-in-Err-clause-does
@@ -161,7 +161,7 @@ returns-in-Err-clause-writes g c = λ t.
     let did : Does g.P.Disk device k.staged cmd W old mid c.run_one.result =
     subst (λ (st : Option (List ℕ)). Does g.P.Disk device st cmd W old mid c.run_one.result)
     c.bytes_of.ensures c.run_one.ensures in
-    command_tries g.P.Disk t device k cmd old mid refl _ c.run_one.result refl did
+    command_writes g.P.Disk t device k cmd old mid refl c.run_one.result did
 
 pub returns-in-Ok-tell_reply-clause-writes : goal.returns-in-Ok-tell_reply-clause-writes
 returns-in-Ok-tell_reply-clause-writes g c = λ t.
@@ -176,7 +176,7 @@ returns-in-Ok-tell_reply-clause-writes g c = λ t.
     subst (λ (st : Option (List ℕ)). Does g.P.Disk device st cmd W old mid (Ok c.in-Ok.done))
     c.bytes_of.ensures c.in-Ok.ensures in
     writes_told g.P.Disk _ old mid new _
-    (command_writes g.P.Disk t device k cmd old mid refl _ c.in-Ok.done did)
+    (command_writes g.P.Disk t device k cmd old mid refl (Ok c.in-Ok.done) did)
     (λ rest. did.rest t rest) (c.tell_reply.ensures.seen t) (c.tell_reply.ensures.time t)
 
 pub returns-in-Err-tell_reply-clause-writes : goal.returns-in-Err-tell_reply-clause-writes
@@ -192,5 +192,5 @@ returns-in-Err-tell_reply-clause-writes g c = λ t.
     subst (λ (st : Option (List ℕ)). Does g.P.Disk device st cmd W old mid (Ok c.in-Ok.done))
     c.bytes_of.ensures c.in-Ok.ensures in
     writes_told g.P.Disk _ old mid new _
-    (command_writes g.P.Disk t device k cmd old mid refl _ c.in-Ok.done did)
+    (command_writes g.P.Disk t device k cmd old mid refl (Ok c.in-Ok.done) did)
     (λ rest. did.rest t rest) (c.tell_reply.ensures.seen t) (c.tell_reply.ensures.time t)

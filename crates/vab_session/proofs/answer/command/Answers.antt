@@ -1,6 +1,5 @@
 use Rattle.std.proofs.Common.{◌≡◌, ◌∙◌, ℕ, ◌+◌, List, Ok, Err, refl, sym, ap, subst, false}
-use Rattle.std.specs.Prelude.{Option, Some, None, Result, IsErrOf}
-use Rattle.vab_session.specs.declared.fault.SessionFault.TheVariants.{Disk}
+use Rattle.std.specs.Prelude.{Option, Some, None, Result}
 use Rattle.vab_model.specs.declared.state.Phase.{Phase}
 use Rattle.vab_model.specs.declared.state.Phase.TheVariants.{Idle, Installing, Staged, Merging}
 use Rattle.vab_model.specs.Commands.{Merge}
@@ -197,32 +196,32 @@ returns-in-Ok-BootAndEnd-clause-follows g c =
     c.carry_out-in-Ok-BootAndEnd.ensures.follows
 
 -- what the packet asks for
-asked_writes : {D : Type 0} (g : Ghosts D) (F : Type 0) (d : Device) (k : Kept Mounted)
+asked_writes : {D : Type 0} (g : Ghosts D) (d : Device) (k : Kept Mounted)
     (packet : List ℕ) (asked : Result Asked BadCommand) (old new : D)
     → request_of packet ≡ asked
-    → WritesAs g (IsOfAsked g.is_modelled F d k (g.seen old 4) (command_asked d asked)) old new
-    → WritesPacket g F d k packet old new
-asked_writes g F d k packet asked old new is wrote =
+    → WritesAs g (IsOfAsked g.is_modelled d k (g.seen old 4) (command_asked d asked)) old new
+    → WritesPacket g d k packet old new
+asked_writes g d k packet asked old new is wrote =
     subst
     (λ (a : Result Asked BadCommand).
-    WritesAs g (IsOfAsked g.is_modelled F d k (g.seen old 4) (command_asked d a)) old new)
+    WritesAs g (IsOfAsked g.is_modelled d k (g.seen old 4) (command_asked d a)) old new)
     (sym is) wrote
 
-none_writes : {D : Type 0} (g : Ghosts D) (F : Type 0) (d : Device) (k : Kept Mounted)
+none_writes : {D : Type 0} (g : Ghosts D) (d : Device) (k : Kept Mounted)
     (packet : List ℕ) (old new : D)
     → WritesAs g (λ s b. ⊥) old new
-    → WritesPacket g F d k packet old new
-none_writes g F d k packet old new wrote =
+    → WritesPacket g d k packet old new
+none_writes g d k packet old new wrote =
     writes_as g (λ s b. ⊥) _ old new (λ s b none. absurd none) wrote
 
 pub returns-in-Ok-Getvar-clause-writes : goal.returns-in-Ok-Getvar-clause-writes
 returns-in-Ok-Getvar-clause-writes g c = λ t.
-    none_writes g.P.Disk _ c.args.kept.device _ c.args.packet.now c.args.p.now c.tell_still.new.p
+    none_writes g.P.Disk c.args.kept.device _ c.args.packet.now c.args.p.now c.tell_still.new.p
     (c.tell_still.ensures.writes t)
 
 pub returns-in-Err-clause-writes : goal.returns-in-Err-clause-writes
 returns-in-Err-clause-writes g c = λ t.
-    none_writes g.P.Disk _ c.args.kept.device _ c.args.packet.now c.args.p.now
+    none_writes g.P.Disk c.args.kept.device _ c.args.packet.now c.args.p.now
     c.tell_still-in-Err.new.p (c.tell_still-in-Err.ensures.writes t)
 
 pub returns-in-Ok-Do-clause-writes : goal.returns-in-Ok-Do-clause-writes
@@ -230,7 +229,7 @@ returns-in-Ok-Do-clause-writes g c = λ t.
     let packet = c.args.packet.now in
     let is : request_of packet ≡ Ok (Do (command_of c.in-Ok-Do.command)) =
     rw c.in-Ok-Do.field-0-is at c.in-Ok-Do.ensures in
-    asked_writes g.P.Disk _ c.args.kept.device _ packet (Ok (Do (command_of c.in-Ok-Do.command)))
+    asked_writes g.P.Disk c.args.kept.device _ packet (Ok (Do (command_of c.in-Ok-Do.command)))
     c.args.p.now c.carry_out.new.p is (c.carry_out.ensures.writes t)
 
 pub returns-in-Ok-BootAndEnd-clause-writes : goal.returns-in-Ok-BootAndEnd-clause-writes
@@ -238,7 +237,7 @@ returns-in-Ok-BootAndEnd-clause-writes g c = λ t.
     let packet = c.args.packet.now in
     let is : request_of packet ≡ Ok BootAndEnd =
     rw c.in-Ok-BootAndEnd.field-0-is at c.in-Ok-BootAndEnd.ensures in
-    asked_writes g.P.Disk _ c.args.kept.device _ packet (Ok BootAndEnd)
+    asked_writes g.P.Disk c.args.kept.device _ packet (Ok BootAndEnd)
     c.args.p.now c.carry_out-in-Ok-BootAndEnd.new.p is
     (c.carry_out-in-Ok-BootAndEnd.ensures.writes t)
 
@@ -251,11 +250,10 @@ returns-in-Ok-MergeAll-clause-writes g c = λ t.
     let k = kept_on c.args.kept (g.P.Disk.seen old) in
     let is : request_of packet ≡ Ok MergeAll =
     rw c.in-Ok-MergeAll.field-0-is at c.in-Ok-MergeAll.ensures in
-    let F : Type 0 = IsErrOf c.carry_out-in-Ok-MergeAll.result Disk in
-    asked_writes g.P.Disk F d k packet (Ok MergeAll) old new is
+    asked_writes g.P.Disk d k packet (Ok MergeAll) old new is
     (subst
     (λ (n : ℕ).
     WritesAs g.P.Disk
-    (IsOfChange g.P.Disk.is_modelled F d k (g.P.Disk.seen old 4) (Merge (n + 1))) old new)
+    (IsOfChange g.P.Disk.is_modelled d k (g.P.Disk.seen old 4) (Merge (n + 1))) old new)
     c.left.ensures.is
     (c.carry_out-in-Ok-MergeAll.ensures.writes t))

@@ -31,23 +31,13 @@ use Rattle.vab_session.proofs.Changing.{asks_none, follows_kept}
 use Rattle.vab_commands.proofs.CopiesLaws.{both_copies, copies_stay}
 use Rattle.vab_commands.specs.Copies.{HasBothCopies}
 use Rattle.std.proofs.Common.{◌≤◌, Result, length}
-use Rattle.std.specs.Prelude.{IsErrOf}
 use Rattle.vab_disk.specs.Calls.{IsAtRest}
 use Rattle.vab_exchanges.specs.Session.{IsExchange}
 use Rattle.vab_exchanges.proofs.Progress.{still_settled}
 use Rattle.vab_session.specs.declared.fault.SessionFault.TheVariants.{Disk}
-use Rattle.vab_session.proofs.WrittenLaws.{change_wider, exchange_here, packet_by, writes_as}
-use Rattle.vab_session.proofs.WrittenLaws.{writes_heard, writes_still, written_end, written_last}
-use Rattle.vab_session.proofs.WrittenLaws.{written_more, written_none}
+use Rattle.vab_session.proofs.WrittenLaws.{exchange_here, packet_by, writes_heard, writes_still}
+use Rattle.vab_session.proofs.WrittenLaws.{written_end, written_last, written_more, written_none}
 use Rattle.vab_session.proofs.session.answer_all.Goals as goal
-
--- the same fault, of what else is answered
-failed_so : {A B : Type 0} (fault : SessionFault)
-    → (let r : Result A SessionFault = Err fault in IsErrOf r Disk)
-    → (let r : Result B SessionFault = Err fault in IsErrOf r Disk)
-failed_so {B} fault failed =
-    let same : fault ≡ Disk = cc in
-    ap (λ (e : SessionFault). (let r : Result B SessionFault = Err e in r)) same
 
 pub returns-in-Err-clause-ran : goal.returns-in-Err-clause-ran
 returns-in-Err-clause-ran g c = λ t are told greeted.
@@ -437,7 +427,7 @@ loop-next-preserved g c =
           let lp = g.P.Disk.input_left start in
           let turned =
           writes_heard g.P.Disk
-          (IsOfChange g.P.Disk.is_modelled ⊥ kept.device base (g.P.Disk.seen start 4) (Merge turns))
+          (IsOfChange g.P.Disk.is_modelled kept.device base (g.P.Disk.seen start 4) (Merge turns))
           start mid now (on.writes t) (listens.seen t) (listens.time t) in
           let stands : Represents next.device N (g.P.Disk.seen now) =
           subst (λ (n : ℕ). Represents next.device n (g.P.Disk.seen now)) i.size
@@ -461,12 +451,11 @@ loop-next-preserved g c =
           (exchange_here (rest_of r lp) before after body done.exchange there done.command_is
           done.is)
           (subst
-          (λ (k : Kept Mounted).
-          WritesPacket g.P.Disk ⊥ next.device k done.exchange.command now new) then
-          (packet_by g.P.Disk _ ⊥ next.device (kept_on next (g.P.Disk.seen now))
+          (λ (k : Kept Mounted). WritesPacket g.P.Disk next.device k done.exchange.command now new)
+          then
+          (packet_by g.P.Disk next.device (kept_on next (g.P.Disk.seen now))
           c.as_slice.result.now done.exchange.command now new
-          (c.as_slice.ensures.value ∙ sym done.command_is) (λ none. cc)
-          (c.in-Ok-answer.ensures.writes t)))
+          (c.as_slice.ensures.value ∙ sym done.command_is) (c.in-Ok-answer.ensures.writes t)))
           (subst (λ (n : ℕ). Represents c.in-Ok-answer.next.device n (g.P.Disk.seen new)) sizes
           (c.in-Ok-answer.ensures.stands t))
           refl done.kept done.settled in
@@ -559,13 +548,10 @@ returns-in-Ok-false-clause-writes g c = λ t told greeted.
     let lp = g.P.Disk.input_left start in
     let turned =
     writes_heard g.P.Disk
-    (IsOfChange g.P.Disk.is_modelled ⊥ kept.device base (g.P.Disk.seen start 4) (Merge turns))
+    (IsOfChange g.P.Disk.is_modelled kept.device base (g.P.Disk.seen start 4) (Merge turns))
     start mid now (on.writes t) (listens.seen t) (listens.time t) in
-    written_end g.P.Disk turns N d0 k0 bytes _ kept.device base (rest_of r lp) old start now wr
-    (writes_as g.P.Disk _ _ start now
-    (change_wider g.P.Disk.is_modelled ⊥ _ kept.device base (g.P.Disk.seen start 4) (Merge turns)
-    (λ none. absurd none))
-    turned)
+    written_end g.P.Disk turns N d0 k0 bytes kept.device base (rest_of r lp) old start now wr
+    turned
 
 pub returns-in-Err-packet-clause-changes : goal.returns-in-Err-packet-clause-changes
 returns-in-Err-packet-clause-changes g c = λ t.
@@ -617,13 +603,10 @@ returns-in-Err-packet-clause-writes g c = λ t told greeted.
     let lp = g.P.Disk.input_left start in
     let turned =
     writes_heard g.P.Disk
-    (IsOfChange g.P.Disk.is_modelled ⊥ kept.device base (g.P.Disk.seen start 4) (Merge turns))
+    (IsOfChange g.P.Disk.is_modelled kept.device base (g.P.Disk.seen start 4) (Merge turns))
     start mid now (on.writes t) (listens.seen t) (listens.time t) in
-    written_end g.P.Disk turns N d0 k0 bytes _ kept.device base (rest_of r lp) old start now wr
-    (writes_as g.P.Disk _ _ start now
-    (change_wider g.P.Disk.is_modelled ⊥ _ kept.device base (g.P.Disk.seen start 4) (Merge turns)
-    (λ none. absurd none))
-    turned)
+    written_end g.P.Disk turns N d0 k0 bytes kept.device base (rest_of r lp) old start now wr
+    turned
 
 pub returns-in-Err-answer-clause-changes : goal.returns-in-Err-answer-clause-changes
 returns-in-Err-answer-clause-changes g c = λ t.
@@ -698,13 +681,9 @@ returns-in-Err-clause-writes g c = λ t told greeted.
     let kept = c.loop-next.kept in
     let base = kept_on kept (g.P.Disk.seen start) in
     written_end g.P.Disk turns N c.args.kept.device (kept_on c.args.kept (g.P.Disk.seen old))
-    (rest_of c.args.reader.now (g.P.Disk.input_left old)) _ kept.device base
+    (rest_of c.args.reader.now (g.P.Disk.input_left old)) kept.device base
     (rest_of c.loop-next.reader (g.P.Disk.input_left start)) old start mid
-    (i.written t told greeted)
-    (writes_as g.P.Disk _ _ start mid
-    (change_wider g.P.Disk.is_modelled (Unit {0}) _ kept.device base (g.P.Disk.seen start 4)
-    (Merge turns) (λ failed. failed_so c.in-Err.fault on.fault))
-    (on.writes t))
+    (i.written t told greeted) (on.writes t)
 
 pub returns-in-Err-answer-clause-writes : goal.returns-in-Err-answer-clause-writes
 returns-in-Err-answer-clause-writes g c = λ t told greeted.
@@ -749,7 +728,7 @@ returns-in-Err-answer-clause-writes g c = λ t told greeted.
     let lp = g.P.Disk.input_left start in
     let turned =
     writes_heard g.P.Disk
-    (IsOfChange g.P.Disk.is_modelled ⊥ kept.device base (g.P.Disk.seen start 4) (Merge turns))
+    (IsOfChange g.P.Disk.is_modelled kept.device base (g.P.Disk.seen start 4) (Merge turns))
     start mid now (on.writes t) (listens.seen t) (listens.time t) in
     let stands : Represents next.device N (g.P.Disk.seen now) =
     subst (λ (n : ℕ). Represents next.device n (g.P.Disk.seen now)) i.size
@@ -759,14 +738,11 @@ returns-in-Err-answer-clause-writes g c = λ t told greeted.
     still_settled response (IsIn N) g.P.Disk mid now (listens.seen t) (listens.crash t)
     (on.rest t rest) in
     let there = ap (rest_of r) (sym same) ∙ is in
-    let F : Type 0 =
-    (let r : Result (Ended × Device) SessionFault = Err c.in-Err-answer.fault in IsErrOf r Disk) in
     written_last g.P.Disk turns N d0 k0 bytes kept.device next.device base (rest_of r lp) old start
-    now wr turned stands (ap (λ (k : Kept Mounted). k.now) then) rests F before body new there
-    (subst (λ (k : Kept Mounted). WritesPacket g.P.Disk F next.device k body now new) then
-    (packet_by g.P.Disk _ F next.device (kept_on next (g.P.Disk.seen now)) c.as_slice.result.now
-    body now new c.as_slice.ensures.value (λ failed. failed_so c.in-Err-answer.fault failed)
-    (c.in-Err-answer.ensures.writes t)))
+    now wr turned stands (ap (λ (k : Kept Mounted). k.now) then) rests before body new there
+    (subst (λ (k : Kept Mounted). WritesPacket g.P.Disk next.device k body now new) then
+    (packet_by g.P.Disk next.device (kept_on next (g.P.Disk.seen now)) c.as_slice.result.now
+    body now new c.as_slice.ensures.value (c.in-Err-answer.ensures.writes t)))
 
 pub returns-then-is_last-clause-writes : goal.returns-then-is_last-clause-writes
 returns-then-is_last-clause-writes g c = λ t told greeted.
@@ -818,7 +794,7 @@ returns-then-is_last-clause-writes g c = λ t told greeted.
     let lp = g.P.Disk.input_left start in
     let turned =
     writes_heard g.P.Disk
-    (IsOfChange g.P.Disk.is_modelled ⊥ kept.device base (g.P.Disk.seen start 4) (Merge turns))
+    (IsOfChange g.P.Disk.is_modelled kept.device base (g.P.Disk.seen start 4) (Merge turns))
     start mid now (on.writes t) (listens.seen t) (listens.time t) in
     let stands : Represents next.device N (g.P.Disk.seen now) =
     subst (λ (n : ℕ). Represents next.device n (g.P.Disk.seen now)) i.size
@@ -839,16 +815,15 @@ returns-then-is_last-clause-writes g c = λ t told greeted.
     done.exchange new one
     (exchange_here (rest_of r lp) before after body done.exchange there done.command_is done.is)
     (subst
-    (λ (k : Kept Mounted).
-    WritesPacket g.P.Disk ⊥ next.device k done.exchange.command now new) then
-    (packet_by g.P.Disk _ ⊥ next.device (kept_on next (g.P.Disk.seen now))
+    (λ (k : Kept Mounted). WritesPacket g.P.Disk next.device k done.exchange.command now new)
+    then
+    (packet_by g.P.Disk next.device (kept_on next (g.P.Disk.seen now))
     c.as_slice.result.now done.exchange.command now new
-    (c.as_slice.ensures.value ∙ sym done.command_is) (λ none. cc)
-    (c.in-Ok-answer.ensures.writes t)))
+    (c.as_slice.ensures.value ∙ sym done.command_is) (c.in-Ok-answer.ensures.writes t)))
     (subst (λ (n : ℕ). Represents c.in-Ok-answer.next.device n (g.P.Disk.seen new)) sizes
     (c.in-Ok-answer.ensures.stands t))
     refl done.kept done.settled in
-    written_end g.P.Disk turns N d0 k0 bytes _ c.in-Ok-answer.next.device
+    written_end g.P.Disk turns N d0 k0 bytes c.in-Ok-answer.next.device
     (kept_on c.in-Ok-answer.next (g.P.Disk.seen new)) after old new new further
     (writes_still g.P.Disk _ new new refl (adds_none g.P.Disk.moment g.P.Disk.outcomes new _))
 

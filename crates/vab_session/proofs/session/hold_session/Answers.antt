@@ -303,14 +303,14 @@ returns-clause-copies g c = λ t held.
 
 pub returns-then-is_err-clause-writes : goal.returns-then-is_err-clause-writes
 returns-then-is_err-clause-writes g c = λ t.
-    written_nothing g.P.Disk _ c.args.turns (g.P.Disk.size c.args.p.now) c.args.device _ _
+    written_nothing g.P.Disk c.args.turns (g.P.Disk.size c.args.p.now) c.args.device _ _
     c.args.p.now
     c.say_all.new.p (c.say_all.ensures.seen t)
     (saying_same g.P.Disk c.args.p.now c.say_all.new.p _ (c.say_all.ensures.time t))
 
 pub returns-in-Err-clause-writes : goal.returns-in-Err-clause-writes
 returns-in-Err-clause-writes g c = λ t.
-    written_nothing g.P.Disk _ c.args.turns (g.P.Disk.size c.args.p.now) c.args.device _ _
+    written_nothing g.P.Disk c.args.turns (g.P.Disk.size c.args.p.now) c.args.device _ _
     c.args.p.now
     c.hello.new.p (c.hello.ensures.listens.seen t ∙ c.say_all.ensures.seen t)
     (λ rest.
@@ -338,7 +338,7 @@ returns-clause-writes g c = λ t.
     ok.rest t
     ∙ ap (λ (l : List ℕ). drop 4 l)
     (c.new-reader.ensures.rest (g.P.Disk.input_left said_to) ∙ ap (take most) (said.left t)) in
-    written_before g.P.Disk _ c.args.turns N (g.P.Disk.size mid) d (drop 4 (take most input))
+    written_before g.P.Disk c.args.turns N (g.P.Disk.size mid) d (drop 4 (take most input))
     (rest_of c.hello.new.self (g.P.Disk.input_left mid)) old mid new
     (listens.size ∙ said.size) rest (listens.seen t ∙ said.seen t)
     (λ rests.

@@ -1,7 +1,7 @@
-use Rattle.std.proofs.Common.{◌≡◌, ◌++◌, ◌≤◌, List, length, take, reverse, sym, ◌∙◌, ap, arith}
+use Rattle.std.proofs.Common.{◌≡◌, ◌≤◌, List, length, take, reverse, sym, ◌∙◌, ap, arith}
 use Rattle.std.proofs.lemmas.List.{take_all}
 use Rattle.vab_disk.specs.declared.record.Call.{Call}
-use Rattle.vab_disk.specs.Memory.{settled_of, calls_of, earlier_of}
+use Rattle.vab_disk.specs.Memory.{settled_of}
 use Rattle.vab_disk.proofs.Kept.{all_calls}
 use Rattle.vab_disk.proofs.memory.MemPort.settled_sector.Goals as goal
 

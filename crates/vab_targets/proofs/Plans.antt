@@ -1,6 +1,6 @@
 -- What a begin and the edits make of a plan: names, groups and numbers alone.
-use Rattle.std.specs.Prelude.{◌≡◌, ℕ, ◌<◌, Bool, true, false, List, [], ◌∷◌, ◌++◌, Option, Some}
-use Rattle.vab_disk.specs.Disk.{Image, IsSector}
+use Rattle.std.specs.Prelude.{◌≡◌, ℕ, Bool, true, false, List, [], ◌∷◌, ◌++◌, Option, Some}
+use Rattle.vab_disk.specs.Disk.{Image}
 use Rattle.vab_names.specs.Names.{base_of}
 use Rattle.vab_space.specs.Space.{blocks_of}
 use Rattle.vab_model.specs.declared.state.GroupLimit.{GroupLimit}
@@ -20,6 +20,7 @@ use Rattle.vab_model.specs.Plans.{at_entry, without_entry, with_entries}
 use Rattle.vab_device.specs.Mounted.{Mounted}
 use Rattle.vab_device.specs.Reading.{IsIn}
 use Rattle.vab_device.specs.Updates.{effect_on}
+use Rattle.vab_targets.specs.Sectors.{HasWholeSectors}
 
 -- what begins an installation, whose target stands apart or not
 abbrev pub begin_of : (apart : Bool) → Command
@@ -45,10 +46,6 @@ edited_plan groups c plan = with_entries plan (edited_entries groups c plan.entr
 -- the state where an update from this source has this plan
 abbrev pub with_plan : State → (source : ℕ) → Plan → State
 with_plan s source plan = record s { phase = Installing source plan }
-
--- each sector of a disk of so many is one of 512 bytes
-abbrev pub HasWholeSectors : ℕ → Image → Type 0
-HasWholeSectors size image = (s : ℕ) → s < size → IsSector (image s)
 
 -- On a disk of whole sectors that is a device, where a begin is done: the current slot has images,
 -- and the plan begins with them, or where the target stands apart with none.

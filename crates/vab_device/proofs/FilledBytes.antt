@@ -13,7 +13,7 @@ use Rattle.vab_space.proofs.DifferingLaws.{differing_same}
 use Rattle.vab_store.specs.Writing.{block_of}
 use Rattle.vab_model.specs.Plans.{blocks_in}
 use Rattle.vab_model.specs.Staged.{filled, block_at, differs, differences}
-use Rattle.vab_device.specs.Updates.{is_other, differences as differences_of, filled as filled_of}
+use Rattle.vab_device.specs.Flashed.{is_other, differences as differences_of, filled as filled_of}
 
 -- ---- zeros behind bytes
 
