@@ -100,27 +100,23 @@ fn a_disk_that_fails_in_a_turn_is_status_6_behind_all_earlier_replies(
     let (input, told) = session(alloc, &cases)?;
     let serve = words(alloc, &["serve", "--turns", "4"])?;
     let mut late = false;
-    let mut nth = 0;
-    while nth < 4096u64 {
-        let mut port = left_by(&ready)?.next_run(input.to_vec(alloc)?);
-        port.fail_at(CallKind::Disk, nth)
-            .map_err(|_| Fail::from("memory"))?;
-        let status = run(alloc, &serve, &mut port);
-        if status.code() == 0 {
-            break;
-        }
-        assert_eq!(rt; status.code(), 6);
-        assert!(rt; told.starts_with(port.told()));
+    for nth in 0..4096u64 {
         // Each call behind the reply is one of a turn; of those before it a few are tried.
-        if port.told() == told.as_slice() {
-            late = true;
-            if nth % 8 == 0 {
+        if late || nth % 29 == 0 {
+            let mut port = left_by(&ready)?.next_run(input.to_vec(alloc)?);
+            port.fail_at(CallKind::Disk, nth)
+                .map_err(|_| Fail::from("memory"))?;
+            let status = run(alloc, &serve, &mut port);
+            if status.code() == 0 {
+                break;
+            }
+            assert_eq!(rt; status.code(), 6);
+            assert!(rt; told.starts_with(port.told()));
+            late = port.told() == told.as_slice();
+            if late && nth % 8 == 0 {
                 let digest: [Case; 1] = [(b"oem digest system_b".as_slice(), DIGEST)];
                 crate::staged::serve(&rt, alloc, left_by(&port)?, &digest, B_WORKS)?;
             }
-            nth += 1;
-        } else {
-            nth += 29;
         }
     }
     assert!(rt; late);
