@@ -1,8 +1,8 @@
 -- The begin of a merge leaves the target alone.
-use Rattle.std.proofs.Common.{◌≡◌, ◌∙◌, ℕ, zero, suc, ◌<◌, Bool, true, false, cond, eqb, List}
+use Rattle.std.proofs.Common.{◌≡◌, ◌∙◌, ℕ, zero, suc, ◌<◌, Bool, true, false, eqb, List}
 use Rattle.std.proofs.Common.{Option}
 use Rattle.std.proofs.Common.{Some, None, refl, sym, ap, subst, arith}
-use Rattle.std.proofs.lemmas.Bool.{eqb-false}
+use Rattle.std.proofs.lemmas.Bool.{eqb-false, not-true}
 use Rattle.std.specs.Prelude.{not}
 use Rattle.vab_disk.specs.Disk.{Image}
 use Rattle.vab_bootctl.specs.Boot.{info_at}
@@ -37,10 +37,6 @@ pub tested : (b : Bool) (refusal : Refusal) (e : Effect State)
 tested true refusal e done = (refl, done)
 tested false refusal e done =
     absurd (let bad : replies.Refused refusal ≡ replies.Done = done in cc)
-
-not_true : (b : Bool) → not b ≡ true → b ≡ false
-not_true true is = absurd cc
-not_true false is = refl
 
 pub refused_not : {A : Type 0} (refusal : Refusal) → replies.Refused refusal ≡ replies.Done → A
 refused_not refusal done = absurd cc
@@ -89,7 +85,7 @@ merge_begins m source left facts phase done =
     tested (not runs) refusals.NotRunningTarget (unless successful refusals.NotSuccessful begins)
     done in
     let works = tested successful refusals.NotSuccessful begins other.1 in
-    let current : runs ≡ false = not_true runs other.0 in
+    let current : runs ≡ false = not-true runs other.0 in
     let same
     : begin_merge_effect m (Staged source left) ≡ does replies.Done (merging_from m source left) =
     rw (current, works.0) refl in

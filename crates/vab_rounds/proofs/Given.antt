@@ -2,6 +2,7 @@
 use Rattle.std.proofs.Common.{◌≡◌, ◌∙◌, ◌⊎◌, inl, inr, ℕ, zero, suc, ◌+◌, ◌<◌, ◌≤◌, ◌==◌, Bool}
 use Rattle.std.proofs.Common.{true, false, cond, List, [], ◌∷◌, ◌++◌, Option, Some, None}
 use Rattle.std.proofs.Common.{refl, sym, ap, subst, arith}
+use Rattle.std.proofs.lemmas.Bool.{not-true}
 use Rattle.std.specs.Prelude.{not, is_some, nat_le, ◌^◌}
 use Rattle.std.proofs.lemmas.Bool.Decides.{nat_tests}
 use Rattle.vab_space.specs.declared.Chunk.{Chunk}
@@ -26,7 +27,7 @@ use Rattle.vab_model.specs.Effects.{Effect, Found, Image_is, Refused_by, found_o
 use Rattle.vab_model.specs.Effects.{digest_effect, active_effect, effect_map, IsOneOf}
 use Rattle.vab_model.specs.Machine.{machine_effect, unless, cancelled as cancelled_state}
 use Rattle.vab_model.specs.Machine.{merging_from as merging_state}
-use Rattle.vab_model.specs.Effects.{does, refuses, after_of, last_of}
+use Rattle.vab_model.specs.Effects.{does, after_of, last_of}
 use Rattle.vab_model.specs.Machine.{without_images, with_images, least_declared}
 use Rattle.vab_device.specs.Mounted.{Mounted, Places, in_state}
 use Rattle.vab_device.specs.Flashed.{flash_effect}
@@ -150,10 +151,6 @@ module _ (slot : ℕ) (images : List ImageOfSlot) where
       by : (y : Mounted) → IsOneOf (x ∷ []) y → Stands y
       by y (inl here) = subst Stands (sym here) next
       by y (inr none) = absurd none
-
-  not_true : (b : Bool) → not b ≡ true → b ≡ false
-  not_true true is = absurd cc
-  not_true false is = refl
 
   -- a row of the machine that is refused, unless a test holds
   tested : (m : Mounted) (places : Places) (b : Bool) (refusal : Refusal) (e : Effect State)
@@ -309,7 +306,7 @@ module _ (slot : ℕ) (images : List ImageOfSlot) where
       tested m places marked refusals.NotSuccessful begun (inl is)
       (λ yes.
       one m (merging_from m from left) (inl is)
-      (inr (inl (alone_then m from left at (not_true _ other) is)))))
+      (inr (inl (alone_then m from left at (not-true _ other) is)))))
   merge_begins m (Merging target left) at is = absurd at
 
   ready_makes : (m : Mounted) (staged : Option (List ℕ)) (c : Command)
