@@ -1,9 +1,8 @@
 -- The turns of a merge that are made between two packets.
 use Rattle.std.proofs.Common.{◌≡◌, ◌∙◌, ℕ, Bool, true, false, List, [], ◌∷◌, Option, None, Result}
 use Rattle.std.proofs.Common.{Ok, Err}
-use Rattle.std.proofs.Common.{refl, sym, ap, subst, arith, cond, rules}
+use Rattle.std.proofs.Common.{refl, sym, ap, subst, cond}
 use Rattle.std.specs.Prelude.{◌&&◌}
-use Rattle.vab_disk.specs.Disk.{Outcome}
 use Rattle.vab_disk.specs.declared.disk.Disk.{Ghosts}
 use Rattle.vab_disk.proofs.CallLaws.{changes_none, reads_none}
 use Rattle.vab_disk.proofs.Moments.{adds_none, adds_wider}
@@ -20,16 +19,15 @@ use Rattle.vab_device.specs.Does.{Does, effect_of}
 use Rattle.vab_device.specs.Kept.{IsDevice}
 use Rattle.vab_device.specs.Mounted.{Mounted, mounted_on}
 use Rattle.vab_device.specs.Reading.{IsIn, Represents}
-use Rattle.vab_device.specs.Updates.{effect_on, merge_effect, turns}
+use Rattle.vab_device.specs.Updates.{effect_on, merge_effect}
 use Rattle.vab_device.proofs.DoesLaws.{keeps_all}
 use Rattle.vab_device.proofs.WantLaws.{verb_wants}
 use Rattle.vab_merging.specs.Writes.{IsOfMerge}
 use Rattle.vab_commands.specs.Touched.{ChangesBy}
 use Rattle.vab_commands.proofs.ChangeLaws.{changes_under, command_changes_by, follows_under}
-use Rattle.vab_exchanges.specs.Items.{passed}
 use Rattle.vab_exchanges.specs.Runs.{Passes}
 use Rattle.vab_session.specs.Between.{GoesOn}
-use Rattle.vab_session.specs.Responses.{turns_between, machine}
+use Rattle.vab_session.specs.Responses.{turns_between}
 use Rattle.vab_session.specs.Served.{kept_on}
 use Rattle.vab_session.specs.declared.fault.SessionFault.TheVariants.{Disk}
 use Rattle.vab_session.specs.declared.kept.KeptDevice.{KeptDevice}

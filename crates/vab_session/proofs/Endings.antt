@@ -2,7 +2,7 @@
 use Rattle.std.proofs.Common.{inl, inr, ℕ, ◌≤◌, List, [], ◌++◌, Some, None, Err, length, take}
 use Rattle.std.proofs.Common.{codes, subst, sym, ap, ◌∙◌, ◌≡◌, Ok, refl}
 use Rattle.std.proofs.Common.{min, Result}
-use Rattle.vab_disk.specs.Disk.{Image, Outcome, Leaves, Adds}
+use Rattle.vab_disk.specs.Disk.{Outcome, Leaves}
 use Rattle.vab_disk.specs.Calls.{IsAtRest}
 use Rattle.vab_disk.specs.declared.disk.Disk.{Ghosts}
 use Rattle.vab_device.specs.Mounted.{Mounted, mounted_on}

@@ -1,6 +1,6 @@
 -- A slot keeps its images until a merge from it is begun.
 use Rattle.std.proofs.Common.{◌≡◌, ◌∙◌, ◌⊎◌, inl, inr, ℕ, zero, suc, ◌-◌, ◌≤◌, ◌<◌, ◌++◌, ◌==◌}
-use Rattle.std.proofs.Common.{Bool, true, false, cond, List, [], ◌∷◌, length, drop, codes, Option}
+use Rattle.std.proofs.Common.{Bool, true, false, List, [], ◌∷◌, length, drop, codes, Option}
 use Rattle.std.proofs.Common.{Some, None, map, refl, sym, ap, subst, arith}
 use Rattle.std.specs.Prelude.{not, is_some, nat_le, ◌^◌}
 use Rattle.std.proofs.lemmas.Bool.{cases_Bool}
@@ -26,7 +26,7 @@ use Rattle.vab_model.specs.Effects.{Effect, Found, Image_is, Refused_by, found_o
 use Rattle.vab_model.specs.Effects.{digest_effect, active_effect, effect_map, IsOneOf}
 use Rattle.vab_model.specs.Machine.{machine_effect, unless, cancelled as cancelled_state}
 use Rattle.vab_model.specs.Machine.{merging_from as merging_state}
-use Rattle.vab_model.specs.Effects.{does, refuses}
+use Rattle.vab_model.specs.Effects.{does}
 use Rattle.vab_model.specs.Kinds.{is_finish}
 use Rattle.vab_model.specs.Machine.{without_images, with_images, least_declared}
 use Rattle.vab_device.specs.Mounted.{Mounted, Places, in_state}

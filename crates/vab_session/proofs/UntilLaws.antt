@@ -6,7 +6,7 @@ use Rattle.std.proofs.Common.{◌∙◌, None, Result, Ok, Err, refl, sym, subst
 use Rattle.std.proofs.lemmas.List.{append_cancel_left}
 use Rattle.std.specs.Prelude.{◌&&◌, nat_lt}
 use Rattle.std.specs.List.{flat_map}
-use Rattle.vab_disk.specs.Disk.{Image, Outcome}
+use Rattle.vab_disk.specs.Disk.{Outcome}
 use Rattle.vab_model.specs.Commands.{Command, Boot, Merge}
 use Rattle.vab_model.specs.Effects.{IsOneOf, last_of}
 use Rattle.vab_device.specs.Mounted.{Mounted}

@@ -1,16 +1,15 @@
 -- What exchanges write, one behind the other.
-use Rattle.std.proofs.Common.{◌≡◌, ◌≢◌, ◌∙◌, ◌⊎◌, inl, inr, ⊎_elim, ℕ, List, [], ◌∷◌, ◌++◌, Option}
-use Rattle.std.proofs.Common.{Some, None, Result, Ok, Err, Bool, true, false, cond, refl, sym, ap}
+use Rattle.std.proofs.Common.{◌≡◌, ◌∙◌, ◌⊎◌, inl, inr, ⊎_elim, ℕ, List, [], ◌∷◌, ◌++◌, Option}
+use Rattle.std.proofs.Common.{Some, None, Result, Bool, true, false, cond, refl, sym, ap}
 use Rattle.std.proofs.Common.{subst, append_assoc}
 use Rattle.std.proofs.lemmas.List.{append-nil}
 use Rattle.std.specs.List.{flat_map}
 use Rattle.std.specs.Prelude.{◌&&◌}
 use Rattle.vab_disk.specs.declared.disk.Disk.{Ghosts}
-use Rattle.vab_disk.specs.Disk.{Image, Outcome, Adds, Nothing, LeavesWith}
+use Rattle.vab_disk.specs.Disk.{Image, Adds, Nothing}
 use Rattle.vab_disk.specs.Port.{LeavesSaying}
 use Rattle.vab_disk.specs.Written.{same_image}
 use Rattle.vab_disk.specs.Calls.{IsAtRest, OnlyReads, SameBut, Touches}
-use Rattle.vab_disk.proofs.CallLaws.{same_then}
 use Rattle.vab_disk.proofs.Moments.{adds_none, adds_on, adds_still, adds_wider}
 use Rattle.vab_gate.specs.declared.gate.DiskFault.{DiskFault}
 use Rattle.vab_model.specs.declared.command.Reply.{Reply}
@@ -18,20 +17,18 @@ use Rattle.vab_model.specs.Commands.{Command, Merge}
 use Rattle.vab_model.specs.declared.command.Refusal.TheVariants.{NoMemory}
 use Rattle.vab_model.specs.Effects.{Effect, refuses, unless_refused}
 use Rattle.vab_device.specs.declared.device.Device.{Device}
-use Rattle.vab_device.specs.Does.{Does, effect_of}
+use Rattle.vab_device.specs.Does.{Does}
 use Rattle.vab_device.specs.Mounted.{Mounted, mounted_on}
 use Rattle.vab_device.specs.Reading.{Represents}
 use Rattle.vab_device.specs.Updates.{effect_on}
 use Rattle.vab_commands.specs.Writes.{IsOfCommand}
-use Rattle.vab_exchanges.specs.Hearing.{Listens}
 use Rattle.vab_exchanges.specs.Session.{Exchange, IsExchange, packet, spelled}
 use Rattle.vab_exchanges.specs.Items.{Kept, item_of, passed, item_behind}
 use Rattle.vab_session.specs.Merges.{AreExchanges}
 use Rattle.vab_session.specs.Responses.{response, machine}
 use Rattle.vab_session.specs.Served.{nothing_staged}
-use Rattle.vab_session.specs.Written.{IsOfChange, IsOfAsked, IsOfPacket, WrittenInTurn}
-use Rattle.vab_session.specs.Written.{WritesInTurn, WritesAs, WritesPacket, command_asked}
-use Rattle.vab_fbproto.specs.Requests.{request_of}
+use Rattle.vab_session.specs.Written.{IsOfChange, IsOfPacket, WrittenInTurn}
+use Rattle.vab_session.specs.Written.{WritesInTurn, WritesAs, WritesPacket}
 
 -- ---- runs of calls
 

@@ -1,5 +1,5 @@
 -- What a session does by itself between two packets.
-use Rattle.std.specs.Prelude.{◌≡◌, ℕ, List, Option, IfOk, OnOk, OnErr, Err, Result}
+use Rattle.std.specs.Prelude.{◌≡◌, ℕ, IfOk, OnOk, OnErr, Err, Result}
 use Rattle.vab_disk.specs.declared.disk.Disk.{Ghosts}
 use Rattle.vab_disk.specs.Calls.{IsAtRest, IsQuiet}
 use Rattle.vab_model.specs.Commands.{Merge}

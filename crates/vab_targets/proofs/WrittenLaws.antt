@@ -19,15 +19,14 @@ use Rattle.vab_model.specs.declared.state.State.{State}
 use Rattle.vab_model.specs.declared.command.Reply.TheVariants as replies
 use Rattle.vab_model.specs.Commands.{Finish}
 use Rattle.vab_model.specs.Effects.{Effect, after_of}
-use Rattle.vab_model.specs.Plans.{entry_named}
 use Rattle.vab_model.specs.State.{images_at}
 use Rattle.vab_model.specs.Machine.{with_images, least_declared}
 use Rattle.vab_device.specs.Mounted.{Mounted}
 use Rattle.vab_device.specs.Reading.{IsIn}
 use Rattle.vab_device.specs.Updates.{effect_on, finish_effect, complete_effect, final_image}
-use Rattle.vab_device.specs.Updates.{image_or, if_written, written_of, entry_by, plan_by}
+use Rattle.vab_device.specs.Updates.{image_or, if_written, written_of, entry_by}
 use Rattle.vab_targets.specs.Sectors.{HasWholeSectors}
-use Rattle.vab_targets.specs.Written.{IsOwnImage, bytes_written, written_image}
+use Rattle.vab_targets.specs.Written.{IsOwnImage, written_image}
 use Rattle.vab_targets.proofs.ApartLaws.{apart_updated}
 use Rattle.vab_targets.proofs.Installed.{IsInstalled, is_installed}
 

@@ -27,7 +27,7 @@ use Rattle.vab_session.specs.declared.fault.SessionFault.{SessionFault}
 use Rattle.vab_session.proofs.Data.{data_fails, same_holds, read_cause}
 use Rattle.vab_session.proofs.Changing.{changes_listening}
 use Rattle.vab_commands.proofs.CopiesLaws.{both_copies, copies_stay}
-use Rattle.vab_session.proofs.WrittenLaws.{writes_still, writes_telling, writes_told}
+use Rattle.vab_session.proofs.WrittenLaws.{writes_telling, writes_told}
 use Rattle.vab_session.proofs.answer.download.Goals as goal
 
 some_wanted : (n : ℕ) → (n ≡ 0 → false ≡ true) → 0 < n

@@ -1,4 +1,4 @@
-use Rattle.std.proofs.Common.{◌≡◌, ℕ, ◌-◌, arith}
+use Rattle.std.proofs.Common.{◌≡◌, arith}
 use Rattle.std.proofs.lemmas.Bool.Decides.{nat_tests}
 use Rattle.vab_session.proofs.BetweenLaws.{goes_nowhere, goes, goes_wrong}
 use Rattle.vab_session.proofs.between.go_on.Goals as goal

@@ -30,7 +30,7 @@ use Rattle.vab_session.proofs.Changing.{changes_heard, changes_still, changes_an
 use Rattle.vab_session.proofs.Changing.{asks_none, follows_kept}
 use Rattle.vab_commands.proofs.CopiesLaws.{both_copies, copies_stay}
 use Rattle.vab_commands.specs.Copies.{HasBothCopies}
-use Rattle.std.proofs.Common.{◌≤◌, Result, length}
+use Rattle.std.proofs.Common.{◌≤◌, length}
 use Rattle.vab_disk.specs.Calls.{IsAtRest}
 use Rattle.vab_exchanges.specs.Session.{IsExchange}
 use Rattle.vab_exchanges.proofs.Progress.{still_settled}

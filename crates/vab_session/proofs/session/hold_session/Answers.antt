@@ -3,7 +3,6 @@ use Rattle.std.proofs.Common.{drop, codes, sym, ap, subst, arith, rules, length-
 use Rattle.std.proofs.Common.{get_or-drop, take-append-drop, Result, Ok, false}
 use Rattle.std.specs.Prelude.{is_err, OnOk}
 use Rattle.vab_disk.specs.Disk.{Image, Outcome, Leaves, Adds, Nothing}
-use Rattle.vab_disk.specs.Calls.{IsAtRest}
 use Rattle.vab_disk.proofs.Moments.{adds_still}
 use Rattle.vab_disk.specs.declared.disk.Disk.{Ghosts}
 use Rattle.vab_disk.proofs.CallLaws.{changes_telling, changes_then}
