@@ -26,8 +26,8 @@ is_status SnapshotUpdateStatus = true
 is_status _ = false
 
 -- The kinds of packets whose reply may show how far a merge is: the begin of an update, an edit, a
--- store, a flash, the end of an installation, a cancel, the begin of a merge, a merge, and the
--- variable that says where an update stands.
+-- store, a flash, the end of an installation, a cancel, the begin of a merge, a merge, a wipe, and
+-- the variable that says where an update stands.
 abbrev pub may_show_a_merge : Result Asked BadCommand → Bool
 may_show_a_merge (Ok (Do command)) = is_of_update command
 may_show_a_merge (Ok MergeAll) = true

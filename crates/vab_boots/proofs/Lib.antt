@@ -4,3 +4,4 @@ mod Facts
 mod Installing
 mod Keeping
 mod Planned
+mod Wiping

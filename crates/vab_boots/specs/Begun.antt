@@ -11,7 +11,7 @@ use Rattle.vab_model.specs.State.{images_at}
 use Rattle.vab_device.specs.Mounted.{Mounted}
 use Rattle.vab_device.specs.Reading.{IsIn}
 use Rattle.vab_device.specs.Updates.{effect_on}
-use Rattle.vab_model.specs.Kinds.{is_finish}
+use Rattle.vab_model.specs.Kinds.{ends_alone}
 use Rattle.vab_session.specs.Alone.{IsAlone, BootsTo}
 
 -- The merge of an update that was ready has begun: its target alone has images, those that it had,
@@ -33,11 +33,11 @@ BegunIsAlone = (size : ℕ) (image : Image) (m : Mounted) (staged : Option (List
     → (effect_on m staged BeginMerge).reply ≡ replies.Done
     → BeginsAlone m (after_of m (effect_on m staged BeginMerge))
 
--- Each command but the end of an installation leaves a slot alone that is, with the same images:
--- so each turn of the merge does.
+-- Each command but the end of an installation and a wipe leaves a slot alone that is, with the same
+-- images: so each turn of the merge does.
 abbrev pub StaysAlone : Type 0
 StaysAlone = (m next : Mounted) (staged : Option (List ℕ)) (c : Command)
-    → is_finish c ≡ false
+    → ends_alone c ≡ false
     → (slot : ℕ)
     → (images : List ImageOfSlot)
     → IsAlone slot images m

@@ -1,5 +1,5 @@
 -- Which images a slot has after a command: those of its plan from the end of an installation on,
--- and the same ones else.
+-- and the same ones else, but where it is wiped.
 use Rattle.std.specs.Prelude.{◌≡◌, ◌⊎◌, ℕ, false, List, map, Some, None}
 use Rattle.std.specs.Prelude.{Option, All}
 use Rattle.vab_layout.specs.Slots.{other_slot}
@@ -64,7 +64,7 @@ pub record SameImages (m next : Mounted) : Type 0 where
   pub a : next.state.a ≡ m.state.a
   pub b : next.state.b ≡ m.state.b
 
--- All commands but three leave the images of both slots, at each step.
+-- All commands but four leave the images of both slots, at each step.
 abbrev pub OthersKeepImages : Type 0
 OthersKeepImages = (m next : Mounted) (staged : Option (List ℕ)) (c : Command)
     → changes_images c ≡ false

@@ -2,3 +2,4 @@ pub mod Begun
 pub mod Boots
 pub mod Images
 pub mod Installed
+pub mod Wiped

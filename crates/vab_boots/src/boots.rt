@@ -11,7 +11,8 @@ pub fn always_boots()
 {}
 
 /// Where the begin of a merge is done, the target alone has images, those that it had, and a boot
-/// goes to it. It stays so at each step of each command but the end of another installation.
+/// goes to it. It stays so at each step of each command but the end of another installation and a
+/// wipe.
 pub fn begun_merge_stands_alone()
     ensures begun { BegunIsAlone }
     ensures stays { StaysAlone }

@@ -3,7 +3,7 @@ ghost use Rattle.vab_boots.specs.Images.{CancelDropsTarget, FinishedIsPlan, Othe
 
 /// Where an installation ends, the target's images are those of its plan: what was written, and the
 /// source's where a partition is kept. A cancel takes them, and leaves the source's. No other
-/// command but the begin of a merge changes the images of a slot.
+/// command but the begin of a merge and a wipe changes the images of a slot.
 pub fn finished_images()
     ensures target { FinishedIsPlan }
     ensures cancelled { CancelDropsTarget }

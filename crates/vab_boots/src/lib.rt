@@ -1,11 +1,13 @@
 //! Laws on what boots: on each device a slot does, while a set is installed the running one, and
-//! once a merge has begun the new images alone.
+//! once a merge has begun the new images alone. And on what a wipe of `super` leaves.
 #![tactic(auto)]
 
 mod boots;
 mod images;
 mod installs;
+mod wipes;
 
 pub use boots::{always_boots, begun_merge_stands_alone};
 pub use images::finished_images;
 pub use installs::running_slot_stays;
+pub use wipes::wiped_slot_is_empty;

@@ -26,7 +26,7 @@ use Rattle.vab_words.specs.Verbs.{Meaning, Make, Adopt, Serve, Demo}
 use Rattle.vab_words.specs.Verbs as verbs
 use Rattle.vab_exchanges.specs.Runs.{acknowledged, steps_at}
 use Rattle.vab_commands.specs.Touched.{IsOfAll, IsOfCommands}
-use Rattle.vab_model.specs.Kinds.{is_finish}
+use Rattle.vab_model.specs.Kinds.{ends_alone}
 use Rattle.vab_session.specs.Alone.{IsAlone, StandsAlone}
 use Rattle.vab_session.specs.Merges.{MergesNothing}
 use Rattle.vab_session.proofs.AloneLaws.{AreAlone, one, more, last_alone, stands_alone}
@@ -80,10 +80,10 @@ same_turns fresh a b is = cc
 
 -- ---- one slot alone with images
 
--- no verb ends an installation
+-- no verb ends an installation, or wipes the slot
 is_end : Option Command → Bool
 is_end None = false
-is_end (Some c) = is_finish c
+is_end (Some c) = ends_alone c
 
 none_ends : (m : Meaning) → is_end (command_of m) ≡ false
 unfolding is_end
@@ -102,13 +102,13 @@ none_ends (verbs.Digest name) = refl
 none_ends verbs.Status = refl
 none_ends (Demo seed scale) = refl
 
-ends_none : (m : Meaning) (c : Command) → command_of m ≡ Some c → is_finish c ≡ false
+ends_none : (m : Meaning) (c : Command) → command_of m ≡ Some c → ends_alone c ≡ false
 unfolding is_end
 ends_none m c some = ap is_end (sym some) ∙ none_ends m
 
 -- the steps of a verb
 steps_alone : (s : Mounted) (c : Command) (slot : ℕ) (images : List ImageOfSlot)
-    → is_finish c ≡ false
+    → ends_alone c ≡ false
     → IsAlone slot images s
     → (n : ℕ)
     → AreAlone slot images (steps_at [] s (verb_item s c ∷ []) n)
@@ -122,15 +122,17 @@ steps_alone s c slot images other is (suc n) =
 
 item_keeps : (s : Mounted) (c : Command) (slot : ℕ) (images : List ImageOfSlot) (n : ℕ)
     (x : Mounted)
+    → ends_alone c ≡ false
     → HasKept slot images s
     → IsOneOf (steps_at [] s (verb_item s c ∷ []) n) x
     → HasKept slot images x ⊎ FindsMergedFrom slot (verb_item s c).steps
-item_keeps s c slot images n x is at =
+item_keeps s c slot images n x other is at =
     until.item_step (source.Merged slot images) (source.Stands slot images)
-    (source.apart slot images) s (verb_item s c) n x
+    (source.not_merged slot images) s (verb_item s c) n x
     (until.item_makes (source.Merged slot images) (source.Stands slot images)
-    (source.apart slot images) s (verb_item s c) (effect_on s None c).later refl refl is
-    (source.command_makes slot images s None c is))
+    (source.not_merged slot images) s (verb_item s c) (effect_on s None c).later refl refl is
+    (source.plain_makes slot images (source.Merged slot images) (source.not_merged slot images)
+    (λ m merged. merged) s None c other is))
     at
 
 module _ {D : Type 0}
@@ -173,7 +175,7 @@ module _ {D : Type 0}
   cut_alone : (c : Command) (s : Mounted) (slot : ℕ) (images : List ImageOfSlot) (o : Outcome)
       → RunsItem g (g.size old) s (verb_item s c) (verb_status s c) old new status
       ⊎ FailsBefore g (g.size old) s old new status
-      → is_finish c ≡ false
+      → ends_alone c ≡ false
       → IsAlone slot images s
       → IsAtRest g old
       → g.outcomes new (g.moment old) o
@@ -192,22 +194,23 @@ module _ {D : Type 0}
   cut_kept : (c : Command) (s : Mounted) (slot : ℕ) (images : List ImageOfSlot) (o : Outcome)
       → RunsItem g (g.size old) s (verb_item s c) (verb_status s c) old new status
       ⊎ FailsBefore g (g.size old) s old new status
+      → ends_alone c ≡ false
       → HasKept slot images s
       → IsAtRest g old
       → g.outcomes new (g.moment old) o
       → StandsKept (g.size old) slot images o.image
       ⊎ FindsMergedFrom slot (verb_item s c).steps
-  cut_kept c s slot images o (inl runs) is rest at =
+  cut_kept c s slot images o (inl runs) other is rest at =
       let crash = ⊎_elim (λ within. within) (λ none. absurd none)
       ((let items = runs.items in items.every_cut) rest o at) in
       elim
       (item_keeps s c slot images (acknowledged (verb_item s c ∷ []) (drop 0 crash.since))
-      crash.step.0 is crash.step.1) [
+      crash.step.0 other is crash.step.1) [
         | inl stands ↦
             inl (stands_kept slot images (g.size old) o crash.step.0 crash.step.2 stands)
         | inr found ↦ inr found
       ]
-  cut_kept c s slot images o (inr fails) is rest at =
+  cut_kept c s slot images o (inr fails) other is rest at =
       inl (stands_kept slot images (g.size old) o s (fails.every_cut rest o at).stands is)
 
   -- a verb that is a command on a device
@@ -256,7 +259,7 @@ module _ {D : Type 0}
         (λ (x : Command).
         StandsKept (g.size old) slot images o.image
         ⊎ FindsMergedFrom slot (verb_item s x).steps)
-        one (cut_kept c s slot images o (runs t s stands) kept rest at);
+        one (cut_kept c s slot images o (runs t s stands) (ends_none m c some) kept rest at);
     quiet = λ t c' is. quiet t;
     serve = λ t turns is. is_command m (Serve false turns) c some is refl;
     none_served = λ t turns is. is_command m (Serve false turns) c some is refl;

@@ -158,8 +158,8 @@ pub record DoesVerb {D : Type 0}
       → HearsNothing g old new
   -- It writes what opening may, and what its commands may write: boot control by the boot
   -- rules, the update mark, the statuses, tables, and blocks behind them. Where no packet asks for
-  -- a merge and no turn is made between packets, those are the target's table, and blocks of no
-  -- image.
+  -- a merge or a wipe, and no turn is made between packets, those are the target's table, and
+  -- blocks of no image.
   pub touches_served : g.is_modelled
       → (turns : ℕ)
       → m ≡ Serve false turns

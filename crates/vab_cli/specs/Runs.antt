@@ -16,9 +16,9 @@ use Rattle.vab_exchanges.specs.Session as session
 use Rattle.vab_exchanges.specs.Items.{Item, items_of, joined, kept_after, closing_of, final_of}
 use Rattle.vab_exchanges.specs.Runs.{acknowledged, CrashesWithin, IsTold}
 use Rattle.vab_exchanges.specs.Hearing.{HearsWhere}
-use Rattle.vab_session.specs.Alone.{IsAlone, StandsAlone, FindsReady, reached_in}
+use Rattle.vab_session.specs.Alone.{IsAlone, StandsAlone, FindsEnd, reached_in}
 use Rattle.vab_session.specs.Responses.{machine}
-use Rattle.vab_session.specs.Source.{HasKept, StandsKept, FindsMergedFrom}
+use Rattle.vab_session.specs.Source.{HasKept, StandsKept, FindsGone}
 use Rattle.vab_cli.specs.declared.status.Status.{Status}
 use Rattle.vab_cli.specs.declared.status.Status.TheVariants.{Done, Usage, Malformed, Refused}
 use Rattle.vab_cli.specs.declared.status.Status.TheVariants.{NotADevice, Disk, Port, NoMemory}
@@ -175,8 +175,8 @@ module _ {D : Type 0} (g : Ghosts D) (size : ℕ) where
         (g.heard new)
     -- From where one slot alone has images and no update is ready, as from the reply of the begin
     -- of a merge on: in every outcome it alone has images, the same ones, and a boot goes to it;
-    -- or by then an update was ready. An installation that isn't ended, since that is refused, is
-    -- none.
+    -- or by then an update was ready, or the slot was wiped. An installation that isn't ended, or a
+    -- wipe that isn't done, since that is refused, is none.
     pub alone : IsAtRest g old
         → (done later : List Exchange)
         → exchanges ≡ done ++ later
@@ -191,7 +191,7 @@ module _ {D : Type 0} (g : Ghosts D) (size : ℕ) where
         ≤ acknowledged (items_of (machine turns) (nothing_staged first) exchanges unfinished)
         (drop 4 since)
         → (StandsAlone size slot images o.image
-        ⊎ FindsReady
+        ⊎ FindsEnd slot images
         (reached_in turns (kept_after (machine turns) (nothing_staged first) done) later unfinished
         (waits_in (2 ^ 44) (g.input_left old) end)
         (acknowledged (items_of (machine turns) (nothing_staged first) exchanges unfinished)
@@ -199,8 +199,8 @@ module _ {D : Type 0} (g : Ghosts D) (size : ℕ) where
         - length done)))
         ⊎ Else o
     -- From where one slot alone has images, or the update that was installed from it is ready: in
-    -- every outcome the slot has these images; or by then a merge from it was begun. One that isn't
-    -- begun, since that is refused, is none.
+    -- every outcome the slot has these images; or by then a merge from it was begun, or it was
+    -- wiped. What isn't begun or done, since it is refused, is none.
     pub kept : IsAtRest g old
         → (done later : List Exchange)
         → exchanges ≡ done ++ later
@@ -215,7 +215,7 @@ module _ {D : Type 0} (g : Ghosts D) (size : ℕ) where
         ≤ acknowledged (items_of (machine turns) (nothing_staged first) exchanges unfinished)
         (drop 4 since)
         → (StandsKept size slot images o.image
-        ⊎ FindsMergedFrom slot
+        ⊎ FindsGone slot images
         (reached_in turns (kept_after (machine turns) (nothing_staged first) done) later unfinished
         (waits_in (2 ^ 44) (g.input_left old) end)
         (acknowledged (items_of (machine turns) (nothing_staged first) exchanges unfinished)

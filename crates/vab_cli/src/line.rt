@@ -84,7 +84,8 @@ fn done_line(command: &Command, current: usize, left: u64, out: &mut Line)
         | Command::Snapshot(_, _)
         | Command::Flash(_, _)
         | Command::Finish
-        | Command::Merge(_) => put_line(out, b"", b""),
+        | Command::Merge(_)
+        | Command::UpdateSuper => put_line(out, b"", b""),
     }
 }
 

@@ -20,11 +20,11 @@ use Rattle.vab_layout.specs.Slots.{other_slot}
 use Rattle.vab_install.specs.Control.{cleared_of, IsControl as IsClearing}
 use Rattle.vab_model.specs.Commands.{Command, SetActive, Boot, Mark, Print, Digest, Begin, Create}
 use Rattle.vab_model.specs.Commands.{Resize, Delete, Snapshot, Flash, Finish, Cancel, BeginMerge}
-use Rattle.vab_model.specs.Commands.{Merge, Factory}
+use Rattle.vab_model.specs.Commands.{Merge, Factory, UpdateSuper}
 use Rattle.vab_device.specs.declared.device.Device.{Device}
 use Rattle.vab_device.specs.declared.device.Part.{Part}
 use Rattle.vab_device.specs.Does.{KeepsSource}
-use Rattle.vab_model.specs.Kinds.{is_of_merge}
+use Rattle.vab_model.specs.Kinds.{changes_source}
 use Rattle.vab_device.specs.Kept.{IsDevice, copies_end, has_both, has_slot, parts_at}
 use Rattle.vab_device.specs.Reading.{Represents, IsOfImages}
 use Rattle.vab_begin.specs.Writes.{IsOfBegun}
@@ -105,9 +105,9 @@ module _ {D : Type 0}
       inr (inl (record { mark = begun apart d.mark; of = refl; is = mark })))
       w.writes
 
-  -- what a command that isn't one of a merge writes is of those that such commands write
+  -- what a command that doesn't change the source writes is of those that such commands write
   pub one_writes : (command : Command)
-      → is_of_merge command ≡ false
+      → changes_source command ≡ false
       → IsOfCommand g.is_modelled d (g.seen old 4) command s b
       → Writes
   one_writes (SetActive slot) not w = inl (record {
@@ -164,8 +164,9 @@ module _ {D : Type 0}
       inr (inl (record { mark = rephased marks.Idle d.mark; of = refl; is = w.mark }))
   one_writes BeginMerge not w = absurd (let no : true ≡ false = not in cc)
   one_writes (Merge blocks) not w = absurd (let no : true ≡ false = not in cc)
+  one_writes UpdateSuper not w = absurd (let no : true ≡ false = not in cc)
 
--- what commands write that aren't of a merge is of what all of them write
+-- what commands write that don't change the source is of what all of them write
 update_all : (d : Device) (s : ℕ) (b : List ℕ) → IsOfUpdate d s b → IsOfUpdates d.geometry s b
 update_all d s b (inl mark) = inl (record { slot = d.mark.slot; mark = mark })
 update_all d s b (inr (inl statuses)) = inr (inl statuses)
@@ -210,30 +211,35 @@ any_writes : {D : Type 0} (g : Ghosts D) (d : Device) (old : D) (s : ℕ) (b : L
     → IsOfCommand g.is_modelled d (g.seen old 4) command s b
     → IsOfAll d (g.seen old 4) s b
 any_writes g d old s b command t device is w =
-    elim (cases_Bool (is_of_merge command)) [
-      | inl merge ↦ inr (of_merge command merge w)
+    elim (cases_Bool (changes_source command)) [
+      | inl source ↦ inr (of_source command source w)
       | inr not ↦
           commands_all d (g.seen old 4) s b device.slot
           (one_writes g t d old device is s b command not w)
     ]
   where
-    of_merge : (command : Command)
-        → is_of_merge command ≡ true
+    of_source : (command : Command)
+        → changes_source command ≡ true
         → IsOfCommand g.is_modelled d (g.seen old 4) command s b
         → IsOfUpdates d.geometry s b
-    of_merge BeginMerge merge w = inl (record {
+    of_source BeginMerge source w = inl (record {
       slot = other_slot d.mark.slot;
       mark = record { mark = merging_mark d.mark; of = refl; is = w.mark };
     })
-    of_merge (Merge blocks) merge w =
+    of_source (Merge blocks) source w =
         merge_writes d (g.size old) (g.seen old) blocks s b device is w
-    of_merge _ merge w = absurd cc
+    of_source UpdateSuper source w = inr (inr (inl (record {
+      slot = d.mark.slot;
+      below = device.slot;
+      text = record { text = _; fits = w.1.short; is = w.1.writes };
+    })))
+    of_source _ source w = absurd cc
 
 pub command_changes : {D : Type 0} (g : Ghosts D) (d : Device) (command : Command) (old new : D)
     → g.is_modelled
     → IsDevice d (g.size old)
     → Represents d (g.size old) (g.seen old)
-    → is_of_merge command ≡ false
+    → changes_source command ≡ false
     → Touches g (IsOfCommand g.is_modelled d (g.seen old 4) command) old new
     → ChangesDevice g d old new
 command_changes g d command old new t device is not touches =
@@ -444,7 +450,7 @@ pub command_changes_by : {D : Type 0} (g : Ghosts D) (d : Device) (command : Com
     → IsDevice d (g.size old)
     → Represents d (g.size old) (g.seen old)
     → Touches g (IsOfCommand g.is_modelled d (g.seen old 4) command) old new
-    → ChangesBy g d (is_of_merge command ≡ false) old new
+    → ChangesBy g d (changes_source command ≡ false) old new
 command_changes_by g d command old new t device is touches = record {
   all = command_changes_all g d command old new t device is touches;
   plain = λ not. command_changes g d command old new t device is not touches;

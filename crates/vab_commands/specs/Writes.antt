@@ -1,8 +1,8 @@
 -- The sectors that a command may write.
-use Rattle.std.specs.Prelude.{ℕ, true, false, List}
+use Rattle.std.specs.Prelude.{ℕ, true, false, List, Option}
 use Rattle.vab_model.specs.Commands.{Command, SetActive, Boot, Mark, Print, Digest, Begin, Create}
 use Rattle.vab_model.specs.Commands.{Resize, Delete, Snapshot, Flash, Finish, Cancel, BeginMerge}
-use Rattle.vab_model.specs.Commands.{Merge, Factory}
+use Rattle.vab_model.specs.Commands.{Merge, Factory, UpdateSuper}
 use Rattle.vab_device.specs.declared.device.Device.{Device}
 use Rattle.vab_manager.specs.Controls as slots
 use Rattle.vab_begin.specs.Writes.{IsOfBegun, IsOfCancelled}
@@ -11,12 +11,14 @@ use Rattle.vab_finish.specs.Writes.{IsOfFinished}
 use Rattle.vab_flash.specs.Touched.{IsOfFlash}
 use Rattle.vab_merging.specs.GateWrites.{IsOfMergeBegun}
 use Rattle.vab_merging.specs.Writes.{IsOfMerge}
+use Rattle.vab_wipe.specs.Writes.{IsOfWipe}
 
 -- What a command may write on a device, where boot control's sector has these bytes: a command on
 -- slots boot control, by the boot rules; a begin its target's table and the mark, an edit that
 -- table, a flash the partition's store, or its own blocks, and a status, a finish boot control
 -- without the target and the mark, a cancel and the begin of a merge the mark, and a merge blocks
--- of the partitions, entries of their stores, and the mark at its end. The others write nothing.
+-- of the partitions, entries of their stores, and the mark at its end, and a wipe the table of the
+-- mark's slot. The others write nothing.
 abbrev pub IsOfCommand : Type 0 → Device → List ℕ → Command → ℕ → List ℕ → Type 0
 IsOfCommand told d old (SetActive slot) s b = slots.IsOfCommand d old (SetActive slot) s b
 IsOfCommand told d old Boot s b = slots.IsOfCommand d old Boot s b
@@ -34,3 +36,4 @@ IsOfCommand told d old Finish s b = IsOfFinished told d old s b
 IsOfCommand told d old Cancel s b = IsOfCancelled d s b
 IsOfCommand told d old BeginMerge s b = IsOfMergeBegun d s b
 IsOfCommand told d old (Merge blocks) s b = IsOfMerge d blocks s b
+IsOfCommand told d old UpdateSuper s b = (staged : Option (List ℕ)) × IsOfWipe d staged s b

@@ -19,12 +19,14 @@ use vab_gate::DiskFault;
 use vab_manager::{boot, digest, mark, print, set_active};
 use vab_merging::{begin_merge, merge};
 use vab_model::{Command, Reply};
+use vab_wipe::update_super;
 
 /// Carries out one command on a device, where these bytes are staged. Where the device that is kept
 /// is that of the disk, the reply and the device after it are those of the table of effects; where
 /// nothing was pending, each outcome since is a step of the command. A command touches what is its
 /// own alone, and a question or a refusal nothing. Want of memory comes in place of `Done` and of
-/// `TableFull` alone, and then nothing is written. An error comes where the disk has failed.
+/// `TableFull` alone, of a wipe also in place of what its image is refused for, and then nothing is
+/// written. An error comes where the disk has failed.
 pub fn run_one<D: Disk>(
     alloc: Global,
     d: &mut D,
@@ -61,5 +63,6 @@ pub fn run_one<D: Disk>(
         Command::Finish => finish(d, device),
         Command::BeginMerge => begin_merge(d, device),
         Command::Merge(blocks) => merge(d, device, blocks),
+        Command::UpdateSuper => update_super(alloc, d, device, staged),
     }
 }

@@ -1,7 +1,8 @@
--- Memory may be refused in place of an edit's, a begin's or a flash's effect alone, where its reply
--- is that it is done or that the table is full. No command of a verb takes memory.
-use Rattle.std.proofs.Common.{◌≡◌, ◌∙◌, ℕ, ◌*◌, ◌^◌, Bool, true, false, cond, List, [], length, sym}
-use Rattle.std.proofs.Common.{Option, Result, Ok, Err, Some, None, refl, subst}
+-- Memory may be refused in place of an edit's, a begin's or a flash's effect, where its reply is
+-- that it is done or that the table is full. No command of a verb takes memory. Of a wipe this says
+-- nothing.
+use Rattle.std.proofs.Common.{◌≡◌, ◌≢◌, ◌∙◌, ℕ, ◌*◌, ◌^◌, Bool, true, false, cond, List, []}
+use Rattle.std.proofs.Common.{length, sym, Option, Result, Ok, Err, Some, None, refl, subst}
 use Rattle.std.specs.Prelude.{◌==◌, not, nat_lt, nat_le, is_some}
 use Rattle.vab_bootctl.specs.Boot.{info_at}
 use Rattle.vab_names.specs.Names.{is_full, base_of}
@@ -23,7 +24,7 @@ use Rattle.vab_model.specs.declared.command.Reply.{Reply}
 use Rattle.vab_model.specs.declared.command.Reply.TheVariants as replies
 use Rattle.vab_model.specs.Commands.{Command, SetActive, Boot, Mark, Print, Digest, Begin, Create}
 use Rattle.vab_model.specs.Commands.{Resize, Delete, Snapshot, Flash, Finish, Cancel, BeginMerge}
-use Rattle.vab_model.specs.Commands.{Merge, Factory}
+use Rattle.vab_model.specs.Commands.{Merge, Factory, UpdateSuper}
 use Rattle.vab_model.specs.Effects.{Effect, refuses, does, active_effect, print_effect}
 use Rattle.vab_model.specs.Effects.{digest_effect, Found, Image_is, Refused_by, found_of}
 use Rattle.vab_model.specs.Effects.{effect_map, wanting}
@@ -277,26 +278,30 @@ module _ (m : Mounted) where
   verb_told staged c verb = nothing_told (effect_on m staged c) (verb_wants staged c verb)
 
   -- where memory may be refused, the reply is that it is done, or that the table is full
-  pub wants_told : (staged : Option (List ℕ)) (c : Command) → TellsWanted (effect_on m staged c)
-  wants_told staged Begin = begins false m.state.phase
-  wants_told staged Factory = begins true m.state.phase
-  wants_told staged (Create name size) =
+  pub wants_told : (staged : Option (List ℕ)) (c : Command)
+      → c ≢ UpdateSuper
+      → TellsWanted (effect_on m staged c)
+  wants_told staged Begin other = begins false m.state.phase
+  wants_told staged Factory other = begins true m.state.phase
+  wants_told staged (Create name size) other =
       edits no_guard (create_edit name size) m.state.phase
-  wants_told staged (Resize name size) =
+  wants_told staged (Resize name size) other =
       edits (settled_guard (nat_le size (2 ^ 40)) name) (resize_edit name size) m.state.phase
-  wants_told staged (Delete name) =
+  wants_told staged (Delete name) other =
       edits (settled_guard true name) (delete_edit name) m.state.phase
-  wants_told staged (Snapshot name size) =
+  wants_told staged (Snapshot name size) other =
       edits store_guard (snapshot_edit name size) m.state.phase
-  wants_told staged (Flash name k) =
+  wants_told staged (Flash name k) other =
       subst TellsWanted (sym (flash_by_blocks m staged name k))
       (flashes staged name k m.state.phase)
-  wants_told staged Finish = nothing_told (finish_effect m m.state.phase) (finishes m.state.phase)
-  wants_told staged (SetActive n) = verb_told staged (SetActive n) refl
-  wants_told staged Boot = verb_told staged Boot refl
-  wants_told staged Mark = verb_told staged Mark refl
-  wants_told staged (Print name) = verb_told staged (Print name) refl
-  wants_told staged (Digest name) = verb_told staged (Digest name) refl
-  wants_told staged Cancel = verb_told staged Cancel refl
-  wants_told staged BeginMerge = verb_told staged BeginMerge refl
-  wants_told staged (Merge blocks) = verb_told staged (Merge blocks) refl
+  wants_told staged Finish other =
+      nothing_told (finish_effect m m.state.phase) (finishes m.state.phase)
+  wants_told staged (SetActive n) other = verb_told staged (SetActive n) refl
+  wants_told staged Boot other = verb_told staged Boot refl
+  wants_told staged Mark other = verb_told staged Mark refl
+  wants_told staged (Print name) other = verb_told staged (Print name) refl
+  wants_told staged (Digest name) other = verb_told staged (Digest name) refl
+  wants_told staged Cancel other = verb_told staged Cancel refl
+  wants_told staged BeginMerge other = verb_told staged BeginMerge refl
+  wants_told staged (Merge blocks) other = verb_told staged (Merge blocks) refl
+  wants_told staged UpdateSuper other = absurd (other refl)

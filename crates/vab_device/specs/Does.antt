@@ -7,7 +7,7 @@ use Rattle.vab_gate.specs.declared.gate.DiskFault.{DiskFault}
 use Rattle.vab_model.specs.declared.command.Reply.{Reply}
 use Rattle.vab_model.specs.Commands.{Command}
 use Rattle.vab_model.specs.Effects.{Effect, steps_of, after_of, IsOneOf, unless_refused}
-use Rattle.vab_model.specs.Kinds.{is_of_merge}
+use Rattle.vab_model.specs.Kinds.{changes_source}
 use Rattle.vab_device.specs.declared.device.Device.{Device}
 use Rattle.vab_device.specs.Kept.{IsDevice, parts_at}
 use Rattle.vab_device.specs.Mounted.{Mounted, mounted_on}
@@ -45,7 +45,7 @@ pub record KeepsSource (d next : Device) : Type 0 where
 -- rest of the source.
 pub record Follows (d : Device) (command : Command) (next : Device) : Type 0 where
   pub geometry : next.geometry ≡ d.geometry
-  pub source : is_of_merge command ≡ false → KeepsSource d next
+  pub source : changes_source command ≡ false → KeepsSource d next
 
 -- The reply and the device after it are those of the table of effects, and where nothing was
 -- pending each outcome since is one of its steps. It touches such sectors alone, and a refusal or

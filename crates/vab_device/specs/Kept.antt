@@ -3,14 +3,13 @@ use Rattle.std.specs.Prelude.{◌≡◌, ◌≢◌, ◌⊎◌, ℕ, ◌+◌, ◌
 use Rattle.std.specs.Prelude.{Bool, true, false, nat_le, if◌then◌else◌, List, map, length}
 use Rattle.std.specs.Prelude.{Option, Some, None, is_some, All, AllPairs, IsTrue, not, []}
 use Rattle.std.specs.Str.{bytes_eq}
-use Rattle.vab_names.specs.Names.{is_base, base_of, default_name, store_group_name}
+use Rattle.vab_names.specs.Names.{is_base, base_of, store_group_name}
 use Rattle.vab_names.specs.Names.{most_partitions}
 use Rattle.vab_bootctl.specs.Control.{Fits as FitsControl}
 use Rattle.vab_marks.specs.declared.mark.MarkPhase.{MarkPhase}
 use Rattle.vab_marks.specs.declared.mark.MarkPhase.TheVariants as marks
 use Rattle.vab_marks.specs.Mark.{MayStandApart}
 use Rattle.vab_store.specs.View.{Fits}
-use Rattle.vab_tables.specs.declared.entries.Group.{Group}
 use Rattle.vab_tables.specs.declared.entries.BlockDevice.{BlockDevice}
 use Rattle.vab_tables.specs.declared.table.Table.{Table}
 use Rattle.vab_tables.specs.Rules.{KeepsRules}
@@ -21,8 +20,7 @@ use Rattle.vab_layout.specs.declared.layout.Part.{Part as PartOfLayout}
 use Rattle.vab_layout.specs.declared.layout.Layout.{Layout}
 use Rattle.vab_layout.specs.Layout.{layout_of}
 use Rattle.vab_layout.specs.Slots.{other_slot, own_parts, twins_by, IsOwn, IsTargetBeside}
-use Rattle.vab_layout.specs.Plain.{own_groups}
-use Rattle.vab_model.specs.declared.state.GroupLimit.{GroupLimit}
+pub use Rattle.vab_model.specs.Groups.{limits_of, group_of}
 use Rattle.vab_device.specs.declared.device.Part.{Part}
 use Rattle.vab_device.specs.declared.device.PartImage.{PartImage}
 use Rattle.vab_device.specs.declared.device.PartImage.TheVariants.{Kept, Declared, Written}
@@ -53,15 +51,6 @@ part_on first p = record {
 -- a slot's own partitions
 abbrev pub parts_of : ℕ → Layout → List Part
 parts_of slot l = map (part_on l.device.first_logical_sector) (own_parts slot l.parts)
-
--- the groups of a slot, without its suffix, each with its limit
-abbrev pub limits_of : ℕ → List Group → List GroupLimit
-limits_of slot groups =
-    map (λ g. record { name = base_of g.name; limit = g.maximum_size }) (own_groups slot groups)
-
--- the group of a name, without the slot's suffix
-abbrev pub group_of : List ℕ → Option (List ℕ)
-group_of name = if bytes_eq name default_name then None else Some (base_of name)
 
 -- ---- the places of the tables
 

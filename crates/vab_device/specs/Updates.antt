@@ -1,14 +1,20 @@
--- What the commands of an update make of a device: its begin, the edits of the target's table, the
--- end of its installation, its cancelling, and its merge.
+-- What commands make of a device: the begin of an update, the edits of its target's table, the end
+-- of its installation, its cancelling, its merge, and the wipe of `super`.
 use Rattle.std.specs.Prelude.{ℕ, ◌==◌, Bool, true, false, not, ◌&&◌, nat_le}
 use Rattle.std.specs.Prelude.{if◌then◌else◌, List, [], length, map, Option, Some, None, ◌^◌}
 use Rattle.std.specs.Prelude.{is_some}
 use Rattle.std.specs.Prelude.{option_map, Result, Ok, Err}
 use Rattle.vab_names.specs.Names.{is_full, base_of, store_of}
+use Rattle.vab_geometry.specs.declared.geometry.Geometry.{Geometry}
+use Rattle.vab_tables.specs.Spelling.{table_size_of}
 use Rattle.vab_layout.specs.declared.layout.Part.{Part as PartOfLayout}
 use Rattle.vab_layout.specs.declared.layout.Layout.{Layout}
+use Rattle.vab_layout.specs.Layout.{layout_of}
 use Rattle.vab_layout.specs.Plain.{plain}
 use Rattle.vab_layout.specs.Slots.{other_slot, own_parts, is_updated, twins_by}
+use Rattle.vab_partitions.specs.Twins.{is_device}
+use Rattle.vab_super_image.specs.declared.image.SuperImage.{SuperImage}
+use Rattle.vab_super_image.specs.SuperImage.{wiped as wiped_table, wiped_layout}
 use Rattle.vab_builder.specs.declared.fault.EditFault.{EditFault}
 use Rattle.vab_builder.specs.declared.fault.EditFault.TheVariants as faults
 use Rattle.vab_builder.specs.Import.{imported_by}
@@ -26,7 +32,7 @@ use Rattle.vab_model.specs.declared.command.Refusal.TheVariants as refusals
 use Rattle.vab_model.specs.declared.command.Reply.TheVariants as replies
 use Rattle.vab_model.specs.Commands.{Command, SetActive, Boot, Mark, Print, Digest, Begin, Create}
 use Rattle.vab_model.specs.Commands.{Resize, Delete, Snapshot, Flash, Finish, Cancel, BeginMerge}
-use Rattle.vab_model.specs.Commands.{Merge, Factory}
+use Rattle.vab_model.specs.Commands.{Merge, Factory, UpdateSuper}
 use Rattle.vab_model.specs.Effects.{Effect, refuses, does, wanting, effect_map}
 use Rattle.vab_model.specs.Plans.{entry_named, images_of, with_entries}
 use Rattle.vab_model.specs.Machine.{is_settled, least_declared, if_complete}
@@ -34,6 +40,7 @@ use Rattle.vab_model.specs.Machine.{final_image as image_of}
 use Rattle.vab_model.specs.Machine.{finished as finished_state, cancelled as cancelled_state}
 use Rattle.vab_model.specs.Machine.{merging_from as merging_state}
 use Rattle.vab_model.specs.Machine.{cancel_row, begin_merge_row, merge_row, turns as turns_of}
+use Rattle.vab_model.specs.Wipe.{Judge, wipe_effect, wiped as wiped_state}
 use Rattle.vab_device.specs.Kept.{group_of}
 use Rattle.vab_device.specs.Mounted.{Mounted, Places, in_state, effect_in}
 use Rattle.vab_device.specs.Stores.{first_named}
@@ -305,6 +312,40 @@ turns count m target left = map (in_state m) (turns_of count m.state target left
 abbrev pub merge_effect : Mounted → (count : ℕ) → Phase → Effect Mounted
 merge_effect m count phase = effect_map (in_state m) (merge_row m.state count phase)
 
+-- ---- the wipe of `super`
+
+-- its geometry is the device's
+abbrev pub is_geometry : Geometry → Geometry → Bool
+is_geometry g h = g.max == h.max && g.slots == h.slots
+
+-- its block device is that of the slot's table
+abbrev pub has_device : Option Layout → SuperImage → Bool
+has_device None i = false
+has_device (Some l) i = is_device l.device (layout_of i.table).device
+
+-- why an image is none of this device's `super`
+abbrev pub other_super : Places → (slot : ℕ) → Judge
+other_super p slot i =
+    if not (is_geometry p.geometry i.geometry) then Some refusals.OtherGeometry
+    else (if not (has_device (layout_at p slot) i) then Some refusals.OtherDevice else None)
+
+-- the text of the table that is left is too long
+abbrev pub full_super : Places → Judge
+full_super p i =
+    if nat_le (table_size_of (wiped_table i.table)) p.geometry.max then None
+    else Some (refusals.TableFull (table_size_of (wiped_table i.table)) p.geometry.max)
+
+-- The slot has the partitions of the image, each empty, and the table that is left.
+abbrev pub wiped : Mounted → (slot : ℕ) → SuperImage → Mounted
+wiped m slot i =
+    in_places
+    (with_layout m.places slot (Some (plain slot (wiped_layout (layout_of i.table)))))
+    (wiped_state m.state slot i)
+
+abbrev pub update_super : Mounted → (slot : ℕ) → Option (List ℕ) → Phase → Effect Mounted
+update_super m slot staged phase =
+    wipe_effect (other_super m.places slot) (full_super m.places) (wiped m slot) slot staged phase
+
 -- ---- the table of effects
 
 -- What a command makes of a device, where these bytes are staged: each command on an update has a
@@ -331,3 +372,4 @@ effect_on m staged (Digest name) = effect_in m staged (Digest name)
 effect_on m staged Finish = finish_effect m m.state.phase
 effect_on m staged BeginMerge = begin_merge_effect m m.state.phase
 effect_on m staged (Merge blocks) = merge_effect m blocks m.state.phase
+effect_on m staged UpdateSuper = update_super m m.state.control.current staged m.state.phase

@@ -22,3 +22,5 @@ mod tidying;
 mod updates;
 #[cfg(test)]
 mod versions;
+#[cfg(test)]
+mod wiping;

@@ -8,7 +8,7 @@ use Rattle.vab_space.specs.declared.Chunk.{Chunk}
 use Rattle.vab_space.specs.declared.Chunk.TheVariants.{One, Two, Four}
 use Rattle.vab_model.specs.Commands.{Command, SetActive, Boot, Mark, Digest, Begin, Create, Resize}
 use Rattle.vab_model.specs.Commands.{Delete, Snapshot, Flash, Finish, Cancel, BeginMerge}
-use Rattle.vab_model.specs.Commands.{Merge, Factory}
+use Rattle.vab_model.specs.Commands.{Merge, Factory, UpdateSuper}
 use Rattle.vab_model.specs.Commands.{command_of}
 use Rattle.vab_fbproto.specs.declared.request.Var.{Var}
 use Rattle.vab_fbproto.specs.declared.request.Var.TheVariants as vars
@@ -285,6 +285,12 @@ update_action (Some action) =
     else if bytes_eq action (codes "merge") then Ok MergeAll
     else Err BadArgument
 
+-- `update-super:super:wipe`
+unfoldable pub super_action : Option (List ℕ) → Result Asked BadCommand
+super_action None = Err BadArgument
+super_action (Some action) =
+    if bytes_eq action (codes "super:wipe") then Ok (Do UpdateSuper) else Err BadArgument
+
 -- the words behind `oem`
 unfoldable pub asked_oem : List ℕ → Option (List ℕ) → Result Asked BadCommand
 asked_oem word rest =
@@ -316,6 +322,7 @@ asked_update word rest =
     else if bytes_eq word (codes "flash")
     then asks (λ name. Do (Flash name One)) (name_argument rest)
     else if bytes_eq word (codes "snapshot-update") then update_action rest
+    else if bytes_eq word (codes "update-super") then super_action rest
     else asked_oem word rest
 
 abbrev pub asked_by : List ℕ → Option (List ℕ) → Result Asked BadCommand

@@ -1,7 +1,8 @@
 //! What a packet asks for.
 ghost use Rattle.std.specs.Prelude.{◌≡◌, ◌≤◌, ◌<◌, length, MatchResult, Ok, Err, option_map};
 ghost use Rattle.vab_fbproto.specs.Requests.{asked_of, plain, argued_variable, asked_variable};
-ghost use Rattle.vab_fbproto.specs.Requests.{update_action, asked_oem, asked_update, request_of};
+ghost use Rattle.vab_fbproto.specs.Requests.{update_action, super_action, asked_oem};
+ghost use Rattle.vab_fbproto.specs.Requests.{asked_update, request_of};
 
 use crate::argument::{
     blank_argument, chunk_argument, colon_argument, count_argument, length_argument, name_argument,
@@ -144,6 +145,22 @@ fn read_action<'a>(rest: Option<&[u8]>) -> Result<Request<'a>, BadCommand>
     }
 }
 
+// `update-super:super:wipe`.
+#[tactic(auto, unfolding(crate::specs::Requests::super_action))]
+fn read_super_action<'a>(rest: Option<&[u8]>) -> Result<Request<'a>, BadCommand>
+    ensures { let text = option_map (λ r. r.now) rest.entry in
+        MatchResult result
+        (λ r. super_action text ≡ Ok (asked_of r))
+        (λ e. super_action text ≡ Err e) }
+{
+    let action = rest.ok_or(BadCommand::BadArgument)?;
+    if action == b"super:wipe".as_slice() {
+        Ok(Request::Do(Command::UpdateSuper))
+    } else {
+        Err(BadCommand::BadArgument)
+    }
+}
+
 // The words behind `oem`.
 #[tactic(auto, unfolding(crate::specs::Requests::asked_oem))]
 fn read_oem<'a>(word: &[u8], rest: Option<&'a [u8]>) -> Result<Request<'a>, BadCommand>
@@ -200,6 +217,8 @@ fn read_update<'a>(word: &[u8], rest: Option<&'a [u8]>) -> Result<Request<'a>, B
         Ok(Request::Do(Command::Flash(name, Chunk::One)))
     } else if word == b"snapshot-update".as_slice() {
         read_action(rest)
+    } else if word == b"update-super".as_slice() {
+        read_super_action(rest)
     } else {
         read_oem(word, rest)
     }

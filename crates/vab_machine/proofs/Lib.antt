@@ -2,6 +2,8 @@ pub mod Bounds
 pub mod Blocks
 pub mod Turns
 pub mod SmallLaws
+pub mod SideLaws
+pub mod WipeLaws
 pub mod SmallAfter
 pub mod Found
 pub mod Questions

@@ -16,6 +16,12 @@ use Rattle.vab_space.specs.declared.Chunk.{Chunk}
 use Rattle.vab_space.specs.Space.{blocks_of}
 use Rattle.vab_space.specs.Chunks.{need_at}
 use Rattle.vab_space.proofs.DifferingLaws.{differing_most}
+use Rattle.vab_tables.specs.declared.table.Table.{Table}
+use Rattle.vab_layout.specs.declared.layout.Part.{Part}
+use Rattle.vab_layout.specs.Layout.{layout_of}
+use Rattle.vab_layout.specs.Slots.{own_parts, IsOwnPart, IsOwn}
+use Rattle.vab_super_image.specs.declared.image.SuperImage.{SuperImage}
+use Rattle.vab_super_image.specs.SuperImage.{super_image_of, first_filled}
 use Rattle.vab_model.specs.declared.state.Image.{Image}
 use Rattle.vab_model.specs.declared.state.PlanImage.{PlanImage}
 use Rattle.vab_model.specs.declared.state.PlanImage.TheVariants.{Kept, Declared, Written}
@@ -26,11 +32,12 @@ use Rattle.vab_model.specs.declared.state.Phase.TheVariants.{Idle, Installing, S
 use Rattle.vab_model.specs.declared.state.State.{State}
 use Rattle.vab_model.specs.declared.command.Refusal.{Refusal}
 use Rattle.vab_model.specs.declared.command.Refusal.TheVariants as refusals
+use Rattle.vab_model.specs.declared.command.Reply.TheVariants as replies
 use Rattle.vab_model.specs.Commands.{Command, SetActive, Boot, Mark, Print, Digest, Begin, Create}
 use Rattle.vab_model.specs.Commands.{Resize, Delete, Snapshot, Flash, Finish, Cancel, BeginMerge}
-use Rattle.vab_model.specs.Commands.{Merge, Factory}
+use Rattle.vab_model.specs.Commands.{Merge, Factory, UpdateSuper}
 use Rattle.vab_model.specs.Effects.{Effect, after_of, last_of, active_effect, found_of, Found}
-use Rattle.vab_model.specs.Effects.{Image_is, Refused_by, print_effect, digest_effect}
+use Rattle.vab_model.specs.Effects.{Image_is, Refused_by, print_effect, digest_effect, does}
 use Rattle.vab_model.specs.State.{images_at}
 use Rattle.vab_model.specs.Plans.{other_slot, images_of, bytes_named, entry_named}
 use Rattle.vab_model.specs.Plans.{is_planned, first_group, created_entry, at_entry, begun_plan}
@@ -46,11 +53,14 @@ use Rattle.vab_model.specs.Machine.{flash_entry}
 use Rattle.vab_model.specs.Machine.{flash_row, final_bytes, final_image, finished, if_complete}
 use Rattle.vab_model.specs.Machine.{least_declared, finish_row, without_images, cancel_row}
 use Rattle.vab_model.specs.Machine.{begin_merge_row, turns, merge_row, machine_effect}
+use Rattle.vab_model.specs.Wipe.{empty_image, empty_images, wiped, no_judge, filled_refusal}
+use Rattle.vab_model.specs.Wipe.{if_passing, judged_effect, staged_effect, wipe_effect}
 use Rattle.vab_machine.specs.Small.{AreSmallImages, IsSmallSlot, IsSmallImage, IsSmallEntry}
 use Rattle.vab_machine.specs.Small.{IsSmallPlan, IsSmallPhase, IsSmall}
 use Rattle.vab_machine.proofs.Bounds.{images_small}
 use Rattle.vab_machine.proofs.SmallLaws.{entry_small, resize_small, store_plan_small, create_small}
 use Rattle.vab_machine.proofs.SmallLaws.{delete_small, write_small, begin_small}
+use Rattle.vab_machine.proofs.WipeLaws.{image_own}
 
 -- the state after an effect is small
 abbrev Keeps : State → Effect State → Type 0
@@ -418,6 +428,67 @@ merge_kept s n (Installing source plan) small = small
 merge_kept s n (Staged source left) small = small
 merge_kept s n (Merging target left) small = turns_kept s s n target left small small
 
+-- ---- a wipe
+
+empty_small : (slot : ℕ) (t : Table)
+    → IsOwn slot (layout_of t).parts
+    → AreSmallImages (empty_images slot t)
+empty_small slot t own =
+    let parts : List Part = own_parts slot (layout_of t).parts in
+    record {
+      few = omega (arith, length-map parts empty_image, own.few);
+      each =
+          All-map (λ (i : Image). length i.bytes ≤ 2 ^ 40) empty_image parts
+          (All-weaker (IsOwnPart slot) (λ p. length (empty_image p).bytes ≤ 2 ^ 40)
+          (λ p is. omega arith) parts own.each);
+    }
+
+wiped_small : (s : State) (slot : ℕ) (i : SuperImage)
+    → IsSmall s
+    → IsOwn slot (layout_of i.table).parts
+    → IsSmall (wiped s slot i)
+wiped_small s slot i small own =
+    let images = empty_small slot i.table own in
+    elim (cases_Bool (eqb slot 0)) [
+      | inl t ↦ rw t (record { a = images; b = small.b; phase = small.phase })
+      | inr f ↦ rw f (record { a = small.a; b = images; phase = small.phase })
+    ]
+
+passing_kept : (s : State) (refusal : Option Refusal) (e : Effect State)
+    → IsSmall s
+    → Keeps s e
+    → Keeps s (if_passing refusal e)
+passing_kept s None e small next = next
+passing_kept s (Some refusal) e small next = small
+
+judged_kept : (s : State) (slot : ℕ) (image : Option SuperImage)
+    → IsSmall s
+    → ((i : SuperImage) → image ≡ Some i → IsOwn slot (layout_of i.table).parts)
+    → Keeps s (judged_effect no_judge no_judge (wiped s slot) image)
+judged_kept s slot None small own = small
+judged_kept s slot (Some i) small own =
+    passing_kept s (filled_refusal (first_filled i.table.partitions))
+    (does replies.Done (wiped s slot i)) small (wiped_small s slot i small (own i refl))
+
+image_kept : (s : State) (slot : ℕ) (staged : Option (List ℕ))
+    → IsSmall s
+    → Keeps s (staged_effect no_judge no_judge (wiped s slot) slot staged)
+image_kept s slot None small = small
+image_kept s slot (Some bytes) small = elim (cases_Bool (is_sparse bytes)) [
+  | inl t ↦ rw t small
+  | inr f ↦
+      rw f
+      (judged_kept s slot (super_image_of slot bytes) small (λ i is. image_own slot bytes i is))
+]
+
+wipe_kept : (s : State) (slot : ℕ) (staged : Option (List ℕ)) (phase : Phase)
+    → IsSmall s
+    → Keeps s (wipe_effect no_judge no_judge (wiped s slot) slot staged phase)
+wipe_kept s slot staged Idle small = image_kept s slot staged small
+wipe_kept s slot staged (Installing source plan) small = small
+wipe_kept s slot staged (Staged source left) small = small
+wipe_kept s slot staged (Merging target left) small = small
+
 -- ---- the table
 
 active_kept : (s : State) (has : Bool) (c : Control)
@@ -469,3 +540,4 @@ small_after s staged Finish small =
 small_after s staged Cancel small = cancel_kept s s.phase small
 small_after s staged BeginMerge small = begin_merge_kept s s.phase small
 small_after s staged (Merge count) small = merge_kept s count s.phase small
+small_after s staged UpdateSuper small = wipe_kept s s.control.current staged s.phase small

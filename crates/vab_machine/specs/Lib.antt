@@ -1,3 +1,4 @@
 pub mod Small
 pub mod Changes
 pub mod Places
+pub mod Sides

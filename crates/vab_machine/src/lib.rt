@@ -1,6 +1,6 @@
 //! The plain machine as a program: it computes what each command makes of a state, as the
 //! definitions of `vab_model` say it in sizes, names, groups and bytes. Nothing here knows of
-//! sectors, tables, or where a partition stands.
+//! sectors, a device's tables, or where a partition stands.
 #![tactic(auto)]
 
 mod answer;
@@ -17,6 +17,7 @@ mod ready;
 mod slots;
 mod small;
 mod staged;
+mod wipe;
 
 pub use machine::step;
 pub use small::is_small;

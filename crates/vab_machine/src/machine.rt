@@ -14,6 +14,7 @@ use crate::flash::flash;
 use crate::images::{digested, printed};
 use crate::ready::finish;
 use crate::slots::{begin_merge, cancel, merge};
+use crate::wipe::update_super;
 use std::alloc::Global;
 use vab_model::{Command, NoMemory, Reply, State};
 
@@ -49,13 +50,15 @@ fn done(
         Command::Cancel => cancel(alloc, state),
         Command::BeginMerge => begin_merge(alloc, state),
         Command::Merge(count) => merge(alloc, state, count),
+        Command::UpdateSuper => update_super(alloc, state, staged),
     }
 }
 
 /// The state after a command, and the reply; the state that is given stays. `staged` is what was
 /// downloaded last, if anything. The state after it is small again. `NoMemory` where memory is
 /// refused. It is slow, and says with each command what the program makes of a device: of a disk,
-/// a table or an order of writes it knows nothing, so it has no refusal for a table that is full.
+/// its table or an order of writes it knows nothing, so it has no refusal for a table that is full,
+/// nor for an image of another `super`.
 pub fn step(
     alloc: Global,
     state: &State,

@@ -1,11 +1,12 @@
--- Each command is the machine's, or its table is full.
+-- Each command is the machine's, or its table is full, or the image of a wipe is that of another
+-- device.
 use Rattle.std.proofs.Common.{inl}
 use Rattle.vab_model.specs.Commands.{Command, SetActive, Boot, Mark, Print, Digest, Begin, Create}
 use Rattle.vab_model.specs.Commands.{Resize, Delete, Snapshot, Flash, Finish, Cancel, BeginMerge}
-use Rattle.vab_model.specs.Commands.{Merge, Factory}
+use Rattle.vab_model.specs.Commands.{Merge, Factory, UpdateSuper}
 use Rattle.vab_targets.proofs.Plans.{BeginKeepsImages, EditsFollowSizes}
 use Rattle.vab_machine_laws.specs.Rows.{IsTheMachines}
-use Rattle.vab_machine_laws.specs.Edits.{IsTheMachinesOrFull}
+use Rattle.vab_machine_laws.specs.Edits.{IsTheMachinesOrFull, IsTheMachinesFullOrOther}
 use Rattle.vab_machine_laws.proofs.SlotRows.{set_active_row, boot_row, mark_row, print_row}
 use Rattle.vab_machine_laws.proofs.SlotRows.{digest_row, finish_is, cancel_is, begin_merge_is}
 use Rattle.vab_machine_laws.proofs.SlotRows.{merge_is, flash_is}
@@ -14,24 +15,32 @@ use Rattle.vab_machine_laws.proofs.Creates.{create_is}
 use Rattle.vab_machine_laws.proofs.Deletes.{delete_is}
 use Rattle.vab_machine_laws.proofs.Snapshots.{snapshot_is}
 use Rattle.vab_machine_laws.proofs.Resizes.{resize_is}
+use Rattle.vab_machine_laws.proofs.Wipes.{wipe_is}
 
-plainly : (c : Command) → IsTheMachines c → IsTheMachinesOrFull c
-plainly c row size image m staged whole is = inl (row m staged)
+plainly : (c : Command) → IsTheMachines c → IsTheMachinesFullOrOther c
+plainly c row size image m staged whole is = inl (inl (row m staged))
 
-pub each_is : BeginKeepsImages → EditsFollowSizes → (c : Command) → IsTheMachinesOrFull c
+by_table : (c : Command) → IsTheMachinesOrFull c → IsTheMachinesFullOrOther c
+by_table c law size image m staged whole is = inl (law size image m staged whole is)
+
+pub each_is : BeginKeepsImages → EditsFollowSizes → (c : Command) → IsTheMachinesFullOrOther c
 each_is begins edits (SetActive slot) = plainly (SetActive slot) (set_active_row slot)
 each_is begins edits Boot = plainly Boot boot_row
 each_is begins edits Mark = plainly Mark mark_row
 each_is begins edits (Print name) = plainly (Print name) (print_row name)
 each_is begins edits (Digest name) = plainly (Digest name) (digest_row name)
-each_is begins edits Begin = update_is begins
-each_is begins edits Factory = factory_is begins
-each_is begins edits (Create name size) = create_is edits name size
-each_is begins edits (Resize name size) = resize_is edits name size
-each_is begins edits (Delete name) = delete_is edits name
-each_is begins edits (Snapshot name size) = snapshot_is edits name size
+each_is begins edits Begin = by_table Begin (update_is begins)
+each_is begins edits Factory = by_table Factory (factory_is begins)
+each_is begins edits (Create name size) =
+    by_table (Create name size) (create_is edits name size)
+each_is begins edits (Resize name size) =
+    by_table (Resize name size) (resize_is edits name size)
+each_is begins edits (Delete name) = by_table (Delete name) (delete_is edits name)
+each_is begins edits (Snapshot name size) =
+    by_table (Snapshot name size) (snapshot_is edits name size)
 each_is begins edits (Flash name chunk) = plainly (Flash name chunk) (flash_is name chunk)
 each_is begins edits Finish = plainly Finish finish_is
 each_is begins edits Cancel = plainly Cancel cancel_is
 each_is begins edits BeginMerge = plainly BeginMerge begin_merge_is
 each_is begins edits (Merge count) = plainly (Merge count) (merge_is count)
+each_is begins edits UpdateSuper = wipe_is

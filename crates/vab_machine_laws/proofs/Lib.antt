@@ -10,5 +10,6 @@ pub mod Snapshots
 pub mod Groups
 pub mod Resizes
 pub mod Creates
+pub mod Wipes
 pub mod All
 pub mod SmallDevices

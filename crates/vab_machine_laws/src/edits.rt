@@ -2,7 +2,7 @@
 ghost use Rattle.std.specs.Prelude.{ℕ, List};
 ghost use Rattle.vab_model.specs.Commands.{Command, Begin, Factory, Create, Delete, Snapshot};
 ghost use Rattle.vab_model.specs.Commands.{Resize};
-ghost use Rattle.vab_machine_laws.specs.Edits.{IsTheMachinesOrFull};
+ghost use Rattle.vab_machine_laws.specs.Edits.{IsTheMachinesOrFull, IsTheMachinesFullOrOther};
 
 /// On a disk of whole sectors that is a device, what such a command makes of the device is what the
 /// machine makes of its state, or the machine would have been done and the table is full.
@@ -15,7 +15,8 @@ pub fn edits_are_the_machines()
     ensures resize { (name : List ℕ) (size : ℕ) → IsTheMachinesOrFull (Resize name size) }
 {}
 
-/// All of these laws in one: on each such disk, whichever the command is.
+/// All of these laws in one: on each such disk, whichever the command is. A wipe alone may be
+/// refused besides, where the geometry or the block device of its image isn't the device's.
 pub fn each_command_is_the_machines()
-    ensures { (c : Command) → IsTheMachinesOrFull c }
+    ensures { (c : Command) → IsTheMachinesFullOrOther c }
 {}

@@ -1,5 +1,5 @@
 //! Laws that tie the plain machine to disks: what a command makes of a device is what the machine
-//! makes of its state, or the device's table is full.
+//! makes of its state, or the device's table is full, or a wipe's image is that of another device.
 #![tactic(auto)]
 
 mod edits;

@@ -47,9 +47,42 @@ fn stepped(
     Ok(step(alloc, state, command, staged)?)
 }
 
+// The image of a wipe was taken, or refused for a partition.
+fn is_done_or_filled(want: &Reply) -> bool {
+    matches!(want, Reply::Done | Reply::Refused(Refusal::NotEmpty(_)))
+}
+
+// The state behind a command: the machine's where the replies are the same, and the one before it
+// where the disk alone refuses.
+fn next_of(
+    rt: &impl Abort,
+    alloc: Global,
+    command: &Command,
+    state: &State,
+    stepped: (State, Reply),
+    told: &Reply,
+) -> Result<State, Fail> {
+    let (next, want) = stepped;
+    match told {
+        Reply::Refused(Refusal::TableFull(_, _)) => {
+            assert_eq!(rt; want, Reply::Done, "{command:?}");
+            Ok(state.copy(alloc)?)
+        }
+        Reply::Refused(Refusal::OtherGeometry | Refusal::OtherDevice) => {
+            assert!(rt; is_done_or_filled(&want), "{command:?}: {want:?}");
+            Ok(state.copy(alloc)?)
+        }
+        _ => {
+            assert_eq!(rt; *told, want, "{command:?}");
+            Ok(next)
+        }
+    }
+}
+
 /// Carries out a command on the device of a disk, and on the machine in this state, which is that
-/// of the device. The replies are the same, or the table was full where the machine's is `Done`,
-/// and then nothing has changed; and so are the states behind them.
+/// of the device. The replies are the same; or the table was full where the machine's is `Done`, or
+/// a wipe's image is that of another device, and then nothing has changed. So are the states behind
+/// them.
 pub(crate) fn beside(
     rt: &impl Abort,
     alloc: Global,
@@ -58,19 +91,10 @@ pub(crate) fn beside(
     command: &Command,
     staged: Option<&[u8]>,
 ) -> Result<(State, Reply), Fail> {
-    let (stepped, want) = stepped(alloc, state, command, staged)?;
+    let stepped = stepped(alloc, state, command, staged)?;
     let (device, told) = carried(alloc, d, command, staged).ok_or("a command is carried out")?;
     let held = state_of(alloc, d, &device)?;
-    let next = match told {
-        Reply::Refused(Refusal::TableFull(_, _)) => {
-            assert_eq!(rt; want, Reply::Done, "{command:?}");
-            state.copy(alloc)?
-        }
-        _ => {
-            assert_eq!(rt; told, want, "{command:?}");
-            stepped
-        }
-    };
+    let next = next_of(rt, alloc, command, state, stepped, &told)?;
     let (held, wanted) = (spelled(alloc, &held)?, spelled(alloc, &next)?);
     assert!(rt;
         held.as_slice() == wanted.as_slice(),

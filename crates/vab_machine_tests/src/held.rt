@@ -9,7 +9,8 @@ use vab_disk::{Disk, MemPort};
 use vab_linear::Map;
 use vab_model::{Image, Phase, Plan, PlanEntry, PlanImage, State};
 
-fn sector(d: &mut MemPort, at: u64) -> Result<[u8; 512], Fail> {
+/// A sector of a disk.
+pub(crate) fn sector(d: &mut MemPort, at: u64) -> Result<[u8; 512], Fail> {
     let mut bytes = [0u8; 512];
     if at >= d.sectors() || d.read_sector(at, &mut bytes).is_err() {
         return Err("a sector is read".into());

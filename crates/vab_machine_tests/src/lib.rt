@@ -15,4 +15,6 @@ mod spelled;
 #[cfg(test)]
 mod states;
 #[cfg(test)]
+mod supers;
+#[cfg(test)]
 mod worked;

@@ -2,6 +2,7 @@
 
 use crate::beside::{beside, opened};
 use crate::made::made_of_two;
+use crate::supers::super_image;
 use std::alloc::Global;
 use std::process::Abort;
 use std::test::*;
@@ -53,7 +54,7 @@ fn chunk(draws: &mut Draws) -> Chunk {
 
 // Any command, on a device where this slot is current.
 fn any(draws: &mut Draws, current: usize) -> Command<'static> {
-    match draws.draw(12) {
+    match draws.draw(13) {
         0 => begin(draws),
         1 => Command::Finish,
         2 => Command::Cancel,
@@ -65,6 +66,7 @@ fn any(draws: &mut Draws, current: usize) -> Command<'static> {
         8 => Command::Digest(name(draws, current)),
         9 => Command::Print(name(draws, current)),
         10 => Command::Flash(name(draws, current), chunk(draws)),
+        11 => Command::UpdateSuper,
         _ => Command::Create(name(draws, current), size(draws)),
     }
 }
@@ -114,6 +116,15 @@ fn begin(draws: &mut Draws) -> Command<'static> {
     }
 }
 
+// A begin, or now and then a wipe.
+fn idle(draws: &mut Draws) -> Command<'static> {
+    if draws.draw(6) == 0 {
+        Command::UpdateSuper
+    } else {
+        begin(draws)
+    }
+}
+
 // A command of an installation whose target stands apart or not.
 fn planned(draws: &mut Draws, target: usize, apart: bool) -> Command<'static> {
     if apart {
@@ -130,7 +141,7 @@ fn command(draws: &mut Draws, state: &State) -> Command<'static> {
         return any(draws, current);
     }
     match &state.phase {
-        Phase::Idle => begin(draws),
+        Phase::Idle => idle(draws),
         Phase::Installing(0, plan) => planned(draws, 1, plan.apart),
         Phase::Installing(_, plan) => planned(draws, 0, plan.apart),
         Phase::Staged(0, _) => staged_command(draws, 1),
@@ -161,6 +172,20 @@ fn staged(alloc: Global, draws: &mut Draws) -> Result<Option<Vec<u8>>, Fail> {
     Ok(Some(bytes))
 }
 
+// The same, but for a wipe mostly an image of the device's `super`.
+fn staged_for(
+    alloc: Global,
+    draws: &mut Draws,
+    d: &mut MemPort,
+    command: &Command,
+) -> Result<Option<Vec<u8>>, Fail> {
+    if !matches!(command, Command::UpdateSuper) || draws.draw(4) == 0 {
+        return staged(alloc, draws);
+    }
+    let is_empty = draws.draw(3) > 0;
+    Ok(Some(super_image(alloc, d, is_empty)?))
+}
+
 // Which command it is, counted from 0.
 fn kind(command: &Command) -> usize {
     match command {
@@ -180,6 +205,7 @@ fn kind(command: &Command) -> usize {
         Command::BeginMerge => 13,
         Command::Merge(_) => 14,
         Command::Factory => 15,
+        Command::UpdateSuper => 16,
     }
 }
 
@@ -189,18 +215,18 @@ fn play(
     alloc: Global,
     d: MemPort,
     seed: u64,
-    seen: &mut [bool; 16],
+    seen: &mut [bool; 17],
 ) -> Result<(), Fail> {
     let mut d = d;
     let mut draws = Draws(seed);
     let mut state = opened(alloc, &mut d)?;
     for _i in 0..70u32 {
         let command = command(&mut draws, &state);
-        let bytes = staged(alloc, &mut draws)?;
+        let bytes = staged_for(alloc, &mut draws, &mut d, &command)?;
         let staged = bytes.as_ref().map(|bytes| bytes.as_slice());
         let (next, told) = beside(rt, alloc, &mut d, &state, &command, staged)?;
         let kind = kind(&command);
-        if kind < 16 && !matches!(told, Reply::Refused(_)) {
+        if kind < 17 && !matches!(told, Reply::Refused(_)) {
             seen[kind] = true;
         }
         state = next;
@@ -211,7 +237,7 @@ fn play(
 
 // Plays a list on each disk, and says how many kinds of command were done.
 fn kinds_done(rt: &impl Abort, alloc: Global, lists: [(u64, MemPort); 2]) -> Result<u64, Fail> {
-    let mut seen = [false; 16];
+    let mut seen = [false; 17];
     for (seed, d) in lists {
         play(rt, alloc, d, seed, &mut seen)?;
     }
@@ -249,7 +275,7 @@ fn lists_of_every_kind_are_the_machines(rt: HostRuntime) -> Result<(), Fail> {
     let alloc = rt.alloc();
     let first = made_of_two(alloc, 24, 40960, 4096)?;
     let second = made_of_two(alloc, 24, 40960, 4096)?;
-    let kinds = kinds_done(&rt, alloc, [(2, first), (5, second)])?;
-    assert_eq!(rt; kinds, 16);
+    let kinds = kinds_done(&rt, alloc, [(0, first), (10, second)])?;
+    assert_eq!(rt; kinds, 17);
     Ok(())
 }

@@ -199,6 +199,7 @@ fn questions_are_answered_and_commands_on_an_update_refused(rt: HostRuntime) -> 
         (Command::Cancel, Reply::Refused(Refusal::NothingToCancel)),
         (Command::BeginMerge, Reply::Refused(Refusal::NotStaged)),
         (Command::Merge(1), Reply::Refused(Refusal::NotMerging)),
+        (Command::UpdateSuper, Reply::Refused(Refusal::NothingStaged)),
     ] {
         let (_, reply) = after(rt.alloc(), &state, &command)?;
         assert!(rt; reply == want, "{command:?}");

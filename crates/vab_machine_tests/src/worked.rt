@@ -125,7 +125,7 @@ const TABLES: [Case; 8] = [
 ];
 
 // Of a device of one image of three blocks, which hold the bytes 0, 1 and 2.
-const LIFE: [Case; 26] = [
+const LIFE: [Case; 30] = [
     (
         Command::Finish,
         NOTHING,
@@ -141,7 +141,27 @@ const LIFE: [Case; 26] = [
         NOTHING,
         Want::Refused(Refusal::NotMerging),
     ),
+    (
+        Command::UpdateSuper,
+        NOTHING,
+        Want::Refused(Refusal::NothingStaged),
+    ),
+    (
+        Command::UpdateSuper,
+        Staged::Text(b"\x3a\xff\x26\xed"),
+        Want::Refused(Refusal::Sparse),
+    ),
+    (
+        Command::UpdateSuper,
+        Staged::Zeros(4095),
+        Want::Refused(Refusal::BadSuperImage),
+    ),
     (Command::Begin, NOTHING, DONE),
+    (
+        Command::UpdateSuper,
+        NOTHING,
+        Want::Refused(Refusal::NotIdle),
+    ),
     (Command::Resize(b"x_b", 16384), NOTHING, DONE),
     (
         Command::Flash(b"x_b", Chunk::One),

@@ -21,6 +21,7 @@ pub data Command : Type 0 where
   Cancel : Command
   BeginMerge : Command
   Merge : (blocks : ℕ) → Command
+  UpdateSuper : Command
 
 abbrev pub command_of : CommandOfCode → Command
 command_of (code.SetActive slot) = SetActive slot
@@ -39,3 +40,4 @@ command_of code.Finish = Finish
 command_of code.Cancel = Cancel
 command_of code.BeginMerge = BeginMerge
 command_of (code.Merge blocks) = Merge blocks
+command_of code.UpdateSuper = UpdateSuper

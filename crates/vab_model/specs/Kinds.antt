@@ -3,15 +3,16 @@
 use Rattle.std.specs.Prelude.{◌≡◌, ℕ, Bool, true, false}
 use Rattle.vab_model.specs.Commands.{Command, SetActive, Boot, Mark, Print, Digest, Begin, Create}
 use Rattle.vab_model.specs.Commands.{Resize, Delete, Snapshot, Flash, Finish, Cancel, BeginMerge}
-use Rattle.vab_model.specs.Commands.{Merge, Factory}
+use Rattle.vab_model.specs.Commands.{Merge, Factory, UpdateSuper}
 
 pub record Kind : Type 0 where
-  -- it gives up the images of a source, or changes where those of the target are read
-  pub of_merge : Bool
+  -- it gives up the images of a source, changes where those of the target are read, or changes the
+  -- current slot's table
+  pub changes_source : Bool
   -- it begins an installation, or ends one
   pub of_installation : Bool
-  -- it ends an installation: by it another slot has images
-  pub is_finish : Bool
+  -- by it another slot has images, or a slot alone has others
+  pub ends_alone : Bool
   -- it gives images to a slot, or takes them from it
   pub changes_images : Bool
   -- it edits the target's table
@@ -26,9 +27,9 @@ pub record Kind : Type 0 where
 -- none of these
 abbrev pub plain : Kind
 plain = record {
-  of_merge = false;
+  changes_source = false;
   of_installation = false;
-  is_finish = false;
+  ends_alone = false;
   changes_images = false;
   is_edit = false;
   uses_staged = false;
@@ -57,21 +58,27 @@ kind_of (Delete name) = edit
 kind_of (Snapshot name size) = edit
 kind_of (Flash name chunk) = record plain { uses_staged = true }
 kind_of Finish =
-    record plain { of_installation = true; is_finish = true; changes_images = true }
+    record plain { of_installation = true; ends_alone = true; changes_images = true }
 kind_of Cancel = record verb { changes_images = true }
-kind_of BeginMerge = record verb { of_merge = true; changes_images = true }
-kind_of (Merge blocks) = record verb { of_merge = true; turns = blocks }
+kind_of BeginMerge = record verb { changes_source = true; changes_images = true }
+kind_of (Merge blocks) = record verb { changes_source = true; turns = blocks }
+kind_of UpdateSuper = record plain {
+  changes_source = true;
+  ends_alone = true;
+  changes_images = true;
+  uses_staged = true;
+}
 
 -- ---- what is asked of a command
 
-abbrev pub is_of_merge : Command → Bool
-is_of_merge c = (kind_of c).of_merge
+abbrev pub changes_source : Command → Bool
+changes_source c = (kind_of c).changes_source
 
 abbrev pub is_of_installation : Command → Bool
 is_of_installation c = (kind_of c).of_installation
 
-abbrev pub is_finish : Command → Bool
-is_finish c = (kind_of c).is_finish
+abbrev pub ends_alone : Command → Bool
+ends_alone c = (kind_of c).ends_alone
 
 abbrev pub changes_images : Command → Bool
 changes_images c = (kind_of c).changes_images

@@ -4,4 +4,6 @@ pub mod Kinds
 pub mod State
 pub mod Plans
 pub mod Staged
+pub mod Groups
+pub mod Wipe
 pub mod Machine

@@ -1,6 +1,7 @@
 -- The machine: of each command the reply, the states that follow one another, none for a refusal or
 -- a question, and whether memory may be refused in place of that. Refusals are tried in the order
--- in which a row has them. It leaves out one, that of a table that is full, which is the last.
+-- in which a row has them. It leaves out what a disk alone decides: that a table is full, which is
+-- the last, and that the geometry or the block device of a wipe's image is another.
 use Rattle.std.specs.Prelude.{ℕ, zero, suc, ◌+◌, ◌-◌, ◌*◌, ◌^◌, ◌==◌, nat_lt, nat_le, Bool}
 use Rattle.std.specs.Prelude.{true, false, not, ◌&&◌, ◌||◌, if◌then◌else◌, List, [], ◌∷◌, ◌++◌}
 use Rattle.std.specs.Prelude.{length, map, Option, Some, None, is_some}
@@ -25,15 +26,17 @@ use Rattle.vab_model.specs.declared.command.Reply.{Reply}
 use Rattle.vab_model.specs.declared.command.Reply.TheVariants as replies
 use Rattle.vab_model.specs.Commands.{Command, SetActive, Boot, Mark, Print, Digest, Begin, Create}
 use Rattle.vab_model.specs.Commands.{Resize, Delete, Snapshot, Flash, Finish, Cancel, BeginMerge}
-use Rattle.vab_model.specs.Commands.{Merge, Factory}
+use Rattle.vab_model.specs.Commands.{Merge, Factory, UpdateSuper}
 use Rattle.vab_model.specs.Effects.{Effect, refuses, does, wanting, active_effect, found_of}
 use Rattle.vab_model.specs.Effects.{print_effect, digest_effect}
 use Rattle.vab_model.specs.State.{images_at, has_images, with_control, control_seen}
+pub use Rattle.vab_model.specs.State.{with_images}
 use Rattle.vab_model.specs.Plans.{other_slot, images_of, bytes_named, in_use, group_bytes}
 use Rattle.vab_model.specs.Plans.{limit_of, is_within, entry_named, is_planned, at_entry}
 use Rattle.vab_model.specs.Plans.{begun_plan, with_entries, first_group, created_entry}
 use Rattle.vab_model.specs.Plans.{resized_entry, stored_entry, written_entry, without_entry}
 use Rattle.vab_model.specs.Staged.{is_sparse, filled, differences}
+use Rattle.vab_model.specs.Wipe.{wipe_effect, no_judge, wiped}
 
 -- ---- refusals, each in its place
 
@@ -224,10 +227,6 @@ final_image source e = record {
   bytes = final_bytes source e.name e.image;
 }
 
-abbrev pub with_images : State → (slot : ℕ) → List Image → State
-with_images s slot images =
-    if slot == 0 then record s { a = Some images } else record s { b = Some images }
-
 -- The target has the plan's images. What boot control says of it stays: zeros, as of each slot that
 -- had none.
 abbrev pub finished : State → (source : ℕ) → Plan → State
@@ -324,3 +323,5 @@ machine_effect s staged Finish = if_installing s.phase (finish_row s)
 machine_effect s staged Cancel = cancel_row s s.phase
 machine_effect s staged BeginMerge = begin_merge_row s s.phase
 machine_effect s staged (Merge count) = merge_row s count s.phase
+machine_effect s staged UpdateSuper =
+    wipe_effect no_judge no_judge (wiped s s.control.current) s.control.current staged s.phase

@@ -35,6 +35,11 @@ with_control c s = record s { control = c }
 
 -- ---- images
 
+-- the state with these images of a slot
+abbrev pub with_images : State → (slot : ℕ) → List Image → State
+with_images s slot images =
+    if slot == 0 then record s { a = Some images } else record s { b = Some images }
+
 -- the image of this base name
 abbrev pub image_named : List ℕ → List Image → Option Image
 image_named name [] = None

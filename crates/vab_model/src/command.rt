@@ -42,6 +42,8 @@ pub enum Command<'a> {
     BeginMerge,
     /// Takes so many turns of a merge, fewer only where it ends.
     Merge(u64),
+    /// Makes the partitions of the staged image of an empty `super` those of the current slot.
+    UpdateSuper,
 }
 
 /// Why a command is refused. A refused command changes nothing.
@@ -101,6 +103,14 @@ pub enum Refusal {
     NoImages,
     /// In a factory install there are no stores.
     InPlace,
+    /// The staged bytes are no image of a `super` with the current slot's partitions.
+    BadSuperImage,
+    /// The geometry of the staged image isn't the device's.
+    OtherGeometry,
+    /// The block device of the staged image isn't that of the current slot's table.
+    OtherDevice,
+    /// The partition of this whole name has extents in the staged image.
+    NotEmpty(Name36),
     /// Memory was refused.
     NoMemory,
 }

@@ -47,6 +47,7 @@ fn letter_of_command(command: Command) -> u8 {
         Command::Cancel => b'q',
         Command::BeginMerge => b'B',
         Command::Merge(_) => b'M',
+        Command::UpdateSuper => b'W',
     }
 }
 
@@ -158,6 +159,12 @@ fn packets_ask_for_what_their_words_say(rt: HostRuntime) -> Result<(), Fail> {
         (b"oem factory ", b'!'),
         (b"oem factory x", b'!'),
         (b"oem factory:", b'?'),
+        (b"update-super:super:wipe", b'W'),
+        (b"update-super:super:wipe:", b'!'),
+        (b"update-super:super", b'!'),
+        (b"update-super:", b'!'),
+        (b"update-super", b'!'),
+        (b"update-supers:super:wipe", b'?'),
         (b"oem", b'?'),
         (b"oem ", b'?'),
         (b"oem:boot", b'?'),
@@ -187,6 +194,18 @@ fn replies_are_told_by_their_texts(rt: HostRuntime) -> Result<(), Fail> {
         (Reply::Refused(Refusal::BadName), b"FAILbad partition name"),
         (Reply::Refused(Refusal::Unknown), b"FAILunknown partition"),
         (Reply::Refused(Refusal::NoImages), b"FAILslot has no images"),
+        (
+            Reply::Refused(Refusal::BadSuperImage),
+            b"FAILnot a super image",
+        ),
+        (
+            Reply::Refused(Refusal::OtherGeometry),
+            b"FAILgeometry differs",
+        ),
+        (
+            Reply::Refused(Refusal::OtherDevice),
+            b"FAILblock device differs",
+        ),
         (
             Reply::Digest([0xa5; 32]),
             b"OKAYa5a5a5a5a5a5a5a5a5a5a5a5a5a5a5a5a5a5a5a5a5a5a5a5a5a5a5a5a5a5a5a5",

@@ -1,5 +1,5 @@
--- While a merge is under way no command begins or ends an installation, and each turn that was
--- asked for is taken: so at some moment it has ended.
+-- While a merge is under way no command begins or ends an installation, or wipes a slot, and each
+-- turn that was asked for is taken: so at some moment it has ended.
 use Rattle.std.proofs.Common.{◌≡◌, ◌⊎◌, inl, inr, ℕ, zero, suc, ◌+◌, ◌<◌, ◌≤◌, Bool, true}
 use Rattle.std.proofs.Common.{false, cond, List, [], ◌∷◌, ◌++◌, length, take, drop, Option, Some}
 use Rattle.std.proofs.Common.{None, Result, Ok, refl, sym, ap, subst, arith, add-zero}
@@ -11,9 +11,9 @@ use Rattle.vab_model.specs.declared.state.Image.{Image as ImageOfSlot}
 use Rattle.vab_model.specs.declared.state.Phase.{Phase}
 use Rattle.vab_model.specs.declared.state.Phase.TheVariants.{Idle, Installing, Staged, Merging}
 use Rattle.vab_model.specs.declared.command.Refusal.TheVariants.{NotIdle}
-use Rattle.vab_model.specs.Commands.{Command, Begin, Factory, Finish, SetActive, Merge}
+use Rattle.vab_model.specs.Commands.{Command, Begin, Factory, Finish, SetActive, Merge, UpdateSuper}
 use Rattle.vab_model.specs.Effects.{Effect, IsOneOf, refuses, last_of, after_of}
-use Rattle.vab_model.specs.Kinds.{is_of_installation, turns_of}
+use Rattle.vab_model.specs.Kinds.{is_of_installation, ends_alone, turns_of}
 use Rattle.vab_device.specs.Mounted.{Mounted}
 use Rattle.vab_device.specs.Updates.{effect_on, begin_effect, finish_effect}
 use Rattle.vab_fbproto.specs.Requests.{Asked, Do}
@@ -28,7 +28,8 @@ use Rattle.vab_exchanges.specs.Runs.{steps_at}
 use Rattle.vab_session.specs.Alone.{IsAlone}
 use Rattle.vab_session.specs.Responses.{response, turns_between, machine}
 use Rattle.vab_session.specs.Served.{nothing_staged}
-use Rattle.vab_session.proofs.AloneLaws.{alone_effect, last_alone, item_alone}
+use Rattle.vab_session.proofs.AloneLaws.{asks_end, alone_effect, last_alone, item_alone}
+use Rattle.vab_session.proofs.WipeLaws.{wipe_refused}
 use Rattle.vab_update.specs.Install.{image_orders, order}
 use Rattle.vab_update.specs.Orders.{Order, effect_all, followed}
 use Rattle.vab_cli.specs.Acts.{Act, course}
@@ -48,9 +49,8 @@ use Rattle.vab_rounds.specs.Ended.{IsMoment, turns_behind, front_in, EndsIn, Has
 use Rattle.vab_rounds.proofs.Folding.{last_taken}
 use Rattle.vab_rounds.proofs.Merging.{IsDue, command_steps, command_last, exchange_due, less_due}
 use Rattle.vab_rounds.proofs.Merging.{before_last, passed_alone}
-use Rattle.vab_rounds.proofs.Merging.{ends_nothing, asks_no_end}
 
--- ---- what begins or ends an installation does nothing while a merge is under way
+-- ---- what begins or ends an installation, or wipes a slot, does nothing while a merge goes on
 
 abbrev IsUnderWay : Phase → Type 0
 IsUnderWay (Merging target still) = Unit {0}
@@ -66,22 +66,60 @@ finish_none : (m : Mounted) (phase : Phase) → IsUnderWay phase → (finish_eff
 finish_none m (Merging target still) is = refl
 finish_none m _ is = absurd is
 
-of_installation : (m : Mounted) (staged : Option (List ℕ)) (c : Command)
-    → is_of_installation c ≡ true
+not_idle : (phase : Phase) → IsUnderWay phase → phase ≡ Idle → ⊥
+not_idle phase is idle = subst IsUnderWay idle is
+
+-- these are refused then
+abbrev is_refused : Command → Bool
+is_refused UpdateSuper = true
+is_refused c = is_of_installation c
+
+refused_none : (m : Mounted) (staged : Option (List ℕ)) (c : Command)
+    → is_refused c ≡ true
     → IsUnderWay m.state.phase
     → (effect_on m staged c).later ≡ []
-of_installation m staged Begin of is =
+refused_none m staged Begin of is =
     ap (λ (e : Effect Mounted). e.later) (begin_refused m false m.state.phase is)
-of_installation m staged Factory of is =
+refused_none m staged Factory of is =
     ap (λ (e : Effect Mounted). e.later) (begin_refused m true m.state.phase is)
-of_installation m staged Finish of is = finish_none m m.state.phase is
-of_installation m staged _ of is = absurd cc
+refused_none m staged Finish of is = finish_none m m.state.phase is
+refused_none m staged UpdateSuper of is =
+    wipe_refused m m.state.control.current staged m.state.phase (not_idle m.state.phase is)
+refused_none m staged _ of is = absurd cc
 
-no_turns : (c : Command) → is_of_installation c ≡ true → turns_of c ≡ 0
+no_turns : (c : Command) → is_refused c ≡ true → turns_of c ≡ 0
 no_turns Begin of = refl
 no_turns Factory of = refl
 no_turns Finish of = refl
+no_turns UpdateSuper of = refl
 no_turns _ of = absurd cc
+
+-- the others neither begin nor end an installation, nor wipe a slot
+begins_nothing : (c : Command) → is_refused c ≡ false → is_of_installation c ≡ false
+begins_nothing UpdateSuper other = refl
+begins_nothing _ other = other
+
+ends_nothing : (c : Command) → is_refused c ≡ false → ends_alone c ≡ false
+ends_nothing UpdateSuper other = other
+ends_nothing Finish other = other
+ends_nothing _ other = refl
+
+-- the same of packets
+abbrev asks_refused : Result Asked BadCommand → Bool
+asks_refused (Ok (Do command)) = is_refused command
+asks_refused _ = false
+
+asks_no_update : (asks : Result Asked BadCommand)
+    → asks_refused asks ≡ false
+    → asks_update asks ≡ false
+asks_no_update (Ok (Do c)) other = begins_nothing c other
+asks_no_update _ other = refl
+
+asks_no_end : (asks : Result Asked BadCommand)
+    → asks_refused asks ≡ false
+    → asks_end asks ≡ false
+asks_no_end (Ok (Do c)) other = ends_nothing c other
+asks_no_end _ other = refl
 
 -- a set isn't installed
 install_refused : (m : Mounted) (set : List SetImage)
@@ -199,25 +237,26 @@ module _ (target : ℕ) (images : List ImageOfSlot) (left : ℕ) where
   command_goes : (asked : ℕ) (m : Mounted) (staged : Option (List ℕ)) (c : Command)
       → Merges asked m
       → AllGo asked (effect_on m staged c).later
-  command_goes asked m staged c is x at = elim (cases_Bool (is_of_installation c)) [
+  command_goes asked m staged c is x at = elim (cases_Bool (is_refused c)) [
     | inl of ↦
-        let none = of_installation m staged c of (under_way asked m.state.phase is.still) in
+        let none = refused_none m staged c of (under_way asked m.state.phase is.still) in
         absurd (subst (λ (l : List Mounted). IsOneOf l x) none at)
     | inr not ↦
         record {
           alone =
               alone_effect target images m staged c (ends_nothing c not) is.alone x at;
           due =
-              command_steps left asked m staged c not (left_due asked m.state.phase is.still) x at;
+              command_steps left asked m staged c (begins_nothing c not)
+              (left_due asked m.state.phase is.still) x at;
         }
   ]
 
   command_lasts : (asked : ℕ) (m : Mounted) (staged : Option (List ℕ)) (c : Command)
       → Merges asked m
       → Goes (asked + turns_of c) (last_of m (effect_on m staged c).later)
-  command_lasts asked m staged c is = elim (cases_Bool (is_of_installation c)) [
+  command_lasts asked m staged c is = elim (cases_Bool (is_refused c)) [
     | inl of ↦
-        let none = of_installation m staged c of (under_way asked m.state.phase is.still) in
+        let none = refused_none m staged c of (under_way asked m.state.phase is.still) in
         let same : asked + 0 ≡ asked + turns_of c =
         ap (λ (n : ℕ). asked + n) (sym (no_turns c of)) in
         subst (λ (l : List Mounted). Goes (asked + turns_of c) (last_of m l)) (sym none)
@@ -229,7 +268,8 @@ module _ (target : ℕ) (images : List ImageOfSlot) (left : ℕ) where
               last_alone target images m (effect_on m staged c).later is.alone
               (alone_effect target images m staged c (ends_nothing c not) is.alone);
           due =
-              command_last left asked m staged c not (left_due asked m.state.phase is.still);
+              command_last left asked m staged c (begins_nothing c not)
+              (left_due asked m.state.phase is.still);
         }
   ]
 
@@ -239,13 +279,13 @@ module _ (target : ℕ) (images : List ImageOfSlot) (left : ℕ) where
     steps : AllGo asked item.steps
     last : Goes (asked + turns) item.last.now
 
-  -- a packet that begins or ends an installation
+  -- a packet that begins or ends an installation, or wipes a slot
   asks_none : (k : Kept Mounted) (asks : Result Asked BadCommand)
-      → asks_update asks ≡ true
+      → asks_refused asks ≡ true
       → IsUnderWay k.now.state.phase
       → ((response k.now k.staged asks).later ≡ [])
       × (turns_asked k.now.state.phase asks ≡ 0)
-  asks_none k (Ok (Do c)) of is = (of_installation k.now k.staged c of is, no_turns c of)
+  asks_none k (Ok (Do c)) of is = (refused_none k.now k.staged c of is, no_turns c of)
   asks_none k _ of is = absurd cc
 
   unless_none : (refused : Bool) (e : Response Mounted)
@@ -261,7 +301,7 @@ module _ (target : ℕ) (images : List ImageOfSlot) (left : ℕ) where
 
   done_is : (k : Kept Mounted) (refused : Bool) (parts : List (List ℕ))
       (asks : Result Asked BadCommand)
-      → asks_update asks ≡ true
+      → asks_refused asks ≡ true
       → item_asked response k refused parts asks
       ≡ item_by k (unless_refused refused (response k.now k.staged asks))
   done_is k refused parts (Ok (Do c)) of = refl
@@ -272,7 +312,7 @@ module _ (target : ℕ) (images : List ImageOfSlot) (left : ℕ) where
       → ItemGoes asked (turns_asked k.now.state.phase (request_of s.command))
       (item_of response k s)
   unfolding item_of
-  exchange_goes asked k s is = elim (cases_Bool (asks_update (request_of s.command))) [
+  exchange_goes asked k s is = elim (cases_Bool (asks_refused (request_of s.command))) [
     | inl of ↦
         let asks : Result Asked BadCommand = request_of s.command in
         let t : ℕ = turns_asked k.now.state.phase asks in
@@ -289,9 +329,10 @@ module _ (target : ℕ) (images : List ImageOfSlot) (left : ℕ) where
               (goes_plain asked k.now (goes asked k.now is)));
         })
     | inr not ↦
-        let due = exchange_due left asked k s not (left_due asked k.now.state.phase is.still) in
-        let alone = item_alone target images k s (asks_no_end (request_of s.command) not)
-        is.alone in
+        let asks : Result Asked BadCommand = request_of s.command in
+        let due = exchange_due left asked k s (asks_no_update asks not)
+        (left_due asked k.now.state.phase is.still) in
+        let alone = item_alone target images k s (asks_no_end asks not) is.alone in
         record {
           steps = λ x at. record { alone = alone.steps x at; due = due.steps x at };
           last = record { alone = alone.last; due = due.last };

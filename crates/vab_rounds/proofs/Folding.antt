@@ -3,7 +3,8 @@ use Rattle.std.proofs.Common.{◌≡◌, ◌∙◌, inl, inr, ℕ, zero, suc, �
 use Rattle.std.proofs.Common.{List, []}
 use Rattle.std.proofs.Common.{◌∷◌, ◌++◌, length, take, drop, map, replicate, Option, Some}
 use Rattle.std.proofs.Common.{None, Ok, if◌then◌else◌}
-use Rattle.std.proofs.Common.{refl, sym, ap, subst, arith}
+use Rattle.std.proofs.Common.{refl, sym, ap, subst, append_assoc, arith}
+use Rattle.std.specs.List.{flat_map}
 use Rattle.std.proofs.lemmas.List.{drop_at}
 use Rattle.std.proofs.Common.{◌⊎◌}
 use Rattle.vab_disk.specs.Disk.{Image}
@@ -30,6 +31,7 @@ use Rattle.vab_boots.specs.Boots.{Boots}
 use Rattle.vab_boots.proofs.Booting.{boots}
 use Rattle.vab_rounds.specs.Rounds.{Run, Serves, Carries, Installs, Tells, Lives, items_in}
 use Rattle.vab_rounds.specs.Rounds.{greeting_of, closing_in, Round, IsRound, AreRounds}
+use Rattle.vab_rounds.specs.Alone.{reached}
 use Rattle.vab_rounds.specs.Folds.{after_items, Cut, done_by, further, after_cut, folded}
 use Rattle.vab_rounds.specs.Folds.{whole_in, IsCut, AreCuts}
 
@@ -154,6 +156,56 @@ cut_steps m c =
     subst (λ (l : List Mounted). IsOneOf l (after_cut m c))
     (sym (steps_begin (closing_in m c.run) m (items_in m c.run) c.whole (run_linked m c.run)))
     (last_taken (done_by m c) (further m c) c.steps)
+
+-- ---- a device that is reached is in a step of some item
+
+of_some : {S : Type 0} (xs ys : List S) (x : S)
+    → IsOneOf (xs ++ ys) x
+    → IsOneOf xs x ⊎ IsOneOf ys x
+of_some [] ys x at = inr at
+of_some (s ∷ ss) ys x (inl here) = inl (inl here)
+of_some (s ∷ ss) ys x (inr there) = elim (of_some ss ys x there) [
+  | inl front ↦ inl (inr front)
+  | inr behind ↦ inr behind
+]
+
+of_taken : {S : Type 0} (n : ℕ) (xs : List S) (x : S) → IsOneOf (take n xs) x → IsOneOf xs x
+of_taken zero xs x at = absurd at
+of_taken (suc n) [] x at = absurd at
+of_taken (suc n) (s ∷ ss) x (inl here) = inl here
+of_taken (suc n) (s ∷ ss) x (inr there) = inr (of_taken n ss x there)
+
+of_later : {S : Type 0} (xs : List S) (x : S) → IsOneOf (later_of xs) x → IsOneOf xs x
+of_later [] x at = absurd at
+of_later (s ∷ ss) x at = inr at
+
+items_steps : {S : Type 0} (closing : List S) (s : S) (items : List (Item S)) (whole steps : ℕ)
+    (x : S)
+    → IsOneOf
+    (flat_map (λ (i : Item S). i.steps) (take whole items)
+    ++ take steps (later_of (steps_at closing s items whole))) x
+    → (n : ℕ) × IsOneOf (steps_at closing s items n) x
+items_steps closing s [] zero steps x at = (0, inr (of_taken steps closing x at))
+items_steps closing s [] (suc whole) steps x at = (0, inr (of_taken steps closing x at))
+items_steps closing s (i ∷ is) zero steps x at =
+    (0, of_later i.steps x (of_taken steps (later_of i.steps) x at))
+items_steps {S} closing s (i ∷ is) (suc whole) steps x at =
+    let rest : List S = flat_map (λ (j : Item S). j.steps) (take whole is) in
+    let more : List S = take steps (later_of (steps_at closing i.last.now is whole)) in
+    let joined : IsOneOf (i.steps ++ (rest ++ more)) x =
+    subst (λ (l : List S). IsOneOf l x) (append_assoc i.steps rest more) at in
+    elim (of_some i.steps (rest ++ more) x joined) [
+      | inl here ↦ (0, here)
+      | inr behind ↦
+          let there = items_steps closing i.last.now is whole steps x behind in
+          (suc there.0, there.1)
+    ]
+
+pub reached_steps : (m : Mounted) (c : Cut) (x : Mounted)
+    → IsOneOf (reached m c) x
+    → (n : ℕ) × IsOneOf (steps_at (closing_in m c.run) m (items_in m c.run) n) x
+reached_steps m c x at =
+    items_steps (closing_in m c.run) m (items_in m c.run) c.whole c.steps x at
 
 -- ---- one round
 

@@ -21,7 +21,7 @@ use Rattle.vab_model.specs.declared.command.Refusal.TheVariants as refusals
 use Rattle.vab_model.specs.declared.command.Reply.TheVariants as replies
 use Rattle.vab_model.specs.Commands.{Command, SetActive, Boot, Mark, Print, Digest, Begin, Create}
 use Rattle.vab_model.specs.Commands.{Resize, Delete, Snapshot, Flash, Finish, Cancel, BeginMerge}
-use Rattle.vab_model.specs.Commands.{Merge, Factory}
+use Rattle.vab_model.specs.Commands.{Merge, Factory, UpdateSuper}
 use Rattle.vab_model.specs.State.{images_at, has_images, with_control}
 use Rattle.vab_model.specs.Effects.{Effect, Found, Image_is, Refused_by, found_of, print_effect}
 use Rattle.vab_model.specs.Effects.{digest_effect, active_effect, effect_map, IsOneOf}
@@ -43,6 +43,7 @@ use Rattle.vab_session.specs.Source.{IsStagedFrom, IsMergedFrom}
 use Rattle.vab_session.proofs.SourceLaws.{still_has, still_none}
 use Rattle.vab_session.proofs.SourceLaws as source
 use Rattle.vab_session.proofs.UntilLaws as until
+use Rattle.vab_session.proofs.WipeLaws.{not_wiped, wipe_refused}
 use Rattle.vab_rounds.specs.Rounds.{items_in}
 use Rattle.vab_rounds.specs.Folds.{Cut, after_items, after_cut, folded}
 use Rattle.vab_rounds.specs.Alone.{MeetsBehind}
@@ -121,7 +122,7 @@ module _ (slot : ℕ) (images : List ImageOfSlot) where
   Stands m = HasGiven slot images m
 
   abbrev Stops : Mounted → Type 0
-  Stops m = IsGivenUp slot m
+  Stops m = IsGivenUp slot images m
 
   not_merged : (phase : Phase) → IsStagedFor slot phase → IsMergedFrom slot phase → ⊥
   not_merged Idle is merged = is
@@ -134,10 +135,11 @@ module _ (slot : ℕ) (images : List ImageOfSlot) where
 
   apart : (m : Mounted) → Stands m → Stops m → ⊥
   apart m (inl ready) (inl dropped) = some_none _ ready.has dropped.none
-  apart m (inl ready) (inr merged) = not_merged m.state.phase ready.ready merged
+  apart m (inl ready) (inr (inl merged)) = not_merged m.state.phase ready.ready merged
+  apart m (inl ready) (inr (inr wiped)) = not_wiped slot images m ready.has wiped
   apart m (inr kept) (inl dropped) =
       some_none _ (source.has_images_still slot images m kept) dropped.none
-  apart m (inr kept) (inr merged) = source.apart slot images m kept merged
+  apart m (inr kept) (inr gone) = source.apart slot images m kept gone
 
   abbrev Makes : Mounted → List Mounted → Type 0
   Makes m later = until.Makes Stops Stands apart m later
@@ -233,6 +235,18 @@ module _ (slot : ℕ) (images : List ImageOfSlot) where
   merges m blocks (Installing from plan) at is = absurd at
   merges m blocks (Staged from left) at is = nothing m (inl is)
   merges m blocks (Merging target left) at is = absurd at
+
+  not_idle : (phase : Phase) → IsStagedFor slot phase → phase ≡ Idle → ⊥
+  not_idle phase at idle = subst (IsStagedFor slot) idle at
+
+  wipes : (m : Mounted) (staged : Option (List ℕ))
+      → IsReadyFor slot images m
+      → Makes m (effect_on m staged UpdateSuper).later
+  wipes m staged is =
+      subst (λ (l : List Mounted). Makes m l)
+      (sym (wipe_refused m m.state.control.current staged m.state.phase
+      (not_idle m.state.phase is.ready)))
+      (nothing m (inl is))
 
   -- dropped: the target has no images any more
   dropped : (m : Mounted) (from : ℕ)
@@ -343,14 +357,15 @@ module _ (slot : ℕ) (images : List ImageOfSlot) where
   ready_makes m staged Cancel is = cancels m m.state.phase is.ready is
   ready_makes m staged BeginMerge is = merge_begins m m.state.phase is.ready is
   ready_makes m staged (Merge blocks) is = merges m blocks m.state.phase is.ready is
+  ready_makes m staged UpdateSuper is = wipes m staged is
 
   commands : (m : Mounted) (staged : Option (List ℕ)) (c : Command)
       → Stands m
       → Makes m (effect_on m staged c).later
   commands m staged c (inl ready) = ready_makes m staged c ready
   commands m staged c (inr kept) =
-      makes_wider (source.Merged slot images) Stops (source.Stands slot images) Stands
-      (source.apart slot images) apart (λ x merged. inr merged) (λ x has. inr has) m
+      makes_wider (source.Gone slot images) Stops (source.Stands slot images) Stands
+      (source.apart slot images) apart (λ x gone. inr gone) (λ x has. inr has) m
       (effect_on m staged c).later (source.command_makes slot images m staged c kept)
 
   has_given : (m : Mounted) → Stands m → images_at m.state slot ≡ Some images
@@ -415,7 +430,7 @@ lasting : (first : Mounted) (c : Cut) (cs : List Cut) (from slot : ℕ)
     → from ≤ c.whole
     → IsFinished slot plan before (after_items first (items_in first c.run) from)
     → HasGiven (other_slot slot) (given_by before slot plan) (folded first (c ∷ cs))
-    ⊎ MeetsBehind (IsGivenUp (other_slot slot)) first from (c ∷ cs)
+    ⊎ MeetsBehind (IsGivenUp (other_slot slot) (given_by before slot plan)) first from (c ∷ cs)
 lasting first c cs from slot plan before below is =
     let given : List ImageOfSlot = given_by before slot plan in
     let target : ℕ = other_slot slot in
@@ -430,7 +445,7 @@ pub finished_last : (first : Mounted) (c : Cut) (cs : List Cut) (from slot : ℕ
     → ((images_at (folded first (c ∷ cs)).state (other_slot slot)
     ≡ Some (given_by before slot plan))
     × HasGiven (other_slot slot) (given_by before slot plan) (folded first (c ∷ cs)))
-    ⊎ MeetsBehind (IsGivenUp (other_slot slot)) first from (c ∷ cs)
+    ⊎ MeetsBehind (IsGivenUp (other_slot slot) (given_by before slot plan)) first from (c ∷ cs)
 finished_last first c cs from slot plan before below is =
     elim (lasting first c cs from slot plan before below is) [
       | inl last ↦
@@ -462,7 +477,7 @@ pub finished_merged : (first : Mounted) (c : Cut) (cs : List Cut) (from slot : �
     (after_items there (items_in there d.run) at).state.phase ≡ Merging (other_slot slot) left
     → left < turns_behind there at d.whole d.run + turns_by_all (after_cut there d) later
     → HasEnded (other_slot slot) (given_by before slot plan) there at (d ∷ later)
-    ⊎ MeetsBehind (IsGivenUp (other_slot slot)) first from (c ∷ cs))
+    ⊎ MeetsBehind (IsGivenUp (other_slot slot) (given_by before slot plan)) first from (c ∷ cs))
 finished_merged first c cs from slot plan before earlier d at later left below is same moment some
     phase many =
     let there : Mounted = folded first earlier in

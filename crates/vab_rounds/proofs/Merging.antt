@@ -1,5 +1,5 @@
 -- A merge goes on, however often it is cut.
-use Rattle.std.proofs.Common.{◌≡◌, ◌∙◌, inl, inr, ℕ, zero, suc, ◌+◌, ◌<◌, ◌≤◌, Bool, true}
+use Rattle.std.proofs.Common.{◌≡◌, ◌⊎◌, ◌∙◌, inl, inr, ℕ, zero, suc, ◌+◌, ◌<◌, ◌≤◌, Bool, true}
 use Rattle.std.proofs.Common.{false, cond}
 use Rattle.std.proofs.Common.{List, [], ◌∷◌, ◌++◌, take, codes, Option, Some, None, Result}
 use Rattle.std.proofs.Common.{Ok, Err}
@@ -12,14 +12,14 @@ use Rattle.vab_model.specs.declared.state.Image.{Image as ImageOfSlot}
 use Rattle.vab_model.specs.declared.state.Phase.{Phase}
 use Rattle.vab_model.specs.declared.state.Phase.TheVariants.{Idle, Installing, Staged, Merging}
 use Rattle.vab_model.specs.Commands.{Command, SetActive, Boot, Mark, Print, Digest, Create}
-use Rattle.vab_model.specs.Commands.{Resize, Delete, Snapshot, Flash, Finish, Cancel, BeginMerge}
-use Rattle.vab_model.specs.Commands.{Merge}
+use Rattle.vab_model.specs.Commands.{Resize, Delete, Snapshot, Flash, Cancel, BeginMerge}
+use Rattle.vab_model.specs.Commands.{Merge, UpdateSuper}
 use Rattle.vab_model.specs.State.{images_at}
 use Rattle.vab_model.specs.Effects.{Effect, Found, Image_is, Refused_by, found_of, print_effect}
 use Rattle.vab_model.specs.Effects.{digest_effect, active_effect, effect_map, IsOneOf}
 use Rattle.vab_model.specs.Machine.{machine_effect}
 use Rattle.vab_model.specs.Effects.{last_of}
-use Rattle.vab_model.specs.Kinds.{is_of_installation, is_finish, turns_of}
+use Rattle.vab_model.specs.Kinds.{is_of_installation, turns_of}
 use Rattle.vab_model.specs.Machine.{turns as machine_turns}
 use Rattle.vab_device.proofs.WantLaws.{verb_wants}
 use Rattle.vab_device.specs.Mounted.{Mounted, in_state}
@@ -27,7 +27,7 @@ use Rattle.vab_device.specs.Flashed.{flash_effect}
 use Rattle.vab_device.specs.Updates.{effect_on, EditOf, Guard, edit_effect, no_guard}
 use Rattle.vab_device.specs.Updates.{settled_guard, store_guard, create_edit, resize_edit}
 use Rattle.vab_device.specs.Updates.{delete_edit, snapshot_edit, cancel_effect}
-use Rattle.vab_device.specs.Updates.{begin_merge_effect, merge_effect, turns, merged_to}
+use Rattle.vab_device.specs.Updates.{begin_merge_effect, merge_effect, turns, merged_to, wiped}
 use Rattle.vab_device.proofs.FlashedLaws.{flash_by_blocks}
 use Rattle.vab_fbproto.specs.Requests.{Asked, Getvar, Download, Do, MergeAll, BootAndEnd}
 use Rattle.vab_fbproto.specs.Requests.{request_of}
@@ -39,19 +39,21 @@ use Rattle.vab_exchanges.specs.Items.{items_of, unless_refused, no_memory, later
 use Rattle.vab_exchanges.specs.Items.{item_behind, open_behind, kept_after, closing_of}
 use Rattle.vab_exchanges.proofs.RunLaws.{item_begins, open_begins}
 use Rattle.vab_exchanges.specs.Runs.{steps_at}
-use Rattle.vab_session.specs.Alone.{IsAlone}
+use Rattle.vab_session.specs.Alone.{IsAlone, IsReady, IsWiped, IsEnded, Finds}
 use Rattle.vab_session.specs.Responses.{response, left_of, turns_between, machine}
 use Rattle.vab_session.specs.Served.{nothing_staged}
-use Rattle.vab_session.proofs.AloneLaws.{asks_finish, AreAlone, alone_effect, last_alone}
-use Rattle.vab_session.proofs.AloneLaws as alone
-use Rattle.vab_cli.specs.Verbs.{verb_item}
+use Rattle.vab_session.proofs.AloneLaws.{AreAlone, alone_effect, last_alone}
+use Rattle.vab_session.proofs.StandLaws as stand
+use Rattle.vab_session.proofs.WipeLaws.{wipe_comes, wiped_stays}
 use Rattle.vab_rounds.specs.Rounds.{Run, Serves, Carries, Installs, Tells, Lives, items_in}
 use Rattle.vab_rounds.specs.Rounds.{closing_in}
+use Rattle.vab_rounds.specs.Alone.{reached, SomeEnd, SomeWiped}
 use Rattle.vab_rounds.specs.Folds.{Cut, after_cut, folded}
 use Rattle.vab_rounds.specs.Merges.{asks_update, AskNoUpdate, BeginsNone}
 use Rattle.vab_rounds.specs.Merges.{BeginNone, turns_before, turns_asked, turns_in, turns_by}
 use Rattle.vab_rounds.specs.Merges.{turns_by_all, IsMerged}
-use Rattle.vab_rounds.proofs.Folding.{cut_steps}
+use Rattle.vab_rounds.proofs.Folding.{cut_steps, reached_steps}
+use Rattle.vab_rounds.proofs.Lasting.{lasts}
 
 -- A merge has ended, or so many are left that those that were asked for fit beside them.
 abbrev pub IsDue : (left asked : ℕ) → Phase → Type 0
@@ -191,6 +193,20 @@ module _ (left : ℕ) where
   digests asked m (Image_is image) = none asked
   digests asked m (Refused_by refusal) = none asked
 
+  -- a wipe is refused while it goes on, and changes the phase nowhere
+  wipes : (asked : ℕ) (m : Mounted) (staged : Option (List ℕ))
+      → Due asked m
+      → AreDue asked (effect_on m staged UpdateSuper).later
+  wipes asked m staged is =
+      let slot : ℕ = m.state.control.current in
+      elim (wipe_comes m slot staged m.state.phase) [
+        | inl refused ↦ subst (AreDue asked) (sym refused.none) (none asked)
+        | inr done ↦
+            subst (AreDue asked) (sym done.one)
+            (one asked (wiped m slot done.image)
+            (subst (IsDue left asked) (sym (wiped_stays m.state done.image slot).phase) is))
+      ]
+
   pub command_steps : (asked : ℕ) (m : Mounted) (staged : Option (List ℕ)) (c : Command)
       → is_of_installation c ≡ false
       → Due asked m
@@ -219,6 +235,7 @@ module _ (left : ℕ) where
   command_steps asked m staged Cancel other is = cancels asked m m.state.phase is
   command_steps asked m staged BeginMerge other is = merge_begins asked m m.state.phase is
   command_steps asked m staged (Merge blocks) other is = merges asked m blocks m.state.phase is
+  command_steps asked m staged UpdateSuper other is = wipes asked m staged is
   command_steps asked m staged _ other is = absurd cc
 
   -- a command that asks for no turn
@@ -575,21 +592,7 @@ module _ (left : ℕ) where
   ended asked (Staged source still) is many = absurd is
   ended asked (Merging target still) is many = absurd (omega (arith, is, many))
 
--- ---- the target stays alone
-
-pub ends_nothing : (c : Command) → is_of_installation c ≡ false → is_finish c ≡ false
-ends_nothing Finish other = other
-ends_nothing _ other = refl
-
-pub asks_no_end : (asks : Result Asked BadCommand)
-    → asks_update asks ≡ false
-    → asks_finish asks ≡ false
-asks_no_end (Ok (Getvar variable)) other = refl
-asks_no_end (Ok (Download size)) other = refl
-asks_no_end (Ok (Do c)) other = ends_nothing c other
-asks_no_end (Ok MergeAll) other = refl
-asks_no_end (Ok BootAndEnd) other = refl
-asks_no_end (Err bad) other = refl
+-- ---- the target stays alone, or is wiped
 
 module _ (slot : ℕ) (images : List ImageOfSlot) where
   -- the turns between two packets keep it
@@ -598,93 +601,43 @@ module _ (slot : ℕ) (images : List ImageOfSlot) where
       → AreAlone slot images (turns_between turns m)
   between_alone turns m is = alone_effect slot images m None (Merge turns) refl is
 
-  both_alone : (xs ys : List Mounted)
-      → AreAlone slot images xs
-      → AreAlone slot images ys
-      → AreAlone slot images (xs ++ ys)
-  both_alone [] ys are others = others
-  both_alone (x ∷ xs) ys are others =
-      alone.more slot images x (xs ++ ys) (are x (inl refl))
-      (both_alone xs ys (λ y at. are y (inr at)) others)
-
   pub passed_alone : (turns : ℕ) (k : Kept Mounted)
       → IsAlone slot images k.now
       → IsAlone slot images (passed (machine turns) k).now
   passed_alone turns k is =
       last_alone slot images k.now (turns_between turns k.now) is (between_alone turns k.now is)
 
-  behind_alone : (turns : ℕ) (k : Kept Mounted) (i : Item Mounted)
-      → i.steps ≡ (passed (machine turns) k).now ∷ later_of i.steps
-      → IsAlone slot images k.now
-      → AreAlone slot images i.steps
-      → AreAlone slot images (behind k.now (turns_between turns k.now) i).steps
-  behind_alone turns k i begins is steps =
-      alone.more slot images k.now (turns_between turns k.now ++ later_of i.steps) is
-      (both_alone (turns_between turns k.now) (later_of i.steps) (between_alone turns k.now is)
-      (λ x at. steps x (subst (λ (l : List Mounted). IsOneOf l x) (sym begins) (inr at))))
+  -- no update is ready on the way
+  not_ready : (left asked : ℕ) (phase : Phase) → IsDue left asked phase → IsReady phase → ⊥
+  not_ready left asked (Staged source still) due ready = due
+  not_ready left asked _ due ready = ready
 
-  closing_alone : (turns : ℕ) (k : Kept Mounted) (unfinished : Option (List ℕ)) (waits : Bool)
-      → IsAlone slot images k.now
-      → AreAlone slot images (k.now ∷ closing_of (machine turns) unfinished waits k)
-  closing_alone turns k None true is =
-      alone.more slot images k.now (turns_between turns k.now) is (between_alone turns k.now is)
-  closing_alone turns k None false is = alone.one slot images k.now is
-  closing_alone turns k (Some command) waits is = alone.one slot images k.now is
+  find_wiped : (ms : List Mounted)
+      → ((x : Mounted) → IsOneOf ms x → IsReady x.state.phase → ⊥)
+      → Finds (IsEnded slot images) ms
+      → Finds (IsWiped slot images) ms
+  find_wiped ms none found = elim found.is [
+    | inl ready ↦ absurd (none found.mounted found.reached ready)
+    | inr wiped ↦
+        record { mounted = found.mounted; reached = found.reached; is = wiped }
+  ]
 
-  session_alone : (turns : ℕ) (k : Kept Mounted) (exchanges : List Exchange)
-      (unfinished : Option (List ℕ)) (waits : Bool) (n : ℕ)
-      → AskNoUpdate exchanges
-      → IsAlone slot images k.now
-      → AreAlone slot images
-      (steps_at
-      (closing_of (machine turns) unfinished waits (kept_after (machine turns) k exchanges))
-      k.now (items_of (machine turns) k exchanges unfinished) n)
-  session_alone turns k [] None waits n other is = closing_alone turns k None waits is
-  session_alone turns k [] (Some command) waits zero other is =
-      let next : Kept Mounted = passed (machine turns) k in
-      behind_alone turns k (item_open response next command) (open_begins response next command) is
-      (alone.open_alone slot images next command (passed_alone turns k is)).steps
-  session_alone turns k [] (Some command) waits (suc n) other is =
-      let next : Kept Mounted = passed (machine turns) k in
-      alone.one slot images (open_behind (machine turns) k command).last.now
-      (alone.open_alone slot images next command (passed_alone turns k is)).last
-  session_alone turns k (s ∷ ss) unfinished waits zero other is =
-      let next : Kept Mounted = passed (machine turns) k in
-      behind_alone turns k (item_of response next s) (item_begins response next s) is
-      (alone.item_alone slot images next s (asks_no_end (request_of s.command) other.0)
-      (passed_alone turns k is)).steps
-  session_alone turns k (s ∷ ss) unfinished waits (suc n) other is =
-      let next : Kept Mounted = passed (machine turns) k in
-      session_alone turns (item_behind (machine turns) k s).last ss unfinished waits n other.1
-      (alone.item_alone slot images next s (asks_no_end (request_of s.command) other.0)
-      (passed_alone turns k is)).last
-
-  run_alone : (m : Mounted) (run : Run) (whole : ℕ)
-      → BeginsNone run
-      → IsAlone slot images m
-      → AreAlone slot images (steps_at (closing_in m run) m (items_in m run) whole)
-  run_alone m (Serves turns exchanges unfinished waits) whole other is =
-      session_alone turns (nothing_staged m) exchanges unfinished waits whole other is
-  run_alone m (Carries c) zero other is =
-      alone.more slot images m (effect_on m None c).later is
-      (alone_effect slot images m None c (ends_nothing c other) is)
-  run_alone m (Carries c) (suc n) other is =
-      alone.one slot images (verb_item m c).last.now
-      (last_alone slot images m (effect_on m None c).later is
-      (alone_effect slot images m None c (ends_nothing c other) is))
-  run_alone m (Installs set) whole other is = absurd other
-  run_alone m (Lives made next) whole other is = absurd other
-  run_alone m (Tells text) zero other is = alone.one slot images m is
-  run_alone m (Tells text) (suc n) other is = alone.one slot images m is
-
-  runs_alone : (m : Mounted) (cuts : List Cut)
+  only_wiped : (left asked : ℕ) (m : Mounted) (cuts : List Cut)
       → BeginNone cuts
-      → IsAlone slot images m
-      → IsAlone slot images (folded m cuts)
-  runs_alone m [] other is = is
-  runs_alone m (c ∷ cs) other is =
-      runs_alone (after_cut m c) cs other.1
-      (run_alone m c.run c.whole other.0 is (after_cut m c) (cut_steps m c))
+      → Due left asked m
+      → SomeEnd slot images m cuts
+      → SomeWiped slot images m cuts
+  only_wiped left asked m [] other due some = absurd some
+  only_wiped left asked m (c ∷ cs) other due (inl found) =
+      inl (find_wiped (reached m c) (λ x at ready.
+      let step = reached_steps m c x at in
+      not_ready left (asked + turns_by m step.0 c.run) x.state.phase
+      (run_due left asked m c.run step.0 other.0 due x step.1)
+      ready) found)
+  only_wiped left asked m (c ∷ cs) other due (inr later) =
+      inr (only_wiped left (asked + turns_by m c.whole c.run) (after_cut m c) cs other.1
+      (run_due left asked m c.run c.whole other.0 due (after_cut m c) (cut_steps m c))
+      later)
 
 pub merges_end : (first : Mounted) (cuts : List Cut)
     → BeginNone cuts
@@ -693,7 +646,8 @@ pub merges_end : (first : Mounted) (cuts : List Cut)
     → first.state.phase ≡ Merging target left
     → IsAlone target images first
     → left < turns_by_all first cuts
-    → IsMerged target images (folded first cuts)
+    → ((folded first cuts).state.phase ≡ Idle)
+    × (IsMerged target images (folded first cuts) ⊎ SomeWiped target images first cuts)
 merges_end first cuts other target left images phase is many =
     let asked : ℕ = turns_by_all first cuts in
     let whole : left + 0 ≤ left = omega arith in
@@ -701,7 +655,13 @@ merges_end first cuts other target left images phase is many =
     subst (IsDue left 0) (sym phase) whole in
     let due : IsDue left (0 + asked) (folded first cuts).state.phase =
     runs_due left 0 first cuts other begun in
-    record {
-      idle = ended left (0 + asked) (folded first cuts).state.phase due (omega (arith, many));
-      alone = runs_alone target images first cuts other is;
-    }
+    let idle : (folded first cuts).state.phase ≡ Idle =
+    ended left (0 + asked) (folded first cuts).state.phase due (omega (arith, many)) in (
+      idle,
+      elim
+          (lasts (stand.Ends target images) (stand.Stands target images)
+          (stand.apart target images) (stand.command_makes target images) first cuts is) [
+            | inl last ↦ inl (record { idle = idle; alone = last })
+            | inr some ↦ inr (only_wiped target images left 0 first cuts other begun some)
+          ],
+    )

@@ -13,7 +13,7 @@ use Rattle.vab_model.specs.State.{images_at}
 use Rattle.vab_device.specs.Mounted.{Mounted}
 use Rattle.vab_device.specs.Updates.{effect_on, final_image}
 use Rattle.vab_session.specs.Alone.{IsAlone}
-use Rattle.vab_session.specs.Source.{HasKept, IsMergedFrom}
+use Rattle.vab_session.specs.Source.{HasKept, AreGone}
 use Rattle.vab_rounds.specs.Rounds.{items_in}
 use Rattle.vab_rounds.specs.Folds.{Cut, after_items, after_cut, folded}
 use Rattle.vab_rounds.specs.Alone.{MeetsBehind}
@@ -45,9 +45,10 @@ pub record IsDropped (slot : ℕ) (m : Mounted) : Type 0 where
   pub idle : m.state.phase ≡ Idle
   pub none : images_at m.state slot ≡ None
 
--- They are given up: the update was dropped, or a later one, installed from the slot, is merged.
-abbrev pub IsGivenUp : (slot : ℕ) → Mounted → Type 0
-IsGivenUp slot m = IsDropped slot m ⊎ IsMergedFrom slot m.state.phase
+-- These images are given up: the update was dropped, or a later one, installed from the slot, is
+-- merged, or the slot was wiped.
+abbrev pub IsGivenUp : (slot : ℕ) → List ImageOfSlot → Mounted → Type 0
+IsGivenUp slot images m = IsDropped slot m ⊎ AreGone slot images m
 
 -- ---- the end of an installation
 
@@ -75,7 +76,8 @@ FinishedImagesLast = (first : Mounted) (c : Cut) (cs : List Cut) (from source : 
     → ((images_at (folded first (c ∷ cs)).state (other_slot source)
     ≡ Some (given_by before source plan))
     × HasGiven (other_slot source) (given_by before source plan) (folded first (c ∷ cs)))
-    ⊎ MeetsBehind (IsGivenUp (other_slot source)) first from (c ∷ cs)
+    ⊎ MeetsBehind (IsGivenUp (other_slot source) (given_by before source plan)) first from
+    (c ∷ cs)
 
 -- ---- and the end of its merge
 
@@ -100,4 +102,5 @@ FinishedImagesAreMerged = (first : Mounted) (c : Cut) (cs : List Cut) (from sour
     (after_items there (items_in there d.run) at).state.phase ≡ Merging (other_slot source) left
     → left < turns_behind there at d.whole d.run + turns_by_all (after_cut there d) later
     → HasEnded (other_slot source) (given_by before source plan) there at (d ∷ later)
-    ⊎ MeetsBehind (IsGivenUp (other_slot source)) first from (c ∷ cs))
+    ⊎ MeetsBehind (IsGivenUp (other_slot source) (given_by before source plan)) first from
+    (c ∷ cs))

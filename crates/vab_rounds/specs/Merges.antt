@@ -1,5 +1,5 @@
 -- A merge that is cut again and again, and goes on.
-use Rattle.std.specs.Prelude.{◌≡◌, ◌<◌, ◌+◌, ℕ, zero, suc, Bool, false, List, [], ◌∷◌, take}
+use Rattle.std.specs.Prelude.{◌≡◌, ◌⊎◌, ◌<◌, ◌+◌, ℕ, zero, suc, Bool, false, List, [], ◌∷◌, take}
 use Rattle.std.specs.Prelude.{Result, Ok}
 use Rattle.vab_model.specs.declared.state.Image.{Image as ImageOfSlot}
 use Rattle.vab_model.specs.declared.state.Phase.{Phase}
@@ -16,6 +16,7 @@ use Rattle.vab_session.specs.Alone.{IsAlone}
 use Rattle.vab_session.specs.Responses.{machine, left_of}
 use Rattle.vab_session.specs.Served.{nothing_staged}
 use Rattle.vab_rounds.specs.Rounds.{Run, Serves, Carries, Installs, Tells, Lives}
+use Rattle.vab_rounds.specs.Alone.{SomeWiped}
 use Rattle.vab_rounds.specs.Folds.{Cut, after_cut, folded}
 
 -- ---- no other update is begun
@@ -84,7 +85,8 @@ pub record IsMerged (target : ℕ) (images : List ImageOfSlot) (m : Mounted) : T
   pub alone : IsAlone target images m
 
 -- However often a merge is cut: once those that are acknowledged have asked for one turn more than
--- blocks were left, it has ended, and the target has its images byte for byte.
+-- blocks were left, it has ended, and the target has its images byte for byte, or was wiped on the
+-- way.
 abbrev pub MergesEnd : Type 0
 MergesEnd = (first : Mounted) (cuts : List Cut)
     → BeginNone cuts
@@ -93,4 +95,5 @@ MergesEnd = (first : Mounted) (cuts : List Cut)
     → first.state.phase ≡ Merging target left
     → IsAlone target images first
     → left < turns_by_all first cuts
-    → IsMerged target images (folded first cuts)
+    → ((folded first cuts).state.phase ≡ Idle)
+    × (IsMerged target images (folded first cuts) ⊎ SomeWiped target images first cuts)

@@ -20,13 +20,14 @@ pub fn many_rounds()
 {}
 
 /// Where a slot alone has images and no update is ready, as from the begin of a merge on, it keeps
-/// them behind many rounds, or an update was ready on the way.
+/// them behind many rounds, or an update was ready on the way, or the slot was wiped.
 pub fn stays_alone()
     ensures { RunsStayAlone }
 {}
 
 /// From any moment on at which a slot alone has images, or the update that was installed from it is
-/// ready, it keeps them behind many rounds, or a merge from it was begun on the way.
+/// ready, it keeps them behind many rounds, or a merge from it was begun on the way, or it was
+/// wiped.
 pub fn keeps_images()
     ensures { RunsKeepImages }
 {}
@@ -36,7 +37,8 @@ pub fn keeps_images()
 pub fn ends_a_merge()
     // At some moment, counted from any moment of the merge on, whatever the runs do behind it.
     ensures ended { MergesHaveEnded }
-    // In the end, where no run begins an update or ends its installation.
+    // In the end, where no run begins an update or ends its installation; or the target was wiped
+    // on the way.
     ensures last { MergesEnd }
 {}
 

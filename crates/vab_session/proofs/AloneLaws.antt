@@ -1,5 +1,5 @@
 -- Where one slot alone has images and no update is ready, it stays so until an installation is
--- finished.
+-- finished, or the slot is wiped.
 use Rattle.std.proofs.Common.{◌≡◌, ◌∙◌, ℕ, zero, suc, ◌<◌, inl, inr, Bool, true, false, cond}
 use Rattle.std.proofs.Common.{List, [], ◌∷◌, length, codes, Option, Some, None, Result}
 use Rattle.std.proofs.Common.{Ok, Err, refl, sym, ap, subst, arith}
@@ -29,7 +29,7 @@ use Rattle.vab_model.specs.declared.command.Refusal.TheVariants as refusals
 use Rattle.vab_model.specs.declared.command.Reply.TheVariants as replies
 use Rattle.vab_model.specs.Commands.{Command, SetActive, Boot, Mark, Print, Digest, Begin, Create}
 use Rattle.vab_model.specs.Commands.{Resize, Delete, Snapshot, Flash, Finish, Cancel, BeginMerge}
-use Rattle.vab_model.specs.Commands.{Merge, Factory}
+use Rattle.vab_model.specs.Commands.{Merge, Factory, UpdateSuper}
 use Rattle.vab_model.specs.State.{images_at, has_images, with_control}
 use Rattle.vab_model.specs.Effects.{Effect, Found, Image_is, Refused_by, found_of, print_effect}
 use Rattle.vab_model.specs.Effects.{digest_effect, active_effect, effect_map, IsOneOf}
@@ -58,15 +58,15 @@ use Rattle.vab_exchanges.specs.Items.{item_download, item_of, item_open}
 use Rattle.vab_exchanges.specs.Items.{unless_refused, item_done, item_staged, no_memory}
 use Rattle.vab_device.specs.Reading.{IsIn}
 use Rattle.vab_device.proofs.FlashedLaws.{flash_by_blocks}
-use Rattle.vab_model.specs.Kinds.{is_finish}
+use Rattle.vab_model.specs.Kinds.{ends_alone}
 use Rattle.vab_session.specs.Alone.{IsUnready, IsAlone, BootsTo, StandsAlone}
 use Rattle.vab_session.specs.Responses.{response, left_of}
 use Rattle.vab_bootctl.proofs.BootLaws.{activated_current, marked_current}
 
--- a packet that ends an installation
-abbrev pub asks_finish : Result Asked BadCommand → Bool
-asks_finish (Ok (Do command)) = is_finish command
-asks_finish _ = false
+-- a packet that ends an installation, or wipes the slot
+abbrev pub asks_end : Result Asked BadCommand → Bool
+asks_end (Ok (Do command)) = ends_alone command
+asks_end _ = false
 
 -- ---- a boot
 
@@ -422,9 +422,9 @@ module _ (slot : ℕ) (images : List ImageOfSlot) where
       (chosen_of m.state.control (has_images m.state)) refl ∙ sym is.current)
       is
 
-  -- What each command but the end of an installation makes of it.
+  -- What each command but the end of an installation and a wipe makes of it.
   pub alone_effect : (m : Mounted) (staged : Option (List ℕ)) (c : Command)
-      → is_finish c ≡ false
+      → ends_alone c ≡ false
       → IsAlone slot images m
       → (x : Mounted)
       → IsOneOf (effect_on m staged c).later x
@@ -454,11 +454,12 @@ module _ (slot : ℕ) (images : List ImageOfSlot) where
   alone_effect m staged Cancel other is = cancels m m.state.phase is.unready is
   alone_effect m staged BeginMerge other is = merge_begins m m.state.phase is.unready
   alone_effect m staged (Merge blocks) other is = merges m blocks m.state.phase is.unready is
+  alone_effect m staged UpdateSuper other is = absurd cc
 
   -- ---- packets
 
   pub alone_response : (m : Mounted) (staged : Option (List ℕ)) (asked : Result Asked BadCommand)
-      → asks_finish asked ≡ false
+      → asks_end asked ≡ false
       → IsAlone slot images m
       → (x : Mounted)
       → IsOneOf (response m staged asked).later x
@@ -532,7 +533,7 @@ module _ (slot : ℕ) (images : List ImageOfSlot) where
       (record { steps = one k.now is; last = is }))
 
   done_alone : (k : Kept Mounted) (refused : Bool) (asked : Result Asked BadCommand)
-      → asks_finish asked ≡ false
+      → asks_end asked ≡ false
       → IsAlone slot images k.now
       → IsAloneIn (item_done response k refused asked)
   done_alone k refused asked other is =
@@ -542,7 +543,7 @@ module _ (slot : ℕ) (images : List ImageOfSlot) where
 
   asked_alone : (k : Kept Mounted) (refused : Bool) (parts : List (List ℕ))
       (asked : Result Asked BadCommand)
-      → asks_finish asked ≡ false
+      → asks_end asked ≡ false
       → IsAlone slot images k.now
       → IsAloneIn (item_asked response k refused parts asked)
   asked_alone k refused parts (Ok (Download size)) other is = downloaded k size refused parts is
@@ -556,7 +557,7 @@ module _ (slot : ℕ) (images : List ImageOfSlot) where
   asked_alone k refused parts (Err bad) other is = done_alone k refused (Err bad) other is
 
   pub item_alone : (k : Kept Mounted) (s : Exchange)
-      → asks_finish (request_of s.command) ≡ false
+      → asks_end (request_of s.command) ≡ false
       → IsAlone slot images k.now
       → IsAloneIn (item_of response k s)
   unfolding item_of

@@ -9,7 +9,7 @@ use Rattle.vab_disk.proofs.CallLaws.{changes_hearing, changes_then}
 use Rattle.vab_device.specs.declared.device.Device.{Device}
 use Rattle.vab_model.specs.Commands.{Command}
 use Rattle.vab_device.specs.Does.{Follows, KeepsSource}
-use Rattle.vab_model.specs.Kinds.{is_of_merge}
+use Rattle.vab_model.specs.Kinds.{changes_source}
 use Rattle.vab_device.specs.Mounted.{Mounted}
 use Rattle.vab_device.specs.Reading.{IsIn, Represents}
 use Rattle.vab_commands.specs.Touched.{IsOfCommands, IsOfAll, ChangesBy, FollowsBy}
@@ -136,7 +136,7 @@ follows_kept d P next keeps = record { geometry = keeps.geometry; source = λ p.
 
 pub follows_done : (d : Device) (command : Command) (next : Device)
     → Follows d command next
-    → FollowsBy d (is_of_merge command ≡ false) next
+    → FollowsBy d (changes_source command ≡ false) next
 follows_done d command next follows = record {
   geometry = follows.geometry;
   source = follows.source;

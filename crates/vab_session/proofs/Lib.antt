@@ -2,9 +2,11 @@ pub mod AloneLaws
 pub mod SourceLaws
 pub mod StandLaws
 pub mod UntilLaws
+pub mod WipeLaws
 pub mod WrittenLaws
 mod BetweenLaws
 mod Changing
 mod Data
 mod Endings
 mod Plain
+mod ShortNames

@@ -1,11 +1,13 @@
 -- In whose place want of memory may be told: short replies, and none that is told as that.
 use Rattle.std.proofs.Common.{◌≡◌, ◌≢◌, ℕ, ◌≤◌, true, List, length, codes, decimal}
-use Rattle.std.proofs.Common.{Option, Result, Ok, Err, arith, length-append, ap, get_or, ◌++◌}
+use Rattle.std.proofs.Common.{Option, Result, Ok, Err, arith, length-append, ap, get_or, ◌++◌, sym}
+use Rattle.std.proofs.Common.{subst, inl, inr, refl}
 use Rattle.std.specs.Prelude.{◌+◌}
+use Rattle.vab_model.specs.declared.command.Refusal.{Refusal}
 use Rattle.vab_model.specs.declared.command.Refusal.TheVariants as refusals
 use Rattle.vab_model.specs.declared.command.Reply.{Reply}
 use Rattle.vab_model.specs.declared.command.Reply.TheVariants as replies
-use Rattle.vab_model.specs.Commands.{Command, Boot, Merge}
+use Rattle.vab_model.specs.Commands.{Command, Boot, Merge, UpdateSuper}
 use Rattle.vab_device.specs.Mounted.{Mounted}
 use Rattle.vab_device.specs.Updates.{effect_on}
 use Rattle.vab_device.proofs.WantLaws.{is_wanted, wants_told}
@@ -15,6 +17,8 @@ use Rattle.vab_fbproto.specs.declared.request.BadCommand.{BadCommand}
 use Rattle.vab_fbvars.proofs.Decimals.{decimal_short}
 use Rattle.vab_exchanges.specs.Items.{IsPlain}
 use Rattle.vab_session.specs.Responses.{response, left_of, by_command}
+use Rattle.vab_session.proofs.ShortNames.{filled_short}
+use Rattle.vab_session.proofs.WipeLaws.{IsWipeRefusal, wipe_comes}
 
 -- ---- they are short
 
@@ -41,36 +45,124 @@ short_share head between unit one other =
       decimal_short other,
     )
 
-short_reply : (reply : Reply) → is_wanted reply ≡ true → length (reply_text reply) ≤ 256
+abbrev IsShort : Reply → Type 0
+IsShort reply = length (reply_text reply) ≤ 256
+
+short_full : (size most : ℕ) → IsShort (replies.Refused (refusals.TableFull size most))
 unfolding reply_text refusal_text
-short_reply replies.Done may = omega arith
-short_reply (replies.Refused (refusals.TableFull one other)) may =
-    let text = share (codes "table full: ") one (codes " of ") other (codes " bytes") in
+short_full size most =
+    let text = share (codes "table full: ") size (codes " of ") most (codes " bytes") in
     omega (
       arith,
       length-append (codes "FAIL") text,
-      short_share (codes "table full: ") (codes " of ") (codes " bytes") one other,
+      short_share (codes "table full: ") (codes " of ") (codes " bytes") size most,
     )
+
+short_filled : (name : List ℕ)
+    → length name ≤ 36
+    → IsShort (replies.Refused (refusals.NotEmpty name))
+unfolding reply_text refusal_text
+short_filled name few =
+    let text = codes "partition is not empty: " ++ name in
+    omega (
+      arith,
+      few,
+      length-append (codes "FAIL") text,
+      length-append (codes "partition is not empty: ") name,
+    )
+
+short_reply : (reply : Reply) → is_wanted reply ≡ true → IsShort reply
+unfolding reply_text
+short_reply replies.Done may = omega arith
+short_reply (replies.Refused (refusals.TableFull size most)) may = short_full size most
 short_reply (replies.Refused _) may = absurd cc
 short_reply _ may = absurd cc
 
+-- each refusal of a wipe
+short_refusal : (slot : ℕ) (staged : Option (List ℕ)) (refusal : Refusal)
+    → IsWipeRefusal slot staged refusal
+    → IsShort (replies.Refused refusal)
+unfolding reply_text refusal_text
+short_refusal slot staged refusals.NotIdle why = omega arith
+short_refusal slot staged refusals.NothingStaged why = omega arith
+short_refusal slot staged refusals.Sparse why = omega arith
+short_refusal slot staged refusals.BadSuperImage why = omega arith
+short_refusal slot staged refusals.OtherGeometry why = omega arith
+short_refusal slot staged refusals.OtherDevice why = omega arith
+short_refusal slot staged (refusals.NotEmpty name) why =
+    short_filled name (filled_short slot staged name why)
+short_refusal slot staged (refusals.TableFull size most) why = short_full size most
+short_refusal slot staged _ why = absurd why
+
+short_wipe : (m : Mounted) (staged : Option (List ℕ))
+    → IsShort (effect_on m staged UpdateSuper).reply
+short_wipe m staged =
+    let slot : ℕ = m.state.control.current in
+    elim (wipe_comes m slot staged m.state.phase) [
+      | inl refused ↦
+          subst IsShort (sym refused.told)
+          (short_refusal slot staged refused.refusal refused.why)
+      | inr done ↦ subst IsShort (sym done.told) (short_reply replies.Done refl)
+    ]
+
 -- ---- none is told as want of memory
 
-wanted_text : (reply : Reply)
-    → is_wanted reply ≡ true
-    → reply_text reply ≢ codes "FAILout of memory"
+abbrev IsOther : Reply → Type 0
+IsOther reply = reply_text reply ≢ codes "FAILout of memory"
+
+-- a text whose fifth byte isn't an `o`
+other_fifth : (text : List ℕ) → get_or text 4 0 ≢ 111 → text ≢ codes "FAILout of memory"
+other_fifth text apart same = apart (ap (λ (l : List ℕ). get_or l 4 0) same)
+
+other_reply : (reply : Reply) → is_wanted reply ≡ true → IsOther reply
 unfolding reply_text refusal_text
-wanted_text replies.Done may = λ same. absurd cc
-wanted_text (replies.Refused (refusals.TableFull one other)) may = λ same.
-    let bad : 116 ≡ 111 = ap (λ (l : List ℕ). get_or l 4 0) same in absurd (omega (arith, bad))
-wanted_text (replies.Refused _) may = absurd cc
-wanted_text _ may = absurd cc
+other_reply replies.Done may = λ same. absurd cc
+other_reply (replies.Refused (refusals.TableFull size most)) may =
+    other_fifth (reply_text (replies.Refused (refusals.TableFull size most))) (omega arith)
+other_reply (replies.Refused _) may = absurd cc
+other_reply _ may = absurd cc
+
+other_refusal : (slot : ℕ) (staged : Option (List ℕ)) (refusal : Refusal)
+    → IsWipeRefusal slot staged refusal
+    → IsOther (replies.Refused refusal)
+unfolding reply_text refusal_text
+other_refusal slot staged refusals.NotIdle why =
+    other_fifth (reply_text (replies.Refused refusals.NotIdle)) (omega arith)
+other_refusal slot staged refusals.NothingStaged why =
+    other_fifth (reply_text (replies.Refused refusals.NothingStaged)) (omega arith)
+other_refusal slot staged refusals.Sparse why =
+    other_fifth (reply_text (replies.Refused refusals.Sparse)) (omega arith)
+other_refusal slot staged refusals.BadSuperImage why =
+    other_fifth (reply_text (replies.Refused refusals.BadSuperImage)) (omega arith)
+other_refusal slot staged refusals.OtherGeometry why =
+    other_fifth (reply_text (replies.Refused refusals.OtherGeometry)) (omega arith)
+other_refusal slot staged refusals.OtherDevice why =
+    other_fifth (reply_text (replies.Refused refusals.OtherDevice)) (omega arith)
+other_refusal slot staged (refusals.NotEmpty name) why =
+    other_fifth (reply_text (replies.Refused (refusals.NotEmpty name))) (omega arith)
+other_refusal slot staged (refusals.TableFull size most) why =
+    other_fifth (reply_text (replies.Refused (refusals.TableFull size most))) (omega arith)
+other_refusal slot staged _ why = absurd why
+
+other_wipe : (m : Mounted) (staged : Option (List ℕ))
+    → IsOther (effect_on m staged UpdateSuper).reply
+other_wipe m staged =
+    let slot : ℕ = m.state.control.current in
+    elim (wipe_comes m slot staged m.state.phase) [
+      | inl refused ↦
+          subst IsOther (sym refused.told)
+          (other_refusal slot staged refused.refusal refused.why)
+      | inr done ↦ subst IsOther (sym done.told) (other_reply replies.Done refl)
+    ]
+
+-- ---- responses
 
 command_short : (m : Mounted) (staged : Option (List ℕ)) (c : Command)
     → (by_command m staged c).may_want ≡ true
     → length (by_command m staged c).text ≤ 256
+command_short m staged UpdateSuper may = short_wipe m staged
 command_short m staged c may =
-    short_reply (effect_on m staged c).reply (wants_told m staged c may)
+    short_reply (effect_on m staged c).reply (wants_told m staged c (λ same. absurd cc) may)
 
 short : (m : Mounted) (staged : Option (List ℕ)) (asked : Result Asked BadCommand)
     → (response m staged asked).may_want ≡ true
@@ -85,8 +177,9 @@ short m staged (Err fault) may = absurd cc
 command_wanted : (m : Mounted) (staged : Option (List ℕ)) (c : Command)
     → (by_command m staged c).may_want ≡ true
     → (by_command m staged c).text ≢ codes "FAILout of memory"
+command_wanted m staged UpdateSuper may = other_wipe m staged
 command_wanted m staged c may =
-    wanted_text (effect_on m staged c).reply (wants_told m staged c may)
+    other_reply (effect_on m staged c).reply (wants_told m staged c (λ same. absurd cc) may)
 
 no_memory_wanted : (m : Mounted) (staged : Option (List ℕ)) (asked : Result Asked BadCommand)
     → (response m staged asked).may_want ≡ true

@@ -1,4 +1,4 @@
--- A slot keeps its images until a merge from it is begun.
+-- A slot keeps its images until a merge from it is begun, or it is wiped.
 use Rattle.std.proofs.Common.{◌≡◌, ◌∙◌, ◌⊎◌, inl, inr, ℕ, zero, suc, ◌-◌, ◌≤◌, ◌<◌, ◌++◌, ◌==◌}
 use Rattle.std.proofs.Common.{Bool, true, false, List, [], ◌∷◌, length, drop, codes, Option}
 use Rattle.std.proofs.Common.{Some, None, map, refl, sym, ap, subst, arith}
@@ -20,14 +20,14 @@ use Rattle.vab_model.specs.declared.command.Refusal.TheVariants as refusals
 use Rattle.vab_model.specs.declared.command.Reply.TheVariants as replies
 use Rattle.vab_model.specs.Commands.{Command, SetActive, Boot, Mark, Print, Digest, Begin, Create}
 use Rattle.vab_model.specs.Commands.{Resize, Delete, Snapshot, Flash, Finish, Cancel, BeginMerge}
-use Rattle.vab_model.specs.Commands.{Merge, Factory}
+use Rattle.vab_model.specs.Commands.{Merge, Factory, UpdateSuper}
 use Rattle.vab_model.specs.State.{images_at, has_images, with_control}
 use Rattle.vab_model.specs.Effects.{Effect, Found, Image_is, Refused_by, found_of, print_effect}
 use Rattle.vab_model.specs.Effects.{digest_effect, active_effect, effect_map, IsOneOf}
 use Rattle.vab_model.specs.Machine.{machine_effect, unless, cancelled as cancelled_state}
 use Rattle.vab_model.specs.Machine.{merging_from as merging_state}
 use Rattle.vab_model.specs.Effects.{does}
-use Rattle.vab_model.specs.Kinds.{is_finish}
+use Rattle.vab_model.specs.Kinds.{ends_alone}
 use Rattle.vab_model.specs.Machine.{without_images, with_images, least_declared}
 use Rattle.vab_device.specs.Mounted.{Mounted, Places, in_state}
 use Rattle.vab_device.specs.Reading.{IsIn}
@@ -44,11 +44,12 @@ use Rattle.vab_exchanges.specs.Items.{Kept, items_of, kept_after, closing_of}
 use Rattle.vab_exchanges.specs.Runs.{acknowledged, CrashesWithin}
 use Rattle.vab_session.specs.Alone.{IsAlone, IsUnready, reached_in}
 use Rattle.vab_session.specs.Responses.{machine}
-use Rattle.vab_session.specs.Source.{IsStagedFrom, IsReadyFrom, HasKept, IsMergedFrom}
-use Rattle.vab_session.specs.Source.{FindsMergedFrom, StandsKept}
+use Rattle.vab_session.specs.Source.{IsStagedFrom, IsReadyFrom, HasKept, IsMergedFrom, AreGone}
+use Rattle.vab_session.specs.Source.{FindsGone, StandsKept}
 use Rattle.vab_session.proofs.AloneLaws.{alone_effect}
-use Rattle.vab_session.proofs.StandLaws.{finish_only}
+use Rattle.vab_session.proofs.StandLaws.{end_only}
 use Rattle.vab_session.proofs.UntilLaws as until
+use Rattle.vab_session.proofs.WipeLaws.{not_wiped, wipe_makes, wipe_refused}
 
 -- these images for the other slot leave those of this one
 with_other : (s : State) (own : ℕ) (given : List ImageOfSlot)
@@ -89,6 +90,9 @@ module _ (slot : ℕ) (images : List ImageOfSlot) where
   abbrev pub Merged : Mounted → Type 0
   Merged m = IsMergedFrom slot m.state.phase
 
+  abbrev pub Gone : Mounted → Type 0
+  Gone m = AreGone slot images m
+
   merged_alone : (phase : Phase) → slot < 2 → IsUnready slot phase → IsMergedFrom slot phase → ⊥
   merged_alone Idle below is merged = merged
   merged_alone (Installing source plan) below is merged = merged
@@ -101,26 +105,43 @@ module _ (slot : ℕ) (images : List ImageOfSlot) where
   merged_ready (Staged source left) is merged = merged
   merged_ready (Merging target left) is merged = is
 
-  pub apart : (m : Mounted) → Stands m → Merged m → ⊥
-  apart m (inl alone) merged = merged_alone m.state.phase alone.below alone.unready merged
-  apart m (inr ready) merged = merged_ready m.state.phase ready.ready merged
+  pub has_images_still : (m : Mounted) → Stands m → images_at m.state slot ≡ Some images
+  has_images_still m (inl alone) = alone.has
+  has_images_still m (inr ready) = ready.has
 
-  abbrev pub Makes : Mounted → List Mounted → Type 0
-  Makes m later = until.Makes Merged Stands apart m later
+  pub not_merged : (m : Mounted) → Stands m → Merged m → ⊥
+  not_merged m (inl alone) merged =
+      merged_alone m.state.phase alone.below alone.unready merged
+  not_merged m (inr ready) merged = merged_ready m.state.phase ready.ready merged
 
-  nothing : (m : Mounted) → Stands m → Makes m []
-  nothing m stands = until.made_nothing Merged Stands apart m stands
+  pub apart : (m : Mounted) → Stands m → Gone m → ⊥
+  apart m stands (inl merged) = not_merged m stands merged
+  apart m stands (inr wiped) = not_wiped slot images m (has_images_still m stands) wiped
 
-  one : (m x : Mounted) → Stands m → Stands x → Makes m (x ∷ [])
-  one m x stands next = until.made_all Merged Stands apart m (x ∷ []) stands by
+-- What each command but a wipe makes of a slot whose images are kept, until it stops, at the latest
+-- where a merge from it is begun.
+module _ (slot : ℕ) (images : List ImageOfSlot) (Stops : Mounted → Type 0)
+    (differ : (m : Mounted) → HasKept slot images m → Stops m → ⊥)
+    (stops : (m : Mounted) → IsMergedFrom slot m.state.phase → Stops m) where
+  abbrev Has : Mounted → Type 0
+  Has m = HasKept slot images m
+
+  abbrev Makes : Mounted → List Mounted → Type 0
+  Makes m later = until.Makes Stops Has differ m later
+
+  nothing : (m : Mounted) → Has m → Makes m []
+  nothing m stands = until.made_nothing Stops Has differ m stands
+
+  one : (m x : Mounted) → Has m → Has x → Makes m (x ∷ [])
+  one m x stands next = until.made_all Stops Has differ m (x ∷ []) stands by
     where
-      by : (y : Mounted) → IsOneOf (x ∷ []) y → Stands y
-      by y (inl here) = subst Stands (sym here) next
+      by : (y : Mounted) → IsOneOf (x ∷ []) y → Has y
+      by y (inl here) = subst Has (sym here) next
       by y (inr none) = absurd none
 
   -- a row of the machine that is refused, unless a test holds
   tested : (m : Mounted) (places : Places) (b : Bool) (refusal : Refusal) (e : Effect State)
-      → Stands m
+      → Has m
       → (b ≡ true → Makes m (effect_map (in_places places) e).later)
       → Makes m (effect_map (in_places places) (unless b refusal e)).later
   tested m places true refusal e stands holds = holds refl
@@ -157,7 +178,7 @@ module _ (slot : ℕ) (images : List ImageOfSlot) where
 
   with_boot : (m : Mounted) (c : Control)
       → IsReadyFrom slot images m
-      → Stands (in_state m (with_control c m.state))
+      → Has (in_state m (with_control c m.state))
   with_boot m c is = inr (record { below = is.below; has = is.has; ready = is.ready })
 
   activates : (m : Mounted) (has : Bool) (c : Control)
@@ -259,7 +280,8 @@ module _ (slot : ℕ) (images : List ImageOfSlot) where
       (λ other.
       tested m places marked refusals.NotSuccessful begun (inr is)
       (λ yes.
-      until.made_stop Merged Stands apart m (merging_from m source left) (ap other_slot at)))
+      until.made_stop Stops Has differ m (merging_from m source left)
+      (stops (merging_from m source left) (ap other_slot at))))
   merge_begins m (Merging target left) at is = absurd at
 
   merges : (m : Mounted) (blocks : ℕ) (phase : Phase)
@@ -271,7 +293,20 @@ module _ (slot : ℕ) (images : List ImageOfSlot) where
   merges m blocks (Staged source left) at is = nothing m (inr is)
   merges m blocks (Merging target left) at is = absurd at
 
-  ready_makes : (m : Mounted) (staged : Option (List ℕ)) (c : Command)
+  not_idle : (phase : Phase) → IsStagedFrom slot phase → phase ≡ Idle → ⊥
+  not_idle phase at idle = subst (IsStagedFrom slot) idle at
+
+  -- there is an update
+  wipes : (m : Mounted) (staged : Option (List ℕ))
+      → IsReadyFrom slot images m
+      → Makes m (effect_on m staged UpdateSuper).later
+  wipes m staged is =
+      subst (λ (l : List Mounted). Makes m l)
+      (sym (wipe_refused m m.state.control.current staged m.state.phase
+      (not_idle m.state.phase is.ready)))
+      (nothing m (inr is))
+
+  pub ready_makes : (m : Mounted) (staged : Option (List ℕ)) (c : Command)
       → IsReadyFrom slot images m
       → Makes m (effect_on m staged c).later
   unfolding machine_effect
@@ -302,35 +337,72 @@ module _ (slot : ℕ) (images : List ImageOfSlot) where
   ready_makes m staged Cancel is = cancels m m.state.phase is.ready is
   ready_makes m staged BeginMerge is = merge_begins m m.state.phase is.ready is
   ready_makes m staged (Merge blocks) is = merges m blocks m.state.phase is.ready is
+  ready_makes m staged UpdateSuper is = wipes m staged is
+
+  -- where the slot alone has images
+  pub finish_makes : (m : Mounted) (staged : Option (List ℕ))
+      → IsAlone slot images m
+      → Makes m (effect_on m staged Finish).later
+  finish_makes m staged alone = finishes m m.state.phase alone.unready alone
+
+  pub plain_makes : (m : Mounted) (staged : Option (List ℕ)) (c : Command)
+      → ends_alone c ≡ false
+      → Has m
+      → Makes m (effect_on m staged c).later
+  plain_makes m staged c not (inr ready) = ready_makes m staged c ready
+  plain_makes m staged c not (inl alone) =
+      until.made_all Stops Has differ m (effect_on m staged c).later (inl alone)
+      (λ x at. inl (alone_effect slot images m staged c not alone x at))
+
+module _ (slot : ℕ) (images : List ImageOfSlot) where
+  -- a command that ends it where the slot alone has images
+  ends_by : (m : Mounted) (staged : Option (List ℕ)) (c : Command)
+      → (c ≡ Finish) ⊎ (c ≡ UpdateSuper)
+      → IsAlone slot images m
+      → until.Makes (Gone slot images) (Stands slot images) (apart slot images) m
+      (effect_on m staged c).later
+  ends_by m staged c (inl is) alone =
+      subst
+      (λ (d : Command).
+      until.Makes (Gone slot images) (Stands slot images) (apart slot images) m
+      (effect_on m staged d).later)
+      (sym is)
+      (finish_makes slot images (Gone slot images) (apart slot images) (λ x merged. inl merged) m
+      staged alone)
+  ends_by m staged c (inr is) alone =
+      subst
+      (λ (d : Command).
+      until.Makes (Gone slot images) (Stands slot images) (apart slot images) m
+      (effect_on m staged d).later)
+      (sym is)
+      (wipe_makes (Gone slot images) (Stands slot images) (apart slot images) slot images
+      (λ x wiped. inr wiped) (λ x stands. inl stands) m staged alone)
 
   pub command_makes : (m : Mounted) (staged : Option (List ℕ)) (c : Command)
-      → Stands m
-      → Makes m (effect_on m staged c).later
-  command_makes m staged c (inr ready) = ready_makes m staged c ready
-  command_makes m staged c (inl alone) = elim (cases_Bool (is_finish c)) [
-    | inl is ↦
-        subst (λ (d : Command). Makes m (effect_on m staged d).later) (sym (finish_only c is))
-        (finishes m m.state.phase alone.unready alone)
+      → Stands slot images m
+      → until.Makes (Gone slot images) (Stands slot images) (apart slot images) m
+      (effect_on m staged c).later
+  command_makes m staged c (inr ready) =
+      ready_makes slot images (Gone slot images) (apart slot images) (λ x merged. inl merged) m
+      staged c ready
+  command_makes m staged c (inl alone) = elim (cases_Bool (ends_alone c)) [
+    | inl is ↦ ends_by m staged c (end_only c is) alone
     | inr not ↦
-        until.made_all Merged Stands apart m (effect_on m staged c).later (inl alone)
-        (λ x at. inl (alone_effect slot images m staged c not alone x at))
+        plain_makes slot images (Gone slot images) (apart slot images) (λ x merged. inl merged) m
+        staged c not (inl alone)
   ]
 
   -- ---- a cut of power
 
-  pub has_images_still : (m : Mounted) → Stands m → images_at m.state slot ≡ Some images
-  has_images_still m (inl alone) = alone.has
-  has_images_still m (inr ready) = ready.has
-
   pub stands_kept : (size : ℕ) (o : Outcome) (m : Mounted)
       → IsIn size m o.image
-      → Stands m
+      → Stands slot images m
       → StandsKept size slot images o.image
   stands_kept size o m is stands =
-      record { mounted = m; is = is; has = has_images_still m stands; kept = stands }
+      record { mounted = m; is = is; has = has_images_still slot images m stands; kept = stands }
 
   -- Where that much was told, each cut of power leaves the slot its images, or a merge from it was
-  -- begun.
+  -- begun, or it was wiped.
   pub kept_at_cut : (turns size : ℕ) (first : Kept Mounted) (exchanges done later : List Exchange)
       (unfinished : Option (List ℕ)) (waits : Bool) (told : List ℕ) (o : Outcome)
       → CrashesWithin (IsIn size) (codes "FB01") first.now
@@ -338,21 +410,22 @@ module _ (slot : ℕ) (images : List ImageOfSlot) where
       (closing_of (machine turns) unfinished waits (kept_after (machine turns) first exchanges))
       told o
       → exchanges ≡ done ++ later
-      → Stands (kept_after (machine turns) first done).now
+      → Stands slot images (kept_after (machine turns) first done).now
       → (since : List ℕ)
       → o.told ≡ told ++ since
       → length done
       ≤ acknowledged (items_of (machine turns) first exchanges unfinished) (drop 4 since)
       → StandsKept size slot images o.image
-      ⊎ FindsMergedFrom slot
+      ⊎ FindsGone slot images
       (reached_in turns (kept_after (machine turns) first done) later unfinished waits
       (acknowledged (items_of (machine turns) first exchanges unfinished) (drop 4 since)
       - length done))
   kept_at_cut turns size first exchanges done later unfinished waits told o crash is stands since
       told_is behind =
       elim
-      (until.holds_at_cut Merged Stands apart command_makes turns size first exchanges done later
-      unfinished waits told o crash is stands since told_is behind) [
+      (until.holds_at_cut (Gone slot images) (Stands slot images) (apart slot images) command_makes
+      turns size first exchanges done later unfinished waits told o crash is stands since told_is
+      behind) [
         | inl at ↦ inl (stands_kept size o at.0 at.2 at.1)
         | inr found ↦ inr found
       ]

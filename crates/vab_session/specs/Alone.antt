@@ -1,7 +1,10 @@
 -- One slot alone has images, and no update is ready: from the begin of a merge on, until an
--- installation is finished.
-use Rattle.std.specs.Prelude.{◌≡◌, ◌++◌, ℕ, ◌<◌, Bool, List, take, Option, Some, None}
+-- installation is finished. It keeps its images until then, or until it is wiped.
+use Rattle.std.specs.Prelude.{◌≡◌, ◌⊎◌, ◌++◌, ℕ, ◌<◌, Bool, false, ◌&&◌, List, [], take, Option}
+use Rattle.std.specs.Prelude.{Some, None, All}
 use Rattle.std.specs.List.{flat_map}
+use Rattle.std.specs.Str.{bytes_eq}
+use Rattle.std.specs.Cmp.Lexicographic.{pointwise}
 use Rattle.vab_disk.specs.Disk.{Image}
 use Rattle.vab_layout.specs.Slots.{other_slot}
 use Rattle.vab_model.specs.declared.state.Image.{Image as ImageOfSlot}
@@ -10,6 +13,7 @@ use Rattle.vab_model.specs.declared.state.Phase.TheVariants.{Idle, Installing, S
 use Rattle.vab_model.specs.declared.command.Reply.TheVariants as replies
 use Rattle.vab_model.specs.Commands.{Boot}
 use Rattle.vab_model.specs.Effects.{IsOneOf}
+use Rattle.vab_model.specs.Plans.{same_group}
 use Rattle.vab_model.specs.State.{images_at}
 use Rattle.vab_device.specs.Mounted.{Mounted}
 use Rattle.vab_device.specs.Reading.{IsIn}
@@ -55,15 +59,39 @@ abbrev pub IsReady : Phase → Type 0
 IsReady (Staged source left) = Unit {0}
 IsReady _ = ⊥
 
+-- ---- a wipe
+
+-- the same name, group and bytes
+abbrev pub is_image : ImageOfSlot → ImageOfSlot → Bool
+is_image a b =
+    bytes_eq a.name b.name && (same_group a.group b.group && bytes_eq a.bytes b.bytes)
+
+-- the same images
+unfoldable pub same_images : List ImageOfSlot → List ImageOfSlot → Bool
+same_images a b = pointwise is_image a b
+
+-- The slot has other images than these, and each of them is empty: `super` was wiped.
+pub record IsWiped (slot : ℕ) (images : List ImageOfSlot) (m : Mounted) : Type 0 where
+  pub others : List ImageOfSlot
+  pub has : images_at m.state slot ≡ Some others
+  pub empty : All (λ (i : ImageOfSlot). i.bytes ≡ []) others
+  pub differ : same_images others images ≡ false
+
+-- ---- what a slot that stands alone keeps its images until
+
+-- an update is ready, or the slot was wiped
+abbrev pub IsEnded : (slot : ℕ) → List ImageOfSlot → Mounted → Type 0
+IsEnded slot images m = IsReady m.state.phase ⊎ IsWiped slot images m
+
 -- One of these devices is such a one.
 pub record Finds (Is : Mounted → Type 0) (ms : List Mounted) : Type 0 where
   pub mounted : Mounted
   pub reached : IsOneOf ms mounted
   pub is : Is mounted
 
--- On one of these devices an update is ready.
-abbrev pub FindsReady : List Mounted → Type 0
-FindsReady = Finds (λ m. IsReady m.state.phase)
+-- On one of these devices it has ended.
+abbrev pub FindsEnd : (slot : ℕ) → List ImageOfSlot → List Mounted → Type 0
+FindsEnd slot images = Finds (IsEnded slot images)
 
 -- The devices that these exchanges come to, with so many turns of a merge behind each: in the steps
 -- of the first n of them, and in those of the one behind them, or behind the last one, where

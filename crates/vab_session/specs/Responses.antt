@@ -20,7 +20,7 @@ use Rattle.vab_exchanges.specs.Items.{Response, Machine}
 abbrev pub still : List ℕ → Response Mounted
 still text = record { text = text; later = []; takes = false; may_want = false }
 
--- the staged bytes are used up: a flash was done
+-- the staged bytes are used up: a flash or a wipe was done
 abbrev pub takes_staged : Command → Reply → Bool
 takes_staged c replies.Done = uses_staged c
 takes_staged c _ = false

@@ -1,4 +1,4 @@
--- A slot keeps its images until a merge from it is begun.
+-- A slot keeps its images until a merge from it is begun, or it is wiped.
 use Rattle.std.specs.Prelude.{◌≡◌, ◌⊎◌, ℕ, ◌<◌, List, Some}
 use Rattle.vab_disk.specs.Disk.{Image}
 use Rattle.vab_layout.specs.Slots.{other_slot}
@@ -8,7 +8,7 @@ use Rattle.vab_model.specs.declared.state.Phase.TheVariants.{Idle, Installing, S
 use Rattle.vab_model.specs.State.{images_at}
 use Rattle.vab_device.specs.Mounted.{Mounted}
 use Rattle.vab_device.specs.Reading.{IsIn}
-use Rattle.vab_session.specs.Alone.{IsAlone, Finds}
+use Rattle.vab_session.specs.Alone.{IsAlone, IsWiped, Finds}
 
 -- an update is ready that was installed from this slot
 abbrev pub IsStagedFrom : (slot : ℕ) → Phase → Type 0
@@ -28,7 +28,7 @@ pub record IsReadyFrom (slot : ℕ) (images : List ImageOfSlot) (m : Mounted) : 
 abbrev pub HasKept : (slot : ℕ) → List ImageOfSlot → Mounted → Type 0
 HasKept slot images m = IsAlone slot images m ⊎ IsReadyFrom slot images m
 
--- the update from this slot is merged: the images of the slot are given up
+-- the update from this slot is merged
 abbrev pub IsMergedFrom : (slot : ℕ) → Phase → Type 0
 IsMergedFrom slot Idle = ⊥
 IsMergedFrom slot (Installing source plan) = ⊥
@@ -38,6 +38,14 @@ IsMergedFrom slot (Merging target left) = target ≡ other_slot slot
 -- on one of these devices it is
 abbrev pub FindsMergedFrom : (slot : ℕ) → List Mounted → Type 0
 FindsMergedFrom slot = Finds (λ m. IsMergedFrom slot m.state.phase)
+
+-- these images of the slot are given up: the update from it is merged, or it was wiped
+abbrev pub AreGone : (slot : ℕ) → List ImageOfSlot → Mounted → Type 0
+AreGone slot images m = IsMergedFrom slot m.state.phase ⊎ IsWiped slot images m
+
+-- on one of these devices they are
+abbrev pub FindsGone : (slot : ℕ) → List ImageOfSlot → List Mounted → Type 0
+FindsGone slot images = Finds (AreGone slot images)
 
 -- On the disk the slot has these images.
 pub record StandsKept

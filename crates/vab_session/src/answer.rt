@@ -8,7 +8,7 @@ ghost use Rattle.vab_fbproto.specs.Requests.{Asked, Do, Download, request_of};
 ghost use Rattle.vab_fbproto.specs.declared.request.BadCommand.{BadCommand};
 ghost use Rattle.vab_model.specs.Commands.{command_of};
 ghost use Rattle.vab_device.specs.Does.{KeepsSource};
-ghost use Rattle.vab_model.specs.Kinds.{is_of_merge};
+ghost use Rattle.vab_model.specs.Kinds.{changes_source};
 ghost use Rattle.vab_commands.specs.Copies.{HasBothCopies};
 ghost use Rattle.vab_commands.specs.Touched.{ChangesDevice, ChangesBy, FollowsBy};
 ghost use Rattle.vab_exchanges.specs.Session.{ends_session};
@@ -77,13 +77,14 @@ fn bytes_of(staged: &Option<Vec<u8>>) -> Option<&[u8]>
     }
 }
 
-// Whether a command has used up the staged bytes: a flash that is done.
+// Whether a command has used up the staged bytes: a flash or a wipe that is done.
 #[tactic(auto, unfolding(crate::specs::Responses::takes_staged))]
 fn takes_staged(command: &Command, reply: &Reply) -> bool
     ensures { result ≡ takes_staged (command_of command.now) reply.now }
 {
     match (command, reply) {
         (Command::Flash(_, _), Reply::Done) => true,
+        (Command::UpdateSuper, Reply::Done) => true,
         _ => false,
     }
 }
@@ -114,7 +115,7 @@ fn carry_out<P: Port>(
     ensures left { P.is_modelled → P.input_left p.new ≡ P.input_left p.old }
     ensures device { IfOk result (λ k. IsDevice k.device (P.size p.old)) }
     ensures follows { IfOk result
-        (λ k. FollowsBy kept.device (is_of_merge (command_of command.now) ≡ false) k.device) }
+        (λ k. FollowsBy kept.device (changes_source (command_of command.now) ≡ false) k.device) }
     ensures stands { P.is_modelled
         → IfOk result (λ k. Represents k.device (P.size p.old) (P.seen p.new)) }
     ensures does { P.is_modelled
@@ -127,7 +128,8 @@ fn carry_out<P: Port>(
         → AnswersOrFails (P.size p.old) P.Disk (kept_on kept (P.seen p.old))
         packet before before beyond count total most p.old p.new result }
     ensures changes { P.is_modelled
-        → ChangesBy P.Disk kept.device (is_of_merge (command_of command.now) ≡ false) p.old p.new }
+        → ChangesBy P.Disk kept.device (changes_source (command_of command.now) ≡ false)
+        p.old p.new }
     ensures copies { P.is_modelled
         → Held result
         → HasBothCopies (P.size p.old) (P.seen p.new) }

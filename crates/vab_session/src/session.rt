@@ -158,8 +158,8 @@ fn hold_session<P: Port>(
 /// and an update as much as its tables and stores; where that is refused `FAILout of memory` is
 /// told. However it ends, it has changed what its commands may write alone: boot control by the
 /// boot rules, the update mark, the statuses, tables, and blocks behind them. Where no packet asks
-/// for a merge, those are the target's table, and blocks of no image. Source: the fastboot README,
-/// protocol 0.4, TCP version 1.
+/// for a merge or a wipe, those are the target's table, and blocks of no image. Source: the
+/// fastboot README, protocol 0.4, TCP version 1.
 pub fn serve_up_to<P: Port>(
     alloc: Global,
     p: &mut P,

@@ -19,7 +19,7 @@ use Rattle.vab_model.specs.Effects.{IsOneOf, unless_refused}
 use Rattle.vab_device.specs.declared.device.Device.{Device}
 use Rattle.vab_device.specs.declared.fault.StartFault.{StartFault}
 use Rattle.vab_device.specs.Does.{Does, LeavesStep, KeepsSource}
-use Rattle.vab_model.specs.Kinds.{is_of_merge}
+use Rattle.vab_model.specs.Kinds.{changes_source}
 use Rattle.vab_device.specs.Kept.{IsDevice}
 use Rattle.vab_device.specs.Mounted.{Mounted, mounted_on}
 use Rattle.vab_device.specs.Reading.{device, Represents}
@@ -352,7 +352,7 @@ refused_same a b is = cc
 
 module _ {D : Type 0} (g : Ghosts D) (d : Device) (staged : Option (List ℕ)) (command : Command)
     (old new : D)
-    (plain : is_of_merge command ≡ false)
+    (plain : changes_source command ≡ false)
     (dev : IsDevice d (g.size old))
     (was : g.is_modelled → Represents d (g.size old) (g.seen old)) where
   abbrev m : Mounted

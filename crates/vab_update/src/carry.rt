@@ -1,7 +1,7 @@
 //! One of the commands.
 ghost use Rattle.std.specs.Prelude.{◌≡◌, ◌∷◌, [], false, IfSome, None, option_map};
 ghost use Rattle.vab_model.specs.Commands.{command_of};
-ghost use Rattle.vab_model.specs.Kinds.{is_of_merge};
+ghost use Rattle.vab_model.specs.Kinds.{changes_source};
 ghost use Rattle.vab_device.specs.Kept.{IsDevice};
 ghost use Rattle.vab_device.specs.Mounted.{mounted_on};
 ghost use Rattle.vab_device.specs.Reading.{Represents};
@@ -41,7 +41,7 @@ pub(crate) fn carry_out<D: Disk>(
 ) -> Result<Device, Stop>
     requires kept { IsDevice device (D.size d.old) }
     requires represents { D.is_modelled → Represents device (D.size d.old) (D.seen d.old) }
-    requires plain { is_of_merge (command_of command.now) ≡ false }
+    requires plain { changes_source (command_of command.now) ≡ false }
     ensures { (order : Order)
         → order.command (mounted_on device (D.seen d.old)) ≡ command_of command.now
         → order.staged ≡ option_map (λ s. s.now) staged.entry

@@ -2,7 +2,7 @@
 ghost use Rattle.std.specs.Prelude.{◌≡◌, ◌<◌, false};
 ghost use Rattle.vab_disk.specs.Disk.{Image};
 ghost use Rattle.vab_set.specs.Spelling.{IsImage, IsSet};
-ghost use Rattle.vab_model.specs.Kinds.{is_of_merge};
+ghost use Rattle.vab_model.specs.Kinds.{changes_source};
 ghost use Rattle.vab_device.specs.Kept.{IsDevice};
 ghost use Rattle.vab_model.specs.Commands.{command_of};
 ghost use Rattle.vab_device.specs.Mounted.{mounted_on, state_on};
@@ -38,7 +38,7 @@ fn size_command<'a>(device: &Device, source: usize, image: &SetImage, name: &'a 
     requires named { name.now ≡ target_name source image.now }
     ensures is { (disk : Image)
         → size_command source image.now (mounted_on device.now disk) ≡ command_of result }
-    ensures plain { is_of_merge (command_of result) ≡ false }
+    ensures plain { changes_source (command_of result) ≡ false }
 {
     if is_there(device, source, image.name.text()) {
         Command::Resize(name, image.size)

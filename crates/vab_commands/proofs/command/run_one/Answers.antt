@@ -2,11 +2,11 @@ use Rattle.std.proofs.Common.{◌≡◌, ℕ, List, refl, sym, subst, Ok, false}
 use Rattle.std.specs.Prelude.{Option, Result, option_map}
 use Rattle.vab_disk.specs.declared.disk.Disk.{Ghosts}
 use Rattle.vab_disk.specs.Calls.{OnlyReads}
-use Rattle.vab_disk.proofs.CallLaws.{reads_none}
+use Rattle.vab_disk.proofs.CallLaws.{reads_none, touches_wider}
 use Rattle.vab_gate.specs.declared.gate.DiskFault.{DiskFault}
 use Rattle.vab_model.specs.declared.command.Command.{Command as CommandOfCode}
 use Rattle.vab_model.specs.declared.command.Reply.{Reply}
-use Rattle.vab_model.specs.Commands.{Command, command_of, Print, Digest}
+use Rattle.vab_model.specs.Commands.{Command, command_of, Print, Digest, UpdateSuper}
 use Rattle.vab_model.specs.Effects.{answers}
 use Rattle.vab_model.specs.Machine.{machine_effect}
 use Rattle.vab_device.specs.declared.device.Device.{Device}
@@ -16,6 +16,7 @@ use Rattle.vab_device.specs.Mounted.{mounted_on}
 use Rattle.vab_device.specs.Reading.{Represents}
 use Rattle.vab_device.specs.Updates.{effect_on}
 use Rattle.vab_device.proofs.DoesLaws.{does_nothing, fails_reading}
+use Rattle.vab_wipe.specs.Writes.{IsOfWipe}
 use Rattle.vab_commands.specs.Writes.{IsOfCommand}
 use Rattle.vab_commands.proofs.command.run_one.Goals as goal
 
@@ -47,6 +48,26 @@ module _ {D : Type 0} (g : Ghosts D) (d : Device) (staged : Option (List ℕ)) (
     still command reply new kept is told reads counts =
         does_nothing g d staged command (IsOfCommand g.is_modelled d (g.seen old 4) command) false
         reply old new kept is told reads counts
+
+    -- a wipe writes what one of some staged bytes does
+    wipes : (new : D) (result : Result (Device × Reply) DiskFault)
+        → Does g d staged UpdateSuper (IsOfWipe d staged) old new result
+        → Does g d staged UpdateSuper (IsOfCommand g.is_modelled d (g.seen old 4) UpdateSuper) old
+        new result
+    wipes new result does = record {
+      refused = does.refused;
+      kept = does.kept;
+      follows = does.follows;
+      represents = does.represents;
+      after = does.after;
+      reply = does.reply;
+      rest = does.rest;
+      quiet = does.quiet;
+      still = does.still;
+      touches = λ t. touches_wider g _ _ _ _ (does.touches t) (λ s b is. (staged, is));
+      time = does.time;
+      faults = does.faults;
+    }
 
 pub returns-in-SetActive : goal.returns-in-SetActive
 returns-in-SetActive g c =
@@ -136,6 +157,13 @@ returns-in-BeginMerge g c =
     of g.D.Disk c.args.device (option_map (λ s. s.now) c.args.staged) c.args.d.now
     c.args.command.now _ _ _ c.in-BeginMerge.is
     (c.begin_merge.ensures (option_map (λ s. s.now) c.args.staged))
+
+pub returns-in-UpdateSuper : goal.returns-in-UpdateSuper
+returns-in-UpdateSuper g c =
+    of g.D.Disk c.args.device (option_map (λ s. s.now) c.args.staged) c.args.d.now
+    c.args.command.now _ _ _ c.in-UpdateSuper.is
+    (wipes g.D.Disk c.args.device (option_map (λ s. s.now) c.args.staged) c.args.d.now _ _
+    c.update_super.ensures)
 
 pub returns-in-Merge : goal.returns-in-Merge
 returns-in-Merge g c =

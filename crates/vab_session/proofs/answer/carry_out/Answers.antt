@@ -4,7 +4,7 @@ use Rattle.vab_disk.proofs.CallLaws.{changes_telling}
 use Rattle.vab_model.specs.Commands.{command_of}
 use Rattle.vab_model.specs.Effects.{after_of}
 use Rattle.vab_device.specs.Does.{Does, effect_of}
-use Rattle.vab_model.specs.Kinds.{is_of_merge}
+use Rattle.vab_model.specs.Kinds.{changes_source}
 use Rattle.vab_device.specs.Mounted.{Mounted, mounted_on}
 use Rattle.vab_device.specs.Reading.{IsIn}
 use Rattle.vab_device.proofs.ReadingLaws.{device_stands}
@@ -110,7 +110,7 @@ returns-in-Ok-tell_reply-clause-changes g c = λ t.
     let said = c.tell_reply.ensures in
     let d = c.args.kept.device in
     let cmd = command_of c.args.command.now in
-    changes_told g.P.Disk d (is_of_merge cmd ≡ false) c.args.p.now c.run_one.new.d
+    changes_told g.P.Disk d (changes_source cmd ≡ false) c.args.p.now c.run_one.new.d
     c.tell_reply.new.p
     (command_changes_by g.P.Disk d cmd c.args.p.now c.run_one.new.d t c.requires.device
     (c.requires.stands t) (c.run_one.ensures.touches t))
@@ -123,7 +123,7 @@ returns-in-Err-tell_reply-clause-changes g c = λ t.
     let said = c.tell_reply.ensures in
     let d = c.args.kept.device in
     let cmd = command_of c.args.command.now in
-    changes_told g.P.Disk d (is_of_merge cmd ≡ false) c.args.p.now c.run_one.new.d
+    changes_told g.P.Disk d (changes_source cmd ≡ false) c.args.p.now c.run_one.new.d
     c.tell_reply.new.p
     (command_changes_by g.P.Disk d cmd c.args.p.now c.run_one.new.d t c.requires.device
     (c.requires.stands t) (c.run_one.ensures.touches t))

@@ -1,0 +1,273 @@
+-- What is kept of a device behind a wipe of its slot.
+use Rattle.std.proofs.Common.{◌≡◌, ◌⊎◌, ◌∙◌, inl, inr, ℕ, zero, suc, ◌<◌, true, false}
+use Rattle.std.proofs.Common.{List, [], ◌∷◌, refl, sym, ap, subst, arith}
+use Rattle.std.specs.Prelude.{◌==◌, if◌then◌else◌, Bool, not, Option, Some, None, is_some}
+use Rattle.std.proofs.Math.Bool.{and-true}
+use Rattle.std.proofs.lemmas.Bool.{cases_Bool}
+use Rattle.vab_marks.specs.declared.mark.MarkPhase.{MarkPhase}
+use Rattle.vab_tables.specs.declared.entries.BlockDevice.{BlockDevice}
+use Rattle.vab_tables.specs.declared.table.Table.{Table}
+use Rattle.vab_tables.specs.Rules.{KeepsRules}
+use Rattle.vab_layout.specs.declared.layout.Layout.{Layout}
+use Rattle.vab_layout.specs.Layout.{layout_of, first_device}
+use Rattle.vab_layout.specs.Slots.{other_slot}
+use Rattle.vab_layout.proofs.LayoutLaws.{layout_keeps}
+use Rattle.vab_partitions.specs.Twins.{is_device, are_devices}
+use Rattle.vab_partitions.proofs.TwinLaws.{devices_are}
+use Rattle.vab_super_image.specs.declared.image.SuperImage.{SuperImage}
+use Rattle.vab_super_image.specs.SuperImage.{first_filled, IsSuperImage}
+use Rattle.vab_builder.proofs.TableLaws.{plain_device}
+use Rattle.vab_model.specs.declared.command.Refusal.{Refusal}
+use Rattle.vab_model.specs.declared.command.Refusal.TheVariants as refusals
+use Rattle.vab_model.specs.Wipe.{filled_refusal}
+use Rattle.vab_device.specs.declared.device.Device.{Device}
+use Rattle.vab_device.specs.Kept.{IsDevice, IsTableOf, IsUpdate, AreParts, table_of_slot, lies_in}
+use Rattle.vab_device.specs.Kept.{parts_of, limits_of, has_slot, reads_both}
+use Rattle.vab_device.specs.Mounted.{table_placed, places_on}
+use Rattle.vab_device.specs.Updates.{layout_at, is_geometry, has_device}
+use Rattle.vab_device.proofs.OwnParts.{parts_kept}
+use Rattle.vab_tidy.proofs.KeptLaws.{kept_table}
+use Rattle.vab_wipe.specs.Kept.{with_wiped}
+use Rattle.vab_wipe.specs.Prepared.{other, or_later, refused_image, IsTaken, IsEmptied}
+
+-- a slot is a or b
+slot_cases : (k : ℕ) → k < 2 → (k ≡ 0) ⊎ (k ≡ 1)
+slot_cases zero below = inl refl
+slot_cases (suc zero) below = inr refl
+slot_cases (suc (suc n)) below = absurd (omega (arith, below))
+
+-- ---- the block device of the slot's table
+
+abbrev device_in : Option Table → SuperImage → Bool
+device_in None i = false
+device_in (Some t) i = is_device (layout_of t).device (layout_of i.table).device
+
+placed_device : (slot : ℕ) (has : Bool) (x : Option Table) (i : SuperImage)
+    → has_device (table_placed slot has x) i ≡ device_in x i
+placed_device slot has None i = refl
+placed_device slot true (Some t) i =
+    ap (λ (b : BlockDevice). is_device b (layout_of i.table).device)
+    (plain_device slot (layout_of t))
+placed_device slot false (Some t) i = refl
+
+-- what is asked of the block device is asked of the table that is kept
+placed_slot : (d : Device) (slot : ℕ) (i : SuperImage)
+    → has_device (layout_at (places_on d) slot) i ≡ device_in (table_of_slot d slot) i
+placed_slot d slot i = elim (cases_Bool (slot == 0)) [
+  | inl a ↦ rw a (placed_device 0 (is_some d.a) d.table_a i)
+  | inr b ↦ rw b (placed_device 1 (is_some d.b) d.table_b i)
+]
+
+first_free : (x y : Option Refusal) → or_later x y ≡ None → x ≡ None
+first_free None y is = refl
+first_free (Some r) y is =
+    absurd (let bad : (let o : Option Refusal = Some r in o ≡ None) = is in cc)
+
+has_own : (a b : Bool)
+    → (if not a then Some refusals.OtherGeometry
+    else (if not b then Some refusals.OtherDevice else None))
+    ≡ None
+    → b ≡ true
+has_own true true is = refl
+has_own true false is =
+    absurd (let bad : (let o : Option Refusal = Some refusals.OtherDevice in o ≡ None) = is in cc)
+has_own false b is =
+    absurd (let bad : (let o : Option Refusal = Some refusals.OtherGeometry in o ≡ None) = is in cc)
+
+one_of : (a b : BlockDevice) → are_devices (a ∷ []) (b ∷ []) ≡ is_device a b
+unfolding are_devices
+one_of a b = and-true (is_device a b)
+
+-- each table has one block device
+devices_first : (t u : Table)
+    → KeepsRules t
+    → KeepsRules u
+    → are_devices t.devices u.devices ≡ is_device (layout_of t).device (layout_of u).device
+unfolding layout_of
+devices_first t u of_t of_u =
+    (λ k. are_devices (of_t.one_device k) (of_u.one_device k))
+    ∙ one_of of_t.device of_u.device
+    ∙ sym (λ k. is_device (first_device (of_t.one_device k)) (first_device (of_u.one_device k)))
+
+-- what is asked of the block device is asked of the lists of both tables
+pub own_device : (d : Device) (size : ℕ) (t : Table) (i : SuperImage)
+    → IsDevice d size
+    → IsSuperImage d.mark.slot i
+    → table_of_slot d d.mark.slot ≡ Some t
+    → has_device (layout_at (places_on d) d.mark.slot) i ≡ are_devices t.devices i.table.devices
+own_device d size t i kept rules own =
+    placed_slot d d.mark.slot i
+    ∙ ap (λ (x : Option Table). device_in x i) own
+    ∙ sym (devices_first t i.table (kept_table d size t kept own).rules rules.rules)
+
+first_same : (t u : Table) → t.devices ≡ u.devices → (layout_of t).device ≡ (layout_of u).device
+unfolding layout_of
+first_same t u same = ap first_device same
+
+-- the block device of an image that is taken is that of the slot's table
+device_same : (d : Device) (size : ℕ) (t : Table) (i : SuperImage)
+    → IsDevice d size
+    → IsSuperImage d.mark.slot i
+    → table_of_slot d d.mark.slot ≡ Some t
+    → refused_image d i ≡ None
+    → (layout_of i.table).device ≡ (layout_of t).device
+device_same d size t i kept rules own free =
+    let first = first_free (other d i) (filled_refusal (first_filled i.table.partitions)) free in
+    let has = has_own (is_geometry d.geometry i.geometry)
+    (has_device (layout_at (places_on d) d.mark.slot) i) first in
+    let same : are_devices t.devices i.table.devices ≡ true =
+    sym (own_device d size t i kept rules own) ∙ has in
+    sym (first_same t i.table ((devices_are t.devices i.table.devices).0 same))
+
+-- ---- the table that is left
+
+module _
+    (d : Device) (size : ℕ) (staged : Option (List ℕ)) (t u : Table) (i : SuperImage)
+    (kept : IsDevice d size)
+    (own : table_of_slot d d.mark.slot ≡ Some t)
+    (taken : IsTaken d staged i)
+    (emptied : IsEmptied d.geometry.max d.mark.slot i u) where
+  -- it has the block device of the table before it
+  pub device_stays : (layout_of u).device ≡ (layout_of t).device
+  device_stays =
+      ap (λ (l : Layout). l.device) emptied.layout
+      ∙ device_same d size t i kept taken.rules own taken.free
+
+  pub new_lies : lies_in size d.geometry (layout_of u).device ≡ true
+  new_lies =
+      ap (lies_in size d.geometry) device_stays ∙ (kept_table d size t kept own).lies
+
+  new_table : IsTableOf size d.geometry d.mark.slot u
+  new_table = record {
+    rules = emptied.rules;
+    small = omega (arith, emptied.size, kept.geometry.most);
+    own = emptied.own;
+    lies = new_lies;
+  }
+
+  new_parts : AreParts size (parts_of d.mark.slot (layout_of u))
+  new_parts =
+      parts_kept size d.mark.slot d.geometry (layout_of u) kept.enough
+      (layout_keeps u emptied.rules) emptied.own new_lies
+
+  -- the other slot has no table
+  no_other : is_some (table_of_slot d (other_slot d.mark.slot)) ≡ false
+  no_other = kept.target ∙ ap reads_both taken.are.idle
+
+  no_update : (x : Option Table)
+      → is_some x ≡ false
+      → IsUpdate d.mark.apart d.mark.slot (Some u) x
+  no_update None none = tt
+  no_update (Some x) none = absurd (let no : true ≡ false = none in cc)
+
+  slot_has : (slot : ℕ) → has_slot d.mark.phase d.mark.slot slot ≡ (d.mark.slot == slot)
+  slot_has slot =
+      ap (λ (p : MarkPhase). has_slot p d.mark.slot slot) taken.are.idle
+
+  of_a : d.mark.slot ≡ 0
+      → IsDevice
+      (record d {
+        groups = limits_of d.mark.slot u.groups;
+        a = Some (parts_of d.mark.slot (layout_of u));
+        table_a = Some u;
+      })
+      size
+  of_a e =
+      let none : is_some d.table_b ≡ false =
+      ap (λ (n : ℕ). is_some (table_of_slot d (other_slot n))) (sym e) ∙ no_other in
+      record {
+        enough = kept.enough;
+        geometry = kept.geometry;
+        control = kept.control;
+        phase = kept.phase;
+        slot = kept.slot;
+        apart = kept.apart;
+        current = kept.current;
+        has_a = sym (slot_has 0 ∙ ap (λ (n : ℕ). n == 0) e);
+        has_b = kept.has_b;
+        copies_on = kept.copies_on;
+        parts_a = new_parts;
+        parts_b = kept.parts_b;
+        table_a = subst (λ (n : ℕ). IsTableOf size d.geometry n u) e new_table;
+        table_b = kept.table_b;
+        source = ap (λ (n : ℕ). is_some (if n == 0 then Some u else d.table_b)) e;
+        target =
+            ap (λ (n : ℕ). is_some (if other_slot n == 0 then Some u else d.table_b)) e
+            ∙ none
+            ∙ sym (ap reads_both taken.are.idle);
+        planned = kept.planned;
+        plan = kept.plan;
+        update =
+            subst
+            (λ (x : Option Table).
+            IsUpdate d.mark.apart d.mark.slot x
+            (if other_slot d.mark.slot == 0 then Some u else d.table_b))
+            (sym (ap (λ (n : ℕ). if n == 0 then Some u else d.table_b) e))
+            (no_update (if other_slot d.mark.slot == 0 then Some u else d.table_b)
+            (ap (λ (n : ℕ). is_some (if other_slot n == 0 then Some u else d.table_b)) e
+            ∙ none));
+      }
+
+  of_b : d.mark.slot ≡ 1
+      → IsDevice
+      (record d {
+        groups = limits_of d.mark.slot u.groups;
+        b = Some (parts_of d.mark.slot (layout_of u));
+        table_b = Some u;
+      })
+      size
+  of_b e =
+      let none : is_some d.table_a ≡ false =
+      ap (λ (n : ℕ). is_some (table_of_slot d (other_slot n))) (sym e) ∙ no_other in
+      record {
+        enough = kept.enough;
+        geometry = kept.geometry;
+        control = kept.control;
+        phase = kept.phase;
+        slot = kept.slot;
+        apart = kept.apart;
+        current = kept.current;
+        has_a = kept.has_a;
+        has_b = sym (slot_has 1 ∙ ap (λ (n : ℕ). n == 1) e);
+        copies_on = kept.copies_on;
+        parts_a = kept.parts_a;
+        parts_b = new_parts;
+        table_a = kept.table_a;
+        table_b = subst (λ (n : ℕ). IsTableOf size d.geometry n u) e new_table;
+        source = ap (λ (n : ℕ). is_some (if n == 0 then d.table_a else Some u)) e;
+        target =
+            ap (λ (n : ℕ). is_some (if other_slot n == 0 then d.table_a else Some u)) e
+            ∙ none
+            ∙ sym (ap reads_both taken.are.idle);
+        planned = kept.planned;
+        plan = kept.plan;
+        update =
+            subst
+            (λ (x : Option Table).
+            IsUpdate d.mark.apart d.mark.slot x
+            (if other_slot d.mark.slot == 0 then d.table_a else Some u))
+            (sym (ap (λ (n : ℕ). if n == 0 then d.table_a else Some u) e))
+            (no_update (if other_slot d.mark.slot == 0 then d.table_a else Some u)
+            (ap (λ (n : ℕ). is_some (if other_slot n == 0 then d.table_a else Some u)) e
+            ∙ none));
+      }
+
+  pub wiped_kept : IsDevice (with_wiped d u) size
+  wiped_kept = elim (slot_cases d.mark.slot kept.slot) [
+    | inl e ↦ rw (ap (λ (n : ℕ). n == 0) e) (of_a e)
+    | inr e ↦ rw (ap (λ (n : ℕ). n == 0) e) (of_b e)
+  ]
+
+-- its boot control is the same
+pub control_stays : (d : Device) (u : Table) → (with_wiped d u).control ≡ d.control
+control_stays d u = elim (cases_Bool (d.mark.slot == 0)) [
+  | inl a ↦ rw a refl
+  | inr b ↦ rw b refl
+]
+
+-- it stands where it stood
+pub geometry_stays : (d : Device) (u : Table) → (with_wiped d u).geometry ≡ d.geometry
+geometry_stays d u = elim (cases_Bool (d.mark.slot == 0)) [
+  | inl a ↦ rw a refl
+  | inr b ↦ rw b refl
+]
